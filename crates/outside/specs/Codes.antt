@@ -1,0 +1,40 @@
+-- The refusals: the number and the word that each is printed with.
+use Rattle.std.specs.Prelude.{ℕ, List, codes}
+use Rattle.outside.specs.declared.codes.Code.{Code}
+use Rattle.outside.specs.declared.codes.Code.TheVariants.{MissingFile, TooLong, BadName, BadNameLine, DuplicatePackage, UnsupportedPackage, MissingPackage, EndOfFile, BadNumber, TooManyDigits, OutOfProfile, BadGrid, BadControl, BadThickness, BadProperty, CellOutside, TooManyEntries, NothingToReuse, HeadTooLarge, BadListing, ConductanceTooSmall, ConductanceTooLarge, FlowTooLarge, NoBarrierLow, NoBarrierHigh, RangeLow, RangeHigh}
+
+pub record CodeRow : Type 0 where
+  pub number : ℕ
+  pub word : List ℕ
+
+abbrev pub row : ℕ → List ℕ → CodeRow
+row number word = record { number = number; word = word }
+
+abbrev pub code_row : Code → CodeRow
+code_row MissingFile = row 1 (codes "MissingFile")
+code_row TooLong = row 2 (codes "TooLong")
+code_row BadName = row 3 (codes "BadName")
+code_row BadNameLine = row 4 (codes "BadNameLine")
+code_row DuplicatePackage = row 5 (codes "DuplicatePackage")
+code_row UnsupportedPackage = row 6 (codes "UnsupportedPackage")
+code_row MissingPackage = row 7 (codes "MissingPackage")
+code_row EndOfFile = row 8 (codes "EndOfFile")
+code_row BadNumber = row 9 (codes "BadNumber")
+code_row TooManyDigits = row 10 (codes "TooManyDigits")
+code_row OutOfProfile = row 11 (codes "OutOfProfile")
+code_row BadGrid = row 12 (codes "BadGrid")
+code_row BadControl = row 13 (codes "BadControl")
+code_row BadThickness = row 14 (codes "BadThickness")
+code_row BadProperty = row 15 (codes "BadProperty")
+code_row CellOutside = row 16 (codes "CellOutside")
+code_row TooManyEntries = row 17 (codes "TooManyEntries")
+code_row NothingToReuse = row 18 (codes "NothingToReuse")
+code_row HeadTooLarge = row 19 (codes "HeadTooLarge")
+code_row BadListing = row 20 (codes "BadListing")
+code_row ConductanceTooSmall = row 21 (codes "ConductanceTooSmall")
+code_row ConductanceTooLarge = row 22 (codes "ConductanceTooLarge")
+code_row FlowTooLarge = row 23 (codes "FlowTooLarge")
+code_row NoBarrierLow = row 24 (codes "NoBarrierLow")
+code_row NoBarrierHigh = row 25 (codes "NoBarrierHigh")
+code_row RangeLow = row 26 (codes "RangeLow")
+code_row RangeHigh = row 27 (codes "RangeHigh")

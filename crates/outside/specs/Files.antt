@@ -1,0 +1,31 @@
+-- A folder as clauses see it: a finite map from names to bytes.
+use Rattle.std.specs.Prelude.{◌≡◌, ℕ, ◌<◌, ◌≤◌, List, [], ◌∷◌, length, cond, None, Some, IsSomeAnd, Option}
+use Rattle.std.specs.Str.{bytes_eq}
+use Rattle.outside.specs.declared.traits.Found.{Found}
+use Rattle.outside.specs.declared.traits.Found.TheVariants.{Bytes, Missing, TooLong}
+
+-- a file: its name and its bytes
+pub record File : Type 0 where
+  pub name : List ℕ
+  pub bytes : List ℕ
+
+-- the bytes under a name: those of the first file of that name
+abbrev pub bytes_under : List ℕ → List File → Option (List ℕ)
+bytes_under name [] = None
+bytes_under name (f ∷ files) = cond (bytes_eq name f.name) (Some f.bytes) (bytes_under name files)
+
+-- what a reading of a file, of at most limit bytes, answers
+abbrev pub IsFound : List File → List ℕ → ℕ → Found → Type 0
+IsFound files name limit (Bytes v) = (bytes_under name files ≡ Some v.items) × (length v.items ≤ limit)
+IsFound files name limit Missing = bytes_under name files ≡ None
+IsFound files name limit TooLong = IsSomeAnd (bytes_under name files) (λ bytes. limit < length bytes)
+
+-- bytes that were found are at most so many
+abbrev pub IsWithin : ℕ → Found → Type 0
+IsWithin limit (Bytes v) = length v.items ≤ limit
+IsWithin limit Missing = Unit {0}
+IsWithin limit TooLong = Unit {0}
+
+-- the files of a folder that tells none
+abbrev pub untold : Option (List File)
+untold = None

@@ -1,0 +1,51 @@
+ghost use Rattle.std.specs.Prelude.{◌≡◌, IfSome, IfOk};
+ghost use Rattle.outside.specs.Counts.{InputCounts};
+ghost use Rattle.outside.specs.Inputs.{file_at, file_refusal, IsReading};
+ghost use Rattle.outside.specs.Names.{IsGoodName};
+
+use crate::codes::Code;
+use crate::names::{Name, folder_name};
+use crate::refusals::{InputFault, Refusal};
+use crate::traits::{Folder, FolderError, Found};
+use std::alloc::{AllocError, Global};
+
+/// How many bytes a file may have.
+pub const FILE_LIMIT: u64 = 67_108_864;
+
+/// A file of the folder, whole. One that is missing or too long is refused, with its name as it
+/// was written.
+pub fn read_input<F: Folder>(
+    alloc: Global,
+    folder: &mut F,
+    name: &str,
+) -> Result<Vec<u8>, InputFault>
+    requires { IsGoodName name.now }
+    ensures files { F.files folder.new ≡ F.files folder.old }
+    ensures counts { InputCounts (F.faults folder.old) (F.faults folder.new) result }
+    ensures reads { IfSome (F.files folder.old) (λ files. IsReading (λ v. v.items) (file_at files name.now) result) }
+{
+    let asked = folder_name(alloc, name)?;
+    match folder.read_file(alloc, asked.as_str(), FILE_LIMIT) {
+        Ok(Found::Bytes(bytes)) => Ok(bytes),
+        Ok(Found::Missing) => Err(InputFault::Refused(file_refusal(
+            alloc,
+            Code::MissingFile,
+            name,
+        )?)),
+        Ok(Found::TooLong) => Err(InputFault::Refused(file_refusal(alloc, Code::TooLong, name)?)),
+        Err(FolderError::Read) => Err(InputFault::ReadFault),
+        Err(FolderError::Memory) => Err(InputFault::Memory),
+    }
+}
+
+/// The refusal of a file as a whole, which has line 0.
+pub fn file_refusal(alloc: Global, code: Code, name: &str) -> Result<Refusal, AllocError>
+    ensures { IfOk result (λ refusal. refusal ≡ file_refusal code name.now) }
+{
+    Ok(Refusal {
+        code,
+        file: Name::new(alloc, name)?,
+        line: 0,
+        at: None,
+    })
+}

@@ -1,0 +1,24 @@
+// What a program has of the world outside: a folder to read, sinks to write to, a gate before each
+// turn; and what it says of an input that it refuses.
+#![tactic(auto)]
+
+mod codes;
+mod inputs;
+mod memory;
+mod names;
+mod real;
+mod refusals;
+mod stored;
+mod traits;
+
+pub use codes::Code;
+pub use inputs::{FILE_LIMIT, file_refusal, read_input};
+pub use memory::FreeGate;
+pub use names::{Name, folder_name, good_name, is_good_name};
+pub use real::{RealFolder, RealSink};
+pub use refusals::{InputFault, Refusal, TextFault};
+pub use stored::{MemFolder, MemSink};
+pub use traits::{Folder, FolderError, Found, Gate, Sink, SinkError};
+
+#[cfg(test)]
+mod tests;

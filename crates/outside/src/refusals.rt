@@ -1,0 +1,70 @@
+ghost use Rattle.std.specs.Prelude.{◌≡◌};
+
+use crate::codes::Code;
+use crate::names::Name;
+use std::alloc::{AllocError, AllocFailed};
+
+/// A refusal of an input: why, in which file and line (0 where no line is meant), and at which
+/// layer, row and column where a cell is meant.
+#[derive(Debug, Drop, PartialEq)]
+pub struct Refusal {
+    pub code: Code,
+    pub file: Name,
+    pub line: u32,
+    pub at: Option<[u32; 3]>,
+}
+
+/// Why a reading that asks a folder has no value.
+#[derive(Debug, Drop, PartialEq)]
+pub enum InputFault {
+    Refused(Refusal),
+    ReadFault,
+    Memory,
+}
+
+/// Why a reading of a text has no value.
+#[derive(Debug, Drop, PartialEq)]
+pub enum TextFault {
+    Refused(Refusal),
+    Memory,
+}
+
+impl<T: Drop> From<AllocFailed<T>> for TextFault {
+    ghost use Rattle.outside.specs.declared.refusals.TextFault.TheVariants.{Memory};
+
+    ghost from_gives = { λ _ fault. fault ≡ Memory };
+
+    fn from(_failed: AllocFailed<T>) -> TextFault {
+        TextFault::Memory
+    }
+}
+
+impl<T: Drop> From<AllocFailed<T>> for InputFault {
+    ghost use Rattle.outside.specs.declared.refusals.InputFault.TheVariants.{Memory};
+
+    ghost from_gives = { λ _ fault. fault ≡ Memory };
+
+    fn from(_failed: AllocFailed<T>) -> InputFault {
+        InputFault::Memory
+    }
+}
+
+impl From<AllocError> for TextFault {
+    ghost use Rattle.outside.specs.declared.refusals.TextFault.TheVariants.{Memory};
+
+    ghost from_gives = { λ _ fault. fault ≡ Memory };
+
+    fn from(_error: AllocError) -> TextFault {
+        TextFault::Memory
+    }
+}
+
+impl From<AllocError> for InputFault {
+    ghost use Rattle.outside.specs.declared.refusals.InputFault.TheVariants.{Memory};
+
+    ghost from_gives = { λ _ fault. fault ≡ Memory };
+
+    fn from(_error: AllocError) -> InputFault {
+        InputFault::Memory
+    }
+}
