@@ -1,0 +1,75 @@
+-- Order laws of the least and the greatest flow over a conductance that is known by bounds.
+use Rattle.std.proofs.Common.{◌≡◌, ℕ, zero, suc, ◌*◌, ◌≤◌, refl, ap, ◌∙◌, arith, ℤ, pos, negsuc, neg_ℤ, ◌*ℤ◌, ◌≤ℤ◌}
+use Rattle.std.proofs.Math.Nat.{mul-le-mul_left, mul-le-mul_right}
+use Rattle.std.proofs.lemmas.Int.{ints}
+use Rattle.step_problem.specs.Flows.{least, most}
+use Rattle.step_problem.proofs.Ring.{diffs, as_diff, same_diff}
+
+-- both flows rise with the difference of heads
+pub least_rises : (lo hi : ℕ) (a b : ℤ) → a ≤ℤ b → least lo hi a ≤ℤ least lo hi b
+least_rises lo hi (pos a) (pos b) h = let k : lo * a ≤ lo * b = mul-le-mul_left lo (omega (arith, ints)) in omega (arith, ints)
+least_rises lo hi (pos a) (negsuc b) h = absurd (omega (arith, ints))
+least_rises lo hi (negsuc a) (pos b) h = omega (arith, ints)
+least_rises lo hi (negsuc a) (negsuc b) h = let k : hi * suc b ≤ hi * suc a = mul-le-mul_left hi (omega (arith, ints)) in omega (arith, ints)
+
+pub most_rises : (lo hi : ℕ) (a b : ℤ) → a ≤ℤ b → most lo hi a ≤ℤ most lo hi b
+most_rises lo hi (pos a) (pos b) h = let k : hi * a ≤ hi * b = mul-le-mul_left hi (omega (arith, ints)) in omega (arith, ints)
+most_rises lo hi (pos a) (negsuc b) h = absurd (omega (arith, ints))
+most_rises lo hi (negsuc a) (pos b) h = omega (arith, ints)
+most_rises lo hi (negsuc a) (negsuc b) h = let k : lo * suc b ≤ lo * suc a = mul-le-mul_left lo (omega (arith, ints)) in omega (arith, ints)
+
+-- the greatest flow is the least one turned round
+pub most_is : (lo hi : ℕ) (d : ℤ) → most lo hi d ≡ neg_ℤ (least lo hi (neg_ℤ d))
+most_is lo hi (pos zero) = omega (arith, ints)
+most_is lo hi (pos (suc n)) = omega (arith, ints)
+most_is lo hi (negsuc n) = refl
+
+-- a flow against the difference of heads, as of a drain
+pub neg_least : (lo hi : ℕ) (m : ℤ) → pos 0 ≤ℤ m → neg_ℤ (pos hi *ℤ m) ≡ least lo hi (neg_ℤ m)
+neg_least lo hi (pos zero) h = omega (arith, ints)
+neg_least lo hi (pos (suc n)) h = refl
+neg_least lo hi (negsuc n) h = absurd (omega (arith, ints))
+
+pub neg_most : (lo hi : ℕ) (m : ℤ) → pos 0 ≤ℤ m → neg_ℤ (pos lo *ℤ m) ≡ most lo hi (neg_ℤ m)
+neg_most lo hi (pos zero) h = omega (arith, ints)
+neg_most lo hi (pos (suc n)) h = refl
+neg_most lo hi (negsuc n) h = absurd (omega (arith, ints))
+
+-- signs and products
+pub neg_mul : (a b : ℤ) → neg_ℤ a *ℤ b ≡ neg_ℤ (a *ℤ b)
+neg_mul a b = rw (as_diff a, as_diff b) (simp diffs (same_diff _ _ _ _ (omega arith)))
+
+pub mul_neg : (a b : ℤ) → a *ℤ neg_ℤ b ≡ neg_ℤ (a *ℤ b)
+mul_neg a b = rw (as_diff a, as_diff b) (simp diffs (same_diff _ _ _ _ (omega arith)))
+
+turn : (c n d : ℤ) → (c *ℤ n) *ℤ d ≡ c *ℤ (d *ℤ n)
+turn c n d = rw (as_diff c, as_diff n, as_diff d) (simp diffs (same_diff _ _ _ _ (omega arith)))
+
+least_scaled : (lo hi k : ℕ) (d : ℤ) → least lo hi d *ℤ pos k ≡ least (lo * k) (hi * k) d
+least_scaled lo hi k (pos n) = ap pos (omega arith)
+least_scaled lo hi k (negsuc n) = neg_mul (pos (hi * suc n)) (pos k) ∙ ap (λ (j : ℕ). neg_ℤ (pos j)) (omega arith)
+
+-- the least flow is at most that over any conductance between the bounds
+pub least_below : (lo hi c : ℕ) (d : ℤ) → lo ≤ c → c ≤ hi → least lo hi d ≤ℤ (pos c *ℤ d)
+least_below lo hi c (pos n) p q = let h : lo * n ≤ c * n = mul-le-mul_right n p in omega (arith, ints)
+least_below lo hi c (negsuc n) p q = let h : c * suc n ≤ hi * suc n = mul-le-mul_right (suc n) q in omega (arith, ints)
+
+-- and the greatest is at least that
+pub most_above : (lo hi c : ℕ) (d : ℤ) → lo ≤ c → c ≤ hi → (pos c *ℤ d) ≤ℤ most lo hi d
+most_above lo hi c (pos n) p q = let h : c * n ≤ hi * n = mul-le-mul_right n q in omega (arith, ints)
+most_above lo hi c (negsuc n) p q = let h : lo * suc n ≤ c * suc n = mul-le-mul_right (suc n) p in omega (arith, ints)
+
+-- the same where conductances stand over a denominator m and heads over n
+pub least_times : (lo hi c m n : ℕ) (d : ℤ) → lo * m ≤ c → c ≤ hi * m → (least lo hi d *ℤ pos (m * n)) ≤ℤ (pos c *ℤ (d *ℤ pos n))
+least_times lo hi c m n d p q =
+    let below : lo * (m * n) ≤ c * n = omega (arith, mul-le-mul_right n p) in
+    let above : c * n ≤ hi * (m * n) = omega (arith, mul-le-mul_right n q) in
+    let e : pos (c * n) *ℤ d ≡ pos c *ℤ (d *ℤ pos n) = turn (pos c) (pos n) d in
+    rw (least_scaled, ← e) (least_below _ _ _ d below above)
+
+pub most_times : (lo hi c m n : ℕ) (d : ℤ) → lo * m ≤ c → c ≤ hi * m → (pos c *ℤ (d *ℤ pos n)) ≤ℤ (most lo hi d *ℤ pos (m * n))
+most_times lo hi c m n d p q =
+    rw (most_is, neg_mul) (turned _ _ (rw (neg_mul, mul_neg) at (least_times lo hi c m n (neg_ℤ d) p q)))
+  where
+    turned : (a b : ℤ) → a ≤ℤ neg_ℤ b → b ≤ℤ neg_ℤ a
+    turned a b h = omega (arith, ints)

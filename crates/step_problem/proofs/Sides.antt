@@ -1,0 +1,90 @@
+-- One side of the heads: what its order of tightness and its moves keep, and what follows of relaxed heads.
+use Rattle.std.proofs.Common.{◌≡◌, ℕ, ◌<◌, ◌⊎◌, ℤ, sym, subst, inl, inr, ⊎_elim}
+use Rattle.step_problem.specs.Conditions.{IsHead}
+use Rattle.step_problem.specs.Sides.{AsTight, AreHeads, IsRelaxed, IsPast, IsSettled, IsCertified, IsFirstSettled, IsOnTheWay}
+
+-- tightness is an order, and a cell may go as far from heads that are as tight
+pub record IsSide (Le : ℤ → ℤ → Type 0) (Moves : ℕ → ℤ → (ℕ → ℤ) → Type 0) (n : ℕ) : Type 0 where
+  pub refl : (x : ℤ) → Le x x
+  pub trans : (x y z : ℤ) → Le x y → Le y z → Le x z
+  pub anti : (x y : ℤ) → Le x y → Le y x → x ≡ y
+  pub helps : (c : ℕ) (v : ℤ) (l m : ℕ → ℤ) → c < n → AsTight Le Moves n l m → Moves c v l → Moves c v m
+
+module _ {Le : ℤ → ℤ → Type 0} {Moves : ℕ → ℤ → (ℕ → ℤ) → Type 0} {n : ℕ} (s : IsSide Le Moves n) where
+  pub as_tight_refl : (l : ℕ → ℤ) → AsTight Le Moves n l l
+  as_tight_refl l c h = s.refl (l c)
+
+  pub as_tight_trans : (k l m : ℕ → ℤ) → AsTight Le Moves n k l → AsTight Le Moves n l m → AsTight Le Moves n k m
+  as_tight_trans k l m p q c h = s.trans (k c) (l c) (m c) (p c h) (q c h)
+
+  -- heads that are equal below n are as tight
+  pub same_as_tight : (l m : ℕ → ℤ) → ((c : ℕ) → c < n → m c ≡ l c) → AsTight Le Moves n l m
+  same_as_tight l m e c h = subst (Le (l c)) (sym (e c h)) (s.refl (l c))
+
+  pub same_as_loose : (l m : ℕ → ℤ) → ((c : ℕ) → c < n → m c ≡ l c) → AsTight Le Moves n m l
+  same_as_loose l m e c h = subst (λ (x : ℤ). Le x (l c)) (sym (e c h)) (s.refl (l c))
+
+  -- a cell's relaxed head is one
+  pub relaxed_is_one : (l : ℕ → ℤ) (c : ℕ) (r t : ℤ) → IsRelaxed Le Moves n l c r → IsRelaxed Le Moves n l c t → r ≡ t
+  relaxed_is_one l c r t p q = s.anti r t (under r t p q) (under t r q p)
+    where
+      under : (x y : ℤ) → IsRelaxed Le Moves n l c x → IsRelaxed Le Moves n l c y → Le x y
+      under x y a b = ⊎_elim (λ (e : x ≡ l c). subst (λ (z : ℤ). Le z y) (sym e) b.no_looser) (λ (g : IsHead x × Moves c x l). b.furthest x g.0 g.1) a.reached
+
+  -- a relaxed head from tighter heads is as tight
+  pub relaxed_rises : (l m : ℕ → ℤ) (c : ℕ) (r t : ℤ) → c < n → AsTight Le Moves n l m → IsRelaxed Le Moves n l c r → IsPast Le Moves n m c t → Le r t
+  relaxed_rises l m c r t h b p q =
+      ⊎_elim (λ (e : r ≡ l c). subst (λ (z : ℤ). Le z t) (sym e) (s.trans (l c) (m c) t (b c h) q.no_looser))
+      (λ (g : IsHead r × Moves c r l). q.furthest r g.0 (s.helps c r l m h b g.1)) p.reached
+
+  pub turn_passes : (l : ℕ → ℤ) (c : ℕ) (r : ℤ) → IsRelaxed Le Moves n l c r → IsPast Le Moves n l c r
+  turn_passes l c r t = record { no_looser = t.no_looser; furthest = t.furthest }
+
+  -- what is past a relaxed head from heads m is past that from looser ones, and so is what is tighter
+  pub passes_more : (l m : ℕ → ℤ) (c : ℕ) (x y : ℤ) → c < n → AsTight Le Moves n l m → Le x y → IsPast Le Moves n m c x → IsPast Le Moves n l c y
+  passes_more l m c x y h b le p = record {
+    no_looser = s.trans (l c) (m c) y (b c h) (s.trans (m c) x y p.no_looser le);
+    furthest = λ v ok g. s.trans v x y (p.furthest v ok (s.helps c v l m h b g)) le;
+  }
+
+  -- a relaxed head is a head
+  pub relaxed_head : (l : ℕ → ℤ) (c : ℕ) (r : ℤ) → IsHead (l c) → IsRelaxed Le Moves n l c r → IsHead r
+  relaxed_head l c r ok t = ⊎_elim (λ (e : r ≡ l c). subst IsHead (sym e) ok) (λ (g : IsHead r × Moves c r l). g.0) t.reached
+
+  -- a relaxed head from heads under a settled vector stays under it
+  pub turn_under : (seen m : ℕ → ℤ) (c : ℕ) (r : ℤ) → c < n → IsRelaxed Le Moves n seen c r → AsTight Le Moves n seen m → IsSettled Le Moves n m → Le r (m c)
+  turn_under seen m c r h t b settled =
+      ⊎_elim (λ (e : r ≡ seen c). subst (λ (x : ℤ). Le x (m c)) (sym e) (b c h))
+      (λ (g : IsHead r × Moves c r seen). settled c h r g.0 (s.helps c r seen m h b g.1)) t.reached
+
+  -- a cell that is certified stays so when the others become tighter
+  pub stays : (edge l m : ℕ → ℤ) (c : ℕ) → c < n → AsTight Le Moves n l m → Le (l c) (edge c) ⊎ Moves c (l c) l → Le (l c) (edge c) ⊎ Moves c (l c) m
+  stays edge l m c h up k = ⊎_elim (λ (a : Le (l c) (edge c)). inl a) (λ (b : Moves c (l c) l). inr (s.helps c (l c) l m h up b)) k
+
+  -- heads on the way that are settled are the first settled ones
+  pub first_settled : (edge l : ℕ → ℤ) → IsOnTheWay Le Moves n edge l → IsSettled Le Moves n l → IsFirstSettled Le Moves n edge l
+  first_settled edge l k settled = record { heads = k.heads; past_barrier = k.past_barrier; settled = settled; first = k.under }
+
+  -- the first settled vector is one
+  pub first_settled_is_one : (edge l m : ℕ → ℤ) → IsFirstSettled Le Moves n edge l → IsFirstSettled Le Moves n edge m → (c : ℕ) → c < n → m c ≡ l c
+  first_settled_is_one edge l m p q c h = s.anti (m c) (l c) (q.first l p.heads p.settled p.past_barrier c h) (p.first m q.heads q.settled q.past_barrier c h)
+
+  -- a barrier's own heads are on the way
+  pub edge_kept : (edge : ℕ → ℤ) → AreHeads Le Moves n edge → IsOnTheWay Le Moves n edge edge
+  edge_kept edge ok = record { heads = ok; past_barrier = as_tight_refl edge; certified = λ c h. inl (s.refl (edge c)); under = λ m r settled b. b }
+
+  -- being on the way is of the cells below n alone
+  pub same_on_the_way : (edge l m : ℕ → ℤ) → ((c : ℕ) → c < n → m c ≡ l c) → IsOnTheWay Le Moves n edge l → IsOnTheWay Le Moves n edge m
+  same_on_the_way edge l m e k = let up = same_as_tight l m e in record {
+    heads = λ c h. subst IsHead (sym (e c h)) (k.heads c h);
+    past_barrier = as_tight_trans edge l m k.past_barrier up;
+    certified = λ c h. subst (λ (y : ℤ). Le y (edge c) ⊎ Moves c y m) (sym (e c h)) (stays edge l m c h up (k.certified c h));
+    under = λ x ok settled b c h. subst (λ (y : ℤ). Le y (x c)) (sym (e c h)) (k.under x ok settled b c h);
+  }
+
+  -- and so is being settled
+  pub same_settled : (l m : ℕ → ℤ) → ((c : ℕ) → c < n → m c ≡ l c) → IsSettled Le Moves n l → IsSettled Le Moves n m
+  same_settled l m e settled c h v ok g = subst (Le v) (sym (e c h)) (settled c h v ok (s.helps c v m l h (same_as_loose l m e) g))
+
+  pub same_certified : (edge l m : ℕ → ℤ) → ((c : ℕ) → c < n → m c ≡ l c) → IsCertified Le Moves n edge l → IsCertified Le Moves n edge m
+  same_certified edge l m e k c h = subst (λ (y : ℤ). Le y (edge c) ⊎ Moves c y m) (sym (e c h)) (stays edge l m c h (same_as_tight l m e) (k c h))

@@ -1,0 +1,53 @@
+-- Sums of flows: how far each lies from zero, and one step of a loop that makes them.
+use Rattle.std.proofs.Common.{◌≡◌, refl, sym, subst, ◌∙◌, ℕ, suc, ◌+◌, ◌*◌, ◌^◌, ◌<◌, ◌≤◌, ap, arith, ℤ, pos, negsuc, ◌+ℤ◌, ◌-ℤ◌, ◌*ℤ◌, List, length, get_or, take, drop, sum_by, FitsSigned}
+use Rattle.std.specs.Int.{w128}
+use Rattle.std.proofs.lemmas.List.{at_drop_more, get_or-map}
+use Rattle.std.proofs.lemmas.List.Sums.{sum_by_more, sum_by-take-le}
+use Rattle.std.proofs.Math.Nat.{mul-le-mul}
+use Rattle.std.proofs.lemmas.Int.{ints}
+use Rattle.step_problem.specs.declared.entry.Link.{Link}
+use Rattle.step_problem.specs.declared.heads.Side.{Side}
+use Rattle.step_problem.specs.declared.heads.Side.TheVariants.{Low, High}
+use Rattle.step_problem.specs.Entries.{Entries, ends_in, link_at, no_link}
+use Rattle.step_problem.specs.BothSides.{branch_flow, flow_bound, link_flow, fixed_flow, river_flow, drain_flow, evap_flow, balance}
+use Rattle.step_problem.specs.Flows.{total}
+use Rattle.step_problem.specs.Conditions.{IsWithin}
+
+pub IsWithin-add : (a b : ℤ) (m n k : ℕ) → IsWithin a m → IsWithin b n → m + n ≤ k → IsWithin (a +ℤ b) k
+IsWithin-add a b m n k p q r = record { above = omega (arith, ints); below = omega (arith, ints) }
+
+pub IsWithin-product : (c top m : ℕ) (d : ℤ) → c ≤ top → IsWithin d m → IsWithin (pos c *ℤ d) (top * m)
+IsWithin-product c top m (pos n) o w = let le : n ≤ m = omega (arith, ints) in let h : c * n ≤ top * m = mul-le-mul o le in record { above = omega (arith, ints); below = omega (arith, ints) }
+IsWithin-product c top m (negsuc n) o w = let le : suc n ≤ m = omega (arith, ints) in let h : c * suc n ≤ top * m = mul-le-mul o le in record { above = omega (arith, ints); below = omega (arith, ints) }
+
+pub IsWithin-neg : (z : ℤ) (m : ℕ) → IsWithin z m → IsWithin (pos 0 -ℤ z) m
+IsWithin-neg z m w = record { above = omega (arith, ints); below = omega (arith, ints) }
+
+pub FitsSigned-within : (z : ℤ) (b : ℕ) → IsWithin z b → b < 2 ^ 127 → FitsSigned w128 z
+FitsSigned-within z b w h = omega (arith, ints)
+
+-- one more term goes from the rest into the sum so far
+pub total_step : {X : Type 0} (f : X → ℤ) (xs : List X) (i : ℕ) (d x : X) (s t whole : ℤ) → i < length xs → x ≡ get_or xs i d → s +ℤ total f (drop i xs) ≡ whole → t ≡ f x → (s +ℤ t) +ℤ total f (drop (i + 1) xs) ≡ whole
+total_step f xs i d x s t whole h is e r = let more : total f (drop i xs) ≡ f (get_or xs i d) +ℤ total f (drop (i + 1) xs) = at_drop_more (total f) xs i d h in omega (arith, ints, more, e, r, ap f is)
+
+-- the sum of one more term stays within the weights so far
+pub within_step : {X : Type 0} (g : X → ℕ) (xs : List X) (i m : ℕ) (d x : X) (s t : ℤ) → i < length xs → x ≡ get_or xs i d → IsWithin s (sum_by g (take i xs) * m) → IsWithin t (g x * m) → IsWithin (s +ℤ t) (sum_by g (take (i + 1) xs) * m)
+within_step g xs i m d x s t h is p q = let same : g x * m ≡ g (get_or xs i d) * m = ap (λ y. g y * m) is in rw (sum_by_more g xs i d h) (IsWithin-add s t _ _ _ p q (omega (arith, same)))
+
+-- a sum over part of a list stays below what the weights of the whole list allow
+pub FitsSigned-part : {X : Type 0} (g : X → ℕ) (xs : List X) (i m top : ℕ) (z : ℤ) → sum_by g xs < top → IsWithin z (sum_by g (take i xs) * m) → top * m < 2 ^ 127 → FitsSigned w128 z
+FitsSigned-part g xs i m top z h w small = let le : sum_by g (take i xs) * m ≤ top * m = mul-le-mul (omega (arith, sum_by-take-le g xs i)) (omega arith) in FitsSigned-within z (sum_by g (take i xs) * m) w (omega arith)
+
+-- the flow over a link, with the head that is listed for its other end
+pub link_flow_is : (side : Side) (h : ℕ → ℤ) (own : ℤ) (links : List Link) (values : List ℤ) (i : ℕ) (t : ℤ) → ends_in h links ≡ values → i < length links → t ≡ branch_flow side (link_at links i).lo (link_at links i).hi (get_or values i (pos 0) -ℤ own) → t ≡ link_flow side h own (link_at links i)
+link_flow_is side h own links values i t e lt r =
+    let there : get_or values i (pos 0) ≡ h (link_at links i).cell = sym (ap (λ vs. get_or vs i (pos 0)) e) ∙ get_or-map (λ (x : Link). h x.cell) links i no_link (pos 0) lt in
+    subst (λ v. t ≡ branch_flow side (link_at links i).lo (link_at links i).hi (v -ℤ own)) there r ∙ by_side side
+  where
+    by_side : (side : Side) → branch_flow side (link_at links i).lo (link_at links i).hi (h (link_at links i).cell -ℤ own) ≡ link_flow side h own (link_at links i)
+    by_side Low = refl
+    by_side High = refl
+
+pub balance_is : (side : Side) (c : Entries) (own : ℤ) (h : ℕ → ℤ) → balance side c own h ≡ total (flow_bound side) c.flows +ℤ total (link_flow side h own) c.links +ℤ total (fixed_flow side own) c.fixed +ℤ total (river_flow side own) c.rivers +ℤ total (drain_flow side own) c.drains +ℤ total (evap_flow side own) c.evaps
+balance_is Low c own h = refl
+balance_is High c own h = refl

@@ -1,0 +1,10 @@
+use Rattle.std.proofs.Common.{◌≡◌, ◌*◌, ◌^◌, take, drop, ◌+ℤ◌, sum_by}
+use Rattle.step_problem.specs.Flows.{total}
+use Rattle.step_problem.specs.Conditions.{IsWithin}
+use Rattle.step_problem.proofs.balance.sums.sum_branches.Given as goal
+
+abbrev pub invariant-loop-x : goal.invariant-loop-x
+invariant-loop-x g l = record {
+  value : l.sum +ℤ total (g.E.Branch.flow l.side l.own) (drop l.x-index l.entries) ≡ total (g.E.Branch.flow l.side l.own) l.entries;
+  within : IsWithin l.sum (sum_by g.E.Branch.conductance (take l.x-index l.entries) * 2 ^ 63);
+}

@@ -1,0 +1,11 @@
+pub mod Entries
+pub mod Flows
+pub mod Balances
+pub mod Conditions
+pub mod Sides
+pub mod Exchanges
+pub mod Heads
+pub mod Settling
+pub mod Laws
+pub mod BothSides
+pub mod Names

@@ -1,0 +1,68 @@
+// The two balances of a cell.
+ghost use Rattle.std.specs.Prelude.{◌≡◌, ◌<◌, ◌^◌, ℕ, ℤ, ◌+ℤ◌, All, length};
+ghost use Rattle.step_problem.specs.Entries.{entries_at, ends_in};
+ghost use Rattle.step_problem.specs.Balances.{lower_balance, upper_balance};
+ghost use Rattle.step_problem.specs.BothSides.{balance};
+ghost use Rattle.step_problem.specs.Conditions.{IsHead, IsWithin, CellFits};
+
+mod branch;
+mod sums;
+
+use crate::entry::Cell;
+use crate::heads::Side;
+use crate::problem::Problem;
+use sums::{sum_branches, sum_flows, sum_links};
+
+/// The lower balance of a cell at its head `own`, where `values` are lower heads of the cells at its links' other ends, in the order of the links.
+pub fn low_at(p: &Problem, cell: usize, own: i64, values: &[i64]) -> i128
+    requires index { cell < length p.now }
+    requires own { IsHead own }
+    requires values { All IsHead values.now }
+    requires same { length values.now ≡ length (entries_at p.now cell).links }
+    ensures balance { (h : ℕ → ℤ) → ends_in h (entries_at p.now cell).links ≡ values.now → result ≡ lower_balance (entries_at p.now cell) own h }
+{
+    balance_at(Side::Low, p.fitting_cell(cell), own, values)
+}
+
+/// The upper balance of a cell, where `values` are upper heads.
+pub fn high_at(p: &Problem, cell: usize, own: i64, values: &[i64]) -> i128
+    requires index { cell < length p.now }
+    requires own { IsHead own }
+    requires values { All IsHead values.now }
+    requires same { length values.now ≡ length (entries_at p.now cell).links }
+    ensures balance { (h : ℕ → ℤ) → ends_in h (entries_at p.now cell).links ≡ values.now → result ≡ upper_balance (entries_at p.now cell) own h }
+{
+    balance_at(Side::High, p.fitting_cell(cell), own, values)
+}
+
+fn balance_at(side: Side, cell: &Cell, own: i64, values: &[i64]) -> i128
+    requires fits { CellFits cell.now }
+    requires own { IsHead own }
+    requires values { All IsHead values.now }
+    requires same { length values.now ≡ length cell.now.links }
+    ensures { (h : ℕ → ℤ) → ends_in h cell.now.links ≡ values.now → result ≡ balance side cell.now own h }
+{
+    let flows = sum_flows(side, &cell.flows);
+    let links = sum_links(side, own, &cell.links, values);
+    let fixed = sum_branches(side, own, &cell.fixed);
+    let rivers = sum_branches(side, own, &cell.rivers);
+    let drains = sum_branches(side, own, &cell.drains);
+    let evaps = sum_branches(side, own, &cell.evaps);
+    sum_of(flows, links, fixed, rivers, drains, evaps)
+}
+
+fn sum_of(flows: i128, links: i128, fixed: i128, rivers: i128, drains: i128, evaps: i128) -> i128
+    requires flows { IsWithin flows (2 ^ 123) }
+    requires links { IsWithin links (2 ^ 123) }
+    requires fixed { IsWithin fixed (2 ^ 123) }
+    requires rivers { IsWithin rivers (2 ^ 123) }
+    requires drains { IsWithin drains (2 ^ 123) }
+    requires evaps { IsWithin evaps (2 ^ 123) }
+    ensures { result ≡ flows +ℤ links +ℤ fixed +ℤ rivers +ℤ drains +ℤ evaps }
+{
+    let on_links = flows + links;
+    let on_fixed = on_links + fixed;
+    let on_rivers = on_fixed + rivers;
+    let on_drains = on_rivers + drains;
+    on_drains + evaps
+}

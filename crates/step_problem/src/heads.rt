@@ -1,0 +1,64 @@
+// Heads of a problem's cells, in units of 10^-9 length units, and what a settler answers.
+use std::fmt;
+use std::marker::Model;
+
+/// The lower and the upper head of a cell.
+#[derive(Clone, Copy, Debug, PartialEq, Eq)]
+pub struct Bound {
+    pub low: i64,
+    pub high: i64,
+}
+
+/// Which of its two heads a fact is about.
+#[derive(Clone, Copy, Debug, PartialEq, Eq)]
+pub enum Side {
+    Low,
+    High,
+}
+
+impl fmt::Display for Side {
+    ghost use Rattle.std.specs.Prelude.{Some};
+    ghost use Rattle.step_problem.specs.Names.{side_name};
+
+    ghost output = { λ s. Some (side_name s) };
+
+    fn fmt<W: fmt::Write>(&self, f: &mut fmt::Formatter<W>) -> fmt::Result {
+        f.write_str(match self {
+            Side::Low => "LOW",
+            Side::High => "HIGH",
+        })
+    }
+}
+
+/// A floor and a ceiling for each variable cell, between which every solution lies.
+#[derive(Debug, Drop)]
+pub struct Barrier {
+    pub floor: Vec<i64>,
+    pub ceiling: Vec<i64>,
+}
+
+impl Model for Barrier {
+    ghost use Rattle.step_problem.specs.Heads.{Edges};
+
+    ghost Value = { Edges };
+
+    ghost view = { λ b. record {
+      floor = b.floor.items;
+      ceiling = b.ceiling.items;
+    } };
+}
+
+/// A settling that gave up: a cell, by its index, that can still move on one side, and the heads reached.
+#[derive(Debug, Drop)]
+pub struct Open {
+    pub cell: u32,
+    pub side: Side,
+    pub words: Vec<Bound>,
+}
+
+/// Why a problem was not settled.
+#[derive(Debug, Drop)]
+pub enum SettleFault {
+    Unfinished(Open),
+    Memory,
+}
