@@ -1,0 +1,4 @@
+pub mod Raising
+pub mod Sinking
+pub mod Orders
+pub mod Reading

@@ -1,0 +1,15 @@
+//! The heads to which one cell of a step's problem can be raised or sunk.
+#![tactic(auto)]
+
+pub mod laws;
+mod middle;
+pub mod raise;
+pub mod sink;
+pub mod words;
+
+pub use raise::raise_to;
+pub use sink::sink_to;
+pub use words::{raise_in, read_values, sink_in};
+
+#[cfg(test)]
+mod tests;

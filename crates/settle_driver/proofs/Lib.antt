@@ -1,0 +1,5 @@
+pub mod Turning
+pub mod Sweeping
+pub mod Settling
+pub mod Opening
+pub mod Answering

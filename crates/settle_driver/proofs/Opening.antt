@@ -1,0 +1,56 @@
+-- A cell that can move, and one that can't.
+use Rattle.std.proofs.Common.{◌≡◌, ℕ, ◌<◌, inl, inr, arith, false, List, length, ℤ, ◌≤ℤ◌, ◌<ℤ◌}
+use Rattle.std.proofs.lemmas.Int.{ints, by_lt_z}
+use Rattle.std.specs.Prelude.{Option, Some, None, MatchOption}
+use lib.Signed.{lt_z}
+use Rattle.step_problem.specs.declared.heads.Bound.{Bound}
+use Rattle.step_problem.specs.declared.heads.Side.{Side}
+use Rattle.step_problem.specs.declared.heads.Side.TheVariants.{Low, High}
+use Rattle.step_problem.specs.Entries.{Entries}
+use Rattle.step_problem.specs.Heads.{lower_at, upper_at, IsRaise, IsSink}
+use Rattle.step_problem.specs.Settling.{CanMove}
+use Rattle.settle_driver.specs.Sweeps.{AreBothSettled}
+use Rattle.settle_driver.specs.Opening.{IsFirstSide}
+
+module _ (p : List Entries) (w : List Bound) (c : ℕ) (r : ℤ) where
+  pub raise_moves : IsRaise p (lower_at w) c r → lower_at w c <ℤ r → CanMove p w c Low
+  raise_moves t above = elim t.reached [
+    | inl e ↦ absurd (omega (arith, ints))
+    | inr (head, can) ↦ (r, head, can, above)
+  ]
+
+  pub raise_stays : IsRaise p (lower_at w) c r → r ≤ℤ lower_at w c → CanMove p w c Low → ⊥
+  raise_stays t below (v, head, can, above) = let k = t.furthest v head can in omega (arith, ints, k)
+
+  pub sink_moves : IsSink p (upper_at w) c r → r <ℤ upper_at w c → CanMove p w c High
+  sink_moves t below = elim t.reached [
+    | inl e ↦ absurd (omega (arith, ints))
+    | inr (head, can) ↦ (r, head, can, below)
+  ]
+
+  pub sink_stays : IsSink p (upper_at w) c r → upper_at w c ≤ℤ r → CanMove p w c High → ⊥
+  sink_stays t above (v, head, can, below) = let k = t.furthest v head can in omega (arith, ints, k)
+
+  stays_by_test : IsRaise p (lower_at w) c r → lt_z (lower_at w c) r ≡ false → CanMove p w c Low → ⊥
+  stays_by_test t e = raise_stays t (omega (arith, ints, e))
+
+-- the first side on which cell c can move, or none, by the tests of its raise and its sink value
+pub side_by_tests : (p : List Entries) (w : List Bound) (c : ℕ) (l h : ℤ) (o : Option Side) → IsRaise p (lower_at w) c l → IsSink p (upper_at w) c h → MatchOption o ((lt_z (lower_at w c) l ≡ false) × (lt_z h (upper_at w c) ≡ false)) (IsFirstSide (lt_z (lower_at w c) l) (lt_z h (upper_at w c))) → MatchOption o ((s : Side) → CanMove p w c s → ⊥) (λ s. CanMove p w c s × (s ≡ High → CanMove p w c Low → ⊥))
+side_by_tests p w c l h None t u (low, high) = λ s. elim s as (λ x. CanMove p w c x → ⊥) [
+  | Low ↦ stays_by_test p w c l t low
+  | High ↦ sink_stays p w c h u (omega (arith, ints, high))
+]
+side_by_tests p w c l h (Some Low) t u low = (raise_moves p w c l t (omega (arith, ints, low)), λ e. absurd cc)
+side_by_tests p w c l h (Some High) t u (low, high) = (sink_moves p w c h u (omega (arith, ints, high)), λ e. stays_by_test p w c l t low)
+
+-- where no cell can move the words are settled
+pub none_open : (p : List Entries) (w : List Bound) → ((c : ℕ) → c < length p → CanMove p w c Low → ⊥) → ((c : ℕ) → c < length p → CanMove p w c High → ⊥) → AreBothSettled p w
+none_open p w low high = record {
+  low = λ c i v head can. by_lt_z (lower_at w c) v (λ above. absurd (low c i (v, head, can, above))) (λ k. k);
+  high = λ c i v head can. by_lt_z v (upper_at w c) (λ below. absurd (high c i (v, head, can, below))) (λ k. k);
+}
+
+-- settled words have no cell that can move
+pub settled_stays : (p : List Entries) (w : List Bound) (c : ℕ) (side : Side) → c < length p → AreBothSettled p w → CanMove p w c side → ⊥
+settled_stays p w c Low i settled (v, head, can, above) = let k = settled.low c i v head can in omega (arith, ints, k)
+settled_stays p w c High i settled (v, head, can, below) = let k = settled.high c i v head can in omega (arith, ints, k)

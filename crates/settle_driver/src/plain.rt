@@ -1,0 +1,80 @@
+// A settler that sweeps on one thread.
+ghost use Rattle.std.specs.Prelude.{◌≡◌, ◌<◌, ℕ, length, IfOk};
+ghost use Rattle.step_problem.specs.Heads.{head_at, lower_at, upper_at};
+ghost use Rattle.cell_relax.specs.Words.{AreWords};
+ghost use Rattle.settle_driver.specs.Sweeps.{StayOnTheWay, SettleWithin};
+
+use crate::open::first_open;
+use crate::sweep::sweep_up_to;
+use std::alloc::{AllocError, Global};
+use step_problem::{Barrier, Bound, Open, Problem, SettleFault, Settler};
+
+/// Settles by plain sweeps in ascending order of the cells, at each cell the lower side and then the upper
+/// one. Sweeps end after so many rounds, and before that where one moved nothing.
+#[derive(Debug, Drop)]
+pub struct PlainSettler {
+    rounds: u32,
+}
+
+impl PlainSettler {
+    /// A settler of at most so many sweeps.
+    pub fn new(rounds: u32) -> PlainSettler
+        ensures { PlainSettler.rounds result ≡ rounds }
+    {
+        PlainSettler { rounds }
+    }
+}
+
+// The barrier's own heads, as words.
+fn words_of(alloc: Global, b: &Barrier) -> Result<Vec<Bound>, AllocError>
+    requires { length b.now.ceiling ≡ length b.now.floor }
+    ensures whole { IfOk result (λ v. length v.items ≡ length b.now.floor) }
+    ensures low { IfOk result (λ v. (c : ℕ) → c < length b.now.floor → lower_at v.items c ≡ head_at b.now.floor c) }
+    ensures high { IfOk result (λ v. (c : ℕ) → c < length b.now.floor → upper_at v.items c ≡ head_at b.now.ceiling c) }
+{
+    let mut words = Vec::new(alloc);
+    for cell in 0..b.floor.len() {
+        let word = Bound {
+            low: b.floor[cell],
+            high: b.ceiling[cell],
+        };
+        words.push(word)?;
+    }
+    Ok(words)
+}
+
+// The words that up to so many sweeps make of these.
+fn swept(p: &Problem, mut words: Vec<Bound>, rounds: u32) -> Vec<Bound>
+    requires words { AreWords p.now words.items }
+    ensures words { AreWords p.now result.items }
+    ensures way { StayOnTheWay p.now words.items result.items }
+    ensures reached { SettleWithin p.now rounds words.items result.items }
+{
+    sweep_up_to(p, words.as_mut_slice(), rounds);
+    words
+}
+
+impl Settler for PlainSettler {
+    ghost rounds = { λ s. s.rounds };
+
+    ghost ready = { λ _. Unit {0} };
+
+    fn settle(
+        &mut self,
+        alloc: Global,
+        p: &Problem,
+        b: &Barrier,
+    ) -> Result<Vec<Bound>, SettleFault> {
+        // The number of cells comes with the problem's conditions.
+        let _cells = p.len();
+        let start = match words_of(alloc, b) {
+            Ok(start) => start,
+            Err(AllocError) => return Err(SettleFault::Memory),
+        };
+        let words = swept(p, start, self.rounds);
+        match first_open(p, words.as_slice()) {
+            None => Ok(words),
+            Some((cell, side)) => Err(SettleFault::Unfinished(Open { cell, side, words })),
+        }
+    }
+}

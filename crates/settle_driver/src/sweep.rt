@@ -1,0 +1,56 @@
+// Plain sweeps over the words of a problem.
+ghost use Rattle.std.specs.Prelude.{◌≡◌, ◌<◌, ℕ, length, slice_index_or, false};
+ghost use Rattle.step_problem.specs.Heads.{no_bound};
+ghost use Rattle.cell_relax.specs.Words.{AreWords};
+ghost use Rattle.settle_driver.specs.Sweeps.{IsRelaxedCell, IsPastCell, StayOnTheWay, AreBothSettled, SettleWithin};
+
+use cell_relax::{raise_in, sink_in};
+use step_problem::{Bound, Problem};
+
+// Moves the two heads of a cell to its raise and its sink value, and answers whether one moved.
+fn relax_cell(p: &Problem, words: &mut [Bound], cell: usize) -> bool
+    requires index { cell < length p.now }
+    requires words { AreWords p.now words.old }
+    ensures relaxed { IsRelaxedCell p.now words.old words.new cell }
+    ensures others { (d : ℕ) → (d ≡ cell → ⊥) → slice_index_or words.new d no_bound ≡ slice_index_or words.old d no_bound }
+    ensures still { result ≡ false → words.new ≡ words.old }
+{
+    let word = Bound {
+        low: raise_in(p, words, cell),
+        high: sink_in(p, words, cell),
+    };
+    let moved = word != words[cell];
+    words[cell] = word;
+    moved
+}
+
+// Relaxes each cell once, in ascending order, and answers whether a head moved.
+fn sweep(p: &Problem, words: &mut [Bound]) -> bool
+    requires words { AreWords p.now words.old }
+    ensures words { AreWords p.now words.new }
+    ensures way { StayOnTheWay p.now words.old words.new }
+    ensures past { (c : ℕ) → c < length p.now → IsPastCell p.now words.old words.new c }
+    ensures still { result ≡ false → AreBothSettled p.now words.new }
+{
+    let mut moved = false;
+    for cell in 0..p.len() {
+        moved |= relax_cell(p, words, cell);
+    }
+    moved
+}
+
+/// Sweeps up to so many times, until a sweep moves nothing.
+pub fn sweep_up_to(p: &Problem, words: &mut [Bound], rounds: u32)
+    requires words { AreWords p.now words.old }
+    ensures words { AreWords p.now words.new }
+    ensures way { StayOnTheWay p.now words.old words.new }
+    ensures reached { SettleWithin p.now rounds words.old words.new }
+{
+    // The number of cells comes with the problem's conditions.
+    let _cells = p.len();
+    for _round in 0..rounds {
+        if !sweep(p, words) {
+            return;
+        }
+    }
+}
