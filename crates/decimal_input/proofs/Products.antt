@@ -1,0 +1,70 @@
+use Rattle.std.proofs.Common.{◌≡◌, ℕ, suc, ◌+◌, ◌*◌, arith, refl, sym, ap, ◌∙◌, Bool, true, false, not, ℤ, pos, neg_ℤ, ◌*ℤ◌, ◌+ℤ◌, Result, Ok, Err, IfOk, List, length, inl, inr}
+use Rattle.std.specs.Bool.{beq}
+use Rattle.std.proofs.Math.IntN.{*ℤ_comm}
+use Rattle.std.proofs.lemmas.Int.{ints}
+use Rattle.std.proofs.lemmas.Bool.{cases_lt}
+use Rattle.decimal_input.specs.declared.dec.Dec.{Dec}
+use Rattle.decimal_input.specs.declared.dec.NumFault.{NumFault}
+use Rattle.decimal_input.specs.Fractions.{Fraction, times as times_signed, Same as SameSigned}
+use Rattle.decimal_input.specs.Decimals.{scaled, with_sign, decimal}
+use Rattle.decimal_input.specs.Canonical.{number}
+use Rattle.decimal_input.specs.Grammar.{Spelling, Spells}
+use Rattle.decimal_input.specs.Outcomes.{IsCanonical, Names, differ}
+use Rattle.decimal_input.proofs.Orders.{num_times, den_times}
+use Rattle.decimal_input.proofs.Powers.{scaled_times}
+use Rattle.decimal_input.proofs.Signs.{neg_times}
+use Rattle.decimal_input.proofs.SignedFloors.{sign_times}
+use Rattle.decimal_input.proofs.Fractional.{Same-trans}
+use Rattle.decimal_input.proofs.Values.{canonical_value, if_ok}
+
+pos_times : (m n : ℕ) → pos m *ℤ pos n ≡ pos (m * n)
+pos_times m n = omega (arith, ints)
+
+sign_product : (x y : Bool) (m n : ℕ) → with_sign x m *ℤ with_sign y n ≡ with_sign (differ x y) (m * n)
+sign_product true true m n = neg_times (pos m) (neg_ℤ (pos n)) ∙ ap neg_ℤ (*ℤ_comm (pos m) (neg_ℤ (pos n)) ∙ neg_times (pos n) (pos m)) ∙ twice (pos n *ℤ pos m) ∙ *ℤ_comm (pos n) (pos m) ∙ pos_times m n
+  where
+    twice : (z : ℤ) → neg_ℤ (neg_ℤ z) ≡ z
+    twice z = omega (arith, ints)
+sign_product true false m n = neg_times (pos m) (pos n) ∙ ap neg_ℤ (pos_times m n)
+sign_product false true m n = *ℤ_comm (pos m) (neg_ℤ (pos n)) ∙ neg_times (pos n) (pos m) ∙ ap neg_ℤ (*ℤ_comm (pos n) (pos m) ∙ pos_times m n)
+sign_product false false m n = pos_times m n
+
+-- The value of the product's digits and exponent is the product of the values.
+pub product_value : (a b : Dec) → SameSigned (decimal (differ a.neg b.neg) (a.digits * b.digits) (a.exp +ℤ b.exp)) (times_signed (number a) (number b))
+product_value a b =
+    let f = scaled a.digits a.exp in
+    let g = scaled b.digits b.exp in
+    let h = scaled (a.digits * b.digits) (a.exp +ℤ b.exp) in
+    let cross = (scaled_times a.digits b.digits a.exp b.exp).cross in
+    let whole : f.num * g.num * suc h.less ≡ h.num * (suc f.less * suc g.less) = rw (num_times f g, den_times f g) at cross in
+    record {
+      same =
+          sign_times (differ a.neg b.neg) h.num (suc (f.less * g.less + f.less + g.less))
+          ∙ ap (with_sign (differ a.neg b.neg)) (regroup (f.num * g.num) h.num f.less g.less h.less whole)
+          ∙ sym (sign_times (differ a.neg b.neg) (f.num * g.num) (suc h.less))
+          ∙ ap (λ (z : ℤ). z *ℤ pos (suc h.less)) (sym (sign_product a.neg b.neg f.num g.num));
+    }
+  where
+    regroup : (m n x y z : ℕ) → m * suc z ≡ n * (suc x * suc y) → n * suc (x * y + x + y) ≡ m * suc z
+    regroup m n x y z e = omega (arith, e)
+
+if_ok_also : (r : Result Dec NumFault) (f g : Fraction) → SameSigned f g → IfOk r (λ d. SameSigned (number d) f) → IfOk r (λ d. SameSigned (number d) g)
+if_ok_also (Ok d) f g e h = Same-trans h e
+if_ok_also (Err x) f g e h = _
+
+-- The canonical form of a product has the product's value.
+pub product_is : (a b : Dec) (r : Result Dec NumFault) → IsCanonical (differ a.neg b.neg) (a.digits * b.digits) (a.exp +ℤ b.exp) r → IfOk r (λ d. SameSigned (number d) (times_signed (number a) (number b)))
+product_is a b r h = if_ok_also r _ _ (product_value a b) (canonical_value _ _ _ r h)
+
+-- What a word names has the value that the word spells.
+pub named_value : (w : List ℕ) (r : Result Dec NumFault) → Names w r → (n : Spelling) → Spells w n → IfOk r (λ d. SameSigned (number d) (decimal n.neg n.coefficient n.exp))
+named_value w r h n s = elim (cases_lt 64 (length w)) [
+  | inl long ↦ if_ok r _ (λ d. SameSigned (number d) (decimal n.neg n.coefficient n.exp)) (h.long long) _
+  | inr short ↦ canonical_value _ _ _ r (h.number short n s)
+]
+
+pub signs_differ : (x y : Bool) → not (beq x y) ≡ differ x y
+signs_differ true true = refl
+signs_differ true false = refl
+signs_differ false true = refl
+signs_differ false false = refl

@@ -1,0 +1,68 @@
+use Rattle.std.proofs.Common.{◌≡◌, ℕ, zero, suc, ◌+◌, ◌-◌, ◌*◌, ◌≤◌, ◌<◌, ◌^◌, arith, inl, inr, ap, ◌∙◌, Bool, true, false, ℤ, pos, neg_ℤ, ◌+ℤ◌, ◌*ℤ◌, ◌≤ℤ◌, ◌<ℤ◌}
+use Rattle.std.proofs.lemmas.Int.{ints}
+use Rattle.std.proofs.lemmas.Bool.{cases_lt}
+use Rattle.decimal_input.specs.declared.dec.Dec.{Dec}
+use Rattle.decimal_input.specs.Decimals.{with_sign}
+use Rattle.decimal_input.specs.Canonical.{size, number}
+use Rattle.decimal_input.specs.Wholes.{IsFloor, IsCeiling, IsSignedFloor, IsSignedCeiling}
+use Rattle.decimal_input.proofs.Signs.{add_times, one_times, neg_times}
+
+-- the product of a number with a sign
+pub sign_times : (neg : Bool) (m p : ℕ) → with_sign neg m *ℤ pos p ≡ with_sign neg (m * p)
+sign_times true m p = neg_times (pos m) (pos p) ∙ ap neg_ℤ (pos_times m p)
+  where
+    pos_times : (m p : ℕ) → pos m *ℤ pos p ≡ pos (m * p)
+    pos_times m p = omega (arith, ints)
+sign_times false m p = omega (arith, ints)
+
+-- one more, times d
+next_times : (z : ℤ) (d : ℕ) → (z +ℤ pos 1) *ℤ pos d ≡ z *ℤ pos d +ℤ pos d
+next_times z d = add_times z (pos 1) (pos d) ∙ ap (λ (t : ℤ). z *ℤ pos d +ℤ t) (one_times d)
+
+-- one less, times d
+last_times : (z : ℤ) (d : ℕ) → (z +ℤ neg_ℤ (pos 1)) *ℤ pos d ≡ z *ℤ pos d +ℤ neg_ℤ (pos d)
+last_times z d = add_times z (neg_ℤ (pos 1)) (pos d) ∙ ap (λ (t : ℤ). z *ℤ pos d +ℤ t) (neg_times (pos 1) (pos d) ∙ ap neg_ℤ (one_times d))
+
+-- the whole number before a ceiling is too small
+before : (n N d : ℕ) → ((k : ℕ) → N ≤ k * d → n ≤ k) → n * d ≤ N + d - 1
+before zero N d least = omega arith
+before (suc n) N d least = elim (cases_lt (n * d) N) [
+  | inl h ↦ omega (arith, h)
+  | inr h ↦ absurd (let k : suc n ≤ n = least n h in omega (arith, k))
+]
+
+floor_up : (neg : Bool) (m d p k : ℕ) (z : ℤ) → neg ≡ false → z ≡ pos k → k * d ≤ m * p → m * p < (k + 1) * d → ((z *ℤ pos d) ≤ℤ (with_sign neg m *ℤ pos p)) × ((with_sign neg m *ℤ pos p) <ℤ ((z +ℤ pos 1) *ℤ pos d))
+floor_up neg m d p k z f e low high = rw (f, e, next_times (pos k) d) (omega (arith, ints, low), omega (arith, ints, high))
+
+floor_down : (neg : Bool) (m d p k : ℕ) (z : ℤ) → 0 < d → neg ≡ true → z ≡ neg_ℤ (pos k) → m * p ≤ k * d → k * d ≤ m * p + d - 1 → ((z *ℤ pos d) ≤ℤ (with_sign neg m *ℤ pos p)) × ((with_sign neg m *ℤ pos p) <ℤ ((z +ℤ pos 1) *ℤ pos d))
+floor_down neg m d p k z pd f e low high = rw (f, e, next_times (neg_ℤ (pos k)) d, neg_times (pos k) (pos d), neg_times (pos m) (pos p)) (omega (arith, ints, low), omega (arith, ints, high))
+
+ceiling_up : (neg : Bool) (m d p k : ℕ) (z : ℤ) → 0 < d → neg ≡ false → z ≡ pos k → m * p ≤ k * d → k * d ≤ m * p + d - 1 → ((with_sign neg m *ℤ pos p) ≤ℤ (z *ℤ pos d)) × (((z +ℤ neg_ℤ (pos 1)) *ℤ pos d) <ℤ (with_sign neg m *ℤ pos p))
+ceiling_up neg m d p k z pd f e low high = rw (f, e, last_times (pos k) d) (omega (arith, ints, low), omega (arith, ints, high))
+
+ceiling_down : (neg : Bool) (m d p k : ℕ) (z : ℤ) → neg ≡ true → z ≡ neg_ℤ (pos k) → k * d ≤ m * p → m * p < (k + 1) * d → ((with_sign neg m *ℤ pos p) ≤ℤ (z *ℤ pos d)) × (((z +ℤ neg_ℤ (pos 1)) *ℤ pos d) <ℤ (with_sign neg m *ℤ pos p))
+ceiling_down neg m d p k z f e low high = rw (f, e, last_times (neg_ℤ (pos k)) d, neg_times (pos k) (pos d), neg_times (pos m) (pos p)) (omega (arith, ints, low), omega (arith, ints, high))
+
+-- The floor of a number that isn't negative is that of its magnitude.
+pub floor_of_floor : (a : Dec) (s k : ℕ) (z : ℤ) → a.neg ≡ false → z ≡ pos k → IsFloor k (size a) s → IsSignedFloor z (number a) s
+floor_of_floor a s k z f e h =
+    let b = floor_up a.neg (size a).num (suc (size a).less) (10 ^ s) k z f e h.at_most h.next in
+    record { at_most = b.0; next = b.1 }
+
+-- The floor of a negative number is the ceiling of its magnitude, negated.
+pub floor_of_ceiling : (a : Dec) (s k : ℕ) (z : ℤ) → a.neg ≡ true → z ≡ neg_ℤ (pos k) → IsCeiling k (size a) s → IsSignedFloor z (number a) s
+floor_of_ceiling a s k z f e h =
+    let b = floor_down a.neg (size a).num (suc (size a).less) (10 ^ s) k z (omega arith) f e h.at_least (before k _ _ h.least) in
+    record { at_most = b.0; next = b.1 }
+
+-- The ceiling of a number that isn't negative is that of its magnitude.
+pub ceiling_of_ceiling : (a : Dec) (s k : ℕ) (z : ℤ) → a.neg ≡ false → z ≡ pos k → IsCeiling k (size a) s → IsSignedCeiling z (number a) s
+ceiling_of_ceiling a s k z f e h =
+    let b = ceiling_up a.neg (size a).num (suc (size a).less) (10 ^ s) k z (omega arith) f e h.at_least (before k _ _ h.least) in
+    record { at_least = b.0; next = b.1 }
+
+-- The ceiling of a negative number is the floor of its magnitude, negated.
+pub ceiling_of_floor : (a : Dec) (s k : ℕ) (z : ℤ) → a.neg ≡ true → z ≡ neg_ℤ (pos k) → IsFloor k (size a) s → IsSignedCeiling z (number a) s
+ceiling_of_floor a s k z f e h =
+    let b = ceiling_down a.neg (size a).num (suc (size a).less) (10 ^ s) k z f e h.at_most h.next in
+    record { at_least = b.0; next = b.1 }

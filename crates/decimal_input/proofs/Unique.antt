@@ -1,0 +1,91 @@
+use Rattle.std.proofs.Common.{◌≡◌, ℕ, suc, ◌+◌, ◌-◌, ◌*◌, ◌%◌, ◌≤◌, ◌<◌, ◌^◌, inl, inr, arith, refl, sym, ap, subst, ◌∙◌, Bool, List, length, ℤ, pos, neg_ℤ, ◌+ℤ◌, Option, Some, None, Result}
+use Rattle.std.proofs.lemmas.Int.{by_lt_z}
+use Rattle.std.proofs.lemmas.Nat.{pow-add}
+use Rattle.std.proofs.lemmas.Bool.{cases_lt}
+use Rattle.std.proofs.Math.Nat.{mul-le-mul, pow-suc, le_of_mul-le-mul_right}
+use Rattle.decimal_input.specs.declared.dec.Dec.{Dec}
+use Rattle.decimal_input.specs.declared.dec.NumFault.{NumFault}
+use Rattle.decimal_input.specs.Outcomes.{IsTrimmed}
+use Rattle.decimal_input.specs.Grammar.{Spelling, Spells}
+use Rattle.decimal_input.specs.Words.{spelt}
+use Rattle.decimal_input.specs.Outcomes.{IsTested, IsCanonical, Names}
+use Rattle.decimal_input.proofs.Powers.{ten_pos}
+use Rattle.decimal_input.proofs.Spelled.{reads_spelt, spells_read}
+
+even : (m n p : ℕ) → 0 < p → m * p ≡ n * p → m ≡ n
+even m n p h e = grind (arith, le_of_mul-le-mul_right)
+
+-- a last digit above 0 leaves no room for a further zero
+ends_once : (d e z j : ℕ) → 0 < d % 10 → d * 10 ^ z ≡ e * 10 ^ (z + suc j) → ⊥
+ends_once d e z j last h =
+    let split : 10 ^ (z + suc j) ≡ 10 ^ z * (10 ^ j * 10) = rw (pow-add 10 z (suc j), pow-suc 10 j) refl in
+    let k : e * 10 ^ (z + suc j) ≡ e * (10 ^ z * (10 ^ j * 10)) = ap (λ (t : ℕ). e * t) split in
+    let same : d ≡ (e * 10 ^ j) * 10 = even d ((e * 10 ^ j) * 10) (10 ^ z) (ten_pos z) (omega (arith, h, k)) in
+    no_end d (e * 10 ^ j) last same
+  where
+    no_end : (d m : ℕ) → 0 < d % 10 → d ≡ m * 10 → ⊥
+    no_end d m last h = omega (arith, last, h)
+
+-- Digits without a trailing zero, and the zeros behind them, are fixed by the number.
+pub trimmed_one : (c d e z y : ℕ) → IsTrimmed c d z → IsTrimmed c e y → (d ≡ e) × (z ≡ y)
+trimmed_one c d e z y s t =
+    let powers : z ≡ y = one_power z y s.last t.last (sym s.whole ∙ t.whole) in
+    let P : ℕ → Type 0 = λ k. d * 10 ^ k ≡ e * 10 ^ y in
+    (even d e (10 ^ y) (ten_pos y) (subst P powers (sym s.whole ∙ t.whole)), powers)
+  where
+    one_power : (z y : ℕ) → 0 < d % 10 → 0 < e % 10 → d * 10 ^ z ≡ e * 10 ^ y → z ≡ y
+    one_power z y ld le h = elim (cases_lt z y) [
+      | inl lt ↦ absurd (let g : z + suc (y - suc z) ≡ y = omega arith in let P : ℕ → Type 0 = λ k. d * 10 ^ z ≡ e * 10 ^ k in ends_once d e z (y - suc z) ld (subst P (sym g) h))
+      | inr ge ↦ elim (cases_lt y z) [
+        | inl lt ↦ absurd (let g : y + suc (z - suc y) ≡ z = omega arith in let P : ℕ → Type 0 = λ k. e * 10 ^ y ≡ d * 10 ^ k in ends_once e d y (z - suc y) le (subst P (sym g) (sym h)))
+        | inr ge' ↦ omega arith
+      ]
+    ]
+
+tested_one : (neg : Bool) (d : ℕ) (e : ℤ) (r q : Result Dec NumFault) → IsTested neg d e r → IsTested neg d e q → r ≡ q
+tested_one neg d e r q s t = elim (cases_lt d (10 ^ 18)) [
+  | inl few ↦ by_lt_z e (neg_ℤ (pos 40))
+      (λ low. s.low few low ∙ sym (t.low few low))
+      (λ above. by_lt_z (pos 40) e
+      (λ high. s.high few high ∙ sym (t.high few high))
+      (λ below. s.good few above below ∙ sym (t.good few above below)))
+  | inr many ↦ s.many many ∙ sym (t.many many)
+]
+
+not_zero : (c d z : ℕ) → c ≡ 0 → IsTrimmed c d z → ⊥
+not_zero c d z h t = none d (10 ^ z) t.last (ten_pos z) (sym t.whole ∙ h)
+  where
+    none : (d p : ℕ) → 0 < d % 10 → 0 < p → d * p ≡ 0 → ⊥
+    none d p last hp h = omega (arith, last, h, mul-le-mul (positive d last) hp)
+      where
+        positive : (d : ℕ) → 0 < d % 10 → 0 < d
+        positive d h = omega arith
+
+-- A number has one canonical form, or one refusal.
+pub canonical_one : (neg : Bool) (c : ℕ) (e : ℤ) (r q : Result Dec NumFault) → IsCanonical neg c e r → IsCanonical neg c e q → r ≡ q
+canonical_one neg c e r q (inl s) (inl t) = s.1 ∙ sym t.1
+canonical_one neg c e r q (inl s) (inr (d, z, t, _)) = absurd (not_zero c d z s.0 t)
+canonical_one neg c e r q (inr (d, z, s, _)) (inl t) = absurd (not_zero c d z t.0 s)
+canonical_one neg c e r q (inr (d, z, s, a)) (inr (f, y, t, b)) =
+    let one = trimmed_one c d f z y s t in
+    let P : ℕ → Type 0 = λ x. IsTested neg x (e +ℤ pos y) r in
+    let Q : ℕ → Type 0 = λ k. IsTested neg d (e +ℤ pos k) r in
+    tested_one neg f (e +ℤ pos y) r q (subst P one.0 (subst Q one.1 a)) b
+
+-- A word names one thing.
+pub names_one : (w : List ℕ) (r q : Result Dec NumFault) → Names w r → Names w q → r ≡ q
+names_one w r q a b = elim (cases_lt 64 (length w)) [
+  | inl long ↦ a.long long ∙ sym (b.long long)
+  | inr short ↦ by (spelt w) refl short
+]
+  where
+    none_is_some : (n : Spelling) → spelt w ≡ None → spelt w ≡ Some n → ⊥
+    none_is_some n e f = let k : None ≡ Some n = sym e ∙ f in cc
+
+    by : (X : Option Spelling) → spelt w ≡ X → length w ≤ 64 → r ≡ q
+    by None e short =
+        let none : (n : Spelling) → Spells w n → ⊥ = λ n s. none_is_some n e (reads_spelt w n s) in
+        a.no_number none ∙ sym (b.no_number none)
+    by (Some n) e short =
+        let s = spells_read w n e in
+        canonical_one n.neg n.coefficient n.exp r q (a.number short n s) (b.number short n s)

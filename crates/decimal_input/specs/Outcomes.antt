@@ -1,0 +1,35 @@
+use Rattle.std.specs.Prelude.{◌≡◌, ℕ, ◌*◌, ◌<◌, ◌≤◌, ◌^◌, ◌%◌, ◌⊎◌, not, List, length, Bool, true, false, Result, Ok, Err, ℤ, pos, neg_ℤ, ◌+ℤ◌, ◌≤ℤ◌, ◌<ℤ◌}
+use Rattle.decimal_input.specs.declared.dec.Dec.{Dec}
+use Rattle.decimal_input.specs.declared.dec.NumFault.{NumFault}
+use Rattle.decimal_input.specs.declared.dec.NumFault.TheVariants.{BadNumber, TooManyDigits}
+use Rattle.decimal_input.specs.Grammar.{Spelling, Spells}
+
+-- c is d with z zeros behind it, and d ends in another digit than 0.
+pub record IsTrimmed (c d z : ℕ) : Type 0 where
+  pub whole : c ≡ d * 10 ^ z
+  pub last : 0 < d % 10
+
+-- The tests in their order: at most 18 digits, then an exponent from -40 to 40; for d * 10 ^ e where d ends in a digit other than 0.
+pub record IsTested (neg : Bool) (d : ℕ) (e : ℤ) (r : Result Dec NumFault) : Type 0 where
+  pub many : 10 ^ 18 ≤ d → r ≡ Err TooManyDigits
+  pub low : d < 10 ^ 18 → e <ℤ neg_ℤ (pos 40) → r ≡ Err BadNumber
+  pub high : d < 10 ^ 18 → pos 40 <ℤ e → r ≡ Err BadNumber
+  pub good : d < 10 ^ 18 → neg_ℤ (pos 40) ≤ℤ e → e ≤ℤ pos 40 → r ≡ Ok (record { neg = neg; digits = d; exp = e })
+
+-- r is the canonical form of c * 10 ^ e with its sign, or its refusal. Zero is zero whatever its sign and exponent.
+abbrev pub IsCanonical : Bool → ℕ → ℤ → Result Dec NumFault → Type 0
+IsCanonical neg c e r =
+    ((c ≡ 0) × (r ≡ Ok (record { neg = false; digits = 0; exp = pos 0 })))
+    ⊎ ((d : ℕ) × (z : ℕ) × IsTrimmed c d z × IsTested neg d (e +ℤ pos z) r)
+
+-- What the word w is read as: BadNumber where it has more than 64 bytes or spells no number; else
+-- the canonical form of the number that it spells, or its refusal.
+pub record Names (w : List ℕ) (r : Result Dec NumFault) : Type 0 where
+  pub long : 64 < length w → r ≡ Err BadNumber
+  pub no_number : ((n : Spelling) → Spells w n → ⊥) → r ≡ Err BadNumber
+  pub number : length w ≤ 64 → (n : Spelling) → Spells w n → IsCanonical n.neg n.coefficient n.exp r
+
+-- The sign of a product: whether exactly one of the two is a minus.
+abbrev pub differ : Bool → Bool → Bool
+differ true b = not b
+differ false b = b

@@ -1,0 +1,43 @@
+use Rattle.std.specs.Prelude.{ℕ, ◌+◌, ◌*◌, ◌≤◌, ◌<◌, ◌^◌, ℤ, pos, ◌+ℤ◌, ◌*ℤ◌, ◌≤ℤ◌, ◌<ℤ◌, neg_ℤ, unsigned_abs}
+use Rattle.decimal_input.specs.Ratios.{Ratio, den}
+use Rattle.decimal_input.specs.Fractions.{Fraction, den as denominator}
+
+-- n is the greatest whole number not above f * 10 ^ s
+pub record IsFloor (n : ℕ) (f : Ratio) (s : ℕ) : Type 0 where
+  pub at_most : n * den f ≤ f.num * 10 ^ s
+  pub next : f.num * 10 ^ s < (n + 1) * den f
+
+-- n is the least whole number not below f * 10 ^ s
+pub record IsCeiling (n : ℕ) (f : Ratio) (s : ℕ) : Type 0 where
+  pub at_least : f.num * 10 ^ s ≤ n * den f
+  pub least : (k : ℕ) → f.num * 10 ^ s ≤ k * den f → n ≤ k
+
+-- f * 10 ^ s is at least n
+pub record Reaches (n : ℕ) (f : Ratio) (s : ℕ) : Type 0 where
+  pub reach : n * den f ≤ f.num * 10 ^ s
+
+-- f * 10 ^ s is more than n
+pub record Passes (n : ℕ) (f : Ratio) (s : ℕ) : Type 0 where
+  pub pass : n * den f < f.num * 10 ^ s
+
+-- z is the greatest whole number not above f * 10 ^ s
+pub record IsSignedFloor (z : ℤ) (f : Fraction) (s : ℕ) : Type 0 where
+  pub at_most : (z *ℤ pos (denominator f)) ≤ℤ (f.num *ℤ pos (10 ^ s))
+  pub next : (f.num *ℤ pos (10 ^ s)) <ℤ ((z +ℤ pos 1) *ℤ pos (denominator f))
+
+-- z is the least whole number not below f * 10 ^ s
+pub record IsSignedCeiling (z : ℤ) (f : Fraction) (s : ℕ) : Type 0 where
+  pub at_least : (f.num *ℤ pos (10 ^ s)) ≤ℤ (z *ℤ pos (denominator f))
+  pub next : ((z +ℤ neg_ℤ (pos 1)) *ℤ pos (denominator f)) <ℤ (f.num *ℤ pos (10 ^ s))
+
+-- The floor of f * 10 ^ s is too large: its magnitude is 2 ^ 126 or more.
+pub record IsFloorPast (f : Fraction) (s : ℕ) : Type 0 where
+  pub floor : ℤ
+  pub is : IsSignedFloor floor f s
+  pub past : 2 ^ 126 ≤ unsigned_abs floor
+
+-- The ceiling of f * 10 ^ s is too large: its magnitude is 2 ^ 126 or more.
+pub record IsCeilingPast (f : Fraction) (s : ℕ) : Type 0 where
+  pub ceiling : ℤ
+  pub is : IsSignedCeiling ceiling f s
+  pub past : 2 ^ 126 ≤ unsigned_abs ceiling

@@ -1,0 +1,16 @@
+// Numbers of the input, exactly: what a word names, products, and whole units of a number.
+#![tactic(auto)]
+
+mod canonical;
+mod coefficient;
+pub mod dec;
+mod digit;
+mod exponent;
+pub mod integer;
+pub mod product;
+pub mod read;
+#[cfg(test)]
+mod tests;
+pub mod units;
+pub mod whole;
+mod word;
