@@ -1,0 +1,34 @@
+use Rattle.std.proofs.Common.{◌+◌, arith, add-one}
+use Rattle.std.proofs.lemmas.Int.{ints}
+use Rattle.std.proofs.Math.Nat.{pow-suc}
+use Rattle.decimal_input.proofs.Orders.{Same-trans}
+use Rattle.decimal_input.proofs.Powers.{ten_pos}
+use Rattle.scaled_decimal.proofs.Nearest.{uncarried}
+use Rattle.scaled_decimal.proofs.Numbers.{few_places}
+use Rattle.scaled_decimal.proofs.convert.padded.Goals as goal
+
+pub overflow_sub-e : goal.overflow_sub-e
+overflow_sub-e c =
+    let grown = c.loop-m.invariant.grown in
+    omega (arith, ints, few_places grown.0 c.loop-m.m 17 grown.2 (omega arith), grown.1)
+
+pub loop-m-smaller : goal.loop-m-smaller
+loop-m-smaller c =
+    let grown = c.loop-m.invariant.grown in
+    omega (arith, grown.2, ten_pos grown.0)
+
+pub loop-m-preserved : goal.loop-m-preserved
+loop-m-preserved c =
+    let grown = c.loop-m.invariant.grown in
+    let few = few_places grown.0 c.loop-m.m 17 grown.2 (omega arith) in
+    record {
+      below = omega arith;
+      grown = (grown.0 + 1, omega (arith, ints, few, grown.1), rw (add-one, pow-suc 10 grown.0) (omega (arith, grown.2)));
+      same = Same-trans (uncarried c.loop-m.m 1 _ _ (omega (arith, ints, few, grown.1))) c.loop-m.invariant.same;
+    }
+
+pub returns-clause-size : goal.returns-clause-size
+returns-clause-size c =
+    let grown = c.loop-m.invariant.grown in
+    let few = few_places grown.0 c.loop-m.m 18 grown.2 (omega arith) in
+    record { positive = omega arith; above = omega (arith, ints, few, grown.1); below = omega (arith, ints, grown.1) }

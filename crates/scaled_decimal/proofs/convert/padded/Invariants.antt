@@ -1,0 +1,14 @@
+use Rattle.std.proofs.Common.{◌≡◌, ℕ, ◌-◌, ◌^◌, ◌≤◌, ◌<◌, pos, ◌+ℤ◌}
+use Rattle.decimal_input.specs.Ratios.{Same}
+use Rattle.decimal_input.specs.Decimals.{scaled}
+use Rattle.scaled_decimal.proofs.convert.padded.Given as goal
+
+abbrev pub invariant-loop-m : goal.invariant-loop-m
+invariant-loop-m l = record {
+  below : l.m < 10 ^ 18;
+  grown : (j : ℕ) × (l.e +ℤ pos j ≡ l.exponent) × (10 ^ j ≤ l.m);
+  same : Same (scaled l.m l.e) (scaled l.digits l.exponent);
+}
+
+abbrev pub decreases-loop-m : goal.decreases-loop-m
+decreases-loop-m l = 10 ^ 18 - l.m

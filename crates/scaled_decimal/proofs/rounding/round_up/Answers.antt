@@ -1,0 +1,17 @@
+use Rattle.std.proofs.Common.{◌≡◌, ◌/◌, ◌-◌, ◌^◌, refl, arith}
+use Rattle.std.proofs.lemmas.Int.{ints}
+use Rattle.scaled_decimal.proofs.Fronts.{up_at_18, up_at_nines, up_at_19}
+use Rattle.scaled_decimal.proofs.rounding.round_up.Goals as goal
+
+pub returns-then-front-clause-nearest : goal.returns-then-front-clause-nearest
+returns-then-front-clause-nearest c =
+    up_at_18 _ c.args.p c.args.behind.unit c.args.behind.places c.args.e c.requires.power c.requires.digits c.requires.least (omega arith) refl (omega (arith, ints))
+
+pub returns-then-front-2-clause-nearest : goal.returns-then-front-2-clause-nearest
+returns-then-front-2-clause-nearest c =
+    up_at_nines _ c.args.p c.args.behind.unit c.args.behind.places c.args.e c.requires.power c.requires.digits c.requires.least (omega arith) refl (omega (arith, ints))
+
+pub returns-else-front-2-clause-nearest : goal.returns-else-front-2-clause-nearest
+returns-else-front-2-clause-nearest c =
+    let other : c.args.p / c.args.behind.unit ≡ 10 ^ 18 - 1 → ⊥ = λ e. c.if-front-2.false e in
+    up_at_19 _ c.args.p c.args.behind.unit c.args.behind.places c.args.e c.requires.power c.requires.digits (omega arith) c.requires.most refl (omega (arith, ints))

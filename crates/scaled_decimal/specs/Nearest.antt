@@ -1,0 +1,41 @@
+use Rattle.std.specs.Prelude.{◌≡◌, ℕ, ◌≤◌, ◌<◌, ◌^◌, ◌⊎◌, ℤ, pos, neg_ℤ, ◌≤ℤ◌}
+use Rattle.std.specs.Int.{int_min, int_max}
+use Rattle.decimal_input.specs.Ratios.{Ratio, AtMost}
+use Rattle.decimal_input.specs.Decimals.{scaled}
+use Rattle.scaled_decimal.specs.declared.decimal.Sd.{Sd}
+
+-- 18 digits, or zero with the exponent 0
+abbrev pub IsSd : Sd → Type 0
+IsSd x = ((10 ^ 17 ≤ x.m) × (x.m < 10 ^ 18)) ⊎ ((x.m ≡ 0) × (x.e ≡ pos 0))
+
+-- m * 10 ^ e
+abbrev pub value : Sd → Ratio
+value x = scaled x.m x.e
+
+-- r is the greatest 18-digit decimal not above f, of all exponents
+pub record IsDown (r : Sd) (f : Ratio) : Type 0 where
+  pub decimal : IsSd r
+  pub at_most : AtMost (value r) f
+  pub greatest : (x : Sd) → IsSd x → AtMost (value x) f → AtMost (value x) (value r)
+
+-- r is the least 18-digit decimal not below f, of all exponents
+pub record IsUp (r : Sd) (f : Ratio) : Type 0 where
+  pub decimal : IsSd r
+  pub at_least : AtMost f (value r)
+  pub least : (x : Sd) → IsSd x → AtMost f (value x) → AtMost (value r) (value x)
+
+-- an exponent from -b to b
+pub record IsNear (e : ℤ) (b : ℕ) : Type 0 where
+  pub above : neg_ℤ (pos b) ≤ℤ e
+  pub below : e ≤ℤ pos b
+
+-- r is positive, with an exponent from low to high
+pub record HasSize (r : Sd) (low high : ℤ) : Type 0 where
+  pub positive : 0 < r.m
+  pub above : low ≤ℤ r.e
+  pub below : r.e ≤ℤ high
+
+-- an exponent from low to high, or 0, which zero has
+pub record IsWithin (e low high : ℤ) : Type 0 where
+  pub above : int_min low (pos 0) ≤ℤ e
+  pub below : e ≤ℤ int_max high (pos 0)

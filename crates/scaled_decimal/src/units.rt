@@ -1,0 +1,27 @@
+// Whole numbers of units from decimals.
+
+ghost use Rattle.std.specs.Prelude.{◌-◌, ◌^◌, ◌<◌, MatchOption};
+ghost use Rattle.scaled_decimal.specs.Nearest.{IsSd, value};
+ghost use Rattle.decimal_input.specs.Wholes.{IsFloor, IsCeiling, Reaches, Passes};
+ghost use Rattle.scaled_decimal.specs.Monotone.{FloorGrows, CeilingGrows};
+
+use crate::decimal::Sd;
+use decimal_input::whole::{whole_dn, whole_up};
+
+/// The greatest whole number of units of 10 ^ -s not above the value; none where that is 2 ^ 126 or more.
+pub fn floor_units(x: Sd, s: u32) -> Option<u128>
+    requires decimal { IsSd x }
+    ensures value { MatchOption result (Reaches (2 ^ 126) (value x) s) (λ n. IsFloor n (value x) s × (n < 2 ^ 126)) }
+    ensures monotone { FloorGrows x s result }
+{
+    whole_dn(x.m, x.e, s)
+}
+
+/// The least whole number of units of 10 ^ -s not below the value; none where that is 2 ^ 126 or more.
+pub fn ceil_units(x: Sd, s: u32) -> Option<u128>
+    requires decimal { IsSd x }
+    ensures value { MatchOption result (Passes (2 ^ 126 - 1) (value x) s) (λ n. IsCeiling n (value x) s × (n < 2 ^ 126)) }
+    ensures monotone { CeilingGrows x s result }
+{
+    whole_up(x.m, x.e, s)
+}
