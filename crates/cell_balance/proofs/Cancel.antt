@@ -1,0 +1,118 @@
+-- Over all cells the flows over links cancel, and over any set only the links that leave it count.
+use Rattle.std.proofs.Common.{◌≡◌, ℕ, ◌<◌, refl, sym, ap, ◌∙◌, arith, ℤ, pos, neg_ℤ, ◌+ℤ◌, ◌-ℤ◌, ◌*ℤ◌, List, [], ◌∷◌, length, All, Bool, true, false, cond, nat_eq}
+use Rattle.std.proofs.lemmas.List.Elements.{All-head, All-tail}
+use Rattle.std.proofs.lemmas.Int.{ints}
+use Rattle.std.proofs.Math.IntN.{zero-*ℤ, *ℤ-zero}
+use Rattle.step_problem.specs.Flows.{total}
+use Rattle.step_problem.proofs.Leasts.{mul_neg}
+use Rattle.cell_balance.proofs.Totals.{add_mul, total-same}
+use Rattle.cell_balance.proofs.Sums.{sum-same, sum-add, sum-neg, sum-zero, sum-swap, sum-one}
+use Rattle.cell_balance.proofs.Whole.{WholeLink, WholeCell, whole_link, whole_at}
+use Rattle.cell_balance.specs.Components.{sum_below, sum_inside}
+
+-- what the links of a list conduct to the cell k
+abbrev pub weight : List WholeLink → ℕ → ℤ
+weight links k = total (λ x. cond (nat_eq x.cell k) (pos x.c) (pos 0)) links
+
+-- links lead to cells of the step, and any two cells conduct the same to each other
+pub record IsMutual (w : List WholeCell) : Type 0 where
+  pub range : (c : ℕ) → c < length w → All (λ x. x.cell < length w) (whole_at w c).links
+  pub same : (c k : ℕ) → c < length w → k < length w → weight (whole_at w c).links k ≡ weight (whole_at w k).links c
+
+-- the flow over a list of links, by the cells that they lead to
+by_weight : (n : ℕ) (xs : List WholeLink) (g : ℕ → ℤ) → All (λ x. x.cell < n) xs → total (λ x. pos x.c *ℤ g x.cell) xs ≡ sum_below n (λ k. weight xs k *ℤ g k)
+by_weight n [] g h = sym (sum-same n _ (λ k. pos 0) (λ k i. zero-*ℤ (g k)) ∙ sum-zero n)
+by_weight n (x ∷ xs) g h =
+    let range = All-head (λ y. y.cell < n) x xs h in
+    let others = by_weight n xs g (All-tail (λ y. y.cell < n) x xs h) in
+    sym (sum-same n _ _ (λ k i. add_mul (cond (nat_eq x.cell k) (pos x.c) (pos 0)) (weight xs k) (g k))
+    ∙ sum-add n (λ k. cond (nat_eq x.cell k) (pos x.c) (pos 0) *ℤ g k) (λ k. weight xs k *ℤ g k)
+    ∙ rw (sum-one n x.cell (pos x.c) g range, others) refl)
+
+-- flows that change their sign at the other end cancel
+cancel : (n : ℕ) (links : ℕ → List WholeLink) (g : ℕ → ℕ → ℤ) → ((c : ℕ) → c < n → All (λ x. x.cell < n) (links c)) → ((c k : ℕ) → c < n → k < n → weight (links c) k ≡ weight (links k) c) → ((c k : ℕ) → g c k ≡ neg_ℤ (g k c)) → sum_below n (λ c. total (λ x. pos x.c *ℤ g c x.cell) (links c)) ≡ pos 0
+cancel n links g range same turned =
+    no_sign _ (by_cells
+    ∙ sum-same n _ _ (λ c i. sum-same n _ _ (λ k j. turn_term c k i j))
+    ∙ sum-swap n n (λ c k. neg_ℤ (weight (links k) c *ℤ g k c))
+    ∙ sum-same n _ _ (λ k j. sum-neg n (λ c. weight (links k) c *ℤ g k c))
+    ∙ sum-neg n (λ k. sum_below n (λ c. weight (links k) c *ℤ g k c))
+    ∙ ap neg_ℤ (sym by_cells))
+  where
+    by_cells : sum_below n (λ c. total (λ x. pos x.c *ℤ g c x.cell) (links c)) ≡ sum_below n (λ c. sum_below n (λ k. weight (links c) k *ℤ g c k))
+    by_cells = sum-same n _ _ (λ c i. by_weight n (links c) (g c) (range c i))
+
+    turn_term : (c k : ℕ) → c < n → k < n → weight (links c) k *ℤ g c k ≡ neg_ℤ (weight (links k) c *ℤ g k c)
+    turn_term c k i j = rw (same c k i j, turned c k) (mul_neg (weight (links k) c) (g k c))
+
+    no_sign : (a : ℤ) → a ≡ neg_ℤ a → a ≡ pos 0
+    no_sign a e = omega (arith, ints)
+
+-- the flow over a link that leaves the set
+abbrev pub cut_link : (ℕ → Bool) → (ℕ → ℤ) → ℤ → WholeLink → ℤ
+cut_link inside h v x = cond (inside x.cell) (pos 0) (whole_link h v x)
+
+total-add : {X : Type 0} (f g h : X → ℤ) (xs : List X) → ((x : X) → f x ≡ g x +ℤ h x) → total f xs ≡ total g xs +ℤ total h xs
+total-add f g h [] each = refl
+total-add f g h (x ∷ xs) each = rw (each x, total-add f g h xs each) (regroup (g x) (h x) (total g xs) (total h xs))
+  where
+    regroup : (a b c d : ℤ) → a +ℤ b +ℤ (c +ℤ d) ≡ a +ℤ c +ℤ (b +ℤ d)
+    regroup a b c d = omega (arith, ints)
+
+total-zeros : {X : Type 0} (f : X → ℤ) (xs : List X) → ((x : X) → f x ≡ pos 0) → total f xs ≡ pos 0
+total-zeros f [] each = refl
+total-zeros f (x ∷ xs) each = rw (each x, total-zeros f xs each) refl
+
+-- the difference of heads over a link inside the set, and 0 elsewhere
+abbrev inner : (ℕ → Bool) → (ℕ → ℤ) → ℕ → ℕ → ℤ
+inner inside Y c k = cond (inside c) (cond (inside k) (Y k -ℤ Y c) (pos 0)) (pos 0)
+
+turned_cases : (a b : Bool) (x y : ℤ) → cond a (cond b (x -ℤ y) (pos 0)) (pos 0) ≡ neg_ℤ (cond b (cond a (y -ℤ x) (pos 0)) (pos 0))
+turned_cases true true x y = omega (arith, ints)
+turned_cases true false x y = refl
+turned_cases false true x y = refl
+turned_cases false false x y = refl
+
+split_link : (b : Bool) (c : ℕ) (d : ℤ) → pos c *ℤ d ≡ cond b (pos 0) (pos c *ℤ d) +ℤ pos c *ℤ cond b d (pos 0)
+split_link true c d = omega (arith, ints)
+split_link false c d = rw *ℤ-zero (omega (arith, ints))
+
+one_cell : (inside : ℕ → Bool) (Y : ℕ → ℤ) (y other : ℤ) (links : List WholeLink) (b : Bool) → cond b (total (whole_link Y y) links +ℤ other) (pos 0) ≡ cond b (total (cut_link inside Y y) links +ℤ other) (pos 0) +ℤ total (λ x. pos x.c *ℤ cond b (cond (inside x.cell) (Y x.cell -ℤ y) (pos 0)) (pos 0)) links
+one_cell inside Y y other links true =
+    let split = total-add (whole_link Y y) (cut_link inside Y y) (λ x. pos x.c *ℤ cond (inside x.cell) (Y x.cell -ℤ y) (pos 0)) links (λ x. split_link (inside x.cell) x.c (Y x.cell -ℤ y)) in
+    regroup _ _ _ split
+  where
+    regroup : (l c i : ℤ) → l ≡ c +ℤ i → l +ℤ other ≡ c +ℤ other +ℤ i
+    regroup l c i e = omega (arith, ints)
+one_cell inside Y y other links false = rw (total-zeros (λ x. pos x.c *ℤ pos 0) links (λ x. *ℤ-zero (pos x.c))) refl
+
+-- over any set of cells only the links that leave it count, whatever else each cell gets
+pub cut_links : (w : List WholeCell) (inside : ℕ → Bool) (Y other : ℕ → ℤ) → IsMutual w → sum_inside (length w) inside (λ c. total (whole_link Y (Y c)) (whole_at w c).links +ℤ other c) ≡ sum_inside (length w) inside (λ c. total (cut_link inside Y (Y c)) (whole_at w c).links +ℤ other c)
+cut_links w inside Y other both =
+    let n = length w in
+    let none_inside = cancel n (λ c. (whole_at w c).links) (inner inside Y) both.range both.same (λ c k. turned_cases (inside c) (inside k) (Y k) (Y c)) in
+    sum-same n _ _ (λ c i. one_cell inside Y (Y c) (other c) (whole_at w c).links (inside c))
+    ∙ sum-add n _ (λ c. total (λ x. pos x.c *ℤ inner inside Y c x.cell) (whole_at w c).links)
+    ∙ rw none_inside (none _)
+  where
+    none : (a : ℤ) → a +ℤ pos 0 ≡ a
+    none a = omega (arith, ints)
+
+-- over a set that no link leaves the flows over links cancel
+pub closed_cancel : (w : List WholeCell) (inside : ℕ → Bool) (Y : ℕ → ℤ) → IsMutual w → ((c : ℕ) → c < length w → inside c ≡ true → All (λ x. inside x.cell ≡ true) (whole_at w c).links) → sum_inside (length w) inside (λ c. total (whole_link Y (Y c)) (whole_at w c).links) ≡ pos 0
+closed_cancel w inside Y both closed =
+    sum-same (length w) _ _ (λ c i. with_none (inside c) (total (whole_link Y (Y c)) (whole_at w c).links))
+    ∙ cut_links w inside Y (λ c. pos 0) both
+    ∙ sum-same (length w) _ (λ c. pos 0) (λ c i. none_cut c i (inside c) refl)
+    ∙ sum-zero (length w)
+  where
+    with_none : (b : Bool) (a : ℤ) → cond b a (pos 0) ≡ cond b (a +ℤ pos 0) (pos 0)
+    with_none true a = omega (arith, ints)
+    with_none false a = refl
+
+    no_cut : (y : ℤ) (x : WholeLink) → inside x.cell ≡ true → cut_link inside Y y x ≡ pos 0
+    no_cut y x e = rw e refl
+
+    none_cut : (c : ℕ) → c < length w → (b : Bool) → inside c ≡ b → cond b (total (cut_link inside Y (Y c)) (whole_at w c).links +ℤ pos 0) (pos 0) ≡ pos 0
+    none_cut c i true e = rw (total-same (λ x. inside x.cell ≡ true) (cut_link inside Y (Y c)) (λ x. pos 0) (whole_at w c).links (no_cut (Y c)) (closed c i e), total-zeros (λ x. pos 0) (whole_at w c).links (λ x. refl)) refl
+    none_cut c i false e = refl

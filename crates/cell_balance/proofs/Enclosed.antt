@@ -1,0 +1,107 @@
+-- Bounds that enclose an exact step enclose its whole numbers: conductances over m * 10^s, heads over n * 10^9.
+use Rattle.std.proofs.Common.{◌≡◌, ℕ, ◌+◌, ◌*◌, ◌^◌, ◌<◌, ◌≤◌, ap, ◌∙◌, subst, arith, ℤ, pos, ◌*ℤ◌, List, All}
+use Rattle.std.specs.List.{AllZip}
+use Rattle.std.proofs.Math.Nat.{mul-le-mul_right, le_of_mul-le-mul_right}
+use Rattle.std.proofs.lemmas.Nat.{pow-add}
+use Rattle.decimal_input.specs.Ratios.{Ratio, den as ratio_den}
+use Rattle.decimal_input.specs.Fractions.{Fraction, den, IsOver}
+use Rattle.decimal_input.specs.Enclosures.{Encloses, EnclosesSigned, IsShare, IsBetweenWhole, IsBetweenSigned}
+use Rattle.decimal_input.proofs.Signs.{cancel_right}
+use Rattle.step_problem.specs.declared.entry.Flow.{Flow}
+use Rattle.step_problem.specs.declared.entry.Link.{Link}
+use Rattle.step_problem.specs.declared.entry.Fixed.{Fixed}
+use Rattle.step_problem.specs.declared.entry.River.{River}
+use Rattle.step_problem.specs.declared.entry.Drain.{Drain}
+use Rattle.step_problem.specs.declared.entry.Evap.{Evap}
+use Rattle.step_problem.specs.Entries.{Entries}
+use Rattle.step_problem.proofs.Ring.{mul_assoc}
+use Rattle.cell_balance.specs.Steps.{ExactFlow, ExactLink, ExactFixed, ExactRiver, ExactDrain, ExactEvap, ExactCell}
+use Rattle.cell_balance.specs.Enclosures.{FlowEncloses, LinkEncloses, FixedEncloses, RiverEncloses, DrainEncloses, EvapEncloses, CellEncloses}
+use Rattle.cell_balance.proofs.Zips.{AllZip-compose}
+use Rattle.cell_balance.proofs.Products.{mul_mono_right}
+use Rattle.cell_balance.proofs.Scaling.{mul_swap}
+use Rattle.cell_balance.proofs.Whole.{WholeLink, WholeFixed, WholeRiver, WholeDrain, WholeEvap, WholeCell}
+use Rattle.cell_balance.proofs.Over.{FlowOver, LinkOver, FixedOver, RiverOver, DrainOver, EvapOver, CellOver}
+use Rattle.cell_balance.proofs.Within.{FlowWithin, LinkWithin, FixedWithin, RiverWithin, DrainWithin, EvapWithin, CellWithin}
+
+cross_low : (lo x a c m t : ℕ) → 0 < x → lo * x ≤ a * t → a * (m * t) ≡ c * x → lo * m ≤ c
+cross_low lo x a c m t h q e = le_of_mul-le-mul_right {k = x} (omega (arith, mul-le-mul_right m q, e)) h
+
+cross_high : (hi x a c m t : ℕ) → 0 < x → a * t ≤ hi * x → a * (m * t) ≡ c * x → c ≤ hi * m
+cross_high hi x a c m t h q e = le_of_mul-le-mul_right {k = x} (omega (arith, mul-le-mul_right m q, e)) h
+
+-- a conductance
+pub between_share : (lo hi s m c : ℕ) (r : Ratio) → Encloses lo hi s r → IsShare (m * 10 ^ s) r c → IsBetweenWhole lo hi m c
+between_share lo hi s m c r h e = record {
+  lower = cross_low lo (ratio_den r) r.num c m (10 ^ s) (omega arith) h.lower e.is;
+  upper = cross_high hi (ratio_den r) r.num c m (10 ^ s) (omega arith) h.upper e.is;
+}
+
+-- a head or a flow
+pub between_over : (lo hi : ℤ) (s n : ℕ) (f : Fraction) (z : ℤ) → EnclosesSigned lo hi s f → IsOver (n * 10 ^ s) f z → IsBetweenSigned lo hi n z
+between_over lo hi s n f z h e =
+    let both : (f.num *ℤ pos (10 ^ s)) *ℤ pos n ≡ z *ℤ pos (den f) = mul_assoc f.num (pos (10 ^ s)) (pos n) ∙ ap (λ (k : ℕ). f.num *ℤ pos k) (comm (10 ^ s) n) ∙ e.is in
+    record {
+      lower = cancel_right (den f) _ _ (omega arith) (rw (mul_swap lo (pos n) (pos (den f)), ← both) (mul_mono_right n _ _ h.lower));
+      upper = cancel_right (den f) _ _ (omega arith) (rw (mul_swap hi (pos n) (pos (den f)), ← both) (mul_mono_right n _ _ h.upper));
+    }
+  where
+    comm : (a b : ℕ) → a * b ≡ b * a
+    comm a b = omega arith
+
+-- what a problem's type keeps of a cell's links
+abbrev pub LinksGood : ℕ → Entries → Type 0
+LinksGood cells p = All (λ x. (x.cell < cells) × (0 < x.lo)) p.links
+
+module _ (s m n : ℕ) where
+  pub flow_denominator : m * 10 ^ s * (n * 10 ^ 9) ≡ m * n * 10 ^ (s + 9)
+  flow_denominator = rw (pow-add 10 s 9) (ring m (10 ^ s) n (10 ^ 9))
+    where
+      ring : (m s n t : ℕ) → m * s * (n * t) ≡ m * n * (s * t)
+      ring m s n t = omega arith
+
+  flow_within : (p : Flow) (e : ExactFlow) (q : ℤ) → FlowEncloses s p e → FlowOver (m * 10 ^ s) (n * 10 ^ 9) e q → FlowWithin m n p q
+  flow_within p e q r o = record { flow = between_over p.lo p.hi (s + 9) (m * n) e.flow q r.flow (subst (λ (k : ℕ). IsOver k e.flow q) flow_denominator o.flow) }
+
+  pub link_within : (cells : ℕ) (p : Link) (e : ExactLink) (w : WholeLink) → LinkEncloses s p e → LinkOver (m * 10 ^ s) (n * 10 ^ 9) e w → (p.cell < cells) × (0 < p.lo) → LinkWithin m n cells p w
+  link_within cells p e w r o good = record { same = r.cell ∙ o.same; range = good.0; conducts = good.1; c = between_share p.lo p.hi s m w.c e.conductance r.conductance o.c }
+
+  pub fixed_within : (p : Fixed) (e : ExactFixed) (w : WholeFixed) → FixedEncloses s p e → FixedOver (m * 10 ^ s) (n * 10 ^ 9) e w → FixedWithin m n p w
+  fixed_within p e w r o = record {
+    c = between_share p.lo p.hi s m w.c e.conductance r.conductance o.c;
+    head = between_over p.head_lo p.head_hi 9 n e.head w.head r.head o.head;
+  }
+
+  pub river_within : (p : River) (e : ExactRiver) (w : WholeRiver) → RiverEncloses s p e → RiverOver (m * 10 ^ s) (n * 10 ^ 9) e w → RiverWithin m n p w
+  river_within p e w r o = record {
+    c = between_share p.lo p.hi s m w.c e.conductance r.conductance o.c;
+    stage = between_over p.stage_lo p.stage_hi 9 n e.stage w.stage r.stage o.stage;
+    bottom = between_over p.bottom_lo p.bottom_hi 9 n e.bottom w.bottom r.bottom o.bottom;
+  }
+
+  pub drain_within : (p : Drain) (e : ExactDrain) (w : WholeDrain) → DrainEncloses s p e → DrainOver (m * 10 ^ s) (n * 10 ^ 9) e w → DrainWithin m n p w
+  drain_within p e w r o = record {
+    c = between_share p.lo p.hi s m w.c e.conductance r.conductance o.c;
+    elev = between_over p.elev_lo p.elev_hi 9 n e.elevation w.elev r.elevation o.elev;
+  }
+
+  pub evap_within : (p : Evap) (e : ExactEvap) (w : WholeEvap) → EvapEncloses s p e → EvapOver (m * 10 ^ s) (n * 10 ^ 9) e w → EvapWithin m n p w
+  evap_within p e w r o = record {
+    c = between_share p.lo p.hi s m w.c e.conductance r.conductance o.c;
+    surf = between_over p.surf_lo p.surf_hi 9 n e.surface w.surf r.surface o.surf;
+    ext = between_over p.ext_lo p.ext_hi 9 n e.extinction w.ext r.extinction o.ext;
+  }
+
+  module _ (cells : ℕ) where
+    cell_within : (p : Entries) (e : ExactCell) (w : WholeCell) → CellEncloses s p e → CellOver (m * 10 ^ s) (n * 10 ^ 9) e w → LinksGood cells p → CellWithin m n cells p w
+    cell_within p e w h o good = record {
+      flows = AllZip-compose (FlowEncloses s) (FlowOver (m * 10 ^ s) (n * 10 ^ 9)) (FlowWithin m n) (λ x. Unit {0}) (λ x y z r q u. flow_within x y z r q) p.flows e.flows w.flows h.flows o.flows (λ k d i. tt);
+      links = AllZip-compose (LinkEncloses s) (LinkOver (m * 10 ^ s) (n * 10 ^ 9)) (LinkWithin m n cells) (λ x. (x.cell < cells) × (0 < x.lo)) (link_within cells) p.links e.links w.links h.links o.links good;
+      fixed = AllZip-compose (FixedEncloses s) (FixedOver (m * 10 ^ s) (n * 10 ^ 9)) (FixedWithin m n) (λ x. Unit {0}) (λ x y z r q u. fixed_within x y z r q) p.fixed e.fixed w.fixed h.fixed o.fixed (λ k d i. tt);
+      rivers = AllZip-compose (RiverEncloses s) (RiverOver (m * 10 ^ s) (n * 10 ^ 9)) (RiverWithin m n) (λ x. Unit {0}) (λ x y z r q u. river_within x y z r q) p.rivers e.rivers w.rivers h.rivers o.rivers (λ k d i. tt);
+      drains = AllZip-compose (DrainEncloses s) (DrainOver (m * 10 ^ s) (n * 10 ^ 9)) (DrainWithin m n) (λ x. Unit {0}) (λ x y z r q u. drain_within x y z r q) p.drains e.drains w.drains h.drains o.drains (λ k d i. tt);
+      evaps = AllZip-compose (EvapEncloses s) (EvapOver (m * 10 ^ s) (n * 10 ^ 9)) (EvapWithin m n) (λ x. Unit {0}) (λ x y z r q u. evap_within x y z r q) p.evaps e.evaps w.evaps h.evaps o.evaps (λ k d i. tt);
+    }
+
+    pub step_within : (p : List Entries) (e : List ExactCell) (w : List WholeCell) → AllZip (CellEncloses s) p e → AllZip (CellOver (m * 10 ^ s) (n * 10 ^ 9)) e w → All (LinksGood cells) p → AllZip (CellWithin m n cells) p w
+    step_within p e w h o good = AllZip-compose (CellEncloses s) (CellOver (m * 10 ^ s) (n * 10 ^ 9)) (CellWithin m n cells) (LinksGood cells) cell_within p e w h o good

@@ -1,0 +1,88 @@
+-- The comparison: from fractions to whole numbers and back.
+use Rattle.std.proofs.Common.{◌≡◌, ℕ, suc, ◌-◌, ◌*◌, ◌^◌, ◌<◌, ◌≤◌, sym, ap, ◌∙◌, subst, arith, ℤ, pos, ◌*ℤ◌, ◌≤ℤ◌, List, length}
+use Rattle.std.specs.List.{AllZip}
+use Rattle.std.proofs.Math.Nat.{mul-le-mul}
+use Rattle.decimal_input.specs.Fractions.{IsOver}
+use Rattle.decimal_input.proofs.Signs.{cancel_right}
+use Rattle.step_problem.proofs.Ring.{mul_assoc}
+use Rattle.step_problem.specs.Heads.{head_at}
+use Rattle.cell_balance.specs.Steps.{ExactCell, cell_at, no_cell}
+use Rattle.cell_balance.specs.Balance.{balance}
+use Rattle.cell_balance.specs.Solutions.{share, SolvesStep}
+use Rattle.cell_balance.specs.Laws.{Compares}
+use Rattle.cell_balance.proofs.Zips.{AllZip-at, AllZip-length}
+use Rattle.cell_balance.proofs.Products.{mul_mono_right}
+use Rattle.cell_balance.proofs.Scaling.{zero_over, mul_swap}
+use Rattle.cell_balance.proofs.Over.{CellOver, balance_over}
+use Rattle.cell_balance.proofs.Denominators.{step_common}
+use Rattle.cell_balance.proofs.Wholes.{whole_step}
+use Rattle.cell_balance.proofs.Enclosed.{step_within}
+use Rattle.cell_balance.proofs.Mutual.{mutual_whole}
+use Rattle.cell_balance.proofs.Linked.{linked, links_good}
+use Rattle.cell_balance.proofs.Compare.{compare_low, compare_high}
+use Rattle.cell_balance.proofs.Whole.{WholeCell, whole_at, no_whole, whole_balance}
+
+-- a numerator over d, over a multiple of d
+pub share_is : (d j : ℕ) (z : ℤ) → 0 < d → IsOver (d * j) (share d z) (z *ℤ pos j)
+share_is d j z some = record { is = ap (λ (k : ℕ). z *ℤ pos k) (ring (suc (d - 1)) (omega arith)) ∙ sym (mul_assoc z (pos j) (pos (suc (d - 1)))) }
+  where
+    comm : (a b : ℕ) → a * b ≡ b * a
+    comm a b = omega arith
+
+    ring : (t : ℕ) → d ≡ t → d * j ≡ j * t
+    ring t e = comm d j ∙ ap (λ (k : ℕ). j * k) e
+
+pub some_product : (a b : ℕ) → 0 < a → 0 < b → 0 < a * b
+some_product a b h k = let p : 1 * 1 ≤ a * b = mul-le-mul h k in omega arith
+
+-- a solution, in whole numbers
+pub whole_solves : (k m : ℕ) (e : List ExactCell) (w : List WholeCell) (d : ℕ) (X Y : ℕ → ℤ) → AllZip (CellOver k m) e w → SolvesStep e d X → ((c : ℕ) → IsOver m (share d (X c)) (Y c)) → (c : ℕ) → c < length w → whole_balance (whole_at w c) (Y c) Y ≡ pos 0
+whole_solves k m e w d X Y over solves heads c i =
+    let here : c < length e = omega (arith, AllZip-length (CellOver k m) e w over, i) in
+    zero_over (k * m) (balance (cell_at e c) (share d (X c)) (λ z. share d (X z))) _
+    (balance_over k m (share d (X c)) (Y c) (heads c) (λ z. share d (X z)) Y heads (cell_at e c) (whole_at w c) (AllZip-at (CellOver k m) e w c no_cell no_whole over here))
+    (solves c here)
+
+pub compares : Compares
+compares p b l u s e d X given =
+    let (n, some_n, common) = step_common e in
+    let (w, over') = whole_step n (10 ^ s) (d * 10 ^ 9) e common in
+    let over = subst (λ (z : ℕ). AllZip (CellOver (n * 10 ^ s) z) e w) (assoc n d (10 ^ 9)) over' in
+    let within = step_within s n (n * d) (length p) p e w given.encloses.cells over (links_good p given.problem) in
+    let both = mutual_whole (n * 10 ^ s) (n * d * 10 ^ 9) e w (linked s p e given.problem given.encloses) over in
+    let solved = whole_solves (n * 10 ^ s) (n * d * 10 ^ 9) e w d X (heads n) over given.solves (λ c. heads_over n c) in
+    record {
+      low = λ c i. down n some_n _ _ (compare_low n (n * d) some_n (some_product n d some_n given.some) p w (heads n) within both solved given.held l (head_at b.floor) given.certificate.low (λ k j. up n _ _ (given.barrier.low k j)) c i);
+      high = λ c i. down' n some_n _ _ (compare_high n (n * d) some_n (some_product n d some_n given.some) p w (heads n) within both solved given.held u (head_at b.ceiling) given.certificate.high (λ k j. up' n _ _ (given.barrier.high k j)) c i);
+    }
+  where
+    heads : ℕ → ℕ → ℤ
+    heads n c = (X c *ℤ pos (10 ^ 9)) *ℤ pos n
+
+    assoc : (a b c : ℕ) → a * (b * c) ≡ a * b * c
+    assoc a b c = omega arith
+
+    heads_over : (n c : ℕ) → IsOver (n * d * 10 ^ 9) (share d (X c)) (heads n c)
+    heads_over n c = subst (λ (z : ℤ). IsOver (n * d * 10 ^ 9) (share d (X c)) z) (same (10 ^ 9)) (subst (λ (z : ℕ). IsOver z (share d (X c)) (X c *ℤ pos (10 ^ 9 * n))) (ring n d (10 ^ 9)) (share_is d (10 ^ 9 * n) (X c) given.some))
+      where
+        ring : (n d t : ℕ) → d * (t * n) ≡ n * d * t
+        ring n d t = omega arith
+
+        same : (t : ℕ) → X c *ℤ pos (t * n) ≡ (X c *ℤ pos t) *ℤ pos n
+        same t = sym (mul_assoc (X c) (pos t) (pos n))
+
+    -- a bound over d is one over n * d, and back
+    spread : (n : ℕ) (a : ℤ) → a *ℤ pos (n * d) ≡ (a *ℤ pos d) *ℤ pos n
+    spread n a = sym (mul_swap a (pos d) (pos n) ∙ mul_assoc a (pos n) (pos d))
+
+    up : (n : ℕ) (a y : ℤ) → (a *ℤ pos d) ≤ℤ y → (a *ℤ pos (n * d)) ≤ℤ (y *ℤ pos n)
+    up n a y h = rw (spread n a) (mul_mono_right n _ _ h)
+
+    up' : (n : ℕ) (a y : ℤ) → y ≤ℤ (a *ℤ pos d) → (y *ℤ pos n) ≤ℤ (a *ℤ pos (n * d))
+    up' n a y h = rw (spread n a) (mul_mono_right n _ _ h)
+
+    down : (n : ℕ) → 0 < n → (a y : ℤ) → (a *ℤ pos (n * d)) ≤ℤ (y *ℤ pos n) → (a *ℤ pos d) ≤ℤ y
+    down n h a y k = cancel_right n _ _ h (rw (spread n a) at k)
+
+    down' : (n : ℕ) → 0 < n → (a y : ℤ) → (y *ℤ pos n) ≤ℤ (a *ℤ pos (n * d)) → y ≤ℤ (a *ℤ pos d)
+    down' n h a y k = cancel_right n _ _ h (rw (spread n a) at k)

@@ -1,0 +1,143 @@
+-- What the manual says of single flows, from their whole numbers.
+use Rattle.std.proofs.Common.{◌≡◌, ℕ, zero, suc, ◌*◌, ◌<◌, ◌≤◌, refl, sym, ap, ◌∙◌, subst, arith, ℤ, pos, negsuc, neg_ℤ, ◌-ℤ◌, ◌*ℤ◌, ◌≤ℤ◌, ◌<ℤ◌}
+use Rattle.std.specs.Int.{int_max, int_min}
+use Rattle.std.proofs.Math.Nat.{mul-le-mul_right, mul-le-mul}
+use Rattle.std.proofs.Math.IntN.{*ℤ-zero}
+use Rattle.std.proofs.lemmas.Int.{ints, clamps}
+use Rattle.decimal_input.specs.Ratios.{Ratio, den as ratio_den}
+use Rattle.decimal_input.specs.Fractions.{Fraction, den, whole, signed, negated, IsOver}
+use Rattle.decimal_input.specs.Enclosures.{IsShare}
+use Rattle.step_problem.proofs.Ring.{mul_nonneg}
+use Rattle.step_problem.proofs.Leasts.{mul_neg}
+use Rattle.cell_balance.specs.Steps.{ExactFixed, ExactRiver, ExactDrain, ExactEvap}
+use Rattle.cell_balance.specs.Balance.{minus, greater, fixed_flow, river_flow, drain_flow, evap_flow}
+use Rattle.cell_balance.specs.Deep.{full_rate}
+use Rattle.cell_balance.specs.EntryLaws.{over_difference, FixedLaws, RiverLaws, DrainLaws, EvapLaws, FlowsAreRight}
+use Rattle.cell_balance.proofs.Scaling.{IsOver-times, IsOver-minus, IsOver-negated, IsOver-none, IsOver-signed, IsOver-greater, over_zero}
+use Rattle.cell_balance.proofs.Order.{over_le, le_over}
+use Rattle.cell_balance.proofs.EntryScaled.{same_over, negative_over, negative_below, positive_above, below_over}
+use Rattle.cell_balance.proofs.Denominators.{Goes, fraction_over, fixed_den, river_den, drain_den, evap_den}
+use Rattle.cell_balance.proofs.Over.{FixedOver, RiverOver, DrainOver, EvapOver, fixed_over, river_over, drain_over, evap_over}
+use Rattle.cell_balance.proofs.Wholes.{fixed, river, drain, evap}
+use Rattle.cell_balance.proofs.Dry.{evap_within_full}
+use Rattle.cell_balance.proofs.Whole.{WholeFixed, WholeRiver, WholeDrain, WholeEvap, whole_fixed, whole_river, whole_drain, whole_evap, whole_full}
+
+pub some_product : (a b : ℕ) → 0 < a → 0 < b → 0 < a * b
+some_product a b h k = let p : 1 * 1 ≤ a * b = mul-le-mul h k in omega arith
+
+-- what conducts has a positive share
+some_share : (d c : ℕ) (r : Ratio) → 0 < d → 0 < r.num → IsShare d r c → 0 < c
+some_share d zero r h k s = let p : 1 * 1 ≤ r.num * d = mul-le-mul k h in absurd (omega (arith, s.is, p))
+some_share d (suc c) r h k s = omega arith
+
+mul_negative : (c : ℕ) (a : ℤ) → 0 < c → a <ℤ pos 0 → (pos c *ℤ a) <ℤ pos 0
+mul_negative c (pos n) h k = absurd (omega (arith, ints))
+mul_negative c (negsuc n) h k = let p : 1 * suc n ≤ c * suc n = mul-le-mul_right (suc n) h in omega (arith, ints)
+
+mul_positive : (c : ℕ) (a : ℤ) → 0 < c → pos 0 <ℤ a → pos 0 <ℤ (pos c *ℤ a)
+mul_positive c (pos n) h k = let p : 1 * n ≤ c * n = mul-le-mul_right n h in omega (arith, ints)
+mul_positive c (negsuc n) h k = absurd (omega (arith, ints))
+
+-- C times a difference of heads, in whole numbers
+pub difference_over : (k m c : ℕ) (r : Ratio) (f g : Fraction) (a b : ℤ) → IsShare k r c → IsOver m f a → IsOver m g b → IsOver (k * m) (over_difference (signed r) f g) (pos c *ℤ (a -ℤ b))
+difference_over k m c r f g a b s p q = IsOver-times k m (signed r) (minus f g) (pos c) (a -ℤ b) (IsOver-signed k r c s) (IsOver-minus m f g a b p q)
+
+module _ (k m : ℕ) (some_k : 0 < k) (some_m : 0 < m) (v : Fraction) (y : ℤ) (own : IsOver m v y) where
+  some : 0 < k * m
+  some = some_product k m some_k some_m
+
+  fixed_laws : (x : ExactFixed) (w : WholeFixed) → FixedOver k m x w → FixedLaws v x
+  fixed_laws x w r = record {
+    gives = λ c h. positive_above (k * m) (fixed_flow v x) (whole_fixed y w) some (fixed_over k m v y own x w r) (mul_positive w.c (w.head -ℤ y) (some_share k w.c x.conductance some_k c r.c) (let b = below_over m v x.head y w.head some_m own r.head h in omega (arith, ints, b)));
+    takes = λ c h. negative_below (k * m) (fixed_flow v x) (whole_fixed y w) some (fixed_over k m v y own x w r) (mul_negative w.c (w.head -ℤ y) (some_share k w.c x.conductance some_k c r.c) (let b = below_over m x.head v w.head y some_m r.head own h in omega (arith, ints, b)));
+  }
+
+  river_laws : (x : ExactRiver) (w : WholeRiver) → RiverOver k m x w → RiverLaws v x
+  river_laws x w r = record {
+    takes = λ c h. negative_below (k * m) (river_flow v x) (whole_river y w) some (river_over k m v y own x w r) (mul_negative w.c (w.stage -ℤ int_max y w.bottom) (some_share k w.c x.conductance some_k c r.c) (let b = below_over m x.stage v w.stage y some_m r.stage own h in omega (arith, ints, clamps, b)));
+    above = λ h. same_over (k * m) _ _ _ _ some (river_over k m v y own x w r) (difference_over k m w.c x.conductance x.stage v w.stage y r.c r.stage own) (ap (λ (z : ℤ). pos w.c *ℤ (w.stage -ℤ z)) (left (over_le m x.bottom v w.bottom y r.bottom own h)));
+    below = λ h. same_over (k * m) _ _ _ _ some (river_over k m v y own x w r) (difference_over k m w.c x.conductance x.stage x.bottom w.stage w.bottom r.c r.stage r.bottom) (ap (λ (z : ℤ). pos w.c *ℤ (w.stage -ℤ z)) (right (over_le m v x.bottom y w.bottom own r.bottom h)));
+  }
+    where
+      left : w.bottom ≤ℤ y → int_max y w.bottom ≡ y
+      left h = omega (arith, ints, clamps)
+
+      right : y ≤ℤ w.bottom → int_max y w.bottom ≡ w.bottom
+      right h = omega (arith, ints, clamps)
+
+  drain_laws : (x : ExactDrain) (w : WholeDrain) → DrainOver k m x w → DrainLaws v x
+  drain_laws x w r = record {
+    never_gives = negative_over (k * m) (drain_flow v x) (whole_drain y w) some (drain_over k m v y own x w r) (out (mul_nonneg (pos w.c) (int_max (y -ℤ w.elev) (pos 0)) (omega (arith, ints)) (omega (arith, ints, clamps))));
+    below = λ h. over_zero (k * m) (drain_flow v x) some (subst (λ (z : ℤ). IsOver (k * m) (drain_flow v x) z) (none (over_le m v x.elevation y w.elev own r.elev h)) (drain_over k m v y own x w r));
+    above = λ h. same_over (k * m) _ _ _ _ some (drain_over k m v y own x w r) (difference_over k m w.c x.conductance x.elevation v w.elev y r.c r.elev own) (wet (over_le m x.elevation v w.elev y r.elev own h));
+  }
+    where
+      out : pos 0 ≤ℤ (pos w.c *ℤ int_max (y -ℤ w.elev) (pos 0)) → whole_drain y w ≤ℤ pos 0
+      out h = omega (arith, ints, h)
+
+      none : y ≤ℤ w.elev → whole_drain y w ≡ pos 0
+      none h = let e : int_max (y -ℤ w.elev) (pos 0) ≡ pos 0 = omega (arith, ints, clamps) in rw (e, *ℤ-zero) refl
+
+      wet : w.elev ≤ℤ y → whole_drain y w ≡ pos w.c *ℤ (w.elev -ℤ y)
+      wet h = let e : neg_ℤ (int_max (y -ℤ w.elev) (pos 0)) ≡ w.elev -ℤ y = omega (arith, ints, clamps) in sym (mul_neg (pos w.c) (int_max (y -ℤ w.elev) (pos 0))) ∙ ap (λ (z : ℤ). pos w.c *ℤ z) e
+
+  full_over : (x : ExactEvap) (w : WholeEvap) → EvapOver k m x w → IsOver (k * m) (negated (full_rate x)) (neg_ℤ (whole_full w))
+  full_over x w r = IsOver-negated (k * m) (full_rate x) (whole_full w) (IsOver-times k m (signed x.conductance) (greater (minus x.surface x.extinction) (whole (pos 0))) (pos w.c) _ (IsOver-signed k x.conductance w.c r.c) (IsOver-greater m (minus x.surface x.extinction) (whole (pos 0)) (w.surf -ℤ w.ext) (pos 0) (IsOver-minus m x.surface x.extinction w.surf w.ext r.surf r.ext) (IsOver-none m)))
+
+  evap_laws : (x : ExactEvap) (w : WholeEvap) → EvapOver k m x w → EvapLaws v x
+  evap_laws x w r = record {
+    never_gives = negative_over (k * m) (evap_flow v x) (whole_evap y w) some flow (out (mul_nonneg (pos w.c) (int_max (int_min y w.surf -ℤ w.ext) (pos 0)) (omega (arith, ints)) (omega (arith, ints, clamps))));
+    at_most_full = le_over (k * m) (negated (full_rate x)) (evap_flow v x) (neg_ℤ (whole_full w)) (whole_evap y w) some (full_over x w r) flow (evap_within_full y w);
+    below = λ h. over_zero (k * m) (evap_flow v x) some (subst (λ (z : ℤ). IsOver (k * m) (evap_flow v x) z) (none (over_le m v x.extinction y w.ext own r.ext h)) flow);
+    between = λ h i. same_over (k * m) _ _ _ _ some flow (difference_over k m w.c x.conductance x.extinction v w.ext y r.c r.ext own) (middle (over_le m x.extinction v w.ext y r.ext own h) (over_le m v x.surface y w.surf own r.surf i));
+    above = λ h. same_over (k * m) _ _ _ _ some flow (full_over x w r) (top (over_le m x.surface v w.surf y r.surf own h));
+  }
+    where
+      flow : IsOver (k * m) (evap_flow v x) (whole_evap y w)
+      flow = evap_over k m v y own x w r
+
+      out : pos 0 ≤ℤ (pos w.c *ℤ int_max (int_min y w.surf -ℤ w.ext) (pos 0)) → whole_evap y w ≤ℤ pos 0
+      out h = omega (arith, ints, h)
+
+      none : y ≤ℤ w.ext → whole_evap y w ≡ pos 0
+      none h = let e : int_max (int_min y w.surf -ℤ w.ext) (pos 0) ≡ pos 0 = omega (arith, ints, clamps) in rw (e, *ℤ-zero) refl
+
+      middle : w.ext ≤ℤ y → y ≤ℤ w.surf → whole_evap y w ≡ pos w.c *ℤ (w.ext -ℤ y)
+      middle h i = let e : neg_ℤ (int_max (int_min y w.surf -ℤ w.ext) (pos 0)) ≡ w.ext -ℤ y = omega (arith, ints, clamps) in sym (mul_neg (pos w.c) (int_max (int_min y w.surf -ℤ w.ext) (pos 0))) ∙ ap (λ (z : ℤ). pos w.c *ℤ z) e
+
+      top : w.surf ≤ℤ y → whole_evap y w ≡ neg_ℤ (whole_full w)
+      top h = let e : int_min y w.surf ≡ w.surf = omega (arith, ints, clamps) in ap (λ (z : ℤ). neg_ℤ (pos w.c *ℤ int_max (z -ℤ w.ext) (pos 0))) e
+
+pub flows_are_right : FlowsAreRight
+flows_are_right = record {
+  fixed = λ v x.
+      let d = den v * fixed_den x in
+      let some = some_product (den v) (fixed_den x) (omega arith) (some_product (ratio_den x.conductance) (den x.head) (omega arith) (omega arith)) in
+      let (w, r) = fixed d 1 1 x (second (den v) (fixed_den x)) in
+      let (y, own) = fraction_over d 1 v (fixed_den x, refl) in
+      fixed_laws (d * 1) (d * 1) (omega (arith, some)) (omega (arith, some)) v y own x w r;
+  rivers = λ v x.
+      let d = den v * river_den x in
+      let some = some_product (den v) (river_den x) (omega arith) (some_three x.conductance.less x.stage.less x.bottom.less) in
+      let (w, r) = river d 1 1 x (second (den v) (river_den x)) in
+      let (y, own) = fraction_over d 1 v (river_den x, refl) in
+      river_laws (d * 1) (d * 1) (omega (arith, some)) (omega (arith, some)) v y own x w r;
+  drains = λ v x.
+      let d = den v * drain_den x in
+      let some = some_product (den v) (drain_den x) (omega arith) (some_product (ratio_den x.conductance) (den x.elevation) (omega arith) (omega arith)) in
+      let (w, r) = drain d 1 1 x (second (den v) (drain_den x)) in
+      let (y, own) = fraction_over d 1 v (drain_den x, refl) in
+      drain_laws (d * 1) (d * 1) (omega (arith, some)) (omega (arith, some)) v y own x w r;
+  evaps = λ v x.
+      let d = den v * evap_den x in
+      let some = some_product (den v) (evap_den x) (omega arith) (some_three x.conductance.less x.surface.less x.extinction.less) in
+      let (w, r) = evap d 1 1 x (second (den v) (evap_den x)) in
+      let (y, own) = fraction_over d 1 v (evap_den x, refl) in
+      evap_laws (d * 1) (d * 1) (omega (arith, some)) (omega (arith, some)) v y own x w r;
+}
+  where
+    second : (a b : ℕ) → Goes b (a * b)
+    second a b = (a, omega arith)
+
+    some_three : (a b c : ℕ) → 0 < suc a * (suc b * suc c)
+    some_three a b c = some_product (suc a) (suc b * suc c) (omega arith) (some_product (suc b) (suc c) (omega arith) (omega arith))

@@ -1,0 +1,131 @@
+-- The laws of exact balances, from their whole numbers.
+use Rattle.std.proofs.Common.{◌≡◌, ℕ, zero, suc, ◌*◌, ◌<◌, ◌⊎◌, inl, inr, refl, ap, subst, arith, ℤ, pos, ◌+ℤ◌, ◌-ℤ◌, ◌*ℤ◌, ◌≤ℤ◌, List, length, All, Bool, true}
+use Rattle.std.specs.List.{AllZip}
+use Rattle.std.proofs.lemmas.Bool.{cases_eq}
+use Rattle.std.proofs.lemmas.Int.{ints}
+use Rattle.decimal_input.specs.Ratios.{Ratio}
+use Rattle.decimal_input.specs.Fractions.{Fraction, whole, signed, fraction_total, AtMost, IsOver}
+use Rattle.decimal_input.specs.Enclosures.{IsShare}
+use Rattle.step_problem.specs.Flows.{total}
+use Rattle.cell_balance.specs.Steps.{ExactRiver, ExactEvap, ExactCell, cell_at, no_cell}
+use Rattle.cell_balance.specs.Balance.{minus, greater, link_flow, balance}
+use Rattle.cell_balance.specs.Solutions.{share}
+use Rattle.cell_balance.specs.Deep.{total_inside, IsClosed, deep_river, full_rate, deep_flow, LiesBelow}
+use Rattle.cell_balance.specs.Laws.{LinksCancel, BalanceFalls, BalanceRises, DryLaw}
+use Rattle.cell_balance.proofs.Zips.{AllZip-at, AllZip-length, All-zip}
+use Rattle.cell_balance.proofs.Products.{mul_mono_right}
+use Rattle.cell_balance.proofs.Scaling.{IsOver-plus, IsOver-times, IsOver-minus, IsOver-none, IsOver-signed, IsOver-greater, IsOver-total, over_zero}
+use Rattle.cell_balance.proofs.Order.{over_le, le_over, IsOver-inside}
+use Rattle.cell_balance.proofs.Over.{FlowOver, LinkOver, FixedOver, RiverOver, DrainOver, EvapOver, CellOver, link_over, balance_over}
+use Rattle.cell_balance.proofs.Denominators.{cell_common, step_common}
+use Rattle.cell_balance.proofs.Wholes.{whole_cell, whole_step}
+use Rattle.cell_balance.proofs.Mutual.{mutual_whole}
+use Rattle.cell_balance.proofs.Cancel.{closed_cancel}
+use Rattle.cell_balance.proofs.Dry.{dry_law}
+use Rattle.cell_balance.proofs.Falling.{whole_falls, whole_rises}
+use Rattle.cell_balance.proofs.Encloses.{share_is, some_product}
+use Rattle.cell_balance.proofs.Within.{IsDry}
+use Rattle.cell_balance.proofs.Whole.{WholeRiver, WholeEvap, WholeCell, whole_at, no_whole, whole_link, whole_balance, whole_deep_river, whole_full, whole_deep}
+
+-- numerators over d, over n * d
+pub heads_over : (n d : ℕ) → 0 < d → (z : ℤ) → IsOver (n * d) (share d z) (z *ℤ pos n)
+heads_over n d some z = subst (λ (k : ℕ). IsOver k (share d z) (z *ℤ pos n)) (comm d n) (share_is d n z some)
+  where
+    comm : (a b : ℕ) → a * b ≡ b * a
+    comm a b = omega arith
+
+pub balance_falls : BalanceFalls
+balance_falls c d v w X some le =
+    let (n, some_n, common) = cell_common c in
+    let (u, over) = whole_cell n 1 d c common in
+    let heads = λ (k : ℕ). heads_over n d some (X k) in
+    le_over (n * 1 * (n * d)) _ _ _ _ (some_product (n * 1) (n * d) (omega arith) (some_product n d some_n some))
+    (balance_over (n * 1) (n * d) (share d w) (w *ℤ pos n) (heads_over n d some w) (λ k. share d (X k)) (λ k. X k *ℤ pos n) heads c u over)
+    (balance_over (n * 1) (n * d) (share d v) (v *ℤ pos n) (heads_over n d some v) (λ k. share d (X k)) (λ k. X k *ℤ pos n) heads c u over)
+    (whole_falls u (v *ℤ pos n) (w *ℤ pos n) (λ k. X k *ℤ pos n) (mul_mono_right n v w le))
+
+pub balance_rises : BalanceRises
+balance_rises c d v X Z some each =
+    let (n, some_n, common) = cell_common c in
+    let (u, over) = whole_cell n 1 d c common in
+    le_over (n * 1 * (n * d)) _ _ _ _ (some_product (n * 1) (n * d) (omega arith) (some_product n d some_n some))
+    (balance_over (n * 1) (n * d) (share d v) (v *ℤ pos n) (heads_over n d some v) (λ k. share d (X k)) (λ k. X k *ℤ pos n) (λ k. heads_over n d some (X k)) c u over)
+    (balance_over (n * 1) (n * d) (share d v) (v *ℤ pos n) (heads_over n d some v) (λ k. share d (Z k)) (λ k. Z k *ℤ pos n) (λ k. heads_over n d some (Z k)) c u over)
+    (whole_rises u (v *ℤ pos n) (λ k. X k *ℤ pos n) (λ k. Z k *ℤ pos n)
+    (All-zip (LinkOver (n * 1) (n * d)) (λ x. X x.cell ≤ℤ Z x.cell) (λ x. (X x.cell *ℤ pos n) ≤ℤ (Z x.cell *ℤ pos n)) (λ x y r h. subst (λ (k : ℕ). (X k *ℤ pos n) ≤ℤ (Z k *ℤ pos n)) r.same (mul_mono_right n _ _ h)) c.links u.links over.links each))
+
+module _ (k m : ℕ) (e : List ExactCell) (w : List WholeCell) (over : AllZip (CellOver k m) e w) where
+  same_length : length e ≡ length w
+  same_length = AllZip-length (CellOver k m) e w over
+
+  cell_over : (c : ℕ) → c < length e → CellOver k m (cell_at e c) (whole_at w c)
+  cell_over c i = AllZip-at (CellOver k m) e w c no_cell no_whole over i
+
+  closed_whole : (inside : ℕ → Bool) → IsClosed e inside → (c : ℕ) → c < length w → inside c ≡ true → All (λ x. inside x.cell ≡ true) (whole_at w c).links
+  closed_whole inside closed c i t =
+      let here : c < length e = omega (arith, same_length, i) in
+      All-zip (LinkOver k m) (λ x. inside x.cell ≡ true) (λ x. inside x.cell ≡ true) (λ x y r h. subst (λ (z : ℕ). inside z ≡ true) r.same h) (cell_at e c).links (whole_at w c).links (cell_over c here).links (closed c here t)
+
+  deep_over : (c : ExactCell) (u : WholeCell) → CellOver k m c u → IsOver (k * m) (deep_flow c) (whole_deep u)
+  deep_over c u o =
+      rw (regroup (total (λ q. q) u.flows) (total whole_deep_river u.rivers) (total whole_full u.evaps))
+      (IsOver-plus (k * m) _ _ _ _ (IsOver-total (FlowOver k m) (k * m) (λ x. x.flow) (λ q. q) (λ x q s. s.flow) c.flows u.flows o.flows)
+      (IsOver-minus (k * m) _ _ _ _ (IsOver-total (RiverOver k m) (k * m) deep_river whole_deep_river river c.rivers u.rivers o.rivers)
+      (IsOver-total (EvapOver k m) (k * m) full_rate whole_full evap c.evaps u.evaps o.evaps)))
+    where
+      regroup : (a b c : ℤ) → a +ℤ b -ℤ c ≡ a +ℤ (b -ℤ c)
+      regroup a b c = omega (arith, ints)
+
+      river : (x : ExactRiver) (y : WholeRiver) → RiverOver k m x y → IsOver (k * m) (deep_river x) (whole_deep_river y)
+      river x y r = IsOver-times k m (signed x.conductance) (minus x.stage x.bottom) (pos y.c) _ (IsOver-signed k x.conductance y.c r.c) (IsOver-minus m x.stage x.bottom y.stage y.bottom r.stage r.bottom)
+
+      evap : (x : ExactEvap) (y : WholeEvap) → EvapOver k m x y → IsOver (k * m) (full_rate x) (whole_full y)
+      evap x y r = IsOver-times k m (signed x.conductance) (greater (minus x.surface x.extinction) (whole (pos 0))) (pos y.c) _ (IsOver-signed k x.conductance y.c r.c) (IsOver-greater m (minus x.surface x.extinction) (whole (pos 0)) (y.surf -ℤ y.ext) (pos 0) (IsOver-minus m x.surface x.extinction y.surf y.ext r.surf r.ext) (IsOver-none m))
+
+  dry_over : (v : Fraction) (y : ℤ) (c : ExactCell) (u : WholeCell) → IsOver m v y → CellOver k m c u → LiesBelow v c → IsDry y u
+  dry_over v y c u own o h = record {
+    fixed = All-zip (FixedOver k m) (λ x. 0 < x.conductance.num → AtMost v x.head) (λ x. (x.c ≡ 0) ⊎ (y ≤ℤ x.head)) (λ x z r b. case x.conductance z.c x.head z.head r.c r.head b) c.fixed u.fixed o.fixed h.fixed;
+    rivers = All-zip (RiverOver k m) (λ x. 0 < x.conductance.num → AtMost v x.bottom) (λ x. (x.c ≡ 0) ⊎ (y ≤ℤ x.bottom)) (λ x z r b. case x.conductance z.c x.bottom z.bottom r.c r.bottom b) c.rivers u.rivers o.rivers h.rivers;
+    drains = All-zip (DrainOver k m) (λ x. 0 < x.conductance.num → AtMost v x.elevation) (λ x. (x.c ≡ 0) ⊎ (y ≤ℤ x.elev)) (λ x z r b. case x.conductance z.c x.elevation z.elev r.c r.elev b) c.drains u.drains o.drains h.drains;
+  }
+    where
+      no_share : (n d c x : ℕ) → n ≡ 0 → n * d ≡ c * suc x → c ≡ 0
+      no_share n d zero x e s = refl
+      no_share n d (suc c) x e s = let t : n * d ≡ 0 * d = ap (λ (z : ℕ). z * d) e in absurd (omega arith)
+
+      case : (r : Ratio) (c : ℕ) (f : Fraction) (z : ℤ) → IsShare k r c → IsOver m f z → (0 < r.num → AtMost v f) → (c ≡ 0) ⊎ (y ≤ℤ z)
+      case r c f z part over_f below =
+          elim (cases_eq r.num 0) [
+            | inl none ↦ inl (no_share r.num k c r.less none part.is)
+            | inr some ↦ inr (over_le m v f y z own over_f (below (omega arith)))
+          ]
+
+pub links_cancel : LinksCancel
+links_cancel e inside d X linked closed some =
+    let (n, some_n, common) = step_common e in
+    let (w, over) = whole_step n 1 d e common in
+    let heads = λ (k : ℕ). heads_over n d some (X k) in
+    let Y = λ (k : ℕ). X k *ℤ pos n in
+    let both = mutual_whole (n * 1) (n * d) e w linked over in
+    let none = closed_cancel w inside Y both (closed_whole (n * 1) (n * d) e w over inside closed) in
+    let sum = IsOver-inside (n * 1 * (n * d)) (length e) inside (λ c. fraction_total (link_flow (λ k. share d (X k)) (share d (X c))) (cell_at e c).links) (λ c. total (whole_link Y (Y c)) (whole_at w c).links)
+    (λ c i. IsOver-total (LinkOver (n * 1) (n * d)) (n * 1 * (n * d)) _ _ (link_over (n * 1) (n * d) (share d (X c)) (Y c) (heads c) (λ k. share d (X k)) Y heads) (cell_at e c).links (whole_at w c).links (cell_over (n * 1) (n * d) e w over c i).links) in
+    over_zero (n * 1 * (n * d)) _ (some_product (n * 1) (n * d) (omega arith) (some_product n d some_n some))
+    (subst (λ (z : ℤ). IsOver (n * 1 * (n * d)) (total_inside (length e) inside (λ c. fraction_total (link_flow (λ k. share d (X k)) (share d (X c))) (cell_at e c).links)) z) (rw (same_length (n * 1) (n * d) e w over) none) sum)
+
+pub exact_dry_law : DryLaw
+exact_dry_law e inside d X linked closed some below =
+    let (n, some_n, common) = step_common e in
+    let (w, over) = whole_step n 1 d e common in
+    let heads = λ (k : ℕ). heads_over n d some (X k) in
+    let Y = λ (k : ℕ). X k *ℤ pos n in
+    let both = mutual_whole (n * 1) (n * d) e w linked over in
+    let same = same_length (n * 1) (n * d) e w over in
+    let law = dry_law w Y both inside Y (λ c i t. let here : c < length e = omega (arith, same, i) in (least (Y c), dry_over (n * 1) (n * d) e w over (share d (X c)) (Y c) (cell_at e c) (whole_at w c) (heads c) (cell_over (n * 1) (n * d) e w over c here) (below c here t))) (closed_whole (n * 1) (n * d) e w over inside closed) in
+    le_over (n * 1 * (n * d)) _ _ _ _ (some_product (n * 1) (n * d) (omega arith) (some_product n d some_n some))
+    (IsOver-inside (n * 1 * (n * d)) (length e) inside (λ c. deep_flow (cell_at e c)) (λ c. whole_deep (whole_at w c)) (λ c i. deep_over (n * 1) (n * d) e w over (cell_at e c) (whole_at w c) (cell_over (n * 1) (n * d) e w over c i)))
+    (IsOver-inside (n * 1 * (n * d)) (length e) inside (λ c. balance (cell_at e c) (share d (X c)) (λ k. share d (X k))) (λ c. whole_balance (whole_at w c) (Y c) Y) (λ c i. balance_over (n * 1) (n * d) (share d (X c)) (Y c) (heads c) (λ k. share d (X k)) Y heads (cell_at e c) (whole_at w c) (cell_over (n * 1) (n * d) e w over c i)))
+    (rw same law)
+  where
+    least : (a : ℤ) → a ≤ℤ a
+    least a = omega (arith, ints)

@@ -1,0 +1,91 @@
+-- The example meets all that the comparison asks.
+use Rattle.std.proofs.Common.{◌≡◌, ℕ, zero, suc, ◌<◌, ◌⊎◌, inl, inr, refl, sym, arith, pos, neg_ℤ, ◌*ℤ◌, ◌≤ℤ◌, ◌^◌, Bool, true, false, nat_eq}
+use Rattle.std.proofs.lemmas.Bool.{cases_eq, ne_eqb, eq-eqb}
+use Rattle.std.proofs.lemmas.Int.{ints}
+use Rattle.step_problem.specs.Entries.{entries_at}
+use Rattle.step_problem.specs.declared.entry.FixedKind.TheVariants.{Constant}
+use Rattle.step_problem.specs.Balances.{lower_balance, upper_balance}
+use Rattle.step_problem.specs.Heads.{head_at, IsCertificate}
+use Rattle.cell_balance.specs.Solutions.{SolvesStep, LiesBetween}
+use Rattle.cell_balance.specs.Components.{Reaches, Leads, IsComponent, IsCarried, IsHeldBelow}
+use Rattle.cell_balance.specs.Laws.{IsComparable}
+use Rattle.cell_balance.specs.Example.{example_problem, example_step, example_heads, example_barrier, example_lows, example_highs}
+use Rattle.cell_balance.proofs.ExampleProblem.{example_fits, example_encloses}
+
+anchored : (c : ℕ) → c < 2 → Leads example_problem 0 c
+anchored zero h = (0, refl, (record { kind = Constant; source = 0; lo = 9; hi = 11; head_lo = neg_ℤ (pos 1); head_hi = pos 1 }, (0, omega arith, refl), omega arith))
+anchored (suc zero) h = (1, refl, (record { kind = Constant; source = 3; lo = 9; hi = 11; head_lo = pos 9999999999; head_hi = pos 10000000001 }, (0, omega arith, refl), omega arith))
+anchored (suc (suc c)) h = absurd (omega arith)
+
+third_component : IsComponent example_problem 2 (λ k. nat_eq k 2)
+third_component = record { reached = reached; whole = whole }
+  where
+    apart : (b : Bool) → b ≡ false → b ≡ true → ⊥
+    apart b e f = cc
+
+    reached : (k : ℕ) → nat_eq k 2 ≡ true → (j : ℕ) × Reaches example_problem j 2 k
+    reached k t =
+        elim (cases_eq k 2) [
+          | inl e ↦ (0, sym e)
+          | inr e ↦ absurd (apart (nat_eq k 2) (ne_eqb k 2 e) t)
+        ]
+
+    whole : (j k : ℕ) → Reaches example_problem j 2 k → nat_eq k 2 ≡ true
+    whole zero k way = eq-eqb k 2 (sym way)
+    whole (suc j) k (x, has, way) = absurd (omega (arith, has.1))
+
+third_carried : IsCarried example_problem 2
+third_carried = record { inside = λ k. nat_eq k 2; component = third_component; carries = omega (arith, ints) }
+
+held : IsHeldBelow example_problem
+held zero h = inl (0, anchored 0 (omega arith))
+held (suc zero) h = inl (0, anchored 1 (omega arith))
+held (suc (suc zero)) h = inr third_carried
+held (suc (suc (suc c))) h = absurd (omega arith)
+
+solves : SolvesStep example_step 3 example_heads
+solves zero h = refl
+solves (suc zero) h = refl
+solves (suc (suc zero)) h = refl
+solves (suc (suc (suc c))) h = absurd (omega arith)
+
+certificate : IsCertificate example_problem example_barrier example_lows example_highs
+certificate = record { low = low; high = high }
+  where
+    low : (c : ℕ) → c < 3 → (example_lows c ≤ℤ head_at example_barrier.floor c) ⊎ (pos 0 ≤ℤ lower_balance (entries_at example_problem c) (example_lows c) example_lows)
+    low zero h = inr (omega (arith, ints))
+    low (suc zero) h = inr (omega (arith, ints))
+    low (suc (suc zero)) h = inr (omega (arith, ints))
+    low (suc (suc (suc c))) h = absurd (omega arith)
+
+    high : (c : ℕ) → c < 3 → (head_at example_barrier.ceiling c ≤ℤ example_highs c) ⊎ (upper_balance (entries_at example_problem c) (example_highs c) example_highs ≤ℤ pos 0)
+    high zero h = inr (omega (arith, ints))
+    high (suc zero) h = inr (omega (arith, ints))
+    high (suc (suc zero)) h = inr (omega (arith, ints))
+    high (suc (suc (suc c))) h = absurd (omega arith)
+
+barrier : LiesBetween 3 3 example_heads (head_at example_barrier.floor) (head_at example_barrier.ceiling)
+barrier = record { low = low; high = high }
+  where
+    low : (c : ℕ) → c < 3 → (head_at example_barrier.floor c *ℤ pos 3) ≤ℤ (example_heads c *ℤ pos (10 ^ 9))
+    low zero h = omega (arith, ints)
+    low (suc zero) h = omega (arith, ints)
+    low (suc (suc zero)) h = omega (arith, ints)
+    low (suc (suc (suc c))) h = absurd (omega arith)
+
+    high : (c : ℕ) → c < 3 → (example_heads c *ℤ pos (10 ^ 9)) ≤ℤ (head_at example_barrier.ceiling c *ℤ pos 3)
+    high zero h = omega (arith, ints)
+    high (suc zero) h = omega (arith, ints)
+    high (suc (suc zero)) h = omega (arith, ints)
+    high (suc (suc (suc c))) h = absurd (omega arith)
+
+pub example_is_comparable : IsComparable example_problem example_barrier example_lows example_highs 1 example_step 3 example_heads
+example_is_comparable = record {
+  problem = example_fits;
+  held = held;
+  certificate = certificate;
+  encloses = example_encloses;
+  some = omega arith;
+  solves = solves;
+  barrier = barrier;
+}

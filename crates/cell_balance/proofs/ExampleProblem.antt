@@ -1,0 +1,150 @@
+-- The example's entries keep a problem's conditions, and enclose its exact step.
+use Rattle.std.proofs.Common.{◌≡◌, ℕ, zero, suc, ◌<◌, ◌≤◌, refl, arith, pos, neg_ℤ, [], ◌∷◌, All, Contains}
+use Rattle.std.proofs.lemmas.Int.{ints}
+use Rattle.std.proofs.lemmas.List.Elements.{All-nil, All-cons}
+use Rattle.decimal_input.specs.Enclosures.{Encloses}
+use Rattle.step_problem.specs.declared.entry.Link.{Link}
+use Rattle.step_problem.specs.declared.entry.Fixed.{Fixed}
+use Rattle.step_problem.specs.declared.entry.FixedKind.TheVariants.{Constant, Storage}
+use Rattle.step_problem.specs.Entries.{entries_at}
+use Rattle.step_problem.specs.Conditions.{head_limit, IsHead, LinkFits, FixedFits, RiverFits, DrainFits, EvapFits, CellFits, LinksFit, IsProblem}
+use Rattle.cell_balance.specs.Links.{HasLinkBack, HasEqualEnds}
+use Rattle.cell_balance.specs.Enclosures.{CellEncloses, EnclosesStep}
+use Rattle.cell_balance.specs.Example.{example_problem, example_step, first_entries, second_entries, third_entries, first_cell, second_cell, third_cell, one}
+
+single : {X : Type 0} (P : X → Type 0) (x : X) → P x → All P (x ∷ [])
+single P x h = All-cons P x [] h (All-nil P)
+
+double : {X : Type 0} (P : X → Type 0) (x y : X) → P x → P y → All P (x ∷ y ∷ [])
+double P x y h k = All-cons P x (y ∷ []) h (single P y k)
+
+abbrev zero_side : Fixed
+zero_side = record { kind = Constant; source = 0; lo = 9; hi = 11; head_lo = neg_ℤ (pos 1); head_hi = pos 1 }
+
+abbrev old_head : Fixed
+old_head = record { kind = Storage; source = 1; lo = 9; hi = 11; head_lo = pos 3300000000; head_hi = pos 3400000000 }
+
+is_head : (n : ℕ) → n ≤ head_limit → IsHead (pos n)
+is_head n h = record { above = omega (arith, ints); below = omega (arith, ints) }
+
+is_low : (n : ℕ) → n ≤ head_limit → IsHead (neg_ℤ (pos n))
+is_low n h = record { above = omega (arith, ints); below = omega (arith, ints) }
+
+cell_fits : (c : ℕ) → c < 3 → CellFits (entries_at example_problem c)
+cell_fits zero h = record {
+  links = single LinkFits _ (record { conducts = omega arith; ordered = omega arith });
+  fixed = double FixedFits zero_side old_head (record { ordered = omega arith; head_lo = is_low 1 (omega arith); head_hi = is_head 1 (omega arith) }) (record { ordered = omega arith; head_lo = is_head 3300000000 (omega arith); head_hi = is_head 3400000000 (omega arith) });
+  rivers = single RiverFits _ (record { ordered = omega arith; stage_lo = is_head _ (omega arith); stage_hi = is_head _ (omega arith); bottom_lo = is_head _ (omega arith); bottom_hi = is_head _ (omega arith) });
+  drains = All-nil DrainFits;
+  evaps = All-nil EvapFits;
+  conductances = omega arith;
+  flows = omega arith;
+}
+cell_fits (suc zero) h = record {
+  links = single LinkFits _ (record { conducts = omega arith; ordered = omega arith });
+  fixed = single FixedFits _ (record { ordered = omega arith; head_lo = is_head _ (omega arith); head_hi = is_head _ (omega arith) });
+  rivers = All-nil RiverFits;
+  drains = All-nil DrainFits;
+  evaps = single EvapFits _ (record { ordered = omega arith; ext_lo = is_head _ (omega arith); ext_hi = is_head _ (omega arith); surf_lo = is_head _ (omega arith); surf_hi = is_head _ (omega arith); deep = omega (arith, ints) });
+  conductances = omega arith;
+  flows = omega arith;
+}
+cell_fits (suc (suc zero)) h = record {
+  links = All-nil LinkFits;
+  fixed = All-nil FixedFits;
+  rivers = All-nil RiverFits;
+  drains = single DrainFits _ (record { ordered = omega arith; elev_lo = is_low 1 (omega arith); elev_hi = is_head _ (omega arith) });
+  evaps = All-nil EvapFits;
+  conductances = omega arith;
+  flows = omega arith;
+}
+cell_fits (suc (suc (suc c))) h = absurd (omega arith)
+
+-- a link of cell c has its equal at the other end
+abbrev HasBack : ℕ → Link → Type 0
+HasBack c x = Contains (entries_at example_problem x.cell).links (record { cell = c; lo = x.lo; hi = x.hi })
+
+links_fit : (c : ℕ) → c < 3 → LinksFit example_problem c (entries_at example_problem c).links
+links_fit zero h = record {
+  few = omega arith;
+  within = single (λ x. x.cell < 3) _ (omega arith);
+  others = single (λ x. x.cell ≡ 0 → ⊥) _ (λ e. omega arith);
+  apart = λ i j less inside e. omega arith;
+  mutual_ends = single (HasBack 0) _ (0, omega arith, refl);
+}
+links_fit (suc zero) h = record {
+  few = omega arith;
+  within = single (λ x. x.cell < 3) _ (omega arith);
+  others = single (λ x. x.cell ≡ 1 → ⊥) _ (λ e. omega arith);
+  apart = λ i j less inside e. omega arith;
+  mutual_ends = single (HasBack 1) _ (0, omega arith, refl);
+}
+links_fit (suc (suc zero)) h = record {
+  few = omega arith;
+  within = All-nil (λ x. x.cell < 3);
+  others = All-nil (λ x. x.cell ≡ 2 → ⊥);
+  apart = λ i j less inside e. omega arith;
+  mutual_ends = All-nil (HasBack 2);
+}
+links_fit (suc (suc (suc c))) h = absurd (omega arith)
+
+ascending : (c d : ℕ) → c < d → d < 3 → (entries_at example_problem c).id < (entries_at example_problem d).id
+ascending zero zero h k = absurd (omega arith)
+ascending zero (suc zero) h k = omega arith
+ascending zero (suc (suc zero)) h k = omega arith
+ascending (suc zero) (suc (suc zero)) h k = omega arith
+ascending (suc c) zero h k = absurd (omega arith)
+ascending (suc c) (suc zero) h k = absurd (omega arith)
+ascending (suc (suc c)) (suc (suc zero)) h k = absurd (omega arith)
+ascending c (suc (suc (suc d))) h k = absurd (omega arith)
+
+pub example_fits : IsProblem example_problem
+example_fits = record { few = omega arith; ascending = ascending; cells = cell_fits; links = links_fit }
+
+conducts : Encloses 9 11 1 one
+conducts = record { lower = omega arith; upper = omega arith }
+
+equal_ends : HasEqualEnds example_step
+equal_ends zero h = single (HasLinkBack example_step 0) _ (record { back = record { cell = 0; conductance = one }; is_there = (0, omega arith, refl); leads_back = refl; same = record { cross = refl } })
+equal_ends (suc zero) h = single (HasLinkBack example_step 1) _ (record { back = record { cell = 1; conductance = one }; is_there = (0, omega arith, refl); leads_back = refl; same = record { cross = refl } })
+equal_ends (suc (suc zero)) h = All-nil (HasLinkBack example_step 2)
+equal_ends (suc (suc (suc c))) h = absurd (omega arith)
+
+first_encloses : CellEncloses 1 first_entries first_cell
+first_encloses = record {
+  id = refl;
+  flows = tt;
+  links = (record { cell = refl; conductance = conducts }, tt);
+  fixed = (
+    record { kind = refl; source = refl; conductance = conducts; head = record { lower = omega (arith, ints); upper = omega (arith, ints) } },
+    (record { kind = refl; source = refl; conductance = conducts; head = record { lower = omega (arith, ints); upper = omega (arith, ints) } }, tt),
+  );
+  rivers = (record { conductance = conducts; stage = record { lower = omega (arith, ints); upper = omega (arith, ints) }; bottom = record { lower = omega (arith, ints); upper = omega (arith, ints) } }, tt);
+  drains = tt;
+  evaps = tt;
+}
+
+second_encloses : CellEncloses 1 second_entries second_cell
+second_encloses = record {
+  id = refl;
+  flows = tt;
+  links = (record { cell = refl; conductance = conducts }, tt);
+  fixed = (record { kind = refl; source = refl; conductance = conducts; head = record { lower = omega (arith, ints); upper = omega (arith, ints) } }, tt);
+  rivers = tt;
+  drains = tt;
+  evaps = (record { conductance = conducts; surface = record { lower = omega (arith, ints); upper = omega (arith, ints) }; extinction = record { lower = omega (arith, ints); upper = omega (arith, ints) } }, tt);
+}
+
+third_encloses : CellEncloses 1 third_entries third_cell
+third_encloses = record {
+  id = refl;
+  flows = (record { kind = refl; flow = record { lower = omega (arith, ints); upper = omega (arith, ints) } }, tt);
+  links = tt;
+  fixed = tt;
+  rivers = tt;
+  drains = (record { conductance = conducts; elevation = record { lower = omega (arith, ints); upper = omega (arith, ints) } }, tt);
+  evaps = tt;
+}
+
+pub example_encloses : EnclosesStep 1 example_problem example_step
+example_encloses = record { cells = (first_encloses, (second_encloses, (third_encloses, tt))); ends = equal_ends }

@@ -1,0 +1,87 @@
+-- An exact step and its whole numbers: conductances over k, heads over m, flows over k * m.
+use Rattle.std.proofs.Common.{◌≡◌, ℕ, ◌*◌, subst, arith, ℤ, pos, ◌+ℤ◌, ◌-ℤ◌, ◌*ℤ◌}
+use Rattle.std.specs.List.{AllZip}
+use Rattle.std.specs.Int.{int_max, int_min}
+use Rattle.std.proofs.lemmas.Int.{ints}
+use Rattle.decimal_input.specs.Fractions.{Fraction, IsOver, whole, signed, times}
+use Rattle.decimal_input.specs.Enclosures.{IsShare}
+use Rattle.step_problem.specs.Flows.{total}
+use Rattle.cell_balance.specs.Steps.{ExactFlow, ExactLink, ExactFixed, ExactRiver, ExactDrain, ExactEvap, ExactCell}
+use Rattle.cell_balance.specs.Balance.{minus, greater, lesser, link_flow, fixed_flow, river_flow, drain_flow, evap_flow, balance}
+use Rattle.cell_balance.proofs.Scaling.{IsOver-plus, IsOver-times, IsOver-negated, IsOver-minus, IsOver-none, IsOver-signed, IsOver-greater, IsOver-lesser, IsOver-total}
+use Rattle.cell_balance.proofs.Whole.{WholeLink, WholeFixed, WholeRiver, WholeDrain, WholeEvap, WholeCell, whole_link, whole_fixed, whole_river, whole_drain, whole_evap, whole_balance}
+
+module _ (k m : ℕ) where
+  pub record FlowOver (e : ExactFlow) (q : ℤ) : Type 0 where
+    pub flow : IsOver (k * m) e.flow q
+
+  pub record LinkOver (e : ExactLink) (w : WholeLink) : Type 0 where
+    pub same : e.cell ≡ w.cell
+    pub c : IsShare k e.conductance w.c
+
+  pub record FixedOver (e : ExactFixed) (w : WholeFixed) : Type 0 where
+    pub c : IsShare k e.conductance w.c
+    pub head : IsOver m e.head w.head
+
+  pub record RiverOver (e : ExactRiver) (w : WholeRiver) : Type 0 where
+    pub c : IsShare k e.conductance w.c
+    pub stage : IsOver m e.stage w.stage
+    pub bottom : IsOver m e.bottom w.bottom
+
+  pub record DrainOver (e : ExactDrain) (w : WholeDrain) : Type 0 where
+    pub c : IsShare k e.conductance w.c
+    pub elev : IsOver m e.elevation w.elev
+
+  pub record EvapOver (e : ExactEvap) (w : WholeEvap) : Type 0 where
+    pub c : IsShare k e.conductance w.c
+    pub surf : IsOver m e.surface w.surf
+    pub ext : IsOver m e.extinction w.ext
+
+  pub record CellOver (e : ExactCell) (w : WholeCell) : Type 0 where
+    pub flows : AllZip FlowOver e.flows w.flows
+    pub links : AllZip LinkOver e.links w.links
+    pub fixed : AllZip FixedOver e.fixed w.fixed
+    pub rivers : AllZip RiverOver e.rivers w.rivers
+    pub drains : AllZip DrainOver e.drains w.drains
+    pub evaps : AllZip EvapOver e.evaps w.evaps
+
+  module _ (v : Fraction) (y : ℤ) (own : IsOver m v y) where
+    pub link_over : (h : ℕ → Fraction) (Y : ℕ → ℤ) → ((c : ℕ) → IsOver m (h c) (Y c)) → (e : ExactLink) (w : WholeLink) → LinkOver e w → IsOver (k * m) (link_flow h v e) (whole_link Y y w)
+    link_over h Y heads e w r =
+        IsOver-times k m (signed e.conductance) (minus (h e.cell) v) (pos w.c) (Y w.cell -ℤ y) (IsOver-signed k e.conductance w.c r.c)
+        (IsOver-minus m (h e.cell) v (Y w.cell) y (subst (λ (z : ℕ). IsOver m (h e.cell) (Y z)) r.same (heads e.cell)) own)
+
+    pub fixed_over : (e : ExactFixed) (w : WholeFixed) → FixedOver e w → IsOver (k * m) (fixed_flow v e) (whole_fixed y w)
+    fixed_over e w r = IsOver-times k m (signed e.conductance) (minus e.head v) (pos w.c) (w.head -ℤ y) (IsOver-signed k e.conductance w.c r.c) (IsOver-minus m e.head v w.head y r.head own)
+
+    pub river_over : (e : ExactRiver) (w : WholeRiver) → RiverOver e w → IsOver (k * m) (river_flow v e) (whole_river y w)
+    river_over e w r =
+        IsOver-times k m (signed e.conductance) (minus e.stage (greater v e.bottom)) (pos w.c) (w.stage -ℤ int_max y w.bottom) (IsOver-signed k e.conductance w.c r.c)
+        (IsOver-minus m e.stage (greater v e.bottom) w.stage (int_max y w.bottom) r.stage (IsOver-greater m v e.bottom y w.bottom own r.bottom))
+
+    pub drain_over : (e : ExactDrain) (w : WholeDrain) → DrainOver e w → IsOver (k * m) (drain_flow v e) (whole_drain y w)
+    drain_over e w r =
+        let depth = IsOver-greater m (minus v e.elevation) (whole (pos 0)) (y -ℤ w.elev) (pos 0) (IsOver-minus m v e.elevation y w.elev own r.elev) (IsOver-none m) in
+        let out = IsOver-times k m (signed e.conductance) (greater (minus v e.elevation) (whole (pos 0))) (pos w.c) (int_max (y -ℤ w.elev) (pos 0)) (IsOver-signed k e.conductance w.c r.c) depth in
+        IsOver-negated (k * m) (times (signed e.conductance) (greater (minus v e.elevation) (whole (pos 0)))) (pos w.c *ℤ int_max (y -ℤ w.elev) (pos 0)) out
+
+    pub evap_over : (e : ExactEvap) (w : WholeEvap) → EvapOver e w → IsOver (k * m) (evap_flow v e) (whole_evap y w)
+    evap_over e w r =
+        let top = IsOver-lesser m v e.surface y w.surf own r.surf in
+        let depth = IsOver-greater m (minus (lesser v e.surface) e.extinction) (whole (pos 0)) (int_min y w.surf -ℤ w.ext) (pos 0) (IsOver-minus m (lesser v e.surface) e.extinction (int_min y w.surf) w.ext top r.ext) (IsOver-none m) in
+        let out = IsOver-times k m (signed e.conductance) (greater (minus (lesser v e.surface) e.extinction) (whole (pos 0))) (pos w.c) (int_max (int_min y w.surf -ℤ w.ext) (pos 0)) (IsOver-signed k e.conductance w.c r.c) depth in
+        IsOver-negated (k * m) (times (signed e.conductance) (greater (minus (lesser v e.surface) e.extinction) (whole (pos 0)))) (pos w.c *ℤ int_max (int_min y w.surf -ℤ w.ext) (pos 0)) out
+
+    pub balance_over : (h : ℕ → Fraction) (Y : ℕ → ℤ) → ((c : ℕ) → IsOver m (h c) (Y c)) → (e : ExactCell) (w : WholeCell) → CellOver e w → IsOver (k * m) (balance e v h) (whole_balance w y Y)
+    balance_over h Y heads e w r =
+        let flows = IsOver-total FlowOver (k * m) (λ x. x.flow) (λ q. q) (λ x q s. s.flow) e.flows w.flows r.flows in
+        let links = IsOver-total LinkOver (k * m) (link_flow h v) (whole_link Y y) (link_over h Y heads) e.links w.links r.links in
+        let fixed = IsOver-total FixedOver (k * m) (fixed_flow v) (whole_fixed y) fixed_over e.fixed w.fixed r.fixed in
+        let rivers = IsOver-total RiverOver (k * m) (river_flow v) (whole_river y) river_over e.rivers w.rivers r.rivers in
+        let drains = IsOver-total DrainOver (k * m) (drain_flow v) (whole_drain y) drain_over e.drains w.drains r.drains in
+        let evaps = IsOver-total EvapOver (k * m) (evap_flow v) (whole_evap y) evap_over e.evaps w.evaps r.evaps in
+        rw (six (total (λ q. q) w.flows) (total (whole_link Y y) w.links) (total (whole_fixed y) w.fixed) (total (whole_river y) w.rivers) (total (whole_drain y) w.drains) (total (whole_evap y) w.evaps))
+        (IsOver-plus (k * m) _ _ _ _ flows (IsOver-plus (k * m) _ _ _ _ links (IsOver-plus (k * m) _ _ _ _ fixed (IsOver-plus (k * m) _ _ _ _ rivers (IsOver-plus (k * m) _ _ _ _ drains evaps)))))
+      where
+        six : (a b c d e f : ℤ) → a +ℤ b +ℤ c +ℤ d +ℤ e +ℤ f ≡ a +ℤ (b +ℤ (c +ℤ (d +ℤ (e +ℤ f))))
+        six a b c d e f = omega (arith, ints)

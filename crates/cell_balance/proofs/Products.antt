@@ -1,0 +1,95 @@
+-- Order laws of products with whole conductances.
+use Rattle.std.proofs.Common.{◌≡◌, ℕ, suc, zero, ◌*◌, ◌<◌, ◌≤◌, ◌⊎◌, inl, inr, refl, arith, ℤ, pos, negsuc, neg_ℤ, ◌+ℤ◌, ◌-ℤ◌, ◌*ℤ◌, ◌≤ℤ◌, ◌<ℤ◌}
+use Rattle.std.specs.Int.{int_max, int_min}
+use Rattle.std.proofs.Math.Nat.{mul-le-mul_right}
+use Rattle.std.proofs.lemmas.Int.{ints, clamps, by_lt_z}
+use borrow.Author.Differences.{le_out}
+use Rattle.decimal_input.specs.Enclosures.{IsBetweenWhole}
+use Rattle.step_problem.specs.Flows.{least, most}
+use Rattle.step_problem.proofs.Ring.{mul_mono, mul_add}
+use Rattle.step_problem.proofs.Leasts.{least_times, most_times}
+use Rattle.cell_balance.proofs.Totals.{le_trans_z}
+
+pub mul_mono_right : (k : ℕ) (a b : ℤ) → a ≤ℤ b → (a *ℤ pos k) ≤ℤ (b *ℤ pos k)
+mul_mono_right k a b h = omega (arith, ints, mul-le-mul_right k (le_out a b h))
+
+-- a product with a positive number is zero only where the other factor is
+pub zero_factor : (c : ℕ) (a : ℤ) → 0 < c → pos c *ℤ a ≡ pos 0 → a ≡ pos 0
+zero_factor c (pos n) h e = let k : 1 * n ≤ c * n = mul-le-mul_right n h in omega (arith, ints)
+zero_factor c (negsuc n) h e = let k : 1 * suc n ≤ c * suc n = mul-le-mul_right (suc n) h in absurd (omega (arith, ints))
+
+pub not_zero : (m : ℤ) → pos 0 <ℤ m → m ≡ pos 0 → ⊥
+not_zero m h q = omega (arith, ints)
+
+pub no_conductance : (c : ℕ) (m : ℤ) → pos 0 <ℤ m → pos c *ℤ m ≡ pos 0 → c ≡ 0
+no_conductance zero m h e = refl
+no_conductance (suc c) m h e = absurd (not_zero m h (zero_factor (suc c) m (omega arith) e))
+
+-- a positive factor cancels in an inequality
+pub cancel_le : (c : ℕ) (a b : ℤ) → 0 < c → (pos c *ℤ a) ≤ℤ (pos c *ℤ b) → a ≤ℤ b
+cancel_le c a b h k =
+    by_lt_z b a
+    (λ lt.
+    let over = mul_mono c (b +ℤ pos 1) a (omega (arith, ints)) in
+    let split = mul_add (pos c) b (pos 1) in
+    absurd (clash _ _ _ k over split h))
+    (λ le. le)
+  where
+    clash : (x y z : ℤ) → x ≤ℤ y → z ≤ℤ x → z ≡ y +ℤ pos c *ℤ pos 1 → 0 < c → ⊥
+    clash x y z p q e h = omega (arith, ints)
+
+-- what certainly conducts in the bounds conducts
+pub conducting : (m lo c : ℕ) → 0 < m → 0 < lo → lo * m ≤ c → 0 < c
+conducting m lo c d h k = let q : 1 * m ≤ lo * m = mul-le-mul_right m h in omega arith
+
+-- an entry whose difference of heads is at least, or at most, that of its bounds
+pub entry_less : (lo hi c m n : ℕ) (d e : ℤ) → IsBetweenWhole lo hi m c → (d *ℤ pos n) ≤ℤ e → (least lo hi d *ℤ pos (m * n)) ≤ℤ (pos c *ℤ e)
+entry_less lo hi c m n d e b h = le_trans_z _ _ _ (least_times lo hi c m n d b.lower b.upper) (mul_mono c _ _ h)
+
+pub entry_more : (lo hi c m n : ℕ) (d e : ℤ) → IsBetweenWhole lo hi m c → e ≤ℤ (d *ℤ pos n) → (pos c *ℤ e) ≤ℤ (most lo hi d *ℤ pos (m * n))
+entry_more lo hi c m n d e b h = le_trans_z _ _ _ (mul_mono c _ _ h) (most_times lo hi c m n d b.lower b.upper)
+
+-- the greater and the lesser of two numbers, scaled
+pub max_is : (a b : ℤ) → (int_max a b ≡ a) ⊎ (int_max a b ≡ b)
+max_is a b = by_lt_z b a (λ h. inl (omega (arith, ints, clamps))) (λ h. inr (omega (arith, ints, clamps)))
+
+pub min_is : (a b : ℤ) → (int_min a b ≡ a) ⊎ (int_min a b ≡ b)
+min_is a b = by_lt_z a b (λ h. inl (omega (arith, ints, clamps))) (λ h. inr (omega (arith, ints, clamps)))
+
+pub max_above : (n : ℕ) (v b y t : ℤ) → y ≤ℤ (v *ℤ pos n) → t ≤ℤ (b *ℤ pos n) → int_max y t ≤ℤ (int_max v b *ℤ pos n)
+max_above n v b y t p q =
+    let hv = mul_mono_right n v (int_max v b) (omega (arith, ints, clamps)) in
+    let hb = mul_mono_right n b (int_max v b) (omega (arith, ints, clamps)) in
+    both _ _ _ (le_trans_z _ _ _ p hv) (le_trans_z _ _ _ q hb)
+  where
+    both : (y t m : ℤ) → y ≤ℤ m → t ≤ℤ m → int_max y t ≤ℤ m
+    both y t m p q = omega (arith, ints, clamps)
+
+pub max_below : (n : ℕ) (v b y t : ℤ) → (v *ℤ pos n) ≤ℤ y → (b *ℤ pos n) ≤ℤ t → (int_max v b *ℤ pos n) ≤ℤ int_max y t
+max_below n v b y t p q =
+    elim (max_is v b) [
+      | inl e ↦ rw e (le_trans_z _ _ _ p (omega (arith, ints, clamps)))
+      | inr e ↦ rw e (le_trans_z _ _ _ q (omega (arith, ints, clamps)))
+    ]
+
+pub min_below : (n : ℕ) (v b y t : ℤ) → (v *ℤ pos n) ≤ℤ y → (b *ℤ pos n) ≤ℤ t → (int_min v b *ℤ pos n) ≤ℤ int_min y t
+min_below n v b y t p q =
+    let hv = mul_mono_right n (int_min v b) v (omega (arith, ints, clamps)) in
+    let hb = mul_mono_right n (int_min v b) b (omega (arith, ints, clamps)) in
+    both _ _ _ (le_trans_z _ _ _ hv p) (le_trans_z _ _ _ hb q)
+  where
+    both : (y t m : ℤ) → m ≤ℤ y → m ≤ℤ t → m ≤ℤ int_min y t
+    both y t m p q = omega (arith, ints, clamps)
+
+pub min_above : (n : ℕ) (v b y t : ℤ) → y ≤ℤ (v *ℤ pos n) → t ≤ℤ (b *ℤ pos n) → int_min y t ≤ℤ (int_min v b *ℤ pos n)
+min_above n v b y t p q =
+    elim (min_is v b) [
+      | inl e ↦ rw e (le_trans_z _ _ _ (omega (arith, ints, clamps)) p)
+      | inr e ↦ rw e (le_trans_z _ _ _ (omega (arith, ints, clamps)) q)
+    ]
+
+pub sub_less : (a b c d : ℤ) → a ≤ℤ c → d ≤ℤ b → (a -ℤ b) ≤ℤ (c -ℤ d)
+sub_less a b c d h k = omega (arith, ints)
+
+pub turned : (a b : ℤ) → a ≤ℤ b → neg_ℤ b ≤ℤ neg_ℤ a
+turned a b h = omega (arith, ints)

@@ -1,0 +1,117 @@
+-- Arithmetic of fractions goes over to whole numbers over a common denominator.
+use Rattle.std.proofs.Common.{◌≡◌, ℕ, suc, ◌+◌, ◌*◌, ◌<◌, sym, ap, ◌∙◌, arith, ℤ, pos, neg_ℤ, ◌+ℤ◌, ◌-ℤ◌, ◌*ℤ◌, ◌≤ℤ◌, List, [], ◌∷◌}
+use Rattle.std.specs.List.{AllZip}
+use Rattle.std.specs.Int.{int_max, int_min}
+use Rattle.std.proofs.lemmas.Int.{ints, clamps, by_lt_z}
+use Rattle.std.proofs.Math.IntN.{zero-*ℤ}
+use Rattle.decimal_input.specs.Ratios.{Ratio}
+use Rattle.decimal_input.specs.Fractions.{Fraction, den, whole, signed, negated, plus, times, fraction_total, IsOver}
+use Rattle.decimal_input.specs.Enclosures.{IsShare}
+use Rattle.step_problem.proofs.Ring.{diffs, as_diff, same_diff}
+use Rattle.step_problem.proofs.Leasts.{neg_mul}
+use Rattle.step_problem.specs.Flows.{total}
+use Rattle.cell_balance.specs.Balance.{minus, greater, lesser}
+use Rattle.cell_balance.proofs.Products.{zero_factor, mul_mono_right}
+
+pub mul_comm : (a b : ℤ) → a *ℤ b ≡ b *ℤ a
+mul_comm a b = rw (as_diff a, as_diff b) (simp diffs (same_diff _ _ _ _ (omega arith)))
+
+pub mul_swap : (a b c : ℤ) → (a *ℤ b) *ℤ c ≡ (a *ℤ c) *ℤ b
+mul_swap a b c = rw (as_diff a, as_diff b, as_diff c) (simp diffs (same_diff _ _ _ _ (omega arith)))
+
+den_product : (f g : Fraction) → pos (suc (f.less * g.less + f.less + g.less)) ≡ pos (den f) *ℤ pos (den g)
+den_product f g = ap pos (omega arith)
+
+sum_ring : (a b x y d : ℤ) → (a *ℤ y +ℤ b *ℤ x) *ℤ d ≡ (a *ℤ d) *ℤ y +ℤ (b *ℤ d) *ℤ x
+sum_ring a b x y d = rw (as_diff a, as_diff b, as_diff x, as_diff y, as_diff d) (simp diffs (same_diff _ _ _ _ (omega arith)))
+
+sum_back : (a b x y : ℤ) → (a *ℤ x) *ℤ y +ℤ (b *ℤ y) *ℤ x ≡ (a +ℤ b) *ℤ (x *ℤ y)
+sum_back a b x y = rw (as_diff a, as_diff b, as_diff x, as_diff y) (simp diffs (same_diff _ _ _ _ (omega arith)))
+
+pub IsOver-plus : (d : ℕ) (f g : Fraction) (a b : ℤ) → IsOver d f a → IsOver d g b → IsOver d (plus f g) (a +ℤ b)
+IsOver-plus d f g a b p q = record {
+  is = sum_ring f.num g.num (pos (den f)) (pos (den g)) (pos d) ∙ rw (p.is, q.is) (sum_back a b (pos (den f)) (pos (den g)) ∙ ap (λ (k : ℤ). (a +ℤ b) *ℤ k) (sym (den_product f g)));
+}
+
+product_ring : (a b c d : ℤ) → (a *ℤ b) *ℤ (c *ℤ d) ≡ (a *ℤ c) *ℤ (b *ℤ d)
+product_ring a b c d = rw (as_diff a, as_diff b, as_diff c, as_diff d) (simp diffs (same_diff _ _ _ _ (omega arith)))
+
+pub IsOver-times : (d n : ℕ) (f g : Fraction) (a b : ℤ) → IsOver d f a → IsOver n g b → IsOver (d * n) (times f g) (a *ℤ b)
+IsOver-times d n f g a b p q = record {
+  is = product_ring f.num g.num (pos d) (pos n) ∙ rw (p.is, q.is) (product_ring a (pos (den f)) b (pos (den g)) ∙ ap (λ (k : ℤ). (a *ℤ b) *ℤ k) (sym (den_product f g)));
+}
+
+pub IsOver-negated : (d : ℕ) (f : Fraction) (a : ℤ) → IsOver d f a → IsOver d (negated f) (neg_ℤ a)
+IsOver-negated d f a p = record { is = neg_mul f.num (pos d) ∙ ap neg_ℤ p.is ∙ sym (neg_mul a (pos (den f))) }
+
+pub IsOver-minus : (d : ℕ) (f g : Fraction) (a b : ℤ) → IsOver d f a → IsOver d g b → IsOver d (minus f g) (a -ℤ b)
+IsOver-minus d f g a b p q = rw (sub_is a b) (IsOver-plus d f (negated g) a (neg_ℤ b) p (IsOver-negated d g b q))
+  where
+    sub_is : (a b : ℤ) → a -ℤ b ≡ a +ℤ neg_ℤ b
+    sub_is a b = omega (arith, ints)
+
+pub IsOver-none : (d : ℕ) → IsOver d (whole (pos 0)) (pos 0)
+IsOver-none d = record { is = zero-*ℤ (pos d) }
+
+pub IsOver-signed : (d : ℕ) (r : Ratio) (n : ℕ) → IsShare d r n → IsOver d (signed r) (pos n)
+IsOver-signed d r n h = record { is = ap pos h.is }
+
+-- the greater of two numbers, times a whole number
+pub max_times : (k : ℕ) (a b : ℤ) → int_max a b *ℤ pos k ≡ int_max (a *ℤ pos k) (b *ℤ pos k)
+max_times k a b =
+    by_lt_z a b
+    (λ h. let e : int_max a b ≡ b = omega (arith, ints, clamps) in let m = mul_mono_right k a b (omega (arith, ints)) in ap (λ (z : ℤ). z *ℤ pos k) e ∙ right _ _ m)
+    (λ h. let e : int_max a b ≡ a = omega (arith, ints, clamps) in let m = mul_mono_right k b a h in ap (λ (z : ℤ). z *ℤ pos k) e ∙ left _ _ m)
+  where
+    right : (x y : ℤ) → x ≤ℤ y → y ≡ int_max x y
+    right x y h = omega (arith, ints, clamps)
+
+    left : (x y : ℤ) → y ≤ℤ x → x ≡ int_max x y
+    left x y h = omega (arith, ints, clamps)
+
+pub min_times : (k : ℕ) (a b : ℤ) → int_min a b *ℤ pos k ≡ int_min (a *ℤ pos k) (b *ℤ pos k)
+min_times k a b =
+    by_lt_z a b
+    (λ h. let e : int_min a b ≡ a = omega (arith, ints, clamps) in let m = mul_mono_right k a b (omega (arith, ints)) in ap (λ (z : ℤ). z *ℤ pos k) e ∙ left _ _ m)
+    (λ h. let e : int_min a b ≡ b = omega (arith, ints, clamps) in let m = mul_mono_right k b a h in ap (λ (z : ℤ). z *ℤ pos k) e ∙ right _ _ m)
+  where
+    left : (x y : ℤ) → x ≤ℤ y → x ≡ int_min x y
+    left x y h = omega (arith, ints, clamps)
+
+    right : (x y : ℤ) → y ≤ℤ x → y ≡ int_min x y
+    right x y h = omega (arith, ints, clamps)
+
+-- f crossed with the other denominator, over d
+pub crossed : (d : ℕ) (f : Fraction) (a : ℤ) (k : ℕ) → IsOver d f a → (f.num *ℤ pos k) *ℤ pos d ≡ a *ℤ (pos (den f) *ℤ pos k)
+crossed d f a k p = mul_swap f.num (pos k) (pos d) ∙ ap (λ (z : ℤ). z *ℤ pos k) p.is ∙ assoc a (pos (den f)) (pos k)
+  where
+    assoc : (a b c : ℤ) → (a *ℤ b) *ℤ c ≡ a *ℤ (b *ℤ c)
+    assoc a b c = rw (as_diff a, as_diff b, as_diff c) (simp diffs (same_diff _ _ _ _ (omega arith)))
+
+pub crossed_back : (d : ℕ) (f g : Fraction) (b : ℤ) → IsOver d g b → (g.num *ℤ pos (den f)) *ℤ pos d ≡ b *ℤ (pos (den f) *ℤ pos (den g))
+crossed_back d f g b q = crossed d g b (den f) q ∙ ap (λ (k : ℤ). b *ℤ k) (mul_comm (pos (den g)) (pos (den f)))
+
+pub IsOver-greater : (d : ℕ) (f g : Fraction) (a b : ℤ) → IsOver d f a → IsOver d g b → IsOver d (greater f g) (int_max a b)
+IsOver-greater d f g a b p q = record {
+  is = max_times d (f.num *ℤ pos (den g)) (g.num *ℤ pos (den f)) ∙ rw (crossed d f a (den g) p, crossed_back d f g b q) (sym (max_times (den f * den g) a b)) ∙ ap (λ (k : ℤ). int_max a b *ℤ k) (sym (den_product f g));
+}
+
+pub IsOver-lesser : (d : ℕ) (f g : Fraction) (a b : ℤ) → IsOver d f a → IsOver d g b → IsOver d (lesser f g) (int_min a b)
+IsOver-lesser d f g a b p q = record {
+  is = min_times d (f.num *ℤ pos (den g)) (g.num *ℤ pos (den f)) ∙ rw (crossed d f a (den g) p, crossed_back d f g b q) (sym (min_times (den f * den g) a b)) ∙ ap (λ (k : ℤ). int_min a b *ℤ k) (sym (den_product f g));
+}
+
+pub IsOver-total : {X Y : Type 0} (R : X → Y → Type 0) (d : ℕ) (f : X → Fraction) (g : Y → ℤ) → ((x : X) (y : Y) → R x y → IsOver d (f x) (g y)) → (xs : List X) (ys : List Y) → AllZip R xs ys → IsOver d (fraction_total f xs) (total g ys)
+IsOver-total R d f g each [] [] h = IsOver-none d
+IsOver-total R d f g each [] (y ∷ ys) h = absurd h
+IsOver-total R d f g each (x ∷ xs) [] h = absurd h
+IsOver-total R d f g each (x ∷ xs) (y ∷ ys) h = IsOver-plus d (f x) (fraction_total f xs) (g y) (total g ys) (each x y h.0) (IsOver-total R d f g each xs ys h.1)
+
+-- a fraction that is zero is zero over any d
+pub zero_over : (d : ℕ) (f : Fraction) (z : ℤ) → IsOver d f z → f.num ≡ pos 0 → z ≡ pos 0
+zero_over d f z h e =
+    zero_factor (den f) z (omega arith) (mul_comm (pos (den f)) z ∙ sym h.is ∙ ap (λ (k : ℤ). k *ℤ pos d) e ∙ zero-*ℤ (pos d))
+
+-- and one that is zero over d is zero
+pub over_zero : (d : ℕ) (f : Fraction) → 0 < d → IsOver d f (pos 0) → f.num ≡ pos 0
+over_zero d f some h = zero_factor d f.num some (mul_comm (pos d) f.num ∙ h.is ∙ zero-*ℤ (pos (den f)))

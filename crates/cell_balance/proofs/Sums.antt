@@ -1,0 +1,72 @@
+-- Sums over the cells below a number.
+use Rattle.std.proofs.Common.{◌≡◌, ℕ, suc, zero, ◌<◌, ◌≤◌, inl, inr, refl, sym, ◌∙◌, arith, ℤ, pos, neg_ℤ, ◌+ℤ◌, ◌*ℤ◌, ◌≤ℤ◌, cond, nat_eq}
+use Rattle.std.proofs.lemmas.Bool.{cases_eq, ne_eqb, eq-eqb}
+use Rattle.std.proofs.lemmas.Int.{ints}
+use Rattle.std.proofs.Math.IntN.{zero-*ℤ}
+use Rattle.cell_balance.proofs.Totals.{add_mul}
+use Rattle.cell_balance.specs.Components.{sum_below}
+
+pub sum-same : (n : ℕ) (f g : ℕ → ℤ) → ((k : ℕ) → k < n → f k ≡ g k) → sum_below n f ≡ sum_below n g
+sum-same zero f g h = refl
+sum-same (suc n) f g h = rw (sum-same n f g (λ k i. h k (omega arith)), h n (omega arith)) refl
+
+pub sum-add : (n : ℕ) (f g : ℕ → ℤ) → sum_below n (λ k. f k +ℤ g k) ≡ sum_below n f +ℤ sum_below n g
+sum-add zero f g = refl
+sum-add (suc n) f g = rw (sum-add n f g) (omega (arith, ints))
+
+pub sum-neg : (n : ℕ) (f : ℕ → ℤ) → sum_below n (λ k. neg_ℤ (f k)) ≡ neg_ℤ (sum_below n f)
+sum-neg zero f = refl
+sum-neg (suc n) f = rw (sum-neg n f) (omega (arith, ints))
+
+pub sum-zero : (n : ℕ) → sum_below n (λ k. pos 0) ≡ pos 0
+sum-zero zero = refl
+sum-zero (suc n) = rw (sum-zero n) refl
+
+pub sum-times : (n : ℕ) (f : ℕ → ℤ) (k : ℤ) → sum_below n f *ℤ k ≡ sum_below n (λ c. f c *ℤ k)
+sum-times zero f k = zero-*ℤ k
+sum-times (suc n) f k = rw (add_mul, sum-times n f k) refl
+
+-- the order of two sums does not matter
+pub sum-swap : (n m : ℕ) (f : ℕ → ℕ → ℤ) → sum_below n (λ i. sum_below m (λ j. f i j)) ≡ sum_below m (λ j. sum_below n (λ i. f i j))
+sum-swap zero m f = sym (sum-zero m)
+sum-swap (suc n) m f = rw (sum-swap n m f) (sym (sum-add m (λ j. sum_below n (λ i. f i j)) (λ j. f n j)))
+
+pub sum_at_most : (n : ℕ) (f g : ℕ → ℤ) → ((k : ℕ) → k < n → f k ≤ℤ g k) → sum_below n f ≤ℤ sum_below n g
+sum_at_most zero f g h = omega (arith, ints)
+sum_at_most (suc n) f g h = let a = sum_at_most n f g (λ k i. h k (omega arith)) in let b = h n (omega arith) in omega (arith, ints, a, b)
+
+pub sum_nonneg : (n : ℕ) (f : ℕ → ℤ) → ((k : ℕ) → k < n → pos 0 ≤ℤ f k) → pos 0 ≤ℤ sum_below n f
+sum_nonneg zero f h = omega (arith, ints)
+sum_nonneg (suc n) f h = let a = sum_nonneg n f (λ k i. h k (omega arith)) in let b = h n (omega arith) in omega (arith, ints, a, b)
+
+-- a term is at most the sum, where none is negative
+pub term-le-sum : (n : ℕ) (f : ℕ → ℤ) → ((k : ℕ) → k < n → pos 0 ≤ℤ f k) → (c : ℕ) → c < n → f c ≤ℤ sum_below n f
+term-le-sum zero f h c i = absurd (omega arith)
+term-le-sum (suc n) f h c i =
+    let a = sum_nonneg n f (λ k j. h k (omega arith)) in
+    let b = h n (omega arith) in
+    elim (cases_eq c n) [
+      | inl e ↦ rw e (omega (arith, ints, a, b))
+      | inr e ↦ let d = term-le-sum n f (λ k j. h k (omega arith)) c (omega arith) in omega (arith, ints, b, d)
+    ]
+
+-- a sum of which one term alone may be other than zero
+at_other : (k j : ℕ) (c b : ℤ) → (k ≡ j → ⊥) → cond (nat_eq k j) c (pos 0) *ℤ b ≡ pos 0
+at_other k j c b h = rw (ne_eqb k j h) (zero-*ℤ b)
+
+sum-none : (n k : ℕ) (c : ℤ) (g : ℕ → ℤ) → n ≤ k → sum_below n (λ j. cond (nat_eq k j) c (pos 0) *ℤ g j) ≡ pos 0
+sum-none n k c g h = sum-same n _ (λ j. pos 0) (λ j i. at_other k j c (g j) (λ e. omega arith)) ∙ sum-zero n
+
+pub sum-one : (n k : ℕ) (c : ℤ) (g : ℕ → ℤ) → k < n → sum_below n (λ j. cond (nat_eq k j) c (pos 0) *ℤ g j) ≡ c *ℤ g k
+sum-one zero k c g h = absurd (omega arith)
+sum-one (suc n) k c g h =
+    elim (cases_eq k n) [
+      | inl e ↦ rw (sum-none n k c g (omega arith), eq-eqb k n e, e) (none_plus (c *ℤ g n))
+      | inr e ↦ rw (at_other k n c (g n) e, sum-one n k c g (omega arith)) (plus_none (c *ℤ g k))
+    ]
+  where
+    none_plus : (a : ℤ) → pos 0 +ℤ a ≡ a
+    none_plus a = omega (arith, ints)
+
+    plus_none : (a : ℤ) → a +ℤ pos 0 ≡ a
+    plus_none a = omega (arith, ints)

@@ -1,0 +1,45 @@
+-- The flow of each kind into a variable cell, and their sum, at heads that are fractions (TM 6-A16, chapters 2 and 6). A flow into the cell is positive.
+use Rattle.std.specs.Prelude.{ℕ, ◌+◌, ◌*◌, pos, ◌*ℤ◌}
+use Rattle.std.specs.Int.{int_max, int_min}
+use Rattle.decimal_input.specs.Fractions.{Fraction, den, whole, signed, negated, plus, times, fraction_total}
+use Rattle.cell_balance.specs.Steps.{ExactLink, ExactFixed, ExactRiver, ExactDrain, ExactEvap, ExactCell}
+
+-- f - g
+abbrev pub minus : Fraction → Fraction → Fraction
+minus f g = plus f (negated g)
+
+-- the greater and the lesser of two fractions, over the product of their denominators
+abbrev pub greater : Fraction → Fraction → Fraction
+greater f g = record { num = int_max (f.num *ℤ pos (den g)) (g.num *ℤ pos (den f)); less = f.less * g.less + f.less + g.less }
+
+abbrev pub lesser : Fraction → Fraction → Fraction
+lesser f g = record { num = int_min (f.num *ℤ pos (den g)) (g.num *ℤ pos (den f)); less = f.less * g.less + f.less + g.less }
+
+-- C * (head at the other end - head) (TM 6-A16, chapter 2: Darcy's law between two cells, by the conductance)
+abbrev pub link_flow : (ℕ → Fraction) → Fraction → ExactLink → Fraction
+link_flow h v x = times (signed x.conductance) (minus (h x.cell) v)
+
+abbrev pub fixed_flow : Fraction → ExactFixed → Fraction
+fixed_flow v x = times (signed x.conductance) (minus x.head v)
+
+-- C * (stage - head), where the head counts from the river's bottom up (TM 6-A16, chapter 6, RIV)
+abbrev pub river_flow : Fraction → ExactRiver → Fraction
+river_flow v x = times (signed x.conductance) (minus x.stage (greater v x.bottom))
+
+-- -C * (head - elevation) above the drain's elevation, 0 below (TM 6-A16, chapter 6, DRN)
+abbrev pub drain_flow : Fraction → ExactDrain → Fraction
+drain_flow v x = negated (times (signed x.conductance) (greater (minus v x.elevation) (whole (pos 0))))
+
+-- -C * (head - extinction), where the head counts from the extinction elevation up to the surface (TM 6-A16, chapter 6, EVT)
+abbrev pub evap_flow : Fraction → ExactEvap → Fraction
+evap_flow v x = negated (times (signed x.conductance) (greater (minus (lesser v x.surface) x.extinction) (whole (pos 0))))
+
+-- The balance of a cell at its head v, where the cell of index k has the head h k: the sum of all flows into it (TM 6-A16, chapter 2, the finite-difference equation with all terms on one side).
+abbrev pub balance : ExactCell → Fraction → (ℕ → Fraction) → Fraction
+balance c v h =
+    plus (fraction_total (λ x. x.flow) c.flows)
+    (plus (fraction_total (link_flow h v) c.links)
+    (plus (fraction_total (fixed_flow v) c.fixed)
+    (plus (fraction_total (river_flow v) c.rivers)
+    (plus (fraction_total (drain_flow v) c.drains)
+    (fraction_total (evap_flow v) c.evaps)))))

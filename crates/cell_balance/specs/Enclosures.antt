@@ -1,0 +1,56 @@
+-- When the whole bounds of a step's problem enclose an exact step: they have the same entries at the same cells, place by place, and each exact value lies between its two bounds. Conductances are known to s decimals, heads to 9, flows to s + 9.
+use Rattle.std.specs.Prelude.{◌≡◌, ℕ, ◌+◌, List}
+use Rattle.std.specs.List.{AllZip}
+use Rattle.decimal_input.specs.Enclosures.{Encloses, EnclosesSigned}
+use Rattle.step_problem.specs.declared.entry.Flow.{Flow}
+use Rattle.step_problem.specs.declared.entry.Link.{Link}
+use Rattle.step_problem.specs.declared.entry.Fixed.{Fixed}
+use Rattle.step_problem.specs.declared.entry.River.{River}
+use Rattle.step_problem.specs.declared.entry.Drain.{Drain}
+use Rattle.step_problem.specs.declared.entry.Evap.{Evap}
+use Rattle.step_problem.specs.Entries.{Entries}
+use Rattle.cell_balance.specs.Steps.{ExactFlow, ExactLink, ExactFixed, ExactRiver, ExactDrain, ExactEvap, ExactCell}
+use Rattle.cell_balance.specs.Links.{HasEqualEnds}
+
+module _ (s : ℕ) where
+  pub record FlowEncloses (p : Flow) (e : ExactFlow) : Type 0 where
+    pub kind : p.kind ≡ e.kind
+    pub flow : EnclosesSigned p.lo p.hi (s + 9) e.flow
+
+  pub record LinkEncloses (p : Link) (e : ExactLink) : Type 0 where
+    pub cell : p.cell ≡ e.cell
+    pub conductance : Encloses p.lo p.hi s e.conductance
+
+  pub record FixedEncloses (p : Fixed) (e : ExactFixed) : Type 0 where
+    pub kind : p.kind ≡ e.kind
+    pub source : p.source ≡ e.source
+    pub conductance : Encloses p.lo p.hi s e.conductance
+    pub head : EnclosesSigned p.head_lo p.head_hi 9 e.head
+
+  pub record RiverEncloses (p : River) (e : ExactRiver) : Type 0 where
+    pub conductance : Encloses p.lo p.hi s e.conductance
+    pub stage : EnclosesSigned p.stage_lo p.stage_hi 9 e.stage
+    pub bottom : EnclosesSigned p.bottom_lo p.bottom_hi 9 e.bottom
+
+  pub record DrainEncloses (p : Drain) (e : ExactDrain) : Type 0 where
+    pub conductance : Encloses p.lo p.hi s e.conductance
+    pub elevation : EnclosesSigned p.elev_lo p.elev_hi 9 e.elevation
+
+  pub record EvapEncloses (p : Evap) (e : ExactEvap) : Type 0 where
+    pub conductance : Encloses p.lo p.hi s e.conductance
+    pub surface : EnclosesSigned p.surf_lo p.surf_hi 9 e.surface
+    pub extinction : EnclosesSigned p.ext_lo p.ext_hi 9 e.extinction
+
+  pub record CellEncloses (p : Entries) (e : ExactCell) : Type 0 where
+    pub id : p.id ≡ e.id
+    pub flows : AllZip FlowEncloses p.flows e.flows
+    pub links : AllZip LinkEncloses p.links e.links
+    pub fixed : AllZip FixedEncloses p.fixed e.fixed
+    pub rivers : AllZip RiverEncloses p.rivers e.rivers
+    pub drains : AllZip DrainEncloses p.drains e.drains
+    pub evaps : AllZip EvapEncloses p.evaps e.evaps
+
+-- The problem p encloses the exact step e.
+pub record EnclosesStep (s : ℕ) (p : List Entries) (e : List ExactCell) : Type 0 where
+  pub cells : AllZip (CellEncloses s) p e
+  pub ends : HasEqualEnds e

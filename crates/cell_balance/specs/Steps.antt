@@ -1,0 +1,57 @@
+-- The exact finite-difference equations of one time step as plain data: for each variable cell all that flows into it (TM 6-A16, chapters 2, 5 and 6). Conductances, heads and flows are exact fractions, in the model's units of length and time.
+use Rattle.std.specs.Prelude.{ℕ, List, [], slice_index_or}
+use Rattle.decimal_input.specs.Ratios.{Ratio}
+use Rattle.decimal_input.specs.Fractions.{Fraction}
+use Rattle.step_problem.specs.declared.entry.FixedKind.{FixedKind}
+use Rattle.step_problem.specs.declared.entry.FlowKind.{FlowKind}
+
+-- A flow that no head changes: a well, or the recharge that the cell receives (TM 6-A16, chapter 6, WEL and RCH).
+pub record ExactFlow : Type 0 where
+  pub kind : FlowKind
+  pub flow : Fraction
+
+-- A branch to another variable cell, named by its index, and its conductance (TM 6-A16, chapter 5, CR, CC and CV).
+pub record ExactLink : Type 0 where
+  pub cell : ℕ
+  pub conductance : Ratio
+
+-- A branch to a head that is known (TM 6-A16, chapter 2): a constant-head neighbour at its head of this step, a general head, or in a transient period the cell's own head of the step before over its storage. The source is the cell number of the constant-head neighbour, else the cell's own.
+pub record ExactFixed : Type 0 where
+  pub kind : FixedKind
+  pub source : ℕ
+  pub conductance : Ratio
+  pub head : Fraction
+
+-- A river: its conductance, stage and bottom (TM 6-A16, chapter 6, RIV).
+pub record ExactRiver : Type 0 where
+  pub conductance : Ratio
+  pub stage : Fraction
+  pub bottom : Fraction
+
+-- A drain: its conductance and elevation (TM 6-A16, chapter 6, DRN).
+pub record ExactDrain : Type 0 where
+  pub conductance : Ratio
+  pub elevation : Fraction
+
+-- An evapotranspiration: the greatest rate over the extinction depth, as a conductance, the surface, and the extinction elevation, which lies the extinction depth below it (TM 6-A16, chapter 6, EVT).
+pub record ExactEvap : Type 0 where
+  pub conductance : Ratio
+  pub surface : Fraction
+  pub extinction : Fraction
+
+-- A variable cell: its cell number, and all that flows into it.
+pub record ExactCell : Type 0 where
+  pub id : ℕ
+  pub flows : List ExactFlow
+  pub links : List ExactLink
+  pub fixed : List ExactFixed
+  pub rivers : List ExactRiver
+  pub drains : List ExactDrain
+  pub evaps : List ExactEvap
+
+abbrev pub no_cell : ExactCell
+no_cell = record { id = 0; flows = []; links = []; fixed = []; rivers = []; drains = []; evaps = [] }
+
+-- the cell of index c in a step
+abbrev pub cell_at : List ExactCell → ℕ → ExactCell
+cell_at e c = slice_index_or e c no_cell

@@ -1,0 +1,40 @@
+// Laws of exact balances. Each is the contract of an empty function.
+ghost use Rattle.cell_balance.specs.Laws.{LinksCancel, BalanceFalls, BalanceRises, DryLaw, IsComparable, Compares};
+ghost use Rattle.cell_balance.specs.EntryLaws.{FlowsAreRight, BoundsHold};
+ghost use Rattle.cell_balance.specs.Example.{example_problem, example_step, example_heads, example_barrier, example_lows, example_highs};
+
+/// Single flows are what the manual says: rivers, drains and evapotranspirations above and below their elevations.
+pub fn single_flows()
+    ensures { FlowsAreRight }
+{}
+
+/// The bounds of single flows enclose them, wherever the heads lie between theirs.
+pub fn bounds_of_flows()
+    ensures { BoundsHold }
+{}
+
+/// Over a set of cells closed under links, the flows over links cancel.
+pub fn links_cancel()
+    ensures { LinksCancel }
+{}
+
+/// A balance falls weakly in its own head and rises weakly in each other.
+pub fn balances_keep_order()
+    ensures falls { BalanceFalls }
+    ensures rises { BalanceRises }
+{}
+
+/// Over a closed set of cells whose heads lie below all bottoms, drains and known heads, the balances sum to at least the deep flows.
+pub fn dry_cells()
+    ensures { DryLaw }
+{}
+
+/// A certificate over a barrier encloses every solution, on both sides.
+pub fn comparison()
+    ensures { Compares }
+{}
+
+/// The comparison speaks of something: a step with an entry of each kind meets all that it asks.
+pub fn comparable_example()
+    ensures { IsComparable example_problem example_barrier example_lows example_highs 1 example_step 3 example_heads }
+{}
