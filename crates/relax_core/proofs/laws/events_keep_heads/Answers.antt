@@ -1,0 +1,12 @@
+use Rattle.std.proofs.Common.{ℕ, ℤ}
+use Rattle.step_problem.proofs.Sides.{IsSide}
+use Rattle.step_problem.proofs.SidesTurns.{turn_keeps, tighter, still_seen, sees}
+use Rattle.step_problem.proofs.BothSides.{low_side, high_side}
+use Rattle.relax_core.specs.Laws.{KeepsHeads}
+use Rattle.relax_core.proofs.laws.events_keep_heads.Goals as goal
+
+side_keeps : {Le : ℤ → ℤ → Type 0} {Moves : ℕ → ℤ → (ℕ → ℤ) → Type 0} {n : ℕ} → IsSide Le Moves n → KeepsHeads Le Moves n
+side_keeps s = record { exchange = turn_keeps s; tighter = tighter s; still = still_seen s; look = sees s }
+
+pub returns : goal.returns
+returns c p ok = (side_keeps (low_side p ok), side_keeps (high_side p ok))

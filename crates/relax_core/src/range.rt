@@ -1,0 +1,53 @@
+// Tests of what `apply` asks of a state and an event.
+ghost use Rattle.std.specs.Prelude.{◌≡◌, ◌↔◌, IsTrue, All};
+ghost use Rattle.step_problem.specs.Conditions.{IsHead};
+ghost use Rattle.cell_relax.specs.Words.{AreWords};
+ghost use Rattle.relax_core.specs.Core.{IsInRange, IsNamed};
+
+use crate::events::Event;
+use crate::state::State;
+use step_problem::problem::HEAD_LIMIT;
+use step_problem::{Bound, Problem};
+
+fn is_head(head: i64) -> bool
+    ensures { IsTrue result ↔ IsHead head }
+{
+    -HEAD_LIMIT <= head && head <= HEAD_LIMIT
+}
+
+// Whether there is one bound for each cell, with heads in range.
+fn are_words(p: &Problem, words: &[Bound]) -> bool
+    ensures { IsTrue result ↔ AreWords p.now words.now }
+{
+    words.len() == p.len() && words.iter().all(|b| is_head(b.low) && is_head(b.high))
+}
+
+// Whether each list is one bound for each cell, with heads in range.
+fn are_all_words(p: &Problem, lists: &[Vec<Bound>]) -> bool
+    ensures { IsTrue result ↔ All (λ v. AreWords p.now v.items) lists.now }
+{
+    lists.iter().all(|v| are_words(p, v.as_slice()))
+}
+
+impl State {
+    /// Whether the words and all that was seen are one bound for each cell, with heads in range.
+    pub fn is_in_range(&self, p: &Problem) -> bool
+        ensures { IsTrue result ↔ IsInRange p.now self.now }
+    {
+        are_words(p, self.words.as_slice()) && are_all_words(p, self.seen.as_slice())
+    }
+
+    /// Whether an event names an actor of the state and a cell of the problem.
+    pub fn names(&self, p: &Problem, event: Event) -> bool
+        ensures { IsTrue result ↔ IsNamed p.now self.now event }
+    {
+        match event {
+            Event::See { actor, cell, .. }
+            | Event::Raise { actor, cell }
+            | Event::Sink { actor, cell } => {
+                (actor as usize) < self.seen.len() && (cell as usize) < p.len()
+            }
+            Event::Claim { actor } => (actor as usize) < self.seen.len(),
+        }
+    }
+}

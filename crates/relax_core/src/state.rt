@@ -1,0 +1,179 @@
+// A state of shared heads, and single events on it.
+ghost use Rattle.std.specs.Prelude.{◌≡◌, ◌<◌, ℕ, List, length, slice_index_or, All, IfOk};
+ghost use Rattle.step_problem.specs.declared.heads.Bound.{Bound};
+ghost use Rattle.step_problem.specs.declared.heads.Side.TheVariants.{Low, High};
+ghost use Rattle.step_problem.specs.Heads.{Edges, IsRaise, IsSink, lower_at, no_bound, upper_at};
+ghost use Rattle.cell_relax.specs.Words.{AreWords, head_of, heads_on};
+ghost use Rattle.relax_core.specs.Core.{IsInRange, IsNamed, IsStart, Puts, Raises, Sees, Sinks, Step, seen_by, with_head};
+ghost use Rattle.relax_core.specs.Kept.{IsKept, IsNoLooser};
+
+use crate::events::Event;
+use cell_relax::{raise_in, sink_in};
+use std::alloc::{AllocError, Global};
+use std::marker::Model;
+use step_problem::{Bound, Problem, Side};
+
+/// The words, one bound for each cell, and for each actor the bounds that it has seen last.
+#[derive(Debug, Drop)]
+pub struct State {
+    pub words: Vec<Bound>,
+    pub seen: Vec<Vec<Bound>>,
+}
+
+impl Model for State {
+    ghost use Rattle.std.specs.Prelude.{map};
+    ghost use Rattle.relax_core.specs.Core.{Core};
+
+    ghost Value = { Core };
+
+    ghost view = { λ s. record {
+      words = s.words.items;
+      seen = map (λ v. v.items) s.seen.items;
+    } };
+}
+
+fn head_on(side: Side, word: Bound) -> i64
+    ensures { result ≡ head_of side word }
+{
+    match side {
+        Side::Low => word.low,
+        Side::High => word.high,
+    }
+}
+
+// Puts a head into one side of a cell's bound.
+fn put_head(bounds: &mut Vec<Bound>, cell: usize, side: Side, head: i64)
+    requires { cell < length bounds.old.items }
+    ensures { bounds.new.items ≡ with_head side bounds.old.items cell head }
+{
+    match side {
+        Side::Low => bounds[cell].low = head,
+        Side::High => bounds[cell].high = head,
+    }
+}
+
+impl State {
+    /// The state of these words, which each actor has seen.
+    pub fn start(alloc: Global, words: Vec<Bound>, actors: usize) -> Result<State, AllocError>
+        ensures { IfOk result (λ s. IsStart words.items actors s) }
+    {
+        let mut seen = Vec::new(alloc);
+        for _ in 0..actors {
+            seen.push(Vec::from_slice(alloc, words.as_slice())?)?;
+        }
+        Ok(State { words, seen })
+    }
+}
+
+impl State {
+    // An actor sees the word of a cell on one side.
+    fn see(&mut self, actor: usize, cell: usize, side: Side)
+        requires actor { actor < length self.old.seen }
+        requires cell { cell < length self.old.words }
+        requires whole { cell < length (seen_by self.old actor) }
+        ensures { Sees side self.old self.new actor cell }
+    {
+        let word = head_on(side, self.words[cell]);
+        put_head(&mut self.seen[actor], cell, side, word);
+    }
+
+    // An actor puts a head into the word of a cell on one side, and has then seen it.
+    fn put(&mut self, actor: usize, cell: usize, side: Side, head: i64)
+        requires actor { actor < length self.old.seen }
+        requires cell { cell < length self.old.words }
+        requires whole { cell < length (seen_by self.old actor) }
+        ensures { Puts side self.old self.new actor cell head }
+    {
+        put_head(&mut self.words, cell, side, head);
+        put_head(&mut self.seen[actor], cell, side, head);
+    }
+
+    fn word(&self, cell: usize) -> Bound
+        requires { cell < length self.now.words }
+        ensures { result ≡ slice_index_or self.now.words cell no_bound }
+    {
+        self.words[cell]
+    }
+
+    fn seen_of(&self, p: &Problem, actor: usize) -> &[Bound]
+        requires in_range { IsInRange p.now self.now }
+        requires actor { actor < length self.now.seen }
+        ensures value { result.now ≡ seen_by self.now actor }
+        ensures words { AreWords p.now result.now }
+    {
+        self.seen[actor].as_slice()
+    }
+
+    // The raise value of a cell from what an actor has seen.
+    fn raised(&self, p: &Problem, actor: usize, cell: usize) -> i64
+        requires in_range { IsInRange p.now self.now }
+        requires actor { actor < length self.now.seen }
+        requires cell { cell < length p.now }
+        ensures { IsRaise p.now (lower_at (seen_by self.now actor)) cell result }
+    {
+        raise_in(p, self.seen_of(p, actor), cell)
+    }
+
+    fn sunk(&self, p: &Problem, actor: usize, cell: usize) -> i64
+        requires in_range { IsInRange p.now self.now }
+        requires actor { actor < length self.now.seen }
+        requires cell { cell < length p.now }
+        ensures { IsSink p.now (upper_at (seen_by self.now actor)) cell result }
+    {
+        sink_in(p, self.seen_of(p, actor), cell)
+    }
+
+    fn raise(&mut self, p: &Problem, actor: usize, cell: usize)
+        requires in_range { IsInRange p.now self.old }
+        requires actor { actor < length self.old.seen }
+        requires cell { cell < length p.now }
+        ensures { Raises p.now self.old self.new actor cell }
+    {
+        let word = self.word(cell);
+        let raised = self.raised(p, actor, cell);
+        let low = word.low.max(raised);
+        self.put(actor, cell, Side::Low, low);
+    }
+
+    fn sink(&mut self, p: &Problem, actor: usize, cell: usize)
+        requires in_range { IsInRange p.now self.old }
+        requires actor { actor < length self.old.seen }
+        requires cell { cell < length p.now }
+        ensures { Sinks p.now self.old self.new actor cell }
+    {
+        let word = self.word(cell);
+        let sunk = self.sunk(p, actor, cell);
+        let high = word.high.min(sunk);
+        self.put(actor, cell, Side::High, high);
+    }
+
+    fn change(&mut self, p: &Problem, event: Event)
+        requires in_range { IsInRange p.now self.old }
+        requires named { IsNamed p.now self.old event }
+        ensures { Step p.now event self.old self.new }
+    {
+        match event {
+            Event::See { actor, cell, side } => self.see(actor as usize, cell as usize, side),
+            Event::Raise { actor, cell } => self.raise(p, actor as usize, cell as usize),
+            Event::Sink { actor, cell } => self.sink(p, actor as usize, cell as usize),
+            Event::Claim { .. } => {}
+        }
+    }
+}
+
+/// Makes one event, and takes no memory. The state is to have one bound for each cell, in range, in its
+/// words and in what each actor has seen; the event names an actor of it and a cell of the problem.
+pub fn apply(p: &Problem, state: &mut State, event: Event)
+    requires in_range { IsInRange p.now state.old }
+    requires named { IsNamed p.now state.old event }
+    ensures step { Step p.now event state.old state.new }
+    ensures in_range { IsInRange p.now state.new }
+    ensures actors { length state.new.seen ≡ length state.old.seen }
+    // whatever the actor has seen, and for each barrier
+    ensures kept { (b : Edges) → IsKept p.now b state.old → IsKept p.now b state.new }
+    ensures no_looser { IsNoLooser p.now state.old state.new }
+{
+    // The problem's conditions come with its length.
+    let _cells = p.len();
+    state.change(p, event);
+}
