@@ -1,0 +1,13 @@
+pub mod RowText
+pub mod RowNumbers
+pub mod RowForms
+pub mod RowSeen
+pub mod RowDeck
+pub mod Rows
+pub mod RowProblems
+pub mod RowSteps
+pub mod Fixed
+pub mod Listing
+pub mod Statuses
+pub mod Runs
+pub mod Parts

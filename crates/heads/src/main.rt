@@ -1,0 +1,53 @@
+// The program `heads`, on the files and the streams of the system.
+#![tactic(auto)]
+
+use engine::run;
+use outside::{FreeGate, RealFolder, RealSink};
+use std::alloc::{AllocError, Global};
+use std::env;
+use std::io::ErrorKind;
+use std::process::ExitCode;
+
+// Where memory is wanting for the words, the program ends so and writes nothing.
+const MEMORY: u8 = 7;
+
+// The program's words. Where one isn't UTF-8 there are none, which have no reading either.
+fn words_of(rt: &HostRuntime, alloc: Global) -> Result<Vec<String>, AllocError> {
+    match env::args(rt) {
+        Ok(args) => args.collect(alloc),
+        Err(fault) if fault.kind() == ErrorKind::InvalidData => Ok(Vec::new(alloc)),
+        Err(_) => Err(AllocError),
+    }
+}
+
+fn as_texts<'a>(alloc: Global, words: &'a [String]) -> Result<Vec<&'a str>, AllocError> {
+    let mut texts = Vec::new(alloc);
+    for word in words {
+        texts.push(word.as_str())?;
+    }
+    Ok(texts)
+}
+
+fn main(rt: HostRuntime) -> ExitCode {
+    let alloc = rt.alloc();
+    let words: Vec<String> = match words_of(&rt, alloc) {
+        Ok(words) => words,
+        Err(_) => return ExitCode::from(MEMORY),
+    };
+    let Ok(texts) = as_texts(alloc, words.as_slice()) else {
+        return ExitCode::from(MEMORY);
+    };
+    let mut folder = RealFolder::new(&rt);
+    let mut out = RealSink::new(rt.stdout());
+    let mut side = RealSink::new(rt.stderr());
+    let status = run(
+        &rt,
+        alloc,
+        texts.as_slice(),
+        &mut folder,
+        &mut out,
+        &mut side,
+        &FreeGate,
+    );
+    ExitCode::from(status.code())
+}
