@@ -1,0 +1,7 @@
+use Rattle.std.proofs.Common.{refl}
+use Rattle.record_lines.specs.Layout.{words}
+use Rattle.record_lines.proofs.free.Free.begin.Goals as goal
+
+pub returns : goal.returns
+unfolding words
+returns c = rw c.of_bytes.ensures refl

@@ -1,0 +1,62 @@
+-- A text as lines and words.
+use Rattle.std.specs.Prelude.{◌≡◌, ℕ, ◌+◌, Bool, false, not, ◌||◌, List, [], ◌∷◌, filter, length, nat_lt, ◌==◌, if◌then◌else◌, Result, Ok, Err}
+use Rattle.std.specs.List.{slice_split, onto_first, list_any}
+
+-- blank, tab, comma and carriage return
+abbrev pub is_separator : ℕ → Bool
+is_separator c = ((c == 32) || (c == 9)) || ((c == 44) || (c == 13))
+
+-- the words of a line: its pieces between separators that aren't empty
+unfoldable pub words : List ℕ → List (List ℕ)
+words line = filter (λ w. nat_lt 0 (length w)) (slice_split is_separator line)
+
+-- the lines of a text: it is cut at line feeds, and what stands behind the last is a line if it has a byte
+unfoldable pub lines : List ℕ → List (List ℕ)
+lines [] = []
+lines (c ∷ cs) = if c == 10 then [] ∷ lines cs else onto_first c (lines cs)
+
+unfoldable pub has_word : List ℕ → Bool
+has_word line = list_any (λ c. not (is_separator c)) line
+
+-- a line that has a word
+pub record Numbered : Type 0 where
+  pub number : ℕ
+  pub bytes : List ℕ
+
+-- what is left of a text: the lines to come that have a word, and the number of the line behind the last
+pub record Left : Type 0 where
+  pub lines : List Numbered
+  pub end : ℕ
+
+-- the number of the next line; it stands still at the end of its type
+abbrev pub next_number : ℕ → ℕ
+next_number n = if nat_lt n 4294967295 then n + 1 else n
+
+unfoldable pub numbered : ℕ → List (List ℕ) → List Numbered
+numbered n [] = []
+numbered n (line ∷ others) = if has_word line then record { number = n; bytes = line } ∷ numbered (next_number n) others else numbered (next_number n) others
+
+unfoldable pub number_behind : ℕ → List (List ℕ) → ℕ
+number_behind n [] = n
+number_behind n (line ∷ others) = number_behind (next_number n) others
+
+-- what is left where this text is still to come, and its first line has this number
+unfoldable pub left_from : ℕ → List ℕ → Left
+left_from n text = record { lines = numbered n (lines text); end = number_behind n (lines text) }
+
+-- a line that begins with '#'
+abbrev pub is_comment : List ℕ → Bool
+is_comment [] = false
+is_comment (c ∷ cs) = c == 35
+
+abbrev pub after_comments : List Numbered → List Numbered
+after_comments [] = []
+after_comments (line ∷ others) = if is_comment line.bytes then after_comments others else line ∷ others
+
+abbrev pub without_comments : Left → Left
+without_comments left = record { lines = after_comments left.lines; end = left.end }
+
+-- What a call answered, seen by view, and what it left to come: exactly what reading gives.
+abbrev pub Yields : {X Y S E : Type 0} → (X → Y) → Result X E → S → Result (Y × S) E → Type 0
+Yields view (Ok x) after read = read ≡ Ok (view x, after)
+Yields view (Err e) after read = read ≡ Err e

@@ -1,0 +1,5 @@
+pub mod Layout
+pub mod Seen
+pub mod Spread
+pub mod Reading
+pub mod Items

@@ -1,0 +1,83 @@
+-- What reading a text gives: a value and what is left to come, or the first refusal; and what a
+-- call may answer beside it.
+use Rattle.std.specs.Prelude.{◌≡◌, ℕ, zero, suc, [], ◌∷◌, ◌++◌, Result, Ok, Err, None, List}
+use Rattle.outside.specs.declared.codes.Code.{Code}
+use Rattle.outside.specs.declared.refusals.Refusal.{Refusal}
+use Rattle.outside.specs.declared.refusals.TextFault.{TextFault}
+use Rattle.outside.specs.declared.refusals.TextFault.TheVariants as texts
+use Rattle.outside.specs.declared.refusals.InputFault.{InputFault}
+use Rattle.outside.specs.declared.refusals.InputFault.TheVariants.{Refused, ReadFault, Memory}
+
+-- one reading after another; the first refusal ends it
+infixl 10 ◌>>=◌
+abbrev pub ◌>>=◌ : {A B E : Type 0} → Result A E → (A → Result B E) → Result B E
+(Ok x) >>= f = f x
+(Err e) >>= f = Err e
+
+-- the refusal of a line
+abbrev pub refusal : Code → List ℕ → ℕ → Refusal
+refusal code file line = record { code = code; file = file; line = line; at = None }
+
+-- a refusal is the one that reading has; want of memory and a read fault may come at any place
+abbrev pub Stops : {Y : Type 0} → InputFault → Result Y Refusal → Type 0
+Stops (Refused r) read = read ≡ Err r
+Stops ReadFault read = Unit {0}
+Stops Memory read = Unit {0}
+
+-- What a call returned, seen by view, and what it left to come: what reading gives, unless a fault
+-- or want of memory stopped it.
+abbrev pub Gives : {X Y S : Type 0} → (X → Y) → Result X InputFault → S → Result (Y × S) Refusal → Type 0
+Gives view (Ok x) after read = read ≡ Ok (view x, after)
+Gives view (Err fault) after read = Stops fault read
+
+-- the same where nothing is left to come
+abbrev pub Has : {X Y : Type 0} → (X → Y) → Result X InputFault → Result Y Refusal → Type 0
+Has view (Ok x) read = read ≡ Ok (view x)
+Has view (Err fault) read = Stops fault read
+
+-- The same of calls that are given no folder.
+abbrev pub StopsText : {Y : Type 0} → TextFault → Result Y Refusal → Type 0
+StopsText (texts.Refused r) read = read ≡ Err r
+StopsText texts.Memory read = Unit {0}
+
+abbrev pub GivesText : {X Y S : Type 0} → (X → Y) → Result X TextFault → S → Result (Y × S) Refusal → Type 0
+GivesText view (Ok x) after read = read ≡ Ok (view x, after)
+GivesText view (Err fault) after read = StopsText fault read
+
+abbrev pub HasText : {X Y : Type 0} → (X → Y) → Result X TextFault → Result Y Refusal → Type 0
+HasText view (Ok x) read = read ≡ Ok (view x)
+HasText view (Err fault) read = StopsText fault read
+
+-- a refusal of a line, or want of memory for its name
+abbrev pub IsRefusal : Code → List ℕ → ℕ → TextFault → Type 0
+IsRefusal code file line (texts.Refused r) = r ≡ refusal code file line
+IsRefusal code file line texts.Memory = Unit {0}
+
+-- a fault of a text as a fault of an input
+abbrev pub input_fault : TextFault → InputFault
+input_fault (texts.Refused r) = Refused r
+input_fault texts.Memory = Memory
+
+-- the same reading so many times, each from where the one before it ended
+unfoldable pub repeated : {X S E : Type 0} → ℕ → (S → Result (X × S) E) → S → Result (List X × S) E
+repeated zero read s = Ok ([], s)
+repeated (suc n) read s = do
+  x ← read s
+  more ← repeated n read x.1
+  Ok (x.0 ∷ more.0, more.1)
+
+-- a reading for each of a list, each from where the one before it ended
+unfoldable pub for_each : {A X S E : Type 0} → (A → S → Result (X × S) E) → List A → S → Result (List X × S) E
+for_each read [] s = Ok ([], s)
+for_each read (a ∷ others) s = do
+  x ← read a s
+  more ← for_each read others x.1
+  Ok (x.0 ∷ more.0, more.1)
+
+-- the lists of so many readings of the same thing, as one list
+unfoldable pub appended : {X S E : Type 0} → ℕ → (S → Result (List X × S) E) → S → Result (List X × S) E
+appended zero read s = Ok ([], s)
+appended (suc n) read s = do
+  xs ← read s
+  more ← appended n read xs.1
+  Ok (xs.0 ++ more.0, more.1)

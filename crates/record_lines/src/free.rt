@@ -1,0 +1,124 @@
+ghost use Rattle.std.specs.Prelude.{IfSome, MatchResult, ◌<◌, ◌≡◌, ℕ, [], List, length, position};
+ghost use Rattle.std.specs.Option.{option_map};
+ghost use Rattle.record_lines.specs.Layout.{Yields};
+ghost use Rattle.record_lines.specs.Spread.{count, spread, Taking, beginning, next_word, next_value};
+
+use crate::cuts::star_at;
+use crate::lines::Lines;
+use crate::words::Words;
+use std::marker::Model;
+
+/// Why a free list has no next value.
+#[derive(Clone, Copy, Debug, PartialEq, Eq)]
+pub enum FreeFault {
+    /// No line with a word is left; the number behind the last line.
+    EndOfFile(u32),
+    /// A wrong repeat count, or none of a value behind it, on this line.
+    BadNumber(u32),
+}
+
+/// How many times a value is to be taken: one to nine digits that aren't all zero.
+#[tactic(auto, using(crate::proofs::SpreadLemmas::below_all))]
+fn count_of(digits: &[u8]) -> Option<u32>
+    ensures value { result ≡ count digits.now }
+    ensures positive { IfSome result (λ n. 0 < n) }
+{
+    if digits.len() > 9 {
+        return None;
+    }
+    let mut value = 0;
+    for digit in digits {
+        if *digit < b'0' || *digit > b'9' {
+            return None;
+        }
+        value = value * 10 + (*digit - b'0') as u32;
+    }
+    if value == 0 { None } else { Some(value) }
+}
+
+/// A word's count and value: `r*c` is r times c, any other word one time itself.
+#[tactic(auto, using(crate::proofs::SpreadLemmas::plain_word, crate::proofs::SpreadLemmas::counted_word, crate::proofs::SpreadLemmas::uncounted_word, crate::proofs::SpreadLemmas::empty_value))]
+fn spread(word: &[u8]) -> Option<(u32, &[u8])>
+    ensures value { option_map (λ x. (x.0, x.1.now)) result ≡ spread word.now }
+    ensures positive { IfSome result (λ x. 0 < x.0) }
+{
+    let Some(at) = star_at(word) else {
+        return Some((1, word));
+    };
+    let (digits, rest) = word.split_at(at);
+    let (_, value) = rest.split_at(1);
+    let Some(count) = count_of(digits) else {
+        return None;
+    };
+    if value.is_empty() {
+        None
+    } else {
+        Some((count, value))
+    }
+}
+
+/// A free list as it is read: the last word, how often it is still to be taken, and the words of its line that follow.
+#[derive(Drop)]
+pub struct Free<'a> {
+    repeat: u32,
+    word: &'a [u8],
+    number: u32,
+    words: Words<'a>,
+}
+
+impl<'a> Model for Free<'a> {
+    ghost Value = { Taking };
+
+    ghost view = { λ f. record { repeat = f.repeat; word = f.word.now; number = f.number; words = f.words } };
+}
+
+impl<'a> Free<'a> {
+    /// A list that begins on the next line.
+    pub fn begin() -> Free<'a>
+        ensures { result ≡ beginning }
+    {
+        Free {
+            repeat: 0,
+            word: &[],
+            number: 0,
+            words: Words::of_bytes(&[]),
+        }
+    }
+
+    /// Goes on to the next word, which is on a later line where this one has none.
+    fn start(&mut self, lines: &mut Lines<'a>) -> Result<(), FreeFault>
+        ensures { MatchResult result
+            (λ _. (next_word self.old.number self.old.words lines.old.lines lines.old.end ≡ Ok (self.new, lines.new)) × (0 < self.new.repeat))
+            (λ fault. next_word self.old.number self.old.words lines.old.lines lines.old.end ≡ Err fault) }
+    {
+        loop {
+            if let Some(word) = self.words.next() {
+                let Some((count, value)) = spread(word) else {
+                    return Err(FreeFault::BadNumber(self.number));
+                };
+                self.repeat = count;
+                self.word = value;
+                return Ok(());
+            }
+            match lines.next_line() {
+                Ok(line) => {
+                    self.number = line.number;
+                    self.words = Words::of(&line);
+                }
+                Err(end) => return Err(FreeFault::EndOfFile(end.line)),
+            }
+        }
+    }
+
+    /// The next value, and the number of its line.
+    #[tactic(auto, unfolding(crate::specs::Spread::next_value))]
+    pub fn next(&mut self, lines: &mut Lines<'a>) -> Result<(&'a [u8], u32), FreeFault>
+        ensures { Yields (λ x. (x.0.now, x.1)) result (self.new, lines.new) (next_value self.old lines.old) }
+    {
+        if self.repeat == 0 {
+            self.start(lines)?;
+        }
+        self.repeat -= 1;
+        Ok((self.word, self.number))
+    }
+}
