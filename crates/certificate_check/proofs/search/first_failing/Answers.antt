@@ -1,0 +1,12 @@
+use Rattle.std.proofs.Common.{arith, below_more}
+use Rattle.step_problem.specs.declared.heads.Side.TheVariants.{Low, High}
+use Rattle.certificate_check.proofs.search.first_failing.Goals as goal
+
+pub loop-cell-preserved : goal.loop-cell-preserved
+loop-cell-preserved c = below_more _ _ c.loop-cell.invariant c.in_default.ensures
+
+pub returns : goal.returns
+returns c = record {
+  low = λ d i. c.loop-cell.invariant d (omega (arith, i, c.loop-cell-test.false, c.len-cells.ensures.count)) Low;
+  high = λ d i. c.loop-cell.invariant d (omega (arith, i, c.loop-cell-test.false, c.len-cells.ensures.count)) High;
+}

@@ -1,0 +1,51 @@
+//! Whether the bounds of a step's heads are certified: a small check that needs no trust in whatever found them.
+#![tactic(auto)]
+
+ghost use Rattle.std.specs.Prelude.{◌≡◌, ℕ, ℤ, List, length, ◌<◌, ◌↔◌};
+ghost use Rattle.step_problem.specs.Heads.{head_at, lower_at, upper_at, IsCertificate};
+ghost use Rattle.cell_relax.specs.Words.{AreWords};
+ghost use Rattle.cell_balance.specs.Steps.{ExactCell};
+ghost use Rattle.cell_balance.specs.Enclosures.{EnclosesStep};
+ghost use Rattle.cell_balance.specs.Solutions.{SolvesStep, LiesBetween};
+ghost use Rattle.cell_balance.specs.Components.{IsHeldBelow};
+ghost use Rattle.certificate_check.specs.Certificates.{IsFirstFailing};
+ghost use Rattle.certificate_check.specs.Verdicts.{IsYes, IfNo};
+ghost use Rattle.certificate_check.specs.Solutions.{EnclosesSolutions};
+
+mod range;
+mod search;
+mod sides;
+#[cfg(test)]
+mod tests;
+
+pub use range::are_words;
+use search::first_failing;
+use step_problem::{Barrier, Bound, Problem, Side};
+
+/// Whether bounds are a certificate, or the first place that fails: a variable cell, by its index, and a side of it.
+#[derive(Clone, Copy, Debug, PartialEq, Eq)]
+pub enum Verdict {
+    Yes,
+    No { cell: u32, side: Side },
+}
+
+/// Checks the bounds of a step's variable cells, in units of 10^-9 length units. They are certified where each lower head stands at most at the cell's floor or its lower balance is not negative, and each upper head at least at the ceiling or its upper balance is not positive.
+/// The cells are tried in ascending order, the lower side first at each. `are_words` tests what it asks of the bounds.
+pub fn check_step(p: &Problem, barrier: &Barrier, bounds: &[Bound]) -> Verdict
+    requires floors { length barrier.now.floor ≡ length p.now }
+    requires ceilings { length barrier.now.ceiling ≡ length p.now }
+    requires bounds { AreWords p.now bounds.now }
+    ensures exact { IsYes result ↔ IsCertificate p.now barrier.now (lower_at bounds.now) (upper_at bounds.now) }
+    ensures first { IfNo result (λ cell side. IsFirstFailing p.now barrier.now bounds.now cell side) }
+    // Certified bounds enclose each solution that the barrier encloses.
+    ensures comparison { IsYes result → IsHeldBelow p.now → (s : ℕ) (e : List ExactCell) (d : ℕ) (X : ℕ → ℤ) → EnclosesStep s p.now e → 0 < d → SolvesStep e d X → LiesBetween (length p.now) d X (head_at barrier.now.floor) (head_at barrier.now.ceiling) → LiesBetween (length p.now) d X (lower_at bounds.now) (upper_at bounds.now) }
+    // So where the barrier encloses every solution, they do.
+    ensures encloses { IsYes result → IsHeldBelow p.now → EnclosesSolutions p.now (head_at barrier.now.floor) (head_at barrier.now.ceiling) → EnclosesSolutions p.now (lower_at bounds.now) (upper_at bounds.now) }
+{
+    // The number of cells comes with the problem's conditions.
+    let _cells = p.len();
+    match first_failing(p, barrier, bounds) {
+        None => Verdict::Yes,
+        Some((cell, side)) => Verdict::No { cell, side },
+    }
+}
