@@ -1,0 +1,16 @@
+pub mod SideLaws
+pub mod WordReads
+pub mod Unmoved
+pub mod LookingLow
+pub mod LookingHigh
+pub mod Raising
+pub mod Sinking
+pub mod Claiming
+pub mod Tightest
+pub mod Seeing
+pub mod Joining
+pub mod Opening
+pub mod Closing
+pub mod Rows
+pub mod Looser
+pub mod Shown

@@ -1,0 +1,5 @@
+pub mod Words
+pub mod BySide
+pub mod Rule
+pub mod Plays
+pub mod Seats

@@ -1,0 +1,51 @@
+-- The rule of a table of heads: what holds between any two steps, of its words and of what each seat has seen.
+use Rattle.std.specs.Prelude.{◌≡◌, ℕ, ◌+◌, ◌*◌, ◌<◌, List, [], ◌∷◌, length, true, false}
+use Rattle.std.specs.Int.{int_max, int_min}
+use mathlib.Core.Option.{some}
+use lib.ListN.{get_elem?}
+use Rattle.atomic_table.specs.Table.{State}
+use Rattle.step_problem.specs.declared.heads.Bound.{Bound}
+use Rattle.step_problem.specs.Entries.{Entries}
+use Rattle.step_problem.specs.Conditions.{IsHead}
+use Rattle.step_problem.specs.Heads.{Edges, head_at, lower_at, upper_at}
+use Rattle.head_table.specs.declared.known.Known.{Known}
+use Rattle.head_table.specs.Words.{lower_words, upper_words}
+use Rattle.head_table.specs.BySide.{LowOnTheWay, HighOnTheWay, LowSeen, HighSeen}
+
+-- what was seen is one bound for each cell, with heads in range
+pub record IsSound (v : Known) : Type 0 where
+  pub whole : length v.seen ≡ length v.problem
+  pub low : (c : ℕ) → c < length v.problem → IsHead (lower_at v.seen c)
+  pub high : (c : ℕ) → c < length v.problem → IsHead (upper_at v.seen c)
+
+-- a live view knows the problem and the barrier, and what it has seen was seen of the words
+pub record IsKnown (p : List Entries) (b : Edges) (words : List ℕ) (v : Known) : Type 0 where
+  pub problem_is : v.problem ≡ p
+  pub barrier_is : v.barrier ≡ b
+  pub whole : length v.seen ≡ length p
+  pub low : LowSeen p (lower_words words) (lower_at v.seen)
+  pub high : HighSeen p (upper_words words) (upper_at v.seen)
+
+-- the words are on the way from the barrier, and each live view is known
+pub record IsTableKept (p : List Entries) (b : Edges) (s : State (Unit {0}) Known) : Type 0 where
+  pub wide : length s.words ≡ 2 * length p + 1
+  pub low : LowOnTheWay p (head_at b.floor) (lower_words s.words)
+  pub high : HighOnTheWay p (head_at b.ceiling) (upper_words s.words)
+  pub each_seat : (j : ℕ) (v : Known) → get_elem? s.views j ≡ some v → v.live ≡ true → IsKnown p b s.words v
+
+-- the first seat has seen the words with which the table was made
+abbrev pub starting : List Bound → List Entries → Edges → Known
+starting words p b = record { live = true; seen = words; problem = p; barrier = b }
+
+-- the tighter of both, cell by cell
+abbrev pub tightest : List Bound → List Bound → List Bound
+tightest [] ys = []
+tightest (x ∷ xs) [] = []
+tightest (x ∷ xs) (y ∷ ys) = record { low = int_max x.low y.low; high = int_min x.high y.high } ∷ tightest xs ys
+
+abbrev pub joined : Known → Known → Known
+joined v w = record v { seen = tightest v.seen w.seen }
+
+-- the view of a seat that was joined away
+abbrev pub spent : Known
+spent = record { live = false; seen = []; problem = []; barrier = record { floor = []; ceiling = [] } }

@@ -1,0 +1,23 @@
+// Heads as words.
+ghost use Rattle.std.specs.Prelude.{◌≡◌, ◌≤◌};
+ghost use Rattle.step_problem.specs.Conditions.{IsHead};
+ghost use Rattle.head_table.specs.Words.{head_of_word};
+
+use step_problem::problem::HEAD_LIMIT;
+
+// The word that stands for a head.
+pub(crate) fn coded(head: i64) -> u64
+    requires { IsHead head }
+    ensures value { head_of_word result ≡ head }
+    ensures small { result ≤ 8000000000000000000 }
+{
+    (head + HEAD_LIMIT) as u64
+}
+
+// The head for which a word stands.
+pub(crate) fn decoded(word: u64) -> i64
+    requires { IsHead (head_of_word word) }
+    ensures { result ≡ head_of_word word }
+{
+    word as i64 - HEAD_LIMIT
+}

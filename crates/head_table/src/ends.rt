@@ -1,0 +1,110 @@
+// A table is made of words, and gives them back.
+ghost use Rattle.std.specs.Prelude.{◌≡◌, ℕ, ◌+◌, ◌*◌, ◌<◌, ◌≤◌, length, IfOk, vec_len};
+ghost use Rattle.std.specs.Mem.Slots.{slots_items, slots_len, IsFull};
+ghost use Rattle.step_problem.specs.Conditions.{IsHead};
+ghost use Rattle.step_problem.specs.Heads.{AreOnTheWay, lower_at, upper_at};
+ghost use Rattle.head_table.specs.Words.{lower_words, upper_words};
+ghost use Rattle.head_table.specs.BySide.{AreNoLooser};
+ghost use Rattle.head_table.specs.Seats.{IsSeatOf, barrier_of, seen_of};
+
+use crate::coding::{coded, decoded};
+use crate::known::Facts;
+use crate::table::{HeadSeat, HeadTable};
+use atomic_table::{Closed, Table};
+use std::alloc::{AllocError, Global};
+use std::snapshot::Snapshot;
+use step_problem::{Barrier, Bound, Problem};
+
+// The counter, and two words for each cell.
+fn raw_words(alloc: Global, words: &[Bound]) -> Result<Vec<u64>, AllocError>
+    requires { (c : ℕ) → c < length words.now → IsHead (lower_at words.now c) × IsHead (upper_at words.now c) }
+    ensures len { IfOk result (λ v. vec_len v ≡ 2 * length words.now + 1) }
+    ensures low { IfOk result (λ v. (c : ℕ) → c < length words.now → lower_words v.items c ≡ lower_at words.now c) }
+    ensures high { IfOk result (λ v. (c : ℕ) → c < length words.now → upper_words v.items c ≡ upper_at words.now c) }
+{
+    let mut raw = Vec::new(alloc);
+    raw.push(0)?;
+    for word in words {
+        raw.push(coded(word.low))?;
+        raw.push(coded(word.high))?;
+    }
+    Ok(raw)
+}
+
+impl<'a> HeadTable<'a> {
+    /// A table of these words, one bound for each cell, on the way from the barrier; and its first seat,
+    /// which has seen them.
+    pub fn new(
+        alloc: Global,
+        problem: &'a Problem,
+        barrier: &Barrier,
+        words: &Vec<Bound>,
+    ) -> Result<(HeadTable<'a>, HeadSeat), AllocError>
+        requires { AreOnTheWay problem.now barrier.now words.now.items }
+        ensures problem { IfOk result (λ r. r.0.problem.now ≡ problem.now) }
+        ensures barrier { IfOk result (λ r. barrier_of r.0 ≡ barrier.now) }
+        ensures seat { IfOk result (λ r. IsSeatOf r.0 r.1) }
+        ensures seen { IfOk result (λ r. seen_of r.1 ≡ words.now.items) }
+    {
+        // The number of cells comes with the problem's conditions.
+        let _cells = problem.len();
+        let raw = raw_words(alloc, words.as_slice())?;
+        let facts = Facts {
+            problem: Snapshot::of(problem),
+            barrier: Snapshot::of(barrier),
+            words: Snapshot::of(words),
+        };
+        let (table, seat) = Table::of_words(alloc, raw.as_slice(), &facts)?;
+        Ok((
+            HeadTable {
+                problem,
+                table,
+                alloc,
+            },
+            HeadSeat { seat },
+        ))
+    }
+}
+
+// The bounds for which closed words stand.
+fn read_all(
+    alloc: Global,
+    closed: &Closed<(), Global>,
+    cells: usize,
+) -> Result<Vec<Bound>, AllocError>
+    requires words { IsFull closed.now.words × (slots_len closed.now.words ≡ 2 * cells + 1) × (cells ≤ 65536) }
+    requires range { (c : ℕ) → c < cells → IsHead (lower_words (slots_items closed.now.words) c) × IsHead (upper_words (slots_items closed.now.words) c) }
+    ensures len { IfOk result (λ v. vec_len v ≡ cells) }
+    ensures low { IfOk result (λ v. (c : ℕ) → c < cells → lower_at v.items c ≡ lower_words (slots_items closed.now.words) c) }
+    ensures high { IfOk result (λ v. (c : ℕ) → c < cells → upper_at v.items c ≡ upper_words (slots_items closed.now.words) c) }
+{
+    let mut bounds = Vec::with_capacity(alloc, cells)?;
+    for cell in 0..cells {
+        let low = decoded(closed.word(2 * cell + 1));
+        let high = decoded(closed.word(2 * cell + 2));
+        bounds.push(Bound { low, high })?;
+    }
+    Ok(bounds)
+}
+
+impl<'a> HeadTable<'a> {
+    /// Ends the table with one of its seats and gives its words, which are as tight as all that the seat has
+    /// seen. Where memory is refused the words are lost.
+    pub fn close(self, seat: HeadSeat) -> Result<Vec<Bound>, AllocError>
+        requires { IsSeatOf self seat }
+        ensures kept { IfOk result (λ v. AreOnTheWay self.entry.problem.now (barrier_of self.entry) v.items) }
+        ensures tight { IfOk result (λ v. AreNoLooser self.entry.problem.now (seen_of seat) v.items) }
+    {
+        let HeadTable {
+            problem,
+            table,
+            alloc,
+        } = self;
+        let cells = problem.len();
+        let HeadSeat { seat } = seat;
+        let closed = table.close_with(seat);
+        let bounds = read_all(alloc, &closed, cells);
+        closed.free();
+        bounds
+    }
+}

@@ -1,0 +1,64 @@
+// Single exchanges of words: each is one atomic step.
+ghost use Rattle.std.specs.Prelude.{◌≡◌, ◌<◌, length, ◌≤ℤ◌};
+ghost use Rattle.std.specs.Int.{int_max, int_min};
+ghost use Rattle.step_problem.specs.Heads.{IsRaise, IsSink};
+ghost use Rattle.head_table.specs.Seats.{IsSeatOf, SameHigh, SameHighBut, SameLow, SameLowBut, high_seen, low_seen, seen_of};
+
+use crate::coding::{coded, decoded};
+use crate::known::{Claim, Raise, Sink};
+use crate::table::{HeadSeat, HeadTable};
+
+impl<'a> HeadTable<'a> {
+    /// Raises the lower word of a cell to `to`, its raise value from what the seat has seen, unless it is
+    /// higher. Answers the word before.
+    pub fn raise(&self, seat: &mut HeadSeat, cell: usize, to: i64) -> i64
+        requires seat { IsSeatOf self.now seat.old }
+        requires cell { cell < length self.now.problem.now }
+        requires to { IsRaise self.now.problem.now (low_seen seat.old) cell to }
+        ensures seat { IsSeatOf self.now seat.new }
+        ensures before { low_seen seat.old cell ≤ℤ result }
+        ensures seen { low_seen seat.new cell ≡ int_max result to }
+        ensures others { SameLowBut cell seat.old seat.new }
+        ensures high { SameHigh seat.old seat.new }
+    {
+        // The problem's conditions come with its length.
+        let _cells = self.problem.len();
+        let word = coded(to);
+        let found = self
+            .table
+            .shared
+            .fetch_max::<Raise>(&mut seat.seat, 2 * cell + 1, word);
+        decoded(found)
+    }
+
+    /// Sinks the upper word of a cell to `to`, its sink value from what the seat has seen, unless it is
+    /// lower. Answers the word before.
+    pub fn sink(&self, seat: &mut HeadSeat, cell: usize, to: i64) -> i64
+        requires seat { IsSeatOf self.now seat.old }
+        requires cell { cell < length self.now.problem.now }
+        requires to { IsSink self.now.problem.now (high_seen seat.old) cell to }
+        ensures seat { IsSeatOf self.now seat.new }
+        ensures before { result ≤ℤ high_seen seat.old cell }
+        ensures seen { high_seen seat.new cell ≡ int_min result to }
+        ensures others { SameHighBut cell seat.old seat.new }
+        ensures low { SameLow seat.old seat.new }
+    {
+        // The problem's conditions come with its length.
+        let _cells = self.problem.len();
+        let word = coded(to);
+        let found = self
+            .table
+            .shared
+            .fetch_min::<Sink>(&mut seat.seat, 2 * cell + 2, word);
+        decoded(found)
+    }
+
+    /// Claims a ticket: the number of claims before, until the counter wraps.
+    pub fn claim(&self, seat: &mut HeadSeat) -> u64
+        requires { IsSeatOf self.now seat.old }
+        ensures seat { IsSeatOf self.now seat.new }
+        ensures same { seen_of seat.new ≡ seen_of seat.old }
+    {
+        self.table.shared.fetch_add::<Claim>(&mut seat.seat, 0, 1)
+    }
+}

@@ -1,0 +1,93 @@
+// What a seat knows, the rule of the table, and what each kind of step tells.
+use atomic_table::{Join, Play, Split, TableRule};
+use std::collections::LinkedList;
+use std::snapshot::Snapshot;
+use step_problem::{Barrier, Bound, Problem};
+
+/// What a seat knows: the bounds that it has seen, and the problem and the barrier of its table. No value of
+/// it is made.
+pub struct Known {
+    pub live: bool,
+    pub seen: LinkedList<Bound>,
+    pub problem: Problem,
+    pub barrier: Barrier,
+}
+
+/// What a table is told when it is made.
+#[derive(Drop)]
+pub struct Facts {
+    pub problem: Snapshot<Problem>,
+    pub barrier: Snapshot<Barrier>,
+    pub words: Snapshot<Vec<Bound>>,
+}
+
+/// The rule of a table of heads.
+pub struct Heads;
+
+impl TableRule<(), Known, Facts> for Heads {
+    ghost use Rattle.head_table.specs.Rule.{IsTableKept, starting};
+
+    ghost holds = { λ key. IsTableKept key.problem.value key.barrier.value };
+
+    ghost first = { λ key. starting key.words.value.items key.problem.value key.barrier.value };
+}
+
+pub(crate) struct LookLow;
+
+impl Play<(), Known> for LookLow {
+    ghost use Rattle.head_table.specs.Plays.{looked_low};
+
+    ghost then = { looked_low };
+}
+
+pub(crate) struct LookHigh;
+
+impl Play<(), Known> for LookHigh {
+    ghost use Rattle.head_table.specs.Plays.{looked_high};
+
+    ghost then = { looked_high };
+}
+
+pub(crate) struct Raise;
+
+impl Play<(), Known> for Raise {
+    ghost use Rattle.head_table.specs.Plays.{raised};
+
+    ghost then = { raised };
+}
+
+pub(crate) struct Sink;
+
+impl Play<(), Known> for Sink {
+    ghost use Rattle.head_table.specs.Plays.{sunk};
+
+    ghost then = { sunk };
+}
+
+pub(crate) struct Claim;
+
+impl Play<(), Known> for Claim {
+    ghost use Rattle.head_table.specs.Plays.{claimed};
+
+    ghost then = { claimed };
+}
+
+// A new seat has seen what the old one has.
+pub(crate) struct Same;
+
+impl Split<Known> for Same {
+    ghost left = { λ v. v };
+
+    ghost right = { λ v. v };
+}
+
+// The seat that stays has seen the tighter of both.
+pub(crate) struct Both;
+
+impl Join<Known> for Both {
+    ghost use Rattle.head_table.specs.Rule.{joined, spent};
+
+    ghost both = { joined };
+
+    ghost spent = { spent };
+}
