@@ -1,0 +1,66 @@
+-- A name file, line by line: `Ftype Nunit Fname`. (TM 6-A16, name file)
+use Rattle.std.specs.Prelude.{ℕ, Bool, List, [], ◌∷◌, ◌++◌, Option, Some, None, Result, Ok, Err, if◌then◌else◌, is_some}
+use Rattle.decimal_input.specs.Words.{integer_of}
+use Rattle.outside.specs.declared.codes.Code.TheVariants.{BadNameLine, DuplicatePackage, UnsupportedPackage, MissingPackage}
+use Rattle.outside.specs.declared.refusals.Refusal.{Refusal}
+use Rattle.record_lines.specs.Reading.{◌>>=◌, refusal}
+use Rattle.record_lines.specs.Layout.{Numbered, words, is_comment, left_from}
+use Rattle.record_lines.specs.Items.{word_at, name_at}
+use Rattle.name_file.specs.Kinds.{package_of, is_passed_over}
+use Rattle.name_file.specs.Pairs.{Pairs, has_package}
+use Rattle.name_file.specs.declared.package.Package.{Package}
+use Rattle.name_file.specs.declared.package.Package.TheVariants.{Dis, Bas, Lpf}
+
+-- an optional sign and 1 to 18 digits
+unfoldable pub is_integer : List ℕ → Bool
+is_integer word = is_some (integer_of word)
+
+-- the file's name behind the words Nunit and Fname, both there and Nunit an integer; the name is
+-- looked at last
+unfoldable pub file_in : List ℕ → ℕ → List (List ℕ) → Result (List ℕ) Refusal
+file_in file line words = do
+  unit ← word_at (refusal BadNameLine file line) words
+  name ← word_at (refusal BadNameLine file line) unit.1
+  if is_integer unit.0 then name_at file line name.0 else Err (refusal BadNameLine file line)
+
+-- a package that is new goes last
+abbrev pub with_pair : Refusal → Package → List ℕ → Pairs → Result Pairs Refusal
+with_pair duplicate found name names = if has_package found names then Err duplicate else Ok (names ++ (found, name) ∷ [])
+
+-- the pairs after the line of a package
+unfoldable pub after_package : List ℕ → ℕ → Package → List (List ℕ) → Pairs → Result Pairs Refusal
+after_package file line found words names = do
+  name ← file_in file line words
+  with_pair (refusal DuplicatePackage file line) found name names
+
+-- a type that is no package of a model is refused before its other words are looked at
+abbrev pub after_type : Option Package → List ℕ → ℕ → List (List ℕ) → Pairs → Result Pairs Refusal
+after_type None file line words names = Err (refusal UnsupportedPackage file line)
+after_type (Some found) file line words names = after_package file line found words names
+
+abbrev pub after_words : List ℕ → ℕ → List (List ℕ) → Pairs → Result Pairs Refusal
+after_words file line [] names = Ok names
+after_words file line (kind ∷ words) names = if is_passed_over kind then Ok names else after_type (package_of kind) file line words names
+
+-- the pairs after a line; one that begins with '#' says nothing
+unfoldable pub after_line : List ℕ → Numbered → Pairs → Result Pairs Refusal
+after_line file line names = if is_comment line.bytes then Ok names else after_words file line.number (words line.bytes) names
+
+unfoldable pub after_lines : List ℕ → List Numbered → Pairs → Result Pairs Refusal
+after_lines file [] names = Ok names
+after_lines file (line ∷ others) names = do
+  next ← after_line file line names
+  after_lines file others next
+
+abbrev pub missing : List ℕ → Result Pairs Refusal
+missing file = Err (refusal MissingPackage file 0)
+
+-- every model has the discretization, the basic package and the layer-property flow package
+unfoldable pub whole : List ℕ → Pairs → Result Pairs Refusal
+whole file names = if has_package Dis names then (if has_package Bas names then (if has_package Lpf names then Ok names else missing file) else missing file) else missing file
+
+-- the pairs of a name file, or its first refusal
+unfoldable pub names_of : List ℕ → List ℕ → Result Pairs Refusal
+names_of file bytes = do
+  names ← after_lines file (left_from 1 bytes).lines []
+  whole file names

@@ -1,0 +1,128 @@
+ghost use Rattle.std.specs.Prelude.{◌≡◌, MatchResult, Ok};
+ghost use Rattle.decimal_input.specs.Words.{integer_of};
+ghost use Rattle.record_lines.specs.Reading.{HasText, StopsText};
+ghost use Rattle.record_lines.specs.Seen.{numbered_of};
+ghost use Rattle.name_file.specs.Reading.{is_integer, file_in, after_package, after_line, after_lines, whole, names_of};
+
+use crate::kinds::{is_passed_over, package_of};
+use crate::names::Names;
+use crate::package::Package;
+use decimal_input::integer::read_int;
+use outside::{Code, Name, TextFault};
+use record_lines::{Line, Lines, Words, is_comment, name_of, refused};
+use std::alloc::Global;
+
+/// Whether a word is an integer.
+fn is_integer(word: &[u8]) -> bool
+    ensures { result ≡ is_integer word.now }
+{
+    read_int(word).is_some()
+}
+
+/// The name of the file of a package's line, whose first word was taken.
+#[tactic(auto, unfolding(crate::specs::Reading::file_in, record_lines::specs::Items::word_at))]
+fn file_in<'a>(
+    alloc: Global,
+    words: &mut Words<'a>,
+    file: &str,
+    line: u32,
+) -> Result<&'a str, TextFault>
+    ensures { HasText (λ name. name.now) result (file_in file.now line words.old) }
+{
+    let Some(unit) = words.next() else {
+        return Err(refused(alloc, Code::BadNameLine, file, line));
+    };
+    let Some(name) = words.next() else {
+        return Err(refused(alloc, Code::BadNameLine, file, line));
+    };
+    if !is_integer(unit) {
+        return Err(refused(alloc, Code::BadNameLine, file, line));
+    }
+    name_of(alloc, name, file, line)
+}
+
+/// Adds the package of a line.
+#[tactic(auto, unfolding(crate::specs::Reading::after_package))]
+fn after_package(
+    alloc: Global,
+    names: &mut Names,
+    found: Package,
+    words: &mut Words,
+    file: &str,
+    line: u32,
+) -> Result<(), TextFault>
+    ensures { MatchResult result
+        (λ _. after_package file.now line found words.old names.old ≡ Ok names.new)
+        (λ fault. StopsText fault (after_package file.now line found words.old names.old)) }
+{
+    let name = file_in(alloc, words, file, line)?;
+    if names.has(found) {
+        return Err(refused(alloc, Code::DuplicatePackage, file, line));
+    }
+    let name = Name::new(alloc, name)?;
+    names.add(found, name)?;
+    Ok(())
+}
+
+/// Adds the package that a line names, if it names one.
+#[tactic(auto, unfolding(crate::specs::Reading::after_line))]
+fn after_line(alloc: Global, names: &mut Names, line: &Line, file: &str) -> Result<(), TextFault>
+    ensures { MatchResult result
+        (λ _. after_line file.now (numbered_of line.now) names.old ≡ Ok names.new)
+        (λ fault. StopsText fault (after_line file.now (numbered_of line.now) names.old)) }
+{
+    if is_comment(line.bytes) {
+        return Ok(());
+    }
+    let mut words = Words::of(line);
+    let Some(kind) = words.next() else {
+        return Ok(());
+    };
+    if is_passed_over(kind) {
+        return Ok(());
+    }
+    match package_of(kind) {
+        None => Err(refused(alloc, Code::UnsupportedPackage, file, line.number)),
+        Some(found) => after_package(alloc, names, found, &mut words, file, line.number),
+    }
+}
+
+/// Adds the packages that the lines name.
+fn after_lines(
+    alloc: Global,
+    names: &mut Names,
+    lines: &mut Lines,
+    file: &str,
+) -> Result<(), TextFault>
+    ensures { MatchResult result
+        (λ _. after_lines file.now lines.old.lines names.old ≡ Ok names.new)
+        (λ fault. StopsText fault (after_lines file.now lines.old.lines names.old)) }
+{
+    while let Ok(line) = lines.next_line() {
+        after_line(alloc, names, &line, file)?;
+    }
+    Ok(())
+}
+
+/// That the packages which every model has are there.
+#[tactic(auto, unfolding(crate::specs::Reading::whole))]
+fn whole(alloc: Global, names: Names, file: &str) -> Result<Names, TextFault>
+    ensures { HasText (λ names. names) result (whole file.now names) }
+{
+    if !names.has(Package::Dis) || !names.has(Package::Bas) || !names.has(Package::Lpf) {
+        return Err(refused(alloc, Code::MissingPackage, file, 0));
+    }
+    Ok(names)
+}
+
+/// The packages that a name file names, in its order. `file` is its own name, for refusals, which
+/// are of the first line that is wrong; a package that is missing has line 0.
+#[tactic(auto, unfolding(crate::specs::Reading::names_of))]
+pub fn read_names(alloc: Global, file: &str, bytes: &[u8]) -> Result<Names, TextFault>
+    ensures names { HasText (λ names. names) result (names_of file.now bytes.now) }
+{
+    let mut names = Names::new(alloc);
+    let mut lines = Lines::new(bytes);
+    after_lines(alloc, &mut names, &mut lines, file)?;
+    whole(alloc, names, file)
+}
