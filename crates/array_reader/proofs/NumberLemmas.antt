@@ -1,0 +1,94 @@
+-- The functions of specs/Numbers are what words and products name.
+use Rattle.std.proofs.Common.{◌≡◌, ℕ, zero, suc, ◌<◌, ◌≤◌, ◌+◌, ◌*◌, ◌/◌, ◌%◌, ◌^◌, ◌==◌, Bool, true, false, if◌then◌else◌, List, length, nat_le, nat_lt, Option, Some, None, Result, ℤ, pos, negsuc, neg_ℤ, ◌+ℤ◌, ◌≤ℤ◌, ◌<ℤ◌, ◌↔◌, inl, inr, refl, sym, ◌∙◌, arith, pow-suc, add-one}
+use Rattle.std.proofs.lemmas.Int.{ints}
+use Rattle.std.proofs.lemmas.Bool.Decides.{nat_tests}
+use Rattle.decimal_input.specs.declared.dec.Dec.{Dec}
+use Rattle.decimal_input.specs.declared.dec.NumFault.{NumFault}
+use Rattle.decimal_input.specs.Grammar.{Spelling, IsInteger}
+use Rattle.decimal_input.specs.Outcomes.{IsTrimmed, IsTested, IsCanonical, Names, differ}
+use Rattle.decimal_input.specs.Words.{spelt, integer_of}
+use Rattle.decimal_input.proofs.Named.{IsNumber}
+use Rattle.decimal_input.proofs.Spelled.{names_read, long_names, reads_integer, integer_read}
+use Rattle.decimal_input.proofs.Unique.{names_one, canonical_one}
+use Rattle.array_reader.specs.Numbers.{significant, zeros, is_exponent, tested, canonical, spelt_number, number, product}
+
+tens : (n c : ℕ) → c % 10 ≡ 0 → IsTrimmed (c / 10) (significant n (c / 10)) (zeros n (c / 10)) → IsTrimmed c (significant n (c / 10)) (zeros n (c / 10) + 1)
+tens n c e t =
+    let power : 10 ^ (zeros n (c / 10) + 1) ≡ 10 ^ zeros n (c / 10) * 10 = rw (add-one, pow-suc) refl in
+    record { whole = rw power (whole (significant n (c / 10)) (10 ^ zeros n (c / 10)) t.whole); last = t.last }
+  where
+    whole : (d p : ℕ) → c / 10 ≡ d * p → c ≡ d * (p * 10)
+    whole d p h = omega (arith, e, h)
+
+trims_step : (n c : ℕ) → 0 < c → c ≤ suc n → (0 < c / 10 → c / 10 ≤ n → IsTrimmed (c / 10) (significant n (c / 10)) (zeros n (c / 10))) → (b : Bool) → (c % 10 == 0) ≡ b
+    → IsTrimmed c (if b then significant n (c / 10) else c) (if b then zeros n (c / 10) + 1 else 0)
+trims_step n c some le rest true e =
+    let zero_end : c % 10 ≡ 0 = grind (arith, nat_tests) in
+    tens n c zero_end (rest (omega arith) (omega arith))
+trims_step n c some le rest false e =
+    let some_end : 0 < c % 10 = grind (arith, nat_tests) in
+    record { whole = omega arith; last = some_end }
+
+trims : (n c : ℕ) → 0 < c → c ≤ n → IsTrimmed c (significant n c) (zeros n c)
+unfolding significant zeros
+trims zero c some le = absurd (omega arith)
+trims (suc n) c some le = trims_step n c some le (trims n (c / 10)) (c % 10 == 0) refl
+
+too_low : (e : ℤ) → e <ℤ neg_ℤ (pos 40) → is_exponent e ≡ false
+too_low (pos n) h = absurd (omega (arith, ints))
+too_low (negsuc n) h = let past : 40 ≤ n = omega (arith, ints) in grind (arith, nat_tests)
+
+too_high : (e : ℤ) → pos 40 <ℤ e → is_exponent e ≡ false
+too_high (pos n) h = let past : 40 < n = omega (arith, ints) in grind (arith, nat_tests)
+too_high (negsuc n) h = absurd (omega (arith, ints))
+
+in_range : (e : ℤ) → neg_ℤ (pos 40) ≤ℤ e → e ≤ℤ pos 40 → is_exponent e ≡ true
+in_range (pos n) low high = let within : n ≤ 40 = omega (arith, ints) in grind (arith, nat_tests)
+in_range (negsuc n) low high = let within : n < 40 = omega (arith, ints) in grind (arith, nat_tests)
+
+tests : (neg : Bool) (d : ℕ) (e : ℤ) → IsTested neg d e (tested neg d e)
+tests neg d e = record {
+  many = λ many. let no : nat_lt d 1000000000000000000 ≡ false = grind (arith, nat_tests) in rw no refl;
+  low = λ few low. let yes : nat_lt d 1000000000000000000 ≡ true = grind (arith, nat_tests) in rw (yes, too_low e low) refl;
+  high = λ few high. let yes : nat_lt d 1000000000000000000 ≡ true = grind (arith, nat_tests) in rw (yes, too_high e high) refl;
+  good = λ few low high. let yes : nat_lt d 1000000000000000000 ≡ true = grind (arith, nat_tests) in rw (yes, in_range e low high) refl;
+}
+
+canonical_some : (neg : Bool) (c : ℕ) (e : ℤ) → 0 < c → IsCanonical neg c e (canonical neg c e)
+unfolding canonical
+canonical_some neg c e some =
+    let no : (c == 0) ≡ false = grind (arith, nat_tests) in
+    rw no (inr (significant c c, zeros c c, trims c c some (omega arith), tests neg _ _))
+
+pub canonical_is : (neg : Bool) (c : ℕ) (e : ℤ) → IsCanonical neg c e (canonical neg c e)
+unfolding canonical
+canonical_is neg zero e = inl (refl, refl)
+canonical_is neg (suc c) e = canonical_some neg (suc c) e (omega arith)
+
+is_number : (x : Option Spelling) → IsNumber x (spelt_number x)
+is_number None = refl
+is_number (Some n) = canonical_is n.neg n.coefficient n.exp
+
+names_number : (w : List ℕ) → Names w (number w)
+unfolding number
+names_number w = cases (nat_le (length w) 64) refl
+  where
+    cases : (b : Bool) → nat_le (length w) 64 ≡ b → Names w (number w)
+    cases true e = rw e (names_read w (spelt_number (spelt w)) (grind (arith, nat_tests)) (is_number (spelt w)))
+    cases false e = rw e (long_names w (grind (arith, nat_tests)))
+
+-- what a word names is its number
+pub is_word_number : (w : List ℕ) (r : Result Dec NumFault) → Names w r → r ≡ number w
+is_word_number w r h = names_one w r (number w) h (names_number w)
+
+pub is_product : (a b : Dec) (r : Result Dec NumFault) → IsCanonical (differ a.neg b.neg) (a.digits * b.digits) (a.exp +ℤ b.exp) r → r ≡ product a b
+unfolding product
+is_product a b r h = canonical_one _ _ _ r _ h (canonical_is (differ a.neg b.neg) (a.digits * b.digits) (a.exp +ℤ b.exp))
+
+pub is_integer : (w : List ℕ) (r : Option ℤ) → ((z : ℤ) → (r ≡ Some z) ↔ IsInteger w z) → r ≡ integer_of w
+is_integer w r h = cases (integer_of w) refl r refl
+  where
+    cases : (x : Option ℤ) → integer_of w ≡ x → (y : Option ℤ) → r ≡ y → r ≡ integer_of w
+    cases (Some z) e y f = (h z).1 (integer_read w z e) ∙ sym e
+    cases None e None f = f ∙ sym e
+    cases None e (Some z) f = absurd (let some : None ≡ Some z = sym e ∙ reads_integer w z ((h z).0 f) in cc)

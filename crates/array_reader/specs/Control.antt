@@ -1,0 +1,58 @@
+-- The control record in front of an array.
+use Rattle.std.specs.Prelude.{ℕ, Bool, true, List, Result, Ok, Err, if◌then◌else◌, codes}
+use Rattle.decimal_input.specs.declared.dec.NumFault.{NumFault}
+use Rattle.outside.specs.declared.codes.Code.TheVariants.{BadControl, OutOfProfile}
+use Rattle.outside.specs.declared.refusals.Refusal.{Refusal}
+use Rattle.record_lines.specs.Items.{word_at, name_at, is_word}
+use Rattle.record_lines.specs.Reading.{◌>>=◌, refusal}
+use Rattle.array_reader.specs.Items.{number_at}
+use Rattle.array_reader.specs.declared.keyword.Keyword.{Keyword}
+use Rattle.array_reader.specs.declared.keyword.Keyword.TheVariants.{Constant, Internal, OpenClose, External, Other}
+
+-- the first word of a control record, in any letter case
+unfoldable pub keyword : List ℕ → Keyword
+keyword word = if is_word (codes "CONSTANT") word then Constant else if is_word (codes "INTERNAL") word then Internal else if is_word (codes "OPEN/CLOSE") word then OpenClose else if is_word (codes "EXTERNAL") word then External else Other
+
+-- the format (FREE), in any letter case
+unfoldable pub format_at : List ℕ → ℕ → List (List ℕ) → Result (Bool × List (List ℕ)) Refusal
+format_at file line words = do
+  word ← word_at (refusal BadControl file line) words
+  if is_word (codes "(FREE)") word.0 then Ok (true, word.1) else Err (refusal OutOfProfile file line)
+
+-- one value for all; values on the next lines, or in a file of this name, with a multiplier
+pub data Control (X : Type 0) : Type 0 where
+  constant : X → Control X
+  internal : X → Control X
+  named : List ℕ → X → Control X
+
+unfoldable pub constant_at : {X : Type 0} → (List ℕ → Result X NumFault) → List ℕ → ℕ → List (List ℕ) → Result (Control X) Refusal
+constant_at read file line words = do
+  value ← number_at read file line words
+  Ok (constant value.0)
+
+unfoldable pub internal_at : {X : Type 0} → (List ℕ → Result X NumFault) → List ℕ → ℕ → List (List ℕ) → Result (Control X) Refusal
+internal_at read file line words = do
+  by ← number_at read file line words
+  format ← format_at file line by.1
+  Ok (internal by.0)
+
+unfoldable pub named_at : {X : Type 0} → (List ℕ → Result X NumFault) → List ℕ → ℕ → List (List ℕ) → Result (Control X) Refusal
+named_at read file line words = do
+  word ← word_at (refusal BadControl file line) words
+  name ← name_at file line word.0
+  by ← number_at read file line word.1
+  format ← format_at file line by.1
+  Ok (named name by.0)
+
+abbrev pub of_keyword : {X : Type 0} → Keyword → (List ℕ → Result X NumFault) → List ℕ → ℕ → List (List ℕ) → Result (Control X) Refusal
+of_keyword Constant read file line words = constant_at read file line words
+of_keyword Internal read file line words = internal_at read file line words
+of_keyword OpenClose read file line words = named_at read file line words
+of_keyword External read file line words = Err (refusal OutOfProfile file line)
+of_keyword Other read file line words = Err (refusal BadControl file line)
+
+-- the control record that these words make
+unfoldable pub control_at : {X : Type 0} → (List ℕ → Result X NumFault) → List ℕ → ℕ → List (List ℕ) → Result (Control X) Refusal
+control_at read file line words = do
+  word ← word_at (refusal BadControl file line) words
+  of_keyword (keyword word.0) read file line word.1

@@ -1,0 +1,154 @@
+ghost use Rattle.std.specs.Prelude.{◌≡◌, ◌*◌, length, IfOk, IsTrue, is_some, All};
+ghost use Rattle.decimal_input.specs.Canonical.{IsDec};
+ghost use Rattle.outside.specs.Counts.{InputCounts};
+ghost use Rattle.outside.specs.Inputs.{file_at};
+ghost use Rattle.outside.specs.Names.{IsGoodName};
+ghost use Rattle.record_lines.specs.Reading.{Gives, Has};
+ghost use Rattle.array_reader.specs.Arrays.{told, values_of, array_at, reals, layer, integer_layer};
+ghost use Rattle.array_reader.specs.Seen.{control_of, Has_good};
+
+use crate::control::{Control, control_record};
+use crate::kinds::Value;
+use crate::lists::{constants, free_rows};
+use decimal_input::dec::Dec;
+use outside::{Folder, InputFault, read_input};
+use record_lines::{Lines, Words, input_fault, next_line};
+use std::alloc::Global;
+
+/// A file of the folder, whole.
+pub fn open_file<F: Folder>(
+    alloc: Global,
+    folder: &mut F,
+    name: &str,
+) -> Result<Vec<u8>, InputFault>
+    requires { IsGoodName name.now }
+    ensures files { F.files folder.new ≡ F.files folder.old }
+    ensures counts { InputCounts (F.faults folder.old) (F.faults folder.new) result }
+    ensures bytes { IsTrue (is_some (F.files folder.old)) → Has (λ v. v.items) result (file_at (told (F.files folder.old)) name.now) }
+{
+    read_input(alloc, folder, name)
+}
+
+/// The values of an array by its control record.
+fn values_of<V: Value, F: Folder>(
+    alloc: Global,
+    lines: &mut Lines,
+    file: &str,
+    folder: &mut F,
+    control: &Control<'_, V>,
+    rows: u32,
+    cols: u32,
+) -> Result<Vec<V>, InputFault>
+    requires good { Has_good V.Good control.now }
+    ensures files { F.files folder.new ≡ F.files folder.old }
+    ensures counts { InputCounts (F.faults folder.old) (F.faults folder.new) result }
+    ensures values { IsTrue (is_some (F.files folder.old)) → Gives (λ v. v.items) result lines.new (values_of V.kind (told (F.files folder.old)) file.now rows cols lines.old (control_of control.now)) }
+    ensures good { IfOk result (λ v. All V.Good v.items) }
+    ensures count { IfOk result (λ v. length v.items ≡ rows * cols) }
+{
+    match *control {
+        Control::Constant(value) => {
+            let count = rows as usize * cols as usize;
+            Ok(constants(alloc, value, count)?)
+        }
+        Control::Internal(by) => match free_rows(alloc, lines, file, Some(by), rows, cols) {
+            Ok(values) => Ok(values),
+            Err(fault) => Err(input_fault(fault)),
+        },
+        Control::Named(name, by) => {
+            let bytes = open_file(alloc, folder, name)?;
+            let mut inner = Lines::new(&bytes);
+            match free_rows(alloc, &mut inner, name, Some(by), rows, cols) {
+                Ok(values) => Ok(values),
+                Err(fault) => Err(input_fault(fault)),
+            }
+        }
+    }
+}
+
+/// An array with its control record, so many rows of so many values, and the control record's line.
+#[tactic(auto, unfolding(crate::specs::Arrays::array_at))]
+pub fn read_array<V: Value, F: Folder>(
+    alloc: Global,
+    lines: &mut Lines,
+    file: &str,
+    folder: &mut F,
+    rows: u32,
+    cols: u32,
+) -> Result<(Vec<V>, u32), InputFault>
+    ensures files { F.files folder.new ≡ F.files folder.old }
+    ensures counts { InputCounts (F.faults folder.old) (F.faults folder.new) result }
+    ensures array { IsTrue (is_some (F.files folder.old)) → Gives (λ x. (x.0.items, x.1)) result lines.new (array_at V.kind (told (F.files folder.old)) file.now rows cols lines.old) }
+    ensures good { IfOk result (λ x. All V.Good x.0.items) }
+    ensures count { IfOk result (λ x. length x.0.items ≡ rows * cols) }
+{
+    let line = match next_line(alloc, lines, file) {
+        Ok(line) => line,
+        Err(fault) => return Err(input_fault(fault)),
+    };
+    let mut words = Words::of(&line);
+    let control = match control_record(alloc, &mut words, file, line.number) {
+        Ok(control) => control,
+        Err(fault) => return Err(input_fault(fault)),
+    };
+    let values = values_of(alloc, lines, file, folder, &control, rows, cols)?;
+    Ok((values, line.number))
+}
+
+/// A one-dimensional array of so many numbers, with its control record.
+#[tactic(auto, unfolding(crate::specs::Arrays::reals))]
+pub fn read_reals<F: Folder>(
+    alloc: Global,
+    lines: &mut Lines,
+    file: &str,
+    folder: &mut F,
+    count: u32,
+) -> Result<Vec<Dec>, InputFault>
+    ensures files { F.files folder.new ≡ F.files folder.old }
+    ensures counts { InputCounts (F.faults folder.old) (F.faults folder.new) result }
+    ensures array { IsTrue (is_some (F.files folder.old)) → Gives (λ v. v.items) result lines.new (reals (told (F.files folder.old)) file.now count lines.old) }
+    ensures canonical { IfOk result (λ v. All IsDec v.items) }
+    ensures count { IfOk result (λ v. length v.items ≡ count) }
+{
+    let (values, _) = read_array(alloc, lines, file, folder, 1, count)?;
+    Ok(values)
+}
+
+/// A layer of numbers, row by row, with its control record.
+#[tactic(auto, unfolding(crate::specs::Arrays::layer))]
+pub fn read_layer<F: Folder>(
+    alloc: Global,
+    lines: &mut Lines,
+    file: &str,
+    folder: &mut F,
+    rows: u32,
+    cols: u32,
+) -> Result<Vec<Dec>, InputFault>
+    ensures files { F.files folder.new ≡ F.files folder.old }
+    ensures counts { InputCounts (F.faults folder.old) (F.faults folder.new) result }
+    ensures array { IsTrue (is_some (F.files folder.old)) → Gives (λ v. v.items) result lines.new (layer (told (F.files folder.old)) file.now rows cols lines.old) }
+    ensures canonical { IfOk result (λ v. All IsDec v.items) }
+    ensures count { IfOk result (λ v. length v.items ≡ rows * cols) }
+{
+    let (values, _) = read_array(alloc, lines, file, folder, rows, cols)?;
+    Ok(values)
+}
+
+/// A layer of integers, row by row, with its control record.
+#[tactic(auto, unfolding(crate::specs::Arrays::integer_layer))]
+pub fn read_int_layer<F: Folder>(
+    alloc: Global,
+    lines: &mut Lines,
+    file: &str,
+    folder: &mut F,
+    rows: u32,
+    cols: u32,
+) -> Result<Vec<i64>, InputFault>
+    ensures files { F.files folder.new ≡ F.files folder.old }
+    ensures counts { InputCounts (F.faults folder.old) (F.faults folder.new) result }
+    ensures array { IsTrue (is_some (F.files folder.old)) → Gives (λ v. v.items) result lines.new (integer_layer (told (F.files folder.old)) file.now rows cols lines.old) }
+    ensures count { IfOk result (λ v. length v.items ≡ rows * cols) }
+{
+    let (values, _) = read_array(alloc, lines, file, folder, rows, cols)?;
+    Ok(values)
+}

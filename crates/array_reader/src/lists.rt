@@ -1,0 +1,116 @@
+ghost use Rattle.std.specs.Prelude.{◌≡◌, ◌*◌, length, replicate, IfOk, IfSome, All};
+ghost use Rattle.record_lines.specs.Reading.{GivesText, IsRefusal, appended, repeated};
+ghost use Rattle.array_reader.specs.Kinds.{with_multiplier};
+ghost use Rattle.array_reader.specs.Lists.{free_refusal, value_at, free_list, free_rows};
+
+use crate::items::number_refused;
+use crate::kinds::{Value, value_of};
+use outside::{Code, TextFault};
+use record_lines::{Free, FreeFault, Lines, refused};
+use std::alloc::{AllocError, Global};
+
+/// The refusal of a fault of a free list in this file.
+pub fn free_refused(alloc: Global, fault: FreeFault, file: &str) -> TextFault
+    ensures { IsRefusal (free_refusal file.now fault).code file.now (free_refusal file.now fault).line result }
+{
+    match fault {
+        FreeFault::EndOfFile(line) => refused(alloc, Code::EndOfFile, file, line),
+        FreeFault::BadNumber(line) => refused(alloc, Code::BadNumber, file, line),
+    }
+}
+
+/// The next value of a free list.
+#[tactic(auto, unfolding(crate::specs::Lists::value_at))]
+pub fn next_value<'a, V: Value>(
+    alloc: Global,
+    free: &mut Free<'a>,
+    lines: &mut Lines<'a>,
+    file: &str,
+    by: Option<V>,
+) -> Result<V, TextFault>
+    requires by { IfSome by V.Good }
+    ensures value { GivesText (λ x. x) result (free.new, lines.new) (value_at (with_multiplier V.kind by) file.now (free.old, lines.old)) }
+    ensures good { IfOk result V.Good }
+{
+    match free.next(lines) {
+        Err(fault) => Err(free_refused(alloc, fault, file)),
+        Ok((word, line)) => match value_of(word, by) {
+            Ok(value) => Ok(value),
+            Err(fault) => Err(number_refused(alloc, fault, file, line)),
+        },
+    }
+}
+
+/// So many values of a free list.
+fn values<'a, V: Value>(
+    alloc: Global,
+    free: &mut Free<'a>,
+    lines: &mut Lines<'a>,
+    file: &str,
+    by: Option<V>,
+    count: u32,
+) -> Result<Vec<V>, TextFault>
+    requires by { IfSome by V.Good }
+    ensures values { GivesText (λ v. v.items) result (free.new, lines.new) (repeated count (value_at (with_multiplier V.kind by) file.now) (free.old, lines.old)) }
+    ensures good { IfOk result (λ v. All V.Good v.items) }
+    ensures count { IfOk result (λ v. length v.items ≡ count) }
+{
+    let mut values = Vec::new(alloc);
+    for _ in 0..count {
+        let value = next_value(alloc, free, lines, file, by)?;
+        values.push(value)?;
+    }
+    Ok(values)
+}
+
+/// A free list of numbers, each times the multiplier where there is one.
+#[tactic(auto, unfolding(crate::specs::Lists::free_list))]
+pub fn free_list<V: Value>(
+    alloc: Global,
+    lines: &mut Lines<'_>,
+    file: &str,
+    by: Option<V>,
+    count: u32,
+) -> Result<Vec<V>, TextFault>
+    requires by { IfSome by V.Good }
+    ensures values { GivesText (λ v. v.items) result lines.new (free_list (with_multiplier V.kind by) file.now count lines.old) }
+    ensures good { IfOk result (λ v. All V.Good v.items) }
+    ensures count { IfOk result (λ v. length v.items ≡ count) }
+{
+    let mut free = Free::begin();
+    values(alloc, &mut free, lines, file, by, count)
+}
+
+/// So many free lists of one length, as one list.
+#[tactic(auto, unfolding(crate::specs::Lists::free_rows))]
+pub fn free_rows<V: Value>(
+    alloc: Global,
+    lines: &mut Lines<'_>,
+    file: &str,
+    by: Option<V>,
+    rows: u32,
+    cols: u32,
+) -> Result<Vec<V>, TextFault>
+    requires by { IfSome by V.Good }
+    ensures values { GivesText (λ v. v.items) result lines.new (free_rows (with_multiplier V.kind by) file.now rows cols lines.old) }
+    ensures good { IfOk result (λ v. All V.Good v.items) }
+    ensures count { IfOk result (λ v. length v.items ≡ rows * cols) }
+{
+    let mut values = Vec::new(alloc);
+    for _ in 0..rows {
+        let row = free_list(alloc, lines, file, by, cols)?;
+        values.extend_from_slice(&row)?;
+    }
+    Ok(values)
+}
+
+/// So many times the same value.
+pub fn constants<V: Copy>(alloc: Global, value: V, count: usize) -> Result<Vec<V>, AllocError>
+    ensures { IfOk result (λ v. v.items ≡ replicate count value) }
+{
+    let mut values = Vec::new(alloc);
+    for _ in 0..count {
+        values.push(value)?;
+    }
+    Ok(values)
+}
