@@ -1,4 +1,4 @@
-ghost use Rattle.std.specs.Prelude.{◌≡◌, ◌⊎◌, List, [], ◌++◌, map, option_map, IfSome};
+ghost use Rattle.std.specs.Prelude.{◌≡◌, ◌<◌, ◌⊎◌, List, [], ◌++◌, map, option_map, IfSome};
 ghost use Rattle.outside.specs.Puts.{Put};
 ghost use Rattle.outside.specs.Counts.{Rose};
 ghost use Rattle.engine.specs.RowDeck.{IsRow};
@@ -16,7 +16,8 @@ use std::alloc::Global;
 use std::thread::Threads;
 
 /// Does what the words ask: `run NAME` reads the row deck of that name file from the folder and puts
-/// its listing to `out`. Nothing is put to `side`, and the gate is not passed.
+/// its listing to `out`. Nothing is put to `side`. Workers in threads settle the step, and pass the gate
+/// before each turn.
 pub fn run<R: Threads + Sync, F: Folder, K: Sink + Send, W: Sink + Send, G: Gate + Sync>(
     rt: &R,
     alloc: Global,
@@ -49,10 +50,8 @@ pub fn run<R: Threads + Sync, F: Folder, K: Sink + Send, W: Sink + Send, G: Gate
         (Rose (F.faults folder.old) (F.faults folder.new) ⊎ Rose (K.seen out.old).faults (K.seen out.new).faults)
         ⊎ ((result ≡ Status.Ok) ⊎ (result ≡ Status.Memory))) }
 {
-    let _rt = rt;
     let _side = side;
-    let _gate = gate;
-    answer(alloc, words, folder, out)
+    answer(rt, alloc, words, folder, out, gate)
 }
 
 // The name of the name file, where the words are the program's name, `run` and a name.
@@ -71,7 +70,14 @@ fn name_word<'a>(words: &[&'a str]) -> Option<&'a str>
     }
 }
 
-fn answer<F: Folder, K: Sink>(alloc: Global, words: &[&str], folder: &mut F, out: &mut K) -> Status
+fn answer<R: Threads + Sync, F: Folder, K: Sink, G: Gate + Sync>(
+    rt: &R,
+    alloc: Global,
+    words: &[&str],
+    folder: &mut F,
+    out: &mut K,
+    gate: &G,
+) -> Status
     ensures files { F.files folder.new ≡ F.files folder.old }
     ensures answers { (start : _) (puts : List Put) → K.leads start puts out.old →
         (more : List Put) × K.leads start (puts ++ more) out.new
@@ -81,7 +87,7 @@ fn answer<F: Folder, K: Sink>(alloc: Global, words: &[&str], folder: &mut F, out
         return put_last(out, USAGE, Status::Usage);
     };
     match read_row_deck(alloc, folder, name) {
-        Ok(deck) => put_listing(alloc, given_rounds(), deck.cells(), out),
+        Ok(deck) => put_listing(rt, alloc, given_rounds(), deck.cells(), out, gate),
         Err(fault) => end_reading(alloc, fault, out),
     }
 }
@@ -122,15 +128,23 @@ fn end_at_step<K: Sink>(fault: StepFault, out: &mut K) -> Status
 }
 
 // The first line, the step once it is settled, and the last line.
-fn put_listing<K: Sink>(alloc: Global, rounds: u32, cells: &[RowCell], out: &mut K) -> Status
-    requires { IsRow cells.now }
+fn put_listing<R: Threads + Sync, K: Sink, G: Gate + Sync>(
+    rt: &R,
+    alloc: Global,
+    rounds: u32,
+    cells: &[RowCell],
+    out: &mut K,
+    gate: &G,
+) -> Status
+    requires row { IsRow cells.now }
+    requires some_round { 0 < rounds }
     ensures { (start : _) (puts : List Put) → K.leads start puts out.old →
         (more : List Put) × K.leads start (puts ++ more) out.new × IsRunOf rounds cells.now result more }
 {
     if let Some(status) = put_piece(out, b"HEADS 2 DIGITS 12 UNIT 2\n") {
         return status;
     }
-    let text = match solve(alloc, rounds, cells) {
+    let text = match solve(rt, alloc, rounds, cells, gate) {
         Ok(text) => text,
         Err(fault) => return end_at_step(fault, out),
     };

@@ -1,5 +1,6 @@
-ghost use Rattle.std.specs.Prelude.{◌≡◌, ◌≤◌, unsigned_abs, IfOk, MatchResult};
+ghost use Rattle.std.specs.Prelude.{◌≡◌, ◌≤◌, ◌<◌, unsigned_abs, IfOk, MatchResult};
 ghost use Rattle.step_problem.specs.Settling.{AreSettled};
+ghost use Rattle.settle_driver.specs.Phases.{IsPlan};
 ghost use Rattle.engine.specs.RowDeck.{IsRow};
 ghost use Rattle.engine.specs.Rows.{constant_head};
 ghost use Rattle.engine.specs.RowProblems.{constant_barrier, row_problem};
@@ -10,16 +11,32 @@ use crate::deck::RowCell;
 use crate::row_barrier::barrier;
 use crate::row_problem::build;
 use crate::texts::write_step;
-use settle_driver::PlainSettler;
+use outside::Gate;
+use settle_driver::{Plan, settle};
 use std::alloc::{AllocError, Global};
-use step_problem::{Bound, SettleFault, Settler};
+use std::thread::Threads;
+use step_problem::{Bound, SettleFault};
 
 /// How many plain rounds a step is given.
 #[tactic(auto, unfolding(crate::specs::RowSteps::given_rounds))]
 pub(crate) fn given_rounds() -> u32
-    ensures { result ≡ given_rounds }
+    ensures value { result ≡ given_rounds }
+    ensures some { 0 < result }
 {
     1_000_000
+}
+
+// How a step is settled: by four workers, with 64 turns for each cell in a phase.
+fn plan_of(rounds: u32) -> Plan
+    requires { 0 < rounds }
+    ensures fits { IsPlan result }
+    ensures rounds { result.rounds ≡ rounds }
+{
+    Plan {
+        workers: 4,
+        turns_per_cell: 64,
+        rounds,
+    }
 }
 
 /// Why a step has no heads.
@@ -40,14 +57,20 @@ impl From<AllocError> for StepFault {
 }
 
 // The settled pair of a row's problem.
-fn settle(alloc: Global, rounds: u32, cells: &[RowCell]) -> Result<Vec<Bound>, StepFault>
-    requires { IsRow cells.now }
+fn settle_row<R: Threads + Sync, G: Gate + Sync>(
+    rt: &R,
+    alloc: Global,
+    rounds: u32,
+    cells: &[RowCell],
+    gate: &G,
+) -> Result<Vec<Bound>, StepFault>
+    requires row { IsRow cells.now }
+    requires some_round { 0 < rounds }
     ensures { MatchResult result (λ bounds. AreSettled (row_problem cells.now) (constant_barrier (row_problem cells.now)) bounds.items) (FailsBy rounds cells.now) }
 {
     let p = build(alloc, cells)?;
     let b = barrier(alloc, &p)?;
-    let mut settler = PlainSettler::new(rounds);
-    match settler.settle(alloc, &p, &b) {
+    match settle(rt, alloc, &p, &b, plan_of(rounds), gate) {
         Ok(bounds) => Ok(bounds),
         Err(SettleFault::Unfinished(_)) => Err(StepFault::Unfinished),
         Err(SettleFault::Memory) => Err(StepFault::Memory),
@@ -96,12 +119,19 @@ fn all_heads(alloc: Global, cells: &[RowCell], bounds: &[Bound]) -> Result<Vec<B
     Ok(heads)
 }
 
-/// The piece of a row's step, once its problem is settled.
-pub(crate) fn solve(alloc: Global, rounds: u32, cells: &[RowCell]) -> Result<Vec<u8>, StepFault>
-    requires { IsRow cells.now }
+/// The piece of a row's step, once its problem is settled by workers that pass the gate.
+pub(crate) fn solve<R: Threads + Sync, G: Gate + Sync>(
+    rt: &R,
+    alloc: Global,
+    rounds: u32,
+    cells: &[RowCell],
+    gate: &G,
+) -> Result<Vec<u8>, StepFault>
+    requires row { IsRow cells.now }
+    requires some_round { 0 < rounds }
     ensures { MatchResult result (λ text. IsStepText cells.now text.items) (FailsBy rounds cells.now) }
 {
-    let bounds = settle(alloc, rounds, cells)?;
+    let bounds = settle_row(rt, alloc, rounds, cells, gate)?;
     let heads = all_heads(alloc, cells, bounds.as_slice())?;
     let text = write_step(alloc, heads.as_slice())?;
     Ok(text)

@@ -1,5 +1,8 @@
+mod meeting;
+
 use crate::{Status, run};
-use outside::{FreeGate, MemFolder, MemSink};
+use meeting::MeetingGate;
+use outside::{FreeGate, Gate, MemFolder, MemSink};
 use std::alloc::{AllocError, Global};
 use std::process::Abort;
 use std::test::Fail;
@@ -7,6 +10,9 @@ use std::thread::Threads;
 
 const THREE_CELLS: &[u8] =
     b"HEADS 2 DIGITS 12 UNIT 2\nSTEP 1 1\nHEAD 1 1 1 10.000000000 10.000000000\nHEAD 1 1 2 15.000000000 15.000000000\nHEAD 1 1 3 20.000000000 20.000000000\nEND\n";
+
+const FOUR_CELLS: &[u8] =
+    b"HEADS 2 DIGITS 12 UNIT 2\nSTEP 1 1\nHEAD 1 1 1 0.000000000 0.000000000\nHEAD 1 1 2 3.333333333 3.333333334\nHEAD 1 1 3 6.666666666 6.666666667\nHEAD 1 1 4 10.000000000 10.000000000\nEND\n";
 
 const USAGE: &[u8] =
     b"USAGE: heads run NAME [--digits S] [--workers W] [--rounds P] [--zones Z] [--watch N] | heads check NAME LISTING [--digits S] | heads make SEED SIZE | heads batch LIST [--digits S] [--workers W] [--rounds P]\n";
@@ -30,26 +36,46 @@ fn three_cells(alloc: Global) -> Result<MemFolder, AllocError> {
     Ok(folder)
 }
 
+// Two variable cells between constant heads 0 and 10.
+fn four_cells(alloc: Global) -> Result<MemFolder, AllocError> {
+    let mut folder = three_cells(alloc)?;
+    folder.add(
+        "a.dis",
+        b"1 1 4 1 4 2\n0\nCONSTANT 1\nCONSTANT 1\nCONSTANT 1\nCONSTANT 0\n1 1 1 SS\n",
+    )?;
+    folder.add(
+        "a.bas",
+        b"FREE\nINTERNAL 1 (FREE) -1\n-1 1 1 -1\n-999.99\nINTERNAL 1 (FREE) -1\n0 0 0 10\n",
+    )?;
+    Ok(folder)
+}
+
 // Runs these words over the folder, and compares how the run ends and what it has put.
 fn expect_run<R: Threads + Abort + Sync>(
     rt: &R,
     alloc: Global,
     words: &[&str],
+    folder: MemFolder,
+    out: MemSink,
+    end: u8,
+    bytes: &[u8],
+) {
+    expect_run_at(rt, alloc, words, folder, out, &FreeGate, end, bytes);
+}
+
+// The same, with this gate.
+fn expect_run_at<R: Threads + Abort + Sync, G: Gate + Sync>(
+    rt: &R,
+    alloc: Global,
+    words: &[&str],
     mut folder: MemFolder,
     mut out: MemSink,
+    gate: &G,
     end: u8,
     bytes: &[u8],
 ) {
     let mut side = MemSink::new(alloc);
-    let status = run(
-        rt,
-        alloc,
-        words,
-        &mut folder,
-        &mut out,
-        &mut side,
-        &FreeGate,
-    );
+    let status = run(rt, alloc, words, &mut folder, &mut out, &mut side, gate);
     assert_eq!(rt; status.code(), end);
     assert_eq!(rt; out.bytes(), bytes);
     assert_eq!(rt; side.bytes(), b"".as_slice());
@@ -74,26 +100,34 @@ fn three_cells_have_their_listing(rt: HostRuntime) -> Result<(), Fail> {
 #[test]
 fn four_cells_are_bounded_by_both_roundings(rt: HostRuntime) -> Result<(), Fail> {
     let alloc = rt.alloc();
-    let mut folder = three_cells(alloc)?;
-    folder.add(
-        "a.dis",
-        b"1 1 4 1 4 2\n0\nCONSTANT 1\nCONSTANT 1\nCONSTANT 1\nCONSTANT 0\n1 1 1 SS\n",
-    )?;
-    folder.add(
-        "a.bas",
-        b"FREE\nINTERNAL 1 (FREE) -1\n-1 1 1 -1\n-999.99\nINTERNAL 1 (FREE) -1\n0 0 0 10\n",
-    )?;
-    let listing =
-        b"HEADS 2 DIGITS 12 UNIT 2\nSTEP 1 1\nHEAD 1 1 1 0.000000000 0.000000000\nHEAD 1 1 2 3.333333333 3.333333334\nHEAD 1 1 3 6.666666666 6.666666667\nHEAD 1 1 4 10.000000000 10.000000000\nEND\n";
     expect_run(
         &rt,
         alloc,
         &["heads", "run", "a.nam"],
-        folder,
+        four_cells(alloc)?,
         MemSink::new(alloc),
         0,
-        listing,
+        FOUR_CELLS,
     );
+    Ok(())
+}
+
+#[test]
+fn four_workers_meet_at_the_gate(rt: HostRuntime) -> Result<(), Fail> {
+    let alloc = rt.alloc();
+    let gate = MeetingGate::new(alloc)?;
+    expect_run_at(
+        &rt,
+        alloc,
+        &["heads", "run", "a.nam"],
+        four_cells(alloc)?,
+        MemSink::new(alloc),
+        &gate,
+        0,
+        FOUR_CELLS,
+    );
+    assert_eq!(rt; gate.failures(), 0);
+    assert!(rt; gate.phases().is_some_and(|phases| phases > 0));
     Ok(())
 }
 

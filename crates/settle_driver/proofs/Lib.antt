@@ -3,3 +3,5 @@ pub mod Sweeping
 pub mod Settling
 pub mod Opening
 pub mod Answering
+pub mod Gathering
+pub mod Phasing

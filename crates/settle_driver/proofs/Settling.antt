@@ -26,7 +26,7 @@ swept_never p old ok words = record {
   high = λ edge b. covers_none (high_side p ok) edge (upper_at old) b;
 }
 
-one_more : {Le : ℤ → ℤ → Type 0} {Moves : ℕ → ℤ → (ℕ → ℤ) → Type 0} {n : ℕ} → IsSide Le Moves n → (k : ℕ) (edge w next : ℕ → ℤ) → CoversRounds Le Moves n k edge w → ((c : ℕ) → c < n → IsPast Le Moves n w c (next c)) → CoversRounds Le Moves n (k + 1) edge next
+pub one_more : {Le : ℤ → ℤ → Type 0} {Moves : ℕ → ℤ → (ℕ → ℤ) → Type 0} {n : ℕ} → IsSide Le Moves n → (k : ℕ) (edge w next : ℕ → ℤ) → CoversRounds Le Moves n k edge w → ((c : ℕ) → c < n → IsPast Le Moves n w c (next c)) → CoversRounds Le Moves n (k + 1) edge next
 one_more {Le} {Moves} {n} s k edge w next before past =
     subst (λ (i : ℕ). CoversRounds Le Moves n i edge next) (sym (add-one k)) (covers_more s k edge w next before (past_covers s w next past))
 

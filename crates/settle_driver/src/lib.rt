@@ -2,10 +2,17 @@
 #![tactic(auto)]
 
 mod open;
+mod phases;
 mod plain;
+mod plan;
 mod sweep;
+mod thread_settler;
+mod threads;
 
 pub use plain::PlainSettler;
+pub use plan::Plan;
+pub use thread_settler::{SettleBy, ThreadSettler};
+pub use threads::settle;
 
 #[cfg(test)]
 mod tests;

@@ -1,0 +1,15 @@
+use Rattle.std.proofs.Common.{◌≡◌, ◌++◌, List, All}
+use Rattle.head_table.specs.declared.table.HeadSeat.{HeadSeat}
+use Rattle.head_table.specs.BySide.{AreNoLooser}
+use Rattle.head_table.specs.Seats.{IsSeatOf, seen_of}
+use Rattle.settle_driver.proofs.phases.gather.Given as goal
+
+abbrev pub invariant-loop-other : goal.invariant-loop-other
+invariant-loop-other l = record {
+  seat : IsSeatOf l.table l.seat;
+  rest : All (λ s. IsSeatOf l.table s) l.seats.items;
+  done : (gone : List HeadSeat) × (l.initial.seats.items ≡ l.seats.items ++ gone) × All (λ s. AreNoLooser l.table.problem.now (seen_of s) (seen_of l.seat)) gone;
+}
+
+abbrev pub decreases-loop-other : goal.decreases-loop-other
+decreases-loop-other l = goal.left-loop-other l

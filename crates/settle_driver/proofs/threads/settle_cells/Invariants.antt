@@ -1,0 +1,12 @@
+use Rattle.std.proofs.Common.{◌<◌}
+use Rattle.std.specs.Prelude.{MatchOption}
+use Rattle.step_problem.specs.Settling.{IsFirstOpen}
+use Rattle.settle_driver.specs.Sweeps.{AreBothSettled}
+use Rattle.settle_driver.proofs.Phasing.{ArePhased}
+use Rattle.settle_driver.proofs.threads.settle_cells.Given as goal
+
+abbrev pub invariant-loop-round : goal.invariant-loop-round
+invariant-loop-round g l = record {
+  phased : ArePhased l.p l.b l._round l.words.items;
+  tested : 0 < l._round → MatchOption l.open (AreBothSettled l.p l.words.items) (λ o. IsFirstOpen l.p l.words.items o.0 o.1);
+}

@@ -1,0 +1,32 @@
+-- What seats know in a phase, and what phases make of a barrier's own words.
+use Rattle.std.specs.Prelude.{◌≡◌, ℕ, ◌%◌, ◌+◌, ◌*◌, ◌<◌, ◌≤◌, List, length}
+use Rattle.step_problem.specs.declared.heads.Bound.{Bound}
+use Rattle.head_table.specs.declared.table.HeadTable.{HeadTable}
+use Rattle.head_table.specs.declared.table.HeadSeat.{HeadSeat}
+use Rattle.head_table.specs.BySide.{AreNoLooser, IsRaised, IsSunk}
+use Rattle.head_table.specs.Seats.{IsSeatOf, low_seen, high_seen, seen_of}
+use Rattle.settle_driver.specs.declared.plan.Plan.{Plan}
+
+-- workers from 1 to 64, at most 1024 turns for each cell, and at least one round
+pub record IsPlan (plan : Plan) : Type 0 where
+  pub some_worker : 1 ≤ plan.workers
+  pub workers : plan.workers ≤ 64
+  pub turns : plan.turns_per_cell ≤ 1024
+  pub some_round : 1 ≤ plan.rounds
+
+-- each of so many workers makes so many turns: together all turns, and no worker one that is not needed
+pub record AreShared (turns workers each : ℕ) : Type 0 where
+  pub enough : turns ≤ workers * each
+  pub no_more : workers * each < turns + workers
+
+-- a seat of the table has seen just these heads
+pub record HasSeen (t : HeadTable) (seen : List Bound) (s : HeadSeat) : Type 0 where
+  pub seat : IsSeatOf t s
+  pub seen_is : seen_of s ≡ seen
+
+-- what the worker of number i, of so many, leaves of its seat: at each cell of its own it has seen the raise and the sink value
+pub record HasWorked (t : HeadTable) (i workers : ℕ) (a b : HeadSeat) : Type 0 where
+  pub seat : IsSeatOf t b
+  pub raised : (c : ℕ) → c < length t.problem.now → c % workers ≡ i → IsRaised t.problem.now (low_seen a) c (low_seen b c)
+  pub sunk : (c : ℕ) → c < length t.problem.now → c % workers ≡ i → IsSunk t.problem.now (high_seen a) c (high_seen b c)
+  pub no_looser : AreNoLooser t.problem.now (seen_of a) (seen_of b)

@@ -1,0 +1,133 @@
+// One phase: the seats are dealt, the workers make their turns, the seats are joined, and the table is closed.
+ghost use Rattle.std.specs.Prelude.{◌≡◌, ℕ, ◌+◌, ◌%◌, ◌<◌, ◌≤◌, length, slice_index_or, IfOk, All, vec_len};
+ghost use Rattle.step_problem.specs.Heads.{AreOnTheWay};
+ghost use Rattle.head_table.specs.declared.table.HeadSeat.{HeadSeat};
+ghost use Rattle.head_table.specs.BySide.{AreNoLooser};
+ghost use Rattle.head_table.specs.Seats.{IsSeatOf, seen_of};
+ghost use Rattle.settle_driver.specs.Phases.{HasSeen, HasWorked, IsPlan};
+ghost use Rattle.settle_driver.specs.Sweeps.{IsPastCell};
+
+use crate::plan::{Plan, turns_of_each};
+use head_table::{HeadSeat, HeadTable};
+use outside::Gate;
+use relax_worker::{own_turns, work};
+use std::alloc::{AllocError, Global};
+use std::thread;
+use std::thread::Threads;
+use step_problem::{Barrier, Bound, Problem};
+
+// So many seats more, which have seen what this one has.
+fn deal(
+    alloc: Global,
+    table: &HeadTable,
+    seat: &mut HeadSeat,
+    workers: usize,
+) -> Result<Vec<HeadSeat>, AllocError>
+    requires { IsSeatOf table.now seat.old }
+    ensures seat { IsSeatOf table.now seat.new × (seen_of seat.new ≡ seen_of seat.old) }
+    ensures count { IfOk result (λ v. vec_len v ≡ workers) }
+    ensures each { IfOk result (λ v. All (λ s. HasSeen table.now (seen_of seat.old) s) v.items) }
+{
+    let mut seats = Vec::with_capacity(alloc, workers)?;
+    for _i in 0..workers {
+        seats.push(table.split(seat))?;
+    }
+    Ok(seats)
+}
+
+// Joins all the seats into one.
+fn gather(table: &HeadTable, seat: &mut HeadSeat, mut seats: Vec<HeadSeat>)
+    requires seat { IsSeatOf table.now seat.old }
+    requires seats { All (λ s. IsSeatOf table.now s) seats.items }
+    ensures seat { IsSeatOf table.now seat.new }
+    ensures tight { All (λ s. AreNoLooser table.now.problem.now (seen_of s) (seen_of seat.new)) seats.items }
+{
+    while let Some(other) = seats.pop() {
+        table.join(seat, other);
+    }
+}
+
+// What the worker of number i does in a phase.
+fn work_one<G: Gate>(
+    table: &HeadTable,
+    seat: &mut HeadSeat,
+    i: usize,
+    workers: usize,
+    turns: u32,
+    gate: &G,
+)
+    requires seat { IsSeatOf table.now seat.old }
+    requires some_cell { 0 < length table.now.problem.now }
+    requires workers { (i < workers) × (workers ≤ 64) }
+    ensures { HasWorked table.now i workers seat.old seat.new }
+{
+    // The problem's conditions come with its length.
+    let _cells = table.problem().len();
+    let worker = i as u32 + 1;
+    work(table, seat, worker, turns, gate);
+    own_turns(table, seat, worker, workers as u32);
+}
+
+// Each seat has its worker.
+fn work_at<R: Threads + Sync, G: Gate + Sync>(
+    rt: &R,
+    table: &HeadTable,
+    seats: &mut [HeadSeat],
+    turns: u32,
+    gate: &G,
+)
+    requires seats { All (λ s. IsSeatOf table.now s) seats.old }
+    requires some_cell { 0 < length table.now.problem.now }
+    requires workers { (1 ≤ length seats.old) × (length seats.old ≤ 64) }
+    ensures { (i : ℕ) (d : HeadSeat) → i < length seats.old → HasWorked table.now i (length seats.old) (slice_index_or seats.old i d) (slice_index_or seats.new i d) }
+{
+    let workers = seats.len();
+    thread::for_each_mut(
+        rt,
+        seats,
+        workers,
+        &|i, seat| work_one(table, seat, i, workers, turns, gate),
+    );
+}
+
+// The seats after their workers' turns.
+fn worked<R: Threads + Sync, G: Gate + Sync>(
+    rt: &R,
+    table: &HeadTable,
+    mut seats: Vec<HeadSeat>,
+    turns: u32,
+    gate: &G,
+) -> Vec<HeadSeat>
+    requires seats { All (λ s. IsSeatOf table.now s) seats.items }
+    requires some_cell { 0 < length table.now.problem.now }
+    requires workers { (1 ≤ vec_len seats) × (vec_len seats ≤ 64) }
+    ensures count { vec_len result ≡ vec_len seats }
+    ensures each { (i : ℕ) (d : HeadSeat) → i < vec_len seats → HasWorked table.now i (vec_len seats) (slice_index_or seats.items i d) (slice_index_or result.items i d) }
+{
+    work_at(rt, table, seats.as_mut_slice(), turns, gate);
+    seats
+}
+
+/// The words after a phase. All memory but that of the words is taken before the first turn.
+pub(crate) fn phase<R: Threads + Sync, G: Gate + Sync>(
+    rt: &R,
+    alloc: Global,
+    p: &Problem,
+    b: &Barrier,
+    words: &Vec<Bound>,
+    plan: Plan,
+    gate: &G,
+) -> Result<Vec<Bound>, AllocError>
+    requires way { AreOnTheWay p.now b.now words.now.items }
+    requires some_cell { 0 < length p.now }
+    requires plan { IsPlan plan }
+    ensures way { IfOk result (λ v. AreOnTheWay p.now b.now v.items) }
+    ensures past { IfOk result (λ v. (c : ℕ) → c < length p.now → IsPastCell p.now words.now.items v.items c) }
+{
+    let turns = turns_of_each(plan, p.len() as u32);
+    let (table, mut seat) = HeadTable::new(alloc, p, b, words)?;
+    let seats = deal(alloc, &table, &mut seat, plan.workers as usize)?;
+    let seats = worked(rt, &table, seats, turns, gate);
+    gather(&table, &mut seat, seats);
+    table.close(seat)
+}

@@ -1,0 +1,74 @@
+// Settlers by workers in threads.
+ghost use Rattle.std.specs.Prelude.{◌≡◌, ◌≤◌};
+ghost use Rattle.step_problem.specs.Heads.{IsBarrier};
+ghost use Rattle.step_problem.specs.Settling.{Settles};
+ghost use Rattle.settle_driver.specs.Phases.{IsPlan};
+
+use crate::plan::Plan;
+use crate::threads::settle;
+use outside::Gate;
+use std::alloc::Global;
+use std::thread::Threads;
+use step_problem::{Barrier, Bound, Problem, SettleFault, Settler};
+
+/// Settles by workers in threads, with the handle and the gate that it borrows.
+#[derive(Drop)]
+pub struct ThreadSettler<'a, R: Threads + Sync, G: Gate + Sync> {
+    rt: &'a R,
+    gate: &'a G,
+    plan: Plan,
+    pub ghost plan_fits: { IsPlan plan },
+}
+
+impl<'a, R: Threads + Sync, G: Gate + Sync> ThreadSettler<'a, R, G> {
+    pub fn new(rt: &'a R, plan: Plan, gate: &'a G) -> ThreadSettler<'a, R, G>
+        requires { IsPlan plan }
+        ensures { result.plan ≡ plan }
+    {
+        ThreadSettler { rt, gate, plan }
+    }
+
+    pub fn settle(&self, alloc: Global, p: &Problem, b: &Barrier) -> Result<Vec<Bound>, SettleFault>
+        requires { IsBarrier p.now b.now }
+        ensures { Settles p.now b.now self.now.plan.rounds result }
+    {
+        settle(self.rt, alloc, p, b, self.plan, self.gate)
+    }
+}
+
+/// A settler by a closure: it is ready where the closure may be called with every problem and barrier, and
+/// settles them with so many rounds. A function that has the handle writes it over a `ThreadSettler`.
+#[derive(Drop)]
+pub struct SettleBy<F: Fn(Global, &Problem, &Barrier) -> Result<Vec<Bound>, SettleFault> + Drop> {
+    rounds: u32,
+    call: F,
+}
+
+impl<F: Fn(Global, &Problem, &Barrier) -> Result<Vec<Bound>, SettleFault> + Drop> SettleBy<F> {
+    pub fn new(rounds: u32, call: F) -> SettleBy<F>
+        ensures { (result.rounds ≡ rounds) × (result.call ≡ call) }
+    {
+        SettleBy { rounds, call }
+    }
+}
+
+impl<F: Fn(Global, &Problem, &Barrier) -> Result<Vec<Bound>, SettleFault> + Drop> Settler
+    for SettleBy<F> {
+    ghost use Rattle.std.specs.Prelude.{List};
+    ghost use Rattle.std.specs.Borrow.{Bor};
+    ghost use Rattle.step_problem.specs.Entries.{Entries};
+    ghost use Rattle.step_problem.specs.Heads.{Edges};
+
+    ghost rounds = { λ s. s.rounds };
+
+    ghost ready = { λ s. (a : _) (p : Bor (List Entries)) (b : Bor Edges) → IsBarrier p.now b.now → F.pre s.call a p b × ((r : _) → F.post s.call a p b r → Settles p.now b.now s.rounds r) };
+
+    fn settle(
+        &mut self,
+        alloc: Global,
+        p: &Problem,
+        b: &Barrier,
+    ) -> Result<Vec<Bound>, SettleFault> {
+        (self.call)(alloc, p, b)
+    }
+}
