@@ -1,0 +1,270 @@
+-- The search by levels: after k steps just the cells of a level up to k are marked, those of level k are the frontier, and each has its path.
+use Rattle.std.proofs.Common.{◌≡◌, ℕ, zero, suc, ◌+◌, ◌<◌, ◌≤◌, ◌⊎◌, inl, inr, refl, sym, ◌∙◌, ap, subst, arith, List, [], length, Contains, min, Option, None, Some, All, take, take_at, ◌++◌, slice_index, get_or}
+use Rattle.std.proofs.lemmas.Bool.{cases_eq, cases_lt}
+use Rattle.std.proofs.lemmas.List.{get_or_default, get_or_past}
+use Rattle.std.proofs.lemmas.List.Elements.{Contains-get_or}
+use Rattle.step_problem.specs.declared.entry.Link.{Link}
+use Rattle.step_problem.specs.Entries.{Entries, entries_at, link_at, no_link}
+use Rattle.step_problem.specs.Conditions.{IsProblem}
+use Rattle.cell_balance.specs.Components.{Reaches}
+use Rattle.barrier_vector.specs.Paths.{ceil_over, LeadsToRoot, IsLevel, IsParent, SumsTo, IsPath}
+use Rattle.barrier_vector.specs.Spreads.{mark_at, unmarked, LinkLeads, FrontLeads, Spreads}
+use Rattle.barrier_vector.specs.Searches.{path_limit, ListRoot, IsNearest, ContinuesTo, IsSearched, IsStart}
+use Rattle.barrier_vector.proofs.Spreading.{no_both}
+use Rattle.barrier_vector.proofs.Extending.{place_of}
+use Rattle.barrier_vector.proofs.Backs.{has_links, leads_within, back}
+
+pub record IsUpTo (p : List Entries) (q : ℕ) (own : List (Option ℕ)) (k : ℕ) (levels : List (Option ℕ)) (paths front : List ℕ) : Type 0 where
+  pub levels_whole : length levels ≡ length p
+  pub paths_whole : length paths ≡ length p
+  pub exact : (c j : ℕ) → mark_at levels c ≡ Some j → IsLevel p q (ListRoot own) c j × (j ≤ k)
+  pub found : (c j : ℕ) → j ≤ k → LeadsToRoot p q (ListRoot own) j c → (m : ℕ) × (mark_at levels c ≡ Some m)
+  pub front_of : (c : ℕ) → Contains front c → mark_at levels c ≡ Some k
+  pub in_front : (c : ℕ) → mark_at levels c ≡ Some k → Contains front c
+  pub room : 0 < length front → k + unmarked levels < length p
+  pub path : (c j : ℕ) → mark_at levels c ≡ Some j → (s : ℕ) × SumsTo p q (ListRoot own) j c s × (slice_index paths c ≡ min s path_limit)
+
+pub same_some : (o : Option ℕ) (i j : ℕ) → o ≡ Some i → o ≡ Some j → i ≡ j
+same_some o i j e f = cc
+
+pub marked_or_not : (o : Option ℕ) → (o ≡ None) ⊎ ((d : ℕ) × (o ≡ Some d))
+marked_or_not None = inl refl
+marked_or_not (Some d) = inr (d, refl)
+
+-- a marked place lies in the list
+pub marked_within : (m : List (Option ℕ)) (c v : ℕ) → mark_at m c ≡ Some v → c < length m
+marked_within m c v e = elim (cases_lt c (length m)) [ inl h ↦ h | inr past ↦ absurd (no_both (mark_at m c) v (get_or_past m c None past) e) ]
+
+-- where in a list a link stands
+pub link_place : (xs : List Link) (x : Link) → Contains xs x → (j : ℕ) × (j < length xs) × (link_at xs j ≡ x)
+link_place xs x has = (has.0, has.1, get_or_default xs has.0 no_link x has.1 ∙ has.2)
+
+pub no_member : (c : ℕ) → Contains [] c → ⊥
+no_member c has = omega (arith, has.1)
+
+module _ (p : List Entries) (ok : IsProblem p) (q : ℕ) (own : List (Option ℕ)) where
+  abbrev Leads : ℕ → ℕ → Type 0
+  Leads = LeadsToRoot p q (ListRoot own)
+
+  -- one link more
+  one_more : (j c : ℕ) (x : Link) → Contains (entries_at p c).links x → Leads j x.cell → Leads (suc j) c
+  one_more j c x has l = record { root = l.root; drop = l.drop; is_root = l.is_root; reaches = (x, has, l.reaches) }
+
+  -- a link to cell c leads from it too
+  turned : (f c : ℕ) → LinkLeads (entries_at p f).links (length (entries_at p f).links) c → (z : Link) × Contains (entries_at p c).links z × (z.cell ≡ f)
+  turned f c (j, h, e) =
+      let x = link_at (entries_at p f).links j in
+      let has : Contains (entries_at p f).links x = Contains-get_or (entries_at p f).links j no_link h in
+      (record { cell = f; lo = x.lo; hi = x.hi }, subst (λ (z : ℕ). Contains (entries_at p z).links (record { cell = f; lo = x.lo; hi = x.hi })) e (back p ok f x has), refl)
+
+  -- and a link from cell c leads to it too
+  targeted : (c : ℕ) (x : Link) → Contains (entries_at p c).links x → LinkLeads (entries_at p x.cell).links (length (entries_at p x.cell).links) c
+  targeted c x has = let (j, h, e) = link_place (entries_at p x.cell).links _ (back p ok c x has) in (j, h, ap (λ (z : Link). z.cell) e)
+
+  one_level : (c j k : ℕ) → IsLevel p q (ListRoot own) c j → IsLevel p q (ListRoot own) c k → j ≡ k
+  one_level c j k a b = let x = a.least k b.leads in let y = b.least j a.leads in omega (arith, x, y)
+
+  pub up_to_start : (levels : List (Option ℕ)) (paths front : List ℕ) → length own ≡ length p → IsStart own levels paths front → IsUpTo p q own 0 levels paths front
+  up_to_start levels paths front whole s = record {
+    levels_whole = s.levels_whole ∙ whole;
+    paths_whole = s.paths_whole ∙ whole;
+    exact = λ c j e. let (d, is) = rooted c j e in (record { leads = record { root = c; drop = d; is_root = is; reaches = subst (λ (n : ℕ). Reaches p n c c) (zero_is c d j is e) refl }; least = λ i l. at_zero c d j i is e }, at_zero c d j 0 is e);
+    found = λ c j h l. let none : j ≡ 0 = omega arith in (0, (s.root c l.drop (subst (λ (z : ℕ). mark_at own z ≡ Some l.drop) (sym (subst (λ (n : ℕ). Reaches p n c l.root) none l.reaches)) l.is_root)).0);
+    front_of = λ c has. let (d, is) = s.listed c has in (s.root c d is).0;
+    in_front = λ c e. let (d, is) = rooted c 0 e in (s.root c d is).2;
+    room = λ h. roomy h;
+    path = λ c j e. let (d, is) = rooted c j e in (d, subst (λ (n : ℕ). SumsTo p q (ListRoot own) n c d) (zero_is c d j is e) is, (s.root c d is).1);
+  }
+    where
+      rooted : (c j : ℕ) → mark_at levels c ≡ Some j → (d : ℕ) × (mark_at own c ≡ Some d)
+      rooted c j e = elim (marked_or_not (mark_at own c)) [ inl none ↦ absurd (no_both (mark_at levels c) j (s.other c none) e) | inr some ↦ some ]
+
+      zero_is : (c d j : ℕ) → mark_at own c ≡ Some d → mark_at levels c ≡ Some j → 0 ≡ j
+      zero_is c d j is e = same_some (mark_at levels c) 0 j (s.root c d is).0 e
+
+      at_zero : (c d j i : ℕ) → mark_at own c ≡ Some d → mark_at levels c ≡ Some j → j ≤ i
+      at_zero c d j i is e = let z = zero_is c d j is e in omega (arith, z)
+
+      roomy : 0 < length front → 0 + unmarked levels < length p
+      roomy h = let n = s.count in omega (arith, n, whole, h)
+
+  module _ (k : ℕ) (levels levels' : List (Option ℕ)) (paths paths' front next : List ℕ)
+      (u : IsUpTo p q own k levels paths front)
+      (s : Spreads (FrontLeads p front (length front)) (suc k) levels levels' [] next)
+      (same_paths : length paths' ≡ length paths)
+      (others : (c : ℕ) → (Contains next c → ⊥) → slice_index paths' c ≡ slice_index paths c)
+      (goes : (c : ℕ) → Contains next c → ContinuesTo p q levels' k paths c (slice_index paths' c))
+    where
+      stays : (c m : ℕ) → mark_at levels c ≡ Some m → mark_at levels' c ≡ Some m
+      stays c m e = elim (s.each c) [ inl same ↦ same ∙ e | inr (n, _, _, _) ↦ absurd (no_both _ m n e) ]
+
+      before : (c j : ℕ) → mark_at levels' c ≡ Some j → (mark_at levels c ≡ Some j) ⊎ ((mark_at levels c ≡ None) × (j ≡ suc k) × FrontLeads p front (length front) c × Contains next c)
+      before c j e = elim (s.each c) [ inl same ↦ inl (sym same ∙ e) | inr (n, m, t, has) ↦ inr (n, same_some (mark_at levels' c) j (suc k) e m, t, has) ]
+
+      -- the neighbour in the frontier
+      neighbour : (c : ℕ) → FrontLeads p front (length front) c → (z : Link) × Contains (entries_at p c).links z × (mark_at levels z.cell ≡ Some k)
+      neighbour c (i, h, t) =
+          let (z, has, is) = turned (slice_index front i) c t in
+          (z, has, subst (λ (n : ℕ). mark_at levels n ≡ Some k) (sym is) (u.front_of (slice_index front i) (Contains-get_or front i 0 h)))
+
+      new_level : (c : ℕ) → mark_at levels c ≡ None → FrontLeads p front (length front) c → IsLevel p q (ListRoot own) c (suc k)
+      new_level c none t =
+          let (z, has, is) = neighbour c t in
+          record {
+            leads = one_more k c z has (u.exact z.cell k is).0.leads;
+            least = λ j l. elim (cases_lt k j) [ inl less ↦ omega (arith, less) | inr more ↦ let (m, e) = u.found c j more l in absurd (no_both (mark_at levels c) m none e) ];
+          }
+
+      exact' : (c j : ℕ) → mark_at levels' c ≡ Some j → IsLevel p q (ListRoot own) c j × (j ≤ suc k)
+      exact' c j e =
+          elim (before c j e) [
+            | inl old ↦ let (l, le) = u.exact c j old in (l, omega (arith, le))
+            | inr (none, is, t, has) ↦ (subst (λ (n : ℕ). IsLevel p q (ListRoot own) c n) (sym is) (new_level c none t), omega (arith, is))
+          ]
+
+      found_next : (c : ℕ) → Leads (suc k) c → (m : ℕ) × (mark_at levels' c ≡ Some m)
+      found_next c l =
+          let (x, has, way) = l.reaches in
+          let (m, e) = u.found x.cell k (omega arith) (record { root = l.root; drop = l.drop; is_root = l.is_root; reaches = way }) in
+          let (level, le) = u.exact x.cell m e in
+          elim (cases_lt m k) [
+            | inl less ↦ let (m', e') = u.found c (suc m) (omega (arith, less)) (one_more m c x has level.leads) in (m', stays c m' e')
+            | inr more ↦
+                let at : m ≡ k = omega (arith, le, more) in
+                let (i, h, is) = place_of front x.cell (u.in_front x.cell (subst (λ (n : ℕ). mark_at levels x.cell ≡ Some n) at e)) in
+                s.covers c (i, h, subst (λ (n : ℕ). LinkLeads (entries_at p n).links (length (entries_at p n).links) c) (sym is) (targeted c x has))
+          ]
+
+      found' : (c j : ℕ) → j ≤ suc k → Leads j c → (m : ℕ) × (mark_at levels' c ≡ Some m)
+      found' c j h l =
+          elim (cases_lt k j) [
+            | inl past ↦ let at : j ≡ suc k = omega (arith, past, h) in found_next c (subst (λ (n : ℕ). Leads n c) at l)
+            | inr more ↦ let (m, e) = u.found c j more l in (m, stays c m e)
+          ]
+
+      next_of : (c : ℕ) → Contains next c → (mark_at levels c ≡ None) × (mark_at levels' c ≡ Some (suc k))
+      next_of c has = elim (s.listed c has) [ inl wrong ↦ absurd (no_member c wrong) | inr both ↦ both ]
+
+      in_next : (c : ℕ) → mark_at levels' c ≡ Some (suc k) → Contains next c
+      in_next c e = elim (before c (suc k) e) [ inl old ↦ let le = (u.exact c (suc k) old).1 in absurd (omega (arith, le)) | inr (_, _, _, has) ↦ has ]
+
+      room' : 0 < length next → suc k + unmarked levels' < length p
+      room' h =
+          let one : Contains next (slice_index next 0) = Contains-get_or next 0 0 h in
+          let (none, some) = next_of (slice_index next 0) one in
+          elim (before (slice_index next 0) (suc k) some) [
+            | inl old ↦ absurd (no_both _ (suc k) none old)
+            | inr (_, _, t, _) ↦ let (i, less, _) = t in let enough = u.room (omega (arith, less)) in let n = s.count in counted (unmarked levels) (unmarked levels') (length next) n enough h
+          ]
+        where
+          counted : (a b n : ℕ) → b + n ≡ a + 0 → k + a < length p → 0 < n → suc k + b < length p
+          counted a b n e l h = omega arith
+
+      -- the parent is the nearest neighbour of the level before
+      is_parent : (c : ℕ) (x : Link) → IsNearest (entries_at p c).links levels' k (length (entries_at p c).links) x → IsParent p q (ListRoot own) k c x
+      is_parent c x near = record {
+        has = near.has;
+        level = (exact' x.cell k near.level_is).0;
+        least = λ z has level.
+            let (m, e) = found' z.cell k (omega arith) level.leads in
+            let at = one_level z.cell m k (exact' z.cell m e).0 level in
+            let (j, h, is) = link_place (entries_at p c).links z has in
+            subst (λ (y : Link). x.cell ≤ y.cell) is (near.least j h (subst (λ (y : Link). mark_at levels' y.cell ≡ Some k) (sym is) (subst (λ (n : ℕ). mark_at levels' z.cell ≡ Some n) at e)));
+      }
+
+      new_path : (c : ℕ) → mark_at levels c ≡ None → FrontLeads p front (length front) c → Contains next c → (s : ℕ) × SumsTo p q (ListRoot own) (suc k) c s × (slice_index paths' c ≡ min s path_limit)
+      new_path c none t has =
+          elim (goes c has) [
+            | inr apart ↦
+                let (z, on, is) = neighbour c t in
+                let (j, h, at) = link_place (entries_at p c).links z on in
+                absurd (apart j h (subst (λ (y : Link). mark_at levels' y.cell ≡ Some k) (sym at) (stays z.cell k is)))
+            | inl (x, near, is) ↦
+                let old = elim (before x.cell k near.level_is) as (λ w. mark_at levels x.cell ≡ Some k) [ inl o ↦ o | inr (_, wrong, _, _) ↦ absurd (omega (arith, wrong)) ] in
+                let (rest, sum, cut) = u.path x.cell k old in
+                (ceil_over q x.lo + rest, (x, is_parent c x near, rest, sum, refl), is ∙ capped (ceil_over q x.lo) rest (slice_index paths x.cell) cut)
+          ]
+        where
+          capped : (d r v : ℕ) → v ≡ min r path_limit → min (d + v) path_limit ≡ min (d + r) path_limit
+          capped d r v e = omega arith
+
+      path' : (c j : ℕ) → mark_at levels' c ≡ Some j → (s : ℕ) × SumsTo p q (ListRoot own) j c s × (slice_index paths' c ≡ min s path_limit)
+      path' c j e =
+          elim (before c j e) [
+            | inl old ↦ let (t, sum, cut) = u.path c j old in (t, sum, others c (λ has. no_both _ j (next_of c has).0 old) ∙ cut)
+            | inr (none, is, t, has) ↦ let (v, sum, cut) = new_path c none t has in (v, subst (λ (n : ℕ). SumsTo p q (ListRoot own) n c v) (sym is) sum, cut)
+          ]
+
+      pub up_to_more : IsUpTo p q own (suc k) levels' paths' next
+      up_to_more = record {
+        levels_whole = s.same ∙ u.levels_whole;
+        paths_whole = same_paths ∙ u.paths_whole;
+        exact = exact';
+        found = found';
+        front_of = λ c has. (next_of c has).1;
+        in_front = in_next;
+        room = room';
+        path = path';
+      }
+
+  module _ (levels : List (Option ℕ)) (paths front : List ℕ) (u : IsUpTo p q own (length p) levels paths front) where
+    no_front : length front ≡ 0
+    no_front = elim (cases_eq (length front) 0) [ inl e ↦ e | inr n ↦ let h = u.room (omega arith) in absurd (omega (arith, h)) ]
+
+    all_found : (j c : ℕ) → Leads j c → (m : ℕ) × (mark_at levels c ≡ Some m)
+    all_found zero c l = u.found c 0 (omega arith) l
+    all_found (suc j) c l =
+        let (x, has, way) = l.reaches in
+        let (m, e) = all_found j x.cell (record { root = l.root; drop = l.drop; is_root = l.is_root; reaches = way }) in
+        let (level, le) = u.exact x.cell m e in
+        elim (cases_lt m (length p)) [
+          | inl less ↦ u.found c (suc m) (omega (arith, less)) (one_more m c x has level.leads)
+          | inr more ↦
+              let at : m ≡ length p = omega (arith, le, more) in
+              let on = u.in_front x.cell (subst (λ (n : ℕ). mark_at levels x.cell ≡ Some n) at e) in
+              let h = on.1 in absurd (omega (arith, h, no_front))
+        ]
+
+    pub all_searched : IsSearched p q own levels paths
+    all_searched = record {
+      levels_whole = u.levels_whole;
+      paths_whole = u.paths_whole;
+      none = λ c h e j l. let (m, is) = all_found j c l in no_both _ m e is;
+      some = λ c k e. let (s, sum, cut) = u.path c k e in (s, record { level = k; is_level = (u.exact c k e).0; sums = sum }, cut);
+    }
+
+-- the next step leads to the next level
+pub up_to_next : (p : List Entries) → IsProblem p → (q : ℕ) (own : List (Option ℕ)) (k k' : ℕ) (levels levels' : List (Option ℕ)) (paths paths' front next : List ℕ) → k' ≡ suc k → IsUpTo p q own k levels paths front → Spreads (FrontLeads p front (length front)) k' levels levels' [] next → length paths' ≡ length paths → ((c : ℕ) → (Contains next c → ⊥) → slice_index paths' c ≡ slice_index paths c) → ((c : ℕ) → Contains next c → ContinuesTo p q levels' k paths c (slice_index paths' c)) → IsUpTo p q own k' levels' paths' next
+up_to_next p ok q own k k' levels levels' paths paths' front next e u s same others goes = subst (λ (n : ℕ). Spreads (FrontLeads p front (length front)) n levels levels' [] next → IsUpTo p q own n levels' paths' next) (sym e) (λ (t : Spreads (FrontLeads p front (length front)) (suc k) levels levels' [] next). up_to_more p ok q own k levels levels' paths paths' front next u t same others goes) s
+
+pub front_within : (p : List Entries) (q : ℕ) (own : List (Option ℕ)) (k : ℕ) (levels : List (Option ℕ)) (paths front : List ℕ) → IsUpTo p q own k levels paths front → All (λ c. c < length p) front
+front_within p q own k levels paths front u = λ j d h. let w = marked_within levels (get_or front j d) k (u.front_of (get_or front j d) (Contains-get_or front j d h)) in omega (arith, w, u.levels_whole)
+
+pub next_within : (T : ℕ → Type 0) (n v : ℕ) (old new : List (Option ℕ)) (next : List ℕ) → length old ≡ n → Spreads T v old new [] next → All (λ c. c < n) next
+next_within T n v old new next whole s = λ j d h.
+    elim (s.listed (get_or next j d) (Contains-get_or next j d h)) [
+      | inl wrong ↦ absurd (no_member _ wrong)
+      | inr (_, some) ↦ let w = marked_within new (get_or next j d) v some in omega (arith, w, s.same, whole)
+    ]
+
+pub next_past : (T : ℕ → Type 0) (v k : ℕ) (old new : List (Option ℕ)) (next : List ℕ) → (v ≡ k → ⊥) → Spreads T v old new [] next → All (λ c. mark_at new c ≡ Some k → ⊥) next
+next_past T v k old new next apart s = λ j d h e.
+    elim (s.listed (get_or next j d) (Contains-get_or next j d h)) [
+      | inl wrong ↦ absurd (no_member _ wrong)
+      | inr (_, some) ↦ apart (same_some (mark_at new (get_or next j d)) v k some e)
+    ]
+
+-- the same over what the code holds before and after
+pub up_to_step : (p : List Entries) → IsProblem p → (q : ℕ) (own : List (Option ℕ)) (k : ℕ) (levels l0 l1 l2 lf : List (Option ℕ)) (paths p0 p1 pf front f0 next n0 : List ℕ) → l0 ≡ levels → l2 ≡ lf → lf ≡ l1 → p0 ≡ paths → pf ≡ p1 → f0 ≡ front → n0 ≡ next → IsUpTo p q own k levels paths front → Spreads (FrontLeads p f0 (length f0)) (k + 1) l0 l1 [] next → length p1 ≡ length p0 → ((c : ℕ) → (Contains n0 c → ⊥) → slice_index p1 c ≡ slice_index p0 c) → ((c : ℕ) → Contains n0 c → ContinuesTo p q l2 k p0 c (slice_index p1 c)) → IsUpTo p q own (k + 1) lf pf next
+up_to_step p ok q own k levels l0 l1 l2 lf paths p0 p1 pf front f0 next n0 e0 e2 ef g0 gf h0 h1 u s same others goes =
+    let s' = rw (e0, h0) at s in
+    let others' = rw (h1, g0) at others in
+    let at = e2 ∙ ef in
+    let goes' = rw (h1, g0, at) at goes in
+    rw (ef, gf) (up_to_next p ok q own k (k + 1) levels l1 paths p1 front next (one_more_is k) u s' (rw g0 at same) others' goes')
+  where
+    one_more_is : (n : ℕ) → n + 1 ≡ suc n
+    one_more_is n = omega arith
+
+pub written : {X : Type 0} (xs ys : List X) (n : ℕ) → n ≡ length xs → take n (xs ++ ys) ≡ xs
+written xs ys n e = take_at xs ys n (sym e)

@@ -1,0 +1,150 @@
+-- The outermost mark: of several marks, of a list, of a cell, of a problem.
+use Rattle.std.proofs.Common.{◌≡◌, ℕ, zero, suc, ◌+◌, ◌<◌, ◌⊎◌, inl, inr, refl, sym, ◌∙◌, ap, subst, arith, List, [], ◌∷◌, ◌++◌, length, take, get_or, Contains, Option, None, Some, ℤ, pos, ◌≤ℤ◌, ◌<ℤ◌}
+use Rattle.std.specs.Int.{int_max, int_min}
+use Rattle.std.proofs.lemmas.Bool.{cases_eq, cases_lt}
+use Rattle.std.proofs.lemmas.Int.{ints, clamps, by_lt_z}
+use Rattle.std.proofs.lemmas.List.{take_more}
+use Rattle.std.proofs.lemmas.List.Elements.{Contains-push, Contains-push_cases, Contains-append_left}
+use Rattle.step_problem.specs.declared.heads.Side.{Side}
+use Rattle.step_problem.specs.declared.heads.Side.TheVariants.{Low, High}
+use Rattle.step_problem.specs.declared.entry.Fixed.{Fixed}
+use Rattle.step_problem.specs.declared.entry.River.{River}
+use Rattle.step_problem.specs.declared.entry.Drain.{Drain}
+use Rattle.step_problem.specs.Entries.{Entries, entries_at}
+use Rattle.barrier_vector.specs.Bases.{IsLowMark, IsHighMark, IsSomewhere, IsFirstOf, IsLowBase, IsHighBase}
+use Rattle.barrier_vector.specs.Marks.{if_some, fixed_mark, river_mark, drain_mark, outer_of, IsInside, IsOutermost, IsMarkIn, IsCellMark, IsMarkBelow}
+
+pub some_at : (hi : ℕ) (v : ℤ) → 0 < hi → if_some hi v ≡ Some v
+some_at zero v h = absurd (omega arith)
+some_at (suc n) v h = refl
+
+pub none_at_zero : (hi : ℕ) (v : ℤ) → hi ≡ 0 → if_some hi v ≡ None
+none_at_zero zero v e = refl
+none_at_zero (suc n) v e = absurd (omega arith)
+
+some_is : (hi : ℕ) (a v : ℤ) → if_some hi a ≡ Some v → (0 < hi) × (v ≡ a)
+some_is zero a v e = absurd cc
+some_is (suc n) a v e = (omega arith, cc)
+
+outermost_as : (side : Side) (P Q : ℤ → Type 0) (o : Option ℤ) → ((v : ℤ) → P v → Q v) → ((v : ℤ) → Q v → P v) → IsOutermost side P o → IsOutermost side Q o
+outermost_as side P Q None to from h = λ v q. h v (from v q)
+outermost_as side P Q (Some b) to from h = (to b h.0, λ v q. h.1 v (from v q))
+
+one_mark : (side : Side) (o : Option ℤ) → IsOutermost side (λ v. o ≡ Some v) o
+one_mark side None = λ v e. cc
+one_mark Low (Some b) = (refl, λ v e. let is : v ≡ b = cc in omega (arith, ints, is))
+one_mark High (Some b) = (refl, λ v e. let is : v ≡ b = cc in omega (arith, ints, is))
+
+-- the outer of two is the outermost of both
+pub outer_joins : (side : Side) (P Q : ℤ → Type 0) (a b : Option ℤ) → IsOutermost side P a → IsOutermost side Q b → IsOutermost side (λ v. P v ⊎ Q v) (outer_of side a b)
+outer_joins side P Q None None h k = λ v e. elim e [ inl p ↦ h v p | inr q ↦ k v q ]
+outer_joins side P Q None (Some b) h k = (inr k.0, λ v e. elim e [ inl p ↦ absurd (h v p) | inr q ↦ k.1 v q ])
+outer_joins side P Q (Some a) None h k = (inl h.0, λ v e. elim e [ inl p ↦ h.1 v p | inr q ↦ absurd (k v q) ])
+outer_joins Low P Q (Some a) (Some b) h k = (
+  by_lt_z a b
+      (λ l. inl (subst P (first a b l) h.0))
+      (λ l. inr (subst Q (second a b l) k.0)),
+  λ v e. elim e [ inl p ↦ let x = h.1 v p in omega (arith, ints, clamps, x) | inr q ↦ let x = k.1 v q in omega (arith, ints, clamps, x) ],
+)
+  where
+    first : (x y : ℤ) → x <ℤ y → x ≡ int_min x y
+    first x y l = omega (arith, ints, clamps)
+
+    second : (x y : ℤ) → y ≤ℤ x → y ≡ int_min x y
+    second x y l = omega (arith, ints, clamps)
+outer_joins High P Q (Some a) (Some b) h k = (
+  by_lt_z a b
+      (λ l. inr (subst Q (first a b l) k.0))
+      (λ l. inl (subst P (second a b l) h.0)),
+  λ v e. elim e [ inl p ↦ let x = h.1 v p in omega (arith, ints, clamps, x) | inr q ↦ let x = k.1 v q in omega (arith, ints, clamps, x) ],
+)
+  where
+    first : (x y : ℤ) → x <ℤ y → y ≡ int_max x y
+    first x y l = omega (arith, ints, clamps)
+
+    second : (x y : ℤ) → y ≤ℤ x → x ≡ int_max x y
+    second x y l = omega (arith, ints, clamps)
+
+pub no_marks : {X : Type 0} (side : Side) (mark : X → Option ℤ) → IsOutermost side (IsMarkIn mark []) None
+no_marks side mark = λ v m. let h = m.1.1 in omega (arith, h)
+
+-- one entry more
+pub marks_more : {X : Type 0} (side : Side) (mark : X → Option ℤ) (xs : List X) (i : ℕ) (x : X) (best o new : Option ℤ) → i < length xs → x ≡ get_or xs i x → o ≡ mark x → new ≡ outer_of side best o → IsOutermost side (IsMarkIn mark (take i xs)) best → IsOutermost side (IsMarkIn mark (take (i + 1) xs)) new
+marks_more {X = X} side mark xs i x best o new h is from joined so_far =
+    rw joined (outermost_as side (λ v. IsMarkIn mark (take i xs) v ⊎ (o ≡ Some v)) (IsMarkIn mark (take (i + 1) xs)) (outer_of side best o) to back (outer_joins side (IsMarkIn mark (take i xs)) (λ v. o ≡ Some v) best o so_far (one_mark side o)))
+  where
+    more : take (i + 1) xs ≡ take i xs ++ get_or xs i x ∷ []
+    more = take_more xs i x h
+
+    to : (v : ℤ) → IsMarkIn mark (take i xs) v ⊎ (o ≡ Some v) → IsMarkIn mark (take (i + 1) xs) v
+    to v (inl (y, has, e)) = (y, subst (λ (z : List X). Contains z y) (sym more) (Contains-append_left (take i xs) (get_or xs i x ∷ []) y has), e)
+    to v (inr e) = (get_or xs i x, subst (λ (z : List X). Contains z (get_or xs i x)) (sym more) (Contains-push (take i xs) (get_or xs i x)), ap mark (sym is) ∙ sym from ∙ e)
+
+    back : (v : ℤ) → IsMarkIn mark (take (i + 1) xs) v → IsMarkIn mark (take i xs) v ⊎ (o ≡ Some v)
+    back v (y, has, e) =
+        elim (Contains-push_cases (take i xs) (get_or xs i x) y (subst (λ (z : List X). Contains z y) more has)) [
+          | inl old ↦ inl (y, old, e)
+          | inr last ↦ inr (from ∙ ap mark (is ∙ last) ∙ e)
+        ]
+
+pub no_cells : (side : Side) (p : List Entries) → IsOutermost side (IsMarkBelow side p 0) None
+no_cells side p = λ v m. let h = m.1 in omega (arith, h)
+
+-- one cell more
+pub cells_more : (side : Side) (p : List Entries) (i : ℕ) (best o new : Option ℤ) → new ≡ outer_of side best o → IsOutermost side (IsMarkBelow side p i) best → IsOutermost side (IsCellMark side (entries_at p i)) o → IsOutermost side (IsMarkBelow side p (i + 1)) new
+cells_more side p i best o new joined so_far here =
+    rw joined (outermost_as side (λ v. IsMarkBelow side p i v ⊎ IsCellMark side (entries_at p i) v) (IsMarkBelow side p (i + 1)) (outer_of side best o) to back (outer_joins side (IsMarkBelow side p i) (IsCellMark side (entries_at p i)) best o so_far here))
+  where
+    to : (v : ℤ) → IsMarkBelow side p i v ⊎ IsCellMark side (entries_at p i) v → IsMarkBelow side p (i + 1) v
+    to v (inl (c, h, m)) = (c, omega arith, m)
+    to v (inr m) = (i, omega arith, m)
+
+    back : (v : ℤ) → IsMarkBelow side p (i + 1) v → IsMarkBelow side p i v ⊎ IsCellMark side (entries_at p i) v
+    back v (c, h, m) = elim (cases_lt c i) [ inl less ↦ inl (c, less, m) | inr past ↦ let at : c ≡ i = omega arith in inr (subst (λ (z : ℕ). IsCellMark side (entries_at p z) v) at m) ]
+
+low_is : (c : Entries) (v : ℤ) → IsCellMark Low c v → IsLowMark c v
+low_is c v (inl (x, has, e)) = let (h, is) = some_is x.hi x.head_lo v e in inl (x, has, h, is)
+low_is c v (inr (inl (x, has, e))) = let (h, is) = some_is x.hi x.bottom_lo v e in inr (inl (x, has, h, is))
+low_is c v (inr (inr (x, has, e))) = let (h, is) = some_is x.hi x.elev_lo v e in inr (inr (x, has, h, is))
+
+is_low : (c : Entries) (v : ℤ) → IsLowMark c v → IsCellMark Low c v
+is_low c v (inl (x, has, h, is)) = inl (x, has, some_at x.hi x.head_lo h ∙ ap Some (sym is))
+is_low c v (inr (inl (x, has, h, is))) = inr (inl (x, has, some_at x.hi x.bottom_lo h ∙ ap Some (sym is)))
+is_low c v (inr (inr (x, has, h, is))) = inr (inr (x, has, some_at x.hi x.elev_lo h ∙ ap Some (sym is)))
+
+high_is : (c : Entries) (v : ℤ) → IsCellMark High c v → IsHighMark c v
+high_is c v (inl (x, has, e)) = let (h, is) = some_is x.hi x.head_hi v e in inl (x, has, h, is)
+high_is c v (inr (inl (x, has, e))) = let (h, is) = some_is x.hi (int_max x.stage_hi x.bottom_hi) v e in inr (inl (x, has, h, one x.stage_hi x.bottom_hi is))
+  where
+    one : (s b : ℤ) → v ≡ int_max s b → (v ≡ s) ⊎ (v ≡ b)
+    one s b is = by_lt_z s b (λ l. inr (omega (arith, ints, clamps))) (λ l. inl (omega (arith, ints, clamps)))
+high_is c v (inr (inr (x, has, e))) = let (h, is) = some_is x.hi x.elev_hi v e in inr (inr (x, has, h, is))
+
+-- a high mark lies no higher than one that was looked at
+is_high : (c : Entries) (v : ℤ) → IsHighMark c v → (w : ℤ) × IsCellMark High c w × (v ≤ℤ w)
+is_high c v (inl (x, has, h, is)) = (x.head_hi, inl (x, has, some_at x.hi x.head_hi h), omega (arith, ints, is))
+is_high c v (inr (inl (x, has, h, is))) = (int_max x.stage_hi x.bottom_hi, inr (inl (x, has, some_at x.hi (int_max x.stage_hi x.bottom_hi) h)), within x.stage_hi x.bottom_hi is)
+  where
+    within : (s b : ℤ) → (v ≡ s) ⊎ (v ≡ b) → v ≤ℤ int_max s b
+    within s b (inl e) = omega (arith, ints, clamps)
+    within s b (inr e) = omega (arith, ints, clamps)
+is_high c v (inr (inr (x, has, h, is))) = (x.elev_hi, inr (inr (x, has, some_at x.hi x.elev_hi h)), omega (arith, ints, is))
+
+pub low_base_is : (p : List Entries) (o : Option ℤ) (b : ℤ) → IsOutermost Low (IsMarkBelow Low p (length p)) o → ((v : ℤ) → o ≡ Some v → b ≡ v) → (o ≡ None → b ≡ pos 0) → IsLowBase p b
+low_base_is p None b h some none = record { reached = inr (λ v m. h v (m.0, m.1, is_low (entries_at p m.0) v m.2), none refl); first = λ v m. absurd (h v (m.0, m.1, is_low (entries_at p m.0) v m.2)) }
+low_base_is p (Some w) b h some none =
+    let is = some w refl in
+    rw is (record { reached = inl (h.0.0, h.0.1, low_is (entries_at p h.0.0) w h.0.2); first = λ v m. h.1 v (m.0, m.1, is_low (entries_at p m.0) v m.2) })
+
+pub high_base_is : (p : List Entries) (o : Option ℤ) (b : ℤ) → IsOutermost High (IsMarkBelow High p (length p)) o → ((v : ℤ) → o ≡ Some v → b ≡ v) → (o ≡ None → b ≡ pos 0) → IsHighBase p b
+high_base_is p None b h some none = record { reached = inr (λ v m. let (w, at, le) = is_high (entries_at p m.0) v m.2 in h w (m.0, m.1, at), none refl); first = λ v m. let (w, at, le) = is_high (entries_at p m.0) v m.2 in absurd (h w (m.0, m.1, at)) }
+high_base_is p (Some u) b h some none =
+    let is = some u refl in
+    rw is (record { reached = inl (h.0.0, h.0.1, high_is (entries_at p h.0.0) u h.0.2); first = λ v m. let (w, at, le) = is_high (entries_at p m.0) v m.2 in let k = h.1 w (m.0, m.1, at) in omega (arith, ints, le, k) })
+
+pub cell_joined : (side : Side) (c : Entries) (fixed : List Fixed) (rivers : List River) (drains : List Drain) (a b d inner o : Option ℤ) → fixed ≡ c.fixed → rivers ≡ c.rivers → drains ≡ c.drains → inner ≡ outer_of side b d → o ≡ outer_of side a inner → IsOutermost side (IsMarkIn (fixed_mark side) fixed) a → IsOutermost side (IsMarkIn (river_mark side) rivers) b → IsOutermost side (IsMarkIn (drain_mark side) drains) d → IsOutermost side (IsCellMark side c) o
+cell_joined side c fixed rivers drains a b d inner o e1 e2 e3 e4 e5 h k l =
+    let h' = rw e1 at h in
+    let k' = rw e2 at k in
+    let l' = rw e3 at l in
+    rw (e5, e4) (outer_joins side (IsMarkIn (fixed_mark side) c.fixed) (λ v. IsMarkIn (river_mark side) c.rivers v ⊎ IsMarkIn (drain_mark side) c.drains v) a (outer_of side b d) h' (outer_joins side (IsMarkIn (river_mark side) c.rivers) (IsMarkIn (drain_mark side) c.drains) b d k' l'))

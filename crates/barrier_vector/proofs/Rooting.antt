@@ -1,0 +1,90 @@
+-- Lists of roots, one cell after another, and searches from one description of the roots to another.
+use Rattle.std.proofs.Common.{◌≡◌, ℕ, zero, suc, ◌+◌, ◌<◌, ◌≤◌, ◌⊎◌, inl, inr, refl, sym, ◌∙◌, ap, subst, arith, List, [], ◌∷◌, ◌++◌, length, max, drop, get_or, length-append, Contains, Option, None, Some}
+use Rattle.std.proofs.lemmas.Bool.{cases_lt}
+use Rattle.std.proofs.lemmas.List.{at_drop_more}
+use Rattle.step_problem.specs.declared.entry.Link.{Link}
+use Rattle.step_problem.specs.declared.entry.Fixed.{Fixed}
+use Rattle.step_problem.specs.Entries.{Entries, entries_at}
+use Rattle.cell_balance.specs.Components.{Reaches, IsAnchored, Leads}
+use Rattle.barrier_vector.specs.Paths.{LeadsToRoot, IsLevel, IsParent, SumsTo, IsPath}
+use Rattle.barrier_vector.specs.Bounds.{greatest, low_anchor}
+use Rattle.barrier_vector.specs.Spreads.{mark_at}
+use Rattle.barrier_vector.specs.Searches.{ListRoot}
+use Rattle.barrier_vector.specs.Roots.{AreRoots}
+use Rattle.barrier_vector.proofs.Spreading.{no_both}
+use Rattle.barrier_vector.proofs.Levels.{marked_within}
+use Rattle.barrier_vector.proofs.Starting.{push_before, push_last, pushed}
+
+pub roots_none : (R : ℕ → ℕ → Type 0) → AreRoots R []
+roots_none R = record { only = λ c d e. let h = marked_within [] c d e in absurd (omega (arith, h)); each = λ c d h r. absurd (omega arith) }
+
+-- one cell more
+pub roots_more : (R : ℕ → ℕ → Type 0) (own own' : List (Option ℕ)) (o : Option ℕ) (i : ℕ) → own' ≡ own ++ o ∷ [] → length own ≡ i → ((d : ℕ) → o ≡ Some d → R i d) → ((d : ℕ) → R i d → o ≡ Some d) → AreRoots R own → AreRoots R own'
+roots_more R own own' o i is whole only each a = rw is (record { only = only'; each = each' })
+  where
+    only' : (c d : ℕ) → mark_at (own ++ o ∷ []) c ≡ Some d → R c d
+    only' c d e = elim (pushed own o c d e) [ inl (h, old) ↦ a.only c d old | inr (at, now) ↦ subst (λ (z : ℕ). R z d) (sym (at ∙ whole)) (only d now) ]
+
+    each' : (c d : ℕ) → c < length (own ++ o ∷ []) → R c d → mark_at (own ++ o ∷ []) c ≡ Some d
+    each' c d h r =
+        elim (cases_lt c (length own)) [
+          | inl less ↦ push_before own o None c less ∙ a.each c d less r
+          | inr past ↦
+              let n = length-append own (o ∷ []) in
+              let at : length own ≡ c = omega (arith, n, h, past) in
+              subst (λ (z : ℕ). mark_at (own ++ o ∷ []) z ≡ o) at (push_last own o None) ∙ each d (subst (λ (z : ℕ). R z d) (sym at ∙ whole) r)
+        ]
+
+-- one entry more
+pub greatest_on : {X : Type 0} (f : X → ℕ) (xs : List X) (i : ℕ) (x : X) (best new v : ℕ) → i < length xs → x ≡ get_or xs i x → v ≡ f x → new ≡ max v best → max best (greatest f (drop i xs)) ≡ greatest f xs → max new (greatest f (drop (i + 1) xs)) ≡ greatest f xs
+greatest_on f xs i x best new v h is from e so_far =
+    let more : greatest f (drop i xs) ≡ max (f (get_or xs i x)) (greatest f (drop (i + 1) xs)) = at_drop_more (greatest f) xs i x h in
+    let same = ap f is in
+    step (f x) (f (get_or xs i x)) (greatest f (drop i xs)) (greatest f (drop (i + 1) xs)) (greatest f xs) more (from ∙ same) so_far
+  where
+    step : (a b r s w : ℕ) → r ≡ max b s → v ≡ b → max best r ≡ w → max new s ≡ w
+    step a b r s w p q t = omega (arith, e)
+
+-- the greatest is above 0 just where an entry is
+pub greatest_has : {X : Type 0} (f : X → ℕ) (xs : List X) → 0 < greatest f xs → (x : X) × Contains xs x × (f x ≡ greatest f xs)
+greatest_has f [] h = absurd (omega arith)
+greatest_has f (x ∷ xs) h =
+    elim (cases_lt (f x) (greatest f xs)) [
+      | inl less ↦ let (z, has, is) = greatest_has f xs (omega arith) in (z, (suc has.0, omega (arith, has.1), has.2), omega (arith, is, less))
+      | inr more ↦ (x, (0, omega arith, refl), omega arith)
+    ]
+
+pub at_most_greatest : {X : Type 0} (f : X → ℕ) (xs : List X) (x : X) → Contains xs x → f x ≤ greatest f xs
+at_most_greatest f [] x (k, h, e) = absurd (omega arith)
+at_most_greatest f (y ∷ xs) x (zero, h, e) = let same = ap f e in omega (arith, same)
+at_most_greatest f (y ∷ xs) x (suc k, h, e) = let le = at_most_greatest f xs x (k, omega arith, e) in omega (arith, le)
+
+module _ (p : List Entries) (q : ℕ) (R S : ℕ → ℕ → Type 0) (to : (c d : ℕ) → R c d → S c d) (from : (c d : ℕ) → S c d → R c d) where
+  pub leads_as : (k c : ℕ) → LeadsToRoot p q R k c → LeadsToRoot p q S k c
+  leads_as k c l = record { root = l.root; drop = l.drop; is_root = to l.root l.drop l.is_root; reaches = l.reaches }
+
+  leads_back : (k c : ℕ) → LeadsToRoot p q S k c → LeadsToRoot p q R k c
+  leads_back k c l = record { root = l.root; drop = l.drop; is_root = from l.root l.drop l.is_root; reaches = l.reaches }
+
+  level_as : (c k : ℕ) → IsLevel p q R c k → IsLevel p q S c k
+  level_as c k l = record { leads = leads_as k c l.leads; least = λ j m. l.least j (leads_back j c m) }
+
+  level_back : (c k : ℕ) → IsLevel p q S c k → IsLevel p q R c k
+  level_back c k l = record { leads = leads_back k c l.leads; least = λ j m. l.least j (leads_as j c m) }
+
+  parent_as : (k c : ℕ) (x : Link) → IsParent p q R k c x → IsParent p q S k c x
+  parent_as k c x t = record { has = t.has; level = level_as x.cell k t.level; least = λ z has l. t.least z has (level_back z.cell k l) }
+
+  sums_as : (k c s : ℕ) → SumsTo p q R k c s → SumsTo p q S k c s
+  sums_as zero c s r = to c s r
+  sums_as (suc k) c s (x, t, rest, sum, is) = (x, parent_as k c x t, rest, sums_as k x.cell rest sum, is)
+
+  pub path_as : (c s : ℕ) → IsPath p q R c s → IsPath p q S c s
+  path_as c s t = record { level = t.level; is_level = level_as c t.level t.is_level; sums = sums_as t.level c s t.sums }
+
+-- searches of one description from another, and what anchors a cell
+pub anchored_by : (p : List Entries) (c : ℕ) → 0 < low_anchor (entries_at p c) → IsAnchored p c
+anchored_by p c h = let (x, has, is) = greatest_has (λ (x : Fixed). x.lo) (entries_at p c).fixed h in (x, has, omega (arith, h, is))
+
+pub anchors : (p : List Entries) (c : ℕ) → IsAnchored p c → 0 < low_anchor (entries_at p c)
+anchors p c (x, has, h) = let le = at_most_greatest (λ (x : Fixed). x.lo) (entries_at p c).fixed x has in omega (arith, h, le)

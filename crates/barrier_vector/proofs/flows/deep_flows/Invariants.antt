@@ -1,0 +1,13 @@
+use Rattle.std.proofs.Common.{◌≡◌, ℕ, ◌<◌, ◌^◌, length}
+use Rattle.step_problem.specs.Entries.{entries_at}
+use Rattle.step_problem.specs.Conditions.{IsWithin}
+use Rattle.cell_balance.specs.Components.{deep_low}
+use Rattle.barrier_vector.specs.Labels.{number_at}
+use Rattle.barrier_vector.proofs.flows.deep_flows.Given as goal
+
+abbrev pub invariant-loop-c : goal.invariant-loop-c
+invariant-loop-c l = record {
+  whole : length l.flows.items ≡ l.c;
+  values : (k : ℕ) → k < l.c → number_at l.flows.items k ≡ deep_low (entries_at l.p k);
+  within : (k : ℕ) → IsWithin (number_at l.flows.items k) (2 ^ 109);
+}

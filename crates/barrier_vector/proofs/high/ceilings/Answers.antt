@@ -1,0 +1,24 @@
+use Rattle.std.proofs.Common.{◌≡◌, ◌+◌, rules, ap, ◌∙◌, sym, subst, length, length-append, List, Option, ℤ, ℕ, ◌∷◌, [], FitsSigned}
+use Rattle.std.specs.Int.{w64}
+use Rattle.std.proofs.lemmas.Int.{to_z-of_z}
+use Rattle.barrier_vector.specs.Lacks.{surplus}
+use Rattle.barrier_vector.specs.Bounds.{high_anchor, AnchorRoot}
+use Rattle.barrier_vector.specs.Roots.{IsCeilingOrNone, AreRoots, IsAscent}
+use Rattle.barrier_vector.proofs.Basing.{bounds_more, ascent_made}
+use Rattle.barrier_vector.proofs.Surveying.{searched_as}
+use Rattle.barrier_vector.proofs.high.ceilings.Goals as goal
+
+pub ceiling_of-requires-clause-ascent : goal.ceiling_of-requires-clause-ascent
+ceiling_of-requires-clause-ascent c =
+    let fits : FitsSigned w64 c.high_base-base.result = search rules in
+    let q = c.surplus_of-surplus.ensures.value in
+    let made = ascent_made c.args.p.now c.len-c-end.ensures.fits c.high_base-base.result c.in_ok-roots.roots.items c.in_ok-anchored.anchored.levels.items c.in_ok-anchored.anchored.paths.items c.high_base-base.ensures c.in_ok-roots.ensures.whole
+    (subst (λ (n : ℕ). AreRoots (AnchorRoot high_anchor c.args.p.now n) c.in_ok-roots.roots.items) q c.in_ok-roots.ensures.roots)
+    (searched_as c.args.p.now c.surplus_of-surplus.result (surplus c.args.p.now) c.in_ok-roots.roots.items c.deref.result.now c.in_ok-anchored.anchored.levels.items c.in_ok-anchored.anchored.paths.items q c.deref.ensures.value c.in_ok-anchored.ensures) in
+    simp to_z-of_z (subst (λ (z : List (Option ℕ)). IsAscent c.args.p.now c.high_base-base.result z c.deref-in-loop-c-2.result.now) (sym c.deref-in-loop-c.ensures.value) (subst (λ (z : List ℕ). IsAscent c.args.p.now c.high_base-base.result c.in_ok-anchored.anchored.levels.items z) (sym c.deref-in-loop-c-2.ensures.value) made))
+
+pub loop-c-preserved : goal.loop-c-preserved
+loop-c-preserved c = record {
+  whole = ap (λ (z : List (Option ℤ)). length z) c.in_ok-push.ensures.items ∙ length-append c.loop-c.ceilings.items (c.ceiling_of.result ∷ []) ∙ ap (λ (n : ℕ). n + 1) c.loop-c.invariant.whole;
+  each = bounds_more c.args.p.now (IsCeilingOrNone c.args.p.now) c.loop-c.ceilings.items c.push.new.self.items c.ceiling_of.result c.loop-c.c c.in_ok-push.ensures.items c.loop-c.invariant.whole c.ceiling_of.ensures c.loop-c.invariant.each;
+}

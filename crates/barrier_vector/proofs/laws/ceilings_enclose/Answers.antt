@@ -1,0 +1,5 @@
+use Rattle.barrier_vector.proofs.Ceilings.{ceilings_enclose}
+use Rattle.barrier_vector.proofs.laws.ceilings_enclose.Goals as goal
+
+pub returns : goal.returns
+returns c = ceilings_enclose

@@ -1,0 +1,7 @@
+use Rattle.std.proofs.Common.{ℕ, ◌<◌}
+use Rattle.barrier_vector.specs.Roots.{bound_at}
+use Rattle.barrier_vector.specs.Tests.{Fails}
+use Rattle.barrier_vector.proofs.refusal.first_failing.Given as goal
+
+abbrev pub invariant-loop-c : goal.invariant-loop-c
+invariant-loop-c l = (d : ℕ) → d < l.c → Fails l.test (bound_at l.bounds d) → ⊥

@@ -1,0 +1,10 @@
+use Rattle.std.proofs.Common.{◌≡◌, ℕ, ℤ, ◌<◌, length, Some}
+use Rattle.step_problem.specs.Heads.{head_at}
+use Rattle.barrier_vector.specs.Roots.{bound_at}
+use Rattle.barrier_vector.proofs.refusal.heads_of.Given as goal
+
+abbrev pub invariant-loop-c : goal.invariant-loop-c
+invariant-loop-c l = record {
+  whole : length l.heads.items ≡ l.c;
+  each : (k : ℕ) (v : ℤ) → k < l.c → bound_at l.bounds k ≡ Some v → head_at l.heads.items k ≡ v;
+}

@@ -1,0 +1,6 @@
+use Rattle.std.proofs.Common.{take}
+use Rattle.barrier_vector.specs.Searches.{IsStart}
+use Rattle.barrier_vector.proofs.search.begin.Given as goal
+
+abbrev pub invariant-loop-c : goal.invariant-loop-c
+invariant-loop-c l = IsStart (take l.c l.own) l.start.levels.items l.start.paths.items l.start.frontier.items

@@ -1,0 +1,17 @@
+-- What a problem with storage at each cell can't lack.
+use Rattle.std.specs.Prelude.{◌≡◌, ℕ, ◌<◌, List, length, Contains}
+use Rattle.step_problem.specs.declared.entry.Fixed.{Fixed}
+use Rattle.step_problem.specs.declared.entry.FixedKind.TheVariants.{Storage}
+use Rattle.step_problem.specs.declared.place.NoBound.{NoBound}
+use Rattle.step_problem.specs.Entries.{Entries, entries_at}
+use Rattle.barrier_vector.specs.declared.BarrierFault.{BarrierFault}
+use Rattle.barrier_vector.specs.declared.BarrierFault.TheVariants.{NoBound as IsNoBound, Memory}
+
+-- each variable cell has storage that certainly conducts
+abbrev pub HasStorage : List Entries → Type 0
+HasStorage p = (c : ℕ) → c < length p → (x : Fixed) × Contains (entries_at p c).fixed x × (x.kind ≡ Storage) × (0 < x.lo)
+
+-- the fault is neither NoBarrierLow nor NoBarrierHigh
+abbrev pub IsNoWantOfAnchors : BarrierFault → Type 0
+IsNoWantOfAnchors (IsNoBound n) = (n.code ≡ 24 → ⊥) × (n.code ≡ 25 → ⊥)
+IsNoWantOfAnchors Memory = Unit {0}

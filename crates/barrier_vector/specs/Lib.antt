@@ -1,0 +1,13 @@
+pub mod Bases
+pub mod Lacks
+pub mod Paths
+pub mod Bounds
+pub mod Laws
+pub mod Refusals
+pub mod Held
+pub mod Spreads
+pub mod Searches
+pub mod Labels
+pub mod Marks
+pub mod Roots
+pub mod Tests

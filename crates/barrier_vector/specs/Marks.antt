@@ -1,0 +1,55 @@
+-- What each entry sets as the base's mark on a side, and the outermost of several.
+use Rattle.std.specs.Prelude.{◌≡◌, ℕ, zero, suc, ◌<◌, ◌⊎◌, List, Contains, Option, None, Some, ℤ, ◌≤ℤ◌}
+use Rattle.std.specs.Int.{int_max, int_min}
+use Rattle.step_problem.specs.declared.heads.Side.{Side}
+use Rattle.step_problem.specs.declared.heads.Side.TheVariants.{Low, High}
+use Rattle.step_problem.specs.declared.entry.Fixed.{Fixed}
+use Rattle.step_problem.specs.declared.entry.River.{River}
+use Rattle.step_problem.specs.declared.entry.Drain.{Drain}
+use Rattle.step_problem.specs.Entries.{Entries, entries_at}
+
+-- v where the upper conductance hi is above 0
+abbrev pub if_some : ℕ → ℤ → Option ℤ
+if_some zero v = None
+if_some (suc n) v = Some v
+
+abbrev pub fixed_mark : Side → Fixed → Option ℤ
+fixed_mark Low x = if_some x.hi x.head_lo
+fixed_mark High x = if_some x.hi x.head_hi
+
+abbrev pub river_mark : Side → River → Option ℤ
+river_mark Low x = if_some x.hi x.bottom_lo
+river_mark High x = if_some x.hi (int_max x.stage_hi x.bottom_hi)
+
+abbrev pub drain_mark : Side → Drain → Option ℤ
+drain_mark Low x = if_some x.hi x.elev_lo
+drain_mark High x = if_some x.hi x.elev_hi
+
+-- the outer of two marks: the lower on the low side, the higher on the high side
+abbrev pub outer_of : Side → Option ℤ → Option ℤ → Option ℤ
+outer_of side None b = b
+outer_of side (Some a) None = Some a
+outer_of Low (Some a) (Some b) = Some (int_min a b)
+outer_of High (Some a) (Some b) = Some (int_max a b)
+
+-- v lies no further out than b
+abbrev pub IsInside : Side → ℤ → ℤ → Type 0
+IsInside Low b v = b ≤ℤ v
+IsInside High b v = v ≤ℤ b
+
+-- the outermost of the numbers with the property P, none where there are none
+abbrev pub IsOutermost : Side → (ℤ → Type 0) → Option ℤ → Type 0
+IsOutermost side P None = (v : ℤ) → P v → ⊥
+IsOutermost side P (Some b) = P b × ((v : ℤ) → P v → IsInside side b v)
+
+-- some entry of the list has the mark v
+abbrev pub IsMarkIn : {X : Type 0} → (X → Option ℤ) → List X → ℤ → Type 0
+IsMarkIn {X = X} mark xs v = (x : X) × Contains xs x × (mark x ≡ Some v)
+
+-- some entry of the cell has the mark v
+abbrev pub IsCellMark : Side → Entries → ℤ → Type 0
+IsCellMark side c v = IsMarkIn (fixed_mark side) c.fixed v ⊎ (IsMarkIn (river_mark side) c.rivers v ⊎ IsMarkIn (drain_mark side) c.drains v)
+
+-- one of the first n cells has the mark v
+abbrev pub IsMarkBelow : Side → List Entries → ℕ → ℤ → Type 0
+IsMarkBelow side p n v = (c : ℕ) × (c < n) × IsCellMark side (entries_at p c) v

@@ -1,0 +1,75 @@
+-- The roots of the searches, and what the low side is found from.
+use Rattle.std.specs.Prelude.{◌≡◌, ℕ, ◌+◌, ◌<◌, List, length, min, Option, None, Some, slice_index, slice_index_or, ℤ, pos, neg_ℤ}
+use Rattle.std.specs.Int.{int_max, int_min}
+use Rattle.step_problem.specs.declared.heads.Side.{Side}
+use Rattle.step_problem.specs.declared.heads.Side.TheVariants.{Low, High}
+use Rattle.step_problem.specs.Entries.{Entries, entries_at}
+use Rattle.step_problem.specs.Conditions.{head_limit}
+use Rattle.cell_balance.specs.Components.{sum_inside, deep_low}
+use Rattle.barrier_vector.specs.Bases.{IsLowBase, IsHighBase}
+use Rattle.barrier_vector.specs.Bounds.{low_anchor, high_anchor, IsLowPath, IsHighPath, IsInnerPath, IsUnanchored, IsFloor, IsCeiling}
+use Rattle.barrier_vector.specs.Refusals.{HasNoFloor, HasNoCeiling}
+use Rattle.barrier_vector.specs.Spreads.{mark_at}
+use Rattle.barrier_vector.specs.Searches.{path_limit}
+use Rattle.barrier_vector.specs.Labels.{AreLabels, labelled, number_at, IsGreatestOf}
+
+-- the greatest lower conductance of a cell's anchors on a side
+abbrev pub anchor_on : Side → Entries → ℕ
+anchor_on Low = low_anchor
+anchor_on High = high_anchor
+
+-- a cell labelled with itself is a root without a drop
+abbrev pub SelfRoot : List (Option ℕ) → ℕ → ℕ → Type 0
+SelfRoot labels c d = (mark_at labels c ≡ Some c) × (d ≡ 0)
+
+-- The list has just these roots and their drops.
+pub record AreRoots (Root : ℕ → ℕ → Type 0) (own : List (Option ℕ)) : Type 0 where
+  pub only : (c d : ℕ) → mark_at own c ≡ Some d → Root c d
+  pub each : (c d : ℕ) → c < length own → Root c d → mark_at own c ≡ Some d
+
+-- what the floors are made of
+pub record IsSurvey (p : List Entries) (base : ℤ) (levels : List (Option ℕ)) (paths : List ℕ) (labels : List (Option ℕ)) (inner : List ℕ) (sums : List ℤ) (longest : List ℕ) : Type 0 where
+  pub is_base : IsLowBase p base
+  pub anchored : (c k : ℕ) → mark_at levels c ≡ Some k → (s : ℕ) × IsLowPath p c s × (slice_index paths c ≡ min s path_limit)
+  pub unanchored : (c : ℕ) → c < length p → mark_at levels c ≡ None → IsUnanchored p c
+  pub labelling : AreLabels p labels (length p)
+  pub inner_paths : (c : ℕ) → c < length p → (s : ℕ) × IsInnerPath p c s × (slice_index inner c ≡ min s path_limit)
+  pub component_sums : (m : ℕ) → number_at sums m ≡ sum_inside (length p) (labelled labels m) (λ k. deep_low (entries_at p k))
+  pub tops : (m : ℕ) → IsGreatestOf labels inner m (length p) (slice_index longest m)
+  pub levels_whole : length levels ≡ length p
+  pub paths_whole : length paths ≡ length p
+  pub inner_whole : length inner ≡ length p
+  pub sums_whole : length sums ≡ length p
+  pub tops_whole : length longest ≡ length p
+
+-- what the ceilings are made of
+pub record IsAscent (p : List Entries) (base : ℤ) (levels : List (Option ℕ)) (paths : List ℕ) : Type 0 where
+  pub is_base : IsHighBase p base
+  pub anchored : (c k : ℕ) → mark_at levels c ≡ Some k → (s : ℕ) × IsHighPath p c s × (slice_index paths c ≡ min s path_limit)
+  pub unanchored : (c : ℕ) → c < length p → mark_at levels c ≡ None → HasNoCeiling p c
+  pub levels_whole : length levels ≡ length p
+  pub paths_whole : length paths ≡ length p
+
+-- a floor, but one too low for a head is cut off just below all heads
+abbrev pub floor_cut : ℤ → ℤ
+floor_cut f = int_max f (neg_ℤ (pos (head_limit + 1)))
+
+abbrev pub ceiling_cut : ℤ → ℤ
+ceiling_cut f = int_min f (pos (head_limit + 1))
+
+abbrev pub bound_at : List (Option ℤ) → ℕ → Option ℤ
+bound_at xs c = slice_index_or xs c None
+
+-- the floor of cell c, cut off; none where it has no floor
+abbrev pub IsFloorOrNone : List Entries → ℕ → Option ℤ → Type 0
+IsFloorOrNone p c None = HasNoFloor p c
+IsFloorOrNone p c (Some v) = (f : ℤ) × IsFloor p c f × (v ≡ floor_cut f)
+
+abbrev pub IsCeilingOrNone : List Entries → ℕ → Option ℤ → Type 0
+IsCeilingOrNone p c None = HasNoCeiling p c
+IsCeilingOrNone p c (Some v) = (f : ℤ) × IsCeiling p c f × (v ≡ ceiling_cut f)
+
+-- one for each cell
+pub record AreBounds (p : List Entries) (Is : ℕ → Option ℤ → Type 0) (xs : List (Option ℤ)) : Type 0 where
+  pub whole : length xs ≡ length p
+  pub each : (c : ℕ) → c < length p → Is c (bound_at xs c)

@@ -1,0 +1,78 @@
+// Sums and maxima over the components of a problem.
+ghost use Rattle.std.specs.Prelude.{◌≡◌, ℕ, ◌<◌, ◌≤◌, ◌*◌, ◌^◌, ◌+◌, max, length, All, IfOk, None, Some, slice_index, ◌+ℤ◌, pos, cond};
+ghost use Rattle.step_problem.specs.Conditions.{IsWithin};
+ghost use Rattle.cell_balance.specs.Components.{sum_inside};
+ghost use Rattle.barrier_vector.specs.Spreads.{mark_at};
+ghost use Rattle.barrier_vector.specs.Labels.{is_label, labelled, number_at, IsGreatestOf};
+
+use std::alloc::{AllocError, Global};
+
+fn add_flow(sum: i128, flow: i128) -> i128
+    requires sum { IsWithin sum (65535 * 2 ^ 109) }
+    requires flow { IsWithin flow (2 ^ 109) }
+    ensures { result ≡ sum +ℤ flow }
+{
+    sum + flow
+}
+
+// Adds a flow to the sum with that label, if there is a label.
+fn add_to(sums: &mut [i128], label: Option<u32>, flow: i128)
+    requires label { (m : ℕ) → label ≡ Some m → m < length sums.old }
+    requires sums { (m : ℕ) → IsWithin (number_at sums.old m) (65535 * 2 ^ 109) }
+    requires flow { IsWithin flow (2 ^ 109) }
+    ensures { (m : ℕ) → number_at sums.new m ≡ number_at sums.old m +ℤ cond (is_label label m) flow (pos 0) }
+{
+    match label {
+        Some(m) => sums[m as usize] = add_flow(sums[m as usize], flow),
+        None => {}
+    }
+}
+
+/// The sum of the numbers of the cells with each label.
+pub(crate) fn sum_components(
+    alloc: Global,
+    labels: &[Option<u32>],
+    flows: &[i128],
+) -> Result<Vec<i128>, AllocError>
+    requires few { length labels.now ≤ 65536 }
+    requires same { length flows.now ≡ length labels.now }
+    requires labels { (k m : ℕ) → mark_at labels.now k ≡ Some m → m < length labels.now }
+    requires flows { (k : ℕ) → IsWithin (number_at flows.now k) (2 ^ 109) }
+    ensures whole { IfOk result (λ sums. length sums.items ≡ length labels.now) }
+    ensures sums { IfOk result (λ sums. (m : ℕ) → number_at sums.items m ≡ sum_inside (length labels.now) (labelled labels.now m) (number_at flows.now)) }
+{
+    let mut sums: Vec<i128> = vec![in alloc; 0; labels.len()]?;
+    for c in 0..labels.len() {
+        add_to(&mut sums, labels[c], flows[c]);
+    }
+    Ok(sums)
+}
+
+// Raises the number with that label, if there is a label.
+fn raise_to(tops: &mut [u64], label: Option<u32>, number: u64)
+    requires label { (m : ℕ) → label ≡ Some m → m < length tops.old }
+    ensures { (m : ℕ) → slice_index tops.new m ≡ cond (is_label label m) (max (slice_index tops.old m) number) (slice_index tops.old m) }
+{
+    match label {
+        Some(m) => tops[m as usize] = tops[m as usize].max(number),
+        None => {}
+    }
+}
+
+/// The greatest of the numbers of the cells with each label.
+pub(crate) fn greatest_of_components(
+    alloc: Global,
+    labels: &[Option<u32>],
+    numbers: &[u64],
+) -> Result<Vec<u64>, AllocError>
+    requires same { length numbers.now ≡ length labels.now }
+    requires labels { (k m : ℕ) → mark_at labels.now k ≡ Some m → m < length labels.now }
+    ensures whole { IfOk result (λ tops. length tops.items ≡ length labels.now) }
+    ensures tops { IfOk result (λ tops. (m : ℕ) → IsGreatestOf labels.now numbers.now m (length labels.now) (slice_index tops.items m)) }
+{
+    let mut tops: Vec<u64> = vec![in alloc; 0; labels.len()]?;
+    for c in 0..labels.len() {
+        raise_to(&mut tops, labels[c], numbers[c]);
+    }
+    Ok(tops)
+}

@@ -1,0 +1,78 @@
+// The high side: the ceiling of each cell, or none.
+ghost use Rattle.std.specs.Prelude.{◌≡◌, ℕ, ◌<◌, ◌≤◌, ◌^◌, length, IfOk, Some, None, slice_index, pos, neg_ℤ, ◌≤ℤ◌, ◌+ℤ◌};
+ghost use Rattle.step_problem.specs.Conditions.{IsHead, IsWithin, head_limit};
+ghost use Rattle.barrier_vector.specs.Bases.{IsHighBase};
+ghost use Rattle.barrier_vector.specs.Lacks.{surplus};
+ghost use Rattle.barrier_vector.specs.Searches.{path_limit, IsSearched};
+ghost use Rattle.barrier_vector.specs.Roots.{ceiling_cut, IsCeilingOrNone, AreBounds, IsAscent};
+
+use crate::base::high_base;
+use crate::flows::surplus_of;
+use crate::roots::anchor_roots;
+use crate::search::search;
+use std::alloc::{AllocError, Global};
+use step_problem::{Problem, Side};
+
+// Just above all heads.
+const HIGHEST: i64 = 4_000_000_000_000_000_001;
+
+fn plus(head: i128, path: u64) -> i128
+    requires head { IsWithin head (2 ^ 66) }
+    requires path { path ≤ path_limit }
+    ensures { result ≡ head +ℤ pos path }
+{
+    head + path as i128
+}
+
+fn cut_above(ceiling: i128) -> i64
+    requires { neg_ℤ (pos head_limit) ≤ℤ ceiling }
+    ensures { result ≡ ceiling_cut ceiling }
+{
+    if ceiling > HIGHEST as i128 {
+        HIGHEST
+    } else {
+        ceiling as i64
+    }
+}
+
+// The base and a path, cut off just above all heads.
+fn raised(base: i64, path: u64) -> i64
+    requires base { IsHead base }
+    requires path { path ≤ path_limit }
+    ensures { result ≡ ceiling_cut (base +ℤ pos path) }
+{
+    cut_above(plus(base as i128, path))
+}
+
+fn ceiling_of(
+    p: &Problem,
+    base: i64,
+    levels: &[Option<u32>],
+    paths: &[u64],
+    c: usize,
+) -> Option<i64>
+    requires cell { c < length p.now }
+    requires ascent { IsAscent p.now base levels.now paths.now }
+    ensures { IsCeilingOrNone p.now c result }
+{
+    let _cells = p.len();
+    match levels[c] {
+        Some(_) => Some(raised(base, paths[c])),
+        None => None,
+    }
+}
+
+/// The ceiling of each cell, cut off just above all heads; none where it has no ceiling.
+pub(crate) fn ceilings(alloc: Global, p: &Problem) -> Result<Vec<Option<i64>>, AllocError>
+    ensures { IfOk result (λ ceilings. AreBounds p.now (IsCeilingOrNone p.now) ceilings.items) }
+{
+    let surplus = surplus_of(p);
+    let roots = anchor_roots(alloc, Side::High, p, surplus)?;
+    let anchored = search(alloc, p, &roots, surplus)?;
+    let base = high_base(p);
+    let mut ceilings = Vec::new(alloc);
+    for c in 0..p.len() {
+        ceilings.push(ceiling_of(p, base, &anchored.levels, &anchored.paths, c))?;
+    }
+    Ok(ceilings)
+}

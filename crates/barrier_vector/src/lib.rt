@@ -1,0 +1,57 @@
+//! The barrier of a step's problem: a floor and a ceiling for each variable cell, between which every solution lies.
+#![tactic(auto)]
+
+ghost use Rattle.std.specs.Prelude.{ℕ, ◌<◌, length, ℤ, IfOk, IfErr, List};
+ghost use Rattle.step_problem.specs.Heads.{head_at, IsBarrier};
+ghost use Rattle.cell_balance.specs.Steps.{ExactCell};
+ghost use Rattle.cell_balance.specs.Enclosures.{EnclosesStep};
+ghost use Rattle.cell_balance.specs.Solutions.{SolvesStep, LiesBetween};
+ghost use Rattle.cell_balance.specs.Components.{IsHeldBelow};
+ghost use Rattle.barrier_vector.specs.Bounds.{IsFloor, IsCeiling};
+ghost use Rattle.barrier_vector.specs.Refusals.{IsFault};
+ghost use Rattle.barrier_vector.specs.Held.{HasStorage, IsNoWantOfAnchors};
+
+mod base;
+mod flows;
+mod gathered;
+mod high;
+mod labels;
+pub mod laws;
+mod low;
+mod refusal;
+mod roots;
+mod search;
+mod spread;
+
+use refusal::{high_side, low_side};
+use std::alloc::Global;
+use step_problem::{Barrier, NoBound, Problem};
+
+/// Why a problem has no barrier: a refusal of 24 to 27 at the least cell that has it, or want of memory.
+#[derive(Debug, Drop)]
+pub enum BarrierFault {
+    NoBound(NoBound),
+    Memory,
+}
+
+/// The floor and the ceiling of each variable cell, in units of 10^-9 length units. Time and memory grow as the number of cells and links.
+/// A problem without a barrier is refused at the least cell with the first of four causes: 24 where a component is neither anchored nor carried, 26 where a floor lies below all heads, 25 where a component has no anchor of the high side, 27 where a ceiling lies above all heads.
+pub fn barrier(alloc: Global, p: &Problem) -> Result<Barrier, BarrierFault>
+    ensures floors { IfOk result (λ b. (c : ℕ) → c < length p.now → IsFloor p.now c (head_at b.floor c)) }
+    ensures ceilings { IfOk result (λ b. (c : ℕ) → c < length p.now → IsCeiling p.now c (head_at b.ceiling c)) }
+    ensures refusal { IfErr result (λ e. IsFault p.now e) }
+    ensures barrier { IfOk result (λ b. IsBarrier p.now b) }
+    ensures held { IfOk result (λ b. IsHeldBelow p.now) }
+    ensures encloses { IfOk result (λ b. (s : ℕ) (e : List ExactCell) (d : ℕ) (X : ℕ → ℤ) → EnclosesStep s p.now e → 0 < d → SolvesStep e d X → LiesBetween (length p.now) d X (head_at b.floor) (head_at b.ceiling)) }
+    ensures stored { HasStorage p.now → IfErr result (λ e. IsNoWantOfAnchors e) }
+{
+    let _cells = p.len();
+    let floor = match low_side(alloc, p) {
+        Ok(floor) => floor,
+        Err(fault) => return Err(fault),
+    };
+    match high_side(alloc, p) {
+        Ok(ceiling) => Ok(Barrier { floor, ceiling }),
+        Err(fault) => Err(fault),
+    }
+}

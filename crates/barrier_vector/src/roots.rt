@@ -1,0 +1,112 @@
+// The roots of the searches: anchored cells, and the least cells of components.
+ghost use Rattle.std.specs.Prelude.{◌≡◌, ℕ, ◌<◌, ◌^◌, length, IfOk, Some, max};
+ghost use Rattle.step_problem.specs.Entries.{entries_at};
+ghost use Rattle.barrier_vector.specs.Paths.{ceil_over};
+ghost use Rattle.barrier_vector.specs.Bounds.{greatest, AnchorRoot};
+ghost use Rattle.barrier_vector.specs.Roots.{anchor_on, SelfRoot, AreRoots};
+
+use crate::search::drop_over;
+use std::alloc::{AllocError, Global};
+use step_problem::{Cell, Drain, Fixed, Problem, River, Side};
+
+trait Anchor {
+    ghost lower: { Self → ℕ };
+
+    // The lower conductance.
+    fn lower(&self) -> u64
+        ensures { result ≡ lower self.now };
+}
+
+impl Anchor for Fixed {
+    ghost lower = { λ x. x.lo };
+
+    fn lower(&self) -> u64 {
+        self.lo
+    }
+}
+
+impl Anchor for River {
+    ghost lower = { λ x. x.lo };
+
+    fn lower(&self) -> u64 {
+        self.lo
+    }
+}
+
+impl Anchor for Drain {
+    ghost lower = { λ x. x.lo };
+
+    fn lower(&self) -> u64 {
+        self.lo
+    }
+}
+
+fn greatest_lower<E: Anchor>(entries: &[E]) -> u64
+    ensures { result ≡ greatest E.lower entries.now }
+{
+    let mut best = 0;
+    for x in entries {
+        best = x.lower().max(best);
+    }
+    best
+}
+
+// The greatest lower conductance of a cell's anchors.
+fn greatest_anchor(side: Side, cell: &Cell) -> u64
+    ensures { result ≡ anchor_on side cell.now }
+{
+    let fixed = greatest_lower(&cell.fixed);
+    match side {
+        Side::Low => fixed,
+        Side::High => fixed.max(greatest_lower(&cell.rivers).max(greatest_lower(&cell.drains))),
+    }
+}
+
+fn anchor_drop(lo: u64, q: u128) -> Option<u128>
+    requires { q < 2 ^ 126 }
+    ensures only { (d : ℕ) → result ≡ Some d → (0 < lo) × (d ≡ ceil_over q lo) }
+    ensures each { 0 < lo → result ≡ Some (ceil_over q lo) }
+{
+    if lo > 0 { Some(drop_over(q, lo)) } else { None }
+}
+
+/// The own drops of the anchored cells.
+pub(crate) fn anchor_roots(
+    alloc: Global,
+    side: Side,
+    p: &Problem,
+    q: u128,
+) -> Result<Vec<Option<u128>>, AllocError>
+    requires { q < 2 ^ 126 }
+    ensures whole { IfOk result (λ own. length own.items ≡ length p.now) }
+    ensures roots { IfOk result (λ own. AreRoots (AnchorRoot (anchor_on side) p.now q) own.items) }
+{
+    let mut own = Vec::new(alloc);
+    for c in 0..p.len() {
+        own.push(anchor_drop(greatest_anchor(side, p.cell(c)), q))?;
+    }
+    Ok(own)
+}
+
+fn self_drop(label: Option<u32>, c: u32) -> Option<u128>
+    ensures only { (d : ℕ) → result ≡ Some d → (label ≡ Some c) × (d ≡ 0) }
+    ensures each { label ≡ Some c → result ≡ Some 0 }
+{
+    if label == Some(c) { Some(0) } else { None }
+}
+
+/// The cells that are labelled with themselves, without drops.
+pub(crate) fn self_roots(
+    alloc: Global,
+    labels: &[Option<u32>],
+) -> Result<Vec<Option<u128>>, AllocError>
+    requires { length labels.now < 2 ^ 32 }
+    ensures whole { IfOk result (λ own. length own.items ≡ length labels.now) }
+    ensures roots { IfOk result (λ own. AreRoots (SelfRoot labels.now) own.items) }
+{
+    let mut own = Vec::new(alloc);
+    for c in 0..labels.len() {
+        own.push(self_drop(labels[c], c as u32))?;
+    }
+    Ok(own)
+}

@@ -1,0 +1,168 @@
+// The search by levels: each cell's least number of links to a root, and its path there.
+ghost use Rattle.std.specs.Prelude.{◌≡◌, ℕ, ◌<◌, ◌≤◌, ◌+◌, ◌^◌, length, List, [], ◌∷◌, ◌++◌, Option, OnOk, All, IfOk, min, Some, None, MatchOption, ◌⊎◌, Contains, slice_index};
+ghost use Rattle.step_problem.specs.Entries.{entries_at};
+ghost use Rattle.barrier_vector.specs.Paths.{ceil_over};
+ghost use Rattle.barrier_vector.specs.Spreads.{mark_at};
+ghost use Rattle.barrier_vector.specs.Searches.{path_limit, IsNearestOrNone, ContinuesTo, IsSearched, IsStart};
+
+use crate::spread::spread;
+use std::alloc::{AllocError, Global};
+use step_problem::{Link, Problem};
+
+/// A path that long leads out of the range of heads.
+pub(crate) const PATH_LIMIT: u64 = 8_000_000_000_000_000_001;
+
+/// What a search finds: the level of each cell that leads to a root, and its path, cut off at the limit.
+#[derive(Debug, Drop)]
+pub(crate) struct Found {
+    pub levels: Vec<Option<u32>>,
+    pub paths: Vec<u64>,
+}
+
+// What a search begins with: the roots and their own drops.
+#[derive(Debug, Drop)]
+struct Start {
+    levels: Vec<Option<u32>>,
+    paths: Vec<u64>,
+    frontier: Vec<u32>,
+}
+
+/// The drop of head on a branch that carries `q`: the least whole number not below q / lo.
+pub(crate) fn drop_over(q: u128, lo: u64) -> u128
+    requires q { q < 2 ^ 126 }
+    requires lo { 0 < lo }
+    ensures { result ≡ ceil_over q lo }
+{
+    (q + (lo as u128 - 1)) / lo as u128
+}
+
+fn longer_path(drop: u128, rest: u64) -> u64
+    ensures { result ≡ min (drop + rest) path_limit }
+{
+    drop.saturating_add(rest as u128).min(PATH_LIMIT as u128) as u64
+}
+
+fn nearer(best: Option<Link>, x: &Link) -> Link
+    ensures within { MatchOption best (result ≡ x.now) (λ b. (result.cell ≤ b.cell) × ((result ≡ b) ⊎ (result ≡ x.now))) }
+    ensures no_farther { result.cell ≤ x.now.cell }
+{
+    match best {
+        Some(b) if b.cell <= x.cell => b,
+        _ => *x,
+    }
+}
+
+// The link to the neighbour with the least number among those of this level.
+fn parent(links: &[Link], levels: &[Option<u32>], level: u32) -> Option<Link>
+    requires { All (λ x. x.cell < length levels.now) links.now }
+    ensures { IsNearestOrNone links.now levels.now level (length links.now) result }
+{
+    let mut best = None;
+    for x in links {
+        if levels[x.cell as usize] == Some(level) {
+            best = Some(nearer(best, x));
+        }
+    }
+    best
+}
+
+fn path_from(
+    p: &Problem,
+    cell: usize,
+    levels: &[Option<u32>],
+    level: u32,
+    paths: &[u64],
+    q: u128,
+) -> u64
+    requires cell { cell < length p.now }
+    requires levels { length levels.now ≡ length p.now }
+    requires paths { length paths.now ≡ length p.now }
+    requires q { q < 2 ^ 126 }
+    ensures { ContinuesTo p.now q levels.now level paths.now cell result }
+{
+    let _cells = p.len();
+    match parent(&p.cell(cell).links, levels, level) {
+        Some(x) => longer_path(drop_over(q, x.lo), paths[x.cell as usize]),
+        None => 0,
+    }
+}
+
+// Gives each cell of the frontier, which is past this level, its path through its parent.
+fn extend_paths(
+    p: &Problem,
+    levels: &[Option<u32>],
+    level: u32,
+    frontier: &[u32],
+    q: u128,
+    paths: &mut [u64],
+)
+    requires levels { length levels.now ≡ length p.now }
+    requires paths { length paths.old ≡ length p.now }
+    requires frontier { All (λ c. c < length p.now) frontier.now }
+    requires past { All (λ c. mark_at levels.now c ≡ Some level → ⊥) frontier.now }
+    requires q { q < 2 ^ 126 }
+    ensures others { (c : ℕ) → (Contains frontier.now c → ⊥) → slice_index paths.new c ≡ slice_index paths.old c }
+    ensures paths { (c : ℕ) → Contains frontier.now c → ContinuesTo p.now q levels.now level paths.old c (slice_index paths.new c) }
+{
+    for c in frontier {
+        paths[*c as usize] = path_from(p, *c as usize, levels, level, paths, q);
+    }
+}
+
+// One cell more: a root with its own drop, or another cell.
+fn add_cell(start: &mut Start, cell: u32, drop: Option<u128>) -> Result<(), AllocError>
+    ensures { OnOk result ((own : List (Option ℕ)) → length own ≡ cell → IsStart own start.old.levels.items start.old.paths.items start.old.frontier.items → IsStart (own ++ drop ∷ []) start.new.levels.items start.new.paths.items start.new.frontier.items) }
+{
+    match drop {
+        Some(drop) => {
+            start.levels.push(Some(0))?;
+            start.paths.push(longer_path(drop, 0))?;
+            start.frontier.push(cell)?;
+            Ok(())
+        }
+        None => {
+            start.levels.push(None)?;
+            start.paths.push(0)?;
+            Ok(())
+        }
+    }
+}
+
+fn begin(alloc: Global, own: &[Option<u128>]) -> Result<Start, AllocError>
+    requires { length own.now ≤ 65536 }
+    ensures { IfOk result (λ s. IsStart own.now s.levels.items s.paths.items s.frontier.items) }
+{
+    let mut start = Start {
+        levels: Vec::new(alloc),
+        paths: Vec::new(alloc),
+        frontier: Vec::new(alloc),
+    };
+    for c in 0..own.len() {
+        add_cell(&mut start, c as u32, own[c])?;
+    }
+    Ok(start)
+}
+
+/// The level and the path of each cell that leads to a root. `own` has the own drops of the roots, none at the other cells; each branch carries at most `q`.
+pub(crate) fn search(
+    alloc: Global,
+    p: &Problem,
+    own: &[Option<u128>],
+    q: u128,
+) -> Result<Found, AllocError>
+    requires own { length own.now ≡ length p.now }
+    requires q { q < 2 ^ 126 }
+    ensures { IfOk result (λ f. IsSearched p.now q own.now f.levels.items f.paths.items) }
+{
+    let count = p.len();
+    let Start {
+        mut levels,
+        mut paths,
+        mut frontier,
+    } = begin(alloc, own)?;
+    for level in 0..count as u32 {
+        frontier = spread(alloc, p, &mut levels, &frontier, level + 1)?;
+        extend_paths(p, &levels, level, &frontier, q, &mut paths);
+    }
+    Ok(Found { levels, paths })
+}
