@@ -47,3 +47,10 @@ pub shows_step : (at : Bound → ℤ) (seen seen' : ℕ → ℤ) (bs : List Boun
 shows_step at seen seen' bs i x inside here else old c h = dite (ℕ_discrete c i)
     (λ e. subst (λ (k : ℕ). at (get_or (set bs i x) k no_bound) ≡ seen' k) (sym e) (ap at (get_or-set_same bs i x no_bound inside) ∙ here))
     (λ ne. ap at (get_or-set_other bs i c x no_bound ne) ∙ (old c (omega arith) ∙ sym (else c ne)))
+
+-- one more bound was written, which has what the others have
+pub holds_step : (P : ℕ → ℤ → Type 0) (at : Bound → ℤ) (bs : List Bound) (i : ℕ) (x : Bound) → i < length bs → P i (at x)
+    → ((c : ℕ) → c < i → P c (at (get_or bs c no_bound))) → (c : ℕ) → c < i + 1 → P c (at (get_or (set bs i x) c no_bound))
+holds_step P at bs i x inside here old c h = dite (ℕ_discrete c i)
+    (λ e. subst (λ (k : ℕ). P k (at (get_or (set bs i x) k no_bound))) (sym e) (subst (λ (y : Bound). P i (at y)) (sym (get_or-set_same bs i x no_bound inside)) here))
+    (λ ne. subst (λ (y : Bound). P c (at y)) (sym (get_or-set_other bs i c x no_bound ne)) (old c (omega arith)))

@@ -4,7 +4,7 @@ use Rattle.step_problem.specs.declared.heads.Bound.{Bound}
 use Rattle.step_problem.specs.Entries.{Entries}
 use Rattle.step_problem.specs.Exchanges.{AreSeen}
 use Rattle.step_problem.specs.Sides.{AsTight, AreHeads, IsPast, IsSettled, IsOnTheWay}
-use Rattle.step_problem.specs.Heads.{Ge, CanRise, CanSink, lower_at, upper_at}
+use Rattle.step_problem.specs.Heads.{Edges, Ge, CanRise, CanSink, head_at, lower_at, upper_at}
 
 module _ (p : List Entries) where
   -- lower heads on the way from a floor, and upper heads on the way from a ceiling
@@ -41,3 +41,8 @@ module _ (p : List Entries) where
   pub record AreNoLooser (old new : List Bound) : Type 0 where
     pub low : (c : ℕ) → c < length p → lower_at old c ≤ℤ lower_at new c
     pub high : (c : ℕ) → c < length p → upper_at new c ≤ℤ upper_at old c
+
+  -- the bounds are no tighter than any settled heads past the barrier
+  pub record AreHeld (b : Edges) (bounds : List Bound) : Type 0 where
+    pub low : (c : ℕ) → c < length p → IsUnderSettled (head_at b.floor) c (lower_at bounds c)
+    pub high : (c : ℕ) → c < length p → IsOverSettled (head_at b.ceiling) c (upper_at bounds c)

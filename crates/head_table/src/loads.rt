@@ -1,7 +1,7 @@
 // Looks at single words. Each is one atomic load.
 ghost use Rattle.std.specs.Prelude.{◌≡◌, ◌<◌, length, ◌≤ℤ◌};
 ghost use Rattle.step_problem.specs.Heads.{head_at};
-ghost use Rattle.head_table.specs.BySide.{AreNoLooser, IsOverSettled, IsUnderSettled};
+ghost use Rattle.head_table.specs.BySide.{AreHeld, AreNoLooser, IsOverSettled, IsUnderSettled};
 ghost use Rattle.head_table.specs.Seats.{IsSeatOf, SameHigh, SameHighBut, SameLow, SameLowBut, ShowsSeen, barrier_of, high_seen, low_seen, seen_of};
 
 use crate::coding::decoded;
@@ -59,12 +59,14 @@ impl<'a> HeadTable<'a> {
         decoded(found)
     }
 
-    /// Loads each word once, into a slice of one bound for each cell.
+    /// Loads each word once, into a slice of one bound for each cell. What it shows is no looser than what the
+    /// seat had seen, and no tighter than any settled heads past the barrier.
     pub fn watch(&self, seat: &mut HeadSeat, bounds: &mut [Bound])
         requires seat { IsSeatOf self.now seat.old }
         requires len { length bounds.old ≡ length self.now.problem.now }
         ensures seat { IsSeatOf self.now seat.new }
         ensures shown { ShowsSeen self.now.problem.now seat.new bounds.new }
+        ensures held { AreHeld self.now.problem.now (barrier_of self.now) bounds.new }
         ensures no_looser { AreNoLooser self.now.problem.now (seen_of seat.old) (seen_of seat.new) }
     {
         for cell in 0..bounds.len() {

@@ -1,9 +1,9 @@
 -- The heads of links are loaded one by one.
-use Rattle.std.proofs.Common.{◌≡◌, ℕ, zero, suc, ◌+◌, ◌<◌, List, [], ◌∷◌, length, take, slice_set, All, ℤ, ◌≤ℤ◌, refl, sym, ap, ◌∙◌, arith}
+use Rattle.std.proofs.Common.{◌≡◌, ℕ, zero, suc, ◌+◌, ◌<◌, List, [], ◌∷◌, length, take, slice_set, ℤ, ◌≤ℤ◌, refl, sym, ◌∙◌, arith}
 use Rattle.std.proofs.lemmas.Int.{ints, clamps}
 use Rattle.std.specs.Int.{int_max, int_min}
 use Rattle.step_problem.specs.declared.entry.Link.{Link}
-use Rattle.step_problem.specs.Entries.{Entries, no_link, link_at, ends_in}
+use Rattle.step_problem.specs.Entries.{Entries, link_at, ends_in}
 use Rattle.cell_relax.proofs.Reading.{read_more}
 use Rattle.head_table.specs.declared.table.HeadSeat.{HeadSeat}
 use Rattle.head_table.specs.BySide.{AreNoLooser}

@@ -6,10 +6,10 @@ use native.Mathlib.Nat.{mod-lt}
 use Rattle.step_problem.specs.declared.heads.Bound.{Bound}
 use Rattle.step_problem.specs.Entries.{Entries}
 use Rattle.step_problem.specs.Conditions.{IsProblem}
-use Rattle.step_problem.specs.Sides.{AsTight, IsPast}
+use Rattle.step_problem.specs.Sides.{IsPast}
 use Rattle.step_problem.specs.Heads.{lower_at, upper_at}
 use Rattle.step_problem.proofs.Sides.{IsSide, as_tight_refl, passes_more}
-use Rattle.step_problem.proofs.BothSides.{low_side, high_side, le_trans}
+use Rattle.step_problem.proofs.BothSides.{low_side, high_side}
 use Rattle.head_table.specs.declared.table.HeadTable.{HeadTable}
 use Rattle.head_table.specs.declared.table.HeadSeat.{HeadSeat}
 use Rattle.head_table.specs.BySide.{AreNoLooser, IsRaised, IsSunk}

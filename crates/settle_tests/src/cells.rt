@@ -91,3 +91,31 @@ pub fn problem_of(
 pub fn bound(low: i64, high: i64) -> Bound {
     Bound { low, high }
 }
+
+// Cells in a row, each beside a known head of its own.
+pub fn row_of(alloc: Global, count: u32) -> Result<Vec<Cell>, AllocError> {
+    let mut cells = Vec::new(alloc);
+    for i in 0..count {
+        let mut cell = empty_cell(alloc, i + 1);
+        for other in [i.wrapping_sub(1), i + 1] {
+            if other < count {
+                cell.links.push(Link {
+                    cell: other,
+                    lo: ONE,
+                    hi: ONE,
+                })?;
+            }
+        }
+        let head = (i % 10) as i64 * 1_000_000_000;
+        cell.fixed.push(Fixed {
+            kind: FixedKind::General,
+            source: i + 1,
+            lo: ONE,
+            hi: ONE,
+            head_lo: head,
+            head_hi: head,
+        })?;
+        cells.push(cell)?;
+    }
+    Ok(cells)
+}

@@ -4,16 +4,14 @@ ghost use Rattle.step_problem.specs.Heads.{IsBarrier};
 ghost use Rattle.step_problem.specs.Settling.{Settles};
 ghost use Rattle.settle_driver.specs.Phases.{IsPlan};
 
-use crate::cells::{ONE, TEN, bound, cell_between, empty_cell, problem_of, two_between};
+use crate::cells::{ONE, TEN, bound, empty_cell, problem_of, two_between};
 use outside::{FreeGate, Gate};
-use settle_driver::{PlainSettler, Plan, SettleBy, ThreadSettler, settle};
-use std::alloc::{AllocError, Global};
+use settle_driver::{Plan, SettleBy, ThreadSettler, settle};
+use std::alloc::Global;
 use std::sync::atomic::{AtomicU64, Ordering};
 use std::test::Fail;
 use std::thread::Threads;
-use step_problem::{
-    Barrier, Bound, Cell, Fixed, FixedKind, Link, Open, Problem, River, SettleFault, Settler, Side,
-};
+use step_problem::{Barrier, Bound, Open, Problem, River, SettleFault, Settler, Side};
 
 fn plan(workers: u32, turns_per_cell: u32, rounds: u32) -> Plan
     ensures { result ≡ record { workers = workers; turns_per_cell = turns_per_cell; rounds = rounds } }
@@ -90,34 +88,6 @@ fn settle_by_threads<R: Threads + Sync>(
     settle_with(&mut settler, alloc, p, b)
 }
 
-// Cells in a row, each beside a known head of its own.
-fn row_of(alloc: Global, count: u32) -> Result<Vec<Cell>, AllocError> {
-    let mut cells = Vec::new(alloc);
-    for i in 0..count {
-        let mut cell = empty_cell(alloc, i + 1);
-        for other in [i.wrapping_sub(1), i + 1] {
-            if other < count {
-                cell.links.push(Link {
-                    cell: other,
-                    lo: ONE,
-                    hi: ONE,
-                })?;
-            }
-        }
-        let head = (i % 10) as i64 * 1_000_000_000;
-        cell.fixed.push(Fixed {
-            kind: FixedKind::General,
-            source: i + 1,
-            lo: ONE,
-            hi: ONE,
-            head_lo: head,
-            head_hi: head,
-        })?;
-        cells.push(cell)?;
-    }
-    Ok(cells)
-}
-
 #[test]
 fn one_phase_without_turns_leaves_the_first_cell_open(rt: HostRuntime) -> Result<(), Fail> {
     let (p, b) = problem_of(&rt, rt.alloc(), two_between(rt.alloc())?, 0, TEN)?;
@@ -148,6 +118,20 @@ fn phases_without_turns_settle_two_cells(rt: HostRuntime) -> Result<(), Fail> {
 }
 
 #[test]
+fn one_phase_of_many_turns_settles_two_cells(rt: HostRuntime) -> Result<(), Fail> {
+    let (p, b) = problem_of(&rt, rt.alloc(), two_between(rt.alloc())?, 0, TEN)?;
+    let Ok(bounds) = settle(&rt, rt.alloc(), &p, &b, plan(1, 64, 1), &FreeGate) else {
+        return Err("not settled")?;
+    };
+    let expected = [
+        bound(3_333_333_333, 3_333_333_334),
+        bound(6_666_666_666, 6_666_666_667),
+    ];
+    assert_eq!(rt; bounds.as_slice(), expected.as_slice());
+    Ok(())
+}
+
+#[test]
 fn two_workers_overlap(rt: HostRuntime) -> Result<(), Fail> {
     let gate = Meeting {
         first: AtomicU64::new(0),
@@ -168,26 +152,6 @@ fn two_workers_overlap(rt: HostRuntime) -> Result<(), Fail> {
     assert_eq!(rt; gate.failures.load(Ordering::SeqCst), 0);
     assert!(rt; first > 0 && first % 64 == 0);
     assert_eq!(rt; gate.second.load(Ordering::SeqCst), first);
-    Ok(())
-}
-
-#[test]
-fn a_row_has_one_pair_whatever_the_workers(rt: HostRuntime) -> Result<(), Fail> {
-    let (p, b) = problem_of(&rt, rt.alloc(), row_of(rt.alloc(), 200)?, 0, TEN)?;
-    let expected = match PlainSettler::new(1_000_000).settle(rt.alloc(), &p, &b) {
-        Ok(bounds) => bounds,
-        Err(_) => return Err("not settled")?,
-    };
-    for workers in [1, 4, 64] {
-        let plan = plan(workers, 64, 1_000_000);
-        assert!(rt; plan.fits());
-        let answer = settle(&rt, rt.alloc(), &p, &b, plan, &FreeGate);
-        let bounds = match answer {
-            Ok(bounds) => bounds,
-            Err(_) => return Err("not settled")?,
-        };
-        assert_eq!(rt; bounds.as_slice(), expected.as_slice());
-    }
     Ok(())
 }
 

@@ -1,5 +1,4 @@
-use Rattle.std.proofs.Common.{◌≡◌, ℕ, List, length, take, All}
-use Rattle.step_problem.specs.declared.entry.Link.{Link}
+use Rattle.std.proofs.Common.{◌≡◌, ℕ, length, take, All}
 use Rattle.step_problem.specs.Entries.{ends_in}
 use Rattle.head_table.specs.BySide.{AreNoLooser}
 use Rattle.head_table.specs.Seats.{IsSeatOf, low_seen, seen_of, SameHigh}

@@ -1,4 +1,4 @@
-use Rattle.std.proofs.Common.{ℕ, ◌<◌, ◌∙◌, List, length, All, FitsSigned, rules, sym, ap, subst}
+use Rattle.std.proofs.Common.{◌<◌, ◌∙◌, List, length, All, FitsSigned, rules, sym, subst}
 use Rattle.std.specs.Int.{w64}
 use Rattle.std.proofs.lemmas.Int.{to_z-of_z}
 use Rattle.step_problem.specs.declared.entry.Link.{Link}

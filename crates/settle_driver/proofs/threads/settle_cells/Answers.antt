@@ -1,7 +1,6 @@
-use Rattle.std.proofs.Common.{◌≡◌, ℕ, ◌<◌, arith, refl, sym, ◌∙◌, subst, ap, Bool, true, false, List}
+use Rattle.std.proofs.Common.{◌≡◌, ℕ, ◌<◌, arith, refl, sym, ◌∙◌, subst, ap, false, List}
 use Rattle.std.specs.Prelude.{Option, Some, None, MatchOption, is_some, not}
 use Rattle.step_problem.specs.declared.heads.Bound.{Bound}
-use Rattle.step_problem.specs.declared.heads.Side.{Side}
 use Rattle.step_problem.specs.Settling.{IsFirstOpen}
 use Rattle.cell_relax.specs.Words.{AreWords}
 use Rattle.settle_driver.specs.Sweeps.{AreBothSettled}
