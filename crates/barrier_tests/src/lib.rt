@@ -2,4 +2,10 @@
 #![tactic(auto)]
 
 #[cfg(test)]
-mod tests;
+mod cells;
+#[cfg(test)]
+mod one_cell;
+#[cfg(test)]
+mod paths;
+#[cfg(test)]
+mod refusals;
