@@ -1,5 +1,5 @@
 -- A folder as clauses see it: a finite map from names to bytes.
-use Rattle.std.specs.Prelude.{◌≡◌, ℕ, ◌<◌, ◌≤◌, List, [], ◌∷◌, length, cond, None, Some, IsSomeAnd, Option}
+use Rattle.std.specs.Prelude.{◌≡◌, ℕ, ◌<◌, ◌≤◌, List, [], ◌∷◌, length, cond, None, Some, IfSome, IsSomeAnd, Option}
 use Rattle.std.specs.Str.{bytes_eq}
 use Rattle.outside.specs.declared.traits.Found.{Found}
 use Rattle.outside.specs.declared.traits.Found.TheVariants.{Bytes, Missing, TooLong}
@@ -25,6 +25,12 @@ abbrev pub IsWithin : ℕ → Found → Type 0
 IsWithin limit (Bytes v) = length v.items ≤ limit
 IsWithin limit Missing = Unit {0}
 IsWithin limit TooLong = Unit {0}
+
+-- what a reading of all the bytes that are left, of at most limit bytes, answers
+abbrev pub IsWhole : ℕ → Option (List ℕ) → Found → Type 0
+IsWhole limit left (Bytes v) = IfSome left (λ bytes. v.items ≡ bytes) × (length v.items ≤ limit)
+IsWhole limit left Missing = ⊥
+IsWhole limit left TooLong = IfSome left (λ bytes. limit < length bytes)
 
 -- the files of a folder that tells none
 abbrev pub untold : Option (List File)

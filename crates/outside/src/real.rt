@@ -1,7 +1,8 @@
-ghost use Rattle.std.specs.Prelude.{◌≡◌, ℕ, List, None, refl, IfOk, IfSome};
+ghost use Rattle.std.specs.Prelude.{◌≡◌, ℕ, ◌≤◌, List, length, take, None, refl, IfOk, IfSome, IfNone};
+ghost use Rattle.std.specs.Io.KnownBytes.{Appends, Keeps};
 ghost use Rattle.outside.specs.Counts.{ReadCounts};
-ghost use Rattle.outside.specs.Files.{untold, IsFound, IsWithin};
-ghost use Rattle.outside.specs.Puts.{Put, PutsMake};
+ghost use Rattle.outside.specs.Files.{untold, IsFound, IsWhole, IsWithin};
+ghost use Rattle.outside.specs.Puts.{Put, PutsMake, Seen};
 
 use crate::traits::{Folder, FolderError, Found, Sink, SinkError};
 use std::alloc::Global;
@@ -31,6 +32,29 @@ impl<'a, R: Files> RealFolder<'a, R> {
     }
 }
 
+// All that a reader has left, where that is at most `limit` bytes.
+fn read_whole<S: Read>(alloc: Global, from: &mut S, limit: u64) -> Result<Found, FolderError>
+    ensures { IfOk result (IsWhole limit (S.remaining from.old)) }
+{
+    let mut bytes = Vec::new(alloc);
+    let mut piece = [0u8; 4096];
+    for _ in 0..u64::MAX {
+        match from.read(&mut piece) {
+            Ok(0) => return Ok(Found::Bytes(bytes)),
+            Ok(n) => {
+                if bytes.extend_from_slice(&piece[..n]).is_err() {
+                    return Err(FolderError::Memory);
+                }
+                if bytes.len() as u64 > limit {
+                    return Ok(Found::TooLong);
+                }
+            }
+            Err(_) => return Err(FolderError::Read),
+        }
+    }
+    Err(FolderError::Read)
+}
+
 impl<'a, R: Files> Folder for RealFolder<'a, R> {
     ghost files = { λ _. untold };
 
@@ -54,31 +78,15 @@ impl<'a, R: Files> Folder for RealFolder<'a, R> {
                 return Err(FolderError::Read);
             }
         };
-        let mut bytes = Vec::new(alloc);
-        let mut piece = [0u8; 4096];
-        for _ in 0..u64::MAX {
-            match file.read(&mut piece) {
-                Ok(0) => return Ok(Found::Bytes(bytes)),
-                Ok(n) => {
-                    if bytes.extend_from_slice(&piece[..n]).is_err() {
-                        return Err(FolderError::Memory);
-                    }
-                    if bytes.len() as u64 > limit {
-                        return Ok(Found::TooLong);
-                    }
-                }
-                Err(_) => {
-                    self.faults = self.faults.saturating_add(1);
-                    return Err(FolderError::Read);
-                }
-            }
+        let answer = read_whole(alloc, &mut file, limit);
+        if matches!(answer, Err(FolderError::Read)) {
+            self.faults = self.faults.saturating_add(1);
         }
-        self.faults = self.faults.saturating_add(1);
-        Err(FolderError::Read)
+        answer
     }
 }
 
-/// A writer as a sink. It tells no content, and counts the writes that failed.
+/// A writer as a sink. It tells the bytes that the writer tells, and counts the writes that failed.
 #[derive(Drop)]
 pub struct RealSink<W: Write + Drop> {
     to: W,
@@ -86,23 +94,35 @@ pub struct RealSink<W: Write + Drop> {
 }
 
 impl<W: Write + Drop> Model for RealSink<W> {
-    ghost Value = { ℕ };
+    ghost Value = { Seen };
 
-    ghost view = { λ s. s.faults };
+    ghost view = { λ s. record { written = W.contents s.to; faults = s.faults } };
 }
 
 impl<W: Write + Drop> RealSink<W> {
     pub fn new(to: W) -> RealSink<W>
-        ensures { result ≡ 0 }
+        ensures { result ≡ record { written = W.contents to; faults = 0 } }
     {
         RealSink { to, faults: 0 }
     }
 }
 
-impl<W: Write + Drop> Sink for RealSink<W> {
-    ghost seen = { λ s. record { written = None; faults = s } };
+// How many of the bytes one write took. A write that takes none has failed.
+fn write_part<W: Write>(to: &mut W, bytes: &[u8]) -> Option<usize>
+    ensures within { IfSome result (λ n. n ≤ length bytes.now) }
+    ensures taken { IfSome result (λ n. Appends (W.contents to.old) (W.contents to.new) (take n bytes.now)) }
+    ensures failed { IfNone result (Keeps (W.contents to.old) (W.contents to.new)) }
+{
+    match to.write(bytes) {
+        Ok(n) if n > 0 => Some(n),
+        _ => None,
+    }
+}
 
-    ghost leads = { λ s puts t. PutsMake (record { written = None; faults = s }) puts (record { written = None; faults = t }) };
+impl<W: Write + Drop> Sink for RealSink<W> {
+    ghost seen = { λ s. s };
+
+    ghost leads = { PutsMake };
 
     ghost rests = { λ s. refl };
 
@@ -114,12 +134,12 @@ impl<W: Write + Drop> Sink for RealSink<W> {
             if at >= piece.len() {
                 return Ok(());
             }
-            match self.to.write(&piece[at..]) {
-                Ok(0) | Err(_) => {
+            match write_part(&mut self.to, &piece[at..]) {
+                Some(n) => at += n,
+                None => {
                     self.faults = self.faults.saturating_add(1);
                     return Err(SinkError::Write);
                 }
-                Ok(n) => at += n,
             }
         }
         self.faults = self.faults.saturating_add(1);
