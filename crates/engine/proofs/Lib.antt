@@ -17,3 +17,8 @@ pub mod Settled
 pub mod Unique
 pub mod Makes
 pub mod Outcomes
+pub mod RowEnclosed
+pub mod RowHeld
+pub mod RowSpan
+pub mod RowBetween
+pub mod RowThirds

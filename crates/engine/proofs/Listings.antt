@@ -4,6 +4,7 @@ use Rattle.std.proofs.lemmas.List.{append_assoc}
 use Rattle.outside.specs.Puts.{Put, taken}
 use Rattle.step_problem.specs.declared.heads.Bound.{Bound}
 use Rattle.engine.specs.declared.deck.row.RowCell.{RowCell}
+use Rattle.engine.specs.RowDeck.{IsRow}
 use Rattle.engine.specs.RowSteps.{IsStep, SettlesIn}
 use Rattle.engine.specs.Listing.{Text, first_line, step_text, end_line, unfinished_line, listing}
 use Rattle.engine.specs.Runs.{Row, IsRun, whole, early, all_due, first, IsTail, wanting, Due, memory_put, status_after}
@@ -12,6 +13,7 @@ use Rattle.engine.specs.declared.status.Status.{Status}
 use Rattle.engine.specs.declared.status.Status.TheVariants as status
 use Rattle.engine.specs.declared.solving.StepFault.{StepFault}
 use Rattle.engine.specs.declared.solving.StepFault.TheVariants as fault
+use Rattle.engine.proofs.RowBetween.{row_between}
 use Rattle.engine.proofs.Ends.{IsLate, after_late, tail_late, late_not_ok, late_not_read}
 
 pub put_was : (piece line : Text) (r s : Option Status) (tail : List Put) → piece ≡ line → r ≡ s → IsPut piece r tail → IsPut line s tail
@@ -28,7 +30,7 @@ joined_thrice L a b c d h =
     let P : List Put → Type 0 = λ x. L (x ++ d) in
     joined L a (b ++ c) d (joined P a b c h)
 
-module _ (rounds : ℕ) (cells : List RowCell) where
+module _ (rounds : ℕ) (cells : List RowCell) (row : IsRow cells) where
   late_run : (end : Status) (puts : List Put) → IsLate end → IsRun rounds (Row cells) end puts → IsRunOf rounds cells end puts
   late_run end puts late run = record { run = run; reads_nothing = late_not_read end late; delivers = λ e. absurd (late_not_ok end late e) }
 
@@ -59,7 +61,7 @@ module _ (rounds : ℕ) (cells : List RowCell) where
 
   -- all pieces of the listing are due
   listed : (heads : List Bound) → IsStep cells heads → Due rounds (Row cells) status.Ok (listing heads)
-  listed heads step = (cells, heads, refl, step, refl)
+  listed heads step = (cells, heads, refl, step, row_between cells row heads step, refl)
 
   pub stops_at_step : (text : List ℕ) (end : Status) (tail : List Put) → IsStepText cells text → IsPut text (Some end) tail → IsRunOf rounds cells end (taken first_line ∷ tail)
   stops_at_step text end tail is h =
@@ -71,7 +73,7 @@ module _ (rounds : ℕ) (cells : List RowCell) where
   whole_run heads step = record {
     run = whole status.Ok (listing heads) (listed heads step);
     reads_nothing = λ b. let bad : status.Ok ≡ status.ReadFault = b in cc;
-    delivers = λ e. record { cells = cells; heads = heads; row = refl; step = step; written = refl };
+    delivers = λ e. record { cells = cells; heads = heads; row = refl; step = step; encloses = row_between cells row heads step; written = refl };
   }
 
   stepped : (heads : List Bound) (end : Status) (tail : List Put) → IsStep cells heads → IsLast end_line status.Ok end tail → IsRunOf rounds cells end (taken first_line ∷ taken (step_text heads) ∷ tail)

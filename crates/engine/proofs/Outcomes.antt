@@ -17,7 +17,7 @@ use Rattle.engine.proofs.Unique.{one_step}
 pub headline : (rounds : ℕ) (words : List Text) (files : Option (List File)) (n m : ℕ) (end : Status) (puts : List Put) (old new : Seen) → Answers rounds words files n m end puts → PutsMake old puts new → end ≡ status.Ok → IfSome files (λ fs. Headline words fs old.written new.written)
 headline rounds words (Some fs) n m end puts old new a makes e =
     let d = a.delivers e in
-    record { cells = d.cells; heads = d.heads; row = sym a.is ∙ d.row; step = d.step; only = λ others is. one_step d.cells d.heads others d.step is; written = all_written (listing d.heads) old new puts d.written makes }
+    record { cells = d.cells; heads = d.heads; row = sym a.is ∙ d.row; step = d.step; encloses = d.encloses; only = λ others is. one_step d.cells d.heads others d.step is; written = all_written (listing d.heads) old new puts d.written makes }
 headline rounds words None n m end puts old new a makes e = tt
 
 row_of : (xs ys : List RowCell) → Row xs ≡ Row ys → xs ≡ ys

@@ -17,7 +17,7 @@ use Rattle.engine.proofs.RowPositions.{variable_at, before_within, positions_few
 use Rattle.engine.proofs.RowNeighbours.{has_left, has_right, links_are, fixed_are, Holds, holds_variable, entries_placed, linked_left, linked_right, first_of_both, second_of_both}
 use Rattle.engine.proofs.Pairs.{All-two, length-two, sum_by-two, apart-two}
 
-abs_within : (z : ℤ) (b : ℕ) → unsigned_abs z ≤ b → IsWithin z b
+pub abs_within : (z : ℤ) (b : ℕ) → unsigned_abs z ≤ b → IsWithin z b
 abs_within (pos n) b h = record { above = omega (arith, ints); below = omega (arith, ints) }
 abs_within (negsuc n) b h = record { above = omega (arith, ints); below = omega (arith, ints) }
 
@@ -67,22 +67,22 @@ cell-fits cells j row =
     let f = fixed_conduct cells j in
     record { links = links-fit cells j; fixed = fixed-fits cells j row; rivers = All-nil RiverFits; drains = All-nil DrainFits; evaps = All-nil EvapFits; conductances = omega (arith, l, f); flows = lit< tt }
 
-left_holds : (cells : List RowCell) (j : ℕ) → has_left cells j ≡ true → Holds cells (j - 1)
+pub left_holds : (cells : List RowCell) (j : ℕ) → has_left cells j ≡ true → Holds cells (j - 1)
 left_holds cells j e = holds_variable cells (j - 1) (second_of_both (nat_lt 0 j) _ e)
 
-right_holds : (cells : List RowCell) (j : ℕ) → has_right cells j ≡ true → Holds cells (j + 1)
+pub right_holds : (cells : List RowCell) (j : ℕ) → has_right cells j ≡ true → Holds cells (j + 1)
 right_holds cells j e = holds_variable cells (j + 1) (second_of_both (nat_lt (j + 1) (length cells)) _ e)
 
-left_first : (cells : List RowCell) (j : ℕ) → has_left cells j ≡ true → 0 < j
+pub left_first : (cells : List RowCell) (j : ℕ) → has_left cells j ≡ true → 0 < j
 left_first cells j e = ltb-true 0 j (first_of_both (nat_lt 0 j) _ e)
 
 -- how many cells the problem has
-below_length : (cells : List RowCell) (k : ℕ) → Holds cells k → variables_before cells k < length (row_problem cells)
+pub below_length : (cells : List RowCell) (k : ℕ) → Holds cells k → variables_before cells k < length (row_problem cells)
 below_length cells k holds =
     let P : ℕ → Type 0 = λ n. variables_before cells k < n in
     subst P (sym (length-map (variable_positions 0 cells) (entries_of cells))) (before_within cells 0 k holds.within holds.variable)
 
-placed : (cells : List RowCell) (k : ℕ) → Holds cells k → entries_at (row_problem cells) (variables_before cells k) ≡ entries_of cells k
+pub placed : (cells : List RowCell) (k : ℕ) → Holds cells k → entries_at (row_problem cells) (variables_before cells k) ≡ entries_of cells k
 placed cells k holds = entries_placed cells k holds (before_within cells 0 k holds.within holds.variable)
 
 mutual_left : (cells : List RowCell) (j : ℕ) → Holds cells j → has_left cells j ≡ true → Contains (entries_at (row_problem cells) (variables_before cells (j - 1))).links (link_to cells j)
@@ -122,7 +122,7 @@ links_fit cells j holds =
     })
 
 -- what holds of each variable cell of the row holds of each cell of the problem
-each_cell : (cells : List RowCell) (P : ℕ → Entries → Type 0) → ((j : ℕ) → Holds cells j → P (variables_before cells j) (entries_of cells j)) → (c : ℕ) → c < length (row_problem cells) → P c (entries_at (row_problem cells) c)
+pub each_cell : (cells : List RowCell) (P : ℕ → Entries → Type 0) → ((j : ℕ) → Holds cells j → P (variables_before cells j) (entries_of cells j)) → (c : ℕ) → c < length (row_problem cells) → P c (entries_at (row_problem cells) c)
 each_cell cells P h c within =
     let Q : ℕ → Type 0 = λ n. c < n in
     let at = variable_at cells 0 c (subst Q (length-map (variable_positions 0 cells) (entries_of cells)) within) in

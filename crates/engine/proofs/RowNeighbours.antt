@@ -11,7 +11,7 @@ use Rattle.engine.specs.RowProblems.{beside, entries_of, fixed_over, fixed_to, l
 use Rattle.engine.proofs.RowPositions.{position_at}
 use Rattle.engine.proofs.Pairs.{two, two_over, Contains-left, Contains-right}
 
-both : (a b : Bool) → a ≡ true → b ≡ true → (a && b) ≡ true
+pub both : (a b : Bool) → a ≡ true → b ≡ true → (a && b) ≡ true
 both true true p q = refl
 both true false p q = q
 both false b p q = p

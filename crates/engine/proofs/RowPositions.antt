@@ -9,13 +9,13 @@ use Rattle.engine.specs.RowProblems.{variable_positions}
 abbrev pub counted : RowCell → ℕ
 counted x = cond (not x.constant) 1 0
 
-before_more : (x : RowCell) (cells : List RowCell) (j : ℕ) → variables_before (x ∷ cells) (suc j) ≡ counted x + variables_before cells j
+pub before_more : (x : RowCell) (cells : List RowCell) (j : ℕ) → variables_before (x ∷ cells) (suc j) ≡ counted x + variables_before cells j
 before_more x cells j = sum_by-cons counted x (take j cells)
 
-variable_counts : (x : RowCell) → x.constant ≡ false → counted x ≡ 1
+pub variable_counts : (x : RowCell) → x.constant ≡ false → counted x ≡ 1
 variable_counts x e = rw e refl
 
-constant_counts : (x : RowCell) → x.constant ≡ true → counted x ≡ 0
+pub constant_counts : (x : RowCell) → x.constant ≡ true → counted x ≡ 0
 constant_counts x e = rw e refl
 
 -- the position of the variable cell that has so many before it

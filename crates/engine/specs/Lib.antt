@@ -5,6 +5,8 @@ pub mod RowSeen
 pub mod RowDeck
 pub mod Rows
 pub mod RowProblems
+pub mod RowEquations
+pub mod RowExample
 pub mod RowSteps
 pub mod Fixed
 pub mod Listing

@@ -8,6 +8,7 @@ use Rattle.outside.specs.declared.refusals.InputFault.TheVariants as input
 use Rattle.outside.specs.declared.traits.SinkError.{SinkError}
 use Rattle.step_problem.specs.declared.heads.Bound.{Bound}
 use Rattle.engine.specs.declared.deck.row.RowCell.{RowCell}
+use Rattle.engine.specs.RowEquations.{EnclosesRow}
 use Rattle.engine.specs.RowSteps.{IsStep, SettlesIn}
 use Rattle.engine.specs.Listing.{Text, read_fault_line, refused_line, unfinished_line, step_text, listing}
 use Rattle.engine.specs.Runs.{Case, Row, IsCase, IsTail, IsRun, memory_put, status_after}
@@ -57,6 +58,7 @@ pub record Delivers (case : Case) (puts : List Put) : Type 0 where
   pub heads : List Bound
   pub row : case ≡ Row cells
   pub step : IsStep cells heads
+  pub encloses : EnclosesRow cells heads
   pub written : puts ≡ map taken (listing heads)
 
 -- a run over a row that ends so puts these

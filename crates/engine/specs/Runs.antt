@@ -13,6 +13,7 @@ use Rattle.engine.specs.declared.deck.row.RowCell.{RowCell}
 use Rattle.outside.specs.Names.{IsGoodName}
 use Rattle.outside.specs.declared.refusals.InputFault.TheVariants.{Refused}
 use Rattle.engine.specs.RowDeck.{FaultOfName, IsRow, row_deck}
+use Rattle.engine.specs.RowEquations.{EnclosesRow}
 use Rattle.engine.specs.RowSteps.{IsStep, SettlesIn}
 use Rattle.engine.specs.Listing.{Text, first_line, unfinished_line, read_fault_line, memory_line, usage_line, refused_line, listing}
 use Rattle.engine.specs.declared.status.Status.{Status}
@@ -63,7 +64,7 @@ IsCase words None case = IsUntoldCase (name_of words) case
 
 -- the pieces due where a run ends so, and the cause of that end
 abbrev pub Due : ℕ → Case → Status → List Text → Type 0
-Due rounds case status.Ok pieces = (cells : List RowCell) × (heads : List Bound) × (case ≡ Row cells) × IsStep cells heads × (pieces ≡ listing heads)
+Due rounds case status.Ok pieces = (cells : List RowCell) × (heads : List Bound) × (case ≡ Row cells) × IsStep cells heads × EnclosesRow cells heads × (pieces ≡ listing heads)
 Due rounds case status.Usage pieces = (case ≡ NoWords) × (pieces ≡ usage_line ∷ [])
 Due rounds case (status.Refused refusal) pieces = (case ≡ Refuses refusal) × (pieces ≡ refused_line refusal ∷ [])
 Due rounds case (status.NoBound period step fault) pieces = ⊥
@@ -113,12 +114,13 @@ pub record Puts (leads : List Put → Type 0) (rounds : ℕ) (words : List Text)
   pub leads_on : leads puts
   pub run : IsRun rounds case end puts
 
--- The headline, of a run that ends well: the bytes are those of the one listing that the files define.
+-- The headline, of a run that ends well: the bytes are those of the one listing that the files define, and every solution of the row's equations lies between its heads.
 pub record Headline (words : List Text) (files : List File) (old new : Option (List ℕ)) : Type 0 where
   pub cells : List RowCell
   pub heads : List Bound
   pub row : case_of words files ≡ Row cells
   pub step : IsStep cells heads
+  pub encloses : EnclosesRow cells heads
   pub only : (others : List Bound) → IsStep cells others → others ≡ heads
   pub written : Appends old new (concat (listing heads))
 

@@ -3,6 +3,7 @@
 
 mod deck;
 mod fixed;
+pub mod laws;
 mod puts;
 mod row_barrier;
 mod row_problem;

@@ -1,6 +1,7 @@
 ghost use Rattle.std.specs.Prelude.{◌≡◌, ◌<◌, ◌⊎◌, List, [], ◌++◌, map, option_map, IfSome};
 ghost use Rattle.outside.specs.Puts.{Put};
 ghost use Rattle.outside.specs.Counts.{Rose};
+ghost use Rattle.settle_driver.specs.Phases.{IsPlan};
 ghost use Rattle.engine.specs.RowDeck.{IsRow};
 ghost use Rattle.engine.specs.RowSteps.{given_rounds};
 ghost use Rattle.engine.specs.Runs.{Puts, Headline, HasListing, IsEndToday, name_of};
@@ -8,10 +9,11 @@ ghost use Rattle.engine.specs.Parts.{Answers, IsReadingEnd, IsRunOf, IsStepEnd};
 
 use crate::deck::{RowCell, read_row_deck};
 use crate::puts::{put_last, put_memory, put_piece};
-use crate::solving::{StepFault, given_rounds, solve};
+use crate::solving::{StepFault, given_plan, solve};
 use crate::status::Status;
 use crate::texts::write_refused;
 use outside::{Folder, Gate, InputFault, Sink};
+use settle_driver::Plan;
 use std::alloc::Global;
 use std::thread::Threads;
 
@@ -87,7 +89,7 @@ fn answer<R: Threads + Sync, F: Folder, K: Sink, G: Gate + Sync>(
         return put_last(out, USAGE, Status::Usage);
     };
     match read_row_deck(alloc, folder, name) {
-        Ok(deck) => put_listing(rt, alloc, given_rounds(), deck.cells(), out, gate),
+        Ok(deck) => put_listing(rt, alloc, given_plan(), deck.cells(), out, gate),
         Err(fault) => end_reading(alloc, fault, out),
     }
 }
@@ -127,24 +129,24 @@ fn end_at_step<K: Sink>(fault: StepFault, out: &mut K) -> Status
     }
 }
 
-// The first line, the step once it is settled, and the last line.
-fn put_listing<R: Threads + Sync, K: Sink, G: Gate + Sync>(
+// The first line, the step once it is settled by this plan, and the last line.
+pub(crate) fn put_listing<R: Threads + Sync, K: Sink, G: Gate + Sync>(
     rt: &R,
     alloc: Global,
-    rounds: u32,
+    plan: Plan,
     cells: &[RowCell],
     out: &mut K,
     gate: &G,
 ) -> Status
     requires row { IsRow cells.now }
-    requires some_round { 0 < rounds }
+    requires plan { IsPlan plan }
     ensures { (start : _) (puts : List Put) → K.leads start puts out.old →
-        (more : List Put) × K.leads start (puts ++ more) out.new × IsRunOf rounds cells.now result more }
+        (more : List Put) × K.leads start (puts ++ more) out.new × IsRunOf plan.rounds cells.now result more }
 {
     if let Some(status) = put_piece(out, b"HEADS 2 DIGITS 12 UNIT 2\n") {
         return status;
     }
-    let text = match solve(rt, alloc, rounds, cells, gate) {
+    let text = match solve(rt, alloc, plan, cells, gate) {
         Ok(text) => text,
         Err(fault) => return end_at_step(fault, out),
     };

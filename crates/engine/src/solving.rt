@@ -17,25 +17,17 @@ use std::alloc::{AllocError, Global};
 use std::thread::Threads;
 use step_problem::{Bound, SettleFault};
 
-/// How many plain rounds a step is given.
+/// How a step is settled where the words don't say: by four workers, with 64 turns for each cell in a phase,
+/// and a million rounds.
 #[tactic(auto, unfolding(crate::specs::RowSteps::given_rounds))]
-pub(crate) fn given_rounds() -> u32
-    ensures value { result ≡ given_rounds }
-    ensures some { 0 < result }
-{
-    1_000_000
-}
-
-// How a step is settled: by four workers, with 64 turns for each cell in a phase.
-fn plan_of(rounds: u32) -> Plan
-    requires { 0 < rounds }
+pub(crate) fn given_plan() -> Plan
     ensures fits { IsPlan result }
-    ensures rounds { result.rounds ≡ rounds }
+    ensures rounds { result.rounds ≡ given_rounds }
 {
     Plan {
         workers: 4,
         turns_per_cell: 64,
-        rounds,
+        rounds: 1_000_000,
     }
 }
 
@@ -60,17 +52,17 @@ impl From<AllocError> for StepFault {
 fn settle_row<R: Threads + Sync, G: Gate + Sync>(
     rt: &R,
     alloc: Global,
-    rounds: u32,
+    plan: Plan,
     cells: &[RowCell],
     gate: &G,
 ) -> Result<Vec<Bound>, StepFault>
     requires row { IsRow cells.now }
-    requires some_round { 0 < rounds }
-    ensures { MatchResult result (λ bounds. AreSettled (row_problem cells.now) (constant_barrier (row_problem cells.now)) bounds.items) (FailsBy rounds cells.now) }
+    requires plan { IsPlan plan }
+    ensures { MatchResult result (λ bounds. AreSettled (row_problem cells.now) (constant_barrier (row_problem cells.now)) bounds.items) (FailsBy plan.rounds cells.now) }
 {
     let p = build(alloc, cells)?;
     let b = barrier(alloc, &p)?;
-    match settle(rt, alloc, &p, &b, plan_of(rounds), gate) {
+    match settle(rt, alloc, &p, &b, plan, gate) {
         Ok(bounds) => Ok(bounds),
         Err(SettleFault::Unfinished(_)) => Err(StepFault::Unfinished),
         Err(SettleFault::Memory) => Err(StepFault::Memory),
@@ -123,15 +115,15 @@ fn all_heads(alloc: Global, cells: &[RowCell], bounds: &[Bound]) -> Result<Vec<B
 pub(crate) fn solve<R: Threads + Sync, G: Gate + Sync>(
     rt: &R,
     alloc: Global,
-    rounds: u32,
+    plan: Plan,
     cells: &[RowCell],
     gate: &G,
 ) -> Result<Vec<u8>, StepFault>
     requires row { IsRow cells.now }
-    requires some_round { 0 < rounds }
-    ensures { MatchResult result (λ text. IsStepText cells.now text.items) (FailsBy rounds cells.now) }
+    requires plan { IsPlan plan }
+    ensures { MatchResult result (λ text. IsStepText cells.now text.items) (FailsBy plan.rounds cells.now) }
 {
-    let bounds = settle_row(rt, alloc, rounds, cells, gate)?;
+    let bounds = settle_row(rt, alloc, plan, cells, gate)?;
     let heads = all_heads(alloc, cells, bounds.as_slice())?;
     let text = write_step(alloc, heads.as_slice())?;
     Ok(text)

@@ -1,4 +1,5 @@
 mod meeting;
+mod workers;
 
 use crate::{Status, run};
 use meeting::MeetingGate;

@@ -1,6 +1,9 @@
 // The program `heads`, on the files and the streams of the system.
 #![tactic(auto)]
 
+ghost use Rattle.std.specs.Prelude.{◌≡◌, map, IfOk};
+ghost use Rattle.std.specs.String.{string_bytes};
+
 use engine::run;
 use outside::{FreeGate, RealFolder, RealSink};
 use std::alloc::{AllocError, Global};
@@ -20,7 +23,10 @@ fn words_of(rt: &HostRuntime, alloc: Global) -> Result<Vec<String>, AllocError> 
     }
 }
 
-fn as_texts<'a>(alloc: Global, words: &'a [String]) -> Result<Vec<&'a str>, AllocError> {
+// The same words, borrowed.
+fn as_texts<'a>(alloc: Global, words: &'a [String]) -> Result<Vec<&'a str>, AllocError>
+    ensures { IfOk result (λ texts. map (λ t. t.now) texts.items ≡ map string_bytes words.now) }
+{
     let mut texts = Vec::new(alloc);
     for word in words {
         texts.push(word.as_str())?;

@@ -20,7 +20,7 @@ returns-in-Ok-clause-answers g c = λ start puts h.
     let named : name_of words ≡ Some c.in-Some.name.now = search rules in
     let P : ℕ → Type 0 = λ rounds. IsRunOf rounds c.cells.result.now c.put_listing.result m.0 in
     let Q : List RowCell → Type 0 = λ cells. IsRunOf given_rounds cells c.put_listing.result m.0 in
-    let run = subst Q c.cells.ensures (subst P c.given_rounds.ensures.value m.2) in (
+    let run = subst Q c.cells.ensures (subst P c.given_plan.ensures.rounds m.2) in (
       m.0,
       m.1,
       ends_row given_rounds words (g.F.Folder.files c.args.folder.now) (g.F.Folder.faults c.args.folder.now) _ c.in-Ok.deck c.put_listing.result m.0
