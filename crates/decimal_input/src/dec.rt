@@ -4,9 +4,9 @@
 /// zero, `exp` is from -40 to 40, and zero is `{ false, 0, 0 }`.
 #[derive(Clone, Copy, Debug, PartialEq, Eq)]
 pub struct Dec {
-    pub neg: bool,
     pub digits: u64,
     pub exp: i16,
+    pub neg: bool,
 }
 
 /// Why a word or a product is no number: its form or its exponent, or more than 18 digits.
