@@ -2,7 +2,7 @@
 #![tactic(auto)]
 
 #[cfg(test)]
-mod cells;
+mod answers;
 #[cfg(test)]
 mod one_cell;
 #[cfg(test)]

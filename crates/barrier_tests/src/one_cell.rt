@@ -1,11 +1,11 @@
 // The barriers of single cells, worked by hand.
-use crate::cells::{
-    METRE, ONE, UNIT_FLOW, add_drain, add_evaporation, add_head, add_river, add_well, at_cell,
-    barrier_of, linked_cell, refusal_of,
-};
+use crate::answers::{at_cell, barrier_of, refusal_of};
 use std::alloc::{AllocError, Global};
 use std::test::Fail;
 use step_problem::{Cell, FixedKind, Side};
+use step_samples::{
+    METRE, ONE, UNIT_FLOW, add_drain, add_evaporation, add_head, add_river, add_well, linked_cell,
+};
 
 // A cell with a river of conductance 2, stage 10 and bottom 8, and a well.
 fn on_a_river(alloc: Global, flow: i128) -> Result<Vec<Cell>, AllocError> {

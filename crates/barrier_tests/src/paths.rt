@@ -1,8 +1,9 @@
 // Barriers of linked cells, whose drops are worked by hand.
-use crate::cells::{METRE, ONE, UNIT_FLOW, add_head, add_river, add_well, barrier_of, linked_cell};
+use crate::answers::barrier_of;
 use std::alloc::{AllocError, Global};
 use std::test::Fail;
 use step_problem::{Cell, FixedKind};
+use step_samples::{METRE, ONE, UNIT_FLOW, add_head, add_river, add_well, linked_cell};
 
 #[test]
 fn drops_add_up_along_a_path(rt: HostRuntime) -> Result<(), Fail> {

@@ -1,8 +1,9 @@
 // Each refusal names its least cell, and the first cause counts.
-use crate::cells::{METRE, ONE, UNIT_FLOW, add_head, add_well, at_cell, linked_cell, refusal_of};
+use crate::answers::{at_cell, refusal_of};
 use std::alloc::{AllocError, Global};
 use std::test::Fail;
 use step_problem::{Cell, FixedKind, Side};
+use step_samples::{METRE, ONE, UNIT_FLOW, add_head, add_well, linked_cell};
 
 // A cell by itself with a general head of 0 of this conductance, and a well.
 fn held_cell(alloc: Global, id: u32, conductance: u64, flow: i128) -> Result<Cell, AllocError> {

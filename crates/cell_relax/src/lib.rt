@@ -4,10 +4,12 @@
 pub mod laws;
 mod middle;
 pub mod raise;
+pub mod range;
 pub mod sink;
 pub mod words;
 
 pub use raise::raise_to;
+pub use range::are_words;
 pub use sink::sink_to;
 pub use words::{raise_in, read_values, sink_in};
 

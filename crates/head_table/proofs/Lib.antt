@@ -13,4 +13,3 @@ pub mod Opening
 pub mod Closing
 pub mod Rows
 pub mod Looser
-pub mod Shown

@@ -9,8 +9,6 @@ mod known;
 mod loads;
 mod seats;
 mod table;
-#[cfg(test)]
-mod tests;
 
 pub use edges::edge_words;
 pub use known::{Facts, Heads, Known};

@@ -5,8 +5,6 @@ pub mod events;
 pub mod laws;
 pub mod range;
 pub mod state;
-#[cfg(test)]
-mod tests;
 
 pub use events::Event;
 pub use state::{State, apply};

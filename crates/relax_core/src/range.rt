@@ -1,26 +1,12 @@
 // Tests of what `apply` asks of a state and an event.
 ghost use Rattle.std.specs.Prelude.{◌≡◌, ◌↔◌, IsTrue, All};
-ghost use Rattle.step_problem.specs.Conditions.{IsHead};
 ghost use Rattle.cell_relax.specs.Words.{AreWords};
 ghost use Rattle.relax_core.specs.Core.{IsInRange, IsNamed};
 
 use crate::events::Event;
 use crate::state::State;
-use step_problem::problem::HEAD_LIMIT;
+use cell_relax::are_words;
 use step_problem::{Bound, Problem};
-
-fn is_head(head: i64) -> bool
-    ensures { IsTrue result ↔ IsHead head }
-{
-    -HEAD_LIMIT <= head && head <= HEAD_LIMIT
-}
-
-// Whether there is one bound for each cell, with heads in range.
-fn are_words(p: &Problem, words: &[Bound]) -> bool
-    ensures { IsTrue result ↔ AreWords p.now words.now }
-{
-    words.len() == p.len() && words.iter().all(|b| is_head(b.low) && is_head(b.high))
-}
 
 // Whether each list is one bound for each cell, with heads in range.
 fn are_all_words(p: &Problem, lists: &[Vec<Bound>]) -> bool

@@ -7,6 +7,3 @@ mod workers;
 
 pub use turns::turn;
 pub use workers::{own_turns, work};
-
-#[cfg(test)]
-mod tests;

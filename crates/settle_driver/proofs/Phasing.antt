@@ -1,10 +1,9 @@
 -- Phases cover plain rounds, and reach the settled pair where so many rounds settle.
 use Rattle.std.proofs.Common.{◌≡◌, ℕ, ◌+◌, ◌<◌, sym, subst, List, length, ◌≤ℤ◌}
 use Rattle.step_problem.specs.declared.heads.Bound.{Bound}
-use Rattle.step_problem.specs.declared.heads.Open.{Open}
 use Rattle.step_problem.specs.Entries.{Entries}
 use Rattle.step_problem.specs.Conditions.{IsProblem}
-use Rattle.step_problem.specs.Heads.{Edges, Ge, head_at, lower_at, upper_at, CanRise, CanSink, IsBarrier, RoundsSettleBoth, AreOnTheWay}
+use Rattle.step_problem.specs.Heads.{Edges, OpenHeads, Ge, head_at, lower_at, upper_at, CanRise, CanSink, IsBarrier, RoundsSettleBoth, AreOnTheWay}
 use Rattle.step_problem.specs.Settling.{AreSettled, IsFirstOpen, IsUnfinished}
 use Rattle.step_problem.proofs.Sides.{first_settled}
 use Rattle.step_problem.proofs.SidesRounds.{CoversRounds, covers_none, rounds_settle}
@@ -50,7 +49,7 @@ module _ (p : List Entries) (b : Edges) (ok : IsProblem p) where
   }
 
   -- words with a cell that can move, after k phases, show that k plain rounds do not settle
-  pub phased_unfinished : (w : List Bound) (k : ℕ) (o : Open) → IsBarrier p b → ArePhased p b k w → o.words.items ≡ w → IsFirstOpen p w o.cell o.side → IsUnfinished p b k o
+  pub phased_unfinished : (w : List Bound) (k : ℕ) (o : OpenHeads) → IsBarrier p b → ArePhased p b k w → o.words ≡ w → IsFirstOpen p w o.cell o.side → IsUnfinished p b k o
   phased_unfinished w k o barrier s same first = record {
     cause = λ rounds. settled_stays p w o.cell o.side first.within (settled_by_rounds w k barrier s rounds) first.moves;
     words = subst (AreOnTheWay p b) (sym same) s.way;

@@ -13,6 +13,3 @@ pub use plain::PlainSettler;
 pub use plan::Plan;
 pub use thread_settler::{SettleBy, ThreadSettler};
 pub use threads::settle;
-
-#[cfg(test)]
-mod tests;

@@ -1,11 +1,11 @@
 // A settler that sweeps on one thread.
-ghost use Rattle.std.specs.Prelude.{◌≡◌, ◌<◌, ℕ, length, IfOk};
-ghost use Rattle.step_problem.specs.Heads.{head_at, lower_at, upper_at};
+ghost use Rattle.std.specs.Prelude.{◌≡◌};
 ghost use Rattle.cell_relax.specs.Words.{AreWords};
 ghost use Rattle.settle_driver.specs.Sweeps.{StayOnTheWay, SettleWithin};
 
 use crate::open::first_open;
 use crate::sweep::sweep_up_to;
+use head_table::edge_words;
 use std::alloc::{AllocError, Global};
 use step_problem::{Barrier, Bound, Open, Problem, SettleFault, Settler};
 
@@ -25,24 +25,6 @@ impl PlainSettler {
     }
 }
 
-// The barrier's own heads, as words.
-fn words_of(alloc: Global, b: &Barrier) -> Result<Vec<Bound>, AllocError>
-    requires { length b.now.ceiling ≡ length b.now.floor }
-    ensures whole { IfOk result (λ v. length v.items ≡ length b.now.floor) }
-    ensures low { IfOk result (λ v. (c : ℕ) → c < length b.now.floor → lower_at v.items c ≡ head_at b.now.floor c) }
-    ensures high { IfOk result (λ v. (c : ℕ) → c < length b.now.floor → upper_at v.items c ≡ head_at b.now.ceiling c) }
-{
-    let mut words = Vec::new(alloc);
-    for cell in 0..b.floor.len() {
-        let word = Bound {
-            low: b.floor[cell],
-            high: b.ceiling[cell],
-        };
-        words.push(word)?;
-    }
-    Ok(words)
-}
-
 // The words that up to so many sweeps make of these.
 fn swept(p: &Problem, mut words: Vec<Bound>, rounds: u32) -> Vec<Bound>
     requires words { AreWords p.now words.items }
@@ -59,6 +41,9 @@ impl Settler for PlainSettler {
 
     ghost ready = { λ _. Unit {0} };
 
+    // Any settling leads from any state to any other.
+    ghost leads = { λ _ _ _ _ _. Unit {0} };
+
     fn settle(
         &mut self,
         alloc: Global,
@@ -67,7 +52,7 @@ impl Settler for PlainSettler {
     ) -> Result<Vec<Bound>, SettleFault> {
         // The number of cells comes with the problem's conditions.
         let _cells = p.len();
-        let start = match words_of(alloc, b) {
+        let start = match edge_words(alloc, p, b) {
             Ok(start) => start,
             Err(AllocError) => return Err(SettleFault::Memory),
         };

@@ -2,15 +2,17 @@
 ghost use Rattle.std.specs.Prelude.{◌≡◌, ◌≤◌};
 ghost use Rattle.step_problem.specs.Heads.{IsBarrier};
 
-use crate::cells::{ONE, TEN, bound, empty_cell, problem_of, row_of, two_between};
+use crate::problems::{bound, problem_of};
 use outside::FreeGate;
 use settle_driver::{PlainSettler, Plan, settle};
 use std::alloc::{AllocError, Global};
 use std::process::Abort;
 use std::test::Fail;
 use std::thread::Threads;
-use step_problem::{
-    Barrier, Bound, Cell, Drain, Evap, Fixed, FixedKind, Flow, FlowKind, Problem, River, Settler,
+use step_problem::{Barrier, Bound, Cell, FixedKind, Problem, Settler};
+use step_samples::{
+    METRE, ONE, TEN, UNIT_FLOW, add_drain, add_evaporation, add_head, add_recharge, add_river,
+    add_well, linked_cell, row_of, two_between,
 };
 
 // Settles by sweeps and by 1, 4 and 64 workers, and compares each answer with these bounds.
@@ -52,21 +54,13 @@ fn expect_alone<R: Threads + Abort + Sync>(
     expected: Bound,
 ) -> Result<(), Fail> {
     let cells = vec![in alloc; cell]?;
-    let (p, b) = problem_of(rt, alloc, cells, floor, ceiling)?;
+    let (p, b) = problem_of(alloc, cells, floor, ceiling)?;
     expect_bounds(rt, alloc, &p, &b, [expected].as_slice())
-}
-
-fn flow(kind: FlowKind, units: i128) -> Flow {
-    Flow {
-        kind,
-        lo: units,
-        hi: units,
-    }
 }
 
 #[test]
 fn two_cells_have_one_pair(rt: HostRuntime) -> Result<(), Fail> {
-    let (p, b) = problem_of(&rt, rt.alloc(), two_between(rt.alloc())?, 0, TEN)?;
+    let (p, b) = problem_of(rt.alloc(), two_between(rt.alloc())?, 0, TEN)?;
     let expected = [
         bound(3_333_333_333, 3_333_333_334),
         bound(6_666_666_666, 6_666_666_667),
@@ -76,7 +70,7 @@ fn two_cells_have_one_pair(rt: HostRuntime) -> Result<(), Fail> {
 
 #[test]
 fn a_row_has_one_pair(rt: HostRuntime) -> Result<(), Fail> {
-    let (p, b) = problem_of(&rt, rt.alloc(), row_of(rt.alloc(), 200)?, 0, TEN)?;
+    let (p, b) = problem_of(rt.alloc(), row_of(rt.alloc(), 200)?, 0, TEN)?;
     let Ok(bounds) = PlainSettler::new(1_000_000).settle(rt.alloc(), &p, &b) else {
         return Err("the sweeps did not settle")?;
     };
@@ -86,55 +80,27 @@ fn a_row_has_one_pair(rt: HostRuntime) -> Result<(), Fail> {
 
 #[test]
 fn a_river_feeds_a_well(rt: HostRuntime) -> Result<(), Fail> {
-    let mut cell = empty_cell(rt.alloc(), 1);
-    cell.rivers.push(River {
-        lo: 2 * ONE,
-        hi: 2 * ONE,
-        stage_lo: TEN,
-        stage_hi: TEN,
-        bottom_lo: 8_000_000_000,
-        bottom_hi: 8_000_000_000,
-    })?;
-    let flow = flow(FlowKind::Wells, -3_000_000_000_000_000_000_000);
-    cell.flows.push(flow)?;
+    let mut cell = linked_cell(rt.alloc(), 1, &[])?;
+    add_river(&mut cell, 2 * ONE, TEN, 8 * METRE)?;
+    add_well(&mut cell, -3 * UNIT_FLOW)?;
     let expected = bound(8_500_000_000, 8_500_000_000);
-    expect_alone(&rt, rt.alloc(), cell, 8_000_000_000, TEN, expected)
+    expect_alone(&rt, rt.alloc(), cell, 8 * METRE, TEN, expected)
 }
 
 #[test]
 fn a_drain_takes_the_recharge(rt: HostRuntime) -> Result<(), Fail> {
-    let mut cell = empty_cell(rt.alloc(), 1);
-    cell.drains.push(Drain {
-        lo: 5 * ONE,
-        hi: 5 * ONE,
-        elev_lo: 2 * TEN,
-        elev_hi: 2 * TEN,
-    })?;
-    let flow = flow(FlowKind::Recharge, 10_000_000_000_000_000_000_000);
-    cell.flows.push(flow)?;
+    let mut cell = linked_cell(rt.alloc(), 1, &[])?;
+    add_drain(&mut cell, 5 * ONE, 20 * METRE)?;
+    add_recharge(&mut cell, 10 * UNIT_FLOW)?;
     let expected = bound(22_000_000_000, 22_000_000_000);
-    expect_alone(&rt, rt.alloc(), cell, 2 * TEN, 3 * TEN, expected)
+    expect_alone(&rt, rt.alloc(), cell, 20 * METRE, 30 * METRE, expected)
 }
 
 // A cell with a general head, which evaporates 3 at 8 or above, and nothing at 4 or below.
 fn evaporating_cell(alloc: Global, head: i64) -> Result<Cell, AllocError> {
-    let mut cell = empty_cell(alloc, 1);
-    cell.fixed.push(Fixed {
-        kind: FixedKind::General,
-        source: 1,
-        lo: ONE,
-        hi: ONE,
-        head_lo: head,
-        head_hi: head,
-    })?;
-    cell.evaps.push(Evap {
-        lo: 750_000_000_000,
-        hi: 750_000_000_000,
-        ext_lo: 4_000_000_000,
-        ext_hi: 4_000_000_000,
-        surf_lo: 8_000_000_000,
-        surf_hi: 8_000_000_000,
-    })?;
+    let mut cell = linked_cell(alloc, 1, &[])?;
+    add_head(&mut cell, FixedKind::General, ONE, head)?;
+    add_evaporation(&mut cell, 750_000_000_000, 4 * METRE, 8 * METRE)?;
     Ok(cell)
 }
 
@@ -142,8 +108,8 @@ fn evaporating_cell(alloc: Global, head: i64) -> Result<Cell, AllocError> {
 fn evaporation_falls_with_the_head(rt: HostRuntime) -> Result<(), Fail> {
     let cell = evaporating_cell(rt.alloc(), TEN)?;
     let expected = bound(7_428_571_428, 7_428_571_429);
-    expect_alone(&rt, rt.alloc(), cell, 4_000_000_000, TEN, expected)?;
-    let cell = evaporating_cell(rt.alloc(), 2 * TEN)?;
-    let expected = bound(17_000_000_000, 17_000_000_000);
-    expect_alone(&rt, rt.alloc(), cell, 4_000_000_000, 2 * TEN, expected)
+    expect_alone(&rt, rt.alloc(), cell, 4 * METRE, TEN, expected)?;
+    let cell = evaporating_cell(rt.alloc(), 20 * METRE)?;
+    let expected = bound(17 * METRE, 17 * METRE);
+    expect_alone(&rt, rt.alloc(), cell, 4 * METRE, 20 * METRE, expected)
 }

@@ -1,11 +1,11 @@
-//! Tests of settling by workers in threads, over the public surface of settle_driver and of head_table.
+//! Tests of settling by plain sweeps and by workers in threads, over the public surface of settle_driver.
 #![tactic(auto)]
 
 #[cfg(test)]
 mod agreement;
 #[cfg(test)]
-mod cells;
+mod problems;
 #[cfg(test)]
-mod seats;
+mod sweeps;
 #[cfg(test)]
 mod threads;

@@ -4,14 +4,15 @@ ghost use Rattle.step_problem.specs.Heads.{IsBarrier};
 ghost use Rattle.step_problem.specs.Settling.{Settles};
 ghost use Rattle.settle_driver.specs.Phases.{IsPlan};
 
-use crate::cells::{ONE, TEN, bound, empty_cell, problem_of, two_between};
+use crate::problems::{bound, problem_of};
 use outside::{FreeGate, Gate};
 use settle_driver::{Plan, SettleBy, ThreadSettler, settle};
 use std::alloc::Global;
 use std::sync::atomic::{AtomicU64, Ordering};
 use std::test::Fail;
 use std::thread::Threads;
-use step_problem::{Barrier, Bound, Open, Problem, River, SettleFault, Settler, Side};
+use step_problem::{Barrier, Bound, Problem, SettleFault, Settler, Side};
+use step_samples::{METRE, ONE, TEN, add_river, linked_cell, two_between};
 
 fn plan(workers: u32, turns_per_cell: u32, rounds: u32) -> Plan
     ensures { result ≡ record { workers = workers; turns_per_cell = turns_per_cell; rounds = rounds } }
@@ -90,7 +91,7 @@ fn settle_by_threads<R: Threads + Sync>(
 
 #[test]
 fn one_phase_without_turns_leaves_the_first_cell_open(rt: HostRuntime) -> Result<(), Fail> {
-    let (p, b) = problem_of(&rt, rt.alloc(), two_between(rt.alloc())?, 0, TEN)?;
+    let (p, b) = problem_of(rt.alloc(), two_between(rt.alloc())?, 0, TEN)?;
     let answer = settle(&rt, rt.alloc(), &p, &b, plan(1, 0, 1), &FreeGate);
     let open = match answer {
         Err(SettleFault::Unfinished(open)) => open,
@@ -104,7 +105,7 @@ fn one_phase_without_turns_leaves_the_first_cell_open(rt: HostRuntime) -> Result
 
 #[test]
 fn phases_without_turns_settle_two_cells(rt: HostRuntime) -> Result<(), Fail> {
-    let (p, b) = problem_of(&rt, rt.alloc(), two_between(rt.alloc())?, 0, TEN)?;
+    let (p, b) = problem_of(rt.alloc(), two_between(rt.alloc())?, 0, TEN)?;
     let bounds = match settle(&rt, rt.alloc(), &p, &b, plan(1, 0, 1_000_000), &FreeGate) {
         Ok(bounds) => bounds,
         Err(_) => return Err("not settled")?,
@@ -119,7 +120,7 @@ fn phases_without_turns_settle_two_cells(rt: HostRuntime) -> Result<(), Fail> {
 
 #[test]
 fn one_phase_of_many_turns_settles_two_cells(rt: HostRuntime) -> Result<(), Fail> {
-    let (p, b) = problem_of(&rt, rt.alloc(), two_between(rt.alloc())?, 0, TEN)?;
+    let (p, b) = problem_of(rt.alloc(), two_between(rt.alloc())?, 0, TEN)?;
     let Ok(bounds) = settle(&rt, rt.alloc(), &p, &b, plan(1, 64, 1), &FreeGate) else {
         return Err("not settled")?;
     };
@@ -138,7 +139,7 @@ fn two_workers_overlap(rt: HostRuntime) -> Result<(), Fail> {
         second: AtomicU64::new(0),
         failures: AtomicU64::new(0),
     };
-    let (p, b) = problem_of(&rt, rt.alloc(), two_between(rt.alloc())?, 0, TEN)?;
+    let (p, b) = problem_of(rt.alloc(), two_between(rt.alloc())?, 0, TEN)?;
     let bounds = match settle(&rt, rt.alloc(), &p, &b, plan(2, 64, 1_000_000), &gate) {
         Ok(bounds) => bounds,
         Err(_) => return Err("not settled")?,
@@ -157,18 +158,10 @@ fn two_workers_overlap(rt: HostRuntime) -> Result<(), Fail> {
 
 #[test]
 fn threads_settle_behind_the_trait(rt: HostRuntime) -> Result<(), Fail> {
-    let mut cell = empty_cell(rt.alloc(), 1);
-    cell.rivers.push(River {
-        lo: 2 * ONE,
-        hi: 2 * ONE,
-        stage_lo: TEN,
-        stage_hi: TEN,
-        bottom_lo: 8_000_000_000,
-        bottom_hi: 8_000_000_000,
-    })?;
-    let mut cells = Vec::new(rt.alloc());
-    cells.push(cell)?;
-    let (p, b) = problem_of(&rt, rt.alloc(), cells, 8_000_000_000, TEN)?;
+    let mut cell = linked_cell(rt.alloc(), 1, &[])?;
+    add_river(&mut cell, 2 * ONE, TEN, 8 * METRE)?;
+    let cells = vec![in rt.alloc(); cell]?;
+    let (p, b) = problem_of(rt.alloc(), cells, 8 * METRE, TEN)?;
     let bounds = match settle_by_threads(&rt, rt.alloc(), &p, &b) {
         Ok(bounds) => bounds,
         Err(_) => return Err("not settled")?,

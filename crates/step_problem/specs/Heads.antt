@@ -1,6 +1,7 @@
 -- Both sides of a problem's heads: raise and sink values, the settled pair, the certificate.
 use Rattle.std.specs.Prelude.{◌≡◌, ℕ, ◌<◌, ◌⊎◌, List, length, ℤ, pos, ◌≤ℤ◌, slice_index_or}
 use Rattle.step_problem.specs.declared.heads.Bound.{Bound}
+use Rattle.step_problem.specs.declared.heads.Side.{Side}
 use Rattle.step_problem.specs.Entries.{Entries, entries_at}
 use Rattle.step_problem.specs.Balances.{lower_balance, upper_balance}
 use Rattle.step_problem.specs.Conditions.{IsHead}
@@ -10,6 +11,12 @@ use Rattle.step_problem.specs.Sides.{IsRelaxed, RoundsSettle, IsFirstSettled, Is
 pub record Edges : Type 0 where
   pub floor : List ℤ
   pub ceiling : List ℤ
+
+-- where a settling gave up: a cell that can still move, the side on which it can, and the heads reached
+pub record OpenHeads : Type 0 where
+  pub cell : ℕ
+  pub side : Side
+  pub words : List Bound
 
 abbrev pub head_at : List ℤ → ℕ → ℤ
 head_at xs c = slice_index_or xs c (pos 0)

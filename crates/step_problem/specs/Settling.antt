@@ -5,12 +5,11 @@ use Rattle.std.specs.declared.alloc.Global.{Global}
 use Rattle.step_problem.specs.declared.heads.Bound.{Bound}
 use Rattle.step_problem.specs.declared.heads.Side.{Side}
 use Rattle.step_problem.specs.declared.heads.Side.TheVariants.{Low, High}
-use Rattle.step_problem.specs.declared.heads.Open.{Open}
 use Rattle.step_problem.specs.declared.heads.SettleFault.{SettleFault}
 use Rattle.step_problem.specs.declared.heads.SettleFault.TheVariants.{Unfinished, Memory}
 use Rattle.step_problem.specs.Entries.{Entries}
 use Rattle.step_problem.specs.Conditions.{IsHead}
-use Rattle.step_problem.specs.Heads.{Edges, lower_at, upper_at, CanRise, CanSink, IsSettledPair, RoundsSettleBoth, AreOnTheWay}
+use Rattle.step_problem.specs.Heads.{Edges, OpenHeads, lower_at, upper_at, CanRise, CanSink, IsSettledPair, RoundsSettleBoth, AreOnTheWay}
 
 module _ (p : List Entries) where
   -- cell c can still move on that side
@@ -31,10 +30,10 @@ module _ (p : List Entries) where
     pub pair : IsSettledPair p b (lower_at bounds) (upper_at bounds)
 
   -- why a settler good for so many rounds gives up: they don't settle; its words are on the way, and the cell named is open
-  pub record IsUnfinished (b : Edges) (rounds : ℕ) (o : Open) : Type 0 where
+  pub record IsUnfinished (b : Edges) (rounds : ℕ) (o : OpenHeads) : Type 0 where
     pub cause : RoundsSettleBoth p b rounds → ⊥
-    pub words : AreOnTheWay p b o.words.items
-    pub open_cell : IsFirstOpen o.words.items o.cell o.side
+    pub words : AreOnTheWay p b o.words
+    pub open_cell : IsFirstOpen o.words o.cell o.side
 
   -- the answer of a settler: the settled pair, or a fault by its cause
   abbrev pub Settles : Edges → ℕ → Result (Vec Bound Global) SettleFault → Type 0

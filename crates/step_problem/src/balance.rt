@@ -5,7 +5,7 @@ ghost use Rattle.step_problem.specs.Balances.{lower_balance, upper_balance};
 ghost use Rattle.step_problem.specs.BothSides.{balance};
 ghost use Rattle.step_problem.specs.Conditions.{IsHead, IsWithin, CellFits};
 
-mod branch;
+pub mod branch;
 mod sums;
 
 use crate::entry::Cell;

@@ -5,12 +5,12 @@ ghost use Rattle.step_problem.specs.Conditions.{LinkFits, FixedFits, RiverFits, 
 
 mod links;
 mod ranges;
-mod sums;
+pub mod sums;
 
 use crate::entry::Cell;
 use links::{MOST_LINKS, links_fit};
 use ranges::in_range;
-use sums::{conductances_fit, flows_fit};
+pub use sums::{conductances_fit, flows_fit};
 
 const MOST_CELLS: usize = 65_536;
 

@@ -56,6 +56,18 @@ pub struct Open {
     pub words: Vec<Bound>,
 }
 
+impl Model for Open {
+    ghost use Rattle.step_problem.specs.Heads.{OpenHeads};
+
+    ghost Value = { OpenHeads };
+
+    ghost view = { λ o. record {
+      cell = o.cell;
+      side = o.side;
+      words = o.words.items;
+    } };
+}
+
 /// Why a problem was not settled.
 #[derive(Debug, Drop)]
 pub enum SettleFault {

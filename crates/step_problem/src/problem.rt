@@ -1,13 +1,27 @@
 // The problem of one step.
-ghost use Rattle.std.specs.Prelude.{◌≡◌, ◌<◌, ◌↔◌, IsTrue, length};
+ghost use Rattle.std.specs.Prelude.{◌≡◌, ◌<◌, ◌↔◌, All, IsTrue, length};
 ghost use Rattle.step_problem.specs.Entries.{entries_at};
-ghost use Rattle.step_problem.specs.Conditions.{CellFits, IsProblem};
+ghost use Rattle.step_problem.specs.Conditions.{CellFits, IsHead, IsProblem};
 
 use crate::entry::Cell;
 use std::marker::Model;
 
 /// The greatest magnitude of a head, in units of 10^-9 length units.
 pub const HEAD_LIMIT: i64 = 4_000_000_000_000_000_000;
+
+/// Whether a head is in range.
+pub fn is_head(head: i64) -> bool
+    ensures { IsTrue result ↔ IsHead head }
+{
+    -HEAD_LIMIT <= head && head <= HEAD_LIMIT
+}
+
+/// Whether all these heads are in range.
+pub fn are_heads(heads: &[i64]) -> bool
+    ensures { IsTrue result ↔ All IsHead heads.now }
+{
+    heads.iter().all(|head| is_head(*head))
+}
 
 /// The variable cells of one step, by ascending cell number.
 #[derive(Debug, Drop)]

@@ -1,22 +1,27 @@
 // Who settles a problem.
-ghost use Rattle.std.specs.Prelude.{◌≡◌, ℕ};
-ghost use Rattle.step_problem.specs.Heads.{IsBarrier};
+ghost use Rattle.std.specs.Prelude.{◌≡◌, ℕ, Bool, List};
+ghost use Rattle.std.specs.Result.{is_ok};
+ghost use Rattle.step_problem.specs.Entries.{Entries};
+ghost use Rattle.step_problem.specs.Heads.{Edges, IsBarrier};
 ghost use Rattle.step_problem.specs.Settling.{Settles};
 
 use crate::heads::{Barrier, Bound, SettleFault};
 use crate::problem::Problem;
 use std::alloc::Global;
 
-/// Settles problems. It has a number of plain rounds for which it is good, which no call changes, and says when it may be called.
+/// Settles problems. It has a number of plain rounds for which it is good, which no call changes. It says when it may be called, and which settlings, of a problem and a barrier and ending Ok or not, lead from one of its states to another.
 pub trait Settler {
     ghost rounds: { Self → ℕ };
 
     ghost ready: { Self → Type 0 };
+
+    ghost leads: { Self → List Entries → Edges → Bool → Self → Type 0 };
 
     fn settle(&mut self, alloc: Global, p: &Problem, b: &Barrier) -> Result<Vec<Bound>, SettleFault>
         requires ready { ready self.old }
         requires barrier { IsBarrier p.now b.now }
         ensures settles { Settles p.now b.now (rounds self.old) result }
         ensures rounds { rounds self.new ≡ rounds self.old }
-        ensures ready { ready self.new };
+        ensures ready { ready self.new }
+        ensures leads { leads self.old p.now b.now (is_ok result) self.new };
 }

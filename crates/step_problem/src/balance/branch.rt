@@ -8,8 +8,8 @@ use crate::entry::{Drain, Evap, Fixed, River};
 use crate::flow::{least_flow, most_flow};
 use crate::heads::Side;
 
-/// An entry whose flow depends on the cell's own head alone.
-pub(crate) trait Branch {
+/// An entry whose flow depends on the cell's own head alone: a known head, a river, a drain, an evaporation.
+pub trait Branch {
     ghost use Rattle.step_problem.specs.declared.heads.Side.{Side};
 
     ghost flow: { Side → ℤ → Self → ℤ };
@@ -18,7 +18,7 @@ pub(crate) trait Branch {
 
     ghost fits: { Self → Type 0 };
 
-    /// The bound of its flow on one side, at the cell's head `own`.
+    /// The flow of the entry into its cell at the cell's head `own`, in units of 10^-(s+9): the least on the low side, the greatest on the high side.
     fn flow_at(&self, side: Side, own: i64) -> i128
         requires own { IsHead own }
         requires fits { fits self.now }

@@ -3,13 +3,7 @@ ghost use Rattle.std.specs.Prelude.{IsTrue, All, ◌↔◌, ◌≤◌, ◌≤ℤ
 ghost use Rattle.step_problem.specs.Conditions.{IsHead, LinkFits, FixedFits, RiverFits, DrainFits, EvapFits};
 
 use crate::entry::{Drain, Evap, Fixed, Link, River};
-use crate::problem::HEAD_LIMIT;
-
-fn is_head(head: i64) -> bool
-    ensures { IsTrue result ↔ IsHead head }
-{
-    -HEAD_LIMIT <= head && head <= HEAD_LIMIT
-}
+use crate::problem::is_head;
 
 fn are_heads(lo: i64, hi: i64) -> bool
     ensures { IsTrue result ↔ (IsHead lo × IsHead hi) }

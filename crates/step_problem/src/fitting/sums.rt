@@ -74,7 +74,8 @@ fn sum_conductances<E: Conducts>(entries: &[E]) -> u128
     sum
 }
 
-pub(crate) fn conductances_fit(cell: &Cell) -> bool
+/// Whether the upper conductances of a cell's branches sum to less than 2^60 units.
+pub fn conductances_fit(cell: &Cell) -> bool
     ensures { IsTrue result ↔ (conductance_of cell.now < 2 ^ 60) }
 {
     let links = sum_conductances(&cell.links);
@@ -133,7 +134,8 @@ fn sum_full_rates(evaps: &[Evap]) -> u128
     sum
 }
 
-pub(crate) fn flows_fit(cell: &Cell) -> bool
+/// Whether the magnitudes of a cell's constant flows, of the flows of its rivers where it is dry, and of its full rates of evaporation sum to less than 2^109 units.
+pub fn flows_fit(cell: &Cell) -> bool
     requires rivers { All RiverFits cell.now.rivers }
     requires evaps { All EvapFits cell.now.evaps }
     ensures { IsTrue result ↔ (flow_of cell.now < 2 ^ 109) }
