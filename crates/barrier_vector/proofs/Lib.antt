@@ -24,6 +24,7 @@ pub mod Marking
 pub mod Giving
 pub mod Rooting
 pub mod Uniques
+pub mod OneAnswer
 pub mod Surveying
 pub mod Basing
 pub mod Sides

@@ -4,6 +4,7 @@ pub mod Paths
 pub mod Bounds
 pub mod Laws
 pub mod Refusals
+pub mod Barriers
 pub mod Held
 pub mod Spreads
 pub mod Searches

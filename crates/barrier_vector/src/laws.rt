@@ -1,6 +1,7 @@
-// Laws of floors and ceilings: they enclose every solution. Each is the contract of an empty function.
+// Laws of floors and ceilings: they enclose every solution, and a problem has one barrier or one refusal. Each is the contract of an empty function.
 ghost use Rattle.cell_balance.specs.Example.{example_problem, example_step, example_heads};
 ghost use Rattle.barrier_vector.specs.Laws.{IsSolution, FloorsEnclose, CeilingsEnclose, FloorsHold};
+ghost use Rattle.barrier_vector.specs.Barriers.{BarrierIsOne, BarrierExcludesRefusal, RefusalIsOne};
 
 /// No solution lies below a floor, in an anchored or in a carried component.
 pub fn floors_enclose()
@@ -20,4 +21,19 @@ pub fn floors_hold()
 /// The laws speak of something: a step with an entry of each kind has a solution, over the denominator 3.
 pub fn solved_example()
     ensures { IsSolution example_problem 1 example_step 3 example_heads }
+{}
+
+/// A problem has at most one barrier.
+pub fn one_barrier()
+    ensures { BarrierIsOne }
+{}
+
+/// A problem with a barrier has no refusal.
+pub fn no_barrier_beside_a_refusal()
+    ensures { BarrierExcludesRefusal }
+{}
+
+/// A problem has at most one refusal.
+pub fn one_refusal()
+    ensures { RefusalIsOne }
 {}

@@ -1,12 +1,10 @@
 //! The barrier of a step's problem: a floor and a ceiling for each variable cell, between which every solution lies.
 #![tactic(auto)]
 
-ghost use Rattle.std.specs.Prelude.{ℕ, ◌<◌, length, ℤ, IfOk, IfErr, List};
+ghost use Rattle.std.specs.Prelude.{ℕ, ◌<◌, length, IfOk, IfErr};
 ghost use Rattle.step_problem.specs.Heads.{head_at, IsBarrier};
-ghost use Rattle.cell_balance.specs.Steps.{ExactCell};
-ghost use Rattle.cell_balance.specs.Enclosures.{EnclosesStep};
-ghost use Rattle.cell_balance.specs.Solutions.{SolvesStep, LiesBetween};
 ghost use Rattle.cell_balance.specs.Components.{IsHeldBelow};
+ghost use Rattle.cell_balance.specs.SolutionBounds.{EnclosesSolutions};
 ghost use Rattle.barrier_vector.specs.Bounds.{IsFloor, IsCeiling};
 ghost use Rattle.barrier_vector.specs.Refusals.{IsFault};
 ghost use Rattle.barrier_vector.specs.Held.{HasStorage, IsNoWantOfAnchors};
@@ -42,7 +40,7 @@ pub fn barrier(alloc: Global, p: &Problem) -> Result<Barrier, BarrierFault>
     ensures refusal { IfErr result (λ e. IsFault p.now e) }
     ensures barrier { IfOk result (λ b. IsBarrier p.now b) }
     ensures held { IfOk result (λ b. IsHeldBelow p.now) }
-    ensures encloses { IfOk result (λ b. (s : ℕ) (e : List ExactCell) (d : ℕ) (X : ℕ → ℤ) → EnclosesStep s p.now e → 0 < d → SolvesStep e d X → LiesBetween (length p.now) d X (head_at b.floor) (head_at b.ceiling)) }
+    ensures encloses { IfOk result (λ b. EnclosesSolutions p.now (head_at b.floor) (head_at b.ceiling)) }
     ensures stored { HasStorage p.now → IfErr result (λ e. IsNoWantOfAnchors e) }
 {
     let _cells = p.len();

@@ -29,5 +29,6 @@ pub mod ExactLaws
 pub mod EntryScaled
 pub mod EntryFlows
 pub mod EntryBounds
+pub mod Enclosing
 pub mod ExampleProblem
 pub mod ExampleMet

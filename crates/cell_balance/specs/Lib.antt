@@ -3,6 +3,7 @@ pub mod Links
 pub mod Balance
 pub mod Solutions
 pub mod Enclosures
+pub mod SolutionBounds
 pub mod Components
 pub mod Deep
 pub mod Laws

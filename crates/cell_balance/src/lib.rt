@@ -3,5 +3,3 @@
 
 pub mod example;
 pub mod laws;
-#[cfg(test)]
-mod tests;

@@ -1,3 +1,3 @@
 pub mod Certificates
 pub mod Verdicts
-pub mod Solutions
+pub mod Laws

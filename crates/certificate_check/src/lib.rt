@@ -8,17 +8,14 @@ ghost use Rattle.cell_balance.specs.Steps.{ExactCell};
 ghost use Rattle.cell_balance.specs.Enclosures.{EnclosesStep};
 ghost use Rattle.cell_balance.specs.Solutions.{SolvesStep, LiesBetween};
 ghost use Rattle.cell_balance.specs.Components.{IsHeldBelow};
+ghost use Rattle.cell_balance.specs.SolutionBounds.{EnclosesSolutions};
 ghost use Rattle.certificate_check.specs.Certificates.{IsFirstFailing};
 ghost use Rattle.certificate_check.specs.Verdicts.{IsYes, IfNo};
-ghost use Rattle.certificate_check.specs.Solutions.{EnclosesSolutions};
 
-mod range;
+pub mod laws;
 mod search;
 mod sides;
-#[cfg(test)]
-mod tests;
 
-pub use range::are_words;
 use search::first_failing;
 use step_problem::{Barrier, Bound, Problem, Side};
 
@@ -30,7 +27,7 @@ pub enum Verdict {
 }
 
 /// Checks the bounds of a step's variable cells, in units of 10^-9 length units. They are certified where each lower head stands at most at the cell's floor or its lower balance is not negative, and each upper head at least at the ceiling or its upper balance is not positive.
-/// The cells are tried in ascending order, the lower side first at each. `are_words` tests what it asks of the bounds.
+/// The cells are tried in ascending order, the lower side first at each. `cell_relax::are_words` tests what it asks of the bounds.
 pub fn check_step(p: &Problem, barrier: &Barrier, bounds: &[Bound]) -> Verdict
     requires floors { length barrier.now.floor ≡ length p.now }
     requires ceilings { length barrier.now.ceiling ≡ length p.now }

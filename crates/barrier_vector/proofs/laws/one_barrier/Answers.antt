@@ -1,0 +1,5 @@
+use Rattle.barrier_vector.proofs.OneAnswer.{barrier_is_one}
+use Rattle.barrier_vector.proofs.laws.one_barrier.Goals as goal
+
+pub returns : goal.returns
+returns c = barrier_is_one
