@@ -28,7 +28,7 @@ loss_falls k a b h = turned _ _ (mul_mono k a b h)
     turned : (a b : ℤ) → a ≤ℤ b → neg_ℤ b ≤ℤ neg_ℤ a
     turned a b h = omega (arith, ints)
 
-six : (f a b c d e a' b' c' d' e' : ℤ) → a ≤ℤ a' → b ≤ℤ b' → c ≤ℤ c' → d ≤ℤ d' → e ≤ℤ e' → (f +ℤ a +ℤ b +ℤ c +ℤ d +ℤ e) ≤ℤ (f +ℤ a' +ℤ b' +ℤ c' +ℤ d' +ℤ e')
+pub six : (f a b c d e a' b' c' d' e' : ℤ) → a ≤ℤ a' → b ≤ℤ b' → c ≤ℤ c' → d ≤ℤ d' → e ≤ℤ e' → (f +ℤ a +ℤ b +ℤ c +ℤ d +ℤ e) ≤ℤ (f +ℤ a' +ℤ b' +ℤ c' +ℤ d' +ℤ e')
 six f a b c d e a' b' c' d' e' p q r s t = omega (arith, ints)
 
 pub lower_falls : FallsInOwnHead lower_balance

@@ -9,3 +9,5 @@ pub mod Searches
 pub mod SidesSettled
 pub mod BothSettle
 pub mod Sums
+pub mod Shifts
+pub mod Leaving

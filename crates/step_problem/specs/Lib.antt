@@ -9,3 +9,4 @@ pub mod Settling
 pub mod Laws
 pub mod BothSides
 pub mod Names
+pub mod Leaving

@@ -1,5 +1,6 @@
 // Laws that the layers above use. Each is the contract of an empty function.
 ghost use Rattle.step_problem.specs.Balances.{lower_balance, upper_balance};
+ghost use Rattle.step_problem.specs.Leaving.{LowerShifts, UpperShifts, LeavingSettles};
 ghost use Rattle.step_problem.specs.Laws.{FallsInOwnHead, RisesInOtherHeads, RoundsKeepOrder, SettledPairExists, SettledPairIsOne, SettledPairCertifies};
 
 /// A balance falls weakly in its own head.
@@ -28,4 +29,17 @@ pub fn settled_pair()
 /// A settled pair is a certificate.
 pub fn settled_pair_certifies()
     ensures { SettledPairCertifies }
+{}
+
+/// Where all heads move by so many units, a cell's own by at least and the others by at most so many, the
+/// balances get no better.
+pub fn balances_shift()
+    ensures lower { LowerShifts }
+    ensures upper { UpperShifts }
+{}
+
+/// The settled pair of a barrier inside another one is the other's settled pair too, where at each cell it has
+/// left the inner barrier, or this stands there at the other one.
+pub fn leaving_settles()
+    ensures { LeavingSettles }
 {}

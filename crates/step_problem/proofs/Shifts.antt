@@ -1,0 +1,95 @@
+-- A shift of all heads by so many units: balances get no better, so settled heads stay settled.
+use Rattle.std.proofs.Common.{◌≡◌, ℕ, ◌<◌, ◌⊎◌, inl, inr, ⊎_elim, arith, ℤ, pos, negsuc, neg_ℤ, ◌+ℤ◌, ◌-ℤ◌, ◌≤ℤ◌, ◌<ℤ◌, List, length}
+use Rattle.std.proofs.lemmas.Int.{ints, clamps, by_lt_z}
+use Rattle.std.specs.Prelude.{All}
+use Rattle.std.specs.Int.{int_min, int_max}
+use Rattle.std.proofs.lemmas.List.Elements.{All-weaker}
+use Rattle.step_problem.specs.declared.entry.Link.{Link}
+use Rattle.step_problem.specs.Entries.{Entries, entries_at}
+use Rattle.step_problem.specs.Flows.{total}
+use Rattle.step_problem.specs.Balances.{link_low, fixed_low, river_low, drain_low, evap_low, link_high, fixed_high, river_high, drain_high, evap_high}
+use Rattle.step_problem.specs.Conditions.{IsHead, IsProblem, head_limit}
+use Rattle.step_problem.specs.Sides.{AreHeads, IsSettled}
+use Rattle.step_problem.specs.Heads.{Ge, CanRise, CanSink}
+use Rattle.step_problem.specs.Leaving.{LowerShifts, UpperShifts}
+use Rattle.step_problem.proofs.Leasts.{least_rises, most_rises}
+use Rattle.step_problem.proofs.Falls.{total_mono, total_mono_all, loss_falls, six}
+use Rattle.step_problem.proofs.BothSides.{le_trans, at_ends}
+
+ends_up : (g h k v w : ℤ) → (w +ℤ k) ≤ℤ v → g ≤ℤ (h +ℤ k) → (g -ℤ v) ≤ℤ (h -ℤ w)
+ends_up g h k v w a b = omega (arith, ints)
+
+pub lower_shifts : LowerShifts
+lower_shifts c k v w h g up ends = let le : w ≤ℤ v = omega (arith, ints) in
+    six (total (λ x. x.lo) c.flows) _ _ _ _ _ _ _ _ _ _
+    (total_mono_all (link_low g v) (link_low h w) c.links (All-weaker (λ (x : Link). g x.cell ≤ℤ (h x.cell +ℤ pos k)) (λ (x : Link). link_low g v x ≤ℤ link_low h w x) (λ x i. least_rises x.lo x.hi _ _ (ends_up (g x.cell) (h x.cell) (pos k) v w up i)) c.links ends))
+    (total_mono (fixed_low v) (fixed_low w) c.fixed (λ x. least_rises x.lo x.hi _ _ (omega (arith, ints))))
+    (total_mono (river_low v) (river_low w) c.rivers (λ x. least_rises x.lo x.hi _ _ (omega (arith, ints, clamps))))
+    (total_mono (drain_low v) (drain_low w) c.drains (λ x. loss_falls x.hi _ _ (omega (arith, ints, clamps))))
+    (total_mono (evap_low v) (evap_low w) c.evaps (λ x. loss_falls x.hi _ _ (omega (arith, ints, clamps))))
+
+ends_down : (g h k v w : ℤ) → v ≤ℤ (w -ℤ k) → (h -ℤ k) ≤ℤ g → (h -ℤ w) ≤ℤ (g -ℤ v)
+ends_down g h k v w a b = omega (arith, ints)
+
+pub upper_shifts : UpperShifts
+upper_shifts c k v w h g down ends = let le : v ≤ℤ w = omega (arith, ints) in
+    six (total (λ x. x.hi) c.flows) _ _ _ _ _ _ _ _ _ _
+    (total_mono_all (link_high h w) (link_high g v) c.links (All-weaker (λ (x : Link). (h x.cell -ℤ pos k) ≤ℤ g x.cell) (λ (x : Link). link_high h w x ≤ℤ link_high g v x) (λ x i. most_rises x.lo x.hi _ _ (ends_down (g x.cell) (h x.cell) (pos k) v w down i)) c.links ends))
+    (total_mono (fixed_high w) (fixed_high v) c.fixed (λ x. most_rises x.lo x.hi _ _ (omega (arith, ints))))
+    (total_mono (river_high w) (river_high v) c.rivers (λ x. most_rises x.lo x.hi _ _ (omega (arith, ints, clamps))))
+    (total_mono (drain_high w) (drain_high v) c.drains (λ x. loss_falls x.lo _ _ (omega (arith, ints, clamps))))
+    (total_mono (evap_high w) (evap_high v) c.evaps (λ x. loss_falls x.lo _ _ (omega (arith, ints, clamps))))
+
+-- a head so many units tighter, cut at the end of the range
+abbrev pub raised : ℕ → ℤ → ℤ
+raised k x = int_min (x +ℤ pos k) (pos head_limit)
+
+abbrev pub sunk : ℕ → ℤ → ℤ
+sunk k x = int_max (x -ℤ pos k) (neg_ℤ (pos head_limit))
+
+raised_at_most : (k : ℕ) (x : ℤ) → raised k x ≤ℤ (x +ℤ pos k)
+raised_at_most k x = omega (arith, ints, clamps)
+
+sunk_at_least : (k : ℕ) (x : ℤ) → (x -ℤ pos k) ≤ℤ sunk k x
+sunk_at_least k x = omega (arith, ints, clamps)
+
+pub raised_reaches : (k : ℕ) (v x : ℤ) → v ≤ℤ pos head_limit → (v -ℤ pos k) ≤ℤ x → v ≤ℤ raised k x
+raised_reaches k v x a b = omega (arith, ints, clamps)
+
+pub sunk_reaches : (k : ℕ) (v x : ℤ) → neg_ℤ (pos head_limit) ≤ℤ v → x ≤ℤ (v +ℤ pos k) → sunk k x ≤ℤ v
+sunk_reaches k v x a b = omega (arith, ints, clamps)
+
+back_up : (v k : ℤ) → ((v -ℤ k) +ℤ k) ≤ℤ v
+back_up v k = omega (arith, ints)
+
+back_down : (v k : ℤ) → v ≤ℤ ((v +ℤ k) -ℤ k)
+back_down v k = omega (arith, ints)
+
+-- a head so many units back, where that is a head
+lower_head : (v : ℤ) (k : ℕ) → IsHead v → neg_ℤ (pos head_limit) ≤ℤ (v -ℤ pos k) → IsHead (v -ℤ pos k)
+lower_head v k head far = record { above = far; below = omega (arith, ints, head.below) }
+
+higher_head : (v : ℤ) (k : ℕ) → IsHead v → (v +ℤ pos k) ≤ℤ pos head_limit → IsHead (v +ℤ pos k)
+higher_head v k head far = record { above = omega (arith, ints, head.above); below = far }
+
+-- lower heads that are settled stay so when all are raised by so many units
+pub raised_settled : (p : List Entries) → IsProblem p → (k : ℕ) (m : ℕ → ℤ) → AreHeads ◌≤ℤ◌ (CanRise p) (length p) m → IsSettled ◌≤ℤ◌ (CanRise p) (length p) m → IsSettled ◌≤ℤ◌ (CanRise p) (length p) (λ c. raised k (m c))
+raised_settled p ok k m heads settled c h v head can = raised_reaches k v (m c) head.below (by_lt_z (v -ℤ pos k) (neg_ℤ (pos head_limit)) out within)
+  where
+    out : (v -ℤ pos k) <ℤ neg_ℤ (pos head_limit) → (v -ℤ pos k) ≤ℤ m c
+    out a = omega (arith, ints, a, (heads c h).above)
+
+    within : neg_ℤ (pos head_limit) ≤ℤ (v -ℤ pos k) → (v -ℤ pos k) ≤ℤ m c
+    within a = settled c h (v -ℤ pos k) (lower_head v k head a)
+        (le_trans _ _ _ can (lower_shifts (entries_at p c) k v (v -ℤ pos k) m (λ d. raised k (m d)) (back_up v (pos k)) (at_ends (λ d. raised k (m d) ≤ℤ (m d +ℤ pos k)) p ok (λ d i. raised_at_most k (m d)) c h)))
+
+-- and upper heads when all are sunk
+pub sunk_settled : (p : List Entries) → IsProblem p → (k : ℕ) (m : ℕ → ℤ) → AreHeads Ge (CanSink p) (length p) m → IsSettled Ge (CanSink p) (length p) m → IsSettled Ge (CanSink p) (length p) (λ c. sunk k (m c))
+sunk_settled p ok k m heads settled c h v head can = sunk_reaches k v (m c) head.above (by_lt_z (pos head_limit) (v +ℤ pos k) out within)
+  where
+    out : pos head_limit <ℤ (v +ℤ pos k) → m c ≤ℤ (v +ℤ pos k)
+    out a = omega (arith, ints, a, (heads c h).below)
+
+    within : (v +ℤ pos k) ≤ℤ pos head_limit → m c ≤ℤ (v +ℤ pos k)
+    within a = settled c h (v +ℤ pos k) (higher_head v k head a)
+        (le_trans _ _ _ (upper_shifts (entries_at p c) k v (v +ℤ pos k) m (λ d. sunk k (m d)) (back_down v (pos k)) (at_ends (λ d. (m d -ℤ pos k) ≤ℤ sunk k (m d)) p ok (λ d i. sunk_at_least k (m d)) c h)) can)
