@@ -6,6 +6,7 @@ mod middle;
 pub mod raise;
 pub mod range;
 pub mod sink;
+mod trend;
 pub mod words;
 
 pub use raise::raise_to;

@@ -1,10 +1,10 @@
-// The raise value of one cell, by bisection: the lower balance falls in the cell's own head.
+// The raise value of one cell, by trials: the lower balance falls in the cell's own head.
 ghost use Rattle.std.specs.Prelude.{◌≡◌, ◌<◌, ℕ, ℤ, All, length};
 ghost use Rattle.step_problem.specs.Entries.{entries_at, ends_in};
 ghost use Rattle.step_problem.specs.Conditions.{IsHead};
 ghost use Rattle.step_problem.specs.Heads.{IsRaise};
 
-use crate::middle::middle_of;
+use crate::trend::Trend;
 use step_problem::problem::HEAD_LIMIT;
 use step_problem::{Problem, low_at};
 
@@ -20,12 +20,15 @@ pub fn raise_to(p: &Problem, cell: usize, own: i64, values: &[i64]) -> i64
 {
     let mut reached = own;
     let mut beyond = HEAD_LIMIT + 1;
+    let mut trend = Trend::new();
     while beyond - reached > 1 {
-        let middle = middle_of(reached, beyond);
-        if low_at(p, cell, middle, values) >= 0 {
-            reached = middle;
+        let trial = trend.next_above(reached, beyond);
+        let balance = low_at(p, cell, trial, values);
+        trend = trend.after(trial - reached, balance);
+        if balance >= 0 {
+            reached = trial;
         } else {
-            beyond = middle;
+            beyond = trial;
         }
     }
     reached

@@ -9,25 +9,25 @@ loop-reached-init c =
     let fits_own : FitsSigned w64 c.args.own = search rules in
     simp to_z-of_z (sink_start c.args.p.now c.args.cell c.args.own c.args.values.now c.requires.own)
 
-pub loop-reached-preserved-then-high_at-le0 : goal.loop-reached-preserved-then-high_at-le0
-loop-reached-preserved-then-high_at-le0 c =
+pub loop-reached-preserved-then-balance-le0 : goal.loop-reached-preserved-then-balance-le0
+loop-reached-preserved-then-balance-le0 c =
     let fits_own : FitsSigned w64 c.args.own = search rules in
-    let fits_middle : FitsSigned w64 c.middle_of-middle.result = search rules in
-    let fits_balance : FitsSigned w128 c.high_at.result = search rules in
-    let is = simp to_z-of_z at c.high_at.ensures.balance in
-    let under : c.high_at.result ≤ℤ pos 0 = omega (arith, ints) in
+    let fits_trial : FitsSigned w64 c.next_below-trial.result = search rules in
+    let fits_balance : FitsSigned w128 c.high_at-balance.result = search rules in
+    let is = simp to_z-of_z at c.high_at-balance.ensures.balance in
+    let under : c.high_at-balance.result ≤ℤ pos 0 = omega (arith, ints) in
     let state = simp to_z-of_z at c.loop-reached.invariant in
-    simp to_z-of_z (sink_reaches c.args.p.now c.args.cell c.args.own c.args.values.now _ _ c.middle_of-middle.result c.high_at.result state c.middle_of-middle.ensures.below c.middle_of-middle.ensures.above is under)
+    simp to_z-of_z (sink_reaches c.args.p.now c.args.cell c.args.own c.args.values.now _ _ c.next_below-trial.result c.high_at-balance.result state c.next_below-trial.ensures.below c.next_below-trial.ensures.above is under)
 
 pub loop-reached-preserved : goal.loop-reached-preserved
 loop-reached-preserved c =
     let fits_own : FitsSigned w64 c.args.own = search rules in
-    let fits_middle : FitsSigned w64 c.middle_of-middle.result = search rules in
-    let fits_balance : FitsSigned w128 c.high_at.result = search rules in
-    let is = simp to_z-of_z at c.high_at.ensures.balance in
-    let over : pos 0 <ℤ c.high_at.result = omega (arith, ints) in
+    let fits_trial : FitsSigned w64 c.next_below-trial.result = search rules in
+    let fits_balance : FitsSigned w128 c.high_at-balance.result = search rules in
+    let is = simp to_z-of_z at c.high_at-balance.ensures.balance in
+    let over : pos 0 <ℤ c.high_at-balance.result = omega (arith, ints) in
     let state = simp to_z-of_z at c.loop-reached.invariant in
-    simp to_z-of_z (sink_bounds c.args.p.now c.args.cell c.args.own c.args.values.now _ _ c.middle_of-middle.result c.high_at.result state c.middle_of-middle.ensures.below c.middle_of-middle.ensures.above is over)
+    simp to_z-of_z (sink_bounds c.args.p.now c.args.cell c.args.own c.args.values.now _ _ c.next_below-trial.result c.high_at-balance.result state c.next_below-trial.ensures.below c.next_below-trial.ensures.above is over)
 
 pub returns-clause-sink : goal.returns-clause-sink
 returns-clause-sink c =

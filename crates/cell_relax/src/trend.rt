@@ -1,0 +1,88 @@
+// Where a search for a relaxed head tries next: by the slopes of the balance that it has seen.
+ghost use Rattle.std.specs.Prelude.{◌+◌, pos, ◌+ℤ◌, ◌<ℤ◌};
+ghost use Rattle.step_problem.specs.Conditions.{IsWithin, head_limit};
+
+use crate::middle::middle_of;
+
+// So many trials go by slopes; those after them halve.
+const BY_SLOPES: u32 = 16;
+
+/// What trials have shown of a balance that falls as a head moves on. No answer of a search depends on it,
+/// only how many trials it takes.
+#[derive(Clone, Copy)]
+pub struct Trend {
+    trials: u32,
+    // The balance at the head that is reached.
+    balance: i128,
+    // How much it fell with each unit, from there to the last trial.
+    fall: i128,
+}
+
+// The fall with each of so many units.
+fn fall_of_each(fall: i128, units: i64) -> i128 {
+    if units == 1 {
+        return fall;
+    }
+    fall.checked_div(units as i128).unwrap_or(0)
+}
+
+impl Trend {
+    /// Before the first trial.
+    pub fn new() -> Trend {
+        Trend {
+            trials: 0,
+            balance: 0,
+            fall: 0,
+        }
+    }
+
+    /// After one more trial, so many units on, with this balance. The search moves on to a head whose balance
+    /// is not negative.
+    pub fn after(self, units: i64, balance: i128) -> Trend {
+        Trend {
+            trials: self.trials.saturating_add(1),
+            balance: if balance >= 0 { balance } else { self.balance },
+            fall: fall_of_each(self.balance.saturating_sub(balance), units),
+        }
+    }
+
+    // How many units on the balance comes to an end, if it falls on as it did. Every second trial takes the next
+    // head, to see the slope there; so do the first two, before which no slope is known.
+    fn units_on(self) -> i64 {
+        if self.trials < 2 || self.trials % 2 == 1 {
+            return 1;
+        }
+        let units = self.balance.checked_div(self.fall).unwrap_or(1);
+        i64::try_from(units).unwrap_or(1)
+    }
+
+    /// The next trial of a search upwards: a number between two that are not neighbours.
+    pub fn next_above(self, reached: i64, beyond: i64) -> i64
+        requires reached { IsWithin reached (head_limit + 1) }
+        requires beyond { IsWithin beyond (head_limit + 1) }
+        requires apart { (reached +ℤ pos 1) <ℤ beyond }
+        ensures above { reached <ℤ result }
+        ensures below { result <ℤ beyond }
+    {
+        if self.trials >= BY_SLOPES {
+            return middle_of(reached, beyond);
+        }
+        let far = reached.saturating_add(self.units_on());
+        if reached < far && far < beyond {
+            far
+        } else {
+            reached + 1
+        }
+    }
+
+    /// The same of a search downwards.
+    pub fn next_below(self, reached: i64, beyond: i64) -> i64
+        requires reached { IsWithin reached (head_limit + 1) }
+        requires beyond { IsWithin beyond (head_limit + 1) }
+        requires apart { (beyond +ℤ pos 1) <ℤ reached }
+        ensures above { beyond <ℤ result }
+        ensures below { result <ℤ reached }
+    {
+        -self.next_above(-reached, -beyond)
+    }
+}
