@@ -1,0 +1,43 @@
+-- What time steps owe to the manual (TM 6-A16, chapters 2 and 4).
+use Rattle.std.specs.Prelude.{◌≡◌, ℕ, ◌+◌, ◌<◌, ◌≤◌, true, false, List, [], ◌∷◌, pos}
+use Rattle.std.specs.List.{range_with_len}
+use Rattle.decimal_input.specs.Canonical.{size}
+use Rattle.decimal_input.specs.Ratios.{Ratio, ratio, plus, times, over, Same}
+use Rattle.decimal_input.specs.Fractions.{signed, negated, plus as sum, times as product, Same as SameNumber}
+use Rattle.model_types.specs.declared.model.FlowModel.{FlowModel}
+use Rattle.model_types.specs.declared.period.Period.{Period}
+use Rattle.model_types.specs.Numbers.{IsPositive}
+use Rattle.model_types.specs.Conductances.{one}
+use Rattle.model_types.specs.Times.{power, geometric, step_length, passed}
+use Rattle.model_types.specs.Storage.{storage, storage_capacity}
+
+-- the sum of f over a list
+abbrev pub ratio_total : (ℕ → Ratio) → List ℕ → Ratio
+ratio_total f [] = ratio 0 1
+ratio_total f (n ∷ ns) = plus (f n) (ratio_total f ns)
+
+-- a transient period with at least one step, in which time passes
+pub record Lasts (p : Period) : Type 0 where
+  pub transient : p.steady ≡ false
+  pub perlen : IsPositive p.perlen
+  pub tsmult : IsPositive p.tsmult
+  pub nstp : 1 ≤ p.nstp
+
+pub record HasManualSteps (p : Period) : Type 0 where
+  -- each step is TSMULT times as long as the one before
+  pub grows : (n : ℕ) → 1 ≤ n → Same (step_length p (n + 1)) (times (size p.tsmult) (step_length p n))
+  -- the first one by the manual's formula: dt * (T^NSTP - 1) = PERLEN * (T - 1)
+  pub first : SameNumber (product (signed (step_length p 1)) (sum (signed (power (size p.tsmult) p.nstp)) (negated (signed one)))) (product (signed (size p.perlen)) (sum (signed (size p.tsmult)) (negated (signed one))))
+  -- steps of one length where TSMULT is 1
+  pub equal : Same (size p.tsmult) one → (n : ℕ) → Same (step_length p n) (over (size p.perlen) (ratio p.nstp 1))
+  -- all steps together are the period
+  pub whole : Same (ratio_total (step_length p) (range_with_len 1 p.nstp)) (size p.perlen)
+  -- and the steps up to the n-th are the part F of it
+  pub part : (n : ℕ) → 1 ≤ n → n ≤ p.nstp → Same (ratio_total (step_length p) (range_with_len 1 n)) (times (passed p n) (size p.perlen))
+
+abbrev pub StepsAreTheManuals : Type 0
+StepsAreTheManuals = (p : Period) → Lasts p → HasManualSteps p
+
+-- The storage of a step is the storage capacity over the step's length.
+abbrev pub StoresOverTheStep : Type 0
+StoresOverTheStep = (m : FlowModel) (p : Period) (n c : ℕ) → Lasts p → Same (times (storage m p n c) (step_length p n)) (storage_capacity m c)

@@ -1,0 +1,12 @@
+// The exact equations of a step.
+ghost use Rattle.flow_equations.specs.StepLaws.{HasAnEquationEach, LinksAreMutual};
+
+/// The exact step has one equation for each variable cell of the period, by ascending cell number.
+pub fn equation_each()
+    ensures { HasAnEquationEach }
+{}
+
+/// Links lead to different other variable cells, and the two ends of each have the same conductance.
+pub fn links_are_mutual()
+    ensures { LinksAreMutual }
+{}

@@ -1,0 +1,84 @@
+-- What a cell has: its widths, its elevations and thickness, and its conductivities, with the exact numbers of the input (TM 6-A16, chapters 2 and 5).
+use Rattle.std.specs.Prelude.{ℕ, ◌+◌, ◌-◌, ◌*◌, ℤ, pos, ◌*ℤ◌, ◌-ℤ◌, Bool, cond, not, nat_lt, ◌==◌, List, slice_index_or, unsigned_abs, false}
+use Rattle.decimal_input.specs.declared.dec.Dec.{Dec}
+use Rattle.decimal_input.specs.Canonical.{number, size}
+use Rattle.decimal_input.specs.Ratios.{Ratio, over, times}
+use Rattle.decimal_input.specs.Fractions.{Fraction, den}
+use Rattle.model_types.specs.declared.model.FlowModel.{FlowModel}
+use Rattle.model_types.specs.Cells.{layer_size, layer_of, row_of, column_of}
+
+abbrev pub no_number : Dec
+no_number = record { neg = false; digits = 0; exp = pos 0 }
+
+-- the number of an array by its place, 0 past its end
+abbrev pub dec_at : List Dec → ℕ → Dec
+dec_at xs i = slice_index_or xs i no_number
+
+abbrev pub int_at : List ℤ → ℕ → ℤ
+int_at xs i = slice_index_or xs i (pos 0)
+
+abbrev pub is_nonzero : ℤ → Bool
+is_nonzero z = not (unsigned_abs z == 0)
+
+-- f - g, for f at least g
+abbrev pub gap : Fraction → Fraction → Ratio
+gap f g = record { num = unsigned_abs (f.num *ℤ pos (den g) -ℤ g.num *ℤ pos (den f)); less = f.less * g.less + f.less + g.less }
+
+module _ (m : FlowModel) where
+  -- an active cell: IBOUND isn't 0 (TM 6-A16, chapter 4)
+  abbrev pub is_active : ℕ → Bool
+  is_active c = is_nonzero (int_at m.ibound c)
+
+  -- DELR, the width of the cell's column, and DELC, that of its row
+  abbrev pub delr_at : ℕ → Dec
+  delr_at c = dec_at m.grid.delr (column_of m.grid c)
+
+  abbrev pub delc_at : ℕ → Dec
+  delc_at c = dec_at m.grid.delc (row_of m.grid c)
+
+  -- the area of a cell, seen from above
+  unfoldable pub area : ℕ → Ratio
+  area c = times (size (delr_at c)) (size (delc_at c))
+
+  -- whether a confining bed lies below the cell's layer: LAYCBD isn't 0
+  abbrev pub has_bed : ℕ → Bool
+  has_bed c = is_nonzero (int_at m.grid.laycbd (layer_of m.grid c))
+
+  -- the bottom of the cell's layer, and of what lies between the layer and the next one: the bed's bottom, or the layer's own
+  abbrev pub bottom_at : ℕ → Dec
+  bottom_at c = dec_at m.grid.bottom c
+
+  abbrev pub lowest : ℕ → Dec
+  lowest c = cond (has_bed c) (dec_at m.grid.bed_bottom c) (bottom_at c)
+
+  -- the elevation above the cell's layer: the top of layer 1, below that the lowest elevation of the layer above
+  abbrev pub top_at : ℕ → Dec
+  top_at c = cond (nat_lt c (layer_size m.grid)) (dec_at m.grid.top c) (lowest (c - layer_size m.grid))
+
+  -- THICK, the thickness of the cell, and the thickness of the confining bed below it, which is 0 without a bed
+  abbrev pub thickness : ℕ → Ratio
+  thickness c = gap (number (top_at c)) (number (bottom_at c))
+
+  abbrev pub bed_thickness : ℕ → Ratio
+  bed_thickness c = gap (number (bottom_at c)) (number (lowest c))
+
+  -- HK, HANI (the ratio of the conductivity along columns to that along rows), VKA, and the bed's VKCB
+  abbrev pub hk_at : ℕ → Dec
+  hk_at c = dec_at m.hk c
+
+  abbrev pub hani_at : ℕ → Dec
+  hani_at c = dec_at m.hani c
+
+  abbrev pub vka_at : ℕ → Dec
+  vka_at c = dec_at m.vka c
+
+  abbrev pub vkcb_at : ℕ → Dec
+  vkcb_at c = dec_at m.vkcb c
+
+  -- whether VKA is the ratio of horizontal to vertical conductivity: LAYVKA isn't 0
+  abbrev pub is_ratio : ℕ → Bool
+  is_ratio c = is_nonzero (int_at m.layvka (layer_of m.grid c))
+
+  -- VK, the vertical conductivity: VKA, or HK / VKA where VKA is a ratio
+  abbrev pub vertical_conductivity : ℕ → Ratio
+  vertical_conductivity c = cond (is_ratio c) (over (size (hk_at c)) (size (vka_at c))) (size (vka_at c))

@@ -1,0 +1,18 @@
+// The faces between cells.
+
+/// A direction in which cells have neighbours: along a row, along a column, from layer to layer.
+#[derive(Clone, Copy, Debug, PartialEq, Eq)]
+pub enum Axis {
+    Row,
+    Column,
+    Vertical,
+}
+
+/// A face of a cell: the axis that goes through it, the one of its two cells that has the smaller number, and the
+/// neighbour behind it.
+#[derive(Clone, Copy, Debug, PartialEq, Eq)]
+pub struct Face {
+    pub axis: Axis,
+    pub first: u32,
+    pub end: u32,
+}

@@ -1,0 +1,74 @@
+// The heads that CHD lists have given so far.
+ghost use Rattle.std.specs.Prelude.{◌≡◌, ◌+◌, ◌<◌, ◌≤◌, All, length, IfOk};
+ghost use Rattle.model_types.specs.Cells.{cell_count};
+ghost use Rattle.model_types.specs.Times.{period_at};
+ghost use Rattle.model_types.specs.Kinds.{given_heads, kind_of, kinds};
+ghost use Rattle.model_types.specs.Grids.{HasSize};
+
+use crate::entry::Given;
+use crate::kind::{Kind, kind_by};
+use crate::listed::Listed;
+use crate::model::FlowModel;
+use std::alloc::{AllocError, Global};
+
+/// For each cell of a model the last entry of the CHD lists up to a stress period that names it. It goes from
+/// period to period, and so no list is walked twice.
+#[derive(Debug, Drop)]
+pub struct GivenHeads {
+    pub period: u32,
+    pub last: Listed<Option<Given>>,
+}
+
+impl GivenHeads {
+    /// Before the first period, where no list has named a cell.
+    pub fn new(alloc: Global, model: &FlowModel) -> Result<GivenHeads, AllocError>
+        requires size { HasSize model.now.grid }
+        ensures { IfOk result (λ g. g ≡ given_heads model.now 0) }
+    {
+        let last = vec![in alloc; None; model.grid.cell_count() as usize]?;
+        Ok(GivenHeads {
+            period: 0,
+            last: Listed::new(last),
+        })
+    }
+
+    /// Goes on to the next period.
+    pub fn advance(&mut self, model: &FlowModel)
+        requires size { HasSize model.now.grid }
+        requires before { self.old ≡ given_heads model.now self.old.period }
+        requires period { self.old.period < length model.now.periods }
+        requires few { length model.now.periods ≤ 1000 }
+        requires cells { All (λ x. x.cell.0 < cell_count model.now.grid) (period_at model.now (self.old.period + 1)).given }
+        ensures { self.new ≡ given_heads model.now (self.old.period + 1) }
+    {
+        let list = model.periods.as_slice()[self.period as usize]
+            .given
+            .as_slice();
+        for x in list {
+            self.last.set(x.cell.0 as usize, Some(*x));
+        }
+        self.period += 1;
+    }
+
+    /// The kind of a cell in the period.
+    pub fn kind(&self, model: &FlowModel, cell: u32) -> Kind
+        requires cell { cell < cell_count model.now.grid }
+        requires given { self.now ≡ given_heads model.now self.now.period }
+        ensures { result ≡ kind_of model.now self.now.period cell }
+    {
+        kind_by(model, cell, self.last.as_slice()[cell as usize].is_some())
+    }
+
+    /// The kinds of all cells in the period, by cell number.
+    pub fn kinds(&self, alloc: Global, model: &FlowModel) -> Result<Vec<Kind>, AllocError>
+        requires size { HasSize model.now.grid }
+        requires given { self.now ≡ given_heads model.now self.now.period }
+        ensures { IfOk result (λ ks. ks.items ≡ kinds model.now self.now.period) }
+    {
+        let mut kinds = Vec::new(alloc);
+        for cell in 0..model.grid.cell_count() {
+            kinds.push(self.kind(model, cell))?;
+        }
+        Ok(kinds)
+    }
+}

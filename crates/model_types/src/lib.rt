@@ -1,0 +1,30 @@
+//! A model as it was read: its grid, its properties, its stress periods and their time steps.
+#![tactic(auto)]
+
+pub mod entry;
+pub mod face;
+pub mod faces;
+pub mod given_heads;
+pub mod grid;
+pub mod kind;
+pub mod layers;
+pub mod listed;
+pub mod model;
+pub mod period;
+pub mod places;
+pub mod shared;
+pub mod sharing;
+pub mod time_steps;
+
+pub use entry::{Entry, Given};
+pub use face::{Axis, Face};
+pub use faces::neighbours;
+pub use given_heads::GivenHeads;
+pub use grid::{CellId, Grid};
+pub use kind::{Kind, kind_at};
+pub use listed::Listed;
+pub use model::FlowModel;
+pub use period::Period;
+pub use places::{cell_of, place_of};
+pub use shared::Shared;
+pub use time_steps::{TimeStep, times};

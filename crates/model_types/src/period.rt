@@ -1,0 +1,26 @@
+// A stress period.
+use crate::entry::{Entry, Given};
+use crate::shared::Shared;
+use decimal_input::dec::Dec;
+
+/// A stress period: its length, its time steps, and its stresses. Each list and each array of a package that
+/// the period reuses is the very one of the period before, which stands in memory once. Arrays are by row,
+/// then column, and empty where the model lacks the package; `irch` and `ievt` also where the option isn't 2.
+#[derive(Debug, Drop)]
+pub struct Period {
+    pub perlen: Dec,
+    pub nstp: u32,
+    pub tsmult: Dec,
+    pub steady: bool,
+    pub wells: Shared<Entry>,
+    pub rivers: Shared<Entry>,
+    pub drains: Shared<Entry>,
+    pub generals: Shared<Entry>,
+    pub given: Shared<Given>,
+    pub recharge: Shared<Dec>,
+    pub irch: Shared<i64>,
+    pub surf: Shared<Dec>,
+    pub evtr: Shared<Dec>,
+    pub exdp: Shared<Dec>,
+    pub ievt: Shared<i64>,
+}

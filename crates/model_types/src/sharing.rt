@@ -1,0 +1,9 @@
+// Threads may share a model.
+use crate::model::FlowModel;
+
+fn shares<T: Send + Sync>() {}
+
+/// A model is `Send` and `Sync`: several threads may read one model, lists that periods share included.
+pub fn models_are_shared() {
+    shares::<FlowModel>()
+}
