@@ -1,0 +1,66 @@
+-- The number that a text writes plainly.
+use Rattle.std.proofs.Common.{◌≡◌, ℕ, Bool, true, false, ◌&&◌, ◌≤◌, ◌<◌, ◌^◌, List, Some, None, Ok, Err, Result, decimal, nat_le, refl, sym, ap, subst, ◌∙◌, arith}
+use Rattle.std.specs.Str.{bytes_eq}
+use Rattle.std.specs.Str.Parse.{digits_value, ParsesUnsigned}
+use Rattle.std.proofs.lemmas.Fmt.{parse-decimal, decimal_is_IsNumeral}
+use Rattle.std.proofs.lemmas.Slice.Eq.{bytes_eq-Decides}
+use Rattle.std.proofs.lemmas.Bool.{leb-true, le-leb}
+use Rattle.command_line.specs.Numbers.{is_number, number_in}
+
+-- where the test holds
+holds : (low high : ℕ) (text : List ℕ) → is_number low high text (digits_value 10 text) ≡ true → number_in low high text ≡ Some (digits_value 10 text)
+holds low high text h = rw h refl
+
+fails : (low high : ℕ) (text : List ℕ) → is_number low high text (digits_value 10 text) ≡ false → number_in low high text ≡ None
+fails low high text h = rw h refl
+
+pub some_number : (low high n : ℕ) (text : List ℕ) → text ≡ decimal n → n < 2 ^ 64 → is_number low high text n ≡ true → Some n ≡ number_in low high text
+some_number low high n text is small test =
+    let value : digits_value 10 text ≡ n = ap (digits_value 10) is ∙ (decimal_is_IsNumeral n small).1 in
+    let P : ℕ → Type 0 = λ k. Some k ≡ number_in low high text in
+    let Q : ℕ → Type 0 = λ k. is_number low high text k ≡ true in
+    subst P value (sym (holds low high text (subst Q (sym value) test)))
+
+by_test : (low high : ℕ) (text : List ℕ) (b : Bool) → is_number low high text (digits_value 10 text) ≡ b → (b ≡ true → ⊥) → None ≡ number_in low high text
+by_test low high text true e no_true = absurd (no_true refl)
+by_test low high text false e no_true = sym (fails low high text e)
+
+pub no_number : (low high : ℕ) (text : List ℕ) → (is_number low high text (digits_value 10 text) ≡ true → ⊥) → None ≡ number_in low high text
+no_number low high text none = by_test low high text (is_number low high text (digits_value 10 text)) refl none
+
+all_true : (a b c : Bool) → (a && b && c) ≡ true → (a ≡ true) × (b ≡ true) × (c ≡ true)
+all_true true true true h = (refl, refl, refl)
+all_true true true false h = cc
+all_true true false c h = cc
+all_true false b c h = cc
+
+joined_true : (a b c : Bool) → a ≡ true → b ≡ true → c ≡ true → (a && b && c) ≡ true
+joined_true a b c x y z = rw (x, y, z) refl
+
+pub plain : (low high n : ℕ) (text : List ℕ) → is_number low high text n ≡ true → (text ≡ decimal n) × (low ≤ n) × (n ≤ high)
+plain low high n text h =
+    let p = all_true (bytes_eq text (decimal n)) (nat_le low n) (nat_le n high) h in
+    ((bytes_eq-Decides text (decimal n)).0 p.0, leb-true low n p.1, leb-true n high p.2)
+
+pub tested : (low high n : ℕ) (text : List ℕ) → text ≡ decimal n → low ≤ n → n ≤ high → is_number low high text n ≡ true
+tested low high n text is a b = joined_true (bytes_eq text (decimal n)) (nat_le low n) (nat_le n high) ((bytes_eq-Decides text (decimal n)).1 is) (le-leb low n a) (le-leb n high b)
+
+pub no_parse : {E : Type 0} (low high : ℕ) (text : List ℕ) (r : Result ℕ E) → ParsesUnsigned 32 10 text r → ((x : ℕ) → r ≡ Ok x → ⊥) → high < 2 ^ 32 → None ≡ number_in low high text
+no_parse low high text r parses none small = no_number low high text (λ t.
+    let p = plain low high (digits_value 10 text) text t in
+    let within = p.2 in
+    none (digits_value 10 text) (parse-decimal 32 (digits_value 10 text) text r (omega (arith, within, small)) (omega (arith, within, small)) p.0 parses))
+
+number_of : {E : Type 0} → ℕ → Result ℕ E → ℕ
+number_of d (Ok x) = x
+number_of d (Err e) = d
+
+pub other_number : {E : Type 0} (low high n : ℕ) (text : List ℕ) (r : Result ℕ E) → ParsesUnsigned 32 10 text r → r ≡ Ok n → high < 2 ^ 32 → (is_number low high text n ≡ true → ⊥) → None ≡ number_in low high text
+unfolding number_of
+other_number low high n text r parses is small none = no_number low high text (λ t.
+    let p = plain low high (digits_value 10 text) text t in
+    let within = p.2 in
+    let e = parse-decimal 32 (digits_value 10 text) text r (omega (arith, within, small)) (omega (arith, within, small)) p.0 parses in
+    let same : digits_value 10 text ≡ n = ap (number_of 0) (sym e ∙ is) in
+    let P : ℕ → Type 0 = λ k. is_number low high text k ≡ true in
+    none (subst P same t))

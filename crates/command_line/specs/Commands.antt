@@ -1,0 +1,42 @@
+-- The command line, as clap sees it: one command with four subcommands, of which one is needed.
+use Rattle.std.specs.Prelude.{◌≡◌, Some, true, false, codes}
+use Rattle.clap.specs.declared.builder.command.Command.{Command}
+use Rattle.clap.specs.declared.builder.command.Command.TheViews.{out-Command as fields_of}
+use Rattle.clap.specs.Words.{App, Rule, Text, new_app, new_rule, with_rule, with_subcommand}
+use Rattle.clap.specs.Simple.{on_top}
+
+-- a positional word, which has to be there
+abbrev pub word : Text → Rule
+word id = record (new_rule id) { required = true }
+
+-- an option with a value, which may be left out
+abbrev pub option : Text → Rule
+option id = record (new_rule id) { long = Some id }
+
+-- run NAME [--digits S] [--workers W] [--rounds P] [--zones Z] [--watch N]
+abbrev pub run_app : App
+run_app = with_rule (with_rule (with_rule (with_rule (with_rule (with_rule (new_app (codes "run"))
+    (word (codes "name"))) (option (codes "digits"))) (option (codes "workers"))) (option (codes "rounds"))) (option (codes "zones"))) (option (codes "watch"))
+
+-- check NAME LISTING [--digits S]
+abbrev pub check_app : App
+check_app = with_rule (with_rule (with_rule (new_app (codes "check")) (word (codes "name"))) (word (codes "listing"))) (option (codes "digits"))
+
+-- make SEED SIZE
+abbrev pub make_app : App
+make_app = with_rule (with_rule (new_app (codes "make")) (word (codes "seed"))) (word (codes "size"))
+
+-- batch LIST [--digits S] [--workers W] [--rounds P]
+abbrev pub batch_app : App
+batch_app = with_rule (with_rule (with_rule (with_rule (new_app (codes "batch")) (word (codes "list"))) (option (codes "digits"))) (option (codes "workers"))) (option (codes "rounds"))
+
+-- the same command, where a subcommand is needed
+abbrev pub needing : App → App
+needing = on_top (λ s. record s { subcommand_required = true })
+
+abbrev pub heads_app : App
+heads_app = needing (with_subcommand (with_subcommand (with_subcommand (with_subcommand (new_app (codes "heads")) run_app.top) check_app.top) make_app.top) batch_app.top)
+
+-- no argument is one of all subcommands
+abbrev pub IsLocal : Command → Type 0
+IsLocal c = (fields_of c).has_globals ≡ false

@@ -1,0 +1,5 @@
+-- The line that says which words are taken.
+use Rattle.std.specs.Prelude.{List, ℕ, codes}
+
+abbrev pub usage_line : List ℕ
+usage_line = codes "USAGE: heads run NAME [--digits S] [--workers W] [--rounds P] [--zones Z] [--watch N] | heads check NAME LISTING [--digits S] | heads make SEED SIZE | heads batch LIST [--digits S] [--workers W] [--rounds P]\n"

@@ -1,0 +1,89 @@
+-- What the words of the command line ask for.
+use Rattle.std.specs.Prelude.{ℕ, List, [], ◌∷◌, Option, Some, None, cond, codes, option_map, option_and_then}
+use Rattle.std.specs.Str.{bytes_eq}
+use Rattle.clap.specs.Words.{Text, Row, Kinds, fault_of, subcommand_of, first_of}
+use Rattle.command_line.specs.Commands.{heads_app}
+use Rattle.command_line.specs.Numbers.{number_in, number_or}
+use Rattle.command_line.specs.declared.orders.Order.{Order}
+use Rattle.command_line.specs.declared.orders.Order.TheVariants as order
+
+infixl 10 ◌>>=◌
+abbrev ◌>>=◌ : {A B : Type 0} → Option A → (A → Option B) → Option B
+x >>= f = option_and_then f x
+
+-- A listing of a model: its name file, digits, workers, rounds, zone file, turns of the watching seat. A check: name file, listing, digits. A made model: seed, size. A batch of models: list, digits, workers, rounds.
+pub data Wanted : Type 0 where
+  Lists : Text → ℕ → ℕ → ℕ → Option Text → Option ℕ → Wanted
+  Checks : Text → Text → ℕ → Wanted
+  Makes : ℕ → ℕ → Wanted
+  Batches : Text → ℕ → ℕ → ℕ → Wanted
+
+-- the options' values, and what stands in their place where they are left out
+abbrev pub digits_in : List Row → Option ℕ
+digits_in rows = number_or 0 18 12 (first_of (codes "digits") rows)
+
+abbrev pub workers_in : List Row → Option ℕ
+workers_in rows = number_or 1 64 4 (first_of (codes "workers") rows)
+
+abbrev pub rounds_in : List Row → Option ℕ
+rounds_in rows = number_or 1 4000000000 1000000 (first_of (codes "rounds") rows)
+
+-- turns of the watching seat, which is there only where they are asked for
+abbrev pub turns_of : Option Text → Option (Option ℕ)
+turns_of None = Some None
+turns_of (Some text) = option_map Some (number_in 1 1000 text)
+
+abbrev pub watch_in : List Row → Option (Option ℕ)
+watch_in rows = turns_of (first_of (codes "watch") rows)
+
+-- what the words behind a command ask for, by the values that they give its arguments
+abbrev pub run_in : List Row → Option Wanted
+run_in rows = do
+  name ← first_of (codes "name") rows
+  digits ← digits_in rows
+  workers ← workers_in rows
+  rounds ← rounds_in rows
+  turns ← watch_in rows
+  Some (Lists name digits workers rounds (first_of (codes "zones") rows) turns)
+
+abbrev pub check_in : List Row → Option Wanted
+check_in rows = do
+  name ← first_of (codes "name") rows
+  listing ← first_of (codes "listing") rows
+  digits ← digits_in rows
+  Some (Checks name listing digits)
+
+abbrev pub make_in : List Row → Option Wanted
+make_in rows = do
+  seed_text ← first_of (codes "seed") rows
+  size_text ← first_of (codes "size") rows
+  seed ← number_in 0 2147483647 seed_text
+  size ← number_in 1 64 size_text
+  Some (Makes seed size)
+
+abbrev pub batch_in : List Row → Option Wanted
+batch_in rows = do
+  list ← first_of (codes "list") rows
+  digits ← digits_in rows
+  workers ← workers_in rows
+  rounds ← rounds_in rows
+  Some (Batches list digits workers rounds)
+
+abbrev pub command_in : Text → List Row → Option Wanted
+command_in name rows = cond (bytes_eq name (codes "run")) (run_in rows) (cond (bytes_eq name (codes "check")) (check_in rows) (cond (bytes_eq name (codes "make")) (make_in rows) (cond (bytes_eq name (codes "batch")) (batch_in rows) None)))
+
+-- the command and its values, where clap finds no fault
+abbrev pub wanted_if : Kinds → Option (Text × List Row) → Option Wanted
+wanted_if [] found = option_and_then (λ p. command_in p.0 p.1) found
+wanted_if (fault ∷ faults) found = None
+
+-- What the words ask for: clap takes them (a call for help is a fault), and each number is one of its range.
+abbrev pub wanted_of : List Text → Option Wanted
+wanted_of words = wanted_if (fault_of heads_app words) (subcommand_of heads_app words)
+
+-- what an order asks for
+abbrev pub wanted : Order → Wanted
+wanted (order.Run name digits workers rounds zones watch) = Lists name.now digits workers rounds (option_map (λ z. z.now) zones) watch
+wanted (order.Check name listing digits) = Checks name.now listing.now digits
+wanted (order.Make seed size) = Makes seed size
+wanted (order.Batch list digits workers rounds) = Batches list.now digits workers rounds

@@ -1,0 +1,93 @@
+ghost use Rattle.std.specs.Prelude.{◌≡◌, IfOk, false, true};
+ghost use Rattle.clap.specs.Words.{app_of, with_rule, with_subcommand};
+ghost use Rattle.command_line.specs.Commands.{IsLocal, needing, run_app, check_app, make_app, batch_app, heads_app, word, option};
+
+use clap::{Arg, Command};
+use std::alloc::{AllocError, Global};
+
+// A positional word more.
+fn with_word<'a>(
+    alloc: Global,
+    command: Command<'a>,
+    id: &'a str,
+) -> Result<Command<'a>, AllocError>
+    requires { IsLocal command }
+    ensures { IfOk result (λ c. (app_of c ≡ with_rule (app_of command.entry) (word id.entry.now)) × IsLocal c) }
+{
+    command.arg(Arg::new(alloc, id).required(true))
+}
+
+// An option with a value more.
+fn with_option<'a>(
+    alloc: Global,
+    command: Command<'a>,
+    id: &'a str,
+) -> Result<Command<'a>, AllocError>
+    requires { IsLocal command }
+    ensures { IfOk result (λ c. (app_of c ≡ with_rule (app_of command.entry) (option id.entry.now)) × IsLocal c) }
+{
+    command.arg(Arg::new(alloc, id).long(id))
+}
+
+fn run_command<'a>(alloc: Global) -> Result<Command<'a>, AllocError>
+    ensures { IfOk result (λ c. (app_of c ≡ run_app) × IsLocal c) }
+{
+    let command = with_word(alloc, Command::new(alloc, "run"), "name")?;
+    let command = with_option(alloc, command, "digits")?;
+    let command = with_option(alloc, command, "workers")?;
+    let command = with_option(alloc, command, "rounds")?;
+    let command = with_option(alloc, command, "zones")?;
+    with_option(alloc, command, "watch")
+}
+
+fn check_command<'a>(alloc: Global) -> Result<Command<'a>, AllocError>
+    ensures { IfOk result (λ c. (app_of c ≡ check_app) × IsLocal c) }
+{
+    let command = with_word(alloc, Command::new(alloc, "check"), "name")?;
+    let command = with_word(alloc, command, "listing")?;
+    with_option(alloc, command, "digits")
+}
+
+fn make_command<'a>(alloc: Global) -> Result<Command<'a>, AllocError>
+    ensures { IfOk result (λ c. (app_of c ≡ make_app) × IsLocal c) }
+{
+    let command = with_word(alloc, Command::new(alloc, "make"), "seed")?;
+    with_word(alloc, command, "size")
+}
+
+fn batch_command<'a>(alloc: Global) -> Result<Command<'a>, AllocError>
+    ensures { IfOk result (λ c. (app_of c ≡ batch_app) × IsLocal c) }
+{
+    let command = with_word(alloc, Command::new(alloc, "batch"), "list")?;
+    let command = with_option(alloc, command, "digits")?;
+    let command = with_option(alloc, command, "workers")?;
+    with_option(alloc, command, "rounds")
+}
+
+// A subcommand more.
+fn with_command<'a>(command: Command<'a>, sub: Command<'a>) -> Result<Command<'a>, AllocError>
+    requires top { IsLocal command }
+    requires sub { IsLocal sub }
+    ensures { IfOk result (λ c. (app_of c ≡ with_subcommand (app_of command.entry) (app_of sub.entry).top) × IsLocal c) }
+{
+    command.subcommand(sub)
+}
+
+// The same command, where a subcommand is needed.
+fn with_need<'a>(command: Command<'a>) -> Command<'a>
+    requires { IsLocal command }
+    ensures { (app_of result ≡ needing (app_of command.entry)) × IsLocal result }
+{
+    command.subcommand_required(true)
+}
+
+/// The whole command line.
+pub(crate) fn heads_command<'a>(alloc: Global) -> Result<Command<'a>, AllocError>
+    ensures { IfOk result (λ c. (app_of c ≡ heads_app) × IsLocal c) }
+{
+    let command = with_command(Command::new(alloc, "heads"), run_command(alloc)?)?;
+    let command = with_command(command, check_command(alloc)?)?;
+    let command = with_command(command, make_command(alloc)?)?;
+    let command = with_command(command, batch_command(alloc)?)?;
+    Ok(with_need(command))
+}

@@ -1,0 +1,10 @@
+// The words of the command line: what they ask for, for all four commands.
+#![tactic(auto)]
+
+mod commands;
+mod numbers;
+mod orders;
+mod usage;
+
+pub use orders::{Order, WordsFault, read_order};
+pub use usage::USAGE;

@@ -1,0 +1,203 @@
+ghost use Rattle.std.specs.Prelude.{◌≡◌, map, option_map, option_and_then, IfOk, IfSome, IsErrOf, Some, None, Option};
+ghost use Rattle.clap.specs.Words.{rows_of, found_of, first_of, subcommand_rows_of};
+ghost use Rattle.command_line.specs.Ranges.{IsInRange};
+ghost use Rattle.command_line.specs.Wants.{wanted, wanted_of, run_in, check_in, make_in, batch_in, command_in};
+
+use crate::commands::heads_command;
+use crate::numbers::{
+    digits_or_given, read_number, rounds_or_given, turns_or_none, workers_or_given,
+};
+use clap::ArgMatches;
+use clap::error::ErrorKind;
+use std::alloc::Global;
+
+/// What the words ask for.
+#[derive(Clone, Copy, Debug, PartialEq, Eq)]
+pub enum Order<'a> {
+    /// The listing of a model.
+    Run {
+        name: &'a str,
+        digits: u32,
+        workers: u32,
+        rounds: u32,
+        zones: Option<&'a str>,
+        watch: Option<u32>,
+    },
+    /// Whether a listing is certified.
+    Check {
+        name: &'a str,
+        listing: &'a str,
+        digits: u32,
+    },
+    /// A model that is made, and its summary.
+    Make {
+        seed: u32,
+        size: u32,
+    },
+    /// The listings of many models.
+    Batch {
+        list: &'a str,
+        digits: u32,
+        workers: u32,
+        rounds: u32,
+    },
+}
+
+/// Why the words have no order.
+#[derive(Clone, Copy, Debug, PartialEq, Eq)]
+pub enum WordsFault {
+    /// They aren't those of a command.
+    Usage,
+    /// Memory was wanting.
+    Memory,
+}
+
+// The value that the words give an argument.
+fn text_of<'a>(found: &ArgMatches<'a>, id: &str) -> Option<&'a str>
+    ensures { option_map (λ s. s.now) result ≡ first_of id.now (rows_of (found_of found.now)) }
+{
+    found.get_str(id)
+}
+
+fn run_order<'a>(found: &ArgMatches<'a>) -> Option<Order<'a>>
+    ensures is { option_map wanted result ≡ run_in (rows_of (found_of found.now)) }
+    ensures in_range { IfSome result (λ o. IsInRange (wanted o)) }
+{
+    let Some(name) = text_of(found, "name") else {
+        return None;
+    };
+    let Some(digits) = digits_or_given(text_of(found, "digits")) else {
+        return None;
+    };
+    let Some(workers) = workers_or_given(text_of(found, "workers")) else {
+        return None;
+    };
+    let Some(rounds) = rounds_or_given(text_of(found, "rounds")) else {
+        return None;
+    };
+    let Some(watch) = turns_or_none(text_of(found, "watch")) else {
+        return None;
+    };
+    Some(Order::Run {
+        name,
+        digits,
+        workers,
+        rounds,
+        zones: text_of(found, "zones"),
+        watch,
+    })
+}
+
+fn check_order<'a>(found: &ArgMatches<'a>) -> Option<Order<'a>>
+    ensures is { option_map wanted result ≡ check_in (rows_of (found_of found.now)) }
+    ensures in_range { IfSome result (λ o. IsInRange (wanted o)) }
+{
+    let Some(name) = text_of(found, "name") else {
+        return None;
+    };
+    let Some(listing) = text_of(found, "listing") else {
+        return None;
+    };
+    let Some(digits) = digits_or_given(text_of(found, "digits")) else {
+        return None;
+    };
+    Some(Order::Check {
+        name,
+        listing,
+        digits,
+    })
+}
+
+fn make_order<'a>(found: &ArgMatches<'a>) -> Option<Order<'a>>
+    ensures is { option_map wanted result ≡ make_in (rows_of (found_of found.now)) }
+    ensures in_range { IfSome result (λ o. IsInRange (wanted o)) }
+{
+    let Some(seed) = text_of(found, "seed") else {
+        return None;
+    };
+    let Some(size) = text_of(found, "size") else {
+        return None;
+    };
+    let Some(seed) = read_number(seed, 0, 2_147_483_647) else {
+        return None;
+    };
+    let Some(size) = read_number(size, 1, 64) else {
+        return None;
+    };
+    Some(Order::Make { seed, size })
+}
+
+fn batch_order<'a>(found: &ArgMatches<'a>) -> Option<Order<'a>>
+    ensures is { option_map wanted result ≡ batch_in (rows_of (found_of found.now)) }
+    ensures in_range { IfSome result (λ o. IsInRange (wanted o)) }
+{
+    let Some(list) = text_of(found, "list") else {
+        return None;
+    };
+    let Some(digits) = digits_or_given(text_of(found, "digits")) else {
+        return None;
+    };
+    let Some(workers) = workers_or_given(text_of(found, "workers")) else {
+        return None;
+    };
+    let Some(rounds) = rounds_or_given(text_of(found, "rounds")) else {
+        return None;
+    };
+    Some(Order::Batch {
+        list,
+        digits,
+        workers,
+        rounds,
+    })
+}
+
+fn command_order<'a>(name: &str, found: &ArgMatches<'a>) -> Option<Order<'a>>
+    ensures is { option_map wanted result ≡ command_in name.now (rows_of (found_of found.now)) }
+    ensures in_range { IfSome result (λ o. IsInRange (wanted o)) }
+{
+    if name == "run" {
+        run_order(found)
+    } else if name == "check" {
+        check_order(found)
+    } else if name == "make" {
+        make_order(found)
+    } else if name == "batch" {
+        batch_order(found)
+    } else {
+        None
+    }
+}
+
+fn order_from<'a>(matches: &ArgMatches<'a>) -> Option<Order<'a>>
+    ensures is { option_map wanted result ≡ option_and_then (λ p. command_in p.0 p.1) (subcommand_rows_of matches.now) }
+    ensures in_range { IfSome result (λ o. IsInRange (wanted o)) }
+{
+    match matches.subcommand() {
+        Some((name, found)) => command_order(name, found),
+        None => None,
+    }
+}
+
+/// What the words ask for, of which the first is the program's name. A call for help asks for nothing.
+pub fn read_order<'a>(alloc: Global, words: &'a [&'a str]) -> Result<Order<'a>, WordsFault>
+    ensures order { IfOk result (λ o. wanted_of (map (λ w. w.now) words.entry.now) ≡ Some (wanted o)) }
+    ensures in_range { IfOk result (λ o. IsInRange (wanted o)) }
+    ensures usage { IsErrOf result WordsFault.Usage → wanted_of (map (λ w. w.now) words.entry.now) ≡ None }
+{
+    let Ok(command) = heads_command(alloc) else {
+        return Err(WordsFault::Memory);
+    };
+    let matches = match command.try_get_matches_from(words) {
+        Ok(matches) => matches,
+        Err(error) => {
+            if error.kind() == ErrorKind::OutOfMemory {
+                return Err(WordsFault::Memory);
+            }
+            return Err(WordsFault::Usage);
+        }
+    };
+    match order_from(&matches) {
+        Some(order) => Ok(order),
+        None => Err(WordsFault::Usage),
+    }
+}
