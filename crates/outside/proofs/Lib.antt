@@ -1,3 +1,4 @@
 pub mod Putting
 pub mod Writing
 pub mod GoodNames
+pub mod NameTests

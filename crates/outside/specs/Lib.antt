@@ -5,3 +5,4 @@ pub mod Memory
 pub mod Names
 pub mod Codes
 pub mod Inputs
+pub mod Refusals

@@ -1,5 +1,6 @@
 -- Names of files.
-use Rattle.std.specs.Prelude.{ℕ, ◌≤◌, ◌==◌, List, map, length, if◌then◌else◌, All}
+use Rattle.std.specs.Prelude.{ℕ, ◌≤◌, ◌==◌, Bool, ◌&&◌, nat_le, List, map, length, if◌then◌else◌, All}
+use Rattle.std.specs.List.{list_all}
 
 -- a byte of printable ASCII past the blank
 abbrev pub IsNameByte : ℕ → Type 0
@@ -8,6 +9,10 @@ IsNameByte b = (33 ≤ b) × (b ≤ 126)
 -- a file name that is taken: 1 to 255 bytes of printable ASCII without a blank
 abbrev pub IsGoodName : List ℕ → Type 0
 IsGoodName name = (1 ≤ length name) × (length name ≤ 255) × All IsNameByte name
+
+-- the same as a test
+unfoldable pub is_good_name : List ℕ → Bool
+is_good_name name = (nat_le 1 (length name) && nat_le (length name) 255) && list_all (λ b. nat_le 33 b && nat_le b 126) name
 
 -- the name that a folder is asked for: each backslash becomes a slash
 abbrev pub folder_name : List ℕ → List ℕ

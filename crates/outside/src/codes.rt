@@ -1,4 +1,4 @@
-ghost use Rattle.std.specs.Prelude.{◌≡◌};
+ghost use Rattle.std.specs.Prelude.{◌≡◌, MatchOption};
 ghost use Rattle.outside.specs.Codes.{code_row};
 
 /// Why an input is refused, in the order of their numbers.
@@ -66,6 +66,42 @@ impl Code {
             Code::NoBarrierHigh => 25,
             Code::RangeLow => 26,
             Code::RangeHigh => 27,
+        }
+    }
+
+    /// The code that has this number, or none where no code has it.
+    pub fn of_number(number: u8) -> Option<Code>
+        ensures { MatchOption result ((c : Code) → ¬ ((code_row c).number ≡ number)) (λ c. (code_row c).number ≡ number) }
+    {
+        match number {
+            1 => Some(Code::MissingFile),
+            2 => Some(Code::TooLong),
+            3 => Some(Code::BadName),
+            4 => Some(Code::BadNameLine),
+            5 => Some(Code::DuplicatePackage),
+            6 => Some(Code::UnsupportedPackage),
+            7 => Some(Code::MissingPackage),
+            8 => Some(Code::EndOfFile),
+            9 => Some(Code::BadNumber),
+            10 => Some(Code::TooManyDigits),
+            11 => Some(Code::OutOfProfile),
+            12 => Some(Code::BadGrid),
+            13 => Some(Code::BadControl),
+            14 => Some(Code::BadThickness),
+            15 => Some(Code::BadProperty),
+            16 => Some(Code::CellOutside),
+            17 => Some(Code::TooManyEntries),
+            18 => Some(Code::NothingToReuse),
+            19 => Some(Code::HeadTooLarge),
+            20 => Some(Code::BadListing),
+            21 => Some(Code::ConductanceTooSmall),
+            22 => Some(Code::ConductanceTooLarge),
+            23 => Some(Code::FlowTooLarge),
+            24 => Some(Code::NoBarrierLow),
+            25 => Some(Code::NoBarrierHigh),
+            26 => Some(Code::RangeLow),
+            27 => Some(Code::RangeHigh),
+            _ => None,
         }
     }
 

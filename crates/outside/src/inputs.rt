@@ -2,10 +2,11 @@ ghost use Rattle.std.specs.Prelude.{◌≡◌, IfSome, IfOk};
 ghost use Rattle.outside.specs.Counts.{InputCounts};
 ghost use Rattle.outside.specs.Inputs.{file_at, file_refusal, IsReading};
 ghost use Rattle.outside.specs.Names.{IsGoodName};
+ghost use Rattle.outside.specs.Refusals.{IsRefusal};
 
 use crate::codes::Code;
 use crate::names::{Name, folder_name};
-use crate::refusals::{InputFault, Refusal};
+use crate::refusals::{InputFault, Refusal, TextFault};
 use crate::traits::{Folder, FolderError, Found};
 use std::alloc::{AllocError, Global};
 
@@ -48,4 +49,19 @@ pub fn file_refusal(alloc: Global, code: Code, name: &str) -> Result<Refusal, Al
         line: 0,
         at: None,
     })
+}
+
+/// The refusal of a line of a file, or `Memory` where there is none for the file's name.
+pub fn refused(alloc: Global, code: Code, file: &str, line: u32) -> TextFault
+    ensures { IsRefusal code file.now line result }
+{
+    match Name::new(alloc, file) {
+        Ok(file) => TextFault::Refused(Refusal {
+            code,
+            file,
+            line,
+            at: None,
+        }),
+        Err(_) => TextFault::Memory,
+    }
 }

@@ -12,13 +12,10 @@ mod stored;
 mod traits;
 
 pub use codes::Code;
-pub use inputs::{FILE_LIMIT, file_refusal, read_input};
+pub use inputs::{FILE_LIMIT, file_refusal, read_input, refused};
 pub use memory::FreeGate;
 pub use names::{Name, folder_name, good_name, is_good_name};
-pub use real::{RealFolder, RealSink};
+pub use real::{RealFolder, RealSink, read_whole};
 pub use refusals::{InputFault, Refusal, TextFault};
 pub use stored::{MemFolder, MemSink};
 pub use traits::{Folder, FolderError, Found, Gate, Sink, SinkError};
-
-#[cfg(test)]
-mod tests;

@@ -1,4 +1,4 @@
-ghost use Rattle.std.specs.Prelude.{◌≡◌, ℕ, ◌≤◌, List, length, take, None, refl, IfOk, IfSome, IfNone};
+ghost use Rattle.std.specs.Prelude.{◌≡◌, ℕ, ◌<◌, ◌≤◌, List, length, take, None, refl, IfOk, IfSome, IfNone};
 ghost use Rattle.std.specs.Io.KnownBytes.{Appends, Keeps};
 ghost use Rattle.outside.specs.Counts.{ReadCounts};
 ghost use Rattle.outside.specs.Files.{untold, IsFound, IsWhole, IsWithin};
@@ -32,27 +32,25 @@ impl<'a, R: Files> RealFolder<'a, R> {
     }
 }
 
-// All that a reader has left, where that is at most `limit` bytes.
-fn read_whole<S: Read>(alloc: Global, from: &mut S, limit: u64) -> Result<Found, FolderError>
+/// All that a reader has left, where that is at most `limit` bytes. It reads no more once a read
+/// gave nothing or failed, or past the limit.
+pub fn read_whole<S: Read>(alloc: Global, from: &mut S, limit: u64) -> Result<Found, FolderError>
     ensures { IfOk result (IsWhole limit (S.remaining from.old)) }
 {
     let mut bytes = Vec::new(alloc);
     let mut piece = [0u8; 4096];
-    for _ in 0..u64::MAX {
+    while bytes.len() as u64 <= limit {
         match from.read(&mut piece) {
             Ok(0) => return Ok(Found::Bytes(bytes)),
             Ok(n) => {
                 if bytes.extend_from_slice(&piece[..n]).is_err() {
                     return Err(FolderError::Memory);
                 }
-                if bytes.len() as u64 > limit {
-                    return Ok(Found::TooLong);
-                }
             }
             Err(_) => return Err(FolderError::Read),
         }
     }
-    Err(FolderError::Read)
+    Ok(Found::TooLong)
 }
 
 impl<'a, R: Files> Folder for RealFolder<'a, R> {
@@ -109,6 +107,7 @@ impl<W: Write + Drop> RealSink<W> {
 
 // How many of the bytes one write took. A write that takes none has failed.
 fn write_part<W: Write>(to: &mut W, bytes: &[u8]) -> Option<usize>
+    ensures some { IfSome result (λ n. 0 < n) }
     ensures within { IfSome result (λ n. n ≤ length bytes.now) }
     ensures taken { IfSome result (λ n. Appends (W.contents to.old) (W.contents to.new) (take n bytes.now)) }
     ensures failed { IfNone result (Keeps (W.contents to.old) (W.contents to.new)) }
@@ -130,10 +129,7 @@ impl<W: Write + Drop> Sink for RealSink<W> {
 
     fn put(&mut self, piece: &[u8]) -> Result<(), SinkError> {
         let mut at = 0;
-        for _ in 0..u64::MAX {
-            if at >= piece.len() {
-                return Ok(());
-            }
+        while at < piece.len() {
             match write_part(&mut self.to, &piece[at..]) {
                 Some(n) => at += n,
                 None => {
@@ -142,7 +138,6 @@ impl<W: Write + Drop> Sink for RealSink<W> {
                 }
             }
         }
-        self.faults = self.faults.saturating_add(1);
-        Err(SinkError::Write)
+        Ok(())
     }
 }

@@ -68,3 +68,16 @@ impl From<AllocError> for InputFault {
         InputFault::Memory
     }
 }
+
+impl From<TextFault> for InputFault {
+    ghost use Rattle.outside.specs.Refusals.{input_fault};
+
+    ghost from_gives = { λ text fault. fault ≡ input_fault text };
+
+    fn from(fault: TextFault) -> InputFault {
+        match fault {
+            TextFault::Refused(refusal) => InputFault::Refused(refusal),
+            TextFault::Memory => InputFault::Memory,
+        }
+    }
+}
