@@ -1,5 +1,5 @@
 -- The functions of specs/Numbers are what words and products name.
-use Rattle.std.proofs.Common.{◌≡◌, ℕ, zero, suc, ◌<◌, ◌≤◌, ◌+◌, ◌*◌, ◌/◌, ◌%◌, ◌^◌, ◌==◌, Bool, true, false, if◌then◌else◌, List, length, nat_le, nat_lt, Option, Some, None, Result, ℤ, pos, negsuc, neg_ℤ, ◌+ℤ◌, ◌≤ℤ◌, ◌<ℤ◌, ◌↔◌, inl, inr, refl, sym, ◌∙◌, arith, pow-suc, add-one}
+use Rattle.std.proofs.Common.{◌≡◌, ℕ, zero, suc, ◌<◌, ◌≤◌, ◌+◌, ◌*◌, ◌/◌, ◌%◌, ◌^◌, ◌==◌, Bool, true, false, if◌then◌else◌, List, length, nat_le, nat_lt, Option, Some, None, Result, Ok, Err, ap, ℤ, pos, negsuc, neg_ℤ, ◌+ℤ◌, ◌≤ℤ◌, ◌<ℤ◌, ◌↔◌, inl, inr, refl, sym, ◌∙◌, arith, pow-suc, add-one}
 use Rattle.std.proofs.lemmas.Int.{ints}
 use Rattle.std.proofs.lemmas.Bool.Decides.{nat_tests}
 use Rattle.decimal_input.specs.declared.dec.Dec.{Dec}
@@ -10,7 +10,7 @@ use Rattle.decimal_input.specs.Words.{spelt, integer_of}
 use Rattle.decimal_input.proofs.Named.{IsNumber}
 use Rattle.decimal_input.proofs.Spelled.{names_read, long_names, reads_integer, integer_read}
 use Rattle.decimal_input.proofs.Unique.{names_one, canonical_one}
-use Rattle.array_reader.specs.Numbers.{significant, zeros, is_exponent, tested, canonical, spelt_number, number, product}
+use Rattle.array_reader.specs.Numbers.{significant, zeros, is_exponent, tested, canonical, spelt_number, number, product, integer, or_bad}
 
 tens : (n c : ℕ) → c % 10 ≡ 0 → IsTrimmed (c / 10) (significant n (c / 10)) (zeros n (c / 10)) → IsTrimmed c (significant n (c / 10)) (zeros n (c / 10) + 1)
 tens n c e t =
@@ -92,3 +92,25 @@ is_integer w r h = cases (integer_of w) refl r refl
     cases (Some z) e y f = (h z).1 (integer_read w z e) ∙ sym e
     cases None e None f = f ∙ sym e
     cases None e (Some z) f = absurd (let some : None ≡ Some z = sym e ∙ reads_integer w z ((h z).0 f) in cc)
+
+abbrev some_of : {X E : Type 0} → Result X E → Option X
+some_of (Ok x) = Some x
+some_of (Err e) = None
+
+pub integers_are : (w : List ℕ) (z : ℤ) → (integer w ≡ Ok z) ↔ IsInteger w z
+unfolding integer
+integers_are w z = (λ e. by_word (integer_of w) refl e, λ h. rw (reads_integer w z h) refl)
+  where
+    by_word : (o : Option ℤ) → integer_of w ≡ o → or_bad o ≡ Ok z → IsInteger w z
+    by_word None f e = cc
+    by_word (Some y) f e = let same : Some y ≡ Some z = ap some_of e in integer_read w z (f ∙ same)
+
+pub numbers_are : (w : List ℕ) (r : Result Dec NumFault) → (number w ≡ r) ↔ Names w r
+numbers_are w r = (λ e. rw (← e) (names_number w), λ h. sym (is_word_number w r h))
+
+product_is : (a b : Dec) → IsCanonical (differ a.neg b.neg) (a.digits * b.digits) (a.exp +ℤ b.exp) (product a b)
+unfolding product
+product_is a b = canonical_is (differ a.neg b.neg) (a.digits * b.digits) (a.exp +ℤ b.exp)
+
+pub products_are : (a b : Dec) (r : Result Dec NumFault) → (product a b ≡ r) ↔ IsCanonical (differ a.neg b.neg) (a.digits * b.digits) (a.exp +ℤ b.exp) r
+products_are a b r = (λ e. rw (← e) (product_is a b), λ h. sym (is_product a b r h))

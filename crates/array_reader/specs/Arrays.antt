@@ -6,7 +6,7 @@ use Rattle.outside.specs.Inputs.{file_at}
 use Rattle.outside.specs.declared.refusals.Refusal.{Refusal}
 use Rattle.record_lines.specs.Items.{line_at}
 use Rattle.record_lines.specs.Layout.{Left, words, left_from}
-use Rattle.record_lines.specs.Reading.{◌>>=◌}
+use Rattle.record_lines.specs.Reading.{◌>>=◌, appended}
 use Rattle.array_reader.specs.Control.{Control, constant, internal, named, control_at}
 use Rattle.array_reader.specs.Kinds.{Kind, multiplied, real, whole}
 use Rattle.array_reader.specs.Lists.{free_rows}
@@ -41,9 +41,17 @@ unfoldable pub reals : List File → List ℕ → ℕ → Left → Result (List 
 reals files file count left = without_line (array_at real files file 1 count left)
 
 -- a layer: one free list for each row of the grid
-unfoldable pub layer : List File → List ℕ → ℕ → ℕ → Left → Result (List Dec × Left) Refusal
-layer files file rows cols left = without_line (array_at real files file rows cols left)
+unfoldable pub layer_of : {X : Type 0} → Kind X → List File → List ℕ → ℕ → ℕ → Left → Result (List X × Left) Refusal
+layer_of kind files file rows cols left = without_line (array_at kind files file rows cols left)
+
+-- a layer of numbers
+unfoldable pub real_layer : List File → List ℕ → ℕ → ℕ → Left → Result (List Dec × Left) Refusal
+real_layer files file rows cols left = layer_of real files file rows cols left
 
 -- a layer of integers
 unfoldable pub integer_layer : List File → List ℕ → ℕ → ℕ → Left → Result (List ℤ × Left) Refusal
-integer_layer files file rows cols left = without_line (array_at whole files file rows cols left)
+integer_layer files file rows cols left = layer_of whole files file rows cols left
+
+-- so many layers, one array for each, as one list
+unfoldable pub layers : {X : Type 0} → Kind X → List File → List ℕ → ℕ → ℕ → ℕ → Left → Result (List X × Left) Refusal
+layers kind files file count rows cols left = appended count (layer_of kind files file rows cols) left

@@ -4,7 +4,8 @@ use Rattle.decimal_input.specs.declared.dec.NumFault.{NumFault}
 use Rattle.outside.specs.declared.codes.Code.TheVariants.{BadControl, OutOfProfile}
 use Rattle.outside.specs.declared.refusals.Refusal.{Refusal}
 use Rattle.record_lines.specs.Items.{word_at, name_at, is_word}
-use Rattle.record_lines.specs.Reading.{◌>>=◌, refusal}
+use Rattle.outside.specs.Refusals.{refusal}
+use Rattle.record_lines.specs.Reading.{◌>>=◌}
 use Rattle.array_reader.specs.Items.{number_at}
 use Rattle.array_reader.specs.declared.keyword.Keyword.{Keyword}
 use Rattle.array_reader.specs.declared.keyword.Keyword.TheVariants.{Constant, Internal, OpenClose, External, Other}

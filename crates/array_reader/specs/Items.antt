@@ -5,7 +5,8 @@ use Rattle.decimal_input.specs.declared.dec.NumFault.TheVariants as faults
 use Rattle.outside.specs.declared.codes.Code.{Code}
 use Rattle.outside.specs.declared.codes.Code.TheVariants.{BadNumber, TooManyDigits}
 use Rattle.outside.specs.declared.refusals.Refusal.{Refusal}
-use Rattle.record_lines.specs.Reading.{◌>>=◌, refusal}
+use Rattle.outside.specs.Refusals.{refusal}
+use Rattle.record_lines.specs.Reading.{◌>>=◌}
 
 -- the code of a word that is no number
 abbrev pub number_code : NumFault → Code

@@ -5,3 +5,4 @@ pub mod Lists
 pub mod Control
 pub mod Arrays
 pub mod Seen
+pub mod Laws

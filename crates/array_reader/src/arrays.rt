@@ -1,18 +1,17 @@
 ghost use Rattle.std.specs.Prelude.{◌≡◌, ◌*◌, length, IfOk, IsTrue, is_some, All};
-ghost use Rattle.decimal_input.specs.Canonical.{IsDec};
 ghost use Rattle.outside.specs.Counts.{InputCounts};
 ghost use Rattle.outside.specs.Inputs.{file_at};
 ghost use Rattle.outside.specs.Names.{IsGoodName};
 ghost use Rattle.record_lines.specs.Reading.{Gives, Has};
-ghost use Rattle.array_reader.specs.Arrays.{told, values_of, array_at, reals, layer, integer_layer};
+ghost use Rattle.array_reader.specs.Arrays.{told, values_of, array_at};
 ghost use Rattle.array_reader.specs.Seen.{control_of, Has_good};
 
 use crate::control::{Control, control_record};
 use crate::kinds::Value;
+use crate::line_items::next_line;
 use crate::lists::{constants, free_rows};
-use decimal_input::dec::Dec;
 use outside::{Folder, InputFault, read_input};
-use record_lines::{Lines, Words, input_fault, next_line};
+use record_lines::{Lines, Words};
 use std::alloc::Global;
 
 /// A file of the folder, whole.
@@ -51,17 +50,11 @@ fn values_of<V: Value, F: Folder>(
             let count = rows as usize * cols as usize;
             Ok(constants(alloc, value, count)?)
         }
-        Control::Internal(by) => match free_rows(alloc, lines, file, Some(by), rows, cols) {
-            Ok(values) => Ok(values),
-            Err(fault) => Err(input_fault(fault)),
-        },
+        Control::Internal(by) => Ok(free_rows(alloc, lines, file, Some(by), rows, cols)?),
         Control::Named(name, by) => {
             let bytes = open_file(alloc, folder, name)?;
             let mut inner = Lines::new(&bytes);
-            match free_rows(alloc, &mut inner, name, Some(by), rows, cols) {
-                Ok(values) => Ok(values),
-                Err(fault) => Err(input_fault(fault)),
-            }
+            Ok(free_rows(alloc, &mut inner, name, Some(by), rows, cols)?)
         }
     }
 }
@@ -82,73 +75,9 @@ pub fn read_array<V: Value, F: Folder>(
     ensures good { IfOk result (λ x. All V.Good x.0.items) }
     ensures count { IfOk result (λ x. length x.0.items ≡ rows * cols) }
 {
-    let line = match next_line(alloc, lines, file) {
-        Ok(line) => line,
-        Err(fault) => return Err(input_fault(fault)),
-    };
+    let line = next_line(alloc, lines, file)?;
     let mut words = Words::of(&line);
-    let control = match control_record(alloc, &mut words, file, line.number) {
-        Ok(control) => control,
-        Err(fault) => return Err(input_fault(fault)),
-    };
+    let control = control_record(alloc, &mut words, file, line.number)?;
     let values = values_of(alloc, lines, file, folder, &control, rows, cols)?;
     Ok((values, line.number))
-}
-
-/// A one-dimensional array of so many numbers, with its control record.
-#[tactic(auto, unfolding(crate::specs::Arrays::reals))]
-pub fn read_reals<F: Folder>(
-    alloc: Global,
-    lines: &mut Lines,
-    file: &str,
-    folder: &mut F,
-    count: u32,
-) -> Result<Vec<Dec>, InputFault>
-    ensures files { F.files folder.new ≡ F.files folder.old }
-    ensures counts { InputCounts (F.faults folder.old) (F.faults folder.new) result }
-    ensures array { IsTrue (is_some (F.files folder.old)) → Gives (λ v. v.items) result lines.new (reals (told (F.files folder.old)) file.now count lines.old) }
-    ensures canonical { IfOk result (λ v. All IsDec v.items) }
-    ensures count { IfOk result (λ v. length v.items ≡ count) }
-{
-    let (values, _) = read_array(alloc, lines, file, folder, 1, count)?;
-    Ok(values)
-}
-
-/// A layer of numbers, row by row, with its control record.
-#[tactic(auto, unfolding(crate::specs::Arrays::layer))]
-pub fn read_layer<F: Folder>(
-    alloc: Global,
-    lines: &mut Lines,
-    file: &str,
-    folder: &mut F,
-    rows: u32,
-    cols: u32,
-) -> Result<Vec<Dec>, InputFault>
-    ensures files { F.files folder.new ≡ F.files folder.old }
-    ensures counts { InputCounts (F.faults folder.old) (F.faults folder.new) result }
-    ensures array { IsTrue (is_some (F.files folder.old)) → Gives (λ v. v.items) result lines.new (layer (told (F.files folder.old)) file.now rows cols lines.old) }
-    ensures canonical { IfOk result (λ v. All IsDec v.items) }
-    ensures count { IfOk result (λ v. length v.items ≡ rows * cols) }
-{
-    let (values, _) = read_array(alloc, lines, file, folder, rows, cols)?;
-    Ok(values)
-}
-
-/// A layer of integers, row by row, with its control record.
-#[tactic(auto, unfolding(crate::specs::Arrays::integer_layer))]
-pub fn read_int_layer<F: Folder>(
-    alloc: Global,
-    lines: &mut Lines,
-    file: &str,
-    folder: &mut F,
-    rows: u32,
-    cols: u32,
-) -> Result<Vec<i64>, InputFault>
-    ensures files { F.files folder.new ≡ F.files folder.old }
-    ensures counts { InputCounts (F.faults folder.old) (F.faults folder.new) result }
-    ensures array { IsTrue (is_some (F.files folder.old)) → Gives (λ v. v.items) result lines.new (integer_layer (told (F.files folder.old)) file.now rows cols lines.old) }
-    ensures count { IfOk result (λ v. length v.items ≡ rows * cols) }
-{
-    let (values, _) = read_array(alloc, lines, file, folder, rows, cols)?;
-    Ok(values)
 }

@@ -6,8 +6,9 @@ ghost use Rattle.array_reader.specs.Seen.{control_of, Has_good};
 use crate::items::value_item;
 use crate::keyword::{Keyword, format, keyword_of, next_word};
 use crate::kinds::Value;
-use outside::{Code, TextFault};
-use record_lines::{Words, name_of, refused};
+use crate::line_items::name_of;
+use outside::{Code, TextFault, refused};
+use record_lines::Words;
 use std::alloc::Global;
 
 /// The record in front of an array.

@@ -1,13 +1,14 @@
 ghost use Rattle.std.specs.Prelude.{◌≡◌, IfOk};
 ghost use Rattle.decimal_input.specs.Canonical.{IsDec};
-ghost use Rattle.record_lines.specs.Reading.{GivesText, IsRefusal};
+ghost use Rattle.outside.specs.Refusals.{IsRefusal};
+ghost use Rattle.record_lines.specs.Reading.{GivesText};
 ghost use Rattle.array_reader.specs.Items.{number_at, number_code};
 ghost use Rattle.array_reader.specs.Numbers as numbers;
 
 use crate::kinds::Value;
 use decimal_input::dec::{Dec, NumFault};
-use outside::{Code, TextFault};
-use record_lines::{Words, refused};
+use outside::{Code, TextFault, refused};
+use record_lines::Words;
 use std::alloc::Global;
 
 /// The refusal of a word that is no number.

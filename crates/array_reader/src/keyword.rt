@@ -1,11 +1,12 @@
 ghost use Rattle.std.specs.Prelude.{◌≡◌};
 ghost use Rattle.outside.specs.declared.codes.Code.TheVariants.{BadControl};
 ghost use Rattle.record_lines.specs.Items.{word_at};
-ghost use Rattle.record_lines.specs.Reading.{GivesText, refusal};
+ghost use Rattle.outside.specs.Refusals.{refusal};
+ghost use Rattle.record_lines.specs.Reading.{GivesText};
 ghost use Rattle.array_reader.specs.Control.{keyword, format_at};
 
-use outside::{Code, TextFault};
-use record_lines::{Words, is_word, refused};
+use outside::{Code, TextFault, refused};
+use record_lines::{Words, is_word};
 use std::alloc::Global;
 
 /// The first word of a control record.

@@ -6,15 +6,20 @@ mod control;
 mod items;
 mod keyword;
 mod kinds;
+mod laws;
+mod layers;
+mod line_items;
 mod lists;
 mod numbers;
 mod plain;
 
-pub use arrays::{open_file, read_array, read_int_layer, read_layer, read_reals};
-pub use items::{integer, number, number_refused};
+pub use arrays::{open_file, read_array};
+pub use control::{Control, control_record};
+pub use items::{integer, number, number_refused, value_item};
 pub use kinds::Value;
-pub use lists::{free_refused, next_value};
+pub use laws::{integers_follow_the_grammar, numbers_follow_the_grammar, products_are_exact};
+pub use layers::{read_int_layer, read_layer, read_layers, read_reals};
+pub use line_items::{name_of, next_line};
+pub use lists::{constants, free_list, free_refused, free_rows, next_value, values};
+pub use numbers::short_integer;
 pub use plain::{plain_ints, plain_reals};
-
-#[cfg(test)]
-mod tests;

@@ -1,12 +1,13 @@
-ghost use Rattle.std.specs.Prelude.{◌≡◌, ◌*◌, length, replicate, IfOk, IfSome, All};
-ghost use Rattle.record_lines.specs.Reading.{GivesText, IsRefusal, appended, repeated};
+ghost use Rattle.std.specs.Prelude.{◌≡◌, ◌*◌, Ok, length, replicate, IfOk, IfSome, All};
+ghost use Rattle.outside.specs.Refusals.{IsRefusal};
+ghost use Rattle.record_lines.specs.Reading.{GivesText, appended, repeated};
 ghost use Rattle.array_reader.specs.Kinds.{with_multiplier};
-ghost use Rattle.array_reader.specs.Lists.{free_refusal, value_at, free_list, free_rows};
+ghost use Rattle.array_reader.specs.Lists.{free_refusal, value_alone, value_at, free_list, free_rows};
 
 use crate::items::number_refused;
 use crate::kinds::{Value, value_of};
-use outside::{Code, TextFault};
-use record_lines::{Free, FreeFault, Lines, refused};
+use outside::{Code, TextFault, refused};
+use record_lines::{Free, FreeFault, Lines};
 use std::alloc::{AllocError, Global};
 
 /// The refusal of a fault of a free list in this file.
@@ -19,7 +20,7 @@ pub fn free_refused(alloc: Global, fault: FreeFault, file: &str) -> TextFault
     }
 }
 
-/// The next value of a free list.
+/// The next value of a free list, and the number of its line.
 #[tactic(auto, unfolding(crate::specs::Lists::value_at))]
 pub fn next_value<'a, V: Value>(
     alloc: Global,
@@ -27,22 +28,48 @@ pub fn next_value<'a, V: Value>(
     lines: &mut Lines<'a>,
     file: &str,
     by: Option<V>,
-) -> Result<V, TextFault>
+) -> Result<(V, u32), TextFault>
     requires by { IfSome by V.Good }
     ensures value { GivesText (λ x. x) result (free.new, lines.new) (value_at (with_multiplier V.kind by) file.now (free.old, lines.old)) }
-    ensures good { IfOk result V.Good }
+    ensures good { IfOk result (λ x. V.Good x.0) }
 {
     match free.next(lines) {
         Err(fault) => Err(free_refused(alloc, fault, file)),
         Ok((word, line)) => match value_of(word, by) {
-            Ok(value) => Ok(value),
+            Ok(value) => Ok((value, line)),
             Err(fault) => Err(number_refused(alloc, fault, file, line)),
         },
     }
 }
 
-/// So many values of a free list.
-fn values<'a, V: Value>(
+// The next value, which is `last`, the value of the last word, where it is one of its repeats.
+#[tactic(auto, unfolding(crate::specs::Lists::value_alone))]
+fn next_kept<'a, V: Value>(
+    alloc: Global,
+    free: &mut Free<'a>,
+    lines: &mut Lines<'a>,
+    file: &str,
+    by: Option<V>,
+    last: Option<V>,
+) -> Result<V, TextFault>
+    requires by { IfSome by V.Good }
+    requires last { IfSome last (λ v. with_multiplier V.kind by free.old.word ≡ Ok v) }
+    requires good { IfSome last V.Good }
+    ensures value { GivesText (λ x. x) result (free.new, lines.new) (value_alone (with_multiplier V.kind by) file.now (free.old, lines.old)) }
+    ensures last { IfOk result (λ v. with_multiplier V.kind by free.new.word ≡ Ok v) }
+    ensures good { IfOk result V.Good }
+{
+    if let Some(value) = last {
+        if free.repeats() {
+            return Ok(value);
+        }
+    }
+    let (value, _) = next_value(alloc, free, lines, file, by)?;
+    Ok(value)
+}
+
+/// So many values of a free list. A word is read once for all its repeats.
+pub fn values<'a, V: Value>(
     alloc: Global,
     free: &mut Free<'a>,
     lines: &mut Lines<'a>,
@@ -51,13 +78,15 @@ fn values<'a, V: Value>(
     count: u32,
 ) -> Result<Vec<V>, TextFault>
     requires by { IfSome by V.Good }
-    ensures values { GivesText (λ v. v.items) result (free.new, lines.new) (repeated count (value_at (with_multiplier V.kind by) file.now) (free.old, lines.old)) }
+    ensures values { GivesText (λ v. v.items) result (free.new, lines.new) (repeated count (value_alone (with_multiplier V.kind by) file.now) (free.old, lines.old)) }
     ensures good { IfOk result (λ v. All V.Good v.items) }
     ensures count { IfOk result (λ v. length v.items ≡ count) }
 {
     let mut values = Vec::new(alloc);
+    let mut last = None;
     for _ in 0..count {
-        let value = next_value(alloc, free, lines, file, by)?;
+        let value = next_kept(alloc, free, lines, file, by, last)?;
+        last = Some(value);
         values.push(value)?;
     }
     Ok(values)

@@ -41,7 +41,8 @@ pub fn scaled_real(value: Dec, by: Dec) -> Result<Dec, NumFault>
     }
 }
 
-fn short_integer(word: &[u8]) -> Option<i64>
+/// The integer of a word: an optional sign and 1 to 18 digits; none where it has another form.
+pub fn short_integer(word: &[u8]) -> Option<i64>
     ensures { result ≡ integer_of word.now }
 {
     read_int(word)

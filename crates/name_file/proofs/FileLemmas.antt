@@ -1,6 +1,11 @@
 -- What a look-up by a package finds.
-use Rattle.std.proofs.Common.{◌≡◌, ℕ, Bool, true, false, Some, None, List, refl, sym, ◌∙◌, Contains, is_some, rules}
+use Rattle.std.proofs.Common.{◌≡◌, ℕ, Bool, true, false, Some, None, List, [], ◌∷◌, ◌++◌, refl, sym, ◌∙◌, All, Contains, is_some, rules}
+use Rattle.std.specs.Prelude.{IsTrue}
+use Rattle.std.proofs.lemmas.List.Elements.{All-contains, All-push}
+use Rattle.std.proofs.lemmas.Map.Keys.{IsDistinct-push}
+use Rattle.std.proofs.lemmas.Map.Made.{is_some-lookup}
 use Rattle.std.proofs.lemmas.Map.Views.{Contains-from_lookup, IsSome-lookup_from_Contains}
+use Rattle.outside.specs.Names.{IsGoodName}
 use Rattle.std.specs.Cmp.{IsEquivalence}
 use Rattle.std.specs.Map.{keys_of}
 use denote.Enum.Bare.{same_true}
@@ -8,7 +13,7 @@ use Rattle.name_file.specs.contracts.package.Package.{the_type}
 use Rattle.name_file.specs.contracts.package.PackagePartialEq.TheImpl.{ghosts}
 use Rattle.name_file.specs.declared.package.Package.{Package}
 use Rattle.name_file.specs.declared.package.Package.TheVariants.{Dis, Bas, Lpf, Wel, Riv, Drn, Ghb, Rch, Chd, Evt}
-use Rattle.name_file.specs.Pairs.{Pairs, file_of}
+use Rattle.name_file.specs.Pairs.{Pairs, AreFiles, IsWhole, file_of, has_package, is_needed, packages_of}
 
 is_same : (x y : Package) → ghosts.eq x y ≡ true → x ≡ y
 is_same x y e = same_true the_type (search rules) x y e
@@ -50,3 +55,31 @@ is_not_named asked names e held =
     let none : is_some (file_of asked names) ≡ false = rw e refl in
     let clash : true ≡ false = sym found ∙ none in
     cc
+
+pub is_good_file : (asked : Package) (names : Pairs) (name : List ℕ) → AreFiles names → file_of asked names ≡ Some name → IsGoodName name
+is_good_file asked names name h e = All-contains (λ pair. IsGoodName pair.1) names (asked, name) h.good (is_held asked names name e)
+
+one_more_package : (found : Package) (name : List ℕ) (old : Pairs) → packages_of (old ++ (found, name) ∷ []) ≡ packages_of old ++ found ∷ []
+one_more_package found name [] = refl
+one_more_package found name (pair ∷ old) = rw (one_more_package found name old) refl
+
+-- one more package, which is new, with a good name
+pub one_more : (found : Package) (name : List ℕ) (old new : Pairs) → AreFiles old → has_package found old ≡ false → IsGoodName name → new ≡ old ++ (found, name) ∷ [] → AreFiles new
+one_more found name old new h absent good e =
+    let apart = sym (is_some-lookup (ghosts.eq found) old) ∙ absent in
+    rw e (record {
+      distinct = rw (one_more_package found name old) (IsDistinct-push is_equivalence (packages_of old) found h.distinct apart);
+      good = All-push (λ pair. IsGoodName pair.1) old (found, name) h.good good;
+    })
+
+pub is_there : (asked : Package) (names : Pairs) → IsWhole names → IsTrue (is_needed asked) → has_package asked names ≡ true
+is_there Dis names h needed = h.discretization
+is_there Bas names h needed = h.basic
+is_there Lpf names h needed = h.flow
+is_there Wel names h needed = cc
+is_there Riv names h needed = cc
+is_there Drn names h needed = cc
+is_there Ghb names h needed = cc
+is_there Rch names h needed = cc
+is_there Chd names h needed = cc
+is_there Evt names h needed = cc

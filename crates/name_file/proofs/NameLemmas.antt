@@ -1,15 +1,12 @@
 -- A package that is new goes last; and a name file goes on, stops or ends line by line.
-use Rattle.std.proofs.Common.{◌≡◌, ℕ, ℤ, ◌↔◌, false, List, [], ◌∷◌, ◌++◌, Option, Some, None, Ok, refl, is_some}
+use Rattle.std.proofs.Common.{◌≡◌, ℕ, false, List, [], ◌∷◌, ◌++◌, Option, Some, None, Ok, refl, is_some}
 use Rattle.std.specs.HashMap.{HashMap}
 use Rattle.indexmap.specs.IndexMap.{get, insert_entry}
 use Rattle.indexmap.proofs.CallerLemmas.{insert_entry-new}
-use Rattle.decimal_input.specs.Grammar.{IsInteger}
-use Rattle.decimal_input.specs.Words.{integer_of}
-use Rattle.decimal_input.proofs.Spelled.{reads_integer, integer_read}
 use Rattle.name_file.specs.declared.package.Package.{Package}
 use Rattle.name_file.specs.contracts.package.PackagePartialEq.TheImpl.{ghosts}
 use Rattle.name_file.specs.Pairs.{Pairs, has_package}
-use Rattle.name_file.specs.Reading.{is_integer, after_line, after_lines}
+use Rattle.name_file.specs.Reading.{after_line, after_lines}
 use Rattle.record_lines.specs.Layout.{Left, Numbered}
 use Rattle.record_lines.specs.Reading.{StopsText}
 use Rattle.outside.specs.declared.refusals.TextFault.{TextFault}
@@ -24,15 +21,6 @@ pub goes_last : {S : Type 0} (found : Package) (m : HashMap Package (List ℕ) S
 goes_last found m name old new shown absent e =
     let missing : has_package found m.entries ≡ false = rw (← shown) absent in
     rw (shown, e, insert_entry-new ghosts.eq m found name (is_none (get ghosts.eq m found) missing)) refl
-
-pub tests_integer : (word : List ℕ) (read : Option ℤ) → ((z : ℤ) → (read ≡ Some z) ↔ IsInteger word z) → is_some read ≡ is_integer word
-unfolding is_integer
-tests_integer word (Some z) exact = rw (reads_integer word z ((exact z).0 refl)) refl
-tests_integer word None exact = none (integer_of word) refl
-  where
-    none : (o : Option ℤ) → integer_of word ≡ o → false ≡ is_some o
-    none None e = refl
-    none (Some z) e = let read : None ≡ Some z = (exact z).1 (integer_read word z e) in cc
 
 pub goes_on : (file : List ℕ) (left after : Left) (line : Numbered) (names next : Pairs) → left ≡ record { lines = line ∷ after.lines; end = after.end } → after_line file line names ≡ Ok next
     → after_lines file left.lines names ≡ after_lines file after.lines next

@@ -1,7 +1,10 @@
 -- The packages of a model and the names of their files.
-use Rattle.std.specs.Prelude.{ℕ, Bool, List, map, Option, is_some}
+use Rattle.std.specs.Prelude.{◌≡◌, ℕ, Bool, true, false, List, map, Option, is_some, All}
+use Rattle.std.specs.List.{IsDistinct}
 use Rattle.std.specs.Map.{lookup}
+use Rattle.outside.specs.Names.{IsGoodName}
 use Rattle.name_file.specs.declared.package.Package.{Package}
+use Rattle.name_file.specs.declared.package.Package.TheVariants.{Dis, Bas, Lpf, Wel, Riv, Drn, Ghb, Rch, Chd, Evt}
 use Rattle.name_file.specs.contracts.package.PackagePartialEq.TheImpl.{ghosts}
 
 -- pairs of a package and its file's name, in the order of the name file
@@ -18,3 +21,27 @@ has_package asked names = is_some (file_of asked names)
 -- the packages that have a pair
 abbrev pub packages_of : Pairs → List Package
 packages_of names = map (λ pair. pair.0) names
+
+-- each package once, and each name one that is taken
+pub record AreFiles (names : Pairs) : Type 0 where
+  pub distinct : IsDistinct ghosts.eq (packages_of names)
+  pub good : All (λ pair. IsGoodName pair.1) names
+
+-- every model has the discretization, the basic package and the layer-property flow package
+pub record IsWhole (names : Pairs) : Type 0 where
+  pub discretization : has_package Dis names ≡ true
+  pub basic : has_package Bas names ≡ true
+  pub flow : has_package Lpf names ≡ true
+
+-- whether every model has the package
+abbrev pub is_needed : Package → Bool
+is_needed Dis = true
+is_needed Bas = true
+is_needed Lpf = true
+is_needed Wel = false
+is_needed Riv = false
+is_needed Drn = false
+is_needed Ghb = false
+is_needed Rch = false
+is_needed Chd = false
+is_needed Evt = false

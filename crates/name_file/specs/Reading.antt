@@ -3,7 +3,8 @@ use Rattle.std.specs.Prelude.{ℕ, Bool, List, [], ◌∷◌, ◌++◌, Option, 
 use Rattle.decimal_input.specs.Words.{integer_of}
 use Rattle.outside.specs.declared.codes.Code.TheVariants.{BadNameLine, DuplicatePackage, UnsupportedPackage, MissingPackage}
 use Rattle.outside.specs.declared.refusals.Refusal.{Refusal}
-use Rattle.record_lines.specs.Reading.{◌>>=◌, refusal}
+use Rattle.outside.specs.Refusals.{refusal}
+use Rattle.record_lines.specs.Reading.{◌>>=◌}
 use Rattle.record_lines.specs.Layout.{Numbered, words, is_comment, left_from}
 use Rattle.record_lines.specs.Items.{word_at, name_at}
 use Rattle.name_file.specs.Kinds.{package_of, is_passed_over}
@@ -55,7 +56,7 @@ after_lines file (line ∷ others) names = do
 abbrev pub missing : List ℕ → Result Pairs Refusal
 missing file = Err (refusal MissingPackage file 0)
 
--- every model has the discretization, the basic package and the layer-property flow package
+-- the packages that every model has are there
 unfoldable pub whole : List ℕ → Pairs → Result Pairs Refusal
 whole file names = if has_package Dis names then (if has_package Bas names then (if has_package Lpf names then Ok names else missing file) else missing file) else missing file
 

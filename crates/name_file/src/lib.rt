@@ -1,6 +1,7 @@
 // The name file: which package of a model has which file.
 #![tactic(auto)]
 
+mod gathered;
 mod kinds;
 mod names;
 mod package;
@@ -9,6 +10,3 @@ mod reading;
 pub use names::Names;
 pub use package::Package;
 pub use reading::read_names;
-
-#[cfg(test)]
-mod tests;

@@ -1,73 +1,45 @@
-ghost use Rattle.std.specs.Prelude.{◌≡◌, [], ◌∷◌, ◌++◌, OnOk, slice_get, false, Contains, MatchOption};
+ghost use Rattle.std.specs.Prelude.{◌≡◌, IfSome, IsTrue, is_some, slice_get, Contains, MatchOption};
 ghost use Rattle.std.specs.Option.{option_map};
-ghost use Rattle.name_file.specs.Pairs.{Pairs, has_package, file_of, packages_of};
+ghost use Rattle.outside.specs.Names.{IsGoodName};
+ghost use Rattle.name_file.specs.Pairs.{Pairs, IsWhole, file_of, is_needed, packages_of};
 
+use crate::gathered::Gathered;
 use crate::package::Package;
-use indexmap::IndexMap;
-use outside::Name;
-use std::alloc::{AllocFailed, Global};
 use std::marker::Model;
 
-/// The packages of a model and the names of their files, as they were written. A contract sees the
-/// pairs in the order of the name file.
+/// The packages of a model and the names of their files, as they were written: each package once,
+/// each name one that is taken, and the packages that every model has. A contract sees the pairs in
+/// the order of the name file.
 #[derive(Drop)]
 pub struct Names {
-    files: IndexMap<Package, Name>,
+    pub(crate) files: Gathered,
 }
 
 impl Model for Names {
     ghost Value = { Pairs };
 
-    ghost view = { λ n. n.files.entries };
+    ghost view = { λ n. n.files };
+
+    ghost invariant = { λ n. IsWhole n.files };
 }
 
 impl Names {
-    pub(crate) fn new(alloc: Global) -> Names
-        ensures { result ≡ [] }
-    {
-        Names {
-            files: IndexMap::new(alloc),
-        }
-    }
-
-    pub(crate) fn has(&self, asked: Package) -> bool
-        ensures { result ≡ has_package asked self.now }
-    {
-        self.files.contains_key(&asked)
-    }
-
-    // A package that is new goes last.
-    pub(crate) fn add(
-        &mut self,
-        added: Package,
-        name: Name,
-    ) -> Result<(), AllocFailed<(Package, Name)>>
-        requires { has_package added self.old ≡ false }
-        ensures { OnOk result (self.new ≡ self.old ++ (added, name) ∷ []) }
-    {
-        self.files.insert(added, name)?;
-        Ok(())
-    }
-
-    /// The name of a package's file, or none exactly where no pair has that package.
-    #[tactic(auto, using(crate::proofs::FileLemmas::is_held, crate::proofs::FileLemmas::is_not_named))]
+    /// The name of a package's file, or none exactly where no pair has that package. The packages that
+    /// every model has are always there.
+    #[tactic(auto, using(crate::proofs::FileLemmas::is_there))]
     pub fn file_of(&self, asked: Package) -> Option<&str>
         ensures file { option_map (λ name. name.now) result ≡ file_of asked self.now }
         ensures pair { MatchOption result (¬ Contains (packages_of self.now) asked) (λ name. Contains self.now (asked, name.now)) }
+        ensures good { IfSome result (λ name. IsGoodName name.now) }
+        ensures there { IsTrue (is_needed asked) → IsTrue (is_some result) }
     {
-        match self.files.get(&asked) {
-            Some(name) => Some(name.as_str()),
-            None => None,
-        }
+        self.files.file_of(asked)
     }
 
     /// The pair at a place in the order of the name file, counted from 0, or none past the last.
     pub fn pair_at(&self, place: usize) -> Option<(Package, &str)>
         ensures pair { option_map (λ p. (p.0, p.1.now)) result ≡ slice_get self.now place }
     {
-        match self.files.get_index(place) {
-            Some((package, name)) => Some((*package, name.as_str())),
-            None => None,
-        }
+        self.files.pair_at(place)
     }
 }

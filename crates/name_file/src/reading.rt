@@ -1,22 +1,24 @@
-ghost use Rattle.std.specs.Prelude.{◌≡◌, MatchResult, Ok};
-ghost use Rattle.decimal_input.specs.Words.{integer_of};
+ghost use Rattle.std.specs.Prelude.{◌≡◌, IfOk, MatchResult, Ok};
+ghost use Rattle.outside.specs.Names.{IsGoodName};
 ghost use Rattle.record_lines.specs.Reading.{HasText, StopsText};
 ghost use Rattle.record_lines.specs.Seen.{numbered_of};
 ghost use Rattle.name_file.specs.Reading.{is_integer, file_in, after_package, after_line, after_lines, whole, names_of};
 
+use crate::gathered::Gathered;
 use crate::kinds::{is_passed_over, package_of};
 use crate::names::Names;
 use crate::package::Package;
-use decimal_input::integer::read_int;
-use outside::{Code, Name, TextFault};
-use record_lines::{Line, Lines, Words, is_comment, name_of, refused};
+use array_reader::{name_of, short_integer};
+use outside::{Code, Name, TextFault, refused};
+use record_lines::{Line, Lines, Words, is_comment};
 use std::alloc::Global;
 
 /// Whether a word is an integer.
+#[tactic(auto, unfolding(crate::specs::Reading::is_integer))]
 fn is_integer(word: &[u8]) -> bool
     ensures { result ≡ is_integer word.now }
 {
-    read_int(word).is_some()
+    short_integer(word).is_some()
 }
 
 /// The name of the file of a package's line, whose first word was taken.
@@ -27,7 +29,8 @@ fn file_in<'a>(
     file: &str,
     line: u32,
 ) -> Result<&'a str, TextFault>
-    ensures { HasText (λ name. name.now) result (file_in file.now line words.old) }
+    ensures name { HasText (λ name. name.now) result (file_in file.now line words.old) }
+    ensures good { IfOk result (λ name. IsGoodName name.now) }
 {
     let Some(unit) = words.next() else {
         return Err(refused(alloc, Code::BadNameLine, file, line));
@@ -45,7 +48,7 @@ fn file_in<'a>(
 #[tactic(auto, unfolding(crate::specs::Reading::after_package))]
 fn after_package(
     alloc: Global,
-    names: &mut Names,
+    names: &mut Gathered,
     found: Package,
     words: &mut Words,
     file: &str,
@@ -66,7 +69,7 @@ fn after_package(
 
 /// Adds the package that a line names, if it names one.
 #[tactic(auto, unfolding(crate::specs::Reading::after_line))]
-fn after_line(alloc: Global, names: &mut Names, line: &Line, file: &str) -> Result<(), TextFault>
+fn after_line(alloc: Global, names: &mut Gathered, line: &Line, file: &str) -> Result<(), TextFault>
     ensures { MatchResult result
         (λ _. after_line file.now (numbered_of line.now) names.old ≡ Ok names.new)
         (λ fault. StopsText fault (after_line file.now (numbered_of line.now) names.old)) }
@@ -90,7 +93,7 @@ fn after_line(alloc: Global, names: &mut Names, line: &Line, file: &str) -> Resu
 /// Adds the packages that the lines name.
 fn after_lines(
     alloc: Global,
-    names: &mut Names,
+    names: &mut Gathered,
     lines: &mut Lines,
     file: &str,
 ) -> Result<(), TextFault>
@@ -104,15 +107,15 @@ fn after_lines(
     Ok(())
 }
 
-/// That the packages which every model has are there.
+/// The names of a whole model, where the packages that every model has are there.
 #[tactic(auto, unfolding(crate::specs::Reading::whole))]
-fn whole(alloc: Global, names: Names, file: &str) -> Result<Names, TextFault>
-    ensures { HasText (λ names. names) result (whole file.now names) }
+fn whole(alloc: Global, files: Gathered, file: &str) -> Result<Names, TextFault>
+    ensures { HasText (λ names. names) result (whole file.now files) }
 {
-    if !names.has(Package::Dis) || !names.has(Package::Bas) || !names.has(Package::Lpf) {
+    if !files.has(Package::Dis) || !files.has(Package::Bas) || !files.has(Package::Lpf) {
         return Err(refused(alloc, Code::MissingPackage, file, 0));
     }
-    Ok(names)
+    Ok(Names { files })
 }
 
 /// The packages that a name file names, in its order. `file` is its own name, for refusals, which
@@ -121,8 +124,8 @@ fn whole(alloc: Global, names: Names, file: &str) -> Result<Names, TextFault>
 pub fn read_names(alloc: Global, file: &str, bytes: &[u8]) -> Result<Names, TextFault>
     ensures names { HasText (λ names. names) result (names_of file.now bytes.now) }
 {
-    let mut names = Names::new(alloc);
+    let mut files = Gathered::new(alloc);
     let mut lines = Lines::new(bytes);
-    after_lines(alloc, &mut names, &mut lines, file)?;
-    whole(alloc, names, file)
+    after_lines(alloc, &mut files, &mut lines, file)?;
+    whole(alloc, files, file)
 }

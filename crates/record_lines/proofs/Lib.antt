@@ -1,6 +1,7 @@
 pub mod CutLemmas
 pub mod LeftLemmas
 pub mod Loops
-pub mod NameLemmas
+pub mod Each
+pub mod Counted
 pub mod SpreadLemmas
 pub mod WordLemmas

@@ -12,7 +12,7 @@ use Rattle.outside.specs.declared.refusals.TextFault.TheVariants as texts
 abbrev pub with_front : {X S E : Type 0} → List X → Result (List X × S) E → Result (List X × S) E
 with_front front read = read >>= λ x. Ok (front ++ x.0, x.1)
 
-regroup : {X S E : Type 0} (front : List X) (x : X) (read : Result (List X × S) E) → with_front front (read >>= λ more. Ok (x ∷ more.0, more.1)) ≡ with_front (front ++ x ∷ []) read
+pub regroup : {X S E : Type 0} (front : List X) (x : X) (read : Result (List X × S) E) → with_front front (read >>= λ more. Ok (x ∷ more.0, more.1)) ≡ with_front (front ++ x ∷ []) read
 regroup front x (Ok more) = ap (λ xs. Ok (xs, more.1)) (sym (append_assoc front (x ∷ []) more.0))
 regroup front x (Err e) = refl
 
@@ -90,3 +90,10 @@ lists_done read front count i s total le so_far =
     let k : count - i ≡ 0 = omega arith in
     let one : with_front front (appended (count - i) read s) ≡ Ok (front, s) = rw k (ap (λ xs. Ok (xs, s)) (append-nil front)) in
     sym so_far ∙ one
+
+-- the same where a folder is given
+pub list_stops : {X S : Type 0} (read : S → Result (List X × S) Refusal) (fault : InputFault) (front : List X) (count i : ℕ) (s : S) (total : Result (List X × S) Refusal) → i < count → Stops fault (read s)
+    → with_front front (appended (count - i) read s) ≡ total → Stops fault total
+list_stops read (Refused r) front count i s total lt h so_far = list_ends read (texts.Refused r) front count i s total lt h so_far
+list_stops read ReadFault front count i s total lt h so_far = tt
+list_stops read Memory front count i s total lt h so_far = tt

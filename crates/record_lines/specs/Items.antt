@@ -1,10 +1,10 @@
 -- Line items: a line is read word by word, from left to right.
-use Rattle.std.specs.Prelude.{ℕ, Bool, ◌&&◌, List, [], ◌∷◌, length, nat_le, Result, Ok, Err, if◌then◌else◌}
-use Rattle.std.specs.List.{list_all}
+use Rattle.std.specs.Prelude.{ℕ, Bool, false, List, [], ◌∷◌, Result, Ok, Err, if◌then◌else◌}
 use Rattle.std.specs.Str.{str_eq_ignore_ascii_case}
 use Rattle.outside.specs.declared.codes.Code.TheVariants.{EndOfFile, BadName}
 use Rattle.outside.specs.declared.refusals.Refusal.{Refusal}
-use Rattle.record_lines.specs.Reading.{refusal}
+use Rattle.outside.specs.Names.{is_good_name}
+use Rattle.outside.specs.Refusals.{refusal}
 use Rattle.record_lines.specs.Layout.{Numbered, Left}
 
 -- the next word, or this refusal
@@ -24,9 +24,10 @@ line_at file left = line_from file left.lines left.end
 abbrev pub is_word : List ℕ → List ℕ → Bool
 is_word keyword word = str_eq_ignore_ascii_case word keyword
 
--- 1 to 255 bytes, each from 33 to 126
-unfoldable pub is_good_name : List ℕ → Bool
-is_good_name name = (nat_le 1 (length name) && nat_le (length name) 255) && list_all (λ b. nat_le 33 b && nat_le b 126) name
+-- whether the first word of a line is this keyword
+abbrev pub begins_with : List ℕ → List (List ℕ) → Bool
+begins_with keyword [] = false
+begins_with keyword (word ∷ words) = is_word keyword word
 
 -- a word as a file's name
 unfoldable pub name_at : List ℕ → ℕ → List ℕ → Result (List ℕ) Refusal

@@ -1,7 +1,6 @@
 -- What reading a text gives: a value and what is left to come, or the first refusal; and what a
 -- call may answer beside it.
-use Rattle.std.specs.Prelude.{◌≡◌, ℕ, zero, suc, [], ◌∷◌, ◌++◌, Result, Ok, Err, None, List}
-use Rattle.outside.specs.declared.codes.Code.{Code}
+use Rattle.std.specs.Prelude.{◌≡◌, ℕ, zero, suc, ◌+◌, [], ◌∷◌, ◌++◌, Result, Ok, Err, List}
 use Rattle.outside.specs.declared.refusals.Refusal.{Refusal}
 use Rattle.outside.specs.declared.refusals.TextFault.{TextFault}
 use Rattle.outside.specs.declared.refusals.TextFault.TheVariants as texts
@@ -13,10 +12,6 @@ infixl 10 ◌>>=◌
 abbrev pub ◌>>=◌ : {A B E : Type 0} → Result A E → (A → Result B E) → Result B E
 (Ok x) >>= f = f x
 (Err e) >>= f = Err e
-
--- the refusal of a line
-abbrev pub refusal : Code → List ℕ → ℕ → Refusal
-refusal code file line = record { code = code; file = file; line = line; at = None }
 
 -- a refusal is the one that reading has; want of memory and a read fault may come at any place
 abbrev pub Stops : {Y : Type 0} → InputFault → Result Y Refusal → Type 0
@@ -48,16 +43,6 @@ abbrev pub HasText : {X Y : Type 0} → (X → Y) → Result X TextFault → Res
 HasText view (Ok x) read = read ≡ Ok (view x)
 HasText view (Err fault) read = StopsText fault read
 
--- a refusal of a line, or want of memory for its name
-abbrev pub IsRefusal : Code → List ℕ → ℕ → TextFault → Type 0
-IsRefusal code file line (texts.Refused r) = r ≡ refusal code file line
-IsRefusal code file line texts.Memory = Unit {0}
-
--- a fault of a text as a fault of an input
-abbrev pub input_fault : TextFault → InputFault
-input_fault (texts.Refused r) = Refused r
-input_fault texts.Memory = Memory
-
 -- the same reading so many times, each from where the one before it ended
 unfoldable pub repeated : {X S E : Type 0} → ℕ → (S → Result (X × S) E) → S → Result (List X × S) E
 repeated zero read s = Ok ([], s)
@@ -81,3 +66,8 @@ appended (suc n) read s = do
   xs ← read s
   more ← appended n read xs.1
   Ok (xs.0 ++ more.0, more.1)
+
+-- the same step for each of so many numbers, from this one on, each from where the one before it ended
+unfoldable pub counted : {S E : Type 0} → (ℕ → S → Result S E) → ℕ → ℕ → S → Result S E
+counted step i zero s = Ok s
+counted step i (suc n) s = step i s >>= counted step (i + 1) n

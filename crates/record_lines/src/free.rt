@@ -1,6 +1,6 @@
-ghost use Rattle.std.specs.Prelude.{IfSome, MatchResult, ◌<◌, ◌≡◌, ℕ, [], List, length, position};
+ghost use Rattle.std.specs.Prelude.{IfErr, IfSome, MatchResult, Ok, Err, true, false, nat_lt, ◌<◌, ◌≡◌, ℕ, [], List, length, position};
 ghost use Rattle.std.specs.Option.{option_map};
-ghost use Rattle.record_lines.specs.Layout.{Yields};
+ghost use Rattle.record_lines.specs.Layout.{Left, Yields};
 ghost use Rattle.record_lines.specs.Spread.{count, spread, Taking, beginning, next_word, next_value};
 
 use crate::cuts::star_at;
@@ -85,15 +85,20 @@ impl<'a> Free<'a> {
         }
     }
 
-    /// Goes on to the next word, which is on a later line where this one has none.
+    /// Goes on to the next word, which is on a later line where this one has none. A fault leaves the
+    /// list in front of what is wrong.
     fn start(&mut self, lines: &mut Lines<'a>) -> Result<(), FreeFault>
-        ensures { MatchResult result
+        requires none_left { self.old.repeat ≡ 0 }
+        ensures word { MatchResult result
             (λ _. (next_word self.old.number self.old.words lines.old.lines lines.old.end ≡ Ok (self.new, lines.new)) × (0 < self.new.repeat))
             (λ fault. next_word self.old.number self.old.words lines.old.lines lines.old.end ≡ Err fault) }
+        ensures stays { IfErr result (λ fault. (next_word self.new.number self.new.words lines.new.lines lines.new.end ≡ Err fault) × (self.new.repeat ≡ 0)) }
     {
         loop {
+            let in_front = self.words.same();
             if let Some(word) = self.words.next() {
                 let Some((count, value)) = spread(word) else {
+                    self.words = in_front;
                     return Err(FreeFault::BadNumber(self.number));
                 };
                 self.repeat = count;
@@ -110,15 +115,31 @@ impl<'a> Free<'a> {
         }
     }
 
-    /// The next value, and the number of its line.
+    /// The next value, and the number of its line. A fault is answered again by each later call.
     #[tactic(auto, unfolding(crate::specs::Spread::next_value))]
     pub fn next(&mut self, lines: &mut Lines<'a>) -> Result<(&'a [u8], u32), FreeFault>
-        ensures { Yields (λ x. (x.0.now, x.1)) result (self.new, lines.new) (next_value self.old lines.old) }
+        ensures value { Yields (λ x. (x.0.now, x.1)) result (self.new, lines.new) (next_value self.old lines.old) }
+        ensures again { IfErr result (λ fault. next_value self.new lines.new ≡ Err fault) }
     {
         if self.repeat == 0 {
             self.start(lines)?;
         }
         self.repeat -= 1;
         Ok((self.word, self.number))
+    }
+
+    /// Whether the next value comes from the last word, as one more of its repeats; then it is taken.
+    #[tactic(auto, unfolding(crate::specs::Spread::next_value))]
+    pub fn repeats(&mut self) -> bool
+        ensures taken { result ≡ true → (left : Left) → next_value self.old left ≡ Ok ((self.old.word, self.old.number), (self.new, left)) }
+        ensures word { self.new.word ≡ self.old.word }
+        ensures exact { result ≡ nat_lt 0 self.old.repeat }
+        ensures kept { result ≡ false → self.new ≡ self.old }
+    {
+        if self.repeat == 0 {
+            return false;
+        }
+        self.repeat -= 1;
+        true
     }
 }

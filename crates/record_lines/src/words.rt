@@ -1,4 +1,5 @@
 ghost use Rattle.std.specs.Prelude.{◌≡◌, List, [], ◌∷◌, ℕ, MatchOption};
+ghost use Rattle.record_lines.specs.Items.{begins_with, is_word};
 ghost use Rattle.record_lines.specs.Layout.{words};
 
 use crate::cuts::cut_word;
@@ -24,6 +25,13 @@ impl<'a> Words<'a> {
         Words { rest: line }
     }
 
+    // The same words again.
+    pub(crate) fn same(&self) -> Words<'a>
+        ensures { result ≡ self.now }
+    {
+        Words { rest: self.rest }
+    }
+
     /// All words of the line.
     pub fn of(line: &Line<'a>) -> Words<'a>
         ensures { result ≡ words line.now.bytes.now }
@@ -32,12 +40,28 @@ impl<'a> Words<'a> {
     }
 
     /// The next word, or none where the line has no more.
-
     pub fn next(&mut self) -> Option<&'a [u8]>
         ensures { MatchOption result ((self.old ≡ []) × (self.new ≡ [])) (λ w. self.old ≡ w.now ∷ self.new) }
     {
         let (word, after) = cut_word(self.rest);
         self.rest = after;
         if word.is_empty() { None } else { Some(word) }
+    }
+}
+
+/// Whether a word is this keyword, in any letter case.
+pub fn is_word(keyword: &[u8], word: &[u8]) -> bool
+    ensures { result ≡ is_word keyword.now word.now }
+{
+    word.eq_ignore_ascii_case(keyword)
+}
+
+/// Whether the first word of a line is this keyword, in any letter case.
+pub fn begins_with(keyword: &[u8], line: &Line) -> bool
+    ensures { result ≡ begins_with keyword.now (words line.now.bytes.now) }
+{
+    match Words::of(line).next() {
+        Some(word) => is_word(keyword, word),
+        None => false,
     }
 }

@@ -2,8 +2,8 @@
 // behind the values stands the number of the next line, or of the line behind the last.
 use crate::answers::{fault_text, layer_text, values_text};
 use array_reader::plain_reals;
-use outside::MemFolder;
-use record_lines::{Lines, input_fault};
+use outside::{InputFault, MemFolder};
+use record_lines::Lines;
 use std::alloc::{AllocError, Global};
 use std::test::Fail;
 
@@ -11,7 +11,7 @@ fn list_text(alloc: Global, text: &str, count: u32) -> Result<String, AllocError
     let mut lines = Lines::new(text.as_bytes());
     lines.skip_comments();
     match plain_reals(alloc, &mut lines, "a.lpf", count) {
-        Err(fault) => fault_text(alloc, &input_fault(fault)),
+        Err(fault) => fault_text(alloc, &InputFault::from(fault)),
         Ok(values) => values_text(alloc, &values, &mut lines),
     }
 }

@@ -3,7 +3,7 @@
 use crate::answers::{fault_text, layer_text, push_integers, push_numbers};
 use array_reader::{plain_ints, plain_reals, read_int_layer, read_layer, read_reals};
 use outside::{InputFault, MemFolder};
-use record_lines::{Lines, input_fault};
+use record_lines::Lines;
 use std::alloc::{AllocError, Global};
 use std::test::Fail;
 
@@ -19,10 +19,8 @@ fn push_package(
 ) -> Result<(), InputFault> {
     let mut lines = Lines::new(bytes);
     lines.skip_comments();
-    match plain_ints(alloc, &mut lines, FILE, 4) {
-        Ok(values) => push_integers(alloc, text, &values)?,
-        Err(fault) => return Err(input_fault(fault)),
-    }
+    let integers = plain_ints(alloc, &mut lines, FILE, 4)?;
+    push_integers(alloc, text, &integers)?;
     let numbers = read_reals(alloc, &mut lines, FILE, folder, 3)?;
     push_numbers(alloc, text, &numbers)?;
     let numbers = read_reals(alloc, &mut lines, FILE, folder, 2)?;
@@ -33,10 +31,8 @@ fn push_package(
     push_integers(alloc, text, &layer)?;
     let layer = read_int_layer(alloc, &mut lines, FILE, folder, 1, 2)?;
     push_integers(alloc, text, &layer)?;
-    match plain_reals(alloc, &mut lines, FILE, 3) {
-        Ok(values) => push_numbers(alloc, text, &values)?,
-        Err(fault) => return Err(input_fault(fault)),
-    }
+    let numbers = plain_reals(alloc, &mut lines, FILE, 3)?;
+    push_numbers(alloc, text, &numbers)?;
     Ok(())
 }
 

@@ -1,4 +1,4 @@
-//! Tests of reading texts: arrays and name files, over the public surfaces of their crates.
+//! Tests of the world outside and of reading texts, over the public surfaces of their crates.
 #![tactic(auto)]
 
 #[cfg(test)]
@@ -6,6 +6,20 @@ mod answers;
 #[cfg(test)]
 mod arrays;
 #[cfg(test)]
+mod control_records;
+#[cfg(test)]
 mod cut_files;
 #[cfg(test)]
+mod item_calls;
+#[cfg(test)]
+mod lines;
+#[cfg(test)]
+mod list_calls;
+#[cfg(test)]
+mod name_files;
+#[cfg(test)]
 mod names;
+#[cfg(test)]
+mod outside_world;
+#[cfg(test)]
+mod real_edge;

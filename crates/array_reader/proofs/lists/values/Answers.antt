@@ -14,6 +14,8 @@ loop-preserved g c = (
   rw c.in_ok-push.ensures.items (goes_on _ c.loop.values.items c.args.count c.loop.counter _ _ c.in_ok-value.value _ c.loop-test.true c.in_ok-value.ensures.value c.loop.invariant.0),
   all_pushed g.V.Value.Good c.loop.values.items _ c.in_ok-value.value c.in_ok-push.ensures.items c.loop.invariant.1 c.in_ok-value.ensures.good,
   grind arith,
+  c.in_ok-value.ensures.last,
+  c.in_ok-value.ensures.good,
 )
 
 pub returns-clause-values : goal.returns-clause-values

@@ -1,11 +1,13 @@
-use Rattle.std.proofs.Common.{◌≡◌, ◌-◌, length, All}
+use Rattle.std.proofs.Common.{◌≡◌, ◌-◌, Ok, length, All}
+use Rattle.std.specs.Prelude.{IfSome}
 use Rattle.record_lines.specs.Reading.{repeated}
 use Rattle.record_lines.proofs.Loops.{with_front}
 use Rattle.array_reader.specs.Kinds.{with_multiplier}
-use Rattle.array_reader.specs.Lists.{value_at}
+use Rattle.array_reader.specs.Lists.{value_alone}
 use Rattle.array_reader.proofs.lists.values.Given as goal
 
 abbrev pub invariant-loop : goal.invariant-loop
 invariant-loop g l =
-    (with_front l.values.items (repeated (l.count - l.counter) (value_at (with_multiplier g.V.Value.kind l.by) l.file) (l.free, l.lines)) ≡ repeated l.count (value_at (with_multiplier g.V.Value.kind l.by) l.file) (l.fn.free, l.fn.lines))
+    (with_front l.values.items (repeated (l.count - l.counter) (value_alone (with_multiplier g.V.Value.kind l.by) l.file) (l.free, l.lines)) ≡ repeated l.count (value_alone (with_multiplier g.V.Value.kind l.by) l.file) (l.fn.free, l.fn.lines))
     × All g.V.Value.Good l.values.items × (length l.values.items ≡ l.counter)
+    × IfSome l.last (λ v. with_multiplier g.V.Value.kind l.by l.free.word ≡ Ok v) × IfSome l.last g.V.Value.Good

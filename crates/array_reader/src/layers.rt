@@ -1,0 +1,112 @@
+ghost use Rattle.std.specs.Prelude.{◌≡◌, ◌*◌, length, IfOk, IsTrue, is_some, All};
+ghost use Rattle.decimal_input.specs.Canonical.{IsDec};
+ghost use Rattle.outside.specs.Counts.{InputCounts};
+ghost use Rattle.record_lines.specs.Reading.{Gives};
+ghost use Rattle.array_reader.specs.Arrays.{told, reals, layer_of, layers, real_layer, integer_layer};
+
+use crate::arrays::read_array;
+use crate::kinds::Value;
+use decimal_input::dec::Dec;
+use outside::{Folder, InputFault};
+use record_lines::Lines;
+use std::alloc::Global;
+
+/// A one-dimensional array of so many numbers, with its control record.
+#[tactic(auto, unfolding(crate::specs::Arrays::reals))]
+pub fn read_reals<F: Folder>(
+    alloc: Global,
+    lines: &mut Lines,
+    file: &str,
+    folder: &mut F,
+    count: u32,
+) -> Result<Vec<Dec>, InputFault>
+    ensures files { F.files folder.new ≡ F.files folder.old }
+    ensures counts { InputCounts (F.faults folder.old) (F.faults folder.new) result }
+    ensures array { IsTrue (is_some (F.files folder.old)) → Gives (λ v. v.items) result lines.new (reals (told (F.files folder.old)) file.now count lines.old) }
+    ensures canonical { IfOk result (λ v. All IsDec v.items) }
+    ensures count { IfOk result (λ v. length v.items ≡ count) }
+{
+    let (values, _) = read_array(alloc, lines, file, folder, 1, count)?;
+    Ok(values)
+}
+
+/// A layer, with its control record.
+#[tactic(auto, unfolding(crate::specs::Arrays::layer_of))]
+fn layer_of<V: Value, F: Folder>(
+    alloc: Global,
+    lines: &mut Lines,
+    file: &str,
+    folder: &mut F,
+    rows: u32,
+    cols: u32,
+) -> Result<Vec<V>, InputFault>
+    ensures files { F.files folder.new ≡ F.files folder.old }
+    ensures counts { InputCounts (F.faults folder.old) (F.faults folder.new) result }
+    ensures layer { IsTrue (is_some (F.files folder.old)) → Gives (λ v. v.items) result lines.new (layer_of V.kind (told (F.files folder.old)) file.now rows cols lines.old) }
+    ensures good { IfOk result (λ v. All V.Good v.items) }
+    ensures count { IfOk result (λ v. length v.items ≡ rows * cols) }
+{
+    let (values, _) = read_array::<V, F>(alloc, lines, file, folder, rows, cols)?;
+    Ok(values)
+}
+
+/// A layer of numbers, row by row, with its control record.
+#[tactic(auto, unfolding(crate::specs::Arrays::real_layer))]
+pub fn read_layer<F: Folder>(
+    alloc: Global,
+    lines: &mut Lines,
+    file: &str,
+    folder: &mut F,
+    rows: u32,
+    cols: u32,
+) -> Result<Vec<Dec>, InputFault>
+    ensures files { F.files folder.new ≡ F.files folder.old }
+    ensures counts { InputCounts (F.faults folder.old) (F.faults folder.new) result }
+    ensures array { IsTrue (is_some (F.files folder.old)) → Gives (λ v. v.items) result lines.new (real_layer (told (F.files folder.old)) file.now rows cols lines.old) }
+    ensures canonical { IfOk result (λ v. All IsDec v.items) }
+    ensures count { IfOk result (λ v. length v.items ≡ rows * cols) }
+{
+    layer_of(alloc, lines, file, folder, rows, cols)
+}
+
+/// A layer of integers, row by row, with its control record.
+#[tactic(auto, unfolding(crate::specs::Arrays::integer_layer))]
+pub fn read_int_layer<F: Folder>(
+    alloc: Global,
+    lines: &mut Lines,
+    file: &str,
+    folder: &mut F,
+    rows: u32,
+    cols: u32,
+) -> Result<Vec<i64>, InputFault>
+    ensures files { F.files folder.new ≡ F.files folder.old }
+    ensures counts { InputCounts (F.faults folder.old) (F.faults folder.new) result }
+    ensures array { IsTrue (is_some (F.files folder.old)) → Gives (λ v. v.items) result lines.new (integer_layer (told (F.files folder.old)) file.now rows cols lines.old) }
+    ensures count { IfOk result (λ v. length v.items ≡ rows * cols) }
+{
+    layer_of(alloc, lines, file, folder, rows, cols)
+}
+
+/// One array for each of so many layers.
+pub fn read_layers<V: Value, F: Folder>(
+    alloc: Global,
+    lines: &mut Lines,
+    file: &str,
+    folder: &mut F,
+    count: u32,
+    rows: u32,
+    cols: u32,
+) -> Result<Vec<V>, InputFault>
+    ensures files { F.files folder.new ≡ F.files folder.old }
+    ensures counts { InputCounts (F.faults folder.old) (F.faults folder.new) result }
+    ensures layers { IsTrue (is_some (F.files folder.old)) → Gives (λ v. v.items) result lines.new (layers V.kind (told (F.files folder.old)) file.now count rows cols lines.old) }
+    ensures good { IfOk result (λ v. All V.Good v.items) }
+    ensures count { IfOk result (λ v. length v.items ≡ count * (rows * cols)) }
+{
+    let mut values = Vec::new(alloc);
+    for _ in 0..count {
+        let layer = layer_of::<V, F>(alloc, lines, file, folder, rows, cols)?;
+        values.extend_from_slice(&layer)?;
+    }
+    Ok(values)
+}

@@ -1,0 +1,40 @@
+ghost use Rattle.std.specs.Prelude.{◌≡◌, IfOk};
+ghost use Rattle.outside.specs.Names.{IsGoodName};
+ghost use Rattle.record_lines.specs.Items.{line_at, name_at};
+ghost use Rattle.record_lines.specs.Reading.{GivesText, HasText};
+ghost use Rattle.record_lines.specs.Seen.{numbered_of};
+
+use outside::{Code, TextFault, good_name, refused};
+use record_lines::{Line, Lines};
+use std::alloc::Global;
+
+/// The next line that has a word; EndOfFile where there is none.
+#[tactic(auto, unfolding(record_lines::specs::Items::line_at))]
+pub fn next_line<'a>(
+    alloc: Global,
+    lines: &mut Lines<'a>,
+    file: &str,
+) -> Result<Line<'a>, TextFault>
+    ensures { GivesText numbered_of result lines.new (line_at file.now lines.old) }
+{
+    match lines.next_line() {
+        Ok(line) => Ok(line),
+        Err(end) => Err(refused(alloc, Code::EndOfFile, file, end.line)),
+    }
+}
+
+/// The file's name that a word is; BadName where it is none.
+pub fn name_of<'a>(
+    alloc: Global,
+    word: &'a [u8],
+    file: &str,
+    line: u32,
+) -> Result<&'a str, TextFault>
+    ensures name { HasText (λ name. name.now) result (name_at file.now line word.now) }
+    ensures good { IfOk result (λ name. IsGoodName name.now) }
+{
+    match good_name(word) {
+        Some(name) => Ok(name),
+        None => Err(refused(alloc, Code::BadName, file, line)),
+    }
+}
