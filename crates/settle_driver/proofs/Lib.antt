@@ -5,3 +5,4 @@ pub mod Opening
 pub mod Answering
 pub mod Gathering
 pub mod Phasing
+pub mod InOrder

@@ -25,10 +25,10 @@ module _ {Le : ℤ → ℤ → Type 0} {Moves : ℕ → ℤ → (ℕ → ℤ) �
   tight_more : (old l next : ℕ → ℤ) (c : ℕ) → AsTight Le Moves n old l → IsRelaxed Le Moves n l c (next c) → ((d : ℕ) → (d ≡ c → ⊥) → next d ≡ l d) → AsTight Le Moves n old next
   tight_more old l next c tight t others = as_tight_trans s old l next tight (tighter s l c (next c) (next c) next (relaxed_exchange s l next c (next c) refl others t))
 
-  way_more : (edge l next : ℕ → ℤ) (c : ℕ) → c < n → IsOnTheWay Le Moves n edge l → IsRelaxed Le Moves n l c (next c) → ((d : ℕ) → (d ≡ c → ⊥) → next d ≡ l d) → IsOnTheWay Le Moves n edge next
+  pub way_more : (edge l next : ℕ → ℤ) (c : ℕ) → c < n → IsOnTheWay Le Moves n edge l → IsRelaxed Le Moves n l c (next c) → ((d : ℕ) → (d ≡ c → ⊥) → next d ≡ l d) → IsOnTheWay Le Moves n edge next
   way_more edge l next c h k t others = relaxed_keeps s edge l next c (next c) h k refl others t
 
-  heads_more : (l next : ℕ → ℤ) (c : ℕ) → c < n → AreHeads Le Moves n l → IsRelaxed Le Moves n l c (next c) → ((d : ℕ) → (d ≡ c → ⊥) → next d ≡ l d) → AreHeads Le Moves n next
+  pub heads_more : (l next : ℕ → ℤ) (c : ℕ) → c < n → AreHeads Le Moves n l → IsRelaxed Le Moves n l c (next c) → ((d : ℕ) → (d ≡ c → ⊥) → next d ≡ l d) → AreHeads Le Moves n next
   heads_more l next c h heads t others = (way_more l l next c h (edge_kept s l heads) t others).heads
 
 -- what a sweep has made of the old words before it comes to cell c

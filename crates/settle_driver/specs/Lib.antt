@@ -1,3 +1,4 @@
 pub mod Sweeps
 pub mod Opening
 pub mod Phases
+pub mod Near

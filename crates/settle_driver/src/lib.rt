@@ -1,6 +1,10 @@
 //! Who settles the problem of a time step.
 #![tactic(auto)]
 
+mod leaving;
+mod listed;
+mod near;
+mod nearer;
 mod open;
 mod phases;
 mod plain;
@@ -9,6 +13,8 @@ mod sweep;
 mod thread_settler;
 mod threads;
 
+pub use listed::ListedSettler;
+pub use near::settle_near;
 pub use plain::PlainSettler;
 pub use plan::Plan;
 pub use thread_settler::{SettleBy, ThreadSettler};

@@ -8,7 +8,7 @@ use cell_relax::{raise_in, sink_in};
 use step_problem::{Bound, Problem};
 
 // Moves the two heads of a cell to its raise and its sink value, and answers whether one moved.
-fn relax_cell(p: &Problem, words: &mut [Bound], cell: usize) -> bool
+pub(crate) fn relax_cell(p: &Problem, words: &mut [Bound], cell: usize) -> bool
     requires index { cell < length p.now }
     requires words { AreWords p.now words.old }
     ensures relaxed { IsRelaxedCell p.now words.old words.new cell }

@@ -4,6 +4,8 @@
 #[cfg(test)]
 mod agreement;
 #[cfg(test)]
+mod near;
+#[cfg(test)]
 mod problems;
 #[cfg(test)]
 mod sweeps;

@@ -1,0 +1,6 @@
+use Rattle.std.proofs.Common.{◌<◌, ◌⊎◌, ℕ, ◌≤ℤ◌, ◌<ℤ◌}
+use Rattle.step_problem.specs.Heads.{head_at, lower_at}
+use Rattle.settle_driver.proofs.leaving.low_have_left.Given as goal
+
+abbrev pub invariant-loop-cell : goal.invariant-loop-cell
+invariant-loop-cell l = (c : ℕ) → c < l.cell → (head_at l.inner.floor c ≤ℤ head_at l.b.floor c) ⊎ (head_at l.inner.floor c <ℤ lower_at l.bounds c)

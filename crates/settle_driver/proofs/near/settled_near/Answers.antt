@@ -1,0 +1,20 @@
+use Rattle.std.proofs.Common.{List, subst}
+use Rattle.step_problem.specs.declared.heads.Bound.{Bound}
+use Rattle.step_problem.specs.Heads.{lower_at, upper_at}
+use Rattle.step_problem.specs.Leaving.{HaveLeft}
+use Rattle.step_problem.specs.Settling.{AreSettled}
+use Rattle.step_problem.proofs.Leaving.{leaving_settles}
+use Rattle.settle_driver.proofs.near.settled_near.Goals as goal
+
+pub returns-then-have_left-clause-settled : goal.returns-then-have_left-clause-settled
+returns-then-have_left-clause-settled g c =
+    let p = c.args.p.now in
+    let b = c.args.b.now in
+    let inner = c.in_ok-inner.inner in
+    let bounds : List Bound = c.in-Ok.bounds.items in
+    let settled : AreSettled p inner bounds = c.in-Ok.ensures.settles in
+    let left = subst (λ (x : List Bound). HaveLeft p b inner (lower_at x) (upper_at x)) c.as_slice-in-loop-trial.ensures.value (c.have_left.ensures c.if-have_left.true) in
+    record {
+      whole = settled.whole;
+      pair = leaving_settles p b inner (lower_at bounds) (upper_at bounds) c.len-cells.ensures.fits c.in_ok-inner.ensures.inside settled.pair left;
+    }

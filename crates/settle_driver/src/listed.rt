@@ -1,0 +1,83 @@
+// A settler that begins with cells in the order of a list.
+ghost use Rattle.std.specs.Prelude.{◌≡◌};
+ghost use Rattle.cell_relax.specs.Words.{AreWords};
+ghost use Rattle.settle_driver.specs.Sweeps.{StayOnTheWay, SettleWithin};
+
+use crate::open::first_open;
+use crate::sweep::{relax_cell, sweep_up_to};
+use head_table::edge_words;
+use std::alloc::{AllocError, Global};
+use step_problem::{Barrier, Bound, Open, Problem, SettleFault, Settler};
+
+/// Settles as a `PlainSettler` of so many rounds, once it has relaxed the cells of a list in its order. The list
+/// may be any; a good one saves sweeps.
+#[derive(Debug, Drop)]
+pub struct ListedSettler {
+    list: Vec<u32>,
+    rounds: u32,
+}
+
+impl ListedSettler {
+    /// A settler that begins with these cells, by their indices, and sweeps at most so many times.
+    pub fn new(list: Vec<u32>, rounds: u32) -> ListedSettler
+        ensures list { ListedSettler.list result ≡ list }
+        ensures rounds { ListedSettler.rounds result ≡ rounds }
+    {
+        ListedSettler { list, rounds }
+    }
+}
+
+// Relaxes the cells of a list in its order, and passes over numbers that are no cell's.
+fn relax_listed(p: &Problem, words: &mut [Bound], list: &[u32])
+    requires words { AreWords p.now words.old }
+    ensures words { AreWords p.now words.new }
+    ensures way { StayOnTheWay p.now words.old words.new }
+{
+    let cells = p.len();
+    for cell in list {
+        let cell = *cell as usize;
+        if cell < cells {
+            relax_cell(p, words, cell);
+        }
+    }
+}
+
+// The words that the list and then up to so many sweeps make of these.
+fn listed(p: &Problem, mut words: Vec<Bound>, list: &[u32], rounds: u32) -> Vec<Bound>
+    requires words { AreWords p.now words.items }
+    ensures words { AreWords p.now result.items }
+    ensures way { StayOnTheWay p.now words.items result.items }
+    ensures reached { SettleWithin p.now rounds words.items result.items }
+{
+    relax_listed(p, words.as_mut_slice(), list);
+    sweep_up_to(p, words.as_mut_slice(), rounds);
+    words
+}
+
+impl Settler for ListedSettler {
+    ghost rounds = { λ s. s.rounds };
+
+    ghost ready = { λ _. Unit {0} };
+
+    // Any settling leads from any state to any other.
+    ghost leads = { λ _ _ _ _ _. Unit {0} };
+
+    fn settle(
+        &mut self,
+        alloc: Global,
+        p: &Problem,
+        b: &Barrier,
+    ) -> Result<Vec<Bound>, SettleFault> {
+        // The problem's conditions come with its length.
+        let _cells = p.len();
+        let start = match edge_words(alloc, p, b) {
+            Ok(start) => start,
+            Err(AllocError) => return Err(SettleFault::Memory),
+        };
+        let words = listed(p, start, self.list.as_slice(), self.rounds);
+        match first_open(p, words.as_slice()) {
+            None => Ok(words),
+            Some((cell, side)) => Err(SettleFault::Unfinished(Open { cell, side, words })),
+        }
+    }
+}
