@@ -1,9 +1,9 @@
 -- What a settler that sweeps answers.
-use Rattle.std.proofs.Common.{◌≡◌, ℕ, sym, subst, List, length, ◌≤ℤ◌}
+use Rattle.std.proofs.Common.{◌≡◌, ℕ, sym, subst, List}
 use Rattle.step_problem.specs.declared.heads.Bound.{Bound}
 use Rattle.step_problem.specs.Entries.{Entries}
 use Rattle.step_problem.specs.Conditions.{IsProblem}
-use Rattle.step_problem.specs.Heads.{Edges, OpenHeads, Ge, head_at, lower_at, upper_at, CanRise, CanSink, IsBarrier, RoundsSettleBoth, AreOnTheWay}
+use Rattle.step_problem.specs.Heads.{Edges, OpenHeads, head_at, IsBarrier, RoundsSettleBoth, AreOnTheWay}
 use Rattle.step_problem.specs.Settling.{AreSettled, IsFirstOpen, IsUnfinished}
 use Rattle.cell_relax.specs.Words.{AreWords}
 use Rattle.settle_driver.proofs.Opening.{settled_stays}

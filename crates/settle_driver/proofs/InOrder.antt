@@ -34,6 +34,9 @@ module _ (p : List Entries) where
         };
       }
 
+  pub both_ways : (old w next : List Bound) → StayOnTheWay p old w → StayOnTheWay p w next → StayOnTheWay p old next
+  both_ways old w next first second = record { low = λ edge k. second.low edge (first.low edge k); high = λ edge k. second.high edge (first.high edge k) }
+
   pub listed_settles : (old w next : List Bound) (k : ℕ) → StayOnTheWay p old w → SettleWithin p k w next → SettleWithin p k old next
   listed_settles old w next k way within = record {
     low = λ edge heads on rounds. within.low edge heads (way.low edge on) rounds;

@@ -42,6 +42,17 @@ fn relax_listed(p: &Problem, words: &mut [Bound], list: &[u32])
     }
 }
 
+// Relaxes the cells of a list, and then sweeps up to so many times.
+fn sweep_listed(p: &Problem, words: &mut [Bound], list: &[u32], rounds: u32)
+    requires words { AreWords p.now words.old }
+    ensures words { AreWords p.now words.new }
+    ensures way { StayOnTheWay p.now words.old words.new }
+    ensures reached { SettleWithin p.now rounds words.old words.new }
+{
+    relax_listed(p, words, list);
+    sweep_up_to(p, words, rounds);
+}
+
 // The words that the list and then up to so many sweeps make of these.
 fn listed(p: &Problem, mut words: Vec<Bound>, list: &[u32], rounds: u32) -> Vec<Bound>
     requires words { AreWords p.now words.items }
@@ -49,8 +60,7 @@ fn listed(p: &Problem, mut words: Vec<Bound>, list: &[u32], rounds: u32) -> Vec<
     ensures way { StayOnTheWay p.now words.items result.items }
     ensures reached { SettleWithin p.now rounds words.items result.items }
 {
-    relax_listed(p, words.as_mut_slice(), list);
-    sweep_up_to(p, words.as_mut_slice(), rounds);
+    sweep_listed(p, words.as_mut_slice(), list, rounds);
     words
 }
 

@@ -1,4 +1,4 @@
-use Rattle.std.proofs.Common.{◌≡◌, ◌<◌, ℕ, length, ◌≤ℤ◌}
+use Rattle.std.proofs.Common.{◌≡◌, ◌<◌, ℕ, length}
 use Rattle.step_problem.specs.Heads.{Ge, head_at}
 use Rattle.settle_driver.specs.Near.{IsHeadFrom}
 use Rattle.settle_driver.proofs.nearer.ceilings_near.Given as goal
