@@ -1,0 +1,9 @@
+pub mod Members
+pub mod Ranks
+mod Remainders
+pub mod Leads
+pub mod Numbering
+mod LastGiven
+mod NeighbourFaces
+mod GivenTables
+mod StepLists

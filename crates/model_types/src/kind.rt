@@ -1,11 +1,13 @@
 // What a cell is in a stress period.
-ghost use Rattle.std.specs.Prelude.{◌≡◌, ℕ, is_some};
-ghost use Rattle.model_types.specs.Kinds.{given_in, is_given, kind_of};
+ghost use Rattle.std.specs.Prelude.{◌≡◌, ◌==◌, ℕ};
+ghost use Rattle.std.specs.List.{list_any};
+ghost use Rattle.model_types.specs.Kinds.{is_given, kind_of};
 
 use crate::entry::Given;
 use crate::grid::CellId;
 use crate::layers::int_at;
 use crate::model::FlowModel;
+use crate::period::Period;
 
 /// What a cell is in a stress period: without flow, with a constant head, or with a variable head.
 #[derive(Clone, Copy, Debug, PartialEq, Eq)]
@@ -37,10 +39,19 @@ pub(crate) fn kind_by(model: &FlowModel, cell: u32, given: bool) -> Kind
     }
 }
 
+// Whether a list of a period up to this one names the cell.
 fn is_given(model: &FlowModel, period: u32, cell: u32) -> bool
     ensures { result ≡ is_given model.now period cell }
 {
-    for p in model.periods.as_slice().iter().take(period as usize) {
+    let periods = model.periods.as_slice();
+    let count = periods.len().min(period as usize);
+    any_names(&periods[..count], cell)
+}
+
+fn any_names(periods: &[Period], cell: u32) -> bool
+    ensures { result ≡ list_any (λ p. list_any (λ x. x.cell.0 == cell) p.given) periods.now }
+{
+    for p in periods {
         if names(p.given.as_slice(), cell) {
             return true;
         }
@@ -49,12 +60,7 @@ fn is_given(model: &FlowModel, period: u32, cell: u32) -> bool
 }
 
 fn names(list: &[Given], cell: u32) -> bool
-    ensures { result ≡ is_some (given_in list.now cell) }
+    ensures { result ≡ list_any (λ x. x.cell.0 == cell) list.now }
 {
-    for x in list {
-        if x.cell.0 == cell {
-            return true;
-        }
-    }
-    false
+    list.iter().any(|x| x.cell.0 == cell)
 }

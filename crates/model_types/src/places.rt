@@ -13,7 +13,7 @@ pub fn cell_of(grid: &Grid, layer: u32, row: u32, col: u32) -> CellId
     ensures inside { result.0 < cell_count grid.now }
     ensures leads_back { place grid.now result.0 ≡ layer ∷ row ∷ col ∷ [] }
 {
-    CellId(((layer - 1) * grid.rows + row - 1) * grid.cols + col - 1)
+    CellId(((layer - 1) * grid.rows + (row - 1)) * grid.cols + (col - 1))
 }
 
 /// The layer, the row and the column of a cell, each counted from 1.

@@ -1,7 +1,7 @@
 // The time steps of a model, in order.
-ghost use Rattle.std.specs.Prelude.{◌≡◌, ◌≤◌, length, sum_by, map, IfOk};
-ghost use Rattle.std.specs.Vec.{vec_len};
-ghost use Rattle.model_types.specs.Times.{steps_of, times};
+ghost use Rattle.std.specs.Prelude.{◌≡◌, ◌≤◌, ◌++◌, length, sum_by, map, IfOk, OnOk};
+ghost use Rattle.std.specs.List.{range_with_len};
+ghost use Rattle.model_types.specs.Times.{times};
 
 use crate::model::FlowModel;
 use std::alloc::{AllocError, Global};
@@ -16,18 +16,22 @@ pub struct TimeStep {
 /// All time steps of a model, in order.
 pub fn times(alloc: Global, model: &FlowModel) -> Result<Vec<TimeStep>, AllocError>
     requires few { length model.now.periods ≤ 1000 }
-    ensures times { IfOk result (λ ts. ts.items ≡ times model.now) }
-    ensures count { IfOk result (λ ts. length ts.items ≡ sum_by (λ p. p.nstp) model.now.periods) }
+    ensures times { IfOk result (λ steps. steps.items ≡ times model.now) }
+    ensures count { IfOk result (λ steps. length steps.items ≡ sum_by (λ p. p.nstp) model.now.periods) }
 {
     let mut steps = Vec::new(alloc);
     for p in 0..model.periods.as_slice().len() {
-        let period = p as u32 + 1;
-        for n in 0..model.periods.as_slice()[p].nstp {
-            steps.push(TimeStep {
-                period,
-                step: n + 1,
-            })?;
-        }
+        let period = &model.periods.as_slice()[p];
+        push_steps(&mut steps, p as u32 + 1, period.nstp)?;
     }
     Ok(steps)
+}
+
+fn push_steps(steps: &mut Vec<TimeStep>, period: u32, nstp: u32) -> Result<(), AllocError>
+    ensures { OnOk result (steps.new.items ≡ steps.old.items ++ map (λ n. record { period = period; step = n }) (range_with_len 1 nstp)) }
+{
+    for n in 0..nstp {
+        steps.push(TimeStep { period, step: n + 1 })?;
+    }
+    Ok(())
 }

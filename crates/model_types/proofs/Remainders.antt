@@ -1,0 +1,24 @@
+-- Remainders of a cell's number before and after a step along an axis.
+use Rattle.std.proofs.Common.{◌≡◌, ℕ, zero, suc, ◌+◌, ◌*◌, ◌-◌, ◌/◌, ◌%◌, ◌<◌, ◌≤◌, Bool, true, false, cond, Option, Some, None, List, [], ◌∷◌, refl, sym, ap, ◌∙◌, subst, arith}
+use Rattle.std.proofs.lemmas.Nat.{div-add-mod', mod-mul-add, mod_below, div_below}
+use Rattle.std.proofs.Math.Nat.{mul-le-mul_right}
+
+pub mod_minus : (c k n : ℕ) → 0 < n → k ≤ c % n → (c - k) % n ≡ c % n - k
+mod_minus c k n h le =
+    let e : c - k ≡ c / n * n + (c % n - k) = omega (arith, div-add-mod' c n) in
+    rw e (mod-mul-add (c / n) n (c % n - k) (omega (arith, mod_below c n h)))
+
+pub mod_plus : (c k n : ℕ) → c % n + k < n → (c + k) % n ≡ c % n + k
+mod_plus c k n lt =
+    let e : c + k ≡ c / n * n + (c % n + k) = omega (arith, div-add-mod' c n) in
+    rw e (mod-mul-add (c / n) n (c % n + k) lt)
+
+pub mod_at_most : (c n : ℕ) → c % n ≤ c
+mod_at_most c n = omega (arith, div-add-mod' c n)
+
+-- one more row fits, where the rows are whole
+pub plus_below : (c k n q : ℕ) → 0 < n → c < q * n → c % n + k < n → c + k < q * n
+plus_below c k n q h lt fits =
+    let row : c / n < q = div_below c n q h lt in
+    let more : (c / n + 1) * n ≤ q * n = mul-le-mul_right n (omega arith) in
+    omega (arith, div-add-mod' c n, more)

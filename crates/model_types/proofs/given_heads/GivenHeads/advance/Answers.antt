@@ -1,0 +1,45 @@
+use Rattle.std.proofs.Common.{◌≡◌, ◌++◌, ◌+◌, ◌<◌, List, [], ◌∷◌, Some, None, get_or, take, set, length, refl, ap, sym, ◌∙◌, subst, arith, All, ℕ}
+use Rattle.std.specs.List.{flat_map}
+use Rattle.std.proofs.lemmas.List.{append-nil, append_assoc, take_more, take_all, get_or_read, flat_map_more}
+use Rattle.std.proofs.lemmas.List.Elements.{All-get_or}
+use Rattle.model_types.specs.declared.entry.Given.{Given}
+use Rattle.model_types.specs.declared.period.Period.{Period}
+use Rattle.model_types.specs.declared.model.FlowModel.{FlowModel}
+use Rattle.model_types.specs.Cells.{cell_count}
+use Rattle.model_types.specs.Times.{period_at, no_period}
+use Rattle.model_types.proofs.GivenTables.{table, table_more, last_is, heads_are, length_is, lists_before, period_list, lists_more, names_within, table_step}
+use Rattle.model_types.proofs.given_heads.GivenHeads.advance.Goals as goal
+
+pub loop-x-init : goal.loop-x-init
+loop-x-init c =
+    let m = c.args.model.now in
+    let p = c.args.self.now.period in
+    (refl, last_is m c.args.self.now p c.requires.before ∙ ap (table (cell_count m.grid)) (sym (append-nil (lists_before m p))))
+
+pub set-requires : goal.set-requires
+set-requires c =
+    let m = c.args.model.now in
+    let p = c.args.self.now.period in
+    let list = period_list m p _ _ _ c.requires.period c.as_slice.ensures c.index-as_slice-self.is c.as_slice-list.ensures in
+    let cells = subst (All (λ x. x.cell.0 < cell_count m.grid)) (sym list) c.requires.cells in
+    let within = names_within (cell_count m.grid) c.loop-x.x-index c.as_slice-list.result.now c.loop-x-test.true cells in
+    record { place = omega (arith, within, length_is (cell_count m.grid) _ _ c.loop-x.invariant.1) }
+
+pub loop-x-preserved : goal.loop-x-preserved
+loop-x-preserved c =
+    let m = c.args.model.now in
+    let p = c.args.self.now.period in
+    let list = period_list m p _ _ _ c.requires.period c.as_slice.ensures c.index-as_slice-self.is c.as_slice-list.ensures in
+    let cells = subst (All (λ x. x.cell.0 < cell_count m.grid)) (sym list) c.requires.cells in
+    let within = names_within (cell_count m.grid) c.loop-x.x-index c.as_slice-list.result.now c.loop-x-test.true cells in
+    (c.loop-x.invariant.0, c.set.ensures ∙ table_step (cell_count m.grid) c.loop-x.x-index (lists_before m p) c.as_slice-list.result.now _ c.loop-x.invariant.1 c.loop-x-test.true within)
+
+pub returns : goal.returns
+returns c =
+    let m = c.args.model.now in
+    let p = c.args.self.now.period in
+    let xs = c.as_slice-list.result.now in
+    let list = period_list m p _ _ _ c.requires.period c.as_slice.ensures c.index-as_slice-self.is c.as_slice-list.ensures in
+    let whole = take_all c.loop-x.x-index xs c.loop-x-test.false in
+    ap (λ q. record { period = q + 1; last = c.loop-x.self.last }) c.loop-x.invariant.0
+    ∙ heads_are m (p + 1) _ (c.loop-x.invariant.1 ∙ ap (λ ys. table (cell_count m.grid) (lists_before m p ++ ys)) (whole ∙ list) ∙ ap (table (cell_count m.grid)) (lists_more m p c.requires.period))

@@ -1,0 +1,11 @@
+use Rattle.std.proofs.Common.{◌≡◌, ◌++◌, take}
+use Rattle.std.specs.List.{flat_map}
+use Rattle.model_types.specs.Cells.{cell_count}
+use Rattle.model_types.proofs.GivenTables.{table}
+use Rattle.model_types.proofs.given_heads.GivenHeads.advance.Given as goal
+
+-- the entries of the lists before, then those of this list so far
+abbrev pub invariant-loop-x : goal.invariant-loop-x
+invariant-loop-x l =
+    (l.self.period ≡ l.fn.self.period)
+    × (l.self.last ≡ table (cell_count l.model.grid) (flat_map (λ p. p.given) (take l.fn.self.period l.model.periods) ++ take l.x-index l.list))

@@ -1,0 +1,7 @@
+use Rattle.std.proofs.Common.{◌≡◌, false, take}
+use Rattle.std.specs.Prelude.{◌==◌}
+use Rattle.std.specs.List.{list_any}
+use Rattle.model_types.proofs.kind.any_names.Given as goal
+
+abbrev pub invariant-loop-p : goal.invariant-loop-p
+invariant-loop-p l = list_any (λ p. list_any (λ x. x.cell.0 == l.cell) p.given) (take l.p-index l.periods) ≡ false
