@@ -27,7 +27,7 @@ table_more n k xs x is lt = fill_by_all (given_in (xs ++ x ∷ [])) (set (table 
   where
     at : (j : ℕ) → j < n → get_or (set (table n xs) k (Some x)) j None ≡ given_in (xs ++ x ∷ []) j
     at j less = elim (cases_eq j k) [
-      inl same ↦ get_or-set_at (table n xs) k j (Some x) None same (omega (arith, length-map-range_with_len (given_in xs) 0 n)) ∙ sym (given_more xs x j ∙ cond-true (x.cell.0 == j) (Some x) (given_in xs j) (eq-eqb x.cell.0 j (sym is ∙ sym same)))
+      | inl same ↦ get_or-set_at (table n xs) k j (Some x) None same (omega (arith, length-map-range_with_len (given_in xs) 0 n)) ∙ sym (given_more xs x j ∙ cond-true (x.cell.0 == j) (Some x) (given_in xs j) (eq-eqb x.cell.0 j (sym is ∙ sym same)))
       | inr other ↦ get_or-set_other (table n xs) k j (Some x) None other ∙ get_or-map-range_with_len (given_in xs) 0 n j j None less (omega arith) ∙ sym (given_more xs x j ∙ cond-false (x.cell.0 == j) (Some x) (given_in xs j) (ne_eqb x.cell.0 j (λ e. other (sym e ∙ sym is))))
     ]
 

@@ -54,7 +54,7 @@ named_lists (p ∷ ps) c = λ i. named_any p.given c i || named_lists ps c i
 
 take_fewer : {X : Type 0} (n : ℕ) (xs : List X) → take (min (length xs) n) xs ≡ take n xs
 take_fewer n xs = elim (cases_lt (length xs) n) [
-  inl less ↦ take_all (min (length xs) n) xs (omega (arith, less)) ∙ sym (take_all n xs (omega (arith, less)))
+  | inl less ↦ take_all (min (length xs) n) xs (omega (arith, less)) ∙ sym (take_all n xs (omega (arith, less)))
   | inr le ↦ ap (λ k. take k xs) (omega (arith, le))
 ]
 

@@ -39,10 +39,10 @@ module _ (s a b n : ℕ) (below : b < s) where
 
   after_place : nat_lt (a * s + b + s) (n * s) ≡ true → nat_lt (a + 1) n ≡ true
   after_place e = elim (cases_Bool (nat_lt (a + 1) n)) [
-    inl is ↦ is
+    | inl is ↦ is
     | inr isnt ↦ (let le : n ≤ a + 1 = omega (arith, leb-false (suc (a + 1)) n isnt) in
-      let fits : n * s ≤ (a + 1) * s = mul-le-mul_right s le in
-      absurd (omega (arith, fits, leb-true (suc (a * s + b + s)) (n * s) e)))
+        let fits : n * s ≤ (a + 1) * s = mul-le-mul_right s le in
+        absurd (omega (arith, fits, leb-true (suc (a * s + b + s)) (n * s) e)))
   ]
 
   place_after : nat_lt (a + 1) n ≡ true → nat_lt (a * s + b + s) (n * s) ≡ true
@@ -97,17 +97,17 @@ module _ (g : Grid) (h : HasSize g) (c : ℕ) (within : c < cell_count g) where
   back_is =
       let same : has_before g Column c ≡ nat_le g.cols (row_of g c * g.cols + column_of g c) = ap (nat_le g.cols) row_place in
       end_is (has_before g Column c) (nat_lt 0 (row_of g c)) _ _
-          (λ e. before_place g.cols (row_of g c) (column_of g c) g.rows (column_below g h c within) (sym same ∙ e))
-          (λ e. same ∙ place_before g.cols (row_of g c) (column_of g c) g.rows (column_below g h c within) e)
-          (λ e. row_less (layer_of g c) (row_of g c) (row_of g c - 1) (column_of g c) g.rows g.cols c (omega (arith, leb-true 1 (row_of g c) e)) (place_gives g h c within))
+      (λ e. before_place g.cols (row_of g c) (column_of g c) g.rows (column_below g h c within) (sym same ∙ e))
+      (λ e. same ∙ place_before g.cols (row_of g c) (column_of g c) g.rows (column_below g h c within) e)
+      (λ e. row_less (layer_of g c) (row_of g c) (row_of g c - 1) (column_of g c) g.rows g.cols c (omega (arith, leb-true 1 (row_of g c) e)) (place_gives g h c within))
 
   front_is : end_of (face_after g Column c) ≡ front g c
   front_is =
       let same : has_after g Column c ≡ nat_lt (row_of g c * g.cols + column_of g c + g.cols) (g.rows * g.cols) = ap (λ n. nat_lt (n + g.cols) (g.rows * g.cols)) row_place in
       end_is (has_after g Column c) (nat_lt (row_of g c + 1) g.rows) _ _
-          (λ e. after_place g.cols (row_of g c) (column_of g c) g.rows (column_below g h c within) (sym same ∙ e))
-          (λ e. same ∙ place_after g.cols (row_of g c) (column_of g c) g.rows (column_below g h c within) e)
-          (λ e. row_more (layer_of g c) (row_of g c) (column_of g c) g.rows g.cols c (place_gives g h c within))
+      (λ e. after_place g.cols (row_of g c) (column_of g c) g.rows (column_below g h c within) (sym same ∙ e))
+      (λ e. same ∙ place_after g.cols (row_of g c) (column_of g c) g.rows (column_below g h c within) e)
+      (λ e. row_more (layer_of g c) (row_of g c) (column_of g c) g.rows g.cols c (place_gives g h c within))
 
   small : c % cell_count g ≡ layer_of g c * layer_size g + c % layer_size g
   small = let whole : c ≡ 0 * cell_count g + c = omega arith in ap (λ n. n % cell_count g) whole ∙ mod-mul-add 0 (cell_count g) c within ∙ layer_place
@@ -117,18 +117,18 @@ module _ (g : Grid) (h : HasSize g) (c : ℕ) (within : c < cell_count g) where
       let same : has_before g Vertical c ≡ nat_le (layer_size g) (layer_of g c * layer_size g + c % layer_size g) = ap (nat_le (layer_size g)) small in
       let fits = mod_below c (layer_size g) (size_some g h) in
       end_is (has_before g Vertical c) (nat_lt 0 (layer_of g c)) _ _
-          (λ e. before_place (layer_size g) (layer_of g c) (c % layer_size g) g.layers fits (sym same ∙ e))
-          (λ e. same ∙ place_before (layer_size g) (layer_of g c) (c % layer_size g) g.layers fits e)
-          (λ e. layer_less (layer_of g c) (layer_of g c - 1) (row_of g c) (column_of g c) g.rows g.cols c (omega (arith, leb-true 1 (layer_of g c) e)) (place_gives g h c within))
+      (λ e. before_place (layer_size g) (layer_of g c) (c % layer_size g) g.layers fits (sym same ∙ e))
+      (λ e. same ∙ place_before (layer_size g) (layer_of g c) (c % layer_size g) g.layers fits e)
+      (λ e. layer_less (layer_of g c) (layer_of g c - 1) (row_of g c) (column_of g c) g.rows g.cols c (omega (arith, leb-true 1 (layer_of g c) e)) (place_gives g h c within))
 
   down_is : end_of (face_after g Vertical c) ≡ down g c
   down_is =
       let same : has_after g Vertical c ≡ nat_lt (layer_of g c * layer_size g + c % layer_size g + layer_size g) (g.layers * layer_size g) = ap (λ n. nat_lt (n + layer_size g) (cell_count g)) small in
       let fits = mod_below c (layer_size g) (size_some g h) in
       end_is (has_after g Vertical c) (nat_lt (layer_of g c + 1) g.layers) _ _
-          (λ e. after_place (layer_size g) (layer_of g c) (c % layer_size g) g.layers fits (sym same ∙ e))
-          (λ e. same ∙ place_after (layer_size g) (layer_of g c) (c % layer_size g) g.layers fits e)
-          (λ e. layer_more (layer_of g c) (row_of g c) (column_of g c) g.rows g.cols c (place_gives g h c within))
+      (λ e. after_place (layer_size g) (layer_of g c) (c % layer_size g) g.layers fits (sym same ∙ e))
+      (λ e. same ∙ place_after (layer_size g) (layer_of g c) (c % layer_size g) g.layers fits e)
+      (λ e. layer_more (layer_of g c) (row_of g c) (column_of g c) g.rows g.cols c (place_gives g h c within))
 
   pub ends_are : (p q r x y z : Option Face) →
       p ≡ face_before g Vertical c → q ≡ face_before g Column c → r ≡ face_before g Row c → x ≡ face_after g Row c → y ≡ face_after g Column c → z ≡ face_after g Vertical c →

@@ -1,10 +1,10 @@
 -- The list of time steps, period by period.
-use Rattle.std.proofs.Common.{◌≡◌, ℕ, zero, suc, ◌+◌, ◌-◌, ◌<◌, ◌≤◌, List, [], ◌∷◌, ◌++◌, length, get_or, take, map, refl, sym, ap, ◌∙◌, arith}
+use Rattle.std.proofs.Common.{◌≡◌, ℕ, zero, suc, ◌+◌, ◌-◌, ◌<◌, ◌≤◌, List, [], ◌∷◌, ◌++◌, length, get_or, take, map, refl, sym, ap, ◌∙◌, arith, add-one}
 use Rattle.std.specs.List.{range_with_len, flat_map, sum_by}
-use Rattle.std.proofs.lemmas.List.{append-nil, append_assoc, get_or_read}
+use Rattle.std.proofs.lemmas.List.{append-nil, append_assoc, get_or_read, length-append, take_all}
+use Rattle.std.proofs.lemmas.List.Sums.{sum_by_more}
 use Rattle.std.proofs.lemmas.List.Concat.{flat_map-append, length-flat_map}
-use Rattle.std.proofs.lemmas.List.FromFn.{length-map-range_with_len, get_or-map-range_with_len, fill_by_all}
-use Rattle.std.proofs.lemmas.List.Folds.{fold-map}
+use Rattle.std.proofs.lemmas.List.FromFn.{length-map-range_with_len, map-range_with_len_more}
 use Rattle.model_types.specs.declared.period.Period.{Period}
 use Rattle.model_types.specs.declared.model.FlowModel.{FlowModel}
 use Rattle.model_types.specs.declared.time_steps.TimeStep.{TimeStep}
@@ -18,18 +18,47 @@ period_is : (m : FlowModel) (p : ℕ) (q : Period) → p < length m.periods → 
 period_is m p q lt is = get_or_read m.periods p q lt is no_period ∙ ap (λ k. get_or m.periods k no_period) (omega arith)
 
 -- one more period
-pub steps_more : (m : FlowModel) (p : ℕ) (qs : List Period) (q : Period) (xs : List TimeStep) → p < length qs → qs ≡ m.periods → q ≡ get_or qs p q → xs ≡ flat_map (steps_of m) (range_with_len 1 p) →
-    xs ++ map (λ n. record { period = p + 1; step = n }) (range_with_len 1 q.nstp) ≡ flat_map (steps_of m) (range_with_len 1 (p + 1))
-steps_more m p qs q xs lt e is before =
+pub steps_more : (m : FlowModel) (p number count : ℕ) (qs : List Period) (q : Period) (xs : List TimeStep) → p < length qs → qs ≡ m.periods → q ≡ get_or qs p q → number ≡ p + 1 → count ≡ (get_or qs p q).nstp →
+    xs ≡ flat_map (steps_of m) (range_with_len 1 p) → xs ++ map (λ n. record { period = number; step = n }) (range_with_len 1 count) ≡ flat_map (steps_of m) (range_with_len 1 (p + 1))
+steps_more m p number count qs q xs lt e is is_number is_count before =
     let at : q ≡ get_or m.periods p q = is ∙ ap (λ ys. get_or ys p q) e in
     let found : q ≡ period_at m (1 + p) = period_is m p q (omega (arith, lt, ap length e)) at in
-    let list : range_with_len 1 p ++ (1 + p) ∷ [] ≡ range_with_len 1 (p + 1) = sym (range_more 1 p) ∙ ap (range_with_len 1) (omega arith) in
-    let number : p + 1 ≡ 1 + p = omega arith in
-    (λ i. before i ++ map (λ n. record { period = number i; step = n }) (range_with_len 1 (found i).nstp))
+    let nstp : count ≡ (period_at m (1 + p)).nstp = is_count ∙ ap (λ (r : Period). r.nstp) (sym is ∙ found) in
+    let turned : number ≡ 1 + p = omega (arith, is_number) in
+    let list : range_with_len 1 p ++ (1 + p) ∷ [] ≡ range_with_len 1 (p + 1) = sym (range_more 1 p) ∙ ap (range_with_len 1) (sym (add-one p)) in
+    (λ i. before i ++ map (λ n. record { period = turned i; step = n }) (range_with_len 1 (nstp i)))
     ∙ ap (λ ys. flat_map (steps_of m) (range_with_len 1 p) ++ ys) (sym (append-nil (steps_of m (1 + p))))
     ∙ sym (flat_map-append (steps_of m) (range_with_len 1 p) ((1 + p) ∷ []))
     ∙ ap (flat_map (steps_of m)) list
 
+-- one more step
+pub step_pushed : (p n : ℕ) (before xs : List TimeStep) → xs ≡ before ++ map (λ k. record { period = p; step = k }) (range_with_len 1 n) → xs ++ record { period = p; step = n + 1 } ∷ [] ≡ before ++ map (λ k. record { period = p; step = k }) (range_with_len 1 (n + 1))
+step_pushed p n before xs e =
+    let f : ℕ → TimeStep = λ k. record { period = p; step = k } in
+    ap (λ ys. ys ++ f (n + 1) ∷ []) e ∙ append_assoc before (map f (range_with_len 1 n)) (f (n + 1) ∷ []) ∙ ap (λ ys. before ++ ys) (sym (map-range_with_len_more f 1 n (n + 1) (omega arith)))
+
+cancel : (k : ℕ) → 1 + k - 1 ≡ k
+cancel k = omega arith
+
+below : (k n : ℕ) → suc k ≤ n → k ≤ n
+below k n le = omega arith
+
+fits : (k n : ℕ) → suc k ≤ n → k < n
+fits k n le = omega arith
+
 -- as many time steps as the periods have
-pub whole_count : (m : FlowModel) → length (flat_map (steps_of m) (range_with_len 1 (length m.periods))) ≡ sum_by (λ p. p.nstp) m.periods
-whole_count m = ?
+counted : (m : FlowModel) (k : ℕ) → k ≤ length m.periods → length (flat_map (steps_of m) (range_with_len 1 k)) ≡ sum_by (λ p. p.nstp) (take k m.periods)
+counted m zero le = refl
+counted m (suc k) le =
+    let at : period_at m (1 + k) ≡ get_or m.periods k no_period = ap (λ j. get_or m.periods j no_period) (cancel k) in
+    let list : range_with_len 1 (suc k) ≡ range_with_len 1 k ++ (1 + k) ∷ [] = range_more 1 k in
+    ap (λ ks. length (flat_map (steps_of m) ks)) list
+    ∙ ap length (flat_map-append (steps_of m) (range_with_len 1 k) ((1 + k) ∷ []) ∙ ap (λ ys. flat_map (steps_of m) (range_with_len 1 k) ++ ys) (append-nil (steps_of m (1 + k))))
+    ∙ length-append (flat_map (steps_of m) (range_with_len 1 k)) (steps_of m (1 + k))
+    ∙ (λ i. counted m k (below k (length m.periods) le) i + (length-map-range_with_len {X = TimeStep} (λ n. record { period = 1 + k; step = n }) 1 (period_at m (1 + k)).nstp ∙ ap (λ (q : Period). q.nstp) at) i)
+    ∙ sym (sum_by_more (λ p. p.nstp) m.periods k no_period (fits k (length m.periods) le))
+    ∙ ap (λ j. sum_by (λ p. p.nstp) (take j m.periods)) (add-one k)
+
+pub whole_count : (m : FlowModel) (k : ℕ) (xs : List TimeStep) → xs ≡ flat_map (steps_of m) (range_with_len 1 k) → k ≡ length m.periods → length xs ≡ sum_by (λ p. p.nstp) m.periods
+whole_count m k xs e whole =
+    ap length e ∙ counted m k (omega (arith, whole)) ∙ ap (sum_by (λ p. p.nstp)) (take_all k m.periods (omega (arith, whole)))

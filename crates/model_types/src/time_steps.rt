@@ -19,10 +19,10 @@ pub fn times(alloc: Global, model: &FlowModel) -> Result<Vec<TimeStep>, AllocErr
     ensures times { IfOk result (λ steps. steps.items ≡ times model.now) }
     ensures count { IfOk result (λ steps. length steps.items ≡ sum_by (λ p. p.nstp) model.now.periods) }
 {
+    let periods = model.periods.as_slice();
     let mut steps = Vec::new(alloc);
-    for p in 0..model.periods.as_slice().len() {
-        let period = &model.periods.as_slice()[p];
-        push_steps(&mut steps, p as u32 + 1, period.nstp)?;
+    for p in 0..periods.len() {
+        push_steps(&mut steps, p as u32 + 1, periods[p].nstp)?;
     }
     Ok(steps)
 }
@@ -31,7 +31,10 @@ fn push_steps(steps: &mut Vec<TimeStep>, period: u32, nstp: u32) -> Result<(), A
     ensures { OnOk result (steps.new.items ≡ steps.old.items ++ map (λ n. record { period = period; step = n }) (range_with_len 1 nstp)) }
 {
     for n in 0..nstp {
-        steps.push(TimeStep { period, step: n + 1 })?;
+        steps.push(TimeStep {
+            period,
+            step: n + 1,
+        })?;
     }
     Ok(())
 }

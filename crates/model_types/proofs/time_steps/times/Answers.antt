@@ -1,16 +1,18 @@
-use Rattle.std.proofs.Common.{◌≡◌, ◌+◌, ◌++◌, length, ap, sym, ◌∙◌, arith}
-use Rattle.std.specs.List.{range_with_len, flat_map, sum_by}
-use Rattle.model_types.specs.Times.{steps_of, times}
+use Rattle.std.proofs.Common.{◌≡◌, length, refl, ap, ◌∙◌, arith}
+use Rattle.model_types.specs.Times.{times, steps_of}
+use Rattle.std.specs.List.{range_with_len, flat_map}
 use Rattle.model_types.proofs.StepLists.{steps_more, whole_count}
 use Rattle.model_types.proofs.time_steps.times.Goals as goal
 
 pub loop-p-preserved : goal.loop-p-preserved
 loop-p-preserved c =
-    c.in_ok-push_steps.ensures ∙ steps_more c.args.model.now c.loop-p.p _ _ _ c.loop-p-test.true c.as_slice.ensures c.index-period.is c.loop-p.invariant
+    c.in_ok-push_steps.ensures ∙ steps_more c.args.model.now c.loop-p.p _ _ c.as_slice-periods.result.now _ _ c.loop-p-test.true c.as_slice-periods.ensures c.index-periods-p.is refl refl c.loop-p.invariant
 
 pub returns-clause-times : goal.returns-clause-times
 unfolding times
-returns-clause-times c = ?
+returns-clause-times c =
+    c.loop-p.invariant ∙ ap (λ k. flat_map (steps_of c.args.model.now) (range_with_len 1 k)) (omega (arith, c.loop-p-test.false, c.loop-p.auto.p-end, ap length c.as_slice-periods.ensures))
 
 pub returns-clause-count : goal.returns-clause-count
-returns-clause-count c = ?
+returns-clause-count c =
+    whole_count c.args.model.now c.loop-p.p _ c.loop-p.invariant (omega (arith, c.loop-p-test.false, c.loop-p.auto.p-end, ap length c.as_slice-periods.ensures))

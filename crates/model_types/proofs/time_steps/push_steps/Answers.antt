@@ -1,0 +1,7 @@
+use Rattle.std.proofs.Common.{◌≡◌, ◌+◌, ◌++◌, [], ◌∷◌, map, ap, sym, ◌∙◌, arith}
+use Rattle.std.specs.List.{range_with_len}
+use Rattle.model_types.proofs.StepLists.{step_pushed}
+use Rattle.model_types.proofs.time_steps.push_steps.Goals as goal
+
+pub loop-n-preserved : goal.loop-n-preserved
+loop-n-preserved c = c.in_ok-push.ensures.items ∙ step_pushed c.args.period c.loop-n.n _ _ c.loop-n.invariant
