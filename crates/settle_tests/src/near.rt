@@ -7,7 +7,7 @@ ghost use Rattle.settle_driver.specs.Phases.{IsPlan};
 use crate::problems::{bound, problem_of};
 use outside::FreeGate;
 use settle_driver::{ListedSettler, PlainSettler, Plan, SettleBy, ThreadSettler, settle_near};
-use std::alloc::{AllocError, Global};
+use std::alloc::Global;
 use std::process::Abort;
 use std::test::Fail;
 use std::thread::Threads;
@@ -28,12 +28,11 @@ const SETTLED: [Bound; 2] = [
 
 // Two cells between heads 0 and 10, from these heads, by so many trials of 10 sweeps. The settler behind them
 // has one round, with which it does not settle.
-fn settle_two<R: Abort>(
-    rt: &R,
+fn settle_two(
     alloc: Global,
     near: &[Bound],
     trials: u32,
-) -> Result<Result<Vec<Bound>, SettleFault>, AllocError> {
+) -> Result<Result<Vec<Bound>, SettleFault>, Fail> {
     let (p, b) = problem_of(alloc, two_between(alloc)?, 0, TEN)?;
     let near = Vec::from_slice(alloc, near)?;
     let mut trial = PlainSettler::new(10);
@@ -47,7 +46,7 @@ fn expect_settled<R: Abort>(
     near: &[Bound],
     trials: u32,
 ) -> Result<(), Fail> {
-    let Ok(bounds) = settle_two(rt, alloc, near, trials)? else {
+    let Ok(bounds) = settle_two(alloc, near, trials)? else {
         return Err("not settled")?;
     };
     assert_eq!(rt; bounds.as_slice(), SETTLED.as_slice());
@@ -56,7 +55,7 @@ fn expect_settled<R: Abort>(
 
 // The settler behind the trials was asked: it answers what its one round leaves.
 fn expect_asked<R: Abort>(rt: &R, alloc: Global, near: &[Bound], trials: u32) -> Result<(), Fail> {
-    let Err(SettleFault::Unfinished(open)) = settle_two(rt, alloc, near, trials)? else {
+    let Err(SettleFault::Unfinished(open)) = settle_two(alloc, near, trials)? else {
         return Err("the settler was not asked")?;
     };
     assert!(rt; open.cell == 0 && open.side == Side::Low);

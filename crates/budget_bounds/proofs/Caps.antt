@@ -1,0 +1,95 @@
+-- Sums of parts, and sums that stand still at the limit.
+use Rattle.std.proofs.Common.{◌≡◌, ℕ, ◌+◌, ◌<◌, ◌≤◌, Bool, true, false, cond, refl, sym, ap, ◌∙◌, arith, List, [], ◌∷◌, length, get_or, drop, map, add-one, drop-cons, ℤ, pos, neg_ℤ, ◌+ℤ◌, ◌≤ℤ◌}
+use Rattle.std.specs.List.{filter}
+use Rattle.std.specs.Int.{int_min, int_max}
+use Rattle.std.proofs.lemmas.Int.{ints, clamps}
+use Rattle.std.proofs.lemmas.List.{drop_all}
+use Rattle.step_problem.specs.declared.place.Dir.{Dir}
+use Rattle.step_problem.specs.declared.place.Dir.TheVariants.{In, Out}
+use Rattle.cell_balance.specs.Components.{sum_below}
+use Rattle.budget_bounds.specs.declared.pair.TermPair.{TermPair}
+use Rattle.budget_bounds.specs.Singles.{part}
+use Rattle.budget_bounds.specs.Terms.{parts, term_limit}
+use Rattle.budget_bounds.specs.Capped.{IsSum, capped, plus_pair}
+
+pub filter_all : {X : Type 0} (xs : List X) → filter (λ x. true) xs ≡ xs
+filter_all [] = refl
+filter_all (x ∷ xs) = rw (filter_all xs) refl
+
+-- what is none the less counted once the sum stands still changes nothing
+cap : (limit s x r : ℤ) → pos 0 ≤ℤ r → int_min (int_min (s +ℤ x) limit +ℤ r) limit ≡ int_min (s +ℤ (x +ℤ r)) limit
+cap limit s x r h = omega (arith, ints, clamps)
+
+max_none : (a : ℤ) → pos 0 ≤ℤ int_max a (pos 0)
+max_none a = omega (arith, ints, clamps)
+
+plus_none : (a b : ℤ) → pos 0 ≤ℤ a → pos 0 ≤ℤ b → pos 0 ≤ℤ (a +ℤ b)
+plus_none a b h k = omega (arith, ints)
+
+none : pos 0 ≤ℤ pos 0
+none = omega (arith, ints)
+
+pub part_lo : (dir : Dir) (x : TermPair) → pos 0 ≤ℤ (part dir x).lo
+part_lo In x = max_none x.lo
+part_lo Out x = max_none (neg_ℤ x.hi)
+
+pub part_hi : (dir : Dir) (x : TermPair) → pos 0 ≤ℤ (part dir x).hi
+part_hi In x = max_none x.hi
+part_hi Out x = max_none (neg_ℤ x.lo)
+
+pub parts_lo : (dir : Dir) (xs : List TermPair) → pos 0 ≤ℤ (parts dir xs).lo
+unfolding parts
+parts_lo dir [] = none
+parts_lo dir (x ∷ xs) = plus_none _ _ (part_lo dir x) (parts_lo dir xs)
+
+pub parts_hi : (dir : Dir) (xs : List TermPair) → pos 0 ≤ℤ (parts dir xs).hi
+unfolding parts
+parts_hi dir [] = none
+parts_hi dir (x ∷ xs) = plus_none _ _ (part_hi dir x) (parts_hi dir xs)
+
+-- two capped additions are one
+pub capped_twice : (s a b : TermPair) → pos 0 ≤ℤ b.lo → pos 0 ≤ℤ b.hi → capped (plus_pair (capped (plus_pair s a)) b) ≡ capped (plus_pair s (plus_pair a b))
+capped_twice s a b h k = rw (cap term_limit s.lo a.lo b.lo h, cap term_limit s.hi a.hi b.hi k) refl
+
+-- nothing added to a sum
+cap_none : (limit s : ℤ) → s ≤ℤ limit → int_min (s +ℤ pos 0) limit ≡ s
+cap_none limit s h = omega (arith, ints, clamps)
+
+pub nothing_more : (dir : Dir) (s : TermPair) → IsSum s → capped (plus_pair s (parts dir [])) ≡ s
+unfolding parts
+nothing_more dir s h = rw (cap_none term_limit s.lo h.lo_below, cap_none term_limit s.hi h.hi_below) refl
+
+-- the entries from one on, where it is counted, and where it isn't
+counted : {X : Type 0} (dir : Dir) (of : X → Bool) (f : X → TermPair) (x : X) (xs : List X) → of x ≡ true → parts dir (map f (filter of (x ∷ xs))) ≡ plus_pair (part dir (f x)) (parts dir (map f (filter of xs)))
+unfolding parts
+counted dir of f x xs h = rw h refl
+
+passed : {X : Type 0} (dir : Dir) (of : X → Bool) (f : X → TermPair) (x : X) (xs : List X) → of x ≡ false → parts dir (map f (filter of (x ∷ xs))) ≡ parts dir (map f (filter of xs))
+passed dir of f x xs h = rw h refl
+
+from : {X : Type 0} (xs : List X) (i : ℕ) (d x : X) → i < length xs → x ≡ get_or xs i d → drop i xs ≡ x ∷ drop (i + 1) xs
+from xs i d x lt e = rw (e, add-one, drop-cons xs i d) refl
+
+counts_or_not : {X : Type 0} (dir : Dir) (of : X → Bool) (f : X → TermPair) (x : X) (xs : List X) (s : TermPair) (b : Bool) → of x ≡ b → capped (plus_pair (cond b (capped (plus_pair s (part dir (f x)))) s) (parts dir (map f (filter of xs)))) ≡ capped (plus_pair s (parts dir (map f (filter of (x ∷ xs)))))
+counts_or_not dir of f x xs s true h = capped_twice s (part dir (f x)) (parts dir (map f (filter of xs))) (parts_lo dir _) (parts_hi dir _) ∙ ap (λ (z : TermPair). capped (plus_pair s z)) (sym (counted dir of f x xs h))
+counts_or_not dir of f x xs s false h = ap (λ (z : TermPair). capped (plus_pair s z)) (sym (passed dir of f x xs h))
+
+-- one entry of a loop
+pub goes_on : {X : Type 0} (dir : Dir) (of : X → Bool) (f : X → TermPair) (xs : List X) (i : ℕ) (d x : X) (s next whole : TermPair) → i < length xs → x ≡ get_or xs i d → next ≡ cond (of x) (capped (plus_pair s (part dir (f x)))) s → capped (plus_pair s (parts dir (map f (filter of (drop i xs))))) ≡ whole → capped (plus_pair next (parts dir (map f (filter of (drop (i + 1) xs))))) ≡ whole
+goes_on {X = X} dir of f xs i d x s next whole lt e is h =
+    rw is (counts_or_not dir of f x (drop (i + 1) xs) s (of x) refl ∙ ap (λ (ys : List X). capped (plus_pair s (parts dir (map f (filter of ys))))) (sym (from xs i d x lt e)) ∙ h)
+
+pub ends : {X : Type 0} (dir : Dir) (of : X → Bool) (f : X → TermPair) (xs : List X) (i : ℕ) (s whole : TermPair) → IsSum s → length xs ≤ i → capped (plus_pair s (parts dir (map f (filter of (drop i xs))))) ≡ whole → s ≡ whole
+ends {X = X} dir of f xs i s whole sum over h =
+    sym (nothing_more dir s sum) ∙ ap (λ (ys : List X). capped (plus_pair s (parts dir (map f (filter of ys))))) (sym (drop_all i xs over)) ∙ h
+
+-- one cell of the loop over cells
+cap_two : (limit a x : ℤ) → pos 0 ≤ℤ x → int_min (int_min a limit +ℤ x) limit ≡ int_min (a +ℤ x) limit
+cap_two limit a x h = omega (arith, ints, clamps)
+
+pub cell_more : (n : ℕ) (f : ℕ → TermPair) (s next : TermPair) → s ≡ capped (record { lo = sum_below n (λ c. (f c).lo); hi = sum_below n (λ c. (f c).hi) }) → next ≡ capped (plus_pair s (f n)) → pos 0 ≤ℤ (f n).lo → pos 0 ≤ℤ (f n).hi → next ≡ capped (record { lo = sum_below (n + 1) (λ c. (f c).lo); hi = sum_below (n + 1) (λ c. (f c).hi) })
+cell_more n f s next is more h k = more ∙ rw (is, add-one) (rw (cap_two term_limit (sum_below n (λ c. (f c).lo)) (f n).lo h, cap_two term_limit (sum_below n (λ c. (f c).hi)) (f n).hi k) refl)
+
+-- the sums where the loop began
+pub no_cells : (f : ℕ → TermPair) → record { lo = pos 0; hi = pos 0 } ≡ capped (record { lo = sum_below 0 (λ c. (f c).lo); hi = sum_below 0 (λ c. (f c).hi) })
+no_cells f = refl

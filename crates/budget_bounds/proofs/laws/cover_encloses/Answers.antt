@@ -1,0 +1,5 @@
+use Rattle.budget_bounds.proofs.Covering.{cover_encloses}
+use Rattle.budget_bounds.proofs.laws.cover_encloses.Goals as goal
+
+pub returns : goal.returns
+returns c = cover_encloses

@@ -1,0 +1,5 @@
+pub mod Singles
+pub mod Terms
+pub mod Exact
+pub mod Covers
+pub mod Capped

@@ -1,0 +1,127 @@
+// The single flows of entries, by their bounds.
+ghost use Rattle.std.specs.Prelude.{◌≡◌, ◌<◌, ◌^◌, ℤ, Bool, true};
+ghost use Rattle.step_problem.specs.Conditions.{FixedFits, RiverFits, DrainFits, EvapFits, magnitude};
+ghost use Rattle.budget_bounds.specs.Singles.{flow_pair, fixed_pair, river_pair, drain_pair, evap_pair, fixed_term, flow_term, is_term};
+ghost use Rattle.budget_bounds.specs.Capped.{AreHeads, IsFlow};
+
+use crate::kinds::{fixed_term, flow_term, is_term};
+use crate::pair::TermPair;
+use step_problem::{Bound, Branch, Drain, Evap, Fixed, Flow, River, Side, Term};
+
+/// An entry of a cell, as a single flow of the budget.
+pub(crate) trait Entry {
+    ghost use Rattle.step_problem.specs.declared.place.Term.{Term};
+    ghost use Rattle.budget_bounds.specs.declared.pair.TermPair.{TermPair};
+
+    ghost of: { Term → Self → Bool };
+
+    ghost pair: { ℤ → ℤ → Self → TermPair };
+
+    ghost fits: { Self → Type 0 };
+
+    /// Whether it is a flow of this term.
+    fn is_of(&self, term: Term) -> bool
+        ensures { result ≡ of term self.now };
+
+    /// Its bounds where the cell's head lies between its own.
+    fn pair_at(&self, own: Bound) -> TermPair
+        requires own { AreHeads own }
+        requires fits { fits self.now }
+        ensures value { result ≡ pair own.low own.high self.now }
+        ensures flow { IsFlow result };
+}
+
+impl Entry for Flow {
+    ghost of = { λ t x. is_term t (flow_term x.kind) };
+
+    ghost pair = { λ l u x. flow_pair x };
+
+    ghost fits = { λ x. magnitude x.lo x.hi < 2 ^ 109 };
+
+    fn is_of(&self, term: Term) -> bool {
+        is_term(term, flow_term(self.kind))
+    }
+
+    fn pair_at(&self, own: Bound) -> TermPair {
+        TermPair {
+            lo: self.lo,
+            hi: self.hi,
+        }
+    }
+}
+
+impl Entry for Fixed {
+    ghost of = { λ t x. is_term t (fixed_term x.kind) };
+
+    ghost pair = { fixed_pair };
+
+    ghost fits = { λ x. FixedFits x × (x.hi < 2 ^ 60) };
+
+    fn is_of(&self, term: Term) -> bool {
+        is_term(term, fixed_term(self.kind))
+    }
+
+    fn pair_at(&self, own: Bound) -> TermPair {
+        TermPair {
+            lo: self.flow_at(Side::Low, own.high),
+            hi: self.flow_at(Side::High, own.low),
+        }
+    }
+}
+
+impl Entry for River {
+    ghost of = { λ t x. true };
+
+    ghost pair = { river_pair };
+
+    ghost fits = { λ x. RiverFits x × (x.hi < 2 ^ 60) };
+
+    fn is_of(&self, term: Term) -> bool {
+        true
+    }
+
+    fn pair_at(&self, own: Bound) -> TermPair {
+        TermPair {
+            lo: self.flow_at(Side::Low, own.high),
+            hi: self.flow_at(Side::High, own.low),
+        }
+    }
+}
+
+impl Entry for Drain {
+    ghost of = { λ t x. true };
+
+    ghost pair = { drain_pair };
+
+    ghost fits = { λ x. DrainFits x × (x.hi < 2 ^ 60) };
+
+    fn is_of(&self, term: Term) -> bool {
+        true
+    }
+
+    fn pair_at(&self, own: Bound) -> TermPair {
+        TermPair {
+            lo: self.flow_at(Side::Low, own.high),
+            hi: self.flow_at(Side::High, own.low),
+        }
+    }
+}
+
+impl Entry for Evap {
+    ghost of = { λ t x. true };
+
+    ghost pair = { evap_pair };
+
+    ghost fits = { λ x. EvapFits x × (x.hi < 2 ^ 60) };
+
+    fn is_of(&self, term: Term) -> bool {
+        true
+    }
+
+    fn pair_at(&self, own: Bound) -> TermPair {
+        TermPair {
+            lo: self.flow_at(Side::Low, own.high),
+            hi: self.flow_at(Side::High, own.low),
+        }
+    }
+}

@@ -1,0 +1,14 @@
+//! The bounds of the volumetric budget of one time step.
+#![tactic(auto)]
+
+mod cover;
+mod flows;
+mod kinds;
+pub mod laws;
+pub mod pair;
+mod sums;
+mod terms;
+
+pub use cover::{covers, first_uncovered};
+pub use pair::{Budget, TermPair};
+pub use terms::budget;

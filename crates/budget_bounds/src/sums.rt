@@ -1,0 +1,136 @@
+// The sums of a term's flows. A sum stands still at 2^126, so that no flow which is added to it overflows.
+ghost use Rattle.std.specs.Prelude.{◌≡◌, ◌^◌, cond, map, All, pos, ◌+ℤ◌, ◌≤ℤ◌};
+ghost use Rattle.std.specs.Int.{int_max, int_min};
+ghost use Rattle.std.specs.List.{filter};
+ghost use Rattle.step_problem.specs.Conditions.{CellFits};
+ghost use Rattle.step_problem.specs.Heads.{lower_at, upper_at};
+ghost use Rattle.cell_relax.specs.Words.{AreWords};
+ghost use Rattle.budget_bounds.specs.Singles.{part, singles};
+ghost use Rattle.budget_bounds.specs.Terms.{parts, term_limit, term_pair};
+ghost use Rattle.budget_bounds.specs.Capped.{AreHeads, IsFlow, IsPart, IsSum, capped, plus_pair};
+
+use crate::flows::Entry;
+use crate::pair::TermPair;
+use step_problem::{Bound, Cell, Dir, Problem, Term};
+
+/// What a term must stay below.
+pub(crate) const TERM_LIMIT: i128 = 1 << 126;
+
+fn positive(flow: i128) -> i128
+    requires { flow ≤ℤ pos (2 ^ 123) }
+    ensures value { result ≡ int_max flow (pos 0) }
+    ensures above { pos 0 ≤ℤ result }
+    ensures below { result ≤ℤ pos (2 ^ 123) }
+{
+    flow.max(0)
+}
+
+// What of a flow goes in, or out.
+fn part_of(dir: Dir, flow: TermPair) -> TermPair
+    requires { IsFlow flow }
+    ensures value { result ≡ part dir flow }
+    ensures part { IsPart result }
+{
+    match dir {
+        Dir::In => TermPair {
+            lo: positive(flow.lo),
+            hi: positive(flow.hi),
+        },
+        Dir::Out => TermPair {
+            lo: positive(-flow.hi),
+            hi: positive(-flow.lo),
+        },
+    }
+}
+
+fn plus_capped(sum: i128, part: i128) -> i128
+    requires sum_above { pos 0 ≤ℤ sum }
+    requires sum_below { sum ≤ℤ term_limit }
+    requires part_above { pos 0 ≤ℤ part }
+    requires part_below { part ≤ℤ pos (2 ^ 123) }
+    ensures value { result ≡ int_min (sum +ℤ part) term_limit }
+    ensures above { pos 0 ≤ℤ result }
+    ensures below { result ≤ℤ term_limit }
+{
+    (sum + part).min(TERM_LIMIT)
+}
+
+fn plus_part(dir: Dir, sum: TermPair, flow: TermPair) -> TermPair
+    requires sum { IsSum sum }
+    requires flow { IsFlow flow }
+    ensures value { result ≡ capped (plus_pair sum (part dir flow)) }
+    ensures sum { IsSum result }
+{
+    let part = part_of(dir, flow);
+    TermPair {
+        lo: plus_capped(sum.lo, part.lo),
+        hi: plus_capped(sum.hi, part.hi),
+    }
+}
+
+// Adds an entry's flow, where it is of the term.
+fn add_single<E: Entry>(dir: Dir, term: Term, own: Bound, sum: TermPair, x: &E) -> TermPair
+    requires own { AreHeads own }
+    requires sum { IsSum sum }
+    requires fits { E.fits x.now }
+    ensures value { result ≡ cond (E.of term x.now) (capped (plus_pair sum (part dir (E.pair own.low own.high x.now)))) sum }
+    ensures sum { IsSum result }
+{
+    if x.is_of(term) {
+        plus_part(dir, sum, x.pair_at(own))
+    } else {
+        sum
+    }
+}
+
+fn add_singles<E: Entry>(
+    dir: Dir,
+    term: Term,
+    own: Bound,
+    start: TermPair,
+    entries: &[E],
+) -> TermPair
+    requires own { AreHeads own }
+    requires start { IsSum start }
+    requires fit { All E.fits entries.now }
+    ensures value { result ≡ capped (plus_pair start (parts dir (map (E.pair own.low own.high) (filter (E.of term) entries.now)))) }
+    ensures sum { IsSum result }
+{
+    let mut sum = start;
+    for x in entries {
+        sum = add_single(dir, term, own, sum, x);
+    }
+    sum
+}
+
+fn add_cell(dir: Dir, term: Term, own: Bound, start: TermPair, cell: &Cell) -> TermPair
+    requires own { AreHeads own }
+    requires start { IsSum start }
+    requires fits { CellFits cell.now }
+    ensures value { result ≡ capped (plus_pair start (parts dir (singles term cell.now own.low own.high))) }
+    ensures sum { IsSum result }
+{
+    match term {
+        Term::Storage => add_singles(dir, term, own, start, &cell.fixed),
+        Term::ConstantHead => add_singles(dir, term, own, start, &cell.fixed),
+        Term::Wells => add_singles(dir, term, own, start, &cell.flows),
+        Term::Drains => add_singles(dir, term, own, start, &cell.drains),
+        Term::RiverLeakage => add_singles(dir, term, own, start, &cell.rivers),
+        Term::HeadDepBounds => add_singles(dir, term, own, start, &cell.fixed),
+        Term::Recharge => add_singles(dir, term, own, start, &cell.flows),
+        Term::Et => add_singles(dir, term, own, start, &cell.evaps),
+    }
+}
+
+/// The two sums of a term over all cells, each of which stands still at 2^126.
+pub(crate) fn term_sum(p: &Problem, bounds: &[Bound], dir: Dir, term: Term) -> TermPair
+    requires { AreWords p.now bounds.now }
+    ensures value { result ≡ capped (term_pair p.now (lower_at bounds.now) (upper_at bounds.now) dir term) }
+    ensures sum { IsSum result }
+{
+    let mut sum = TermPair { lo: 0, hi: 0 };
+    for c in 0..p.len() {
+        sum = add_cell(dir, term, bounds[c], sum, p.cell(c));
+    }
+    sum
+}
