@@ -3,7 +3,6 @@ use Rattle.std.specs.Prelude.{◌≡◌, ℕ, ◌+◌, ◌<◌, ◌≤◌, true,
 use Rattle.std.specs.List.{range_with_len}
 use Rattle.decimal_input.specs.Canonical.{size}
 use Rattle.decimal_input.specs.Ratios.{Ratio, ratio, plus, times, over, Same}
-use Rattle.decimal_input.specs.Fractions.{signed, negated, plus as sum, times as product, Same as SameNumber}
 use Rattle.model_types.specs.declared.model.FlowModel.{FlowModel}
 use Rattle.model_types.specs.declared.period.Period.{Period}
 use Rattle.model_types.specs.Numbers.{IsPositive}
@@ -26,8 +25,8 @@ pub record Lasts (p : Period) : Type 0 where
 pub record HasManualSteps (p : Period) : Type 0 where
   -- each step is TSMULT times as long as the one before
   pub grows : (n : ℕ) → 1 ≤ n → Same (step_length p (n + 1)) (times (size p.tsmult) (step_length p n))
-  -- the first one by the manual's formula: dt * (T^NSTP - 1) = PERLEN * (T - 1)
-  pub first : SameNumber (product (signed (step_length p 1)) (sum (signed (power (size p.tsmult) p.nstp)) (negated (signed one)))) (product (signed (size p.perlen)) (sum (signed (size p.tsmult)) (negated (signed one))))
+  -- the first one by the manual's formula, dt * (T^NSTP - 1) = PERLEN * (T - 1), with what is subtracted on the other side
+  pub first : Same (plus (times (step_length p 1) (power (size p.tsmult) p.nstp)) (size p.perlen)) (plus (times (size p.perlen) (size p.tsmult)) (step_length p 1))
   -- steps of one length where TSMULT is 1
   pub equal : Same (size p.tsmult) one → (n : ℕ) → Same (step_length p n) (over (size p.perlen) (ratio p.nstp 1))
   -- all steps together are the period
