@@ -1,2 +1,4 @@
 mod Values
 pub mod Links
+mod Darcy
+mod StepSums

@@ -1,7 +1,12 @@
 -- What the terms of fractions come to, as a numerator and a denominator, so that an equation of two terms is one of products.
-use Rattle.std.proofs.Common.{◌≡◌, ℕ, suc, ◌+◌, ◌*◌, ◌<◌, refl, sym, ap, ◌∙◌, arith}
+use Rattle.std.proofs.Common.{◌≡◌, ℕ, suc, ◌+◌, ◌*◌, ◌<◌, ◌≤◌, refl, sym, ap, ◌∙◌, arith}
 use Rattle.decimal_input.specs.Ratios.{Ratio, den, ratio, plus, times, over, Same, AtMost}
 use Rattle.decimal_input.proofs.Orders.{num_times, den_times, num_plus, den_plus, num_over, den_over}
+use Rattle.decimal_input.specs.declared.dec.Dec.{Dec}
+use Rattle.decimal_input.specs.Canonical.{size}
+use Rattle.decimal_input.specs.Decimals.{scaled, up}
+use Rattle.std.proofs.Math.Nat.{one-le-pow}
+use Rattle.model_types.specs.Numbers.{IsPositive}
 use Rattle.model_types.specs.Conductances.{one, two}
 
 -- f is n over d
@@ -34,3 +39,14 @@ same_by p q e = record { cross = (λ i. p.num i * q.bottom i) ∙ e ∙ (λ i. s
 
 pub cross_by : {f g : Ratio} {a x b y : ℕ} → IsValue f a x → IsValue g b y → Same f g → a * y ≡ b * x
 cross_by p q s = (λ i. sym p.num i * sym q.bottom i) ∙ s.cross ∙ (λ i. q.num i * p.bottom i)
+
+pub at_most_by : {f g : Ratio} {a x b y : ℕ} → IsValue f a x → IsValue g b y → a * y ≤ b * x → AtMost f g
+at_most_by {f} {g} {a} {x} {b} {y} p q e =
+    let left : f.num * den g ≡ a * y = λ i. p.num i * q.bottom i in
+    let right : g.num * den f ≡ b * x = λ i. q.num i * p.bottom i in
+    record { cross = omega (arith, left, right, e) }
+
+-- a number of the input that is above 0
+pub size_positive : (d : Dec) → IsPositive d → 0 < (size d).num
+unfolding scaled ratio
+size_positive d h = let r = one-le-pow (up d.exp) 10 (omega arith) in let q = h.positive in grind arith
