@@ -9,3 +9,4 @@ pub mod Words
 pub mod Exponents
 pub mod Outcomes
 pub mod Coefficients
+pub mod Laws

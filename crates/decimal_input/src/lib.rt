@@ -7,10 +7,9 @@ pub mod dec;
 mod digit;
 mod exponent;
 pub mod integer;
+pub mod laws;
 pub mod product;
 pub mod read;
-#[cfg(test)]
-mod tests;
 pub mod units;
 pub mod whole;
 mod word;

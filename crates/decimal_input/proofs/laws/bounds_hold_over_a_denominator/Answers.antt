@@ -1,0 +1,5 @@
+use Rattle.decimal_input.proofs.Enclosing.{whole_signed}
+use Rattle.decimal_input.proofs.laws.bounds_hold_over_a_denominator.Goals as goal
+
+pub returns : goal.returns
+returns c = whole_signed

@@ -1,0 +1,5 @@
+use Rattle.decimal_input.proofs.OneNumber.{one_number}
+use Rattle.decimal_input.proofs.laws.one_canonical_form.Goals as goal
+
+pub returns : goal.returns
+returns c = one_number
