@@ -16,6 +16,3 @@ pub use product::{mul_dn, mul_up};
 pub use quotient::{div_dn, div_up};
 pub use sum::{add_dn, add_up};
 pub use units::{ceil_units, floor_units};
-
-#[cfg(test)]
-mod tests;

@@ -1,7 +1,7 @@
 // Random pairs, with their products, quotients and sums by exact arithmetic.
 
-use super::digits;
-use crate::{add_dn, add_up, div_dn, div_up, mul_dn, mul_up};
+use crate::scaled::digits;
+use scaled_decimal::{add_dn, add_up, div_dn, div_up, mul_dn, mul_up};
 
 type Pair = [(u64, i16); 2];
 

@@ -1,18 +1,21 @@
 // Values from exact arithmetic outside, which the contracts don't show to be the ones that were meant.
 
-mod pairs;
-
 ghost use Rattle.std.specs.Prelude.{◌≡◌, ◌<◌, false};
 ghost use Rattle.decimal_input.specs.Canonical.{IsDec};
 ghost use Rattle.scaled_decimal.specs.Nearest.{IsSd, IsNear};
 
-use crate::decimal::{LEAST, LIMIT, ZERO};
-use crate::{
+use decimal_input::dec::Dec;
+use scaled_decimal::decimal::ZERO;
+use scaled_decimal::{
     Sd, add_dn, add_up, ceil_units, div_dn, div_up, floor_units, mul_dn, mul_up, of_dec,
     of_units_dn, of_units_up,
 };
-use decimal_input::dec::Dec;
 use std::process::Abort;
+
+// A decimal has 18 digits.
+const LEAST: u64 = 100_000_000_000_000_000;
+
+const LIMIT: u64 = 1_000_000_000_000_000_000;
 
 // A decimal to compare with.
 fn sd(m: u64, e: i16) -> Sd {
