@@ -2,7 +2,7 @@
 ghost use Rattle.std.specs.Prelude.{◌≡◌, ◌≤◌};
 ghost use Rattle.step_problem.specs.Heads.{IsBarrier};
 
-use crate::problems::{bound, problem_of};
+use crate::cells::{bound, problem_of};
 use outside::FreeGate;
 use settle_driver::{PlainSettler, Plan, settle};
 use std::alloc::{AllocError, Global};
@@ -54,13 +54,13 @@ fn expect_alone<R: Threads + Abort + Sync>(
     expected: Bound,
 ) -> Result<(), Fail> {
     let cells = vec![in alloc; cell]?;
-    let (p, b) = problem_of(alloc, cells, floor, ceiling)?;
+    let (p, b) = problem_of(rt, alloc, cells, floor, ceiling)?;
     expect_bounds(rt, alloc, &p, &b, [expected].as_slice())
 }
 
 #[test]
 fn two_cells_have_one_pair(rt: HostRuntime) -> Result<(), Fail> {
-    let (p, b) = problem_of(rt.alloc(), two_between(rt.alloc())?, 0, TEN)?;
+    let (p, b) = problem_of(&rt, rt.alloc(), two_between(rt.alloc())?, 0, TEN)?;
     let expected = [
         bound(3_333_333_333, 3_333_333_334),
         bound(6_666_666_666, 6_666_666_667),
@@ -70,7 +70,7 @@ fn two_cells_have_one_pair(rt: HostRuntime) -> Result<(), Fail> {
 
 #[test]
 fn a_row_has_one_pair(rt: HostRuntime) -> Result<(), Fail> {
-    let (p, b) = problem_of(rt.alloc(), row_of(rt.alloc(), 200)?, 0, TEN)?;
+    let (p, b) = problem_of(&rt, rt.alloc(), row_of(rt.alloc(), 200)?, 0, TEN)?;
     let Ok(bounds) = PlainSettler::new(1_000_000).settle(rt.alloc(), &p, &b) else {
         return Err("the sweeps did not settle")?;
     };

@@ -4,9 +4,9 @@
 #[cfg(test)]
 mod agreement;
 #[cfg(test)]
-mod near;
+mod cells;
 #[cfg(test)]
-mod problems;
+mod near;
 #[cfg(test)]
 mod sweeps;
 #[cfg(test)]

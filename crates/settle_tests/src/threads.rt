@@ -4,7 +4,7 @@ ghost use Rattle.step_problem.specs.Heads.{IsBarrier};
 ghost use Rattle.step_problem.specs.Settling.{Settles};
 ghost use Rattle.settle_driver.specs.Phases.{IsPlan};
 
-use crate::problems::{bound, problem_of};
+use crate::cells::{bound, problem_of};
 use outside::{FreeGate, Gate};
 use settle_driver::{Plan, SettleBy, ThreadSettler, settle};
 use std::alloc::Global;
@@ -91,7 +91,7 @@ fn settle_by_threads<R: Threads + Sync>(
 
 #[test]
 fn one_phase_without_turns_leaves_the_first_cell_open(rt: HostRuntime) -> Result<(), Fail> {
-    let (p, b) = problem_of(rt.alloc(), two_between(rt.alloc())?, 0, TEN)?;
+    let (p, b) = problem_of(&rt, rt.alloc(), two_between(rt.alloc())?, 0, TEN)?;
     let answer = settle(&rt, rt.alloc(), &p, &b, plan(1, 0, 1), &FreeGate);
     let open = match answer {
         Err(SettleFault::Unfinished(open)) => open,
@@ -105,7 +105,7 @@ fn one_phase_without_turns_leaves_the_first_cell_open(rt: HostRuntime) -> Result
 
 #[test]
 fn phases_without_turns_settle_two_cells(rt: HostRuntime) -> Result<(), Fail> {
-    let (p, b) = problem_of(rt.alloc(), two_between(rt.alloc())?, 0, TEN)?;
+    let (p, b) = problem_of(&rt, rt.alloc(), two_between(rt.alloc())?, 0, TEN)?;
     let bounds = match settle(&rt, rt.alloc(), &p, &b, plan(1, 0, 1_000_000), &FreeGate) {
         Ok(bounds) => bounds,
         Err(_) => return Err("not settled")?,
@@ -120,7 +120,7 @@ fn phases_without_turns_settle_two_cells(rt: HostRuntime) -> Result<(), Fail> {
 
 #[test]
 fn one_phase_of_many_turns_settles_two_cells(rt: HostRuntime) -> Result<(), Fail> {
-    let (p, b) = problem_of(rt.alloc(), two_between(rt.alloc())?, 0, TEN)?;
+    let (p, b) = problem_of(&rt, rt.alloc(), two_between(rt.alloc())?, 0, TEN)?;
     let Ok(bounds) = settle(&rt, rt.alloc(), &p, &b, plan(1, 64, 1), &FreeGate) else {
         return Err("not settled")?;
     };
@@ -139,7 +139,7 @@ fn two_workers_overlap(rt: HostRuntime) -> Result<(), Fail> {
         second: AtomicU64::new(0),
         failures: AtomicU64::new(0),
     };
-    let (p, b) = problem_of(rt.alloc(), two_between(rt.alloc())?, 0, TEN)?;
+    let (p, b) = problem_of(&rt, rt.alloc(), two_between(rt.alloc())?, 0, TEN)?;
     let bounds = match settle(&rt, rt.alloc(), &p, &b, plan(2, 64, 1_000_000), &gate) {
         Ok(bounds) => bounds,
         Err(_) => return Err("not settled")?,
@@ -161,7 +161,7 @@ fn threads_settle_behind_the_trait(rt: HostRuntime) -> Result<(), Fail> {
     let mut cell = linked_cell(rt.alloc(), 1, &[])?;
     add_river(&mut cell, 2 * ONE, TEN, 8 * METRE)?;
     let cells = vec![in rt.alloc(); cell]?;
-    let (p, b) = problem_of(rt.alloc(), cells, 8 * METRE, TEN)?;
+    let (p, b) = problem_of(&rt, rt.alloc(), cells, 8 * METRE, TEN)?;
     let bounds = match settle_by_threads(&rt, rt.alloc(), &p, &b) {
         Ok(bounds) => bounds,
         Err(_) => return Err("not settled")?,

@@ -6,9 +6,7 @@ mod entries;
 mod problems;
 
 pub use cells::{linked_cell, row_of, two_between};
-pub use entries::{
-    add_drain, add_evaporation, add_head, add_recharge, add_river, add_well,
-};
+pub use entries::{add_drain, add_evaporation, add_head, add_recharge, add_river, add_well};
 pub use problems::problem_between;
 
 /// A conductance of 1 length unit to the second a time unit.
