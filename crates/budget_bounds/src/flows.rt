@@ -31,6 +31,20 @@ pub(crate) trait Entry {
         ensures flow { IsFlow result };
 }
 
+// The flow of an entry falls in the cell's head: it is least at the upper head and greatest at the lower one.
+fn pair_of<B: Branch>(x: &B, own: Bound) -> TermPair
+    requires own { AreHeads own }
+    requires fits { B.fits x.now }
+    requires conductance { B.conductance x.now < 2 ^ 60 }
+    ensures value { result ≡ record { lo = B.flow Side.Low own.high x.now; hi = B.flow Side.High own.low x.now } }
+    ensures flow { IsFlow result }
+{
+    TermPair {
+        lo: x.flow_at(Side::Low, own.high),
+        hi: x.flow_at(Side::High, own.low),
+    }
+}
+
 impl Entry for Flow {
     ghost of = { λ t x. is_term t (flow_term x.kind) };
 
@@ -62,10 +76,7 @@ impl Entry for Fixed {
     }
 
     fn pair_at(&self, own: Bound) -> TermPair {
-        TermPair {
-            lo: self.flow_at(Side::Low, own.high),
-            hi: self.flow_at(Side::High, own.low),
-        }
+        pair_of(self, own)
     }
 }
 
@@ -81,10 +92,7 @@ impl Entry for River {
     }
 
     fn pair_at(&self, own: Bound) -> TermPair {
-        TermPair {
-            lo: self.flow_at(Side::Low, own.high),
-            hi: self.flow_at(Side::High, own.low),
-        }
+        pair_of(self, own)
     }
 }
 
@@ -100,10 +108,7 @@ impl Entry for Drain {
     }
 
     fn pair_at(&self, own: Bound) -> TermPair {
-        TermPair {
-            lo: self.flow_at(Side::Low, own.high),
-            hi: self.flow_at(Side::High, own.low),
-        }
+        pair_of(self, own)
     }
 }
 
@@ -119,9 +124,6 @@ impl Entry for Evap {
     }
 
     fn pair_at(&self, own: Bound) -> TermPair {
-        TermPair {
-            lo: self.flow_at(Side::Low, own.high),
-            hi: self.flow_at(Side::High, own.low),
-        }
+        pair_of(self, own)
     }
 }
