@@ -5,11 +5,10 @@ use Rattle.decimal_input.specs.Canonical.{size}
 use Rattle.decimal_input.specs.Ratios.{Ratio, den, ratio, plus, times, over, Same, AtMost}
 use Rattle.decimal_input.proofs.Orders.{Same-trans}
 use Rattle.model_types.specs.declared.model.FlowModel.{FlowModel}
-use Rattle.model_types.specs.Cells.{row_of, column_of}
 use Rattle.model_types.specs.Layers.{delr_at, delc_at, hk_at, hani_at, thickness, dec_at}
-use Rattle.model_types.specs.Conductances.{one, two, half, in_a_row, row_conductance, column_conductance}
+use Rattle.model_types.specs.Conductances.{one, half, in_a_row, row_conductance, column_conductance}
 use Rattle.flow_equations.specs.BranchLaws.{IsSameFromBothEnds, AreAlike, IsBetweenHalves}
-use Rattle.flow_equations.proofs.Values.{IsValue, itself, value_one, value_two, value_times, value_plus, value_over, same_by, cross_by, at_most_by, size_positive}
+use Rattle.flow_equations.proofs.Values.{itself, value_one, value_two, value_times, value_plus, value_over, same_by, cross_by, at_most_by, size_positive}
 
 positive : (a b : ℕ) → 0 < a → 0 < b → 0 < a * b
 positive a b p q = grind arith
@@ -57,14 +56,14 @@ darcy_of d w k t hd hw hk ht =
     let below : 0 < den d * (((2 * w.num) * k.num) * t.num) = positive (den d) (((2 * w.num) * k.num) * t.num) (omega arith) some in
     let sum = value_plus resistance resistance in
     same_by (value_over (let r = positive (d.num * (((1 * den w) * den k) * den t)) (den d * (((2 * w.num) * k.num) * t.num)) above below in omega (arith, r)) value_one sum)
-        (value_over hd (value_times (value_times (itself k) (itself t)) (itself w)) (itself d))
-        (equal_halves d.num (den d) w.num (den w) k.num (den k) t.num (den t))
+    (value_over hd (value_times (value_times (itself k) (itself t)) (itself w)) (itself d))
+    (equal_halves d.num (den d) w.num (den w) k.num (den k) t.num (den t))
 
 pub meets_darcy : (m : FlowModel) (a b : ℕ) → AreAlike m a b → Same (row_conductance m a b) (over (times (times (size (hk_at m a)) (thickness m a)) (size (delc_at m a))) (size (delr_at m a)))
 unfolding row_conductance
 meets_darcy m a b h =
     let same : row_conductance m a b ≡ in_a_row (half (size (delr_at m a)) (size (delc_at m a)) (size (hk_at m a)) (thickness m a)) (half (size (delr_at m a)) (size (delc_at m a)) (size (hk_at m a)) (thickness m a)) =
-        λ i. in_a_row (half (size (delr_at m a)) (size (delc_at m a)) (size (hk_at m a)) (thickness m a)) (half (size (sym h.delr i)) (size (delc_at m a)) (size (sym h.hk i)) (sym h.thickness_of i)) in
+    λ i. in_a_row (half (size (delr_at m a)) (size (delc_at m a)) (size (hk_at m a)) (thickness m a)) (half (size (sym h.delr i)) (size (delc_at m a)) (size (sym h.hk i)) (sym h.thickness_of i)) in
     Same-trans (as_same same) (darcy_of (size (delr_at m a)) (size (delc_at m a)) (size (hk_at m a)) (thickness m a) (size_positive _ h.positive.0) (size_positive _ h.positive.1) (size_positive _ h.positive.2) h.positive.3)
 
 -- k t w / d where k and t are 1 and w is d
@@ -82,7 +81,7 @@ unit_branch m a b h square k t =
     let w = size (delc_at m a) in
     let value = value_over (size_positive _ h.positive.0) (value_times (value_times (itself (size (hk_at m a))) (itself (thickness m a))) (itself w)) (itself d) in
     Same-trans (meets_darcy m a b h)
-        (same_by value value_one (units _ _ _ _ _ _ _ _ (cross_by (itself (size (hk_at m a))) value_one k) (cross_by (itself (thickness m a)) value_one t) square.cross))
+    (same_by value value_one (units _ _ _ _ _ _ _ _ (cross_by (itself (size (hk_at m a))) value_one k) (cross_by (itself (thickness m a)) value_one t) square.cross))
 
 above_zero : (a x b y : ℕ) → 0 < a → 0 < y → a * y ≤ b * x → 0 < b
 above_zero a x zero y h k le = let p = positive a y h k in absurd (omega (arith, p, le))

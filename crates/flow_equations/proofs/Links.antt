@@ -1,14 +1,12 @@
 -- The links of an exact step: other variable cells, each once, and the same conductance at both ends.
-use Rattle.std.proofs.Common.{◌≡◌, ℕ, zero, suc, ◌+◌, ◌<◌, ◌≤◌, ◌⊎◌, inl, inr, Bool, true, false, List, [], ◌∷◌, length, get_or, map, refl, sym, ap, ◌∙◌, subst, arith, All}
-use Rattle.std.specs.List.{Contains, filter_map}
+use Rattle.std.proofs.Common.{◌≡◌, ℕ, zero, suc, ◌<◌, inl, inr, Bool, true, List, [], ◌∷◌, length, get_or, map, refl, sym, ap, ◌∙◌, subst, arith}
 use Rattle.decimal_input.specs.Fractions.{Fraction}
 use Rattle.decimal_input.specs.Ratios.{Same}
 use Rattle.cell_balance.specs.Steps.{ExactLink, ExactCell, cell_at, no_cell}
-use Rattle.cell_balance.specs.Links.{HasLinkBack, HasEqualEnds, AreLinked, no_link}
+use Rattle.cell_balance.specs.Links.{HasLinkBack, AreLinked, no_link}
 use Rattle.model_types.specs.declared.face.Face.{Face}
 use Rattle.model_types.specs.declared.model.FlowModel.{FlowModel}
 use Rattle.model_types.specs.Cells.{cell_count}
-use Rattle.model_types.specs.Conductances.{conductance}
 use Rattle.model_types.specs.Kinds.{is_variable, variable_below, variable_cells, index_of}
 use Rattle.model_types.specs.Sources.{variable_faces}
 use Rattle.model_types.specs.Grids.{HasSize}

@@ -1,11 +1,11 @@
 -- Time steps of a transient period: they grow by TSMULT from the manual's first one, and sum to the period.
-use Rattle.std.proofs.Common.{◌≡◌, ℕ, zero, suc, ◌+◌, ◌*◌, ◌-◌, ◌<◌, ◌≤◌, ◌⊎◌, inl, inr, Bool, true, false, cond, ◌||◌, List, [], ◌∷◌, ◌++◌, refl, sym, ap, ◌∙◌, subst, arith}
+use Rattle.std.proofs.Common.{◌≡◌, ℕ, zero, suc, ◌+◌, ◌*◌, ◌-◌, ◌<◌, ◌≤◌, Bool, true, false, cond, ◌||◌, List, [], ◌∷◌, ◌++◌, refl, sym, ap, ◌∙◌, subst, arith}
 use Rattle.std.specs.Prelude.{◌==◌}
 use Rattle.std.specs.List.{range_with_len}
-use Rattle.std.proofs.lemmas.Bool.{cases_Bool, cond-true, cond-false, eqb-true, ne_eqb}
+use Rattle.std.proofs.lemmas.Bool.{eqb-true, ne_eqb}
 use Rattle.decimal_input.specs.Canonical.{size}
 use Rattle.decimal_input.specs.Ratios.{Ratio, den, ratio, plus, times, over, Same}
-use Rattle.decimal_input.proofs.Orders.{Same-trans, Same-sym, Same-AtMost, Same-back, plus-AtMost, times-AtMost, over-AtMost}
+use Rattle.decimal_input.proofs.Orders.{Same-trans}
 use Rattle.model_types.specs.declared.model.FlowModel.{FlowModel}
 use Rattle.model_types.specs.declared.period.Period.{Period}
 use Rattle.model_types.specs.Conductances.{one}
@@ -13,7 +13,7 @@ use Rattle.model_types.specs.Times.{power, geometric, step_length, multiplier, p
 use Rattle.model_types.specs.Storage.{storage, storage_capacity}
 use Rattle.model_types.proofs.Ranks.{range_more}
 use Rattle.flow_equations.specs.TimeLaws.{ratio_total, Lasts, HasManualSteps}
-use Rattle.flow_equations.proofs.Values.{IsValue, itself, value_one, value_times, value_plus, value_over, same_by, cross_by, size_positive}
+use Rattle.flow_equations.proofs.Values.{IsValue, itself, value_one, value_times, value_plus, value_over, same_by, size_positive}
 
 positive : (a b : ℕ) → 0 < a → 0 < b → 0 < a * b
 positive a b p q = grind arith
@@ -79,7 +79,7 @@ grouped g x t y p z = omega arith
 regroup : (g t p : Ratio) → Same (plus (plus (times g t) one) (times p t)) (plus (times (plus g p) t) one)
 regroup g t p =
     same_by (value_plus (value_plus (value_times (itself g) (itself t)) value_one) (value_times (itself p) (itself t))) (value_plus (value_times (value_plus (itself g) (itself p)) (itself t)) value_one)
-        (grouped g.num (den g) t.num (den t) p.num (den p))
+    (grouped g.num (den g) t.num (den t) p.num (den p))
 
 horner : (t : Ratio) (n : ℕ) → Same (plus (geometric t n) (power t n)) (plus (times (geometric t n) t) one)
 unfolding geometric power
@@ -225,7 +225,7 @@ module _ (p : Period) (h : Lasts p) where
   part_is n false e =
       let transient : multiplier p ≡ T = ap (λ s. cond s one T) h.transient in
       let some : passed p n ≡ over (G n) (G p.nstp) =
-          (λ i. cond (e i || lasts i) one (over (geometric (transient i) n) (geometric (transient i) p.nstp))) in
+      (λ i. cond (e i || lasts i) one (over (geometric (transient i) n) (geometric (transient i) p.nstp))) in
       Same-trans (as_part P (G p.nstp) whole_sum (G n)) (as_same (ap (λ f. times f P) (sym some)))
 
   pub manual_steps : HasManualSteps p

@@ -1,5 +1,5 @@
 -- What the terms of fractions come to, as a numerator and a denominator, so that an equation of two terms is one of products.
-use Rattle.std.proofs.Common.{◌≡◌, ℕ, suc, ◌+◌, ◌*◌, ◌<◌, ◌≤◌, refl, sym, ap, ◌∙◌, arith}
+use Rattle.std.proofs.Common.{◌≡◌, ℕ, ◌+◌, ◌*◌, ◌<◌, ◌≤◌, refl, sym, ◌∙◌, arith}
 use Rattle.decimal_input.specs.Ratios.{Ratio, den, ratio, plus, times, over, Same, AtMost}
 use Rattle.decimal_input.proofs.Orders.{num_times, den_times, num_plus, den_plus, num_over, den_over}
 use Rattle.decimal_input.specs.declared.dec.Dec.{Dec}

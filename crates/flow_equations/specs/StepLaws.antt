@@ -1,5 +1,5 @@
 -- What the exact equations of a step owe to the manual.
-use Rattle.std.specs.Prelude.{◌≡◌, ℕ, length, map}
+use Rattle.std.specs.Prelude.{◌≡◌, ℕ, map}
 use Rattle.decimal_input.specs.Fractions.{Fraction}
 use Rattle.model_types.specs.declared.model.FlowModel.{FlowModel}
 use Rattle.model_types.specs.Grids.{HasSize}

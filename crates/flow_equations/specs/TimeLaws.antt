@@ -1,5 +1,5 @@
 -- What time steps owe to the manual (TM 6-A16, chapters 2 and 4).
-use Rattle.std.specs.Prelude.{◌≡◌, ℕ, ◌+◌, ◌<◌, ◌≤◌, true, false, List, [], ◌∷◌, pos}
+use Rattle.std.specs.Prelude.{◌≡◌, ℕ, ◌+◌, ◌≤◌, false, List, [], ◌∷◌}
 use Rattle.std.specs.List.{range_with_len}
 use Rattle.decimal_input.specs.Canonical.{size}
 use Rattle.decimal_input.specs.Ratios.{Ratio, ratio, plus, times, over, Same}
@@ -7,7 +7,7 @@ use Rattle.model_types.specs.declared.model.FlowModel.{FlowModel}
 use Rattle.model_types.specs.declared.period.Period.{Period}
 use Rattle.model_types.specs.Numbers.{IsPositive}
 use Rattle.model_types.specs.Conductances.{one}
-use Rattle.model_types.specs.Times.{power, geometric, step_length, passed}
+use Rattle.model_types.specs.Times.{power, step_length, passed}
 use Rattle.model_types.specs.Storage.{storage, storage_capacity}
 
 -- the sum of f over a list

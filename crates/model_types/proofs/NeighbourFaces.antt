@@ -1,18 +1,17 @@
 -- The neighbours of a cell by its place, and by the faces along the three axes.
-use Rattle.std.proofs.Common.{◌≡◌, ℕ, zero, suc, ◌+◌, ◌*◌, ◌-◌, ◌/◌, ◌%◌, ◌<◌, ◌≤◌, inl, inr, Bool, true, false, cond, Option, Some, None, List, [], ◌∷◌, map, refl, sym, ap, ◌∙◌, subst, arith}
+use Rattle.std.proofs.Common.{◌≡◌, ℕ, zero, suc, ◌+◌, ◌*◌, ◌-◌, ◌%◌, ◌<◌, ◌≤◌, inl, inr, Bool, true, false, cond, Option, Some, None, [], ◌∷◌, map, refl, sym, ap, ◌∙◌, arith}
 use Rattle.std.specs.Prelude.{nat_le, nat_lt}
 use Rattle.std.specs.Option.{option_map}
-use Rattle.std.proofs.lemmas.Bool.{leb-true, leb-false, le-leb, lt-leb, cases_Bool}
-use Rattle.std.proofs.lemmas.Nat.{div-add-mod', mod-mul-add, mul-add-lt, mod_below, row_fits}
+use Rattle.std.proofs.lemmas.Bool.{leb-true, leb-false, le-leb, cases_Bool}
+use Rattle.std.proofs.lemmas.Nat.{div-add-mod', mod-mul-add, mod_below}
 use Rattle.std.proofs.Math.Nat.{mul-le-mul_right}
 use Rattle.model_types.specs.declared.grid.Grid.{Grid}
 use Rattle.model_types.specs.declared.face.Face.{Face}
-use Rattle.model_types.specs.declared.face.Axis.{Axis}
 use Rattle.model_types.specs.declared.face.Axis.TheVariants.{Row, Column, Vertical}
-use Rattle.model_types.specs.Cells.{layer_size, cell_count, cell_number, layer_of, row_of, column_of, place_in_layer, left, right, back, front, up, down}
-use Rattle.model_types.specs.Faces.{stride, span, has_before, has_after, face_before, face_after}
+use Rattle.model_types.specs.Cells.{layer_size, cell_count, layer_of, row_of, column_of, left, right, back, front, up, down}
+use Rattle.model_types.specs.Faces.{has_before, has_after, face_before, face_after}
 use Rattle.model_types.specs.Grids.{HasSize}
-use Rattle.model_types.proofs.Numbering.{size_some, in_layer, place_below, row_below, column_below, layer_below, place_gives}
+use Rattle.model_types.proofs.Numbering.{size_some, in_layer, place_below, row_below, column_below, place_gives}
 
 -- the end of an optional face
 abbrev pub end_of : Option Face → Option ℕ

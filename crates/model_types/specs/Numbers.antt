@@ -1,5 +1,5 @@
 -- What the readers test of single numbers of the input. Limits are this program's own.
-use Rattle.std.specs.Prelude.{◌≡◌, ℕ, ◌^◌, ◌<◌, ℤ, pos, neg_ℤ, ◌+ℤ◌, ◌≤ℤ◌, false, unsigned_abs}
+use Rattle.std.specs.Prelude.{◌≡◌, ◌^◌, ◌<◌, ℤ, pos, neg_ℤ, ◌+ℤ◌, ◌≤ℤ◌, false, unsigned_abs}
 use Rattle.decimal_input.specs.declared.dec.Dec.{Dec}
 use Rattle.decimal_input.specs.Canonical.{IsDec, number}
 use Rattle.decimal_input.specs.Enclosures.{EnclosesSigned}

@@ -1,5 +1,5 @@
 -- Stress periods and time steps (TM 6-A16, chapter 2). Periods and steps are counted from 1. With T for TSMULT each step of a transient period is T times as long as the one before, and G(n) = 1 + T + .. + T^(n-1).
-use Rattle.std.specs.Prelude.{ℕ, zero, suc, ◌-◌, pos, Bool, true, cond, ◌||◌, ◌==◌, List, [], ◌++◌, map, length, slice_index_or}
+use Rattle.std.specs.Prelude.{ℕ, zero, suc, ◌-◌, true, cond, ◌||◌, ◌==◌, List, [], ◌++◌, map, length, slice_index_or}
 use Rattle.std.specs.List.{range_with_len, flat_map}
 use Rattle.decimal_input.specs.Canonical.{size}
 use Rattle.decimal_input.specs.Ratios.{Ratio, ratio, plus, times as product, over}

@@ -1,4 +1,3 @@
-use Rattle.std.proofs.Common.{◌≡◌, ◌∙◌}
 use Rattle.model_types.proofs.LastGiven.{given_among}
 use Rattle.model_types.proofs.kind.is_given.Goals as goal
 

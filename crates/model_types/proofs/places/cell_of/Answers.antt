@@ -1,4 +1,4 @@
-use Rattle.std.proofs.Common.{◌≡◌, ◌-◌, ◌<◌, arith}
+use Rattle.std.proofs.Common.{◌-◌, arith}
 use Rattle.model_types.proofs.Numbering.{cell_within, cell_leads_back}
 use Rattle.model_types.proofs.places.cell_of.Goals as goal
 

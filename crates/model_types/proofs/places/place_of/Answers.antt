@@ -1,4 +1,3 @@
-use Rattle.std.proofs.Common.{◌≡◌}
 use Rattle.model_types.proofs.Numbering.{place_gives}
 use Rattle.model_types.proofs.places.place_of.Goals as goal
 

@@ -1,5 +1,4 @@
-use Rattle.std.proofs.Common.{◌≡◌, ◌+◌, ◌++◌, [], ◌∷◌, map, ap, sym, ◌∙◌, arith}
-use Rattle.std.specs.List.{range_with_len}
+use Rattle.std.proofs.Common.{◌∙◌}
 use Rattle.model_types.proofs.StepLists.{step_pushed}
 use Rattle.model_types.proofs.time_steps.push_steps.Goals as goal
 

@@ -1,4 +1,4 @@
-use Rattle.std.proofs.Common.{◌≡◌, length, refl, ap, ◌∙◌, arith}
+use Rattle.std.proofs.Common.{length, refl, ap, ◌∙◌, arith}
 use Rattle.model_types.specs.Times.{times, steps_of}
 use Rattle.std.specs.List.{range_with_len, flat_map}
 use Rattle.model_types.proofs.StepLists.{steps_more, whole_count}

@@ -1,13 +1,7 @@
-use Rattle.std.proofs.Common.{◌≡◌, ◌++◌, ◌+◌, ◌<◌, List, [], ◌∷◌, Some, None, get_or, take, set, length, refl, ap, sym, ◌∙◌, subst, arith, All, ℕ}
-use Rattle.std.specs.List.{flat_map}
-use Rattle.std.proofs.lemmas.List.{append-nil, append_assoc, take_more, take_all, get_or_read, flat_map_more}
-use Rattle.std.proofs.lemmas.List.Elements.{All-get_or}
-use Rattle.model_types.specs.declared.entry.Given.{Given}
-use Rattle.model_types.specs.declared.period.Period.{Period}
-use Rattle.model_types.specs.declared.model.FlowModel.{FlowModel}
+use Rattle.std.proofs.Common.{◌++◌, ◌+◌, ◌<◌, refl, ap, sym, ◌∙◌, subst, arith, All}
+use Rattle.std.proofs.lemmas.List.{append-nil, take_all}
 use Rattle.model_types.specs.Cells.{cell_count}
-use Rattle.model_types.specs.Times.{period_at, no_period}
-use Rattle.model_types.proofs.GivenTables.{table, table_more, last_is, heads_are, length_is, lists_before, period_list, lists_more, names_within, table_step}
+use Rattle.model_types.proofs.GivenTables.{table, last_is, heads_are, length_is, lists_before, period_list, lists_more, names_within, table_step}
 use Rattle.model_types.proofs.given_heads.GivenHeads.advance.Goals as goal
 
 pub loop-x-init : goal.loop-x-init

@@ -1,4 +1,4 @@
-use Rattle.std.proofs.Common.{◌≡◌, None, is_some, get_or, ap, sym, ◌∙◌, arith}
+use Rattle.std.proofs.Common.{None, is_some, get_or, ap, ◌∙◌, arith}
 use Rattle.model_types.specs.Cells.{cell_count}
 use Rattle.model_types.proofs.GivenTables.{last_is, length_is, lists_before, table_at}
 use Rattle.model_types.proofs.given_heads.GivenHeads.kind.Goals as goal

@@ -1,4 +1,3 @@
-use Rattle.std.proofs.Common.{◌≡◌, ◌∙◌}
 use Rattle.model_types.proofs.Leads.{within_of}
 use Rattle.model_types.proofs.NeighbourFaces.{ends_are}
 use Rattle.model_types.proofs.grid.Grid.faces.Goals as goal

@@ -1,0 +1,48 @@
+-- Two cells that nothing holds: no flow between equal heads.
+use Rattle.std.proofs.Common.{◌≡◌, ℕ, zero, suc, ◌<◌, true, ℤ, pos, ◌+ℤ◌, ◌*ℤ◌, [], ◌∷◌, refl, ap, ◌∙◌, arith}
+use Rattle.std.proofs.lemmas.Bool.{false≢true}
+use Rattle.std.proofs.Math.IntN.{+ℤ_invr}
+use Rattle.decimal_input.specs.Ratios.{Ratio}
+use Rattle.decimal_input.proofs.Signs.{neg_times}
+use Rattle.decimal_input.specs.Fractions.{Fraction, den, signed, plus, times, IsOver}
+use Rattle.model_types.specs.Times.{times as all_times}
+use Rattle.model_types.specs.Kinds.{given_in, variable_below, is_constant}
+use Rattle.model_types.specs.Heads.{constant_head, start_head}
+use Rattle.model_types.specs.Conductances.{row_conductance}
+use Rattle.model_types.specs.Sources.{entries_of}
+use Rattle.cell_balance.specs.Balance.{minus}
+use Rattle.cell_balance.specs.Solutions.{share, SolvesStep}
+use Rattle.flow_equations.specs.ExactStep.{exact_step}
+use Rattle.flow_equations.specs.Histories.{Solves, variable_heads}
+use Rattle.flow_equations.specs.Worked.{two_cells}
+
+nothing_times : (n : ℕ) → pos 0 *ℤ pos n ≡ pos 0
+nothing_times n = ap pos (omega arith)
+
+times_nothing : (n : ℕ) → pos n *ℤ pos 0 ≡ pos 0
+times_nothing n = ap pos (omega arith)
+
+no_sum : (f g : Fraction) → f.num ≡ pos 0 → g.num ≡ pos 0 → (plus f g).num ≡ pos 0
+no_sum f g p q = (λ i. p i *ℤ pos (den g) +ℤ q i *ℤ pos (den f)) ∙ (λ i. nothing_times (den g) i +ℤ nothing_times (den f) i)
+
+no_difference : (f : Fraction) → (minus f f).num ≡ pos 0
+no_difference f = ap (λ k. f.num *ℤ pos (den f) +ℤ k) (neg_times f.num (pos (den f))) ∙ +ℤ_invr (f.num *ℤ pos (den f))
+
+no_flow : (c : Ratio) (f : Fraction) → (times (signed c) (minus f f)).num ≡ pos 0
+no_flow c f = ap (λ k. pos c.num *ℤ k) (no_difference f) ∙ times_nothing c.num
+
+loose_constant : (d c : ℕ) (z : ℤ) → c < 2 → is_constant two_cells 1 c ≡ true → IsOver d (constant_head two_cells 1 1 c) z
+unfolding given_in
+loose_constant d zero z lt is = absurd (false≢true is)
+loose_constant d (suc zero) z lt is = absurd (false≢true is)
+loose_constant d (suc (suc c)) z lt is = absurd (omega (arith, lt))
+
+loose_balances : (d : ℕ) (z : ℤ) → SolvesStep (exact_step two_cells 1 1 (start_head two_cells)) d (variable_heads (exact_step two_cells 1 1 (start_head two_cells)) (λ c. z))
+unfolding variable_below given_in entries_of
+loose_balances d z zero lt = no_sum _ _ refl (no_sum _ _ (no_sum _ _ (no_flow (row_conductance two_cells 0 1) (share d z)) refl) refl)
+loose_balances d z (suc zero) lt = no_sum _ _ refl (no_sum _ _ (no_sum _ _ (no_flow (row_conductance two_cells 0 1) (share d z)) refl) refl)
+loose_balances d z (suc (suc c)) lt = absurd (omega (arith, lt))
+
+pub loose_solved : (d : ℕ) (z : ℤ) → 0 < d → Solves two_cells d ((λ c. z) ∷ [])
+unfolding all_times
+loose_solved d z some = record { some = some; steps = (record { constant = (λ c lt is. loose_constant d c z lt is); balances = loose_balances d z }, tt) }
