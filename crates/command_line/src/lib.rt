@@ -4,7 +4,5 @@
 mod commands;
 mod numbers;
 mod orders;
-mod usage;
 
 pub use orders::{Order, WordsFault, read_order};
-pub use usage::USAGE;

@@ -1,0 +1,3 @@
+mod Grouped
+pub mod Makes
+pub mod Pieces

@@ -1,0 +1,5 @@
+pub mod Statuses
+pub mod Lines
+pub mod Tails
+pub mod Runs
+pub mod Ends

@@ -1,0 +1,41 @@
+ghost use Rattle.std.specs.Prelude.{◌≡◌, List, ◌++◌};
+ghost use Rattle.outside.specs.Puts.{Put};
+ghost use Rattle.run_puts.specs.Ends.{IsLast, IsPut, IsWanting};
+
+use crate::status::Status;
+use outside::{Sink, SinkError};
+
+/// Puts the line MEMORY, once, and ends the run.
+pub fn put_memory<K: Sink>(out: &mut K) -> Status
+    ensures { (start : _) (puts : List Put) → K.leads start puts out.old →
+        (more : List Put) × K.leads start (puts ++ more) out.new × IsWanting result more }
+{
+    match out.put(b"MEMORY\n") {
+        Err(SinkError::Write) => Status::WriteFault,
+        Err(SinkError::Memory) => Status::Memory,
+        Ok(()) => Status::Memory,
+    }
+}
+
+/// Puts a piece. A status ends the run.
+pub fn put_piece<K: Sink>(out: &mut K, piece: &[u8]) -> Option<Status>
+    ensures { (start : _) (puts : List Put) → K.leads start puts out.old →
+        (more : List Put) × K.leads start (puts ++ more) out.new × IsPut piece.now result more }
+{
+    match out.put(piece) {
+        Ok(()) => None,
+        Err(SinkError::Write) => Some(Status::WriteFault),
+        Err(SinkError::Memory) => Some(put_memory(out)),
+    }
+}
+
+/// Puts the last line of a run, which then ends as it is meant to.
+pub fn put_last<K: Sink>(out: &mut K, line: &[u8], meant: Status) -> Status
+    ensures { (start : _) (puts : List Put) → K.leads start puts out.old →
+        (more : List Put) × K.leads start (puts ++ more) out.new × IsLast line.now meant result more }
+{
+    match put_piece(out, line) {
+        None => meant,
+        Some(other) => other,
+    }
+}
