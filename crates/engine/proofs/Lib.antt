@@ -4,7 +4,6 @@ pub mod CellLemmas
 pub mod NameLemmas
 pub mod RowLemmas
 pub mod RefusalLemmas
-pub mod Tails
 pub mod TextLemmas
 pub mod RowPositions
 pub mod Pairs
@@ -15,7 +14,6 @@ pub mod Ends
 pub mod Listings
 pub mod Settled
 pub mod Unique
-pub mod Makes
 pub mod Outcomes
 pub mod RowEnclosed
 pub mod RowHeld

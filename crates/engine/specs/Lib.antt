@@ -10,6 +10,6 @@ pub mod RowExample
 pub mod RowSteps
 pub mod Fixed
 pub mod Listing
-pub mod Statuses
+pub mod Cases
 pub mod Runs
 pub mod Parts

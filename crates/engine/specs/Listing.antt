@@ -3,10 +3,8 @@ use Rattle.std.specs.Prelude.{ℕ, ◌+◌, List, [], ◌∷◌, ◌++◌, codes
 use Rattle.outside.specs.declared.refusals.Refusal.{Refusal}
 use Rattle.outside.specs.Codes.{code_row}
 use Rattle.step_problem.specs.declared.heads.Bound.{Bound}
+use Rattle.run_puts.specs.Lines.{Text, end_line}
 use Rattle.engine.specs.Fixed.{fixed_text}
-
-abbrev pub Text : Type 0
-Text = List ℕ
 
 -- the first line: the listing's version, the digits of conductances, the length unit of the grid
 abbrev pub first_line : Text
@@ -25,20 +23,8 @@ head_lines column (head ∷ heads) = head_line column head ++ head_lines (column
 abbrev pub step_text : List Bound → Text
 step_text heads = codes "STEP 1 1\n" ++ head_lines 1 heads
 
-abbrev pub end_line : Text
-end_line = codes "END\n"
-
 abbrev pub unfinished_line : Text
 unfinished_line = codes "UNFINISHED 1 1\n"
-
-abbrev pub read_fault_line : Text
-read_fault_line = codes "READFAULT\n"
-
-abbrev pub memory_line : Text
-memory_line = codes "MEMORY\n"
-
-abbrev pub usage_line : Text
-usage_line = codes "USAGE: heads run NAME [--digits S] [--workers W] [--rounds P] [--zones Z] [--watch N] | heads check NAME LISTING [--digits S] | heads make SEED SIZE | heads batch LIST [--digits S] [--workers W] [--rounds P]\n"
 
 -- numbers, each behind a blank
 abbrev pub numbers_text : List ℕ → Text

@@ -30,10 +30,6 @@ pub record IsStep (cells : List RowCell) (heads : List Bound) : Type 0 where
   pub settled : AreSettled (row_problem cells) (constant_barrier (row_problem cells)) bounds
   pub whole : heads ≡ cell_heads cells bounds
 
--- how many plain rounds a step is given
-unfoldable pub given_rounds : ℕ
-given_rounds = 1000000
-
 -- so many plain rounds settle it
 abbrev pub SettlesIn : ℕ → List RowCell → Type 0
 SettlesIn rounds cells = RoundsSettleBoth (row_problem cells) (constant_barrier (row_problem cells)) rounds

@@ -8,8 +8,6 @@ mod names;
 mod numbers;
 mod reading;
 mod row;
-#[cfg(test)]
-mod tests;
 mod values;
 mod words;
 

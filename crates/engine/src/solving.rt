@@ -4,7 +4,7 @@ ghost use Rattle.settle_driver.specs.Phases.{IsPlan};
 ghost use Rattle.engine.specs.RowDeck.{IsRow};
 ghost use Rattle.engine.specs.Rows.{constant_head};
 ghost use Rattle.engine.specs.RowProblems.{constant_barrier, row_problem};
-ghost use Rattle.engine.specs.RowSteps.{cell_heads, exactly, first_bound, given_rounds, other_bounds};
+ghost use Rattle.engine.specs.RowSteps.{cell_heads, exactly, first_bound, other_bounds};
 ghost use Rattle.engine.specs.Parts.{FailsBy, IsStepText};
 
 use crate::deck::RowCell;
@@ -16,20 +16,6 @@ use settle_driver::{Plan, settle};
 use std::alloc::{AllocError, Global};
 use std::thread::Threads;
 use step_problem::{Bound, SettleFault};
-
-/// How a step is settled where the words don't say: by four workers, with 64 turns for each cell in a phase,
-/// and a million rounds.
-#[tactic(auto, unfolding(crate::specs::RowSteps::given_rounds))]
-pub(crate) fn given_plan() -> Plan
-    ensures fits { IsPlan result }
-    ensures rounds { result.rounds ≡ given_rounds }
-{
-    Plan {
-        workers: 4,
-        turns_per_cell: 64,
-        rounds: 1_000_000,
-    }
-}
 
 /// Why a step has no heads.
 #[derive(Clone, Copy, Debug, PartialEq, Eq)]

@@ -1,39 +1,51 @@
-use Rattle.std.proofs.Common.{rules, ◌≡◌, ℕ, List, map, Ok, Err, Some, None, subst}
+use Rattle.std.proofs.Common.{◌≡◌, ℕ, List, map, Ok, Err, Some, None, ap, subst}
 use Rattle.engine.specs.declared.deck.row.RowCell.{RowCell}
-use Rattle.engine.specs.Parts.{IsRunOf}
-use Rattle.engine.specs.Runs.{name_of}
-use Rattle.engine.specs.RowSteps.{given_rounds}
-use Rattle.engine.proofs.Ends.{ends_usage, ends_reading, ends_row, fits, no_words}
+use Rattle.engine.specs.Cases.{Asked, Row, asked_in}
+use Rattle.engine.specs.Runs.{IsRunOf}
+use Rattle.engine.proofs.Ends.{asked_by, asked_none, ends_usage, ends_reading, ends_row, ends_without_words, fits, no_words}
 use Rattle.engine.proofs.running.answer.Goals as goal
+
+pub returns-in-Err-Usage-clause-answers : goal.returns-in-Err-Usage-clause-answers
+returns-in-Err-Usage-clause-answers g c = λ start puts h.
+    let m = c.put_last.ensures start puts h in
+    let words : List (List ℕ) = map (λ w. w.now) c.args.words.now in
+    let none : asked_in words ≡ None = asked_none words (c.in-Err-Usage.ensures.usage (ap Err c.in-Err-Usage.field-0-is)) in
+    (m.0, m.1, ends_usage words (g.F.Folder.files c.args.folder.now) (g.F.Folder.faults c.args.folder.now) _ c.put_last.result m.0 (no_words words (g.F.Folder.files c.args.folder.now) none) m.2)
+
+pub returns-in-Err-Memory-clause-answers : goal.returns-in-Err-Memory-clause-answers
+returns-in-Err-Memory-clause-answers g c = λ start puts h.
+    let m = c.put_memory.ensures start puts h in
+    let words : List (List ℕ) = map (λ w. w.now) c.args.words.now in
+    (m.0, m.1, ends_without_words words (g.F.Folder.files c.args.folder.now) (g.F.Folder.faults c.args.folder.now) _ c.put_memory.result m.0 m.2)
 
 pub returns-in_default-clause-answers : goal.returns-in_default-clause-answers
 returns-in_default-clause-answers g c = λ start puts h.
-    let m = c.put_last.ensures start puts h in
+    let m = c.put_last-in_default.ensures start puts h in
     let words : List (List ℕ) = map (λ w. w.now) c.args.words.now in
-    let none : name_of words ≡ None = search rules in
-    (m.0, m.1, ends_usage given_rounds words (g.F.Folder.files c.args.folder.now) (g.F.Folder.faults c.args.folder.now) c.put_last.result m.0 none (no_words words (g.F.Folder.files c.args.folder.now) none) m.2)
+    let none : asked_in words ≡ None = asked_by words _ None c.in-Ok.ensures.order c.in_default.ensures.is in
+    (m.0, m.1, ends_usage words (g.F.Folder.files c.args.folder.now) (g.F.Folder.faults c.args.folder.now) _ c.put_last-in_default.result m.0 (no_words words (g.F.Folder.files c.args.folder.now) none) m.2)
 
-pub returns-in-Ok-clause-answers : goal.returns-in-Ok-clause-answers
-returns-in-Ok-clause-answers g c = λ start puts h.
+pub returns-in-Ok-read_row_deck-clause-answers : goal.returns-in-Ok-read_row_deck-clause-answers
+returns-in-Ok-read_row_deck-clause-answers g c = λ start puts h.
     let m = c.put_listing.ensures start puts h in
     let words : List (List ℕ) = map (λ w. w.now) c.args.words.now in
-    let named : name_of words ≡ Some c.in-Some.name.now = search rules in
-    let P : ℕ → Type 0 = λ rounds. IsRunOf rounds c.cells.result.now c.put_listing.result m.0 in
-    let Q : List RowCell → Type 0 = λ cells. IsRunOf given_rounds cells c.put_listing.result m.0 in
-    let run = subst Q c.cells.ensures (subst P c.given_plan.ensures.rounds m.2) in (
+    let asked : Asked = record { name = c.in-Some.asked.name.now; rounds = c.in-Some.asked.plan.rounds } in
+    let named : asked_in words ≡ Some asked = asked_by words _ (Some asked) c.in-Ok.ensures.order c.in-Some.ensures.is in
+    let Q : List RowCell → Type 0 = λ cells. IsRunOf ⊥ (Row asked.rounds cells) c.put_listing.result m.0 in (
       m.0,
       m.1,
-      ends_row given_rounds words (g.F.Folder.files c.args.folder.now) (g.F.Folder.faults c.args.folder.now) _ c.in-Ok.deck c.put_listing.result m.0
-          (fits given_rounds words c.in-Some.name.now named (g.F.Folder.files c.args.folder.now) (Ok c.in-Ok.deck) c.in-Ok.ensures.reads (c.in-Ok.ensures.good_name, c.in-Ok.ensures.row)) run,
+      ends_row words (g.F.Folder.files c.args.folder.now) (g.F.Folder.faults c.args.folder.now) _ asked.rounds c.in-Ok-read_row_deck.deck c.put_listing.result m.0
+          (fits words asked named (g.F.Folder.files c.args.folder.now) (Ok c.in-Ok-read_row_deck.deck) c.in-Ok-read_row_deck.ensures.reads (c.in-Ok-read_row_deck.ensures.good_name, c.in-Ok-read_row_deck.ensures.row)) (subst Q c.cells.ensures m.2),
     )
 
 pub returns-in-Err-clause-answers : goal.returns-in-Err-clause-answers
 returns-in-Err-clause-answers g c = λ start puts h.
     let m = c.end_reading.ensures start puts h in
     let words : List (List ℕ) = map (λ w. w.now) c.args.words.now in
-    let named : name_of words ≡ Some c.in-Some.name.now = search rules in (
+    let asked : Asked = record { name = c.in-Some.asked.name.now; rounds = c.in-Some.asked.plan.rounds } in
+    let named : asked_in words ≡ Some asked = asked_by words _ (Some asked) c.in-Ok.ensures.order c.in-Some.ensures.is in (
       m.0,
       m.1,
-      ends_reading given_rounds words (g.F.Folder.files c.args.folder.now) (g.F.Folder.faults c.args.folder.now) _ c.in-Err.fault c.end_reading.result m.0
-          (fits given_rounds words c.in-Some.name.now named (g.F.Folder.files c.args.folder.now) (Err c.in-Err.fault) c.in-Err.ensures.reads c.in-Err.ensures.faults) c.in-Err.ensures.counts m.2,
+      ends_reading words (g.F.Folder.files c.args.folder.now) (g.F.Folder.faults c.args.folder.now) _ asked.rounds c.in-Err.fault c.end_reading.result m.0
+          (fits words asked named (g.F.Folder.files c.args.folder.now) (Err c.in-Err.fault) c.in-Err.ensures.reads c.in-Err.ensures.faults) c.in-Err.ensures.counts m.2,
     )

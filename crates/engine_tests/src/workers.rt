@@ -1,9 +1,7 @@
 // A row has one listing, whatever the number of workers that settle it.
-use super::{FOUR_CELLS, four_cells, three_cells};
-use crate::running::put_listing;
-use crate::{RowDeck, Status, read_row_deck};
+use crate::rows::{FOUR_CELLS, four_cells, three_cells};
+use engine::{Status, run};
 use outside::{FreeGate, MemFolder, MemSink};
-use settle_driver::Plan;
 use std::alloc::{AllocError, Global};
 use std::process::Abort;
 use std::test::Fail;
@@ -34,30 +32,30 @@ fn two_hundred_cells(alloc: Global) -> Result<MemFolder, AllocError> {
 fn listing_by<R: Threads + Abort + Sync>(
     rt: &R,
     alloc: Global,
-    workers: u32,
+    workers: &str,
     mut folder: MemFolder,
-) -> Result<MemSink, Fail> {
-    let plan = Plan {
-        workers,
-        turns_per_cell: 64,
-        rounds: 1_000_000,
-    };
+) -> MemSink {
+    let words = ["heads", "run", "a.nam", "--workers", workers];
     let mut out = MemSink::new(alloc);
-    let deck: Result<RowDeck, _> = read_row_deck(alloc, &mut folder, "a.nam");
-    if let Ok(deck) = deck
-        && plan.fits()
-    {
-        let status = put_listing(rt, alloc, plan, deck.cells(), &mut out, &FreeGate);
-        assert_eq!(rt; status, Status::Ok);
-    }
-    Ok(out)
+    let mut side = MemSink::new(alloc);
+    let status = run(
+        rt,
+        alloc,
+        &words,
+        &mut folder,
+        &mut out,
+        &mut side,
+        &FreeGate,
+    );
+    assert_eq!(rt; status, Status::Ok);
+    out
 }
 
 #[test]
 fn two_cells_have_one_listing(rt: HostRuntime) -> Result<(), Fail> {
     let alloc = rt.alloc();
-    for workers in [1, 4, 64] {
-        let listing = listing_by(&rt, alloc, workers, four_cells(alloc)?)?;
+    for workers in ["1", "4", "64"] {
+        let listing = listing_by(&rt, alloc, workers, four_cells(alloc)?);
         assert_eq!(rt; listing.bytes(), FOUR_CELLS);
     }
     Ok(())
@@ -66,10 +64,10 @@ fn two_cells_have_one_listing(rt: HostRuntime) -> Result<(), Fail> {
 #[test]
 fn two_hundred_cells_have_one_listing(rt: HostRuntime) -> Result<(), Fail> {
     let alloc = rt.alloc();
-    let listing = listing_by(&rt, alloc, 1, two_hundred_cells(alloc)?)?;
+    let listing = listing_by(&rt, alloc, "1", two_hundred_cells(alloc)?);
     assert!(rt; listing.bytes().ends_with(b"END\n"));
-    for workers in [4, 64] {
-        let other = listing_by(&rt, alloc, workers, two_hundred_cells(alloc)?)?;
+    for workers in ["4", "64"] {
+        let other = listing_by(&rt, alloc, workers, two_hundred_cells(alloc)?);
         assert_eq!(rt; other.bytes(), listing.bytes());
     }
     Ok(())

@@ -1,4 +1,5 @@
-use crate::deck::{RowCell, read_row_deck};
+// Files of row decks, and what they read as.
+use engine::{RowCell, read_row_deck};
 use outside::{Code, InputFault, MemFolder, file_refusal};
 use std::alloc::{AllocError, Global};
 use std::test::Fail;

@@ -1,0 +1,41 @@
+ghost use Rattle.std.specs.Prelude.{List, ◌++◌};
+ghost use Rattle.outside.specs.Puts.{Put};
+ghost use Rattle.engine.specs.Parts.{IsReadingEnd, IsStepEnd};
+
+use crate::solving::StepFault;
+use crate::texts::write_refused;
+use outside::{InputFault, Sink};
+use run_puts::{Status, put_last, put_memory};
+use std::alloc::Global;
+
+/// Ends where no row was read.
+pub(crate) fn end_reading<K: Sink>(alloc: Global, fault: InputFault, out: &mut K) -> Status
+    ensures { (start : _) (puts : List Put) → K.leads start puts out.old →
+        (more : List Put) × K.leads start (puts ++ more) out.new × IsReadingEnd fault result more }
+{
+    match fault {
+        InputFault::Memory => put_memory(out),
+        InputFault::ReadFault => put_last(out, b"READFAULT\n", Status::ReadFault),
+        InputFault::Refused(refusal) => match write_refused(alloc, &refusal) {
+            Ok(line) => put_last(out, line.as_slice(), Status::Refused(refusal)),
+            Err(_) => put_memory(out),
+        },
+    }
+}
+
+/// Ends at a step that has this fault.
+pub(crate) fn end_at_step<K: Sink>(fault: StepFault, out: &mut K) -> Status
+    ensures { (start : _) (puts : List Put) → K.leads start puts out.old →
+        (more : List Put) × K.leads start (puts ++ more) out.new × IsStepEnd fault result more }
+{
+    match fault {
+        StepFault::Memory => put_memory(out),
+        StepFault::Unfinished => {
+            put_last(
+                out,
+                b"UNFINISHED 1 1\n",
+                Status::Unfinished { period: 1, step: 1 },
+            )
+        }
+    }
+}
