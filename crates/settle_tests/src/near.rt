@@ -4,10 +4,10 @@ ghost use Rattle.step_problem.specs.Heads.{IsBarrier};
 ghost use Rattle.step_problem.specs.Settling.{Settles};
 ghost use Rattle.settle_driver.specs.Phases.{IsPlan};
 
-use crate::problems::{bound, problem_of};
+use crate::cells::{bound, problem_of};
 use outside::FreeGate;
 use settle_driver::{ListedSettler, PlainSettler, Plan, SettleBy, ThreadSettler, settle_near};
-use std::alloc::Global;
+use std::alloc::{AllocError, Global};
 use std::process::Abort;
 use std::test::Fail;
 use std::thread::Threads;
@@ -28,12 +28,13 @@ const SETTLED: [Bound; 2] = [
 
 // Two cells between heads 0 and 10, from these heads, by so many trials of 10 sweeps. The settler behind them
 // has one round, with which it does not settle.
-fn settle_two(
+fn settle_two<R: Abort>(
+    rt: &R,
     alloc: Global,
     near: &[Bound],
     trials: u32,
-) -> Result<Result<Vec<Bound>, SettleFault>, Fail> {
-    let (p, b) = problem_of(alloc, two_between(alloc)?, 0, TEN)?;
+) -> Result<Result<Vec<Bound>, SettleFault>, AllocError> {
+    let (p, b) = problem_of(rt, alloc, two_between(alloc)?, 0, TEN)?;
     let near = Vec::from_slice(alloc, near)?;
     let mut trial = PlainSettler::new(10);
     let mut settler = PlainSettler::new(1);
@@ -46,7 +47,7 @@ fn expect_settled<R: Abort>(
     near: &[Bound],
     trials: u32,
 ) -> Result<(), Fail> {
-    let Ok(bounds) = settle_two(alloc, near, trials)? else {
+    let Ok(bounds) = settle_two(rt, alloc, near, trials)? else {
         return Err("not settled")?;
     };
     assert_eq!(rt; bounds.as_slice(), SETTLED.as_slice());
@@ -55,7 +56,7 @@ fn expect_settled<R: Abort>(
 
 // The settler behind the trials was asked: it answers what its one round leaves.
 fn expect_asked<R: Abort>(rt: &R, alloc: Global, near: &[Bound], trials: u32) -> Result<(), Fail> {
-    let Err(SettleFault::Unfinished(open)) = settle_two(alloc, near, trials)? else {
+    let Err(SettleFault::Unfinished(open)) = settle_two(rt, alloc, near, trials)? else {
         return Err("the settler was not asked")?;
     };
     assert!(rt; open.cell == 0 && open.side == Side::Low);
@@ -120,7 +121,7 @@ fn settle_by_workers<R: Threads + Sync>(
 
 #[test]
 fn workers_and_a_list_settle_a_row_as_sweeps_do(rt: HostRuntime) -> Result<(), Fail> {
-    let (p, b) = problem_of(rt.alloc(), row_of(rt.alloc(), 50)?, 0, TEN)?;
+    let (p, b) = problem_of(&rt, rt.alloc(), row_of(rt.alloc(), 50)?, 0, TEN)?;
     let Ok(bounds) = PlainSettler::new(1_000_000).settle(rt.alloc(), &p, &b) else {
         return Err("the sweeps did not settle")?;
     };
