@@ -1,4 +1,4 @@
-ghost use Rattle.std.specs.Prelude.{◌≡◌, [], ◌∷◌, ◌++◌, OnOk, OnErr, IfSome, slice_get, false, Contains, MatchOption};
+ghost use Rattle.std.specs.Prelude.{◌≡◌, [], ◌∷◌, ◌++◌, OnOk, IfSome, slice_get, false, Contains, MatchOption};
 ghost use Rattle.std.specs.Option.{option_map};
 ghost use Rattle.outside.specs.Names.{IsGoodName};
 ghost use Rattle.name_file.specs.Pairs.{Pairs, AreFiles, has_package, file_of, packages_of};

@@ -1,5 +1,5 @@
 -- Loops that read something for each of a list.
-use Rattle.std.proofs.Common.{arith, length, ◌≡◌, List, [], ◌∷◌, ◌++◌, Result, Ok, Err, refl, sym, ap, ◌∙◌, append_assoc}
+use Rattle.std.proofs.Common.{arith, length, ◌≡◌, List, [], ◌∷◌, ◌++◌, Result, Ok, Err, refl, sym, ap, ◌∙◌}
 use Rattle.std.proofs.lemmas.List.{append-nil}
 use Rattle.outside.specs.declared.refusals.Refusal.{Refusal}
 use Rattle.outside.specs.declared.refusals.TextFault.{TextFault}

@@ -4,7 +4,7 @@ use array_reader::{
     short_integer, value_item,
 };
 use decimal_input::dec::{Dec, NumFault};
-use outside::{Code, InputFault, MemFolder, TextFault, refused};
+use outside::{Code, InputFault, MemFolder, TextFault, file_refusal, refused};
 use record_lines::{Lines, Words, begins_with, is_word};
 use std::alloc::Global;
 use std::test::Fail;
@@ -115,11 +115,8 @@ fn a_named_file_is_opened_or_missing(rt: HostRuntime) -> Result<(), Fail> {
         Ok(bytes) => assert_eq!(rt; bytes.as_slice(), b"1 2".as_slice()),
         Err(_) => assert!(rt; false, "the file is there"),
     }
-    match open_file(alloc, &mut folder, "b.txt") {
-        Err(InputFault::Refused(refusal)) => {
-            assert_eq!(rt; (refusal.code, refusal.line), (Code::MissingFile, 0));
-        }
-        _ => assert!(rt; false, "there is no such file"),
-    }
+    let missing = file_refusal(alloc, Code::MissingFile, "b.txt")?;
+    let fault = open_file(alloc, &mut folder, "b.txt").err();
+    assert_eq!(rt; fault, Some(InputFault::Refused(missing)));
     Ok(())
 }

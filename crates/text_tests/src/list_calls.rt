@@ -4,6 +4,7 @@ use array_reader::{
 };
 use outside::{Code, InputFault, MemFolder, TextFault};
 use record_lines::{Free, FreeFault, Lines};
+use std::alloc::Global;
 use std::test::Fail;
 
 // The code and the line of a refusal that names the file a.lpf.
@@ -87,22 +88,31 @@ fn lists_and_rows_are_as_long_as_they_are_asked(rt: HostRuntime) -> Result<(), F
     Ok(())
 }
 
+// The values of an array, and behind them the line of its control record.
+fn array_and_line(
+    alloc: Global,
+    lines: &mut Lines,
+    folder: &mut MemFolder,
+) -> Result<Vec<i64>, InputFault> {
+    let (mut values, line) = read_array(alloc, lines, "a.lpf", folder, 1, 2)?;
+    values.push(i64::from(line))?;
+    Ok(values)
+}
+
 #[test]
 fn arrays_come_with_their_line_and_layers_one_by_one(rt: HostRuntime) {
     let alloc = rt.alloc();
     let mut folder = MemFolder::new(alloc);
     let mut lines = Lines::new(b"\nCONSTANT 3\nINTERNAL 1 (FREE)\n4 5\nCONSTANT 6\nCONSTANT x");
-    match read_array(alloc, &mut lines, "a.lpf", &mut folder, 1, 2) {
-        Ok((array, line)) => {
-            assert_eq!(rt; (array.as_slice(), line), ([3i64, 3].as_slice(), 2));
-        }
+    match array_and_line(alloc, &mut lines, &mut folder) {
+        Ok(values) => assert_eq!(rt; values.as_slice(), [3i64, 3, 2].as_slice()),
         Err(_) => assert!(rt; false, "a constant array"),
     }
     match read_layers(alloc, &mut lines, "a.lpf", &mut folder, 2, 1, 2) {
         Ok(layers) => assert_eq!(rt; layers.as_slice(), [4i64, 5, 6, 6].as_slice()),
         Err(_) => assert!(rt; false, "two layers"),
     }
-    let fault = read_array::<i64, MemFolder>(alloc, &mut lines, "a.lpf", &mut folder, 1, 2).err();
+    let fault = array_and_line(alloc, &mut lines, &mut folder).err();
     assert_eq!(rt; fault.and_then(place_of), Some((Code::BadNumber, 6)));
     let fault = read_layers::<i64, MemFolder>(
         alloc,
