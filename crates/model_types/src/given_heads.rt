@@ -23,7 +23,8 @@ impl GivenHeads {
     /// Before the first period, where no list has named a cell.
     pub fn new(alloc: Global, model: &FlowModel) -> Result<GivenHeads, AllocError>
         requires size { HasSize model.now.grid }
-        ensures { IfOk result (λ g. g ≡ given_heads model.now 0) }
+        ensures period { IfOk result (λ g. g.period ≡ 0) }
+        ensures given { IfOk result (λ g. g ≡ given_heads model.now g.period) }
     {
         let last = vec![in alloc; None; model.grid.cell_count() as usize]?;
         Ok(GivenHeads {
@@ -39,7 +40,8 @@ impl GivenHeads {
         requires period { self.old.period < length model.now.periods }
         requires few { length model.now.periods ≤ 1000 }
         requires cells { All (λ x. x.cell.0 < cell_count model.now.grid) (period_at model.now (self.old.period + 1)).given }
-        ensures { self.new ≡ given_heads model.now (self.old.period + 1) }
+        ensures period { self.new.period ≡ self.old.period + 1 }
+        ensures given { self.new ≡ given_heads model.now self.new.period }
     {
         let list = model.periods.as_slice()[self.period as usize]
             .given

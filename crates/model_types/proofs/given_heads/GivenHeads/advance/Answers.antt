@@ -1,6 +1,7 @@
 use Rattle.std.proofs.Common.{◌++◌, ◌+◌, ◌<◌, refl, ap, sym, ◌∙◌, subst, arith, All}
 use Rattle.std.proofs.lemmas.List.{append-nil, take_all}
 use Rattle.model_types.specs.Cells.{cell_count}
+use Rattle.model_types.specs.Kinds.{given_heads}
 use Rattle.model_types.proofs.GivenTables.{table, last_is, heads_are, length_is, lists_before, period_list, lists_more, names_within, table_step}
 use Rattle.model_types.proofs.given_heads.GivenHeads.advance.Goals as goal
 
@@ -28,12 +29,14 @@ loop-x-preserved c =
     let within = names_within (cell_count m.grid) c.loop-x.x-index c.as_slice-list.result.now c.loop-x-test.true cells in
     (c.loop-x.invariant.0, c.set.ensures ∙ table_step (cell_count m.grid) c.loop-x.x-index (lists_before m p) c.as_slice-list.result.now _ c.loop-x.invariant.1 c.loop-x-test.true within)
 
-pub returns : goal.returns
-returns c =
+pub returns-clause-given : goal.returns-clause-given
+returns-clause-given c =
     let m = c.args.model.now in
     let p = c.args.self.now.period in
     let xs = c.as_slice-list.result.now in
     let list = period_list m p _ _ _ c.requires.period c.as_slice.ensures c.index-as_slice-self.is c.as_slice-list.ensures in
     let whole = take_all c.loop-x.x-index xs c.loop-x-test.false in
-    ap (λ q. record { period = q + 1; last = c.loop-x.self.last }) c.loop-x.invariant.0
+    let same = ap (λ q. q + 1) c.loop-x.invariant.0 in
+    ap (λ q. record { period = q; last = c.loop-x.self.last }) same
     ∙ heads_are m (p + 1) _ (c.loop-x.invariant.1 ∙ ap (λ ys. table (cell_count m.grid) (lists_before m p ++ ys)) (whole ∙ list) ∙ ap (table (cell_count m.grid)) (lists_more m p c.requires.period))
+    ∙ ap (given_heads m) (sym same)
