@@ -46,7 +46,12 @@ fn names_within(list: &[Given], cells: u32) -> bool
 }
 
 // The kinds of a period by the table and by a walk over the lists.
-fn agrees(alloc: Global, model: &FlowModel, given: &GivenHeads, want: &[Kind]) -> Result<bool, AllocError>
+fn agrees(
+    alloc: Global,
+    model: &FlowModel,
+    given: &GivenHeads,
+    want: &[Kind],
+) -> Result<bool, AllocError>
     requires size { HasSize model.now.grid }
     requires given { given.now ≡ given_heads model.now given.now.period }
 {
@@ -70,7 +75,14 @@ fn a_named_cell_stays_constant(rt: HostRuntime) -> Result<(), Fail> {
     ];
     for want in &wants {
         assert!(rt; (given.period as usize) < model.periods.as_slice().len());
-        assert!(rt; names_within(model.periods.as_slice()[given.period as usize].given.as_slice(), 5));
+        assert!(rt;
+            names_within(
+                model.periods.as_slice()[given.period as usize]
+                    .given
+                    .as_slice(),
+                5
+            )
+        );
         given.advance(&model);
         assert!(rt; agrees(alloc, &model, &given, want)?);
     }
