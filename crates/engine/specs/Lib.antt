@@ -8,7 +8,6 @@ pub mod RowProblems
 pub mod RowEquations
 pub mod RowExample
 pub mod RowSteps
-pub mod Fixed
 pub mod Listing
 pub mod Cases
 pub mod Runs

@@ -4,7 +4,7 @@ use Rattle.outside.specs.declared.refusals.Refusal.{Refusal}
 use Rattle.outside.specs.Codes.{code_row}
 use Rattle.step_problem.specs.declared.heads.Bound.{Bound}
 use Rattle.run_puts.specs.Lines.{Text, end_line}
-use Rattle.engine.specs.Fixed.{fixed_text}
+use Rattle.fixed_text.specs.Fixed.{fixed_text}
 
 -- the first line: the listing's version, the digits of conductances, the length unit of the grid
 abbrev pub first_line : Text

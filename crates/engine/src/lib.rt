@@ -4,7 +4,6 @@
 mod asked;
 mod deck;
 mod ending;
-mod fixed;
 pub mod laws;
 mod listing;
 mod row_barrier;

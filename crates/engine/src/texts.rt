@@ -1,8 +1,8 @@
 ghost use Rattle.std.specs.Prelude.{◌≡◌, ◌+◌, ◌<◌, ◌^◌, ◌++◌, List, codes, decimal, length, IfOk};
-ghost use Rattle.engine.specs.Fixed.{fixed_text};
+ghost use Rattle.fixed_text.specs.Fixed.{fixed_text};
 ghost use Rattle.engine.specs.Listing.{head_line, head_lines, numbers_text, place_text, refused_line, step_text};
 
-use crate::fixed::{push_fixed, push_number};
+use fixed_text::{push_fixed, push_number};
 use outside::Refusal;
 use std::alloc::{AllocError, Global};
 use step_problem::Bound;

@@ -1,5 +1,5 @@
 use Rattle.std.proofs.Common.{rules, ◌≡◌, ◌++◌, ◌∙◌, codes, decimal}
-use Rattle.engine.specs.Fixed.{fixed_text}
+use Rattle.fixed_text.specs.Fixed.{fixed_text}
 use Rattle.engine.proofs.TextLemmas.{joined_line}
 use Rattle.engine.proofs.texts.push_head_line.Goals as goal
 
