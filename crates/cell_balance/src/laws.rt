@@ -29,7 +29,7 @@ pub fn dry_cells()
     ensures { DryLaw }
 {}
 
-/// A certificate over a barrier encloses every solution, on both sides.
+/// Where each component is anchored or carried, a certificate over a barrier encloses every solution that the barrier encloses, on both sides.
 pub fn comparison()
     ensures { Compares }
 {}

@@ -34,7 +34,7 @@ pub fn check_step(p: &Problem, barrier: &Barrier, bounds: &[Bound]) -> Verdict
     requires bounds { AreWords p.now bounds.now }
     ensures exact { IsYes result ↔ IsCertificate p.now barrier.now (lower_at bounds.now) (upper_at bounds.now) }
     ensures first { IfNo result (λ cell side. IsFirstFailing p.now barrier.now bounds.now cell side) }
-    // Certified bounds enclose each solution that the barrier encloses.
+    // Where each component is anchored or carried, certified bounds enclose each solution that the barrier encloses.
     ensures comparison { IsYes result → IsHeldBelow p.now → (s : ℕ) (e : List ExactCell) (d : ℕ) (X : ℕ → ℤ) → EnclosesStep s p.now e → 0 < d → SolvesStep e d X → LiesBetween (length p.now) d X (head_at barrier.now.floor) (head_at barrier.now.ceiling) → LiesBetween (length p.now) d X (lower_at bounds.now) (upper_at bounds.now) }
     // So where the barrier encloses every solution, they do.
     ensures encloses { IsYes result → IsHeldBelow p.now → EnclosesSolutions p.now (head_at barrier.now.floor) (head_at barrier.now.ceiling) → EnclosesSolutions p.now (lower_at bounds.now) (upper_at bounds.now) }

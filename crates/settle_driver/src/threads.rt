@@ -50,8 +50,8 @@ fn settle_cells<R: Threads + Sync, G: Gate + Sync>(
     }
 }
 
-/// Settles a problem by the plan's workers, which share its heads: the one settled pair, or Unfinished where
-/// the plan's number of plain rounds does not settle. Without variable cells the answer is an empty list.
+/// Settles a problem by the plan's workers, which share its heads: the one settled pair, or Unfinished only
+/// where the plan's number of plain rounds does not settle. Without variable cells the answer is an empty list.
 pub fn settle<R: Threads + Sync, G: Gate + Sync>(
     rt: &R,
     alloc: Global,

@@ -30,7 +30,7 @@ impl fmt::Display for Side {
     }
 }
 
-/// A floor and a ceiling for each variable cell, between which every solution lies.
+/// A floor and a ceiling for each variable cell. That every solution lies between them is said by the call that finds them.
 #[derive(Debug, Drop)]
 pub struct Barrier {
     pub floor: Vec<i64>,
