@@ -99,9 +99,7 @@ fn options_stand_before_or_behind_the_words(rt: HostRuntime) -> Result<(), Fail>
 #[test]
 fn other_words_are_usage(rt: HostRuntime) -> Result<(), Fail> {
     let alloc = rt.alloc();
-    let none: [&str; 0] = [];
     for words in [
-        none.as_slice(),
         ["heads"].as_slice(),
         ["heads", "run"].as_slice(),
         ["heads", "check", "a.nam"].as_slice(),
@@ -154,5 +152,12 @@ fn a_hyphen_is_a_word_and_two_end_the_options(rt: HostRuntime) -> Result<(), Fai
         read_order(alloc, &["heads", "run", "--", "a.nam", "--digits", "9"]),
         USAGE
     );
+    Ok(())
+}
+
+#[test]
+fn no_words_at_all_are_usage(rt: HostRuntime) -> Result<(), Fail> {
+    let none: [&str; 0] = [];
+    assert_eq!(rt; read_order(rt.alloc(), none.as_slice()), USAGE);
     Ok(())
 }

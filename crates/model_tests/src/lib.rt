@@ -1,0 +1,11 @@
+//! Tests of model_types, over its public surface.
+#![tactic(auto)]
+
+#[cfg(test)]
+mod given;
+#[cfg(test)]
+mod models;
+#[cfg(test)]
+mod shared;
+#[cfg(test)]
+mod times;
