@@ -35,9 +35,7 @@ fn options_of_a_listing_are_taken(rt: HostRuntime) -> Result<(), Fail> {
 #[test]
 fn other_words_have_the_usage_line_alone(rt: HostRuntime) -> Result<(), Fail> {
     let alloc = rt.alloc();
-    let none: [&str; 0] = [];
     for words in [
-        none.as_slice(),
         ["heads"].as_slice(),
         ["heads", "run"].as_slice(),
         ["heads", "run", "--help"].as_slice(),
@@ -56,6 +54,22 @@ fn other_words_have_the_usage_line_alone(rt: HostRuntime) -> Result<(), Fail> {
             USAGE,
         );
     }
+    Ok(())
+}
+
+#[test]
+fn no_words_at_all_have_the_usage_line_alone(rt: HostRuntime) -> Result<(), Fail> {
+    let alloc = rt.alloc();
+    let none: [&str; 0] = [];
+    expect_run(
+        &rt,
+        alloc,
+        none.as_slice(),
+        three_cells(alloc)?,
+        MemSink::new(alloc),
+        1,
+        USAGE,
+    );
     Ok(())
 }
 
