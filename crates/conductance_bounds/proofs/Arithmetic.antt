@@ -1,0 +1,119 @@
+-- Arithmetic on spans: operations keep the order, and exponents grow with each by 18 at most.
+use Rattle.std.proofs.Common.{ℕ, zero, suc, ◌+◌, ◌*◌, ◌≤◌, ◌<◌, ◌^◌, arith, ℤ, pos, negsuc, neg_ℤ, ◌+ℤ◌, ◌-ℤ◌}
+use Rattle.std.specs.Prelude.{unsigned_abs}
+use Rattle.std.specs.Int.{int_min, int_max}
+use Rattle.std.proofs.lemmas.Int.{ints, clamps}
+use Rattle.decimal_input.specs.Ratios.{AtMost, plus, times, over}
+use Rattle.decimal_input.specs.Decimals.{up, down}
+use Rattle.decimal_input.proofs.Orders.{AtMost-trans, plus-AtMost, times-AtMost, over-AtMost}
+use Rattle.decimal_input.proofs.Powers.{ten_pos, cross_of}
+use Rattle.scaled_decimal.specs.declared.decimal.Sd.{Sd}
+use Rattle.scaled_decimal.specs.Nearest.{value, IsDown, IsUp, IsNear, IsWithin, HasSize}
+use Rattle.conductance_bounds.specs.declared.span.Span.{Span}
+use Rattle.conductance_bounds.specs.Intervals.{IsOrdered, reach}
+use Rattle.conductance_bounds.proofs.Enclosing.{positive_value}
+
+near_by : (e : ℤ) (n : ℕ) → unsigned_abs e ≤ n → IsNear e n
+near_by (pos k) n h = record { above = omega (arith, ints, h); below = omega (arith, ints, h) }
+near_by (negsuc k) n h = record { above = omega (arith, ints, h); below = omega (arith, ints, h) }
+
+by_near : (e : ℤ) (n : ℕ) → IsNear e n → unsigned_abs e ≤ n
+by_near (pos k) n h = omega (arith, ints, h.below)
+by_near (negsuc k) n h = omega (arith, ints, h.above)
+
+pub low_near : (x : Span) (n : ℕ) → reach x ≤ n → IsNear x.lo.e n
+unfolding reach
+low_near x n h = near_by x.lo.e n (omega (arith, h))
+
+pub high_near : (x : Span) (n : ℕ) → reach x ≤ n → IsNear x.hi.e n
+unfolding reach
+high_near x n h = near_by x.hi.e n (omega (arith, h))
+
+pub reach_within : (x : Span) (n : ℕ) → IsNear x.lo.e n → IsNear x.hi.e n → reach x ≤ n
+unfolding reach
+reach_within x n h k = omega (arith, by_near x.lo.e n h, by_near x.hi.e n k)
+
+-- the exponents of both operands, where an operation asks for 10000
+pub record AreNear (x y : Span) : Type 0 where
+  pub low : IsNear x.lo.e 10000
+  pub high : IsNear x.hi.e 10000
+  pub other_low : IsNear y.lo.e 10000
+  pub other_high : IsNear y.hi.e 10000
+
+pub nears : (x y : Span) → reach x + reach y ≤ 10000 → AreNear x y
+nears x y h = record {
+  low = low_near x 10000 (omega (arith, h));
+  high = high_near x 10000 (omega (arith, h));
+  other_low = low_near y 10000 (omega (arith, h));
+  other_high = high_near y 10000 (omega (arith, h));
+}
+
+within_near : (e low high : ℤ) (n : ℕ) → IsWithin e low high → IsNear low n → IsNear high n → IsNear e n
+within_near e low high n w l h = record {
+  above = omega (arith, ints, clamps, w.above, l.above);
+  below = omega (arith, ints, clamps, w.below, h.below);
+}
+
+product_near : (a b e : ℤ) (m n : ℕ) → IsNear a m → IsNear b n → IsWithin e (a +ℤ b +ℤ pos 17) (a +ℤ b +ℤ pos 18) → IsNear e (m + n + 18)
+product_near a b e m n p q w = within_near e _ _ (m + n + 18) w
+    (record { above = omega (arith, ints, p.above, q.above); below = omega (arith, ints, p.below, q.below) })
+    (record { above = omega (arith, ints, p.above, q.above); below = omega (arith, ints, p.below, q.below) })
+
+quotient_near : (a b e : ℤ) (m n : ℕ) → IsNear a m → IsNear b n → IsWithin e (a -ℤ b -ℤ pos 18) (a -ℤ b -ℤ pos 17) → IsNear e (m + n + 18)
+quotient_near a b e m n p q w = within_near e _ _ (m + n + 18) w
+    (record { above = omega (arith, ints, p.above, q.below); below = omega (arith, ints, p.below, q.above) })
+    (record { above = omega (arith, ints, p.above, q.below); below = omega (arith, ints, p.below, q.above) })
+
+sum_near : (a b e : ℤ) (m n : ℕ) → IsNear a m → IsNear b n → IsWithin e (int_min a b) (int_max a b +ℤ pos 1) → IsNear e (m + n + 18)
+sum_near a b e m n p q w = within_near e _ _ (m + n + 18) w
+    (record { above = omega (arith, ints, clamps, p.above, q.above); below = omega (arith, ints, clamps, p.below, q.below) })
+    (record { above = omega (arith, ints, clamps, p.above, q.above); below = omega (arith, ints, clamps, p.below, q.below) })
+
+self_low : (x : Span) → IsNear x.lo.e (reach x)
+self_low x = low_near x (reach x) (omega arith)
+
+self_high : (x : Span) → IsNear x.hi.e (reach x)
+self_high x = high_near x (reach x) (omega arith)
+
+pub product_reach : (a b r : Span) → IsWithin r.lo.e (a.lo.e +ℤ b.lo.e +ℤ pos 17) (a.lo.e +ℤ b.lo.e +ℤ pos 18) → IsWithin r.hi.e (a.hi.e +ℤ b.hi.e +ℤ pos 17) (a.hi.e +ℤ b.hi.e +ℤ pos 18) → reach r ≤ reach a + reach b + 18
+product_reach a b r l h = reach_within r _ (product_near _ _ _ _ _ (self_low a) (self_low b) l) (product_near _ _ _ _ _ (self_high a) (self_high b) h)
+
+pub quotient_reach : (a b r : Span) → IsWithin r.lo.e (a.lo.e -ℤ b.hi.e -ℤ pos 18) (a.lo.e -ℤ b.hi.e -ℤ pos 17) → IsWithin r.hi.e (a.hi.e -ℤ b.lo.e -ℤ pos 18) (a.hi.e -ℤ b.lo.e -ℤ pos 17) → reach r ≤ reach a + reach b + 18
+quotient_reach a b r l h = reach_within r _ (quotient_near _ _ _ _ _ (self_low a) (self_high b) l) (quotient_near _ _ _ _ _ (self_high a) (self_low b) h)
+
+pub sum_reach : (a b r : Span) → IsWithin r.lo.e (int_min a.lo.e b.lo.e) (int_max a.lo.e b.lo.e +ℤ pos 1) → IsWithin r.hi.e (int_min a.hi.e b.hi.e) (int_max a.hi.e b.hi.e +ℤ pos 1) → reach r ≤ reach a + reach b + 18
+sum_reach a b r l h = reach_within r _ (sum_near _ _ _ _ _ (self_low a) (self_low b) l) (sum_near _ _ _ _ _ (self_high a) (self_high b) h)
+
+-- a number of the input
+pub number_reach : (x : Span) (d : ℤ) → IsNear d 40 → IsWithin x.lo.e (d -ℤ pos 17) d → IsWithin x.hi.e (d -ℤ pos 17) d → reach x ≤ 57
+number_reach x d h l u = reach_within x 57
+    (within_near x.lo.e _ _ 57 l (record { above = omega (arith, ints, h.above); below = omega (arith, ints, h.below) }) (record { above = omega (arith, ints, h.above); below = omega (arith, ints, h.below) }))
+    (within_near x.hi.e _ _ 57 u (record { above = omega (arith, ints, h.above); below = omega (arith, ints, h.below) }) (record { above = omega (arith, ints, h.above); below = omega (arith, ints, h.below) }))
+
+-- two decimals of a size
+pub size_reach : (x : Span) (n : ℕ) → HasSize x.lo (neg_ℤ (pos n)) (pos n) → HasSize x.hi (neg_ℤ (pos n)) (pos n) → reach x ≤ n
+size_reach x n l h = reach_within x n (record { above = l.above; below = l.below }) (record { above = h.above; below = h.below })
+
+-- what is not below a positive decimal is positive
+pub positive_above : (x y : Sd) → AtMost (value x) (value y) → 0 < x.m → 0 < y.m
+positive_above x y h p = at_least x.m (10 ^ (up x.e + down y.e)) y.m (10 ^ (up y.e + down x.e)) p (ten_pos (up x.e + down y.e)) (rw (cross_of x.m y.m x.e y.e, cross_of y.m x.m y.e x.e) at h.cross)
+  where
+    positive_product : (a b : ℕ) → 0 < a → 0 < b → 0 < a * b
+    positive_product a b p q = grind arith
+
+    at_least : (a p b q : ℕ) → 0 < a → 0 < p → a * p ≤ b * q → 0 < b
+    at_least a p zero q ha hp h = absurd (omega (arith, h, positive_product a p ha hp))
+    at_least a p (suc b) q ha hp h = omega arith
+
+pub sum_ordered : (a b r : Span) → IsOrdered a → IsOrdered b → IsDown r.lo (plus (value a.lo) (value b.lo)) → IsUp r.hi (plus (value a.hi) (value b.hi)) → IsOrdered r
+sum_ordered a b r p q l h = record { low = l.decimal; high = h.decimal; order = AtMost-trans l.at_most (AtMost-trans (plus-AtMost p.order q.order) h.at_least) }
+
+pub product_ordered : (a b r : Span) → IsOrdered a → IsOrdered b → IsDown r.lo (times (value a.lo) (value b.lo)) → IsUp r.hi (times (value a.hi) (value b.hi)) → IsOrdered r
+product_ordered a b r p q l h = record { low = l.decimal; high = h.decimal; order = AtMost-trans l.at_most (AtMost-trans (times-AtMost p.order q.order) h.at_least) }
+
+pub quotient_ordered : (a b r : Span) → IsOrdered a → IsOrdered b → 0 < b.lo.m → IsDown r.lo (over (value a.lo) (value b.hi)) → IsUp r.hi (over (value a.hi) (value b.lo)) → IsOrdered r
+quotient_ordered a b r p q some l h = record {
+  low = l.decimal;
+  high = h.decimal;
+  order = AtMost-trans l.at_most (AtMost-trans (over-AtMost (positive_value b.hi (positive_above b.lo b.hi q.order some)) (positive_value b.lo some) p.order q.order) h.at_least);
+}

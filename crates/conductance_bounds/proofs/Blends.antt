@@ -1,0 +1,28 @@
+-- Sizes of the blends of two heads.
+use Rattle.std.proofs.Common.{◌≡◌, ℕ, suc, ◌*◌, ◌≤◌, ◌<◌, ◌^◌, arith, ap, subst, ◌∙◌, ℤ, pos, negsuc, ◌*ℤ◌}
+use Rattle.std.specs.Prelude.{FitsSigned}
+use Rattle.std.specs.Int.{int_min, int_max, w128}
+use Rattle.std.proofs.Math.Nat.{mul-le-mul_right}
+use Rattle.std.proofs.lemmas.Int.{ints, clamps}
+use Rattle.conductance_bounds.specs.Parts.{IsWithin, IsHeadUnits, blend, IsFloorOf, IsCeilingOf}
+
+pub share_within : (h : ℤ) (part : ℕ) → IsHeadUnits h → IsWithin (h *ℤ pos part) (4000000000000000000 * part)
+share_within (pos n) part h = let k : n * part ≤ 4000000000000000000 * part = mul-le-mul_right part (omega (arith, ints, h.below)) in record { above = omega (arith, ints, k); below = omega (arith, ints, k) }
+share_within (negsuc n) part h = let k : suc n * part ≤ 4000000000000000000 * part = mul-le-mul_right part (omega (arith, ints, h.above)) in record { above = omega (arith, ints, k); below = omega (arith, ints, k) }
+
+pub fits_within : (z : ℤ) (b : ℕ) → b < 2 ^ 127 → IsWithin z b → FitsSigned w128 z
+fits_within z b h w = omega (arith, ints, h, w.above, w.below)
+
+pub min_within : (a b m : ℤ) (n : ℕ) → m ≡ int_min a b → IsWithin a n → IsWithin b n → IsWithin m n
+min_within a b m n e p q = record { above = omega (arith, ints, clamps, e, p.above, q.above); below = omega (arith, ints, clamps, e, p.below, q.below) }
+
+pub max_within : (a b m : ℤ) (n : ℕ) → m ≡ int_max a b → IsWithin a n → IsWithin b n → IsWithin m n
+max_within a b m n e p q = record { above = omega (arith, ints, clamps, e, p.above, q.above); below = omega (arith, ints, clamps, e, p.below, q.below) }
+
+-- the floor of the lesser blend
+pub lesser : (s e x y m lo : ℤ) (f g : ℕ) → x ≡ blend s e f → y ≡ blend s e g → m ≡ int_min x y → IsFloorOf m lo → IsFloorOf (int_min (blend s e f) (blend s e g)) lo
+lesser s e x y m lo f g p q r h = subst (λ (z : ℤ). IsFloorOf z lo) (r ∙ ap (λ (z : ℤ). int_min z y) p ∙ ap (λ (z : ℤ). int_min (blend s e f) z) q) h
+
+-- the ceiling of the greater one
+pub greater : (s e x y m hi : ℤ) (f g : ℕ) → x ≡ blend s e f → y ≡ blend s e g → m ≡ int_max x y → IsCeilingOf m hi → IsCeilingOf (int_max (blend s e f) (blend s e g)) hi
+greater s e x y m hi f g p q r h = subst (λ (z : ℤ). IsCeilingOf z hi) (r ∙ ap (λ (z : ℤ). int_max z y) p ∙ ap (λ (z : ℤ). int_max (blend s e f) z) q) h

@@ -1,0 +1,57 @@
+-- Heads of the input, as whole units, are in range.
+use Rattle.std.proofs.Common.{ℕ, ◌^◌, ◌≤◌, ◌⊎◌, inl, inr, arith, ℤ, pos, negsuc, neg_ℤ, ◌+ℤ◌, ◌*ℤ◌, ◌≤ℤ◌}
+use Rattle.std.specs.Prelude.{unsigned_abs, FitsSigned}
+use Rattle.std.specs.Int.{w64, w128}
+use Rattle.std.proofs.lemmas.Int.{ints, by_lt_z}
+use Rattle.decimal_input.specs.Fractions.{Fraction, den}
+use Rattle.decimal_input.specs.Enclosures.{EnclosesSigned}
+use Rattle.decimal_input.specs.Wholes.{IsSignedFloor, IsSignedCeiling, IsFloorPast, IsCeilingPast}
+use Rattle.decimal_input.proofs.Signs.{cancel_right, mul_mono_right}
+use Rattle.conductance_bounds.specs.Parts.{IsHeadUnits}
+
+abbrev head_limit : ℕ
+head_limit = 4000000000000000000
+
+abbrev InRange : Fraction → Type 0
+InRange f = EnclosesSigned (neg_ℤ (pos 4000000000)) (pos 4000000000) 0 f
+
+-- in units of 10 ^ -9
+upper : (f : Fraction) → InRange f → (f.num *ℤ pos (10 ^ 9)) ≤ℤ (pos head_limit *ℤ pos (den f))
+upper f h =
+    let k = mul_mono_right (10 ^ 9) (f.num *ℤ pos (10 ^ 0)) (pos 4000000000 *ℤ pos (den f)) h.upper in
+    omega (arith, ints, k)
+
+lower : (f : Fraction) → InRange f → (neg_ℤ (pos head_limit) *ℤ pos (den f)) ≤ℤ (f.num *ℤ pos (10 ^ 9))
+lower f h =
+    let k = mul_mono_right (10 ^ 9) (neg_ℤ (pos 4000000000) *ℤ pos (den f)) (f.num *ℤ pos (10 ^ 0)) h.lower in
+    omega (arith, ints, k)
+
+pub floor_in_range : (f : Fraction) (z : ℤ) → InRange f → IsSignedFloor z f 9 → IsHeadUnits z
+floor_in_range f z h k = record {
+  above = by_lt_z z (neg_ℤ (pos head_limit))
+      (λ lt. let one = mul_mono_right (den f) (z +ℤ pos 1) (neg_ℤ (pos head_limit)) (omega (arith, ints)) in absurd (omega (arith, ints, one, k.next, lower f h)))
+      (λ le. le);
+  below = cancel_right (den f) z (pos head_limit) (omega arith) (omega (arith, ints, k.at_most, upper f h));
+}
+
+pub ceiling_in_range : (f : Fraction) (z : ℤ) → InRange f → IsSignedCeiling z f 9 → IsHeadUnits z
+ceiling_in_range f z h k = record {
+  above = cancel_right (den f) (neg_ℤ (pos head_limit)) z (omega arith) (omega (arith, ints, k.at_least, lower f h));
+  below = by_lt_z (pos head_limit) z
+      (λ lt. let one = mul_mono_right (den f) (pos head_limit) (z +ℤ neg_ℤ (pos 1)) (omega (arith, ints)) in absurd (omega (arith, ints, one, k.next, upper f h)))
+      (λ le. le);
+}
+
+small_head : (z : ℤ) → IsHeadUnits z → 2 ^ 126 ≤ unsigned_abs z → ⊥
+small_head (pos n) h k = omega (arith, ints, h.below)
+small_head (negsuc n) h k = omega (arith, ints, h.above)
+
+pub no_past : (f : Fraction) → InRange f → IsFloorPast f 9 ⊎ IsCeilingPast f 9 → ⊥
+no_past f h (inl k) = small_head k.floor (floor_in_range f k.floor h k.is) k.past
+no_past f h (inr k) = small_head k.ceiling (ceiling_in_range f k.ceiling h k.is) k.past
+
+pub fits_64 : (z : ℤ) → IsHeadUnits z → FitsSigned w64 z
+fits_64 z h = omega (arith, ints, h.above, h.below)
+
+pub fits_128 : (z : ℤ) → IsHeadUnits z → FitsSigned w128 z
+fits_128 z h = omega (arith, ints, h.above, h.below)

@@ -1,0 +1,179 @@
+-- The part of a period that has passed lies between its bounds, and is at most 1.
+use Rattle.std.proofs.Common.{◌≡◌, ℕ, zero, suc, ◌+◌, ◌*◌, ◌-◌, ◌/◌, ◌≤◌, ◌<◌, ◌^◌, inl, inr, Bool, true, false, cond, min, arith, refl, subst, sym, ap}
+use Rattle.std.proofs.Math.Nat.{mul-le-mul_right, le_of_mul-le-mul_right, lt-mul-div-succ, div-mul-le_self, lt_of_mul-lt-mul_right}
+use Rattle.std.proofs.lemmas.Int.{ints}
+use Rattle.std.proofs.lemmas.Bool.{cases_lt}
+use Rattle.decimal_input.specs.Canonical.{size}
+use Rattle.decimal_input.specs.Ratios.{Ratio, den, ratio, plus, over, AtMost, Same}
+use Rattle.decimal_input.proofs.Orders.{AtMost-trans, AtMost-refl, Same-AtMost, Same-back, num_plus, den_plus, num_over, den_over}
+use Rattle.decimal_input.specs.Decimals.{scaled}
+use Rattle.decimal_input.specs.Wholes.{IsCeiling, Passes}
+use Rattle.scaled_decimal.specs.declared.decimal.Sd.{Sd}
+use Rattle.scaled_decimal.specs.Nearest.{value}
+use Rattle.model_types.specs.Numbers.{IsPositive}
+use Rattle.model_types.specs.Valid.{IsTimed, number_one}
+use Rattle.conductance_bounds.specs.declared.span.Span.{Span}
+use Rattle.conductance_bounds.specs.Intervals.{AreBounds}
+use Rattle.conductance_bounds.proofs.Positive.{size_positive}
+use Rattle.model_types.specs.declared.period.Period.{Period}
+use Rattle.model_types.specs.Conductances.{one}
+use Rattle.model_types.specs.Times.{power, geometric, multiplier, passed}
+use Rattle.conductance_bounds.specs.Terms.{exact, IsBound}
+use Rattle.conductance_bounds.specs.Terms.Side.{Lower, Upper}
+use Rattle.conductance_bounds.specs.Terms.Term.{Quotient}
+use Rattle.conductance_bounds.specs.Growth.{sum_term, IsMultiplier}
+use Rattle.conductance_bounds.specs.Parts.{IsPart, IsGrowingPart, IsPassed, part_term}
+use Rattle.conductance_bounds.proofs.Enclosing.{bound_on}
+use Rattle.conductance_bounds.proofs.Harmonic.{over-Same}
+use Rattle.conductance_bounds.proofs.Horner.{sum_is, sum_holds, power_positive}
+
+abbrev unit : ℕ
+unit = 10 ^ 18
+
+more : (a x b y : ℕ) → a * (x * y) ≤ (a * y + b * x) * x
+more a x b y = omega arith
+
+grows : (f p : Ratio) → AtMost f (plus f p)
+grows f p = record { cross = rw (num_plus f p, den_plus f p) (more f.num (den f) p.num (den p)) }
+
+next : (t : Ratio) (m : ℕ) → AtMost (geometric t m) (geometric t (suc m))
+unfolding geometric
+next t m = grows (geometric t m) (power t m)
+
+pub geometric_grows : (t : Ratio) (n k : ℕ) → AtMost (geometric t n) (geometric t (n + k))
+geometric_grows t n zero = subst (λ (m : ℕ). AtMost (geometric t n) (geometric t m)) (let e : n ≡ n + 0 = omega arith in e) (AtMost-refl (geometric t n))
+geometric_grows t n (suc k) = AtMost-trans (geometric_grows t n k) (subst (λ (m : ℕ). AtMost (geometric t (n + k)) (geometric t m)) (let e : suc (n + k) ≡ n + suc k = omega arith in e) (next t (n + k)))
+
+positive : (a l : ℕ) → 0 < a → 0 < a * suc l
+positive a l p = grind arith
+
+positive_next : (t : Ratio) (n : ℕ) → 0 < t.num → 0 < (geometric t (suc n)).num
+unfolding geometric ratio
+positive_next t n h = rw num_plus (omega (arith, positive (power t n).num (geometric t n).less (power_positive t n h)))
+
+nonzero : (m x k l : ℕ) → 0 < k → m * x ≡ k * suc l → 0 < m
+nonzero zero x k l h e = absurd (omega (arith, positive k l h, e))
+nonzero (suc m) x k l h e = omega arith
+
+same_positive : (a b : Ratio) → 0 < a.num → Same b a → 0 < b.num
+same_positive a b h e = nonzero b.num (den a) a.num b.less h e.cross
+
+least : (c g d top : ℕ) → g ≡ min c (10 ^ 18) → top ≤ c * d → top ≤ d * 10 ^ 18 → top ≤ g * d
+least c g d top e a b = elim (cases_lt c (10 ^ 18)) [
+  | inl lt ↦ (let q : g ≡ c = omega (arith, e, lt) in let r : g * d ≡ c * d = ap (λ (z : ℕ). z * d) q in omega (arith, r, a))
+  | inr le ↦ (let q : g ≡ 10 ^ 18 = omega (arith, e, le) in let r : g * d ≡ 10 ^ 18 * d = ap (λ (z : ℕ). z * d) q in omega (arith, r, b))
+]
+
+-- from a bound of one ratio to that of a greater or equal one
+below_units : (n a x b y p : ℕ) → 0 < x → n * x ≤ a * p → a * y ≤ b * x → n * y ≤ b * p
+below_units n a x b y p h q r = le_of_mul-le-mul_right {k = x} (omega (arith, mul-le-mul_right y q, mul-le-mul_right p r)) h
+
+above_units : (n a x b y p : ℕ) → 0 < x → a * p ≤ n * x → b * x ≤ a * y → b * p ≤ n * y
+above_units n a x b y p h q r = le_of_mul-le-mul_right {k = x} (omega (arith, mul-le-mul_right y q, mul-le-mul_right p r)) h
+
+all_passed : (f g : ℕ) → f ≡ 10 ^ 18 → g ≡ 10 ^ 18 → IsPassed one f g
+unfolding ratio
+all_passed f g e d = record { low_range = omega (arith, e); high_range = omega (arith, d); part = omega arith; below = omega (arith, e); above = omega (arith, d) }
+
+-- a quotient of a lesser number is at most 1
+at_most_one : (a b : Ratio) → 0 < b.num → AtMost a b → (over a b).num ≤ den (over a b)
+at_most_one a b h k = rw (num_over a b, den_over a b h) (omega (arith, k.cross))
+
+growing : (p : Period) (n f g : ℕ) → 1 ≤ n → n ≤ p.nstp → 0 < (multiplier p).num → IsGrowingPart p n f g → IsPassed (over (geometric (multiplier p) n) (geometric (multiplier p) p.nstp)) f g
+growing p n f g some few h k =
+    let t = multiplier p in
+    let N = p.nstp in
+    let F = over (geometric t n) (geometric t N) in
+    let now : suc (n - 1) ≡ n = omega arith in
+    let last : suc (N - 1) ≡ N = omega arith in
+    let top : Same (exact (sum_term t (n - 1))) (geometric t n) = subst (λ (m : ℕ). Same (exact (sum_term t (n - 1))) (geometric t m)) now (sum_is t (n - 1)) in
+    let bottom : Same (exact (sum_term t (N - 1))) (geometric t N) = subst (λ (m : ℕ). Same (exact (sum_term t (N - 1))) (geometric t m)) last (sum_is t (N - 1)) in
+    let whole : 0 < (geometric t N).num = subst (λ (m : ℕ). 0 < (geometric t m).num) last (positive_next t (N - 1) h) in
+    let rounded : 0 < (exact (sum_term t (N - 1))).num = same_positive (geometric t N) (exact (sum_term t (N - 1))) whole bottom in
+    let same : Same (over (exact (sum_term t (n - 1))) (exact (sum_term t (N - 1)))) F = over-Same rounded whole top bottom in
+    let low : AtMost (value k.least) F = AtMost-trans (bound_on (Quotient (sum_term t (n - 1)) (sum_term t (N - 1))) (sum_holds t (n - 1), sum_holds t (N - 1), rounded) Lower k.least k.least_is) (Same-AtMost same) in
+    let high : AtMost F (value k.most) = AtMost-trans (Same-back same) (bound_on (Quotient (sum_term t (n - 1)) (sum_term t (N - 1))) (sum_holds t (n - 1), sum_holds t (N - 1), rounded) Upper k.most k.most_is) in
+    let part : F.num ≤ den F = at_most_one (geometric t n) (geometric t N) whole (subst (λ (m : ℕ). AtMost (geometric t n) (geometric t m)) (let e : n + (N - n) ≡ N = omega arith in e) (geometric_grows t n (N - n))) in
+    let below : f * den F ≤ F.num * 10 ^ 18 = below_units f (value k.least).num (den (value k.least)) F.num (den F) (10 ^ 18) (omega arith) k.lower.at_most low.cross in
+    let ceiling : F.num * 10 ^ 18 ≤ k.ceiling * den F = above_units k.ceiling (value k.most).num (den (value k.most)) F.num (den F) (10 ^ 18) (omega arith) k.is_ceiling.at_least high.cross in
+    let capped : F.num * 10 ^ 18 ≤ den F * 10 ^ 18 = mul-le-mul_right (10 ^ 18) part in
+    record {
+      low_range = le_of_mul-le-mul_right {k = den F} (omega (arith, below, capped)) (omega arith);
+      high_range = omega (arith, k.upper);
+      part = part;
+      below = below;
+      above = least k.ceiling g (den F) (F.num * 10 ^ 18) k.upper ceiling capped;
+    }
+
+-- at every step of a period
+pub part_encloses : (p : Period) (n f g : ℕ) → 1 ≤ n → n ≤ p.nstp → 0 < (multiplier p).num → IsPart p n f g → IsPassed (passed p n) f g
+unfolding passed
+part_encloses p n f g some few h (inl (e, a, b)) = subst (λ (c : Bool). IsPassed (cond c one (over (geometric (multiplier p) n) (geometric (multiplier p) p.nstp))) f g) (sym e) (all_passed f g a b)
+part_encloses p n f g some few h (inr (e, k)) = subst (λ (c : Bool). IsPassed (cond c one (over (geometric (multiplier p) n) (geometric (multiplier p) p.nstp))) f g) (sym e) (growing p n f g some few h k)
+
+-- the rounded part is at most 1, too
+pub lower_at_most : (p : Period) (n : ℕ) (x : Sd) → 1 ≤ n → n ≤ p.nstp → 0 < (multiplier p).num → IsBound (part_term p n) Lower x → AtMost (value x) one
+unfolding ratio
+lower_at_most p n x some few h b =
+    let t = multiplier p in
+    let N = p.nstp in
+    let last : suc (N - 1) ≡ N = omega arith in
+    let top : Same (exact (sum_term t (n - 1))) (geometric t n) = subst (λ (m : ℕ). Same (exact (sum_term t (n - 1))) (geometric t m)) (let e : suc (n - 1) ≡ n = omega arith in e) (sum_is t (n - 1)) in
+    let bottom : Same (exact (sum_term t (N - 1))) (geometric t N) = subst (λ (m : ℕ). Same (exact (sum_term t (N - 1))) (geometric t m)) last (sum_is t (N - 1)) in
+    let whole : 0 < (geometric t N).num = subst (λ (m : ℕ). 0 < (geometric t m).num) last (positive_next t (N - 1) h) in
+    let rounded : 0 < (exact (sum_term t (N - 1))).num = same_positive (geometric t N) (exact (sum_term t (N - 1))) whole bottom in
+    let part : (over (geometric t n) (geometric t N)).num ≤ den (over (geometric t n) (geometric t N)) = at_most_one (geometric t n) (geometric t N) whole (subst (λ (m : ℕ). AtMost (geometric t n) (geometric t m)) (let e : n + (N - n) ≡ N = omega arith in e) (geometric_grows t n (N - n))) in
+    AtMost-trans (bound_on (Quotient (sum_term t (n - 1)) (sum_term t (N - 1))) (sum_holds t (n - 1), sum_holds t (N - 1), rounded) Lower x b)
+    (AtMost-trans (Same-AtMost (over-Same rounded whole top bottom)) (record { cross = omega (arith, part) }))
+
+-- a number of at most 1 has at most 10 ^ 18 units
+pub few_units : (n : ℕ) (f : Ratio) → AtMost f one → n * den f ≤ f.num * 10 ^ 18 → n ≤ 10 ^ 18
+unfolding ratio
+few_units n f h k = le_of_mul-le-mul_right {k = den f} (omega (arith, k, mul-le-mul_right (10 ^ 18) h.cross)) (omega arith)
+
+-- each number has a ceiling
+pub has_ceiling : (f : Ratio) (s : ℕ) → (n : ℕ) × IsCeiling n f s
+has_ceiling f s = ((f.num * 10 ^ s + f.less) / den f, record { at_least = covers (f.num * 10 ^ s) f.less; least = (λ k h. lowest (f.num * 10 ^ s) f.less k h) })
+  where
+    covers : (N l : ℕ) → N ≤ (N + l) / suc l * suc l
+    covers N l = let some : 0 < suc l = omega arith in omega (arith, lt-mul-div-succ (N + l) some)
+
+    lowest : (N l k : ℕ) → N ≤ k * suc l → (N + l) / suc l ≤ k
+    lowest N l k h = let lt : (N + l) / suc l < k + 1 = lt_of_mul-lt-mul_right (suc l) (omega (arith, div-mul-le_self (N + l) (suc l), h)) in omega (arith, lt)
+
+pub one_ceiling : (n k : ℕ) (f : Ratio) (s : ℕ) → IsCeiling n f s → IsCeiling k f s → n ≡ k
+one_ceiling n k f s p q = let a : n ≤ k = p.least k q.at_least in let b : k ≤ n = q.least n p.at_least in omega (arith, a, b)
+
+pub past_ceiling : (m n : ℕ) (f : Ratio) (s : ℕ) → Passes m f s → IsCeiling n f s → m < n
+past_ceiling m n f s p q = lt_of_mul-lt-mul_right (den f) (omega (arith, p.pass, q.at_least))
+
+unit_positive : 0 < one.num
+unfolding ratio
+unit_positive = omega arith
+
+-- the multiplier of a period's steps
+pub multiplier_positive : (p : Period) → IsTimed p → 0 < (multiplier p).num
+multiplier_positive p h = by_kind p.steady
+  where
+    by_kind : (b : Bool) → 0 < (cond b one (size p.tsmult)).num
+    by_kind true = unit_positive
+    by_kind false = size_positive p.tsmult h.tsmult
+
+unity_is_one : size number_one ≡ one
+unfolding scaled
+unity_is_one = refl
+
+pub steady_bounds : (p : Period) (n : ℕ) (x : Span) → p.steady ≡ true → AreBounds (sum_term (size number_one) n) x → AreBounds (sum_term (multiplier p) n) x
+steady_bounds p n x e h = subst (λ (b : Bool). AreBounds (sum_term (cond b one (size p.tsmult)) n) x) (sym e) (subst (λ (r : Ratio). AreBounds (sum_term r n) x) unity_is_one h)
+
+pub transient_bounds : (p : Period) (n : ℕ) (x : Span) → p.steady ≡ false → AreBounds (sum_term (size p.tsmult) n) x → AreBounds (sum_term (multiplier p) n) x
+transient_bounds p n x e h = subst (λ (b : Bool). AreBounds (sum_term (cond b one (size p.tsmult)) n) x) (sym e) h
+
+pub timed_multiplier : (p : Period) (n : ℕ) → IsTimed p → p.steady ≡ false → n ≤ p.nstp → IsMultiplier p.tsmult n
+timed_multiplier p n h e few = elim (h.growth e) [
+  | inl same ↦ inl same
+  | inr g ↦ inr (record { few = omega (arith, few, g.few); least = g.least; most = g.most })
+]
+
+pub unity_positive : IsPositive number_one
+unity_positive = record { decimal = record { few = omega arith; form = inr (omega arith, omega arith); above = omega (arith, ints); below = omega (arith, ints) }; sign = refl; positive = omega arith }

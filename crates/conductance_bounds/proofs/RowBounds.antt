@@ -1,0 +1,35 @@
+-- The pairs of row_branch and col_branch contain the manual's conductance.
+use Rattle.std.proofs.Common.{ℕ, Option, Some, None}
+use Rattle.std.specs.Prelude.{IfSome}
+use Rattle.decimal_input.specs.declared.dec.Dec.{Dec}
+use Rattle.decimal_input.specs.Canonical.{size}
+use Rattle.decimal_input.specs.Enclosures.{Encloses}
+use Rattle.decimal_input.specs.Ratios.{Ratio}
+use Rattle.model_types.specs.Numbers.{IsPositive}
+use Rattle.conductance_bounds.specs.declared.horizontal.Half.{Half}
+use Rattle.conductance_bounds.specs.declared.horizontal.ColHalf.{ColHalf}
+use Rattle.conductance_bounds.specs.declared.pair.Pair.{Pair}
+use Rattle.conductance_bounds.specs.Terms.{IsBetween}
+use Rattle.conductance_bounds.specs.Terms.Term.{Number}
+use Rattle.conductance_bounds.specs.Branches.{row_of, row_exact, column_k, column_of, column_exact}
+use Rattle.conductance_bounds.specs.Calls.{IsHalf, IsColHalf}
+use Rattle.conductance_bounds.specs.Pairs.{IsWholePair}
+use Rattle.conductance_bounds.proofs.Harmonic.{times-positive}
+use Rattle.conductance_bounds.proofs.Manual.{row_pair_encloses}
+use Rattle.conductance_bounds.proofs.Positive.{size_positive, positive_between}
+
+pub row_encloses : (a b : Half) (width : Dec) (s : ℕ) (r : Option Pair) → IsHalf a → IsHalf b → IsPositive width → (f g : Ratio) → IsBetween a.thick_lo a.thick_hi f → IsBetween b.thick_lo b.thick_hi g →
+    IsWholePair (row_of a b width f g) s r → IfSome r (λ p. Encloses p.lo p.hi s (row_exact a b width f g))
+row_encloses a b width s None p q w f g x y pair = tt
+row_encloses a b width s (Some r) p q w f g x y pair =
+    row_pair_encloses (size width) (size a.along) (Number (size a.hk)) f (size b.along) (Number (size b.hk)) g a.thick_lo a.thick_hi b.thick_lo b.thick_hi s r.lo r.hi
+    (size_positive width w) (size_positive a.along p.along) (size_positive a.hk p.hk) (positive_between a.thick_lo a.thick_hi f p.thick.low_size.positive x)
+    (size_positive b.hk q.hk) (positive_between b.thick_lo b.thick_hi g q.thick.low_size.positive y) tt tt x y pair.0
+
+pub column_encloses : (a b : ColHalf) (width : Dec) (s : ℕ) (r : Option Pair) → IsColHalf a → IsColHalf b → IsPositive width → (f g : Ratio) → IsBetween a.thick_lo a.thick_hi f → IsBetween b.thick_lo b.thick_hi g →
+    IsWholePair (column_of a b width f g) s r → IfSome r (λ p. Encloses p.lo p.hi s (column_exact a b width f g))
+column_encloses a b width s None p q w f g x y pair = tt
+column_encloses a b width s (Some r) p q w f g x y pair =
+    row_pair_encloses (size width) (size a.along) (column_k a) f (size b.along) (column_k b) g a.thick_lo a.thick_hi b.thick_lo b.thick_hi s r.lo r.hi
+    (size_positive width w) (size_positive a.along p.along) (times-positive _ _ (size_positive a.hk p.hk) (size_positive a.hani p.hani)) (positive_between a.thick_lo a.thick_hi f p.thick.low_size.positive x)
+    (times-positive _ _ (size_positive b.hk q.hk) (size_positive b.hani q.hani)) (positive_between b.thick_lo b.thick_hi g q.thick.low_size.positive y) (tt, tt) (tt, tt) x y pair.0

@@ -1,0 +1,36 @@
+use Rattle.std.proofs.Common.{ℕ, ◌+◌, ◌*◌, ◌≤◌, ◌<◌, ◌^◌, inl, inr, arith}
+use Rattle.std.proofs.lemmas.Bool.{cases_lt}
+use Rattle.std.proofs.Math.Nat.{mul-le-mul_right, le_of_mul-le-mul_right}
+use Rattle.decimal_input.specs.Ratios.{Ratio, den, AtMost}
+use Rattle.decimal_input.specs.Wholes.{IsFloor, IsCeiling, Reaches, Passes}
+
+le_cancel : (k m n : ℕ) → 0 < k → m * k ≤ n * k → m ≤ n
+le_cancel k m n h p = grind (arith, le_of_mul-le-mul_right)
+
+pub Passes-less : (n m : ℕ) (f : Ratio) (s : ℕ) → m ≤ n → Passes n f s → Passes m f s
+Passes-less n m f s le h = record { pass = omega (arith, h.pass, mul-le-mul_right (den f) le) }
+
+-- what reaches a great number below, passes a lesser one above
+pub Reaches-passes : (n m : ℕ) (f g : Ratio) (s : ℕ) → m < n → AtMost f g → Reaches n f s → Passes m g s
+Reaches-passes n m f g s lt le h = record { pass = passes n m f.num (den f) g.num (den g) (10 ^ s) (omega arith) (omega arith) lt le.cross h.reach }
+  where
+    passes : (n m a x b y p : ℕ) → 0 < x → 0 < y → m < n → a * y ≤ b * x → n * x ≤ a * p → m * y < b * p
+    passes n m a x b y p hx hy lt le h =
+        let k : n * y ≤ b * p = le_cancel x (n * y) (b * p) hx (omega (arith, mul-le-mul_right p le, mul-le-mul_right y h)) in
+        let more : (m + 1) * y ≤ n * y = mul-le-mul_right y (omega arith) in
+        omega arith
+
+pub ceiling-passes : (n m : ℕ) (f : Ratio) (s : ℕ) → m < n → IsCeiling n f s → Passes m f s
+ceiling-passes n m f s lt h = elim (cases_lt (m * den f) (f.num * 10 ^ s)) [
+  | inl k ↦ record { pass = k }
+  | inr k ↦ absurd (let j : n ≤ m = h.least m k in omega arith)
+]
+
+-- the whole part below is at most the ceiling above
+pub floor-ceiling : (m n : ℕ) (f g : Ratio) (s : ℕ) → AtMost f g → IsFloor m f s → IsCeiling n g s → m ≤ n
+floor-ceiling m n f g s le a b = le_cancel (den g) m n (omega arith) (omega (arith, b.at_least, below m f.num (den f) g.num (den g) (10 ^ s) (omega arith) a.at_most le.cross))
+  where
+    below : (n a x b y p : ℕ) → 0 < x → n * x ≤ a * p → a * y ≤ b * x → n * y ≤ b * p
+    below n a x b y p h q r = le_of_mul-le-mul_right {k = x} (omega (arith, mul-le-mul_right y q, mul-le-mul_right p r)) h
+
+pub ruleset pair_lemmas = (Passes-less, Reaches-passes, ceiling-passes, floor-ceiling)

@@ -1,0 +1,14 @@
+use Rattle.std.proofs.Common.{◌+◌, ◌*◌, pos, neg_ℤ}
+use Rattle.decimal_input.specs.Canonical.{size}
+use Rattle.scaled_decimal.specs.Nearest.{HasSize}
+use Rattle.conductance_bounds.specs.Growth.{power_term}
+use Rattle.conductance_bounds.specs.Intervals.{IsOrdered, AreBounds}
+use Rattle.conductance_bounds.proofs.factors.growing_power.Given as goal
+
+abbrev pub invariant-loop-step : goal.invariant-loop-step
+invariant-loop-step l = record {
+  ordered : IsOrdered l.power;
+  bounds : AreBounds (power_term (size l.fn.tsmult) l._step) l.power;
+  low : HasSize l.power.lo (neg_ℤ (pos (17 + 3 * l._step))) (pos (4 * l._step));
+  high : HasSize l.power.hi (neg_ℤ (pos (17 + 3 * l._step))) (pos (4 * l._step));
+}

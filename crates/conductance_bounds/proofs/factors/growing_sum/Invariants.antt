@@ -1,0 +1,14 @@
+use Rattle.std.proofs.Common.{◌*◌, pos, neg_ℤ}
+use Rattle.decimal_input.specs.Canonical.{size}
+use Rattle.scaled_decimal.specs.Nearest.{HasSize}
+use Rattle.conductance_bounds.specs.Growth.{sum_term}
+use Rattle.conductance_bounds.specs.Intervals.{IsOrdered, AreBounds}
+use Rattle.conductance_bounds.proofs.factors.growing_sum.Given as goal
+
+abbrev pub invariant-loop-step : goal.invariant-loop-step
+invariant-loop-step l = record {
+  ordered : IsOrdered l.sum;
+  bounds : AreBounds (sum_term (size l.fn.tsmult) l._step) l.sum;
+  low : HasSize l.sum.lo (neg_ℤ (pos 17)) (pos (5 * l._step));
+  high : HasSize l.sum.hi (neg_ℤ (pos 17)) (pos (5 * l._step));
+}

@@ -1,0 +1,13 @@
+use Rattle.decimal_input.proofs.Orders.{AtMost-refl}
+use Rattle.scaled_decimal.specs.Nearest.{value}
+use Rattle.conductance_bounds.proofs.Arithmetic.{number_reach}
+use Rattle.conductance_bounds.proofs.interval.exactly.Goals as goal
+
+pub returns-clause-ordered : goal.returns-clause-ordered
+returns-clause-ordered c = record { low = c.of_dec-x.ensures.decimal; high = c.of_dec-x.ensures.decimal; order = AtMost-refl (value c.of_dec-x.result) }
+
+pub returns-clause-bounds : goal.returns-clause-bounds
+returns-clause-bounds c = record { lower = (c.of_dec-x.ensures.decimal, c.of_dec-x.ensures.same); upper = (c.of_dec-x.ensures.decimal, c.of_dec-x.ensures.same) }
+
+pub returns-clause-reach : goal.returns-clause-reach
+returns-clause-reach c = number_reach _ c.args.a.exp (record { above = c.requires.number.above; below = c.requires.number.below }) c.of_dec-x.ensures.exponent c.of_dec-x.ensures.exponent

@@ -1,0 +1,15 @@
+use Rattle.std.proofs.Common.{inl, arith}
+use Rattle.std.proofs.lemmas.Int.{ints}
+use Rattle.decimal_input.proofs.Orders.{AtMost-refl}
+use Rattle.conductance_bounds.proofs.Arithmetic.{size_reach}
+use Rattle.conductance_bounds.proofs.Unity.{unity_is}
+use Rattle.conductance_bounds.proofs.interval.one.Goals as goal
+
+pub returns-clause-ordered : goal.returns-clause-ordered
+returns-clause-ordered c = record { low = inl (omega arith, omega arith); high = inl (omega arith, omega arith); order = AtMost-refl _ }
+
+pub returns-clause-bounds : goal.returns-clause-bounds
+returns-clause-bounds c = record { lower = (inl (omega arith, omega arith), unity_is); upper = (inl (omega arith, omega arith), unity_is) }
+
+pub returns-clause-reach : goal.returns-clause-reach
+returns-clause-reach c = size_reach _ 17 (record { positive = omega arith; above = omega (arith, ints); below = omega (arith, ints) }) (record { positive = omega arith; above = omega (arith, ints); below = omega (arith, ints) })

@@ -1,0 +1,5 @@
+use Rattle.conductance_bounds.proofs.FaceBounds.{faces_enclose}
+use Rattle.conductance_bounds.proofs.laws.faces_enclose.Goals as goal
+
+pub returns : goal.returns
+returns c = λ m thick bed. faces_enclose m thick bed

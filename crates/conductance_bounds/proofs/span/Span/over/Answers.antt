@@ -1,0 +1,29 @@
+use Rattle.conductance_bounds.proofs.Arithmetic.{nears, positive_above, quotient_ordered, quotient_reach}
+use Rattle.conductance_bounds.proofs.span.Span.over.Goals as goal
+
+pub div_dn-requires-clause-a_near : goal.div_dn-requires-clause-a_near
+div_dn-requires-clause-a_near c = (nears c.args.self c.args.divisor c.requires.near).low
+
+pub div_dn-requires-clause-b_near : goal.div_dn-requires-clause-b_near
+div_dn-requires-clause-b_near c = (nears c.args.self c.args.divisor c.requires.near).other_high
+
+pub div_dn-requires-clause-divisor : goal.div_dn-requires-clause-divisor
+div_dn-requires-clause-divisor c = positive_above c.args.divisor.lo c.args.divisor.hi c.requires.second.order c.requires.divisor_positive
+
+pub div_up-requires-clause-a_near : goal.div_up-requires-clause-a_near
+div_up-requires-clause-a_near c = (nears c.args.self c.args.divisor c.requires.near).high
+
+pub div_up-requires-clause-b_near : goal.div_up-requires-clause-b_near
+div_up-requires-clause-b_near c = (nears c.args.self c.args.divisor c.requires.near).other_low
+
+pub returns-clause-ordered : goal.returns-clause-ordered
+returns-clause-ordered c = quotient_ordered c.args.self c.args.divisor _ c.requires.first c.requires.second c.requires.divisor_positive c.div_dn.ensures.nearest c.div_up.ensures.nearest
+
+pub returns-clause-reach : goal.returns-clause-reach
+returns-clause-reach c = quotient_reach c.args.self c.args.divisor _ c.div_dn.ensures.exponent c.div_up.ensures.exponent
+
+pub returns-clause-bounds : goal.returns-clause-bounds
+returns-clause-bounds c = λ t u p q. record {
+  lower = (c.args.self.lo, c.args.divisor.hi, p.lower, q.upper, positive_above c.args.divisor.lo c.args.divisor.hi c.requires.second.order c.requires.divisor_positive, c.div_dn.ensures.nearest);
+  upper = (c.args.self.hi, c.args.divisor.lo, p.upper, q.lower, c.requires.divisor_positive, c.div_up.ensures.nearest);
+}

@@ -1,0 +1,26 @@
+use Rattle.conductance_bounds.proofs.Arithmetic.{nears, sum_ordered, sum_reach}
+use Rattle.conductance_bounds.proofs.span.Span.plus.Goals as goal
+
+pub add_dn-requires-clause-a_near : goal.add_dn-requires-clause-a_near
+add_dn-requires-clause-a_near c = (nears c.args.self c.args.other c.requires.near).low
+
+pub add_dn-requires-clause-b_near : goal.add_dn-requires-clause-b_near
+add_dn-requires-clause-b_near c = (nears c.args.self c.args.other c.requires.near).other_low
+
+pub add_up-requires-clause-a_near : goal.add_up-requires-clause-a_near
+add_up-requires-clause-a_near c = (nears c.args.self c.args.other c.requires.near).high
+
+pub add_up-requires-clause-b_near : goal.add_up-requires-clause-b_near
+add_up-requires-clause-b_near c = (nears c.args.self c.args.other c.requires.near).other_high
+
+pub returns-clause-ordered : goal.returns-clause-ordered
+returns-clause-ordered c = sum_ordered c.args.self c.args.other _ c.requires.first c.requires.second c.add_dn.ensures.nearest c.add_up.ensures.nearest
+
+pub returns-clause-reach : goal.returns-clause-reach
+returns-clause-reach c = sum_reach c.args.self c.args.other _ c.add_dn.ensures.exponent c.add_up.ensures.exponent
+
+pub returns-clause-bounds : goal.returns-clause-bounds
+returns-clause-bounds c = λ t u p q. record {
+  lower = (c.args.self.lo, c.args.other.lo, p.lower, q.lower, c.add_dn.ensures.nearest);
+  upper = (c.args.self.hi, c.args.other.hi, p.upper, q.upper, c.add_up.ensures.nearest);
+}

@@ -1,0 +1,26 @@
+use Rattle.conductance_bounds.proofs.Arithmetic.{nears, product_ordered, product_reach}
+use Rattle.conductance_bounds.proofs.span.Span.times.Goals as goal
+
+pub mul_dn-requires-clause-a_near : goal.mul_dn-requires-clause-a_near
+mul_dn-requires-clause-a_near c = (nears c.args.self c.args.other c.requires.near).low
+
+pub mul_dn-requires-clause-b_near : goal.mul_dn-requires-clause-b_near
+mul_dn-requires-clause-b_near c = (nears c.args.self c.args.other c.requires.near).other_low
+
+pub mul_up-requires-clause-a_near : goal.mul_up-requires-clause-a_near
+mul_up-requires-clause-a_near c = (nears c.args.self c.args.other c.requires.near).high
+
+pub mul_up-requires-clause-b_near : goal.mul_up-requires-clause-b_near
+mul_up-requires-clause-b_near c = (nears c.args.self c.args.other c.requires.near).other_high
+
+pub returns-clause-ordered : goal.returns-clause-ordered
+returns-clause-ordered c = product_ordered c.args.self c.args.other _ c.requires.first c.requires.second c.mul_dn.ensures.nearest c.mul_up.ensures.nearest
+
+pub returns-clause-reach : goal.returns-clause-reach
+returns-clause-reach c = product_reach c.args.self c.args.other _ c.mul_dn.ensures.exponent c.mul_up.ensures.exponent
+
+pub returns-clause-bounds : goal.returns-clause-bounds
+returns-clause-bounds c = λ t u p q. record {
+  lower = (c.args.self.lo, c.args.other.lo, p.lower, q.lower, c.mul_dn.ensures.nearest);
+  upper = (c.args.self.hi, c.args.other.hi, p.upper, q.upper, c.mul_up.ensures.nearest);
+}

@@ -1,0 +1,22 @@
+-- What the arithmetic on spans keeps.
+use Rattle.std.specs.Prelude.{ℕ, max, unsigned_abs}
+use Rattle.decimal_input.specs.Ratios.{AtMost}
+use Rattle.scaled_decimal.specs.Nearest.{IsSd, value}
+use Rattle.conductance_bounds.specs.declared.span.Span.{Span}
+use Rattle.conductance_bounds.specs.Terms.{Term, IsBound}
+use Rattle.conductance_bounds.specs.Terms.Side.{Lower, Upper}
+
+-- two decimals in order
+pub record IsOrdered (x : Span) : Type 0 where
+  pub low : IsSd x.lo
+  pub high : IsSd x.hi
+  pub order : AtMost (value x.lo) (value x.hi)
+
+-- the greater magnitude of the two exponents
+unfoldable pub reach : Span → ℕ
+reach x = max (unsigned_abs x.lo.e) (unsigned_abs x.hi.e)
+
+-- both bounds of a formula
+pub record AreBounds (t : Term) (x : Span) : Type 0 where
+  pub lower : IsBound t Lower x.lo
+  pub upper : IsBound t Upper x.hi

@@ -1,0 +1,10 @@
+pub mod Terms
+pub mod Thicknesses
+pub mod Intervals
+pub mod Growth
+pub mod Calls
+pub mod Pairs
+pub mod Branches
+pub mod Parts
+pub mod Formulas
+pub mod ModelLaws

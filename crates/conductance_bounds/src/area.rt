@@ -1,0 +1,22 @@
+// The area of a cell.
+ghost use Rattle.std.specs.Prelude.{◌<◌, ◌≤◌};
+ghost use Rattle.decimal_input.specs.Canonical.{size};
+ghost use Rattle.model_types.specs.Numbers.{IsPositive};
+ghost use Rattle.conductance_bounds.specs.Branches.{area_formula};
+ghost use Rattle.conductance_bounds.specs.Intervals.{IsOrdered, reach, AreBounds};
+
+use crate::interval::exactly;
+use crate::span::Span;
+use decimal_input::dec::Dec;
+
+/// The area of a cell seen from above.
+pub(crate) fn area(delr: Dec, delc: Dec) -> Span
+    requires delr { IsPositive delr }
+    requires delc { IsPositive delc }
+    ensures ordered { IsOrdered result }
+    ensures bounds { AreBounds (area_formula (size delr) (size delc)) result }
+    ensures reach { reach result ≤ 132 }
+    ensures positive { 0 < result.lo.m }
+{
+    exactly(delr).times(exactly(delc))
+}

@@ -1,0 +1,27 @@
+// Evapotranspiration as a conductance.
+ghost use Rattle.std.specs.Prelude.{◌≤◌, IfSome};
+ghost use Rattle.decimal_input.specs.Canonical.{size};
+ghost use Rattle.decimal_input.specs.Enclosures.{Encloses};
+ghost use Rattle.model_types.specs.Numbers.{IsPositive, IsNotNegative};
+ghost use Rattle.conductance_bounds.specs.Branches.{evap_formula, evap_exact};
+ghost use Rattle.conductance_bounds.specs.Pairs.{IsWholePair};
+
+use crate::area::area;
+use crate::interval::exactly;
+use crate::pair::{Pair, pair_of};
+use decimal_input::dec::Dec;
+
+/// The bounds of evapotranspiration at the rate EVTR over the depth EXDP, as a conductance in units of 10 ^ -s; none
+/// where the upper one is 2 ^ 60 or more. (TM 6-A16, chapter 6, EVT.)
+pub fn evap_branch(evtr: Dec, exdp: Dec, delr: Dec, delc: Dec, s: u32) -> Option<Pair>
+    requires evtr { IsNotNegative evtr }
+    requires exdp { IsPositive exdp }
+    requires delr { IsPositive delr }
+    requires delc { IsPositive delc }
+    requires places { s ≤ 18 }
+    ensures rounded { IsWholePair (evap_formula (size evtr) (size delr) (size delc) (size exdp)) s result }
+    ensures encloses { IfSome result (λ p. Encloses p.lo p.hi s (evap_exact evtr exdp delr delc)) }
+{
+    let rate = exactly(evtr).times(area(delr, delc));
+    pair_of(rate.over(exactly(exdp)), s)
+}

@@ -1,0 +1,23 @@
+// What the bounds of a valid model owe to its exact numbers.
+ghost use Rattle.std.specs.Prelude.{ℕ};
+ghost use Rattle.model_types.specs.declared.model.FlowModel.{FlowModel};
+ghost use Rattle.model_types.specs.Valid.{IsModel};
+ghost use Rattle.conductance_bounds.specs.declared.span.Span.{Span as Decimals};
+ghost use Rattle.conductance_bounds.specs.ModelLaws.{AreSpanned, FacesEnclose, StoragesEnclose, RechargesEnclose, EvapsEnclose, HeadsEnclose};
+
+/// The pairs of a valid model's faces enclose the manual's conductances.
+pub fn faces_enclose()
+    ensures { (m : FlowModel) (thick bed : ℕ → Decimals) → IsModel m → AreSpanned m thick bed → FacesEnclose m thick bed }
+{}
+
+/// Those of its storages, recharges and evapotranspirations enclose the exact ones.
+pub fn sources_enclose()
+    ensures storages { (m : FlowModel) (thick bed : ℕ → Decimals) → IsModel m → AreSpanned m thick bed → StoragesEnclose m thick }
+    ensures recharges { (m : FlowModel) → RechargesEnclose m }
+    ensures evaps { (m : FlowModel) → EvapsEnclose m }
+{}
+
+/// Those of its given heads enclose the exact ones at every step.
+pub fn heads_enclose()
+    ensures { HeadsEnclose }
+{}

@@ -1,0 +1,46 @@
+// Two whole bounds.
+ghost use Rattle.std.specs.Prelude.{◌≤◌};
+ghost use Rattle.conductance_bounds.specs.Terms.{Term};
+ghost use Rattle.conductance_bounds.specs.Pairs.{IsWholePair};
+ghost use Rattle.conductance_bounds.specs.Intervals.{IsOrdered, AreBounds};
+
+use crate::span::Span;
+use scaled_decimal::{ceil_units, floor_units};
+
+/// A lower and an upper bound of a conductance, in units of 10 ^ -s.
+#[derive(Clone, Copy, Debug, PartialEq, Eq)]
+pub struct Pair {
+    pub lo: u64,
+    pub hi: u64,
+}
+
+/// A lower and an upper bound of a flow, in units of 10 ^ -(s + 9).
+#[derive(Clone, Copy, Debug, PartialEq, Eq)]
+pub struct FlowPair {
+    pub lo: i128,
+    pub hi: i128,
+}
+
+const TOO_LARGE: u128 = 1 << 60;
+
+/// The whole bounds in units of 10 ^ -s, or none where the upper one is 2 ^ 60 or more.
+#[tactic(auto, using(crate::proofs::Whole::pair_lemmas))]
+pub(crate) fn pair_of(x: Span, s: u32) -> Option<Pair>
+    requires ordered { IsOrdered x }
+    ensures bounds { (t : Term) → AreBounds t x → IsWholePair t s result }
+{
+    let Some(high) = ceil_units(x.hi, s) else {
+        return None;
+    };
+    let Some(low) = floor_units(x.lo, s) else {
+        return None;
+    };
+    if high < TOO_LARGE {
+        Some(Pair {
+            lo: low as u64,
+            hi: high as u64,
+        })
+    } else {
+        None
+    }
+}

@@ -1,0 +1,70 @@
+// Recharge over a cell's area.
+ghost use Rattle.std.specs.Prelude.{◌≡◌, ◌+◌, ◌<◌, ◌≤◌, ◌^◌, pos, neg_ℤ, IfSome};
+ghost use Rattle.decimal_input.specs.Canonical.{IsDec, size};
+ghost use Rattle.decimal_input.specs.Enclosures.{EnclosesSigned};
+ghost use Rattle.model_types.specs.Numbers.{IsPositive};
+ghost use Rattle.conductance_bounds.specs.Terms.{Term};
+ghost use Rattle.conductance_bounds.specs.Intervals.{IsOrdered, AreBounds};
+ghost use Rattle.conductance_bounds.specs.Branches.{recharge_formula, recharge_exact};
+ghost use Rattle.conductance_bounds.specs.Pairs.{IsFlowPair};
+
+use crate::interval::exactly;
+use crate::pair::FlowPair;
+use crate::span::Span;
+use decimal_input::dec::Dec;
+use scaled_decimal::{ceil_units, floor_units};
+
+/// The bounds of the flow of recharge into a cell, in units of 10 ^ -(s + 9); none where a magnitude is 2 ^ 126 or
+/// more. (TM 6-A16, chapter 6, RCH.)
+pub fn recharge_flow(rech: Dec, delr: Dec, delc: Dec, s: u32) -> Option<FlowPair>
+    requires rech { IsDec rech }
+    requires delr { IsPositive delr }
+    requires delc { IsPositive delc }
+    requires places { s ≤ 18 }
+    ensures rounded { IsFlowPair (recharge_formula (size rech) (size delr) (size delc)) rech.neg (s + 9) result }
+    ensures encloses { IfSome result (λ p. EnclosesSigned p.lo p.hi (s + 9) (recharge_exact rech delr delc)) }
+{
+    let mut magnitude = rech;
+    magnitude.neg = false;
+    let flow = exactly(magnitude).times(exactly(delr)).times(exactly(delc));
+    flow_of(flow, rech.neg, s + 9)
+}
+
+// The whole bounds in units of 10 ^ -places, negated and exchanged for a flow below 0.
+#[tactic(auto, using(crate::proofs::Whole::pair_lemmas))]
+fn flow_of(x: Span, neg: bool, places: u32) -> Option<FlowPair>
+    requires ordered { IsOrdered x }
+    ensures bounds { (t : Term) → AreBounds t x → IsFlowPair t neg places result }
+{
+    let Some(most) = ceil_units(x.hi, places) else {
+        return None;
+    };
+    let Some(least) = floor_units(x.lo, places) else {
+        return None;
+    };
+    if neg {
+        Some(FlowPair {
+            lo: negative(most),
+            hi: negative(least),
+        })
+    } else {
+        Some(FlowPair {
+            lo: positive(least),
+            hi: positive(most),
+        })
+    }
+}
+
+fn positive(units: u128) -> i128
+    requires small { units < 2 ^ 126 }
+    ensures { result ≡ pos units }
+{
+    units as i128
+}
+
+fn negative(units: u128) -> i128
+    requires small { units < 2 ^ 126 }
+    ensures { result ≡ neg_ℤ (pos units) }
+{
+    -(units as i128)
+}
