@@ -1,0 +1,45 @@
+-- A file of the basic package: options, IBOUND, HNOFLO, STRT (TM 6-A16, BAS6).
+use Rattle.std.specs.Prelude.{ℕ, ℤ, List, Bool, not, ◌&&◌, Result, Ok, Err, if◌then◌else◌, codes}
+use Rattle.std.specs.List.{list_any}
+use Rattle.decimal_input.specs.declared.dec.Dec.{Dec}
+use Rattle.outside.specs.Files.{File}
+use Rattle.outside.specs.Refusals.{refusal}
+use Rattle.outside.specs.declared.codes.Code.TheVariants.{OutOfProfile}
+use Rattle.outside.specs.declared.refusals.Refusal.{Refusal}
+use Rattle.record_lines.specs.Items.{is_word, line_at}
+use Rattle.record_lines.specs.Layout.{Left, words, left_from, without_comments}
+use Rattle.record_lines.specs.Reading.{◌>>=◌}
+use Rattle.array_reader.specs.Arrays.{layers}
+use Rattle.array_reader.specs.Items.{number_at}
+use Rattle.array_reader.specs.Kinds.{real, whole}
+use Rattle.array_reader.specs.Numbers.{number}
+use Rattle.model_types.specs.declared.model.FlowModel.{FlowModel}
+
+-- free format, and neither of the options XSECTION and CHTOCH, in any letter case
+abbrev pub is_in_profile : List (List ℕ) → Bool
+is_in_profile options = list_any (is_word (codes "FREE")) options && (not (list_any (is_word (codes "XSECTION")) options) && not (list_any (is_word (codes "CHTOCH")) options))
+
+unfoldable pub option_line : List ℕ → Left → Result (Unit {0} × Left) Refusal
+option_line file left = do
+  line ← line_at file left
+  if is_in_profile (words line.0.bytes) then Ok (tt, line.1) else Err (refusal OutOfProfile file line.0.number)
+
+-- HNOFLO, which is a number
+unfoldable pub head_item : List ℕ → Left → Result (Unit {0} × Left) Refusal
+head_item file left = do
+  line ← line_at file left
+  hnoflo ← number_at number file line.0.number (words line.0.bytes)
+  Ok (tt, line.1)
+
+-- a model with IBOUND and STRT
+abbrev pub with_basics : FlowModel → List ℤ → List Dec → FlowModel
+with_basics m ibound strt = record m { ibound = ibound; strt = strt }
+
+-- IBOUND and STRT are an array for each layer
+unfoldable pub bas_of : List File → List ℕ → List ℕ → FlowModel → Result FlowModel Refusal
+bas_of files file bytes m = do
+  options ← option_line file (without_comments (left_from 1 bytes))
+  ibound ← layers whole files file m.grid.layers m.grid.rows m.grid.cols options.1
+  hnoflo ← head_item file ibound.1
+  strt ← layers real files file m.grid.layers m.grid.rows m.grid.cols hnoflo.1
+  Ok (with_basics m ibound.0 strt.0)

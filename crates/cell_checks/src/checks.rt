@@ -1,0 +1,72 @@
+// Checks over all cells.
+ghost use Rattle.std.specs.Prelude.{◌≡◌, ◌<◌, All};
+ghost use Rattle.decimal_input.specs.Canonical.{IsDec};
+ghost use Rattle.model_types.specs.Cells.{cell_count};
+ghost use Rattle.model_types.specs.Grids.{IsGrid, HasSize};
+ghost use Rattle.record_lines.specs.Reading.{HasText};
+ghost use Rattle.cell_checks.specs.Checks.{at_cell, cell_step, checked};
+ghost use Rattle.cell_checks.specs.Faults.{fault_at};
+
+use crate::passing::{Check, fault_at};
+use model_types::{CellId, FlowModel, Grid, place_of};
+use outside::{Code, Name, Refusal, TextFault};
+use std::alloc::Global;
+
+/// The refusal of a cell that has a fault.
+fn at_cell(
+    alloc: Global,
+    grid: &Grid,
+    file: &str,
+    cell: u32,
+    fault: Option<Code>,
+) -> Result<(), TextFault>
+    requires size { HasSize grid.now }
+    requires cell { cell < cell_count grid.now }
+    ensures { HasText (λ _. tt) result (at_cell grid.now file.now cell fault) }
+{
+    match fault {
+        None => Ok(()),
+        Some(code) => Err(TextFault::Refused(Refusal {
+            code,
+            file: Name::new(alloc, file)?,
+            line: 0,
+            at: Some(place_of(grid, CellId(cell))),
+        })),
+    }
+}
+
+fn check_cell(
+    alloc: Global,
+    model: &FlowModel,
+    file: &str,
+    check: Check,
+    cell: u32,
+) -> Result<(), TextFault>
+    requires grid { IsGrid model.now.grid }
+    requires strt { All IsDec model.now.strt }
+    requires cell { cell < cell_count model.now.grid }
+    ensures { HasText (λ _. tt) result (cell_step model.now file.now check cell tt) }
+{
+    let fault = fault_at(check, model, cell);
+    at_cell(alloc, &model.grid, file, cell, fault)
+}
+
+/// The first cell, by ascending number, that fails a check is refused, with line 0 and its layer, row and column.
+/// `file` is the file that is refused.
+#[tactic(auto, unfolding(crate::specs::Checks::checked))]
+pub fn check_cells(
+    alloc: Global,
+    model: &FlowModel,
+    file: &str,
+    check: Check,
+) -> Result<(), TextFault>
+    requires grid { IsGrid model.now.grid }
+    requires strt { All IsDec model.now.strt }
+    ensures { HasText (λ _. tt) result (checked model.now file.now check) }
+{
+    let cells = model.grid.cell_count();
+    for cell in 0..cells {
+        check_cell(alloc, model, file, check, cell)?;
+    }
+    Ok(())
+}

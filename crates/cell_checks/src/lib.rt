@@ -1,0 +1,9 @@
+//! Checks over the active cells of a model: thickness, starting heads, properties.
+#![tactic(auto)]
+
+mod checks;
+mod elevations;
+mod passing;
+
+pub use checks::check_cells;
+pub use passing::Check;

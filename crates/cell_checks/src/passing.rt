@@ -1,0 +1,88 @@
+// What a cell has to pass.
+ghost use Rattle.std.specs.Prelude.{◌≡◌, ◌<◌, All};
+ghost use Rattle.decimal_input.specs.Canonical.{IsDec};
+ghost use Rattle.model_types.specs.Cells.{cell_count};
+ghost use Rattle.model_types.specs.Grids.{IsGrid};
+ghost use Rattle.model_types.specs.Layers.{dec_at};
+ghost use Rattle.cell_checks.specs.Faults.{has_head, has_good_properties, passes, code_of, fault_at};
+
+use crate::elevations::{is_checked_bed, is_thick_cell};
+use decimal_input::dec::Dec;
+use model_types::FlowModel;
+use model_types::layers::dec_at;
+use number_limits::{is_head, is_positive};
+use outside::Code;
+
+/// The checks over the active cells: after BAS6 the thickness of each and the starting head of each, after LPF the
+/// properties of each.
+#[derive(Clone, Copy, Debug, PartialEq, Eq)]
+pub enum Check {
+    Thickness,
+    StartHead,
+    Properties,
+}
+
+fn start_head(model: &FlowModel, cell: u32) -> Dec
+    requires strt { All IsDec model.now.strt }
+    ensures value { result ≡ dec_at model.now.strt cell }
+    ensures canonical { IsDec result }
+{
+    dec_at(model.strt.as_slice(), cell)
+}
+
+fn has_head(model: &FlowModel, cell: u32) -> bool
+    requires strt { All IsDec model.now.strt }
+    ensures { result ≡ has_head model.now cell }
+{
+    is_head(start_head(model, cell))
+}
+
+fn has_good_properties(model: &FlowModel, cell: u32) -> bool
+    requires grid { IsGrid model.now.grid }
+    requires cell { cell < cell_count model.now.grid }
+    ensures { result ≡ has_good_properties model.now cell }
+{
+    is_positive(dec_at(model.hk.as_slice(), cell))
+        && is_positive(dec_at(model.hani.as_slice(), cell))
+        && (model.grid.layers <= 1 || is_positive(dec_at(model.vka.as_slice(), cell)))
+        && !dec_at(model.ss.as_slice(), cell).neg
+        && (!is_checked_bed(model, cell) || is_positive(dec_at(model.vkcb.as_slice(), cell)))
+}
+
+fn passes(check: Check, model: &FlowModel, cell: u32) -> bool
+    requires grid { IsGrid model.now.grid }
+    requires strt { All IsDec model.now.strt }
+    requires cell { cell < cell_count model.now.grid }
+    ensures { result ≡ passes check model.now cell }
+{
+    match check {
+        Check::Thickness => is_thick_cell(model, cell),
+        Check::StartHead => has_head(model, cell),
+        Check::Properties => has_good_properties(model, cell),
+    }
+}
+
+fn code_of(check: Check) -> Code
+    ensures { result ≡ code_of check }
+{
+    match check {
+        Check::Thickness => Code::BadThickness,
+        Check::StartHead => Code::HeadTooLarge,
+        Check::Properties => Code::BadProperty,
+    }
+}
+
+/// The fault of a cell under a check; none of a cell that isn't active or passes.
+#[tactic(auto, unfolding(crate::specs::Faults::fault_at))]
+pub fn fault_at(check: Check, model: &FlowModel, cell: u32) -> Option<Code>
+    requires grid { IsGrid model.now.grid }
+    requires strt { All IsDec model.now.strt }
+    requires cell { cell < cell_count model.now.grid }
+    ensures { result ≡ fault_at check model.now cell }
+{
+    if !model.is_active(cell) || passes(check, model, cell) {
+        None
+    } else {
+        Some(code_of(check))
+    }
+}

@@ -1,0 +1,2 @@
+pub mod BedLemmas
+pub mod TimeLemmas

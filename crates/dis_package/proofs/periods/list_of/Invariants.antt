@@ -1,0 +1,13 @@
+use Rattle.std.proofs.Common.{◌≡◌, ◌-◌, ◌≤◌, length, All}
+use Rattle.std.specs.Prelude.{sum_by}
+use Rattle.record_lines.specs.Reading.{repeated}
+use Rattle.record_lines.proofs.Loops.{with_front}
+use Rattle.dis_package.specs.Forms.{IsNewPeriod}
+use Rattle.dis_package.specs.Times.{period_at}
+use Rattle.dis_package.proofs.periods.list_of.Given as goal
+
+abbrev pub invariant-loop : goal.invariant-loop
+invariant-loop l =
+    (with_front l.periods.items (repeated (l.count - l.counter) (period_at l.file) (l.steps, l.lines)) ≡ repeated l.count (period_at l.file) (l.fn.steps, l.fn.lines))
+    × (length l.periods.items ≡ l.counter) × (l.steps ≤ 100000)
+    × (sum_by (λ p. p.nstp) l.periods.items ≡ l.steps) × All IsNewPeriod l.periods.items

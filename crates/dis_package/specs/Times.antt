@@ -1,0 +1,56 @@
+-- The lines of the stress periods: PERLEN NSTP TSMULT and SS or TR (TM 6-A16, DIS, item 7). Limits are this program's own.
+use Rattle.std.specs.Prelude.{ℕ, ◌+◌, List, [], ◌∷◌, Bool, true, false, not, ◌&&◌, ◌||◌, nat_le, Option, Some, None, Result, Ok, Err, if◌then◌else◌, codes}
+use Rattle.decimal_input.specs.Canonical.{size}
+use Rattle.outside.specs.Refusals.{refusal}
+use Rattle.outside.specs.declared.codes.Code.TheVariants.{BadGrid}
+use Rattle.outside.specs.declared.refusals.Refusal.{Refusal}
+use Rattle.record_lines.specs.Items.{is_word, line_at}
+use Rattle.record_lines.specs.Layout.{Left, words}
+use Rattle.record_lines.specs.Reading.{◌>>=◌, repeated}
+use Rattle.array_reader.specs.Items.{number_at}
+use Rattle.array_reader.specs.Numbers.{number}
+use Rattle.model_types.specs.declared.period.Period.{Period}
+use Rattle.number_limits.specs.Magnitudes.{is_at_most, is_at_least}
+use Rattle.number_limits.specs.Signs.{is_positive, is_one}
+use Rattle.dis_package.specs.Frames.{count_at}
+use Rattle.dis_package.specs.declared.time.Time.{Time}
+
+-- whether the period is steady, SS, or transient, TR, in any letter case
+abbrev pub kind_of : List (List ℕ) → Option Bool
+kind_of [] = None
+kind_of (w ∷ ws) = if is_word (codes "SS") w then Some true else (if is_word (codes "TR") w then Some false else None)
+
+abbrev pub known : Option Bool → Refusal → Result Bool Refusal
+known None r = Err r
+known (Some steady) r = Ok steady
+
+-- a transient period's TSMULT is 1, or it is from 0.001 to 1000 and NSTP is at most 1000
+abbrev pub is_growth : Time → Bool
+is_growth t = is_one t.tsmult || (nat_le t.nstp 1000 && (is_at_least 3 (size t.tsmult) && is_at_most 1000 (size t.tsmult)))
+
+-- PERLEN isn't below 0, and is above 0 in a transient period; TSMULT is above 0
+abbrev pub is_time : Time → Bool
+is_time t = if t.steady then not t.perlen.neg && is_positive t.tsmult else (is_positive t.perlen && is_positive t.tsmult) && is_growth t
+
+-- NSTP is at most 100000
+unfoldable pub time_of : List ℕ → ℕ → List (List ℕ) → Result Time Refusal
+time_of file line words = do
+  perlen ← number_at number file line words
+  nstp ← count_at file line 100000 perlen.1
+  tsmult ← number_at number file line nstp.1
+  steady ← known (kind_of tsmult.1) (refusal BadGrid file line)
+  Ok (record { perlen = perlen.0; nstp = nstp.0; tsmult = tsmult.0; steady = steady })
+
+-- a period without stresses
+abbrev pub bare : Time → Period
+bare t = record { perlen = t.perlen; nstp = t.nstp; tsmult = t.tsmult; steady = t.steady; wells = []; rivers = []; drains = []; generals = []; given = []; recharge = []; irch = []; surf = []; evtr = []; exdp = []; ievt = [] }
+
+-- a period, behind so many steps of the periods before it; with its own they are at most 100000
+unfoldable pub period_at : List ℕ → (ℕ × Left) → Result (Period × (ℕ × Left)) Refusal
+period_at file s = do
+  line ← line_at file s.1
+  time ← time_of file line.0.number (words line.0.bytes)
+  if is_time time && nat_le (s.0 + time.nstp) 100000 then Ok (bare time, (s.0 + time.nstp, line.1)) else Err (refusal BadGrid file line.0.number)
+
+unfoldable pub periods_of : List ℕ → ℕ → Left → Result (List Period) Refusal
+periods_of file count left = repeated count (period_at file) (0, left) >>= λ x. Ok x.0

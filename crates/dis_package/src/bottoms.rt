@@ -1,0 +1,103 @@
+// The bottoms of the layers and of the confining beds below them.
+ghost use Rattle.std.specs.Prelude.{◌≡◌, ◌*◌, IfOk, IsTrue, is_some, length, [], ◌+◌, ◌++◌, All};
+ghost use Rattle.decimal_input.specs.Canonical.{IsDec};
+ghost use Rattle.outside.specs.Counts.{InputCounts};
+ghost use Rattle.record_lines.specs.Reading.{Gives, counted};
+ghost use Rattle.array_reader.specs.Arrays.{told};
+ghost use Rattle.dis_package.specs.Grids.{bottom_at, bottoms_of};
+
+use crate::frame::Size;
+use array_reader::read_layer;
+use decimal_input::dec::Dec;
+use model_types::Listed;
+use model_types::layers::int_at;
+use outside::{Folder, InputFault};
+use package_items::layer_or;
+use record_lines::Lines;
+use std::alloc::{AllocError, Global};
+
+/// The bottoms of the layers that were read, and of the beds below them.
+#[derive(Debug, Drop)]
+pub struct Bottoms {
+    pub layers: Listed<Dec>,
+    pub beds: Listed<Dec>,
+}
+
+#[tactic(auto, using(array_reader::proofs::ListLemmas::all_joined))]
+fn extended(list: Listed<Dec>, more: &[Dec]) -> Result<Listed<Dec>, AllocError>
+    requires list { All IsDec list }
+    requires more { All IsDec more.now }
+    ensures list { IfOk result (λ l. l ≡ list ++ more.now) }
+    ensures canonical { IfOk result (All IsDec) }
+{
+    let mut items = list.into_vec();
+    items.extend_from_slice(more)?;
+    Ok(Listed::new(items))
+}
+
+/// One more layer.
+#[tactic(auto, unfolding(crate::specs::Grids::bottom_at))]
+fn bottom_at<F: Folder>(
+    alloc: Global,
+    lines: &mut Lines,
+    file: &str,
+    folder: &mut F,
+    size: &Size,
+    laycbd: &[i64],
+    k: u32,
+    so_far: Bottoms,
+) -> Result<Bottoms, InputFault>
+    requires layers { All IsDec so_far.layers }
+    requires beds { All IsDec so_far.beds }
+    ensures files { F.files folder.new ≡ F.files folder.old }
+    ensures counts { InputCounts (F.faults folder.old) (F.faults folder.new) result }
+    ensures bottoms { IsTrue (is_some (F.files folder.old)) → Gives (λ b. b) result lines.new (bottom_at (told (F.files folder.old)) file.now size.now laycbd.now k (so_far, lines.old)) }
+    ensures layers { IfOk result (λ b. length b.layers ≡ length so_far.layers + size.now.rows * size.now.cols) }
+    ensures beds { IfOk result (λ b. length b.beds ≡ length so_far.beds + size.now.rows * size.now.cols) }
+    ensures canonical { IfOk result (λ b. All IsDec b.layers × All IsDec b.beds) }
+{
+    let Bottoms { layers, beds } = so_far;
+    let bottom = read_layer(alloc, lines, file, folder, size.rows, size.cols)?;
+    let none = Dec {
+        neg: false,
+        digits: 0,
+        exp: 0,
+    };
+    let has_bed = int_at(laycbd, k) != 0;
+    let bed = layer_or(
+        alloc, lines, file, folder, size.rows, size.cols, has_bed, none,
+    )?;
+    Ok(Bottoms {
+        layers: extended(layers, &bottom)?,
+        beds: extended(beds, &bed)?,
+    })
+}
+
+/// The bottoms of so many layers.
+#[tactic(auto, unfolding(crate::specs::Grids::bottoms_of))]
+pub fn bottoms_of<F: Folder>(
+    alloc: Global,
+    lines: &mut Lines,
+    file: &str,
+    folder: &mut F,
+    size: &Size,
+    laycbd: &[i64],
+    count: u32,
+) -> Result<Bottoms, InputFault>
+    ensures files { F.files folder.new ≡ F.files folder.old }
+    ensures counts { InputCounts (F.faults folder.old) (F.faults folder.new) result }
+    ensures bottoms { IsTrue (is_some (F.files folder.old)) → Gives (λ b. b) result lines.new (bottoms_of (told (F.files folder.old)) file.now size.now laycbd.now count lines.old) }
+    ensures layers { IfOk result (λ b. length b.layers ≡ count * (size.now.rows * size.now.cols)) }
+    ensures beds { IfOk result (λ b. length b.beds ≡ count * (size.now.rows * size.now.cols)) }
+    ensures canonical { IfOk result (λ b. All IsDec b.layers × All IsDec b.beds) }
+{
+    let mut bottoms = Bottoms {
+        layers: Listed::new(Vec::new(alloc)),
+        beds: Listed::new(Vec::new(alloc)),
+    };
+    for k in 0..count {
+        let more = bottom_at(alloc, lines, file, folder, size, laycbd, k, bottoms)?;
+        bottoms = more;
+    }
+    Ok(bottoms)
+}

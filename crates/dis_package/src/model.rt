@@ -1,0 +1,81 @@
+// The model that the discretization begins.
+ghost use Rattle.std.specs.Prelude.{◌≡◌, ◌-◌, pos, IfOk, IsTrue, is_some, length};
+ghost use Rattle.outside.specs.Counts.{InputCounts};
+ghost use Rattle.record_lines.specs.Reading.{Has, GivesText};
+ghost use Rattle.array_reader.specs.Arrays.{told};
+ghost use Rattle.model_types.specs.Layers.{int_at};
+ghost use Rattle.dis_package.specs.Discretization.{begun, head_of, dis_of};
+ghost use Rattle.dis_package.specs.Forms.{IsFrame, IsBegun};
+
+use crate::beds::beds_of;
+use crate::frame::{Frame, frame_of};
+use crate::grid::grid_of;
+use crate::periods::periods_of;
+use array_reader::next_line;
+use model_types::{FlowModel, Grid, Listed, Period};
+use outside::{Folder, InputFault, TextFault};
+use record_lines::{Lines, Words};
+use std::alloc::Global;
+
+/// The grid line, and LAYCBD.
+#[tactic(auto, unfolding(crate::specs::Discretization::head_of))]
+fn head_of(alloc: Global, lines: &mut Lines, file: &str) -> Result<(Frame, Vec<i64>), TextFault>
+    ensures head { GivesText (λ h. (h.0, h.1.items)) result lines.new (head_of file.now lines.old) }
+    ensures frame { IfOk result (λ h. IsFrame h.0) }
+    ensures beds { IfOk result (λ h. length h.1.items ≡ h.0.size.layers) }
+    ensures last { IfOk result (λ h. int_at h.1.items (h.0.size.layers - 1) ≡ pos 0) }
+{
+    let line = next_line(alloc, lines, file)?;
+    let mut words = Words::of(&line);
+    let frame = frame_of(alloc, &mut words, file, line.number)?;
+    let laycbd = beds_of(alloc, lines, file, frame.size.layers)?;
+    Ok((frame, laycbd))
+}
+
+/// A model of which this much has been read.
+fn begun(alloc: Global, grid: Grid, lenuni: i64, periods: Vec<Period>) -> FlowModel
+    ensures { result ≡ begun grid lenuni periods.items }
+{
+    FlowModel {
+        grid,
+        lenuni,
+        ibound: Listed::new(Vec::new(alloc)),
+        strt: Listed::new(Vec::new(alloc)),
+        layvka: Listed::new(Vec::new(alloc)),
+        coefficient: false,
+        hk: Listed::new(Vec::new(alloc)),
+        hani: Listed::new(Vec::new(alloc)),
+        vka: Listed::new(Vec::new(alloc)),
+        ss: Listed::new(Vec::new(alloc)),
+        vkcb: Listed::new(Vec::new(alloc)),
+        nrchop: 0,
+        nevtop: 0,
+        periods: Listed::new(periods),
+    }
+}
+
+/// The model that a file of the discretization begins: its grid and its stress periods, which have no stresses
+/// yet. `file` is the file's name, for refusals, and `folder` has the files that its arrays name.
+///
+/// # Errors
+/// The first item that is wrong is refused on its line; a read fault comes only from the folder.
+/// (TM 6-A16, DIS)
+#[tactic(auto, unfolding(crate::specs::Discretization::dis_of))]
+pub fn read_dis<F: Folder>(
+    alloc: Global,
+    file: &str,
+    bytes: &[u8],
+    folder: &mut F,
+) -> Result<FlowModel, InputFault>
+    ensures files { F.files folder.new ≡ F.files folder.old }
+    ensures counts { InputCounts (F.faults folder.old) (F.faults folder.new) result }
+    ensures model { IsTrue (is_some (F.files folder.old)) → Has (λ m. m) result (dis_of (told (F.files folder.old)) file.now bytes.now) }
+    ensures form { IfOk result IsBegun }
+{
+    let mut lines = Lines::new(bytes);
+    lines.skip_comments();
+    let (frame, laycbd) = head_of(alloc, &mut lines, file)?;
+    let grid = grid_of(alloc, &mut lines, file, folder, &frame.size, laycbd)?;
+    let periods = periods_of(alloc, &mut lines, file, frame.periods)?;
+    Ok(begun(alloc, grid, frame.lenuni, periods))
+}

@@ -1,0 +1,6 @@
+pub mod Canonical
+pub mod SignLemmas
+pub mod MagnitudeLemmas
+pub mod HeadLemmas
+pub mod FloorLemmas
+pub mod RoomLemmas

@@ -1,0 +1,16 @@
+-- Signs of numbers of the input, and counts.
+use Rattle.std.specs.Prelude.{ℕ, ℤ, pos, negsuc, Bool, not, ◌&&◌, nat_lt, nat_le, ◌==◌, unsigned_abs, Option, Some, None, if◌then◌else◌}
+use Rattle.decimal_input.specs.declared.dec.Dec.{Dec}
+
+-- above 0
+abbrev pub is_positive : Dec → Bool
+is_positive d = not d.neg && nat_lt 0 d.digits
+
+-- 1
+abbrev pub is_one : Dec → Bool
+is_one d = not d.neg && (d.digits == 1 && (unsigned_abs d.exp == 0))
+
+-- a count from 1 to a limit
+abbrev pub within : ℤ → ℕ → Option ℕ
+within (pos n) limit = if nat_lt 0 n && nat_le n limit then Some n else None
+within (negsuc n) limit = None

@@ -1,0 +1,12 @@
+//! What single numbers of the input are tested for: signs, magnitudes, and the room between two elevations.
+#![tactic(auto)]
+
+mod magnitudes;
+mod room;
+mod signs;
+mod whole;
+
+pub use magnitudes::{is_at_least, is_at_most, is_head};
+pub use room::is_thick;
+pub use signs::{all_positive, is_one, is_positive};
+pub use whole::within;

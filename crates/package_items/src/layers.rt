@@ -1,0 +1,40 @@
+// Layer arrays that a file may lack.
+ghost use Rattle.std.specs.Prelude.{◌≡◌, ◌*◌, IfOk, IsTrue, is_some, length, All};
+ghost use Rattle.decimal_input.specs.Canonical.{IsDec};
+ghost use Rattle.outside.specs.Counts.{InputCounts};
+ghost use Rattle.record_lines.specs.Reading.{Gives};
+ghost use Rattle.array_reader.specs.Arrays.{told};
+ghost use Rattle.package_items.specs.Items.{layer_or};
+
+use array_reader::{constants, read_layer};
+use decimal_input::dec::Dec;
+use outside::{Folder, InputFault};
+use record_lines::Lines;
+use std::alloc::Global;
+
+/// A layer of numbers where the file has it, else the same number in each of its cells.
+#[tactic(auto, unfolding(crate::specs::Items::layer_or))]
+pub fn layer_or<F: Folder>(
+    alloc: Global,
+    lines: &mut Lines,
+    file: &str,
+    folder: &mut F,
+    rows: u32,
+    cols: u32,
+    is_there: bool,
+    other: Dec,
+) -> Result<Vec<Dec>, InputFault>
+    requires canonical { IsDec other }
+    ensures files { F.files folder.new ≡ F.files folder.old }
+    ensures counts { InputCounts (F.faults folder.old) (F.faults folder.new) result }
+    ensures layer { IsTrue (is_some (F.files folder.old)) → Gives (λ v. v.items) result lines.new (layer_or (told (F.files folder.old)) file.now rows cols is_there other lines.old) }
+    ensures count { IfOk result (λ v. length v.items ≡ rows * cols) }
+    ensures canonical { IfOk result (λ v. All IsDec v.items) }
+{
+    if is_there {
+        read_layer(alloc, lines, file, folder, rows, cols)
+    } else {
+        let count = rows as usize * cols as usize;
+        Ok(constants(alloc, other, count)?)
+    }
+}
