@@ -1,0 +1,223 @@
+-- What is written is read again.
+use Rattle.std.proofs.Common.{◌≡◌, ℕ, ◌+◌, ◌≤◌, Bool, true, false, cond, List, [], ◌∷◌, ◌++◌, length, codes, nat_abs, All, refl, sym, ap, ◌∙◌, arith, ℤ, pos, negsuc, Ok, slice_index_or}
+use Rattle.std.proofs.lemmas.Int.{ints}
+use Rattle.std.specs.List.{AllByRecursion}
+use Rattle.std.proofs.lemmas.List.{append_assoc}
+use Rattle.std.proofs.lemmas.List.Elements.{recursion_from_All}
+use Rattle.std.proofs.lemmas.Slice.Eq.{bytes_eq-Decides}
+use Rattle.record_lines.specs.Layout.{next_number}
+use Rattle.record_lines.specs.Reading.{for_each}
+use Rattle.step_problem.specs.declared.heads.Bound.{Bound}
+use Rattle.step_problem.specs.declared.place.Dir.{Dir}
+use Rattle.step_problem.specs.declared.place.Dir.TheVariants.{In, Out}
+use Rattle.step_problem.specs.declared.place.Term.{Term}
+use Rattle.step_problem.specs.declared.place.Term.TheVariants.{Storage, ConstantHead, Wells, Drains, RiverLeakage, HeadDepBounds, Recharge, Et}
+use Rattle.step_problem.specs.Conditions.{IsHead, head_limit}
+use Rattle.step_problem.specs.Heads.{no_bound}
+use Rattle.step_problem.specs.Names.{term_name}
+use Rattle.budget_bounds.specs.declared.pair.TermPair.{TermPair}
+use Rattle.budget_bounds.specs.Terms.{no_pair}
+use Rattle.model_types.specs.declared.model.FlowModel.{FlowModel}
+use Rattle.model_types.specs.declared.time_steps.TimeStep.{TimeStep}
+use Rattle.model_types.specs.Layers.{is_active}
+use Rattle.model_types.specs.Times.{times}
+use Rattle.listing_io.specs.declared.listing.ListedStep.{ListedStep}
+use Rattle.listing_io.specs.Numbers.{digits_behind}
+use Rattle.listing_io.specs.Forms.{Form, IsForm, pair_line}
+use Rattle.listing_io.specs.Listing.{Line, first_line, step_line, head_form, head_front, head_line, head_lines, head_pair, dir_front, term_form, term_line, term_lines, has_evt, step_lines, all_step_lines, end_line, listing}
+use Rattle.listing_io.specs.Reading.{Left, pair_at, text_at, head_if, heads_at, term_at, term_if, terms_at, step_at, first_at, listing_at}
+use Rattle.listing_io.specs.Listed.{AreCellBounds, IsFlowPair, AreTerms, IsListedStep, AreListed}
+use Rattle.listing_io.proofs.Exactly.{line_whole}
+use Rattle.listing_io.proofs.Written.{eight_lines, lines_in, lines_out}
+
+abbrev pub left_of : List Line → ℕ → Left
+left_of rows n = record { lines = rows; number = n }
+
+-- two numbers that a line can have
+pub record Fits (f : Form) (p : TermPair) : Type 0 where
+  pub form : IsForm f
+  pub lo : nat_abs p.lo ≤ f.limit
+  pub hi : nat_abs p.hi ≤ f.limit
+
+pub pair_again : (front : List ℕ) (f : Form) (p : TermPair) (rest : List Line) (n : ℕ) → Fits f p → pair_at front f (left_of (pair_line front f p ∷ rest) n) ≡ Ok (p, left_of rest (next_number n))
+unfolding pair_at
+pair_again front f p rest n h = rw (line_whole front f p h.form h.lo h.hi) refl
+
+pub text_again : (text : Line) (rest : List Line) (n : ℕ) → text_at text (left_of (text ∷ rest) n) ≡ Ok (left_of rest (next_number n))
+unfolding text_at
+text_again text rest n = rw ((bytes_eq-Decides text text).1 refl) refl
+
+-- heads and flows that lines can have
+none_behind : (n : ℕ) → digits_behind n [] ≡ n
+unfolding digits_behind
+none_behind n = refl
+
+pub head_is_form : IsForm head_form
+head_is_form = record { some = omega arith; few = omega arith; small = omega arith; behind = none_behind }
+
+head_small : (z : ℤ) → IsHead z → nat_abs z ≤ head_limit
+head_small (pos n) h = let a = h.below in omega (arith, ints, a)
+head_small (negsuc n) h = let a = h.above in omega (arith, ints, a)
+
+pub head_fits : (b : Bound) → IsHead b.low → IsHead b.high → Fits head_form (head_pair b)
+head_fits b l h = record { form = head_is_form; lo = head_small b.low l; hi = head_small b.high h }
+
+name_behind : (t : Term) (n : ℕ) → digits_behind n (codes " " ++ term_name t) ≡ n
+unfolding digits_behind
+name_behind Storage n = refl
+name_behind ConstantHead n = refl
+name_behind Wells n = refl
+name_behind Drains n = refl
+name_behind RiverLeakage n = refl
+name_behind HeadDepBounds n = refl
+name_behind Recharge n = refl
+name_behind Et n = refl
+
+pub term_is_form : (s : ℕ) (t : Term) → s ≤ 18 → IsForm (term_form s t)
+term_is_form s t h = record { some = omega arith; few = omega arith; small = omega arith; behind = name_behind t }
+
+pub term_fits : (s : ℕ) (t : Term) (p : TermPair) → s ≤ 18 → IsFlowPair p → Fits (term_form s t) p
+term_fits s t p few h =
+    let lo = h.lo in
+    let hi = h.hi in
+    record { form = term_is_form s t few; lo = omega (arith, lo); hi = omega (arith, hi) }
+
+-- the heads of a cell
+cell_again : (front : List ℕ) (b : Bound) (flag : Bool) (rest : List Line) (n : ℕ) → IsHead b.low → IsHead b.high → (flag ≡ false → b ≡ no_bound)
+    → (k : ℕ) × (head_if flag front (left_of (cond flag (pair_line front head_form (head_pair b) ∷ []) [] ++ rest) n) ≡ Ok (b, left_of rest k))
+cell_again front b true rest n l h none = (next_number n, rw (pair_again front head_form (head_pair b) rest n (head_fits b l h)) refl)
+cell_again front b false rest n l h none = (n, rw (none refl) refl)
+
+grouped : {X : Type 0} (a b c : List X) → (a ++ b) ++ c ≡ a ++ (b ++ c)
+grouped a b c = append_assoc a b c
+
+pub heads_again : (m : FlowModel) (c : ℕ) (bs : List Bound) (rest : List Line) (n : ℕ) → AreCellBounds m c bs → (k : ℕ) × (heads_at m c (length bs) (left_of (head_lines m c bs ++ rest) n) ≡ Ok (bs, left_of rest k))
+unfolding heads_at head_lines
+heads_again m c [] rest n h = (n, refl)
+heads_again m c (b ∷ bs) rest n h =
+    let row = cond (is_active m c) (head_line m.grid c b ∷ []) [] in
+    let (j, one) = cell_again (head_front m.grid c) b (is_active m c) (head_lines m (c + 1) bs ++ rest) n h.0.low h.0.high h.0.none in
+    let (k, others) = heads_again m (c + 1) bs rest j h.1 in
+    (k, rw (grouped row (head_lines m (c + 1) bs) rest, one, others) refl)
+
+-- the terms
+term_again : (s : ℕ) (dir : Dir) (t : Term) (p : TermPair) (rest : List Line) (n : ℕ) → s ≤ 18 → IsFlowPair p → term_at s dir t (left_of (term_line s dir t p ∷ rest) n) ≡ Ok (p, left_of rest (next_number n))
+term_again s dir t p rest n few h = pair_again (dir_front dir) (term_form s t) p rest n (term_fits s t p few h)
+
+et_again : (evt : Bool) (s : ℕ) (dir : Dir) (x : TermPair) (rest : List Line) (n : ℕ) → s ≤ 18 → IsFlowPair x → (evt ≡ false → x ≡ no_pair)
+    → (k : ℕ) × (term_if evt s dir (left_of (cond evt (term_line s dir Et x ∷ []) [] ++ rest) n) ≡ Ok (x, left_of rest k))
+et_again true s dir x rest n few h none = (next_number n, term_again s dir Et x rest n few h)
+et_again false s dir x rest n few h none = (n, rw (none refl) refl)
+
+-- eight terms in their order
+pub record Eight (pairs : List TermPair) : Type 0 where
+  pub a : TermPair
+  pub b : TermPair
+  pub c : TermPair
+  pub d : TermPair
+  pub e : TermPair
+  pub f : TermPair
+  pub g : TermPair
+  pub x : TermPair
+  pub are : pairs ≡ a ∷ b ∷ c ∷ d ∷ e ∷ f ∷ g ∷ x ∷ []
+
+pub eight_of : (pairs : List TermPair) → length pairs ≡ 8 → Eight pairs
+eight_of [] h = absurd (omega (arith, h))
+eight_of (a ∷ []) h = absurd (omega (arith, h))
+eight_of (a ∷ b ∷ []) h = absurd (omega (arith, h))
+eight_of (a ∷ b ∷ c ∷ []) h = absurd (omega (arith, h))
+eight_of (a ∷ b ∷ c ∷ d ∷ []) h = absurd (omega (arith, h))
+eight_of (a ∷ b ∷ c ∷ d ∷ e ∷ []) h = absurd (omega (arith, h))
+eight_of (a ∷ b ∷ c ∷ d ∷ e ∷ f ∷ []) h = absurd (omega (arith, h))
+eight_of (a ∷ b ∷ c ∷ d ∷ e ∷ f ∷ g ∷ []) h = absurd (omega (arith, h))
+eight_of (a ∷ b ∷ c ∷ d ∷ e ∷ f ∷ g ∷ x ∷ []) h = record { a = a; b = b; c = c; d = d; e = e; f = f; g = g; x = x; are = refl }
+eight_of (a ∷ b ∷ c ∷ d ∷ e ∷ f ∷ g ∷ x ∷ y ∷ ys) h = absurd (omega (arith, h))
+
+eight_again : (evt : Bool) (s : ℕ) (dir : Dir) (a b c d e f g x : TermPair) (rest : List Line) (n : ℕ) → s ≤ 18 → AllByRecursion IsFlowPair (a ∷ b ∷ c ∷ d ∷ e ∷ f ∷ g ∷ x ∷ []) → (evt ≡ false → x ≡ no_pair)
+    → (k : ℕ) × (terms_at evt s dir (left_of (eight_lines evt s dir a b c d e f g x ++ rest) n) ≡ Ok (a ∷ b ∷ c ∷ d ∷ e ∷ f ∷ g ∷ x ∷ [], left_of rest k))
+unfolding terms_at
+eight_again evt s dir a b c d e f g x rest n few small none =
+    let (ha, (hb, (hc, (hd, (he, (hf, (hg, (hx, done)))))))) = small in
+    let r7 = cond evt (term_line s dir Et x ∷ []) [] ++ rest in
+    let r6 = term_line s dir Recharge g ∷ r7 in
+    let r5 = term_line s dir HeadDepBounds f ∷ r6 in
+    let r4 = term_line s dir RiverLeakage e ∷ r5 in
+    let r3 = term_line s dir Drains d ∷ r4 in
+    let r2 = term_line s dir Wells c ∷ r3 in
+    let r1 = term_line s dir ConstantHead b ∷ r2 in
+    let n1 = next_number n in
+    let n2 = next_number n1 in
+    let n3 = next_number n2 in
+    let n4 = next_number n3 in
+    let n5 = next_number n4 in
+    let n6 = next_number n5 in
+    let n7 = next_number n6 in
+    let (k, last) = et_again evt s dir x rest n7 few hx none in (
+      k,
+      rw (
+        term_again s dir Storage a r1 n few ha,
+        term_again s dir ConstantHead b r2 n1 few hb,
+        term_again s dir Wells c r3 n2 few hc,
+        term_again s dir Drains d r4 n3 few hd,
+        term_again s dir RiverLeakage e r5 n4 few he,
+        term_again s dir HeadDepBounds f r6 n5 few hf,
+        term_again s dir Recharge g r7 n6 few hg,
+        last,
+      ) refl,
+    )
+
+-- a list of eight terms of the model
+record TermsAgain (m : FlowModel) (s : ℕ) (dir : Dir) (rows : List Line) (pairs : List TermPair) (rest : List Line) (n : ℕ) : Type 0 where
+  number : ℕ
+  is : terms_at (has_evt m) s dir (left_of (rows ++ rest) n) ≡ Ok (pairs, left_of rest number)
+
+terms_again : (m : FlowModel) (s : ℕ) (dir : Dir) (rows : List Line) (pairs : List TermPair) (rest : List Line) (n : ℕ) (parts : Eight pairs) → s ≤ 18 → AreTerms m pairs
+    → eight_lines (has_evt m) s dir parts.a parts.b parts.c parts.d parts.e parts.f parts.g parts.x ≡ rows → TermsAgain m s dir rows pairs rest n
+terms_again m s dir rows pairs rest n parts few h are =
+    let small = moved pairs _ parts.are h.small in
+    let none = λ (e : has_evt m ≡ false). last_is pairs parts.a parts.b parts.c parts.d parts.e parts.f parts.g parts.x parts.are (h.no_et e) in
+    let (k, read) = eight_again (has_evt m) s dir parts.a parts.b parts.c parts.d parts.e parts.f parts.g parts.x rest n few small none in
+    record { number = k; is = ap (λ (t : List Line). terms_at (has_evt m) s dir (left_of (t ++ rest) n)) (sym are) ∙ read ∙ ap (λ (ps : List TermPair). Ok (ps, left_of rest k)) (sym parts.are) }
+  where
+    moved : (ps qs : List TermPair) → ps ≡ qs → All IsFlowPair ps → AllByRecursion IsFlowPair qs
+    moved ps qs e h = rw (← e) (recursion_from_All IsFlowPair ps h)
+
+    last_is : (ps : List TermPair) (a b c d e f g x : TermPair) → ps ≡ a ∷ b ∷ c ∷ d ∷ e ∷ f ∷ g ∷ x ∷ [] → slice_index_or ps 7 no_pair ≡ no_pair → x ≡ no_pair
+    last_is ps a b c d e f g x are h = ap (λ (qs : List TermPair). slice_index_or qs 7 no_pair) (sym are) ∙ h
+
+pub step_again : (m : FlowModel) (s : ℕ) (at : TimeStep) (x : ListedStep) (rest : List Line) (n : ℕ) → s ≤ 18 → IsListedStep m x → (k : ℕ) × (step_at m s at (left_of (step_lines m s at x.heads x.budget [] ++ rest) n) ≡ Ok (x, left_of rest k))
+unfolding step_at step_lines
+step_again m s at x rest n few h =
+    let heads = head_lines m 0 x.heads in
+    let into = term_lines m s In x.budget in
+    let out = term_lines m s Out x.budget in
+    let i = eight_of x.budget.into h.into.eight in
+    let o = eight_of x.budget.out h.out.eight in
+    let (j, heads_read) = heads_again m 0 x.heads (into ++ (out ++ rest)) (next_number n) h.heads in
+    let into_read = terms_again m s In into x.budget.into (out ++ rest) j i few h.into (lines_in m s x.budget.into x.budget.out i.a i.b i.c i.d i.e i.f i.g i.x i.are) in
+    let out_read = terms_again m s Out out x.budget.out rest into_read.number o few h.out (lines_out m s x.budget.into x.budget.out o.a o.b o.c o.d o.e o.f o.g o.x o.are) in
+    (out_read.number, ap (λ (t : List Line). step_at m s at (left_of (step_line at ∷ t) n)) (regroup heads into out rest) ∙ rw (text_again (step_line at) (heads ++ (into ++ (out ++ rest))) n, ← h.whole, heads_read, into_read.is, out_read.is) refl)
+  where
+    regroup : (a b c d : List Line) → (a ++ (b ++ (c ++ []))) ++ d ≡ a ++ (b ++ (c ++ d))
+    regroup a b c d = simp append_assoc
+
+pub steps_again : (m : FlowModel) (s : ℕ) (ats : List TimeStep) (xs : List ListedStep) (rest : List Line) (n : ℕ) → s ≤ 18 → length xs ≡ length ats → AllByRecursion (IsListedStep m) xs → (k : ℕ) × (for_each (step_at m s) ats (left_of (all_step_lines m s ats xs ++ rest) n) ≡ Ok (xs, left_of rest k))
+unfolding for_each all_step_lines
+steps_again m s [] [] rest n few same h = (n, refl)
+steps_again m s [] (x ∷ xs) rest n few same h = absurd (omega (arith, same))
+steps_again m s (at ∷ ats) [] rest n few same h = absurd (omega (arith, same))
+steps_again m s (at ∷ ats) (x ∷ xs) rest n few same h =
+    let (j, one) = step_again m s at x (all_step_lines m s ats xs ++ rest) n few h.0 in
+    let (k, others) = steps_again m s ats xs rest j few (omega (arith, same)) h.1 in
+    (k, rw (grouped (step_lines m s at x.heads x.budget []) (all_step_lines m s ats xs) rest, one, others) refl)
+
+first_again : (m : FlowModel) (s : ℕ) (rest : List Line) (n : ℕ) → first_at m s (left_of (first_line m s ∷ rest) n) ≡ Ok (left_of rest (next_number n))
+unfolding first_at
+first_again m s rest n = rw ((bytes_eq-Decides (first_line m s) (first_line m s)).1 refl) refl
+
+-- The lines of a listing are read as its steps.
+pub rows_again : (m : FlowModel) (s : ℕ) (steps : List ListedStep) → s ≤ 18 → AreListed m steps → listing_at m s (left_of (listing m s steps) 1) ≡ Ok steps
+unfolding listing_at listing
+rows_again m s steps few h =
+    let (k, read) = steps_again m s (times m) steps (end_line ∷ []) (next_number 1) few h.whole (recursion_from_All (IsListedStep m) steps h.steps) in
+    rw (first_again m s (all_step_lines m s (times m) steps ++ (end_line ∷ [])) 1, read, text_again end_line [] k) refl

@@ -1,0 +1,204 @@
+-- No line of a listing has a line feed, so the lines of its text are the listing's.
+use Rattle.std.proofs.Common.{◌≡◌, ℕ, zero, suc, ◌+◌, ◌/◌, ◌%◌, ◌<◌, ◌≤◌, ◌^◌, ◌==◌, Bool, true, false, not, cond, List, [], ◌∷◌, ◌++◌, length, codes, decimal, nat_abs, All, refl, sym, ap, ◌∙◌, arith, ℤ, pos, negsuc}
+use Rattle.std.specs.List.{list_all, AllByRecursion}
+use Rattle.std.specs.Fmt.{signed_decimal}
+use Rattle.std.proofs.lemmas.Bool.{and_parts}
+use Rattle.std.proofs.lemmas.List.Elements.{recursion_from_All}
+use Rattle.std.proofs.lemmas.List.Concat.{flat_map-cons}
+use Rattle.record_lines.specs.Layout.{lines}
+use Rattle.step_problem.specs.declared.heads.Bound.{Bound}
+use Rattle.step_problem.specs.declared.place.Dir.{Dir}
+use Rattle.step_problem.specs.declared.place.Dir.TheVariants.{In, Out}
+use Rattle.step_problem.specs.declared.place.Term.{Term}
+use Rattle.step_problem.specs.declared.place.Term.TheVariants.{Storage, ConstantHead, Wells, Drains, RiverLeakage, HeadDepBounds, Recharge, Et}
+use Rattle.step_problem.specs.Names.{term_name}
+use Rattle.budget_bounds.specs.declared.pair.TermPair.{TermPair}
+use Rattle.fixed_text.specs.Fixed.{fixed_text}
+use Rattle.model_types.specs.declared.grid.Grid.{Grid}
+use Rattle.model_types.specs.declared.model.FlowModel.{FlowModel}
+use Rattle.model_types.specs.declared.time_steps.TimeStep.{TimeStep}
+use Rattle.model_types.specs.Cells.{layer_size, place}
+use Rattle.model_types.specs.Layers.{is_active}
+use Rattle.model_types.specs.Times.{times}
+use Rattle.listing_io.specs.declared.listing.ListedStep.{ListedStep}
+use Rattle.listing_io.specs.Forms.{Form, pair_line}
+use Rattle.listing_io.specs.Listing.{Line, ended, text_of, numbers_text, first_line, step_line, head_form, head_front, head_line, head_lines, head_pair, dir_front, term_form, term_line, term_lines, has_evt, step_lines, all_step_lines, end_line, listing}
+use Rattle.listing_io.specs.Reading.{listing_at}
+use Rattle.listing_io.specs.Listed.{AreCellBounds, IsFlowPair, AreTerms, IsListedStep, AreListed}
+use Rattle.listing_io.specs.Laws.{IsTime, IsWritable, ListingsAreReadAgain}
+use Rattle.listing_io.proofs.Blanks.{Without, Without-append, decimal_without, fixed_without}
+use Rattle.listing_io.proofs.Exactly.{fits_wide}
+use Rattle.listing_io.proofs.Written.{eight_lines, lines_in, lines_out}
+use Rattle.listing_io.proofs.Again.{Fits, head_fits, term_fits, Eight, eight_of, left_of, rows_again}
+
+abbrev pub NoFeed : List ℕ → Type 0
+NoFeed = Without 10
+
+first_row_is : (line rest : List ℕ) → NoFeed line → lines (ended line ++ rest) ≡ line ∷ lines rest
+unfolding lines
+first_row_is [] rest h = refl
+first_row_is (c ∷ cs) rest h = rw (h.0, first_row_is cs rest h.1) refl
+
+-- rows without line feeds are the lines of their text
+pub lines_of : (rows : List Line) → AllByRecursion NoFeed rows → lines (text_of rows) ≡ rows
+unfolding lines
+lines_of [] h = refl
+lines_of (row ∷ rows) h = ap lines (flat_map-cons ended row rows) ∙ first_row_is row (text_of rows) h.0 ∙ ap (λ (t : List Line). row ∷ t) (lines_of rows h.1)
+
+-- a fixed text, by a test
+by_test : (xs : List ℕ) → list_all (λ c. not (c == 10)) xs ≡ true → NoFeed xs
+by_test [] h = tt
+by_test (c ∷ cs) h = let (one, more) = and_parts (not (c == 10)) (list_all (λ x. not (x == 10)) cs) h in (is_not (c == 10) one, by_test cs more)
+  where
+    is_not : (b : Bool) → not b ≡ true → b ≡ false
+    is_not false h = refl
+    is_not true h = sym h
+
+numbers_without : (ns : List ℕ) → AllByRecursion (λ n. n < 10 ^ 64) ns → NoFeed (numbers_text ns)
+numbers_without [] h = tt
+numbers_without (n ∷ ns) h =
+    Without-append 10 (codes " " ++ decimal n) (numbers_text ns)
+    (Without-append 10 (codes " ") (decimal n) (by_test (codes " ") refl) (decimal_without 10 (omega arith) n h.0))
+    (numbers_without ns h.1)
+
+pair_without : (front : List ℕ) (f : Form) (p : TermPair) → Fits f p → NoFeed front → NoFeed f.back → NoFeed (pair_line front f p)
+pair_without front f p h start back =
+    let low : 10 < 45 = omega arith in
+    Without-append 10 front _ start
+    (Without-append 10 (fixed_text f.places p.lo) _ (fixed_without 10 low f.places p.lo (fits_wide (nat_abs p.lo) f.limit h.form.small h.lo))
+    (Without-append 10 (codes " ") _ (by_test (codes " ") refl)
+    (Without-append 10 (fixed_text f.places p.hi) f.back (fixed_without 10 low f.places p.hi (fits_wide (nat_abs p.hi) f.limit h.form.small h.hi)) back)))
+
+-- a cell's place is small
+below : (n p top : ℕ) → n < top → n / p < top
+below n zero top h = omega (arith, h)
+below n (suc p) top h = omega (arith, h)
+
+part_below : (n p top : ℕ) → n < top → n % p < top
+part_below n zero top h = omega (arith, h)
+part_below n (suc p) top h = omega (arith, h)
+
+place_small : (g : Grid) (c : ℕ) → c < 65536 → AllByRecursion (λ n. n < 10 ^ 64) (place g c)
+place_small g c h =
+    let k : c / layer_size g < 65536 = below c (layer_size g) 65536 h in
+    let i : c / g.cols % g.rows < 65536 = part_below (c / g.cols) g.rows 65536 (below c g.cols 65536 h) in
+    let j : c % g.cols < 65536 = part_below c g.cols 65536 h in
+    (omega (arith, k), (omega (arith, i), (omega (arith, j), tt)))
+
+front_without : (g : Grid) (c : ℕ) → c < 65536 → NoFeed (head_front g c)
+front_without g c h =
+    Without-append 10 (codes "HEAD" ++ numbers_text (place g c)) (codes " ")
+    (Without-append 10 (codes "HEAD") (numbers_text (place g c)) (by_test (codes "HEAD") refl) (numbers_without (place g c) (place_small g c h)))
+    (by_test (codes " ") refl)
+
+both : {X : Type 0} (P : X → Type 0) (xs ys : List X) → AllByRecursion P xs → AllByRecursion P ys → AllByRecursion P (xs ++ ys)
+both P [] ys h k = k
+both P (x ∷ xs) ys h k = (h.0, both P xs ys h.1 k)
+
+cell_without : (g : Grid) (c : ℕ) (flag : Bool) (b : Bound) → c < 65536 → NoFeed (head_line g c b) → AllByRecursion NoFeed (cond flag (head_line g c b ∷ []) [])
+cell_without g c true b lt h = (h, tt)
+cell_without g c false b lt h = tt
+
+heads_without : (m : FlowModel) (c : ℕ) (bs : List Bound) → c + length bs ≤ 65536 → AreCellBounds m c bs → AllByRecursion NoFeed (head_lines m c bs)
+unfolding head_lines
+heads_without m c [] few h = tt
+heads_without m c (b ∷ bs) few h =
+    let lt : c < 65536 = omega (arith, few) in
+    let more : c + 1 + length bs ≤ 65536 = omega (arith, few) in
+    both NoFeed (cond (is_active m c) (head_line m.grid c b ∷ []) []) (head_lines m (c + 1) bs)
+    (cell_without m.grid c (is_active m c) b lt (pair_without (head_front m.grid c) head_form (head_pair b) (head_fits b h.0.low h.0.high) (front_without m.grid c lt) tt))
+    (heads_without m (c + 1) bs more h.1)
+
+dir_without : (dir : Dir) → NoFeed (dir_front dir)
+dir_without In = by_test (dir_front In) refl
+dir_without Out = by_test (dir_front Out) refl
+
+name_without : (t : Term) → NoFeed (codes " " ++ term_name t)
+name_without Storage = by_test (codes " " ++ term_name Storage) refl
+name_without ConstantHead = by_test (codes " " ++ term_name ConstantHead) refl
+name_without Wells = by_test (codes " " ++ term_name Wells) refl
+name_without Drains = by_test (codes " " ++ term_name Drains) refl
+name_without RiverLeakage = by_test (codes " " ++ term_name RiverLeakage) refl
+name_without HeadDepBounds = by_test (codes " " ++ term_name HeadDepBounds) refl
+name_without Recharge = by_test (codes " " ++ term_name Recharge) refl
+name_without Et = by_test (codes " " ++ term_name Et) refl
+
+term_without : (s : ℕ) (dir : Dir) (t : Term) (p : TermPair) → s ≤ 18 → IsFlowPair p → NoFeed (term_line s dir t p)
+term_without s dir t p few h = pair_without (dir_front dir) (term_form s t) p (term_fits s t p few h) (dir_without dir) (name_without t)
+
+et_without : (evt : Bool) (s : ℕ) (dir : Dir) (x : TermPair) → s ≤ 18 → IsFlowPair x → AllByRecursion NoFeed (cond evt (term_line s dir Et x ∷ []) [])
+et_without true s dir x few h = (term_without s dir Et x few h, tt)
+et_without false s dir x few h = tt
+
+eight_without : (evt : Bool) (s : ℕ) (dir : Dir) (a b c d e f g x : TermPair) → s ≤ 18 → AllByRecursion IsFlowPair (a ∷ b ∷ c ∷ d ∷ e ∷ f ∷ g ∷ x ∷ []) → AllByRecursion NoFeed (eight_lines evt s dir a b c d e f g x)
+eight_without evt s dir a b c d e f g x few small =
+    let (ha, (hb, (hc, (hd, (he, (hf, (hg, (hx, done)))))))) = small in (
+      term_without s dir Storage a few ha,
+      (
+        term_without s dir ConstantHead b few hb,
+        (
+          term_without s dir Wells c few hc,
+          (
+            term_without s dir Drains d few hd,
+            (term_without s dir RiverLeakage e few he, (term_without s dir HeadDepBounds f few hf, (term_without s dir Recharge g few hg, et_without evt s dir x few hx))),
+          ),
+        ),
+      ),
+    )
+
+terms_without : (m : FlowModel) (s : ℕ) (dir : Dir) (rows : List Line) (pairs : List TermPair) (parts : Eight pairs) → s ≤ 18 → AreTerms m pairs
+    → eight_lines (has_evt m) s dir parts.a parts.b parts.c parts.d parts.e parts.f parts.g parts.x ≡ rows → AllByRecursion NoFeed rows
+terms_without m s dir rows pairs parts few h are =
+    rw (← are) (eight_without (has_evt m) s dir parts.a parts.b parts.c parts.d parts.e parts.f parts.g parts.x few (moved pairs _ parts.are h.small))
+  where
+    moved : (ps qs : List TermPair) → ps ≡ qs → All IsFlowPair ps → AllByRecursion IsFlowPair qs
+    moved ps qs e h = rw (← e) (recursion_from_All IsFlowPair ps h)
+
+title_without : (at : TimeStep) → IsTime at → NoFeed (step_line at)
+title_without at h =
+    let p = h.period in
+    let n = h.step in
+    Without-append 10 (codes "STEP") (numbers_text (at.period ∷ at.step ∷ [])) (by_test (codes "STEP") refl)
+    (numbers_without (at.period ∷ at.step ∷ []) (omega (arith, p), (omega (arith, n), tt)))
+
+step_without : (m : FlowModel) (s : ℕ) (at : TimeStep) (x : ListedStep) → IsWritable m s → IsTime at → IsListedStep m x → AllByRecursion NoFeed (step_lines m s at x.heads x.budget [])
+unfolding step_lines
+step_without m s at x good time h =
+    let i = eight_of x.budget.into h.into.eight in
+    let o = eight_of x.budget.out h.out.eight in
+    let cells = good.size.cells in
+    let whole = h.whole in
+    let few : 0 + length x.heads ≤ 65536 = omega (arith, cells, whole) in (
+      title_without at time,
+      both NoFeed (head_lines m 0 x.heads) (term_lines m s In x.budget ++ (term_lines m s Out x.budget ++ [])) (heads_without m 0 x.heads few h.heads)
+          (both NoFeed (term_lines m s In x.budget) (term_lines m s Out x.budget ++ []) (terms_without m s In (term_lines m s In x.budget) x.budget.into i good.digits h.into (lines_in m s x.budget.into x.budget.out i.a i.b i.c i.d i.e i.f i.g i.x i.are))
+          (both NoFeed (term_lines m s Out x.budget) [] (terms_without m s Out (term_lines m s Out x.budget) x.budget.out o good.digits h.out (lines_out m s x.budget.into x.budget.out o.a o.b o.c o.d o.e o.f o.g o.x o.are)) tt)),
+    )
+
+steps_without : (m : FlowModel) (s : ℕ) (ats : List TimeStep) (xs : List ListedStep) → IsWritable m s → AllByRecursion IsTime ats → AllByRecursion (IsListedStep m) xs → AllByRecursion NoFeed (all_step_lines m s ats xs)
+unfolding all_step_lines
+steps_without m s [] xs good time h = tt
+steps_without m s (at ∷ ats) [] good time h = tt
+steps_without m s (at ∷ ats) (x ∷ xs) good time h = both NoFeed (step_lines m s at x.heads x.budget []) (all_step_lines m s ats xs) (step_without m s at x good time.0 h.0) (steps_without m s ats xs good time.1 h.1)
+
+signed_without : (z : ℤ) → nat_abs z < 2 ^ 64 → NoFeed (signed_decimal z)
+signed_without (pos n) h = decimal_without 10 (omega arith) n (omega arith)
+signed_without (negsuc n) h = (refl, decimal_without 10 (omega arith) (suc n) (omega arith))
+
+first_without : (m : FlowModel) (s : ℕ) → IsWritable m s → NoFeed (first_line m s)
+first_without m s good =
+    let few = good.digits in
+    Without-append 10 (codes "HEADS 2 DIGITS" ++ numbers_text (s ∷ []) ++ codes " UNIT ") (signed_decimal m.lenuni)
+    (Without-append 10 (codes "HEADS 2 DIGITS" ++ numbers_text (s ∷ [])) (codes " UNIT ")
+    (Without-append 10 (codes "HEADS 2 DIGITS") (numbers_text (s ∷ [])) (by_test (codes "HEADS 2 DIGITS") refl) (numbers_without (s ∷ []) (omega (arith, few), tt)))
+    (by_test (codes " UNIT ") refl))
+    (signed_without m.lenuni good.unit)
+
+listing_without : (m : FlowModel) (s : ℕ) (steps : List ListedStep) → IsWritable m s → AreListed m steps → AllByRecursion NoFeed (listing m s steps)
+unfolding listing
+listing_without m s steps good h =
+    (first_without m s good, both NoFeed (all_step_lines m s (times m) steps) (end_line ∷ []) (steps_without m s (times m) steps good (recursion_from_All IsTime (times m) good.times) (recursion_from_All (IsListedStep m) steps h.steps)) (by_test end_line refl, tt))
+
+pub listings_are_read_again : ListingsAreReadAgain
+listings_are_read_again m s steps good h =
+    ap (λ (rows : List Line). listing_at m s (left_of rows 1)) (lines_of (listing m s steps) (listing_without m s steps good h)) ∙ rows_again m s steps good.digits h

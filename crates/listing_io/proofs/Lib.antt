@@ -1,0 +1,10 @@
+pub mod NumberLemmas
+pub mod Blanks
+pub mod Exactly
+pub mod Written
+pub mod Again
+pub mod Feeds
+pub mod Kept
+pub mod Walks
+pub mod Ends
+pub mod Joined

@@ -1,0 +1,268 @@
+-- What is read was written so.
+use Rattle.std.proofs.Common.{◌≡◌, ◌⊎◌, inl, inr, ℕ, zero, suc, ◌+◌, ◌≤◌, Bool, true, false, ◌||◌, cond, List, [], ◌∷◌, ◌++◌, map, nat_abs, refl, sym, ap, ◌∙◌, Option, Some, None, Result, Ok, Err}
+use Rattle.std.specs.Str.{bytes_eq}
+use Rattle.std.proofs.lemmas.List.{append_assoc}
+use Rattle.std.proofs.lemmas.Slice.Eq.{bytes_eq-Decides}
+use Rattle.record_lines.specs.Layout.{lines, next_number}
+use Rattle.record_lines.specs.Reading.{◌>>=◌, for_each}
+use Rattle.step_problem.specs.declared.heads.Bound.{Bound}
+use Rattle.step_problem.specs.declared.place.Dir.{Dir}
+use Rattle.step_problem.specs.declared.place.Dir.TheVariants.{In, Out}
+use Rattle.step_problem.specs.declared.place.Term.{Term}
+use Rattle.step_problem.specs.declared.place.Term.TheVariants.{Storage, ConstantHead, Wells, Drains, RiverLeakage, HeadDepBounds, Recharge, Et}
+use Rattle.step_problem.specs.Heads.{no_bound}
+use Rattle.budget_bounds.specs.declared.pair.TermPair.{TermPair}
+use Rattle.budget_bounds.specs.declared.pair.Budget.{Budget}
+use Rattle.budget_bounds.specs.Terms.{no_pair, bounds_in}
+use Rattle.model_types.specs.declared.model.FlowModel.{FlowModel}
+use Rattle.model_types.specs.declared.time_steps.TimeStep.{TimeStep}
+use Rattle.model_types.specs.Cells.{cell_count}
+use Rattle.model_types.specs.Layers.{is_active}
+use Rattle.model_types.specs.Times.{times}
+use Rattle.listing_io.specs.declared.listing.ListedStep.{ListedStep}
+use Rattle.listing_io.specs.Forms.{Form, pair_in, pair_line}
+use Rattle.listing_io.specs.Listing.{Line, first_line, step_line, head_form, head_front, head_line, head_lines, dir_front, term_form, term_line, term_lines, printed_terms, has_evt, step_lines, all_step_lines, end_line, listing}
+use Rattle.listing_io.specs.Reading.{Left, all_lines, line_at, first_of, or_refused, pair_at, text_at, bound_of, head_if, heads_at, term_at, term_if, terms_at, step_at, first_line_before, first_at, none_of, over_at, listing_at}
+use Rattle.listing_io.specs.Laws.{IsListing, ListingsWereWritten}
+use Rattle.listing_io.proofs.Exactly.{line_sound}
+
+-- a reading that goes on was not refused
+pub record Goes {A B E : Type 0} (r : Result A E) (f : A → Result B E) (y : B) : Type 0 where
+  pub item : A
+  pub first : r ≡ Ok item
+  pub then_ : f item ≡ Ok y
+
+clash : {B E : Type 0} (e : E) (y : B) (r : Result B E) → r ≡ Err e → r ≡ Ok y → ⊥
+clash e y r h k = cc
+
+pub same_ok : {B E : Type 0} (x y : B) (r : Result B E) → r ≡ Ok x → r ≡ Ok y → x ≡ y
+same_ok x y r h k = cc
+
+pub goes : {A B E : Type 0} (r : Result A E) (f : A → Result B E) (y : B) → (r >>= f) ≡ Ok y → Goes r f y
+goes (Ok x) f y h = record { item = x; first = refl; then_ = h }
+goes {A = A} {B = B} {E = E} (Err e) f y h = absurd (clash e y (Err e) refl h)
+
+first_row : (n : ℕ) (rows : List Line) (got : Line × Left) → first_of n rows ≡ Ok got → rows ≡ got.0 ∷ got.1.lines
+first_row n [] got h = absurd (clash n got (first_of n []) refl h)
+first_row n (row ∷ rows) got h =
+    let e = same_ok (row, record { lines = rows; number = next_number n }) got (first_of n (row ∷ rows)) refl h in
+    ap (λ (x : Line × Left). x.0 ∷ x.1.lines) e
+
+some_row : {X : Type 0} (n : ℕ) (o : Option X) (x : X) → or_refused n o ≡ Ok x → o ≡ Some x
+some_row n None x h = absurd (clash n x (or_refused n None) refl h)
+some_row n (Some y) x h = ap (λ z. Some z) (same_ok y x (or_refused n (Some y)) refl h)
+
+-- the line of two numbers that were read, and that they are within the limit
+pub record PairRow (front : List ℕ) (f : Form) (left : Left) (got : TermPair × Left) : Type 0 where
+  pub row : left.lines ≡ pair_line front f got.0 ∷ got.1.lines
+  pub lo : nat_abs got.0.lo ≤ f.limit
+  pub hi : nat_abs got.0.hi ≤ f.limit
+
+pub pair_row : (front : List ℕ) (f : Form) (left : Left) (got : TermPair × Left) → pair_at front f left ≡ Ok got → PairRow front f left got
+unfolding pair_at
+pair_row front f left got h =
+    let line = goes (line_at left) _ got h in
+    let number = goes (or_refused left.number (pair_in front f line.item.0)) _ got line.then_ in
+    let is = line_sound front f line.item.0 number.item (some_row left.number (pair_in front f line.item.0) number.item number.first) in
+    let e : (number.item, line.item.1) ≡ got = same_ok _ got _ refl number.then_ in
+    rw (← e) (record {
+      row = first_row left.number left.lines line.item line.first ∙ ap (λ (t : List ℕ). t ∷ line.item.1.lines) is.text;
+      lo = is.lo;
+      hi = is.hi;
+    })
+
+chosen : {X : Type 0} (b : Bool) (n : ℕ) (x y : X) → cond b (Ok x) (Err n) ≡ Ok y → (b ≡ true) × (x ≡ y)
+chosen true n x y h = (refl, same_ok x y (Ok x) refl h)
+chosen false n x y h = absurd (clash n y (Err n) refl h)
+
+pub text_row : (text : Line) (left after : Left) → text_at text left ≡ Ok after → left.lines ≡ text ∷ after.lines
+unfolding text_at
+text_row text left after h =
+    let line = goes (line_at left) _ after h in
+    let (test, same) = chosen (bytes_eq text line.item.0) left.number line.item.1 after line.then_ in
+    let e : text ≡ line.item.0 = (bytes_eq-Decides text line.item.0).0 test in
+    first_row left.number left.lines line.item line.first ∙ ap (λ (t : List ℕ). t ∷ line.item.1.lines) (sym e) ∙ ap (λ (x : Left). text ∷ x.lines) same
+
+module _ (m : FlowModel) where
+  cell_row : (c : ℕ) (flag : Bool) (left : Left) (got : Bound × Left) → head_if flag (head_front m.grid c) left ≡ Ok got → left.lines ≡ cond flag (head_line m.grid c got.0 ∷ []) [] ++ got.1.lines
+  cell_row c false left got h = ap (λ (x : Bound × Left). x.1.lines) (same_ok (no_bound, left) got (head_if false (head_front m.grid c) left) refl h)
+  cell_row c true left got h =
+      let p = goes (pair_at (head_front m.grid c) head_form left) _ got h in
+      (pair_row (head_front m.grid c) head_form left p.item p.first).row ∙ ap (λ (x : Bound × Left). head_line m.grid c x.0 ∷ x.1.lines) (same_ok (bound_of p.item.0, p.item.1) got _ refl p.then_)
+
+grouped : {X : Type 0} (a b c : List X) → (a ++ b) ++ c ≡ a ++ (b ++ c)
+grouped a b c = append_assoc a b c
+
+pub heads_row : (m : FlowModel) (c k : ℕ) (left : Left) (got : List Bound × Left) → heads_at m c k left ≡ Ok got → left.lines ≡ head_lines m c got.0 ++ got.1.lines
+unfolding heads_at head_lines
+heads_row m c zero left got h = ap (λ (x : List Bound × Left). head_lines m c x.0 ++ x.1.lines) (same_ok ([], left) got (heads_at m c zero left) refl h)
+heads_row m c (suc k) left got h =
+    let head = goes (head_if (is_active m c) (head_front m.grid c) left) _ got h in
+    let more = goes (heads_at m (c + 1) k head.item.1) _ got head.then_ in
+    let row = cond (is_active m c) (head_line m.grid c head.item.0 ∷ []) [] in
+    cell_row m c (is_active m c) left head.item head.first
+    ∙ ap (λ (t : List Line). row ++ t) (heads_row m (c + 1) k head.item.1 more.item more.first)
+    ∙ sym (grouped row (head_lines m (c + 1) more.item.0) more.item.1.lines)
+    ∙ ap (λ (x : List Bound × Left). head_lines m c x.0 ++ x.1.lines) (same_ok (head.item.0 ∷ more.item.0, more.item.1) got _ refl more.then_)
+
+term_row : (s : ℕ) (dir : Dir) (t : Term) (left : Left) (got : TermPair × Left) → term_at s dir t left ≡ Ok got → left.lines ≡ term_line s dir t got.0 ∷ got.1.lines
+term_row s dir t left got h = (pair_row (dir_front dir) (term_form s t) left got h).row
+
+et_row : (evt : Bool) (s : ℕ) (dir : Dir) (left : Left) (got : TermPair × Left) → term_if evt s dir left ≡ Ok got → left.lines ≡ cond evt (term_line s dir Et got.0 ∷ []) [] ++ got.1.lines
+et_row true s dir left got h = term_row s dir Et left got h
+et_row false s dir left got h = ap (λ (x : TermPair × Left). x.1.lines) (same_ok (no_pair, left) got (term_if false s dir left) refl h)
+
+-- the lines of eight terms in a row
+abbrev pub eight_lines : Bool → ℕ → Dir → TermPair → TermPair → TermPair → TermPair → TermPair → TermPair → TermPair → TermPair → List Line
+eight_lines evt s dir a b c d e f g x =
+    term_line s dir Storage a ∷ term_line s dir ConstantHead b ∷ term_line s dir Wells c ∷ term_line s dir Drains d ∷ term_line s dir RiverLeakage e ∷ term_line s dir HeadDepBounds f ∷ term_line s dir Recharge g ∷ cond evt (term_line s dir Et x ∷ []) []
+
+-- what the reading of eight terms gives
+record EightRows (evt : Bool) (s : ℕ) (dir : Dir) (left : Left) (got : List TermPair × Left) : Type 0 where
+  a : TermPair
+  b : TermPair
+  c : TermPair
+  d : TermPair
+  e : TermPair
+  f : TermPair
+  g : TermPair
+  x : TermPair
+  pairs : got.0 ≡ a ∷ b ∷ c ∷ d ∷ e ∷ f ∷ g ∷ x ∷ []
+  rows : left.lines ≡ eight_lines evt s dir a b c d e f g x ++ got.1.lines
+
+cons : (row : Line) (rows more : List Line) → rows ≡ more → row ∷ rows ≡ row ∷ more
+cons row rows more h = ap (λ (t : List Line). row ∷ t) h
+
+eight_rows : (evt : Bool) (s : ℕ) (dir : Dir) (left : Left) (got : List TermPair × Left) → terms_at evt s dir left ≡ Ok got → EightRows evt s dir left got
+unfolding terms_at
+eight_rows evt s dir left got h =
+    let a = goes (term_at s dir Storage left) _ got h in
+    let b = goes (term_at s dir ConstantHead a.item.1) _ got a.then_ in
+    let c = goes (term_at s dir Wells b.item.1) _ got b.then_ in
+    let d = goes (term_at s dir Drains c.item.1) _ got c.then_ in
+    let e = goes (term_at s dir RiverLeakage d.item.1) _ got d.then_ in
+    let f = goes (term_at s dir HeadDepBounds e.item.1) _ got e.then_ in
+    let g = goes (term_at s dir Recharge f.item.1) _ got f.then_ in
+    let x = goes (term_if evt s dir g.item.1) _ got g.then_ in
+    let same : (a.item.0 ∷ b.item.0 ∷ c.item.0 ∷ d.item.0 ∷ e.item.0 ∷ f.item.0 ∷ g.item.0 ∷ x.item.0 ∷ [], x.item.1) ≡ got = same_ok _ got _ refl x.then_ in
+    rw (← same) (record {
+      a = a.item.0;
+      b = b.item.0;
+      c = c.item.0;
+      d = d.item.0;
+      e = e.item.0;
+      f = f.item.0;
+      g = g.item.0;
+      x = x.item.0;
+      pairs = refl;
+      rows = term_row s dir Storage left a.item a.first
+          ∙ cons (term_line s dir Storage a.item.0) _ _ (term_row s dir ConstantHead a.item.1 b.item b.first
+          ∙ cons (term_line s dir ConstantHead b.item.0) _ _ (term_row s dir Wells b.item.1 c.item c.first
+          ∙ cons (term_line s dir Wells c.item.0) _ _ (term_row s dir Drains c.item.1 d.item d.first
+          ∙ cons (term_line s dir Drains d.item.0) _ _ (term_row s dir RiverLeakage d.item.1 e.item e.first
+          ∙ cons (term_line s dir RiverLeakage e.item.0) _ _ (term_row s dir HeadDepBounds e.item.1 f.item f.first
+          ∙ cons (term_line s dir HeadDepBounds f.item.0) _ _ (term_row s dir Recharge f.item.1 g.item g.first
+          ∙ cons (term_line s dir Recharge g.item.0) _ _ (et_row evt s dir g.item.1 x.item x.first)))))));
+    })
+
+-- the lines of a budget whose terms are these
+eight_in : (evt : Bool) (s : ℕ) (into out : List TermPair) (a b c d e f g x : TermPair) → into ≡ a ∷ b ∷ c ∷ d ∷ e ∷ f ∷ g ∷ x ∷ [] → eight_lines evt s In a b c d e f g x ≡ map (λ t. term_line s In t (bounds_in (record { into = into; out = out }) In t)) (printed_terms evt)
+eight_in true s into out a b c d e f g x h = rw h refl
+eight_in false s into out a b c d e f g x h = rw h refl
+
+eight_out : (evt : Bool) (s : ℕ) (into out : List TermPair) (a b c d e f g x : TermPair) → out ≡ a ∷ b ∷ c ∷ d ∷ e ∷ f ∷ g ∷ x ∷ [] → eight_lines evt s Out a b c d e f g x ≡ map (λ t. term_line s Out t (bounds_in (record { into = into; out = out }) Out t)) (printed_terms evt)
+eight_out true s into out a b c d e f g x h = rw h refl
+eight_out false s into out a b c d e f g x h = rw h refl
+
+pub lines_in : (m : FlowModel) (s : ℕ) (into out : List TermPair) (a b c d e f g x : TermPair) → into ≡ a ∷ b ∷ c ∷ d ∷ e ∷ f ∷ g ∷ x ∷ [] → eight_lines (has_evt m) s In a b c d e f g x ≡ term_lines m s In (record { into = into; out = out })
+unfolding term_lines
+lines_in m s into out a b c d e f g x h = eight_in (has_evt m) s into out a b c d e f g x h
+
+pub lines_out : (m : FlowModel) (s : ℕ) (into out : List TermPair) (a b c d e f g x : TermPair) → out ≡ a ∷ b ∷ c ∷ d ∷ e ∷ f ∷ g ∷ x ∷ [] → eight_lines (has_evt m) s Out a b c d e f g x ≡ term_lines m s Out (record { into = into; out = out })
+unfolding term_lines
+lines_out m s into out a b c d e f g x h = eight_out (has_evt m) s into out a b c d e f g x h
+
+pub step_row : (m : FlowModel) (s : ℕ) (at : TimeStep) (left : Left) (got : ListedStep × Left) → step_at m s at left ≡ Ok got → left.lines ≡ step_lines m s at got.0.heads got.0.budget [] ++ got.1.lines
+unfolding step_at step_lines
+step_row m s at left got h =
+    let title = goes (text_at (step_line at) left) _ got h in
+    let heads = goes (heads_at m 0 (cell_count m.grid) title.item) _ got title.then_ in
+    let into = goes (terms_at (has_evt m) s In heads.item.1) _ got heads.then_ in
+    let out = goes (terms_at (has_evt m) s Out into.item.1) _ got into.then_ in
+    let i = eight_rows (has_evt m) s In heads.item.1 into.item into.first in
+    let o = eight_rows (has_evt m) s Out into.item.1 out.item out.first in
+    let budget : Budget = record { into = into.item.0; out = out.item.0 } in
+    let into_rows : heads.item.1.lines ≡ term_lines m s In budget ++ into.item.1.lines = i.rows ∙ ap (λ (t : List Line). t ++ into.item.1.lines) (lines_in m s into.item.0 out.item.0 i.a i.b i.c i.d i.e i.f i.g i.x i.pairs) in
+    let out_rows : into.item.1.lines ≡ term_lines m s Out budget ++ out.item.1.lines = o.rows ∙ ap (λ (t : List Line). t ++ out.item.1.lines) (lines_out m s into.item.0 out.item.0 o.a o.b o.c o.d o.e o.f o.g o.x o.pairs) in
+    let a = head_lines m 0 heads.item.0 in
+    let b = term_lines m s In budget in
+    let c = term_lines m s Out budget in
+    text_row (step_line at) left title.item title.first
+    ∙ ap (λ (t : List Line). step_line at ∷ t)
+    (heads_row m 0 (cell_count m.grid) title.item heads.item heads.first
+    ∙ ap (λ (t : List Line). a ++ t) (into_rows ∙ ap (λ (t : List Line). b ++ t) out_rows)
+    ∙ regroup a b c out.item.1.lines)
+    ∙ ap (λ (x : ListedStep × Left). step_lines m s at x.0.heads x.0.budget [] ++ x.1.lines) (same_ok (record { heads = heads.item.0; budget = budget }, out.item.1) got _ refl out.then_)
+  where
+    regroup : (a b c d : List Line) → a ++ (b ++ (c ++ d)) ≡ (a ++ (b ++ (c ++ []))) ++ d
+    regroup a b c d = simp append_assoc
+
+pub steps_row : (m : FlowModel) (s : ℕ) (ats : List TimeStep) (left : Left) (got : List ListedStep × Left) → for_each (step_at m s) ats left ≡ Ok got → left.lines ≡ all_step_lines m s ats got.0 ++ got.1.lines
+unfolding for_each all_step_lines
+steps_row m s [] left got h = ap (λ (x : List ListedStep × Left). x.1.lines) (same_ok ([], left) got (for_each (step_at m s) [] left) refl h)
+steps_row m s (at ∷ ats) left got h =
+    let step = goes (step_at m s at left) _ got h in
+    let more = goes (for_each (step_at m s) ats step.item.1) _ got step.then_ in
+    let row = step_lines m s at step.item.0.heads step.item.0.budget [] in
+    step_row m s at left step.item step.first
+    ∙ ap (λ (r : List Line). row ++ r) (steps_row m s ats step.item.1 more.item more.first)
+    ∙ sym (grouped row (all_step_lines m s ats more.item.0) more.item.1.lines)
+    ∙ ap (λ (x : List ListedStep × Left). all_step_lines m s (at ∷ ats) x.0 ++ x.1.lines) (same_ok (step.item.0 ∷ more.item.0, more.item.1) got _ refl more.then_)
+
+either : (a b : Bool) → (a || b) ≡ true → (a ≡ true) ⊎ (b ≡ true)
+either true b h = inl refl
+either false b h = inr h
+
+record First (m : FlowModel) (s : ℕ) (left after : Left) : Type 0 where
+  row : Line
+  known : (row ≡ first_line m s) ⊎ (row ≡ first_line_before)
+  is : left.lines ≡ row ∷ after.lines
+
+first_known : (m : FlowModel) (s : ℕ) (row : Line) → (bytes_eq (first_line m s) row ≡ true) ⊎ (bytes_eq first_line_before row ≡ true) → (row ≡ first_line m s) ⊎ (row ≡ first_line_before)
+first_known m s row (inl h) = inl (sym ((bytes_eq-Decides (first_line m s) row).0 h))
+first_known m s row (inr h) = inr (sym ((bytes_eq-Decides first_line_before row).0 h))
+
+first_is : (m : FlowModel) (s : ℕ) (left after : Left) → first_at m s left ≡ Ok after → First m s left after
+unfolding first_at
+first_is m s left after h =
+    let line = goes (line_at left) _ after h in
+    let (test, same) = chosen (bytes_eq (first_line m s) line.item.0 || bytes_eq first_line_before line.item.0) left.number line.item.1 after line.then_ in
+    record {
+      row = line.item.0;
+      known = first_known m s line.item.0 (either _ _ test);
+      is = first_row left.number left.lines line.item line.first ∙ ap (λ (x : Left). line.item.0 ∷ x.lines) same;
+    }
+
+none_over : (n : ℕ) (rows : List Line) (u : Unit {0}) → none_of n rows ≡ Ok u → rows ≡ []
+none_over n [] u h = refl
+none_over n (row ∷ rows) u h = absurd (clash n u (none_of n (row ∷ rows)) refl h)
+
+-- a first line and the further lines of a listing are the listing's lines
+whole_listing : (m : FlowModel) (s : ℕ) (steps : List ListedStep) (row : Line) (rows : List Line) → (row ≡ first_line m s) ⊎ (row ≡ first_line_before) → rows ≡ row ∷ (all_step_lines m s (times m) steps ++ (end_line ∷ [])) → IsListing m s steps rows
+unfolding listing
+whole_listing m s steps row rows (inl e) h = inl (h ∙ ap (λ (r : Line). r ∷ (all_step_lines m s (times m) steps ++ (end_line ∷ []))) e)
+whole_listing m s steps row rows (inr e) h = inr (h ∙ ap (λ (r : Line). r ∷ (all_step_lines m s (times m) steps ++ (end_line ∷ []))) e)
+
+pub listings_were_written : ListingsWereWritten
+unfolding listing_at
+listings_were_written m s text steps h =
+    let first = goes (first_at m s (all_lines text)) _ steps h in
+    let all = goes (for_each (step_at m s) (times m) first.item) _ steps first.then_ in
+    let end = goes (text_at end_line all.item.1) _ steps all.then_ in
+    let over = goes (over_at end.item) _ steps end.then_ in
+    let title = first_is m s (all_lines text) first.item first.first in
+    whole_listing m s steps title.row (lines text) title.known
+    (title.is
+    ∙ ap (λ (t : List Line). title.row ∷ t) (steps_row m s (times m) first.item all.item all.first
+    ∙ ap (λ (t : List Line). all_step_lines m s (times m) all.item.0 ++ t) (text_row end_line all.item.1 end.item end.first ∙ ap (λ (t : List Line). end_line ∷ t) (none_over end.item.number end.item.lines over.item over.first)))
+    ∙ ap (λ (x : List ListedStep). title.row ∷ (all_step_lines m s (times m) x ++ (end_line ∷ []))) (same_ok all.item.0 steps _ refl over.then_))

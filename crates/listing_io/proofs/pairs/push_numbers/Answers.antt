@@ -1,0 +1,12 @@
+use Rattle.std.proofs.Common.{rules, ◌≡◌, ◌++◌, ◌∙◌, codes, List, ℕ}
+use Rattle.std.proofs.lemmas.List.{append_assoc}
+use Rattle.fixed_text.specs.Fixed.{fixed_text}
+use Rattle.listing_io.proofs.pairs.push_numbers.Goals as goal
+
+joined : (t a b c d : List ℕ) → t ++ a ++ b ++ c ++ d ≡ t ++ (a ++ (b ++ (c ++ d)))
+joined t a b c d = simp append_assoc
+
+pub returns : goal.returns
+returns c =
+    let pieces : c.extend_from_slice.new.self.items ≡ c.args.text.now.items ++ fixed_text c.args.places c.args.pair.lo ++ codes " " ++ fixed_text c.args.places c.args.pair.hi ++ c.args.back.now = search rules in
+    pieces ∙ joined c.args.text.now.items (fixed_text c.args.places c.args.pair.lo) (codes " ") (fixed_text c.args.places c.args.pair.hi) c.args.back.now

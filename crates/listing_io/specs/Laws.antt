@@ -1,0 +1,35 @@
+-- Laws of the listing's text: what is written of a model's steps is read again as these steps, and what is read was written so.
+use Rattle.std.specs.Prelude.{◌≡◌, ◌⊎◌, ◌<◌, ◌≤◌, ◌^◌, ℕ, List, [], ◌∷◌, ◌++◌, All, nat_abs, Ok}
+use Rattle.record_lines.specs.Layout.{lines}
+use Rattle.model_types.specs.declared.model.FlowModel.{FlowModel}
+use Rattle.model_types.specs.declared.time_steps.TimeStep.{TimeStep}
+use Rattle.model_types.specs.Grids.{HasSize}
+use Rattle.model_types.specs.Times.{times}
+use Rattle.listing_io.specs.declared.listing.ListedStep.{ListedStep}
+use Rattle.listing_io.specs.Listing.{Line, all_step_lines, end_line, listing, text_of}
+use Rattle.listing_io.specs.Reading.{first_line_before, all_lines, listing_at}
+use Rattle.listing_io.specs.Listed.{AreListed}
+
+-- numbers of periods and steps that are 32 bits wide
+pub record IsTime (at : TimeStep) : Type 0 where
+  pub period : at.period < 2 ^ 32
+  pub step : at.step < 2 ^ 32
+
+-- a model of which a listing is written and read, with s digits of conductances
+pub record IsWritable (m : FlowModel) (s : ℕ) : Type 0 where
+  pub size : HasSize m.grid
+  pub digits : s ≤ 18
+  pub unit : nat_abs m.lenuni < 2 ^ 64
+  pub times : All IsTime (times m)
+
+-- What is written is read again.
+abbrev pub ListingsAreReadAgain : Type 0
+ListingsAreReadAgain = (m : FlowModel) (s : ℕ) (steps : List ListedStep) → IsWritable m s → AreListed m steps → listing_at m s (all_lines (text_of (listing m s steps))) ≡ Ok steps
+
+-- the lines of a listing of version 2, or of version 1, which has the same further lines
+abbrev pub IsListing : FlowModel → ℕ → List ListedStep → List Line → Type 0
+IsListing m s steps rows = (rows ≡ listing m s steps) ⊎ (rows ≡ first_line_before ∷ (all_step_lines m s (times m) steps ++ (end_line ∷ [])))
+
+-- What is read was written so: the text has these lines and no others.
+abbrev pub ListingsWereWritten : Type 0
+ListingsWereWritten = (m : FlowModel) (s : ℕ) (text : List ℕ) (steps : List ListedStep) → listing_at m s (all_lines text) ≡ Ok steps → IsListing m s steps (lines text)

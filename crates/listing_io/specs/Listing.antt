@@ -1,0 +1,122 @@
+-- The lines of a listing, version 2, in their order: the first line, for each time step the line STEP, the lines HEAD of the active cells, the lines IN and OUT of the budget's terms and the lines ZONE of the zone flows, and the line END.
+use Rattle.std.specs.Prelude.{ℕ, ◌+◌, ◌-◌, ◌^◌, Bool, cond, List, [], ◌∷◌, ◌++◌, codes, decimal, map}
+use Rattle.std.specs.Fmt.{signed_decimal}
+use Rattle.std.specs.List.{flat_map}
+use Rattle.step_problem.specs.declared.heads.Bound.{Bound}
+use Rattle.step_problem.specs.declared.place.Dir.{Dir}
+use Rattle.step_problem.specs.declared.place.Dir.TheVariants.{In, Out}
+use Rattle.step_problem.specs.declared.place.Term.{Term}
+use Rattle.step_problem.specs.declared.place.Term.TheVariants.{Storage, ConstantHead, Wells, Drains, RiverLeakage, HeadDepBounds, Recharge, Et}
+use Rattle.step_problem.specs.declared.place.ZoneFlow.{ZoneFlow}
+use Rattle.step_problem.specs.Conditions.{head_limit}
+use Rattle.step_problem.specs.Names.{dir_name, term_name}
+use Rattle.budget_bounds.specs.declared.pair.TermPair.{TermPair}
+use Rattle.budget_bounds.specs.declared.pair.Budget.{Budget}
+use Rattle.budget_bounds.specs.Terms.{bounds_in}
+use Rattle.model_types.specs.declared.grid.Grid.{Grid}
+use Rattle.model_types.specs.declared.model.FlowModel.{FlowModel}
+use Rattle.model_types.specs.declared.time_steps.TimeStep.{TimeStep}
+use Rattle.model_types.specs.Cells.{place}
+use Rattle.model_types.specs.Layers.{is_active, is_nonzero}
+use Rattle.model_types.specs.Times.{times}
+use Rattle.listing_io.specs.declared.listing.ListedStep.{ListedStep}
+use Rattle.listing_io.specs.Forms.{Form, pair_line}
+
+-- a line, without its line feed
+abbrev pub Line : Type 0
+Line = List ℕ
+
+-- a line and its line feed; the text of lines
+abbrev pub ended : Line → List ℕ
+ended line = line ++ codes "\n"
+
+abbrev pub text_of : List Line → List ℕ
+text_of rows = flat_map ended rows
+
+-- numbers in digits, each behind a blank
+abbrev pub numbers_text : List ℕ → List ℕ
+numbers_text [] = []
+numbers_text (n ∷ ns) = codes " " ++ decimal n ++ numbers_text ns
+
+-- the first line: the listing's version, the digits of conductances, and LENUNI as it was read
+abbrev pub first_line : FlowModel → ℕ → Line
+first_line m s = codes "HEADS 2 DIGITS" ++ numbers_text (s ∷ []) ++ codes " UNIT " ++ signed_decimal m.lenuni
+
+-- a time step, by its stress period and its number
+abbrev pub step_line : TimeStep → Line
+step_line at = codes "STEP" ++ numbers_text (at.period ∷ at.step ∷ [])
+
+-- heads have 9 decimals
+abbrev pub head_form : Form
+head_form = record { places = 9; limit = head_limit; back = [] }
+
+-- flows have s + 9 decimals, and a magnitude below 2^126 units; a name may stand behind them
+abbrev pub flow_form : ℕ → List ℕ → Form
+flow_form s back = record { places = s + 9; limit = 2 ^ 126 - 1; back = back }
+
+-- a cell: its layer, row and column, its lower and its upper head
+abbrev pub head_front : Grid → ℕ → List ℕ
+head_front g c = codes "HEAD" ++ numbers_text (place g c) ++ codes " "
+
+abbrev pub head_pair : Bound → TermPair
+head_pair b = record { lo = b.low; hi = b.high }
+
+abbrev pub head_line : Grid → ℕ → Bound → Line
+head_line g c b = pair_line (head_front g c) head_form (head_pair b)
+
+-- the cells from c on, whose heads these are; a cell with IBOUND 0 has no line
+unfoldable pub head_lines : FlowModel → ℕ → List Bound → List Line
+head_lines m c [] = []
+head_lines m c (b ∷ bs) = cond (is_active m c) (head_line m.grid c b ∷ []) [] ++ head_lines m (c + 1) bs
+
+-- a term: its lower and its upper flow into the variable cells, or out of them, and its name (TM 6-A16, chapter 3, the volumetric budget)
+abbrev pub dir_front : Dir → List ℕ
+dir_front dir = dir_name dir ++ codes " "
+
+abbrev pub term_form : ℕ → Term → Form
+term_form s t = flow_form s (codes " " ++ term_name t)
+
+abbrev pub term_line : ℕ → Dir → Term → TermPair → Line
+term_line s dir t p = pair_line (dir_front dir) (term_form s t) p
+
+-- whether the model has EVT: NEVTOP isn't 0
+abbrev pub has_evt : FlowModel → Bool
+has_evt m = is_nonzero m.nevtop
+
+-- the terms in their order; ET is printed only where the model has EVT
+abbrev pub printed_terms : Bool → List Term
+printed_terms evt = Storage ∷ ConstantHead ∷ Wells ∷ Drains ∷ RiverLeakage ∷ HeadDepBounds ∷ Recharge ∷ cond evt (Et ∷ []) []
+
+unfoldable pub term_lines : FlowModel → ℕ → Dir → Budget → List Line
+term_lines m s dir b = map (λ t. term_line s dir t (bounds_in b dir t)) (printed_terms (has_evt m))
+
+-- a zone flow: its two zones, its lower and its upper value
+abbrev pub zone_pair : ZoneFlow → TermPair
+zone_pair z = record { lo = z.lo; hi = z.hi }
+
+abbrev pub zone_line : ℕ → ZoneFlow → Line
+zone_line s z = pair_line (codes "ZONE" ++ numbers_text (z.from ∷ z.to ∷ []) ++ codes " ") (flow_form s []) (zone_pair z)
+
+-- a step whole; its heads are those of all cells of the grid
+unfoldable pub step_lines : FlowModel → ℕ → TimeStep → List Bound → Budget → List ZoneFlow → List Line
+step_lines m s at heads b zones = step_line at ∷ (head_lines m 0 heads ++ (term_lines m s In b ++ (term_lines m s Out b ++ map (zone_line s) zones)))
+
+abbrev pub end_line : Line
+end_line = codes "END"
+
+-- several steps without zone flows, at these times
+unfoldable pub all_step_lines : FlowModel → ℕ → List TimeStep → List ListedStep → List Line
+all_step_lines m s [] steps = []
+all_step_lines m s (at ∷ ats) [] = []
+all_step_lines m s (at ∷ ats) (x ∷ xs) = step_lines m s at x.heads x.budget [] ++ all_step_lines m s ats xs
+
+-- a listing whole, without zone flows
+unfoldable pub listing : FlowModel → ℕ → List ListedStep → List Line
+listing m s steps = first_line m s ∷ (all_step_lines m s (times m) steps ++ (end_line ∷ []))
+
+-- The pieces of a run: the first line, and a step.
+unfoldable pub first_text : FlowModel → ℕ → List ℕ
+first_text m s = text_of (first_line m s ∷ [])
+
+unfoldable pub step_text : FlowModel → ℕ → TimeStep → List Bound → Budget → List ZoneFlow → List ℕ
+step_text m s at heads b zones = text_of (step_lines m s at heads b zones)

@@ -1,0 +1,159 @@
+-- Reading a listing: the lines that are due, one after another. A refusal is the number of the first line that isn't of the form due.
+use Rattle.std.specs.Prelude.{◌≡◌, ℕ, zero, suc, ◌+◌, Bool, true, false, ◌||◌, codes, if◌then◌else◌, List, [], ◌∷◌, Option, Some, None, Result, Ok, Err}
+use Rattle.std.specs.Str.{bytes_eq}
+use Rattle.outside.specs.declared.codes.Code.TheVariants.{BadListing}
+use Rattle.outside.specs.declared.refusals.Refusal.{Refusal}
+use Rattle.outside.specs.Refusals.{refusal}
+use Rattle.record_lines.specs.Layout.{lines, next_number}
+use Rattle.record_lines.specs.Reading.{◌>>=◌, for_each}
+use Rattle.step_problem.specs.declared.heads.Bound.{Bound}
+use Rattle.step_problem.specs.declared.place.Dir.{Dir}
+use Rattle.step_problem.specs.declared.place.Dir.TheVariants.{In, Out}
+use Rattle.step_problem.specs.declared.place.Term.{Term}
+use Rattle.step_problem.specs.declared.place.Term.TheVariants.{Storage, ConstantHead, Wells, Drains, RiverLeakage, HeadDepBounds, Recharge, Et}
+use Rattle.step_problem.specs.Heads.{no_bound}
+use Rattle.budget_bounds.specs.declared.pair.TermPair.{TermPair}
+use Rattle.budget_bounds.specs.Terms.{no_pair}
+use Rattle.model_types.specs.declared.model.FlowModel.{FlowModel}
+use Rattle.model_types.specs.declared.time_steps.TimeStep.{TimeStep}
+use Rattle.model_types.specs.Cells.{cell_count}
+use Rattle.model_types.specs.Layers.{is_active}
+use Rattle.model_types.specs.Times.{times}
+use Rattle.listing_io.specs.declared.listing.ListedStep.{ListedStep}
+use Rattle.listing_io.specs.declared.fault.Fault.{Fault}
+use Rattle.listing_io.specs.declared.fault.Fault.TheVariants.{BadLine, Memory}
+use Rattle.listing_io.specs.Forms.{Form, pair_in}
+use Rattle.listing_io.specs.Listing.{Line, first_line, step_line, head_form, head_front, dir_front, term_form, has_evt, end_line}
+
+-- the lines to come, and the number of the first of them
+pub record Left : Type 0 where
+  pub lines : List Line
+  pub number : ℕ
+
+-- all lines of a text, counted from 1
+abbrev pub all_lines : List ℕ → Left
+all_lines text = record { lines = lines text; number = 1 }
+
+abbrev pub first_of : ℕ → List Line → Result (Line × Left) ℕ
+first_of n [] = Err n
+first_of n (line ∷ more) = Ok (line, record { lines = more; number = next_number n })
+
+-- the next line; a missing one has the number of the last line plus one
+abbrev pub line_at : Left → Result (Line × Left) ℕ
+line_at left = first_of left.number left.lines
+
+abbrev pub or_refused : {X : Type 0} → ℕ → Option X → Result X ℕ
+or_refused n None = Err n
+or_refused n (Some x) = Ok x
+
+-- the two numbers of the next line, which is to begin so and to be of this form
+unfoldable pub pair_at : List ℕ → Form → Left → Result (TermPair × Left) ℕ
+pair_at front f left = do
+  line ← line_at left
+  p ← or_refused left.number (pair_in front f line.0)
+  Ok (p, line.1)
+
+-- the next line is to be this one
+unfoldable pub text_at : Line → Left → Result Left ℕ
+text_at text left = do
+  line ← line_at left
+  if bytes_eq text line.0 then Ok line.1 else Err left.number
+
+abbrev pub bound_of : TermPair → Bound
+bound_of p = record { low = p.lo; high = p.hi }
+
+-- the heads of a cell: no line and zeros where there is no flow
+abbrev pub head_if : Bool → List ℕ → Left → Result (Bound × Left) ℕ
+head_if true front left = pair_at front head_form left >>= λ p. Ok (bound_of p.0, p.1)
+head_if false front left = Ok (no_bound, left)
+
+-- the heads of so many cells from c on
+unfoldable pub heads_at : FlowModel → ℕ → ℕ → Left → Result (List Bound × Left) ℕ
+heads_at m c zero left = Ok ([], left)
+heads_at m c (suc k) left = do
+  head ← head_if (is_active m c) (head_front m.grid c) left
+  more ← heads_at m (c + 1) k head.1
+  Ok (head.0 ∷ more.0, more.1)
+
+abbrev pub term_at : ℕ → Dir → Term → Left → Result (TermPair × Left) ℕ
+term_at s dir t left = pair_at (dir_front dir) (term_form s t) left
+
+-- ET has no line and zeros where the model has no EVT
+abbrev pub term_if : Bool → ℕ → Dir → Left → Result (TermPair × Left) ℕ
+term_if true s dir left = term_at s dir Et left
+term_if false s dir left = Ok (no_pair, left)
+
+-- the terms that go one way
+unfoldable pub terms_at : Bool → ℕ → Dir → Left → Result (List TermPair × Left) ℕ
+terms_at evt s dir left = do
+  storage ← term_at s dir Storage left
+  constant ← term_at s dir ConstantHead storage.1
+  wells ← term_at s dir Wells constant.1
+  drains ← term_at s dir Drains wells.1
+  rivers ← term_at s dir RiverLeakage drains.1
+  general ← term_at s dir HeadDepBounds rivers.1
+  recharge ← term_at s dir Recharge general.1
+  et ← term_if evt s dir recharge.1
+  Ok (storage.0 ∷ constant.0 ∷ wells.0 ∷ drains.0 ∷ rivers.0 ∷ general.0 ∷ recharge.0 ∷ et.0 ∷ [], et.1)
+
+-- a step whole
+unfoldable pub step_at : FlowModel → ℕ → TimeStep → Left → Result (ListedStep × Left) ℕ
+step_at m s at left = do
+  after ← text_at (step_line at) left
+  heads ← heads_at m 0 (cell_count m.grid) after
+  into ← terms_at (has_evt m) s In heads.1
+  out ← terms_at (has_evt m) s Out into.1
+  Ok (record { heads = heads.0; budget = record { into = into.0; out = out.0 } }, out.1)
+
+-- the first line of version 1 named no digits and no unit
+abbrev pub first_line_before : Line
+first_line_before = codes "HEADS 1"
+
+-- the first line of version 2, or of version 1
+unfoldable pub first_at : FlowModel → ℕ → Left → Result Left ℕ
+first_at m s left = do
+  line ← line_at left
+  if bytes_eq (first_line m s) line.0 || bytes_eq first_line_before line.0 then Ok line.1 else Err left.number
+
+-- no line is to come
+abbrev pub none_of : ℕ → List Line → Result (Unit {0}) ℕ
+none_of n [] = Ok tt
+none_of n (line ∷ more) = Err n
+
+abbrev pub over_at : Left → Result (Unit {0}) ℕ
+over_at left = none_of left.number left.lines
+
+-- a listing whole: its steps, or the number of the first line that isn't of the form due
+unfoldable pub listing_at : FlowModel → ℕ → Left → Result (List ListedStep) ℕ
+listing_at m s left = do
+  after ← first_at m s left
+  steps ← for_each (step_at m s) (times m) after
+  end ← text_at end_line steps.1
+  over ← over_at end
+  Ok steps.0
+
+-- the listing of a file, or BadListing at that line
+abbrev pub or_bad_listing : List ℕ → Result (List ListedStep) ℕ → Result (List ListedStep) Refusal
+or_bad_listing file (Ok steps) = Ok steps
+or_bad_listing file (Err n) = Err (refusal BadListing file n)
+
+abbrev pub listing_in : FlowModel → ℕ → List ℕ → List ℕ → Result (List ListedStep) Refusal
+listing_in m s file text = or_bad_listing file (listing_at m s (all_lines text))
+
+-- What a call answered, seen by view, and what it left to come: what reading gives, unless memory was wanting.
+abbrev pub Stops : {Y : Type 0} → Fault → Result Y ℕ → Type 0
+Stops (BadLine n) read = read ≡ Err n
+Stops Memory read = Unit {0}
+
+abbrev pub Gives : {X Y S : Type 0} → (X → Y) → Result X Fault → S → Result (Y × S) ℕ → Type 0
+Gives view (Ok x) after read = read ≡ Ok (view x, after)
+Gives view (Err fault) after read = Stops fault read
+
+abbrev pub Passes : {S : Type 0} → Result (Unit {0}) Fault → S → Result S ℕ → Type 0
+Passes (Ok done) after read = read ≡ Ok after
+Passes (Err fault) after read = Stops fault read
+
+-- the same where nothing is left to come
+abbrev pub Has : {X Y : Type 0} → (X → Y) → Result X Fault → Result Y ℕ → Type 0
+Has view (Ok x) read = read ≡ Ok (view x)
+Has view (Err fault) read = Stops fault read

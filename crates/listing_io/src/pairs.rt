@@ -1,0 +1,96 @@
+// Lines that have two numbers, written and read.
+ghost use Rattle.std.specs.Prelude.{◌≡◌, ◌≤◌, ◌<◌, ◌^◌, ◌++◌, ◌⊎◌, MatchOption, IfOk, IfSome, codes, nat_abs};
+ghost use Rattle.fixed_text.specs.Fixed.{fixed_text};
+ghost use Rattle.listing_io.specs.Forms.{Form, candidate, is_within, pair_in, pair_text};
+
+use crate::digits::value_in;
+use crate::words::{behind, behind_word, first_word};
+use budget_bounds::TermPair;
+use fixed_text::push_fixed;
+use std::alloc::AllocError;
+use std::marker::Model;
+
+/// How two numbers stand in a line: their decimals, their greatest magnitude, and what stands behind them.
+#[derive(Drop)]
+pub(crate) struct PairForm<'a> {
+    pub places: u32,
+    pub limit: u128,
+    pub back: &'a [u8],
+}
+
+impl<'a> Model for PairForm<'a> {
+    ghost Value = { Form };
+
+    ghost view = { λ f. record { places = f.places; limit = f.limit; back = f.back.now } };
+}
+
+fn push_numbers(
+    text: &mut Vec<u8>,
+    places: u32,
+    pair: TermPair,
+    back: &[u8],
+) -> Result<(), AllocError>
+    requires some { 0 < places }
+    requires few { places ≤ 27 }
+    ensures { IfOk result (λ _. text.new.items ≡ text.old.items ++ (fixed_text places pair.lo ++ (codes " " ++ (fixed_text places pair.hi ++ back.now)))) }
+{
+    push_fixed(text, places, pair.lo)?;
+    text.push(b' ')?;
+    push_fixed(text, places, pair.hi)?;
+    text.extend_from_slice(back)?;
+    Ok(())
+}
+
+/// Writes two numbers and what stands behind them.
+pub(crate) fn push_pair(
+    text: &mut Vec<u8>,
+    form: &PairForm,
+    pair: TermPair,
+) -> Result<(), AllocError>
+    requires some { 0 < form.now.places }
+    requires few { form.now.places ≤ 27 }
+    ensures { IfOk result (λ _. text.new.items ≡ text.old.items ++ pair_text form.now pair) }
+{
+    push_numbers(text, form.places, pair, form.back)
+}
+
+#[tactic(auto, unfolding(crate::specs::Forms::candidate))]
+fn candidate(front: &[u8], line: &[u8]) -> Option<TermPair>
+    ensures { MatchOption result ((2 ^ 126 ≤ nat_abs (candidate front.now line.now).lo) ⊎ (2 ^ 126 ≤ nat_abs (candidate front.now line.now).hi)) (λ p. p ≡ candidate front.now line.now) }
+{
+    let numbers = behind(line, front.len());
+    let lo = value_in(first_word(numbers))?;
+    let hi = value_in(behind_word(numbers))?;
+    Some(TermPair { lo, hi })
+}
+
+fn is_within(form: &PairForm, pair: TermPair) -> bool
+    ensures { result ≡ is_within form.now pair }
+{
+    pair.lo.unsigned_abs() <= form.limit && pair.hi.unsigned_abs() <= form.limit
+}
+
+/// The numbers of which just this line is written, behind the text that it is to begin with.
+#[tactic(auto, unfolding(crate::specs::Forms::pair_in))]
+pub(crate) fn pair_in(
+    text: &mut Vec<u8>,
+    form: &PairForm,
+    line: &[u8],
+) -> Result<Option<TermPair>, AllocError>
+    requires some { 0 < form.now.places }
+    requires few { form.now.places ≤ 27 }
+    requires limit { form.now.limit < 2 ^ 126 }
+    ensures pair { IfOk result (λ found. found ≡ pair_in text.old.items form.now line.now) }
+    ensures lo { IfOk result (λ found. IfSome found (λ p. nat_abs p.lo ≤ form.now.limit)) }
+    ensures hi { IfOk result (λ found. IfSome found (λ p. nat_abs p.hi ≤ form.now.limit)) }
+{
+    let Some(pair) = candidate(text.as_slice(), line) else {
+        return Ok(None);
+    };
+    push_pair(text, form, pair)?;
+    if is_within(form, pair) && text.as_slice() == line {
+        Ok(Some(pair))
+    } else {
+        Ok(None)
+    }
+}

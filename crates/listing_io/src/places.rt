@@ -1,0 +1,124 @@
+// The words that lines of a listing begin with.
+ghost use Rattle.std.specs.Prelude.{◌≡◌, ◌++◌, [], ◌∷◌, codes, decimal, IfOk};
+ghost use Rattle.step_problem.specs.Names.{dir_name, side_name, term_name};
+ghost use Rattle.model_types.specs.Cells.{place};
+ghost use Rattle.model_types.specs.Grids.{HasSize};
+ghost use Rattle.listing_io.specs.Listing.{dir_front, has_evt, head_front, numbers_text, step_line};
+
+use fixed_text::push_number;
+use model_types::{FlowModel, Grid, TimeStep};
+use std::alloc::AllocError;
+use step_problem::{Dir, Side, Term};
+
+/// Writes a number behind a blank.
+pub(crate) fn push_word(text: &mut Vec<u8>, n: u64) -> Result<(), AllocError>
+    ensures { IfOk result (λ _. text.new.items ≡ text.old.items ++ (codes " " ++ decimal n)) }
+{
+    text.push(b' ')?;
+    push_number(text, u128::from(n))
+}
+
+/// Writes two numbers, each behind a blank.
+pub(crate) fn push_two(text: &mut Vec<u8>, a: u32, b: u32) -> Result<(), AllocError>
+    ensures { IfOk result (λ _. text.new.items ≡ text.old.items ++ numbers_text (a ∷ b ∷ [])) }
+{
+    push_word(text, u64::from(a))?;
+    push_word(text, u64::from(b))
+}
+
+/// Writes three numbers, each behind a blank.
+pub(crate) fn push_three(text: &mut Vec<u8>, a: u64, b: u64, c: u64) -> Result<(), AllocError>
+    ensures { IfOk result (λ _. text.new.items ≡ text.old.items ++ numbers_text (a ∷ b ∷ c ∷ [])) }
+{
+    push_word(text, a)?;
+    push_word(text, b)?;
+    push_word(text, c)
+}
+
+/// Writes the layer, the row and the column of a cell.
+pub(crate) fn push_place(text: &mut Vec<u8>, grid: &Grid, cell: u32) -> Result<(), AllocError>
+    requires { HasSize grid.now }
+    ensures { IfOk result (λ _. text.new.items ≡ text.old.items ++ numbers_text (place grid.now cell)) }
+{
+    let layer = cell / (grid.rows * grid.cols);
+    let row = cell / grid.cols % grid.rows;
+    let column = cell % grid.cols;
+    push_three(
+        text,
+        u64::from(layer) + 1,
+        u64::from(row) + 1,
+        u64::from(column) + 1,
+    )
+}
+
+/// Writes what the line of a cell's heads begins with.
+pub(crate) fn push_head_front(text: &mut Vec<u8>, grid: &Grid, cell: u32) -> Result<(), AllocError>
+    requires { HasSize grid.now }
+    ensures { IfOk result (λ _. text.new.items ≡ text.old.items ++ head_front grid.now cell) }
+{
+    text.extend_from_slice(b"HEAD")?;
+    push_place(text, grid, cell)?;
+    text.push(b' ')?;
+    Ok(())
+}
+
+/// Writes the line of a step, without its line feed.
+pub(crate) fn push_step_line(text: &mut Vec<u8>, at: TimeStep) -> Result<(), AllocError>
+    ensures { IfOk result (λ _. text.new.items ≡ text.old.items ++ step_line at) }
+{
+    text.extend_from_slice(b"STEP")?;
+    push_two(text, at.period, at.step)
+}
+
+/// What the lines of the terms that go one way begin with.
+pub(crate) fn dir_front(dir: Dir) -> &'static [u8]
+    ensures { result.now ≡ dir_front dir }
+{
+    match dir {
+        Dir::In => b"IN ",
+        Dir::Out => b"OUT ",
+    }
+}
+
+/// The word of a way, behind a blank.
+pub(crate) fn dir_word(dir: Dir) -> &'static [u8]
+    ensures { result.now ≡ codes " " ++ dir_name dir }
+{
+    match dir {
+        Dir::In => b" IN",
+        Dir::Out => b" OUT",
+    }
+}
+
+/// The word of a side, behind a blank.
+pub(crate) fn side_word(side: Side) -> &'static [u8]
+    ensures { result.now ≡ codes " " ++ side_name side }
+{
+    match side {
+        Side::Low => b" LOW",
+        Side::High => b" HIGH",
+    }
+}
+
+/// The name of a term, behind a blank.
+pub(crate) fn term_word(term: Term) -> &'static [u8]
+    ensures { result.now ≡ codes " " ++ term_name term }
+{
+    match term {
+        Term::Storage => b" STORAGE",
+        Term::ConstantHead => b" CONSTANT HEAD",
+        Term::Wells => b" WELLS",
+        Term::Drains => b" DRAINS",
+        Term::RiverLeakage => b" RIVER LEAKAGE",
+        Term::HeadDepBounds => b" HEAD DEP BOUNDS",
+        Term::Recharge => b" RECHARGE",
+        Term::Et => b" ET",
+    }
+}
+
+/// Whether the model has EVT.
+pub(crate) fn has_evt(model: &FlowModel) -> bool
+    ensures { result ≡ has_evt model.now }
+{
+    model.nevtop != 0
+}

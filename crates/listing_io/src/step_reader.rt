@@ -1,0 +1,188 @@
+// The reading of a step.
+ghost use Rattle.std.specs.Prelude.{◌≡◌, ◌≤◌, ◌<◌, ◌^◌, length, nat_abs, IfOk};
+ghost use Rattle.step_problem.specs.Conditions.{head_limit};
+ghost use Rattle.model_types.specs.Cells.{cell_count};
+ghost use Rattle.model_types.specs.Grids.{HasSize};
+ghost use Rattle.model_types.specs.Layers.{is_active};
+ghost use Rattle.listing_io.specs.Listing.{has_evt, head_form, head_front, step_line};
+ghost use Rattle.listing_io.specs.Reading.{Gives, Passes, head_if, heads_at, pair_at, step_at, term_at, term_if, terms_at, text_at};
+
+use crate::fault::Fault;
+use crate::lines::AllLines;
+use crate::listing::ListedStep;
+use crate::listing_writer::{FLOW_LIMIT, HEAD_LIMIT};
+use crate::pairs::{PairForm, pair_in};
+use crate::places::{dir_front, has_evt, push_head_front, push_step_line, term_word};
+use budget_bounds::{Budget, TermPair};
+use model_types::{FlowModel, Grid, Listed, TimeStep};
+use std::alloc::Global;
+use step_problem::{Bound, Dir, Term};
+
+/// The two numbers of the next line, which is to begin with this text; the text is used up.
+#[tactic(auto, unfolding(crate::specs::Reading::pair_at))]
+fn read_pair(text: &mut Vec<u8>, form: &PairForm, lines: &mut AllLines) -> Result<TermPair, Fault>
+    requires some { 0 < form.now.places }
+    requires few { form.now.places ≤ 27 }
+    requires limit { form.now.limit < 2 ^ 126 }
+    ensures pair { Gives (λ p. p) result lines.new (pair_at text.old.items form.now lines.old) }
+    ensures lo { IfOk result (λ p. nat_abs p.lo ≤ form.now.limit) }
+    ensures hi { IfOk result (λ p. nat_abs p.hi ≤ form.now.limit) }
+{
+    let number = lines.number();
+    let line = lines.take()?;
+    match pair_in(text, form, line)? {
+        Some(pair) => Ok(pair),
+        None => Err(Fault::BadLine(number)),
+    }
+}
+
+fn read_head(
+    text: &mut Vec<u8>,
+    grid: &Grid,
+    cell: u32,
+    lines: &mut AllLines,
+) -> Result<TermPair, Fault>
+    requires size { HasSize grid.now }
+    ensures pair { Gives (λ p. p) result lines.new (pair_at (head_front grid.now cell) head_form lines.old) }
+    ensures lo { IfOk result (λ p. nat_abs p.lo ≤ head_limit) }
+    ensures hi { IfOk result (λ p. nat_abs p.hi ≤ head_limit) }
+{
+    let form = PairForm {
+        places: 9,
+        limit: HEAD_LIMIT,
+        back: b"",
+    };
+    text.clear();
+    push_head_front(text, grid, cell)?;
+    read_pair(text, &form, lines)
+}
+
+fn read_bound(
+    text: &mut Vec<u8>,
+    model: &FlowModel,
+    cell: u32,
+    lines: &mut AllLines,
+) -> Result<Bound, Fault>
+    requires { HasSize model.now.grid }
+    ensures { Gives (λ b. b) result lines.new (head_if (is_active model.now cell) (head_front model.now.grid cell) lines.old) }
+{
+    if !model.is_active(cell) {
+        return Ok(Bound { low: 0, high: 0 });
+    }
+    let pair = read_head(text, &model.grid, cell, lines)?;
+    Ok(Bound {
+        low: pair.lo as i64,
+        high: pair.hi as i64,
+    })
+}
+
+fn read_heads(
+    alloc: Global,
+    text: &mut Vec<u8>,
+    model: &FlowModel,
+    lines: &mut AllLines,
+) -> Result<Vec<Bound>, Fault>
+    requires { HasSize model.now.grid }
+    ensures { Gives (λ v. v.items) result lines.new (heads_at model.now 0 (cell_count model.now.grid) lines.old) }
+{
+    let mut heads = Vec::new(alloc);
+    for cell in 0..model.grid.cell_count() {
+        let head = read_bound(text, model, cell, lines)?;
+        heads.push(head)?;
+    }
+    Ok(heads)
+}
+
+fn read_term(
+    text: &mut Vec<u8>,
+    s: u32,
+    dir: Dir,
+    term: Term,
+    lines: &mut AllLines,
+) -> Result<TermPair, Fault>
+    requires { s ≤ 18 }
+    ensures { Gives (λ p. p) result lines.new (term_at s dir term lines.old) }
+{
+    let form = PairForm {
+        places: s + 9,
+        limit: FLOW_LIMIT,
+        back: term_word(term),
+    };
+    text.clear();
+    text.extend_from_slice(dir_front(dir))?;
+    read_pair(text, &form, lines)
+}
+
+fn read_et(
+    text: &mut Vec<u8>,
+    evt: bool,
+    s: u32,
+    dir: Dir,
+    lines: &mut AllLines,
+) -> Result<TermPair, Fault>
+    requires { s ≤ 18 }
+    ensures { Gives (λ p. p) result lines.new (term_if evt s dir lines.old) }
+{
+    if evt {
+        read_term(text, s, dir, Term::Et, lines)
+    } else {
+        Ok(TermPair { lo: 0, hi: 0 })
+    }
+}
+
+#[tactic(auto, unfolding(crate::specs::Reading::terms_at))]
+fn read_terms(
+    text: &mut Vec<u8>,
+    evt: bool,
+    s: u32,
+    dir: Dir,
+    lines: &mut AllLines,
+) -> Result<[TermPair; 8], Fault>
+    requires { s ≤ 18 }
+    ensures { Gives (λ p. p) result lines.new (terms_at evt s dir lines.old) }
+{
+    let storage = read_term(text, s, dir, Term::Storage, lines)?;
+    let constant = read_term(text, s, dir, Term::ConstantHead, lines)?;
+    let wells = read_term(text, s, dir, Term::Wells, lines)?;
+    let drains = read_term(text, s, dir, Term::Drains, lines)?;
+    let rivers = read_term(text, s, dir, Term::RiverLeakage, lines)?;
+    let general = read_term(text, s, dir, Term::HeadDepBounds, lines)?;
+    let recharge = read_term(text, s, dir, Term::Recharge, lines)?;
+    let et = read_et(text, evt, s, dir, lines)?;
+    Ok([
+        storage, constant, wells, drains, rivers, general, recharge, et,
+    ])
+}
+
+fn read_title(text: &mut Vec<u8>, at: TimeStep, lines: &mut AllLines) -> Result<(), Fault>
+    ensures { Passes result lines.new (text_at (step_line at) lines.old) }
+{
+    text.clear();
+    push_step_line(text, at)?;
+    lines.expect(text.as_slice())
+}
+
+/// A step, or the first line that isn't of the form due.
+#[tactic(auto, unfolding(crate::specs::Reading::step_at))]
+pub(crate) fn read_step(
+    alloc: Global,
+    text: &mut Vec<u8>,
+    model: &FlowModel,
+    s: u32,
+    at: TimeStep,
+    lines: &mut AllLines,
+) -> Result<ListedStep, Fault>
+    requires size { HasSize model.now.grid }
+    requires digits { s ≤ 18 }
+    ensures { Gives (λ x. x) result lines.new (step_at model.now s at lines.old) }
+{
+    let evt = has_evt(model);
+    read_title(text, at, lines)?;
+    let heads = read_heads(alloc, text, model, lines)?;
+    let into = read_terms(text, evt, s, Dir::In, lines)?;
+    let out = read_terms(text, evt, s, Dir::Out, lines)?;
+    Ok(ListedStep {
+        heads: Listed::new(heads),
+        budget: Budget { into, out },
+    })
+}
