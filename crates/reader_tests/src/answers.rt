@@ -1,0 +1,50 @@
+// What a reader answered: the model's lists, one in a line, or why it is refused.
+use crate::lists::{print_grid, print_integers, print_numbers, print_period};
+use model_types::FlowModel;
+use outside::{InputFault, Refusal};
+use std::io;
+
+fn print_refusal(rt: &impl Print, refusal: &Refusal) -> io::Result<()> {
+    let code = refusal.code.word();
+    let file = refusal.file.as_str();
+    let line = refusal.line;
+    print!(rt; "{code} {file} {line}")?;
+    if let Some(place) = refusal.at {
+        for number in place {
+            print!(rt; " {number}")?;
+        }
+    }
+    println!(rt; "")
+}
+
+fn print_properties(rt: &impl Print, model: &FlowModel) -> io::Result<()> {
+    print_integers(rt, "LAYVKA", model.layvka.as_slice())?;
+    print_numbers(rt, "HK", model.hk.as_slice())?;
+    print_numbers(rt, "HANI", model.hani.as_slice())?;
+    print_numbers(rt, "VKA", model.vka.as_slice())?;
+    print_numbers(rt, "SS", model.ss.as_slice())?;
+    print_numbers(rt, "VKCB", model.vkcb.as_slice())?;
+    let coefficient = model.coefficient;
+    println!(rt; "COEFFICIENT {coefficient}")
+}
+
+fn print_model(rt: &impl Print, model: &FlowModel) -> io::Result<()> {
+    print_grid(rt, &model.grid)?;
+    for period in model.periods.as_slice() {
+        print_period(rt, period)?;
+    }
+    let lenuni = model.lenuni;
+    println!(rt; "LENUNI {lenuni}")?;
+    print_integers(rt, "IBOUND", model.ibound.as_slice())?;
+    print_numbers(rt, "STRT", model.strt.as_slice())?;
+    print_properties(rt, model)
+}
+
+pub fn print_answer(rt: &impl Print, answer: &Result<FlowModel, InputFault>) -> io::Result<()> {
+    match answer {
+        Ok(model) => print_model(rt, model),
+        Err(InputFault::Refused(refusal)) => print_refusal(rt, refusal),
+        Err(InputFault::ReadFault) => println!(rt; "ReadFault"),
+        Err(InputFault::Memory) => println!(rt; "Memory"),
+    }
+}
