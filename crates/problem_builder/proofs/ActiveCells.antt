@@ -1,0 +1,23 @@
+-- A variable cell is active, and a constant one.
+use Rattle.std.proofs.Common.{◌≡◌, ℕ, zero, suc, Bool, true, false, refl, ◌∙◌, arith, ℤ, pos, negsuc}
+use Rattle.std.specs.Prelude.{not, int_lt, ◌&&◌, ◌==◌, unsigned_abs}
+use Rattle.std.proofs.lemmas.Bool.{false≢true}
+use Rattle.std.proofs.lemmas.Bool.Decides.{nat_tests}
+use Rattle.model_types.specs.declared.model.FlowModel.{FlowModel}
+use Rattle.model_types.specs.Layers.{is_active, int_at}
+use Rattle.model_types.specs.Kinds.{is_variable, is_constant}
+
+pub and_true : (a b : Bool) → (a && b) ≡ true → (a ≡ true) × (b ≡ true)
+and_true true b e = (refl, e)
+and_true false b e = absurd (false≢true e)
+
+positive_active : (z : ℤ) → int_lt (pos 0) z ≡ true → not (unsigned_abs z == 0) ≡ true
+positive_active (pos zero) e = e
+positive_active (pos (suc n)) e = grind (arith, nat_tests)
+positive_active (negsuc n) e = grind (arith, nat_tests)
+
+pub variable_active : (m : FlowModel) (p c : ℕ) → is_variable m p c ≡ true → is_active m c ≡ true
+variable_active m p c e = positive_active (int_at m.ibound c) (and_true (int_lt (pos 0) (int_at m.ibound c)) _ e).0
+
+pub constant_active : (m : FlowModel) (p c : ℕ) → is_constant m p c ≡ true → is_active m c ≡ true
+constant_active m p c e = (and_true (is_active m c) _ e).0

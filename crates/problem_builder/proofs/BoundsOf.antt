@@ -1,0 +1,133 @@
+-- The bounds of a valid model's numbers enclose them.
+use Rattle.std.proofs.Common.{◌≡◌, ℕ, zero, suc, ◌+◌, ◌*◌, ◌-◌, ◌/◌, ◌<◌, ◌≤◌, ◌^◌, ◌⊎◌, inl, inr, Bool, true, false, cond, Option, Some, None, List, take, arith, refl, ap, sym, ◌∙◌, subst, All, ℤ, pos, neg_ℤ, ◌+ℤ◌, ◌-ℤ◌, ◌*ℤ◌, unsigned_abs}
+use Rattle.std.specs.Option.{option_to_list}
+use Rattle.std.proofs.lemmas.Int.{ints}
+use Rattle.decimal_input.specs.declared.dec.Dec.{Dec}
+use Rattle.decimal_input.specs.Canonical.{number, size}
+use Rattle.decimal_input.specs.Fractions.{Fraction, plus, negated, den as denominator}
+use Rattle.decimal_input.specs.Enclosures.{Encloses, EnclosesSigned}
+use Rattle.decimal_input.proofs.Differences.{diffs, as_diff, same_diff}
+use Rattle.step_problem.specs.declared.entry.Evap.{Evap}
+use Rattle.step_problem.specs.Conditions.{magnitude, IsHead}
+use Rattle.cell_balance.specs.Enclosures.{EvapEncloses}
+use Rattle.model_types.specs.declared.entry.Given.{Given}
+use Rattle.model_types.specs.declared.face.Axis.{Axis}
+use Rattle.model_types.specs.declared.face.Axis.TheVariants.{Row, Column, Vertical}
+use Rattle.model_types.specs.declared.model.FlowModel.{FlowModel}
+use Rattle.model_types.specs.declared.period.Period.{Period}
+use Rattle.model_types.specs.declared.time_steps.TimeStep.{TimeStep}
+use Rattle.model_types.specs.Cells.{cell_count, layer_size, column_of, row_of}
+use Rattle.model_types.specs.Faces.{stride}
+use Rattle.model_types.specs.Heads.{kept_head, head_or_kept, constant_head}
+use Rattle.model_types.specs.Layers.{no_number, dec_at, gap, is_active, has_bed, lowest, bottom_at, top_at, bed_thickness, thickness, delr_at, delc_at, hk_at, hani_at, vka_at, vkcb_at}
+use Rattle.model_types.specs.Conductances.{conductance}
+use Rattle.model_types.specs.Numbers.{IsPositive, IsHeadNumber}
+use Rattle.model_types.specs.Times.{period_at, passed}
+use Rattle.model_types.specs.Storage.{storage, storativity}
+use Rattle.model_types.specs.Kinds.{is_variable, is_constant, given_in, last_given}
+use Rattle.model_types.specs.Receivers.{EvapSource, recharge_at, evap_at, recharge_flow, evap_conductance, extinction}
+use Rattle.model_types.specs.Valid.{IsModel, IsEvapValid}
+use Rattle.conductance_bounds.specs.Terms.{Term, exact, Holds, IsBetween}
+use Rattle.conductance_bounds.specs.Pairs.{IsPair, IsCapped}
+use Rattle.conductance_bounds.specs.Parts.{IsPart, IsGivenPair}
+use Rattle.conductance_bounds.specs.Formulas.{face_term, storage_term, evap_term, thick_term, recharge_term}
+use Rattle.conductance_bounds.proofs.FaceBounds.{faces_enclose}
+use Rattle.conductance_bounds.proofs.ModelBounds.{storages_enclose, recharges_enclose, evaps_enclose, heads_enclose as given_encloses}
+use Rattle.conductance_bounds.proofs.PartBounds.{part_encloses, multiplier_positive}
+use Rattle.conductance_bounds.proofs.SpanBounds.{below_gap, above_gap}
+use Rattle.problem_builder.specs.InputBounds.{IsHeadPair}
+use Rattle.problem_builder.specs.Thicknesses.{Thicknesses, AreThicknesses}
+use Rattle.problem_builder.specs.ConstantHeads.{IsKeptPair, IsGivenOrKept, IsConstantPair}
+use Rattle.problem_builder.specs.RechargeBounds.{IsRechargePair}
+use Rattle.problem_builder.specs.Cells.{IsEvap}
+use Rattle.problem_builder.specs.Moments.{IsTimeOf}
+use Rattle.problem_builder.proofs.ActiveCells.{variable_active, constant_active}
+use Rattle.problem_builder.proofs.Bounds.{BoundsEnclose}
+use Rattle.problem_builder.proofs.CellEnclosed.{head_encloses, past_magnitude}
+use Rattle.problem_builder.proofs.Fits.{size_positive, evap_holds, head_pair_range}
+use Rattle.problem_builder.proofs.GivenRange.{given_range}
+use Rattle.problem_builder.proofs.GivenValid.{given_valid, last_valid}
+
+real_pair : (t : Term) (s lo hi : ℕ) → IsCapped t s lo hi → hi < 2 ^ 60 → IsPair t s lo hi
+real_pair t s lo hi (inl k) lt = k.0
+real_pair t s lo hi (inr k) lt = absurd (omega (arith, lt, k.upper))
+
+product_den : (a b : ℕ) → suc (a * b + a + b) ≡ suc a * suc b
+product_den a b = omega arith
+
+minus_is : (a b x y : ℤ) → a *ℤ x +ℤ neg_ℤ b *ℤ y ≡ a *ℤ x -ℤ b *ℤ y
+minus_is a b x y = rw (as_diff a, as_diff b, as_diff x, as_diff y) (simp diffs (same_diff _ _ _ _ (omega arith)))
+
+-- what holds of each optional item holds of the one
+pub in_option : {X : Type 0} (P : X → Type 0) (o : Option X) (x : X) → o ≡ Some x → All P (option_to_list o) → P x
+in_option P o x e h = (subst (λ q. All P (option_to_list q)) e h) 0 x (omega arith)
+
+module _ (m : FlowModel) (at : TimeStep) (valid : IsModel m) (time : IsTimeOf m at) where
+  kept : (o : Option Given) (c : ℕ) (lo hi : ℤ) → IsKeptPair m c o lo hi → EnclosesSigned lo hi 9 (kept_head m o c)
+  kept None c lo hi k = head_encloses (dec_at m.strt c) lo hi k
+  kept (Some x) c lo hi k = head_encloses x.ehead lo hi k
+
+  given_or_kept : (o : Option Given) (c : ℕ) (lo hi : ℤ) → IsGivenOrKept m at c o lo hi → EnclosesSigned lo hi 9 (head_or_kept m at.period at.step o c)
+  given_or_kept None c lo hi k = kept (last_given (take (at.period - 1) m.periods) c) c lo hi k
+  given_or_kept (Some x) c lo hi (f, g, part, pair) =
+      given_encloses (period_at m at.period) at.step f g x lo hi time.valid.times time.step.0 time.step.1 part pair
+
+  pub heads : (c : ℕ) (lo hi : ℤ) → c < cell_count m.grid → is_constant m at.period c ≡ true → IsConstantPair m at c lo hi → EnclosesSigned lo hi 9 (constant_head m at.period at.step c)
+  unfolding IsConstantPair constant_head
+  heads c lo hi lt k h = given_or_kept (given_in (period_at m at.period).given c) c lo hi h
+
+  kept_range : (o : Option Given) (c : ℕ) (lo hi : ℤ) → last_given (take (at.period - 1) m.periods) c ≡ o → c < cell_count m.grid → is_active m c ≡ true → IsKeptPair m c o lo hi → IsHead lo × IsHead hi
+  kept_range None c lo hi e lt a k = head_pair_range (dec_at m.strt c) lo hi (valid.cells c lt a).strt k
+  kept_range (Some x) c lo hi e lt a k = head_pair_range x.ehead lo hi (last_valid m (at.period - 1) c x valid e).ehead k
+
+  either_range : (o : Option Given) (c : ℕ) (lo hi : ℤ) → given_in (period_at m at.period).given c ≡ o → c < cell_count m.grid → is_active m c ≡ true → IsGivenOrKept m at c o lo hi → IsHead lo × IsHead hi
+  either_range None c lo hi e lt a k = kept_range (last_given (take (at.period - 1) m.periods) c) c lo hi refl lt a k
+  either_range (Some x) c lo hi e lt a (f, g, part, pair) =
+      let q = part_encloses (period_at m at.period) at.step f g time.step.0 time.step.1 (multiplier_positive (period_at m at.period) time.valid.times) part in
+      let h = given_valid (cell_count m.grid) (period_at m at.period).given c x time.valid.given.entries e in
+      given_range x.shead x.ehead f g lo hi h.shead h.ehead q.low_range q.high_range pair
+
+  pub head_range : (c : ℕ) (lo hi : ℤ) → c < cell_count m.grid → is_constant m at.period c ≡ true → IsConstantPair m at c lo hi → IsHead lo × IsHead hi
+  unfolding IsConstantPair
+  head_range c lo hi lt k h = either_range (given_in (period_at m at.period).given c) c lo hi refl lt (constant_active m at.period c k) h
+
+module _ (m : FlowModel) (w : Thicknesses) (s : ℕ) (at : TimeStep) (valid : IsModel m) (r : AreThicknesses m w) (time : IsTimeOf m at) where
+  faces : (axis : Axis) (a lo hi : ℕ) → a + stride m.grid axis < cell_count m.grid → is_active m a ≡ true → is_active m (a + stride m.grid axis) ≡ true →
+      IsCapped (face_term m w.thick w.bed axis a) s lo hi → hi < 2 ^ 60 → Encloses lo hi s (conductance m axis a)
+  faces axis a lo hi lt x y k small = faces_enclose m w.thick w.bed valid r axis a s lo hi lt x y (real_pair _ s lo hi k small)
+
+  storages : (c lo hi : ℕ) → c < cell_count m.grid → is_variable m at.period c ≡ true → (period_at m at.period).steady ≡ false →
+      IsCapped (storage_term m w.thick (period_at m at.period) at.step c) s lo hi → hi < 2 ^ 60 → Encloses lo hi s (storage m (period_at m at.period) at.step c)
+  storages c lo hi lt v steady k small =
+      let a = variable_active m at.period c v in
+      storages_enclose m w.thick valid (period_at m at.period) at.step c s lo hi time.valid.times steady lt a (r.cells c lt a) (real_pair _ s lo hi k small)
+
+  recharges : (c : ℕ) (rate : Dec) (lo hi : ℤ) → IsRechargePair m s c rate lo hi → magnitude lo hi < 2 ^ 109 → EnclosesSigned lo hi (s + 9) (recharge_flow m c rate)
+  recharges c rate lo hi (inl k) small = recharges_enclose m rate c (s + 9) lo hi k.flow
+  recharges c rate lo hi (inr k) small = absurd (past_magnitude lo hi k.lower small)
+
+  evaps : (c : ℕ) (x : EvapSource) (e : Evap) → c < cell_count m.grid → is_active m c ≡ true → evap_at m at.period c ≡ Some x → IsEvap m s c e x → e.hi < 2 ^ 60 →
+      EvapEncloses s e (record { conductance = evap_conductance m c x; surface = number x.surface; extinction = extinction x })
+  evaps c x e lt a is k small =
+      let v : IsEvapValid x = in_option IsEvapValid (evap_at m at.period c) x is (valid.evaps at.period c lt a) in
+      let S = number x.surface in
+      let D = number x.depth in
+      let den : denominator (plus S (negated D)) ≡ denominator S * denominator D = product_den S.less D.less in
+      record {
+        conductance = evaps_enclose m x c s e.lo e.hi v.depth (real_pair (evap_term m x.rate x.depth c) s e.lo e.hi k.conductance small);
+        surface = head_encloses x.surface _ _ k.surface;
+        extinction = record {
+          lower = omega (arith, ints, below_gap _ _ S.num D.num (denominator S) (denominator D) (10 ^ 9) k.surface.floor.at_most k.depth.ceiling.at_least, ap (λ (z : ℤ). z *ℤ pos (denominator S * denominator D)) k.lowest_extinction, ap (λ (z : ℕ). e.ext_lo *ℤ pos z) den, ap (λ (z : ℤ). z *ℤ pos (10 ^ 9)) (minus_is S.num D.num (pos (denominator D)) (pos (denominator S))));
+          upper = omega (arith, ints, above_gap _ _ S.num D.num (denominator S) (denominator D) (10 ^ 9) k.surface.ceiling.at_least k.depth.floor.at_most, ap (λ (z : ℤ). z *ℤ pos (denominator S * denominator D)) k.highest_extinction, ap (λ (z : ℕ). e.ext_hi *ℤ pos z) den, ap (λ (z : ℤ). z *ℤ pos (10 ^ 9)) (minus_is S.num D.num (pos (denominator D)) (pos (denominator S))));
+        };
+      }
+
+  pub bounds_enclose : BoundsEnclose m w s at
+  bounds_enclose = record {
+    faces = faces;
+    storages = storages;
+    heads = heads m at valid time;
+    head_range = head_range m at valid time;
+    recharges = (λ c rate lo hi lt e k small. recharges c rate lo hi k small);
+    evaps = (λ c x e lt v is k small. evaps c x e lt (variable_active m at.period c v) is k small);
+  }

@@ -1,0 +1,141 @@
+-- A cell of the problem encloses the exact cell: one step for each kind of entry.
+use Rattle.std.proofs.Common.{◌≡◌, ℕ, suc, ◌+◌, ◌<◌, ◌≤◌, ◌^◌, ◌⊎◌, inl, inr, true, false, Some, List, map, refl, sym, ap, ◌∙◌, subst, arith, ℤ, pos, negsuc}
+use Rattle.std.specs.Prelude.{unsigned_abs, max}
+use Rattle.std.specs.List.{AllZip}
+use Rattle.std.proofs.lemmas.Int.{ints}
+use Rattle.decimal_input.specs.declared.dec.Dec.{Dec}
+use Rattle.decimal_input.specs.Canonical.{number, size}
+use Rattle.decimal_input.specs.Fractions.{Fraction}
+use Rattle.decimal_input.specs.Enclosures.{Encloses, EnclosesSigned}
+use Rattle.step_problem.specs.declared.heads.Bound.{Bound}
+use Rattle.step_problem.specs.declared.entry.Flow.{Flow}
+use Rattle.step_problem.specs.declared.entry.Link.{Link}
+use Rattle.step_problem.specs.declared.entry.Fixed.{Fixed}
+use Rattle.step_problem.specs.declared.entry.River.{River}
+use Rattle.step_problem.specs.declared.entry.Drain.{Drain}
+use Rattle.step_problem.specs.declared.entry.Evap.{Evap}
+use Rattle.step_problem.specs.Entries.{Entries}
+use Rattle.step_problem.specs.Heads.{lower_at, upper_at}
+use Rattle.step_problem.specs.Conditions.{conductance_of, flow_of, magnitude}
+use Rattle.cell_balance.specs.Steps.{ExactCell}
+use Rattle.cell_balance.specs.Enclosures.{FlowEncloses, LinkEncloses, FixedEncloses, RiverEncloses, DrainEncloses, EvapEncloses, CellEncloses}
+use Rattle.model_types.specs.declared.face.Face.{Face}
+use Rattle.model_types.specs.declared.model.FlowModel.{FlowModel}
+use Rattle.model_types.specs.declared.time_steps.TimeStep.{TimeStep}
+use Rattle.model_types.specs.Cells.{cell_count}
+use Rattle.model_types.specs.Grids.{HasSize}
+use Rattle.model_types.specs.Layers.{is_active}
+use Rattle.model_types.specs.Conductances.{conductance}
+use Rattle.model_types.specs.Kinds.{is_variable, is_constant}
+use Rattle.model_types.specs.Receivers.{EvapSource, evap_at}
+use Rattle.model_types.specs.Sources.{FixedSource, FlowSource, RiverSource, DrainSource, variable_faces, flow_sources, fixed_sources, river_sources, drain_sources, evap_sources}
+use Rattle.model_types.specs.Sources.FixedSource.{ToConstant, ToGeneral, FromStorage}
+use Rattle.model_types.specs.Sources.FlowSource.{Pumped, Received}
+use Rattle.model_types.proofs.Members.{In}
+use Rattle.model_types.proofs.Leads.{IsFaceOf, passing_are, end_within}
+use Rattle.flow_equations.specs.ExactStep.{exact_link, exact_fixed, exact_flow, exact_river, exact_drain, exact_evap, exact_cell}
+use Rattle.conductance_bounds.specs.Pairs.{IsCapped}
+use Rattle.conductance_bounds.specs.Formulas.{face_term}
+use Rattle.problem_builder.specs.Thicknesses.{Thicknesses}
+use Rattle.problem_builder.specs.InputBounds.{IsCond, IsWellPair, IsHeadPair}
+use Rattle.problem_builder.specs.Cells.{IsRiver, IsDrain, IsEvap, IsFlow, IsLink, IsFixed, IsCellOf}
+use Rattle.problem_builder.specs.GridHeads.{HeadsEnclose}
+use Rattle.problem_builder.proofs.ActiveCells.{variable_active, constant_active}
+use Rattle.problem_builder.proofs.Bounds.{BoundsEnclose}
+use Rattle.problem_builder.proofs.FacePairs.{face_range, face_active}
+use Rattle.problem_builder.proofs.Members.{In-option, recharge_is, constant_is, storage_is}
+use Rattle.problem_builder.proofs.Sound.{IsSound, sum_part}
+use Rattle.problem_builder.proofs.Zipped.{zip_map}
+
+-- numbers of the input
+cond_encloses : (s : ℕ) (d : Dec) (lo hi : ℕ) → IsCond s d lo hi → hi < 2 ^ 60 → Encloses lo hi s (size d)
+cond_encloses s d lo hi (inl k) lt = record { lower = k.floor.at_most; upper = k.ceiling.at_least }
+cond_encloses s d lo hi (inr k) lt = absurd (omega (arith, lt, k.upper))
+
+pub head_encloses : (d : Dec) (lo hi : ℤ) → IsHeadPair d lo hi → EnclosesSigned lo hi 9 (number d)
+head_encloses d lo hi k = record { lower = k.floor.at_most; upper = k.ceiling.at_least }
+
+pub past_magnitude : (lo hi : ℤ) → lo ≡ pos (2 ^ 109) → magnitude lo hi < 2 ^ 109 → ⊥
+past_magnitude (pos n) (pos k) e lt = omega (arith, ints, e, lt)
+past_magnitude (pos n) (negsuc k) e lt = omega (arith, ints, e, lt)
+past_magnitude (negsuc n) hi e lt = omega (arith, ints, e)
+
+well_encloses : (s : ℕ) (d : Dec) (lo hi : ℤ) → IsWellPair s d lo hi → magnitude lo hi < 2 ^ 109 → EnclosesSigned lo hi (s + 9) (number d)
+well_encloses s d lo hi (inl k) lt = record { lower = k.floor.at_most; upper = k.ceiling.at_least }
+well_encloses s d lo hi (inr k) lt = absurd (past_magnitude lo hi k.lower lt)
+
+module _ (m : FlowModel) (w : Thicknesses) (s : ℕ) (at : TimeStep) (old : List Bound) (before : ℕ → Fraction) (size' : HasSize m.grid) (near : BoundsEnclose m w s at) (olds : HeadsEnclose m old before)
+    (e : Entries) (c : ℕ) (lt : c < cell_count m.grid) (v : is_variable m at.period c ≡ true) (is : IsCellOf m w s at old e c) (sound : IsSound e) where
+  here : is_active m c ≡ true
+  here = variable_active m at.period c v
+
+  face_encloses : (f : Face) (lo hi : ℕ) → IsFaceOf m.grid c f → is_active m f.end ≡ true → IsCapped (face_term m w.thick w.bed f.axis f.first) s lo hi → hi < 2 ^ 60 → Encloses lo hi s (conductance m f.axis f.first)
+  face_encloses f lo hi g b k small = let (x, y) = face_active m c f g here b in near.faces f.axis f.first lo hi (face_range m.grid c f size' lt g) x y k small
+
+  link_small : (x : Link) → In e.links x → x.hi < 2 ^ 60
+  link_small x i = omega (arith, sum_part (λ (y : Link). y.hi) e.links x i, sound.conductances)
+
+  fixed_small : (x : Fixed) → In e.fixed x → x.hi < 2 ^ 60
+  fixed_small x i = omega (arith, sum_part (λ (y : Fixed). y.hi) e.fixed x i, sound.conductances)
+
+  river_small : (x : River) → In e.rivers x → x.hi < 2 ^ 60
+  river_small x i = omega (arith, sum_part (λ (y : River). y.hi) e.rivers x i, sound.conductances)
+
+  drain_small : (x : Drain) → In e.drains x → x.hi < 2 ^ 60
+  drain_small x i = omega (arith, sum_part (λ (y : Drain). y.hi) e.drains x i, sound.conductances)
+
+  evap_small : (x : Evap) → In e.evaps x → x.hi < 2 ^ 60
+  evap_small x i = omega (arith, sum_part (λ (y : Evap). y.hi) e.evaps x i, sound.conductances)
+
+  flow_small : (x : Flow) → In e.flows x → magnitude x.lo x.hi < 2 ^ 109
+  flow_small x i = omega (arith, sum_part (λ (y : Flow). magnitude y.lo y.hi) e.flows x i, sound.flows)
+
+  rivers : AllZip (RiverEncloses s) e.rivers (map exact_river (river_sources m at.period c))
+  rivers = zip_map (IsRiver s) (RiverEncloses s) exact_river e.rivers (river_sources m at.period c)
+      (λ x y i j r. record { conductance = cond_encloses s y.cond x.lo x.hi r.cond (river_small x i); stage = head_encloses y.stage x.stage_lo x.stage_hi r.stage; bottom = head_encloses y.bottom x.bottom_lo x.bottom_hi r.bottom }) is.rivers
+
+  drains : AllZip (DrainEncloses s) e.drains (map exact_drain (drain_sources m at.period c))
+  drains = zip_map (IsDrain s) (DrainEncloses s) exact_drain e.drains (drain_sources m at.period c)
+      (λ x y i j r. record { conductance = cond_encloses s y.cond x.lo x.hi r.cond (drain_small x i); elevation = head_encloses y.elevation x.elev_lo x.elev_hi r.elevation }) is.drains
+
+  evaps : AllZip (EvapEncloses s) e.evaps (map (exact_evap m at.period at.step before c) (evap_sources m at.period c))
+  evaps = zip_map (IsEvap m s c) (EvapEncloses s) (exact_evap m at.period at.step before c) e.evaps (evap_sources m at.period c)
+      (λ x y i j r. near.evaps c y x lt v (In-option (evap_at m at.period c) y j) r (evap_small x i)) is.evaps
+
+  one_flow : (x : Flow) (y : FlowSource) → In e.flows x → In (flow_sources m at.period c) y → IsFlow m s c x y → FlowEncloses s x (exact_flow m at.period at.step before c y)
+  one_flow x (Pumped q) i j k = record { kind = k.kind; flow = well_encloses s q x.lo x.hi k.flow (flow_small x i) }
+  one_flow x (Received rate) i j k = record { kind = k.kind; flow = near.recharges c rate x.lo x.hi lt (recharge_is m at.period c rate j) k.flow (flow_small x i) }
+
+  flows : AllZip (FlowEncloses s) e.flows (map (exact_flow m at.period at.step before c) (flow_sources m at.period c))
+  flows = zip_map (IsFlow m s c) (FlowEncloses s) (exact_flow m at.period at.step before c) e.flows (flow_sources m at.period c) one_flow is.flows
+
+  one_fixed : (x : Fixed) (y : FixedSource) → In e.fixed x → In (fixed_sources m at.period c) y → IsFixed m w s at old c x y → FixedEncloses s x (exact_fixed m at.period at.step before c y)
+  one_fixed x (ToConstant f) i j k =
+      let (g, b) = passing_are m.grid (is_constant m at.period) c f (constant_is m at.period c f j) in
+      record {
+        kind = k.kind;
+        source = k.source;
+        conductance = face_encloses f x.lo x.hi g (constant_active m at.period f.end b) k.conductance (fixed_small x i);
+        head = near.heads f.end x.head_lo x.head_hi (end_within m.grid c f size' lt g) b k.head;
+      }
+  one_fixed x (ToGeneral head k) i j h = record { kind = h.kind; source = h.source; conductance = cond_encloses s k x.lo x.hi h.cond (fixed_small x i); head = head_encloses head x.head_lo x.head_hi h.head_pair }
+  one_fixed x FromStorage i j k =
+      let P : ℤ → Type 0 = λ z. EnclosesSigned z (upper_at old c) 9 (before c) in
+      let Q : ℤ → Type 0 = λ z. EnclosesSigned x.head_lo z 9 (before c) in
+      record {
+        kind = k.kind;
+        source = k.source;
+        conductance = near.storages c x.lo x.hi lt v (storage_is m at.period c j) k.conductance (fixed_small x i);
+        head = subst Q (sym k.high) (subst P (sym k.low) (olds c (record { within = lt; active = here })));
+      }
+
+  fixed : AllZip (FixedEncloses s) e.fixed (map (exact_fixed m at.period at.step before c) (fixed_sources m at.period c))
+  fixed = zip_map (IsFixed m w s at old c) (FixedEncloses s) (exact_fixed m at.period at.step before c) e.fixed (fixed_sources m at.period c) one_fixed is.fixed
+
+  links : AllZip (LinkEncloses s) e.links (map (exact_link m at.period at.step before) (variable_faces m at.period c))
+  links = zip_map (IsLink m w s at) (LinkEncloses s) (exact_link m at.period at.step before) e.links (variable_faces m at.period c)
+      (λ x f i j k. let (g, b) = passing_are m.grid (is_variable m at.period) c f j in
+        record { cell = k.cell; conductance = face_encloses f x.lo x.hi g (variable_active m at.period f.end b) k.conductance (link_small x i) }) is.links
+
+  pub cell_encloses : CellEncloses s e (exact_cell m at.period at.step before c)
+  cell_encloses = record { id = is.id; flows = flows; links = links; fixed = fixed; rivers = rivers; drains = drains; evaps = evaps }

@@ -1,0 +1,122 @@
+-- A cell without a refusal keeps what a problem asks of a cell alone.
+use Rattle.std.proofs.Common.{◌≡◌, ℕ, suc, ◌+◌, ◌*◌, ◌<◌, ◌≤◌, ◌^◌, ◌⊎◌, inl, inr, true, false, Option, Some, None, List, [], ◌∷◌, length, refl, sym, ap, ◌∙◌, subst, arith, All}
+use Rattle.std.specs.Prelude.{◌==◌}
+use Rattle.std.specs.List.{list_any}
+use Rattle.std.proofs.Math.Nat.{le_of_mul-le-mul_right}
+use Rattle.std.proofs.lemmas.Option.{none-some}
+use Rattle.decimal_input.specs.declared.dec.Dec.{Dec}
+use Rattle.decimal_input.specs.Ratios.{Ratio, den}
+use Rattle.decimal_input.specs.Enclosures.{Encloses}
+use Rattle.step_problem.specs.declared.heads.Bound.{Bound}
+use Rattle.step_problem.specs.declared.entry.Link.{Link}
+use Rattle.step_problem.specs.declared.entry.Fixed.{Fixed}
+use Rattle.step_problem.specs.declared.entry.Drain.{Drain}
+use Rattle.step_problem.specs.Entries.{Entries}
+use Rattle.step_problem.specs.Heads.{no_bound, lower_at, upper_at}
+use Rattle.step_problem.specs.Conditions.{LinkFits, FixedFits, RiverFits, DrainFits, EvapFits, CellFits, IsHead}
+use Rattle.model_types.specs.declared.entry.Entry.{Entry}
+use Rattle.model_types.specs.declared.entry.Entry.TheVariants.{Well, River as RiverEntry, Drain as DrainEntry, General as GeneralEntry}
+use Rattle.model_types.specs.declared.face.Face.{Face}
+use Rattle.model_types.specs.declared.model.FlowModel.{FlowModel}
+use Rattle.model_types.specs.declared.time_steps.TimeStep.{TimeStep}
+use Rattle.model_types.specs.Cells.{cell_count}
+use Rattle.model_types.specs.Layers.{is_active}
+use Rattle.model_types.specs.Conductances.{conductance}
+use Rattle.model_types.specs.Numbers.{IsHeadNumber}
+use Rattle.model_types.specs.Kinds.{is_variable, is_constant}
+use Rattle.model_types.specs.Receivers.{evap_at}
+use Rattle.model_types.specs.Sources.{FixedSource, DrainSource, as_river, as_drain, as_general, local_entries, variable_faces, fixed_sources, river_sources, drain_sources, evap_sources}
+use Rattle.model_types.specs.Sources.FixedSource.{ToConstant, ToGeneral, FromStorage}
+use Rattle.model_types.specs.Valid.{IsModel, IsEntryValid, IsEvapValid}
+use Rattle.model_types.proofs.Members.{In, All-In, In-All, filter_map-In}
+use Rattle.model_types.proofs.Leads.{IsFaceOf, passing_are, end_within}
+use Rattle.conductance_bounds.specs.Terms.{Term}
+use Rattle.conductance_bounds.specs.Pairs.{IsCapped}
+use Rattle.conductance_bounds.specs.Formulas.{face_term}
+use Rattle.problem_builder.specs.Thicknesses.{Thicknesses}
+use Rattle.problem_builder.specs.Cells.{IsRiver, IsDrain, IsEvap, IsLink, IsFixed, IsCellOf}
+use Rattle.problem_builder.specs.GridHeads.{AreGridHeads}
+use Rattle.problem_builder.specs.Moments.{IsTimeOf}
+use Rattle.problem_builder.specs.Refusals.{fault_of}
+use Rattle.problem_builder.proofs.ActiveCells.{variable_active, constant_active}
+use Rattle.problem_builder.proofs.Bounds.{BoundsEnclose}
+use Rattle.problem_builder.proofs.FacePairs.{face_range, face_active}
+use Rattle.problem_builder.proofs.Fits.{cond_ordered, head_pair_range, river_valid, river_fits, evap_fits}
+use Rattle.problem_builder.proofs.Members.{constant_is, storage_is, general_among, some_same}
+use Rattle.problem_builder.proofs.Sound.{sound, or_false, none_passes, positive}
+use Rattle.problem_builder.proofs.ValidEntries.{local_valid}
+use Rattle.problem_builder.proofs.Zipped.{zip_all, left_of}
+
+-- bounds of an enclosed number are in order
+pub enclosed_ordered : (lo hi s : ℕ) (r : Ratio) → Encloses lo hi s r → lo ≤ hi
+enclosed_ordered lo hi s r h = let q : lo * den r ≤ hi * den r = omega (arith, h.lower, h.upper) in le_of_mul-le-mul_right {k = den r} q (omega arith)
+
+pub capped_in_order : (t : Term) (s lo hi : ℕ) (r : Ratio) → IsCapped t s lo hi → (hi < 2 ^ 60 → Encloses lo hi s r) → lo ≤ hi
+capped_in_order t s lo hi r (inl k) h = enclosed_ordered lo hi s r (h k.1)
+capped_in_order t s lo hi r (inr k) h = omega (arith, k.lower, k.upper)
+
+drain_valid : (y : Entry) (r : DrainSource) → as_drain y ≡ Some r → IsEntryValid 65536 y → IsHeadNumber r.elevation
+drain_valid (Well cell q) r e h = absurd (none-some r e)
+drain_valid (RiverEntry cell a k b) r e h = absurd (none-some r e)
+drain_valid (DrainEntry cell a k) r e h = let P : DrainSource → Type 0 = λ z. IsHeadNumber z.elevation in subst P (some_same e) h.1
+drain_valid (GeneralEntry cell a k) r e h = absurd (none-some r e)
+
+drain_fits : (s : ℕ) (x : Drain) (r : DrainSource) → IsHeadNumber r.elevation → IsDrain s x r → DrainFits x
+drain_fits s x r p k =
+    let a = head_pair_range r.elevation x.elev_lo x.elev_hi p k.elevation in
+    record { ordered = cond_ordered s r.cond x.lo x.hi k.cond; elev_lo = a.0; elev_hi = a.1 }
+
+module _ (m : FlowModel) (w : Thicknesses) (s : ℕ) (at : TimeStep) (old : List Bound) (valid : IsModel m) (time : IsTimeOf m at) (near : BoundsEnclose m w s at) (heads : AreGridHeads m old)
+    (e : Entries) (c : ℕ) (lt : c < cell_count m.grid) (v : is_variable m at.period c ≡ true) (is : IsCellOf m w s at old e c) where
+  entries_fit : All (IsEntryValid 65536) (local_entries m at.period c)
+  entries_fit = local_valid m at.period c valid time.valid
+
+  here : is_active m c ≡ true
+  here = variable_active m at.period c v
+
+  face_ordered : (f : Face) (lo hi : ℕ) → IsFaceOf m.grid c f → is_active m f.end ≡ true → IsCapped (face_term m w.thick w.bed f.axis f.first) s lo hi → lo ≤ hi
+  face_ordered f lo hi g b k =
+      let (x, y) = face_active m c f g here b in
+      capped_in_order (face_term m w.thick w.bed f.axis f.first) s lo hi (conductance m f.axis f.first) k (near.faces f.axis f.first lo hi (face_range m.grid c f valid.grid.size lt g) x y k)
+
+  old_range : IsHead (lower_at old c) × IsHead (upper_at old c)
+  old_range = heads.range c no_bound (omega (arith, lt, heads.whole))
+
+  one_fixed : (x : Fixed) (y : FixedSource) → In (fixed_sources m at.period c) y → IsFixed m w s at old c x y → FixedFits x
+  one_fixed x (ToConstant f) i k =
+      let (g, b) = passing_are m.grid (is_constant m at.period) c f (constant_is m at.period c f i) in
+      let r = near.head_range f.end x.head_lo x.head_hi (end_within m.grid c f valid.grid.size lt g) b k.head in
+      record { ordered = face_ordered f x.lo x.hi g (constant_active m at.period f.end b) k.conductance; head_lo = r.0; head_hi = r.1 }
+  one_fixed x (ToGeneral head cond) i k =
+      let r = head_pair_range head x.head_lo x.head_hi (general_among m at.period c head cond i entries_fit) k.head_pair in
+      record { ordered = cond_ordered s cond x.lo x.hi k.cond; head_lo = r.0; head_hi = r.1 }
+  one_fixed x FromStorage i k =
+      let steady = storage_is m at.period c i in
+      record {
+        ordered = capped_in_order _ s x.lo x.hi _ k.conductance (near.storages c x.lo x.hi lt v steady k.conductance);
+        head_lo = subst IsHead (sym k.low) old_range.0;
+        head_hi = subst IsHead (sym k.high) old_range.1;
+      }
+
+  pub cell_fits : fault_of e ≡ None → CellFits e
+  cell_fits none =
+      let k = sound e none in
+      let small = (or_false (list_any (λ x. x.lo == 0) e.links) _ k.branches).0 in
+      record {
+        links = All-In LinkFits e.links (λ x i.
+          let (f, j, r) = left_of (IsLink m w s at) e.links (variable_faces m at.period c) x is.links i in
+          let (g, b) = passing_are m.grid (is_variable m at.period) c f j in
+          record { conducts = positive x.lo (none_passes (λ (y : Link). y.lo == 0) e.links small x i); ordered = face_ordered f x.lo x.hi g (variable_active m at.period f.end b) r.conductance });
+        fixed = zip_all FixedFits (IsFixed m w s at old c) e.fixed (fixed_sources m at.period c) one_fixed is.fixed;
+        rivers = zip_all RiverFits (IsRiver s) e.rivers (river_sources m at.period c)
+            (λ x r j q. let (y, l, o) = filter_map-In as_river (local_entries m at.period c) r j in
+              let z = river_valid y r o (In-All (IsEntryValid 65536) (local_entries m at.period c) y entries_fit l) in
+              river_fits s x r z.0 z.1 q) is.rivers;
+        drains = zip_all DrainFits (IsDrain s) e.drains (drain_sources m at.period c)
+            (λ x r j q. let (y, l, o) = filter_map-In as_drain (local_entries m at.period c) r j in
+              drain_fits s x r (drain_valid y r o (In-All (IsEntryValid 65536) (local_entries m at.period c) y entries_fit l)) q) is.drains;
+        evaps = zip_all EvapFits (IsEvap m s c) e.evaps (evap_sources m at.period c)
+            (λ x r j q. evap_fits m s c x r (In-All IsEvapValid (evap_sources m at.period c) r (valid.evaps at.period c lt here) j) q) is.evaps;
+        conductances = k.conductances;
+        flows = k.flows;
+      }

@@ -1,0 +1,20 @@
+-- The numbers of the arrays of RCH and EVT at a cell that an option chooses.
+use Rattle.std.proofs.Common.{◌≡◌, ℕ, zero, suc, true, false, List, refl, arith, ℤ, pos, negsuc}
+use Rattle.std.proofs.lemmas.Bool.{false≢true, ne_eqb}
+use Rattle.decimal_input.specs.Canonical.{IsDec}
+use Rattle.model_types.specs.declared.model.FlowModel.{FlowModel}
+use Rattle.model_types.specs.Cells.{place_in_layer}
+use Rattle.model_types.specs.Layers.{dec_at}
+use Rattle.model_types.specs.Receivers.{is_int, is_chosen}
+use Rattle.model_types.specs.Times.{period_at}
+use Rattle.model_types.specs.Valid.{IsModel, IsPeriod}
+use Rattle.problem_builder.proofs.Elevations.{dec_valid}
+
+-- option 0 chooses no cell
+pub chosen_some : (m : FlowModel) (z : ℤ) (layers : List ℤ) (c : ℕ) → is_chosen m z layers c ≡ true → is_int z 0 ≡ false
+chosen_some m (pos zero) layers c e = absurd (false≢true e)
+chosen_some m (pos (suc n)) layers c e = ne_eqb (suc n) 0 (λ q. omega (arith, q))
+chosen_some m (negsuc n) layers c e = refl
+
+pub rate_valid : (m : FlowModel) (p c : ℕ) → IsPeriod m (period_at m p) → is_chosen m m.nrchop (period_at m p).irch c ≡ true → IsDec (dec_at (period_at m p).recharge (place_in_layer m.grid c))
+rate_valid m p c valid e = dec_valid (period_at m p).recharge (place_in_layer m.grid c) (valid.recharge (chosen_some m m.nrchop (period_at m p).irch c e)).decimals

@@ -1,0 +1,59 @@
+-- Elevations of a valid model are numbers of the input, and a bed is one where its elevations differ.
+use Rattle.std.proofs.Common.{◌≡◌, ℕ, zero, suc, ◌+◌, ◌-◌, ◌<◌, ◌≤◌, ◌⊎◌, inl, inr, Bool, true, false, cond, List, [], ◌∷◌, length, get_or, refl, sym, ap, ◌∙◌, subst, arith, All, ℤ, pos, ◌*ℤ◌, ◌-ℤ◌}
+use Rattle.std.specs.Prelude.{unsigned_abs}
+use Rattle.std.proofs.lemmas.Int.{ints}
+use Rattle.std.proofs.lemmas.Bool.{cases_lt, cases_Bool}
+use Rattle.decimal_input.specs.declared.dec.Dec.{Dec}
+use Rattle.decimal_input.specs.Canonical.{IsDec, number}
+use Rattle.decimal_input.specs.Fractions.{Fraction}
+use Rattle.decimal_input.proofs.OneNumber.{one_number}
+use Rattle.model_types.specs.declared.model.FlowModel.{FlowModel}
+use Rattle.model_types.specs.Cells.{cell_count, layer_size}
+use Rattle.model_types.specs.Layers.{no_number, dec_at, gap, is_active, has_bed, top_at, bottom_at, lowest, bed_thickness}
+use Rattle.model_types.specs.Valid.{IsModel, IsBedValid}
+use Rattle.std.specs.Prelude.{nat_lt}
+
+no_number_valid : IsDec no_number
+no_number_valid = record { few = omega arith; form = inl (refl, refl, refl); above = omega (arith, ints); below = omega (arith, ints) }
+
+pub past : {X : Type 0} (xs : List X) (i : ℕ) (d : X) → length xs ≤ i → get_or xs i d ≡ d
+past [] i d le = refl
+past (x ∷ xs) zero d le = absurd (omega (arith, le))
+past (x ∷ xs) (suc i) d le = past xs i d (omega (arith, le))
+
+pub dec_valid : (xs : List Dec) (i : ℕ) → All IsDec xs → IsDec (dec_at xs i)
+dec_valid xs i h = elim (cases_lt i (length xs)) [
+  inl lt ↦ h i no_number lt
+  | inr le ↦ subst IsDec (sym (past xs i no_number le)) no_number_valid
+]
+
+either : (b : Bool) (x y : Dec) → IsDec x → IsDec y → IsDec (cond b x y)
+either true x y h k = h
+either false x y h k = k
+
+pub bottom_valid : (m : FlowModel) (c : ℕ) → IsModel m → IsDec (bottom_at m c)
+bottom_valid m c valid = dec_valid m.grid.bottom c valid.grid.bottom.1
+
+pub lowest_valid : (m : FlowModel) (c : ℕ) → IsModel m → IsDec (lowest m c)
+lowest_valid m c valid = either (has_bed m c) (dec_at m.grid.bed_bottom c) (bottom_at m c) (dec_valid m.grid.bed_bottom c valid.grid.bed_bottom.1) (bottom_valid m c valid)
+
+pub top_valid : (m : FlowModel) (c : ℕ) → IsModel m → IsDec (top_at m c)
+top_valid m c valid = either (nat_lt c (layer_size m.grid)) (dec_at m.grid.top c) (lowest m (c - layer_size m.grid)) (dec_valid m.grid.top c valid.grid.top.1) (lowest_valid m (c - layer_size m.grid) valid)
+
+none_between : (x : ℤ) → unsigned_abs (x -ℤ x) ≡ 0
+none_between x = let e : x -ℤ x ≡ pos 0 = omega (arith, ints) in ap unsigned_abs e
+
+no_gap : (f g : Fraction) → f ≡ g → (gap g f).num ≡ 0
+no_gap f g e = ap (λ h. (gap g h).num) e ∙ none_between (g.num *ℤ pos (suc g.less))
+
+pub no_bed_gap : (m : FlowModel) (c : ℕ) → has_bed m c ≡ false → (bed_thickness m c).num ≡ 0
+no_bed_gap m c e = no_gap (number (lowest m c)) (number (bottom_at m c)) (ap (λ b. number (cond b (dec_at m.grid.bed_bottom c) (dec_at m.grid.bottom c))) e)
+
+pub same_bed_gap : (m : FlowModel) (c : ℕ) → lowest m c ≡ bottom_at m c → (bed_thickness m c).num ≡ 0
+same_bed_gap m c e = no_gap (number (lowest m c)) (number (bottom_at m c)) (ap number e)
+
+pub bed_valid : (m : FlowModel) (c : ℕ) → IsModel m → c + layer_size m.grid < cell_count m.grid → is_active m c ≡ true → is_active m (c + layer_size m.grid) ≡ true → has_bed m c ≡ true → (lowest m c ≡ bottom_at m c → ⊥) → IsBedValid m c
+bed_valid m c valid lt x y e differ = elim (valid.beds c lt x y e) [
+  inl same ↦ absurd (differ (one_number (lowest m c) (bottom_at m c) (lowest_valid m c valid) (bottom_valid m c valid) (record { same = ap (λ (f : Fraction). f.num *ℤ pos (suc (number (bottom_at m c)).less)) same ∙ ap (λ (f : Fraction). (number (bottom_at m c)).num *ℤ pos (suc f.less)) (sym same) })))
+  | inr k ↦ k
+]

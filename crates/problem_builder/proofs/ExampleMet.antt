@@ -1,0 +1,159 @@
+-- The example meets all that a problem of its step is built of.
+use Rattle.std.proofs.Common.{◌≡◌, ℕ, zero, suc, ◌<◌, ◌⊎◌, inl, inr, true, false, List, [], ◌∷◌, refl, sym, arith, All, pos, neg_ℤ}
+use Rattle.std.specs.List.{Contains}
+use Rattle.std.proofs.lemmas.Bool.{false≢true}
+use Rattle.std.proofs.lemmas.Int.{ints}
+use Rattle.decimal_input.specs.declared.dec.Dec.{Dec}
+use Rattle.decimal_input.specs.Canonical.{IsDec}
+use Rattle.decimal_input.specs.Decimals.{scaled}
+use Rattle.decimal_input.specs.Ratios.{ratio}
+use Rattle.step_problem.specs.Conditions.{IsHead}
+use Rattle.model_types.specs.Grids.{IsGrid}
+use Rattle.model_types.specs.Heads.{start_head}
+use Rattle.model_types.specs.Layers.{is_active}
+use Rattle.model_types.specs.Numbers.{IsPositive, IsNotNegative, IsHeadNumber, IsThick}
+use Rattle.model_types.specs.Sources.{evap_sources}
+use Rattle.model_types.specs.Times.{times}
+use Rattle.model_types.specs.Valid.{IsModel, IsCellValid, IsPeriod, IsEvapValid, IsEntryValid}
+use Rattle.problem_builder.specs.Example.{IsBuildable, whole, thousandths, example_grid, example_period, example_model, example_time, example_bound, example_heads}
+use Rattle.problem_builder.specs.GridHeads.{AreGridHeads, HeadsEnclose}
+
+none : {X : Type 0} (P : X → Type 0) → All P []
+none P i d lt = absurd (omega (arith, lt))
+
+one : {X : Type 0} (P : X → Type 0) (x : X) → P x → All P (x ∷ [])
+one P x h zero d lt = h
+one P x h (suc i) d lt = absurd (omega (arith, lt))
+
+two : {X : Type 0} (P : X → Type 0) (x : X) → P x → All P (x ∷ x ∷ [])
+two P x h zero d lt = h
+two P x h (suc zero) d lt = h
+two P x h (suc (suc i)) d lt = absurd (omega (arith, lt))
+
+zero_valid : IsDec (whole 0)
+zero_valid = record { few = omega arith; form = inl (refl, refl, refl); above = omega (arith, ints); below = omega (arith, ints) }
+
+-- one digit
+digit : (n : ℕ) → 0 < n → n < 10 → IsDec (whole n)
+digit n some few = record { few = omega arith; form = inr (omega arith, omega arith); above = omega (arith, ints); below = omega (arith, ints) }
+
+digit_positive : (n : ℕ) → 0 < n → n < 10 → IsPositive (whole n)
+digit_positive n some few = record { decimal = digit n some few; sign = refl; positive = some }
+
+digit_head : (n : ℕ) → 0 < n → n < 10 → IsHeadNumber (whole n)
+unfolding scaled ratio
+digit_head n some few = record { decimal = digit n some few; range = record { lower = omega (arith, ints); upper = omega (arith, ints) } }
+
+small : (n : ℕ) → 0 < n → n < 10 → IsPositive (thousandths n)
+small n some few = record { decimal = record { few = omega arith; form = inr (omega arith, omega arith); above = omega (arith, ints); below = omega (arith, ints) }; sign = refl; positive = some }
+
+not_negative : IsNotNegative (whole 1)
+not_negative = record { decimal = digit 1 (omega arith) (omega arith); sign = refl }
+
+thick : IsThick (whole 1) (whole 0)
+unfolding scaled ratio
+thick = record {
+  floor = pos 1000000000000000000;
+  ceiling = pos 0;
+  is_floor = record { at_most = omega (arith, ints); next = omega (arith, ints) };
+  is_ceiling = record { at_least = omega (arith, ints); next = omega (arith, ints) };
+  small = (omega arith, omega arith);
+  room = omega (arith, ints);
+}
+
+grid : IsGrid example_grid
+grid = record {
+  size = record { layers = (omega arith, omega arith); rows = (omega arith, omega arith); cols = (omega arith, omega arith); cells = omega arith };
+  delr = (refl, two IsPositive (whole 3) (digit_positive 3 (omega arith) (omega arith)));
+  delc = (refl, one IsPositive (whole 1) (digit_positive 1 (omega arith) (omega arith)));
+  top = (refl, two IsDec (whole 1) (digit 1 (omega arith) (omega arith)));
+  bottom = (refl, two IsDec (whole 0) zero_valid);
+  laycbd = refl;
+  no_last_bed = refl;
+  bed_bottom = (refl, two IsDec (whole 0) zero_valid);
+}
+
+evap : IsEvapValid (record { rate = thousandths 2; surface = whole 7; depth = whole 2 })
+unfolding scaled ratio
+evap = record {
+  rate = small 2 (omega arith) (omega arith);
+  depth = digit_positive 2 (omega arith) (omega arith);
+  surface = digit_head 7 (omega arith) (omega arith);
+  floor = pos 7000000000;
+  ceiling = pos 2000000000;
+  is_floor = record { at_most = omega (arith, ints); next = omega (arith, ints) };
+  is_ceiling = record { at_least = omega (arith, ints); next = omega (arith, ints) };
+  extinction = omega (arith, ints);
+}
+
+module _ (k q : Dec) (hk : IsPositive k) (hq : IsDec q) where
+  cells : (c : ℕ) → c < 2 → IsCellValid (example_model k q) c
+  cells zero lt = record { thick = thick; strt = digit_head 5 (omega arith) (omega arith); hk = hk; hani = digit_positive 1 (omega arith) (omega arith); vka = (λ many. digit_positive 1 (omega arith) (omega arith)); ss = not_negative }
+  cells (suc zero) lt = record { thick = thick; strt = digit_head 5 (omega arith) (omega arith); hk = hk; hani = digit_positive 1 (omega arith) (omega arith); vka = (λ many. digit_positive 1 (omega arith) (omega arith)); ss = not_negative }
+  cells (suc (suc c)) lt = absurd (omega (arith, lt))
+
+  period : IsPeriod (example_model k q) (example_period q)
+  period = record {
+    times = record { nstp = (omega arith, omega arith); perlen = not_negative; lasts = (λ e. digit_positive 1 (omega arith) (omega arith)); tsmult = digit_positive 1 (omega arith) (omega arith); growth = (λ e. inl refl) };
+    wells = record { few = omega arith; entries = one (IsEntryValid 2) _ (omega arith, hq) };
+    rivers = record { few = omega arith; entries = one (IsEntryValid 2) _ (omega arith, digit_head 4 (omega arith) (omega arith), not_negative, digit_head 2 (omega arith) (omega arith)) };
+    drains = record { few = omega arith; entries = one (IsEntryValid 2) _ (omega arith, digit_head 3 (omega arith) (omega arith), not_negative) };
+    generals = record { few = omega arith; entries = one (IsEntryValid 2) _ (omega arith, digit_head 6 (omega arith) (omega arith), not_negative) };
+    given = record { few = omega arith; entries = none _; once = (λ i j d lt less. absurd (omega (arith, less))) };
+    recharge = (λ e. record { whole = refl; decimals = two IsDec (thousandths 1) (small 1 (omega arith) (omega arith)).decimal });
+    irch = (λ e. absurd (false≢true e));
+    surf = (λ e. record { whole = refl; decimals = two IsDec (whole 7) (digit 7 (omega arith) (omega arith)) });
+    evtr = (λ e. record { whole = refl; decimals = two IsDec (thousandths 2) (small 2 (omega arith) (omega arith)).decimal });
+    exdp = (λ e. record { whole = refl; decimals = two IsDec (whole 2) (digit 2 (omega arith) (omega arith)) });
+    ievt = (λ e. absurd (false≢true e));
+  }
+
+  evaps : (p c : ℕ) → c < 2 → All IsEvapValid (evap_sources (example_model k q) p c)
+  evaps zero zero lt = one IsEvapValid _ evap
+  evaps zero (suc zero) lt = one IsEvapValid _ evap
+  evaps (suc zero) zero lt = one IsEvapValid _ evap
+  evaps (suc zero) (suc zero) lt = one IsEvapValid _ evap
+  evaps (suc (suc p)) zero lt = none IsEvapValid
+  evaps (suc (suc p)) (suc zero) lt = none IsEvapValid
+  evaps p (suc (suc c)) lt = absurd (omega (arith, lt))
+
+  model : IsModel (example_model k q)
+  model = record {
+    grid = grid;
+    ibound = refl;
+    strt = refl;
+    layvka = refl;
+    hk = refl;
+    hani = refl;
+    vka = refl;
+    vkcb = refl;
+    ss = inr refl;
+    cells = (λ c lt active. cells c lt);
+    beds = (λ c lt x y e. absurd (omega (arith, lt)));
+    nrchop = (omega (arith, ints), omega (arith, ints));
+    nevtop = (omega (arith, ints), omega (arith, ints));
+    some = omega arith;
+    few = omega arith;
+    steps = omega arith;
+    periods = one (IsPeriod (example_model k q)) (example_period q) period;
+    evaps = (λ p c lt active. evaps p c lt);
+  }
+
+  old : AreGridHeads (example_model k q) example_heads
+  old = record {
+    whole = refl;
+    range = two (λ b. IsHead b.low × IsHead b.high) example_bound (record { above = omega (arith, ints); below = omega (arith, ints) }, record { above = omega (arith, ints); below = omega (arith, ints) });
+  }
+
+  time : Contains (times (example_model k q)) example_time
+  unfolding times
+  time = (0, omega arith, refl)
+
+  heads : HeadsEnclose (example_model k q) example_heads (start_head (example_model k q))
+  unfolding scaled ratio
+  heads zero active = record { lower = omega (arith, ints); upper = omega (arith, ints) }
+  heads (suc zero) active = record { lower = omega (arith, ints); upper = omega (arith, ints) }
+  heads (suc (suc c)) active = absurd (omega (arith, active.within))
+
+  pub buildable : IsBuildable (example_model k q) example_time example_heads (start_head (example_model k q))
+  buildable = record { model = model; time = time; old = old; heads = heads }

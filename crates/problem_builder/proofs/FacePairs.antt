@@ -1,0 +1,46 @@
+-- The faces of a variable cell: both their cells lie in the grid, and are active where the cell behind is.
+use Rattle.std.proofs.Common.{◌≡◌, ℕ, ◌+◌, ◌*◌, ◌/◌, ◌%◌, ◌<◌, ◌≤◌, ◌⊎◌, inl, inr, true, Option, Some, None, List, [], ◌∷◌, refl, sym, ap, ◌∙◌, subst, arith, All}
+use Rattle.step_problem.specs.declared.entry.Link.{Link}
+use Rattle.model_types.specs.declared.face.Face.{Face}
+use Rattle.model_types.specs.declared.grid.Grid.{Grid}
+use Rattle.model_types.specs.declared.model.FlowModel.{FlowModel}
+use Rattle.model_types.specs.Cells.{cell_count}
+use Rattle.model_types.specs.Faces.{stride, span, has_after, faces}
+use Rattle.model_types.specs.Grids.{HasSize}
+use Rattle.model_types.specs.Layers.{is_active}
+use Rattle.model_types.proofs.Members.{In, All-In}
+use Rattle.model_types.proofs.Leads.{IsFaceOf, faces_are, first_within, end_within, after_within, before_le, before_back}
+use Rattle.std.proofs.lemmas.Nat.{div-add-mod'}
+use Rattle.problem_builder.specs.Made.{IsVariableCell, HasPair}
+use Rattle.problem_builder.specs.Tables.{Inputs, AreInputs}
+use Rattle.problem_builder.proofs.ActiveCells.{variable_active}
+
+mod_at_most : (c n : ℕ) → c % n ≤ c
+mod_at_most c n = omega (arith, div-add-mod' c n)
+
+-- both cells of a face lie in the grid
+pub face_range : (g : Grid) (c : ℕ) (f : Face) → HasSize g → c < cell_count g → IsFaceOf g c f → f.first + stride g f.axis < cell_count g
+face_range g c f size lt (inl (e, q, r)) = omega (arith, q, lt, before_le g f.axis c e, mod_at_most c (span g f.axis))
+face_range g c f size lt (inr (e, q, r)) = omega (arith, q, after_within g f.axis c size lt e)
+
+-- and the other cell of a face comes after its first one
+first_after : (g : Grid) (c : ℕ) (f : Face) → HasSize g → IsFaceOf g c f → has_after g f.axis f.first ≡ true
+first_after g c f size (inl (e, q, r)) = ap (has_after g f.axis) q ∙ before_back g f.axis c size e
+first_after g c f size (inr (e, q, r)) = ap (has_after g f.axis) q ∙ e
+
+-- and both are active
+pub face_active : (m : FlowModel) (c : ℕ) (f : Face) → IsFaceOf m.grid c f → is_active m c ≡ true → is_active m f.end ≡ true → (is_active m f.first ≡ true) × (is_active m (f.first + stride m.grid f.axis) ≡ true)
+face_active m c f (inl (e, q, r)) a b =
+    let there : f.first + stride m.grid f.axis ≡ c = omega (arith, q, before_le m.grid f.axis c e, mod_at_most c (span m.grid f.axis)) in
+    (ap (is_active m) (q ∙ sym r) ∙ b, ap (is_active m) there ∙ a)
+face_active m c f (inr (e, q, r)) a b = (ap (is_active m) q ∙ a, ap (is_active m) (ap (λ k. k + stride m.grid f.axis) q ∙ sym r) ∙ b)
+
+pub faces_paired : (i : Inputs) (c : ℕ) → AreInputs i → IsVariableCell i c → All (HasPair i) (faces i.model.grid c)
+faces_paired i c are v = All-In (HasPair i) (faces i.model.grid c) each
+  where
+    each : (x : Option Face) → In (faces i.model.grid c) x → HasPair i x
+    each None j = tt
+    each (Some f) j =
+        let lead = faces_are i.model.grid c f j in
+        (first_within i.model.grid c f v.within lead, end_within i.model.grid c f are.size v.within lead,
+          (λ b. let (x, y) = face_active i.model c f lead (variable_active i.model i.at.period c v.variable) b in are.tables.faces f.axis f.first (first_within i.model.grid c f v.within lead) (first_after i.model.grid c f are.size lead) x y))

@@ -1,0 +1,121 @@
+-- Rivers and evapotranspirations of a cell: bounds in order, heads in range.
+use Rattle.std.proofs.Common.{◌≡◌, ℕ, suc, ◌+◌, ◌*◌, ◌<◌, ◌≤◌, ◌^◌, ◌⊎◌, inl, inr, true, false, Bool, Option, Some, None, List, [], ◌∷◌, refl, sym, ap, ◌∙◌, subst, arith, All, ℤ, pos, neg_ℤ, ◌+ℤ◌, ◌-ℤ◌, ◌≤ℤ◌, unsigned_abs}
+use Rattle.std.specs.List.{AllZip, filter_map}
+use Rattle.std.specs.Option.{option_to_list}
+use Rattle.std.proofs.lemmas.Int.{ints, by_lt_z}
+use Rattle.std.proofs.lemmas.Option.{none-some}
+use Rattle.std.specs.Prelude.{◌*ℤ◌, ◌<ℤ◌}
+use Rattle.decimal_input.specs.Fractions.{Fraction, den}
+use Rattle.decimal_input.specs.Decimals.{with_sign}
+use Rattle.decimal_input.proofs.Signs.{cancel_right, mul_mono_right}
+use Rattle.decimal_input.specs.declared.dec.Dec.{Dec}
+use Rattle.decimal_input.specs.Canonical.{number, size}
+use Rattle.decimal_input.specs.Ratios.{AtMost}
+use Rattle.decimal_input.proofs.Orders.{AtMost-refl, AtMost-trans}
+use Rattle.decimal_input.proofs.Powers.{ten_pos, num_scaled}
+use Rattle.decimal_input.specs.Decimals.{up}
+use Rattle.decimal_input.specs.Wholes.{IsSignedFloor, IsSignedCeiling}
+use Rattle.decimal_input.proofs.FloorLaws.{one_floor, one_ceiling, floor_ceiling_enclose}
+use Rattle.step_problem.specs.declared.entry.River.{River}
+use Rattle.step_problem.specs.declared.entry.Evap.{Evap}
+use Rattle.step_problem.specs.Entries.{Entries}
+use Rattle.step_problem.specs.Conditions.{RiverFits, EvapFits, IsHead}
+use Rattle.model_types.specs.declared.entry.Entry.{Entry}
+use Rattle.model_types.specs.declared.entry.Entry.TheVariants.{Well, River as RiverEntry, Drain as DrainEntry, General as GeneralEntry}
+use Rattle.model_types.specs.declared.model.FlowModel.{FlowModel}
+use Rattle.model_types.specs.Numbers.{IsPositive, IsHeadNumber}
+use Rattle.model_types.specs.Receivers.{EvapSource, evap_at}
+use Rattle.model_types.specs.Sources.{RiverSource, as_river, local_entries, river_sources, evap_sources}
+use Rattle.model_types.specs.Valid.{IsEntryValid, IsEvapValid}
+use Rattle.model_types.proofs.Members.{In, In-All, All-In, filter_map-In}
+use Rattle.conductance_bounds.specs.Terms.{Term, Holds, IsBound}
+use Rattle.conductance_bounds.specs.Terms.Side.{Lower, Upper}
+use Rattle.conductance_bounds.specs.Pairs.{IsPair, IsCapped}
+use Rattle.conductance_bounds.specs.Formulas.{evap_term}
+use Rattle.conductance_bounds.proofs.Enclosing.{bound_on}
+use Rattle.conductance_bounds.proofs.Whole.{floor-ceiling}
+use Rattle.problem_builder.specs.InputBounds.{IsCond, IsHeadPair}
+use Rattle.problem_builder.specs.Cells.{IsRiver, IsEvap, IsCellOf}
+use Rattle.problem_builder.specs.Made.{IsVariableCell}
+use Rattle.problem_builder.specs.Tables.{Inputs, AreInputs, widths_of}
+use Rattle.problem_builder.proofs.ActiveCells.{variable_active}
+use Rattle.problem_builder.proofs.HeadRange.{floor_in_range, ceiling_in_range}
+use Rattle.problem_builder.proofs.Zipped.{zip_all}
+
+pub size_positive : (d : Dec) → IsPositive d → 0 < (size d).num
+size_positive d h = rw num_scaled (positive d.digits (10 ^ up d.exp) h.positive (ten_pos (up d.exp)))
+  where
+    positive : (a b : ℕ) → 0 < a → 0 < b → 0 < a * b
+    positive a b p q = grind arith
+
+pub cond_ordered : (s : ℕ) (d : Dec) (lo hi : ℕ) → IsCond s d lo hi → lo ≤ hi
+cond_ordered s d lo hi (inl k) = floor-ceiling lo hi (size d) (size d) s (AtMost-refl (size d)) k.floor k.ceiling
+cond_ordered s d lo hi (inr k) = omega (arith, k.lower, k.upper)
+
+pub pair_ordered : (t : Term) (s lo hi : ℕ) → Holds t → IsPair t s lo hi → lo ≤ hi
+pair_ordered t s lo hi h k = floor-ceiling lo hi _ _ s (AtMost-trans (bound_on t h Lower k.low k.low_is) (bound_on t h Upper k.high k.high_is)) k.floor k.ceiling
+
+pub capped_ordered : (t : Term) (s lo hi : ℕ) → Holds t → IsCapped t s lo hi → lo ≤ hi
+capped_ordered t s lo hi h (inl k) = pair_ordered t s lo hi h k.0
+capped_ordered t s lo hi h (inr k) = omega (arith, k.lower, k.upper)
+
+pub evap_holds : (m : FlowModel) (c : ℕ) (x : EvapSource) → IsPositive x.depth → Holds (evap_term m x.rate x.depth c)
+evap_holds m c x h = ((tt, (tt, tt)), tt, size_positive x.depth h)
+
+pub head_pair_range : (d : Dec) (lo hi : ℤ) → IsHeadNumber d → IsHeadPair d lo hi → IsHead lo × IsHead hi
+head_pair_range d lo hi h k = (floor_in_range (number d) lo h.range k.floor, ceiling_in_range (number d) hi h.range k.ceiling)
+
+pub some_same : {X : Type 0} {a b : X} → Some a ≡ Some b → a ≡ b
+some_same e = grind arith
+
+-- a river of the lists has heads in range
+pub river_valid : (y : Entry) (r : RiverSource) → as_river y ≡ Some r → IsEntryValid 65536 y → IsHeadNumber r.stage × IsHeadNumber r.bottom
+river_valid (Well cell q) r e h = absurd (none-some r e)
+river_valid (RiverEntry cell a k b) r e h = let P : RiverSource → Type 0 = λ z. IsHeadNumber z.stage × IsHeadNumber z.bottom in subst P (some_same e) (h.1, h.3)
+river_valid (DrainEntry cell a k) r e h = absurd (none-some r e)
+river_valid (GeneralEntry cell a k) r e h = absurd (none-some r e)
+
+pub river_fits : (s : ℕ) (x : River) (r : RiverSource) → IsHeadNumber r.stage → IsHeadNumber r.bottom → IsRiver s x r → RiverFits x
+river_fits s x r p q k =
+    let a = head_pair_range r.stage x.stage_lo x.stage_hi p k.stage in
+    let b = head_pair_range r.bottom x.bottom_lo x.bottom_hi q k.bottom in
+    record { ordered = cond_ordered s r.cond x.lo x.hi k.cond; stage_lo = a.0; stage_hi = a.1; bottom_lo = b.0; bottom_hi = b.1 }
+
+pub not_negative : (d : Dec) → IsPositive d → pos 0 ≤ℤ (number d).num
+not_negative d h = subst (λ (b : Bool). pos 0 ≤ℤ with_sign b (size d).num) (sym h.sign) (omega (arith, ints))
+
+pub floor_not_negative : (f : Fraction) (z : ℤ) → pos 0 ≤ℤ f.num → IsSignedFloor z f 9 → pos 0 ≤ℤ z
+floor_not_negative f z h k = by_lt_z z (pos 0)
+    (λ lt. let one = mul_mono_right (den f) (z +ℤ pos 1) (pos 0) (omega (arith, ints)) in let up = mul_mono_right (10 ^ 9) (pos 0) f.num h in absurd (omega (arith, ints, one, k.next, up)))
+    (λ le. le)
+
+pub floor_below : (f : Fraction) (s : ℕ) (lo hi : ℤ) → IsSignedFloor lo f s → IsSignedCeiling hi f s → lo ≤ℤ hi
+floor_below f s lo hi p q = let e = floor_ceiling_enclose f s lo hi p q in cancel_right (den f) lo hi (omega arith) (omega (arith, ints, e.lower, e.upper))
+
+pub evap_fits : (m : FlowModel) (s c : ℕ) (x : Evap) (r : EvapSource) → IsEvapValid r → IsEvap m s c x r → EvapFits x
+evap_fits m s c x r v k =
+    let surf = head_pair_range r.surface x.surf_lo x.surf_hi v.surface k.surface in
+    let order = floor_below (number r.surface) 9 x.surf_lo x.surf_hi k.surface.floor k.surface.ceiling in
+    let depth = floor_below (number r.depth) 9 k.depth_lo k.depth_hi k.depth.floor k.depth.ceiling in
+    let some = floor_not_negative (number r.depth) k.depth_lo (not_negative r.depth v.depth) k.depth.floor in
+    let floor = one_floor (number r.surface) (number r.surface) 9 v.floor x.surf_lo (record { same = refl }) v.is_floor k.surface.floor in
+    let ceiling = one_ceiling (number r.depth) (number r.depth) 9 v.ceiling k.depth_hi (record { same = refl }) v.is_ceiling k.depth.ceiling in
+    record {
+      ordered = capped_ordered (evap_term m r.rate r.depth c) s x.lo x.hi (evap_holds m c r v.depth) k.conductance;
+      ext_lo = record { above = omega (arith, ints, v.extinction, floor, ceiling, k.lowest_extinction); below = omega (arith, ints, k.lowest_extinction, depth, some, surf.0.below) };
+      ext_hi = record { above = omega (arith, ints, v.extinction, floor, ceiling, k.highest_extinction, order, depth); below = omega (arith, ints, k.highest_extinction, some, surf.1.below) };
+      surf_lo = surf.0;
+      surf_hi = surf.1;
+      deep = omega (arith, ints, k.lowest_extinction, depth, some, order);
+    }
+
+module _ (i : Inputs) (c : ℕ) (e : Entries) (are : AreInputs i) (v : IsVariableCell i c) (is : IsCellOf i.model (widths_of i.tables) i.tables.digits i.at i.old e c) where
+  pub rivers_fit : All RiverFits e.rivers
+  rivers_fit = zip_all RiverFits (IsRiver i.tables.digits) e.rivers (river_sources i.model i.at.period c)
+      (λ x r j k. let (y, l, q) = filter_map-In as_river (local_entries i.model i.at.period c) r j in
+        let w = river_valid y r q (In-All (IsEntryValid 65536) (local_entries i.model i.at.period c) y (are.entries c) l) in
+        river_fits i.tables.digits x r w.0 w.1 k) is.rivers
+
+  pub evaps_fit : All EvapFits e.evaps
+  evaps_fit = zip_all EvapFits (IsEvap i.model i.tables.digits c) e.evaps (evap_sources i.model i.at.period c)
+      (λ x r j k. evap_fits i.model i.tables.digits c x r (In-All IsEvapValid (evap_sources i.model i.at.period c) r (are.model.evaps i.at.period c v.within (variable_active i.model i.at.period c v.variable)) j) k) is.evaps

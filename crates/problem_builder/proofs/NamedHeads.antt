@@ -1,0 +1,59 @@
+-- What a CHD list gives each cell.
+use Rattle.std.proofs.Common.{◌≡◌, ℕ, zero, suc, ◌+◌, ◌<◌, inl, inr, Bool, true, false, cond, Option, Some, None, List, [], ◌∷◌, ◌++◌, length, get_or, set, take, replicate, refl, sym, ap, ◌∙◌, subst, arith, All}
+use Rattle.std.specs.Prelude.{◌==◌, reverse}
+use Rattle.std.specs.List.{find}
+use Rattle.std.proofs.lemmas.Bool.{cases_eq, eq-eqb, ne_eqb}
+use Rattle.std.proofs.lemmas.List.{get_or-set_same, get_or-set_other, take_more, reverse-append}
+use Rattle.model_types.specs.declared.entry.Given.{Given}
+use Rattle.model_types.specs.Layers.{no_number}
+use Rattle.model_types.specs.Kinds.{given_in}
+use Rattle.problem_builder.specs.Filled.{Filled}
+use Rattle.problem_builder.specs.PeriodTables.{IsNamed}
+use Rattle.problem_builder.proofs.Buckets.{any_default}
+
+given_more : (xs : List Given) (x : Given) (c : ℕ) → given_in (xs ++ x ∷ []) c ≡ cond (x.cell.0 == c) (Some x) (given_in xs c)
+unfolding given_in
+given_more xs x c = ap (find (λ y. y.cell.0 == c)) (reverse-append xs (x ∷ []))
+
+given_none : (c : ℕ) → given_in [] c ≡ None
+unfolding given_in
+given_none c = refl
+
+get_or_replicate : {X : Type 0} (n c : ℕ) (x : X) → get_or (replicate n x) c x ≡ x
+get_or_replicate zero c x = refl
+get_or_replicate (suc n) zero x = refl
+get_or_replicate (suc n) (suc c) x = get_or_replicate n c x
+
+length_replicate : {X : Type 0} (n : ℕ) (x : X) → length (replicate n x) ≡ n
+length_replicate zero x = refl
+length_replicate (suc n) x = ap suc (length_replicate n x)
+
+length_set : {X : Type 0} (xs : List X) (i : ℕ) (x : X) → length (set xs i x) ≡ length xs
+length_set [] i x = refl
+length_set (y ∷ xs) zero x = refl
+length_set (y ∷ xs) (suc i) x = ap suc (length_set xs i x)
+
+pub none_named : (n : ℕ) (xs : List (Option Given)) → xs ≡ replicate n None → Filled (IsNamed []) None n xs
+none_named n xs e = record { count = ap length e ∙ length_replicate n None; each = (λ c lt. ap (λ ys. get_or ys c None) e ∙ get_or_replicate n c None ∙ sym (given_none c)) }
+
+abbrev pub no_given : Given
+no_given = record { cell = record { 0 = 0 }; shead = no_number; ehead = no_number }
+
+pub named_within : (n : ℕ) (list : List Given) (i : ℕ) → All (λ x. x.cell.0 < n) list → i < length list → (get_or list i no_given).cell.0 < n
+named_within n list i h lt = h i no_given lt
+
+pub next_named : (n i : ℕ) (list : List Given) (xs ys : List (Option Given)) → i < length list → (get_or list i no_given).cell.0 < n → ys ≡ set xs (get_or list i no_given).cell.0 (Some (get_or list i no_given)) → Filled (IsNamed (take i list)) None n xs → Filled (IsNamed (take (i + 1) list)) None n ys
+next_named n i list xs ys lt within e h =
+    let x = get_or list i no_given in
+    let k = x.cell.0 in
+    let more : (c : ℕ) → given_in (take (i + 1) list) c ≡ cond (k == c) (Some x) (given_in (take i list) c) =
+        (λ c. ap (λ zs. given_in zs c) (take_more list i no_given lt) ∙ given_more (take i list) x c) in
+    record {
+      count = ap length e ∙ length_set xs k (Some x) ∙ h.count;
+      each = (λ c r. elim (cases_eq c k) [
+        inl q ↦ ap (λ zs. get_or zs c None) e ∙ ap (λ z. get_or (set xs k (Some x)) z None) q ∙ get_or-set_same xs k (Some x) None (omega (arith, within, h.count))
+            ∙ sym (more c ∙ ap (λ b. cond b (Some x) (given_in (take i list) c)) (eq-eqb k c (sym q)))
+        | inr ne ↦ ap (λ zs. get_or zs c None) e ∙ get_or-set_other xs k c (Some x) None ne ∙ h.each c r
+            ∙ sym (more c ∙ ap (λ b. cond b (Some x) (given_in (take i list) c)) (ne_eqb k c (λ z. ne (sym z))))
+      ]);
+    }

@@ -1,0 +1,34 @@
+-- Stress periods by their numbers.
+use Rattle.std.proofs.Common.{◌≡◌, ℕ, ◌+◌, ◌-◌, ◌<◌, ◌≤◌, List, length, get_or, refl, sym, ap, ◌∙◌, subst, arith, All}
+use Rattle.model_types.specs.declared.model.FlowModel.{FlowModel}
+use Rattle.model_types.specs.declared.period.Period.{Period}
+use Rattle.model_types.specs.Cells.{cell_count}
+use Rattle.model_types.specs.declared.entry.Entry.{Entry}
+use Rattle.model_types.specs.declared.entry.Entry.TheVariants.{Well, River, Drain, General}
+use Rattle.model_types.specs.Sources.{cell_of}
+use Rattle.model_types.specs.Times.{period_at, no_period, entries}
+use Rattle.model_types.specs.Valid.{IsModel, IsPeriod, IsEntryValid}
+use Rattle.problem_builder.proofs.Buckets.{any_default}
+use Rattle.problem_builder.proofs.ValidEntries.{all_entries}
+
+-- a period that is read by its number
+pub period_read : (m : FlowModel) (p : ℕ) (x : Period) (xs : List Period) → (1 ≤ p) × (p ≤ length m.periods) → xs ≡ m.periods → x ≡ get_or xs (p - 1) x → x ≡ period_at m p
+period_read m p x xs r e h = h ∙ any_default xs (p - 1) x no_period (omega (arith, r.0, r.1, ap length e)) ∙ ap (λ ys. get_or ys (p - 1) no_period) e
+
+pub period_valid : (m : FlowModel) (p : ℕ) → IsModel m → (1 ≤ p) × (p ≤ length m.periods) → IsPeriod m (period_at m p)
+period_valid m p valid r = valid.periods (p - 1) no_period (omega (arith, r.0, r.1))
+
+pub given_cells : (m : FlowModel) (p : ℕ) → IsModel m → (1 ≤ p) × (p ≤ length m.periods) → All (λ x. x.cell.0 < cell_count m.grid) (period_at m p).given
+given_cells m p valid r i d lt = ((period_valid m p valid r).given.entries i d lt).cell
+
+entry_within : (n : ℕ) (x : Entry) → IsEntryValid n x → cell_of x < n
+entry_within n (Well cell q) h = h.0
+entry_within n (River cell stage k bottom) h = h.0
+entry_within n (Drain cell elevation k) h = h.0
+entry_within n (General cell head k) h = h.0
+
+-- the entries of a period lie in the grid
+pub entries_within : (m : FlowModel) (p count : ℕ) (x : Period) → IsModel m → (1 ≤ p) × (p ≤ length m.periods) → x ≡ period_at m p → count ≡ cell_count m.grid → All (λ e. cell_of e < count) (entries x)
+entries_within m p count x valid r e f =
+    let P : Period → Type 0 = λ q. All (λ y. cell_of y < count) (entries q) in
+    subst P (sym e) (λ i d lt. subst (λ n. cell_of (get_or (entries (period_at m p)) i d) < n) (sym f) (entry_within (cell_count m.grid) (get_or (entries (period_at m p)) i d) (all_entries m p (period_valid m p valid r) i d lt)))

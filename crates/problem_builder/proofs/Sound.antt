@@ -1,0 +1,55 @@
+-- What a cell without a refusal is.
+use Rattle.std.proofs.Common.{◌≡◌, ℕ, zero, suc, ◌+◌, ◌<◌, ◌≤◌, ◌^◌, ◌⊎◌, inl, inr, Bool, true, false, cond, Option, Some, None, List, [], ◌∷◌, refl, sym, ap, ◌∙◌, subst, arith}
+use Rattle.std.specs.Prelude.{nat_le, ◌||◌, ◌==◌, sum_by}
+use Rattle.std.specs.List.{list_any, fold}
+use Rattle.std.proofs.lemmas.Bool.{leb-false, false≢true}
+use Rattle.step_problem.specs.Entries.{Entries}
+use Rattle.step_problem.specs.Conditions.{conductance_of, flow_of}
+use Rattle.model_types.proofs.Members.{In}
+use Rattle.problem_builder.specs.Refusals.{fault_of, has_small_branch}
+
+some_none : (x : ℕ) → Some x ≡ None → ⊥
+some_none x e = grind arith
+
+cond_none : (b : Bool) (x : ℕ) (o : Option ℕ) → cond b (Some x) o ≡ None → (b ≡ false) × (o ≡ None)
+cond_none true x o e = absurd (some_none x e)
+cond_none false x o e = (refl, e)
+
+pub record IsSound (e : Entries) : Type 0 where
+  pub branches : has_small_branch e ≡ false
+  pub conductances : conductance_of e < 2 ^ 60
+  pub flows : flow_of e < 2 ^ 109
+
+pub sound : (e : Entries) → fault_of e ≡ None → IsSound e
+unfolding fault_of
+sound e h =
+    let (a, h₁) = cond_none (has_small_branch e) 21 _ h in
+    let (b, h₂) = cond_none (nat_le (2 ^ 60) (conductance_of e)) 22 _ h₁ in
+    let (c, h₃) = cond_none (nat_le (2 ^ 109) (flow_of e)) 23 _ h₂ in
+    record { branches = a; conductances = leb-false (2 ^ 60) (conductance_of e) b; flows = leb-false (2 ^ 109) (flow_of e) c }
+
+pub or_false : (a b : Bool) → (a || b) ≡ false → (a ≡ false) × (b ≡ false)
+or_false true b e = absurd (false≢true (sym e))
+or_false false b e = (refl, e)
+
+pub none_passes : {X : Type 0} (test : X → Bool) (xs : List X) → list_any test xs ≡ false → (x : X) → In xs x → test x ≡ false
+none_passes test [] e x i = absurd i
+none_passes test (y ∷ ys) e x (inl same) = subst (λ z. test z ≡ false) same (or_false (test y) (list_any test ys) e).0
+none_passes test (y ∷ ys) e x (inr i) = none_passes test ys (or_false (test y) (list_any test ys) e).1 x i
+
+pub positive : (n : ℕ) → (n == 0) ≡ false → 0 < n
+positive zero e = absurd (false≢true (sym e))
+positive (suc n) e = omega arith
+
+fold_least : {X : Type 0} (f : X → ℕ) (xs : List X) (a : ℕ) → a ≤ fold (λ b x. b + f x) a xs
+fold_least f [] a = omega arith
+fold_least f (x ∷ xs) a = omega (arith, fold_least f xs (a + f x))
+
+fold_part : {X : Type 0} (f : X → ℕ) (xs : List X) (a : ℕ) (x : X) → In xs x → f x ≤ fold (λ b y. b + f y) a xs
+fold_part f [] a x i = absurd i
+fold_part f (y ∷ ys) a x (inl e) = let k : f y ≡ f x = ap f e in omega (arith, k, fold_least f ys (a + f y))
+fold_part f (y ∷ ys) a x (inr i) = fold_part f ys (a + f y) x i
+
+-- one of a list is at most the sum
+pub sum_part : {X : Type 0} (f : X → ℕ) (xs : List X) (x : X) → In xs x → f x ≤ sum_by f xs
+sum_part f xs x i = fold_part f xs 0 x i

@@ -1,0 +1,43 @@
+-- The tables of a time step, put together; storage and its factors.
+use Rattle.std.proofs.Common.{◌≡◌, ℕ, ◌⊎◌, inl, inr, Bool, true, false, cond, Some, None, refl, arith}
+use Rattle.decimal_input.specs.Ratios.{Ratio}
+use Rattle.step_problem.specs.Heads.{no_bound}
+use Rattle.model_types.specs.declared.model.FlowModel.{FlowModel}
+use Rattle.model_types.specs.declared.period.Period.{Period}
+use Rattle.model_types.specs.declared.time_steps.TimeStep.{TimeStep}
+use Rattle.model_types.specs.Cells.{cell_count}
+use Rattle.model_types.specs.Valid.{IsTimed}
+use Rattle.conductance_bounds.specs.declared.span.Span.{Span}
+use Rattle.conductance_bounds.specs.Branches.{thickness_of}
+use Rattle.conductance_bounds.specs.Calls.{IsThickness}
+use Rattle.conductance_bounds.specs.Growth.{IsMultiplier}
+use Rattle.conductance_bounds.specs.Terms.Term.{Within}
+use Rattle.conductance_bounds.specs.Thicknesses.{AreThick}
+use Rattle.problem_builder.specs.declared.step.StepTables.{StepTables}
+use Rattle.problem_builder.specs.Filled.{Filled}
+use Rattle.problem_builder.specs.StepTables.{HasStorage, HasHead}
+use Rattle.problem_builder.specs.Tables.{AreStepTables, no_pair}
+use Rattle.problem_builder.specs.Thicknesses.{Thicknesses}
+
+pub step_made : (m : FlowModel) (w : Thicknesses) (s : ℕ) (at : TimeStep) (t : StepTables) → Filled (HasStorage m w.thick s at) no_pair (cell_count m.grid) t.storage → Filled (HasHead m at) no_bound (cell_count m.grid) t.heads → AreStepTables m w s at t
+step_made m w s at t storage heads = record {
+  storages = storage.count;
+  storage = storage.each;
+  heads = heads.count;
+  head = heads.each;
+}
+
+-- the thickness that counts for storage
+pub thick_case : (b : Bool) (t : Span) (f : Ratio) → thickness_of (cond b None (Some (t.lo, t.hi))) f ≡ cond b None (Some (Within t.lo t.hi f))
+thick_case true t f = refl
+thick_case false t f = refl
+
+pub usable_case : (b : Bool) (t : Span) → AreThick t.lo t.hi → IsThickness (cond b None (Some (t.lo, t.hi)))
+usable_case true t h = tt
+usable_case false t h = h
+
+pub multiplier : (p : Period) → p.steady ≡ false → IsTimed p → IsMultiplier p.tsmult p.nstp
+multiplier p e h = elim (h.growth e) [
+  inl one ↦ inl one
+  | inr grows ↦ inr (record { few = grows.few; least = grows.least; most = grows.most })
+]

@@ -1,0 +1,46 @@
+-- The times of a model: a step of one of its periods.
+use Rattle.std.proofs.Common.{◌≡◌, ℕ, zero, suc, ◌+◌, ◌-◌, ◌<◌, ◌≤◌, ◌⊎◌, inl, inr, List, [], ◌∷◌, ◌++◌, length, get_or, map, refl, sym, ap, ◌∙◌, subst, arith}
+use Rattle.std.specs.List.{Contains, flat_map, range_with_len}
+use Rattle.model_types.specs.declared.model.FlowModel.{FlowModel}
+use Rattle.model_types.specs.declared.time_steps.TimeStep.{TimeStep}
+use Rattle.model_types.specs.Times.{period_at, no_period, steps_of, times}
+use Rattle.model_types.specs.Valid.{IsModel}
+use Rattle.model_types.proofs.Members.{In, In-get_or, map-In}
+use Rattle.problem_builder.specs.Moments.{IsTimeOf}
+
+In-Contains : {X : Type 0} (xs : List X) (x : X) → Contains xs x → In xs x
+In-Contains xs x (k, lt, e) = subst (In xs) e (In-get_or xs k x lt)
+
+In-append : {X : Type 0} (xs ys : List X) (x : X) → In (xs ++ ys) x → In xs x ⊎ In ys x
+In-append [] ys x i = inr i
+In-append (z ∷ zs) ys x (inl e) = inl (inl e)
+In-append (z ∷ zs) ys x (inr i) = elim (In-append zs ys x i) [
+  inl j ↦ inl (inr j)
+  | inr j ↦ inr j
+]
+
+flat-In : {X Y : Type 0} (f : X → List Y) (xs : List X) (y : Y) → In (flat_map f xs) y → (x : X) × In xs x × In (f x) y
+flat-In f [] y i = absurd i
+flat-In f (z ∷ zs) y i = elim (In-append (f z) (flat_map f zs) y i) [
+  inl j ↦ (z, inl refl, j)
+  | inr j ↦ (let (x, k, l) = flat-In f zs y j in (x, inr k, l))
+]
+
+range-In : (a n x : ℕ) → In (range_with_len a n) x → (a ≤ x) × (x < a + n)
+range-In a zero x i = absurd i
+range-In a (suc n) x (inl e) = (omega (arith, e), omega (arith, e))
+range-In a (suc n) x (inr i) = let k = range-In (a + 1) n x i in (omega (arith, k.0), omega (arith, k.1))
+
+pub time_of : (m : FlowModel) (at : TimeStep) → IsModel m → Contains (times m) at → IsTimeOf m at
+unfolding times
+time_of m at valid h =
+    let (p, i, j) = flat-In (steps_of m) (range_with_len 1 (length m.periods)) at (In-Contains (flat_map (steps_of m) (range_with_len 1 (length m.periods))) at h) in
+    let (n, k, e) = map-In (λ n. record { period = p; step = n }) (range_with_len 1 (period_at m p).nstp) at j in
+    let a = range-In 1 (length m.periods) p i in
+    let b = range-In 1 (period_at m p).nstp n k in
+    let P : TimeStep → Type 0 = λ t. IsTimeOf m t in
+    subst P e (record {
+      period = (a.0, omega (arith, a.1));
+      step = (b.0, omega (arith, b.1));
+      valid = valid.periods (p - 1) no_period (omega (arith, a.0, a.1));
+    })

@@ -1,0 +1,28 @@
+use Rattle.std.proofs.Common.{refl, sym, subst, ◌∙◌}
+use Rattle.step_problem.specs.declared.heads.Bound.{Bound}
+use Rattle.step_problem.specs.declared.entry.Fixed.{Fixed}
+use Rattle.conductance_bounds.specs.declared.pair.Pair.{Pair}
+use Rattle.conductance_bounds.specs.Formulas.{face_term}
+use Rattle.conductance_bounds.specs.Pairs.{IsCapped}
+use Rattle.model_types.specs.Kinds.{is_constant}
+use Rattle.problem_builder.specs.ConstantHeads.{IsConstantPair}
+use Rattle.problem_builder.specs.Cells.{IsConstant}
+use Rattle.problem_builder.specs.Made.{HasPair}
+use Rattle.problem_builder.specs.Tables.{widths_of, span_in}
+use Rattle.problem_builder.proofs.ActiveCells.{constant_active}
+use Rattle.problem_builder.proofs.Pushed.{both_through}
+use Rattle.problem_builder.proofs.branches.constant_through.Goals as goal
+
+pub returns-in-Some : goal.returns-in-Some
+returns-in-Some c =
+    let i = c.args.input.now in
+    let f = c.in-Some.face in
+    let h = subst (HasPair i) c.in-Some.is c.requires.face in
+    let v = sym c.is_constant.ensures ∙ c.if-is_constant.true in
+    both_through (IsConstant i.model (widths_of i.tables) i.tables.digits i.at) (is_constant i.model i.at.period) c.args.face f _ c.in-Some.is v
+    (subst (λ (x : Fixed). IsConstant i.model (widths_of i.tables) i.tables.digits i.at x f) (sym c.known_head.ensures) (record {
+      kind = refl;
+      source = refl;
+      conductance = subst (λ (q : Pair). IsCapped (face_term i.model (span_in i.tables.thick) (span_in i.tables.bed) f.axis f.first) i.tables.digits q.lo q.hi) (sym c.pair_of-pair.ensures) (h.2 (constant_active i.model i.at.period f.end v));
+      head = subst (λ (q : Bound). IsConstantPair i.model i.at f.end q.low q.high) (sym c.given_head-head.ensures) (c.requires.input.step.head f.end h.1 v);
+    }))

@@ -1,0 +1,10 @@
+use Rattle.std.proofs.Common.{take}
+use Rattle.std.specs.List.{AllZip, filter_map}
+use Rattle.model_types.specs.Faces.{through}
+use Rattle.model_types.specs.Kinds.{is_constant}
+use Rattle.problem_builder.specs.Cells.{IsConstant}
+use Rattle.problem_builder.specs.Tables.{widths_of}
+use Rattle.problem_builder.proofs.branches.constants_through.Given as goal
+
+abbrev pub invariant-loop-face : goal.invariant-loop-face
+invariant-loop-face l = AllZip (IsConstant l.input.model (widths_of l.input.tables) l.input.tables.digits l.input.at) l.fixed.items (filter_map (through (is_constant l.input.model l.input.at.period)) (take l.face-index l.faces))

@@ -1,0 +1,9 @@
+use Rattle.std.proofs.Common.{ap, sym, subst, All, ◌∙◌}
+use Rattle.model_types.specs.Faces.{faces}
+use Rattle.problem_builder.specs.Made.{HasPair}
+use Rattle.problem_builder.specs.Tables.{Inputs}
+use Rattle.problem_builder.proofs.FacePairs.{faces_paired}
+use Rattle.problem_builder.proofs.branches.links.Goals as goal
+
+pub links_through-requires-clause-faces : goal.links_through-requires-clause-faces
+links_through-requires-clause-faces c = subst (All (HasPair c.args.input.now)) (sym (c.faces-faces.ensures.faces ∙ ap (λ (z : Inputs). faces z.model.grid c.args.cell) c.input.view_is)) (faces_paired c.args.input.now c.args.cell c.requires.input c.requires.cell)

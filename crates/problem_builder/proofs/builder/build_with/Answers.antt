@@ -1,0 +1,22 @@
+use Rattle.problem_builder.proofs.TimesOf.{time_of}
+use Rattle.problem_builder.proofs.ValidEntries.{local_valid}
+use Rattle.problem_builder.proofs.builder.build_with.Goals as goal
+
+pub step_tables-requires-clause-time : goal.step_tables-requires-clause-time
+step_tables-requires-clause-time c = time_of c.args.model.now c.args.at c.requires.model c.requires.time
+
+pub problem_of-requires : goal.problem_of-requires
+problem_of-requires c =
+    let m = c.args.model.now in
+    let time = time_of m c.args.at c.requires.model c.requires.time in
+    record {
+      model = c.requires.model;
+      time = time;
+      size = c.requires.model.grid.size;
+      digits = c.requires.digits;
+      entries = (λ d. local_valid m c.args.at.period d c.requires.model time.valid);
+      tables = c.requires.tables;
+      period = c.requires.period;
+      step = c.in_ok-step.ensures;
+      old = c.requires.old;
+    }

@@ -1,0 +1,6 @@
+use Rattle.problem_builder.specs.Problems.{AreCells}
+use Rattle.problem_builder.specs.Tables.{widths_of}
+use Rattle.problem_builder.proofs.builder.cells.Given as goal
+
+abbrev pub invariant-loop-number : goal.invariant-loop-number
+invariant-loop-number l = AreCells l.input.model (widths_of l.input.tables) l.input.tables.digits l.input.at l.input.old l.number l.cells.items

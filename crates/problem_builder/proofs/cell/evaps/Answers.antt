@@ -1,0 +1,13 @@
+use Rattle.std.proofs.Common.{sym, subst}
+use Rattle.model_types.specs.Receivers.{evap_at}
+use Rattle.problem_builder.specs.Cells.{IsEvap}
+use Rattle.problem_builder.specs.Tables.{BothOrNone}
+use Rattle.problem_builder.proofs.Joined.{pushed}
+use Rattle.problem_builder.proofs.Pushed.{zip_one}
+use Rattle.problem_builder.proofs.cell.evaps.Goals as goal
+
+pub returns : goal.returns
+returns c =
+    let i = c.args.input.now in
+    zip_one (IsEvap i.model i.tables.digits c.args.cell) _ c.evap.result (evap_at i.model i.at.period c.args.cell) (pushed _ _ c.evap.result c.new-evaps.ensures.items c.in_ok-push_some.ensures)
+    (subst (λ o. BothOrNone (IsEvap i.model i.tables.digits c.args.cell) o (evap_at i.model i.at.period c.args.cell)) (sym c.evap.ensures) (c.requires.input.period.evap c.args.cell c.requires.cell.within c.requires.cell.variable))

@@ -1,0 +1,19 @@
+use Rattle.std.proofs.Common.{refl, sym, subst}
+use Rattle.step_problem.specs.declared.entry.Flow.{Flow}
+use Rattle.problem_builder.specs.Cells.{IsReceived}
+use Rattle.problem_builder.specs.RechargeBounds.{IsRechargePair}
+use Rattle.problem_builder.proofs.Pushed.{both_some, both_none}
+use Rattle.problem_builder.proofs.cell.received.Goals as goal
+
+pub returns-in-Some : goal.returns-in-Some
+returns-in-Some c =
+    let i = c.args.input.now in
+    both_some (λ x rate. IsRechargePair i.model i.tables.digits c.args.cell rate x.lo x.hi) (IsReceived i.model i.tables.digits c.args.cell) _ _ c.in-Some.pair _ (sym c.in-Some.ensures)
+    (λ rate h. subst (λ (x : Flow). IsReceived i.model i.tables.digits c.args.cell x rate) (sym c.constant_flow.ensures) (record { kind = refl; flow = h }))
+    (c.requires.input.period.recharge c.args.cell c.requires.cell.within c.requires.cell.variable)
+
+pub returns-in-None : goal.returns-in-None
+returns-in-None c =
+    let i = c.args.input.now in
+    both_none (λ x rate. IsRechargePair i.model i.tables.digits c.args.cell rate x.lo x.hi) (IsReceived i.model i.tables.digits c.args.cell) _ _ (sym c.in-None.ensures)
+    (c.requires.input.period.recharge c.args.cell c.requires.cell.within c.requires.cell.variable)

@@ -1,0 +1,19 @@
+use Rattle.std.proofs.Common.{◌≡◌, ◌+◌, suc, ap, arith, ◌∙◌, FitsSigned}
+use Rattle.std.specs.Prelude.{◌||◌, ◌&&◌}
+use Rattle.std.specs.Int.{w64}
+use Rattle.std.proofs.lemmas.Int.{to_z-of_z}
+use Rattle.model_types.specs.Cells.{layer_of, place_in_layer}
+use Rattle.model_types.specs.Layers.{int_at, is_active}
+use Rattle.model_types.specs.Receivers.{is_int}
+use Rattle.problem_builder.proofs.chosen.is_chosen.Goals as goal
+
+pub returns : goal.returns
+returns c =
+    let m = c.args.model.now in
+    let fits : FitsSigned w64 c.args.option = c.ranges.option in
+    let first = simp to_z-of_z at c.is_in_first-first.ensures in
+    let named = simp to_z-of_z at c.is_named-second.ensures in
+    let top = simp to_z-of_z at c.is_top-third.ensures in
+    let second = named ∙ ap (λ k. is_int c.args.option 2 && is_int (int_at c.args.layers.now (place_in_layer m.grid c.args.cell)) k) (let e : layer_of m.grid c.args.cell + 1 ≡ suc (layer_of m.grid c.args.cell) = omega arith in e) in
+    let third = top ∙ ap (λ b. is_int c.args.option 3 && is_active m c.args.cell && b) c.requires.highest in
+    c.any.ensures ∙ (λ t. first t || second t || third t)

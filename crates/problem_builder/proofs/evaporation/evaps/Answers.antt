@@ -1,0 +1,10 @@
+use Rattle.std.proofs.Common.{None}
+use Rattle.problem_builder.specs.PeriodTables.{IsEvaporated}
+use Rattle.problem_builder.proofs.Filling.{none_filled, next_filled}
+use Rattle.problem_builder.proofs.evaporation.evaps.Goals as goal
+
+pub loop-cell-init : goal.loop-cell-init
+loop-cell-init c = none_filled (IsEvaporated c.args.model.now c.args.s c.args.number) None _ c.new-evaps.ensures.items
+
+pub loop-cell-preserved : goal.loop-cell-preserved
+loop-cell-preserved c = next_filled (IsEvaporated c.args.model.now c.args.s c.args.number) None c.loop-cell.cell c.loop-cell.evaps.items _ _ c.in_ok-push.ensures.items c.evap_of.ensures c.loop-cell.invariant

@@ -1,0 +1,7 @@
+use Rattle.std.proofs.Common.{None}
+use Rattle.problem_builder.specs.Filled.{Filled}
+use Rattle.problem_builder.specs.PeriodTables.{IsEvaporated}
+use Rattle.problem_builder.proofs.evaporation.evaps.Given as goal
+
+abbrev pub invariant-loop-cell : goal.invariant-loop-cell
+invariant-loop-cell l = Filled (IsEvaporated l.model l.s l.number) None l.cell l.evaps.items

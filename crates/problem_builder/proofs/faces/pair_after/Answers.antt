@@ -1,0 +1,12 @@
+use Rattle.std.proofs.Common.{sym, subst}
+use Rattle.model_types.specs.declared.face.Axis.{Axis}
+use Rattle.model_types.specs.declared.face.Axis.TheVariants.{Row, Column, Vertical}
+use Rattle.problem_builder.specs.Tables.{span_in}
+use Rattle.problem_builder.specs.Widths.{HasConductance}
+use Rattle.problem_builder.proofs.faces.pair_after.Goals as goal
+
+pub returns-in-Row : goal.returns-in-Row
+returns-in-Row c = subst (λ (a : Axis). HasConductance c.args.model.now (span_in c.args.thick.now) (span_in c.args.beds.now) c.args.s a c.args.cell c.row_pair.result) (sym c.in-Row.is) (λ h x y. c.row_pair.ensures (span_in c.args.beds.now))
+
+pub returns-in-Column : goal.returns-in-Column
+returns-in-Column c = subst (λ (a : Axis). HasConductance c.args.model.now (span_in c.args.thick.now) (span_in c.args.beds.now) c.args.s a c.args.cell c.column_pair.result) (sym c.in-Column.is) (λ h x y. c.column_pair.ensures (span_in c.args.beds.now))

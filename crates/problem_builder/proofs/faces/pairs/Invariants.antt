@@ -1,0 +1,7 @@
+use Rattle.problem_builder.specs.Filled.{Filled}
+use Rattle.problem_builder.specs.Tables.{no_pair, span_in}
+use Rattle.problem_builder.specs.Widths.{HasConductance}
+use Rattle.problem_builder.proofs.faces.pairs.Given as goal
+
+abbrev pub invariant-loop-cell : goal.invariant-loop-cell
+invariant-loop-cell l = Filled (HasConductance l.model (span_in l.thick) (span_in l.beds) l.s l.axis) no_pair l.cell l.pairs.items

@@ -1,0 +1,27 @@
+use Rattle.std.proofs.Common.{◌≡◌, ◌+◌, sym, subst}
+use Rattle.conductance_bounds.specs.Terms.{Term}
+use Rattle.conductance_bounds.specs.Pairs.{IsCapped}
+use Rattle.conductance_bounds.specs.Branches.{row_of}
+use Rattle.conductance_bounds.specs.Formulas.{face_term}
+use Rattle.model_types.specs.declared.face.Axis.TheVariants.{Row}
+use Rattle.model_types.specs.Faces.{stride}
+use Rattle.model_types.specs.Layers.{thickness}
+use Rattle.problem_builder.specs.Tables.{span_in}
+use Rattle.model_types.specs.Numbers.{IsPositive}
+use Rattle.problem_builder.proofs.Halves.{delc_positive}
+use Rattle.problem_builder.proofs.faces.row_pair.Goals as goal
+
+pub returns : goal.returns
+returns c = λ bed.
+    let m = c.args.model.now in
+    let a = c.args.first in
+    let b = a + stride m.grid Row in
+    let x = c.half-a.ensures.is in
+    let y = c.half-b.ensures.is in
+    let w = c.delc_at.ensures in
+    let same : row_of c.half-a.result c.half-b.result c.delc_at.result (thickness m a) (thickness m b) ≡ face_term m (span_in c.args.thick.now) bed Row a = λ t. row_of (x t) (y t) (w t) (thickness m a) (thickness m b) in
+    let P : Term → Type 0 = λ t. IsCapped t c.args.s c.capped.result.lo c.capped.result.hi in
+    subst P same (c.capped.ensures _ c.args.s (c.row_branch.ensures.rounded (thickness m a) (thickness m b)))
+
+pub row_branch-requires-clause-width : goal.row_branch-requires-clause-width
+row_branch-requires-clause-width c = subst IsPositive (sym c.delc_at.ensures) (delc_positive c.args.model.now c.args.first c.requires.model)

@@ -1,0 +1,7 @@
+use Rattle.step_problem.specs.Heads.{no_bound}
+use Rattle.problem_builder.specs.Filled.{Filled}
+use Rattle.problem_builder.specs.PeriodTables.{IsKept}
+use Rattle.problem_builder.proofs.given.kept.Given as goal
+
+abbrev pub invariant-loop-cell : goal.invariant-loop-cell
+invariant-loop-cell l = Filled (IsKept l.model l.given.period) no_bound l.cell l.bounds.items

@@ -1,0 +1,14 @@
+use Rattle.std.proofs.Common.{Option, sym, subst}
+use Rattle.model_types.specs.declared.entry.Given.{Given}
+use Rattle.problem_builder.specs.ConstantHeads.{IsKeptPair}
+use Rattle.problem_builder.proofs.GivenValid.{last_head}
+use Rattle.problem_builder.proofs.given.kept_at.Goals as goal
+
+pub kept_of-requires-clause-strt : goal.kept_of-requires-clause-strt
+kept_of-requires-clause-strt c = (c.requires.model.cells c.args.cell c.requires.cell (sym c.if-not-is_active.ensures)).strt
+
+pub kept_of-requires-clause-last : goal.kept_of-requires-clause-last
+kept_of-requires-clause-last c = last_head c.args.model.now c.args.given.now.period c.args.cell c.last_at-last.result c.requires.model c.last_at-last.ensures
+
+pub returns : goal.returns
+returns c = λ a. subst (λ (o : Option Given). IsKeptPair c.args.model.now c.args.cell o c.kept_of.result.low c.kept_of.result.high) c.last_at-last.ensures c.kept_of.ensures

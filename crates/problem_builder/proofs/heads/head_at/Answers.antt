@@ -1,0 +1,39 @@
+use Rattle.std.proofs.Common.{◌≡◌, ◌-◌, take, Option, Some, None, sym, ◌∙◌, subst}
+use Rattle.step_problem.specs.declared.heads.Bound.{Bound}
+use Rattle.model_types.specs.declared.entry.Given.{Given}
+use Rattle.model_types.specs.Cells.{cell_count}
+use Rattle.model_types.specs.Kinds.{given_in, last_given}
+use Rattle.model_types.specs.Times.{period_at}
+use Rattle.problem_builder.specs.ConstantHeads.{IsKeptPair, IsGivenOrKept, IsConstantPair}
+use Rattle.problem_builder.proofs.GivenValid.{given_valid}
+use Rattle.problem_builder.proofs.heads.head_at.Goals as goal
+
+pub between-requires-clause-start : goal.between-requires-clause-start
+between-requires-clause-start c =
+    let m = c.args.model.now in
+    let list = (period_at m c.args.at.period).given in
+    let e = sym (c.requires.period.1.given c.args.cell c.requires.cell) ∙ sym c.in-Some.ensures in
+    (given_valid (cell_count m.grid) list c.args.cell c.in-Some.x c.requires.time.valid.given.entries e).shead
+
+pub between-requires-clause-end : goal.between-requires-clause-end
+between-requires-clause-end c =
+    let m = c.args.model.now in
+    let list = (period_at m c.args.at.period).given in
+    let e = sym (c.requires.period.1.given c.args.cell c.requires.cell) ∙ sym c.in-Some.ensures in
+    (given_valid (cell_count m.grid) list c.args.cell c.in-Some.x c.requires.time.valid.given.entries e).ehead
+
+pub returns-in-Some : goal.returns-in-Some
+unfolding IsConstantPair
+returns-in-Some c =
+    let m = c.args.model.now in
+    let e = sym (c.requires.period.1.given c.args.cell c.requires.cell) ∙ sym c.in-Some.ensures in
+    subst (λ (o : Option Given). IsGivenOrKept m c.args.at c.args.cell o c.between.result.low c.between.result.high) (sym e) (c.args.part.lo, c.args.part.hi, c.requires.part.is, c.between.ensures)
+
+pub returns-in-None : goal.returns-in-None
+unfolding IsConstantPair
+returns-in-None c =
+    let m = c.args.model.now in
+    let are = c.requires.period.1 in
+    let e = sym (are.given c.args.cell c.requires.cell) ∙ sym c.in-None.ensures in
+    subst (λ (o : Option Given). IsGivenOrKept m c.args.at c.args.cell o c.kept_at.result.low c.kept_at.result.high) (sym e)
+    (subst (λ (b : Bound). IsKeptPair m c.args.cell (last_given (take (c.args.at.period - 1) m.periods) c.args.cell) b.low b.high) (sym c.kept_at.ensures) (are.kept c.args.cell c.requires.cell c.requires.constant))

@@ -1,0 +1,6 @@
+use Rattle.std.proofs.Common.{◌≡◌, ℕ, [], length, map, List, take, replicate}
+use Rattle.problem_builder.specs.Tables.{local_in}
+use Rattle.problem_builder.proofs.local.Local.empty.Given as goal
+
+abbrev pub invariant-loop-cell : goal.invariant-loop-cell
+invariant-loop-cell l = map (λ v. v.items) l.cells.items ≡ replicate l._cell []

@@ -1,0 +1,10 @@
+use Rattle.std.proofs.Common.{None}
+use Rattle.problem_builder.specs.PeriodTables.{IsRecharged}
+use Rattle.problem_builder.proofs.Filling.{none_filled, next_filled}
+use Rattle.problem_builder.proofs.recharge.recharges.Goals as goal
+
+pub loop-cell-init : goal.loop-cell-init
+loop-cell-init c = none_filled (IsRecharged c.args.model.now c.args.s c.args.number) None _ c.new-pairs.ensures.items
+
+pub loop-cell-preserved : goal.loop-cell-preserved
+loop-cell-preserved c = next_filled (IsRecharged c.args.model.now c.args.s c.args.number) None c.loop-cell.cell c.loop-cell.pairs.items _ _ c.in_ok-push.ensures.items c.recharge_of.ensures c.loop-cell.invariant

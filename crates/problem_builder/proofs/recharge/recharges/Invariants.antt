@@ -1,0 +1,7 @@
+use Rattle.std.proofs.Common.{None}
+use Rattle.problem_builder.specs.Filled.{Filled}
+use Rattle.problem_builder.specs.PeriodTables.{IsRecharged}
+use Rattle.problem_builder.proofs.recharge.recharges.Given as goal
+
+abbrev pub invariant-loop-cell : goal.invariant-loop-cell
+invariant-loop-cell l = Filled (IsRecharged l.model l.s l.number) None l.cell l.pairs.items

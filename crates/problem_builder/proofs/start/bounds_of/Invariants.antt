@@ -1,0 +1,7 @@
+use Rattle.step_problem.specs.Heads.{no_bound}
+use Rattle.problem_builder.specs.Filled.{Filled}
+use Rattle.problem_builder.specs.Made.{IsStartInRange}
+use Rattle.problem_builder.proofs.start.bounds_of.Given as goal
+
+abbrev pub invariant-loop-cell : goal.invariant-loop-cell
+invariant-loop-cell l = Filled (IsStartInRange l.model) no_bound l.cell l.bounds.items

@@ -1,0 +1,63 @@
+use Rattle.std.proofs.Common.{◌≡◌, ◌-◌, cond, Option, Some, None, sym, ap, ◌∙◌, subst}
+use Rattle.decimal_input.specs.declared.dec.Dec.{Dec}
+use Rattle.decimal_input.specs.Canonical.{size}
+use Rattle.scaled_decimal.specs.declared.decimal.Sd.{Sd}
+use Rattle.model_types.specs.declared.period.Period.{Period}
+use Rattle.model_types.specs.Layers.{dec_at, thickness}
+use Rattle.model_types.specs.Numbers.{IsPositive, IsNotNegative}
+use Rattle.model_types.specs.Times.{period_at}
+use Rattle.conductance_bounds.specs.Branches.{storage_of, storage_formula, storativity_term}
+use Rattle.conductance_bounds.specs.Calls.{IsThickness}
+use Rattle.conductance_bounds.specs.Formulas.{storage_term, area_term}
+use Rattle.conductance_bounds.specs.Growth.{sum_term, power_term}
+use Rattle.conductance_bounds.specs.Pairs.{IsCapped}
+use Rattle.conductance_bounds.specs.Terms.{Term}
+use Rattle.problem_builder.specs.Tables.{span_in}
+use Rattle.problem_builder.proofs.Halves.{delr_positive, delc_positive}
+use Rattle.problem_builder.proofs.StepMade.{thick_case, usable_case}
+use Rattle.problem_builder.proofs.storages.storage_at.Goals as goal
+
+pub storage_branch-requires-clause-ss : goal.storage_branch-requires-clause-ss
+storage_branch-requires-clause-ss c =
+    let ss = c.dec_at-ss.ensures ∙ ap (λ xs. dec_at xs c.args.cell) c.as_slice.ensures in
+    subst IsNotNegative (sym ss) (c.requires.model.cells c.args.cell c.requires.cell c.requires.active).ss
+
+pub storage_branch-requires-clause-thick : goal.storage_branch-requires-clause-thick
+storage_branch-requires-clause-thick c =
+    let m = c.args.model.now in
+    let t = c.args.tables.now in
+    let span = c.span_at.ensures ∙ ap (λ xs. span_in xs c.args.cell) c.as_slice-2.ensures in
+    let thick : c.thickness_in-thickness.result ≡ cond m.coefficient None (Some ((span_in t.thick c.args.cell).lo, (span_in t.thick c.args.cell).hi)) = c.thickness_in-thickness.ensures ∙ (λ q. cond m.coefficient None (Some ((span q).lo, (span q).hi))) in
+    let P : Option (Sd × Sd) → Type 0 = λ o. IsThickness o in
+    subst P (sym thick) (usable_case m.coefficient (span_in t.thick c.args.cell) (c.requires.tables.usable c.args.cell c.requires.cell c.requires.active))
+
+pub storage_branch-requires-clause-delr : goal.storage_branch-requires-clause-delr
+storage_branch-requires-clause-delr c = subst IsPositive (sym c.delr_at-delr.ensures) (delr_positive c.args.model.now c.args.cell c.requires.model)
+
+pub storage_branch-requires-clause-delc : goal.storage_branch-requires-clause-delc
+storage_branch-requires-clause-delc c = subst IsPositive (sym c.delc_at-delc.ensures) (delc_positive c.args.model.now c.args.cell c.requires.model)
+
+pub storage_branch-requires-clause-perlen : goal.storage_branch-requires-clause-perlen
+storage_branch-requires-clause-perlen c =
+    let P : Period → Type 0 = λ x. IsPositive x.perlen in
+    subst P (sym c.stress_period-period.ensures) (c.requires.time.valid.times.lasts c.requires.factors.transient)
+
+pub returns : goal.returns
+returns c =
+    let m = c.args.model.now in
+    let t = c.args.tables.now in
+    let at = c.args.at in
+    let d = c.args.cell in
+    let w = period_at m at.period in
+    let per = c.stress_period-period.ensures in
+    let ss = c.dec_at-ss.ensures ∙ ap (λ xs. dec_at xs d) c.as_slice.ensures in
+    let span = c.span_at.ensures ∙ ap (λ xs. span_in xs d) c.as_slice-2.ensures in
+    let thick : c.thickness_in-thickness.result ≡ cond m.coefficient None (Some ((span_in t.thick d).lo, (span_in t.thick d).hi)) = c.thickness_in-thickness.ensures ∙ (λ q. cond m.coefficient None (Some ((span q).lo, (span q).hi))) in
+    let delr = c.delr_at-delr.ensures in
+    let delc = c.delc_at-delc.ensures in
+    let called = c.capped.ensures _ t.digits (c.storage_branch.ensures.rounded (size w.tsmult) w.nstp at.step (thickness m d) c.requires.factors.grown) in
+    let same : storage_of c.dec_at-ss.result c.thickness_in-thickness.result c.delr_at-delr.result c.delc_at-delc.result (size w.tsmult) w.nstp at.step c.stress_period-period.result.now.perlen (thickness m d) ≡ storage_term m (span_in t.thick) w at.step d =
+        (λ q. storage_of (ss q) (thick q) (delr q) (delc q) (size w.tsmult) w.nstp at.step (per q).perlen (thickness m d))
+        ∙ ap (λ o. storage_formula (storativity_term (size (dec_at m.ss d)) o) (area_term m d) (sum_term (size w.tsmult) (w.nstp - 1)) (size w.perlen) (power_term (size w.tsmult) (at.step - 1))) (thick_case m.coefficient (span_in t.thick d) (thickness m d)) in
+    let P : Term → Type 0 = λ z. IsCapped z t.digits c.capped.result.lo c.capped.result.hi in
+    subst P same called

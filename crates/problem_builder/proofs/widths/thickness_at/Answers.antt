@@ -1,0 +1,21 @@
+use Rattle.std.proofs.Common.{sym, subst, ◌∙◌}
+use Rattle.decimal_input.specs.declared.dec.Dec.{Dec}
+use Rattle.decimal_input.specs.Canonical.{IsDec}
+use Rattle.model_types.specs.Layers.{top_at, bottom_at}
+use Rattle.model_types.specs.Numbers.{IsThick}
+use Rattle.conductance_bounds.specs.Thicknesses.{IsSpan}
+use Rattle.problem_builder.proofs.Elevations.{top_valid, bottom_valid}
+use Rattle.problem_builder.proofs.widths.thickness_at.Goals as goal
+
+pub thickness-requires-clause-top_number : goal.thickness-requires-clause-top_number
+thickness-requires-clause-top_number c = subst IsDec (sym c.top_at.ensures) (top_valid c.args.model.now c.args.cell c.requires.model)
+
+pub thickness-requires-clause-bottom_number : goal.thickness-requires-clause-bottom_number
+thickness-requires-clause-bottom_number c = subst IsDec (sym c.bottom_at.ensures) (bottom_valid c.args.model.now c.args.cell c.requires.model)
+
+pub thickness-requires-clause-thick : goal.thickness-requires-clause-thick
+thickness-requires-clause-thick c =
+    let m = c.args.model.now in
+    let active = sym c.is_active.ensures ∙ c.if-is_active.true in
+    subst (λ (z : Dec). IsThick z c.bottom_at.result) (sym c.top_at.ensures)
+    (subst (λ (z : Dec). IsThick (top_at m c.args.cell) z) (sym c.bottom_at.ensures) (c.requires.model.cells c.args.cell c.requires.cell active).thick)

@@ -1,0 +1,7 @@
+use Rattle.problem_builder.specs.Filled.{Filled}
+use Rattle.problem_builder.specs.Tables.{no_span}
+use Rattle.problem_builder.specs.Widths.{IsThickness}
+use Rattle.problem_builder.proofs.widths.thicknesses.Given as goal
+
+abbrev pub invariant-loop-cell : goal.invariant-loop-cell
+invariant-loop-cell l = Filled (IsThickness l.model) no_span l.cell l.spans.items

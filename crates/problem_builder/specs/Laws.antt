@@ -1,0 +1,52 @@
+-- What is one, and what a problem keeps: for valid models and their times.
+use Rattle.std.specs.Prelude.{◌≡◌, ℕ, ◌<◌, ◌≤◌, true, ℤ, List, Contains}
+use Rattle.step_problem.specs.declared.heads.Bound.{Bound}
+use Rattle.step_problem.specs.declared.place.NoBound.{NoBound}
+use Rattle.step_problem.specs.Entries.{Entries}
+use Rattle.step_problem.specs.Conditions.{IsProblem, IsHead}
+use Rattle.model_types.specs.declared.model.FlowModel.{FlowModel}
+use Rattle.model_types.specs.declared.time_steps.TimeStep.{TimeStep}
+use Rattle.model_types.specs.Cells.{cell_count}
+use Rattle.model_types.specs.Kinds.{is_constant}
+use Rattle.model_types.specs.Times.{times}
+use Rattle.model_types.specs.Valid.{IsModel}
+use Rattle.problem_builder.specs.declared.site.Site.{Site}
+use Rattle.problem_builder.specs.ConstantHeads.{IsConstantPair}
+use Rattle.problem_builder.specs.GridHeads.{AreGridHeads}
+use Rattle.problem_builder.specs.Problems.{IsProblemOf, HasNoProblem}
+use Rattle.problem_builder.specs.Sites.{AreSites}
+use Rattle.problem_builder.specs.StartHeads.{AreStartHeads}
+
+-- a model, a time and the heads before it have at most one problem
+abbrev pub ProblemIsOne : Type 0
+ProblemIsOne = (m : FlowModel) (s : ℕ) (at : TimeStep) (old : List Bound) (p q : List Entries) → IsModel m → Contains (times m) at → IsProblemOf m s at old p → IsProblemOf m s at old q → p ≡ q
+
+-- with a problem there is no refusal
+abbrev pub ProblemExcludesRefusal : Type 0
+ProblemExcludesRefusal = (m : FlowModel) (s : ℕ) (at : TimeStep) (old : List Bound) (p : List Entries) (fault : NoBound) → IsModel m → Contains (times m) at → IsProblemOf m s at old p → HasNoProblem m s at old fault → ⊥
+
+-- there is at most one first refusal
+abbrev pub RefusalIsOne : Type 0
+RefusalIsOne = (m : FlowModel) (s : ℕ) (at : TimeStep) (old : List Bound) (a b : NoBound) → IsModel m → Contains (times m) at → HasNoProblem m s at old a → HasNoProblem m s at old b → a ≡ b
+
+-- a problem meets the conditions on problems
+abbrev pub ProblemFits : Type 0
+ProblemFits = (m : FlowModel) (s : ℕ) (at : TimeStep) (old : List Bound) (p : List Entries) → IsModel m → Contains (times m) at → AreGridHeads m old → IsProblemOf m s at old p → IsProblem p
+
+-- the sites of a time, and the bounds of STRT, are one list each
+abbrev pub SitesAreOne : Type 0
+SitesAreOne = (m : FlowModel) (at : TimeStep) (a b : List Site) → IsModel m → Contains (times m) at → AreSites m at a → AreSites m at b → a ≡ b
+
+abbrev pub StartHeadsAreOne : Type 0
+StartHeadsAreOne = (m : FlowModel) (a b : List Bound) → IsModel m → AreStartHeads m a → AreStartHeads m b → a ≡ b
+
+-- a constant-head cell has one pair at a time, and heads in range
+abbrev pub ConstantPairIsOne : Type 0
+ConstantPairIsOne = (m : FlowModel) (at : TimeStep) (c : ℕ) (lo hi low high : ℤ) → IsModel m → Contains (times m) at → c < cell_count m.grid → is_constant m at.period c ≡ true → IsConstantPair m at c lo hi → IsConstantPair m at c low high → (lo ≡ low) × (hi ≡ high)
+
+abbrev pub ConstantPairFits : Type 0
+ConstantPairFits = (m : FlowModel) (at : TimeStep) (c : ℕ) (lo hi : ℤ) → IsModel m → Contains (times m) at → c < cell_count m.grid → is_constant m at.period c ≡ true → IsConstantPair m at c lo hi → IsHead lo × IsHead hi
+
+-- the bounds of STRT are heads of all cells, in range
+abbrev pub StartHeadsFit : Type 0
+StartHeadsFit = (m : FlowModel) (bounds : List Bound) → IsModel m → AreStartHeads m bounds → AreGridHeads m bounds

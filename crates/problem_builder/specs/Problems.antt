@@ -1,0 +1,53 @@
+-- The problem of a time step, and the refusal of a step that has none.
+use Rattle.std.specs.Prelude.{◌≡◌, ℕ, ◌<◌, true, List, All, Some, None}
+use Rattle.std.specs.List.{AllZip}
+use Rattle.step_problem.specs.declared.heads.Bound.{Bound}
+use Rattle.step_problem.specs.declared.heads.Side.TheVariants.{Low}
+use Rattle.step_problem.specs.declared.place.NoBound.{NoBound}
+use Rattle.step_problem.specs.declared.place.Place.TheVariants.{Cell}
+use Rattle.step_problem.specs.Entries.{Entries}
+use Rattle.model_types.specs.declared.model.FlowModel.{FlowModel}
+use Rattle.model_types.specs.declared.time_steps.TimeStep.{TimeStep}
+use Rattle.model_types.specs.Cells.{cell_count}
+use Rattle.model_types.specs.Kinds.{is_variable, variable_below, variable_cells}
+use Rattle.problem_builder.specs.declared.fault.BuildFault.{BuildFault}
+use Rattle.problem_builder.specs.declared.fault.BuildFault.TheVariants.{NoBound as Refused, Memory}
+use Rattle.problem_builder.specs.Thicknesses.{Thicknesses, AreThicknesses}
+use Rattle.problem_builder.specs.Cells.{IsCellOf}
+use Rattle.problem_builder.specs.Refusals.{fault_of}
+
+module _ (m : FlowModel) (w : Thicknesses) (s : ℕ) (at : TimeStep) (old : List Bound) where
+  -- the variable cells below cell n, none of which has a refusal
+  pub record AreCells (n : ℕ) (es : List Entries) : Type 0 where
+    pub each : AllZip (IsCellOf m w s at old) es (variable_below m at.period n)
+    pub sound : All (λ e. fault_of e ≡ None) es
+
+  -- the refusal of cell c
+  pub record IsRefused (c : ℕ) (fault : NoBound) : Type 0 where
+    pub entries : Entries
+    pub is_cell : IsCellOf m w s at old entries c
+    pub is_fault : fault_of entries ≡ Some fault.code
+    pub place : fault.place ≡ Cell c Low
+
+module _ (m : FlowModel) (s : ℕ) (at : TimeStep) (old : List Bound) where
+  -- p is the problem of a model's time step with s digits, from the heads `old` before it: all variable cells, by ascending number.
+  pub record IsProblemOf (p : List Entries) : Type 0 where
+    pub widths : Thicknesses
+    pub thicknesses : AreThicknesses m widths
+    pub cells : AreCells m widths s at old (cell_count m.grid) p
+
+  -- It has none: the least variable cell that has a refusal has this one.
+  pub record HasNoProblem (fault : NoBound) : Type 0 where
+    pub widths : Thicknesses
+    pub thicknesses : AreThicknesses m widths
+    pub cell : ℕ
+    pub within : cell < cell_count m.grid
+    pub variable : is_variable m at.period cell ≡ true
+    pub before : List Entries
+    pub cells_before : AreCells m widths s at old cell before
+    pub refused : IsRefused m widths s at old cell fault
+
+  -- want of memory is free
+  abbrev pub IsBuildFault : BuildFault → Type 0
+  IsBuildFault (Refused fault) = HasNoProblem fault
+  IsBuildFault Memory = Unit {0}

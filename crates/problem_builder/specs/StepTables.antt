@@ -1,0 +1,41 @@
+-- What the tables of a time step hold, cell by cell.
+use Rattle.std.specs.Prelude.{◌≡◌, ℕ, ◌≤◌, ◌^◌, true, false, Option, Some, None}
+use Rattle.decimal_input.specs.Canonical.{size}
+use Rattle.step_problem.specs.declared.heads.Bound.{Bound}
+use Rattle.model_types.specs.declared.model.FlowModel.{FlowModel}
+use Rattle.model_types.specs.declared.time_steps.TimeStep.{TimeStep}
+use Rattle.model_types.specs.Times.{period_at}
+use Rattle.model_types.specs.Kinds.{is_variable, is_constant}
+use Rattle.conductance_bounds.specs.declared.factors.Factors.{Factors}
+use Rattle.conductance_bounds.specs.declared.pair.Pair.{Pair}
+use Rattle.conductance_bounds.specs.declared.part.Part.{Part}
+use Rattle.conductance_bounds.specs.declared.span.Span.{Span}
+use Rattle.conductance_bounds.specs.Formulas.{storage_term}
+use Rattle.conductance_bounds.specs.Growth.{IsUsable, IsGrown}
+use Rattle.conductance_bounds.specs.Pairs.{IsCapped}
+use Rattle.conductance_bounds.specs.Parts.{IsPart}
+use Rattle.problem_builder.specs.ConstantHeads.{IsConstantPair}
+
+-- the factors of a step of a transient period
+pub record AreStepFactors (m : FlowModel) (at : TimeStep) (f : Factors) : Type 0 where
+  pub transient : (period_at m at.period).steady ≡ false
+  pub grown : IsGrown (size (period_at m at.period).tsmult) (period_at m at.period).nstp at.step f
+  pub usable : IsUsable f
+
+-- or none in a steady one
+abbrev pub AreFactorsOf : FlowModel → TimeStep → Option Factors → Type 0
+AreFactorsOf m at None = (period_at m at.period).steady ≡ true
+AreFactorsOf m at (Some f) = AreStepFactors m at f
+
+-- the bounds of a variable cell's storage in a transient period
+abbrev pub HasStorage : FlowModel → (ℕ → Span) → ℕ → TimeStep → ℕ → Pair → Type 0
+HasStorage m thick s at c x = is_variable m at.period c ≡ true → (period_at m at.period).steady ≡ false → IsCapped (storage_term m thick (period_at m at.period) at.step c) s x.lo x.hi
+
+-- the part of its period that has passed at a time
+pub record IsPartOf (m : FlowModel) (at : TimeStep) (part : Part) : Type 0 where
+  pub is : IsPart (period_at m at.period) at.step part.lo part.hi
+  pub range : (part.lo ≤ 10 ^ 18) × (part.hi ≤ 10 ^ 18)
+
+-- the bounds of a constant-head cell's head
+abbrev pub HasHead : FlowModel → TimeStep → ℕ → Bound → Type 0
+HasHead m at c x = is_constant m at.period c ≡ true → IsConstantPair m at c x.low x.high

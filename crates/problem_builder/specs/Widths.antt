@@ -1,0 +1,62 @@
+-- What the tables of thicknesses hold.
+use Rattle.std.specs.Prelude.{◌≡◌, ℕ, ◌+◌, ◌<◌, ◌⊎◌, true}
+use Rattle.model_types.specs.declared.model.FlowModel.{FlowModel}
+use Rattle.model_types.specs.declared.face.Axis.{Axis}
+use Rattle.model_types.specs.Faces.{stride, has_after}
+use Rattle.conductance_bounds.specs.declared.pair.Pair.{Pair}
+use Rattle.conductance_bounds.specs.declared.horizontal.Half.{Half}
+use Rattle.conductance_bounds.specs.declared.horizontal.ColHalf.{ColHalf}
+use Rattle.conductance_bounds.specs.declared.vertical.VertHalf.{VertHalf}
+use Rattle.conductance_bounds.specs.Pairs.{IsCapped}
+use Rattle.conductance_bounds.specs.Formulas.{face_term}
+use Rattle.model_types.specs.Cells.{cell_count, layer_size}
+use Rattle.model_types.specs.Layers.{is_active, top_at, bottom_at, lowest, bed_thickness, delr_at, delc_at, hk_at, hani_at, vka_at, vkcb_at, is_ratio}
+use Rattle.model_types.specs.Numbers.{IsPositive}
+use Rattle.conductance_bounds.specs.declared.span.Span.{Span}
+use Rattle.conductance_bounds.specs.Calls.{IsZero}
+use Rattle.conductance_bounds.specs.Thicknesses.{IsSpan, AreThick}
+
+-- the decimals of an active cell's thickness
+pub record IsThicknessOf (m : FlowModel) (c : ℕ) (t : Span) : Type 0 where
+  pub span : IsSpan (top_at m c) (bottom_at m c) t
+  pub thick : AreThick t.lo t.hi
+
+abbrev pub IsThickness : FlowModel → ℕ → Span → Type 0
+IsThickness m c t = is_active m c ≡ true → IsThicknessOf m c t
+
+-- the decimals of the bed below a cell
+pub record IsBedOf (m : FlowModel) (c : ℕ) (t : Span) : Type 0 where
+  pub some : 0 < (bed_thickness m c).num
+  pub span : IsSpan (bottom_at m c) (lowest m c) t
+  pub thick : AreThick t.lo t.hi
+  pub vkcb : IsPositive (vkcb_at m c)
+
+-- or zeros where there is none
+pub record IsNoBed (m : FlowModel) (c : ℕ) (t : Span) : Type 0 where
+  pub none : (bed_thickness m c).num ≡ 0
+  pub low : IsZero t.lo
+  pub high : IsZero t.hi
+
+-- between two active cells
+abbrev pub IsBedBelow : FlowModel → ℕ → Span → Type 0
+IsBedBelow m c t = c + layer_size m.grid < cell_count m.grid → is_active m c ≡ true → is_active m (c + layer_size m.grid) ≡ true → IsBedOf m c t ⊎ IsNoBed m c t
+
+-- the two cells of a face, by its first cell: both in the grid, and active
+pub record IsBranch (m : FlowModel) (axis : Axis) (a : ℕ) : Type 0 where
+  pub within : a + stride m.grid axis < cell_count m.grid
+  pub first : is_active m a ≡ true
+  pub second : is_active m (a + stride m.grid axis) ≡ true
+
+-- the bounds of the conductance to the next cell along an axis
+abbrev pub HasConductance : FlowModel → (ℕ → Span) → (ℕ → Span) → ℕ → Axis → ℕ → Pair → Type 0
+HasConductance m thick bed s axis a x = has_after m.grid axis a ≡ true → is_active m a ≡ true → is_active m (a + stride m.grid axis) ≡ true → IsCapped (face_term m thick bed axis a) s x.lo x.hi
+
+-- a cell's half of a branch along each axis
+abbrev pub row_half : FlowModel → (ℕ → Span) → ℕ → Half
+row_half m thick c = record { along = delr_at m c; hk = hk_at m c; thick_lo = (thick c).lo; thick_hi = (thick c).hi }
+
+abbrev pub column_half : FlowModel → (ℕ → Span) → ℕ → ColHalf
+column_half m thick c = record { along = delc_at m c; hk = hk_at m c; hani = hani_at m c; thick_lo = (thick c).lo; thick_hi = (thick c).hi }
+
+abbrev pub layer_half : FlowModel → (ℕ → Span) → ℕ → VertHalf
+layer_half m thick c = record { hk = hk_at m c; vka = vka_at m c; ratio = is_ratio m c; thick_lo = (thick c).lo; thick_hi = (thick c).hi }

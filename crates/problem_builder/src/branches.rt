@@ -1,0 +1,119 @@
+// The branches of a cell to its neighbours.
+ghost use Rattle.std.specs.Prelude.{◌≡◌, ◌<◌, All, IfOk};
+ghost use Rattle.std.specs.List.{AllZip, filter_map};
+ghost use Rattle.model_types.specs.Cells.{cell_count};
+ghost use Rattle.model_types.specs.Faces.{through};
+ghost use Rattle.model_types.specs.Kinds.{is_variable, is_constant, index_of};
+ghost use Rattle.model_types.specs.Sources.{variable_faces, constant_faces};
+ghost use Rattle.problem_builder.specs.Cells.{IsLink, IsConstant};
+ghost use Rattle.problem_builder.specs.Made.{IsVariableCell, HasPair};
+ghost use Rattle.problem_builder.specs.Tables.{AreInputs, BothOrNone, pair_at, widths_of};
+
+use crate::input::StepInput;
+use crate::known::known_head;
+use crate::pushing::push_some;
+use conductance_bounds::Pair;
+use model_types::{Axis, Face};
+use std::alloc::{AllocError, Global};
+use step_problem::{Fixed, FixedKind, Link};
+
+// The bounds of a face's conductance.
+fn pair_of(input: &StepInput, face: Face) -> Pair
+    requires input { AreInputs input.now }
+    requires first { face.first < cell_count input.now.model.grid }
+    ensures { result ≡ pair_at input.now.tables face.axis face.first }
+{
+    let place = face.first as usize;
+    match face.axis {
+        Axis::Row => input.tables.row.as_slice()[place],
+        Axis::Column => input.tables.column.as_slice()[place],
+        Axis::Vertical => input.tables.vertical.as_slice()[place],
+    }
+}
+
+// The branch through a face, where its end is variable.
+fn link_through(input: &StepInput, face: Option<Face>) -> Option<Link>
+    requires input { AreInputs input.now }
+    requires face { HasPair input.now face }
+    ensures { BothOrNone (IsLink input.now.model (widths_of input.now.tables) input.now.tables.digits input.now.at) result (through (is_variable input.now.model input.now.at.period) face) }
+{
+    match face {
+        Some(face) if input.is_variable(face.end) => {
+            let pair = pair_of(input, face);
+            Some(Link {
+                cell: input.index(face.end),
+                lo: pair.lo,
+                hi: pair.hi,
+            })
+        }
+        _ => None,
+    }
+}
+
+fn links_through(
+    alloc: Global,
+    input: &StepInput,
+    faces: &[Option<Face>],
+) -> Result<Vec<Link>, AllocError>
+    requires input { AreInputs input.now }
+    requires faces { All (HasPair input.now) faces.now }
+    ensures { IfOk result (λ v. AllZip (IsLink input.now.model (widths_of input.now.tables) input.now.tables.digits input.now.at) v.items (filter_map (through (is_variable input.now.model input.now.at.period)) faces.now)) }
+{
+    let mut links = Vec::new(alloc);
+    for face in faces {
+        push_some(&mut links, link_through(input, *face))?;
+    }
+    Ok(links)
+}
+
+/// The branches to variable neighbours.
+pub fn links(alloc: Global, input: &StepInput, cell: u32) -> Result<Vec<Link>, AllocError>
+    requires input { AreInputs input.now }
+    requires cell { IsVariableCell input.now cell }
+    ensures { IfOk result (λ v. AllZip (IsLink input.now.model (widths_of input.now.tables) input.now.tables.digits input.now.at) v.items (variable_faces input.now.model input.now.at.period cell)) }
+{
+    let faces = input.model.grid.faces(cell);
+    links_through(alloc, input, &faces)
+}
+
+// The branch through a face, where its end has a constant head.
+fn constant_through(input: &StepInput, face: Option<Face>) -> Option<Fixed>
+    requires input { AreInputs input.now }
+    requires face { HasPair input.now face }
+    ensures { BothOrNone (IsConstant input.now.model (widths_of input.now.tables) input.now.tables.digits input.now.at) result (through (is_constant input.now.model input.now.at.period) face) }
+{
+    match face {
+        Some(face) if input.is_constant(face.end) => {
+            let pair = pair_of(input, face);
+            let head = input.given_head(face.end);
+            Some(known_head(FixedKind::Constant, face.end, pair, head))
+        }
+        _ => None,
+    }
+}
+
+fn constants_through(
+    alloc: Global,
+    input: &StepInput,
+    faces: &[Option<Face>],
+) -> Result<Vec<Fixed>, AllocError>
+    requires input { AreInputs input.now }
+    requires faces { All (HasPair input.now) faces.now }
+    ensures { IfOk result (λ v. AllZip (IsConstant input.now.model (widths_of input.now.tables) input.now.tables.digits input.now.at) v.items (filter_map (through (is_constant input.now.model input.now.at.period)) faces.now)) }
+{
+    let mut fixed = Vec::new(alloc);
+    for face in faces {
+        push_some(&mut fixed, constant_through(input, *face))?;
+    }
+    Ok(fixed)
+}
+
+/// The branches to neighbours with constant heads.
+pub fn constants(alloc: Global, input: &StepInput, cell: u32) -> Result<Vec<Fixed>, AllocError>
+    requires input { AreInputs input.now }
+    requires cell { IsVariableCell input.now cell }
+    ensures { IfOk result (λ v. AllZip (IsConstant input.now.model (widths_of input.now.tables) input.now.tables.digits input.now.at) v.items (constant_faces input.now.model input.now.at.period cell)) }
+{
+    let faces = input.model.grid.faces(cell);
+    constants_through(alloc, input, &faces)
+}

@@ -1,0 +1,132 @@
+// The problem of a step, cell by cell.
+ghost use Rattle.std.specs.Prelude.{◌≡◌, ◌<◌, ◌≤◌, ℕ, true, false, All, Contains, IfOk, IfErr, length, map};
+ghost use Rattle.model_types.specs.Cells.{cell_count};
+ghost use Rattle.decimal_input.specs.Fractions.{Fraction};
+ghost use Rattle.cell_balance.specs.Enclosures.{EnclosesStep};
+ghost use Rattle.model_types.specs.Kinds.{is_variable, variable_cells};
+ghost use Rattle.model_types.specs.Times.{times, period_at};
+ghost use Rattle.model_types.specs.Valid.{IsModel};
+ghost use Rattle.flow_equations.specs.ExactStep.{exact_step};
+ghost use Rattle.problem_builder.specs.GridHeads.{AreGridHeads, HeadsEnclose, IsActive, IsNamed};
+ghost use Rattle.problem_builder.specs.Problems.{AreCells, IsProblemOf, IsBuildFault};
+ghost use Rattle.problem_builder.specs.Stored.{HasOldHeads};
+ghost use Rattle.problem_builder.specs.Made.{IsVariableCell, IsCheckedCell, IsCellFault, IsFirstFault};
+ghost use Rattle.problem_builder.specs.Tables.{AreInputs, AreTables, ArePeriodTables, widths_of};
+
+use crate::cell::cell;
+use crate::fault::{BuildFault, fault};
+use crate::input::StepInput;
+use crate::period::PeriodTables;
+use crate::step_tables::step_tables;
+use crate::tables::Tables;
+use model_types::{FlowModel, TimeStep};
+use std::alloc::Global;
+use step_problem::{Bound, Cell, NoBound, Place, Problem, Side};
+
+// A variable cell, or its first refusal.
+fn checked_cell(alloc: Global, input: &StepInput, number: u32) -> Result<Cell, BuildFault>
+    requires input { AreInputs input.now }
+    requires cell { IsVariableCell input.now number }
+    ensures cell { IfOk result (IsCheckedCell input.now number) }
+    ensures fault { IfErr result (IsCellFault input.now number) }
+{
+    let made = cell(alloc, input, number)?;
+    match fault(&made) {
+        None => Ok(made),
+        Some(code) => Err(BuildFault::NoBound(NoBound {
+            code,
+            place: Place::Cell(number, Side::Low),
+        })),
+    }
+}
+
+// All variable cells, or the first refusal.
+pub(crate) fn cells(alloc: Global, input: &StepInput) -> Result<Vec<Cell>, BuildFault>
+    requires { AreInputs input.now }
+    ensures cells { IfOk result (λ v. AreCells input.now.model (widths_of input.now.tables) input.now.tables.digits input.now.at input.now.old (cell_count input.now.model.grid) v.items) }
+    ensures fault { IfErr result (IsFirstFault input.now) }
+{
+    let mut cells = Vec::new(alloc);
+    let count = input.model.grid.cell_count();
+    for number in 0..count {
+        if input.is_variable(number) {
+            let made = checked_cell(alloc, input, number)?;
+            cells.push(made)?;
+        }
+    }
+    Ok(cells)
+}
+
+// The problem of these inputs.
+fn problem_of(alloc: Global, input: &StepInput) -> Result<Problem, BuildFault>
+    requires { AreInputs input.now }
+    ensures problem { IfOk result (λ p. IsProblemOf input.now.model input.now.tables.digits input.now.at input.now.old p) }
+    ensures refusal { IfErr result (IsBuildFault input.now.model input.now.tables.digits input.now.at input.now.old) }
+    ensures cells { IfOk result (λ p. map (λ e. e.id) p ≡ variable_cells input.now.model input.now.at.period) }
+    ensures named { IfOk result (λ p. (c : ℕ) → IsNamed p c → IsActive input.now.model c) }
+    ensures encloses { IfOk result (λ p. (before : ℕ → Fraction) → HeadsEnclose input.now.model input.now.old before → EnclosesStep input.now.tables.digits p (exact_step input.now.model input.now.at.period input.now.at.step before)) }
+    ensures stored { IfOk result (λ p. (period_at input.now.model input.now.at.period).steady ≡ false → HasOldHeads p) }
+{
+    let cells = cells(alloc, input)?;
+    Ok(Problem::new(cells))
+}
+
+/// The problem of a time step from the heads before it, one bound for each cell of the grid, or its first refusal.
+/// The tables are those of the run and of the time's stress period.
+pub fn build_with(
+    alloc: Global,
+    model: &FlowModel,
+    tables: &Tables,
+    period: &PeriodTables,
+    at: TimeStep,
+    old: &[Bound],
+) -> Result<Problem, BuildFault>
+    requires model { IsModel model.now }
+    requires time { Contains (times model.now) at }
+    requires old { AreGridHeads model.now old.now }
+    requires digits { tables.now.digits ≤ 18 }
+    requires tables { AreTables model.now tables.now.digits tables.now }
+    requires period { ArePeriodTables model.now tables.now.digits at.period period.now }
+    ensures problem { IfOk result (λ p. IsProblemOf model.now tables.now.digits at old.now p) }
+    ensures refusal { IfErr result (IsBuildFault model.now tables.now.digits at old.now) }
+    ensures cells { IfOk result (λ p. map (λ e. e.id) p ≡ variable_cells model.now at.period) }
+    ensures named { IfOk result (λ p. (c : ℕ) → IsNamed p c → IsActive model.now c) }
+    ensures encloses { IfOk result (λ p. (before : ℕ → Fraction) → HeadsEnclose model.now old.now before → EnclosesStep tables.now.digits p (exact_step model.now at.period at.step before)) }
+    ensures stored { IfOk result (λ p. (period_at model.now at.period).steady ≡ false → HasOldHeads p) }
+{
+    let step = step_tables(alloc, model, tables, period, at)?;
+    let input = StepInput {
+        model,
+        tables,
+        period,
+        step: &step,
+        at,
+        old,
+    };
+    problem_of(alloc, &input)
+}
+
+/// The problem of a time step with s digits from the heads before it, one bound for each cell of the grid, or its
+/// first refusal. It makes all tables anew: `build_with` keeps them for a run.
+pub fn build(
+    alloc: Global,
+    model: &FlowModel,
+    at: TimeStep,
+    old: &[Bound],
+    s: u32,
+) -> Result<Problem, BuildFault>
+    requires model { IsModel model.now }
+    requires time { Contains (times model.now) at }
+    requires old { AreGridHeads model.now old.now }
+    requires digits { s ≤ 18 }
+    ensures problem { IfOk result (λ p. IsProblemOf model.now s at old.now p) }
+    ensures refusal { IfErr result (IsBuildFault model.now s at old.now) }
+    ensures cells { IfOk result (λ p. map (λ e. e.id) p ≡ variable_cells model.now at.period) }
+    ensures named { IfOk result (λ p. (c : ℕ) → IsNamed p c → IsActive model.now c) }
+    ensures encloses { IfOk result (λ p. (before : ℕ → Fraction) → HeadsEnclose model.now old.now before → EnclosesStep s p (exact_step model.now at.period at.step before)) }
+    ensures stored { IfOk result (λ p. (period_at model.now at.period).steady ≡ false → HasOldHeads p) }
+{
+    let tables = Tables::new(alloc, model, s)?;
+    let period = PeriodTables::at(alloc, model, at.period, s)?;
+    build_with(alloc, model, &tables, &period, at, old)
+}

@@ -1,0 +1,17 @@
+// Bounds of conductances as they stand in a table.
+ghost use Rattle.std.specs.Prelude.{ℕ};
+ghost use Rattle.conductance_bounds.specs.Terms.{Term};
+ghost use Rattle.conductance_bounds.specs.Pairs.{IsWholePair, IsCapped};
+
+use crate::rounded::PAST;
+use conductance_bounds::Pair;
+
+/// The pair, or what stands for one that reaches 2^60 units.
+pub fn capped(pair: Option<Pair>) -> Pair
+    ensures { (t : Term) (s : ℕ) → IsWholePair t s pair → IsCapped t s result.lo result.hi }
+{
+    match pair {
+        Some(pair) => pair,
+        None => PAST,
+    }
+}

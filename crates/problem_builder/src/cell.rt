@@ -1,0 +1,99 @@
+// A cell of a step's problem.
+ghost use Rattle.std.specs.Prelude.{◌≡◌, ◌<◌, ◌≤◌, All, IfOk};
+ghost use Rattle.std.specs.List.{AllZip};
+ghost use Rattle.model_types.specs.Sources.{storage_at, fixed_sources, flow_sources, evap_sources};
+ghost use Rattle.model_types.specs.Receivers.{recharge_at, evap_at};
+ghost use Rattle.problem_builder.specs.Cells.{IsFixed, IsFlow, IsReceived, IsEvap, IsCellOf};
+ghost use Rattle.problem_builder.specs.Made.{IsVariableCell};
+ghost use Rattle.problem_builder.specs.Tables.{AreInputs, BothOrNone, widths_of};
+
+use crate::branches::{constants, links};
+use crate::entries::{drains, generals, rivers, wells};
+use crate::input::StepInput;
+use crate::known::{constant_flow, known_head};
+use crate::pushing::push_some;
+use std::alloc::{AllocError, Global};
+use step_problem::{Cell, Evap, Fixed, FixedKind, Flow, FlowKind};
+
+// The branch to the cell's old head, in a transient period.
+fn stored(input: &StepInput, cell: u32) -> Option<Fixed>
+    requires input { AreInputs input.now }
+    requires cell { IsVariableCell input.now cell }
+    ensures { BothOrNone (IsFixed input.now.model (widths_of input.now.tables) input.now.tables.digits input.now.at input.now.old cell) result (storage_at input.now.model input.now.at.period) }
+{
+    if input.is_steady() {
+        return None;
+    }
+    let pair = input.storage(cell);
+    let head = input.old_head(cell);
+    Some(known_head(FixedKind::Storage, cell, pair, head))
+}
+
+fn fixed(alloc: Global, input: &StepInput, cell: u32) -> Result<Vec<Fixed>, AllocError>
+    requires input { AreInputs input.now }
+    requires cell { IsVariableCell input.now cell }
+    ensures { IfOk result (λ v. AllZip (IsFixed input.now.model (widths_of input.now.tables) input.now.tables.digits input.now.at input.now.old cell) v.items (fixed_sources input.now.model input.now.at.period cell)) }
+{
+    let mut fixed = Vec::new(alloc);
+    push_some(&mut fixed, stored(input, cell))?;
+    let constants = constants(alloc, input, cell)?;
+    let entries = input.entries(cell);
+    let generals = generals(alloc, entries, cell, input.digits())?;
+    fixed.extend_from_slice(&constants)?;
+    fixed.extend_from_slice(&generals)?;
+    Ok(fixed)
+}
+
+// The recharge that the cell receives.
+fn received(input: &StepInput, cell: u32) -> Option<Flow>
+    requires input { AreInputs input.now }
+    requires cell { IsVariableCell input.now cell }
+    ensures { BothOrNone (IsReceived input.now.model input.now.tables.digits cell) result (recharge_at input.now.model input.now.at.period cell) }
+{
+    match input.recharge(cell) {
+        Some(pair) => Some(constant_flow(FlowKind::Recharge, pair)),
+        None => None,
+    }
+}
+
+fn flows(alloc: Global, input: &StepInput, cell: u32) -> Result<Vec<Flow>, AllocError>
+    requires input { AreInputs input.now }
+    requires cell { IsVariableCell input.now cell }
+    ensures { IfOk result (λ v. AllZip (IsFlow input.now.model input.now.tables.digits cell) v.items (flow_sources input.now.model input.now.at.period cell)) }
+{
+    let mut flows = Vec::new(alloc);
+    push_some(&mut flows, received(input, cell))?;
+    let entries = input.entries(cell);
+    let wells = wells(alloc, entries, input.digits())?;
+    flows.extend_from_slice(&wells)?;
+    Ok(flows)
+}
+
+fn evaps(alloc: Global, input: &StepInput, cell: u32) -> Result<Vec<Evap>, AllocError>
+    requires input { AreInputs input.now }
+    requires cell { IsVariableCell input.now cell }
+    ensures { IfOk result (λ v. AllZip (IsEvap input.now.model input.now.tables.digits cell) v.items (evap_sources input.now.model input.now.at.period cell)) }
+{
+    let mut evaps = Vec::new(alloc);
+    push_some(&mut evaps, input.evap(cell))?;
+    Ok(evaps)
+}
+
+/// The cell of a variable cell's number.
+pub fn cell(alloc: Global, input: &StepInput, number: u32) -> Result<Cell, AllocError>
+    requires input { AreInputs input.now }
+    requires cell { IsVariableCell input.now number }
+    ensures { IfOk result (λ e. IsCellOf input.now.model (widths_of input.now.tables) input.now.tables.digits input.now.at input.now.old e number) }
+{
+    let entries = input.entries(number);
+    let s = input.digits();
+    Ok(Cell {
+        id: number,
+        flows: flows(alloc, input, number)?,
+        links: links(alloc, input, number)?,
+        fixed: fixed(alloc, input, number)?,
+        rivers: rivers(alloc, entries, s)?,
+        drains: drains(alloc, entries, s)?,
+        evaps: evaps(alloc, input, number)?,
+    })
+}

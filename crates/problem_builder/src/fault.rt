@@ -1,0 +1,75 @@
+// Why a step has no problem, and the refusals of a cell.
+ghost use Rattle.std.specs.Prelude.{◌≡◌, ◌==◌, ◌&&◌, All};
+ghost use Rattle.std.specs.List.{list_any};
+ghost use Rattle.step_problem.specs.Conditions.{RiverFits, EvapFits};
+ghost use Rattle.problem_builder.specs.Refusals.{fault_of, is_branch};
+ghost use Rattle.problem_builder.specs.declared.fault.BuildFault.TheVariants.{Memory};
+
+use std::alloc::{AllocError, AllocFailed};
+use step_problem::{Cell, Fixed, FixedKind, Link, NoBound, conductances_fit, flows_fit};
+
+/// Why a step has no problem: the refusal of the least cell that has one, by its number (21 ConductanceTooSmall,
+/// 22 ConductanceTooLarge, 23 FlowTooLarge), or want of memory.
+#[derive(Clone, Copy, Debug, PartialEq, Eq)]
+pub enum BuildFault {
+    NoBound(NoBound),
+    Memory,
+}
+
+impl From<AllocError> for BuildFault {
+    ghost from_gives = { λ _ e. e ≡ Memory };
+
+    fn from(_e: AllocError) -> BuildFault {
+        BuildFault::Memory
+    }
+}
+
+impl<T: Drop> From<AllocFailed<T>> for BuildFault {
+    ghost from_gives = { λ _ e. e ≡ Memory };
+
+    fn from(_e: AllocFailed<T>) -> BuildFault {
+        BuildFault::Memory
+    }
+}
+
+fn has_small_link(links: &[Link]) -> bool
+    ensures { result ≡ list_any (λ x. x.lo == 0) links.now }
+{
+    links.iter().any(|x| x.lo == 0)
+}
+
+fn has_small_constant(fixed: &[Fixed]) -> bool
+    ensures { result ≡ list_any (λ x. is_branch x.kind && (x.lo == 0)) fixed.now }
+{
+    fixed.iter().any(is_small_constant)
+}
+
+fn is_small_constant(x: &Fixed) -> bool
+    ensures { result ≡ (is_branch x.now.kind && (x.now.lo == 0)) }
+{
+    match x.kind {
+        FixedKind::Constant => x.lo == 0,
+        FixedKind::General => false,
+        FixedKind::Storage => false,
+    }
+}
+
+/// The number of the first refusal of a cell, if it has one.
+#[tactic(auto, unfolding(crate::specs::Refusals::fault_of))]
+pub fn fault(cell: &Cell) -> Option<u8>
+    requires rivers { All RiverFits cell.now.rivers }
+    requires evaps { All EvapFits cell.now.evaps }
+    ensures { result ≡ fault_of cell.now }
+{
+    if has_small_link(&cell.links) {
+        Some(21)
+    } else if has_small_constant(&cell.fixed) {
+        Some(21)
+    } else if !conductances_fit(cell) {
+        Some(22)
+    } else if !flows_fit(cell) {
+        Some(23)
+    } else {
+        None
+    }
+}

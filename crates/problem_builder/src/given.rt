@@ -1,0 +1,79 @@
+// Heads that CHD lists give, and heads that cells keep.
+ghost use Rattle.std.specs.Prelude.{◌≡◌, ◌<◌, All, None, IfOk, IfSome, take};
+ghost use Rattle.step_problem.specs.Heads.{no_bound};
+ghost use Rattle.model_types.specs.Cells.{cell_count};
+ghost use Rattle.model_types.specs.Layers.{dec_at};
+ghost use Rattle.model_types.specs.Numbers.{IsHeadNumber};
+ghost use Rattle.model_types.specs.Kinds.{given_in, given_heads, last_given};
+ghost use Rattle.model_types.specs.Valid.{IsModel};
+ghost use Rattle.problem_builder.specs.ConstantHeads.{IsKeptPair};
+ghost use Rattle.problem_builder.specs.Filled.{Filled};
+ghost use Rattle.problem_builder.specs.PeriodTables.{IsNamed, IsKept};
+
+use crate::rounded::{NO_BOUND, head_pair};
+use model_types::layers::dec_at;
+use model_types::{FlowModel, Given, GivenHeads, Listed};
+use std::alloc::{AllocError, Global};
+use step_problem::Bound;
+
+/// For each cell the last entry of a list that names it.
+pub fn named(alloc: Global, list: &[Given], count: u32) -> Result<Listed<Option<Given>>, AllocError>
+    requires { All (λ x. x.cell.0 < count) list.now }
+    ensures { IfOk result (λ t. Filled (IsNamed list.now) None count t) }
+{
+    let none = vec![in alloc; None; count as usize]?;
+    let mut table = Listed::new(none);
+    for x in list {
+        table.set(x.cell.0 as usize, Some(*x));
+    }
+    Ok(table)
+}
+
+// The last entry that names a cell.
+fn last_at(model: &FlowModel, given: &GivenHeads, cell: u32) -> Option<Given>
+    requires given { given.now ≡ given_heads model.now given.now.period }
+    requires cell { cell < cell_count model.now.grid }
+    ensures { result ≡ last_given (take given.now.period model.now.periods) cell }
+{
+    let _model = model;
+    given.last.as_slice()[cell as usize]
+}
+
+// What an active cell keeps whose last entry this is.
+fn kept_of(model: &FlowModel, last: Option<Given>, cell: u32) -> Bound
+    requires strt { IsHeadNumber (dec_at model.now.strt cell) }
+    requires last { IfSome last (λ x. IsHeadNumber x.ehead) }
+    ensures { IsKeptPair model.now cell last result.low result.high }
+{
+    match last {
+        Some(x) => head_pair(x.ehead),
+        None => head_pair(dec_at(model.strt.as_slice(), cell)),
+    }
+}
+
+fn kept_at(model: &FlowModel, given: &GivenHeads, cell: u32) -> Bound
+    requires model { IsModel model.now }
+    requires given { given.now ≡ given_heads model.now given.now.period }
+    requires cell { cell < cell_count model.now.grid }
+    ensures { IsKept model.now given.now.period cell result }
+{
+    if !model.is_active(cell) {
+        return NO_BOUND;
+    }
+    let last = last_at(model, given, cell);
+    kept_of(model, last, cell)
+}
+
+/// What each active cell keeps after the period of `given`, if it is a constant-head cell.
+pub fn kept(alloc: Global, model: &FlowModel, given: &GivenHeads) -> Result<Vec<Bound>, AllocError>
+    requires model { IsModel model.now }
+    requires given { given.now ≡ given_heads model.now given.now.period }
+    ensures { IfOk result (λ v. Filled (IsKept model.now given.now.period) no_bound (cell_count model.now.grid) v.items) }
+{
+    let mut bounds = Vec::new(alloc);
+    let count = model.grid.cell_count();
+    for cell in 0..count {
+        bounds.push(kept_at(model, given, cell))?;
+    }
+    Ok(bounds)
+}

@@ -1,0 +1,98 @@
+// The heads of constant-head cells at a time.
+ghost use Rattle.std.specs.Prelude.{◌≡◌, ℕ, ◌<◌, ◌≤◌, ◌^◌, true, IfOk, IfSome};
+ghost use Rattle.step_problem.specs.Heads.{no_bound};
+ghost use Rattle.conductance_bounds.specs.Parts.{IsGivenPair};
+ghost use Rattle.model_types.specs.Cells.{cell_count};
+ghost use Rattle.model_types.specs.Kinds.{is_constant};
+ghost use Rattle.model_types.specs.Numbers.{IsHeadNumber};
+ghost use Rattle.model_types.specs.Valid.{IsModel};
+ghost use Rattle.problem_builder.specs.ConstantHeads.{IsConstantPair};
+ghost use Rattle.problem_builder.specs.Filled.{Filled};
+ghost use Rattle.problem_builder.specs.Moments.{IsTimeOf};
+ghost use Rattle.problem_builder.specs.StepTables.{IsPartOf, HasHead};
+ghost use Rattle.problem_builder.specs.Tables.{ArePeriodTables};
+
+use crate::period::PeriodTables;
+use crate::periods::stress_period;
+use crate::rounded::NO_BOUND;
+use conductance_bounds::{Part, given_head, time_part};
+use decimal_input::dec::Dec;
+use model_types::{FlowModel, Kind, TimeStep};
+use std::alloc::{AllocError, Global};
+use step_problem::Bound;
+
+// The part of its period that has passed at a time.
+fn part_of(model: &FlowModel, at: TimeStep) -> Part
+    requires model { IsModel model.now }
+    requires time { IsTimeOf model.now at }
+    ensures { IsPartOf model.now at result }
+{
+    time_part(stress_period(model, at.period), at.step)
+}
+
+// The bounds of a head between two heads.
+fn between(shead: Dec, ehead: Dec, part: Part) -> Bound
+    requires start { IsHeadNumber shead }
+    requires end { IsHeadNumber ehead }
+    requires part { (part.lo ≤ 10 ^ 18) × (part.hi ≤ 10 ^ 18) }
+    ensures { IsGivenPair shead ehead part.lo part.hi result.low result.high }
+{
+    let pair = given_head(shead, ehead, part);
+    Bound {
+        low: pair.lo,
+        high: pair.hi,
+    }
+}
+
+// The bounds of the head of a constant-head cell, where `part` of the period has passed.
+fn head_at(model: &FlowModel, period: &PeriodTables, at: TimeStep, part: Part, cell: u32) -> Bound
+    requires model { IsModel model.now }
+    requires time { IsTimeOf model.now at }
+    requires period { (s : ℕ) × ArePeriodTables model.now s at.period period.now }
+    requires part { IsPartOf model.now at part }
+    requires cell { cell < cell_count model.now.grid }
+    requires constant { is_constant model.now at.period cell ≡ true }
+    ensures { IsConstantPair model.now at cell result.low result.high }
+{
+    let _model = model;
+    match period.given_at(cell) {
+        Some(x) => between(x.shead, x.ehead, part),
+        None => period.kept_at(cell),
+    }
+}
+
+fn head_of(model: &FlowModel, period: &PeriodTables, at: TimeStep, part: Part, cell: u32) -> Bound
+    requires model { IsModel model.now }
+    requires time { IsTimeOf model.now at }
+    requires period { (s : ℕ) × ArePeriodTables model.now s at.period period.now }
+    requires part { IsPartOf model.now at part }
+    requires cell { cell < cell_count model.now.grid }
+    ensures { HasHead model.now at cell result }
+{
+    match period.kind_at(cell) {
+        Kind::Constant => head_at(model, period, at, part, cell),
+        Kind::Variable => NO_BOUND,
+        Kind::NoFlow => NO_BOUND,
+    }
+}
+
+/// By cell the bounds of its head, if it is a constant-head cell.
+pub fn heads(
+    alloc: Global,
+    model: &FlowModel,
+    period: &PeriodTables,
+    at: TimeStep,
+) -> Result<Vec<Bound>, AllocError>
+    requires model { IsModel model.now }
+    requires time { IsTimeOf model.now at }
+    requires period { (s : ℕ) × ArePeriodTables model.now s at.period period.now }
+    ensures { IfOk result (λ v. Filled (HasHead model.now at) no_bound (cell_count model.now.grid) v.items) }
+{
+    let part = part_of(model, at);
+    let mut bounds = Vec::new(alloc);
+    let count = model.grid.cell_count();
+    for cell in 0..count {
+        bounds.push(head_of(model, period, at, part, cell))?;
+    }
+    Ok(bounds)
+}

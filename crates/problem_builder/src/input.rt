@@ -1,0 +1,159 @@
+// All that a step's cells are made from.
+ghost use Rattle.std.specs.Prelude.{◌≡◌, ◌<◌, ◌≤◌, All};
+ghost use Rattle.model_types.specs.Cells.{cell_count};
+ghost use Rattle.model_types.specs.Kinds.{kind_of, is_variable, is_constant, index_of};
+ghost use Rattle.model_types.specs.Sources.{local_entries};
+ghost use Rattle.model_types.specs.Times.{period_at};
+ghost use Rattle.model_types.specs.Valid.{IsEntryValid};
+ghost use Rattle.problem_builder.specs.Tables.{AreInputs, pair_in, bound_in, item_in};
+
+use crate::period::PeriodTables;
+use crate::step::StepTables;
+use crate::tables::Tables;
+use conductance_bounds::{FlowPair, Pair};
+use model_types::{Entry, FlowModel, Kind, TimeStep};
+use std::marker::Model;
+use step_problem::{Bound, Evap};
+
+/// A model, the tables of its run, of a period and of a step, the step's time, and the heads before it.
+#[derive(Drop)]
+pub struct StepInput<'a> {
+    pub model: &'a FlowModel,
+    pub tables: &'a Tables,
+    pub period: &'a PeriodTables,
+    pub step: &'a StepTables,
+    pub at: TimeStep,
+    pub old: &'a [Bound],
+}
+
+impl<'a> Model for StepInput<'a> {
+    ghost use Rattle.problem_builder.specs.Tables.{Inputs};
+
+    ghost Value = { Inputs };
+
+    ghost view = { λ i. record {
+      model = i.model.now;
+      tables = i.tables.now;
+      period = i.period.now;
+      step = i.step.now;
+      at = i.at;
+      old = i.old.now;
+    } };
+}
+
+impl<'a> StepInput<'a> {
+    /// The number of digits.
+    pub fn digits(&self) -> u32
+        requires { AreInputs self.now }
+        ensures digits { result ≡ self.now.tables.digits }
+        ensures few { result ≤ 18 }
+    {
+        self.tables.digits
+    }
+
+    /// Whether the period is steady.
+    pub fn is_steady(&self) -> bool
+        requires { AreInputs self.now }
+        ensures { result ≡ (period_at self.now.model self.now.at.period).steady }
+    {
+        self.period.steady
+    }
+
+    /// The bounds of a cell's storage.
+    pub fn storage(&self, cell: u32) -> Pair
+        requires input { AreInputs self.now }
+        requires cell { cell < cell_count self.now.model.grid }
+        ensures { result ≡ pair_in self.now.step.storage cell }
+    {
+        self.step.storage.as_slice()[cell as usize]
+    }
+
+    /// The bounds of the head of a constant-head cell.
+    pub fn given_head(&self, cell: u32) -> Bound
+        requires input { AreInputs self.now }
+        requires cell { cell < cell_count self.now.model.grid }
+        ensures { result ≡ bound_in self.now.step.heads cell }
+    {
+        self.step.heads.as_slice()[cell as usize]
+    }
+
+    /// The bounds of a cell's head before the step.
+    pub fn old_head(&self, cell: u32) -> Bound
+        requires input { AreInputs self.now }
+        requires cell { cell < cell_count self.now.model.grid }
+        ensures { result ≡ bound_in self.now.old cell }
+    {
+        self.old[cell as usize]
+    }
+
+    /// The bounds of the recharge that a cell receives.
+    pub fn recharge(&self, cell: u32) -> Option<FlowPair>
+        requires input { AreInputs self.now }
+        requires cell { cell < cell_count self.now.model.grid }
+        ensures { result ≡ item_in self.now.period.recharge cell }
+    {
+        self.period.recharge.as_slice()[cell as usize]
+    }
+
+    /// A cell's evapotranspiration.
+    pub fn evap(&self, cell: u32) -> Option<Evap>
+        requires input { AreInputs self.now }
+        requires cell { cell < cell_count self.now.model.grid }
+        ensures { result ≡ item_in self.now.period.evaps cell }
+    {
+        self.period.evaps.as_slice()[cell as usize]
+    }
+
+    /// A cell's entries of WEL, RIV, DRN and GHB.
+    pub fn entries(&self, cell: u32) -> &[Entry]
+        requires input { AreInputs self.now }
+        requires cell { cell < cell_count self.now.model.grid }
+        ensures entries { result.now ≡ local_entries self.now.model self.now.at.period cell }
+        ensures valid { All (IsEntryValid 65536) result.now }
+    {
+        self.period.local.at(cell)
+    }
+
+    fn kind(&self, cell: u32) -> Kind
+        requires input { AreInputs self.now }
+        requires cell { cell < cell_count self.now.model.grid }
+        ensures { result ≡ kind_of self.now.model self.now.at.period cell }
+    {
+        self.period.kinds.as_slice()[cell as usize]
+    }
+
+    /// Whether the cell's head is variable in the period.
+    pub fn is_variable(&self, cell: u32) -> bool
+        requires input { AreInputs self.now }
+        requires cell { cell < cell_count self.now.model.grid }
+        ensures { result ≡ is_variable self.now.model self.now.at.period cell }
+    {
+        match self.kind(cell) {
+            Kind::Variable => true,
+            Kind::Constant => false,
+            Kind::NoFlow => false,
+        }
+    }
+
+    /// Whether the cell's head is constant in the period.
+    pub fn is_constant(&self, cell: u32) -> bool
+        requires input { AreInputs self.now }
+        requires cell { cell < cell_count self.now.model.grid }
+        ensures { result ≡ is_constant self.now.model self.now.at.period cell }
+    {
+        match self.kind(cell) {
+            Kind::Variable => false,
+            Kind::Constant => true,
+            Kind::NoFlow => false,
+        }
+    }
+
+    /// The index of a variable cell.
+    pub fn index(&self, cell: u32) -> u32
+        requires input { AreInputs self.now }
+        requires cell { cell < cell_count self.now.model.grid }
+        ensures { result ≡ index_of self.now.model self.now.at.period cell }
+    {
+        self.period.index.as_slice()[cell as usize]
+    }
+}

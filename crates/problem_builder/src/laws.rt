@@ -1,0 +1,49 @@
+// What is one, and what a problem keeps.
+ghost use Rattle.problem_builder.specs.Laws.{ProblemIsOne, ProblemExcludesRefusal, RefusalIsOne, ProblemFits, SitesAreOne, StartHeadsAreOne, ConstantPairIsOne, ConstantPairFits, StartHeadsFit};
+ghost use Rattle.problem_builder.specs.Example.{ExampleIsBuildable};
+
+/// A model, a time and the heads before it have at most one problem.
+pub fn one_problem()
+    ensures { ProblemIsOne }
+{}
+
+/// With a problem there is no refusal.
+pub fn no_problem_beside_a_refusal()
+    ensures { ProblemExcludesRefusal }
+{}
+
+/// There is at most one first refusal.
+pub fn one_refusal()
+    ensures { RefusalIsOne }
+{}
+
+/// A problem that the definition gives meets the conditions on problems.
+pub fn problems_fit()
+    ensures { ProblemFits }
+{}
+
+/// A time has one list of sites.
+pub fn one_list_of_sites()
+    ensures { SitesAreOne }
+{}
+
+/// A model has one list of bounds of STRT.
+pub fn one_list_of_start_heads()
+    ensures { StartHeadsAreOne }
+{}
+
+/// A constant-head cell has one pair at a time, of heads in range.
+pub fn constant_pairs()
+    ensures one { ConstantPairIsOne }
+    ensures fit { ConstantPairFits }
+{}
+
+/// The bounds of STRT are heads in range.
+pub fn start_heads_fit()
+    ensures { StartHeadsFit }
+{}
+
+/// The builder's calls speak of something: a model of two cells meets all that they ask.
+pub fn buildable_example()
+    ensures { ExampleIsBuildable }
+{}

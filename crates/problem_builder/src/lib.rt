@@ -1,0 +1,40 @@
+//! The problem of a time step: the whole numbers that enclose the exact equations of a model's step.
+#![tactic(auto)]
+
+pub mod branches;
+pub mod builder;
+pub mod capped;
+pub mod cell;
+pub mod chosen;
+pub mod depth;
+pub mod entries;
+pub mod evaporation;
+pub mod example;
+pub mod faces;
+pub mod fault;
+pub mod given;
+pub mod heads;
+pub mod index;
+pub mod input;
+pub mod known;
+pub mod laws;
+pub mod local;
+pub mod period;
+pub mod periods;
+pub mod pushing;
+pub mod recharge;
+pub mod rounded;
+pub mod site;
+pub mod start;
+pub mod step;
+pub mod step_tables;
+pub mod storages;
+pub mod tables;
+pub mod widths;
+
+pub use builder::{build, build_with};
+pub use fault::BuildFault;
+pub use period::PeriodTables;
+pub use site::{Site, sites, sites_with};
+pub use start::start_heads;
+pub use tables::Tables;

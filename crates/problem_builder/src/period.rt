@@ -1,0 +1,114 @@
+// What a stress period's problems have in common.
+ghost use Rattle.std.specs.Prelude.{◌≡◌, ◌+◌, ◌<◌, ◌≤◌, IfOk, length, None, slice_index_or};
+ghost use Rattle.model_types.specs.declared.kind.Kind.TheVariants.{NoFlow};
+ghost use Rattle.model_types.specs.Kinds.{given_heads};
+ghost use Rattle.model_types.specs.Valid.{IsModel};
+ghost use Rattle.problem_builder.specs.Tables.{ArePeriodTables, bound_in, item_in};
+
+use crate::chosen::covered;
+use crate::evaporation::evaps;
+use crate::given::{kept, named};
+use crate::index::indices;
+use crate::local::Local;
+use crate::periods::{given_after, given_before, stress_period};
+use crate::recharge::recharges;
+use conductance_bounds::FlowPair;
+use model_types::{FlowModel, Given, GivenHeads, Kind, Listed};
+use std::alloc::{AllocError, Global};
+use step_problem::{Bound, Evap};
+
+/// What depends on the stress period alone, by cell: its kind, its index if it is variable, what the period's CHD
+/// list gives, what a constant-head cell keeps, its entries, the recharge that it receives, in units of 10^-(s+9),
+/// and its evapotranspiration.
+#[derive(Debug, Drop)]
+pub struct PeriodTables {
+    pub period: u32,
+    pub steady: bool,
+    pub kinds: Listed<Kind>,
+    pub index: Listed<u32>,
+    pub given: Listed<Option<Given>>,
+    pub kept: Listed<Bound>,
+    pub local: Local,
+    pub recharge: Listed<Option<FlowPair>>,
+    pub evaps: Listed<Option<Evap>>,
+}
+
+impl PeriodTables {
+    /// The tables of the stress period that follows on `given`, with s digits.
+    pub fn new(
+        alloc: Global,
+        model: &FlowModel,
+        given: &GivenHeads,
+        s: u32,
+    ) -> Result<PeriodTables, AllocError>
+        requires model { IsModel model.now }
+        requires given { given.now ≡ given_heads model.now given.now.period }
+        requires period { given.now.period < length model.now.periods }
+        requires digits { s ≤ 18 }
+        ensures { IfOk result (ArePeriodTables model.now s (given.now.period + 1)) }
+    {
+        let next = given_after(alloc, model, given)?;
+        let number = next.period;
+        let kinds = next.kinds(alloc, model)?;
+        let index = indices(alloc, model, &next)?;
+        let kept = kept(alloc, model, given)?;
+        let covered = covered(alloc, model)?;
+        let recharge = recharges(alloc, model, covered.as_slice(), number, s)?;
+        let evaps = evaps(alloc, model, covered.as_slice(), number, s)?;
+        let period = stress_period(model, number);
+        let count = model.grid.cell_count();
+        let given = named(alloc, period.given.as_slice(), count)?;
+        let local = Local::of_period(alloc, period, count)?;
+        Ok(PeriodTables {
+            period: number,
+            steady: period.steady,
+            kinds: Listed::new(kinds),
+            index: Listed::new(index),
+            given,
+            kept: Listed::new(kept),
+            local,
+            recharge: Listed::new(recharge),
+            evaps: Listed::new(evaps),
+        })
+    }
+
+    /// The tables of a stress period, counted from 1, with s digits. It walks the CHD lists up to the period.
+    pub fn at(
+        alloc: Global,
+        model: &FlowModel,
+        period: u32,
+        s: u32,
+    ) -> Result<PeriodTables, AllocError>
+        requires model { IsModel model.now }
+        requires period { (1 ≤ period) × (period ≤ length model.now.periods) }
+        requires digits { s ≤ 18 }
+        ensures { IfOk result (ArePeriodTables model.now s period) }
+    {
+        let given = given_before(alloc, model, period)?;
+        PeriodTables::new(alloc, model, &given, s)
+    }
+
+    /// What a cell is.
+    pub fn kind_at(&self, cell: u32) -> Kind
+        requires { cell < length self.now.kinds }
+        ensures { result ≡ slice_index_or self.now.kinds cell NoFlow }
+    {
+        self.kinds.as_slice()[cell as usize]
+    }
+
+    /// The entry of the period's CHD list that names a cell.
+    pub fn given_at(&self, cell: u32) -> Option<Given>
+        requires { cell < length self.now.given }
+        ensures { result ≡ item_in self.now.given cell }
+    {
+        self.given.as_slice()[cell as usize]
+    }
+
+    /// What a constant-head cell keeps.
+    pub fn kept_at(&self, cell: u32) -> Bound
+        requires { cell < length self.now.kept }
+        ensures { result ≡ bound_in self.now.kept cell }
+    {
+        self.kept.as_slice()[cell as usize]
+    }
+}

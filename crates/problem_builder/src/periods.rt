@@ -1,0 +1,53 @@
+// Stress periods by their numbers, and the heads that CHD lists have given up to them.
+ghost use Rattle.std.specs.Prelude.{◌≡◌, ◌+◌, ◌<◌, ◌≤◌, IfOk, length};
+ghost use Rattle.model_types.specs.Kinds.{given_heads};
+ghost use Rattle.model_types.specs.Times.{period_at};
+ghost use Rattle.model_types.specs.Valid.{IsModel};
+
+use model_types::{FlowModel, GivenHeads, Listed, Period};
+use std::alloc::{AllocError, Global};
+
+/// The stress period of a number, counted from 1.
+pub fn stress_period(model: &FlowModel, number: u32) -> &Period
+    requires number { (1 ≤ number) × (number ≤ length model.now.periods) }
+    ensures { result.now ≡ period_at model.now number }
+{
+    &model.periods.as_slice()[number as usize - 1]
+}
+
+/// The heads that are given before a stress period.
+pub fn given_before(alloc: Global, model: &FlowModel, number: u32) -> Result<GivenHeads, AllocError>
+    requires model { IsModel model.now }
+    requires number { (1 ≤ number) × (number ≤ length model.now.periods) }
+    ensures period { IfOk result (λ g. g.period + 1 ≡ number) }
+    ensures given { IfOk result (λ g. g ≡ given_heads model.now g.period) }
+{
+    let mut given = GivenHeads::new(alloc, model)?;
+    for _period in 1..number {
+        given.advance(model);
+    }
+    Ok(given)
+}
+
+/// The heads that are given after the stress period that follows on `given`.
+pub fn given_after(alloc: Global, model: &FlowModel, given: &GivenHeads) -> Result<GivenHeads, AllocError>
+    requires model { IsModel model.now }
+    requires given { given.now ≡ given_heads model.now given.now.period }
+    requires period { given.now.period < length model.now.periods }
+    ensures period { IfOk result (λ g. g.period ≡ given.now.period + 1) }
+    ensures given { IfOk result (λ g. g ≡ given_heads model.now g.period) }
+{
+    let mut next = again(alloc, given)?;
+    next.advance(model);
+    Ok(next)
+}
+
+fn again(alloc: Global, given: &GivenHeads) -> Result<GivenHeads, AllocError>
+    ensures { IfOk result (λ g. g ≡ given.now) }
+{
+    let last = Vec::from_slice(alloc, given.last.as_slice())?;
+    Ok(GivenHeads {
+        period: given.period,
+        last: Listed::new(last),
+    })
+}

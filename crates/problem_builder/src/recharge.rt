@@ -1,0 +1,86 @@
+// Recharge, by cell.
+ghost use Rattle.std.specs.Prelude.{◌≡◌, ◌<◌, ◌≤◌, false, IfOk, IfSome, None, length};
+ghost use Rattle.decimal_input.specs.Canonical.{IsDec};
+ghost use Rattle.model_types.specs.Cells.{cell_count};
+ghost use Rattle.model_types.specs.Receivers.{is_highest, recharge_at};
+ghost use Rattle.model_types.specs.Valid.{IsModel};
+ghost use Rattle.problem_builder.specs.Filled.{Filled};
+ghost use Rattle.problem_builder.specs.PeriodTables.{IsCovered, IsRecharged};
+ghost use Rattle.problem_builder.specs.RechargeBounds.{IsRechargePair};
+
+use crate::chosen::{is_chosen, is_uncovered};
+use crate::periods::stress_period;
+use crate::rounded::PAST_FLOW;
+use conductance_bounds::{FlowPair, recharge_flow};
+use decimal_input::dec::Dec;
+use model_types::FlowModel;
+use model_types::layers::dec_at;
+use std::alloc::{AllocError, Global};
+
+// The bounds of recharge at a rate, or what stands for one that reaches 2^126 units.
+fn recharge_pair(model: &FlowModel, rate: Dec, cell: u32, s: u32) -> FlowPair
+    requires model { IsModel model.now }
+    requires rate { IsDec rate }
+    requires digits { s ≤ 18 }
+    ensures { IsRechargePair model.now s cell rate result.lo result.hi }
+{
+    match recharge_flow(rate, model.delr_at(cell), model.delc_at(cell), s) {
+        Some(pair) => pair,
+        None => PAST_FLOW,
+    }
+}
+
+// The rate of recharge that a cell receives in the period of this number.
+fn rate_of(model: &FlowModel, number: u32, highest: bool, cell: u32) -> Option<Dec>
+    requires model { IsModel model.now }
+    requires number { (1 ≤ number) × (number ≤ length model.now.periods) }
+    requires cell { cell < cell_count model.now.grid }
+    requires highest { highest ≡ is_highest model.now cell }
+    ensures is { result ≡ recharge_at model.now number cell }
+    ensures decimal { IfSome result IsDec }
+{
+    let period = stress_period(model, number);
+    if is_chosen(model, model.nrchop, period.irch.as_slice(), highest, cell) {
+        Some(dec_at(period.recharge.as_slice(), cell % model.grid.layer_size()))
+    } else {
+        None
+    }
+}
+
+fn recharge_of(model: &FlowModel, number: u32, highest: bool, cell: u32, s: u32) -> Option<FlowPair>
+    requires model { IsModel model.now }
+    requires number { (1 ≤ number) × (number ≤ length model.now.periods) }
+    requires cell { cell < cell_count model.now.grid }
+    requires highest { highest ≡ is_highest model.now cell }
+    requires digits { s ≤ 18 }
+    ensures { IsRecharged model.now s number cell result }
+{
+    match rate_of(model, number, highest, cell) {
+        Some(rate) => Some(recharge_pair(model, rate, cell, s)),
+        None => None,
+    }
+}
+
+/// By cell the recharge that it receives in the period of this number, where `covered` says whether a cell above is
+/// active.
+pub fn recharges(
+    alloc: Global,
+    model: &FlowModel,
+    covered: &[bool],
+    number: u32,
+    s: u32,
+) -> Result<Vec<Option<FlowPair>>, AllocError>
+    requires model { IsModel model.now }
+    requires number { (1 ≤ number) × (number ≤ length model.now.periods) }
+    requires covered { Filled (IsCovered model.now) false (cell_count model.now.grid) covered.now }
+    requires digits { s ≤ 18 }
+    ensures { IfOk result (λ v. Filled (IsRecharged model.now s number) None (cell_count model.now.grid) v.items) }
+{
+    let mut pairs = Vec::new(alloc);
+    let count = model.grid.cell_count();
+    for cell in 0..count {
+        let highest = is_uncovered(model, covered, cell);
+        pairs.push(recharge_of(model, number, highest, cell, s))?;
+    }
+    Ok(pairs)
+}

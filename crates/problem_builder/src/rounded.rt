@@ -1,0 +1,93 @@
+// Numbers of the input as whole bounds.
+ghost use Rattle.std.specs.Prelude.{◌≡◌, ◌<◌, ◌≤◌, ◌^◌};
+ghost use Rattle.decimal_input.specs.Canonical.{IsDec, number};
+ghost use Rattle.decimal_input.specs.Wholes.{IsSignedFloor, IsSignedCeiling};
+ghost use Rattle.step_problem.specs.Conditions.{IsHead};
+ghost use Rattle.model_types.specs.Numbers.{IsNotNegative, IsHeadNumber};
+ghost use Rattle.problem_builder.specs.InputBounds.{IsCond, IsWellPair, IsHeadPair};
+
+use conductance_bounds::{FlowPair, Pair};
+use decimal_input::dec::Dec;
+use decimal_input::units::{ceil_at, floor_at};
+use decimal_input::whole::{whole_dn, whole_up};
+use step_problem::Bound;
+
+const LARGEST: u128 = 1 << 60;
+
+/// What stands for a conductance whose upper bound reaches 2^60 units.
+pub const PAST: Pair = Pair {
+    lo: 1,
+    hi: 1 << 60,
+};
+
+/// What stands for a flow of which a bound reaches 2^126 units.
+pub const PAST_FLOW: FlowPair = FlowPair {
+    lo: 1 << 109,
+    hi: 1 << 109,
+};
+
+/// The bounds of a conductance of an entry.
+pub fn cond_pair(cond: Dec, s: u32) -> Pair
+    requires cond { IsNotNegative cond }
+    ensures { IsCond s cond result.lo result.hi }
+{
+    match (
+        whole_dn(cond.digits, cond.exp, s),
+        whole_up(cond.digits, cond.exp, s),
+    ) {
+        (Some(lo), Some(hi)) if hi < LARGEST => Pair {
+            lo: lo as u64,
+            hi: hi as u64,
+        },
+        _ => PAST,
+    }
+}
+
+/// The bounds of a well's flow.
+pub fn well_pair(q: Dec, s: u32) -> FlowPair
+    requires q { IsDec q }
+    requires places { s ≤ 18 }
+    ensures { IsWellPair s q result.lo result.hi }
+{
+    match (floor_at(q, s + 9), ceil_at(q, s + 9)) {
+        (Some(lo), Some(hi)) => FlowPair { lo, hi },
+        _ => PAST_FLOW,
+    }
+}
+
+fn head_floor(head: Dec) -> i64
+    requires head { IsHeadNumber head }
+    ensures floor { IsSignedFloor result (number head) 9 }
+    ensures range { IsHead result }
+{
+    match floor_at(head, 9) {
+        Some(low) => low as i64,
+        None => unreachable!(),
+    }
+}
+
+fn head_ceiling(head: Dec) -> i64
+    requires head { IsHeadNumber head }
+    ensures ceiling { IsSignedCeiling result (number head) 9 }
+    ensures range { IsHead result }
+{
+    match ceil_at(head, 9) {
+        Some(high) => high as i64,
+        None => unreachable!(),
+    }
+}
+
+/// The bounds of a head of the input.
+pub fn head_pair(head: Dec) -> Bound
+    requires head { IsHeadNumber head }
+    ensures is { IsHeadPair head result.low result.high }
+    ensures range { IsHead result.low × IsHead result.high }
+{
+    Bound {
+        low: head_floor(head),
+        high: head_ceiling(head),
+    }
+}
+
+/// What stands for the head of a cell that has none.
+pub const NO_BOUND: Bound = Bound { low: 0, high: 0 };
