@@ -1,0 +1,4 @@
+pub mod Moves
+pub mod Lines
+pub mod UnderWay
+pub mod Unique

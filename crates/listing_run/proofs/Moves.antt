@@ -1,0 +1,63 @@
+-- A step of a listing, by the clauses of the calls that gave its parts.
+use Rattle.std.proofs.Common.{◌≡◌, ℕ, length, List, [], ℤ, None, Ok, Err, Result, subst, sym, refl}
+use Rattle.step_problem.specs.declared.heads.Bound.{Bound}
+use Rattle.step_problem.specs.declared.place.NoBound.{NoBound}
+use Rattle.step_problem.specs.declared.place.ZoneFlow.{ZoneFlow}
+use Rattle.step_problem.specs.Heads.{RoundsSettleBoth, lower_at, upper_at}
+use Rattle.budget_bounds.specs.declared.pair.Budget.{Budget}
+use Rattle.budget_bounds.specs.Exact.{EnclosesBudgets, HeadsAreWithin}
+use Rattle.budget_bounds.specs.Terms.{budget_of}
+use Rattle.model_types.specs.declared.time_steps.TimeStep.{TimeStep}
+use Rattle.flow_equations.specs.ExactStep.{exact_step}
+use Rattle.flow_equations.specs.Histories.{heads_of, variable_heads}
+use Rattle.step_chain.specs.declared.solved.Solved.{Solved}
+use Rattle.step_chain.specs.declared.solved.StepFault.{StepFault}
+use Rattle.step_chain.specs.declared.solved.StepFault.TheVariants as chain
+use Rattle.step_chain.specs.Faults.{FailsBy as StepFailsBy}
+use Rattle.step_chain.specs.Steps.{IsSettledStep}
+use Rattle.step_chain.specs.Enclosing.{EnclosesMoves}
+use Rattle.listing_run.specs.declared.task.Task.{Task}
+use Rattle.listing_run.specs.Steps.{IsStep, HasNoBound, no_heads, no_budget, budget_at}
+use Rattle.listing_run.specs.Bounding.{BoundsMoves}
+use Rattle.listing_run.specs.Ends.{FailsBy, of_step}
+
+-- the budget by bounds that a slice lent
+budget_by : (x : Solved) (lent : List Bound) (r : Result Budget NoBound) → lent ≡ x.bounds → r ≡ budget_of x.problem (lower_at lent) (upper_at lent) → budget_at x ≡ r
+budget_by x lent r same is =
+    let P : List Bound → Type 0 = λ v. r ≡ budget_of x.problem (lower_at v) (upper_at v) in
+    sym (subst P same is)
+
+module _ (k : Task) (s : ℕ) (at : TimeStep) (old : List Bound) (digits : s ≡ k.digits) where
+  step_fails_by : (rounds : ℕ) (f : StepFault) → rounds ≡ k.rounds → StepFailsBy k.model k.digits at old rounds f → FailsBy k at old (of_step f)
+  step_fails_by rounds (chain.NoBound n) same h = no_heads h
+  step_fails_by rounds (chain.Unfinished o) same h =
+      let P : ℕ → Type 0 = λ r. RoundsSettleBoth h.problem h.barrier r → ⊥ in
+      record { problem = h.problem; barrier = h.barrier; posed = h.posed; open_rounds = subst P same h.unfinished.cause }
+  step_fails_by rounds chain.Memory same h = tt
+
+  pub step_fails : (rounds : ℕ) (f : StepFault) → rounds ≡ k.rounds → StepFailsBy k.model s at old rounds f → FailsBy k at old (of_step f)
+  step_fails rounds f same h = let P : ℕ → Type 0 = λ n. StepFailsBy k.model n at old rounds f in step_fails_by rounds f same (subst P digits h)
+
+  module _ (x : Solved) (settled : IsSettledStep k.model s at old x) (lent : List Bound) (same : lent ≡ x.bounds) where
+    by_digits : IsSettledStep k.model k.digits at old x
+    by_digits = let P : ℕ → Type 0 = λ n. IsSettledStep k.model n at old x in subst P digits settled
+
+    pub budget_refused : (n : NoBound) → Err n ≡ budget_of x.problem (lower_at lent) (upper_at lent) → HasNoBound k at old n
+    budget_refused n is = no_budget x by_digits (budget_by x lent (Err n) same is)
+
+    pub step_is : (b : Budget) (flows : List ZoneFlow) → k.zones ≡ None → flows ≡ [] → Ok b ≡ budget_of x.problem (lower_at lent) (upper_at lent) → IsStep k at old (record { at = at; heads = x.heads; budget = b; zones = flows })
+    step_is b flows none empty is = record { solved = x; settled = by_digits; time = refl; heads = refl; budget = budget_by x lent (Ok b) same is; zones = (none, empty) }
+
+  pub bounds_moves : HeadsAreWithin → (x : Solved) (lent : List Bound) (b : Budget) (flows : List ZoneFlow) → lent ≡ x.bounds → EnclosesMoves k.model s at old x → EnclosesBudgets x.problem (lower_at lent) (upper_at lent) b →
+      BoundsMoves k at old (record { at = at; heads = x.heads; budget = b; zones = flows })
+  bounds_moves within x lent b flows same encloses budget before d X move =
+      let M : ℕ → Type 0 = λ n. EnclosesMoves k.model n at old x in
+      let B : List Bound → Type 0 = λ v. EnclosesBudgets x.problem (lower_at v) (upper_at v) b in
+      let by_digits : EnclosesMoves k.model k.digits at old x = subst M digits encloses in
+      let terms : EnclosesBudgets x.problem (lower_at x.bounds) (upper_at x.bounds) b = subst B same budget in
+      let e = by_digits before d X move in
+      let Y : ℕ → ℤ = variable_heads (exact_step k.model at.period at.step before) X in
+      record {
+        heads = e.heads;
+        budget = terms k.digits (exact_step k.model at.period at.step before) (heads_of d Y) e.step (within (length x.problem) d Y (lower_at x.bounds) (upper_at x.bounds) move.some e.variables);
+      }

@@ -1,0 +1,180 @@
+-- A model has one listing, and one that is whole has no other end.
+use Rattle.std.proofs.Common.{◌≡◌, suc, List, [], ◌∷◌, sym, ap, ◌∙◌, refl, arith, Ok, Err, Result, Contains, subst}
+use Rattle.step_problem.specs.declared.heads.Bound.{Bound}
+use Rattle.step_problem.specs.declared.place.NoBound.{NoBound}
+use Rattle.budget_bounds.specs.declared.pair.Budget.{Budget}
+use Rattle.model_types.specs.declared.time_steps.TimeStep.{TimeStep}
+use Rattle.model_types.specs.Times.{times}
+use Rattle.model_types.specs.Valid.{IsModel}
+use Rattle.problem_builder.specs.GridHeads.{AreGridHeads}
+use Rattle.problem_builder.specs.Laws.{StartHeadsAreOne, StartHeadsFit}
+use Rattle.step_chain.specs.declared.solved.Solved.{Solved}
+use Rattle.step_chain.specs.Laws.{IsBefore, StepIsOne, StepExcludesRefusal, RefusalIsOne as StepRefusalIsOne, HeadsFit}
+use Rattle.step_problem.specs.declared.place.ZoneFlow.{ZoneFlow}
+use Rattle.listing_run.specs.declared.task.Task.{Task}
+use Rattle.listing_run.specs.declared.step.Step.{Step}
+use Rattle.listing_run.specs.Steps.{IsStep, budget_at, HasNoBound, no_heads, no_budget, Steps, Whole, WithoutBound, Open, AllSettle}
+use Rattle.listing_run.specs.Laws.{ListingIsOne, ListingExcludesRefusal, SettledListingIsClosed, RefusalIsOne}
+
+abbrev the_ok : {X E : Type 0} → X → Result X E → X
+the_ok x (Ok y) = y
+the_ok x (Err e) = x
+
+abbrev the_err : {X E : Type 0} → E → Result X E → E
+the_err e (Ok y) = e
+the_err e (Err f) = f
+
+abbrev as_ok : Budget → Result Budget NoBound
+as_ok x = Ok x
+
+abbrev as_err : NoBound → Result Budget NoBound
+as_err x = Err x
+
+one_ok : (a b : Budget) → as_ok a ≡ as_ok b → a ≡ b
+one_ok a b e = ap (the_ok a) e
+
+one_err : (a b : NoBound) → as_err a ≡ as_err b → a ≡ b
+one_err a b e = ap (the_err a) e
+
+ok_not_err : (a : Budget) (e : NoBound) → as_ok a ≡ as_err e → ⊥
+ok_not_err a e h = cc
+
+-- the laws of a step, and of STRT
+pub record Laws : Type 0 where
+  pub start_one : StartHeadsAreOne
+  pub start_fits : StartHeadsFit
+  pub step_one : StepIsOne
+  pub excludes : StepExcludesRefusal
+  pub refusal_one : StepRefusalIsOne
+  pub fits : HeadsFit
+
+pub laws_of : StartHeadsAreOne → StartHeadsFit → StepIsOne → StepExcludesRefusal → StepRefusalIsOne → HeadsFit → Laws
+laws_of a b c d e f = record { start_one = a; start_fits = b; step_one = c; excludes = d; refusal_one = e; fits = f }
+
+-- the first of the times at hand is one of the model's, and so are those behind it
+record IsRest (all rest : List TimeStep) : Type 0 where
+  each : (at : TimeStep) → Contains rest at → Contains all at
+
+rest_whole : (all : List TimeStep) → IsRest all all
+rest_whole all = record { each = λ at h. h }
+
+first_in : (at : TimeStep) (rest : List TimeStep) → Contains (at ∷ rest) at
+first_in at rest = (0, omega arith, refl)
+
+rest_more : (all : List TimeStep) (at : TimeStep) (rest : List TimeStep) → IsRest all (at ∷ rest) → IsRest all rest
+rest_more all at rest h = record { each = λ t (k, lt, is). h.each t (suc k, omega (arith, lt), is) }
+
+module _ (laws : Laws) (k : Task) (model : IsModel k.model) where
+  module _ (at : TimeStep) (old : List Bound) (time : Contains (times k.model) at) (heads : AreGridHeads k.model old) where
+    before : IsBefore k.model at old
+    before = record { model = model; time = time; heads = heads }
+
+    solved_one : (v w : Step) (x : IsStep k at old v) (y : IsStep k at old w) → x.solved ≡ y.solved
+    solved_one v w x y = laws.step_one k.model k.digits at old x.solved y.solved before x.settled y.settled
+
+    -- a time has one step
+    one_step : (v w : Step) → IsStep k at old v → IsStep k at old w → v ≡ w
+    one_step v w x y =
+        let same = solved_one v w x y in
+        let B : Solved → Type 0 = λ s. budget_at s ≡ Ok w.budget in
+        let budgets : v.budget ≡ w.budget = one_ok v.budget w.budget (sym x.budget ∙ subst B (sym same) y.budget) in
+        let all_heads : v.heads ≡ w.heads = x.heads ∙ ap (λ (s : Solved). s.heads) same ∙ sym y.heads in
+        let times_same : v.at ≡ w.at = x.time ∙ sym y.time in
+        let zones : v.zones ≡ w.zones = x.zones.1 ∙ sym y.zones.1 in
+        let by_time : TimeStep → Step = λ t. record { at = t; heads = v.heads; budget = v.budget; zones = v.zones } in
+        let by_heads : List Bound → Step = λ hs. record { at = w.at; heads = hs; budget = v.budget; zones = v.zones } in
+        let by_budget : Budget → Step = λ b. record { at = w.at; heads = w.heads; budget = b; zones = v.zones } in
+        let by_zones : List ZoneFlow → Step = λ z. record { at = w.at; heads = w.heads; budget = w.budget; zones = z } in
+        ap by_time times_same ∙ ap by_heads all_heads ∙ ap by_budget budgets ∙ ap by_zones zones
+
+    -- its heads are heads of all cells
+    step_fits : (v : Step) → IsStep k at old v → AreGridHeads k.model v.heads
+    step_fits v x = subst (AreGridHeads k.model) (sym x.heads) (laws.fits k.model k.digits at old x.solved before x.settled)
+
+    -- a step with a value has no refusal
+    has_bound : (v : Step) (n : NoBound) → IsStep k at old v → HasNoBound k at old n → ⊥
+    has_bound v n x (no_heads none) = laws.excludes k.model k.digits at old x.solved n before x.settled none
+    has_bound v n x (no_budget solved settled refused) =
+        let B : Solved → Type 0 = λ s. budget_at s ≡ Err n in
+        ok_not_err v.budget n (sym x.budget ∙ subst B (laws.step_one k.model k.digits at old solved x.solved before settled x.settled) refused)
+
+    -- and a step has one refusal
+    one_refusal : (a b : NoBound) → HasNoBound k at old a → HasNoBound k at old b → a ≡ b
+    one_refusal a b (no_heads x) (no_heads y) = laws.refusal_one k.model k.digits at old a b before x y
+    one_refusal a b (no_heads x) (no_budget solved settled refused) = absurd (laws.excludes k.model k.digits at old solved a before settled x)
+    one_refusal a b (no_budget solved settled refused) (no_heads y) = absurd (laws.excludes k.model k.digits at old solved b before settled y)
+    one_refusal a b (no_budget x settled refused) (no_budget y also other) =
+        let B : Solved → Type 0 = λ s. budget_at s ≡ Err b in
+        one_err a b (sym refused ∙ subst B (sym (laws.step_one k.model k.digits at old x y before settled also)) other)
+
+  -- the heads of one more step
+  next_heads : (old : List Bound) (at : TimeStep) (rest : List TimeStep) (v : Step) → IsRest (times k.model) (at ∷ rest) → AreGridHeads k.model old → IsStep k at old v → AreGridHeads k.model v.heads
+  next_heads old at rest v r heads x = step_fits at old (r.each at (first_in at rest)) heads v x
+
+  same_step : (old : List Bound) (at : TimeStep) (rest : List TimeStep) (v w : Step) → IsRest (times k.model) (at ∷ rest) → AreGridHeads k.model old → IsStep k at old v → IsStep k at old w → v ≡ w
+  same_step old at rest v w r heads x y = one_step at old (r.each at (first_in at rest)) heads v w x y
+
+  listing_one : (old : List Bound) (rest : List TimeStep) (values others : List Step) → IsRest (times k.model) rest → AreGridHeads k.model old → Steps k old rest values Whole → Steps k old rest others Whole → others ≡ values
+  listing_one old [] [] [] r heads h w = refl
+  listing_one old [] (v ∷ values) others r heads h w = absurd h
+  listing_one old [] [] (o ∷ others) r heads h w = absurd w
+  listing_one old (at ∷ rest) [] others r heads h w = absurd h
+  listing_one old (at ∷ rest) (v ∷ values) [] r heads h w = absurd w
+  listing_one old (at ∷ rest) (v ∷ values) (o ∷ others) r heads (is, h) (other, w) =
+      let e = same_step old at rest v o r heads is other in
+      let P : Step → Type 0 = λ v. Steps k v.heads rest values Whole in
+      ap (λ vs. o ∷ vs) (listing_one o.heads rest values others (rest_more (times k.model) at rest r) (next_heads old at rest o r heads other) (subst P e h) w) ∙ ap (λ x. x ∷ values) (sym e)
+
+  always_bound : (t : TimeStep) (n : NoBound) (old : List Bound) (rest : List TimeStep) (values others : List Step) → IsRest (times k.model) rest → AreGridHeads k.model old → Steps k old rest values Whole → Steps k old rest others (WithoutBound t n) → ⊥
+  always_bound t n old [] values [] r heads h w = w
+  always_bound t n old [] values (o ∷ others) r heads h w = w
+  always_bound t n old (at ∷ rest) [] others r heads h w = h
+  always_bound t n old (at ∷ rest) (v ∷ values) [] r heads (is, h) (same, bare) = has_bound at old (r.each at (first_in at rest)) heads v n is bare
+  always_bound t n old (at ∷ rest) (v ∷ values) (o ∷ others) r heads (is, h) (other, w) =
+      let P : Step → Type 0 = λ v. Steps k v.heads rest values Whole in
+      always_bound t n o.heads rest values others (rest_more (times k.model) at rest r) (next_heads old at rest o r heads other) (subst P (same_step old at rest v o r heads is other) h) w
+
+  always_settled : (t : TimeStep) (old : List Bound) (rest : List TimeStep) (values others : List Step) → IsRest (times k.model) rest → AreGridHeads k.model old → Steps k old rest values Whole → AllSettle k old rest values → Steps k old rest others (Open t) → ⊥
+  always_settled t old [] values [] r heads h s w = w
+  always_settled t old [] values (o ∷ others) r heads h s w = w
+  always_settled t old (at ∷ rest) [] others r heads h s w = h
+  always_settled t old (at ∷ rest) (v ∷ values) [] r heads (is, h) (now, s) (same, bare) = bare.open_rounds (now bare.problem bare.barrier bare.posed)
+  always_settled t old (at ∷ rest) (v ∷ values) (o ∷ others) r heads (is, h) (now, s) (other, w) =
+      let e = same_step old at rest v o r heads is other in
+      let P : Step → Type 0 = λ v. Steps k v.heads rest values Whole in
+      let Q : Step → Type 0 = λ v. AllSettle k v.heads rest values in
+      always_settled t o.heads rest values others (rest_more (times k.model) at rest r) (next_heads old at rest o r heads other) (subst P e h) (subst Q e s) w
+
+  refusal_at_one : (s t : TimeStep) (a b : NoBound) (old : List Bound) (rest : List TimeStep) (values others : List Step) → IsRest (times k.model) rest → AreGridHeads k.model old → Steps k old rest values (WithoutBound s a) → Steps k old rest others (WithoutBound t b) → (s ≡ t) × (a ≡ b) × (values ≡ others)
+  refusal_at_one s t a b old [] [] others r heads h w = absurd h
+  refusal_at_one s t a b old [] (v ∷ values) others r heads h w = absurd h
+  refusal_at_one s t a b old (at ∷ rest) [] [] r heads (same, bare) (also, other) = (same ∙ sym also, one_refusal at old (r.each at (first_in at rest)) heads a b bare other, refl)
+  refusal_at_one s t a b old (at ∷ rest) [] (o ∷ others) r heads (same, bare) (is, w) = absurd (has_bound at old (r.each at (first_in at rest)) heads o a is bare)
+  refusal_at_one s t a b old (at ∷ rest) (v ∷ values) [] r heads (is, h) (same, bare) = absurd (has_bound at old (r.each at (first_in at rest)) heads v b is bare)
+  refusal_at_one s t a b old (at ∷ rest) (v ∷ values) (o ∷ others) r heads (is, h) (other, w) =
+      let e = same_step old at rest v o r heads is other in
+      let P : Step → Type 0 = λ v. Steps k v.heads rest values (WithoutBound s a) in
+      let more = refusal_at_one s t a b o.heads rest values others (rest_more (times k.model) at rest r) (next_heads old at rest o r heads other) (subst P e h) w in
+      (more.0, more.1, ap (λ x. x ∷ values) e ∙ ap (λ vs. o ∷ vs) more.2)
+
+-- from STRT on
+module _ (laws : Laws) where
+  pub one_listing : ListingIsOne
+  one_listing k values others model h w =
+      let P : List Bound → Type 0 = λ start. Steps k start (times k.model) others Whole in
+      listing_one laws k model h.start (times k.model) values others (rest_whole (times k.model)) (laws.start_fits k.model h.start model h.is_start) h.steps (subst P (laws.start_one k.model w.start h.start model w.is_start h.is_start) w.steps)
+
+  pub excludes_refusal : ListingExcludesRefusal
+  excludes_refusal k values others at n model h w =
+      let P : List Bound → Type 0 = λ start. Steps k start (times k.model) others (WithoutBound at n) in
+      always_bound laws k model at n h.start (times k.model) values others (rest_whole (times k.model)) (laws.start_fits k.model h.start model h.is_start) h.steps (subst P (laws.start_one k.model w.start h.start model w.is_start h.is_start) w.steps)
+
+  pub closed_listing : SettledListingIsClosed
+  closed_listing k values others at model h settled w =
+      let P : List Bound → Type 0 = λ start. Steps k start (times k.model) others (Open at) in
+      always_settled laws k model at h.start (times k.model) values others (rest_whole (times k.model)) (laws.start_fits k.model h.start model h.is_start) h.steps settled (subst P (laws.start_one k.model w.start h.start model w.is_start h.is_start) w.steps)
+
+  pub refusals_one : RefusalIsOne
+  refusals_one k values others s t a b model h w =
+      let P : List Bound → Type 0 = λ start. Steps k start (times k.model) others (WithoutBound t b) in
+      refusal_at_one laws k model s t a b h.start (times k.model) values others (rest_whole (times k.model)) (laws.start_fits k.model h.start model h.is_start) h.steps (subst P (laws.start_one k.model w.start h.start model w.is_start h.is_start) w.steps)

@@ -1,0 +1,60 @@
+-- What the calls of a run over the steps hand to each other.
+use Rattle.std.specs.Prelude.{◌≡◌, List, ◌≤◌, None}
+use Rattle.outside.specs.Puts.{Put}
+use Rattle.step_problem.specs.declared.heads.Bound.{Bound}
+use Rattle.model_types.specs.declared.time_steps.TimeStep.{TimeStep}
+use Rattle.model_types.specs.Valid.{IsModel}
+use Rattle.problem_builder.specs.GridHeads.{AreGridHeads}
+use Rattle.step_chain.specs.declared.kept.RunTables.{RunTables}
+use Rattle.step_chain.specs.declared.solved.StepFault.{StepFault}
+use Rattle.step_chain.specs.declared.solved.StepFault.TheVariants as chain
+use Rattle.step_chain.specs.Keeps.{AreRunTables, digits_of}
+use Rattle.listing_io.specs.LastLines.{no_bound_line, unfinished_line}
+use Rattle.run_puts.specs.Lines.{Text}
+use Rattle.run_puts.specs.Ends.{IsEnd, IsWanting}
+use Rattle.run_puts.specs.declared.status.Status.{Status}
+use Rattle.run_puts.specs.declared.status.Status.TheVariants as status
+use Rattle.listing_run.specs.declared.task.Task.{Task}
+use Rattle.listing_run.specs.declared.step.Step.{Step}
+use Rattle.listing_run.specs.declared.step.Fault.{Fault}
+use Rattle.listing_run.specs.declared.step.Fault.TheVariants as fault
+use Rattle.listing_run.specs.Steps.{IsStep, HasNoBound, IsOpen}
+use Rattle.listing_run.specs.Bounding.{BoundsMoves}
+use Rattle.listing_run.specs.Listing.{text_of}
+
+-- what a run asks of a task: a valid model, at most 18 digits, and no zone file
+pub record IsTask (k : Task) : Type 0 where
+  pub model : IsModel k.model
+  pub digits : k.digits ≤ 18
+  pub zones : k.zones ≡ None
+
+-- the tables of a task
+pub record AreTablesOf (k : Task) (t : RunTables) : Type 0 where
+  pub digits : digits_of t ≡ k.digits
+  pub tables : AreRunTables k.model t
+
+-- the cause of a step's fault; want of memory is free
+abbrev pub FailsBy : Task → TimeStep → List Bound → Fault → Type 0
+FailsBy k at old (fault.NoBound n) = HasNoBound k at old n
+FailsBy k at old fault.Unfinished = IsOpen k at old
+FailsBy k at old fault.Memory = Unit {0}
+
+abbrev pub of_step : StepFault → Fault
+of_step (chain.NoBound n) = fault.NoBound n
+of_step (chain.Unfinished o) = fault.Unfinished
+of_step chain.Memory = fault.Memory
+
+-- a step's heads and its text
+pub record IsWritten (k : Task) (at : TimeStep) (old heads : List Bound) (text : Text) : Type 0 where
+  pub value : Step
+  pub is : IsStep k at old value
+  pub same : heads ≡ value.heads
+  pub written : text ≡ text_of k value
+  pub grid : AreGridHeads k.model heads
+  pub encloses : BoundsMoves k at old value
+
+-- the puts of an end at a step with this fault
+abbrev pub IsStepEnd : Task → TimeStep → Fault → Status → List Put → Type 0
+IsStepEnd k at (fault.NoBound n) end tail = IsEnd (no_bound_line k.model.grid at n) (status.NoBound at.period at.step n) end tail
+IsStepEnd k at fault.Unfinished end tail = IsEnd (unfinished_line at) (status.Unfinished at.period at.step) end tail
+IsStepEnd k at fault.Memory end tail = IsWanting end tail

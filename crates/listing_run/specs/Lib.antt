@@ -1,0 +1,5 @@
+pub mod Steps
+pub mod Bounding
+pub mod Listing
+pub mod Ends
+pub mod Laws

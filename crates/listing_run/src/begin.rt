@@ -1,0 +1,44 @@
+// What a run over the steps begins with.
+ghost use Rattle.std.specs.Prelude.{◌≡◌, IfOk};
+ghost use Rattle.model_types.specs.Heads.{start_head};
+ghost use Rattle.model_types.specs.Times.{times};
+ghost use Rattle.problem_builder.specs.GridHeads.{AreGridHeads, HeadsEnclose};
+ghost use Rattle.problem_builder.specs.StartHeads.{AreStartHeads};
+ghost use Rattle.listing_io.specs.Listing.{first_text};
+ghost use Rattle.listing_run.specs.Ends.{IsTask, AreTablesOf};
+
+use crate::task::Task;
+use listing_io::write_first;
+use model_types::{TimeStep, times};
+use problem_builder::start_heads;
+use std::alloc::{AllocError, Global};
+use step_chain::RunTables;
+use step_problem::Bound;
+
+/// The tables of a model, its times, the bounds of STRT, and the first line of its listing.
+#[derive(Debug, Drop)]
+pub(crate) struct Begun {
+    pub tables: RunTables,
+    pub times: Vec<TimeStep>,
+    pub old: Vec<Bound>,
+    pub pending: Vec<u8>,
+}
+
+/// What a run over the steps of a task begins with.
+pub(crate) fn begin(alloc: Global, task: &Task) -> Result<Begun, AllocError>
+    requires { IsTask task.now }
+    ensures tables { IfOk result (λ b. AreTablesOf task.now b.tables) }
+    ensures times { IfOk result (λ b. b.times.items ≡ times task.now.model) }
+    ensures start { IfOk result (λ b. AreStartHeads task.now.model b.old.items) }
+    ensures heads { IfOk result (λ b. AreGridHeads task.now.model b.old.items) }
+    ensures encloses { IfOk result (λ b. HeadsEnclose task.now.model b.old.items (start_head task.now.model)) }
+    ensures pending { IfOk result (λ b. b.pending.items ≡ first_text task.now.model task.now.digits) }
+{
+    let model = &task.model;
+    Ok(Begun {
+        tables: RunTables::new(alloc, model, task.digits)?,
+        times: times(alloc, model)?,
+        old: start_heads(alloc, model)?,
+        pending: write_first(alloc, model, task.digits)?,
+    })
+}

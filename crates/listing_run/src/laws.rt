@@ -1,0 +1,20 @@
+// Laws of listings, from those of the steps.
+ghost use Rattle.listing_run.specs.Laws.{ListingIsOne, ListingExcludesRefusal, SettledListingIsClosed, RefusalIsOne};
+
+use problem_builder::laws::{one_list_of_start_heads, start_heads_fit};
+use step_chain::laws::{heads_fit, no_step_beside_a_refusal, one_refusal, one_step};
+
+/// A model has at most one listing, and one that is whole has no other end, but for rounds that don't settle a step.
+pub fn one_listing()
+    ensures one { ListingIsOne }
+    ensures bound { ListingExcludesRefusal }
+    ensures closed { SettledListingIsClosed }
+    ensures refusal { RefusalIsOne }
+{
+    one_list_of_start_heads();
+    start_heads_fit();
+    one_step();
+    no_step_beside_a_refusal();
+    one_refusal();
+    heads_fit();
+}

@@ -1,0 +1,14 @@
+//! A listing: step after step is solved, and each is put while the next one is solved.
+#![tactic(auto)]
+
+mod begin;
+pub mod laws;
+mod putting;
+mod solving;
+pub mod step;
+pub mod task;
+
+pub use putting::put_steps;
+pub use solving::{Written, solve, solve_text};
+pub use step::{Fault, Step};
+pub use task::Task;

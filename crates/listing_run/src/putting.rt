@@ -1,0 +1,153 @@
+// The steps are put, each while the next one is solved.
+ghost use Rattle.std.specs.Prelude.{◌≡◌, List, ◌++◌, Contains, IfOk, IfErr, MatchResult};
+ghost use Rattle.outside.specs.Puts.{Put};
+ghost use Rattle.model_types.specs.Times.{times};
+ghost use Rattle.problem_builder.specs.GridHeads.{AreGridHeads};
+ghost use Rattle.run_puts.specs.Ends.{IsPut, IsLast, IsWanting};
+ghost use Rattle.run_puts.specs.Runs.{IsRun};
+ghost use Rattle.listing_run.specs.Listing.{IsListing, IsCutListing};
+ghost use Rattle.listing_run.specs.Ends.{IsTask, AreTablesOf, FailsBy, IsWritten, IsStepEnd};
+
+use crate::begin::{Begun, begin};
+use crate::solving::{Written, solve_text};
+use crate::step::Fault;
+use crate::task::Task;
+use listing_io::{write_no_bound, write_unfinished};
+use model_types::TimeStep;
+use outside::Sink;
+use run_puts::{Status, put_last, put_memory, put_piece};
+use std::alloc::{AllocError, Global};
+use std::thread::{Threads, join_mut};
+use step_chain::RunTables;
+use step_problem::{Bound, Settler};
+
+// Puts a piece while the next step is solved.
+fn put_while_solving<R: Threads + Sync, K: Sink + Send, S: Settler>(
+    rt: &R,
+    alloc: Global,
+    task: &Task,
+    tables: &mut RunTables,
+    settler: &mut S,
+    out: &mut K,
+    piece: &[u8],
+    at: TimeStep,
+    old: &[Bound],
+) -> (Option<Status>, Result<Written, Fault>)
+    requires ready { S.ready settler.old }
+    requires rounds { S.rounds settler.old ≡ task.now.rounds }
+    requires task { IsTask task.now }
+    requires tables { AreTablesOf task.now tables.old }
+    requires time { Contains (times task.now.model) at }
+    requires old { AreGridHeads task.now.model old.now }
+    ensures puts { (start : _) (puts : List Put) → K.leads start puts out.old →
+        (tail : List Put) × K.leads start (puts ++ tail) out.new × IsPut piece.now result.0 tail }
+    ensures ready { S.ready settler.new }
+    ensures rounds { S.rounds settler.new ≡ S.rounds settler.old }
+    ensures tables { AreTablesOf task.now tables.new }
+    ensures written { IfOk result.1 (λ w. IsWritten task.now at old.now w.heads.items w.text.items) }
+    ensures fault { IfErr result.1 (FailsBy task.now at old.now) }
+{
+    join_mut(
+        rt,
+        &mut || put_piece(out, piece),
+        &mut || solve_text(alloc, task, tables, at, old, settler),
+    )
+}
+
+// Puts a last line, or the line MEMORY where memory was wanting for it.
+fn put_line<K: Sink>(out: &mut K, line: Result<Vec<u8>, AllocError>, meant: Status) -> Status
+    ensures { (start : _) (puts : List Put) → K.leads start puts out.old →
+        (tail : List Put) × K.leads start (puts ++ tail) out.new × MatchResult line (λ text. IsLast text.items meant result tail) (λ _. IsWanting result tail) }
+{
+    match line {
+        Ok(text) => put_last(out, text.as_slice(), meant),
+        Err(_) => put_memory(out),
+    }
+}
+
+// Ends at a step that has this fault.
+fn end_at<K: Sink>(alloc: Global, task: &Task, at: TimeStep, fault: Fault, out: &mut K) -> Status
+    requires { IsTask task.now }
+    ensures { (start : _) (puts : List Put) → K.leads start puts out.old →
+        (tail : List Put) × K.leads start (puts ++ tail) out.new × IsStepEnd task.now at fault result tail }
+{
+    match fault {
+        Fault::Memory => put_memory(out),
+        Fault::NoBound(refusal) => {
+            let line = write_no_bound(alloc, &task.model.grid, at, refusal);
+            put_line(
+                out,
+                line,
+                Status::NoBound {
+                    period: at.period,
+                    step: at.step,
+                    fault: refusal,
+                },
+            )
+        }
+        Fault::Unfinished => {
+            let line = write_unfinished(alloc, at);
+            put_line(
+                out,
+                line,
+                Status::Unfinished {
+                    period: at.period,
+                    step: at.step,
+                },
+            )
+        }
+    }
+}
+
+/// Puts the listing of a task: the first line, each step while the next one is solved, and the last line. A failed
+/// put ends it before what the next step gave.
+pub fn put_steps<R: Threads + Sync, K: Sink + Send, S: Settler>(
+    rt: &R,
+    alloc: Global,
+    task: &Task,
+    settler: &mut S,
+    out: &mut K,
+) -> Status
+    requires ready { S.ready settler.old }
+    requires rounds { S.rounds settler.old ≡ task.now.rounds }
+    requires task { IsTask task.now }
+    ensures { (start : _) (puts : List Put) → K.leads start puts out.old →
+        (more : List Put) × K.leads start (puts ++ more) out.new × IsRun (IsListing task.now) (IsCutListing task.now) result more }
+{
+    let Ok(begun) = begin(alloc, task) else {
+        return put_memory(out);
+    };
+    let Begun {
+        mut tables,
+        times,
+        mut old,
+        mut pending,
+    } = begun;
+    for at in times.as_slice() {
+        let (put, next) = put_while_solving(
+            rt,
+            alloc,
+            task,
+            &mut tables,
+            settler,
+            out,
+            pending.as_slice(),
+            *at,
+            old.as_slice(),
+        );
+        if let Some(status) = put {
+            return status;
+        }
+        match next {
+            Ok(written) => {
+                old = written.heads;
+                pending = written.text;
+            }
+            Err(fault) => return end_at(alloc, task, *at, fault, out),
+        }
+    }
+    if let Some(status) = put_piece(out, pending.as_slice()) {
+        return status;
+    }
+    put_last(out, b"END\n", Status::Ok)
+}

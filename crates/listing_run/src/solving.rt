@@ -1,0 +1,101 @@
+// A step is solved and written.
+ghost use Rattle.std.specs.Prelude.{◌≡◌, Contains, IfOk, IfErr};
+ghost use Rattle.model_types.specs.Times.{times};
+ghost use Rattle.problem_builder.specs.GridHeads.{AreGridHeads};
+ghost use Rattle.listing_run.specs.Steps.{IsStep};
+ghost use Rattle.listing_run.specs.Bounding.{BoundsMoves};
+ghost use Rattle.listing_run.specs.Ends.{IsTask, AreTablesOf, FailsBy, IsWritten};
+
+use crate::step::{Fault, Step};
+use crate::task::Task;
+use budget_bounds::budget;
+use budget_bounds::laws::heads_within;
+use listing_io::write_step;
+use model_types::{Listed, TimeStep};
+use std::alloc::Global;
+use step_chain::{RunTables, next_step_with};
+use step_problem::{Bound, Settler};
+
+/// The step of a time, from the heads of all cells before it.
+pub fn solve<S: Settler>(
+    alloc: Global,
+    task: &Task,
+    tables: &mut RunTables,
+    at: TimeStep,
+    old: &[Bound],
+    settler: &mut S,
+) -> Result<Step, Fault>
+    requires ready { S.ready settler.old }
+    requires rounds { S.rounds settler.old ≡ task.now.rounds }
+    requires task { IsTask task.now }
+    requires tables { AreTablesOf task.now tables.old }
+    requires time { Contains (times task.now.model) at }
+    requires old { AreGridHeads task.now.model old.now }
+    ensures ready { S.ready settler.new }
+    ensures rounds { S.rounds settler.new ≡ S.rounds settler.old }
+    ensures tables { AreTablesOf task.now tables.new }
+    ensures step { IfOk result (IsStep task.now at old.now) }
+    ensures fault { IfErr result (FailsBy task.now at old.now) }
+    ensures heads { IfOk result (λ v. AreGridHeads task.now.model v.heads) }
+    // Every solution from exact heads within the old ones lies within the step's heads and budget.
+    ensures encloses { IfOk result (BoundsMoves task.now at old.now) }
+{
+    let solved = next_step_with(alloc, &task.model, tables, at, old, settler)?;
+    heads_within();
+    match budget(&solved.problem, solved.bounds.as_slice()) {
+        Ok(budget) => Ok(Step {
+            at,
+            heads: solved.heads,
+            budget,
+            zones: Listed::new(Vec::new(alloc)),
+        }),
+        Err(refusal) => Err(Fault::NoBound(refusal)),
+    }
+}
+
+/// A step's heads and its text.
+#[derive(Debug, Drop)]
+pub struct Written {
+    pub heads: Vec<Bound>,
+    pub text: Vec<u8>,
+}
+
+/// The same step, as its heads and its text.
+pub fn solve_text<S: Settler>(
+    alloc: Global,
+    task: &Task,
+    tables: &mut RunTables,
+    at: TimeStep,
+    old: &[Bound],
+    settler: &mut S,
+) -> Result<Written, Fault>
+    requires ready { S.ready settler.old }
+    requires rounds { S.rounds settler.old ≡ task.now.rounds }
+    requires task { IsTask task.now }
+    requires tables { AreTablesOf task.now tables.old }
+    requires time { Contains (times task.now.model) at }
+    requires old { AreGridHeads task.now.model old.now }
+    ensures ready { S.ready settler.new }
+    ensures rounds { S.rounds settler.new ≡ S.rounds settler.old }
+    ensures tables { AreTablesOf task.now tables.new }
+    ensures written { IfOk result (λ w. IsWritten task.now at old.now w.heads.items w.text.items) }
+    ensures fault { IfErr result (FailsBy task.now at old.now) }
+{
+    let step = solve(alloc, task, tables, at, old, settler)?;
+    let text = write_step(
+        alloc,
+        &task.model,
+        task.digits,
+        step.at,
+        step.heads.as_slice(),
+        &step.budget,
+        step.zones.as_slice(),
+    );
+    match text {
+        Ok(text) => Ok(Written {
+            heads: step.heads.into_vec(),
+            text,
+        }),
+        Err(_) => Err(Fault::Memory),
+    }
+}

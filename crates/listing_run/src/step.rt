@@ -1,0 +1,38 @@
+// A step of a listing, and why there is none.
+ghost use Rattle.std.specs.Prelude.{◌≡◌};
+ghost use Rattle.listing_run.specs.Ends.{of_step};
+
+use budget_bounds::Budget;
+use model_types::{Listed, TimeStep};
+use step_chain::StepFault;
+use step_problem::{Bound, NoBound, ZoneFlow};
+
+/// A step: its time, the heads of all cells of the grid by cell number, in units of 10^-9, its budget, and the flows
+/// between zones, in units of 10^-(s+9).
+#[derive(Debug, Drop)]
+pub struct Step {
+    pub at: TimeStep,
+    pub heads: Listed<Bound>,
+    pub budget: Budget,
+    pub zones: Listed<ZoneFlow>,
+}
+
+/// Why a step isn't listed: its first refusal, rounds that don't settle it, or want of memory.
+#[derive(Clone, Copy, Debug, PartialEq, Eq)]
+pub enum Fault {
+    NoBound(NoBound),
+    Unfinished,
+    Memory,
+}
+
+impl From<StepFault> for Fault {
+    ghost from_gives = { λ fault e. e ≡ of_step fault };
+
+    fn from(fault: StepFault) -> Fault {
+        match fault {
+            StepFault::NoBound(refusal) => Fault::NoBound(refusal),
+            StepFault::Unfinished(_) => Fault::Unfinished,
+            StepFault::Memory => Fault::Memory,
+        }
+    }
+}

@@ -1,0 +1,6 @@
+pub mod Filled
+pub mod Assembled
+pub mod Following
+pub mod OneStep
+pub mod Failing
+pub mod Parts

@@ -1,0 +1,97 @@
+-- A time has one step, or one refusal, from the heads before it.
+use Rattle.std.proofs.Common.{◌≡◌, ℕ, suc, ◌<◌, inl, inr, List, [], ◌∷◌, length, sym, ap, ◌∙◌, subst, refl, arith, ℤ}
+use Rattle.std.proofs.lemmas.Bool.{cases_Bool}
+use Rattle.step_problem.specs.declared.heads.Bound.{Bound}
+use Rattle.step_problem.specs.Conditions.{IsProblem}
+use Rattle.step_problem.specs.Entries.{Entries}
+use Rattle.step_problem.specs.Heads.{Edges, lower_at, upper_at}
+use Rattle.step_problem.specs.Laws.{SettledPairIsOne}
+use Rattle.step_problem.specs.Settling.{AreSettled}
+use Rattle.cell_balance.proofs.Zips.{AllZip-length}
+use Rattle.barrier_vector.specs.Barriers.{IsBarrierOf, BarrierIsOne, BarrierExcludesRefusal, RefusalIsOne as BarrierRefusalIsOne}
+use Rattle.barrier_vector.specs.Refusals.{IsRefused}
+use Rattle.model_types.specs.declared.model.FlowModel.{FlowModel}
+use Rattle.model_types.specs.declared.time_steps.TimeStep.{TimeStep}
+use Rattle.model_types.specs.Cells.{cell_count}
+use Rattle.model_types.specs.Layers.{is_active}
+use Rattle.model_types.specs.Kinds.{is_variable, variable_below}
+use Rattle.problem_builder.specs.Cells.{IsCellOf}
+use Rattle.problem_builder.specs.Laws.{ProblemIsOne, ProblemExcludesRefusal, RefusalIsOne as ProblemRefusalIsOne, ProblemFits, ConstantPairIsOne, ConstantPairFits}
+use Rattle.step_chain.specs.declared.solved.Solved.{Solved}
+use Rattle.step_chain.specs.GridHeads.{bound_at, AreHeadsOf}
+use Rattle.step_chain.specs.Laws.{IsBefore, StepIsOne, StepExcludesRefusal, RefusalIsOne, HeadsFit}
+use Rattle.step_chain.proofs.Assembled.{active_constant, heads_in_range}
+use Rattle.step_chain.proofs.Following.{settled_words}
+
+same_bounds : (xs ys : List Bound) → length xs ≡ length ys → ((c : ℕ) → c < length xs → bound_at xs c ≡ bound_at ys c) → xs ≡ ys
+same_bounds [] [] whole same = refl
+same_bounds [] (y ∷ ys) whole same = absurd (omega arith)
+same_bounds (x ∷ xs) [] whole same = absurd (omega arith)
+same_bounds (x ∷ xs) (y ∷ ys) whole same =
+    let rest = same_bounds xs ys (omega arith) (λ c within. same (suc c) (omega arith)) in
+    ap (λ b. b ∷ xs) (same 0 (omega arith)) ∙ ap (λ bs. y ∷ bs) rest
+
+same_bound : (a b : Bound) → (a.low ≡ b.low) × (a.high ≡ b.high) → a ≡ b
+same_bound a b (low, high) =
+    let by_low : ℤ → Bound = λ z. record { low = z; high = a.high } in
+    let by_high : ℤ → Bound = λ z. record { low = b.low; high = z } in
+    ap by_low low ∙ ap by_high high
+
+-- the heads of all cells are one list
+heads_one : ConstantPairIsOne → (m : FlowModel) (at : TimeStep) (old bounds xs ys : List Bound) → IsBefore m at old → AreHeadsOf m at bounds xs → AreHeadsOf m at bounds ys → xs ≡ ys
+heads_one pair_one m at old bounds xs ys b x y =
+    same_bounds xs ys (x.whole ∙ sym y.whole) (λ c within.
+    let lt : c < cell_count m.grid = omega (arith, within, x.whole) in
+    elim (cases_Bool (is_variable m at.period c)) [
+      | inl v ↦ x.variable c lt v ∙ sym (y.variable c lt v)
+      | inr v ↦ (elim (cases_Bool (is_active m c)) [
+        | inl a ↦ (let k = active_constant m at.period c a v in
+            same_bound (bound_at xs c) (bound_at ys c) (pair_one m at c (lower_at xs c) (upper_at xs c) (lower_at ys c) (upper_at ys c) b.model b.time lt k (x.constant c lt k) (y.constant c lt k)))
+        | inr a ↦ x.no_flow c lt a ∙ sym (y.no_flow c lt a)
+      ])
+    ])
+
+-- so is the settled pair
+settled_one : BarrierIsOne → SettledPairIsOne → (p : List Entries) (b c : Edges) (xs ys : List Bound) → IsProblem p → IsBarrierOf p b → IsBarrierOf p c → AreSettled p b xs → AreSettled p c ys → xs ≡ ys
+settled_one barrier_one pair_one p b c xs ys fits x y first second =
+    let P : Edges → Type 0 = λ e. AreSettled p e ys in
+    let other = subst P (sym (barrier_one p b c fits x y)) second in
+    same_bounds xs ys (first.whole ∙ sym other.whole) (λ k within.
+    let inside : k < length p = omega (arith, within, first.whole) in
+    let (low, high) = pair_one p b (lower_at ys) (upper_at ys) (lower_at xs) (upper_at xs) other.pair first.pair k inside in
+    same_bound (bound_at xs k) (bound_at ys k) (low, high))
+
+pub steps_one : ProblemIsOne → ProblemFits → ConstantPairIsOne → BarrierIsOne → SettledPairIsOne → StepIsOne
+steps_one problem_one problem_fits pair_one barrier_one settled_pair_one m s at old x y b h k =
+    let problems : x.problem ≡ y.problem = problem_one m s at old x.problem y.problem b.model b.time h.posed.problem k.posed.problem in
+    let B : List Entries → Type 0 = λ p. IsBarrierOf p k.barrier in
+    let S : List Entries → Type 0 = λ p. AreSettled p k.barrier y.bounds in
+    let H : List Bound → Type 0 = λ bs. AreHeadsOf m at bs y.heads in
+    let fits = problem_fits m s at old x.problem b.model b.time b.heads h.posed.problem in
+    let bounds : x.bounds ≡ y.bounds = settled_one barrier_one settled_pair_one x.problem h.barrier k.barrier x.bounds y.bounds fits h.posed.barrier (subst B (sym problems) k.posed.barrier) h.settled (subst S (sym problems) k.settled) in
+    let heads : x.heads ≡ y.heads = heads_one pair_one m at old x.bounds x.heads y.heads b h.heads (subst H (sym bounds) k.heads) in
+    let by_problem : List Entries → Solved = λ p. record { problem = p; bounds = x.bounds; heads = x.heads } in
+    let by_bounds : List Bound → Solved = λ bs. record { problem = y.problem; bounds = bs; heads = x.heads } in
+    let by_heads : List Bound → Solved = λ hs. record { problem = y.problem; bounds = y.bounds; heads = hs } in
+    ap by_problem problems ∙ ap by_bounds bounds ∙ ap by_heads heads
+
+pub step_excludes : ProblemIsOne → ProblemFits → ProblemExcludesRefusal → BarrierExcludesRefusal → StepExcludesRefusal
+step_excludes problem_one problem_fits problem_excludes barrier_excludes m s at old x n b h (inl none) = problem_excludes m s at old x.problem n b.model b.time h.posed.problem none
+step_excludes problem_one problem_fits problem_excludes barrier_excludes m s at old x n b h (inr (p, is, refused)) =
+    let R : List Entries → Type 0 = λ p. IsRefused p n in
+    let same = problem_one m s at old p x.problem b.model b.time is h.posed.problem in
+    barrier_excludes x.problem h.barrier n (problem_fits m s at old x.problem b.model b.time b.heads h.posed.problem) h.posed.barrier (subst R same refused)
+
+pub refusals_one : ProblemIsOne → ProblemExcludesRefusal → ProblemRefusalIsOne → BarrierRefusalIsOne → RefusalIsOne
+refusals_one problem_one problem_excludes of_problem of_barrier m s at old a b before (inl x) (inl y) = of_problem m s at old a b before.model before.time x y
+refusals_one problem_one problem_excludes of_problem of_barrier m s at old a b before (inl x) (inr (p, is, y)) = absurd (problem_excludes m s at old p a before.model before.time is x)
+refusals_one problem_one problem_excludes of_problem of_barrier m s at old a b before (inr (p, is, x)) (inl y) = absurd (problem_excludes m s at old p b before.model before.time is y)
+refusals_one problem_one problem_excludes of_problem of_barrier m s at old a b before (inr (p, is, x)) (inr (q, also, y)) =
+    let R : List Entries → Type 0 = λ p. IsRefused p b in
+    of_barrier p a b x (subst R (sym (problem_one m s at old p q before.model before.time is also)) y)
+
+pub all_fit : ConstantPairFits → HeadsFit
+all_fit pair_fits m s at old x b h =
+    heads_in_range m at x.problem x.bounds x.heads h.heads (settled_words x.problem h.barrier x.bounds h.settled)
+    (AllZip-length (IsCellOf m h.posed.problem.widths s at old) x.problem (variable_below m at.period (cell_count m.grid)) h.posed.problem.cells.each)
+    (λ c lo hi lt k pair. pair_fits m at c lo hi b.model b.time lt k pair)

@@ -1,0 +1,35 @@
+-- What a step's heads say of every solution of the model's exact equations.
+use Rattle.std.specs.Prelude.{ℕ, ◌^◌, ◌<◌, List, length, ℤ, pos, ◌*ℤ◌, ◌≤ℤ◌}
+use Rattle.decimal_input.specs.Fractions.{Fraction}
+use Rattle.step_problem.specs.declared.heads.Bound.{Bound}
+use Rattle.step_problem.specs.Heads.{lower_at, upper_at}
+use Rattle.cell_balance.specs.Enclosures.{EnclosesStep}
+use Rattle.cell_balance.specs.Solutions.{LiesBetween}
+use Rattle.model_types.specs.declared.model.FlowModel.{FlowModel}
+use Rattle.model_types.specs.declared.time_steps.TimeStep.{TimeStep}
+use Rattle.flow_equations.specs.ExactStep.{exact_step}
+use Rattle.flow_equations.specs.Histories.{SolvesAt, variable_heads}
+use Rattle.problem_builder.specs.GridHeads.{IsActive, HeadsEnclose}
+use Rattle.step_chain.specs.declared.solved.Solved.{Solved}
+
+-- The vector X over d lies between the heads, which are in units of 10^-9, at each active cell.
+pub record LiesWithin (m : FlowModel) (heads : List Bound) (d : ℕ) (X : ℕ → ℤ) : Type 0 where
+  pub low : (c : ℕ) → IsActive m c → (lower_at heads c *ℤ pos d) ≤ℤ (X c *ℤ pos (10 ^ 9))
+  pub high : (c : ℕ) → IsActive m c → (X c *ℤ pos (10 ^ 9)) ≤ℤ (upper_at heads c *ℤ pos d)
+
+-- X over d solves the exact equations of a time, from exact heads before it that lie within the old ones.
+pub record IsMove (m : FlowModel) (at : TimeStep) (old : List Bound) (before : ℕ → Fraction) (d : ℕ) (X : ℕ → ℤ) : Type 0 where
+  pub within : HeadsEnclose m old before
+  pub some : 0 < d
+  pub solves : SolvesAt m at before d X
+
+module _ (m : FlowModel) (s : ℕ) (at : TimeStep) where
+  -- The problem encloses the exact step, and X lies between the bounds at the variable cells, and between the heads at all active cells.
+  pub record EnclosesMove (x : Solved) (before : ℕ → Fraction) (d : ℕ) (X : ℕ → ℤ) : Type 0 where
+    pub step : EnclosesStep s x.problem (exact_step m at.period at.step before)
+    pub variables : LiesBetween (length x.problem) d (variable_heads (exact_step m at.period at.step before) X) (lower_at x.bounds) (upper_at x.bounds)
+    pub heads : LiesWithin m x.heads d X
+
+  -- So it is for all exact heads within the old ones, and every solution from them.
+  abbrev pub EnclosesMoves : List Bound → Solved → Type 0
+  EnclosesMoves old x = (before : ℕ → Fraction) (d : ℕ) (X : ℕ → ℤ) → IsMove m at old before d X → EnclosesMove x before d X

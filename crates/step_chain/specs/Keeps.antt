@@ -1,0 +1,16 @@
+-- The tables that a run keeps from step to step.
+use Rattle.std.specs.Prelude.{◌≡◌, ℕ}
+use Rattle.model_types.specs.declared.model.FlowModel.{FlowModel}
+use Rattle.model_types.specs.Kinds.{given_heads}
+use Rattle.problem_builder.specs.Tables.{AreTables, ArePeriodTables}
+use Rattle.step_chain.specs.declared.kept.RunTables.{RunTables}
+
+-- the digits of conductances
+abbrev pub digits_of : RunTables → ℕ
+digits_of t = t.tables.digits
+
+-- those of the model, of the given heads up to some period, and of the period at hand
+pub record AreRunTables (m : FlowModel) (t : RunTables) : Type 0 where
+  pub tables : AreTables m (digits_of t) t.tables
+  pub given : t.given ≡ given_heads m t.given.period
+  pub period : ArePeriodTables m (digits_of t) t.period.period t.period

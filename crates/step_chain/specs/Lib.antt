@@ -1,0 +1,8 @@
+pub mod GridHeads
+pub mod Steps
+pub mod Enclosing
+pub mod Faults
+pub mod Leads
+pub mod Keeps
+pub mod Filling
+pub mod Laws

@@ -1,0 +1,49 @@
+// Laws of a model's steps. Each is the contract of an empty function, but for the laws below that it calls.
+ghost use Rattle.step_chain.specs.Laws.{StepIsOne, StepExcludesRefusal, RefusalIsOne, HeadsFit};
+
+use barrier_vector::laws::{
+    no_barrier_beside_a_refusal, one_barrier, one_refusal as one_refusal_of_a_barrier,
+};
+use problem_builder::laws::{
+    constant_pairs, no_problem_beside_a_refusal, one_problem,
+    one_refusal as one_refusal_of_a_problem, problems_fit,
+};
+use step_problem::laws::settled_pair;
+
+/// A time has at most one step from the heads before it.
+pub fn one_step()
+    ensures { StepIsOne }
+{
+    one_problem();
+    problems_fit();
+    constant_pairs();
+    one_barrier();
+    settled_pair();
+}
+
+/// With a step there is no refusal.
+pub fn no_step_beside_a_refusal()
+    ensures { StepExcludesRefusal }
+{
+    one_problem();
+    problems_fit();
+    no_problem_beside_a_refusal();
+    no_barrier_beside_a_refusal();
+}
+
+/// A step has at most one refusal.
+pub fn one_refusal()
+    ensures { RefusalIsOne }
+{
+    one_problem();
+    no_problem_beside_a_refusal();
+    one_refusal_of_a_problem();
+    one_refusal_of_a_barrier();
+}
+
+/// The heads of a step are in range.
+pub fn heads_fit()
+    ensures { HeadsFit }
+{
+    constant_pairs();
+}
