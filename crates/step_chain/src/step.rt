@@ -17,7 +17,7 @@ use crate::solved::{Solved, StepFault};
 use barrier_vector::barrier;
 use certificate_check::laws::settled_pair_encloses;
 use model_types::{FlowModel, Listed, TimeStep};
-use problem_builder::{build_with, sites};
+use problem_builder::{build_with, sites_with};
 use std::alloc::Global;
 use step_problem::{Bound, Settler};
 
@@ -55,7 +55,7 @@ pub fn next_step_with<S: Settler>(
         (λ _. LeadsOrRests S.leads model.now (digits_of tables.old) at old.now settler.old settler.new) }
 {
     tables.go_to(alloc, model, at.period)?;
-    let sites = sites(alloc, model, at)?;
+    let sites = sites_with(alloc, model, &tables.period, at)?;
     let mut heads = known_heads(alloc, &sites)?;
     let problem = build_with(alloc, model, &tables.tables, &tables.period, at, old)?;
     let barrier = barrier(alloc, &problem)?;
