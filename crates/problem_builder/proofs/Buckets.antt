@@ -57,12 +57,12 @@ pub bucket_next : (front : ℕ → List Entry) (old new : List (List Entry)) (xs
     (c : ℕ) → local_in new c ≡ front c ++ entries_of c (take (i + 1) xs)
 bucket_next front old new xs i k e lt here cell same others so_far c =
     let step : entries_of c (take (i + 1) xs) ≡ entries_of c (take i xs) ++ cond (cell_of e == c) (e ∷ []) [] =
-        entries_next c xs i e lt ∙ ap (λ z. entries_of c (take i xs) ++ cond (cell_of z == c) (z ∷ []) []) (sym here) in
+    entries_next c xs i e lt ∙ ap (λ z. entries_of c (take i xs) ++ cond (cell_of z == c) (z ∷ []) []) (sym here) in
     elim (cases_eq c k) [
-      inl q ↦ (let test : (cell_of e == c) ≡ true = eq-eqb (cell_of e) c (sym cell ∙ sym q) in
-        ap (local_in new) q ∙ same ∙ ap (λ xs. xs ++ e ∷ []) (ap (local_in old) (sym q) ∙ so_far c) ∙ append_assoc (front c) (entries_of c (take i xs)) (e ∷ []) ∙ ap (λ z. front c ++ z) (sym (step ∙ ap (λ b. entries_of c (take i xs) ++ cond b (e ∷ []) []) test)))
+      | inl q ↦ (let test : (cell_of e == c) ≡ true = eq-eqb (cell_of e) c (sym cell ∙ sym q) in
+          ap (local_in new) q ∙ same ∙ ap (λ xs. xs ++ e ∷ []) (ap (local_in old) (sym q) ∙ so_far c) ∙ append_assoc (front c) (entries_of c (take i xs)) (e ∷ []) ∙ ap (λ z. front c ++ z) (sym (step ∙ ap (λ b. entries_of c (take i xs) ++ cond b (e ∷ []) []) test)))
       | inr ne ↦ (let test : (cell_of e == c) ≡ false = ne_eqb (cell_of e) c (λ r. ne (sym r ∙ sym cell)) in
-        others c ne ∙ so_far c ∙ ap (λ z. front c ++ z) (sym (step ∙ ap (λ b. entries_of c (take i xs) ++ cond b (e ∷ []) []) test ∙ append-nil (entries_of c (take i xs)))))
+          others c ne ∙ so_far c ∙ ap (λ z. front c ++ z) (sym (step ∙ ap (λ b. entries_of c (take i xs) ++ cond b (e ∷ []) []) test ∙ append-nil (entries_of c (take i xs)))))
     ]
 
 entries_join : (c : ℕ) (xs ys : List Entry) → entries_of c (xs ++ ys) ≡ entries_of c xs ++ entries_of c ys

@@ -135,7 +135,7 @@ module _ (m : FlowModel) (w : Thicknesses) (s : ℕ) (at : TimeStep) (old : List
   links : AllZip (LinkEncloses s) e.links (map (exact_link m at.period at.step before) (variable_faces m at.period c))
   links = zip_map (IsLink m w s at) (LinkEncloses s) (exact_link m at.period at.step before) e.links (variable_faces m at.period c)
       (λ x f i j k. let (g, b) = passing_are m.grid (is_variable m at.period) c f j in
-        record { cell = k.cell; conductance = face_encloses f x.lo x.hi g (variable_active m at.period f.end b) k.conductance (link_small x i) }) is.links
+      record { cell = k.cell; conductance = face_encloses f x.lo x.hi g (variable_active m at.period f.end b) k.conductance (link_small x i) }) is.links
 
   pub cell_encloses : CellEncloses s e (exact_cell m at.period at.step before c)
   cell_encloses = record { id = is.id; flows = flows; links = links; fixed = fixed; rivers = rivers; drains = drains; evaps = evaps }

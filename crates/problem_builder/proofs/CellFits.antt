@@ -104,17 +104,17 @@ module _ (m : FlowModel) (w : Thicknesses) (s : ℕ) (at : TimeStep) (old : List
       let small = (or_false (list_any (λ x. x.lo == 0) e.links) _ k.branches).0 in
       record {
         links = All-In LinkFits e.links (λ x i.
-          let (f, j, r) = left_of (IsLink m w s at) e.links (variable_faces m at.period c) x is.links i in
-          let (g, b) = passing_are m.grid (is_variable m at.period) c f j in
-          record { conducts = positive x.lo (none_passes (λ (y : Link). y.lo == 0) e.links small x i); ordered = face_ordered f x.lo x.hi g (variable_active m at.period f.end b) r.conductance });
+            let (f, j, r) = left_of (IsLink m w s at) e.links (variable_faces m at.period c) x is.links i in
+            let (g, b) = passing_are m.grid (is_variable m at.period) c f j in
+            record { conducts = positive x.lo (none_passes (λ (y : Link). y.lo == 0) e.links small x i); ordered = face_ordered f x.lo x.hi g (variable_active m at.period f.end b) r.conductance });
         fixed = zip_all FixedFits (IsFixed m w s at old c) e.fixed (fixed_sources m at.period c) one_fixed is.fixed;
         rivers = zip_all RiverFits (IsRiver s) e.rivers (river_sources m at.period c)
             (λ x r j q. let (y, l, o) = filter_map-In as_river (local_entries m at.period c) r j in
-              let z = river_valid y r o (In-All (IsEntryValid 65536) (local_entries m at.period c) y entries_fit l) in
-              river_fits s x r z.0 z.1 q) is.rivers;
+            let z = river_valid y r o (In-All (IsEntryValid 65536) (local_entries m at.period c) y entries_fit l) in
+            river_fits s x r z.0 z.1 q) is.rivers;
         drains = zip_all DrainFits (IsDrain s) e.drains (drain_sources m at.period c)
             (λ x r j q. let (y, l, o) = filter_map-In as_drain (local_entries m at.period c) r j in
-              drain_fits s x r (drain_valid y r o (In-All (IsEntryValid 65536) (local_entries m at.period c) y entries_fit l)) q) is.drains;
+            drain_fits s x r (drain_valid y r o (In-All (IsEntryValid 65536) (local_entries m at.period c) y entries_fit l)) q) is.drains;
         evaps = zip_all EvapFits (IsEvap m s c) e.evaps (evap_sources m at.period c)
             (λ x r j q. evap_fits m s c x r (In-All IsEvapValid (evap_sources m at.period c) r (valid.evaps at.period c lt here) j) q) is.evaps;
         conductances = k.conductances;

@@ -64,7 +64,7 @@ module _ (m : FlowModel) (c : ℕ) (size : HasSize m.grid) where
       let place : place_in_layer m.grid c ≡ place_in_layer m.grid d = ap (λ x. x % L) same ∙ mod-mul-add (d / L + 1) L (d % L) below in
       let here : layer_of m.grid d * L + place_in_layer m.grid d ≡ d = whole in
       let all : not (is_highest m c) ≡ (any_above m (layer_of m.grid d) (place_in_layer m.grid d) || is_active m d) =
-          covered_is m c ∙ (λ t. any_above m (layer t) (place t)) ∙ any_more m (layer_of m.grid d) (place_in_layer m.grid d) ∙ ap (λ z. any_above m (layer_of m.grid d) (place_in_layer m.grid d) || is_active m z) here in
+      covered_is m c ∙ (λ t. any_above m (layer t) (place t)) ∙ any_more m (layer_of m.grid d) (place_in_layer m.grid d) ∙ ap (λ z. any_above m (layer_of m.grid d) (place_in_layer m.grid d) || is_active m z) here in
       (λ t. (p ∙ covered_is m d) t || q t) ∙ sym all
 
   pub covered_then : L ≤ c → (b : Bool) → b ≡ true → b ≡ not (is_highest m (c - L)) → b ≡ not (is_highest m c)

@@ -50,9 +50,10 @@ extinctions x a b d e v surface depth =
     let deep = floor_below (number x.depth) 9 d e depth.floor depth.ceiling in
     let some = floor_not_negative (number x.depth) d (not_negative x.depth v.depth) depth.floor in
     let floor = one_floor (number x.surface) (number x.surface) 9 v.floor a (record { same = refl }) v.is_floor surface.floor in
-    let ceiling = one_ceiling (number x.depth) (number x.depth) 9 v.ceiling e (record { same = refl }) v.is_ceiling depth.ceiling in
-    (record { above = omega (arith, ints, v.extinction, floor, ceiling); below = omega (arith, ints, deep, some, range.0.below) },
-      record { above = omega (arith, ints, v.extinction, floor, ceiling, order, deep); below = omega (arith, ints, some, range.1.below) })
+    let ceiling = one_ceiling (number x.depth) (number x.depth) 9 v.ceiling e (record { same = refl }) v.is_ceiling depth.ceiling in (
+      record { above = omega (arith, ints, v.extinction, floor, ceiling); below = omega (arith, ints, deep, some, range.0.below) },
+      record { above = omega (arith, ints, v.extinction, floor, ceiling, order, deep); below = omega (arith, ints, some, range.1.below) },
+    )
 
 pub units_64 : (z : ℤ) → IsDepthUnits z → FitsSigned w64 z
 units_64 z h = omega (arith, ints, h.above, h.below)

@@ -23,7 +23,7 @@ past (x ∷ xs) (suc i) d le = past xs i d (omega (arith, le))
 
 pub dec_valid : (xs : List Dec) (i : ℕ) → All IsDec xs → IsDec (dec_at xs i)
 dec_valid xs i h = elim (cases_lt i (length xs)) [
-  inl lt ↦ h i no_number lt
+  | inl lt ↦ h i no_number lt
   | inr le ↦ subst IsDec (sym (past xs i no_number le)) no_number_valid
 ]
 
@@ -54,6 +54,6 @@ same_bed_gap m c e = no_gap (number (lowest m c)) (number (bottom_at m c)) (ap n
 
 pub bed_valid : (m : FlowModel) (c : ℕ) → IsModel m → c + layer_size m.grid < cell_count m.grid → is_active m c ≡ true → is_active m (c + layer_size m.grid) ≡ true → has_bed m c ≡ true → (lowest m c ≡ bottom_at m c → ⊥) → IsBedValid m c
 bed_valid m c valid lt x y e differ = elim (valid.beds c lt x y e) [
-  inl same ↦ absurd (differ (one_number (lowest m c) (bottom_at m c) (lowest_valid m c valid) (bottom_valid m c valid) (record { same = ap (λ (f : Fraction). f.num *ℤ pos (suc (number (bottom_at m c)).less)) same ∙ ap (λ (f : Fraction). (number (bottom_at m c)).num *ℤ pos (suc f.less)) (sym same) })))
+  | inl same ↦ absurd (differ (one_number (lowest m c) (bottom_at m c) (lowest_valid m c valid) (bottom_valid m c valid) (record { same = ap (λ (f : Fraction). f.num *ℤ pos (suc (number (bottom_at m c)).less)) same ∙ ap (λ (f : Fraction). (number (bottom_at m c)).num *ℤ pos (suc f.less)) (sym same) })))
   | inr k ↦ k
 ]

@@ -41,6 +41,8 @@ faces_paired i c are v = All-In (HasPair i) (faces i.model.grid c) each
     each : (x : Option Face) → In (faces i.model.grid c) x → HasPair i x
     each None j = tt
     each (Some f) j =
-        let lead = faces_are i.model.grid c f j in
-        (first_within i.model.grid c f v.within lead, end_within i.model.grid c f are.size v.within lead,
-          (λ b. let (x, y) = face_active i.model c f lead (variable_active i.model i.at.period c v.variable) b in are.tables.faces f.axis f.first (first_within i.model.grid c f v.within lead) (first_after i.model.grid c f are.size lead) x y))
+        let lead = faces_are i.model.grid c f j in (
+          first_within i.model.grid c f v.within lead,
+          end_within i.model.grid c f are.size v.within lead,
+          (λ b. let (x, y) = face_active i.model c f lead (variable_active i.model i.at.period c v.variable) b in are.tables.faces f.axis f.first (first_within i.model.grid c f v.within lead) (first_after i.model.grid c f are.size lead) x y),
+        )

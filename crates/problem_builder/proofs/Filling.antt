@@ -23,7 +23,7 @@ pub next_filled : {X : Type 0} (P : ℕ → X → Type 0) (d : X) (n : ℕ) (xs 
 next_filled P d n xs ys x e h k = record {
   count = ap length e ∙ length_push xs x ∙ ap (λ q. q + 1) k.count;
   each = (λ c lt. elim (cases_order c n) [
-    inl same ↦ subst (P c) (sym (ap (λ zs. get_or zs c d) e ∙ ap (λ q. get_or (xs ++ x ∷ []) q d) (same ∙ sym k.count) ∙ get_or_push xs x d)) (subst (λ q. P q x) (sym same) h)
+    | inl same ↦ subst (P c) (sym (ap (λ zs. get_or zs c d) e ∙ ap (λ q. get_or (xs ++ x ∷ []) q d) (same ∙ sym k.count) ∙ get_or_push xs x d)) (subst (λ q. P q x) (sym same) h)
     | inr (inl less) ↦ subst (P c) (sym (ap (λ zs. get_or zs c d) e ∙ get_or_front xs x d c (omega (arith, less, k.count)))) (k.each c less)
     | inr (inr more) ↦ absurd (omega (arith, lt, more))
   ]);

@@ -113,8 +113,8 @@ module _ (i : Inputs) (c : ℕ) (e : Entries) (are : AreInputs i) (v : IsVariabl
   pub rivers_fit : All RiverFits e.rivers
   rivers_fit = zip_all RiverFits (IsRiver i.tables.digits) e.rivers (river_sources i.model i.at.period c)
       (λ x r j k. let (y, l, q) = filter_map-In as_river (local_entries i.model i.at.period c) r j in
-        let w = river_valid y r q (In-All (IsEntryValid 65536) (local_entries i.model i.at.period c) y (are.entries c) l) in
-        river_fits i.tables.digits x r w.0 w.1 k) is.rivers
+      let w = river_valid y r q (In-All (IsEntryValid 65536) (local_entries i.model i.at.period c) y (are.entries c) l) in
+      river_fits i.tables.digits x r w.0 w.1 k) is.rivers
 
   pub evaps_fit : All EvapFits e.evaps
   evaps_fit = zip_all EvapFits (IsEvap i.model i.tables.digits c) e.evaps (evap_sources i.model i.at.period c)

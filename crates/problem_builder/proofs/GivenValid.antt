@@ -27,7 +27,7 @@ In-join : {X : Type 0} (xs ys : List X) (x : X) → In (xs ++ ys) x → In xs x 
 In-join [] ys x i = inr i
 In-join (z ∷ zs) ys x (inl e) = inl (inl e)
 In-join (z ∷ zs) ys x (inr i) = elim (In-join zs ys x i) [
-  inl j ↦ inl (inr j)
+  | inl j ↦ inl (inr j)
   | inr j ↦ inr j
 ]
 
@@ -38,7 +38,7 @@ one_of y x (inr i) = absurd i
 turned-In : {X : Type 0} (xs : List X) (x : X) → In (reverse xs) x → In xs x
 turned-In [] x i = absurd i
 turned-In (y ∷ ys) x i = elim (In-join (reverse ys) (y ∷ []) x (subst (λ zs. In zs x) (reverse-append (y ∷ []) ys) i)) [
-  inl j ↦ inr (turned-In ys x j)
+  | inl j ↦ inr (turned-In ys x j)
   | inr j ↦ inl (one_of y x j)
 ]
 

@@ -29,7 +29,7 @@ cond-In false y ys x i = inr i
 filter-In : (test : ℕ → Bool) (xs : List ℕ) (x : ℕ) → In (filter test xs) x → In xs x × (test x ≡ true)
 filter-In test [] x i = absurd i
 filter-In test (y ∷ ys) x i = elim (cond-In (test y) y (filter test ys) x i) [
-  inl k ↦ (inl k.0, ap test (sym k.0) ∙ k.1)
+  | inl k ↦ (inl k.0, ap test (sym k.0) ∙ k.1)
   | inr j ↦ (let (a, b) = filter-In test ys x j in (inr a, b))
 ]
 
@@ -52,7 +52,7 @@ In-append : {X : Type 0} (xs ys : List X) (x : X) → In (xs ++ ys) x → In xs 
 In-append [] ys x i = inr i
 In-append (z ∷ zs) ys x (inl e) = inl (inl e)
 In-append (z ∷ zs) ys x (inr i) = elim (In-append zs ys x i) [
-  inl j ↦ inl (inr j)
+  | inl j ↦ inl (inr j)
   | inr j ↦ inr j
 ]
 
@@ -79,7 +79,7 @@ no_recharge (GeneralEntry cell a b) rate e = false≢true (ap is_received e)
 -- what recharge among the sources of a cell is
 pub recharge_is : (m : FlowModel) (p c : ℕ) (rate : Dec) → In (flow_sources m p c) (Received rate) → recharge_at m p c ≡ Some rate
 recharge_is m p c rate i = elim (In-append (map Received (option_to_list (recharge_at m p c))) (filter_map as_well (local_entries m p c)) (Received rate) i) [
-  inl j ↦ (let (r, k, e) = map-In Received (option_to_list (recharge_at m p c)) (Received rate) j in In-option (recharge_at m p c) r k ∙ ap rate_of e)
+  | inl j ↦ (let (r, k, e) = map-In Received (option_to_list (recharge_at m p c)) (Received rate) j in In-option (recharge_at m p c) r k ∙ ap rate_of e)
   | inr j ↦ (let (y, k, e) = filter_map-In as_well (local_entries m p c) (Received rate) j in absurd (no_recharge y rate e))
 ]
 
@@ -115,8 +115,8 @@ storage_test false x e = (refl, some_same e)
 -- a branch among the sources leads through a face to a constant cell
 pub constant_is : (m : FlowModel) (p c : ℕ) (f : Face) → In (fixed_sources m p c) (ToConstant f) → In (constant_faces m p c) f
 constant_is m p c f i = elim (In-append (option_to_list (storage_at m p) ++ map ToConstant (constant_faces m p c)) (filter_map as_general (local_entries m p c)) (ToConstant f) i) [
-  inl j ↦ (elim (In-append (option_to_list (storage_at m p)) (map ToConstant (constant_faces m p c)) (ToConstant f) j) [
-    inl k ↦ absurd (false≢true (ap is_constant_source (storage_test (period_at m p).steady (ToConstant f) (In-option (storage_at m p) (ToConstant f) k)).1))
+  | inl j ↦ (elim (In-append (option_to_list (storage_at m p)) (map ToConstant (constant_faces m p c)) (ToConstant f) j) [
+    | inl k ↦ absurd (false≢true (ap is_constant_source (storage_test (period_at m p).steady (ToConstant f) (In-option (storage_at m p) (ToConstant f) k)).1))
     | inr k ↦ (let (g, l, e) = map-In ToConstant (constant_faces m p c) (ToConstant f) k in subst (In (constant_faces m p c)) (some_same (ap face_of e)) l)
   ])
   | inr j ↦ (let (y, k, e) = filter_map-In as_general (local_entries m p c) (ToConstant f) j in absurd (general_test is_constant_source (λ a b. refl) y (ToConstant f) e refl))
@@ -124,8 +124,8 @@ constant_is m p c f i = elim (In-append (option_to_list (storage_at m p) ++ map 
 
 pub storage_is : (m : FlowModel) (p c : ℕ) → In (fixed_sources m p c) FromStorage → (period_at m p).steady ≡ false
 storage_is m p c i = elim (In-append (option_to_list (storage_at m p) ++ map ToConstant (constant_faces m p c)) (filter_map as_general (local_entries m p c)) FromStorage i) [
-  inl j ↦ (elim (In-append (option_to_list (storage_at m p)) (map ToConstant (constant_faces m p c)) FromStorage j) [
-    inl k ↦ (storage_test (period_at m p).steady FromStorage (In-option (storage_at m p) FromStorage k)).0
+  | inl j ↦ (elim (In-append (option_to_list (storage_at m p)) (map ToConstant (constant_faces m p c)) FromStorage j) [
+    | inl k ↦ (storage_test (period_at m p).steady FromStorage (In-option (storage_at m p) FromStorage k)).0
     | inr k ↦ (let (g, l, e) = map-In ToConstant (constant_faces m p c) FromStorage k in absurd (false≢true (ap is_storage_source e)))
   ])
   | inr j ↦ (let (y, k, e) = filter_map-In as_general (local_entries m p c) FromStorage j in absurd (general_test is_storage_source (λ a b. refl) y FromStorage e refl))
@@ -150,8 +150,8 @@ general_valid (GeneralEntry cell a b) h k e v = subst IsHeadNumber (some_same (a
 -- the head of a general head among the sources is one of the list
 pub general_among : (m : FlowModel) (p c : ℕ) (h k : Dec) → In (fixed_sources m p c) (ToGeneral h k) → All (IsEntryValid 65536) (local_entries m p c) → IsHeadNumber h
 general_among m p c h k i valid = elim (In-append (option_to_list (storage_at m p) ++ map ToConstant (constant_faces m p c)) (filter_map as_general (local_entries m p c)) (ToGeneral h k) i) [
-  inl j ↦ (elim (In-append (option_to_list (storage_at m p)) (map ToConstant (constant_faces m p c)) (ToGeneral h k) j) [
-    inl l ↦ absurd (false≢true (ap is_general_source (storage_test (period_at m p).steady (ToGeneral h k) (In-option (storage_at m p) (ToGeneral h k) l)).1))
+  | inl j ↦ (elim (In-append (option_to_list (storage_at m p)) (map ToConstant (constant_faces m p c)) (ToGeneral h k) j) [
+    | inl l ↦ absurd (false≢true (ap is_general_source (storage_test (period_at m p).steady (ToGeneral h k) (In-option (storage_at m p) (ToGeneral h k) l)).1))
     | inr l ↦ (let (g, n, e) = map-In ToConstant (constant_faces m p c) (ToGeneral h k) l in absurd (false≢true (ap is_general_source e)))
   ])
   | inr j ↦ (let (y, n, e) = filter_map-In as_general (local_entries m p c) (ToGeneral h k) j in general_valid y h k e (In-All (IsEntryValid 65536) (local_entries m p c) y valid n))

@@ -47,11 +47,11 @@ next_named n i list xs ys lt within e h =
     let x = get_or list i no_given in
     let k = x.cell.0 in
     let more : (c : ℕ) → given_in (take (i + 1) list) c ≡ cond (k == c) (Some x) (given_in (take i list) c) =
-        (λ c. ap (λ zs. given_in zs c) (take_more list i no_given lt) ∙ given_more (take i list) x c) in
+    (λ c. ap (λ zs. given_in zs c) (take_more list i no_given lt) ∙ given_more (take i list) x c) in
     record {
       count = ap length e ∙ length_set xs k (Some x) ∙ h.count;
       each = (λ c r. elim (cases_eq c k) [
-        inl q ↦ ap (λ zs. get_or zs c None) e ∙ ap (λ z. get_or (set xs k (Some x)) z None) q ∙ get_or-set_same xs k (Some x) None (omega (arith, within, h.count))
+        | inl q ↦ ap (λ zs. get_or zs c None) e ∙ ap (λ z. get_or (set xs k (Some x)) z None) q ∙ get_or-set_same xs k (Some x) None (omega (arith, within, h.count))
             ∙ sym (more c ∙ ap (λ b. cond b (Some x) (given_in (take i list) c)) (eq-eqb k c (sym q)))
         | inr ne ↦ ap (λ zs. get_or zs c None) e ∙ get_or-set_other xs k c (Some x) None ne ∙ h.each c r
             ∙ sym (more c ∙ ap (λ b. cond b (Some x) (given_in (take i list) c)) (ne_eqb k c (λ z. ne (sym z))))

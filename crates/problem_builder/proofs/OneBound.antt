@@ -61,7 +61,7 @@ one_bound (Quotient t u) side r q (a, b, ta, ub, z, x) (c, d, tc, ud, w, y) = on
 
 floor_least : (n k d x : ℕ) → n * d ≤ x → x < (k + 1) * d → n ≤ k
 floor_least n k d x h l = elim (cases_order n (k + 1)) [
-  inl e ↦ absurd (omega (arith, h, l, (let q : n * d ≡ (k + 1) * d = ap (λ z. z * d) e in q)))
+  | inl e ↦ absurd (omega (arith, h, l, (let q : n * d ≡ (k + 1) * d = ap (λ z. z * d) e in q)))
   | inr (inl lt) ↦ omega (arith, lt)
   | inr (inr gt) ↦ absurd (let q : (k + 1) * d ≤ n * d = mul-le-mul_right d (omega (arith, gt)) in omega (arith, h, l, q))
 ]
@@ -123,11 +123,11 @@ pub one_well : (s : ℕ) (d : Dec) (lo hi l h : ℤ) → IsWellPair s d lo hi �
 one_well s d lo hi l h (inl p) (inl q) = (signed_floor (number d) (s + 9) lo l p.floor q.floor, signed_ceiling (number d) (s + 9) hi h p.ceiling q.ceiling)
 one_well s d lo hi l h (inr p) (inr q) = (p.lower ∙ sym q.lower, p.upper ∙ sym q.upper)
 one_well s d lo hi l h (inl p) (inr q) = elim q.past [
-  inl k ↦ absurd (not_both lo k.floor (signed_floor (number d) (s + 9) lo k.floor p.floor k.is) p.small.0 k.past)
+  | inl k ↦ absurd (not_both lo k.floor (signed_floor (number d) (s + 9) lo k.floor p.floor k.is) p.small.0 k.past)
   | inr k ↦ absurd (not_both hi k.ceiling (signed_ceiling (number d) (s + 9) hi k.ceiling p.ceiling k.is) p.small.1 k.past)
 ]
 one_well s d lo hi l h (inr p) (inl q) = elim p.past [
-  inl k ↦ absurd (not_both l k.floor (signed_floor (number d) (s + 9) l k.floor q.floor k.is) q.small.0 k.past)
+  | inl k ↦ absurd (not_both l k.floor (signed_floor (number d) (s + 9) l k.floor q.floor k.is) q.small.0 k.past)
   | inr k ↦ absurd (not_both h k.ceiling (signed_ceiling (number d) (s + 9) h k.ceiling q.ceiling k.is) q.small.1 k.past)
 ]
 

@@ -87,9 +87,9 @@ module _ (m : FlowModel) (w v : Thicknesses) (wa : AreThicknesses m w) (va : Are
       let p = one_thick a (omega (arith, lt)) x in
       let q = one_thick b lt y in
       let halves : face_term m w.thick w.bed Vertical a ≡ Quotient (area_term m a) (resistance_sum ((bed_thickness m a).num == 0) (vertical_term (Within (v.thick a).lo (v.thick a).hi (thickness m a)) (vertical_k_at m a)) (bed_term m w.thick w.bed a) (vertical_term (Within (v.thick b).lo (v.thick b).hi (thickness m b)) (vertical_k_at m b))) =
-          λ i. Quotient (area_term m a) (resistance_sum ((bed_thickness m a).num == 0) (vertical_term (Within (p i).lo (p i).hi (thickness m a)) (vertical_k_at m a)) (bed_term m w.thick w.bed a) (vertical_term (Within (q i).lo (q i).hi (thickness m b)) (vertical_k_at m b))) in
+      λ i. Quotient (area_term m a) (resistance_sum ((bed_thickness m a).num == 0) (vertical_term (Within (p i).lo (p i).hi (thickness m a)) (vertical_k_at m a)) (bed_term m w.thick w.bed a) (vertical_term (Within (q i).lo (q i).hi (thickness m b)) (vertical_k_at m b))) in
       halves ∙ ap (λ z. Quotient (area_term m a) z) (bare (bed_thickness m a).num _ _ (bed_term m w.thick w.bed a) (bed_term m v.thick v.bed a)
-        (λ some. let r = one_span (bottom_at m a) (lowest m a) (w.bed a) (v.bed a) (wa.beds a lt x y some) (va.beds a lt x y some) in λ i. Quotient (Within (r i).lo (r i).hi (bed_thickness m a)) (Number (size (vkcb_at m a)))))
+      (λ some. let r = one_span (bottom_at m a) (lowest m a) (w.bed a) (v.bed a) (wa.beds a lt x y some) (va.beds a lt x y some) in λ i. Quotient (Within (r i).lo (r i).hi (bed_thickness m a)) (Number (size (vkcb_at m a)))))
 
   module _ (s : ℕ) (at : TimeStep) (old : List Bound) (size' : HasSize m.grid) (c : ℕ) (lt : c < cell_count m.grid) (var : is_variable m at.period c ≡ true) where
     here : is_active m c ≡ true

@@ -40,13 +40,13 @@ module _ (m : FlowModel) (s : ℕ) (at : TimeStep) (old : List Bound) (size : Ha
 
   pub one_refusal : (a b : NoBound) → HasNoProblem m s at old a → HasNoProblem m s at old b → a ≡ b
   one_refusal a b h k = elim (cases_order h.cell k.cell) [
-    inl same ↦ (
-      let P : ℕ → Type 0 = λ z. IsRefused m k.widths s at old z b in
-      let r = subst P (sym same) k.refused in
-      let cells = one_cell m h.widths k.widths h.thicknesses k.thicknesses s at old size h.cell h.within h.variable h.refused.entries r.entries h.refused.is_cell r.is_cell in
-      let code = some_same (sym h.refused.is_fault ∙ ap fault_of cells ∙ r.is_fault) in
-      let place = h.refused.place ∙ sym r.place in
-      λ t. record { code = code t; place = place t })
+    | inl same ↦ (
+        let P : ℕ → Type 0 = λ z. IsRefused m k.widths s at old z b in
+        let r = subst P (sym same) k.refused in
+        let cells = one_cell m h.widths k.widths h.thicknesses k.thicknesses s at old size h.cell h.within h.variable h.refused.entries r.entries h.refused.is_cell r.is_cell in
+        let code = some_same (sym h.refused.is_fault ∙ ap fault_of cells ∙ r.is_fault) in
+        let place = h.refused.place ∙ sym r.place in
+        λ t. record { code = code t; place = place t })
     | inr (inl less) ↦ absurd (none_refused k.widths h.widths k.thicknesses h.thicknesses k.cell h.cell k.before a h.within h.variable less k.cells_before h.refused)
     | inr (inr more) ↦ absurd (none_refused h.widths k.widths h.thicknesses k.thicknesses h.cell k.cell h.before b k.within k.variable more h.cells_before k.refused)
   ]

@@ -67,7 +67,7 @@ module _ (m : FlowModel) (w : Thicknesses) (s : ℕ) (at : TimeStep) (old : List
       let x = (cell_is c (omega (arith, lt, within))).id in
       let y = (cell_is d within).id in
       elim (cases_order (number c) (number d)) [
-        inl same ↦ absurd (omega (arith, lt, a.index, b.index, (let e : rank test (number c) ≡ rank test (number d) = ap (rank test) same in e)))
+        | inl same ↦ absurd (omega (arith, lt, a.index, b.index, (let e : rank test (number c) ≡ rank test (number d) = ap (rank test) same in e)))
         | inr (inl less) ↦ omega (arith, x, y, less)
         | inr (inr more) ↦ absurd (omega (arith, lt, a.index, b.index, rank_below test (number d) (number c) b.passes more))
       ]

@@ -26,7 +26,7 @@ pub record IsGivenSite (m : FlowModel) (at : TimeStep) (c : ℕ) (pair : Bound) 
 module _ (m : FlowModel) (at : TimeStep) (sites : List Site) (are : AreSites m at sites) where
   pub given_site : (c : ℕ) (pair : Bound) → site_at sites c ≡ Given pair → IsGivenSite m at c pair
   given_site c pair e = elim (cases_lt c (length sites)) [
-    inl lt ↦ (let h = subst (IsSite m at c) e (are.each c (omega (arith, lt, are.count))) in
+    | inl lt ↦ (let h = subst (IsSite m at c) e (are.each c (omega (arith, lt, are.count))) in
         record { within = omega (arith, lt, are.count); constant = constant_kind m at.period c h.0; head = h.1 })
     | inr le ↦ absurd (none_given pair (sym (past sites c NoFlow le) ∙ e))
   ]

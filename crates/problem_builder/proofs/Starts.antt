@@ -33,7 +33,7 @@ module _ (m : FlowModel) (bounds : List Bound) (h : Filled (IsStartInRange m) no
 
 one_start : (m : FlowModel) (c : ℕ) (a b : Bound) → IsStart m c a → IsStart m c b → a ≡ b
 one_start m c a b h k = elim (cases_Bool (is_active m c)) [
-  inl e ↦ (let (p, q) = one_head_pair (dec_at m.strt c) a.low a.high b.low b.high (h.active e) (k.active e) in λ t. record { low = p t; high = q t })
+  | inl e ↦ (let (p, q) = one_head_pair (dec_at m.strt c) a.low a.high b.low b.high (h.active e) (k.active e) in λ t. record { low = p t; high = q t })
   | inr e ↦ h.no_flow e ∙ sym (k.no_flow e)
 ]
 
@@ -45,7 +45,7 @@ zero_head = record { above = omega (arith, ints); below = omega (arith, ints) }
 
 start_range : (m : FlowModel) (c : ℕ) (b : Bound) → IsModel m → c < cell_count m.grid → IsStart m c b → IsHead b.low × IsHead b.high
 start_range m c b valid lt h = elim (cases_Bool (is_active m c)) [
-  inl e ↦ head_pair_range (dec_at m.strt c) b.low b.high (valid.cells c lt e).strt (h.active e)
+  | inl e ↦ head_pair_range (dec_at m.strt c) b.low b.high (valid.cells c lt e).strt (h.active e)
   | inr e ↦ subst (λ (q : Bound). IsHead q.low × IsHead q.high) (sym (h.no_flow e)) (zero_head, zero_head)
 ]
 

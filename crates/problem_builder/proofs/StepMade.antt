@@ -38,6 +38,6 @@ usable_case false t h = h
 
 pub multiplier : (p : Period) → p.steady ≡ false → IsTimed p → IsMultiplier p.tsmult p.nstp
 multiplier p e h = elim (h.growth e) [
-  inl one ↦ inl one
+  | inl one ↦ inl one
   | inr grows ↦ inr (record { few = grows.few; least = grows.least; most = grows.most })
 ]

@@ -15,14 +15,14 @@ In-append : {X : Type 0} (xs ys : List X) (x : X) → In (xs ++ ys) x → In xs 
 In-append [] ys x i = inr i
 In-append (z ∷ zs) ys x (inl e) = inl (inl e)
 In-append (z ∷ zs) ys x (inr i) = elim (In-append zs ys x i) [
-  inl j ↦ inl (inr j)
+  | inl j ↦ inl (inr j)
   | inr j ↦ inr j
 ]
 
 flat-In : {X Y : Type 0} (f : X → List Y) (xs : List X) (y : Y) → In (flat_map f xs) y → (x : X) × In xs x × In (f x) y
 flat-In f [] y i = absurd i
 flat-In f (z ∷ zs) y i = elim (In-append (f z) (flat_map f zs) y i) [
-  inl j ↦ (z, inl refl, j)
+  | inl j ↦ (z, inl refl, j)
   | inr j ↦ (let (x, k, l) = flat-In f zs y j in (x, inr k, l))
 ]
 

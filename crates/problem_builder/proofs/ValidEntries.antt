@@ -20,7 +20,7 @@ cond-In false y ys x i = inr i
 filter-In : {X : Type 0} (test : X → Bool) (xs : List X) (x : X) → In (filter test xs) x → In xs x
 filter-In test [] x i = absurd i
 filter-In test (y ∷ ys) x i = elim (cond-In (test y) y (filter test ys) x i) [
-  inl e ↦ inl e
+  | inl e ↦ inl e
   | inr j ↦ inr (filter-In test ys x j)
 ]
 

@@ -58,7 +58,9 @@ fn drain(entry: &Entry, s: u32) -> Option<Drain>
 {
     match entry {
         Entry::Drain {
-            elevation, cond, ..
+            elevation,
+            cond,
+            ..
         } => {
             let pair = cond_pair(*cond, s);
             let elevation = head_pair(*elevation);
@@ -107,7 +109,12 @@ fn general(entry: &Entry, cell: u32, s: u32) -> Option<Fixed>
 }
 
 /// The general heads among these entries of a cell.
-pub fn generals(alloc: Global, entries: &[Entry], cell: u32, s: u32) -> Result<Vec<Fixed>, AllocError>
+pub fn generals(
+    alloc: Global,
+    entries: &[Entry],
+    cell: u32,
+    s: u32,
+) -> Result<Vec<Fixed>, AllocError>
     requires entries { All (IsEntryValid 65536) entries.now }
     ensures { IfOk result (λ v. AllZip (IsGeneralSource s cell) v.items (filter_map as_general entries.now)) }
 {

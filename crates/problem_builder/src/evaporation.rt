@@ -46,13 +46,7 @@ fn evap_pair(model: &FlowModel, rate: Dec, surface: Dec, depth: Dec, cell: u32, 
     requires digits { s ≤ 18 }
     ensures { IsEvap model.now s cell result (record { rate = rate; surface = surface; depth = depth }) }
 {
-    let pair = capped(evap_branch(
-        rate,
-        depth,
-        model.delr_at(cell),
-        model.delc_at(cell),
-        s,
-    ));
+    let pair = capped(evap_branch(rate, depth, model.delr_at(cell), model.delc_at(cell), s));
     let surface = head_pair(surface);
     let depth = depth_pair(depth);
     evap_with(pair, surface, depth)

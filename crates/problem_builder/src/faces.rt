@@ -184,7 +184,14 @@ fn is_branch(model: &FlowModel, axis: Axis, cell: u32) -> bool
     }
 }
 
-fn pair_after(model: &FlowModel, thick: &[Span], beds: &[Span], axis: Axis, cell: u32, s: u32) -> Pair
+fn pair_after(
+    model: &FlowModel,
+    thick: &[Span],
+    beds: &[Span],
+    axis: Axis,
+    cell: u32,
+    s: u32,
+) -> Pair
     requires model { IsModel model.now }
     requires cell { cell < cell_count model.now.grid }
     requires thick { Filled (IsThickness model.now) no_span (cell_count model.now.grid) thick.now }
@@ -203,7 +210,14 @@ fn pair_after(model: &FlowModel, thick: &[Span], beds: &[Span], axis: Axis, cell
 }
 
 /// The bounds of the conductances through the faces along an axis, by their first cells.
-pub fn pairs(alloc: Global, model: &FlowModel, thick: &[Span], beds: &[Span], axis: Axis, s: u32) -> Result<Vec<Pair>, AllocError>
+pub fn pairs(
+    alloc: Global,
+    model: &FlowModel,
+    thick: &[Span],
+    beds: &[Span],
+    axis: Axis,
+    s: u32,
+) -> Result<Vec<Pair>, AllocError>
     requires model { IsModel model.now }
     requires thick { Filled (IsThickness model.now) no_span (cell_count model.now.grid) thick.now }
     requires beds { Filled (IsBedBelow model.now) no_span (cell_count model.now.grid) beds.now }

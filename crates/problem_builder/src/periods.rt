@@ -30,7 +30,11 @@ pub fn given_before(alloc: Global, model: &FlowModel, number: u32) -> Result<Giv
 }
 
 /// The heads that are given after the stress period that follows on `given`.
-pub fn given_after(alloc: Global, model: &FlowModel, given: &GivenHeads) -> Result<GivenHeads, AllocError>
+pub fn given_after(
+    alloc: Global,
+    model: &FlowModel,
+    given: &GivenHeads,
+) -> Result<GivenHeads, AllocError>
     requires model { IsModel model.now }
     requires given { given.now ≡ given_heads model.now given.now.period }
     requires period { given.now.period < length model.now.periods }

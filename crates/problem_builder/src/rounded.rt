@@ -15,10 +15,7 @@ use step_problem::Bound;
 const LARGEST: u128 = 1 << 60;
 
 /// What stands for a conductance whose upper bound reaches 2^60 units.
-pub const PAST: Pair = Pair {
-    lo: 1,
-    hi: 1 << 60,
-};
+pub const PAST: Pair = Pair { lo: 1, hi: 1 << 60 };
 
 /// What stands for a flow of which a bound reaches 2^126 units.
 pub const PAST_FLOW: FlowPair = FlowPair {

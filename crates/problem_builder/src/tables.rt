@@ -32,8 +32,22 @@ impl Tables {
         let thick = thicknesses(alloc, model)?;
         let bed = beds(alloc, model)?;
         let row = pairs(alloc, model, thick.as_slice(), bed.as_slice(), Axis::Row, s)?;
-        let column = pairs(alloc, model, thick.as_slice(), bed.as_slice(), Axis::Column, s)?;
-        let vertical = pairs(alloc, model, thick.as_slice(), bed.as_slice(), Axis::Vertical, s)?;
+        let column = pairs(
+            alloc,
+            model,
+            thick.as_slice(),
+            bed.as_slice(),
+            Axis::Column,
+            s,
+        )?;
+        let vertical = pairs(
+            alloc,
+            model,
+            thick.as_slice(),
+            bed.as_slice(),
+            Axis::Vertical,
+            s,
+        )?;
         Ok(Tables {
             digits: s,
             thick: Listed::new(thick),

@@ -16,6 +16,6 @@ returns-in_err-made-clause-fault c =
 
 pub loop-number-preserved : goal.loop-number-preserved
 loop-number-preserved c = elim c.if-is_variable.branch [
-  then-is_variable+in_ok-made+in_ok-push w ↦ rw w.cells-is (next_cell c.args.input.now c.loop-number.number c.loop-number.cells.items _ w.in_ok-made.made (sym c.is_variable.ensures ∙ w.if-is_variable.true) w.in_ok-push.ensures.items w.in_ok-made.ensures.cell c.loop-number.invariant)
+  | then-is_variable+in_ok-made+in_ok-push w ↦ rw w.cells-is (next_cell c.args.input.now c.loop-number.number c.loop-number.cells.items _ w.in_ok-made.made (sym c.is_variable.ensures ∙ w.if-is_variable.true) w.in_ok-push.ensures.items w.in_ok-made.ensures.cell c.loop-number.invariant)
   | else-is_variable w ↦ rw w.cells-is (next_none c.args.input.now c.loop-number.number c.loop-number.cells.items (sym c.is_variable.ensures ∙ w.if-is_variable.false) c.loop-number.invariant)
 ]

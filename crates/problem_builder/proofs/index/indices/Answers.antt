@@ -14,7 +14,7 @@ overflow_add-index c = omega (arith, c.loop-cell.invariant.index, index_few c.ar
 
 pub loop-cell-preserved : goal.loop-cell-preserved
 loop-cell-preserved c = elim c.if-is_variable.branch [
-  then-is_variable w ↦ rw w.index-is record {
+  | then-is_variable w ↦ rw w.index-is record {
     filled = next_filled (IsIndex c.args.model.now c.args.given.now.period) 0 c.loop-cell.cell c.loop-cell.indices.items _ c.loop-cell.index c.in_ok-push.ensures.items c.loop-cell.invariant.index c.loop-cell.invariant.filled;
     index = ap (λ k. k + 1) c.loop-cell.invariant.index ∙ sym (index_more c.args.model.now c.args.given.now.period c.loop-cell.cell (sym c.is_variable.ensures ∙ w.if-is_variable.true));
   }

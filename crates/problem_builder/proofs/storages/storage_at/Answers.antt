@@ -57,7 +57,7 @@ returns c =
     let delc = c.delc_at-delc.ensures in
     let called = c.capped.ensures _ t.digits (c.storage_branch.ensures.rounded (size w.tsmult) w.nstp at.step (thickness m d) c.requires.factors.grown) in
     let same : storage_of c.dec_at-ss.result c.thickness_in-thickness.result c.delr_at-delr.result c.delc_at-delc.result (size w.tsmult) w.nstp at.step c.stress_period-period.result.now.perlen (thickness m d) ≡ storage_term m (span_in t.thick) w at.step d =
-        (λ q. storage_of (ss q) (thick q) (delr q) (delc q) (size w.tsmult) w.nstp at.step (per q).perlen (thickness m d))
-        ∙ ap (λ o. storage_formula (storativity_term (size (dec_at m.ss d)) o) (area_term m d) (sum_term (size w.tsmult) (w.nstp - 1)) (size w.perlen) (power_term (size w.tsmult) (at.step - 1))) (thick_case m.coefficient (span_in t.thick d) (thickness m d)) in
+    (λ q. storage_of (ss q) (thick q) (delr q) (delc q) (size w.tsmult) w.nstp at.step (per q).perlen (thickness m d))
+    ∙ ap (λ o. storage_formula (storativity_term (size (dec_at m.ss d)) o) (area_term m d) (sum_term (size w.tsmult) (w.nstp - 1)) (size w.perlen) (power_term (size w.tsmult) (at.step - 1))) (thick_case m.coefficient (span_in t.thick d) (thickness m d)) in
     let P : Term → Type 0 = λ z. IsCapped z t.digits c.capped.result.lo c.capped.result.hi in
     subst P same called
