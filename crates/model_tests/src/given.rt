@@ -1,15 +1,12 @@
 // Kinds of cells from period to period.
-ghost use Rattle.std.specs.Prelude.{◌≡◌, ◌+◌, ◌<◌, ◌≤◌, All, length, IsTrue, IfOk};
-ghost use Rattle.model_types.specs.Cells.{cell_count};
+ghost use Rattle.std.specs.Prelude.{◌≡◌, ◌<◌, ◌≤◌, All, length, IsTrue};
 ghost use Rattle.model_types.specs.Grids.{HasSize};
 ghost use Rattle.model_types.specs.Kinds.{given_heads};
-ghost use Rattle.model_types.specs.Times.{period_at};
 
-use crate::models::{ONE, period_with, row_model};
+use model_samples::{ONE, period_with, row_model};
 use model_types::Kind::{Constant, NoFlow, Variable};
 use model_types::{CellId, FlowModel, Given, GivenHeads, Kind, Period, Shared, kind_at};
 use std::alloc::{AllocError, Global};
-use std::process::Abort;
 use std::test::Fail;
 
 fn list_of(alloc: Global, cells: &[u32]) -> Result<Shared<Given>, AllocError> {
@@ -24,19 +21,13 @@ fn list_of(alloc: Global, cells: &[u32]) -> Result<Shared<Given>, AllocError> {
     Shared::new(alloc, list)
 }
 
-// Five cells in a row, three periods: the first list names the third cell, the last one the first cell and the
-// one without flow.
-fn five_cells(alloc: Global) -> Result<FlowModel, AllocError>
-    ensures layers { IfOk result (λ m. m.grid.layers ≡ 1) }
-    ensures rows { IfOk result (λ m. m.grid.rows ≡ 1) }
-    ensures cols { IfOk result (λ m. m.grid.cols ≡ 5) }
-    ensures periods { IfOk result (λ m. length m.periods ≡ 3) }
-{
-    let first = period_with(alloc, 1, list_of(alloc, &[2])?)?;
-    let second = period_with(alloc, 1, list_of(alloc, &[])?)?;
-    let third = period_with(alloc, 1, list_of(alloc, &[0, 4])?)?;
-    let periods: Vec<Period> = vec![in alloc; first, second, third]?;
-    Ok(row_model(alloc, 5, vec![in alloc; 1i64, 1, 1, -1, 0]?, periods))
+// Periods whose CHD lists name these cells.
+fn periods_of(alloc: Global, lists: &[&[u32]]) -> Result<Vec<Period>, AllocError> {
+    let mut periods = Vec::new(alloc);
+    for cells in lists {
+        periods.push(period_with(alloc, 1, list_of(alloc, cells)?)?)?;
+    }
+    Ok(periods)
 }
 
 fn names_within(list: &[Given], cells: u32) -> bool
@@ -62,25 +53,18 @@ fn goes_on(given: &mut GivenHeads, model: &FlowModel) -> bool
     true
 }
 
-// The kinds of a period by the table and by a walk over the lists.
-fn agrees(
-    alloc: Global,
-    model: &FlowModel,
-    given: &GivenHeads,
-    want: &[Kind],
-) -> Result<bool, AllocError>
-    requires size { HasSize model.now.grid }
-    requires given { given.now ≡ given_heads model.now given.now.period }
+// The kinds of a period by a walk over the lists.
+fn walked(alloc: Global, model: &FlowModel, period: u32) -> Result<Vec<Kind>, AllocError>
+    requires { HasSize model.now.grid }
 {
-    let kinds = given.kinds(alloc, model)?;
-    let mut walked = Vec::new(alloc);
+    let mut kinds = Vec::new(alloc);
     for cell in 0..model.grid.cell_count() {
-        walked.push(kind_at(model, given.period, CellId(cell)))?;
+        kinds.push(kind_at(model, period, CellId(cell)))?;
     }
-    Ok(kinds.as_slice() == want && walked.as_slice() == want)
+    Ok(kinds)
 }
 
-// The kinds of all periods in turn.
+// Whether the cells have these kinds in the periods in turn, by the table and by a walk.
 fn all_agree(alloc: Global, model: &FlowModel, wants: &[[Kind; 5]]) -> Result<bool, AllocError>
     requires size { HasSize model.now.grid }
     requires few { length model.now.periods ≤ 1000 }
@@ -90,22 +74,57 @@ fn all_agree(alloc: Global, model: &FlowModel, wants: &[[Kind; 5]]) -> Result<bo
         if !goes_on(&mut given, model) {
             return Ok(false);
         }
-        if !agrees(alloc, model, &given, want)? {
+        let kinds = given.kinds(alloc, model)?;
+        let walked = walked(alloc, model, given.period)?;
+        if kinds.as_slice() != want.as_slice() || walked.as_slice() != want.as_slice() {
             return Ok(false);
         }
     }
     Ok(true)
 }
 
+// Five cells in a row with these CHD lists have these kinds in their periods.
+fn have_kinds(alloc: Global, lists: &[&[u32]], wants: &[[Kind; 5]]) -> Result<bool, AllocError> {
+    let periods = periods_of(alloc, lists)?;
+    if periods.len() > 1000 {
+        return Ok(false);
+    }
+    let ibound = vec![in alloc; 1i64, 1, 1, -1, 0]?;
+    all_agree(alloc, &row_model(alloc, 5, ibound, periods), wants)
+}
+
+// The cells that the CHD lists of three periods name, and the kinds of the cells in each.
+static HISTORIES: [([&[u32]; 3], [[Kind; 5]; 3]); 3] = [
+    (
+        [&[2], &[], &[0, 4]],
+        [
+            [Variable, Variable, Constant, Constant, NoFlow],
+            [Variable, Variable, Constant, Constant, NoFlow],
+            [Constant, Variable, Constant, Constant, NoFlow],
+        ],
+    ),
+    (
+        [&[], &[4, 3], &[1, 2]],
+        [
+            [Variable, Variable, Variable, Constant, NoFlow],
+            [Variable, Variable, Variable, Constant, NoFlow],
+            [Variable, Constant, Constant, Constant, NoFlow],
+        ],
+    ),
+    (
+        [&[0, 1, 2], &[1], &[]],
+        [
+            [Constant, Constant, Constant, Constant, NoFlow],
+            [Constant, Constant, Constant, Constant, NoFlow],
+            [Constant, Constant, Constant, Constant, NoFlow],
+        ],
+    ),
+];
+
 #[test]
 fn a_named_cell_stays_constant(rt: HostRuntime) -> Result<(), Fail> {
-    let alloc = rt.alloc();
-    let model = five_cells(alloc)?;
-    let wants = [
-        [Variable, Variable, Constant, Constant, NoFlow],
-        [Variable, Variable, Constant, Constant, NoFlow],
-        [Constant, Variable, Constant, Constant, NoFlow],
-    ];
-    assert!(rt; all_agree(alloc, &model, &wants)?);
+    for (lists, wants) in &HISTORIES {
+        assert!(rt; have_kinds(rt.alloc(), lists, wants)?);
+    }
     Ok(())
 }

@@ -4,8 +4,6 @@
 #[cfg(test)]
 mod given;
 #[cfg(test)]
-mod models;
-#[cfg(test)]
 mod shared;
 #[cfg(test)]
 mod times;
