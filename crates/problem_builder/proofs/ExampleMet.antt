@@ -1,5 +1,7 @@
 -- The example meets all that a problem of its step is built of.
-use Rattle.std.proofs.Common.{◌≡◌, ℕ, zero, suc, ◌<◌, ◌⊎◌, inl, inr, true, false, List, [], ◌∷◌, refl, sym, arith, All, pos, neg_ℤ}
+use Rattle.std.proofs.Common.{◌≡◌, ℕ, zero, suc, ◌<◌, ◌⊎◌, inl, inr, true, false, cond, Some, None, List, [], ◌∷◌, ◌-◌, get_or, refl, sym, arith, All, pos, neg_ℤ}
+use Rattle.std.specs.Prelude.{not, ◌&&◌, ◌==◌}
+use Rattle.std.specs.Option.{option_to_list}
 use Rattle.std.specs.List.{Contains}
 use Rattle.std.proofs.lemmas.Bool.{false≢true}
 use Rattle.std.proofs.lemmas.Int.{ints}
@@ -10,10 +12,13 @@ use Rattle.decimal_input.specs.Ratios.{ratio}
 use Rattle.step_problem.specs.Conditions.{IsHead}
 use Rattle.model_types.specs.Grids.{IsGrid}
 use Rattle.model_types.specs.Heads.{start_head}
-use Rattle.model_types.specs.Layers.{is_active}
+use Rattle.model_types.specs.declared.period.Period.{Period}
+use Rattle.model_types.specs.Cells.{place_in_layer}
+use Rattle.model_types.specs.Layers.{dec_at, is_active}
 use Rattle.model_types.specs.Numbers.{IsPositive, IsNotNegative, IsHeadNumber, IsThick}
 use Rattle.model_types.specs.Sources.{evap_sources}
-use Rattle.model_types.specs.Times.{times}
+use Rattle.model_types.specs.Receivers.{EvapSource, is_chosen}
+use Rattle.model_types.specs.Times.{times, no_period}
 use Rattle.model_types.specs.Valid.{IsModel, IsCellValid, IsPeriod, IsEvapValid, IsEntryValid}
 use Rattle.problem_builder.specs.Example.{IsBuildable, whole, thousandths, example_grid, example_period, example_model, example_time, example_bound, example_heads}
 use Rattle.problem_builder.specs.GridHeads.{AreGridHeads, HeadsEnclose}
@@ -108,14 +113,27 @@ module _ (k q : Dec) (hk : IsPositive k) (hq : IsDec q) where
     ievt = (λ e. absurd (false≢true e));
   }
 
+  -- the evapotranspiration of a cell in a period
+  abbrev evap_in : Period → ℕ → List EvapSource
+  evap_in x c = option_to_list (cond (is_chosen (example_model k q) (pos 3) x.ievt c && not ((dec_at x.evtr (place_in_layer example_grid c)).digits == 0))
+      (Some (record { rate = dec_at x.evtr (place_in_layer example_grid c); surface = dec_at x.surf (place_in_layer example_grid c); depth = dec_at x.exdp (place_in_layer example_grid c) })) None)
+
+  in_the_period : (c : ℕ) → c < 2 → All IsEvapValid (evap_in (example_period q) c)
+  in_the_period zero lt = one IsEvapValid _ evap
+  in_the_period (suc zero) lt = one IsEvapValid _ evap
+  in_the_period (suc (suc c)) lt = absurd (omega (arith, lt))
+
+  in_no_period : (c : ℕ) → c < 2 → All IsEvapValid (evap_in no_period c)
+  in_no_period zero lt = none IsEvapValid
+  in_no_period (suc zero) lt = none IsEvapValid
+  in_no_period (suc (suc c)) lt = absurd (omega (arith, lt))
+
+  of_index : (i c : ℕ) → c < 2 → All IsEvapValid (evap_in (get_or (example_period q ∷ []) i no_period) c)
+  of_index zero c lt = in_the_period c lt
+  of_index (suc i) c lt = in_no_period c lt
+
   evaps : (p c : ℕ) → c < 2 → All IsEvapValid (evap_sources (example_model k q) p c)
-  evaps zero zero lt = one IsEvapValid _ evap
-  evaps zero (suc zero) lt = one IsEvapValid _ evap
-  evaps (suc zero) zero lt = one IsEvapValid _ evap
-  evaps (suc zero) (suc zero) lt = one IsEvapValid _ evap
-  evaps (suc (suc p)) zero lt = none IsEvapValid
-  evaps (suc (suc p)) (suc zero) lt = none IsEvapValid
-  evaps p (suc (suc c)) lt = absurd (omega (arith, lt))
+  evaps p c lt = of_index (p - 1) c lt
 
   model : IsModel (example_model k q)
   model = record {
