@@ -1,0 +1,31 @@
+-- A file of the layer-property flow package, item by item (TM 6-A16, LPF).
+use Rattle.std.specs.Prelude.{◌≡◌, ℕ, ℤ, List, Bool, not, Result, Ok}
+use Rattle.std.specs.List.{list_any}
+use Rattle.outside.specs.Files.{File}
+use Rattle.outside.specs.declared.refusals.Refusal.{Refusal}
+use Rattle.record_lines.specs.Layout.{left_from, without_comments}
+use Rattle.record_lines.specs.Reading.{◌>>=◌}
+use Rattle.model_types.specs.declared.model.FlowModel.{FlowModel}
+use Rattle.model_types.specs.declared.period.Period.{Period}
+use Rattle.lpf_package.specs.Settings.{option_line, settings_of}
+use Rattle.lpf_package.specs.Layers.{layers_of}
+use Rattle.lpf_package.specs.declared.layer.Properties.{Properties}
+
+-- whether a stress period is transient
+abbrev pub is_transient : List Period → Bool
+is_transient periods = list_any (λ p. not p.steady) periods
+
+abbrev pub with_properties : FlowModel → Bool → List ℤ → Properties → FlowModel
+with_properties m coefficient layvka p = record m { coefficient = coefficient; layvka = layvka; hk = p.hk; hani = p.hani; vka = p.vka; ss = p.ss; vkcb = p.vkcb }
+
+-- SS stands in the file where a period is transient
+unfoldable pub lpf_of : List File → List ℕ → List ℕ → FlowModel → Result FlowModel Refusal
+lpf_of files file bytes m = do
+  coefficient ← option_line file (without_comments (left_from 1 bytes))
+  settings ← settings_of file m.grid.layers coefficient.1
+  layers ← layers_of files file m.grid settings.0.chani (is_transient m.periods) m.grid.layers settings.1
+  Ok (with_properties m coefficient.0 settings.0.layvka layers.0)
+
+-- another model differs in what this package reads alone
+abbrev pub SameBut : FlowModel → FlowModel → Type 0
+SameBut m n = n ≡ with_properties m n.coefficient n.layvka (record { hk = n.hk; hani = n.hani; vka = n.vka; ss = n.ss; vkcb = n.vkcb })

@@ -1,0 +1,4 @@
+pub mod Settings
+pub mod Layers
+pub mod Flow
+pub mod Forms

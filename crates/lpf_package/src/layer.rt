@@ -1,0 +1,126 @@
+// The arrays of one layer.
+ghost use Rattle.std.specs.Prelude.{◌≡◌, ◌*◌, ◌++◌, cond, IfOk, IsTrue, is_some, length, All};
+ghost use Rattle.decimal_input.specs.Canonical.{IsDec};
+ghost use Rattle.outside.specs.Counts.{InputCounts};
+ghost use Rattle.record_lines.specs.Reading.{Gives};
+ghost use Rattle.array_reader.specs.Arrays.{told};
+ghost use Rattle.lpf_package.specs.Forms.{AreLayers};
+ghost use Rattle.lpf_package.specs.Layers.{storage_layer, layer_of, joined};
+
+use array_reader::read_layer;
+use decimal_input::dec::Dec;
+use model_types::Listed;
+use number_limits::is_positive;
+use outside::{Folder, InputFault};
+use package_items::layer_or;
+use record_lines::Lines;
+use std::alloc::{AllocError, Global};
+
+/// The arrays of the layers that were read: conductivity along rows, its ratio along columns, VKA, specific
+/// storage, and the vertical conductivity of the beds below the layers.
+#[derive(Debug, Drop)]
+pub struct Properties {
+    pub hk: Listed<Dec>,
+    pub hani: Listed<Dec>,
+    pub vka: Listed<Dec>,
+    pub ss: Listed<Dec>,
+    pub vkcb: Listed<Dec>,
+}
+
+/// What a layer has: how many rows and columns, its CHANI, whether it has storage, and whether a bed lies below it.
+#[derive(Clone, Copy, Debug, PartialEq, Eq)]
+pub struct Layer {
+    pub rows: u32,
+    pub cols: u32,
+    pub chani: Dec,
+    pub stores: bool,
+    pub has_bed: bool,
+}
+
+/// SS, which only a model with a transient period has.
+#[tactic(auto, unfolding(crate::specs::Layers::storage_layer))]
+fn storage_layer<F: Folder>(
+    alloc: Global,
+    lines: &mut Lines,
+    file: &str,
+    folder: &mut F,
+    layer: &Layer,
+) -> Result<Vec<Dec>, InputFault>
+    ensures files { F.files folder.new ≡ F.files folder.old }
+    ensures counts { InputCounts (F.faults folder.old) (F.faults folder.new) result }
+    ensures ss { IsTrue (is_some (F.files folder.old)) → Gives (λ v. v.items) result lines.new (storage_layer (told (F.files folder.old)) file.now layer.now lines.old) }
+    ensures count { IfOk result (λ v. length v.items ≡ cond layer.now.stores (layer.now.rows * layer.now.cols) 0) }
+    ensures canonical { IfOk result (λ v. All IsDec v.items) }
+{
+    if layer.stores {
+        read_layer(alloc, lines, file, folder, layer.rows, layer.cols)
+    } else {
+        Ok(Vec::new(alloc))
+    }
+}
+
+/// The arrays of a layer: HK, HANI where CHANI isn't above 0, VKA, SS, and VKCB where a bed lies below.
+#[tactic(auto, unfolding(crate::specs::Layers::layer_of))]
+pub fn layer_of<F: Folder>(
+    alloc: Global,
+    lines: &mut Lines,
+    file: &str,
+    folder: &mut F,
+    layer: &Layer,
+) -> Result<Properties, InputFault>
+    requires chani { IsDec layer.now.chani }
+    ensures files { F.files folder.new ≡ F.files folder.old }
+    ensures counts { InputCounts (F.faults folder.old) (F.faults folder.new) result }
+    ensures properties { IsTrue (is_some (F.files folder.old)) → Gives (λ p. p) result lines.new (layer_of (told (F.files folder.old)) file.now layer.now lines.old) }
+    ensures form { IfOk result (AreLayers (layer.now.rows * layer.now.cols) (cond layer.now.stores (layer.now.rows * layer.now.cols) 0)) }
+{
+    let (rows, cols) = (layer.rows, layer.cols);
+    let none = Dec {
+        neg: false,
+        digits: 0,
+        exp: 0,
+    };
+    let has_hani = !is_positive(layer.chani);
+    let hk = read_layer(alloc, lines, file, folder, rows, cols)?;
+    let hani = layer_or(
+        alloc,
+        lines,
+        file,
+        folder,
+        rows,
+        cols,
+        has_hani,
+        layer.chani,
+    )?;
+    let vka = read_layer(alloc, lines, file, folder, rows, cols)?;
+    let ss = storage_layer(alloc, lines, file, folder, layer)?;
+    let vkcb = layer_or(alloc, lines, file, folder, rows, cols, layer.has_bed, none)?;
+    Ok(Properties {
+        hk: Listed::new(hk),
+        hani: Listed::new(hani),
+        vka: Listed::new(vka),
+        ss: Listed::new(ss),
+        vkcb: Listed::new(vkcb),
+    })
+}
+
+fn extended(list: Listed<Dec>, more: &[Dec]) -> Result<Listed<Dec>, AllocError>
+    ensures { IfOk result (λ l. l ≡ list ++ more.now) }
+{
+    let mut items = list.into_vec();
+    items.extend_from_slice(more)?;
+    Ok(Listed::new(items))
+}
+
+/// The arrays of a layer behind those of the layers above it.
+pub fn joined(above: Properties, layer: &Properties) -> Result<Properties, AllocError>
+    ensures { IfOk result (λ p. p ≡ joined above layer.now) }
+{
+    Ok(Properties {
+        hk: extended(above.hk, layer.hk.as_slice())?,
+        hani: extended(above.hani, layer.hani.as_slice())?,
+        vka: extended(above.vka, layer.vka.as_slice())?,
+        ss: extended(above.ss, layer.ss.as_slice())?,
+        vkcb: extended(above.vkcb, layer.vkcb.as_slice())?,
+    })
+}

@@ -1,0 +1,90 @@
+// The arrays of all layers.
+ghost use Rattle.std.specs.Prelude.{◌≡◌, ◌*◌, ◌+◌, cond, IfOk, IsTrue, is_some, All};
+ghost use Rattle.decimal_input.specs.Canonical.{IsDec};
+ghost use Rattle.outside.specs.Counts.{InputCounts};
+ghost use Rattle.record_lines.specs.Reading.{Gives};
+ghost use Rattle.array_reader.specs.Arrays.{told};
+ghost use Rattle.lpf_package.specs.Forms.{AreLayers};
+ghost use Rattle.lpf_package.specs.Layers.{layer_at, layers_of, nth_layer};
+
+use crate::layer::{Layer, Properties, joined, layer_of};
+use decimal_input::dec::Dec;
+use model_types::layers::{dec_at, int_at};
+use model_types::{Grid, Listed};
+use outside::{Folder, InputFault};
+use record_lines::Lines;
+use std::alloc::Global;
+
+/// What layer k has, from 0.
+fn nth_layer(grid: &Grid, chani: &[Dec], stores: bool, k: u32) -> Layer
+    requires chani { All IsDec chani.now }
+    ensures layer { result ≡ nth_layer grid.now chani.now stores k }
+    ensures chani { IsDec result.chani }
+{
+    Layer {
+        rows: grid.rows,
+        cols: grid.cols,
+        chani: dec_at(chani, k),
+        stores,
+        has_bed: int_at(grid.laycbd.as_slice(), k) != 0,
+    }
+}
+
+/// One more layer.
+#[tactic(auto, unfolding(crate::specs::Layers::layer_at))]
+fn layer_at<F: Folder>(
+    alloc: Global,
+    lines: &mut Lines,
+    file: &str,
+    folder: &mut F,
+    grid: &Grid,
+    chani: &[Dec],
+    stores: bool,
+    k: u32,
+    above: Properties,
+) -> Result<Properties, InputFault>
+    requires chani { All IsDec chani.now }
+    requires above { AreLayers (k * (grid.now.rows * grid.now.cols)) (cond stores (k * (grid.now.rows * grid.now.cols)) 0) above }
+    ensures files { F.files folder.new ≡ F.files folder.old }
+    ensures counts { InputCounts (F.faults folder.old) (F.faults folder.new) result }
+    ensures properties { IsTrue (is_some (F.files folder.old)) → Gives (λ p. p) result lines.new (layer_at (told (F.files folder.old)) file.now grid.now chani.now stores k (above, lines.old)) }
+    ensures form { IfOk result (AreLayers ((k + 1) * (grid.now.rows * grid.now.cols)) (cond stores ((k + 1) * (grid.now.rows * grid.now.cols)) 0)) }
+{
+    let layer = nth_layer(grid, chani, stores, k);
+    let properties = layer_of(alloc, lines, file, folder, &layer)?;
+    Ok(joined(above, &properties)?)
+}
+
+/// The arrays of so many layers.
+#[tactic(auto, unfolding(crate::specs::Layers::layers_of), using(crate::proofs::LayerLemmas::at_first))]
+pub fn layers_of<F: Folder>(
+    alloc: Global,
+    lines: &mut Lines,
+    file: &str,
+    folder: &mut F,
+    grid: &Grid,
+    chani: &[Dec],
+    stores: bool,
+    count: u32,
+) -> Result<Properties, InputFault>
+    requires chani { All IsDec chani.now }
+    ensures files { F.files folder.new ≡ F.files folder.old }
+    ensures counts { InputCounts (F.faults folder.old) (F.faults folder.new) result }
+    ensures properties { IsTrue (is_some (F.files folder.old)) → Gives (λ p. p) result lines.new (layers_of (told (F.files folder.old)) file.now grid.now chani.now stores count lines.old) }
+    ensures form { IfOk result (AreLayers (count * (grid.now.rows * grid.now.cols)) (cond stores (count * (grid.now.rows * grid.now.cols)) 0)) }
+{
+    let mut properties = Properties {
+        hk: Listed::new(Vec::new(alloc)),
+        hani: Listed::new(Vec::new(alloc)),
+        vka: Listed::new(Vec::new(alloc)),
+        ss: Listed::new(Vec::new(alloc)),
+        vkcb: Listed::new(Vec::new(alloc)),
+    };
+    for k in 0..count {
+        let more = layer_at(
+            alloc, lines, file, folder, grid, chani, stores, k, properties,
+        )?;
+        properties = more;
+    }
+    Ok(properties)
+}

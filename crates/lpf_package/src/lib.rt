@@ -1,0 +1,11 @@
+//! The layer-property flow package: conductivities, specific storage, and the vertical conductivity of beds.
+#![tactic(auto)]
+
+mod layer;
+mod layers;
+mod model;
+mod settings;
+
+pub use layer::Properties;
+pub use model::read_lpf;
+pub use settings::Settings;
