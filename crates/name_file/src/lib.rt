@@ -7,6 +7,7 @@ mod names;
 mod package;
 mod reading;
 
+pub use kinds::package_of;
 pub use names::Names;
 pub use package::Package;
 pub use reading::read_names;

@@ -1,0 +1,4 @@
+pub mod ReadLines
+pub mod BasicLemmas
+pub mod PeriodLemmas
+pub mod FlowLemmas

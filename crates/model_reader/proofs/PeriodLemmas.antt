@@ -1,0 +1,74 @@
+-- Periods without stresses.
+use Rattle.std.proofs.Common.{◌≡◌, ℕ, ◌≤◌, ℤ, pos, Bool, true, false, not, cond, ◌&&◌, ◌||◌, ◌==◌, List, [], ◌∷◌, Some, None, All, length, refl, sym, ◌∙◌, ap, subst, arith}
+use Rattle.std.specs.List.{list_any}
+use Rattle.std.specs.Option.{option_to_list}
+use Rattle.std.proofs.lemmas.Bool.{or_parts}
+use Rattle.std.proofs.lemmas.List.Elements.{All-nil, All-cons, All-weaker}
+use Rattle.model_types.specs.declared.entry.Entry.{Entry}
+use Rattle.model_types.specs.declared.model.FlowModel.{FlowModel}
+use Rattle.model_types.specs.declared.period.Period.{Period}
+use Rattle.model_types.specs.Cells.{cell_count}
+use Rattle.model_types.specs.Receivers.{EvapSource, is_int, is_chosen, evap_source}
+use Rattle.model_types.specs.Sources.{evap_sources}
+use Rattle.model_types.specs.Times.{period_at}
+use Rattle.model_types.specs.Valid.{IsTimed, IsPeriod, IsEntryList, IsEntryValid, IsGivenList, IsGivenValid, IsEvapValid}
+use Rattle.dis_package.specs.Forms.{IsNewPeriod, without_stresses}
+use Rattle.lpf_package.specs.Flow.{is_transient}
+
+no_entries : (cells : ℕ) → IsEntryList cells []
+no_entries cells = record { few = omega arith; entries = All-nil (IsEntryValid cells) }
+
+none_given : (cells : ℕ) → IsGivenList cells []
+none_given cells = record { few = omega arith; entries = All-nil (IsGivenValid cells); once = grind arith }
+
+lacks : (z : ℤ) → z ≡ pos 0 → is_int z 0 ≡ false → ⊥
+lacks z e f =
+    let is : is_int z 0 ≡ true = rw e refl in
+    let clash : true ≡ false = sym is ∙ f in
+    cc
+
+not_two : (z : ℤ) → z ≡ pos 0 → is_int z 2 ≡ true → ⊥
+not_two z e f =
+    let is : is_int z 2 ≡ false = rw e refl in
+    let clash : false ≡ true = sym is ∙ f in
+    cc
+
+bare_period : (m : FlowModel) → m.nrchop ≡ pos 0 → m.nevtop ≡ pos 0 → (p : Period) → IsTimed (without_stresses p) → IsPeriod m (without_stresses p)
+bare_period m r e p times = record {
+  times = times;
+  wells = no_entries (cell_count m.grid);
+  rivers = no_entries (cell_count m.grid);
+  drains = no_entries (cell_count m.grid);
+  generals = no_entries (cell_count m.grid);
+  given = none_given (cell_count m.grid);
+  recharge = λ f. absurd (lacks m.nrchop r f);
+  irch = λ f. absurd (not_two m.nrchop r f);
+  surf = λ f. absurd (lacks m.nevtop e f);
+  evtr = λ f. absurd (lacks m.nevtop e f);
+  exdp = λ f. absurd (lacks m.nevtop e f);
+  ievt = λ f. absurd (not_two m.nevtop e f);
+}
+
+new_period : (m : FlowModel) → m.nrchop ≡ pos 0 → m.nevtop ≡ pos 0 → (p : Period) → IsNewPeriod p → IsPeriod m p
+new_period m r e p h = subst (IsPeriod m) (sym h.new) (bare_period m r e p (subst IsTimed h.new h.times))
+
+pub all_periods : (m : FlowModel) → m.nrchop ≡ pos 0 → m.nevtop ≡ pos 0 → All IsNewPeriod m.periods → All (IsPeriod m) m.periods
+all_periods m r e h = All-weaker IsNewPeriod (IsPeriod m) (new_period m r e) m.periods h
+
+none_chosen : (m : FlowModel) (z : ℤ) (layers : List ℤ) (c : ℕ) → z ≡ pos 0 → is_chosen m z layers c ≡ false
+none_chosen m z layers c e = rw e refl
+
+pub no_evaps : (m : FlowModel) (p c : ℕ) → m.nevtop ≡ pos 0 → All IsEvapValid (evap_sources m p c)
+no_evaps m p c e =
+    let none : evap_sources m p c ≡ [] = ap (λ b. option_to_list (cond (b && not ((evap_source m p c).rate.digits == 0)) (Some (evap_source m p c)) None)) (none_chosen m m.nevtop (period_at m p).ievt c e) in
+    subst (All IsEvapValid) (sym none) (All-nil IsEvapValid)
+
+pub all_steady : (ps : List Period) → is_transient ps ≡ false → All (λ p. p.steady ≡ true) ps
+all_steady [] e = All-nil (λ p. p.steady ≡ true)
+all_steady (p ∷ ps) e =
+    let q = or_parts (not p.steady) (is_transient ps) e in
+    All-cons (λ p. p.steady ≡ true) p ps (by_case p.steady q.0) (all_steady ps q.1)
+  where
+    by_case : (b : Bool) → not b ≡ false → b ≡ true
+    by_case true f = refl
+    by_case false f = absurd (let clash : true ≡ false = f in cc)

@@ -1,0 +1,49 @@
+-- A model from its files, in reading order: each file is read when its turn comes.
+use Rattle.std.specs.Prelude.{ℕ, List, Result, Ok}
+use Rattle.outside.specs.Files.{File}
+use Rattle.outside.specs.Inputs.{file_at}
+use Rattle.outside.specs.declared.refusals.Refusal.{Refusal}
+use Rattle.record_lines.specs.Reading.{◌>>=◌}
+use Rattle.name_file.specs.Pairs.{Pairs}
+use Rattle.name_file.specs.declared.package.Package.TheVariants.{Dis, Bas, Lpf}
+use Rattle.model_types.specs.declared.model.FlowModel.{FlowModel}
+use Rattle.dis_package.specs.Discretization.{dis_of}
+use Rattle.bas_package.specs.Basics.{bas_of}
+use Rattle.lpf_package.specs.Flow.{lpf_of}
+use Rattle.cell_checks.specs.Checks.{checked}
+use Rattle.cell_checks.specs.declared.passing.Check.TheVariants.{Thickness, StartHead, Properties}
+use Rattle.model_reader.specs.Names.{names_in, needed}
+
+unfoldable pub dis_in : List File → List ℕ → Result FlowModel Refusal
+dis_in files dis = do
+  bytes ← file_at files dis
+  dis_of files dis bytes
+
+-- the thickness of cells is refused with the file of the discretization
+unfoldable pub bas_in : List File → List ℕ → List ℕ → FlowModel → Result FlowModel Refusal
+bas_in files dis bas begun = do
+  bytes ← file_at files bas
+  basic ← bas_of files bas bytes begun
+  thick ← checked basic dis Thickness
+  heads ← checked basic bas StartHead
+  Ok basic
+
+unfoldable pub lpf_in : List File → List ℕ → FlowModel → Result FlowModel Refusal
+lpf_in files lpf basic = do
+  bytes ← file_at files lpf
+  flow ← lpf_of files lpf bytes basic
+  good ← checked flow lpf Properties
+  Ok flow
+
+-- DIS, BAS6, LPF
+unfoldable pub model_of : List File → Pairs → Result FlowModel Refusal
+model_of files names = do
+  begun ← dis_in files (needed Dis names)
+  basic ← bas_in files (needed Dis names) (needed Bas names) begun
+  lpf_in files (needed Lpf names) basic
+
+-- the model that a name file describes, or the first refusal
+unfoldable pub reads : List File → List ℕ → Result FlowModel Refusal
+reads files name = do
+  names ← names_in files name
+  model_of files names

@@ -1,0 +1,76 @@
+// DIS, BAS6 and LPF with the checks on cells behind them.
+ghost use Rattle.std.specs.Prelude.{◌≡◌, IfOk, IsTrue, is_some};
+ghost use Rattle.outside.specs.Counts.{InputCounts};
+ghost use Rattle.outside.specs.Names.{IsGoodName};
+ghost use Rattle.record_lines.specs.Reading.{Has, HasText};
+ghost use Rattle.array_reader.specs.Arrays.{told};
+ghost use Rattle.model_types.specs.Valid.{IsModel};
+ghost use Rattle.dis_package.specs.Forms.{IsBegun};
+ghost use Rattle.model_reader.specs.Forms.{IsBasic};
+ghost use Rattle.model_reader.specs.Model.{dis_in, bas_in, lpf_in};
+
+use array_reader::open_file;
+use bas_package::read_bas;
+use cell_checks::{Check, check_cells};
+use dis_package::read_dis;
+use lpf_package::read_lpf;
+use model_types::FlowModel;
+use outside::{Folder, InputFault};
+use std::alloc::Global;
+
+/// The model that DIS begins.
+#[tactic(auto, unfolding(crate::specs::Model::dis_in))]
+pub fn dis_in<F: Folder>(alloc: Global, folder: &mut F, name: &str) -> Result<FlowModel, InputFault>
+    requires name { IsGoodName name.now }
+    ensures files { F.files folder.new ≡ F.files folder.old }
+    ensures counts { InputCounts (F.faults folder.old) (F.faults folder.new) result }
+    ensures model { IsTrue (is_some (F.files folder.old)) → Has (λ m. m) result (dis_in (told (F.files folder.old)) name.now) }
+    ensures form { IfOk result IsBegun }
+{
+    let bytes = open_file(alloc, folder, name)?;
+    read_dis(alloc, name, &bytes, folder)
+}
+
+/// The model with BAS6. Then the thickness of each active cell is checked, and then the starting head of each.
+#[tactic(auto, unfolding(crate::specs::Model::bas_in), using(crate::proofs::BasicLemmas::basic_of))]
+pub fn bas_in<F: Folder>(
+    alloc: Global,
+    folder: &mut F,
+    dis: &str,
+    name: &str,
+    model: FlowModel,
+) -> Result<FlowModel, InputFault>
+    requires name { IsGoodName name.now }
+    requires begun { IsBegun model }
+    ensures files { F.files folder.new ≡ F.files folder.old }
+    ensures counts { InputCounts (F.faults folder.old) (F.faults folder.new) result }
+    ensures model { IsTrue (is_some (F.files folder.old)) → Has (λ m. m) result (bas_in (told (F.files folder.old)) dis.now name.now model) }
+    ensures form { IfOk result IsBasic }
+{
+    let bytes = open_file(alloc, folder, name)?;
+    let model = read_bas(alloc, name, &bytes, folder, model)?;
+    check_cells(alloc, &model, dis, Check::Thickness)?;
+    check_cells(alloc, &model, name, Check::StartHead)?;
+    Ok(model)
+}
+
+/// The model with LPF. Then the properties of each active cell are checked.
+#[tactic(auto, unfolding(crate::specs::Model::lpf_in), using(crate::proofs::FlowLemmas::model_of))]
+pub fn lpf_in<F: Folder>(
+    alloc: Global,
+    folder: &mut F,
+    name: &str,
+    model: FlowModel,
+) -> Result<FlowModel, InputFault>
+    requires name { IsGoodName name.now }
+    requires basic { IsBasic model }
+    ensures files { F.files folder.new ≡ F.files folder.old }
+    ensures counts { InputCounts (F.faults folder.old) (F.faults folder.new) result }
+    ensures model { IsTrue (is_some (F.files folder.old)) → Has (λ m. m) result (lpf_in (told (F.files folder.old)) name.now model) }
+    ensures form { IfOk result IsModel }
+{
+    let bytes = open_file(alloc, folder, name)?;
+    let model = read_lpf(alloc, name, &bytes, folder, model)?;
+    check_cells(alloc, &model, name, Check::Properties)?;
+    Ok(model)
+}

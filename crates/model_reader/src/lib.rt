@@ -1,0 +1,9 @@
+//! A model from its files, in reading order.
+#![tactic(auto)]
+
+mod basics;
+mod model;
+mod names;
+
+pub use model::{read_model, read_named_model};
+pub use names::read_name_file;

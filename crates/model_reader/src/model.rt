@@ -1,0 +1,61 @@
+// A model in reading order.
+ghost use Rattle.std.specs.Prelude.{◌≡◌, IfOk, IsTrue, is_some};
+ghost use Rattle.outside.specs.Counts.{InputCounts};
+ghost use Rattle.outside.specs.Names.{IsGoodName};
+ghost use Rattle.record_lines.specs.Reading.{Has};
+ghost use Rattle.array_reader.specs.Arrays.{told};
+ghost use Rattle.model_types.specs.Valid.{IsModel};
+ghost use Rattle.model_reader.specs.Model.{model_of, reads};
+
+use crate::basics::{bas_in, dis_in, lpf_in};
+use crate::names::{needed, read_name_file};
+use model_types::FlowModel;
+use name_file::{Names, Package};
+use outside::{Folder, InputFault};
+use std::alloc::Global;
+
+/// The model of these packages: DIS, BAS6 with the thickness and the starting head of each active cell, LPF with
+/// the properties of each active cell.
+///
+/// # Errors
+/// The first refusal in this order, with its file, and with its line or, of a check, line 0 and the cell. A read
+/// fault comes only from the folder.
+#[tactic(auto, unfolding(crate::specs::Model::model_of))]
+pub fn read_model<F: Folder>(
+    alloc: Global,
+    names: &Names,
+    folder: &mut F,
+) -> Result<FlowModel, InputFault>
+    ensures files { F.files folder.new ≡ F.files folder.old }
+    ensures counts { InputCounts (F.faults folder.old) (F.faults folder.new) result }
+    ensures model { IsTrue (is_some (F.files folder.old)) → Has (λ m. m) result (model_of (told (F.files folder.old)) names.now) }
+    ensures form { IfOk result IsModel }
+{
+    let dis = needed(names, Package::Dis);
+    let bas = needed(names, Package::Bas);
+    let lpf = needed(names, Package::Lpf);
+    let begun = dis_in(alloc, folder, dis)?;
+    let basic = bas_in(alloc, folder, dis, bas, begun)?;
+    lpf_in(alloc, folder, lpf, basic)
+}
+
+/// The model that a name file of the folder describes.
+///
+/// # Errors
+/// The first refusal, of the name file and then of the packages in reading order. A read fault comes only from the
+/// folder.
+#[tactic(auto, unfolding(crate::specs::Model::reads))]
+pub fn read_named_model<F: Folder>(
+    alloc: Global,
+    name: &str,
+    folder: &mut F,
+) -> Result<FlowModel, InputFault>
+    requires name { IsGoodName name.now }
+    ensures files { F.files folder.new ≡ F.files folder.old }
+    ensures counts { InputCounts (F.faults folder.old) (F.faults folder.new) result }
+    ensures model { IsTrue (is_some (F.files folder.old)) → Has (λ m. m) result (reads (told (F.files folder.old)) name.now) }
+    ensures form { IfOk result IsModel }
+{
+    let names = read_name_file(alloc, folder, name)?;
+    read_model(alloc, &names, folder)
+}
