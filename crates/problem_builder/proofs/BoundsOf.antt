@@ -1,10 +1,10 @@
 -- The bounds of a valid model's numbers enclose them.
-use Rattle.std.proofs.Common.{◌≡◌, ℕ, zero, suc, ◌+◌, ◌*◌, ◌-◌, ◌/◌, ◌<◌, ◌≤◌, ◌^◌, ◌⊎◌, inl, inr, Bool, true, false, cond, Option, Some, None, List, take, arith, refl, ap, sym, ◌∙◌, subst, All, ℤ, pos, neg_ℤ, ◌+ℤ◌, ◌-ℤ◌, ◌*ℤ◌, unsigned_abs}
+use Rattle.std.proofs.Common.{◌≡◌, ℕ, suc, ◌+◌, ◌*◌, ◌-◌, ◌<◌, ◌^◌, inl, inr, true, false, Option, Some, None, take, arith, refl, ap, subst, All, ℤ, pos, neg_ℤ, ◌+ℤ◌, ◌-ℤ◌, ◌*ℤ◌}
 use Rattle.std.specs.Option.{option_to_list}
 use Rattle.std.proofs.lemmas.Int.{ints}
 use Rattle.decimal_input.specs.declared.dec.Dec.{Dec}
-use Rattle.decimal_input.specs.Canonical.{number, size}
-use Rattle.decimal_input.specs.Fractions.{Fraction, plus, negated, den as denominator}
+use Rattle.decimal_input.specs.Canonical.{number}
+use Rattle.decimal_input.specs.Fractions.{plus, negated, den as denominator}
 use Rattle.decimal_input.specs.Enclosures.{Encloses, EnclosesSigned}
 use Rattle.decimal_input.proofs.Differences.{diffs, as_diff, same_diff}
 use Rattle.step_problem.specs.declared.entry.Evap.{Evap}
@@ -12,30 +12,25 @@ use Rattle.step_problem.specs.Conditions.{magnitude, IsHead}
 use Rattle.cell_balance.specs.Enclosures.{EvapEncloses}
 use Rattle.model_types.specs.declared.entry.Given.{Given}
 use Rattle.model_types.specs.declared.face.Axis.{Axis}
-use Rattle.model_types.specs.declared.face.Axis.TheVariants.{Row, Column, Vertical}
 use Rattle.model_types.specs.declared.model.FlowModel.{FlowModel}
-use Rattle.model_types.specs.declared.period.Period.{Period}
 use Rattle.model_types.specs.declared.time_steps.TimeStep.{TimeStep}
-use Rattle.model_types.specs.Cells.{cell_count, layer_size, column_of, row_of}
+use Rattle.model_types.specs.Cells.{cell_count}
 use Rattle.model_types.specs.Faces.{stride}
 use Rattle.model_types.specs.Heads.{kept_head, head_or_kept, constant_head}
-use Rattle.model_types.specs.Layers.{no_number, dec_at, gap, is_active, has_bed, lowest, bottom_at, top_at, bed_thickness, thickness, delr_at, delc_at, hk_at, hani_at, vka_at, vkcb_at}
+use Rattle.model_types.specs.Layers.{dec_at, is_active}
 use Rattle.model_types.specs.Conductances.{conductance}
-use Rattle.model_types.specs.Numbers.{IsPositive, IsHeadNumber}
-use Rattle.model_types.specs.Times.{period_at, passed}
-use Rattle.model_types.specs.Storage.{storage, storativity}
+use Rattle.model_types.specs.Times.{period_at}
+use Rattle.model_types.specs.Storage.{storage}
 use Rattle.model_types.specs.Kinds.{is_variable, is_constant, given_in, last_given}
-use Rattle.model_types.specs.Receivers.{EvapSource, recharge_at, evap_at, recharge_flow, evap_conductance, extinction}
+use Rattle.model_types.specs.Receivers.{EvapSource, evap_at, recharge_flow, evap_conductance, extinction}
 use Rattle.model_types.specs.Valid.{IsModel, IsEvapValid}
-use Rattle.conductance_bounds.specs.Terms.{Term, exact, Holds, IsBetween}
+use Rattle.conductance_bounds.specs.Terms.{Term}
 use Rattle.conductance_bounds.specs.Pairs.{IsPair, IsCapped}
-use Rattle.conductance_bounds.specs.Parts.{IsPart, IsGivenPair}
-use Rattle.conductance_bounds.specs.Formulas.{face_term, storage_term, evap_term, thick_term, recharge_term}
+use Rattle.conductance_bounds.specs.Formulas.{face_term, storage_term, evap_term}
 use Rattle.conductance_bounds.proofs.FaceBounds.{faces_enclose}
 use Rattle.conductance_bounds.proofs.ModelBounds.{storages_enclose, recharges_enclose, evaps_enclose, heads_enclose as given_encloses}
 use Rattle.conductance_bounds.proofs.PartBounds.{part_encloses, multiplier_positive}
 use Rattle.conductance_bounds.proofs.SpanBounds.{below_gap, above_gap}
-use Rattle.problem_builder.specs.InputBounds.{IsHeadPair}
 use Rattle.problem_builder.specs.Thicknesses.{Thicknesses, AreThicknesses}
 use Rattle.problem_builder.specs.ConstantHeads.{IsKeptPair, IsGivenOrKept, IsConstantPair}
 use Rattle.problem_builder.specs.RechargeBounds.{IsRechargePair}
@@ -44,7 +39,7 @@ use Rattle.problem_builder.specs.Moments.{IsTimeOf}
 use Rattle.problem_builder.proofs.ActiveCells.{variable_active, constant_active}
 use Rattle.problem_builder.proofs.Bounds.{BoundsEnclose}
 use Rattle.problem_builder.proofs.CellEnclosed.{head_encloses, past_magnitude}
-use Rattle.problem_builder.proofs.Fits.{size_positive, evap_holds, head_pair_range}
+use Rattle.problem_builder.proofs.Fits.{head_pair_range}
 use Rattle.problem_builder.proofs.GivenRange.{given_range}
 use Rattle.problem_builder.proofs.GivenValid.{given_valid, last_valid}
 

@@ -1,6 +1,5 @@
 -- A cell of the problem encloses the exact cell: one step for each kind of entry.
-use Rattle.std.proofs.Common.{◌≡◌, ℕ, suc, ◌+◌, ◌<◌, ◌≤◌, ◌^◌, ◌⊎◌, inl, inr, true, false, Some, List, map, refl, sym, ap, ◌∙◌, subst, arith, ℤ, pos, negsuc}
-use Rattle.std.specs.Prelude.{unsigned_abs, max}
+use Rattle.std.proofs.Common.{◌≡◌, ℕ, ◌+◌, ◌<◌, ◌^◌, inl, inr, true, List, map, sym, subst, arith, ℤ, pos, negsuc}
 use Rattle.std.specs.List.{AllZip}
 use Rattle.std.proofs.lemmas.Int.{ints}
 use Rattle.decimal_input.specs.declared.dec.Dec.{Dec}
@@ -15,9 +14,8 @@ use Rattle.step_problem.specs.declared.entry.River.{River}
 use Rattle.step_problem.specs.declared.entry.Drain.{Drain}
 use Rattle.step_problem.specs.declared.entry.Evap.{Evap}
 use Rattle.step_problem.specs.Entries.{Entries}
-use Rattle.step_problem.specs.Heads.{lower_at, upper_at}
-use Rattle.step_problem.specs.Conditions.{conductance_of, flow_of, magnitude}
-use Rattle.cell_balance.specs.Steps.{ExactCell}
+use Rattle.step_problem.specs.Heads.{upper_at}
+use Rattle.step_problem.specs.Conditions.{magnitude}
 use Rattle.cell_balance.specs.Enclosures.{FlowEncloses, LinkEncloses, FixedEncloses, RiverEncloses, DrainEncloses, EvapEncloses, CellEncloses}
 use Rattle.model_types.specs.declared.face.Face.{Face}
 use Rattle.model_types.specs.declared.model.FlowModel.{FlowModel}
@@ -27,8 +25,8 @@ use Rattle.model_types.specs.Grids.{HasSize}
 use Rattle.model_types.specs.Layers.{is_active}
 use Rattle.model_types.specs.Conductances.{conductance}
 use Rattle.model_types.specs.Kinds.{is_variable, is_constant}
-use Rattle.model_types.specs.Receivers.{EvapSource, evap_at}
-use Rattle.model_types.specs.Sources.{FixedSource, FlowSource, RiverSource, DrainSource, variable_faces, flow_sources, fixed_sources, river_sources, drain_sources, evap_sources}
+use Rattle.model_types.specs.Receivers.{evap_at}
+use Rattle.model_types.specs.Sources.{FixedSource, FlowSource, variable_faces, flow_sources, fixed_sources, river_sources, drain_sources, evap_sources}
 use Rattle.model_types.specs.Sources.FixedSource.{ToConstant, ToGeneral, FromStorage}
 use Rattle.model_types.specs.Sources.FlowSource.{Pumped, Received}
 use Rattle.model_types.proofs.Members.{In}

@@ -1,10 +1,9 @@
 -- A cell without a refusal keeps what a problem asks of a cell alone.
-use Rattle.std.proofs.Common.{◌≡◌, ℕ, suc, ◌+◌, ◌*◌, ◌<◌, ◌≤◌, ◌^◌, ◌⊎◌, inl, inr, true, false, Option, Some, None, List, [], ◌∷◌, length, refl, sym, ap, ◌∙◌, subst, arith, All}
+use Rattle.std.proofs.Common.{◌≡◌, ℕ, ◌*◌, ◌<◌, ◌≤◌, ◌^◌, inl, inr, true, Some, None, List, sym, subst, arith, All}
 use Rattle.std.specs.Prelude.{◌==◌}
 use Rattle.std.specs.List.{list_any}
 use Rattle.std.proofs.Math.Nat.{le_of_mul-le-mul_right}
 use Rattle.std.proofs.lemmas.Option.{none-some}
-use Rattle.decimal_input.specs.declared.dec.Dec.{Dec}
 use Rattle.decimal_input.specs.Ratios.{Ratio, den}
 use Rattle.decimal_input.specs.Enclosures.{Encloses}
 use Rattle.step_problem.specs.declared.heads.Bound.{Bound}
@@ -24,8 +23,7 @@ use Rattle.model_types.specs.Layers.{is_active}
 use Rattle.model_types.specs.Conductances.{conductance}
 use Rattle.model_types.specs.Numbers.{IsHeadNumber}
 use Rattle.model_types.specs.Kinds.{is_variable, is_constant}
-use Rattle.model_types.specs.Receivers.{evap_at}
-use Rattle.model_types.specs.Sources.{FixedSource, DrainSource, as_river, as_drain, as_general, local_entries, variable_faces, fixed_sources, river_sources, drain_sources, evap_sources}
+use Rattle.model_types.specs.Sources.{FixedSource, DrainSource, as_river, as_drain, local_entries, variable_faces, fixed_sources, river_sources, drain_sources, evap_sources}
 use Rattle.model_types.specs.Sources.FixedSource.{ToConstant, ToGeneral, FromStorage}
 use Rattle.model_types.specs.Valid.{IsModel, IsEntryValid, IsEvapValid}
 use Rattle.model_types.proofs.Members.{In, All-In, In-All, filter_map-In}

@@ -1,7 +1,6 @@
 -- Tables that are given as lists over all cells.
-use Rattle.std.proofs.Common.{◌≡◌, ℕ, zero, suc, ◌+◌, ◌<◌, Option, None, List, [], ◌∷◌, length, get_or, map, take, refl, sym, ap, ◌∙◌, subst, arith}
+use Rattle.std.proofs.Common.{◌≡◌, ℕ, zero, suc, ◌+◌, ◌<◌, None, List, length, get_or, map, take, refl, ap, ◌∙◌, arith}
 use Rattle.std.specs.List.{range_with_len}
-use Rattle.model_types.specs.declared.entry.Given.{Given}
 use Rattle.model_types.specs.declared.given_heads.GivenHeads.{GivenHeads}
 use Rattle.model_types.specs.declared.kind.Kind.{Kind}
 use Rattle.model_types.specs.declared.kind.Kind.TheVariants.{NoFlow}

@@ -7,7 +7,7 @@ use Rattle.model_types.specs.Cells.{place_in_layer}
 use Rattle.model_types.specs.Layers.{dec_at}
 use Rattle.model_types.specs.Receivers.{is_int, is_chosen}
 use Rattle.model_types.specs.Times.{period_at}
-use Rattle.model_types.specs.Valid.{IsModel, IsPeriod}
+use Rattle.model_types.specs.Valid.{IsPeriod}
 use Rattle.problem_builder.proofs.Elevations.{dec_valid}
 
 -- option 0 chooses no cell

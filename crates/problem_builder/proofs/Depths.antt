@@ -1,5 +1,5 @@
 -- Extinction depths and elevations are in range.
-use Rattle.std.proofs.Common.{◌≡◌, ℕ, ◌*◌, ◌^◌, refl, arith, ℤ, pos, neg_ℤ, ◌+ℤ◌, ◌-ℤ◌, ◌*ℤ◌, ◌≤ℤ◌, negsuc, ◌≤◌, unsigned_abs}
+use Rattle.std.proofs.Common.{◌^◌, refl, arith, ℤ, pos, ◌-ℤ◌, ◌≤ℤ◌, negsuc, ◌≤◌, unsigned_abs}
 use Rattle.std.specs.Prelude.{FitsSigned}
 use Rattle.std.specs.Int.{w64, w128}
 use Rattle.std.proofs.lemmas.Int.{ints}

@@ -1,5 +1,5 @@
 -- The example meets all that a problem of its step is built of.
-use Rattle.std.proofs.Common.{◌≡◌, ℕ, zero, suc, ◌<◌, ◌⊎◌, inl, inr, true, false, cond, Some, None, List, [], ◌∷◌, ◌-◌, get_or, refl, sym, arith, All, pos, neg_ℤ}
+use Rattle.std.proofs.Common.{ℕ, zero, suc, ◌<◌, inl, inr, cond, Some, None, List, [], ◌∷◌, ◌-◌, get_or, refl, arith, All, pos}
 use Rattle.std.specs.Prelude.{not, ◌&&◌, ◌==◌}
 use Rattle.std.specs.Option.{option_to_list}
 use Rattle.std.specs.List.{Contains}
@@ -14,7 +14,7 @@ use Rattle.model_types.specs.Grids.{IsGrid}
 use Rattle.model_types.specs.Heads.{start_head}
 use Rattle.model_types.specs.declared.period.Period.{Period}
 use Rattle.model_types.specs.Cells.{place_in_layer}
-use Rattle.model_types.specs.Layers.{dec_at, is_active}
+use Rattle.model_types.specs.Layers.{dec_at}
 use Rattle.model_types.specs.Numbers.{IsPositive, IsNotNegative, IsHeadNumber, IsThick}
 use Rattle.model_types.specs.Sources.{evap_sources}
 use Rattle.model_types.specs.Receivers.{EvapSource, is_chosen}

@@ -1,6 +1,5 @@
 -- The faces of a variable cell: both their cells lie in the grid, and are active where the cell behind is.
-use Rattle.std.proofs.Common.{◌≡◌, ℕ, ◌+◌, ◌*◌, ◌/◌, ◌%◌, ◌<◌, ◌≤◌, ◌⊎◌, inl, inr, true, Option, Some, None, List, [], ◌∷◌, refl, sym, ap, ◌∙◌, subst, arith, All}
-use Rattle.step_problem.specs.declared.entry.Link.{Link}
+use Rattle.std.proofs.Common.{◌≡◌, ℕ, ◌+◌, ◌%◌, ◌<◌, ◌≤◌, inl, inr, true, Option, Some, None, sym, ap, ◌∙◌, arith, All}
 use Rattle.model_types.specs.declared.face.Face.{Face}
 use Rattle.model_types.specs.declared.grid.Grid.{Grid}
 use Rattle.model_types.specs.declared.model.FlowModel.{FlowModel}

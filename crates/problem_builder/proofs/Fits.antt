@@ -1,16 +1,12 @@
 -- Rivers and evapotranspirations of a cell: bounds in order, heads in range.
-use Rattle.std.proofs.Common.{◌≡◌, ℕ, suc, ◌+◌, ◌*◌, ◌<◌, ◌≤◌, ◌^◌, ◌⊎◌, inl, inr, true, false, Bool, Option, Some, None, List, [], ◌∷◌, refl, sym, ap, ◌∙◌, subst, arith, All, ℤ, pos, neg_ℤ, ◌+ℤ◌, ◌-ℤ◌, ◌≤ℤ◌, unsigned_abs}
-use Rattle.std.specs.List.{AllZip, filter_map}
-use Rattle.std.specs.Option.{option_to_list}
+use Rattle.std.proofs.Common.{◌≡◌, ℕ, ◌*◌, ◌<◌, ◌≤◌, ◌^◌, inl, inr, Bool, Some, refl, sym, subst, arith, All, ℤ, pos, ◌+ℤ◌, ◌≤ℤ◌}
 use Rattle.std.proofs.lemmas.Int.{ints, by_lt_z}
 use Rattle.std.proofs.lemmas.Option.{none-some}
-use Rattle.std.specs.Prelude.{◌*ℤ◌, ◌<ℤ◌}
 use Rattle.decimal_input.specs.Fractions.{Fraction, den}
 use Rattle.decimal_input.specs.Decimals.{with_sign}
 use Rattle.decimal_input.proofs.Signs.{cancel_right, mul_mono_right}
 use Rattle.decimal_input.specs.declared.dec.Dec.{Dec}
 use Rattle.decimal_input.specs.Canonical.{number, size}
-use Rattle.decimal_input.specs.Ratios.{AtMost}
 use Rattle.decimal_input.proofs.Orders.{AtMost-refl, AtMost-trans}
 use Rattle.decimal_input.proofs.Powers.{ten_pos, num_scaled}
 use Rattle.decimal_input.specs.Decimals.{up}
@@ -24,11 +20,11 @@ use Rattle.model_types.specs.declared.entry.Entry.{Entry}
 use Rattle.model_types.specs.declared.entry.Entry.TheVariants.{Well, River as RiverEntry, Drain as DrainEntry, General as GeneralEntry}
 use Rattle.model_types.specs.declared.model.FlowModel.{FlowModel}
 use Rattle.model_types.specs.Numbers.{IsPositive, IsHeadNumber}
-use Rattle.model_types.specs.Receivers.{EvapSource, evap_at}
+use Rattle.model_types.specs.Receivers.{EvapSource}
 use Rattle.model_types.specs.Sources.{RiverSource, as_river, local_entries, river_sources, evap_sources}
 use Rattle.model_types.specs.Valid.{IsEntryValid, IsEvapValid}
-use Rattle.model_types.proofs.Members.{In, In-All, All-In, filter_map-In}
-use Rattle.conductance_bounds.specs.Terms.{Term, Holds, IsBound}
+use Rattle.model_types.proofs.Members.{In-All, filter_map-In}
+use Rattle.conductance_bounds.specs.Terms.{Term, Holds}
 use Rattle.conductance_bounds.specs.Terms.Side.{Lower, Upper}
 use Rattle.conductance_bounds.specs.Pairs.{IsPair, IsCapped}
 use Rattle.conductance_bounds.specs.Formulas.{evap_term}

@@ -1,5 +1,5 @@
 -- The entries of CHD lists are valid.
-use Rattle.std.proofs.Common.{◌≡◌, ℕ, zero, suc, ◌+◌, ◌<◌, ◌⊎◌, inl, inr, Bool, true, false, cond, Option, Some, None, List, [], ◌∷◌, ◌++◌, length, get_or, take, refl, sym, ap, ◌∙◌, subst, arith, All}
+use Rattle.std.proofs.Common.{◌≡◌, ℕ, zero, suc, ◌⊎◌, inl, inr, Bool, true, false, cond, Option, Some, None, List, [], ◌∷◌, ◌++◌, take, refl, sym, subst, All}
 use Rattle.std.specs.Prelude.{reverse, ◌==◌, IfSome}
 use Rattle.model_types.specs.Numbers.{IsHeadNumber}
 use Rattle.std.specs.List.{find, flat_map}
@@ -12,7 +12,7 @@ use Rattle.model_types.specs.declared.model.FlowModel.{FlowModel}
 use Rattle.model_types.specs.Cells.{cell_count}
 use Rattle.model_types.specs.Kinds.{given_in, last_given}
 use Rattle.model_types.specs.Valid.{IsModel, IsPeriod, IsGivenValid}
-use Rattle.model_types.proofs.Members.{In, In-All, In-get_or}
+use Rattle.model_types.proofs.Members.{In, In-All}
 use Rattle.problem_builder.proofs.Members.{some_same}
 
 first_or : {X : Type 0} (b : Bool) (y : X) (ys : List X) (x : X) (o : Option X) → (o ≡ Some x → In ys x) → cond b (Some y) o ≡ Some x → In (y ∷ ys) x

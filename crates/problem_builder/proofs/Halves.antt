@@ -1,5 +1,5 @@
 -- The halves of branches, and the bed between two layers.
-use Rattle.std.proofs.Common.{Bool, cond, Option, Some, None, ◌≡◌, ℕ, zero, suc, ◌+◌, ◌*◌, ◌/◌, ◌<◌, ◌≤◌, ◌⊎◌, inl, inr, true, false, refl, sym, ap, ◌∙◌, subst, arith}
+use Rattle.std.proofs.Common.{Bool, cond, Some, None, ◌≡◌, ℕ, zero, suc, ◌+◌, ◌*◌, ◌/◌, ◌<◌, ◌⊎◌, inl, inr, true, false, refl, sym, ap, ◌∙◌, arith}
 use Rattle.std.specs.Prelude.{◌==◌}
 use Rattle.std.proofs.lemmas.Nat.{mod_below}
 use Rattle.std.proofs.lemmas.Bool.{ne_eqb}
@@ -12,14 +12,13 @@ use Rattle.model_types.specs.declared.grid.Grid.{Grid}
 use Rattle.model_types.specs.Faces.{stride, has_after, face_after}
 use Rattle.problem_builder.proofs.Fits.{some_same}
 use Rattle.model_types.specs.declared.model.FlowModel.{FlowModel}
-use Rattle.model_types.specs.Cells.{cell_count, layer_size, column_of, row_of}
+use Rattle.model_types.specs.Cells.{layer_size, column_of, row_of}
 use Rattle.model_types.specs.Layers.{no_number, delr_at, delc_at, thickness, bed_thickness, vkcb_at, bottom_at, lowest}
 use Rattle.conductance_bounds.proofs.SpanBounds.{thick_positive}
 use Rattle.model_types.specs.Numbers.{IsPositive}
 use Rattle.model_types.specs.Valid.{IsModel, IsBedValid}
 use Rattle.conductance_bounds.specs.declared.span.Span.{Span}
 use Rattle.conductance_bounds.specs.Calls.{IsBed}
-use Rattle.conductance_bounds.specs.Terms.{Term}
 use Rattle.conductance_bounds.specs.Terms.Term.{Quotient}
 use Rattle.conductance_bounds.specs.Branches.{vertical_of, resistance_sum}
 use Rattle.conductance_bounds.specs.Formulas.{face_term, area_term, bed_term, vertical_half_term}

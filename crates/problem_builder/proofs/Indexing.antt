@@ -1,5 +1,5 @@
 -- Indices of variable cells, one after the other.
-use Rattle.std.proofs.Common.{◌≡◌, ℕ, suc, ◌+◌, ◌≤◌, true, false, refl, sym, ap, ◌∙◌, subst, arith}
+use Rattle.std.proofs.Common.{◌≡◌, ℕ, suc, ◌+◌, ◌≤◌, true, false, sym, ap, ◌∙◌, arith}
 use Rattle.model_types.specs.declared.model.FlowModel.{FlowModel}
 use Rattle.model_types.specs.Kinds.{is_variable, index_of}
 use Rattle.model_types.proofs.Ranks.{rank, rank_passes, rank_fails, rank_few}

@@ -1,6 +1,6 @@
 -- The cells that a problem names are active; in a transient period each has a branch to its old head.
-use Rattle.std.proofs.Common.{◌≡◌, ℕ, ◌<◌, ◌⊎◌, inl, inr, Bool, true, false, cond, Some, None, List, [], ◌∷◌, ◌++◌, length, map, refl, sym, ap, ◌∙◌, subst, arith}
-use Rattle.std.specs.List.{AllZip, Contains, filter_map}
+use Rattle.std.proofs.Common.{◌≡◌, ℕ, ◌<◌, inl, inr, Bool, true, false, cond, Some, None, List, ◌++◌, length, map, refl, sym, ◌∙◌, subst}
+use Rattle.std.specs.List.{Contains, filter_map}
 use Rattle.std.specs.Option.{option_to_list}
 use Rattle.step_problem.specs.declared.heads.Bound.{Bound}
 use Rattle.step_problem.specs.declared.entry.Fixed.{Fixed}
@@ -11,7 +11,7 @@ use Rattle.model_types.specs.Cells.{cell_count}
 use Rattle.model_types.specs.Grids.{HasSize}
 use Rattle.model_types.specs.Kinds.{is_variable, is_constant, variable_below}
 use Rattle.model_types.specs.Times.{period_at}
-use Rattle.model_types.specs.Sources.{FixedSource, fixed_sources, constant_faces, local_entries, storage_at, as_general}
+use Rattle.model_types.specs.Sources.{FixedSource, fixed_sources, constant_faces, local_entries, as_general}
 use Rattle.model_types.specs.Sources.FixedSource.{ToConstant, ToGeneral, FromStorage}
 use Rattle.model_types.proofs.Members.{In, In-get_or, Contains-In}
 use Rattle.model_types.proofs.Leads.{passing_are, end_within}

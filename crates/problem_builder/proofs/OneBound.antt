@@ -1,5 +1,5 @@
 -- Each rounded number is one number.
-use Rattle.std.proofs.Common.{◌≡◌, ℕ, zero, suc, ◌+◌, ◌-◌, ◌*◌, ◌<◌, ◌≤◌, ◌^◌, ◌⊎◌, inl, inr, Bool, true, false, refl, sym, ap, ◌∙◌, subst, arith, ℤ, pos, neg_ℤ, ◌+ℤ◌, ◌-ℤ◌, ◌*ℤ◌, ◌≤ℤ◌, unsigned_abs}
+use Rattle.std.proofs.Common.{◌≡◌, ℕ, zero, suc, ◌+◌, ◌-◌, ◌*◌, ◌<◌, ◌≤◌, ◌^◌, inl, inr, Bool, true, false, refl, sym, ap, ◌∙◌, subst, arith, ℤ, pos, neg_ℤ, ◌-ℤ◌, unsigned_abs}
 use Rattle.std.specs.Prelude.{min}
 use Rattle.std.specs.Int.{int_min, int_max}
 use Rattle.std.proofs.lemmas.Int.{ints}
@@ -12,17 +12,17 @@ use Rattle.decimal_input.specs.Ratios.{Ratio, den, plus, times, over, AtMost, Sa
 use Rattle.decimal_input.specs.Fractions.{Fraction}
 use Rattle.decimal_input.specs.Wholes.{IsFloor, IsCeiling, Passes, IsSignedFloor, IsSignedCeiling}
 use Rattle.decimal_input.proofs.FloorLaws.{one_floor, one_ceiling}
-use Rattle.decimal_input.proofs.Orders.{Same-trans, Same-sym, Same-AtMost, Same-back, AtMost-trans}
+use Rattle.decimal_input.proofs.Orders.{Same-trans, Same-sym}
 use Rattle.scaled_decimal.specs.declared.decimal.Sd.{Sd}
 use Rattle.scaled_decimal.specs.Nearest.{IsSd, value, IsDown, IsUp}
 use Rattle.scaled_decimal.proofs.Unique.{one_decimal}
 use Rattle.model_types.specs.declared.period.Period.{Period}
 use Rattle.conductance_bounds.specs.declared.span.Span.{Span}
-use Rattle.conductance_bounds.specs.Terms.{Term, Side, other, IsRounded, end, IsBound}
+use Rattle.conductance_bounds.specs.Terms.{Term, Side, other, IsRounded, IsBound}
 use Rattle.conductance_bounds.specs.Terms.Term.{Number, Within, Sum, Product, Quotient}
 use Rattle.conductance_bounds.specs.Terms.Side.{Lower, Upper}
 use Rattle.conductance_bounds.specs.Thicknesses.{IsSpan}
-use Rattle.conductance_bounds.specs.Pairs.{IsPair, IsPast, IsStandIn, IsCapped, IsFlow, low_end, high_end}
+use Rattle.conductance_bounds.specs.Pairs.{IsPair, IsPast, IsCapped, IsFlow, low_end, high_end}
 use Rattle.conductance_bounds.specs.Parts.{part_term, IsPart, IsGivenPair, blend}
 use Rattle.problem_builder.specs.InputBounds.{IsCond, IsWellPair, IsHeadPair}
 use Rattle.problem_builder.specs.RechargeBounds.{IsRechargePair}

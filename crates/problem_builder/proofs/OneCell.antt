@@ -1,8 +1,6 @@
 -- A variable cell's entries are one list of each kind.
-use Rattle.std.proofs.Common.{◌≡◌, ℕ, zero, suc, ◌+◌, ◌-◌, ◌<◌, ◌⊎◌, inl, inr, Bool, true, false, Option, Some, None, List, [], ◌∷◌, take, refl, sym, ap, ◌∙◌, subst, arith, ℤ, pos, ◌-ℤ◌}
+use Rattle.std.proofs.Common.{◌≡◌, ℕ, zero, suc, ◌+◌, ◌-◌, ◌<◌, true, Option, Some, None, List, take, refl, sym, ap, ◌∙◌, subst, arith, ℤ, ◌-ℤ◌}
 use Rattle.std.specs.Prelude.{◌==◌}
-use Rattle.std.specs.List.{AllZip}
-use Rattle.decimal_input.specs.declared.dec.Dec.{Dec}
 use Rattle.decimal_input.specs.Canonical.{size}
 use Rattle.step_problem.specs.declared.heads.Bound.{Bound}
 use Rattle.step_problem.specs.declared.entry.Flow.{Flow}
@@ -30,17 +28,15 @@ use Rattle.model_types.specs.Sources.FixedSource.{ToConstant, ToGeneral, FromSto
 use Rattle.model_types.specs.Sources.FlowSource.{Pumped, Received}
 use Rattle.model_types.proofs.Members.{In}
 use Rattle.model_types.proofs.Leads.{IsFaceOf, passing_are}
-use Rattle.conductance_bounds.specs.declared.span.Span.{Span}
 use Rattle.conductance_bounds.specs.Terms.{Term}
 use Rattle.conductance_bounds.specs.Terms.Term.{Number, Within, Quotient}
 use Rattle.conductance_bounds.specs.Branches.{row_term, vertical_term, resistance_sum}
 use Rattle.conductance_bounds.specs.Pairs.{IsCapped}
-use Rattle.conductance_bounds.specs.Parts.{IsPart, IsGivenPair}
+use Rattle.conductance_bounds.specs.Parts.{IsGivenPair}
 use Rattle.conductance_bounds.specs.Formulas.{face_term, storage_term, evap_term, column_k_term, vertical_k_at, area_term, bed_term}
 use Rattle.problem_builder.specs.Thicknesses.{Thicknesses, AreThicknesses}
-use Rattle.problem_builder.specs.InputBounds.{IsHeadPair}
 use Rattle.problem_builder.specs.ConstantHeads.{IsKeptPair, IsGivenOrKept, IsConstantPair}
-use Rattle.problem_builder.specs.Cells.{IsRiver, IsDrain, IsEvap, IsFlow, IsLink, IsConstant, IsFixed, IsCellOf}
+use Rattle.problem_builder.specs.Cells.{IsRiver, IsDrain, IsEvap, IsFlow, IsLink, IsFixed, IsCellOf}
 use Rattle.problem_builder.proofs.ActiveCells.{variable_active, constant_active}
 use Rattle.problem_builder.proofs.FacePairs.{face_range, face_active}
 use Rattle.problem_builder.proofs.Members.{constant_is}

@@ -1,19 +1,16 @@
 -- A model, a time and the heads before it have one problem, or one first refusal.
-use Rattle.std.proofs.Common.{◌≡◌, ℕ, ◌<◌, ◌⊎◌, inl, inr, true, Option, Some, None, List, refl, sym, ap, ◌∙◌, subst, arith}
-use Rattle.std.specs.List.{AllZip}
+use Rattle.std.proofs.Common.{◌≡◌, ℕ, ◌<◌, inl, inr, true, None, List, sym, ap, ◌∙◌, subst}
 use Rattle.std.proofs.lemmas.Bool.{cases_order}
 use Rattle.std.proofs.lemmas.Option.{none-some}
 use Rattle.step_problem.specs.declared.heads.Bound.{Bound}
-use Rattle.step_problem.specs.declared.heads.Side.TheVariants.{Low}
 use Rattle.step_problem.specs.declared.place.NoBound.{NoBound}
-use Rattle.step_problem.specs.declared.place.Place.TheVariants.{Cell}
 use Rattle.step_problem.specs.Entries.{Entries}
 use Rattle.model_types.specs.declared.model.FlowModel.{FlowModel}
 use Rattle.model_types.specs.declared.time_steps.TimeStep.{TimeStep}
 use Rattle.model_types.specs.Cells.{cell_count}
 use Rattle.model_types.specs.Grids.{HasSize}
 use Rattle.model_types.specs.Kinds.{is_variable, variable_below}
-use Rattle.model_types.proofs.Members.{In, In-All}
+use Rattle.model_types.proofs.Members.{In-All}
 use Rattle.problem_builder.specs.Thicknesses.{Thicknesses, AreThicknesses}
 use Rattle.problem_builder.specs.Cells.{IsCellOf}
 use Rattle.problem_builder.specs.Refusals.{fault_of}

@@ -1,5 +1,5 @@
 -- The tables of a stress period, put together.
-use Rattle.std.proofs.Common.{◌≡◌, ℕ, ◌+◌, ◌-◌, ◌<◌, Option, None, List, length, arith, sym, subst}
+use Rattle.std.proofs.Common.{◌≡◌, ℕ, ◌+◌, ◌-◌, Option, None, List, length, arith, sym, subst}
 use Rattle.step_problem.specs.Heads.{no_bound}
 use Rattle.model_types.specs.declared.entry.Given.{Given}
 use Rattle.model_types.specs.declared.kind.Kind.TheVariants.{NoFlow}

@@ -1,24 +1,23 @@
 -- The cells of a step are a problem.
-use Rattle.std.proofs.Common.{◌≡◌, ℕ, zero, suc, ◌+◌, ◌<◌, ◌≤◌, ◌⊎◌, inl, inr, Bool, true, false, Some, None, List, [], ◌∷◌, length, get_or, map, refl, sym, ap, ◌∙◌, subst, arith, All}
-use Rattle.std.specs.List.{AllZip, Contains, filter_map}
+use Rattle.std.proofs.Common.{◌≡◌, ℕ, ◌<◌, inl, inr, Bool, true, List, length, get_or, sym, ap, ◌∙◌, subst, arith}
+use Rattle.std.specs.List.{AllZip, Contains}
 use Rattle.std.proofs.lemmas.Bool.{cases_order}
 use Rattle.step_problem.specs.declared.heads.Bound.{Bound}
 use Rattle.step_problem.specs.declared.entry.Link.{Link}
-use Rattle.step_problem.specs.Entries.{Entries, entries_at, no_entries, no_link, link_at}
-use Rattle.step_problem.specs.Conditions.{CellFits, LinksFit, IsProblem}
+use Rattle.step_problem.specs.Entries.{Entries, entries_at, no_entries, no_link}
+use Rattle.step_problem.specs.Conditions.{LinksFit, IsProblem}
 use Rattle.cell_balance.proofs.Zips.{AllZip-at, AllZip-length}
 use Rattle.model_types.specs.declared.face.Face.{Face}
 use Rattle.model_types.specs.declared.model.FlowModel.{FlowModel}
 use Rattle.model_types.specs.declared.time_steps.TimeStep.{TimeStep}
 use Rattle.model_types.specs.Cells.{cell_count}
-use Rattle.model_types.specs.Kinds.{is_variable, variable_below, index_of}
+use Rattle.model_types.specs.Kinds.{is_variable}
 use Rattle.model_types.specs.Sources.{variable_faces}
 use Rattle.model_types.specs.Valid.{IsModel}
 use Rattle.model_types.proofs.Members.{In, Contains-In, All-In, Ordered, Ordered-at}
 use Rattle.model_types.proofs.Leads.{IsFaceOf, passing_are, passing_have, end_within, end_other, face_back, turned, ends_ascend, few_faces}
 use Rattle.model_types.proofs.Ranks.{passing, rank, rank_below, rank_apart, at_rank, is_at, IsAt, rank_few}
 use Rattle.flow_equations.proofs.Links.{below_is, index_is}
-use Rattle.conductance_bounds.specs.Pairs.{IsCapped}
 use Rattle.conductance_bounds.specs.Formulas.{face_term}
 use Rattle.problem_builder.specs.Thicknesses.{Thicknesses}
 use Rattle.problem_builder.specs.Cells.{IsLink, IsCellOf}

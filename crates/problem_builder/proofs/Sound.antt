@@ -1,5 +1,5 @@
 -- What a cell without a refusal is.
-use Rattle.std.proofs.Common.{◌≡◌, ℕ, zero, suc, ◌+◌, ◌<◌, ◌≤◌, ◌^◌, ◌⊎◌, inl, inr, Bool, true, false, cond, Option, Some, None, List, [], ◌∷◌, refl, sym, ap, ◌∙◌, subst, arith}
+use Rattle.std.proofs.Common.{◌≡◌, ℕ, zero, suc, ◌+◌, ◌<◌, ◌≤◌, ◌^◌, inl, inr, Bool, true, false, cond, Option, Some, None, List, [], ◌∷◌, refl, sym, ap, subst, arith}
 use Rattle.std.specs.Prelude.{nat_le, ◌||◌, ◌==◌, sum_by}
 use Rattle.std.specs.List.{list_any, fold}
 use Rattle.std.proofs.lemmas.Bool.{leb-false, false≢true}

@@ -1,7 +1,6 @@
 -- The bounds of STRT.
-use Rattle.std.proofs.Common.{◌≡◌, ℕ, ◌<◌, ◌⊎◌, inl, inr, true, false, List, length, get_or, refl, sym, ap, ◌∙◌, subst, arith, All, pos}
+use Rattle.std.proofs.Common.{◌≡◌, ℕ, ◌<◌, inl, inr, List, sym, ◌∙◌, subst, arith, pos}
 use Rattle.std.proofs.lemmas.Bool.{cases_Bool}
-use Rattle.decimal_input.specs.Enclosures.{EnclosesSigned}
 use Rattle.step_problem.specs.declared.heads.Bound.{Bound}
 use Rattle.step_problem.specs.Heads.{no_bound}
 use Rattle.step_problem.specs.Conditions.{IsHead}

@@ -1,5 +1,5 @@
 -- The cells of a step enclose the exact step; they are the variable cells, and name active cells.
-use Rattle.std.proofs.Common.{◌≡◌, ℕ, ◌<◌, ◌⊎◌, inl, inr, true, None, List, [], ◌∷◌, map, refl, sym, ap, ◌∙◌, subst, arith}
+use Rattle.std.proofs.Common.{◌≡◌, ℕ, None, List, [], ◌∷◌, map, refl}
 use Rattle.std.specs.List.{AllZip}
 use Rattle.decimal_input.specs.Fractions.{Fraction}
 use Rattle.step_problem.specs.declared.heads.Bound.{Bound}
@@ -10,7 +10,7 @@ use Rattle.model_types.specs.declared.time_steps.TimeStep.{TimeStep}
 use Rattle.model_types.specs.Cells.{cell_count}
 use Rattle.model_types.specs.Grids.{HasSize}
 use Rattle.model_types.specs.Kinds.{variable_below, variable_cells}
-use Rattle.model_types.proofs.Members.{In, In-All}
+use Rattle.model_types.proofs.Members.{In-All}
 use Rattle.flow_equations.specs.ExactStep.{exact_cell, exact_step}
 use Rattle.flow_equations.proofs.Links.{are_linked}
 use Rattle.problem_builder.specs.Thicknesses.{Thicknesses}

@@ -1,5 +1,5 @@
 -- The tables of a time step, put together; storage and its factors.
-use Rattle.std.proofs.Common.{◌≡◌, ℕ, ◌⊎◌, inl, inr, Bool, true, false, cond, Some, None, refl, arith}
+use Rattle.std.proofs.Common.{◌≡◌, ℕ, inl, inr, Bool, true, false, cond, Some, None, refl}
 use Rattle.decimal_input.specs.Ratios.{Ratio}
 use Rattle.step_problem.specs.Heads.{no_bound}
 use Rattle.model_types.specs.declared.model.FlowModel.{FlowModel}

@@ -1,5 +1,5 @@
 -- The loop over the cells of the grid, a step at a time.
-use Rattle.std.proofs.Common.{◌≡◌, ℕ, suc, ◌+◌, ◌<◌, Bool, true, false, None, List, [], ◌∷◌, ◌++◌, refl, sym, ap, ◌∙◌, subst, arith, All}
+use Rattle.std.proofs.Common.{◌≡◌, ℕ, suc, ◌+◌, ◌<◌, Bool, true, false, None, List, [], ◌∷◌, ◌++◌, sym, ap, ◌∙◌, subst, arith}
 use Rattle.std.specs.List.{AllZip}
 use Rattle.std.proofs.lemmas.List.Elements.{All-nil, All-push}
 use Rattle.step_problem.specs.Entries.{Entries}
@@ -12,7 +12,7 @@ use Rattle.problem_builder.specs.declared.fault.BuildFault.TheVariants.{NoBound 
 use Rattle.problem_builder.specs.Cells.{IsCellOf}
 use Rattle.problem_builder.specs.Refusals.{fault_of}
 use Rattle.problem_builder.specs.Problems.{AreCells}
-use Rattle.problem_builder.specs.Made.{IsVariableCell, IsCheckedCell, IsCellFault, IsFirstFault}
+use Rattle.problem_builder.specs.Made.{IsCheckedCell, IsCellFault, IsFirstFault}
 use Rattle.problem_builder.specs.Tables.{Inputs, widths_of}
 use Rattle.problem_builder.proofs.Pushed.{AllZip-join}
 

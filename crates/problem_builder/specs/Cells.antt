@@ -1,5 +1,5 @@
 -- The cells of a step's problem: for each source of a variable cell one entry, in the order of the sources. What a source is stands in the model's definitions; here stands by which whole numbers it is known.
-use Rattle.std.specs.Prelude.{◌≡◌, ℕ, ◌+◌, ◌-ℤ◌, ℤ, pos, List}
+use Rattle.std.specs.Prelude.{◌≡◌, ℕ, ◌-ℤ◌, ℤ, List}
 use Rattle.std.specs.List.{AllZip}
 use Rattle.decimal_input.specs.declared.dec.Dec.{Dec}
 use Rattle.step_problem.specs.declared.heads.Bound.{Bound}

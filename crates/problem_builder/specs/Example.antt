@@ -1,5 +1,5 @@
 -- A model that a problem can be built of. In a row of two cells, each 3 metres long, 1 metre wide and 1 metre thick, the first one is variable and has an entry of each kind, and the second one has a constant head. The only period is transient, with one time step. HK and the flow of the well are left open.
-use Rattle.std.specs.Prelude.{ℕ, List, [], ◌∷◌, pos, neg_ℤ, Contains, true, false}
+use Rattle.std.specs.Prelude.{ℕ, List, [], ◌∷◌, pos, neg_ℤ, Contains, false}
 use Rattle.decimal_input.specs.declared.dec.Dec.{Dec}
 use Rattle.decimal_input.specs.Canonical.{IsDec}
 use Rattle.decimal_input.specs.Fractions.{Fraction}

@@ -1,5 +1,5 @@
 -- What the functions of the builder hand to each other, on the way to a cell.
-use Rattle.std.specs.Prelude.{◌≡◌, ℕ, ◌≤◌, ◌<◌, true, List, All, Option, Some, None, IfSome}
+use Rattle.std.specs.Prelude.{◌≡◌, ℕ, ◌<◌, true, List, Option, None, IfSome}
 use Rattle.step_problem.specs.declared.place.NoBound.{NoBound}
 use Rattle.step_problem.specs.declared.entry.Flow.{Flow}
 use Rattle.step_problem.specs.declared.entry.Fixed.{Fixed}

@@ -1,5 +1,5 @@
 -- What the tables of a stress period hold, cell by cell.
-use Rattle.std.specs.Prelude.{◌≡◌, ℕ, ◌<◌, Bool, true, not, List, Option, take}
+use Rattle.std.specs.Prelude.{◌≡◌, ℕ, Bool, true, not, List, Option, take}
 use Rattle.step_problem.specs.declared.heads.Bound.{Bound}
 use Rattle.step_problem.specs.declared.entry.Evap.{Evap}
 use Rattle.conductance_bounds.specs.declared.pair.FlowPair.{FlowPair}

@@ -1,9 +1,7 @@
 -- What the cells of the grid are at a time.
 use Rattle.std.specs.Prelude.{◌≡◌, ℕ, List, slice_index_or}
-use Rattle.step_problem.specs.declared.heads.Bound.{Bound}
 use Rattle.model_types.specs.declared.model.FlowModel.{FlowModel}
 use Rattle.model_types.specs.declared.time_steps.TimeStep.{TimeStep}
-use Rattle.model_types.specs.declared.kind.Kind.{Kind}
 use Rattle.model_types.specs.declared.kind.Kind.TheVariants as kind
 use Rattle.model_types.specs.Cells.{cell_count}
 use Rattle.model_types.specs.Kinds.{kind_of}

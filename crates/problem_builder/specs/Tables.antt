@@ -1,12 +1,9 @@
 -- What the builder's tables hold.
 use Rattle.std.specs.Prelude.{◌≡◌, ℕ, ◌+◌, ◌<◌, ◌≤◌, true, false, pos, List, [], All, length, slice_index_or, Option, Some, None, take, ◌-◌}
 use Rattle.step_problem.specs.declared.heads.Bound.{Bound}
-use Rattle.step_problem.specs.declared.entry.Evap.{Evap}
 use Rattle.step_problem.specs.Heads.{no_bound}
-use Rattle.step_problem.specs.Conditions.{IsHead}
 use Rattle.scaled_decimal.specs.declared.decimal.Sd.{Sd}
 use Rattle.model_types.specs.declared.entry.Entry.{Entry}
-use Rattle.model_types.specs.declared.entry.Given.{Given}
 use Rattle.model_types.specs.declared.face.Axis.{Axis}
 use Rattle.model_types.specs.declared.face.Axis.TheVariants.{Row, Column, Vertical}
 use Rattle.model_types.specs.declared.kind.Kind.TheVariants.{NoFlow}
@@ -23,7 +20,6 @@ use Rattle.model_types.specs.Sources.{local_entries}
 use Rattle.model_types.specs.Valid.{IsModel, IsEntryValid}
 use Rattle.conductance_bounds.specs.declared.span.Span.{Span}
 use Rattle.conductance_bounds.specs.declared.pair.Pair.{Pair}
-use Rattle.conductance_bounds.specs.declared.pair.FlowPair.{FlowPair}
 use Rattle.conductance_bounds.specs.Pairs.{IsCapped}
 use Rattle.conductance_bounds.specs.Thicknesses.{AreThick}
 use Rattle.conductance_bounds.specs.Formulas.{face_term, storage_term}

@@ -1,4 +1,4 @@
-use Rattle.std.proofs.Common.{◌≡◌, ◌∙◌, ◌+◌, arith, ap, sym, subst}
+use Rattle.std.proofs.Common.{◌∙◌, arith, ap, sym, subst}
 use Rattle.model_types.specs.Cells.{cell_count}
 use Rattle.problem_builder.specs.Tables.{Inputs}
 use Rattle.std.proofs.lemmas.Result.{err_from_is_err_and}

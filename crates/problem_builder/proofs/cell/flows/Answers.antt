@@ -1,5 +1,3 @@
-use Rattle.std.proofs.Common.{ℕ, subst}
-use Rattle.std.specs.List.{AllZip, filter_map}
 use Rattle.model_types.specs.Receivers.{recharge_at}
 use Rattle.model_types.specs.Sources.{as_well}
 use Rattle.problem_builder.specs.Made.{IsWellSource}

@@ -1,6 +1,5 @@
-use Rattle.std.proofs.Common.{◌-◌, ◌≤◌, ℕ, ap, sym, ◌∙◌, arith}
+use Rattle.std.proofs.Common.{◌-◌, ℕ, ap, ◌∙◌, arith}
 use Rattle.std.specs.Prelude.{not}
-use Rattle.model_types.specs.Cells.{layer_size}
 use Rattle.model_types.specs.Layers.{is_active}
 use Rattle.model_types.specs.Receivers.{is_highest}
 use Rattle.problem_builder.proofs.Covered.{covered_first, covered_then, covered_else}

@@ -1,4 +1,4 @@
-use Rattle.std.proofs.Common.{◌≡◌, FitsSigned}
+use Rattle.std.proofs.Common.{FitsSigned}
 use Rattle.std.specs.Int.{w64, w128}
 use Rattle.std.proofs.lemmas.Int.{to_z-of_z}
 use Rattle.problem_builder.proofs.Depths.{ceiling_units, units_64, units_128, no_ceiling_past}

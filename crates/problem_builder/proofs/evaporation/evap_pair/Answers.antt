@@ -1,4 +1,4 @@
-use Rattle.std.proofs.Common.{◌≡◌, sym, ap, ◌∙◌, subst, refl}
+use Rattle.std.proofs.Common.{◌≡◌, sym, subst, refl}
 use Rattle.decimal_input.specs.Canonical.{size}
 use Rattle.step_problem.specs.declared.entry.Evap.{Evap}
 use Rattle.model_types.specs.Receivers.{EvapSource}

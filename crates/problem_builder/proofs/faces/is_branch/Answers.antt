@@ -1,4 +1,4 @@
-use Rattle.std.proofs.Common.{◌≡◌, true, sym, ap, ◌∙◌}
+use Rattle.std.proofs.Common.{sym, ap, ◌∙◌}
 use Rattle.model_types.specs.Layers.{is_active}
 use Rattle.model_types.proofs.Leads.{after_within}
 use Rattle.problem_builder.proofs.Halves.{next_face}

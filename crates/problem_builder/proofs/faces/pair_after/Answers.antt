@@ -1,6 +1,5 @@
 use Rattle.std.proofs.Common.{sym, subst}
 use Rattle.model_types.specs.declared.face.Axis.{Axis}
-use Rattle.model_types.specs.declared.face.Axis.TheVariants.{Row, Column, Vertical}
 use Rattle.problem_builder.specs.Tables.{span_in}
 use Rattle.problem_builder.specs.Widths.{HasConductance}
 use Rattle.problem_builder.proofs.faces.pair_after.Goals as goal

@@ -1,13 +1,10 @@
 use Rattle.std.proofs.Common.{◌≡◌, ◌+◌, refl, ap, sym, subst, arith, ◌∙◌}
-use Rattle.std.specs.Prelude.{◌==◌}
 use Rattle.conductance_bounds.specs.declared.vertical.Bed.{Bed}
 use Rattle.conductance_bounds.specs.Terms.{Term}
 use Rattle.conductance_bounds.specs.Calls.{IsBed}
 use Rattle.conductance_bounds.specs.Pairs.{IsCapped}
-use Rattle.conductance_bounds.specs.Branches.{vertical_of, vertical_half_of, bed_of, area_formula, resistance_sum}
-use Rattle.conductance_bounds.specs.Terms.Term.{Quotient}
+use Rattle.conductance_bounds.specs.Branches.{vertical_of}
 use Rattle.conductance_bounds.specs.Formulas.{face_term}
-use Rattle.decimal_input.specs.Canonical.{size}
 use Rattle.model_types.specs.declared.face.Axis.TheVariants.{Vertical}
 use Rattle.model_types.specs.Cells.{layer_size}
 use Rattle.model_types.specs.Layers.{dec_at, thickness, bed_thickness, vkcb_at}

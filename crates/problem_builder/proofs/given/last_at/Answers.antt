@@ -1,4 +1,4 @@
-use Rattle.std.proofs.Common.{ap, sym, ◌∙◌, None, get_or, length, arith}
+use Rattle.std.proofs.Common.{ap, ◌∙◌, None, get_or, length, arith}
 use Rattle.problem_builder.proofs.CellTables.{last_length, last_at}
 use Rattle.problem_builder.proofs.given.last_at.Goals as goal
 

@@ -1,4 +1,4 @@
-use Rattle.std.proofs.Common.{rules, ap, arith, ◌∙◌}
+use Rattle.std.proofs.Common.{rules, arith, ◌∙◌}
 use Rattle.problem_builder.proofs.NamedHeads.{none_named, next_named, named_within}
 use Rattle.problem_builder.proofs.given.named.Goals as goal
 

@@ -1,4 +1,4 @@
-use Rattle.std.proofs.Common.{◌≡◌, sym, subst, ◌⊎◌, inl}
+use Rattle.std.proofs.Common.{sym, subst, inl}
 use Rattle.decimal_input.specs.declared.dec.Dec.{Dec}
 use Rattle.model_types.specs.Layers.{bottom_at, lowest}
 use Rattle.model_types.specs.Numbers.{IsThick}

@@ -1,9 +1,8 @@
 use Rattle.std.proofs.Common.{sym, subst, ◌∙◌}
 use Rattle.decimal_input.specs.declared.dec.Dec.{Dec}
 use Rattle.decimal_input.specs.Canonical.{IsDec}
-use Rattle.model_types.specs.Layers.{top_at, bottom_at}
+use Rattle.model_types.specs.Layers.{top_at}
 use Rattle.model_types.specs.Numbers.{IsThick}
-use Rattle.conductance_bounds.specs.Thicknesses.{IsSpan}
 use Rattle.problem_builder.proofs.Elevations.{top_valid, bottom_valid}
 use Rattle.problem_builder.proofs.widths.thickness_at.Goals as goal
 

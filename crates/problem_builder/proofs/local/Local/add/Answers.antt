@@ -1,4 +1,4 @@
-use Rattle.std.proofs.Common.{◌≡◌, ◌∙◌, ◌++◌, ◌∷◌, [], ap}
+use Rattle.std.proofs.Common.{◌∙◌, ◌++◌, ◌∷◌, [], ap}
 use Rattle.problem_builder.specs.Tables.{local_in}
 use Rattle.problem_builder.proofs.Buckets.{set_here, set_other, inside, read_here}
 use Rattle.problem_builder.proofs.local.Local.add.Goals as goal

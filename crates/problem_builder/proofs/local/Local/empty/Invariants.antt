@@ -1,5 +1,4 @@
-use Rattle.std.proofs.Common.{◌≡◌, ℕ, [], length, map, List, take, replicate}
-use Rattle.problem_builder.specs.Tables.{local_in}
+use Rattle.std.proofs.Common.{◌≡◌, [], map, replicate}
 use Rattle.problem_builder.proofs.local.Local.empty.Given as goal
 
 abbrev pub invariant-loop-cell : goal.invariant-loop-cell

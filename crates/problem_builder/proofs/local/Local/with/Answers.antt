@@ -1,4 +1,4 @@
-use Rattle.std.proofs.Common.{◌≡◌, ◌∙◌, ◌+◌, ℕ, refl, sym, arith}
+use Rattle.std.proofs.Common.{◌∙◌, refl}
 use Rattle.problem_builder.specs.Tables.{local_in}
 use Rattle.problem_builder.proofs.Buckets.{none_more, bucket_next, any_default}
 use Rattle.problem_builder.proofs.local.Local.with.Goals as goal

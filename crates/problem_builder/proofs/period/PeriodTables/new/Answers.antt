@@ -1,13 +1,11 @@
-use Rattle.std.proofs.Common.{◌≡◌, ◌+◌, ℕ, None, List, sym, ap, ◌∙◌, subst, refl, arith}
+use Rattle.std.proofs.Common.{None, ap, ◌∙◌, refl, arith}
 use Rattle.step_problem.specs.Heads.{no_bound}
-use Rattle.model_types.specs.declared.entry.Given.{Given}
 use Rattle.model_types.specs.declared.kind.Kind.TheVariants.{NoFlow}
 use Rattle.model_types.specs.declared.period.Period.{Period}
 use Rattle.model_types.specs.Cells.{cell_count}
 use Rattle.model_types.specs.Sources.{entries_of}
-use Rattle.model_types.specs.Times.{period_at, entries}
-use Rattle.problem_builder.specs.Filled.{Filled}
-use Rattle.problem_builder.specs.PeriodTables.{IsKind, IsIndex, IsNamed, IsKept, IsRecharged, IsEvaporated}
+use Rattle.model_types.specs.Times.{entries}
+use Rattle.problem_builder.specs.PeriodTables.{IsKind, IsIndex, IsKept, IsRecharged, IsEvaporated}
 use Rattle.problem_builder.proofs.CellTables.{kinds_filled}
 use Rattle.problem_builder.proofs.PeriodMade.{period_made, filled_as, named_as}
 use Rattle.problem_builder.proofs.PeriodsOf.{entries_within}
