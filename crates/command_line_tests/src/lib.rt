@@ -2,6 +2,8 @@
 #![tactic(auto)]
 
 #[cfg(test)]
-mod numbers;
+mod asking;
 #[cfg(test)]
-mod shapes;
+mod orders;
+#[cfg(test)]
+mod usage;
