@@ -1,119 +1,245 @@
 -- The public clauses, from all that a run comes to.
-use Rattle.std.proofs.Common.{◌≡◌, ℕ, List, Option, Some, None, IfSome, map, subst, sym, ◌∙◌, ap, refl, inl, inr, ◌⊎◌}
+use Rattle.std.proofs.Common.{◌≡◌, ℕ, Bool, true, false, List, Option, Some, None, IfSome, Result, Ok, Err, map, subst, sym, ◌∙◌, ap, refl, inl, inr, ◌⊎◌, codes, if◌then◌else◌}
 use Rattle.outside.specs.Files.{File}
 use Rattle.outside.specs.Counts.{Rose}
+use Rattle.outside.specs.Inputs.{file_refusal}
+use Rattle.outside.specs.Names.{is_good_name}
 use Rattle.outside.specs.Puts.{Put, Seen, PutsMake, taken}
-use Rattle.step_problem.specs.declared.heads.Bound.{Bound}
-use Rattle.run_puts.specs.Lines.{Text}
+use Rattle.outside.specs.declared.codes.Code.TheVariants.{BadName}
+use Rattle.outside.specs.declared.refusals.Refusal.{Refusal}
+use Rattle.step_problem.specs.declared.place.NoBound.{NoBound}
+use Rattle.model_types.specs.declared.model.FlowModel.{FlowModel}
+use Rattle.model_types.specs.Times.{times}
+use Rattle.model_types.specs.Valid.{IsModel}
+use Rattle.model_reader.specs.Model.{reads}
+use Rattle.run_puts.specs.Lines.{Text, end_line}
 use Rattle.run_puts.specs.Runs.{whole, early}
 use Rattle.run_puts.specs.declared.status.Status.{Status}
 use Rattle.run_puts.specs.declared.status.Status.TheVariants as status
 use Rattle.run_puts.proofs.Pieces.{IsLate, tail_late, late_not_ok, late_not_read}
 use Rattle.run_puts.proofs.Makes.{all_written, write_rose}
-use Rattle.engine.specs.declared.deck.row.RowCell.{RowCell}
-use Rattle.engine.specs.Cases.{Case, NoWords, Refuses, Row}
-use Rattle.engine.specs.RowEquations.{EnclosesRow}
-use Rattle.engine.specs.RowSteps.{IsStep, SettlesIn}
-use Rattle.engine.specs.Listing.{listing}
-use Rattle.engine.specs.Runs.{Cut, Due, Headline, HasListing, IsEndToday, IsRunOf}
-use Rattle.engine.specs.Parts.{Answers}
-use Rattle.engine.proofs.Unique.{one_step}
+use Rattle.listing_run.specs.declared.task.Task.{Task}
+use Rattle.listing_run.specs.declared.step.Step.{Step}
+use Rattle.listing_run.specs.Steps.{Whole, AllSteps, AllSettle}
+use Rattle.listing_run.specs.Listing.{listing, time, IsListing, IsWhole}
+use Rattle.listing_run.specs.Laws.{ListingIsOne, ListingExcludesRefusal, SettledListingIsClosed, RefusalIsOne}
+use Rattle.engine.specs.Cases.{Asked, Case, NoWords, Refuses, Listing, asked_in, case_asked, case_of, case_read, named, task_of}
+use Rattle.engine.specs.Defined.{CutOf, Defines, Due, defined, unread}
+use Rattle.engine.specs.Headline.{Headline}
+use Rattle.engine.specs.Runs.{Decided, Comes, IsRunOf, IsUnfinished}
+use Rattle.engine.specs.Parts.{Answers, IsStopped, IsValid}
 
--- all pieces of the listing were taken
+-- the laws of listings
+pub record Laws : Type 0 where
+  pub one : ListingIsOne
+  pub bound : ListingExcludesRefusal
+  pub closed : SettledListingIsClosed
+  pub refusal : RefusalIsOne
+
+pub laws_of : ListingIsOne → ListingExcludesRefusal → SettledListingIsClosed → RefusalIsOne → Laws
+laws_of one bound closed refusal = record { one = one; bound = bound; closed = closed; refusal = refusal }
+
+-- all pieces that the case defines were taken
 record Delivers (case : Case) (puts : List Put) : Type 0 where
-  pub rounds : ℕ
-  pub cells : List RowCell
-  pub heads : List Bound
-  pub row : case ≡ Row rounds cells
-  pub step : IsStep cells heads
-  pub encloses : EnclosesRow cells heads
-  pub written : puts ≡ map taken (listing heads)
+  pieces : List Text
+  defines : Defines case status.Ok pieces
+  written : puts ≡ map taken pieces
 
-due_delivers : (read_failed : Type 0) (case : Case) (pieces : List Text) → Due read_failed case status.Ok pieces → Delivers case (map taken pieces)
-due_delivers read_failed case pieces (rounds, cells, heads, row, step, encloses, is) = record { rounds = rounds; cells = cells; heads = heads; row = row; step = step; encloses = encloses; written = ap (map taken) is }
+due_ok : (read_failed : Type 0) (case : Case) (end : Status) (pieces : List Text) → Due read_failed case end pieces → end ≡ status.Ok → Defines case status.Ok pieces
+due_ok read_failed case end pieces (defined meant all d) e = let P : Status → Type 0 = λ s. Defines case s pieces in subst P e d
+due_ok read_failed case end pieces (unread failed worded) e = absurd (let bad : status.ReadFault ≡ status.Ok = e in cc)
 
 delivers : (read_failed : Type 0) (case : Case) (end : Status) (puts : List Put) → IsRunOf read_failed case end puts → end ≡ status.Ok → Delivers case puts
-delivers read_failed case end puts (whole meant pieces due) e = let P : Status → Type 0 = λ s. Due read_failed case s pieces in due_delivers read_failed case pieces (subst P e due)
+delivers read_failed case end puts (whole meant pieces due) e = record { pieces = pieces; defines = due_ok read_failed case end pieces due e; written = refl }
 delivers read_failed case end puts (early meant before after tail b t) e = absurd (late_not_ok end (tail_late after end tail t) e)
 
-pub headline : (words : List Text) (files : Option (List File)) (n m : ℕ) (end : Status) (puts : List Put) (old new : Seen) → Answers words files n m end puts → PutsMake old puts new → end ≡ status.Ok → IfSome files (λ fs. Headline words fs old.written new.written)
-headline words (Some fs) n m end puts old new a makes e =
-    let d = delivers (Rose n m) a.case end puts a.run e in
-    record { rounds = d.rounds; cells = d.cells; heads = d.heads; row = sym a.is ∙ d.row; step = d.step; encloses = d.encloses; only = λ others is. one_step d.cells d.heads others d.step is; written = all_written (listing d.heads) old new puts d.written makes }
-headline words None n m end puts old new a makes e = tt
+-- a listing of these words and files: what the words ask for, and the model that the files read as
+record Listed (words : List Text) (files : List File) (k : Task) : Type 0 where
+  asked : Asked
+  wanted : asked_in words ≡ Some asked
+  model : FlowModel
+  read : reads files asked.name ≡ Ok model
+  task : task_of asked model ≡ k
+
+task_in : Task → Case → Task
+task_in other NoWords = other
+task_in other (Refuses refusal) = other
+task_in other (Listing k) = k
+
+one_task : (j k : Task) → Listing j ≡ Listing k → j ≡ k
+unfolding task_in
+one_task j k e = ap (task_in k) e
+
+named_read : (b : Bool) (read bad : Result FlowModel Refusal) (f : FlowModel) (refusal : Refusal) → bad ≡ Err refusal → (if b then read else bad) ≡ Ok f → read ≡ Ok f
+named_read true read bad f refusal is e = e
+named_read false read bad f refusal is e = absurd (let no : Err refusal ≡ Ok f = sym is ∙ e in cc)
+
+module _ (words : List Text) (files : List File) (k : Task) where
+  by_reading : (asked : Asked) → asked_in words ≡ Some asked → (r : Result FlowModel Refusal) → named asked.name (reads files) ≡ r → case_read asked r ≡ Listing k → Listed words files k
+  by_reading asked wanted (Ok f) is e = record { asked = asked; wanted = wanted; model = f; read = named_read (is_good_name asked.name) (reads files asked.name) (Err (file_refusal BadName (codes "-"))) f (file_refusal BadName (codes "-")) refl is; task = one_task (task_of asked f) k e }
+  by_reading asked wanted (Err refusal) is e = absurd (let bad : Refuses refusal ≡ Listing k = e in cc)
+
+  by_words : (a : Option Asked) → asked_in words ≡ a → case_asked a (reads files) ≡ Listing k → Listed words files k
+  by_words None wanted e = absurd (let bad : NoWords ≡ Listing k = e in cc)
+  by_words (Some asked) wanted e = by_reading asked wanted (named asked.name (reads files)) refl e
+
+  listed : case_of words files ≡ Listing k → Listed words files k
+  listed e = by_words (asked_in words) refl e
+
+not_stopped : IsStopped status.Ok → ⊥
+not_stopped (inl e) = let bad : status.Ok ≡ status.ReadFault = e in cc
+not_stopped (inr (inl e)) = let bad : status.Ok ≡ status.WriteFault = e in cc
+not_stopped (inr (inr e)) = let bad : status.Ok ≡ status.Memory = e in cc
+
+valid_ok : (k : Task) (end : Status) → IsValid (Listing k) end → end ≡ status.Ok → IsModel k.model
+valid_ok k end (inl model) e = model
+valid_ok k end (inr stopped) e = absurd (not_stopped (let P : Status → Type 0 = IsStopped in subst P e stopped))
+
+module _ (laws : Laws) where
+  of_listing : (words : List Text) (files : List File) (old new : Seen) (puts : List Put) (pieces : List Text) (k : Task) → Listed words files k → IsModel k.model → IsWhole k pieces → puts ≡ map taken pieces → PutsMake old puts new → Headline words files old.written new.written
+  of_listing words files old new puts pieces k l valid w written makes =
+      let W : Task → Type 0 = λ j. IsWhole j pieces in
+      by_task (subst W (sym l.task) w) (let M : Task → Type 0 = λ j. IsModel j.model in subst M (sym l.task) valid)
+    where
+      by_task : IsWhole (task_of l.asked l.model) pieces → IsModel l.model → Headline words files old.written new.written
+      by_task v model = record {
+        asked = l.asked;
+        wanted = l.wanted;
+        model = l.model;
+        read = l.read;
+        values = v.values;
+        steps = v.steps;
+        only = λ others steps. laws.one (task_of l.asked l.model) v.values others model v.steps steps;
+        written = all_written (listing (task_of l.asked l.model) v.values end_line) old new puts (written ∙ ap (map taken) v.are) makes;
+        encloses = v.encloses;
+      }
+
+  by_case : (words : List Text) (files : List File) (old new : Seen) (puts : List Put) (end : Status) (case : Case) → case ≡ case_of words files → IsValid case end → end ≡ status.Ok → Delivers case puts → PutsMake old puts new → Headline words files old.written new.written
+  by_case words files old new puts end NoWords is valid e d makes = absurd (let bad : status.Ok ≡ status.Usage = d.defines.0 in cc)
+  by_case words files old new puts end (Refuses refusal) is valid e d makes = absurd (let bad : status.Ok ≡ status.Refused refusal = d.defines.0 in cc)
+  by_case words files old new puts end (Listing k) is valid e d makes = of_listing words files old new puts d.pieces k (listed words files k (sym is)) (valid_ok k end valid e) d.defines d.written makes
+
+  pub headline : (words : List Text) (files : Option (List File)) (n m : ℕ) (end : Status) (puts : List Put) (old new : Seen) → Answers words files n m end puts → PutsMake old puts new → end ≡ status.Ok → IfSome files (λ fs. Headline words fs old.written new.written)
+  headline words (Some fs) n m end puts old new a makes e = by_case words fs old new puts end a.case a.is a.valid e (delivers (Rose n m) a.case end puts a.run e) makes
+  headline words None n m end puts old new a makes e = tt
+
+due_read : (read_failed : Type 0) (case : Case) (end : Status) (pieces : List Text) → Due read_failed case end pieces → end ≡ status.ReadFault → read_failed
+due_read read_failed NoWords end pieces (defined meant all (is, p)) e = absurd (let bad : status.Usage ≡ status.ReadFault = sym is ∙ e in cc)
+due_read read_failed (Refuses refusal) end pieces (defined meant all (is, p)) e = absurd (let bad : status.Refused refusal ≡ status.ReadFault = sym is ∙ e in cc)
+due_read read_failed (Listing k) end pieces (defined meant all d) e = absurd (let P : Status → Type 0 = λ s. IsListing k s pieces in subst P e d)
+due_read read_failed case end pieces (unread failed worded) e = failed
 
 pub read_rose : (read_failed : Type 0) (case : Case) (end : Status) (puts : List Put) → IsRunOf read_failed case end puts → end ≡ status.ReadFault → read_failed
-read_rose read_failed case end puts (whole meant pieces due) e = let P : Status → Type 0 = λ s. Due read_failed case s pieces in (subst P e due).0
+read_rose read_failed case end puts (whole meant pieces due) e = due_read read_failed case end pieces due e
 read_rose read_failed case end puts (early meant before after tail b t) e = absurd (late_not_read end (tail_late after end tail t) e)
 
+due_write : (read_failed : Type 0) (case : Case) (end : Status) (pieces : List Text) → Due read_failed case end pieces → end ≡ status.WriteFault → ⊥
+due_write read_failed NoWords end pieces (defined meant all (is, p)) e = let bad : status.Usage ≡ status.WriteFault = sym is ∙ e in cc
+due_write read_failed (Refuses refusal) end pieces (defined meant all (is, p)) e = let bad : status.Refused refusal ≡ status.WriteFault = sym is ∙ e in cc
+due_write read_failed (Listing k) end pieces (defined meant all d) e = let P : Status → Type 0 = λ s. IsListing k s pieces in subst P e d
+due_write read_failed case end pieces (unread failed worded) e = let bad : status.ReadFault ≡ status.WriteFault = e in cc
+
 pub put_rose : (read_failed : Type 0) (case : Case) (end : Status) (puts : List Put) (old new : Seen) → IsRunOf read_failed case end puts → end ≡ status.WriteFault → PutsMake old puts new → Rose old.faults new.faults
-put_rose read_failed case = write_rose (Due read_failed case) (Cut case) (λ pieces due. due)
+put_rose read_failed case = write_rose (Due read_failed case) (CutOf case) (λ pieces due. due_write read_failed case status.WriteFault pieces due refl)
 
-rounds_of : Case → ℕ
-rounds_of (Row rounds cells) = rounds
-rounds_of _ = 0
+-- Two ends that a listing has: they are one, or at one of them the rounds didn't settle a step.
+abbrev Agree : Status → Status → Type 0
+Agree meant end = IsUnfinished meant ⊎ ((end ≡ meant) ⊎ IsUnfinished end)
 
-cells_of : List RowCell → Case → List RowCell
-cells_of given (Row rounds cells) = cells
-cells_of given _ = given
+same_refusal : (p q i j : ℕ) (a b : NoBound) → (time p i ≡ time q j) × (a ≡ b) → status.NoBound q j b ≡ status.NoBound p i a
+same_refusal p q i j a b (at, is) =
+    let periods : q ≡ p = sym (ap (λ t. t.period) at) in
+    let steps : j ≡ i = sym (ap (λ t. t.step) at) in
+    rw (periods, steps, sym is) refl
 
-same_settles : (k n : ℕ) (xs ys : List RowCell) → Row k xs ≡ Row n ys → SettlesIn k xs → SettlesIn n ys
-unfolding rounds_of cells_of
-same_settles k n xs ys e s =
-    let rounds : k ≡ n = ap rounds_of e in
-    let cells : xs ≡ ys = ap (cells_of xs) e in
-    let P : ℕ → Type 0 = λ r. SettlesIn r xs in
-    subst (SettlesIn n) cells (subst P rounds s)
+module _ (laws : Laws) (k : Task) (valid : IsModel k.model) where
+  agree : (meant end : Status) (p q : List Text) → IsListing k meant p → IsListing k end q → Agree meant end
+  agree status.Ok status.Ok p q x y = inr (inl refl)
+  agree status.Ok (status.NoBound period step fault) p q x y = absurd (laws.bound k x.values y.values (time period step) fault valid x.steps y.steps)
+  agree (status.NoBound period step fault) status.Ok p q x y = absurd (laws.bound k y.values x.values (time period step) fault valid y.steps x.steps)
+  agree (status.NoBound period step fault) (status.NoBound other also refusal) p q x y =
+      let one = laws.refusal k x.values y.values (time period step) (time other also) fault refusal valid x.steps y.steps in
+      inr (inl (same_refusal period other step also fault refusal (one.0, one.1)))
+  agree (status.Unfinished period step) end p q x y = inl tt
+  agree meant (status.Unfinished period step) p q x y = inr (inr tt)
+  agree status.Usage end p q x y = absurd x
+  agree (status.Refused refusal) end p q x y = absurd x
+  agree status.ReadFault end p q x y = absurd x
+  agree status.WriteFault end p q x y = absurd x
+  agree status.Memory end p q x y = absurd x
+  agree (status.NotCertified period step place) end p q x y = absurd x
+  agree meant status.Usage p q x y = absurd y
+  agree meant (status.Refused refusal) p q x y = absurd y
+  agree meant status.ReadFault p q x y = absurd y
+  agree meant status.WriteFault p q x y = absurd y
+  agree meant status.Memory p q x y = absurd y
+  agree meant (status.NotCertified period step place) p q x y = absurd y
 
--- what is left: done, late, or a fault of reading
-abbrev Remains : Status → Type 0
-Remains end = ((end ≡ status.ReadFault) ⊎ (end ≡ status.WriteFault)) ⊎ ((end ≡ status.Ok) ⊎ (end ≡ status.Memory))
+  -- where the rounds settle each step of a whole listing, no other end comes
+  settles : (end : Status) (q : List Text) (values : List Step) (whole_steps : AllSteps k values Whole) → AllSettle k whole_steps.start (times k.model) values → IsListing k end q → end ≡ status.Ok
+  settles status.Ok q values whole_steps settle y = refl
+  settles (status.NoBound period step fault) q values whole_steps settle y = absurd (laws.bound k values y.values (time period step) fault valid whole_steps y.steps)
+  settles (status.Unfinished period step) q values whole_steps settle y = absurd (laws.closed k values y.values (time period step) valid whole_steps settle y.steps)
+  settles status.Usage q values whole_steps settle y = absurd y
+  settles (status.Refused refusal) q values whole_steps settle y = absurd y
+  settles status.ReadFault q values whole_steps settle y = absurd y
+  settles status.WriteFault q values whole_steps settle y = absurd y
+  settles status.Memory q values whole_steps settle y = absurd y
+  settles (status.NotCertified period step place) q values whole_steps settle y = absurd y
 
-due_remains : (read_failed : Type 0) (k : ℕ) (xs : List RowCell) (end : Status) (pieces : List Text) → SettlesIn k xs → Due read_failed (Row k xs) end pieces → Remains end
-due_remains read_failed k xs status.Ok pieces s due = inr (inl refl)
-due_remains read_failed k xs status.Usage pieces s (is, e) = absurd (let bad : Row k xs ≡ NoWords = is in cc)
-due_remains read_failed k xs (status.Refused refusal) pieces s (is, e) = absurd (let bad : Row k xs ≡ Refuses refusal = is in cc)
-due_remains read_failed k xs (status.NoBound period step fault) pieces s due = absurd due
-due_remains read_failed k xs (status.Unfinished period step) pieces s (n, ys, is, cause, p, q, e) = absurd (cause (same_settles k n xs ys is s))
-due_remains read_failed k xs status.ReadFault pieces s due = inl (inl refl)
-due_remains read_failed k xs status.WriteFault pieces s due = absurd due
-due_remains read_failed k xs status.Memory pieces s due = absurd due
-due_remains read_failed k xs (status.NotCertified period step place) pieces s due = absurd due
+never_stopped : (k : Task) (end : Status) (q : List Text) → IsStopped end → IsListing k end q → ⊥
+never_stopped k end q (inl e) y = let P : Status → Type 0 = λ s. IsListing k s q in subst P e y
+never_stopped k end q (inr (inl e)) y = let P : Status → Type 0 = λ s. IsListing k s q in subst P e y
+never_stopped k end q (inr (inr e)) y = let P : Status → Type 0 = λ s. IsListing k s q in subst P e y
 
-late_remains : (end : Status) → IsLate end → Remains end
-late_remains end (inl e) = inl (inr e)
-late_remains end (inr e) = inr (inr e)
+-- how a run ended: after a fault outside, for want of memory, or as its case defines
+abbrev Ended : Type 0 → Case → Status → Type 0
+Ended fault case end = fault ⊎ ((end ≡ status.Memory) ⊎ ((q : List Text) × Defines case end q))
 
-remains : (read_failed : Type 0) (k : ℕ) (xs : List RowCell) (end : Status) (puts : List Put) → SettlesIn k xs → IsRunOf read_failed (Row k xs) end puts → Remains end
-remains read_failed k xs end puts s (whole meant pieces due) = due_remains read_failed k xs end pieces s due
-remains read_failed k xs end puts s (early meant before after tail b t) = late_remains end (tail_late after end tail t)
+due_ended : (n m u v : ℕ) (case : Case) (end : Status) (pieces : List Text) → Due (Rose n m) case end pieces → Ended (Rose n m ⊎ Rose u v) case end
+due_ended n m u v case end pieces (defined meant all d) = inr (inr (pieces, d))
+due_ended n m u v case end pieces (unread failed worded) = inl (inl failed)
 
-finish : (n m : ℕ) (case : Case) (end : Status) (puts : List Put) (old new : Seen) → IsRunOf (Rose n m) case end puts → PutsMake old puts new → Remains end → (Rose n m ⊎ Rose old.faults new.faults) ⊎ ((end ≡ status.Ok) ⊎ (end ≡ status.Memory))
-finish n m case end puts old new run makes (inl (inl e)) = inl (inl (read_rose (Rose n m) case end puts run e))
-finish n m case end puts old new run makes (inl (inr e)) = inl (inr (put_rose (Rose n m) case end puts old new run e makes))
-finish n m case end puts old new run makes (inr e) = inr e
+late_ended : (n m : ℕ) (case : Case) (end : Status) (puts : List Put) (old new : Seen) → IsRunOf (Rose n m) case end puts → PutsMake old puts new → IsLate end → Ended (Rose n m ⊎ Rose old.faults new.faults) case end
+late_ended n m case end puts old new run makes (inl e) = inl (inr (put_rose (Rose n m) case end puts old new run e makes))
+late_ended n m case end puts old new run makes (inr e) = inr (inl e)
 
-pub complete : (words : List Text) (files : Option (List File)) (n m : ℕ) (end : Status) (puts : List Put) (old new : Seen) → Answers words files n m end puts → PutsMake old puts new → IfSome files (λ fs. HasListing words fs → (Rose n m ⊎ Rose old.faults new.faults) ⊎ ((end ≡ status.Ok) ⊎ (end ≡ status.Memory)))
-complete words (Some fs) n m end puts old new a makes = λ l.
-    let P : Case → Type 0 = λ case. IsRunOf (Rose n m) case end puts in
-    finish n m a.case end puts old new a.run makes (remains (Rose n m) l.rounds l.cells end puts l.settles (subst P (a.is ∙ l.row) a.run))
-complete words None n m end puts old new a makes = tt
+ended : (n m : ℕ) (case : Case) (end : Status) (puts : List Put) (old new : Seen) → IsRunOf (Rose n m) case end puts → PutsMake old puts new → Ended (Rose n m ⊎ Rose old.faults new.faults) case end
+ended n m case end puts old new (whole meant pieces due) makes = due_ended n m old.faults new.faults case end pieces due
+ended n m case end puts old new (early meant before after tail b t) makes = late_ended n m case end puts old new (early meant before after tail b t) makes (tail_late after end tail t)
 
-due_today : (read_failed : Type 0) (case : Case) (end : Status) (pieces : List Text) → Due read_failed case end pieces → IsEndToday end
-due_today read_failed case status.Ok pieces due = tt
-due_today read_failed case status.Usage pieces due = tt
-due_today read_failed case (status.Refused refusal) pieces due = tt
-due_today read_failed case (status.NoBound period step fault) pieces due = due
-due_today read_failed case (status.Unfinished period step) pieces due = tt
-due_today read_failed case status.ReadFault pieces due = tt
-due_today read_failed case status.WriteFault pieces due = tt
-due_today read_failed case status.Memory pieces due = tt
-due_today read_failed case (status.NotCertified period step place) pieces due = due
+decides : (laws : Laws) (case : Case) (meant end : Status) (p q : List Text) → IsValid case end → Defines case meant p → Defines case end q → Agree meant end
+decides laws NoWords meant end p q valid (x, a) (y, b) = inr (inl (y ∙ sym x))
+decides laws (Refuses refusal) meant end p q valid (x, a) (y, b) = inr (inl (y ∙ sym x))
+decides laws (Listing k) meant end p q (inl valid) x y = agree laws k valid meant end p q x y
+decides laws (Listing k) meant end p q (inr stops) x y = absurd (never_stopped k end q stops y)
 
-late_today : (end : Status) → IsLate end → IsEndToday end
-late_today end (inl e) = subst IsEndToday (sym e) tt
-late_today end (inr e) = subst IsEndToday (sym e) tt
+weighed : (fault : Type 0) (meant end : Status) → Agree meant end → (fault ⊎ IsUnfinished meant) ⊎ ((end ≡ meant) ⊎ ((end ≡ status.Memory) ⊎ IsUnfinished end))
+weighed fault meant end (inl open_meant) = inl (inr open_meant)
+weighed fault meant end (inr (inl e)) = inr (inl e)
+weighed fault meant end (inr (inr open_end)) = inr (inr (inr open_end))
 
-pub today : (read_failed : Type 0) (case : Case) (end : Status) (puts : List Put) → IsRunOf read_failed case end puts → IsEndToday end
-today read_failed case end puts (whole meant pieces due) = due_today read_failed case end pieces due
-today read_failed case end puts (early meant before after tail b t) = late_today end (tail_late after end tail t)
+decided_by : (laws : Laws) (fault : Type 0) (case : Case) (meant end : Status) (p : List Text) → IsValid case end → Defines case meant p → Ended fault case end → (fault ⊎ IsUnfinished meant) ⊎ ((end ≡ meant) ⊎ ((end ≡ status.Memory) ⊎ IsUnfinished end))
+decided_by laws fault case meant end p valid x (inl f) = inl (inl f)
+decided_by laws fault case meant end p valid x (inr (inl e)) = inr (inr (inl e))
+decided_by laws fault case meant end p valid x (inr (inr (q, y))) = weighed fault meant end (decides laws case meant end p q valid x y)
+
+pub decided : (laws : Laws) (words : List Text) (files : Option (List File)) (n m : ℕ) (end : Status) (puts : List Put) (old new : Seen) → Answers words files n m end puts → PutsMake old puts new → IfSome files (λ fs. Decided (Rose n m ⊎ Rose old.faults new.faults) words fs end)
+decided laws words (Some fs) n m end puts old new a makes = λ meant pieces x.
+    let P : Case → Type 0 = λ case. Defines case meant pieces in
+    decided_by laws (Rose n m ⊎ Rose old.faults new.faults) a.case meant end pieces a.valid (subst P (sym a.is) x) (ended n m a.case end puts old new a.run makes)
+decided laws words None n m end puts old new a makes = tt
+
+comes_by : (laws : Laws) (fault : Type 0) (k : Task) (end : Status) (values : List Step) (whole_steps : AllSteps k values Whole) → AllSettle k whole_steps.start (times k.model) values → IsValid (Listing k) end → Ended fault (Listing k) end → fault ⊎ ((end ≡ status.Ok) ⊎ (end ≡ status.Memory))
+comes_by laws fault k end values steps settle valid (inl f) = inl f
+comes_by laws fault k end values steps settle valid (inr (inl e)) = inr (inr e)
+comes_by laws fault k end values steps settle (inl valid) (inr (inr (q, y))) = inr (inl (settles laws k valid end q values steps settle y))
+comes_by laws fault k end values steps settle (inr stops) (inr (inr (q, y))) = absurd (never_stopped k end q stops y)
+
+pub complete : (laws : Laws) (words : List Text) (files : Option (List File)) (n m : ℕ) (end : Status) (puts : List Put) (old new : Seen) → Answers words files n m end puts → PutsMake old puts new → IfSome files (λ fs. Comes (Rose n m ⊎ Rose old.faults new.faults) words fs end)
+complete laws words (Some fs) n m end puts old new a makes = λ l.
+    let same : a.case ≡ Listing l.task = a.is ∙ l.is in
+    let V : Case → Type 0 = λ case. IsValid case end in
+    let E : Case → Type 0 = λ case. Ended (Rose n m ⊎ Rose old.faults new.faults) case end in
+    comes_by laws (Rose n m ⊎ Rose old.faults new.faults) l.task end l.values l.steps l.settle (subst V same a.valid) (subst E same (ended n m a.case end puts old new a.run makes))
+complete laws words None n m end puts old new a makes = tt

@@ -1,53 +1,59 @@
 -- What the words and the files come to.
-use Rattle.std.specs.Prelude.{◌≡◌, ℕ, ◌==◌, List, if◌then◌else◌, Ok, Err, Result, Option, None, Some, option_and_then}
+use Rattle.std.specs.Prelude.{◌≡◌, ℕ, List, Result, Ok, Err, Option, Some, None, IfOk, codes, if◌then◌else◌, option_and_then}
 use Rattle.outside.specs.Files.{File}
-use Rattle.outside.specs.Names.{IsGoodName}
+use Rattle.outside.specs.Inputs.{file_refusal}
+use Rattle.outside.specs.Names.{is_good_name}
+use Rattle.outside.specs.declared.codes.Code.TheVariants.{BadName}
 use Rattle.outside.specs.declared.refusals.Refusal.{Refusal}
-use Rattle.outside.specs.declared.refusals.InputFault.TheVariants.{Refused}
-use Rattle.run_puts.specs.Lines.{Text}
 use Rattle.command_line.specs.Wants.{Wanted, Lists, wanted_of}
-use Rattle.engine.specs.declared.deck.row.RowCell.{RowCell}
-use Rattle.engine.specs.RowDeck.{FaultOfName, IsRow, row_deck}
+use Rattle.model_types.specs.declared.model.FlowModel.{FlowModel}
+use Rattle.model_types.specs.Valid.{IsModel}
+use Rattle.model_reader.specs.Model.{reads}
+use Rattle.run_puts.specs.Lines.{Text}
+use Rattle.listing_run.specs.declared.task.Task.{Task}
 
--- a listing that the words ask for: the name of its name file, and the plain rounds of each step
+-- A listing that the words ask for: the name of its name file, the digits of conductances, and how many plain rounds a step is given to settle.
 pub record Asked : Type 0 where
   pub name : Text
+  pub digits : ℕ
   pub rounds : ℕ
 
--- What is built of the commands: `run` with 12 digits, without a zone file and without a watching seat.
+-- What is built of the commands: `run`, without a zone file and without a watching seat. The number of workers stands in no definition.
 abbrev pub built : Wanted → Option Asked
-built (Lists name digits workers rounds None None) = if digits == 12 then Some (record { name = name; rounds = rounds }) else None
+built (Lists name digits workers rounds None None) = Some (record { name = name; digits = digits; rounds = rounds })
 built other = None
 
 -- the listing that the words ask for; where there is none, they aren't taken
 abbrev pub asked_in : List Text → Option Asked
 asked_in words = option_and_then built (wanted_of words)
 
--- the words aren't taken; a refusal of the files; the rounds of a step, and a row
+-- what is listed of a model
+abbrev pub task_of : Asked → FlowModel → Task
+task_of asked m = record { model = m; digits = asked.digits; zones = None; rounds = asked.rounds }
+
+-- What a run comes to: the words aren't taken; this is the first refusal; this is listed.
 pub data Case : Type 0 where
   NoWords : Case
   Refuses : Refusal → Case
-  Row : ℕ → List RowCell → Case
+  Listing : Task → Case
 
-abbrev pub case_read : ℕ → Result (List RowCell) Refusal → Case
-case_read rounds (Ok cells) = Row rounds cells
-case_read rounds (Err refusal) = Refuses refusal
+abbrev pub case_read : Asked → Result FlowModel Refusal → Case
+case_read asked (Ok m) = Listing (task_of asked m)
+case_read asked (Err refusal) = Refuses refusal
 
-abbrev pub case_asked : Option Asked → List File → Case
-case_asked None files = NoWords
-case_asked (Some asked) files = case_read asked.rounds (row_deck files asked.name)
+-- what a name stands for, where files under it read so; a name that isn't taken is refused before any file
+abbrev pub named : Text → (Text → Result FlowModel Refusal) → Result FlowModel Refusal
+named name read = if is_good_name name then read name else Err (file_refusal BadName (codes "-"))
 
+abbrev pub case_asked : Option Asked → (Text → Result FlowModel Refusal) → Case
+case_asked None read = NoWords
+case_asked (Some asked) read = case_read asked (named asked.name read)
+
+-- what these words and files come to
 abbrev pub case_of : List Text → List File → Case
-case_of words files = case_asked (asked_in words) files
+case_of words files = case_asked (asked_in words) (reads files)
 
--- what these words can come to where a folder tells no files: any row, or a refusal of a name or a file
-abbrev pub IsUntoldCase : Option Asked → Case → Type 0
-IsUntoldCase None case = case ≡ NoWords
-IsUntoldCase (Some asked) NoWords = ⊥
-IsUntoldCase (Some asked) (Refuses refusal) = FaultOfName asked.name (Refused refusal)
-IsUntoldCase (Some asked) (Row rounds cells) = (rounds ≡ asked.rounds) × IsGoodName asked.name × IsRow cells
-
--- what the words and the folder come to
+-- What they come to over a folder. One that tells no files has some that read as a valid model, or that have a refusal.
 abbrev pub IsCase : List Text → Option (List File) → Case → Type 0
 IsCase words (Some files) case = case ≡ case_of words files
-IsCase words None case = IsUntoldCase (asked_in words) case
+IsCase words None case = (read : Result FlowModel Refusal) × IfOk read IsModel × (case ≡ case_asked (asked_in words) (λ name. read))

@@ -1,14 +1,6 @@
-pub mod RowText
-pub mod RowNumbers
-pub mod RowForms
-pub mod RowSeen
-pub mod RowDeck
-pub mod Rows
-pub mod RowProblems
-pub mod RowEquations
-pub mod RowExample
-pub mod RowSteps
-pub mod Listing
+pub mod Headline
 pub mod Cases
+pub mod Defined
 pub mod Runs
+pub mod Storage
 pub mod Parts

@@ -1,14 +1,14 @@
+// The end of a run that has read nothing.
 ghost use Rattle.std.specs.Prelude.{List, ◌++◌};
 ghost use Rattle.outside.specs.Puts.{Put};
-ghost use Rattle.engine.specs.Parts.{IsReadingEnd, IsStepEnd};
+ghost use Rattle.engine.specs.Parts.{IsReadingEnd};
 
-use crate::solving::StepFault;
-use crate::texts::write_refused;
+use listing_io::write_refused;
 use outside::{InputFault, Sink};
 use run_puts::{Status, put_last, put_memory};
 use std::alloc::Global;
 
-/// Ends where no row was read.
+/// Ends where the files have no model.
 pub(crate) fn end_reading<K: Sink>(alloc: Global, fault: InputFault, out: &mut K) -> Status
     ensures { (start : _) (puts : List Put) → K.leads start puts out.old →
         (more : List Put) × K.leads start (puts ++ more) out.new × IsReadingEnd fault result more }
@@ -20,22 +20,5 @@ pub(crate) fn end_reading<K: Sink>(alloc: Global, fault: InputFault, out: &mut K
             Ok(line) => put_last(out, line.as_slice(), Status::Refused(refusal)),
             Err(_) => put_memory(out),
         },
-    }
-}
-
-/// Ends at a step that has this fault.
-pub(crate) fn end_at_step<K: Sink>(fault: StepFault, out: &mut K) -> Status
-    ensures { (start : _) (puts : List Put) → K.leads start puts out.old →
-        (more : List Put) × K.leads start (puts ++ more) out.new × IsStepEnd fault result more }
-{
-    match fault {
-        StepFault::Memory => put_memory(out),
-        StepFault::Unfinished => {
-            put_last(
-                out,
-                b"UNFINISHED 1 1\n",
-                Status::Unfinished { period: 1, step: 1 },
-            )
-        }
     }
 }

@@ -1,9 +1,8 @@
-// A worked row. Its law is the contract of an empty function.
-ghost use Rattle.cell_balance.specs.Solutions.{SolvesStep};
-ghost use Rattle.engine.specs.RowEquations.{row_equations};
-ghost use Rattle.engine.specs.RowExample.{four_cells, inner_heads};
+// A law of the refusals of steps. It is the contract of an empty function.
+ghost use Rattle.engine.specs.Storage.{StorageHolds};
 
-/// The equations of a row have a solution: four cells between the heads 0 and 10 have the inner heads 10/3 and 20/3.
-pub fn row_of_thirds()
-    ensures { SolvesStep (row_equations four_cells) 3 inner_heads }
+/// Where each variable cell of a step has a storage of at least one unit, neither NoBarrierLow nor NoBarrierHigh is
+/// the step's refusal.
+pub fn storage_holds()
+    ensures { StorageHolds }
 {}

@@ -2,16 +2,11 @@
 #![tactic(auto)]
 
 mod asked;
-mod deck;
 mod ending;
 pub mod laws;
 mod listing;
-mod row_barrier;
-mod row_problem;
+mod reading;
 mod running;
-mod solving;
-mod texts;
 
-pub use deck::{RowCell, RowDeck, read_row_deck};
 pub use run_puts::Status;
 pub use running::run;

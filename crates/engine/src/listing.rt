@@ -1,42 +1,44 @@
-ghost use Rattle.std.specs.Prelude.{List, ◌++◌};
+// A listing by workers in threads.
+ghost use Rattle.std.specs.Prelude.{◌≡◌, List, ◌++◌};
 ghost use Rattle.outside.specs.Puts.{Put};
+ghost use Rattle.run_puts.specs.Runs.{IsRun};
+ghost use Rattle.step_problem.specs.Heads.{IsBarrier};
+ghost use Rattle.step_problem.specs.Settling.{Settles};
 ghost use Rattle.settle_driver.specs.Phases.{IsPlan};
-ghost use Rattle.engine.specs.Cases.{Row};
-ghost use Rattle.engine.specs.RowDeck.{IsRow};
-ghost use Rattle.engine.specs.Runs.{IsRunOf};
+ghost use Rattle.listing_run.specs.Ends.{IsTask};
+ghost use Rattle.listing_run.specs.Listing.{IsListing, IsCutListing};
 
-use crate::deck::RowCell;
-use crate::ending::end_at_step;
-use crate::solving::solve;
+use listing_run::{Task, put_steps};
 use outside::{Gate, Sink};
-use run_puts::{Status, put_last, put_piece};
-use settle_driver::Plan;
+use run_puts::Status;
+use settle_driver::{Plan, SettleBy, ThreadSettler};
 use std::alloc::Global;
 use std::thread::Threads;
+use step_problem::{Barrier, Bound, Problem, SettleFault};
 
-/// The first line, the step once it is settled by this plan, and the last line. Nothing is read.
-pub(crate) fn put_listing<R: Threads + Sync, K: Sink, G: Gate + Sync>(
+/// Puts the listing of a task, of which each step is settled by this plan. Workers pass the gate before each turn.
+pub(crate) fn put_listing<R: Threads + Sync, K: Sink + Send, G: Gate + Sync>(
     rt: &R,
     alloc: Global,
+    task: &Task,
     plan: Plan,
-    cells: &[RowCell],
     out: &mut K,
     gate: &G,
 ) -> Status
-    requires row { IsRow cells.now }
+    requires task { IsTask task.now }
     requires plan { IsPlan plan }
+    requires rounds { plan.rounds ≡ task.now.rounds }
     ensures { (start : _) (puts : List Put) → K.leads start puts out.old →
-        (more : List Put) × K.leads start (puts ++ more) out.new × IsRunOf ⊥ (Row plan.rounds cells.now) result more }
+        (more : List Put) × K.leads start (puts ++ more) out.new × IsRun (IsListing task.now) (IsCutListing task.now) result more }
 {
-    if let Some(status) = put_piece(out, b"HEADS 2 DIGITS 12 UNIT 2\n") {
-        return status;
-    }
-    let text = match solve(rt, alloc, plan, cells, gate) {
-        Ok(text) => text,
-        Err(fault) => return end_at_step(fault, out),
-    };
-    if let Some(status) = put_piece(out, text.as_slice()) {
-        return status;
-    }
-    put_last(out, b"END\n", Status::Ok)
+    let threads = ThreadSettler::new(rt, plan, gate);
+    let threads = &threads;
+    let mut settler = SettleBy::new(
+        plan.rounds,
+        |alloc: Global, p: &Problem, b: &Barrier| -> Result<Vec<Bound>, SettleFault>
+            requires { IsBarrier p.now b.now }
+            ensures { Settles p.entry.now b.entry.now threads.entry.now.plan.rounds result }
+        { threads.settle(alloc, p, b) },
+    );
+    put_steps(rt, alloc, task, &mut settler, out)
 }

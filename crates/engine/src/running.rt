@@ -1,14 +1,17 @@
 ghost use Rattle.std.specs.Prelude.{◌≡◌, ◌⊎◌, List, [], ◌++◌, map, IfSome};
 ghost use Rattle.outside.specs.Puts.{Put};
 ghost use Rattle.outside.specs.Counts.{Rose};
-ghost use Rattle.engine.specs.Runs.{Puts, Headline, HasListing, IsEndToday};
+ghost use Rattle.engine.specs.Headline.{Headline};
+ghost use Rattle.engine.specs.Runs.{Puts, Decided, Comes};
 ghost use Rattle.engine.specs.Parts.{Answers};
 
 use crate::asked::asked_of;
-use crate::deck::read_row_deck;
 use crate::ending::end_reading;
 use crate::listing::put_listing;
+use crate::reading::read_named;
 use command_line::{WordsFault, read_order};
+use listing_run::Task;
+use listing_run::laws::one_listing;
 use outside::{Folder, Gate, Sink};
 use run_puts::{Status, put_last, put_memory};
 use std::alloc::Global;
@@ -17,10 +20,9 @@ use std::thread::Threads;
 const USAGE: &[u8] =
     b"USAGE: heads run NAME [--digits S] [--workers W] [--rounds P] [--zones Z] [--watch N] | heads check NAME LISTING [--digits S] | heads make SEED SIZE | heads batch LIST [--digits S] [--workers W] [--rounds P]\n";
 
-/// Does what the words ask: `run NAME` reads the row deck of that name file from the folder and puts
-/// its listing to `out`. Nothing is put to `side`. Workers in threads settle the step, and pass the gate
-/// before each turn. Other commands and other digits than 12, a zone file and a watching seat aren't built
-/// yet, and are answered with the usage line.
+/// Does what the words ask: `run NAME` reads the model of that name file from the folder and puts its listing to
+/// `out`, step by step. Nothing is put to `side`. Workers in threads settle each step, and pass the gate before each
+/// turn. Other commands, a zone file and a watching seat aren't built yet, and are answered with the usage line.
 pub fn run<R: Threads + Sync, F: Folder, K: Sink + Send, W: Sink + Send, G: Gate + Sync>(
     rt: &R,
     alloc: Global,
@@ -41,23 +43,22 @@ pub fn run<R: Threads + Sync, F: Folder, K: Sink + Send, W: Sink + Send, G: Gate
     ensures headline { result ≡ Status.Ok → IfSome (F.files folder.old) (λ files.
         Headline (map (λ w. w.now) words.now) files (K.seen out.old).written (K.seen out.new).written) }
 
-    // A row's step has bounds, and no listing is checked yet.
-    ensures today { IsEndToday result }
-
     // The causes that are counts.
     ensures read_fault { result ≡ Status.ReadFault → Rose (F.faults folder.old) (F.faults folder.new) }
     ensures write_fault { result ≡ Status.WriteFault → Rose (K.seen out.old).faults (K.seen out.new).faults }
 
-    // Where the files have a listing and nothing outside failed, it comes.
-    ensures complete { IfSome (F.files folder.old) (λ files. HasListing (map (λ w. w.now) words.now) files →
-        (Rose (F.faults folder.old) (F.faults folder.new) ⊎ Rose (K.seen out.old).faults (K.seen out.new).faults)
-        ⊎ ((result ≡ Status.Ok) ⊎ (result ≡ Status.Memory))) }
+    // What the words and files define comes, where nothing outside failed.
+    ensures decided { IfSome (F.files folder.old) (λ files.
+        Decided (Rose (F.faults folder.old) (F.faults folder.new) ⊎ Rose (K.seen out.old).faults (K.seen out.new).faults) (map (λ w. w.now) words.now) files result) }
+    ensures complete { IfSome (F.files folder.old) (λ files.
+        Comes (Rose (F.faults folder.old) (F.faults folder.new) ⊎ Rose (K.seen out.old).faults (K.seen out.new).faults) (map (λ w. w.now) words.now) files result) }
 {
     let _side = side;
+    one_listing();
     answer(rt, alloc, words, folder, out, gate)
 }
 
-fn answer<R: Threads + Sync, F: Folder, K: Sink, G: Gate + Sync>(
+fn answer<R: Threads + Sync, F: Folder, K: Sink + Send, G: Gate + Sync>(
     rt: &R,
     alloc: Global,
     words: &[&str],
@@ -78,8 +79,16 @@ fn answer<R: Threads + Sync, F: Folder, K: Sink, G: Gate + Sync>(
     let Some(asked) = asked_of(order) else {
         return put_last(out, USAGE, Status::Usage);
     };
-    match read_row_deck(alloc, folder, asked.name) {
-        Ok(deck) => put_listing(rt, alloc, asked.plan, deck.cells(), out, gate),
+    match read_named(alloc, folder, asked.name) {
+        Ok(model) => {
+            let task = Task {
+                model,
+                digits: asked.digits,
+                zones: None,
+                rounds: asked.plan.rounds,
+            };
+            put_listing(rt, alloc, &task, asked.plan, out, gate)
+        }
         Err(fault) => end_reading(alloc, fault, out),
     }
 }

@@ -4,14 +4,14 @@
 #[cfg(test)]
 mod decks;
 #[cfg(test)]
-mod ends;
+mod faults;
+#[cfg(test)]
+mod handshake;
+#[cfg(test)]
+mod listings;
 #[cfg(test)]
 mod meeting;
 #[cfg(test)]
-mod rows;
-#[cfg(test)]
-mod runs;
-#[cfg(test)]
-mod words;
+mod refusals;
 #[cfg(test)]
 mod workers;

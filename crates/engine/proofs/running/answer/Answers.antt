@@ -1,8 +1,6 @@
-use Rattle.std.proofs.Common.{◌≡◌, ℕ, List, map, Ok, Err, Some, None, ap, subst}
-use Rattle.engine.specs.declared.deck.row.RowCell.{RowCell}
-use Rattle.engine.specs.Cases.{Asked, Row, asked_in}
-use Rattle.engine.specs.Runs.{IsRunOf}
-use Rattle.engine.proofs.Ends.{asked_by, asked_none, ends_usage, ends_reading, ends_row, ends_without_words, fits, no_words}
+use Rattle.std.proofs.Common.{◌≡◌, ℕ, List, map, Err, Some, None, ap}
+use Rattle.engine.specs.Cases.{Asked, asked_in}
+use Rattle.engine.proofs.Ends.{asked_by, asked_none, ends_usage, ends_reading, ends_listing, ends_without_words, no_words}
 use Rattle.engine.proofs.running.answer.Goals as goal
 
 pub returns-in-Err-Usage-clause-answers : goal.returns-in-Err-Usage-clause-answers
@@ -25,27 +23,18 @@ returns-in_default-clause-answers g c = λ start puts h.
     let none : asked_in words ≡ None = asked_by words _ None c.in-Ok.ensures.order c.in_default.ensures.is in
     (m.0, m.1, ends_usage words (g.F.Folder.files c.args.folder.now) (g.F.Folder.faults c.args.folder.now) _ c.put_last-in_default.result m.0 (no_words words (g.F.Folder.files c.args.folder.now) none) m.2)
 
-pub returns-in-Ok-read_row_deck-clause-answers : goal.returns-in-Ok-read_row_deck-clause-answers
-returns-in-Ok-read_row_deck-clause-answers g c = λ start puts h.
+pub returns-in-Ok-read_named-clause-answers : goal.returns-in-Ok-read_named-clause-answers
+returns-in-Ok-read_named-clause-answers g c = λ start puts h.
     let m = c.put_listing.ensures start puts h in
     let words : List (List ℕ) = map (λ w. w.now) c.args.words.now in
-    let asked : Asked = record { name = c.in-Some.asked.name.now; rounds = c.in-Some.asked.plan.rounds } in
+    let asked : Asked = record { name = c.in-Some.asked.name.now; digits = c.in-Some.asked.digits; rounds = c.in-Some.asked.plan.rounds } in
     let named : asked_in words ≡ Some asked = asked_by words _ (Some asked) c.in-Ok.ensures.order c.in-Some.ensures.is in
-    let Q : List RowCell → Type 0 = λ cells. IsRunOf ⊥ (Row asked.rounds cells) c.put_listing.result m.0 in (
-      m.0,
-      m.1,
-      ends_row words (g.F.Folder.files c.args.folder.now) (g.F.Folder.faults c.args.folder.now) _ asked.rounds c.in-Ok-read_row_deck.deck c.put_listing.result m.0
-          (fits words asked named (g.F.Folder.files c.args.folder.now) (Ok c.in-Ok-read_row_deck.deck) c.in-Ok-read_row_deck.ensures.reads (c.in-Ok-read_row_deck.ensures.good_name, c.in-Ok-read_row_deck.ensures.row)) (subst Q c.cells.ensures m.2),
-    )
+    (m.0, m.1, ends_listing words (g.F.Folder.files c.args.folder.now) (g.F.Folder.faults c.args.folder.now) _ asked named c.in-Ok-read_named.model c.put_listing.result m.0 c.in-Ok-read_named.ensures.reads c.in-Ok-read_named.ensures.model m.2)
 
 pub returns-in-Err-clause-answers : goal.returns-in-Err-clause-answers
 returns-in-Err-clause-answers g c = λ start puts h.
     let m = c.end_reading.ensures start puts h in
     let words : List (List ℕ) = map (λ w. w.now) c.args.words.now in
-    let asked : Asked = record { name = c.in-Some.asked.name.now; rounds = c.in-Some.asked.plan.rounds } in
-    let named : asked_in words ≡ Some asked = asked_by words _ (Some asked) c.in-Ok.ensures.order c.in-Some.ensures.is in (
-      m.0,
-      m.1,
-      ends_reading words (g.F.Folder.files c.args.folder.now) (g.F.Folder.faults c.args.folder.now) _ asked.rounds c.in-Err.fault c.end_reading.result m.0
-          (fits words asked named (g.F.Folder.files c.args.folder.now) (Err c.in-Err.fault) c.in-Err.ensures.reads c.in-Err.ensures.faults) c.in-Err.ensures.counts m.2,
-    )
+    let asked : Asked = record { name = c.in-Some.asked.name.now; digits = c.in-Some.asked.digits; rounds = c.in-Some.asked.plan.rounds } in
+    let named : asked_in words ≡ Some asked = asked_by words _ (Some asked) c.in-Ok.ensures.order c.in-Some.ensures.is in
+    (m.0, m.1, ends_reading words (g.F.Folder.files c.args.folder.now) (g.F.Folder.faults c.args.folder.now) _ asked named c.in-Err.fault c.end_reading.result m.0 c.in-Err.ensures.reads c.in-Err.ensures.counts m.2)

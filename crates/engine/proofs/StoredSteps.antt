@@ -1,0 +1,103 @@
+-- A step whose cells have storage has a floor and a ceiling.
+use Rattle.std.proofs.Common.{◌≡◌, ◌≢◌, ℕ, zero, suc, ◌<◌, ◌≤◌, Bool, true, false, cond, List, [], ◌∷◌, length, Contains, Result, Ok, Err, Option, Some, None, inl, inr, refl, sym, ap, subst, arith, ℤ, if◌then◌else◌}
+use Rattle.step_problem.specs.declared.entry.Fixed.{Fixed}
+use Rattle.step_problem.specs.declared.place.Dir.{Dir}
+use Rattle.step_problem.specs.declared.place.Dir.TheVariants.{In, Out}
+use Rattle.step_problem.specs.declared.place.NoBound.{NoBound}
+use Rattle.step_problem.specs.declared.place.Term.{Term}
+use Rattle.step_problem.specs.Entries.{Entries, entries_at}
+use Rattle.step_problem.specs.Heads.{lower_at, upper_at}
+use Rattle.cell_balance.specs.Components.{IsAnchored}
+use Rattle.barrier_vector.specs.Bounds.{greatest}
+use Rattle.barrier_vector.specs.Refusals.{HasNoFloor, HasNoCeiling, IsRefused}
+use Rattle.budget_bounds.specs.Terms.{◌>>=◌, all_terms, budget_of, is_small, term_of, term_pair, terms_of, too_large}
+use Rattle.problem_builder.specs.Refusals.{fault_of}
+use Rattle.listing_run.specs.Steps.{no_heads, no_budget}
+use Rattle.engine.specs.Storage.{IsStored, StorageHolds}
+
+-- what a refusal is not
+abbrev IsOther : ℕ → Type 0
+IsOther code = (code ≢ 24) × (code ≢ 25)
+
+other_code : (a b : ℕ) → a ≡ b → IsOther b → IsOther a
+other_code a b e h = subst IsOther (sym e) h
+
+stored_is_anchored : (p : List Entries) (c : ℕ) → IsStored p → c < length p → IsAnchored p c
+stored_is_anchored p c stored within = let s = stored c within in (s.0, s.1, omega (arith, s.3))
+
+has_floor : (p : List Entries) (c : ℕ) → IsStored p → c < length p → HasNoFloor p c → ⊥
+has_floor p c stored within none = none.0 0 (c, refl, stored_is_anchored p c stored within)
+
+greatest_at : (xs : List Fixed) (x : Fixed) → Contains xs x → x.lo ≤ greatest (λ y. y.lo) xs
+greatest_at [] x (k, within, is) = absurd (omega (arith, within))
+greatest_at (y ∷ ys) x (zero, within, is) = rw (sym is) (omega arith)
+greatest_at (y ∷ ys) x (suc k, within, is) = let more = greatest_at ys x (k, omega (arith, within), is) in omega (arith, more)
+
+has_ceiling : (p : List Entries) (c : ℕ) → IsStored p → c < length p → HasNoCeiling p c → ⊥
+has_ceiling p c stored within none =
+    let s = stored c within in
+    let zero_there = none 0 c refl in
+    let some = greatest_at (entries_at p c).fixed s.0 s.1 in
+    omega (arith, zero_there, some, s.3)
+
+barrier_code : (p : List Entries) (n : NoBound) → IsStored p → IsRefused p n → IsOther n.code
+barrier_code p n stored (inl (c, inl (names, least))) = absurd (has_floor p c stored least.within least.has)
+barrier_code p n stored (inl (c, inr (names, nowhere, least))) = other_code n.code 26 names.code (omega arith, omega arith)
+barrier_code p n stored (inr (nowhere, also, (c, inl (names, least)))) = absurd (has_ceiling p c stored least.within least.has)
+barrier_code p n stored (inr (nowhere, also, (c, inr (names, none, least)))) = other_code n.code 27 names.code (omega arith, omega arith)
+
+the_code : Option ℕ → ℕ
+the_code (Some m) = m
+the_code None = 0
+
+one_code : (m n : ℕ) → Some m ≡ Some n → n ≡ m
+unfolding the_code
+one_code m n e = sym (ap the_code e)
+
+chosen_code : (a b c : Bool) (n : ℕ) → cond a (Some 21) (cond b (Some 22) (cond c (Some 23) None)) ≡ Some n → IsOther n
+chosen_code true b c n e = other_code n 21 (one_code 21 n e) (omega arith, omega arith)
+chosen_code false true c n e = other_code n 22 (one_code 22 n e) (omega arith, omega arith)
+chosen_code false false true n e = other_code n 23 (one_code 23 n e) (omega arith, omega arith)
+chosen_code false false false n e = cc
+
+problem_code : (e : Entries) (n : ℕ) → fault_of e ≡ Some n → IsOther n
+unfolding fault_of
+problem_code e n h = chosen_code _ _ _ n h
+
+abbrev TooLarge : NoBound → Type 0
+TooLarge n = n.code ≡ 23
+
+err_of : {B : Type 0} → NoBound → Result B NoBound → NoBound
+err_of d (Ok b) = d
+err_of d (Err k) = k
+
+one_err : {B : Type 0} (m n : NoBound) → Path (Result B NoBound) (Err m) (Err n) → m ≡ n
+unfolding err_of
+one_err m n e = ap (err_of m) e
+
+bind_code : {A B : Type 0} (x : Result A NoBound) (f : A → Result B NoBound) → ((n : NoBound) → x ≡ Err n → TooLarge n) → ((a : A) (n : NoBound) → f a ≡ Err n → TooLarge n) → (n : NoBound) → (x >>= f) ≡ Err n → TooLarge n
+bind_code (Ok a) f first more n e = more a n e
+bind_code (Err m) f first more n e = first n (ap Err (one_err m n e))
+
+module _ (p : List Entries) (l u : ℕ → ℤ) where
+  term_code : (dir : Dir) (t : Term) (n : NoBound) → term_of p l u dir t ≡ Err n → TooLarge n
+  unfolding term_of
+  term_code dir t n e = by_size (is_small (term_pair p l u dir t)) e
+    where
+      by_size : (b : Bool) → (if b then Ok (term_pair p l u dir t) else Err (too_large dir t)) ≡ Err n → TooLarge n
+      by_size true h = cc
+      by_size false h = ap (λ (x : NoBound). x.code) (sym (one_err (too_large dir t) n h))
+
+  terms_code : (dir : Dir) (ts : List Term) (n : NoBound) → terms_of p l u dir ts ≡ Err n → TooLarge n
+  unfolding terms_of
+  terms_code dir [] n e = cc
+  terms_code dir (t ∷ ts) n e = bind_code (term_of p l u dir t) _ (term_code dir t) (λ x. bind_code (terms_of p l u dir ts) _ (terms_code dir ts) (λ xs m h. cc)) n e
+
+  budget_code : (n : NoBound) → budget_of p l u ≡ Err n → TooLarge n
+  unfolding budget_of
+  budget_code n e = bind_code (terms_of p l u In all_terms) _ (terms_code In all_terms) (λ into. bind_code (terms_of p l u Out all_terms) _ (terms_code Out all_terms) (λ out m h. cc)) n e
+
+pub storage_holds : StorageHolds
+storage_holds k at old n stored (no_heads (inl none)) = problem_code none.refused.entries n.code none.refused.is_fault
+storage_holds k at old n stored (no_heads (inr (p, is, refused))) = barrier_code p n (stored p is) refused
+storage_holds k at old n stored (no_budget solved settled refused) = other_code n.code 23 (budget_code solved.problem (lower_at solved.bounds) (upper_at solved.bounds) n refused) (omega arith, omega arith)
