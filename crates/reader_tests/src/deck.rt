@@ -1,10 +1,5 @@
 // The files of a deck.
-ghost use Rattle.outside.specs.Names.{IsGoodName};
-
-use array_reader::open_file;
-use bas_package::read_bas;
-use cell_checks::{Check, check_cells};
-use dis_package::read_dis;
+use model_reader::read_named_model;
 use model_types::FlowModel;
 use outside::{InputFault, MemFolder, good_name};
 use std::alloc::{AllocError, Global};
@@ -43,35 +38,12 @@ impl Deck {
         self.folder.fail_at(call)
     }
 
-    /// The model of a file of the discretization and of a basic package, whose names differ in the last part.
+    /// The model that a name file describes.
     pub fn read(&mut self, alloc: Global, name: &str) -> Result<FlowModel, InputFault> {
         self.begin_file(alloc, "")?;
-        let dis = format!(in alloc; "{name}.dis")?;
-        let bas = format!(in alloc; "{name}.bas")?;
-        match (
-            good_name(dis.as_str().as_bytes()),
-            good_name(bas.as_str().as_bytes()),
-        ) {
-            (Some(dis), Some(bas)) => basic_model(alloc, &mut self.folder, dis, bas),
-            _ => Err(InputFault::Memory),
+        match good_name(name.as_bytes()) {
+            Some(name) => read_named_model(alloc, name, &mut self.folder),
+            None => Err(InputFault::Memory),
         }
     }
-}
-
-fn basic_model(
-    alloc: Global,
-    folder: &mut MemFolder,
-    dis: &str,
-    bas: &str,
-) -> Result<FlowModel, InputFault>
-    requires dis { IsGoodName dis.now }
-    requires bas { IsGoodName bas.now }
-{
-    let bytes = open_file(alloc, folder, dis)?;
-    let model = read_dis(alloc, dis, &bytes, folder)?;
-    let bytes = open_file(alloc, folder, bas)?;
-    let model = read_bas(alloc, bas, &bytes, folder, model)?;
-    check_cells(alloc, &model, dis, Check::Thickness)?;
-    check_cells(alloc, &model, bas, Check::StartHead)?;
-    Ok(model)
 }
