@@ -6,17 +6,13 @@ mod answers;
 #[cfg(test)]
 mod arrays;
 #[cfg(test)]
-mod control_records;
-#[cfg(test)]
 mod cut_files;
 #[cfg(test)]
-mod item_calls;
+mod items;
 #[cfg(test)]
 mod lines;
 #[cfg(test)]
-mod list_calls;
-#[cfg(test)]
-mod name_files;
+mod lists;
 #[cfg(test)]
 mod names;
 #[cfg(test)]

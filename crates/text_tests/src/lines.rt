@@ -1,79 +1,94 @@
-use record_lines::{EndOfFile, Free, FreeFault, Lines, Words};
-use std::alloc::Global;
+// Lines, words and free lists of a text.
+use record_lines::{Free, FreeFault, Lines, Words};
+use std::alloc::{AllocError, Global};
 use std::str;
 use std::test::Fail;
 
-// The values of a free list of so many, joined by blanks, each with its line; then the fault, if any.
-fn values(alloc: Global, text: &str, count: u32) -> Result<String, Fail> {
+// The next value of a free list with its line, or its fault.
+fn value_text<'a>(
+    alloc: Global,
+    free: &mut Free<'a>,
+    lines: &mut Lines<'a>,
+) -> Result<String, AllocError> {
+    let (what, line) = match free.next(lines) {
+        Ok((word, line)) => (str::from_utf8(word).unwrap_or("?"), line),
+        Err(FreeFault::EndOfFile(line)) => ("end", line),
+        Err(FreeFault::BadNumber(line)) => ("bad", line),
+    };
+    format!(in alloc; " {what}:{line}")
+}
+
+// So many values of a free list.
+fn values(alloc: Global, text: &str, count: u32) -> Result<String, AllocError> {
     let mut lines = Lines::new(text.as_bytes());
     let mut free = Free::begin();
     let mut all = String::new(alloc);
     for _ in 0..count {
-        match free.next(&mut lines) {
-            Ok((word, line)) => {
-                let word = str::from_utf8(word).unwrap_or("?");
-                all.push_str(format!(in alloc; "{word}:{line} ")?.as_str())?;
-            }
-            Err(FreeFault::EndOfFile(line)) => {
-                all.push_str(format!(in alloc; "end {line}")?.as_str())?;
-                break;
-            }
-            Err(FreeFault::BadNumber(line)) => {
-                all.push_str(format!(in alloc; "bad {line}")?.as_str())?;
-                break;
-            }
-        }
+        all.push_str(value_text(alloc, &mut free, &mut lines)?.as_str())?;
     }
     Ok(all)
 }
 
+static FREE_LISTS: [(&str, u32, &str); 13] = [
+    ("3*2.5 end of row\n", 3, " 2.5:1 2.5:1 2.5:1"),
+    ("1,\t2\r\n\n 3", 3, " 1:1 2:1 3:3"),
+    ("999999999*1\n", 2, " 1:1 1:1"),
+    ("1 0003*x*y\n", 2, " 1:1 x*y:1"),
+    ("1 2\n", 4, " 1:1 2:1 end:2 end:2"),
+    ("# 2", 2, " #:1 2:1"),
+    ("\n0*1", 2, " bad:2 bad:2"),
+    ("3*", 1, " bad:1"),
+    ("*5", 1, " bad:1"),
+    ("+1*5", 1, " bad:1"),
+    ("1234567890*1", 1, " bad:1"),
+    ("", 1, " end:1"),
+    ("", 0, ""),
+];
+
 #[test]
 fn free_lists_spread_their_repeats(rt: HostRuntime) -> Result<(), Fail> {
     let alloc = rt.alloc();
-    for (text, count, expected) in [
-        ("3*2.5 end of row\n", 3, "2.5:1 2.5:1 2.5:1 "),
-        ("1,\t2\r\n\n 3", 3, "1:1 2:1 3:3 "),
-        ("999999999*1\n", 2, "1:1 1:1 "),
-        ("1 0003*x*y\n", 2, "1:1 x*y:1 "),
-        ("1 2\n", 3, "1:1 2:1 end 2"),
-        ("# 2", 2, "#:1 2:1 "),
-        ("\n0*1", 1, "bad 2"),
-        ("3*", 1, "bad 1"),
-        ("*5", 1, "bad 1"),
-        ("+1*5", 1, "bad 1"),
-        ("1234567890*1", 1, "bad 1"),
-        ("", 1, "end 1"),
-        ("", 0, ""),
-    ] {
-        assert_eq!(rt; values(alloc, text, count)?.as_str(), expected, "{text}");
+    for (text, count, expected) in &FREE_LISTS {
+        assert!(rt;
+            values(alloc, text, *count)?.as_str() == *expected,
+            "{text}"
+        );
     }
     Ok(())
 }
 
-#[test]
-fn comments_go_before_the_first_item_alone(rt: HostRuntime) {
-    let mut lines = Lines::new(b"# a\n\n#\n 1 # b\n \r\n#c\n\n");
-    lines.skip_comments();
-    let first = lines.next_line().ok();
-    assert_eq!(rt; first.map(|line| line.number), Some(4));
-    let second = lines.next_line().ok();
-    assert_eq!(rt; second.map(|line| line.bytes), Some(b"#c".as_slice()));
-    let end = EndOfFile { line: 8 };
-    assert_eq!(rt; lines.next_line().err(), Some(end));
-    assert_eq!(rt; lines.next_line().err(), Some(end));
+// The next line's number and words, each word in front of a bar, or the end's number.
+fn line_text(alloc: Global, lines: &mut Lines) -> Result<String, AllocError> {
+    let line = match lines.next_line() {
+        Ok(line) => line,
+        Err(end) => {
+            let number = end.line;
+            return format!(in alloc; "end {number}");
+        }
+    };
+    let number = line.number;
+    let mut text = format!(in alloc; "{number}:")?;
+    let mut words = Words::of(&line);
+    for _ in 0..5 {
+        let word = words.next().unwrap_or(b"-");
+        text.push_str(str::from_utf8(word).unwrap_or("?"))?;
+        text.push('|')?;
+    }
+    Ok(text)
 }
 
 #[test]
-fn a_last_line_needs_no_line_feed(rt: HostRuntime) {
-    let mut lines = Lines::new(b"\nlast word");
-    match lines.next_line() {
-        Ok(line) => {
-            let mut words = Words::of(&line);
-            assert_eq!(rt; words.next(), Some(b"last".as_slice()));
-            assert_eq!(rt; words.next(), Some(b"word".as_slice()));
-            assert_eq!(rt; words.next(), None);
-        }
-        Err(_) => assert!(rt; false, "a line is there"),
+fn lines_are_numbered_and_comments_go_before_the_first_alone(rt: HostRuntime) -> Result<(), Fail> {
+    let mut lines = Lines::new(b"# a\n\n#\n 1 # b\n \r\n#c\n\nlast word");
+    lines.skip_comments();
+    for answer in [
+        "4:1|#|b|-|-|",
+        "6:#c|-|-|-|-|",
+        "8:last|word|-|-|-|",
+        "end 9",
+        "end 9",
+    ] {
+        assert!(rt; line_text(rt.alloc(), &mut lines)?.as_str() == answer);
     }
-    assert_eq!(rt; lines.next_line().err(), Some(EndOfFile { line: 3 }));
+    Ok(())
 }

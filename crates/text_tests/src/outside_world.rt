@@ -1,9 +1,29 @@
 // A folder, sinks, names and refusals.
+use crate::answers::{fault_text, told};
 use outside::{
     Code, Folder, FolderError, Found, FreeGate, Gate, InputFault, MemFolder, MemSink, Name, Sink,
-    SinkError, file_refusal, folder_name, good_name, is_good_name, read_input,
+    file_refusal, folder_name, good_name, is_good_name, read_input,
 };
+use std::alloc::{AllocError, Global};
 use std::test::Fail;
+
+// What a folder answers, with the bytes of a file as text.
+pub fn found_text(alloc: Global, found: Result<Found, FolderError>) -> Result<String, AllocError> {
+    match found {
+        Ok(Found::Bytes(bytes)) => Ok(String::from_utf8(bytes).unwrap_or(String::new(alloc))),
+        Ok(Found::Missing) => String::from_str(alloc, "missing"),
+        Ok(Found::TooLong) => String::from_str(alloc, "too long"),
+        Err(FolderError::Read) => String::from_str(alloc, "read fault"),
+        Err(FolderError::Memory) => String::from_str(alloc, "memory"),
+    }
+}
+
+static FOUND: [(&str, u64, &str); 4] = [
+    ("b.nam", 99, "missing"),
+    ("a.nam", 13, "LIST 6 a.lst\n"),
+    ("a.nam", 13, "read fault"),
+    ("a.nam", 12, "too long"),
+];
 
 #[test]
 fn a_folder_in_memory_answers_by_its_files_and_its_script(rt: HostRuntime) -> Result<(), Fail> {
@@ -12,64 +32,83 @@ fn a_folder_in_memory_answers_by_its_files_and_its_script(rt: HostRuntime) -> Re
     folder.add("a.nam", b"old")?;
     folder.add("a.nam", b"LIST 6 a.lst\n")?;
     folder.fail_at(3)?;
-    assert!(rt; matches!(folder.read_file(alloc, "b.nam", 99), Ok(Found::Missing)));
-    match folder.read_file(alloc, "a.nam", 13) {
-        Ok(Found::Bytes(bytes)) => assert_eq!(rt; bytes.as_slice(), b"LIST 6 a.lst\n".as_slice()),
-        _ => assert!(rt; false, "the file as it was added last"),
+    for (name, limit, answer) in &FOUND {
+        let found = found_text(alloc, folder.read_file(alloc, name, *limit))?;
+        assert!(rt; found.as_str() == *answer);
     }
-    assert!(rt; matches!(folder.read_file(alloc, "a.nam", 13), Err(FolderError::Read)));
-    assert!(rt; matches!(folder.read_file(alloc, "a.nam", 12), Ok(Found::TooLong)));
     Ok(())
 }
+
+static PIECES: [(&str, bool); 4] = [
+    ("first ", true),
+    ("second ", false),
+    (" third ", true),
+    ("whole", false),
+];
 
 #[test]
 fn a_sink_in_memory_keeps_what_its_script_says(rt: HostRuntime) -> Result<(), Fail> {
     let mut sink = MemSink::new(rt.alloc());
     sink.fail_at(2, 3)?;
     sink.fail_at(4, 99)?;
-    assert_eq!(rt; sink.put(b"first "), Ok(()));
-    assert_eq!(rt; sink.put(b"second "), Err(SinkError::Write));
-    assert_eq!(rt; sink.put(b" third "), Ok(()));
-    assert_eq!(rt; sink.put(b"whole"), Err(SinkError::Write));
-    assert_eq!(rt; sink.bytes(), b"first sec third whole".as_slice());
+    for (piece, kept) in &PIECES {
+        assert!(rt; sink.put(piece.as_bytes()).is_ok() == *kept);
+    }
+    assert!(rt; sink.bytes() == b"first sec third whole".as_slice());
     FreeGate.pass(1, 0);
     Ok(())
 }
 
+static NAMES: [(&str, bool); 5] = [
+    ("a.nam", true),
+    ("", false),
+    ("a b", false),
+    ("~!", true),
+    ("é", false),
+];
+
 #[test]
 fn names_are_taken_and_turned(rt: HostRuntime) -> Result<(), Fail> {
     let alloc = rt.alloc();
-    for (name, good) in [
-        ("a.nam", true),
-        ("", false),
-        ("a b", false),
-        ("~!", true),
-        ("é", false),
-    ] {
-        assert_eq!(rt; is_good_name(name.as_bytes()), good, "{name}");
-        assert_eq!(rt; good_name(name.as_bytes()).is_some(), good, "{name}");
+    for (name, good) in &NAMES {
+        assert!(rt; is_good_name(name.as_bytes()) == *good);
+        assert!(rt; good_name(name.as_bytes()).is_some() == *good);
     }
     if let Some(name) = good_name(b"in\\a.nam") {
-        assert_eq!(rt; folder_name(alloc, name)?.as_str(), "in/a.nam");
-        assert_eq!(rt; Name::new(alloc, name)?.as_str(), "in\\a.nam");
+        assert!(rt; folder_name(alloc, name)?.as_str() == "in/a.nam");
+        assert!(rt; Name::new(alloc, name)?.as_str() == "in\\a.nam");
     }
     Ok(())
 }
 
 #[test]
 fn each_number_from_1_to_27_has_its_code(rt: HostRuntime) {
-    assert_eq!(rt;
-        (Code::RangeHigh.number(), Code::RangeHigh.word()),
-        (27, "RangeHigh")
-    );
     for number in 1..=27 {
         let code = Code::of_number(number);
-        assert_eq!(rt; code.map(|code| code.number()), Some(number));
+        assert!(rt; code.map(|code| code.number()) == Some(number));
     }
-    assert_eq!(rt; Code::of_number(8), Some(Code::EndOfFile));
-    assert_eq!(rt; Code::of_number(0), None);
-    assert_eq!(rt; Code::of_number(28), None);
+    assert!(rt; Code::RangeHigh.number() == 27);
+    assert!(rt; Code::RangeHigh.word() == "RangeHigh");
+    assert!(rt; Code::of_number(8) == Some(Code::EndOfFile));
+    assert!(rt; Code::of_number(0).is_none());
+    assert!(rt; Code::of_number(28).is_none());
 }
+
+fn input_text(alloc: Global, folder: &mut MemFolder, name: &str) -> Result<String, InputFault> {
+    match good_name(name.as_bytes()) {
+        Some(name) => {
+            let bytes = read_input(alloc, folder, name)?;
+            Ok(String::from_utf8(bytes).unwrap_or(String::new(alloc)))
+        }
+        None => Ok(String::new(alloc)),
+    }
+}
+
+static INPUTS: [(&str, &str); 3] = [
+    ("in\\a.dis", "1 1 3\n"),
+    ("in\\b.dis", "MissingFile in\\b.dis 0"),
+    ("in/a.dis", "ReadFault"),
+];
 
 #[test]
 fn an_input_is_its_bytes_or_a_refusal_of_the_file(rt: HostRuntime) -> Result<(), Fail> {
@@ -77,15 +116,11 @@ fn an_input_is_its_bytes_or_a_refusal_of_the_file(rt: HostRuntime) -> Result<(),
     let mut folder = MemFolder::new(alloc);
     folder.add("in/a.dis", b"1 1 3\n")?;
     folder.fail_at(3)?;
-    let bytes = Vec::from_slice(alloc, b"1 1 3\n")?;
-    assert_eq!(rt;
-        read_input(alloc, &mut folder, "in\\a.dis").ok(),
-        Some(bytes)
-    );
-    let missing = file_refusal(alloc, Code::MissingFile, "in\\b.dis")?;
-    let fault = read_input(alloc, &mut folder, "in\\b.dis").err();
-    assert_eq!(rt; fault, Some(InputFault::Refused(missing)));
-    let fault = read_input(alloc, &mut folder, "in/a.dis").err();
-    assert_eq!(rt; fault, Some(InputFault::ReadFault));
+    for (name, answer) in &INPUTS {
+        let read = told(alloc, input_text(alloc, &mut folder, name))?;
+        assert!(rt; read.as_str() == *answer);
+    }
+    let refusal = InputFault::Refused(file_refusal(alloc, Code::TooLong, "a.dis")?);
+    assert!(rt; fault_text(alloc, &refusal)?.as_str() == "TooLong a.dis 0");
     Ok(())
 }

@@ -1,31 +1,37 @@
 // The real folder and the real sink, where the system or a reader or a writer fails.
-use outside::{Folder, FolderError, Found, RealFolder, RealSink, Sink, SinkError, read_whole};
+use crate::outside_world::found_text;
+use outside::{Folder, RealFolder, RealSink, Sink, SinkError, read_whole};
 use std::test::Fail;
 use std::{fs, io};
+
+// What is no file, a folder or a path through a file, is a read fault and not missing.
+static REAL_FILES: [(&str, u64, &str); 5] = [
+    ("three.txt", 6, "1 2 3\n"),
+    ("three.txt", 5, "too long"),
+    ("four.txt", 6, "missing"),
+    ("folder.txt", 99, "read fault"),
+    ("three.txt/a.txt", 99, "read fault"),
+];
 
 #[test]
 fn real_files_are_read_whole_or_refused(rt: HostRuntime) -> Result<(), Fail> {
     let alloc = rt.alloc();
     fs::write(&rt, "three.txt", "1 2 3\n")?;
+    fs::create_dir(&rt, "folder.txt")?;
     let mut folder = RealFolder::new(&rt);
-    match folder.read_file(alloc, "three.txt", 6) {
-        Ok(Found::Bytes(bytes)) => assert_eq!(rt; bytes.as_slice(), b"1 2 3\n".as_slice()),
-        _ => assert!(rt; false, "three.txt was written"),
+    for (name, limit, answer) in &REAL_FILES {
+        let found = found_text(alloc, folder.read_file(alloc, name, *limit))?;
+        assert!(rt; found.as_str() == *answer, "{name}");
     }
-    assert!(rt; matches!(folder.read_file(alloc, "three.txt", 5), Ok(Found::TooLong)));
-    assert!(rt; matches!(folder.read_file(alloc, "four.txt", 6), Ok(Found::Missing)));
     Ok(())
 }
 
 #[test]
 fn a_real_sink_writes_each_piece_whole(rt: HostRuntime) -> Result<(), Fail> {
     let mut sink = RealSink::new(fs::create(&rt, "written.txt")?);
-    assert_eq!(rt; sink.put(b"one "), Ok(()));
-    assert_eq!(rt; sink.put(b"two\n"), Ok(()));
-    assert_eq!(rt;
-        fs::read_to_string(&rt, "written.txt")?.as_str(),
-        "one two\n"
-    );
+    assert!(rt; sink.put(b"one ").is_ok());
+    assert!(rt; sink.put(b"two\n").is_ok());
+    assert!(rt; fs::read_to_string(&rt, "written.txt")?.as_str() == "one two\n");
     Ok(())
 }
 
@@ -43,26 +49,12 @@ impl io::Read for FailsInMidStream {
     }
 }
 
+// Past the limit no further read is asked for.
 #[test]
-fn a_reader_that_fails_in_mid_stream_is_a_read_fault(rt: HostRuntime) {
-    let alloc = rt.alloc();
-    let found = read_whole(alloc, &mut FailsInMidStream(0), 99);
-    assert!(rt; matches!(found, Err(FolderError::Read)));
-
-    // Past the limit no further read is asked for.
-    let found = read_whole(alloc, &mut FailsInMidStream(0), 3);
-    assert!(rt; matches!(found, Ok(Found::TooLong)));
-}
-
-#[test]
-fn what_is_no_file_is_a_read_fault_and_not_missing(rt: HostRuntime) -> Result<(), Fail> {
-    let alloc = rt.alloc();
-    fs::write(&rt, "plain.txt", "1")?;
-    fs::create_dir(&rt, "folder.txt")?;
-    let mut folder = RealFolder::new(&rt);
-    for name in ["folder.txt", "plain.txt/a.txt"] {
-        let found = folder.read_file(alloc, name, 99);
-        assert!(rt; matches!(found, Err(FolderError::Read)), "{name}");
+fn a_reader_that_fails_in_mid_stream_is_a_read_fault(rt: HostRuntime) -> Result<(), Fail> {
+    for (limit, answer) in [(99, "read fault"), (3, "too long")] {
+        let found = read_whole(rt.alloc(), &mut FailsInMidStream(0), limit);
+        assert!(rt; found_text(rt.alloc(), found)?.as_str() == answer);
     }
     Ok(())
 }
@@ -85,6 +77,6 @@ impl io::Write for TakesNothing {
 #[test]
 fn a_writer_that_takes_nothing_is_a_write_fault(rt: HostRuntime) {
     let mut sink = RealSink::new(TakesNothing(0));
-    assert_eq!(rt; sink.put(b""), Ok(()));
-    assert_eq!(rt; sink.put(b"one"), Err(SinkError::Write));
+    assert!(rt; sink.put(b"") == Ok(()));
+    assert!(rt; sink.put(b"one") == Err(SinkError::Write));
 }
