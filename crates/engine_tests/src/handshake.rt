@@ -99,7 +99,7 @@ impl<'a> Sink for HandshakeSink<'a> {
     ghost tells = { λ _ _ _ h. h };
 
     fn put(&mut self, piece: &[u8]) -> Result<(), SinkError> {
-        if self.together.begin_put() + 1 == self.lacking {
+        if self.together.begin_put().wrapping_add(1) == self.lacking {
             return Err(SinkError::Memory);
         }
         match self.bytes.extend_from_slice(piece) {
