@@ -8,10 +8,6 @@ mod faults;
 #[cfg(test)]
 mod handshake;
 #[cfg(test)]
-mod listings;
-#[cfg(test)]
 mod meeting;
-#[cfg(test)]
-mod refusals;
 #[cfg(test)]
 mod workers;

@@ -1,0 +1,36 @@
+// What a run puts.
+use crate::deck::Deck;
+use std::alloc::Global;
+use std::io;
+use std::thread::Threads;
+
+pub fn print_run<R: Print + Threads + Sync>(
+    rt: &R,
+    alloc: Global,
+    deck: &mut Deck,
+    words: &str,
+) -> io::Result<()> {
+    let status = deck.run(rt, alloc, words)?;
+    println!(rt; "status {status}")?;
+    let text = str::from_utf8(deck.put()).unwrap_or("not a text");
+    print!(rt; "{text}")
+}
+
+/// The first line that a run puts, and the last one.
+pub fn print_ends<R: Print + Threads + Sync>(
+    rt: &R,
+    alloc: Global,
+    deck: &mut Deck,
+    words: &str,
+) -> io::Result<()> {
+    let status = deck.run(rt, alloc, words)?;
+    println!(rt; "status {status}")?;
+    let text = str::from_utf8(deck.put()).unwrap_or("not a text");
+    if let Some(line) = text.lines().next() {
+        println!(rt; "{line}")?;
+    }
+    if let Some(line) = text.lines().last() {
+        println!(rt; "{line}")?;
+    }
+    Ok(())
+}
