@@ -1,7 +1,7 @@
 // Which term of a listed budget does not reach as far as the computed one.
 ghost use Rattle.std.specs.Prelude.{◌<◌};
 
-use crate::problems::{EMPTY, exactly};
+use crate::budgets::{EMPTY, exactly};
 use budget_bounds::{Budget, TermPair, covers, first_uncovered};
 use std::test::Fail;
 use step_problem::{Dir, Term};

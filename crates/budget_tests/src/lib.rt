@@ -1,11 +1,7 @@
-//! Tests of budgets, over the public surface of budget_bounds.
+//! Tests of budgets that cover others, over the public surface of budget_bounds.
 #![tactic(auto)]
 
 #[cfg(test)]
+mod budgets;
+#[cfg(test)]
 mod covering;
-#[cfg(test)]
-mod flows;
-#[cfg(test)]
-mod limits;
-#[cfg(test)]
-mod problems;
