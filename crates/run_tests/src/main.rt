@@ -7,12 +7,12 @@
 //! NAME` makes a file of what the last run put. A line `@ ..` says what is shown, and is printed.
 #![tactic(auto)]
 
+mod bench;
 mod command;
-mod deck;
 mod runs;
 
+use bench::Bench;
 use command::Command;
-use deck::Deck;
 use runs::{print_ends, print_run};
 use std::alloc::Global;
 use std::io;
@@ -21,32 +21,32 @@ use std::thread::Threads;
 fn step<R: Print + Threads + Sync>(
     rt: &R,
     alloc: Global,
-    deck: &mut Deck,
+    bench: &mut Bench,
     line: &str,
 ) -> io::Result<()> {
     match Command::of(line) {
-        None => Ok(deck.push_line(line)?),
+        None => Ok(bench.deck.push_line(line)?),
         Some(Command::Title) => println!(rt; "{line}"),
         Some(Command::Deck) => {
-            *deck = Deck::new(alloc);
+            *bench = Bench::new(alloc);
             Ok(())
         }
-        Some(Command::File(name)) => Ok(deck.begin_file(alloc, name)?),
-        Some(Command::Repeat(count, line)) => Ok(deck.push_lines(count, line)?),
-        Some(Command::ReadFault(call)) => Ok(deck.folder.fail_at(call)?),
-        Some(Command::PutFault(call, kept)) => Ok(deck.out.fail_at(call, kept)?),
-        Some(Command::Run(words)) => print_run(rt, alloc, deck, words),
-        Some(Command::Ends(words)) => print_ends(rt, alloc, deck, words),
-        Some(Command::Keep(name)) => Ok(deck.keep(name)?),
+        Some(Command::File(name)) => Ok(bench.deck.begin_file(alloc, name)?),
+        Some(Command::Repeat(count, line)) => Ok(bench.deck.push_lines(count, line)?),
+        Some(Command::ReadFault(call)) => Ok(bench.deck.folder.fail_at(call)?),
+        Some(Command::PutFault(call, kept)) => Ok(bench.out.fail_at(call, kept)?),
+        Some(Command::Run(words)) => print_run(rt, alloc, bench, words),
+        Some(Command::Ends(words)) => print_ends(rt, alloc, bench, words),
+        Some(Command::Keep(name)) => Ok(bench.keep(name)?),
     }
 }
 
 fn main(rt: HostRuntime) -> io::Result<()> {
     let alloc = rt.alloc();
-    let mut deck = Deck::new(alloc);
+    let mut bench = Bench::new(alloc);
     for line in rt.lines(alloc) {
         let line = line?;
-        step(&rt, alloc, &mut deck, line.as_str())?;
+        step(&rt, alloc, &mut bench, line.as_str())?;
     }
     Ok(())
 }

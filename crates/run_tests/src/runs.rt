@@ -1,5 +1,5 @@
 // What a run puts.
-use crate::deck::Deck;
+use crate::bench::Bench;
 use std::alloc::Global;
 use std::io;
 use std::thread::Threads;
@@ -7,12 +7,12 @@ use std::thread::Threads;
 pub fn print_run<R: Print + Threads + Sync>(
     rt: &R,
     alloc: Global,
-    deck: &mut Deck,
+    bench: &mut Bench,
     words: &str,
 ) -> io::Result<()> {
-    let status = deck.run(rt, alloc, words)?;
+    let status = bench.run(rt, alloc, words)?;
     println!(rt; "status {status}")?;
-    let text = str::from_utf8(deck.put()).unwrap_or("not a text");
+    let text = str::from_utf8(bench.put()).unwrap_or("not a text");
     print!(rt; "{text}")
 }
 
@@ -20,12 +20,12 @@ pub fn print_run<R: Print + Threads + Sync>(
 pub fn print_ends<R: Print + Threads + Sync>(
     rt: &R,
     alloc: Global,
-    deck: &mut Deck,
+    bench: &mut Bench,
     words: &str,
 ) -> io::Result<()> {
-    let status = deck.run(rt, alloc, words)?;
+    let status = bench.run(rt, alloc, words)?;
     println!(rt; "status {status}")?;
-    let text = str::from_utf8(deck.put()).unwrap_or("not a text");
+    let text = str::from_utf8(bench.put()).unwrap_or("not a text");
     if let Some(line) = text.lines().next() {
         println!(rt; "{line}")?;
     }
