@@ -3,7 +3,7 @@ ghost use Rattle.std.specs.Prelude.{◌≡◌, IfOk, All};
 ghost use Rattle.record_lines.specs.Reading.{HasText};
 ghost use Rattle.model_types.specs.Cells.{cell_count};
 ghost use Rattle.model_types.specs.Grids.{HasSize};
-ghost use Rattle.model_types.specs.Valid.{IsGivenList};
+ghost use Rattle.model_types.specs.Valid.{IsGivenList, IsModel};
 ghost use Rattle.list_package.specs.Forms.{SameBut};
 ghost use Rattle.list_package.specs.Lists.{package_of};
 ghost use Rattle.chd_package.specs.GivenHeads.{given_heads};
@@ -33,6 +33,7 @@ pub fn read_chd(
     ensures model { HasText (λ m. m) result (package_of given_heads file.now bytes.now model) }
     ensures lists { IfOk result (λ m. All (λ p. IsGivenList (cell_count model.grid) p.given) m.periods) }
     ensures others { IfOk result (SameBut given_heads model) }
+    ensures valid { IsModel model → IfOk result IsModel }
 {
     read_package::<Heads>(alloc, file, bytes, model)
 }

@@ -6,7 +6,7 @@ ghost use Rattle.std.specs.Prelude.{◌≡◌, IfOk, All};
 ghost use Rattle.record_lines.specs.Reading.{HasText};
 ghost use Rattle.model_types.specs.Cells.{cell_count};
 ghost use Rattle.model_types.specs.Grids.{HasSize};
-ghost use Rattle.model_types.specs.Valid.{IsEntryList};
+ghost use Rattle.model_types.specs.Valid.{IsEntryList, IsModel};
 ghost use Rattle.list_package.specs.Forms.{SameBut};
 ghost use Rattle.list_package.specs.Lists.{package_of};
 ghost use Rattle.stress_packages.specs.Packages.{wells, rivers, drains, generals};
@@ -37,6 +37,7 @@ pub fn read_wel(
     ensures model { HasText (λ m. m) result (package_of wells file.now bytes.now model) }
     ensures lists { IfOk result (λ m. All (λ p. IsEntryList (cell_count model.grid) p.wells) m.periods) }
     ensures others { IfOk result (SameBut wells model) }
+    ensures valid { IsModel model → IfOk result IsModel }
 {
     read_package::<Rate>(alloc, file, bytes, model)
 }
@@ -58,6 +59,7 @@ pub fn read_riv(
     ensures model { HasText (λ m. m) result (package_of rivers file.now bytes.now model) }
     ensures lists { IfOk result (λ m. All (λ p. IsEntryList (cell_count model.grid) p.rivers) m.periods) }
     ensures others { IfOk result (SameBut rivers model) }
+    ensures valid { IsModel model → IfOk result IsModel }
 {
     read_package::<Reach>(alloc, file, bytes, model)
 }
@@ -79,6 +81,7 @@ pub fn read_drn(
     ensures model { HasText (λ m. m) result (package_of drains file.now bytes.now model) }
     ensures lists { IfOk result (λ m. All (λ p. IsEntryList (cell_count model.grid) p.drains) m.periods) }
     ensures others { IfOk result (SameBut drains model) }
+    ensures valid { IsModel model → IfOk result IsModel }
 {
     read_package::<DrainNumbers>(alloc, file, bytes, model)
 }
@@ -100,6 +103,7 @@ pub fn read_ghb(
     ensures model { HasText (λ m. m) result (package_of generals file.now bytes.now model) }
     ensures lists { IfOk result (λ m. All (λ p. IsEntryList (cell_count model.grid) p.generals) m.periods) }
     ensures others { IfOk result (SameBut generals model) }
+    ensures valid { IsModel model → IfOk result IsModel }
 {
     read_package::<GeneralNumbers>(alloc, file, bytes, model)
 }
