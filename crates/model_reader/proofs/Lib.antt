@@ -1,4 +1,3 @@
-pub mod ReadLines
 pub mod BasicLemmas
 pub mod PeriodLemmas
 pub mod FlowLemmas

@@ -13,6 +13,7 @@ use Rattle.lpf_package.specs.Flow.{lpf_of}
 use Rattle.cell_checks.specs.Checks.{checked}
 use Rattle.cell_checks.specs.declared.passing.Check.TheVariants.{Thickness, StartHead, Properties}
 use Rattle.model_reader.specs.Names.{names_in, needed}
+use Rattle.model_reader.specs.Stresses.{with_stresses}
 
 unfoldable pub dis_in : List File → List ℕ → Result FlowModel Refusal
 dis_in files dis = do
@@ -35,12 +36,13 @@ lpf_in files lpf basic = do
   good ← checked flow lpf Properties
   Ok flow
 
--- DIS, BAS6, LPF
+-- DIS, BAS6, LPF, and then the stresses
 unfoldable pub model_of : List File → Pairs → Result FlowModel Refusal
 model_of files names = do
   begun ← dis_in files (needed Dis names)
   basic ← bas_in files (needed Dis names) (needed Bas names) begun
-  lpf_in files (needed Lpf names) basic
+  flow ← lpf_in files (needed Lpf names) basic
+  with_stresses files names flow
 
 -- the model that a name file describes, or the first refusal
 unfoldable pub reads : List File → List ℕ → Result FlowModel Refusal

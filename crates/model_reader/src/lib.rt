@@ -1,7 +1,9 @@
 //! A model from its files, in reading order.
 #![tactic(auto)]
 
+mod arrays;
 mod basics;
+mod lists;
 mod model;
 mod names;
 

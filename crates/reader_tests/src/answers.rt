@@ -1,5 +1,6 @@
 // What a reader answered: the model's lists, one in a line, or why it is refused.
 use crate::lists::{print_grid, print_integers, print_numbers, print_period};
+use crate::stresses::print_stresses;
 use model_types::FlowModel;
 use outside::{InputFault, Refusal};
 use std::io;
@@ -28,16 +29,26 @@ fn print_properties(rt: &impl Print, model: &FlowModel) -> io::Result<()> {
     println!(rt; "COEFFICIENT {coefficient}")
 }
 
+fn print_option(rt: &impl Print, name: &str, option: i64) -> io::Result<()> {
+    if option == 0 {
+        return Ok(());
+    }
+    println!(rt; "{name} {option}")
+}
+
 fn print_model(rt: &impl Print, model: &FlowModel) -> io::Result<()> {
     print_grid(rt, &model.grid)?;
     for period in model.periods.as_slice() {
         print_period(rt, period)?;
+        print_stresses(rt, period)?;
     }
     let lenuni = model.lenuni;
     println!(rt; "LENUNI {lenuni}")?;
     print_integers(rt, "IBOUND", model.ibound.as_slice())?;
     print_numbers(rt, "STRT", model.strt.as_slice())?;
-    print_properties(rt, model)
+    print_properties(rt, model)?;
+    print_option(rt, "NRCHOP", model.nrchop)?;
+    print_option(rt, "NEVTOP", model.nevtop)
 }
 
 pub fn print_answer(rt: &impl Print, answer: &Result<FlowModel, InputFault>) -> io::Result<()> {

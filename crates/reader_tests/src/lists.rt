@@ -3,7 +3,7 @@ use decimal_input::dec::Dec;
 use model_types::{Grid, Period};
 use std::io;
 
-fn print_number(rt: &impl Print, value: Dec) -> io::Result<()> {
+pub fn print_number(rt: &impl Print, value: Dec) -> io::Result<()> {
     let sign = if value.neg { "-" } else { "" };
     let digits = value.digits;
     let exponent = value.exp;

@@ -10,6 +10,7 @@ mod answers;
 mod command;
 mod deck;
 mod lists;
+mod stresses;
 
 use answers::print_answer;
 use command::Command;

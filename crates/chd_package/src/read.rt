@@ -1,0 +1,39 @@
+// The reader of files of given heads.
+ghost use Rattle.std.specs.Prelude.{◌≡◌, IfOk, All};
+ghost use Rattle.record_lines.specs.Reading.{HasText};
+ghost use Rattle.model_types.specs.Cells.{cell_count};
+ghost use Rattle.model_types.specs.Grids.{HasSize};
+ghost use Rattle.model_types.specs.Valid.{IsGivenList, IsModel};
+ghost use Rattle.list_package.specs.Forms.{SameBut};
+ghost use Rattle.list_package.specs.Lists.{package_of};
+ghost use Rattle.chd_package.specs.GivenHeads.{given_heads};
+
+use crate::heads::Heads;
+use list_package::read_package;
+use model_types::FlowModel;
+use outside::TextFault;
+use std::alloc::Global;
+
+/// The model with its lists of given heads, from a file of the package CHD. `file` is the file's name, for refusals. A
+/// period that reuses a list begins again at its heads at the start.
+///
+/// # Errors
+/// The first item that is wrong is refused on its line: TooManyEntries past 65536 entries in a list, NothingToReuse
+/// where the first list is to be reused, OutOfProfile for parameters, another file's entries, or a head that changes in
+/// a steady period of growing steps; of an entry CellOutside, HeadTooLarge, or BadProperty where the list has named the
+/// cell before. (TM 6-A16, CHD)
+#[tactic(auto, using(crate::proofs::GivenLemmas::given_lists))]
+pub fn read_chd(
+    alloc: Global,
+    file: &str,
+    bytes: &[u8],
+    model: FlowModel,
+) -> Result<FlowModel, TextFault>
+    requires size { HasSize model.grid }
+    ensures model { HasText (λ m. m) result (package_of given_heads file.now bytes.now model) }
+    ensures lists { IfOk result (λ m. All (λ p. IsGivenList (cell_count model.grid) p.given) m.periods) }
+    ensures others { IfOk result (SameBut given_heads model) }
+    ensures valid { IsModel model → IfOk result IsModel }
+{
+    read_package::<Heads>(alloc, file, bytes, model)
+}

@@ -1,0 +1,100 @@
+-- The cell that an option chooses is the one of its column.
+use Rattle.std.proofs.Common.{◌≡◌, ◌⊎◌, inl, inr, ℕ, zero, suc, ◌+◌, ◌-◌, ◌*◌, ◌/◌, ◌%◌, ◌<◌, ◌≤◌, Bool, true, false, not, ◌&&◌, ◌||◌, ◌==◌, nat_le, nat_lt, List, ℤ, pos, negsuc, Option, Some, None, get_or, length, refl, sym, ap, ◌∙◌, arith}
+use Rattle.std.specs.List.{list_any, range_with_len}
+use Rattle.std.specs.Prelude.{if◌then◌else◌}
+use Rattle.std.proofs.lemmas.Bool.{and_parts, not-true, eqb-true, lt-leb, le-leb, lt-ltb}
+use Rattle.std.proofs.lemmas.Bool.Decides.{leb_tells}
+use Rattle.std.proofs.lemmas.List.Folds.{list_any_at}
+use Rattle.std.proofs.lemmas.List.FromFn.{get_or-range_with_len, length-range_with_len}
+use Rattle.std.proofs.lemmas.Nat.{div-add-mod', mod_below}
+use Rattle.model_types.specs.declared.grid.Grid.{Grid}
+use Rattle.model_types.specs.declared.model.FlowModel.{FlowModel}
+use Rattle.model_types.specs.Cells.{cell_count, layer_of, layer_size, place_in_layer}
+use Rattle.model_types.specs.Grids.{HasSize}
+use Rattle.model_types.specs.Layers.{int_at, is_active, is_nonzero}
+use Rattle.model_types.specs.Receivers.{is_chosen, is_highest, is_int}
+use Rattle.model_types.proofs.Numbering.{layer_below, size_some}
+use Rattle.number_limits.specs.Signs.{within}
+use Rattle.evt_package.specs.Columns.{chosen, highest, in_layer}
+
+-- the first active layer t is found
+found_at : (g : Grid) (ibound : List ℤ) (i n k t : ℕ) → k ≤ t → t < k + n → is_nonzero (int_at ibound (t * layer_size g + i)) ≡ true
+    → ((j : ℕ) → j < t → is_nonzero (int_at ibound (j * layer_size g + i)) ≡ false) → highest g ibound i k n ≡ Some (t * layer_size g + i)
+unfolding highest
+found_at g ibound i zero k t low high active above = absurd (omega (arith, low, high))
+found_at g ibound i (suc n) k t low high active above = by_case (leb_tells (k + 1) t)
+  where
+    by_case : ((nat_le (k + 1) t ≡ true) × (k + 1 ≤ t)) ⊎ ((nat_le (k + 1) t ≡ false) × (t < k + 1)) → (if is_nonzero (int_at ibound (k * layer_size g + i)) then Some (k * layer_size g + i) else highest g ibound i (k + 1) n) ≡ Some (t * layer_size g + i)
+    by_case (inl a) =
+        let no : is_nonzero (int_at ibound (k * layer_size g + i)) ≡ false = above k (omega (arith, a.1)) in
+        rw no (found_at g ibound i n (k + 1) t a.1 (omega (arith, high)) active above)
+    by_case (inr a) =
+        let same : k ≡ t = omega (arith, a.1, low) in
+        rw (same, active) refl
+
+int_is : (z : ℤ) (k : ℕ) → is_int z k ≡ true → z ≡ pos k
+int_is (pos n) k e = ap pos (eqb-true n k e)
+int_is (negsuc n) k e = absurd (let clash : false ≡ true = e in cc)
+
+-- nothing above the highest cell is active
+above_highest : (m : FlowModel) (c : ℕ) → is_highest m c ≡ true → (j : ℕ) → j < layer_of m.grid c → is_active m (j * layer_size m.grid + place_in_layer m.grid c) ≡ false
+above_highest m c h j lt = by_case (is_active m (j * layer_size m.grid + place_in_layer m.grid c)) refl
+  where
+    by_case : (b : Bool) → is_active m (j * layer_size m.grid + place_in_layer m.grid c) ≡ b → is_active m (j * layer_size m.grid + place_in_layer m.grid c) ≡ false
+    by_case false e = e
+    by_case true e =
+        let at : get_or (range_with_len 0 (layer_of m.grid c)) j 0 ≡ j = get_or-range_with_len 0 (layer_of m.grid c) j 0 lt in
+        let within : j < length (range_with_len 0 (layer_of m.grid c)) = rw (length-range_with_len 0 (layer_of m.grid c)) lt in
+        let some : list_any (λ k. is_active m (k * layer_size m.grid + place_in_layer m.grid c)) (range_with_len 0 (layer_of m.grid c)) ≡ true = list_any_at (λ k. is_active m (k * layer_size m.grid + place_in_layer m.grid c)) (range_with_len 0 (layer_of m.grid c)) j 0 within (rw at e) in
+        let none : list_any (λ k. is_active m (k * layer_size m.grid + place_in_layer m.grid c)) (range_with_len 0 (layer_of m.grid c)) ≡ false = not-true _ h in
+        absurd (let clash : true ≡ false = sym some ∙ none in cc)
+
+its_place : (g : Grid) (c : ℕ) → layer_of g c * layer_size g + place_in_layer g c ≡ c
+its_place g c = div-add-mod' c (layer_size g)
+
+first_layer : (g : Grid) (c : ℕ) → layer_of g c ≡ 0 → Some (place_in_layer g c) ≡ Some c
+first_layer g c e =
+    let here : 0 * layer_size g + place_in_layer g c ≡ c = ap (λ k. k * layer_size g + place_in_layer g c) (sym e) ∙ its_place g c in
+    ap Some here
+
+named : (g : Grid) (i k : ℕ) (z : ℤ) → z ≡ pos (suc k) → k < g.layers → in_layer g i (within z g.layers) ≡ Some (k * layer_size g + i)
+named g i k z e lt = rw (e, lt-leb k g.layers lt) refl
+
+pub chosen_is : (m : FlowModel) (option : ℤ) (layers : List ℤ) (c : ℕ) → HasSize m.grid → c < cell_count m.grid → is_active m c ≡ true → is_chosen m option layers c ≡ true → chosen m.grid m.ibound option layers (place_in_layer m.grid c) ≡ Some c
+chosen_is m option layers c size lt active h = by_option (is_int option 1) (is_int option 2) (is_int option 3) refl refl refl h
+  where
+    below : layer_of m.grid c < m.grid.layers
+    below = layer_below m.grid size c lt
+
+    parts : (x y z : Bool) → (x || y || z) ≡ true → (x ≡ true) ⊎ ((y ≡ true) ⊎ (z ≡ true))
+    parts true y z e = inl refl
+    parts false true z e = inr (inl refl)
+    parts false false z e = inr (inr e)
+
+    by_option : (a b d : Bool) → is_int option 1 ≡ a → is_int option 2 ≡ b → is_int option 3 ≡ d
+        → ((a && (layer_of m.grid c == 0)) || (b && is_int (int_at layers (place_in_layer m.grid c)) (suc (layer_of m.grid c))) || (d && is_active m c && is_highest m c)) ≡ true
+        → (if a then Some (place_in_layer m.grid c) else (if b then in_layer m.grid (place_in_layer m.grid c) (within (int_at layers (place_in_layer m.grid c)) m.grid.layers) else highest m.grid m.ibound (place_in_layer m.grid c) 0 m.grid.layers)) ≡ Some c
+    by_option true b d e f g so = first_layer m.grid c (eqb-true (layer_of m.grid c) 0 (in_first (parts (layer_of m.grid c == 0) (b && is_int (int_at layers (place_in_layer m.grid c)) (suc (layer_of m.grid c))) (d && is_active m c && is_highest m c) so)))
+      where
+        one_option : (z : ℤ) (k n : ℕ) → is_int z k ≡ true → is_int z n ≡ true → k ≡ n
+        one_option z k n p q = let r : pos k ≡ pos n = sym (int_is z k p) ∙ int_is z n q in cc
+        in_first : ((layer_of m.grid c == 0) ≡ true) ⊎ (((b && is_int (int_at layers (place_in_layer m.grid c)) (suc (layer_of m.grid c))) ≡ true) ⊎ ((d && is_active m c && is_highest m c) ≡ true)) → (layer_of m.grid c == 0) ≡ true
+        in_first (inl p) = p
+        in_first (inr (inl p)) =
+            let two : b ≡ true = (and_parts b _ p).0 in
+            absurd (omega (arith, one_option option 1 2 e (f ∙ two)))
+        in_first (inr (inr p)) =
+            let three : d ≡ true = (and_parts d _ p).0 in
+            absurd (omega (arith, one_option option 1 3 e (g ∙ three)))
+    by_option false true d e f g so = layer (parts false (is_int (int_at layers (place_in_layer m.grid c)) (suc (layer_of m.grid c))) (d && is_active m c && is_highest m c) so)
+      where
+        layer : (false ≡ true) ⊎ ((is_int (int_at layers (place_in_layer m.grid c)) (suc (layer_of m.grid c)) ≡ true) ⊎ ((d && is_active m c && is_highest m c) ≡ true)) → in_layer m.grid (place_in_layer m.grid c) (within (int_at layers (place_in_layer m.grid c)) m.grid.layers) ≡ Some c
+        layer (inl p) = absurd (let clash : false ≡ true = p in cc)
+        layer (inr (inl p)) = named m.grid (place_in_layer m.grid c) (layer_of m.grid c) _ (int_is (int_at layers (place_in_layer m.grid c)) (suc (layer_of m.grid c)) p) below ∙ ap Some (its_place m.grid c)
+        layer (inr (inr p)) =
+            let three : d ≡ true = (and_parts d _ p).0 in
+            absurd (let r : pos 2 ≡ pos 3 = sym (int_is option 2 f) ∙ int_is option 3 (g ∙ three) in cc)
+    by_option false false true e f g so =
+        let p = and_parts (is_active m c) (is_highest m c) so in
+        found_at m.grid m.ibound (place_in_layer m.grid c) m.grid.layers 0 (layer_of m.grid c) (omega arith) below (rw (its_place m.grid c) active) (above_highest m c p.1) ∙ ap Some (its_place m.grid c)
+    by_option false false false e f g so = absurd (let clash : false ≡ true = so in cc)

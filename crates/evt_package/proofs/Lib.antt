@@ -1,0 +1,5 @@
+pub mod ColumnLemmas
+pub mod PeriodForms
+pub mod ChosenLemmas
+pub mod EvapLemmas
+pub mod ModelLemmas

@@ -1,0 +1,18 @@
+use Rattle.std.proofs.Common.{sym}
+use Rattle.std.proofs.lemmas.Result.{err_from_is_err_and}
+use Rattle.record_lines.proofs.Counted.{step_goes_on, steps_end, steps_done}
+use Rattle.evt_package.specs.Columns.{columns_tested}
+use Rattle.evt_package.proofs.columns.columns_tested.Goals as goal
+
+pub returns-in_err-column_tested : goal.returns-in_err-column_tested
+unfolding columns_tested
+returns-in_err-column_tested c =
+    let p = err_from_is_err_and c.from_residual.result c.from_residual.ensures.1 in
+    rw (p.1, p.2, sym c.layer_size-columns.ensures.size) (steps_end _ c.in_err-column_tested.field-0.0 c.layer_size-columns.result c.loop-column.column _ _ c.loop-column-test.true c.in_err-column_tested.ensures c.loop-column.invariant)
+
+pub loop-column-preserved : goal.loop-column-preserved
+loop-column-preserved c = step_goes_on _ c.layer_size-columns.result c.loop-column.column _ _ _ c.loop-column-test.true c.in_ok-column_tested.ensures c.loop-column.invariant
+
+pub returns : goal.returns
+unfolding columns_tested
+returns c = rw (sym c.layer_size-columns.ensures.size) (steps_done _ c.layer_size-columns.result c.loop-column.column _ _ c.loop-column-test.false c.loop-column.invariant)

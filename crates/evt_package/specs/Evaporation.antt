@@ -1,0 +1,73 @@
+-- A file of the evapotranspiration package, item by item (TM 6-A16, EVT).
+use Rattle.std.specs.Prelude.{ℕ, ℤ, Bool, false, List, None, is_some, Result, Ok, if◌then◌else◌}
+use Rattle.outside.specs.Files.{File}
+use Rattle.outside.specs.declared.refusals.Refusal.{Refusal}
+use Rattle.record_lines.specs.Items.{line_at}
+use Rattle.record_lines.specs.Layout.{Left, words, left_from, without_comments}
+use Rattle.record_lines.specs.Reading.{◌>>=◌, for_each}
+use Rattle.array_reader.specs.Items.{number_at}
+use Rattle.array_reader.specs.Numbers.{integer}
+use Rattle.model_types.specs.declared.grid.Grid.{Grid}
+use Rattle.model_types.specs.declared.model.FlowModel.{FlowModel}
+use Rattle.model_types.specs.declared.period.Period.{Period}
+use Rattle.model_types.specs.Receivers.{is_int}
+use Rattle.list_package.specs.Headers.{item_line}
+use Rattle.period_arrays.specs.Flags.{flag_at, option_at}
+use Rattle.period_arrays.specs.Updates.{updated_reals, updated_layers, or_empty}
+use Rattle.evt_package.specs.Columns.{columns_tested}
+use Rattle.evt_package.specs.declared.flags.Flags.{Flags}
+use Rattle.evt_package.specs.declared.periods.Last.{Last}
+
+-- INIEVT stands under option 2 alone
+abbrev pub layer_flag : Bool → List ℕ → ℕ → Bool → List (List ℕ) → Result (Bool × List (List ℕ)) Refusal
+layer_flag layered file line listed words = if layered then flag_at file line listed words else Ok (false, words)
+
+-- INSURF, INEVTR, INEXDP and INIEVT, behind these last arrays
+unfoldable pub flags_of : Bool → List ℕ → ℕ → Last → List (List ℕ) → Result Flags Refusal
+flags_of layered file line last words = do
+  surface ← flag_at file line (is_some last.surfaces) words
+  rate ← flag_at file line (is_some last.rates) surface.1
+  depth ← flag_at file line (is_some last.depths) rate.1
+  layer ← layer_flag layered file line (is_some last.layers) depth.1
+  Ok (record { surface = surface.0; rate = rate.0; depth = depth.0; layer = layer.0 })
+
+-- SURF, EVTR, EXDP, and under option 2 IEVT
+unfoldable pub arrays_of : List File → List ℕ → Grid → Flags → (Last × Left) → Result (Last × Left) Refusal
+arrays_of files file grid flags s = do
+  surfaces ← updated_reals files file grid flags.surface s.0.surfaces s.1
+  rates ← updated_reals files file grid flags.rate s.0.rates surfaces.1
+  depths ← updated_reals files file grid flags.depth s.0.depths rates.1
+  layers ← updated_layers files file grid flags.layer s.0.layers depths.1
+  Ok (record { surfaces = surfaces.0; rates = rates.0; depths = depths.0; layers = layers.0 }, layers.1)
+
+abbrev pub with_last : Period → Last → Period
+with_last p last = record p { surf = or_empty last.surfaces; evtr = or_empty last.rates; exdp = or_empty last.depths; ievt = or_empty last.layers }
+
+-- a period with its arrays, whose columns are then tested
+unfoldable pub period_at : List File → List ℕ → Grid → List ℤ → ℤ → Period → (Last × Left) → Result (Period × (Last × Left)) Refusal
+period_at files file grid ibound option period s = do
+  line ← line_at file s.1
+  flags ← flags_of (is_int option 2) file line.0.number s.0 (words line.0.bytes)
+  arrays ← arrays_of files file grid flags (s.0, line.1)
+  tested ← columns_tested file grid ibound option (with_last period arrays.0)
+  Ok (with_last period arrays.0, arrays)
+
+abbrev pub without_state : {X S : Type 0} → Result (X × S) Refusal → Result X Refusal
+without_state read = read >>= λ x. Ok x.0
+
+unfoldable pub periods_of : List File → List ℕ → Grid → List ℤ → ℤ → List Period → Left → Result (List Period) Refusal
+periods_of files file grid ibound option periods left = without_state (for_each (period_at files file grid ibound option) periods (record { surfaces = None; rates = None; depths = None; layers = None }, left))
+
+-- NEVTOP and IEVTCB
+unfoldable pub option_line : List ℕ → Left → Result (ℤ × Left) Refusal
+option_line file left = do
+  line ← item_line file left
+  option ← option_at file line.0.number (words line.0.bytes)
+  unit ← number_at integer file line.0.number option.1
+  Ok (option.0, line.1)
+
+unfoldable pub evt_of : List File → List ℕ → List ℕ → FlowModel → Result FlowModel Refusal
+evt_of files file bytes m = do
+  option ← option_line file (without_comments (left_from 1 bytes))
+  periods ← periods_of files file m.grid m.ibound option.0 m.periods option.1
+  Ok (record m { nevtop = option.0; periods = periods })

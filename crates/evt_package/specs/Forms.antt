@@ -1,0 +1,55 @@
+-- What is known of evapotranspiration that was read, whatever the folder tells.
+use Rattle.std.specs.Prelude.{◌≡◌, ℕ, ℤ, ◌≤ℤ◌, pos, true, false, List, [], Ok, All, map, length, is_some, IfSome, IsSomeAnd}
+use Rattle.model_types.specs.declared.grid.Grid.{Grid}
+use Rattle.model_types.specs.declared.model.FlowModel.{FlowModel}
+use Rattle.model_types.specs.declared.period.Period.{Period}
+use Rattle.model_types.specs.Cells.{layer_size}
+use Rattle.model_types.specs.Receivers.{is_int}
+use Rattle.model_types.specs.Valid.{IsLayerArray}
+use Rattle.period_arrays.specs.Forms.{IsReals, IsWhole}
+use Rattle.evt_package.specs.Columns.{columns_tested}
+use Rattle.evt_package.specs.declared.flags.Flags.{Flags}
+use Rattle.evt_package.specs.declared.periods.Last.{Last}
+
+-- arrays of one layer
+pub record AreLast (grid : Grid) (last : Last) : Type 0 where
+  pub surfaces : IfSome last.surfaces (IsReals grid)
+  pub rates : IfSome last.rates (IsReals grid)
+  pub depths : IfSome last.depths (IsReals grid)
+  pub layers : IfSome last.layers (IsWhole grid)
+
+-- after a period was read by these flags: each array stands that came anew, or stood before
+pub record HasLast (grid : Grid) (flags : Flags) (before after : Last) : Type 0 where
+  pub surfaces : (flags.surface ≡ false → is_some before.surfaces ≡ true) → IsSomeAnd after.surfaces (IsReals grid)
+  pub rates : (flags.rate ≡ false → is_some before.rates ≡ true) → IsSomeAnd after.rates (IsReals grid)
+  pub depths : (flags.depth ≡ false → is_some before.depths ≡ true) → IsSomeAnd after.depths (IsReals grid)
+  pub layers : (flags.layer ≡ false → is_some before.layers ≡ true) → IsSomeAnd after.layers (IsWhole grid)
+
+-- a period's arrays, where layers stand under option 2 alone, and whose columns passed their tests
+pub record AreArrays (file : List ℕ) (grid : Grid) (ibound : List ℤ) (option : ℤ) (p : Period) : Type 0 where
+  pub surfaces : IsReals grid p.surf
+  pub rates : IsReals grid p.evtr
+  pub depths : IsReals grid p.exdp
+  pub layers : is_int option 2 ≡ true → IsWhole grid p.ievt
+  pub passed : columns_tested file grid ibound option p ≡ Ok tt
+
+abbrev pub without : Period → Period
+without p = record p { surf = []; evtr = []; exdp = []; ievt = [] }
+
+-- a period of a model that has evapotranspiration
+pub record HasEvaporation (file : List ℕ) (m : FlowModel) (p : Period) : Type 0 where
+  pub surf : IsLayerArray m p.surf
+  pub evtr : IsLayerArray m p.evtr
+  pub exdp : IsLayerArray m p.exdp
+  pub ievt : is_int m.nevtop 2 ≡ true → length p.ievt ≡ layer_size m.grid
+  pub passed : columns_tested file m.grid m.ibound m.nevtop p ≡ Ok tt
+
+-- a model with evapotranspiration, by an option from 1 to 3
+pub record IsEvaporating (file : List ℕ) (m : FlowModel) : Type 0 where
+  pub option : (pos 1 ≤ℤ m.nevtop) × (m.nevtop ≤ℤ pos 3)
+  pub periods : All (HasEvaporation file m) m.periods
+
+-- another model differs in its evapotranspiration alone
+pub record SameBut (m n : FlowModel) : Type 0 where
+  pub model : n ≡ record m { nevtop = n.nevtop; periods = n.periods }
+  pub periods : map without n.periods ≡ map without m.periods

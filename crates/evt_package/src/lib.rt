@@ -1,0 +1,15 @@
+//! The evapotranspiration package: for each column of layers in each stress period a surface, a greatest rate and an
+//! extinction depth, and which cell evaporates.
+#![tactic(auto)]
+
+mod chosen;
+mod columns;
+mod fault;
+mod flags;
+mod periods;
+mod read;
+mod units;
+
+pub use flags::Flags;
+pub use periods::Last;
+pub use read::read_evt;

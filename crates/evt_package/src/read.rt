@@ -1,0 +1,97 @@
+// A model with its evapotranspiration.
+ghost use Rattle.std.specs.Prelude.{◌≡◌, ◌≤ℤ◌, pos, IfOk, IsTrue, is_some};
+ghost use Rattle.outside.specs.Counts.{InputCounts};
+ghost use Rattle.record_lines.specs.Reading.{GivesText, Has};
+ghost use Rattle.array_reader.specs.Arrays.{told};
+ghost use Rattle.model_types.specs.Grids.{HasSize};
+ghost use Rattle.model_types.specs.Valid.{IsModel};
+ghost use Rattle.evt_package.specs.Evaporation.{evt_of, option_line};
+ghost use Rattle.evt_package.specs.Forms.{IsEvaporating, SameBut};
+
+use crate::periods::periods_of;
+use array_reader::integer;
+use list_package::item_line;
+use model_types::{FlowModel, Listed};
+use outside::{Folder, InputFault, TextFault};
+use period_arrays::option_at;
+use record_lines::{Lines, Words};
+use std::alloc::Global;
+
+/// NEVTOP and IEVTCB.
+#[tactic(auto, unfolding(crate::specs::Evaporation::option_line))]
+fn option_line(alloc: Global, lines: &mut Lines, file: &str) -> Result<i64, TextFault>
+    ensures option { GivesText (λ z. z) result lines.new (option_line file.now lines.old) }
+    ensures range { IfOk result (λ z. (pos 1 ≤ℤ z) × (z ≤ℤ pos 3)) }
+{
+    let line = item_line(alloc, lines, file)?;
+    let mut words = Words::of(&line);
+    let option = option_at(alloc, &mut words, file, line.number)?;
+    integer(alloc, &mut words, file, line.number)?;
+    Ok(option)
+}
+
+/// The model with the arrays of its periods.
+#[tactic(auto, unfolding(crate::specs::Evaporation::evt_of), using(crate::proofs::PeriodForms::is_evaporating))]
+fn with_evaporation<F: Folder>(
+    alloc: Global,
+    file: &str,
+    bytes: &[u8],
+    folder: &mut F,
+    model: FlowModel,
+) -> Result<FlowModel, InputFault>
+    requires size { HasSize model.grid }
+    ensures files { F.files folder.new ≡ F.files folder.old }
+    ensures counts { InputCounts (F.faults folder.old) (F.faults folder.new) result }
+    ensures model { IsTrue (is_some (F.files folder.old)) → Has (λ m. m) result (evt_of (told (F.files folder.old)) file.now bytes.now model) }
+    ensures form { IfOk result (IsEvaporating file.now) }
+    ensures others { IfOk result (SameBut model) }
+{
+    let mut lines = Lines::new(bytes);
+    lines.skip_comments();
+    let nevtop = option_line(alloc, &mut lines, file)?;
+    let periods = model.periods.into_vec();
+    let periods = periods_of(
+        alloc,
+        &mut lines,
+        file,
+        folder,
+        &model.grid,
+        model.ibound.as_slice(),
+        nevtop,
+        periods,
+    )?;
+    Ok(FlowModel {
+        nevtop,
+        periods: Listed::new(periods),
+        ..model
+    })
+}
+
+/// The model with the evapotranspiration of a file of the package EVT: the option NEVTOP, and in each stress period the
+/// surfaces, greatest rates and extinction depths and, under option 2, the layers. `file` is the file's name, for
+/// refusals, and `folder` has the files that its arrays name. An array that a period reuses is shared, and stands in
+/// memory once.
+///
+/// # Errors
+/// The first item that is wrong is refused on its line: OutOfProfile for parameters and for another option,
+/// NothingToReuse where a first array is to be reused; with line 0 and the cell CellOutside for a layer that the grid
+/// lacks, and, once all arrays of a period stand, BadProperty or HeadTooLarge at an active cell that is chosen. A read
+/// fault comes only from the folder. (TM 6-A16, EVT)
+#[tactic(auto, using(crate::proofs::ModelLemmas::evaporating_model))]
+pub fn read_evt<F: Folder>(
+    alloc: Global,
+    file: &str,
+    bytes: &[u8],
+    folder: &mut F,
+    model: FlowModel,
+) -> Result<FlowModel, InputFault>
+    requires size { HasSize model.grid }
+    ensures files { F.files folder.new ≡ F.files folder.old }
+    ensures counts { InputCounts (F.faults folder.old) (F.faults folder.new) result }
+    ensures model { IsTrue (is_some (F.files folder.old)) → Has (λ m. m) result (evt_of (told (F.files folder.old)) file.now bytes.now model) }
+    ensures form { IfOk result (IsEvaporating file.now) }
+    ensures others { IfOk result (SameBut model) }
+    ensures valid { IsModel model → IfOk result IsModel }
+{
+    with_evaporation(alloc, file, bytes, folder, model)
+}

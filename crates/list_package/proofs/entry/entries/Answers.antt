@@ -1,0 +1,23 @@
+use Rattle.std.proofs.Common.{arith}
+use Rattle.std.proofs.lemmas.Result.{err_from_is_err_and}
+use Rattle.record_lines.proofs.Loops.{goes_on, ends_text, is_done}
+use Rattle.array_reader.proofs.ListLemmas.{all_pushed}
+use Rattle.model_types.specs.Cells.{cell_count}
+use Rattle.list_package.proofs.MarkLemmas.{one_more_marked}
+use Rattle.list_package.proofs.entry.entries.Goals as goal
+
+pub returns-in_err-entry-clause-entries : goal.returns-in_err-entry-clause-entries
+returns-in_err-entry-clause-entries g c =
+    let p = err_from_is_err_and c.from_residual.result c.from_residual.ensures.1 in
+    rw (p.1, p.2) (ends_text _ c.in_err-entry.field-0.0 c.loop.list.items c.args.count c.loop.counter _ _ c.loop-test.true c.in_err-entry.ensures.entry c.loop.invariant.0)
+
+pub loop-preserved : goal.loop-preserved
+loop-preserved g c = (
+  rw c.in_ok-push.ensures.items (goes_on _ c.loop.list.items c.args.count c.loop.counter _ _ c.in_ok-entry.entry _ c.loop-test.true c.in_ok-entry.ensures.entry c.loop.invariant.0),
+  grind arith,
+  all_pushed (g.C.Columns.Valid (cell_count c.args.grid.now)) c.loop.list.items _ c.in_ok-entry.entry c.in_ok-push.ensures.items c.loop.invariant.2 c.in_ok-entry.ensures.valid,
+  (λ once. rw c.in_ok-push.ensures.items (one_more_marked g.C.Columns.kind (cell_count c.args.grid.now) c.loop.marks _ c.loop.list.items c.in_ok-entry.entry (c.loop.invariant.3 once) c.in_ok-entry.ensures.marked)),
+)
+
+pub returns-clause-entries : goal.returns-clause-entries
+returns-clause-entries g c = is_done _ c.loop.list.items c.args.count c.loop.counter _ _ c.loop-test.false c.loop.invariant.0

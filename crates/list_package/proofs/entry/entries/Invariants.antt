@@ -1,0 +1,14 @@
+use Rattle.std.proofs.Common.{◌≡◌, ◌-◌, true, All, length}
+use Rattle.record_lines.specs.Reading.{repeated}
+use Rattle.record_lines.proofs.Loops.{with_front}
+use Rattle.model_types.specs.Cells.{cell_count}
+use Rattle.list_package.specs.Entries.{entry_at}
+use Rattle.list_package.specs.Forms.{AreMarked}
+use Rattle.list_package.proofs.entry.entries.Given as goal
+
+abbrev pub invariant-loop : goal.invariant-loop
+invariant-loop g l =
+    (with_front l.list.items (repeated (l.count - l.counter) (entry_at g.C.Columns.kind l.file l.grid) (l.marks, l.lines)) ≡ repeated l.count (entry_at g.C.Columns.kind l.file l.grid) (l.fn.marks, l.fn.lines))
+    × (length l.list.items ≡ l.counter)
+    × All (g.C.Columns.Valid (cell_count l.grid)) l.list.items
+    × (g.C.Columns.kind.once ≡ true → AreMarked g.C.Columns.kind (cell_count l.grid) l.marks l.list.items)

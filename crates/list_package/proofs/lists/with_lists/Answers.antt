@@ -1,0 +1,31 @@
+use Rattle.std.proofs.Common.{◌∙◌, sym}
+use Rattle.std.specs.Vec.Iter.{into_iter_items}
+use Rattle.std.proofs.lemmas.Result.{err_from_is_err_and}
+use Rattle.record_lines.proofs.Each.{no_items, each_goes_on, each_ends, each_done}
+use Rattle.array_reader.proofs.ListLemmas.{all_pushed}
+use Rattle.model_types.specs.Cells.{cell_count}
+use Rattle.list_package.specs.Forms.{IsList}
+use Rattle.list_package.specs.Kinds.{without}
+use Rattle.list_package.proofs.PeriodLemmas.{one_more_same, all_same}
+use Rattle.list_package.proofs.lists.with_lists.Goals as goal
+
+pub returns-in_err-period-clause-periods : goal.returns-in_err-period-clause-periods
+returns-in_err-period-clause-periods g c =
+    let p = err_from_is_err_and c.from_residual.result c.from_residual.ensures.1 in
+    rw (p.1, p.2) (each_ends _ c.in_err-period.field-0.0 c.loop-period.whole.items (into_iter_items c.loop-period.period-iterator) (into_iter_items c.next.new.self) c.in-Some.period _ _ c.in-Some.ensures.steps.0 c.in_err-period.ensures.period c.loop-period.invariant.2)
+
+pub loop-period-preserved : goal.loop-period-preserved
+loop-period-preserved g c = (
+  tt,
+  tt,
+  rw c.in_ok-push.ensures.items (each_goes_on _ c.loop-period.whole.items (into_iter_items c.loop-period.period-iterator) (into_iter_items c.next.new.self) c.in-Some.period _ _ c.in_ok-period.period _ c.in-Some.ensures.steps.0 c.in_ok-period.ensures.period c.loop-period.invariant.2),
+  c.in_ok-period.ensures.last,
+  all_pushed (λ p. IsList g.C.Columns.kind (g.C.Columns.Valid (cell_count c.args.grid.now)) (g.C.Columns.kind.list p)) c.loop-period.whole.items _ c.in_ok-period.period c.in_ok-push.ensures.items c.loop-period.invariant.4 c.in_ok-period.ensures.list,
+  rw c.in_ok-push.ensures.items (one_more_same (without g.C.Columns.kind) c.loop-period.whole.items (into_iter_items c.loop-period.period-iterator) (into_iter_items c.next.new.self) _ c.in-Some.period c.in_ok-period.period c.in-Some.ensures.steps.0 c.in_ok-period.ensures.others c.loop-period.invariant.5),
+)
+
+pub returns-clause-periods : goal.returns-clause-periods
+returns-clause-periods g c = each_done _ c.loop-period.whole.items (into_iter_items c.loop-period.period-iterator) _ _ (no_items (into_iter_items c.loop-period.period-iterator) (sym c.loop-period.period-iterator.rest.ok.0 ∙ c.in-None.ensures.steps.0)) c.loop-period.invariant.2
+
+pub returns-clause-others : goal.returns-clause-others
+returns-clause-others g c = all_same (without g.C.Columns.kind) c.loop-period.whole.items (into_iter_items c.loop-period.period-iterator) _ (no_items (into_iter_items c.loop-period.period-iterator) (sym c.loop-period.period-iterator.rest.ok.0 ∙ c.in-None.ensures.steps.0)) c.loop-period.invariant.5

@@ -1,0 +1,47 @@
+-- The lines in front of entries: the first of a file, and ITMP and NP of a stress period (TM 6-A16, WEL, RIV, DRN, GHB, CHD).
+use Rattle.std.specs.Prelude.{ℕ, ℤ, pos, negsuc, Bool, true, false, not, ◌&&◌, List, [], ◌∷◌, nat_le, nat_lt, Option, Some, None, Result, Ok, Err, if◌then◌else◌, codes}
+use Rattle.decimal_input.specs.Words.{integer_of}
+use Rattle.outside.specs.Refusals.{refusal}
+use Rattle.outside.specs.declared.codes.Code.TheVariants.{OutOfProfile, TooManyEntries, NothingToReuse}
+use Rattle.outside.specs.declared.refusals.Refusal.{Refusal}
+use Rattle.record_lines.specs.Items.{begins_with, line_at}
+use Rattle.record_lines.specs.Layout.{Numbered, Left, words}
+use Rattle.record_lines.specs.Reading.{◌>>=◌}
+use Rattle.array_reader.specs.Items.{number_at}
+use Rattle.array_reader.specs.Numbers.{integer}
+
+-- the first line of a file of stresses behind its comments, which must not define parameters
+unfoldable pub item_line : List ℕ → Left → Result (Numbered × Left) Refusal
+item_line file left = do
+  line ← line_at file left
+  if begins_with (codes "PARAMETER") (words line.0.bytes) then Err (refusal OutOfProfile file line.0.number) else Ok line
+
+-- ITMP: so many entries follow, 65536 at most, or the last list stands again where it is below 0
+pub data Count : Type 0 where
+  entries : ℕ → Count
+  again : Count
+
+abbrev pub count_of : ℤ → Refusal → Result Count Refusal
+count_of (pos n) r = if nat_le n 65536 then Ok (entries n) else Err r
+count_of (negsuc n) r = Ok again
+
+-- NP counts where it is an integer above 0
+abbrev pub is_positive : Option ℤ → Bool
+is_positive None = false
+is_positive (Some (pos n)) = nat_lt 0 n
+is_positive (Some (negsuc n)) = false
+
+abbrev pub has_parameters : List (List ℕ) → Bool
+has_parameters [] = false
+has_parameters (w ∷ ws) = is_positive (integer_of w)
+
+abbrev pub is_reused : Count → Bool
+is_reused (entries n) = false
+is_reused again = true
+
+-- the words of a period's line, where a list was read before or not
+unfoldable pub header_of : List ℕ → ℕ → Bool → List (List ℕ) → Result Count Refusal
+header_of file line listed words = do
+  itmp ← number_at integer file line words
+  count ← count_of itmp.0 (refusal TooManyEntries file line)
+  if is_reused count && not listed then Err (refusal NothingToReuse file line) else (if has_parameters itmp.1 then Err (refusal OutOfProfile file line) else Ok count)

@@ -1,0 +1,155 @@
+// The entries of a list.
+ghost use Rattle.std.specs.Prelude.{◌≡◌, ◌≤◌, ◌<◌, Ok, IfOk, true, false, All, length, slice_index_or};
+ghost use Rattle.std.specs.List.{AllPairs};
+ghost use Rattle.record_lines.specs.Layout.{words};
+ghost use Rattle.record_lines.specs.Reading.{GivesText, HasText, repeated};
+ghost use Rattle.model_types.specs.Cells.{cell_count};
+ghost use Rattle.model_types.specs.Grids.{HasSize};
+ghost use Rattle.list_package.specs.Entries.{cell_at, entry_of, entry_at, is_left_out, no_marks, new_list};
+ghost use Rattle.list_package.specs.Forms.{Differ, IsList, IsNewlyMarked};
+
+use crate::kind::Columns;
+use crate::marks::Marks;
+use array_reader::{integer, next_line};
+use model_types::{CellId, Grid, cell_of};
+use number_limits::within;
+use outside::{Code, TextFault, refused};
+use record_lines::{Line, Lines, Words, begins_with};
+use std::alloc::Global;
+
+/// The cell at a layer, row and column, which are counted from 1.
+#[tactic(auto, unfolding(crate::specs::Entries::cell_at))]
+fn cell_at(
+    alloc: Global,
+    file: &str,
+    line: u32,
+    grid: &Grid,
+    layer: i64,
+    row: i64,
+    col: i64,
+) -> Result<CellId, TextFault>
+    requires size { HasSize grid.now }
+    ensures cell { HasText (λ cell. cell) result (cell_at file.now line grid.now layer row col) }
+    ensures inside { IfOk result (λ cell. cell.0 < cell_count grid.now) }
+{
+    let (Some(k), Some(i), Some(j)) = (
+        within(layer, grid.layers),
+        within(row, grid.rows),
+        within(col, grid.cols),
+    ) else {
+        return Err(refused(alloc, Code::CellOutside, file, line));
+    };
+    Ok(cell_of(grid, k, i, j))
+}
+
+/// The entry that the words of a line make, with its cell.
+#[tactic(auto, unfolding(crate::specs::Entries::entry_of))]
+fn entry_of<C: Columns>(
+    alloc: Global,
+    words: &mut Words,
+    file: &str,
+    line: u32,
+    grid: &Grid,
+    marks: &Marks,
+) -> Result<(C::Entry, CellId), TextFault>
+    requires size { HasSize grid.now }
+    ensures entry { HasText (λ e. e) result (entry_of C.kind file.now line grid.now marks.now words.old) }
+    ensures valid { IfOk result (λ e. C.Valid (cell_count grid.now) e.0) }
+    ensures place { IfOk result (λ e. C.kind.place e.0 ≡ e.1.0) }
+    ensures inside { IfOk result (λ e. e.1.0 < cell_count grid.now) }
+    ensures new { IfOk result (λ e. slice_index_or marks.now e.1.0 false ≡ false) }
+{
+    let layer = integer(alloc, words, file, line)?;
+    let row = integer(alloc, words, file, line)?;
+    let col = integer(alloc, words, file, line)?;
+    let columns = C::read(alloc, words, file, line)?;
+    let cell = cell_at(alloc, file, line, grid, layer, row, col)?;
+    if let Some(code) = columns.fault() {
+        return Err(refused(alloc, code, file, line));
+    }
+    if marks.is_marked(cell.0) {
+        return Err(refused(alloc, Code::BadProperty, file, line));
+    }
+    Ok((columns.entry(cell), cell))
+}
+
+fn is_left_out(line: &Line) -> bool
+    ensures { result ≡ is_left_out (words line.now.bytes.now) }
+{
+    begins_with(b"OPEN/CLOSE", line) || begins_with(b"EXTERNAL", line) || begins_with(b"SFAC", line)
+}
+
+/// The next entry of a list; its cell is marked.
+#[tactic(auto, unfolding(crate::specs::Entries::entry_at))]
+fn entry_at<C: Columns>(
+    alloc: Global,
+    lines: &mut Lines,
+    file: &str,
+    grid: &Grid,
+    marks: &mut Marks,
+) -> Result<C::Entry, TextFault>
+    requires size { HasSize grid.now }
+    ensures entry { GivesText (λ e. e) result (marks.new, lines.new) (entry_at C.kind file.now grid.now (marks.old, lines.old)) }
+    ensures valid { IfOk result (C.Valid (cell_count grid.now)) }
+    ensures marked { IfOk result (IsNewlyMarked C.kind (cell_count grid.now) marks.old marks.new) }
+{
+    let line = next_line(alloc, lines, file)?;
+    if is_left_out(&line) {
+        return Err(refused(alloc, Code::OutOfProfile, file, line.number));
+    }
+    let mut words = Words::of(&line);
+    let (entry, cell) = entry_of::<C>(alloc, &mut words, file, line.number, grid, marks)?;
+    marks.mark(cell.0);
+    Ok(entry)
+}
+
+/// So many entries.
+fn entries<C: Columns>(
+    alloc: Global,
+    lines: &mut Lines,
+    file: &str,
+    grid: &Grid,
+    count: u32,
+    marks: &mut Marks,
+) -> Result<Vec<C::Entry>, TextFault>
+    requires size { HasSize grid.now }
+    requires marks { marks.old ≡ no_marks C.kind grid.now }
+    ensures entries { GivesText (λ v. v.items) result (marks.new, lines.new) (repeated count (entry_at C.kind file.now grid.now) (marks.old, lines.old)) }
+    ensures count { IfOk result (λ v. length v.items ≡ count) }
+    ensures valid { IfOk result (λ v. All (C.Valid (cell_count grid.now)) v.items) }
+    ensures once { IfOk result (λ v. C.kind.once ≡ true → AllPairs (Differ C.kind) v.items) }
+{
+    let mut list = Vec::new(alloc);
+    for _ in 0..count {
+        let entry = entry_at::<C>(alloc, lines, file, grid, marks)?;
+        list.push(entry)?;
+    }
+    Ok(list)
+}
+
+fn no_marks<C: Columns>(alloc: Global, grid: &Grid) -> Result<Marks, TextFault>
+    requires size { HasSize grid.now }
+    ensures { HasText (λ m. m) result (Ok (no_marks C.kind grid.now)) }
+{
+    let count = if C::is_once() { grid.cell_count() } else { 0 };
+    Ok(Marks::new(alloc, count as usize)?)
+}
+
+/// So many entries, as a list.
+#[tactic(auto, unfolding(crate::specs::Entries::new_list))]
+pub fn new_list<C: Columns>(
+    alloc: Global,
+    lines: &mut Lines,
+    file: &str,
+    grid: &Grid,
+    count: u32,
+) -> Result<Vec<C::Entry>, TextFault>
+    requires size { HasSize grid.now }
+    requires few { count ≤ 65536 }
+    ensures list { GivesText (λ v. v.items) result lines.new (new_list C.kind file.now grid.now count lines.old) }
+    ensures form { IfOk result (λ v. IsList C.kind (C.Valid (cell_count grid.now)) v.items) }
+{
+    let mut marks = no_marks::<C>(alloc, grid)?;
+    let list = entries::<C>(alloc, lines, file, grid, count, &mut marks)?;
+    Ok(list)
+}

@@ -1,0 +1,88 @@
+// The lines in front of entries.
+ghost use Rattle.std.specs.Prelude.{◌≡◌, IfOk};
+ghost use Rattle.outside.specs.declared.codes.Code.TheVariants.{TooManyEntries};
+ghost use Rattle.outside.specs.Refusals.{refusal};
+ghost use Rattle.record_lines.specs.Reading.{GivesText, HasText};
+ghost use Rattle.record_lines.specs.Seen.{numbered_of};
+ghost use Rattle.list_package.specs.Headers.{item_line, count_of, has_parameters, header_of};
+ghost use Rattle.list_package.specs.Seen.{count_seen, IsFew};
+
+use array_reader::{integer, next_line, short_integer};
+use outside::{Code, TextFault, refused};
+use record_lines::{Line, Lines, Words, begins_with};
+use std::alloc::Global;
+
+/// How a period's list comes.
+#[derive(Clone, Copy, Debug, PartialEq, Eq)]
+pub enum Count {
+    /// So many entries follow.
+    Entries(u32),
+    /// The last list stands again.
+    Again,
+}
+
+/// The first line of a file of stresses, which must not define parameters.
+#[tactic(auto, unfolding(crate::specs::Headers::item_line))]
+pub fn item_line<'a>(
+    alloc: Global,
+    lines: &mut Lines<'a>,
+    file: &str,
+) -> Result<Line<'a>, TextFault>
+    ensures { GivesText numbered_of result lines.new (item_line file.now lines.old) }
+{
+    let line = next_line(alloc, lines, file)?;
+    if begins_with(b"PARAMETER", &line) {
+        return Err(refused(alloc, Code::OutOfProfile, file, line.number));
+    }
+    Ok(line)
+}
+
+fn count_of(alloc: Global, itmp: i64, file: &str, line: u32) -> Result<Count, TextFault>
+    ensures count { HasText count_seen result (count_of itmp (refusal TooManyEntries file.now line)) }
+    ensures few { IfOk result IsFew }
+{
+    if itmp > 65536 {
+        return Err(refused(alloc, Code::TooManyEntries, file, line));
+    }
+    if itmp < 0 {
+        Ok(Count::Again)
+    } else {
+        Ok(Count::Entries(itmp as u32))
+    }
+}
+
+/// Whether the next word is an integer above 0.
+fn has_parameters(words: &mut Words) -> bool
+    ensures { result ≡ has_parameters words.old }
+{
+    match words.next() {
+        None => false,
+        Some(word) => match short_integer(word) {
+            None => false,
+            Some(number) => number > 0,
+        },
+    }
+}
+
+/// How the list of a period comes, by the words of its line; `listed` tells whether there was a list before.
+#[tactic(auto, unfolding(crate::specs::Headers::header_of))]
+pub fn header_of(
+    alloc: Global,
+    words: &mut Words,
+    file: &str,
+    line: u32,
+    listed: bool,
+) -> Result<Count, TextFault>
+    ensures count { HasText count_seen result (header_of file.now line listed words.old) }
+    ensures few { IfOk result IsFew }
+{
+    let itmp = integer(alloc, words, file, line)?;
+    let count = count_of(alloc, itmp, file, line)?;
+    if count == Count::Again && !listed {
+        return Err(refused(alloc, Code::NothingToReuse, file, line));
+    }
+    if has_parameters(words) {
+        return Err(refused(alloc, Code::OutOfProfile, file, line));
+    }
+    Ok(count)
+}

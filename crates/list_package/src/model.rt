@@ -1,0 +1,45 @@
+// A model with the lists of a package.
+ghost use Rattle.std.specs.Prelude.{◌≡◌, IfOk, All};
+ghost use Rattle.record_lines.specs.Reading.{HasText};
+ghost use Rattle.model_types.specs.Cells.{cell_count};
+ghost use Rattle.model_types.specs.Grids.{HasSize};
+ghost use Rattle.list_package.specs.Forms.{IsList, SameBut};
+ghost use Rattle.list_package.specs.Lists.{package_of};
+
+use crate::header::item_line;
+use crate::kind::Columns;
+use crate::lists::periods_of;
+use array_reader::integer;
+use model_types::{FlowModel, Listed};
+use outside::TextFault;
+use record_lines::{Lines, Words};
+use std::alloc::Global;
+
+/// The model with the lists of a package's file in its periods. `file` is the file's name, for refusals. A list that
+/// a period reuses is shared, and stands in memory once.
+///
+/// # Errors
+/// The first item that is wrong is refused on its line.
+#[tactic(auto, unfolding(crate::specs::Lists::package_of))]
+pub fn read_package<C: Columns>(
+    alloc: Global,
+    file: &str,
+    bytes: &[u8],
+    model: FlowModel,
+) -> Result<FlowModel, TextFault>
+    requires size { HasSize model.grid }
+    ensures model { HasText (λ m. m) result (package_of C.kind file.now bytes.now model) }
+    ensures lists { IfOk result (λ m. All (λ p. IsList C.kind (C.Valid (cell_count model.grid)) (C.kind.list p)) m.periods) }
+    ensures others { IfOk result (SameBut C.kind model) }
+{
+    let mut lines = Lines::new(bytes);
+    lines.skip_comments();
+    let line = item_line(alloc, &mut lines, file)?;
+    integer(alloc, &mut Words::of(&line), file, line.number)?;
+    let periods = model.periods.into_vec();
+    let periods = periods_of::<C>(alloc, &mut lines, file, &model.grid, periods)?;
+    Ok(FlowModel {
+        periods: Listed::new(periods),
+        ..model
+    })
+}

@@ -1,0 +1,46 @@
+-- The stresses of a model, in reading order: each file is read when its turn comes, where the name file names it.
+use Rattle.std.specs.Prelude.{ℕ, List, Option, Some, None, Result, Ok}
+use Rattle.outside.specs.Files.{File}
+use Rattle.outside.specs.Inputs.{file_at}
+use Rattle.outside.specs.declared.refusals.Refusal.{Refusal}
+use Rattle.record_lines.specs.Reading.{◌>>=◌}
+use Rattle.name_file.specs.Pairs.{Pairs, file_of}
+use Rattle.name_file.specs.declared.package.Package.TheVariants.{Wel, Riv, Drn, Ghb, Rch, Chd, Evt}
+use Rattle.model_types.specs.declared.model.FlowModel.{FlowModel}
+use Rattle.list_package.specs.Kinds.{Kind}
+use Rattle.list_package.specs.Lists.{package_of}
+use Rattle.stress_packages.specs.Packages.{wells, rivers, drains, generals}
+use Rattle.chd_package.specs.GivenHeads.{given_heads}
+use Rattle.rch_package.specs.Recharge.{rch_of}
+use Rattle.evt_package.specs.Evaporation.{evt_of}
+
+-- the model with a package, where the name file names one
+abbrev pub where_named : Option (List ℕ) → (List ℕ → FlowModel → Result FlowModel Refusal) → FlowModel → Result FlowModel Refusal
+where_named None read m = Ok m
+where_named (Some name) read m = read name m
+
+unfoldable pub list_in : {C E : Type 0} → Kind C E → List File → List ℕ → FlowModel → Result FlowModel Refusal
+list_in kind files name m = do
+  bytes ← file_at files name
+  package_of kind name bytes m
+
+unfoldable pub rch_in : List File → List ℕ → FlowModel → Result FlowModel Refusal
+rch_in files rch m = do
+  bytes ← file_at files rch
+  rch_of files rch bytes m
+
+unfoldable pub evt_in : List File → List ℕ → FlowModel → Result FlowModel Refusal
+evt_in files evt m = do
+  bytes ← file_at files evt
+  evt_of files evt bytes m
+
+-- WEL, RIV, DRN, GHB, RCH, CHD, EVT
+unfoldable pub with_stresses : List File → Pairs → FlowModel → Result FlowModel Refusal
+with_stresses files names flow = do
+  with_wells ← where_named (file_of Wel names) (list_in wells files) flow
+  with_rivers ← where_named (file_of Riv names) (list_in rivers files) with_wells
+  with_drains ← where_named (file_of Drn names) (list_in drains files) with_rivers
+  with_generals ← where_named (file_of Ghb names) (list_in generals files) with_drains
+  with_recharge ← where_named (file_of Rch names) (rch_in files) with_generals
+  with_given ← where_named (file_of Chd names) (list_in given_heads files) with_recharge
+  where_named (file_of Evt names) (evt_in files) with_given

@@ -1,0 +1,65 @@
+// The packages of arrays: recharge and evapotranspiration.
+//
+// Each is read where the name file names it.
+ghost use Rattle.std.specs.Prelude.{◌≡◌, IfOk, IsTrue, is_some};
+ghost use Rattle.outside.specs.Counts.{InputCounts};
+ghost use Rattle.record_lines.specs.Reading.{Has};
+ghost use Rattle.array_reader.specs.Arrays.{told};
+ghost use Rattle.name_file.specs.Pairs.{file_of};
+ghost use Rattle.name_file.specs.declared.package.Package.TheVariants.{Rch, Evt};
+ghost use Rattle.model_types.specs.Valid.{IsModel};
+ghost use Rattle.model_reader.specs.Stresses.{where_named, rch_in, evt_in};
+
+use array_reader::open_file;
+use evt_package::read_evt;
+use model_types::FlowModel;
+use name_file::{Names, Package};
+use outside::{Folder, InputFault};
+use rch_package::read_rch;
+use std::alloc::Global;
+
+/// The model with its recharge.
+#[tactic(auto, unfolding(crate::specs::Stresses::rch_in))]
+pub fn rch_in<F: Folder>(
+    alloc: Global,
+    names: &Names,
+    folder: &mut F,
+    model: FlowModel,
+) -> Result<FlowModel, InputFault>
+    requires valid { IsModel model }
+    ensures files { F.files folder.new ≡ F.files folder.old }
+    ensures counts { InputCounts (F.faults folder.old) (F.faults folder.new) result }
+    ensures model { IsTrue (is_some (F.files folder.old)) → Has (λ m. m) result (where_named (file_of Rch names.now) (rch_in (told (F.files folder.old))) model) }
+    ensures form { IfOk result IsModel }
+{
+    match names.file_of(Package::Rch) {
+        None => Ok(model),
+        Some(name) => {
+            let bytes = open_file(alloc, folder, name)?;
+            read_rch(alloc, name, &bytes, folder, model)
+        }
+    }
+}
+
+/// The model with its evapotranspiration.
+#[tactic(auto, unfolding(crate::specs::Stresses::evt_in))]
+pub fn evt_in<F: Folder>(
+    alloc: Global,
+    names: &Names,
+    folder: &mut F,
+    model: FlowModel,
+) -> Result<FlowModel, InputFault>
+    requires valid { IsModel model }
+    ensures files { F.files folder.new ≡ F.files folder.old }
+    ensures counts { InputCounts (F.faults folder.old) (F.faults folder.new) result }
+    ensures model { IsTrue (is_some (F.files folder.old)) → Has (λ m. m) result (where_named (file_of Evt names.now) (evt_in (told (F.files folder.old))) model) }
+    ensures form { IfOk result IsModel }
+{
+    match names.file_of(Package::Evt) {
+        None => Ok(model),
+        Some(name) => {
+            let bytes = open_file(alloc, folder, name)?;
+            read_evt(alloc, name, &bytes, folder, model)
+        }
+    }
+}

@@ -1,0 +1,4 @@
+pub mod Flags
+pub mod Layers
+pub mod Updates
+pub mod Forms

@@ -1,0 +1,55 @@
+// The test of arrays of layers.
+ghost use Rattle.std.specs.Prelude.{◌≡◌, ◌<◌};
+ghost use Rattle.record_lines.specs.Reading.{HasText};
+ghost use Rattle.model_types.specs.Cells.{layer_size};
+ghost use Rattle.model_types.specs.Grids.{HasSize};
+ghost use Rattle.period_arrays.specs.Layers.{is_layer, layer_step, layers_tested};
+
+use crate::refused::cell_refused;
+use model_types::Grid;
+use model_types::layers::int_at;
+use outside::{Code, TextFault};
+use std::alloc::Global;
+
+fn is_layer(grid: &Grid, layer: i64) -> bool
+    ensures { result ≡ is_layer grid.now layer }
+{
+    0 <= layer && layer <= grid.layers as i64
+}
+
+#[tactic(auto, using(crate::proofs::PlaceLemmas::in_grid))]
+fn layer_tested(
+    alloc: Global,
+    file: &str,
+    grid: &Grid,
+    layers: &[i64],
+    place: u32,
+) -> Result<(), TextFault>
+    requires size { HasSize grid.now }
+    requires place { place < layer_size grid.now }
+    ensures { HasText (λ _. tt) result (layer_step file.now grid.now layers.now place tt) }
+{
+    if is_layer(grid, int_at(layers, place)) {
+        Ok(())
+    } else {
+        Err(cell_refused(alloc, Code::CellOutside, file, grid, place))
+    }
+}
+
+/// The first of an array that is no layer, nor 0, is refused at its row and column.
+#[tactic(auto, unfolding(crate::specs::Layers::layers_tested))]
+pub fn layers_tested(
+    alloc: Global,
+    file: &str,
+    grid: &Grid,
+    layers: &[i64],
+) -> Result<(), TextFault>
+    requires size { HasSize grid.now }
+    ensures { HasText (λ _. tt) result (layers_tested file.now grid.now layers.now) }
+{
+    let places = grid.layer_size();
+    for place in 0..places {
+        layer_tested(alloc, file, grid, layers, place)?;
+    }
+    Ok(())
+}

@@ -1,0 +1,39 @@
+-- What is known of recharge that was read, whatever the folder tells.
+use Rattle.std.specs.Prelude.{◌≡◌, ℕ, ◌≤ℤ◌, pos, Bool, true, false, List, [], All, map, length, IfSome}
+use Rattle.model_types.specs.declared.grid.Grid.{Grid}
+use Rattle.model_types.specs.declared.model.FlowModel.{FlowModel}
+use Rattle.model_types.specs.declared.period.Period.{Period}
+use Rattle.model_types.specs.Cells.{layer_size}
+use Rattle.model_types.specs.Receivers.{is_int}
+use Rattle.model_types.specs.Valid.{IsLayerArray}
+use Rattle.period_arrays.specs.Forms.{IsReals, IsWhole}
+use Rattle.rch_package.specs.declared.flags.Flags.{Flags}
+use Rattle.rch_package.specs.declared.periods.Last.{Last}
+
+-- arrays of one layer
+pub record AreLast (grid : Grid) (last : Last) : Type 0 where
+  pub rates : IfSome last.rates (IsReals grid)
+  pub layers : IfSome last.layers (IsWhole grid)
+
+-- a period's arrays, where layers stand under option 2 alone
+pub record AreArrays (layered : Bool) (grid : Grid) (p : Period) : Type 0 where
+  pub rates : IsReals grid p.recharge
+  pub layers : layered ≡ true → IsWhole grid p.irch
+
+abbrev pub without : Period → Period
+without p = record p { recharge = []; irch = [] }
+
+-- a period of a model that has recharge
+pub record HasRecharge (m : FlowModel) (p : Period) : Type 0 where
+  pub recharge : IsLayerArray m p.recharge
+  pub irch : is_int m.nrchop 2 ≡ true → length p.irch ≡ layer_size m.grid
+
+-- a model with recharge, by an option from 1 to 3
+pub record IsRecharged (m : FlowModel) : Type 0 where
+  pub option : (pos 1 ≤ℤ m.nrchop) × (m.nrchop ≤ℤ pos 3)
+  pub periods : All (HasRecharge m) m.periods
+
+-- another model differs in its recharge alone
+pub record SameBut (m n : FlowModel) : Type 0 where
+  pub model : n ≡ record m { nrchop = n.nrchop; periods = n.periods }
+  pub periods : map without n.periods ≡ map without m.periods

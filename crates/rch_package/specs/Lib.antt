@@ -1,0 +1,2 @@
+pub mod Recharge
+pub mod Forms

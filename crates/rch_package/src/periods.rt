@@ -1,0 +1,142 @@
+// The arrays of each stress period.
+ghost use Rattle.std.specs.Prelude.{◌≡◌, IfOk, IsTrue, is_some, All, map, true};
+ghost use Rattle.outside.specs.Counts.{InputCounts};
+ghost use Rattle.record_lines.specs.Reading.{Gives, Has, for_each};
+ghost use Rattle.array_reader.specs.Arrays.{told};
+ghost use Rattle.model_types.specs.Grids.{HasSize};
+ghost use Rattle.rch_package.specs.Forms.{AreArrays, AreLast, without};
+ghost use Rattle.rch_package.specs.Recharge.{period_at, periods_of};
+
+use crate::flags::flags_of;
+use array_reader::next_line;
+use decimal_input::dec::Dec;
+use model_types::{Grid, Period, Shared};
+use outside::{Folder, InputFault};
+use period_arrays::{array_of, update_layers, update_reals};
+use record_lines::{Lines, Words};
+use std::alloc::Global;
+
+/// The arrays that stand: the last rates, and the last layers.
+#[derive(Debug, Drop)]
+pub struct Last {
+    pub rates: Option<Shared<Dec>>,
+    pub layers: Option<Shared<i64>>,
+}
+
+fn with_arrays(period: Period, recharge: Shared<Dec>, irch: Shared<i64>) -> Period
+    ensures { result ≡ record period { recharge = recharge; irch = irch } }
+{
+    Period {
+        recharge,
+        irch,
+        ..period
+    }
+}
+
+/// The next period with its arrays, which then stand.
+#[tactic(auto, unfolding(crate::specs::Recharge::period_at), using(period_arrays::proofs::UpdateLemmas::stands))]
+fn period_at<F: Folder>(
+    alloc: Global,
+    lines: &mut Lines,
+    layered: bool,
+    file: &str,
+    folder: &mut F,
+    grid: &Grid,
+    period: Period,
+    last: &mut Last,
+) -> Result<Period, InputFault>
+    requires size { HasSize grid.now }
+    requires last { AreLast grid.now last.old }
+    ensures files { F.files folder.new ≡ F.files folder.old }
+    ensures counts { InputCounts (F.faults folder.old) (F.faults folder.new) result }
+    ensures period { IsTrue (is_some (F.files folder.old)) → Gives (λ p. p) result (last.new, lines.new) (period_at layered (told (F.files folder.old)) file.now grid.now period (last.old, lines.old)) }
+    ensures last { IfOk result (λ _. AreLast grid.now last.new) }
+    ensures arrays { IfOk result (AreArrays layered grid.now) }
+    ensures others { IfOk result (λ p. without p ≡ without period) }
+{
+    let line = next_line(alloc, lines, file)?;
+    let flags = flags_of(
+        alloc,
+        &mut Words::of(&line),
+        layered,
+        file,
+        line.number,
+        last,
+    )?;
+    update_reals(
+        alloc,
+        lines,
+        file,
+        folder,
+        grid,
+        flags.rate,
+        &mut last.rates,
+    )?;
+    update_layers(
+        alloc,
+        lines,
+        file,
+        folder,
+        grid,
+        flags.layer,
+        &mut last.layers,
+    )?;
+    let recharge = array_of(alloc, &last.rates)?;
+    let irch = array_of(alloc, &last.layers)?;
+    Ok(with_arrays(period, recharge, irch))
+}
+
+/// The periods with their arrays, where these were the last.
+fn with_recharge<F: Folder>(
+    alloc: Global,
+    lines: &mut Lines,
+    layered: bool,
+    file: &str,
+    folder: &mut F,
+    grid: &Grid,
+    periods: Vec<Period>,
+    last: &mut Last,
+) -> Result<Vec<Period>, InputFault>
+    requires size { HasSize grid.now }
+    requires last { AreLast grid.now last.old }
+    ensures files { F.files folder.new ≡ F.files folder.old }
+    ensures counts { InputCounts (F.faults folder.old) (F.faults folder.new) result }
+    ensures periods { IsTrue (is_some (F.files folder.old)) → Gives (λ v. v.items) result (last.new, lines.new) (for_each (period_at layered (told (F.files folder.old)) file.now grid.now) periods.items (last.old, lines.old)) }
+    ensures arrays { IfOk result (λ v. All (AreArrays layered grid.now) v.items) }
+    ensures others { IfOk result (λ v. map without v.items ≡ map without periods.items) }
+{
+    let mut whole = Vec::new(alloc);
+    for period in periods {
+        let period = period_at(alloc, lines, layered, file, folder, grid, period, last)?;
+        whole.push(period)?;
+    }
+    Ok(whole)
+}
+
+/// The periods with their arrays; `layered` tells whether layers are named.
+#[tactic(auto, unfolding(crate::specs::Recharge::periods_of))]
+pub fn periods_of<F: Folder>(
+    alloc: Global,
+    lines: &mut Lines,
+    layered: bool,
+    file: &str,
+    folder: &mut F,
+    grid: &Grid,
+    periods: Vec<Period>,
+) -> Result<Vec<Period>, InputFault>
+    requires size { HasSize grid.now }
+    ensures files { F.files folder.new ≡ F.files folder.old }
+    ensures counts { InputCounts (F.faults folder.old) (F.faults folder.new) result }
+    ensures periods { IsTrue (is_some (F.files folder.old)) → Has (λ v. v.items) result (periods_of layered (told (F.files folder.old)) file.now grid.now periods.items lines.old) }
+    ensures arrays { IfOk result (λ v. All (AreArrays layered grid.now) v.items) }
+    ensures others { IfOk result (λ v. map without v.items ≡ map without periods.items) }
+{
+    let mut last = Last {
+        rates: None,
+        layers: None,
+    };
+    let periods = with_recharge(
+        alloc, lines, layered, file, folder, grid, periods, &mut last,
+    )?;
+    Ok(periods)
+}

@@ -1,0 +1,81 @@
+// A model with its recharge.
+ghost use Rattle.std.specs.Prelude.{◌≡◌, IfOk, IsTrue, is_some};
+ghost use Rattle.outside.specs.Counts.{InputCounts};
+ghost use Rattle.record_lines.specs.Reading.{Has};
+ghost use Rattle.array_reader.specs.Arrays.{told};
+ghost use Rattle.model_types.specs.Grids.{HasSize};
+ghost use Rattle.model_types.specs.Valid.{IsModel};
+ghost use Rattle.rch_package.specs.Forms.{IsRecharged, SameBut};
+ghost use Rattle.rch_package.specs.Recharge.{rch_of};
+
+use crate::periods::periods_of;
+use list_package::item_line;
+use model_types::{FlowModel, Listed};
+use outside::{Folder, InputFault};
+use period_arrays::option_at;
+use record_lines::{Lines, Words};
+use std::alloc::Global;
+
+/// The model with the arrays of its periods.
+#[tactic(auto, unfolding(crate::specs::Recharge::rch_of), using(crate::proofs::ArrayLemmas::is_recharged))]
+fn with_recharge<F: Folder>(
+    alloc: Global,
+    file: &str,
+    bytes: &[u8],
+    folder: &mut F,
+    model: FlowModel,
+) -> Result<FlowModel, InputFault>
+    requires size { HasSize model.grid }
+    ensures files { F.files folder.new ≡ F.files folder.old }
+    ensures counts { InputCounts (F.faults folder.old) (F.faults folder.new) result }
+    ensures model { IsTrue (is_some (F.files folder.old)) → Has (λ m. m) result (rch_of (told (F.files folder.old)) file.now bytes.now model) }
+    ensures form { IfOk result IsRecharged }
+    ensures others { IfOk result (SameBut model) }
+{
+    let mut lines = Lines::new(bytes);
+    lines.skip_comments();
+    let line = item_line(alloc, &mut lines, file)?;
+    let nrchop = option_at(alloc, &mut Words::of(&line), file, line.number)?;
+    let periods = model.periods.into_vec();
+    let periods = periods_of(
+        alloc,
+        &mut lines,
+        nrchop == 2,
+        file,
+        folder,
+        &model.grid,
+        periods,
+    )?;
+    Ok(FlowModel {
+        nrchop,
+        periods: Listed::new(periods),
+        ..model
+    })
+}
+
+/// The model with the recharge of a file of the package RCH: the option NRCHOP, and in each stress period the rates and,
+/// under option 2, the layers. `file` is the file's name, for refusals, and `folder` has the files that its arrays
+/// name. An array that a period reuses is shared, and stands in memory once.
+///
+/// # Errors
+/// The first item that is wrong is refused on its line: OutOfProfile for parameters and for another option,
+/// NothingToReuse where a first array is to be reused; CellOutside, with line 0 and the cell, for a layer that the grid
+/// lacks. A read fault comes only from the folder. (TM 6-A16, RCH)
+#[tactic(auto, using(crate::proofs::ModelLemmas::recharged_model))]
+pub fn read_rch<F: Folder>(
+    alloc: Global,
+    file: &str,
+    bytes: &[u8],
+    folder: &mut F,
+    model: FlowModel,
+) -> Result<FlowModel, InputFault>
+    requires size { HasSize model.grid }
+    ensures files { F.files folder.new ≡ F.files folder.old }
+    ensures counts { InputCounts (F.faults folder.old) (F.faults folder.new) result }
+    ensures model { IsTrue (is_some (F.files folder.old)) → Has (λ m. m) result (rch_of (told (F.files folder.old)) file.now bytes.now model) }
+    ensures form { IfOk result IsRecharged }
+    ensures others { IfOk result (SameBut model) }
+    ensures valid { IsModel model → IfOk result IsModel }
+{
+    with_recharge(alloc, file, bytes, folder, model)
+}

@@ -1,0 +1,109 @@
+// The readers of files of wells, rivers, drains and general heads.
+//
+// Each takes a model over and gives it back with the lists of the file in its stress periods. `file` is the file's
+// name, for refusals. The first item that is wrong is refused on its line.
+ghost use Rattle.std.specs.Prelude.{◌≡◌, IfOk, All};
+ghost use Rattle.record_lines.specs.Reading.{HasText};
+ghost use Rattle.model_types.specs.Cells.{cell_count};
+ghost use Rattle.model_types.specs.Grids.{HasSize};
+ghost use Rattle.model_types.specs.Valid.{IsEntryList, IsModel};
+ghost use Rattle.list_package.specs.Forms.{SameBut};
+ghost use Rattle.list_package.specs.Lists.{package_of};
+ghost use Rattle.stress_packages.specs.Packages.{wells, rivers, drains, generals};
+
+use crate::drains::DrainNumbers;
+use crate::generals::GeneralNumbers;
+use crate::rivers::Reach;
+use crate::wells::Rate;
+use list_package::read_package;
+use model_types::FlowModel;
+use outside::TextFault;
+use std::alloc::Global;
+
+/// The model with its lists of wells, from a file of the package WEL.
+///
+/// # Errors
+/// TooManyEntries past 65536 entries in a list, NothingToReuse where the first list is to be reused, OutOfProfile for
+/// parameters or another file's entries; of an entry CellOutside, HeadTooLarge or BadProperty.
+/// (TM 6-A16, WEL)
+#[tactic(auto, using(crate::proofs::EntryLemmas::entry_lists))]
+pub fn read_wel(
+    alloc: Global,
+    file: &str,
+    bytes: &[u8],
+    model: FlowModel,
+) -> Result<FlowModel, TextFault>
+    requires size { HasSize model.grid }
+    ensures model { HasText (λ m. m) result (package_of wells file.now bytes.now model) }
+    ensures lists { IfOk result (λ m. All (λ p. IsEntryList (cell_count model.grid) p.wells) m.periods) }
+    ensures others { IfOk result (SameBut wells model) }
+    ensures valid { IsModel model → IfOk result IsModel }
+{
+    read_package::<Rate>(alloc, file, bytes, model)
+}
+
+/// The model with its lists of river reaches, from a file of the package RIV.
+///
+/// # Errors
+/// TooManyEntries past 65536 entries in a list, NothingToReuse where the first list is to be reused, OutOfProfile for
+/// parameters or another file's entries; of an entry CellOutside, HeadTooLarge or BadProperty.
+/// (TM 6-A16, RIV)
+#[tactic(auto, using(crate::proofs::EntryLemmas::entry_lists))]
+pub fn read_riv(
+    alloc: Global,
+    file: &str,
+    bytes: &[u8],
+    model: FlowModel,
+) -> Result<FlowModel, TextFault>
+    requires size { HasSize model.grid }
+    ensures model { HasText (λ m. m) result (package_of rivers file.now bytes.now model) }
+    ensures lists { IfOk result (λ m. All (λ p. IsEntryList (cell_count model.grid) p.rivers) m.periods) }
+    ensures others { IfOk result (SameBut rivers model) }
+    ensures valid { IsModel model → IfOk result IsModel }
+{
+    read_package::<Reach>(alloc, file, bytes, model)
+}
+
+/// The model with its lists of drains, from a file of the package DRN.
+///
+/// # Errors
+/// TooManyEntries past 65536 entries in a list, NothingToReuse where the first list is to be reused, OutOfProfile for
+/// parameters or another file's entries; of an entry CellOutside, HeadTooLarge or BadProperty.
+/// (TM 6-A16, DRN)
+#[tactic(auto, using(crate::proofs::EntryLemmas::entry_lists))]
+pub fn read_drn(
+    alloc: Global,
+    file: &str,
+    bytes: &[u8],
+    model: FlowModel,
+) -> Result<FlowModel, TextFault>
+    requires size { HasSize model.grid }
+    ensures model { HasText (λ m. m) result (package_of drains file.now bytes.now model) }
+    ensures lists { IfOk result (λ m. All (λ p. IsEntryList (cell_count model.grid) p.drains) m.periods) }
+    ensures others { IfOk result (SameBut drains model) }
+    ensures valid { IsModel model → IfOk result IsModel }
+{
+    read_package::<DrainNumbers>(alloc, file, bytes, model)
+}
+
+/// The model with its lists of general heads, from a file of the package GHB.
+///
+/// # Errors
+/// TooManyEntries past 65536 entries in a list, NothingToReuse where the first list is to be reused, OutOfProfile for
+/// parameters or another file's entries; of an entry CellOutside, HeadTooLarge or BadProperty.
+/// (TM 6-A16, GHB)
+#[tactic(auto, using(crate::proofs::EntryLemmas::entry_lists))]
+pub fn read_ghb(
+    alloc: Global,
+    file: &str,
+    bytes: &[u8],
+    model: FlowModel,
+) -> Result<FlowModel, TextFault>
+    requires size { HasSize model.grid }
+    ensures model { HasText (λ m. m) result (package_of generals file.now bytes.now model) }
+    ensures lists { IfOk result (λ m. All (λ p. IsEntryList (cell_count model.grid) p.generals) m.periods) }
+    ensures others { IfOk result (SameBut generals model) }
+    ensures valid { IsModel model → IfOk result IsModel }
+{
+    read_package::<GeneralNumbers>(alloc, file, bytes, model)
+}
