@@ -1,5 +1,5 @@
 // A unit pass: settled heads are lowered by a unit, and those that rise again stay.
-use crate::numbers::{at, long_at, put};
+use multigrid::numbers::{at, label, long_at, put};
 use crate::one_side::OneSide;
 use std::alloc::{AllocError, Global};
 use step_problem::Link;
@@ -53,7 +53,7 @@ impl Fire {
             fire.sums.push(sum)?;
             fire.burnt.push(is_at_floor || sum >= 0)?;
             if !is_at_floor && sum >= 0 {
-                fire.order.push(cell as u32)?;
+                fire.order.push(label(cell))?;
             }
         }
         Ok(fire)

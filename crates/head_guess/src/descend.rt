@@ -1,8 +1,8 @@
 // From settled heads down to the first settled ones.
-use crate::budget::Budget;
+use multigrid::Budget;
 use crate::burn::unit_pass;
 use crate::gallop::{gallop, way_between};
-use crate::numbers::at;
+use multigrid::numbers::at;
 use crate::one_side::OneSide;
 use crate::slopes::slope_at;
 use crate::solver::Solver;

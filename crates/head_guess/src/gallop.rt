@@ -1,6 +1,6 @@
 // Lowering settled heads along a way, in longer and longer steps.
-use crate::budget::Budget;
-use crate::numbers::at;
+use multigrid::Budget;
+use multigrid::numbers::at;
 use crate::one_side::OneSide;
 use crate::raise::raise_within;
 use std::alloc::{AllocError, Global};

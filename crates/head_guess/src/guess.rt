@@ -2,10 +2,10 @@
 ghost use Rattle.std.specs.Prelude.{IfOk};
 ghost use Rattle.cell_relax.specs.Words.{AreWords};
 
-use crate::budget::Budget;
+use multigrid::Budget;
 use crate::descend::descend;
 use crate::newton::{Balanced, find_balanced};
-use crate::numbers::at;
+use multigrid::numbers::at;
 use crate::one_side::{OneSide, turned};
 use crate::search::{FIRST_SHARE, settled_below};
 use std::alloc::{AllocError, Global};

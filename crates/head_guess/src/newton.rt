@@ -1,6 +1,6 @@
 // Newton's method for heads at which each cell's balance is 0.
-use crate::budget::Budget;
-use crate::numbers::{at, put, shifted, width};
+use multigrid::Budget;
+use multigrid::numbers::{at, put, shifted, width};
 use crate::one_side::OneSide;
 use crate::slopes::{slope_at, slope_between};
 use crate::solver::Solver;
@@ -91,7 +91,7 @@ impl Newton {
     // One round; answers the longest move.
     fn step(&mut self, side: &OneSide, solver: &mut Solver, budget: &mut Budget) -> i128 {
         let places = 20_i64.saturating_sub(width(self.longest_move()) as i64);
-        solver.set_right(self.balances.as_slice(), places);
+        solver.set_right_side(self.balances.as_slice(), places);
         let unknowns = solver.solve(ROUNDS, 4, budget);
         self.advance(side, unknowns, places)
     }

@@ -1,12 +1,14 @@
 // One side of a problem.
-use crate::numbers::at;
-use cell_relax::{raise_to, sink_to};
-use step_problem::problem::HEAD_LIMIT;
-use step_problem::{Link, Problem, Side, high_at, low_at};
-
 ghost use Rattle.std.specs.Prelude.{◌≡◌, ◌<◌, All, length, take};
 ghost use Rattle.step_problem.specs.Entries.{entries_at};
 ghost use Rattle.step_problem.specs.Conditions.{IsHead};
+
+use cell_relax::{raise_to, sink_to};
+use multigrid::numbers::at;
+use step_problem::problem::HEAD_LIMIT;
+use step_problem::{Link, Problem, Side, high_at, low_at};
+
+const LIMIT: i128 = HEAD_LIMIT as i128;
 
 /// One side of a problem, seen so that heads rise: the lower heads above their floor, or the upper heads with
 /// the opposite sign, whose floor is the ceiling.
@@ -96,7 +98,7 @@ impl OneSide<'_> {
 
     /// The nearest head that is in range and not below the floor.
     pub fn above_floor(&self, cell: usize, head: i128) -> i64 {
-        let head = head.min(HEAD_LIMIT as i128).max(-HEAD_LIMIT as i128) as i64;
+        let head = head.clamp(-LIMIT, LIMIT) as i64;
         head.max(at(self.floor.as_slice(), cell))
     }
 }

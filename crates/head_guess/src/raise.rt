@@ -1,7 +1,7 @@
 // Raising heads until nothing moves.
-use crate::budget::Budget;
+use multigrid::Budget;
 use crate::marks::{CELLS, Marks};
-use crate::numbers::{at, put};
+use multigrid::numbers::{at, put};
 use crate::one_side::OneSide;
 use std::alloc::{AllocError, Global};
 

@@ -1,7 +1,7 @@
 // A search for settled heads below balanced ones.
-use crate::budget::Budget;
+use multigrid::Budget;
 use crate::newton::Balanced;
-use crate::numbers::at;
+use multigrid::numbers::at;
 use crate::one_side::OneSide;
 use crate::raise::raise_within;
 use std::alloc::{AllocError, Global};
@@ -63,7 +63,7 @@ impl Bracket {
             return self.low.saturating_add(16_384);
         }
         if self.trials <= 3 && !found {
-            return self.high.saturating_sub(4_096_i64.wrapping_shl(self.trials * 2));
+            return self.high.saturating_sub(4_096_i64.wrapping_shl(self.trials.saturating_mul(2)));
         }
         self.low.saturating_add(self.high.saturating_sub(self.low) / 2)
     }
@@ -96,7 +96,7 @@ pub fn settled_below(
         let mut part = budget.split(TURNS.saturating_mul(side.len() as u64));
         let settled = raise_within(alloc, side, heads.as_mut_slice(), caps.as_slice(), &mut part)?;
         budget.join(part);
-        bracket.trials = trial + 1;
+        bracket.trials = trial.saturating_add(1);
         if settled {
             bracket.low = share;
             found = Some(Settled { heads, share });

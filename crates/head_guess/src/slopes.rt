@@ -1,5 +1,5 @@
 // Slopes of a cell's balance in its own head.
-use crate::numbers::{at, cut};
+use multigrid::numbers::{at, cut};
 use crate::one_side::OneSide;
 
 /// The greater slope of a balance, to either side of the cell's head.

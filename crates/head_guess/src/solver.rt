@@ -1,9 +1,6 @@
 // The linear system of a problem: links between cells, and on the diagonal the slopes of the cells' balances.
-use crate::budget::Budget;
-use crate::cycle::solve;
-use crate::level::{Level, hierarchy};
-use crate::matrix::Matrix;
-use crate::numbers::{at, cut, shifted};
+use multigrid::{Budget, Levels, Matrix};
+use multigrid::numbers::{at, cut, shifted};
 use crate::one_side::OneSide;
 use std::alloc::{AllocError, Global};
 use step_problem::Link;
@@ -14,7 +11,7 @@ const VISITS_OF_LEVELS: u64 = 20;
 /// The system of slopes, with its levels. A cell whose slope is 0 is held: its unknown is 0.
 #[derive(Drop)]
 pub struct Solver {
-    levels: Vec<Level>,
+    levels: Levels,
     slopes: Vec<i64>,
     // Weights are conductances over 2^scale, so that the sum of all fits.
     scale: u32,
@@ -78,7 +75,7 @@ impl Solver {
         let scale = scale_of(slopes.as_slice());
         let matrix = matrix_of(alloc, side, slopes.as_slice(), scale)?;
         budget.spend(VISITS_OF_LEVELS.saturating_mul(side.len() as u64));
-        let levels = hierarchy(alloc, matrix)?;
+        let levels = Levels::new(alloc, matrix)?;
         Ok(Solver {
             levels,
             slopes,
@@ -95,31 +92,23 @@ impl Solver {
     }
 
     /// Sets the right side, numbers of the problem's unit times 2^places.
-    pub fn set_right(&mut self, right: &[i128], places: i64) {
+    pub fn set_right_side(&mut self, numbers: &[i128], places: i64) {
         let scale = self.scale;
-        if let Some(level) = self.levels.as_mut_slice().first_mut() {
-            for (residual, number) in level.residual.iter_mut().zip(right) {
-                *residual = shifted(*number, places).wrapping_shr(scale);
-            }
+        for (right, number) in self.levels.right_side().iter_mut().zip(numbers) {
+            *right = shifted(*number, places).wrapping_shr(scale);
         }
     }
 
-    fn set_right_to_slopes(&mut self) {
+    fn set_right_side_to_slopes(&mut self) {
         let scale = self.scale;
-        if let Some(level) = self.levels.as_mut_slice().first_mut() {
-            for (residual, slope) in level.residual.iter_mut().zip(self.slopes.as_slice()) {
-                *residual = (*slope as i128).wrapping_shl(20).wrapping_shr(scale);
-            }
+        for (right, slope) in self.levels.right_side().iter_mut().zip(self.slopes.as_slice()) {
+            *right = (*slope as i128).wrapping_shl(20).wrapping_shr(scale);
         }
     }
 
     /// Solves, and answers the unknowns times the right side's power of two.
     pub fn solve(&mut self, rounds: u32, bits: u32, budget: &mut Budget) -> &[i64] {
-        solve(self.levels.as_mut_slice(), rounds, bits, budget);
-        match self.levels.as_slice().first() {
-            Some(level) => level.solution.as_slice(),
-            None => &[],
-        }
+        self.levels.solve(rounds, bits, budget)
     }
 
     /// The room at each cell, in units of 2^-10: how far all heads go together when each cell's balance changes by its
@@ -131,7 +120,7 @@ impl Solver {
         bits: u32,
         budget: &mut Budget,
     ) -> Result<Vec<i64>, AllocError> {
-        self.set_right_to_slopes();
+        self.set_right_side_to_slopes();
         let mut room = Vec::new(alloc);
         for unknown in self.solve(rounds, bits, budget) {
             room.push((*unknown >> 10).max(0))?;

@@ -11,7 +11,8 @@ pub struct Scaled {
 /// Quotients are in units of 2^-20.
 const PLACES: i64 = 20;
 
-const GREATEST_QUOTIENT: i64 = 1_099_511_627_776;
+// No quotient is above 2^40, in those units.
+const GREATEST: i64 = 1_099_511_627_776;
 
 fn width_of_all(xs: &[i64]) -> u32 {
     let all = xs.iter().fold(0_u64, |all, x| all | x.unsigned_abs());
@@ -62,7 +63,7 @@ impl Scaled {
             .saturating_sub(raised as i64)
             .saturating_sub(divisor.exponent as i64)
             .saturating_sub(dropped as i64);
-        cut(shifted(quotient, places)).clamp(-1_099_511_627_776, 1_099_511_627_776)
+        cut(shifted(quotient, places)).clamp(-GREATEST, GREATEST)
     }
 }
 

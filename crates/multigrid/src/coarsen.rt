@@ -2,7 +2,7 @@
 // aggregate).
 use crate::aggregates::{ALONE, Aggregates, aggregate_of, merged, pairs};
 use crate::matrix::{Matrix, Row};
-use crate::numbers::put;
+use crate::numbers::{label, put};
 use std::alloc::{AllocError, Global};
 
 /// The next coarser level: the aggregate of each unknown, and the matrix over aggregates.
@@ -27,7 +27,7 @@ fn list_members(alloc: Global, aggregates: &Aggregates) -> Result<Members, Alloc
         let unknown = count - 1 - i;
         let aggregate = aggregate_of(aggregates.of.as_slice(), unknown) as usize;
         put(next.as_mut_slice(), unknown, aggregate_of(first.as_slice(), aggregate));
-        put(first.as_mut_slice(), aggregate, unknown as u32);
+        put(first.as_mut_slice(), aggregate, label(unknown));
     }
     Ok(Members { first, next })
 }

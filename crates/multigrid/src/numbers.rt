@@ -1,7 +1,7 @@
 // Reading, writing and cutting the numbers of a solver. Each call is total.
 
-/// No number that a solver keeps is longer, so that sums of products of weights and unknowns fit.
-pub const LONGEST: i64 = 1_152_921_504_606_846_976;
+// No unknown is longer than 2^60, so that sums of products of weights and unknowns fit.
+const LONGEST: i128 = 1_152_921_504_606_846_976;
 
 /// The number at an index, or 0 where there is none.
 pub fn at(xs: &[i64], index: usize) -> i64 {
@@ -20,9 +20,14 @@ pub fn put<T: Copy>(xs: &mut [T], index: usize, value: T) {
     }
 }
 
-/// The nearest number that a solver keeps.
+/// The index as a label, as levels and lists keep it.
+pub fn label(index: usize) -> u32 {
+    u32::try_from(index).unwrap_or(u32::MAX)
+}
+
+/// The nearest number from -2^60 to 2^60.
 pub fn cut(x: i128) -> i64 {
-    x.clamp(-1_152_921_504_606_846_976, 1_152_921_504_606_846_976) as i64
+    x.clamp(-LONGEST, LONGEST) as i64
 }
 
 /// The bits of a number's magnitude.
@@ -32,12 +37,12 @@ pub fn width(x: i128) -> u32 {
 
 /// A number times a power of two, rounded down; 0 where it is too long.
 pub fn shifted(x: i128, places: i64) -> i128 {
-    if places >= 0 {
-        let room = 126_i64.saturating_sub(width(x) as i64);
-        if places > room {
-            return 0;
-        }
-        return x.wrapping_shl(places.unsigned_abs() as u32);
+    let by = places.unsigned_abs().min(127) as u32;
+    if places < 0 {
+        x.wrapping_shr(by)
+    } else if by.saturating_add(width(x)) <= 126 {
+        x.wrapping_shl(by)
+    } else {
+        0
     }
-    x.wrapping_shr(places.unsigned_abs().min(127) as u32)
 }

@@ -1,5 +1,4 @@
-// One level of a multigrid solver.
-use crate::coarsen::coarser;
+// One level of a system.
 use crate::matrix::Matrix;
 use crate::scaled::Scaled;
 use std::alloc::{AllocError, Global};
@@ -21,7 +20,7 @@ pub struct Level {
 }
 
 impl Level {
-    fn new(alloc: Global, matrix: Matrix, aggregates: Vec<u32>) -> Result<Level, AllocError> {
+    pub fn new(alloc: Global, matrix: Matrix, aggregates: Vec<u32>) -> Result<Level, AllocError> {
         let count = matrix.len();
         Ok(Level {
             matrix,
@@ -34,22 +33,4 @@ impl Level {
             energy: Scaled::ZERO,
         })
     }
-}
-
-// Each level has at most half the unknowns of the one before.
-const MOST_LEVELS: u32 = 40;
-
-/// The levels over a matrix, the finest first.
-pub fn hierarchy(alloc: Global, matrix: Matrix) -> Result<Vec<Level>, AllocError> {
-    let mut levels = Vec::new(alloc);
-    let mut matrix = matrix;
-    for _ in 0..MOST_LEVELS {
-        let Some(next) = coarser(alloc, &matrix)? else {
-            break;
-        };
-        levels.push(Level::new(alloc, matrix, next.aggregates)?)?;
-        matrix = next.matrix;
-    }
-    levels.push(Level::new(alloc, matrix, Vec::new(alloc))?)?;
-    Ok(levels)
 }

@@ -1,7 +1,7 @@
 // Steps of flexible conjugate gradients on one level.
 use crate::level::Level;
 use crate::matrix::inflow;
-use crate::numbers::{at, cut};
+use crate::numbers::{at, cut, put};
 use crate::scaled::{inner_product, times};
 
 /// Begins at 0.
@@ -41,7 +41,7 @@ fn apply(level: &mut Level) {
         let row = level.matrix.row(i);
         let inflow = inflow(level.matrix.couplings(&row), level.direction.as_slice());
         let own = row.pivot.times(at(level.direction.as_slice(), i));
-        crate::numbers::put(level.image.as_mut_slice(), i, own.wrapping_sub(inflow));
+        put(level.image.as_mut_slice(), i, own.wrapping_sub(inflow));
     }
     level.energy = inner_product(level.direction.as_slice(), level.image.as_slice());
 }

@@ -28,19 +28,34 @@ fn correct(levels: &mut [Level], budget: &mut Budget) {
     smooth_down(level);
 }
 
+fn is_solved(levels: &[Level], bits: u32) -> bool {
+    match levels.first() {
+        Some(level) => is_small(level, bits),
+        None => true,
+    }
+}
+
+// One step on the finest level. Whether there was a way to go.
+fn step(levels: &mut [Level]) -> bool {
+    match levels.first_mut() {
+        Some(level) => advance(level),
+        None => false,
+    }
+}
+
 /// Solves the system of the finest of these levels for its residual, until that is below 2^bits of each pivot,
-/// but by so many rounds of conjugate gradients at most. The solution stands in the level.
+/// but by so many rounds of conjugate gradients at most, and within the budget. The solution stands in the level.
 #[cycle(multigrid)]
 pub fn solve(levels: &mut [Level], rounds: u32, bits: u32, budget: &mut Budget) {
     if let Some(level) = levels.first_mut() {
         begin(level);
     }
     for _ in 0..rounds {
-        if levels.first().is_none_or(|level| is_small(level, bits)) {
+        if is_solved(levels, bits) || budget.is_spent() {
             return;
         }
         correct(levels, budget);
-        if !levels.first_mut().is_some_and(advance) {
+        if !step(levels) {
             return;
         }
     }
