@@ -1,6 +1,6 @@
 // A unit pass: settled heads are lowered by a unit, and those that rise again stay.
-use multigrid::numbers::{at, label, long_at, put};
 use crate::one_side::OneSide;
+use multigrid::numbers::{at, label, long_at, put};
 use std::alloc::{AllocError, Global};
 use step_problem::Link;
 

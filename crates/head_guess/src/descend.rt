@@ -1,11 +1,12 @@
 // From settled heads down to the first settled ones.
-use multigrid::Budget;
 use crate::burn::unit_pass;
-use crate::gallop::{gallop, way_between};
-use multigrid::numbers::at;
+use crate::gallop::gallop;
 use crate::one_side::OneSide;
 use crate::slopes::slope_at;
 use crate::solver::Solver;
+use crate::ways::way_between;
+use multigrid::Budget;
+use multigrid::numbers::{at, greatest};
 use std::alloc::{AllocError, Global};
 
 const MOST_PASSES: u32 = 1_000_000;
@@ -53,7 +54,7 @@ fn shape(
     let slopes = slopes_where_fallen(alloc, side, before, heads)?;
     let mut solver = Solver::new(alloc, side, slopes, budget)?;
     let mut shape = solver.room(alloc, 12, 14, budget)?;
-    let most = shape.iter().fold(1_i64, |most, room| most.max(*room));
+    let most = greatest(shape.as_slice());
     for room in shape.iter_mut() {
         let units = (SHAPE_UNITS as i128 * *room as i128).checked_div(most as i128);
         *room = i64::try_from(units.unwrap_or(0)).unwrap_or(0);

@@ -1,32 +1,10 @@
 // Lowering settled heads along a way, in longer and longer steps.
-use multigrid::Budget;
-use multigrid::numbers::at;
 use crate::one_side::OneSide;
 use crate::raise::raise_within;
+use crate::ways::{Fall, double, fall_between, halve, way_between};
+use multigrid::Budget;
+use multigrid::numbers::at;
 use std::alloc::{AllocError, Global};
-
-// By how much heads fell: in all, at most, and in how many cells.
-#[derive(Clone, Copy)]
-struct Fall {
-    sum: i128,
-    most: i64,
-    cells: u64,
-}
-
-fn fall_between(from: &[i64], to: &[i64]) -> Fall {
-    let mut fall = Fall {
-        sum: 0,
-        most: 0,
-        cells: 0,
-    };
-    for (from, to) in from.iter().zip(to) {
-        let units = from.saturating_sub(*to);
-        fall.sum = fall.sum.saturating_add(units as i128);
-        fall.most = fall.most.max(units);
-        fall.cells = fall.cells.saturating_add((units > 0) as u64);
-    }
-    fall
-}
 
 fn lowered(
     alloc: Global,
@@ -42,30 +20,47 @@ fn lowered(
     Ok(lower)
 }
 
-/// What heads fell from some to others, cell by cell.
-pub fn way_between(alloc: Global, from: &[i64], to: &[i64]) -> Result<Vec<i64>, AllocError> {
-    let mut way = Vec::with_capacity(alloc, from.len())?;
-    for (from, to) in from.iter().zip(to) {
-        way.push(from.saturating_sub(*to))?;
-    }
-    Ok(way)
+// How far a gallop has come.
+#[derive(Drop)]
+struct Gallop {
+    // The next step.
+    way: Vec<i64>,
+    gained: i64,
+    turns: u64,
+    is_last: bool,
 }
 
-fn double(way: &mut [i64]) {
-    for units in way.iter_mut() {
-        *units = units.saturating_mul(2);
+impl Gallop {
+    // Heads settled lower: the next step is twice as long as what was kept. Whether there is one: where half was kept.
+    fn go_on(
+        &mut self,
+        alloc: Global,
+        heads: &[i64],
+        lower: &[i64],
+        wanted: Fall,
+    ) -> Result<bool, AllocError> {
+        let kept = fall_between(heads, lower);
+        self.way = way_between(alloc, heads, lower)?;
+        double(self.way.as_mut_slice());
+        self.gained = self.gained.saturating_add(kept.most);
+        Ok(!self.is_last && kept.sum.saturating_mul(2) >= wanted.sum)
     }
-}
 
-fn halve(way: &mut [i64]) {
-    for units in way.iter_mut() {
-        *units /= 2;
+    // Heads did not settle: the next step is half as long, and the last one. Whether there is one.
+    fn fall_short(&mut self) -> bool {
+        if self.is_last || self.gained == 0 {
+            return false;
+        }
+        self.is_last = true;
+        halve(self.way.as_mut_slice());
+        true
     }
 }
 
 // Each step that is followed by another one keeps half of its way at least.
 const MOST_STEPS: u32 = 64;
 
+// Turns that a step may take at each cell that it moves.
 const TURNS: u64 = 20;
 
 /// Lowers settled heads along a way, and then by twice what was kept of the last step, as long as they settle
@@ -77,38 +72,32 @@ pub fn gallop(
     way: Vec<i64>,
     budget: &mut Budget,
 ) -> Result<i64, AllocError> {
-    let mut way = way;
-    let mut gained = 0_i64;
-    let mut spent = 0_u64;
-    let mut is_last = false;
+    let mut run = Gallop {
+        way,
+        gained: 0,
+        turns: 0,
+        is_last: false,
+    };
     for _ in 0..MOST_STEPS {
-        let mut lower = lowered(alloc, side, heads.as_slice(), way.as_slice())?;
+        let mut lower = lowered(alloc, side, heads.as_slice(), run.way.as_slice())?;
         let wanted = fall_between(heads.as_slice(), lower.as_slice());
         if wanted.cells == 0 {
             break;
         }
-        let turns = wanted.cells.saturating_mul(TURNS).max(spent / 2);
-        let mut part = budget.split(turns);
-        let given = part.left();
-        let settled = raise_within(alloc, side, lower.as_mut_slice(), heads.as_slice(), &mut part)?;
-        spent = spent.saturating_add(given.saturating_sub(part.left()));
-        budget.join(part);
-        if settled {
-            let kept = fall_between(heads.as_slice(), lower.as_slice());
-            way = way_between(alloc, heads.as_slice(), lower.as_slice())?;
-            double(way.as_mut_slice());
+        let turns = wanted.cells.saturating_mul(TURNS).max(run.turns / 2);
+        let caps = heads.as_slice();
+        let raised = raise_within(alloc, side, lower.as_mut_slice(), caps, turns, budget)?;
+        run.turns = run.turns.saturating_add(raised.turns);
+        let goes_on = if raised.settled {
+            let goes_on = run.go_on(alloc, heads.as_slice(), lower.as_slice(), wanted)?;
             *heads = lower;
-            gained = gained.saturating_add(kept.most);
-            if is_last || kept.sum.saturating_mul(2) < wanted.sum {
-                break;
-            }
+            goes_on
         } else {
-            if is_last || gained == 0 {
-                break;
-            }
-            is_last = true;
-            halve(way.as_mut_slice());
+            run.fall_short()
+        };
+        if !goes_on {
+            break;
         }
     }
-    Ok(gained)
+    Ok(run.gained)
 }

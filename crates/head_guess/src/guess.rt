@@ -2,12 +2,12 @@
 ghost use Rattle.std.specs.Prelude.{IfOk};
 ghost use Rattle.cell_relax.specs.Words.{AreWords};
 
-use multigrid::Budget;
 use crate::descend::descend;
 use crate::newton::{Balanced, find_balanced};
-use multigrid::numbers::at;
 use crate::one_side::{OneSide, turned};
 use crate::search::{FIRST_SHARE, settled_below};
+use multigrid::Budget;
+use multigrid::numbers::{at, greatest};
 use std::alloc::{AllocError, Global};
 use step_problem::{Barrier, Bound, FixedKind, Problem, Side};
 
@@ -28,7 +28,7 @@ const VISITS_OF_DESCENT: u64 = 2_000;
 const MOST_VISITS: u64 = 65_536;
 
 fn descent_budget(balanced: &Balanced, cells: usize) -> Budget {
-    let room = balanced.room.iter().fold(0_i64, |most, room| most.max(*room));
+    let room = greatest(balanced.room.as_slice());
     let visits = (room.unsigned_abs() >> 10).max(VISITS_OF_DESCENT);
     Budget::new(visits.min(MOST_VISITS), cells)
 }

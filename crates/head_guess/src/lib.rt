@@ -12,5 +12,6 @@ mod raise;
 mod search;
 mod slopes;
 mod solver;
+mod ways;
 
 pub use guess::{Guess, guess_heads};

@@ -1,9 +1,9 @@
 // Newton's method for heads at which each cell's balance is 0.
-use multigrid::Budget;
-use multigrid::numbers::{at, put, shifted, width};
 use crate::one_side::OneSide;
 use crate::slopes::{slope_at, slope_between};
 use crate::solver::Solver;
+use multigrid::Budget;
+use multigrid::numbers::{at, put, shifted, width};
 use std::alloc::{AllocError, Global};
 
 /// Heads near those at which each balance is 0, and the room at each cell there, in units of 2^-10.

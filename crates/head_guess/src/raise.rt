@@ -1,8 +1,8 @@
 // Raising heads until nothing moves.
-use multigrid::Budget;
 use crate::marks::{CELLS, Marks};
-use multigrid::numbers::{at, put};
 use crate::one_side::OneSide;
+use multigrid::Budget;
+use multigrid::numbers::{at, put};
 use std::alloc::{AllocError, Global};
 
 // Raises a cell, at most to its cap, and marks its neighbours that can still rise. Whether it moved.
@@ -83,23 +83,49 @@ fn marks_below(alloc: Global, heads: &[i64], caps: &[i64]) -> Result<Marks, Allo
 
 const MOST_SWEEPS: u32 = 1_000_000;
 
-/// Raises heads, none above its cap, by sweeps up and down over the cells beside a change. Whether nothing moves any
-/// more; false where the budget ended before.
-pub fn raise_within(
-    alloc: Global,
+// Raises heads until nothing moves any more, or the budget ends. Whether nothing moves.
+fn raise(
     side: &OneSide,
     heads: &mut [i64],
     caps: &[i64],
+    marks: &mut Marks,
     budget: &mut Budget,
-) -> Result<bool, AllocError> {
-    let mut marks = marks_below(alloc, heads, caps)?;
+) -> bool {
     for round in 0..MOST_SWEEPS {
-        if !sweep(side, heads, caps, round % 2 == 1, &mut marks, budget) {
-            return Ok(true);
+        if !sweep(side, heads, caps, round % 2 == 1, marks, budget) {
+            return true;
         }
         if budget.is_spent() {
             break;
         }
     }
-    Ok(false)
+    false
+}
+
+/// Whether heads settled, and the turns that it took.
+#[derive(Clone, Copy)]
+pub struct Raised {
+    pub settled: bool,
+    pub turns: u64,
+}
+
+/// Raises heads, none above its cap, by sweeps up and down over the cells beside a change, until nothing moves or so
+/// many turns are made.
+pub fn raise_within(
+    alloc: Global,
+    side: &OneSide,
+    heads: &mut [i64],
+    caps: &[i64],
+    turns: u64,
+    budget: &mut Budget,
+) -> Result<Raised, AllocError> {
+    let mut marks = marks_below(alloc, heads, caps)?;
+    let mut part = budget.split(turns);
+    let given = part.left();
+    let settled = raise(side, heads, caps, &mut marks, &mut part);
+    budget.join(part);
+    Ok(Raised {
+        settled,
+        turns: given.saturating_sub(part.left()),
+    })
 }

@@ -1,9 +1,9 @@
 // A search for settled heads below balanced ones.
-use multigrid::Budget;
 use crate::newton::Balanced;
-use multigrid::numbers::at;
 use crate::one_side::OneSide;
 use crate::raise::raise_within;
+use multigrid::Budget;
+use multigrid::numbers::{at, greatest};
 use std::alloc::{AllocError, Global};
 use step_problem::problem::HEAD_LIMIT;
 
@@ -24,7 +24,7 @@ const MOST_TRIALS: u32 = 60;
 const TURNS: u64 = 20;
 
 // The search ends where a step of the share moves no head by more than so many units.
-const NEAR: i64 = 64;
+const NEAR: i128 = 64;
 
 fn heads_below(
     alloc: Global,
@@ -43,34 +43,67 @@ fn heads_below(
 }
 
 // The shares between which the search goes on: a settled one, or the least, and one that did not settle, or 1.
-#[derive(Clone, Copy)]
-struct Bracket {
+#[derive(Drop)]
+struct Search {
     low: i64,
     high: i64,
     trials: u32,
+    found: Option<Settled>,
 }
 
-impl Bracket {
-    // The units by which heads differ between the two shares, where the greatest room is this.
-    fn units(&self, room: i64) -> i64 {
-        let width = self.high.saturating_sub(self.low) as i128;
-        i64::try_from(width.wrapping_mul(room as i128).wrapping_shr(30)).unwrap_or(i64::MAX)
+impl Search {
+    fn new() -> Search {
+        Search {
+            low: -262_144,
+            high: 1_048_576,
+            trials: 0,
+            found: None,
+        }
+    }
+
+    // One more trial, from so great a share.
+    fn try_share(
+        &mut self,
+        alloc: Global,
+        side: &OneSide,
+        balanced: &Balanced,
+        share: i64,
+        budget: &mut Budget,
+    ) -> Result<(), AllocError> {
+        let caps = vec![in alloc; HEAD_LIMIT; side.len()]?;
+        let turns = TURNS.saturating_mul(side.len() as u64);
+        let mut heads = heads_below(alloc, side, balanced, share)?;
+        let raised =
+            raise_within(alloc, side, heads.as_mut_slice(), caps.as_slice(), turns, budget)?;
+        self.trials = self.trials.saturating_add(1);
+        if raised.settled {
+            self.low = share;
+            self.found = Some(Settled { heads, share });
+        } else {
+            self.high = share;
+        }
+        Ok(())
     }
 
     // The next share: near the first one, in longer and longer steps down while nothing settles; then the middle.
-    fn next(&self, found: bool) -> i64 {
-        if self.trials == 1 && found {
+    fn next_share(&self) -> i64 {
+        if self.trials == 1 && self.found.is_some() {
             return self.low.saturating_add(16_384);
         }
-        if self.trials <= 3 && !found {
-            return self.high.saturating_sub(4_096_i64.wrapping_shl(self.trials.saturating_mul(2)));
+        if self.trials <= 3 && self.found.is_none() {
+            let step = 4_096_i64.wrapping_shl(self.trials.saturating_mul(2));
+            return self.high.saturating_sub(step);
         }
-        self.low.saturating_add(self.high.saturating_sub(self.low) / 2)
+        let width = self.high.saturating_sub(self.low);
+        self.low.saturating_add(width / 2)
     }
 
-    fn is_done(&self, found: bool, room: i64) -> bool {
-        let near = self.units(room) <= NEAR && (found || self.trials > 9);
-        near || self.high.saturating_sub(self.low) <= 1
+    // Whether the heads at both shares are near one another, where the greatest room is this.
+    fn is_done(&self, room: i64) -> bool {
+        let width = self.high.saturating_sub(self.low);
+        let units = (width as i128 * room as i128).wrapping_shr(30);
+        let near = units <= NEAR && (self.found.is_some() || self.trials > 9);
+        near || width <= 1
     }
 }
 
@@ -82,31 +115,15 @@ pub fn settled_below(
     first: i64,
     budget: &mut Budget,
 ) -> Result<Option<Settled>, AllocError> {
-    let caps = vec![in alloc; HEAD_LIMIT; side.len()]?;
-    let room = balanced.room.iter().fold(1_i64, |most, room| most.max(*room));
-    let mut bracket = Bracket {
-        low: -262_144,
-        high: 1_048_576,
-        trials: 0,
-    };
+    let room = greatest(balanced.room.as_slice());
+    let mut search = Search::new();
     let mut share = first;
-    let mut found = None;
-    for trial in 0..MOST_TRIALS {
-        let mut heads = heads_below(alloc, side, balanced, share)?;
-        let mut part = budget.split(TURNS.saturating_mul(side.len() as u64));
-        let settled = raise_within(alloc, side, heads.as_mut_slice(), caps.as_slice(), &mut part)?;
-        budget.join(part);
-        bracket.trials = trial.saturating_add(1);
-        if settled {
-            bracket.low = share;
-            found = Some(Settled { heads, share });
-        } else {
-            bracket.high = share;
-        }
-        if bracket.is_done(found.is_some(), room) || budget.is_spent() {
+    for _ in 0..MOST_TRIALS {
+        search.try_share(alloc, side, balanced, share, budget)?;
+        if search.is_done(room) || budget.is_spent() {
             break;
         }
-        share = bracket.next(found.is_some());
+        share = search.next_share();
     }
-    Ok(found)
+    Ok(search.found)
 }

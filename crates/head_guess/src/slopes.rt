@@ -1,6 +1,6 @@
 // Slopes of a cell's balance in its own head.
-use multigrid::numbers::{at, cut};
 use crate::one_side::OneSide;
+use multigrid::numbers::{at, cut};
 
 /// The greater slope of a balance, to either side of the cell's head.
 pub fn slope_at(side: &OneSide, cell: usize, balance: i128, heads: &[i64]) -> i64 {

@@ -1,7 +1,7 @@
 // The linear system of a problem: links between cells, and on the diagonal the slopes of the cells' balances.
-use multigrid::{Budget, Levels, Matrix};
-use multigrid::numbers::{at, cut, shifted};
 use crate::one_side::OneSide;
+use multigrid::numbers::{at, cut, shifted};
+use multigrid::{Budget, Levels, Matrix};
 use std::alloc::{AllocError, Global};
 use step_problem::Link;
 

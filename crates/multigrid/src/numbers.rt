@@ -46,3 +46,8 @@ pub fn shifted(x: i128, places: i64) -> i128 {
         0
     }
 }
+
+/// The greatest of these numbers, but 1 at least.
+pub fn greatest(xs: &[i64]) -> i64 {
+    xs.iter().fold(1, |most, x| most.max(*x))
+}
