@@ -64,7 +64,12 @@ impl Fire {
     }
 
     // A cell has risen again: its neighbours gain, and some rise.
-    fn spread_from(&mut self, side: &OneSide, heads: &[i64], cell: usize) -> Result<(), AllocError> {
+    fn spread_from(
+        &mut self,
+        side: &OneSide,
+        heads: &[i64],
+        cell: usize,
+    ) -> Result<(), AllocError> {
         for link in side.links(cell) {
             let other = link.cell as usize;
             if self.is_burnt(other) {
@@ -105,11 +110,7 @@ impl Fire {
 }
 
 /// One unit pass over settled heads, which stay settled.
-pub fn unit_pass(
-    alloc: Global,
-    side: &OneSide,
-    heads: &mut [i64],
-) -> Result<UnitPass, AllocError> {
+pub fn unit_pass(alloc: Global, side: &OneSide, heads: &mut [i64]) -> Result<UnitPass, AllocError> {
     let mut fire = Fire::lit(alloc, side, heads)?;
     fire.spread(side, heads)?;
     let lowered = fire.lower(heads);

@@ -24,6 +24,9 @@ const GAIN: i64 = 64;
 // The units at most of the first step along a shape.
 const SHAPE_UNITS: i64 = 16;
 
+// Rounds of conjugate gradients for a shape.
+const ROUNDS: u32 = 12;
+
 // The slopes of the cells that have fallen; 0, so that they are held, for the others.
 fn slopes_where_fallen(
     alloc: Global,
@@ -44,7 +47,7 @@ fn slopes_where_fallen(
 }
 
 // The shape in which the cells that fell last would fall together.
-fn shape(
+fn find_shape(
     alloc: Global,
     side: &OneSide,
     before: &[i64],
@@ -53,13 +56,28 @@ fn shape(
 ) -> Result<Vec<i64>, AllocError> {
     let slopes = slopes_where_fallen(alloc, side, before, heads)?;
     let mut solver = Solver::new(alloc, side, slopes, budget)?;
-    let mut shape = solver.room(alloc, 12, 14, budget)?;
+    let mut shape = solver.room(alloc, ROUNDS, 14, budget)?;
     let most = greatest(shape.as_slice());
     for room in shape.iter_mut() {
         let units = (SHAPE_UNITS as i128 * *room as i128).checked_div(most as i128);
         *room = i64::try_from(units.unwrap_or(0)).unwrap_or(0);
     }
     Ok(shape)
+}
+
+// Goes on along the way that the passes since `from` went, and along the shape in which the cells of the last one fall.
+fn gallop_on(
+    alloc: Global,
+    side: &OneSide,
+    from: &[i64],
+    before: &[i64],
+    heads: &mut Vec<i64>,
+    budget: &mut Budget,
+) -> Result<i64, AllocError> {
+    let way = way_between(alloc, from, heads.as_slice())?;
+    let gained = gallop(alloc, side, heads, way, budget)?;
+    let shape = find_shape(alloc, side, before, heads.as_slice(), budget)?;
+    Ok(gained.max(gallop(alloc, side, heads, shape, budget)?))
 }
 
 /// Lowers settled heads by unit passes, and by gallops along the way that the last ones went, until a pass moves
@@ -83,10 +101,14 @@ pub fn descend(
         since = since.saturating_add(1);
         if since >= wait {
             since = 0;
-            let way = way_between(alloc, from.as_slice(), heads.as_slice())?;
-            let gained = gallop(alloc, side, heads, way, budget)?;
-            let shape = shape(alloc, side, before.as_slice(), heads.as_slice(), budget)?;
-            let gained = gained.max(gallop(alloc, side, heads, shape, budget)?);
+            let gained = gallop_on(
+                alloc,
+                side,
+                from.as_slice(),
+                before.as_slice(),
+                heads,
+                budget,
+            )?;
             wait = if gained >= GAIN {
                 SHORT_WAIT
             } else {

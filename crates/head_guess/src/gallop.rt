@@ -22,7 +22,7 @@ fn lowered(
 
 // How far a gallop has come.
 #[derive(Drop)]
-struct Gallop {
+struct Progress {
     // The next step.
     way: Vec<i64>,
     gained: i64,
@@ -30,7 +30,7 @@ struct Gallop {
     is_last: bool,
 }
 
-impl Gallop {
+impl Progress {
     // Heads settled lower: the next step is twice as long as what was kept. Whether there is one: where half was kept.
     fn go_on(
         &mut self,
@@ -72,7 +72,7 @@ pub fn gallop(
     way: Vec<i64>,
     budget: &mut Budget,
 ) -> Result<i64, AllocError> {
-    let mut run = Gallop {
+    let mut run = Progress {
         way,
         gained: 0,
         turns: 0,

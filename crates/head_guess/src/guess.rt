@@ -21,7 +21,7 @@ pub struct Guess {
 
 // Visits at each cell for balanced heads, and for the search and the descent; the latter get more where the room is
 // wide, since there plain sweeps take about ten times as many.
-const VISITS_OF_NEWTON: u64 = 8_000;
+const VISITS_OF_NEWTON: u64 = 12_000;
 
 const VISITS_OF_DESCENT: u64 = 2_000;
 
@@ -100,11 +100,17 @@ fn all_turned(alloc: Global, side: Side, heads: &[i64]) -> Result<Vec<i64>, Allo
     Ok(turned_heads)
 }
 
-fn bounds_of(alloc: Global, p: &Problem, low: &[i64], high: &[i64]) -> Result<Vec<Bound>, AllocError>
+fn bounds_of(
+    alloc: Global,
+    p: &Problem,
+    low: &[i64],
+    high: &[i64],
+) -> Result<Vec<Bound>, AllocError>
     ensures { IfOk result (λ v. AreWords p.now v.items) }
 {
-    let mut bounds = Vec::with_capacity(alloc, p.len())?;
-    for cell in 0..p.len() {
+    let cells = p.len();
+    let mut bounds = Vec::with_capacity(alloc, cells)?;
+    for cell in 0..cells {
         bounds.push(Bound {
             low: turned(Side::Low, at(low, cell)),
             high: turned(Side::High, at(high, cell)),

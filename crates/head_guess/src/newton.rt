@@ -38,8 +38,8 @@ impl Newton {
         })
     }
 
-    // The slope that the next round takes at a cell. Over a bend it is the greater of those at the head and from the head
-    // before, and it is given up by halves, so that heads do not swing about the bend.
+    // The slope that the next round takes at a cell. Over a bend it is the greater of those at the head and from the
+    // head before, and it is given up by halves, so that heads do not swing about the bend.
     fn slope(&self, side: &OneSide, cell: usize, balance: i128) -> i64 {
         let heads = self.heads.as_slice();
         let here = slope_at(side, cell, balance, heads);

@@ -15,6 +15,9 @@ pub struct Settled {
     pub share: i64,
 }
 
+// The whole room.
+const WHOLE: i64 = 1_048_576;
+
 /// The share to try first: rounding takes away about two thirds of a cell's slope.
 pub const FIRST_SHARE: i64 = 686_080;
 
@@ -42,7 +45,7 @@ fn heads_below(
     Ok(heads)
 }
 
-// The shares between which the search goes on: a settled one, or the least, and one that did not settle, or 1.
+// The shares between which the search goes on: one that settled, or the least, and one that did not, or the whole.
 #[derive(Drop)]
 struct Search {
     low: i64,
@@ -54,8 +57,8 @@ struct Search {
 impl Search {
     fn new() -> Search {
         Search {
-            low: -262_144,
-            high: 1_048_576,
+            low: -WHOLE / 4,
+            high: WHOLE,
             trials: 0,
             found: None,
         }
@@ -73,8 +76,14 @@ impl Search {
         let caps = vec![in alloc; HEAD_LIMIT; side.len()]?;
         let turns = TURNS.saturating_mul(side.len() as u64);
         let mut heads = heads_below(alloc, side, balanced, share)?;
-        let raised =
-            raise_within(alloc, side, heads.as_mut_slice(), caps.as_slice(), turns, budget)?;
+        let raised = raise_within(
+            alloc,
+            side,
+            heads.as_mut_slice(),
+            caps.as_slice(),
+            turns,
+            budget,
+        )?;
         self.trials = self.trials.saturating_add(1);
         if raised.settled {
             self.low = share;
@@ -88,10 +97,10 @@ impl Search {
     // The next share: near the first one, in longer and longer steps down while nothing settles; then the middle.
     fn next_share(&self) -> i64 {
         if self.trials == 1 && self.found.is_some() {
-            return self.low.saturating_add(16_384);
+            return self.low.saturating_add(WHOLE / 64);
         }
         if self.trials <= 3 && self.found.is_none() {
-            let step = 4_096_i64.wrapping_shl(self.trials.saturating_mul(2));
+            let step = (WHOLE / 256).wrapping_shl(self.trials.saturating_mul(2));
             return self.high.saturating_sub(step);
         }
         let width = self.high.saturating_sub(self.low);

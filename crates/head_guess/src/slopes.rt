@@ -13,7 +13,13 @@ pub fn slope_at(side: &OneSide, cell: usize, balance: i128, heads: &[i64]) -> i6
 }
 
 /// The slope of a balance between the cell's head and its head one round before.
-pub fn slope_between(side: &OneSide, cell: usize, balance: i128, heads: &[i64], before: i64) -> i64 {
+pub fn slope_between(
+    side: &OneSide,
+    cell: usize,
+    balance: i128,
+    heads: &[i64],
+    before: i64,
+) -> i64 {
     let way = (before as i128).wrapping_sub(at(heads, cell) as i128);
     let fall = balance.saturating_sub(side.balance(cell, before, heads));
     cut(fall.checked_div(way).unwrap_or(0)).max(0)

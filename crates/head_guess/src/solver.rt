@@ -17,6 +17,7 @@ pub struct Solver {
     scale: u32,
 }
 
+// The bits of the sum of all slopes beyond 61.
 fn scale_of(slopes: &[i64]) -> u32 {
     let mut sum = 0_u128;
     for slope in slopes {
@@ -85,10 +86,8 @@ impl Solver {
 
     /// Whether these slopes are its own, but for the units between lower and upper conductances.
     pub fn serves(&self, slopes: &[i64]) -> bool {
-        self.slopes
-            .iter()
-            .zip(slopes)
-            .all(|(own, slope)| own.abs_diff(*slope) <= 16_u64.saturating_add(slope.unsigned_abs() >> 20))
+        self.slopes.iter().zip(slopes).all(|(own, slope)| own.abs_diff(*slope)
+            <= 16_u64.saturating_add(slope.unsigned_abs() >> 20))
     }
 
     /// Sets the right side, numbers of the problem's unit times 2^places.
@@ -101,7 +100,12 @@ impl Solver {
 
     fn set_right_side_to_slopes(&mut self) {
         let scale = self.scale;
-        for (right, slope) in self.levels.right_side().iter_mut().zip(self.slopes.as_slice()) {
+        for (right, slope) in self
+            .levels
+            .right_side()
+            .iter_mut()
+            .zip(self.slopes.as_slice())
+        {
             *right = (*slope as i128).wrapping_shl(20).wrapping_shr(scale);
         }
     }

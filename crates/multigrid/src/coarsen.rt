@@ -26,7 +26,11 @@ fn list_members(alloc: Global, aggregates: &Aggregates) -> Result<Members, Alloc
     for i in 0..count {
         let unknown = count - 1 - i;
         let aggregate = aggregate_of(aggregates.of.as_slice(), unknown) as usize;
-        put(next.as_mut_slice(), unknown, aggregate_of(first.as_slice(), aggregate));
+        put(
+            next.as_mut_slice(),
+            unknown,
+            aggregate_of(first.as_slice(), aggregate),
+        );
         put(first.as_mut_slice(), aggregate, label(unknown));
     }
     Ok(Members { first, next })

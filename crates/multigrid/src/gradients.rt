@@ -25,11 +25,7 @@ pub fn is_small(level: &Level, bits: u32) -> bool {
 fn turn(level: &mut Level) {
     let along = inner_product(level.correction.as_slice(), level.image.as_slice());
     let factor = along.over(level.energy);
-    for (direction, correction) in level
-        .direction
-        .iter_mut()
-        .zip(level.correction.as_slice())
-    {
+    for (direction, correction) in level.direction.iter_mut().zip(level.correction.as_slice()) {
         let last = times(factor, *direction as i128);
         *direction = cut((*correction as i128).wrapping_sub(last));
     }
@@ -67,7 +63,15 @@ pub fn advance(level: &mut Level) -> bool {
     }
     let along = inner_product(level.direction.as_slice(), level.residual.as_slice());
     let factor = along.over(level.energy);
-    advance_solution(level.solution.as_mut_slice(), level.direction.as_slice(), factor);
-    advance_residual(level.residual.as_mut_slice(), level.image.as_slice(), factor);
+    advance_solution(
+        level.solution.as_mut_slice(),
+        level.direction.as_slice(),
+        factor,
+    );
+    advance_residual(
+        level.residual.as_mut_slice(),
+        level.image.as_slice(),
+        factor,
+    );
     true
 }

@@ -116,7 +116,10 @@ impl Matrix {
 
     /// The couplings of a row.
     pub fn couplings(&self, row: &Row) -> &[Coupling] {
-        self.couplings.as_slice().get(row.first..row.end).unwrap_or(&[])
+        self.couplings
+            .as_slice()
+            .get(row.first..row.end)
+            .unwrap_or(&[])
     }
 
     /// The row of an unknown; one without couplings where there is none.

@@ -57,7 +57,11 @@ impl Scaled {
             return 0;
         }
         let raised = 120_u32.saturating_sub(width(self.number));
-        let quotient = self.number.wrapping_shl(raised).checked_div(by).unwrap_or(0);
+        let quotient = self
+            .number
+            .wrapping_shl(raised)
+            .checked_div(by)
+            .unwrap_or(0);
         let places = PLACES
             .saturating_add(self.exponent as i64)
             .saturating_sub(raised as i64)

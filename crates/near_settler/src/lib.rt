@@ -8,7 +8,7 @@ ghost use Rattle.settle_driver.specs.Phases.{IsPlan};
 
 use head_guess::guess_heads;
 use outside::Gate;
-use settle_driver::{ListedSettler, Plan, SettleBy, settle, settle_near};
+use settle_driver::{ListedSettler, Plan, SettleBy, ThreadSettler, settle_near};
 use std::alloc::{AllocError, Global};
 use std::thread::Threads;
 use step_problem::{Barrier, Bound, Problem, SettleFault};
@@ -64,7 +64,7 @@ impl<'a, R: Threads + Sync, G: Gate + Sync> NearSettler<'a, R, G> {
             rounds,
             ..self.plan
         };
-        settle(self.rt, alloc, p, b, plan, self.gate)
+        ThreadSettler::new(self.rt, plan, self.gate).settle(alloc, p, b)
     }
 
     // From a guess by trials on one thread, and by plain phases where these fail.
@@ -82,13 +82,14 @@ impl<'a, R: Threads + Sync, G: Gate + Sync> NearSettler<'a, R, G> {
             Err(AllocError) => return Err(SettleFault::Memory),
         };
         let mut trial = ListedSettler::new(guess.order, SWEEPS);
-        let settler = self;
+        let threads = ThreadSettler::new(self.rt, self.plan, self.gate);
+        let threads = &threads;
         let mut plain = SettleBy::new(
             self.plan.rounds,
             |alloc: Global, p: &Problem, b: &Barrier| -> Result<Vec<Bound>, SettleFault>
                 requires { IsBarrier p.now b.now }
-                ensures { Settles p.entry.now b.entry.now settler.entry.now.plan.rounds result }
-            { settler.settle_plainly(alloc, p, b, settler.plan.rounds) },
+                ensures { Settles p.entry.now b.entry.now threads.entry.now.plan.rounds result }
+            { threads.settle(alloc, p, b) },
         );
         settle_near(&mut trial, &mut plain, alloc, p, b, guess.bounds, TRIALS)
     }
