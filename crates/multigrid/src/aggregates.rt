@@ -44,27 +44,32 @@ fn find_strongest(couplings: &[Coupling], of: &[u32]) -> Strongest {
     Strongest { free, any }
 }
 
-// Puts an unknown, and maybe its neighbour, into an aggregate: a new one with the strongest free neighbour, if
-// that is at least a quarter as strong as the strongest one, else the strongest neighbour's. One without
-// couplings gets its own where `lone` says so. Answers the number of aggregates.
+// Puts an unknown into a new aggregate, and answers the number of aggregates.
+fn found(of: &mut [u32], unknown: usize, count: u32) -> u32 {
+    put(of, unknown, count);
+    count.saturating_add(1)
+}
+
+// Puts an unknown into an aggregate: a new one with its strongest free neighbour, if that is at least a quarter as
+// strong as the strongest one, else the strongest neighbour's. One without couplings founds its own where `lone` says
+// so. Answers the number of aggregates.
 fn join(of: &mut [u32], unknown: usize, strongest: Strongest, count: u32, lone: bool) -> u32 {
-    match (strongest.free, strongest.any) {
-        (Some(free), Some(any)) if free.weight >= any.weight / 4 => {
-            put(of, unknown, count);
-            put(of, free.other as usize, count);
-            count.saturating_add(1)
-        }
-        (_, Some(any)) => {
-            let joined = aggregate_of(of, any.other as usize);
-            put(of, unknown, joined);
+    let Some(any) = strongest.any else {
+        return if lone {
+            found(of, unknown, count)
+        } else {
             count
-        }
-        _ if lone => {
-            put(of, unknown, count);
-            count.saturating_add(1)
-        }
-        _ => count,
+        };
+    };
+    if let Some(free) = strongest.free
+        && free.weight >= any.weight / 4
+    {
+        put(of, free.other as usize, count);
+        return found(of, unknown, count);
     }
+    let joined = aggregate_of(of, any.other as usize);
+    put(of, unknown, joined);
+    count
 }
 
 /// Aggregates of mostly two unknowns. One without couplings is in none, or in its own where `lone` says so.
