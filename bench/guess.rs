@@ -34,7 +34,7 @@ struct Case {
     plain: bool,
 }
 
-const fn case(name: &'static str, kind: Kind, side: u32, plain: bool) -> Case {
+const fn steady(name: &'static str, kind: Kind, side: u32, plain: bool) -> Case {
     let model = Model {
         kind,
         side,
@@ -60,15 +60,15 @@ fn cases() -> [Case; 10] {
         plain: true,
     };
     [
-        case("sheet 32", Kind::Sheet, 32, true),
-        case("sheet 64", Kind::Sheet, 64, true),
-        case("sheet 128", Kind::Sheet, 128, false),
-        case("sheet 256", Kind::Sheet, 256, false),
-        case("heterogeneous 32", Kind::Heterogeneous, 32, false),
-        case("heterogeneous 64", Kind::Heterogeneous, 64, false),
-        case("three layers 32", Kind::Layers, 32, true),
-        case("river valley 64", Kind::RiverValley, 64, true),
-        case("river valley 128", Kind::RiverValley, 128, false),
+        steady("sheet 32", Kind::Sheet, 32, true),
+        steady("sheet 64", Kind::Sheet, 64, true),
+        steady("sheet 128", Kind::Sheet, 128, false),
+        steady("sheet 256", Kind::Sheet, 256, false),
+        steady("heterogeneous 32", Kind::Heterogeneous, 32, false),
+        steady("heterogeneous 64", Kind::Heterogeneous, 64, false),
+        steady("three layers 32", Kind::Layers, 32, true),
+        steady("river valley 64", Kind::RiverValley, 64, true),
+        steady("river valley 128", Kind::RiverValley, 128, false),
         steps,
     ]
 }

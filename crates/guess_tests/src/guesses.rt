@@ -1,10 +1,9 @@
 // Guessed heads.
 use head_guess::guess_heads;
-use settle_driver::{ListedSettler, PlainSettler, settle_near};
 use std::process::Abort;
 use std::test::Fail;
 use step_problem::Bound;
-use step_samples::{TEN, problem_between, row_of, two_between};
+use step_samples::{TEN, problem_between, two_between};
 
 #[test]
 fn two_cells_are_guessed_as_they_settle(rt: HostRuntime) -> Result<(), Fail> {
@@ -23,18 +22,5 @@ fn two_cells_are_guessed_as_they_settle(rt: HostRuntime) -> Result<(), Fail> {
         },
     ];
     assert_eq!(rt; guess.bounds.as_slice(), expected.as_slice());
-    Ok(())
-}
-
-#[test]
-fn one_trial_certifies_the_guess_of_a_row(rt: HostRuntime) -> Result<(), Fail> {
-    let Some((p, b)) = problem_between(rt.alloc(), row_of(rt.alloc(), 100)?, 0, TEN)? else {
-        return Err("not a problem")?;
-    };
-    let guess = guess_heads(rt.alloc(), &p, &b)?;
-    let mut trial = ListedSettler::new(guess.order, 1);
-    let mut never = PlainSettler::new(0);
-    let answer = settle_near(&mut trial, &mut never, rt.alloc(), &p, &b, guess.bounds, 1);
-    assert!(rt; answer.is_ok());
     Ok(())
 }

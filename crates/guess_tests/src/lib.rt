@@ -1,9 +1,7 @@
-//! Tests of multigrid, of guessed heads, and of the settler that tries them.
+//! Tests of multigrid and of guessed heads.
 #![tactic(auto)]
 
 #[cfg(test)]
 mod guesses;
-#[cfg(test)]
-mod settlers;
 #[cfg(test)]
 mod systems;

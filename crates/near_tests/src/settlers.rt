@@ -1,7 +1,8 @@
 // The settler of a run.
+use head_guess::guess_heads;
 use near_settler::NearSettler;
 use outside::FreeGate;
-use settle_driver::{PlainSettler, Plan};
+use settle_driver::{ListedSettler, PlainSettler, Plan, settle_near};
 use std::process::Abort;
 use std::test::Fail;
 use step_problem::{SettleFault, Settler, Side};
@@ -45,4 +46,17 @@ fn one_round_leaves_the_first_cell_open(rt: HostRuntime) -> Result<(), Fail> {
         }
         _ => Err("not open")?,
     }
+}
+
+#[test]
+fn one_trial_certifies_the_guess_of_a_row(rt: HostRuntime) -> Result<(), Fail> {
+    let Some((p, b)) = problem_between(rt.alloc(), row_of(rt.alloc(), 100)?, 0, TEN)? else {
+        return Err("not a problem")?;
+    };
+    let guess = guess_heads(rt.alloc(), &p, &b)?;
+    let mut trial = ListedSettler::new(guess.order, 1);
+    let mut never = PlainSettler::new(0);
+    let answer = settle_near(&mut trial, &mut never, rt.alloc(), &p, &b, guess.bounds, 1);
+    assert!(rt; answer.is_ok());
+    Ok(())
 }
