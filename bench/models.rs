@@ -49,7 +49,7 @@ impl Draws {
 
     // A head, from 8 to 12, in tenths.
     fn tenths(&mut self) -> i64 {
-        self.below(40).wrapping_add(80) as u32 as i64
+        i64::try_from(self.below(40)).unwrap_or(0).saturating_add(80)
     }
 }
 
