@@ -9,9 +9,10 @@ ghost use Rattle.listing_run.specs.Ends.{IsTask};
 ghost use Rattle.listing_run.specs.Listing.{IsListing, IsCutListing};
 
 use listing_run::{Task, put_steps};
+use near_settler::NearSettler;
 use outside::{Gate, Sink};
 use run_puts::Status;
-use settle_driver::{Plan, SettleBy, ThreadSettler};
+use settle_driver::{Plan, SettleBy};
 use std::alloc::Global;
 use std::thread::Threads;
 use step_problem::{Barrier, Bound, Problem, SettleFault};
@@ -31,14 +32,14 @@ pub(crate) fn put_listing<R: Threads + Sync, K: Sink + Send, G: Gate + Sync>(
     ensures { (start : _) (puts : List Put) → K.leads start puts out.old →
         (more : List Put) × K.leads start (puts ++ more) out.new × IsRun (IsListing task.now) (IsCutListing task.now) result more }
 {
-    let threads = ThreadSettler::new(rt, plan, gate);
-    let threads = &threads;
+    let near = NearSettler::new(rt, plan, gate);
+    let near = &near;
     let mut settler = SettleBy::new(
         plan.rounds,
         |alloc: Global, p: &Problem, b: &Barrier| -> Result<Vec<Bound>, SettleFault>
             requires { IsBarrier p.now b.now }
-            ensures { Settles p.entry.now b.entry.now threads.entry.now.plan.rounds result }
-        { threads.settle(alloc, p, b) },
+            ensures { Settles p.entry.now b.entry.now near.entry.now.plan.rounds result }
+        { near.settle(alloc, p, b) },
     );
     put_steps(rt, alloc, task, &mut settler, out)
 }

@@ -1,0 +1,121 @@
+// From settled heads down to the first settled ones.
+use crate::burn::unit_pass;
+use crate::gallop::gallop;
+use crate::one_side::OneSide;
+use crate::slopes::slope_at;
+use crate::solver::Solver;
+use crate::ways::way_between;
+use multigrid::Budget;
+use multigrid::numbers::{at, greatest};
+use std::alloc::{AllocError, Global};
+
+const MOST_PASSES: u32 = 1_000_000;
+
+// Unit passes before the first gallop, between two that gain, and between two at most.
+const FIRST_WAIT: u32 = 32;
+
+const SHORT_WAIT: u32 = 8;
+
+const LONG_WAIT: u32 = 64;
+
+// A gallop gains where it takes a head so many units down.
+const GAIN: i64 = 64;
+
+// The units at most of the first step along a shape.
+const SHAPE_UNITS: i64 = 16;
+
+// Rounds of conjugate gradients for a shape.
+const ROUNDS: u32 = 12;
+
+// The slopes of the cells that have fallen; 0, so that they are held, for the others.
+fn slopes_where_fallen(
+    alloc: Global,
+    side: &OneSide,
+    before: &[i64],
+    heads: &[i64],
+) -> Result<Vec<i64>, AllocError> {
+    let mut slopes = Vec::with_capacity(alloc, heads.len())?;
+    for cell in 0..heads.len() {
+        let head = at(heads, cell);
+        slopes.push(if head < at(before, cell) {
+            slope_at(side, cell, side.balance(cell, head, heads), heads)
+        } else {
+            0
+        })?;
+    }
+    Ok(slopes)
+}
+
+// The shape in which the cells that fell last would fall together.
+fn find_shape(
+    alloc: Global,
+    side: &OneSide,
+    before: &[i64],
+    heads: &[i64],
+    budget: &mut Budget,
+) -> Result<Vec<i64>, AllocError> {
+    let slopes = slopes_where_fallen(alloc, side, before, heads)?;
+    let mut solver = Solver::new(alloc, side, slopes, budget)?;
+    let mut shape = solver.room(alloc, ROUNDS, 14, budget)?;
+    let most = greatest(shape.as_slice());
+    for room in shape.iter_mut() {
+        let units = (SHAPE_UNITS as i128 * *room as i128).checked_div(most as i128);
+        *room = i64::try_from(units.unwrap_or(0)).unwrap_or(0);
+    }
+    Ok(shape)
+}
+
+// Goes on along the way that the passes since `from` went, and along the shape in which the cells of the last one fall.
+fn gallop_on(
+    alloc: Global,
+    side: &OneSide,
+    from: &[i64],
+    before: &[i64],
+    heads: &mut Vec<i64>,
+    budget: &mut Budget,
+) -> Result<i64, AllocError> {
+    let way = way_between(alloc, from, heads.as_slice())?;
+    let gained = gallop(alloc, side, heads, way, budget)?;
+    let shape = find_shape(alloc, side, before, heads.as_slice(), budget)?;
+    Ok(gained.max(gallop(alloc, side, heads, shape, budget)?))
+}
+
+/// Lowers settled heads by unit passes, and by gallops along the way that the last ones went, until a pass moves
+/// nothing or the budget ends. Answers the order in which the cells rose again in the last pass.
+pub fn descend(
+    alloc: Global,
+    side: &OneSide,
+    heads: &mut Vec<i64>,
+    budget: &mut Budget,
+) -> Result<Vec<u32>, AllocError> {
+    let mut from = heads.clone()?;
+    let mut wait = FIRST_WAIT;
+    let mut since = 0_u32;
+    for _ in 0..MOST_PASSES {
+        let before = heads.clone()?;
+        let pass = unit_pass(alloc, side, heads.as_mut_slice())?;
+        budget.spend(side.len() as u64);
+        if pass.lowered == 0 || budget.is_spent() {
+            return Ok(pass.order);
+        }
+        since = since.saturating_add(1);
+        if since >= wait {
+            since = 0;
+            let gained = gallop_on(
+                alloc,
+                side,
+                from.as_slice(),
+                before.as_slice(),
+                heads,
+                budget,
+            )?;
+            wait = if gained >= GAIN {
+                SHORT_WAIT
+            } else {
+                LONG_WAIT.min(wait.saturating_mul(2))
+            };
+            from = heads.clone()?;
+        }
+    }
+    Ok(Vec::new(alloc))
+}

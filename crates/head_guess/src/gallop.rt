@@ -1,0 +1,103 @@
+// Lowering settled heads along a way, in longer and longer steps.
+use crate::one_side::OneSide;
+use crate::raise::raise_within;
+use crate::ways::{Fall, double, fall_between, halve, way_between};
+use multigrid::Budget;
+use multigrid::numbers::at;
+use std::alloc::{AllocError, Global};
+
+fn lowered(
+    alloc: Global,
+    side: &OneSide,
+    heads: &[i64],
+    way: &[i64],
+) -> Result<Vec<i64>, AllocError> {
+    let mut lower = Vec::with_capacity(alloc, heads.len())?;
+    for cell in 0..heads.len() {
+        let head = at(heads, cell) as i128 - at(way, cell) as i128;
+        lower.push(side.above_floor(cell, head))?;
+    }
+    Ok(lower)
+}
+
+// How far a gallop has come.
+#[derive(Drop)]
+struct Progress {
+    // The next step.
+    way: Vec<i64>,
+    gained: i64,
+    turns: u64,
+    is_last: bool,
+}
+
+impl Progress {
+    // Heads settled lower: the next step is twice as long as what was kept. Whether there is one: where half was kept.
+    fn go_on(
+        &mut self,
+        alloc: Global,
+        heads: &[i64],
+        lower: &[i64],
+        wanted: Fall,
+    ) -> Result<bool, AllocError> {
+        let kept = fall_between(heads, lower);
+        self.way = way_between(alloc, heads, lower)?;
+        double(self.way.as_mut_slice());
+        self.gained = self.gained.saturating_add(kept.most);
+        Ok(!self.is_last && kept.sum.saturating_mul(2) >= wanted.sum)
+    }
+
+    // Heads did not settle: the next step is half as long, and the last one. Whether there is one.
+    fn fall_short(&mut self) -> bool {
+        if self.is_last || self.gained == 0 {
+            return false;
+        }
+        self.is_last = true;
+        halve(self.way.as_mut_slice());
+        true
+    }
+}
+
+// Each step that is followed by another one keeps half of its way at least.
+const MOST_STEPS: u32 = 64;
+
+// Turns that a step may take at each cell that it moves.
+const TURNS: u64 = 20;
+
+/// Lowers settled heads along a way, and then by twice what was kept of the last step, as long as they settle
+/// within a few turns at each cell that moves, and keep half. They stay settled. Answers the longest fall.
+pub fn gallop(
+    alloc: Global,
+    side: &OneSide,
+    heads: &mut Vec<i64>,
+    way: Vec<i64>,
+    budget: &mut Budget,
+) -> Result<i64, AllocError> {
+    let mut run = Progress {
+        way,
+        gained: 0,
+        turns: 0,
+        is_last: false,
+    };
+    for _ in 0..MOST_STEPS {
+        let mut lower = lowered(alloc, side, heads.as_slice(), run.way.as_slice())?;
+        let wanted = fall_between(heads.as_slice(), lower.as_slice());
+        if wanted.cells == 0 {
+            break;
+        }
+        let turns = wanted.cells.saturating_mul(TURNS).max(run.turns / 2);
+        let caps = heads.as_slice();
+        let raised = raise_within(alloc, side, lower.as_mut_slice(), caps, turns, budget)?;
+        run.turns = run.turns.saturating_add(raised.turns);
+        let goes_on = if raised.settled {
+            let goes_on = run.go_on(alloc, heads.as_slice(), lower.as_slice(), wanted)?;
+            *heads = lower;
+            goes_on
+        } else {
+            run.fall_short()
+        };
+        if !goes_on {
+            break;
+        }
+    }
+    Ok(run.gained)
+}

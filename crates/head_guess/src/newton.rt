@@ -1,0 +1,124 @@
+// Newton's method for heads at which each cell's balance is 0.
+use crate::one_side::OneSide;
+use crate::slopes::{slope_at, slope_between};
+use crate::solver::Solver;
+use multigrid::Budget;
+use multigrid::numbers::{at, put, shifted, width};
+use std::alloc::{AllocError, Global};
+
+/// Heads near those at which each balance is 0, and the room at each cell there, in units of 2^-10.
+#[derive(Drop)]
+pub struct Balanced {
+    pub heads: Vec<i64>,
+    pub room: Vec<i64>,
+}
+
+const MOST_ROUNDS: u32 = 60;
+
+// Rounds of conjugate gradients for a correction, and for the room.
+const ROUNDS: u32 = 30;
+
+#[derive(Drop)]
+struct Newton {
+    heads: Vec<i64>,
+    // The heads one round before.
+    before: Vec<i64>,
+    balances: Vec<i128>,
+    slopes: Vec<i64>,
+}
+
+impl Newton {
+    fn new(alloc: Global, heads: Vec<i64>) -> Result<Newton, AllocError> {
+        let count = heads.len();
+        Ok(Newton {
+            before: heads.clone()?,
+            heads,
+            balances: vec![in alloc; 0; count]?,
+            slopes: vec![in alloc; 0; count]?,
+        })
+    }
+
+    // The slope that the next round takes at a cell. Over a bend it is the greater of those at the head and from the
+    // head before, and it is given up by halves, so that heads do not swing about the bend.
+    fn slope(&self, side: &OneSide, cell: usize, balance: i128) -> i64 {
+        let heads = self.heads.as_slice();
+        let here = slope_at(side, cell, balance, heads);
+        if side.is_straight(cell) {
+            return here;
+        }
+        let before = at(self.before.as_slice(), cell);
+        let slope = here.max(slope_between(side, cell, balance, heads, before));
+        let used = at(self.slopes.as_slice(), cell);
+        slope.max((slope >> 1).wrapping_add(used >> 1))
+    }
+
+    fn linearize(&mut self, side: &OneSide) {
+        for cell in 0..self.heads.len() {
+            let heads = self.heads.as_slice();
+            let balance = side.balance(cell, at(heads, cell), heads);
+            let slope = self.slope(side, cell, balance);
+            put(self.balances.as_mut_slice(), cell, balance);
+            put(self.slopes.as_mut_slice(), cell, slope);
+        }
+    }
+
+    // The longest of the moves that would take away each balance alone.
+    fn longest_move(&self) -> i128 {
+        let mut longest = 0_i128;
+        for (balance, slope) in self.balances.iter().zip(self.slopes.as_slice()) {
+            let units = balance.checked_div(*slope as i128).unwrap_or(0);
+            longest = longest.max(units.saturating_abs());
+        }
+        longest
+    }
+
+    // Moves the heads by unknowns of 2^-places, and answers the longest move.
+    fn advance(&mut self, side: &OneSide, unknowns: &[i64], places: i64) -> i128 {
+        let mut longest = 0_i128;
+        let half = shifted(1, places.saturating_sub(1));
+        for cell in 0..self.heads.len() {
+            let unknown = (at(unknowns, cell) as i128).wrapping_add(half);
+            let way = shifted(unknown, 0_i64.saturating_sub(places));
+            longest = longest.max(way.saturating_abs());
+            let head = at(self.heads.as_slice(), cell);
+            put(self.before.as_mut_slice(), cell, head);
+            let moved = side.above_floor(cell, (head as i128).saturating_add(way));
+            put(self.heads.as_mut_slice(), cell, moved);
+        }
+        longest
+    }
+
+    // One round; answers the longest move.
+    fn step(&mut self, side: &OneSide, solver: &mut Solver, budget: &mut Budget) -> i128 {
+        let places = 20_i64.saturating_sub(width(self.longest_move()) as i64);
+        solver.set_right_side(self.balances.as_slice(), places);
+        let unknowns = solver.solve(ROUNDS, 4, budget);
+        self.advance(side, unknowns, places)
+    }
+}
+
+/// Newton's method from these heads, until no head moves by more than a unit, or its rounds or the budget end.
+pub fn find_balanced(
+    alloc: Global,
+    side: &OneSide,
+    heads: Vec<i64>,
+    budget: &mut Budget,
+) -> Result<Balanced, AllocError> {
+    let mut newton = Newton::new(alloc, heads)?;
+    newton.linearize(side);
+    let mut solver = Solver::new(alloc, side, newton.slopes.clone()?, budget)?;
+    for _ in 0..MOST_ROUNDS {
+        if newton.step(side, &mut solver, budget) <= 1 || budget.is_spent() {
+            break;
+        }
+        newton.linearize(side);
+        if !solver.serves(newton.slopes.as_slice()) {
+            solver = Solver::new(alloc, side, newton.slopes.clone()?, budget)?;
+        }
+    }
+    let room = solver.room(alloc, 2 * ROUNDS, 10, budget)?;
+    Ok(Balanced {
+        heads: newton.heads,
+        room,
+    })
+}

@@ -1,0 +1,134 @@
+// The linear system of a problem: links between cells, and on the diagonal the slopes of the cells' balances.
+use crate::one_side::OneSide;
+use multigrid::numbers::{at, cut, shifted};
+use multigrid::{Budget, Levels, Matrix};
+use std::alloc::{AllocError, Global};
+use step_problem::Link;
+
+// Making the levels takes about so many visits at each cell.
+const VISITS_OF_LEVELS: u64 = 20;
+
+/// The system of slopes, with its levels. A cell whose slope is 0 is held: its unknown is 0.
+#[derive(Drop)]
+pub struct Solver {
+    levels: Levels,
+    slopes: Vec<i64>,
+    // Weights are conductances over 2^scale, so that the sum of all fits.
+    scale: u32,
+}
+
+// The bits of the sum of all slopes beyond 61.
+fn scale_of(slopes: &[i64]) -> u32 {
+    let mut sum = 0_u128;
+    for slope in slopes {
+        sum = sum.saturating_add(slope.unsigned_abs() as u128);
+    }
+    67_u32.saturating_sub(sum.leading_zeros())
+}
+
+fn weight_of(link: &Link, scale: u32) -> i64 {
+    i64::try_from(link.lo.wrapping_shr(scale)).unwrap_or(0)
+}
+
+// The row of a cell.
+fn add_cell(
+    matrix: &mut Matrix,
+    side: &OneSide,
+    slopes: &[i64],
+    scale: u32,
+    cell: usize,
+) -> Result<(), AllocError> {
+    let slope = at(slopes, cell);
+    if slope == 0 {
+        return matrix.close_row(1);
+    }
+    let mut sum = 0_i64;
+    for link in side.links(cell) {
+        let weight = weight_of(link, scale);
+        sum = sum.saturating_add(weight);
+        if weight > 0 && at(slopes, link.cell as usize) > 0 {
+            matrix.couple(link.cell, weight)?;
+        }
+    }
+    matrix.close_row(slope.wrapping_shr(scale).max(sum))
+}
+
+fn matrix_of(
+    alloc: Global,
+    side: &OneSide,
+    slopes: &[i64],
+    scale: u32,
+) -> Result<Matrix, AllocError> {
+    let mut matrix = Matrix::new(alloc);
+    for cell in 0..side.len() {
+        add_cell(&mut matrix, side, slopes, scale, cell)?;
+    }
+    Ok(matrix)
+}
+
+impl Solver {
+    pub fn new(
+        alloc: Global,
+        side: &OneSide,
+        slopes: Vec<i64>,
+        budget: &mut Budget,
+    ) -> Result<Solver, AllocError> {
+        let scale = scale_of(slopes.as_slice());
+        let matrix = matrix_of(alloc, side, slopes.as_slice(), scale)?;
+        budget.spend(VISITS_OF_LEVELS.saturating_mul(side.len() as u64));
+        let levels = Levels::new(alloc, matrix)?;
+        Ok(Solver {
+            levels,
+            slopes,
+            scale,
+        })
+    }
+
+    /// Whether these slopes are its own, but for the units between lower and upper conductances.
+    pub fn serves(&self, slopes: &[i64]) -> bool {
+        self.slopes.iter().zip(slopes).all(|(own, slope)| own.abs_diff(*slope)
+            <= 16_u64.saturating_add(slope.unsigned_abs() >> 20))
+    }
+
+    /// Sets the right side, numbers of the problem's unit times 2^places.
+    pub fn set_right_side(&mut self, numbers: &[i128], places: i64) {
+        let scale = self.scale;
+        for (right, number) in self.levels.right_side().iter_mut().zip(numbers) {
+            *right = shifted(*number, places).wrapping_shr(scale);
+        }
+    }
+
+    fn set_right_side_to_slopes(&mut self) {
+        let scale = self.scale;
+        for (right, slope) in self
+            .levels
+            .right_side()
+            .iter_mut()
+            .zip(self.slopes.as_slice())
+        {
+            *right = (*slope as i128).wrapping_shl(20).wrapping_shr(scale);
+        }
+    }
+
+    /// Solves, and answers the unknowns times the right side's power of two.
+    pub fn solve(&mut self, rounds: u32, bits: u32, budget: &mut Budget) -> &[i64] {
+        self.levels.solve(rounds, bits, budget)
+    }
+
+    /// The room at each cell, in units of 2^-10: how far all heads go together when each cell's balance changes by its
+    /// slope. It is not negative.
+    pub fn room(
+        &mut self,
+        alloc: Global,
+        rounds: u32,
+        bits: u32,
+        budget: &mut Budget,
+    ) -> Result<Vec<i64>, AllocError> {
+        self.set_right_side_to_slopes();
+        let mut room = Vec::new(alloc);
+        for unknown in self.solve(rounds, bits, budget) {
+            room.push((*unknown >> 10).max(0))?;
+        }
+        Ok(room)
+    }
+}

@@ -1,0 +1,19 @@
+//! Solves sparse symmetric systems in whole numbers: conjugate gradients, preconditioned by multigrid over
+//! aggregates. Nothing is promised of a solution; what is built on one has to test it.
+#![tactic(auto)]
+
+mod aggregates;
+mod budget;
+mod coarsen;
+mod cycle;
+mod gradients;
+mod level;
+mod levels;
+mod matrix;
+pub mod numbers;
+mod scaled;
+mod smoother;
+
+pub use budget::Budget;
+pub use levels::Levels;
+pub use matrix::Matrix;

@@ -1,0 +1,143 @@
+// A sparse matrix by rows.
+use crate::numbers::{at, cut};
+use std::alloc::{AllocError, Global};
+
+/// An entry off the diagonal: the other unknown, and the weight, which stands in the matrix with a minus.
+#[derive(Clone, Copy)]
+pub struct Coupling {
+    pub other: u32,
+    pub weight: i64,
+}
+
+/// An entry on the diagonal, at least 1, with its reciprocal, so that a quotient by it is a product.
+#[derive(Clone, Copy)]
+pub struct Pivot {
+    weight: i64,
+    // About 2^(61 + bits) over the weight.
+    reciprocal: i64,
+    bits: u32,
+}
+
+impl Pivot {
+    fn new(weight: i64) -> Pivot {
+        let weight = weight.max(1);
+        let bits = 64_u32.saturating_sub(weight.leading_zeros());
+        let power = 1_i128.wrapping_shl(bits.saturating_add(61));
+        let quotient = power.checked_div(weight as i128).unwrap_or(0);
+        Pivot {
+            weight,
+            reciprocal: i64::try_from(quotient).unwrap_or(i64::MAX),
+            bits,
+        }
+    }
+
+    /// About a number over the weight.
+    pub fn quotient(&self, x: i128) -> i64 {
+        let x = cut(x.wrapping_shr(self.bits.saturating_sub(1)));
+        cut((x as i128 * self.reciprocal as i128).wrapping_shr(62))
+    }
+
+    /// The magnitude of a number over the weight, up to a factor of 2.
+    pub fn size(&self, x: i128) -> u128 {
+        x.wrapping_shr(self.bits.saturating_sub(1)).unsigned_abs()
+    }
+
+    pub fn times(&self, x: i64) -> i128 {
+        self.weight as i128 * x as i128
+    }
+
+    pub fn weight(&self) -> i64 {
+        self.weight
+    }
+}
+
+/// A row's pivot, and where its couplings stand.
+#[derive(Clone, Copy)]
+pub struct Row {
+    first: usize,
+    end: usize,
+    pub pivot: Pivot,
+}
+
+/// A symmetric matrix whose diagonal outweighs the couplings of each row. The last row can be open: couplings
+/// are added to it until it is closed.
+#[derive(Drop)]
+pub struct Matrix {
+    pub rows: Vec<Row>,
+    couplings: Vec<Coupling>,
+    // Where the open row begins.
+    open: usize,
+}
+
+impl Matrix {
+    pub fn new(alloc: Global) -> Matrix {
+        Matrix {
+            rows: Vec::new(alloc),
+            couplings: Vec::new(alloc),
+            open: 0,
+        }
+    }
+
+    pub fn len(&self) -> usize {
+        self.rows.len()
+    }
+
+    /// Adds a coupling to the open row, and answers its place.
+    pub fn couple(&mut self, other: u32, weight: i64) -> Result<usize, AllocError> {
+        let place = self.couplings.len();
+        self.couplings.push(Coupling { other, weight })?;
+        Ok(place)
+    }
+
+    /// Adds to the weight of the open row's coupling with an unknown, if it stands at this place.
+    pub fn strengthen(&mut self, place: usize, other: u32, weight: i64) -> bool {
+        if place < self.open || self.couplings.len() <= place {
+            return false;
+        }
+        let coupling = &mut self.couplings[place];
+        if coupling.other != other {
+            return false;
+        }
+        coupling.weight = coupling.weight.saturating_add(weight);
+        true
+    }
+
+    /// Closes the open row with its entry on the diagonal.
+    pub fn close_row(&mut self, diagonal: i64) -> Result<(), AllocError> {
+        let end = self.couplings.len();
+        self.rows.push(Row {
+            first: self.open,
+            end,
+            pivot: Pivot::new(diagonal),
+        })?;
+        self.open = end;
+        Ok(())
+    }
+
+    /// The couplings of a row.
+    pub fn couplings(&self, row: &Row) -> &[Coupling] {
+        self.couplings
+            .as_slice()
+            .get(row.first..row.end)
+            .unwrap_or(&[])
+    }
+
+    /// The row of an unknown; one without couplings where there is none.
+    pub fn row(&self, unknown: usize) -> Row {
+        self.rows.get(unknown).copied().unwrap_or(Row {
+            first: 0,
+            end: 0,
+            pivot: Pivot::new(1),
+        })
+    }
+}
+
+/// What an unknown takes from the others.
+pub fn inflow(couplings: &[Coupling], unknowns: &[i64]) -> i128 {
+    let mut sum = 0_i128;
+    for coupling in couplings {
+        let other = at(unknowns, coupling.other as usize);
+        sum = sum.wrapping_add(coupling.weight as i128 * other as i128);
+    }
+    sum
+}

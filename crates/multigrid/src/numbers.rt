@@ -1,0 +1,53 @@
+// Reading, writing and cutting the numbers of a solver. Each call is total.
+
+// No unknown is longer than 2^60, so that sums of products of weights and unknowns fit.
+const LONGEST: i128 = 1_152_921_504_606_846_976;
+
+/// The number at an index, or 0 where there is none.
+pub fn at(xs: &[i64], index: usize) -> i64 {
+    xs.get(index).copied().unwrap_or(0)
+}
+
+/// The long number at an index, or 0 where there is none.
+pub fn long_at(xs: &[i128], index: usize) -> i128 {
+    xs.get(index).copied().unwrap_or(0)
+}
+
+/// Writes a number at an index, where there is one.
+pub fn put<T: Copy>(xs: &mut [T], index: usize, value: T) {
+    if index < xs.len() {
+        xs[index] = value;
+    }
+}
+
+/// The index as a label, as levels and lists keep it.
+pub fn label(index: usize) -> u32 {
+    u32::try_from(index).unwrap_or(u32::MAX)
+}
+
+/// The nearest number from -2^60 to 2^60.
+pub fn cut(x: i128) -> i64 {
+    x.clamp(-LONGEST, LONGEST) as i64
+}
+
+/// The bits of a number's magnitude.
+pub fn width(x: i128) -> u32 {
+    128_u32.saturating_sub(x.unsigned_abs().leading_zeros())
+}
+
+/// A number times a power of two, rounded down; 0 where it is too long.
+pub fn shifted(x: i128, places: i64) -> i128 {
+    let by = places.unsigned_abs().min(127) as u32;
+    if places < 0 {
+        x.wrapping_shr(by)
+    } else if by.saturating_add(width(x)) <= 126 {
+        x.wrapping_shl(by)
+    } else {
+        0
+    }
+}
+
+/// The greatest of these numbers, but 1 at least.
+pub fn greatest(xs: &[i64]) -> i64 {
+    xs.iter().fold(1, |most, x| most.max(*x))
+}

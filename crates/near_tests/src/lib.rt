@@ -1,0 +1,5 @@
+//! Tests of the settler of a run.
+#![tactic(auto)]
+
+#[cfg(test)]
+mod settlers;
