@@ -50,7 +50,12 @@ fn ten_between(alloc: Global) -> Result<Vec<Cell>, AllocError> {
             _ => linked_cell(alloc, i + 1, links.as_slice())?,
         };
         if i == 0 || i == 9 {
-            add_head(&mut cell, FixedKind::Constant, ONE, if i == 0 { 0 } else { TEN })?;
+            add_head(
+                &mut cell,
+                FixedKind::Constant,
+                ONE,
+                if i == 0 { 0 } else { TEN },
+            )?;
         }
         cells.push(cell)?;
     }
