@@ -83,6 +83,7 @@ chosen_is m option layers c size lt active h = by_option (is_int option 1) (is_i
       where
         one_option : (z : ℤ) (k n : ℕ) → is_int z k ≡ true → is_int z n ≡ true → k ≡ n
         one_option z k n p q = let r : pos k ≡ pos n = sym (int_is z k p) ∙ int_is z n q in cc
+
         in_first : ((layer_of m.grid c == 0) ≡ true) ⊎ (((b && is_int (int_at layers (place_in_layer m.grid c)) (suc (layer_of m.grid c))) ≡ true) ⊎ ((d && is_active m c && is_highest m c) ≡ true)) → (layer_of m.grid c == 0) ≡ true
         in_first (inl p) = p
         in_first (inr (inl p)) =
