@@ -43,9 +43,9 @@ above_highest m c h j lt = by_case (is_active m (j * layer_size m.grid + place_i
     by_case : (b : Bool) → is_active m (j * layer_size m.grid + place_in_layer m.grid c) ≡ b → is_active m (j * layer_size m.grid + place_in_layer m.grid c) ≡ false
     by_case false e = e
     by_case true e =
-        let at : get_or (range_with_len 0 (layer_of m.grid c)) j 0 ≡ j = get_or-range_with_len 0 (layer_of m.grid c) j 0 lt in
-        let within : j < length (range_with_len 0 (layer_of m.grid c)) = rw (length-range_with_len 0 (layer_of m.grid c)) lt in
-        let some : list_any (λ k. is_active m (k * layer_size m.grid + place_in_layer m.grid c)) (range_with_len 0 (layer_of m.grid c)) ≡ true = list_any_at (λ k. is_active m (k * layer_size m.grid + place_in_layer m.grid c)) (range_with_len 0 (layer_of m.grid c)) j 0 within (rw at e) in
+        let it : get_or (range_with_len 0 (layer_of m.grid c)) j 0 ≡ j = get_or-range_with_len 0 (layer_of m.grid c) j 0 lt in
+        let inside : j < length (range_with_len 0 (layer_of m.grid c)) = rw (length-range_with_len 0 (layer_of m.grid c)) lt in
+        let some : list_any (λ k. is_active m (k * layer_size m.grid + place_in_layer m.grid c)) (range_with_len 0 (layer_of m.grid c)) ≡ true = list_any_at (λ k. is_active m (k * layer_size m.grid + place_in_layer m.grid c)) (range_with_len 0 (layer_of m.grid c)) j 0 inside (rw it e) in
         let none : list_any (λ k. is_active m (k * layer_size m.grid + place_in_layer m.grid c)) (range_with_len 0 (layer_of m.grid c)) ≡ false = not-true _ h in
         absurd (let clash : true ≡ false = sym some ∙ none in cc)
 
@@ -55,10 +55,15 @@ its_place g c = div-add-mod' c (layer_size g)
 first_layer : (g : Grid) (c : ℕ) → layer_of g c ≡ 0 → Some (place_in_layer g c) ≡ Some c
 first_layer g c e =
     let here : 0 * layer_size g + place_in_layer g c ≡ c = ap (λ k. k * layer_size g + place_in_layer g c) (sym e) ∙ its_place g c in
-    ap Some here
+    let same : place_in_layer g c ≡ c = omega (arith, here) in
+    ap Some same
 
 named : (g : Grid) (i k : ℕ) (z : ℤ) → z ≡ pos (suc k) → k < g.layers → in_layer g i (within z g.layers) ≡ Some (k * layer_size g + i)
-named g i k z e lt = rw (e, lt-leb k g.layers lt) refl
+named g i k z e lt =
+    let some : nat_lt 0 (suc k) ≡ true = lt-ltb 0 (suc k) (omega arith) in
+    let few : nat_le (suc k) g.layers ≡ true = le-leb (suc k) g.layers (omega (arith, lt)) in
+    let before : suc k - 1 ≡ k = omega arith in
+    rw (e, some, few, before) refl
 
 pub chosen_is : (m : FlowModel) (option : ℤ) (layers : List ℤ) (c : ℕ) → HasSize m.grid → c < cell_count m.grid → is_active m c ≡ true → is_chosen m option layers c ≡ true → chosen m.grid m.ibound option layers (place_in_layer m.grid c) ≡ Some c
 chosen_is m option layers c size lt active h = by_option (is_int option 1) (is_int option 2) (is_int option 3) refl refl refl h
@@ -78,6 +83,7 @@ chosen_is m option layers c size lt active h = by_option (is_int option 1) (is_i
       where
         one_option : (z : ℤ) (k n : ℕ) → is_int z k ≡ true → is_int z n ≡ true → k ≡ n
         one_option z k n p q = let r : pos k ≡ pos n = sym (int_is z k p) ∙ int_is z n q in cc
+
         in_first : ((layer_of m.grid c == 0) ≡ true) ⊎ (((b && is_int (int_at layers (place_in_layer m.grid c)) (suc (layer_of m.grid c))) ≡ true) ⊎ ((d && is_active m c && is_highest m c) ≡ true)) → (layer_of m.grid c == 0) ≡ true
         in_first (inl p) = p
         in_first (inr (inl p)) =
@@ -96,5 +102,5 @@ chosen_is m option layers c size lt active h = by_option (is_int option 1) (is_i
             absurd (let r : pos 2 ≡ pos 3 = sym (int_is option 2 f) ∙ int_is option 3 (g ∙ three) in cc)
     by_option false false true e f g so =
         let p = and_parts (is_active m c) (is_highest m c) so in
-        found_at m.grid m.ibound (place_in_layer m.grid c) m.grid.layers 0 (layer_of m.grid c) (omega arith) below (rw (its_place m.grid c) active) (above_highest m c p.1) ∙ ap Some (its_place m.grid c)
+        found_at m.grid m.ibound (place_in_layer m.grid c) m.grid.layers 0 (layer_of m.grid c) (omega arith) (omega (arith, below)) (rw (its_place m.grid c) active) (above_highest m c p.1) ∙ ap Some (its_place m.grid c)
     by_option false false false e f g so = absurd (let clash : false ≡ true = so in cc)

@@ -49,9 +49,12 @@ some_is n view z h = by_case (nat_lt n (2 ^ 126)) refl h
   where
     by_case : (b : Bool) → nat_lt n (2 ^ 126) ≡ b → option_map view (if b then Some n else None) ≡ Some z → z ≡ view n
     by_case true e so =
+        let found : Some (view n) ≡ Some z = so in
         let is : view n ≡ z = cc in
         sym is
-    by_case false e so = absurd cc
+    by_case false e so =
+        let wrong : None ≡ Some z = so in
+        absurd cc
 
 floor_sound : (d : Dec) (s : ℕ) (z : ℤ) → floor d s ≡ Some z → IsSignedFloor z (number d) s
 unfolding floor_of ceiling_of
@@ -101,8 +104,9 @@ source_sound x r s d h some = by_case x.rate.neg refl (is_positive x.depth) refl
       ceiling = y;
       is_floor = floor_sound x.surface 9 z v;
       is_ceiling = ceiling_sound x.depth 9 y w;
-      extinction = reached e;
+      extinction = reached (is_reached (Some z) (Some y)) refl e;
     }
       where
-        reached : (if is_reached (Some z) (Some y) then None else Some HeadTooLarge) ≡ None → (y +ℤ neg_ℤ (pos 4000000000000000000)) ≤ℤ z
-        reached e = grind (arith, ints)
+        reached : (b : Bool) → is_reached (Some z) (Some y) ≡ b → (if b then None else Some HeadTooLarge) ≡ None → (y +ℤ neg_ℤ (pos 4000000000000000000)) ≤ℤ z
+        reached true t e = grind (arith, ints)
+        reached false t e = absurd cc

@@ -1,5 +1,5 @@
 -- A model in limits stays so with evapotranspiration.
-use Rattle.std.proofs.Common.{◌≡◌, ◌⊎◌, inl, inr, ℕ, ◌-◌, ◌<◌, ◌≤◌, ℤ, pos, ◌≤ℤ◌, Bool, true, false, not, cond, ◌&&◌, ◌==◌, List, [], map, All, Option, Some, None, Ok, length, get_or, refl, sym, ap, ◌∙◌, subst, arith}
+use Rattle.std.proofs.Common.{◌≡◌, ◌⊎◌, inl, inr, ℕ, ◌-◌, ◌<◌, ◌≤◌, ℤ, pos, ◌≤ℤ◌, Bool, true, false, not, cond, ◌&&◌, ◌==◌, List, [], map, All, Option, Some, None, IfOk, Result, Ok, Err, length, get_or, refl, sym, ap, ◌∙◌, subst, arith}
 use Rattle.std.specs.Option.{option_to_list}
 use Rattle.std.proofs.lemmas.Bool.{cases_lt}
 use Rattle.std.proofs.lemmas.Int.{ints}
@@ -7,6 +7,7 @@ use Rattle.std.proofs.lemmas.List.{get_or_past}
 use Rattle.std.proofs.lemmas.List.Elements.{All-nil, All-cons}
 use Rattle.std.proofs.lemmas.Nat.{mod_below}
 use Rattle.outside.specs.declared.codes.Code.{Code}
+use Rattle.outside.specs.declared.refusals.InputFault.{InputFault}
 use Rattle.model_types.specs.declared.grid.Grid.{Grid}
 use Rattle.model_types.specs.declared.model.FlowModel.{FlowModel}
 use Rattle.model_types.specs.declared.period.Period.{Period}
@@ -90,5 +91,9 @@ evaporating file m e ps same has h = replaced m m.nrchop e ps h (same_view witho
     (each_period without (IsPeriod (record m { nevtop = e; periods = ps })) (IsPeriod m) (HasEvaporation file (record m { nevtop = e; periods = ps })) (period file m e ps) ps m.periods same h.periods has.periods)
     (evaps file (record m { nevtop = e; periods = ps }) h.grid.size has.periods)
 
-pub evaporating_model : (file : List ℕ) (m n : FlowModel) → SameBut m n → IsEvaporating file n → IsModel m → IsModel n
+evaporating_model : (file : List ℕ) (m n : FlowModel) → SameBut m n → IsEvaporating file n → IsModel m → IsModel n
 evaporating_model file m n same has h = subst IsModel (sym same.model) (evaporating file m n.nevtop n.periods same.periods (subst (IsEvaporating file) same.model has) h)
+
+pub evaporation_valid : (file : List ℕ) (m : FlowModel) (r : Result FlowModel InputFault) → IfOk r (SameBut m) → IfOk r (IsEvaporating file) → IsModel m → IfOk r IsModel
+evaporation_valid file m (Ok n) same has h = evaporating_model file m n same has h
+evaporation_valid file m (Err fault) same has h = tt

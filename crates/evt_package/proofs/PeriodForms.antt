@@ -13,4 +13,6 @@ is_evaporating file m option ps range h = record {
     evtr = record { whole = a.rates.0; decimals = a.rates.1 };
     exdp = record { whole = a.depths.0; decimals = a.depths.1 };
     ievt = a.layers;
-    passed = a.passed }) ps h }
+    passed = a.passed;
+  }) ps h;
+}

@@ -63,10 +63,42 @@ fn arrays_of<F: Folder>(
     ensures last { IfOk result (λ _. AreLast grid.now last.new) }
     ensures some { IfOk result (λ _. HasLast grid.now flags last.old last.new) }
 {
-    update_reals(alloc, lines, file, folder, grid, flags.surface, &mut last.surfaces)?;
-    update_reals(alloc, lines, file, folder, grid, flags.rate, &mut last.rates)?;
-    update_reals(alloc, lines, file, folder, grid, flags.depth, &mut last.depths)?;
-    update_layers(alloc, lines, file, folder, grid, flags.layer, &mut last.layers)
+    update_reals(
+        alloc,
+        lines,
+        file,
+        folder,
+        grid,
+        flags.surface,
+        &mut last.surfaces,
+    )?;
+    update_reals(
+        alloc,
+        lines,
+        file,
+        folder,
+        grid,
+        flags.rate,
+        &mut last.rates,
+    )?;
+    update_reals(
+        alloc,
+        lines,
+        file,
+        folder,
+        grid,
+        flags.depth,
+        &mut last.depths,
+    )?;
+    update_layers(
+        alloc,
+        lines,
+        file,
+        folder,
+        grid,
+        flags.layer,
+        &mut last.layers,
+    )
 }
 
 /// The next period with its arrays, which then stand. Its columns are tested.
@@ -92,7 +124,14 @@ fn period_at<F: Folder>(
     ensures others { IfOk result (λ p. without p ≡ without period) }
 {
     let line = next_line(alloc, lines, file)?;
-    let flags = flags_of(alloc, &mut Words::of(&line), option == 2, file, line.number, last)?;
+    let flags = flags_of(
+        alloc,
+        &mut Words::of(&line),
+        option == 2,
+        file,
+        line.number,
+        last,
+    )?;
     arrays_of(alloc, lines, file, folder, grid, flags, last)?;
     let period = with_last(alloc, period, last)?;
     columns_tested(alloc, file, grid, ibound, option, &period)?;

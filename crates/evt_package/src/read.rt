@@ -77,7 +77,6 @@ fn with_evaporation<F: Folder>(
 /// NothingToReuse where a first array is to be reused; with line 0 and the cell CellOutside for a layer that the grid
 /// lacks, and, once all arrays of a period stand, BadProperty or HeadTooLarge at an active cell that is chosen. A read
 /// fault comes only from the folder. (TM 6-A16, EVT)
-#[tactic(auto, using(crate::proofs::ModelLemmas::evaporating_model))]
 pub fn read_evt<F: Folder>(
     alloc: Global,
     file: &str,

@@ -20,13 +20,17 @@ dis_in files dis = do
   bytes ← file_at files dis
   dis_of files dis bytes
 
--- the thickness of cells is refused with the file of the discretization
+-- the thickness of cells is refused with the file of the discretization, and then starting heads with that of BAS6
+unfoldable pub basics_tested : List ℕ → List ℕ → FlowModel → Result (Unit {0}) Refusal
+basics_tested dis bas basic = do
+  thick ← checked basic dis Thickness
+  checked basic bas StartHead
+
 unfoldable pub bas_in : List File → List ℕ → List ℕ → FlowModel → Result FlowModel Refusal
 bas_in files dis bas begun = do
   bytes ← file_at files bas
   basic ← bas_of files bas bytes begun
-  thick ← checked basic dis Thickness
-  heads ← checked basic bas StartHead
+  tested ← basics_tested dis bas basic
   Ok basic
 
 unfoldable pub lpf_in : List File → List ℕ → FlowModel → Result FlowModel Refusal

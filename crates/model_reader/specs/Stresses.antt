@@ -34,13 +34,18 @@ evt_in files evt m = do
   bytes ← file_at files evt
   evt_of files evt bytes m
 
--- WEL, RIV, DRN, GHB, RCH, CHD, EVT
-unfoldable pub with_stresses : List File → Pairs → FlowModel → Result FlowModel Refusal
-with_stresses files names flow = do
+-- WEL, RIV, DRN, GHB
+unfoldable pub with_entries : List File → Pairs → FlowModel → Result FlowModel Refusal
+with_entries files names flow = do
   with_wells ← where_named (file_of Wel names) (list_in wells files) flow
   with_rivers ← where_named (file_of Riv names) (list_in rivers files) with_wells
   with_drains ← where_named (file_of Drn names) (list_in drains files) with_rivers
-  with_generals ← where_named (file_of Ghb names) (list_in generals files) with_drains
+  where_named (file_of Ghb names) (list_in generals files) with_drains
+
+-- then RCH, CHD, EVT
+unfoldable pub with_stresses : List File → Pairs → FlowModel → Result FlowModel Refusal
+with_stresses files names flow = do
+  with_generals ← with_entries files names flow
   with_recharge ← where_named (file_of Rch names) (rch_in files) with_generals
   with_given ← where_named (file_of Chd names) (list_in given_heads files) with_recharge
   where_named (file_of Evt names) (evt_in files) with_given

@@ -1,13 +1,17 @@
 // DIS, BAS6 and LPF with the checks on cells behind them.
-ghost use Rattle.std.specs.Prelude.{◌≡◌, IfOk, IsTrue, is_some};
+ghost use Rattle.std.specs.Prelude.{◌≡◌, Ok, All, IfOk, IsTrue, is_some};
 ghost use Rattle.outside.specs.Counts.{InputCounts};
 ghost use Rattle.outside.specs.Names.{IsGoodName};
 ghost use Rattle.record_lines.specs.Reading.{Has, HasText};
 ghost use Rattle.array_reader.specs.Arrays.{told};
+ghost use Rattle.decimal_input.specs.Canonical.{IsDec};
+ghost use Rattle.model_types.specs.Grids.{IsGrid};
 ghost use Rattle.model_types.specs.Valid.{IsModel};
+ghost use Rattle.cell_checks.specs.Checks.{checked};
+ghost use Rattle.cell_checks.specs.declared.passing.Check.TheVariants.{Thickness, StartHead};
 ghost use Rattle.dis_package.specs.Forms.{IsBegun};
 ghost use Rattle.model_reader.specs.Forms.{IsBasic};
-ghost use Rattle.model_reader.specs.Model.{dis_in, bas_in, lpf_in};
+ghost use Rattle.model_reader.specs.Model.{dis_in, basics_tested, bas_in, lpf_in};
 
 use array_reader::open_file;
 use bas_package::read_bas;
@@ -15,7 +19,7 @@ use cell_checks::{Check, check_cells};
 use dis_package::read_dis;
 use lpf_package::read_lpf;
 use model_types::FlowModel;
-use outside::{Folder, InputFault};
+use outside::{Folder, InputFault, TextFault};
 use std::alloc::Global;
 
 /// The model that DIS begins.
@@ -29,6 +33,19 @@ pub fn dis_in<F: Folder>(alloc: Global, folder: &mut F, name: &str) -> Result<Fl
 {
     let bytes = open_file(alloc, folder, name)?;
     read_dis(alloc, name, &bytes, folder)
+}
+
+/// The thickness of each active cell, which is refused with the file of DIS, and then the starting head of each.
+#[tactic(auto, unfolding(crate::specs::Model::basics_tested))]
+fn basics_tested(alloc: Global, model: &FlowModel, dis: &str, bas: &str) -> Result<(), TextFault>
+    requires grid { IsGrid model.now.grid }
+    requires strt { All IsDec model.now.strt }
+    ensures tests { HasText (λ _. tt) result (basics_tested dis.now bas.now model.now) }
+    ensures thickness { IfOk result (λ _. checked model.now dis.now Thickness ≡ Ok tt) }
+    ensures heads { IfOk result (λ _. checked model.now bas.now StartHead ≡ Ok tt) }
+{
+    check_cells(alloc, model, dis, Check::Thickness)?;
+    check_cells(alloc, model, bas, Check::StartHead)
 }
 
 /// The model with BAS6. Then the thickness of each active cell is checked, and then the starting head of each.
@@ -49,8 +66,7 @@ pub fn bas_in<F: Folder>(
 {
     let bytes = open_file(alloc, folder, name)?;
     let model = read_bas(alloc, name, &bytes, folder, model)?;
-    check_cells(alloc, &model, dis, Check::Thickness)?;
-    check_cells(alloc, &model, name, Check::StartHead)?;
+    basics_tested(alloc, &model, dis, name)?;
     Ok(model)
 }
 

@@ -6,39 +6,14 @@ ghost use Rattle.record_lines.specs.Reading.{Has};
 ghost use Rattle.array_reader.specs.Arrays.{told};
 ghost use Rattle.model_types.specs.Valid.{IsModel};
 ghost use Rattle.model_reader.specs.Model.{model_of, reads};
-ghost use Rattle.model_reader.specs.Stresses.{with_stresses};
 
-use crate::arrays::{evt_in, rch_in};
 use crate::basics::{bas_in, dis_in, lpf_in};
-use crate::lists::{chd_in, drn_in, ghb_in, riv_in, wel_in};
 use crate::names::{needed, read_name_file};
+use crate::stresses::with_stresses;
 use model_types::FlowModel;
 use name_file::{Names, Package};
 use outside::{Folder, InputFault};
 use std::alloc::Global;
-
-/// The model with its stresses: WEL, RIV, DRN, GHB, RCH, CHD and EVT in this order, where they are named.
-#[tactic(auto, unfolding(crate::specs::Stresses::with_stresses))]
-fn with_stresses<F: Folder>(
-    alloc: Global,
-    names: &Names,
-    folder: &mut F,
-    model: FlowModel,
-) -> Result<FlowModel, InputFault>
-    requires valid { IsModel model }
-    ensures files { F.files folder.new ≡ F.files folder.old }
-    ensures counts { InputCounts (F.faults folder.old) (F.faults folder.new) result }
-    ensures model { IsTrue (is_some (F.files folder.old)) → Has (λ m. m) result (with_stresses (told (F.files folder.old)) names.now model) }
-    ensures form { IfOk result IsModel }
-{
-    let with_wells = wel_in(alloc, names, folder, model)?;
-    let with_rivers = riv_in(alloc, names, folder, with_wells)?;
-    let with_drains = drn_in(alloc, names, folder, with_rivers)?;
-    let with_generals = ghb_in(alloc, names, folder, with_drains)?;
-    let with_recharge = rch_in(alloc, names, folder, with_generals)?;
-    let with_given = chd_in(alloc, names, folder, with_recharge)?;
-    evt_in(alloc, names, folder, with_given)
-}
 
 /// The model of these packages: DIS, BAS6 with the thickness and the starting head of each active cell, LPF with
 /// the properties of each active cell, and then WEL, RIV, DRN, GHB, RCH, CHD and EVT where they are named.

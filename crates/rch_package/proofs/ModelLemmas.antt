@@ -1,6 +1,7 @@
 -- A model in limits stays so with recharge.
-use Rattle.std.proofs.Common.{◌≡◌, ℤ, pos, ◌≤ℤ◌, List, map, All, refl, sym, ap, subst, arith}
+use Rattle.std.proofs.Common.{◌≡◌, ℤ, pos, ◌≤ℤ◌, List, map, All, IfOk, Result, Ok, Err, refl, sym, ap, subst, arith}
 use Rattle.std.proofs.lemmas.Int.{ints}
+use Rattle.outside.specs.declared.refusals.InputFault.{InputFault}
 use Rattle.model_types.specs.declared.model.FlowModel.{FlowModel}
 use Rattle.model_types.specs.declared.period.Period.{Period}
 use Rattle.model_types.specs.Valid.{IsModel, IsPeriod}
@@ -34,5 +35,9 @@ recharged m r ps same has h = replaced m r m.nevtop ps h (same_view without step
     (each_period without (IsPeriod (record m { nrchop = r; periods = ps })) (IsPeriod m) (HasRecharge (record m { nrchop = r; periods = ps })) (period m r ps) ps m.periods same h.periods has.periods)
     (same_evaps m r ps h (same_view without evap_arrays ps m.periods same))
 
-pub recharged_model : (m n : FlowModel) → SameBut m n → IsRecharged n → IsModel m → IsModel n
+recharged_model : (m n : FlowModel) → SameBut m n → IsRecharged n → IsModel m → IsModel n
 recharged_model m n same has h = subst IsModel (sym same.model) (recharged m n.nrchop n.periods same.periods (subst IsRecharged same.model has) h)
+
+pub recharge_valid : (m : FlowModel) (r : Result FlowModel InputFault) → IfOk r (SameBut m) → IfOk r IsRecharged → IsModel m → IfOk r IsModel
+recharge_valid m (Ok n) same has h = recharged_model m n same has h
+recharge_valid m (Err fault) same has h = tt

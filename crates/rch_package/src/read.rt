@@ -61,7 +61,6 @@ fn with_recharge<F: Folder>(
 /// The first item that is wrong is refused on its line: OutOfProfile for parameters and for another option,
 /// NothingToReuse where a first array is to be reused; CellOutside, with line 0 and the cell, for a layer that the grid
 /// lacks. A read fault comes only from the folder. (TM 6-A16, RCH)
-#[tactic(auto, using(crate::proofs::ModelLemmas::recharged_model))]
 pub fn read_rch<F: Folder>(
     alloc: Global,
     file: &str,

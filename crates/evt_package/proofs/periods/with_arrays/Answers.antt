@@ -15,7 +15,9 @@ returns-in_err-period-clause-periods g c = λ told.
     rw (p.1, p.2) (each_stops _ c.in_err-period.field-0.0 c.loop-period.whole.items (into_iter_items c.loop-period.period-iterator) (into_iter_items c.next.new.self) c.in-Some.period _ _ c.in-Some.ensures.steps.0 (rw c.loop-period.invariant.3 at (c.in_err-period.ensures.period here)) (c.loop-period.invariant.2 told))
 
 pub loop-period-preserved : goal.loop-period-preserved
-loop-period-preserved g c = (tt, tt,
+loop-period-preserved g c = (
+  tt,
+  tt,
   (λ told.
       let here : IsTrue (is_some (g.F.Folder.files c.loop-period.folder)) = rw c.loop-period.invariant.3 told in
       rw c.in_ok-push.ensures.items (each_goes_on _ c.loop-period.whole.items (into_iter_items c.loop-period.period-iterator) (into_iter_items c.next.new.self) c.in-Some.period _ _ c.in_ok-period.period _ c.in-Some.ensures.steps.0 (rw c.loop-period.invariant.3 at (c.in_ok-period.ensures.period here)) (c.loop-period.invariant.2 told))),
@@ -23,7 +25,8 @@ loop-period-preserved g c = (tt, tt,
   c.in_ok-period.ensures.counts ∙ c.loop-period.invariant.4,
   c.in_ok-period.ensures.last,
   all_pushed (AreArrays c.args.file.now c.args.grid.now c.args.ibound.now c.args.option) c.loop-period.whole.items _ c.in_ok-period.period c.in_ok-push.ensures.items c.loop-period.invariant.6 c.in_ok-period.ensures.arrays,
-  rw c.in_ok-push.ensures.items (one_more_same without c.loop-period.whole.items (into_iter_items c.loop-period.period-iterator) (into_iter_items c.next.new.self) _ c.in-Some.period c.in_ok-period.period c.in-Some.ensures.steps.0 c.in_ok-period.ensures.others c.loop-period.invariant.7))
+  rw c.in_ok-push.ensures.items (one_more_same without c.loop-period.whole.items (into_iter_items c.loop-period.period-iterator) (into_iter_items c.next.new.self) _ c.in-Some.period c.in_ok-period.period c.in-Some.ensures.steps.0 c.in_ok-period.ensures.others c.loop-period.invariant.7),
+)
 
 pub returns-clause-periods : goal.returns-clause-periods
 returns-clause-periods g c = λ told. each_done _ c.loop-period.whole.items (into_iter_items c.loop-period.period-iterator) _ _ (no_items (into_iter_items c.loop-period.period-iterator) (sym c.loop-period.period-iterator.rest.ok.0 ∙ c.in-None.ensures.steps.0)) (c.loop-period.invariant.2 told)

@@ -12,7 +12,7 @@ abbrev pub invariant-loop-period : goal.invariant-loop-period
 invariant-loop-period g l =
     (goal.iterator-loop-period g).can_next l.period-iterator × (goal.iterator-loop-period g).is_finite l.period-iterator
     × (IsTrue (is_some (g.F.Folder.files l.fn.folder)) → with_front l.whole.items (for_each (period_at (told (g.F.Folder.files l.fn.folder)) l.file l.grid l.ibound l.option) (into_iter_items l.period-iterator) (l.last, l.lines))
-        ≡ for_each (period_at (told (g.F.Folder.files l.fn.folder)) l.file l.grid l.ibound l.option) l.fn.periods.items (l.fn.last, l.fn.lines))
+    ≡ for_each (period_at (told (g.F.Folder.files l.fn.folder)) l.file l.grid l.ibound l.option) l.fn.periods.items (l.fn.last, l.fn.lines))
     × (g.F.Folder.files l.folder ≡ g.F.Folder.files l.fn.folder) × (g.F.Folder.faults l.folder ≡ g.F.Folder.faults l.fn.folder)
     × AreLast l.grid l.last
     × All (AreArrays l.file l.grid l.ibound l.option) l.whole.items

@@ -1,0 +1,55 @@
+// The stresses of a model in reading order.
+ghost use Rattle.std.specs.Prelude.{◌≡◌, IfOk, IsTrue, is_some};
+ghost use Rattle.outside.specs.Counts.{InputCounts};
+ghost use Rattle.record_lines.specs.Reading.{Has};
+ghost use Rattle.array_reader.specs.Arrays.{told};
+ghost use Rattle.model_types.specs.Valid.{IsModel};
+ghost use Rattle.model_reader.specs.Stresses.{with_entries, with_stresses};
+
+use crate::arrays::{evt_in, rch_in};
+use crate::lists::{chd_in, drn_in, ghb_in, riv_in, wel_in};
+use model_types::FlowModel;
+use name_file::Names;
+use outside::{Folder, InputFault};
+use std::alloc::Global;
+
+/// The model with its wells, river reaches, drains and general heads, where their files are named.
+#[tactic(auto, unfolding(crate::specs::Stresses::with_entries))]
+fn with_entries<F: Folder>(
+    alloc: Global,
+    names: &Names,
+    folder: &mut F,
+    model: FlowModel,
+) -> Result<FlowModel, InputFault>
+    requires valid { IsModel model }
+    ensures files { F.files folder.new ≡ F.files folder.old }
+    ensures counts { InputCounts (F.faults folder.old) (F.faults folder.new) result }
+    ensures model { IsTrue (is_some (F.files folder.old)) → Has (λ m. m) result (with_entries (told (F.files folder.old)) names.now model) }
+    ensures form { IfOk result IsModel }
+{
+    let with_wells = wel_in(alloc, names, folder, model)?;
+    let with_rivers = riv_in(alloc, names, folder, with_wells)?;
+    let with_drains = drn_in(alloc, names, folder, with_rivers)?;
+    ghb_in(alloc, names, folder, with_drains)
+}
+
+/// The model with its stresses, where their files are named: those of entries, then recharge, given heads and
+/// evapotranspiration.
+#[tactic(auto, unfolding(crate::specs::Stresses::with_stresses))]
+pub fn with_stresses<F: Folder>(
+    alloc: Global,
+    names: &Names,
+    folder: &mut F,
+    model: FlowModel,
+) -> Result<FlowModel, InputFault>
+    requires valid { IsModel model }
+    ensures files { F.files folder.new ≡ F.files folder.old }
+    ensures counts { InputCounts (F.faults folder.old) (F.faults folder.new) result }
+    ensures model { IsTrue (is_some (F.files folder.old)) → Has (λ m. m) result (with_stresses (told (F.files folder.old)) names.now model) }
+    ensures form { IfOk result IsModel }
+{
+    let with_generals = with_entries(alloc, names, folder, model)?;
+    let with_recharge = rch_in(alloc, names, folder, with_generals)?;
+    let with_given = chd_in(alloc, names, folder, with_recharge)?;
+    evt_in(alloc, names, folder, with_given)
+}
