@@ -102,7 +102,7 @@ fn arrays_of<F: Folder>(
 }
 
 /// The next period with its arrays, which then stand. Its columns are tested.
-#[tactic(auto, unfolding(crate::specs::Evaporation::period_at), using(period_arrays::proofs::UpdateLemmas::stands))]
+#[tactic(auto, unfolding(crate::specs::Evaporation::period_at))]
 fn period_at<F: Folder>(
     alloc: Global,
     lines: &mut Lines,
@@ -110,7 +110,7 @@ fn period_at<F: Folder>(
     folder: &mut F,
     grid: &Grid,
     ibound: &[i64],
-    option: i64,
+    option: &i64,
     period: Period,
     last: &mut Last,
 ) -> Result<Period, InputFault>
@@ -118,16 +118,16 @@ fn period_at<F: Folder>(
     requires last { AreLast grid.now last.old }
     ensures files { F.files folder.new ≡ F.files folder.old }
     ensures counts { InputCounts (F.faults folder.old) (F.faults folder.new) result }
-    ensures period { IsTrue (is_some (F.files folder.old)) → Gives (λ p. p) result (last.new, lines.new) (period_at (told (F.files folder.old)) file.now grid.now ibound.now option period (last.old, lines.old)) }
+    ensures period { IsTrue (is_some (F.files folder.old)) → Gives (λ p. p) result (last.new, lines.new) (period_at (told (F.files folder.old)) file.now grid.now ibound.now option.now period (last.old, lines.old)) }
     ensures last { IfOk result (λ _. AreLast grid.now last.new) }
-    ensures arrays { IfOk result (AreArrays file.now grid.now ibound.now option) }
+    ensures arrays { IfOk result (AreArrays file.now grid.now ibound.now option.now) }
     ensures others { IfOk result (λ p. without p ≡ without period) }
 {
     let line = next_line(alloc, lines, file)?;
     let flags = flags_of(
         alloc,
         &mut Words::of(&line),
-        option == 2,
+        *option == 2,
         file,
         line.number,
         last,
@@ -146,7 +146,7 @@ fn with_arrays<F: Folder>(
     folder: &mut F,
     grid: &Grid,
     ibound: &[i64],
-    option: i64,
+    option: &i64,
     periods: Vec<Period>,
     last: &mut Last,
 ) -> Result<Vec<Period>, InputFault>
@@ -154,8 +154,8 @@ fn with_arrays<F: Folder>(
     requires last { AreLast grid.now last.old }
     ensures files { F.files folder.new ≡ F.files folder.old }
     ensures counts { InputCounts (F.faults folder.old) (F.faults folder.new) result }
-    ensures periods { IsTrue (is_some (F.files folder.old)) → Gives (λ v. v.items) result (last.new, lines.new) (for_each (period_at (told (F.files folder.old)) file.now grid.now ibound.now option) periods.items (last.old, lines.old)) }
-    ensures arrays { IfOk result (λ v. All (AreArrays file.now grid.now ibound.now option) v.items) }
+    ensures periods { IsTrue (is_some (F.files folder.old)) → Gives (λ v. v.items) result (last.new, lines.new) (for_each (period_at (told (F.files folder.old)) file.now grid.now ibound.now option.now) periods.items (last.old, lines.old)) }
+    ensures arrays { IfOk result (λ v. All (AreArrays file.now grid.now ibound.now option.now) v.items) }
     ensures others { IfOk result (λ v. map without v.items ≡ map without periods.items) }
 {
     let mut whole = Vec::new(alloc);
@@ -177,14 +177,14 @@ pub fn periods_of<F: Folder>(
     folder: &mut F,
     grid: &Grid,
     ibound: &[i64],
-    option: i64,
+    option: &i64,
     periods: Vec<Period>,
 ) -> Result<Vec<Period>, InputFault>
     requires size { HasSize grid.now }
     ensures files { F.files folder.new ≡ F.files folder.old }
     ensures counts { InputCounts (F.faults folder.old) (F.faults folder.new) result }
-    ensures periods { IsTrue (is_some (F.files folder.old)) → Has (λ v. v.items) result (periods_of (told (F.files folder.old)) file.now grid.now ibound.now option periods.items lines.old) }
-    ensures arrays { IfOk result (λ v. All (AreArrays file.now grid.now ibound.now option) v.items) }
+    ensures periods { IsTrue (is_some (F.files folder.old)) → Has (λ v. v.items) result (periods_of (told (F.files folder.old)) file.now grid.now ibound.now option.now periods.items lines.old) }
+    ensures arrays { IfOk result (λ v. All (AreArrays file.now grid.now ibound.now option.now) v.items) }
     ensures others { IfOk result (λ v. map without v.items ≡ map without periods.items) }
 {
     let mut last = Last {
