@@ -90,7 +90,7 @@ chosen_is m option layers c size lt active h = by_option (is_int option 1) (is_i
             let two : b ≡ true = (and_parts b (is_int (int_at layers (place_in_layer m.grid c)) (suc (layer_of m.grid c))) p).0 in
             absurd (omega (arith, one_option option 1 2 e (f ∙ two)))
         in_first (inr (inr p)) =
-            let three : d ≡ true = (and_parts d (is_active m c && is_highest m c) p).0 in
+            let three : d ≡ true = (and_parts d (is_active m c) (and_parts (d && is_active m c) (is_highest m c) p).0).0 in
             absurd (omega (arith, one_option option 1 3 e (g ∙ three)))
     by_option false true d e f g so = layer (parts false (is_int (int_at layers (place_in_layer m.grid c)) (suc (layer_of m.grid c))) (d && is_active m c && is_highest m c) so)
       where
@@ -98,7 +98,7 @@ chosen_is m option layers c size lt active h = by_option (is_int option 1) (is_i
         layer (inl p) = absurd (let clash : false ≡ true = p in cc)
         layer (inr (inl p)) = named m.grid (place_in_layer m.grid c) (layer_of m.grid c) _ (int_is (int_at layers (place_in_layer m.grid c)) (suc (layer_of m.grid c)) p) below ∙ ap Some (its_place m.grid c)
         layer (inr (inr p)) =
-            let three : d ≡ true = (and_parts d (is_active m c && is_highest m c) p).0 in
+            let three : d ≡ true = (and_parts d (is_active m c) (and_parts (d && is_active m c) (is_highest m c) p).0).0 in
             absurd (let r : pos 2 ≡ pos 3 = sym (int_is option 2 f) ∙ int_is option 3 (g ∙ three) in cc)
     by_option false false true e f g so =
         let p = and_parts (is_active m c) (is_highest m c) so in

@@ -39,14 +39,14 @@ are_arrays file grid ibound option flags before after period p has is surface ra
   passed = passed;
 }
 
-pub is_evaporating : (file : List ℕ) (m : FlowModel) (option : ℤ) → m.nevtop ≡ option → (pos 1 ≤ℤ option) × (option ≤ℤ pos 3) → All (AreArrays file m.grid m.ibound option) m.periods → IsEvaporating file m
-is_evaporating file m option is range h = record {
+pub is_evaporating : (file : List ℕ) (m : FlowModel) (ibound : List ℤ) (option : ℤ) (ps : List Period) → m.nevtop ≡ option → m.ibound ≡ ibound → m.periods ≡ ps → (pos 1 ≤ℤ option) × (option ≤ℤ pos 3) → All (AreArrays file m.grid ibound option) ps → IsEvaporating file m
+is_evaporating file m ibound option ps is active these range h = record {
   option = rw is range;
-  periods = All-weaker (AreArrays file m.grid m.ibound option) (HasEvaporation file m) (λ p a. record {
+  periods = subst (All (HasEvaporation file m)) (sym these) (All-weaker (AreArrays file m.grid ibound option) (HasEvaporation file m) (λ p a. record {
     surf = record { whole = a.surfaces.0; decimals = a.surfaces.1 };
     evtr = record { whole = a.rates.0; decimals = a.rates.1 };
     exdp = record { whole = a.depths.0; decimals = a.depths.1 };
     ievt = λ two. a.layers (rw is at two);
-    passed = rw is a.passed;
-  }) m.periods h;
+    passed = rw (is, active) a.passed;
+  }) ps h);
 }

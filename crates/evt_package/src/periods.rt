@@ -1,12 +1,14 @@
 // The arrays of each stress period.
-ghost use Rattle.std.specs.Prelude.{◌≡◌, IfOk, IsSomeAnd, IsTrue, is_some, All, map, true};
+ghost use Rattle.std.specs.Prelude.{◌≡◌, Ok, IfOk, IsSomeAnd, IsTrue, is_some, All, map, true};
 ghost use Rattle.outside.specs.Counts.{InputCounts};
 ghost use Rattle.record_lines.specs.Reading.{Gives, Has, for_each};
 ghost use Rattle.array_reader.specs.Arrays.{told};
 ghost use Rattle.model_types.specs.Grids.{HasSize};
 ghost use Rattle.model_types.specs.Receivers.{is_int};
 ghost use Rattle.period_arrays.specs.Forms.{IsReals, IsWhole};
-ghost use Rattle.evt_package.specs.Evaporation.{arrays_of, period_at, periods_of, with_last};
+ghost use Rattle.period_arrays.specs.Updates.{or_empty};
+ghost use Rattle.evt_package.specs.Columns.{columns_tested};
+ghost use Rattle.evt_package.specs.Evaporation.{arrays_of, period_at, periods_of, tested_period, with_last};
 ghost use Rattle.evt_package.specs.Forms.{AreArrays, AreLast, HasLast, without};
 
 use crate::columns::columns_tested;
@@ -101,6 +103,29 @@ fn arrays_of<F: Folder>(
     )
 }
 
+/// A period with the arrays that stand. Its columns are tested.
+#[tactic(auto, unfolding(crate::specs::Evaporation::tested_period))]
+fn tested_period(
+    alloc: Global,
+    file: &str,
+    grid: &Grid,
+    ibound: &[i64],
+    option: &i64,
+    period: Period,
+    last: &Last,
+) -> Result<Period, InputFault>
+    requires size { HasSize grid.now }
+    requires surfaces { IsReals grid.now (or_empty last.now.surfaces) }
+    requires depths { IsReals grid.now (or_empty last.now.depths) }
+    ensures period { Has (λ p. p) result (tested_period file.now grid.now ibound.now option.now (with_last period last.now)) }
+    ensures made { IfOk result (λ p. p ≡ with_last period last.now) }
+    ensures passed { IfOk result (λ p. columns_tested file.now grid.now ibound.now option.now p ≡ Ok tt) }
+{
+    let period = with_last(alloc, period, last)?;
+    columns_tested(alloc, file, grid, ibound, option, &period)?;
+    Ok(period)
+}
+
 /// The next period with its arrays, which then stand. Its columns are tested.
 #[tactic(auto, unfolding(crate::specs::Evaporation::period_at))]
 fn period_at<F: Folder>(
@@ -133,8 +158,7 @@ fn period_at<F: Folder>(
         last,
     )?;
     arrays_of(alloc, lines, file, folder, grid, flags, last)?;
-    let period = with_last(alloc, period, last)?;
-    columns_tested(alloc, file, grid, ibound, option, &period)?;
+    let period = tested_period(alloc, file, grid, ibound, option, period, last)?;
     Ok(period)
 }
 
