@@ -1,5 +1,5 @@
 -- The cell that an option chooses is the one of its column.
-use Rattle.std.proofs.Common.{◌≡◌, ◌⊎◌, inl, inr, ℕ, zero, suc, ◌+◌, ◌-◌, ◌*◌, ◌/◌, ◌%◌, ◌<◌, ◌≤◌, Bool, true, false, not, ◌&&◌, ◌||◌, ◌==◌, nat_le, nat_lt, List, ℤ, pos, negsuc, Option, Some, None, get_or, length, refl, sym, ap, ◌∙◌, arith}
+use Rattle.std.proofs.Common.{◌≡◌, ◌⊎◌, inl, inr, ℕ, zero, suc, ◌+◌, ◌-◌, ◌*◌, ◌/◌, ◌%◌, ◌<◌, ◌≤◌, Bool, true, false, not, ◌&&◌, ◌||◌, ◌==◌, nat_le, nat_lt, List, ℤ, pos, negsuc, Option, Some, None, get_or, length, refl, sym, ap, ◌∙◌, zero-add, arith}
 use Rattle.std.specs.List.{list_any, range_with_len}
 use Rattle.std.specs.Prelude.{if◌then◌else◌}
 use Rattle.std.proofs.lemmas.Bool.{and_parts, not-true, eqb-true, lt-leb, le-leb, lt-ltb}
@@ -22,13 +22,13 @@ found_at : (g : Grid) (ibound : List ℤ) (i n k t : ℕ) → k ≤ t → t < k 
     → ((j : ℕ) → j < t → is_nonzero (int_at ibound (j * layer_size g + i)) ≡ false) → highest g ibound i k n ≡ Some (t * layer_size g + i)
 unfolding highest
 found_at g ibound i zero k t low high active above = absurd (omega (arith, low, high))
-found_at g ibound i (suc n) k t low high active above = by_case (leb_tells (k + 1) t)
+found_at g ibound i (suc n) k t low high active above = by_case (leb_tells (k + 1) t) (λ past. found_at g ibound i n (k + 1) t past (omega (arith, high)) active above)
   where
-    by_case : ((nat_le (k + 1) t ≡ true) × (k + 1 ≤ t)) ⊎ ((nat_le (k + 1) t ≡ false) × (t < k + 1)) → (if is_nonzero (int_at ibound (k * layer_size g + i)) then Some (k * layer_size g + i) else highest g ibound i (k + 1) n) ≡ Some (t * layer_size g + i)
-    by_case (inl a) =
+    by_case : ((nat_le (k + 1) t ≡ true) × (k + 1 ≤ t)) ⊎ ((nat_le (k + 1) t ≡ false) × (t < k + 1)) → (k + 1 ≤ t → highest g ibound i (k + 1) n ≡ Some (t * layer_size g + i)) → (if is_nonzero (int_at ibound (k * layer_size g + i)) then Some (k * layer_size g + i) else highest g ibound i (k + 1) n) ≡ Some (t * layer_size g + i)
+    by_case (inl a) later =
         let no : is_nonzero (int_at ibound (k * layer_size g + i)) ≡ false = above k (omega (arith, a.1)) in
-        rw no (found_at g ibound i n (k + 1) t a.1 (omega (arith, high)) active above)
-    by_case (inr a) =
+        rw no (later a.1)
+    by_case (inr a) later =
         let same : k ≡ t = omega (arith, a.1, low) in
         rw (same, active) refl
 
@@ -43,7 +43,7 @@ above_highest m c h j lt = by_case (is_active m (j * layer_size m.grid + place_i
     by_case : (b : Bool) → is_active m (j * layer_size m.grid + place_in_layer m.grid c) ≡ b → is_active m (j * layer_size m.grid + place_in_layer m.grid c) ≡ false
     by_case false e = e
     by_case true e =
-        let it : get_or (range_with_len 0 (layer_of m.grid c)) j 0 ≡ j = get_or-range_with_len 0 (layer_of m.grid c) j 0 lt in
+        let it : get_or (range_with_len 0 (layer_of m.grid c)) j 0 ≡ j = get_or-range_with_len 0 (layer_of m.grid c) j 0 lt ∙ zero-add j in
         let inside : j < length (range_with_len 0 (layer_of m.grid c)) = rw (length-range_with_len 0 (layer_of m.grid c)) lt in
         let some : list_any (λ k. is_active m (k * layer_size m.grid + place_in_layer m.grid c)) (range_with_len 0 (layer_of m.grid c)) ≡ true = list_any_at (λ k. is_active m (k * layer_size m.grid + place_in_layer m.grid c)) (range_with_len 0 (layer_of m.grid c)) j 0 inside (rw it e) in
         let none : list_any (λ k. is_active m (k * layer_size m.grid + place_in_layer m.grid c)) (range_with_len 0 (layer_of m.grid c)) ≡ false = not-true _ h in
@@ -87,10 +87,10 @@ chosen_is m option layers c size lt active h = by_option (is_int option 1) (is_i
         in_first : ((layer_of m.grid c == 0) ≡ true) ⊎ (((b && is_int (int_at layers (place_in_layer m.grid c)) (suc (layer_of m.grid c))) ≡ true) ⊎ ((d && is_active m c && is_highest m c) ≡ true)) → (layer_of m.grid c == 0) ≡ true
         in_first (inl p) = p
         in_first (inr (inl p)) =
-            let two : b ≡ true = (and_parts b _ p).0 in
+            let two : b ≡ true = (and_parts b (is_int (int_at layers (place_in_layer m.grid c)) (suc (layer_of m.grid c))) p).0 in
             absurd (omega (arith, one_option option 1 2 e (f ∙ two)))
         in_first (inr (inr p)) =
-            let three : d ≡ true = (and_parts d _ p).0 in
+            let three : d ≡ true = (and_parts d (is_active m c) (and_parts (d && is_active m c) (is_highest m c) p).0).0 in
             absurd (omega (arith, one_option option 1 3 e (g ∙ three)))
     by_option false true d e f g so = layer (parts false (is_int (int_at layers (place_in_layer m.grid c)) (suc (layer_of m.grid c))) (d && is_active m c && is_highest m c) so)
       where
@@ -98,7 +98,7 @@ chosen_is m option layers c size lt active h = by_option (is_int option 1) (is_i
         layer (inl p) = absurd (let clash : false ≡ true = p in cc)
         layer (inr (inl p)) = named m.grid (place_in_layer m.grid c) (layer_of m.grid c) _ (int_is (int_at layers (place_in_layer m.grid c)) (suc (layer_of m.grid c)) p) below ∙ ap Some (its_place m.grid c)
         layer (inr (inr p)) =
-            let three : d ≡ true = (and_parts d _ p).0 in
+            let three : d ≡ true = (and_parts d (is_active m c) (and_parts (d && is_active m c) (is_highest m c) p).0).0 in
             absurd (let r : pos 2 ≡ pos 3 = sym (int_is option 2 f) ∙ int_is option 3 (g ∙ three) in cc)
     by_option false false true e f g so =
         let p = and_parts (is_active m c) (is_highest m c) so in

@@ -1,18 +1,52 @@
--- A model whose periods have their arrays.
-use Rattle.std.proofs.Common.{◌≡◌, ℕ, ℤ, ◌≤ℤ◌, pos, List, All}
+-- A period whose arrays stand and whose columns passed their tests, and a model of such periods.
+use Rattle.std.proofs.Common.{◌≡◌, ℕ, ℤ, ◌≤ℤ◌, pos, true, false, is_some, List, All, Ok, sym, subst, ◌∙◌}
 use Rattle.std.proofs.lemmas.List.Elements.{All-weaker}
+use Rattle.model_types.specs.declared.grid.Grid.{Grid}
 use Rattle.model_types.specs.declared.model.FlowModel.{FlowModel}
 use Rattle.model_types.specs.declared.period.Period.{Period}
-use Rattle.evt_package.specs.Forms.{AreArrays, HasEvaporation, IsEvaporating}
+use Rattle.model_types.specs.Receivers.{is_int}
+use Rattle.period_arrays.specs.Forms.{IsReals, IsWhole}
+use Rattle.period_arrays.proofs.UpdateLemmas.{stands}
+use Rattle.evt_package.specs.Columns.{columns_tested}
+use Rattle.evt_package.specs.Evaporation.{with_last}
+use Rattle.evt_package.specs.Forms.{AreArrays, HasEvaporation, HasLast, IsEvaporating}
+use Rattle.evt_package.specs.declared.flags.Flags.{Flags}
+use Rattle.evt_package.specs.declared.periods.Last.{Last}
 
-pub is_evaporating : (file : List ℕ) (m : FlowModel) (option : ℤ) (ps : List Period) → (pos 1 ≤ℤ option) × (option ≤ℤ pos 3) → All (AreArrays file m.grid m.ibound option) ps → IsEvaporating file (record m { nevtop = option; periods = ps })
-is_evaporating file m option ps range h = record {
-  option = range;
-  periods = All-weaker (AreArrays file m.grid m.ibound option) (HasEvaporation file (record m { nevtop = option; periods = ps })) (λ p a. record {
+pub surfaces_stand : (grid : Grid) (flags : Flags) (before after : Last) (period p : Period) → HasLast grid flags before after → p ≡ with_last period after → (flags.surface ≡ false → is_some before.surfaces ≡ true) → IsReals grid p.surf
+surfaces_stand grid flags before after period p has is old = subst (λ x. IsReals grid x.surf) (sym is) (stands (IsReals grid) after.surfaces (has.surfaces old))
+
+rates_stand : (grid : Grid) (flags : Flags) (before after : Last) (period p : Period) → HasLast grid flags before after → p ≡ with_last period after → (flags.rate ≡ false → is_some before.rates ≡ true) → IsReals grid p.evtr
+rates_stand grid flags before after period p has is old = subst (λ x. IsReals grid x.evtr) (sym is) (stands (IsReals grid) after.rates (has.rates old))
+
+pub depths_stand : (grid : Grid) (flags : Flags) (before after : Last) (period p : Period) → HasLast grid flags before after → p ≡ with_last period after → (flags.depth ≡ false → is_some before.depths ≡ true) → IsReals grid p.exdp
+depths_stand grid flags before after period p has is old = subst (λ x. IsReals grid x.exdp) (sym is) (stands (IsReals grid) after.depths (has.depths old))
+
+layers_stand : (grid : Grid) (flags : Flags) (before after : Last) (period p : Period) → HasLast grid flags before after → p ≡ with_last period after → (flags.layer ≡ false → is_some before.layers ≡ true) → IsWhole grid p.ievt
+layers_stand grid flags before after period p has is old = subst (λ x. IsWhole grid x.ievt) (sym is) (stands (IsWhole grid) after.layers (has.layers old))
+
+pub are_arrays : (file : List ℕ) (grid : Grid) (ibound : List ℤ) (option : ℤ) (flags : Flags) (before after : Last) (period p : Period) → HasLast grid flags before after → p ≡ with_last period after
+    → (flags.surface ≡ false → is_some before.surfaces ≡ true)
+    → (flags.rate ≡ false → is_some before.rates ≡ true)
+    → (flags.depth ≡ false → is_some before.depths ≡ true)
+    → (is_int option 2 ≡ true → flags.layer ≡ false → is_some before.layers ≡ true)
+    → columns_tested file grid ibound option p ≡ Ok tt → AreArrays file grid ibound option p
+are_arrays file grid ibound option flags before after period p has is surface rate depth layer passed = record {
+  surfaces = surfaces_stand grid flags before after period p has is surface;
+  rates = rates_stand grid flags before after period p has is rate;
+  depths = depths_stand grid flags before after period p has is depth;
+  layers = λ two. layers_stand grid flags before after period p has is (layer two);
+  passed = passed;
+}
+
+pub is_evaporating : (file : List ℕ) (m : FlowModel) (ibound : List ℤ) (option : ℤ) (ps : List Period) → m.nevtop ≡ option → m.ibound ≡ ibound → m.periods ≡ ps → (pos 1 ≤ℤ option) × (option ≤ℤ pos 3) → All (AreArrays file m.grid ibound option) ps → IsEvaporating file m
+is_evaporating file m ibound option ps is active these range h = record {
+  option = rw is range;
+  periods = subst (All (HasEvaporation file m)) (sym these) (All-weaker (AreArrays file m.grid ibound option) (HasEvaporation file m) (λ p a. record {
     surf = record { whole = a.surfaces.0; decimals = a.surfaces.1 };
     evtr = record { whole = a.rates.0; decimals = a.rates.1 };
     exdp = record { whole = a.depths.0; decimals = a.depths.1 };
-    ievt = a.layers;
-    passed = a.passed;
-  }) ps h;
+    ievt = λ two. a.layers (rw is at two);
+    passed = rw (is, active) a.passed;
+  }) ps h);
 }

@@ -43,14 +43,18 @@ arrays_of files file grid flags s = do
 abbrev pub with_last : Period → Last → Period
 with_last p last = record p { surf = or_empty last.surfaces; evtr = or_empty last.rates; exdp = or_empty last.depths; ievt = or_empty last.layers }
 
+-- a period whose columns are tested
+unfoldable pub tested_period : List ℕ → Grid → List ℤ → ℤ → Period → Result Period Refusal
+tested_period file grid ibound option period = columns_tested file grid ibound option period >>= λ tested. Ok period
+
 -- a period with its arrays, whose columns are then tested
 unfoldable pub period_at : List File → List ℕ → Grid → List ℤ → ℤ → Period → (Last × Left) → Result (Period × (Last × Left)) Refusal
 period_at files file grid ibound option period s = do
   line ← line_at file s.1
   flags ← flags_of (is_int option 2) file line.0.number s.0 (words line.0.bytes)
   arrays ← arrays_of files file grid flags (s.0, line.1)
-  tested ← columns_tested file grid ibound option (with_last period arrays.0)
-  Ok (with_last period arrays.0, arrays)
+  whole ← tested_period file grid ibound option (with_last period arrays.0)
+  Ok (whole, arrays)
 
 abbrev pub without_state : {X S : Type 0} → Result (X × S) Refusal → Result X Refusal
 without_state read = read >>= λ x. Ok x.0

@@ -52,15 +52,15 @@ fn in_layer(grid: &Grid, column: u32, layer: i64) -> Option<u32>
 
 /// The cell of a column that the option chooses, if there is one.
 #[tactic(auto, using(period_arrays::proofs::PlaceLemmas::in_grid))]
-pub fn chosen(grid: &Grid, ibound: &[i64], option: i64, layers: &[i64], column: u32) -> Option<u32>
+pub fn chosen(grid: &Grid, ibound: &[i64], option: &i64, layers: &[i64], column: u32) -> Option<u32>
     requires size { HasSize grid.now }
     requires column { column < layer_size grid.now }
-    ensures cell { result ≡ chosen grid.now ibound.now option layers.now column }
+    ensures cell { result ≡ chosen grid.now ibound.now option.now layers.now column }
     ensures inside { IfSome result (λ c. c < cell_count grid.now) }
 {
-    if option == 1 {
+    if *option == 1 {
         Some(column)
-    } else if option == 2 {
+    } else if *option == 2 {
         in_layer(grid, column, int_at(layers, column))
     } else {
         highest(grid, ibound, column)

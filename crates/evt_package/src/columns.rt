@@ -65,7 +65,7 @@ fn column_tested(
     file: &str,
     grid: &Grid,
     ibound: &[i64],
-    option: i64,
+    option: &i64,
     period: &Period,
     column: u32,
 ) -> Result<(), TextFault>
@@ -73,7 +73,7 @@ fn column_tested(
     requires surfaces { IsReals grid.now period.now.surf }
     requires depths { IsReals grid.now period.now.exdp }
     requires column { column < layer_size grid.now }
-    ensures { HasText (λ _. tt) result (column_step file.now grid.now ibound.now option period.now column tt) }
+    ensures { HasText (λ _. tt) result (column_step file.now grid.now ibound.now option.now period.now column tt) }
 {
     match chosen(grid, ibound, option, period.ievt.as_slice(), column) {
         Some(cell) => {
@@ -91,13 +91,13 @@ pub fn columns_tested(
     file: &str,
     grid: &Grid,
     ibound: &[i64],
-    option: i64,
+    option: &i64,
     period: &Period,
 ) -> Result<(), TextFault>
     requires size { HasSize grid.now }
     requires surfaces { IsReals grid.now period.now.surf }
     requires depths { IsReals grid.now period.now.exdp }
-    ensures { HasText (λ _. tt) result (columns_tested file.now grid.now ibound.now option period.now) }
+    ensures { HasText (λ _. tt) result (columns_tested file.now grid.now ibound.now option.now period.now) }
 {
     let columns = grid.layer_size();
     for column in 0..columns {

@@ -1,12 +1,14 @@
 // The arrays of each stress period.
-ghost use Rattle.std.specs.Prelude.{◌≡◌, IfOk, IsSomeAnd, IsTrue, is_some, All, map, true};
+ghost use Rattle.std.specs.Prelude.{◌≡◌, Ok, IfOk, IsSomeAnd, IsTrue, is_some, All, map, true};
 ghost use Rattle.outside.specs.Counts.{InputCounts};
 ghost use Rattle.record_lines.specs.Reading.{Gives, Has, for_each};
 ghost use Rattle.array_reader.specs.Arrays.{told};
 ghost use Rattle.model_types.specs.Grids.{HasSize};
 ghost use Rattle.model_types.specs.Receivers.{is_int};
 ghost use Rattle.period_arrays.specs.Forms.{IsReals, IsWhole};
-ghost use Rattle.evt_package.specs.Evaporation.{arrays_of, period_at, periods_of, with_last};
+ghost use Rattle.period_arrays.specs.Updates.{or_empty};
+ghost use Rattle.evt_package.specs.Columns.{columns_tested};
+ghost use Rattle.evt_package.specs.Evaporation.{arrays_of, period_at, periods_of, tested_period, with_last};
 ghost use Rattle.evt_package.specs.Forms.{AreArrays, AreLast, HasLast, without};
 
 use crate::columns::columns_tested;
@@ -101,8 +103,31 @@ fn arrays_of<F: Folder>(
     )
 }
 
+/// A period with the arrays that stand. Its columns are tested.
+#[tactic(auto, unfolding(crate::specs::Evaporation::tested_period))]
+fn tested_period(
+    alloc: Global,
+    file: &str,
+    grid: &Grid,
+    ibound: &[i64],
+    option: &i64,
+    period: Period,
+    last: &Last,
+) -> Result<Period, InputFault>
+    requires size { HasSize grid.now }
+    requires surfaces { IsReals grid.now (or_empty last.now.surfaces) }
+    requires depths { IsReals grid.now (or_empty last.now.depths) }
+    ensures period { Has (λ p. p) result (tested_period file.now grid.now ibound.now option.now (with_last period last.now)) }
+    ensures made { IfOk result (λ p. p ≡ with_last period last.now) }
+    ensures passed { IfOk result (λ p. columns_tested file.now grid.now ibound.now option.now p ≡ Ok tt) }
+{
+    let period = with_last(alloc, period, last)?;
+    columns_tested(alloc, file, grid, ibound, option, &period)?;
+    Ok(period)
+}
+
 /// The next period with its arrays, which then stand. Its columns are tested.
-#[tactic(auto, unfolding(crate::specs::Evaporation::period_at), using(period_arrays::proofs::UpdateLemmas::stands))]
+#[tactic(auto, unfolding(crate::specs::Evaporation::period_at))]
 fn period_at<F: Folder>(
     alloc: Global,
     lines: &mut Lines,
@@ -110,7 +135,7 @@ fn period_at<F: Folder>(
     folder: &mut F,
     grid: &Grid,
     ibound: &[i64],
-    option: i64,
+    option: &i64,
     period: Period,
     last: &mut Last,
 ) -> Result<Period, InputFault>
@@ -118,23 +143,22 @@ fn period_at<F: Folder>(
     requires last { AreLast grid.now last.old }
     ensures files { F.files folder.new ≡ F.files folder.old }
     ensures counts { InputCounts (F.faults folder.old) (F.faults folder.new) result }
-    ensures period { IsTrue (is_some (F.files folder.old)) → Gives (λ p. p) result (last.new, lines.new) (period_at (told (F.files folder.old)) file.now grid.now ibound.now option period (last.old, lines.old)) }
+    ensures period { IsTrue (is_some (F.files folder.old)) → Gives (λ p. p) result (last.new, lines.new) (period_at (told (F.files folder.old)) file.now grid.now ibound.now option.now period (last.old, lines.old)) }
     ensures last { IfOk result (λ _. AreLast grid.now last.new) }
-    ensures arrays { IfOk result (AreArrays file.now grid.now ibound.now option) }
+    ensures arrays { IfOk result (AreArrays file.now grid.now ibound.now option.now) }
     ensures others { IfOk result (λ p. without p ≡ without period) }
 {
     let line = next_line(alloc, lines, file)?;
     let flags = flags_of(
         alloc,
         &mut Words::of(&line),
-        option == 2,
+        *option == 2,
         file,
         line.number,
         last,
     )?;
     arrays_of(alloc, lines, file, folder, grid, flags, last)?;
-    let period = with_last(alloc, period, last)?;
-    columns_tested(alloc, file, grid, ibound, option, &period)?;
+    let period = tested_period(alloc, file, grid, ibound, option, period, last)?;
     Ok(period)
 }
 
@@ -146,7 +170,7 @@ fn with_arrays<F: Folder>(
     folder: &mut F,
     grid: &Grid,
     ibound: &[i64],
-    option: i64,
+    option: &i64,
     periods: Vec<Period>,
     last: &mut Last,
 ) -> Result<Vec<Period>, InputFault>
@@ -154,8 +178,8 @@ fn with_arrays<F: Folder>(
     requires last { AreLast grid.now last.old }
     ensures files { F.files folder.new ≡ F.files folder.old }
     ensures counts { InputCounts (F.faults folder.old) (F.faults folder.new) result }
-    ensures periods { IsTrue (is_some (F.files folder.old)) → Gives (λ v. v.items) result (last.new, lines.new) (for_each (period_at (told (F.files folder.old)) file.now grid.now ibound.now option) periods.items (last.old, lines.old)) }
-    ensures arrays { IfOk result (λ v. All (AreArrays file.now grid.now ibound.now option) v.items) }
+    ensures periods { IsTrue (is_some (F.files folder.old)) → Gives (λ v. v.items) result (last.new, lines.new) (for_each (period_at (told (F.files folder.old)) file.now grid.now ibound.now option.now) periods.items (last.old, lines.old)) }
+    ensures arrays { IfOk result (λ v. All (AreArrays file.now grid.now ibound.now option.now) v.items) }
     ensures others { IfOk result (λ v. map without v.items ≡ map without periods.items) }
 {
     let mut whole = Vec::new(alloc);
@@ -177,14 +201,14 @@ pub fn periods_of<F: Folder>(
     folder: &mut F,
     grid: &Grid,
     ibound: &[i64],
-    option: i64,
+    option: &i64,
     periods: Vec<Period>,
 ) -> Result<Vec<Period>, InputFault>
     requires size { HasSize grid.now }
     ensures files { F.files folder.new ≡ F.files folder.old }
     ensures counts { InputCounts (F.faults folder.old) (F.faults folder.new) result }
-    ensures periods { IsTrue (is_some (F.files folder.old)) → Has (λ v. v.items) result (periods_of (told (F.files folder.old)) file.now grid.now ibound.now option periods.items lines.old) }
-    ensures arrays { IfOk result (λ v. All (AreArrays file.now grid.now ibound.now option) v.items) }
+    ensures periods { IsTrue (is_some (F.files folder.old)) → Has (λ v. v.items) result (periods_of (told (F.files folder.old)) file.now grid.now ibound.now option.now periods.items lines.old) }
+    ensures arrays { IfOk result (λ v. All (AreArrays file.now grid.now ibound.now option.now) v.items) }
     ensures others { IfOk result (λ v. map without v.items ≡ map without periods.items) }
 {
     let mut last = Last {

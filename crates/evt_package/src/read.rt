@@ -31,7 +31,7 @@ fn option_line(alloc: Global, lines: &mut Lines, file: &str) -> Result<i64, Text
 }
 
 /// The model with the arrays of its periods.
-#[tactic(auto, unfolding(crate::specs::Evaporation::evt_of), using(crate::proofs::PeriodForms::is_evaporating))]
+#[tactic(auto, unfolding(crate::specs::Evaporation::evt_of))]
 fn with_evaporation<F: Folder>(
     alloc: Global,
     file: &str,
@@ -57,7 +57,7 @@ fn with_evaporation<F: Folder>(
         folder,
         &model.grid,
         model.ibound.as_slice(),
-        nevtop,
+        &nevtop,
         periods,
     )?;
     Ok(FlowModel {

@@ -24,7 +24,7 @@ loop-period-preserved g c = (
   c.in_ok-period.ensures.files ∙ c.loop-period.invariant.3,
   c.in_ok-period.ensures.counts ∙ c.loop-period.invariant.4,
   c.in_ok-period.ensures.last,
-  all_pushed (AreArrays c.args.file.now c.args.grid.now c.args.ibound.now c.args.option) c.loop-period.whole.items _ c.in_ok-period.period c.in_ok-push.ensures.items c.loop-period.invariant.6 c.in_ok-period.ensures.arrays,
+  all_pushed (AreArrays c.args.file.now c.args.grid.now c.args.ibound.now c.args.option.now) c.loop-period.whole.items _ c.in_ok-period.period c.in_ok-push.ensures.items c.loop-period.invariant.6 c.in_ok-period.ensures.arrays,
   rw c.in_ok-push.ensures.items (one_more_same without c.loop-period.whole.items (into_iter_items c.loop-period.period-iterator) (into_iter_items c.next.new.self) _ c.in-Some.period c.in_ok-period.period c.in-Some.ensures.steps.0 c.in_ok-period.ensures.others c.loop-period.invariant.7),
 )
 
