@@ -1,14 +1,17 @@
 -- A period whose arrays stand and whose columns passed their tests, and a model of such periods.
-use Rattle.std.proofs.Common.{◌≡◌, ℕ, ℤ, ◌≤ℤ◌, pos, true, false, is_some, List, All, Ok, sym, subst, ◌∙◌}
+use Rattle.std.proofs.Common.{◌≡◌, ℕ, ℤ, ◌≤ℤ◌, pos, Bool, true, false, is_some, List, All, Ok, refl, sym, subst, ◌∙◌}
 use Rattle.std.proofs.lemmas.List.Elements.{All-weaker}
 use Rattle.model_types.specs.declared.grid.Grid.{Grid}
 use Rattle.model_types.specs.declared.model.FlowModel.{FlowModel}
 use Rattle.model_types.specs.declared.period.Period.{Period}
 use Rattle.model_types.specs.Receivers.{is_int}
+use Rattle.outside.specs.Files.{File}
+use Rattle.record_lines.specs.Items.{line_at}
+use Rattle.record_lines.specs.Layout.{Left, Numbered, words}
 use Rattle.period_arrays.specs.Forms.{IsReals, IsWhole}
 use Rattle.period_arrays.proofs.UpdateLemmas.{stands}
 use Rattle.evt_package.specs.Columns.{columns_tested}
-use Rattle.evt_package.specs.Evaporation.{with_last}
+use Rattle.evt_package.specs.Evaporation.{arrays_of, flags_of, period_at, tested_period, with_last}
 use Rattle.evt_package.specs.Forms.{AreArrays, HasEvaporation, HasLast, IsEvaporating}
 use Rattle.evt_package.specs.declared.flags.Flags.{Flags}
 use Rattle.evt_package.specs.declared.periods.Last.{Last}
@@ -38,6 +41,17 @@ are_arrays file grid ibound option flags before after period p has is surface ra
   layers = λ two. layers_stand grid flags before after period p has is (layer two);
   passed = passed;
 }
+
+-- the line, the flags, the arrays and the tests of a period, one behind the other
+pub period_read : (files : List File) (file : List ℕ) (grid : Grid) (ibound : List ℤ) (option : ℤ) (layered : Bool) (period p : Period) (last : Last) (left : Left) (line : Numbered × Left) (flags : Flags) (arrays : Last × Left)
+    → layered ≡ is_int option 2
+    → line_at file left ≡ Ok line
+    → flags_of layered file line.0.number last (words line.0.bytes) ≡ Ok flags
+    → arrays_of files file grid flags (last, line.1) ≡ Ok arrays
+    → tested_period file grid ibound option (with_last period arrays.0) ≡ Ok p
+    → period_at files file grid ibound option period (last, left) ≡ Ok (p, arrays)
+unfolding period_at
+period_read files file grid ibound option layered period p last left line flags arrays same a b d e = rw (← same, a, b, d, e) refl
 
 pub is_evaporating : (file : List ℕ) (m : FlowModel) (ibound : List ℤ) (option : ℤ) (ps : List Period) → m.nevtop ≡ option → m.ibound ≡ ibound → m.periods ≡ ps → (pos 1 ≤ℤ option) × (option ≤ℤ pos 3) → All (AreArrays file m.grid ibound option) ps → IsEvaporating file m
 is_evaporating file m ibound option ps is active these range h = record {

@@ -1,7 +1,7 @@
 // The arrays of each stress period.
 ghost use Rattle.std.specs.Prelude.{◌≡◌, Ok, IfOk, IsSomeAnd, IsTrue, is_some, All, map, true};
 ghost use Rattle.outside.specs.Counts.{InputCounts};
-ghost use Rattle.record_lines.specs.Reading.{Gives, Has, for_each};
+ghost use Rattle.record_lines.specs.Reading.{Gives, Has, HasText, for_each};
 ghost use Rattle.array_reader.specs.Arrays.{told};
 ghost use Rattle.model_types.specs.Grids.{HasSize};
 ghost use Rattle.model_types.specs.Receivers.{is_int};
@@ -16,7 +16,7 @@ use crate::flags::{Flags, flags_of};
 use array_reader::next_line;
 use decimal_input::dec::Dec;
 use model_types::{Grid, Period, Shared};
-use outside::{Folder, InputFault};
+use outside::{Folder, InputFault, TextFault};
 use period_arrays::{array_of, update_layers, update_reals};
 use record_lines::{Lines, Words};
 use std::alloc::{AllocError, Global};
@@ -113,17 +113,24 @@ fn tested_period(
     option: &i64,
     period: Period,
     last: &Last,
-) -> Result<Period, InputFault>
+) -> Result<Period, TextFault>
     requires size { HasSize grid.now }
     requires surfaces { IsReals grid.now (or_empty last.now.surfaces) }
     requires depths { IsReals grid.now (or_empty last.now.depths) }
-    ensures period { Has (λ p. p) result (tested_period file.now grid.now ibound.now option.now (with_last period last.now)) }
+    ensures period { HasText (λ p. p) result (tested_period file.now grid.now ibound.now option.now (with_last period last.now)) }
     ensures made { IfOk result (λ p. p ≡ with_last period last.now) }
     ensures passed { IfOk result (λ p. columns_tested file.now grid.now ibound.now option.now p ≡ Ok tt) }
 {
     let period = with_last(alloc, period, last)?;
     columns_tested(alloc, file, grid, ibound, option, &period)?;
     Ok(period)
+}
+
+/// Whether the option chooses a cell by an array of layers.
+fn is_layered(option: &i64) -> bool
+    ensures { result ≡ is_int option.now 2 }
+{
+    *option == 2
 }
 
 /// The next period with its arrays, which then stand. Its columns are tested.
@@ -152,7 +159,7 @@ fn period_at<F: Folder>(
     let flags = flags_of(
         alloc,
         &mut Words::of(&line),
-        *option == 2,
+        is_layered(option),
         file,
         line.number,
         last,
