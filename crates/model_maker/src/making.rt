@@ -1,6 +1,6 @@
-// All files in one folder.
-ghost use Rattle.std.specs.Prelude.{◌≡◌, ◌<◌, ◌≤◌, [], IfOk};
-ghost use Rattle.model_maker.specs.Files.{made_files, made_name};
+// All files in one folder. It has the file first that was added last.
+ghost use Rattle.std.specs.Prelude.{◌≡◌, ◌≤◌, [], ◌∷◌, codes, IfOk};
+ghost use Rattle.model_maker.specs.Files.{bas_text, dis_text, file, made_files, made_name, nam_text, rch_text, riv_text};
 
 use crate::draws::Draws;
 use crate::grids::{bas_text, dis_text};
@@ -16,6 +16,37 @@ const NAMES: &[u8] = b"DIS 11 m.dis\nBAS6 12 m.bas\nLPF 13 m.lpf\nWEL 14 m.wel\n
 
 const RECHARGE: &[u8] = b"3 0\n0\nCONSTANT 0.001\n";
 
+fn add_stresses(
+    alloc: Global,
+    folder: &mut MemFolder,
+    well: &[u8],
+    size: u64,
+) -> Result<(), AllocError>
+    ensures { IfOk result (λ _. folder.new ≡ record folder.old { files = file (codes "m.wel") well.now ∷ file (codes "m.riv") (riv_text size) ∷ file (codes "m.rch") rch_text ∷ folder.old.files }) }
+{
+    let river = riv_text(alloc, size)?;
+    folder.add("m.rch", RECHARGE)?;
+    folder.add("m.riv", river.as_slice())?;
+    folder.add("m.wel", well)
+}
+
+fn add_layers(
+    alloc: Global,
+    folder: &mut MemFolder,
+    properties: &[u8],
+    size: u64,
+) -> Result<(), AllocError>
+    requires { 1 ≤ size }
+    ensures { IfOk result (λ _. folder.new ≡ record folder.old { files = file made_name nam_text ∷ file (codes "m.dis") (dis_text size) ∷ file (codes "m.bas") (bas_text size) ∷ file (codes "m.lpf") properties.now ∷ folder.old.files }) }
+{
+    let grid = dis_text(alloc, size)?;
+    let heads = bas_text(alloc, size)?;
+    folder.add("m.lpf", properties)?;
+    folder.add("m.bas", heads.as_slice())?;
+    folder.add("m.dis", grid.as_slice())?;
+    folder.add(NAME, NAMES)
+}
+
 /// The files of the model that is made of a seed: two layers of `size` by `size` cells of 100 by 100 length units,
 /// with hydraulic conductivities and a well that are drawn from the seed, given heads along the first column, a
 /// river along the last one, recharge, and one transient period of four steps. No call of the folder is to fail.
@@ -30,14 +61,8 @@ pub fn make(alloc: Global, seed: u32, size: u32) -> Result<MemFolder, AllocError
     let mut draws = Draws { x: u64::from(seed) };
     let properties = lpf_text(alloc, &mut draws, size)?;
     let well = wel_text(alloc, &mut draws, size)?;
-    // A folder has the file first that was added last.
     let mut folder = MemFolder::new(alloc);
-    folder.add("m.rch", RECHARGE)?;
-    folder.add("m.riv", riv_text(alloc, size)?.as_slice())?;
-    folder.add("m.wel", well.as_slice())?;
-    folder.add("m.lpf", properties.as_slice())?;
-    folder.add("m.bas", bas_text(alloc, size)?.as_slice())?;
-    folder.add("m.dis", dis_text(alloc, size)?.as_slice())?;
-    folder.add(NAME, NAMES)?;
+    add_stresses(alloc, &mut folder, well.as_slice(), size)?;
+    add_layers(alloc, &mut folder, properties.as_slice(), size)?;
     Ok(folder)
 }

@@ -29,6 +29,16 @@ fn push_hk(text: &mut Vec<u8>, draws: &mut Draws) -> Result<(), AllocError>
     push_number(text, u128::from(hk))
 }
 
+fn push_hk_value(text: &mut Vec<u8>, draws: &mut Draws, place: u64) -> Result<(), AllocError>
+    requires { draws.old.x < 2147483648 }
+    ensures text { IfOk result (λ _. text.new.items ≡ text.old.items ++ (gap place ++ hk_text draws.old.x)) }
+    ensures next { IfOk result (λ _. draws.new.x ≡ next_state draws.old.x) }
+    ensures small { draws.new.x < 2147483648 }
+{
+    push_gap(text, place)?;
+    push_hk(text, draws)
+}
+
 fn push_hk_values(text: &mut Vec<u8>, draws: &mut Draws, count: u64) -> Result<(), AllocError>
     requires { draws.old.x < 2147483648 }
     ensures text { IfOk result (λ _. text.new.items ≡ text.old.items ++ texts_below count (λ j. gap j ++ hk_text (after j draws.old.x))) }
@@ -36,8 +46,7 @@ fn push_hk_values(text: &mut Vec<u8>, draws: &mut Draws, count: u64) -> Result<(
     ensures small { draws.new.x < 2147483648 }
 {
     for place in 0..count {
-        push_gap(text, place)?;
-        push_hk(text, draws)?;
+        push_hk_value(text, draws, place)?;
     }
     Ok(())
 }
@@ -78,6 +87,7 @@ fn push_layer(text: &mut Vec<u8>, draws: &mut Draws, size: u64) -> Result<(), Al
 }
 
 /// The file of LPF.
+#[tactic(auto, using(crate::proofs::Texts::after_twice))]
 pub(crate) fn lpf_text(
     alloc: Global,
     draws: &mut Draws,

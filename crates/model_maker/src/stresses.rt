@@ -10,6 +10,7 @@ use std::alloc::{AllocError, Global};
 const GREATEST_RATE: u64 = 500;
 
 /// The file of WEL.
+#[tactic(auto, unfolding(crate::specs::Draws::after))]
 pub(crate) fn wel_text(
     alloc: Global,
     draws: &mut Draws,
