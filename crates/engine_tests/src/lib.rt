@@ -10,6 +10,8 @@ mod handshake;
 #[cfg(test)]
 mod listings;
 #[cfg(test)]
+mod made;
+#[cfg(test)]
 mod meeting;
 #[cfg(test)]
 mod refusals;

@@ -16,7 +16,7 @@ fn words_that_are_not_taken_have_the_usage_line_alone(rt: HostRuntime) -> Result
         &["heads", "run", "a.nam", "--digits", "19"],
         &["heads", "run", "a.nam", "--zones", "z"],
         &["heads", "run", "a.nam", "--watch", "8"],
-        &["heads", "make", "1", "1"],
+        &["heads", "make", "1", "65"],
     ];
     for words in refused {
         let mut out = MemSink::new(alloc);

@@ -1,6 +1,6 @@
 -- What is counted, one line HEAD after another.
 use Rattle.std.proofs.Common.{◌≡◌, ℕ, suc, ◌+◌, ◌*◌, ◌<◌, ◌≤◌, List, [], ◌∷◌, ◌++◌, length, drop, get_or, cond, Bool, true, false, refl, sym, ap, ◌∙◌, arith, ints, clamps, ℤ, pos, ◌+ℤ◌, ◌-ℤ◌, All}
-use Rattle.std.proofs.lemmas.List.{drop_more, drop_all, append-nil}
+use Rattle.std.proofs.lemmas.List.{drop_more, drop_all, append-nil, length-append}
 use Rattle.std.proofs.lemmas.List.Sums.{fold-append, fold_push}
 use Rattle.std.proofs.lemmas.List.Concat.{flat_map-append}
 use Rattle.std.specs.Int.{int_max}
@@ -37,10 +37,40 @@ fits_more s b fits low high = record {
   high = record { above = omega (arith, ints, fits.high.above, high.above); below = omega (arith, ints, fits.high.below, high.below) };
 }
 
--- what all lines make, each number by itself
-counted_all : (s : Summary) (bs : List Bound) → fold counted s bs ≡ record { steps = s.steps; heads = s.heads + length bs; widest = fold (λ w b. int_max (width b) w) s.widest bs; low_sum = fold (λ t b. t +ℤ b.low) s.low_sum bs; high_sum = fold (λ t b. t +ℤ b.high) s.high_sum bs }
-counted_all s [] = let e : s.heads ≡ s.heads + 0 = omega arith in ap (λ n. record s { heads = n }) e
-counted_all s (b ∷ bs) = let e : (s.heads + 1) + length bs ≡ s.heads + suc (length bs) = omega arith in counted_all (counted s b) bs ∙ ap (λ n. record { steps = s.steps; heads = n; widest = fold (λ w b. int_max (width b) w) (int_max (width b) s.widest) bs; low_sum = fold (λ t b. t +ℤ b.low) (s.low_sum +ℤ b.low) bs; high_sum = fold (λ t b. t +ℤ b.high) (s.high_sum +ℤ b.high) bs }) e
+-- a summary by its numbers
+abbrev made : ℕ → ℕ → ℤ → ℤ → ℤ → Summary
+made steps heads w l u = record { steps = steps; heads = heads; widest = w; low_sum = l; high_sum = u }
+
+same : {a b i j : ℕ} {w x l m u v : ℤ} → a ≡ b → i ≡ j → w ≡ x → l ≡ m → u ≡ v → made a i w l u ≡ made b j x m v
+same p q r s t = rw (p, q, r, s, t) refl
+
+abbrev wider : ℤ → Bound → ℤ
+wider w b = int_max (width b) w
+
+abbrev lower : ℤ → Bound → ℤ
+lower s b = s +ℤ b.low
+
+abbrev upper : ℤ → Bound → ℤ
+upper s b = s +ℤ b.high
+
+-- each number of a count, by itself
+counted_all : (s : Summary) (bs : List Bound) → fold counted s bs ≡ made s.steps (s.heads + length bs) (fold wider s.widest bs) (fold lower s.low_sum bs) (fold upper s.high_sum bs)
+counted_all s [] = same refl (omega arith) refl refl refl
+counted_all s (b ∷ bs) = counted_all (counted s b) bs ∙ same refl (omega arith) refl refl refl
+
+stepped_all : (m : FlowModel) (s : Summary) (values : List Step) → fold (λ s v. stepped m s v.heads) s values ≡ made (s.steps + length values) (s.heads + length (printed_heads m values)) (fold wider s.widest (printed_heads m values)) (fold lower s.low_sum (printed_heads m values)) (fold upper s.high_sum (printed_heads m values))
+stepped_all m s [] = same (omega arith) (omega arith) refl refl refl
+stepped_all m s (v ∷ values) =
+    let first : List Bound = printed m 0 v.heads in
+    let more : List Bound = printed_heads m values in
+    let e = counted_all s first in
+    let heads : (fold counted s first).heads ≡ s.heads + length first = ap (λ (x : Summary). x.heads) e in
+    stepped_all m (stepped m s v.heads) values ∙ same
+    (omega arith)
+    (let both = length-append first more in omega (arith, heads, both))
+    (ap (λ (x : Summary). fold wider x.widest more) e ∙ sym (fold-append wider s.widest first more))
+    (ap (λ (x : Summary). fold lower x.low_sum more) e ∙ sym (fold-append lower s.low_sum first more))
+    (ap (λ (x : Summary). fold upper x.high_sum more) e ∙ sym (fold-append upper s.high_sum first more))
 
 -- all steps, one after another
 abbrev pub all_counted : FlowModel → List Step → Summary
@@ -49,3 +79,6 @@ all_counted m values = fold (λ s v. stepped m s v.heads) nothing values
 pub one_step : (m : FlowModel) (values : List Step) (v : Step) (heads : List Bound) (s t : Summary) → heads ≡ v.heads → s ≡ all_counted m values → t ≡ stepped m s heads → t ≡ all_counted m (values ++ (v ∷ []))
 one_step m values v heads s t same so_far is =
     is ∙ ap (λ hs. stepped m s hs) same ∙ ap (λ x. stepped m x v.heads) so_far ∙ sym (fold_push (λ s v. stepped m s v.heads) nothing values v)
+
+pub all_counted_is : (m : FlowModel) (values : List Step) → all_counted m values ≡ summary_of m values
+all_counted_is m values = stepped_all m nothing values ∙ same (omega arith) (omega arith) refl refl refl

@@ -87,6 +87,7 @@ impl Summary {
         requires fits { Fits self.old }
         requires range { All (λ b. IsHead b.low × IsHead b.high) heads.now }
         ensures is { self.new ≡ stepped model.now self.old heads.now }
+        ensures steps { self.new.steps ≡ self.old.steps + 1 }
         ensures fits { Fits self.new }
         ensures few { self.new.heads ≤ self.old.heads + length heads.now }
     {

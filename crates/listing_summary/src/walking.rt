@@ -11,11 +11,7 @@ use std::alloc::Global;
 use step_problem::Settler;
 
 /// The summary of the one listing of a task, or why it has none.
-pub fn summarize<S: Settler>(
-    alloc: Global,
-    task: &Task,
-    settler: &mut S,
-) -> Result<Summary, Stop>
+pub fn summarize<S: Settler>(alloc: Global, task: &Task, settler: &mut S) -> Result<Summary, Stop>
     requires ready { S.ready settler.old }
     requires rounds { S.rounds settler.old ≡ task.now.rounds }
     requires task { IsTask task.now }

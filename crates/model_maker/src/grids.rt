@@ -14,7 +14,9 @@ pub(crate) fn dis_text(alloc: Global, size: u64) -> Result<Vec<u8>, AllocError>
     push_number(&mut text, u128::from(size))?;
     text.push(b' ')?;
     push_number(&mut text, u128::from(size))?;
-    text.extend_from_slice(b" 1 4 2\n0 0\nCONSTANT 100\nCONSTANT 100\nCONSTANT 20\nCONSTANT 10\nCONSTANT 0\n4 4 1 TR\n")?;
+    text.extend_from_slice(
+        b" 1 4 2\n0 0\nCONSTANT 100\nCONSTANT 100\nCONSTANT 20\nCONSTANT 10\nCONSTANT 0\n4 4 1 TR\n",
+    )?;
     Ok(text)
 }
 

@@ -12,7 +12,8 @@ use std::alloc::{AllocError, Global};
 /// The name of a made model's name file.
 pub const NAME: &str = "m.nam";
 
-const NAMES: &[u8] = b"DIS 11 m.dis\nBAS6 12 m.bas\nLPF 13 m.lpf\nWEL 14 m.wel\nRIV 15 m.riv\nRCH 16 m.rch\n";
+const NAMES: &[u8] =
+    b"DIS 11 m.dis\nBAS6 12 m.bas\nLPF 13 m.lpf\nWEL 14 m.wel\nRIV 15 m.riv\nRCH 16 m.rch\n";
 
 const RECHARGE: &[u8] = b"3 0\n0\nCONSTANT 0.001\n";
 

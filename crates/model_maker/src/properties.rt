@@ -88,11 +88,7 @@ fn push_layer(text: &mut Vec<u8>, draws: &mut Draws, size: u64) -> Result<(), Al
 
 /// The file of LPF.
 #[tactic(auto, using(crate::proofs::Texts::after_twice))]
-pub(crate) fn lpf_text(
-    alloc: Global,
-    draws: &mut Draws,
-    size: u64,
-) -> Result<Vec<u8>, AllocError>
+pub(crate) fn lpf_text(alloc: Global, draws: &mut Draws, size: u64) -> Result<Vec<u8>, AllocError>
     requires { draws.old.x < 2147483648 }
     ensures text { IfOk result (λ text. text.items ≡ lpf_text size draws.old.x) }
     ensures next { IfOk result (λ _. draws.new.x ≡ after (2 * (size * size)) draws.old.x) }

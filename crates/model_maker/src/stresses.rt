@@ -11,11 +11,7 @@ const GREATEST_RATE: u64 = 500;
 
 /// The file of WEL.
 #[tactic(auto, unfolding(crate::specs::Draws::after))]
-pub(crate) fn wel_text(
-    alloc: Global,
-    draws: &mut Draws,
-    size: u64,
-) -> Result<Vec<u8>, AllocError>
+pub(crate) fn wel_text(alloc: Global, draws: &mut Draws, size: u64) -> Result<Vec<u8>, AllocError>
     requires size { 1 ≤ size }
     requires small { draws.old.x < 2147483648 }
     ensures { IfOk result (λ text. text.items ≡ wel_text size draws.old.x) }
