@@ -1,5 +1,6 @@
 -- What is counted, one line HEAD after another.
-use Rattle.std.proofs.Common.{◌≡◌, ℕ, suc, ◌+◌, ◌*◌, ◌<◌, ◌≤◌, List, [], ◌∷◌, ◌++◌, length, drop, get_or, cond, Bool, true, false, refl, sym, ap, ◌∙◌, arith, ints, clamps, ℤ, pos, ◌+ℤ◌, ◌-ℤ◌, All}
+use Rattle.std.proofs.Common.{◌≡◌, ℕ, suc, ◌+◌, ◌*◌, ◌<◌, ◌≤◌, ◌^◌, List, [], ◌∷◌, ◌++◌, length, drop, get_or, cond, Bool, true, false, refl, sym, ap, ◌∙◌, arith, ℤ, pos, ◌+ℤ◌, ◌-ℤ◌, All}
+use Rattle.std.proofs.lemmas.Int.{ints, clamps}
 use Rattle.std.proofs.lemmas.List.{drop_more, drop_all, append-nil, length-append}
 use Rattle.std.proofs.lemmas.List.Sums.{fold-append, fold_push}
 use Rattle.std.proofs.lemmas.List.Concat.{flat_map-append}
@@ -28,6 +29,13 @@ unfolding printed
 no_cell m bs c s whole past so_far =
     let none : fold counted s (printed m c (drop c bs)) ≡ s = rw (drop_all c bs past) refl in
     sym none ∙ so_far
+
+-- a sum that fits has room for one head more
+pub low_room : (s : Summary) → Fits s → s.heads < 6553600000 → IsWithin s.low_sum (2 ^ 100)
+low_room s fits room = record { above = omega (arith, ints, fits.low.above); below = omega (arith, ints, fits.low.below) }
+
+pub high_room : (s : Summary) → Fits s → s.heads < 6553600000 → IsWithin s.high_sum (2 ^ 100)
+high_room s fits room = record { above = omega (arith, ints, fits.high.above); below = omega (arith, ints, fits.high.below) }
 
 -- the sums fit, counted or not
 pub fits_more : (s : Summary) (b : Bound) → Fits s → IsHead b.low → IsHead b.high → Fits (counted s b)

@@ -32,6 +32,13 @@ at_end P all items i is above h =
     let R : List TimeStep → Type 0 = λ ts. P (drop i ts) in
     subst P (drop_all i items above) (subst R (sym is) h)
 
+-- what a step says of solutions, at a time and heads that are the same
+pub moves_at : (k : Task) (at time : TimeStep) (old heads : List Bound) (v : Step) → BoundsMoves k time heads v → time ≡ at → heads ≡ old → BoundsMoves k at old v
+moves_at k at time old heads v moves same kept =
+    let P : TimeStep → Type 0 = λ t. BoundsMoves k t heads v in
+    let Q : List Bound → Type 0 = λ hs. BoundsMoves k at hs v in
+    subst Q kept (subst P same moves)
+
 module _ (k : Task) where
   -- the steps so far are solved and counted
   pub record IsCounted (old : List Bound) (s : Summary) (rest : List TimeStep) : Type 0 where

@@ -1,10 +1,11 @@
 // The lines HEAD of a listing are counted.
-ghost use Rattle.std.specs.Prelude.{◌≡◌, ◌+◌, ◌<◌, ◌≤◌, [], ◌∷◌, cond, length, All};
+ghost use Rattle.std.specs.Prelude.{◌≡◌, ◌+◌, ◌^◌, ◌+ℤ◌, ◌<◌, ◌≤◌, [], ◌∷◌, cond, length, All};
+ghost use Rattle.std.specs.Int.{int_max};
 ghost use Rattle.std.specs.List.{fold};
-ghost use Rattle.step_problem.specs.Conditions.{IsHead};
+ghost use Rattle.step_problem.specs.Conditions.{IsHead, IsWithin};
 ghost use Rattle.model_types.specs.Layers.{is_active};
 ghost use Rattle.listing_summary.specs.Counting.{counted, stepped, nothing, Fits};
-ghost use Rattle.listing_summary.specs.Summaries.{printed};
+ghost use Rattle.listing_summary.specs.Summaries.{printed, width};
 
 use model_types::FlowModel;
 use step_problem::Bound;
@@ -18,6 +19,28 @@ pub struct Summary {
     pub widest: i128,
     pub low_sum: i128,
     pub high_sum: i128,
+}
+
+fn plus(sum: i128, head: i64) -> i128
+    requires sum { IsWithin sum (2 ^ 100) }
+    requires head { IsHead head }
+    ensures { result ≡ sum +ℤ head }
+{
+    sum + i128::from(head)
+}
+
+fn width(bound: Bound) -> i128
+    requires low { IsHead bound.low }
+    requires high { IsHead bound.high }
+    ensures { result ≡ width bound }
+{
+    i128::from(bound.high) - i128::from(bound.low)
+}
+
+fn greater(a: i128, b: i128) -> i128
+    ensures { result ≡ int_max a b }
+{
+    a.max(b)
 }
 
 impl Summary {
@@ -34,6 +57,20 @@ impl Summary {
         }
     }
 
+    #[tactic(auto, using(crate::proofs::Counts::low_room, crate::proofs::Counts::high_room))]
+    fn add(&mut self, bound: Bound)
+        requires room { self.old.heads < 6553600000 }
+        requires fits { Fits self.old }
+        requires low { IsHead bound.low }
+        requires high { IsHead bound.high }
+        ensures { self.new ≡ counted self.old bound }
+    {
+        self.heads += 1;
+        self.widest = greater(width(bound), self.widest);
+        self.low_sum = plus(self.low_sum, bound.low);
+        self.high_sum = plus(self.high_sum, bound.high);
+    }
+
     fn count(&mut self, bound: Bound)
         requires room { self.old.heads < 6553600000 }
         requires fits { Fits self.old }
@@ -42,12 +79,7 @@ impl Summary {
         ensures is { self.new ≡ counted self.old bound }
         ensures fits { Fits self.new }
     {
-        let low = i128::from(bound.low);
-        let high = i128::from(bound.high);
-        self.heads += 1;
-        self.widest = (high - low).max(self.widest);
-        self.low_sum += low;
-        self.high_sum += high;
+        self.add(bound);
     }
 
     // Counts a cell, where it has a line.
