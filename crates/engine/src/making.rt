@@ -54,6 +54,7 @@ fn end_summary<K: Sink>(
     summed: Result<Summary, Stop>,
     out: &mut K,
 ) -> Status
+    requires { IsTask task.now }
     ensures { (start : _) (puts : List Put) → K.leads start puts out.old →
         (more : List Put) × K.leads start (puts ++ more) out.new × IsSummaryEnd seed size task.now summed result more }
 {

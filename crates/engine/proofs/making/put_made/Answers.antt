@@ -13,7 +13,7 @@ returns-in-Ok-read_named g c = λ start puts h.
     let m = c.end_summary.ensures start puts h in
     (m.0, m.1, made_summed c.args.seed c.args.size c.in-Ok-read_named.model c.summarize_by_workers-summed.result c.end_summary.result m.0 (search rules) c.in-Ok-read_named.ensures.model (search rules) m.2)
 
-pub returns-in-Err : goal.returns-in-Err
-returns-in-Err g c = λ start puts h.
+pub returns : goal.returns
+returns g c = λ start puts h.
     let m = c.end_unread.ensures start puts h in
     (m.0, m.1, made_unread c.args.seed c.args.size c.in-Err.fault c.end_unread.result m.0 (search rules) m.2)

@@ -1,8 +1,13 @@
-use Rattle.std.proofs.Common.{◌≡◌, ℕ, List, map, Err, Some, None, ap}
-use Rattle.engine.specs.Cases.{asked_in, Make, Run}
-use Rattle.engine.specs.Commands.{asked_of}
+use Rattle.std.proofs.Common.{◌≡◌, ◌∙◌, ℕ, List, map, Err, Option, Some, None, ap, sym}
+use Rattle.engine.specs.declared.asked.Command.{Command as CommandBy}
+use Rattle.engine.specs.Cases.{Command, asked_in, Make, Run}
+use Rattle.engine.specs.Commands.{asked_of, command_of}
 use Rattle.engine.proofs.Ends.{asked_by, asked_none, ends_usage, ends_made, ends_without_words, no_words}
 use Rattle.engine.proofs.running.answer.Goals as goal
+
+-- a command that is a variant's
+by_variant : (x y : CommandBy) (b : Option Command) → x ≡ y → Some (command_of x) ≡ b → Some (command_of y) ≡ b
+by_variant x y b same is = ap (λ (z : CommandBy). Some (command_of z)) (sym same) ∙ is
 
 pub returns-in-Err-Usage-clause-answers : goal.returns-in-Err-Usage-clause-answers
 returns-in-Err-Usage-clause-answers g c = λ start puts h.
@@ -28,11 +33,11 @@ pub returns-in-Some-Run-clause-answers : goal.returns-in-Some-Run-clause-answers
 returns-in-Some-Run-clause-answers g c = λ start puts h.
     let m = c.list.ensures.answers start puts h in
     let words : List (List ℕ) = map (λ w. w.now) c.args.words.now in
-    (m.0, m.1, m.2 words (asked_by words _ (Some (Run (asked_of c.in-Some-Run.asked))) c.in-Ok.ensures.order c.in-Some-Run.ensures.is))
+    (m.0, m.1, m.2 words (asked_by words _ (Some (Run (asked_of c.in-Some-Run.asked))) c.in-Ok.ensures.order (by_variant _ _ _ c.in-Some-Run.field-0-is c.in-Some-Run.ensures.is)))
 
 pub returns-in-Some-Make-clause-answers : goal.returns-in-Some-Make-clause-answers
 returns-in-Some-Make-clause-answers g c = λ start puts h.
     let m = c.put_made.ensures start puts h in
     let words : List (List ℕ) = map (λ w. w.now) c.args.words.now in
-    let wanted : asked_in words ≡ Some (Make c.in-Some-Make.seed c.in-Some-Make.size) = asked_by words _ (Some (Make c.in-Some-Make.seed c.in-Some-Make.size)) c.in-Ok.ensures.order c.in-Some-Make.ensures.is in
+    let wanted : asked_in words ≡ Some (Make c.in-Some-Make.seed c.in-Some-Make.size) = asked_by words _ (Some (Make c.in-Some-Make.seed c.in-Some-Make.size)) c.in-Ok.ensures.order (by_variant _ _ _ c.in-Some-Make.field-0-is c.in-Some-Make.ensures.is) in
     (m.0, m.1, ends_made words c.in-Some-Make.seed c.in-Some-Make.size wanted (g.F.Folder.files c.args.folder.now) (g.F.Folder.faults c.args.folder.now) _ c.put_made.result m.0 m.2)
