@@ -1,5 +1,5 @@
 -- The ends of a run, by its words, its reading and its listing.
-use Rattle.std.proofs.Common.{◌≡◌, ◌≢◌, ℕ, List, [], ◌∷◌, Ok, Err, Result, Option, None, Some, subst, sym, ap, refl, inl, inr, ◌∙◌, codes, option_and_then}
+use Rattle.std.proofs.Common.{◌≡◌, ℕ, List, [], ◌∷◌, ◌++◌, Ok, Err, Result, Option, None, Some, IfOk, subst, sym, ap, refl, inl, inr, ◌⊎◌, ◌∙◌, codes, option_and_then}
 use Rattle.outside.specs.Files.{File}
 use Rattle.outside.specs.Counts.{Rose, InputCounts}
 use Rattle.outside.specs.Inputs.{file_refusal}
@@ -23,12 +23,13 @@ use Rattle.run_puts.specs.declared.status.Status.TheVariants as status
 use Rattle.run_puts.proofs.Pieces.{IsLate, tail_late, lone, lacks_at_first, weaker}
 use Rattle.listing_run.specs.declared.task.Task.{Task}
 use Rattle.listing_run.specs.Listing.{IsListing, IsCutListing}
-use Rattle.engine.specs.Cases.{Asked, Case, NoWords, Refuses, Listing, IsCase, asked_in, built, case_asked, case_of, case_read, named, task_of}
-use Rattle.engine.specs.Defined.{Due, defined, unread, CutOf}
-use Rattle.engine.specs.Parts.{Answers, IsReadAs, IsReadingEnd, IsStopped, IsValid}
+use Rattle.engine.specs.Cases.{Asked, Case, Command, Run, Make, NoWords, Refuses, Listing, Making, IsCase, asked_in, built, case_asked, case_of, case_read, made_model, named, task_of}
+use Rattle.engine.specs.Defined.{Due, ReadsFolder, defined, unread, CutOf}
+use Rattle.engine.specs.Made.{IsMade}
+use Rattle.engine.specs.Parts.{Answers, IsMadeRun, IsReadAs, IsReadingEnd, IsStopped, IsValid}
 
 -- what an order asks for, the words ask for
-pub asked_by : (words : List Text) (wanted : Wanted) (asked : Option Asked) → wanted_of words ≡ Some wanted → asked ≡ built wanted → asked_in words ≡ asked
+pub asked_by : (words : List Text) (wanted : Wanted) (asked : Option Command) → wanted_of words ≡ Some wanted → asked ≡ built wanted → asked_in words ≡ asked
 asked_by words wanted asked e is = ap (option_and_then built) e ∙ sym is
 
 pub asked_none : (words : List Text) → wanted_of words ≡ None → asked_in words ≡ None
@@ -38,7 +39,7 @@ late_stops : (end : Status) → IsLate end → IsStopped end
 late_stops end (inl e) = inr (inl e)
 late_stops end (inr e) = inr (inr e)
 
-wanting_stops : (end : Status) (puts : List Put) → IsWanting end puts → IsStopped end
+pub wanting_stops : (end : Status) (puts : List Put) → IsWanting end puts → IsStopped end
 wanting_stops end puts (answer, s, t) = let P : Status → Type 0 = IsStopped in subst P (sym s) (late_stops (status_after answer) (tail_late [] (status_after answer) (memory_put answer ∷ []) (wanting [] answer)))
 
 read_stops : (end : Status) (puts : List Put) → IsLast read_fault_line status.ReadFault end puts → IsStopped end
@@ -49,12 +50,13 @@ stopped : (case : Case) (end : Status) → IsStopped end → IsValid case end
 stopped NoWords end h = tt
 stopped (Refuses refusal) end h = tt
 stopped (Listing k) end h = inr h
+stopped (Making seed size read) end h = inr h
 
 module _ (words : List Text) (files : Option (List File)) (n m : ℕ) where
   lacking : (case : Case) (end : Status) (puts : List Put) → IsCase words files case → IsWanting end puts → Answers words files n m end puts
   lacking case end puts is h = record { case = case; is = is; run = lacks_at_first (Due (Rose n m) case) (CutOf case) end puts h; valid = stopped case end (wanting_stops end puts h) }
 
-  unreadable : (case : Case) (end : Status) (puts : List Put) → IsCase words files case → case ≢ NoWords → Rose n m → IsLast read_fault_line status.ReadFault end puts → Answers words files n m end puts
+  unreadable : (case : Case) (end : Status) (puts : List Put) → IsCase words files case → ReadsFolder case → Rose n m → IsLast read_fault_line status.ReadFault end puts → Answers words files n m end puts
   unreadable case end puts is worded rose h = record { case = case; is = is; run = lone (Due (Rose n m) case) (CutOf case) read_fault_line status.ReadFault end puts (unread rose worded) (inl h); valid = stopped case end (read_stops end puts h) }
 
   pub ends_usage : (end : Status) (puts : List Put) → IsCase words files NoWords → IsLast usage_line status.Usage end puts → Answers words files n m end puts
@@ -67,24 +69,24 @@ module _ (words : List Text) (files : Option (List File)) (n m : ℕ) where
   listed k end puts is model h = record { case = Listing k; is = is; run = weaker (IsListing k) (Due (Rose n m) (Listing k)) (IsCutListing k) (λ meant pieces d. defined meant pieces d) end puts h; valid = inl model }
 
 pub no_words : (words : List Text) (files : Option (List File)) → asked_in words ≡ None → IsCase words files NoWords
-no_words words (Some fs) e = let P : Option Asked → Type 0 = λ a. NoWords ≡ case_asked a (reads fs) in subst P (sym e) refl
+no_words words (Some fs) e = let P : Option Command → Type 0 = λ a. NoWords ≡ case_asked a (reads fs) in subst P (sym e) refl
 no_words words None e =
     let none : Result FlowModel Refusal = Err (file_refusal BadName (codes "-")) in
-    let P : Option Asked → Type 0 = λ a. NoWords ≡ case_asked a (λ name. none) in
+    let P : Option Command → Type 0 = λ a. NoWords ≡ case_asked a (λ name. none) in
     (none, tt, subst P (sym e) refl)
 
--- the words come to some case, whatever is read
+-- the words come to some case, whatever is read; for a listing the folder is read
 record SomeCase (words : List Text) (files : Option (List File)) : Type 0 where
   case : Case
   is : IsCase words files case
-  worded : (asked : Asked) → asked_in words ≡ Some asked → case ≢ NoWords
+  worded : (asked : Asked) → asked_in words ≡ Some (Run asked) → ReadsFolder case
 
-read_worded : (asked : Asked) (r : Result FlowModel Refusal) → case_read asked r ≢ NoWords
-read_worded asked (Ok f) e = let bad : Listing (task_of asked f) ≡ NoWords = e in cc
-read_worded asked (Err refusal) e = let bad : Refuses refusal ≡ NoWords = e in cc
+read_worded : (asked : Asked) (r : Result FlowModel Refusal) → ReadsFolder (case_read asked r)
+read_worded asked (Ok f) = tt
+read_worded asked (Err refusal) = tt
 
-asked_worded : (words : List Text) (read : Text → Result FlowModel Refusal) (asked : Asked) → asked_in words ≡ Some asked → case_asked (asked_in words) read ≢ NoWords
-asked_worded words read asked e = let P : Option Asked → Type 0 = λ a. case_asked a read ≢ NoWords in subst P (sym e) (read_worded asked (named asked.name read))
+asked_worded : (words : List Text) (read : Text → Result FlowModel Refusal) (asked : Asked) → asked_in words ≡ Some (Run asked) → ReadsFolder (case_asked (asked_in words) read)
+asked_worded words read asked e = let P : Option Command → Type 0 = λ a. ReadsFolder (case_asked a read) in subst P (sym e) (read_worded asked (named asked.name read))
 
 some_case : (words : List Text) (files : Option (List File)) → SomeCase words files
 some_case words (Some fs) = record { case = case_of words fs; is = refl; worded = asked_worded words (reads fs) }
@@ -95,10 +97,10 @@ some_case words None =
 pub ends_without_words : (words : List Text) (files : Option (List File)) (n m : ℕ) (end : Status) (puts : List Put) → IsWanting end puts → Answers words files n m end puts
 ends_without_words words files n m end puts h = let c = some_case words files in lacking words files n m c.case end puts c.is h
 
-case_by : (words : List Text) (asked : Asked) (read : Text → Result FlowModel Refusal) (r : Result FlowModel Refusal) → asked_in words ≡ Some asked → named asked.name read ≡ r → case_read asked r ≡ case_asked (asked_in words) read
-case_by words asked read r e is = let P : Option Asked → Type 0 = λ a. case_read asked r ≡ case_asked a read in subst P (sym e) (ap (case_read asked) (sym is))
+case_by : (words : List Text) (asked : Asked) (read : Text → Result FlowModel Refusal) (r : Result FlowModel Refusal) → asked_in words ≡ Some (Run asked) → named asked.name read ≡ r → case_read asked r ≡ case_asked (asked_in words) read
+case_by words asked read r e is = let P : Option Command → Type 0 = λ a. case_read asked r ≡ case_asked a read in subst P (sym e) (ap (case_read asked) (sym is))
 
-module _ (words : List Text) (files : Option (List File)) (n m : ℕ) (asked : Asked) (wanted : asked_in words ≡ Some asked) where
+module _ (words : List Text) (files : Option (List File)) (n m : ℕ) (asked : Asked) (wanted : asked_in words ≡ Some (Run asked)) where
   refused_case : (files : Option (List File)) (refusal : Refusal) → IsReadAs asked.name files (Err (input.Refused refusal)) → IsCase words files (Refuses refusal)
   refused_case (Some fs) refusal h = case_by words asked (reads fs) (Err refusal) wanted h
   refused_case None refusal (read, valid, h) = (read, valid, case_by words asked (λ name. read) (Err refusal) wanted h)
@@ -114,3 +116,23 @@ module _ (words : List Text) (files : Option (List File)) (n m : ℕ) (asked : A
 
   pub ends_listing : (f : FlowModel) (end : Status) (puts : List Put) → IsReadAs asked.name files (Ok f) → IsModel f → IsRun (IsListing (task_of asked f)) (IsCutListing (task_of asked f)) end puts → Answers words files n m end puts
   ends_listing f end puts reads model h = listed words files n m (task_of asked f) end puts (model_case files f reads) model h
+
+-- a made model
+module _ (words : List Text) (seed size : ℕ) (wanted : asked_in words ≡ Some (Make seed size)) where
+  abbrev made_case : Case
+  made_case = Making seed size (made_model seed size)
+
+  made_by : (read : Text → Result FlowModel Refusal) → made_case ≡ case_asked (asked_in words) read
+  made_by read = let P : Option Command → Type 0 = λ a. made_case ≡ case_asked a read in subst P (sym wanted) refl
+
+  is_made : (files : Option (List File)) → IsCase words files made_case
+  is_made (Some fs) = made_by (reads fs)
+  is_made None = let none : Result FlowModel Refusal = Err (file_refusal BadName (codes "-")) in (none, tt, made_by (λ name. none))
+
+  pub ends_made : (files : Option (List File)) (n m : ℕ) (end : Status) (puts : List Put) → IsMadeRun seed size end puts → Answers words files n m end puts
+  ends_made files n m end puts h = record {
+    case = made_case;
+    is = is_made files;
+    run = weaker (IsMade seed size (made_model seed size)) (Due (Rose n m) made_case) (λ pieces. ⊥) (λ meant pieces d. defined meant pieces d) end puts h.run;
+    valid = h.valid;
+  }

@@ -1,4 +1,5 @@
 pub mod Readings
 pub mod Ends
+pub mod Summed
 pub mod Outcomes
 pub mod StoredSteps

@@ -1,5 +1,7 @@
 -- The public clauses, from all that a run comes to.
-use Rattle.std.proofs.Common.{◌≡◌, ℕ, Bool, true, false, List, Option, Some, None, IfSome, Result, Ok, Err, map, subst, sym, ◌∙◌, ap, refl, inl, inr, ◌⊎◌, codes, if◌then◌else◌}
+use Rattle.std.proofs.Common.{◌≡◌, ℕ, Bool, true, false, List, [], ◌∷◌, ◌++◌, Option, Some, None, IfSome, Result, Ok, Err, map, subst, sym, ◌∙◌, ap, refl, inl, inr, ◌⊎◌, codes, if◌then◌else◌}
+use Rattle.std.proofs.lemmas.List.{append-nil}
+use Rattle.std.specs.Io.KnownBytes.{Appends}
 use Rattle.outside.specs.Files.{File}
 use Rattle.outside.specs.Counts.{Rose}
 use Rattle.outside.specs.Inputs.{file_refusal}
@@ -12,6 +14,7 @@ use Rattle.model_types.specs.declared.model.FlowModel.{FlowModel}
 use Rattle.model_types.specs.Times.{times}
 use Rattle.model_types.specs.Valid.{IsModel}
 use Rattle.model_reader.specs.Model.{reads}
+use Rattle.model_maker.specs.Files.{made_files, made_name}
 use Rattle.run_puts.specs.Lines.{Text, end_line}
 use Rattle.run_puts.specs.Runs.{whole, early}
 use Rattle.run_puts.specs.declared.status.Status.{Status}
@@ -23,10 +26,13 @@ use Rattle.listing_run.specs.declared.step.Step.{Step}
 use Rattle.listing_run.specs.Steps.{Whole, AllSteps, AllSettle}
 use Rattle.listing_run.specs.Listing.{listing, time, IsListing, IsWhole}
 use Rattle.listing_run.specs.Laws.{ListingIsOne, ListingExcludesRefusal, SettledListingIsClosed, RefusalIsOne}
-use Rattle.engine.specs.Cases.{Asked, Case, NoWords, Refuses, Listing, asked_in, case_asked, case_of, case_read, named, task_of}
+use Rattle.listing_summary.specs.declared.summary.Summary.{Summary}
+use Rattle.listing_summary.specs.Texts.{summary_text}
+use Rattle.engine.specs.Cases.{Asked, Case, Command, Run, Make, NoWords, Refuses, Listing, Making, IsCase, asked_in, case_asked, case_of, case_read, made_model, named, task_of}
 use Rattle.engine.specs.Defined.{CutOf, Defines, Due, defined, unread}
 use Rattle.engine.specs.Headline.{Headline}
-use Rattle.engine.specs.Runs.{Decided, Comes, IsRunOf, IsUnfinished}
+use Rattle.engine.specs.Made.{IsMade, IsSummed, Made, made_task}
+use Rattle.engine.specs.Runs.{Decided, Comes, HasTask, IsRunOf, IsUnfinished}
 use Rattle.engine.specs.Parts.{Answers, IsStopped, IsValid}
 
 -- the laws of listings
@@ -56,7 +62,7 @@ delivers read_failed case end puts (early meant before after tail b t) e = absur
 -- a listing of these words and files: what the words ask for, and the model that the files read as
 record Listed (words : List Text) (files : List File) (k : Task) : Type 0 where
   asked : Asked
-  wanted : asked_in words ≡ Some asked
+  wanted : asked_in words ≡ Some (Run asked)
   model : FlowModel
   read : reads files asked.name ≡ Ok model
   task : task_of asked model ≡ k
@@ -65,6 +71,7 @@ task_in : Task → Case → Task
 task_in other NoWords = other
 task_in other (Refuses refusal) = other
 task_in other (Listing k) = k
+task_in other (Making seed size read) = other
 
 one_task : (j k : Task) → Listing j ≡ Listing k → j ≡ k
 unfolding task_in
@@ -75,13 +82,14 @@ named_read true read bad f refusal is e = e
 named_read false read bad f refusal is e = absurd (let no : Err refusal ≡ Ok f = sym is ∙ e in cc)
 
 module _ (words : List Text) (files : List File) (k : Task) where
-  by_reading : (asked : Asked) → asked_in words ≡ Some asked → (r : Result FlowModel Refusal) → named asked.name (reads files) ≡ r → case_read asked r ≡ Listing k → Listed words files k
+  by_reading : (asked : Asked) → asked_in words ≡ Some (Run asked) → (r : Result FlowModel Refusal) → named asked.name (reads files) ≡ r → case_read asked r ≡ Listing k → Listed words files k
   by_reading asked wanted (Ok f) is e = record { asked = asked; wanted = wanted; model = f; read = named_read (is_good_name asked.name) (reads files asked.name) (Err (file_refusal BadName (codes "-"))) f (file_refusal BadName (codes "-")) refl is; task = one_task (task_of asked f) k e }
   by_reading asked wanted (Err refusal) is e = absurd (let bad : Refuses refusal ≡ Listing k = e in cc)
 
-  by_words : (a : Option Asked) → asked_in words ≡ a → case_asked a (reads files) ≡ Listing k → Listed words files k
+  by_words : (a : Option Command) → asked_in words ≡ a → case_asked a (reads files) ≡ Listing k → Listed words files k
   by_words None wanted e = absurd (let bad : NoWords ≡ Listing k = e in cc)
-  by_words (Some asked) wanted e = by_reading asked wanted (named asked.name (reads files)) refl e
+  by_words (Some (Run asked)) wanted e = by_reading asked wanted (named asked.name (reads files)) refl e
+  by_words (Some (Make seed size)) wanted e = absurd (let bad : Making seed size (made_model seed size) ≡ Listing k = e in cc)
 
   listed : case_of words files ≡ Listing k → Listed words files k
   listed e = by_words (asked_in words) refl e
@@ -94,6 +102,53 @@ not_stopped (inr (inr e)) = let bad : status.Ok ≡ status.Memory = e in cc
 valid_ok : (k : Task) (end : Status) → IsValid (Listing k) end → end ≡ status.Ok → IsModel k.model
 valid_ok k end (inl model) e = model
 valid_ok k end (inr stopped) e = absurd (not_stopped (let P : Status → Type 0 = IsStopped in subst P e stopped))
+
+-- a made model of these words
+record Summed (words : List Text) (seed size : ℕ) (read : Result FlowModel Refusal) : Type 0 where
+  wanted : asked_in words ≡ Some (Make seed size)
+  is : made_model seed size ≡ read
+
+making_in : Case → ℕ × ℕ × Result FlowModel Refusal
+making_in (Making seed size read) = (seed, size, read)
+making_in other = (0, 0, Err (file_refusal BadName (codes "-")))
+
+one_making : (seed size i j : ℕ) (read other : Result FlowModel Refusal) → Making seed size read ≡ Making i j other → (seed ≡ i) × (size ≡ j) × (read ≡ other)
+unfolding making_in
+one_making seed size i j read other e = (ap (λ c. (making_in c).0) e, ap (λ c. (making_in c).1) e, ap (λ c. (making_in c).2) e)
+
+module _ (words : List Text) (files : List File) (seed size : ℕ) (read : Result FlowModel Refusal) where
+  same_words : (i j : ℕ) → asked_in words ≡ Some (Make i j) → (i ≡ seed) × (j ≡ size) × (made_model i j ≡ read) → Summed words seed size read
+  same_words i j wanted (a, b, is) =
+      let P : ℕ → Type 0 = λ n. asked_in words ≡ Some (Make n j) in
+      let Q : ℕ → Type 0 = λ n. asked_in words ≡ Some (Make seed n) in
+      let R : ℕ → Type 0 = λ n. made_model n j ≡ read in
+      let S : ℕ → Type 0 = λ n. made_model seed n ≡ read in
+      record { wanted = subst Q b (subst P a wanted); is = subst S b (subst R a is) }
+
+  made_by_reading : (asked : Asked) (r : Result FlowModel Refusal) → case_read asked r ≡ Making seed size read → Summed words seed size read
+  made_by_reading asked (Ok f) e = absurd (let bad : Listing (task_of asked f) ≡ Making seed size read = e in cc)
+  made_by_reading asked (Err refusal) e = absurd (let bad : Refuses refusal ≡ Making seed size read = e in cc)
+
+  made_by_words : (a : Option Command) → asked_in words ≡ a → case_asked a (reads files) ≡ Making seed size read → Summed words seed size read
+  made_by_words None wanted e = absurd (let bad : NoWords ≡ Making seed size read = e in cc)
+  made_by_words (Some (Run asked)) wanted e = made_by_reading asked (named asked.name (reads files)) e
+  made_by_words (Some (Make i j)) wanted e = same_words i j wanted (one_making i j seed size (made_model i j) read e)
+
+  summed : case_of words files ≡ Making seed size read → Summed words seed size read
+  summed e = made_by_words (asked_in words) refl e
+
+-- a summary is one of a whole listing, and what else is put of a made model is the last line of a listing
+module _ (seed size : ℕ) (k : Task) where
+  listing_of : (end : Status) (p : List Text) → IsSummed seed size k end p → (q : List Text) × IsListing k end q
+  listing_of status.Ok p (s, h, e) = (listing k h.values end_line, record { values = h.values; steps = h.steps; encloses = h.encloses; are = refl })
+  listing_of (status.NoBound period step fault) p (before, line, h, e) = (before ++ (line ∷ []), h)
+  listing_of (status.Unfinished period step) p (before, line, h, e) = (before ++ (line ∷ []), h)
+  listing_of status.Usage p (before, line, h, e) = (before ++ (line ∷ []), h)
+  listing_of (status.Refused refusal) p (before, line, h, e) = (before ++ (line ∷ []), h)
+  listing_of status.ReadFault p (before, line, h, e) = (before ++ (line ∷ []), h)
+  listing_of status.WriteFault p (before, line, h, e) = (before ++ (line ∷ []), h)
+  listing_of status.Memory p (before, line, h, e) = (before ++ (line ∷ []), h)
+  listing_of (status.NotCertified period step place) p (before, line, h, e) = (before ++ (line ∷ []), h)
 
 module _ (laws : Laws) where
   of_listing : (words : List Text) (files : List File) (old new : Seen) (puts : List Put) (pieces : List Text) (k : Task) → Listed words files k → IsModel k.model → IsWhole k pieces → puts ≡ map taken pieces → PutsMake old puts new → Headline words files old.written new.written
@@ -114,19 +169,56 @@ module _ (laws : Laws) where
         encloses = v.encloses;
       }
 
-  by_case : (words : List Text) (files : List File) (old new : Seen) (puts : List Put) (end : Status) (case : Case) → case ≡ case_of words files → IsValid case end → end ≡ status.Ok → Delivers case puts → PutsMake old puts new → Headline words files old.written new.written
+  -- of a made model
+  of_summed : (words : List Text) (old new : Seen) (puts : List Put) (seed size : ℕ) (m : FlowModel) (pieces : List Text) → Summed words seed size (Ok m) → IsModel m → IsSummed seed size (made_task m) status.Ok pieces → puts ≡ map taken pieces → PutsMake old puts new → Made words old.written new.written
+  of_summed words old new puts seed size m pieces l model (s, h, e) written makes = record {
+    seed = seed;
+    size = size;
+    wanted = l.wanted;
+    model = m;
+    read = named_read (is_good_name made_name) (reads (made_files seed size) made_name) (Err (file_refusal BadName (codes "-"))) m (file_refusal BadName (codes "-")) refl l.is;
+    values = h.values;
+    steps = h.steps;
+    only = λ others steps. laws.one (made_task m) h.values others model h.steps steps;
+    written =
+        let P : List ℕ → Type 0 = λ t. Appends old.written new.written t in
+        let Q : Summary → Type 0 = λ x. Appends old.written new.written (summary_text seed size x) in
+        subst Q h.is (subst P (append-nil (summary_text seed size s)) (all_written (summary_text seed size s ∷ []) old new puts (written ∙ ap (map taken) e) makes));
+    encloses = h.encloses;
+  }
+
+  summed_ok : (words : List Text) (old new : Seen) (puts : List Put) (end : Status) (seed size : ℕ) (read : Result FlowModel Refusal) → Summed words seed size read → IsValid (Making seed size read) end → end ≡ status.Ok → Delivers (Making seed size read) puts → PutsMake old puts new → Made words old.written new.written
+  summed_ok words old new puts end seed size (Err refusal) l valid e d makes = absurd (let bad : status.Ok ≡ status.Refused refusal = d.defines.0 in cc)
+  summed_ok words old new puts end seed size (Ok m) l (inl model) e d makes = of_summed words old new puts seed size m d.pieces l model d.defines d.written makes
+  summed_ok words old new puts end seed size (Ok m) l (inr stops) e d makes = absurd (not_stopped (let P : Status → Type 0 = IsStopped in subst P e stops))
+
+  by_case : (words : List Text) (files : List File) (old new : Seen) (puts : List Put) (end : Status) (case : Case) → case ≡ case_of words files → IsValid case end → end ≡ status.Ok → Delivers case puts → PutsMake old puts new → Headline words files old.written new.written ⊎ Made words old.written new.written
   by_case words files old new puts end NoWords is valid e d makes = absurd (let bad : status.Ok ≡ status.Usage = d.defines.0 in cc)
   by_case words files old new puts end (Refuses refusal) is valid e d makes = absurd (let bad : status.Ok ≡ status.Refused refusal = d.defines.0 in cc)
-  by_case words files old new puts end (Listing k) is valid e d makes = of_listing words files old new puts d.pieces k (listed words files k (sym is)) (valid_ok k end valid e) d.defines d.written makes
+  by_case words files old new puts end (Listing k) is valid e d makes = inl (of_listing words files old new puts d.pieces k (listed words files k (sym is)) (valid_ok k end valid e) d.defines d.written makes)
+  by_case words files old new puts end (Making seed size read) is valid e d makes = inr (summed_ok words old new puts end seed size read (summed words files seed size read (sym is)) valid e d makes)
 
-  pub headline : (words : List Text) (files : Option (List File)) (n m : ℕ) (end : Status) (puts : List Put) (old new : Seen) → Answers words files n m end puts → PutsMake old puts new → end ≡ status.Ok → IfSome files (λ fs. Headline words fs old.written new.written)
+  pub headline : (words : List Text) (files : Option (List File)) (n m : ℕ) (end : Status) (puts : List Put) (old new : Seen) → Answers words files n m end puts → PutsMake old puts new → end ≡ status.Ok → IfSome files (λ fs. Headline words fs old.written new.written ⊎ Made words old.written new.written)
   headline words (Some fs) n m end puts old new a makes e = by_case words fs old new puts end a.case a.is a.valid e (delivers (Rose n m) a.case end puts a.run e) makes
   headline words None n m end puts old new a makes e = tt
+
+  made_of : (words : List Text) (files : Option (List File)) (seed size : ℕ) (case : Case) → asked_in words ≡ Some (Make seed size) → IsCase words files case → case ≡ Making seed size (made_model seed size)
+  made_of words (Some fs) seed size case wanted is = let P : Option Command → Type 0 = λ a. case ≡ case_asked a (reads fs) in subst P wanted is
+  made_of words None seed size case wanted (read, valid, is) = let P : Option Command → Type 0 = λ a. case ≡ case_asked a (λ name. read) in subst P wanted is
+
+  pub made : (words : List Text) (files : Option (List File)) (n m : ℕ) (end : Status) (puts : List Put) (old new : Seen) → Answers words files n m end puts → PutsMake old puts new → end ≡ status.Ok → (seed size : ℕ) → asked_in words ≡ Some (Make seed size) → Made words old.written new.written
+  made words files n m end puts old new a makes e seed size wanted =
+      let same = made_of words files seed size a.case wanted a.is in
+      let V : Case → Type 0 = λ case. IsValid case end in
+      let D : Case → Type 0 = λ case. Delivers case puts in
+      summed_ok words old new puts end seed size (made_model seed size) (record { wanted = wanted; is = refl }) (subst V same a.valid) e (subst D same (delivers (Rose n m) a.case end puts a.run e)) makes
 
 due_read : (read_failed : Type 0) (case : Case) (end : Status) (pieces : List Text) → Due read_failed case end pieces → end ≡ status.ReadFault → read_failed
 due_read read_failed NoWords end pieces (defined meant all (is, p)) e = absurd (let bad : status.Usage ≡ status.ReadFault = sym is ∙ e in cc)
 due_read read_failed (Refuses refusal) end pieces (defined meant all (is, p)) e = absurd (let bad : status.Refused refusal ≡ status.ReadFault = sym is ∙ e in cc)
 due_read read_failed (Listing k) end pieces (defined meant all d) e = absurd (let P : Status → Type 0 = λ s. IsListing k s pieces in subst P e d)
+due_read read_failed (Making seed size (Ok m)) end pieces (defined meant all d) e = absurd (let P : Status → Type 0 = λ s. IsListing (made_task m) s (listing_of seed size (made_task m) end pieces d).0 in subst P e (listing_of seed size (made_task m) end pieces d).1)
+due_read read_failed (Making seed size (Err refusal)) end pieces (defined meant all (is, p)) e = absurd (let bad : status.Refused refusal ≡ status.ReadFault = sym is ∙ e in cc)
 due_read read_failed case end pieces (unread failed worded) e = failed
 
 pub read_rose : (read_failed : Type 0) (case : Case) (end : Status) (puts : List Put) → IsRunOf read_failed case end puts → end ≡ status.ReadFault → read_failed
@@ -137,6 +229,8 @@ due_write : (read_failed : Type 0) (case : Case) (end : Status) (pieces : List T
 due_write read_failed NoWords end pieces (defined meant all (is, p)) e = let bad : status.Usage ≡ status.WriteFault = sym is ∙ e in cc
 due_write read_failed (Refuses refusal) end pieces (defined meant all (is, p)) e = let bad : status.Refused refusal ≡ status.WriteFault = sym is ∙ e in cc
 due_write read_failed (Listing k) end pieces (defined meant all d) e = let P : Status → Type 0 = λ s. IsListing k s pieces in subst P e d
+due_write read_failed (Making seed size (Ok m)) end pieces (defined meant all d) e = let P : Status → Type 0 = λ s. IsListing (made_task m) s (listing_of seed size (made_task m) end pieces d).0 in subst P e (listing_of seed size (made_task m) end pieces d).1
+due_write read_failed (Making seed size (Err refusal)) end pieces (defined meant all (is, p)) e = let bad : status.Refused refusal ≡ status.WriteFault = sym is ∙ e in cc
 due_write read_failed case end pieces (unread failed worded) e = let bad : status.ReadFault ≡ status.WriteFault = e in cc
 
 pub put_rose : (read_failed : Type 0) (case : Case) (end : Status) (puts : List Put) (old new : Seen) → IsRunOf read_failed case end puts → end ≡ status.WriteFault → PutsMake old puts new → Rose old.faults new.faults
@@ -213,6 +307,12 @@ decides laws NoWords meant end p q valid (x, a) (y, b) = inr (inl (y ∙ sym x))
 decides laws (Refuses refusal) meant end p q valid (x, a) (y, b) = inr (inl (y ∙ sym x))
 decides laws (Listing k) meant end p q (inl valid) x y = agree laws k valid meant end p q x y
 decides laws (Listing k) meant end p q (inr stops) x y = absurd (never_stopped k end q stops y)
+decides laws (Making seed size (Err refusal)) meant end p q valid (x, a) (y, b) = inr (inl (y ∙ sym x))
+decides laws (Making seed size (Ok m)) meant end p q (inl valid) x y =
+    let v = listing_of seed size (made_task m) meant p x in
+    let w = listing_of seed size (made_task m) end q y in
+    agree laws (made_task m) valid meant end v.0 w.0 v.1 w.1
+decides laws (Making seed size (Ok m)) meant end p q (inr stops) x y = let w = listing_of seed size (made_task m) end q y in absurd (never_stopped (made_task m) end w.0 stops w.1)
 
 weighed : (fault : Type 0) (meant end : Status) → Agree meant end → (fault ⊎ IsUnfinished meant) ⊎ ((end ≡ meant) ⊎ ((end ≡ status.Memory) ⊎ IsUnfinished end))
 weighed fault meant end (inl open_meant) = inl (inr open_meant)
@@ -230,16 +330,36 @@ decided laws words (Some fs) n m end puts old new a makes = λ meant pieces x.
     decided_by laws (Rose n m ⊎ Rose old.faults new.faults) a.case meant end pieces a.valid (subst P (sym a.is) x) (ended n m a.case end puts old new a.run makes)
 decided laws words None n m end puts old new a makes = tt
 
-comes_by : (laws : Laws) (fault : Type 0) (k : Task) (end : Status) (values : List Step) (whole_steps : AllSteps k values Whole) → AllSettle k whole_steps.start (times k.model) values → IsValid (Listing k) end → Ended fault (Listing k) end → fault ⊎ ((end ≡ status.Ok) ⊎ (end ≡ status.Memory))
+-- the model of a case whose listing is put or summed up is valid, and an end that the case defines is one of that listing
+record IsOf (k : Task) (case : Case) (end : Status) : Type 0 where
+  model : IsModel k.model ⊎ IsStopped end
+  ends : (q : List Text) → Defines case end q → (p : List Text) × IsListing k end p
+
+is_of : (k : Task) (case : Case) (end : Status) → HasTask case k → IsValid case end → IsOf k case end
+is_of k NoWords end has valid = absurd has
+is_of k (Refuses refusal) end has valid = absurd has
+is_of k (Making seed size (Err refusal)) end has valid = absurd has
+is_of k (Listing j) end has valid =
+    let P : Task → Type 0 = λ t. IsOf t (Listing j) end in
+    subst P has (record { model = valid; ends = λ q y. (q, y) })
+is_of k (Making seed size (Ok m)) end has valid =
+    let P : Task → Type 0 = λ t. IsOf t (Making seed size (Ok m)) end in
+    subst P has (record { model = valid; ends = λ q y. listing_of seed size (made_task m) end q y })
+
+comes_by : (laws : Laws) (fault : Type 0) (k : Task) (end : Status) (values : List Step) (whole_steps : AllSteps k values Whole) → AllSettle k whole_steps.start (times k.model) values → IsModel k.model ⊎ IsStopped end → fault ⊎ ((end ≡ status.Memory) ⊎ ((p : List Text) × IsListing k end p)) → fault ⊎ ((end ≡ status.Ok) ⊎ (end ≡ status.Memory))
 comes_by laws fault k end values steps settle valid (inl f) = inl f
 comes_by laws fault k end values steps settle valid (inr (inl e)) = inr (inr e)
 comes_by laws fault k end values steps settle (inl valid) (inr (inr (q, y))) = inr (inl (settles laws k valid end q values steps settle y))
 comes_by laws fault k end values steps settle (inr stops) (inr (inr (q, y))) = absurd (never_stopped k end q stops y)
 
+ended_of : (fault : Type 0) (k : Task) (case : Case) (end : Status) → IsOf k case end → Ended fault case end → fault ⊎ ((end ≡ status.Memory) ⊎ ((p : List Text) × IsListing k end p))
+ended_of fault k case end o (inl f) = inl f
+ended_of fault k case end o (inr (inl e)) = inr (inl e)
+ended_of fault k case end o (inr (inr (q, y))) = inr (inr (o.ends q y))
+
 pub complete : (laws : Laws) (words : List Text) (files : Option (List File)) (n m : ℕ) (end : Status) (puts : List Put) (old new : Seen) → Answers words files n m end puts → PutsMake old puts new → IfSome files (λ fs. Comes (Rose n m ⊎ Rose old.faults new.faults) words fs end)
 complete laws words (Some fs) n m end puts old new a makes = λ l.
-    let same : a.case ≡ Listing l.task = a.is ∙ l.is in
-    let V : Case → Type 0 = λ case. IsValid case end in
-    let E : Case → Type 0 = λ case. Ended (Rose n m ⊎ Rose old.faults new.faults) case end in
-    comes_by laws (Rose n m ⊎ Rose old.faults new.faults) l.task end l.values l.steps l.settle (subst V same a.valid) (subst E same (ended n m a.case end puts old new a.run makes))
+    let P : Case → Type 0 = λ case. HasTask case l.task in
+    let o = is_of l.task a.case end (subst P (sym a.is) l.is) a.valid in
+    comes_by laws (Rose n m ⊎ Rose old.faults new.faults) l.task end l.values l.steps l.settle o.model (ended_of (Rose n m ⊎ Rose old.faults new.faults) l.task a.case end o (ended n m a.case end puts old new a.run makes))
 complete laws words None n m end puts old new a makes = tt

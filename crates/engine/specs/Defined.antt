@@ -1,23 +1,31 @@
 -- What a case defines: how its run ends, and with which pieces.
-use Rattle.std.specs.Prelude.{◌≡◌, ◌≢◌, List, [], ◌∷◌}
+use Rattle.std.specs.Prelude.{◌≡◌, List, [], ◌∷◌}
 use Rattle.command_line.specs.Usage.{usage_line}
 use Rattle.listing_io.specs.LastLines.{refused_line}
 use Rattle.run_puts.specs.Lines.{Text, read_fault_line}
 use Rattle.run_puts.specs.declared.status.Status.{Status}
 use Rattle.run_puts.specs.declared.status.Status.TheVariants as status
 use Rattle.listing_run.specs.Listing.{IsListing, IsCutListing}
-use Rattle.engine.specs.Cases.{Case, NoWords, Refuses, Listing}
+use Rattle.engine.specs.Cases.{Case, NoWords, Refuses, Listing, Making}
+use Rattle.engine.specs.Made.{IsMade}
 
--- A run of this case ends so, with these pieces: the usage line; the line of the refusal; a listing, whole or up to a step without bounds or one that the rounds don't settle.
+-- A run of this case ends so, with these pieces: the usage line; the line of the refusal; a listing, whole or up to a step without bounds or one that the rounds don't settle; or what is put of a made model.
 abbrev pub Defines : Case → Status → List Text → Type 0
 Defines NoWords end pieces = (end ≡ status.Usage) × (pieces ≡ usage_line ∷ [])
 Defines (Refuses refusal) end pieces = (end ≡ status.Refused refusal) × (pieces ≡ refused_line refusal ∷ [])
 Defines (Listing k) end pieces = IsListing k end pieces
+Defines (Making seed size read) end pieces = IsMade seed size read end pieces
+
+-- files of the folder that is handed in are read: not without a command, and not to make a model
+abbrev pub ReadsFolder : Case → Type 0
+ReadsFolder NoWords = ⊥
+ReadsFolder (Making seed size read) = ⊥
+ReadsFolder other = Unit {0}
 
 -- The pieces due where a run ends so: those that its case defines, or the line READFAULT alone, where a read failed.
 pub data Due (read_failed : Type 0) (case : Case) : Status → List Text → Type 0 where
   defined : (end : Status) (pieces : List Text) → Defines case end pieces → Due read_failed case end pieces
-  unread : read_failed → case ≢ NoWords → Due read_failed case status.ReadFault (read_fault_line ∷ [])
+  unread : read_failed → ReadsFolder case → Due read_failed case status.ReadFault (read_fault_line ∷ [])
 
 -- the pieces with which a run may break off for want of memory: a listing's first ones
 abbrev pub CutOf : Case → List Text → Type 0

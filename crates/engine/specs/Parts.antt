@@ -1,5 +1,5 @@
 -- What the parts of a run answer and put.
-use Rattle.std.specs.Prelude.{◌≡◌, ◌⊎◌, ℕ, List, Result, Option, Some, None, IfOk, codes}
+use Rattle.std.specs.Prelude.{◌≡◌, ◌⊎◌, ℕ, List, Result, Ok, Err, Option, Some, None, IfOk, codes}
 use Rattle.outside.specs.Counts.{Rose}
 use Rattle.outside.specs.Files.{File}
 use Rattle.outside.specs.Puts.{Put}
@@ -11,12 +11,19 @@ use Rattle.outside.specs.declared.refusals.InputFault.TheVariants as input
 use Rattle.model_types.specs.declared.model.FlowModel.{FlowModel}
 use Rattle.model_types.specs.Valid.{IsModel}
 use Rattle.model_reader.specs.Model.{reads}
-use Rattle.listing_io.specs.LastLines.{refused_line}
+use Rattle.listing_io.specs.LastLines.{refused_line, no_bound_line, unfinished_line}
+use Rattle.listing_run.specs.declared.task.Task.{Task}
+use Rattle.listing_summary.specs.declared.stop.Stop.{Stop}
+use Rattle.listing_summary.specs.declared.stop.Stop.TheVariants.{NoBound, Unfinished, Memory}
+use Rattle.listing_summary.specs.declared.summary.Summary.{Summary}
+use Rattle.listing_summary.specs.Texts.{summary_text}
 use Rattle.run_puts.specs.Ends.{IsEnd, IsLast, IsWanting}
 use Rattle.run_puts.specs.Lines.{Text, read_fault_line}
+use Rattle.run_puts.specs.Runs.{IsRun}
 use Rattle.run_puts.specs.declared.status.Status.{Status}
 use Rattle.run_puts.specs.declared.status.Status.TheVariants as status
-use Rattle.engine.specs.Cases.{Case, Listing, IsCase, named}
+use Rattle.engine.specs.Cases.{Case, Listing, Making, IsCase, made_model, named}
+use Rattle.engine.specs.Made.{IsMade}
 use Rattle.engine.specs.Runs.{IsRunOf}
 
 -- the puts of an end at a reading with this fault
@@ -40,9 +47,10 @@ IsReadAs name None answer = (read : Result FlowModel Refusal) × IfOk read IsMod
 abbrev pub IsStopped : Status → Type 0
 IsStopped end = (end ≡ status.ReadFault) ⊎ ((end ≡ status.WriteFault) ⊎ (end ≡ status.Memory))
 
--- the model of a listing is valid, but where it wasn't read whole
+-- the model of a listing or of made files is valid, but where it wasn't read whole
 abbrev pub IsValid : Case → Status → Type 0
 IsValid (Listing k) end = IsModel k.model ⊎ IsStopped end
+IsValid (Making seed size read) end = IfOk read IsModel ⊎ IsStopped end
 IsValid other end = Unit {0}
 
 -- all that a run comes to
@@ -51,3 +59,21 @@ pub record Answers (words : List Text) (files : Option (List File)) (before afte
   pub is : IsCase words files case
   pub run : IsRunOf (Rose before after) case end puts
   pub valid : IsValid case end
+
+-- The puts of an end at a summary, or where there is none.
+abbrev pub IsSummaryEnd : ℕ → ℕ → Task → Result Summary Stop → Status → List Put → Type 0
+IsSummaryEnd seed size k (Ok s) end puts = IsEnd (summary_text seed size s) status.Ok end puts
+IsSummaryEnd seed size k (Err (NoBound at n)) end puts = IsEnd (no_bound_line k.model.grid at n) (status.NoBound at.period at.step n) end puts
+IsSummaryEnd seed size k (Err (Unfinished at)) end puts = IsEnd (unfinished_line at) (status.Unfinished at.period at.step) end puts
+IsSummaryEnd seed size k (Err Memory) end puts = IsWanting end puts
+
+-- the puts of an end at a reading of made files with this fault
+abbrev pub IsUnreadEnd : InputFault → Status → List Put → Type 0
+IsUnreadEnd (input.Refused refusal) end puts = IsEnd (refused_line refusal) (status.Refused refusal) end puts
+IsUnreadEnd input.ReadFault end puts = IsWanting end puts
+IsUnreadEnd input.Memory end puts = IsWanting end puts
+
+-- all that the run of a made model comes to
+pub record IsMadeRun (seed size : ℕ) (end : Status) (puts : List Put) : Type 0 where
+  pub run : IsRun (IsMade seed size (made_model seed size)) (λ pieces. ⊥) end puts
+  pub valid : IfOk (made_model seed size) IsModel ⊎ IsStopped end

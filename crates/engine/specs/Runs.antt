@@ -1,5 +1,5 @@
 -- What a run puts, how it ends, and what comes for sure.
-use Rattle.std.specs.Prelude.{◌≡◌, ◌⊎◌, ℕ, List, Option}
+use Rattle.std.specs.Prelude.{◌≡◌, ◌⊎◌, ℕ, List, Ok, Option}
 use Rattle.outside.specs.Counts.{Rose}
 use Rattle.outside.specs.Files.{File}
 use Rattle.outside.specs.Puts.{Put}
@@ -11,7 +11,8 @@ use Rattle.run_puts.specs.declared.status.Status.TheVariants as status
 use Rattle.listing_run.specs.declared.task.Task.{Task}
 use Rattle.listing_run.specs.declared.step.Step.{Step}
 use Rattle.listing_run.specs.Steps.{Whole, AllSteps, AllSettle}
-use Rattle.engine.specs.Cases.{Case, Listing, IsCase, case_of}
+use Rattle.engine.specs.Cases.{Case, Listing, Making, IsCase, case_of}
+use Rattle.engine.specs.Made.{made_task}
 use Rattle.engine.specs.Defined.{Defines, Due, CutOf}
 
 -- a run of this case that ends so puts these
@@ -35,14 +36,20 @@ IsUnfinished other = ⊥
 abbrev pub Decided : Type 0 → List Text → List File → Status → Type 0
 Decided fault words files end = (meant : Status) (pieces : List Text) → Defines (case_of words files) meant pieces → (fault ⊎ IsUnfinished meant) ⊎ ((end ≡ meant) ⊎ ((end ≡ status.Memory) ⊎ IsUnfinished end))
 
+-- the listing that is put, or summed up
+abbrev pub HasTask : Case → Task → Type 0
+HasTask (Listing k) task = k ≡ task
+HasTask (Making seed size (Ok m)) task = made_task m ≡ task
+HasTask other task = ⊥
+
 -- The words are taken, the files read as a model, none of its steps has a refusal, and the rounds settle each.
 pub record HasListing (words : List Text) (files : List File) : Type 0 where
   pub task : Task
   pub values : List Step
-  pub is : case_of words files ≡ Listing task
+  pub is : HasTask (case_of words files) task
   pub steps : AllSteps task values Whole
   pub settle : AllSettle task steps.start (times task.model) values
 
--- Then the listing comes, but for a fault outside and want of memory.
+-- Then the listing or its summary comes, but for a fault outside and want of memory.
 abbrev pub Comes : Type 0 → List Text → List File → Status → Type 0
 Comes fault words files end = HasListing words files → fault ⊎ ((end ≡ status.Ok) ⊎ (end ≡ status.Memory))

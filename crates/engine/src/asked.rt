@@ -1,9 +1,9 @@
 // What an order asks for.
-ghost use Rattle.std.specs.Prelude.{◌≡◌, ◌≤◌, option_map, IfSome};
+ghost use Rattle.std.specs.Prelude.{◌≡◌, option_map, IfSome};
 ghost use Rattle.command_line.specs.Wants.{wanted};
 ghost use Rattle.command_line.specs.Ranges.{IsInRange};
-ghost use Rattle.settle_driver.specs.Phases.{IsPlan};
 ghost use Rattle.engine.specs.Cases.{built};
+ghost use Rattle.engine.specs.Commands.{command_of, IsCommand};
 
 use command_line::Order;
 use settle_driver::Plan;
@@ -19,12 +19,27 @@ pub(crate) struct Asked<'a> {
     pub(crate) plan: Plan,
 }
 
-/// The listing that an order asks for, where it is built.
-pub(crate) fn asked_of<'a>(order: Order<'a>) -> Option<Asked<'a>>
+/// A command that is built.
+#[derive(Clone, Copy, Debug, PartialEq, Eq)]
+pub(crate) enum Command<'a> {
+    Run(Asked<'a>),
+    Make { seed: u32, size: u32 },
+}
+
+/// What is listed of a made model, with the digits, the workers and the rounds of a run whose words give none.
+pub(crate) const MADE_DIGITS: u32 = 12;
+
+pub(crate) const MADE_PLAN: Plan = Plan {
+    workers: 4,
+    turns_per_cell: TURNS,
+    rounds: 1_000_000,
+};
+
+/// The command that an order asks for, where it is built.
+pub(crate) fn command_of<'a>(order: Order<'a>) -> Option<Command<'a>>
     requires { IsInRange (wanted order) }
-    ensures is { option_map (λ a. record { name = a.name.now; digits = a.digits; rounds = a.plan.rounds }) result ≡ built (wanted order.entry) }
-    ensures digits { IfSome result (λ a. a.digits ≤ 18) }
-    ensures plan { IfSome result (λ a. IsPlan a.plan) }
+    ensures is { option_map command_of result ≡ built (wanted order.entry) }
+    ensures in_range { IfSome result IsCommand }
 {
     match order {
         Order::Run {
@@ -34,7 +49,7 @@ pub(crate) fn asked_of<'a>(order: Order<'a>) -> Option<Asked<'a>>
             rounds,
             zones: None,
             watch: None,
-        } => Some(Asked {
+        } => Some(Command::Run(Asked {
             name,
             digits,
             plan: Plan {
@@ -42,7 +57,8 @@ pub(crate) fn asked_of<'a>(order: Order<'a>) -> Option<Asked<'a>>
                 turns_per_cell: TURNS,
                 rounds,
             },
-        }),
+        })),
+        Order::Make { seed, size } => Some(Command::Make { seed, size }),
         _ => None,
     }
 }

@@ -5,6 +5,7 @@ mod asked;
 mod ending;
 pub mod laws;
 mod listing;
+mod making;
 mod reading;
 mod running;
 

@@ -1,13 +1,17 @@
-ghost use Rattle.std.specs.Prelude.{◌≡◌, ◌⊎◌, List, [], ◌++◌, map, IfSome};
+ghost use Rattle.std.specs.Prelude.{◌≡◌, ◌⊎◌, ℕ, List, [], ◌++◌, map, IfSome, Some};
 ghost use Rattle.outside.specs.Puts.{Put};
 ghost use Rattle.outside.specs.Counts.{Rose};
 ghost use Rattle.engine.specs.Headline.{Headline};
 ghost use Rattle.engine.specs.Runs.{Puts, Decided, Comes};
+ghost use Rattle.engine.specs.Cases.{asked_in, Make, Run};
+ghost use Rattle.engine.specs.Commands.{asked_of, IsAsked};
+ghost use Rattle.engine.specs.Made.{Made};
 ghost use Rattle.engine.specs.Parts.{Answers};
 
-use crate::asked::asked_of;
+use crate::asked::{Asked, Command, command_of};
 use crate::ending::end_reading;
 use crate::listing::put_listing;
+use crate::making::put_made;
 use crate::reading::read_named;
 use command_line::{WordsFault, read_order};
 use listing_run::Task;
@@ -21,8 +25,9 @@ const USAGE: &[u8] =
     b"USAGE: heads run NAME [--digits S] [--workers W] [--rounds P] [--zones Z] [--watch N] | heads check NAME LISTING [--digits S] | heads make SEED SIZE | heads batch LIST [--digits S] [--workers W] [--rounds P]\n";
 
 /// Does what the words ask: `run NAME` reads the model of that name file from the folder and puts its listing to
-/// `out`, step by step. Nothing is put to `side`. Workers in threads settle each step, and pass the gate before each
-/// turn. Other commands, a zone file and a watching seat aren't built yet, and are answered with the usage line.
+/// `out`, step by step; `make SEED SIZE` makes a model, for which the folder isn't asked, and puts the summary of its
+/// listing. Nothing is put to `side`. Workers in threads settle each step, and pass the gate before each turn. Other
+/// commands, a zone file and a watching seat aren't built yet, and are answered with the usage line.
 pub fn run<R: Threads + Sync, F: Folder, K: Sink + Send, W: Sink + Send, G: Gate + Sync>(
     rt: &R,
     alloc: Global,
@@ -39,9 +44,14 @@ pub fn run<R: Threads + Sync, F: Folder, K: Sink + Send, W: Sink + Send, G: Gate
     // The folder tells the same files.
     ensures files { F.files folder.new ≡ F.files folder.old }
 
-    // The headline.
+    // The headline: of a listing, or of the listing that a made model's summary sums up.
     ensures headline { result ≡ Status.Ok → IfSome (F.files folder.old) (λ files.
-        Headline (map (λ w. w.now) words.now) files (K.seen out.old).written (K.seen out.new).written) }
+        Headline (map (λ w. w.now) words.now) files (K.seen out.old).written (K.seen out.new).written
+        ⊎ Made (map (λ w. w.now) words.now) (K.seen out.old).written (K.seen out.new).written) }
+
+    // Of a made model it holds whatever the folder is.
+    ensures made { result ≡ Status.Ok → (seed size : ℕ) → asked_in (map (λ w. w.now) words.now) ≡ Some (Make seed size) →
+        Made (map (λ w. w.now) words.now) (K.seen out.old).written (K.seen out.new).written }
 
     // The causes that are counts.
     ensures read_fault { result ≡ Status.ReadFault → Rose (F.faults folder.old) (F.faults folder.new) }
@@ -76,9 +86,28 @@ fn answer<R: Threads + Sync, F: Folder, K: Sink + Send, G: Gate + Sync>(
         Err(WordsFault::Usage) => return put_last(out, USAGE, Status::Usage),
         Err(WordsFault::Memory) => return put_memory(out),
     };
-    let Some(asked) = asked_of(order) else {
-        return put_last(out, USAGE, Status::Usage);
-    };
+    match command_of(order) {
+        None => put_last(out, USAGE, Status::Usage),
+        Some(Command::Run(asked)) => list(rt, alloc, asked, folder, out, gate),
+        Some(Command::Make { seed, size }) => put_made(rt, alloc, seed, size, out, gate),
+    }
+}
+
+// Puts the listing of a model of the folder.
+fn list<'a, R: Threads + Sync, F: Folder, K: Sink + Send, G: Gate + Sync>(
+    rt: &R,
+    alloc: Global,
+    asked: Asked<'a>,
+    folder: &mut F,
+    out: &mut K,
+    gate: &G,
+) -> Status
+    requires { IsAsked asked }
+    ensures files { F.files folder.new ≡ F.files folder.old }
+    ensures answers { (start : _) (puts : List Put) → K.leads start puts out.old →
+        (more : List Put) × K.leads start (puts ++ more) out.new
+        × ((words : List (List ℕ)) → asked_in words ≡ Some (Run (asked_of asked.entry)) → Answers words (F.files folder.old) (F.faults folder.old) (F.faults folder.new) result more) }
+{
     match read_named(alloc, folder, asked.name) {
         Ok(model) => {
             let task = Task {

@@ -81,14 +81,14 @@ module _ (k : Task) where
     encloses = λ d Xs h. let e = s.encloses d Xs h in one_move old at rest values v heads d Xs h.some same moves e.before e.last e.within e.solves e.goes_on;
   }
 
-  ended : (old : List Bound) (rest : List TimeStep) (values : List Step) (end : End) → IsSolved old rest values → Steps k old rest [] end → AllSteps k values end
+  pub ended : (old : List Bound) (rest : List TimeStep) (values : List Step) (end : End) → IsSolved old rest values → Steps k old rest [] end → AllSteps k values end
   ended old rest values end s h = let P : List Step → Type 0 = λ vs. AllSteps k vs end in subst P (append-nil values) (s.steps [] end h)
 
   nothing_more : (d : ℕ) (before : ℕ → Fraction) (last : List (ℕ → ℤ)) → SolvesFrom k.model d before [] last → BoundAll k d before [] last
   nothing_more d before [] h = tt
   nothing_more d before (X ∷ last) h = absurd h
 
-  all_enclosed : (old : List Bound) (values : List Step) → IsSolved old [] values → EnclosesHistories k values
+  pub all_enclosed : (old : List Bound) (values : List Step) → IsSolved old [] values → EnclosesHistories k values
   all_enclosed old values s d Xs h =
       let e = s.encloses d Xs h in
       let P : List Step → Type 0 = λ vs. BoundAll k d (start_head k.model) vs Xs in

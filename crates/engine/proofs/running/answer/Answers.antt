@@ -1,7 +1,13 @@
-use Rattle.std.proofs.Common.{◌≡◌, ℕ, List, map, Err, Some, None, ap}
-use Rattle.engine.specs.Cases.{Asked, asked_in}
-use Rattle.engine.proofs.Ends.{asked_by, asked_none, ends_usage, ends_reading, ends_listing, ends_without_words, no_words}
+use Rattle.std.proofs.Common.{◌≡◌, ◌∙◌, ℕ, List, map, Err, Option, Some, None, ap, sym}
+use Rattle.engine.specs.declared.asked.Command.{Command as CommandBy}
+use Rattle.engine.specs.Cases.{Command, asked_in, Make, Run}
+use Rattle.engine.specs.Commands.{asked_of, command_of}
+use Rattle.engine.proofs.Ends.{asked_by, asked_none, ends_usage, ends_made, ends_without_words, no_words}
 use Rattle.engine.proofs.running.answer.Goals as goal
+
+-- a command that is a variant's
+by_variant : (x y : CommandBy) (b : Option Command) → x ≡ y → Some (command_of x) ≡ b → Some (command_of y) ≡ b
+by_variant x y b same is = ap (λ (z : CommandBy). Some (command_of z)) (sym same) ∙ is
 
 pub returns-in-Err-Usage-clause-answers : goal.returns-in-Err-Usage-clause-answers
 returns-in-Err-Usage-clause-answers g c = λ start puts h.
@@ -16,25 +22,22 @@ returns-in-Err-Memory-clause-answers g c = λ start puts h.
     let words : List (List ℕ) = map (λ w. w.now) c.args.words.now in
     (m.0, m.1, ends_without_words words (g.F.Folder.files c.args.folder.now) (g.F.Folder.faults c.args.folder.now) _ c.put_memory.result m.0 m.2)
 
-pub returns-in_default-clause-answers : goal.returns-in_default-clause-answers
-returns-in_default-clause-answers g c = λ start puts h.
-    let m = c.put_last-in_default.ensures start puts h in
+pub returns-in-None-clause-answers : goal.returns-in-None-clause-answers
+returns-in-None-clause-answers g c = λ start puts h.
+    let m = c.put_last-in-None.ensures start puts h in
     let words : List (List ℕ) = map (λ w. w.now) c.args.words.now in
-    let none : asked_in words ≡ None = asked_by words _ None c.in-Ok.ensures.order c.in_default.ensures.is in
-    (m.0, m.1, ends_usage words (g.F.Folder.files c.args.folder.now) (g.F.Folder.faults c.args.folder.now) _ c.put_last-in_default.result m.0 (no_words words (g.F.Folder.files c.args.folder.now) none) m.2)
+    let none : asked_in words ≡ None = asked_by words _ None c.in-Ok.ensures.order c.in-None.ensures.is in
+    (m.0, m.1, ends_usage words (g.F.Folder.files c.args.folder.now) (g.F.Folder.faults c.args.folder.now) _ c.put_last-in-None.result m.0 (no_words words (g.F.Folder.files c.args.folder.now) none) m.2)
 
-pub returns-in-Ok-read_named-clause-answers : goal.returns-in-Ok-read_named-clause-answers
-returns-in-Ok-read_named-clause-answers g c = λ start puts h.
-    let m = c.put_listing.ensures start puts h in
+pub returns-in-Some-Run-clause-answers : goal.returns-in-Some-Run-clause-answers
+returns-in-Some-Run-clause-answers g c = λ start puts h.
+    let m = c.list.ensures.answers start puts h in
     let words : List (List ℕ) = map (λ w. w.now) c.args.words.now in
-    let asked : Asked = record { name = c.in-Some.asked.name.now; digits = c.in-Some.asked.digits; rounds = c.in-Some.asked.plan.rounds } in
-    let named : asked_in words ≡ Some asked = asked_by words _ (Some asked) c.in-Ok.ensures.order c.in-Some.ensures.is in
-    (m.0, m.1, ends_listing words (g.F.Folder.files c.args.folder.now) (g.F.Folder.faults c.args.folder.now) _ asked named c.in-Ok-read_named.model c.put_listing.result m.0 c.in-Ok-read_named.ensures.reads c.in-Ok-read_named.ensures.model m.2)
+    (m.0, m.1, m.2 words (asked_by words _ (Some (Run (asked_of c.in-Some-Run.asked))) c.in-Ok.ensures.order (by_variant _ _ _ c.in-Some-Run.field-0-is c.in-Some-Run.ensures.is)))
 
-pub returns-in-Err-clause-answers : goal.returns-in-Err-clause-answers
-returns-in-Err-clause-answers g c = λ start puts h.
-    let m = c.end_reading.ensures start puts h in
+pub returns-in-Some-Make-clause-answers : goal.returns-in-Some-Make-clause-answers
+returns-in-Some-Make-clause-answers g c = λ start puts h.
+    let m = c.put_made.ensures start puts h in
     let words : List (List ℕ) = map (λ w. w.now) c.args.words.now in
-    let asked : Asked = record { name = c.in-Some.asked.name.now; digits = c.in-Some.asked.digits; rounds = c.in-Some.asked.plan.rounds } in
-    let named : asked_in words ≡ Some asked = asked_by words _ (Some asked) c.in-Ok.ensures.order c.in-Some.ensures.is in
-    (m.0, m.1, ends_reading words (g.F.Folder.files c.args.folder.now) (g.F.Folder.faults c.args.folder.now) _ asked named c.in-Err.fault c.end_reading.result m.0 c.in-Err.ensures.reads c.in-Err.ensures.counts m.2)
+    let wanted : asked_in words ≡ Some (Make c.in-Some-Make.seed c.in-Some-Make.size) = asked_by words _ (Some (Make c.in-Some-Make.seed c.in-Some-Make.size)) c.in-Ok.ensures.order (by_variant _ _ _ c.in-Some-Make.field-0-is c.in-Some-Make.ensures.is) in
+    (m.0, m.1, ends_made words c.in-Some-Make.seed c.in-Some-Make.size wanted (g.F.Folder.files c.args.folder.now) (g.F.Folder.faults c.args.folder.now) _ c.put_made.result m.0 m.2)

@@ -1,0 +1,19 @@
+use Rattle.std.proofs.Common.{◌≡◌, List, Ok, Err, Some, subst, rules}
+use Rattle.outside.specs.Files.{File}
+use Rattle.engine.proofs.Summed.{made_lacking, made_summed, made_unread, match_summed}
+use Rattle.engine.proofs.making.put_made.Goals as goal
+
+pub returns-in_default : goal.returns-in_default
+returns-in_default g c = λ start puts h.
+    let m = c.put_memory.ensures start puts h in
+    (m.0, m.1, made_lacking c.args.seed c.args.size c.put_memory.result m.0 m.2)
+
+pub returns-in-Ok-read_named : goal.returns-in-Ok-read_named
+returns-in-Ok-read_named g c = λ start puts h.
+    let m = c.end_summary.ensures start puts h in
+    (m.0, m.1, made_summed c.args.seed c.args.size c.in-Ok-read_named.model c.summarize_by_workers-summed.result c.end_summary.result m.0 (search rules) c.in-Ok-read_named.ensures.model (search rules) m.2)
+
+pub returns : goal.returns
+returns g c = λ start puts h.
+    let m = c.end_unread.ensures start puts h in
+    (m.0, m.1, made_unread c.args.seed c.args.size c.in-Err.fault c.end_unread.result m.0 (search rules) m.2)

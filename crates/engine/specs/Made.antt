@@ -1,0 +1,54 @@
+-- A model that is made of a seed: how a run of it ends, and with which pieces.
+use Rattle.std.specs.Prelude.{◌≡◌, ℕ, ℤ, List, [], ◌∷◌, ◌++◌, Ok, Err, Option, Some, Result}
+use Rattle.std.specs.Io.KnownBytes.{Appends}
+use Rattle.outside.specs.declared.refusals.Refusal.{Refusal}
+use Rattle.model_types.specs.declared.model.FlowModel.{FlowModel}
+use Rattle.model_types.specs.Heads.{start_head}
+use Rattle.model_maker.specs.Files.{made_files, made_name}
+use Rattle.model_reader.specs.Model.{reads}
+use Rattle.flow_equations.specs.Histories.{Solves}
+use Rattle.listing_io.specs.LastLines.{refused_line}
+use Rattle.run_puts.specs.Lines.{Text}
+use Rattle.run_puts.specs.declared.status.Status.{Status}
+use Rattle.run_puts.specs.declared.status.Status.TheVariants as status
+use Rattle.listing_run.specs.declared.task.Task.{Task}
+use Rattle.listing_run.specs.declared.step.Step.{Step}
+use Rattle.listing_run.specs.Steps.{Whole, AllSteps}
+use Rattle.listing_run.specs.Bounding.{BoundAll}
+use Rattle.listing_run.specs.Listing.{IsListing}
+use Rattle.listing_summary.specs.declared.summary.Summary.{Summary}
+use Rattle.listing_summary.specs.Ends.{IsSummarized}
+use Rattle.listing_summary.specs.Summaries.{summary_of}
+use Rattle.listing_summary.specs.Texts.{summary_text}
+use Rattle.engine.specs.Cases.{asked_in, task_of, Make}
+
+-- what is listed of it, with the digits and the rounds of a run whose words give none
+abbrev pub made_task : FlowModel → Task
+made_task m = task_of (record { name = made_name; digits = 12; rounds = 1000000 }) m
+
+-- A whole listing is put as its summary. One that ends otherwise is put as its last line.
+abbrev pub IsSummed : ℕ → ℕ → Task → Status → List Text → Type 0
+IsSummed seed size k status.Ok pieces = (s : Summary) × IsSummarized k s × (pieces ≡ summary_text seed size s ∷ [])
+IsSummed seed size k end pieces = (before : List Text) × (line : Text) × IsListing k end (before ++ (line ∷ [])) × (pieces ≡ line ∷ [])
+
+-- a run of the made files, which read as this
+abbrev pub IsMade : ℕ → ℕ → Result FlowModel Refusal → Status → List Text → Type 0
+IsMade seed size (Err refusal) end pieces = (end ≡ status.Refused refusal) × (pieces ≡ refused_line refusal ∷ [])
+IsMade seed size (Ok m) end pieces = IsSummed seed size (made_task m) end pieces
+
+-- A run with these words that ended Ok, where a sink had the bytes `old` before it and `new` after it, has written the summary of the one listing that the made files define; and every history of heads that solves the manual's exact equations of these files lies between the heads and the terms of that listing.
+pub record Made (words : List Text) (old new : Option (List ℕ)) : Type 0 where
+  -- The words ask for a made model, and its files read as a model.
+  pub seed : ℕ
+  pub size : ℕ
+  pub wanted : asked_in words ≡ Some (Make seed size)
+  pub model : FlowModel
+  pub read : reads (made_files seed size) made_name ≡ Ok model
+  -- All its time steps have values, which are heads and budgets, and no others.
+  pub values : List Step
+  pub steps : AllSteps (made_task model) values Whole
+  pub only : (others : List Step) → AllSteps (made_task model) others Whole → others ≡ values
+  -- The summary of their listing was appended, and nothing else.
+  pub written : Appends old new (summary_text seed size (summary_of model values))
+  -- Every history over any denominator d that solves the model's exact equations lies between them.
+  pub encloses : (d : ℕ) (history : List (ℕ → ℤ)) → Solves model d history → BoundAll (made_task model) d (start_head model) values history

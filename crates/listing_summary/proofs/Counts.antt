@@ -1,0 +1,92 @@
+-- What is counted, one line HEAD after another.
+use Rattle.std.proofs.Common.{◌≡◌, ℕ, suc, ◌+◌, ◌*◌, ◌<◌, ◌≤◌, ◌^◌, List, [], ◌∷◌, ◌++◌, length, drop, get_or, cond, Bool, true, false, refl, sym, ap, ◌∙◌, arith, ℤ, pos, ◌+ℤ◌, ◌-ℤ◌, All}
+use Rattle.std.proofs.lemmas.Int.{ints, clamps}
+use Rattle.std.proofs.lemmas.List.{drop_more, drop_all, append-nil, length-append}
+use Rattle.std.proofs.lemmas.List.Sums.{fold-append, fold_push}
+use Rattle.std.proofs.lemmas.List.Concat.{flat_map-append}
+use Rattle.std.specs.Int.{int_max}
+use Rattle.std.specs.List.{fold, flat_map}
+use Rattle.step_problem.specs.declared.heads.Bound.{Bound}
+use Rattle.step_problem.specs.Conditions.{IsHead, IsWithin, head_limit}
+use Rattle.model_types.specs.declared.model.FlowModel.{FlowModel}
+use Rattle.model_types.specs.Layers.{is_active}
+use Rattle.listing_run.specs.declared.step.Step.{Step}
+use Rattle.listing_summary.specs.declared.summary.Summary.{Summary}
+use Rattle.listing_summary.specs.Counting.{counted, stepped, nothing, Fits}
+use Rattle.listing_summary.specs.Summaries.{printed, printed_heads, summary_of, width, widest, low_sum, high_sum}
+
+-- the cells that are left
+pub one_cell : (m : FlowModel) (bs : List Bound) (c : ℕ) (d : Bound) (s t whole : Summary) → c < length bs → t ≡ fold counted s (cond (is_active m c) (get_or bs c d ∷ []) []) → fold counted s (printed m c (drop c bs)) ≡ whole → fold counted t (printed m (c + 1) (drop (c + 1) bs)) ≡ whole
+unfolding printed
+one_cell m bs c d s t whole within is so_far =
+    let rest = printed m (c + 1) (drop (c + 1) bs) in
+    let here : List Bound = cond (is_active m c) (get_or bs c d ∷ []) [] in
+    let split : fold counted s (printed m c (drop c bs)) ≡ fold counted (fold counted s here) rest = rw (drop_more bs c d within) (fold-append counted s here rest) in
+    ap (λ x. fold counted x rest) is ∙ sym split ∙ so_far
+
+pub no_cell : (m : FlowModel) (bs : List Bound) (c : ℕ) (s whole : Summary) → length bs ≤ c → fold counted s (printed m c (drop c bs)) ≡ whole → s ≡ whole
+unfolding printed
+no_cell m bs c s whole past so_far =
+    let none : fold counted s (printed m c (drop c bs)) ≡ s = rw (drop_all c bs past) refl in
+    sym none ∙ so_far
+
+-- a sum that fits has room for one head more
+pub low_room : (s : Summary) → Fits s → s.heads < 6553600000 → IsWithin s.low_sum (2 ^ 100)
+low_room s fits room = record { above = omega (arith, ints, fits.low.above); below = omega (arith, ints, fits.low.below) }
+
+pub high_room : (s : Summary) → Fits s → s.heads < 6553600000 → IsWithin s.high_sum (2 ^ 100)
+high_room s fits room = record { above = omega (arith, ints, fits.high.above); below = omega (arith, ints, fits.high.below) }
+
+-- the sums fit, counted or not
+pub fits_more : (s : Summary) (b : Bound) → Fits s → IsHead b.low → IsHead b.high → Fits (counted s b)
+fits_more s b fits low high = record {
+  widest = record { above = omega (arith, ints, clamps, fits.widest.above, fits.widest.below, low.above, low.below, high.above, high.below); below = omega (arith, ints, clamps, fits.widest.above, fits.widest.below, low.above, low.below, high.above, high.below) };
+  low = record { above = omega (arith, ints, fits.low.above, low.above); below = omega (arith, ints, fits.low.below, low.below) };
+  high = record { above = omega (arith, ints, fits.high.above, high.above); below = omega (arith, ints, fits.high.below, high.below) };
+}
+
+-- a summary by its numbers
+abbrev made : ℕ → ℕ → ℤ → ℤ → ℤ → Summary
+made steps heads w l u = record { steps = steps; heads = heads; widest = w; low_sum = l; high_sum = u }
+
+same : {a b i j : ℕ} {w x l m u v : ℤ} → a ≡ b → i ≡ j → w ≡ x → l ≡ m → u ≡ v → made a i w l u ≡ made b j x m v
+same p q r s t = rw (p, q, r, s, t) refl
+
+abbrev wider : ℤ → Bound → ℤ
+wider w b = int_max (width b) w
+
+abbrev lower : ℤ → Bound → ℤ
+lower s b = s +ℤ b.low
+
+abbrev upper : ℤ → Bound → ℤ
+upper s b = s +ℤ b.high
+
+-- each number of a count, by itself
+counted_all : (s : Summary) (bs : List Bound) → fold counted s bs ≡ made s.steps (s.heads + length bs) (fold wider s.widest bs) (fold lower s.low_sum bs) (fold upper s.high_sum bs)
+counted_all s [] = same refl (omega arith) refl refl refl
+counted_all s (b ∷ bs) = counted_all (counted s b) bs ∙ same refl (omega arith) refl refl refl
+
+stepped_all : (m : FlowModel) (s : Summary) (values : List Step) → fold (λ s v. stepped m s v.heads) s values ≡ made (s.steps + length values) (s.heads + length (printed_heads m values)) (fold wider s.widest (printed_heads m values)) (fold lower s.low_sum (printed_heads m values)) (fold upper s.high_sum (printed_heads m values))
+stepped_all m s [] = same (omega arith) (omega arith) refl refl refl
+stepped_all m s (v ∷ values) =
+    let first : List Bound = printed m 0 v.heads in
+    let more : List Bound = printed_heads m values in
+    let e = counted_all s first in
+    let heads : (fold counted s first).heads ≡ s.heads + length first = ap (λ (x : Summary). x.heads) e in
+    stepped_all m (stepped m s v.heads) values ∙ same
+    (omega arith)
+    (let both = length-append first more in omega (arith, heads, both))
+    (ap (λ (x : Summary). fold wider x.widest more) e ∙ sym (fold-append wider s.widest first more))
+    (ap (λ (x : Summary). fold lower x.low_sum more) e ∙ sym (fold-append lower s.low_sum first more))
+    (ap (λ (x : Summary). fold upper x.high_sum more) e ∙ sym (fold-append upper s.high_sum first more))
+
+-- all steps, one after another
+abbrev pub all_counted : FlowModel → List Step → Summary
+all_counted m values = fold (λ s v. stepped m s v.heads) nothing values
+
+pub one_step : (m : FlowModel) (values : List Step) (v : Step) (heads : List Bound) (s t : Summary) → heads ≡ v.heads → s ≡ all_counted m values → t ≡ stepped m s heads → t ≡ all_counted m (values ++ (v ∷ []))
+one_step m values v heads s t same so_far is =
+    is ∙ ap (λ hs. stepped m s hs) same ∙ ap (λ x. stepped m x v.heads) so_far ∙ sym (fold_push (λ s v. stepped m s v.heads) nothing values v)
+
+pub all_counted_is : (m : FlowModel) (values : List Step) → all_counted m values ≡ summary_of m values
+all_counted_is m values = stepped_all m nothing values ∙ same (omega arith) (omega arith) refl refl refl

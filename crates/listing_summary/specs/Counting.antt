@@ -1,0 +1,41 @@
+-- A summary, from one line HEAD and one step to the next, and what the calls that count hand to each other.
+use Rattle.std.specs.Prelude.{◌≡◌, ℕ, ◌+◌, ◌*◌, pos, ◌+ℤ◌, List, [], ◌≤◌, length}
+use Rattle.std.specs.Int.{int_max}
+use Rattle.std.specs.List.{fold}
+use Rattle.step_problem.specs.declared.heads.Bound.{Bound}
+use Rattle.step_problem.specs.Conditions.{IsWithin, head_limit}
+use Rattle.model_types.specs.declared.model.FlowModel.{FlowModel}
+use Rattle.model_types.specs.declared.time_steps.TimeStep.{TimeStep}
+use Rattle.problem_builder.specs.GridHeads.{AreGridHeads}
+use Rattle.listing_run.specs.declared.task.Task.{Task}
+use Rattle.listing_run.specs.declared.step.Step.{Step}
+use Rattle.listing_run.specs.declared.step.Fault.{Fault}
+use Rattle.listing_run.specs.declared.step.Fault.TheVariants as fault
+use Rattle.listing_summary.specs.declared.summary.Summary.{Summary}
+use Rattle.listing_summary.specs.declared.stop.Stop.{Stop}
+use Rattle.listing_summary.specs.declared.stop.Stop.TheVariants as stop
+use Rattle.listing_summary.specs.Summaries.{printed, width}
+
+-- nothing is counted yet
+abbrev pub nothing : Summary
+nothing = record { steps = 0; heads = 0; widest = pos 0; low_sum = pos 0; high_sum = pos 0 }
+
+-- one line HEAD more
+abbrev pub counted : Summary → Bound → Summary
+counted s b = record { steps = s.steps; heads = s.heads + 1; widest = int_max (width b) s.widest; low_sum = s.low_sum +ℤ b.low; high_sum = s.high_sum +ℤ b.high }
+
+-- one step more, with these heads of all cells
+abbrev pub stepped : FlowModel → Summary → List Bound → Summary
+stepped m s heads = record (fold counted s (printed m 0 heads)) { steps = s.steps + 1 }
+
+-- the sums are no greater than so many heads make them
+pub record Fits (s : Summary) : Type 0 where
+  pub widest : IsWithin s.widest (2 * head_limit)
+  pub low : IsWithin s.low_sum (s.heads * head_limit)
+  pub high : IsWithin s.high_sum (s.heads * head_limit)
+
+-- why there is no summary, by the fault of a step
+abbrev pub stop_of : TimeStep → Fault → Stop
+stop_of at (fault.NoBound n) = stop.NoBound at n
+stop_of at fault.Unfinished = stop.Unfinished at
+stop_of at fault.Memory = stop.Memory

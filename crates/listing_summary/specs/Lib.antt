@@ -1,0 +1,4 @@
+pub mod Summaries
+pub mod Texts
+pub mod Ends
+pub mod Counting

@@ -1,0 +1,26 @@
+// Why a listing has no summary.
+ghost use Rattle.std.specs.Prelude.{◌≡◌};
+ghost use Rattle.listing_summary.specs.Counting.{stop_of};
+
+use listing_run::Fault;
+use model_types::TimeStep;
+use step_problem::NoBound;
+
+/// Why a listing has no summary: the first refusal of a step, rounds that don't settle a step, or want of memory.
+#[derive(Clone, Copy, Debug, PartialEq, Eq)]
+pub enum Stop {
+    NoBound(TimeStep, NoBound),
+    Unfinished(TimeStep),
+    Memory,
+}
+
+/// The same, by the fault of the step of a time.
+pub(crate) fn stop_at(at: TimeStep, fault: Fault) -> Stop
+    ensures { result ≡ stop_of at fault }
+{
+    match fault {
+        Fault::NoBound(refusal) => Stop::NoBound(at, refusal),
+        Fault::Unfinished => Stop::Unfinished(at),
+        Fault::Memory => Stop::Memory,
+    }
+}

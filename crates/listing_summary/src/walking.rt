@@ -1,0 +1,40 @@
+// The steps of a listing are solved one after another, and counted.
+ghost use Rattle.std.specs.Prelude.{◌≡◌, IfOk, IfErr};
+ghost use Rattle.listing_run.specs.Ends.{IsTask};
+ghost use Rattle.listing_summary.specs.Ends.{IsSummarized, StopsBy};
+
+use crate::begin::{Begun, begin};
+use crate::stop::{Stop, stop_at};
+use crate::summary::Summary;
+use listing_run::{Task, solve};
+use std::alloc::Global;
+use step_problem::Settler;
+
+/// The summary of the one listing of a task, or why it has none.
+pub fn summarize<S: Settler>(alloc: Global, task: &Task, settler: &mut S) -> Result<Summary, Stop>
+    requires ready { S.ready settler.old }
+    requires rounds { S.rounds settler.old ≡ task.now.rounds }
+    requires task { IsTask task.now }
+    ensures summary { IfOk result (IsSummarized task.now) }
+    ensures stop { IfErr result (StopsBy task.now) }
+{
+    let Ok(begun) = begin(alloc, task) else {
+        return Err(Stop::Memory);
+    };
+    let Begun {
+        mut tables,
+        times,
+        mut old,
+    } = begun;
+    let mut summary = Summary::nothing();
+    for at in times.as_slice() {
+        match solve(alloc, task, &mut tables, *at, old.as_slice(), settler) {
+            Ok(step) => {
+                summary.count_step(&task.model, step.heads.as_slice());
+                old = step.heads.into_vec();
+            }
+            Err(fault) => return Err(stop_at(*at, fault)),
+        }
+    }
+    Ok(summary)
+}

@@ -1,0 +1,6 @@
+use Rattle.std.proofs.Common.{◌≡◌, ◌++◌, codes}
+use Rattle.model_maker.specs.Files.{texts_below}
+use Rattle.model_maker.proofs.grids.push_ones.Given as goal
+
+abbrev pub invariant-loop : goal.invariant-loop
+invariant-loop l = l.text.items ≡ l.fn.text.items ++ texts_below l.counter (λ j. codes " 1")

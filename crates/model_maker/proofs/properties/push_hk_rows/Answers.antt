@@ -1,0 +1,19 @@
+use Rattle.std.proofs.Common.{◌*◌}
+use Rattle.model_maker.specs.Draws.{after}
+use Rattle.model_maker.specs.Files.{hk_row}
+use Rattle.model_maker.proofs.Texts.{no_rows, no_text, one_row, next_row}
+use Rattle.model_maker.proofs.properties.push_hk_rows.Goals as goal
+
+pub loop-init : goal.loop-init
+loop-init c = record {
+  text = no_text c.args.text.now.items (λ i. hk_row c.args.size (after (i * c.args.size) c.args.draws.now.x));
+  next = no_rows c.args.size c.args.draws.now.x;
+  small = c.requires;
+}
+
+pub loop-preserved : goal.loop-preserved
+loop-preserved c = record {
+  text = one_row c.args.text.now.items c.loop.text.items _ c.args.size c.loop.counter c.args.draws.now.x c.loop.draws.x c.loop.invariant.text c.loop.invariant.next c.in_ok-push_hk_row.ensures.text;
+  next = next_row c.args.size c.loop.counter c.args.draws.now.x c.loop.draws.x _ c.loop.invariant.next c.in_ok-push_hk_row.ensures.next;
+  small = c.in_ok-push_hk_row.ensures.small;
+}

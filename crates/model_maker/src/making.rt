@@ -1,0 +1,69 @@
+// All files in one folder. It has the file first that was added last.
+ghost use Rattle.std.specs.Prelude.{◌≡◌, ◌≤◌, [], ◌∷◌, codes, IfOk};
+ghost use Rattle.model_maker.specs.Files.{bas_text, dis_text, file, made_files, made_name, nam_text, rch_text, riv_text};
+
+use crate::draws::Draws;
+use crate::grids::{bas_text, dis_text};
+use crate::properties::lpf_text;
+use crate::stresses::{riv_text, wel_text};
+use outside::MemFolder;
+use std::alloc::{AllocError, Global};
+
+/// The name of a made model's name file.
+pub const NAME: &str = "m.nam";
+
+const NAMES: &[u8] =
+    b"DIS 11 m.dis\nBAS6 12 m.bas\nLPF 13 m.lpf\nWEL 14 m.wel\nRIV 15 m.riv\nRCH 16 m.rch\n";
+
+const RECHARGE: &[u8] = b"3 0\n0\nCONSTANT 0.001\n";
+
+fn add_stresses(
+    alloc: Global,
+    folder: &mut MemFolder,
+    well: &[u8],
+    size: u64,
+) -> Result<(), AllocError>
+    ensures { IfOk result (λ _. folder.new ≡ record folder.old { files = file (codes "m.wel") well.now ∷ file (codes "m.riv") (riv_text size) ∷ file (codes "m.rch") rch_text ∷ folder.old.files }) }
+{
+    let river = riv_text(alloc, size)?;
+    folder.add("m.rch", RECHARGE)?;
+    folder.add("m.riv", river.as_slice())?;
+    folder.add("m.wel", well)
+}
+
+fn add_layers(
+    alloc: Global,
+    folder: &mut MemFolder,
+    properties: &[u8],
+    size: u64,
+) -> Result<(), AllocError>
+    requires { 1 ≤ size }
+    ensures { IfOk result (λ _. folder.new ≡ record folder.old { files = file made_name nam_text ∷ file (codes "m.dis") (dis_text size) ∷ file (codes "m.bas") (bas_text size) ∷ file (codes "m.lpf") properties.now ∷ folder.old.files }) }
+{
+    let grid = dis_text(alloc, size)?;
+    let heads = bas_text(alloc, size)?;
+    folder.add("m.lpf", properties)?;
+    folder.add("m.bas", heads.as_slice())?;
+    folder.add("m.dis", grid.as_slice())?;
+    folder.add(NAME, NAMES)
+}
+
+/// The files of the model that is made of a seed: two layers of `size` by `size` cells of 100 by 100 length units,
+/// with hydraulic conductivities and a well that are drawn from the seed, given heads along the first column, a
+/// river along the last one, recharge, and one transient period of four steps. No call of the folder is to fail.
+#[tactic(auto, unfolding(crate::specs::Files::made_files))]
+pub fn make(alloc: Global, seed: u32, size: u32) -> Result<MemFolder, AllocError>
+    requires seed { seed ≤ 2147483647 }
+    requires some { 1 ≤ size }
+    requires few { size ≤ 64 }
+    ensures { IfOk result (λ folder. folder ≡ record { files = made_files seed size; script = []; calls = 0; faults = 0 }) }
+{
+    let size = u64::from(size);
+    let mut draws = Draws { x: u64::from(seed) };
+    let properties = lpf_text(alloc, &mut draws, size)?;
+    let well = wel_text(alloc, &mut draws, size)?;
+    let mut folder = MemFolder::new(alloc);
+    add_stresses(alloc, &mut folder, well.as_slice(), size)?;
+    add_layers(alloc, &mut folder, properties.as_slice(), size)?;
+    Ok(folder)
+}

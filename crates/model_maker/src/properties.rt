@@ -1,0 +1,102 @@
+// The file of the layers' properties.
+ghost use Rattle.std.specs.Prelude.{◌≡◌, ◌*◌, ◌<◌, ◌≤◌, ◌++◌, codes, IfOk};
+ghost use Rattle.model_maker.specs.Draws.{after, next_state};
+ghost use Rattle.model_maker.specs.Files.{gap, hk_row, hk_text, layer_text, lpf_text, texts_below};
+
+use crate::draws::Draws;
+use fixed_text::push_number;
+use std::alloc::{AllocError, Global};
+
+/// The greatest HK.
+const GREATEST: u64 = 9;
+
+fn push_gap(text: &mut Vec<u8>, place: u64) -> Result<(), AllocError>
+    ensures { IfOk result (λ _. text.new.items ≡ text.old.items ++ gap place) }
+{
+    if place > 0 {
+        text.push(b' ')?;
+    }
+    Ok(())
+}
+
+fn push_hk(text: &mut Vec<u8>, draws: &mut Draws) -> Result<(), AllocError>
+    requires { draws.old.x < 2147483648 }
+    ensures text { IfOk result (λ _. text.new.items ≡ text.old.items ++ hk_text draws.old.x) }
+    ensures next { draws.new.x ≡ next_state draws.old.x }
+    ensures small { draws.new.x < 2147483648 }
+{
+    let hk = 1 + draws.draw(GREATEST);
+    push_number(text, u128::from(hk))
+}
+
+fn push_hk_value(text: &mut Vec<u8>, draws: &mut Draws, place: u64) -> Result<(), AllocError>
+    requires { draws.old.x < 2147483648 }
+    ensures text { IfOk result (λ _. text.new.items ≡ text.old.items ++ (gap place ++ hk_text draws.old.x)) }
+    ensures next { IfOk result (λ _. draws.new.x ≡ next_state draws.old.x) }
+    ensures small { draws.new.x < 2147483648 }
+{
+    push_gap(text, place)?;
+    push_hk(text, draws)
+}
+
+fn push_hk_values(text: &mut Vec<u8>, draws: &mut Draws, count: u64) -> Result<(), AllocError>
+    requires { draws.old.x < 2147483648 }
+    ensures text { IfOk result (λ _. text.new.items ≡ text.old.items ++ texts_below count (λ j. gap j ++ hk_text (after j draws.old.x))) }
+    ensures next { IfOk result (λ _. draws.new.x ≡ after count draws.old.x) }
+    ensures small { draws.new.x < 2147483648 }
+{
+    for place in 0..count {
+        push_hk_value(text, draws, place)?;
+    }
+    Ok(())
+}
+
+fn push_hk_row(text: &mut Vec<u8>, draws: &mut Draws, size: u64) -> Result<(), AllocError>
+    requires { draws.old.x < 2147483648 }
+    ensures text { IfOk result (λ _. text.new.items ≡ text.old.items ++ hk_row size draws.old.x) }
+    ensures next { IfOk result (λ _. draws.new.x ≡ after size draws.old.x) }
+    ensures small { draws.new.x < 2147483648 }
+{
+    push_hk_values(text, draws, size)?;
+    text.push(b'\n')?;
+    Ok(())
+}
+
+fn push_hk_rows(text: &mut Vec<u8>, draws: &mut Draws, size: u64) -> Result<(), AllocError>
+    requires { draws.old.x < 2147483648 }
+    ensures text { IfOk result (λ _. text.new.items ≡ text.old.items ++ texts_below size (λ i. hk_row size (after (i * size) draws.old.x))) }
+    ensures next { IfOk result (λ _. draws.new.x ≡ after (size * size) draws.old.x) }
+    ensures small { draws.new.x < 2147483648 }
+{
+    for _ in 0..size {
+        push_hk_row(text, draws, size)?;
+    }
+    Ok(())
+}
+
+fn push_layer(text: &mut Vec<u8>, draws: &mut Draws, size: u64) -> Result<(), AllocError>
+    requires { draws.old.x < 2147483648 }
+    ensures text { IfOk result (λ _. text.new.items ≡ text.old.items ++ layer_text size draws.old.x) }
+    ensures next { IfOk result (λ _. draws.new.x ≡ after (size * size) draws.old.x) }
+    ensures small { draws.new.x < 2147483648 }
+{
+    text.extend_from_slice(b"INTERNAL 1 (FREE) -1\n")?;
+    push_hk_rows(text, draws, size)?;
+    text.extend_from_slice(b"CONSTANT 1\nCONSTANT 0.01\n")?;
+    Ok(())
+}
+
+/// The file of LPF.
+#[tactic(auto, using(crate::proofs::Texts::after_twice))]
+pub(crate) fn lpf_text(alloc: Global, draws: &mut Draws, size: u64) -> Result<Vec<u8>, AllocError>
+    requires { draws.old.x < 2147483648 }
+    ensures text { IfOk result (λ text. text.items ≡ lpf_text size draws.old.x) }
+    ensures next { IfOk result (λ _. draws.new.x ≡ after (2 * (size * size)) draws.old.x) }
+    ensures small { draws.new.x < 2147483648 }
+{
+    let mut text = Vec::new(alloc);
+    text.extend_from_slice(b"0 -1E+30 0\n0 0\n0 0\n1 1\n0 0\n0 0\n")?;
+    push_layer(&mut text, draws, size)?;
+    push_layer(&mut text, draws, size)?;
+    Ok(text)
+}
