@@ -35,8 +35,9 @@ impl RunTables {
         })
     }
 
-    // Goes to a stress period, if it isn't there.
-    pub(crate) fn go_to(
+    /// Goes to a stress period, if it isn't there. It goes on from the period at hand, and begins anew before an earlier
+    /// one.
+    pub fn go_to(
         &mut self,
         alloc: Global,
         model: &FlowModel,
