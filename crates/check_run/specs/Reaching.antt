@@ -15,16 +15,16 @@ abbrev pub ReachesOn : Side → Bound → Bound → Type 0
 ReachesOn Low listed pair = listed.low ≤ℤ pair.low
 ReachesOn High listed pair = pair.high ≤ℤ listed.high
 
+-- a cell with a constant head at a time
+pub record IsConstantCell (m : FlowModel) (at : TimeStep) (c : ℕ) : Type 0 where
+  pub within : c < cell_count m.grid
+  pub constant : is_constant m at.period c ≡ true
+
 -- A time of a model, where `heads` are the listed heads of all cells.
 module _ (m : FlowModel) (at : TimeStep) (heads : List Bound) where
   -- the listed bounds of the variable cells, by ascending cell number
   abbrev pub variable_bounds : List Bound
   variable_bounds = map (bound_at heads) (variable_cells m at.period)
-
-  -- a cell with a constant head
-  pub record IsConstantCell (c : ℕ) : Type 0 where
-    pub within : c < cell_count m.grid
-    pub constant : is_constant m at.period c ≡ true
 
   -- the listed bound of cell c is as wide as the pair of its constant head, on one side
   abbrev pub ReachesAt : ℕ → Side → Type 0
@@ -32,11 +32,11 @@ module _ (m : FlowModel) (at : TimeStep) (heads : List Bound) where
 
   -- so it is at each constant cell, on both sides
   abbrev pub ConstantsReach : Type 0
-  ConstantsReach = (c : ℕ) → IsConstantCell c → (side : Side) → ReachesAt c side
+  ConstantsReach = (c : ℕ) → IsConstantCell m at c → (side : Side) → ReachesAt c side
 
   -- the first constant cell and side where it isn't so, the lower side first
   pub record IsFirstShort (c : ℕ) (side : Side) : Type 0 where
-    pub cell : IsConstantCell c
+    pub cell : IsConstantCell m at c
     pub short : ReachesAt c side → ⊥
-    pub least : (d : ℕ) → d < c → IsConstantCell d → (other : Side) → ReachesAt d other
+    pub least : (d : ℕ) → d < c → IsConstantCell m at d → (other : Side) → ReachesAt d other
     pub low_first : side ≡ High → ReachesAt c Low
