@@ -76,7 +76,7 @@ pub variable_listed : (m : FlowModel) (at : TimeStep) (heads : List Bound) (c : 
 variable_listed m at heads c v lt =
     get_or-map (bound_at heads) (variable_cells m at.period) (index_of m at.period c) 0 no_bound (index_below m at.period c v lt)
     ∙ ap (bound_at heads) (
-      ap (λ cs. get_or cs (index_of m at.period c) 0) (below_is m at.period (cell_count m.grid))
-      ∙ ap (λ k. get_or (passing (is_variable m at.period) (cell_count m.grid)) k 0) (index_is m at.period c)
-      ∙ at_rank (is_variable m at.period) (cell_count m.grid) c v lt
+    ap (λ cs. get_or cs (index_of m at.period c) 0) (below_is m at.period (cell_count m.grid))
+    ∙ ap (λ k. get_or (passing (is_variable m at.period) (cell_count m.grid)) k 0) (index_is m at.period c)
+    ∙ at_rank (is_variable m at.period) (cell_count m.grid) c v lt
     )

@@ -32,7 +32,7 @@ use Rattle.step_chain.specs.Enclosing.{IsMove, LiesWithin}
 use Rattle.step_chain.specs.GridHeads.{bound_at}
 use Rattle.step_chain.proofs.Assembled.{active_constant, constant_site, index_below, count_is, number_is}
 use Rattle.listing_run.specs.Bounding.{BoundsMoves}
-use Rattle.check_run.specs.Reaching.{ConstantsReach, variable_bounds}
+use Rattle.check_run.specs.Reaching.{ConstantsReach, IsConstantCell, variable_bounds}
 use Rattle.check_run.specs.Verdicts.{checked_task, step_of}
 use Rattle.check_run.proofs.Listed.{variable_listed}
 
@@ -75,7 +75,7 @@ module _ (m : FlowModel) (s : ℕ) (at : TimeStep) (old : List Bound) (p : List 
         let b = whole_signed pair.low pair.high 9 d (constant_head m at.period at.step c) (X c) (pairs c pair is) (move.solves.constant c lt e) in
         let H : Site → Type 0 = IsSite m at c in
         let held = (subst H is (are.each c lt)).1 in
-        let cell = record { within = lt; constant = e } in
+        let cell : IsConstantCell m at c = record { within = lt; constant = e } in
         wider pair (bound_at heads c) d (X c) (constants c cell Low pair held) (constants c cell High pair held) (record { low = b.lower; high = b.upper })
 
     active_holds : (c : ℕ) → IsActive m c → Holds (bound_at heads c) d (X c)

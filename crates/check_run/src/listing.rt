@@ -64,8 +64,9 @@ pub fn check_listing(
         let old = heads_before(start.as_slice(), listing, index);
         let heads = listing.heads(index);
         let budget = listing.budget(index);
-        if let Err(fault) = check_listed(alloc, model, &mut tables, *at, old, heads, budget) {
-            return verdict_at(*at, fault);
+        match check_listed(alloc, model, &mut tables, *at, old, heads, budget) {
+            Ok(()) => {}
+            Err(fault) => return verdict_at(*at, fault),
         }
     }
     Ok(Verdict::Certified)

@@ -33,11 +33,7 @@ pub(crate) fn bounds_of(
 }
 
 /// Tests the bounds of a problem's cells over its barrier. It takes no memory.
-pub(crate) fn certified(
-    problem: &Problem,
-    barrier: &Barrier,
-    bounds: &[Bound],
-) -> Result<(), Fault>
+pub(crate) fn certified(problem: &Problem, barrier: &Barrier, bounds: &[Bound]) -> Result<(), Fault>
     requires floors { length barrier.now.floor ≡ length problem.now }
     requires ceilings { length barrier.now.ceiling ≡ length problem.now }
     requires bounds { AreWords problem.now bounds.now }
