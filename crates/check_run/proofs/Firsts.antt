@@ -5,7 +5,6 @@ use Rattle.step_problem.specs.declared.heads.Side.{Side}
 use Rattle.step_problem.specs.declared.heads.Side.TheVariants.{Low, High}
 use Rattle.step_problem.specs.declared.place.Dir.{Dir}
 use Rattle.step_problem.specs.declared.place.Dir.TheVariants.{In, Out}
-use Rattle.step_problem.specs.declared.place.Place.{Place}
 use Rattle.step_problem.specs.declared.place.Place.TheVariants as places
 use Rattle.step_problem.specs.declared.place.Term.{Term}
 use Rattle.budget_bounds.specs.declared.pair.Budget.{Budget}

@@ -1,16 +1,16 @@
 -- The listed bounds of a problem's cells, and of all cells of the grid.
-use Rattle.std.proofs.Common.{◌≡◌, ℕ, zero, suc, ◌+◌, ◌<◌, Bool, true, List, [], ◌∷◌, length, map, get_or, All, refl, sym, ap, ◌∙◌, subst, arith, ℤ}
+use Rattle.std.proofs.Common.{◌≡◌, ℕ, zero, suc, ◌+◌, ◌<◌, true, List, [], ◌∷◌, length, map, get_or, refl, sym, ap, ◌∙◌, subst, arith}
 use Rattle.std.proofs.lemmas.List.{get_or-map, length-map}
 use Rattle.step_problem.specs.declared.heads.Bound.{Bound}
 use Rattle.step_problem.specs.Conditions.{IsHead}
 use Rattle.step_problem.specs.Entries.{Entries, entries_at, no_entries}
-use Rattle.step_problem.specs.Heads.{lower_at, upper_at, no_bound}
+use Rattle.step_problem.specs.Heads.{no_bound}
 use Rattle.cell_relax.specs.Words.{AreWords}
 use Rattle.model_types.specs.declared.model.FlowModel.{FlowModel}
 use Rattle.model_types.specs.declared.time_steps.TimeStep.{TimeStep}
 use Rattle.model_types.specs.Cells.{cell_count}
 use Rattle.model_types.specs.Kinds.{is_variable, index_of, variable_cells}
-use Rattle.model_types.proofs.Ranks.{passing, rank, at_rank, is_at}
+use Rattle.model_types.proofs.Ranks.{passing, at_rank, is_at}
 use Rattle.flow_equations.proofs.Links.{below_is, index_is}
 use Rattle.problem_builder.specs.GridHeads.{AreGridHeads}
 use Rattle.step_chain.specs.GridHeads.{bound_at}

@@ -1,9 +1,8 @@
 -- The constant cells of a time, by the sites of its cells.
-use Rattle.std.proofs.Common.{◌≡◌, ℕ, ◌<◌, Bool, true, false, cond, List, length, Contains, refl, sym, ap, ◌∙◌, subst, arith, ℤ}
+use Rattle.std.proofs.Common.{◌≡◌, ℕ, ◌<◌, Bool, true, false, cond, List, length, Contains, refl, ap, ◌∙◌, subst, arith, ℤ}
 use Rattle.step_problem.specs.declared.heads.Bound.{Bound}
 use Rattle.step_problem.specs.declared.heads.Side.{Side}
 use Rattle.step_problem.specs.declared.heads.Side.TheVariants.{Low}
-use Rattle.model_types.specs.declared.kind.Kind.{Kind}
 use Rattle.model_types.specs.declared.kind.Kind.TheVariants as kind
 use Rattle.model_types.specs.declared.model.FlowModel.{FlowModel}
 use Rattle.model_types.specs.declared.time_steps.TimeStep.{TimeStep}
@@ -13,7 +12,6 @@ use Rattle.model_types.specs.Times.{times}
 use Rattle.model_types.specs.Valid.{IsModel}
 use Rattle.problem_builder.specs.declared.site.Site.{Site}
 use Rattle.problem_builder.specs.declared.site.Site.TheVariants.{NoFlow, Given, Variable}
-use Rattle.problem_builder.specs.ConstantHeads.{IsConstantPair}
 use Rattle.problem_builder.specs.Laws.{ConstantPairIsOne}
 use Rattle.problem_builder.specs.Sites.{site_at, IsSite, AreSites}
 use Rattle.step_chain.specs.GridHeads.{bound_at}

@@ -1,5 +1,5 @@
 -- Why a step isn't posed, and what it is posed of.
-use Rattle.std.proofs.Common.{ℕ, List, inl, inr}
+use Rattle.std.proofs.Common.{ℕ, List, inr}
 use Rattle.step_problem.specs.declared.heads.Bound.{Bound}
 use Rattle.step_problem.specs.Entries.{Entries}
 use Rattle.barrier_vector.specs.declared.BarrierFault.{BarrierFault}

@@ -2,9 +2,7 @@ use Rattle.std.proofs.Common.{◌∙◌, ap, subst, sym, List}
 use Rattle.step_problem.specs.declared.heads.Bound.{Bound}
 use Rattle.problem_builder.specs.GridHeads.{AreGridHeads}
 use Rattle.listing_io.specs.Listed.{step_in}
-use Rattle.check_run.specs.declared.verdict.Verdict.{Verdict}
-use Rattle.check_run.specs.Parts.{heads_before, IsVerdictAt}
-use Rattle.check_run.specs.Verdicts.{IsVerdict}
+use Rattle.check_run.specs.Parts.{heads_before}
 use Rattle.check_run.proofs.Checking.{at_first, ends_certified, ends_enclosed, goes_here, listed_at, not_certified, ok_follows, stops_here}
 use Rattle.check_run.proofs.Listed.{grid_of}
 use Rattle.check_run.proofs.listing.check_listing.Goals as goal
