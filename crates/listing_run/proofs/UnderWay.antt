@@ -59,7 +59,7 @@ module _ (k : Task) where
     encloses = λ d Xs h. record { before = start_head k.model; last = Xs; within = encloses; solves = h.steps; goes_on = λ more w. w };
   }
 
-  one_move : (old : List Bound) (at : TimeStep) (rest : List TimeStep) (values : List Step) (v : Step) (heads : List Bound) (d : ℕ) (Xs : List (ℕ → ℤ)) → 0 < d → heads ≡ v.heads → BoundsMoves k at old v →
+  pub one_move : (old : List Bound) (at : TimeStep) (rest : List TimeStep) (values : List Step) (v : Step) (heads : List Bound) (d : ℕ) (Xs : List (ℕ → ℤ)) → 0 < d → heads ≡ v.heads → BoundsMoves k at old v →
       (before : ℕ → Fraction) (last : List (ℕ → ℤ)) → HeadsEnclose k.model old before → SolvesFrom k.model d before (at ∷ rest) last → ((more : List Step) → BoundAll k d before more last → BoundAll k d (start_head k.model) (values ++ more) Xs) →
       HasCome heads rest (values ++ (v ∷ [])) d Xs
   one_move old at rest values v heads d Xs some same moves before [] within h goes = absurd h
@@ -84,7 +84,7 @@ module _ (k : Task) where
   pub ended : (old : List Bound) (rest : List TimeStep) (values : List Step) (end : End) → IsSolved old rest values → Steps k old rest [] end → AllSteps k values end
   ended old rest values end s h = let P : List Step → Type 0 = λ vs. AllSteps k vs end in subst P (append-nil values) (s.steps [] end h)
 
-  nothing_more : (d : ℕ) (before : ℕ → Fraction) (last : List (ℕ → ℤ)) → SolvesFrom k.model d before [] last → BoundAll k d before [] last
+  pub nothing_more : (d : ℕ) (before : ℕ → Fraction) (last : List (ℕ → ℤ)) → SolvesFrom k.model d before [] last → BoundAll k d before [] last
   nothing_more d before [] h = tt
   nothing_more d before (X ∷ last) h = absurd h
 

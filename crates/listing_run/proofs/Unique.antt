@@ -24,19 +24,19 @@ abbrev the_err : {X E : Type 0} → E → Result X E → E
 the_err e (Ok y) = e
 the_err e (Err f) = f
 
-abbrev as_ok : Budget → Result Budget NoBound
+abbrev pub as_ok : Budget → Result Budget NoBound
 as_ok x = Ok x
 
-abbrev as_err : NoBound → Result Budget NoBound
+abbrev pub as_err : NoBound → Result Budget NoBound
 as_err x = Err x
 
-one_ok : (a b : Budget) → as_ok a ≡ as_ok b → a ≡ b
+pub one_ok : (a b : Budget) → as_ok a ≡ as_ok b → a ≡ b
 one_ok a b e = ap (the_ok a) e
 
-one_err : (a b : NoBound) → as_err a ≡ as_err b → a ≡ b
+pub one_err : (a b : NoBound) → as_err a ≡ as_err b → a ≡ b
 one_err a b e = ap (the_err a) e
 
-ok_not_err : (a : Budget) (e : NoBound) → as_ok a ≡ as_err e → ⊥
+pub ok_not_err : (a : Budget) (e : NoBound) → as_ok a ≡ as_err e → ⊥
 ok_not_err a e h = cc
 
 -- the laws of a step, and of STRT
@@ -52,16 +52,16 @@ pub laws_of : StartHeadsAreOne → StartHeadsFit → StepIsOne → StepExcludesR
 laws_of a b c d e f = record { start_one = a; start_fits = b; step_one = c; excludes = d; refusal_one = e; fits = f }
 
 -- the first of the times at hand is one of the model's, and so are those behind it
-record IsRest (all rest : List TimeStep) : Type 0 where
-  each : (at : TimeStep) → Contains rest at → Contains all at
+pub record IsRest (all rest : List TimeStep) : Type 0 where
+  pub each : (at : TimeStep) → Contains rest at → Contains all at
 
-rest_whole : (all : List TimeStep) → IsRest all all
+pub rest_whole : (all : List TimeStep) → IsRest all all
 rest_whole all = record { each = λ at h. h }
 
-first_in : (at : TimeStep) (rest : List TimeStep) → Contains (at ∷ rest) at
+pub first_in : (at : TimeStep) (rest : List TimeStep) → Contains (at ∷ rest) at
 first_in at rest = (0, omega arith, refl)
 
-rest_more : (all : List TimeStep) (at : TimeStep) (rest : List TimeStep) → IsRest all (at ∷ rest) → IsRest all rest
+pub rest_more : (all : List TimeStep) (at : TimeStep) (rest : List TimeStep) → IsRest all (at ∷ rest) → IsRest all rest
 rest_more all at rest h = record { each = λ t (k, lt, is). h.each t (suc k, omega (arith, lt), is) }
 
 module _ (laws : Laws) (k : Task) (model : IsModel k.model) where

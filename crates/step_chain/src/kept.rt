@@ -35,13 +35,9 @@ impl RunTables {
         })
     }
 
-    // Goes to a stress period, if it isn't there.
-    pub(crate) fn go_to(
-        &mut self,
-        alloc: Global,
-        model: &FlowModel,
-        period: u32,
-    ) -> Result<(), AllocError>
+    /// Goes to a stress period, if it isn't there. It goes on from the period at hand, and begins anew before an earlier
+    /// one.
+    pub fn go_to(&mut self, alloc: Global, model: &FlowModel, period: u32) -> Result<(), AllocError>
         requires model { IsModel model.now }
         requires digits { digits_of self.old ≤ 18 }
         requires tables { AreRunTables model.now self.old }

@@ -1,0 +1,138 @@
+-- A check, step by step.
+use Rattle.std.proofs.Common.{◌≡◌, ℕ, suc, List, [], ◌∷◌, ◌++◌, ◌+◌, ◌<◌, ◌≤◌, subst, sym, ap, refl, arith, ◌∙◌, inl, inr, drop, length, get_or, ℤ, Result, Ok, Err, IfOk}
+use Rattle.std.specs.Prelude.{IfErr}
+use Rattle.std.proofs.lemmas.List.{append_assoc, drop_more, drop_all}
+use Rattle.step_problem.specs.declared.heads.Bound.{Bound}
+use Rattle.budget_bounds.specs.declared.pair.Budget.{Budget}
+use Rattle.model_types.specs.declared.model.FlowModel.{FlowModel}
+use Rattle.model_types.specs.declared.time_steps.TimeStep.{TimeStep}
+use Rattle.model_types.specs.Heads.{start_head}
+use Rattle.model_types.specs.Times.{times}
+use Rattle.flow_equations.specs.Histories.{Solves}
+use Rattle.problem_builder.specs.GridHeads.{AreGridHeads, HeadsEnclose}
+use Rattle.problem_builder.specs.StartHeads.{AreStartHeads}
+use Rattle.listing_io.specs.declared.listing.ListedStep.{ListedStep}
+use Rattle.listing_io.specs.Listed.{AreListed, IsListedStep, step_in}
+use Rattle.listing_run.specs.declared.step.Step.{Step}
+use Rattle.listing_run.specs.Bounding.{BoundAll, BoundsMoves}
+use Rattle.listing_run.proofs.UnderWay.{HasCome, one_move, nothing_more}
+use Rattle.check_run.specs.declared.fault.Fault.{Fault}
+use Rattle.check_run.specs.declared.fault.Fault.TheVariants as fault
+use Rattle.check_run.specs.declared.verdict.Verdict.{Verdict}
+use Rattle.check_run.specs.declared.verdict.Verdict.TheVariants.{Certified, Fails, Refused}
+use Rattle.check_run.specs.Parts.{FailsBy, IsVerdictAt, heads_before}
+use Rattle.check_run.specs.Steps.{Passes}
+use Rattle.check_run.specs.Verdicts.{Checks, StopsAt, IsVerdict, ListingEncloses, checked_task, step_of, steps_of}
+use Rattle.check_run.proofs.Listed.{grid_of}
+
+-- what holds of the heads before a step and of the step, as they were lent
+pub here : (P : List Bound → ListedStep → Type 0) (old olds heads : List Bound) (budget : Budget) (w : ListedStep) → old ≡ olds → heads ≡ w.heads → budget ≡ w.budget → P old (record { heads = heads; budget = budget }) → P olds w
+here P old olds heads budget w is is_heads is_budget h =
+    let O : List Bound → Type 0 = λ o. P o (record { heads = heads; budget = budget }) in
+    let H : List Bound → Type 0 = λ hs. P olds (record { heads = hs; budget = budget }) in
+    let B : Budget → Type 0 = λ b. P olds (record { heads = w.heads; budget = b }) in
+    subst B is_budget (subst H is_heads (subst O is h))
+
+module _ (m : FlowModel) (s : ℕ) (all : List ListedStep) where
+  -- the check got so far: from the heads of the last step on, what holds of the rest holds of all
+  pub record IsSoFar (old : List Bound) (rest : List TimeStep) (steps : List ListedStep) : Type 0 where
+    pub grid : AreGridHeads m old
+    pub goes_on : (end : Verdict) → Checks m s old rest steps end → IsVerdict m s all end
+    pub values : List Step
+    pub same : values ++ steps_of rest steps ≡ steps_of (times m) all
+    pub encloses : (d : ℕ) (Xs : List (ℕ → ℤ)) → Solves m d Xs → HasCome (checked_task m s) old rest values d Xs
+
+  pub at_first : (start : List Bound) → AreStartHeads m start → AreGridHeads m start → HeadsEnclose m start (start_head m) → IsSoFar start (times m) all
+  at_first start is grid encloses = record {
+    grid = grid;
+    goes_on = λ end h. record { start = start; is_start = is; checks = h };
+    values = [];
+    same = refl;
+    encloses = λ d Xs h. record { before = start_head m; last = Xs; within = encloses; solves = h.steps; goes_on = λ more w. w };
+  }
+
+  pub one_more : (old : List Bound) (at : TimeStep) (rest : List TimeStep) (w : ListedStep) (steps : List ListedStep) → IsSoFar old (at ∷ rest) (w ∷ steps) → AreGridHeads m w.heads → Passes m s at old w → BoundsMoves (checked_task m s) at old (step_of at w) → IsSoFar w.heads rest steps
+  one_more old at rest w steps f grid passes moves = record {
+    grid = grid;
+    goes_on = λ end h. f.goes_on end (inl (passes, h));
+    values = f.values ++ (step_of at w ∷ []);
+    same = append_assoc f.values (step_of at w ∷ []) (steps_of rest steps) ∙ f.same;
+    encloses = λ d Xs h. let e = f.encloses d Xs h in one_move (checked_task m s) old at rest f.values (step_of at w) w.heads d Xs h.some refl moves e.before e.last e.within e.solves e.goes_on;
+  }
+
+  -- the step at hand stands first among the rest
+  pub at_step : (old : List Bound) (i : ℕ) (items : List TimeStep) (d : TimeStep) → items ≡ times m → AreListed m all → i < length items → IsSoFar old (drop i (times m)) (drop i all) → IsSoFar old (get_or items i d ∷ drop (i + 1) (times m)) (step_in all i ∷ drop (i + 1) all)
+  at_step old i items d is listed below f =
+      let P : List TimeStep → Type 0 = λ ts. IsSoFar old ts (step_in all i ∷ drop (i + 1) all) in
+      let Q : List ListedStep → Type 0 = λ ws. IsSoFar old (drop i (times m)) ws in
+      let R : List TimeStep → Type 0 = λ ts. IsSoFar old (drop i ts) (step_in all i ∷ drop (i + 1) all) in
+      let S : List TimeStep → Type 0 = λ ts. IsSoFar old (get_or items i d ∷ drop (i + 1) ts) (step_in all i ∷ drop (i + 1) all) in
+      let inside : i < length all = omega (arith, below, ap length is, listed.whole) in
+      subst S is (subst P (drop_more items i d below) (subst R (sym is) (subst Q (drop_more all i _ inside) f)))
+
+  -- past the last step there is none
+  at_end : (old : List Bound) (i : ℕ) (items : List TimeStep) → items ≡ times m → AreListed m all → length items ≤ i → IsSoFar old (drop i (times m)) (drop i all) → IsSoFar old [] []
+  at_end old i items is listed above f =
+      let past : length (times m) ≤ i = omega (arith, above, ap length is) in
+      let past_all : length all ≤ i = omega (arith, past, listed.whole) in
+      let Q : List ListedStep → Type 0 = λ ws. IsSoFar old (drop i (times m)) ws in
+      let R : List TimeStep → Type 0 = λ ts. IsSoFar old ts [] in
+      subst R (drop_all i (times m) past) (subst Q (drop_all i all past_all) f)
+
+  enclosed : (old : List Bound) → IsSoFar old [] [] → ListingEncloses m s all
+  enclosed old f d Xs h =
+      let e = f.encloses d Xs h in
+      let P : List Step → Type 0 = λ vs. BoundAll (checked_task m s) d (start_head m) vs Xs in
+      subst P f.same (e.goes_on [] (nothing_more (checked_task m s) d e.before e.last e.solves))
+
+  pub ends_certified : (old : List Bound) (i : ℕ) (items : List TimeStep) → items ≡ times m → AreListed m all → length items ≤ i → IsSoFar old (drop i (times m)) (drop i all) → IsVerdict m s all Certified
+  ends_certified old i items is listed above f = (at_end old i items is listed above f).goes_on Certified tt
+
+  pub ends_enclosed : (old : List Bound) (i : ℕ) (items : List TimeStep) → items ≡ times m → AreListed m all → length items ≤ i → IsSoFar old (drop i (times m)) (drop i all) → ListingEncloses m s all
+  ends_enclosed old i items is listed above f = enclosed old (at_end old i items is listed above f)
+
+  stops_by : (at : TimeStep) (old : List Bound) (w : ListedStep) (f : Fault) (v : Verdict) → FailsBy m s at old w f → IsVerdictAt at f v → StopsAt m s at old w v
+  stops_by at old w (fault.Fails place) v h is = let P : Verdict → Type 0 = StopsAt m s at old w in subst P (sym is) (refl, h)
+  stops_by at old w (fault.Refused n) v h is = let P : Verdict → Type 0 = StopsAt m s at old w in subst P (sym is) (refl, h)
+  stops_by at old w fault.Memory v h is = absurd is
+
+  pub ends_by : (old : List Bound) (at : TimeStep) (rest : List TimeStep) (w : ListedStep) (steps : List ListedStep) (f : Fault) (v : Verdict) → IsSoFar old (at ∷ rest) (w ∷ steps) → FailsBy m s at old w f → IsVerdictAt at f v → IsVerdict m s all v
+  ends_by old at rest w steps f v so_far h is = so_far.goes_on v (inr (stops_by at old w f v h is))
+
+  -- One step of the loop, from what was lent to the check of the step.
+  module _ (start : List Bound) (i : ℕ) (items : List TimeStep) (d : TimeStep) (is : items ≡ times m) (listed : AreListed m all) (below : i < length items) (f : IsSoFar (heads_before start all i) (drop i (times m)) (drop i all))
+      (n : ℕ) (digits : n ≡ s) (old heads : List Bound) (budget : Budget) (old_is : old ≡ heads_before start all i) (heads_are : heads ≡ (step_in all i).heads) (budget_is : budget ≡ (step_in all i).budget) where
+    pub listed_at : IsListedStep m (step_in all i)
+    listed_at = listed.steps i _ (omega (arith, below, ap length is, listed.whole))
+
+    pub stops_here : (fault : Fault) (v : Verdict) → FailsBy m n (get_or items i d) old (record { heads = heads; budget = budget }) fault → IsVerdictAt (get_or items i d) fault v → IsVerdict m s all v
+    stops_here fault v h verdict =
+        let D : ℕ → Type 0 = λ k. FailsBy m k (get_or items i d) old (record { heads = heads; budget = budget }) fault in
+        let P : List Bound → ListedStep → Type 0 = λ o w. FailsBy m s (get_or items i d) o w fault in
+        ends_by (heads_before start all i) (get_or items i d) (drop (i + 1) (times m)) (step_in all i) (drop (i + 1) all) fault v (at_step (heads_before start all i) i items d is listed below f)
+        (here P old (heads_before start all i) heads budget (step_in all i) old_is heads_are budget_is (subst D digits h)) verdict
+
+    pub goes_here : Passes m n (get_or items i d) old (record { heads = heads; budget = budget }) → BoundsMoves (checked_task m n) (get_or items i d) old (step_of (get_or items i d) (record { heads = heads; budget = budget })) →
+        IsSoFar (heads_before start all (i + 1)) (drop (i + 1) (times m)) (drop (i + 1) all)
+    goes_here passes moves =
+        let D : ℕ → Type 0 = λ k. Passes m k (get_or items i d) old (record { heads = heads; budget = budget }) × BoundsMoves (checked_task m k) (get_or items i d) old (step_of (get_or items i d) (record { heads = heads; budget = budget })) in
+        let P : List Bound → ListedStep → Type 0 = λ o w. Passes m s (get_or items i d) o w × BoundsMoves (checked_task m s) (get_or items i d) o (step_of (get_or items i d) w) in
+        let h = here P old (heads_before start all i) heads budget (step_in all i) old_is heads_are budget_is (subst D digits (passes, moves)) in
+        let Q : ℕ → Type 0 = λ k. IsSoFar (heads_before start all k) (drop (i + 1) (times m)) (drop (i + 1) all) in
+        let next : suc i ≡ i + 1 = omega arith in
+        subst Q next (one_more (heads_before start all i) (get_or items i d) (drop (i + 1) (times m)) (step_in all i) (drop (i + 1) all) (at_step (heads_before start all i) i items d is listed below f) (grid_of m (step_in all i) listed_at) h.0 h.1)
+
+-- a fault makes no verdict that all is certified
+pub not_certified : (at : TimeStep) (f : Fault) (v : Verdict) → IsVerdictAt at f v → v ≡ Certified → ⊥
+not_certified at (fault.Fails place) v is e = let bad : Fails at place ≡ Certified = sym is ∙ e in cc
+not_certified at (fault.Refused n) v is e = let bad : Refused at n ≡ Certified = sym is ∙ e in cc
+not_certified at fault.Memory v is e = is
+
+-- what follows from an answer, and from a fault
+pub ok_follows : {X E : Type 0} (P Q : X → Type 0) (r : Result X E) → ((x : X) → P x → Q x) → IfOk r P → IfOk r Q
+ok_follows P Q (Ok x) f h = f x h
+ok_follows P Q (Err e) f h = tt
+
+pub err_follows : {X E : Type 0} (P Q : E → Type 0) (r : Result X E) → ((e : E) → P e → Q e) → IfErr r P → IfErr r Q
+err_follows P Q (Ok x) f h = tt
+err_follows P Q (Err e) f h = f e h

@@ -1,0 +1,82 @@
+-- The listed bounds of a problem's cells, and of all cells of the grid.
+use Rattle.std.proofs.Common.{◌≡◌, ℕ, zero, suc, ◌+◌, ◌<◌, true, List, [], ◌∷◌, length, map, get_or, refl, sym, ap, ◌∙◌, subst, arith}
+use Rattle.std.proofs.lemmas.List.{get_or-map, length-map}
+use Rattle.step_problem.specs.declared.heads.Bound.{Bound}
+use Rattle.step_problem.specs.Conditions.{IsHead}
+use Rattle.step_problem.specs.Entries.{Entries, entries_at, no_entries}
+use Rattle.step_problem.specs.Heads.{no_bound}
+use Rattle.cell_relax.specs.Words.{AreWords}
+use Rattle.model_types.specs.declared.model.FlowModel.{FlowModel}
+use Rattle.model_types.specs.declared.time_steps.TimeStep.{TimeStep}
+use Rattle.model_types.specs.Cells.{cell_count}
+use Rattle.model_types.specs.Kinds.{is_variable, index_of, variable_cells}
+use Rattle.model_types.proofs.Ranks.{passing, at_rank, is_at}
+use Rattle.flow_equations.proofs.Links.{below_is, index_is}
+use Rattle.problem_builder.specs.GridHeads.{AreGridHeads}
+use Rattle.step_chain.specs.GridHeads.{bound_at}
+use Rattle.step_chain.proofs.Assembled.{index_below}
+use Rattle.listing_io.specs.declared.listing.ListedStep.{ListedStep}
+use Rattle.listing_io.specs.Listed.{AreCellBounds, IsListedStep}
+use Rattle.check_run.specs.Reaching.{variable_bounds}
+
+abbrev AreHeads : Bound → Type 0
+AreHeads b = IsHead b.low × IsHead b.high
+
+-- A listed step has heads of all cells, in range.
+
+in_range : (m : FlowModel) (c : ℕ) (bs : List Bound) → AreCellBounds m c bs → (k : ℕ) (d : Bound) → k < length bs → AreHeads (get_or bs k d)
+in_range m c [] h k d lt = absurd (omega (arith, lt))
+in_range m c (b ∷ bs) h zero d lt = (h.0.low, h.0.high)
+in_range m c (b ∷ bs) h (suc k) d lt = in_range m (c + 1) bs h.1 k d (omega (arith, lt))
+
+pub grid_of : (m : FlowModel) (w : ListedStep) → IsListedStep m w → AreGridHeads m w.heads
+grid_of m w h = record { whole = h.whole; range = in_range m 0 w.heads h.heads }
+
+-- The cells of a problem.
+
+mapped : (heads : List Bound) (p : List Entries) → map (λ (e : Entries). bound_at heads e.id) p ≡ map (bound_at heads) (map (λ (e : Entries). e.id) p)
+mapped heads [] = refl
+mapped heads (e ∷ p) = ap (λ bs. bound_at heads e.id ∷ bs) (mapped heads p)
+
+module _ (m : FlowModel) (at : TimeStep) (heads : List Bound) (p : List Entries) (cells : map (λ (e : Entries). e.id) p ≡ variable_cells m at.period) where
+  abbrev cell_bounds : List Bound
+  cell_bounds = map (λ (e : Entries). bound_at heads e.id) p
+
+  pub bounds_are : cell_bounds ≡ variable_bounds m at heads
+  bounds_are = mapped heads p ∙ ap (map (bound_at heads)) cells
+
+  id_is : (k : ℕ) → k < length p → (entries_at p k).id ≡ get_or (variable_cells m at.period) k 0
+  id_is k lt = sym (get_or-map (λ (e : Entries). e.id) p k no_entries 0 lt) ∙ ap (λ cs. get_or cs k 0) cells
+
+  pub count_is : length p ≡ length (variable_cells m at.period)
+  count_is = sym (length-map p (λ (e : Entries). e.id)) ∙ ap length cells
+
+  pub id_within : (k : ℕ) → k < length p → (entries_at p k).id < cell_count m.grid
+  id_within k lt =
+      let all : variable_cells m at.period ≡ passing (is_variable m at.period) (cell_count m.grid) = below_is m at.period (cell_count m.grid) in
+      let place = is_at (is_variable m at.period) (cell_count m.grid) k (omega (arith, lt, count_is, ap length all)) in
+      let is : (entries_at p k).id ≡ get_or (passing (is_variable m at.period) (cell_count m.grid)) k 0 = id_is k lt ∙ ap (λ cs. get_or cs k 0) all in
+      omega (arith, is, place.within)
+
+  module _ (grid : AreGridHeads m heads) where
+    bound_fits : (k : ℕ) → k < length p → AreHeads (bound_at cell_bounds k)
+    bound_fits k lt =
+        let within : (entries_at p k).id < length heads = omega (arith, id_within k lt, grid.whole) in
+        subst AreHeads (sym (get_or-map (λ (e : Entries). bound_at heads e.id) p k no_entries no_bound lt)) (grid.range (entries_at p k).id no_bound within)
+
+    pub are_words : AreWords p cell_bounds
+    are_words = record {
+      whole = length-map p (λ (e : Entries). bound_at heads e.id);
+      low = λ k lt. (bound_fits k lt).0;
+      high = λ k lt. (bound_fits k lt).1;
+    }
+
+-- The bound of a variable cell's index is the cell's.
+pub variable_listed : (m : FlowModel) (at : TimeStep) (heads : List Bound) (c : ℕ) → is_variable m at.period c ≡ true → c < cell_count m.grid → bound_at (variable_bounds m at heads) (index_of m at.period c) ≡ bound_at heads c
+variable_listed m at heads c v lt =
+    get_or-map (bound_at heads) (variable_cells m at.period) (index_of m at.period c) 0 no_bound (index_below m at.period c v lt)
+    ∙ ap (bound_at heads) (
+    ap (λ cs. get_or cs (index_of m at.period c) 0) (below_is m at.period (cell_count m.grid))
+    ∙ ap (λ k. get_or (passing (is_variable m at.period) (cell_count m.grid)) k 0) (index_is m at.period c)
+    ∙ at_rank (is_variable m at.period) (cell_count m.grid) c v lt
+    )

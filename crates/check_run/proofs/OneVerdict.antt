@@ -1,0 +1,196 @@
+-- A listing has one verdict.
+use Rattle.std.proofs.Common.{◌≡◌, ◌≢◌, ◌∙◌, ℕ, suc, ◌<◌, ◌⊎◌, inl, inr, List, [], ◌∷◌, length, All, Ok, Err, refl, sym, ap, subst, arith}
+use Rattle.step_problem.specs.declared.heads.Bound.{Bound}
+use Rattle.step_problem.specs.declared.heads.Side.{Side}
+use Rattle.step_problem.specs.declared.heads.Side.TheVariants.{Low, High}
+use Rattle.step_problem.specs.declared.place.Dir.{Dir}
+use Rattle.step_problem.specs.declared.place.NoBound.{NoBound}
+use Rattle.step_problem.specs.declared.place.Place.{Place}
+use Rattle.step_problem.specs.declared.place.Place.TheVariants as places
+use Rattle.step_problem.specs.declared.place.Term.{Term}
+use Rattle.step_problem.specs.Entries.{Entries, entries_at}
+use Rattle.step_problem.specs.Heads.{Edges, lower_at, upper_at, IsCertificate}
+use Rattle.barrier_vector.specs.Barriers.{IsBarrierOf, BarrierIsOne, BarrierExcludesRefusal}
+use Rattle.barrier_vector.specs.Refusals.{IsRefused as IsBarrierRefused}
+use Rattle.budget_bounds.specs.declared.pair.Budget.{Budget}
+use Rattle.budget_bounds.specs.Covers.{Covers, IsFirstUncovered}
+use Rattle.certificate_check.specs.Certificates.{HoldsAt, IsFirstFailing}
+use Rattle.model_types.specs.declared.model.FlowModel.{FlowModel}
+use Rattle.model_types.specs.declared.time_steps.TimeStep.{TimeStep}
+use Rattle.model_types.specs.Times.{times}
+use Rattle.model_types.specs.Valid.{IsModel}
+use Rattle.problem_builder.specs.GridHeads.{AreGridHeads}
+use Rattle.problem_builder.specs.Laws.{ProblemIsOne, ProblemFits, ProblemExcludesRefusal, StartHeadsAreOne, StartHeadsFit}
+use Rattle.step_chain.specs.Laws.{IsBefore, RefusalIsOne}
+use Rattle.step_chain.specs.Steps.{IsPosed, HasNoHeads}
+use Rattle.listing_io.specs.declared.listing.ListedStep.{ListedStep}
+use Rattle.listing_io.specs.Listed.{IsListedStep}
+use Rattle.listing_run.proofs.Unique.{one_ok, one_err, ok_not_err, IsRest, first_in, rest_more, rest_whole}
+use Rattle.check_run.specs.declared.verdict.Verdict.{Verdict}
+use Rattle.check_run.specs.declared.verdict.Verdict.TheVariants.{Certified, Fails, Refused}
+use Rattle.check_run.specs.Laws.{VerdictIsOne}
+use Rattle.check_run.specs.Reaching.{ConstantsReach, IsConstantCell, IsFirstShort, ReachesAt}
+use Rattle.check_run.specs.Steps.{bounds, budget_at, Passes, FailsAt, at_constant, at_variable, at_term, IsRefused, no_heads, no_budget}
+use Rattle.check_run.specs.Verdicts.{Checks, StopsAt}
+use Rattle.check_run.proofs.Firsts.{IsFirst, first_one, term_one}
+use Rattle.check_run.proofs.Listed.{grid_of}
+
+-- what the check of one step says
+data Said : Type 0 where
+  passed : Said
+  failed : Place → Said
+  refused : NoBound → Said
+
+-- the laws that make it one
+pub record Laws : Type 0 where
+  pub start_one : StartHeadsAreOne
+  pub start_fits : StartHeadsFit
+  pub problem_one : ProblemIsOne
+  pub problem_fits : ProblemFits
+  pub barrier_one : BarrierIsOne
+  pub problem_excludes : ProblemExcludesRefusal
+  pub barrier_excludes : BarrierExcludesRefusal
+  pub refusal_one : RefusalIsOne
+
+module _ (m : FlowModel) (s : ℕ) (at : TimeStep) (old : List Bound) (w : ListedStep) where
+  -- The tests of a step in turn, each by its first failure or what holds of the rest.
+
+  abbrev ByTerms : Budget → Said → Type 0
+  ByTerms budget o = ((dir : Dir) × (t : Term) × IsFirstUncovered w.budget budget dir t × (o ≡ failed (places.Term dir t))) ⊎ (Covers w.budget budget × (o ≡ passed))
+
+  abbrev ByBudget : List Entries → Said → Type 0
+  ByBudget p o = ((n : NoBound) × (budget_at m s at old w p ≡ Err n) × (o ≡ refused n)) ⊎ ((budget : Budget) × (budget_at m s at old w p ≡ Ok budget) × ByTerms budget o)
+
+  abbrev ByVariables : List Entries → Edges → Said → Type 0
+  ByVariables p b o = ((k : ℕ) × (side : Side) × IsFirstFailing p b (bounds m s at old w) k side × (o ≡ failed (places.Cell (entries_at p k).id side)))
+      ⊎ (IsCertificate p b (lower_at (bounds m s at old w)) (upper_at (bounds m s at old w)) × ByBudget p o)
+
+  abbrev ByConstants : List Entries → Edges → Said → Type 0
+  ByConstants p b o = ((c : ℕ) × (side : Side) × IsFirstShort m at w.heads c side × (o ≡ failed (places.Cell c side))) ⊎ (ConstantsReach m at w.heads × ByVariables p b o)
+
+  abbrev Says : Said → Type 0
+  Says o = ((n : NoBound) × HasNoHeads m s at old n × (o ≡ refused n)) ⊎ ((p : List Entries) × (b : Edges) × IsPosed m s at old p b × ByConstants p b o)
+
+  -- What is defined of a step is said of it.
+
+  passes_said : Passes m s at old w → Says passed
+  passes_said h = inr (h.problem, h.barrier, h.heads.posed, inr (h.heads.constants, inr (h.heads.certificate, inr (h.budget, h.is, inr (h.covers, refl)))))
+
+  fails_said : (place : Place) → FailsAt m s at old w place → Says (failed place)
+  fails_said place (at_constant p b c side posed f e) = inr (p, b, posed, inl (c, side, f, ap failed e))
+  fails_said place (at_variable p b k side posed reach f e) = inr (p, b, posed, inr (reach, inl (k, side, f, ap failed e)))
+  fails_said place (at_term p b budget dir t h is f e) = inr (p, b, h.posed, inr (h.constants, inr (h.certificate, inr (budget, is, inl (dir, t, f, ap failed e)))))
+
+  refused_said : (n : NoBound) → IsRefused m s at old w n → Says (refused n)
+  refused_said n (no_heads x) = inl (n, x, refl)
+  refused_said n (no_budget p b h is) = inr (p, b, h.posed, inr (h.constants, inr (h.certificate, inl (n, is, refl))))
+
+  -- Each test says one thing.
+
+  terms_one : (budget : Budget) (o q : Said) → ByTerms budget o → ByTerms budget q → o ≡ q
+  terms_one budget o q (inl (d, t, f, e)) (inl (c, u, g, k)) = e ∙ ap failed (term_one w.budget budget d c t u f g) ∙ sym k
+  terms_one budget o q (inl (d, t, f, e)) (inr (covers, k)) = absurd (f.short (covers d t))
+  terms_one budget o q (inr (covers, e)) (inl (d, t, f, k)) = absurd (f.short (covers d t))
+  terms_one budget o q (inr (covers, e)) (inr (also, k)) = e ∙ sym k
+
+  budget_one : (p : List Entries) (o q : Said) → ByBudget p o → ByBudget p q → o ≡ q
+  budget_one p o q (inl (n, x, e)) (inl (r, y, k)) = e ∙ ap refused (one_err n r (sym x ∙ y)) ∙ sym k
+  budget_one p o q (inl (n, x, e)) (inr (b, y, t)) = absurd (ok_not_err b n (sym y ∙ x))
+  budget_one p o q (inr (b, x, t)) (inl (n, y, k)) = absurd (ok_not_err b n (sym x ∙ y))
+  budget_one p o q (inr (b, x, t)) (inr (c, y, u)) = let P : Budget → Type 0 = λ z. ByTerms z o in terms_one c o q (subst P (one_ok b c (sym x ∙ y)) t) u
+
+  certified_at : (p : List Entries) (b : Edges) (k : ℕ) (side : Side) → k < length p → IsCertificate p b (lower_at (bounds m s at old w)) (upper_at (bounds m s at old w)) → HoldsAt p b (bounds m s at old w) k side
+  certified_at p b k Low lt h = h.low k lt
+  certified_at p b k High lt h = h.high k lt
+
+  first_failing : (p : List Entries) (b : Edges) (k : ℕ) (side : Side) → IsFirstFailing p b (bounds m s at old w) k side → IsFirst (HoldsAt p b (bounds m s at old w)) k side
+  first_failing p b k side f = record { fails = f.fails; least = f.least; low_first = f.low_first }
+
+  variables_one : (p : List Entries) (b : Edges) (o q : Said) → ByVariables p b o → ByVariables p b q → o ≡ q
+  variables_one p b o q (inl (k, x, f, e)) (inl (j, y, g, h)) =
+      let (same, also) = first_one (HoldsAt p b (bounds m s at old w)) k j x y (first_failing p b k x f) (first_failing p b j y g) in
+      e ∙ ap (λ i. failed (places.Cell (entries_at p i).id x)) same ∙ ap (λ z. failed (places.Cell (entries_at p j).id z)) also ∙ sym h
+  variables_one p b o q (inl (k, x, f, e)) (inr (holds, h)) = absurd (f.fails (certified_at p b k x f.within holds))
+  variables_one p b o q (inr (holds, h)) (inl (k, x, f, e)) = absurd (f.fails (certified_at p b k x f.within holds))
+  variables_one p b o q (inr (holds, h)) (inr (also, k)) = budget_one p o q h k
+
+  abbrev Reached : ℕ → Side → Type 0
+  Reached c side = IsConstantCell m at c → ReachesAt m at w.heads c side
+
+  first_short : (c : ℕ) (side : Side) → IsFirstShort m at w.heads c side → IsFirst Reached c side
+  first_short c side f = record { fails = λ h. f.short (h f.cell); least = λ d lt other cell. f.least d lt cell other; low_first = λ e cell. f.low_first e }
+
+  constants_one : (p : List Entries) (b : Edges) (o q : Said) → ByConstants p b o → ByConstants p b q → o ≡ q
+  constants_one p b o q (inl (c, x, f, e)) (inl (d, y, g, h)) =
+      let (same, also) = first_one Reached c d x y (first_short c x f) (first_short d y g) in
+      e ∙ ap (λ i. failed (places.Cell i x)) same ∙ ap (λ z. failed (places.Cell d z)) also ∙ sym h
+  constants_one p b o q (inl (c, x, f, e)) (inr (reach, h)) = absurd (f.short (reach c f.cell x))
+  constants_one p b o q (inr (reach, h)) (inl (c, x, f, e)) = absurd (f.short (reach c f.cell x))
+  constants_one p b o q (inr (reach, h)) (inr (also, k)) = variables_one p b o q h k
+
+  module _ (laws : Laws) (before : IsBefore m at old) where
+    posed_excludes : (p : List Entries) (b : Edges) (n : NoBound) → IsPosed m s at old p b → HasNoHeads m s at old n → ⊥
+    posed_excludes p b n posed (inl none) = laws.problem_excludes m s at old p n before.model before.time posed.problem none
+    posed_excludes p b n posed (inr (q, is, none)) =
+        let R : List Entries → Type 0 = λ z. IsBarrierRefused z n in
+        laws.barrier_excludes p b n (laws.problem_fits m s at old p before.model before.time before.heads posed.problem) posed.barrier (subst R (laws.problem_one m s at old q p before.model before.time is posed.problem) none)
+
+    said_one : (o q : Said) → Says o → Says q → o ≡ q
+    said_one o q (inl (n, x, e)) (inl (r, y, k)) = e ∙ ap refused (laws.refusal_one m s at old n r before x y) ∙ sym k
+    said_one o q (inl (n, x, e)) (inr (p, b, posed, h)) = absurd (posed_excludes p b n posed x)
+    said_one o q (inr (p, b, posed, h)) (inl (n, x, e)) = absurd (posed_excludes p b n posed x)
+    said_one o q (inr (p, b, posed, h)) (inr (r, c, also, k)) =
+        let problems = laws.problem_one m s at old p r before.model before.time posed.problem also.problem in
+        let B : List Entries → Type 0 = λ z. IsBarrierOf z b in
+        let barriers = laws.barrier_one r b c (laws.problem_fits m s at old r before.model before.time before.heads also.problem) (subst B problems posed.barrier) also.barrier in
+        let P : List Entries → Type 0 = λ z. ByConstants z b o in
+        let Q : Edges → Type 0 = λ z. ByConstants r z o in
+        constants_one r c o q (subst Q barriers (subst P problems h)) k
+
+  -- what a verdict at this step says
+  abbrev told : Said → Verdict
+  told passed = Certified
+  told (failed place) = Fails at place
+  told (refused n) = Refused at n
+
+  record Stopped (v : Verdict) : Type 0 where
+    said : Said
+    says : Says said
+    is : v ≡ told said
+    stops : said ≢ passed
+
+  stopped : (v : Verdict) → StopsAt m s at old w v → Stopped v
+  stopped Certified h = absurd h
+  stopped (Fails t place) (same, f) = record { said = failed place; says = fails_said place f; is = ap (λ x. Fails x place) same; stops = λ e. cc }
+  stopped (Refused t n) (same, r) = record { said = refused n; says = refused_said n r; is = ap (λ x. Refused x n) same; stops = λ e. cc }
+
+  module _ (laws : Laws) (before : IsBefore m at old) where
+    stops_one : (a b : Verdict) → StopsAt m s at old w a → StopsAt m s at old w b → a ≡ b
+    stops_one a b h k =
+        let x = stopped a h in
+        let y = stopped b k in
+        x.is ∙ ap told (said_one laws before x.said y.said x.says y.says) ∙ sym y.is
+
+    passes_excludes : (v : Verdict) → Passes m s at old w → StopsAt m s at old w v → ⊥
+    passes_excludes v h k = let x = stopped v k in x.stops (said_one laws before x.said passed x.says (passes_said h))
+
+module _ (laws : Laws) (m : FlowModel) (s : ℕ) (model : IsModel m) where
+  checks_one : (old : List Bound) (rest : List TimeStep) (steps : List ListedStep) (a b : Verdict) → IsRest (times m) rest → AreGridHeads m old → All (IsListedStep m) steps → Checks m s old rest steps a → Checks m s old rest steps b → a ≡ b
+  checks_one old [] [] Certified Certified r heads l h k = refl
+  checks_one old [] [] Certified (Fails t place) r heads l h k = absurd k
+  checks_one old [] [] Certified (Refused t n) r heads l h k = absurd k
+  checks_one old [] [] (Fails t place) b r heads l h k = absurd h
+  checks_one old [] [] (Refused t n) b r heads l h k = absurd h
+  checks_one old [] (w ∷ steps) a b r heads l h k = absurd h
+  checks_one old (at ∷ rest) [] a b r heads l h k = absurd h
+  checks_one old (at ∷ rest) (w ∷ steps) a b r heads l (inl (p, h)) (inl (q, k)) =
+      checks_one w.heads rest steps a b (rest_more (times m) at rest r) (grid_of m w (l 0 w (omega arith))) (λ i d lt. l (suc i) d (omega (arith, lt))) h k
+  checks_one old (at ∷ rest) (w ∷ steps) a b r heads l (inl (p, h)) (inr k) = absurd (passes_excludes m s at old w laws (record { model = model; time = r.each at (first_in at rest); heads = heads }) b p k)
+  checks_one old (at ∷ rest) (w ∷ steps) a b r heads l (inr h) (inl (q, k)) = absurd (passes_excludes m s at old w laws (record { model = model; time = r.each at (first_in at rest); heads = heads }) a q h)
+  checks_one old (at ∷ rest) (w ∷ steps) a b r heads l (inr h) (inr k) = stops_one m s at old w laws (record { model = model; time = r.each at (first_in at rest); heads = heads }) a b h k
+
+pub verdicts_one : Laws → VerdictIsOne
+verdicts_one laws m s steps a b model listed x y =
+    let P : List Bound → Type 0 = λ start. Checks m s start (times m) steps b in
+    checks_one laws m s model x.start (times m) steps a b (rest_whole (times m)) (laws.start_fits m x.start model x.is_start) listed.steps x.checks
+    (subst P (laws.start_one m y.start x.start model y.is_start x.is_start) y.checks)

@@ -1,0 +1,66 @@
+-- What the check of a posed step says, by what its calls gave.
+use Rattle.std.proofs.Common.{◌≡◌, ℕ, ◌∙◌, List, Ok, Err, map, subst, sym, refl}
+use Rattle.step_problem.specs.declared.heads.Bound.{Bound}
+use Rattle.step_problem.specs.declared.heads.Side.{Side}
+use Rattle.step_problem.specs.declared.place.Place.TheVariants as places
+use Rattle.step_problem.specs.Entries.{Entries, entries_at}
+use Rattle.step_problem.specs.Heads.{lower_at, upper_at, IsCertificate}
+use Rattle.budget_bounds.specs.declared.pair.Budget.{Budget}
+use Rattle.budget_bounds.specs.Covers.{CoverEncloses}
+use Rattle.budget_bounds.specs.Exact.{EnclosesBudgets, HeadsAreWithin}
+use Rattle.budget_bounds.specs.Terms.{budget_of}
+use Rattle.cell_balance.specs.SolutionBounds.{EnclosesSolutions}
+use Rattle.certificate_check.specs.Certificates.{IsFirstFailing}
+use Rattle.model_types.specs.declared.model.FlowModel.{FlowModel}
+use Rattle.model_types.specs.declared.time_steps.TimeStep.{TimeStep}
+use Rattle.step_chain.specs.GridHeads.{bound_at}
+use Rattle.listing_run.specs.Bounding.{BoundsMoves}
+use Rattle.check_run.specs.declared.fault.Fault.{Fault}
+use Rattle.check_run.specs.declared.fault.Fault.TheVariants as fault
+use Rattle.check_run.specs.declared.posed.Posed.{Posed}
+use Rattle.check_run.specs.Parts.{ArePosed, FailsBy, IsCovered, IsUncovered}
+use Rattle.check_run.specs.Reaching.{ConstantsReach, IsFirstShort, variable_bounds}
+use Rattle.check_run.specs.Steps.{HeadsHold, Passes, at_constant, at_variable, at_term, no_budget}
+use Rattle.check_run.specs.Verdicts.{checked_task, step_of}
+use Rattle.check_run.proofs.Listed.{bounds_are}
+use Rattle.check_run.proofs.Passing.{listed_moves}
+
+module _ (m : FlowModel) (s : ℕ) (at : TimeStep) (old : List Bound) (x : Posed) (posed : ArePosed m s at old x) (heads : List Bound) (listed : Budget) where
+  pub constant_fails : (c : ℕ) (side : Side) → IsFirstShort m at heads c side → FailsBy m s at old (record { heads = heads; budget = listed }) (fault.Fails (places.Cell c side))
+  constant_fails c side f = at_constant x.problem x.barrier c side posed.posed f refl
+
+  module _ (reach : ConstantsReach m at heads) (bs lent : List Bound) (lent_is : lent ≡ bs) (are : bs ≡ map (λ (e : Entries). bound_at heads e.id) x.problem) where
+    same : lent ≡ variable_bounds m at heads
+    same = lent_is ∙ are ∙ bounds_are m at heads x.problem posed.cells
+
+    pub variable_fails : (e : Fault) → (k : ℕ) × (side : Side) × IsFirstFailing x.problem x.barrier lent k side × (e ≡ fault.Fails (places.Cell (entries_at x.problem k).id side)) → FailsBy m s at old (record { heads = heads; budget = listed }) e
+    variable_fails e (k, side, f, is) =
+        let F : List Bound → Type 0 = λ v. IsFirstFailing x.problem x.barrier v k side in
+        let P : Fault → Type 0 = FailsBy m s at old (record { heads = heads; budget = listed }) in
+        subst P (sym is) (at_variable x.problem x.barrier k side posed.posed reach (subst F same f) refl)
+
+    module _ (certificate : IsCertificate x.problem x.barrier (lower_at lent) (upper_at lent)) where
+      hold : HeadsHold m s at old (record { heads = heads; budget = listed }) x.problem x.barrier
+      hold =
+          let C : List Bound → Type 0 = λ v. IsCertificate x.problem x.barrier (lower_at v) (upper_at v) in
+          record { posed = posed.posed; constants = reach; certificate = subst C same certificate }
+
+      pub term_fails : (e : Fault) → IsUncovered x.problem lent listed e → FailsBy m s at old (record { heads = heads; budget = listed }) e
+      term_fails (fault.Fails place) (budget, dir, t, is, f, e) =
+          let B : List Bound → Type 0 = λ v. budget_of x.problem (lower_at v) (upper_at v) ≡ Ok budget in
+          at_term x.problem x.barrier budget dir t hold (subst B same is) f e
+      term_fails (fault.Refused n) is =
+          let B : List Bound → Type 0 = λ v. budget_of x.problem (lower_at v) (upper_at v) ≡ Err n in
+          no_budget x.problem x.barrier hold (subst B same is)
+      term_fails fault.Memory h = absurd h
+
+      pub step_passes : IsCovered x.problem lent listed → Passes m s at old (record { heads = heads; budget = listed })
+      step_passes h =
+          let B : List Bound → Type 0 = λ v. budget_of x.problem (lower_at v) (upper_at v) ≡ Ok h.budget in
+          record { problem = x.problem; barrier = x.barrier; heads = hold; budget = h.budget; is = subst B same h.is; covers = h.covers }
+
+    pub step_moves : CoverEncloses → HeadsAreWithin → EnclosesSolutions x.problem (lower_at lent) (upper_at lent) → IsCovered x.problem lent listed → BoundsMoves (checked_task m s) at old (step_of at (record { heads = heads; budget = listed }))
+    step_moves cover within solutions h =
+        let S : List Bound → Type 0 = λ v. EnclosesSolutions x.problem (lower_at v) (upper_at v) in
+        let E : List Bound → Type 0 = λ v. EnclosesBudgets x.problem (lower_at v) (upper_at v) h.budget in
+        listed_moves m s at old x.problem x.sites heads posed.sites posed.pairs posed.encloses reach (subst S same solutions) cover within listed h.budget h.covers (subst E same h.encloses)

@@ -1,0 +1,99 @@
+-- A listed step that passes bounds every solution.
+use Rattle.std.proofs.Common.{◌≡◌, ℕ, ◌<◌, ◌^◌, inl, inr, true, List, length, subst, arith, ℤ, pos, ◌*ℤ◌, ◌≤ℤ◌}
+use Rattle.std.proofs.lemmas.Bool.{cases_Bool}
+use Rattle.std.proofs.lemmas.Int.{ints}
+use Rattle.decimal_input.specs.Enclosures.{EnclosesSigned}
+use Rattle.decimal_input.specs.Fractions.{Fraction}
+use Rattle.decimal_input.proofs.Enclosing.{whole_signed}
+use Rattle.step_problem.specs.declared.heads.Bound.{Bound}
+use Rattle.step_problem.specs.declared.heads.Side.TheVariants.{Low, High}
+use Rattle.step_problem.specs.Entries.{Entries}
+use Rattle.step_problem.specs.Heads.{lower_at, upper_at}
+use Rattle.budget_bounds.specs.declared.pair.Budget.{Budget}
+use Rattle.budget_bounds.specs.Covers.{CoverEncloses, Covers}
+use Rattle.budget_bounds.specs.Exact.{EnclosesBudgets, HeadsAreWithin}
+use Rattle.cell_balance.specs.Enclosures.{EnclosesStep, CellEncloses}
+use Rattle.cell_balance.specs.SolutionBounds.{EnclosesSolutions}
+use Rattle.cell_balance.specs.Solutions.{LiesBetween}
+use Rattle.cell_balance.proofs.Products.{mul_mono_right}
+use Rattle.cell_balance.proofs.Zips.{AllZip-length}
+use Rattle.flow_equations.specs.ExactStep.{exact_step}
+use Rattle.flow_equations.specs.Histories.{heads_of, variable_heads}
+use Rattle.model_types.specs.declared.model.FlowModel.{FlowModel}
+use Rattle.model_types.specs.declared.time_steps.TimeStep.{TimeStep}
+use Rattle.model_types.specs.Cells.{cell_count}
+use Rattle.model_types.specs.Heads.{constant_head}
+use Rattle.model_types.specs.Kinds.{is_variable, is_constant, index_of}
+use Rattle.problem_builder.specs.declared.site.Site.{Site}
+use Rattle.problem_builder.specs.declared.site.Site.TheVariants.{Given}
+use Rattle.problem_builder.specs.GridHeads.{IsActive, HeadsEnclose}
+use Rattle.problem_builder.specs.Sites.{site_at, IsSite, AreSites}
+use Rattle.step_chain.specs.Enclosing.{IsMove, LiesWithin}
+use Rattle.step_chain.specs.GridHeads.{bound_at}
+use Rattle.step_chain.proofs.Assembled.{active_constant, constant_site, index_below, count_is, number_is}
+use Rattle.listing_run.specs.Bounding.{BoundsMoves}
+use Rattle.check_run.specs.Reaching.{ConstantsReach, IsConstantCell, variable_bounds}
+use Rattle.check_run.specs.Verdicts.{checked_task, step_of}
+use Rattle.check_run.proofs.Listed.{variable_listed}
+
+-- the head x over d lies within a bound
+record Holds (b : Bound) (d : ℕ) (x : ℤ) : Type 0 where
+  low : (b.low *ℤ pos d) ≤ℤ (x *ℤ pos (10 ^ 9))
+  high : (x *ℤ pos (10 ^ 9)) ≤ℤ (b.high *ℤ pos d)
+
+-- and so within a wider one
+wider : (narrow wide : Bound) (d : ℕ) (x : ℤ) → wide.low ≤ℤ narrow.low → narrow.high ≤ℤ wide.high → Holds narrow d x → Holds wide d x
+wider narrow wide d x low high h =
+    let l = mul_mono_right d wide.low narrow.low low in
+    let u = mul_mono_right d narrow.high wide.high high in
+    record { low = omega (arith, ints, l, h.low); high = omega (arith, ints, u, h.high) }
+
+module _ (m : FlowModel) (s : ℕ) (at : TimeStep) (old : List Bound) (p : List Entries) (sites : List Site) (heads : List Bound)
+    (are : AreSites m at sites)
+    (pairs : (c : ℕ) (pair : Bound) → site_at sites c ≡ Given pair → EnclosesSigned pair.low pair.high 9 (constant_head m at.period at.step c))
+    (encloses : (before : ℕ → Fraction) → HeadsEnclose m old before → EnclosesStep s p (exact_step m at.period at.step before))
+    (constants : ConstantsReach m at heads)
+    (solutions : EnclosesSolutions p (lower_at (variable_bounds m at heads)) (upper_at (variable_bounds m at heads))) where
+  module _ (before : ℕ → Fraction) (d : ℕ) (X : ℕ → ℤ) (move : IsMove m at old before d X) where
+    step : EnclosesStep s p (exact_step m at.period at.step before)
+    step = encloses before move.within
+
+    between : LiesBetween (length p) d (variable_heads (exact_step m at.period at.step before) X) (lower_at (variable_bounds m at heads)) (upper_at (variable_bounds m at heads))
+    between = solutions s (exact_step m at.period at.step before) d (variable_heads (exact_step m at.period at.step before) X) step move.some move.solves.balances
+
+    variable_holds : (c : ℕ) → c < cell_count m.grid → is_variable m at.period c ≡ true → Holds (bound_at heads c) d (X c)
+    variable_holds c lt v =
+        let k : ℕ = index_of m at.period c in
+        let inside : k < length p = omega (arith, AllZip-length (CellEncloses s) p (exact_step m at.period at.step before) step.cells, count_is m at.period at.step before, index_below m at.period c v lt) in
+        let P : ℕ → Type 0 = λ i. Holds (bound_at (variable_bounds m at heads) k) d (X i) in
+        let Q : Bound → Type 0 = λ b. Holds b d (X c) in
+        subst Q (variable_listed m at heads c v lt) (subst P (number_is m at.period at.step c before v lt) (record { low = between.low k inside; high = between.high k inside }))
+
+    constant_holds : (c : ℕ) → c < cell_count m.grid → is_constant m at.period c ≡ true → Holds (bound_at heads c) d (X c)
+    constant_holds c lt e =
+        let (pair, is) = constant_site m at sites are c lt e in
+        let b = whole_signed pair.low pair.high 9 d (constant_head m at.period at.step c) (X c) (pairs c pair is) (move.solves.constant c lt e) in
+        let H : Site → Type 0 = IsSite m at c in
+        let held = (subst H is (are.each c lt)).1 in
+        let cell : IsConstantCell m at c = record { within = lt; constant = e } in
+        wider pair (bound_at heads c) d (X c) (constants c cell Low pair held) (constants c cell High pair held) (record { low = b.lower; high = b.upper })
+
+    active_holds : (c : ℕ) → IsActive m c → Holds (bound_at heads c) d (X c)
+    active_holds c a = elim (cases_Bool (is_variable m at.period c)) [
+      | inl v ↦ variable_holds c a.within v
+      | inr v ↦ constant_holds c a.within (active_constant m at.period c a.active v)
+    ]
+
+    lies : LiesWithin m heads d X
+    lies = record { low = λ c a. (active_holds c a).low; high = λ c a. (active_holds c a).high }
+
+  pub listed_moves : CoverEncloses → HeadsAreWithin → (listed computed : Budget) → Covers listed computed → EnclosesBudgets p (lower_at (variable_bounds m at heads)) (upper_at (variable_bounds m at heads)) computed →
+      BoundsMoves (checked_task m s) at old (step_of at (record { heads = heads; budget = listed }))
+  listed_moves cover within listed computed covers terms before d X move =
+      let e = exact_step m at.period at.step before in
+      let Y : ℕ → ℤ = variable_heads e X in
+      let inside = within (length p) d Y (lower_at (variable_bounds m at heads)) (upper_at (variable_bounds m at heads)) move.some (between before d X move) in
+      record {
+        heads = lies before d X move;
+        budget = cover listed computed s e (heads_of d Y) covers (terms s e (heads_of d Y) (step before d X move) inside);
+      }

@@ -1,0 +1,14 @@
+use Rattle.check_run.proofs.OneVerdict.{verdicts_one}
+use Rattle.check_run.proofs.laws.one_verdict.Goals as goal
+
+pub returns : goal.returns
+returns c = verdicts_one (record {
+  start_one = c.one_list_of_start_heads.ensures;
+  start_fits = c.start_heads_fit.ensures;
+  problem_one = c.one_problem.ensures;
+  problem_fits = c.problems_fit.ensures;
+  barrier_one = c.one_barrier.ensures;
+  problem_excludes = c.no_problem_beside_a_refusal.ensures;
+  barrier_excludes = c.no_barrier_beside_a_refusal.ensures;
+  refusal_one = c.one_refusal.ensures;
+})

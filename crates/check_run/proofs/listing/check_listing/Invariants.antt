@@ -1,0 +1,13 @@
+use Rattle.std.proofs.Common.{◌≡◌, drop}
+use Rattle.model_types.specs.Times.{times}
+use Rattle.step_chain.specs.Keeps.{AreRunTables, digits_of}
+use Rattle.check_run.specs.Parts.{heads_before}
+use Rattle.check_run.proofs.Checking.{IsSoFar}
+use Rattle.check_run.proofs.listing.check_listing.Given as goal
+
+abbrev pub invariant-loop-index : goal.invariant-loop-index
+invariant-loop-index l = record {
+  digits : digits_of l.tables ≡ l.s;
+  tables : AreRunTables l.model l.tables;
+  so_far : IsSoFar l.model l.s l.listing (heads_before l.start.items l.listing l.index) (drop l.index (times l.model)) (drop l.index l.listing);
+}

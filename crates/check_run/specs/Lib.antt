@@ -1,0 +1,5 @@
+pub mod Reaching
+pub mod Steps
+pub mod Verdicts
+pub mod Laws
+pub mod Parts

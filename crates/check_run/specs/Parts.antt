@@ -1,0 +1,109 @@
+-- What the calls of a check hand to each other.
+use Rattle.std.specs.Prelude.{◌≡◌, ℕ, zero, suc, ◌<◌, List, map, length, Ok, Err}
+use Rattle.decimal_input.specs.Enclosures.{EnclosesSigned}
+use Rattle.decimal_input.specs.Fractions.{Fraction}
+use Rattle.step_problem.specs.declared.heads.Bound.{Bound}
+use Rattle.step_problem.specs.declared.heads.Side.{Side}
+use Rattle.step_problem.specs.declared.heads.Side.TheVariants.{Low, High}
+use Rattle.step_problem.specs.declared.place.Dir.{Dir}
+use Rattle.step_problem.specs.declared.place.Place.TheVariants as places
+use Rattle.step_problem.specs.declared.place.Term.{Term}
+use Rattle.step_problem.specs.Entries.{Entries}
+use Rattle.step_problem.specs.Heads.{head_at, lower_at, upper_at}
+use Rattle.budget_bounds.specs.declared.pair.Budget.{Budget}
+use Rattle.budget_bounds.specs.Covers.{Covers, IsFirstUncovered}
+use Rattle.budget_bounds.specs.Exact.{EnclosesBudgets}
+use Rattle.budget_bounds.specs.Terms.{budget_of}
+use Rattle.barrier_vector.specs.declared.BarrierFault.{BarrierFault}
+use Rattle.barrier_vector.specs.declared.BarrierFault.TheVariants as barrier
+use Rattle.cell_balance.specs.Components.{IsHeldBelow}
+use Rattle.cell_balance.specs.Enclosures.{EnclosesStep}
+use Rattle.cell_balance.specs.SolutionBounds.{EnclosesSolutions}
+use Rattle.flow_equations.specs.ExactStep.{exact_step}
+use Rattle.model_types.specs.declared.model.FlowModel.{FlowModel}
+use Rattle.model_types.specs.declared.time_steps.TimeStep.{TimeStep}
+use Rattle.model_types.specs.Heads.{constant_head}
+use Rattle.model_types.specs.Kinds.{variable_cells}
+use Rattle.problem_builder.specs.declared.fault.BuildFault.{BuildFault}
+use Rattle.problem_builder.specs.declared.fault.BuildFault.TheVariants as build
+use Rattle.problem_builder.specs.declared.site.Site.{Site}
+use Rattle.problem_builder.specs.declared.site.Site.TheVariants.{Given}
+use Rattle.problem_builder.specs.GridHeads.{HeadsEnclose}
+use Rattle.problem_builder.specs.Sites.{site_at, AreSites}
+use Rattle.step_chain.specs.GridHeads.{bound_at}
+use Rattle.step_chain.specs.Steps.{IsPosed, HasNoHeads}
+use Rattle.listing_io.specs.declared.listing.ListedStep.{ListedStep}
+use Rattle.listing_io.specs.Listed.{step_in}
+use Rattle.check_run.specs.declared.fault.Fault.{Fault}
+use Rattle.check_run.specs.declared.fault.Fault.TheVariants as fault
+use Rattle.check_run.specs.declared.posed.Posed.{Posed}
+use Rattle.check_run.specs.declared.verdict.Verdict.{Verdict}
+use Rattle.check_run.specs.declared.verdict.Verdict.TheVariants as verdict
+use Rattle.check_run.specs.Reaching.{ReachesOn}
+use Rattle.check_run.specs.Steps.{FailsAt, IsRefused}
+
+-- a fault of a step by that of its builder, or its barrier
+abbrev pub of_build : BuildFault → Fault
+of_build (build.NoBound n) = fault.Refused n
+of_build build.Memory = fault.Memory
+
+abbrev pub of_barrier : BarrierFault → Fault
+of_barrier (barrier.NoBound n) = fault.Refused n
+of_barrier barrier.Memory = fault.Memory
+
+-- the cause of a step's fault; want of memory is free
+abbrev pub FailsBy : FlowModel → ℕ → TimeStep → List Bound → ListedStep → Fault → Type 0
+FailsBy m s at old w (fault.Fails place) = FailsAt m s at old w place
+FailsBy m s at old w (fault.Refused n) = IsRefused m s at old w n
+FailsBy m s at old w fault.Memory = Unit {0}
+
+-- the cause of a fault before its listed heads are looked at
+abbrev pub IsUnposed : FlowModel → ℕ → TimeStep → List Bound → Fault → Type 0
+IsUnposed m s at old (fault.Fails place) = ⊥
+IsUnposed m s at old (fault.Refused n) = HasNoHeads m s at old n
+IsUnposed m s at old fault.Memory = Unit {0}
+
+-- What a step is posed of, and what that says of solutions.
+pub record ArePosed (m : FlowModel) (s : ℕ) (at : TimeStep) (old : List Bound) (x : Posed) : Type 0 where
+  pub posed : IsPosed m s at old x.problem x.barrier
+  pub held : IsHeldBelow x.problem
+  pub solutions : EnclosesSolutions x.problem (head_at x.barrier.floor) (head_at x.barrier.ceiling)
+  pub cells : map (λ e. e.id) x.problem ≡ variable_cells m at.period
+  pub encloses : (before : ℕ → Fraction) → HeadsEnclose m old before → EnclosesStep s x.problem (exact_step m at.period at.step before)
+  pub sites : AreSites m at x.sites
+  pub pairs : (c : ℕ) (pair : Bound) → site_at x.sites c ≡ Given pair → EnclosesSigned pair.low pair.high 9 (constant_head m at.period at.step c)
+
+-- A site, if its head is constant, is reached on that side by what is listed.
+abbrev pub SiteReached : Site → Bound → Side → Type 0
+SiteReached site listed side = (pair : Bound) → site ≡ Given pair → ReachesOn side listed pair
+
+-- the first cell and side where it isn't
+pub record IsFirstUnreached (sites : List Site) (heads : List Bound) (c : ℕ) (side : Side) : Type 0 where
+  pub within : c < length sites
+  pub short : SiteReached (site_at sites c) (bound_at heads c) side → ⊥
+  pub least : (d : ℕ) → d < c → (other : Side) → SiteReached (site_at sites d) (bound_at heads d) other
+  pub low_first : side ≡ High → SiteReached (site_at sites c) (bound_at heads c) Low
+
+-- the heads before a step of a listing, by its index
+abbrev pub heads_before : List Bound → List ListedStep → ℕ → List Bound
+heads_before start steps zero = start
+heads_before start steps (suc i) = (step_in steps i).heads
+
+-- listed terms are as wide as those of the budget of the heads between these bounds, which encloses every exact one
+pub record IsCovered (p : List Entries) (bounds : List Bound) (listed : Budget) : Type 0 where
+  pub budget : Budget
+  pub is : budget_of p (lower_at bounds) (upper_at bounds) ≡ Ok budget
+  pub covers : Covers listed budget
+  pub encloses : EnclosesBudgets p (lower_at bounds) (upper_at bounds) budget
+
+-- that budget has a refusal, or a term that isn't reached, which is the first
+abbrev pub IsUncovered : List Entries → List Bound → Budget → Fault → Type 0
+IsUncovered p bounds listed (fault.Fails place) = (budget : Budget) × (dir : Dir) × (t : Term) × (budget_of p (lower_at bounds) (upper_at bounds) ≡ Ok budget) × IsFirstUncovered listed budget dir t × (place ≡ places.Term dir t)
+IsUncovered p bounds listed (fault.Refused n) = budget_of p (lower_at bounds) (upper_at bounds) ≡ Err n
+IsUncovered p bounds listed fault.Memory = ⊥
+
+-- the verdict that a step's fault at its time makes
+abbrev pub IsVerdictAt : TimeStep → Fault → Verdict → Type 0
+IsVerdictAt at (fault.Fails place) v = v ≡ verdict.Fails at place
+IsVerdictAt at (fault.Refused n) v = v ≡ verdict.Refused at n
+IsVerdictAt at fault.Memory v = ⊥

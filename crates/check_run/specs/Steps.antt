@@ -1,0 +1,56 @@
+-- Whether a step of a listing is certified, and the first place where it isn't.
+use Rattle.std.specs.Prelude.{◌≡◌, ℕ, List, Ok, Err, Result}
+use Rattle.step_problem.specs.declared.heads.Bound.{Bound}
+use Rattle.step_problem.specs.declared.heads.Side.{Side}
+use Rattle.step_problem.specs.declared.place.Dir.{Dir}
+use Rattle.step_problem.specs.declared.place.NoBound.{NoBound}
+use Rattle.step_problem.specs.declared.place.Place.{Place}
+use Rattle.step_problem.specs.declared.place.Place.TheVariants as places
+use Rattle.step_problem.specs.declared.place.Term.{Term}
+use Rattle.step_problem.specs.Entries.{Entries, entries_at}
+use Rattle.step_problem.specs.Heads.{Edges, lower_at, upper_at, IsCertificate}
+use Rattle.budget_bounds.specs.declared.pair.Budget.{Budget}
+use Rattle.budget_bounds.specs.Covers.{Covers, IsFirstUncovered}
+use Rattle.budget_bounds.specs.Terms.{budget_of}
+use Rattle.certificate_check.specs.Certificates.{IsFirstFailing}
+use Rattle.model_types.specs.declared.model.FlowModel.{FlowModel}
+use Rattle.model_types.specs.declared.time_steps.TimeStep.{TimeStep}
+use Rattle.step_chain.specs.Steps.{IsPosed, HasNoHeads}
+use Rattle.listing_io.specs.declared.listing.ListedStep.{ListedStep}
+use Rattle.check_run.specs.Reaching.{variable_bounds, ConstantsReach, IsFirstShort}
+
+-- A listed step w of a model with s digits of conductances, where `old` are the heads of all cells before it.
+module _ (m : FlowModel) (s : ℕ) (at : TimeStep) (old : List Bound) (w : ListedStep) where
+  -- the listed bounds of the variable cells
+  abbrev pub bounds : List Bound
+  bounds = variable_bounds m at w.heads
+
+  -- the budget of the listed heads, or its first term that is too large
+  abbrev pub budget_at : List Entries → Result Budget NoBound
+  budget_at p = budget_of p (lower_at bounds) (upper_at bounds)
+
+  -- The listed heads of the constant cells are as wide as their pairs, and those of the variable cells are a certificate of the step's problem over its barrier.
+  pub record HeadsHold (p : List Entries) (b : Edges) : Type 0 where
+    pub posed : IsPosed m s at old p b
+    pub constants : ConstantsReach m at w.heads
+    pub certificate : IsCertificate p b (lower_at bounds) (upper_at bounds)
+
+  -- The step is certified: its heads hold, and its listed terms are as wide as those of the listed heads' budget.
+  pub record Passes : Type 0 where
+    pub problem : List Entries
+    pub barrier : Edges
+    pub heads : HeadsHold problem barrier
+    pub budget : Budget
+    pub is : budget_at problem ≡ Ok budget
+    pub covers : Covers w.budget budget
+
+  -- Its first refusal: of the problem or its barrier; or of the budget, where its heads hold.
+  pub data IsRefused (n : NoBound) : Type 0 where
+    no_heads : HasNoHeads m s at old n → IsRefused n
+    no_budget : (p : List Entries) (b : Edges) → HeadsHold p b → budget_at p ≡ Err n → IsRefused n
+
+  -- The first place that fails: a constant cell and its side; where those hold, a variable cell and its side; where the heads hold, a term of the budget, all In terms before all Out terms.
+  pub data FailsAt (place : Place) : Type 0 where
+    at_constant : (p : List Entries) (b : Edges) (c : ℕ) (side : Side) → IsPosed m s at old p b → IsFirstShort m at w.heads c side → place ≡ places.Cell c side → FailsAt place
+    at_variable : (p : List Entries) (b : Edges) (k : ℕ) (side : Side) → IsPosed m s at old p b → ConstantsReach m at w.heads → IsFirstFailing p b bounds k side → place ≡ places.Cell (entries_at p k).id side → FailsAt place
+    at_term : (p : List Entries) (b : Edges) (budget : Budget) (dir : Dir) (t : Term) → HeadsHold p b → budget_at p ≡ Ok budget → IsFirstUncovered w.budget budget dir t → place ≡ places.Term dir t → FailsAt place

@@ -1,0 +1,23 @@
+// A law of verdicts. It is the contract of an empty function, but for the laws below that it calls.
+ghost use Rattle.check_run.specs.Laws.{VerdictIsOne};
+
+use barrier_vector::laws::{no_barrier_beside_a_refusal, one_barrier};
+use problem_builder::laws::{
+    no_problem_beside_a_refusal, one_list_of_start_heads, one_problem, problems_fit,
+    start_heads_fit,
+};
+use step_chain::laws::one_refusal;
+
+/// A listing has at most one verdict.
+pub fn one_verdict()
+    ensures { VerdictIsOne }
+{
+    one_list_of_start_heads();
+    start_heads_fit();
+    one_problem();
+    problems_fit();
+    one_barrier();
+    no_problem_beside_a_refusal();
+    no_barrier_beside_a_refusal();
+    one_refusal();
+}

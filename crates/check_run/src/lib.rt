@@ -1,0 +1,15 @@
+//! The check of a listing, whoever wrote it: step by step from its own heads, without threads and without rounds.
+#![tactic(auto)]
+
+mod constants;
+mod fault;
+pub mod laws;
+mod listing;
+mod posed;
+mod step;
+mod terms;
+mod variables;
+pub mod verdict;
+
+pub use listing::check_listing;
+pub use verdict::Verdict;

@@ -1,0 +1,73 @@
+// The check of a listing.
+ghost use Rattle.std.specs.Prelude.{◌≡◌, ◌≤◌, length, IfOk};
+ghost use Rattle.model_types.specs.Valid.{IsModel};
+ghost use Rattle.listing_io.specs.Listed.{AreListed};
+ghost use Rattle.check_run.specs.declared.verdict.Verdict.TheVariants.{Certified};
+ghost use Rattle.check_run.specs.Parts.{heads_before, IsVerdictAt};
+ghost use Rattle.check_run.specs.Verdicts.{IsVerdict, ListingEncloses};
+
+use crate::fault::Fault;
+use crate::laws::one_verdict;
+use crate::step::check_listed;
+use crate::verdict::Verdict;
+use listing_io::Listing;
+use model_types::{FlowModel, TimeStep, times};
+use problem_builder::start_heads;
+use std::alloc::{AllocError, Global};
+use step_chain::RunTables;
+use step_problem::Bound;
+
+// The heads before a step: the listing's own of the step before, or those of STRT.
+fn heads_before<'a>(start: &'a [Bound], listing: &'a Listing, index: usize) -> &'a [Bound]
+    requires { index ≤ length listing.now }
+    ensures { result.now ≡ heads_before start.now listing.now index }
+{
+    if index == 0 {
+        return start;
+    }
+    listing.heads(index - 1)
+}
+
+// What a step's fault at its time makes of the listing.
+fn verdict_at(at: TimeStep, fault: Fault) -> Result<Verdict, AllocError>
+    ensures { IfOk result (IsVerdictAt at fault) }
+{
+    match fault {
+        Fault::Fails(place) => Ok(Verdict::Fails(at, place)),
+        Fault::Refused(refusal) => Ok(Verdict::Refused(at, refusal)),
+        Fault::Memory => Err(AllocError),
+    }
+}
+
+/// Checks a listing of a model with s digits of conductances, step by step, each from the listed heads of the one
+/// before it, the first from STRT. The first step and place that fails is the verdict, or the first refusal.
+pub fn check_listing(
+    alloc: Global,
+    model: &FlowModel,
+    listing: &Listing,
+    s: u32,
+) -> Result<Verdict, AllocError>
+    requires model { IsModel model.now }
+    requires digits { s ≤ 18 }
+    requires listing { AreListed model.now listing.now }
+    // The listing's one verdict.
+    ensures verdict { IfOk result (IsVerdict model.now s listing.now) }
+    ensures only { IfOk result (λ v. (other : Verdict) → IsVerdict model.now s listing.now other → other ≡ v) }
+    // Where it is certified, every history that solves the model lies within it, whoever wrote it.
+    ensures encloses { IfOk result (λ v. v ≡ Certified → ListingEncloses model.now s listing.now) }
+{
+    one_verdict();
+    let start = start_heads(alloc, model)?;
+    let times = times(alloc, model)?;
+    let mut tables = RunTables::new(alloc, model, s)?;
+    for (index, at) in times.as_slice().iter().enumerate() {
+        let old = heads_before(start.as_slice(), listing, index);
+        let heads = listing.heads(index);
+        let budget = listing.budget(index);
+        match check_listed(alloc, model, &mut tables, *at, old, heads, budget) {
+            Ok(()) => {}
+            Err(fault) => return verdict_at(*at, fault),
+        }
+    }
+    Ok(Verdict::Certified)
+}

@@ -1,0 +1,59 @@
+// The check of one listed step.
+ghost use Rattle.std.specs.Prelude.{◌≡◌, ◌≤◌, Contains, IfOk, IfErr};
+ghost use Rattle.model_types.specs.Times.{times};
+ghost use Rattle.model_types.specs.Valid.{IsModel};
+ghost use Rattle.problem_builder.specs.GridHeads.{AreGridHeads};
+ghost use Rattle.step_chain.specs.Keeps.{AreRunTables, digits_of};
+ghost use Rattle.listing_run.specs.Bounding.{BoundsMoves};
+ghost use Rattle.check_run.specs.Parts.{FailsBy};
+ghost use Rattle.check_run.specs.Steps.{Passes};
+ghost use Rattle.check_run.specs.Verdicts.{checked_task, step_of};
+
+use crate::constants::first_unreached;
+use crate::fault::Fault;
+use crate::posed::pose;
+use crate::terms::covered;
+use crate::variables::{bounds_of, certified};
+use budget_bounds::Budget;
+use budget_bounds::laws::{cover_encloses, heads_within};
+use model_types::{FlowModel, TimeStep};
+use problem_builder::laws::constant_pairs;
+use std::alloc::Global;
+use step_chain::RunTables;
+use step_problem::{Bound, Place};
+
+/// Checks the listed heads and budget of a time from the heads of all cells before it. The tables are those of the
+/// run, which go to the step's period.
+pub(crate) fn check_listed(
+    alloc: Global,
+    model: &FlowModel,
+    tables: &mut RunTables,
+    at: TimeStep,
+    old: &[Bound],
+    heads: &[Bound],
+    listed: &Budget,
+) -> Result<(), Fault>
+    requires model { IsModel model.now }
+    requires time { Contains (times model.now) at }
+    requires old { AreGridHeads model.now old.now }
+    requires heads { AreGridHeads model.now heads.now }
+    requires digits { digits_of tables.old ≤ 18 }
+    requires tables { AreRunTables model.now tables.old }
+    ensures digits { digits_of tables.new ≡ digits_of tables.old }
+    ensures tables { AreRunTables model.now tables.new }
+    ensures passes { IfOk result (λ _. Passes model.now (digits_of tables.old) at old.now (record { heads = heads.now; budget = listed.now })) }
+    ensures fault { IfErr result (FailsBy model.now (digits_of tables.old) at old.now (record { heads = heads.now; budget = listed.now })) }
+    // Every solution from exact heads within the old ones lies within what is listed.
+    ensures encloses { IfOk result (λ _. BoundsMoves (checked_task model.now (digits_of tables.old)) at old.now (step_of at (record { heads = heads.now; budget = listed.now }))) }
+{
+    constant_pairs();
+    heads_within();
+    cover_encloses();
+    let posed = pose(alloc, model, tables, at, old)?;
+    if let Some((cell, side)) = first_unreached(posed.sites.as_slice(), heads) {
+        return Err(Fault::Fails(Place::Cell(cell, side)));
+    }
+    let bounds = bounds_of(alloc, &posed.problem, heads)?;
+    certified(&posed.problem, &posed.barrier, bounds.as_slice())?;
+    covered(&posed.problem, bounds.as_slice(), listed)
+}

@@ -1,0 +1,51 @@
+// Whether the listed heads of variable cells are a certificate.
+ghost use Rattle.std.specs.Prelude.{◌≡◌, ◌<◌, ℕ, length, map, IfOk, IfErr};
+ghost use Rattle.step_problem.specs.declared.heads.Side.{Side};
+ghost use Rattle.step_problem.specs.declared.place.Place.TheVariants.{Cell};
+ghost use Rattle.step_problem.specs.Entries.{entries_at};
+ghost use Rattle.step_problem.specs.Heads.{head_at, lower_at, upper_at, IsCertificate};
+ghost use Rattle.cell_balance.specs.Components.{IsHeldBelow};
+ghost use Rattle.cell_balance.specs.SolutionBounds.{EnclosesSolutions};
+ghost use Rattle.cell_relax.specs.Words.{AreWords};
+ghost use Rattle.certificate_check.specs.Certificates.{IsFirstFailing};
+ghost use Rattle.step_chain.specs.GridHeads.{bound_at};
+ghost use Rattle.check_run.specs.declared.fault.Fault.TheVariants.{Fails};
+
+use crate::fault::Fault;
+use certificate_check::{Verdict, check_step};
+use std::alloc::{AllocError, Global};
+use step_problem::{Barrier, Bound, Place, Problem};
+
+/// The listed bounds of a problem's cells.
+pub(crate) fn bounds_of(
+    alloc: Global,
+    problem: &Problem,
+    heads: &[Bound],
+) -> Result<Vec<Bound>, AllocError>
+    requires { (k : ℕ) → k < length problem.now → (entries_at problem.now k).id < length heads.now }
+    ensures { IfOk result (λ v. v.items ≡ map (λ e. bound_at heads.now e.id) problem.now) }
+{
+    let mut bounds = Vec::new(alloc);
+    for k in 0..problem.len() {
+        bounds.push(heads[problem.cell(k).id as usize])?;
+    }
+    Ok(bounds)
+}
+
+/// Tests the bounds of a problem's cells over its barrier. It takes no memory.
+pub(crate) fn certified(problem: &Problem, barrier: &Barrier, bounds: &[Bound]) -> Result<(), Fault>
+    requires floors { length barrier.now.floor ≡ length problem.now }
+    requires ceilings { length barrier.now.ceiling ≡ length problem.now }
+    requires bounds { AreWords problem.now bounds.now }
+    ensures certificate { IfOk result (λ _. IsCertificate problem.now barrier.now (lower_at bounds.now) (upper_at bounds.now)) }
+    ensures encloses { IfOk result (λ _. IsHeldBelow problem.now → EnclosesSolutions problem.now (head_at barrier.now.floor) (head_at barrier.now.ceiling) → EnclosesSolutions problem.now (lower_at bounds.now) (upper_at bounds.now)) }
+    ensures fails { IfErr result (λ e. (k : ℕ) × (side : Side) × IsFirstFailing problem.now barrier.now bounds.now k side × (e ≡ Fails (Cell (entries_at problem.now k).id side))) }
+{
+    match check_step(problem, barrier, bounds) {
+        Verdict::Yes => Ok(()),
+        Verdict::No { cell, side } => {
+            let id = problem.cell(cell as usize).id;
+            Err(Fault::Fails(Place::Cell(id, side)))
+        }
+    }
+}
