@@ -13,6 +13,8 @@ use Rattle.command_line.specs.Wants.{Wanted, wanted_of}
 use Rattle.model_types.specs.declared.model.FlowModel.{FlowModel}
 use Rattle.model_types.specs.Valid.{IsModel}
 use Rattle.model_reader.specs.Model.{reads}
+use Rattle.listing_io.specs.declared.listing.ListedStep.{ListedStep}
+use Rattle.listing_io.specs.Listed.{AreListed}
 use Rattle.listing_io.specs.LastLines.{refused_line}
 use Rattle.run_puts.specs.Lines.{Text, read_fault_line}
 use Rattle.run_puts.specs.Ends.{IsEnd, IsLast, IsWanting}
@@ -23,10 +25,11 @@ use Rattle.run_puts.specs.declared.status.Status.TheVariants as status
 use Rattle.run_puts.proofs.Pieces.{IsLate, tail_late, lone, lacks_at_first, weaker}
 use Rattle.listing_run.specs.declared.task.Task.{Task}
 use Rattle.listing_run.specs.Listing.{IsListing, IsCutListing}
-use Rattle.engine.specs.Cases.{Asked, Case, Command, Run, Make, NoWords, Refuses, Listing, Making, IsCase, asked_in, built, case_asked, case_of, case_read, made_model, named, task_of}
+use Rattle.engine.specs.Cases.{Asked, AskedCheck, Case, Command, Run, Make, Check, NoWords, Refuses, Listing, Making, Checking, IsCase, CouldRead, asked_in, built, case_asked, case_checked, case_listed, case_of, case_read, listing_read, made_model, named, task_of}
 use Rattle.engine.specs.Defined.{Due, ReadsFolder, defined, unread, CutOf}
 use Rattle.engine.specs.Made.{IsMade}
-use Rattle.engine.specs.Parts.{Answers, IsMadeRun, IsReadAs, IsReadingEnd, IsStopped, IsValid}
+use Rattle.engine.specs.Checked.{IsCheck}
+use Rattle.engine.specs.Parts.{Answers, IsMadeRun, IsReadAs, IsReadingEnd, IsStopped, IsUncut, IsValid}
 
 -- what an order asks for, the words ask for
 pub asked_by : (words : List Text) (wanted : Wanted) (asked : Option Command) → wanted_of words ≡ Some wanted → asked ≡ built wanted → asked_in words ≡ asked
@@ -51,63 +54,100 @@ stopped NoWords end h = tt
 stopped (Refuses refusal) end h = tt
 stopped (Listing k) end h = inr h
 stopped (Making seed size read) end h = inr h
+stopped (Checking m s steps) end h = inr h
 
 module _ (words : List Text) (files : Option (List File)) (n m : ℕ) where
   lacking : (case : Case) (end : Status) (puts : List Put) → IsCase words files case → IsWanting end puts → Answers words files n m end puts
   lacking case end puts is h = record { case = case; is = is; run = lacks_at_first (Due (Rose n m) case) (CutOf case) end puts h; valid = stopped case end (wanting_stops end puts h) }
 
-  unreadable : (case : Case) (end : Status) (puts : List Put) → IsCase words files case → ReadsFolder case → Rose n m → IsLast read_fault_line status.ReadFault end puts → Answers words files n m end puts
+  pub unreadable : (case : Case) (end : Status) (puts : List Put) → IsCase words files case → ReadsFolder case → Rose n m → IsLast read_fault_line status.ReadFault end puts → Answers words files n m end puts
   unreadable case end puts is worded rose h = record { case = case; is = is; run = lone (Due (Rose n m) case) (CutOf case) read_fault_line status.ReadFault end puts (unread rose worded) (inl h); valid = stopped case end (read_stops end puts h) }
 
   pub ends_usage : (end : Status) (puts : List Put) → IsCase words files NoWords → IsLast usage_line status.Usage end puts → Answers words files n m end puts
   ends_usage end puts is h = record { case = NoWords; is = is; run = lone (Due (Rose n m) NoWords) (CutOf NoWords) usage_line status.Usage end puts (defined status.Usage (usage_line ∷ []) (refl, refl)) (inl h); valid = tt }
 
-  refused : (refusal : Refusal) (end : Status) (puts : List Put) → IsCase words files (Refuses refusal) → IsEnd (refused_line refusal) (status.Refused refusal) end puts → Answers words files n m end puts
+  pub refused : (refusal : Refusal) (end : Status) (puts : List Put) → IsCase words files (Refuses refusal) → IsEnd (refused_line refusal) (status.Refused refusal) end puts → Answers words files n m end puts
   refused refusal end puts is h = record { case = Refuses refusal; is = is; run = lone (Due (Rose n m) (Refuses refusal)) (CutOf (Refuses refusal)) (refused_line refusal) (status.Refused refusal) end puts (defined (status.Refused refusal) (refused_line refusal ∷ []) (refl, refl)) h; valid = tt }
 
   listed : (k : Task) (end : Status) (puts : List Put) → IsCase words files (Listing k) → IsModel k.model → IsRun (IsListing k) (IsCutListing k) end puts → Answers words files n m end puts
   listed k end puts is model h = record { case = Listing k; is = is; run = weaker (IsListing k) (Due (Rose n m) (Listing k)) (IsCutListing k) (λ meant pieces d. defined meant pieces d) end puts h; valid = inl model }
 
-pub no_words : (words : List Text) (files : Option (List File)) → asked_in words ≡ None → IsCase words files NoWords
-no_words words (Some fs) e = let P : Option Command → Type 0 = λ a. NoWords ≡ case_asked a (reads fs) in subst P (sym e) refl
-no_words words None e =
-    let none : Result FlowModel Refusal = Err (file_refusal BadName (codes "-")) in
-    let P : Option Command → Type 0 = λ a. NoWords ≡ case_asked a (λ name. none) in
-    (none, tt, subst P (sym e) refl)
+  pub checked : (f : FlowModel) (s : ℕ) (steps : List ListedStep) (end : Status) (puts : List Put) → IsCase words files (Checking f s steps) → IsModel f → AreListed f steps → IsRun (IsCheck f s steps) IsUncut end puts → Answers words files n m end puts
+  checked f s steps end puts is model listed h = record { case = Checking f s steps; is = is; run = weaker (IsCheck f s steps) (Due (Rose n m) (Checking f s steps)) IsUncut (λ meant pieces d. defined meant pieces d) end puts h; valid = inl (model, listed) }
 
--- the words come to some case, whatever is read; for a listing the folder is read
-record SomeCase (words : List Text) (files : Option (List File)) : Type 0 where
-  case : Case
-  is : IsCase words files case
-  worded : (asked : Asked) → asked_in words ≡ Some (Run asked) → ReadsFolder case
+-- a reading that gave no model, and one that gave no steps
+abbrev pub no_model : Result FlowModel Refusal
+no_model = Err (file_refusal BadName (codes "-"))
+
+abbrev pub no_steps : Result (List ListedStep) Refusal
+no_steps = Err (file_refusal BadName (codes "-"))
+
+-- what a check of a folder that tells no files reads as its listing
+abbrev pub same_steps : Result (List ListedStep) Refusal → AskedCheck → FlowModel → Result (List ListedStep) Refusal
+same_steps listed asked m = named asked.listing (λ name. listed)
+
+pub could_read : (read : Result FlowModel Refusal) → IfOk read IsModel → CouldRead read no_steps
+could_read (Ok f) valid = (valid, tt)
+could_read (Err refusal) valid = tt
+
+pub no_words : (words : List Text) (files : Option (List File)) → asked_in words ≡ None → IsCase words files NoWords
+no_words words (Some fs) e = let P : Option Command → Type 0 = λ a. NoWords ≡ case_asked a (reads fs) (listing_read fs) in subst P (sym e) refl
+no_words words None e =
+    let P : Option Command → Type 0 = λ a. NoWords ≡ case_asked a (λ name. no_model) (same_steps no_steps) in
+    (no_model, no_steps, tt, subst P (sym e) refl)
+
+-- the words come to some case, whatever is read; for a listing and for a check the folder is read
+pub record SomeCase (words : List Text) (files : Option (List File)) : Type 0 where
+  pub case : Case
+  pub is : IsCase words files case
+  pub worded : (asked : Asked) → asked_in words ≡ Some (Run asked) → ReadsFolder case
+  pub check_worded : (asked : AskedCheck) → asked_in words ≡ Some (Check asked) → ReadsFolder case
 
 read_worded : (asked : Asked) (r : Result FlowModel Refusal) → ReadsFolder (case_read asked r)
 read_worded asked (Ok f) = tt
 read_worded asked (Err refusal) = tt
 
-asked_worded : (words : List Text) (read : Text → Result FlowModel Refusal) (asked : Asked) → asked_in words ≡ Some (Run asked) → ReadsFolder (case_asked (asked_in words) read)
-asked_worded words read asked e = let P : Option Command → Type 0 = λ a. ReadsFolder (case_asked a read) in subst P (sym e) (read_worded asked (named asked.name read))
+listed_worded : (asked : AskedCheck) (f : FlowModel) (r : Result (List ListedStep) Refusal) → ReadsFolder (case_listed asked f r)
+listed_worded asked f (Ok steps) = tt
+listed_worded asked f (Err refusal) = tt
 
-some_case : (words : List Text) (files : Option (List File)) → SomeCase words files
-some_case words (Some fs) = record { case = case_of words fs; is = refl; worded = asked_worded words (reads fs) }
-some_case words None =
-    let none : Result FlowModel Refusal = Err (file_refusal BadName (codes "-")) in
-    record { case = case_asked (asked_in words) (λ name. none); is = (none, tt, refl); worded = asked_worded words (λ name. none) }
+checked_worded : (asked : AskedCheck) (r : Result FlowModel Refusal) (listed : FlowModel → Result (List ListedStep) Refusal) → ReadsFolder (case_checked asked r listed)
+checked_worded asked (Ok f) listed = listed_worded asked f (listed f)
+checked_worded asked (Err refusal) listed = tt
+
+module _ (words : List Text) (read : Text → Result FlowModel Refusal) (listed : AskedCheck → FlowModel → Result (List ListedStep) Refusal) where
+  abbrev ReadsFor : Option Command → Type 0
+  ReadsFor a = ReadsFolder (case_asked a read listed)
+
+  asked_worded : (asked : Asked) → asked_in words ≡ Some (Run asked) → ReadsFor (asked_in words)
+  asked_worded asked e = subst ReadsFor (sym e) (read_worded asked (named asked.name read))
+
+  check_worded_by : (asked : AskedCheck) → asked_in words ≡ Some (Check asked) → ReadsFor (asked_in words)
+  check_worded_by asked e = subst ReadsFor (sym e) (checked_worded asked (named asked.name read) (listed asked))
+
+pub some_case : (words : List Text) (files : Option (List File)) → SomeCase words files
+some_case words (Some fs) = record { case = case_of words fs; is = refl; worded = asked_worded words (reads fs) (listing_read fs); check_worded = check_worded_by words (reads fs) (listing_read fs) }
+some_case words None = record {
+  case = case_asked (asked_in words) (λ name. no_model) (same_steps no_steps);
+  is = (no_model, no_steps, tt, refl);
+  worded = asked_worded words (λ name. no_model) (same_steps no_steps);
+  check_worded = check_worded_by words (λ name. no_model) (same_steps no_steps);
+}
 
 pub ends_without_words : (words : List Text) (files : Option (List File)) (n m : ℕ) (end : Status) (puts : List Put) → IsWanting end puts → Answers words files n m end puts
 ends_without_words words files n m end puts h = let c = some_case words files in lacking words files n m c.case end puts c.is h
 
-case_by : (words : List Text) (asked : Asked) (read : Text → Result FlowModel Refusal) (r : Result FlowModel Refusal) → asked_in words ≡ Some (Run asked) → named asked.name read ≡ r → case_read asked r ≡ case_asked (asked_in words) read
-case_by words asked read r e is = let P : Option Command → Type 0 = λ a. case_read asked r ≡ case_asked a read in subst P (sym e) (ap (case_read asked) (sym is))
+case_by : (words : List Text) (asked : Asked) (read : Text → Result FlowModel Refusal) (listed : AskedCheck → FlowModel → Result (List ListedStep) Refusal) (r : Result FlowModel Refusal) → asked_in words ≡ Some (Run asked) → named asked.name read ≡ r → case_read asked r ≡ case_asked (asked_in words) read listed
+case_by words asked read listed r e is = let P : Option Command → Type 0 = λ a. case_read asked r ≡ case_asked a read listed in subst P (sym e) (ap (case_read asked) (sym is))
 
 module _ (words : List Text) (files : Option (List File)) (n m : ℕ) (asked : Asked) (wanted : asked_in words ≡ Some (Run asked)) where
   refused_case : (files : Option (List File)) (refusal : Refusal) → IsReadAs asked.name files (Err (input.Refused refusal)) → IsCase words files (Refuses refusal)
-  refused_case (Some fs) refusal h = case_by words asked (reads fs) (Err refusal) wanted h
-  refused_case None refusal (read, valid, h) = (read, valid, case_by words asked (λ name. read) (Err refusal) wanted h)
+  refused_case (Some fs) refusal h = case_by words asked (reads fs) (listing_read fs) (Err refusal) wanted h
+  refused_case None refusal (read, valid, h) = (read, no_steps, could_read read valid, case_by words asked (λ name. read) (same_steps no_steps) (Err refusal) wanted h)
 
   model_case : (files : Option (List File)) (f : FlowModel) → IsReadAs asked.name files (Ok f) → IsCase words files (Listing (task_of asked f))
-  model_case (Some fs) f h = case_by words asked (reads fs) (Ok f) wanted h
-  model_case None f (read, valid, h) = (read, valid, case_by words asked (λ name. read) (Ok f) wanted h)
+  model_case (Some fs) f h = case_by words asked (reads fs) (listing_read fs) (Ok f) wanted h
+  model_case None f (read, valid, h) = (read, no_steps, could_read read valid, case_by words asked (λ name. read) (same_steps no_steps) (Ok f) wanted h)
 
   pub ends_reading : (fault : InputFault) (end : Status) (puts : List Put) → IsReadAs asked.name files (Err fault) → InputCounts {T = FlowModel} n m (Err fault) → IsReadingEnd fault end puts → Answers words files n m end puts
   ends_reading (input.Refused refusal) end puts reads counts h = refused words files n m refusal end puts (refused_case files refusal reads) h
@@ -122,12 +162,12 @@ module _ (words : List Text) (seed size : ℕ) (wanted : asked_in words ≡ Some
   abbrev made_case : Case
   made_case = Making seed size (made_model seed size)
 
-  made_by : (read : Text → Result FlowModel Refusal) → made_case ≡ case_asked (asked_in words) read
-  made_by read = let P : Option Command → Type 0 = λ a. made_case ≡ case_asked a read in subst P (sym wanted) refl
+  made_by : (read : Text → Result FlowModel Refusal) (listed : AskedCheck → FlowModel → Result (List ListedStep) Refusal) → made_case ≡ case_asked (asked_in words) read listed
+  made_by read listed = let P : Option Command → Type 0 = λ a. made_case ≡ case_asked a read listed in subst P (sym wanted) refl
 
   is_made : (files : Option (List File)) → IsCase words files made_case
-  is_made (Some fs) = made_by (reads fs)
-  is_made None = let none : Result FlowModel Refusal = Err (file_refusal BadName (codes "-")) in (none, tt, made_by (λ name. none))
+  is_made (Some fs) = made_by (reads fs) (listing_read fs)
+  is_made None = (no_model, no_steps, tt, made_by (λ name. no_model) (same_steps no_steps))
 
   pub ends_made : (files : Option (List File)) (n m : ℕ) (end : Status) (puts : List Put) → IsMadeRun seed size end puts → Answers words files n m end puts
   ends_made files n m end puts h = record {

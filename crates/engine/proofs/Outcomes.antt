@@ -28,22 +28,29 @@ use Rattle.listing_run.specs.Listing.{listing, time, IsListing, IsWhole}
 use Rattle.listing_run.specs.Laws.{ListingIsOne, ListingExcludesRefusal, SettledListingIsClosed, RefusalIsOne}
 use Rattle.listing_summary.specs.declared.summary.Summary.{Summary}
 use Rattle.listing_summary.specs.Texts.{summary_text}
-use Rattle.engine.specs.Cases.{Asked, Case, Command, Run, Make, NoWords, Refuses, Listing, Making, IsCase, asked_in, case_asked, case_of, case_read, made_model, named, task_of}
+use Rattle.listing_io.specs.declared.listing.ListedStep.{ListedStep}
+use Rattle.check_run.specs.Laws.{VerdictIsOne}
+use Rattle.engine.specs.Cases.{Asked, AskedCheck, Case, Command, Run, Make, Check, NoWords, Refuses, Listing, Making, Checking, IsCase, asked_in, case_asked, case_of, case_read, listing_read, made_model, named, task_of}
+use Rattle.engine.specs.Certified.{Certified}
+use Rattle.engine.specs.Checked.{IsCheck}
 use Rattle.engine.specs.Defined.{CutOf, Defines, Due, defined, unread}
 use Rattle.engine.specs.Headline.{Headline}
 use Rattle.engine.specs.Made.{IsMade, IsSummed, Made, made_task}
-use Rattle.engine.specs.Runs.{Decided, Comes, HasTask, IsRunOf, IsUnfinished}
+use Rattle.engine.specs.Runs.{Decided, Comes, HasCertified, HasListing, HasTask, IsRunOf, IsUnfinished}
 use Rattle.engine.specs.Parts.{Answers, IsStopped, IsValid}
+use Rattle.engine.proofs.Certifying.{asks_check, certifies, checked_case, never_stopped_check, of_check, one_end}
+use Rattle.engine.proofs.Readings.{named_read}
 
--- the laws of listings
+-- the laws of listings and of verdicts
 pub record Laws : Type 0 where
   pub one : ListingIsOne
   pub bound : ListingExcludesRefusal
   pub closed : SettledListingIsClosed
   pub refusal : RefusalIsOne
+  pub verdict : VerdictIsOne
 
-pub laws_of : ListingIsOne → ListingExcludesRefusal → SettledListingIsClosed → RefusalIsOne → Laws
-laws_of one bound closed refusal = record { one = one; bound = bound; closed = closed; refusal = refusal }
+pub laws_of : ListingIsOne → ListingExcludesRefusal → SettledListingIsClosed → RefusalIsOne → VerdictIsOne → Laws
+laws_of one bound closed refusal verdict = record { one = one; bound = bound; closed = closed; refusal = refusal; verdict = verdict }
 
 -- all pieces that the case defines were taken
 record Delivers (case : Case) (puts : List Put) : Type 0 where
@@ -72,24 +79,22 @@ task_in other NoWords = other
 task_in other (Refuses refusal) = other
 task_in other (Listing k) = k
 task_in other (Making seed size read) = other
+task_in other (Checking m s steps) = other
 
 one_task : (j k : Task) → Listing j ≡ Listing k → j ≡ k
 unfolding task_in
 one_task j k e = ap (task_in k) e
 
-named_read : (b : Bool) (read bad : Result FlowModel Refusal) (f : FlowModel) (refusal : Refusal) → bad ≡ Err refusal → (if b then read else bad) ≡ Ok f → read ≡ Ok f
-named_read true read bad f refusal is e = e
-named_read false read bad f refusal is e = absurd (let no : Err refusal ≡ Ok f = sym is ∙ e in cc)
-
 module _ (words : List Text) (files : List File) (k : Task) where
   by_reading : (asked : Asked) → asked_in words ≡ Some (Run asked) → (r : Result FlowModel Refusal) → named asked.name (reads files) ≡ r → case_read asked r ≡ Listing k → Listed words files k
-  by_reading asked wanted (Ok f) is e = record { asked = asked; wanted = wanted; model = f; read = named_read (is_good_name asked.name) (reads files asked.name) (Err (file_refusal BadName (codes "-"))) f (file_refusal BadName (codes "-")) refl is; task = one_task (task_of asked f) k e }
+  by_reading asked wanted (Ok f) is e = record { asked = asked; wanted = wanted; model = f; read = named_read asked.name (reads files) f is; task = one_task (task_of asked f) k e }
   by_reading asked wanted (Err refusal) is e = absurd (let bad : Refuses refusal ≡ Listing k = e in cc)
 
-  by_words : (a : Option Command) → asked_in words ≡ a → case_asked a (reads files) ≡ Listing k → Listed words files k
+  by_words : (a : Option Command) → asked_in words ≡ a → case_asked a (reads files) (listing_read files) ≡ Listing k → Listed words files k
   by_words None wanted e = absurd (let bad : NoWords ≡ Listing k = e in cc)
   by_words (Some (Run asked)) wanted e = by_reading asked wanted (named asked.name (reads files)) refl e
   by_words (Some (Make seed size)) wanted e = absurd (let bad : Making seed size (made_model seed size) ≡ Listing k = e in cc)
+  by_words (Some (Check asked)) wanted e = absurd (checked_case (λ c. c ≡ Listing k → ⊥) (λ refusal x. let bad : Refuses refusal ≡ Listing k = x in cc) (λ m s steps x. let bad : Checking m s steps ≡ Listing k = x in cc) asked (named asked.name (reads files)) (listing_read files asked) e)
 
   listed : case_of words files ≡ Listing k → Listed words files k
   listed e = by_words (asked_in words) refl e
@@ -129,10 +134,11 @@ module _ (words : List Text) (files : List File) (seed size : ℕ) (read : Resul
   made_by_reading asked (Ok f) e = absurd (let bad : Listing (task_of asked f) ≡ Making seed size read = e in cc)
   made_by_reading asked (Err refusal) e = absurd (let bad : Refuses refusal ≡ Making seed size read = e in cc)
 
-  made_by_words : (a : Option Command) → asked_in words ≡ a → case_asked a (reads files) ≡ Making seed size read → Summed words seed size read
+  made_by_words : (a : Option Command) → asked_in words ≡ a → case_asked a (reads files) (listing_read files) ≡ Making seed size read → Summed words seed size read
   made_by_words None wanted e = absurd (let bad : NoWords ≡ Making seed size read = e in cc)
   made_by_words (Some (Run asked)) wanted e = made_by_reading asked (named asked.name (reads files)) e
   made_by_words (Some (Make i j)) wanted e = same_words i j wanted (one_making i j seed size (made_model i j) read e)
+  made_by_words (Some (Check asked)) wanted e = absurd (checked_case (λ c. c ≡ Making seed size read → ⊥) (λ refusal x. let bad : Refuses refusal ≡ Making seed size read = x in cc) (λ m s steps x. let bad : Checking m s steps ≡ Making seed size read = x in cc) asked (named asked.name (reads files)) (listing_read files asked) e)
 
   summed : case_of words files ≡ Making seed size read → Summed words seed size read
   summed e = made_by_words (asked_in words) refl e
@@ -176,7 +182,7 @@ module _ (laws : Laws) where
     size = size;
     wanted = l.wanted;
     model = m;
-    read = named_read (is_good_name made_name) (reads (made_files seed size) made_name) (Err (file_refusal BadName (codes "-"))) m (file_refusal BadName (codes "-")) refl l.is;
+    read = named_read made_name (reads (made_files seed size)) m l.is;
     values = h.values;
     steps = h.steps;
     only = λ others steps. laws.one (made_task m) h.values others model h.steps steps;
@@ -192,19 +198,23 @@ module _ (laws : Laws) where
   summed_ok words old new puts end seed size (Ok m) l (inl model) e d makes = of_summed words old new puts seed size m d.pieces l model d.defines d.written makes
   summed_ok words old new puts end seed size (Ok m) l (inr stops) e d makes = absurd (not_stopped (let P : Status → Type 0 = IsStopped in subst P e stops))
 
-  by_case : (words : List Text) (files : List File) (old new : Seen) (puts : List Put) (end : Status) (case : Case) → case ≡ case_of words files → IsValid case end → end ≡ status.Ok → Delivers case puts → PutsMake old puts new → Headline words files old.written new.written ⊎ Made words old.written new.written
+  by_case : (words : List Text) (files : List File) (old new : Seen) (puts : List Put) (end : Status) (case : Case) → case ≡ case_of words files → IsValid case end → end ≡ status.Ok → Delivers case puts → PutsMake old puts new → Headline words files old.written new.written ⊎ (Made words old.written new.written ⊎ Certified words files old.written new.written)
   by_case words files old new puts end NoWords is valid e d makes = absurd (let bad : status.Ok ≡ status.Usage = d.defines.0 in cc)
   by_case words files old new puts end (Refuses refusal) is valid e d makes = absurd (let bad : status.Ok ≡ status.Refused refusal = d.defines.0 in cc)
   by_case words files old new puts end (Listing k) is valid e d makes = inl (of_listing words files old new puts d.pieces k (listed words files k (sym is)) (valid_ok k end valid e) d.defines d.written makes)
-  by_case words files old new puts end (Making seed size read) is valid e d makes = inr (summed_ok words old new puts end seed size read (summed words files seed size read (sym is)) valid e d makes)
+  by_case words files old new puts end (Making seed size read) is valid e d makes = inr (inl (summed_ok words old new puts end seed size read (summed words files seed size read (sym is)) valid e d makes))
+  by_case words files old new puts end (Checking m s steps) is valid e d makes =
+      let a = asks_check words files m s steps (sym is) in
+      let D : Case → Type 0 = λ case. Defines case status.Ok d.pieces in
+      inr (inr (of_check words files old new puts d.pieces a.0 a.1 d.written makes (subst D is d.defines)))
 
-  pub headline : (words : List Text) (files : Option (List File)) (n m : ℕ) (end : Status) (puts : List Put) (old new : Seen) → Answers words files n m end puts → PutsMake old puts new → end ≡ status.Ok → IfSome files (λ fs. Headline words fs old.written new.written ⊎ Made words old.written new.written)
+  pub headline : (words : List Text) (files : Option (List File)) (n m : ℕ) (end : Status) (puts : List Put) (old new : Seen) → Answers words files n m end puts → PutsMake old puts new → end ≡ status.Ok → IfSome files (λ fs. Headline words fs old.written new.written ⊎ (Made words old.written new.written ⊎ Certified words fs old.written new.written))
   headline words (Some fs) n m end puts old new a makes e = by_case words fs old new puts end a.case a.is a.valid e (delivers (Rose n m) a.case end puts a.run e) makes
   headline words None n m end puts old new a makes e = tt
 
   made_of : (words : List Text) (files : Option (List File)) (seed size : ℕ) (case : Case) → asked_in words ≡ Some (Make seed size) → IsCase words files case → case ≡ Making seed size (made_model seed size)
-  made_of words (Some fs) seed size case wanted is = let P : Option Command → Type 0 = λ a. case ≡ case_asked a (reads fs) in subst P wanted is
-  made_of words None seed size case wanted (read, valid, is) = let P : Option Command → Type 0 = λ a. case ≡ case_asked a (λ name. read) in subst P wanted is
+  made_of words (Some fs) seed size case wanted is = let P : Option Command → Type 0 = λ a. case ≡ case_asked a (reads fs) (listing_read fs) in subst P wanted is
+  made_of words None seed size case wanted (read, listed, valid, is) = let P : Option Command → Type 0 = λ a. case ≡ case_asked a (λ name. read) (λ asked m. named asked.listing (λ name. listed)) in subst P wanted is
 
   pub made : (words : List Text) (files : Option (List File)) (n m : ℕ) (end : Status) (puts : List Put) (old new : Seen) → Answers words files n m end puts → PutsMake old puts new → end ≡ status.Ok → (seed size : ℕ) → asked_in words ≡ Some (Make seed size) → Made words old.written new.written
   made words files n m end puts old new a makes e seed size wanted =
@@ -213,12 +223,21 @@ module _ (laws : Laws) where
       let D : Case → Type 0 = λ case. Delivers case puts in
       summed_ok words old new puts end seed size (made_model seed size) (record { wanted = wanted; is = refl }) (subst V same a.valid) e (subst D same (delivers (Rose n m) a.case end puts a.run e)) makes
 
+-- of a check
+pub certified : (words : List Text) (files : Option (List File)) (n m : ℕ) (end : Status) (puts : List Put) (old new : Seen) → Answers words files n m end puts → PutsMake old puts new → end ≡ status.Ok → (asked : AskedCheck) → asked_in words ≡ Some (Check asked) → IfSome files (λ fs. Certified words fs old.written new.written)
+certified words (Some fs) n m end puts old new a makes e asked wanted =
+    let d = delivers (Rose n m) a.case end puts a.run e in
+    let D : Case → Type 0 = λ case. Defines case status.Ok d.pieces in
+    of_check words fs old new puts d.pieces asked wanted d.written makes (subst D a.is d.defines)
+certified words None n m end puts old new a makes e asked wanted = tt
+
 due_read : (read_failed : Type 0) (case : Case) (end : Status) (pieces : List Text) → Due read_failed case end pieces → end ≡ status.ReadFault → read_failed
 due_read read_failed NoWords end pieces (defined meant all (is, p)) e = absurd (let bad : status.Usage ≡ status.ReadFault = sym is ∙ e in cc)
 due_read read_failed (Refuses refusal) end pieces (defined meant all (is, p)) e = absurd (let bad : status.Refused refusal ≡ status.ReadFault = sym is ∙ e in cc)
 due_read read_failed (Listing k) end pieces (defined meant all d) e = absurd (let P : Status → Type 0 = λ s. IsListing k s pieces in subst P e d)
 due_read read_failed (Making seed size (Ok m)) end pieces (defined meant all d) e = absurd (let P : Status → Type 0 = λ s. IsListing (made_task m) s (listing_of seed size (made_task m) end pieces d).0 in subst P e (listing_of seed size (made_task m) end pieces d).1)
 due_read read_failed (Making seed size (Err refusal)) end pieces (defined meant all (is, p)) e = absurd (let bad : status.Refused refusal ≡ status.ReadFault = sym is ∙ e in cc)
+due_read read_failed (Checking m s steps) end pieces (defined meant all d) e = absurd (let P : Status → Type 0 = λ t. IsCheck m s steps t pieces in subst P e d)
 due_read read_failed case end pieces (unread failed worded) e = failed
 
 pub read_rose : (read_failed : Type 0) (case : Case) (end : Status) (puts : List Put) → IsRunOf read_failed case end puts → end ≡ status.ReadFault → read_failed
@@ -231,6 +250,7 @@ due_write read_failed (Refuses refusal) end pieces (defined meant all (is, p)) e
 due_write read_failed (Listing k) end pieces (defined meant all d) e = let P : Status → Type 0 = λ s. IsListing k s pieces in subst P e d
 due_write read_failed (Making seed size (Ok m)) end pieces (defined meant all d) e = let P : Status → Type 0 = λ s. IsListing (made_task m) s (listing_of seed size (made_task m) end pieces d).0 in subst P e (listing_of seed size (made_task m) end pieces d).1
 due_write read_failed (Making seed size (Err refusal)) end pieces (defined meant all (is, p)) e = let bad : status.Refused refusal ≡ status.WriteFault = sym is ∙ e in cc
+due_write read_failed (Checking m s steps) end pieces (defined meant all d) e = let P : Status → Type 0 = λ t. IsCheck m s steps t pieces in subst P e d
 due_write read_failed case end pieces (unread failed worded) e = let bad : status.ReadFault ≡ status.WriteFault = e in cc
 
 pub put_rose : (read_failed : Type 0) (case : Case) (end : Status) (puts : List Put) (old new : Seen) → IsRunOf read_failed case end puts → end ≡ status.WriteFault → PutsMake old puts new → Rose old.faults new.faults
@@ -313,6 +333,8 @@ decides laws (Making seed size (Ok m)) meant end p q (inl valid) x y =
     let w = listing_of seed size (made_task m) end q y in
     agree laws (made_task m) valid meant end v.0 w.0 v.1 w.1
 decides laws (Making seed size (Ok m)) meant end p q (inr stops) x y = let w = listing_of seed size (made_task m) end q y in absurd (never_stopped (made_task m) end w.0 stops w.1)
+decides laws (Checking m s steps) meant end p q (inl (model, listed)) x y = inr (inl (one_end m s steps laws.verdict model listed meant end p q x y))
+decides laws (Checking m s steps) meant end p q (inr stops) x y = absurd (never_stopped_check m s steps end q stops y)
 
 weighed : (fault : Type 0) (meant end : Status) → Agree meant end → (fault ⊎ IsUnfinished meant) ⊎ ((end ≡ meant) ⊎ ((end ≡ status.Memory) ⊎ IsUnfinished end))
 weighed fault meant end (inl open_meant) = inl (inr open_meant)
@@ -339,6 +361,7 @@ is_of : (k : Task) (case : Case) (end : Status) → HasTask case k → IsValid c
 is_of k NoWords end has valid = absurd has
 is_of k (Refuses refusal) end has valid = absurd has
 is_of k (Making seed size (Err refusal)) end has valid = absurd has
+is_of k (Checking m s steps) end has valid = absurd has
 is_of k (Listing j) end has valid =
     let P : Task → Type 0 = λ t. IsOf t (Listing j) end in
     subst P has (record { model = valid; ends = λ q y. (q, y) })
@@ -357,9 +380,23 @@ ended_of fault k case end o (inl f) = inl f
 ended_of fault k case end o (inr (inl e)) = inr (inl e)
 ended_of fault k case end o (inr (inr (q, y))) = inr (inr (o.ends q y))
 
+module _ (laws : Laws) (words : List Text) (files : List File) (n m : ℕ) (end : Status) (puts : List Put) (old new : Seen) (a : Answers words (Some files) n m end puts) (makes : PutsMake old puts new) where
+  abbrev Fault : Type 0
+  Fault = Rose n m ⊎ Rose old.faults new.faults
+
+  ends_here : Ended Fault a.case end
+  ends_here = ended n m a.case end puts old new a.run makes
+
+  complete_by : HasListing words files ⊎ HasCertified words files → Fault ⊎ ((end ≡ status.Ok) ⊎ (end ≡ status.Memory))
+  complete_by (inl l) =
+      let P : Case → Type 0 = λ case. HasTask case l.task in
+      let o = is_of l.task a.case end (subst P (sym a.is) l.is) a.valid in
+      comes_by laws Fault l.task end l.values l.steps l.settle o.model (ended_of Fault l.task a.case end o ends_here)
+  complete_by (inr l) =
+      let V : Case → Type 0 = λ case. IsValid case end in
+      let E : Case → Type 0 = λ case. Ended Fault case end in
+      certifies l.model l.digits l.steps laws.verdict l.verdict Fault end (subst V (a.is ∙ l.is) a.valid) (subst E (a.is ∙ l.is) ends_here)
+
 pub complete : (laws : Laws) (words : List Text) (files : Option (List File)) (n m : ℕ) (end : Status) (puts : List Put) (old new : Seen) → Answers words files n m end puts → PutsMake old puts new → IfSome files (λ fs. Comes (Rose n m ⊎ Rose old.faults new.faults) words fs end)
-complete laws words (Some fs) n m end puts old new a makes = λ l.
-    let P : Case → Type 0 = λ case. HasTask case l.task in
-    let o = is_of l.task a.case end (subst P (sym a.is) l.is) a.valid in
-    comes_by laws (Rose n m ⊎ Rose old.faults new.faults) l.task end l.values l.steps l.settle o.model (ended_of (Rose n m ⊎ Rose old.faults new.faults) l.task a.case end o (ended n m a.case end puts old new a.run makes))
+complete laws words (Some fs) n m end puts old new a makes = complete_by laws words fs n m end puts old new a makes
 complete laws words None n m end puts old new a makes = tt

@@ -1,15 +1,18 @@
 -- What the words and the files come to.
 use Rattle.std.specs.Prelude.{◌≡◌, ℕ, List, Result, Ok, Err, Option, Some, None, IfOk, codes, if◌then◌else◌, option_and_then}
 use Rattle.outside.specs.Files.{File}
-use Rattle.outside.specs.Inputs.{file_refusal}
+use Rattle.outside.specs.Inputs.{file_at, file_refusal}
 use Rattle.outside.specs.Names.{is_good_name}
 use Rattle.outside.specs.declared.codes.Code.TheVariants.{BadName}
 use Rattle.outside.specs.declared.refusals.Refusal.{Refusal}
-use Rattle.command_line.specs.Wants.{Wanted, Lists, Makes, wanted_of}
+use Rattle.command_line.specs.Wants.{Wanted, Lists, Checks, Makes, wanted_of}
 use Rattle.model_types.specs.declared.model.FlowModel.{FlowModel}
 use Rattle.model_types.specs.Valid.{IsModel}
 use Rattle.model_reader.specs.Model.{reads}
 use Rattle.model_maker.specs.Files.{made_files, made_name}
+use Rattle.listing_io.specs.declared.listing.ListedStep.{ListedStep}
+use Rattle.listing_io.specs.Listed.{AreListed}
+use Rattle.listing_io.specs.Reading.{listing_in}
 use Rattle.run_puts.specs.Lines.{Text}
 use Rattle.listing_run.specs.declared.task.Task.{Task}
 
@@ -19,15 +22,23 @@ pub record Asked : Type 0 where
   pub digits : ℕ
   pub rounds : ℕ
 
--- A command: to list a model, or to make one of this seed, with so many rows and columns, and sum it up.
+-- A check that the words ask for: the name of the name file, that of the listing, and the digits of conductances.
+pub record AskedCheck : Type 0 where
+  pub name : Text
+  pub listing : Text
+  pub digits : ℕ
+
+-- A command: to list a model; to make one of this seed, with so many rows and columns, and sum it up; or to check a listing of a model.
 pub data Command : Type 0 where
   Run : Asked → Command
   Make : ℕ → ℕ → Command
+  Check : AskedCheck → Command
 
--- What is built of the commands: `run`, without a zone file and without a watching seat, and `make`. The number of workers stands in no definition.
+-- What is built of the commands: `run`, without a zone file and without a watching seat, `make`, and `check`. The number of workers stands in no definition.
 abbrev pub built : Wanted → Option Command
 built (Lists name digits workers rounds None None) = Some (Run (record { name = name; digits = digits; rounds = rounds }))
 built (Makes seed size) = Some (Make seed size)
+built (Checks name listing digits) = Some (Check (record { name = name; listing = listing; digits = digits }))
 built other = None
 
 -- the command that the words ask for; where there is none, they aren't taken
@@ -38,35 +49,59 @@ asked_in words = option_and_then built (wanted_of words)
 abbrev pub task_of : Asked → FlowModel → Task
 task_of asked m = record { model = m; digits = asked.digits; zones = None; rounds = asked.rounds }
 
--- What a run comes to: the words aren't taken; this is the first refusal; this is listed; or of this seed and size a model is made, whose files read as this one or have this refusal.
+-- What a run comes to: the words aren't taken; this is the first refusal; this is listed; of this seed and size a model is made, whose files read as this one or have this refusal; or these steps of a listing of a model are checked, with so many digits.
 pub data Case : Type 0 where
   NoWords : Case
   Refuses : Refusal → Case
   Listing : Task → Case
   Making : ℕ → ℕ → Result FlowModel Refusal → Case
-
-abbrev pub case_read : Asked → Result FlowModel Refusal → Case
-case_read asked (Ok m) = Listing (task_of asked m)
-case_read asked (Err refusal) = Refuses refusal
+  Checking : FlowModel → ℕ → List ListedStep → Case
 
 -- what a name stands for, where files under it read so; a name that isn't taken is refused before any file
-abbrev pub named : Text → (Text → Result FlowModel Refusal) → Result FlowModel Refusal
+abbrev pub named : {T : Type 0} → Text → (Text → Result T Refusal) → Result T Refusal
 named name read = if is_good_name name then read name else Err (file_refusal BadName (codes "-"))
 
 -- what the files of a made model read as
 abbrev pub made_model : ℕ → ℕ → Result FlowModel Refusal
 made_model seed size = named made_name (reads (made_files seed size))
 
-abbrev pub case_asked : Option Command → (Text → Result FlowModel Refusal) → Case
-case_asked None read = NoWords
-case_asked (Some (Run asked)) read = case_read asked (named asked.name read)
-case_asked (Some (Make seed size)) read = Making seed size (made_model seed size)
+-- the steps of a file's bytes, as a listing of a model
+abbrev pub steps_in : AskedCheck → FlowModel → Result (List ℕ) Refusal → Result (List ListedStep) Refusal
+steps_in asked m (Ok bytes) = listing_in m asked.digits asked.listing bytes
+steps_in asked m (Err refusal) = Err refusal
+
+-- the steps of the listing that a check names; its name is tested once the model was read
+abbrev pub listing_read : List File → AskedCheck → FlowModel → Result (List ListedStep) Refusal
+listing_read files asked m = named asked.listing (λ name. steps_in asked m (file_at files name))
+
+abbrev pub case_read : Asked → Result FlowModel Refusal → Case
+case_read asked (Ok m) = Listing (task_of asked m)
+case_read asked (Err refusal) = Refuses refusal
+
+abbrev pub case_listed : AskedCheck → FlowModel → Result (List ListedStep) Refusal → Case
+case_listed asked m (Ok steps) = Checking m asked.digits steps
+case_listed asked m (Err refusal) = Refuses refusal
+
+abbrev pub case_checked : AskedCheck → Result FlowModel Refusal → (FlowModel → Result (List ListedStep) Refusal) → Case
+case_checked asked (Ok m) listed = case_listed asked m (listed m)
+case_checked asked (Err refusal) listed = Refuses refusal
+
+-- what a command comes to, where models and listings read so
+abbrev pub case_asked : Option Command → (Text → Result FlowModel Refusal) → (AskedCheck → FlowModel → Result (List ListedStep) Refusal) → Case
+case_asked None read listed = NoWords
+case_asked (Some (Run asked)) read listed = case_read asked (named asked.name read)
+case_asked (Some (Make seed size)) read listed = Making seed size (made_model seed size)
+case_asked (Some (Check asked)) read listed = case_checked asked (named asked.name read) (listed asked)
 
 -- what these words and files come to
 abbrev pub case_of : List Text → List File → Case
-case_of words files = case_asked (asked_in words) (reads files)
+case_of words files = case_asked (asked_in words) (reads files) (listing_read files)
 
--- What they come to over a folder. One that tells no files has some that read as a valid model, or that have a refusal.
+-- what could be read of a folder that tells no files: a valid model and steps of it, or a refusal
+abbrev pub CouldRead : Result FlowModel Refusal → Result (List ListedStep) Refusal → Type 0
+CouldRead read listed = IfOk read (λ m. IsModel m × IfOk listed (AreListed m))
+
+-- What they come to over a folder. One that tells no files has some that could be read so.
 abbrev pub IsCase : List Text → Option (List File) → Case → Type 0
 IsCase words (Some files) case = case ≡ case_of words files
-IsCase words None case = (read : Result FlowModel Refusal) × IfOk read IsModel × (case ≡ case_asked (asked_in words) (λ name. read))
+IsCase words None case = (read : Result FlowModel Refusal) × (listed : Result (List ListedStep) Refusal) × CouldRead read listed × (case ≡ case_asked (asked_in words) (λ name. read) (λ asked m. named asked.listing (λ name. listed)))

@@ -2,17 +2,23 @@
 use Rattle.std.specs.Prelude.{ℕ, ◌≤◌}
 use Rattle.settle_driver.specs.Phases.{IsPlan}
 use Rattle.engine.specs.declared.asked.Asked.{Asked as AskedBy}
+use Rattle.engine.specs.declared.asked.AskedCheck.{AskedCheck as AskedCheckBy}
 use Rattle.engine.specs.declared.asked.Command.{Command as CommandBy}
 use Rattle.engine.specs.declared.asked.Command.TheVariants as command
-use Rattle.engine.specs.Cases.{Asked, Command, Run, Make}
+use Rattle.engine.specs.Cases.{Asked, AskedCheck, Command, Run, Make, Check}
 
 -- the listing that is asked for; how it is settled stands in no definition, but for its rounds
 abbrev pub asked_of : AskedBy → Asked
 asked_of a = record { name = a.name.now; digits = a.digits; rounds = a.plan.rounds }
 
+-- the check that is asked for
+abbrev pub check_of : AskedCheckBy → AskedCheck
+check_of a = record { name = a.name.now; listing = a.listing.now; digits = a.digits }
+
 abbrev pub command_of : CommandBy → Command
 command_of (command.Run a) = Run (asked_of a)
 command_of (command.Make seed size) = Make seed size
+command_of (command.Check a) = Check (check_of a)
 
 -- the ranges of its numbers
 abbrev pub IsAsked : AskedBy → Type 0
@@ -24,3 +30,4 @@ IsMakeable seed size = (seed ≤ 2147483647) × (1 ≤ size) × (size ≤ 64)
 abbrev pub IsCommand : CommandBy → Type 0
 IsCommand (command.Run a) = IsAsked a
 IsCommand (command.Make seed size) = IsMakeable seed size
+IsCommand (command.Check a) = a.digits ≤ 18

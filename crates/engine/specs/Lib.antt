@@ -1,6 +1,8 @@
 pub mod Headline
+pub mod Certified
 pub mod Cases
 pub mod Made
+pub mod Checked
 pub mod Commands
 pub mod Defined
 pub mod Runs

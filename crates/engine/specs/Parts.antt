@@ -11,7 +11,9 @@ use Rattle.outside.specs.declared.refusals.InputFault.TheVariants as input
 use Rattle.model_types.specs.declared.model.FlowModel.{FlowModel}
 use Rattle.model_types.specs.Valid.{IsModel}
 use Rattle.model_reader.specs.Model.{reads}
-use Rattle.listing_io.specs.LastLines.{refused_line, no_bound_line, unfinished_line}
+use Rattle.listing_io.specs.declared.listing.ListedStep.{ListedStep}
+use Rattle.listing_io.specs.Listed.{AreListed}
+use Rattle.listing_io.specs.LastLines.{refused_line, no_bound_line, not_certified_line, unfinished_line}
 use Rattle.listing_run.specs.declared.task.Task.{Task}
 use Rattle.listing_summary.specs.declared.stop.Stop.{Stop}
 use Rattle.listing_summary.specs.declared.stop.Stop.TheVariants.{NoBound, Unfinished, Memory}
@@ -22,7 +24,10 @@ use Rattle.run_puts.specs.Lines.{Text, read_fault_line}
 use Rattle.run_puts.specs.Runs.{IsRun}
 use Rattle.run_puts.specs.declared.status.Status.{Status}
 use Rattle.run_puts.specs.declared.status.Status.TheVariants as status
-use Rattle.engine.specs.Cases.{Case, Listing, Making, IsCase, made_model, named}
+use Rattle.check_run.specs.declared.verdict.Verdict.{Verdict}
+use Rattle.check_run.specs.declared.verdict.Verdict.TheVariants.{Certified, Fails, Refused as Unbounded}
+use Rattle.engine.specs.Cases.{AskedCheck, Case, Listing, Making, Checking, IsCase, listing_read, made_model, named}
+use Rattle.engine.specs.Checked.{certified_line}
 use Rattle.engine.specs.Made.{IsMade}
 use Rattle.engine.specs.Runs.{IsRunOf}
 
@@ -43,14 +48,20 @@ abbrev pub IsReadAs : Text → Option (List File) → Result FlowModel InputFaul
 IsReadAs name (Some files) answer = IsReading (λ m. m) (named name (reads files)) answer
 IsReadAs name None answer = (read : Result FlowModel Refusal) × IfOk read IsModel × IsReading (λ m. m) (named name (λ n. read)) answer
 
+-- A reading gave the steps that a check names: by the folder's files, or where it tells none by some that are steps of the model or have a refusal.
+abbrev pub IsListedAs : AskedCheck → FlowModel → Option (List File) → Result (List ListedStep) InputFault → Type 0
+IsListedAs asked m (Some files) answer = IsReading (λ l. l) (listing_read files asked m) answer
+IsListedAs asked m None answer = (listed : Result (List ListedStep) Refusal) × IfOk listed (AreListed m) × IsReading (λ l. l) (named asked.listing (λ n. listed)) answer
+
 -- a run that stopped before it had read all
 abbrev pub IsStopped : Status → Type 0
 IsStopped end = (end ≡ status.ReadFault) ⊎ ((end ≡ status.WriteFault) ⊎ (end ≡ status.Memory))
 
--- the model of a listing or of made files is valid, but where it wasn't read whole
+-- the model of a listing or of made files is valid, and so are the steps that are checked, but where they weren't read whole
 abbrev pub IsValid : Case → Status → Type 0
 IsValid (Listing k) end = IsModel k.model ⊎ IsStopped end
 IsValid (Making seed size read) end = IfOk read IsModel ⊎ IsStopped end
+IsValid (Checking m s steps) end = (IsModel m × AreListed m steps) ⊎ IsStopped end
 IsValid other end = Unit {0}
 
 -- all that a run comes to
@@ -77,3 +88,13 @@ IsUnreadEnd input.Memory end puts = IsWanting end puts
 pub record IsMadeRun (seed size : ℕ) (end : Status) (puts : List Put) : Type 0 where
   pub run : IsRun (IsMade seed size (made_model seed size)) (λ pieces. ⊥) end puts
   pub valid : IfOk (made_model seed size) IsModel ⊎ IsStopped end
+
+-- the puts of a verdict's line
+abbrev pub IsVerdictEnd : FlowModel → Verdict → Status → List Put → Type 0
+IsVerdictEnd m Certified end puts = IsLast certified_line status.Ok end puts
+IsVerdictEnd m (Fails at place) end puts = IsEnd (not_certified_line m.grid at place) (status.NotCertified at.period at.step place) end puts
+IsVerdictEnd m (Unbounded at n) end puts = IsEnd (no_bound_line m.grid at n) (status.NoBound at.period at.step n) end puts
+
+-- a check puts one piece, and never breaks off behind one
+abbrev pub IsUncut : List Text → Type 0
+IsUncut pieces = ⊥

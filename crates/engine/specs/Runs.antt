@@ -3,7 +3,9 @@ use Rattle.std.specs.Prelude.{◌≡◌, ◌⊎◌, ℕ, List, Ok, Option}
 use Rattle.outside.specs.Counts.{Rose}
 use Rattle.outside.specs.Files.{File}
 use Rattle.outside.specs.Puts.{Put}
+use Rattle.model_types.specs.declared.model.FlowModel.{FlowModel}
 use Rattle.model_types.specs.Times.{times}
+use Rattle.listing_io.specs.declared.listing.ListedStep.{ListedStep}
 use Rattle.run_puts.specs.Lines.{Text}
 use Rattle.run_puts.specs.Runs.{IsRun}
 use Rattle.run_puts.specs.declared.status.Status.{Status}
@@ -11,7 +13,9 @@ use Rattle.run_puts.specs.declared.status.Status.TheVariants as status
 use Rattle.listing_run.specs.declared.task.Task.{Task}
 use Rattle.listing_run.specs.declared.step.Step.{Step}
 use Rattle.listing_run.specs.Steps.{Whole, AllSteps, AllSettle}
-use Rattle.engine.specs.Cases.{Case, Listing, Making, IsCase, case_of}
+use Rattle.check_run.specs.declared.verdict.Verdict.TheVariants.{Certified}
+use Rattle.check_run.specs.Verdicts.{IsVerdict}
+use Rattle.engine.specs.Cases.{Case, Listing, Making, Checking, IsCase, case_of}
 use Rattle.engine.specs.Made.{made_task}
 use Rattle.engine.specs.Defined.{Defines, Due, CutOf}
 
@@ -50,6 +54,14 @@ pub record HasListing (words : List Text) (files : List File) : Type 0 where
   pub steps : AllSteps task values Whole
   pub settle : AllSettle task steps.start (times task.model) values
 
--- Then the listing or its summary comes, but for a fault outside and want of memory.
+-- The words ask for a check, the files read as a model and a listing of it, and its verdict is that it is certified.
+pub record HasCertified (words : List Text) (files : List File) : Type 0 where
+  pub model : FlowModel
+  pub digits : ℕ
+  pub steps : List ListedStep
+  pub is : case_of words files ≡ Checking model digits steps
+  pub verdict : IsVerdict model digits steps Certified
+
+-- Then the listing, its summary or the verdict comes, but for a fault outside and want of memory.
 abbrev pub Comes : Type 0 → List Text → List File → Status → Type 0
-Comes fault words files end = HasListing words files → fault ⊎ ((end ≡ status.Ok) ⊎ (end ≡ status.Memory))
+Comes fault words files end = HasListing words files ⊎ HasCertified words files → fault ⊎ ((end ≡ status.Ok) ⊎ (end ≡ status.Memory))

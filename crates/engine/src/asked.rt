@@ -19,11 +19,20 @@ pub(crate) struct Asked<'a> {
     pub(crate) plan: Plan,
 }
 
+/// A check that is asked for: the name of its name file, that of the listing, and the digits of conductances.
+#[derive(Clone, Copy, Debug, PartialEq, Eq)]
+pub(crate) struct AskedCheck<'a> {
+    pub(crate) name: &'a str,
+    pub(crate) listing: &'a str,
+    pub(crate) digits: u32,
+}
+
 /// A command that is built.
 #[derive(Clone, Copy, Debug, PartialEq, Eq)]
 pub(crate) enum Command<'a> {
     Run(Asked<'a>),
     Make { seed: u32, size: u32 },
+    Check(AskedCheck<'a>),
 }
 
 /// What is listed of a made model, with the digits, the workers and the rounds of a run whose words give none.
@@ -59,6 +68,15 @@ pub(crate) fn command_of<'a>(order: Order<'a>) -> Option<Command<'a>>
             },
         })),
         Order::Make { seed, size } => Some(Command::Make { seed, size }),
+        Order::Check {
+            name,
+            listing,
+            digits,
+        } => Some(Command::Check(AskedCheck {
+            name,
+            listing,
+            digits,
+        })),
         _ => None,
     }
 }

@@ -2,6 +2,7 @@
 #![tactic(auto)]
 
 mod asked;
+mod checking;
 mod ending;
 pub mod laws;
 mod listing;

@@ -10,7 +10,7 @@ use outside::{Code, Folder, InputFault, file_refusal, is_good_name};
 use std::alloc::Global;
 
 /// The refusal of a name that isn't taken.
-fn bad_name(alloc: Global) -> InputFault
+pub(crate) fn bad_name(alloc: Global) -> InputFault
     ensures { IsNamedFault result }
 {
     match file_refusal(alloc, Code::BadName, "-") {

@@ -3,16 +3,19 @@ ghost use Rattle.outside.specs.Puts.{Put};
 ghost use Rattle.outside.specs.Counts.{Rose};
 ghost use Rattle.engine.specs.Headline.{Headline};
 ghost use Rattle.engine.specs.Runs.{Puts, Decided, Comes};
-ghost use Rattle.engine.specs.Cases.{asked_in, Make, Run};
+ghost use Rattle.engine.specs.Cases.{asked_in, AskedCheck, Check, Make, Run};
 ghost use Rattle.engine.specs.Commands.{asked_of, IsAsked};
 ghost use Rattle.engine.specs.Made.{Made};
+ghost use Rattle.engine.specs.Certified.{Certified};
 ghost use Rattle.engine.specs.Parts.{Answers};
 
 use crate::asked::{Asked, Command, command_of};
+use crate::checking::check;
 use crate::ending::end_reading;
 use crate::listing::put_listing;
 use crate::making::put_made;
 use crate::reading::read_named;
+use check_run::laws::one_verdict;
 use command_line::{WordsFault, read_order};
 use listing_run::Task;
 use listing_run::laws::one_listing;
@@ -26,8 +29,10 @@ const USAGE: &[u8] =
 
 /// Does what the words ask: `run NAME` reads the model of that name file from the folder and puts its listing to
 /// `out`, step by step; `make SEED SIZE` makes a model, for which the folder isn't asked, and puts the summary of its
-/// listing. Nothing is put to `side`. Workers in threads settle each step, and pass the gate before each turn. Other
-/// commands, a zone file and a watching seat aren't built yet, and are answered with the usage line.
+/// listing; `check NAME LISTING` reads the model and a listing of it, whoever wrote it, and puts whether it is certified,
+/// or else the first place that fails. Nothing is put to `side`. Workers in threads settle each step, and pass the gate
+/// before each turn; a check has none. Other commands, a zone file and a watching seat aren't built yet, and are answered
+/// with the usage line.
 pub fn run<R: Threads + Sync, F: Folder, K: Sink + Send, W: Sink + Send, G: Gate + Sync>(
     rt: &R,
     alloc: Global,
@@ -44,14 +49,19 @@ pub fn run<R: Threads + Sync, F: Folder, K: Sink + Send, W: Sink + Send, G: Gate
     // The folder tells the same files.
     ensures files { F.files folder.new ≡ F.files folder.old }
 
-    // The headline: of a listing, or of the listing that a made model's summary sums up.
+    // The headline: of a listing, of the listing that a made model's summary sums up, or of one that was checked.
     ensures headline { result ≡ Status.Ok → IfSome (F.files folder.old) (λ files.
         Headline (map (λ w. w.now) words.now) files (K.seen out.old).written (K.seen out.new).written
-        ⊎ Made (map (λ w. w.now) words.now) (K.seen out.old).written (K.seen out.new).written) }
+        ⊎ (Made (map (λ w. w.now) words.now) (K.seen out.old).written (K.seen out.new).written
+        ⊎ Certified (map (λ w. w.now) words.now) files (K.seen out.old).written (K.seen out.new).written)) }
 
     // Of a made model it holds whatever the folder is.
     ensures made { result ≡ Status.Ok → (seed size : ℕ) → asked_in (map (λ w. w.now) words.now) ≡ Some (Make seed size) →
         Made (map (λ w. w.now) words.now) (K.seen out.old).written (K.seen out.new).written }
+
+    // A check that ends Ok certifies the listing that the words name.
+    ensures certified { result ≡ Status.Ok → (asked : AskedCheck) → asked_in (map (λ w. w.now) words.now) ≡ Some (Check asked) → IfSome (F.files folder.old) (λ files.
+        Certified (map (λ w. w.now) words.now) files (K.seen out.old).written (K.seen out.new).written) }
 
     // The causes that are counts.
     ensures read_fault { result ≡ Status.ReadFault → Rose (F.faults folder.old) (F.faults folder.new) }
@@ -65,6 +75,7 @@ pub fn run<R: Threads + Sync, F: Folder, K: Sink + Send, W: Sink + Send, G: Gate
 {
     let _side = side;
     one_listing();
+    one_verdict();
     answer(rt, alloc, words, folder, out, gate)
 }
 
@@ -90,6 +101,7 @@ fn answer<R: Threads + Sync, F: Folder, K: Sink + Send, G: Gate + Sync>(
         None => put_last(out, USAGE, Status::Usage),
         Some(Command::Run(asked)) => list(rt, alloc, asked, folder, out, gate),
         Some(Command::Make { seed, size }) => put_made(rt, alloc, seed, size, out, gate),
+        Some(Command::Check(asked)) => check(alloc, asked, folder, out),
     }
 }
 

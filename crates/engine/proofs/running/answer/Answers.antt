@@ -1,7 +1,7 @@
 use Rattle.std.proofs.Common.{◌≡◌, ◌∙◌, ℕ, List, map, Err, Option, Some, None, ap, sym}
 use Rattle.engine.specs.declared.asked.Command.{Command as CommandBy}
-use Rattle.engine.specs.Cases.{Command, asked_in, Make, Run}
-use Rattle.engine.specs.Commands.{asked_of, command_of}
+use Rattle.engine.specs.Cases.{Command, asked_in, Check, Make, Run}
+use Rattle.engine.specs.Commands.{asked_of, check_of, command_of}
 use Rattle.engine.proofs.Ends.{asked_by, asked_none, ends_usage, ends_made, ends_without_words, no_words}
 use Rattle.engine.proofs.running.answer.Goals as goal
 
@@ -41,3 +41,9 @@ returns-in-Some-Make-clause-answers g c = λ start puts h.
     let words : List (List ℕ) = map (λ w. w.now) c.args.words.now in
     let wanted : asked_in words ≡ Some (Make c.in-Some-Make.seed c.in-Some-Make.size) = asked_by words _ (Some (Make c.in-Some-Make.seed c.in-Some-Make.size)) c.in-Ok.ensures.order (by_variant _ _ _ c.in-Some-Make.field-0-is c.in-Some-Make.ensures.is) in
     (m.0, m.1, ends_made words c.in-Some-Make.seed c.in-Some-Make.size wanted (g.F.Folder.files c.args.folder.now) (g.F.Folder.faults c.args.folder.now) _ c.put_made.result m.0 m.2)
+
+pub returns-in-Some-Check-clause-answers : goal.returns-in-Some-Check-clause-answers
+returns-in-Some-Check-clause-answers g c = λ start puts h.
+    let m = c.check.ensures.answers start puts h in
+    let words : List (List ℕ) = map (λ w. w.now) c.args.words.now in
+    (m.0, m.1, m.2 words (asked_by words _ (Some (Check (check_of c.in-Some-Check.asked))) c.in-Ok.ensures.order (by_variant _ _ _ c.in-Some-Check.field-0-is c.in-Some-Check.ensures.is)))

@@ -1,0 +1,117 @@
+-- What a check that ended Ok says, and that a check has one end.
+use Rattle.std.proofs.Common.{◌≡◌, ◌⊎◌, ℕ, List, [], ◌∷◌, Option, Some, None, Result, Ok, Err, map, subst, sym, ap, refl, inl, inr, ◌∙◌}
+use Rattle.outside.specs.Files.{File}
+use Rattle.outside.specs.Puts.{Put, Seen, PutsMake, taken}
+use Rattle.outside.specs.declared.refusals.Refusal.{Refusal}
+use Rattle.model_types.specs.declared.model.FlowModel.{FlowModel}
+use Rattle.model_types.specs.Valid.{IsModel}
+use Rattle.model_reader.specs.Model.{reads}
+use Rattle.listing_io.specs.declared.listing.ListedStep.{ListedStep}
+use Rattle.listing_io.specs.Listed.{AreListed}
+use Rattle.run_puts.specs.Lines.{Text}
+use Rattle.run_puts.specs.declared.status.Status.{Status}
+use Rattle.run_puts.specs.declared.status.Status.TheVariants as status
+use Rattle.run_puts.proofs.Makes.{all_written}
+use Rattle.listing_run.specs.Listing.{time}
+use Rattle.check_run.specs.declared.verdict.Verdict.{Verdict}
+use Rattle.check_run.specs.declared.verdict.Verdict.TheVariants.{Certified as Holds, Fails, Refused as Unbounded}
+use Rattle.check_run.specs.Laws.{VerdictIsOne}
+use Rattle.check_run.specs.Verdicts.{IsVerdict}
+use Rattle.engine.specs.Cases.{Asked, AskedCheck, Case, Command, Run, Make, Check, NoWords, Refuses, Listing, Making, Checking, asked_in, case_asked, case_checked, case_listed, case_of, case_read, listing_read, made_model, named, task_of}
+use Rattle.engine.specs.Certified.{Certified}
+use Rattle.engine.specs.Checked.{IsCheck, certified_line}
+use Rattle.engine.specs.Defined.{Defines}
+use Rattle.engine.specs.Parts.{IsStopped}
+use Rattle.engine.proofs.Readings.{named_read}
+
+module _ (words : List Text) (files : List File) (old new : Seen) (puts : List Put) (pieces : List Text) (asked : AskedCheck) (wanted : asked_in words ≡ Some (Check asked)) (written : puts ≡ map taken pieces) (makes : PutsMake old puts new) where
+  of_steps : (f : FlowModel) → named asked.name (reads files) ≡ Ok f → (r : Result (List ListedStep) Refusal) → listing_read files asked f ≡ r → Defines (case_listed asked f r) status.Ok pieces → Certified words files old.written new.written
+  of_steps f read (Ok steps) listed d = record {
+    asked = asked;
+    wanted = wanted;
+    model = f;
+    read = named_read asked.name (reads files) f read;
+    steps = steps;
+    listed = listed;
+    verdict = d.verdict;
+    written = all_written (certified_line ∷ []) old new puts (written ∙ ap (map taken) d.are) makes;
+    encloses = d.encloses;
+  }
+  of_steps f read (Err refusal) listed d = absurd (let bad : status.Ok ≡ status.Refused refusal = d.0 in cc)
+
+  of_model : (r : Result FlowModel Refusal) → named asked.name (reads files) ≡ r → Defines (case_checked asked r (listing_read files asked)) status.Ok pieces → Certified words files old.written new.written
+  of_model (Ok f) read d = of_steps f read (listing_read files asked f) refl d
+  of_model (Err refusal) read d = absurd (let bad : status.Ok ≡ status.Refused refusal = d.0 in cc)
+
+  pub of_check : Defines (case_of words files) status.Ok pieces → Certified words files old.written new.written
+  of_check d =
+      let P : Option Command → Type 0 = λ a. Defines (case_asked a (reads files) (listing_read files)) status.Ok pieces in
+      of_model (named asked.name (reads files)) refl (subst P wanted d)
+
+-- a check comes to a refusal, or to steps that are checked
+pub checked_case : (P : Case → Type 0) → ((refusal : Refusal) → P (Refuses refusal)) → ((m : FlowModel) (s : ℕ) (steps : List ListedStep) → P (Checking m s steps)) → (asked : AskedCheck) (r : Result FlowModel Refusal) (listed : FlowModel → Result (List ListedStep) Refusal) → P (case_checked asked r listed)
+checked_case P refuses checks asked (Err refusal) listed = refuses refusal
+checked_case P refuses checks asked (Ok f) listed = by_listing (listed f)
+  where
+    by_listing : (l : Result (List ListedStep) Refusal) → P (case_listed asked f l)
+    by_listing (Ok steps) = checks f asked.digits steps
+    by_listing (Err refusal) = refuses refusal
+
+-- where steps are checked, the words ask for a check
+module _ (words : List Text) (files : List File) (m : FlowModel) (s : ℕ) (steps : List ListedStep) where
+  no_check : (asked : Asked) (r : Result FlowModel Refusal) → case_read asked r ≡ Checking m s steps → ⊥
+  no_check asked (Ok f) e = let bad : Listing (task_of asked f) ≡ Checking m s steps = e in cc
+  no_check asked (Err refusal) e = let bad : Refuses refusal ≡ Checking m s steps = e in cc
+
+  check_by_words : (a : Option Command) → asked_in words ≡ a → case_asked a (reads files) (listing_read files) ≡ Checking m s steps → (asked : AskedCheck) × (asked_in words ≡ Some (Check asked))
+  check_by_words None wanted e = absurd (let bad : NoWords ≡ Checking m s steps = e in cc)
+  check_by_words (Some (Run asked)) wanted e = absurd (no_check asked (named asked.name (reads files)) e)
+  check_by_words (Some (Make seed size)) wanted e = absurd (let bad : Making seed size (made_model seed size) ≡ Checking m s steps = e in cc)
+  check_by_words (Some (Check asked)) wanted e = (asked, wanted)
+
+  pub asks_check : case_of words files ≡ Checking m s steps → (asked : AskedCheck) × (asked_in words ≡ Some (Check asked))
+  asks_check e = check_by_words (asked_in words) refl e
+
+-- A check has one end.
+
+abbrev status_by : Verdict → Status
+status_by Holds = status.Ok
+status_by (Fails at place) = status.NotCertified at.period at.step place
+status_by (Unbounded at n) = status.NoBound at.period at.step n
+
+module _ (m : FlowModel) (s : ℕ) (steps : List ListedStep) where
+  record IsBy (end : Status) : Type 0 where
+    verdict : Verdict
+    is : IsVerdict m s steps verdict
+    end_is : end ≡ status_by verdict
+
+  end_by : (end : Status) (q : List Text) → IsCheck m s steps end q → IsBy end
+  end_by status.Ok q h = record { verdict = Holds; is = h.verdict; end_is = refl }
+  end_by (status.NotCertified period step place) q h = record { verdict = Fails (time period step) place; is = h.0; end_is = refl }
+  end_by (status.NoBound period step n) q h = record { verdict = Unbounded (time period step) n; is = h.0; end_is = refl }
+  end_by status.Usage q h = absurd h
+  end_by (status.Refused refusal) q h = absurd h
+  end_by (status.Unfinished period step) q h = absurd h
+  end_by status.ReadFault q h = absurd h
+  end_by status.WriteFault q h = absurd h
+  end_by status.Memory q h = absurd h
+
+  pub one_end : VerdictIsOne → IsModel m → AreListed m steps → (meant end : Status) (p q : List Text) → IsCheck m s steps meant p → IsCheck m s steps end q → end ≡ meant
+  one_end law model listed meant end p q x y =
+      let a = end_by meant p x in
+      let b = end_by end q y in
+      b.end_is ∙ ap status_by (law m s steps b.verdict a.verdict model listed b.is a.is) ∙ sym a.end_is
+
+  pub never_stopped_check : (end : Status) (q : List Text) → IsStopped end → IsCheck m s steps end q → ⊥
+  never_stopped_check end q (inl e) y = let P : Status → Type 0 = λ t. IsCheck m s steps t q in subst P e y
+  never_stopped_check end q (inr (inl e)) y = let P : Status → Type 0 = λ t. IsCheck m s steps t q in subst P e y
+  never_stopped_check end q (inr (inr e)) y = let P : Status → Type 0 = λ t. IsCheck m s steps t q in subst P e y
+
+  -- where the verdict is that the listing is certified, no other end comes
+  pub certifies : VerdictIsOne → IsVerdict m s steps Holds → (fault : Type 0) (end : Status) → (IsModel m × AreListed m steps) ⊎ IsStopped end → fault ⊎ ((end ≡ status.Memory) ⊎ ((q : List Text) × IsCheck m s steps end q)) → fault ⊎ ((end ≡ status.Ok) ⊎ (end ≡ status.Memory))
+  certifies law verdict fault end valid (inl f) = inl f
+  certifies law verdict fault end valid (inr (inl e)) = inr (inr e)
+  certifies law verdict fault end (inl (model, listed)) (inr (inr (q, y))) =
+      let b = end_by end q y in
+      inr (inl (b.end_is ∙ ap status_by (law m s steps b.verdict Holds model listed b.is verdict)))
+  certifies law verdict fault end (inr stops) (inr (inr (q, y))) = absurd (never_stopped_check end q stops y)

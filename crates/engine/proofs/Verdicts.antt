@@ -1,0 +1,74 @@
+-- The ends of a check, by its readings and its verdict.
+use Rattle.std.proofs.Common.{◌≡◌, ℕ, List, Ok, Err, Result, Option, None, Some, IfOk, inl, refl, sym, ap, subst, ◌∙◌}
+use Rattle.outside.specs.Counts.{InputCounts}
+use Rattle.outside.specs.Files.{File}
+use Rattle.outside.specs.Puts.{Put}
+use Rattle.outside.specs.declared.refusals.InputFault.{InputFault}
+use Rattle.outside.specs.declared.refusals.InputFault.TheVariants as input
+use Rattle.outside.specs.declared.refusals.Refusal.{Refusal}
+use Rattle.model_types.specs.declared.model.FlowModel.{FlowModel}
+use Rattle.model_types.specs.Valid.{IsModel}
+use Rattle.model_reader.specs.Model.{reads}
+use Rattle.listing_io.specs.declared.listing.ListedStep.{ListedStep}
+use Rattle.listing_io.specs.Listed.{AreListed}
+use Rattle.listing_io.specs.LastLines.{no_bound_line, not_certified_line}
+use Rattle.run_puts.specs.Ends.{IsWanting}
+use Rattle.run_puts.specs.Lines.{Text}
+use Rattle.run_puts.specs.Runs.{IsRun}
+use Rattle.run_puts.specs.declared.status.Status.{Status}
+use Rattle.run_puts.specs.declared.status.Status.TheVariants as status
+use Rattle.run_puts.proofs.Pieces.{lone}
+use Rattle.check_run.specs.declared.verdict.Verdict.{Verdict}
+use Rattle.check_run.specs.declared.verdict.Verdict.TheVariants.{Certified, Fails, Refused}
+use Rattle.check_run.specs.Verdicts.{IsVerdict, ListingEncloses}
+use Rattle.engine.specs.Cases.{AskedCheck, Case, Command, Check, Refuses, Checking, IsCase, CouldRead, asked_in, case_asked, case_checked, case_listed, listing_read, named}
+use Rattle.engine.specs.Checked.{IsCheck, certified_line}
+use Rattle.engine.specs.Parts.{Answers, IsListedAs, IsReadAs, IsReadingEnd, IsUncut, IsVerdictEnd}
+use Rattle.engine.proofs.Ends.{checked, could_read, ends_without_words, no_steps, refused, same_steps, some_case, unreadable}
+use Rattle.engine.proofs.Readings.{named_read}
+
+module _ (m : FlowModel) (s : ℕ) (steps : List ListedStep) where
+  pub puts_verdict : (v : Verdict) (end : Status) (puts : List Put) → IsVerdict m s steps v → (v ≡ Certified → ListingEncloses m s steps) → IsVerdictEnd m v end puts → IsRun (IsCheck m s steps) IsUncut end puts
+  puts_verdict Certified end puts is encloses h = lone (IsCheck m s steps) IsUncut certified_line status.Ok end puts (record { verdict = is; encloses = encloses refl; are = refl }) (inl h)
+  puts_verdict (Fails at place) end puts is encloses h = lone (IsCheck m s steps) IsUncut (not_certified_line m.grid at place) (status.NotCertified at.period at.step place) end puts (is, refl) h
+  puts_verdict (Refused at n) end puts is encloses h = lone (IsCheck m s steps) IsUncut (no_bound_line m.grid at n) (status.NoBound at.period at.step n) end puts (is, refl) h
+
+-- the ends of a check
+module _ (words : List Text) (files : Option (List File)) (n m : ℕ) (asked : AskedCheck) (wanted : asked_in words ≡ Some (Check asked)) where
+  check_case : (read : Text → Result FlowModel Refusal) (listed : AskedCheck → FlowModel → Result (List ListedStep) Refusal) (r : Result FlowModel Refusal) → named asked.name read ≡ r → case_checked asked r (listed asked) ≡ case_asked (asked_in words) read listed
+  check_case read listed r is =
+      let P : Option Command → Type 0 = λ a. case_checked asked r (listed asked) ≡ case_asked a read listed in
+      subst P (sym wanted) (ap (λ x. case_checked asked x (listed asked)) (sym is))
+
+  unread_case : (files : Option (List File)) (refusal : Refusal) → IsReadAs asked.name files (Err (input.Refused refusal)) → IsCase words files (Refuses refusal)
+  unread_case (Some fs) refusal h = check_case (reads fs) (listing_read fs) (Err refusal) h
+  unread_case None refusal (read, valid, h) = (read, no_steps, could_read read valid, check_case (λ name. read) (same_steps no_steps) (Err refusal) h)
+
+  -- a model was read, and then what the check names as r
+  read_both : (f : FlowModel) (read : Result FlowModel Refusal) (listed : Result (List ListedStep) Refusal) → named asked.name (λ name. read) ≡ Ok f → IsModel f → IfOk listed (AreListed f) → CouldRead read listed
+  read_both f read listed is model fits =
+      let e : read ≡ Ok f = named_read asked.name (λ name. read) f is in
+      let P : Result FlowModel Refusal → Type 0 = λ r. CouldRead r listed in
+      subst P (sym e) (model, fits)
+
+  steps_case : (files : Option (List File)) (f : FlowModel) → IsReadAs asked.name files (Ok f) → IsModel f → (steps : List ListedStep) → IsListedAs asked f files (Ok steps) → IsCase words files (Checking f asked.digits steps)
+  steps_case (Some fs) f h model steps l = ap (case_listed asked f) (sym l) ∙ check_case (reads fs) (listing_read fs) (Ok f) h
+  steps_case None f (read, valid, h) model steps (listed, fits, l) = (read, listed, read_both f read listed h model fits, ap (case_listed asked f) (sym l) ∙ check_case (λ name. read) (same_steps listed) (Ok f) h)
+
+  unlisted_case : (files : Option (List File)) (f : FlowModel) → IsReadAs asked.name files (Ok f) → IsModel f → (refusal : Refusal) → IsListedAs asked f files (Err (input.Refused refusal)) → IsCase words files (Refuses refusal)
+  unlisted_case (Some fs) f h model refusal l = ap (case_listed asked f) (sym l) ∙ check_case (reads fs) (listing_read fs) (Ok f) h
+  unlisted_case None f (read, valid, h) model refusal (listed, fits, l) = (read, listed, read_both f read listed h model fits, ap (case_listed asked f) (sym l) ∙ check_case (λ name. read) (same_steps listed) (Ok f) h)
+
+  pub ends_unread : (fault : InputFault) (end : Status) (puts : List Put) → IsReadAs asked.name files (Err fault) → InputCounts {T = FlowModel} n m (Err fault) → IsReadingEnd fault end puts → Answers words files n m end puts
+  ends_unread (input.Refused refusal) end puts reads counts h = refused words files n m refusal end puts (unread_case files refusal reads) h
+  ends_unread input.ReadFault end puts reads counts h = let c = some_case words files in unreadable words files n m c.case end puts c.is (c.check_worded asked wanted) counts h
+  ends_unread input.Memory end puts reads counts h = ends_without_words words files n m end puts h
+
+  module _ (f : FlowModel) (read : IsReadAs asked.name files (Ok f)) (model : IsModel f) where
+    pub ends_unlisted : (fault : InputFault) (end : Status) (puts : List Put) → IsListedAs asked f files (Err fault) → InputCounts {T = List ListedStep} n m (Err fault) → IsReadingEnd fault end puts → Answers words files n m end puts
+    ends_unlisted (input.Refused refusal) end puts lists counts h = refused words files n m refusal end puts (unlisted_case files f read model refusal lists) h
+    ends_unlisted input.ReadFault end puts lists counts h = let c = some_case words files in unreadable words files n m c.case end puts c.is (c.check_worded asked wanted) counts h
+    ends_unlisted input.Memory end puts lists counts h = ends_without_words words files n m end puts h
+
+    pub ends_check : (steps : List ListedStep) (end : Status) (puts : List Put) → IsListedAs asked f files (Ok steps) → AreListed f steps → IsRun (IsCheck f asked.digits steps) IsUncut end puts → Answers words files n m end puts
+    ends_check steps end puts lists listed h = checked words files n m f asked.digits steps end puts (steps_case files f read model steps lists) model listed h

@@ -1,0 +1,140 @@
+// The check of a listing of the folder.
+ghost use Rattle.std.specs.Prelude.{◌≡◌, ◌≤◌, List, ◌++◌, IfOk, MatchResult, Some};
+ghost use Rattle.outside.specs.Counts.{InputCounts};
+ghost use Rattle.outside.specs.Puts.{Put};
+ghost use Rattle.model_types.specs.Valid.{IsModel};
+ghost use Rattle.listing_io.specs.Listed.{AreListed};
+ghost use Rattle.run_puts.specs.Lines.{Text};
+ghost use Rattle.run_puts.specs.Ends.{IsLast, IsWanting};
+ghost use Rattle.run_puts.specs.Runs.{IsRun};
+ghost use Rattle.engine.specs.Checked.{IsCheck};
+ghost use Rattle.engine.specs.Cases.{asked_in, Check};
+ghost use Rattle.engine.specs.Commands.{check_of};
+ghost use Rattle.engine.specs.Parts.{Answers, IsListedAs, IsUncut, IsVerdictEnd};
+
+use crate::asked::AskedCheck;
+use crate::ending::end_reading;
+use crate::reading::{bad_name, read_named};
+use check_run::{Verdict, check_listing};
+use listing_io::{Listing, read_listing, write_no_bound, write_not_certified};
+use model_types::FlowModel;
+use outside::{Folder, InputFault, Sink, is_good_name, read_input};
+use run_puts::{Status, put_last, put_memory};
+use std::alloc::{AllocError, Global};
+
+/// The listing of a model that a check names. The name is tested before the file is read.
+pub(crate) fn read_listed<F: Folder>(
+    alloc: Global,
+    folder: &mut F,
+    model: &FlowModel,
+    asked: AskedCheck,
+) -> Result<Listing, InputFault>
+    requires model { IsModel model.now }
+    requires digits { asked.digits ≤ 18 }
+    ensures files { F.files folder.new ≡ F.files folder.old }
+    ensures counts { InputCounts (F.faults folder.old) (F.faults folder.new) result }
+    ensures reads { IsListedAs (check_of asked.entry) model.now (F.files folder.old) result }
+    ensures listed { IfOk result (AreListed model.now) }
+{
+    if !is_good_name(asked.listing.as_bytes()) {
+        return Err(bad_name(alloc));
+    }
+    let bytes = read_input(alloc, folder, asked.listing)?;
+    let listing = read_listing(
+        alloc,
+        model,
+        asked.listing,
+        bytes.as_slice(),
+        asked.digits,
+    )?;
+    Ok(listing)
+}
+
+// Puts a last line, or the line MEMORY where memory was wanting for it.
+fn put_line<K: Sink>(out: &mut K, line: Result<Vec<u8>, AllocError>, meant: Status) -> Status
+    ensures { (start : _) (puts : List Put) → K.leads start puts out.old →
+        (tail : List Put) × K.leads start (puts ++ tail) out.new × MatchResult line (λ text. IsLast text.items meant result tail) (λ _. IsWanting result tail) }
+{
+    match line {
+        Ok(text) => put_last(out, text.as_slice(), meant),
+        Err(_) => put_memory(out),
+    }
+}
+
+// Puts the line of a verdict.
+fn put_verdict<K: Sink>(alloc: Global, model: &FlowModel, verdict: Verdict, out: &mut K) -> Status
+    requires { IsModel model.now }
+    ensures { (start : _) (puts : List Put) → K.leads start puts out.old →
+        (more : List Put) × K.leads start (puts ++ more) out.new × IsVerdictEnd model.now verdict result more }
+{
+    match verdict {
+        Verdict::Certified => put_last(out, b"CERTIFIED\n", Status::Ok),
+        Verdict::Fails(at, place) => {
+            let line = write_not_certified(alloc, &model.grid, at, place);
+            put_line(
+                out,
+                line,
+                Status::NotCertified {
+                    period: at.period,
+                    step: at.step,
+                    place,
+                },
+            )
+        }
+        Verdict::Refused(at, fault) => {
+            let line = write_no_bound(alloc, &model.grid, at, fault);
+            put_line(
+                out,
+                line,
+                Status::NoBound {
+                    period: at.period,
+                    step: at.step,
+                    fault,
+                },
+            )
+        }
+    }
+}
+
+/// Checks a listing of a model, and puts the line of its verdict.
+pub(crate) fn put_check<K: Sink>(
+    alloc: Global,
+    model: &FlowModel,
+    listing: &Listing,
+    digits: u32,
+    out: &mut K,
+) -> Status
+    requires model { IsModel model.now }
+    requires digits { digits ≤ 18 }
+    requires listing { AreListed model.now listing.now }
+    ensures { (start : _) (puts : List Put) → K.leads start puts out.old →
+        (more : List Put) × K.leads start (puts ++ more) out.new × IsRun (IsCheck model.now digits listing.now) IsUncut result more }
+{
+    match check_listing(alloc, model, listing, digits) {
+        Ok(verdict) => put_verdict(alloc, model, verdict, out),
+        Err(_) => put_memory(out),
+    }
+}
+
+/// Reads a model of the folder and a listing of it, and puts the line of its verdict.
+pub(crate) fn check<'a, F: Folder, K: Sink>(
+    alloc: Global,
+    asked: AskedCheck<'a>,
+    folder: &mut F,
+    out: &mut K,
+) -> Status
+    requires { asked.digits ≤ 18 }
+    ensures files { F.files folder.new ≡ F.files folder.old }
+    ensures answers { (start : _) (puts : List Put) → K.leads start puts out.old →
+        (more : List Put) × K.leads start (puts ++ more) out.new
+        × ((words : List Text) → asked_in words ≡ Some (Check (check_of asked.entry)) → Answers words (F.files folder.old) (F.faults folder.old) (F.faults folder.new) result more) }
+{
+    let model = match read_named(alloc, folder, asked.name) {
+        Ok(model) => model,
+        Err(fault) => return end_reading(alloc, fault, out),
+    };
+    match read_listed(alloc, folder, &model, asked) {
+        Ok(listing) => put_check(alloc, &model, &listing, asked.digits, out),
+        Err(fault) => end_reading(alloc, fault, out),
+    }
+}
