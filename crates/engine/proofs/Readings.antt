@@ -20,7 +20,7 @@ use Rattle.run_puts.specs.Lines.{Text}
 use Rattle.listing_io.specs.declared.listing.ListedStep.{ListedStep}
 use Rattle.listing_io.specs.Listed.{AreListed}
 use Rattle.listing_io.specs.Reading.{listing_in}
-use Rattle.engine.specs.Cases.{AskedCheck, listing_read, named, steps_in}
+use Rattle.engine.specs.Cases.{AskedCheck, named, steps_in}
 use Rattle.engine.specs.Parts.{IsListedAs, IsNamedFault, IsReadAs}
 
 not_good : (name : Text) → (IsGoodName name → ⊥) → is_good_name name ≡ false
@@ -81,13 +81,13 @@ bad_listed asked m None fault bad is = (no_steps, tt, bad_reading asked.listing 
 
 module _ (asked : AskedCheck) (m : FlowModel) (good : IsGoodName asked.listing) where
   -- the file's reading failed
-  pub unread_file : {T : Type 0} (view : T → List ℕ) (files : Option (List File)) (fault : InputFault) → IfSome files (λ fs. IsReading {T = T} view (file_at fs asked.listing) (Err fault)) → IsListedAs asked m files (Err fault)
-  unread_file view (Some fs) (input.Refused refusal) h = good_named asked.listing (λ name. steps_in asked m (file_at fs name)) good ∙ ap (steps_in asked m) h
-  unread_file view (Some fs) input.ReadFault h = tt
-  unread_file view (Some fs) input.Memory h = tt
-  unread_file view None (input.Refused refusal) h = (Err refusal, tt, good_named asked.listing (λ name. Err refusal) good)
-  unread_file view None input.ReadFault h = (no_steps, tt, tt)
-  unread_file view None input.Memory h = (no_steps, tt, tt)
+  pub unread_file : {T : Type 0} (answer : Result T InputFault) (view : T → List ℕ) (files : Option (List File)) (fault : InputFault) → IfSome files (λ fs. IsReading {T = T} view (file_at fs asked.listing) (Err fault)) → IsListedAs asked m files (Err fault)
+  unread_file answer view (Some fs) (input.Refused refusal) h = good_named asked.listing (λ name. steps_in asked m (file_at fs name)) good ∙ ap (steps_in asked m) h
+  unread_file answer view (Some fs) input.ReadFault h = tt
+  unread_file answer view (Some fs) input.Memory h = tt
+  unread_file answer view None (input.Refused refusal) h = (Err refusal, tt, good_named asked.listing (λ name. Err refusal) good)
+  unread_file answer view None input.ReadFault h = (no_steps, tt, tt)
+  unread_file answer view None input.Memory h = (no_steps, tt, tt)
 
   -- its bytes were read, and then as a listing
   pub read_bytes : (files : Option (List File)) (bytes : List ℕ) (answer : Result (List ListedStep) InputFault) → IfSome files (λ fs. file_at fs asked.listing ≡ Ok bytes) → IsReading (λ l. l) (listing_in m asked.digits asked.listing bytes) answer → IfOk answer (AreListed m) → IsListedAs asked m files answer

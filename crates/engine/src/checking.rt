@@ -40,13 +40,7 @@ pub(crate) fn read_listed<F: Folder>(
         return Err(bad_name(alloc));
     }
     let bytes = read_input(alloc, folder, asked.listing)?;
-    let listing = read_listing(
-        alloc,
-        model,
-        asked.listing,
-        bytes.as_slice(),
-        asked.digits,
-    )?;
+    let listing = read_listing(alloc, model, asked.listing, bytes.as_slice(), asked.digits)?;
     Ok(listing)
 }
 

@@ -20,8 +20,8 @@ returns-in-Ok-read_listed-clause-answers g c = λ start puts h.
     let L : Option (List File) → Type 0 = λ files. IsListedAs asked c.in-Ok.model files (Ok c.in-Ok-read_listed.listing) in
     (m.0, m.1, λ words wanted. ends_check words (g.F.Folder.files c.args.folder.now) (g.F.Folder.faults c.args.folder.now) _ asked wanted c.in-Ok.model c.in-Ok.ensures.reads c.in-Ok.ensures.model c.in-Ok-read_listed.listing c.put_check.result m.0 (subst L c.in-Ok.ensures.files c.in-Ok-read_listed.ensures.reads) c.in-Ok-read_listed.ensures.listed m.2)
 
-pub returns-in-Err-read_listed-clause-answers : goal.returns-in-Err-read_listed-clause-answers
-returns-in-Err-read_listed-clause-answers g c = λ start puts h.
+pub returns-clause-answers : goal.returns-clause-answers
+returns-clause-answers g c = λ start puts h.
     let m = c.end_reading-in-Err-read_listed.ensures start puts h in
     let asked : AskedCheck = check_of c.args.asked in
     let L : Option (List File) → Type 0 = λ files. IsListedAs asked c.in-Ok.model files (Err c.in-Err-read_listed.fault) in

@@ -1,4 +1,4 @@
-use Rattle.std.proofs.Common.{rules, List, ℕ, subst, IfSome}
+use Rattle.std.proofs.Common.{rules, List, ℕ, subst}
 use Rattle.std.proofs.lemmas.Result.{err_from_is_err_and}
 use Rattle.record_lines.specs.Reading.{StopsText}
 use Rattle.listing_io.specs.Reading.{listing_in}
@@ -16,7 +16,7 @@ pub returns-in_err-bytes-clause-reads : goal.returns-in_err-bytes-clause-reads
 returns-in_err-bytes-clause-reads g c =
     let asked : AskedCheck = check_of c.args.asked in
     let p = err_from_is_err_and c.from_residual.result c.from_residual.ensures.1 in
-    rw (p.1, p.2) (unread_file asked c.args.model.now (search rules) (λ v. v.items) (g.F.Folder.files c.args.folder.now) c.in_err-bytes.field-0.0 c.in_err-bytes.ensures.reads)
+    rw (p.1, p.2) (unread_file asked c.args.model.now (search rules) c.read_input.result (λ v. v.items) (g.F.Folder.files c.args.folder.now) c.in_err-bytes.field-0.0 c.in_err-bytes.ensures.reads)
 
 pub returns-in_err-listing-clause-reads : goal.returns-in_err-listing-clause-reads
 returns-in_err-listing-clause-reads g c =
