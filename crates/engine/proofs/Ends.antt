@@ -1,5 +1,5 @@
 -- The ends of a run, by its words, its reading and its listing.
-use Rattle.std.proofs.Common.{◌≡◌, ℕ, List, [], ◌∷◌, ◌++◌, Ok, Err, Result, Option, None, Some, IfOk, subst, sym, ap, refl, inl, inr, ◌⊎◌, ◌∙◌, codes, option_and_then}
+use Rattle.std.proofs.Common.{◌≡◌, ℕ, List, [], ◌∷◌, Ok, Err, Result, Option, None, Some, IfOk, subst, sym, ap, refl, inl, inr, ◌∙◌, codes, option_and_then}
 use Rattle.outside.specs.Files.{File}
 use Rattle.outside.specs.Counts.{Rose, InputCounts}
 use Rattle.outside.specs.Inputs.{file_refusal}

@@ -1,11 +1,10 @@
 -- The public clauses, from all that a run comes to.
-use Rattle.std.proofs.Common.{◌≡◌, ℕ, Bool, true, false, List, [], ◌∷◌, ◌++◌, Option, Some, None, IfSome, Result, Ok, Err, map, subst, sym, ◌∙◌, ap, refl, inl, inr, ◌⊎◌, codes, if◌then◌else◌}
+use Rattle.std.proofs.Common.{◌≡◌, ℕ, List, [], ◌∷◌, ◌++◌, Option, Some, None, IfSome, Result, Ok, Err, map, subst, sym, ◌∙◌, ap, refl, inl, inr, ◌⊎◌, codes}
 use Rattle.std.proofs.lemmas.List.{append-nil}
 use Rattle.std.specs.Io.KnownBytes.{Appends}
 use Rattle.outside.specs.Files.{File}
 use Rattle.outside.specs.Counts.{Rose}
 use Rattle.outside.specs.Inputs.{file_refusal}
-use Rattle.outside.specs.Names.{is_good_name}
 use Rattle.outside.specs.Puts.{Put, Seen, PutsMake, taken}
 use Rattle.outside.specs.declared.codes.Code.TheVariants.{BadName}
 use Rattle.outside.specs.declared.refusals.Refusal.{Refusal}
@@ -28,14 +27,13 @@ use Rattle.listing_run.specs.Listing.{listing, time, IsListing, IsWhole}
 use Rattle.listing_run.specs.Laws.{ListingIsOne, ListingExcludesRefusal, SettledListingIsClosed, RefusalIsOne}
 use Rattle.listing_summary.specs.declared.summary.Summary.{Summary}
 use Rattle.listing_summary.specs.Texts.{summary_text}
-use Rattle.listing_io.specs.declared.listing.ListedStep.{ListedStep}
 use Rattle.check_run.specs.Laws.{VerdictIsOne}
 use Rattle.engine.specs.Cases.{Asked, AskedCheck, Case, Command, Run, Make, Check, NoWords, Refuses, Listing, Making, Checking, IsCase, asked_in, case_asked, case_of, case_read, listing_read, made_model, named, task_of}
 use Rattle.engine.specs.Certified.{Certified}
 use Rattle.engine.specs.Checked.{IsCheck}
 use Rattle.engine.specs.Defined.{CutOf, Defines, Due, defined, unread}
 use Rattle.engine.specs.Headline.{Headline}
-use Rattle.engine.specs.Made.{IsMade, IsSummed, Made, made_task}
+use Rattle.engine.specs.Made.{IsSummed, Made, made_task}
 use Rattle.engine.specs.Runs.{Decided, Comes, HasCertified, HasListing, HasTask, IsRunOf, IsUnfinished}
 use Rattle.engine.specs.Parts.{Answers, IsStopped, IsValid}
 use Rattle.engine.proofs.Certifying.{asks_check, certifies, checked_case, never_stopped_check, of_check, one_end}

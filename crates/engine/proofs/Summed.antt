@@ -1,5 +1,5 @@
 -- The ends of the run of a made model.
-use Rattle.std.proofs.Common.{◌≡◌, ℕ, List, [], ◌∷◌, ◌++◌, Ok, Err, Result, IfOk, MatchResult, subst, sym, ap, refl, inl, inr, ◌⊎◌, ◌∙◌}
+use Rattle.std.proofs.Common.{◌≡◌, ℕ, List, [], ◌∷◌, Ok, Err, Result, IfOk, MatchResult, subst, sym, refl, inl, inr}
 use Rattle.outside.specs.Inputs.{IsReading}
 use Rattle.outside.specs.Puts.{Put}
 use Rattle.outside.specs.declared.refusals.InputFault.{InputFault}
@@ -10,7 +10,6 @@ use Rattle.model_types.specs.Valid.{IsModel}
 use Rattle.listing_io.specs.LastLines.{no_bound_line, refused_line, unfinished_line}
 use Rattle.run_puts.specs.Ends.{IsEnd, IsWanting}
 use Rattle.run_puts.specs.Lines.{Text}
-use Rattle.run_puts.specs.Runs.{IsRun}
 use Rattle.run_puts.specs.declared.status.Status.{Status}
 use Rattle.run_puts.specs.declared.status.Status.TheVariants as status
 use Rattle.run_puts.proofs.Pieces.{lone, lacks_at_first}
@@ -22,7 +21,7 @@ use Rattle.listing_summary.specs.declared.stop.Stop.TheVariants.{NoBound, Unfini
 use Rattle.listing_summary.specs.declared.summary.Summary.{Summary}
 use Rattle.engine.specs.Cases.{made_model}
 use Rattle.engine.specs.Made.{IsMade, made_task}
-use Rattle.engine.specs.Parts.{IsMadeRun, IsStopped, IsSummaryEnd, IsUnreadEnd}
+use Rattle.engine.specs.Parts.{IsMadeRun, IsSummaryEnd, IsUnreadEnd}
 use Rattle.engine.proofs.Ends.{wanting_stops}
 
 module _ (seed size : ℕ) where

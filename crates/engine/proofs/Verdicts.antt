@@ -12,7 +12,6 @@ use Rattle.model_reader.specs.Model.{reads}
 use Rattle.listing_io.specs.declared.listing.ListedStep.{ListedStep}
 use Rattle.listing_io.specs.Listed.{AreListed}
 use Rattle.listing_io.specs.LastLines.{no_bound_line, not_certified_line}
-use Rattle.run_puts.specs.Ends.{IsWanting}
 use Rattle.run_puts.specs.Lines.{Text}
 use Rattle.run_puts.specs.Runs.{IsRun}
 use Rattle.run_puts.specs.declared.status.Status.{Status}
@@ -21,7 +20,7 @@ use Rattle.run_puts.proofs.Pieces.{lone}
 use Rattle.check_run.specs.declared.verdict.Verdict.{Verdict}
 use Rattle.check_run.specs.declared.verdict.Verdict.TheVariants.{Certified, Fails, Refused}
 use Rattle.check_run.specs.Verdicts.{IsVerdict, ListingEncloses}
-use Rattle.engine.specs.Cases.{AskedCheck, Case, Command, Check, Refuses, Checking, IsCase, CouldRead, asked_in, case_asked, case_checked, case_listed, listing_read, named}
+use Rattle.engine.specs.Cases.{AskedCheck, Command, Check, Refuses, Checking, IsCase, CouldRead, asked_in, case_asked, case_checked, case_listed, listing_read, named}
 use Rattle.engine.specs.Checked.{IsCheck, certified_line}
 use Rattle.engine.specs.Parts.{Answers, IsListedAs, IsReadAs, IsReadingEnd, IsUncut, IsVerdictEnd}
 use Rattle.engine.proofs.Ends.{checked, could_read, ends_without_words, no_steps, refused, same_steps, some_case, unreadable}

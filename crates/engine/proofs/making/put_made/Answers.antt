@@ -1,6 +1,5 @@
-use Rattle.std.proofs.Common.{◌≡◌, List, Ok, Err, Some, subst, rules}
-use Rattle.outside.specs.Files.{File}
-use Rattle.engine.proofs.Summed.{made_lacking, made_summed, made_unread, match_summed}
+use Rattle.std.proofs.Common.{rules}
+use Rattle.engine.proofs.Summed.{made_lacking, made_summed, made_unread}
 use Rattle.engine.proofs.making.put_made.Goals as goal
 
 pub returns-in_default : goal.returns-in_default

@@ -1,4 +1,3 @@
-use Rattle.std.proofs.Common.{List, ℕ}
 use Rattle.engine.specs.Commands.{asked_of}
 use Rattle.engine.proofs.Ends.{ends_reading, ends_listing}
 use Rattle.engine.proofs.running.list.Goals as goal
