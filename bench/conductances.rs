@@ -1,4 +1,5 @@
 // Nanoseconds of each call that rounds a conductance, a flow or a given head: the proved calls beside plain Rust.
+#[allow(dead_code)]
 mod decimals;
 
 use decimals::{Number, add_dn, add_up, div_dn, div_up, mul_dn, mul_up, of_units_dn, wide_units};
