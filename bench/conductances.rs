@@ -1,7 +1,8 @@
 // Nanoseconds of each call that rounds a conductance, a flow or a given head: the proved calls beside plain Rust.
+#[allow(dead_code)]
 mod decimals;
 
-use decimals::{Number, add_dn, add_up, div_dn, div_up, mul_dn, mul_up, of_units_dn, units};
+use decimals::{Number, add_dn, add_up, div_dn, div_up, mul_dn, mul_up, of_units_dn, wide_units};
 use std::hint::black_box;
 use std::time::Instant;
 
@@ -84,11 +85,21 @@ mod plain {
 
     const ONE: Word = Word { digits: 1, exp: 0 };
 
-    fn pair(span: Span, s: u32) -> Both {
-        Both {
-            lo: units(span.lo.m, span.lo.e, s, false),
-            hi: units(span.hi.m, span.hi.e, s, true),
+    // None where the upper bound reaches the limit.
+    fn pair_below(span: Span, s: u32, limit: u128) -> Both {
+        let lo = wide_units(span.lo.m, span.lo.e, s, false);
+        let hi = wide_units(span.hi.m, span.hi.e, s, true).filter(|hi| *hi < limit);
+        match (lo, hi) {
+            (Some(lo), Some(hi)) => Both {
+                lo: lo as u64,
+                hi: hi as u64,
+            },
+            _ => Both { lo: 0, hi: 0 },
         }
+    }
+
+    fn pair(span: Span, s: u32) -> Both {
+        pair_below(span, s, 1 << 60)
     }
 
     fn half(along: Span, width: Span, k: Span, thick: Span) -> Span {
@@ -129,7 +140,7 @@ mod plain {
 
     #[inline(never)]
     pub extern "C" fn recharge(d: Word, w: Word, h: Word, _: Word, _: Word, _: Number, _: Number) -> Both {
-        pair(word(h).times(word(d)).times(word(w)), 21)
+        pair_below(word(h).times(word(d)).times(word(w)), 21, 1 << 126)
     }
 
     #[inline(never)]

@@ -104,22 +104,24 @@ pub extern "C" fn of_units_up(units: u64, places: u16) -> Number {
     front(units as u128, -(places as i16), true, false)
 }
 
-pub fn units(m: u64, e: i16, s: u32, up: bool) -> u64 {
+/// So many units of 10 ^ -s, rounded to a side, where they are fewer than 2^126.
+pub fn wide_units(m: u64, e: i16, s: u32, up: bool) -> Option<u128> {
     let shift = e as i32 + s as i32;
     if shift >= 0 {
-        match 10u128
+        10u128
             .checked_pow(shift as u32)
             .and_then(|unit| unit.checked_mul(m as u128))
-        {
-            Some(n) if n < 1 << 126 => n as u64,
-            _ => 0,
-        }
+            .filter(|n| *n < 1 << 126)
     } else if shift <= -19 {
-        (up && m > 0) as u64
+        Some((up && m > 0) as u128)
     } else {
         let unit = 10u64.pow(-shift as u32);
-        m / unit + (up && m % unit != 0) as u64
+        Some((m / unit + (up && m % unit != 0) as u64) as u128)
     }
+}
+
+fn units(m: u64, e: i16, s: u32, up: bool) -> u64 {
+    wide_units(m, e, s, up).map_or(0, |n| n as u64)
 }
 #[inline(never)]
 pub extern "C" fn floor_units(m: u64, e: i16, s: u32) -> u64 {

@@ -1,4 +1,5 @@
 // Nanoseconds of each operation on 18-digit decimals: the proved calls beside plain Rust over u128.
+#[allow(dead_code)]
 mod decimals;
 
 use decimals::Number;

@@ -1,14 +1,11 @@
 -- A summary, from one line HEAD and one step to the next, and what the calls that count hand to each other.
-use Rattle.std.specs.Prelude.{◌≡◌, ℕ, ◌+◌, ◌*◌, pos, ◌+ℤ◌, List, [], ◌≤◌, length}
+use Rattle.std.specs.Prelude.{◌+◌, ◌*◌, pos, ◌+ℤ◌, List}
 use Rattle.std.specs.Int.{int_max}
 use Rattle.std.specs.List.{fold}
 use Rattle.step_problem.specs.declared.heads.Bound.{Bound}
 use Rattle.step_problem.specs.Conditions.{IsWithin, head_limit}
 use Rattle.model_types.specs.declared.model.FlowModel.{FlowModel}
 use Rattle.model_types.specs.declared.time_steps.TimeStep.{TimeStep}
-use Rattle.problem_builder.specs.GridHeads.{AreGridHeads}
-use Rattle.listing_run.specs.declared.task.Task.{Task}
-use Rattle.listing_run.specs.declared.step.Step.{Step}
 use Rattle.listing_run.specs.declared.step.Fault.{Fault}
 use Rattle.listing_run.specs.declared.step.Fault.TheVariants as fault
 use Rattle.listing_summary.specs.declared.summary.Summary.{Summary}

@@ -1,5 +1,5 @@
 -- One more text in a row of texts, and the draws that go with it.
-use Rattle.std.proofs.Common.{◌≡◌, ℕ, zero, suc, ◌+◌, ◌*◌, List, [], ◌∷◌, ◌++◌, refl, sym, ap, ◌∙◌, arith, subst}
+use Rattle.std.proofs.Common.{◌≡◌, ℕ, zero, suc, ◌+◌, ◌*◌, ◌++◌, refl, sym, ap, ◌∙◌, arith, subst}
 use Rattle.std.proofs.lemmas.List.{append_assoc, append-nil}
 use Rattle.model_maker.specs.Draws.{after, next_state}
 use Rattle.model_maker.specs.Files.{Text, gap, hk_row, hk_text, texts_below}

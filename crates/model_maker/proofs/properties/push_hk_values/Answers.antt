@@ -1,4 +1,4 @@
-use Rattle.std.proofs.Common.{◌++◌, sym, refl}
+use Rattle.std.proofs.Common.{◌++◌}
 use Rattle.model_maker.specs.Draws.{after}
 use Rattle.model_maker.specs.Files.{gap, hk_text}
 use Rattle.model_maker.proofs.Texts.{after_none, no_text, one_value, next_value}

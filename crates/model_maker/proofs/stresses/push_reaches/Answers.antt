@@ -1,4 +1,3 @@
-use Rattle.std.proofs.Common.{rules}
 use Rattle.model_maker.specs.Files.{reach_text}
 use Rattle.model_maker.proofs.Texts.{no_text, one_more}
 use Rattle.model_maker.proofs.stresses.push_reaches.Goals as goal
