@@ -13,7 +13,7 @@ use Rattle.array_reader.specs.Kinds.{whole}
 use Rattle.model_types.specs.declared.grid.Grid.{Grid}
 use Rattle.period_arrays.specs.Layers.{refusal_at}
 
--- a zone's number is from 1 to 999, and 0 is no zone
+-- a cell's zone is 1 to 999, or 0 where it is in none
 abbrev pub IsZone : ℤ → Type 0
 IsZone z = (pos 0 ≤ℤ z) × (z ≤ℤ pos 999)
 
@@ -27,11 +27,11 @@ abbrev pub wrong_at : List ℕ → Grid → Option ℕ → Result (Unit {0}) Ref
 wrong_at file grid None = Ok tt
 wrong_at file grid (Some cell) = Err (refusal_at BadProperty file grid cell)
 
--- the first such cell, by ascending number
+-- the first such cell, by ascending number of the cells
 unfoldable pub zones_tested : List ℕ → Grid → List ℤ → Result (Unit {0}) Refusal
 zones_tested file grid zones = wrong_at file grid (position (λ z. not (is_zone z)) zones)
 
--- The zones of the cells of a grid under a file's name that a command gives: the name is tested first, then the file is read, an array for each layer, and then all numbers are tested.
+-- The zones that a file gives the cells of a grid, under a name of a command, which is refused with the file '-': an array for each layer, from the file's first line, and once all are read the test of all numbers.
 unfoldable pub zones_of : List File → Grid → List ℕ → Result (List ℤ) Refusal
 zones_of files grid name = do
   file ← name_at (codes "-") 0 name

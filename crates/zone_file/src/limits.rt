@@ -27,12 +27,7 @@ fn first_wrong(zones: &[i64]) -> Option<usize>
 /// The first cell, by ascending number, whose zone is below 0 or above 999 is refused, with line 0 and its layer, row
 /// and column.
 #[tactic(auto, unfolding(crate::specs::Zones::zones_tested))]
-pub fn zones_tested(
-    alloc: Global,
-    file: &str,
-    grid: &Grid,
-    zones: &[i64],
-) -> Result<(), TextFault>
+pub fn zones_tested(alloc: Global, file: &str, grid: &Grid, zones: &[i64]) -> Result<(), TextFault>
     requires size { HasSize grid.now }
     requires count { length zones.now ≡ cell_count grid.now }
     ensures test { HasText (λ _. tt) result (zones_tested file.now grid.now zones.now) }
@@ -40,12 +35,6 @@ pub fn zones_tested(
 {
     match first_wrong(zones) {
         None => Ok(()),
-        Some(cell) => Err(cell_refused(
-            alloc,
-            Code::BadProperty,
-            file,
-            grid,
-            cell as u32,
-        )),
+        Some(cell) => Err(cell_refused(alloc, Code::BadProperty, file, grid, cell as u32)),
     }
 }

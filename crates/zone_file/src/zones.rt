@@ -14,13 +14,14 @@ use outside::{Folder, InputFault};
 use record_lines::Lines;
 use std::alloc::Global;
 
-/// The zone of each cell of a model, by cell, from 0 to 999, where 0 is no zone. `name` is the name of their file, as
-/// a command gives it, and `folder` has this file and those that its arrays name.
+/// The zones of a model, one for each cell: 1 to 999, or 0 for a cell in no zone. `name` is the name of their file as a
+/// command gives it, which may be any, and `folder` has this file and those that its arrays name.
 ///
 /// # Errors
-/// BadName with the file "-" and line 0, MissingFile and TooLong with line 0; what is wrong in an array, on its line;
-/// then BadProperty, with line 0 and the cell, for the first zone out of its limits. A read fault comes only from the
-/// folder. (This program's own; TM 6-A16, array reader U2DINT)
+/// BadName, with the file `-` and line 0, before any file is read; then MissingFile or TooLong with line 0; then what
+/// is wrong in an array, on its line; and once all are read, BadProperty, with line 0 and the cell, for the first cell
+/// whose number is below 0 or above 999. A read fault comes only from the folder. (This program's own; TM 6-A16, array
+/// reader U2DINT)
 #[tactic(auto, unfolding(crate::specs::Zones::zones_of))]
 pub fn read_zones<F: Folder>(
     alloc: Global,
@@ -36,18 +37,11 @@ pub fn read_zones<F: Folder>(
     ensures limits { IfOk result (λ v. All IsZone v.items) }
 {
     let grid = &model.grid;
+    let (layers, rows, cols) = (grid.layers, grid.rows, grid.cols);
     let file = name_of(alloc, name.as_bytes(), "-", 0)?;
     let bytes = open_file(alloc, folder, file)?;
     let mut lines = Lines::new(&bytes);
-    let zones = read_layers::<i64, F>(
-        alloc,
-        &mut lines,
-        file,
-        folder,
-        grid.layers,
-        grid.rows,
-        grid.cols,
-    )?;
+    let zones = read_layers::<i64, F>(alloc, &mut lines, file, folder, layers, rows, cols)?;
     zones_tested(alloc, file, grid, &zones)?;
     Ok(zones)
 }
