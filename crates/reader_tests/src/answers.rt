@@ -51,11 +51,24 @@ fn print_model(rt: &impl Print, model: &FlowModel) -> io::Result<()> {
     print_option(rt, "NEVTOP", model.nevtop)
 }
 
+fn print_fault(rt: &impl Print, fault: &InputFault) -> io::Result<()> {
+    match fault {
+        InputFault::Refused(refusal) => print_refusal(rt, refusal),
+        InputFault::ReadFault => println!(rt; "ReadFault"),
+        InputFault::Memory => println!(rt; "Memory"),
+    }
+}
+
 pub fn print_answer(rt: &impl Print, answer: &Result<FlowModel, InputFault>) -> io::Result<()> {
     match answer {
         Ok(model) => print_model(rt, model),
-        Err(InputFault::Refused(refusal)) => print_refusal(rt, refusal),
-        Err(InputFault::ReadFault) => println!(rt; "ReadFault"),
-        Err(InputFault::Memory) => println!(rt; "Memory"),
+        Err(fault) => print_fault(rt, fault),
+    }
+}
+
+pub fn print_zones(rt: &impl Print, answer: &Result<Vec<i64>, InputFault>) -> io::Result<()> {
+    match answer {
+        Ok(zones) => print_integers(rt, "ZONES", zones.as_slice()),
+        Err(fault) => print_fault(rt, fault),
     }
 }

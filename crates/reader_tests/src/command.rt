@@ -5,6 +5,7 @@ pub enum Command<'a> {
     File(&'a str),
     Fail(u64),
     Read(&'a str),
+    Zones(&'a str, &'a str),
 }
 
 impl<'a> Command<'a> {
@@ -16,6 +17,10 @@ impl<'a> Command<'a> {
             "@file" => Some(Command::File(rest)),
             "@fail" => Some(Command::Fail(rest.parse::<u64>().ok()?)),
             "@read" => Some(Command::Read(rest)),
+            "@zones" => {
+                let (name, zones) = rest.split_once(' ')?;
+                Some(Command::Zones(name, zones))
+            }
             _ => None,
         }
     }

@@ -1,8 +1,12 @@
 // The files of a deck.
+ghost use Rattle.std.specs.Prelude.{IfOk};
+ghost use Rattle.model_types.specs.Valid.{IsModel};
+
 use model_reader::read_named_model;
 use model_types::FlowModel;
 use outside::{InputFault, MemFolder, good_name};
 use std::alloc::{AllocError, Global};
+use zone_file::read_zones;
 
 /// Files in memory, and the file whose lines come now, which has no name between files.
 #[derive(Drop)]
@@ -39,11 +43,24 @@ impl Deck {
     }
 
     /// The model that a name file describes.
-    pub fn read(&mut self, alloc: Global, name: &str) -> Result<FlowModel, InputFault> {
+    pub fn read(&mut self, alloc: Global, name: &str) -> Result<FlowModel, InputFault>
+        ensures { IfOk result IsModel }
+    {
         self.begin_file(alloc, "")?;
         match good_name(name.as_bytes()) {
             Some(name) => read_named_model(alloc, name, &mut self.folder),
             None => Err(InputFault::Memory),
         }
+    }
+
+    /// The zones of the model's cells.
+    pub fn zones(
+        &mut self,
+        alloc: Global,
+        name: &str,
+        zones: &str,
+    ) -> Result<Vec<i64>, InputFault> {
+        let model = self.read(alloc, name)?;
+        read_zones(alloc, &model, zones, &mut self.folder)
     }
 }

@@ -2,8 +2,8 @@
 //! is refused.
 //!
 //! A line `@file NAME` begins a file, whose lines follow it, in place of an earlier file of that name. `@fail N` lets
-//! the folder's call of this number fail. `@read NAME` reads the model of a name file. A line `@ ..` says what is
-//! shown, and is printed.
+//! the folder's call of this number fail. `@read NAME` reads the model of a name file, and `@zones NAME FILE` reads it
+//! and then the zones of its cells, and prints these. A line `@ ..` says what is shown, and is printed.
 #![tactic(auto)]
 
 mod answers;
@@ -12,7 +12,7 @@ mod deck;
 mod lists;
 mod stresses;
 
-use answers::print_answer;
+use answers::{print_answer, print_zones};
 use command::Command;
 use deck::Deck;
 use std::alloc::Global;
@@ -25,6 +25,7 @@ fn step(rt: &impl Print, alloc: Global, deck: &mut Deck, line: &str) -> io::Resu
         Some(Command::File(name)) => Ok(deck.begin_file(alloc, name)?),
         Some(Command::Fail(call)) => Ok(deck.fail_at(call)?),
         Some(Command::Read(name)) => print_answer(rt, &deck.read(alloc, name)),
+        Some(Command::Zones(name, zones)) => print_zones(rt, &deck.zones(alloc, name, zones)),
     }
 }
 

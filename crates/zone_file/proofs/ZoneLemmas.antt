@@ -1,0 +1,17 @@
+-- Zones that pass the test are within their limits.
+use Rattle.std.proofs.Common.{◌≡◌, ℕ, Bool, true, false, not, List, None, All, length, slice_index_or, refl, arith}
+use Rattle.std.specs.Prelude.{ℤ, pos, negsuc, nat_le}
+use Rattle.std.specs.List.{position, position_or_len}
+use Rattle.std.proofs.lemmas.Int.{ints}
+use Rattle.std.proofs.lemmas.List.Sums.{fails_before_first}
+use Rattle.record_lines.proofs.CutLemmas.{place_of_none}
+use Rattle.zone_file.specs.Zones.{IsZone, is_zone}
+
+zone_is : (z : ℤ) → not (is_zone z) ≡ false → IsZone z
+zone_is (pos n) h = grind (arith, ints)
+zone_is (negsuc n) h = absurd cc
+
+pub zones_are : (zones : List ℤ) → position (λ z. not (is_zone z)) zones ≡ None → All IsZone zones
+zones_are zones h = λ k d lt.
+    let end : length zones ≡ position_or_len (λ z. not (is_zone z)) zones = place_of_none _ zones h in
+    zone_is (slice_index_or zones k d) (fails_before_first (λ z. not (is_zone z)) zones k d (omega (arith, end, lt)))

@@ -1,0 +1,7 @@
+//! The zones of a model's cells, out of a file of integer arrays.
+#![tactic(auto)]
+
+mod limits;
+mod zones;
+
+pub use zones::read_zones;

@@ -1,0 +1,47 @@
+// The zones of a model's cells.
+ghost use Rattle.std.specs.Prelude.{◌≡◌, IfOk, IsTrue, is_some, length, All};
+ghost use Rattle.outside.specs.Counts.{InputCounts};
+ghost use Rattle.record_lines.specs.Reading.{Has};
+ghost use Rattle.array_reader.specs.Arrays.{told};
+ghost use Rattle.model_types.specs.Cells.{cell_count};
+ghost use Rattle.model_types.specs.Grids.{HasSize};
+ghost use Rattle.zone_file.specs.Zones.{IsZone, zones_of};
+
+use crate::limits::zones_tested;
+use array_reader::{name_of, open_file, read_layers};
+use model_types::FlowModel;
+use outside::{Folder, InputFault};
+use record_lines::Lines;
+use std::alloc::Global;
+
+/// The zones of a model, one for each cell: 1 to 999, or 0 for a cell in no zone. `name` is the name of their file as a
+/// command gives it, which may be any, and `folder` has this file and those that its arrays name.
+///
+/// # Errors
+/// BadName, with the file `-` and line 0, before any file is read; then MissingFile or TooLong with line 0; then what
+/// is wrong in an array, on its line; and once all are read, BadProperty, with line 0 and the cell, for the first cell
+/// whose number is below 0 or above 999. A read fault comes only from the folder. (This program's own; TM 6-A16, array
+/// reader U2DINT)
+#[tactic(auto, unfolding(crate::specs::Zones::zones_of))]
+pub fn read_zones<F: Folder>(
+    alloc: Global,
+    model: &FlowModel,
+    name: &str,
+    folder: &mut F,
+) -> Result<Vec<i64>, InputFault>
+    requires size { HasSize model.now.grid }
+    ensures files { F.files folder.new ≡ F.files folder.old }
+    ensures counts { InputCounts (F.faults folder.old) (F.faults folder.new) result }
+    ensures zones { IsTrue (is_some (F.files folder.old)) → Has (λ v. v.items) result (zones_of (told (F.files folder.old)) model.now.grid name.now) }
+    ensures count { IfOk result (λ v. length v.items ≡ cell_count model.now.grid) }
+    ensures limits { IfOk result (λ v. All IsZone v.items) }
+{
+    let grid = &model.grid;
+    let (layers, rows, cols) = (grid.layers, grid.rows, grid.cols);
+    let file = name_of(alloc, name.as_bytes(), "-", 0)?;
+    let bytes = open_file(alloc, folder, file)?;
+    let mut lines = Lines::new(&bytes);
+    let zones = read_layers::<i64, F>(alloc, &mut lines, file, folder, layers, rows, cols)?;
+    zones_tested(alloc, file, grid, &zones)?;
+    Ok(zones)
+}
