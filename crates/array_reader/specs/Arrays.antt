@@ -1,5 +1,5 @@
 -- Arrays with their control records, and plain lists.
-use Rattle.std.specs.Prelude.{ℕ, ℤ, ◌*◌, List, [], Option, Some, None, Result, Ok, replicate}
+use Rattle.std.specs.Prelude.{ℕ, ℤ, ◌*◌, List, Result, Ok, replicate}
 use Rattle.decimal_input.specs.declared.dec.Dec.{Dec}
 use Rattle.outside.specs.Files.{File}
 use Rattle.outside.specs.Inputs.{file_at}
@@ -10,11 +10,6 @@ use Rattle.record_lines.specs.Reading.{◌>>=◌, appended}
 use Rattle.array_reader.specs.Control.{Control, constant, internal, named, control_at}
 use Rattle.array_reader.specs.Kinds.{Kind, multiplied, real, whole}
 use Rattle.array_reader.specs.Lists.{free_rows}
-
--- the files that a folder tells; none where it tells none
-abbrev pub told : Option (List File) → List File
-told None = []
-told (Some files) = files
 
 -- so many rows of so many values, by their control record; a file's values begin at its first line
 abbrev pub values_of : {X : Type 0} → Kind X → List File → List ℕ → ℕ → ℕ → Left → Control X → Result (List X × Left) Refusal

@@ -1,9 +1,10 @@
-ghost use Rattle.std.specs.Prelude.{◌≡◌, ◌*◌, length, IfOk, IsTrue, is_some, All};
+ghost use Rattle.std.specs.Prelude.{◌≡◌, ◌*◌, length, IfOk, All, List};
 ghost use Rattle.outside.specs.Counts.{InputCounts};
+ghost use Rattle.outside.specs.Files.{File};
 ghost use Rattle.outside.specs.Inputs.{file_at};
 ghost use Rattle.outside.specs.Names.{IsGoodName};
 ghost use Rattle.record_lines.specs.Reading.{Gives, Has};
-ghost use Rattle.array_reader.specs.Arrays.{told, values_of, array_at};
+ghost use Rattle.array_reader.specs.Arrays.{values_of, array_at};
 ghost use Rattle.array_reader.specs.Seen.{control_of, Has_good};
 
 use crate::control::{Control, control_record};
@@ -21,9 +22,9 @@ pub fn open_file<F: Folder>(
     name: &str,
 ) -> Result<Vec<u8>, InputFault>
     requires { IsGoodName name.now }
-    ensures files { F.files folder.new ≡ F.files folder.old }
+    ensures since { (files : List File) → F.agrees folder.new files → F.agrees folder.old files }
     ensures counts { InputCounts (F.faults folder.old) (F.faults folder.new) result }
-    ensures bytes { IsTrue (is_some (F.files folder.old)) → Has (λ v. v.items) result (file_at (told (F.files folder.old)) name.now) }
+    ensures bytes { (files : List File) → F.agrees folder.new files → Has (λ v. v.items) result (file_at files name.now) }
 {
     read_input(alloc, folder, name)
 }
@@ -39,9 +40,9 @@ fn values_of<V: Value, F: Folder>(
     cols: u32,
 ) -> Result<Vec<V>, InputFault>
     requires good { Has_good V.Good control.now }
-    ensures files { F.files folder.new ≡ F.files folder.old }
+    ensures since { (files : List File) → F.agrees folder.new files → F.agrees folder.old files }
     ensures counts { InputCounts (F.faults folder.old) (F.faults folder.new) result }
-    ensures values { IsTrue (is_some (F.files folder.old)) → Gives (λ v. v.items) result lines.new (values_of V.kind (told (F.files folder.old)) file.now rows cols lines.old (control_of control.now)) }
+    ensures values { (files : List File) → F.agrees folder.new files → Gives (λ v. v.items) result lines.new (values_of V.kind files file.now rows cols lines.old (control_of control.now)) }
     ensures good { IfOk result (λ v. All V.Good v.items) }
     ensures count { IfOk result (λ v. length v.items ≡ rows * cols) }
 {
@@ -69,9 +70,9 @@ pub fn read_array<V: Value, F: Folder>(
     rows: u32,
     cols: u32,
 ) -> Result<(Vec<V>, u32), InputFault>
-    ensures files { F.files folder.new ≡ F.files folder.old }
+    ensures since { (files : List File) → F.agrees folder.new files → F.agrees folder.old files }
     ensures counts { InputCounts (F.faults folder.old) (F.faults folder.new) result }
-    ensures array { IsTrue (is_some (F.files folder.old)) → Gives (λ x. (x.0.items, x.1)) result lines.new (array_at V.kind (told (F.files folder.old)) file.now rows cols lines.old) }
+    ensures array { (files : List File) → F.agrees folder.new files → Gives (λ x. (x.0.items, x.1)) result lines.new (array_at V.kind files file.now rows cols lines.old) }
     ensures good { IfOk result (λ x. All V.Good x.0.items) }
     ensures count { IfOk result (λ x. length x.0.items ≡ rows * cols) }
 {

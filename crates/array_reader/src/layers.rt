@@ -1,8 +1,9 @@
-ghost use Rattle.std.specs.Prelude.{◌≡◌, ◌*◌, length, IfOk, IsTrue, is_some, All};
+ghost use Rattle.std.specs.Prelude.{◌≡◌, ◌*◌, length, IfOk, All, List};
 ghost use Rattle.decimal_input.specs.Canonical.{IsDec};
 ghost use Rattle.outside.specs.Counts.{InputCounts};
+ghost use Rattle.outside.specs.Files.{File};
 ghost use Rattle.record_lines.specs.Reading.{Gives};
-ghost use Rattle.array_reader.specs.Arrays.{told, reals, layer_of, layers, real_layer, integer_layer};
+ghost use Rattle.array_reader.specs.Arrays.{reals, layer_of, layers, real_layer, integer_layer};
 
 use crate::arrays::read_array;
 use crate::kinds::Value;
@@ -20,9 +21,9 @@ pub fn read_reals<F: Folder>(
     folder: &mut F,
     count: u32,
 ) -> Result<Vec<Dec>, InputFault>
-    ensures files { F.files folder.new ≡ F.files folder.old }
+    ensures since { (files : List File) → F.agrees folder.new files → F.agrees folder.old files }
     ensures counts { InputCounts (F.faults folder.old) (F.faults folder.new) result }
-    ensures array { IsTrue (is_some (F.files folder.old)) → Gives (λ v. v.items) result lines.new (reals (told (F.files folder.old)) file.now count lines.old) }
+    ensures array { (files : List File) → F.agrees folder.new files → Gives (λ v. v.items) result lines.new (reals files file.now count lines.old) }
     ensures canonical { IfOk result (λ v. All IsDec v.items) }
     ensures count { IfOk result (λ v. length v.items ≡ count) }
 {
@@ -40,9 +41,9 @@ fn layer_of<V: Value, F: Folder>(
     rows: u32,
     cols: u32,
 ) -> Result<Vec<V>, InputFault>
-    ensures files { F.files folder.new ≡ F.files folder.old }
+    ensures since { (files : List File) → F.agrees folder.new files → F.agrees folder.old files }
     ensures counts { InputCounts (F.faults folder.old) (F.faults folder.new) result }
-    ensures layer { IsTrue (is_some (F.files folder.old)) → Gives (λ v. v.items) result lines.new (layer_of V.kind (told (F.files folder.old)) file.now rows cols lines.old) }
+    ensures layer { (files : List File) → F.agrees folder.new files → Gives (λ v. v.items) result lines.new (layer_of V.kind files file.now rows cols lines.old) }
     ensures good { IfOk result (λ v. All V.Good v.items) }
     ensures count { IfOk result (λ v. length v.items ≡ rows * cols) }
 {
@@ -60,9 +61,9 @@ pub fn read_layer<F: Folder>(
     rows: u32,
     cols: u32,
 ) -> Result<Vec<Dec>, InputFault>
-    ensures files { F.files folder.new ≡ F.files folder.old }
+    ensures since { (files : List File) → F.agrees folder.new files → F.agrees folder.old files }
     ensures counts { InputCounts (F.faults folder.old) (F.faults folder.new) result }
-    ensures array { IsTrue (is_some (F.files folder.old)) → Gives (λ v. v.items) result lines.new (real_layer (told (F.files folder.old)) file.now rows cols lines.old) }
+    ensures array { (files : List File) → F.agrees folder.new files → Gives (λ v. v.items) result lines.new (real_layer files file.now rows cols lines.old) }
     ensures canonical { IfOk result (λ v. All IsDec v.items) }
     ensures count { IfOk result (λ v. length v.items ≡ rows * cols) }
 {
@@ -79,9 +80,9 @@ pub fn read_int_layer<F: Folder>(
     rows: u32,
     cols: u32,
 ) -> Result<Vec<i64>, InputFault>
-    ensures files { F.files folder.new ≡ F.files folder.old }
+    ensures since { (files : List File) → F.agrees folder.new files → F.agrees folder.old files }
     ensures counts { InputCounts (F.faults folder.old) (F.faults folder.new) result }
-    ensures array { IsTrue (is_some (F.files folder.old)) → Gives (λ v. v.items) result lines.new (integer_layer (told (F.files folder.old)) file.now rows cols lines.old) }
+    ensures array { (files : List File) → F.agrees folder.new files → Gives (λ v. v.items) result lines.new (integer_layer files file.now rows cols lines.old) }
     ensures count { IfOk result (λ v. length v.items ≡ rows * cols) }
 {
     layer_of(alloc, lines, file, folder, rows, cols)
@@ -97,9 +98,9 @@ pub fn read_layers<V: Value, F: Folder>(
     rows: u32,
     cols: u32,
 ) -> Result<Vec<V>, InputFault>
-    ensures files { F.files folder.new ≡ F.files folder.old }
+    ensures since { (files : List File) → F.agrees folder.new files → F.agrees folder.old files }
     ensures counts { InputCounts (F.faults folder.old) (F.faults folder.new) result }
-    ensures layers { IsTrue (is_some (F.files folder.old)) → Gives (λ v. v.items) result lines.new (layers V.kind (told (F.files folder.old)) file.now count rows cols lines.old) }
+    ensures layers { (files : List File) → F.agrees folder.new files → Gives (λ v. v.items) result lines.new (layers V.kind files file.now count rows cols lines.old) }
     ensures good { IfOk result (λ v. All V.Good v.items) }
     ensures count { IfOk result (λ v. length v.items ≡ count * (rows * cols)) }
 {

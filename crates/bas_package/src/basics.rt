@@ -1,9 +1,9 @@
 // IBOUND and the starting heads.
-ghost use Rattle.std.specs.Prelude.{◌≡◌, IfOk, IsTrue, is_some, length, All};
+ghost use Rattle.std.specs.Prelude.{◌≡◌, IfOk, length, All, List};
 ghost use Rattle.decimal_input.specs.Canonical.{IsDec};
 ghost use Rattle.outside.specs.Counts.{InputCounts};
+ghost use Rattle.outside.specs.Files.{File};
 ghost use Rattle.record_lines.specs.Reading.{Has};
-ghost use Rattle.array_reader.specs.Arrays.{told};
 ghost use Rattle.model_types.specs.Cells.{cell_count};
 ghost use Rattle.bas_package.specs.Basics.{with_basics, bas_of};
 
@@ -39,9 +39,9 @@ pub fn read_bas<F: Folder>(
     folder: &mut F,
     model: FlowModel,
 ) -> Result<FlowModel, InputFault>
-    ensures files { F.files folder.new ≡ F.files folder.old }
+    ensures since { (files : List File) → F.agrees folder.new files → F.agrees folder.old files }
     ensures counts { InputCounts (F.faults folder.old) (F.faults folder.new) result }
-    ensures model { IsTrue (is_some (F.files folder.old)) → Has (λ m. m) result (bas_of (told (F.files folder.old)) file.now bytes.now model) }
+    ensures model { (files : List File) → F.agrees folder.new files → Has (λ m. m) result (bas_of files file.now bytes.now model) }
     ensures others { IfOk result (λ m. m ≡ with_basics model m.ibound m.strt) }
     ensures ibound { IfOk result (λ m. length m.ibound ≡ cell_count model.grid) }
     ensures strt { IfOk result (λ m. length m.strt ≡ cell_count model.grid) }

@@ -1,2 +1,3 @@
 pub mod BedLemmas
 pub mod TimeLemmas
+pub mod ModelLemmas

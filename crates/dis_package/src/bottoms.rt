@@ -1,9 +1,9 @@
 // The bottoms of the layers and of the confining beds below them.
-ghost use Rattle.std.specs.Prelude.{◌≡◌, ◌*◌, IfOk, IsTrue, is_some, length, [], ◌+◌, ◌++◌, All};
+ghost use Rattle.std.specs.Prelude.{◌≡◌, ◌*◌, IfOk, length, [], ◌+◌, ◌++◌, All, List};
 ghost use Rattle.decimal_input.specs.Canonical.{IsDec};
 ghost use Rattle.outside.specs.Counts.{InputCounts};
+ghost use Rattle.outside.specs.Files.{File};
 ghost use Rattle.record_lines.specs.Reading.{Gives, counted};
-ghost use Rattle.array_reader.specs.Arrays.{told};
 ghost use Rattle.dis_package.specs.Grids.{bottom_at, bottoms_of};
 
 use crate::frame::Size;
@@ -49,9 +49,9 @@ fn bottom_at<F: Folder>(
 ) -> Result<Bottoms, InputFault>
     requires layers { All IsDec so_far.layers }
     requires beds { All IsDec so_far.beds }
-    ensures files { F.files folder.new ≡ F.files folder.old }
+    ensures since { (files : List File) → F.agrees folder.new files → F.agrees folder.old files }
     ensures counts { InputCounts (F.faults folder.old) (F.faults folder.new) result }
-    ensures bottoms { IsTrue (is_some (F.files folder.old)) → Gives (λ b. b) result lines.new (bottom_at (told (F.files folder.old)) file.now size.now laycbd.now k (so_far, lines.old)) }
+    ensures bottoms { (files : List File) → F.agrees folder.new files → Gives (λ b. b) result lines.new (bottom_at files file.now size.now laycbd.now k (so_far, lines.old)) }
     ensures layers { IfOk result (λ b. length b.layers ≡ length so_far.layers + size.now.rows * size.now.cols) }
     ensures beds { IfOk result (λ b. length b.beds ≡ length so_far.beds + size.now.rows * size.now.cols) }
     ensures canonical { IfOk result (λ b. All IsDec b.layers × All IsDec b.beds) }
@@ -84,9 +84,9 @@ pub fn bottoms_of<F: Folder>(
     laycbd: &[i64],
     count: u32,
 ) -> Result<Bottoms, InputFault>
-    ensures files { F.files folder.new ≡ F.files folder.old }
+    ensures since { (files : List File) → F.agrees folder.new files → F.agrees folder.old files }
     ensures counts { InputCounts (F.faults folder.old) (F.faults folder.new) result }
-    ensures bottoms { IsTrue (is_some (F.files folder.old)) → Gives (λ b. b) result lines.new (bottoms_of (told (F.files folder.old)) file.now size.now laycbd.now count lines.old) }
+    ensures bottoms { (files : List File) → F.agrees folder.new files → Gives (λ b. b) result lines.new (bottoms_of files file.now size.now laycbd.now count lines.old) }
     ensures layers { IfOk result (λ b. length b.layers ≡ count * (size.now.rows * size.now.cols)) }
     ensures beds { IfOk result (λ b. length b.beds ≡ count * (size.now.rows * size.now.cols)) }
     ensures canonical { IfOk result (λ b. All IsDec b.layers × All IsDec b.beds) }

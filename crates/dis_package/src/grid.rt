@@ -1,8 +1,8 @@
 // Widths and elevations.
-ghost use Rattle.std.specs.Prelude.{◌≡◌, ◌-◌, pos, IfOk, IsTrue, is_some, length, All};
+ghost use Rattle.std.specs.Prelude.{◌≡◌, ◌-◌, pos, IfOk, length, All, List};
 ghost use Rattle.outside.specs.Counts.{InputCounts};
+ghost use Rattle.outside.specs.Files.{File};
 ghost use Rattle.record_lines.specs.Reading.{Gives};
-ghost use Rattle.array_reader.specs.Arrays.{told};
 ghost use Rattle.model_types.specs.Grids.{IsGrid};
 ghost use Rattle.model_types.specs.Layers.{int_at};
 ghost use Rattle.model_types.specs.Numbers.{IsPositive};
@@ -28,9 +28,9 @@ fn widths<F: Folder>(
     folder: &mut F,
     count: u32,
 ) -> Result<Vec<Dec>, InputFault>
-    ensures files { F.files folder.new ≡ F.files folder.old }
+    ensures since { (files : List File) → F.agrees folder.new files → F.agrees folder.old files }
     ensures counts { InputCounts (F.faults folder.old) (F.faults folder.new) result }
-    ensures widths { IsTrue (is_some (F.files folder.old)) → Gives (λ v. v.items) result lines.new (widths (told (F.files folder.old)) file.now count lines.old) }
+    ensures widths { (files : List File) → F.agrees folder.new files → Gives (λ v. v.items) result lines.new (widths files file.now count lines.old) }
     ensures count { IfOk result (λ v. length v.items ≡ count) }
     ensures positive { IfOk result (λ v. All IsPositive v.items) }
 {
@@ -54,9 +54,9 @@ pub fn grid_of<F: Folder>(
     requires size { IsSize size.now }
     requires beds { length laycbd.items ≡ size.now.layers }
     requires last { int_at laycbd.items (size.now.layers - 1) ≡ pos 0 }
-    ensures files { F.files folder.new ≡ F.files folder.old }
+    ensures since { (files : List File) → F.agrees folder.new files → F.agrees folder.old files }
     ensures counts { InputCounts (F.faults folder.old) (F.faults folder.new) result }
-    ensures grid { IsTrue (is_some (F.files folder.old)) → Gives (λ g. g) result lines.new (grid_of (told (F.files folder.old)) file.now size.now laycbd.items lines.old) }
+    ensures grid { (files : List File) → F.agrees folder.new files → Gives (λ g. g) result lines.new (grid_of files file.now size.now laycbd.items lines.old) }
     ensures form { IfOk result IsGrid }
 {
     let delr = widths(alloc, lines, file, folder, size.cols)?;

@@ -1,8 +1,8 @@
 // The model that the discretization begins.
-ghost use Rattle.std.specs.Prelude.{◌≡◌, ◌-◌, pos, IfOk, IsTrue, is_some, length};
+ghost use Rattle.std.specs.Prelude.{◌≡◌, ◌-◌, pos, IfOk, length, List};
 ghost use Rattle.outside.specs.Counts.{InputCounts};
+ghost use Rattle.outside.specs.Files.{File};
 ghost use Rattle.record_lines.specs.Reading.{Has, GivesText};
-ghost use Rattle.array_reader.specs.Arrays.{told};
 ghost use Rattle.model_types.specs.Layers.{int_at};
 ghost use Rattle.dis_package.specs.Discretization.{begun, head_of, dis_of};
 ghost use Rattle.dis_package.specs.Forms.{IsFrame, IsBegun};
@@ -67,9 +67,9 @@ pub fn read_dis<F: Folder>(
     bytes: &[u8],
     folder: &mut F,
 ) -> Result<FlowModel, InputFault>
-    ensures files { F.files folder.new ≡ F.files folder.old }
+    ensures since { (files : List File) → F.agrees folder.new files → F.agrees folder.old files }
     ensures counts { InputCounts (F.faults folder.old) (F.faults folder.new) result }
-    ensures model { IsTrue (is_some (F.files folder.old)) → Has (λ m. m) result (dis_of (told (F.files folder.old)) file.now bytes.now) }
+    ensures model { (files : List File) → F.agrees folder.new files → Has (λ m. m) result (dis_of files file.now bytes.now) }
     ensures form { IfOk result IsBegun }
 {
     let mut lines = Lines::new(bytes);

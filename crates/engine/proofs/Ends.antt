@@ -82,7 +82,7 @@ no_model = Err (file_refusal BadName (codes "-"))
 abbrev pub no_steps : Result (List ListedStep) Refusal
 no_steps = Err (file_refusal BadName (codes "-"))
 
--- what a check of a folder that tells no files reads as its listing
+-- what a check reads as its listing where no files are known
 abbrev pub same_steps : Result (List ListedStep) Refusal → AskedCheck → FlowModel → Result (List ListedStep) Refusal
 same_steps listed asked m = named asked.listing (λ name. listed)
 

@@ -1,5 +1,5 @@
 -- What a reading gives, by the name and what the folder tells.
-use Rattle.std.proofs.Common.{◌≡◌, ℕ, Bool, true, false, IfSome, List, Option, None, Some, Result, Ok, Err, IfOk, IsTrue, is_some, sym, ap, refl, ◌∙◌, codes, if◌then◌else◌}
+use Rattle.std.proofs.Common.{◌≡◌, ℕ, Bool, true, false, IfSome, List, Option, None, Some, Result, Ok, Err, IfOk, sym, ap, refl, ◌∙◌, codes, if◌then◌else◌}
 use Rattle.outside.specs.Files.{File}
 use Rattle.outside.specs.Inputs.{IsReading, file_at, file_refusal}
 use Rattle.outside.specs.Refusals.{input_fault}
@@ -12,7 +12,6 @@ use Rattle.outside.specs.declared.refusals.InputFault.TheVariants as input
 use Rattle.outside.specs.declared.refusals.Refusal.{Refusal}
 use Rattle.outside.proofs.NameTests.{is_taken, is_good}
 use Rattle.record_lines.specs.Reading.{Has, StopsText}
-use Rattle.array_reader.specs.Arrays.{told}
 use Rattle.model_types.specs.declared.model.FlowModel.{FlowModel}
 use Rattle.model_types.specs.Valid.{IsModel}
 use Rattle.model_reader.specs.Model.{reads}
@@ -50,6 +49,11 @@ named_read {T} name read v = by_test (is_good_name name)
     by_test true e = e
     by_test false e = absurd (let bad : Path (Result T Refusal) (Err (file_refusal BadName (codes "-"))) (Ok v) = e in cc)
 
+-- what holds of all files that agree, of those that are known
+pub of_known : {P Q : List File → Type 0} (files : Option (List File)) → ((fs : List File) → P fs → Q fs) → IfSome files P → IfSome files Q
+of_known None h p = tt
+of_known (Some fs) h p = h fs p
+
 abbrev some_refusal : Result FlowModel Refusal
 some_refusal = Err (file_refusal BadName (codes "-"))
 
@@ -63,8 +67,8 @@ told_reading name read (Err (input.Refused refusal)) good h = good_named name re
 told_reading name read (Err input.ReadFault) good h = tt
 told_reading name read (Err input.Memory) good h = tt
 
-pub good_read : (name : Text) (files : Option (List File)) (answer : Result FlowModel InputFault) → IsGoodName name → (IsTrue (is_some files) → Has (λ m. m) answer (reads (told files) name)) → IfOk answer IsModel → IsReadAs name files answer
-good_read name (Some fs) answer good h valid = told_reading name (reads fs) answer good (h refl)
+pub good_read : (name : Text) (files : Option (List File)) (answer : Result FlowModel InputFault) → IsGoodName name → IfSome files (λ fs. Has (λ m. m) answer (reads fs name)) → IfOk answer IsModel → IsReadAs name files answer
+good_read name (Some fs) answer good h valid = told_reading name (reads fs) answer good h
 good_read name None (Ok m) good h valid = (Ok m, valid, told_reading name (λ n. Ok m) (Ok m) good refl)
 good_read name None (Err (input.Refused refusal)) good h valid = (Err refusal, tt, told_reading name (λ n. Err refusal) (Err (input.Refused refusal)) good refl)
 good_read name None (Err input.ReadFault) good h valid = (some_refusal, tt, tt)

@@ -97,11 +97,11 @@ case_asked (Some (Check asked)) read listed = case_checked asked (named asked.na
 abbrev pub case_of : List Text → List File → Case
 case_of words files = case_asked (asked_in words) (reads files) (listing_read files)
 
--- what could be read of a folder that tells no files: a valid model and steps of it, or a refusal
+-- what could be read where no files are known: a valid model and steps of it, or a refusal
 abbrev pub CouldRead : Result FlowModel Refusal → Result (List ListedStep) Refusal → Type 0
 CouldRead read listed = IfOk read (λ m. IsModel m × IfOk listed (AreListed m))
 
--- What they come to over a folder. One that tells no files has some that could be read so.
+-- What they come to by these files. Where none are known there are some that could be read so.
 abbrev pub IsCase : List Text → Option (List File) → Case → Type 0
 IsCase words (Some files) case = case ≡ case_of words files
 IsCase words None case = (read : Result FlowModel Refusal) × (listed : Result (List ListedStep) Refusal) × CouldRead read listed × (case ≡ case_asked (asked_in words) (λ name. read) (λ asked m. named asked.listing (λ name. listed)))

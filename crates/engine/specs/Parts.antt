@@ -43,12 +43,12 @@ IsNamedFault (input.Refused refusal) = refusal ≡ file_refusal BadName (codes "
 IsNamedFault input.ReadFault = ⊥
 IsNamedFault input.Memory = Unit {0}
 
--- A reading gave what the name stands for: by the folder's files, or where it tells none by some that read as a valid model or have a refusal.
+-- A reading gave what the name stands for: by these files, or where none are known by some that read as a valid model or have a refusal.
 abbrev pub IsReadAs : Text → Option (List File) → Result FlowModel InputFault → Type 0
 IsReadAs name (Some files) answer = IsReading (λ m. m) (named name (reads files)) answer
 IsReadAs name None answer = (read : Result FlowModel Refusal) × IfOk read IsModel × IsReading (λ m. m) (named name (λ n. read)) answer
 
--- A reading gave the steps that a check names: by the folder's files, or where it tells none by some that are steps of the model or have a refusal.
+-- A reading gave the steps that a check names: by these files, or where none are known by some that are steps of the model or have a refusal.
 abbrev pub IsListedAs : AskedCheck → FlowModel → Option (List File) → Result (List ListedStep) InputFault → Type 0
 IsListedAs asked m (Some files) answer = IsReading (λ l. l) (listing_read files asked m) answer
 IsListedAs asked m None answer = (listed : Result (List ListedStep) Refusal) × IfOk listed (AreListed m) × IsReading (λ l. l) (named asked.listing (λ n. listed)) answer

@@ -1,6 +1,7 @@
 // The check of a listing of the folder.
-ghost use Rattle.std.specs.Prelude.{◌≡◌, ◌≤◌, List, ◌++◌, IfOk, MatchResult, Some};
+ghost use Rattle.std.specs.Prelude.{◌≡◌, ◌≤◌, List, ◌++◌, IfOk, IfSome, MatchResult, Option, Some};
 ghost use Rattle.outside.specs.Counts.{InputCounts};
+ghost use Rattle.outside.specs.Files.{File};
 ghost use Rattle.outside.specs.Puts.{Put};
 ghost use Rattle.model_types.specs.Valid.{IsModel};
 ghost use Rattle.listing_io.specs.Listed.{AreListed};
@@ -31,9 +32,9 @@ pub(crate) fn read_listed<F: Folder>(
 ) -> Result<Listing, InputFault>
     requires model { IsModel model.now }
     requires digits { asked.digits ≤ 18 }
-    ensures files { F.files folder.new ≡ F.files folder.old }
+    ensures since { (files : List File) → F.agrees folder.new files → F.agrees folder.old files }
     ensures counts { InputCounts (F.faults folder.old) (F.faults folder.new) result }
-    ensures reads { IsListedAs (check_of asked.entry) model.now (F.files folder.old) result }
+    ensures reads { (files : Option (List File)) → IfSome files (F.agrees folder.new) → IsListedAs (check_of asked.entry) model.now files result }
     ensures listed { IfOk result (AreListed model.now) }
 {
     if !is_good_name(asked.listing.as_bytes()) {
@@ -118,10 +119,10 @@ pub(crate) fn check<'a, F: Folder, K: Sink>(
     out: &mut K,
 ) -> Status
     requires { asked.digits ≤ 18 }
-    ensures files { F.files folder.new ≡ F.files folder.old }
+    ensures since { (files : List File) → F.agrees folder.new files → F.agrees folder.old files }
     ensures answers { (start : _) (puts : List Put) → K.leads start puts out.old →
         (more : List Put) × K.leads start (puts ++ more) out.new
-        × ((words : List Text) → asked_in words ≡ Some (Check (check_of asked.entry)) → Answers words (F.files folder.old) (F.faults folder.old) (F.faults folder.new) result more) }
+        × ((words : List Text) → asked_in words ≡ Some (Check (check_of asked.entry)) → (files : Option (List File)) → IfSome files (F.agrees folder.new) → Answers words files (F.faults folder.old) (F.faults folder.new) result more) }
 {
     let model = match read_named(alloc, folder, asked.name) {
         Ok(model) => model,

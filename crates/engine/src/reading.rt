@@ -1,6 +1,7 @@
 // The model under a name.
-ghost use Rattle.std.specs.Prelude.{◌≡◌, IfOk};
+ghost use Rattle.std.specs.Prelude.{◌≡◌, IfOk, IfSome, List, Option};
 ghost use Rattle.outside.specs.Counts.{InputCounts};
+ghost use Rattle.outside.specs.Files.{File};
 ghost use Rattle.model_types.specs.Valid.{IsModel};
 ghost use Rattle.engine.specs.Parts.{IsNamedFault, IsReadAs};
 
@@ -25,9 +26,9 @@ pub(crate) fn read_named<F: Folder>(
     folder: &mut F,
     name: &str,
 ) -> Result<FlowModel, InputFault>
-    ensures files { F.files folder.new ≡ F.files folder.old }
+    ensures since { (files : List File) → F.agrees folder.new files → F.agrees folder.old files }
     ensures counts { InputCounts (F.faults folder.old) (F.faults folder.new) result }
-    ensures reads { IsReadAs name.now (F.files folder.old) result }
+    ensures reads { (files : Option (List File)) → IfSome files (F.agrees folder.new) → IsReadAs name.now files result }
     ensures model { IfOk result IsModel }
 {
     if !is_good_name(name.as_bytes()) {

@@ -1,4 +1,5 @@
-ghost use Rattle.std.specs.Prelude.{◌≡◌, ◌⊎◌, ℕ, List, [], ◌++◌, map, IfSome, Some};
+ghost use Rattle.std.specs.Prelude.{◌≡◌, ◌⊎◌, ℕ, List, [], ◌++◌, map, IfSome, Option, Some};
+ghost use Rattle.outside.specs.Files.{File};
 ghost use Rattle.outside.specs.Puts.{Put};
 ghost use Rattle.outside.specs.Counts.{Rose};
 ghost use Rattle.engine.specs.Headline.{Headline};
@@ -42,36 +43,38 @@ pub fn run<R: Threads + Sync, F: Folder, K: Sink + Send, W: Sink + Send, G: Gate
     side: &mut W,
     gate: &G,
 ) -> Status
-    // What is put to out, after whatever status, with the cause of each; and to side.
-    ensures puts { Puts (λ puts. K.leads out.old puts out.new) (map (λ w. w.now) words.now) (F.files folder.old) (F.faults folder.old) (F.faults folder.new) result }
+    // What is put to out, after whatever status, with the cause of each, by files that agree with all that the folder
+    // has answered, or whatever they are; and to side.
+    ensures puts { (files : Option (List File)) → IfSome files (F.agrees folder.new) →
+        Puts (λ puts. K.leads out.old puts out.new) (map (λ w. w.now) words.now) files (F.faults folder.old) (F.faults folder.new) result }
     ensures side { W.leads side.old [] side.new }
 
-    // The folder tells the same files.
-    ensures files { F.files folder.new ≡ F.files folder.old }
+    // Files that agree with all that the folder has answered agreed with it before.
+    ensures since { (files : List File) → F.agrees folder.new files → F.agrees folder.old files }
 
     // The headline: of a listing, of the listing that a made model's summary sums up, or of one that was checked.
-    ensures headline { result ≡ Status.Ok → IfSome (F.files folder.old) (λ files.
+    ensures headline { result ≡ Status.Ok → (files : List File) → F.agrees folder.new files →
         Headline (map (λ w. w.now) words.now) files (K.seen out.old).written (K.seen out.new).written
         ⊎ (Made (map (λ w. w.now) words.now) (K.seen out.old).written (K.seen out.new).written
-        ⊎ Certified (map (λ w. w.now) words.now) files (K.seen out.old).written (K.seen out.new).written)) }
+        ⊎ Certified (map (λ w. w.now) words.now) files (K.seen out.old).written (K.seen out.new).written) }
 
     // Of a made model it holds whatever the folder is.
     ensures made { result ≡ Status.Ok → (seed size : ℕ) → asked_in (map (λ w. w.now) words.now) ≡ Some (Make seed size) →
         Made (map (λ w. w.now) words.now) (K.seen out.old).written (K.seen out.new).written }
 
     // A check that ends Ok certifies the listing that the words name.
-    ensures certified { result ≡ Status.Ok → (asked : AskedCheck) → asked_in (map (λ w. w.now) words.now) ≡ Some (Check asked) → IfSome (F.files folder.old) (λ files.
-        Certified (map (λ w. w.now) words.now) files (K.seen out.old).written (K.seen out.new).written) }
+    ensures certified { result ≡ Status.Ok → (asked : AskedCheck) → asked_in (map (λ w. w.now) words.now) ≡ Some (Check asked) → (files : List File) → F.agrees folder.new files →
+        Certified (map (λ w. w.now) words.now) files (K.seen out.old).written (K.seen out.new).written }
 
     // The causes that are counts.
     ensures read_fault { result ≡ Status.ReadFault → Rose (F.faults folder.old) (F.faults folder.new) }
     ensures write_fault { result ≡ Status.WriteFault → Rose (K.seen out.old).faults (K.seen out.new).faults }
 
     // What the words and files define comes, where nothing outside failed.
-    ensures decided { IfSome (F.files folder.old) (λ files.
-        Decided (Rose (F.faults folder.old) (F.faults folder.new) ⊎ Rose (K.seen out.old).faults (K.seen out.new).faults) (map (λ w. w.now) words.now) files result) }
-    ensures complete { IfSome (F.files folder.old) (λ files.
-        Comes (Rose (F.faults folder.old) (F.faults folder.new) ⊎ Rose (K.seen out.old).faults (K.seen out.new).faults) (map (λ w. w.now) words.now) files result) }
+    ensures decided { (files : List File) → F.agrees folder.new files →
+        Decided (Rose (F.faults folder.old) (F.faults folder.new) ⊎ Rose (K.seen out.old).faults (K.seen out.new).faults) (map (λ w. w.now) words.now) files result }
+    ensures complete { (files : List File) → F.agrees folder.new files →
+        Comes (Rose (F.faults folder.old) (F.faults folder.new) ⊎ Rose (K.seen out.old).faults (K.seen out.new).faults) (map (λ w. w.now) words.now) files result }
 {
     let _side = side;
     one_listing();
@@ -87,10 +90,10 @@ fn answer<R: Threads + Sync, F: Folder, K: Sink + Send, G: Gate + Sync>(
     out: &mut K,
     gate: &G,
 ) -> Status
-    ensures files { F.files folder.new ≡ F.files folder.old }
+    ensures since { (files : List File) → F.agrees folder.new files → F.agrees folder.old files }
     ensures answers { (start : _) (puts : List Put) → K.leads start puts out.old →
         (more : List Put) × K.leads start (puts ++ more) out.new
-        × Answers (map (λ w. w.now) words.now) (F.files folder.old) (F.faults folder.old) (F.faults folder.new) result more }
+        × ((files : Option (List File)) → IfSome files (F.agrees folder.new) → Answers (map (λ w. w.now) words.now) files (F.faults folder.old) (F.faults folder.new) result more) }
 {
     let order = match read_order(alloc, words) {
         Ok(order) => order,
@@ -115,10 +118,10 @@ fn list<'a, R: Threads + Sync, F: Folder, K: Sink + Send, G: Gate + Sync>(
     gate: &G,
 ) -> Status
     requires { IsAsked asked }
-    ensures files { F.files folder.new ≡ F.files folder.old }
+    ensures since { (files : List File) → F.agrees folder.new files → F.agrees folder.old files }
     ensures answers { (start : _) (puts : List Put) → K.leads start puts out.old →
         (more : List Put) × K.leads start (puts ++ more) out.new
-        × ((words : List (List ℕ)) → asked_in words ≡ Some (Run (asked_of asked.entry)) → Answers words (F.files folder.old) (F.faults folder.old) (F.faults folder.new) result more) }
+        × ((words : List (List ℕ)) → asked_in words ≡ Some (Run (asked_of asked.entry)) → (files : Option (List File)) → IfSome files (F.agrees folder.new) → Answers words files (F.faults folder.old) (F.faults folder.new) result more) }
 {
     match read_named(alloc, folder, asked.name) {
         Ok(model) => {

@@ -1,8 +1,8 @@
 // The arrays of each stress period.
-ghost use Rattle.std.specs.Prelude.{◌≡◌, Ok, IfOk, IsSomeAnd, IsTrue, is_some, All, map, true};
+ghost use Rattle.std.specs.Prelude.{◌≡◌, Ok, IfOk, IsSomeAnd, All, map, true, List};
 ghost use Rattle.outside.specs.Counts.{InputCounts};
+ghost use Rattle.outside.specs.Files.{File};
 ghost use Rattle.record_lines.specs.Reading.{Gives, Has, HasText, for_each};
-ghost use Rattle.array_reader.specs.Arrays.{told};
 ghost use Rattle.model_types.specs.Grids.{HasSize};
 ghost use Rattle.model_types.specs.Receivers.{is_int};
 ghost use Rattle.period_arrays.specs.Forms.{IsReals, IsWhole};
@@ -59,9 +59,9 @@ fn arrays_of<F: Folder>(
 ) -> Result<(), InputFault>
     requires size { HasSize grid.now }
     requires last { AreLast grid.now last.old }
-    ensures files { F.files folder.new ≡ F.files folder.old }
+    ensures since { (files : List File) → F.agrees folder.new files → F.agrees folder.old files }
     ensures counts { InputCounts (F.faults folder.old) (F.faults folder.new) result }
-    ensures arrays { IsTrue (is_some (F.files folder.old)) → Gives (λ _. last.new) result lines.new (arrays_of (told (F.files folder.old)) file.now grid.now flags (last.old, lines.old)) }
+    ensures arrays { (files : List File) → F.agrees folder.new files → Gives (λ _. last.new) result lines.new (arrays_of files file.now grid.now flags (last.old, lines.old)) }
     ensures last { IfOk result (λ _. AreLast grid.now last.new) }
     ensures some { IfOk result (λ _. HasLast grid.now flags last.old last.new) }
 {
@@ -148,9 +148,9 @@ fn period_at<F: Folder>(
 ) -> Result<Period, InputFault>
     requires size { HasSize grid.now }
     requires last { AreLast grid.now last.old }
-    ensures files { F.files folder.new ≡ F.files folder.old }
+    ensures since { (files : List File) → F.agrees folder.new files → F.agrees folder.old files }
     ensures counts { InputCounts (F.faults folder.old) (F.faults folder.new) result }
-    ensures period { IsTrue (is_some (F.files folder.old)) → Gives (λ p. p) result (last.new, lines.new) (period_at (told (F.files folder.old)) file.now grid.now ibound.now option.now period (last.old, lines.old)) }
+    ensures period { (files : List File) → F.agrees folder.new files → Gives (λ p. p) result (last.new, lines.new) (period_at files file.now grid.now ibound.now option.now period (last.old, lines.old)) }
     ensures last { IfOk result (λ _. AreLast grid.now last.new) }
     ensures arrays { IfOk result (AreArrays file.now grid.now ibound.now option.now) }
     ensures others { IfOk result (λ p. without p ≡ without period) }
@@ -183,9 +183,9 @@ fn with_arrays<F: Folder>(
 ) -> Result<Vec<Period>, InputFault>
     requires size { HasSize grid.now }
     requires last { AreLast grid.now last.old }
-    ensures files { F.files folder.new ≡ F.files folder.old }
+    ensures since { (files : List File) → F.agrees folder.new files → F.agrees folder.old files }
     ensures counts { InputCounts (F.faults folder.old) (F.faults folder.new) result }
-    ensures periods { IsTrue (is_some (F.files folder.old)) → Gives (λ v. v.items) result (last.new, lines.new) (for_each (period_at (told (F.files folder.old)) file.now grid.now ibound.now option.now) periods.items (last.old, lines.old)) }
+    ensures periods { (files : List File) → F.agrees folder.new files → Gives (λ v. v.items) result (last.new, lines.new) (for_each (period_at files file.now grid.now ibound.now option.now) periods.items (last.old, lines.old)) }
     ensures arrays { IfOk result (λ v. All (AreArrays file.now grid.now ibound.now option.now) v.items) }
     ensures others { IfOk result (λ v. map without v.items ≡ map without periods.items) }
 {
@@ -212,9 +212,9 @@ pub fn periods_of<F: Folder>(
     periods: Vec<Period>,
 ) -> Result<Vec<Period>, InputFault>
     requires size { HasSize grid.now }
-    ensures files { F.files folder.new ≡ F.files folder.old }
+    ensures since { (files : List File) → F.agrees folder.new files → F.agrees folder.old files }
     ensures counts { InputCounts (F.faults folder.old) (F.faults folder.new) result }
-    ensures periods { IsTrue (is_some (F.files folder.old)) → Has (λ v. v.items) result (periods_of (told (F.files folder.old)) file.now grid.now ibound.now option.now periods.items lines.old) }
+    ensures periods { (files : List File) → F.agrees folder.new files → Has (λ v. v.items) result (periods_of files file.now grid.now ibound.now option.now periods.items lines.old) }
     ensures arrays { IfOk result (λ v. All (AreArrays file.now grid.now ibound.now option.now) v.items) }
     ensures others { IfOk result (λ v. map without v.items ≡ map without periods.items) }
 {

@@ -1,8 +1,8 @@
 // A model with its evapotranspiration.
-ghost use Rattle.std.specs.Prelude.{◌≡◌, ◌≤ℤ◌, pos, IfOk, IsTrue, is_some};
+ghost use Rattle.std.specs.Prelude.{◌≡◌, ◌≤ℤ◌, pos, IfOk, List};
 ghost use Rattle.outside.specs.Counts.{InputCounts};
+ghost use Rattle.outside.specs.Files.{File};
 ghost use Rattle.record_lines.specs.Reading.{GivesText, Has};
-ghost use Rattle.array_reader.specs.Arrays.{told};
 ghost use Rattle.model_types.specs.Grids.{HasSize};
 ghost use Rattle.model_types.specs.Valid.{IsModel};
 ghost use Rattle.evt_package.specs.Evaporation.{evt_of, option_line};
@@ -40,9 +40,9 @@ fn with_evaporation<F: Folder>(
     model: FlowModel,
 ) -> Result<FlowModel, InputFault>
     requires size { HasSize model.grid }
-    ensures files { F.files folder.new ≡ F.files folder.old }
+    ensures since { (files : List File) → F.agrees folder.new files → F.agrees folder.old files }
     ensures counts { InputCounts (F.faults folder.old) (F.faults folder.new) result }
-    ensures model { IsTrue (is_some (F.files folder.old)) → Has (λ m. m) result (evt_of (told (F.files folder.old)) file.now bytes.now model) }
+    ensures model { (files : List File) → F.agrees folder.new files → Has (λ m. m) result (evt_of files file.now bytes.now model) }
     ensures form { IfOk result (IsEvaporating file.now) }
     ensures others { IfOk result (SameBut model) }
 {
@@ -85,9 +85,9 @@ pub fn read_evt<F: Folder>(
     model: FlowModel,
 ) -> Result<FlowModel, InputFault>
     requires size { HasSize model.grid }
-    ensures files { F.files folder.new ≡ F.files folder.old }
+    ensures since { (files : List File) → F.agrees folder.new files → F.agrees folder.old files }
     ensures counts { InputCounts (F.faults folder.old) (F.faults folder.new) result }
-    ensures model { IsTrue (is_some (F.files folder.old)) → Has (λ m. m) result (evt_of (told (F.files folder.old)) file.now bytes.now model) }
+    ensures model { (files : List File) → F.agrees folder.new files → Has (λ m. m) result (evt_of files file.now bytes.now model) }
     ensures form { IfOk result (IsEvaporating file.now) }
     ensures others { IfOk result (SameBut model) }
     ensures valid { IsModel model → IfOk result IsModel }

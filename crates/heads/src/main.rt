@@ -43,7 +43,7 @@ fn main(rt: HostRuntime) -> ExitCode {
     let Ok(texts) = as_texts(alloc, words.as_slice()) else {
         return ExitCode::from(MEMORY);
     };
-    let mut folder = RealFolder::new(&rt);
+    let mut folder = RealFolder::new(&rt, alloc);
     let mut out = RealSink::new(rt.stdout());
     let mut side = RealSink::new(rt.stderr());
     let status = run(

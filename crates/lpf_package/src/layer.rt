@@ -1,9 +1,9 @@
 // The arrays of one layer.
-ghost use Rattle.std.specs.Prelude.{◌≡◌, ◌*◌, ◌++◌, cond, IfOk, IsTrue, is_some, length, All};
+ghost use Rattle.std.specs.Prelude.{◌≡◌, ◌*◌, ◌++◌, cond, IfOk, length, All, List};
 ghost use Rattle.decimal_input.specs.Canonical.{IsDec};
 ghost use Rattle.outside.specs.Counts.{InputCounts};
+ghost use Rattle.outside.specs.Files.{File};
 ghost use Rattle.record_lines.specs.Reading.{Gives};
-ghost use Rattle.array_reader.specs.Arrays.{told};
 ghost use Rattle.lpf_package.specs.Forms.{AreLayers};
 ghost use Rattle.lpf_package.specs.Layers.{storage_layer, layer_of, joined};
 
@@ -46,9 +46,9 @@ fn storage_layer<F: Folder>(
     folder: &mut F,
     layer: &Layer,
 ) -> Result<Vec<Dec>, InputFault>
-    ensures files { F.files folder.new ≡ F.files folder.old }
+    ensures since { (files : List File) → F.agrees folder.new files → F.agrees folder.old files }
     ensures counts { InputCounts (F.faults folder.old) (F.faults folder.new) result }
-    ensures ss { IsTrue (is_some (F.files folder.old)) → Gives (λ v. v.items) result lines.new (storage_layer (told (F.files folder.old)) file.now layer.now lines.old) }
+    ensures ss { (files : List File) → F.agrees folder.new files → Gives (λ v. v.items) result lines.new (storage_layer files file.now layer.now lines.old) }
     ensures count { IfOk result (λ v. length v.items ≡ cond layer.now.stores (layer.now.rows * layer.now.cols) 0) }
     ensures canonical { IfOk result (λ v. All IsDec v.items) }
 {
@@ -69,9 +69,9 @@ pub fn layer_of<F: Folder>(
     layer: &Layer,
 ) -> Result<Properties, InputFault>
     requires chani { IsDec layer.now.chani }
-    ensures files { F.files folder.new ≡ F.files folder.old }
+    ensures since { (files : List File) → F.agrees folder.new files → F.agrees folder.old files }
     ensures counts { InputCounts (F.faults folder.old) (F.faults folder.new) result }
-    ensures properties { IsTrue (is_some (F.files folder.old)) → Gives (λ p. p) result lines.new (layer_of (told (F.files folder.old)) file.now layer.now lines.old) }
+    ensures properties { (files : List File) → F.agrees folder.new files → Gives (λ p. p) result lines.new (layer_of files file.now layer.now lines.old) }
     ensures form { IfOk result (AreLayers (layer.now.rows * layer.now.cols) (cond layer.now.stores (layer.now.rows * layer.now.cols) 0)) }
 {
     let (rows, cols) = (layer.rows, layer.cols);

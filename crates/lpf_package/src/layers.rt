@@ -1,9 +1,9 @@
 // The arrays of all layers.
-ghost use Rattle.std.specs.Prelude.{◌≡◌, ◌*◌, ◌+◌, cond, IfOk, IsTrue, is_some, All};
+ghost use Rattle.std.specs.Prelude.{◌≡◌, ◌*◌, ◌+◌, cond, IfOk, All, List};
 ghost use Rattle.decimal_input.specs.Canonical.{IsDec};
 ghost use Rattle.outside.specs.Counts.{InputCounts};
+ghost use Rattle.outside.specs.Files.{File};
 ghost use Rattle.record_lines.specs.Reading.{Gives};
-ghost use Rattle.array_reader.specs.Arrays.{told};
 ghost use Rattle.lpf_package.specs.Forms.{AreLayers};
 ghost use Rattle.lpf_package.specs.Layers.{layer_at, layers_of, nth_layer};
 
@@ -45,9 +45,9 @@ fn layer_at<F: Folder>(
 ) -> Result<Properties, InputFault>
     requires chani { All IsDec chani.now }
     requires above { AreLayers (k * (grid.now.rows * grid.now.cols)) (cond stores (k * (grid.now.rows * grid.now.cols)) 0) above }
-    ensures files { F.files folder.new ≡ F.files folder.old }
+    ensures since { (files : List File) → F.agrees folder.new files → F.agrees folder.old files }
     ensures counts { InputCounts (F.faults folder.old) (F.faults folder.new) result }
-    ensures properties { IsTrue (is_some (F.files folder.old)) → Gives (λ p. p) result lines.new (layer_at (told (F.files folder.old)) file.now grid.now chani.now stores k (above, lines.old)) }
+    ensures properties { (files : List File) → F.agrees folder.new files → Gives (λ p. p) result lines.new (layer_at files file.now grid.now chani.now stores k (above, lines.old)) }
     ensures form { IfOk result (AreLayers ((k + 1) * (grid.now.rows * grid.now.cols)) (cond stores ((k + 1) * (grid.now.rows * grid.now.cols)) 0)) }
 {
     let layer = nth_layer(grid, chani, stores, k);
@@ -68,9 +68,9 @@ pub fn layers_of<F: Folder>(
     count: u32,
 ) -> Result<Properties, InputFault>
     requires chani { All IsDec chani.now }
-    ensures files { F.files folder.new ≡ F.files folder.old }
+    ensures since { (files : List File) → F.agrees folder.new files → F.agrees folder.old files }
     ensures counts { InputCounts (F.faults folder.old) (F.faults folder.new) result }
-    ensures properties { IsTrue (is_some (F.files folder.old)) → Gives (λ p. p) result lines.new (layers_of (told (F.files folder.old)) file.now grid.now chani.now stores count lines.old) }
+    ensures properties { (files : List File) → F.agrees folder.new files → Gives (λ p. p) result lines.new (layers_of files file.now grid.now chani.now stores count lines.old) }
     ensures form { IfOk result (AreLayers (count * (grid.now.rows * grid.now.cols)) (cond stores (count * (grid.now.rows * grid.now.cols)) 0)) }
 {
     let mut properties = Properties {

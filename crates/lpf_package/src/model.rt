@@ -1,9 +1,9 @@
 // The model with its properties.
-ghost use Rattle.std.specs.Prelude.{◌≡◌, IfOk, IsTrue, is_some, not, List};
+ghost use Rattle.std.specs.Prelude.{◌≡◌, IfOk, not, List};
 ghost use Rattle.std.specs.List.{list_any};
 ghost use Rattle.outside.specs.Counts.{InputCounts};
+ghost use Rattle.outside.specs.Files.{File};
 ghost use Rattle.record_lines.specs.Reading.{Has};
-ghost use Rattle.array_reader.specs.Arrays.{told};
 ghost use Rattle.lpf_package.specs.Forms.{HasProperties};
 ghost use Rattle.lpf_package.specs.Flow.{is_transient, with_properties, lpf_of, SameBut};
 
@@ -56,9 +56,9 @@ pub fn read_lpf<F: Folder>(
     folder: &mut F,
     model: FlowModel,
 ) -> Result<FlowModel, InputFault>
-    ensures files { F.files folder.new ≡ F.files folder.old }
+    ensures since { (files : List File) → F.agrees folder.new files → F.agrees folder.old files }
     ensures counts { InputCounts (F.faults folder.old) (F.faults folder.new) result }
-    ensures model { IsTrue (is_some (F.files folder.old)) → Has (λ m. m) result (lpf_of (told (F.files folder.old)) file.now bytes.now model) }
+    ensures model { (files : List File) → F.agrees folder.new files → Has (λ m. m) result (lpf_of files file.now bytes.now model) }
     ensures others { IfOk result (SameBut model) }
     ensures form { IfOk result HasProperties }
 {

@@ -1,10 +1,10 @@
 // The packages of arrays: recharge and evapotranspiration.
 //
 // Each is read where the name file names it.
-ghost use Rattle.std.specs.Prelude.{◌≡◌, IfOk, IsTrue, is_some};
+ghost use Rattle.std.specs.Prelude.{◌≡◌, IfOk, List};
 ghost use Rattle.outside.specs.Counts.{InputCounts};
+ghost use Rattle.outside.specs.Files.{File};
 ghost use Rattle.record_lines.specs.Reading.{Has};
-ghost use Rattle.array_reader.specs.Arrays.{told};
 ghost use Rattle.name_file.specs.Pairs.{file_of};
 ghost use Rattle.name_file.specs.declared.package.Package.TheVariants.{Rch, Evt};
 ghost use Rattle.model_types.specs.Valid.{IsModel};
@@ -27,9 +27,9 @@ pub fn rch_in<F: Folder>(
     model: FlowModel,
 ) -> Result<FlowModel, InputFault>
     requires valid { IsModel model }
-    ensures files { F.files folder.new ≡ F.files folder.old }
+    ensures since { (files : List File) → F.agrees folder.new files → F.agrees folder.old files }
     ensures counts { InputCounts (F.faults folder.old) (F.faults folder.new) result }
-    ensures model { IsTrue (is_some (F.files folder.old)) → Has (λ m. m) result (where_named (file_of Rch names.now) (rch_in (told (F.files folder.old))) model) }
+    ensures model { (files : List File) → F.agrees folder.new files → Has (λ m. m) result (where_named (file_of Rch names.now) (rch_in files) model) }
     ensures form { IfOk result IsModel }
 {
     match names.file_of(Package::Rch) {
@@ -50,9 +50,9 @@ pub fn evt_in<F: Folder>(
     model: FlowModel,
 ) -> Result<FlowModel, InputFault>
     requires valid { IsModel model }
-    ensures files { F.files folder.new ≡ F.files folder.old }
+    ensures since { (files : List File) → F.agrees folder.new files → F.agrees folder.old files }
     ensures counts { InputCounts (F.faults folder.old) (F.faults folder.new) result }
-    ensures model { IsTrue (is_some (F.files folder.old)) → Has (λ m. m) result (where_named (file_of Evt names.now) (evt_in (told (F.files folder.old))) model) }
+    ensures model { (files : List File) → F.agrees folder.new files → Has (λ m. m) result (where_named (file_of Evt names.now) (evt_in files) model) }
     ensures form { IfOk result IsModel }
 {
     match names.file_of(Package::Evt) {

@@ -1,9 +1,9 @@
 // DIS, BAS6 and LPF with the checks on cells behind them.
-ghost use Rattle.std.specs.Prelude.{◌≡◌, Ok, All, IfOk, IsTrue, is_some};
+ghost use Rattle.std.specs.Prelude.{◌≡◌, Ok, All, IfOk, List};
 ghost use Rattle.outside.specs.Counts.{InputCounts};
+ghost use Rattle.outside.specs.Files.{File};
 ghost use Rattle.outside.specs.Names.{IsGoodName};
 ghost use Rattle.record_lines.specs.Reading.{Has, HasText};
-ghost use Rattle.array_reader.specs.Arrays.{told};
 ghost use Rattle.decimal_input.specs.Canonical.{IsDec};
 ghost use Rattle.model_types.specs.Grids.{IsGrid};
 ghost use Rattle.model_types.specs.Valid.{IsModel};
@@ -26,9 +26,9 @@ use std::alloc::Global;
 #[tactic(auto, unfolding(crate::specs::Model::dis_in))]
 pub fn dis_in<F: Folder>(alloc: Global, folder: &mut F, name: &str) -> Result<FlowModel, InputFault>
     requires name { IsGoodName name.now }
-    ensures files { F.files folder.new ≡ F.files folder.old }
+    ensures since { (files : List File) → F.agrees folder.new files → F.agrees folder.old files }
     ensures counts { InputCounts (F.faults folder.old) (F.faults folder.new) result }
-    ensures model { IsTrue (is_some (F.files folder.old)) → Has (λ m. m) result (dis_in (told (F.files folder.old)) name.now) }
+    ensures model { (files : List File) → F.agrees folder.new files → Has (λ m. m) result (dis_in files name.now) }
     ensures form { IfOk result IsBegun }
 {
     let bytes = open_file(alloc, folder, name)?;
@@ -59,9 +59,9 @@ pub fn bas_in<F: Folder>(
 ) -> Result<FlowModel, InputFault>
     requires name { IsGoodName name.now }
     requires begun { IsBegun model }
-    ensures files { F.files folder.new ≡ F.files folder.old }
+    ensures since { (files : List File) → F.agrees folder.new files → F.agrees folder.old files }
     ensures counts { InputCounts (F.faults folder.old) (F.faults folder.new) result }
-    ensures model { IsTrue (is_some (F.files folder.old)) → Has (λ m. m) result (bas_in (told (F.files folder.old)) dis.now name.now model) }
+    ensures model { (files : List File) → F.agrees folder.new files → Has (λ m. m) result (bas_in files dis.now name.now model) }
     ensures form { IfOk result IsBasic }
 {
     let bytes = open_file(alloc, folder, name)?;
@@ -80,9 +80,9 @@ pub fn lpf_in<F: Folder>(
 ) -> Result<FlowModel, InputFault>
     requires name { IsGoodName name.now }
     requires basic { IsBasic model }
-    ensures files { F.files folder.new ≡ F.files folder.old }
+    ensures since { (files : List File) → F.agrees folder.new files → F.agrees folder.old files }
     ensures counts { InputCounts (F.faults folder.old) (F.faults folder.new) result }
-    ensures model { IsTrue (is_some (F.files folder.old)) → Has (λ m. m) result (lpf_in (told (F.files folder.old)) name.now model) }
+    ensures model { (files : List File) → F.agrees folder.new files → Has (λ m. m) result (lpf_in files name.now model) }
     ensures form { IfOk result IsModel }
 {
     let bytes = open_file(alloc, folder, name)?;

@@ -1,10 +1,10 @@
 // The packages of lists: wells, rivers, drains, general heads, given heads.
 //
 // Each is read where the name file names it.
-ghost use Rattle.std.specs.Prelude.{◌≡◌, IfOk, IsTrue, is_some};
+ghost use Rattle.std.specs.Prelude.{◌≡◌, IfOk, List};
 ghost use Rattle.outside.specs.Counts.{InputCounts};
+ghost use Rattle.outside.specs.Files.{File};
 ghost use Rattle.record_lines.specs.Reading.{Has};
-ghost use Rattle.array_reader.specs.Arrays.{told};
 ghost use Rattle.name_file.specs.Pairs.{file_of};
 ghost use Rattle.name_file.specs.declared.package.Package.TheVariants.{Wel, Riv, Drn, Ghb, Chd};
 ghost use Rattle.model_types.specs.Valid.{IsModel};
@@ -29,9 +29,9 @@ pub fn wel_in<F: Folder>(
     model: FlowModel,
 ) -> Result<FlowModel, InputFault>
     requires valid { IsModel model }
-    ensures files { F.files folder.new ≡ F.files folder.old }
+    ensures since { (files : List File) → F.agrees folder.new files → F.agrees folder.old files }
     ensures counts { InputCounts (F.faults folder.old) (F.faults folder.new) result }
-    ensures model { IsTrue (is_some (F.files folder.old)) → Has (λ m. m) result (where_named (file_of Wel names.now) (list_in wells (told (F.files folder.old))) model) }
+    ensures model { (files : List File) → F.agrees folder.new files → Has (λ m. m) result (where_named (file_of Wel names.now) (list_in wells files) model) }
     ensures form { IfOk result IsModel }
 {
     match names.file_of(Package::Wel) {
@@ -52,9 +52,9 @@ pub fn riv_in<F: Folder>(
     model: FlowModel,
 ) -> Result<FlowModel, InputFault>
     requires valid { IsModel model }
-    ensures files { F.files folder.new ≡ F.files folder.old }
+    ensures since { (files : List File) → F.agrees folder.new files → F.agrees folder.old files }
     ensures counts { InputCounts (F.faults folder.old) (F.faults folder.new) result }
-    ensures model { IsTrue (is_some (F.files folder.old)) → Has (λ m. m) result (where_named (file_of Riv names.now) (list_in rivers (told (F.files folder.old))) model) }
+    ensures model { (files : List File) → F.agrees folder.new files → Has (λ m. m) result (where_named (file_of Riv names.now) (list_in rivers files) model) }
     ensures form { IfOk result IsModel }
 {
     match names.file_of(Package::Riv) {
@@ -75,9 +75,9 @@ pub fn drn_in<F: Folder>(
     model: FlowModel,
 ) -> Result<FlowModel, InputFault>
     requires valid { IsModel model }
-    ensures files { F.files folder.new ≡ F.files folder.old }
+    ensures since { (files : List File) → F.agrees folder.new files → F.agrees folder.old files }
     ensures counts { InputCounts (F.faults folder.old) (F.faults folder.new) result }
-    ensures model { IsTrue (is_some (F.files folder.old)) → Has (λ m. m) result (where_named (file_of Drn names.now) (list_in drains (told (F.files folder.old))) model) }
+    ensures model { (files : List File) → F.agrees folder.new files → Has (λ m. m) result (where_named (file_of Drn names.now) (list_in drains files) model) }
     ensures form { IfOk result IsModel }
 {
     match names.file_of(Package::Drn) {
@@ -98,9 +98,9 @@ pub fn ghb_in<F: Folder>(
     model: FlowModel,
 ) -> Result<FlowModel, InputFault>
     requires valid { IsModel model }
-    ensures files { F.files folder.new ≡ F.files folder.old }
+    ensures since { (files : List File) → F.agrees folder.new files → F.agrees folder.old files }
     ensures counts { InputCounts (F.faults folder.old) (F.faults folder.new) result }
-    ensures model { IsTrue (is_some (F.files folder.old)) → Has (λ m. m) result (where_named (file_of Ghb names.now) (list_in generals (told (F.files folder.old))) model) }
+    ensures model { (files : List File) → F.agrees folder.new files → Has (λ m. m) result (where_named (file_of Ghb names.now) (list_in generals files) model) }
     ensures form { IfOk result IsModel }
 {
     match names.file_of(Package::Ghb) {
@@ -121,9 +121,9 @@ pub fn chd_in<F: Folder>(
     model: FlowModel,
 ) -> Result<FlowModel, InputFault>
     requires valid { IsModel model }
-    ensures files { F.files folder.new ≡ F.files folder.old }
+    ensures since { (files : List File) → F.agrees folder.new files → F.agrees folder.old files }
     ensures counts { InputCounts (F.faults folder.old) (F.faults folder.new) result }
-    ensures model { IsTrue (is_some (F.files folder.old)) → Has (λ m. m) result (where_named (file_of Chd names.now) (list_in given_heads (told (F.files folder.old))) model) }
+    ensures model { (files : List File) → F.agrees folder.new files → Has (λ m. m) result (where_named (file_of Chd names.now) (list_in given_heads files) model) }
     ensures form { IfOk result IsModel }
 {
     match names.file_of(Package::Chd) {

@@ -1,9 +1,9 @@
 // A model in reading order.
-ghost use Rattle.std.specs.Prelude.{◌≡◌, IfOk, IsTrue, is_some};
+ghost use Rattle.std.specs.Prelude.{◌≡◌, IfOk, List};
 ghost use Rattle.outside.specs.Counts.{InputCounts};
+ghost use Rattle.outside.specs.Files.{File};
 ghost use Rattle.outside.specs.Names.{IsGoodName};
 ghost use Rattle.record_lines.specs.Reading.{Has};
-ghost use Rattle.array_reader.specs.Arrays.{told};
 ghost use Rattle.model_types.specs.Valid.{IsModel};
 ghost use Rattle.model_reader.specs.Model.{model_of, reads};
 
@@ -27,9 +27,9 @@ pub fn read_model<F: Folder>(
     names: &Names,
     folder: &mut F,
 ) -> Result<FlowModel, InputFault>
-    ensures files { F.files folder.new ≡ F.files folder.old }
+    ensures since { (files : List File) → F.agrees folder.new files → F.agrees folder.old files }
     ensures counts { InputCounts (F.faults folder.old) (F.faults folder.new) result }
-    ensures model { IsTrue (is_some (F.files folder.old)) → Has (λ m. m) result (model_of (told (F.files folder.old)) names.now) }
+    ensures model { (files : List File) → F.agrees folder.new files → Has (λ m. m) result (model_of files names.now) }
     ensures form { IfOk result IsModel }
 {
     let dis = needed(names, Package::Dis);
@@ -53,9 +53,9 @@ pub fn read_named_model<F: Folder>(
     folder: &mut F,
 ) -> Result<FlowModel, InputFault>
     requires name { IsGoodName name.now }
-    ensures files { F.files folder.new ≡ F.files folder.old }
+    ensures since { (files : List File) → F.agrees folder.new files → F.agrees folder.old files }
     ensures counts { InputCounts (F.faults folder.old) (F.faults folder.new) result }
-    ensures model { IsTrue (is_some (F.files folder.old)) → Has (λ m. m) result (reads (told (F.files folder.old)) name.now) }
+    ensures model { (files : List File) → F.agrees folder.new files → Has (λ m. m) result (reads files name.now) }
     ensures form { IfOk result IsModel }
 {
     let names = read_name_file(alloc, folder, name)?;

@@ -1,9 +1,9 @@
 // The name file.
-ghost use Rattle.std.specs.Prelude.{◌≡◌, IsTrue, is_some, unwrap_or, []};
+ghost use Rattle.std.specs.Prelude.{◌≡◌, IsTrue, unwrap_or, [], List};
 ghost use Rattle.outside.specs.Counts.{InputCounts};
+ghost use Rattle.outside.specs.Files.{File};
 ghost use Rattle.outside.specs.Names.{IsGoodName};
 ghost use Rattle.record_lines.specs.Reading.{Has};
-ghost use Rattle.array_reader.specs.Arrays.{told};
 ghost use Rattle.name_file.specs.Pairs.{file_of, is_needed};
 ghost use Rattle.model_reader.specs.Names.{names_in, needed};
 
@@ -24,9 +24,9 @@ pub fn read_name_file<F: Folder>(
     name: &str,
 ) -> Result<Names, InputFault>
     requires name { IsGoodName name.now }
-    ensures files { F.files folder.new ≡ F.files folder.old }
+    ensures since { (files : List File) → F.agrees folder.new files → F.agrees folder.old files }
     ensures counts { InputCounts (F.faults folder.old) (F.faults folder.new) result }
-    ensures names { IsTrue (is_some (F.files folder.old)) → Has (λ n. n) result (names_in (told (F.files folder.old)) name.now) }
+    ensures names { (files : List File) → F.agrees folder.new files → Has (λ n. n) result (names_in files name.now) }
 {
     let bytes = open_file(alloc, folder, name)?;
     Ok(read_names(alloc, name, &bytes)?)

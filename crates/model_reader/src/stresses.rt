@@ -1,8 +1,8 @@
 // The stresses of a model in reading order.
-ghost use Rattle.std.specs.Prelude.{◌≡◌, IfOk, IsTrue, is_some};
+ghost use Rattle.std.specs.Prelude.{◌≡◌, IfOk, List};
 ghost use Rattle.outside.specs.Counts.{InputCounts};
+ghost use Rattle.outside.specs.Files.{File};
 ghost use Rattle.record_lines.specs.Reading.{Has};
-ghost use Rattle.array_reader.specs.Arrays.{told};
 ghost use Rattle.model_types.specs.Valid.{IsModel};
 ghost use Rattle.model_reader.specs.Stresses.{with_entries, with_stresses};
 
@@ -22,9 +22,9 @@ fn with_entries<F: Folder>(
     model: FlowModel,
 ) -> Result<FlowModel, InputFault>
     requires valid { IsModel model }
-    ensures files { F.files folder.new ≡ F.files folder.old }
+    ensures since { (files : List File) → F.agrees folder.new files → F.agrees folder.old files }
     ensures counts { InputCounts (F.faults folder.old) (F.faults folder.new) result }
-    ensures model { IsTrue (is_some (F.files folder.old)) → Has (λ m. m) result (with_entries (told (F.files folder.old)) names.now model) }
+    ensures model { (files : List File) → F.agrees folder.new files → Has (λ m. m) result (with_entries files names.now model) }
     ensures form { IfOk result IsModel }
 {
     let with_wells = wel_in(alloc, names, folder, model)?;
@@ -43,9 +43,9 @@ pub fn with_stresses<F: Folder>(
     model: FlowModel,
 ) -> Result<FlowModel, InputFault>
     requires valid { IsModel model }
-    ensures files { F.files folder.new ≡ F.files folder.old }
+    ensures since { (files : List File) → F.agrees folder.new files → F.agrees folder.old files }
     ensures counts { InputCounts (F.faults folder.old) (F.faults folder.new) result }
-    ensures model { IsTrue (is_some (F.files folder.old)) → Has (λ m. m) result (with_stresses (told (F.files folder.old)) names.now model) }
+    ensures model { (files : List File) → F.agrees folder.new files → Has (λ m. m) result (with_stresses files names.now model) }
     ensures form { IfOk result IsModel }
 {
     let with_generals = with_entries(alloc, names, folder, model)?;

@@ -31,7 +31,3 @@ abbrev pub IsWhole : ℕ → Option (List ℕ) → Found → Type 0
 IsWhole limit left (Bytes v) = IfSome left (λ bytes. v.items ≡ bytes) × (length v.items ≤ limit)
 IsWhole limit left Missing = ⊥
 IsWhole limit left TooLong = IfSome left (λ bytes. limit < length bytes)
-
--- the files of a folder that tells none
-abbrev pub untold : Option (List File)
-untold = None

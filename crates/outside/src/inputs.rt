@@ -1,5 +1,6 @@
-ghost use Rattle.std.specs.Prelude.{◌≡◌, IfSome, IfOk};
+ghost use Rattle.std.specs.Prelude.{◌≡◌, List, IfOk};
 ghost use Rattle.outside.specs.Counts.{InputCounts};
+ghost use Rattle.outside.specs.Files.{File};
 ghost use Rattle.outside.specs.Inputs.{file_at, file_refusal, IsReading};
 ghost use Rattle.outside.specs.Names.{IsGoodName};
 ghost use Rattle.outside.specs.Refusals.{IsRefusal};
@@ -21,9 +22,9 @@ pub fn read_input<F: Folder>(
     name: &str,
 ) -> Result<Vec<u8>, InputFault>
     requires { IsGoodName name.now }
-    ensures files { F.files folder.new ≡ F.files folder.old }
+    ensures since { (files : List File) → F.agrees folder.new files → F.agrees folder.old files }
     ensures counts { InputCounts (F.faults folder.old) (F.faults folder.new) result }
-    ensures reads { IfSome (F.files folder.old) (λ files. IsReading (λ v. v.items) (file_at files name.now) result) }
+    ensures reads { (files : List File) → F.agrees folder.new files → IsReading (λ v. v.items) (file_at files name.now) result }
 {
     let asked = folder_name(alloc, name)?;
     match folder.read_file(alloc, asked.as_str(), FILE_LIMIT) {

@@ -1,7 +1,7 @@
-ghost use Rattle.std.specs.Prelude.{◌≡◌, List, [], ◌∷◌, ◌++◌, refl, IfOk, OnOk, OnErr, Some};
+ghost use Rattle.std.specs.Prelude.{◌≡◌, List, [], ◌∷◌, ◌++◌, refl, IfOk, OnOk, OnErr};
 ghost use Rattle.outside.specs.Memory.{SinkState, seen_in_memory, ReadsInMemory, PutsInMemory};
 ghost use Rattle.outside.specs.Counts.{ReadCounts};
-ghost use Rattle.outside.specs.Files.{IsFound};
+ghost use Rattle.outside.specs.Files.{File, IsFound};
 ghost use Rattle.outside.specs.Puts.{Put, PutMakes, PutsMake};
 
 use crate::stored::{Fail, MemFolder, MemSink, Stored, find_bytes, find_kept};
@@ -33,13 +33,13 @@ impl MemFolder {
 }
 
 impl Folder for MemFolder {
-    ghost files = { λ f. Some f.files };
+    ghost agrees = { λ f files. files ≡ f.files };
 
     ghost faults = { λ f. f.faults };
 
     fn read_file(&mut self, alloc: Global, name: &str, limit: u64) -> Result<Found, FolderError>
-        ensures files { Some self.new.files ≡ Some self.old.files }
-        ensures found { IfOk result (λ found. IsFound self.old.files name.now limit found) }
+        ensures since { (files : List File) → files ≡ self.new.files → files ≡ self.old.files }
+        ensures found { IfOk result (λ found. (files : List File) → files ≡ self.new.files → IsFound files name.now limit found) }
         ensures counts { ReadCounts self.old.faults self.new.faults result }
 
         // A call fails exactly where its number stands in the script.

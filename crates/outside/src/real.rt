@@ -1,36 +1,12 @@
-ghost use Rattle.std.specs.Prelude.{◌≡◌, ℕ, ◌<◌, ◌≤◌, List, length, take, None, refl, IfOk, IfSome, IfNone};
+ghost use Rattle.std.specs.Prelude.{◌≡◌, ℕ, ◌<◌, ◌≤◌, List, length, take, refl, IfOk, IfSome, IfNone};
 ghost use Rattle.std.specs.Io.KnownBytes.{Appends, Keeps};
-ghost use Rattle.outside.specs.Counts.{ReadCounts};
-ghost use Rattle.outside.specs.Files.{untold, IsFound, IsWhole, IsWithin};
+ghost use Rattle.outside.specs.Files.{IsWhole};
 ghost use Rattle.outside.specs.Puts.{Put, PutsMake, Seen};
 
-use crate::traits::{Folder, FolderError, Found, Sink, SinkError};
+use crate::traits::{FolderError, Found, Sink, SinkError};
 use std::alloc::Global;
-use std::fs;
-use std::io::{ErrorKind, Read, Write};
+use std::io::{Read, Write};
 use std::marker::Model;
-use std::rt::Files;
-
-/// The files of the system. It tells no content, and counts the reads that failed.
-#[derive(Drop)]
-pub struct RealFolder<'a, R: Files> {
-    rt: &'a R,
-    faults: u64,
-}
-
-impl<'a, R: Files> Model for RealFolder<'a, R> {
-    ghost Value = { ℕ };
-
-    ghost view = { λ folder. folder.faults };
-}
-
-impl<'a, R: Files> RealFolder<'a, R> {
-    pub fn new(rt: &'a R) -> RealFolder<'a, R>
-        ensures { result ≡ 0 }
-    {
-        RealFolder { rt, faults: 0 }
-    }
-}
 
 /// All that a reader has left, where that is at most `limit` bytes. It reads no more once a read
 /// gave nothing or failed, or past the limit.
@@ -51,37 +27,6 @@ pub fn read_whole<S: Read>(alloc: Global, from: &mut S, limit: u64) -> Result<Fo
         }
     }
     Ok(Found::TooLong)
-}
-
-impl<'a, R: Files> Folder for RealFolder<'a, R> {
-    ghost files = { λ _. untold };
-
-    ghost faults = { λ faults. faults };
-
-    fn read_file(&mut self, alloc: Global, name: &str, limit: u64) -> Result<Found, FolderError>
-        ensures files { untold ≡ untold }
-        ensures found { IfOk result (λ found. IfSome untold (λ known. IsFound known name.now limit found)) }
-        ensures counts { ReadCounts self.old self.new result }
-
-        // It tells no content, but that what it gives is not too long.
-        ensures within { IfOk result (λ found. IsWithin limit found) }
-    {
-        let mut file = match fs::open(self.rt, name) {
-            Ok(file) => file,
-            Err(e) => {
-                if e.kind() == ErrorKind::NotFound {
-                    return Ok(Found::Missing);
-                }
-                self.faults = self.faults.saturating_add(1);
-                return Err(FolderError::Read);
-            }
-        };
-        let answer = read_whole(alloc, &mut file, limit);
-        if matches!(answer, Err(FolderError::Read)) {
-            self.faults = self.faults.saturating_add(1);
-        }
-        answer
-    }
 }
 
 /// A writer as a sink. It tells the bytes that the writer tells, and counts the writes that failed.

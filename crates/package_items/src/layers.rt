@@ -1,9 +1,9 @@
 // Layer arrays that a file may lack.
-ghost use Rattle.std.specs.Prelude.{◌≡◌, ◌*◌, IfOk, IsTrue, is_some, length, All};
+ghost use Rattle.std.specs.Prelude.{◌≡◌, ◌*◌, IfOk, length, All, List};
 ghost use Rattle.decimal_input.specs.Canonical.{IsDec};
 ghost use Rattle.outside.specs.Counts.{InputCounts};
+ghost use Rattle.outside.specs.Files.{File};
 ghost use Rattle.record_lines.specs.Reading.{Gives};
-ghost use Rattle.array_reader.specs.Arrays.{told};
 ghost use Rattle.package_items.specs.Items.{layer_or};
 
 use array_reader::{constants, read_layer};
@@ -25,9 +25,9 @@ pub fn layer_or<F: Folder>(
     other: Dec,
 ) -> Result<Vec<Dec>, InputFault>
     requires canonical { IsDec other }
-    ensures files { F.files folder.new ≡ F.files folder.old }
+    ensures since { (files : List File) → F.agrees folder.new files → F.agrees folder.old files }
     ensures counts { InputCounts (F.faults folder.old) (F.faults folder.new) result }
-    ensures layer { IsTrue (is_some (F.files folder.old)) → Gives (λ v. v.items) result lines.new (layer_or (told (F.files folder.old)) file.now rows cols is_there other lines.old) }
+    ensures layer { (files : List File) → F.agrees folder.new files → Gives (λ v. v.items) result lines.new (layer_or files file.now rows cols is_there other lines.old) }
     ensures count { IfOk result (λ v. length v.items ≡ rows * cols) }
     ensures canonical { IfOk result (λ v. All IsDec v.items) }
 {

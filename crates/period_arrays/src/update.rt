@@ -1,8 +1,8 @@
 // Arrays that are read anew, or stand again.
-ghost use Rattle.std.specs.Prelude.{◌≡◌, IfOk, IfSome, IsSomeAnd, IsTrue, is_some, true, false};
+ghost use Rattle.std.specs.Prelude.{◌≡◌, IfOk, IfSome, IsSomeAnd, is_some, true, false, List};
 ghost use Rattle.outside.specs.Counts.{InputCounts};
+ghost use Rattle.outside.specs.Files.{File};
 ghost use Rattle.record_lines.specs.Reading.{Gives};
-ghost use Rattle.array_reader.specs.Arrays.{told};
 ghost use Rattle.model_types.specs.Grids.{HasSize};
 ghost use Rattle.period_arrays.specs.Forms.{IsReals, IsWhole};
 ghost use Rattle.period_arrays.specs.Layers.{layers_at};
@@ -28,9 +28,9 @@ pub fn update_reals<F: Folder>(
     last: &mut Option<Shared<Dec>>,
 ) -> Result<(), InputFault>
     requires last { IfSome last.old (IsReals grid.now) }
-    ensures files { F.files folder.new ≡ F.files folder.old }
+    ensures since { (files : List File) → F.agrees folder.new files → F.agrees folder.old files }
     ensures counts { InputCounts (F.faults folder.old) (F.faults folder.new) result }
-    ensures array { IsTrue (is_some (F.files folder.old)) → Gives (λ _. last.new) result lines.new (updated_reals (told (F.files folder.old)) file.now grid.now anew last.old lines.old) }
+    ensures array { (files : List File) → F.agrees folder.new files → Gives (λ _. last.new) result lines.new (updated_reals files file.now grid.now anew last.old lines.old) }
     ensures last { IfOk result (λ _. IfSome last.new (IsReals grid.now)) }
     ensures some { IfOk result (λ _. (anew ≡ false → is_some last.old ≡ true) → IsSomeAnd last.new (IsReals grid.now)) }
 {
@@ -52,9 +52,9 @@ fn layers_at<F: Folder>(
     grid: &Grid,
 ) -> Result<Vec<i64>, InputFault>
     requires size { HasSize grid.now }
-    ensures files { F.files folder.new ≡ F.files folder.old }
+    ensures since { (files : List File) → F.agrees folder.new files → F.agrees folder.old files }
     ensures counts { InputCounts (F.faults folder.old) (F.faults folder.new) result }
-    ensures array { IsTrue (is_some (F.files folder.old)) → Gives (λ v. v.items) result lines.new (layers_at (told (F.files folder.old)) file.now grid.now lines.old) }
+    ensures array { (files : List File) → F.agrees folder.new files → Gives (λ v. v.items) result lines.new (layers_at files file.now grid.now lines.old) }
     ensures form { IfOk result (λ v. IsWhole grid.now v.items) }
 {
     let values = read_int_layer(alloc, lines, file, folder, grid.rows, grid.cols)?;
@@ -75,9 +75,9 @@ pub fn update_layers<F: Folder>(
 ) -> Result<(), InputFault>
     requires size { HasSize grid.now }
     requires last { IfSome last.old (IsWhole grid.now) }
-    ensures files { F.files folder.new ≡ F.files folder.old }
+    ensures since { (files : List File) → F.agrees folder.new files → F.agrees folder.old files }
     ensures counts { InputCounts (F.faults folder.old) (F.faults folder.new) result }
-    ensures array { IsTrue (is_some (F.files folder.old)) → Gives (λ _. last.new) result lines.new (updated_layers (told (F.files folder.old)) file.now grid.now anew last.old lines.old) }
+    ensures array { (files : List File) → F.agrees folder.new files → Gives (λ _. last.new) result lines.new (updated_layers files file.now grid.now anew last.old lines.old) }
     ensures last { IfOk result (λ _. IfSome last.new (IsWhole grid.now)) }
     ensures some { IfOk result (λ _. (anew ≡ false → is_some last.old ≡ true) → IsSomeAnd last.new (IsWhole grid.now)) }
 {

@@ -1,8 +1,8 @@
 // A model with its recharge.
-ghost use Rattle.std.specs.Prelude.{◌≡◌, IfOk, IsTrue, is_some};
+ghost use Rattle.std.specs.Prelude.{◌≡◌, IfOk, List};
 ghost use Rattle.outside.specs.Counts.{InputCounts};
+ghost use Rattle.outside.specs.Files.{File};
 ghost use Rattle.record_lines.specs.Reading.{Has};
-ghost use Rattle.array_reader.specs.Arrays.{told};
 ghost use Rattle.model_types.specs.Grids.{HasSize};
 ghost use Rattle.model_types.specs.Valid.{IsModel};
 ghost use Rattle.rch_package.specs.Forms.{IsRecharged, SameBut};
@@ -26,9 +26,9 @@ fn with_recharge<F: Folder>(
     model: FlowModel,
 ) -> Result<FlowModel, InputFault>
     requires size { HasSize model.grid }
-    ensures files { F.files folder.new ≡ F.files folder.old }
+    ensures since { (files : List File) → F.agrees folder.new files → F.agrees folder.old files }
     ensures counts { InputCounts (F.faults folder.old) (F.faults folder.new) result }
-    ensures model { IsTrue (is_some (F.files folder.old)) → Has (λ m. m) result (rch_of (told (F.files folder.old)) file.now bytes.now model) }
+    ensures model { (files : List File) → F.agrees folder.new files → Has (λ m. m) result (rch_of files file.now bytes.now model) }
     ensures form { IfOk result IsRecharged }
     ensures others { IfOk result (SameBut model) }
 {
@@ -69,9 +69,9 @@ pub fn read_rch<F: Folder>(
     model: FlowModel,
 ) -> Result<FlowModel, InputFault>
     requires size { HasSize model.grid }
-    ensures files { F.files folder.new ≡ F.files folder.old }
+    ensures since { (files : List File) → F.agrees folder.new files → F.agrees folder.old files }
     ensures counts { InputCounts (F.faults folder.old) (F.faults folder.new) result }
-    ensures model { IsTrue (is_some (F.files folder.old)) → Has (λ m. m) result (rch_of (told (F.files folder.old)) file.now bytes.now model) }
+    ensures model { (files : List File) → F.agrees folder.new files → Has (λ m. m) result (rch_of files file.now bytes.now model) }
     ensures form { IfOk result IsRecharged }
     ensures others { IfOk result (SameBut model) }
     ensures valid { IsModel model → IfOk result IsModel }

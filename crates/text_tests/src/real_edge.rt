@@ -18,10 +18,33 @@ fn real_files_are_read_whole_or_refused(rt: HostRuntime) -> Result<(), Fail> {
     let alloc = rt.alloc();
     fs::write(&rt, "three.txt", "1 2 3\n")?;
     fs::create_dir(&rt, "folder.txt")?;
-    let mut folder = RealFolder::new(&rt);
+    let mut folder = RealFolder::new(&rt, alloc);
     for (name, limit, answer) in &REAL_FILES {
         let found = found_text(alloc, folder.read_file(alloc, name, *limit))?;
         assert!(rt; found.as_str() == *answer, "{name}");
+    }
+    Ok(())
+}
+
+// What was read stays as it was read, whatever becomes of the file; under another limit it is read anew.
+#[test]
+fn a_real_file_is_read_once(rt: HostRuntime) -> Result<(), Fail> {
+    let alloc = rt.alloc();
+    let mut folder = RealFolder::new(&rt, alloc);
+    fs::write(&rt, "model.txt", "before\n")?;
+    for (name, limit, answer) in [("model.txt", 9, "before\n"), ("later.txt", 9, "missing")] {
+        let found = found_text(alloc, folder.read_file(alloc, name, limit))?;
+        assert!(rt; found.as_str() == answer, "{name}");
+    }
+    fs::write(&rt, "model.txt", "after\n")?;
+    fs::write(&rt, "later.txt", "there\n")?;
+    for (name, limit, answer) in [
+        ("model.txt", 9, "before\n"),
+        ("later.txt", 9, "missing"),
+        ("model.txt", 8, "after\n"),
+    ] {
+        let found = found_text(alloc, folder.read_file(alloc, name, limit))?;
+        assert!(rt; found.as_str() == answer, "{name} again");
     }
     Ok(())
 }

@@ -1,8 +1,8 @@
 // The zones of a model's cells.
-ghost use Rattle.std.specs.Prelude.{◌≡◌, IfOk, IsTrue, is_some, length, All};
+ghost use Rattle.std.specs.Prelude.{◌≡◌, IfOk, length, All, List};
 ghost use Rattle.outside.specs.Counts.{InputCounts};
+ghost use Rattle.outside.specs.Files.{File};
 ghost use Rattle.record_lines.specs.Reading.{Has};
-ghost use Rattle.array_reader.specs.Arrays.{told};
 ghost use Rattle.model_types.specs.Cells.{cell_count};
 ghost use Rattle.model_types.specs.Grids.{HasSize};
 ghost use Rattle.zone_file.specs.Zones.{IsZone, zones_of};
@@ -30,9 +30,9 @@ pub fn read_zones<F: Folder>(
     folder: &mut F,
 ) -> Result<Vec<i64>, InputFault>
     requires size { HasSize model.now.grid }
-    ensures files { F.files folder.new ≡ F.files folder.old }
+    ensures since { (files : List File) → F.agrees folder.new files → F.agrees folder.old files }
     ensures counts { InputCounts (F.faults folder.old) (F.faults folder.new) result }
-    ensures zones { IsTrue (is_some (F.files folder.old)) → Has (λ v. v.items) result (zones_of (told (F.files folder.old)) model.now.grid name.now) }
+    ensures zones { (files : List File) → F.agrees folder.new files → Has (λ v. v.items) result (zones_of files model.now.grid name.now) }
     ensures count { IfOk result (λ v. length v.items ≡ cell_count model.now.grid) }
     ensures limits { IfOk result (λ v. All IsZone v.items) }
 {

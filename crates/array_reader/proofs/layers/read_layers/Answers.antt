@@ -1,5 +1,4 @@
-use Rattle.std.proofs.Common.{◌∙◌, refl, IsTrue, ◌*◌}
-use Rattle.std.specs.Prelude.{is_some}
+use Rattle.std.proofs.Common.{◌∙◌, refl, ◌*◌}
 use Rattle.std.proofs.lemmas.Result.{err_from_is_err_and}
 use Rattle.record_lines.proofs.Loops.{list_goes_on, list_stops, lists_done}
 use Rattle.array_reader.proofs.ListLemmas.{all_joined, row_joined}
@@ -8,17 +7,15 @@ use Rattle.array_reader.proofs.layers.read_layers.Goals as goal
 
 pub returns-in_err-layer-clause-layers : goal.returns-in_err-layer-clause-layers
 unfolding layers
-returns-in_err-layer-clause-layers g c = λ told.
+returns-in_err-layer-clause-layers g c = λ files agree.
     let p = err_from_is_err_and c.from_residual.result c.from_residual.ensures.1 in
-    let here : IsTrue (is_some (g.F.Folder.files c.loop.folder)) = rw c.loop.invariant.1 told in
-    rw (p.1, p.2) (list_stops _ c.in_err-layer.field-0.0 c.loop.values.items c.args.count c.loop.counter _ _ c.loop-test.true (rw c.loop.invariant.1 at (c.in_err-layer.ensures.layer here)) (c.loop.invariant.0 told))
+    rw (p.1, p.2) (list_stops _ c.in_err-layer.field-0.0 c.loop.values.items c.args.count c.loop.counter _ _ c.loop-test.true (c.in_err-layer.ensures.layer files agree) (c.loop.invariant.0 files (c.in_err-layer.ensures.since files agree)))
 
 pub loop-preserved : goal.loop-preserved
 loop-preserved g c = (
-  (λ told.
-      let here : IsTrue (is_some (g.F.Folder.files c.loop.folder)) = rw c.loop.invariant.1 told in
-      rw (c.in_ok-extend_from_slice.ensures.items, c.deref.ensures.value) (list_goes_on _ c.loop.values.items c.args.count c.loop.counter _ _ c.in_ok-layer.layer.items _ c.loop-test.true (rw c.loop.invariant.1 at (c.in_ok-layer.ensures.layer here)) (c.loop.invariant.0 told))),
-  c.in_ok-layer.ensures.files ∙ c.loop.invariant.1,
+  (λ files agree.
+      rw (c.in_ok-extend_from_slice.ensures.items, c.deref.ensures.value) (list_goes_on _ c.loop.values.items c.args.count c.loop.counter _ _ c.in_ok-layer.layer.items _ c.loop-test.true (c.in_ok-layer.ensures.layer files agree) (c.loop.invariant.0 files (c.in_ok-layer.ensures.since files agree)))),
+  (λ files agree. c.loop.invariant.1 files (c.in_ok-layer.ensures.since files agree)),
   c.in_ok-layer.ensures.counts ∙ c.loop.invariant.2,
   all_joined g.V.Value.Good c.loop.values.items c.in_ok-layer.layer.items _ (rw (c.in_ok-extend_from_slice.ensures.items, c.deref.ensures.value) refl) c.loop.invariant.3 c.in_ok-layer.ensures.good,
   row_joined c.loop.values.items c.in_ok-layer.layer.items _ c.loop.counter (c.args.rows * c.args.cols) (rw (c.in_ok-extend_from_slice.ensures.items, c.deref.ensures.value) refl) c.loop.invariant.4 c.in_ok-layer.ensures.count,
@@ -26,4 +23,4 @@ loop-preserved g c = (
 
 pub returns-clause-layers : goal.returns-clause-layers
 unfolding layers
-returns-clause-layers g c = λ told. lists_done _ c.loop.values.items c.args.count c.loop.counter _ _ c.loop-test.false (c.loop.invariant.0 told)
+returns-clause-layers g c = λ files agree. lists_done _ c.loop.values.items c.args.count c.loop.counter _ _ c.loop-test.false (c.loop.invariant.0 files agree)

@@ -1,5 +1,4 @@
-use Rattle.std.proofs.Common.{◌∙◌, IsTrue, arith}
-use Rattle.std.specs.Prelude.{is_some}
+use Rattle.std.proofs.Common.{◌∙◌, arith}
 use Rattle.std.proofs.lemmas.Result.{err_from_is_err_and}
 use Rattle.record_lines.proofs.Counted.{step_goes_on, steps_stop, steps_done}
 use Rattle.dis_package.specs.Grids.{bottoms_of}
@@ -7,17 +6,15 @@ use Rattle.dis_package.proofs.bottoms.bottoms_of.Goals as goal
 
 pub returns-in_err-more-clause-bottoms : goal.returns-in_err-more-clause-bottoms
 unfolding bottoms_of
-returns-in_err-more-clause-bottoms g c = λ told.
+returns-in_err-more-clause-bottoms g c = λ files agree.
     let p = err_from_is_err_and c.from_residual.result c.from_residual.ensures.1 in
-    let here : IsTrue (is_some (g.F.Folder.files c.loop-k.folder)) = rw c.loop-k.invariant.1 told in
-    rw (p.1, p.2) (steps_stop _ c.in_err-more.field-0.0 c.args.count c.loop-k.k _ _ c.loop-k-test.true (rw c.loop-k.invariant.1 at (c.in_err-more.ensures.bottoms here)) (c.loop-k.invariant.0 told))
+    rw (p.1, p.2) (steps_stop _ c.in_err-more.field-0.0 c.args.count c.loop-k.k _ _ c.loop-k-test.true (c.in_err-more.ensures.bottoms files agree) (c.loop-k.invariant.0 files (c.in_err-more.ensures.since files agree)))
 
 pub loop-k-preserved : goal.loop-k-preserved
 loop-k-preserved g c = (
-  (λ told.
-      let here : IsTrue (is_some (g.F.Folder.files c.loop-k.folder)) = rw c.loop-k.invariant.1 told in
-      step_goes_on _ c.args.count c.loop-k.k _ _ _ c.loop-k-test.true (rw c.loop-k.invariant.1 at (c.in_ok-more.ensures.bottoms here)) (c.loop-k.invariant.0 told)),
-  c.in_ok-more.ensures.files ∙ c.loop-k.invariant.1,
+  (λ files agree.
+      step_goes_on _ c.args.count c.loop-k.k _ _ _ c.loop-k-test.true (c.in_ok-more.ensures.bottoms files agree) (c.loop-k.invariant.0 files (c.in_ok-more.ensures.since files agree))),
+  (λ files agree. c.loop-k.invariant.1 files (c.in_ok-more.ensures.since files agree)),
   c.in_ok-more.ensures.counts ∙ c.loop-k.invariant.2,
   grind arith,
   grind arith,
@@ -27,4 +24,4 @@ loop-k-preserved g c = (
 
 pub returns-clause-bottoms : goal.returns-clause-bottoms
 unfolding bottoms_of
-returns-clause-bottoms g c = λ told. steps_done _ c.args.count c.loop-k.k _ _ c.loop-k-test.false (c.loop-k.invariant.0 told)
+returns-clause-bottoms g c = λ files agree. steps_done _ c.args.count c.loop-k.k _ _ c.loop-k-test.false (c.loop-k.invariant.0 files agree)

@@ -1,15 +1,15 @@
 use Rattle.std.proofs.Common.{◌≡◌, ◌-◌, ◌*◌, length, [], All}
-use Rattle.std.specs.Prelude.{IsTrue, is_some}
+use Rattle.std.specs.Prelude.{List}
+use Rattle.outside.specs.Files.{File}
 use Rattle.decimal_input.specs.Canonical.{IsDec}
 use Rattle.record_lines.specs.Reading.{counted}
-use Rattle.array_reader.specs.Arrays.{told}
 use Rattle.dis_package.specs.Grids.{bottom_at}
 use Rattle.dis_package.proofs.bottoms.bottoms_of.Given as goal
 
 abbrev pub invariant-loop-k : goal.invariant-loop-k
 invariant-loop-k g l =
-    (IsTrue (is_some (g.F.Folder.files l.fn.folder)) → counted (bottom_at (told (g.F.Folder.files l.fn.folder)) l.file l.size l.laycbd) l.k (l.count - l.k) (l.bottoms, l.lines)
-    ≡ counted (bottom_at (told (g.F.Folder.files l.fn.folder)) l.file l.size l.laycbd) 0 l.count (record { layers = []; beds = [] }, l.fn.lines))
-    × (g.F.Folder.files l.folder ≡ g.F.Folder.files l.fn.folder) × (g.F.Folder.faults l.folder ≡ g.F.Folder.faults l.fn.folder)
+    ((files : List File) → g.F.Folder.agrees l.folder files → counted (bottom_at files l.file l.size l.laycbd) l.k (l.count - l.k) (l.bottoms, l.lines)
+    ≡ counted (bottom_at files l.file l.size l.laycbd) 0 l.count (record { layers = []; beds = [] }, l.fn.lines))
+    × ((files : List File) → g.F.Folder.agrees l.folder files → g.F.Folder.agrees l.fn.folder files) × (g.F.Folder.faults l.folder ≡ g.F.Folder.faults l.fn.folder)
     × (length l.bottoms.layers ≡ l.k * (l.size.rows * l.size.cols)) × (length l.bottoms.beds ≡ l.k * (l.size.rows * l.size.cols))
     × All IsDec l.bottoms.layers × All IsDec l.bottoms.beds

@@ -4,19 +4,19 @@ use Rattle.record_lines.specs.Reading.{StopsText}
 use Rattle.listing_io.specs.Reading.{listing_in}
 use Rattle.engine.specs.Cases.{AskedCheck}
 use Rattle.engine.specs.Commands.{check_of}
-use Rattle.engine.proofs.Readings.{bad_listed, read_bytes, text_read, unread_file}
+use Rattle.engine.proofs.Readings.{bad_listed, of_known, read_bytes, text_read, unread_file}
 use Rattle.engine.proofs.checking.read_listed.Goals as goal
 
 pub returns-then-not-is_good_name-clause-reads : goal.returns-then-not-is_good_name-clause-reads
 returns-then-not-is_good_name-clause-reads g c =
     let asked : AskedCheck = check_of c.args.asked in
-    bad_listed asked c.args.model.now (g.F.Folder.files c.args.folder.now) c.bad_name.result (search rules) c.bad_name.ensures
+    λ files agree. bad_listed asked c.args.model.now files c.bad_name.result (search rules) c.bad_name.ensures
 
 pub returns-in_err-bytes-clause-reads : goal.returns-in_err-bytes-clause-reads
 returns-in_err-bytes-clause-reads g c =
     let asked : AskedCheck = check_of c.args.asked in
     let p = err_from_is_err_and c.from_residual.result c.from_residual.ensures.1 in
-    rw (p.1, p.2) (unread_file asked c.args.model.now (search rules) c.read_input.result (λ v. v.items) (g.F.Folder.files c.args.folder.now) c.in_err-bytes.field-0.0 c.in_err-bytes.ensures.reads)
+    λ files agree. rw (p.1, p.2) (unread_file asked c.args.model.now (search rules) c.read_input.result (λ v. v.items) files c.in_err-bytes.field-0.0 (of_known files c.in_err-bytes.ensures.reads agree))
 
 pub returns-in_err-listing-clause-reads : goal.returns-in_err-listing-clause-reads
 returns-in_err-listing-clause-reads g c =
@@ -24,9 +24,9 @@ returns-in_err-listing-clause-reads g c =
     let p = err_from_is_err_and c.from_residual-in_err-listing.result c.from_residual-in_err-listing.ensures.1 in
     let P : List ℕ → Type 0 = λ b. StopsText c.in_err-listing.field-0.0 (listing_in c.args.model.now asked.digits asked.listing b) in
     let stops = subst P c.as_slice.ensures.value c.in_err-listing.ensures.reads in
-    rw (p.1, p.2) (read_bytes asked c.args.model.now (search rules) (g.F.Folder.files c.args.folder.now) c.in_ok-bytes.bytes.items _ c.in_ok-bytes.ensures.reads (text_read (listing_in c.args.model.now asked.digits asked.listing c.in_ok-bytes.bytes.items) c.in_err-listing.field-0.0 stops) tt)
+    λ files agree. rw (p.1, p.2) (read_bytes asked c.args.model.now (search rules) files c.in_ok-bytes.bytes.items _ (of_known files c.in_ok-bytes.ensures.reads agree) (text_read (listing_in c.args.model.now asked.digits asked.listing c.in_ok-bytes.bytes.items) c.in_err-listing.field-0.0 stops) tt)
 
 pub returns-clause-reads : goal.returns-clause-reads
 returns-clause-reads g c =
     let asked : AskedCheck = check_of c.args.asked in
-    read_bytes asked c.args.model.now (search rules) (g.F.Folder.files c.args.folder.now) c.in_ok-bytes.bytes.items _ c.in_ok-bytes.ensures.reads (rw c.as_slice.ensures.value at c.in_ok-listing.ensures.reads) c.in_ok-listing.ensures.listed
+    λ files agree. read_bytes asked c.args.model.now (search rules) files c.in_ok-bytes.bytes.items _ (of_known files c.in_ok-bytes.ensures.reads agree) (rw c.as_slice.ensures.value at c.in_ok-listing.ensures.reads) c.in_ok-listing.ensures.listed

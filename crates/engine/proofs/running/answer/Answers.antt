@@ -14,20 +14,20 @@ returns-in-Err-Usage-clause-answers g c = λ start puts h.
     let m = c.put_last.ensures start puts h in
     let words : List (List ℕ) = map (λ w. w.now) c.args.words.now in
     let none : asked_in words ≡ None = asked_none words (c.in-Err-Usage.ensures.usage (ap Err c.in-Err-Usage.field-0-is)) in
-    (m.0, m.1, ends_usage words (g.F.Folder.files c.args.folder.now) (g.F.Folder.faults c.args.folder.now) _ c.put_last.result m.0 (no_words words (g.F.Folder.files c.args.folder.now) none) m.2)
+    (m.0, m.1, λ files agree. ends_usage words files (g.F.Folder.faults c.args.folder.now) _ c.put_last.result m.0 (no_words words files none) m.2)
 
 pub returns-in-Err-Memory-clause-answers : goal.returns-in-Err-Memory-clause-answers
 returns-in-Err-Memory-clause-answers g c = λ start puts h.
     let m = c.put_memory.ensures start puts h in
     let words : List (List ℕ) = map (λ w. w.now) c.args.words.now in
-    (m.0, m.1, ends_without_words words (g.F.Folder.files c.args.folder.now) (g.F.Folder.faults c.args.folder.now) _ c.put_memory.result m.0 m.2)
+    (m.0, m.1, λ files agree. ends_without_words words files (g.F.Folder.faults c.args.folder.now) _ c.put_memory.result m.0 m.2)
 
 pub returns-in-None-clause-answers : goal.returns-in-None-clause-answers
 returns-in-None-clause-answers g c = λ start puts h.
     let m = c.put_last-in-None.ensures start puts h in
     let words : List (List ℕ) = map (λ w. w.now) c.args.words.now in
     let none : asked_in words ≡ None = asked_by words _ None c.in-Ok.ensures.order c.in-None.ensures.is in
-    (m.0, m.1, ends_usage words (g.F.Folder.files c.args.folder.now) (g.F.Folder.faults c.args.folder.now) _ c.put_last-in-None.result m.0 (no_words words (g.F.Folder.files c.args.folder.now) none) m.2)
+    (m.0, m.1, λ files agree. ends_usage words files (g.F.Folder.faults c.args.folder.now) _ c.put_last-in-None.result m.0 (no_words words files none) m.2)
 
 pub returns-in-Some-Run-clause-answers : goal.returns-in-Some-Run-clause-answers
 returns-in-Some-Run-clause-answers g c = λ start puts h.
@@ -40,7 +40,7 @@ returns-in-Some-Make-clause-answers g c = λ start puts h.
     let m = c.put_made.ensures start puts h in
     let words : List (List ℕ) = map (λ w. w.now) c.args.words.now in
     let wanted : asked_in words ≡ Some (Make c.in-Some-Make.seed c.in-Some-Make.size) = asked_by words _ (Some (Make c.in-Some-Make.seed c.in-Some-Make.size)) c.in-Ok.ensures.order (by_variant _ _ _ c.in-Some-Make.field-0-is c.in-Some-Make.ensures.is) in
-    (m.0, m.1, ends_made words c.in-Some-Make.seed c.in-Some-Make.size wanted (g.F.Folder.files c.args.folder.now) (g.F.Folder.faults c.args.folder.now) _ c.put_made.result m.0 m.2)
+    (m.0, m.1, λ files agree. ends_made words c.in-Some-Make.seed c.in-Some-Make.size wanted files (g.F.Folder.faults c.args.folder.now) _ c.put_made.result m.0 m.2)
 
 pub returns-in-Some-Check-clause-answers : goal.returns-in-Some-Check-clause-answers
 returns-in-Some-Check-clause-answers g c = λ start puts h.

@@ -14,4 +14,4 @@ pub returns-clause-arrays : goal.returns-clause-arrays
 returns-clause-arrays g c = are_arrays _ _ _ _ _ _ _ c.args.period _ c.in_ok-arrays_of.ensures.some c.in_ok-period.ensures.made c.in_ok-flags.ensures.surface c.in_ok-flags.ensures.rate c.in_ok-flags.ensures.depth (λ two. c.in_ok-flags.ensures.layer (c.is_layered.ensures ∙ two)) c.in_ok-period.ensures.passed
 
 pub returns-clause-period : goal.returns-clause-period
-returns-clause-period g c = λ told. period_read _ _ _ _ _ _ _ _ _ _ _ _ _ c.is_layered.ensures c.in_ok-line.ensures (rw c.of.ensures at c.in_ok-flags.ensures.flags) (c.in_ok-arrays_of.ensures.arrays told) c.in_ok-period.ensures.period
+returns-clause-period g c = λ files agree. period_read _ _ _ _ _ _ _ _ _ _ _ _ _ c.is_layered.ensures c.in_ok-line.ensures (rw c.of.ensures at c.in_ok-flags.ensures.flags) (c.in_ok-arrays_of.ensures.arrays files agree) c.in_ok-period.ensures.period

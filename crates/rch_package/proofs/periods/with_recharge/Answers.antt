@@ -1,5 +1,4 @@
-use Rattle.std.proofs.Common.{◌∙◌, sym, IsTrue}
-use Rattle.std.specs.Prelude.{is_some}
+use Rattle.std.proofs.Common.{◌∙◌, sym}
 use Rattle.std.specs.Vec.Iter.{into_iter_items}
 use Rattle.std.proofs.lemmas.Result.{err_from_is_err_and}
 use Rattle.record_lines.proofs.Each.{no_items, each_goes_on, each_stops, each_done}
@@ -9,19 +8,17 @@ use Rattle.rch_package.specs.Forms.{AreArrays, without}
 use Rattle.rch_package.proofs.periods.with_recharge.Goals as goal
 
 pub returns-in_err-period-clause-periods : goal.returns-in_err-period-clause-periods
-returns-in_err-period-clause-periods g c = λ told.
+returns-in_err-period-clause-periods g c = λ files agree.
     let p = err_from_is_err_and c.from_residual.result c.from_residual.ensures.1 in
-    let here : IsTrue (is_some (g.F.Folder.files c.loop-period.folder)) = rw c.loop-period.invariant.3 told in
-    rw (p.1, p.2) (each_stops _ c.in_err-period.field-0.0 c.loop-period.whole.items (into_iter_items c.loop-period.period-iterator) (into_iter_items c.next.new.self) c.in-Some.period _ _ c.in-Some.ensures.steps.0 (rw c.loop-period.invariant.3 at (c.in_err-period.ensures.period here)) (c.loop-period.invariant.2 told))
+    rw (p.1, p.2) (each_stops _ c.in_err-period.field-0.0 c.loop-period.whole.items (into_iter_items c.loop-period.period-iterator) (into_iter_items c.next.new.self) c.in-Some.period _ _ c.in-Some.ensures.steps.0 (c.in_err-period.ensures.period files agree) (c.loop-period.invariant.2 files (c.in_err-period.ensures.since files agree)))
 
 pub loop-period-preserved : goal.loop-period-preserved
 loop-period-preserved g c = (
   tt,
   tt,
-  (λ told.
-      let here : IsTrue (is_some (g.F.Folder.files c.loop-period.folder)) = rw c.loop-period.invariant.3 told in
-      rw c.in_ok-push.ensures.items (each_goes_on _ c.loop-period.whole.items (into_iter_items c.loop-period.period-iterator) (into_iter_items c.next.new.self) c.in-Some.period _ _ c.in_ok-period.period _ c.in-Some.ensures.steps.0 (rw c.loop-period.invariant.3 at (c.in_ok-period.ensures.period here)) (c.loop-period.invariant.2 told))),
-  c.in_ok-period.ensures.files ∙ c.loop-period.invariant.3,
+  (λ files agree.
+      rw c.in_ok-push.ensures.items (each_goes_on _ c.loop-period.whole.items (into_iter_items c.loop-period.period-iterator) (into_iter_items c.next.new.self) c.in-Some.period _ _ c.in_ok-period.period _ c.in-Some.ensures.steps.0 (c.in_ok-period.ensures.period files agree) (c.loop-period.invariant.2 files (c.in_ok-period.ensures.since files agree)))),
+  (λ files agree. c.loop-period.invariant.3 files (c.in_ok-period.ensures.since files agree)),
   c.in_ok-period.ensures.counts ∙ c.loop-period.invariant.4,
   c.in_ok-period.ensures.last,
   all_pushed (AreArrays c.args.layered c.args.grid.now) c.loop-period.whole.items _ c.in_ok-period.period c.in_ok-push.ensures.items c.loop-period.invariant.6 c.in_ok-period.ensures.arrays,
@@ -29,7 +26,7 @@ loop-period-preserved g c = (
 )
 
 pub returns-clause-periods : goal.returns-clause-periods
-returns-clause-periods g c = λ told. each_done _ c.loop-period.whole.items (into_iter_items c.loop-period.period-iterator) _ _ (no_items (into_iter_items c.loop-period.period-iterator) (sym c.loop-period.period-iterator.rest.ok.0 ∙ c.in-None.ensures.steps.0)) (c.loop-period.invariant.2 told)
+returns-clause-periods g c = λ files agree. each_done _ c.loop-period.whole.items (into_iter_items c.loop-period.period-iterator) _ _ (no_items (into_iter_items c.loop-period.period-iterator) (sym c.loop-period.period-iterator.rest.ok.0 ∙ c.in-None.ensures.steps.0)) (c.loop-period.invariant.2 files agree)
 
 pub returns-clause-others : goal.returns-clause-others
 returns-clause-others g c = all_same without c.loop-period.whole.items (into_iter_items c.loop-period.period-iterator) _ (no_items (into_iter_items c.loop-period.period-iterator) (sym c.loop-period.period-iterator.rest.ok.0 ∙ c.in-None.ensures.steps.0)) c.loop-period.invariant.7

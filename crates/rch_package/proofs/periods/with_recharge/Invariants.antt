@@ -1,9 +1,9 @@
 use Rattle.std.proofs.Common.{◌≡◌, ◌++◌, map, All}
-use Rattle.std.specs.Prelude.{IsTrue, is_some}
+use Rattle.std.specs.Prelude.{List}
+use Rattle.outside.specs.Files.{File}
 use Rattle.std.specs.Vec.Iter.{into_iter_items}
 use Rattle.record_lines.specs.Reading.{for_each}
 use Rattle.record_lines.proofs.Loops.{with_front}
-use Rattle.array_reader.specs.Arrays.{told}
 use Rattle.rch_package.specs.Forms.{AreArrays, AreLast, without}
 use Rattle.rch_package.specs.Recharge.{period_at}
 use Rattle.rch_package.proofs.periods.with_recharge.Given as goal
@@ -11,9 +11,9 @@ use Rattle.rch_package.proofs.periods.with_recharge.Given as goal
 abbrev pub invariant-loop-period : goal.invariant-loop-period
 invariant-loop-period g l =
     (goal.iterator-loop-period g).can_next l.period-iterator × (goal.iterator-loop-period g).is_finite l.period-iterator
-    × (IsTrue (is_some (g.F.Folder.files l.fn.folder)) → with_front l.whole.items (for_each (period_at l.layered (told (g.F.Folder.files l.fn.folder)) l.file l.grid) (into_iter_items l.period-iterator) (l.last, l.lines))
-    ≡ for_each (period_at l.layered (told (g.F.Folder.files l.fn.folder)) l.file l.grid) l.fn.periods.items (l.fn.last, l.fn.lines))
-    × (g.F.Folder.files l.folder ≡ g.F.Folder.files l.fn.folder) × (g.F.Folder.faults l.folder ≡ g.F.Folder.faults l.fn.folder)
+    × ((files : List File) → g.F.Folder.agrees l.folder files → with_front l.whole.items (for_each (period_at l.layered files l.file l.grid) (into_iter_items l.period-iterator) (l.last, l.lines))
+    ≡ for_each (period_at l.layered files l.file l.grid) l.fn.periods.items (l.fn.last, l.fn.lines))
+    × ((files : List File) → g.F.Folder.agrees l.folder files → g.F.Folder.agrees l.fn.folder files) × (g.F.Folder.faults l.folder ≡ g.F.Folder.faults l.fn.folder)
     × AreLast l.grid l.last
     × All (AreArrays l.layered l.grid) l.whole.items
     × (map without l.whole.items ++ map without (into_iter_items l.period-iterator) ≡ map without l.fn.periods.items)

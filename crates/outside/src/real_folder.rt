@@ -1,0 +1,89 @@
+// The files of the system as a folder.
+ghost use Rattle.std.specs.Prelude.{◌≡◌, [], List, IfOk};
+ghost use Rattle.outside.specs.Counts.{ReadCounts};
+ghost use Rattle.outside.specs.Files.{File, IsFound, IsWithin};
+ghost use Rattle.outside.specs.Readings.{ReadState, AgreeWith, AreWithin};
+
+use crate::readings::{Reading, copied, found_before};
+use crate::real::read_whole;
+use crate::traits::{Folder, FolderError, Found};
+use std::alloc::Global;
+use std::fs;
+use std::io::ErrorKind;
+use std::marker::Model;
+use std::rt::Files;
+
+/// The files of the system, each of which is read once and kept: what was asked for before is answered as it was. Files
+/// agree with the folder that are under each name what was found there. It counts the reads that failed.
+#[derive(Drop)]
+pub struct RealFolder<'a, R: Files> {
+    rt: &'a R,
+    readings: Vec<Reading>,
+    faults: u64,
+}
+
+impl<'a, R: Files> Model for RealFolder<'a, R> {
+    ghost Value = { ReadState };
+
+    ghost view = { λ folder. record { readings = folder.readings.items; faults = folder.faults } };
+
+    ghost invariant = { λ folder. AreWithin folder.readings.items };
+}
+
+impl<'a, R: Files> RealFolder<'a, R> {
+    pub fn new(rt: &'a R, alloc: Global) -> RealFolder<'a, R>
+        ensures { result ≡ record { readings = []; faults = 0 } }
+    {
+        RealFolder {
+            rt,
+            readings: Vec::new(alloc),
+            faults: 0,
+        }
+    }
+
+    fn find(&mut self, alloc: Global, name: &str, limit: u64) -> Result<Found, FolderError>
+        ensures readings { self.new.readings ≡ self.old.readings }
+        ensures within { IfOk result (IsWithin limit) }
+        ensures counts { ReadCounts self.old.faults self.new.faults result }
+    {
+        let mut file = match fs::open(self.rt, name) {
+            Ok(file) => file,
+            Err(e) => {
+                if e.kind() == ErrorKind::NotFound {
+                    return Ok(Found::Missing);
+                }
+                self.faults = self.faults.saturating_add(1);
+                return Err(FolderError::Read);
+            }
+        };
+        let answer = read_whole(alloc, &mut file, limit);
+        if matches!(answer, Err(FolderError::Read)) {
+            self.faults = self.faults.saturating_add(1);
+        }
+        answer
+    }
+}
+
+impl<'a, R: Files> Folder for RealFolder<'a, R> {
+    ghost agrees = { λ folder. AgreeWith folder.readings };
+
+    ghost faults = { λ folder. folder.faults };
+
+    fn read_file(&mut self, alloc: Global, name: &str, limit: u64) -> Result<Found, FolderError>
+        ensures since { (files : List File) → AgreeWith self.new.readings files → AgreeWith self.old.readings files }
+        ensures found { IfOk result (λ found. (files : List File) → AgreeWith self.new.readings files → IsFound files name.now limit found) }
+        ensures counts { ReadCounts self.old.faults self.new.faults result }
+
+        // What it gives is not too long, whichever files agree.
+        ensures within { IfOk result (λ found. IsWithin limit found) }
+    {
+        if let Some(found) = found_before(self.readings.as_slice(), name, limit) {
+            return Ok(copied(alloc, found)?);
+        }
+        let found = self.find(alloc, name, limit)?;
+        let answer = copied(alloc, &found)?;
+        let name = Vec::from_slice(alloc, name.as_bytes())?;
+        self.readings.insert(0, Reading { name, limit, found })?;
+        Ok(answer)
+    }
+}
