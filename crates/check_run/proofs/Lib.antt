@@ -6,3 +6,4 @@ pub mod Passing
 pub mod Outcomes
 pub mod OneVerdict
 pub mod Checking
+pub mod RunSteps
