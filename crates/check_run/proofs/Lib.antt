@@ -7,3 +7,7 @@ pub mod Outcomes
 pub mod OneVerdict
 pub mod Checking
 pub mod RunSteps
+pub mod RunTerms
+pub mod RunListed
+pub mod RunText
+pub mod RunEnclosed

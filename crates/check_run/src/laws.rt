@@ -1,8 +1,9 @@
 // Laws of verdicts. Each is the contract of an empty function, but for the laws below that it calls.
 ghost use Rattle.check_run.specs.Laws.{VerdictIsOne};
-ghost use Rattle.check_run.specs.Runs.{RunIsCertified};
+ghost use Rattle.check_run.specs.Runs.{RunIsCertified, RunIsReadAgain};
 
 use barrier_vector::laws::{no_barrier_beside_a_refusal, one_barrier};
+use listing_io::laws::listings_are_read_again;
 use problem_builder::laws::{
     constant_pairs, no_problem_beside_a_refusal, one_list_of_start_heads, one_problem, problems_fit,
     start_heads_fit,
@@ -33,4 +34,13 @@ pub fn run_is_certified()
     constant_pairs();
     settled_pair_certifies();
     heads_fit();
+}
+
+/// What a run writes is read as what it lists.
+pub fn run_is_read_again()
+    ensures { RunIsReadAgain }
+{
+    start_heads_fit();
+    heads_fit();
+    listings_are_read_again();
 }
