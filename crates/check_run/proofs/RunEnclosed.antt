@@ -1,5 +1,5 @@
 -- What the steps of a run enclose, their listing encloses.
-use Rattle.std.proofs.Common.{◌≡◌, ℕ, List, [], ◌∷◌, map, ℤ, subst}
+use Rattle.std.proofs.Common.{ℕ, List, [], ◌∷◌, map, ℤ, subst}
 use Rattle.decimal_input.specs.Fractions.{Fraction}
 use Rattle.step_problem.specs.declared.heads.Bound.{Bound}
 use Rattle.budget_bounds.specs.Exact.{BudgetEncloses}

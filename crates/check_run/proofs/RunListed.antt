@@ -1,5 +1,5 @@
 -- The steps of a run are steps that a listing can have.
-use Rattle.std.proofs.Common.{◌≡◌, ℕ, zero, suc, ◌+◌, ◌≤◌, ◌<◌, ◌&&◌, not, ◌==◌, Bool, true, false, cond, List, [], ◌∷◌, length, map, All, get_or, Contains, Ok, Option, Some, None, refl, sym, ap, ◌∙◌, subst, arith, ℤ, pos, negsuc}
+use Rattle.std.proofs.Common.{◌≡◌, ℕ, zero, suc, ◌+◌, ◌<◌, false, List, [], ◌∷◌, length, map, All, Ok, refl, sym, ap, subst, arith, ℤ, pos, negsuc}
 use Rattle.std.specs.List.{AllZip}
 use Rattle.std.proofs.lemmas.Bool.Decides.{nat_tests}
 use Rattle.step_problem.specs.declared.heads.Bound.{Bound}
@@ -12,8 +12,8 @@ use Rattle.model_types.specs.declared.model.FlowModel.{FlowModel}
 use Rattle.model_types.specs.declared.time_steps.TimeStep.{TimeStep}
 use Rattle.model_types.specs.Cells.{cell_count}
 use Rattle.model_types.specs.Kinds.{variable_below}
-use Rattle.model_types.specs.Layers.{is_active, is_nonzero}
-use Rattle.model_types.specs.Receivers.{evap_source, evaporates, is_chosen}
+use Rattle.model_types.specs.Layers.{is_nonzero}
+use Rattle.model_types.specs.Receivers.{is_chosen}
 use Rattle.model_types.specs.Sources.{evap_sources}
 use Rattle.model_types.specs.Times.{period_at, times}
 use Rattle.model_types.specs.Valid.{IsModel}
@@ -25,7 +25,6 @@ use Rattle.step_chain.specs.declared.solved.Solved.{Solved}
 use Rattle.step_chain.specs.GridHeads.{bound_at}
 use Rattle.step_chain.specs.Laws.{IsBefore, HeadsFit}
 use Rattle.step_chain.specs.Steps.{IsSettledStep}
-use Rattle.listing_io.specs.declared.listing.ListedStep.{ListedStep}
 use Rattle.listing_io.specs.Listed.{AreCellBounds, AreListed, IsCellBound, IsListedStep}
 use Rattle.listing_io.specs.Listing.{has_evt}
 use Rattle.listing_run.specs.declared.task.Task.{Task}

@@ -1,5 +1,5 @@
 -- The text of a run's listing is that of its steps, and is read as these.
-use Rattle.std.proofs.Common.{◌≡◌, ℕ, ◌^◌, ◌<◌, List, [], ◌∷◌, ◌++◌, length, map, All, get_or, Contains, Ok, refl, sym, ap, ◌∙◌, subst, arith}
+use Rattle.std.proofs.Common.{◌≡◌, ℕ, List, [], ◌∷◌, ◌++◌, map, get_or, Contains, Ok, refl, sym, ap, ◌∙◌, subst, arith}
 use Rattle.std.specs.List.{concat}
 use Rattle.std.proofs.lemmas.List.{append_assoc, append-nil, get_or_default}
 use Rattle.std.proofs.lemmas.List.Concat.{flat_map-append}
@@ -13,7 +13,7 @@ use Rattle.problem_builder.specs.Laws.{StartHeadsFit}
 use Rattle.problem_builder.proofs.TimesOf.{time_of}
 use Rattle.step_chain.specs.Laws.{HeadsFit}
 use Rattle.listing_io.specs.Laws.{IsTime, IsWritable, ListingsAreReadAgain}
-use Rattle.listing_io.specs.Listing.{Line, all_step_lines, ended, end_line as last_row, first_line, first_text, listing as rows_of, step_lines, step_text, text_of as text}
+use Rattle.listing_io.specs.Listing.{all_step_lines, ended, end_line as last_row, first_line, first_text, listing as rows_of, step_lines, step_text, text_of as text}
 use Rattle.listing_io.specs.Reading.{all_lines, listing_at}
 use Rattle.run_puts.specs.Lines.{end_line}
 use Rattle.listing_run.specs.declared.task.Task.{Task}
