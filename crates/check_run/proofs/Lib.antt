@@ -6,3 +6,8 @@ pub mod Passing
 pub mod Outcomes
 pub mod OneVerdict
 pub mod Checking
+pub mod RunSteps
+pub mod RunTerms
+pub mod RunListed
+pub mod RunText
+pub mod RunEnclosed

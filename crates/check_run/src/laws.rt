@@ -1,12 +1,15 @@
-// A law of verdicts. It is the contract of an empty function, but for the laws below that it calls.
+// Laws of verdicts. Each is the contract of an empty function, but for the laws below that it calls.
 ghost use Rattle.check_run.specs.Laws.{VerdictIsOne};
+ghost use Rattle.check_run.specs.Runs.{RunIsCertified, RunIsReadAgain};
 
 use barrier_vector::laws::{no_barrier_beside_a_refusal, one_barrier};
+use listing_io::laws::listings_are_read_again;
 use problem_builder::laws::{
-    no_problem_beside_a_refusal, one_list_of_start_heads, one_problem, problems_fit,
+    constant_pairs, no_problem_beside_a_refusal, one_list_of_start_heads, one_problem, problems_fit,
     start_heads_fit,
 };
-use step_chain::laws::one_refusal;
+use step_chain::laws::{heads_fit, one_refusal};
+use step_problem::laws::settled_pair_certifies;
 
 /// A listing has at most one verdict.
 pub fn one_verdict()
@@ -20,4 +23,24 @@ pub fn one_verdict()
     no_problem_beside_a_refusal();
     no_barrier_beside_a_refusal();
     one_refusal();
+}
+
+/// What a run lists is certified.
+pub fn run_is_certified()
+    ensures { RunIsCertified }
+{
+    start_heads_fit();
+    problems_fit();
+    constant_pairs();
+    settled_pair_certifies();
+    heads_fit();
+}
+
+/// What a run writes is read as what it lists.
+pub fn run_is_read_again()
+    ensures { RunIsReadAgain }
+{
+    start_heads_fit();
+    heads_fit();
+    listings_are_read_again();
 }

@@ -1,8 +1,19 @@
-// A law of the refusals of steps. It is the contract of an empty function.
+// Laws of what is defined. Each is the contract of an empty function, but for the laws below that it calls.
+ghost use Rattle.engine.specs.Own.{OwnIsCertified};
 ghost use Rattle.engine.specs.Storage.{StorageHolds};
+
+use check_run::laws::{run_is_certified, run_is_read_again};
 
 /// Where each variable cell of a step has a storage of at least one unit, neither NoBarrierLow nor NoBarrierHigh is
 /// the step's refusal.
 pub fn storage_holds()
     ensures { StorageHolds }
 {}
+
+/// What `run` writes, `check` certifies.
+pub fn own_is_certified()
+    ensures { OwnIsCertified }
+{
+    run_is_certified();
+    run_is_read_again();
+}

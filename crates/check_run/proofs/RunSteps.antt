@@ -1,0 +1,131 @@
+-- The steps of a run pass the check.
+use Rattle.std.proofs.Common.{◌≡◌, ℕ, suc, ◌<◌, inl, List, [], ◌∷◌, length, map, get_or, Ok, refl, sym, ap, ◌∙◌, subst, arith}
+use Rattle.std.proofs.lemmas.Int.{ints}
+use Rattle.std.proofs.lemmas.List.{get_or-map, length-map}
+use Rattle.step_problem.specs.declared.heads.Bound.{Bound}
+use Rattle.step_problem.specs.declared.heads.Side.{Side}
+use Rattle.step_problem.specs.declared.heads.Side.TheVariants.{Low, High}
+use Rattle.step_problem.specs.Entries.{Entries}
+use Rattle.step_problem.specs.Heads.{no_bound, lower_at, upper_at, IsCertificate}
+use Rattle.step_problem.specs.Laws.{SettledPairCertifies}
+use Rattle.budget_bounds.specs.declared.pair.Budget.{Budget}
+use Rattle.budget_bounds.specs.Terms.{budget_of}
+use Rattle.model_types.specs.declared.model.FlowModel.{FlowModel}
+use Rattle.model_types.specs.declared.time_steps.TimeStep.{TimeStep}
+use Rattle.model_types.specs.Cells.{cell_count}
+use Rattle.model_types.specs.Kinds.{is_variable, variable_cells}
+use Rattle.model_types.specs.Times.{times}
+use Rattle.model_types.specs.Valid.{IsModel}
+use Rattle.model_types.proofs.Ranks.{IsAt, is_at}
+use Rattle.flow_equations.proofs.Links.{below_is, index_is}
+use Rattle.problem_builder.specs.GridHeads.{AreGridHeads}
+use Rattle.problem_builder.specs.Laws.{ProblemFits, ConstantPairIsOne, StartHeadsFit}
+use Rattle.problem_builder.proofs.StepEnclosed.{ids_are}
+use Rattle.step_chain.specs.declared.solved.Solved.{Solved}
+use Rattle.step_chain.specs.GridHeads.{bound_at}
+use Rattle.step_chain.specs.Laws.{IsBefore, HeadsFit}
+use Rattle.step_chain.specs.Steps.{IsSettledStep}
+use Rattle.listing_run.specs.declared.task.Task.{Task}
+use Rattle.listing_run.specs.declared.step.Step.{Step}
+use Rattle.listing_run.specs.Steps.{IsStep, Steps, Whole, budget_at}
+use Rattle.listing_run.proofs.Unique.{IsRest, first_in, rest_more, rest_whole}
+use Rattle.check_run.specs.declared.verdict.Verdict.TheVariants.{Certified}
+use Rattle.check_run.specs.Reaching.{ConstantsReach, ReachesOn, variable_bounds}
+use Rattle.check_run.specs.Runs.{RunIsCertified, as_listed}
+use Rattle.check_run.specs.Steps.{Passes}
+use Rattle.check_run.specs.Verdicts.{Checks}
+use Rattle.check_run.proofs.Listed.{count_is}
+
+same_bounds : (xs ys : List Bound) → length xs ≡ length ys → ((c : ℕ) → c < length xs → bound_at xs c ≡ bound_at ys c) → xs ≡ ys
+same_bounds [] [] whole same = refl
+same_bounds [] (y ∷ ys) whole same = absurd (omega arith)
+same_bounds (x ∷ xs) [] whole same = absurd (omega arith)
+same_bounds (x ∷ xs) (y ∷ ys) whole same =
+    let rest = same_bounds xs ys (omega arith) (λ c within. same (suc c) (omega arith)) in
+    ap (λ b. b ∷ xs) (same 0 (omega arith)) ∙ ap (λ bs. y ∷ bs) rest
+
+reaches : (side : Side) (listed pair : Bound) → (listed.low ≡ pair.low) × (listed.high ≡ pair.high) → ReachesOn side listed pair
+reaches Low listed pair same = omega (arith, ints, same.0)
+reaches High listed pair same = omega (arith, ints, same.1)
+
+-- the laws by which they pass
+pub record Laws : Type 0 where
+  pub start_fits : StartHeadsFit
+  pub problem_fits : ProblemFits
+  pub pair_one : ConstantPairIsOne
+  pub certifies : SettledPairCertifies
+  pub heads_fit : HeadsFit
+
+module _ (m : FlowModel) (s : ℕ) (at : TimeStep) (old : List Bound) (x : Solved) (settled : IsSettledStep m s at old x) where
+  abbrev cells : List ℕ
+  cells = variable_cells m at.period
+
+  ids : map (λ (e : Entries). e.id) x.problem ≡ cells
+  ids = ids_are m settled.posed.problem.widths s at old x.problem settled.posed.problem.cells
+
+  place : (k : ℕ) → k < length cells → IsAt (is_variable m at.period) (cell_count m.grid) k (get_or cells k 0)
+  place k lt =
+      let all = below_is m at.period (cell_count m.grid) in
+      let P : List ℕ → Type 0 = λ cs. IsAt (is_variable m at.period) (cell_count m.grid) k (get_or cs k 0) in
+      subst P (sym all) (is_at (is_variable m at.period) (cell_count m.grid) k (omega (arith, lt, ap length all)))
+
+  -- the heads of the variable cells are the settled pair's
+  listed_at : (k : ℕ) → k < length (variable_bounds m at x.heads) → bound_at (variable_bounds m at x.heads) k ≡ bound_at x.bounds k
+  listed_at k lt =
+      let inside : k < length cells = omega (arith, lt, length-map cells (bound_at x.heads)) in
+      let c = place k inside in
+      get_or-map (bound_at x.heads) cells k 0 no_bound inside
+      ∙ settled.heads.variable (get_or cells k 0) c.within c.passes
+      ∙ ap (bound_at x.bounds) (index_is m at.period (get_or cells k 0) ∙ c.index)
+
+  listed_are : variable_bounds m at x.heads ≡ x.bounds
+  listed_are = same_bounds (variable_bounds m at x.heads) x.bounds (length-map cells (bound_at x.heads) ∙ sym (count_is m at x.heads x.problem ids) ∙ sym settled.settled.whole) listed_at
+
+  module _ (laws : Laws) (before : IsBefore m at old) where
+    constants : ConstantsReach m at x.heads
+    constants c cell side pair is =
+        reaches side (bound_at x.heads c) pair
+        (laws.pair_one m at c (lower_at x.heads c) (upper_at x.heads c) pair.low pair.high before.model before.time cell.within cell.constant (settled.heads.constant c cell.within cell.constant) is)
+
+    certificate : IsCertificate x.problem settled.barrier (lower_at x.bounds) (upper_at x.bounds)
+    certificate =
+        laws.certifies x.problem settled.barrier (lower_at x.bounds) (upper_at x.bounds)
+        (laws.problem_fits m s at old x.problem before.model before.time before.heads settled.posed.problem) settled.posed.barrier.fits settled.settled.pair
+
+    passes : (b : Budget) → budget_at x ≡ Ok b → Passes m s at old (record { heads = x.heads; budget = b })
+    passes b is =
+        let C : List Bound → Type 0 = λ v. IsCertificate x.problem settled.barrier (lower_at v) (upper_at v) in
+        let B : List Bound → Type 0 = λ v. budget_of x.problem (lower_at v) (upper_at v) ≡ Ok b in
+        record {
+          problem = x.problem;
+          barrier = settled.barrier;
+          heads = record { posed = settled.posed; constants = constants; certificate = subst C (sym listed_are) certificate };
+          budget = b;
+          is = subst B (sym listed_are) is;
+          covers = λ dir t. record { lower = omega (arith, ints); upper = omega (arith, ints) };
+        }
+
+module _ (laws : Laws) (k : Task) (model : IsModel k.model) where
+  module _ (at : TimeStep) (old : List Bound) (before : IsBefore k.model at old) (v : Step) (is : IsStep k at old v) where
+    step_passes : Passes k.model k.digits at old (as_listed v)
+    step_passes =
+        let P : List Bound → Type 0 = λ hs. Passes k.model k.digits at old (record { heads = hs; budget = v.budget }) in
+        subst P (sym is.heads) (passes k.model k.digits at old is.solved is.settled laws before v.budget is.budget)
+
+    next_heads : AreGridHeads k.model v.heads
+    next_heads = subst (AreGridHeads k.model) (sym is.heads) (laws.heads_fit k.model k.digits at old is.solved before is.settled)
+
+  all_pass : (old : List Bound) (rest : List TimeStep) (values : List Step) → IsRest (times k.model) rest → AreGridHeads k.model old → Steps k old rest values Whole → Checks k.model k.digits old rest (map as_listed values) Certified
+  all_pass old [] [] r heads h = tt
+  all_pass old [] (v ∷ values) r heads h = absurd h
+  all_pass old (at ∷ rest) [] r heads h = absurd h
+  all_pass old (at ∷ rest) (v ∷ values) r heads (is, h) =
+      let before : IsBefore k.model at old = record { model = model; time = r.each at (first_in at rest); heads = heads } in
+      inl (step_passes at old before v is, all_pass v.heads rest values (rest_more (times k.model) at rest r) (next_heads at old before v is) h)
+
+pub run_certified : Laws → RunIsCertified
+run_certified laws k values model h = record {
+  start = h.start;
+  is_start = h.is_start;
+  checks = all_pass laws k model h.start (times k.model) values (rest_whole (times k.model)) (laws.start_fits k.model h.start model h.is_start) h.steps;
+}

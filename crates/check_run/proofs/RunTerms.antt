@@ -1,0 +1,136 @@
+-- The terms of a step's budget are flows that a listing can have.
+use Rattle.std.proofs.Common.{◌≡◌, ℕ, zero, suc, ◌^◌, ◌<◌, Bool, true, false, List, [], ◌∷◌, length, nat_abs, All, get_or, Result, Ok, Err, refl, sym, ap, ◌∙◌, subst, arith, ℤ, pos, negsuc, ◌+ℤ◌, ◌≤ℤ◌}
+use Rattle.std.specs.Prelude.{if◌then◌else◌}
+use Rattle.std.specs.Int.Signed.{lt_z}
+use Rattle.std.specs.List.{AllZip}
+use Rattle.std.proofs.lemmas.Int.{ints}
+use Rattle.step_problem.specs.declared.place.Dir.{Dir}
+use Rattle.step_problem.specs.declared.place.Dir.TheVariants.{In, Out}
+use Rattle.step_problem.specs.declared.place.NoBound.{NoBound}
+use Rattle.step_problem.specs.declared.place.Term.{Term}
+use Rattle.step_problem.specs.declared.place.Term.TheVariants.{Storage, Et}
+use Rattle.step_problem.specs.Entries.{Entries, entries_at}
+use Rattle.cell_balance.specs.Components.{sum_below}
+use Rattle.budget_bounds.specs.declared.pair.TermPair.{TermPair}
+use Rattle.budget_bounds.specs.declared.pair.Budget.{Budget}
+use Rattle.budget_bounds.specs.Singles.{singles}
+use Rattle.budget_bounds.specs.Terms.{◌>>=◌, all_terms, budget_of, is_small, no_pair, parts, term_limit, term_of, term_pair, terms_of, too_large}
+use Rattle.budget_bounds.proofs.Caps.{parts_lo, parts_hi}
+use Rattle.problem_builder.proofs.ActiveCells.{and_true}
+use Rattle.listing_io.specs.Listed.{IsFlowPair}
+use Rattle.listing_io.proofs.Written.{same_ok}
+
+clash : {B E : Type 0} (e : E) (y : B) (r : Result B E) → r ≡ Err e → r ≡ Ok y → ⊥
+clash e y r h k = cc
+
+-- what goes on was not refused
+record Goes {A B E : Type 0} (r : Result A E) (f : A → Result B E) (y : B) : Type 0 where
+  item : A
+  first : r ≡ Ok item
+  then_ : f item ≡ Ok y
+
+goes : {A B E : Type 0} (r : Result A E) (f : A → Result B E) (y : B) → (r >>= f) ≡ Ok y → Goes r f y
+goes (Ok x) f y h = record { item = x; first = refl; then_ = h }
+goes {A = A} {B = B} {E = E} (Err e) f y h = absurd (clash e y (Err e) refl h)
+
+tested : (test : Bool) (q x : TermPair) (e : NoBound) → (if test then Ok q else Err e) ≡ Ok x → (test ≡ true) × (x ≡ q)
+tested true q x e h = (refl, sym (same_ok q x (Ok q) refl h))
+tested false q x e h = absurd (clash e x (Err e) refl h)
+
+-- a sum of flows
+none_below : (n : ℕ) (f : ℕ → ℤ) → ((c : ℕ) → pos 0 ≤ℤ f c) → pos 0 ≤ℤ sum_below n f
+none_below zero f h = omega (arith, ints)
+none_below (suc n) f h = let a = none_below n f h in let b = h n in omega (arith, ints, a, b)
+
+no_sum : (n : ℕ) (f : ℕ → ℤ) → ((c : ℕ) → c < n → f c ≡ pos 0) → sum_below n f ≡ pos 0
+no_sum zero f h = refl
+no_sum (suc n) f h =
+    let a : sum_below n f ≡ pos 0 = no_sum n f (λ c lt. h c (omega (arith, lt))) in
+    ap (λ z. z +ℤ f n) a ∙ ap (λ z. pos 0 +ℤ z) (h n (omega arith))
+
+small_flow : (z : ℤ) → pos 0 ≤ℤ z → lt_z z term_limit ≡ true → nat_abs z < 2 ^ 126
+small_flow (pos n) h e = grind (arith, ints)
+small_flow (negsuc n) h e = absurd (omega (arith, ints, h))
+
+module _ (p : List Entries) (l u : ℕ → ℤ) where
+  -- the bounds of a term, which are small
+  pub record IsTermOf (dir : Dir) (t : Term) (x : TermPair) : Type 0 where
+    pub is : x ≡ term_pair p l u dir t
+    pub small : is_small x ≡ true
+
+  term_is : (dir : Dir) (t : Term) (x : TermPair) → term_of p l u dir t ≡ Ok x → IsTermOf dir t x
+  unfolding term_of
+  term_is dir t x h =
+      let (small, is) = tested (is_small (term_pair p l u dir t)) (term_pair p l u dir t) x (too_large dir t) h in
+      record { is = is; small = ap is_small is ∙ small }
+
+  terms_are : (dir : Dir) (ts : List Term) (xs : List TermPair) → terms_of p l u dir ts ≡ Ok xs → AllZip (IsTermOf dir) ts xs
+  unfolding terms_of
+  terms_are dir [] xs h = let P : List TermPair → Type 0 = AllZip (IsTermOf dir) [] in subst P (same_ok [] xs (Ok []) refl h) tt
+  terms_are dir (t ∷ ts) xs h =
+      let a = goes (term_of p l u dir t) _ xs h in
+      let b = goes (terms_of p l u dir ts) _ xs a.then_ in
+      let P : List TermPair → Type 0 = AllZip (IsTermOf dir) (t ∷ ts) in
+      subst P (same_ok (a.item ∷ b.item) xs (Ok (a.item ∷ b.item)) refl b.then_) (term_is dir t a.item a.first, terms_are dir ts b.item b.first)
+
+  pub budget_are : (b : Budget) → budget_of p l u ≡ Ok b → AllZip (IsTermOf In) all_terms b.into × AllZip (IsTermOf Out) all_terms b.out
+  unfolding budget_of
+  budget_are b h =
+      let i = goes (terms_of p l u In all_terms) _ b h in
+      let o = goes (terms_of p l u Out all_terms) _ b i.then_ in
+      let P : Budget → Type 0 = λ x. AllZip (IsTermOf In) all_terms x.into × AllZip (IsTermOf Out) all_terms x.out in
+      let made : Budget = record { into = i.item; out = o.item } in
+      subst P (same_ok made b (Ok made) refl o.then_) (terms_are In all_terms i.item i.first, terms_are Out all_terms o.item o.first)
+
+  -- they are no less than none
+  lo_none : (dir : Dir) (t : Term) → pos 0 ≤ℤ (term_pair p l u dir t).lo
+  unfolding term_pair
+  lo_none dir t = none_below (length p) (λ c. (parts dir (singles t (entries_at p c) (l c) (u c))).lo) (λ c. parts_lo dir (singles t (entries_at p c) (l c) (u c)))
+
+  hi_none : (dir : Dir) (t : Term) → pos 0 ≤ℤ (term_pair p l u dir t).hi
+  unfolding term_pair
+  hi_none dir t = none_below (length p) (λ c. (parts dir (singles t (entries_at p c) (l c) (u c))).hi) (λ c. parts_hi dir (singles t (entries_at p c) (l c) (u c)))
+
+  flow_is : (dir : Dir) (t : Term) (x : TermPair) → IsTermOf dir t x → IsFlowPair x
+  flow_is dir t x h =
+      let (lo, hi) = and_true (lt_z x.lo term_limit) (lt_z x.hi term_limit) h.small in
+      let N : TermPair → Type 0 = λ y. (pos 0 ≤ℤ y.lo) × (pos 0 ≤ℤ y.hi) in
+      let none : N x = subst N (sym h.is) (lo_none dir t, hi_none dir t) in
+      record { lo = small_flow x.lo none.0 lo; hi = small_flow x.hi none.1 hi }
+
+  pub flows_are : (dir : Dir) (ts : List Term) (xs : List TermPair) → AllZip (IsTermOf dir) ts xs → All IsFlowPair xs
+  flows_are dir ts [] h = λ k d lt. absurd (omega (arith, lt))
+  flows_are dir [] (x ∷ xs) h = absurd h
+  flows_are dir (t ∷ ts) (x ∷ xs) h = each (flow_is dir t x h.0) (flows_are dir ts xs h.1)
+    where
+      each : IsFlowPair x → All IsFlowPair xs → All IsFlowPair (x ∷ xs)
+      each first more zero d lt = first
+      each first more (suc k) d lt = more k d (omega (arith, lt))
+
+  pub as_many : (dir : Dir) (ts : List Term) (xs : List TermPair) → AllZip (IsTermOf dir) ts xs → length xs ≡ length ts
+  as_many dir [] [] h = refl
+  as_many dir [] (x ∷ xs) h = absurd h
+  as_many dir (t ∷ ts) [] h = absurd h
+  as_many dir (t ∷ ts) (x ∷ xs) h = ap suc (as_many dir ts xs h.1)
+
+  at_place : (dir : Dir) (k : ℕ) (ts : List Term) (xs : List TermPair) → AllZip (IsTermOf dir) ts xs → k < length ts → IsTermOf dir (get_or ts k Storage) (get_or xs k no_pair)
+  at_place dir k [] xs h lt = absurd (omega (arith, lt))
+  at_place dir k (t ∷ ts) [] h lt = absurd h
+  at_place dir zero (t ∷ ts) (x ∷ xs) h lt = h.0
+  at_place dir (suc k) (t ∷ ts) (x ∷ xs) h lt = at_place dir k ts xs h.1 (omega (arith, lt))
+
+  -- where no cell evaporates, ET is none
+  module _ (none : (c : ℕ) → c < length p → (entries_at p c).evaps ≡ []) where
+    no_part : (dir : Dir) (c : ℕ) → c < length p → parts dir (singles Et (entries_at p c) (l c) (u c)) ≡ no_pair
+    unfolding parts singles
+    no_part dir c lt = rw (none c lt) refl
+
+    no_et_pair : (dir : Dir) → term_pair p l u dir Et ≡ no_pair
+    unfolding term_pair
+    no_et_pair dir =
+        let lo = no_sum (length p) (λ c. (parts dir (singles Et (entries_at p c) (l c) (u c))).lo) (λ c lt. ap (λ (x : TermPair). x.lo) (no_part dir c lt)) in
+        let hi = no_sum (length p) (λ c. (parts dir (singles Et (entries_at p c) (l c) (u c))).hi) (λ c lt. ap (λ (x : TermPair). x.hi) (no_part dir c lt)) in
+        rw (lo, hi) refl
+
+    pub no_et : (dir : Dir) (xs : List TermPair) → AllZip (IsTermOf dir) all_terms xs → get_or xs 7 no_pair ≡ no_pair
+    no_et dir xs h = (at_place dir 7 all_terms xs h (omega arith)).is ∙ no_et_pair dir

@@ -1,0 +1,75 @@
+-- The text of a run's listing is that of its steps, and is read as these.
+use Rattle.std.proofs.Common.{◌≡◌, ℕ, List, [], ◌∷◌, ◌++◌, map, get_or, Contains, Ok, refl, sym, ap, ◌∙◌, subst, arith}
+use Rattle.std.specs.List.{concat}
+use Rattle.std.proofs.lemmas.List.{append_assoc, append-nil, get_or_default}
+use Rattle.std.proofs.lemmas.List.Concat.{flat_map-append}
+use Rattle.step_problem.specs.declared.heads.Bound.{Bound}
+use Rattle.step_problem.specs.declared.place.ZoneFlow.{ZoneFlow}
+use Rattle.model_types.specs.declared.model.FlowModel.{FlowModel}
+use Rattle.model_types.specs.declared.time_steps.TimeStep.{TimeStep}
+use Rattle.model_types.specs.Times.{times}
+use Rattle.model_types.specs.Valid.{IsModel}
+use Rattle.problem_builder.specs.Laws.{StartHeadsFit}
+use Rattle.problem_builder.proofs.TimesOf.{time_of}
+use Rattle.step_chain.specs.Laws.{HeadsFit}
+use Rattle.listing_io.specs.Laws.{IsTime, IsWritable, ListingsAreReadAgain}
+use Rattle.listing_io.specs.Listing.{all_step_lines, ended, end_line as last_row, first_line, first_text, listing as rows_of, step_lines, step_text, text_of as text}
+use Rattle.listing_io.specs.Reading.{all_lines, listing_at}
+use Rattle.run_puts.specs.Lines.{end_line}
+use Rattle.listing_run.specs.declared.task.Task.{Task}
+use Rattle.listing_run.specs.declared.step.Step.{Step}
+use Rattle.listing_run.specs.Listing.{listing, text_of}
+use Rattle.listing_run.specs.Steps.{AllSteps, IsStep, Steps, Whole}
+use Rattle.check_run.specs.Runs.{IsReadable, RunIsReadAgain, as_listed}
+use Rattle.check_run.proofs.RunListed.{are_listed}
+
+module _ (k : Task) where
+  -- the lines of a step, at its time and without zone flows
+  step_rows : (at : TimeStep) (old : List Bound) (v : Step) → IsStep k at old v → text_of k v ≡ text (step_lines k.model k.digits at v.heads v.budget [])
+  unfolding step_text
+  step_rows at old v is =
+      let T : TimeStep → List ℕ = λ t. text (step_lines k.model k.digits t v.heads v.budget v.zones) in
+      let Z : List ZoneFlow → List ℕ = λ zs. text (step_lines k.model k.digits at v.heads v.budget zs) in
+      ap T is.time ∙ ap Z is.zones.1
+
+  rows_text : (old : List Bound) (rest : List TimeStep) (values : List Step) → Steps k old rest values Whole → concat (map (text_of k) values ++ (end_line ∷ [])) ≡ text (all_step_lines k.model k.digits rest (map as_listed values) ++ (last_row ∷ []))
+  unfolding all_step_lines
+  rows_text old [] [] h = refl
+  rows_text old [] (v ∷ values) h = absurd h
+  rows_text old (at ∷ rest) [] h = absurd h
+  rows_text old (at ∷ rest) (v ∷ values) (is, h) =
+      let here = step_lines k.model k.digits at v.heads v.budget [] in
+      let more = all_step_lines k.model k.digits rest (map as_listed values) in
+      ap (λ (t : List ℕ). text_of k v ++ t) (rows_text v.heads rest values h)
+      ∙ ap (λ (t : List ℕ). t ++ text (more ++ (last_row ∷ []))) (step_rows at old v is)
+      ∙ sym (flat_map-append ended here (more ++ (last_row ∷ [])))
+      ∙ ap text (sym (append_assoc here more (last_row ∷ [])))
+
+  whole_text : (values : List Step) → AllSteps k values Whole → concat (listing k values end_line) ≡ text (rows_of k.model k.digits (map as_listed values))
+  unfolding first_text rows_of
+  whole_text values h =
+      let others = concat (map (text_of k) values ++ (end_line ∷ [])) in
+      ap (λ (t : List ℕ). t ++ others) (append-nil (ended (first_line k.model k.digits)))
+      ∙ ap (λ (t : List ℕ). ended (first_line k.model k.digits) ++ t) (rows_text h.start (times k.model) values h.steps)
+
+is_time : (m : FlowModel) (at : TimeStep) → IsModel m → Contains (times m) at → IsTime at
+is_time m at model there =
+    let h = time_of m at model there in
+    let few = h.valid.times.nstp.1 in
+    let last = h.period.1 in
+    let step = h.step.1 in
+    let periods = model.few in
+    record { period = omega (arith, last, periods); step = omega (arith, step, few) }
+
+writable : (k : Task) → IsReadable k → IsWritable k.model k.digits
+writable k h = record {
+  size = h.model.grid.size;
+  digits = h.digits;
+  unit = h.unit;
+  times = λ i d lt. is_time k.model (get_or (times k.model) i d) h.model (i, lt, get_or_default (times k.model) i _ d lt);
+}
+
+pub run_read : HeadsFit → StartHeadsFit → ListingsAreReadAgain → RunIsReadAgain
+run_read fits start_fits again k values readable h =
+    let P : List ℕ → Type 0 = λ bytes. listing_at k.model k.digits (all_lines bytes) ≡ Ok (map as_listed values) in
+    subst P (sym (whole_text k values h)) (again k.model k.digits (map as_listed values) (writable k readable) (are_listed fits k readable.model start_fits values h))

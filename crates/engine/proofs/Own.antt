@@ -1,0 +1,63 @@
+-- What a run wrote is certified.
+use Rattle.std.proofs.Common.{◌≡◌, ℕ, Bool, true, false, List, [], ◌∷◌, map, Option, Some, Result, Ok, Err, refl, sym, ap, ◌∙◌, subst}
+use Rattle.std.specs.Prelude.{if◌then◌else◌}
+use Rattle.std.specs.List.{concat}
+use Rattle.outside.specs.Files.{File}
+use Rattle.outside.specs.Inputs.{file_at}
+use Rattle.outside.specs.Names.{is_good_name}
+use Rattle.outside.specs.declared.refusals.Refusal.{Refusal}
+use Rattle.model_types.specs.declared.model.FlowModel.{FlowModel}
+use Rattle.model_reader.specs.Model.{reads}
+use Rattle.listing_io.specs.declared.listing.ListedStep.{ListedStep}
+use Rattle.listing_io.specs.Reading.{all_lines, listing_at, or_bad_listing}
+use Rattle.listing_io.proofs.Written.{same_ok}
+use Rattle.run_puts.specs.Lines.{Text}
+use Rattle.run_puts.specs.declared.status.Status.TheVariants as status
+use Rattle.listing_run.specs.declared.task.Task.{Task}
+use Rattle.listing_run.specs.Listing.{IsWhole}
+use Rattle.check_run.specs.Runs.{IsReadable, RunIsCertified, RunIsReadAgain, as_listed}
+use Rattle.check_run.proofs.RunEnclosed.{run_encloses}
+use Rattle.engine.specs.Cases.{AskedCheck, Case, Command, Checking, asked_in, case_asked, case_checked, case_listed, case_of, listing_read, steps_in}
+use Rattle.engine.specs.Checked.{IsCertified, certified_line}
+use Rattle.engine.specs.Defined.{Defines}
+use Rattle.engine.specs.Own.{AsksAgain, OwnIsCertified}
+
+clash : {B E : Type 0} (e : E) (y : B) (r : Result B E) → r ≡ Err e → r ≡ Ok y → ⊥
+clash e y r h k = cc
+
+-- what is made of a file's bytes, where its name is taken
+with_bytes : (good : Bool) (found : Result (List ℕ) Refusal) (made : Result (List ℕ) Refusal → Result (List ListedStep) Refusal) (refusal : Refusal) (bytes : List ℕ) → (if good then found else Err refusal) ≡ Ok bytes → (if good then made found else Err refusal) ≡ made (Ok bytes)
+with_bytes true found made refusal bytes h = ap made h
+with_bytes false found made refusal bytes h = absurd (clash refusal bytes (Err refusal) refl h)
+
+module _ (certified : RunIsCertified) (again : RunIsReadAgain) (k : Task) (pieces words : List Text) (files : List File) (readable : IsReadable k) (whole : IsWhole k pieces) (h : AsksAgain words files k (concat pieces)) where
+  abbrev steps : List ListedStep
+  steps = map as_listed whole.values
+
+  steps_read : steps_in h.asked k.model (Ok (concat pieces)) ≡ Ok steps
+  steps_read =
+      let P : List Text → Type 0 = λ t. listing_at k.model k.digits (all_lines (concat t)) ≡ Ok steps in
+      let D : ℕ → Type 0 = λ s. listing_at k.model s (all_lines (concat pieces)) ≡ Ok steps in
+      ap (or_bad_listing h.asked.listing) (subst D (sym h.digits) (subst P (sym whole.are) (again k whole.values readable whole.steps)))
+
+  read : listing_read files h.asked k.model ≡ Ok steps
+  read = with_bytes (is_good_name h.asked.listing) (file_at files h.asked.listing) (steps_in h.asked k.model) _ (concat pieces) h.listing ∙ steps_read
+
+  case_is : case_of words files ≡ Checking k.model h.asked.digits steps
+  case_is =
+      ap (λ (c : Option Command). case_asked c (reads files) (listing_read files)) h.wanted
+      ∙ ap (λ (r : Result FlowModel Refusal). case_checked h.asked r (listing_read files h.asked)) h.read
+      ∙ ap (case_listed h.asked k.model) read
+
+  is_certified : Defines (case_of words files) status.Ok (certified_line ∷ [])
+  is_certified =
+      let P : Case → Type 0 = λ c. Defines c status.Ok (certified_line ∷ []) in
+      let D : ℕ → Type 0 = λ s. IsCertified k.model s steps (certified_line ∷ []) in
+      subst P (sym case_is) (subst D (sym h.digits) (record {
+        verdict = certified k whole.values readable.model whole.steps;
+        encloses = run_encloses k whole.values whole.steps whole.encloses;
+        are = refl;
+      }))
+
+pub own_is_certified : RunIsCertified → RunIsReadAgain → OwnIsCertified
+own_is_certified certified again k pieces words files readable whole h = is_certified certified again k pieces words files readable whole h
