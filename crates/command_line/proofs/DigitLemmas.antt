@@ -1,5 +1,5 @@
 -- The digits that words ask for are at most 18.
-use Rattle.std.proofs.Common.{◌≡◌, ℕ, ◌≤◌, Bool, true, false, cond, List, [], ◌∷◌, Option, Some, None, codes, refl, subst, sym, arith}
+use Rattle.std.proofs.Common.{◌≡◌, ℕ, ◌≤◌, Bool, true, false, cond, List, [], ◌∷◌, Option, Some, None, codes, refl, subst, arith}
 use Rattle.std.specs.Prelude.{◌&&◌, if◌then◌else◌, decimal, nat_le, option_and_then}
 use Rattle.std.specs.Str.{bytes_eq}
 use Rattle.std.specs.Str.Parse.{digits_value}
@@ -7,7 +7,7 @@ use Rattle.std.proofs.lemmas.Bool.{leb-true}
 use Rattle.clap.specs.Words.{Text, Row, Kinds, fault_of, subcommand_of, first_of}
 use Rattle.command_line.specs.Commands.{heads_app}
 use Rattle.command_line.specs.Numbers.{is_number, number_in, number_or}
-use Rattle.command_line.specs.Wants.{Wanted, Lists, Checks, Makes, Batches, batch_in, check_in, command_in, digits_in, make_in, rounds_in, run_in, wanted_if, wanted_of, watch_in, workers_in}
+use Rattle.command_line.specs.Wants.{Wanted, Checks, batch_in, check_in, command_in, digits_in, make_in, rounds_in, run_in, wanted_if, wanted_of, watch_in, workers_in}
 
 -- a number that was taken is one of its range
 both : (a b : Bool) → (a && b) ≡ true → (a ≡ true) × (b ≡ true)

@@ -14,7 +14,6 @@ use Rattle.command_line.specs.Wants.{Wanted, Lists, Checks, Makes, Batches, want
 use Rattle.command_line.proofs.DigitLemmas.{check_digits}
 use Rattle.listing_io.specs.declared.listing.ListedStep.{ListedStep}
 use Rattle.listing_io.specs.Reading.{all_lines, listing_at, or_bad_listing}
-use Rattle.listing_io.proofs.Written.{same_ok}
 use Rattle.run_puts.specs.Lines.{Text}
 use Rattle.run_puts.specs.declared.status.Status.TheVariants as status
 use Rattle.listing_run.specs.declared.task.Task.{Task}

@@ -1,5 +1,5 @@
 -- The unit of length of a model that is read is a word of 64 bits.
-use Rattle.std.proofs.Common.{◌≡◌, ℕ, zero, suc, ◌+◌, ◌-◌, ◌*◌, ◌^◌, ◌<◌, ◌≤◌, Bool, true, false, List, [], ◌∷◌, length, nat_abs, Option, Some, None, Result, Ok, Err, refl, sym, ap, subst, arith, ℤ, pos, negsuc}
+use Rattle.std.proofs.Common.{◌≡◌, ℕ, zero, suc, ◌+◌, ◌-◌, ◌*◌, ◌^◌, ◌<◌, ◌≤◌, Bool, true, false, List, [], ◌∷◌, length, nat_abs, Option, Some, None, Result, Ok, Err, refl, sym, ap, subst, arith, ℤ}
 use Rattle.decimal_input.specs.declared.dec.NumFault.{NumFault}
 use Rattle.decimal_input.specs.Decimals.{with_sign}
 use Rattle.decimal_input.specs.Grammar.{AreDigits, IsInteger, number_from}
