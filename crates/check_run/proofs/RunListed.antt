@@ -67,12 +67,13 @@ cell_bounds : (m : FlowModel) (c : ℕ) (bs : List Bound) → ((k : ℕ) → k <
 cell_bounds m c [] h = tt
 cell_bounds m c (b ∷ bs) h =
     let P : ℕ → Type 0 = λ i. IsCellBound m i b in
-    let here : c + 0 ≡ c = omega arith in
-    (subst P here (h 0 (omega arith)),
+    let here : c + 0 ≡ c = omega arith in (
+      subst P here (h 0 (omega arith)),
       cell_bounds m (c + 1) bs (λ k lt.
-      let Q : ℕ → Type 0 = λ i. IsCellBound m i (bound_at bs k) in
-      let next : c + suc k ≡ (c + 1) + k = omega arith in
-      subst Q next (h (suc k) (omega (arith, lt)))))
+          let Q : ℕ → Type 0 = λ i. IsCellBound m i (bound_at bs k) in
+          let next : c + suc k ≡ (c + 1) + k = omega arith in
+          subst Q next (h (suc k) (omega (arith, lt)))),
+    )
 
 module _ (m : FlowModel) (s : ℕ) (at : TimeStep) (old : List Bound) (x : Solved) (settled : IsSettledStep m s at old x) (grid : AreGridHeads m x.heads) where
   cell_bound : (c : ℕ) → c < length x.heads → IsCellBound m (0 + c) (bound_at x.heads c)

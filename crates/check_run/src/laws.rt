@@ -5,8 +5,8 @@ ghost use Rattle.check_run.specs.Runs.{RunIsCertified, RunIsReadAgain};
 use barrier_vector::laws::{no_barrier_beside_a_refusal, one_barrier};
 use listing_io::laws::listings_are_read_again;
 use problem_builder::laws::{
-    constant_pairs, no_problem_beside_a_refusal, one_list_of_start_heads, one_problem, problems_fit,
-    start_heads_fit,
+    constant_pairs, no_problem_beside_a_refusal, one_list_of_start_heads, one_problem,
+    problems_fit, start_heads_fit,
 };
 use step_chain::laws::{heads_fit, one_refusal};
 use step_problem::laws::settled_pair_certifies;

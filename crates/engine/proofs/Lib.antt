@@ -5,4 +5,4 @@ pub mod Verdicts
 pub mod Certifying
 pub mod Outcomes
 pub mod StoredSteps
-pub mod Own
+pub mod Written

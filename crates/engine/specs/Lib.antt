@@ -8,4 +8,4 @@ pub mod Defined
 pub mod Runs
 pub mod Storage
 pub mod Parts
-pub mod Own
+pub mod Written

@@ -1,5 +1,5 @@
 // Laws of what is defined. Each is the contract of an empty function, but for the laws below that it calls.
-ghost use Rattle.engine.specs.Own.{OwnIsCertified};
+ghost use Rattle.engine.specs.Written.{WrittenIsCertified};
 ghost use Rattle.engine.specs.Storage.{StorageHolds};
 
 use check_run::laws::{run_is_certified, run_is_read_again};
@@ -11,8 +11,8 @@ pub fn storage_holds()
 {}
 
 /// What `run` writes, `check` certifies.
-pub fn own_is_certified()
-    ensures { OwnIsCertified }
+pub fn written_is_certified()
+    ensures { WrittenIsCertified }
 {
     run_is_certified();
     run_is_read_again();

@@ -1,3 +1,4 @@
 pub mod BasicLemmas
 pub mod PeriodLemmas
 pub mod FlowLemmas
+pub mod UnitLemmas

@@ -3,23 +3,23 @@ use Rattle.std.specs.Prelude.{◌≡◌, ℕ, List, [], ◌∷◌, Ok, Some}
 use Rattle.std.specs.List.{concat}
 use Rattle.outside.specs.Files.{File}
 use Rattle.outside.specs.Inputs.{file_at}
+use Rattle.model_types.specs.Valid.{IsModel}
 use Rattle.model_reader.specs.Model.{reads}
 use Rattle.run_puts.specs.Lines.{Text}
 use Rattle.run_puts.specs.declared.status.Status.TheVariants as status
 use Rattle.listing_run.specs.declared.task.Task.{Task}
-use Rattle.check_run.specs.Runs.{IsReadable}
 use Rattle.engine.specs.Cases.{AskedCheck, Check, Listing, asked_in, case_of, named}
 use Rattle.engine.specs.Checked.{certified_line}
 use Rattle.engine.specs.Defined.{Defines}
 
 -- These words ask for the check of a file that has these bytes, at most a file's limit, as a listing with the task's digits, where the files read as the task's model.
-pub record AsksAgain (words : List Text) (files : List File) (k : Task) (bytes : List ℕ) : Type 0 where
+pub record ChecksWritten (words : List Text) (files : List File) (k : Task) (bytes : List ℕ) : Type 0 where
   pub asked : AskedCheck
   pub wanted : asked_in words ≡ Some (Check asked)
   pub digits : asked.digits ≡ k.digits
   pub read : named asked.name (reads files) ≡ Ok k.model
   pub listing : named asked.listing (file_at files) ≡ Ok bytes
 
--- What is written by a run that ends Ok is certified: a check of it ends Ok, with the line CERTIFIED.
-abbrev pub OwnIsCertified : Type 0
-OwnIsCertified = (k : Task) (pieces words : List Text) (files : List File) → IsReadable k → Defines (Listing k) status.Ok pieces → AsksAgain words files k (concat pieces) → Defines (case_of words files) status.Ok (certified_line ∷ [])
+-- What a run writes that ends Ok is certified, where its model is valid: a check of it ends Ok, with the line CERTIFIED.
+abbrev pub WrittenIsCertified : Type 0
+WrittenIsCertified = (k : Task) (pieces words : List Text) (files : List File) → IsModel k.model → Defines (Listing k) status.Ok pieces → ChecksWritten words files k (concat pieces) → Defines (case_of words files) status.Ok (certified_line ∷ [])

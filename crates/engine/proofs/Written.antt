@@ -1,26 +1,30 @@
 -- What a run wrote is certified.
-use Rattle.std.proofs.Common.{◌≡◌, ℕ, Bool, true, false, List, [], ◌∷◌, map, Option, Some, Result, Ok, Err, refl, sym, ap, ◌∙◌, subst}
-use Rattle.std.specs.Prelude.{if◌then◌else◌}
+use Rattle.std.proofs.Common.{◌≡◌, ℕ, ◌≤◌, Bool, true, false, List, [], ◌∷◌, map, Option, None, Some, Result, Ok, Err, refl, sym, ap, ◌∙◌, subst, arith}
+use Rattle.std.specs.Prelude.{if◌then◌else◌, option_and_then}
 use Rattle.std.specs.List.{concat}
 use Rattle.outside.specs.Files.{File}
 use Rattle.outside.specs.Inputs.{file_at}
 use Rattle.outside.specs.Names.{is_good_name}
 use Rattle.outside.specs.declared.refusals.Refusal.{Refusal}
 use Rattle.model_types.specs.declared.model.FlowModel.{FlowModel}
+use Rattle.model_types.specs.Valid.{IsModel}
 use Rattle.model_reader.specs.Model.{reads}
+use Rattle.model_reader.proofs.UnitLemmas.{unit_is_short}
+use Rattle.command_line.specs.Wants.{Wanted, Lists, Checks, Makes, Batches, wanted_of}
+use Rattle.command_line.proofs.DigitLemmas.{check_digits}
 use Rattle.listing_io.specs.declared.listing.ListedStep.{ListedStep}
 use Rattle.listing_io.specs.Reading.{all_lines, listing_at, or_bad_listing}
-use Rattle.listing_io.proofs.Written.{same_ok}
 use Rattle.run_puts.specs.Lines.{Text}
 use Rattle.run_puts.specs.declared.status.Status.TheVariants as status
 use Rattle.listing_run.specs.declared.task.Task.{Task}
 use Rattle.listing_run.specs.Listing.{IsWhole}
 use Rattle.check_run.specs.Runs.{IsReadable, RunIsCertified, RunIsReadAgain, as_listed}
 use Rattle.check_run.proofs.RunEnclosed.{run_encloses}
-use Rattle.engine.specs.Cases.{AskedCheck, Case, Command, Checking, asked_in, case_asked, case_checked, case_listed, case_of, listing_read, steps_in}
+use Rattle.engine.specs.Cases.{AskedCheck, Case, Check, Command, Checking, asked_in, built, case_asked, case_checked, case_listed, case_of, listing_read, steps_in}
 use Rattle.engine.specs.Checked.{IsCertified, certified_line}
 use Rattle.engine.specs.Defined.{Defines}
-use Rattle.engine.specs.Own.{AsksAgain, OwnIsCertified}
+use Rattle.engine.specs.Written.{ChecksWritten, WrittenIsCertified}
+use Rattle.engine.proofs.Readings.{named_read}
 
 clash : {B E : Type 0} (e : E) (y : B) (r : Result B E) → r ≡ Err e → r ≡ Ok y → ⊥
 clash e y r h k = cc
@@ -30,9 +34,32 @@ with_bytes : (good : Bool) (found : Result (List ℕ) Refusal) (made : Result (L
 with_bytes true found made refusal bytes h = ap made h
 with_bytes false found made refusal bytes h = absurd (clash refusal bytes (Err refusal) refl h)
 
-module _ (certified : RunIsCertified) (again : RunIsReadAgain) (k : Task) (pieces words : List Text) (files : List File) (readable : IsReadable k) (whole : IsWhole k pieces) (h : AsksAgain words files k (concat pieces)) where
+-- a check has at most 18 digits
+built_check : (asked : AskedCheck) (w : Wanted) → built w ≡ Some (Check asked) → w ≡ Checks asked.name asked.listing asked.digits
+built_check asked (Lists name digits workers rounds None None) e = cc
+built_check asked (Lists name digits workers rounds None (Some turns)) e = cc
+built_check asked (Lists name digits workers rounds (Some zones) turns) e = cc
+built_check asked (Checks name listing digits) e = cc
+built_check asked (Makes seed size) e = cc
+built_check asked (Batches list digits workers rounds) e = cc
+
+asked_digits : (words : List Text) (asked : AskedCheck) → asked_in words ≡ Some (Check asked) → asked.digits ≤ 18
+asked_digits words asked = by_wanted (wanted_of words) refl
+  where
+    by_wanted : (w : Option Wanted) → wanted_of words ≡ w → option_and_then built w ≡ Some (Check asked) → asked.digits ≤ 18
+    by_wanted None is e = cc
+    by_wanted (Some w) is e = check_digits words asked.name asked.listing asked.digits (is ∙ ap Some (built_check asked w e))
+
+module _ (certified : RunIsCertified) (again : RunIsReadAgain) (k : Task) (pieces words : List Text) (files : List File) (model : IsModel k.model) (whole : IsWhole k pieces) (h : ChecksWritten words files k (concat pieces)) where
   abbrev steps : List ListedStep
   steps = map as_listed whole.values
+
+  readable : IsReadable k
+  readable = record {
+    model = model;
+    digits = let few = asked_digits words h.asked h.wanted in let same = h.digits in omega (arith, few, same);
+    unit = unit_is_short files h.asked.name k.model (named_read h.asked.name (reads files) k.model h.read);
+  }
 
   steps_read : steps_in h.asked k.model (Ok (concat pieces)) ≡ Ok steps
   steps_read =
@@ -54,10 +81,10 @@ module _ (certified : RunIsCertified) (again : RunIsReadAgain) (k : Task) (piece
       let P : Case → Type 0 = λ c. Defines c status.Ok (certified_line ∷ []) in
       let D : ℕ → Type 0 = λ s. IsCertified k.model s steps (certified_line ∷ []) in
       subst P (sym case_is) (subst D (sym h.digits) (record {
-        verdict = certified k whole.values readable.model whole.steps;
+        verdict = certified k whole.values model whole.steps;
         encloses = run_encloses k whole.values whole.steps whole.encloses;
         are = refl;
       }))
 
-pub own_is_certified : RunIsCertified → RunIsReadAgain → OwnIsCertified
-own_is_certified certified again k pieces words files readable whole h = is_certified certified again k pieces words files readable whole h
+pub written_is_certified : RunIsCertified → RunIsReadAgain → WrittenIsCertified
+written_is_certified certified again k pieces words files model whole h = is_certified certified again k pieces words files model whole h

@@ -1,0 +1,70 @@
+-- The digits that words ask for are at most 18.
+use Rattle.std.proofs.Common.{◌≡◌, ℕ, ◌≤◌, Bool, true, false, cond, List, [], ◌∷◌, Option, Some, None, codes, refl, subst, arith}
+use Rattle.std.specs.Prelude.{◌&&◌, if◌then◌else◌, decimal, nat_le, option_and_then}
+use Rattle.std.specs.Str.{bytes_eq}
+use Rattle.std.specs.Str.Parse.{digits_value}
+use Rattle.std.proofs.lemmas.Bool.{leb-true}
+use Rattle.clap.specs.Words.{Text, Row, Kinds, fault_of, subcommand_of, first_of}
+use Rattle.command_line.specs.Commands.{heads_app}
+use Rattle.command_line.specs.Numbers.{is_number, number_in, number_or}
+use Rattle.command_line.specs.Wants.{Wanted, Checks, batch_in, check_in, command_in, digits_in, make_in, rounds_in, run_in, wanted_if, wanted_of, watch_in, workers_in}
+
+-- a number that was taken is one of its range
+both : (a b : Bool) → (a && b) ≡ true → (a ≡ true) × (b ≡ true)
+both true b e = (refl, e)
+both false b e = absurd (let bad : false ≡ true = e in cc)
+
+taken : (test : Bool) (v n : ℕ) → (if test then Some v else None) ≡ Some n → (test ≡ true) × (v ≡ n)
+taken true v n e = (refl, cc)
+taken false v n e = absurd (let bad : Path (Option ℕ) None (Some n) = e in cc)
+
+few : (given : Option Text) (n : ℕ) → number_or 0 18 12 given ≡ Some n → n ≤ 18
+few None n e = let same : 12 ≡ n = (taken true 12 n e).1 in omega (arith, same)
+few (Some text) n e =
+    let v = digits_value 10 text in
+    let (test, same) = taken (is_number 0 18 text v) v n e in
+    let top : v ≤ 18 = leb-true v 18 (both (bytes_eq text (decimal v) && nat_le 0 v) (nat_le v 18) test).1 in
+    omega (arith, same, top)
+
+-- a check has at most 18
+abbrev Fits : Option Wanted → Type 0
+Fits (Some (Checks name listing digits)) = digits ≤ 18
+Fits other = Unit {0}
+
+then_fits : {A : Type 0} (x : Option A) (f : A → Option Wanted) → ((a : A) → x ≡ Some a → Fits (f a)) → Fits (option_and_then f x)
+then_fits None f h = tt
+then_fits (Some a) f h = h a refl
+
+cond_fits : (test : Bool) (x y : Option Wanted) → Fits x → Fits y → Fits (cond test x y)
+cond_fits true x y h k = h
+cond_fits false x y h k = k
+
+run_fits : (rows : List Row) → Fits (run_in rows)
+run_fits rows =
+    then_fits (first_of (codes "name") rows) _ (λ name a. then_fits (digits_in rows) _ (λ digits b. then_fits (workers_in rows) _ (λ workers c. then_fits (rounds_in rows) _ (λ rounds d. then_fits (watch_in rows) _ (λ turns e. tt)))))
+
+check_fits : (rows : List Row) → Fits (check_in rows)
+check_fits rows =
+    then_fits (first_of (codes "name") rows) _ (λ name a. then_fits (first_of (codes "listing") rows) _ (λ listing b. then_fits (digits_in rows) _ (λ digits c. few (first_of (codes "digits") rows) digits c)))
+
+make_fits : (rows : List Row) → Fits (make_in rows)
+make_fits rows =
+    then_fits (first_of (codes "seed") rows) _ (λ seed_text a. then_fits (first_of (codes "size") rows) _ (λ size_text b. then_fits (number_in 0 2147483647 seed_text) _ (λ seed c. then_fits (number_in 1 64 size_text) _ (λ size d. tt))))
+
+batch_fits : (rows : List Row) → Fits (batch_in rows)
+batch_fits rows =
+    then_fits (first_of (codes "list") rows) _ (λ list a. then_fits (digits_in rows) _ (λ digits b. then_fits (workers_in rows) _ (λ workers c. then_fits (rounds_in rows) _ (λ rounds d. tt))))
+
+command_fits : (name : Text) (rows : List Row) → Fits (command_in name rows)
+command_fits name rows =
+    cond_fits (bytes_eq name (codes "run")) (run_in rows) _ (run_fits rows)
+    (cond_fits (bytes_eq name (codes "check")) (check_in rows) _ (check_fits rows)
+    (cond_fits (bytes_eq name (codes "make")) (make_in rows) _ (make_fits rows)
+    (cond_fits (bytes_eq name (codes "batch")) (batch_in rows) None (batch_fits rows) tt)))
+
+found_fits : (faults : Kinds) (found : Option (Text × List Row)) → Fits (wanted_if faults found)
+found_fits [] found = then_fits found (λ p. command_in p.0 p.1) (λ p e. command_fits p.0 p.1)
+found_fits (fault ∷ faults) found = tt
+
+pub check_digits : (words : List Text) (name listing : Text) (digits : ℕ) → wanted_of words ≡ Some (Checks name listing digits) → digits ≤ 18
+check_digits words name listing digits e = subst Fits e (found_fits (fault_of heads_app words) (subcommand_of heads_app words))

@@ -1,5 +1,0 @@
-use Rattle.engine.proofs.Own.{own_is_certified}
-use Rattle.engine.proofs.laws.own_is_certified.Goals as goal
-
-pub returns : goal.returns
-returns c = own_is_certified c.run_is_certified.ensures c.run_is_read_again.ensures
