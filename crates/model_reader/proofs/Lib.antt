@@ -1,4 +1,5 @@
 pub mod BasicLemmas
+pub mod Chains
 pub mod PeriodLemmas
 pub mod FlowLemmas
 pub mod UnitLemmas

@@ -1,0 +1,37 @@
+use Rattle.std.proofs.lemmas.Result.{err_from_is_err_and}
+use Rattle.std.proofs.Common.{Err}
+use Rattle.model_reader.specs.Stresses.{with_entries}
+use Rattle.model_reader.proofs.Chains.{goes_on, stops_here}
+use Rattle.model_reader.proofs.stresses.with_entries.Goals as goal
+
+pub returns-in_err-with_rivers-clause-model : goal.returns-in_err-with_rivers-clause-model
+unfolding with_entries
+returns-in_err-with_rivers-clause-model g c = λ files agree.
+    let p = err_from_is_err_and c.from_residual-in_err-with_rivers.result c.from_residual-in_err-with_rivers.ensures.1 in
+    rw (p.1, p.2) (goes_on (λ m. m) (Err c.in_err-with_rivers.field-0.0) _ _ _ (c.in_ok-with_wells.ensures.model files (c.in_err-with_rivers.ensures.since files agree))
+      (stops_here c.in_err-with_rivers.field-0.0 _ _ (c.in_err-with_rivers.ensures.model files agree)))
+
+pub returns-in_err-with_drains-clause-since : goal.returns-in_err-with_drains-clause-since
+returns-in_err-with_drains-clause-since g c = λ files agree. c.in_ok-with_wells.ensures.since files (c.in_ok-with_rivers.ensures.since files (c.in_err-with_drains.ensures.since files agree))
+
+pub returns-in_err-with_drains-clause-model : goal.returns-in_err-with_drains-clause-model
+unfolding with_entries
+returns-in_err-with_drains-clause-model g c = λ files agree.
+    let p = err_from_is_err_and c.from_residual-in_err-with_drains.result c.from_residual-in_err-with_drains.ensures.1 in
+    let rivers = c.in_err-with_drains.ensures.since files agree in
+    rw (p.1, p.2) (goes_on (λ m. m) (Err c.in_err-with_drains.field-0.0) _ _ _ (c.in_ok-with_wells.ensures.model files (c.in_ok-with_rivers.ensures.since files rivers))
+      (goes_on (λ m. m) (Err c.in_err-with_drains.field-0.0) _ _ _ (c.in_ok-with_rivers.ensures.model files rivers)
+        (stops_here c.in_err-with_drains.field-0.0 _ _ (c.in_err-with_drains.ensures.model files agree))))
+
+pub returns-clause-since : goal.returns-clause-since
+returns-clause-since g c = λ files agree. c.in_ok-with_wells.ensures.since files (c.in_ok-with_rivers.ensures.since files (c.in_ok-with_drains.ensures.since files (c.ghb_in.ensures.since files agree)))
+
+pub returns-clause-model : goal.returns-clause-model
+unfolding with_entries
+returns-clause-model g c = λ files agree.
+    let drains = c.ghb_in.ensures.since files agree in
+    let rivers = c.in_ok-with_drains.ensures.since files drains in
+    goes_on (λ m. m) c.ghb_in.result _ _ _ (c.in_ok-with_wells.ensures.model files (c.in_ok-with_rivers.ensures.since files rivers))
+      (goes_on (λ m. m) c.ghb_in.result _ _ _ (c.in_ok-with_rivers.ensures.model files rivers)
+        (goes_on (λ m. m) c.ghb_in.result _ _ _ (c.in_ok-with_drains.ensures.model files drains)
+          (c.ghb_in.ensures.model files agree)))
