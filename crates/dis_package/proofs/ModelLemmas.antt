@@ -1,5 +1,5 @@
 -- A discretization, one item behind the other.
-use Rattle.std.proofs.Common.{◌≡◌, refl, sym, ℕ, ℤ, List, Ok}
+use Rattle.std.proofs.Common.{◌≡◌, refl, ℕ, ℤ, List, Ok}
 use Rattle.outside.specs.Files.{File}
 use Rattle.record_lines.specs.Layout.{Left, left_from, without_comments}
 use Rattle.model_types.specs.declared.grid.Grid.{Grid}

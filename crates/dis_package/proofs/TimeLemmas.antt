@@ -1,5 +1,5 @@
 -- What the tests of a period's line tell of its times.
-use Rattle.std.proofs.Common.{◌≡◌, ℕ, ◌<◌, ◌≤◌, Bool, true, false, not, ◌&&◌, ◌||◌, nat_lt, nat_le, ◌⊎◌, inl, inr, refl, sym, ◌∙◌, subst, arith}
+use Rattle.std.proofs.Common.{◌≡◌, Bool, true, false, not, ◌&&◌, ◌||◌, nat_le, ◌⊎◌, inl, inr, refl, sym, ◌∙◌, subst}
 use Rattle.std.specs.Prelude.{if◌then◌else◌}
 use Rattle.std.proofs.lemmas.Bool.{and_parts, not-true, leb-true}
 use Rattle.decimal_input.specs.Canonical.{size}
@@ -9,7 +9,7 @@ use Rattle.number_limits.specs.Magnitudes.{is_at_most, is_at_least}
 use Rattle.number_limits.specs.Signs.{is_one, is_positive}
 use Rattle.number_limits.proofs.MagnitudeLemmas.{at_least_thousandth, at_most_thousand}
 use Rattle.number_limits.proofs.SignLemmas.{positive_of, one_of}
-use Rattle.dis_package.specs.Forms.{IsTime, IsNewPeriod, without_stresses}
+use Rattle.dis_package.specs.Forms.{IsTime, IsNewPeriod}
 use Rattle.dis_package.specs.Times.{bare, is_growth, is_time}
 use Rattle.dis_package.specs.declared.time.Time.{Time}
 

@@ -1,5 +1,5 @@
 -- What is known of a discretization that was read, whatever the folder tells: limits, lengths and signs.
-use Rattle.std.specs.Prelude.{◌≡◌, ℕ, ◌*◌, ◌≤◌, pos, false, List, [], All, length, sum_by}
+use Rattle.std.specs.Prelude.{◌≡◌, ◌*◌, ◌≤◌, [], All, length, sum_by}
 use Rattle.decimal_input.specs.Canonical.{IsDec}
 use Rattle.model_types.specs.declared.model.FlowModel.{FlowModel}
 use Rattle.model_types.specs.declared.period.Period.{Period}

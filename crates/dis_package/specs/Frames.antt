@@ -1,5 +1,5 @@
 -- The first line of a file of the discretization: NLAY NROW NCOL NPER ITMUNI LENUNI (TM 6-A16, DIS, item 1).
-use Rattle.std.specs.Prelude.{ℕ, ◌*◌, ℤ, List, nat_le, Option, Some, None, Result, Ok, Err, if◌then◌else◌}
+use Rattle.std.specs.Prelude.{ℕ, ◌*◌, List, nat_le, Option, Some, None, Result, Ok, Err, if◌then◌else◌}
 use Rattle.outside.specs.Refusals.{refusal}
 use Rattle.outside.specs.declared.codes.Code.TheVariants.{BadGrid}
 use Rattle.outside.specs.declared.refusals.Refusal.{Refusal}

@@ -1,9 +1,8 @@
 -- Cells of a column of layers.
-use Rattle.std.proofs.Common.{◌≡◌, ℕ, suc, ◌+◌, ◌-◌, ◌*◌, ◌<◌, ◌≤◌, Bool, true, false, List, ℤ, Option, Some, None, refl, sym, ◌∙◌, arith}
+use Rattle.std.proofs.Common.{◌≡◌, ℕ, suc, ◌+◌, ◌-◌, ◌*◌, ◌<◌, ◌≤◌, true, false, List, ℤ, Option, Some, None, refl, sym, ◌∙◌, arith}
 use Rattle.std.proofs.Math.Nat.{mul-le-mul_right}
 use Rattle.model_types.specs.declared.grid.Grid.{Grid}
 use Rattle.model_types.specs.Cells.{layer_size, cell_count}
-use Rattle.model_types.specs.Grids.{HasSize}
 use Rattle.model_types.specs.Layers.{int_at, is_nonzero}
 use Rattle.evt_package.specs.Columns.{highest}
 

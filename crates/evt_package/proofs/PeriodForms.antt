@@ -1,5 +1,5 @@
 -- A period whose arrays stand and whose columns passed their tests, and a model of such periods.
-use Rattle.std.proofs.Common.{◌≡◌, ℕ, ℤ, ◌≤ℤ◌, pos, Bool, true, false, is_some, List, All, Ok, refl, sym, subst, ◌∙◌}
+use Rattle.std.proofs.Common.{◌≡◌, ℕ, ℤ, ◌≤ℤ◌, pos, Bool, true, false, is_some, List, All, Ok, refl, sym, subst}
 use Rattle.std.proofs.lemmas.List.Elements.{All-weaker}
 use Rattle.model_types.specs.declared.grid.Grid.{Grid}
 use Rattle.model_types.specs.declared.model.FlowModel.{FlowModel}

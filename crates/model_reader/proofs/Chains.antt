@@ -1,5 +1,5 @@
 -- Readings one behind the other.
-use Rattle.std.proofs.Common.{◌≡◌, refl, sym, subst, Result, Ok, Err, List, ℕ}
+use Rattle.std.proofs.Common.{◌≡◌, refl, sym, subst, Result, Ok}
 use Rattle.outside.specs.declared.refusals.InputFault.{InputFault}
 use Rattle.outside.specs.declared.refusals.InputFault.TheVariants as input
 use Rattle.outside.specs.declared.refusals.TextFault.{TextFault}

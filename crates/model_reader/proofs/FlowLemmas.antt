@@ -1,12 +1,11 @@
 -- A model that passed the checks behind LPF.
-use Rattle.std.proofs.Common.{◌≡◌, ◌⊎◌, inl, inr, ℕ, ◌+◌, ◌<◌, ◌≤◌, ℤ, pos, ◌≤ℤ◌, Bool, true, false, not, cond, ◌&&◌, ◌||◌, nat_le, nat_lt, List, Ok, All, length, refl, sym, ◌∙◌, ap, subst, arith}
+use Rattle.std.proofs.Common.{◌≡◌, ◌⊎◌, inl, inr, ℕ, ◌+◌, ◌<◌, ℤ, pos, ◌≤ℤ◌, Bool, true, false, not, cond, ◌&&◌, ◌||◌, nat_le, nat_lt, List, Ok, All, length, refl, sym, ap, subst, arith}
 use Rattle.std.proofs.lemmas.Bool.{and_parts, not-true, lt-leb, lt-ltb}
 use Rattle.std.proofs.lemmas.Int.{ints}
 use Rattle.decimal_input.specs.declared.dec.Dec.{Dec}
 use Rattle.decimal_input.specs.Canonical.{number}
 use Rattle.decimal_input.specs.contracts.dec.DecPartialEq.TheImpl as dec_eq
 use Rattle.model_types.specs.declared.model.FlowModel.{FlowModel}
-use Rattle.model_types.specs.declared.period.Period.{Period}
 use Rattle.model_types.specs.Cells.{layer_size, cell_count}
 use Rattle.model_types.specs.Layers.{dec_at, is_active, has_bed, top_at, bottom_at, lowest}
 use Rattle.model_types.specs.Valid.{IsModel, IsCellValid, IsBedValid, IsBedChecked}
