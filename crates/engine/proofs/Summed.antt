@@ -1,5 +1,6 @@
 -- The ends of the run of a made model.
-use Rattle.std.proofs.Common.{◌≡◌, ℕ, List, [], ◌∷◌, Ok, Err, Result, IfOk, MatchResult, subst, sym, refl, inl, inr}
+use Rattle.std.proofs.Common.{◌≡◌, ℕ, List, [], ◌∷◌, Ok, Err, Result, IfOk, MatchResult, Some, subst, sym, refl, inl, inr}
+use Rattle.outside.specs.Files.{File}
 use Rattle.outside.specs.Inputs.{IsReading}
 use Rattle.outside.specs.Puts.{Put}
 use Rattle.outside.specs.declared.refusals.InputFault.{InputFault}
@@ -19,9 +20,11 @@ use Rattle.listing_summary.specs.Texts.{summary_text}
 use Rattle.listing_summary.specs.declared.stop.Stop.{Stop}
 use Rattle.listing_summary.specs.declared.stop.Stop.TheVariants.{NoBound, Unfinished, Memory}
 use Rattle.listing_summary.specs.declared.summary.Summary.{Summary}
-use Rattle.engine.specs.Cases.{made_model}
+use Rattle.model_maker.specs.Files.{made_files, made_name}
+use Rattle.model_reader.specs.Model.{reads}
+use Rattle.engine.specs.Cases.{made_model, named}
 use Rattle.engine.specs.Made.{IsMade, made_task}
-use Rattle.engine.specs.Parts.{IsMadeRun, IsSummaryEnd, IsUnreadEnd}
+use Rattle.engine.specs.Parts.{IsMadeRun, IsReadAs, IsSummaryEnd, IsUnreadEnd}
 use Rattle.engine.proofs.Ends.{wanting_stops}
 
 module _ (seed size : ℕ) where
@@ -42,6 +45,10 @@ module _ (seed size : ℕ) where
     alone line meant end puts due h =
         let P : Result FlowModel Refusal → Type 0 = λ r. IsMade seed size r meant (line ∷ []) in
         record { run = lone DueHere Never line meant end puts (subst P (sym is) due) h; valid = inl is_valid }
+
+  -- what a folder of these files reads as
+  pub made_reading : (files : List File) (answer : Result FlowModel InputFault) → files ≡ made_files seed size → IsReadAs made_name (Some files) answer → IsReading (λ m. m) (made_model seed size) answer
+  made_reading files answer is h = subst (λ (fs : List File). IsReading (λ m. m) (named made_name (reads fs)) answer) is h
 
   pub made_summed : (m : FlowModel) (summed : Result Summary Stop) (end : Status) (puts : List Put) → made_model seed size ≡ Ok m → IsModel m → MatchResult summed (IsSummarized (made_task m)) (StopsBy (made_task m)) → IsSummaryEnd seed size (made_task m) summed end puts → IsMadeRun seed size end puts
   made_summed m (Ok s) end puts is valid summed h = alone (Ok m) is valid (summary_text seed size s) status.Ok end puts (s, summed, refl) h
