@@ -10,5 +10,5 @@ unfolding lpf_in
 returns-in_err-check_cells-clause-model g c = λ files agree.
     let p = err_from_is_err_and c.from_residual-in_err-check_cells.result c.from_residual-in_err-check_cells.ensures.1 in
     rw (p.1, p.2) (goes_on (λ m. m) (Err (input_fault c.in_err-check_cells.field-0.0)) _ _ _ (c.in_ok-bytes.ensures.bytes files (c.in_ok-model.ensures.since files agree))
-      (goes_on (λ m. m) (Err (input_fault c.in_err-check_cells.field-0.0)) _ _ _ (rw c.deref.ensures.value at (c.in_ok-model.ensures.model files agree))
-        (text_stops_here c.in_err-check_cells.field-0.0 _ _ c.in_err-check_cells.ensures)))
+    (goes_on (λ m. m) (Err (input_fault c.in_err-check_cells.field-0.0)) _ _ _ (rw c.deref.ensures.value at (c.in_ok-model.ensures.model files agree))
+    (text_stops_here c.in_err-check_cells.field-0.0 _ _ c.in_err-check_cells.ensures)))

@@ -9,7 +9,7 @@ unfolding with_entries
 returns-in_err-with_rivers-clause-model g c = λ files agree.
     let p = err_from_is_err_and c.from_residual-in_err-with_rivers.result c.from_residual-in_err-with_rivers.ensures.1 in
     rw (p.1, p.2) (goes_on (λ m. m) (Err c.in_err-with_rivers.field-0.0) _ _ _ (c.in_ok-with_wells.ensures.model files (c.in_err-with_rivers.ensures.since files agree))
-      (stops_here c.in_err-with_rivers.field-0.0 _ _ (c.in_err-with_rivers.ensures.model files agree)))
+    (stops_here c.in_err-with_rivers.field-0.0 _ _ (c.in_err-with_rivers.ensures.model files agree)))
 
 pub returns-in_err-with_drains-clause-since : goal.returns-in_err-with_drains-clause-since
 returns-in_err-with_drains-clause-since g c = λ files agree. c.in_ok-with_wells.ensures.since files (c.in_ok-with_rivers.ensures.since files (c.in_err-with_drains.ensures.since files agree))
@@ -20,8 +20,8 @@ returns-in_err-with_drains-clause-model g c = λ files agree.
     let p = err_from_is_err_and c.from_residual-in_err-with_drains.result c.from_residual-in_err-with_drains.ensures.1 in
     let rivers = c.in_err-with_drains.ensures.since files agree in
     rw (p.1, p.2) (goes_on (λ m. m) (Err c.in_err-with_drains.field-0.0) _ _ _ (c.in_ok-with_wells.ensures.model files (c.in_ok-with_rivers.ensures.since files rivers))
-      (goes_on (λ m. m) (Err c.in_err-with_drains.field-0.0) _ _ _ (c.in_ok-with_rivers.ensures.model files rivers)
-        (stops_here c.in_err-with_drains.field-0.0 _ _ (c.in_err-with_drains.ensures.model files agree))))
+    (goes_on (λ m. m) (Err c.in_err-with_drains.field-0.0) _ _ _ (c.in_ok-with_rivers.ensures.model files rivers)
+    (stops_here c.in_err-with_drains.field-0.0 _ _ (c.in_err-with_drains.ensures.model files agree))))
 
 pub returns-clause-since : goal.returns-clause-since
 returns-clause-since g c = λ files agree. c.in_ok-with_wells.ensures.since files (c.in_ok-with_rivers.ensures.since files (c.in_ok-with_drains.ensures.since files (c.ghb_in.ensures.since files agree)))
@@ -32,6 +32,6 @@ returns-clause-model g c = λ files agree.
     let drains = c.ghb_in.ensures.since files agree in
     let rivers = c.in_ok-with_drains.ensures.since files drains in
     goes_on (λ m. m) c.ghb_in.result _ _ _ (c.in_ok-with_wells.ensures.model files (c.in_ok-with_rivers.ensures.since files rivers))
-      (goes_on (λ m. m) c.ghb_in.result _ _ _ (c.in_ok-with_rivers.ensures.model files rivers)
-        (goes_on (λ m. m) c.ghb_in.result _ _ _ (c.in_ok-with_drains.ensures.model files drains)
-          (c.ghb_in.ensures.model files agree)))
+    (goes_on (λ m. m) c.ghb_in.result _ _ _ (c.in_ok-with_rivers.ensures.model files rivers)
+    (goes_on (λ m. m) c.ghb_in.result _ _ _ (c.in_ok-with_drains.ensures.model files drains)
+    (c.ghb_in.ensures.model files agree)))

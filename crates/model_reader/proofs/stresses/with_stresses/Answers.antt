@@ -9,7 +9,7 @@ unfolding with_stresses
 returns-in_err-with_recharge-clause-model g c = λ files agree.
     let p = err_from_is_err_and c.from_residual-in_err-with_recharge.result c.from_residual-in_err-with_recharge.ensures.1 in
     rw (p.1, p.2) (goes_on (λ m. m) (Err c.in_err-with_recharge.field-0.0) _ _ _ (c.in_ok-with_generals.ensures.model files (c.in_err-with_recharge.ensures.since files agree))
-      (stops_here c.in_err-with_recharge.field-0.0 _ _ (c.in_err-with_recharge.ensures.model files agree)))
+    (stops_here c.in_err-with_recharge.field-0.0 _ _ (c.in_err-with_recharge.ensures.model files agree)))
 
 pub returns-in_err-with_given-clause-since : goal.returns-in_err-with_given-clause-since
 returns-in_err-with_given-clause-since g c = λ files agree. c.in_ok-with_generals.ensures.since files (c.in_ok-with_recharge.ensures.since files (c.in_err-with_given.ensures.since files agree))
@@ -20,8 +20,8 @@ returns-in_err-with_given-clause-model g c = λ files agree.
     let p = err_from_is_err_and c.from_residual-in_err-with_given.result c.from_residual-in_err-with_given.ensures.1 in
     let recharge = c.in_err-with_given.ensures.since files agree in
     rw (p.1, p.2) (goes_on (λ m. m) (Err c.in_err-with_given.field-0.0) _ _ _ (c.in_ok-with_generals.ensures.model files (c.in_ok-with_recharge.ensures.since files recharge))
-      (goes_on (λ m. m) (Err c.in_err-with_given.field-0.0) _ _ _ (c.in_ok-with_recharge.ensures.model files recharge)
-        (stops_here c.in_err-with_given.field-0.0 _ _ (c.in_err-with_given.ensures.model files agree))))
+    (goes_on (λ m. m) (Err c.in_err-with_given.field-0.0) _ _ _ (c.in_ok-with_recharge.ensures.model files recharge)
+    (stops_here c.in_err-with_given.field-0.0 _ _ (c.in_err-with_given.ensures.model files agree))))
 
 pub returns-clause-since : goal.returns-clause-since
 returns-clause-since g c = λ files agree. c.in_ok-with_generals.ensures.since files (c.in_ok-with_recharge.ensures.since files (c.in_ok-with_given.ensures.since files (c.evt_in.ensures.since files agree)))
@@ -32,6 +32,6 @@ returns-clause-model g c = λ files agree.
     let given = c.evt_in.ensures.since files agree in
     let recharge = c.in_ok-with_given.ensures.since files given in
     goes_on (λ m. m) c.evt_in.result _ _ _ (c.in_ok-with_generals.ensures.model files (c.in_ok-with_recharge.ensures.since files recharge))
-      (goes_on (λ m. m) c.evt_in.result _ _ _ (c.in_ok-with_recharge.ensures.model files recharge)
-        (goes_on (λ m. m) c.evt_in.result _ _ _ (c.in_ok-with_given.ensures.model files given)
-          (c.evt_in.ensures.model files agree)))
+    (goes_on (λ m. m) c.evt_in.result _ _ _ (c.in_ok-with_recharge.ensures.model files recharge)
+    (goes_on (λ m. m) c.evt_in.result _ _ _ (c.in_ok-with_given.ensures.model files given)
+    (c.evt_in.ensures.model files agree)))
