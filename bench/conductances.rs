@@ -1,18 +1,14 @@
-// Nanoseconds of each call that rounds a conductance, a flow or a given head: the proved calls beside plain Rust.
+// Nanoseconds of each call that rounds a thickness, a conductance, a flow, a part of a period or a given head: the proved
+// calls beside plain Rust.
 #[allow(dead_code)]
 mod decimals;
+mod processor;
+mod spans;
 
-use decimals::{Number, add_dn, add_up, div_dn, div_up, mul_dn, mul_up, of_units_dn, wide_units};
+use decimals::{Number, of_units_dn, of_wide_units, wide_units};
+use processor::processor_time;
+use spans::Word;
 use std::hint::black_box;
-use std::time::Instant;
-
-/// The number digits * 10 ^ exp, above 0.
-#[repr(C)]
-#[derive(Clone, Copy)]
-pub struct Word {
-    digits: u64,
-    exp: i16,
-}
 
 /// Two bounds, by their last 64 bits; 0 and 0 where there are none.
 #[repr(C)]
@@ -31,6 +27,9 @@ unsafe extern "C" {
     fn conductance_evaporation(d: Word, w: Word, h: Word, k: Word, a: Word, t: Number, u: Number) -> Both;
     fn conductance_head(d: Word, w: Word, h: Word, k: Word, a: Word, t: Number, u: Number) -> Both;
     fn conductance_factors(d: Word, w: Word, h: Word, k: Word, a: Word, t: Number, u: Number) -> Both;
+    fn conductance_thickness(d: Word, w: Word, h: Word, k: Word, a: Word, t: Number, u: Number) -> Both;
+    fn conductance_no_bed(d: Word, w: Word, h: Word, k: Word, a: Word, t: Number, u: Number) -> Both;
+    fn conductance_parts(k: Word, a: Word, times: u32, parts: *mut Both, room: usize) -> bool;
 }
 
 type Call = unsafe extern "C" fn(Word, Word, Word, Word, Word, Number, Number) -> Both;
@@ -38,63 +37,14 @@ type Call = unsafe extern "C" fn(Word, Word, Word, Word, Word, Number, Number) -
 mod plain {
     use super::*;
 
-    // Bounds of a number.
-    #[derive(Clone, Copy)]
-    struct Span {
-        lo: Number,
-        hi: Number,
-    }
+    use spans::{ONE, Span, exactly, word};
 
-    fn exactly(number: Number) -> Span {
-        Span {
-            lo: number,
-            hi: number,
-        }
-    }
-
-    fn word(w: Word) -> Span {
-        let number = of_units_dn(w.digits, 0);
-        exactly(Number {
-            m: number.m,
-            e: number.e + w.exp,
-        })
-    }
-
-    impl Span {
-        fn times(self, b: Span) -> Span {
-            Span {
-                lo: mul_dn(self.lo.m, self.lo.e, b.lo.m, b.lo.e),
-                hi: mul_up(self.hi.m, self.hi.e, b.hi.m, b.hi.e),
-            }
-        }
-
-        fn plus(self, b: Span) -> Span {
-            Span {
-                lo: add_dn(self.lo.m, self.lo.e, b.lo.m, b.lo.e),
-                hi: add_up(self.hi.m, self.hi.e, b.hi.m, b.hi.e),
-            }
-        }
-
-        fn over(self, b: Span) -> Span {
-            Span {
-                lo: div_dn(self.lo.m, self.lo.e, b.hi.m, b.hi.e),
-                hi: div_up(self.hi.m, self.hi.e, b.lo.m, b.lo.e),
-            }
-        }
-    }
-
-    const ONE: Word = Word { digits: 1, exp: 0 };
-
-    // None where the upper bound reaches the limit.
+    // 0 and 0 where the upper bound reaches the limit.
     fn pair_below(span: Span, s: u32, limit: u128) -> Both {
-        let lo = wide_units(span.lo.m, span.lo.e, s, false);
-        let hi = wide_units(span.hi.m, span.hi.e, s, true).filter(|hi| *hi < limit);
-        match (lo, hi) {
-            (Some(lo), Some(hi)) => Both {
-                lo: lo as u64,
-                hi: hi as u64,
-            },
-            _ => Both { lo: 0, hi: 0 },
+        let (lo, hi) = span.units_below(s, limit).unwrap_or((0, 0));
+        Both {
+            lo: lo as u64,
+            hi: hi as u64,
         }
     }
 
@@ -174,14 +124,72 @@ mod plain {
         let sum = (1..20).fold(one, |sum, _| sum.times(growth).plus(one));
         let power = (1..10).fold(one, |power, _| power.times(growth));
         Both {
-            lo: sum.lo.m,
-            hi: power.hi.m,
+            lo: packed(sum.lo),
+            hi: packed(power.hi),
+        }
+    }
+
+    // A decimal's last digits and those of its exponent, in one word.
+    fn packed(number: Number) -> u64 {
+        number.m * 16 + (number.e.unsigned_abs() as u64 & 15)
+    }
+
+    // The floor and the ceiling of an elevation in units of 10^-18.
+    fn edges(w: Word) -> [i128; 2] {
+        let places = w.exp as i32 + 18;
+        if places >= 0 {
+            return [w.digits as i128 * 10i128.pow(places as u32); 2];
+        }
+        let unit = 10i128.pow(places.unsigned_abs());
+        let floor = w.digits as i128 / unit;
+        [floor, floor + (w.digits as i128 % unit != 0) as i128]
+    }
+
+    #[inline(never)]
+    pub extern "C" fn thickness(_: Word, _: Word, h: Word, k: Word, _: Word, _: Number, _: Number) -> Both {
+        let (top, bottom) = (edges(h), edges(k));
+        Both {
+            lo: packed(of_wide_units((top[0] - bottom[1]) as u128, 18, false)),
+            hi: packed(of_wide_units((top[1] - bottom[0]) as u128, 18, true)),
+        }
+    }
+
+    #[inline(never)]
+    pub extern "C" fn no_bed(d: Word, w: Word, _: Word, _: Word, a: Word, t: Number, u: Number) -> Both {
+        let half = |t: Number| exactly(t).over(word(a).plus(word(a)));
+        pair(word(d).times(word(w)).over(half(t).plus(half(u))), 12)
+    }
+
+    // 1 + t + .. + t^(n - 1)
+    fn sum_of(t: Span, n: usize) -> Span {
+        (1..n).fold(word(ONE), |sum, _| sum.times(t).plus(word(ONE)))
+    }
+
+    #[inline(never)]
+    pub fn parts(a: Word, parts: &mut [Both]) {
+        let steps = parts.len();
+        for (at, to) in parts.iter_mut().enumerate() {
+            if at + 1 == steps {
+                *to = Both {
+                    lo: WHOLE as u64,
+                    hi: WHOLE as u64,
+                };
+                continue;
+            }
+            let part = sum_of(word(a), at + 1).over(sum_of(word(a), steps));
+            let lo = wide_units(part.lo.m, part.lo.e, 18, false).unwrap_or(0);
+            let hi = wide_units(part.hi.m, part.hi.e, 18, true).unwrap_or(u128::MAX);
+            *to = Both {
+                lo: lo as u64,
+                hi: hi.min(WHOLE as u128) as u64,
+            };
         }
     }
 }
 
 const COUNT: usize = 4096;
 const ROUNDS: usize = 40;
+const STEPS: usize = 20;
 const RUNS: usize = 7;
 
 #[derive(Clone, Copy)]
@@ -238,38 +246,89 @@ fn call(f: Call, c: &Case) -> Both {
     unsafe { f(c.d, c.w, c.h, c.k, c.a, c.t, c.u) }
 }
 
-fn nanoseconds(f: Call, cases: &[Case]) -> f64 {
-    let mut best = f64::MAX;
+// Of one call, the least of several runs.
+fn nanoseconds(calls: usize, mut work: impl FnMut()) -> f64 {
+    let start = processor_time();
+    work();
+    (processor_time() - start).as_nanos() as f64 / calls as f64
+}
+
+// Both sides by turns, and the least of each.
+fn both_sides(calls: usize, mut ours: impl FnMut(), mut theirs: impl FnMut()) -> (f64, f64) {
+    let mut least = (f64::MAX, f64::MAX);
     for _ in 0..RUNS {
-        let start = Instant::now();
-        for _ in 0..ROUNDS {
-            black_box(cases.iter().fold(0, |sum: u64, c| sum.wrapping_add(call(f, c).lo)));
-        }
-        best = best.min(start.elapsed().as_nanos() as f64 / (ROUNDS * COUNT) as f64);
+        least.0 = least.0.min(nanoseconds(calls, &mut ours));
+        least.1 = least.1.min(nanoseconds(calls, &mut theirs));
     }
-    best
+    least
+}
+
+fn print_line(name: &str, (ours, theirs): (f64, f64)) {
+    let ratio = ours / theirs;
+    println!("{name:17} {ours:8.1} ns {theirs:8.1} ns   ratio {ratio:.2}");
 }
 
 fn report(name: &str, cases: &[Case], proved: Call, plain: Call) {
     for c in cases {
         assert_eq!(call(proved, c), call(plain, c), "{name}");
     }
-    let ours = nanoseconds(proved, cases);
-    let theirs = nanoseconds(plain, cases);
-    let ratio = ours / theirs;
-    println!("{name:12} {ours:8.1} ns {theirs:8.1} ns   ratio {ratio:.2}");
+    let all = |f: Call| {
+        for _ in 0..ROUNDS {
+            black_box(cases.iter().fold(0, |sum: u64, c| sum.wrapping_add(call(f, c).lo)));
+        }
+    };
+    print_line(name, both_sides(ROUNDS * COUNT, || all(proved), || all(plain)));
+}
+
+// The same cases with the greater of their two elevations as the top.
+fn thick_cases(cases: &[Case]) -> Vec<Case> {
+    let mut cases = cases.to_vec();
+    for c in &mut cases {
+        if c.h.digits < c.k.digits {
+            (c.h, c.k) = (c.k, c.h);
+        }
+        c.h.digits += 10;
+    }
+    cases
+}
+
+// The parts of a period of growing steps, each for all steps.
+fn report_parts(name: &str, cases: &[Case]) {
+    let mut room = [Both { lo: 0, hi: 0 }; STEPS];
+    let mut other = room;
+    let proved = |c: &Case, times: u32, room: &mut [Both]| {
+        assert!(unsafe { conductance_parts(c.k, c.a, times, room.as_mut_ptr(), room.len()) });
+    };
+    for c in cases {
+        proved(c, 1, &mut room);
+        plain::parts(c.a, &mut other);
+        assert_eq!(room, other, "{name}");
+    }
+    let times = both_sides(
+        ROUNDS * COUNT * STEPS / 20,
+        || cases.iter().for_each(|c| proved(c, ROUNDS as u32 / 20, &mut room)),
+        || {
+            for _ in 0..ROUNDS / 20 {
+                cases.iter().for_each(|c| plain::parts(black_box(c.a), black_box(&mut other)));
+            }
+        },
+    );
+    print_line(name, times);
 }
 
 fn main() {
     let mut random = Sequence(0x9e37_79b9_7f4a_7c15);
     let cases: Vec<Case> = (0..COUNT).map(|_| random.case()).collect();
-    println!("{:12} {:>11} {:>11}", "call", "proved", "plain u128");
+    println!("{:17} {:>11} {:>11}", "call", "proved", "plain u128");
+    report("thickness", &thick_cases(&cases), conductance_thickness, plain::thickness);
     report("row", &cases, conductance_row, plain::row);
     report("column", &cases, conductance_col, plain::col);
-    report("vertical", &cases, conductance_vert, plain::vert);
+    report("vertical, no bed", &cases, conductance_no_bed, plain::no_bed);
+    report("vertical, bed", &cases, conductance_vert, plain::vert);
     report("storage", &cases, conductance_storage, plain::storage);
     report("recharge", &cases, conductance_recharge, plain::recharge);
     report("evaporation", &cases, conductance_evaporation, plain::evaporation);
     report("given head", &cases, conductance_head, plain::head);
     report("20 factors", &cases, conductance_factors, plain::factors);
+    report_parts("part of 20 steps", &cases);
 }

@@ -104,6 +104,11 @@ pub extern "C" fn of_units_up(units: u64, places: u16) -> Number {
     front(units as u128, -(places as i16), true, false)
 }
 
+/// So many units of 10 ^ -places as a decimal.
+pub fn of_wide_units(units: u128, places: i16, up: bool) -> Number {
+    front(units, -places, up, false)
+}
+
 /// So many units of 10 ^ -s, rounded to a side, where they are fewer than 2^126.
 pub fn wide_units(m: u64, e: i16, s: u32, up: bool) -> Option<u128> {
     let shift = e as i32 + s as i32;

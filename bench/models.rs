@@ -1,33 +1,70 @@
-// Milliseconds and memory of reading a model of 65,536 cells: the proved readers beside plain Rust.
+// Milliseconds and memory of reading models of 65,536 cells, with stresses in many periods and without: the proved readers
+// beside plain Rust.
 mod heap;
 mod plain;
+mod processor;
+mod stresses;
 
 use heap::most_bytes;
 use plain::{Number, Words, layer, lines_of, number};
+use processor::processor_time;
 use std::fmt::Write;
 use std::hint::black_box;
-use std::time::Instant;
+use stresses::{Columns, Stresses, evapotranspiration, is_head, lists, recharge};
 
 const ROWS: usize = 256;
 const COLS: usize = 256;
-const RUNS: usize = 9;
+const RUNS: usize = 5;
+
+// A text as the proved readers take it.
+#[repr(C)]
+struct Text {
+    bytes: *const u8,
+    length: usize,
+}
 
 unsafe extern "C" {
     fn model_cells(
-        dis: *const u8,
-        dis_length: usize,
-        bas: *const u8,
-        bas_length: usize,
-        lpf: *const u8,
-        lpf_length: usize,
+        names: Text,
+        dis: Text,
+        bas: Text,
+        lpf: Text,
+        wel: Text,
+        riv: Text,
+        drn: Text,
+        ghb: Text,
+        rch: Text,
+        chd: Text,
+        evt: Text,
+        sum: *mut u64,
+        room: usize,
     ) -> usize;
 }
 
 // The files of a model of one layer, and what plain Rust reads of them.
+#[derive(Default)]
 struct Deck {
+    names: String,
     dis: String,
     bas: String,
     lpf: String,
+    wel: String,
+    riv: String,
+    drn: String,
+    ghb: String,
+    rch: String,
+    chd: String,
+    evt: String,
+    periods: usize,
+}
+
+impl Deck {
+    fn texts(&self) -> [&String; 11] {
+        [
+            &self.names, &self.dis, &self.bas, &self.lpf, &self.wel, &self.riv, &self.drn, &self.ghb,
+            &self.rch, &self.chd, &self.evt,
+        ]
+    }
 }
 
 struct Model {
@@ -36,6 +73,7 @@ struct Model {
     ibound: Vec<Number>,
     strt: Vec<Number>,
     properties: [Vec<Number>; 3],
+    stresses: Option<Stresses>,
 }
 
 fn is_positive(value: &Number) -> bool {
@@ -64,24 +102,30 @@ fn is_thick(top: Number, bottom: Number) -> bool {
     }
 }
 
-fn is_head(value: Number) -> bool {
-    let limit = 4_000_000_000u128;
-    match value.exp {
-        0.. => {
-            value.digits == 0
-                || value.digits as u128 * 10u128.pow(value.exp.min(19) as u32) <= limit
-        }
-        places => {
-            value.digits as u128 <= limit.saturating_mul(10u128.pow((-places).min(28) as u32))
-        }
-    }
-}
-
 fn skip<'a>(lines: &mut impl Iterator<Item = &'a [u8]>, count: usize) -> Option<()> {
     for _ in 0..count {
         Words(lines.next()?).try_for_each(|word| number(word).map(|_| ()))?;
     }
     Some(())
+}
+
+const GRID: [usize; 2] = [ROWS, COLS];
+
+fn plain_stresses(deck: &Deck, ibound: &[Number]) -> Option<Stresses> {
+    use Columns::{Any, Conductance, Head};
+    let periods = deck.periods;
+    let listed = |text: &String, columns: &[Columns], once: bool| {
+        lists(lines_of(text.as_bytes()), GRID, periods, columns, once)
+    };
+    Some(Stresses {
+        wells: listed(&deck.wel, &[Any], false)?,
+        rivers: listed(&deck.riv, &[Head, Conductance, Head], false)?,
+        drains: listed(&deck.drn, &[Head, Conductance], false)?,
+        generals: listed(&deck.ghb, &[Head, Conductance], false)?,
+        recharge: recharge(lines_of(deck.rch.as_bytes()), GRID, periods)?,
+        given: listed(&deck.chd, &[Head, Head], true)?,
+        evapotranspiration: evapotranspiration(lines_of(deck.evt.as_bytes()), GRID, periods, ibound)?,
+    })
 }
 
 // The model of a deck, with the checks on its cells.
@@ -110,31 +154,36 @@ fn plain_model(deck: &Deck) -> Option<Model> {
     for cell in 0..ROWS * COLS {
         let active = ibound[cell].digits != 0;
         let fits = is_thick(top[cell], bottom[cell])
-            && is_head(strt[cell])
+            && is_head(&strt[cell])
             && is_positive(&properties[0][cell])
             && !properties[2][cell].neg;
         if active && !fits {
             return None;
         }
     }
+    let stresses = if deck.wel.is_empty() {
+        None
+    } else {
+        Some(plain_stresses(deck, &ibound)?)
+    };
     Some(Model {
         top,
         bottom,
         ibound,
         strt,
         properties,
+        stresses,
     })
 }
 
-fn proved_cells(deck: &Deck) -> usize {
+fn proved_cells(deck: &Deck, sum: &mut [u64]) -> usize {
+    let [names, dis, bas, lpf, wel, riv, drn, ghb, rch, chd, evt] = deck.texts().map(|text| Text {
+        bytes: text.as_ptr(),
+        length: text.len(),
+    });
     unsafe {
         model_cells(
-            deck.dis.as_ptr(),
-            deck.dis.len(),
-            deck.bas.as_ptr(),
-            deck.bas.len(),
-            deck.lpf.as_ptr(),
-            deck.lpf.len(),
+            names, dis, bas, lpf, wel, riv, drn, ghb, rch, chd, evt, sum.as_mut_ptr(), sum.len(),
         )
     }
 }
@@ -183,13 +232,16 @@ fn integers_text(random: &mut Sequence, written: bool) -> String {
     text
 }
 
+const NAMES: &str = "DIS 11 a.dis\nBAS6 12 a.bas\nLPF 13 a.lpf\n";
+
 // A deck whose arrays are written out in the files that are named.
-fn deck_of(dis: bool, bas: bool, lpf: bool) -> Deck {
-    let random = &mut Sequence(0x9e37_79b9_7f4a_7c15);
+fn deck_of(random: &mut Sequence, dis: bool, bas: bool, lpf: bool) -> Deck {
     let mut deck = Deck {
+        names: String::from(NAMES),
         dis: format!("1 {ROWS} {COLS} 1 4 2\n0\nCONSTANT 10\nCONSTANT 10\n"),
         bas: String::from("FREE\n"),
         lpf: String::from("0 -1E+30 0\n0\n0\n1\n0\n0\n"),
+        ..Deck::default()
     };
     deck.dis += &layer_text(random, dis, 20);
     deck.dis += &layer_text(random, dis, 10);
@@ -203,53 +255,123 @@ fn deck_of(dis: bool, bas: bool, lpf: bool) -> Deck {
     deck
 }
 
-fn milliseconds(mut work: impl FnMut()) -> f64 {
-    let mut best = f64::MAX;
-    for _ in 0..RUNS {
-        let start = Instant::now();
-        work();
-        best = best.min(start.elapsed().as_secs_f64() * 1e3);
+// A list of so many entries in cells that lie apart, with as many numbers as the package has.
+fn list_text(random: &mut Sequence, entries: usize, columns: usize) -> String {
+    let mut text = format!("{entries} 0\n");
+    for at in 0..entries {
+        let cell = at * (ROWS * COLS / entries);
+        write!(text, "1 {} {}", cell / COLS + 1, cell % COLS + 1).unwrap();
+        for _ in 0..columns {
+            write!(text, " {}.{:04}", 1 + random.below(20), random.below(10_000)).unwrap();
+        }
+        text.push('\n');
     }
-    best
+    text
+}
+
+// A file of lists, of which every so many periods have a new one.
+fn lists_text(random: &mut Sequence, periods: usize, each: usize, entries: usize, columns: usize) -> String {
+    let mut text = format!("{entries} 0\n");
+    for period in 0..periods {
+        if period % each == 0 {
+            text += &list_text(random, entries, columns);
+        } else {
+            text += "-1 0\n";
+        }
+    }
+    text
+}
+
+// A file of arrays, written in the same way behind a line of flags.
+fn arrays_text(random: &mut Sequence, first: &str, periods: usize, each: usize, arrays: usize) -> String {
+    let mut text = format!("{first}\n");
+    for period in 0..periods {
+        if period % each == 0 {
+            text += &"0 ".repeat(arrays);
+            text.push('\n');
+            (0..arrays).for_each(|_| text += &layer_text(random, true, 0));
+        } else {
+            text += &"-1 ".repeat(arrays);
+            text.push('\n');
+        }
+    }
+    text
+}
+
+// A deck with seven packages of stresses: lists of so many entries every so many periods, and arrays as often.
+fn stressed_deck(periods: usize, lists_each: usize, arrays_each: usize, entries: usize) -> Deck {
+    let random = &mut Sequence(0x9e37_79b9_7f4a_7c15);
+    let mut deck = deck_of(random, true, true, true);
+    deck.names += "WEL 14 a.wel\nRIV 15 a.riv\nDRN 16 a.drn\nGHB 17 a.ghb\nRCH 18 a.rch\nCHD 19 a.chd\nEVT 20 a.evt\n";
+    deck.dis = deck.dis.replacen(" 1 4 2\n", &format!(" {periods} 4 2\n"), 1);
+    deck.dis += &"30 10 1.2 TR\n".repeat(periods - 1);
+    deck.periods = periods;
+    deck.wel = lists_text(random, periods, lists_each, entries, 1);
+    deck.riv = lists_text(random, periods, lists_each, entries, 3);
+    deck.drn = lists_text(random, periods, lists_each, entries, 2);
+    deck.ghb = lists_text(random, periods, lists_each, entries, 2);
+    deck.rch = arrays_text(random, "1 0", periods, arrays_each, 1);
+    deck.chd = lists_text(random, periods, lists_each, entries, 2);
+    deck.evt = arrays_text(random, "1 0", periods, arrays_each, 3);
+    deck
+}
+
+fn milliseconds(work: impl FnOnce()) -> f64 {
+    let start = processor_time();
+    work();
+    (processor_time() - start).as_secs_f64() * 1e3
 }
 
 fn report(name: &str, deck: &Deck) {
-    let cells = ROWS * COLS;
-    assert_eq!(proved_cells(deck), cells, "{name}");
+    let sum = &mut [0];
+    assert_eq!(proved_cells(deck, sum), ROWS * COLS, "{name}");
     let model = plain_model(deck).expect(name);
     let lists = [&model.top, &model.bottom, &model.ibound, &model.strt];
     let held = lists.into_iter().chain(&model.properties).map(Vec::len);
-    let result = (held.sum::<usize>() * size_of::<Number>()) as f64;
-    let ours = milliseconds(|| {
-        black_box(proved_cells(black_box(deck)));
-    });
-    let theirs = milliseconds(|| {
-        black_box(plain_model(black_box(deck)));
-    });
+    let mut result = held.sum::<usize>() * size_of::<Number>();
+    if let Some(stresses) = &model.stresses {
+        assert_eq!(sum[0], stresses.sum(), "{name}");
+        result += stresses.bytes();
+    }
+    let (mut ours, mut theirs) = (f64::MAX, f64::MAX);
+    for _ in 0..RUNS {
+        ours = ours.min(milliseconds(|| {
+            black_box(proved_cells(black_box(deck), &mut []));
+        }));
+        theirs = theirs.min(milliseconds(|| {
+            black_box(plain_model(black_box(deck)));
+        }));
+    }
     let our_bytes = most_bytes(|| {
-        black_box(proved_cells(deck));
+        black_box(proved_cells(deck, &mut []));
     });
     let their_bytes = most_bytes(|| {
         black_box(plain_model(deck));
     });
-    let bytes = deck.dis.len() + deck.bas.len() + deck.lpf.len();
+    let bytes: usize = deck.texts().iter().map(|text| text.len()).sum();
+    let [bytes, result, ours_held, theirs_held] =
+        [bytes, result, our_bytes, their_bytes].map(|bytes| bytes as f64 / 1e6);
     println!(
-        "{name:24} {:6.2} MB {ours:8.2} ms {theirs:8.2} ms   ratio {:5.2}   {:5.2} {:5.2} times the lists",
-        bytes as f64 / 1e6,
+        "{name:28} {bytes:6.1} MB {ours:8.1} ms {theirs:8.1} ms   ratio {:5.2}   {result:6.1} MB of lists, {ours_held:6.1} MB {theirs_held:6.1} MB",
         ours / theirs,
-        our_bytes as f64 / result,
-        their_bytes as f64 / result,
     );
 }
 
 fn main() {
     println!(
-        "{} cells; text, proved, plain Rust, and the most memory of either",
+        "{} cells; text, proved, plain Rust, and the lists and the most memory of either",
         ROWS * COLS
     );
-    report("arrays of one number", &deck_of(false, false, false));
-    report("the discretization's", &deck_of(true, false, false));
-    report("the basic package's", &deck_of(false, true, false));
-    report("the flow package's", &deck_of(false, false, true));
-    report("all arrays written out", &deck_of(true, true, true));
+    let plain_deck = |dis: bool, bas: bool, lpf: bool| {
+        deck_of(&mut Sequence(0x9e37_79b9_7f4a_7c15), dis, bas, lpf)
+    };
+    report("arrays of one number", &plain_deck(false, false, false));
+    report("the discretization's", &plain_deck(true, false, false));
+    report("the basic package's", &plain_deck(false, true, false));
+    report("the flow package's", &plain_deck(false, false, true));
+    report("all arrays written out", &plain_deck(true, true, true));
+    report("100 periods, new lists", &stressed_deck(100, 1, 100, 1024));
+    report("100 periods, arrays too", &stressed_deck(100, 1, 10, 1024));
+    report("lists of 65,536 entries", &stressed_deck(2, 1, 1, 65_536));
+    report("1,000 periods, all reused", &stressed_deck(1_000, 1_000, 1_000, 1024));
 }
