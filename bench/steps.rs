@@ -201,21 +201,21 @@ fn sum_of(p: &Problem) -> u64 {
         values.iter().fold(0, |sum: u64, value| sum.wrapping_mul(1_000_003).wrapping_add(*value))
     };
     let of_fixed = |x: &Fixed| {
-        mixed([x.source as u64, x.pair.lo, x.pair.hi, x.head.lo as u64, x.head.hi as u64, 1])
+        mixed([x.source as u64, x.pair.lo, x.pair.hi, x.head.lo.unsigned_abs(), x.head.hi.unsigned_abs(), 1])
     };
     let of_river = |x: &River| {
-        let stage = (x.stage.lo as u64).wrapping_add(x.stage.hi as u64);
-        mixed([x.pair.lo, x.pair.hi, stage, x.bottom.lo as u64, x.bottom.hi as u64, 2])
+        let stage = x.stage.lo.unsigned_abs().wrapping_add(x.stage.hi.unsigned_abs());
+        mixed([x.pair.lo, x.pair.hi, stage, x.bottom.lo.unsigned_abs(), x.bottom.hi.unsigned_abs(), 2])
     };
     let of_evap = |x: &Evap| {
-        let surface = (x.surface.lo as u64).wrapping_add(x.surface.hi as u64);
-        mixed([x.pair.lo, x.pair.hi, x.extinction.lo as u64, x.extinction.hi as u64, surface, 3])
+        let surface = x.surface.lo.unsigned_abs().wrapping_add(x.surface.hi.unsigned_abs());
+        mixed([x.pair.lo, x.pair.hi, x.extinction.lo.unsigned_abs(), x.extinction.hi.unsigned_abs(), surface, 3])
     };
     (0..p.ids.len()).fold(0, |sum: u64, at| {
-        let flows = p.flows.of(at).iter().map(|x| mixed([x.lo as u64, x.hi as u64, 0, 0, 0, 4]));
+        let flows = p.flows.of(at).iter().map(|x| mixed([x.lo.unsigned_abs() as u64, x.hi.unsigned_abs() as u64, 0, 0, 0, 4]));
         let links = p.links.of(at).iter().map(|x| mixed([x.cell as u64, x.pair.lo, x.pair.hi, 0, 0, 5]));
         let drains = p.drains.of(at).iter().map(|x| {
-            mixed([x.pair.lo, x.pair.hi, x.elevation.lo as u64, x.elevation.hi as u64, 0, 6])
+            mixed([x.pair.lo, x.pair.hi, x.elevation.lo.unsigned_abs(), x.elevation.hi.unsigned_abs(), 0, 6])
         });
         let fixed = p.fixed.of(at).iter().map(of_fixed);
         let rivers = p.rivers.of(at).iter().map(of_river);
