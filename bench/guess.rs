@@ -1,12 +1,14 @@
 // Settles models of several kinds from guessed heads, by plain sweeps and by workers, compares the bounds, and prints
-// how long each takes. This is Rattle: bench/settle proves and runs it.
+// how long each takes. This is Rattle: bench/settle proves and runs it, and writes the module `cases`.
 #![tactic(auto)]
 
+mod cases;
 mod models;
 
 ghost use Rattle.std.specs.Prelude.{IfOk};
 ghost use Rattle.step_problem.specs.Heads.{IsBarrier};
 
+use cases::cases;
 use head_guess::guess_heads;
 use models::{Kind, Model, cells_of};
 use near_settler::NearSettler;
@@ -24,8 +26,9 @@ const EDGE: i64 = 1_000_000_000_000;
 
 const MOST_SWEEPS: u32 = 30_000;
 
+/// A model to settle.
 #[derive(Clone, Copy)]
-struct Case {
+pub struct Case {
     name: &'static str,
     model: Model,
     // Steps, each from the heads of the one before.
@@ -34,7 +37,7 @@ struct Case {
     plain: bool,
 }
 
-const fn steady(name: &'static str, kind: Kind, side: u32, plain: bool) -> Case {
+pub const fn steady(name: &'static str, kind: Kind, side: u32, plain: bool) -> Case {
     let model = Model {
         kind,
         side,
@@ -48,29 +51,18 @@ const fn steady(name: &'static str, kind: Kind, side: u32, plain: bool) -> Case 
     }
 }
 
-fn cases() -> [Case; 10] {
-    let steps = Case {
-        name: "ten steps 64",
-        model: Model {
-            kind: Kind::Sheet,
-            side: 64,
-            storage: true,
-        },
-        steps: 10,
-        plain: true,
+pub const fn ten_steps(name: &'static str, side: u32, plain: bool) -> Case {
+    let model = Model {
+        kind: Kind::Sheet,
+        side,
+        storage: true,
     };
-    [
-        steady("sheet 32", Kind::Sheet, 32, true),
-        steady("sheet 64", Kind::Sheet, 64, true),
-        steady("sheet 128", Kind::Sheet, 128, false),
-        steady("sheet 256", Kind::Sheet, 256, false),
-        steady("heterogeneous 32", Kind::Heterogeneous, 32, false),
-        steady("heterogeneous 64", Kind::Heterogeneous, 64, false),
-        steady("three layers 32", Kind::Layers, 32, true),
-        steady("river valley 64", Kind::RiverValley, 64, true),
-        steady("river valley 128", Kind::RiverValley, 128, false),
-        steps,
-    ]
+    Case {
+        name,
+        model,
+        steps: 10,
+        plain,
+    }
 }
 
 // The model with a floor and a ceiling.
@@ -258,6 +250,12 @@ fn shown(alloc: Global, time: Option<u128>) -> io::Result<String> {
     }
 }
 
+// The part of the trial in guess and trial, in percent.
+fn share(times: &Times) -> u128 {
+    let both = times.guess.saturating_add(times.trial);
+    times.trial.saturating_mul(100).checked_div(both).unwrap_or(0)
+}
+
 // How many times as long, in tenths, or a dash.
 fn ratio(alloc: Global, time: Option<u128>, by: u128) -> io::Result<String> {
     let tenths = match time {
@@ -287,15 +285,15 @@ fn print_case<R: Threads + Clock + CpuClock + Sync + Print + Alloc<A = Global>>(
     let workers = shown(alloc, times.workers)?;
     let gain = ratio(alloc, times.sweeps, times.near)?;
     println!(rt;
-        "{:<18}{:>7}{:>9}{:>9}{:>8}{:>9}{:>9}{:>8}",
-        case.name, bounds.len(), near, guess, trial, sweeps, workers, gain
+        "{:<18}{:>7}{:>9}{:>9}{:>8}{:>7}{:>9}{:>9}{:>8}",
+        case.name, bounds.len(), near, guess, trial, share(&times), sweeps, workers, gain
     )
 }
 
 fn main(rt: HostRuntime) -> io::Result<()> {
     println!(rt;
-        "{:<18}{:>7}{:>9}{:>9}{:>8}{:>9}{:>9}{:>8}",
-        "model", "cells", "near ms", "guess", "trial", "sweeps", "workers", "speed"
+        "{:<18}{:>7}{:>9}{:>9}{:>8}{:>7}{:>9}{:>9}{:>8}",
+        "model", "cells", "near ms", "guess", "trial", "share", "sweeps", "workers", "speed"
     )?;
     for case in &cases() {
         print_case(&rt, case)?;
