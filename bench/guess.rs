@@ -5,7 +5,8 @@
 mod cases;
 mod models;
 
-ghost use Rattle.std.specs.Prelude.{IfOk};
+ghost use Rattle.std.specs.Prelude.{◌≤◌, IfOk};
+ghost use Rattle.settle_driver.specs.Phases.{IsPlan};
 ghost use Rattle.step_problem.specs.Heads.{IsBarrier};
 
 use cases::cases;
@@ -120,7 +121,11 @@ const NONE: Times = Times {
     workers: None,
 };
 
-fn plan(workers: u32) -> Plan {
+fn plan(workers: u32) -> Plan
+    requires some { 1 ≤ workers }
+    requires most { workers ≤ 64 }
+    ensures { IsPlan result }
+{
     Plan {
         workers,
         turns_per_cell: 64,
