@@ -8,6 +8,10 @@ use head_table::{HeadSeat, HeadTable};
 use outside::Gate;
 use step_problem::Problem;
 
+// Tickets that follow one another are of cells so far apart, so that workers seldom share a cache line. A prime, so that
+// as many tickets as cells come to each cell, but where their number is a multiple of it.
+const STRIDE: u64 = 509;
+
 /// Makes so many turns, each at a claimed ticket and each after a pass of the gate.
 pub fn work<G: Gate>(table: &HeadTable, seat: &mut HeadSeat, worker: u32, turns: u32, gate: &G)
     requires seat { IsSeatOf table.now seat.old }
@@ -18,7 +22,7 @@ pub fn work<G: Gate>(table: &HeadTable, seat: &mut HeadSeat, worker: u32, turns:
     for number in 0..turns {
         gate.pass(worker, number);
         let ticket = table.claim(seat);
-        turn(table, seat, ticket);
+        turn(table, seat, ticket.wrapping_mul(STRIDE));
     }
 }
 
