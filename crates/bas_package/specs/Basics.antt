@@ -13,6 +13,7 @@ use Rattle.array_reader.specs.Arrays.{layers}
 use Rattle.array_reader.specs.Items.{number_at}
 use Rattle.array_reader.specs.Kinds.{real, whole}
 use Rattle.array_reader.specs.Numbers.{number}
+use Rattle.model_types.specs.declared.grid.Grid.{Grid}
 use Rattle.model_types.specs.declared.model.FlowModel.{FlowModel}
 
 -- free format, and neither of the options XSECTION and CHTOCH, in any letter case
@@ -36,10 +37,16 @@ abbrev pub with_basics : FlowModel → List ℤ → List Dec → FlowModel
 with_basics m ibound strt = record m { ibound = ibound; strt = strt }
 
 -- IBOUND and STRT are an array for each layer
+unfoldable pub basics_of : List File → List ℕ → List ℕ → Grid → Result (List ℤ × List Dec) Refusal
+basics_of files file bytes grid = do
+  options ← option_line file (without_comments (left_from 1 bytes))
+  ibound ← layers whole files file grid.layers grid.rows grid.cols options.1
+  hnoflo ← head_item file ibound.1
+  strt ← layers real files file grid.layers grid.rows grid.cols hnoflo.1
+  Ok (ibound.0, strt.0)
+
+-- the model with them
 unfoldable pub bas_of : List File → List ℕ → List ℕ → FlowModel → Result FlowModel Refusal
 bas_of files file bytes m = do
-  options ← option_line file (without_comments (left_from 1 bytes))
-  ibound ← layers whole files file m.grid.layers m.grid.rows m.grid.cols options.1
-  hnoflo ← head_item file ibound.1
-  strt ← layers real files file m.grid.layers m.grid.rows m.grid.cols hnoflo.1
-  Ok (with_basics m ibound.0 strt.0)
+  basics ← basics_of files file bytes m.grid
+  Ok (with_basics m basics.0 basics.1)

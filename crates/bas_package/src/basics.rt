@@ -5,24 +5,56 @@ ghost use Rattle.outside.specs.Counts.{InputCounts};
 ghost use Rattle.outside.specs.Files.{File};
 ghost use Rattle.record_lines.specs.Reading.{Has};
 ghost use Rattle.model_types.specs.Cells.{cell_count};
-ghost use Rattle.bas_package.specs.Basics.{with_basics, bas_of};
+ghost use Rattle.bas_package.specs.Basics.{basics_of, with_basics, bas_of};
 
 use crate::head::{head_item, option_line};
 use array_reader::read_layers;
 use decimal_input::dec::Dec;
-use model_types::{FlowModel, Listed};
+use model_types::{FlowModel, Grid, Listed};
 use outside::{Folder, InputFault};
 use record_lines::Lines;
 use std::alloc::Global;
 
-fn with_basics(model: FlowModel, ibound: Vec<i64>, strt: Vec<Dec>) -> FlowModel
-    ensures { result ≡ with_basics model ibound.items strt.items }
+/// IBOUND and STRT for the cells of a grid.
+#[derive(Debug, Drop)]
+struct Basics {
+    ibound: Vec<i64>,
+    strt: Vec<Dec>,
+}
+
+fn with_basics(model: FlowModel, basics: Basics) -> FlowModel
+    ensures { result ≡ with_basics model basics.ibound.items basics.strt.items }
 {
     FlowModel {
-        ibound: Listed::new(ibound),
-        strt: Listed::new(strt),
+        ibound: Listed::new(basics.ibound),
+        strt: Listed::new(basics.strt),
         ..model
     }
+}
+
+#[tactic(auto, unfolding(crate::specs::Basics::basics_of))]
+fn basics_of<F: Folder>(
+    alloc: Global,
+    file: &str,
+    bytes: &[u8],
+    folder: &mut F,
+    grid: &Grid,
+) -> Result<Basics, InputFault>
+    ensures since { (files : List File) → F.agrees folder.new files → F.agrees folder.old files }
+    ensures counts { InputCounts (F.faults folder.old) (F.faults folder.new) result }
+    ensures basics { (files : List File) → F.agrees folder.new files → Has (λ b. (b.ibound.items, b.strt.items)) result (basics_of files file.now bytes.now grid.now) }
+    ensures ibound { IfOk result (λ b. length b.ibound.items ≡ cell_count grid.now) }
+    ensures strt { IfOk result (λ b. length b.strt.items ≡ cell_count grid.now) }
+    ensures canonical { IfOk result (λ b. All IsDec b.strt.items) }
+{
+    let mut lines = Lines::new(bytes);
+    lines.skip_comments();
+    let (layers, rows, cols) = (grid.layers, grid.rows, grid.cols);
+    option_line(alloc, &mut lines, file)?;
+    let ibound = read_layers::<i64, F>(alloc, &mut lines, file, folder, layers, rows, cols)?;
+    head_item(alloc, &mut lines, file)?;
+    let strt = read_layers::<Dec, F>(alloc, &mut lines, file, folder, layers, rows, cols)?;
+    Ok(Basics { ibound, strt })
 }
 
 /// The model with IBOUND and the starting heads STRT of a file of the basic package. `file` is the file's name,
@@ -47,12 +79,6 @@ pub fn read_bas<F: Folder>(
     ensures strt { IfOk result (λ m. length m.strt ≡ cell_count model.grid) }
     ensures canonical { IfOk result (λ m. All IsDec m.strt) }
 {
-    let mut lines = Lines::new(bytes);
-    lines.skip_comments();
-    let (layers, rows, cols) = (model.grid.layers, model.grid.rows, model.grid.cols);
-    option_line(alloc, &mut lines, file)?;
-    let ibound = read_layers::<i64, F>(alloc, &mut lines, file, folder, layers, rows, cols)?;
-    head_item(alloc, &mut lines, file)?;
-    let strt = read_layers::<Dec, F>(alloc, &mut lines, file, folder, layers, rows, cols)?;
-    Ok(with_basics(model, ibound, strt))
+    let basics = basics_of(alloc, file, bytes, folder, &model.grid)?;
+    Ok(with_basics(model, basics))
 }

@@ -16,7 +16,9 @@ use Rattle.period_arrays.specs.Flags.{flag_at, option_at}
 use Rattle.period_arrays.specs.Updates.{updated_reals, updated_layers, or_empty}
 use Rattle.evt_package.specs.Columns.{columns_tested}
 use Rattle.evt_package.specs.declared.flags.Flags.{Flags}
-use Rattle.evt_package.specs.declared.periods.Last.{Last}
+use Rattle.evt_package.specs.declared.arrays.Arrays.{Arrays}
+use Rattle.evt_package.specs.declared.arrays.Last.{Last}
+use Rattle.evt_package.specs.declared.read.Evaporation.{Evaporation}
 
 -- INIEVT stands under option 2 alone
 abbrev pub layer_flag : Bool → List ℕ → ℕ → Bool → List (List ℕ) → Result (Bool × List (List ℕ)) Refusal
@@ -40,8 +42,21 @@ arrays_of files file grid flags s = do
   layers ← updated_layers files file grid flags.layer s.0.layers depths.1
   Ok (record { surfaces = surfaces.0; rates = rates.0; depths = depths.0; layers = layers.0 }, layers.1)
 
-abbrev pub with_last : Period → Last → Period
-with_last p last = record p { surf = or_empty last.surfaces; evtr = or_empty last.rates; exdp = or_empty last.depths; ievt = or_empty last.layers }
+-- those that stand
+abbrev pub standing : Last → Arrays
+standing last = record { surf = or_empty last.surfaces; evtr = or_empty last.rates; exdp = or_empty last.depths; ievt = or_empty last.layers }
+
+-- a period's line and its arrays
+unfoldable pub arrays_at : List File → List ℕ → Grid → ℤ → (Last × Left) → Result (Arrays × (Last × Left)) Refusal
+arrays_at files file grid option s = do
+  line ← line_at file s.1
+  flags ← flags_of (is_int option 2) file line.0.number s.0 (words line.0.bytes)
+  last ← arrays_of files file grid flags (s.0, line.1)
+  Ok (standing last.0, last)
+
+-- a period with its arrays
+abbrev pub with_arrays : Period → Arrays → Period
+with_arrays p arrays = record p { surf = arrays.surf; evtr = arrays.evtr; exdp = arrays.exdp; ievt = arrays.ievt }
 
 -- a period whose columns are tested
 unfoldable pub tested_period : List ℕ → Grid → List ℤ → ℤ → Period → Result Period Refusal
@@ -50,11 +65,9 @@ tested_period file grid ibound option period = columns_tested file grid ibound o
 -- a period with its arrays, whose columns are then tested
 unfoldable pub period_at : List File → List ℕ → Grid → List ℤ → ℤ → Period → (Last × Left) → Result (Period × (Last × Left)) Refusal
 period_at files file grid ibound option period s = do
-  line ← line_at file s.1
-  flags ← flags_of (is_int option 2) file line.0.number s.0 (words line.0.bytes)
-  arrays ← arrays_of files file grid flags (s.0, line.1)
-  whole ← tested_period file grid ibound option (with_last period arrays.0)
-  Ok (whole, arrays)
+  arrays ← arrays_at files file grid option s
+  whole ← tested_period file grid ibound option (with_arrays period arrays.0)
+  Ok (whole, arrays.1)
 
 abbrev pub without_state : {X S : Type 0} → Result (X × S) Refusal → Result X Refusal
 without_state read = read >>= λ x. Ok x.0
@@ -70,8 +83,18 @@ option_line file left = do
   unit ← number_at integer file line.0.number option.1
   Ok (option.0, line.1)
 
+-- the option, and the arrays of each stress period
+unfoldable pub evaporation_of : List File → List ℕ → List ℕ → Grid → List ℤ → List Period → Result Evaporation Refusal
+evaporation_of files file bytes grid ibound periods = do
+  option ← option_line file (without_comments (left_from 1 bytes))
+  whole ← periods_of files file grid ibound option.0 periods option.1
+  Ok (record { nevtop = option.0; periods = whole })
+
+-- a model with them
+abbrev pub with_evaporation : FlowModel → Evaporation → FlowModel
+with_evaporation m e = record m { nevtop = e.nevtop; periods = e.periods }
+
 unfoldable pub evt_of : List File → List ℕ → List ℕ → FlowModel → Result FlowModel Refusal
 evt_of files file bytes m = do
-  option ← option_line file (without_comments (left_from 1 bytes))
-  periods ← periods_of files file m.grid m.ibound option.0 m.periods option.1
-  Ok (record m { nevtop = option.0; periods = periods })
+  evaporation ← evaporation_of files file bytes m.grid m.ibound m.periods
+  Ok (with_evaporation m evaporation)

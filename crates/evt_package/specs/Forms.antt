@@ -9,7 +9,7 @@ use Rattle.model_types.specs.Valid.{IsLayerArray}
 use Rattle.period_arrays.specs.Forms.{IsReals, IsWhole}
 use Rattle.evt_package.specs.Columns.{columns_tested}
 use Rattle.evt_package.specs.declared.flags.Flags.{Flags}
-use Rattle.evt_package.specs.declared.periods.Last.{Last}
+use Rattle.evt_package.specs.declared.arrays.Last.{Last}
 
 -- arrays of one layer
 pub record AreLast (grid : Grid) (last : Last) : Type 0 where

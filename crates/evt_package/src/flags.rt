@@ -3,7 +3,7 @@ ghost use Rattle.std.specs.Prelude.{◌≡◌, IfOk, is_some, true, false};
 ghost use Rattle.record_lines.specs.Reading.{GivesText, HasText};
 ghost use Rattle.evt_package.specs.Evaporation.{flags_of, layer_flag};
 
-use crate::periods::Last;
+use crate::arrays::Last;
 use outside::TextFault;
 use period_arrays::flag_at;
 use record_lines::Words;

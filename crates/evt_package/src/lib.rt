@@ -2,6 +2,7 @@
 //! extinction depth, and which cell evaporates.
 #![tactic(auto)]
 
+mod arrays;
 mod chosen;
 mod columns;
 mod fault;
@@ -10,6 +11,6 @@ mod periods;
 mod read;
 mod units;
 
+pub use arrays::{Arrays, Last};
 pub use flags::Flags;
-pub use periods::Last;
-pub use read::read_evt;
+pub use read::{Evaporation, read_evt};

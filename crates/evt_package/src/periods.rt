@@ -1,109 +1,34 @@
-// The arrays of each stress period.
-ghost use Rattle.std.specs.Prelude.{◌≡◌, Ok, IfOk, IsSomeAnd, All, map, true, List};
+// The periods with their arrays.
+ghost use Rattle.std.specs.Prelude.{◌≡◌, Ok, IfOk, All, map, List};
 ghost use Rattle.outside.specs.Counts.{InputCounts};
 ghost use Rattle.outside.specs.Files.{File};
 ghost use Rattle.record_lines.specs.Reading.{Gives, Has, HasText, for_each};
 ghost use Rattle.model_types.specs.Grids.{HasSize};
-ghost use Rattle.model_types.specs.Receivers.{is_int};
-ghost use Rattle.period_arrays.specs.Forms.{IsReals, IsWhole};
-ghost use Rattle.period_arrays.specs.Updates.{or_empty};
+ghost use Rattle.period_arrays.specs.Forms.{IsReals};
 ghost use Rattle.evt_package.specs.Columns.{columns_tested};
-ghost use Rattle.evt_package.specs.Evaporation.{arrays_of, period_at, periods_of, tested_period, with_last};
-ghost use Rattle.evt_package.specs.Forms.{AreArrays, AreLast, HasLast, without};
+ghost use Rattle.evt_package.specs.Evaporation.{period_at, periods_of, tested_period, with_arrays};
+ghost use Rattle.evt_package.specs.Forms.{AreArrays, AreLast, without};
 
+use crate::arrays::{Arrays, Last, arrays_at};
 use crate::columns::columns_tested;
-use crate::flags::{Flags, flags_of};
-use array_reader::next_line;
-use decimal_input::dec::Dec;
-use model_types::{Grid, Period, Shared};
+use model_types::{Grid, Period};
 use outside::{Folder, InputFault, TextFault};
-use period_arrays::{array_of, update_layers, update_reals};
-use record_lines::{Lines, Words};
-use std::alloc::{AllocError, Global};
+use record_lines::Lines;
+use std::alloc::Global;
 
-/// The arrays that stand: the last surfaces, rates, depths and layers.
-#[derive(Debug, Drop)]
-pub struct Last {
-    pub surfaces: Option<Shared<Dec>>,
-    pub rates: Option<Shared<Dec>>,
-    pub depths: Option<Shared<Dec>>,
-    pub layers: Option<Shared<i64>>,
-}
-
-fn with_last(alloc: Global, period: Period, last: &Last) -> Result<Period, AllocError>
-    ensures { IfOk result (λ p. p ≡ with_last period last.now) }
+fn with_arrays(period: Period, arrays: Arrays) -> Period
+    ensures { result ≡ with_arrays period arrays }
 {
-    let surf = array_of(alloc, &last.surfaces)?;
-    let evtr = array_of(alloc, &last.rates)?;
-    let exdp = array_of(alloc, &last.depths)?;
-    let ievt = array_of(alloc, &last.layers)?;
-    Ok(Period {
-        surf,
-        evtr,
-        exdp,
-        ievt,
+    Period {
+        surf: arrays.surf,
+        evtr: arrays.evtr,
+        exdp: arrays.exdp,
+        ievt: arrays.ievt,
         ..period
-    })
+    }
 }
 
-/// The arrays of a period by its flags.
-#[tactic(auto, unfolding(crate::specs::Evaporation::arrays_of))]
-fn arrays_of<F: Folder>(
-    alloc: Global,
-    lines: &mut Lines,
-    file: &str,
-    folder: &mut F,
-    grid: &Grid,
-    flags: Flags,
-    last: &mut Last,
-) -> Result<(), InputFault>
-    requires size { HasSize grid.now }
-    requires last { AreLast grid.now last.old }
-    ensures since { (files : List File) → F.agrees folder.new files → F.agrees folder.old files }
-    ensures counts { InputCounts (F.faults folder.old) (F.faults folder.new) result }
-    ensures arrays { (files : List File) → F.agrees folder.new files → Gives (λ _. last.new) result lines.new (arrays_of files file.now grid.now flags (last.old, lines.old)) }
-    ensures last { IfOk result (λ _. AreLast grid.now last.new) }
-    ensures some { IfOk result (λ _. HasLast grid.now flags last.old last.new) }
-{
-    update_reals(
-        alloc,
-        lines,
-        file,
-        folder,
-        grid,
-        flags.surface,
-        &mut last.surfaces,
-    )?;
-    update_reals(
-        alloc,
-        lines,
-        file,
-        folder,
-        grid,
-        flags.rate,
-        &mut last.rates,
-    )?;
-    update_reals(
-        alloc,
-        lines,
-        file,
-        folder,
-        grid,
-        flags.depth,
-        &mut last.depths,
-    )?;
-    update_layers(
-        alloc,
-        lines,
-        file,
-        folder,
-        grid,
-        flags.layer,
-        &mut last.layers,
-    )
-}
-
-/// A period with the arrays that stand. Its columns are tested.
+/// A period whose columns are tested.
 #[tactic(auto, unfolding(crate::specs::Evaporation::tested_period))]
 fn tested_period(
     alloc: Global,
@@ -112,29 +37,20 @@ fn tested_period(
     ibound: &[i64],
     option: &i64,
     period: Period,
-    last: &Last,
 ) -> Result<Period, TextFault>
     requires size { HasSize grid.now }
-    requires surfaces { IsReals grid.now (or_empty last.now.surfaces) }
-    requires depths { IsReals grid.now (or_empty last.now.depths) }
-    ensures period { HasText (λ p. p) result (tested_period file.now grid.now ibound.now option.now (with_last period last.now)) }
-    ensures made { IfOk result (λ p. p ≡ with_last period last.now) }
+    requires surfaces { IsReals grid.now period.surf }
+    requires depths { IsReals grid.now period.exdp }
+    ensures period { HasText (λ p. p) result (tested_period file.now grid.now ibound.now option.now period) }
+    ensures same { IfOk result (λ p. p ≡ period) }
     ensures passed { IfOk result (λ p. columns_tested file.now grid.now ibound.now option.now p ≡ Ok tt) }
 {
-    let period = with_last(alloc, period, last)?;
     columns_tested(alloc, file, grid, ibound, option, &period)?;
     Ok(period)
 }
 
-/// Whether the option chooses a cell by an array of layers.
-fn is_layered(option: &i64) -> bool
-    ensures { result ≡ is_int option.now 2 }
-{
-    *option == 2
-}
-
 /// The next period with its arrays, which then stand. Its columns are tested.
-#[tactic(auto, unfolding(crate::specs::Evaporation::period_at))]
+#[tactic(auto, unfolding(crate::specs::Evaporation::period_at), using(crate::proofs::PeriodForms::are_arrays))]
 fn period_at<F: Folder>(
     alloc: Global,
     lines: &mut Lines,
@@ -155,22 +71,14 @@ fn period_at<F: Folder>(
     ensures arrays { IfOk result (AreArrays file.now grid.now ibound.now option.now) }
     ensures others { IfOk result (λ p. without p ≡ without period) }
 {
-    let line = next_line(alloc, lines, file)?;
-    let flags = flags_of(
-        alloc,
-        &mut Words::of(&line),
-        is_layered(option),
-        file,
-        line.number,
-        last,
-    )?;
-    arrays_of(alloc, lines, file, folder, grid, flags, last)?;
-    let period = tested_period(alloc, file, grid, ibound, option, period, last)?;
-    Ok(period)
+    let arrays = arrays_at(alloc, lines, file, folder, grid, option, last)?;
+    let period = with_arrays(period, arrays);
+    let tested = tested_period(alloc, file, grid, ibound, option, period)?;
+    Ok(tested)
 }
 
 /// The periods with their arrays, where these were the last.
-fn with_arrays<F: Folder>(
+fn with_evaporation<F: Folder>(
     alloc: Global,
     lines: &mut Lines,
     file: &str,
@@ -224,7 +132,7 @@ pub fn periods_of<F: Folder>(
         depths: None,
         layers: None,
     };
-    let periods = with_arrays(
+    let periods = with_evaporation(
         alloc, lines, file, folder, grid, ibound, option, periods, &mut last,
     )?;
     Ok(periods)

@@ -1,21 +1,28 @@
 // A model with its evapotranspiration.
-ghost use Rattle.std.specs.Prelude.{◌≡◌, ◌≤ℤ◌, pos, IfOk, List};
+ghost use Rattle.std.specs.Prelude.{◌≡◌, ◌≤ℤ◌, pos, All, IfOk, List, map};
 ghost use Rattle.outside.specs.Counts.{InputCounts};
 ghost use Rattle.outside.specs.Files.{File};
 ghost use Rattle.record_lines.specs.Reading.{GivesText, Has};
 ghost use Rattle.model_types.specs.Grids.{HasSize};
 ghost use Rattle.model_types.specs.Valid.{IsModel};
-ghost use Rattle.evt_package.specs.Evaporation.{evt_of, option_line};
-ghost use Rattle.evt_package.specs.Forms.{IsEvaporating, SameBut};
+ghost use Rattle.evt_package.specs.Evaporation.{evaporation_of, evt_of, option_line};
+ghost use Rattle.evt_package.specs.Forms.{AreArrays, IsEvaporating, SameBut, without};
 
 use crate::periods::periods_of;
 use array_reader::integer;
 use list_package::item_line;
-use model_types::{FlowModel, Listed};
+use model_types::{FlowModel, Grid, Listed, Period};
 use outside::{Folder, InputFault, TextFault};
 use period_arrays::option_at;
 use record_lines::{Lines, Words};
 use std::alloc::Global;
+
+/// What a file of the package says: NEVTOP, and the periods with their arrays.
+#[derive(Debug, Drop)]
+pub struct Evaporation {
+    pub nevtop: i64,
+    pub periods: Listed<Period>,
+}
 
 /// NEVTOP and IEVTCB.
 #[tactic(auto, unfolding(crate::specs::Evaporation::option_line))]
@@ -30,8 +37,38 @@ fn option_line(alloc: Global, lines: &mut Lines, file: &str) -> Result<i64, Text
     Ok(option)
 }
 
+#[tactic(auto, unfolding(crate::specs::Evaporation::evaporation_of))]
+fn evaporation_of<F: Folder>(
+    alloc: Global,
+    file: &str,
+    bytes: &[u8],
+    folder: &mut F,
+    grid: &Grid,
+    ibound: &[i64],
+    periods: Vec<Period>,
+) -> Result<Evaporation, InputFault>
+    requires size { HasSize grid.now }
+    ensures since { (files : List File) → F.agrees folder.new files → F.agrees folder.old files }
+    ensures counts { InputCounts (F.faults folder.old) (F.faults folder.new) result }
+    ensures evaporation { (files : List File) → F.agrees folder.new files → Has (λ e. e) result (evaporation_of files file.now bytes.now grid.now ibound.now periods.items) }
+    ensures option { IfOk result (λ e. (pos 1 ≤ℤ e.nevtop) × (e.nevtop ≤ℤ pos 3)) }
+    ensures arrays { IfOk result (λ e. All (AreArrays file.now grid.now ibound.now e.nevtop) e.periods) }
+    ensures others { IfOk result (λ e. map without e.periods ≡ map without periods.items) }
+{
+    let mut lines = Lines::new(bytes);
+    lines.skip_comments();
+    let nevtop = option_line(alloc, &mut lines, file)?;
+    let periods = periods_of(
+        alloc, &mut lines, file, folder, grid, ibound, &nevtop, periods,
+    )?;
+    Ok(Evaporation {
+        nevtop,
+        periods: Listed::new(periods),
+    })
+}
+
 /// The model with the arrays of its periods.
-#[tactic(auto, unfolding(crate::specs::Evaporation::evt_of))]
+#[tactic(auto, unfolding(crate::specs::Evaporation::evt_of), using(crate::proofs::PeriodForms::is_evaporating))]
 fn with_evaporation<F: Folder>(
     alloc: Global,
     file: &str,
@@ -46,23 +83,19 @@ fn with_evaporation<F: Folder>(
     ensures form { IfOk result (IsEvaporating file.now) }
     ensures others { IfOk result (SameBut model) }
 {
-    let mut lines = Lines::new(bytes);
-    lines.skip_comments();
-    let nevtop = option_line(alloc, &mut lines, file)?;
     let periods = model.periods.into_vec();
-    let periods = periods_of(
+    let evaporation = evaporation_of(
         alloc,
-        &mut lines,
         file,
+        bytes,
         folder,
         &model.grid,
         model.ibound.as_slice(),
-        &nevtop,
         periods,
     )?;
     Ok(FlowModel {
-        nevtop,
-        periods: Listed::new(periods),
+        nevtop: evaporation.nevtop,
+        periods: evaporation.periods,
         ..model
     })
 }

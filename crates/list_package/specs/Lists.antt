@@ -21,13 +21,19 @@ list_of kind file grid (entries n) last left = new_list kind file grid n left
 list_of kind file grid again None left = Ok ([], left)
 list_of kind file grid again (Some list) left = Ok (list, left)
 
--- a period with its list, where this one was the last
-unfoldable pub period_at : {C E : Type 0} → Kind C E → List ℕ → Grid → Period → (Option (List E) × Left) → Result (Period × (Option (List E) × Left)) Refusal
-period_at kind file grid period s = do
+-- a period's list, where this one was the last
+unfoldable pub list_at : {C E : Type 0} → Kind C E → List ℕ → Grid → Period → (Option (List E) × Left) → Result (List E × (Option (List E) × Left)) Refusal
+list_at kind file grid period s = do
   line ← line_at file s.1
   count ← header_of file line.0.number (is_some s.0) (words line.0.bytes)
   list ← list_of kind file grid count s.0 line.1
-  if kind.suits period list.0 then Ok (kind.put period list.0, (Some list.0, list.1)) else Err (refusal OutOfProfile file line.0.number)
+  if kind.suits period list.0 then Ok (list.0, (Some list.0, list.1)) else Err (refusal OutOfProfile file line.0.number)
+
+-- the period with it
+unfoldable pub period_at : {C E : Type 0} → Kind C E → List ℕ → Grid → Period → (Option (List E) × Left) → Result (Period × (Option (List E) × Left)) Refusal
+period_at kind file grid period s = do
+  list ← list_at kind file grid period s
+  Ok (kind.put period list.0, list.1)
 
 abbrev pub without_state : {X S : Type 0} → Result (X × S) Refusal → Result X Refusal
 without_state read = read >>= λ x. Ok x.0
@@ -37,9 +43,14 @@ unfoldable pub periods_of : {C E : Type 0} → Kind C E → List ℕ → Grid �
 periods_of kind file grid periods left = without_state (for_each (period_at kind file grid) periods (None, left))
 
 -- the maximum count, which is read and not compared, and a list for each period
-unfoldable pub package_of : {C E : Type 0} → Kind C E → List ℕ → List ℕ → FlowModel → Result FlowModel Refusal
-package_of kind file bytes m = do
+unfoldable pub lists_of : {C E : Type 0} → Kind C E → List ℕ → List ℕ → Grid → List Period → Result (List Period) Refusal
+lists_of kind file bytes grid periods = do
   line ← item_line file (without_comments (left_from 1 bytes))
   most ← number_at integer file line.0.number (words line.0.bytes)
-  periods ← periods_of kind file m.grid m.periods line.1
+  periods_of kind file grid periods line.1
+
+-- the model with them
+unfoldable pub package_of : {C E : Type 0} → Kind C E → List ℕ → List ℕ → FlowModel → Result FlowModel Refusal
+package_of kind file bytes m = do
+  periods ← lists_of kind file bytes m.grid m.periods
   Ok (record m { periods = periods })

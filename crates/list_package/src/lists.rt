@@ -5,7 +5,7 @@ ghost use Rattle.model_types.specs.Cells.{cell_count};
 ghost use Rattle.model_types.specs.Grids.{HasSize};
 ghost use Rattle.list_package.specs.Forms.{IsList};
 ghost use Rattle.list_package.specs.Kinds.{without};
-ghost use Rattle.list_package.specs.Lists.{list_of, period_at, periods_of};
+ghost use Rattle.list_package.specs.Lists.{list_at, list_of, period_at, periods_of};
 ghost use Rattle.list_package.specs.Seen.{count_seen, IsFew};
 
 use crate::entry::new_list;
@@ -44,6 +44,34 @@ fn list_of<C: Columns>(
     }
 }
 
+/// The next period's list, which is then the last.
+#[tactic(auto, unfolding(crate::specs::Lists::list_at))]
+fn list_at<C: Columns>(
+    alloc: Global,
+    lines: &mut Lines,
+    file: &str,
+    grid: &Grid,
+    period: &Period,
+    last: &mut Option<Shared<C::Entry>>,
+) -> Result<Shared<C::Entry>, TextFault>
+    requires size { HasSize grid.now }
+    requires last { IfSome last.old (IsList C.kind (C.Valid (cell_count grid.now))) }
+    ensures list { GivesText (λ l. l) result (last.new, lines.new) (list_at C.kind file.now grid.now period.now (last.old, lines.old)) }
+    ensures last { IfOk result (λ _. IfSome last.new (IsList C.kind (C.Valid (cell_count grid.now)))) }
+    ensures form { IfOk result (IsList C.kind (C.Valid (cell_count grid.now))) }
+{
+    let line = next_line(alloc, lines, file)?;
+    let mut words = Words::of(&line);
+    let count = header_of(alloc, &mut words, file, line.number, last.is_some())?;
+    let list = list_of::<C>(alloc, lines, file, grid, count, last)?;
+    if !C::suits(period, list.as_slice()) {
+        return Err(refused(alloc, Code::OutOfProfile, file, line.number));
+    }
+    let kept = list.again()?;
+    *last = Some(kept);
+    Ok(list)
+}
+
 /// The next period with its list, which is then the last.
 #[tactic(auto, unfolding(crate::specs::Lists::period_at))]
 fn period_at<C: Columns>(
@@ -61,15 +89,7 @@ fn period_at<C: Columns>(
     ensures list { IfOk result (λ p. IsList C.kind (C.Valid (cell_count grid.now)) (C.kind.list p)) }
     ensures others { IfOk result (λ p. without C.kind p ≡ without C.kind period) }
 {
-    let line = next_line(alloc, lines, file)?;
-    let mut words = Words::of(&line);
-    let count = header_of(alloc, &mut words, file, line.number, last.is_some())?;
-    let list = list_of::<C>(alloc, lines, file, grid, count, last)?;
-    if !C::suits(&period, list.as_slice()) {
-        return Err(refused(alloc, Code::OutOfProfile, file, line.number));
-    }
-    let kept = list.again()?;
-    *last = Some(kept);
+    let list = list_at::<C>(alloc, lines, file, grid, &period, last)?;
     Ok(C::put(period, list))
 }
 

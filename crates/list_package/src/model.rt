@@ -1,19 +1,41 @@
 // A model with the lists of a package.
-ghost use Rattle.std.specs.Prelude.{◌≡◌, IfOk, All};
+ghost use Rattle.std.specs.Prelude.{◌≡◌, IfOk, All, map};
 ghost use Rattle.record_lines.specs.Reading.{HasText};
 ghost use Rattle.model_types.specs.Cells.{cell_count};
 ghost use Rattle.model_types.specs.Grids.{HasSize};
 ghost use Rattle.list_package.specs.Forms.{IsList, SameBut};
-ghost use Rattle.list_package.specs.Lists.{package_of};
+ghost use Rattle.list_package.specs.Kinds.{without};
+ghost use Rattle.list_package.specs.Lists.{lists_of, package_of};
 
 use crate::header::item_line;
 use crate::kind::Columns;
 use crate::lists::periods_of;
 use array_reader::integer;
-use model_types::{FlowModel, Listed};
+use model_types::{FlowModel, Grid, Listed, Period};
 use outside::TextFault;
 use record_lines::{Lines, Words};
 use std::alloc::Global;
+
+/// The periods with the lists of a package's file.
+#[tactic(auto, unfolding(crate::specs::Lists::lists_of))]
+fn lists_of<C: Columns>(
+    alloc: Global,
+    file: &str,
+    bytes: &[u8],
+    grid: &Grid,
+    periods: Vec<Period>,
+) -> Result<Vec<Period>, TextFault>
+    requires size { HasSize grid.now }
+    ensures periods { HasText (λ v. v.items) result (lists_of C.kind file.now bytes.now grid.now periods.items) }
+    ensures lists { IfOk result (λ v. All (λ p. IsList C.kind (C.Valid (cell_count grid.now)) (C.kind.list p)) v.items) }
+    ensures others { IfOk result (λ v. map (without C.kind) v.items ≡ map (without C.kind) periods.items) }
+{
+    let mut lines = Lines::new(bytes);
+    lines.skip_comments();
+    let line = item_line(alloc, &mut lines, file)?;
+    integer(alloc, &mut Words::of(&line), file, line.number)?;
+    periods_of::<C>(alloc, &mut lines, file, grid, periods)
+}
 
 /// The model with the lists of a package's file in its periods. `file` is the file's name, for refusals. A list that
 /// a period reuses is shared, and stands in memory once.
@@ -32,12 +54,8 @@ pub fn read_package<C: Columns>(
     ensures lists { IfOk result (λ m. All (λ p. IsList C.kind (C.Valid (cell_count model.grid)) (C.kind.list p)) m.periods) }
     ensures others { IfOk result (SameBut C.kind model) }
 {
-    let mut lines = Lines::new(bytes);
-    lines.skip_comments();
-    let line = item_line(alloc, &mut lines, file)?;
-    integer(alloc, &mut Words::of(&line), file, line.number)?;
     let periods = model.periods.into_vec();
-    let periods = periods_of::<C>(alloc, &mut lines, file, &model.grid, periods)?;
+    let periods = lists_of::<C>(alloc, file, bytes, &model.grid, periods)?;
     Ok(FlowModel {
         periods: Listed::new(periods),
         ..model

@@ -5,11 +5,13 @@ use Rattle.outside.specs.Files.{File}
 use Rattle.outside.specs.declared.refusals.Refusal.{Refusal}
 use Rattle.record_lines.specs.Layout.{left_from, without_comments}
 use Rattle.record_lines.specs.Reading.{◌>>=◌}
+use Rattle.model_types.specs.declared.grid.Grid.{Grid}
 use Rattle.model_types.specs.declared.model.FlowModel.{FlowModel}
 use Rattle.model_types.specs.declared.period.Period.{Period}
 use Rattle.lpf_package.specs.Settings.{option_line, settings_of}
 use Rattle.lpf_package.specs.Layers.{layers_of}
 use Rattle.lpf_package.specs.declared.layer.Properties.{Properties}
+use Rattle.lpf_package.specs.declared.model.Contents.{Contents}
 
 -- whether a stress period is transient
 abbrev pub is_transient : List Period → Bool
@@ -18,13 +20,23 @@ is_transient periods = list_any (λ p. not p.steady) periods
 abbrev pub with_properties : FlowModel → Bool → List ℤ → Properties → FlowModel
 with_properties m coefficient layvka p = record m { coefficient = coefficient; layvka = layvka; hk = p.hk; hani = p.hani; vka = p.vka; ss = p.ss; vkcb = p.vkcb }
 
+-- a model with what a file of the package says
+abbrev pub with_contents : FlowModel → Contents → FlowModel
+with_contents m c = with_properties m c.coefficient c.layvka c.properties
+
+-- What a file says for a grid, where SS stands in it or doesn't.
+unfoldable pub contents_of : List File → List ℕ → List ℕ → Grid → Bool → Result Contents Refusal
+contents_of files file bytes grid stores = do
+  coefficient ← option_line file (without_comments (left_from 1 bytes))
+  settings ← settings_of file grid.layers coefficient.1
+  layers ← layers_of files file grid settings.0.chani stores grid.layers settings.1
+  Ok (record { coefficient = coefficient.0; layvka = settings.0.layvka; properties = layers.0 })
+
 -- SS stands in the file where a period is transient
 unfoldable pub lpf_of : List File → List ℕ → List ℕ → FlowModel → Result FlowModel Refusal
 lpf_of files file bytes m = do
-  coefficient ← option_line file (without_comments (left_from 1 bytes))
-  settings ← settings_of file m.grid.layers coefficient.1
-  layers ← layers_of files file m.grid settings.0.chani (is_transient m.periods) m.grid.layers settings.1
-  Ok (with_properties m coefficient.0 settings.0.layvka layers.0)
+  contents ← contents_of files file bytes m.grid (is_transient m.periods)
+  Ok (with_contents m contents)
 
 -- another model differs in what this package reads alone
 abbrev pub SameBut : FlowModel → FlowModel → Type 0

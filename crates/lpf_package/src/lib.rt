@@ -7,5 +7,5 @@ mod model;
 mod settings;
 
 pub use layer::Properties;
-pub use model::read_lpf;
+pub use model::{Contents, read_lpf};
 pub use settings::Settings;

@@ -1,16 +1,16 @@
 // The model with its properties.
-ghost use Rattle.std.specs.Prelude.{◌≡◌, IfOk, not, List};
+ghost use Rattle.std.specs.Prelude.{◌≡◌, ◌*◌, cond, IfOk, length, not, List};
 ghost use Rattle.std.specs.List.{list_any};
 ghost use Rattle.outside.specs.Counts.{InputCounts};
 ghost use Rattle.outside.specs.Files.{File};
 ghost use Rattle.record_lines.specs.Reading.{Has};
-ghost use Rattle.lpf_package.specs.Forms.{HasProperties};
-ghost use Rattle.lpf_package.specs.Flow.{is_transient, with_properties, lpf_of, SameBut};
+ghost use Rattle.lpf_package.specs.Forms.{AreLayers, HasProperties};
+ghost use Rattle.lpf_package.specs.Flow.{contents_of, is_transient, with_contents, lpf_of, SameBut};
 
 use crate::layer::Properties;
 use crate::layers::layers_of;
 use crate::settings::{option_line, settings_of};
-use model_types::{FlowModel, Listed, Period};
+use model_types::{FlowModel, Grid, Listed, Period};
 use outside::{Folder, InputFault};
 use record_lines::Lines;
 use std::alloc::Global;
@@ -21,24 +21,63 @@ fn is_transient(periods: &[Period]) -> bool
     periods.iter().any(|p| !p.steady)
 }
 
-fn with_properties(
-    model: FlowModel,
-    coefficient: bool,
-    layvka: Listed<i64>,
-    properties: Properties,
-) -> FlowModel
-    ensures { result ≡ with_properties model coefficient layvka properties }
+/// What a file of the package says: whether SS is a storage coefficient, LAYVKA by layer, and the layers' arrays.
+#[derive(Debug, Drop)]
+pub struct Contents {
+    pub coefficient: bool,
+    pub layvka: Listed<i64>,
+    pub properties: Properties,
+}
+
+fn with_contents(model: FlowModel, contents: Contents) -> FlowModel
+    ensures { result ≡ with_contents model contents }
 {
     FlowModel {
-        coefficient,
-        layvka,
-        hk: properties.hk,
-        hani: properties.hani,
-        vka: properties.vka,
-        ss: properties.ss,
-        vkcb: properties.vkcb,
+        coefficient: contents.coefficient,
+        layvka: contents.layvka,
+        hk: contents.properties.hk,
+        hani: contents.properties.hani,
+        vka: contents.properties.vka,
+        ss: contents.properties.ss,
+        vkcb: contents.properties.vkcb,
         ..model
     }
+}
+
+#[tactic(auto, unfolding(crate::specs::Flow::contents_of))]
+fn contents_of<F: Folder>(
+    alloc: Global,
+    file: &str,
+    bytes: &[u8],
+    folder: &mut F,
+    grid: &Grid,
+    stores: bool,
+) -> Result<Contents, InputFault>
+    ensures since { (files : List File) → F.agrees folder.new files → F.agrees folder.old files }
+    ensures counts { InputCounts (F.faults folder.old) (F.faults folder.new) result }
+    ensures contents { (files : List File) → F.agrees folder.new files → Has (λ c. c) result (contents_of files file.now bytes.now grid.now stores) }
+    ensures layvka { IfOk result (λ c. length c.layvka ≡ grid.now.layers) }
+    ensures properties { IfOk result (λ c. AreLayers (grid.now.layers * (grid.now.rows * grid.now.cols)) (cond stores (grid.now.layers * (grid.now.rows * grid.now.cols)) 0) c.properties) }
+{
+    let mut lines = Lines::new(bytes);
+    lines.skip_comments();
+    let coefficient = option_line(alloc, &mut lines, file)?;
+    let settings = settings_of(alloc, &mut lines, file, grid.layers)?;
+    let properties = layers_of(
+        alloc,
+        &mut lines,
+        file,
+        folder,
+        grid,
+        settings.chani.as_slice(),
+        stores,
+        grid.layers,
+    )?;
+    Ok(Contents {
+        coefficient,
+        layvka: settings.layvka,
+        properties,
+    })
 }
 
 /// The model with the properties of a file of the layer-property flow package. `file` is the file's name, for
@@ -62,20 +101,7 @@ pub fn read_lpf<F: Folder>(
     ensures others { IfOk result (SameBut model) }
     ensures form { IfOk result HasProperties }
 {
-    let mut lines = Lines::new(bytes);
-    lines.skip_comments();
-    let coefficient = option_line(alloc, &mut lines, file)?;
-    let settings = settings_of(alloc, &mut lines, file, model.grid.layers)?;
     let stores = is_transient(model.periods.as_slice());
-    let properties = layers_of(
-        alloc,
-        &mut lines,
-        file,
-        folder,
-        &model.grid,
-        settings.chani.as_slice(),
-        stores,
-        model.grid.layers,
-    )?;
-    Ok(with_properties(model, coefficient, settings.layvka, properties))
+    let contents = contents_of(alloc, file, bytes, folder, &model.grid, stores)?;
+    Ok(with_contents(model, contents))
 }

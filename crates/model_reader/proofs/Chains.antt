@@ -1,5 +1,7 @@
 -- Readings one behind the other.
-use Rattle.std.proofs.Common.{◌≡◌, refl, sym, subst, Result, Ok}
+use Rattle.std.proofs.Common.{◌≡◌, ℕ, List, Option, Some, refl, sym, subst, Result, Ok}
+use Rattle.outside.specs.Files.{File}
+use Rattle.outside.specs.Inputs.{file_at}
 use Rattle.outside.specs.declared.refusals.InputFault.{InputFault}
 use Rattle.outside.specs.declared.refusals.InputFault.TheVariants as input
 use Rattle.outside.specs.declared.refusals.TextFault.{TextFault}
@@ -7,6 +9,8 @@ use Rattle.outside.specs.declared.refusals.TextFault.TheVariants as texts
 use Rattle.outside.specs.declared.refusals.Refusal.{Refusal}
 use Rattle.outside.specs.Refusals.{input_fault}
 use Rattle.record_lines.specs.Reading.{◌>>=◌, Has, Stops, StopsText}
+use Rattle.model_types.specs.declared.model.FlowModel.{FlowModel}
+use Rattle.model_reader.specs.Stresses.{file_in, where_named}
 
 -- what comes of the rest comes of the whole
 pub goes_on : {X Y T : Type 0} (view : T → Y) (answer : Result T InputFault) (r : Result X Refusal) (k : X → Result Y Refusal) (v : X) → r ≡ Ok v → Has view answer (k v) → Has view answer (r >>= k)
@@ -22,3 +26,13 @@ stops_here input.Memory r k h = tt
 pub text_stops_here : {X Y : Type 0} (fault : TextFault) (r : Result X Refusal) (k : X → Result Y Refusal) → StopsText fault r → Stops (input_fault fault) (r >>= k)
 text_stops_here (texts.Refused refusal) r k h = rw h refl
 text_stops_here texts.Memory r k h = tt
+
+-- the file that is named, and its reading
+pub named_read : (files : List File) (named : Option (List ℕ)) (reading : List ℕ → List ℕ → FlowModel → Result FlowModel Refusal) (file bytes : List ℕ) (m read n : FlowModel)
+    → named ≡ Some file
+    → file_at files file ≡ Ok bytes
+    → read ≡ m
+    → reading file bytes read ≡ Ok n
+    → where_named named (file_in reading files) m ≡ Ok n
+unfolding file_in
+named_read files named reading file bytes m read n a b same d = rw (a, b, ← same, d) refl

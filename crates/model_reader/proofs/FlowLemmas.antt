@@ -3,9 +3,15 @@ use Rattle.std.proofs.Common.{◌≡◌, ◌⊎◌, inl, inr, ℕ, ◌+◌, ◌<
 use Rattle.std.proofs.lemmas.Bool.{and_parts, not-true, lt-leb, lt-ltb}
 use Rattle.std.proofs.lemmas.Int.{ints}
 use Rattle.decimal_input.specs.declared.dec.Dec.{Dec}
-use Rattle.decimal_input.specs.Canonical.{number}
+use Rattle.decimal_input.specs.Canonical.{IsDec, number}
 use Rattle.decimal_input.specs.contracts.dec.DecPartialEq.TheImpl as dec_eq
+use Rattle.outside.specs.Files.{File}
+use Rattle.outside.specs.Inputs.{file_at}
+use Rattle.outside.specs.Refusals.{input_fault}
+use Rattle.outside.specs.declared.refusals.TextFault.{TextFault}
+use Rattle.record_lines.specs.Reading.{Stops, StopsText}
 use Rattle.model_types.specs.declared.model.FlowModel.{FlowModel}
+use Rattle.model_types.specs.Grids.{IsGrid}
 use Rattle.model_types.specs.Cells.{layer_size, cell_count}
 use Rattle.model_types.specs.Layers.{dec_at, is_active, has_bed, top_at, bottom_at, lowest}
 use Rattle.model_types.specs.Valid.{IsModel, IsCellValid, IsBedValid, IsBedChecked}
@@ -13,7 +19,7 @@ use Rattle.cell_checks.specs.Checks.{checked}
 use Rattle.cell_checks.specs.Faults.{is_checked_bed, has_good_properties}
 use Rattle.cell_checks.specs.declared.passing.Check.TheVariants.{Properties}
 use Rattle.cell_checks.proofs.PassedCells.{each_passed}
-use Rattle.lpf_package.specs.Flow.{is_transient, with_properties, SameBut}
+use Rattle.lpf_package.specs.Flow.{is_transient, lpf_of, with_properties, SameBut}
 use Rattle.lpf_package.specs.Forms.{HasProperties}
 use Rattle.lpf_package.specs.declared.layer.Properties as layer
 use Rattle.number_limits.specs.Room.{is_thick}
@@ -23,6 +29,8 @@ use Rattle.number_limits.proofs.HeadLemmas.{head_of}
 use Rattle.number_limits.proofs.RoomLemmas.{thick_sound}
 use Rattle.number_limits.proofs.SignLemmas.{one_dec, positive_of}
 use Rattle.model_reader.specs.Forms.{IsBasic}
+use Rattle.model_reader.specs.Model.{lpf_in}
+use Rattle.model_reader.proofs.Chains.{text_stops_here}
 use Rattle.model_reader.proofs.PeriodLemmas.{all_periods, all_steady, no_evaps}
 
 second : (a b : Bool) → (not a || b) ≡ true → a ≡ true → b ≡ true
@@ -131,5 +139,31 @@ model m h = record {
 still_basic : (b : FlowModel) (coefficient : Bool) (layvka : List ℤ) (p : layer.Properties) → IsBasic b → IsBasic (with_properties b coefficient layvka p)
 still_basic b coefficient layvka p h = record { grid = h.grid; ibound = h.ibound; strt = h.strt; thick = h.thick; heads = h.heads; nrchop = h.nrchop; nevtop = h.nevtop; some = h.some; few = h.few; steps = h.steps; periods = h.periods }
 
+pub grid_kept : (b m : FlowModel) → SameBut b m → IsBasic b → IsGrid m.grid
+grid_kept b m e h = subst (λ x. IsGrid x.grid) (sym e) h.grid
+
+pub heads_kept : (b m : FlowModel) → SameBut b m → IsBasic b → All IsDec m.strt
+heads_kept b m e h = subst (λ x. All IsDec x.strt) (sym e) h.strt.1
+
 pub model_of : (b m : FlowModel) (lpf : List ℕ) → IsBasic b → SameBut b m → HasProperties m → checked m lpf Properties ≡ Ok tt → IsModel m
 model_of b m lpf h e properties good = model m (record { basic = subst IsBasic (sym e) (still_basic b m.coefficient m.layvka _ h); properties = properties; good = each_passed m lpf Properties good })
+
+-- the file, its reading and its test, one behind the other
+pub lpf_read : (files : List File) (lpf bytes : List ℕ) (basic read flow good : FlowModel)
+    → file_at files lpf ≡ Ok bytes
+    → read ≡ basic
+    → lpf_of files lpf bytes read ≡ Ok flow
+    → checked flow lpf Properties ≡ Ok tt
+    → good ≡ flow
+    → lpf_in files lpf basic ≡ Ok good
+unfolding lpf_in
+lpf_read files lpf bytes basic read flow good a same b d is = rw (a, ← same, b, d, is) refl
+
+pub lpf_refused : (fault : TextFault) (files : List File) (lpf bytes : List ℕ) (basic read flow : FlowModel)
+    → file_at files lpf ≡ Ok bytes
+    → read ≡ basic
+    → lpf_of files lpf bytes read ≡ Ok flow
+    → StopsText fault (checked flow lpf Properties)
+    → Stops (input_fault fault) (lpf_in files lpf basic)
+unfolding lpf_in
+lpf_refused fault files lpf bytes basic read flow a same b d = rw (a, ← same, b) (text_stops_here fault _ _ d)

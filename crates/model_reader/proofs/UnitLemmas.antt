@@ -11,38 +11,31 @@ use Rattle.outside.specs.declared.refusals.Refusal.{Refusal}
 use Rattle.record_lines.specs.Items.{line_at}
 use Rattle.record_lines.specs.Layout.{Left, left_from, without_comments, words}
 use Rattle.record_lines.specs.Reading.{◌>>=◌}
-use Rattle.array_reader.specs.Arrays.{layers}
 use Rattle.array_reader.specs.Items.{at_line, number_at}
-use Rattle.array_reader.specs.Kinds.{real, whole}
 use Rattle.array_reader.specs.Numbers.{integer}
 use Rattle.array_reader.proofs.NumberLemmas.{integers_are}
 use Rattle.name_file.specs.Pairs.{Pairs, file_of}
 use Rattle.name_file.specs.declared.package.Package.TheVariants.{Dis, Bas, Lpf, Wel, Riv, Drn, Ghb, Rch, Chd, Evt}
 use Rattle.model_types.specs.declared.model.FlowModel.{FlowModel}
-use Rattle.model_types.specs.Receivers.{is_int}
 use Rattle.dis_package.specs.Beds.{beds_of}
 use Rattle.dis_package.specs.Discretization.{dis_of, head_of}
 use Rattle.dis_package.specs.Frames.{count_at, frame_of, size_at}
 use Rattle.dis_package.specs.Grids.{grid_of}
 use Rattle.dis_package.specs.Times.{periods_of}
 use Rattle.dis_package.specs.declared.frame.Frame.{Frame}
-use Rattle.bas_package.specs.Basics.{bas_of, head_item, option_line as bas_options, with_basics}
-use Rattle.lpf_package.specs.Flow.{is_transient, lpf_of, with_properties}
-use Rattle.lpf_package.specs.Layers.{layers_of}
-use Rattle.lpf_package.specs.Settings.{option_line as lpf_options, settings_of}
+use Rattle.bas_package.specs.Basics.{bas_of, basics_of, with_basics}
+use Rattle.lpf_package.specs.Flow.{contents_of, is_transient, lpf_of, with_contents}
 use Rattle.cell_checks.specs.Checks.{checked}
 use Rattle.cell_checks.specs.declared.passing.Check.TheVariants.{Properties}
-use Rattle.list_package.specs.Headers.{item_line}
 use Rattle.list_package.specs.Kinds.{Kind}
-use Rattle.list_package.specs.Lists.{package_of, periods_of as list_periods}
+use Rattle.list_package.specs.Lists.{lists_of, package_of}
 use Rattle.stress_packages.specs.Packages.{wells, rivers, drains, generals}
 use Rattle.chd_package.specs.GivenHeads.{given_heads}
-use Rattle.period_arrays.specs.Flags.{option_at}
-use Rattle.rch_package.specs.Recharge.{periods_of as rch_periods, rch_of}
-use Rattle.evt_package.specs.Evaporation.{evt_of, option_line as evt_option, periods_of as evt_periods}
+use Rattle.rch_package.specs.Recharge.{rch_of, recharge_of, with_recharge}
+use Rattle.evt_package.specs.Evaporation.{evaporation_of, evt_of, with_evaporation}
 use Rattle.model_reader.specs.Model.{basics_tested, bas_in, dis_in, lpf_in, model_of, reads}
 use Rattle.model_reader.specs.Names.{names_in, needed}
-use Rattle.model_reader.specs.Stresses.{evt_in, list_in, rch_in, where_named, with_entries, with_stresses}
+use Rattle.model_reader.specs.Stresses.{evt_in, file_in, list_in, rch_in, where_named, with_entries, with_stresses}
 
 clash : {B E : Type 0} (e : E) (y : B) (r : Result B E) → r ≡ Err e → r ≡ Ok y → ⊥
 clash e y r h k = cc
@@ -140,45 +133,35 @@ Keeps read = (m n : FlowModel) → read m ≡ Ok n → HasShortUnit m → HasSho
 bas_keeps : (files : List File) (file bytes : List ℕ) → Keeps (bas_of files file bytes)
 unfolding bas_of
 bas_keeps files file bytes m n h short =
-    let options = goes (bas_options file (without_comments (left_from 1 bytes))) _ n h in
-    let ibound = goes (layers whole files file m.grid.layers m.grid.rows m.grid.cols options.item.1) _ n options.then_ in
-    let hnoflo = goes (head_item file ibound.item.1) _ n ibound.then_ in
-    let strt = goes (layers real files file m.grid.layers m.grid.rows m.grid.cols hnoflo.item.1) _ n hnoflo.then_ in
-    ends HasShortUnit (with_basics m ibound.item.0 strt.item.0) n strt.then_ short
+    let basics = goes (basics_of files file bytes m.grid) _ n h in
+    ends HasShortUnit (with_basics m basics.item.0 basics.item.1) n basics.then_ short
 
 lpf_keeps : (files : List File) (file bytes : List ℕ) → Keeps (lpf_of files file bytes)
 unfolding lpf_of
 lpf_keeps files file bytes m n h short =
-    let coefficient = goes (lpf_options file (without_comments (left_from 1 bytes))) _ n h in
-    let settings = goes (settings_of file m.grid.layers coefficient.item.1) _ n coefficient.then_ in
-    let found = goes (layers_of files file m.grid settings.item.0.chani (is_transient m.periods) m.grid.layers settings.item.1) _ n settings.then_ in
-    ends HasShortUnit (with_properties m coefficient.item.0 settings.item.0.layvka found.item.0) n found.then_ short
+    let contents = goes (contents_of files file bytes m.grid (is_transient m.periods)) _ n h in
+    ends HasShortUnit (with_contents m contents.item) n contents.then_ short
 
 package_keeps : {C E : Type 0} (kind : Kind C E) (file bytes : List ℕ) → Keeps (package_of kind file bytes)
 unfolding package_of
 package_keeps kind file bytes m n h short =
-    let line = goes (item_line file (without_comments (left_from 1 bytes))) _ n h in
-    let most = goes (number_at integer file line.item.0.number (words line.item.0.bytes)) _ n line.then_ in
-    let lists = goes (list_periods kind file m.grid m.periods line.item.1) _ n most.then_ in
-    ends HasShortUnit (record m { periods = lists.item }) n lists.then_ short
+    let periods = goes (lists_of kind file bytes m.grid m.periods) _ n h in
+    ends HasShortUnit (record m { periods = periods.item }) n periods.then_ short
 
 rch_keeps : (files : List File) (file bytes : List ℕ) → Keeps (rch_of files file bytes)
 unfolding rch_of
 rch_keeps files file bytes m n h short =
-    let line = goes (item_line file (without_comments (left_from 1 bytes))) _ n h in
-    let option = goes (option_at file line.item.0.number (words line.item.0.bytes)) _ n line.then_ in
-    let rates = goes (rch_periods (is_int option.item.0 2) files file m.grid m.periods line.item.1) _ n option.then_ in
-    ends HasShortUnit (record m { nrchop = option.item.0; periods = rates.item }) n rates.then_ short
+    let recharge = goes (recharge_of files file bytes m.grid m.periods) _ n h in
+    ends HasShortUnit (with_recharge m recharge.item) n recharge.then_ short
 
 evt_keeps : (files : List File) (file bytes : List ℕ) → Keeps (evt_of files file bytes)
 unfolding evt_of
 evt_keeps files file bytes m n h short =
-    let option = goes (evt_option file (without_comments (left_from 1 bytes))) _ n h in
-    let rates = goes (evt_periods files file m.grid m.ibound option.item.0 m.periods option.item.1) _ n option.then_ in
-    ends HasShortUnit (record m { nevtop = option.item.0; periods = rates.item }) n rates.then_ short
+    let evaporation = goes (evaporation_of files file bytes m.grid m.ibound m.periods) _ n h in
+    ends HasShortUnit (with_evaporation m evaporation.item) n evaporation.then_ short
 
 list_in_keeps : {C E : Type 0} (kind : Kind C E) (files : List File) (file : List ℕ) → Keeps (list_in kind files file)
-unfolding list_in
+unfolding file_in
 list_in_keeps kind files file m n h short = let bytes = goes (file_at files file) _ n h in package_keeps kind file bytes.item m n bytes.then_ short
 
 rch_in_keeps : (files : List File) (file : List ℕ) → Keeps (rch_in files file)

@@ -19,10 +19,14 @@ abbrev pub where_named : Option (List ℕ) → (List ℕ → FlowModel → Resul
 where_named None read m = Ok m
 where_named (Some name) read m = read name m
 
-unfoldable pub list_in : {C E : Type 0} → Kind C E → List File → List ℕ → FlowModel → Result FlowModel Refusal
-list_in kind files name m = do
+-- the model with what a package's reading makes of a file
+unfoldable pub file_in : (List ℕ → List ℕ → FlowModel → Result FlowModel Refusal) → List File → List ℕ → FlowModel → Result FlowModel Refusal
+file_in read files name m = do
   bytes ← file_at files name
-  package_of kind name bytes m
+  read name bytes m
+
+abbrev pub list_in : {C E : Type 0} → Kind C E → List File → List ℕ → FlowModel → Result FlowModel Refusal
+list_in kind = file_in (package_of kind)
 
 unfoldable pub rch_in : List File → List ℕ → FlowModel → Result FlowModel Refusal
 rch_in files rch m = do

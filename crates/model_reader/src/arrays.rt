@@ -10,7 +10,7 @@ ghost use Rattle.name_file.specs.declared.package.Package.TheVariants.{Rch, Evt}
 ghost use Rattle.model_types.specs.Valid.{IsModel};
 ghost use Rattle.model_reader.specs.Stresses.{where_named, rch_in, evt_in};
 
-use array_reader::open_file;
+use crate::opened::opened;
 use evt_package::read_evt;
 use model_types::FlowModel;
 use name_file::{Names, Package};
@@ -35,7 +35,7 @@ pub fn rch_in<F: Folder>(
     match names.file_of(Package::Rch) {
         None => Ok(model),
         Some(name) => {
-            let bytes = open_file(alloc, folder, name)?;
+            let (bytes, model) = opened(alloc, folder, name, model)?;
             read_rch(alloc, name, &bytes, folder, model)
         }
     }
@@ -58,7 +58,7 @@ pub fn evt_in<F: Folder>(
     match names.file_of(Package::Evt) {
         None => Ok(model),
         Some(name) => {
-            let bytes = open_file(alloc, folder, name)?;
+            let (bytes, model) = opened(alloc, folder, name, model)?;
             read_evt(alloc, name, &bytes, folder, model)
         }
     }

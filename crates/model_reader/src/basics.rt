@@ -13,6 +13,7 @@ ghost use Rattle.dis_package.specs.Forms.{IsBegun};
 ghost use Rattle.model_reader.specs.Forms.{IsBasic};
 ghost use Rattle.model_reader.specs.Model.{dis_in, basics_tested, bas_in, lpf_in};
 
+use crate::opened::opened;
 use array_reader::open_file;
 use bas_package::read_bas;
 use cell_checks::{Check, check_cells};
@@ -35,21 +36,44 @@ pub fn dis_in<F: Folder>(alloc: Global, folder: &mut F, name: &str) -> Result<Fl
     read_dis(alloc, name, &bytes, folder)
 }
 
-/// The thickness of each active cell, which is refused with the file of DIS, and then the starting head of each.
-#[tactic(auto, unfolding(crate::specs::Model::basics_tested))]
-fn basics_tested(alloc: Global, model: &FlowModel, dis: &str, bas: &str) -> Result<(), TextFault>
-    requires grid { IsGrid model.now.grid }
-    requires strt { All IsDec model.now.strt }
-    ensures tests { HasText (λ _. tt) result (basics_tested dis.now bas.now model.now) }
-    ensures thickness { IfOk result (λ _. checked model.now dis.now Thickness ≡ Ok tt) }
-    ensures heads { IfOk result (λ _. checked model.now bas.now StartHead ≡ Ok tt) }
+/// The model, whose cells pass a check.
+fn checked(
+    alloc: Global,
+    model: FlowModel,
+    file: &str,
+    check: Check,
+) -> Result<FlowModel, TextFault>
+    requires grid { IsGrid model.grid }
+    requires strt { All IsDec model.strt }
+    ensures check { HasText (λ _. tt) result (checked model file.now check) }
+    ensures same { IfOk result (λ m. m ≡ model) }
 {
-    check_cells(alloc, model, dis, Check::Thickness)?;
-    check_cells(alloc, model, bas, Check::StartHead)
+    check_cells(alloc, &model, file, check)?;
+    Ok(model)
+}
+
+/// The model behind the checks of the thickness of each active cell, which is refused with the file of DIS, and of the
+/// starting head of each.
+#[tactic(auto, unfolding(crate::specs::Model::basics_tested))]
+fn basics_tested(
+    alloc: Global,
+    model: FlowModel,
+    dis: &str,
+    bas: &str,
+) -> Result<FlowModel, TextFault>
+    requires grid { IsGrid model.grid }
+    requires strt { All IsDec model.strt }
+    ensures tests { HasText (λ _. tt) result (basics_tested dis.now bas.now model) }
+    ensures same { IfOk result (λ m. m ≡ model) }
+    ensures thickness { IfOk result (λ m. checked m dis.now Thickness ≡ Ok tt) }
+    ensures heads { IfOk result (λ m. checked m bas.now StartHead ≡ Ok tt) }
+{
+    let thick = checked(alloc, model, dis, Check::Thickness)?;
+    checked(alloc, thick, bas, Check::StartHead)
 }
 
 /// The model with BAS6. Then the thickness of each active cell is checked, and then the starting head of each.
-#[tactic(auto, unfolding(crate::specs::Model::bas_in), using(crate::proofs::BasicLemmas::basic_of))]
+#[tactic(auto, unfolding(crate::specs::Model::bas_in))]
 pub fn bas_in<F: Folder>(
     alloc: Global,
     folder: &mut F,
@@ -64,14 +88,14 @@ pub fn bas_in<F: Folder>(
     ensures model { (files : List File) → F.agrees folder.new files → Has (λ m. m) result (bas_in files dis.now name.now model) }
     ensures form { IfOk result IsBasic }
 {
-    let bytes = open_file(alloc, folder, name)?;
-    let model = read_bas(alloc, name, &bytes, folder, model)?;
-    basics_tested(alloc, &model, dis, name)?;
-    Ok(model)
+    let (bytes, begun) = opened(alloc, folder, name, model)?;
+    let basic = read_bas(alloc, name, &bytes, folder, begun)?;
+    let tested = basics_tested(alloc, basic, dis, name)?;
+    Ok(tested)
 }
 
 /// The model with LPF. Then the properties of each active cell are checked.
-#[tactic(auto, unfolding(crate::specs::Model::lpf_in), using(crate::proofs::FlowLemmas::model_of))]
+#[tactic(auto, unfolding(crate::specs::Model::lpf_in))]
 pub fn lpf_in<F: Folder>(
     alloc: Global,
     folder: &mut F,
@@ -85,8 +109,8 @@ pub fn lpf_in<F: Folder>(
     ensures model { (files : List File) → F.agrees folder.new files → Has (λ m. m) result (lpf_in files name.now model) }
     ensures form { IfOk result IsModel }
 {
-    let bytes = open_file(alloc, folder, name)?;
-    let model = read_lpf(alloc, name, &bytes, folder, model)?;
-    check_cells(alloc, &model, name, Check::Properties)?;
-    Ok(model)
+    let (bytes, basic) = opened(alloc, folder, name, model)?;
+    let flow = read_lpf(alloc, name, &bytes, folder, basic)?;
+    let good = checked(alloc, flow, name, Check::Properties)?;
+    Ok(good)
 }

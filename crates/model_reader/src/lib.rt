@@ -6,6 +6,7 @@ mod basics;
 mod lists;
 mod model;
 mod names;
+mod opened;
 mod stresses;
 
 pub use model::{read_model, read_named_model};

@@ -13,7 +13,9 @@ use Rattle.list_package.specs.Headers.{item_line}
 use Rattle.period_arrays.specs.Flags.{flag_at, option_at}
 use Rattle.period_arrays.specs.Updates.{updated_reals, updated_layers, or_empty}
 use Rattle.rch_package.specs.declared.flags.Flags.{Flags}
+use Rattle.rch_package.specs.declared.periods.Arrays.{Arrays}
 use Rattle.rch_package.specs.declared.periods.Last.{Last}
+use Rattle.rch_package.specs.declared.read.Recharge.{Recharge}
 
 -- INIRCH stands under option 2 alone
 abbrev pub layer_flag : Bool → List ℕ → ℕ → Bool → List (List ℕ) → Result (Bool × List (List ℕ)) Refusal
@@ -27,13 +29,22 @@ flags_of layered file line last words = do
   Ok (record { rate = rate.0; layer = layer.0 })
 
 -- RECH, and under option 2 IRCH
-unfoldable pub period_at : Bool → List File → List ℕ → Grid → Period → (Last × Left) → Result (Period × (Last × Left)) Refusal
-period_at layered files file grid period s = do
+unfoldable pub arrays_at : Bool → List File → List ℕ → Grid → (Last × Left) → Result (Arrays × (Last × Left)) Refusal
+arrays_at layered files file grid s = do
   line ← line_at file s.1
   flags ← flags_of layered file line.0.number s.0 (words line.0.bytes)
   rates ← updated_reals files file grid flags.rate s.0.rates line.1
   layers ← updated_layers files file grid flags.layer s.0.layers rates.1
-  Ok (record period { recharge = or_empty rates.0; irch = or_empty layers.0 }, (record { rates = rates.0; layers = layers.0 }, layers.1))
+  Ok (record { recharge = or_empty rates.0; irch = or_empty layers.0 }, (record { rates = rates.0; layers = layers.0 }, layers.1))
+
+-- a period with its arrays
+abbrev pub with_arrays : Period → Arrays → Period
+with_arrays period arrays = record period { recharge = arrays.recharge; irch = arrays.irch }
+
+unfoldable pub period_at : Bool → List File → List ℕ → Grid → Period → (Last × Left) → Result (Period × (Last × Left)) Refusal
+period_at layered files file grid period s = do
+  arrays ← arrays_at layered files file grid s
+  Ok (with_arrays period arrays.0, arrays.1)
 
 abbrev pub without_state : {X S : Type 0} → Result (X × S) Refusal → Result X Refusal
 without_state read = read >>= λ x. Ok x.0
@@ -42,9 +53,18 @@ unfoldable pub periods_of : Bool → List File → List ℕ → Grid → List Pe
 periods_of layered files file grid periods left = without_state (for_each (period_at layered files file grid) periods (record { rates = None; layers = None }, left))
 
 -- NRCHOP, and the arrays of each stress period
-unfoldable pub rch_of : List File → List ℕ → List ℕ → FlowModel → Result FlowModel Refusal
-rch_of files file bytes m = do
+unfoldable pub recharge_of : List File → List ℕ → List ℕ → Grid → List Period → Result Recharge Refusal
+recharge_of files file bytes grid periods = do
   line ← item_line file (without_comments (left_from 1 bytes))
   option ← option_at file line.0.number (words line.0.bytes)
-  periods ← periods_of (is_int option.0 2) files file m.grid m.periods line.1
-  Ok (record m { nrchop = option.0; periods = periods })
+  whole ← periods_of (is_int option.0 2) files file grid periods line.1
+  Ok (record { nrchop = option.0; periods = whole })
+
+-- a model with them
+abbrev pub with_recharge : FlowModel → Recharge → FlowModel
+with_recharge m r = record m { nrchop = r.nrchop; periods = r.periods }
+
+unfoldable pub rch_of : List File → List ℕ → List ℕ → FlowModel → Result FlowModel Refusal
+rch_of files file bytes m = do
+  recharge ← recharge_of files file bytes m.grid m.periods
+  Ok (with_recharge m recharge)

@@ -6,5 +6,5 @@ mod periods;
 mod read;
 
 pub use flags::Flags;
-pub use periods::Last;
-pub use read::read_rch;
+pub use periods::{Arrays, Last};
+pub use read::{Recharge, read_rch};

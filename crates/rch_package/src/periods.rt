@@ -4,8 +4,9 @@ ghost use Rattle.outside.specs.Counts.{InputCounts};
 ghost use Rattle.outside.specs.Files.{File};
 ghost use Rattle.record_lines.specs.Reading.{Gives, Has, for_each};
 ghost use Rattle.model_types.specs.Grids.{HasSize};
+ghost use Rattle.period_arrays.specs.Forms.{IsReals, IsWhole};
 ghost use Rattle.rch_package.specs.Forms.{AreArrays, AreLast, without};
-ghost use Rattle.rch_package.specs.Recharge.{period_at, periods_of};
+ghost use Rattle.rch_package.specs.Recharge.{arrays_at, period_at, periods_of, with_arrays};
 
 use crate::flags::flags_of;
 use array_reader::next_line;
@@ -23,36 +24,42 @@ pub struct Last {
     pub layers: Option<Shared<i64>>,
 }
 
-fn with_arrays(period: Period, recharge: Shared<Dec>, irch: Shared<i64>) -> Period
-    ensures { result ≡ record period { recharge = recharge; irch = irch } }
+/// The arrays of a period: a rate for each column of layers, and the layers, where they are named.
+#[derive(Debug, Drop)]
+pub struct Arrays {
+    pub recharge: Shared<Dec>,
+    pub irch: Shared<i64>,
+}
+
+fn with_arrays(period: Period, arrays: Arrays) -> Period
+    ensures { result ≡ with_arrays period arrays }
 {
     Period {
-        recharge,
-        irch,
+        recharge: arrays.recharge,
+        irch: arrays.irch,
         ..period
     }
 }
 
-/// The next period with its arrays, which then stand.
-#[tactic(auto, unfolding(crate::specs::Recharge::period_at), using(period_arrays::proofs::UpdateLemmas::stands))]
-fn period_at<F: Folder>(
+/// The arrays of the next period, which then stand.
+#[tactic(auto, unfolding(crate::specs::Recharge::arrays_at), using(period_arrays::proofs::UpdateLemmas::stands))]
+fn arrays_at<F: Folder>(
     alloc: Global,
     lines: &mut Lines,
     layered: bool,
     file: &str,
     folder: &mut F,
     grid: &Grid,
-    period: Period,
     last: &mut Last,
-) -> Result<Period, InputFault>
+) -> Result<Arrays, InputFault>
     requires size { HasSize grid.now }
     requires last { AreLast grid.now last.old }
     ensures since { (files : List File) → F.agrees folder.new files → F.agrees folder.old files }
     ensures counts { InputCounts (F.faults folder.old) (F.faults folder.new) result }
-    ensures period { (files : List File) → F.agrees folder.new files → Gives (λ p. p) result (last.new, lines.new) (period_at layered files file.now grid.now period (last.old, lines.old)) }
+    ensures arrays { (files : List File) → F.agrees folder.new files → Gives (λ a. a) result (last.new, lines.new) (arrays_at layered files file.now grid.now (last.old, lines.old)) }
     ensures last { IfOk result (λ _. AreLast grid.now last.new) }
-    ensures arrays { IfOk result (AreArrays layered grid.now) }
-    ensures others { IfOk result (λ p. without p ≡ without period) }
+    ensures rates { IfOk result (λ a. IsReals grid.now a.recharge) }
+    ensures layers { IfOk result (λ a. layered ≡ true → IsWhole grid.now a.irch) }
 {
     let line = next_line(alloc, lines, file)?;
     let flags = flags_of(
@@ -83,7 +90,32 @@ fn period_at<F: Folder>(
     )?;
     let recharge = array_of(alloc, &last.rates)?;
     let irch = array_of(alloc, &last.layers)?;
-    Ok(with_arrays(period, recharge, irch))
+    Ok(Arrays { recharge, irch })
+}
+
+/// The next period with its arrays, which then stand.
+#[tactic(auto, unfolding(crate::specs::Recharge::period_at))]
+fn period_at<F: Folder>(
+    alloc: Global,
+    lines: &mut Lines,
+    layered: bool,
+    file: &str,
+    folder: &mut F,
+    grid: &Grid,
+    period: Period,
+    last: &mut Last,
+) -> Result<Period, InputFault>
+    requires size { HasSize grid.now }
+    requires last { AreLast grid.now last.old }
+    ensures since { (files : List File) → F.agrees folder.new files → F.agrees folder.old files }
+    ensures counts { InputCounts (F.faults folder.old) (F.faults folder.new) result }
+    ensures period { (files : List File) → F.agrees folder.new files → Gives (λ p. p) result (last.new, lines.new) (period_at layered files file.now grid.now period (last.old, lines.old)) }
+    ensures last { IfOk result (λ _. AreLast grid.now last.new) }
+    ensures arrays { IfOk result (AreArrays layered grid.now) }
+    ensures others { IfOk result (λ p. without p ≡ without period) }
+{
+    let arrays = arrays_at(alloc, lines, layered, file, folder, grid, last)?;
+    Ok(with_arrays(period, arrays))
 }
 
 /// The periods with their arrays, where these were the last.

@@ -1,20 +1,56 @@
 // A model with its recharge.
-ghost use Rattle.std.specs.Prelude.{◌≡◌, IfOk, List};
+ghost use Rattle.std.specs.Prelude.{◌≡◌, ◌≤ℤ◌, pos, All, IfOk, List, map};
 ghost use Rattle.outside.specs.Counts.{InputCounts};
 ghost use Rattle.outside.specs.Files.{File};
 ghost use Rattle.record_lines.specs.Reading.{Has};
 ghost use Rattle.model_types.specs.Grids.{HasSize};
+ghost use Rattle.model_types.specs.Receivers.{is_int};
 ghost use Rattle.model_types.specs.Valid.{IsModel};
-ghost use Rattle.rch_package.specs.Forms.{IsRecharged, SameBut};
-ghost use Rattle.rch_package.specs.Recharge.{rch_of};
+ghost use Rattle.rch_package.specs.Forms.{AreArrays, IsRecharged, SameBut, without};
+ghost use Rattle.rch_package.specs.Recharge.{rch_of, recharge_of};
 
 use crate::periods::periods_of;
 use list_package::item_line;
-use model_types::{FlowModel, Listed};
+use model_types::{FlowModel, Grid, Listed, Period};
 use outside::{Folder, InputFault};
 use period_arrays::option_at;
 use record_lines::{Lines, Words};
 use std::alloc::Global;
+
+/// What a file of the package says: NRCHOP, and the periods with their arrays.
+#[derive(Debug, Drop)]
+pub struct Recharge {
+    pub nrchop: i64,
+    pub periods: Listed<Period>,
+}
+
+#[tactic(auto, unfolding(crate::specs::Recharge::recharge_of))]
+fn recharge_of<F: Folder>(
+    alloc: Global,
+    file: &str,
+    bytes: &[u8],
+    folder: &mut F,
+    grid: &Grid,
+    periods: Vec<Period>,
+) -> Result<Recharge, InputFault>
+    requires size { HasSize grid.now }
+    ensures since { (files : List File) → F.agrees folder.new files → F.agrees folder.old files }
+    ensures counts { InputCounts (F.faults folder.old) (F.faults folder.new) result }
+    ensures recharge { (files : List File) → F.agrees folder.new files → Has (λ r. r) result (recharge_of files file.now bytes.now grid.now periods.items) }
+    ensures option { IfOk result (λ r. (pos 1 ≤ℤ r.nrchop) × (r.nrchop ≤ℤ pos 3)) }
+    ensures arrays { IfOk result (λ r. All (AreArrays (is_int r.nrchop 2) grid.now) r.periods) }
+    ensures others { IfOk result (λ r. map without r.periods ≡ map without periods.items) }
+{
+    let mut lines = Lines::new(bytes);
+    lines.skip_comments();
+    let line = item_line(alloc, &mut lines, file)?;
+    let nrchop = option_at(alloc, &mut Words::of(&line), file, line.number)?;
+    let periods = periods_of(alloc, &mut lines, nrchop == 2, file, folder, grid, periods)?;
+    Ok(Recharge {
+        nrchop,
+        periods: Listed::new(periods),
+    })
+}
 
 /// The model with the arrays of its periods.
 #[tactic(auto, unfolding(crate::specs::Recharge::rch_of), using(crate::proofs::ArrayLemmas::is_recharged))]
@@ -32,23 +68,11 @@ fn with_recharge<F: Folder>(
     ensures form { IfOk result IsRecharged }
     ensures others { IfOk result (SameBut model) }
 {
-    let mut lines = Lines::new(bytes);
-    lines.skip_comments();
-    let line = item_line(alloc, &mut lines, file)?;
-    let nrchop = option_at(alloc, &mut Words::of(&line), file, line.number)?;
     let periods = model.periods.into_vec();
-    let periods = periods_of(
-        alloc,
-        &mut lines,
-        nrchop == 2,
-        file,
-        folder,
-        &model.grid,
-        periods,
-    )?;
+    let recharge = recharge_of(alloc, file, bytes, folder, &model.grid, periods)?;
     Ok(FlowModel {
-        nrchop,
-        periods: Listed::new(periods),
+        nrchop: recharge.nrchop,
+        periods: recharge.periods,
         ..model
     })
 }

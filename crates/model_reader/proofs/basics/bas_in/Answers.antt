@@ -1,14 +1,17 @@
 use Rattle.std.proofs.lemmas.Result.{err_from_is_err_and}
-use Rattle.outside.specs.Refusals.{input_fault}
-use Rattle.std.proofs.Common.{Err}
-use Rattle.model_reader.specs.Model.{bas_in}
-use Rattle.model_reader.proofs.Chains.{goes_on, text_stops_here}
+use Rattle.model_reader.proofs.BasicLemmas.{bas_read, bas_refused, basic_of, grid_kept}
 use Rattle.model_reader.proofs.basics.bas_in.Goals as goal
 
-pub returns-in_err-basics_tested-clause-model : goal.returns-in_err-basics_tested-clause-model
-unfolding bas_in
-returns-in_err-basics_tested-clause-model g c = λ files agree.
-    let p = err_from_is_err_and c.from_residual-in_err-basics_tested.result c.from_residual-in_err-basics_tested.ensures.1 in
-    rw (p.1, p.2) (goes_on (λ m. m) (Err (input_fault c.in_err-basics_tested.field-0.0)) _ _ _ (c.in_ok-bytes.ensures.bytes files (c.in_ok-model.ensures.since files agree))
-    (goes_on (λ m. m) (Err (input_fault c.in_err-basics_tested.field-0.0)) _ _ _ (rw c.deref.ensures.value at (c.in_ok-model.ensures.model files agree))
-    (text_stops_here c.in_err-basics_tested.field-0.0 _ _ c.in_err-basics_tested.ensures.tests)))
+pub basics_tested-requires-clause-grid : goal.basics_tested-requires-clause-grid
+basics_tested-requires-clause-grid g c = grid_kept c.in_ok-bytes.begun c.in_ok-basic.basic _ _ c.in_ok-basic.ensures.others (rw c.in_ok-bytes.ensures.same c.requires.begun)
+
+pub returns-in_err-tested-clause-model : goal.returns-in_err-tested-clause-model
+returns-in_err-tested-clause-model g c = λ files agree.
+    let p = err_from_is_err_and c.from_residual-in_err-tested.result c.from_residual-in_err-tested.ensures.1 in
+    rw (p.1, p.2) (bas_refused c.in_err-tested.field-0.0 files _ _ _ _ _ _ (c.in_ok-bytes.ensures.bytes files (c.in_ok-basic.ensures.since files agree)) c.in_ok-bytes.ensures.same (rw c.deref.ensures.value at (c.in_ok-basic.ensures.model files agree)) c.in_err-tested.ensures.tests)
+
+pub returns-clause-model : goal.returns-clause-model
+returns-clause-model g c = λ files agree. bas_read files _ _ _ _ _ _ _ (c.in_ok-bytes.ensures.bytes files (c.in_ok-basic.ensures.since files agree)) c.in_ok-bytes.ensures.same (rw c.deref.ensures.value at (c.in_ok-basic.ensures.model files agree)) c.in_ok-tested.ensures.tests c.in_ok-tested.ensures.same
+
+pub returns-clause-form : goal.returns-clause-form
+returns-clause-form g c = rw c.in_ok-tested.ensures.same (basic_of c.in_ok-bytes.begun c.in_ok-basic.basic c.args.dis.now c.args.name.now (rw c.in_ok-bytes.ensures.same c.requires.begun) c.in_ok-basic.ensures.others c.in_ok-basic.ensures.ibound c.in_ok-basic.ensures.strt c.in_ok-basic.ensures.canonical (rw c.in_ok-tested.ensures.same at c.in_ok-tested.ensures.thickness) (rw c.in_ok-tested.ensures.same at c.in_ok-tested.ensures.heads))

@@ -1,14 +1,20 @@
 use Rattle.std.proofs.lemmas.Result.{err_from_is_err_and}
-use Rattle.outside.specs.Refusals.{input_fault}
-use Rattle.std.proofs.Common.{Err}
-use Rattle.model_reader.specs.Model.{lpf_in}
-use Rattle.model_reader.proofs.Chains.{goes_on, text_stops_here}
+use Rattle.model_reader.proofs.FlowLemmas.{grid_kept, heads_kept, lpf_read, lpf_refused, model_of}
 use Rattle.model_reader.proofs.basics.lpf_in.Goals as goal
 
-pub returns-in_err-check_cells-clause-model : goal.returns-in_err-check_cells-clause-model
-unfolding lpf_in
-returns-in_err-check_cells-clause-model g c = λ files agree.
-    let p = err_from_is_err_and c.from_residual-in_err-check_cells.result c.from_residual-in_err-check_cells.ensures.1 in
-    rw (p.1, p.2) (goes_on (λ m. m) (Err (input_fault c.in_err-check_cells.field-0.0)) _ _ _ (c.in_ok-bytes.ensures.bytes files (c.in_ok-model.ensures.since files agree))
-    (goes_on (λ m. m) (Err (input_fault c.in_err-check_cells.field-0.0)) _ _ _ (rw c.deref.ensures.value at (c.in_ok-model.ensures.model files agree))
-    (text_stops_here c.in_err-check_cells.field-0.0 _ _ c.in_err-check_cells.ensures)))
+pub checked-requires-clause-grid : goal.checked-requires-clause-grid
+checked-requires-clause-grid g c = grid_kept c.in_ok-bytes.basic c.in_ok-flow.flow c.in_ok-flow.ensures.others (rw c.in_ok-bytes.ensures.same c.requires.basic)
+
+pub checked-requires-clause-strt : goal.checked-requires-clause-strt
+checked-requires-clause-strt g c = heads_kept c.in_ok-bytes.basic c.in_ok-flow.flow c.in_ok-flow.ensures.others (rw c.in_ok-bytes.ensures.same c.requires.basic)
+
+pub returns-in_err-good-clause-model : goal.returns-in_err-good-clause-model
+returns-in_err-good-clause-model g c = λ files agree.
+    let p = err_from_is_err_and c.from_residual-in_err-good.result c.from_residual-in_err-good.ensures.1 in
+    rw (p.1, p.2) (lpf_refused c.in_err-good.field-0.0 files _ _ _ _ _ (c.in_ok-bytes.ensures.bytes files (c.in_ok-flow.ensures.since files agree)) c.in_ok-bytes.ensures.same (rw c.deref.ensures.value at (c.in_ok-flow.ensures.model files agree)) c.in_err-good.ensures.check)
+
+pub returns-clause-model : goal.returns-clause-model
+returns-clause-model g c = λ files agree. lpf_read files _ _ _ _ _ _ (c.in_ok-bytes.ensures.bytes files (c.in_ok-flow.ensures.since files agree)) c.in_ok-bytes.ensures.same (rw c.deref.ensures.value at (c.in_ok-flow.ensures.model files agree)) c.in_ok-good.ensures.check c.in_ok-good.ensures.same
+
+pub returns-clause-form : goal.returns-clause-form
+returns-clause-form g c = rw c.in_ok-good.ensures.same (model_of c.in_ok-bytes.basic c.in_ok-flow.flow c.args.name.now (rw c.in_ok-bytes.ensures.same c.requires.basic) c.in_ok-flow.ensures.others c.in_ok-flow.ensures.form c.in_ok-good.ensures.check)

@@ -24,14 +24,14 @@ returns-in_err-with_drains-clause-model g c = λ files agree.
     (stops_here c.in_err-with_drains.field-0.0 _ _ (c.in_err-with_drains.ensures.model files agree))))
 
 pub returns-clause-since : goal.returns-clause-since
-returns-clause-since g c = λ files agree. c.in_ok-with_wells.ensures.since files (c.in_ok-with_rivers.ensures.since files (c.in_ok-with_drains.ensures.since files (c.ghb_in.ensures.since files agree)))
+returns-clause-since g c = λ files agree. c.in_ok-with_wells.ensures.since files (c.in_ok-with_rivers.ensures.since files (c.in_ok-with_drains.ensures.since files (c.list_in-4.ensures.since files agree)))
 
 pub returns-clause-model : goal.returns-clause-model
 unfolding with_entries
 returns-clause-model g c = λ files agree.
-    let drains = c.ghb_in.ensures.since files agree in
+    let drains = c.list_in-4.ensures.since files agree in
     let rivers = c.in_ok-with_drains.ensures.since files drains in
-    goes_on (λ m. m) c.ghb_in.result _ _ _ (c.in_ok-with_wells.ensures.model files (c.in_ok-with_rivers.ensures.since files rivers))
-    (goes_on (λ m. m) c.ghb_in.result _ _ _ (c.in_ok-with_rivers.ensures.model files rivers)
-    (goes_on (λ m. m) c.ghb_in.result _ _ _ (c.in_ok-with_drains.ensures.model files drains)
-    (c.ghb_in.ensures.model files agree)))
+    goes_on (λ m. m) c.list_in-4.result _ _ _ (c.in_ok-with_wells.ensures.model files (c.in_ok-with_rivers.ensures.since files rivers))
+    (goes_on (λ m. m) c.list_in-4.result _ _ _ (c.in_ok-with_rivers.ensures.model files rivers)
+    (goes_on (λ m. m) c.list_in-4.result _ _ _ (c.in_ok-with_drains.ensures.model files drains)
+    (c.list_in-4.ensures.model files agree)))

@@ -5,7 +5,7 @@ use Rattle.record_lines.proofs.Each.{no_items, each_goes_on, each_stops, each_do
 use Rattle.array_reader.proofs.ListLemmas.{all_pushed}
 use Rattle.list_package.proofs.PeriodLemmas.{one_more_same, all_same}
 use Rattle.evt_package.specs.Forms.{AreArrays, without}
-use Rattle.evt_package.proofs.periods.with_arrays.Goals as goal
+use Rattle.evt_package.proofs.periods.with_evaporation.Goals as goal
 
 pub returns-in_err-period-clause-periods : goal.returns-in_err-period-clause-periods
 returns-in_err-period-clause-periods g c = λ files agree.

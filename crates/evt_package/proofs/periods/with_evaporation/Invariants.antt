@@ -6,7 +6,7 @@ use Rattle.record_lines.specs.Reading.{for_each}
 use Rattle.record_lines.proofs.Loops.{with_front}
 use Rattle.evt_package.specs.Forms.{AreArrays, AreLast, without}
 use Rattle.evt_package.specs.Evaporation.{period_at}
-use Rattle.evt_package.proofs.periods.with_arrays.Given as goal
+use Rattle.evt_package.proofs.periods.with_evaporation.Given as goal
 
 abbrev pub invariant-loop-period : goal.invariant-loop-period
 invariant-loop-period g l =

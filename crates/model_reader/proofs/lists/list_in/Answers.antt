@@ -1,0 +1,6 @@
+use Rattle.std.proofs.Common.{sym}
+use Rattle.model_reader.proofs.Chains.{named_read}
+use Rattle.model_reader.proofs.lists.list_in.Goals as goal
+
+pub returns-in_ok-read-in-Some-clause-model : goal.returns-in_ok-read-in-Some-clause-model
+returns-in_ok-read-in-Some-clause-model g c = λ files agree. named_read files _ g.L.ListPackage.reading _ _ _ _ _ (sym c.in-Some.ensures.file) (c.in_ok-bytes-in-Some.ensures.bytes files agree) c.in_ok-bytes-in-Some.ensures.same (rw c.deref.ensures.value at c.in_ok-read-in-Some.ensures.model)
