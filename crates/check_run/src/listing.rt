@@ -2,6 +2,7 @@
 ghost use Rattle.std.specs.Prelude.{◌≡◌, ◌≤◌, length, IfOk};
 ghost use Rattle.model_types.specs.Valid.{IsModel};
 ghost use Rattle.listing_io.specs.Listed.{AreListed};
+ghost use Rattle.step_chain.specs.Keeps.{AreRunTables, digits_of};
 ghost use Rattle.check_run.specs.declared.verdict.Verdict.TheVariants.{Certified};
 ghost use Rattle.check_run.specs.Parts.{heads_before, IsVerdictAt};
 ghost use Rattle.check_run.specs.Verdicts.{IsVerdict, ListingEncloses};
@@ -39,6 +40,36 @@ fn verdict_at(at: TimeStep, fault: Fault) -> Result<Verdict, AllocError>
     }
 }
 
+// Checks a listing step by step. The tables are those of the run.
+fn check_steps(
+    alloc: Global,
+    model: &FlowModel,
+    tables: &mut RunTables,
+    listing: &Listing,
+) -> Result<Verdict, AllocError>
+    requires model { IsModel model.now }
+    requires digits { digits_of tables.old ≤ 18 }
+    requires listing { AreListed model.now listing.now }
+    requires tables { AreRunTables model.now tables.old }
+    ensures verdict { IfOk result (IsVerdict model.now (digits_of tables.old) listing.now) }
+    ensures only { IfOk result (λ v. (other : Verdict) → IsVerdict model.now (digits_of tables.old) listing.now other → other ≡ v) }
+    ensures encloses { IfOk result (λ v. v ≡ Certified → ListingEncloses model.now (digits_of tables.old) listing.now) }
+{
+    one_verdict();
+    let start = start_heads(alloc, model)?;
+    let times = times(alloc, model)?;
+    for (index, at) in times.as_slice().iter().enumerate() {
+        let old = heads_before(start.as_slice(), listing, index);
+        let heads = listing.heads(index);
+        let budget = listing.budget(index);
+        match check_listed(alloc, model, tables, *at, old, heads, budget) {
+            Ok(()) => {}
+            Err(fault) => return verdict_at(*at, fault),
+        }
+    }
+    Ok(Verdict::Certified)
+}
+
 /// Checks a listing of a model with s digits of conductances, step by step, each from the listed heads of the one
 /// before it, the first from STRT. The first step and place that fails is the verdict, or the first refusal.
 pub fn check_listing(
@@ -56,18 +87,8 @@ pub fn check_listing(
     // Where it is certified, every history that solves the model lies within it, whoever wrote it.
     ensures encloses { IfOk result (λ v. v ≡ Certified → ListingEncloses model.now s listing.now) }
 {
-    one_verdict();
-    let start = start_heads(alloc, model)?;
-    let times = times(alloc, model)?;
-    let mut tables = RunTables::new(alloc, model, s)?;
-    for (index, at) in times.as_slice().iter().enumerate() {
-        let old = heads_before(start.as_slice(), listing, index);
-        let heads = listing.heads(index);
-        let budget = listing.budget(index);
-        match check_listed(alloc, model, &mut tables, *at, old, heads, budget) {
-            Ok(()) => {}
-            Err(fault) => return verdict_at(*at, fault),
-        }
+    match RunTables::new(alloc, model, s) {
+        Ok(mut tables) => check_steps(alloc, model, &mut tables, listing),
+        Err(fault) => Err(fault),
     }
-    Ok(Verdict::Certified)
 }

@@ -1,5 +1,5 @@
 // The check of a listing of the folder.
-ghost use Rattle.std.specs.Prelude.{◌≡◌, ◌≤◌, List, ◌++◌, IfOk, IfSome, MatchResult, Option, Some};
+ghost use Rattle.std.specs.Prelude.{◌≡◌, ◌≤◌, List, ◌++◌, Ok, IfOk, IfSome, MatchResult, Option, Some};
 ghost use Rattle.outside.specs.Counts.{InputCounts};
 ghost use Rattle.outside.specs.Files.{File};
 ghost use Rattle.outside.specs.Puts.{Put};
@@ -11,7 +11,7 @@ ghost use Rattle.run_puts.specs.Runs.{IsRun};
 ghost use Rattle.engine.specs.Checked.{IsCheck};
 ghost use Rattle.engine.specs.Cases.{asked_in, Check};
 ghost use Rattle.engine.specs.Commands.{check_of};
-ghost use Rattle.engine.specs.Parts.{Answers, IsListedAs, IsUncut, IsVerdictEnd};
+ghost use Rattle.engine.specs.Parts.{Answers, IsListedAs, IsReadAs, IsUncut, IsVerdictEnd};
 
 use crate::asked::AskedCheck;
 use crate::ending::end_reading;
@@ -111,6 +111,27 @@ pub(crate) fn put_check<K: Sink>(
     }
 }
 
+// Reads a listing of a model, and puts the line of its verdict.
+fn check_model<'a, F: Folder, K: Sink>(
+    alloc: Global,
+    asked: AskedCheck<'a>,
+    model: &FlowModel,
+    folder: &mut F,
+    out: &mut K,
+) -> Status
+    requires digits { asked.digits ≤ 18 }
+    requires model { IsModel model.now }
+    ensures since { (files : List File) → F.agrees folder.new files → F.agrees folder.old files }
+    ensures answers { (start : _) (puts : List Put) → K.leads start puts out.old →
+        (more : List Put) × K.leads start (puts ++ more) out.new
+        × ((words : List Text) → asked_in words ≡ Some (Check (check_of asked.entry)) → (files : Option (List File)) → IfSome files (F.agrees folder.new) → IsReadAs (check_of asked.entry).name files (Ok model.now) → Answers words files (F.faults folder.old) (F.faults folder.new) result more) }
+{
+    match read_listed(alloc, folder, model, asked) {
+        Ok(listing) => put_check(alloc, model, &listing, asked.digits, out),
+        Err(fault) => end_reading(alloc, fault, out),
+    }
+}
+
 /// Reads a model of the folder and a listing of it, and puts the line of its verdict.
 pub(crate) fn check<'a, F: Folder, K: Sink>(
     alloc: Global,
@@ -124,12 +145,8 @@ pub(crate) fn check<'a, F: Folder, K: Sink>(
         (more : List Put) × K.leads start (puts ++ more) out.new
         × ((words : List Text) → asked_in words ≡ Some (Check (check_of asked.entry)) → (files : Option (List File)) → IfSome files (F.agrees folder.new) → Answers words files (F.faults folder.old) (F.faults folder.new) result more) }
 {
-    let model = match read_named(alloc, folder, asked.name) {
-        Ok(model) => model,
-        Err(fault) => return end_reading(alloc, fault, out),
-    };
-    match read_listed(alloc, folder, &model, asked) {
-        Ok(listing) => put_check(alloc, &model, &listing, asked.digits, out),
+    match read_named(alloc, folder, asked.name) {
+        Ok(model) => check_model(alloc, asked, &model, folder, out),
         Err(fault) => end_reading(alloc, fault, out),
     }
 }

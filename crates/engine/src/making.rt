@@ -1,10 +1,12 @@
 // A model that is made of a seed, and the summary of its listing.
-ghost use Rattle.std.specs.Prelude.{◌≡◌, List, ◌++◌, IfOk, IfErr};
+ghost use Rattle.std.specs.Prelude.{◌≡◌, List, ◌++◌, Ok, IfOk, IfErr};
 ghost use Rattle.outside.specs.Puts.{Put};
 ghost use Rattle.step_problem.specs.Heads.{IsBarrier};
 ghost use Rattle.step_problem.specs.Settling.{Settles};
+ghost use Rattle.model_types.specs.Valid.{IsModel};
 ghost use Rattle.listing_run.specs.Ends.{IsTask};
 ghost use Rattle.listing_summary.specs.Ends.{IsSummarized, StopsBy};
+ghost use Rattle.engine.specs.Cases.{made_model};
 ghost use Rattle.engine.specs.Commands.{IsMakeable};
 ghost use Rattle.engine.specs.Parts.{IsMadeRun, IsSummaryEnd, IsUnreadEnd};
 
@@ -14,6 +16,7 @@ use listing_io::{write_no_bound, write_refused, write_unfinished};
 use listing_run::Task;
 use listing_summary::{Stop, Summary, summarize, write_summary};
 use model_maker::{NAME, make};
+use model_types::FlowModel;
 use near_settler::NearSettler;
 use outside::{Gate, InputFault, Sink};
 use run_puts::{Status, put_last, put_memory};
@@ -99,6 +102,30 @@ fn end_unread<K: Sink>(alloc: Global, fault: InputFault, out: &mut K) -> Status
     }
 }
 
+// Puts the summary of the listing of a model, or the last line of a listing that isn't whole.
+fn put_summary<R: Threads + Sync, K: Sink, G: Gate + Sync>(
+    rt: &R,
+    alloc: Global,
+    seed: u32,
+    size: u32,
+    model: FlowModel,
+    out: &mut K,
+    gate: &G,
+) -> Status
+    requires { IsModel model }
+    ensures { (start : _) (puts : List Put) → K.leads start puts out.old →
+        (more : List Put) × K.leads start (puts ++ more) out.new × (made_model seed size ≡ Ok model → IsMadeRun seed size result more) }
+{
+    let task = Task {
+        model,
+        digits: MADE_DIGITS,
+        zones: None,
+        rounds: MADE_PLAN.rounds,
+    };
+    let summed = summarize_by_workers(rt, alloc, &task, gate);
+    end_summary(alloc, seed, size, &task, summed, out)
+}
+
 /// Makes the model of a seed and a size, reads its files as those of a folder are read, and puts the summary of its
 /// listing, or the last line of a listing that isn't whole.
 pub(crate) fn put_made<R: Threads + Sync, K: Sink, G: Gate + Sync>(
@@ -117,16 +144,7 @@ pub(crate) fn put_made<R: Threads + Sync, K: Sink, G: Gate + Sync>(
         return put_memory(out);
     };
     match read_named(alloc, &mut folder, NAME) {
-        Ok(model) => {
-            let task = Task {
-                model,
-                digits: MADE_DIGITS,
-                zones: None,
-                rounds: MADE_PLAN.rounds,
-            };
-            let summed = summarize_by_workers(rt, alloc, &task, gate);
-            end_summary(alloc, seed, size, &task, summed, out)
-        }
+        Ok(model) => put_summary(rt, alloc, seed, size, model, out, gate),
         Err(fault) => end_unread(alloc, fault, out),
     }
 }

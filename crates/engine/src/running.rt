@@ -2,9 +2,12 @@ ghost use Rattle.std.specs.Prelude.{◌≡◌, ◌⊎◌, ℕ, List, [], ◌++�
 ghost use Rattle.outside.specs.Files.{File};
 ghost use Rattle.outside.specs.Puts.{Put};
 ghost use Rattle.outside.specs.Counts.{Rose};
+ghost use Rattle.model_types.specs.Valid.{IsModel};
+ghost use Rattle.run_puts.specs.Runs.{IsRun};
+ghost use Rattle.listing_run.specs.Listing.{IsListing, IsCutListing};
 ghost use Rattle.engine.specs.Headline.{Headline};
 ghost use Rattle.engine.specs.Runs.{Puts, Decided, Comes};
-ghost use Rattle.engine.specs.Cases.{asked_in, AskedCheck, Check, Make, Run};
+ghost use Rattle.engine.specs.Cases.{asked_in, task_of, AskedCheck, Check, Make, Run};
 ghost use Rattle.engine.specs.Commands.{asked_of, IsAsked};
 ghost use Rattle.engine.specs.Made.{Made};
 ghost use Rattle.engine.specs.Certified.{Certified};
@@ -20,6 +23,7 @@ use check_run::laws::one_verdict;
 use command_line::{WordsFault, read_order};
 use listing_run::Task;
 use listing_run::laws::one_listing;
+use model_types::FlowModel;
 use outside::{Folder, Gate, Sink};
 use run_puts::{Status, put_last, put_memory};
 use std::alloc::Global;
@@ -108,6 +112,29 @@ fn answer<R: Threads + Sync, F: Folder, K: Sink + Send, G: Gate + Sync>(
     }
 }
 
+// Puts the listing of a model.
+fn put_model<'a, R: Threads + Sync, K: Sink + Send, G: Gate + Sync>(
+    rt: &R,
+    alloc: Global,
+    asked: Asked<'a>,
+    model: FlowModel,
+    out: &mut K,
+    gate: &G,
+) -> Status
+    requires asked { IsAsked asked }
+    requires model { IsModel model }
+    ensures { (start : _) (puts : List Put) → K.leads start puts out.old →
+        (more : List Put) × K.leads start (puts ++ more) out.new × IsRun (IsListing (task_of (asked_of asked.entry) model)) (IsCutListing (task_of (asked_of asked.entry) model)) result more }
+{
+    let task = Task {
+        model,
+        digits: asked.digits,
+        zones: None,
+        rounds: asked.plan.rounds,
+    };
+    put_listing(rt, alloc, &task, asked.plan, out, gate)
+}
+
 // Puts the listing of a model of the folder.
 fn list<'a, R: Threads + Sync, F: Folder, K: Sink + Send, G: Gate + Sync>(
     rt: &R,
@@ -124,15 +151,7 @@ fn list<'a, R: Threads + Sync, F: Folder, K: Sink + Send, G: Gate + Sync>(
         × ((words : List (List ℕ)) → asked_in words ≡ Some (Run (asked_of asked.entry)) → (files : Option (List File)) → IfSome files (F.agrees folder.new) → Answers words files (F.faults folder.old) (F.faults folder.new) result more) }
 {
     match read_named(alloc, folder, asked.name) {
-        Ok(model) => {
-            let task = Task {
-                model,
-                digits: asked.digits,
-                zones: None,
-                rounds: asked.plan.rounds,
-            };
-            put_listing(rt, alloc, &task, asked.plan, out, gate)
-        }
+        Ok(model) => put_model(rt, alloc, asked, model, out, gate),
         Err(fault) => end_reading(alloc, fault, out),
     }
 }

@@ -1,6 +1,5 @@
 -- The pieces of a listing.
 use Rattle.std.specs.Prelude.{◌≡◌, ℕ, List, [], ◌∷◌, ◌++◌, map}
-use Rattle.step_problem.specs.declared.place.NoBound.{NoBound}
 use Rattle.model_types.specs.declared.time_steps.TimeStep.{TimeStep}
 use Rattle.listing_io.specs.Listing.{first_text, step_text}
 use Rattle.listing_io.specs.LastLines.{no_bound_line, unfinished_line}

@@ -5,20 +5,18 @@ ghost use Rattle.model_types.specs.Times.{times};
 ghost use Rattle.problem_builder.specs.GridHeads.{AreGridHeads, HeadsEnclose};
 ghost use Rattle.problem_builder.specs.StartHeads.{AreStartHeads};
 ghost use Rattle.listing_io.specs.Listing.{first_text};
-ghost use Rattle.listing_run.specs.Ends.{IsTask, AreTablesOf};
+ghost use Rattle.listing_run.specs.Ends.{IsTask};
 
 use crate::task::Task;
 use listing_io::write_first;
 use model_types::{TimeStep, times};
 use problem_builder::start_heads;
 use std::alloc::{AllocError, Global};
-use step_chain::RunTables;
 use step_problem::Bound;
 
-/// The tables of a model, its times, the bounds of STRT, and the first line of its listing.
+/// The times of a model, the bounds of STRT, and the first line of its listing.
 #[derive(Debug, Drop)]
 pub(crate) struct Begun {
-    pub tables: RunTables,
     pub times: Vec<TimeStep>,
     pub old: Vec<Bound>,
     pub pending: Vec<u8>,
@@ -27,7 +25,6 @@ pub(crate) struct Begun {
 /// What a run over the steps of a task begins with.
 pub(crate) fn begin(alloc: Global, task: &Task) -> Result<Begun, AllocError>
     requires { IsTask task.now }
-    ensures tables { IfOk result (λ b. AreTablesOf task.now b.tables) }
     ensures times { IfOk result (λ b. b.times.items ≡ times task.now.model) }
     ensures start { IfOk result (λ b. AreStartHeads task.now.model b.old.items) }
     ensures heads { IfOk result (λ b. AreGridHeads task.now.model b.old.items) }
@@ -36,7 +33,6 @@ pub(crate) fn begin(alloc: Global, task: &Task) -> Result<Begun, AllocError>
 {
     let model = &task.model;
     Ok(Begun {
-        tables: RunTables::new(alloc, model, task.digits)?,
         times: times(alloc, model)?,
         old: start_heads(alloc, model)?,
         pending: write_first(alloc, model, task.digits)?,

@@ -99,18 +99,19 @@ fn end_at<K: Sink>(alloc: Global, task: &Task, at: TimeStep, fault: Fault, out: 
     }
 }
 
-/// Puts the listing of a task: the first line, each step while the next one is solved, and the last line. A failed
-/// put ends it before what the next step gave.
-pub fn put_steps<R: Threads + Sync, K: Sink + Send, S: Settler>(
+// Puts the first line, each step while the next one is solved, and the last line.
+fn put_listing<R: Threads + Sync, K: Sink + Send, S: Settler>(
     rt: &R,
     alloc: Global,
     task: &Task,
+    tables: &mut RunTables,
     settler: &mut S,
     out: &mut K,
 ) -> Status
     requires ready { S.ready settler.old }
     requires rounds { S.rounds settler.old ≡ task.now.rounds }
     requires task { IsTask task.now }
+    requires tables { AreTablesOf task.now tables.old }
     ensures { (start : _) (puts : List Put) → K.leads start puts out.old →
         (more : List Put) × K.leads start (puts ++ more) out.new × IsRun (IsListing task.now) (IsCutListing task.now) result more }
 {
@@ -118,7 +119,6 @@ pub fn put_steps<R: Threads + Sync, K: Sink + Send, S: Settler>(
         return put_memory(out);
     };
     let Begun {
-        mut tables,
         times,
         mut old,
         mut pending,
@@ -128,7 +128,7 @@ pub fn put_steps<R: Threads + Sync, K: Sink + Send, S: Settler>(
             rt,
             alloc,
             task,
-            &mut tables,
+            tables,
             settler,
             out,
             pending.as_slice(),
@@ -150,4 +150,25 @@ pub fn put_steps<R: Threads + Sync, K: Sink + Send, S: Settler>(
         return status;
     }
     put_last(out, b"END\n", Status::Ok)
+}
+
+/// Puts the listing of a task: the first line, each step while the next one is solved, and the last line. A failed
+/// put ends it before what the next step gave.
+pub fn put_steps<R: Threads + Sync, K: Sink + Send, S: Settler>(
+    rt: &R,
+    alloc: Global,
+    task: &Task,
+    settler: &mut S,
+    out: &mut K,
+) -> Status
+    requires ready { S.ready settler.old }
+    requires rounds { S.rounds settler.old ≡ task.now.rounds }
+    requires task { IsTask task.now }
+    ensures { (start : _) (puts : List Put) → K.leads start puts out.old →
+        (more : List Put) × K.leads start (puts ++ more) out.new × IsRun (IsListing task.now) (IsCutListing task.now) result more }
+{
+    match RunTables::new(alloc, &task.model, task.digits) {
+        Ok(mut tables) => put_listing(rt, alloc, task, &mut tables, settler, out),
+        Err(_) => put_memory(out),
+    }
 }

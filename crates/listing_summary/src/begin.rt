@@ -4,19 +4,17 @@ ghost use Rattle.model_types.specs.Heads.{start_head};
 ghost use Rattle.model_types.specs.Times.{times};
 ghost use Rattle.problem_builder.specs.GridHeads.{AreGridHeads, HeadsEnclose};
 ghost use Rattle.problem_builder.specs.StartHeads.{AreStartHeads};
-ghost use Rattle.listing_run.specs.Ends.{IsTask, AreTablesOf};
+ghost use Rattle.listing_run.specs.Ends.{IsTask};
 
 use listing_run::Task;
 use model_types::{TimeStep, times};
 use problem_builder::start_heads;
 use std::alloc::{AllocError, Global};
-use step_chain::RunTables;
 use step_problem::Bound;
 
-/// The tables of a model, its times, and the bounds of STRT.
+/// The times of a model, and the bounds of STRT.
 #[derive(Debug, Drop)]
 pub(crate) struct Begun {
-    pub tables: RunTables,
     pub times: Vec<TimeStep>,
     pub old: Vec<Bound>,
 }
@@ -24,7 +22,6 @@ pub(crate) struct Begun {
 /// What the steps of a task begin with.
 pub(crate) fn begin(alloc: Global, task: &Task) -> Result<Begun, AllocError>
     requires { IsTask task.now }
-    ensures tables { IfOk result (λ b. AreTablesOf task.now b.tables) }
     ensures times { IfOk result (λ b. b.times.items ≡ times task.now.model) }
     ensures few { IfOk result (λ b. length b.times.items ≤ 100000) }
     ensures start { IfOk result (λ b. AreStartHeads task.now.model b.old.items) }
@@ -33,7 +30,6 @@ pub(crate) fn begin(alloc: Global, task: &Task) -> Result<Begun, AllocError>
 {
     let model = &task.model;
     Ok(Begun {
-        tables: RunTables::new(alloc, model, task.digits)?,
         times: times(alloc, model)?,
         old: start_heads(alloc, model)?,
     })

@@ -1,9 +1,9 @@
 // The model that the builder's example is about, made in code.
-ghost use Rattle.std.specs.Prelude.{◌≡◌, ◌∷◌, [], IfOk};
+ghost use Rattle.std.specs.Prelude.{◌≡◌, ◌∷◌, [], pos, neg_ℤ, false, IfOk};
 ghost use Rattle.problem_builder.specs.Example.{whole, thousandths, first_cell, example_grid, example_period, example_model, twice};
 
 use decimal_input::dec::Dec;
-use model_types::{CellId, Entry, FlowModel, Grid, Listed, Period, Shared};
+use model_types::{CellId, Entry, FlowModel, Given, Grid, Listed, Period, Shared};
 use std::alloc::{AllocError, Global};
 
 const FIRST: CellId = CellId(0);
@@ -64,10 +64,28 @@ fn grid(alloc: Global) -> Result<Grid, AllocError>
     })
 }
 
-fn period(alloc: Global, q: Dec) -> Result<Period, AllocError>
-    ensures { IfOk result (λ p. p ≡ example_period q) }
+fn one(alloc: Global, entry: Entry) -> Result<Shared<Entry>, AllocError>
+    ensures { IfOk result (λ l. l ≡ entry ∷ []) }
 {
-    let well = Entry::Well { cell: FIRST, q };
+    let list = vec![in alloc; entry]?;
+    Shared::new(alloc, list)
+}
+
+/// The lists of the example's period.
+#[derive(Drop)]
+struct Lists {
+    wells: Shared<Entry>,
+    rivers: Shared<Entry>,
+    drains: Shared<Entry>,
+    generals: Shared<Entry>,
+}
+
+fn make_lists(alloc: Global, q: Dec) -> Result<Lists, AllocError>
+    ensures wells { IfOk result (λ l. l.wells ≡ (example_period q).wells) }
+    ensures rivers { IfOk result (λ l. l.rivers ≡ (example_period q).rivers) }
+    ensures drains { IfOk result (λ l. l.drains ≡ (example_period q).drains) }
+    ensures generals { IfOk result (λ l. l.generals ≡ (example_period q).generals) }
+{
     let river = Entry::River {
         cell: FIRST,
         stage: whole(4),
@@ -84,43 +102,150 @@ fn period(alloc: Global, q: Dec) -> Result<Period, AllocError>
         head: whole(6),
         cond: whole(1),
     };
-    Ok(Period {
+    Ok(Lists {
+        wells: one(alloc, Entry::Well { cell: FIRST, q })?,
+        rivers: one(alloc, river)?,
+        drains: one(alloc, drain)?,
+        generals: one(alloc, general)?,
+    })
+}
+
+/// The arrays of the example's period.
+#[derive(Drop)]
+struct Arrays {
+    recharge: Shared<Dec>,
+    surf: Shared<Dec>,
+    evtr: Shared<Dec>,
+    exdp: Shared<Dec>,
+}
+
+fn make_arrays(alloc: Global) -> Result<Arrays, AllocError>
+    ensures recharge { IfOk result (λ a. a.recharge ≡ twice (thousandths 1)) }
+    ensures surf { IfOk result (λ a. a.surf ≡ twice (whole 7)) }
+    ensures evtr { IfOk result (λ a. a.evtr ≡ twice (thousandths 2)) }
+    ensures exdp { IfOk result (λ a. a.exdp ≡ twice (whole 2)) }
+{
+    Ok(Arrays {
+        recharge: shared(alloc, thousandths(1))?,
+        surf: shared(alloc, whole(7))?,
+        evtr: shared(alloc, thousandths(2))?,
+        exdp: shared(alloc, whole(2))?,
+    })
+}
+
+/// The lists that the example's period has no entries of.
+#[derive(Drop)]
+struct Empty {
+    given: Shared<Given>,
+    irch: Shared<i64>,
+    ievt: Shared<i64>,
+}
+
+fn make_empty(alloc: Global) -> Result<Empty, AllocError>
+    ensures given { IfOk result (λ e. e.given ≡ []) }
+    ensures irch { IfOk result (λ e. e.irch ≡ []) }
+    ensures ievt { IfOk result (λ e. e.ievt ≡ []) }
+{
+    Ok(Empty {
+        given: Shared::new(alloc, Vec::new(alloc))?,
+        irch: Shared::new(alloc, Vec::new(alloc))?,
+        ievt: Shared::new(alloc, Vec::new(alloc))?,
+    })
+}
+
+fn period_of(lists: Lists, arrays: Arrays, empty: Empty) -> Period
+    ensures { result ≡ record { perlen = whole 1; nstp = 1; tsmult = whole 1; steady = false; wells = lists.wells; rivers = lists.rivers; drains = lists.drains; generals = lists.generals; given = empty.given; recharge = arrays.recharge; irch = empty.irch; surf = arrays.surf; evtr = arrays.evtr; exdp = arrays.exdp; ievt = empty.ievt } }
+{
+    Period {
         perlen: whole(1),
         nstp: 1,
         tsmult: whole(1),
         steady: false,
-        wells: Shared::new(alloc, vec![in alloc; well]?)?,
-        rivers: Shared::new(alloc, vec![in alloc; river]?)?,
-        drains: Shared::new(alloc, vec![in alloc; drain]?)?,
-        generals: Shared::new(alloc, vec![in alloc; general]?)?,
-        given: Shared::new(alloc, Vec::new(alloc))?,
-        recharge: shared(alloc, thousandths(1))?,
-        irch: Shared::new(alloc, Vec::new(alloc))?,
-        surf: shared(alloc, whole(7))?,
-        evtr: shared(alloc, thousandths(2))?,
-        exdp: shared(alloc, whole(2))?,
-        ievt: Shared::new(alloc, Vec::new(alloc))?,
+        wells: lists.wells,
+        rivers: lists.rivers,
+        drains: lists.drains,
+        generals: lists.generals,
+        given: empty.given,
+        recharge: arrays.recharge,
+        irch: empty.irch,
+        surf: arrays.surf,
+        evtr: arrays.evtr,
+        exdp: arrays.exdp,
+        ievt: empty.ievt,
+    }
+}
+
+fn make_periods(alloc: Global, q: Dec) -> Result<Vec<Period>, AllocError>
+    ensures { IfOk result (λ v. v.items ≡ example_period q ∷ []) }
+{
+    let lists = make_lists(alloc, q)?;
+    let arrays = make_arrays(alloc)?;
+    let empty = make_empty(alloc)?;
+    Ok(vec![in alloc; period_of(lists, arrays, empty)]?)
+}
+
+/// What the example's cells have.
+#[derive(Drop)]
+struct Cells {
+    ibound: Listed<i64>,
+    strt: Listed<Dec>,
+    layvka: Listed<i64>,
+    hk: Listed<Dec>,
+    hani: Listed<Dec>,
+    vka: Listed<Dec>,
+    ss: Listed<Dec>,
+    vkcb: Listed<Dec>,
+}
+
+fn make_cells(alloc: Global, hk: Dec) -> Result<Cells, AllocError>
+    ensures ibound { IfOk result (λ c. c.ibound ≡ pos 1 ∷ neg_ℤ (pos 1) ∷ []) }
+    ensures strt { IfOk result (λ c. c.strt ≡ twice (whole 5)) }
+    ensures layvka { IfOk result (λ c. c.layvka ≡ pos 0 ∷ []) }
+    ensures hk { IfOk result (λ c. c.hk ≡ twice hk) }
+    ensures hani { IfOk result (λ c. c.hani ≡ twice (whole 1)) }
+    ensures vka { IfOk result (λ c. c.vka ≡ twice (whole 1)) }
+    ensures ss { IfOk result (λ c. c.ss ≡ twice (whole 1)) }
+    ensures vkcb { IfOk result (λ c. c.vkcb ≡ twice (whole 0)) }
+{
+    Ok(Cells {
+        ibound: Listed::new(vec![in alloc; 1i64, -1]?),
+        strt: listed(alloc, whole(5))?,
+        layvka: Listed::new(vec![in alloc; 0i64]?),
+        hk: listed(alloc, hk)?,
+        hani: listed(alloc, whole(1))?,
+        vka: listed(alloc, whole(1))?,
+        ss: listed(alloc, whole(1))?,
+        vkcb: listed(alloc, whole(0))?,
     })
+}
+
+fn model_of(grid: Grid, cells: Cells, periods: Vec<Period>) -> FlowModel
+    ensures { result ≡ record { grid = grid; lenuni = pos 2; ibound = cells.ibound; strt = cells.strt; layvka = cells.layvka; coefficient = false; hk = cells.hk; hani = cells.hani; vka = cells.vka; ss = cells.ss; vkcb = cells.vkcb; nrchop = pos 3; nevtop = pos 3; periods = periods.items } }
+{
+    FlowModel {
+        grid,
+        lenuni: 2,
+        ibound: cells.ibound,
+        strt: cells.strt,
+        layvka: cells.layvka,
+        coefficient: false,
+        hk: cells.hk,
+        hani: cells.hani,
+        vka: cells.vka,
+        ss: cells.ss,
+        vkcb: cells.vkcb,
+        nrchop: 3,
+        nevtop: 3,
+        periods: Listed::new(periods),
+    }
 }
 
 /// The model of the builder's example, with this HK and this flow of the well.
 pub fn example(alloc: Global, hk: Dec, q: Dec) -> Result<FlowModel, AllocError>
     ensures { IfOk result (λ m. m ≡ example_model hk q) }
 {
-    Ok(FlowModel {
-        grid: grid(alloc)?,
-        lenuni: 2,
-        ibound: Listed::new(vec![in alloc; 1i64, -1]?),
-        strt: listed(alloc, whole(5))?,
-        layvka: Listed::new(vec![in alloc; 0i64]?),
-        coefficient: false,
-        hk: listed(alloc, hk)?,
-        hani: listed(alloc, whole(1))?,
-        vka: listed(alloc, whole(1))?,
-        ss: listed(alloc, whole(1))?,
-        vkcb: listed(alloc, whole(0))?,
-        nrchop: 3,
-        nevtop: 3,
-        periods: Listed::new(vec![in alloc; period(alloc, q)?]?),
-    })
+    let periods = make_periods(alloc, q)?;
+    let cells = make_cells(alloc, hk)?;
+    let grid = grid(alloc)?;
+    Ok(model_of(grid, cells, periods))
 }

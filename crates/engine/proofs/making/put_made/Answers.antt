@@ -1,6 +1,6 @@
-use Rattle.std.proofs.Common.{◌∙◌, ap, rules, refl, Err, Ok, Some}
+use Rattle.std.proofs.Common.{◌∙◌, ap, refl, Err, Ok, Some}
 use Rattle.outside.specs.Memory.{FolderState}
-use Rattle.engine.proofs.Summed.{made_lacking, made_reading, made_summed, made_unread}
+use Rattle.engine.proofs.Summed.{made_lacking, made_reading, made_unread}
 use Rattle.engine.proofs.making.put_made.Goals as goal
 
 pub returns-in_default : goal.returns-in_default
@@ -10,10 +10,10 @@ returns-in_default g c = λ start puts h.
 
 pub returns-in-Ok-read_named : goal.returns-in-Ok-read_named
 returns-in-Ok-read_named g c = λ start puts h.
-    let m = c.end_summary.ensures start puts h in
+    let m = c.put_summary.ensures start puts h in
     let files = c.in-Ok-read_named.ensures.since c.read_named.new.folder.files refl ∙ ap (λ (f : FolderState). f.files) c.in-Ok.ensures in
     let read = made_reading c.args.seed c.args.size c.read_named.new.folder.files (Ok c.in-Ok-read_named.model) files (c.in-Ok-read_named.ensures.reads (Some c.read_named.new.folder.files) refl) in
-    (m.0, m.1, made_summed c.args.seed c.args.size c.in-Ok-read_named.model c.summarize_by_workers-summed.result c.end_summary.result m.0 read c.in-Ok-read_named.ensures.model (search rules) m.2)
+    (m.0, m.1, m.2 read)
 
 pub returns : goal.returns
 returns g c = λ start puts h.

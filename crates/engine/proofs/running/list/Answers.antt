@@ -4,8 +4,8 @@ use Rattle.engine.proofs.running.list.Goals as goal
 
 pub returns-in-Ok-clause-answers : goal.returns-in-Ok-clause-answers
 returns-in-Ok-clause-answers g c = λ start puts h.
-    let m = c.put_listing.ensures start puts h in
-    (m.0, m.1, λ words wanted files agree. ends_listing words files (g.F.Folder.faults c.args.folder.now) _ (asked_of c.args.asked) wanted c.in-Ok.model c.put_listing.result m.0 (c.in-Ok.ensures.reads files agree) c.in-Ok.ensures.model m.2)
+    let m = c.put_model.ensures start puts h in
+    (m.0, m.1, λ words wanted files agree. ends_listing words files (g.F.Folder.faults c.args.folder.now) _ (asked_of c.args.asked) wanted c.in-Ok.model c.put_model.result m.0 (c.in-Ok.ensures.reads files agree) c.in-Ok.ensures.model m.2)
 
 pub returns-in-Err-clause-answers : goal.returns-in-Err-clause-answers
 returns-in-Err-clause-answers g c = λ start puts h.

@@ -4,7 +4,7 @@ use Rattle.model_types.specs.Times.{times}
 use Rattle.problem_builder.specs.GridHeads.{AreGridHeads}
 use Rattle.listing_run.specs.Ends.{AreTablesOf}
 use Rattle.listing_run.proofs.UnderWay.{IsUnderWay}
-use Rattle.listing_run.proofs.putting.put_steps.Given as goal
+use Rattle.listing_run.proofs.putting.put_listing.Given as goal
 
 abbrev pub invariant-loop-at : goal.invariant-loop-at
 invariant-loop-at g l = record {

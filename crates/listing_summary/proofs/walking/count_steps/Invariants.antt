@@ -4,7 +4,7 @@ use Rattle.problem_builder.specs.GridHeads.{AreGridHeads}
 use Rattle.listing_run.specs.Ends.{AreTablesOf}
 use Rattle.listing_summary.specs.Counting.{Fits}
 use Rattle.listing_summary.proofs.Walks.{IsCounted}
-use Rattle.listing_summary.proofs.walking.summarize.Given as goal
+use Rattle.listing_summary.proofs.walking.count_steps.Given as goal
 
 abbrev pub invariant-loop-at : goal.invariant-loop-at
 invariant-loop-at g l = record {

@@ -3,11 +3,11 @@ use Rattle.model_types.specs.Times.{times}
 use Rattle.step_chain.specs.Keeps.{AreRunTables, digits_of}
 use Rattle.check_run.specs.Parts.{heads_before}
 use Rattle.check_run.proofs.Checking.{IsSoFar}
-use Rattle.check_run.proofs.listing.check_listing.Given as goal
+use Rattle.check_run.proofs.listing.check_steps.Given as goal
 
 abbrev pub invariant-loop-index : goal.invariant-loop-index
 invariant-loop-index l = record {
-  digits : digits_of l.tables ≡ l.s;
+  digits : digits_of l.tables ≡ digits_of l.fn.tables;
   tables : AreRunTables l.model l.tables;
-  so_far : IsSoFar l.model l.s l.listing (heads_before l.start.items l.listing l.index) (drop l.index (times l.model)) (drop l.index l.listing);
+  so_far : IsSoFar l.model (digits_of l.fn.tables) l.listing (heads_before l.start.items l.listing l.index) (drop l.index (times l.model)) (drop l.index l.listing);
 }

@@ -7,7 +7,7 @@ use Rattle.listing_summary.specs.declared.summary.Summary.{Summary}
 use Rattle.listing_summary.specs.declared.stop.Stop.{Stop}
 use Rattle.listing_summary.specs.Ends.{StopsBy}
 use Rattle.listing_summary.proofs.Walks.{IsCounted, at_head, at_end, counted_at_first, counted_more, done, moves_at, stops}
-use Rattle.listing_summary.proofs.walking.summarize.Goals as goal
+use Rattle.listing_summary.proofs.walking.count_steps.Goals as goal
 
 pub loop-at-init : goal.loop-at-init
 loop-at-init g c =
@@ -16,7 +16,7 @@ loop-at-init g c =
     record {
       ready = c.requires.ready;
       rounds = c.requires.rounds;
-      tables = c.in-Ok.ensures.tables;
+      tables = c.requires.tables;
       old = c.in-Ok.ensures.heads;
       steps = omega (arith, steps);
       heads = omega (arith, heads);
