@@ -13,6 +13,3 @@ pub use raise::raise_to;
 pub use range::are_words;
 pub use sink::sink_to;
 pub use words::{raise_in, read_values, sink_in};
-
-#[cfg(test)]
-mod tests;

@@ -1,124 +1,110 @@
-// Conductances that are worked by hand, in units of 10 ^ -12.
-ghost use Rattle.conductance_bounds.specs.Calls.{IsHalf, IsColHalf, IsVertHalf};
-ghost use Rattle.model_types.specs.Numbers.{IsPositive};
+// Branches between neighbouring cells.
+ghost use Rattle.std.specs.Prelude.{IfSome};
+ghost use Rattle.conductance_bounds.specs.Calls.{IsHalf, IsColHalf, IsVertHalf, IsBed};
 
-use crate::numbers::{number, thick};
-use conductance_bounds::{Bed, ColHalf, Half, Pair, VertHalf, col_branch, row_branch, vert_branch};
-use decimal_input::dec::Dec;
+use crate::answers::Answer;
+use crate::words::Words;
+use conductance_bounds::{
+    Bed, ColHalf, Half, VertHalf, col_branch, row_branch, thickness, vert_branch,
+};
+use number_limits::is_thick;
 use scaled_decimal::Sd;
-use std::process::Abort;
-use std::test::Fail;
 
-// A half of length and thickness 1.
-fn row_half(rt: &impl Abort, hk: Dec) -> Half
-    requires hk { IsPositive hk }
-    ensures half { IsHalf result }
+fn row_half(words: &mut Words) -> Option<Half>
+    ensures { IfSome result IsHalf }
 {
-    let one = number(rt, 1, 0);
-    let t = thick(one);
-    Half {
-        along: one,
-        hk,
-        thick_lo: t.lo,
-        thick_hi: t.hi,
-    }
-}
-
-// A half of this length, of thickness 1, HK 1 and HANI 4.
-fn column_half(rt: &impl Abort, along: Dec) -> ColHalf
-    requires along { IsPositive along }
-    ensures half { IsColHalf result }
-{
-    let one = number(rt, 1, 0);
-    let t = thick(one);
-    ColHalf {
+    let along = words.positive()?;
+    let hk = words.positive()?;
+    let thick = words.thickness()?;
+    Some(Half {
         along,
-        hk: one,
-        hani: number(rt, 4, 0),
-        thick_lo: t.lo,
-        thick_hi: t.hi,
-    }
+        hk,
+        thick_lo: thick.lo,
+        thick_hi: thick.hi,
+    })
 }
 
-// A half of this thickness and vertical conductivity.
-fn layer_half(rt: &impl Abort, thickness: Dec, vka: Dec) -> VertHalf
-    requires thickness { IsPositive thickness }
-    requires vka { IsPositive vka }
-    ensures half { IsVertHalf result }
+pub fn row(words: &mut Words) -> Option<Answer> {
+    let first = row_half(words)?;
+    let second = row_half(words)?;
+    let width = words.positive()?;
+    let s = words.digits()?;
+    Some(Answer::Conductance(row_branch(&first, &second, width, s)))
+}
+
+fn column_half(words: &mut Words) -> Option<ColHalf>
+    ensures { IfSome result IsColHalf }
 {
-    let t = thick(thickness);
-    VertHalf {
-        hk: number(rt, 1, 0),
+    let along = words.positive()?;
+    let hk = words.positive()?;
+    let hani = words.positive()?;
+    let thick = words.thickness()?;
+    Some(ColHalf {
+        along,
+        hk,
+        hani,
+        thick_lo: thick.lo,
+        thick_hi: thick.hi,
+    })
+}
+
+pub fn column(words: &mut Words) -> Option<Answer> {
+    let first = column_half(words)?;
+    let second = column_half(words)?;
+    let width = words.positive()?;
+    let s = words.digits()?;
+    Some(Answer::Conductance(col_branch(&first, &second, width, s)))
+}
+
+fn vertical_half(words: &mut Words) -> Option<VertHalf>
+    ensures { IfSome result IsVertHalf }
+{
+    let layvka = words.count()?;
+    let hk = words.positive()?;
+    let vka = words.positive()?;
+    let thick = words.thickness()?;
+    Some(VertHalf {
+        hk,
         vka,
-        ratio: false,
-        thick_lo: t.lo,
-        thick_hi: t.hi,
+        ratio: layvka != 0,
+        thick_lo: thick.lo,
+        thick_hi: thick.hi,
+    })
+}
+
+// No bed where both elevations are the same.
+fn bed(words: &mut Words) -> Option<Bed>
+    ensures { IfSome result IsBed }
+{
+    let top = words.decimal()?;
+    let bottom = words.decimal()?;
+    let vkcb = words.positive()?;
+    if top == bottom {
+        let none = Sd { m: 0, e: 0 };
+        return Some(Bed {
+            thick_lo: none,
+            thick_hi: none,
+            vkcb,
+        });
     }
+    if !is_thick(top, bottom) {
+        return None;
+    }
+    let thick = thickness(top, bottom);
+    Some(Bed {
+        thick_lo: thick.lo,
+        thick_hi: thick.hi,
+        vkcb,
+    })
 }
 
-fn pair(lo: u64, hi: u64) -> Option<Pair> {
-    Some(Pair { lo, hi })
-}
-
-#[test]
-fn conductivities_of_1_and_2(rt: HostRuntime) -> Result<(), Fail> {
-    let a = row_half(&rt, number(&rt, 1, 0));
-    let b = row_half(&rt, number(&rt, 2, 0));
-    let bounds = row_branch(&a, &b, number(&rt, 1, 0), 12);
-    assert!(rt; bounds == pair(1_333_333_333_333, 1_333_333_333_334));
-    Ok(())
-}
-
-// The exact value is 1.5: the half of 1/6 is rounded before the sum.
-#[test]
-fn halves_are_rounded_before_their_sum(rt: HostRuntime) -> Result<(), Fail> {
-    let a = row_half(&rt, number(&rt, 1, 0));
-    let b = row_half(&rt, number(&rt, 3, 0));
-    let bounds = row_branch(&a, &b, number(&rt, 1, 0), 12);
-    assert!(rt; bounds == pair(1_499_999_999_999, 1_500_000_000_001));
-    Ok(())
-}
-
-// Lengths of 1 and 3, and a conductivity of 4 along the column.
-#[test]
-fn a_column_has_its_anisotropy(rt: HostRuntime) -> Result<(), Fail> {
-    let a = column_half(&rt, number(&rt, 1, 0));
-    let b = column_half(&rt, number(&rt, 3, 0));
-    let bounds = col_branch(&a, &b, number(&rt, 1, 0), 12);
-    assert!(rt; bounds == pair(2_000_000_000_000, 2_000_000_000_000));
-    Ok(())
-}
-
-#[test]
-fn layers_of_thickness_1_and_2(rt: HostRuntime) -> Result<(), Fail> {
-    let one = number(&rt, 1, 0);
-    let none = Sd { m: 0, e: 0 };
-    let bed = Bed {
-        thick_lo: none,
-        thick_hi: none,
-        vkcb: one,
-    };
-    let a = layer_half(&rt, one, one);
-    let b = layer_half(&rt, number(&rt, 2, 0), one);
-    let bounds = vert_branch(&a, &b, &bed, one, one, 12);
-    assert!(rt; bounds == pair(666_666_666_666, 666_666_666_667));
-    Ok(())
-}
-
-// Resistances of 1, 2 and 1.
-#[test]
-fn a_bed_lies_between_two_layers(rt: HostRuntime) -> Result<(), Fail> {
-    let one = number(&rt, 1, 0);
-    let slow = number(&rt, 5, -1);
-    let t = thick(one);
-    let bed = Bed {
-        thick_lo: t.lo,
-        thick_hi: t.hi,
-        vkcb: slow,
-    };
-    let a = layer_half(&rt, one, slow);
-    let b = layer_half(&rt, one, slow);
-    let bounds = vert_branch(&a, &b, &bed, one, one, 12);
-    assert!(rt; bounds == pair(250_000_000_000, 250_000_000_000));
-    Ok(())
+pub fn vertical(words: &mut Words) -> Option<Answer> {
+    let upper = vertical_half(words)?;
+    let lower = vertical_half(words)?;
+    let bed = bed(words)?;
+    let delr = words.positive()?;
+    let delc = words.positive()?;
+    let s = words.digits()?;
+    let bounds = vert_branch(&upper, &lower, &bed, delr, delc, s);
+    Some(Answer::Conductance(bounds))
 }

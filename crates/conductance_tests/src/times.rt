@@ -1,77 +1,56 @@
 // Time steps, storage and given heads.
-use crate::numbers::{ONE, head_number, multiplier, number, thick};
-use conductance_bounds::{Factors, HeadPair, Pair, Part, given_head, step_factors, storage_branch};
-use scaled_decimal::Sd;
-use std::test::Fail;
+ghost use Rattle.std.specs.Prelude.{◌≤◌, IfSome, IsTrue};
+ghost use Rattle.model_types.specs.Numbers.{IsPositive};
+ghost use Rattle.conductance_bounds.specs.Growth.{IsMultiplier, IsUsable};
 
-// The factors that are decimals: the sum of the steps' lengths and the length of a step.
-fn exactly(sum: Sd, power: Sd) -> Factors {
-    Factors {
-        sum_lo: sum,
-        sum_hi: sum,
-        power_lo: power,
-        power_hi: power,
+use crate::answers::Answer;
+use crate::words::Words;
+use conductance_bounds::{Factors, Part, given_head, step_factors, storage_branch};
+use decimal_input::dec::Dec;
+use number_limits::{is_at_least, is_at_most, is_one};
+
+// Whether TSMULT is 1, or from 0.001 to 1000 for at most a thousand steps.
+#[tactic(auto, using(number_limits::proofs::MagnitudeLemmas::at_least_thousandth, number_limits::proofs::MagnitudeLemmas::at_most_thousand))]
+fn is_multiplier(tsmult: Dec, nstp: u32) -> bool
+    requires { IsPositive tsmult }
+    ensures { IsTrue result → IsMultiplier tsmult nstp }
+{
+    is_one(tsmult) || (nstp <= 1000 && is_at_least(3, tsmult) && is_at_most(1000, tsmult))
+}
+
+fn step(words: &mut Words) -> Option<Factors>
+    ensures { IfSome result IsUsable }
+{
+    let tsmult = words.positive()?;
+    let nstp = words.count()?;
+    let step = words.count()?;
+    if nstp > 100_000 || step < 1 || step > nstp || !is_multiplier(tsmult, nstp) {
+        return None;
     }
+    Some(step_factors(tsmult, nstp, step))
 }
 
-#[test]
-fn a_hundred_thousand_equal_steps(rt: HostRuntime) -> Result<(), Fail> {
-    let factors = step_factors(ONE, 100_000, 70_000);
-    let sum = Sd {
-        m: 100_000_000_000_000_000,
-        e: -12,
-    };
-    let power = Sd {
-        m: 100_000_000_000_000_000,
-        e: -17,
-    };
-    assert!(rt; factors == exactly(sum, power));
-    Ok(())
+pub fn factors(words: &mut Words) -> Option<Answer> {
+    Some(Answer::Factors(step(words)?))
 }
 
-// Two steps of lengths 1 and 1.5: their sum is 2.5.
-#[test]
-fn the_second_of_two_growing_steps(rt: HostRuntime) -> Result<(), Fail> {
-    let factors = step_factors(multiplier(&rt, 15, -1), 2, 2);
-    let sum = Sd {
-        m: 250_000_000_000_000_000,
-        e: -17,
-    };
-    let power = Sd {
-        m: 150_000_000_000_000_000,
-        e: -17,
-    };
-    assert!(rt; factors == exactly(sum, power));
-    Ok(())
+pub fn storage(words: &mut Words) -> Option<Answer> {
+    let ss = words.not_negative()?;
+    let thick = words.thickness()?;
+    let delr = words.positive()?;
+    let delc = words.positive()?;
+    let factors = step(words)?;
+    let perlen = words.positive()?;
+    let s = words.digits()?;
+    let thick = Some((thick.lo, thick.hi));
+    let bounds = storage_branch(ss, thick, delr, delc, &factors, perlen, s);
+    Some(Answer::Conductance(bounds))
 }
 
-// The second step has 1.5 / 2.5 of the period's length of 1.
-#[test]
-fn storage_of_the_second_of_two_growing_steps(rt: HostRuntime) -> Result<(), Fail> {
-    let one = number(&rt, 1, 0);
-    let t = thick(one);
-    let factors = step_factors(multiplier(&rt, 15, -1), 2, 2);
-    let bounds = storage_branch(one, Some((t.lo, t.hi)), one, one, &factors, one, 12);
-    let expected = Pair {
-        lo: 1_666_666_666_666,
-        hi: 1_666_666_666_667,
-    };
-    assert!(rt; bounds == Some(expected));
-    Ok(())
-}
-
-// A third of the way from 20 to 30.
-#[test]
-fn a_head_after_a_third_of_its_period(rt: HostRuntime) -> Result<(), Fail> {
-    let part = Part {
-        lo: 333_333_333_333_333_333,
-        hi: 333_333_333_333_333_334,
-    };
-    let bounds = given_head(head_number(&rt, 2, 1), head_number(&rt, 3, 1), part);
-    let expected = HeadPair {
-        lo: 23_333_333_333,
-        hi: 23_333_333_334,
-    };
-    assert!(rt; bounds == expected);
-    Ok(())
+pub fn head(words: &mut Words) -> Option<Answer> {
+    let shead = words.head()?;
+    let ehead = words.head()?;
+    let lo = words.part()?;
+    let hi = words.part()?;
+    Some(Answer::Head(given_head(shead, ehead, Part { lo, hi })))
 }

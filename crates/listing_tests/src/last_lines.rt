@@ -1,75 +1,105 @@
 // The last lines of runs that don't end well.
-use crate::sample::FIRST_STEP;
+ghost use Rattle.model_types.specs.Grids.{HasSize};
+
+use crate::command::Command;
+use crate::desk::Desk;
+use crate::numbers::{number_at, numbers_of};
+use crate::places::{place_of, time_of};
 use listing_io::{write_no_bound, write_not_certified, write_refused, write_unfinished};
-use model_samples::three_cells;
-use model_types::TimeStep;
+use model_types::{Grid, TimeStep};
 use outside::{Code, Name, Refusal};
 use std::alloc::{AllocError, Global};
-use std::test::Fail;
-use step_problem::{Dir, NoBound, Place, Side, Term};
+use std::io;
+use step_problem::NoBound;
 
-fn no_bound(alloc: Global, code: u8, place: Place) -> Result<Vec<u8>, AllocError> {
-    let model = three_cells(alloc, -1, 0)?;
-    write_no_bound(alloc, &model.grid, FIRST_STEP, NoBound { code, place })
+/// Prints the bytes of a text.
+pub fn print_text(rt: &impl Print, bytes: &[u8]) -> io::Result<()> {
+    let text = str::from_utf8(bytes).unwrap_or("not a text\n");
+    print!(rt; "{text}")
 }
 
-fn not_certified(alloc: Global, place: Place) -> Result<Vec<u8>, AllocError> {
-    let model = three_cells(alloc, -1, 0)?;
-    write_not_certified(alloc, &model.grid, FIRST_STEP, place)
+fn unclear(alloc: Global) -> Result<Vec<u8>, AllocError> {
+    Vec::from_slice(alloc, b"unclear\n")
 }
 
-static NO_BOUNDS: [(u8, Place, &str); 2] = [
-    (
-        24,
-        Place::Cell(2, Side::High),
-        "NOBOUND 24 NoBarrierLow 1 1 1 1 3\n",
-    ),
-    (
-        23,
-        Place::Zone(1, 2),
-        "NOBOUND 23 FlowTooLarge 1 1 ZONE 1 2\n",
-    ),
-];
-
-#[test]
-fn a_step_without_a_bound_names_its_place(rt: HostRuntime) -> Result<(), Fail> {
-    for (code, place, line) in &NO_BOUNDS {
-        assert!(rt; no_bound(rt.alloc(), *code, *place)?.as_slice() == line.as_bytes());
-    }
-    Ok(())
-}
-
-static OPEN_PLACES: [(Place, &str); 2] = [
-    (Place::Cell(2, Side::High), "NOT CERTIFIED 1 1 1 1 3 HIGH\n"),
-    (
-        Place::Term(Dir::In, Term::ConstantHead),
-        "NOT CERTIFIED 1 1 IN CONSTANT HEAD\n",
-    ),
-];
-
-#[test]
-fn a_step_that_is_not_certified_names_its_place(rt: HostRuntime) -> Result<(), Fail> {
-    for (place, line) in &OPEN_PLACES {
-        assert!(rt; not_certified(rt.alloc(), *place)?.as_slice() == line.as_bytes());
-    }
-    Ok(())
-}
-
-#[test]
-fn a_refusal_and_an_unfinished_step_have_their_lines(rt: HostRuntime) -> Result<(), Fail> {
-    let later = TimeStep {
-        period: 2,
-        step: 10,
+// Behind the line a layer, a row and a column may stand.
+fn refused_line(alloc: Global, words: &str) -> Result<Vec<u8>, AllocError> {
+    let (code, words) = words.split_once(' ').unwrap_or((words, ""));
+    let (file, words) = words.split_once(' ').unwrap_or((words, ""));
+    let Some(code) = Code::of_number(code.parse::<u8>().unwrap_or(0)) else {
+        return unclear(alloc);
     };
-    let line = write_unfinished(rt.alloc(), later)?;
-    assert!(rt; line.as_slice() == b"UNFINISHED 2 10\n".as_slice());
+    let numbers = numbers_of(alloc, words)?;
+    let at = [1, 2, 3].map(|place| number_at(&numbers, place));
     let refusal = Refusal {
-        code: Code::CellOutside,
-        file: Name::new(rt.alloc(), "a.rch")?,
-        line: 0,
-        at: Some([1, 1, 3]),
+        code,
+        file: Name::new(alloc, file)?,
+        line: number_at(&numbers, 0),
+        at: if numbers.len() > 1 { Some(at) } else { None },
     };
-    let line = write_refused(rt.alloc(), &refusal)?;
-    assert!(rt; line.as_slice() == b"REFUSED 16 CellOutside a.rch 0 1 1 3\n".as_slice());
-    Ok(())
+    write_refused(alloc, &refusal)
+}
+
+fn no_bound_line(
+    alloc: Global,
+    grid: &Grid,
+    at: TimeStep,
+    words: &str,
+) -> Result<Vec<u8>, AllocError>
+    requires { HasSize grid.now }
+{
+    let (code, words) = words.split_once(' ').unwrap_or((words, ""));
+    match (code.parse::<u8>(), place_of(words)) {
+        (Ok(code), Some(place)) => write_no_bound(alloc, grid, at, NoBound { code, place }),
+        _ => unclear(alloc),
+    }
+}
+
+fn open_line(alloc: Global, grid: &Grid, at: TimeStep, words: &str) -> Result<Vec<u8>, AllocError>
+    requires { HasSize grid.now }
+{
+    match place_of(words) {
+        Some(place) => write_not_certified(alloc, grid, at, place),
+        None => unclear(alloc),
+    }
+}
+
+fn line_of(alloc: Global, grid: &Grid, command: Command, words: &str) -> Result<Vec<u8>, AllocError>
+    requires { HasSize grid.now }
+{
+    if let Command::Refused = command {
+        return refused_line(alloc, words);
+    }
+    let Some((at, words)) = time_of(words) else {
+        return unclear(alloc);
+    };
+    match command {
+        Command::NoBound => no_bound_line(alloc, grid, at, words),
+        Command::Open => open_line(alloc, grid, at, words),
+        _ => write_unfinished(alloc, at),
+    }
+}
+
+fn print_line(
+    rt: &impl Print,
+    alloc: Global,
+    grid: &Grid,
+    command: Command,
+    words: &str,
+) -> io::Result<()>
+    requires { HasSize grid.now }
+{
+    print_text(rt, &line_of(alloc, grid, command, words)?)
+}
+
+/// Prints the last line of a run of the model.
+pub fn print_last_line(
+    rt: &impl Print,
+    alloc: Global,
+    desk: &Desk,
+    command: Command,
+    words: &str,
+) -> io::Result<()> {
+    let model = desk.model(alloc)?;
+    print_line(rt, alloc, &model.grid, command, words)
 }

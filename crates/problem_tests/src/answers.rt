@@ -2,7 +2,7 @@
 use budget_bounds::{Budget, TermPair};
 use certificate_check::Verdict;
 use std::io;
-use step_problem::{Bound, NoBound, Open, Place, Side, Term};
+use step_problem::{Barrier, Bound, NoBound, Open, Place, Term};
 
 fn print_pairs(rt: &impl Print, bounds: &[Bound]) -> io::Result<()> {
     for bound in bounds {
@@ -12,21 +12,23 @@ fn print_pairs(rt: &impl Print, bounds: &[Bound]) -> io::Result<()> {
     println!(rt; "")
 }
 
-pub fn print_bounds(rt: &impl Print, bounds: &[Bound]) -> io::Result<()> {
-    print!(rt; "settled")?;
+/// A word, and the bounds of each cell behind it.
+pub fn print_bounds(rt: &impl Print, word: &str, bounds: &[Bound]) -> io::Result<()> {
+    print!(rt; "{word}")?;
     print_pairs(rt, bounds)
 }
 
-fn name(side: Side) -> &'static str {
-    match side {
-        Side::Low => "LOW",
-        Side::High => "HIGH",
+pub fn print_barrier(rt: &impl Print, b: &Barrier) -> io::Result<()> {
+    print!(rt; "barrier")?;
+    for (floor, ceiling) in b.floor.iter().zip(b.ceiling.iter()) {
+        print!(rt; " {floor} {ceiling}")?;
     }
+    println!(rt; "")
 }
 
 pub fn print_open(rt: &impl Print, open: &Open) -> io::Result<()> {
     let cell = open.cell;
-    let side = name(open.side);
+    let side = open.side;
     print!(rt; "open {cell} {side}")?;
     print_pairs(rt, open.words.as_slice())
 }
@@ -35,10 +37,7 @@ pub fn print_fault(rt: &impl Print, fault: NoBound) -> io::Result<()> {
     let code = fault.code;
     print!(rt; "refused {code}")?;
     match fault.place {
-        Place::Cell(id, side) => {
-            let side = name(side);
-            println!(rt; " cell {id} {side}")
-        }
+        Place::Cell(id, side) => println!(rt; " cell {id} {side}"),
         Place::Term(dir, term) => println!(rt; " {dir} {term}"),
         Place::Zone(from, to) => println!(rt; " zones {from} {to}"),
     }
@@ -47,10 +46,7 @@ pub fn print_fault(rt: &impl Print, fault: NoBound) -> io::Result<()> {
 pub fn print_verdict(rt: &impl Print, verdict: Verdict) -> io::Result<()> {
     match verdict {
         Verdict::Yes => println!(rt; "yes"),
-        Verdict::No { cell, side } => {
-            let side = name(side);
-            println!(rt; "no {cell} {side}")
-        }
+        Verdict::No { cell, side } => println!(rt; "no {cell} {side}"),
     }
 }
 

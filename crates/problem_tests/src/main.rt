@@ -1,59 +1,77 @@
-//! Asks of problems that stand in standard input for their barriers, settled heads, certificates and budgets, and
-//! prints the answers.
+//! Asks of problems that stand in standard input for their barriers, heads, certificates and budgets, and prints the
+//! answers.
 //!
 //! `problem` begins a problem, and `cell ID` a cell of it, whose entries follow, each bound from below and above:
 //! `link INDEX C C`, `storage C C HEAD HEAD` (or `general`; `constant` with its cell number first), `well FLOW FLOW` (or
 //! `recharge`), `river C C STAGE STAGE BOTTOM BOTTOM`, `drain C C ELEVATION ELEVATION`, `evaporation C C EXTINCTION
-//! EXTINCTION SURFACE SURFACE`. `heads LOW HIGH ..` are bounds of the cells. Then `barrier`, `sweeps ROUNDS`, `workers
-//! WORKERS TURNS ROUNDS`, `near TRIALS SWEEPS` (from the bounds, then by one round), `listed SWEEPS INDEX ..`, `check`
-//! and `budget` (of the bounds) are asked. Other lines say what is shown, and are printed.
+//! EXTINCTION SURFACE SURFACE`. `row COUNT` gives cells in a row, each beside a general head of its own, from 0 to 9 in
+//! turn, and `example` is the problem of the definitions' example.
+//!
+//! Asked are `fits` (how many cells the problem has, where it is one), `balances INDEX HEAD HEAD ..` (of a cell, at its
+//! own head and those of its links), `raised` and `sunk` (its raise and sink values there), `rivers INDEX HEAD`, `barrier`,
+//! `guess`, `sweeps ROUNDS`, `workers WORKERS TURNS ROUNDS`, `phases WORKERS TURNS ROUNDS` and `run WORKERS TURNS ROUNDS`
+//! (these with the passes of a gate), and `listed SWEEPS INDEX ..`. `heads LOW HIGH ..` are bounds of the cells, of which
+//! `check`, `budget` and `near TRIALS SWEEPS` (from the bounds, then by one round) are asked.
+//!
+//! `moves` begins moves of two actors, `first` and `second`, on shared heads that begin at the barrier: `look ACTOR INDEX
+//! SIDE`, `raise ACTOR INDEX`, `sink ACTOR INDEX`, `claim ACTOR`, `watch ACTOR`, `seen ACTOR` (what it has seen last),
+//! `turn ACTOR TICKET`, `work ACTOR WORKER TURNS` and `own ACTOR WORKER WORKERS`. `events` makes them as events and prints
+//! the heads after each, `seats` makes them at a table and prints what each found.
+//!
+//! `budgets` begins two budgets, and `IN LISTED LISTED COMPUTED COMPUTED TERM` (or `OUT`) gives a term of both; `covers`
+//! asks whether the listed one covers the computed one. `system COUNT` solves a system whose solution is known.
+//! A line `@ ..` says what is shown, and is printed.
 #![tactic(auto)]
 
 mod answers;
-mod cells;
+mod balances;
+mod between;
+mod covering;
+mod entries;
+mod events;
+mod exchanges;
+mod given;
+mod moves;
+mod numbers;
+mod passes;
 mod question;
+mod seats;
 mod settling;
+mod systems;
 
-use cells::Cells;
+use given::Given;
+use numbers::numbers_of;
 use question::{Question, ask};
 use std::alloc::Global;
 use std::io;
 use std::thread::Threads;
 
-// The numbers behind the first word of a line.
-fn numbers_of(alloc: Global, line: &str) -> io::Result<Vec<i128>> {
-    let mut numbers = Vec::new(alloc);
-    for word in line.split(' ') {
-        if let Ok(number) = word.parse::<i128>() {
-            numbers.push(number)?;
-        }
-    }
-    Ok(numbers)
-}
-
 fn step<R: Print + Threads + Sync>(
     rt: &R,
     alloc: Global,
-    cells: &mut Cells,
+    given: &mut Given,
     line: &str,
 ) -> io::Result<()> {
     let word = line.split(' ').next().unwrap_or("");
+    if word == "@" {
+        return println!(rt; "{line}");
+    }
     let numbers = numbers_of(alloc, line)?;
     if let Some(question) = Question::of(word) {
-        return ask(rt, alloc, cells, question, numbers.as_slice());
+        return ask(rt, alloc, given, question, numbers.as_slice());
     }
-    if cells.take(alloc, word, numbers.as_slice())? {
+    if given.take(alloc, word, line, numbers.as_slice())? {
         return Ok(());
     }
-    println!(rt; "{line}")
+    println!(rt; "unknown: {line}")
 }
 
 fn main(rt: HostRuntime) -> io::Result<()> {
     let alloc = rt.alloc();
-    let mut cells = Cells::new(alloc);
+    let mut given = Given::new(alloc);
     for line in rt.lines(alloc) {
         let line = line?;
-        step(&rt, alloc, &mut cells, line.as_str())?;
+        step(&rt, alloc, &mut given, line.as_str())?;
     }
     Ok(())
 }

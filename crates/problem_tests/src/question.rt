@@ -1,97 +1,102 @@
 // What is asked of a problem.
-ghost use Rattle.step_problem.specs.Heads.{IsBarrier};
-
-use crate::answers::{print_bounds, print_budget, print_fault, print_verdict};
-use crate::cells::Cells;
-use crate::settling::{number, print_settled};
-use barrier_vector::{BarrierFault, barrier};
-use budget_bounds::budget;
-use cell_relax::are_words;
-use certificate_check::check_step;
+use crate::balances::{print_balances, print_rivers};
+use crate::between::ask_between;
+use crate::covering::print_cover;
+use crate::given::{Given, Stage};
+use crate::numbers::number;
+use crate::systems::print_system;
 use std::alloc::Global;
 use std::io;
 use std::thread::Threads;
-use step_problem::{Barrier, Bound, Problem};
+use step_problem::Problem;
 
 #[derive(Clone, Copy)]
 pub enum Question {
+    Fits,
+    Balances,
+    Raised,
+    Sunk,
+    Rivers,
     Barrier,
+    Guess,
     Sweeps,
     Workers,
+    Phases,
+    Run,
     Near,
     Listed,
     Check,
     Budget,
+    Events,
+    Seats,
+    Covers,
+    System,
 }
 
 impl Question {
     /// What a line's first word asks.
     pub fn of(word: &str) -> Option<Question> {
         match word {
+            "fits" => Some(Question::Fits),
+            "balances" => Some(Question::Balances),
+            "raised" => Some(Question::Raised),
+            "sunk" => Some(Question::Sunk),
+            "rivers" => Some(Question::Rivers),
             "barrier" => Some(Question::Barrier),
+            "guess" => Some(Question::Guess),
             "sweeps" => Some(Question::Sweeps),
             "workers" => Some(Question::Workers),
+            "phases" => Some(Question::Phases),
+            "run" => Some(Question::Run),
             "near" => Some(Question::Near),
             "listed" => Some(Question::Listed),
             "check" => Some(Question::Check),
             "budget" => Some(Question::Budget),
+            "events" => Some(Question::Events),
+            "seats" => Some(Question::Seats),
+            "covers" => Some(Question::Covers),
+            "system" => Some(Question::System),
             _ => None,
         }
     }
 }
 
-fn print_barrier(rt: &impl Print, b: &Barrier) -> io::Result<()> {
-    print!(rt; "barrier")?;
-    for (floor, ceiling) in b.floor.iter().zip(b.ceiling.iter()) {
-        print!(rt; " {floor} {ceiling}")?;
-    }
-    println!(rt; "")
-}
-
-// The certificate and the budget, of bounds that are words of the problem.
-fn ask_bounds(
-    rt: &impl Print,
-    p: &Problem,
-    b: &Barrier,
-    question: Question,
-    bounds: &[Bound],
-) -> io::Result<()>
-    requires { IsBarrier p.now b.now }
-{
-    if !are_words(p, bounds) {
-        return println!(rt; "no bounds of this problem");
-    }
-    match question {
-        Question::Check => print_verdict(rt, check_step(p, b, bounds)),
-        Question::Budget => print_budget(rt, budget(p, bounds)),
-        _ => print_bounds(rt, bounds),
-    }
-}
-
-/// Asks of the problem, and prints the answer.
-pub fn ask<R: Print + Threads + Sync>(
+fn ask_problem<R: Print + Threads + Sync>(
     rt: &R,
     alloc: Global,
-    cells: &mut Cells,
+    p: &Problem,
+    given: &Given,
     question: Question,
     numbers: &[i128],
 ) -> io::Result<()> {
-    cells.finish(alloc);
-    let Some(p) = &cells.problem else {
-        return println!(rt; "no problem");
-    };
-    let b = match barrier(alloc, p) {
-        Ok(b) => b,
-        Err(BarrierFault::NoBound(fault)) => return print_fault(rt, fault),
-        Err(BarrierFault::Memory) => return println!(rt; "memory"),
-    };
     match question {
-        Question::Barrier => print_barrier(rt, &b),
-        Question::Sweeps | Question::Workers | Question::Near | Question::Listed => {
-            print_settled(rt, alloc, p, &b, question, cells.bounds.as_slice(), numbers)
+        Question::Fits => {
+            let cells = p.len();
+            println!(rt; "cells {cells}")
         }
-        Question::Check | Question::Budget => {
-            ask_bounds(rt, p, &b, question, cells.bounds.as_slice())
+        Question::Balances | Question::Raised | Question::Sunk => {
+            print_balances(rt, alloc, p, question, numbers)
         }
+        Question::Rivers => print_rivers(rt, p, numbers),
+        _ => ask_between(rt, alloc, p, given, question, numbers),
+    }
+}
+
+/// Asks of what is given, and prints the answer.
+pub fn ask<R: Print + Threads + Sync>(
+    rt: &R,
+    alloc: Global,
+    given: &mut Given,
+    question: Question,
+    numbers: &[i128],
+) -> io::Result<()> {
+    match question {
+        Question::Covers => return print_cover(rt, &given.budgets),
+        Question::System => return print_system(rt, alloc, number(numbers, 0)),
+        _ => given.finish(),
+    }
+    match &given.stage {
+        Stage::Made(p) => ask_problem(rt, alloc, p, given, question, numbers),
+        _ => println!(rt; "no problem"),
     }
 }

@@ -1,34 +1,18 @@
 // Settled heads of a problem.
 ghost use Rattle.step_problem.specs.Heads.{IsBarrier};
+ghost use Rattle.settle_driver.specs.Phases.{IsPlan};
 
 use crate::answers::{print_bounds, print_open};
+use crate::numbers::number;
+use crate::passes::Passes;
 use crate::question::Question;
+use near_settler::NearSettler;
 use outside::FreeGate;
-use settle_driver::{ListedSettler, PlainSettler, Plan, settle, settle_near};
+use settle_driver::{ListedSettler, PlainSettler, Plan, ThreadSettler, settle, settle_near};
 use std::alloc::Global;
 use std::io;
 use std::thread::Threads;
 use step_problem::{Barrier, Bound, Problem, SettleFault, Settler};
-
-/// A number of a question, from 0; 0 where there is none.
-pub fn number(numbers: &[i128], place: usize) -> u32 {
-    u32::try_from(numbers.get(place).copied().unwrap_or(0)).unwrap_or(0)
-}
-
-fn by_workers<R: Threads + Sync>(
-    rt: &R,
-    alloc: Global,
-    p: &Problem,
-    b: &Barrier,
-    plan: Plan,
-) -> Result<Vec<Bound>, SettleFault>
-    requires { IsBarrier p.now b.now }
-{
-    if !plan.fits() {
-        return Err(SettleFault::Memory);
-    }
-    settle(rt, alloc, p, b, plan, &FreeGate)
-}
 
 // From these bounds, by trials of so many sweeps, and then by one round.
 fn from_near(
@@ -67,6 +51,37 @@ fn by_list(
     ListedSettler::new(list, number(numbers, 0)).settle(alloc, p, b)
 }
 
+fn print_answer(rt: &impl Print, answer: &Result<Vec<Bound>, SettleFault>) -> io::Result<()> {
+    match answer {
+        Ok(bounds) => print_bounds(rt, "settled", bounds.as_slice()),
+        Err(SettleFault::Unfinished(open)) => print_open(rt, open),
+        Err(SettleFault::Memory) => println!(rt; "memory"),
+    }
+}
+
+// By workers, and how often they pass a gate.
+fn print_by_workers<R: Print + Threads + Sync>(
+    rt: &R,
+    alloc: Global,
+    p: &Problem,
+    b: &Barrier,
+    question: Question,
+    plan: Plan,
+) -> io::Result<()>
+    requires barrier { IsBarrier p.now b.now }
+    requires plan { IsPlan plan }
+{
+    let gate = Passes::new();
+    let answer = match question {
+        Question::Phases => ThreadSettler::new(rt, plan, &gate).settle(alloc, p, b),
+        Question::Run => NearSettler::new(rt, plan, &gate).settle(alloc, p, b),
+        _ => return print_answer(rt, &settle(rt, alloc, p, b, plan, &FreeGate)),
+    };
+    print_answer(rt, &answer)?;
+    let count = gate.count();
+    println!(rt; "passes {count}")
+}
+
 /// Settles a problem between its barrier, and prints its heads, or the first cell that is left open.
 pub fn print_settled<R: Print + Threads + Sync>(
     rt: &R,
@@ -82,21 +97,20 @@ pub fn print_settled<R: Print + Threads + Sync>(
     let first = number(numbers, 0);
     let second = number(numbers, 1);
     let answer = match question {
-        Question::Workers => {
+        Question::Listed => by_list(alloc, p, b, numbers),
+        Question::Near => from_near(alloc, p, b, bounds, first, second),
+        Question::Sweeps => PlainSettler::new(first).settle(alloc, p, b),
+        _ => {
             let plan = Plan {
                 workers: first,
                 turns_per_cell: second,
                 rounds: number(numbers, 2),
             };
-            by_workers(rt, alloc, p, b, plan)
+            if !plan.fits() {
+                return println!(rt; "no plan");
+            }
+            return print_by_workers(rt, alloc, p, b, question, plan);
         }
-        Question::Listed => by_list(alloc, p, b, numbers),
-        Question::Near => from_near(alloc, p, b, bounds, first, second),
-        _ => PlainSettler::new(first).settle(alloc, p, b),
     };
-    match answer {
-        Ok(bounds) => print_bounds(rt, bounds.as_slice()),
-        Err(SettleFault::Unfinished(open)) => print_open(rt, &open),
-        Err(SettleFault::Memory) => println!(rt; "memory"),
-    }
+    print_answer(rt, &answer)
 }

@@ -1,0 +1,52 @@
+// The files of a deck that stand as lines in a text.
+use outside::MemFolder;
+use std::alloc::{AllocError, Global};
+
+/// Files in memory, and the file whose lines come now, which has no name between files.
+#[derive(Drop)]
+pub struct Deck {
+    pub folder: MemFolder,
+    name: String,
+    text: String,
+}
+
+impl Deck {
+    /// A deck without files.
+    pub fn new(alloc: Global) -> Deck {
+        Deck {
+            folder: MemFolder::new(alloc),
+            name: String::new(alloc),
+            text: String::new(alloc),
+        }
+    }
+
+    /// A line more of the file.
+    pub fn push_line(&mut self, line: &str) -> Result<(), AllocError> {
+        self.text.push_str(line)?;
+        self.text.push_str("\n")
+    }
+
+    /// So many such lines.
+    pub fn push_lines(&mut self, count: u32, line: &str) -> Result<(), AllocError> {
+        for _ in 0..count {
+            self.push_line(line)?;
+        }
+        Ok(())
+    }
+
+    /// Ends the file, and begins one of this name, in place of an earlier one.
+    pub fn begin_file(&mut self, alloc: Global, name: &str) -> Result<(), AllocError> {
+        self.end_file(alloc)?;
+        self.name = String::from_str(alloc, name)?;
+        Ok(())
+    }
+
+    /// Ends the file.
+    pub fn end_file(&mut self, alloc: Global) -> Result<(), AllocError> {
+        self.folder
+            .add(self.name.as_str(), self.text.as_str().as_bytes())?;
+        self.name = String::new(alloc);
+        self.text = String::new(alloc);
+        Ok(())
+    }
+}

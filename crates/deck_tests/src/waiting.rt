@@ -1,0 +1,64 @@
+// Runs with gates and sinks that wait.
+use crate::bench::words_of;
+use crate::handshake::{Handshake, HandshakeSink};
+use crate::meeting::MeetingGate;
+use crate::runs::print_text;
+use engine::run;
+use outside::{Gate, MemFolder, MemSink, Sink};
+use std::alloc::Global;
+use std::io;
+use std::thread::Threads;
+
+// Runs the words over the files, and answers the status.
+fn run_at<R: Threads + Sync, K: Sink + Send, G: Gate + Sync>(
+    rt: &R,
+    alloc: Global,
+    folder: &mut MemFolder,
+    words: &str,
+    out: &mut K,
+    gate: &G,
+) -> io::Result<u8> {
+    let words = words_of(alloc, words)?;
+    let mut side = MemSink::new(alloc);
+    let status = run(rt, alloc, words.as_slice(), folder, out, &mut side, gate);
+    Ok(status.code())
+}
+
+fn print_put(rt: &impl Print, status: u8, bytes: &[u8], failures: u64) -> io::Result<()> {
+    println!(rt; "status {status}")?;
+    print_text(rt, bytes)?;
+    println!(rt; "waits in vain {failures}")
+}
+
+/// A run of two workers, each of which waits for the other's first pass.
+pub fn print_meeting<R: Print + Threads + Sync>(
+    rt: &R,
+    alloc: Global,
+    folder: &mut MemFolder,
+    words: &str,
+) -> io::Result<()> {
+    let gate = MeetingGate::new();
+    let mut out = MemSink::new(alloc);
+    let status = run_at(rt, alloc, folder, words, &mut out, &gate)?;
+    print_put(rt, status, out.bytes(), gate.failures())?;
+    let told = if gate.passes_are_whole_phases() {
+        "equal, in whole phases"
+    } else {
+        "unequal"
+    };
+    println!(rt; "passes {told}")
+}
+
+/// A run in which a step's put waits for the next step's workers, and they for it. One put may lack memory.
+pub fn print_handshake<R: Print + Threads + Sync>(
+    rt: &R,
+    alloc: Global,
+    folder: &mut MemFolder,
+    lacking: u64,
+    words: &str,
+) -> io::Result<()> {
+    let together = Handshake::new();
+    let mut out = HandshakeSink::new(alloc, &together, lacking);
+    let status = run_at(rt, alloc, folder, words, &mut out, &together)?;
+    print_put(rt, status, out.bytes(), together.failures())
+}

@@ -1,0 +1,123 @@
+// The entries of a cell, as lines give them.
+use crate::numbers::{at, conductance, head, number};
+use std::alloc::{AllocError, Global};
+use step_problem::{Cell, Drain, Evap, Fixed, FixedKind, Flow, FlowKind, Link, River};
+
+pub fn empty(alloc: Global, id: u32) -> Cell {
+    Cell {
+        id,
+        flows: Vec::new(alloc),
+        links: Vec::new(alloc),
+        fixed: Vec::new(alloc),
+        rivers: Vec::new(alloc),
+        drains: Vec::new(alloc),
+        evaps: Vec::new(alloc),
+    }
+}
+
+fn flow(kind: FlowKind, n: &[i128]) -> Flow {
+    Flow {
+        kind,
+        lo: at(n, 0),
+        hi: at(n, 1),
+    }
+}
+
+fn fixed(kind: FixedKind, source: u32, n: &[i128]) -> Fixed {
+    Fixed {
+        kind,
+        source,
+        lo: conductance(n, 0),
+        hi: conductance(n, 1),
+        head_lo: head(n, 2),
+        head_hi: head(n, 3),
+    }
+}
+
+fn link(n: &[i128]) -> Link {
+    Link {
+        cell: number(n, 0),
+        lo: conductance(n, 1),
+        hi: conductance(n, 2),
+    }
+}
+
+fn river(n: &[i128]) -> River {
+    River {
+        lo: conductance(n, 0),
+        hi: conductance(n, 1),
+        stage_lo: head(n, 2),
+        stage_hi: head(n, 3),
+        bottom_lo: head(n, 4),
+        bottom_hi: head(n, 5),
+    }
+}
+
+fn drain(n: &[i128]) -> Drain {
+    Drain {
+        lo: conductance(n, 0),
+        hi: conductance(n, 1),
+        elev_lo: head(n, 2),
+        elev_hi: head(n, 3),
+    }
+}
+
+fn evaporation(n: &[i128]) -> Evap {
+    Evap {
+        lo: conductance(n, 0),
+        hi: conductance(n, 1),
+        ext_lo: head(n, 2),
+        ext_hi: head(n, 3),
+        surf_lo: head(n, 4),
+        surf_hi: head(n, 5),
+    }
+}
+
+/// Whether a line is an entry of the cell; then the cell has it.
+pub fn push_entry(cell: &mut Cell, word: &str, n: &[i128]) -> Result<bool, AllocError> {
+    match word {
+        "link" => cell.links.push(link(n))?,
+        "storage" => cell.fixed.push(fixed(FixedKind::Storage, cell.id, n))?,
+        "general" => cell.fixed.push(fixed(FixedKind::General, cell.id, n))?,
+        "constant" => {
+            let rest = n.get(1..).unwrap_or(&[]);
+            cell.fixed
+                .push(fixed(FixedKind::Constant, number(n, 0), rest))?;
+        }
+        "well" => cell.flows.push(flow(FlowKind::Wells, n))?,
+        "recharge" => cell.flows.push(flow(FlowKind::Recharge, n))?,
+        "river" => cell.rivers.push(river(n))?,
+        "drain" => cell.drains.push(drain(n))?,
+        "evaporation" => cell.evaps.push(evaporation(n))?,
+        _ => return Ok(false),
+    }
+    Ok(true)
+}
+
+const ONE: u64 = 1_000_000_000_000;
+
+const METRE: i64 = 1_000_000_000;
+
+/// A cell of a row of so many, each beside a general head of its own, from 0 to 9 in turn.
+pub fn cell_of_row(alloc: Global, index: u32, count: u32) -> Result<Cell, AllocError> {
+    let mut cell = empty(alloc, index.wrapping_add(1));
+    for other in [index.wrapping_sub(1), index.wrapping_add(1)] {
+        if other < count {
+            cell.links.push(Link {
+                cell: other,
+                lo: ONE,
+                hi: ONE,
+            })?;
+        }
+    }
+    let level = (index % 10) as i64 * METRE;
+    cell.fixed.push(Fixed {
+        kind: FixedKind::General,
+        source: cell.id,
+        lo: ONE,
+        hi: ONE,
+        head_lo: level,
+        head_hi: level,
+    })?;
+    Ok(cell)
+}

@@ -1,0 +1,91 @@
+// What a seat at a table does, after which `shown` is still what the seat has seen.
+ghost use Rattle.std.specs.Prelude.{◌≡◌, ◌<◌, length};
+ghost use Rattle.head_table.specs.Seats.{IsSeatOf};
+ghost use Rattle.problem_tests.specs.Actors.{IsShown};
+
+use cell_relax::{raise_in, sink_in};
+use head_table::{HeadSeat, HeadTable};
+use step_problem::{Bound, Side};
+
+fn look_low(table: &HeadTable, seat: &mut HeadSeat, cell: usize, shown: &mut [Bound]) -> i64
+    requires cell { cell < length table.now.problem.now }
+    requires shown { IsShown table.now seat.old shown.old }
+    ensures { IsShown table.now seat.new shown.new }
+{
+    let low = table.load_low(seat, cell);
+    shown[cell].low = low;
+    low
+}
+
+fn look_high(table: &HeadTable, seat: &mut HeadSeat, cell: usize, shown: &mut [Bound]) -> i64
+    requires cell { cell < length table.now.problem.now }
+    requires shown { IsShown table.now seat.old shown.old }
+    ensures { IsShown table.now seat.new shown.new }
+{
+    let high = table.load_high(seat, cell);
+    shown[cell].high = high;
+    high
+}
+
+/// A look at one of the heads of a cell.
+pub fn look(
+    table: &HeadTable,
+    seat: &mut HeadSeat,
+    cell: usize,
+    side: Side,
+    shown: &mut [Bound],
+) -> i64
+    requires cell { cell < length table.now.problem.now }
+    requires shown { IsShown table.now seat.old shown.old }
+    ensures { IsShown table.now seat.new shown.new }
+{
+    match side {
+        Side::Low => look_low(table, seat, cell, shown),
+        Side::High => look_high(table, seat, cell, shown),
+    }
+}
+
+/// Raises a cell from what the seat has seen, and answers the head before.
+pub fn raise(table: &HeadTable, seat: &mut HeadSeat, cell: usize, shown: &mut [Bound]) -> i64
+    requires cell { cell < length table.now.problem.now }
+    requires shown { IsShown table.now seat.old shown.old }
+    ensures { IsShown table.now seat.new shown.new }
+{
+    let problem = table.problem();
+    let _cells = problem.len();
+    let to = raise_in(problem, shown, cell);
+    let found = table.raise(seat, cell, to);
+    shown[cell].low = found.max(to);
+    found
+}
+
+/// Sinks a cell from what the seat has seen, and answers the head before.
+pub fn sink(table: &HeadTable, seat: &mut HeadSeat, cell: usize, shown: &mut [Bound]) -> i64
+    requires cell { cell < length table.now.problem.now }
+    requires shown { IsShown table.now seat.old shown.old }
+    ensures { IsShown table.now seat.new shown.new }
+{
+    let problem = table.problem();
+    let _cells = problem.len();
+    let to = sink_in(problem, shown, cell);
+    let found = table.sink(seat, cell, to);
+    shown[cell].high = found.min(to);
+    found
+}
+
+/// Claims a ticket.
+pub fn claim(table: &HeadTable, seat: &mut HeadSeat, shown: &[Bound]) -> u64
+    requires { IsShown table.now seat.old shown.now }
+    ensures { IsShown table.now seat.new shown.now }
+{
+    table.claim(seat)
+}
+
+/// Looks at both heads of each cell.
+pub fn watch(table: &HeadTable, seat: &mut HeadSeat, shown: &mut [Bound])
+    requires seat { IsSeatOf table.now seat.old }
+    requires whole { length shown.old ≡ length table.now.problem.now }
+    ensures { IsShown table.now seat.new shown.new }
+{
+    table.watch(seat, shown);
+}

@@ -1,0 +1,117 @@
+// What lines have given so far.
+use crate::covering::Budgets;
+use crate::entries::{cell_of_row, empty, push_entry};
+use crate::moves::Move;
+use crate::numbers::{head, number};
+use cell_balance::example::example;
+use std::alloc::{AllocError, Global};
+use step_problem::{Bound, Cell, Problem, fits};
+
+/// The cells so far of a problem that isn't asked of yet; the problem that they make, or that they make none.
+#[derive(Drop)]
+pub enum Stage {
+    Cells(Vec<Cell>),
+    Made(Problem),
+    NoProblem,
+}
+
+/// A problem, bounds of its heads, moves on them, and budgets.
+#[derive(Drop)]
+pub struct Given {
+    pub stage: Stage,
+    pub bounds: Vec<Bound>,
+    pub moves: Vec<Move>,
+    pub budgets: Budgets,
+}
+
+fn made(cells: Vec<Cell>) -> Stage {
+    if fits(cells.as_slice()) {
+        Stage::Made(Problem::new(cells))
+    } else {
+        Stage::NoProblem
+    }
+}
+
+impl Given {
+    pub fn new(alloc: Global) -> Given {
+        Given {
+            stage: Stage::Cells(Vec::new(alloc)),
+            bounds: Vec::new(alloc),
+            moves: Vec::new(alloc),
+            budgets: Budgets::empty(),
+        }
+    }
+
+    fn take_heads(&mut self, alloc: Global, numbers: &[i128]) -> Result<(), AllocError> {
+        self.bounds = Vec::new(alloc);
+        for pair in numbers.chunks(2) {
+            self.bounds.push(Bound {
+                low: head(pair, 0),
+                high: head(pair, 1),
+            })?;
+        }
+        Ok(())
+    }
+
+    // Whether a line is a part of the problem.
+    fn take_entry(
+        &mut self,
+        alloc: Global,
+        word: &str,
+        numbers: &[i128],
+    ) -> Result<bool, AllocError> {
+        let Stage::Cells(cells) = &mut self.stage else {
+            return Ok(false);
+        };
+        match word {
+            "cell" => cells.push(empty(alloc, number(numbers, 0)))?,
+            "row" => {
+                let count = number(numbers, 0);
+                for index in 0..count {
+                    cells.push(cell_of_row(alloc, index, count)?)?;
+                }
+            }
+            _ => {
+                return match cells.last_mut() {
+                    Some(cell) => push_entry(cell, word, numbers),
+                    None => Ok(false),
+                };
+            }
+        }
+        Ok(true)
+    }
+
+    /// Whether a line gives something; then it is taken.
+    pub fn take(
+        &mut self,
+        alloc: Global,
+        word: &str,
+        line: &str,
+        numbers: &[i128],
+    ) -> Result<bool, AllocError> {
+        match word {
+            "problem" => *self = Given::new(alloc),
+            "example" => self.stage = Stage::Made(example(alloc)?),
+            "heads" => self.take_heads(alloc, numbers)?,
+            "moves" => self.moves = Vec::new(alloc),
+            "budgets" => self.budgets = Budgets::empty(),
+            "IN" | "OUT" => return Ok(self.budgets.take(word, line, numbers)),
+            _ => {
+                let Some(next) = Move::of(line, numbers) else {
+                    return self.take_entry(alloc, word, numbers);
+                };
+                self.moves.push(next)?;
+            }
+        }
+        Ok(true)
+    }
+
+    /// Makes the problem of the cells so far, where they make one.
+    pub fn finish(&mut self) {
+        let stage = std::mem::replace(&mut self.stage, Stage::NoProblem);
+        self.stage = match stage {
+            Stage::Cells(cells) => made(cells),
+            stage => stage,
+        };
+    }
+}

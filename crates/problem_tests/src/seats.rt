@@ -1,0 +1,151 @@
+// Two seats at a table of a problem's heads: what one raises or sinks the other sees by a look, and not before.
+ghost use Rattle.std.specs.Prelude.{◌<◌, length};
+ghost use Rattle.step_problem.specs.Heads.{IsBarrier};
+ghost use Rattle.head_table.specs.Seats.{IsSeatOf};
+ghost use Rattle.problem_tests.specs.Actors.{IsShown};
+
+use crate::answers::print_bounds;
+use crate::exchanges::{claim, look, raise, sink, watch};
+use crate::moves::{Act, Move, Who};
+use head_table::{HeadSeat, HeadTable, edge_words};
+use outside::FreeGate;
+use relax_worker::{own_turns, turn, work};
+use std::alloc::Global;
+use std::io;
+use step_problem::{Barrier, Bound, Problem};
+
+// A seat, and what it has seen.
+#[derive(Drop)]
+struct Actor {
+    seat: HeadSeat,
+    shown: Vec<Bound>,
+}
+
+// Turns of a worker. The workers have numbers from 1 to 64.
+fn take_turns(table: &HeadTable, seat: &mut HeadSeat, act: Act)
+    requires seat { IsSeatOf table.now seat.old }
+    requires some_cell { 0 < length table.now.problem.now }
+    ensures { IsSeatOf table.now seat.new }
+{
+    match act {
+        Act::Turn { ticket } => turn(table, seat, ticket as u64),
+        Act::Work { worker, turns } => work(table, seat, worker, turns, &FreeGate),
+        Act::Own { worker, workers } => {
+            if 1 <= worker && worker <= workers && workers <= 64 {
+                own_turns(table, seat, worker, workers);
+            }
+        }
+        _ => {}
+    }
+}
+
+// What a move at one cell finds there.
+fn found_at(
+    table: &HeadTable,
+    seat: &mut HeadSeat,
+    cell: usize,
+    shown: &mut [Bound],
+    act: Act,
+) -> i64
+    requires cell { cell < length table.now.problem.now }
+    requires shown { IsShown table.now seat.old shown.old }
+    ensures { IsShown table.now seat.new shown.new }
+{
+    match act {
+        Act::Raise { .. } => raise(table, seat, cell, shown),
+        Act::Sink { .. } => sink(table, seat, cell, shown),
+        Act::Look { side, .. } => look(table, seat, cell, side, shown),
+        _ => 0,
+    }
+}
+
+// Makes a move, and prints what it finds; after turns the seat watches.
+fn make_move(
+    rt: &impl Print,
+    table: &HeadTable,
+    seat: &mut HeadSeat,
+    shown: &mut [Bound],
+    act: Act,
+) -> io::Result<()>
+    requires { IsShown table.now seat.old shown.old }
+    ensures { IsShown table.now seat.new shown.new }
+{
+    let cells = table.problem().len();
+    match act {
+        Act::Look { cell, .. } | Act::Raise { cell } | Act::Sink { cell } => {
+            let cell = cell as usize;
+            if cell >= cells {
+                return println!(rt; "no cell");
+            }
+            let found = found_at(table, seat, cell, shown, act);
+            println!(rt; "found {found}")
+        }
+        Act::Claim => {
+            let found = claim(table, seat, shown);
+            println!(rt; "ticket {found}")
+        }
+        Act::Seen => print_bounds(rt, "seen", shown),
+        _ => {
+            if cells > 0 {
+                take_turns(table, seat, act);
+            }
+            watch(table, seat, shown);
+            print_bounds(rt, "seen", shown)
+        }
+    }
+}
+
+impl Actor {
+    fn make(&mut self, rt: &impl Print, table: &HeadTable, act: Act) -> io::Result<()>
+        requires { IsShown table.now self.old.seat self.old.shown.items }
+        ensures { IsShown table.now self.new.seat self.new.shown.items }
+    {
+        make_move(rt, table, &mut self.seat, self.shown.as_mut_slice(), act)
+    }
+}
+
+fn play(
+    rt: &impl Print,
+    table: &HeadTable,
+    first: &mut Actor,
+    second: &mut Actor,
+    moves: &[Move],
+) -> io::Result<()>
+    requires first { IsShown table.now first.old.seat first.old.shown.items }
+    requires second { IsShown table.now second.old.seat second.old.shown.items }
+    ensures first { IsShown table.now first.new.seat first.new.shown.items }
+    ensures second { IsShown table.now second.new.seat second.new.shown.items }
+{
+    for next in moves {
+        match next.who {
+            Who::First => first.make(rt, table, next.act)?,
+            Who::Second => second.make(rt, table, next.act)?,
+        }
+    }
+    Ok(())
+}
+
+/// Makes the moves at a table that begins with the barrier's heads, and prints what each finds and the heads at the end.
+pub fn print_seats(
+    rt: &impl Print,
+    alloc: Global,
+    p: &Problem,
+    b: &Barrier,
+    moves: &[Move],
+) -> io::Result<()>
+    requires { IsBarrier p.now b.now }
+{
+    let words = edge_words(alloc, p, b)?;
+    let (table, mut seat) = HeadTable::new(alloc, p, b, &words)?;
+    let mut second = Actor {
+        seat: table.split(&mut seat),
+        shown: Vec::from_slice(alloc, words.as_slice())?,
+    };
+    let mut first = Actor { seat, shown: words };
+    watch(&table, &mut first.seat, first.shown.as_mut_slice());
+    watch(&table, &mut second.seat, second.shown.as_mut_slice());
+    play(rt, &table, &mut first, &mut second, moves)?;
+    table.join(&mut first.seat, second.seat);
+    let words = table.close(first.seat)?;
+    print_bounds(rt, "closed", words.as_slice())
+}

@@ -1,0 +1,72 @@
+// Sinks in memory, in a file, and over a writer that takes nothing.
+use crate::command::{first_word, number};
+use crate::pictures::{plain_text, shown_text};
+use outside::{FreeGate, Gate, MemSink, RealSink, Sink};
+use std::alloc::Global;
+use std::{fs, io};
+
+const WRITTEN: &str = "written.txt";
+
+// Puts the pieces, and prints whether each was kept.
+fn print_puts<S: Sink>(
+    rt: &impl Print,
+    alloc: Global,
+    sink: &mut S,
+    calls: &str,
+) -> io::Result<()> {
+    for call in calls.split("; ") {
+        if let ("put", piece) = first_word(call) {
+            let kept = sink.put(plain_text(alloc, piece)?.as_str().as_bytes());
+            print!(rt; " {kept:?};")?;
+        }
+    }
+    Ok(())
+}
+
+/// A sink in memory, and the bytes that it has then. A gate that does nothing is passed in front.
+pub fn print_sink(rt: &impl Print, alloc: Global, calls: &str) -> io::Result<()> {
+    let mut sink = MemSink::new(alloc);
+    for call in calls.split("; ") {
+        if let ("fail", rest) = first_word(call) {
+            let (call, kept) = first_word(rest);
+            sink.fail_at(number(call), number(kept))?;
+        }
+    }
+    FreeGate.pass(1, 0);
+    print!(rt; "sink")?;
+    print_puts(rt, alloc, &mut sink, calls)?;
+    let text = shown_text(alloc, sink.bytes())?;
+    println!(rt; "{text}")
+}
+
+/// A sink in a file, and the bytes that the file has then.
+pub fn print_disk_sink(rt: &HostRuntime, alloc: Global, calls: &str) -> io::Result<()> {
+    let mut sink = RealSink::new(fs::create(rt, WRITTEN)?);
+    print!(rt; "disk_sink")?;
+    print_puts(rt, alloc, &mut sink, calls)?;
+    let text = fs::read_to_string(rt, WRITTEN)?;
+    let text = shown_text(alloc, text.as_str().as_bytes())?;
+    println!(rt; "{text}")
+}
+
+// Takes no byte, or says that it took none: the number counts how often it was asked.
+#[derive(Drop)]
+struct TakesNothing(u32);
+
+impl io::Write for TakesNothing {
+    fn write(&mut self, _: &[u8]) -> io::Result<usize> {
+        self.0 = self.0.saturating_add(1);
+        Ok(0)
+    }
+
+    fn flush(&mut self) -> io::Result<()> {
+        Ok(())
+    }
+}
+
+pub fn print_full_sink(rt: &impl Print, alloc: Global, calls: &str) -> io::Result<()> {
+    let mut sink = RealSink::new(TakesNothing(0));
+    print!(rt; "full_sink")?;
+    print_puts(rt, alloc, &mut sink, calls)?;
+    println!(rt; "")
+}
