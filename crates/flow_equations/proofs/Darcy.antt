@@ -7,7 +7,7 @@ use Rattle.decimal_input.proofs.Orders.{Same-trans}
 use Rattle.model_types.specs.declared.model.FlowModel.{FlowModel}
 use Rattle.model_types.specs.Layers.{delr_at, delc_at, hk_at, hani_at, thickness, dec_at}
 use Rattle.model_types.specs.Conductances.{one, half, in_a_row, row_conductance, column_conductance}
-use Rattle.flow_equations.specs.BranchLaws.{IsSameFromBothEnds, AreAlike, IsBetweenHalves}
+use Rattle.flow_equations.specs.BranchLaws.{IsSameFromBothEnds, AreAlike, AreAlikeInAColumn, IsBetweenHalves}
 use Rattle.flow_equations.proofs.Values.{itself, value_one, value_two, value_times, value_plus, value_over, same_by, cross_by, at_most_by, size_positive}
 
 positive : (a b : ℕ) → 0 < a → 0 < b → 0 < a * b
@@ -65,6 +65,20 @@ meets_darcy m a b h =
     let same : row_conductance m a b ≡ in_a_row (half (size (delr_at m a)) (size (delc_at m a)) (size (hk_at m a)) (thickness m a)) (half (size (delr_at m a)) (size (delc_at m a)) (size (hk_at m a)) (thickness m a)) =
     λ i. in_a_row (half (size (delr_at m a)) (size (delc_at m a)) (size (hk_at m a)) (thickness m a)) (half (size (sym h.delr i)) (size (delc_at m a)) (size (sym h.hk i)) (sym h.thickness_of i)) in
     Same-trans (as_same same) (darcy_of (size (delr_at m a)) (size (delc_at m a)) (size (hk_at m a)) (thickness m a) (size_positive _ h.positive.0) (size_positive _ h.positive.1) (size_positive _ h.positive.2) h.positive.3)
+
+pub meets_darcy_along_columns : (m : FlowModel) (a b : ℕ) → AreAlikeInAColumn m a b → Same (column_conductance m a b) (over (times (times (times (size (hk_at m a)) (size (hani_at m a))) (thickness m a)) (size (delr_at m a))) (size (delc_at m a)))
+unfolding column_conductance
+meets_darcy_along_columns m a b h =
+    let d = size (delc_at m a) in
+    let w = size (delr_at m a) in
+    let k = times (size (hk_at m a)) (size (hani_at m a)) in
+    let t = thickness m a in
+    let same : column_conductance m a b ≡ in_a_row (half d w k t) (half d w k t) =
+    λ i. in_a_row (half d w k t) (half (size (sym h.delc i)) w (times (size (sym h.hk i)) (size (sym h.hani i))) (sym h.thickness_of i)) in
+    let hk = size_positive _ h.positive.0 in
+    let hani = size_positive _ h.positive.1 in
+    let product : 0 < k.num = let r = positive _ _ hk hani in omega (arith, (value_times (itself (size (hk_at m a))) (itself (size (hani_at m a)))).num, r) in
+    Same-trans (as_same same) (darcy_of d w k t (size_positive _ h.widths.0) (size_positive _ h.widths.1) product h.positive.2)
 
 -- k t w / d where k and t are 1 and w is d
 units : (k z t u w y d x : ℕ) → k * 1 ≡ 1 * z → t * 1 ≡ 1 * u → d * y ≡ w * x → (((k * t) * w) * x) * 1 ≡ 1 * (((z * u) * y) * d)

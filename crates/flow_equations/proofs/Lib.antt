@@ -2,6 +2,12 @@ mod Values
 pub mod Links
 mod Darcy
 mod StepSums
+mod Downwards
+mod Elevations
+mod TurnedFlows
+mod ChosenCells
+mod ReceivedFlows
+mod GivenAtSteps
 mod Solved
 mod Validity
 mod Loose

@@ -18,16 +18,16 @@ use Rattle.flow_equations.proofs.Values.{IsValue, itself, value_one, value_times
 positive : (a b : ℕ) → 0 < a → 0 < b → 0 < a * b
 positive a b p q = grind arith
 
-Same-self : (f : Ratio) → Same f f
+pub Same-self : (f : Ratio) → Same f f
 Same-self f = record { cross = refl }
 
-as_same : {f g : Ratio} → f ≡ g → Same f g
+pub as_same : {f g : Ratio} → f ≡ g → Same f g
 as_same {f} e = subst (Same f) e (record { cross = refl })
 
 both : {f g : Ratio} → Same f g → (f.num * den g ≤ g.num * den f) × (g.num * den f ≤ f.num * den g)
 both s = (omega (arith, s.cross), omega (arith, s.cross))
 
-value_ratio : (n : ℕ) → IsValue (ratio n 1) n 1
+pub value_ratio : (n : ℕ) → IsValue (ratio n 1) n 1
 unfolding ratio
 value_ratio n = record { num = refl; bottom = refl }
 
@@ -138,7 +138,7 @@ unfolding power
 power_one t zero e = Same-self one
 power_one t (suc n) e = Same-trans (times-Same (power_one t n e) e) (same_by (value_times value_one value_one) value_one (omega arith))
 
-geometric_one : (t : Ratio) (n : ℕ) → Same t one → Same (geometric t n) (ratio n 1)
+pub geometric_one : (t : Ratio) (n : ℕ) → Same t one → Same (geometric t n) (ratio n 1)
 unfolding geometric
 geometric_one t zero e = Same-self (ratio 0 1)
 geometric_one t (suc n) e = Same-trans (plus-Same (geometric_one t n e) (power_one t n e)) (same_by (value_plus (value_ratio n) value_one) (value_ratio (suc n)) (omega arith))

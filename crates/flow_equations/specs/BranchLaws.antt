@@ -4,7 +4,7 @@ use Rattle.decimal_input.specs.Canonical.{size}
 use Rattle.decimal_input.specs.Ratios.{Ratio, times, over, AtMost, Same}
 use Rattle.model_types.specs.declared.model.FlowModel.{FlowModel}
 use Rattle.model_types.specs.Cells.{row_of, column_of}
-use Rattle.model_types.specs.Layers.{delr_at, delc_at, hk_at, thickness}
+use Rattle.model_types.specs.Layers.{delr_at, delc_at, hk_at, hani_at, thickness}
 use Rattle.model_types.specs.Numbers.{IsPositive}
 use Rattle.model_types.specs.Conductances.{one, two, in_a_row, row_conductance, column_conductance}
 
@@ -23,6 +23,20 @@ pub record AreAlike (m : FlowModel) (a b : ℕ) : Type 0 where
 -- Between two cells that are alike Darcy's law has one conductance: HK * THICK * DELC / DELR.
 abbrev pub MeetsDarcy : FlowModel → Type 0
 MeetsDarcy m = (a b : ℕ) → AreAlike m a b → Same (row_conductance m a b) (over (times (times (size (hk_at m a)) (thickness m a)) (size (delc_at m a))) (size (delr_at m a)))
+
+-- two cells of one column with the same positive widths, conductivities and thickness
+pub record AreAlikeInAColumn (m : FlowModel) (a b : ℕ) : Type 0 where
+  pub delc : delc_at m a ≡ delc_at m b
+  pub hk : hk_at m a ≡ hk_at m b
+  pub hani : hani_at m a ≡ hani_at m b
+  pub thickness_of : thickness m a ≡ thickness m b
+  pub widths : IsPositive (delc_at m a) × IsPositive (delr_at m a)
+  pub positive : IsPositive (hk_at m a) × IsPositive (hani_at m a) × (0 < (thickness m a).num)
+
+-- Along columns the conductivity is HK * HANI: the conductance is HK * HANI * THICK * DELR / DELC.
+abbrev pub MeetsDarcyAlongColumns : FlowModel → Type 0
+MeetsDarcyAlongColumns m = (a b : ℕ) → AreAlikeInAColumn m a b →
+    Same (column_conductance m a b) (over (times (times (times (size (hk_at m a)) (size (hani_at m a))) (thickness m a)) (size (delr_at m a))) (size (delc_at m a)))
 
 -- Between square cells of unit conductivity and unit thickness it is 1.
 abbrev pub HasUnitBranches : FlowModel → Type 0

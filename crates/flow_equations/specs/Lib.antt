@@ -2,6 +2,10 @@ pub mod ExactStep
 pub mod Histories
 pub mod StepLaws
 pub mod BranchLaws
+pub mod VerticalLaws
+pub mod ReceiverLaws
+pub mod GivenHeadLaws
+pub mod SignLaws
 pub mod TimeLaws
 pub mod Worked
 pub mod WorkedLaws

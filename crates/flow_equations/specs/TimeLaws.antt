@@ -22,13 +22,17 @@ pub record Lasts (p : Period) : Type 0 where
   pub tsmult : IsPositive p.tsmult
   pub nstp : 1 ≤ p.nstp
 
+-- steps of one length: TSMULT is 1
+abbrev pub HasEqualSteps : Period → Type 0
+HasEqualSteps p = Same (size p.tsmult) one
+
 pub record HasManualSteps (p : Period) : Type 0 where
   -- each step is TSMULT times as long as the one before
   pub grows : (n : ℕ) → 1 ≤ n → Same (step_length p (n + 1)) (times (size p.tsmult) (step_length p n))
   -- the first one by the manual's formula, dt * (T^NSTP - 1) = PERLEN * (T - 1), with what is subtracted on the other side
   pub first : Same (plus (times (step_length p 1) (power (size p.tsmult) p.nstp)) (size p.perlen)) (plus (times (size p.perlen) (size p.tsmult)) (step_length p 1))
   -- steps of one length where TSMULT is 1
-  pub equal : Same (size p.tsmult) one → (n : ℕ) → Same (step_length p n) (over (size p.perlen) (ratio p.nstp 1))
+  pub equal : HasEqualSteps p → (n : ℕ) → Same (step_length p n) (over (size p.perlen) (ratio p.nstp 1))
   -- all steps together are the period
   pub whole : Same (ratio_total (step_length p) (range_with_len 1 p.nstp)) (size p.perlen)
   -- and the steps up to the n-th are the part F of it

@@ -1,13 +1,16 @@
 // Conductances by the textbook.
+ghost use Rattle.std.specs.Prelude.{ℕ};
 ghost use Rattle.model_types.specs.declared.model.FlowModel.{FlowModel};
-ghost use Rattle.flow_equations.specs.BranchLaws.{IsSameFromBothEnds, MeetsDarcy, HasUnitBranches, IsHarmonic};
+ghost use Rattle.flow_equations.specs.BranchLaws.{IsSameFromBothEnds, MeetsDarcy, MeetsDarcyAlongColumns, HasUnitBranches, IsHarmonic};
+ghost use Rattle.flow_equations.specs.SignLaws.{FlowsChangeSign};
+ghost use Rattle.flow_equations.specs.VerticalLaws.{MeetsDarcyDownwards, HasVerticalConductivity, LayersFillTheSpace};
 
 /// A branch is the same from both ends.
 pub fn same_from_both_ends()
     ensures { (m : FlowModel) → IsSameFromBothEnds m }
 {}
 
-/// Between two cells that are alike the conductance is HK * THICK * DELC / DELR.
+/// Between two cells of a row that are alike the conductance is HK * THICK * DELC / DELR.
 pub fn darcy()
     ensures { (m : FlowModel) → MeetsDarcy m }
 {}
@@ -20,4 +23,29 @@ pub fn unit_branches()
 /// The harmonic mean lies between the conductances of the two halves.
 pub fn harmonic_mean()
     ensures { IsHarmonic }
+{}
+
+/// Between two cells of a column that are alike the conductance is HK * HANI * THICK * DELR / DELC.
+pub fn darcy_along_columns()
+    ensures { (m : FlowModel) → MeetsDarcyAlongColumns m }
+{}
+
+/// Between two cells one above the other, of one material with the bed between them, the conductance is VK * DELR * DELC over the distance between their centres.
+pub fn darcy_downwards()
+    ensures { (m : FlowModel) → MeetsDarcyDownwards m }
+{}
+
+/// A cell, the bed below it and the cell of the next layer fill the space between them.
+pub fn layers_fill_the_space()
+    ensures { (m : FlowModel) → LayersFillTheSpace m }
+{}
+
+/// VKA is the vertical conductivity, or the ratio of HK to it.
+pub fn vertical_conductivities()
+    ensures { (m : FlowModel) (c : ℕ) → HasVerticalConductivity m c }
+{}
+
+/// Flows over branches change their sign with the heads.
+pub fn flows_change_sign()
+    ensures { FlowsChangeSign }
 {}

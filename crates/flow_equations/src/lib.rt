@@ -3,5 +3,6 @@
 
 pub mod branches;
 pub mod steps;
+pub mod stresses;
 pub mod times;
 pub mod worked;

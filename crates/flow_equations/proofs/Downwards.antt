@@ -1,0 +1,100 @@
+-- Vertical conductances through one material, and the vertical conductivity of a cell.
+use Rattle.std.proofs.Common.{◌≡◌, ℕ, ◌+◌, ◌*◌, ◌<◌, ◌⊎◌, inl, inr, cond, ap, arith}
+use Rattle.decimal_input.specs.Canonical.{size}
+use Rattle.decimal_input.specs.Ratios.{Ratio, den, plus, times, over, Same}
+use Rattle.decimal_input.proofs.Orders.{Same-trans, num_over}
+use Rattle.model_types.specs.declared.model.FlowModel.{FlowModel}
+use Rattle.model_types.specs.Layers.{area, thickness, bed_thickness, hk_at, vka_at, vkcb_at, vertical_conductivity}
+use Rattle.model_types.specs.Conductances.{two, vertical_half, vertical_conductance}
+use Rattle.flow_equations.specs.VerticalLaws.{distance, IsOneMaterial, HasVerticalConductivity}
+use Rattle.flow_equations.proofs.Values.{itself, value_two, value_times, value_plus, value_over, same_by, size_positive}
+use Rattle.flow_equations.proofs.StepSums.{plus-Same, over-Same, Same-self, as_same}
+
+-- what is the same as a number above 0 is above 0
+above_zero : (k n d m : ℕ) → 0 < k → 0 < d → n * m ≡ k * d → 0 < n
+above_zero k n d m some under e = let r : 0 < k * d = product_above k d some under in none_or_some n m e r
+  where
+    product_above : (a b : ℕ) → 0 < a → 0 < b → 0 < a * b
+    product_above a b p q = grind arith
+
+    none_or_some : (n m : ℕ) → n * m ≡ k * d → 0 < k * d → 0 < n
+    none_or_some n m e r = grind arith
+
+-- a length over one conductivity: two of them in a row
+join : (a x b y k z : ℕ) → ((a * z) * (y * k) + (b * z) * (x * k)) * ((x * y) * k) ≡ ((a * y + b * x) * z) * ((x * k) * (y * k))
+join a x b y k z = omega arith
+
+joined : (k f g : Ratio) → 0 < k.num → Same (plus (over f k) (over g k)) (over (plus f g) k)
+joined k f g some = same_by (value_plus (value_over some (itself f) (itself k)) (value_over some (itself g) (itself k))) (value_over some (value_plus (itself f) (itself g)) (itself k)) (join f.num (den f) g.num (den g) k.num (den k))
+
+-- A / (D / k) = k A / D
+turn_over : (a x d y k z : ℕ) → (a * (y * k)) * ((z * x) * d) ≡ ((k * a) * y) * (x * (d * z))
+turn_over a x d y k z = omega arith
+
+turned_over : (k A D : Ratio) → 0 < k.num → 0 < D.num → Same (over A (over D k)) (over (times k A) D)
+turned_over k A D some room =
+    let inner = value_over some (itself D) (itself k) in
+    same_by (value_over (positive D.num (den k) room (omega arith)) (itself A) inner) (value_over room (value_times (itself k) (itself A)) (itself D)) (turn_over A.num (den A) D.num (den D) k.num (den k))
+  where
+    positive : (a b : ℕ) → 0 < a → 0 < b → 0 < a * b
+    positive a b p q = grind arith
+
+nothing_over : (f g h : Ratio) → f.num ≡ 0 → Same (over f g) (over f h)
+nothing_over f g h e = record { cross = rw (num_over, num_over, e) (omega arith) }
+
+module _ (m : FlowModel) (k : Ratio) (a b : ℕ) (h : IsOneMaterial m k a b) where
+  conducts : (f : Ratio) → Same f k → 0 < f.num
+  conducts f s = above_zero k.num f.num (den f) (den k) h.positive (omega arith) s.cross
+
+  of_half : (c : ℕ) → Same (vertical_conductivity m c) k → Same (vertical_half m c) (over (over (thickness m c) two) k)
+  unfolding vertical_half
+  of_half c s = over-Same (conducts (vertical_conductivity m c) s) h.positive (Same-self (over (thickness m c) two)) s
+
+  of_bed : ((bed_thickness m a).num ≡ 0) ⊎ Same (size (vkcb_at m a)) k → Same (over (bed_thickness m a) (size (vkcb_at m a))) (over (bed_thickness m a) k)
+  of_bed (inl e) = nothing_over (bed_thickness m a) (size (vkcb_at m a)) k e
+  of_bed (inr s) = over-Same (conducts (size (vkcb_at m a)) s) h.positive (Same-self (bed_thickness m a)) s
+
+  resistance : Same (plus (plus (vertical_half m a) (over (bed_thickness m a) (size (vkcb_at m a)))) (vertical_half m b)) (over (distance m a b) k)
+  resistance =
+      let upper = over (thickness m a) two in
+      let lower = over (thickness m b) two in
+      Same-trans (plus-Same (plus-Same (of_half a h.upper) (of_bed h.bed)) (of_half b h.lower))
+      (Same-trans (plus-Same (joined k upper (bed_thickness m a) h.positive) (Same-self (over lower k))) (joined k (plus upper (bed_thickness m a)) lower h.positive))
+
+  room : 0 < (distance m a b).num
+  room =
+      let upper = value_over (omega (arith, value_two.num)) (itself (thickness m a)) value_two in
+      let whole = value_plus (value_plus upper (itself (bed_thickness m a))) (value_over (omega (arith, value_two.num)) (itself (thickness m b)) value_two) in
+      omega (arith, whole.num, some (thickness m a).num (den (bed_thickness m a)) (den (thickness m b) * 2) ((bed_thickness m a).num * (den (thickness m a) * 2)) (((thickness m b).num * 1) * ((den (thickness m a) * 2) * den (bed_thickness m a))) h.thick (omega arith) (omega arith))
+    where
+      some : (t x y r s : ℕ) → 0 < t → 0 < x → 0 < y → 0 < ((t * 1) * x + r) * y + s
+      some t x y r s p q w = let e : 0 < (t * 1) * x = product t x p q in let f : 0 < ((t * 1) * x + r) * y = product_of ((t * 1) * x + r) y (omega (arith, e)) w in omega (arith, f)
+        where
+          product_of : (a b : ℕ) → 0 < a → 0 < b → 0 < a * b
+          product_of a b p q = grind arith
+
+          product : (a b : ℕ) → 0 < a → 0 < b → 0 < (a * 1) * b
+          product a b p q = grind arith
+
+  pub meets_darcy_downwards : Same (vertical_conductance m a b) (over (times k (area m a)) (distance m a b))
+  unfolding vertical_conductance area
+  meets_darcy_downwards =
+      let sum = resistance in
+      let above : 0 < (over (distance m a b) k).num = omega (arith, (value_over h.positive (itself (distance m a b)) (itself k)).num, product (distance m a b).num (den k) room (omega arith)) in
+      Same-trans (over-Same (above_zero (over (distance m a b) k).num _ (den (plus (plus (vertical_half m a) (over (bed_thickness m a) (size (vkcb_at m a)))) (vertical_half m b))) (den (over (distance m a b) k)) above (omega arith) sum.cross) above (Same-self (area m a)) sum) (turned_over k (area m a) (distance m a b) h.positive room)
+    where
+      product : (a b : ℕ) → 0 < a → 0 < b → 0 < a * b
+      product a b p q = grind arith
+
+quotient_times : (n x d y : ℕ) → ((n * y) * d) * x ≡ n * ((x * d) * y)
+quotient_times n x d y = omega arith
+
+pub vertical_conductivity_of : (m : FlowModel) (c : ℕ) → HasVerticalConductivity m c
+vertical_conductivity_of m c = record {
+  given = (λ e. as_same (ap (λ b. cond b (over (size (hk_at m c)) (size (vka_at m c))) (size (vka_at m c))) e));
+  ratio = (λ e h.
+      let hk = size (hk_at m c) in
+      let vka = size (vka_at m c) in
+      let same = ap (λ b. times (cond b (over hk vka) vka) vka) e in
+      Same-trans (as_same same) (same_by (value_times (value_over (size_positive (vka_at m c) h) (itself hk) (itself vka)) (itself vka)) (itself hk) (quotient_times hk.num (den hk) vka.num (den vka))));
+}

@@ -1,0 +1,188 @@
+-- Given heads at the last step, half-way, and in later periods.
+use Rattle.std.proofs.Common.{◌≡◌, ℕ, zero, suc, ◌+◌, ◌*◌, ◌-◌, ◌<◌, ◌≤◌, inl, inr, Bool, true, false, cond, ◌||◌, Some, None, List, [], ◌∷◌, ◌++◌, length, take, get_or, refl, sym, ap, ◌∙◌, subst, arith, ℤ, pos, neg_ℤ, ◌+ℤ◌, ◌*ℤ◌}
+use Rattle.std.specs.Prelude.{reverse, ◌==◌}
+use Rattle.std.specs.List.{find, flat_map}
+use Rattle.std.proofs.lemmas.Bool.{ne_eqb, cases_lt}
+use Rattle.std.proofs.lemmas.Int.{ints}
+use Rattle.std.proofs.lemmas.List.{reverse-append, take_all, take_more, append-nil}
+use Rattle.std.proofs.lemmas.List.Concat.{flat_map-append}
+use Rattle.decimal_input.specs.Canonical.{number, size}
+use Rattle.decimal_input.specs.Ratios.{Ratio, den as ratio_den, ratio, over, Same as SameRatio}
+use Rattle.decimal_input.specs.Fractions.{Fraction, den, signed, negated, plus, times, IsOver, Same}
+use Rattle.decimal_input.specs.Enclosures.{IsShare}
+use Rattle.decimal_input.proofs.Differences.{diffs, as_diff, same_diff}
+use Rattle.decimal_input.proofs.Signs.{swap}
+use Rattle.step_problem.proofs.Ring.{mul_assoc}
+use Rattle.cell_balance.proofs.Scaling.{IsOver-plus, IsOver-times, IsOver-negated, IsOver-signed}
+use Rattle.cell_balance.proofs.EntryScaled.{same_over}
+use Rattle.model_types.specs.declared.model.FlowModel.{FlowModel}
+use Rattle.model_types.specs.declared.period.Period.{Period}
+use Rattle.model_types.specs.declared.entry.Given.{Given}
+use Rattle.model_types.specs.Conductances.{one}
+use Rattle.model_types.specs.Times.{period_at, no_period, passed, geometric, multiplier}
+use Rattle.model_types.specs.Kinds.{given_in, last_given}
+use Rattle.model_types.specs.Heads.{between_heads, head_or_kept, kept_head, constant_head}
+use Rattle.flow_equations.specs.TimeLaws.{Lasts, HasEqualSteps}
+use Rattle.flow_equations.specs.GivenHeadLaws.{HasGivenHead}
+use Rattle.flow_equations.proofs.Values.{value_one, itself, value_over, cross_by}
+use Rattle.flow_equations.proofs.StepSums.{geometric_one, value_ratio}
+use Rattle.flow_equations.proofs.TurnedFlows.{over_first, over_second, positive}
+
+-- Shead + (Ehead - Shead) * f, where f is n over k
+module _ (x : Given) (f : Ratio) (k n : ℕ) (some : 0 < k) (share : IsShare k f n) where
+  abbrev s : Fraction
+  s = number x.shead
+
+  abbrev e : Fraction
+  e = number x.ehead
+
+  abbrev m : ℕ
+  m = den s * den e
+
+  abbrev a : ℤ
+  a = s.num *ℤ pos (den e)
+
+  abbrev b : ℤ
+  b = e.num *ℤ pos (den s)
+
+  wider : (g : Fraction) (z : ℤ) → IsOver m g z → IsOver (m * k) g (z *ℤ pos k)
+  wider g z p = record { is = sym (mul_assoc g.num (pos m) (pos k)) ∙ ap (λ (y : ℤ). y *ℤ pos k) p.is ∙ swap z (pos (den g)) (pos k) }
+
+  between_over : IsOver (m * k) (between_heads x f) (a *ℤ pos k +ℤ (b +ℤ neg_ℤ a) *ℤ pos n)
+  between_over = IsOver-plus (m * k) s (times (plus e (negated s)) (signed f)) _ _ (wider s a (over_first s e))
+      (IsOver-times m k (plus e (negated s)) (signed f) (b +ℤ neg_ℤ a) (pos n) (IsOver-plus m e (negated s) b (neg_ℤ a) (over_second s e) (IsOver-negated m s a (over_first s e))) (IsOver-signed k f n share))
+
+  some_over : 0 < m * k
+  some_over = positive m k (positive (den s) (den e) (omega arith) (omega arith)) some
+
+  -- the whole of the way
+  at_end : n ≡ k → Same (between_heads x f) e
+  at_end same = same_over (m * k) _ _ _ _ some_over between_over (wider e b (over_second s e)) (ap (λ (j : ℕ). a *ℤ pos k +ℤ (b +ℤ neg_ℤ a) *ℤ pos j) same ∙ all_the_way a b (pos k))
+    where
+      all_the_way : (u v w : ℤ) → u *ℤ w +ℤ (v +ℤ neg_ℤ u) *ℤ w ≡ v *ℤ w
+      all_the_way u v w = rw (as_diff u, as_diff v, as_diff w) (simp diffs (same_diff _ _ _ _ (omega arith)))
+
+  -- half of it
+  half_way : 2 * n ≡ k → Same (plus (between_heads x f) (between_heads x f)) (plus s e)
+  half_way twice = same_over (m * k) _ _ _ _ some_over (IsOver-plus (m * k) _ _ _ _ between_over between_over) (IsOver-plus (m * k) s e _ _ (wider s a (over_first s e)) (wider e b (over_second s e))) (half a b (pos n) (pos k) (doubled n k twice))
+    where
+      doubled : (j i : ℕ) → 2 * j ≡ i → pos i ≡ pos j +ℤ pos j
+      doubled j i twice = omega (arith, ints)
+
+      halves : (u v w : ℤ) → (u *ℤ (w +ℤ w) +ℤ (v +ℤ neg_ℤ u) *ℤ w) +ℤ (u *ℤ (w +ℤ w) +ℤ (v +ℤ neg_ℤ u) *ℤ w) ≡ u *ℤ (w +ℤ w) +ℤ v *ℤ (w +ℤ w)
+      halves u v w = rw (as_diff u, as_diff v, as_diff w) (simp diffs (same_diff _ _ _ _ (omega arith)))
+
+      half : (u v w t : ℤ) → t ≡ w +ℤ w → (u *ℤ t +ℤ (v +ℤ neg_ℤ u) *ℤ w) +ℤ (u *ℤ t +ℤ (v +ℤ neg_ℤ u) *ℤ w) ≡ u *ℤ t +ℤ v *ℤ t
+      half u v w t is = rw is (halves u v w)
+
+passed_at_end : (p : Period) → passed p p.nstp ≡ one
+unfolding passed
+passed_at_end p = ap (λ b. cond (b || p.perlen.digits == 0) one (over (geometric (multiplier p) p.nstp) (geometric (multiplier p) p.nstp))) (itself_eq p.nstp)
+  where
+    itself_eq : (n : ℕ) → (n == n) ≡ true
+    itself_eq n = grind arith
+
+-- one of two equal steps is half of the period
+passed_half : (p : Period) → Lasts p → HasEqualSteps p → p.nstp ≡ 2 → 2 * (passed p 1).num ≡ ratio_den (passed p 1)
+unfolding passed
+passed_half p h equal two =
+    let T = size p.tsmult in
+    let first : (1 == p.nstp) ≡ false = ne_eqb 1 p.nstp (λ z. omega (arith, z, two)) in
+    let lasts : (p.perlen.digits == 0) ≡ false = ne_eqb p.perlen.digits 0 (λ z. omega (arith, z, h.perlen.positive)) in
+    let transient : multiplier p ≡ T = ap (λ s. cond s one T) h.transient in
+    let is : passed p 1 ≡ over (geometric T 1) (geometric T p.nstp) = λ i. cond (first i || lasts i) one (over (geometric (transient i) 1) (geometric (transient i) p.nstp)) in
+    subst (λ (f : Ratio). 2 * f.num ≡ ratio_den f) (sym is) (half_of T p.nstp two (geometric_one T 1 equal) (geometric_one T p.nstp equal))
+  where
+    half_of : (T : Ratio) (n : ℕ) → n ≡ 2 → SameRatio (geometric T 1) (ratio 1 1) → SameRatio (geometric T n) (ratio n 1) → 2 * (over (geometric T 1) (geometric T n)).num ≡ ratio_den (over (geometric T 1) (geometric T n))
+    half_of T n two e f =
+        let sum : (geometric T n).num * 1 ≡ n * ratio_den (geometric T n) = cross_by (itself (geometric T n)) (value_ratio n) f in
+        let first : (geometric T 1).num * 1 ≡ 1 * ratio_den (geometric T 1) = cross_by (itself (geometric T 1)) (value_ratio 1) e in
+        let some : 0 < (geometric T n).num = omega (arith, sum, two, twice_some n (ratio_den (geometric T n)) two (omega arith)) in
+        let value = value_over some (itself (geometric T 1)) (itself (geometric T n)) in
+        ap (λ j. 2 * j) value.num ∙ meet (geometric T 1).num (ratio_den (geometric T 1)) (geometric T n).num (ratio_den (geometric T n)) n two first sum ∙ sym value.bottom
+      where
+        twice_some : (n d : ℕ) → n ≡ 2 → 0 < d → 0 < n * d
+        twice_some n d two h = rw two (omega (arith, h))
+
+        meet : (a x b y n : ℕ) → n ≡ 2 → a * 1 ≡ 1 * x → b * 1 ≡ n * y → 2 * (a * y) ≡ x * b
+        meet a x b y n two e f =
+            let a' : a ≡ x = omega (arith, e) in
+            let b' : b ≡ 2 * y = f' b y n two f in
+            rw (a', b') (omega arith)
+          where
+            f' : (b y n : ℕ) → n ≡ 2 → b * 1 ≡ n * y → b ≡ 2 * y
+            f' b y n two f = let g : n * y ≡ 2 * y = ap (λ k. k * y) two in omega (arith, f, g)
+
+module _ (m : FlowModel) (p c : ℕ) (x : Given) (given : given_in (period_at m p).given c ≡ Some x) where
+  named : (n : ℕ) → constant_head m p n c ≡ between_heads x (passed (period_at m p) n)
+  unfolding constant_head
+  named n = ap (λ o. head_or_kept m p n o c) given
+
+  at_last : Same (constant_head m p (period_at m p).nstp c) (number x.ehead)
+  at_last = subst (λ (f : Fraction). Same f (number x.ehead)) (sym (named (period_at m p).nstp ∙ ap (between_heads x) (passed_at_end (period_at m p)))) (at_end x one 1 1 (omega arith) (record { is = omega (arith, value_one.num, value_one.bottom) }) refl)
+
+  at_half : Lasts (period_at m p) → HasEqualSteps (period_at m p) → (period_at m p).nstp ≡ 2 → Same (plus (constant_head m p 1 c) (constant_head m p 1 c)) (plus (number x.shead) (number x.ehead))
+  at_half h e two =
+      let f = passed (period_at m p) 1 in
+      subst (λ (z : Fraction). Same (plus z z) (plus (number x.shead) (number x.ehead))) (sym (named 1)) (half_way x f (ratio_den f) f.num (omega arith) (record { is = refl }) (passed_half (period_at m p) h e two))
+
+find_more : {X : Type 0} (test : X → Bool) (xs ys : List X) (x : X) → find test xs ≡ Some x → find test (xs ++ ys) ≡ Some x
+find_more test [] ys x e = absurd (none e)
+  where
+    none : {X : Type 0} {x : X} → None ≡ Some x → ⊥
+    none e = grind arith
+find_more test (z ∷ zs) ys x e = by (test z) (find_more test zs ys x) e
+  where
+    by : (b : Bool) → (find test zs ≡ Some x → find test (zs ++ ys) ≡ Some x) → cond b (Some z) (find test zs) ≡ Some x → cond b (Some z) (find test (zs ++ ys)) ≡ Some x
+    by true h e = e
+    by false h e = h e
+
+find_past : {X : Type 0} (test : X → Bool) (xs ys : List X) → find test xs ≡ None → find test (xs ++ ys) ≡ find test ys
+find_past test [] ys e = refl
+find_past test (z ∷ zs) ys e = by (test z) (find_past test zs ys) e
+  where
+    some : {X : Type 0} {x : X} → Some x ≡ None → ⊥
+    some e = grind arith
+
+    by : (b : Bool) → (find test zs ≡ None → find test (zs ++ ys) ≡ find test ys) → cond b (Some z) (find test zs) ≡ None → cond b (Some z) (find test (zs ++ ys)) ≡ find test ys
+    by true h e = absurd (some e)
+    by false h e = h e
+
+given_last : (us vs : List Given) (c : ℕ) (x : Given) → given_in vs c ≡ Some x → given_in (us ++ vs) c ≡ Some x
+unfolding given_in
+given_last us vs c x e = ap (find (λ y. y.cell.0 == c)) (reverse-append us vs) ∙ find_more (λ y. y.cell.0 == c) (reverse vs) (reverse us) x e
+
+given_before : (us vs : List Given) (c : ℕ) → given_in vs c ≡ None → given_in (us ++ vs) c ≡ given_in us c
+unfolding given_in
+given_before us vs c e = ap (find (λ y. y.cell.0 == c)) (reverse-append us vs) ∙ find_past (λ y. y.cell.0 == c) (reverse vs) (reverse us) e
+
+module _ (ps : List Period) (c : ℕ) where
+  abbrev list_at : ℕ → List Given
+  list_at k = (get_or ps k no_period).given
+
+  lists_more : (k : ℕ) → k < length ps → flat_map (λ q. q.given) (take (suc k) ps) ≡ flat_map (λ q. q.given) (take k ps) ++ list_at k
+  lists_more k lt = (let on : suc k ≡ k + 1 = omega arith in ap (λ n. flat_map (λ q. q.given) (take n ps)) on) ∙ ap (flat_map (λ q. q.given)) (take_more ps k no_period lt) ∙ flat_map-append (λ q. q.given) (take k ps) (get_or ps k no_period ∷ []) ∙ ap (λ zs. flat_map (λ q. q.given) (take k ps) ++ zs) (append-nil (list_at k))
+
+  -- the last list that names the cell is that of period p, counted from 0 here, as long as no later one does
+  lasting : (p k : ℕ) (x : Given) → given_in (list_at p) c ≡ Some x → p < length ps → p ≤ k → ((r : ℕ) → p < r → r ≤ k → given_in (list_at r) c ≡ None) → last_given (take (suc k) ps) c ≡ Some x
+  lasting p zero x e within le none =
+      let here : p ≡ 0 = omega (arith, le) in
+      ap (λ xs. given_in xs c) (lists_more 0 (omega (arith, here, within))) ∙ given_last [] (list_at 0) c x (subst (λ j. given_in (list_at j) c ≡ Some x) here e)
+  lasting p (suc k) x e within le none = elim (cases_lt p (suc k)) [
+    | inl before ↦ elim (cases_lt (suc k) (length ps)) [
+      | inl inside ↦ ap (λ xs. given_in xs c) (lists_more (suc k) inside) ∙ given_before _ (list_at (suc k)) c (none (suc k) before (omega arith)) ∙ lasting p k x e within (omega (arith, before)) (λ r lt more. none r lt (omega (arith, more)))
+      | inr past ↦ ap (λ xs. last_given xs c) (take_all (suc (suc k)) ps (omega (arith, past)) ∙ sym (take_all (suc k) ps (omega (arith, past)))) ∙ lasting p k x e within (omega (arith, before)) (λ r lt more. none r lt (omega (arith, more)))
+    ]
+    | inr after ↦ (let here : p ≡ suc k = omega (arith, le, after) in ap (λ xs. given_in xs c) (lists_more (suc k) (omega (arith, here, within))) ∙ given_last _ (list_at (suc k)) c x (subst (λ j. given_in (list_at j) c ≡ Some x) here e))
+  ]
+
+kept_after : (m : FlowModel) (p c : ℕ) (x : Given) → given_in (period_at m p).given c ≡ Some x → (q n : ℕ) → 1 ≤ p → p ≤ length m.periods → p < q → ((r : ℕ) → p < r → r ≤ q → given_in (period_at m r).given c ≡ None) → Same (constant_head m q n c) (number x.ehead)
+unfolding constant_head
+kept_after m p c x e q n first within later none =
+    let last : last_given (take (suc (q - 2)) m.periods) c ≡ Some x = lasting m.periods c (p - 1) (q - 2) x e (omega (arith, first, within)) (omega (arith, later)) (λ r lt le. subst (λ (j : ℕ). given_in (get_or m.periods j no_period).given c ≡ None) (omega (arith, lt)) (none (suc r) (omega (arith, lt, first)) (omega (arith, le, later, first)))) in
+    let before : suc (q - 2) ≡ q - 1 = omega (arith, later, first) in
+    let is : constant_head m q n c ≡ number x.ehead = ap (λ o. head_or_kept m q n o c) (none q later (omega arith)) ∙ ap (λ o. kept_head m o c) (ap (λ k. last_given (take k m.periods) c) (sym before) ∙ last) in
+    subst (λ (f : Fraction). Same f (number x.ehead)) (sym is) (record { same = refl })
+
+pub given_heads_of : (m : FlowModel) (p c : ℕ) (x : Given) → given_in (period_at m p).given c ≡ Some x → HasGivenHead m p c x
+given_heads_of m p c x e = record { last = at_last m p c x e; half = at_half m p c x e; kept = kept_after m p c x e }

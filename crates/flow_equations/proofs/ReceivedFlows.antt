@@ -1,0 +1,145 @@
+-- The recharge of a cell, and what evapotranspiration takes at the two ends of its range.
+use Rattle.std.proofs.Common.{◌≡◌, ℕ, ◌*◌, ◌<◌, inl, Bool, false, cond, Option, Some, None, List, ◌++◌, map, refl, sym, ap, ◌∙◌, subst, arith, ℤ, pos, neg_ℤ, ◌+ℤ◌, ◌-ℤ◌, ◌*ℤ◌}
+use Rattle.std.specs.Prelude.{All, Contains}
+use Rattle.std.specs.Int.{int_max}
+use Rattle.std.specs.Option.{option_to_list}
+use Rattle.std.specs.List.{filter_map}
+use Rattle.std.proofs.lemmas.Int.{ints, clamps}
+use Rattle.decimal_input.specs.declared.dec.Dec.{Dec}
+use Rattle.decimal_input.specs.Canonical.{number, size}
+use Rattle.decimal_input.specs.Ratios.{Ratio, den as ratio_den, times}
+use Rattle.decimal_input.specs.Fractions.{Fraction, den, whole, signed, negated, plus, times as product, IsOver, Same}
+use Rattle.decimal_input.specs.Decimals.{with_sign}
+use Rattle.decimal_input.proofs.Fractional.{Same-trans}
+use Rattle.step_problem.specs.declared.entry.FlowKind.TheVariants.{Wells, Recharge}
+use Rattle.cell_balance.specs.Steps.{ExactFlow}
+use Rattle.cell_balance.specs.Balance.{minus, greater}
+use Rattle.cell_balance.proofs.Scaling.{IsOver-plus, IsOver-times, IsOver-minus, IsOver-negated, IsOver-none, IsOver-signed, IsOver-greater}
+use Rattle.cell_balance.proofs.EntryScaled.{same_over}
+use Rattle.cell_balance.proofs.EntryFlows.{flows_are_right}
+use Rattle.model_types.specs.declared.model.FlowModel.{FlowModel}
+use Rattle.model_types.specs.declared.entry.Entry.{Entry}
+use Rattle.model_types.specs.declared.entry.Entry.TheVariants.{Well, River, Drain, General}
+use Rattle.model_types.specs.Cells.{place_in_layer}
+use Rattle.model_types.specs.Layers.{dec_at, area}
+use Rattle.model_types.specs.Numbers.{IsPositive}
+use Rattle.model_types.specs.Times.{period_at}
+use Rattle.model_types.specs.Receivers.{EvapSource, is_chosen, evap_conductance}
+use Rattle.model_types.specs.Sources.{FlowSource, local_entries, as_well}
+use Rattle.model_types.specs.Sources.FlowSource.{Received}
+use Rattle.model_types.proofs.Members.{All-In, map-In, filter_map-In, Contains-In}
+use Rattle.flow_equations.specs.ExactStep.{exact_flow, exact_evap}
+use Rattle.flow_equations.specs.ReceiverLaws.{recharge_of, ReceivesRecharge, Evaporates}
+use Rattle.flow_equations.proofs.Values.{IsValue, itself, value_over, size_positive}
+use Rattle.flow_equations.proofs.TurnedFlows.{over_first, own_share, positive}
+
+module _ (m : FlowModel) (p n : ℕ) (old : ℕ → Fraction) (c : ℕ) where
+  abbrev rate : Dec
+  rate = dec_at (period_at m p).recharge (place_in_layer m.grid c)
+
+  abbrev chosen : Bool
+  chosen = is_chosen m m.nrchop (period_at m p).irch c
+
+  abbrev flows : Option Dec → List ExactFlow
+  flows r = map (exact_flow m p n old c) (map Received (option_to_list r) ++ filter_map as_well (local_entries m p c))
+
+  -- a well's flow alone comes of an entry
+  of_entry : (e : Entry) (s : FlowSource) → as_well e ≡ Some s → (exact_flow m p n old c s).kind ≡ Wells
+  of_entry (Well k q) s e = ap (λ z. (exact_flow m p n old c z).kind) (sym (some_is _ _ e))
+    where
+      some_is : (x y : FlowSource) → Some x ≡ Some y → x ≡ y
+      some_is x y e = ap (λ o. or_else o) e
+        where
+          or_else : Option FlowSource → FlowSource
+          or_else None = x
+          or_else (Some z) = z
+  of_entry (River k s g b) t e = absurd (none e)
+    where
+      none : {x : FlowSource} → None ≡ Some x → ⊥
+      none e = grind arith
+  of_entry (Drain k s g) t e = absurd (none e)
+    where
+      none : {x : FlowSource} → None ≡ Some x → ⊥
+      none e = grind arith
+  of_entry (General k s g) t e = absurd (none e)
+    where
+      none : {x : FlowSource} → None ≡ Some x → ⊥
+      none e = grind arith
+
+  wells_alone : All (λ x. x.kind ≡ Wells) (flows None)
+  wells_alone = All-In (λ x. x.kind ≡ Wells) (flows None) (λ x i.
+      let (s, j, e) = map-In (exact_flow m p n old c) (filter_map as_well (local_entries m p c)) x i in
+      let (y, k, f) = filter_map-In as_well (local_entries m p c) s j in
+      subst (λ (z : ExactFlow). z.kind ≡ Wells) e (of_entry y s f))
+
+  pub receives : ReceivesRecharge m p n old c
+  receives = record {
+    chosen = (λ e. subst (λ (b : Bool). Contains (flows (cond b (Some rate) None)) (record { kind = Recharge; flow = recharge_of m p c })) (sym e) (Contains-In (flows (Some rate)) _ (inl refl)));
+    other = (λ e. subst (λ (b : Bool). All (λ x. x.kind ≡ Wells) (flows (cond b (Some rate) None))) (sym e) wells_alone);
+  }
+
+-- a number of the input that is above 0 is its magnitude
+as_size : (d : Dec) → d.neg ≡ false → number d ≡ signed (size d)
+as_size d e = λ i. record { num = with_sign (e i) (size d).num; less = (size d).less }
+
+module _ (m : FlowModel) (c : ℕ) (x : EvapSource) (h : IsPositive x.depth) where
+  abbrev rates : Ratio
+  rates = times (size x.rate) (area m c)
+
+  abbrev deep : Ratio
+  deep = size x.depth
+
+  abbrev s : Fraction
+  s = number x.surface
+
+  abbrev C : Ratio
+  C = evap_conductance m c x
+
+  value : IsValue C (rates.num * ratio_den deep) (ratio_den rates * deep.num)
+  value = value_over (size_positive x.depth h) (itself rates) (itself deep)
+
+  abbrev D : ℕ
+  D = den s * ratio_den deep
+
+  surface_over : IsOver D s (s.num *ℤ pos (ratio_den deep))
+  surface_over = over_first s (signed deep)
+
+  depth_over : IsOver D (number x.depth) (pos (deep.num * den s))
+  depth_over = subst (λ (f : Fraction). IsOver D f (pos (deep.num * den s))) (sym (as_size x.depth h.sign)) (record { is = ap pos (turn deep.num (den s) (ratio_den deep)) })
+    where
+      turn : (n a b : ℕ) → n * (a * b) ≡ n * a * b
+      turn n a b = omega arith
+
+  -- the surface less the extinction elevation is the extinction depth
+  room_over : IsOver D (greater (minus s (plus s (negated (number x.depth)))) (whole (pos 0))) (pos (deep.num * den s))
+  room_over = subst (λ (z : ℤ). IsOver D (greater (minus s (plus s (negated (number x.depth)))) (whole (pos 0))) z) (room (s.num *ℤ pos (ratio_den deep)) (deep.num * den s))
+      (IsOver-greater D _ _ _ _ (IsOver-minus D s (plus s (negated (number x.depth))) _ _ surface_over (IsOver-plus D s (negated (number x.depth)) _ _ surface_over (IsOver-negated D (number x.depth) _ depth_over))) (IsOver-none D))
+    where
+      room : (a : ℤ) (n : ℕ) → int_max (a -ℤ (a +ℤ neg_ℤ (pos n))) (pos 0) ≡ pos n
+      room a n = omega (arith, ints, clamps)
+
+  abbrev full : Fraction
+  full = product (signed C) (greater (minus s (plus s (negated (number x.depth)))) (whole (pos 0)))
+
+  abbrev taken : ℕ
+  taken = C.num * (deep.num * den s)
+
+  full_over : IsOver (ratio_den C * D) full (pos taken)
+  full_over = IsOver-times (ratio_den C) D (signed C) (greater (minus s (plus s (negated (number x.depth)))) (whole (pos 0))) (pos C.num) (pos (deep.num * den s)) (IsOver-signed (ratio_den C) C C.num (own_share C)) room_over
+
+  rates_over : IsOver (ratio_den C * D) (signed rates) (pos taken)
+  rates_over = IsOver-signed (ratio_den C * D) rates taken (record { is = (λ i. rates.num * (value.bottom i * D)) ∙ turn rates.num (ratio_den rates) deep.num (den s) (ratio_den deep) ∙ (λ i. (sym value.num i * (deep.num * den s)) * ratio_den rates) })
+    where
+      turn : (r d n s z : ℕ) → r * ((d * n) * (s * z)) ≡ ((r * z) * (n * s)) * d
+      turn r d n s z = omega arith
+
+  some : 0 < ratio_den C * D
+  some = positive (ratio_den C) D (omega arith) (positive (den s) (ratio_den deep) (omega arith) (omega arith))
+
+  greatest_rate : Same (negated full) (negated (signed rates))
+  greatest_rate = same_over (ratio_den C * D) _ _ _ _ some (IsOver-negated (ratio_den C * D) full _ full_over) (IsOver-negated (ratio_den C * D) (signed rates) _ rates_over) refl
+
+  pub evaporates_by_depth : (p n : ℕ) (old : ℕ → Fraction) (v : Fraction) → Evaporates m c v x (exact_evap m p n old c x)
+  evaporates_by_depth p n old v =
+      let laws = flows_are_right.evaps v (exact_evap m p n old c x) in
+      record { above = (λ le. Same-trans (laws.above le) greatest_rate); below = laws.below }

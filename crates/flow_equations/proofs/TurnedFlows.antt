@@ -1,0 +1,71 @@
+-- Flows over branches change their sign with the heads.
+use Rattle.std.proofs.Common.{◌≡◌, ℕ, ◌*◌, ◌<◌, sym, arith, ℤ, pos, neg_ℤ, ◌-ℤ◌, ◌*ℤ◌}
+use Rattle.std.proofs.lemmas.Int.{ints}
+use Rattle.decimal_input.specs.Ratios.{Ratio, den as ratio_den}
+use Rattle.decimal_input.specs.Fractions.{Fraction, den, signed, negated, times, Same, IsOver}
+use Rattle.decimal_input.specs.Enclosures.{IsShare}
+use Rattle.decimal_input.proofs.Differences.{diffs, as_diff, same_diff}
+use Rattle.step_problem.proofs.Leasts.{mul_neg}
+use Rattle.step_problem.proofs.Ring.{mul_assoc}
+use Rattle.cell_balance.specs.Balance.{minus}
+use Rattle.cell_balance.proofs.Scaling.{IsOver-times, IsOver-minus, IsOver-negated, IsOver-signed}
+use Rattle.cell_balance.proofs.EntryScaled.{same_over}
+use Rattle.flow_equations.specs.SignLaws.{FlowsChangeSign}
+
+-- two fractions over the product of their denominators
+pub over_first : (f g : Fraction) → IsOver (den f * den g) f (f.num *ℤ pos (den g))
+over_first f g = record { is = crossed f.num (pos (den f)) (pos (den g)) }
+  where
+    crossed : (a b c : ℤ) → a *ℤ (b *ℤ c) ≡ (a *ℤ c) *ℤ b
+    crossed a b c = rw (as_diff a, as_diff b, as_diff c) (simp diffs (same_diff _ _ _ _ (omega arith)))
+
+pub over_second : (f g : Fraction) → IsOver (den f * den g) g (g.num *ℤ pos (den f))
+over_second f g = record { is = sym (mul_assoc g.num (pos (den f)) (pos (den g))) }
+
+pub own_share : (r : Ratio) → IsShare (ratio_den r) r r.num
+own_share r = record { is = omega arith }
+
+pub positive : (a b : ℕ) → 0 < a → 0 < b → 0 < a * b
+positive a b p q = grind arith
+
+-- C * (f - g) over one denominator
+flow_over : (r : Ratio) (m : ℕ) (f g : Fraction) (a b : ℤ) → IsOver m f a → IsOver m g b → IsOver (ratio_den r * m) (times (signed r) (minus f g)) (pos r.num *ℤ (a -ℤ b))
+flow_over r m f g a b p q = IsOver-times (ratio_den r) m (signed r) (minus f g) (pos r.num) (a -ℤ b) (IsOver-signed (ratio_den r) r r.num (own_share r)) (IsOver-minus m f g a b p q)
+
+module _ (r : Ratio) (f g : Fraction) where
+  abbrev m : ℕ
+  m = den f * den g
+
+  abbrev a : ℤ
+  a = f.num *ℤ pos (den g)
+
+  abbrev b : ℤ
+  b = g.num *ℤ pos (den f)
+
+  some : 0 < ratio_den r * m
+  some = positive (ratio_den r) m (omega arith) (positive (den f) (den g) (omega arith) (omega arith))
+
+  abbrev flow : Fraction
+  flow = times (signed r) (minus f g)
+
+  whole : IsOver (ratio_den r * m) (negated flow) (neg_ℤ (pos r.num *ℤ (a -ℤ b)))
+  whole = IsOver-negated (ratio_den r * m) flow (pos r.num *ℤ (a -ℤ b)) (flow_over r m f g a b (over_first f g) (over_second f g))
+
+  pub signs_turned : Same (times (signed r) (minus (negated f) (negated g))) (negated flow)
+  signs_turned = same_over (ratio_den r * m) _ _ _ _ some (flow_over r m (negated f) (negated g) (neg_ℤ a) (neg_ℤ b) (IsOver-negated m f a (over_first f g)) (IsOver-negated m g b (over_second f g))) whole (turned (pos r.num) a b)
+    where
+      turned : (c a b : ℤ) → c *ℤ (neg_ℤ a -ℤ neg_ℤ b) ≡ neg_ℤ (c *ℤ (a -ℤ b))
+      turned c a b = let e : neg_ℤ a -ℤ neg_ℤ b ≡ neg_ℤ (a -ℤ b) = omega (arith, ints) in rw e (mul_neg c (a -ℤ b))
+
+  pub ends_turned : Same (times (signed r) (minus g f)) (negated flow)
+  ends_turned = same_over (ratio_den r * m) _ _ _ _ some (flow_over r m g f b a (over_second f g) (over_first f g)) whole (turned (pos r.num) a b)
+    where
+      turned : (c a b : ℤ) → c *ℤ (b -ℤ a) ≡ neg_ℤ (c *ℤ (a -ℤ b))
+      turned c a b = let e : b -ℤ a ≡ neg_ℤ (a -ℤ b) = omega (arith, ints) in rw e (mul_neg c (a -ℤ b))
+
+pub flows_change_sign : FlowsChangeSign
+flows_change_sign = record {
+  links = (λ h v x. signs_turned x.conductance (h x.cell) v);
+  fixed = (λ v x. signs_turned x.conductance x.head v);
+  ends = (λ h v x y. ends_turned x.conductance (h x.cell) v);
+}
