@@ -1,0 +1,63 @@
+// A number in whole units of 10 ^ -places, rounded down or up.
+ghost use Rattle.std.specs.Prelude.{◌≡◌, ◌<◌, ◌^◌, IfSome, unsigned_abs};
+ghost use Rattle.decimal_input.specs.Canonical.{IsDec, size};
+ghost use Rattle.number_limits.specs.Room.{floor_of, ceiling_of, floor, ceiling};
+
+use decimal_input::dec::Dec;
+use decimal_input::whole::{whole_dn, whole_up};
+
+#[tactic(auto, using(crate::proofs::FloorLemmas::floor_found, crate::proofs::FloorLemmas::no_floor))]
+fn floor_of(value: Dec, places: u32) -> Option<u128>
+    requires canonical { IsDec value }
+    ensures floor { result ≡ floor_of (size value) places }
+    ensures small { IfSome result (λ n. n < 2 ^ 126) }
+{
+    whole_dn(value.digits, value.exp, places)
+}
+
+#[tactic(auto, using(crate::proofs::FloorLemmas::ceiling_found, crate::proofs::FloorLemmas::no_ceiling))]
+fn ceiling_of(value: Dec, places: u32) -> Option<u128>
+    requires canonical { IsDec value }
+    ensures ceiling { result ≡ ceiling_of (size value) places }
+    ensures small { IfSome result (λ n. n < 2 ^ 126) }
+{
+    whole_up(value.digits, value.exp, places)
+}
+
+/// The greatest count of units of 10 ^ -places that is at most a number; none where its magnitude is 2 ^ 126 or more.
+pub fn floor(value: Dec, places: u32) -> Option<i128>
+    requires canonical { IsDec value }
+    ensures floor { result ≡ floor value places }
+    ensures small { IfSome result (λ z. unsigned_abs z < 2 ^ 126) }
+{
+    if value.neg {
+        match ceiling_of(value, places) {
+            Some(n) => Some(-(n as i128)),
+            None => None,
+        }
+    } else {
+        match floor_of(value, places) {
+            Some(n) => Some(n as i128),
+            None => None,
+        }
+    }
+}
+
+/// The least count of units of 10 ^ -places that is at least a number; none where its magnitude is 2 ^ 126 or more.
+pub fn ceiling(value: Dec, places: u32) -> Option<i128>
+    requires canonical { IsDec value }
+    ensures ceiling { result ≡ ceiling value places }
+    ensures small { IfSome result (λ z. unsigned_abs z < 2 ^ 126) }
+{
+    if value.neg {
+        match floor_of(value, places) {
+            Some(n) => Some(-(n as i128)),
+            None => None,
+        }
+    } else {
+        match ceiling_of(value, places) {
+            Some(n) => Some(n as i128),
+            None => None,
+        }
+    }
+}
