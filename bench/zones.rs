@@ -90,10 +90,18 @@ fn report(name: &str, cells: &[Vec<LinkRow>], zones: &[u32], heads: &[Pair]) {
     let rows: Vec<LinkRow> = cells.concat();
     let ours = |times: u32| unsafe { zone_sum(rows.as_ptr(), rows.len(), zones.as_ptr(), zones.len(), heads.as_ptr(), heads.len(), times) };
     assert_eq!(ours(1), plain::zone_sum(cells, zones, heads), "{name}");
-    let made = least(|| drop(black_box(ours(0))));
-    let all = least(|| drop(black_box(ours(TIMES))));
+    let made = least(|| {
+        black_box(ours(0));
+    });
+    let all = least(|| {
+        black_box(ours(TIMES));
+    });
     let proved = (all - made) / TIMES as f64;
-    let plain = least(|| (0..TIMES).for_each(|_| drop(black_box(plain::zone_sum(black_box(cells), zones, heads))))) / TIMES as f64;
+    let plain = least(|| {
+        for _ in 0..TIMES {
+            black_box(plain::zone_sum(black_box(cells), zones, heads));
+        }
+    }) / TIMES as f64;
     println!("{name:32} {proved:8.2} ms {plain:8.2} ms   ratio {:.2}", proved / plain);
 }
 
@@ -119,4 +127,5 @@ fn main() {
     println!("{CELLS} cells; proved, plain Rust");
     report("999 zones of 8 x 8 cells", &cells, &blocks, &heads);
     report("999 zones, cells at random", &cells, &scattered, &heads);
+    report("no zones", &cells, &vec![0; CELLS as usize], &heads);
 }

@@ -1,5 +1,5 @@
 // The flows between the zones that lines give.
-ghost use Rattle.std.specs.Prelude.{◌≡◌, ◌≤◌, ◌<◌, ◌↔◌, ◌→◌, ℕ, All, IsTrue, length};
+ghost use Rattle.std.specs.Prelude.{◌≡◌, ◌≤◌, ◌<◌, ◌↔◌, ℕ, All, IsTrue, length};
 ghost use Rattle.step_problem.specs.Entries.{entries_at};
 ghost use Rattle.budget_bounds.specs.Capped.{AreHeads};
 
@@ -39,29 +39,32 @@ fn are_zones(zones: &[u32]) -> bool
     zones.iter().all(|zone| *zone <= 999)
 }
 
-fn are_bounds(bounds: &[Bound]) -> bool
-    ensures { IsTrue result → All AreHeads bounds.now }
+fn is_bound(bound: Bound) -> bool
+    ensures { IsTrue result ↔ AreHeads bound }
 {
-    for bound in bounds {
-        if !is_head(bound.low) || !is_head(bound.high) {
-            return false;
-        }
-    }
-    true
+    is_head(bound.low) && is_head(bound.high)
 }
 
-// Whether a cell's own number and the numbers of its given heads are below this count.
-fn is_named_below(cell: &Cell, count: usize) -> bool
-    ensures { IsTrue result → (cell.now.id < count) × All (λ x. x.source < count) cell.now.fixed }
+fn are_bounds(bounds: &[Bound]) -> bool
+    ensures { IsTrue result ↔ All AreHeads bounds.now }
+{
+    bounds.iter().all(|bound| is_bound(*bound))
+}
+
+// Whether a cell's own number and the sources of its given heads are below this count.
+fn is_named(cell: &Cell, count: usize) -> bool
+    ensures own { IsTrue result → cell.now.id < count }
+    ensures sources { IsTrue result → All (λ x. x.source < count) cell.now.fixed }
 {
     (cell.id as usize) < count && cell.fixed.iter().all(|x| (x.source as usize) < count)
 }
 
-fn are_named_below(p: &Problem, count: usize) -> bool
-    ensures { IsTrue result → (c : ℕ) → c < length p.now → (entries_at p.now c).id < count × All (λ x. x.source < count) (entries_at p.now c).fixed }
+fn are_named(p: &Problem, count: usize) -> bool
+    ensures own { IsTrue result → (c : ℕ) → c < length p.now → (entries_at p.now c).id < count }
+    ensures sources { IsTrue result → (c : ℕ) → c < length p.now → All (λ x. x.source < count) (entries_at p.now c).fixed }
 {
     for index in 0..p.len() {
-        if !is_named_below(p.cell(index), count) {
+        if !is_named(p.cell(index), count) {
             return false;
         }
     }
@@ -90,7 +93,7 @@ pub fn print_zone_flows(
     if zones.len() != heads.len() || !are_zones(zones) || !are_bounds(heads) {
         return println!(rt; "no zones");
     }
-    if !are_named_below(p, zones.len()) {
+    if !are_named(p, zones.len()) {
         return println!(rt; "no grid of this problem");
     }
     match zone_flows(alloc, p, zones, heads) {
