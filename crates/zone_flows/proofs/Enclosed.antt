@@ -1,9 +1,9 @@
 -- The bounds of the flows between zones enclose the exact ones.
-use Rattle.std.proofs.Common.{◌≡◌, ℕ, zero, suc, ◌+◌, ◌<◌, ◌≤◌, ◌==◌, ◌&&◌, Bool, true, false, cond, refl, sym, ap, ◌∙◌, subst, arith, List, [], ◌∷◌, ◌++◌, length, map, nat_lt, get_or, All, ℤ, ◌-ℤ◌}
+use Rattle.std.proofs.Common.{◌≡◌, ℕ, zero, suc, ◌+◌, ◌<◌, Bool, true, false, refl, ap, ◌∙◌, subst, List, [], ◌∷◌, ◌++◌, length, map, get_or, All, ℤ, ◌-ℤ◌}
 use Rattle.std.specs.List.{AllZip, filter, flat_map}
 use Rattle.std.proofs.lemmas.List.Elements.{All-head, All-tail, All-from_get_or, All-weaker}
 use Rattle.decimal_input.specs.Ratios.{Ratio}
-use Rattle.decimal_input.specs.Fractions.{Fraction, signed, times, fraction_total}
+use Rattle.decimal_input.specs.Fractions.{Fraction, signed, times}
 use Rattle.decimal_input.specs.Enclosures.{Encloses, EnclosesSigned}
 use Rattle.step_problem.specs.declared.entry.FixedKind.{FixedKind}
 use Rattle.step_problem.specs.declared.entry.FixedKind.TheVariants.{Storage, Constant, General}
@@ -17,7 +17,7 @@ use Rattle.cell_balance.specs.Balance.{minus}
 use Rattle.cell_balance.specs.Enclosures.{LinkEncloses, FixedEncloses, CellEncloses, EnclosesStep}
 use Rattle.cell_balance.proofs.EntryBounds.{bounds_hold}
 use Rattle.budget_bounds.specs.declared.pair.TermPair.{TermPair}
-use Rattle.cell_balance.proofs.Enclosing.{total_encloses, AllZip-filter, AllZip-map}
+use Rattle.cell_balance.proofs.Enclosing.{total_encloses, AllZip-filter}
 use Rattle.zone_flows.specs.Faces.{Face, is_lower_zone, face_from, link_faces, faces_by_kind, fixed_faces, cell_faces, faces, is_between, flows_between}
 use Rattle.zone_flows.specs.Exact.{ExactFace, exact_from, exact_link, exact_by_kind, exact_fixed, exact_cell, exact_faces, is_exact_between, exact_flow, HeadsLieWithin}
 

@@ -1,5 +1,5 @@
 -- The zones of all faces are below 1000; and what the flows of a step's table mean.
-use Rattle.std.proofs.Common.{◌≡◌, ℕ, zero, suc, ◌+◌, ◌<◌, ◌≤◌, ◌&&◌, Bool, true, false, cond, arith, List, [], ◌∷◌, ◌++◌, nat_lt, All, ℤ, slice_index, subst, sym, Result, Ok, Err}
+use Rattle.std.proofs.Common.{ℕ, zero, suc, ◌+◌, ◌≤◌, Bool, true, false, cond, arith, List, [], ◌∷◌, All, ℤ, slice_index, subst, sym, Result, Ok, Err}
 use Rattle.std.specs.Prelude.{IfOk}
 use Rattle.std.specs.List.{flat_map}
 use Rattle.std.specs.declared.vec.Vec.{Vec}
@@ -22,7 +22,7 @@ use Rattle.cell_balance.specs.Enclosures.{EnclosesStep}
 use Rattle.step_problem.specs.Flows.{total}
 use Rattle.budget_bounds.specs.declared.pair.TermPair.{TermPair}
 use Rattle.zone_flows.specs.Exact.{EncloseEveryStep, HeadsLieWithin, exact_flow, exact_faces}
-use Rattle.zone_flows.specs.Faces.{Face, is_lower_zone, zone_of, face_between, face_from, link_faces, faces_by_kind, fixed_faces, cell_faces, faces, flows_between}
+use Rattle.zone_flows.specs.Faces.{Face, face_between, face_from, link_faces, faces_by_kind, fixed_faces, cell_faces, faces, flows_between}
 use Rattle.zone_flows.specs.TableFlows.{listed_flows}
 use Rattle.zone_flows.specs.Pairs.{IsZoneFlow, AreZoneFlows}
 use Rattle.zone_flows.specs.Tables.{with_faces}

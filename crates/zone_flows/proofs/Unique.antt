@@ -1,12 +1,10 @@
 -- A step has one list of flows between zones, or one refusal.
-use Rattle.std.proofs.Common.{◌≡◌, ℕ, zero, suc, ◌+◌, ◌<◌, ◌⊎◌, inl, inr, refl, sym, ap, ◌∙◌, subst, arith, List, [], ◌∷◌, length, All}
+use Rattle.std.proofs.Common.{◌≡◌, ℕ, zero, suc, ◌<◌, ◌⊎◌, inl, inr, refl, sym, ap, ◌∙◌, subst, arith, List, [], ◌∷◌}
 use Rattle.std.specs.Prelude.{Contains}
 use Rattle.std.proofs.lemmas.List.Elements.{All-contains}
-use Rattle.step_problem.specs.declared.place.NoBound.{NoBound}
-use Rattle.step_problem.specs.declared.place.Place.TheVariants as places
 use Rattle.step_problem.specs.declared.place.ZoneFlow.{ZoneFlow}
 use Rattle.zone_flows.specs.Faces.{Face}
-use Rattle.zone_flows.specs.Pairs.{IsBefore, IsBeforeAll, PairsAscend, ShareFace, IsBelowLimit, IsZoneFlow, AreZoneFlows, IsFirstTooLarge}
+use Rattle.zone_flows.specs.Pairs.{IsBefore, IsBeforeAll, PairsAscend, IsBelowLimit, IsZoneFlow, AreZoneFlows}
 use Rattle.zone_flows.specs.Laws.{FlowsAreOne, FlowsExcludeRefusal, RefusalIsOne}
 use Rattle.zone_flows.proofs.Pairing.{flow_of}
 

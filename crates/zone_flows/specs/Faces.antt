@@ -1,5 +1,5 @@
 -- The faces between cells of two zones, and the bounds of the flow across each. Zone 0 is no zone.
-use Rattle.std.specs.Prelude.{◌≡◌, ℕ, ◌<◌, ◌==◌, Bool, ◌&&◌, cond, List, [], ◌∷◌, ◌++◌, map, nat_lt, slice_index, ℤ, ◌-ℤ◌}
+use Rattle.std.specs.Prelude.{ℕ, ◌==◌, Bool, ◌&&◌, cond, List, [], ◌∷◌, ◌++◌, map, nat_lt, slice_index, ℤ, ◌-ℤ◌}
 use Rattle.std.specs.List.{filter, flat_map}
 use Rattle.step_problem.specs.declared.entry.FixedKind.{FixedKind}
 use Rattle.step_problem.specs.declared.entry.FixedKind.TheVariants.{Storage, Constant, General}

@@ -1,4 +1,4 @@
-use Rattle.std.proofs.Common.{◌≡◌, refl, pos}
+use Rattle.std.proofs.Common.{refl, pos}
 use Rattle.step_problem.specs.declared.entry.Fixed.{Fixed}
 use Rattle.step_problem.specs.declared.entry.FixedKind.TheVariants.{Storage}
 use Rattle.step_problem.specs.Heads.{lower_at, upper_at}

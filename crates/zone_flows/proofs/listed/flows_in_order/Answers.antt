@@ -1,4 +1,4 @@
-use Rattle.std.proofs.Common.{◌≡◌, sym, ap, ◌∙◌, subst, List, [], ◌∷◌, ℕ}
+use Rattle.std.proofs.Common.{sym, ap, ◌∙◌, subst, ℕ}
 use Rattle.std.proofs.lemmas.List.Elements.{All-tail}
 use Rattle.zone_flows.specs.declared.sum.ZoneSum.{ZoneSum}
 use Rattle.zone_flows.specs.Tables.{Table, IsTable, IsZoneSum}
