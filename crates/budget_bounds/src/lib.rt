@@ -11,4 +11,5 @@ mod terms;
 
 pub use cover::{covers, first_uncovered};
 pub use pair::{Budget, TermPair};
+pub use sums::{TERM_LIMIT, plus_part};
 pub use terms::budget;

@@ -13,8 +13,8 @@ use crate::flows::Entry;
 use crate::pair::TermPair;
 use step_problem::{Bound, Cell, Dir, Problem, Term};
 
-/// What a term must stay below.
-pub(crate) const TERM_LIMIT: i128 = 1 << 126;
+/// What a term, or the magnitudes of the flows between two zones, must stay below, in units of 10^-(s+9) flow units.
+pub const TERM_LIMIT: i128 = 1 << 126;
 
 fn positive(flow: i128) -> i128
     requires { flow ≤ℤ pos (2 ^ 123) }
@@ -55,7 +55,8 @@ fn plus_capped(sum: i128, part: i128) -> i128
     (sum + part).min(TERM_LIMIT)
 }
 
-fn plus_part(dir: Dir, sum: TermPair, flow: TermPair) -> TermPair
+/// A sum with what of one more flow goes in, or out, as a magnitude. A sum stays at 2^126 once it is there.
+pub fn plus_part(dir: Dir, sum: TermPair, flow: TermPair) -> TermPair
     requires sum { IsSum sum }
     requires flow { IsFlow flow }
     ensures value { result ≡ capped (plus_pair sum (part dir flow)) }

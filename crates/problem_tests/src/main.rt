@@ -8,7 +8,8 @@
 //! turn, and `example` is the problem of the definitions' example.
 //!
 //! Asked are `fits` (how many cells the problem has, where it is one), `balances INDEX HEAD HEAD ..` (of a cell, at its
-//! own head and those of its links), `raised` and `sunk` (its raise and sink values there), `rivers INDEX HEAD`, `barrier`,
+//! own head and those of its links), `raised` and `sunk` (its raise and sink values there), `rivers INDEX HEAD`, `zones ZONE
+//! LOW HIGH ..` (the zone and the bounds of the head of each cell of the grid, by cell number), `barrier`,
 //! `guess`, `sweeps ROUNDS`, `workers WORKERS TURNS ROUNDS`, `phases WORKERS TURNS ROUNDS` and `run WORKERS TURNS ROUNDS`
 //! (these with the passes of a gate), and `listed SWEEPS INDEX ..`. `heads LOW HIGH ..` are bounds of the cells, of which
 //! `check`, `budget` and `near TRIALS SWEEPS` (from the bounds, then by one round) are asked.
@@ -38,6 +39,7 @@ mod question;
 mod seats;
 mod settling;
 mod systems;
+mod zoning;
 
 use given::Given;
 use numbers::numbers_of;

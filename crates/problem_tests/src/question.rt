@@ -5,6 +5,7 @@ use crate::covering::print_cover;
 use crate::given::{Given, Stage};
 use crate::numbers::number;
 use crate::systems::print_system;
+use crate::zoning::print_zone_flows;
 use std::alloc::Global;
 use std::io;
 use std::thread::Threads;
@@ -17,6 +18,7 @@ pub enum Question {
     Raised,
     Sunk,
     Rivers,
+    Zones,
     Barrier,
     Guess,
     Sweeps,
@@ -42,6 +44,7 @@ impl Question {
             "raised" => Some(Question::Raised),
             "sunk" => Some(Question::Sunk),
             "rivers" => Some(Question::Rivers),
+            "zones" => Some(Question::Zones),
             "barrier" => Some(Question::Barrier),
             "guess" => Some(Question::Guess),
             "sweeps" => Some(Question::Sweeps),
@@ -78,6 +81,7 @@ fn ask_problem<R: Print + Threads + Sync>(
             print_balances(rt, alloc, p, question, numbers)
         }
         Question::Rivers => print_rivers(rt, p, numbers),
+        Question::Zones => print_zone_flows(rt, alloc, p, numbers),
         _ => ask_between(rt, alloc, p, given, question, numbers),
     }
 }

@@ -1,0 +1,194 @@
+-- What a table of sums has for each pair of zones, by the faces.
+use Rattle.std.proofs.Common.{◌≡◌, ℕ, zero, suc, ◌/◌, ◌%◌, ◌<◌, ◌≤◌, ◌&&◌, ◌⊎◌, inl, inr, Bool, true, false, cond, refl, sym, ap, ◌∙◌, subst, arith, List, [], ◌∷◌, length, map, ℤ, pos, ◌+ℤ◌, ◌-ℤ◌, ◌≤ℤ◌, ◌<ℤ◌}
+use Rattle.std.specs.Prelude.{Contains}
+use Rattle.std.specs.List.{filter}
+use Rattle.std.specs.Int.Signed.{lt_z}
+use Rattle.std.proofs.lemmas.Bool.Decides.{nat_tests}
+use Rattle.std.proofs.lemmas.Int.{ints}
+use Rattle.std.specs.BTreeMap.{is_at}
+use Rattle.std.specs.Ordering.{nat_cmp}
+use Rattle.step_problem.specs.declared.place.Dir.TheVariants.{In, Out}
+use Rattle.step_problem.specs.declared.place.ZoneFlow.{ZoneFlow}
+use Rattle.step_problem.specs.Flows.{total}
+use Rattle.budget_bounds.specs.declared.pair.TermPair.{TermPair}
+use Rattle.budget_bounds.specs.Capped.{IsSum, capped, plus_pair}
+use Rattle.budget_bounds.specs.Terms.{parts, term_limit}
+use Rattle.budget_bounds.proofs.Caps.{parts_lo, parts_hi}
+use Rattle.zone_flows.specs.declared.sum.ZoneSum.{ZoneSum}
+use Rattle.zone_flows.specs.Faces.{Face, is_between, flows_between}
+use Rattle.zone_flows.specs.TableFlows.{is_below_limit, zone_flow}
+use Rattle.zone_flows.specs.Pairs.{IsBefore, ShareFace, IsBelowLimit}
+use Rattle.zone_flows.specs.Tables.{IsZoneSum, key_of, faces_keyed, no_pair, no_flows, plus_flows, sum_at, with_faces}
+use Rattle.zone_flows.proofs.Sums.{table_sums, flows_are_parts, net_lo, net_hi, magnitudes_lo, magnitudes_hi, together_below, below_together, is_whole}
+use Rattle.zone_flows.proofs.Keys.{IsEntry, HasKey, HasKeyed, table_ascends, table_has, table_from, entry_has, entry_sum}
+
+-- the two zones of a face are below 1000
+pub record FaceFits (f : Face) : Type 0 where
+  pub from : f.from ≤ 999
+  pub to : f.to ≤ 999
+
+abbrev pub FacesFit : List Face → Type 0
+FacesFit fs = (f : Face) → Contains fs f → FaceFits f
+
+pub key_div : (a b : ℕ) → b ≤ 999 → key_of a b / 1000 ≡ a
+key_div a b h = omega arith
+
+pub key_mod : (a b : ℕ) → b ≤ 999 → key_of a b % 1000 ≡ b
+key_mod a b h = omega arith
+
+pub key_before : (a b c d : ℕ) → b ≤ 999 → d ≤ 999 → key_of a b < key_of c d → IsBefore a b c d
+key_before a b c d h k l = grind (arith, nat_tests)
+
+pub before_key : (a b c d : ℕ) → b ≤ 999 → d ≤ 999 → IsBefore a b c d → key_of a b < key_of c d
+before_key a b c d h k (inl l) = omega (arith, l)
+before_key a b c d h k (inr l) = let e = l.0 in let g = l.1 in omega (arith, e, g)
+
+key_is_pair : (a b : ℕ) (f : Face) → b ≤ 999 → f.to ≤ 999 → is_at (nat_cmp (key_of a b)) (key_of f.from f.to) ≡ is_between a b f
+key_is_pair a b f h k = grind (arith, nat_tests)
+
+pub tail_fits : (f : Face) (fs : List Face) → FacesFit (f ∷ fs) → FacesFit fs
+tail_fits f fs fit g i = let l = i.1 in fit g (suc i.0, omega (arith, l), i.2)
+
+pub head_fits : (f : Face) (fs : List Face) → FacesFit (f ∷ fs) → FaceFits f
+head_fits f fs fit = fit f (0, omega arith, refl)
+
+one_flow : (t : Bool) (f : Face) (xs ys : List Face) → map (λ f. f.flow) xs ≡ map (λ f. f.flow) ys → map (λ f. f.flow) (cond t (f ∷ xs) xs) ≡ map (λ f. f.flow) (cond t (f ∷ ys) ys)
+one_flow true f xs ys h = ap (λ (zs : List TermPair). f.flow ∷ zs) h
+one_flow false f xs ys h = h
+
+-- the faces with a key are those of its pair
+keyed_pair : (a b : ℕ) (fs : List Face) → b ≤ 999 → FacesFit fs → map (λ f. f.flow) (faces_keyed (key_of a b) fs) ≡ flows_between a b fs
+unfolding faces_keyed flows_between
+keyed_pair a b [] h fit = refl
+keyed_pair a b (f ∷ fs) h fit = rw (key_is_pair a b f h (head_fits f fs fit).to) (one_flow (is_between a b f) f (faces_keyed (key_of a b) fs) (filter (is_between a b) fs) (keyed_pair a b fs h (tail_fits f fs fit)))
+
+-- what goes in and what goes out of these flows, each standing still at 2^126
+abbrev pub sums : List TermPair → ZoneSum
+sums xs = record { into = capped (parts In xs); out = capped (parts Out xs) }
+
+zero_sum : IsZoneSum no_flows
+zero_sum = record { into = zero_one; out = zero_one }
+  where
+    zero_one : IsSum (record { lo = pos 0; hi = pos 0 })
+    zero_one = record { lo_above = omega (arith, ints); lo_below = omega (arith, ints); hi_above = omega (arith, ints); hi_below = omega (arith, ints) }
+
+none_added : (z : ℤ) → pos 0 +ℤ z ≡ z
+none_added z = omega (arith, ints)
+
+none_more : (x : TermPair) → plus_pair no_pair x ≡ x
+none_more x = rw (none_added x.lo, none_added x.hi) refl
+
+abbrev capped_both : TermPair → TermPair → ZoneSum
+capped_both a b = record { into = capped a; out = capped b }
+
+both_sums : (a b c d : TermPair) → a ≡ c → b ≡ d → capped_both a b ≡ capped_both c d
+both_sums a b c d e f = rw (e, f) refl
+
+empty_sum : (q : ℕ) → sum_at [] q ≡ no_flows
+unfolding sum_at
+empty_sum q = refl
+
+sum_of : (fs : List Face) (q : ℕ) → sum_at (with_faces [] fs) q ≡ sums (map (λ f. f.flow) (faces_keyed q fs))
+sum_of fs q =
+    let xs : List TermPair = map (λ f. f.flow) (faces_keyed q fs) in
+    table_sums [] fs q ∙ ap (λ (s : ZoneSum). plus_flows s xs) (empty_sum q) ∙ flows_are_parts no_flows xs zero_sum ∙ both_sums (plus_pair no_flows.into (parts In xs)) (plus_pair no_flows.out (parts Out xs)) (parts In xs) (parts Out xs) (none_more (parts In xs)) (none_more (parts Out xs))
+
+-- what an entry of the table of some faces stands for
+pub record IsSumOf (fs : List Face) (e : ℕ × ZoneSum) : Type 0 where
+  pub from : ℕ
+  pub to : ℕ
+  pub key : e.0 ≡ key_of from to
+  pub fits : to ≤ 999
+  pub shared : ShareFace fs from to
+  pub sum : e.1 ≡ sums (flows_between from to fs)
+
+pub keyed_face : (q : ℕ) (fs : List Face) → HasKeyed q fs → (f : Face) × Contains fs f × (key_of f.from f.to ≡ q)
+keyed_face q [] h = absurd h
+keyed_face q (f ∷ fs) (inl i) = (f, (0, omega arith, refl), i)
+keyed_face q (f ∷ fs) (inr i) = let r = keyed_face q fs i in let l = r.1.1 in (r.0, (suc r.1.0, omega (arith, l), r.1.2), r.2)
+
+or_none : (q : ℕ) (fs : List Face) → HasKeyed q fs ⊎ HasKey q [] → HasKeyed q fs
+or_none q fs (inl i) = i
+or_none q fs (inr i) = absurd i
+
+pub entry_is : (fs : List Face) → FacesFit fs → (e : ℕ × ZoneSum) → IsEntry e (with_faces [] fs) → IsSumOf fs e
+entry_is fs fit e i =
+    let r = keyed_face e.0 fs (or_none e.0 fs (table_from e.0 [] fs (entry_has e (with_faces [] fs) i))) in
+    let f : Face = r.0 in
+    let ok = fit f r.1 in
+    let value : sum_at (with_faces [] fs) e.0 ≡ e.1 = entry_sum e (with_faces [] fs) (table_ascends [] fs tt) i in
+    let here : e.1 ≡ sums (map (λ f. f.flow) (faces_keyed (key_of f.from f.to) fs)) = sym value ∙ sum_of fs e.0 ∙ ap (λ (k : ℕ). sums (map (λ f. f.flow) (faces_keyed k fs))) (sym r.2) in
+    record {
+      from = f.from;
+      to = f.to;
+      key = sym r.2;
+      fits = ok.to;
+      shared = record { face = f; stands = r.1; from = refl; to = refl };
+      sum = here ∙ ap sums (keyed_pair f.from f.to fs ok.to fit);
+    }
+
+contains_keyed : (q : ℕ) (fs : List Face) (k : ℕ) (f : Face) → k < length fs → key_of f.from f.to ≡ q → Contains fs f → HasKeyed q fs
+contains_keyed q [] k f h e (j, l, is) = absurd (omega (arith, l))
+contains_keyed q (g ∷ fs) k f h e (zero, l, is) = inl (subst (λ (x : Face). key_of x.from x.to ≡ q) (sym is) e)
+contains_keyed q (g ∷ fs) k f h e (suc j, l, is) = inr (contains_keyed q fs j f (omega (arith, l)) e (j, omega (arith, l), is))
+
+-- a pair that shares a face has its key in the table
+pub shared_has : (fs : List Face) (a b : ℕ) → ShareFace fs a b → HasKey (key_of a b) (with_faces [] fs)
+shared_has fs a b h =
+    let e : key_of h.face.from h.face.to ≡ key_of a b = rw (h.from, h.to) refl in
+    table_has (key_of a b) [] fs (contains_keyed (key_of a b) fs h.stands.0 h.face h.stands.1 e h.stands)
+
+lt_true : (x l : ℤ) → lt_z x l ≡ true → x <ℤ l
+lt_true x l e = omega (arith, ints, e)
+
+true_lt : (x l : ℤ) → x <ℤ l → lt_z x l ≡ true
+true_lt x l h = tested (lt_z x l) refl
+  where
+    tested : (b : Bool) → lt_z x l ≡ b → lt_z x l ≡ true
+    tested true e = e
+    tested false e = absurd (omega (arith, ints, e, h))
+
+both_true : (a b : Bool) → (a && b) ≡ true → (a ≡ true) × (b ≡ true)
+both_true true true e = (refl, refl)
+both_true true false e = absurd cc
+both_true false b e = absurd cc
+
+limit_above : pos 0 ≤ℤ term_limit
+limit_above = omega (arith, ints)
+
+below_lo : (xs : List TermPair) → lt_z ((sums xs).into.lo +ℤ (sums xs).out.hi) term_limit ≡ true → ((parts In xs).lo +ℤ (parts Out xs).hi) <ℤ term_limit
+below_lo xs e = together_below term_limit (parts In xs).lo (parts Out xs).hi limit_above (parts_lo In xs) (parts_hi Out xs) (lt_true _ term_limit e)
+
+below_hi : (xs : List TermPair) → lt_z ((sums xs).into.hi +ℤ (sums xs).out.lo) term_limit ≡ true → ((parts In xs).hi +ℤ (parts Out xs).lo) <ℤ term_limit
+below_hi xs e = together_below term_limit (parts In xs).hi (parts Out xs).lo limit_above (parts_hi In xs) (parts_lo Out xs) (lt_true _ term_limit e)
+
+pub small_true : (fs : List Face) (a b : ℕ) → is_below_limit (sums (flows_between a b fs)) ≡ true → IsBelowLimit fs a b
+small_true fs a b e =
+    let xs : List TermPair = flows_between a b fs in
+    let t = both_true _ _ e in record {
+      lo = subst (λ (z : ℤ). z <ℤ term_limit) (magnitudes_lo xs) (below_lo xs t.0);
+      hi = subst (λ (z : ℤ). z <ℤ term_limit) (magnitudes_hi xs) (below_hi xs t.1);
+    }
+
+pub true_small : (fs : List Face) (a b : ℕ) → IsBelowLimit fs a b → is_below_limit (sums (flows_between a b fs)) ≡ true
+true_small fs a b s =
+    let xs : List TermPair = flows_between a b fs in
+    let lo = below_together term_limit (parts In xs).lo (parts Out xs).hi (parts_lo In xs) (parts_hi Out xs) (subst (λ (z : ℤ). z <ℤ term_limit) (sym (magnitudes_lo xs)) s.lo) in
+    let hi = below_together term_limit (parts In xs).hi (parts Out xs).lo (parts_hi In xs) (parts_lo Out xs) (subst (λ (z : ℤ). z <ℤ term_limit) (sym (magnitudes_hi xs)) s.hi) in
+    rw (true_lt _ term_limit lo, true_lt _ term_limit hi) refl
+
+-- the flow between two zones, by the faces
+abbrev pub flow_of : List Face → ℕ → ℕ → ZoneFlow
+flow_of fs a b = record { from = a; to = b; lo = total (λ x. x.lo) (flows_between a b fs); hi = total (λ x. x.hi) (flows_between a b fs) }
+
+whole_lo : (xs : List TermPair) → lt_z ((sums xs).into.lo +ℤ (sums xs).out.hi) term_limit ≡ true → (sums xs).into.lo -ℤ (sums xs).out.hi ≡ total (λ x. x.lo) xs
+whole_lo xs e = let w = is_whole term_limit (parts In xs).lo (parts Out xs).hi (parts_lo In xs) (parts_hi Out xs) (below_lo xs e) in rw (w.0, w.1) (net_lo xs)
+
+whole_hi : (xs : List TermPair) → lt_z ((sums xs).into.hi +ℤ (sums xs).out.lo) term_limit ≡ true → (sums xs).into.hi -ℤ (sums xs).out.lo ≡ total (λ x. x.hi) xs
+whole_hi xs e = let w = is_whole term_limit (parts In xs).hi (parts Out xs).lo (parts_hi In xs) (parts_lo Out xs) (below_hi xs e) in rw (w.0, w.1) (net_hi xs)
+
+pub flow_is : (fs : List Face) (a b : ℕ) → b ≤ 999 → is_below_limit (sums (flows_between a b fs)) ≡ true → zone_flow (key_of a b) (sums (flows_between a b fs)) ≡ flow_of fs a b
+flow_is fs a b h e =
+    let xs : List TermPair = flows_between a b fs in
+    let t = both_true _ _ e in
+    rw (key_div a b h, key_mod a b h, whole_lo xs t.0, whole_hi xs t.1) refl

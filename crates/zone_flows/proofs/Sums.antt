@@ -1,0 +1,154 @@
+-- What a table of sums has for a pair of zones: the sums of the flows with its key.
+use Rattle.std.proofs.Common.{◌≡◌, ℕ, Bool, true, false, cond, refl, sym, ap, ◌∙◌, subst, arith, List, [], ◌∷◌, map, ℤ, pos, negsuc, neg_ℤ, unsigned_abs, ◌+ℤ◌, ◌-ℤ◌, ◌≤ℤ◌, ◌<ℤ◌, Option, Some}
+use Rattle.std.specs.Int.{int_max, int_min}
+use Rattle.std.proofs.lemmas.Bool.Decides.{nat_tests}
+use Rattle.std.proofs.lemmas.Int.{ints, clamps}
+use Rattle.std.specs.declared.cmp.Ordering.{Ordering}
+use Rattle.std.specs.declared.cmp.Ordering.TheVariants.{Less, Equal, Greater}
+use Rattle.std.specs.BTreeMap.{insert_entry, is_at}
+use Rattle.std.specs.Map.{lookup}
+use Rattle.std.specs.Option.{unwrap_or}
+use Rattle.std.specs.Ordering.{nat_cmp, match_ordering}
+use Rattle.step_problem.specs.Flows.{total}
+use Rattle.step_problem.specs.declared.place.Dir.{Dir}
+use Rattle.step_problem.specs.declared.place.Dir.TheVariants.{In, Out}
+use Rattle.budget_bounds.specs.declared.pair.TermPair.{TermPair}
+use Rattle.budget_bounds.specs.Singles.{part}
+use Rattle.budget_bounds.specs.Capped.{IsSum, capped, plus_pair}
+use Rattle.budget_bounds.specs.Terms.{parts, term_limit}
+use Rattle.budget_bounds.proofs.Caps.{capped_twice, nothing_more, part_lo, part_hi, parts_lo, parts_hi}
+use Rattle.zone_flows.specs.declared.sum.ZoneSum.{ZoneSum}
+use Rattle.zone_flows.specs.Faces.{Face}
+use Rattle.zone_flows.specs.Tables.{IsZoneSum, Table, key_of, no_flows, plus_flow, plus_flows, faces_keyed, sum_at, with_face, with_faces}
+
+same_key : (q k : ℕ) → is_at (nat_cmp q) k ≡ true → q ≡ k
+same_key q k h = grind (arith, nat_tests)
+
+equal_keys : (q k : ℕ) → nat_cmp q k ≡ Equal → q ≡ k
+equal_keys q k h = grind (arith, nat_tests)
+
+not_greater : (k : ℕ) → nat_cmp k k ≡ Greater → ⊥
+not_greater k h = grind (arith, nat_tests)
+
+pick : (b : Bool) (x : ZoneSum) (o : Option ZoneSum) → unwrap_or (cond b (Some x) o) no_flows ≡ cond b x (unwrap_or o no_flows)
+pick true x o = refl
+pick false x o = refl
+
+twice : (b : Bool) (x y z : ZoneSum) → cond b x (cond b y z) ≡ cond b x z
+twice true x y z = refl
+twice false x y z = refl
+
+apart : (a b : Bool) (x y z : ZoneSum) → (a ≡ true → b ≡ true → ⊥) → cond a y (cond b x z) ≡ cond b x (cond a y z)
+apart true true x y z h = absurd (h refl refl)
+apart true false x y z h = refl
+apart false true x y z h = refl
+apart false false x y z h = refl
+
+pub sum_front : (e : ℕ × ZoneSum) (t : Table) (q : ℕ) → sum_at (e ∷ t) q ≡ cond (is_at (nat_cmp q) e.0) e.1 (sum_at t q)
+unfolding sum_at
+sum_front e t q = pick (is_at (nat_cmp q) e.0) e.1 (lookup (is_at (nat_cmp q)) t)
+
+placed : (o : Ordering) (q k : ℕ) (x : ZoneSum) (e : ℕ × ZoneSum) (t others : Table) → nat_cmp k e.0 ≡ o → sum_at others q ≡ cond (is_at (nat_cmp q) k) x (sum_at t q) → sum_at (match_ordering o ((k, x) ∷ e ∷ t) ((e.0, x) ∷ t) (e ∷ others)) q ≡ cond (is_at (nat_cmp q) k) x (sum_at (e ∷ t) q)
+placed Less q k x e t others o h = sum_front (k, x) (e ∷ t) q
+placed Equal q k x e t others o h =
+    sum_front (e.0, x) t q
+    ∙ sym (twice (is_at (nat_cmp q) e.0) x e.1 (sum_at t q))
+    ∙ ap (λ (z : ZoneSum). cond (is_at (nat_cmp q) e.0) x z) (sym (sum_front e t q))
+    ∙ ap (λ (n : ℕ). cond (is_at (nat_cmp q) n) x (sum_at (e ∷ t) q)) (sym (equal_keys k e.0 o))
+placed Greater q k x e t others o h =
+    sum_front e others q
+    ∙ ap (λ (z : ZoneSum). cond (is_at (nat_cmp q) e.0) e.1 z) h
+    ∙ apart (is_at (nat_cmp q) e.0) (is_at (nat_cmp q) k) x e.1 (sum_at t q) (λ a b. not_greater e.0 (subst (λ (n : ℕ). nat_cmp n e.0 ≡ Greater) (sym (same_key q k b) ∙ same_key q e.0 a) o))
+    ∙ ap (λ (z : ZoneSum). cond (is_at (nat_cmp q) k) x z) (sym (sum_front e t q))
+
+pub sum_at_insert : (t : Table) (q k : ℕ) (x : ZoneSum) → sum_at (insert_entry nat_cmp t k x) q ≡ cond (is_at (nat_cmp q) k) x (sum_at t q)
+sum_at_insert [] q k x = sum_front (k, x) [] q
+sum_at_insert (e ∷ t) q k x = placed (nat_cmp k e.0) q k x e t (insert_entry nat_cmp t k x) refl (sum_at_insert t q k x)
+
+one_face : (t : Table) (f : Face) (fs : List Face) (q : ℕ) (b : Bool) → is_at (nat_cmp q) (key_of f.from f.to) ≡ b → plus_flows (sum_at (with_face t f) q) (map (λ f. f.flow) (faces_keyed q fs)) ≡ plus_flows (sum_at t q) (map (λ f. f.flow) (faces_keyed q (f ∷ fs)))
+unfolding with_face plus_flows faces_keyed
+one_face t f fs q true h =
+    let k = key_of f.from f.to in
+    rw (sum_at_insert t q k (plus_flow (sum_at t k) f.flow), h) (ap (λ (n : ℕ). plus_flows (plus_flow (sum_at t n) f.flow) (map (λ f. f.flow) (faces_keyed q fs))) (sym (same_key q k h)))
+one_face t f fs q false h =
+    let k = key_of f.from f.to in
+    rw (sum_at_insert t q k (plus_flow (sum_at t k) f.flow), h) refl
+
+nothing : (t : Table) (q : ℕ) → sum_at t q ≡ plus_flows (sum_at t q) (map (λ f. f.flow) (faces_keyed q []))
+unfolding plus_flows faces_keyed
+nothing t q = refl
+
+pub table_sums : (t : Table) (fs : List Face) (q : ℕ) → sum_at (with_faces t fs) q ≡ plus_flows (sum_at t q) (map (λ f. f.flow) (faces_keyed q fs))
+unfolding with_faces
+table_sums t [] q = nothing t q
+table_sums t (f ∷ fs) q = table_sums (with_face t f) fs q ∙ one_face t f fs q (is_at (nat_cmp q) (key_of f.from f.to)) refl
+
+cap_above : (limit a b : ℤ) → pos 0 ≤ℤ limit → pos 0 ≤ℤ a → pos 0 ≤ℤ b → pos 0 ≤ℤ int_min (a +ℤ b) limit
+cap_above limit a b h k l = omega (arith, ints, clamps)
+
+cap_below : (limit a b : ℤ) → int_min (a +ℤ b) limit ≤ℤ limit
+cap_below limit a b = omega (arith, ints, clamps)
+
+limit_above : pos 0 ≤ℤ term_limit
+limit_above = omega (arith, ints)
+
+sum_kept : (dir : Dir) (s x : TermPair) → IsSum s → IsSum (capped (plus_pair s (part dir x)))
+sum_kept dir s x h = record {
+  lo_above = cap_above term_limit s.lo (part dir x).lo limit_above h.lo_above (part_lo dir x);
+  lo_below = cap_below term_limit s.lo (part dir x).lo;
+  hi_above = cap_above term_limit s.hi (part dir x).hi limit_above h.hi_above (part_hi dir x);
+  hi_below = cap_below term_limit s.hi (part dir x).hi;
+}
+
+front_part : (dir : Dir) (x : TermPair) (xs : List TermPair) → parts dir (x ∷ xs) ≡ plus_pair (part dir x) (parts dir xs)
+unfolding parts
+front_part dir x xs = refl
+
+split : (dir : Dir) (s x : TermPair) (xs : List TermPair) → capped (plus_pair (capped (plus_pair s (part dir x))) (parts dir xs)) ≡ capped (plus_pair s (parts dir (x ∷ xs)))
+split dir s x xs = capped_twice s (part dir x) (parts dir xs) (parts_lo dir xs) (parts_hi dir xs) ∙ ap (λ (z : TermPair). capped (plus_pair s z)) (sym (front_part dir x xs))
+
+-- The sums of a list of flows are what they bring in and what they take out, each standing still at 2^126.
+pub flows_are_parts : (s : ZoneSum) (xs : List TermPair) → IsZoneSum s → plus_flows s xs ≡ record { into = capped (plus_pair s.into (parts In xs)); out = capped (plus_pair s.out (parts Out xs)) }
+unfolding plus_flows
+flows_are_parts s [] h = rw (nothing_more In s.into h.into, nothing_more Out s.out h.out) refl
+flows_are_parts s (x ∷ xs) h =
+    flows_are_parts (plus_flow s x) xs (record { into = sum_kept In s.into x h.into; out = sum_kept Out s.out x h.out })
+    ∙ rw (split In s.into x xs, split Out s.out x xs) refl
+
+-- What goes in less what goes out is the sum; together they are the sum of the magnitudes.
+net_of : (a p n s : ℤ) → p -ℤ n ≡ s → (int_max a (pos 0) +ℤ p) -ℤ (int_max (neg_ℤ a) (pos 0) +ℤ n) ≡ a +ℤ s
+net_of a p n s h = omega (arith, ints, clamps)
+
+magnitude_of : (a p n s : ℤ) → p +ℤ n ≡ s → (int_max a (pos 0) +ℤ p) +ℤ (int_max (neg_ℤ a) (pos 0) +ℤ n) ≡ pos (unsigned_abs a) +ℤ s
+magnitude_of (pos a) p n s h = omega (arith, ints, clamps)
+magnitude_of (negsuc a) p n s h = omega (arith, ints, clamps)
+
+pub net_lo : (xs : List TermPair) → (parts In xs).lo -ℤ (parts Out xs).hi ≡ total (λ x. x.lo) xs
+unfolding parts
+net_lo [] = refl
+net_lo (x ∷ xs) = net_of x.lo (parts In xs).lo (parts Out xs).hi (total (λ x. x.lo) xs) (net_lo xs)
+
+pub net_hi : (xs : List TermPair) → (parts In xs).hi -ℤ (parts Out xs).lo ≡ total (λ x. x.hi) xs
+unfolding parts
+net_hi [] = refl
+net_hi (x ∷ xs) = net_of x.hi (parts In xs).hi (parts Out xs).lo (total (λ x. x.hi) xs) (net_hi xs)
+
+pub magnitudes_lo : (xs : List TermPair) → (parts In xs).lo +ℤ (parts Out xs).hi ≡ total (λ x. pos (unsigned_abs x.lo)) xs
+unfolding parts
+magnitudes_lo [] = refl
+magnitudes_lo (x ∷ xs) = magnitude_of x.lo (parts In xs).lo (parts Out xs).hi (total (λ x. pos (unsigned_abs x.lo)) xs) (magnitudes_lo xs)
+
+pub magnitudes_hi : (xs : List TermPair) → (parts In xs).hi +ℤ (parts Out xs).lo ≡ total (λ x. pos (unsigned_abs x.hi)) xs
+unfolding parts
+magnitudes_hi [] = refl
+magnitudes_hi (x ∷ xs) = magnitude_of x.hi (parts In xs).hi (parts Out xs).lo (total (λ x. pos (unsigned_abs x.hi)) xs) (magnitudes_hi xs)
+
+-- two sums that stand still at the limit stay below it together exactly where the whole sums do, and are then whole
+pub together_below : (limit a b : ℤ) → pos 0 ≤ℤ limit → pos 0 ≤ℤ a → pos 0 ≤ℤ b → (int_min a limit +ℤ int_min b limit) <ℤ limit → (a +ℤ b) <ℤ limit
+together_below limit a b g h k l = omega (arith, ints, clamps)
+
+pub below_together : (limit a b : ℤ) → pos 0 ≤ℤ a → pos 0 ≤ℤ b → (a +ℤ b) <ℤ limit → (int_min a limit +ℤ int_min b limit) <ℤ limit
+below_together limit a b h k l = omega (arith, ints, clamps)
+
+pub is_whole : (limit a b : ℤ) → pos 0 ≤ℤ a → pos 0 ≤ℤ b → (a +ℤ b) <ℤ limit → (int_min a limit ≡ a) × (int_min b limit ≡ b)
+is_whole limit a b h k l = (omega (arith, ints, clamps), omega (arith, ints, clamps))

@@ -1,0 +1,7 @@
+pub mod Faces
+pub mod Exact
+pub mod Tables
+pub mod TableFlows
+pub mod Pairs
+pub mod Results
+pub mod Laws

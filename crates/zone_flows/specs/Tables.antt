@@ -1,0 +1,56 @@
+-- The sums for each pair of zones, in order of the pairs. The pair a, b has the key 1000 * a + b.
+use Rattle.std.specs.Prelude.{ℕ, ◌+◌, ◌*◌, List, [], ◌∷◌, All, pos}
+use Rattle.std.specs.BTreeMap.{insert_entry, is_at}
+use Rattle.std.specs.Map.{lookup}
+use Rattle.std.specs.List.{filter}
+use Rattle.std.specs.Option.{unwrap_or}
+use Rattle.std.specs.Ordering.{nat_cmp}
+use Rattle.step_problem.specs.declared.place.Dir.TheVariants.{In, Out}
+use Rattle.budget_bounds.specs.declared.pair.TermPair.{TermPair}
+use Rattle.budget_bounds.specs.Singles.{part}
+use Rattle.budget_bounds.specs.Capped.{IsSum, capped, plus_pair}
+use Rattle.zone_flows.specs.declared.sum.ZoneSum.{ZoneSum}
+use Rattle.zone_flows.specs.Faces.{Face}
+
+abbrev pub no_pair : TermPair
+no_pair = record { lo = pos 0; hi = pos 0 }
+
+abbrev pub no_flows : ZoneSum
+no_flows = record { into = no_pair; out = no_pair }
+
+-- One more flow. What goes in and what goes out are summed apart, and a sum stays at 2^126 once it is there.
+abbrev pub plus_flow : ZoneSum → TermPair → ZoneSum
+plus_flow s x = record { into = capped (plus_pair s.into (part In x)); out = capped (plus_pair s.out (part Out x)) }
+
+pub record IsZoneSum (s : ZoneSum) : Type 0 where
+  pub into : IsSum s.into
+  pub out : IsSum s.out
+
+abbrev pub Table : Type 0
+Table = List (ℕ × ZoneSum)
+
+abbrev pub IsTable : Table → Type 0
+IsTable t = All (λ e. IsZoneSum e.1) t
+
+abbrev pub key_of : ℕ → ℕ → ℕ
+key_of a b = a * 1000 + b
+
+-- the sums of the pair with this key
+unfoldable pub sum_at : Table → ℕ → ZoneSum
+sum_at t q = unwrap_or (lookup (is_at (nat_cmp q)) t) no_flows
+
+unfoldable pub with_face : Table → Face → Table
+with_face t f = insert_entry nat_cmp t (key_of f.from f.to) (plus_flow (sum_at t (key_of f.from f.to)) f.flow)
+
+unfoldable pub with_faces : Table → List Face → Table
+with_faces t [] = t
+with_faces t (f ∷ fs) = with_faces (with_face t f) fs
+
+-- the sums after all these flows
+unfoldable pub plus_flows : ZoneSum → List TermPair → ZoneSum
+plus_flows s [] = s
+plus_flows s (x ∷ xs) = plus_flows (plus_flow s x) xs
+
+-- the faces between the pair with this key
+unfoldable pub faces_keyed : ℕ → List Face → List Face
+faces_keyed q fs = filter (λ f. is_at (nat_cmp q) (key_of f.from f.to)) fs

@@ -1,0 +1,150 @@
+// The faces of a problem, cell by cell.
+ghost use Rattle.std.specs.Prelude.{◌≡◌, ◌≤◌, ◌<◌, ◌^◌, ℕ, All, IfOk, length};
+ghost use Rattle.std.specs.List.{flat_map};
+ghost use Rattle.step_problem.specs.Heads.{lower_at, upper_at};
+ghost use Rattle.step_problem.specs.Entries.{entries_at};
+ghost use Rattle.step_problem.specs.Conditions.{CellFits};
+ghost use Rattle.budget_bounds.specs.Capped.{AreHeads};
+ghost use Rattle.zone_flows.specs.Faces.{cell_faces, face_from, faces, faces_by_kind};
+ghost use Rattle.zone_flows.specs.Tables.{IsTable, with_faces};
+
+use crate::face::add_face_from;
+use crate::sum::ZoneSum;
+use std::alloc::AllocError;
+use std::collections::BTreeMap;
+use step_problem::{Bound, Cell, Fixed, FixedKind, Link, Problem};
+
+// The number of the cell at this index.
+fn id_at(p: &Problem, index: usize) -> u32
+    requires { index < length p.now }
+    ensures { result ≡ (entries_at p.now index).id }
+{
+    p.cell(index).id
+}
+
+fn add_links(
+    map: &mut BTreeMap<u32, ZoneSum>,
+    p: &Problem,
+    zones: &[u32],
+    heads: &[Bound],
+    id: u32,
+    links: &[Link],
+) -> Result<(), AllocError>
+    requires table { IsTable map.old.entries }
+    requires zones { All (λ z. z ≤ 999) zones.now }
+    requires heads { All AreHeads heads.now }
+    requires same { length heads.now ≡ length zones.now }
+    requires ids { (c : ℕ) → c < length p.now → (entries_at p.now c).id < length zones.now }
+    requires id { id < length zones.now }
+    requires ends { All (λ x. x.cell < length p.now) links.now }
+    requires ordered { All (λ x. x.lo ≤ x.hi) links.now }
+    requires small { All (λ x. x.hi < 2 ^ 60) links.now }
+    ensures faces { IfOk result (λ _. map.new.entries ≡ with_faces map.old.entries (flat_map (λ x. face_from zones.now (lower_at heads.now) (upper_at heads.now) id (entries_at p.now x.cell).id x.lo x.hi) links.now)) }
+    ensures table { IfOk result (λ _. IsTable map.new.entries) }
+{
+    for x in links {
+        add_face_from(map, zones, heads, id, id_at(p, x.cell as usize), x.lo, x.hi)?;
+    }
+    Ok(())
+}
+
+// Adds the face to a constant-head cell, whose zone may be the lower or the higher.
+#[tactic(auto, using(crate::proofs::Tables::two_faces), unfolding(crate::specs::Tables::with_faces))]
+fn add_constant(
+    map: &mut BTreeMap<u32, ZoneSum>,
+    zones: &[u32],
+    heads: &[Bound],
+    id: u32,
+    x: &Fixed,
+) -> Result<(), AllocError>
+    requires table { IsTable map.old.entries }
+    requires zones { All (λ z. z ≤ 999) zones.now }
+    requires heads { All AreHeads heads.now }
+    requires same { length heads.now ≡ length zones.now }
+    requires id { id < length zones.now }
+    requires source { x.now.source < length zones.now }
+    requires ordered { x.now.lo ≤ x.now.hi }
+    requires small { x.now.hi < 2 ^ 60 }
+    ensures faces { IfOk result (λ _. map.new.entries ≡ with_faces map.old.entries (faces_by_kind zones.now (lower_at heads.now) (upper_at heads.now) x.now.kind id x.now.source x.now.lo x.now.hi)) }
+    ensures table { IfOk result (λ _. IsTable map.new.entries) }
+{
+    match x.kind {
+        FixedKind::Storage | FixedKind::General => Ok(()),
+        FixedKind::Constant => {
+            add_face_from(map, zones, heads, id, x.source, x.lo, x.hi)?;
+            add_face_from(map, zones, heads, x.source, id, x.lo, x.hi)?;
+            Ok(())
+        }
+    }
+}
+
+fn add_fixed(
+    map: &mut BTreeMap<u32, ZoneSum>,
+    zones: &[u32],
+    heads: &[Bound],
+    id: u32,
+    fixed: &[Fixed],
+) -> Result<(), AllocError>
+    requires table { IsTable map.old.entries }
+    requires zones { All (λ z. z ≤ 999) zones.now }
+    requires heads { All AreHeads heads.now }
+    requires same { length heads.now ≡ length zones.now }
+    requires id { id < length zones.now }
+    requires sources { All (λ x. x.source < length zones.now) fixed.now }
+    requires ordered { All (λ x. x.lo ≤ x.hi) fixed.now }
+    requires small { All (λ x. x.hi < 2 ^ 60) fixed.now }
+    ensures faces { IfOk result (λ _. map.new.entries ≡ with_faces map.old.entries (flat_map (λ x. faces_by_kind zones.now (lower_at heads.now) (upper_at heads.now) x.kind id x.source x.lo x.hi) fixed.now)) }
+    ensures table { IfOk result (λ _. IsTable map.new.entries) }
+{
+    for x in fixed {
+        add_constant(map, zones, heads, id, x)?;
+    }
+    Ok(())
+}
+
+#[tactic(auto, unfolding(crate::specs::Faces::cell_faces), using(crate::proofs::Tables::two_faces))]
+fn add_cell(
+    map: &mut BTreeMap<u32, ZoneSum>,
+    p: &Problem,
+    zones: &[u32],
+    heads: &[Bound],
+    cell: &Cell,
+) -> Result<(), AllocError>
+    requires table { IsTable map.old.entries }
+    requires zones { All (λ z. z ≤ 999) zones.now }
+    requires heads { All AreHeads heads.now }
+    requires same { length heads.now ≡ length zones.now }
+    requires ids { (c : ℕ) → c < length p.now → (entries_at p.now c).id < length zones.now }
+    requires id { cell.now.id < length zones.now }
+    requires ends { All (λ x. x.cell < length p.now) cell.now.links }
+    requires sources { All (λ x. x.source < length zones.now) cell.now.fixed }
+    requires fits { CellFits cell.now }
+    ensures faces { IfOk result (λ _. map.new.entries ≡ with_faces map.old.entries (cell_faces zones.now (lower_at heads.now) (upper_at heads.now) p.now cell.now)) }
+    ensures table { IfOk result (λ _. IsTable map.new.entries) }
+{
+    add_links(map, p, zones, heads, cell.id, &cell.links)?;
+    add_fixed(map, zones, heads, cell.id, &cell.fixed)?;
+    Ok(())
+}
+
+/// Adds the faces of a problem.
+pub(crate) fn add_faces(
+    map: &mut BTreeMap<u32, ZoneSum>,
+    p: &Problem,
+    zones: &[u32],
+    heads: &[Bound],
+) -> Result<(), AllocError>
+    requires table { IsTable map.old.entries }
+    requires zones { All (λ z. z ≤ 999) zones.now }
+    requires heads { All AreHeads heads.now }
+    requires same { length heads.now ≡ length zones.now }
+    requires ids { (c : ℕ) → c < length p.now → (entries_at p.now c).id < length zones.now }
+    requires sources { (c : ℕ) → c < length p.now → All (λ x. x.source < length zones.now) (entries_at p.now c).fixed }
+    ensures faces { IfOk result (λ _. map.new.entries ≡ with_faces map.old.entries (faces zones.now (lower_at heads.now) (upper_at heads.now) p.now)) }
+    ensures table { IfOk result (λ _. IsTable map.new.entries) }
+{
+    for c in 0..p.len() {
+        add_cell(map, p, zones, heads, p.cell(c))?;
+    }
+    Ok(())
+}
