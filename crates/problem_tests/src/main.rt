@@ -21,11 +21,15 @@
 //!
 //! `budgets` begins two budgets, and `IN LISTED LISTED COMPUTED COMPUTED TERM` (or `OUT`) gives a term of both; `covers`
 //! asks whether the listed one covers the computed one. `system COUNT` solves a system whose solution is known.
+//!
+//! `batch COUNT WORKERS CALLS` runs jobs whose ends are the squares of their numbers, with the passes of a gate; this
+//! many first calls have no memory. `meeting` runs two jobs that wait for each other, and `book` fills a book of ends.
 //! A line `@ ..` says what is shown, and is printed.
 #![tactic(auto)]
 
 mod answers;
 mod balances;
+mod batches;
 mod between;
 mod covering;
 mod entries;
@@ -46,9 +50,10 @@ use numbers::numbers_of;
 use question::{Question, ask};
 use std::alloc::Global;
 use std::io;
+use std::sync::Wait;
 use std::thread::Threads;
 
-fn step<R: Print + Threads + Sync>(
+fn step<R: Print + Threads + Wait + Sync>(
     rt: &R,
     alloc: Global,
     given: &mut Given,

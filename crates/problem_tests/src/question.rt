@@ -1,5 +1,6 @@
 // What is asked of a problem.
 use crate::balances::{print_balances, print_rivers};
+use crate::batches::{print_batch, print_book, print_meeting};
 use crate::between::ask_between;
 use crate::covering::print_cover;
 use crate::given::{Given, Stage};
@@ -8,6 +9,7 @@ use crate::systems::print_system;
 use crate::zoning::print_zone_flows;
 use std::alloc::Global;
 use std::io;
+use std::sync::Wait;
 use std::thread::Threads;
 use step_problem::Problem;
 
@@ -33,6 +35,9 @@ pub enum Question {
     Seats,
     Covers,
     System,
+    Batch,
+    Book,
+    Meeting,
 }
 
 impl Question {
@@ -59,6 +64,9 @@ impl Question {
             "seats" => Some(Question::Seats),
             "covers" => Some(Question::Covers),
             "system" => Some(Question::System),
+            "batch" => Some(Question::Batch),
+            "book" => Some(Question::Book),
+            "meeting" => Some(Question::Meeting),
             _ => None,
         }
     }
@@ -87,7 +95,7 @@ fn ask_problem<R: Print + Threads + Sync>(
 }
 
 /// Asks of what is given, and prints the answer.
-pub fn ask<R: Print + Threads + Sync>(
+pub fn ask<R: Print + Threads + Wait + Sync>(
     rt: &R,
     alloc: Global,
     given: &mut Given,
@@ -97,6 +105,9 @@ pub fn ask<R: Print + Threads + Sync>(
     match question {
         Question::Covers => return print_cover(rt, &given.budgets),
         Question::System => return print_system(rt, alloc, number(numbers, 0)),
+        Question::Batch => return print_batch(rt, alloc, numbers),
+        Question::Book => return print_book(rt, alloc),
+        Question::Meeting => return print_meeting(rt, alloc),
         _ => given.finish(),
     }
     match &given.stage {

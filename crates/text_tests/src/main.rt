@@ -16,6 +16,7 @@
 //! - on arrays behind control records: `row N` and `layer ROWS COLUMNS` of numbers; `integer_layer ROWS COLUMNS`,
 //!   `integer_layers LAYERS ROWS COLUMNS` and `array ROWS COLUMNS` of integers;
 //! - on the whole text as a name file: `packages` gives its pairs, and `files` the files of two packages;
+//! - on the whole text as the list of a batch: `models` gives the number of its names, and the names;
 //! - on the folder in memory: `found NAME LIMIT`, `input NAME` and `open NAME` ask for a file; `taken NAME` whether files
 //!   may have this name, and `named NAME` what it becomes.
 //!

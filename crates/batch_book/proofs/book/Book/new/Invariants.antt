@@ -1,0 +1,9 @@
+use Rattle.std.proofs.Common.{◌≡◌, ℕ, length, None}
+use Rattle.batch_book.specs.Ends.{end_at}
+use Rattle.batch_book.proofs.book.Book.new.Given as goal
+
+abbrev pub invariant-loop-place : goal.invariant-loop-place
+invariant-loop-place g l = record {
+  count : length l.ends.items ≡ l._place;
+  none : (job : ℕ) → end_at l.ends.items job ≡ None;
+}

@@ -1,0 +1,6 @@
+use Rattle.std.proofs.Common.{ℕ, ◌<◌}
+use Rattle.batch_book.specs.Ends.{HasEnd}
+use Rattle.batch_book.proofs.places.first_empty.Given as goal
+
+abbrev pub invariant-loop-place : goal.invariant-loop-place
+invariant-loop-place g l = (k : ℕ) → k < l.place → HasEnd l.places k

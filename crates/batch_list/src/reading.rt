@@ -1,0 +1,99 @@
+ghost use Rattle.std.specs.Prelude.{◌≡◌, ◌≤◌, length, All, IfOk, MatchResult, Ok};
+ghost use Rattle.outside.specs.Names.{IsGoodName};
+ghost use Rattle.record_lines.specs.Reading.{HasText, StopsText};
+ghost use Rattle.record_lines.specs.Seen.{numbered_of};
+ghost use Rattle.batch_list.specs.Names.{after_word, after_line, after_lines, names_in};
+
+use array_reader::name_of;
+use outside::{Code, Name, TextFault, refused};
+use record_lines::{Line, Lines, Words, is_comment};
+use std::alloc::Global;
+
+/// The most names of a list.
+const MOST_NAMES: usize = 1_000;
+
+/// Adds a word as a name.
+#[tactic(auto, unfolding(crate::specs::Names::after_word))]
+fn after_word(
+    alloc: Global,
+    names: &mut Vec<Name>,
+    word: &[u8],
+    file: &str,
+    line: u32,
+) -> Result<(), TextFault>
+    requires few { length names.old.items ≤ 1000 }
+    requires good { All IsGoodName names.old.items }
+    ensures few { length names.new.items ≤ 1000 }
+    ensures good { All IsGoodName names.new.items }
+    ensures names { MatchResult result
+        (λ _. after_word file.now line word.now names.old.items ≡ Ok names.new.items)
+        (λ fault. StopsText fault (after_word file.now line word.now names.old.items)) }
+{
+    let name = name_of(alloc, word, file, line)?;
+    if names.len() >= MOST_NAMES {
+        return Err(refused(alloc, Code::TooManyEntries, file, line));
+    }
+    let name = Name::new(alloc, name)?;
+    names.push(name)?;
+    Ok(())
+}
+
+/// Adds the name of a line, if it has one.
+#[tactic(auto, unfolding(crate::specs::Names::after_line))]
+fn after_line(
+    alloc: Global,
+    names: &mut Vec<Name>,
+    line: &Line,
+    file: &str,
+) -> Result<(), TextFault>
+    requires few { length names.old.items ≤ 1000 }
+    requires good { All IsGoodName names.old.items }
+    ensures few { length names.new.items ≤ 1000 }
+    ensures good { All IsGoodName names.new.items }
+    ensures names { MatchResult result
+        (λ _. after_line file.now (numbered_of line.now) names.old.items ≡ Ok names.new.items)
+        (λ fault. StopsText fault (after_line file.now (numbered_of line.now) names.old.items)) }
+{
+    if is_comment(line.bytes) {
+        return Ok(());
+    }
+    match Words::of(line).next() {
+        None => Ok(()),
+        Some(word) => after_word(alloc, names, word, file, line.number),
+    }
+}
+
+/// Adds the names of the lines.
+fn after_lines(
+    alloc: Global,
+    names: &mut Vec<Name>,
+    lines: &mut Lines,
+    file: &str,
+) -> Result<(), TextFault>
+    requires few { length names.old.items ≤ 1000 }
+    requires good { All IsGoodName names.old.items }
+    ensures few { length names.new.items ≤ 1000 }
+    ensures good { All IsGoodName names.new.items }
+    ensures names { MatchResult result
+        (λ _. after_lines file.now lines.old.lines names.old.items ≡ Ok names.new.items)
+        (λ fault. StopsText fault (after_lines file.now lines.old.lines names.old.items)) }
+{
+    while let Ok(line) = lines.next_line() {
+        after_line(alloc, names, &line, file)?;
+    }
+    Ok(())
+}
+
+/// The names of a list, in its order: the first word of each line, but of lines that begin with '#'. A name stands as
+/// often as in the list. There are at most 1,000. `file` is the list's own name, for refusals, which are of the first
+/// line that is wrong: BadName for a word that is no file's name, TooManyEntries for the 1,001st name.
+pub fn read_list(alloc: Global, file: &str, bytes: &[u8]) -> Result<Vec<Name>, TextFault>
+    ensures names { HasText (λ names. names.items) result (names_in file.now bytes.now) }
+    ensures few { IfOk result (λ names. length names.items ≤ 1000) }
+    ensures good { IfOk result (λ names. All IsGoodName names.items) }
+{
+    let mut names = Vec::new(alloc);
+    let mut lines = Lines::new(bytes);
+    after_lines(alloc, &mut names, &mut lines, file)?;
+    Ok(names)
+}

@@ -1,0 +1,10 @@
+use Rattle.std.proofs.Common.{◌≡◌, ◌++◌, List}
+use Rattle.batch_puts.specs.declared.job_end.JobEnd.{JobEnd}
+use Rattle.batch_puts.specs.Ended.{first_not_ok}
+use Rattle.batch_puts.proofs.puts.first_status.Given as goal
+
+abbrev pub invariant-loop-end : goal.invariant-loop-end
+invariant-loop-end l = (gone : List JobEnd) × (l.initial.ends.items ≡ l.ends.items ++ gone) × (l.status ≡ first_not_ok gone)
+
+abbrev pub decreases-loop-end : goal.decreases-loop-end
+decreases-loop-end l = goal.left-loop-end l

@@ -1,0 +1,8 @@
+use run_puts::Status;
+
+/// How a job ended, and the text that it writes.
+#[derive(Debug, Drop)]
+pub struct JobEnd {
+    pub status: Status,
+    pub text: Vec<u8>,
+}
