@@ -2,6 +2,7 @@
 //! It settles by itself, or while a viewer watches the plain phases.
 #![tactic(auto)]
 
+mod first;
 mod guessing;
 mod settling;
 mod watching;

@@ -2,9 +2,11 @@
 ghost use Rattle.std.specs.Prelude.{◌≡◌, ◌≤◌, true};
 ghost use Rattle.step_problem.specs.Heads.{IsBarrier};
 ghost use Rattle.step_problem.specs.Settling.{Settles};
+ghost use Rattle.settle_driver.specs.Phases.{IsPlan};
 ghost use Rattle.settle_driver.specs.Views.{AddsPhases, had_memory};
 
-use crate::guessing::{first_phases, settle_by_guess};
+use crate::first::{has_few_cells, look, phases_of_few};
+use crate::guessing::settle_by_guess;
 use crate::settling::NearSettler;
 use outside::Gate;
 use settle_driver::{Plan, Viewer, WatchSettler};
@@ -57,8 +59,31 @@ impl<'a, R: Threads + Sync, G: Gate + Sync> NearSettler<'a, R, G> {
         }
     }
 
-    /// What `settle` gives, by the same phases and the same guess, while a viewer watches the plain phases: `views`
-    /// views in each. The heads of a guess are no bounds before they are certified, so they are not shown.
+    // By `first` plain phases of a plan, each with its views, then by a guess.
+    fn watch_first<V: Viewer + Send>(
+        &self,
+        alloc: Global,
+        p: &Problem,
+        b: &Barrier,
+        first: Plan,
+        views: u32,
+        viewer: &mut V,
+    ) -> Result<Vec<Bound>, SettleFault>
+        requires barrier { IsBarrier p.now b.now }
+        requires first { IsPlan first }
+        ensures settles { Settles p.now b.now self.now.plan.rounds result }
+        ensures viewed { AddsPhases V.viewed V.stopped p.now b.now views (had_memory result) viewer.old viewer.new }
+    {
+        match WatchSettler::new(self.rt, first, self.gate, views).settle(alloc, p, b, viewer) {
+            Ok(bounds) => Ok(bounds),
+            Err(SettleFault::Unfinished(_)) => self.watch_onward(alloc, p, b, views, viewer),
+            Err(SettleFault::Memory) => Err(SettleFault::Memory),
+        }
+    }
+
+    /// What `settle` gives, while a viewer watches the plain phases: `views` views in each. A problem of few cells
+    /// begins with plain phases, another one with one short phase. Then heads are guessed. The heads of a guess are no
+    /// bounds before they are certified, so they are not shown.
     pub fn settle_watched<V: Viewer + Send>(
         &self,
         alloc: Global,
@@ -71,14 +96,19 @@ impl<'a, R: Threads + Sync, G: Gate + Sync> NearSettler<'a, R, G> {
         ensures settles { Settles p.now b.now self.now.plan.rounds result }
         ensures viewed { AddsPhases V.viewed V.stopped p.now b.now views (had_memory result) viewer.old viewer.new }
     {
-        let first = first_phases(p.len());
-        if self.plan.rounds <= first {
+        let few = has_few_cells(p.len());
+        let rounds = if few { phases_of_few() } else { 1 };
+        if self.plan.rounds <= rounds {
             return self.watch_plainly(alloc, p, b, self.plan.rounds, views, viewer);
         }
-        match self.watch_plainly(alloc, p, b, first, views, viewer) {
-            Ok(bounds) => Ok(bounds),
-            Err(SettleFault::Unfinished(_)) => self.watch_onward(alloc, p, b, views, viewer),
-            Err(SettleFault::Memory) => Err(SettleFault::Memory),
-        }
+        let first = if few {
+            Plan {
+                rounds,
+                ..self.plan
+            }
+        } else {
+            look(self.plan, rounds)
+        };
+        self.watch_first(alloc, p, b, first, views, viewer)
     }
 }
