@@ -28,8 +28,10 @@ fn words_of(answer: &Result<Vec<Bound>, SettleFault>) -> &[Bound] {
     }
 }
 
+// The views that were seen. Where workers settled a problem the number of their phases is free.
 fn print_seen(
     rt: &impl Print,
+    question: Question,
     views: Views,
     onlooker: &Onlooker,
     answer: &Result<Vec<Bound>, SettleFault>,
@@ -38,9 +40,9 @@ fn print_seen(
         println!(rt; "views that are too tight")?;
     }
     let count = views.limit.saturating_sub(onlooker.left);
-    let left = onlooker.left;
+    let free = answer.is_ok() && onlooker.left != 0 && matches!(question, Question::Watched);
     match count.checked_rem(views.each_phase) {
-        Some(0) if left != 0 && count != 0 && answer.is_ok() => println!(rt; "views of whole phases"),
+        Some(0) if free && count != 0 => println!(rt; "views of whole phases"),
         _ => println!(rt; "views {count}"),
     }
 }
@@ -65,5 +67,5 @@ pub fn print_watched<R: Print + Threads + Sync>(
         _ => WatchSettler::new(rt, plan, &FreeGate, each).settle(alloc, p, b, &mut onlooker),
     };
     print_answer(rt, &answer)?;
-    print_seen(rt, views, &onlooker, &answer)
+    print_seen(rt, question, views, &onlooker, &answer)
 }
