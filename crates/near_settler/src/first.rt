@@ -10,7 +10,7 @@ const FEW_CELLS: usize = 16;
 
 const PHASES_OF_FEW: u32 = 64;
 
-// The turns of each cell in a phase of a look: three shared ones, and each cell's own.
+// The turns of each cell in a phase of a look: at most three shared ones, and each cell's own.
 const SHARED_TURNS: u32 = 3;
 
 const TURNS: u32 = SHARED_TURNS + 1;
@@ -40,7 +40,7 @@ pub(crate) fn phases_of_soon() -> u32
     PHASES_OF_SOON
 }
 
-/// A plan of `rounds` short phases.
+/// A plan of `rounds` short phases, with no more turns than the plan's own.
 pub(crate) fn look(plan: Plan, rounds: u32) -> Plan
     requires plan { IsPlan plan }
     requires rounds { 1 ≤ rounds }
@@ -48,7 +48,7 @@ pub(crate) fn look(plan: Plan, rounds: u32) -> Plan
     ensures rounds { result.rounds ≡ rounds }
 {
     Plan {
-        turns_per_cell: SHARED_TURNS,
+        turns_per_cell: plan.turns_per_cell.min(SHARED_TURNS),
         rounds,
         ..plan
     }
