@@ -11,7 +11,9 @@
 //! own head and those of its links), `raised` and `sunk` (its raise and sink values there), `rivers INDEX HEAD`, `zones ZONE
 //! LOW HIGH ..` (the zone and the bounds of the head of each cell of the grid, by cell number), `barrier`,
 //! `guess`, `sweeps ROUNDS`, `workers WORKERS TURNS ROUNDS`, `phases WORKERS TURNS ROUNDS` and `run WORKERS TURNS ROUNDS`
-//! (these with the passes of a gate), and `listed SWEEPS INDEX ..`. `heads LOW HIGH ..` are bounds of the cells, of which
+//! (these with the passes of a gate), and `listed SWEEPS INDEX ..`. `watched WORKERS TURNS ROUNDS VIEWS LIMIT` settles
+//! by workers with VIEWS views in each phase, which stop at number LIMIT; `watched_run` as a run does; `pieces` puts the
+//! views to a sink whose put of number LIMIT fails. `heads LOW HIGH ..` are bounds of the cells, of which
 //! `check`, `budget` and `near TRIALS SWEEPS` (from the bounds, then by one round) are asked.
 //!
 //! `moves` begins moves of two actors, `first` and `second`, on shared heads that begin at the barrier: `look ACTOR INDEX
@@ -38,11 +40,14 @@ mod exchanges;
 mod given;
 mod moves;
 mod numbers;
+mod onlooker;
 mod passes;
+mod pieces;
 mod question;
 mod seats;
 mod settling;
 mod systems;
+mod watched;
 mod zoning;
 
 use given::Given;

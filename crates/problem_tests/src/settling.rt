@@ -5,7 +5,9 @@ ghost use Rattle.settle_driver.specs.Phases.{IsPlan};
 use crate::answers::{print_bounds, print_open};
 use crate::numbers::number;
 use crate::passes::Passes;
+use crate::pieces::print_pieces;
 use crate::question::Question;
+use crate::watched::{Views, print_watched};
 use near_settler::NearSettler;
 use outside::FreeGate;
 use settle_driver::{ListedSettler, PlainSettler, Plan, ThreadSettler, settle, settle_near};
@@ -51,7 +53,8 @@ fn by_list(
     ListedSettler::new(list, number(numbers, 0)).settle(alloc, p, b)
 }
 
-fn print_answer(rt: &impl Print, answer: &Result<Vec<Bound>, SettleFault>) -> io::Result<()> {
+/// The settled heads, or the first cell that is left open.
+pub fn print_answer(rt: &impl Print, answer: &Result<Vec<Bound>, SettleFault>) -> io::Result<()> {
     match answer {
         Ok(bounds) => print_bounds(rt, "settled", bounds.as_slice()),
         Err(SettleFault::Unfinished(open)) => print_open(rt, open),
@@ -109,7 +112,17 @@ pub fn print_settled<R: Print + Threads + Sync>(
             if !plan.fits() {
                 return println!(rt; "no plan");
             }
-            return print_by_workers(rt, alloc, p, b, question, plan);
+            let views = Views {
+                each_phase: number(numbers, 3),
+                limit: number(numbers, 4),
+            };
+            return match question {
+                Question::Watched | Question::WatchedRun => {
+                    print_watched(rt, alloc, p, b, question, plan, views)
+                }
+                Question::Pieces => print_pieces(rt, alloc, p, b, plan, views),
+                _ => print_by_workers(rt, alloc, p, b, question, plan),
+            };
         }
     };
     print_answer(rt, &answer)

@@ -6,3 +6,4 @@ pub mod Answering
 pub mod Gathering
 pub mod Phasing
 pub mod InOrder
+pub mod Viewing

@@ -1,7 +1,7 @@
 -- A cell that can move, and one that can't.
-use Rattle.std.proofs.Common.{◌≡◌, ℕ, ◌<◌, inl, inr, arith, false, List, length, ℤ, ◌≤ℤ◌, ◌<ℤ◌}
+use Rattle.std.proofs.Common.{◌≡◌, ℕ, ◌<◌, inl, inr, subst, arith, false, List, length, ℤ, ◌≤ℤ◌, ◌<ℤ◌}
 use Rattle.std.proofs.lemmas.Int.{ints, by_lt_z}
-use Rattle.std.specs.Prelude.{Option, Some, None, MatchOption}
+use Rattle.std.specs.Prelude.{Option, Some, None, MatchOption, is_some}
 use lib.Signed.{lt_z}
 use Rattle.step_problem.specs.declared.heads.Bound.{Bound}
 use Rattle.step_problem.specs.declared.heads.Side.{Side}
@@ -54,3 +54,11 @@ none_open p w low high = record {
 pub settled_stays : (p : List Entries) (w : List Bound) (c : ℕ) (side : Side) → c < length p → AreBothSettled p w → CanMove p w c side → ⊥
 settled_stays p w c Low i settled (v, head, can, above) = let k = settled.low c i v head can in omega (arith, ints, k)
 settled_stays p w c High i settled (v, head, can, below) = let k = settled.high c i v head can in omega (arith, ints, k)
+
+-- the case that an option is in
+pub where_none : {T : Type 0} (o : Option T) (P : Type 0) (Q : T → Type 0) → is_some o ≡ false → MatchOption o P Q → P
+where_none None P Q e m = m
+where_none (Some x) P Q e m = absurd cc
+
+pub where_some : {T : Type 0} (o : Option T) (x : T) (P : Type 0) (Q : T → Type 0) → o ≡ Some x → MatchOption o P Q → Q x
+where_some o x P Q e m = subst (λ (y : Option _). MatchOption y P Q) e m

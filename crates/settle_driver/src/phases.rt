@@ -17,7 +17,7 @@ use std::thread::Threads;
 use step_problem::{Barrier, Bound, Problem};
 
 // So many seats more, which have seen what this one has.
-fn deal(
+pub(crate) fn deal(
     alloc: Global,
     table: &HeadTable,
     seat: &mut HeadSeat,
@@ -36,7 +36,7 @@ fn deal(
 }
 
 // Joins all the seats into one.
-fn gather(table: &HeadTable, seat: &mut HeadSeat, mut seats: Vec<HeadSeat>)
+pub(crate) fn gather(table: &HeadTable, seat: &mut HeadSeat, mut seats: Vec<HeadSeat>)
     requires seat { IsSeatOf table.now seat.old }
     requires seats { All (λ s. IsSeatOf table.now s) seats.items }
     ensures seat { IsSeatOf table.now seat.new }
@@ -69,7 +69,7 @@ fn work_one<G: Gate>(
 }
 
 // Each seat has its worker.
-fn work_at<R: Threads + Sync, G: Gate + Sync>(
+pub(crate) fn work_at<R: Threads + Sync, G: Gate + Sync>(
     rt: &R,
     table: &HeadTable,
     seats: &mut [HeadSeat],

@@ -1,18 +1,12 @@
-use Rattle.std.proofs.Common.{◌≡◌, ℕ, ◌<◌, arith, refl, sym, ◌∙◌, subst, ap, false, List}
-use Rattle.std.specs.Prelude.{Option, Some, None, MatchOption, is_some, not}
+use Rattle.std.proofs.Common.{◌≡◌, ℕ, ◌<◌, arith, refl, sym, ◌∙◌, subst, ap, List}
+use Rattle.std.specs.Prelude.{MatchOption, not}
 use Rattle.step_problem.specs.declared.heads.Bound.{Bound}
 use Rattle.step_problem.specs.Settling.{IsFirstOpen}
 use Rattle.cell_relax.specs.Words.{AreWords}
 use Rattle.settle_driver.specs.Sweeps.{AreBothSettled}
+use Rattle.settle_driver.proofs.Opening.{where_none, where_some}
 use Rattle.settle_driver.proofs.Phasing.{ArePhased, phased_again, phased_unfinished, settled_on_the_way}
 use Rattle.settle_driver.proofs.threads.settle_cells.Goals as goal
-
-where_none : {T : Type 0} (o : Option T) (P : Type 0) (Q : T → Type 0) → is_some o ≡ false → MatchOption o P Q → P
-where_none None P Q e m = m
-where_none (Some x) P Q e m = absurd cc
-
-where_some : {T : Type 0} (o : Option T) (x : T) (P : Type 0) (Q : T → Type 0) → o ≡ Some x → MatchOption o P Q → Q x
-where_some o x P Q e m = subst (λ (y : Option _). MatchOption y P Q) e m
 
 pub first_open-open-requires : goal.first_open-open-requires
 first_open-open-requires g c =

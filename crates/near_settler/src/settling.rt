@@ -1,0 +1,162 @@
+// The settler of a run.
+ghost use Rattle.std.specs.Prelude.{◌≡◌, ◌≤◌};
+ghost use Rattle.step_problem.specs.Heads.{IsBarrier};
+ghost use Rattle.step_problem.specs.Settling.{Settles};
+ghost use Rattle.settle_driver.specs.Phases.{IsPlan};
+
+use crate::first::{has_few_cells, look, phases_of_few, phases_of_soon, settles_soon};
+use crate::guessing::settle_by_guess;
+use outside::Gate;
+use settle_driver::{Plan, ThreadSettler};
+use std::alloc::Global;
+use std::thread::Threads;
+use step_problem::{Barrier, Bound, Problem, SettleFault};
+
+/// Settles by workers in threads, with the handle and the gate that it borrows. Its plan's rounds are plain phases;
+/// what it does beside them only saves time.
+#[derive(Drop)]
+pub struct NearSettler<'a, R: Threads + Sync, G: Gate + Sync> {
+    pub(crate) rt: &'a R,
+    pub(crate) gate: &'a G,
+    pub(crate) plan: Plan,
+    pub ghost plan_fits: { IsPlan plan },
+}
+
+impl<'a, R: Threads + Sync, G: Gate + Sync> NearSettler<'a, R, G> {
+    pub fn new(rt: &'a R, plan: Plan, gate: &'a G) -> NearSettler<'a, R, G>
+        requires { IsPlan plan }
+        ensures { result.plan ≡ plan }
+    {
+        NearSettler { rt, gate, plan }
+    }
+
+    // By plain phases, at most so many.
+    fn settle_plainly(
+        &self,
+        alloc: Global,
+        p: &Problem,
+        b: &Barrier,
+        rounds: u32,
+    ) -> Result<Vec<Bound>, SettleFault>
+        requires barrier { IsBarrier p.now b.now }
+        requires rounds { 1 ≤ rounds }
+        ensures { Settles p.now b.now rounds result }
+    {
+        let plan = Plan {
+            rounds,
+            ..self.plan
+        };
+        ThreadSettler::new(self.rt, plan, self.gate).settle(alloc, p, b)
+    }
+
+    // By a guess, and by all the plain phases where it is not certified.
+    fn settle_onward(
+        &self,
+        alloc: Global,
+        p: &Problem,
+        b: &Barrier,
+    ) -> Result<Vec<Bound>, SettleFault>
+        requires { IsBarrier p.now b.now }
+        ensures { Settles p.now b.now self.now.plan.rounds result }
+    {
+        match settle_by_guess(alloc, p, b) {
+            Ok(bounds) => Ok(bounds),
+            Err(SettleFault::Unfinished(_)) => self.settle_plainly(alloc, p, b, self.plan.rounds),
+            Err(SettleFault::Memory) => Err(SettleFault::Memory),
+        }
+    }
+
+    // By `first` plain phases, then by a guess.
+    fn settle_few_first(
+        &self,
+        alloc: Global,
+        p: &Problem,
+        b: &Barrier,
+        first: u32,
+    ) -> Result<Vec<Bound>, SettleFault>
+        requires barrier { IsBarrier p.now b.now }
+        requires first { 1 ≤ first }
+        ensures { Settles p.now b.now self.now.plan.rounds result }
+    {
+        if self.plan.rounds <= first {
+            return self.settle_plainly(alloc, p, b, self.plan.rounds);
+        }
+        match self.settle_plainly(alloc, p, b, first) {
+            Ok(bounds) => Ok(bounds),
+            Err(SettleFault::Unfinished(_)) => self.settle_onward(alloc, p, b),
+            Err(SettleFault::Memory) => Err(SettleFault::Memory),
+        }
+    }
+
+    // By `rounds` short phases.
+    fn look(
+        &self,
+        alloc: Global,
+        p: &Problem,
+        b: &Barrier,
+        rounds: u32,
+    ) -> Result<Vec<Bound>, SettleFault>
+        requires barrier { IsBarrier p.now b.now }
+        requires rounds { 1 ≤ rounds }
+        ensures { Settles p.now b.now rounds result }
+    {
+        ThreadSettler::new(self.rt, look(self.plan, rounds), self.gate).settle(alloc, p, b)
+    }
+
+    // After one short phase that led to `first`: by a second one, then plainly or by a guess, as the moves promise.
+    fn settle_as_promised(
+        &self,
+        alloc: Global,
+        p: &Problem,
+        b: &Barrier,
+        first: &[Bound],
+    ) -> Result<Vec<Bound>, SettleFault>
+        requires { IsBarrier p.now b.now }
+        ensures { Settles p.now b.now self.now.plan.rounds result }
+    {
+        match self.look(alloc, p, b, 2) {
+            Ok(bounds) => Ok(bounds),
+            Err(SettleFault::Unfinished(open)) => {
+                if settles_soon(b, first, &open.words) {
+                    self.settle_few_first(alloc, p, b, phases_of_soon())
+                } else {
+                    self.settle_onward(alloc, p, b)
+                }
+            }
+            Err(SettleFault::Memory) => Err(SettleFault::Memory),
+        }
+    }
+
+    // By a look first, which costs less than a guess.
+    fn settle_by_look(
+        &self,
+        alloc: Global,
+        p: &Problem,
+        b: &Barrier,
+    ) -> Result<Vec<Bound>, SettleFault>
+        requires { IsBarrier p.now b.now }
+        ensures { Settles p.now b.now self.now.plan.rounds result }
+    {
+        match self.look(alloc, p, b, 1) {
+            Ok(bounds) => Ok(bounds),
+            Err(SettleFault::Unfinished(open)) => self.settle_as_promised(alloc, p, b, &open.words),
+            Err(SettleFault::Memory) => Err(SettleFault::Memory),
+        }
+    }
+
+    /// The one settled pair, or Unfinished only where the plan's number of plain rounds does not settle. A problem of
+    /// few cells begins with plain phases, another one with a few turns that show whether plain phases settle it soon.
+    /// Then heads are guessed and tried, and then all the plain phases follow.
+    pub fn settle(&self, alloc: Global, p: &Problem, b: &Barrier) -> Result<Vec<Bound>, SettleFault>
+        requires { IsBarrier p.now b.now }
+        ensures { Settles p.now b.now self.now.plan.rounds result }
+    {
+        if has_few_cells(p.len()) {
+            return self.settle_few_first(alloc, p, b, phases_of_few());
+        }
+        if self.plan.rounds <= 1 {
+            return self.settle_plainly(alloc, p, b, self.plan.rounds);
+        }
+        self.settle_by_look(alloc, p, b)
+    }
+}

@@ -1,0 +1,170 @@
+-- Views that follow one another, and what a watching seat has seen.
+use Rattle.std.proofs.Common.{◌≡◌, ℕ, ◌+◌, ◌*◌, ◌<◌, ◌⊎◌, inl, inr, refl, sym, subst, arith, Bool, true, false, List, length, Result, Ok, Err}
+use Rattle.std.specs.Result.{is_ok}
+use Rattle.std.specs.declared.vec.Vec.{Vec}
+use Rattle.std.specs.declared.alloc.Global.{Global}
+use Rattle.step_problem.specs.declared.heads.Bound.{Bound}
+use Rattle.step_problem.specs.declared.heads.SettleFault.{SettleFault}
+use Rattle.step_problem.specs.declared.heads.SettleFault.TheVariants.{Unfinished, Memory}
+use Rattle.step_problem.specs.Entries.{Entries}
+use Rattle.step_problem.specs.Conditions.{IsHead}
+use Rattle.step_problem.specs.Heads.{Edges}
+use Rattle.head_table.specs.declared.table.HeadTable.{HeadTable}
+use Rattle.head_table.specs.declared.table.HeadSeat.{HeadSeat}
+use Rattle.head_table.specs.BySide.{AreHeld}
+use Rattle.head_table.specs.Seats.{IsSeatOf, ShowsSeen, barrier_of}
+use Rattle.settle_driver.specs.Views.{EnclosesPair, had_memory, AddsViews, AddsTurns, AddsPhases}
+
+-- heads are an answer of a settling that had memory
+pub ok_had_memory : (r : Result (Vec Bound Global) SettleFault) → is_ok r ≡ true → had_memory r ≡ true
+ok_had_memory (Ok heads) e = refl
+ok_had_memory (Err (Unfinished o)) e = refl
+ok_had_memory (Err Memory) e = absurd cc
+
+module _ {V : Type 0} (viewed : V → List Entries → Edges → ℕ → V → Type 0) (stopped : V → Type 0) (p : List Entries) (b : Edges) where
+  pub no_views : (v : V) → AddsViews viewed stopped p b 0 v v
+  no_views v = record {
+    more = λ start n h. let e : n ≡ n + 0 = omega arith in subst (λ (k : ℕ). viewed start p b k v) e h;
+    stays = λ s. s;
+  }
+
+  pub views_add_up : (i j : ℕ) (a m z : V) → AddsViews viewed stopped p b i a m → AddsViews viewed stopped p b j m z → AddsViews viewed stopped p b (i + j) a z
+  views_add_up i j a m z first next = record {
+    more = λ start n h. let e : (n + i) + j ≡ n + (i + j) = omega arith in subst (λ (k : ℕ). viewed start p b k z) e (next.more start (n + i) (first.more start n h));
+    stays = λ s. next.stays (first.stays s);
+  }
+
+  -- a view that gives true
+  pub one_view_more : (i : ℕ) (a m z : V) → AddsViews viewed stopped p b i a m → ((start : V) (n : ℕ) → viewed start p b n m → viewed start p b (n + 1) z) → (stopped m → ⊥) → AddsViews viewed stopped p b (i + 1) a z
+  one_view_more i a m z first more goes_on = record {
+    more = λ start n h. let e : (n + i) + 1 ≡ n + (i + 1) = omega arith in subst (λ (k : ℕ). viewed start p b k z) e (more start (n + i) (first.more start n h));
+    stays = λ s. absurd (goes_on (first.stays s));
+  }
+
+  -- a view that gives false
+  pub stops_here : (i turns : ℕ) (a m z : V) → AddsViews viewed stopped p b i a m → ((start : V) (n : ℕ) → viewed start p b n m → viewed start p b n z) → stopped z → AddsTurns viewed stopped p b turns true a z
+  stops_here i turns a m z first same stop = record {
+    count = i;
+    views = record { more = λ start n h. same start (n + i) (first.more start n h); stays = λ s. stop };
+    each_turn = λ e. inl stop;
+  }
+
+  pub all_turns : (i turns : ℕ) (a z : V) → AddsViews viewed stopped p b i a z → i ≡ turns → AddsTurns viewed stopped p b turns true a z
+  all_turns i turns a z views e = record { count = i; views = views; each_turn = λ _. inr e }
+
+  pub no_turns : (turns : ℕ) (v : V) → AddsTurns viewed stopped p b turns false v v
+  no_turns turns v = record { count = 0; views = no_views v; each_turn = λ e. absurd cc }
+
+  pub some_turns : (turns : ℕ) (a z : V) → AddsTurns viewed stopped p b turns true a z → AddsTurns viewed stopped p b turns false a z
+  some_turns turns a z t = record { count = t.count; views = t.views; each_turn = λ e. absurd cc }
+
+  -- what k whole phases add
+  pub record AddsWhole (k turns : ℕ) (old new : V) : Type 0 where
+    pub count : ℕ
+    pub views : AddsViews viewed stopped p b count old new
+    pub each_phase : stopped new ⊎ (count ≡ k * turns)
+
+  pub no_phase : (turns : ℕ) (v : V) → AddsWhole 0 turns v v
+  no_phase turns v = record { count = 0; views = no_views v; each_phase = inr (omega arith) }
+
+  count_adds_up : (k l i j turns : ℕ) (m z : V) → (stopped m → stopped z) → stopped m ⊎ (i ≡ k * turns) → stopped z ⊎ (j ≡ l * turns) → stopped z ⊎ (i + j ≡ (k + l) * turns)
+  count_adds_up k l i j turns m z stays (inl s) after = inl (stays s)
+  count_adds_up k l i j turns m z stays (inr e) (inl s) = inl s
+  count_adds_up k l i j turns m z stays (inr e) (inr d) = inr (omega (arith, e, d))
+
+  one_phase : (j turns : ℕ) (z : V) → stopped z ⊎ (j ≡ turns) → stopped z ⊎ (j ≡ 1 * turns)
+  one_phase j turns z (inl s) = inl s
+  one_phase j turns z (inr e) = inr (omega (arith, e))
+
+  pub one_phase_more : (k turns : ℕ) (a m z : V) → AddsWhole k turns a m → AddsTurns viewed stopped p b turns true m z → AddsWhole (k + 1) turns a z
+  one_phase_more k turns a m z first next = record {
+    count = first.count + next.count;
+    views = views_add_up first.count next.count a m z first.views next.views;
+    each_phase = count_adds_up k 1 first.count next.count turns m z next.views.stays first.each_phase (one_phase next.count turns z (next.each_turn refl));
+  }
+
+  some_phases : (k i turns : ℕ) (z : V) → 0 < k → stopped z ⊎ (i ≡ k * turns) → stopped z ⊎ ((phases : ℕ) × (0 < phases) × (i ≡ phases * turns))
+  some_phases k i turns z some (inl s) = inl s
+  some_phases k i turns z some (inr e) = inr (k, some, e)
+
+  -- a settling that had memory for its phases
+  pub phases_made : (k turns : ℕ) (a z : V) → 0 < k → 0 < length p → AddsWhole k turns a z → AddsPhases viewed stopped p b turns true a z
+  phases_made k turns a z some cell whole = record {
+    count = whole.count;
+    views = whole.views;
+    no_cell = λ e. absurd (omega (arith, e, cell));
+    each_phase = λ _ _. some_phases k whole.count turns z some whole.each_phase;
+  }
+
+  -- a settling whose last phase lacked memory
+  pub phases_fail : (k turns : ℕ) (a m z : V) → 0 < length p → AddsWhole k turns a m → AddsTurns viewed stopped p b turns false m z → AddsPhases viewed stopped p b turns false a z
+  phases_fail k turns a m z cell first next = record {
+    count = first.count + next.count;
+    views = views_add_up first.count next.count a m z first.views next.views;
+    no_cell = λ e. absurd (omega (arith, e, cell));
+    each_phase = λ e _. absurd cc;
+  }
+
+  -- without a cell there is nothing to view
+  pub nothing_viewed : (turns : ℕ) (made : Bool) (v : V) → length p ≡ 0 → AddsPhases viewed stopped p b turns made v v
+  nothing_viewed turns made v none = record {
+    count = 0;
+    views = no_views v;
+    no_cell = λ _. refl;
+    each_phase = λ _ some. absurd (omega (arith, none, some));
+  }
+
+  -- a settling that lacked memory before its first phase
+  pub unbegun : (turns : ℕ) (v : V) → AddsPhases viewed stopped p b turns false v v
+  unbegun turns v = record { count = 0; views = no_views v; no_cell = λ _. refl; each_phase = λ e _. absurd cc }
+
+  -- what is said of a settling that had memory holds where it ended with heads
+  pub phases_ended : (r : Result (Vec Bound Global) SettleFault) (turns : ℕ) (a z : V) → AddsPhases viewed stopped p b turns (had_memory r) a z → AddsPhases viewed stopped p b turns (is_ok r) a z
+  phases_ended r turns a z s = record {
+    count = s.count;
+    views = s.views;
+    no_cell = s.no_cell;
+    each_phase = λ e some. s.each_phase (ok_had_memory r e) some;
+  }
+
+  -- what is said of a settling that had memory holds of one that may not have had it
+  pub phases_kept : (made : Bool) (turns : ℕ) (a z : V) → AddsPhases viewed stopped p b turns true a z → AddsPhases viewed stopped p b turns made a z
+  phases_kept made turns a z s = record {
+    count = s.count;
+    views = s.views;
+    no_cell = s.no_cell;
+    each_phase = λ e some. s.each_phase refl some;
+  }
+
+  phases_of_both : (i j turns : ℕ) (m z : V) → (stopped m → stopped z) → stopped m ⊎ ((k : ℕ) × (0 < k) × (i ≡ k * turns)) → stopped z ⊎ ((l : ℕ) × (0 < l) × (j ≡ l * turns)) → stopped z ⊎ ((n : ℕ) × (0 < n) × (i + j ≡ n * turns))
+  phases_of_both i j turns m z stays (inl s) after = inl (stays s)
+  phases_of_both i j turns m z stays (inr h) (inl s) = inl s
+  phases_of_both i j turns m z stays (inr (k, some, e)) (inr (l, some', d)) = inr (k + l, omega (arith, some), omega (arith, e, d))
+
+  -- one settling after another
+  pub phases_add_up : (made : Bool) (turns : ℕ) (a m z : V) → AddsPhases viewed stopped p b turns true a m → AddsPhases viewed stopped p b turns made m z → AddsPhases viewed stopped p b turns made a z
+  phases_add_up made turns a m z first next = record {
+    count = first.count + next.count;
+    views = views_add_up first.count next.count a m z first.views next.views;
+    no_cell = λ none. omega (arith, first.no_cell none, next.no_cell none);
+    each_phase = λ e some. phases_of_both first.count next.count turns m z next.views.stays (first.each_phase refl some) (next.each_phase e some);
+  }
+
+-- What a seat has just seen encloses the settled pair.
+seen_encloses : (t : HeadTable) (s : HeadSeat) (heads : List Bound) → length heads ≡ length t.problem.now → IsSeatOf t s → ShowsSeen t.problem.now s heads → AreHeld t.problem.now (barrier_of t) heads → EnclosesPair t.problem.now (barrier_of t) heads
+seen_encloses t s heads whole seat shows held =
+    let sound = s.sound in
+    let inside : (c : ℕ) → c < length t.problem.now → c < length s.seat.me.0.problem = λ c h. subst (λ (q : List Entries). c < length q) (sym seat.problem) h in record {
+      words = record {
+        whole = whole;
+        low = λ c h. subst IsHead (sym (shows.low c h)) (sound.low c (inside c h));
+        high = λ c h. subst IsHead (sym (shows.high c h)) (sound.high c (inside c h));
+      };
+      low = λ l u pair c h. held.low c h l pair.low.heads pair.low.settled pair.low.past_barrier;
+      high = λ l u pair c h. held.high c h u pair.high.heads pair.high.settled pair.high.past_barrier;
+    }
+
+pub look_encloses : (p : List Entries) (b : Edges) (t : HeadTable) (s : HeadSeat) (heads : List Bound) → t.problem.now ≡ p → barrier_of t ≡ b → length heads ≡ length p → IsSeatOf t s → ShowsSeen t.problem.now s heads → AreHeld t.problem.now (barrier_of t) heads → EnclosesPair p b heads
+look_encloses p b t s heads same edges whole seat shows held =
+    let n : length heads ≡ length t.problem.now = subst (λ (q : List Entries). length heads ≡ length q) (sym same) whole in
+    subst (λ (q : List Entries). EnclosesPair q b heads) same (subst (λ (e : Edges). EnclosesPair t.problem.now e heads) edges (seen_encloses t s heads n seat shows held))

@@ -1,0 +1,11 @@
+use Rattle.std.proofs.Common.{◌≡◌, length}
+use Rattle.head_table.specs.Seats.{IsSeatOf}
+use Rattle.settle_driver.specs.Views.{AddsViews}
+use Rattle.settle_driver.proofs.watching.watch_turns.Given as goal
+
+abbrev pub invariant-loop-turn : goal.invariant-loop-turn
+invariant-loop-turn g l = record {
+  seat : IsSeatOf l.table l.seat;
+  whole : length l.heads ≡ length l.p;
+  views : AddsViews g.V.Viewer.viewed g.V.Viewer.stopped l.p l.b l.turn l.initial.viewer l.viewer;
+}

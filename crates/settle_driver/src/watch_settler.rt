@@ -1,0 +1,56 @@
+// Settling by workers in threads, while a viewer watches.
+ghost use Rattle.std.specs.Prelude.{◌≡◌};
+ghost use Rattle.step_problem.specs.Heads.{IsBarrier};
+ghost use Rattle.step_problem.specs.Settling.{Settles};
+ghost use Rattle.settle_driver.specs.Phases.{IsPlan};
+ghost use Rattle.settle_driver.specs.Views.{AddsPhases, had_memory};
+
+use crate::plan::Plan;
+use crate::viewer::Viewer;
+use crate::watched::settle_watched;
+use outside::Gate;
+use std::alloc::Global;
+use std::thread::Threads;
+use step_problem::{Barrier, Bound, Problem, SettleFault};
+
+/// Settles by workers in threads while a viewer watches, with the handle and the gate that it borrows.
+#[derive(Drop)]
+pub struct WatchSettler<'a, R: Threads + Sync, G: Gate + Sync> {
+    rt: &'a R,
+    gate: &'a G,
+    plan: Plan,
+    views: u32,
+    pub ghost plan_fits: { IsPlan plan },
+}
+
+impl<'a, R: Threads + Sync, G: Gate + Sync> WatchSettler<'a, R, G> {
+    /// In each phase the viewer is shown `views` views.
+    pub fn new(rt: &'a R, plan: Plan, gate: &'a G, views: u32) -> WatchSettler<'a, R, G>
+        requires { IsPlan plan }
+        ensures { (result.plan ≡ plan) × (result.views ≡ views) }
+    {
+        WatchSettler {
+            rt,
+            gate,
+            plan,
+            views,
+        }
+    }
+
+    /// The one settled pair, or Unfinished only where the plan's number of plain rounds does not settle.
+    pub fn settle<V: Viewer + Send>(
+        &self,
+        alloc: Global,
+        p: &Problem,
+        b: &Barrier,
+        viewer: &mut V,
+    ) -> Result<Vec<Bound>, SettleFault>
+        requires { IsBarrier p.now b.now }
+        ensures settles { Settles p.now b.now self.now.plan.rounds result }
+        ensures viewed { AddsPhases V.viewed V.stopped p.now b.now self.now.views (had_memory result) viewer.old viewer.new }
+    {
+        settle_watched(
+            self.rt, alloc, p, b, self.plan, self.gate, self.views, viewer,
+        )
+    }
+}
