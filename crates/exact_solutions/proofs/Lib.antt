@@ -22,3 +22,4 @@ pub mod WholeSolutions
 pub mod Conducting
 pub mod HeldWholes
 pub mod HeldSteps
+pub mod WorkedSteps

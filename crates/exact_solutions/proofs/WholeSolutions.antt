@@ -58,22 +58,26 @@ map_length : (d : ℕ) (w : List WholeCell) → length (map (scaled d) w) ≡ le
 map_length d [] = refl
 map_length d (u ∷ w) = ap suc (map_length d w)
 
-share_is_over : (d : ℕ) (z : ℤ) → 0 < d → IsOver d (share d z) z
+pub share_is_over : (d : ℕ) (z : ℤ) → 0 < d → IsOver d (share d z) z
 share_is_over d z some = record { is = ap (λ (k : ℕ). z *ℤ pos k) (back d some) }
   where
     back : (d : ℕ) → 0 < d → d ≡ suc (d - 1)
     back d h = omega arith
 
+-- heads over d at which the balances of a step's whole numbers are zero solve the step
+pub whole_balances_solve : (k d : ℕ) (e : List ExactCell) (w : List WholeCell) (X : ℕ → ℤ) → 0 < k → 0 < d → AllZip (CellOver k d) e w → ((c : ℕ) → c < length w → whole_balance (whole_at w c) (X c) X ≡ pos 0) → SolvesStep e d X
+whole_balances_solve k d e w X some_k some_d over balanced c i =
+    let sum = balance_over k d (share d (X c)) (X c) (share_is_over d (X c) some_d) (λ z. share d (X z)) X (λ z. share_is_over d (X z) some_d) (cell_at e c) (whole_at w c) (AllZip-at (CellOver k d) e w c no_cell no_whole over i) in
+    over_zero (k * d) _ (some_product k d some_k some_d)
+    (subst (λ (z : ℤ). IsOver (k * d) (balance (cell_at e c) (share d (X c)) (λ z. share d (X z))) z) (balanced c (omega (arith, i, AllZip-length (CellOver k d) e w over))) sum)
+
 module _ (k m : ℕ) (some_k : 0 < k) (some_m : 0 < m) (e : List ExactCell) (w : List WholeCell) (over : AllZip (CellOver k m) e w) (both : IsMutual w) where
   -- heads over d that solve the whole numbers, over m * d solve the step
   pub solves_step : (d : ℕ) (X : ℕ → ℤ) → IsSolution (length w) (a_of w) (b_of w) (q_of w) (ramps_from 0 w) d X → SolvesStep e (m * d) X
-  solves_step d X is c i =
-      let some = some_product m d some_m is.some in
-      let here : c < length w = omega (arith, i, AllZip-length (CellOver k m) e w over) in
-      let cell = subst (λ (u : WholeCell). CellOver k (m * d) (cell_at e c) u) (map_at d w c) (AllZip-at (CellOver k (m * d)) e (map (scaled d) w) c no_cell no_whole (step_scaled k m d e w over) i) in
-      let sum = balance_over k (m * d) (share (m * d) (X c)) (X c) (share_is_over (m * d) (X c) some) (λ z. share (m * d) (X z)) X (λ z. share_is_over (m * d) (X z) some) (cell_at e c) (scaled d (whole_at w c)) cell in
-      over_zero (k * (m * d)) _ (some_product k (m * d) some_k some)
-      (subst (λ (z : ℤ). IsOver (k * (m * d)) (balance (cell_at e c) (share (m * d) (X c)) (λ z. share (m * d) (X z))) z) (scaled_balance w d X c (both.range c here) ∙ is.solves c here) sum)
+  solves_step d X is = whole_balances_solve k (m * d) e (map (scaled d) w) X some_k (some_product m d some_m is.some) (step_scaled k m d e w over) (λ c i. at c (omega (arith, i, map_length d w)))
+    where
+      at : (c : ℕ) → c < length w → whole_balance (whole_at (map (scaled d) w) c) (X c) X ≡ pos 0
+      at c i = subst (λ (u : WholeCell). whole_balance u (X c) X ≡ pos 0) (sym (map_at d w c)) (scaled_balance w d X c (both.range c i) ∙ is.solves c i)
 
   -- and heads over d that solve the step, times m, solve the whole numbers
   pub solves_whole : (d : ℕ) (X : ℕ → ℤ) → 0 < d → SolvesStep e d X → IsSolution (length w) (a_of w) (b_of w) (q_of w) (ramps_from 0 w) d (λ c. X c *ℤ pos m)

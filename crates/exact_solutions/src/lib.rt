@@ -2,5 +2,4 @@
 #![tactic(auto)]
 
 pub mod held;
-// pub mod loose;
-// pub mod worked;
+pub mod worked;
