@@ -23,3 +23,5 @@ pub mod Conducting
 pub mod HeldWholes
 pub mod HeldSteps
 pub mod WorkedSteps
+pub mod Lowered
+pub mod LooseSteps

@@ -23,7 +23,7 @@ AllZip-map R S f each [] (y ∷ ys) h = absurd h
 AllZip-map R S f each (x ∷ xs) [] h = absurd h
 AllZip-map R S f each (x ∷ xs) (y ∷ ys) h = (each x y h.0, AllZip-map R S f each xs ys h.1)
 
-IsOver-scaled : (m d : ℕ) (f : Fraction) (z : ℤ) → IsOver m f z → IsOver (m * d) f (z *ℤ pos d)
+pub IsOver-scaled : (m d : ℕ) (f : Fraction) (z : ℤ) → IsOver m f z → IsOver (m * d) f (z *ℤ pos d)
 IsOver-scaled m d f z h = record { is = sym (mul_assoc f.num (pos m) (pos d)) ∙ ap (λ (y : ℤ). y *ℤ pos d) h.is ∙ mul_swap z (pos (den f)) (pos d) }
 
 module _ (k m d : ℕ) where

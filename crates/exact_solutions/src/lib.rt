@@ -2,4 +2,5 @@
 #![tactic(auto)]
 
 pub mod held;
+pub mod loose;
 pub mod worked;
