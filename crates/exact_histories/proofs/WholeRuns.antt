@@ -1,5 +1,5 @@
 -- From step to step.
-use Rattle.std.proofs.Common.{◌≡◌, ℕ, suc, ◌-◌, ◌<◌, true, inl, inr, refl, ◌∙◌, sym, subst, ap, arith, ℤ, pos, ◌*ℤ◌, List, [], ◌∷◌, All, Contains}
+use Rattle.std.proofs.Common.{length, ◌≡◌, ℕ, suc, ◌-◌, ◌<◌, true, inl, inr, refl, ◌∙◌, sym, subst, ap, arith, ℤ, pos, ◌*ℤ◌, List, [], ◌∷◌, All, Contains}
 use Rattle.std.proofs.lemmas.Bool.{cases_Bool}
 use Rattle.std.proofs.lemmas.List.Elements.{All-head, All-tail, All-contains_itself}
 use Rattle.decimal_input.specs.Fractions.{Fraction, den, Same, IsOver}
@@ -15,7 +15,7 @@ use Rattle.problem_builder.proofs.ActiveCells.{variable_active}
 use Rattle.flow_equations.specs.ExactStep.{exact_step}
 use Rattle.step_chain.specs.declared.solved.Solved.{Solved}
 use Rattle.step_chain.specs.Steps.{IsSettledStep}
-use Rattle.step_chain.proofs.Assembled.{active_constant, number_is}
+use Rattle.step_chain.proofs.Assembled.{active_constant, index_below, count_is, number_is}
 use Rattle.step_problem.specs.declared.heads.Bound.{Bound}
 use Rattle.model_types.specs.declared.model.FlowModel.{FlowModel}
 use Rattle.model_types.specs.declared.time_steps.TimeStep.{TimeStep}

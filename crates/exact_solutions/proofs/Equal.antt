@@ -1,8 +1,7 @@
 -- Equal whole numbers are at most each other.
-use Rattle.decimal_input.proofs.Signs.{cancel_right}
-use Rattle.std.proofs.Common.{arith, pos, ℕ, ℤ, ◌*ℤ◌, ◌<◌, ◌≡◌, ◌≤ℤ◌}
+use Rattle.std.proofs.Common.{◌*ℤ◌, ◌<◌, ◌≡◌, ◌≤ℤ◌, arith, pos, ℕ, ℤ}
 use Rattle.std.proofs.lemmas.Int.{ints}
-use Rattle.std.specs.Prelude.{pos, ℕ, ℤ, ◌*ℤ◌, ◌<◌, ◌≡◌, ◌≤ℤ◌}
+use Rattle.decimal_input.proofs.Signs.{cancel_right}
 
 pub same_at_most : (x y : ℤ) → x ≡ y → x ≤ℤ y
 same_at_most x y e = omega (arith, ints)

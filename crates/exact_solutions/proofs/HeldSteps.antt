@@ -1,4 +1,7 @@
 -- Each exact step that a problem encloses has a solution where its components are held below and above, and one alone where they are held below.
+use Rattle.std.proofs.Common.{◌*◌, ◌^◌, ◌∙◌, arith, length, pos}
+use Rattle.decimal_input.proofs.Powers.{ten_pos}
+use Rattle.cell_balance.specs.Enclosures.{CellEncloses}
 use Rattle.cell_balance.proofs.Denominators.{step_common}
 use Rattle.cell_balance.proofs.Enclosed.{step_within}
 use Rattle.cell_balance.proofs.Encloses.{some_product}
@@ -8,11 +11,7 @@ use Rattle.cell_balance.proofs.Scaling.{mul_swap}
 use Rattle.cell_balance.proofs.Wholes.{whole_step}
 use Rattle.cell_balance.proofs.Within.{CellWithin}
 use Rattle.cell_balance.proofs.Zips.{AllZip-length}
-use Rattle.cell_balance.specs.Enclosures.{CellEncloses}
-use Rattle.decimal_input.proofs.Powers.{ten_pos}
 use Rattle.exact_solutions.specs.HeldLaws.{HeldHaveASolution, HeldHaveAtMostOne}
-use Rattle.std.proofs.Common.{arith, length, pos, ◌*◌, ◌^◌, ◌∙◌}
-use Rattle.std.specs.Prelude.{length, pos}
 use Rattle.exact_solutions.proofs.Equal.{cancel_same}
 use Rattle.exact_solutions.proofs.Shares.{crossed_same}
 use Rattle.exact_solutions.proofs.Scaling.{one_whole_solution}

@@ -1,4 +1,13 @@
 -- What holds the components of a problem holds the closed sets of the whole numbers of each step that it encloses.
+use Rattle.std.proofs.Common.{◌*ℤ◌, ◌*◌, ◌+ℤ◌, ◌-ℤ◌, ◌<ℤ◌, ◌<◌, ◌≡◌, ◌≤ℤ◌, All, Bool, List, arith, cond, false, get_or, inl, inr, length, pos, refl, subst, suc, sym, true, zero, ℕ, ℤ}
+use Rattle.std.specs.List.{AllZip}
+use Rattle.std.proofs.Math.IntN.{zero-*ℤ}
+use Rattle.std.proofs.lemmas.Int.{ints}
+use Rattle.std.proofs.lemmas.List.Elements.{All-contains, Contains-get_or}
+use Rattle.decimal_input.specs.Enclosures.{IsBetweenWhole}
+use Rattle.step_problem.specs.Entries.{Entries, entries_at, no_entries}
+use Rattle.step_problem.specs.Flows.{total}
+use Rattle.cell_balance.specs.Components.{IsHeldBelow, Reaches, deep_low, sum_inside}
 use Rattle.cell_balance.proofs.Cancel.{IsMutual}
 use Rattle.cell_balance.proofs.Deep.{deep_less}
 use Rattle.cell_balance.proofs.Encloses.{some_product}
@@ -8,17 +17,7 @@ use Rattle.cell_balance.proofs.Sums.{sum-times, sum_at_most}
 use Rattle.cell_balance.proofs.Whole.{WholeCell, WholeDrain, WholeEvap, WholeRiver, no_whole, whole_at, whole_deep, whole_deep_river, whole_full}
 use Rattle.cell_balance.proofs.Within.{CellWithin, DrainWithin, FixedWithin, LinkWithin, RiverWithin}
 use Rattle.cell_balance.proofs.Zips.{All-zip, AllZip-at, AllZip-length}
-use Rattle.cell_balance.specs.Components.{IsHeldBelow, Reaches, deep_low, sum_inside}
-use Rattle.decimal_input.specs.Enclosures.{IsBetweenWhole}
 use Rattle.exact_solutions.specs.Held.{IsAnchoredAbove, IsHeldAbove}
-use Rattle.std.proofs.Common.{All, Bool, List, arith, cond, false, get_or, inl, inr, length, pos, refl, subst, suc, sym, true, zero, ℕ, ℤ, ◌*ℤ◌, ◌*◌, ◌+ℤ◌, ◌-ℤ◌, ◌<ℤ◌, ◌<◌, ◌≡◌, ◌≤ℤ◌}
-use Rattle.std.proofs.Math.IntN.{zero-*ℤ}
-use Rattle.std.proofs.lemmas.Int.{ints}
-use Rattle.std.proofs.lemmas.List.Elements.{All-contains, Contains-get_or}
-use Rattle.std.specs.List.{AllZip}
-use Rattle.std.specs.Prelude.{Bool, List, cond, length, pos, true, ℕ, ℤ, ◌*ℤ◌, ◌+ℤ◌, ◌-ℤ◌, ◌<ℤ◌, ◌<◌, ◌≡◌, ◌≤ℤ◌}
-use Rattle.step_problem.specs.Entries.{Entries, entries_at, no_entries}
-use Rattle.step_problem.specs.Flows.{total}
 use Rattle.exact_solutions.proofs.Ramps.{extent, open_conductance, open_conductance_at, IsClosed, AreMutual, deep, IsHeldFromBelow, IsHeldFromAbove}
 use Rattle.exact_solutions.proofs.WholeRamps.{ramps_from, a_of, b_of, q_of, ramps_at_cell}
 use Rattle.exact_solutions.proofs.Conducting.{All-back, weight_nonneg, links_lead_to_weight, weight_is_of_links, none_conduct, total_positive, no_known_conductance, no_known_flow, total_nothing}

@@ -1,22 +1,22 @@
 -- Steps with cells that nothing holds: heads one lower over these cells are another solution, where their deep flows sum to at most 0 or no river or drain of them conducts.
-use Rattle.std.proofs.Common.{◌≡◌, ℕ, zero, suc, ◌*◌, ◌<◌, refl, sym, ap, ◌∙◌, arith, ℤ, pos, neg_ℤ, ◌+ℤ◌, ◌-ℤ◌, ◌*ℤ◌, ◌≤ℤ◌, List, [], ◌∷◌, length, All, Bool, true, false, cond}
+use Rattle.std.proofs.Common.{◌≡◌, ◌*◌, ◌<◌, ◌∙◌, ◌+ℤ◌, ◌-ℤ◌, ◌*ℤ◌, ◌≤ℤ◌, [], ◌∷◌, ℕ, zero, suc, refl, sym, ap, arith, ℤ, pos, neg_ℤ, List, length, All, Bool, true, false, cond}
 use Rattle.std.specs.Int.{int_max}
 use Rattle.std.specs.List.{AllZip}
+use Rattle.std.proofs.Math.IntN.{zero-*ℤ}
 use Rattle.std.proofs.lemmas.Int.{ints, clamps}
 use Rattle.std.proofs.lemmas.List.Elements.{All-head, All-tail}
-use Rattle.std.proofs.Math.IntN.{zero-*ℤ}
-use Rattle.decimal_input.specs.Ratios.{Ratio}
-use Rattle.decimal_input.specs.Fractions.{Fraction, Same, whole, signed, AtMost, IsOver}
 use Rattle.decimal_input.specs.Enclosures.{IsShare}
+use Rattle.decimal_input.specs.Fractions.{Same, whole, signed, IsOver}
+use Rattle.decimal_input.specs.Ratios.{Ratio}
 use Rattle.step_problem.specs.Flows.{total}
-use Rattle.step_problem.proofs.Ring.{mul_assoc, mul_mono}
 use Rattle.step_problem.proofs.Falls.{total_mono}
-use Rattle.cell_balance.specs.Steps.{ExactFixed, ExactRiver, ExactDrain, ExactEvap, ExactCell, cell_at, no_cell}
+use Rattle.step_problem.proofs.Ring.{mul_assoc, mul_mono}
 use Rattle.cell_balance.specs.Balance.{minus, greater}
 use Rattle.cell_balance.specs.Components.{sum_below, sum_inside}
-use Rattle.cell_balance.specs.Deep.{total_inside, IsClosed, deep_river, full_rate, deep_flow}
+use Rattle.cell_balance.specs.Deep.{deep_river, full_rate, deep_flow}
 use Rattle.cell_balance.specs.Links.{AreLinked}
 use Rattle.cell_balance.specs.Solutions.{share, SolvesStep}
+use Rattle.cell_balance.specs.Steps.{ExactRiver, ExactEvap, ExactCell, cell_at, no_cell}
 use Rattle.cell_balance.proofs.Cancel.{IsMutual, closed_cancel}
 use Rattle.cell_balance.proofs.Denominators.{step_common}
 use Rattle.cell_balance.proofs.Encloses.{some_product, whole_solves}
@@ -28,11 +28,10 @@ use Rattle.cell_balance.proofs.Over.{FlowOver, LinkOver, FixedOver, RiverOver, D
 use Rattle.cell_balance.proofs.Scaling.{IsOver-plus, IsOver-times, IsOver-minus, IsOver-none, IsOver-signed, IsOver-greater, IsOver-total}
 use Rattle.cell_balance.proofs.Sums.{sum-same, sum-add, sum-zero}
 use Rattle.cell_balance.proofs.Totals.{sub_mul}
-use Rattle.cell_balance.proofs.Whole.{WholeFixed, WholeRiver, WholeDrain, WholeEvap, WholeCell, whole_at, no_whole, whole_link, whole_fixed, whole_river, whole_drain, whole_evap, whole_balance, whole_deep_river, whole_full, whole_deep}
+use Rattle.cell_balance.proofs.Whole.{WholeRiver, WholeDrain, WholeEvap, WholeCell, whole_at, no_whole, whole_link, whole_fixed, whole_river, whole_drain, whole_evap, whole_balance, whole_deep_river, whole_full, whole_deep}
 use Rattle.cell_balance.proofs.Wholes.{whole_step}
 use Rattle.cell_balance.proofs.Zips.{AllZip-at, AllZip-length, All-zip}
-use Rattle.exact_solutions.specs.Counts.{HasNoneOrMany}
-use Rattle.exact_solutions.specs.Loose.{IsLoose, IsAfloat}
+use Rattle.exact_solutions.specs.Loose.{IsLoose}
 use Rattle.exact_solutions.specs.LooseLaws.{DrainedHaveAnother, AfloatHaveAnother}
 use Rattle.exact_solutions.proofs.Equal.{at_most_both}
 use Rattle.exact_solutions.proofs.Lowered.{without_links, lowered, balance-links, lowered_balances}

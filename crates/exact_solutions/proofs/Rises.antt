@@ -1,10 +1,9 @@
 -- How far a head stands on a ramp: it grows with the head, and what it is below the foot, between foot and top, and above the top.
+use Rattle.std.proofs.Common.{◌*ℤ◌, ◌-ℤ◌, ◌∙◌, ◌≡◌, ◌≤ℤ◌, None, Option, Some, arith, pos, sym, ℕ, ℤ}
+use Rattle.std.specs.Int.{int_max, int_min}
+use Rattle.std.proofs.lemmas.Int.{clamps, ints}
 use Rattle.cell_balance.proofs.Products.{mul_mono_right}
 use Rattle.cell_balance.proofs.Totals.{sub_mul}
-use Rattle.std.proofs.Common.{None, Option, Some, arith, pos, sym, ℕ, ℤ, ◌*ℤ◌, ◌-ℤ◌, ◌∙◌, ◌≡◌, ◌≤ℤ◌}
-use Rattle.std.proofs.lemmas.Int.{clamps, ints}
-use Rattle.std.specs.Int.{int_max, int_min}
-use Rattle.std.specs.Prelude.{None, Option, Some, pos, ℕ, ℤ, ◌*ℤ◌, ◌-ℤ◌, ◌≡◌, ◌≤ℤ◌}
 use Rattle.exact_solutions.proofs.Ramps.{rise, extent}
 
 pub rise_grows : (t : ℤ) (top : Option ℤ) (d : ℕ) (x y : ℤ) → x ≤ℤ y → rise t top d x ≤ℤ rise t top d y

@@ -1,15 +1,14 @@
 -- A step over another denominator: net flows scale, and so heads over two denominators compare, and two solutions are the same heads.
+use Rattle.std.proofs.Common.{[], ◌*ℤ◌, ◌*◌, ◌+ℤ◌, ◌-ℤ◌, ◌<◌, ◌∙◌, ◌∷◌, ◌≡◌, ◌≤ℤ◌, Bool, List, None, Option, Some, arith, cond, false, nat_eq, neg_ℤ, pos, refl, subst, sym, true, ℕ, ℤ}
+use Rattle.std.specs.Int.{int_min}
+use Rattle.std.proofs.Math.IntN.{zero-*ℤ}
+use Rattle.step_problem.specs.Flows.{total}
+use Rattle.step_problem.proofs.Ring.{as_diff, diffs, mul_assoc, same_diff}
 use Rattle.cell_balance.proofs.Encloses.{some_product}
 use Rattle.cell_balance.proofs.Products.{mul_mono_right}
 use Rattle.cell_balance.proofs.Scaling.{max_times, min_times}
 use Rattle.cell_balance.proofs.Sums.{sum-same, sum-times}
 use Rattle.cell_balance.proofs.Totals.{add_mul, sub_mul}
-use Rattle.std.proofs.Common.{Bool, List, None, Option, Some, [], arith, cond, false, nat_eq, neg_ℤ, pos, refl, subst, sym, true, ℕ, ℤ, ◌*ℤ◌, ◌*◌, ◌+ℤ◌, ◌-ℤ◌, ◌<◌, ◌∙◌, ◌∷◌, ◌≡◌, ◌≤ℤ◌}
-use Rattle.std.proofs.Math.IntN.{zero-*ℤ}
-use Rattle.std.specs.Int.{int_min}
-use Rattle.std.specs.Prelude.{Bool, List, None, Option, Some, cond, nat_eq, neg_ℤ, pos, true, ℕ, ℤ, ◌*ℤ◌, ◌+ℤ◌, ◌-ℤ◌, ◌<◌, ◌≡◌, ◌≤ℤ◌}
-use Rattle.step_problem.proofs.Ring.{as_diff, diffs, mul_assoc, same_diff}
-use Rattle.step_problem.specs.Flows.{total}
 use Rattle.exact_solutions.proofs.Equal.{at_most_both, same_at_most, same_at_least}
 use Rattle.exact_solutions.proofs.Ramps.{Ramp, rise, ramp_flow, link_flow, AreMutual, net_flow, IsHeldFromBelow, IsSolution}
 use Rattle.exact_solutions.proofs.Comparison.{comparison}

@@ -1,8 +1,7 @@
 -- Heads over two denominators are the same number where they are the same over the product.
-use Rattle.cell_balance.specs.Solutions.{share}
+use Rattle.std.proofs.Common.{◌*ℤ◌, ◌-◌, ◌<◌, ◌∙◌, ◌≡◌, ap, arith, pos, suc, sym, ℕ, ℤ}
 use Rattle.decimal_input.specs.Fractions.{Fraction, IsOver, Same, den}
-use Rattle.std.proofs.Common.{ap, arith, pos, suc, sym, ℕ, ℤ, ◌*ℤ◌, ◌-◌, ◌<◌, ◌∙◌, ◌≡◌}
-use Rattle.std.specs.Prelude.{pos, ℕ, ℤ, ◌*ℤ◌, ◌<◌, ◌≡◌}
+use Rattle.cell_balance.specs.Solutions.{share}
 
 pub share_den : (d : ℕ) (z : ℤ) → 0 < d → den (share d z) ≡ d
 share_den d z some = back d some

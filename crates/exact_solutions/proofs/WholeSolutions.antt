@@ -1,18 +1,17 @@
 -- Heads solve an exact step just where they solve its whole numbers.
+use Rattle.std.proofs.Common.{[], ◌*ℤ◌, ◌*◌, ◌-◌, ◌<◌, ◌∙◌, ◌∷◌, ◌≡◌, List, ap, arith, length, map, pos, refl, subst, suc, sym, zero, ℕ, ℤ}
+use Rattle.std.specs.List.{AllZip}
+use Rattle.decimal_input.specs.Fractions.{Fraction, IsOver, den}
+use Rattle.step_problem.proofs.Ring.{mul_assoc}
+use Rattle.cell_balance.specs.Balance.{balance}
+use Rattle.cell_balance.specs.Solutions.{SolvesStep, share}
+use Rattle.cell_balance.specs.Steps.{ExactCell, cell_at, no_cell}
 use Rattle.cell_balance.proofs.Cancel.{IsMutual}
 use Rattle.cell_balance.proofs.Encloses.{share_is, some_product, whole_solves}
 use Rattle.cell_balance.proofs.Over.{CellOver, DrainOver, EvapOver, FixedOver, FlowOver, LinkOver, RiverOver, balance_over}
 use Rattle.cell_balance.proofs.Scaling.{mul_swap, over_zero}
 use Rattle.cell_balance.proofs.Whole.{WholeCell, no_whole, whole_at, whole_balance}
 use Rattle.cell_balance.proofs.Zips.{AllZip-at, AllZip-length}
-use Rattle.cell_balance.specs.Balance.{balance}
-use Rattle.cell_balance.specs.Solutions.{SolvesStep, share}
-use Rattle.cell_balance.specs.Steps.{ExactCell, cell_at, no_cell}
-use Rattle.decimal_input.specs.Fractions.{Fraction, IsOver, den}
-use Rattle.std.proofs.Common.{List, [], ap, arith, length, map, pos, refl, subst, suc, sym, zero, ℕ, ℤ, ◌*ℤ◌, ◌*◌, ◌-◌, ◌<◌, ◌∙◌, ◌∷◌, ◌≡◌}
-use Rattle.std.specs.List.{AllZip}
-use Rattle.std.specs.Prelude.{List, length, pos, ℕ, ℤ, ◌*ℤ◌, ◌<◌, ◌≡◌}
-use Rattle.step_problem.proofs.Ring.{mul_assoc}
 use Rattle.exact_solutions.proofs.Ramps.{IsSolution}
 use Rattle.exact_solutions.proofs.WholeRamps.{ramps_from, a_of, b_of, q_of}
 use Rattle.exact_solutions.proofs.WholeBalances.{scaled, scaled_balance}

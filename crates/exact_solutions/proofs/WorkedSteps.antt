@@ -1,17 +1,17 @@
 -- The worked steps: the balance of a cell with a river and a well, and of two linked cells, and the heads at which they are zero.
-use Rattle.std.proofs.Common.{◌≡◌, ℕ, zero, suc, ◌*◌, ◌<◌, refl, sym, ap, ◌∙◌, arith, ℤ, pos, negsuc, neg_ℤ, ◌+ℤ◌, ◌-ℤ◌, ◌*ℤ◌, ◌≤ℤ◌, List, [], ◌∷◌, length}
+use Rattle.std.proofs.Common.{◌≡◌, ◌*◌, ◌<◌, ◌∙◌, ◌+ℤ◌, ◌-ℤ◌, ◌*ℤ◌, ◌≤ℤ◌, [], ◌∷◌, ℕ, zero, suc, refl, sym, ap, arith, ℤ, pos, neg_ℤ, List}
 use Rattle.std.specs.Int.{int_max}
 use Rattle.std.specs.List.{AllZip}
 use Rattle.std.proofs.lemmas.Int.{ints, clamps}
 use Rattle.decimal_input.specs.Fractions.{Same, whole, IsOver}
 use Rattle.step_problem.proofs.Leasts.{neg_mul}
 use Rattle.cell_balance.specs.Solutions.{share, SolvesStep}
-use Rattle.cell_balance.proofs.Products.{mul_mono_right}
-use Rattle.cell_balance.proofs.Over.{CellOver}
 use Rattle.cell_balance.proofs.Encloses.{whole_solves}
-use Rattle.cell_balance.proofs.Whole.{WholeCell, whole_at, whole_balance}
-use Rattle.cell_balance.proofs.Totals.{add_mul, sub_mul}
+use Rattle.cell_balance.proofs.Over.{CellOver}
+use Rattle.cell_balance.proofs.Products.{mul_mono_right}
 use Rattle.cell_balance.proofs.Scaling.{mul_swap}
+use Rattle.cell_balance.proofs.Totals.{add_mul, sub_mul}
+use Rattle.cell_balance.proofs.Whole.{WholeCell, whole_at, whole_balance}
 use Rattle.exact_solutions.specs.Counts.{HasNoneOrMany}
 use Rattle.exact_solutions.specs.Worked.{river_and_well, linked_to, two_cells}
 use Rattle.exact_solutions.specs.WorkedLaws.{WellPastDeepFlow, WellWithinDeepFlow, WellOfDeepFlow, TwoLooseCells}
