@@ -1,21 +1,12 @@
 -- Times that can be solved in turn have a history over one denominator: a history stays one over each multiple of its denominator.
-use Rattle.std.proofs.Common.{◌≡◌, ℕ, zero, suc, ◌*◌, ◌-◌, ◌<◌, refl, sym, ap, subst, ◌∙◌, arith, ℤ, pos, ◌*ℤ◌, List, [], ◌∷◌, map, get_or, All}
-use Rattle.std.specs.List.{AllZip}
-use Rattle.std.proofs.lemmas.List.Elements.{All-nil, All-cons, All-head, All-tail}
-use Rattle.decimal_input.specs.Fractions.{Fraction, den, Same, IsOver}
-use Rattle.step_problem.proofs.Ring.{mul_assoc}
-use Rattle.cell_balance.specs.Steps.{cell_at, no_cell}
-use Rattle.cell_balance.specs.Solutions.{share, SolvesStep}
-use Rattle.cell_balance.proofs.Scaling.{mul_swap}
-use Rattle.cell_balance.proofs.Encloses.{some_product}
+use Rattle.std.proofs.Common.{◌≡◌, ◌*◌, ◌-◌, ◌<◌, ◌∙◌, ◌*ℤ◌, [], ◌∷◌, ℕ, suc, refl, sym, ap, subst, arith, ℤ, pos, List, map}
+use Rattle.decimal_input.specs.Fractions.{Fraction, Same}
 use Rattle.model_types.specs.declared.model.FlowModel.{FlowModel}
 use Rattle.model_types.specs.declared.time_steps.TimeStep.{TimeStep}
-use Rattle.model_types.specs.Kinds.{variable_cells}
-use Rattle.model_types.specs.Sources.{FixedSource, fixed_sources}
-use Rattle.model_types.specs.Sources.FixedSource.{ToConstant, ToGeneral, FromStorage}
-use Rattle.flow_equations.specs.ExactStep.{exact_step, exact_cell, exact_fixed}
-use Rattle.flow_equations.specs.Histories.{heads_of, variable_heads, SolvesAt, SolvesFrom}
-use Rattle.model_types.specs.Grids.{HasSize}
+use Rattle.step_problem.proofs.Ring.{mul_assoc}
+use Rattle.cell_balance.specs.Solutions.{share}
+use Rattle.cell_balance.proofs.Encloses.{some_product}
+use Rattle.flow_equations.specs.Histories.{heads_of, SolvesAt, SolvesFrom}
 use Rattle.exact_histories.proofs.GridVectors.{HasVector}
 use Rattle.exact_histories.proofs.SameTimes.{solves_same}
 

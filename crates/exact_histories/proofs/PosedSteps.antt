@@ -1,40 +1,26 @@
 -- A step that has a problem with a barrier: from all exact heads within the old ones its equations have a solution, and one alone.
-use Rattle.std.proofs.Common.{◌≡◌, ℕ, suc, ◌-◌, ◌<◌, ◌^◌, inl, inr, true, List, length, sym, subst, arith, ℤ, pos, ◌*ℤ◌, ◌≤ℤ◌, Contains}
-use Rattle.std.proofs.lemmas.Bool.{cases_Bool}
+use Rattle.std.proofs.Common.{ℕ, List, Contains}
 use Rattle.decimal_input.specs.Fractions.{Fraction}
-use Rattle.decimal_input.proofs.Enclosing.{whole_signed}
-use Rattle.step_problem.specs.declared.heads.Bound.{Bound}
-use Rattle.step_problem.specs.Entries.{Entries}
-use Rattle.step_problem.specs.Conditions.{IsProblem}
-use Rattle.step_problem.specs.Heads.{Edges, head_at, lower_at, upper_at}
-use Rattle.cell_balance.specs.Components.{IsHeldBelow}
-use Rattle.cell_balance.specs.Enclosures.{EnclosesStep, CellEncloses}
-use Rattle.cell_balance.specs.Solutions.{LiesBetween}
-use Rattle.cell_balance.specs.SolutionBounds.{EnclosesSolutions}
-use Rattle.cell_balance.proofs.Zips.{AllZip-length}
-use Rattle.exact_solutions.specs.Counts.{HasAtMostOne}
-use Rattle.exact_solutions.proofs.HeldSteps.{solution_exists, solution_is_one}
-use Rattle.certificate_check.proofs.Certified.{settled_encloses}
-use Rattle.barrier_vector.proofs.Enclosing.{encloses_all, held_all}
-use Rattle.model_types.specs.declared.model.FlowModel.{FlowModel}
-use Rattle.model_types.specs.declared.time_steps.TimeStep.{TimeStep}
-use Rattle.model_types.specs.Cells.{cell_count}
 use Rattle.model_types.specs.Times.{times}
 use Rattle.model_types.specs.Valid.{IsModel}
-use Rattle.model_types.specs.Kinds.{is_variable, is_constant, index_of}
-use Rattle.model_types.specs.Heads.{constant_head}
+use Rattle.model_types.specs.declared.model.FlowModel.{FlowModel}
+use Rattle.model_types.specs.declared.time_steps.TimeStep.{TimeStep}
+use Rattle.step_problem.specs.Conditions.{IsProblem}
+use Rattle.step_problem.specs.Entries.{Entries}
+use Rattle.step_problem.specs.Heads.{Edges, head_at}
+use Rattle.step_problem.specs.declared.heads.Bound.{Bound}
+use Rattle.cell_balance.specs.Components.{IsHeldBelow}
+use Rattle.cell_balance.specs.Enclosures.{EnclosesStep}
+use Rattle.exact_solutions.specs.Counts.{HasAtMostOne}
+use Rattle.exact_solutions.proofs.HeldSteps.{solution_exists, solution_is_one}
 use Rattle.flow_equations.specs.ExactStep.{exact_step}
-use Rattle.flow_equations.specs.Histories.{heads_of, variable_heads, SolvesAt}
-use Rattle.problem_builder.specs.GridHeads.{AreGridHeads, IsActive, HeadsEnclose}
-use Rattle.problem_builder.proofs.BoundsOf.{bounds_enclose, heads, head_range}
+use Rattle.problem_builder.specs.GridHeads.{AreGridHeads, HeadsEnclose}
+use Rattle.problem_builder.proofs.BoundsOf.{bounds_enclose}
 use Rattle.problem_builder.proofs.Problems.{is_problem}
 use Rattle.problem_builder.proofs.StepEnclosed.{step_encloses}
 use Rattle.problem_builder.proofs.TimesOf.{time_of}
-use Rattle.step_chain.specs.declared.solved.Solved.{Solved}
-use Rattle.step_chain.specs.GridHeads.{bound_at}
-use Rattle.step_chain.specs.Steps.{IsPosed, IsSettledStep}
-use Rattle.step_chain.proofs.Assembled.{active_constant, index_below, count_is, number_is}
-use Rattle.step_chain.proofs.OneStep.{all_fit}
+use Rattle.barrier_vector.proofs.Enclosing.{held_all}
+use Rattle.step_chain.specs.Steps.{IsPosed}
 use Rattle.exact_histories.proofs.GridVectors.{HasVector, vector_exists}
 use Rattle.exact_histories.proofs.Ceilings.{held_above}
 

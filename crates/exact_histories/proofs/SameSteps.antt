@@ -1,20 +1,18 @@
 -- The same heads, however their fractions are written, solve the same step, however its known heads are written.
-use Rattle.std.proofs.Common.{refl, ◌≡◌, ℕ, ◌*◌, ◌<◌, sym, ap, subst, ◌∙◌, arith, ℤ, pos, ◌*ℤ◌, ◌≤ℤ◌, List, [], ◌∷◌, length}
+use Rattle.std.proofs.Common.{◌≡◌, ◌*◌, ◌<◌, ◌∙◌, ◌*ℤ◌, [], ◌∷◌, refl, ℕ, sym, ap, subst, arith, ℤ, pos, List, length}
 use Rattle.std.specs.List.{AllZip}
-use Rattle.std.proofs.lemmas.Int.{ints}
 use Rattle.decimal_input.specs.Fractions.{Fraction, den, Same, IsOver}
-use Rattle.decimal_input.proofs.Signs.{cancel_right}
 use Rattle.step_problem.proofs.Ring.{mul_assoc}
-use Rattle.cell_balance.specs.Steps.{ExactFixed, ExactCell, cell_at, no_cell}
 use Rattle.cell_balance.specs.Balance.{balance}
 use Rattle.cell_balance.specs.Solutions.{share, SolvesStep}
-use Rattle.cell_balance.proofs.Zips.{AllZip-at, AllZip-length}
-use Rattle.cell_balance.proofs.Scaling.{mul_swap, over_zero}
-use Rattle.cell_balance.proofs.Over.{FlowOver, LinkOver, FixedOver, RiverOver, DrainOver, EvapOver, CellOver, balance_over}
+use Rattle.cell_balance.specs.Steps.{ExactFixed, ExactCell, cell_at, no_cell}
 use Rattle.cell_balance.proofs.Denominators.{step_common}
-use Rattle.cell_balance.proofs.Wholes.{whole_step}
 use Rattle.cell_balance.proofs.Encloses.{share_is, some_product, whole_solves}
+use Rattle.cell_balance.proofs.Over.{FlowOver, LinkOver, FixedOver, RiverOver, DrainOver, EvapOver, CellOver, balance_over}
+use Rattle.cell_balance.proofs.Scaling.{mul_swap, over_zero}
 use Rattle.cell_balance.proofs.Whole.{WholeFixed, WholeCell, whole_at, no_whole}
+use Rattle.cell_balance.proofs.Wholes.{whole_step}
+use Rattle.cell_balance.proofs.Zips.{AllZip-at, AllZip-length}
 use Rattle.exact_solutions.proofs.Equal.{cancel_same}
 
 pub record FixedAgrees (x y : ExactFixed) : Type 0 where

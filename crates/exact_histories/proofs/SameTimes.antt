@@ -1,22 +1,19 @@
 -- A time is solved by the same heads, however they and those before it are written.
-use Rattle.std.proofs.Common.{◌≡◌, ℕ, zero, suc, ◌*◌, ◌-◌, ◌<◌, refl, sym, ap, subst, ◌∙◌, arith, ℤ, pos, ◌*ℤ◌, List, [], ◌∷◌, map, get_or, All}
+use Rattle.std.proofs.Common.{◌≡◌, ◌<◌, ◌∙◌, ◌*ℤ◌, [], ◌∷◌, ℕ, zero, suc, refl, ap, ℤ, pos, List, map, get_or, All}
 use Rattle.std.specs.List.{AllZip}
 use Rattle.std.proofs.lemmas.List.Elements.{All-nil, All-cons, All-head, All-tail}
 use Rattle.decimal_input.specs.Fractions.{Fraction, den, Same, IsOver}
-use Rattle.step_problem.proofs.Ring.{mul_assoc}
-use Rattle.cell_balance.specs.Steps.{cell_at, no_cell}
-use Rattle.cell_balance.specs.Solutions.{share, SolvesStep}
-use Rattle.cell_balance.proofs.Scaling.{mul_swap}
-use Rattle.cell_balance.proofs.Encloses.{some_product}
-use Rattle.model_types.specs.declared.model.FlowModel.{FlowModel}
-use Rattle.model_types.specs.declared.time_steps.TimeStep.{TimeStep}
 use Rattle.model_types.specs.Kinds.{variable_cells}
 use Rattle.model_types.specs.Sources.{FixedSource, fixed_sources}
 use Rattle.model_types.specs.Sources.FixedSource.{ToConstant, ToGeneral, FromStorage}
-use Rattle.flow_equations.specs.ExactStep.{exact_step, exact_cell, exact_fixed}
-use Rattle.flow_equations.specs.Histories.{heads_of, variable_heads, SolvesAt, SolvesFrom}
-use Rattle.model_types.specs.Grids.{HasSize}
+use Rattle.model_types.specs.declared.model.FlowModel.{FlowModel}
+use Rattle.model_types.specs.declared.time_steps.TimeStep.{TimeStep}
+use Rattle.cell_balance.specs.Solutions.{SolvesStep}
+use Rattle.cell_balance.specs.Steps.{cell_at, no_cell}
+use Rattle.cell_balance.proofs.Scaling.{mul_swap}
 use Rattle.exact_solutions.proofs.Equal.{cancel_same}
+use Rattle.flow_equations.specs.ExactStep.{exact_step, exact_cell, exact_fixed}
+use Rattle.flow_equations.specs.Histories.{variable_heads, SolvesAt}
 use Rattle.exact_histories.proofs.SameSteps.{FixedAgrees, CellAgrees, same_heads_solve}
 
 -- heads before a step that are the same numbers give steps that agree

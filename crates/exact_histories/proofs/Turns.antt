@@ -1,41 +1,31 @@
 -- One step more: times that can be solved in turn, and whose histories are the same, after a step whose solutions lie within the heads that they start from.
-use Rattle.std.proofs.Common.{length, ◌≡◌, ℕ, suc, ◌-◌, ◌<◌, true, inl, inr, refl, ◌∙◌, sym, subst, ap, arith, ℤ, pos, ◌*ℤ◌, List, [], ◌∷◌, All, Contains}
+use Rattle.std.proofs.Common.{◌≡◌, ◌<◌, [], ◌∷◌, length, ℕ, true, inl, inr, refl, subst, arith, ℤ, List, All, Contains}
 use Rattle.std.proofs.lemmas.Bool.{cases_Bool}
-use Rattle.std.proofs.lemmas.List.Elements.{All-head, All-tail, All-contains_itself}
-use Rattle.decimal_input.specs.Fractions.{Fraction, den, Same, IsOver}
-use Rattle.cell_balance.specs.Solutions.{share}
+use Rattle.decimal_input.specs.Fractions.{Fraction, Same}
 use Rattle.decimal_input.proofs.Fractional.{Same-sym, Same-trans}
-use Rattle.exact_solutions.proofs.Shares.{same_share}
 use Rattle.model_types.specs.Cells.{cell_count}
-use Rattle.model_types.specs.Valid.{IsModel}
 use Rattle.model_types.specs.Kinds.{is_variable, is_constant, index_of, variable_cells}
-use Rattle.model_types.proofs.Members.{All-In}
-use Rattle.problem_builder.proofs.Members.{variable-In}
-use Rattle.problem_builder.proofs.ActiveCells.{variable_active}
-use Rattle.flow_equations.specs.ExactStep.{exact_step}
-use Rattle.step_chain.specs.declared.solved.Solved.{Solved}
-use Rattle.step_chain.specs.Steps.{IsPosed}
-use Rattle.step_chain.proofs.Assembled.{active_constant, index_below, count_is, number_is}
-use Rattle.step_problem.specs.declared.heads.Bound.{Bound}
+use Rattle.model_types.specs.Times.{times}
+use Rattle.model_types.specs.Valid.{IsModel}
 use Rattle.model_types.specs.declared.model.FlowModel.{FlowModel}
 use Rattle.model_types.specs.declared.time_steps.TimeStep.{TimeStep}
-use Rattle.model_types.specs.Times.{times}
-use Rattle.model_types.specs.Layers.{dec_at}
-use Rattle.model_types.specs.Heads.{start_head, constant_head}
+use Rattle.model_types.proofs.Members.{All-In}
+use Rattle.step_problem.specs.Entries.{Entries}
+use Rattle.step_problem.specs.Heads.{Edges}
+use Rattle.step_problem.specs.declared.heads.Bound.{Bound}
+use Rattle.cell_balance.specs.Solutions.{share}
+use Rattle.exact_solutions.proofs.Shares.{same_share}
+use Rattle.flow_equations.specs.ExactStep.{exact_step}
 use Rattle.flow_equations.specs.Histories.{heads_of, variable_heads, SolvesAt, SolvesFrom}
-use Rattle.problem_builder.specs.GridHeads.{AreGridHeads, HeadsEnclose, IsActive}
-use Rattle.problem_builder.specs.StartHeads.{AreStartHeads}
-use Rattle.problem_builder.proofs.CellEnclosed.{head_encloses}
-use Rattle.problem_builder.proofs.Starts.{starts_fit}
-use Rattle.listing_run.specs.declared.task.Task.{Task}
-use Rattle.listing_run.specs.declared.step.Step.{Step}
-use Rattle.listing_run.specs.Steps.{Whole, Steps}
+use Rattle.problem_builder.specs.GridHeads.{AreGridHeads, HeadsEnclose}
+use Rattle.problem_builder.proofs.ActiveCells.{variable_active}
+use Rattle.problem_builder.proofs.Members.{variable-In}
+use Rattle.step_chain.specs.Steps.{IsPosed}
+use Rattle.step_chain.proofs.Assembled.{active_constant, index_below, count_is, number_is}
 use Rattle.exact_histories.specs.Histories.{AreSameHeads, AreSame}
 use Rattle.exact_histories.proofs.SameTimes.{balances_same}
 use Rattle.exact_histories.proofs.JoinedSteps.{GoOn}
 use Rattle.exact_histories.proofs.PosedSteps.{has_vector, has_at_most_one}
-use Rattle.step_problem.specs.Entries.{Entries}
-use Rattle.step_problem.specs.Heads.{Edges}
 
 -- the heads of two solutions of one time, from heads before it that are the same numbers
 module _ (m : FlowModel) (s : ℕ) (at : TimeStep) (old : List Bound) (p : List Entries) (b : Edges) (valid : IsModel m) (time : Contains (times m) at) (grid : AreGridHeads m old) (posed : IsPosed m s at old p b)
@@ -71,19 +61,19 @@ AreOne m steps before other =
 module _ (m : FlowModel) (s : ℕ) (at : TimeStep) (old : List Bound) (p : List Entries) (b : Edges) (valid : IsModel m) (time : Contains (times m) at) (grid : AreGridHeads m old) (posed : IsPosed m s at old p b)
     (new : List Bound) (lands : (before : ℕ → Fraction) (d : ℕ) (X : ℕ → ℤ) → HeadsEnclose m old before → 0 < d → SolvesAt m at before d X → HeadsEnclose m new (heads_of d X)) (rest : List TimeStep)
   where
-  pub go_on_more : ((before : ℕ → Fraction) → HeadsEnclose m new before → GoOn m rest before) → (before : ℕ → Fraction) → HeadsEnclose m old before → GoOn m (at ∷ rest) before
-  go_on_more others before olds = (
-    has_vector m s at old p b valid time grid posed before olds,
-    (λ d X some solves. others (heads_of d X) (lands before d X olds some solves)),
-  )
+    pub go_on_more : ((before : ℕ → Fraction) → HeadsEnclose m new before → GoOn m rest before) → (before : ℕ → Fraction) → HeadsEnclose m old before → GoOn m (at ∷ rest) before
+    go_on_more others before olds = (
+      has_vector m s at old p b valid time grid posed before olds,
+      (λ d X some solves. others (heads_of d X) (lands before d X olds some solves)),
+    )
 
-  pub one_more : ((before other : ℕ → Fraction) → HeadsEnclose m new before → AreSameHeads m other before → AreOne m rest before other) →
-      (before other : ℕ → Fraction) → HeadsEnclose m old before → AreSameHeads m other before → AreOne m (at ∷ rest) before other
-  one_more others before other olds same d e [] Ys some_d some_e first second = absurd first
-  one_more others before other olds same d e (X ∷ Xs) [] some_d some_e first second = absurd second
-  one_more others before other olds same d e (X ∷ Xs) (Y ∷ Ys) some_d some_e (first, firsts) (second, seconds) =
-      let here = heads_same m s at old p b valid time grid posed before other olds same d e X Y some_d some_e first second in
-      (here, others (heads_of d X) (heads_of e Y) (lands before d X olds some_d first) (λ c a. Same-sym (here c a)) d e Xs Ys some_d some_e firsts seconds)
+    pub one_more : ((before other : ℕ → Fraction) → HeadsEnclose m new before → AreSameHeads m other before → AreOne m rest before other) →
+        (before other : ℕ → Fraction) → HeadsEnclose m old before → AreSameHeads m other before → AreOne m (at ∷ rest) before other
+    one_more others before other olds same d e [] Ys some_d some_e first second = absurd first
+    one_more others before other olds same d e (X ∷ Xs) [] some_d some_e first second = absurd second
+    one_more others before other olds same d e (X ∷ Xs) (Y ∷ Ys) some_d some_e (first, firsts) (second, seconds) =
+        let here = heads_same m s at old p b valid time grid posed before other olds same d e X Y some_d some_e first second in
+        (here, others (heads_of d X) (heads_of e Y) (lands before d X olds some_d first) (λ c a. Same-sym (here c a)) d e Xs Ys some_d some_e firsts seconds)
 
 pub nothing_more : (m : FlowModel) (before other : ℕ → Fraction) → AreOne m [] before other
 nothing_more m before other d e [] [] some_d some_e first second = tt

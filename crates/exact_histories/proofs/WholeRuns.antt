@@ -1,38 +1,24 @@
 -- The model of a run all of whose steps have heads has a history, and one alone: by induction on the time steps.
-use Rattle.std.proofs.Common.{length, ◌≡◌, ℕ, suc, ◌-◌, ◌<◌, true, inl, inr, refl, ◌∙◌, sym, subst, ap, arith, ℤ, pos, ◌*ℤ◌, List, [], ◌∷◌, All, Contains}
-use Rattle.std.proofs.lemmas.Bool.{cases_Bool}
+use Rattle.std.proofs.Common.{◌<◌, [], ◌∷◌, ℕ, refl, sym, subst, ℤ, List, All, Contains}
 use Rattle.std.proofs.lemmas.List.Elements.{All-head, All-tail, All-contains_itself}
-use Rattle.decimal_input.specs.Fractions.{Fraction, den, Same, IsOver}
-use Rattle.cell_balance.specs.Solutions.{share}
-use Rattle.decimal_input.proofs.Fractional.{Same-sym, Same-trans}
-use Rattle.exact_solutions.proofs.Shares.{same_share}
-use Rattle.model_types.specs.Cells.{cell_count}
+use Rattle.decimal_input.specs.Fractions.{Fraction}
+use Rattle.model_types.specs.Heads.{start_head}
+use Rattle.model_types.specs.Layers.{dec_at}
+use Rattle.model_types.specs.Times.{times}
 use Rattle.model_types.specs.Valid.{IsModel}
-use Rattle.model_types.specs.Kinds.{is_variable, is_constant, index_of, variable_cells}
-use Rattle.model_types.proofs.Members.{All-In}
-use Rattle.problem_builder.proofs.Members.{variable-In}
-use Rattle.problem_builder.proofs.ActiveCells.{variable_active}
-use Rattle.flow_equations.specs.ExactStep.{exact_step}
-use Rattle.step_chain.specs.declared.solved.Solved.{Solved}
-use Rattle.step_chain.specs.Steps.{IsSettledStep}
-use Rattle.step_chain.proofs.Assembled.{active_constant, index_below, count_is, number_is}
-use Rattle.step_problem.specs.declared.heads.Bound.{Bound}
 use Rattle.model_types.specs.declared.model.FlowModel.{FlowModel}
 use Rattle.model_types.specs.declared.time_steps.TimeStep.{TimeStep}
-use Rattle.model_types.specs.Times.{times}
-use Rattle.model_types.specs.Layers.{dec_at}
-use Rattle.model_types.specs.Heads.{start_head, constant_head}
-use Rattle.flow_equations.specs.Histories.{heads_of, variable_heads, SolvesAt, SolvesFrom}
-use Rattle.problem_builder.specs.GridHeads.{AreGridHeads, HeadsEnclose, IsActive}
+use Rattle.step_problem.specs.declared.heads.Bound.{Bound}
+use Rattle.flow_equations.specs.Histories.{heads_of, SolvesAt}
+use Rattle.problem_builder.specs.GridHeads.{AreGridHeads, HeadsEnclose}
 use Rattle.problem_builder.specs.StartHeads.{AreStartHeads}
 use Rattle.problem_builder.proofs.CellEnclosed.{head_encloses}
 use Rattle.problem_builder.proofs.Starts.{starts_fit}
-use Rattle.listing_run.specs.declared.task.Task.{Task}
-use Rattle.listing_run.specs.declared.step.Step.{Step}
 use Rattle.listing_run.specs.Steps.{IsStep, Whole, Steps}
-use Rattle.exact_histories.specs.Histories.{AreSameHeads, AreSame}
+use Rattle.listing_run.specs.declared.step.Step.{Step}
+use Rattle.listing_run.specs.declared.task.Task.{Task}
+use Rattle.exact_histories.specs.Histories.{AreSameHeads}
 use Rattle.exact_histories.specs.RunLaws.{RunsHaveAHistory, RunsHaveOneHistory}
-use Rattle.exact_histories.proofs.SameTimes.{balances_same}
 use Rattle.exact_histories.proofs.JoinedSteps.{GoOn, history_of_steps}
 use Rattle.exact_histories.proofs.SettledSteps.{grid_heads, new_heads}
 use Rattle.exact_histories.proofs.Turns.{AreOne, go_on_more, one_more, nothing_more}

@@ -5,7 +5,8 @@ use Rattle.step_problem.specs.declared.entry.Drain.{Drain}
 use Rattle.step_problem.specs.Entries.{Entries, entries_at}
 use Rattle.cell_balance.specs.Components.{Reaches, IsAnchored}
 
--- A cell that is anchored above: a fixed link, a river or a drain of it certainly conducts. (An evapotranspiration doesn't count: it takes no more than its full rate.)
+-- A cell that is anchored above: a fixed link, a river or a drain of it certainly conducts.
+-- (An evapotranspiration doesn't count: it takes no more than its full rate.)
 abbrev pub IsAnchoredAbove : List Entries → ℕ → Type 0
 IsAnchoredAbove p c =
     IsAnchored p c

@@ -10,8 +10,10 @@ use Rattle.exact_solutions.specs.Counts.{HasSolution, HasAtMostOne}
 
 -- A problem whose components are held below (each anchored or carried) and above: each exact step that it encloses has a solution.
 abbrev pub HeldHaveASolution : Type 0
-HeldHaveASolution = (p : List Entries) → IsProblem p → IsHeldBelow p → IsHeldAbove p → (s : ℕ) (e : List ExactCell) → EnclosesStep s p e → HasSolution e
+HeldHaveASolution =
+    (p : List Entries) → IsProblem p → IsHeldBelow p → IsHeldAbove p → (s : ℕ) (e : List ExactCell) → EnclosesStep s p e → HasSolution e
 
 -- A problem whose components are held below: each exact step that it encloses has at most one.
 abbrev pub HeldHaveAtMostOne : Type 0
-HeldHaveAtMostOne = (p : List Entries) → IsProblem p → IsHeldBelow p → (s : ℕ) (e : List ExactCell) → EnclosesStep s p e → HasAtMostOne e
+HeldHaveAtMostOne =
+    (p : List Entries) → IsProblem p → IsHeldBelow p → (s : ℕ) (e : List ExactCell) → EnclosesStep s p e → HasAtMostOne e
