@@ -36,7 +36,7 @@ module _ (n : ℕ) (a : ℕ → ℕ → ℤ) where
       regroup : (l o f t : ℤ) → l +ℤ o +ℤ (f +ℤ t) ≡ l +ℤ o +ℤ t +ℤ f
       regroup l o f t = omega (arith, ints)
 
-  -- a step that lacks less is held too
+  -- a step with no less deep flow at the cells without a known head is held too
   pub held_where_deeper : (b b' : ℕ → ℕ) (q q' : ℕ → ℤ) (rs rs' : List Ramp) → IsHeldFromBelow n a b q rs → ((i : ℕ) → i < n → b' i ≡ 0 → b i ≡ 0) → ((i : ℕ) → i < n → b' i ≡ 0 → deep n a b q rs i ≤ℤ deep n a b' q' rs' i) → IsHeldFromBelow n a b' q' rs'
   held_where_deeper b b' q q' rs rs' held loose more S closed none c h inside =
       let (T, carried) = held S closed (λ i k e. loose i k (none i k e)) c h inside in (
@@ -62,7 +62,7 @@ conductance_added c v b i = b i + cond (nat_eq c i) v 0
 pub flow_added : ℕ → ℤ → (ℕ → ℤ) → ℕ → ℤ
 flow_added c v q i = q i +ℤ cond (nat_eq c i) v (pos 0)
 
--- what that leaves
+-- cells that have no conductance after it
 pub added_zero : (c v : ℕ) (b : ℕ → ℕ) (i : ℕ) → conductance_added c v b i ≡ 0 → b i ≡ 0
 unfolding conductance_added
 added_zero c v b i e = first (b i) (cond (nat_eq c i) v 0) e

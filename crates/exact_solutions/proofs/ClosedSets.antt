@@ -54,7 +54,7 @@ link_flows_cancel n a T Y both closed =
     by_cells : sum_inside n T (link_flow n a Y) ≡ sum_below n (λ i. sum_below n (λ j. inside_flow T a Y i j))
     by_cells = sum-same n _ _ (λ i h. row i h (T i) refl)
 
--- a closed set whose flows g sum above 0 gains water somewhere
+-- over a closed set whose flows g sum above 0 not every cell loses water
 pub carried_gain : (n : ℕ) (a : ℕ → ℕ → ℤ) (T : ℕ → Bool) (Y g : ℕ → ℤ) (d : ℕ) → AreMutual n a → IsClosed n a T → 0 < d → pos 0 <ℤ sum_inside n T g → ((i : ℕ) → i < n → T i ≡ true → (link_flow n a Y i +ℤ pos d *ℤ g i) ≤ℤ pos 0) → ⊥
 carried_gain n a T Y g d both closed some carries loses =
     let less = sum_at_most n (λ i. cond (T i) (link_flow n a Y i +ℤ pos d *ℤ g i) (pos 0)) (λ i. pos 0) (λ i h. cell i h (T i) refl) in

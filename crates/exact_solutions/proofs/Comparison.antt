@@ -17,7 +17,7 @@ module _ (n : ℕ) (a : ℕ → ℕ → ℤ) (b : ℕ → ℕ) (q : ℕ → ℤ)
     (loses : (i : ℕ) → i < n → net_flow n a b q ramps d X i ≤ℤ pos 0) (gains : (i : ℕ) → i < n → pos 0 ≤ℤ net_flow n a b q ramps d Y i)
     (m : ℤ) (over : pos 0 <ℤ m) (above : (k : ℕ) → k < n → (Y k -ℤ X k) ≤ℤ m)
   where
-    -- the cells where Y stands highest above X
+    -- the cells where Y lies highest above X
     top : ℕ → Bool
     top k = int_lt (m -ℤ pos 1) (Y k -ℤ X k)
 
@@ -128,7 +128,7 @@ module _ (n : ℕ) (a : ℕ → ℕ → ℤ) (b : ℕ → ℕ) (q : ℕ → ℤ)
         same : (x y : ℤ) → x ≡ y → y ≤ℤ x
         same x y e = omega (arith, ints)
 
--- heads that lose water everywhere stand nowhere below heads that gain water everywhere
+-- heads X at which no cell gains water lie nowhere below heads Y at which no cell loses water
 pub comparison : (n : ℕ) (a : ℕ → ℕ → ℤ) (b : ℕ → ℕ) (q : ℕ → ℤ) (ramps : List Ramp) → AreMutual n a → IsHeldFromBelow n a b q ramps →
     (d : ℕ) (X Y : ℕ → ℤ) → 0 < d → ((i : ℕ) → i < n → net_flow n a b q ramps d X i ≤ℤ pos 0) → ((i : ℕ) → i < n → pos 0 ≤ℤ net_flow n a b q ramps d Y i) →
     (i : ℕ) → i < n → Y i ≤ℤ X i

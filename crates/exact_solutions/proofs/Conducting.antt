@@ -27,7 +27,7 @@ weight_nonneg (x ∷ xs) k = sum _ _ (cases (nat_eq x.cell k)) (weight_nonneg xs
     sum : (x y : ℤ) → pos 0 ≤ℤ x → pos 0 ≤ℤ y → pos 0 ≤ℤ (x +ℤ y)
     sum x y h k = omega (arith, ints)
 
--- links that conduct lead where weight is
+-- each link that conducts gives weight to the cell that it leads to
 pub links_lead_to_weight : (S : ℕ → Type 0) (n : ℕ) (xs : List WholeLink) → ((k : ℕ) → k < n → pos 0 <ℤ weight xs k → S k) → All (λ x. 0 < x.c → x.cell < n → S x.cell) xs
 links_lead_to_weight S n [] h = All-nil (λ x. 0 < x.c → x.cell < n → S x.cell)
 links_lead_to_weight S n (x ∷ xs) h =
@@ -45,7 +45,7 @@ links_lead_to_weight S n (x ∷ xs) h =
     later : (a b : ℤ) → pos 0 ≤ℤ a → pos 0 <ℤ b → pos 0 <ℤ (a +ℤ b)
     later a b h k = omega (arith, ints)
 
--- and weight is where links lead
+-- and where weight is, a link leads
 pub weight_is_of_links : (T : ℕ → Type 0) (xs : List WholeLink) (k : ℕ) → All (λ x. T x.cell) xs → pos 0 <ℤ weight xs k → T k
 weight_is_of_links T [] k all h = absurd (never h)
   where
@@ -60,7 +60,7 @@ weight_is_of_links T (x ∷ xs) k all h =
     rest : (w : ℤ) → pos 0 <ℤ (pos 0 +ℤ w) → pos 0 <ℤ w
     rest w h = omega (arith, ints)
 
--- sums that are zero
+-- where conductances sum to 0, each is 0
 pub none_conduct : {X : Type 0} (f : X → ℕ) (xs : List X) → total (λ x. pos (f x)) xs ≡ pos 0 → All (λ x. f x ≡ 0) xs
 none_conduct f [] h = All-nil (λ x. f x ≡ 0)
 none_conduct f (x ∷ xs) h = All-cons (λ x. f x ≡ 0) x xs (first _ _ (nonneg xs) h) (none_conduct f xs (rest _ _ (nonneg xs) h))

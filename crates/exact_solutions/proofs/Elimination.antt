@@ -18,7 +18,7 @@ pub record IsLinearSolution (n : ℕ) (a : ℕ → ℕ → ℤ) (D q : ℕ → �
   pub some : 0 < d
   pub solves : (i : ℕ) → i < n → D i *ℤ X i ≡ sum_below n (λ j. a i j *ℤ X j) +ℤ pos d *ℤ q i
 
--- where heads of 0 below n, and -1 at n, draw from no cell
+-- else heads of 0 below n, and -1 at n, would meet the premise of the property
 pivot_positive : (n : ℕ) (a : ℕ → ℕ → ℤ) (D : ℕ → ℤ) → ((i j : ℕ) → pos 0 ≤ℤ a i j) → IsInversePositive (suc n) a D → pos 0 <ℤ (D n -ℤ a n n)
 pivot_positive n a D nonneg mono =
     by_lt_z (pos 0) (D n -ℤ a n n)
@@ -50,7 +50,7 @@ pivot_positive n a D nonneg mono =
         rest : (d b : ℤ) → pos 0 ≤ℤ b → neg_ℤ b ≤ℤ (d *ℤ (pos 0 *ℤ pos 0))
         rest d b h = rw (*ℤ-zero d) (omega (arith, ints))
 
--- a number above 0 is a natural one
+-- a number above 0, as a natural one
 pub positive_natural : (z : ℤ) → pos 0 <ℤ z → (s : ℕ) × (0 < s) × (z ≡ pos s)
 positive_natural (pos s) h = (s, omega (arith, ints), refl)
 positive_natural (negsuc s) h = absurd (omega (arith, ints))
@@ -130,7 +130,7 @@ reduced_nonneg n a s nonneg i j = sum _ _ (mul_nonneg (pos s) (a i j) (omega (ar
     sum : (x y : ℤ) → pos 0 ≤ℤ x → pos 0 ≤ℤ y → pos 0 ≤ℤ (x +ℤ y)
     sum x y h k = omega (arith, ints)
 
--- a linear step that keeps order has a solution
+-- a linear step whose matrix is inverse-positive has a solution
 pub inverse_positive_solved : (n : ℕ) (a : ℕ → ℕ → ℤ) (D q : ℕ → ℤ) → ((i j : ℕ) → pos 0 ≤ℤ a i j) → IsInversePositive n a D → (d : ℕ) × (X : ℕ → ℤ) × IsLinearSolution n a D q d X
 inverse_positive_solved zero a D q nonneg mono = (1, (λ k. pos 0), record { some = omega arith; solves = λ i h. absurd (omega arith) })
 inverse_positive_solved (suc n) a D q nonneg mono =

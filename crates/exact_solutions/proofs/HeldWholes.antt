@@ -44,7 +44,7 @@ module _ (m n : ℕ) (some_m : 0 < m) (some_n : 0 < n) (p : List Entries) (w : L
     pub both_ways : AreMutual (length w) (a_of w)
     both_ways = record { nonneg = λ i j. weight_nonneg (whole_at w i).links j; same = both.same }
 
-    -- a closed set goes on along links
+    -- a closed set has the cells that links lead to from it
     goes_on : (S : ℕ → Bool) → IsClosed (length w) (a_of w) S → (c : ℕ) → c < length p → S c ≡ true → All (λ x. (x.cell < length p) × (S x.cell ≡ true)) (entries_at p c).links
     goes_on S closed c i inside =
         All-back (LinkWithin m n (length p)) (λ x. (x.cell < length p) × (S x.cell ≡ true)) (λ x. 0 < x.c → x.cell < length w → S x.cell ≡ true)

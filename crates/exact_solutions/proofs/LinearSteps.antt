@@ -57,7 +57,7 @@ module _ (n : ℕ) (a : ℕ → ℕ → ℤ) (b : ℕ → ℕ) (both : AreMutual
       zero : (l s t p w q : ℤ) → l ≡ s -ℤ t → w ≡ t +ℤ p → w ≡ s +ℤ q → l +ℤ (q -ℤ p) +ℤ pos 0 ≡ pos 0
       zero l s t p w q e f h = omega (arith, ints)
 
--- where heads can lose water everywhere, no closed set that is held can be loose
+-- where there are heads at which no cell gains water, a step that is held from below has a known head at each closed set
 pub not_loose : (n : ℕ) (a : ℕ → ℕ → ℤ) (b : ℕ → ℕ) (q : ℕ → ℤ) → AreMutual n a → IsHeldFromBelow n a b q [] → (d : ℕ) (Z : ℕ → ℤ) → 0 < d → ((i : ℕ) → i < n → net_flow n a b q [] d Z i ≤ℤ pos 0) → IsNowhereLoose n a b
 not_loose n a b q both held d Z some loses S closed none c h inside =
     let (T, carried) = held S closed none c h inside in

@@ -9,7 +9,7 @@ use Rattle.cell_balance.proofs.Products.{cancel_le}
 use Rattle.exact_solutions.proofs.Ramps.{Ramp, rise, extent, ramp_flow, full_rate}
 use Rattle.exact_solutions.proofs.Rises.{rise_grows, rise_within_extent, extent_nonneg, rise_nonneg}
 
--- a higher head gets no more
+-- a ramp gives a higher head no more
 pub flow_falls : (d : ℕ) (x y : ℤ) (i : ℕ) (r : Ramp) → x ≤ℤ y → ramp_flow d y i r ≤ℤ ramp_flow d x i r
 flow_falls d x y i r h = cases (nat_eq r.cell i)
   where

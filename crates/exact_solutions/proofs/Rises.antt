@@ -16,7 +16,7 @@ rise_grows t (Some u) d x y h = step x y (t *ℤ pos d) (u *ℤ pos d) h
     step : (x y t u : ℤ) → x ≤ℤ y → int_max (int_min x u -ℤ t) (pos 0) ≤ℤ int_max (int_min y u -ℤ t) (pos 0)
     step x y t u h = omega (arith, ints, clamps)
 
--- no head stands higher than the top
+-- a ramp with a top: no head stands higher on it than its extent
 pub rise_within_extent : (t u : ℤ) (d : ℕ) (x : ℤ) → rise t (Some u) d x ≤ℤ (extent t (Some u) *ℤ pos d)
 rise_within_extent t u d x =
     let one = mul_mono_right d (u -ℤ t) (int_max (u -ℤ t) (pos 0)) (omega (arith, ints, clamps)) in

@@ -13,7 +13,7 @@ use Rattle.exact_solutions.proofs.Equal.{at_most_both, same_at_most, same_at_lea
 use Rattle.exact_solutions.proofs.Ramps.{Ramp, rise, ramp_flow, link_flow, AreMutual, net_flow, IsHeldFromBelow, IsSolution}
 use Rattle.exact_solutions.proofs.Comparison.{comparison}
 
--- everything times k
+-- heads, feet and tops times k
 rise_scaled : (t : ℤ) (top : Option ℤ) (d k : ℕ) (x : ℤ) → rise t top (d * k) (x *ℤ pos k) ≡ rise t top d x *ℤ pos k
 rise_scaled t None d k x = sym (max_times k (x -ℤ t *ℤ pos d) (pos 0) ∙ rw (sub_mul x (t *ℤ pos d) (pos k), mul_assoc t (pos d) (pos k), zero-*ℤ (pos k)) refl)
 rise_scaled t (Some u) d k x = sym (max_times k (int_min x (u *ℤ pos d) -ℤ t *ℤ pos d) (pos 0) ∙ rw (sub_mul (int_min x (u *ℤ pos d)) (t *ℤ pos d) (pos k), min_times k x (u *ℤ pos d), mul_assoc t (pos d) (pos k), mul_assoc u (pos d) (pos k), zero-*ℤ (pos k)) refl)

@@ -43,7 +43,7 @@ b_of w i = known_conductance (whole_at w i).fixed
 abbrev pub q_of : List WholeCell → ℕ → ℤ
 q_of w i = own_flow (whole_at w i)
 
--- what each ramp of cell i gives by g, and the others nothing
+-- g of each ramp of cell i, and 0 of the others
 abbrev pub at_cell : (Ramp → ℤ) → ℕ → Ramp → ℤ
 at_cell g i r = cond (nat_eq r.cell i) (g r) (pos 0)
 
@@ -102,6 +102,6 @@ ramps_from-at g k (suc j) i (w ∷ ws) e =
     none_plus : (z : ℤ) → pos 0 +ℤ z ≡ z
     none_plus z = omega (arith, ints)
 
--- the ramps of a step into cell i are that cell's
+-- over all ramps of a step the sum at cell i is that over the cell's own
 pub ramps_at_cell : (g : Ramp → ℤ) (i : ℕ) (ws : List WholeCell) → total (at_cell g i) (ramps_from 0 ws) ≡ cell_sum g i (whole_at ws i)
 ramps_at_cell g i ws = ramps_from-at g 0 i i ws (omega arith)
