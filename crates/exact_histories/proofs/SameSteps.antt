@@ -1,0 +1,100 @@
+-- The same heads, however their fractions are written, solve the same step, however its known heads are written.
+use Rattle.std.proofs.Common.{◌≡◌, ◌*◌, ◌<◌, ◌∙◌, ◌*ℤ◌, [], ◌∷◌, refl, ℕ, sym, ap, subst, arith, ℤ, pos, List, length}
+use Rattle.std.specs.List.{AllZip}
+use Rattle.decimal_input.specs.Fractions.{Fraction, den, Same, IsOver}
+use Rattle.step_problem.proofs.Ring.{mul_assoc}
+use Rattle.cell_balance.specs.Balance.{balance}
+use Rattle.cell_balance.specs.Solutions.{share, SolvesStep}
+use Rattle.cell_balance.specs.Steps.{ExactFixed, ExactCell, cell_at, no_cell}
+use Rattle.cell_balance.proofs.Denominators.{step_common}
+use Rattle.cell_balance.proofs.Encloses.{share_is, some_product, whole_solves}
+use Rattle.cell_balance.proofs.Over.{FlowOver, LinkOver, FixedOver, RiverOver, DrainOver, EvapOver, CellOver, balance_over}
+use Rattle.cell_balance.proofs.Scaling.{mul_swap, over_zero}
+use Rattle.cell_balance.proofs.Whole.{WholeFixed, WholeCell, whole_at, no_whole}
+use Rattle.cell_balance.proofs.Wholes.{whole_step}
+use Rattle.cell_balance.proofs.Zips.{AllZip-at, AllZip-length}
+use Rattle.exact_solutions.proofs.Equal.{cancel_same}
+
+pub record FixedAgrees (x y : ExactFixed) : Type 0 where
+  pub conductance : x.conductance ≡ y.conductance
+  pub head : Same x.head y.head
+
+-- two cells that have the same entries, but for how known heads are written
+pub record CellAgrees (x y : ExactCell) : Type 0 where
+  pub flows : x.flows ≡ y.flows
+  pub links : x.links ≡ y.links
+  pub fixed : AllZip FixedAgrees x.fixed y.fixed
+  pub rivers : x.rivers ≡ y.rivers
+  pub drains : x.drains ≡ y.drains
+  pub evaps : x.evaps ≡ y.evaps
+
+fixed_agree_itself : (xs : List ExactFixed) → AllZip FixedAgrees xs xs
+fixed_agree_itself [] = tt
+fixed_agree_itself (x ∷ xs) = (record { conductance = refl; head = record { same = refl } }, fixed_agree_itself xs)
+
+pub agrees_itself : (e : List ExactCell) → AllZip CellAgrees e e
+agrees_itself [] = tt
+agrees_itself (x ∷ xs) = (record { flows = refl; links = refl; fixed = fixed_agree_itself x.fixed; rivers = refl; drains = refl; evaps = refl }, agrees_itself xs)
+
+-- the same number has the same whole number over m
+over_same : (m : ℕ) (f g : Fraction) (z : ℤ) → Same f g → IsOver m f z → IsOver m g z
+over_same m f g z same h = record {
+  is = cancel_same (den f) _ _ (omega arith)
+      (mul_swap g.num (pos m) (pos (den f)) ∙ ap (λ (x : ℤ). x *ℤ pos m) (sym same.same) ∙ mul_swap f.num (pos (den g)) (pos m) ∙ ap (λ (x : ℤ). x *ℤ pos (den g)) h.is ∙ mul_swap z (pos (den f)) (pos (den g)));
+}
+
+module _ (k m : ℕ) where
+  fixed_over : (xs ys : List ExactFixed) (ws : List WholeFixed) → AllZip FixedAgrees xs ys → AllZip (FixedOver k m) xs ws → AllZip (FixedOver k m) ys ws
+  fixed_over [] [] [] a h = tt
+  fixed_over [] [] (w ∷ ws) a h = absurd h
+  fixed_over [] (y ∷ ys) ws a h = absurd a
+  fixed_over (x ∷ xs) [] ws a h = absurd a
+  fixed_over (x ∷ xs) (y ∷ ys) [] a h = absurd h
+  fixed_over (x ∷ xs) (y ∷ ys) (w ∷ ws) a h =
+      (record { c = rw a.0.conductance at h.0.c; head = over_same m x.head y.head w.head a.0.head h.0.head }, fixed_over xs ys ws a.1 h.1)
+
+  cell_over : (x y : ExactCell) (w : WholeCell) → CellAgrees x y → CellOver k m x w → CellOver k m y w
+  cell_over x y w a h = record {
+    flows = subst (λ (l : List _). AllZip (FlowOver k m) l w.flows) a.flows h.flows;
+    links = subst (λ (l : List _). AllZip (LinkOver k m) l w.links) a.links h.links;
+    fixed = fixed_over x.fixed y.fixed w.fixed a.fixed h.fixed;
+    rivers = subst (λ (l : List _). AllZip (RiverOver k m) l w.rivers) a.rivers h.rivers;
+    drains = subst (λ (l : List _). AllZip (DrainOver k m) l w.drains) a.drains h.drains;
+    evaps = subst (λ (l : List _). AllZip (EvapOver k m) l w.evaps) a.evaps h.evaps;
+  }
+
+  step_over : (e f : List ExactCell) (w : List WholeCell) → AllZip CellAgrees e f → AllZip (CellOver k m) e w → AllZip (CellOver k m) f w
+  step_over [] [] [] a h = tt
+  step_over [] [] (w ∷ ws) a h = absurd h
+  step_over [] (y ∷ ys) ws a h = absurd a
+  step_over (x ∷ xs) [] ws a h = absurd a
+  step_over (x ∷ xs) (y ∷ ys) [] a h = absurd h
+  step_over (x ∷ xs) (y ∷ ys) (w ∷ ws) a h = (cell_over x y w a.0 h.0, step_over xs ys ws a.1 h.1)
+
+-- the same heads, however they are written, solve the same step, however it is written
+pub same_heads_solve : (e f : List ExactCell) → AllZip CellAgrees e f → (d k : ℕ) (X Y : ℕ → ℤ) → 0 < d → 0 < k → ((c : ℕ) → X c *ℤ pos k ≡ Y c *ℤ pos d) → SolvesStep e d X → SolvesStep f k Y
+same_heads_solve e f agrees d k X Y some_d some_k same solves c i =
+    let (n, some_n, common) = step_common e in
+    let (w, over) = whole_step n 1 (d * k) e common in
+    let m = n * (d * k) in
+    let over' = step_over (n * 1) m e f w agrees over in
+    let here : c < length w = omega (arith, i, AllZip-length (CellOver (n * 1) m) f w over') in
+    let zero = whole_solves (n * 1) m e w d X (λ z. X z *ℤ pos (k * n)) over solves (heads n) c here in
+    over_zero (n * 1 * m) _ (some_product (n * 1) m (omega (arith, some_n)) (some_product n (d * k) some_n (some_product d k some_d some_k)))
+    (subst (λ (z : ℤ). IsOver (n * 1 * m) (balance (cell_at f c) (share k (Y c)) (λ z. share k (Y z))) z) zero
+    (balance_over (n * 1) m (share k (Y c)) (X c *ℤ pos (k * n)) (others n c) (λ z. share k (Y z)) (λ z. X z *ℤ pos (k * n)) (others n) (cell_at f c) (whole_at w c) (AllZip-at (CellOver (n * 1) m) f w c no_cell no_whole over' i)))
+  where
+    order : (n d k : ℕ) → d * (k * n) ≡ n * (d * k)
+    order n d k = omega arith
+
+    other : (n d k : ℕ) → k * (d * n) ≡ n * (d * k)
+    other n d k = omega arith
+
+    heads : (n z : ℕ) → IsOver (n * (d * k)) (share d (X z)) (X z *ℤ pos (k * n))
+    heads n z = subst (λ (t : ℕ). IsOver t (share d (X z)) (X z *ℤ pos (k * n))) (order n d k) (share_is d (k * n) (X z) some_d)
+
+    turn : (n z : ℕ) → Y z *ℤ pos (d * n) ≡ X z *ℤ pos (k * n)
+    turn n z = sym (mul_assoc (Y z) (pos d) (pos n)) ∙ ap (λ (t : ℤ). t *ℤ pos n) (sym (same z)) ∙ mul_assoc (X z) (pos k) (pos n)
+
+    others : (n z : ℕ) → IsOver (n * (d * k)) (share k (Y z)) (X z *ℤ pos (k * n))
+    others n z = subst (λ (t : ℕ). IsOver t (share k (Y z)) (X z *ℤ pos (k * n))) (other n d k) (subst (λ (t : ℤ). IsOver (k * (d * n)) (share k (Y z)) t) (turn n z) (share_is k (d * n) (Y z) some_k))

@@ -1,0 +1,115 @@
+-- A step with all heads higher, with one ramp more, or with a conductance and a flow more at one cell.
+use Rattle.std.proofs.Common.{◌*ℤ◌, ◌+ℤ◌, ◌+◌, ◌-ℤ◌, ◌<ℤ◌, ◌<◌, ◌∷◌, ◌≡◌, ◌≤ℤ◌, Bool, List, ap, arith, cond, false, nat_eq, pos, refl, suc, true, ℕ, ℤ}
+use Rattle.std.proofs.lemmas.Bool.{eq-eqb, ne_eqb}
+use Rattle.std.proofs.lemmas.Int.{ints}
+use Rattle.step_problem.specs.Flows.{total}
+use Rattle.step_problem.proofs.Ring.{as_diff, diffs, mul_mono, same_diff}
+use Rattle.cell_balance.proofs.Sums.{sum-same, sum_at_most}
+use Rattle.exact_solutions.proofs.Ramps.{Ramp, ramp_flow, link_flow, net_flow, deep, IsHeldFromBelow}
+use Rattle.exact_solutions.proofs.RampFlows.{flows_fall}
+
+module _ (n : ℕ) (a : ℕ → ℕ → ℤ) where
+  -- all heads higher by k
+  pub net_flow_lifted : (b : ℕ → ℕ) (q : ℕ → ℤ) (rs : List Ramp) (d : ℕ) (X : ℕ → ℤ) (k : ℤ) (i : ℕ) → pos 0 ≤ℤ k → net_flow n a b q rs d (λ j. X j +ℤ k) i ≤ℤ net_flow n a b q rs d X i
+  net_flow_lifted b q rs d X k i h =
+      sum _ _ _ _ _ _
+      (sum-same n (λ j. a i j *ℤ (X j +ℤ k -ℤ (X i +ℤ k))) (λ j. a i j *ℤ (X j -ℤ X i)) (λ j g. ap (λ (z : ℤ). a i j *ℤ z) (level (X j) (X i))))
+      (own (pos d *ℤ q i) _ _ (mul_mono (b i) (X i) (X i +ℤ k) (up (X i))))
+      (flows_fall d (X i) (X i +ℤ k) i rs (up (X i)))
+    where
+      level : (x y : ℤ) → x +ℤ k -ℤ (y +ℤ k) ≡ x -ℤ y
+      level x y = omega (arith, ints)
+
+      up : (x : ℤ) → x ≤ℤ (x +ℤ k)
+      up x = omega (arith, ints)
+
+      own : (q x y : ℤ) → x ≤ℤ y → (q -ℤ y) ≤ℤ (q -ℤ x)
+      own q x y h = omega (arith, ints)
+
+      sum : (l l' o o' r r' : ℤ) → l' ≡ l → o' ≤ℤ o → r' ≤ℤ r → (l' +ℤ o' +ℤ r') ≤ℤ (l +ℤ o +ℤ r)
+      sum l l' o o' r r' e h k = omega (arith, ints)
+
+  -- one ramp more
+  pub net_flow-cons : (b : ℕ → ℕ) (q : ℕ → ℤ) (r : Ramp) (rs : List Ramp) (d : ℕ) (X : ℕ → ℤ) (i : ℕ) → net_flow n a b q (r ∷ rs) d X i ≡ net_flow n a b q rs d X i +ℤ ramp_flow d (X i) i r
+  net_flow-cons b q r rs d X i = regroup (link_flow n a X i) (pos d *ℤ q i -ℤ pos (b i) *ℤ X i) (ramp_flow d (X i) i r) (total (ramp_flow d (X i) i) rs)
+    where
+      regroup : (l o f t : ℤ) → l +ℤ o +ℤ (f +ℤ t) ≡ l +ℤ o +ℤ t +ℤ f
+      regroup l o f t = omega (arith, ints)
+
+  -- a step with no less deep flow at the cells without a known head is held too
+  pub held_where_deeper : (b b' : ℕ → ℕ) (q q' : ℕ → ℤ) (rs rs' : List Ramp) → IsHeldFromBelow n a b q rs → ((i : ℕ) → i < n → b' i ≡ 0 → b i ≡ 0) → ((i : ℕ) → i < n → b' i ≡ 0 → deep n a b q rs i ≤ℤ deep n a b' q' rs' i) → IsHeldFromBelow n a b' q' rs'
+  held_where_deeper b b' q q' rs rs' held loose more S closed none c h inside =
+      let (T, carried) = held S closed (λ i k e. loose i k (none i k e)) c h inside in (
+        T,
+        record {
+          closed = carried.closed;
+          within = carried.within;
+          carries = above _ _ carried.carries (sum_at_most n (λ k. cond (T k) (deep n a b q rs k) (pos 0)) (λ k. cond (T k) (deep n a b' q' rs' k) (pos 0)) (λ k j. cell T (λ i e. more i e) carried.within k j (T k) refl));
+        },
+      )
+    where
+      above : (x y : ℤ) → pos 0 <ℤ x → x ≤ℤ y → pos 0 <ℤ y
+      above x y h k = omega (arith, ints)
+
+      cell : (T : ℕ → Bool) → ((i : ℕ) → i < n → b' i ≡ 0 → deep n a b q rs i ≤ℤ deep n a b' q' rs' i) → ((i : ℕ) → i < n → T i ≡ true → S i ≡ true) → (k : ℕ) → k < n → (s : Bool) → T k ≡ s → cond s (deep n a b q rs k) (pos 0) ≤ℤ cond s (deep n a b' q' rs' k) (pos 0)
+      cell T more within k j true e = more k j (none k j (within k j e))
+      cell T more within k j false e = omega (arith, ints)
+
+-- b with v more at cell c
+pub conductance_added : ℕ → ℕ → (ℕ → ℕ) → ℕ → ℕ
+conductance_added c v b i = b i + cond (nat_eq c i) v 0
+
+pub flow_added : ℕ → ℤ → (ℕ → ℤ) → ℕ → ℤ
+flow_added c v q i = q i +ℤ cond (nat_eq c i) v (pos 0)
+
+-- cells that have no conductance after it
+pub added_zero : (c v : ℕ) (b : ℕ → ℕ) (i : ℕ) → conductance_added c v b i ≡ 0 → b i ≡ 0
+unfolding conductance_added
+added_zero c v b i e = first (b i) (cond (nat_eq c i) v 0) e
+  where
+    first : (x y : ℕ) → x + y ≡ 0 → x ≡ 0
+    first x y e = omega arith
+
+pub added_zero_away : (c v : ℕ) (b : ℕ → ℕ) (i : ℕ) → conductance_added c (suc v) b i ≡ 0 → c ≡ i → ⊥
+unfolding conductance_added
+added_zero_away c v b i e same = absurd (clash (b i) (rw (eq-eqb c i same) at e))
+  where
+    clash : (x : ℕ) → x + suc v ≡ 0 → ⊥
+    clash x e = omega arith
+
+pub flow_added-away : (c : ℕ) (w : ℤ) (q : ℕ → ℤ) (i : ℕ) → (c ≡ i → ⊥) → flow_added c w q i ≡ q i
+unfolding flow_added
+flow_added-away c w q i apart = rw (ne_eqb c i apart) (none (q i))
+  where
+    none : (z : ℤ) → z +ℤ pos 0 ≡ z
+    none z = omega (arith, ints)
+
+pub flow_added-at : (c : ℕ) (w : ℤ) (q : ℕ → ℤ) (i : ℕ) → flow_added c w q i ≡ q i +ℤ cond (nat_eq c i) w (pos 0)
+unfolding flow_added
+flow_added-at c w q i = refl
+
+pub conductance_added-at : (c v : ℕ) (b : ℕ → ℕ) (i : ℕ) → pos (conductance_added c v b i) ≡ pos (b i) +ℤ cond (nat_eq c i) (pos v) (pos 0)
+unfolding conductance_added
+conductance_added-at c v b i = cases (nat_eq c i)
+  where
+    cases : (s : Bool) → pos (b i + cond s v 0) ≡ pos (b i) +ℤ cond s (pos v) (pos 0)
+    cases true = refl
+    cases false = refl
+
+-- the step with a conductance v and a flow w more at cell c
+pub net_flow-added : (n : ℕ) (a : ℕ → ℕ → ℤ) (b : ℕ → ℕ) (q : ℕ → ℤ) (rs : List Ramp) (c v : ℕ) (w : ℤ) (d : ℕ) (X : ℕ → ℤ) (i : ℕ) → net_flow n a (conductance_added c v b) (flow_added c w q) rs d X i ≡ net_flow n a b q rs d X i +ℤ cond (nat_eq c i) (pos d *ℤ w -ℤ pos v *ℤ X i) (pos 0)
+unfolding conductance_added flow_added
+net_flow-added n a b q rs c v w d X i = cases (nat_eq c i) (link_flow n a X i) (pos d) (q i) (b i) (X i) (total (ramp_flow d (X i) i) rs)
+  where
+    ring : (l d q b x r w v : ℤ) → l +ℤ (d *ℤ (q +ℤ w) -ℤ (b +ℤ v) *ℤ x) +ℤ r ≡ l +ℤ (d *ℤ q -ℤ b *ℤ x) +ℤ r +ℤ (d *ℤ w -ℤ v *ℤ x)
+    ring l d q b x r w v = rw (as_diff l, as_diff d, as_diff q, as_diff b, as_diff x, as_diff r, as_diff w, as_diff v) (simp diffs (same_diff _ _ _ _ (omega arith)))
+
+    none : (l d q b x r : ℤ) → l +ℤ (d *ℤ (q +ℤ pos 0) -ℤ (b +ℤ pos 0) *ℤ x) +ℤ r ≡ l +ℤ (d *ℤ q -ℤ b *ℤ x) +ℤ r +ℤ pos 0
+    none l d q b x r = rw (zero q, zero b, zero (l +ℤ (d *ℤ q -ℤ b *ℤ x) +ℤ r)) refl
+      where
+        zero : (z : ℤ) → z +ℤ pos 0 ≡ z
+        zero z = omega (arith, ints)
+
+    cases : (s : Bool) (l d q : ℤ) (b : ℕ) (x r : ℤ) → l +ℤ (d *ℤ (q +ℤ cond s w (pos 0)) -ℤ pos (b + cond s v 0) *ℤ x) +ℤ r ≡ l +ℤ (d *ℤ q -ℤ pos b *ℤ x) +ℤ r +ℤ cond s (d *ℤ w -ℤ pos v *ℤ x) (pos 0)
+    cases true l d q b x r = ring l d q (pos b) x r w (pos v)
+    cases false l d q b x r = none l d q (pos b) x r

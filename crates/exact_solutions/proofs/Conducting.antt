@@ -1,0 +1,116 @@
+-- Links, known heads and ramps that conduct, from sums that do; and sums that are 0.
+use Rattle.std.proofs.Common.{[], ◌*ℤ◌, ◌+ℤ◌, ◌+◌, ◌<ℤ◌, ◌<◌, ◌∷◌, ◌≡◌, ◌≤ℤ◌, All, Bool, List, arith, cond, false, inl, inr, nat_eq, pos, refl, subst, true, ℕ, ℤ}
+use Rattle.std.specs.List.{AllZip}
+use Rattle.std.proofs.Math.IntN.{zero-*ℤ}
+use Rattle.std.proofs.lemmas.Bool.{cases_eq, eq-eqb, ne_eqb}
+use Rattle.std.proofs.lemmas.Int.{ints}
+use Rattle.std.proofs.lemmas.List.Elements.{All-cons, All-head, All-nil, All-tail}
+use Rattle.step_problem.specs.Flows.{total}
+use Rattle.cell_balance.proofs.Cancel.{weight}
+use Rattle.cell_balance.proofs.Whole.{WholeFixed, WholeLink}
+use Rattle.exact_solutions.proofs.WholeRamps.{known_conductance, known_flow}
+
+-- a fact of each right element passes to the left one
+pub All-back : {X Y : Type 0} (R : X → Y → Type 0) (P : X → Type 0) (Q : Y → Type 0) → ((x : X) (y : Y) → R x y → Q y → P x) → (xs : List X) (ys : List Y) → AllZip R xs ys → All Q ys → All P xs
+All-back R P Q each [] ys h a = All-nil P
+All-back R P Q each (x ∷ xs) [] h a = absurd h
+All-back R P Q each (x ∷ xs) (y ∷ ys) h a = All-cons P x xs (each x y h.0 (All-head Q y ys a)) (All-back R P Q each xs ys h.1 (All-tail Q y ys a))
+
+pub weight_nonneg : (xs : List WholeLink) (k : ℕ) → pos 0 ≤ℤ weight xs k
+weight_nonneg [] k = omega (arith, ints)
+weight_nonneg (x ∷ xs) k = sum _ _ (cases (nat_eq x.cell k)) (weight_nonneg xs k)
+  where
+    cases : (s : Bool) → pos 0 ≤ℤ cond s (pos x.c) (pos 0)
+    cases true = omega (arith, ints)
+    cases false = omega (arith, ints)
+
+    sum : (x y : ℤ) → pos 0 ≤ℤ x → pos 0 ≤ℤ y → pos 0 ≤ℤ (x +ℤ y)
+    sum x y h k = omega (arith, ints)
+
+-- each link that conducts gives weight to the cell that it leads to
+pub links_lead_to_weight : (S : ℕ → Type 0) (n : ℕ) (xs : List WholeLink) → ((k : ℕ) → k < n → pos 0 <ℤ weight xs k → S k) → All (λ x. 0 < x.c → x.cell < n → S x.cell) xs
+links_lead_to_weight S n [] h = All-nil (λ x. 0 < x.c → x.cell < n → S x.cell)
+links_lead_to_weight S n (x ∷ xs) h =
+    All-cons (λ x. 0 < x.c → x.cell < n → S x.cell) x xs
+    (λ c i. h x.cell i (rw (eq-eqb x.cell x.cell refl) (first _ _ c (weight_nonneg xs x.cell))))
+    (links_lead_to_weight S n xs (λ k i w. h k i (later _ _ (nonneg (nat_eq x.cell k)) w)))
+  where
+    first : (c : ℕ) (w : ℤ) → 0 < c → pos 0 ≤ℤ w → pos 0 <ℤ (pos c +ℤ w)
+    first c w h k = omega (arith, ints)
+
+    nonneg : (s : Bool) → pos 0 ≤ℤ cond s (pos x.c) (pos 0)
+    nonneg true = omega (arith, ints)
+    nonneg false = omega (arith, ints)
+
+    later : (a b : ℤ) → pos 0 ≤ℤ a → pos 0 <ℤ b → pos 0 <ℤ (a +ℤ b)
+    later a b h k = omega (arith, ints)
+
+-- and where weight is, a link leads
+pub weight_is_of_links : (T : ℕ → Type 0) (xs : List WholeLink) (k : ℕ) → All (λ x. T x.cell) xs → pos 0 <ℤ weight xs k → T k
+weight_is_of_links T [] k all h = absurd (never h)
+  where
+    never : pos 0 <ℤ pos 0 → ⊥
+    never h = omega (arith, ints)
+weight_is_of_links T (x ∷ xs) k all h =
+    elim (cases_eq x.cell k) [
+      | inl e ↦ subst (λ (z : ℕ). T z) e (All-head (λ x. T x.cell) x xs all)
+      | inr e ↦ weight_is_of_links T xs k (All-tail (λ x. T x.cell) x xs all) (rest _ (rw (ne_eqb x.cell k e) at h))
+    ]
+  where
+    rest : (w : ℤ) → pos 0 <ℤ (pos 0 +ℤ w) → pos 0 <ℤ w
+    rest w h = omega (arith, ints)
+
+-- where conductances sum to 0, each is 0
+pub none_conduct : {X : Type 0} (f : X → ℕ) (xs : List X) → total (λ x. pos (f x)) xs ≡ pos 0 → All (λ x. f x ≡ 0) xs
+none_conduct f [] h = All-nil (λ x. f x ≡ 0)
+none_conduct f (x ∷ xs) h = All-cons (λ x. f x ≡ 0) x xs (first _ _ (nonneg xs) h) (none_conduct f xs (rest _ _ (nonneg xs) h))
+  where
+    nonneg : (ys : List _) → pos 0 ≤ℤ total (λ x. pos (f x)) ys
+    nonneg [] = omega (arith, ints)
+    nonneg (y ∷ ys) = sum _ _ (nonneg ys)
+      where
+        sum : (a : ℕ) (b : ℤ) → pos 0 ≤ℤ b → pos 0 ≤ℤ (pos a +ℤ b)
+        sum a b h = omega (arith, ints)
+
+    first : (a : ℕ) (b : ℤ) → pos 0 ≤ℤ b → pos a +ℤ b ≡ pos 0 → a ≡ 0
+    first a b h e = omega (arith, ints)
+
+    rest : (a : ℕ) (b : ℤ) → pos 0 ≤ℤ b → pos a +ℤ b ≡ pos 0 → b ≡ pos 0
+    rest a b h e = omega (arith, ints)
+
+pub total_positive : {X : Type 0} (f : X → ℕ) (xs : List X) → pos 0 ≤ℤ total (λ x. pos (f x)) xs
+total_positive f [] = omega (arith, ints)
+total_positive f (x ∷ xs) = sum _ _ (total_positive f xs)
+  where
+    sum : (a : ℕ) (b : ℤ) → pos 0 ≤ℤ b → pos 0 ≤ℤ (pos a +ℤ b)
+    sum a b h = omega (arith, ints)
+
+pub no_known_conductance : (xs : List WholeFixed) → known_conductance xs ≡ 0 → All (λ x. x.c ≡ 0) xs
+no_known_conductance [] h = All-nil (λ x. x.c ≡ 0)
+no_known_conductance (x ∷ xs) h = All-cons (λ x. x.c ≡ 0) x xs (first x.c (known_conductance xs) h) (no_known_conductance xs (rest x.c (known_conductance xs) h))
+  where
+    first : (a b : ℕ) → a + b ≡ 0 → a ≡ 0
+    first a b e = omega arith
+
+    rest : (a b : ℕ) → a + b ≡ 0 → b ≡ 0
+    rest a b e = omega arith
+
+pub no_known_flow : (xs : List WholeFixed) → known_conductance xs ≡ 0 → total known_flow xs ≡ pos 0
+no_known_flow [] h = refl
+no_known_flow (x ∷ xs) h = rw (first x.c (known_conductance xs) h, no_known_flow xs (rest x.c (known_conductance xs) h)) (none x.head)
+  where
+    first : (a b : ℕ) → a + b ≡ 0 → a ≡ 0
+    first a b e = omega arith
+
+    rest : (a b : ℕ) → a + b ≡ 0 → b ≡ 0
+    rest a b e = omega arith
+
+    none : (z : ℤ) → pos 0 *ℤ z +ℤ pos 0 ≡ pos 0
+    none z = rw (zero-*ℤ z) refl
+
+pub total_nothing : {X : Type 0} (f : X → ℕ) (xs : List X) → total (λ x. pos (f x) *ℤ pos 0) xs ≡ pos 0
+total_nothing f [] = refl
+total_nothing f (x ∷ xs) = rw (total_nothing f xs) (none (f x))
+  where
+    none : (c : ℕ) → pos c *ℤ pos 0 +ℤ pos 0 ≡ pos 0
+    none c = omega (arith, ints)

@@ -1,0 +1,241 @@
+-- Steps with cells that nothing holds: heads one lower over these cells are another solution, where their deep flows sum to at most 0 or no river or drain of them conducts.
+use Rattle.std.proofs.Common.{◌≡◌, ◌*◌, ◌<◌, ◌∙◌, ◌+ℤ◌, ◌-ℤ◌, ◌*ℤ◌, ◌≤ℤ◌, [], ◌∷◌, ℕ, zero, suc, refl, sym, ap, arith, ℤ, pos, neg_ℤ, List, length, All, Bool, true, false, cond}
+use Rattle.std.specs.Int.{int_max}
+use Rattle.std.specs.List.{AllZip}
+use Rattle.std.proofs.Math.IntN.{zero-*ℤ}
+use Rattle.std.proofs.lemmas.Int.{ints, clamps}
+use Rattle.std.proofs.lemmas.List.Elements.{All-head, All-tail}
+use Rattle.decimal_input.specs.Enclosures.{IsShare}
+use Rattle.decimal_input.specs.Fractions.{Same, whole, signed, IsOver}
+use Rattle.decimal_input.specs.Ratios.{Ratio}
+use Rattle.step_problem.specs.Flows.{total}
+use Rattle.step_problem.proofs.Falls.{total_mono}
+use Rattle.step_problem.proofs.Ring.{mul_assoc, mul_mono}
+use Rattle.cell_balance.specs.Balance.{minus, greater}
+use Rattle.cell_balance.specs.Components.{sum_below, sum_inside}
+use Rattle.cell_balance.specs.Deep.{deep_river, full_rate, deep_flow}
+use Rattle.cell_balance.specs.Links.{AreLinked}
+use Rattle.cell_balance.specs.Solutions.{share, SolvesStep}
+use Rattle.cell_balance.specs.Steps.{ExactRiver, ExactEvap, ExactCell, cell_at, no_cell}
+use Rattle.cell_balance.proofs.Cancel.{IsMutual, closed_cancel}
+use Rattle.cell_balance.proofs.Denominators.{step_common}
+use Rattle.cell_balance.proofs.Encloses.{some_product, whole_solves}
+use Rattle.cell_balance.proofs.ExactLaws.{heads_over}
+use Rattle.cell_balance.proofs.Falling.{whole_falls}
+use Rattle.cell_balance.proofs.Mutual.{mutual_whole}
+use Rattle.cell_balance.proofs.Order.{over_le, IsOver-inside}
+use Rattle.cell_balance.proofs.Over.{FlowOver, LinkOver, FixedOver, RiverOver, DrainOver, EvapOver, CellOver}
+use Rattle.cell_balance.proofs.Scaling.{IsOver-plus, IsOver-times, IsOver-minus, IsOver-none, IsOver-signed, IsOver-greater, IsOver-total}
+use Rattle.cell_balance.proofs.Sums.{sum-same, sum-add, sum-zero}
+use Rattle.cell_balance.proofs.Totals.{sub_mul}
+use Rattle.cell_balance.proofs.Whole.{WholeRiver, WholeDrain, WholeEvap, WholeCell, whole_at, no_whole, whole_link, whole_fixed, whole_river, whole_drain, whole_evap, whole_balance, whole_deep_river, whole_full, whole_deep}
+use Rattle.cell_balance.proofs.Wholes.{whole_step}
+use Rattle.cell_balance.proofs.Zips.{AllZip-at, AllZip-length, All-zip}
+use Rattle.exact_solutions.specs.Loose.{IsLoose}
+use Rattle.exact_solutions.specs.LooseLaws.{DrainedHaveAnother, AfloatHaveAnother}
+use Rattle.exact_solutions.proofs.Equal.{at_most_both}
+use Rattle.exact_solutions.proofs.Lowered.{without_links, lowered, balance-links, lowered_balances}
+use Rattle.exact_solutions.proofs.Shares.{same_crossed}
+use Rattle.exact_solutions.proofs.TightSums.{sum_below-tight}
+use Rattle.exact_solutions.proofs.WholeSolutions.{whole_balances_solve}
+
+total-none : {X : Type 0} (P : X → Type 0) (f : X → ℤ) (xs : List X) → ((x : X) → P x → f x ≡ pos 0) → All P xs → total f xs ≡ pos 0
+total-none P f [] each all = refl
+total-none P f (x ∷ xs) each all = rw (each x (All-head P x xs all), total-none P f xs each (All-tail P x xs all)) refl
+
+total-no_length : {X : Type 0} (f : X → ℤ) (xs : List X) → length xs ≡ 0 → total f xs ≡ pos 0
+total-no_length f [] e = refl
+total-no_length f (x ∷ xs) e = absurd (omega (arith, e))
+
+-- a share of a conductance of 0
+none_shared : (k c : ℕ) (r : Ratio) → r.num ≡ 0 → IsShare k r c → c ≡ 0
+none_shared k c r e s = step r.num k c r.less e s.is
+  where
+    step : (n d c x : ℕ) → n ≡ 0 → n * d ≡ c * suc x → c ≡ 0
+    step n d zero x e s = refl
+    step n d (suc c) x e s = let t : n * d ≡ 0 * d = ap (λ (z : ℕ). z * d) e in absurd (omega arith)
+
+nothing_times : (c : ℕ) (z : ℤ) → c ≡ 0 → pos c *ℤ z ≡ pos 0
+nothing_times c z e = rw (e, zero-*ℤ z) refl
+
+-- a cell's flows but for its links are at most its deep flow, where no known head conducts and nothing evaporates
+flows_at_most_deep : (u : WholeCell) (v : ℤ) (h : ℕ → ℤ) → All (λ x. x.c ≡ 0) u.fixed → length u.evaps ≡ 0 → whole_balance (without_links u) v h ≤ℤ whole_deep u
+flows_at_most_deep u v h fixed evaps =
+    sum _ _ _ _ _ _ _ (total-none (λ x. x.c ≡ 0) (whole_fixed v) u.fixed (λ x e. nothing_times x.c (x.head -ℤ v) e) fixed) (total-no_length (whole_evap v) u.evaps evaps) (total-no_length whole_full u.evaps evaps)
+    (total_mono (whole_river v) whole_deep_river u.rivers river) (drains u.drains)
+  where
+    sum : (f k r r' d e g : ℤ) → k ≡ pos 0 → e ≡ pos 0 → g ≡ pos 0 → r ≤ℤ r' → d ≤ℤ pos 0 → (f +ℤ pos 0 +ℤ k +ℤ r +ℤ d +ℤ e) ≤ℤ (f +ℤ r' -ℤ g)
+    sum f k r r' d e g x y z p q = omega (arith, ints)
+
+    river : (x : WholeRiver) → whole_river v x ≤ℤ whole_deep_river x
+    river x = mul_mono x.c _ _ (deeper x.stage v x.bottom)
+      where
+        deeper : (s v b : ℤ) → (s -ℤ int_max v b) ≤ℤ (s -ℤ b)
+        deeper s v b = omega (arith, ints, clamps)
+
+    drain : (x : WholeDrain) → whole_drain v x ≤ℤ pos 0
+    drain x = takes _ _ (mul_mono x.c (pos 0) (int_max (v -ℤ x.elev) (pos 0)) (omega (arith, ints, clamps))) (nothing x.c)
+      where
+        nothing : (c : ℕ) → pos c *ℤ pos 0 ≡ pos 0
+        nothing c = omega (arith, ints)
+
+        takes : (a b : ℤ) → a ≤ℤ b → a ≡ pos 0 → neg_ℤ b ≤ℤ pos 0
+        takes a b h e = omega (arith, ints)
+
+    drains : (xs : List WholeDrain) → total (whole_drain v) xs ≤ℤ pos 0
+    drains [] = omega (arith, ints)
+    drains (x ∷ xs) = both _ _ (drain x) (drains xs)
+      where
+        both : (a b : ℤ) → a ≤ℤ pos 0 → b ≤ℤ pos 0 → (a +ℤ b) ≤ℤ pos 0
+        both a b h k = omega (arith, ints)
+
+-- and are its constant flows, where no river or drain conducts either
+flows_constant : (u : WholeCell) (v : ℤ) (h : ℕ → ℤ) → All (λ x. x.c ≡ 0) u.fixed → All (λ x. x.c ≡ 0) u.rivers → All (λ x. x.c ≡ 0) u.drains → length u.evaps ≡ 0 → whole_balance (without_links u) v h ≡ total (λ q. q) u.flows
+flows_constant u v h fixed rivers drains evaps =
+    sum _ _ _ _ _ (total-none (λ x. x.c ≡ 0) (whole_fixed v) u.fixed (λ x e. nothing_times x.c (x.head -ℤ v) e) fixed)
+    (total-none (λ x. x.c ≡ 0) (whole_river v) u.rivers (λ x e. nothing_times x.c (x.stage -ℤ int_max v x.bottom) e) rivers)
+    (total-none (λ x. x.c ≡ 0) (whole_drain v) u.drains (λ x e. ap neg_ℤ (nothing_times x.c (int_max (v -ℤ x.elev) (pos 0)) e)) drains)
+    (total-no_length (whole_evap v) u.evaps evaps)
+  where
+    sum : (f k r d e : ℤ) → k ≡ pos 0 → r ≡ pos 0 → d ≡ pos 0 → e ≡ pos 0 → f +ℤ pos 0 +ℤ k +ℤ r +ℤ d +ℤ e ≡ f
+    sum f k r d e x y z t = omega (arith, ints)
+
+-- a cell's deep flow, in whole numbers
+deep_flow_over : (k m : ℕ) (c : ExactCell) (u : WholeCell) → CellOver k m c u → IsOver (k * m) (deep_flow c) (whole_deep u)
+deep_flow_over k m c u o =
+    rw (regroup (total (λ q. q) u.flows) (total whole_deep_river u.rivers) (total whole_full u.evaps))
+    (IsOver-plus (k * m) _ _ _ _ (IsOver-total (FlowOver k m) (k * m) (λ x. x.flow) (λ q. q) (λ x q s. s.flow) c.flows u.flows o.flows)
+    (IsOver-minus (k * m) _ _ _ _ (IsOver-total (RiverOver k m) (k * m) deep_river whole_deep_river river c.rivers u.rivers o.rivers)
+    (IsOver-total (EvapOver k m) (k * m) full_rate whole_full evap c.evaps u.evaps o.evaps)))
+  where
+    regroup : (a b c : ℤ) → a +ℤ b -ℤ c ≡ a +ℤ (b -ℤ c)
+    regroup a b c = omega (arith, ints)
+
+    river : (x : ExactRiver) (y : WholeRiver) → RiverOver k m x y → IsOver (k * m) (deep_river x) (whole_deep_river y)
+    river x y r = IsOver-times k m (signed x.conductance) (minus x.stage x.bottom) (pos y.c) _ (IsOver-signed k x.conductance y.c r.c) (IsOver-minus m x.stage x.bottom y.stage y.bottom r.stage r.bottom)
+
+    evap : (x : ExactEvap) (y : WholeEvap) → EvapOver k m x y → IsOver (k * m) (full_rate x) (whole_full y)
+    evap x y r = IsOver-times k m (signed x.conductance) (greater (minus x.surface x.extinction) (whole (pos 0))) (pos y.c) _ (IsOver-signed k x.conductance y.c r.c) (IsOver-greater m (minus x.surface x.extinction) (whole (pos 0)) (y.surf -ℤ y.ext) (pos 0) (IsOver-minus m x.surface x.extinction y.surf y.ext r.surf r.ext) (IsOver-none m))
+
+module _ (e : List ExactCell) (inside : ℕ → Bool) (linked : AreLinked e) (loose : IsLoose e inside) (k m : ℕ) (w : List WholeCell) (over : AllZip (CellOver k m) e w) where
+  same_length : length e ≡ length w
+  same_length = AllZip-length (CellOver k m) e w over
+
+  cell_over : (c : ℕ) → c < length e → CellOver k m (cell_at e c) (whole_at w c)
+  cell_over c i = AllZip-at (CellOver k m) e w c no_cell no_whole over i
+
+  no_fixed : (c : ℕ) → c < length e → inside c ≡ true → All (λ x. x.c ≡ 0) (whole_at w c).fixed
+  no_fixed c i t = All-zip (FixedOver k m) (λ x. x.conductance.num ≡ 0) (λ x. x.c ≡ 0) (λ x y r h. none_shared k y.c x.conductance h r.c) (cell_at e c).fixed (whole_at w c).fixed (cell_over c i).fixed (loose.fixed c i t)
+
+  no_evaps : (c : ℕ) → c < length e → inside c ≡ true → length (whole_at w c).evaps ≡ 0
+  no_evaps c i t = sym (AllZip-length (EvapOver k m) (cell_at e c).evaps (whole_at w c).evaps (cell_over c i).evaps) ∙ ap length (loose.evaps c i t)
+
+  closed_whole : (c : ℕ) → c < length w → inside c ≡ true → All (λ x. inside x.cell ≡ true) (whole_at w c).links
+  closed_whole c i t =
+      let here : c < length e = omega (arith, i, same_length) in
+      All-zip (LinkOver k m) (λ x. inside x.cell ≡ true) (λ x. inside x.cell ≡ true) (λ x y r h. sym (ap inside r.same) ∙ h) (cell_at e c).links (whole_at w c).links (cell_over c here).links (loose.closed c here t)
+
+  module _ (Y : ℕ → ℤ) (zeros : (c : ℕ) → c < length w → whole_balance (whole_at w c) (Y c) Y ≡ pos 0) where
+    links_of : ℕ → ℤ
+    links_of c = total (whole_link Y (Y c)) (whole_at w c).links
+
+    -- where the deep flows sum to at most 0, each cell of the set gets its deep flow
+    module _ (both : IsMutual w) (most : sum_inside (length w) inside (λ c. whole_deep (whole_at w c)) ≤ℤ pos 0) where
+      deep_reached : (c : ℕ) → c < length w → inside c ≡ true → whole_deep (whole_at w c) ≤ℤ whole_balance (without_links (whole_at w c)) (Y c) Y
+      deep_reached c i t =
+          cancel _ _ _ _ (balance-links (whole_at w c) (Y c) Y)
+          (rw t at (sum_below-tight (length w) (λ c. cond (inside c) (whole_balance (whole_at w c) (Y c) Y) (pos 0)) (λ c. cond (inside c) (total (whole_link Y (Y c)) (whole_at w c).links +ℤ whole_deep (whole_at w c)) (pos 0)) (λ c i. less c i (inside c) refl) sums c i))
+        where
+          cancel : (l d b r : ℤ) → b ≡ l +ℤ r → (l +ℤ d) ≤ℤ b → d ≤ℤ r
+          cancel l d b r e h = omega (arith, ints)
+
+          less : (c : ℕ) → c < length w → (s : Bool) → inside c ≡ s → cond s (whole_balance (whole_at w c) (Y c) Y) (pos 0) ≤ℤ cond s (total (whole_link Y (Y c)) (whole_at w c).links +ℤ whole_deep (whole_at w c)) (pos 0)
+          less c i true t =
+              let here : c < length e = omega (arith, i, same_length) in
+              at_most _ _ _ _ (balance-links (whole_at w c) (Y c) Y) (flows_at_most_deep (whole_at w c) (Y c) Y (no_fixed c here t) (no_evaps c here t))
+            where
+              at_most : (l d b r : ℤ) → b ≡ l +ℤ r → r ≤ℤ d → b ≤ℤ (l +ℤ d)
+              at_most l d b r e h = omega (arith, ints)
+          less c i false t = omega (arith, ints)
+
+          apart : (s : Bool) (x y : ℤ) → cond s (x +ℤ y) (pos 0) ≡ cond s x (pos 0) +ℤ cond s y (pos 0)
+          apart true x y = refl
+          apart false x y = refl
+
+          none : (c : ℕ) → c < length w → (s : Bool) → cond s (whole_balance (whole_at w c) (Y c) Y) (pos 0) ≡ pos 0
+          none c i true = zeros c i
+          none c i false = refl
+
+          sums : sum_below (length w) (λ c. cond (inside c) (total (whole_link Y (Y c)) (whole_at w c).links +ℤ whole_deep (whole_at w c)) (pos 0)) ≤ℤ sum_below (length w) (λ c. cond (inside c) (whole_balance (whole_at w c) (Y c) Y) (pos 0))
+          sums =
+              total_at_most _ _ _ _
+              (sum-same (length w) _ _ (λ c i. apart (inside c) (total (whole_link Y (Y c)) (whole_at w c).links) (whole_deep (whole_at w c)))
+              ∙ sum-add (length w) (λ c. cond (inside c) (total (whole_link Y (Y c)) (whole_at w c).links) (pos 0)) (λ c. cond (inside c) (whole_deep (whole_at w c)) (pos 0)))
+              (closed_cancel w inside Y both closed_whole) most (sum-same (length w) _ (λ c. pos 0) (λ c i. none c i (inside c)) ∙ sum-zero (length w))
+            where
+              total_at_most : (g l d f : ℤ) → g ≡ l +ℤ d → l ≡ pos 0 → d ≤ℤ pos 0 → f ≡ pos 0 → g ≤ℤ f
+              total_at_most g l d f e z h y = omega (arith, ints)
+
+      pub drained_stays : (c : ℕ) → c < length e → inside c ≡ true → whole_balance (without_links (whole_at w c)) (Y c -ℤ pos 1) Y ≡ whole_balance (without_links (whole_at w c)) (Y c) Y
+      drained_stays c i t =
+          at_most_both _ _
+          (through _ _ _ (flows_at_most_deep (whole_at w c) (Y c -ℤ pos 1) Y (no_fixed c i t) (no_evaps c i t)) (deep_reached c (omega (arith, i, same_length)) t))
+          (whole_falls (without_links (whole_at w c)) (Y c -ℤ pos 1) (Y c) Y (lower (Y c)))
+        where
+          through : (a b c : ℤ) → a ≤ℤ b → b ≤ℤ c → a ≤ℤ c
+          through a b c h k = omega (arith, ints)
+
+          lower : (y : ℤ) → (y -ℤ pos 1) ≤ℤ y
+          lower y = omega (arith, ints)
+
+-- heads one lower over the set, as another solution
+abbrev AnotherSolution : List ExactCell → ℕ → (ℕ → ℤ) → Type 0
+AnotherSolution e d X = (k : ℕ) × (Z : ℕ → ℤ) × (0 < k) × SolvesStep e k Z × (c : ℕ) × (c < length e) × (Same (share d (X c)) (share k (Z c)) → ⊥)
+
+lowered_solution : (e : List ExactCell) (inside : ℕ → Bool) → AreLinked e → IsLoose e inside → (n d : ℕ) (X : ℕ → ℤ) → 0 < n → 0 < d → (w : List WholeCell) → AllZip (CellOver (n * 1) (n * d)) e w →
+    ((c : ℕ) → c < length w → whole_balance (whole_at w c) (X c *ℤ pos n) (λ k. X k *ℤ pos n) ≡ pos 0) →
+    ((c : ℕ) → c < length e → inside c ≡ true → whole_balance (without_links (whole_at w c)) (X c *ℤ pos n -ℤ pos 1) (λ k. X k *ℤ pos n) ≡ whole_balance (without_links (whole_at w c)) (X c *ℤ pos n) (λ k. X k *ℤ pos n)) →
+    AnotherSolution e d X
+lowered_solution e inside linked loose n d X some_n some_d w over zeros stays =
+    let (c, here, t) = loose.member in
+    let some = some_product n d some_n some_d in (
+      n * d,
+      lowered inside (λ k. X k *ℤ pos n),
+      some,
+      whole_balances_solve (n * 1) (n * d) e w (lowered inside (λ k. X k *ℤ pos n)) (omega (arith, some_n)) some over (lowered_balances e inside linked loose.closed (n * 1) (n * d) w over (λ k. X k *ℤ pos n) stays zeros),
+      c,
+      here,
+      (λ same. differ (X c) n d some_d (inside c) t (same_crossed d (n * d) (X c) _ some_d some same)),
+    )
+  where
+    differ : (x : ℤ) (n d : ℕ) → 0 < d → (s : Bool) → s ≡ true → x *ℤ pos (n * d) ≡ (x *ℤ pos n -ℤ cond s (pos 1) (pos 0)) *ℤ pos d → ⊥
+    differ x n d some s t e = clash ((x *ℤ pos n) *ℤ pos d) (pos d) (omega (arith, ints)) (mul_assoc x (pos n) (pos d) ∙ (rw t at e) ∙ sub_mul (x *ℤ pos n) (pos 1) (pos d))
+      where
+        clash : (z d : ℤ) → pos 1 ≤ℤ d → z ≡ z -ℤ pos 1 *ℤ d → ⊥
+        clash z d h e = omega (arith, ints)
+
+pub drained_have_another : DrainedHaveAnother
+drained_have_another e inside linked loose most d X some solves =
+    let (n, some_n, common) = step_common e in
+    let (w, over) = whole_step n 1 d e common in
+    let zeros = whole_solves (n * 1) (n * d) e w d X (λ k. X k *ℤ pos n) over solves (λ c. heads_over n d some (X c)) in
+    let same = AllZip-length (CellOver (n * 1) (n * d)) e w over in
+    let deep = over_le (n * 1 * (n * d)) _ _ _ _
+    (IsOver-inside (n * 1 * (n * d)) (length e) inside (λ c. deep_flow (cell_at e c)) (λ c. whole_deep (whole_at w c)) (λ c i. deep_flow_over (n * 1) (n * d) (cell_at e c) (whole_at w c) (AllZip-at (CellOver (n * 1) (n * d)) e w c no_cell no_whole over i)))
+    (IsOver-none (n * 1 * (n * d))) most in
+    lowered_solution e inside linked loose n d X some_n some w over zeros (drained_stays e inside linked loose (n * 1) (n * d) w over (λ k. X k *ℤ pos n) zeros (mutual_whole (n * 1) (n * d) e w linked over) (rw same at deep))
+
+pub afloat_have_another : AfloatHaveAnother
+afloat_have_another e inside linked afloat d X some solves =
+    let (n, some_n, common) = step_common e in
+    let (w, over) = whole_step n 1 d e common in
+    let zeros = whole_solves (n * 1) (n * d) e w d X (λ k. X k *ℤ pos n) over solves (λ c. heads_over n d some (X c)) in
+    lowered_solution e inside linked afloat.loose n d X some_n some w over zeros (λ c i t. constant n w over c i t (X c *ℤ pos n -ℤ pos 1) (λ k. X k *ℤ pos n) ∙ sym (constant n w over c i t (X c *ℤ pos n) (λ k. X k *ℤ pos n)))
+  where
+    constant : (n : ℕ) (w : List WholeCell) (over : AllZip (CellOver (n * 1) (n * d)) e w) (c : ℕ) → c < length e → inside c ≡ true → (v : ℤ) (h : ℕ → ℤ) → whole_balance (without_links (whole_at w c)) v h ≡ total (λ q. q) (whole_at w c).flows
+    constant n w over c i t v h =
+        let cell = AllZip-at (CellOver (n * 1) (n * d)) e w c no_cell no_whole over i in
+        flows_constant (whole_at w c) v h (no_fixed e inside linked afloat.loose (n * 1) (n * d) w over c i t)
+        (All-zip (RiverOver (n * 1) (n * d)) (λ x. x.conductance.num ≡ 0) (λ x. x.c ≡ 0) (λ x y r h. none_shared (n * 1) y.c x.conductance h r.c) (cell_at e c).rivers (whole_at w c).rivers cell.rivers (afloat.rivers c i t))
+        (All-zip (DrainOver (n * 1) (n * d)) (λ x. x.conductance.num ≡ 0) (λ x. x.c ≡ 0) (λ x y r h. none_shared (n * 1) y.c x.conductance h r.c) (cell_at e c).drains (whole_at w c).drains cell.drains (afloat.drains c i t))
+        (no_evaps e inside linked afloat.loose (n * 1) (n * d) w over c i t)

@@ -1,0 +1,167 @@
+-- The worked steps: the balance of a cell with a river and a well, and of two linked cells, and the heads at which they are zero.
+use Rattle.std.proofs.Common.{◌≡◌, ◌*◌, ◌<◌, ◌∙◌, ◌+ℤ◌, ◌-ℤ◌, ◌*ℤ◌, ◌≤ℤ◌, [], ◌∷◌, ℕ, zero, suc, refl, sym, ap, arith, ℤ, pos, neg_ℤ, List}
+use Rattle.std.specs.Int.{int_max}
+use Rattle.std.specs.List.{AllZip}
+use Rattle.std.proofs.lemmas.Int.{ints, clamps}
+use Rattle.decimal_input.specs.Fractions.{Same, whole, IsOver}
+use Rattle.step_problem.proofs.Leasts.{neg_mul}
+use Rattle.cell_balance.specs.Solutions.{share, SolvesStep}
+use Rattle.cell_balance.proofs.Encloses.{whole_solves}
+use Rattle.cell_balance.proofs.Over.{CellOver}
+use Rattle.cell_balance.proofs.Products.{mul_mono_right}
+use Rattle.cell_balance.proofs.Scaling.{mul_swap}
+use Rattle.cell_balance.proofs.Totals.{add_mul, sub_mul}
+use Rattle.cell_balance.proofs.Whole.{WholeCell, whole_at, whole_balance}
+use Rattle.exact_solutions.specs.Counts.{HasNoneOrMany}
+use Rattle.exact_solutions.specs.Worked.{river_and_well, linked_to, two_cells}
+use Rattle.exact_solutions.specs.WorkedLaws.{WellPastDeepFlow, WellWithinDeepFlow, WellOfDeepFlow, TwoLooseCells}
+use Rattle.exact_solutions.proofs.Shares.{crossed_same, same_crossed}
+use Rattle.exact_solutions.proofs.WholeSolutions.{share_is_over, whole_balances_solve}
+
+-- a whole number over d
+whole_over : (d : ℕ) (z : ℤ) → IsOver d (whole z) (z *ℤ pos d)
+whole_over d z = record { is = once (z *ℤ pos d) }
+  where
+    once : (z : ℤ) → z ≡ z *ℤ pos 1
+    once z = omega (arith, ints)
+
+whole_flow_over : (d : ℕ) (z : ℤ) → IsOver (1 * d) (whole z) (z *ℤ pos d)
+whole_flow_over d z = record { is = ap (λ (k : ℕ). z *ℤ pos k) (one d) ∙ (whole_over d z).is }
+  where
+    one : (d : ℕ) → 1 * d ≡ d
+    one d = omega arith
+
+-- two heads one apart are not the same number
+one_apart : (d : ℕ) (x y : ℤ) → 0 < d → y ≡ x +ℤ pos 1 → Same (share d x) (share d y) → ⊥
+one_apart d x y some e same = differ (same_crossed d d x y some some same)
+  where
+    differ : x *ℤ pos d ≡ y *ℤ pos d → ⊥
+    differ h = clash (x *ℤ pos d) (pos d) (h ∙ ap (λ (z : ℤ). z *ℤ pos d) e ∙ ring x (pos d)) (omega (arith, ints))
+      where
+        ring : (x d : ℤ) → (x +ℤ pos 1) *ℤ d ≡ x *ℤ d +ℤ d
+        ring x d = rw (add_mul x (pos 1) d) (omega (arith, ints))
+
+        clash : (z d : ℤ) → z ≡ z +ℤ d → pos 1 ≤ℤ d → ⊥
+        clash z d e h = omega (arith, ints)
+
+-- the river gives 5 less the greater of the head and its bottom, and the well takes its share
+abbrev IsBalanced : ℕ → ℕ → ℤ → Type 0
+IsBalanced taken d x = int_max x (pos 0) +ℤ pos taken *ℤ pos d ≡ pos 5 *ℤ pos d
+
+abbrev river_whole : ℕ → ℕ → List WholeCell
+river_whole taken d = record { flows = (neg_ℤ (pos taken) *ℤ pos d) ∷ []; links = []; fixed = []; rivers = record { c = 1; stage = pos 5 *ℤ pos d; bottom = pos 0 *ℤ pos d } ∷ []; drains = []; evaps = [] } ∷ []
+
+river_over : (taken d : ℕ) → AllZip (CellOver 1 d) (river_and_well taken) (river_whole taken d)
+river_over taken d = (
+  record {
+    flows = (record { flow = whole_flow_over d (neg_ℤ (pos taken)) }, tt);
+    links = tt;
+    fixed = tt;
+    rivers = (record { c = record { is = refl }; stage = whole_over d (pos 5); bottom = whole_over d (pos 0) }, tt);
+    drains = tt;
+    evaps = tt;
+  },
+  tt,
+)
+
+river_balance : (taken d : ℕ) (X : ℕ → ℤ) → 0 < d → SolvesStep (river_and_well taken) d X → IsBalanced taken d (X 0)
+river_balance taken d X some solves = turn (neg_ℤ (pos taken) *ℤ pos d) (pos taken *ℤ pos d) (pos d) (X 0) (neg_mul (pos taken) (pos d)) (whole_solves 1 d (river_and_well taken) (river_whole taken d) d X X (river_over taken d) solves (λ c. share_is_over d (X c) some) 0 (omega arith))
+  where
+    turn : (f t d x : ℤ) → f ≡ neg_ℤ t → f +ℤ pos 0 +ℤ pos 0 +ℤ pos 0 +ℤ (pos 1 *ℤ (pos 5 *ℤ d -ℤ int_max x (pos 0 *ℤ d)) +ℤ pos 0) +ℤ pos 0 +ℤ pos 0 ≡ pos 0 → int_max x (pos 0) +ℤ t ≡ pos 5 *ℤ d
+    turn f t d x e h = omega (arith, ints, clamps)
+
+river_solved : (taken d : ℕ) (X : ℕ → ℤ) → 0 < d → IsBalanced taken d (X 0) → SolvesStep (river_and_well taken) d X
+river_solved taken d X some balanced = whole_balances_solve 1 d (river_and_well taken) (river_whole taken d) X (omega arith) some (river_over taken d) zeros
+  where
+    turn : (f t d x : ℤ) → f ≡ neg_ℤ t → int_max x (pos 0) +ℤ t ≡ pos 5 *ℤ d → f +ℤ pos 0 +ℤ pos 0 +ℤ pos 0 +ℤ (pos 1 *ℤ (pos 5 *ℤ d -ℤ int_max x (pos 0 *ℤ d)) +ℤ pos 0) +ℤ pos 0 +ℤ pos 0 ≡ pos 0
+    turn f t d x e h = omega (arith, ints, clamps)
+
+    zeros : (c : ℕ) → c < 1 → whole_balance (whole_at (river_whole taken d) c) (X c) X ≡ pos 0
+    zeros zero h = turn (neg_ℤ (pos taken) *ℤ pos d) (pos taken *ℤ pos d) (pos d) (X 0) (neg_mul (pos taken) (pos d)) balanced
+    zeros (suc c) h = absurd (omega (arith, h))
+
+pub well_past_deep_flow : WellPastDeepFlow
+well_past_deep_flow taken past d X some solves = clash (X 0) (pos taken *ℤ pos d) (pos d) (omega (arith, ints)) (mul_mono_right d (pos 6) (pos taken) (omega (arith, ints))) (river_balance taken d X some solves)
+  where
+    clash : (x t d : ℤ) → pos 1 ≤ℤ d → (pos 6 *ℤ d) ≤ℤ t → int_max x (pos 0) +ℤ t ≡ pos 5 *ℤ d → ⊥
+    clash x t d h k e = omega (arith, ints, clamps)
+
+pub well_within_deep_flow : WellWithinDeepFlow
+well_within_deep_flow taken less = (
+  river_solved taken 1 (λ c. pos 5 -ℤ pos taken) (omega arith) (stands (pos taken) (omega (arith, ints))),
+  (λ d k X Y some_d some_k solves_x solves_y c i. one d k X Y some_d some_k solves_x solves_y c i),
+)
+  where
+    stands : (t : ℤ) → t ≤ℤ pos 4 → int_max (pos 5 -ℤ t) (pos 0) +ℤ t *ℤ pos 1 ≡ pos 5 *ℤ pos 1
+    stands t h = omega (arith, ints, clamps)
+
+    head_is : (d : ℕ) (X : ℕ → ℤ) → 0 < d → SolvesStep (river_and_well taken) d X → X 0 ≡ (pos 5 -ℤ pos taken) *ℤ pos d
+    head_is d X some solves = wet (X 0) (pos taken *ℤ pos d) (pos d) (omega (arith, ints)) (mul_mono_right d (pos taken) (pos 4) (omega (arith, ints))) (river_balance taken d X some solves) ∙ sym (sub_mul (pos 5) (pos taken) (pos d))
+      where
+        wet : (x t d : ℤ) → pos 1 ≤ℤ d → t ≤ℤ (pos 4 *ℤ d) → int_max x (pos 0) +ℤ t ≡ pos 5 *ℤ d → x ≡ pos 5 *ℤ d -ℤ t
+        wet x t d h k e = omega (arith, ints, clamps)
+
+    one : (d k : ℕ) (X Y : ℕ → ℤ) → 0 < d → 0 < k → SolvesStep (river_and_well taken) d X → SolvesStep (river_and_well taken) k Y → (c : ℕ) → c < 1 → Same (share d (X c)) (share k (Y c))
+    one d k X Y some_d some_k solves_x solves_y zero h = crossed_same d k (X 0) (Y 0) some_d some_k (crossed (pos 5 -ℤ pos taken) (pos d) (pos k) (X 0) (Y 0) (head_is d X some_d solves_x) (head_is k Y some_k solves_y))
+      where
+        crossed : (h d k x y : ℤ) → x ≡ h *ℤ d → y ≡ h *ℤ k → x *ℤ k ≡ y *ℤ d
+        crossed h d k x y e f = rw (e, f) (mul_swap h d k)
+    one d k X Y some_d some_k solves_x solves_y (suc c) h = absurd (omega (arith, h))
+
+-- where the well takes the deep flow, every head at or below the bottom is a solution
+pub well_of_deep_flow : WellOfDeepFlow
+well_of_deep_flow = ((1, (λ c. pos 0), omega arith, river_solved 5 1 (λ c. pos 0) (omega arith) refl), lower)
+  where
+    lower : HasNoneOrMany (river_and_well 5)
+    lower d X some solves = (
+      d,
+      (λ c. X c -ℤ pos 1),
+      some,
+      river_solved 5 d (λ c. X c -ℤ pos 1) some (dry (X 0) (pos d) (river_balance 5 d X some solves)),
+      0,
+      omega arith,
+      (λ same. one_apart d (X 0 -ℤ pos 1) (X 0) some (back (X 0)) (record { same = sym same.same })),
+    )
+      where
+        dry : (x d : ℤ) → int_max x (pos 0) +ℤ pos 5 *ℤ d ≡ pos 5 *ℤ d → int_max (x -ℤ pos 1) (pos 0) +ℤ pos 5 *ℤ d ≡ pos 5 *ℤ d
+        dry x d e = omega (arith, ints, clamps)
+
+        back : (x : ℤ) → x ≡ x -ℤ pos 1 +ℤ pos 1
+        back x = omega (arith, ints)
+
+abbrev linked_whole : ℕ → WholeCell
+linked_whole other = record { flows = []; links = record { cell = other; c = 1 } ∷ []; fixed = []; rivers = []; drains = []; evaps = [] }
+
+cells_over : (d : ℕ) → AllZip (CellOver 1 d) two_cells (linked_whole 1 ∷ linked_whole 0 ∷ [])
+cells_over d = (cell_over 0 1, (cell_over 1 0, tt))
+  where
+    cell_over : (id other : ℕ) → CellOver 1 d (linked_to id other) (linked_whole other)
+    cell_over id other = record { flows = tt; links = (record { same = refl; c = record { is = refl } }, tt); fixed = tt; rivers = tt; drains = tt; evaps = tt }
+
+level_solves : (d : ℕ) (X : ℕ → ℤ) → 0 < d → X 0 ≡ X 1 → SolvesStep two_cells d X
+level_solves d X some level = whole_balances_solve 1 d two_cells (linked_whole 1 ∷ linked_whole 0 ∷ []) X (omega arith) some (cells_over d) zeros
+  where
+    flat : (x y : ℤ) → x ≡ y → pos 0 +ℤ (pos 1 *ℤ (y -ℤ x) +ℤ pos 0) +ℤ pos 0 +ℤ pos 0 +ℤ pos 0 +ℤ pos 0 ≡ pos 0
+    flat x y e = omega (arith, ints)
+
+    zeros : (c : ℕ) → c < 2 → whole_balance (whole_at (linked_whole 1 ∷ linked_whole 0 ∷ []) c) (X c) X ≡ pos 0
+    zeros zero h = flat (X 0) (X 1) level
+    zeros (suc zero) h = flat (X 1) (X 0) (sym level)
+    zeros (suc (suc c)) h = absurd (omega (arith, h))
+
+pub two_loose_cells : TwoLooseCells
+two_loose_cells = ((1, (λ c. pos 0), omega arith, level_solves 1 (λ c. pos 0) (omega arith) refl), higher)
+  where
+    higher : HasNoneOrMany two_cells
+    higher d X some solves = (
+      d,
+      (λ c. X c +ℤ pos 1),
+      some,
+      level_solves d (λ c. X c +ℤ pos 1) some (raised (X 0) (X 1) (whole_solves 1 d two_cells (linked_whole 1 ∷ linked_whole 0 ∷ []) d X X (cells_over d) solves (λ c. share_is_over d (X c) some) 0 (omega arith))),
+      0,
+      omega arith,
+      one_apart d (X 0) (X 0 +ℤ pos 1) some refl,
+    )
+      where
+        raised : (x y : ℤ) → pos 0 +ℤ (pos 1 *ℤ (y -ℤ x) +ℤ pos 0) +ℤ pos 0 +ℤ pos 0 +ℤ pos 0 +ℤ pos 0 ≡ pos 0 → x +ℤ pos 1 ≡ y +ℤ pos 1
+        raised x y e = omega (arith, ints)

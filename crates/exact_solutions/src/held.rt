@@ -1,0 +1,12 @@
+// Steps whose heads are held have a solution, and one alone.
+ghost use Rattle.exact_solutions.specs.HeldLaws.{HeldHaveASolution, HeldHaveAtMostOne};
+
+/// Each exact step that a problem encloses has a solution, where each component of the problem is held below and above.
+pub fn solution_exists()
+    ensures { HeldHaveASolution }
+{}
+
+/// It has at most one, where each component is held below.
+pub fn solution_is_one()
+    ensures { HeldHaveAtMostOne }
+{}

@@ -1,0 +1,22 @@
+// Steps that are solved by hand.
+ghost use Rattle.exact_solutions.specs.WorkedLaws.{WellPastDeepFlow, WellWithinDeepFlow, WellOfDeepFlow, TwoLooseCells};
+
+/// A well that takes more than the deep flow of its cell's river: no heads are a solution.
+pub fn well_past_the_deep_flow()
+    ensures { WellPastDeepFlow }
+{}
+
+/// A well that takes less: the stage less what the well takes is the one solution.
+pub fn well_within_the_deep_flow()
+    ensures { WellWithinDeepFlow }
+{}
+
+/// A well that takes just the deep flow: there are many solutions.
+pub fn well_of_the_deep_flow()
+    ensures { WellOfDeepFlow }
+{}
+
+/// Two cells without a stress: there are many solutions.
+pub fn two_loose_cells()
+    ensures { TwoLooseCells }
+{}
