@@ -1,6 +1,5 @@
 -- What active cells have to pass. Limits are this program's own.
 use Rattle.std.specs.Prelude.{ℕ, ◌+◌, Bool, true, not, ◌&&◌, ◌||◌, nat_lt, nat_le, Option, Some, None, if◌then◌else◌}
-use Rattle.decimal_input.specs.contracts.dec.DecPartialEq.TheImpl as dec_eq
 use Rattle.outside.specs.declared.codes.Code.{Code}
 use Rattle.outside.specs.declared.codes.Code.TheVariants.{BadThickness, BadProperty, HeadTooLarge}
 use Rattle.model_types.specs.declared.model.FlowModel.{FlowModel}
@@ -8,14 +7,14 @@ use Rattle.model_types.specs.Cells.{layer_size, cell_count}
 use Rattle.model_types.specs.Layers.{dec_at, is_active, has_bed, top_at, bottom_at, lowest}
 use Rattle.number_limits.specs.Magnitudes.{is_head}
 use Rattle.number_limits.specs.Room.{is_thick}
-use Rattle.number_limits.specs.Signs.{is_positive}
+use Rattle.number_limits.specs.Signs.{is_positive, is_same_number}
 use Rattle.cell_checks.specs.declared.passing.Check.{Check}
 use Rattle.cell_checks.specs.declared.passing.Check.TheVariants.{Thickness, StartHead, Properties}
 
 module _ (m : FlowModel) (c : ℕ) where
   -- whether the bed below the cell is checked: the cell below it is active, and the bed's two elevations aren't the same number
   abbrev pub is_checked_bed : Bool
-  is_checked_bed = has_bed m c && (nat_lt (c + layer_size m.grid) (cell_count m.grid) && (is_active m (c + layer_size m.grid) && not (dec_eq.ghosts.eq (bottom_at m c) (lowest m c))))
+  is_checked_bed = has_bed m c && (nat_lt (c + layer_size m.grid) (cell_count m.grid) && (is_active m (c + layer_size m.grid) && not (is_same_number (bottom_at m c) (lowest m c))))
 
 module _ (m : FlowModel) (c : ℕ) where
   -- the cell and the bed below it have room

@@ -2,7 +2,6 @@
 use Rattle.std.specs.Prelude.{ℕ, Bool, true, not, ◌&&◌, nat_lt, List, Option, Some, None, Result, Ok, if◌then◌else◌}
 use Rattle.std.specs.List.{list_all}
 use Rattle.decimal_input.specs.Canonical.{IsDec}
-use Rattle.decimal_input.specs.contracts.dec.DecPartialEq.TheImpl as dec_eq
 use Rattle.outside.specs.declared.codes.Code.{Code}
 use Rattle.outside.specs.declared.codes.Code.TheVariants.{HeadTooLarge}
 use Rattle.outside.specs.declared.refusals.Refusal.{Refusal}
@@ -12,7 +11,7 @@ use Rattle.array_reader.specs.Numbers.{number}
 use Rattle.model_types.specs.declared.entry.Given.{Given}
 use Rattle.model_types.specs.declared.period.Period.{Period}
 use Rattle.number_limits.specs.Magnitudes.{is_head}
-use Rattle.number_limits.specs.Signs.{is_one}
+use Rattle.number_limits.specs.Signs.{is_one, is_same_number}
 use Rattle.list_package.specs.Kinds.{Kind}
 use Rattle.chd_package.specs.declared.heads.Heads.{Heads}
 
@@ -28,7 +27,7 @@ heads_fault x = if is_head x.shead && is_head x.ehead then None else Some HeadTo
 
 -- an entry whose two heads are the same number
 abbrev pub is_level : Given → Bool
-is_level x = dec_eq.ghosts.eq x.shead x.ehead
+is_level x = is_same_number x.shead x.ehead
 
 -- a steady period of more than one step whose TSMULT isn't 1
 abbrev pub is_growing : Period → Bool

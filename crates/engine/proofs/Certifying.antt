@@ -21,32 +21,51 @@ use Rattle.engine.specs.Cases.{Asked, AskedCheck, Case, Command, Run, Make, Chec
 use Rattle.engine.specs.Certified.{Certified}
 use Rattle.engine.specs.Checked.{IsCheck, certified_line}
 use Rattle.engine.specs.Defined.{Defines}
-use Rattle.engine.specs.Parts.{IsStopped}
+use Rattle.engine.specs.OneListing.{OneVerdict}
+use Rattle.engine.specs.Parts.{IsStopped, IsValid}
 use Rattle.engine.proofs.Readings.{named_read}
 
+pub not_stopped : IsStopped status.Ok → ⊥
+not_stopped (inl e) = let bad : status.Ok ≡ status.ReadFault = e in cc
+not_stopped (inr (inl e)) = let bad : status.Ok ≡ status.WriteFault = e in cc
+not_stopped (inr (inr e)) = let bad : status.Ok ≡ status.Memory = e in cc
+
 module _ (words : List Text) (files : List File) (old new : Seen) (puts : List Put) (pieces : List Text) (asked : AskedCheck) (wanted : asked_in words ≡ Some (Check asked)) (written : puts ≡ map taken pieces) (makes : PutsMake old puts new) where
-  of_steps : (f : FlowModel) → named asked.name (reads files) ≡ Ok f → (r : Result (List ListedStep) Refusal) → listing_read files asked f ≡ r → Defines (case_listed asked f r) status.Ok pieces → Certified words files old.written new.written
-  of_steps f read (Ok steps) listed d = record {
-    asked = asked;
-    wanted = wanted;
-    model = f;
-    read = named_read asked.name (reads files) f read;
-    steps = steps;
-    listed = listed;
-    verdict = d.verdict;
-    written = all_written (certified_line ∷ []) old new puts (written ∙ ap (map taken) d.are) makes;
-    encloses = d.encloses;
-  }
-  of_steps f read (Err refusal) listed d = absurd (let bad : status.Ok ≡ status.Refused refusal = d.0 in cc)
+  abbrev Tells : Type 0
+  Tells = Certified words files old.written new.written × OneVerdict words files
 
-  of_model : (r : Result FlowModel Refusal) → named asked.name (reads files) ≡ r → Defines (case_checked asked r (listing_read files asked)) status.Ok pieces → Certified words files old.written new.written
-  of_model (Ok f) read d = of_steps f read (listing_read files asked f) refl d
-  of_model (Err refusal) read d = absurd (let bad : status.Ok ≡ status.Refused refusal = d.0 in cc)
+  tells : (f : FlowModel) (steps : List ListedStep) → IsModel f → named asked.name (reads files) ≡ Ok f → listing_read files asked f ≡ Ok steps → Defines (Checking f asked.digits steps) status.Ok pieces → Tells
+  tells f steps model read listed d =
+      let is = named_read asked.name (reads files) f read in
+      (
+        record {
+          asked = asked;
+          wanted = wanted;
+          model = f;
+          read = is;
+          valid = model;
+          steps = steps;
+          listed = listed;
+          written = all_written (certified_line ∷ []) old new puts (written ∙ ap (map taken) d.are) makes;
+          encloses = d.encloses;
+        },
+        record { asked = asked; wanted = wanted; model = f; read = is; valid = model; steps = steps; listed = listed; verdict = d.verdict },
+      )
 
-  pub of_check : Defines (case_of words files) status.Ok pieces → Certified words files old.written new.written
-  of_check d =
+  of_steps : (f : FlowModel) → named asked.name (reads files) ≡ Ok f → (r : Result (List ListedStep) Refusal) → listing_read files asked f ≡ r → IsValid (case_listed asked f r) status.Ok → Defines (case_listed asked f r) status.Ok pieces → Tells
+  of_steps f read (Ok steps) listed (inl (model, valid)) d = tells f steps model read listed d
+  of_steps f read (Ok steps) listed (inr stops) d = absurd (not_stopped stops)
+  of_steps f read (Err refusal) listed valid d = absurd (let bad : status.Ok ≡ status.Refused refusal = d.0 in cc)
+
+  of_model : (r : Result FlowModel Refusal) → named asked.name (reads files) ≡ r → IsValid (case_checked asked r (listing_read files asked)) status.Ok → Defines (case_checked asked r (listing_read files asked)) status.Ok pieces → Tells
+  of_model (Ok f) read valid d = of_steps f read (listing_read files asked f) refl valid d
+  of_model (Err refusal) read valid d = absurd (let bad : status.Ok ≡ status.Refused refusal = d.0 in cc)
+
+  pub of_check : IsValid (case_of words files) status.Ok → Defines (case_of words files) status.Ok pieces → Tells
+  of_check valid d =
       let P : Option Command → Type 0 = λ a. Defines (case_asked a (reads files) (listing_read files)) status.Ok pieces in
-      of_model (named asked.name (reads files)) refl (subst P wanted d)
+      let V : Option Command → Type 0 = λ a. IsValid (case_asked a (reads files) (listing_read files)) status.Ok in
+      of_model (named asked.name (reads files)) refl (subst V wanted valid) (subst P wanted d)
 
 -- a check comes to a refusal, or to steps that are checked
 pub checked_case : (P : Case → Type 0) → ((refusal : Refusal) → P (Refuses refusal)) → ((m : FlowModel) (s : ℕ) (steps : List ListedStep) → P (Checking m s steps)) → (asked : AskedCheck) (r : Result FlowModel Refusal) (listed : FlowModel → Result (List ListedStep) Refusal) → P (case_checked asked r listed)

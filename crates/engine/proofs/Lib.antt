@@ -6,3 +6,4 @@ pub mod Certifying
 pub mod Outcomes
 pub mod StoredSteps
 pub mod Written
+pub mod Numbers

@@ -34,9 +34,10 @@ use Rattle.engine.specs.Checked.{IsCheck}
 use Rattle.engine.specs.Defined.{CutOf, Defines, Due, defined, unread}
 use Rattle.engine.specs.Headline.{Headline}
 use Rattle.engine.specs.Made.{IsSummed, Made, made_task}
+use Rattle.engine.specs.OneListing.{OneListing, OneSummary, OneVerdict}
 use Rattle.engine.specs.Runs.{Decided, Comes, HasCertified, HasListing, HasTask, IsRunOf, IsUnfinished}
 use Rattle.engine.specs.Parts.{Answers, IsStopped, IsValid}
-use Rattle.engine.proofs.Certifying.{asks_check, certifies, checked_case, never_stopped_check, of_check, one_end}
+use Rattle.engine.proofs.Certifying.{asks_check, certifies, checked_case, never_stopped_check, not_stopped, of_check, one_end}
 use Rattle.engine.proofs.Readings.{named_read}
 
 -- the laws of listings and of verdicts
@@ -97,11 +98,6 @@ module _ (words : List Text) (files : List File) (k : Task) where
   listed : case_of words files ≡ Listing k → Listed words files k
   listed e = by_words (asked_in words) refl e
 
-not_stopped : IsStopped status.Ok → ⊥
-not_stopped (inl e) = let bad : status.Ok ≡ status.ReadFault = e in cc
-not_stopped (inr (inl e)) = let bad : status.Ok ≡ status.WriteFault = e in cc
-not_stopped (inr (inr e)) = let bad : status.Ok ≡ status.Memory = e in cc
-
 valid_ok : (k : Task) (end : Status) → IsValid (Listing k) end → end ≡ status.Ok → IsModel k.model
 valid_ok k end (inl model) e = model
 valid_ok k end (inr stopped) e = absurd (not_stopped (let P : Status → Type 0 = IsStopped in subst P e stopped))
@@ -154,49 +150,64 @@ module _ (seed size : ℕ) (k : Task) where
   listing_of status.Memory p (before, line, h, e) = (before ++ (line ∷ []), h)
   listing_of (status.NotCertified period step place) p (before, line, h, e) = (before ++ (line ∷ []), h)
 
+-- the headline of a listing, of a made model or of a check, and what is promised beside
+abbrev pub Both : List Text → List File → Seen → Seen → Type 0
+Both words files old new = (Headline words files old.written new.written × OneListing words files old.written new.written) ⊎ ((Made words old.written new.written × OneSummary words old.written new.written) ⊎ (Certified words files old.written new.written × OneVerdict words files))
+
 module _ (laws : Laws) where
-  of_listing : (words : List Text) (files : List File) (old new : Seen) (puts : List Put) (pieces : List Text) (k : Task) → Listed words files k → IsModel k.model → IsWhole k pieces → puts ≡ map taken pieces → PutsMake old puts new → Headline words files old.written new.written
+  of_listing : (words : List Text) (files : List File) (old new : Seen) (puts : List Put) (pieces : List Text) (k : Task) → Listed words files k → IsModel k.model → IsWhole k pieces → puts ≡ map taken pieces → PutsMake old puts new → Headline words files old.written new.written × OneListing words files old.written new.written
   of_listing words files old new puts pieces k l valid w written makes =
       let W : Task → Type 0 = λ j. IsWhole j pieces in
       by_task (subst W (sym l.task) w) (let M : Task → Type 0 = λ j. IsModel j.model in subst M (sym l.task) valid)
     where
-      by_task : IsWhole (task_of l.asked l.model) pieces → IsModel l.model → Headline words files old.written new.written
-      by_task v model = record {
-        asked = l.asked;
-        wanted = l.wanted;
-        model = l.model;
-        read = l.read;
-        values = v.values;
-        steps = v.steps;
-        only = λ others steps. laws.one (task_of l.asked l.model) v.values others model v.steps steps;
-        written = all_written (listing (task_of l.asked l.model) v.values end_line) old new puts (written ∙ ap (map taken) v.are) makes;
-        encloses = v.encloses;
-      }
+      by_task : IsWhole (task_of l.asked l.model) pieces → IsModel l.model → Headline words files old.written new.written × OneListing words files old.written new.written
+      by_task v model =
+          let all = all_written (listing (task_of l.asked l.model) v.values end_line) old new puts (written ∙ ap (map taken) v.are) makes in
+          (
+            record { asked = l.asked; wanted = l.wanted; model = l.model; read = l.read; valid = model; values = v.values; written = all; encloses = v.encloses },
+            record {
+              asked = l.asked;
+              wanted = l.wanted;
+              model = l.model;
+              read = l.read;
+              valid = model;
+              values = v.values;
+              steps = v.steps;
+              only = λ others steps. laws.one (task_of l.asked l.model) v.values others model v.steps steps;
+              encloses = v.encloses;
+              written = all;
+            },
+          )
 
   -- of a made model
-  of_summed : (words : List Text) (old new : Seen) (puts : List Put) (seed size : ℕ) (m : FlowModel) (pieces : List Text) → Summed words seed size (Ok m) → IsModel m → IsSummed seed size (made_task m) status.Ok pieces → puts ≡ map taken pieces → PutsMake old puts new → Made words old.written new.written
-  of_summed words old new puts seed size m pieces l model (s, h, e) written makes = record {
-    seed = seed;
-    size = size;
-    wanted = l.wanted;
-    model = m;
-    read = named_read made_name (reads (made_files seed size)) m l.is;
-    values = h.values;
-    steps = h.steps;
-    only = λ others steps. laws.one (made_task m) h.values others model h.steps steps;
-    written =
-        let P : List ℕ → Type 0 = λ t. Appends old.written new.written t in
-        let Q : Summary → Type 0 = λ x. Appends old.written new.written (summary_text seed size x) in
-        subst Q h.is (subst P (append-nil (summary_text seed size s)) (all_written (summary_text seed size s ∷ []) old new puts (written ∙ ap (map taken) e) makes));
-    encloses = h.encloses;
-  }
+  of_summed : (words : List Text) (old new : Seen) (puts : List Put) (seed size : ℕ) (m : FlowModel) (pieces : List Text) → Summed words seed size (Ok m) → IsModel m → IsSummed seed size (made_task m) status.Ok pieces → puts ≡ map taken pieces → PutsMake old puts new → Made words old.written new.written × OneSummary words old.written new.written
+  of_summed words old new puts seed size m pieces l model (s, h, e) written makes =
+      let P : List ℕ → Type 0 = λ t. Appends old.written new.written t in
+      let Q : Summary → Type 0 = λ x. Appends old.written new.written (summary_text seed size x) in
+      let all = subst Q h.is (subst P (append-nil (summary_text seed size s)) (all_written (summary_text seed size s ∷ []) old new puts (written ∙ ap (map taken) e) makes)) in
+      let read = named_read made_name (reads (made_files seed size)) m l.is in
+      (
+        record { seed = seed; size = size; wanted = l.wanted; model = m; read = read; valid = model; values = h.values; written = all; encloses = h.encloses },
+        record {
+          seed = seed;
+          size = size;
+          wanted = l.wanted;
+          model = m;
+          read = read;
+          valid = model;
+          values = h.values;
+          steps = h.steps;
+          only = λ others steps. laws.one (made_task m) h.values others model h.steps steps;
+          written = all;
+        },
+      )
 
-  summed_ok : (words : List Text) (old new : Seen) (puts : List Put) (end : Status) (seed size : ℕ) (read : Result FlowModel Refusal) → Summed words seed size read → IsValid (Making seed size read) end → end ≡ status.Ok → Delivers (Making seed size read) puts → PutsMake old puts new → Made words old.written new.written
+  summed_ok : (words : List Text) (old new : Seen) (puts : List Put) (end : Status) (seed size : ℕ) (read : Result FlowModel Refusal) → Summed words seed size read → IsValid (Making seed size read) end → end ≡ status.Ok → Delivers (Making seed size read) puts → PutsMake old puts new → Made words old.written new.written × OneSummary words old.written new.written
   summed_ok words old new puts end seed size (Err refusal) l valid e d makes = absurd (let bad : status.Ok ≡ status.Refused refusal = d.defines.0 in cc)
   summed_ok words old new puts end seed size (Ok m) l (inl model) e d makes = of_summed words old new puts seed size m d.pieces l model d.defines d.written makes
   summed_ok words old new puts end seed size (Ok m) l (inr stops) e d makes = absurd (not_stopped (let P : Status → Type 0 = IsStopped in subst P e stops))
 
-  by_case : (words : List Text) (files : List File) (old new : Seen) (puts : List Put) (end : Status) (case : Case) → case ≡ case_of words files → IsValid case end → end ≡ status.Ok → Delivers case puts → PutsMake old puts new → Headline words files old.written new.written ⊎ (Made words old.written new.written ⊎ Certified words files old.written new.written)
+  by_case : (words : List Text) (files : List File) (old new : Seen) (puts : List Put) (end : Status) (case : Case) → case ≡ case_of words files → IsValid case end → end ≡ status.Ok → Delivers case puts → PutsMake old puts new → Both words files old new
   by_case words files old new puts end NoWords is valid e d makes = absurd (let bad : status.Ok ≡ status.Usage = d.defines.0 in cc)
   by_case words files old new puts end (Refuses refusal) is valid e d makes = absurd (let bad : status.Ok ≡ status.Refused refusal = d.defines.0 in cc)
   by_case words files old new puts end (Listing k) is valid e d makes = inl (of_listing words files old new puts d.pieces k (listed words files k (sym is)) (valid_ok k end valid e) d.defines d.written makes)
@@ -204,29 +215,44 @@ module _ (laws : Laws) where
   by_case words files old new puts end (Checking m s steps) is valid e d makes =
       let a = asks_check words files m s steps (sym is) in
       let D : Case → Type 0 = λ case. Defines case status.Ok d.pieces in
-      inr (inr (of_check words files old new puts d.pieces a.0 a.1 d.written makes (subst D is d.defines)))
+      let V : Case → Type 0 = λ case. IsValid case status.Ok in
+      let E : Status → Type 0 = λ t. IsValid (Checking m s steps) t in
+      inr (inr (of_check words files old new puts d.pieces a.0 a.1 d.written makes (subst V is (subst E e valid)) (subst D is d.defines)))
 
-  pub headline : (words : List Text) (files : Option (List File)) (n m : ℕ) (end : Status) (puts : List Put) (old new : Seen) → Answers words files n m end puts → PutsMake old puts new → end ≡ status.Ok → IfSome files (λ fs. Headline words fs old.written new.written ⊎ (Made words old.written new.written ⊎ Certified words fs old.written new.written))
-  headline words (Some fs) n m end puts old new a makes e = by_case words fs old new puts end a.case a.is a.valid e (delivers (Rose n m) a.case end puts a.run e) makes
-  headline words None n m end puts old new a makes e = tt
+  pub both : (words : List Text) (files : Option (List File)) (n m : ℕ) (end : Status) (puts : List Put) (old new : Seen) → Answers words files n m end puts → PutsMake old puts new → end ≡ status.Ok → IfSome files (λ fs. Both words fs old new)
+  both words (Some fs) n m end puts old new a makes e = by_case words fs old new puts end a.case a.is a.valid e (delivers (Rose n m) a.case end puts a.run e) makes
+  both words None n m end puts old new a makes e = tt
 
   made_of : (words : List Text) (files : Option (List File)) (seed size : ℕ) (case : Case) → asked_in words ≡ Some (Make seed size) → IsCase words files case → case ≡ Making seed size (made_model seed size)
   made_of words (Some fs) seed size case wanted is = let P : Option Command → Type 0 = λ a. case ≡ case_asked a (reads fs) (listing_read fs) in subst P wanted is
   made_of words None seed size case wanted (read, listed, valid, is) = let P : Option Command → Type 0 = λ a. case ≡ case_asked a (λ name. read) (λ asked m. named asked.listing (λ name. listed)) in subst P wanted is
 
-  pub made : (words : List Text) (files : Option (List File)) (n m : ℕ) (end : Status) (puts : List Put) (old new : Seen) → Answers words files n m end puts → PutsMake old puts new → end ≡ status.Ok → (seed size : ℕ) → asked_in words ≡ Some (Make seed size) → Made words old.written new.written
+  pub made : (words : List Text) (files : Option (List File)) (n m : ℕ) (end : Status) (puts : List Put) (old new : Seen) → Answers words files n m end puts → PutsMake old puts new → end ≡ status.Ok → (seed size : ℕ) → asked_in words ≡ Some (Make seed size) → Made words old.written new.written × OneSummary words old.written new.written
   made words files n m end puts old new a makes e seed size wanted =
       let same = made_of words files seed size a.case wanted a.is in
       let V : Case → Type 0 = λ case. IsValid case end in
       let D : Case → Type 0 = λ case. Delivers case puts in
       summed_ok words old new puts end seed size (made_model seed size) (record { wanted = wanted; is = refl }) (subst V same a.valid) e (subst D same (delivers (Rose n m) a.case end puts a.run e)) makes
 
+-- what both say of the enclosure, and what beside
+pub first_of : {A B C D E F : Type 0} → (A × B) ⊎ ((C × D) ⊎ (E × F)) → A ⊎ (C ⊎ E)
+first_of (inl p) = inl p.0
+first_of (inr (inl p)) = inr (inl p.0)
+first_of (inr (inr p)) = inr (inr p.0)
+
+pub second_of : {A B C D E F : Type 0} → (A × B) ⊎ ((C × D) ⊎ (E × F)) → B ⊎ (D ⊎ F)
+second_of (inl p) = inl p.1
+second_of (inr (inl p)) = inr (inl p.1)
+second_of (inr (inr p)) = inr (inr p.1)
+
 -- of a check
-pub certified : (words : List Text) (files : Option (List File)) (n m : ℕ) (end : Status) (puts : List Put) (old new : Seen) → Answers words files n m end puts → PutsMake old puts new → end ≡ status.Ok → (asked : AskedCheck) → asked_in words ≡ Some (Check asked) → IfSome files (λ fs. Certified words fs old.written new.written)
+pub certified : (words : List Text) (files : Option (List File)) (n m : ℕ) (end : Status) (puts : List Put) (old new : Seen) → Answers words files n m end puts → PutsMake old puts new → end ≡ status.Ok → (asked : AskedCheck) → asked_in words ≡ Some (Check asked) → IfSome files (λ fs. Certified words fs old.written new.written × OneVerdict words fs)
 certified words (Some fs) n m end puts old new a makes e asked wanted =
     let d = delivers (Rose n m) a.case end puts a.run e in
     let D : Case → Type 0 = λ case. Defines case status.Ok d.pieces in
-    of_check words fs old new puts d.pieces asked wanted d.written makes (subst D a.is d.defines)
+    let V : Case → Type 0 = λ case. IsValid case status.Ok in
+    let E : Status → Type 0 = λ t. IsValid a.case t in
+    of_check words fs old new puts d.pieces asked wanted d.written makes (subst V a.is (subst E e a.valid)) (subst D a.is d.defines)
 certified words None n m end puts old new a makes e asked wanted = tt
 
 due_read : (read_failed : Type 0) (case : Case) (end : Status) (pieces : List Text) → Due read_failed case end pieces → end ≡ status.ReadFault → read_failed

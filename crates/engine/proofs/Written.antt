@@ -14,16 +14,17 @@ use Rattle.command_line.specs.Wants.{Wanted, Lists, Checks, Makes, Batches, want
 use Rattle.command_line.proofs.DigitLemmas.{check_digits}
 use Rattle.listing_io.specs.declared.listing.ListedStep.{ListedStep}
 use Rattle.listing_io.specs.Reading.{all_lines, listing_at, or_bad_listing}
-use Rattle.run_puts.specs.Lines.{Text}
+use Rattle.run_puts.specs.Lines.{Text, end_line}
 use Rattle.run_puts.specs.declared.status.Status.TheVariants as status
 use Rattle.listing_run.specs.declared.task.Task.{Task}
-use Rattle.listing_run.specs.Listing.{IsWhole}
+use Rattle.listing_run.specs.Listing.{IsWhole, listing}
 use Rattle.check_run.specs.Runs.{IsReadable, RunIsCertified, RunIsReadAgain, as_listed}
 use Rattle.check_run.proofs.RunEnclosed.{run_encloses}
-use Rattle.engine.specs.Cases.{AskedCheck, Case, Check, Command, Checking, asked_in, built, case_asked, case_checked, case_listed, case_of, listing_read, steps_in}
+use Rattle.engine.specs.Cases.{AskedCheck, Case, Check, Command, Checking, asked_in, built, case_asked, case_checked, case_listed, case_of, listing_read, steps_in, task_of}
 use Rattle.engine.specs.Checked.{IsCertified, certified_line}
 use Rattle.engine.specs.Defined.{Defines}
-use Rattle.engine.specs.Written.{ChecksWritten, WrittenIsCertified}
+use Rattle.engine.specs.OneListing.{OneListing}
+use Rattle.engine.specs.Written.{ChecksWritten, OneListingIsCertified, WrittenIsCertified}
 use Rattle.engine.proofs.Readings.{named_read}
 
 clash : {B E : Type 0} (e : E) (y : B) (r : Result B E) → r ≡ Err e → r ≡ Ok y → ⊥
@@ -88,3 +89,11 @@ module _ (certified : RunIsCertified) (again : RunIsReadAgain) (k : Task) (piece
 
 pub written_is_certified : RunIsCertified → RunIsReadAgain → WrittenIsCertified
 written_is_certified certified again k pieces words files model whole h = is_certified certified again k pieces words files model whole h
+
+pub one_listing_is_certified : WrittenIsCertified → OneListingIsCertified
+one_listing_is_certified written words files bytes h checks others check =
+    let k = task_of h.asked h.model in
+    let pieces = listing k h.values end_line in
+    let whole : IsWhole k pieces = record { values = h.values; steps = h.steps; encloses = h.encloses; are = refl } in
+    let C : List ℕ → Type 0 = λ bs. ChecksWritten checks others k bs in
+    written k pieces checks others h.valid whole (subst C h.written check)

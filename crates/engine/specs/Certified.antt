@@ -5,27 +5,27 @@ use Rattle.outside.specs.Files.{File}
 use Rattle.model_types.specs.declared.model.FlowModel.{FlowModel}
 use Rattle.model_types.specs.Heads.{start_head}
 use Rattle.model_types.specs.Times.{times}
+use Rattle.model_types.specs.Valid.{IsModel}
 use Rattle.model_reader.specs.Model.{reads}
 use Rattle.flow_equations.specs.Histories.{Solves}
 use Rattle.listing_io.specs.declared.listing.ListedStep.{ListedStep}
 use Rattle.run_puts.specs.Lines.{Text}
 use Rattle.listing_run.specs.Bounding.{BoundAll}
-use Rattle.check_run.specs.declared.verdict.Verdict.TheVariants.{Certified as Holds}
-use Rattle.check_run.specs.Verdicts.{IsVerdict, checked_task, steps_of}
+use Rattle.check_run.specs.Verdicts.{checked_task, steps_of}
 use Rattle.engine.specs.Cases.{AskedCheck, Check, asked_in, listing_read}
 use Rattle.engine.specs.Checked.{certified_line}
 
--- A check with these words over these files that ended Ok, where a sink had the bytes `old` before it and `new` after it: the files have a listing, whoever wrote it, and every history of heads that solves the manual's exact equations of the files lies, step by step and cell by cell, between its heads, with each of its budget flows between its terms.
+-- A check with these words over these files that ended Ok, where a sink had the bytes `old` before it and `new` after it: the files have a listing, whoever wrote it, and every history of heads that solves the manual's exact equations of the files lies, step by step and cell by cell, between its heads, with each of its budget flows between its terms. How it was judged stands in `OneVerdict`.
 pub record Certified (words : List Text) (files : List File) (old new : Option (List ℕ)) : Type 0 where
-  -- The words ask for a check, the files read as a model, and the named file as a listing of it.
+  -- The words ask for a check, the files read as a model, which is valid, and the named file as a listing of it.
   pub asked : AskedCheck
   pub wanted : asked_in words ≡ Some (Check asked)
   pub model : FlowModel
   pub read : reads files asked.name ≡ Ok model
+  pub valid : IsModel model
   pub steps : List ListedStep
   pub listed : listing_read files asked model ≡ Ok steps
-  -- Its verdict is that it is certified, and the line CERTIFIED was appended, and nothing else.
-  pub verdict : IsVerdict model asked.digits steps Holds
+  -- The line CERTIFIED was appended, and nothing else.
   pub written : Appends old new certified_line
   -- Every history over any denominator d that solves the model's exact equations lies within what it lists.
   pub encloses : (d : ℕ) (history : List (ℕ → ℤ)) → Solves model d history → BoundAll (checked_task model asked.digits) d (start_head model) (steps_of (times model) steps) history

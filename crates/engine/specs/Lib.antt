@@ -2,6 +2,7 @@ pub mod Headline
 pub mod Certified
 pub mod Cases
 pub mod Made
+pub mod OneListing
 pub mod Checked
 pub mod Commands
 pub mod Defined
@@ -9,3 +10,4 @@ pub mod Runs
 pub mod Storage
 pub mod Parts
 pub mod Written
+pub mod Serving

@@ -4,6 +4,7 @@ use Rattle.std.specs.Io.KnownBytes.{Appends}
 use Rattle.outside.specs.declared.refusals.Refusal.{Refusal}
 use Rattle.model_types.specs.declared.model.FlowModel.{FlowModel}
 use Rattle.model_types.specs.Heads.{start_head}
+use Rattle.model_types.specs.Valid.{IsModel}
 use Rattle.model_maker.specs.Files.{made_files, made_name}
 use Rattle.model_reader.specs.Model.{reads}
 use Rattle.flow_equations.specs.Histories.{Solves}
@@ -13,7 +14,6 @@ use Rattle.run_puts.specs.declared.status.Status.{Status}
 use Rattle.run_puts.specs.declared.status.Status.TheVariants as status
 use Rattle.listing_run.specs.declared.task.Task.{Task}
 use Rattle.listing_run.specs.declared.step.Step.{Step}
-use Rattle.listing_run.specs.Steps.{Whole, AllSteps}
 use Rattle.listing_run.specs.Bounding.{BoundAll}
 use Rattle.listing_run.specs.Listing.{IsListing}
 use Rattle.listing_summary.specs.declared.summary.Summary.{Summary}
@@ -36,19 +36,17 @@ abbrev pub IsMade : ℕ → ℕ → Result FlowModel Refusal → Status → List
 IsMade seed size (Err refusal) end pieces = (end ≡ status.Refused refusal) × (pieces ≡ refused_line refusal ∷ [])
 IsMade seed size (Ok m) end pieces = IsSummed seed size (made_task m) end pieces
 
--- A run with these words that ended Ok, where a sink had the bytes `old` before it and `new` after it, has written the summary of the one listing that the made files define; and every history of heads that solves the manual's exact equations of these files lies between the heads and the terms of that listing.
+-- A run with these words that ended Ok, where a sink had the bytes `old` before it and `new` after it, has written the summary of a listing of the model that the made files read as; and every history of heads that solves the manual's exact equations of these files lies between the heads and the terms of that listing. That it is the one listing which the made files define stands in `OneSummary`.
 pub record Made (words : List Text) (old new : Option (List ℕ)) : Type 0 where
-  -- The words ask for a made model, and its files read as a model.
+  -- The words ask for a made model, and its files read as a model, which is valid.
   pub seed : ℕ
   pub size : ℕ
   pub wanted : asked_in words ≡ Some (Make seed size)
   pub model : FlowModel
   pub read : reads (made_files seed size) made_name ≡ Ok model
-  -- All its time steps have values, which are heads and budgets, and no others.
+  pub valid : IsModel model
+  -- The summary of the listing of some values, which are the heads and the budget of each step, was appended, and nothing else.
   pub values : List Step
-  pub steps : AllSteps (made_task model) values Whole
-  pub only : (others : List Step) → AllSteps (made_task model) others Whole → others ≡ values
-  -- The summary of their listing was appended, and nothing else.
   pub written : Appends old new (summary_text seed size (summary_of model values))
   -- Every history over any denominator d that solves the model's exact equations lies between them.
   pub encloses : (d : ℕ) (history : List (ℕ → ℤ)) → Solves model d history → BoundAll (made_task model) d (start_head model) values history

@@ -8,9 +8,10 @@ use Rattle.model_reader.specs.Model.{reads}
 use Rattle.run_puts.specs.Lines.{Text}
 use Rattle.run_puts.specs.declared.status.Status.TheVariants as status
 use Rattle.listing_run.specs.declared.task.Task.{Task}
-use Rattle.engine.specs.Cases.{AskedCheck, Check, Listing, asked_in, case_of, named}
+use Rattle.engine.specs.Cases.{AskedCheck, Check, Listing, asked_in, case_of, named, task_of}
 use Rattle.engine.specs.Checked.{certified_line}
 use Rattle.engine.specs.Defined.{Defines}
+use Rattle.engine.specs.OneListing.{OneListing}
 
 -- These words ask for the check of a file that has these bytes, at most a file's limit, as a listing with the task's digits, where the files read as the task's model.
 pub record ChecksWritten (words : List Text) (files : List File) (k : Task) (bytes : List ℕ) : Type 0 where
@@ -23,3 +24,7 @@ pub record ChecksWritten (words : List Text) (files : List File) (k : Task) (byt
 -- What a run writes that ends Ok is certified, where its model is valid: a check of it ends Ok, with the line CERTIFIED.
 abbrev pub WrittenIsCertified : Type 0
 WrittenIsCertified = (k : Task) (pieces words : List Text) (files : List File) → IsModel k.model → Defines (Listing k) status.Ok pieces → ChecksWritten words files k (concat pieces) → Defines (case_of words files) status.Ok (certified_line ∷ [])
+
+-- The bytes that a run appended to nothing are certified by any check of them, at the same digits, of the same model.
+abbrev pub OneListingIsCertified : Type 0
+OneListingIsCertified = (words : List Text) (files : List File) (bytes : List ℕ) (h : OneListing words files (Some []) (Some bytes)) (checks : List Text) (others : List File) → ChecksWritten checks others (task_of h.asked h.model) bytes → Defines (case_of checks others) status.Ok (certified_line ∷ [])

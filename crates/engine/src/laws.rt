@@ -1,5 +1,5 @@
 // Laws of what is defined. Each is the contract of an empty function, but for the laws below that it calls.
-ghost use Rattle.engine.specs.Written.{WrittenIsCertified};
+ghost use Rattle.engine.specs.Written.{OneListingIsCertified, WrittenIsCertified};
 ghost use Rattle.engine.specs.Storage.{StorageHolds};
 
 use check_run::laws::{run_is_certified, run_is_read_again};
@@ -16,4 +16,11 @@ pub fn written_is_certified()
 {
     run_is_certified();
     run_is_read_again();
+}
+
+/// What a run is promised to have written, `check` certifies.
+pub fn one_listing_is_certified()
+    ensures { OneListingIsCertified }
+{
+    written_is_certified();
 }

@@ -9,6 +9,8 @@ mod listing;
 mod making;
 mod reading;
 mod running;
+mod serving;
 
 pub use run_puts::Status;
 pub use running::run;
+pub use serving::serve;

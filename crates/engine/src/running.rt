@@ -11,6 +11,7 @@ ghost use Rattle.engine.specs.Cases.{asked_in, task_of, AskedCheck, Check, Make,
 ghost use Rattle.engine.specs.Commands.{asked_of, IsAsked};
 ghost use Rattle.engine.specs.Made.{Made};
 ghost use Rattle.engine.specs.Certified.{Certified};
+ghost use Rattle.engine.specs.OneListing.{OneListing, OneSummary, OneVerdict};
 ghost use Rattle.engine.specs.Parts.{Answers};
 
 use crate::asked::{Asked, Command, command_of};
@@ -56,11 +57,20 @@ pub fn run<R: Threads + Sync, F: Folder, K: Sink + Send, W: Sink + Send, G: Gate
     // Files that agree with all that the folder has answered agreed with it before.
     ensures since { (files : List File) → F.agrees folder.new files → F.agrees folder.old files }
 
+    // Some files agree with all that the folder has answered.
+    ensures told { (files : List File) × F.agrees folder.new files }
+
     // The headline: of a listing, of the listing that a made model's summary sums up, or of one that was checked.
     ensures headline { result ≡ Status.Ok → (files : List File) → F.agrees folder.new files →
         Headline (map (λ w. w.now) words.now) files (K.seen out.old).written (K.seen out.new).written
         ⊎ (Made (map (λ w. w.now) words.now) (K.seen out.old).written (K.seen out.new).written
         ⊎ Certified (map (λ w. w.now) words.now) files (K.seen out.old).written (K.seen out.new).written) }
+
+    // And it is the one listing that the files define, or each step of the one that was checked is certified.
+    ensures one { result ≡ Status.Ok → (files : List File) → F.agrees folder.new files →
+        OneListing (map (λ w. w.now) words.now) files (K.seen out.old).written (K.seen out.new).written
+        ⊎ (OneSummary (map (λ w. w.now) words.now) (K.seen out.old).written (K.seen out.new).written
+        ⊎ OneVerdict (map (λ w. w.now) words.now) files) }
 
     // Of a made model it holds whatever the folder is.
     ensures made { result ≡ Status.Ok → (seed size : ℕ) → asked_in (map (λ w. w.now) words.now) ≡ Some (Make seed size) →

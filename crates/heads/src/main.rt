@@ -4,7 +4,7 @@
 ghost use Rattle.std.specs.Prelude.{◌≡◌, map, IfOk};
 ghost use Rattle.std.specs.String.{string_bytes};
 
-use engine::run;
+use engine::serve;
 use outside::{FreeGate, RealFolder, RealSink};
 use std::alloc::{AllocError, Global};
 use std::env;
@@ -46,7 +46,7 @@ fn main(rt: HostRuntime) -> ExitCode {
     let mut folder = RealFolder::new(&rt, alloc);
     let mut out = RealSink::new(rt.stdout());
     let mut side = RealSink::new(rt.stderr());
-    let status = run(
+    serve(
         &rt,
         alloc,
         texts.as_slice(),
@@ -54,6 +54,5 @@ fn main(rt: HostRuntime) -> ExitCode {
         &mut out,
         &mut side,
         &FreeGate,
-    );
-    ExitCode::from(status.code())
+    )
 }

@@ -4,7 +4,6 @@ use Rattle.std.proofs.lemmas.Bool.{and_parts, not-true, lt-leb, lt-ltb}
 use Rattle.std.proofs.lemmas.Int.{ints}
 use Rattle.decimal_input.specs.declared.dec.Dec.{Dec}
 use Rattle.decimal_input.specs.Canonical.{IsDec, number}
-use Rattle.decimal_input.specs.contracts.dec.DecPartialEq.TheImpl as dec_eq
 use Rattle.outside.specs.Files.{File}
 use Rattle.outside.specs.Inputs.{file_at}
 use Rattle.outside.specs.Refusals.{input_fault}
@@ -23,7 +22,7 @@ use Rattle.lpf_package.specs.Flow.{is_transient, lpf_of, with_properties, SameBu
 use Rattle.lpf_package.specs.Forms.{HasProperties}
 use Rattle.lpf_package.specs.declared.layer.Properties as layer
 use Rattle.number_limits.specs.Room.{is_thick}
-use Rattle.number_limits.specs.Signs.{is_positive}
+use Rattle.number_limits.specs.Signs.{is_positive, is_same_number}
 use Rattle.number_limits.proofs.Canonical.{dec_at_is}
 use Rattle.number_limits.proofs.HeadLemmas.{head_of}
 use Rattle.number_limits.proofs.RoomLemmas.{thick_sound}
@@ -79,8 +78,8 @@ cell m h c lt active =
 all_but_last : (a b c d : Bool) → a ≡ true → b ≡ true → c ≡ true → d ≡ false → (a && (b && (c && not d))) ≡ true
 all_but_last a b c d p q r s = rw (p, q, r, s) refl
 
-checked_bed : (m : FlowModel) (c : ℕ) → c + layer_size m.grid < cell_count m.grid → is_active m (c + layer_size m.grid) ≡ true → has_bed m c ≡ true → dec_eq.ghosts.eq (bottom_at m c) (lowest m c) ≡ false → is_checked_bed m c ≡ true
-checked_bed m c lt active bed differ = all_but_last (has_bed m c) (nat_lt (c + layer_size m.grid) (cell_count m.grid)) (is_active m (c + layer_size m.grid)) (dec_eq.ghosts.eq (bottom_at m c) (lowest m c)) bed (lt-ltb (c + layer_size m.grid) (cell_count m.grid) lt) active differ
+checked_bed : (m : FlowModel) (c : ℕ) → c + layer_size m.grid < cell_count m.grid → is_active m (c + layer_size m.grid) ≡ true → has_bed m c ≡ true → is_same_number (bottom_at m c) (lowest m c) ≡ false → is_checked_bed m c ≡ true
+checked_bed m c lt active bed differ = all_but_last (has_bed m c) (nat_lt (c + layer_size m.grid) (cell_count m.grid)) (is_active m (c + layer_size m.grid)) (is_same_number (bottom_at m c) (lowest m c)) bed (lt-ltb (c + layer_size m.grid) (cell_count m.grid) lt) active differ
 
 good_bed : (m : FlowModel) → IsPassed m → (c : ℕ) → c < cell_count m.grid → is_active m c ≡ true → is_checked_bed m c ≡ true → IsBedValid m c
 good_bed m h c lt active bed =
@@ -94,13 +93,13 @@ good_bed m h c lt active bed =
       vkcb = positive_of (dec_at m.vkcb c) (dec_at_is m.vkcb c h.properties.vkcb.1) (second (is_checked_bed m c) (is_positive (dec_at m.vkcb c)) ss.1 bed);
     }
 
-one_number : (a b : Dec) → dec_eq.ghosts.eq a b ≡ true → number b ≡ number a
+one_number : (a b : Dec) → is_same_number a b ≡ true → number b ≡ number a
 one_number a b e = sym (ap number (one_dec a b e))
 
 bed_of : (m : FlowModel) → IsPassed m → (c : ℕ) → c + layer_size m.grid < cell_count m.grid → is_active m c ≡ true → is_active m (c + layer_size m.grid) ≡ true → has_bed m c ≡ true → IsBedChecked m c
-bed_of m h c lt active below bed = by_case (dec_eq.ghosts.eq (bottom_at m c) (lowest m c)) refl
+bed_of m h c lt active below bed = by_case (is_same_number (bottom_at m c) (lowest m c)) refl
   where
-    by_case : (b : Bool) → dec_eq.ghosts.eq (bottom_at m c) (lowest m c) ≡ b → IsBedChecked m c
+    by_case : (b : Bool) → is_same_number (bottom_at m c) (lowest m c) ≡ b → IsBedChecked m c
     by_case true e = inl (one_number (bottom_at m c) (lowest m c) e)
     by_case false e = inr (good_bed m h c (omega (arith, lt)) active (checked_bed m c lt below bed e))
 

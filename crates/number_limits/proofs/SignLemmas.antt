@@ -9,10 +9,9 @@ use Rattle.std.proofs.lemmas.Bool.{and_parts, not-true, ltb-true, eqb-true}
 use Rattle.std.proofs.lemmas.List.Sums.{AllPass-from_list_all, list_all-from_AllPass}
 use Rattle.decimal_input.specs.declared.dec.Dec.{Dec}
 use Rattle.decimal_input.specs.Canonical.{IsDec}
-use Rattle.decimal_input.specs.contracts.dec.DecPartialEq.TheImpl as dec_eq
 use Rattle.model_types.specs.Numbers.{IsPositive}
 use Rattle.model_types.specs.Valid.{number_one}
-use Rattle.number_limits.specs.Signs.{is_positive, is_one}
+use Rattle.number_limits.specs.Signs.{is_positive, is_one, is_same_number}
 
 pub positive_of : (d : Dec) → IsDec d → is_positive d ≡ true → IsPositive d
 positive_of d dec e =
@@ -56,8 +55,8 @@ same_parts a b e f g =
     let same : record { digits = a.digits; exp = a.exp; neg = a.neg } ≡ record { digits = b.digits; exp = b.exp; neg = b.neg } = rw (e, f, g) refl in
     same
 
--- what the derived test of numbers tells
-pub one_dec : (a b : Dec) → dec_eq.ghosts.eq a b ≡ true → a ≡ b
+-- what the test of two numbers tells
+pub one_dec : (a b : Dec) → is_same_number a b ≡ true → a ≡ b
 one_dec a b e =
     let p = and_parts (a.digits == b.digits) (int_eq a.exp b.exp && beq a.neg b.neg) e in
     let q = and_parts (int_eq a.exp b.exp) (beq a.neg b.neg) p.1 in

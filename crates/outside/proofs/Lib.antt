@@ -2,3 +2,5 @@ pub mod Putting
 pub mod Writing
 pub mod GoodNames
 pub mod NameTests
+mod Made
+pub mod Answered

@@ -2,7 +2,6 @@
 use Rattle.std.specs.Prelude.{◌≡◌, ℕ, List, length, nat_le, cond, None, Some, Option, Ok, Err, Result}
 use Rattle.outside.specs.Files.{File, bytes_under}
 use Rattle.outside.specs.Names.{folder_name}
-use Rattle.outside.specs.declared.inputs.TheConstants.{FILE_LIMIT}
 use Rattle.outside.specs.declared.codes.Code.{Code}
 use Rattle.outside.specs.declared.codes.Code.TheVariants.{MissingFile, TooLong}
 use Rattle.outside.specs.declared.refusals.Refusal.{Refusal}
@@ -13,10 +12,14 @@ use Rattle.outside.specs.declared.refusals.InputFault.TheVariants.{Refused, Read
 abbrev pub file_refusal : Code → List ℕ → Refusal
 file_refusal code name = record { code = code; file = name; line = 0; at = None }
 
+-- how many bytes a file may have: 64 MiB
+abbrev pub file_limit : ℕ
+file_limit = 67108864
+
 -- a file's bytes, where it is there and not too long
 abbrev pub bytes_or_refusal : List ℕ → Option (List ℕ) → Result (List ℕ) Refusal
 bytes_or_refusal name None = Err (file_refusal MissingFile name)
-bytes_or_refusal name (Some bytes) = cond (nat_le (length bytes) FILE_LIMIT) (Ok bytes) (Err (file_refusal TooLong name))
+bytes_or_refusal name (Some bytes) = cond (nat_le (length bytes) file_limit) (Ok bytes) (Err (file_refusal TooLong name))
 
 -- the bytes of a named file, or its refusal
 abbrev pub file_at : List File → List ℕ → Result (List ℕ) Refusal

@@ -1,5 +1,6 @@
 pub mod Files
 pub mod Readings
+pub mod Told
 pub mod Counts
 pub mod Puts
 pub mod Memory

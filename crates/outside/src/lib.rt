@@ -2,6 +2,7 @@
 // turn; and what it says of an input that it refuses.
 #![tactic(auto)]
 
+mod accepted;
 mod codes;
 mod inputs;
 mod memory;

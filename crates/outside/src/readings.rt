@@ -1,7 +1,7 @@
 // What was read of the system, kept so that a file is read once.
-ghost use Rattle.std.specs.Prelude.{◌≡◌, ℕ, List, true, IfOk, IfSome};
-ghost use Rattle.outside.specs.Files.{File, IsFound, IsWithin};
-ghost use Rattle.outside.specs.Readings.{Read, AgreeWith, AreWithin};
+ghost use Rattle.std.specs.Prelude.{◌≡◌, ℕ, List, option_map, IfOk, IfSome, Option};
+ghost use Rattle.outside.specs.Files.{IsWithin};
+ghost use Rattle.outside.specs.Readings.{Read, IsAsFound, reading_of};
 
 use crate::traits::Found;
 use std::alloc::{AllocError, Global};
@@ -22,21 +22,39 @@ impl Model for Reading {
 }
 
 impl Reading {
-    fn is_of(&self, name: &str, limit: u64) -> bool
-        ensures { result ≡ true → (self.now.name ≡ name.now) × (self.now.limit ≡ limit) }
+    /// What it found, under a limit of its own. A file that was too long for a smaller limit has no answer under a larger
+    /// one, since it isn't read twice.
+    pub(crate) fn answer(&self, alloc: Global, limit: u64) -> Result<Option<Found>, AllocError>
+        ensures found { IfOk result (λ answer. IfSome answer (λ found. (under : Option (List ℕ)) → IsAsFound under self.now.limit self.now.found → IsAsFound under limit found)) }
+        ensures within { IfOk result (λ answer. IfSome answer (IsWithin limit)) }
     {
-        self.limit == limit && self.name.as_slice() == name.as_bytes()
+        Ok(match &self.found {
+            Found::Bytes(bytes) => {
+                if bytes.len() as u64 <= limit {
+                    Some(Found::Bytes(Vec::from_slice(alloc, bytes.as_slice())?))
+                } else {
+                    Some(Found::TooLong)
+                }
+            }
+            Found::Missing => Some(Found::Missing),
+            Found::TooLong => {
+                if limit <= self.limit {
+                    Some(Found::TooLong)
+                } else {
+                    None
+                }
+            }
+        })
     }
 }
 
-/// What an earlier reading with this name and limit found.
-pub(crate) fn found_before<'a>(readings: &'a [Reading], name: &str, limit: u64) -> Option<&'a Found>
-    ensures agrees { (files : List File) → AgreeWith readings.now files → IfSome result (λ found. IsFound files name.now limit found.now) }
-    ensures within { AreWithin readings.now → IfSome result (λ found. IsWithin limit found.now) }
+/// The reading of a name.
+pub(crate) fn reading_of<'a>(readings: &'a [Reading], name: &str) -> Option<&'a Reading>
+    ensures { option_map (λ r. r.now) result ≡ reading_of name.now readings.now }
 {
     for reading in readings {
-        if reading.is_of(name, limit) {
-            return Some(&reading.found);
+        if name.as_bytes() == reading.name.as_slice() {
+            return Some(reading);
         }
     }
     None
@@ -44,8 +62,8 @@ pub(crate) fn found_before<'a>(readings: &'a [Reading], name: &str, limit: u64) 
 
 /// The same once more.
 pub(crate) fn copied(alloc: Global, found: &Found) -> Result<Found, AllocError>
-    ensures agrees { (files : List File) (name : List ℕ) (limit : ℕ) → IsFound files name limit found.now → IfOk result (IsFound files name limit) }
-    ensures within { (limit : ℕ) → IsWithin limit found.now → IfOk result (IsWithin limit) }
+    ensures found { IfOk result (λ copy. (under : Option (List ℕ)) (limit : ℕ) → IsAsFound under limit found.now → IsAsFound under limit copy) }
+    ensures within { IfOk result (λ copy. (limit : ℕ) → IsWithin limit found.now → IsWithin limit copy) }
 {
     Ok(match found {
         Found::Bytes(bytes) => Found::Bytes(Vec::from_slice(alloc, bytes.as_slice())?),

@@ -1,8 +1,9 @@
-ghost use Rattle.std.specs.Prelude.{◌≡◌, ℕ, ◌<◌, ◌≤◌, List, length, take, refl, IfOk, IfSome, IfNone};
+ghost use Rattle.std.specs.Prelude.{◌≡◌, ℕ, ◌<◌, ◌≤◌, List, [], length, take, refl, IfOk, IfSome, IfNone, Some};
 ghost use Rattle.std.specs.Io.KnownBytes.{Appends, Keeps};
 ghost use Rattle.outside.specs.Files.{IsWhole};
 ghost use Rattle.outside.specs.Puts.{Put, PutsMake, Seen};
 
+use crate::accepted::Accepted;
 use crate::traits::{FolderError, Found, Sink, SinkError};
 use std::alloc::Global;
 use std::io::{Read, Write};
@@ -29,24 +30,33 @@ pub fn read_whole<S: Read>(alloc: Global, from: &mut S, limit: u64) -> Result<Fo
     Ok(Found::TooLong)
 }
 
-/// A writer as a sink. It tells the bytes that the writer tells, and counts the writes that failed.
+/// A writer as a sink. It tells the bytes that the writer has accepted since the sink was made, whatever the writer itself
+/// tells, and counts the writes that failed. Where the writer tells its bytes, they grew by just those.
 #[derive(Drop)]
 pub struct RealSink<W: Write + Drop> {
     to: W,
+    accepted: Accepted<W>,
     faults: u64,
 }
 
 impl<W: Write + Drop> Model for RealSink<W> {
     ghost Value = { Seen };
 
-    ghost view = { λ s. record { written = W.contents s.to; faults = s.faults } };
+    ghost view = { λ s. record { written = Some s.accepted.bytes; faults = s.faults } };
+
+    ghost invariant = { λ s. Appends (W.contents s.accepted.first) (W.contents s.to) s.accepted.bytes };
 }
 
 impl<W: Write + Drop> RealSink<W> {
     pub fn new(to: W) -> RealSink<W>
-        ensures { result ≡ record { written = W.contents to; faults = 0 } }
+        ensures { result ≡ record { written = Some []; faults = 0 } }
     {
-        RealSink { to, faults: 0 }
+        let accepted = Accepted::nothing(&to);
+        RealSink {
+            to,
+            accepted,
+            faults: 0,
+        }
     }
 }
 
@@ -75,8 +85,12 @@ impl<W: Write + Drop> Sink for RealSink<W> {
     fn put(&mut self, piece: &[u8]) -> Result<(), SinkError> {
         let mut at = 0;
         while at < piece.len() {
-            match write_part(&mut self.to, &piece[at..]) {
-                Some(n) => at += n,
+            let rest = &piece[at..];
+            match write_part(&mut self.to, rest) {
+                Some(n) => {
+                    self.accepted = self.accepted.and(&rest[..n]);
+                    at += n;
+                }
                 None => {
                     self.faults = self.faults.saturating_add(1);
                     return Err(SinkError::Write);

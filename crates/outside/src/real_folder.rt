@@ -2,9 +2,10 @@
 ghost use Rattle.std.specs.Prelude.{◌≡◌, [], List, IfOk};
 ghost use Rattle.outside.specs.Counts.{ReadCounts};
 ghost use Rattle.outside.specs.Files.{File, IsFound, IsWithin};
-ghost use Rattle.outside.specs.Readings.{ReadState, AgreeWith, AreWithin};
+ghost use Rattle.outside.specs.Readings.{ReadState, AgreeWith};
+ghost use Rattle.outside.specs.Told.{told};
 
-use crate::readings::{Reading, copied, found_before};
+use crate::readings::{Reading, copied, reading_of};
 use crate::real::read_whole;
 use crate::traits::{Folder, FolderError, Found};
 use std::alloc::Global;
@@ -13,8 +14,9 @@ use std::io::ErrorKind;
 use std::marker::Model;
 use std::rt::Files;
 
-/// The files of the system, each of which is read once and kept: what was asked for before is answered as it was. Files
-/// agree with the folder that are under each name what was found there. It counts the reads that failed.
+/// The files of the system. What a name was found to be is kept, and a name that was asked for before isn't read again, so
+/// that some files agree with all that the folder has answered: those that are under each name what was found there. It
+/// counts the reads that failed.
 #[derive(Drop)]
 pub struct RealFolder<'a, R: Files> {
     rt: &'a R,
@@ -26,8 +28,6 @@ impl<'a, R: Files> Model for RealFolder<'a, R> {
     ghost Value = { ReadState };
 
     ghost view = { λ folder. record { readings = folder.readings.items; faults = folder.faults } };
-
-    ghost invariant = { λ folder. AreWithin folder.readings.items };
 }
 
 impl<'a, R: Files> RealFolder<'a, R> {
@@ -77,8 +77,14 @@ impl<'a, R: Files> Folder for RealFolder<'a, R> {
         // What it gives is not too long, whichever files agree.
         ensures within { IfOk result (λ found. IsWithin limit found) }
     {
-        if let Some(found) = found_before(self.readings.as_slice(), name, limit) {
-            return Ok(copied(alloc, found)?);
+        if let Some(reading) = reading_of(self.readings.as_slice(), name) {
+            return match reading.answer(alloc, limit)? {
+                Some(found) => Ok(found),
+                None => {
+                    self.faults = self.faults.saturating_add(1);
+                    Err(FolderError::Read)
+                }
+            };
         }
         let found = self.find(alloc, name, limit)?;
         let answer = copied(alloc, &found)?;
@@ -86,4 +92,6 @@ impl<'a, R: Files> Folder for RealFolder<'a, R> {
         self.readings.insert(0, Reading { name, limit, found })?;
         Ok(answer)
     }
+
+    ghost told = { λ folder. told folder.readings };
 }

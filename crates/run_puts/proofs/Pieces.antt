@@ -49,7 +49,7 @@ module _ (Due : Status → List Text → Type 0) (Cut : List Text → Type 0) wh
     pub all : pieces ≡ before ++ (pending ∷ [])
     pub written : puts ≡ map taken before
 
-  pub stopped : (end : Status) (before after : List Text) (tail : List Put) → Begins Due Cut (before ++ after) → IsTail after end tail → IsRun Due Cut end (map taken before ++ tail)
+  pub stopped : (end : Status) (before after : List Text) (tail : List Put) → Begins Due Cut before after → IsTail after end tail → IsRun Due Cut end (map taken before ++ tail)
   stopped end before after tail b t = early end before after tail b t
 
   -- memory was wanting before the first piece
@@ -62,7 +62,7 @@ module _ (Due : Status → List Text → Type 0) (Cut : List Text → Type 0) wh
       let P : Status → Type 0 = λ s. IsRun Due Cut s tail in
       let Q : List Put → Type 0 = IsRun Due Cut meant in
       subst P (sym e) (subst Q (sym t) (whole meant (line ∷ []) due))
-  lone line meant end tail due (inl (inr t)) = early end [] (line ∷ []) tail (all_due meant (line ∷ []) due) t
+  lone line meant end tail due (inl (inr t)) = early end [] (line ∷ []) tail (all_due meant [] line [] due) t
   lone line meant end tail due (inr w) = lacks_at_first end tail w
 
   both : (pieces : List Text) (pending : Text) (puts tail : List Put) (i : IsAt pieces pending puts) → tail ≡ taken pending ∷ [] → puts ++ tail ≡ map taken (i.before ++ (pending ∷ []))
@@ -79,23 +79,21 @@ module _ (Due : Status → List Text → Type 0) (Cut : List Text → Type 0) wh
   -- the piece was not taken
   pub stops_at : (pieces : List Text) (pending : Text) (puts tail : List Put) (end : Status) → IsAt pieces pending puts → Cut pieces → ((after : List Text) → IsTail (pending ∷ after) end tail) → IsRun Due Cut end (puts ++ tail)
   stops_at pieces pending puts tail end i c h =
-      let P : List Text → Type 0 = Begins Due Cut in
-      rw i.written (early end i.before (pending ∷ []) tail (subst P i.all (cut pieces c)) (h []))
+      rw i.written (early end i.before (pending ∷ []) tail (cut i.before (pending ∷ []) (subst Cut i.all c)) (h []))
 
   -- the piece was not taken, where all pieces are due
   pub stops_due : (pieces : List Text) (pending : Text) (after : List Text) (puts tail : List Put) (meant end : Status) → IsAt pieces pending puts → Due meant (pieces ++ after) → ((more : List Text) → IsTail (pending ∷ more) end tail) → IsRun Due Cut end (puts ++ tail)
   stops_due pieces pending after puts tail meant end i due h =
       let D : List Text → Type 0 = Due meant in
       let all : pieces ++ after ≡ i.before ++ (pending ∷ after) = ap (λ ts. ts ++ after) i.all ∙ append_assoc i.before (pending ∷ []) after in
-      rw i.written (early end i.before (pending ∷ after) tail (all_due meant (i.before ++ (pending ∷ after)) (subst D all due)) (h after))
+      rw i.written (early end i.before (pending ∷ after) tail (all_due meant i.before pending after (subst D all due)) (h after))
 
   -- the piece was taken, and then memory was wanting
   pub lacks_after : (pieces : List Text) (pending : Text) (puts tail last : List Put) (end : Status) → IsAt pieces pending puts → Cut pieces → tail ≡ taken pending ∷ [] → IsWanting end last → IsRun Due Cut end (puts ++ tail ++ last)
   lacks_after pieces pending puts tail last end i c e (answer, s, t) =
-      let P : List Text → Type 0 = Begins Due Cut in
       rw (s, t, both pieces pending puts tail i e)
       (early (status_after answer) (i.before ++ (pending ∷ [])) [] (memory_put answer ∷ [])
-      (subst P (i.all ∙ sym (append-nil (i.before ++ (pending ∷ [])))) (cut pieces c)) (wanting [] answer))
+      (cut (i.before ++ (pending ∷ [])) [] (subst Cut (i.all ∙ sym (append-nil (i.before ++ (pending ∷ [])))) c)) (wanting [] answer))
 
   -- the piece was taken, and then the last line put
   pub ends : (pieces : List Text) (pending line : Text) (meant end : Status) (puts tail last : List Put) → IsAt pieces pending puts → tail ≡ taken pending ∷ [] → Due meant (pieces ++ (line ∷ [])) → IsLast line meant end last → IsRun Due Cut end (puts ++ tail ++ last)
@@ -109,18 +107,18 @@ module _ (Due : Status → List Text → Type 0) (Cut : List Text → Type 0) wh
       let D : List Text → Type 0 = Due meant in
       let same = ap (λ ts. ts ++ (line ∷ [])) i.all in
       rw (both pieces pending puts tail i e)
-      (early end (i.before ++ (pending ∷ [])) (line ∷ []) last (all_due meant (i.before ++ (pending ∷ []) ++ (line ∷ [])) (subst D same due)) t)
+      (early end (i.before ++ (pending ∷ [])) (line ∷ []) last (all_due meant (i.before ++ (pending ∷ [])) line [] (subst D same due)) t)
 
   pub ends_or_lacks : (pieces : List Text) (pending line : Text) (meant end : Status) (puts tail last : List Put) → IsAt pieces pending puts → Cut pieces → tail ≡ taken pending ∷ [] → Due meant (pieces ++ (line ∷ [])) → IsEnd line meant end last → IsRun Due Cut end (puts ++ tail ++ last)
   ends_or_lacks pieces pending line meant end puts tail last i c e due (inl h) = ends pieces pending line meant end puts tail last i e due h
   ends_or_lacks pieces pending line meant end puts tail last i c e due (inr h) = lacks_after pieces pending puts tail last end i c e h
 
 -- a run of pieces that are due by one account is one by another that takes them
-begins_weaker : (Due Other : Status → List Text → Type 0) (Cut : List Text → Type 0) → ((end : Status) (pieces : List Text) → Due end pieces → Other end pieces) → (pieces : List Text) → Begins Due Cut pieces → Begins Other Cut pieces
-begins_weaker Due Other Cut takes pieces nothing = nothing
-begins_weaker Due Other Cut takes pieces (all_due end all due) = all_due end all (takes end all due)
-begins_weaker Due Other Cut takes pieces (cut all c) = cut all c
+begins_weaker : (Due Other : Status → List Text → Type 0) (Cut : List Text → Type 0) → ((end : Status) (pieces : List Text) → Due end pieces → Other end pieces) → (before after : List Text) → Begins Due Cut before after → Begins Other Cut before after
+begins_weaker Due Other Cut takes before after nothing = nothing
+begins_weaker Due Other Cut takes before after (all_due end some next more due) = all_due end some next more (takes end (some ++ (next ∷ more)) due)
+begins_weaker Due Other Cut takes before after (cut some more c) = cut some more c
 
 pub weaker : (Due Other : Status → List Text → Type 0) (Cut : List Text → Type 0) → ((end : Status) (pieces : List Text) → Due end pieces → Other end pieces) → (end : Status) (puts : List Put) → IsRun Due Cut end puts → IsRun Other Cut end puts
 weaker Due Other Cut takes end puts (whole meant pieces due) = whole meant pieces (takes meant pieces due)
-weaker Due Other Cut takes end puts (early meant before after tail b t) = early meant before after tail (begins_weaker Due Other Cut takes (before ++ after) b) t
+weaker Due Other Cut takes end puts (early meant before after tail b t) = early meant before after tail (begins_weaker Due Other Cut takes before after b) t

@@ -1,0 +1,16 @@
+use Rattle.std.proofs.Common.{◌≡◌, sym, ◌∙◌}
+use Rattle.std.specs.Process.{exit_status}
+use Rattle.run_puts.specs.Statuses.{code_of}
+use Rattle.engine.proofs.Numbers.{ok_from_zero}
+use Rattle.engine.proofs.serving.serve.Goals as goal
+
+pub returns-clause-serves : goal.returns-clause-serves
+returns-clause-serves g c =
+    let is : exit_status c.from.result ≡ code_of c.run-status.result = c.from.ensures ∙ c.code.ensures in
+    record {
+      end = c.run-status.result;
+      number_is = is;
+      puts = c.run-status.ensures.puts;
+      some = c.run-status.ensures.told;
+      headline = λ zero files agree. c.run-status.ensures.headline (ok_from_zero c.run-status.result (sym is ∙ zero)) files agree;
+    }

@@ -1,0 +1,28 @@
+// A program's run, and the number that it ends with.
+ghost use Rattle.std.specs.Prelude.{List, [], map};
+ghost use Rattle.std.specs.Process.{exit_status};
+ghost use Rattle.outside.specs.Puts.{Put};
+ghost use Rattle.engine.specs.Serving.{Serves};
+
+use crate::running::run;
+use outside::{Folder, Gate, Sink};
+use std::alloc::Global;
+use std::process::ExitCode;
+use std::thread::Threads;
+
+/// Does what the words ask, as `run` does, and ends with the number of its status: where that is 0, the headline holds.
+pub fn serve<R: Threads + Sync, F: Folder, K: Sink + Send, W: Sink + Send, G: Gate + Sync>(
+    rt: &R,
+    alloc: Global,
+    words: &[&str],
+    folder: &mut F,
+    out: &mut K,
+    side: &mut W,
+    gate: &G,
+) -> ExitCode
+    ensures serves { Serves (λ puts. K.leads out.old puts out.new) (F.agrees folder.new) (map (λ w. w.now) words.now) (F.faults folder.old) (F.faults folder.new) (K.seen out.old) (K.seen out.new) (exit_status result) }
+    ensures side { W.leads side.old [] side.new }
+{
+    let status = run(rt, alloc, words, folder, out, side, gate);
+    ExitCode::from(status.code())
+}
