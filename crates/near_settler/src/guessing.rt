@@ -40,5 +40,13 @@ pub(crate) fn settle_by_guess(
     };
     let mut trial = ListedSettler::new(guess.order, SWEEPS);
     let mut no_rounds = PlainSettler::new(0);
-    settle_near(&mut trial, &mut no_rounds, alloc, p, b, guess.bounds, TRIALS)
+    settle_near(
+        &mut trial,
+        &mut no_rounds,
+        alloc,
+        p,
+        b,
+        guess.bounds,
+        TRIALS,
+    )
 }
