@@ -51,9 +51,7 @@ impl Onlooker {
 
     /// Whether all heads that it saw lie around these bounds.
     pub fn saw_around(&self, bounds: &[Bound]) -> bool {
-        self.tightest
-            .iter()
-            .zip(bounds.iter())
-            .all(|(seen, bound)| seen.low <= bound.low && bound.high <= seen.high)
+        self.tightest.iter().zip(bounds.iter()).all(|(seen, bound)| seen.low <= bound.low
+            && bound.high <= seen.high)
     }
 }

@@ -7,9 +7,8 @@ use crate::watched::Views;
 use outside::{FreeGate, MemSink, SinkError};
 use settle_driver::{Plan, WatchSettler};
 use std::alloc::{AllocError, Global};
-use std::io;
-use std::str;
 use std::thread::Threads;
+use std::{io, str};
 use step_problem::{Barrier, Bound, Problem};
 use view_puts::{SinkViewer, ViewText};
 
@@ -50,7 +49,12 @@ pub fn print_pieces<R: Print + Threads + Sync>(
     let mut sink = MemSink::new(alloc);
     sink.fail_at(u64::from(views.limit), 2)?;
     let mut viewer = SinkViewer::new(alloc, &mut sink, SameText);
-    let answer = WatchSettler::new(rt, plan, &FreeGate, views.each_phase).settle(alloc, p, b, &mut viewer);
+    let answer = WatchSettler::new(rt, plan, &FreeGate, views.each_phase).settle(
+        alloc,
+        p,
+        b,
+        &mut viewer,
+    );
     let stop = viewer.stop();
     print_answer(rt, &answer)?;
     print_stop(rt, stop)?;

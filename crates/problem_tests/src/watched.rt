@@ -63,7 +63,13 @@ pub fn print_watched<R: Print + Threads + Sync>(
     let mut onlooker = Onlooker::new(alloc, p.len(), views.limit)?;
     let each = views.each_phase;
     let answer = match question {
-        Question::WatchedRun => NearSettler::new(rt, plan, &FreeGate).settle_watched(alloc, p, b, each, &mut onlooker),
+        Question::WatchedRun => NearSettler::new(rt, plan, &FreeGate).settle_watched(
+            alloc,
+            p,
+            b,
+            each,
+            &mut onlooker,
+        ),
         _ => WatchSettler::new(rt, plan, &FreeGate, each).settle(alloc, p, b, &mut onlooker),
     };
     print_answer(rt, &answer)?;

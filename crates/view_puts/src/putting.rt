@@ -7,7 +7,10 @@ use outside::{Sink, SinkError};
 use std::alloc::AllocError;
 
 /// Puts a text, where there was memory for it, and gives why viewing stops.
-pub(crate) fn put_text<W: Sink>(sink: &mut W, text: Result<Vec<u8>, AllocError>) -> Option<SinkError>
+pub(crate) fn put_text<W: Sink>(
+    sink: &mut W,
+    text: Result<Vec<u8>, AllocError>,
+) -> Option<SinkError>
     ensures { (start : _) (puts : List Put) → W.leads start puts sink.old →
         (tail : List Put) × W.leads start (puts ++ tail) sink.new × IsPutOf text result tail }
 {
