@@ -1,9 +1,10 @@
 // A deck, and what runs over its files put.
 use crate::deck::Deck;
-use engine::run;
+use engine::serve;
 use outside::{FreeGate, MemSink};
 use std::alloc::{AllocError, Global};
 use std::io;
+use std::process::ExitCode;
 use std::thread::Threads;
 
 /// The files of a deck, the sink of the next run, and what the last run put.
@@ -23,6 +24,16 @@ pub fn words_of(alloc: Global, line: &str) -> Result<Vec<&str>, AllocError> {
     Ok(words)
 }
 
+// The number of an exit status of the program.
+fn number_of(code: ExitCode) -> u8 {
+    for number in 0..9u8 {
+        if ExitCode::from(number) == code {
+            return number;
+        }
+    }
+    u8::MAX
+}
+
 impl Bench {
     pub fn new(alloc: Global) -> Bench {
         Bench {
@@ -37,11 +48,12 @@ impl Bench {
         self.deck.folder.add(name, self.put.as_slice())
     }
 
-    /// Runs the words over the files, and answers the status. What is put to the side stands behind the rest.
+    /// Runs the words over the files as the program does, and returns the number that it ends with. What is put to the side
+    /// stands after the rest.
     pub fn run<R: Threads + Sync>(&mut self, rt: &R, alloc: Global, words: &str) -> io::Result<u8> {
         let words = words_of(alloc, words)?;
         let mut side = MemSink::new(alloc);
-        let status = run(
+        let code = serve(
             rt,
             alloc,
             words.as_slice(),
@@ -53,7 +65,7 @@ impl Bench {
         self.put = Vec::from_slice(alloc, self.out.bytes())?;
         self.put.extend_from_slice(side.bytes())?;
         self.out = MemSink::new(alloc);
-        Ok(status.code())
+        Ok(number_of(code))
     }
 
     pub fn put(&self) -> &[u8] {

@@ -36,8 +36,7 @@ module _ (words : List Text) (files : List File) (old new : Seen) (puts : List P
 
   tells : (f : FlowModel) (steps : List ListedStep) → IsModel f → named asked.name (reads files) ≡ Ok f → listing_read files asked f ≡ Ok steps → Defines (Checking f asked.digits steps) status.Ok pieces → Tells
   tells f steps model read listed d =
-      let is = named_read asked.name (reads files) f read in
-      (
+      let is = named_read asked.name (reads files) f read in (
         record {
           asked = asked;
           wanted = wanted;

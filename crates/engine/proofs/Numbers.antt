@@ -1,5 +1,5 @@
 -- The number of a status is 0 at Ok alone.
-use Rattle.std.proofs.Common.{◌≡◌, ℕ, refl}
+use Rattle.std.proofs.Common.{◌≡◌, refl}
 use Rattle.run_puts.specs.Statuses.{code_of}
 use Rattle.run_puts.specs.declared.status.Status.{Status}
 use Rattle.run_puts.specs.declared.status.Status.TheVariants as status

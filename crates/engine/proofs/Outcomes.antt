@@ -162,8 +162,7 @@ module _ (laws : Laws) where
     where
       by_task : IsWhole (task_of l.asked l.model) pieces → IsModel l.model → Headline words files old.written new.written × OneListing words files old.written new.written
       by_task v model =
-          let all = all_written (listing (task_of l.asked l.model) v.values end_line) old new puts (written ∙ ap (map taken) v.are) makes in
-          (
+          let all = all_written (listing (task_of l.asked l.model) v.values end_line) old new puts (written ∙ ap (map taken) v.are) makes in (
             record { asked = l.asked; wanted = l.wanted; model = l.model; read = l.read; valid = model; values = v.values; written = all; encloses = v.encloses },
             record {
               asked = l.asked;
@@ -185,8 +184,7 @@ module _ (laws : Laws) where
       let P : List ℕ → Type 0 = λ t. Appends old.written new.written t in
       let Q : Summary → Type 0 = λ x. Appends old.written new.written (summary_text seed size x) in
       let all = subst Q h.is (subst P (append-nil (summary_text seed size s)) (all_written (summary_text seed size s ∷ []) old new puts (written ∙ ap (map taken) e) makes)) in
-      let read = named_read made_name (reads (made_files seed size)) m l.is in
-      (
+      let read = named_read made_name (reads (made_files seed size)) m l.is in (
         record { seed = seed; size = size; wanted = l.wanted; model = m; read = read; valid = model; values = h.values; written = all; encloses = h.encloses },
         record {
           seed = seed;

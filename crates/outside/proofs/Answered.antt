@@ -1,5 +1,5 @@
 -- What a folder answers, by the readings that it keeps.
-use Rattle.std.proofs.Common.{◌≡◌, ℕ, Bool, true, false, List, [], ◌∷◌, cond, Option, Some, None, IfSome, refl, sym, subst, ◌∙◌, option_map, bytes_eq}
+use Rattle.std.proofs.Common.{◌≡◌, ℕ, Bool, true, false, List, ◌∷◌, cond, Option, Some, None, IfSome, refl, sym, subst, bytes_eq}
 use Rattle.std.proofs.lemmas.Slice.Eq.{bytes_eq-Decides}
 use Rattle.outside.specs.Files.{File, IsFound, IsWithin, bytes_under}
 use Rattle.outside.specs.Readings.{Read, IsAsFound, AgreeWith, reading_of}

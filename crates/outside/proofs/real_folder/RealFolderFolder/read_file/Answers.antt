@@ -1,4 +1,4 @@
-use Rattle.std.proofs.Common.{rules, ◌≡◌, sym, ◌∙◌, ap, subst, ℕ, List, ◌∷◌, Option, Some, None}
+use Rattle.std.proofs.Common.{rules, ◌≡◌, subst, List, ◌∷◌, Some}
 use Rattle.outside.specs.Files.{File}
 use Rattle.outside.specs.Readings.{Read, AgreeWith, reading_of}
 use Rattle.outside.proofs.Answered.{is_found, by_reading, by_latest, earlier}
