@@ -36,6 +36,8 @@ module _ (words : List Text) (files : List File) (old new : Seen) (puts : List P
     verdict = d.verdict;
     written = all_written (certified_line ∷ []) old new puts (written ∙ ap (map taken) d.are) makes;
     encloses = d.encloses;
+    solvable = d.history.solvable;
+    one = d.history.one;
   }
   of_steps f read (Err refusal) listed d = absurd (let bad : status.Ok ≡ status.Refused refusal = d.0 in cc)
 

@@ -27,6 +27,7 @@ use Rattle.listing_run.specs.Listing.{listing, time, IsListing, IsWhole}
 use Rattle.listing_run.specs.Laws.{ListingIsOne, ListingExcludesRefusal, SettledListingIsClosed, RefusalIsOne}
 use Rattle.listing_summary.specs.declared.summary.Summary.{Summary}
 use Rattle.listing_summary.specs.Texts.{summary_text}
+use Rattle.exact_histories.proofs.WholeRuns.{history_exists, history_is_one}
 use Rattle.check_run.specs.Laws.{VerdictIsOne}
 use Rattle.engine.specs.Cases.{Asked, AskedCheck, Case, Command, Run, Make, Check, NoWords, Refuses, Listing, Making, Checking, IsCase, asked_in, case_asked, case_of, case_read, listing_read, made_model, named, task_of}
 use Rattle.engine.specs.Certified.{Certified}
@@ -171,6 +172,8 @@ module _ (laws : Laws) where
         only = λ others steps. laws.one (task_of l.asked l.model) v.values others model v.steps steps;
         written = all_written (listing (task_of l.asked l.model) v.values end_line) old new puts (written ∙ ap (map taken) v.are) makes;
         encloses = v.encloses;
+        solvable = history_exists (task_of l.asked l.model) v.values model v.steps;
+        one = history_is_one (task_of l.asked l.model) v.values model v.steps;
       }
 
   -- of a made model
@@ -189,6 +192,8 @@ module _ (laws : Laws) where
         let Q : Summary → Type 0 = λ x. Appends old.written new.written (summary_text seed size x) in
         subst Q h.is (subst P (append-nil (summary_text seed size s)) (all_written (summary_text seed size s ∷ []) old new puts (written ∙ ap (map taken) e) makes));
     encloses = h.encloses;
+    solvable = history_exists (made_task m) h.values model h.steps;
+    one = history_is_one (made_task m) h.values model h.steps;
   }
 
   summed_ok : (words : List Text) (old new : Seen) (puts : List Put) (end : Status) (seed size : ℕ) (read : Result FlowModel Refusal) → Summed words seed size read → IsValid (Making seed size read) end → end ≡ status.Ok → Delivers (Making seed size read) puts → PutsMake old puts new → Made words old.written new.written
