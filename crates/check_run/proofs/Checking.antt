@@ -1,6 +1,7 @@
 -- A check, step by step.
-use Rattle.std.proofs.Common.{◌≡◌, ℕ, suc, List, [], ◌∷◌, ◌++◌, ◌+◌, ◌<◌, ◌≤◌, subst, sym, ap, refl, arith, ◌∙◌, inl, inr, drop, length, get_or, ℤ, Result, Ok, Err, IfOk}
+use Rattle.std.proofs.Common.{All, Contains, ◌≡◌, ℕ, suc, List, [], ◌∷◌, ◌++◌, ◌+◌, ◌<◌, ◌≤◌, subst, sym, ap, refl, arith, ◌∙◌, inl, inr, drop, length, get_or, ℤ, Result, Ok, Err, IfOk}
 use Rattle.std.specs.Prelude.{IfErr}
+use Rattle.std.proofs.lemmas.List.Elements.{All-head, All-tail, All-contains_itself}
 use Rattle.std.proofs.lemmas.List.{append_assoc, drop_more, drop_all}
 use Rattle.step_problem.specs.declared.heads.Bound.{Bound}
 use Rattle.budget_bounds.specs.declared.pair.Budget.{Budget}
@@ -8,7 +9,9 @@ use Rattle.model_types.specs.declared.model.FlowModel.{FlowModel}
 use Rattle.model_types.specs.declared.time_steps.TimeStep.{TimeStep}
 use Rattle.model_types.specs.Heads.{start_head}
 use Rattle.model_types.specs.Times.{times}
-use Rattle.flow_equations.specs.Histories.{Solves}
+use Rattle.decimal_input.specs.Fractions.{Fraction}
+use Rattle.model_types.specs.Valid.{IsModel}
+use Rattle.flow_equations.specs.Histories.{heads_of, Solves, SolvesAt}
 use Rattle.problem_builder.specs.GridHeads.{AreGridHeads, HeadsEnclose}
 use Rattle.problem_builder.specs.StartHeads.{AreStartHeads}
 use Rattle.listing_io.specs.declared.listing.ListedStep.{ListedStep}
@@ -23,6 +26,11 @@ use Rattle.check_run.specs.declared.verdict.Verdict.TheVariants.{Certified, Fail
 use Rattle.check_run.specs.Parts.{FailsBy, IsVerdictAt, heads_before}
 use Rattle.check_run.specs.Steps.{Passes}
 use Rattle.check_run.specs.Verdicts.{Checks, StopsAt, IsVerdict, ListingEncloses, checked_task, step_of, steps_of}
+use Rattle.exact_histories.specs.Histories.{HasOneHistory, AreSameHeads}
+use Rattle.exact_histories.proofs.JoinedSteps.{GoOn, history_of_steps}
+use Rattle.exact_histories.proofs.SettledSteps.{lies_encloses}
+use Rattle.exact_histories.proofs.Turns.{AreOne, go_on_more, nothing_more as none_left}
+use Rattle.exact_histories.proofs.Turns.{one_more as one_turn_more}
 use Rattle.check_run.proofs.Listed.{grid_of}
 
 -- what holds of the heads before a step and of the step, as they were lent
@@ -41,6 +49,10 @@ module _ (m : FlowModel) (s : ℕ) (all : List ListedStep) where
     pub values : List Step
     pub same : values ++ steps_of rest steps ≡ steps_of (times m) all
     pub encloses : (d : ℕ) (Xs : List (ℕ → ℤ)) → Solves m d Xs → HasCome (checked_task m s) old rest values d Xs
+    -- the times left are times of the model; where they can be solved in turn from exact heads within the last ones, all times can; and so for their histories being the same
+    pub left : All (Contains (times m)) rest
+    pub solvable : ((before : ℕ → Fraction) → HeadsEnclose m old before → GoOn m rest before) → GoOn m (times m) (start_head m)
+    pub one : ((before other : ℕ → Fraction) → HeadsEnclose m old before → AreSameHeads m other before → AreOne m rest before other) → AreOne m (times m) (start_head m) (start_head m)
 
   pub at_first : (start : List Bound) → AreStartHeads m start → AreGridHeads m start → HeadsEnclose m start (start_head m) → IsSoFar start (times m) all
   at_first start is grid encloses = record {
@@ -49,15 +61,25 @@ module _ (m : FlowModel) (s : ℕ) (all : List ListedStep) where
     values = [];
     same = refl;
     encloses = λ d Xs h. record { before = start_head m; last = Xs; within = encloses; solves = h.steps; goes_on = λ more w. w };
+    left = All-contains_itself (times m);
+    solvable = λ others. others (start_head m) encloses;
+    one = λ others. others (start_head m) (start_head m) encloses (λ c a. record { same = refl });
   }
 
-  pub one_more : (old : List Bound) (at : TimeStep) (rest : List TimeStep) (w : ListedStep) (steps : List ListedStep) → IsSoFar old (at ∷ rest) (w ∷ steps) → AreGridHeads m w.heads → Passes m s at old w → BoundsMoves (checked_task m s) at old (step_of at w) → IsSoFar w.heads rest steps
-  one_more old at rest w steps f grid passes moves = record {
+  -- a solution of a step that bounds them all lies within its heads
+  lands : (at : TimeStep) (old : List Bound) (w : ListedStep) → BoundsMoves (checked_task m s) at old (step_of at w) → (before : ℕ → Fraction) (d : ℕ) (X : ℕ → ℤ) → HeadsEnclose m old before → 0 < d → SolvesAt m at before d X → HeadsEnclose m w.heads (heads_of d X)
+  lands at old w moves before d X olds some solves = lies_encloses m w.heads d X some (moves before d X (record { within = olds; some = some; solves = solves })).heads
+
+  pub one_more : (old : List Bound) (at : TimeStep) (rest : List TimeStep) (w : ListedStep) (steps : List ListedStep) → IsSoFar old (at ∷ rest) (w ∷ steps) → AreGridHeads m w.heads → IsModel m → Passes m s at old w → BoundsMoves (checked_task m s) at old (step_of at w) → IsSoFar w.heads rest steps
+  one_more old at rest w steps f grid valid passes moves = record {
     grid = grid;
     goes_on = λ end h. f.goes_on end (inl (passes, h));
     values = f.values ++ (step_of at w ∷ []);
     same = append_assoc f.values (step_of at w ∷ []) (steps_of rest steps) ∙ f.same;
     encloses = λ d Xs h. let e = f.encloses d Xs h in one_move (checked_task m s) old at rest f.values (step_of at w) w.heads d Xs h.some refl moves e.before e.last e.within e.solves e.goes_on;
+    left = All-tail (Contains (times m)) at rest f.left;
+    solvable = λ others. f.solvable (go_on_more m s at old passes.problem passes.barrier valid (All-head (Contains (times m)) at rest f.left) f.grid passes.heads.posed w.heads (lands at old w moves) rest others);
+    one = λ others. f.one (one_turn_more m s at old passes.problem passes.barrier valid (All-head (Contains (times m)) at rest f.left) f.grid passes.heads.posed w.heads (lands at old w moves) rest others);
   }
 
   -- the step at hand stands first among the rest
@@ -91,6 +113,15 @@ module _ (m : FlowModel) (s : ℕ) (all : List ListedStep) where
   pub ends_enclosed : (old : List Bound) (i : ℕ) (items : List TimeStep) → items ≡ times m → AreListed m all → length items ≤ i → IsSoFar old (drop i (times m)) (drop i all) → ListingEncloses m s all
   ends_enclosed old i items is listed above f = enclosed old (at_end old i items is listed above f)
 
+  pub ends_history : (old : List Bound) (i : ℕ) (items : List TimeStep) → items ≡ times m → AreListed m all → length items ≤ i → IsSoFar old (drop i (times m)) (drop i all) → HasOneHistory m
+  ends_history old i items is listed above f =
+      let end = at_end old i items is listed above f in
+      let (d, Xs, some, solves) = history_of_steps m (times m) (start_head m) (end.solvable (λ before olds. tt)) in
+      record {
+        solvable = (d, Xs, record { some = some; steps = solves });
+        one = λ d e history other first second. end.one (λ before other olds same. none_left m before other) d e history other first.some second.some first.steps second.steps;
+      }
+
   stops_by : (at : TimeStep) (old : List Bound) (w : ListedStep) (f : Fault) (v : Verdict) → FailsBy m s at old w f → IsVerdictAt at f v → StopsAt m s at old w v
   stops_by at old w (fault.Fails place) v h is = let P : Verdict → Type 0 = StopsAt m s at old w in subst P (sym is) (refl, h)
   stops_by at old w (fault.Refused n) v h is = let P : Verdict → Type 0 = StopsAt m s at old w in subst P (sym is) (refl, h)
@@ -112,15 +143,15 @@ module _ (m : FlowModel) (s : ℕ) (all : List ListedStep) where
         ends_by (heads_before start all i) (get_or items i d) (drop (i + 1) (times m)) (step_in all i) (drop (i + 1) all) fault v (at_step (heads_before start all i) i items d is listed below f)
         (here P old (heads_before start all i) heads budget (step_in all i) old_is heads_are budget_is (subst D digits h)) verdict
 
-    pub goes_here : Passes m n (get_or items i d) old (record { heads = heads; budget = budget }) → BoundsMoves (checked_task m n) (get_or items i d) old (step_of (get_or items i d) (record { heads = heads; budget = budget })) →
+    pub goes_here : IsModel m → Passes m n (get_or items i d) old (record { heads = heads; budget = budget }) → BoundsMoves (checked_task m n) (get_or items i d) old (step_of (get_or items i d) (record { heads = heads; budget = budget })) →
         IsSoFar (heads_before start all (i + 1)) (drop (i + 1) (times m)) (drop (i + 1) all)
-    goes_here passes moves =
+    goes_here valid passes moves =
         let D : ℕ → Type 0 = λ k. Passes m k (get_or items i d) old (record { heads = heads; budget = budget }) × BoundsMoves (checked_task m k) (get_or items i d) old (step_of (get_or items i d) (record { heads = heads; budget = budget })) in
         let P : List Bound → ListedStep → Type 0 = λ o w. Passes m s (get_or items i d) o w × BoundsMoves (checked_task m s) (get_or items i d) o (step_of (get_or items i d) w) in
         let h = here P old (heads_before start all i) heads budget (step_in all i) old_is heads_are budget_is (subst D digits (passes, moves)) in
         let Q : ℕ → Type 0 = λ k. IsSoFar (heads_before start all k) (drop (i + 1) (times m)) (drop (i + 1) all) in
         let next : suc i ≡ i + 1 = omega arith in
-        subst Q next (one_more (heads_before start all i) (get_or items i d) (drop (i + 1) (times m)) (step_in all i) (drop (i + 1) all) (at_step (heads_before start all i) i items d is listed below f) (grid_of m (step_in all i) listed_at) h.0 h.1)
+        subst Q next (one_more (heads_before start all i) (get_or items i d) (drop (i + 1) (times m)) (step_in all i) (drop (i + 1) all) (at_step (heads_before start all i) i items d is listed below f) (grid_of m (step_in all i) listed_at) valid h.0 h.1)
 
 -- a fault makes no verdict that all is certified
 pub not_certified : (at : TimeStep) (f : Fault) (v : Verdict) → IsVerdictAt at f v → v ≡ Certified → ⊥

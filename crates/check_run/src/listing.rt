@@ -2,6 +2,7 @@
 ghost use Rattle.std.specs.Prelude.{◌≡◌, ◌≤◌, length, IfOk};
 ghost use Rattle.model_types.specs.Valid.{IsModel};
 ghost use Rattle.listing_io.specs.Listed.{AreListed};
+ghost use Rattle.exact_histories.specs.Histories.{HasOneHistory};
 ghost use Rattle.step_chain.specs.Keeps.{AreRunTables, digits_of};
 ghost use Rattle.check_run.specs.declared.verdict.Verdict.TheVariants.{Certified};
 ghost use Rattle.check_run.specs.Parts.{heads_before, IsVerdictAt};
@@ -54,6 +55,7 @@ fn check_steps(
     ensures verdict { IfOk result (IsVerdict model.now (digits_of tables.old) listing.now) }
     ensures only { IfOk result (λ v. (other : Verdict) → IsVerdict model.now (digits_of tables.old) listing.now other → other ≡ v) }
     ensures encloses { IfOk result (λ v. v ≡ Certified → ListingEncloses model.now (digits_of tables.old) listing.now) }
+    ensures history { IfOk result (λ v. v ≡ Certified → HasOneHistory model.now) }
 {
     one_verdict();
     let start = start_heads(alloc, model)?;
@@ -86,6 +88,8 @@ pub fn check_listing(
     ensures only { IfOk result (λ v. (other : Verdict) → IsVerdict model.now s listing.now other → other ≡ v) }
     // Where it is certified, every history that solves the model lies within it, whoever wrote it.
     ensures encloses { IfOk result (λ v. v ≡ Certified → ListingEncloses model.now s listing.now) }
+    // And there is exactly one such history.
+    ensures history { IfOk result (λ v. v ≡ Certified → HasOneHistory model.now) }
 {
     match RunTables::new(alloc, model, s) {
         Ok(mut tables) => check_steps(alloc, model, &mut tables, listing),

@@ -47,6 +47,8 @@ module _ (words : List Text) (files : List File) (old new : Seen) (puts : List P
           listed = listed;
           written = all_written (certified_line ∷ []) old new puts (written ∙ ap (map taken) d.are) makes;
           encloses = d.encloses;
+          solvable = d.history.solvable;
+          one = d.history.one;
         },
         record { asked = asked; wanted = wanted; model = f; read = is; valid = model; steps = steps; listed = listed; verdict = d.verdict },
       )

@@ -27,6 +27,7 @@ use Rattle.listing_run.specs.Listing.{listing, time, IsListing, IsWhole}
 use Rattle.listing_run.specs.Laws.{ListingIsOne, ListingExcludesRefusal, SettledListingIsClosed, RefusalIsOne}
 use Rattle.listing_summary.specs.declared.summary.Summary.{Summary}
 use Rattle.listing_summary.specs.Texts.{summary_text}
+use Rattle.exact_histories.proofs.WholeRuns.{history_exists, history_is_one}
 use Rattle.check_run.specs.Laws.{VerdictIsOne}
 use Rattle.engine.specs.Cases.{Asked, AskedCheck, Case, Command, Run, Make, Check, NoWords, Refuses, Listing, Making, Checking, IsCase, asked_in, case_asked, case_of, case_read, listing_read, made_model, named, task_of}
 use Rattle.engine.specs.Certified.{Certified}
@@ -163,7 +164,18 @@ module _ (laws : Laws) where
       by_task : IsWhole (task_of l.asked l.model) pieces → IsModel l.model → Headline words files old.written new.written × OneListing words files old.written new.written
       by_task v model =
           let all = all_written (listing (task_of l.asked l.model) v.values end_line) old new puts (written ∙ ap (map taken) v.are) makes in (
-            record { asked = l.asked; wanted = l.wanted; model = l.model; read = l.read; valid = model; values = v.values; written = all; encloses = v.encloses },
+            record {
+              asked = l.asked;
+              wanted = l.wanted;
+              model = l.model;
+              read = l.read;
+              valid = model;
+              values = v.values;
+              written = all;
+              encloses = v.encloses;
+              solvable = history_exists (task_of l.asked l.model) v.values model v.steps;
+              one = history_is_one (task_of l.asked l.model) v.values model v.steps;
+            },
             record {
               asked = l.asked;
               wanted = l.wanted;
@@ -185,7 +197,19 @@ module _ (laws : Laws) where
       let Q : Summary → Type 0 = λ x. Appends old.written new.written (summary_text seed size x) in
       let all = subst Q h.is (subst P (append-nil (summary_text seed size s)) (all_written (summary_text seed size s ∷ []) old new puts (written ∙ ap (map taken) e) makes)) in
       let read = named_read made_name (reads (made_files seed size)) m l.is in (
-        record { seed = seed; size = size; wanted = l.wanted; model = m; read = read; valid = model; values = h.values; written = all; encloses = h.encloses },
+        record {
+          seed = seed;
+          size = size;
+          wanted = l.wanted;
+          model = m;
+          read = read;
+          valid = model;
+          values = h.values;
+          written = all;
+          encloses = h.encloses;
+          solvable = history_exists (made_task m) h.values model h.steps;
+          one = history_is_one (made_task m) h.values model h.steps;
+        },
         record {
           seed = seed;
           size = size;

@@ -17,6 +17,7 @@ use Rattle.run_puts.specs.Runs.{IsRun}
 use Rattle.run_puts.specs.declared.status.Status.{Status}
 use Rattle.run_puts.specs.declared.status.Status.TheVariants as status
 use Rattle.run_puts.proofs.Pieces.{lone}
+use Rattle.exact_histories.specs.Histories.{HasOneHistory}
 use Rattle.check_run.specs.declared.verdict.Verdict.{Verdict}
 use Rattle.check_run.specs.declared.verdict.Verdict.TheVariants.{Certified, Fails, Refused}
 use Rattle.check_run.specs.Verdicts.{IsVerdict, ListingEncloses}
@@ -27,10 +28,10 @@ use Rattle.engine.proofs.Ends.{checked, could_read, ends_without_words, no_steps
 use Rattle.engine.proofs.Readings.{named_read}
 
 module _ (m : FlowModel) (s : ℕ) (steps : List ListedStep) where
-  pub puts_verdict : (v : Verdict) (end : Status) (puts : List Put) → IsVerdict m s steps v → (v ≡ Certified → ListingEncloses m s steps) → IsVerdictEnd m v end puts → IsRun (IsCheck m s steps) IsUncut end puts
-  puts_verdict Certified end puts is encloses h = lone (IsCheck m s steps) IsUncut certified_line status.Ok end puts (record { verdict = is; encloses = encloses refl; are = refl }) (inl h)
-  puts_verdict (Fails at place) end puts is encloses h = lone (IsCheck m s steps) IsUncut (not_certified_line m.grid at place) (status.NotCertified at.period at.step place) end puts (is, refl) h
-  puts_verdict (Refused at n) end puts is encloses h = lone (IsCheck m s steps) IsUncut (no_bound_line m.grid at n) (status.NoBound at.period at.step n) end puts (is, refl) h
+  pub puts_verdict : (v : Verdict) (end : Status) (puts : List Put) → IsVerdict m s steps v → (v ≡ Certified → ListingEncloses m s steps) → (v ≡ Certified → HasOneHistory m) → IsVerdictEnd m v end puts → IsRun (IsCheck m s steps) IsUncut end puts
+  puts_verdict Certified end puts is encloses history h = lone (IsCheck m s steps) IsUncut certified_line status.Ok end puts (record { verdict = is; encloses = encloses refl; history = history refl; are = refl }) (inl h)
+  puts_verdict (Fails at place) end puts is encloses history h = lone (IsCheck m s steps) IsUncut (not_certified_line m.grid at place) (status.NotCertified at.period at.step place) end puts (is, refl) h
+  puts_verdict (Refused at n) end puts is encloses history h = lone (IsCheck m s steps) IsUncut (no_bound_line m.grid at n) (status.NoBound at.period at.step n) end puts (is, refl) h
 
 -- the ends of a check
 module _ (words : List Text) (files : Option (List File)) (n m : ℕ) (asked : AskedCheck) (wanted : asked_in words ≡ Some (Check asked)) where

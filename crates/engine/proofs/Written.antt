@@ -19,6 +19,7 @@ use Rattle.run_puts.specs.declared.status.Status.TheVariants as status
 use Rattle.listing_run.specs.declared.task.Task.{Task}
 use Rattle.listing_run.specs.Listing.{IsWhole, listing}
 use Rattle.check_run.specs.Runs.{IsReadable, RunIsCertified, RunIsReadAgain, as_listed}
+use Rattle.exact_histories.proofs.WholeRuns.{history_exists, history_is_one}
 use Rattle.check_run.proofs.RunEnclosed.{run_encloses}
 use Rattle.engine.specs.Cases.{AskedCheck, Case, Check, Command, Checking, asked_in, built, case_asked, case_checked, case_listed, case_of, listing_read, steps_in, task_of}
 use Rattle.engine.specs.Checked.{IsCertified, certified_line}
@@ -84,6 +85,7 @@ module _ (certified : RunIsCertified) (again : RunIsReadAgain) (k : Task) (piece
       subst P (sym case_is) (subst D (sym h.digits) (record {
         verdict = certified k whole.values model whole.steps;
         encloses = run_encloses k whole.values whole.steps whole.encloses;
+        history = record { solvable = history_exists k whole.values model whole.steps; one = history_is_one k whole.values model whole.steps };
         are = refl;
       }))
 

@@ -12,6 +12,7 @@ use Rattle.listing_io.specs.declared.listing.ListedStep.{ListedStep}
 use Rattle.run_puts.specs.Lines.{Text}
 use Rattle.listing_run.specs.Bounding.{BoundAll}
 use Rattle.check_run.specs.Verdicts.{checked_task, steps_of}
+use Rattle.exact_histories.specs.Histories.{HasHistory, AreSame}
 use Rattle.engine.specs.Cases.{AskedCheck, Check, asked_in, listing_read}
 use Rattle.engine.specs.Checked.{certified_line}
 
@@ -29,3 +30,6 @@ pub record Certified (words : List Text) (files : List File) (old new : Option (
   pub written : Appends old new certified_line
   -- Every history over any denominator d that solves the model's exact equations lies within what it lists.
   pub encloses : (d : ℕ) (history : List (ℕ → ℤ)) → Solves model d history → BoundAll (checked_task model asked.digits) d (start_head model) (steps_of (times model) steps) history
+  -- And there is one: a history solves them, and any two are the same heads at all active cells, step by step.
+  pub solvable : HasHistory model
+  pub one : (d e : ℕ) (history other : List (ℕ → ℤ)) → Solves model d history → Solves model e other → AreSame model d e history other

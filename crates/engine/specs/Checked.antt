@@ -8,15 +8,17 @@ use Rattle.run_puts.specs.declared.status.Status.{Status}
 use Rattle.run_puts.specs.declared.status.Status.TheVariants as status
 use Rattle.listing_run.specs.Listing.{time}
 use Rattle.check_run.specs.declared.verdict.Verdict.TheVariants.{Certified, Fails, Refused}
+use Rattle.exact_histories.specs.Histories.{HasOneHistory}
 use Rattle.check_run.specs.Verdicts.{IsVerdict, ListingEncloses}
 
 abbrev pub certified_line : Text
 certified_line = codes "CERTIFIED\n"
 
--- A listing that is certified encloses every history that solves its model.
+-- A listing that is certified encloses every history that solves its model, and there is exactly one.
 pub record IsCertified (m : FlowModel) (s : ℕ) (steps : List ListedStep) (pieces : List Text) : Type 0 where
   pub verdict : IsVerdict m s steps Certified
   pub encloses : ListingEncloses m s steps
+  pub history : HasOneHistory m
   pub are : pieces ≡ certified_line ∷ []
 
 -- The check of these steps ends so, with this line: by its verdict.

@@ -12,6 +12,7 @@ use Rattle.run_puts.specs.Lines.{Text, end_line}
 use Rattle.listing_run.specs.declared.step.Step.{Step}
 use Rattle.listing_run.specs.Listing.{listing}
 use Rattle.listing_run.specs.Bounding.{BoundAll}
+use Rattle.exact_histories.specs.Histories.{HasHistory, AreSame}
 use Rattle.engine.specs.Cases.{Asked, Run, asked_in, task_of}
 
 -- A run with these words over these files that ended Ok, where a sink had the bytes `old` before it and `new` after it, has written a listing of the model that the files read as; and every history of heads that solves the manual's exact equations of these files lies, step by step and cell by cell, between its heads, with each of its budget flows between its terms. That it is the one listing which the files define stands in `OneListing`.
@@ -27,3 +28,6 @@ pub record Headline (words : List Text) (files : List File) (old new : Option (L
   pub written : Appends old new (concat (listing (task_of asked model) values end_line))
   -- Every history over any denominator d that solves the model's exact equations lies between them.
   pub encloses : (d : ℕ) (history : List (ℕ → ℤ)) → Solves model d history → BoundAll (task_of asked model) d (start_head model) values history
+  -- And there is one: a history solves them, and any two are the same heads at all active cells, step by step.
+  pub solvable : HasHistory model
+  pub one : (d e : ℕ) (history other : List (ℕ → ℤ)) → Solves model d history → Solves model e other → AreSame model d e history other

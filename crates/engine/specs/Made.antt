@@ -20,6 +20,7 @@ use Rattle.listing_summary.specs.declared.summary.Summary.{Summary}
 use Rattle.listing_summary.specs.Ends.{IsSummarized}
 use Rattle.listing_summary.specs.Summaries.{summary_of}
 use Rattle.listing_summary.specs.Texts.{summary_text}
+use Rattle.exact_histories.specs.Histories.{HasHistory, AreSame}
 use Rattle.engine.specs.Cases.{asked_in, task_of, Make}
 
 -- what is listed of it, with the digits and the rounds of a run whose words give none
@@ -50,3 +51,6 @@ pub record Made (words : List Text) (old new : Option (List ℕ)) : Type 0 where
   pub written : Appends old new (summary_text seed size (summary_of model values))
   -- Every history over any denominator d that solves the model's exact equations lies between them.
   pub encloses : (d : ℕ) (history : List (ℕ → ℤ)) → Solves model d history → BoundAll (made_task model) d (start_head model) values history
+  -- And there is one: a history solves them, and any two are the same heads at all active cells, step by step.
+  pub solvable : HasHistory model
+  pub one : (d e : ℕ) (history other : List (ℕ → ℤ)) → Solves model d history → Solves model e other → AreSame model d e history other

@@ -17,3 +17,8 @@ AreSameHeads m f g = (c : ℕ) → IsActive m c → Same (f c) (g c)
 -- Two histories, over d and over e, are the same heads, step by step.
 abbrev pub AreSame : FlowModel → ℕ → ℕ → List (ℕ → ℤ) → List (ℕ → ℤ) → Type 0
 AreSame m d e = AllZip (λ X Y. AreSameHeads m (heads_of d X) (heads_of e Y))
+
+-- The model has exactly one history.
+pub record HasOneHistory (m : FlowModel) : Type 0 where
+  pub solvable : HasHistory m
+  pub one : (d e : ℕ) (history other : List (ℕ → ℤ)) → Solves m d history → Solves m e other → AreSame m d e history other

@@ -8,3 +8,6 @@ returns-in-Ok-clause-only c = rw c.in-Ok.ensures.digits at c.check_steps.ensures
 
 pub returns-in-Ok-clause-encloses : goal.returns-in-Ok-clause-encloses
 returns-in-Ok-clause-encloses c = rw c.in-Ok.ensures.digits at c.check_steps.ensures.encloses
+
+pub returns-in-Ok-clause-history : goal.returns-in-Ok-clause-history
+returns-in-Ok-clause-history c = c.check_steps.ensures.history

@@ -4,7 +4,7 @@ use Rattle.problem_builder.specs.GridHeads.{AreGridHeads}
 use Rattle.listing_io.specs.Listed.{step_in}
 use Rattle.step_chain.specs.Keeps.{digits_of}
 use Rattle.check_run.specs.Parts.{heads_before}
-use Rattle.check_run.proofs.Checking.{at_first, ends_certified, ends_enclosed, goes_here, listed_at, not_certified, ok_follows, stops_here}
+use Rattle.check_run.proofs.Checking.{at_first, ends_certified, ends_enclosed, ends_history, goes_here, listed_at, not_certified, ok_follows, stops_here}
 use Rattle.check_run.proofs.Listed.{grid_of}
 use Rattle.check_run.proofs.listing.check_steps.Goals as goal
 
@@ -46,6 +46,9 @@ returns-in-Err-clause-only c =
 pub returns-in-Err-clause-encloses : goal.returns-in-Err-clause-encloses
 returns-in-Err-clause-encloses c = ok_follows _ _ c.verdict_at.result (λ v h e. absurd (not_certified _ c.in-Err.fault v h e)) c.verdict_at.ensures
 
+pub returns-in-Err-clause-history : goal.returns-in-Err-clause-history
+returns-in-Err-clause-history c = ok_follows _ _ c.verdict_at.result (λ v h e. absurd (not_certified _ c.in-Err.fault v h e)) c.verdict_at.ensures
+
 pub loop-index-preserved : goal.loop-index-preserved
 loop-index-preserved c =
     let is = c.as_slice-at-items.ensures.value ∙ c.in_ok-times.ensures.times in
@@ -54,7 +57,7 @@ loop-index-preserved c =
       digits = c.check_listed.ensures.digits ∙ c.loop-index.invariant.digits;
       tables = c.check_listed.ensures.tables;
       so_far = goes_here c.args.model.now (digits_of c.args.tables.now) c.args.listing.now c.in_ok-start.start.items c.loop-index.index c.as_slice-at-items.result.now (record { period = 0; step = 0 }) is c.requires.listing c.loop-index-test.true c.loop-index.invariant.so_far
-          _ c.loop-index.invariant.digits c.heads_before-old.result.now c.heads-heads.result.now c.budget-budget.result.now olds c.heads-heads.ensures c.budget-budget.ensures c.in-Ok.ensures.passes c.in-Ok.ensures.encloses;
+          _ c.loop-index.invariant.digits c.heads_before-old.result.now c.heads-heads.result.now c.budget-budget.result.now olds c.heads-heads.ensures c.budget-budget.ensures c.requires.model c.in-Ok.ensures.passes c.in-Ok.ensures.encloses;
     }
 
 pub returns-clause-verdict : goal.returns-clause-verdict
@@ -72,3 +75,8 @@ pub returns-clause-encloses : goal.returns-clause-encloses
 returns-clause-encloses c = λ same.
     let is = c.as_slice-at-items.ensures.value ∙ c.in_ok-times.ensures.times in
     ends_enclosed c.args.model.now (digits_of c.args.tables.now) c.args.listing.now _ c.loop-index.index c.as_slice-at-items.result.now is c.requires.listing c.loop-index-test.false c.loop-index.invariant.so_far
+
+pub returns-clause-history : goal.returns-clause-history
+returns-clause-history c = λ same.
+    let is = c.as_slice-at-items.ensures.value ∙ c.in_ok-times.ensures.times in
+    ends_history c.args.model.now (digits_of c.args.tables.now) c.args.listing.now _ c.loop-index.index c.as_slice-at-items.result.now is c.requires.listing c.loop-index-test.false c.loop-index.invariant.so_far
