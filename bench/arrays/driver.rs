@@ -1,5 +1,7 @@
 // Milliseconds and memory of reading a layer of numbers from a text: the proved reader beside plain Rust.
+#[path = "../shared/heap.rs"]
 mod heap;
+#[path = "../shared/plain.rs"]
 mod plain;
 
 use heap::most_bytes;

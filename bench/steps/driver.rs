@@ -1,11 +1,16 @@
 // Milliseconds of making the problem of a time step with 65,536 cells and 65,536 entries of lists: the proved calls beside
 // plain Rust.
+#[path = "../shared/builder.rs"]
 mod builder;
 #[allow(dead_code)]
+#[path = "../shared/decimals.rs"]
 mod decimals;
 #[allow(dead_code)]
+#[path = "../shared/plain.rs"]
 mod plain;
+#[path = "../shared/processor.rs"]
 mod processor;
+#[path = "../shared/spans.rs"]
 mod spans;
 
 use builder::{Entry, Evap, Fixed, Model, Problem, River, build, period, start_heads, tables};

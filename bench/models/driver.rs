@@ -1,8 +1,12 @@
 // Milliseconds and memory of reading models of 65,536 cells, with stresses in many periods and without: the proved readers
 // beside plain Rust.
+#[path = "../shared/heap.rs"]
 mod heap;
+#[path = "../shared/plain.rs"]
 mod plain;
+#[path = "../shared/processor.rs"]
 mod processor;
+#[path = "../shared/stresses.rs"]
 mod stresses;
 
 use heap::most_bytes;

@@ -1,4 +1,5 @@
 // Milliseconds of writing the listing of a step of 65,536 cells, and of reading it back: the proved calls beside plain Rust.
+#[path = "../shared/processor.rs"]
 mod processor;
 
 use processor::processor_time;

@@ -1,5 +1,7 @@
 // Seconds and memory of checking a listing of 65,536 cells: the program beside a plain one that takes the same words.
+#[path = "../shared/decks.rs"]
 mod decks;
+#[path = "../shared/processes.rs"]
 mod processes;
 
 use decks::{Deck, Kind};

@@ -1,8 +1,11 @@
 // Nanoseconds of each call that rounds a thickness, a conductance, a flow, a part of a period or a given head: the proved
 // calls beside plain Rust.
 #[allow(dead_code)]
+#[path = "../shared/decimals.rs"]
 mod decimals;
+#[path = "../shared/processor.rs"]
 mod processor;
+#[path = "../shared/spans.rs"]
 mod spans;
 
 use decimals::{Number, of_units_dn, of_wide_units, wide_units};

@@ -1,10 +1,11 @@
-# What the scripts of this folder share, to be read by them: a small crate over the proved ones, which a script writes to
-# $work/crates/NAME/src, is proved and built, and timed. Without BUILT the crates below it are proved and built in a copy of
+# What the benchmarks share, to be read by their scripts: a small crate over the proved ones, whose text is calls.rattle beside
+# the script, is proved and built, and timed. Without BUILT the crates below it are proved and built in a copy of
 # the sources, which can take an hour. Where BUILT names a copy of this repository in which `rt ci` has built them, they are
 # taken from there, and only the small crate is proved and built; then the caller answers for their being of these sources.
 set -euo pipefail
 
-top=$(cd "$(dirname "${BASH_SOURCE[0]}")/.." && pwd)
+here=$(cd "$(dirname "$0")" && pwd)
+top=$(cd "$(dirname "${BASH_SOURCE[0]}")/../.." && pwd)
 kit=$(dirname "$(rt doc)")
 work=$(mktemp -d)
 trap 'rm -rf "$work"' EXIT
@@ -30,7 +31,7 @@ copy_sources() {
     cp "$top/crates.txt" "$work"
 }
 
-# Proves and builds the crate of this name over the built crates named behind it; rattle's other words stand in `more`.
+# Proves and builds the crate of this name over the built crates named after it; rattle's other words stand in `more`.
 build_over() {
     local name=$1 crate folder words=(--extern "std=$kit/rlibs/std.rlib" -L "dependency=$kit/rlibs")
     for crate in "${@:2}"; do
@@ -44,9 +45,12 @@ build_over() {
     quietly "$kit/bin/rattle" build --crate-name "$name" "${words[@]}" "${more[@]}"
 }
 
-# Proves and builds the static library of this name over the crates named behind it, and leaves it in the folder `library`.
+# Proves and builds the static library of this name, whose text is calls.rattle, over the crates named after it, and leaves it
+# in the folder `library`.
 build_library() {
     library=$work/crates/$1/out
+    mkdir -p "$work/crates/$1/src"
+    cp "$here/calls.rattle" "$work/crates/$1/src/lib.rt"
     cd "$work/crates/$1"
     if [ -n "${BUILT:-}" ]; then
         mkdir -p out
@@ -59,7 +63,7 @@ build_library() {
     fi
 }
 
-# Proves, builds and runs the program of this name over the crates named up to --, with the words behind that.
+# Proves, builds and runs the program of this name over the crates named up to --, with the words after that.
 run_program() {
     local name=$1 crates=()
     shift
@@ -85,8 +89,8 @@ run_program() {
     fi
 }
 
-# Runs bench/NAME.rs, linked with the static library NAME; further words are rustc's.
+# Runs driver.rs, linked with the static library of this name; further words are rustc's.
 time_calls() {
-    rustc --edition 2024 -O -C panic=abort "$top/bench/$1.rs" -L "$library" -l "static=$2" "${@:3}" -o "$work/$1"
-    "$work/$1"
+    rustc --edition 2024 -O -C panic=abort "$here/driver.rs" -L "$library" -l "static=$1" "${@:2}" -o "$work/driver"
+    "$work/driver"
 }

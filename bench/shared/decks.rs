@@ -1,4 +1,4 @@
-// Decks to measure on: sheets of square cells, 100 long and 10 thick, as those of settle_models.rs. The first column of each
+// Decks to measure on: sheets of square cells, 100 long and 10 thick, as those of settle/models.rattle. The first column of each
 // layer is a constant head of 10, the last one of the first layer has a river of stage 9, and four wells pump 100 each out of
 // the last layer.
 use std::fmt::Write;

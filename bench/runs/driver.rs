@@ -1,6 +1,8 @@
 // Seconds of whole runs on models of several kinds: the program beside a plain one that settles by the same guess, and the
 // plain one by plain sweeps.
+#[path = "../shared/decks.rs"]
 mod decks;
+#[path = "../shared/processes.rs"]
 mod processes;
 
 use decks::{Deck, Kind};

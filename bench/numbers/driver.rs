@@ -1,5 +1,6 @@
 // Nanoseconds of each operation on 18-digit decimals: the proved calls beside plain Rust over u128.
 #[allow(dead_code)]
+#[path = "../shared/decimals.rs"]
 mod decimals;
 
 use decimals::Number;
