@@ -48,7 +48,7 @@ def do_run(args: argparse.Namespace, options: list[str]) -> int:
             break
         print(f"{ended.last}: {'too few' if not fewer else 'too many'} digits; once more with --digits {digits}")
         ended = run(nam, [*options, "--digits", str(digits)], out, steps)
-    meaning = explain(ended.last, nam.parent, digits, has_steps=True)
+    meaning = explain(ended.last, nam.parent, digits, ended.steps > 0)
     say(meaning.lines + ([summary(out), f"listing {out} ({ended.seconds:.1f} s" + (f", --digits {digits})" if tried else ")")] if meaning.is_good else []))
     return ended.status
 

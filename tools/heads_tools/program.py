@@ -63,11 +63,12 @@ def version() -> Version:
 
 @dataclass
 class Ended:
-    """How a run ended: its status, its last line, seconds by the clock."""
+    """How a run ended: its status, its last line, seconds by the clock, the steps that it wrote."""
 
     status: int
     last: str
     seconds: float
+    steps: int = 0
 
 
 def call(words: list[str], folder: Path, seconds: float | None = None) -> Ended:
@@ -120,7 +121,7 @@ class Progress:
 def run(nam: Path, options: list[str], target: Path, steps: int | None = None, is_told: bool = True) -> Ended:
     """Runs `heads run` in the model's folder into a file, which gets its name once the run ended."""
     progress = Progress(nam.name, steps)
-    began, last = time.monotonic(), b""
+    began, last, count = time.monotonic(), b"", 0
     with whole_file(target, binary=True) as file:
         process = subprocess.Popen([program(), "run", nam.name, *options], cwd=nam.parent, stdout=subprocess.PIPE)
         try:
@@ -133,6 +134,7 @@ def run(nam: Path, options: list[str], target: Path, steps: int | None = None, i
                     if is_open:
                         progress.step()
                     is_open = line.startswith(b"STEP ")
+                count += line.startswith(b"STEP ")
                 last = line
         except BaseException:
             process.kill()
@@ -141,7 +143,7 @@ def run(nam: Path, options: list[str], target: Path, steps: int | None = None, i
         status = process.wait()
     if is_told:
         progress.end()
-    return Ended(status, last.decode("latin-1").strip(), time.monotonic() - began)
+    return Ended(status, last.decode("latin-1").strip(), time.monotonic() - began, count)
 
 
 def digits_of(options: list[str]) -> int:
