@@ -34,13 +34,13 @@ TERMS = ["STORAGE", "CONSTANT HEAD", "WELLS", "DRAINS", "RIVER LEAKAGE", "HEAD D
 Fault = type("Fault", (Exception,), {"__doc__": "A place that can't be confirmed."})
 words = lambda line: [w for w in re.split(r"[ \t,\r]+", line) if w]
 number = lambda word: Q(re.sub("[dD]", "E", word))
-read = lambda name: open(name, encoding="latin-1", newline="").read()
+read = lambda name: open(name.replace("\\", "/"), encoding="latin-1", newline="").read()
 growth = lambda t, n: sum(t**k for k in range(n))
 
 
 class Text:
     def __init__(self, name, has_comments=True):
-        raw = read(name.replace("\\", "/")).split("\n")
+        raw = read(name).split("\n")
         begin = next((n for n, line in enumerate(raw) if words(line) and not (has_comments and line.startswith("#"))), len(raw))
         self.line = iter([w for w in map(words, raw[begin:]) if w]).__next__
 

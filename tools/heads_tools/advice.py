@@ -32,6 +32,13 @@ NO_BOUNDS = {
     27: "The ceiling over the heads lies above 4,000,000,000: a very small conductance stands on the way to the next known head, and the ceiling sums what all cells have too much.",
 }
 REMEDIES = {
+    2: "Split the file: arrays may stand in files of their own (OPEN/CLOSE).",
+    4: "Write the line so, or begin it with # to make it a comment.",
+    5: "Take one of the two lines out, or make one file of both.",
+    7: "Look at the name file: each package has a line `TYPE UNIT FILE`.",
+    8: "Count the lines after the last item that was read; an array with too few values takes those of the next.",
+    16: "Count layers, rows and columns from 1; NLAY, NROW and NCOL stand in the first line of DIS. (FloPy counts from 0 in Python and from 1 in files.)",
+    19: "Write a head within the model's range; for a cell without flow write IBOUND 0.",
     14: "Raise the top or lower the bottom there, or make the cell inactive (IBOUND 0).",
     15: "HK, HANI, VKA and VKCB are above 0 in active cells, SS, Cond and EVTR at least 0, EXDP above 0 where EVTR is; a CHD cell stands in a list once. A cell of HK 0 is inactive in MODFLOW: write IBOUND 0 there. A zone number lies from 0 to 999.",
     17: "Split the model, or merge entries of one cell (flows add; conductances to one level add).",

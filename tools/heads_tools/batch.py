@@ -103,7 +103,9 @@ def run_by_program(jobs: list[Job], options: list[str], at_once: int) -> bool:
 def split_batch(text: str, jobs: list[Job]) -> None:
     """Writes each model's own text out of a batch's."""
     parts: list[list[str]] = []
-    lines = text.split("\n")
+    lines = text.rstrip("\n").split("\n")
+    if lines and lines[-1] == "END":
+        lines.pop()
     names = iter([j.nam.name for j in jobs])
     due = next(names, None)
     for line in lines:
@@ -113,14 +115,10 @@ def split_batch(text: str, jobs: list[Job]) -> None:
         elif parts:
             parts[-1].append(line)
     if len(parts) < len(jobs):
-        raise Problem(f"the batch ended with: {lines[-2][:100] if len(lines) > 1 else text[:100]}")
-    while parts[-1] and parts[-1][-1] in ("", "END") and parts[-1].count("END") != 1:
-        parts[-1].pop()
-    if parts[-1] and parts[-1][-1] == "":
-        parts[-1].pop()
+        raise Problem(f"the batch ended with: {lines[-1][:100] if lines else ''}")
     for job, part in zip(jobs, parts):
         with whole_file(job.listing) as file:
-            file.write("".join(line + "\n" for line in part if line))
+            file.write("".join(line + "\n" for line in part))
 
 
 def shell_line(options: list[str]) -> str:

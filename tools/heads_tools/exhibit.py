@@ -46,7 +46,8 @@ def exhibit(nam: Path, folder: Path, options: list[str]) -> int:
         raise Problem(f"{folder} isn't empty: an exhibit begins with an empty folder")
     deck = folder / "deck"
     deck.mkdir(parents=True, exist_ok=True)
-    for name in deck_files(nam):
+    zones = [options[n + 1] for n, word in enumerate(options[:-1]) if word == "--zones"]
+    for name in deck_files(nam) + zones:
         source, target = on_disk(nam.parent, name), on_disk(deck, name)
         if ".." in name or name.startswith(("/", "\\")):
             raise Problem(f"{name} lies outside the model's folder: an exhibit holds its whole deck")

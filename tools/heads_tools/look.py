@@ -12,7 +12,7 @@ from .listing import Listing, Step
 from .model import Model
 from .page import Page, write_page
 from .tables import budget_of, write_tables
-from .text import LENGTHS, Problem
+from .text import LENGTHS, Problem, decimal_text, down, up
 
 Cell = tuple[int, int, int]
 MOST_STEPS = 400
@@ -21,10 +21,10 @@ MOST_STEPS = 400
 class Look:
     """The pictures of one listing, in one folder."""
 
-    def __init__(self, listing: Listing, folder: Path, model: Model | None):
+    def __init__(self, listing: Listing, folder: Path, model: Model | None, cells: list[Cell] = ()):
         if not listing.steps:
             raise Problem(f"{listing.path} has no whole step: it ends with {listing.end or 'a part of a step'}")
-        self.listing, self.folder, self.model = listing, folder, model
+        self.listing, self.folder, self.model, self.cells = listing, folder, model, list(cells)
         self.shape = model.shape if model else listing.shape
         if any(a > b for a, b in zip(listing.shape, self.shape)):
             raise Problem(f"{listing.path} has cells up to {listing.shape}, and the model's grid is {self.shape}: another model")
@@ -62,7 +62,7 @@ class Look:
                         self.page.picture("Maps", name, f"Layer {k + 1}, {self.when(step)}")
             else:
                 self.draw_line(step, lower, upper)
-        self.draw_section(steps[-1], *self.place)
+        self.draw_section(steps[-1], *(self.cells[0][1:] if self.cells else self.place))
 
     def draw_line(self, step: Step, lower: np.ndarray, upper: np.ndarray) -> None:
         """A model of one row or column: heads along it, layer by layer."""
@@ -76,8 +76,9 @@ class Look:
 
     @property
     def place(self) -> tuple[int, int]:
-        """The row and the column of the cell with the lowest head of the last step."""
-        _, i, j = self.listing.cells[int(self.listing.steps[-1].low.argmin())]
+        """The row and the column of the cell whose head is farthest from the mean in the last step."""
+        low = self.listing.steps[-1].low.astype(float)
+        _, i, j = self.listing.cells[int(np.abs(low - low.mean()).argmax())]
         return int(i), int(j)
 
     def draw_section(self, step: Step, row: int, col: int) -> None:
@@ -95,11 +96,11 @@ class Look:
                                     f"Section along column {col} (south at 0), {self.when(step)}")
             self.page.picture("Sections", name, f"Column {col}, south to north")
 
-    def draw_hydrographs(self, cells: list[Cell]) -> None:
-        steps = self.listing.steps
+    def draw_hydrographs(self) -> None:
+        steps, cells = self.listing.steps, self.cells
         if len(steps) < 2:
             if cells:
-                rows = [[" ".join(map(str, c)), *self.listing_pair(steps[0], self.listing.at(c))] for c in cells]
+                rows = [[" ".join(map(str, c)), *(decimal_text(v[self.listing.at(c)], 9) for v in (steps[0].low, steps[0].high))] for c in cells]
                 self.page.table("Cells", ["layer row column", "lower", "upper"], rows)
             return
         times = self.model.times if self.model else {}
@@ -112,16 +113,13 @@ class Look:
         self.page.picture("Hydrographs", name, "Bands between lower and upper heads, and their widths")
 
     def moving(self) -> Cell:
-        """The cell whose lower head moves most over the steps."""
+        """The cell whose lower head moves most over the steps, of those whose head isn't known from the start."""
         lows = np.array([s.low for s in self.listing.steps])
-        return tuple(self.listing.cells[int((lows.max(axis=0) - lows.min(axis=0)).argmax())].tolist())
-
-    def listing_pair(self, step: Step, at: int) -> tuple[str, str]:
-        from .text import decimal_text
-        return decimal_text(step.low[at], 9), decimal_text(step.high[at], 9)
+        is_open = np.array([s.width() for s in self.listing.steps]).max(axis=0) > 0
+        moves = (lows.max(axis=0) - lows.min(axis=0)) * (is_open | ~is_open.any())
+        return tuple(self.listing.cells[int(moves.argmax())].tolist())
 
     def tell_budget(self) -> None:
-        from .text import down, up
         step, places = self.listing.steps[-1], self.listing.flow_places
         budget = budget_of(step)
         unit = f"{self.unit}³ per {self.time}"
@@ -155,7 +153,7 @@ def look(listing: Listing, folder: Path, model: Model | None = None, cells: list
     """Writes tables, pictures and the page of a listing into a folder; what there is to say about it."""
     for cell in cells:
         listing.at(cell)
-    it = Look(listing, folder, model)
+    it = Look(listing, folder, model, cells)
     folder.mkdir(parents=True, exist_ok=True)
     page = it.page
     page.say(listing.summary() + f" in {it.unit}")
@@ -166,7 +164,7 @@ def look(listing: Listing, folder: Path, model: Model | None = None, cells: list
     if is_every and len(listing.steps) > MOST_STEPS:
         raise Problem(f"--every draws at most {MOST_STEPS} steps, and these are {len(listing.steps)}")
     it.draw_steps(listing.steps if is_every else listing.steps[-1:])
-    it.draw_hydrographs(list(cells))
+    it.draw_hydrographs()
     it.tell_budget()
     write_tables(listing, folder, model.times if model else None)
     write_page(page, folder)

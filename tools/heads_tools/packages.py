@@ -116,7 +116,7 @@ class Reader:
     def start(self, kind: str) -> Source:
         self.at = None
         self.at = source = self.open(self.deck.files[kind])
-        self.deck.comments[kind] = source.comments()
+        self.deck.comments[kind] = source.comments(is_blank_taken=kind == "BAS6")
         return source
 
     def unit(self, word: str) -> Source:
@@ -144,6 +144,8 @@ class Reader:
         line = source.line()
         w = quoted_words(line)
         kind, shape = w[0].upper(), (rows, cols)
+        if "'" in line or '"' in line:
+            self.need("quotes taken out of an array's record")
         if kind == "CONSTANT":
             return Array([source.number(w[1])], "1", shape)
         if kind == "INTERNAL":

@@ -127,7 +127,7 @@ def section(path: Path, plan: Plan, lower: np.ndarray, width: np.ndarray, edges:
         shapes = [[(edges[j], bottom[k, j]), (edges[j + 1], bottom[k, j]), (edges[j + 1], top[k, j]), (edges[j], top[k, j])] for k, j in np.ndindex(values.shape)]
         flat = values.ravel()
         shown = np.ma.masked_invalid(np.where(flat > 0, flat, np.nan) if is_width else flat)
-        cells = PolyCollection(shapes, array=shown, cmap=cmap, norm=norm_of(values, is_width), edgecolors="0.6", linewidths=0.2 if len(shapes) < 3000 else 0)
+        cells = PolyCollection(shapes, array=shown, cmap=cmap, norm=norm_of(values, is_width), edgecolors="0.6", linewidths=0.2 if values.shape[1] <= 40 else 0)
         cells.cmap.set_bad(NO_FLOW)
         cells.set_rasterized(len(shapes) > 3000)
         ax.add_collection(cells)
@@ -152,7 +152,8 @@ def band(path: Path, x: np.ndarray, curves: list[tuple[str, np.ndarray, np.ndarr
         axes[1].plot(x, high - low, color=colour, lw=1, marker=mark, ms=2.5)
     axes[0].set_ylabel(f"head, {unit}")
     axes[1].set(ylabel=f"width, {unit}", xlabel=xlabel)
-    axes[1].set_ylim(bottom=0)
+    most = max(float(np.max(high - low)) for _, low, high in curves)
+    axes[1].set_ylim(0, 1.08 * most if most > 0 else 1e-9)
     if any(name for name, _, _ in curves):
         axes[0].legend(fontsize=7)
     figure.suptitle(title, fontsize=10)

@@ -100,10 +100,10 @@ class Source:
         if self.lines and not self.lines[-1]:
             self.lines.pop()
 
-    def comments(self) -> list[str]:
-        """The comment lines from here on."""
+    def comments(self, is_blank_taken: bool = False) -> list[str]:
+        """The comment lines from here on. A blank line ends them where it may be the first item."""
         begin = self.at
-        while self.at < len(self.lines) and (self.lines[self.at].startswith("#") or not self.lines[self.at].strip(" \t,")):
+        while self.at < len(self.lines) and (self.lines[self.at].startswith("#") or not (is_blank_taken or self.lines[self.at].strip(" \t,"))):
             self.at += 1
         return [line for line in self.lines[begin:self.at] if line.startswith("#")]
 
@@ -173,7 +173,7 @@ def read_binary(path: Path, count: int, at: int, is_rest: bool) -> tuple[np.ndar
     fits = []
     for size, dtype in ((4, "<f4"), (8, "<f8")):
         for marks in (0, 4):
-            for header in (0, 28 + 2 * size):
+            for header in (0, 36 + 2 * size):
                 total = (header + 2 * marks if header else 0) + count * size + 2 * marks
                 named = not header or raw[marks + 8 + 2 * size:marks + 24 + 2 * size].isascii() and raw[marks + 8 + 2 * size:marks + 24 + 2 * size].strip().isalpha()
                 marked = not marks or raw[:4] == (header or count * size).to_bytes(4, "little")
