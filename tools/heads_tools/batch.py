@@ -1,0 +1,167 @@
+"""batch: runs many models and collects how they ended: by `heads batch`, by single runs, by Slurm or by GNU parallel."""
+from __future__ import annotations
+
+import os
+import shlex
+import shutil
+import subprocess
+import sys
+import tempfile
+from concurrent.futures import ThreadPoolExecutor
+from dataclasses import dataclass
+from pathlib import Path
+
+from .explain import explain
+from .listing import read_listing
+from .program import digits_of, program, run
+from .text import Problem, decimal_text, read_text, whole_file, words
+
+MOST_JOBS = 1000
+
+
+@dataclass
+class Job:
+    """A model of the list: its name as it stands there, its name file and its listing."""
+
+    name: str
+    nam: Path
+
+    @property
+    def listing(self) -> Path:
+        return self.nam.with_suffix(".heads")
+
+
+def read_jobs(path: Path) -> list[Job]:
+    """The models of a list: the first word of each line; names are looked up from the list's folder."""
+    jobs = []
+    for n, line in enumerate(read_text(path).split("\n"), 1):
+        w = words(line)
+        if w and not line.startswith("#"):
+            nam = path.parent / w[0].replace("\\", "/")
+            if not nam.is_file():
+                raise Problem(f"{path}, line {n}: there is no file {w[0]}")
+            jobs.append(Job(w[0], nam.resolve()))
+    if len(jobs) > MOST_JOBS:
+        raise Problem(f"{path} has {len(jobs)} models; {MOST_JOBS} are the most")
+    if len({j.listing for j in jobs}) < len(jobs):
+        raise Problem(f"{path}: two models of the list would write the same listing")
+    if not jobs:
+        raise Problem(f"{path} names no model")
+    return jobs
+
+
+def batch(path: Path, options: list[str], way: str, at_once: int, is_written_only: bool) -> int:
+    """Runs all models of a list in the way asked for, and prints how each ended; the first status that isn't 0."""
+    jobs, at_once = read_jobs(path), at_once or os.cpu_count() or 1
+    if way == "slurm":
+        run_slurm(path, jobs, options, at_once, is_written_only)
+    elif way == "parallel":
+        run_parallel(path, jobs, options, at_once, is_written_only)
+    elif not run_by_program(jobs, options, at_once):
+        with ThreadPoolExecutor(at_once) as pool:
+            for done, job in enumerate(pool.map(lambda job: run(job.nam, options, job.listing, is_told=False) and job, jobs), 1):
+                print(f"{done} of {len(jobs)}: {job.name}", file=sys.stderr)
+    return 0 if is_written_only and way != "here" else collect(jobs, options, path.with_suffix(".ends.csv"))
+
+
+def collect(jobs: list[Job], options: list[str], table: Path) -> int:
+    """Prints how each model ended, writes it as a table, and gives the first status that isn't 0."""
+    first = 0
+    with whole_file(table) as file:
+        file.write("model,status,last_line,steps,cells,widest\n")
+        for job in jobs:
+            last = read_text(job.listing).rstrip("\n").rsplit("\n", 1)[-1] if job.listing.is_file() else ""
+            meaning = explain(last, job.nam.parent, digits_of(options))
+            steps = cells = width = ""
+            if meaning.is_good:
+                listing = read_listing(job.listing)
+                steps, cells, width = len(listing.steps), len(listing.cells), decimal_text(listing.widest()[0], 9)
+            file.write(f"{job.name},{meaning.status},{last[:100]},{steps},{cells},{width}\n")
+            print(f"{job.name}: " + (f"END, {steps} steps of {cells} cells, widest pair {width}" if meaning.is_good else meaning.lines[0]))
+            first = first or meaning.status
+    print(f"{len(jobs)} models; a table of their ends: {table}")
+    return first
+
+
+def run_by_program(jobs: list[Job], options: list[str], at_once: int) -> bool:
+    """Runs `heads batch` once in each folder, since names are looked up from where the program runs; False where the
+    program doesn't have the command."""
+    for folder in sorted({j.nam.parent for j in jobs}):
+        here = [j for j in jobs if j.nam.parent == folder]
+        with tempfile.NamedTemporaryFile("w", suffix=".txt", prefix="batch", dir=folder) as names:
+            names.write("".join(f"{j.nam.name}\n" for j in here))
+            names.flush()
+            workers = [] if "--workers" in options else ["--workers", str(min(at_once, 64))]
+            done = subprocess.run([program(), "batch", Path(names.name).name, *options, *workers], cwd=folder, capture_output=True)
+        text = done.stdout.decode("latin-1")
+        if text.startswith("USAGE:"):
+            return False
+        split_batch(text, here)
+    return True
+
+
+def split_batch(text: str, jobs: list[Job]) -> None:
+    """Writes each model's own text out of a batch's."""
+    parts: list[list[str]] = []
+    lines = text.rstrip("\n").split("\n")
+    if lines and lines[-1] == "END":
+        lines.pop()
+    names = iter([j.nam.name for j in jobs])
+    due = next(names, None)
+    for line in lines:
+        if due is not None and line == f"MODEL {due}":
+            parts.append([])
+            due = next(names, None)
+        elif parts:
+            parts[-1].append(line)
+    if len(parts) < len(jobs):
+        raise Problem(f"the batch ended with: {lines[-1][:100] if lines else ''}")
+    for job, part in zip(jobs, parts):
+        with whole_file(job.listing) as file:
+            file.write("".join(line + "\n" for line in part))
+
+
+def shell_line(options: list[str]) -> str:
+    """What a job does with its name file in $NAM: a run in the model's folder, whose listing gets its name at the end."""
+    words_ = " ".join(shlex.quote(o) for o in options)
+    return (f'cd "$(dirname "$NAM")" && {{ {shlex.quote(str(program()))} run "$(basename "$NAM")" {words_} >"${{NAM%.*}}.heads.part"; '
+            'status=$?; mv "${NAM%.*}.heads.part" "${NAM%.*}.heads"; exit $status; }')
+
+
+def write_names(path: Path, jobs: list[Job]) -> Path:
+    names = path.with_suffix(".jobs.txt")
+    with whole_file(names) as file:
+        file.write("".join(f"{j.nam}\n" for j in jobs))
+    return names
+
+
+def run_slurm(path: Path, jobs: list[Job], options: list[str], at_once: int, is_written_only: bool) -> None:
+    """Writes an array job, and submits it and waits for its end."""
+    names, script = write_names(path, jobs), path.with_suffix(".slurm")
+    cpus = next((options[n + 1] for n, o in enumerate(options[:-1]) if o == "--workers"), "4")
+    with whole_file(script) as file:
+        file.write(f"#!/bin/bash\n#SBATCH --job-name=heads\n#SBATCH --array=1-{len(jobs)}%{at_once}\n#SBATCH --cpus-per-task={cpus}\n#SBATCH --output={path.stem}.%a.log\n"
+                   f'NAM=$(sed -n "${{SLURM_ARRAY_TASK_ID}}p" {shlex.quote(str(names))})\n{shell_line(options)}\n')
+    print(f"written: {script} (sbatch --wait {script.name})")
+    if not is_written_only:
+        call_tool("sbatch", ["sbatch", "--wait", script.name], path.parent, "slurm-wlm (or run where your cluster has it)")
+
+
+def run_parallel(path: Path, jobs: list[Job], options: list[str], at_once: int, is_written_only: bool) -> None:
+    """Writes a script for GNU parallel, and runs it."""
+    names, script = write_names(path, jobs), path.with_suffix(".parallel.sh")
+    with whole_file(script) as file:
+        file.write(f"#!/bin/bash\n# Further words, as --sshloginfile hosts, go to parallel.\none() {{ NAM=$1; {shell_line(options)}; }}\nexport -f one\n"
+                   f'parallel --jobs {at_once} --joblog {shlex.quote(path.stem + ".joblog")} "$@" one {{}} <{shlex.quote(str(names))}\n')
+    script.chmod(0o755)
+    print(f"written: {script}")
+    if not is_written_only:
+        call_tool("parallel", ["bash", script.name], path.parent, "parallel")
+
+
+def call_tool(tool: str, command: list[str], folder: Path, debian: str) -> None:
+    if not shutil.which(tool):
+        raise Problem(f"{tool} isn't here: apt-get install {debian}; the files stand written, --write-only leaves it at that")
+    done = subprocess.run(command, cwd=folder, capture_output=True, text=True, errors="replace")
+    if done.returncode and done.stderr.strip():
+        print(f"{tool} ended with {done.returncode}: {done.stderr.strip().splitlines()[-1][:200]}", file=sys.stderr)

@@ -1,0 +1,90 @@
+"""The command heads-tools: words and what they do."""
+from __future__ import annotations
+
+import argparse
+import sys
+from pathlib import Path
+
+from .text import Problem
+
+EPILOG = """Nothing in heads-tools is proved. The program is found by the environment variable HEADS, else in this checkout, else on the PATH.
+Statuses: those of heads where it ran; 2 for bad input; 1 where the answer is no (inside, version). Windows: run it in WSL (Debian or Ubuntu)."""
+
+
+def cell(text: str) -> tuple[int, int, int]:
+    parts = text.replace(" ", ",").split(",")
+    if len(parts) != 3 or not all(p.isdigit() for p in parts):
+        raise argparse.ArgumentTypeError("a cell is K,I,J: layer, row, column")
+    return tuple(map(int, parts))
+
+
+def parser() -> argparse.ArgumentParser:
+    top = argparse.ArgumentParser(prog="heads-tools", description="Runs, explains, feeds and shows `heads`.", epilog=EPILOG, formatter_class=argparse.RawDescriptionHelpFormatter)
+    commands = top.add_subparsers(dest="command", metavar="COMMAND", required=True)
+
+    def add(name: str, text: str, *words: tuple) -> argparse.ArgumentParser:
+        sub = commands.add_parser(name, help=text, description=text)
+        for word, about in words:
+            sub.add_argument(word, help=about, type=Path)
+        return sub
+
+    nam, listing = ("nam", "the model's name file"), ("listing", "a listing of heads")
+    s = add("run", "run the model in its folder into NAME.heads, with progress; all further options go to heads run", nam)
+    s.add_argument("--out", type=Path, help="the listing's file, NAME.heads beside the name file where left out")
+    s = add("explain", "what the last line of an output means, and what to change", ("output", "an output of heads"))
+    s.add_argument("folder", nargs="?", type=Path, help="the model's folder, the output's own where left out")
+    s.add_argument("--digits", type=int, help="the digits of the run, where the output doesn't tell them")
+    s = add("inside", "is the model inside? All reasons at once, the digits it needs, and where MODFLOW reads it otherwise", nam)
+    s.add_argument("--most", type=int, default=12, help="the reasons of a kind to show (12)")
+    add("plain", "rewrite the deck in the spelling that heads reads, with notes", nam, ("folder", "the folder to write into"))
+    add("model", "what was read: sizes, ranges of arrays, entries, steps", nam)
+    s = add("look", "tables, maps, sections, hydrographs, budget and a page", listing, ("folder", "the folder to write into"))
+    s.add_argument("--name", type=Path, metavar="M.NAM", help="the model: true widths, elevations, times, units")
+    s.add_argument("--cell", type=cell, action="append", default=[], metavar="K,I,J", help="a hydrograph of this cell; may stand again")
+    s.add_argument("--given", type=Path, metavar="RUN.HDS", help="heads of MODFLOW (hds or CSV): how far they are off")
+    s.add_argument("--every", action="store_true", help="maps of every step, and not of the last alone")
+    s = add("compare", "how far given heads are from every exact solution", listing, ("heads", "heads of MODFLOW: hds or CSV"))
+    s.add_argument("--map", type=Path, metavar="FOLDER", help="draw maps into this folder")
+    s.add_argument("--name", type=Path, metavar="M.NAM", help="the model, for the maps")
+    s = add("certify", "certified bounds from any solver's heads: margins by a sparse solve, then heads check", nam, ("heads", "heads to begin with: hds or CSV"))
+    s.add_argument("--digits", type=int, default=12)
+    s.add_argument("--out", type=Path, help="the listing's file, NAME.certified.heads where left out")
+    s.add_argument("--theta", type=float, help="the margin, in roundings of a head; 1.05 and more are tried where left out")
+    s = add("hds", "a head file for FloPy, ModelMuse, Model Viewer", listing, ("out", "the head file to write"))
+    s.add_argument("--name", type=Path, metavar="M.NAM", help="the model: its whole grid and its times")
+    side = s.add_mutually_exclusive_group()
+    for name in ("lower", "upper", "middle"):
+        side.add_argument(f"--{name}", dest="side", action="store_const", const=name)
+    s.add_argument("--single", action="store_true", help="single precision (double where left out)")
+    add("exhibit", "for a report or a court: deck, listing, verdicts, hashes, versions, pictures; further options go to heads run", nam, ("folder", "the folder to write into"))
+    s = add("batch", "run many models and collect their ends; further options go to heads", ("list", "a file with one name file a line"))
+    where = s.add_mutually_exclusive_group()
+    where.add_argument("--slurm", action="store_true", help="as an array job of Slurm")
+    where.add_argument("--parallel", action="store_true", help="by GNU parallel")
+    s.add_argument("--jobs", type=int, default=0, help="models at a time (the processors)")
+    s.add_argument("--write-only", action="store_true", help="with --slurm or --parallel: write the files, and run nothing")
+    add("version", "the program, its sources and kit, and whether its hash is the recorded one")
+    return top
+
+
+PASSING = {"run", "exhibit", "batch"}
+
+
+def main(words: list[str] | None = None) -> int:
+    """Does what the words say; the status."""
+    top = parser()
+    args, rest = top.parse_known_args(words)
+    if rest and args.command not in PASSING:
+        top.error(f"unknown words: {' '.join(rest)}")
+    from . import commands
+    try:
+        return getattr(commands, "do_" + args.command)(args, rest)
+    except Problem as error:
+        print(f"heads-tools: {error}", file=sys.stderr)
+        return 2
+    except BrokenPipeError:
+        sys.stderr.close()
+        return 141
+    except KeyboardInterrupt:
+        print("heads-tools: stopped", file=sys.stderr)
+        return 130

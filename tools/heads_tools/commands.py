@@ -1,0 +1,170 @@
+"""What each command does, by the modules of this package; the status of each."""
+from __future__ import annotations
+
+import argparse
+from pathlib import Path
+
+from .text import Problem
+
+MOST_DIGITS = 18
+
+
+def existing(path: Path) -> Path:
+    if not path.is_file():
+        raise Problem(f"there is no file {path}")
+    return path.resolve()
+
+
+def say(lines: list[str]) -> None:
+    print("\n".join(lines))
+
+
+def steps_of(nam: Path) -> int | None:
+    """The count of a model's time steps, where its DIS can be read."""
+    from .packages import Reader
+
+    reader = Reader(nam)
+    try:
+        reader.read_names()
+        reader.read_dis()
+    except (Problem, IndexError, ValueError, KeyError):
+        return None
+    return sum(p.nstp for p in reader.deck.periods) or None
+
+
+def do_run(args: argparse.Namespace, options: list[str]) -> int:
+    from .explain import explain
+    from .program import digits_of, run, summary
+
+    nam = existing(args.nam)
+    out = (args.out or nam.with_suffix(".heads")).resolve()
+    digits, tried, steps = digits_of(options), [], steps_of(nam)
+    ended = run(nam, options, out, steps)
+    while ended.status == 3 and ended.last.split()[1:2] in (["22"], ["21"]) and "--digits" not in " ".join(options):
+        tried.append(digits)
+        fewer = ended.last.split()[1] == "22"
+        digits += -3 if fewer else 3
+        if not 0 <= digits <= MOST_DIGITS or digits in tried:
+            break
+        print(f"{ended.last}: {'too few' if not fewer else 'too many'} digits; once more with --digits {digits}")
+        ended = run(nam, [*options, "--digits", str(digits)], out, steps)
+    meaning = explain(ended.last, nam.parent, digits, ended.steps > 0)
+    say(meaning.lines + ([summary(out), f"listing {out} ({ended.seconds:.1f} s" + (f", --digits {digits})" if tried else ")")] if meaning.is_good else []))
+    return ended.status
+
+
+def do_explain(args: argparse.Namespace, _: list[str]) -> int:
+    from .explain import explain_output
+
+    meaning = explain_output(existing(args.output), (args.folder or args.output.parent), args.digits)
+    say(meaning.lines)
+    return meaning.status
+
+
+def do_inside(args: argparse.Namespace, _: list[str]) -> int:
+    from .inside import inside
+
+    verdict = inside(existing(args.nam), args.most)
+    say(verdict.lines)
+    return 0 if verdict.is_inside else 1
+
+
+def do_plain(args: argparse.Namespace, _: list[str]) -> int:
+    from .plain import notes, plain
+
+    report = plain(existing(args.nam), args.folder)
+    lines = notes(report)
+    say([f"  {line}" for line in lines[:20]] + ([f"  and {len(lines) - 20} more"] if len(lines) > 20 else []))
+    say([f"written: {args.folder / args.nam.name}; each change stands in {args.folder / 'plain.txt'}"])
+    return 0
+
+
+def do_model(args: argparse.Namespace, _: list[str]) -> int:
+    from .describe import describe
+    from .model import read_model
+
+    say(describe(read_model(existing(args.nam))))
+    return 0
+
+
+def do_look(args: argparse.Namespace, _: list[str]) -> int:
+    from .listing import read_listing
+    from .look import look
+    from .model import read_model
+
+    listing = read_listing(existing(args.listing))
+    said = look(listing, args.folder, read_model(existing(args.name)) if args.name else None, args.cell, existing(args.given) if args.given else None, args.every)
+    say(said + [f"open {args.folder / 'index.html'}"])
+    return 0
+
+
+def do_compare(args: argparse.Namespace, _: list[str]) -> int:
+    from .compare import compare, sentences
+    from .headfile import read_heads
+    from .listing import read_listing
+    from .text import LENGTHS
+
+    listing = read_listing(existing(args.listing))
+    say(sentences(listing, compare(listing, read_heads(existing(args.heads))), LENGTHS.get(listing.unit, "length units")))
+    if args.map:
+        from .look import Look
+        from .model import read_model
+        from .page import write_page
+        from .tables import write_tables
+
+        args.map.mkdir(parents=True, exist_ok=True)
+        it = Look(listing, args.map, read_model(existing(args.name)) if args.name else None)
+        it.compare(existing(args.heads))
+        write_tables(listing, args.map, it.model.times if it.model else None)
+        write_page(it.page, args.map)
+        say([f"open {args.map / 'index.html'}"])
+    return 0
+
+
+def do_certify(args: argparse.Namespace, _: list[str]) -> int:
+    from .certify import certify
+
+    if not 0 <= args.digits <= MOST_DIGITS:
+        raise Problem("--digits is from 0 to 18")
+    nam = existing(args.nam)
+    ended = certify(nam, existing(args.heads), args.digits, (args.out or nam.with_suffix(".certified.heads")).resolve(), args.theta)
+    say(ended.lines)
+    return ended.status
+
+
+def do_hds(args: argparse.Namespace, _: list[str]) -> int:
+    from .headfile import write_heads
+    from .listing import read_listing
+    from .model import read_model
+
+    listing = read_listing(existing(args.listing))
+    if not listing.steps:
+        raise Problem(f"{args.listing} has no whole step")
+    model = read_model(existing(args.name)) if args.name else None
+    side = args.side or "middle"
+    write_heads(args.out, listing, side, model.shape if model else None, model.times if model else None, args.single)
+    how = {"lower": "rounded down", "upper": "rounded up", "middle": "rounded: no bounds"}[side]
+    say([f"{side} heads of {len(listing.steps)} steps in {args.out} ({'single' if args.single else 'double'} precision, {how}; -999.99 where there is no flow)"])
+    return 0
+
+
+def do_exhibit(args: argparse.Namespace, options: list[str]) -> int:
+    from .exhibit import exhibit
+
+    return exhibit(existing(args.nam), args.folder, options)
+
+
+def do_batch(args: argparse.Namespace, options: list[str]) -> int:
+    from .batch import batch
+
+    way = "slurm" if args.slurm else "parallel" if args.parallel else "here"
+    return batch(existing(args.list), options, way, args.jobs, args.write_only)
+
+
+def do_version(args: argparse.Namespace, _: list[str]) -> int:
+    from . import __version__
+    from .program import version
+
+    known = version()
+    say([f"heads-tools {__version__} (not proved)", *known.lines])
+    return 1 if known.is_recorded is False else 0

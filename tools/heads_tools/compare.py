@@ -1,0 +1,61 @@
+"""How far given heads are from every exact solution, by the bounds of a listing."""
+from __future__ import annotations
+
+from dataclasses import dataclass
+
+import numpy as np
+
+from .headfile import ANY_STEP, Heads
+from .listing import Listing, Step
+from .text import Problem, short_down, short_up
+
+
+@dataclass
+class Difference:
+    """Of one step, by cell of the listing (nan where no head is given), in length units: the given heads are off
+    from each exact solution by `least` at least (rounded down) and by `most` at most (rounded up)."""
+
+    step: Step
+    least: np.ndarray
+    most: np.ndarray
+
+
+def compare(listing: Listing, heads: Heads) -> list[Difference]:
+    """The differences of all steps for which heads are given."""
+    at, out = tuple((listing.cells - 1).T), []
+    for step in listing.steps:
+        given = heads.get((step.period, step.step), heads.get(ANY_STEP))
+        if given is None:
+            continue
+        if any(a > b for a, b in zip(listing.shape, given.shape)):
+            raise Problem(f"the given heads are of a grid {given.shape}, and the listing has cells up to {listing.shape}")
+        h = given[at].astype(np.longdouble)
+        low, high = step.low.astype(np.longdouble) / 10**9, step.high.astype(np.longdouble) / 10**9
+        slack = 4 * np.finfo(float).eps * np.maximum(np.abs(h), np.maximum(np.abs(low), np.abs(high)))
+        least = np.maximum(0, np.maximum(low - h, h - high) - slack)
+        most = np.maximum(np.abs(h - low), np.abs(h - high)) + slack
+        out.append(Difference(step, least.astype(float), most.astype(float)))
+    if not out:
+        raise Problem("the given heads have none of the listing's periods and steps (heads are saved by MODFLOW's output control)")
+    if all(np.isnan(d.most).all() for d in out):
+        raise Problem("the given heads have none of the listing's cells")
+    return out
+
+
+def sentences(listing: Listing, differences: list[Difference], unit: str) -> list[str]:
+    """What the differences come to, in sentences."""
+    out = []
+    for d in differences:
+        here = ~np.isnan(d.most)
+        if not here.any():
+            continue
+        worst = int(np.nanargmax(d.least if np.nanmax(d.least) > 0 else d.most))
+        cell = " ".join(map(str, listing.cells[worst]))
+        outside = int((d.least[here] > 0).sum())
+        out.append(f"period {d.step.period} step {d.step.step}: off by at least {short_down(float(np.nanmax(d.least)))} {unit} and at most "
+                   f"{short_up(float(np.nanmax(d.most)))} {unit}; {outside} of {int(here.sum())} cells lie outside their pair; the worst is layer row column {cell}")
+    least, most = (max(float(np.nanmax(getattr(d, name))) for d in differences) for name in ("least", "most"))
+    out.append(f"in all {len(differences)} steps: off by at least {short_down(least)} {unit} somewhere, and by at most {short_up(most)} {unit} everywhere")
+    if not listing.is_whole:
+        out.append("the listing doesn't end with END: its pairs are no bounds")
+    return out

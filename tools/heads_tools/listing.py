@@ -1,0 +1,169 @@
+"""A listing of `heads` as arrays of whole numbers of its last digits, and as numpy arrays of heads."""
+from __future__ import annotations
+
+import functools
+from dataclasses import dataclass, field
+from pathlib import Path
+
+import numpy as np
+
+from .text import Problem, decimal_text, read_text
+
+TERMS = ["STORAGE", "CONSTANT HEAD", "WELLS", "DRAINS", "RIVER LEAKAGE", "HEAD DEP BOUNDS", "RECHARGE", "ET"]
+UNITS_IN_ONE = 10**9
+FIFTHS = 5**9
+NO_LISTING = ("REFUSED", "READFAULT", "MEMORY", "USAGE:", "CERTIFIED", "NOT")
+
+
+@dataclass
+class Step:
+    """One time step. `low`, `high`: heads in 10^-9 length units, shape (cells,); `terms`: name to the whole
+    numbers in_low, in_high, out_low, out_high of 10^-(digits + 9) length units cubed by time unit; `zones`: the
+    flows (from, to, low, high) in the same unit."""
+
+    period: int
+    step: int
+    low: np.ndarray
+    high: np.ndarray
+    terms: dict[str, list[int]] = field(default_factory=dict)
+    zones: list[tuple[int, int, int, int]] = field(default_factory=list)
+
+    def width(self) -> np.ndarray:
+        return self.high - self.low
+
+
+@dataclass
+class Listing:
+    """A listing. `cells`: layer, row and column of each cell with flow, from 1, shape (cells, 3); `end`: its last line."""
+
+    path: Path
+    digits: int
+    unit: int
+    steps: list[Step] = field(default_factory=list)
+    cells: np.ndarray = field(default_factory=lambda: np.zeros((0, 3), int))
+    end: str = ""
+
+    @property
+    def is_whole(self) -> bool:
+        return self.end == "END"
+
+    @property
+    def flow_places(self) -> int:
+        return self.digits + 9
+
+    @property
+    def shape(self) -> tuple[int, int, int]:
+        """The greatest layer, row and column of a cell with flow: the least grid that holds them."""
+        return tuple(int(n) for n in self.cells.max(axis=0)) if len(self.cells) else (0, 0, 0)
+
+    @functools.cached_property
+    def index(self) -> dict[tuple[int, int, int], int]:
+        return {tuple(cell): n for n, cell in enumerate(self.cells.tolist())}
+
+    def at(self, cell: tuple[int, int, int]) -> int:
+        """The place of a cell (layer, row, column) in the arrays of a step."""
+        if tuple(cell) not in self.index:
+            raise Problem("cell {},{},{} isn't in the listing: it has no flow, or lies outside the grid".format(*cell))
+        return self.index[tuple(cell)]
+
+    def widest(self) -> tuple[int, Step, tuple[int, int, int]]:
+        """The greatest upper less lower in 10^-9, its step and its cell."""
+        step = max(self.steps, key=lambda s: int(s.width().max(initial=-1)))
+        at = int(step.width().argmax())
+        return int(step.width()[at]), step, tuple(self.cells[at].tolist())
+
+    def lower(self, shape: tuple[int, int, int] | None = None) -> np.ndarray:
+        """Lower heads in length units, shape (steps, layers, rows, cols), rounded down; nan where there is no flow."""
+        return np.array([self.grid(head_floor(s.low), shape) for s in self.steps])
+
+    def upper(self, shape: tuple[int, int, int] | None = None) -> np.ndarray:
+        """Upper heads in length units, shape (steps, layers, rows, cols), rounded up; nan where there is no flow."""
+        return np.array([self.grid(-head_floor(-s.high), shape) for s in self.steps])
+
+    def grid(self, values: np.ndarray, shape: tuple[int, int, int] | None = None) -> np.ndarray:
+        """Values of the cells with flow on the whole grid, nan elsewhere."""
+        out = np.full(shape or self.shape, np.nan)
+        out[tuple((self.cells - 1).T)] = values
+        return out
+
+    def summary(self) -> str:
+        width, step, cell = self.widest()
+        return (f"{len(self.steps)} steps of {len(self.cells)} cells; widest pair {decimal_text(width, 9)} "
+                f"(period {step.period} step {step.step}, layer row column {' '.join(map(str, cell))})")
+
+
+def head_floor(units: np.ndarray) -> np.ndarray:
+    """The heads of whole numbers of 10^-9 as doubles, rounded down; exact where a double can hold the head."""
+    near = np.where(np.abs(units) < 2**53, units / UNITS_IN_ONE, units // UNITS_IN_ONE + units % UNITS_IN_ONE / UNITS_IN_ONE)
+    return np.where(units % FIFTHS == 0, units // FIFTHS / 512, np.nextafter(near, -np.inf))
+
+
+def read_listing(path: str | Path) -> Listing:
+    """Reads a listing. One that ended early is read as far as its steps are whole; `end` is its last line."""
+    lines = read_text(Path(path)).split("\n")
+    first = lines[0].split()
+    if not lines[0].strip():
+        raise Problem(f"{path} is empty: the write failed, or the run was stopped")
+    if first[0] in NO_LISTING:
+        raise Problem(f"{path} has no listing, it ended with: {lines[0][:100]}")
+    if len(first) != 6 or first[0] != "HEADS" or first[2] != "DIGITS" or not (first[3] + first[5].lstrip("-")).isdigit():
+        raise Problem(f"{path}, line 1: no listing of `heads` begins with {lines[0][:60]!r}")
+    listing = Listing(Path(path), int(first[3]), int(first[5]))
+    starts = [n for n, line in enumerate(lines) if line.startswith("STEP ")]
+    tail = next((n for n in range(len(lines) - 1, -1, -1) if lines[n].strip()), 0)
+    listing.end = lines[tail].strip() if not lines[tail].startswith(("HEAD", "STEP", "IN ", "OUT ", "ZONE")) else ""
+    for begin, end in zip(starts, starts[1:] + [tail if listing.end else tail + 1]):
+        is_last = begin == starts[-1]
+        try:
+            step, cells = _read_step(lines, begin, end, listing.flow_places)
+        except (ValueError, IndexError) as error:
+            if is_last and not listing.end:
+                break
+            raise Problem(f"{path}, line {_bad_line(lines, begin, end)}: not of a listing's form ({error})") from None
+        if not listing.steps:
+            listing.cells = cells
+        elif len(step.low) != len(listing.cells) and is_last and not listing.end:
+            break
+        elif not np.array_equal(cells, listing.cells):
+            raise Problem(f"{path}, line {begin + 1}: this step has other cells than the first")
+        listing.steps.append(step)
+    return listing
+
+
+def _read_step(lines: list[str], begin: int, end: int, places: int) -> tuple[Step, np.ndarray]:
+    """The step whose line STEP is lines[begin], and its cells."""
+    _, period, number = lines[begin].split()
+    last = begin + 1
+    while last < end and lines[last].startswith("HEAD "):
+        last += 1
+    text = " ".join(lines[begin + 1:last]).replace("HEAD ", "").replace(".", "")
+    table = np.array(text.split(), dtype=np.int64).reshape(last - begin - 1, 5)
+    step = Step(int(period), int(number), table[:, 3].copy(), table[:, 4].copy())
+    for line in lines[last:end]:
+        word, *rest = line.split(None, 3)
+        if word == "ZONE":
+            step.zones.append((int(rest[0]), int(rest[1]), *(_flow(w, places) for w in rest[2].split())))
+            continue
+        if word not in ("IN", "OUT"):
+            raise ValueError(f"a line begins with {word}")
+        pair = step.terms.setdefault(rest[2].strip(), [0, 0, 0, 0])
+        at = 0 if word == "IN" else 2
+        pair[at], pair[at + 1] = _flow(rest[0], places), _flow(rest[1], places)
+    return step, table[:, :3]
+
+
+def _flow(word: str, places: int) -> int:
+    whole, _, part = word.partition(".")
+    if len(part) != places:
+        raise ValueError(f"a flow with {len(part)} decimals where {places} are due")
+    return int(whole + part)
+
+
+def _bad_line(lines: list[str], begin: int, end: int) -> int:
+    """The number, from 1, of the first line of a step that isn't of any form of a listing's lines."""
+    for n in range(begin + 1, end):
+        w = lines[n].split()
+        size = {"HEAD": 6, "ZONE": 5}.get(w[0] if w else "", 0)
+        if not w or (size and len(w) != size) or w[0] not in ("HEAD", "IN", "OUT", "ZONE"):
+            return n + 1
+    return begin + 1

@@ -1,0 +1,369 @@
+"""Reads a deck in any spelling of the MODFLOW family, with all that is remarkable in it and not the first fault alone."""
+from __future__ import annotations
+
+import re
+from pathlib import Path, PureWindowsPath
+
+from .advice import OTHER_PACKAGES, UNKNOWN_PACKAGE
+from .deck import COLUMNS, KINDS, ONLY_PRINTS, PASSED, SCALED, Areal, Deck, Entry, Period
+from .sources import Array, Report, Source, binary_words, find_file, read_binary
+from .spelling import fortran, number, product, quoted_words
+from .text import Problem
+
+EVT_ARRAYS = ("SURF", "EVTR", "EXDP")
+
+
+def read_deck(nam: str | Path) -> tuple[Deck, Report]:
+    """Reads all files of a name file. What can't be read stands under the report's refusals."""
+    reader = Reader(Path(nam))
+    reader.read_names()
+    for kind in KINDS:
+        if kind in reader.deck.files:
+            try:
+                getattr(reader, "read_" + kind.lower(), lambda: reader.read_list(kind))()
+            except Problem as error:
+                reader.refuse_text(kind, str(error))
+            except (IndexError, ValueError) as error:
+                reader.refuse_text(kind, f"can't be read: {error}")
+            if kind == "DIS" and not reader.deck.periods:
+                break
+    return reader.deck, reader.report
+
+
+def plain_name(name: str) -> str:
+    """A file's name without folders, of printable letters alone."""
+    return re.sub(r"[^\x21-\x7e]", "_", PureWindowsPath(name).name)
+
+
+class Reader:
+    """The reading of one deck."""
+
+    def __init__(self, nam: Path):
+        self.report, self.deck, self.folder = Report(), Deck(nam), nam.parent
+        self.sources: dict[str, Source] = {}
+        self.binary_at: dict[str, int] = {}
+        self.at: Source | None = None
+
+    def refuse_text(self, kind: str, text: str) -> None:
+        file = self.deck.files.get(kind, kind)
+        here = self.at
+        if here is not None and text.startswith(here.name):
+            self.report.add("refusals", here.name, here.at, re.sub(r"^[^:]*, line \d+: |^\S+ ", "", text, count=1))
+        else:
+            self.report.add("refusals", here.name if here else file, here.at if here else 0, text)
+
+    def refuse(self, text: str) -> None:
+        self.report.add("refusals", self.at.name, self.at.at, text)
+
+    def need(self, text: str) -> None:
+        self.report.add("needed", self.at.name, self.at.at, text)
+
+    def change(self, text: str) -> None:
+        self.report.add("changes", self.at.name, self.at.at, text)
+
+    def warn(self, text: str) -> None:
+        self.report.add("warnings", self.at.name, self.at.at, text)
+
+    # The name file.
+
+    def read_names(self) -> None:
+        deck, name = self.deck, self.deck.path.name
+        source = self.at = Source(self.deck.path, name, self.report)
+        for n, line in enumerate(source.lines, 1):
+            source.at = n
+            if line.startswith("#") or not line.strip(" \t,\r"):
+                deck.name_lines.append(line)
+                continue
+            self._read_name(line)
+        for kind in ("DIS", "BAS6", "LPF"):
+            if kind not in deck.files:
+                self.report.add("refusals", name, 0, f"the name file lacks {kind}")
+
+    def _read_name(self, line: str) -> None:
+        deck, w = self.deck, quoted_words(line)
+        kind = w[0].upper()
+        if kind in ONLY_PRINTS:
+            self.need(f"`{line.strip()[:60]}` dropped: it only prints or compares, or is another program's solver")
+            return
+        if kind in PASSED:
+            if len(w) > 2:
+                deck.units[w[1]] = w[2]
+            deck.name_lines.append(" ".join(w))
+            return
+        if kind == "UPW":
+            self.need("UPW written as LPF: the same equations where every layer is confined")
+            self.deck.options["UPW"], kind = "yes", "LPF"
+        if kind not in KINDS:
+            return self.refuse(f"{w[0]}: {OTHER_PACKAGES.get(kind, UNKNOWN_PACKAGE)}")
+        if len(w) < 3 or not re.fullmatch(r"[+-]?\d+", w[1]):
+            return self.refuse("a line of the name file is `TYPE UNIT FILE`")
+        if kind in deck.files:
+            return self.refuse(f"{kind} stands in the name file twice")
+        deck.files[kind], deck.units[w[1]] = w[2], w[2]
+        if "'" in line or '"' in line:
+            self.need("quotes taken out")
+        if plain_name(w[2]) != w[2]:
+            (self.need if re.search(r"[^\x21-\x7e]|:", w[2]) else self.change)(f"`{w[2]}` written as {plain_name(w[2])}")
+        deck.name_lines.append(f"{kind} {w[1]} {plain_name(w[2])}")
+
+    def open(self, name: str) -> Source:
+        path, how = find_file(self.folder, name)
+        source = Source(path, name, self.report)
+        if how:
+            self.report.add("needed", self.deck.path.name, 0, how)
+        return source
+
+    def start(self, kind: str) -> Source:
+        self.at = None
+        self.at = source = self.open(self.deck.files[kind])
+        self.deck.comments[kind] = source.comments(is_blank_taken=kind == "BAS6")
+        return source
+
+    def unit(self, word: str) -> Source:
+        """The file of a unit, where it was read up to."""
+        name = self.deck.units.get(word)
+        if name is None:
+            raise Problem(f"unit {word} isn't in the name file")
+        if name == self.at.name:
+            return self.at
+        if name not in self.sources:
+            self.sources[name] = self.open(name)
+        return self.sources[name]
+
+    def fields(self, source: Source, line: str, count: int) -> list[str]:
+        """The first words of a line: parted by blanks, or by columns of 10 in a deck without FREE. Missing ones are 0."""
+        w = quoted_words(line) if self.deck.is_free else [line[k:k + 10].replace(" ", "") or "0" for k in range(0, 10 * count, 10)]
+        if not self.deck.is_free:
+            self.report.add("needed", source.name, 0, "columns of fixed width written free")
+        return w[:count] + ["0"] * (count - len(w))
+
+    # Arrays.
+
+    def array(self, rows: int, cols: int, source: Source | None = None) -> Array:
+        source = source or self.at
+        line = source.line()
+        w = quoted_words(line)
+        kind, shape = w[0].upper(), (rows, cols)
+        if "'" in line or '"' in line:
+            self.need("quotes taken out of an array's record")
+        if kind == "CONSTANT":
+            return Array([source.number(w[1])], "1", shape)
+        if kind == "INTERNAL":
+            return self._values(source, source, w[1], w[2], shape, kind)
+        if kind == "OPEN/CLOSE":
+            if w[3].upper() == "(BINARY)":
+                return self._binary(source, w[1], w[2], shape, True)
+            return self._values(source, self.open(w[1]), w[2], w[3], shape, kind)
+        if kind == "EXTERNAL":
+            if w[3].upper() == "(BINARY)":
+                return self._binary(source, self.deck.units.get(w[1], w[1]), w[2], shape, False)
+            return self._values(source, self.unit(w[1]), w[2], w[3], shape, kind)
+        locat, factor, text = line[:10].strip(), line[10:20].strip() or "0", line[20:40].strip() or "(FREE)"
+        if not re.fullmatch(r"[+-]?\d+", locat):
+            raise Problem(f"{source.name}, line {source.at}: an array begins with CONSTANT, INTERNAL, OPEN/CLOSE or EXTERNAL, "
+                          f"and here stands `{line.strip()[:40]}`. Or the array before has more values than its grid")
+        self.need("an array's record in fixed columns written with a keyword")
+        if int(locat) == 0:
+            return Array([source.number(factor)], "1", shape)
+        if int(locat) < 0:
+            return self._binary(source, self.deck.units.get(str(-int(locat)), ""), factor, shape, False)
+        return self._values(source, self.unit(str(int(locat))), factor, text, shape, "LOCAT")
+
+    def _values(self, source: Source, data: Source, factor: str, text: str, shape: tuple[int, int], kind: str) -> Array:
+        factor, count = source.number(factor), shape[1]
+        if kind == "OPEN/CLOSE":
+            self.change(f"array of {data.name} put in place")
+        if kind == "EXTERNAL":
+            self.need(f"EXTERNAL: array of {data.name} put in place")
+        if text.upper() != "(FREE)":
+            self.need(f"format {text} written as (FREE)")
+        is_free = fortran(text) is None
+        out = [w for _ in range(shape[0]) for w in (data.free_values(count) if is_free else data.fixed_values(count, text))]
+        return Array(out, factor, shape)
+
+    def _binary(self, source: Source, name: str, factor: str, shape: tuple[int, int], is_rest: bool) -> Array:
+        path, _ = find_file(self.folder, name)
+        values, self.binary_at[name] = read_binary(path, shape[0] * shape[1], 0 if is_rest else self.binary_at.get(name, 0), is_rest)
+        digits = "9" if values.dtype.itemsize == 4 else "17"
+        self.need(f"binary array of {path.name} written as text of up to {digits} digits, the shortest that names each value")
+        return Array([number(w).text for w in binary_words(values)], source.number(factor), shape)
+
+    # The packages that every deck has.
+
+    def read_dis(self) -> None:
+        s, deck = self.start("DIS"), self.deck
+        line = s.line()
+        if line.lstrip().startswith("#"):
+            raise Problem("a comment has to begin in the first column (MODFLOW wants it so, too)")
+        w = quoted_words(line)
+        nlay, nrow, ncol, nper, deck.itmuni, deck.lenuni = (s.integer(x, "a count") for x in w[:6])
+        over = [text for is_bad, text in (
+            (not 1 <= nlay <= 64, "NLAY from 1 to 64"), (not (1 <= nrow <= 1024 and 1 <= ncol <= 1024), "NROW and NCOL from 1 to 1,024"),
+            (nlay * nrow * ncol > 65536, f"at most 65,536 cells in all (these are {nlay * nrow * ncol:,})"), (not 1 <= nper <= 1000, "NPER from 1 to 1,000")) if is_bad]
+        if over:
+            self.refuse("`heads` takes " + "; ".join(over))
+        deck.nlay, deck.nrow, deck.ncol = nlay, nrow, ncol
+        deck.laycbd = [s.integer(x, "LAYCBD") for x in s.free_values(nlay)]
+        if deck.laycbd[-1]:
+            self.refuse("LAYCBD of the last layer isn't 0: there is no layer below its bed")
+        deck.delr, deck.delc, deck.top = self.array(1, ncol), self.array(1, nrow), self.array(nrow, ncol)
+        for k in range(nlay):
+            deck.bottom.append(self.array(nrow, ncol))
+            if deck.laycbd[k]:
+                deck.bed_bottom[k] = self.array(nrow, ncol)
+        periods = [self._period(s) for _ in range(nper)]
+        deck.periods = periods
+        if sum(p.nstp for p in periods) > 100_000:
+            self.refuse("more than 100,000 time steps")
+
+    def _period(self, s: Source) -> Period:
+        w = quoted_words(s.line())
+        if len(w) < 4 or w[3].upper() not in ("SS", "TR"):
+            raise Problem("a period's line is PERLEN NSTP TSMULT and SS or TR")
+        period = Period(s.number(w[0]), s.integer(w[1], "NSTP"), s.number(w[2]), w[3].upper() == "SS")
+        perlen, mult = float(period.perlen), float(period.tsmult)
+        if perlen < 0 or (perlen == 0 and not period.is_steady) or mult <= 0:
+            self.refuse("PERLEN is above 0 in a transient period, TSMULT above 0")
+        if not period.is_steady and mult != 1 and not (0.001 <= mult <= 1000 and period.nstp <= 1000):
+            self.refuse("TSMULT lies from 0.001 to 1000, with at most 1,000 steps, where it isn't 1 in a transient period")
+        return period
+
+    def read_bas6(self) -> None:
+        s, deck = self.start("BAS6"), self.deck
+        line = s.line(is_blank_taken=True)
+        options = line.upper().replace(",", " ").split()
+        deck.is_free = "FREE" in options
+        deck.options["BAS6"] = line if deck.is_free and "CHTOCH" not in options else "FREE"
+        if not deck.is_free:
+            self.need(f"option line `{line.strip()}` written as FREE: the deck is in columns of fixed width")
+        if "CHTOCH" in options:
+            self.need("CHTOCH dropped: it only adds flows between constant cells to MODFLOW's budget")
+        if "XSECTION" in options:
+            raise Problem("XSECTION (MODFLOW takes the word behind a # too) changes how arrays are read: load and save the model by FloPy")
+        deck.ibound = [self.array(deck.nrow, deck.ncol) for _ in range(deck.nlay)]
+        self.marker(s, quoted_words(s.line())[0], "HNOFLO")
+        deck.strt = [self.array(deck.nrow, deck.ncol) for _ in range(deck.nlay)]
+
+    def marker(self, s: Source, word: str, name: str) -> str:
+        """A marker of cells as `heads` reads it: any number does."""
+        try:
+            number(word)
+            return word
+        except Problem:
+            self.need(f"{name} {word} written as -999.99: a marker alone")
+            return "-999.99"
+
+    def read_lpf(self) -> None:
+        s, deck = self.start("LPF"), self.deck
+        line = s.line()
+        w = quoted_words(line)
+        if s.integer(w[2], "NPLPF") > 0:
+            raise Problem("LPF has parameters: load the model in FloPy and write it again, which writes their values")
+        hdry = self.marker(s, w[1], "HDRY")
+        deck.options["LPF"] = line if hdry == w[1] else line.replace(w[1], hdry, 1)
+        if "UPW" in deck.options:
+            deck.options["LPF"] = f"{w[0]} {hdry} 0"
+        elif "STORAGECOEFFICIENT" in (line.partition("#")[2]).upper():
+            self.warn("STORAGECOEFFICIENT stands behind a #, and counts all the same: MODFLOW-2005 looks at the whole line, and so does `heads`")
+        rows = deck.layer_words = [[] for _ in range(5)]
+        for at, name in enumerate(("LAYTYP", "LAYAVG", "CHANI", "LAYVKA", "LAYWET")):
+            rows[at] = s.free_values(deck.nlay)
+            if at in (0, 1, 4) and any(float(x) for x in rows[at]):
+                layers = " ".join(str(k + 1) for k, x in enumerate(rows[at]) if float(x))
+                self.refuse({"LAYTYP": f"LAYTYP of layer {layers} isn't 0: a convertible layer is another model, whose transmissivity changes with the head. "
+                             "To make it confined is your decision, not a spelling", "LAYAVG": f"LAYAVG of layer {layers} isn't 0: only the harmonic mean is read",
+                             "LAYWET": f"LAYWET of layer {layers} isn't 0: no wetting in confined layers"}[name])
+        if any(float(x) for x in rows[4]):
+            s.line()
+        deck.properties = [self._layer(k) for k in range(deck.nlay)]
+
+    def _layer(self, k: int) -> dict[str, Array]:
+        deck, rows = self.deck, self.deck.layer_words
+        names = ["HK"] + ["HANI"] * (float(rows[2][k]) <= 0) + ["VKA"]
+        is_convertible = float(rows[0][k]) != 0
+        names += (["SS"] + ["SY"] * is_convertible) * deck.is_transient
+        names += ["VKCB"] * (deck.laycbd[k] != 0) + ["WETDRY"] * (is_convertible and float(rows[4][k]) != 0)
+        return {name: self.array(deck.nrow, deck.ncol) for name in names}
+
+    # Stress packages.
+
+    def read_list(self, kind: str) -> None:
+        s, deck = self.start(kind), self.deck
+        line = s.line()
+        first = quoted_words(line)[0].upper()
+        if first == "PARAMETER":
+            raise Problem("PARAMETER: load the model in FloPy and write it again, which writes the values")
+        most = s.integer(self.fields(s, line, 1)[0], "the maximum count")
+        deck.options[kind] = line if deck.is_free else " ".join(self.fields(s, line, 2))
+        deck.lists[kind] = []
+        for period in range(len(deck.periods)):
+            w = self.fields(s, s.line(), 2)
+            count = s.integer(w[0], "ITMP")
+            if re.fullmatch(r"\d+", w[1]) and int(w[1]) > 0:
+                raise Problem("parameters (NP above 0): load the model in FloPy and write it again")
+            if count < 0 and period == 0:
+                self.refuse("ITMP below 0 says `as in the last period`, and there is none before")
+            if count > most:
+                self.warn(f"{count} entries where the file's maximum is {most}: MODFLOW-2005 stops, `heads` doesn't compare")
+            if count > 65536:
+                raise Problem("more than 65,536 entries")
+            deck.lists[kind].append(self.entries(kind, count) if count >= 0 else None)
+
+    def entries(self, kind: str, count: int) -> list[Entry]:
+        source, factor, columns, out = self.at, "", len(COLUMNS[kind]), []
+        while len(out) < count:
+            line = source.line()
+            w = quoted_words(line)
+            first = w[0].upper()
+            if first in ("OPEN/CLOSE", "EXTERNAL") and not out:
+                source = self.open(w[1]) if first == "OPEN/CLOSE" else self.unit(w[1])
+                self.need(f"{first}: list of {source.name} put in place")
+                if any(x.upper() == "(BINARY)" for x in w[2:]):
+                    raise Problem("a binary list isn't read: write it as text by FloPy")
+            elif first == "SFAC" and not out:
+                factor = source.number(w[1])
+                self.need(f"SFAC {w[1]} multiplied out")
+            else:
+                out.append(self._entry(kind, source, line, columns, factor))
+        return out
+
+    def _entry(self, kind: str, source: Source, line: str, columns: int, factor: str) -> Entry:
+        deck = self.deck
+        w = self.fields(source, line, 3 + columns)
+        if deck.is_free and len(quoted_words(line)) < 3 + columns:
+            self.report.add("needed", source.name, source.at, "missing numbers of an entry written as 0, as MODFLOW-2005 reads them")
+        cell = tuple(source.integer(x, "a layer, row or column") for x in w[:3])
+        if not all(1 <= x <= n for x, n in zip(cell, (deck.nlay, deck.nrow, deck.ncol))):
+            self.report.add("refusals", source.name, source.at, f"layer, row, column {cell} lie outside the grid of {deck.nlay}, {deck.nrow}, {deck.ncol}")
+        values = [source.number(x) for x in w[3:]]
+        if factor:
+            values = [product(x, factor).text if n in SCALED[kind] else x for n, x in enumerate(values)]
+        if kind in ("RIV", "DRN", "GHB") and float(values[1].replace("D", "E").replace("d", "e")) < 0:
+            self.report.add("refusals", source.name, source.at, "Cond is below 0")
+        return Entry(cell, values, source.name, source.at)
+
+    def read_rch(self) -> None:
+        self._areal("RCH", ("RECH",), "IRCH")
+
+    def read_evt(self) -> None:
+        self._areal("EVT", EVT_ARRAYS, "IEVT")
+
+    def _areal(self, kind: str, names: tuple[str, ...], layers: str) -> None:
+        s, deck = self.start(kind), self.deck
+        line = s.line()
+        if quoted_words(line)[0].upper() == "PARAMETER":
+            raise Problem("PARAMETER: load the model in FloPy and write it again, which writes the values")
+        option = s.integer(self.fields(s, line, 1)[0], "the option")
+        if option not in (1, 2, 3):
+            raise Problem(f"the option is {option}; 1, 2 or 3 are read")
+        deck.options[kind] = line if deck.is_free else " ".join(self.fields(s, line, 2))
+        areal = deck.areal[kind] = Areal(option)
+        names += (layers,) * (option == 2)
+        for period in range(len(deck.periods)):
+            flags = [s.integer(x, "a flag") for x in self.fields(s, s.line(), len(names))]
+            if period == 0 and min(flags) < 0:
+                self.refuse("a flag below 0 says `as in the last period`, and there is none before")
+            arrays = {name: self.array(deck.nrow, deck.ncol) for name, flag in zip(names, flags) if flag >= 0}
+            areal.periods.append((flags, arrays))
+            if layers in arrays and (arrays[layers].floats() == 0).any():
+                self.warn(f"{layers} is 0 in a column: `heads` reads `no layer`; MODFLOW-2005 stops there, or passes over it in newer versions")

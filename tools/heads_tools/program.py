@@ -1,0 +1,159 @@
+"""The program `heads`: where it is, what it says of itself, and runs of it."""
+from __future__ import annotations
+
+import hashlib
+import os
+import shutil
+import subprocess
+import sys
+import time
+from dataclasses import dataclass
+from pathlib import Path
+
+from .listing import read_listing
+from .text import Problem, decimal_text, whole_file
+
+TOP = Path(__file__).resolve().parents[2]
+DEFAULT_DIGITS = 12
+
+
+def program() -> Path:
+    """The program: the environment's HEADS, else the kept one or the script of this checkout, else `heads` on the path."""
+    if os.environ.get("HEADS"):
+        path = Path(os.environ["HEADS"]).resolve()
+        if not os.access(path, os.X_OK) or path.is_dir():
+            raise Problem(f"HEADS names {path}, which is no program")
+        return path
+    for path in (TOP / "heads", Path(shutil.which("heads") or "")):
+        if path.is_file() and os.access(path, os.X_OK):
+            return path.resolve()
+    raise Problem("where is `heads`? Set HEADS=/path/to/heads, or put it on the PATH")
+
+
+def sha256(path: Path) -> str:
+    return hashlib.sha256(Path(path).read_bytes()).hexdigest()
+
+
+@dataclass
+class Version:
+    """What is known of the program: lines for people, and whether its bytes are the recorded ones (None: no record)."""
+
+    lines: list[str]
+    is_recorded: bool | None
+
+
+def version() -> Version:
+    found = program()
+    binary = TOP / "dist" / "heads" if found == TOP / "heads" and (TOP / "dist" / "heads").is_file() else found
+    lines = [f"program {found}"] + ([f"        which runs {binary} where that was built from the checkout's sources"] if binary != found else [])
+    lines.append(f"sha256  {sha256(binary)}")
+    record = binary.with_name(binary.name + ".txt")
+    if not record.is_file():
+        return Version(lines + ["no record of its sources stands beside it"], None)
+    noted = dict(line.split(" ", 1) for line in record.read_text().splitlines() if " " in line)
+    is_same = noted.get("program") == sha256(binary)
+    lines += [f"sources {noted.get('sources', 'not recorded')}", f"kit     {noted.get('kit', 'not recorded')}"]
+    lines.append("its bytes are those recorded" if is_same else f"ITS BYTES ARE NOT THOSE RECORDED in {record}")
+    script = TOP / "scripts" / "program_sources"
+    if binary == TOP / "dist" / "heads" and script.is_file():
+        now = subprocess.run([script], capture_output=True, text=True).stdout.strip()
+        lines.append("the checkout's sources are those it was built from" if now == noted.get("sources") else "the checkout's sources have changed since it was built")
+    return Version(lines, is_same)
+
+
+@dataclass
+class Ended:
+    """How a run ended: its status, its last line, seconds by the clock, the steps that it wrote."""
+
+    status: int
+    last: str
+    seconds: float
+    steps: int = 0
+
+
+def call(words: list[str], folder: Path, seconds: float | None = None) -> Ended:
+    """Runs the program in a folder and takes its last line alone."""
+    began = time.monotonic()
+    try:
+        done = subprocess.run([program(), *words], cwd=folder, capture_output=True, text=True, errors="replace", timeout=seconds)
+    except subprocess.TimeoutExpired:
+        return Ended(-1, "", time.monotonic() - began)
+    lines = done.stdout.rstrip("\n").rsplit("\n", 1)
+    return Ended(done.returncode, lines[-1] if lines else "", time.monotonic() - began)
+
+
+def read_alone(nam: Path) -> str | None:
+    """None where the program reads the deck as a model, else its last line. Nothing is solved: a name file is no listing."""
+    ended = call(["check", nam.name, nam.name], nam.parent)
+    return None if ended.last.startswith("REFUSED 20 ") else ended.last
+
+
+class Progress:
+    """One line on standard error that tells how far a run is: the step, the widest pair so far, the time."""
+
+    def __init__(self, name: str, steps: int | None):
+        self.name, self.steps, self.began, self.told = name, steps, time.monotonic(), 0.0
+        self.count, self.widest, self.is_live = 0, 0, sys.stderr.isatty()
+
+    def head(self, line: bytes) -> None:
+        words = line.split()
+        if len(words) == 6:
+            self.widest = max(self.widest, int(words[5].replace(b".", b"")) - int(words[4].replace(b".", b"")))
+
+    def step(self) -> None:
+        self.count += 1
+        now = time.monotonic()
+        if now - self.told > (0.2 if self.is_live else 10) or self.count == self.steps:
+            self.told = now
+            self.tell()
+
+    def tell(self) -> None:
+        of = f" of {self.steps}" if self.steps else ""
+        text = f"{self.name}: step {self.count}{of}, widest pair so far {decimal_text(self.widest, 9)}, {time.monotonic() - self.began:.1f} s"
+        print(("\r" if self.is_live else "") + text, end="" if self.is_live else "\n", file=sys.stderr, flush=True)
+
+    def end(self) -> None:
+        if self.is_live and self.count:
+            self.tell()
+            print(file=sys.stderr)
+
+
+def run(nam: Path, options: list[str], target: Path, steps: int | None = None, is_told: bool = True) -> Ended:
+    """Runs `heads run` in the model's folder into a file, which gets its name once the run ended."""
+    progress = Progress(nam.name, steps)
+    began, last, count = time.monotonic(), b"", 0
+    with whole_file(target, binary=True) as file:
+        process = subprocess.Popen([program(), "run", nam.name, *options], cwd=nam.parent, stdout=subprocess.PIPE)
+        try:
+            is_open = False
+            for line in process.stdout:
+                file.write(line)
+                if line.startswith(b"HEAD "):
+                    progress.head(line)
+                elif line.startswith((b"STEP ", b"END")) and is_told:
+                    if is_open:
+                        progress.step()
+                    is_open = line.startswith(b"STEP ")
+                count += line.startswith(b"STEP ")
+                last = line
+        except BaseException:
+            process.kill()
+            process.wait()
+            raise
+        status = process.wait()
+    if is_told:
+        progress.end()
+    return Ended(status, last.decode("latin-1").strip(), time.monotonic() - began, count)
+
+
+def digits_of(options: list[str]) -> int:
+    """The digits that the options of a run ask for."""
+    for n, word in enumerate(options):
+        text = word.partition("=")[2] if word.startswith("--digits=") else options[n + 1] if word == "--digits" and n + 1 < len(options) else ""
+        if text:
+            return int(text) if text.isdigit() and int(text) <= 18 else DEFAULT_DIGITS
+    return DEFAULT_DIGITS
+
+
+def summary(path: Path) -> str:
+    return read_listing(path).summary()

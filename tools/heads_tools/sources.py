@@ -1,0 +1,193 @@
+"""Files of a deck in any spelling of the MODFLOW family: their lines, arrays and lists, and what is remarkable in them."""
+from __future__ import annotations
+
+from dataclasses import dataclass, field
+from pathlib import Path, PureWindowsPath
+
+import numpy as np
+
+from .spelling import exact, fortran, number, quoted_words
+from .text import Problem, on_disk, read_text
+
+
+@dataclass(frozen=True)
+class Remark:
+    """A sentence about a place of a deck."""
+
+    file: str
+    line: int
+    text: str
+
+    def __str__(self) -> str:
+        return f"{self.file}{f', line {self.line}' if self.line else ''}: {self.text}"
+
+
+@dataclass
+class Report:
+    """What was seen while a deck was read. `refusals`: not inside, and no other spelling helps. `needed`: changes
+    without which `heads` refuses the deck. `changes`: changes of layout alone. `warnings`: where MODFLOW-2005 reads
+    the same file otherwise; `blocking` those of them that `plain` can't write."""
+
+    refusals: list[Remark] = field(default_factory=list)
+    needed: list[Remark] = field(default_factory=list)
+    changes: list[Remark] = field(default_factory=list)
+    warnings: list[Remark] = field(default_factory=list)
+    blocking: list[Remark] = field(default_factory=list)
+    precise: int = 0
+    first_precise: str = ""
+
+    def add(self, kind: str, file: str, line: int, text: str) -> None:
+        remark, where = Remark(file, line, text), getattr(self, kind)
+        if remark not in where:
+            where.append(remark)
+
+
+@dataclass
+class Array:
+    """An array of a deck: the words of its numbers, one for a constant, and the factor's word ("0": none)."""
+
+    words: list[str]
+    factor: str
+    shape: tuple[int, int]
+
+    @property
+    def is_constant(self) -> bool:
+        return len(self.words) == 1
+
+    def floats(self) -> np.ndarray:
+        """The values as doubles, shape (rows, cols)."""
+        factor = 1.0 if self.is_constant or not exact(self.factor) else float(exact(self.factor))
+        values = np.array([w.replace("D", "E").replace("d", "e") for w in self.words], dtype=float) * factor
+        return np.full(self.shape, values[0]) if self.is_constant else values.reshape(self.shape)
+
+    def exact(self, at: int):
+        """The value at a place (row * cols + col) as a Decimal."""
+        if self.is_constant:
+            return exact(self.words[0])
+        value = exact(self.words[at])
+        return value * exact(self.factor) if exact(self.factor) else value
+
+    def lines(self) -> list[str]:
+        """The array as `heads` reads it."""
+        if self.is_constant:
+            return [f"CONSTANT {self.words[0]}"]
+        cols = self.shape[1]
+        rows = (self.words[n:n + cols] for n in range(0, len(self.words), cols))
+        return [f"INTERNAL {self.factor} (FREE) -1", *(" ".join(row) for row in rows)]
+
+
+def find_file(folder: Path, name: str) -> tuple[Path, str]:
+    """The file that a name means, and what had to be done to find it (other letters, the last part of a path)."""
+    for path in (on_disk(folder, name), folder / PureWindowsPath(name).name):
+        if path.is_file():
+            return path, "" if path == on_disk(folder, name) else f"`{name}` found as {path.name}"
+        near = [f for f in (sorted(path.parent.iterdir()) if path.parent.is_dir() else []) if f.name.lower() == path.name.lower()]
+        if near:
+            return near[0], f"`{name}` found as {near[0].name}"
+    raise Problem(f"there is no file {name} in {folder}")
+
+
+class Source:
+    """The lines of a file, taken one after another."""
+
+    def __init__(self, path: Path, name: str, report: Report):
+        text = read_text(path)
+        self.name, self.report, self.at = name, report, 0
+        if text.startswith("\u00ef\u00bb\u00bf"):
+            text = text[3:]
+            report.add("needed", name, 1, "byte order mark dropped")
+        self.lines = [line.rstrip("\r") for line in text.split("\n")]
+        if self.lines and not self.lines[-1]:
+            self.lines.pop()
+
+    def comments(self, is_blank_taken: bool = False) -> list[str]:
+        """The comment lines from here on. A blank line ends them where it may be the first item."""
+        begin = self.at
+        while self.at < len(self.lines) and (self.lines[self.at].startswith("#") or not (is_blank_taken or self.lines[self.at].strip(" \t,"))):
+            self.at += 1
+        return [line for line in self.lines[begin:self.at] if line.startswith("#")]
+
+    def line(self, is_blank_taken: bool = False) -> str:
+        """The next line with a word, or the next one whatever it is."""
+        while self.at < len(self.lines):
+            self.at += 1
+            line = self.lines[self.at - 1]
+            if is_blank_taken or line.strip(" \t,\x1a"):
+                return line
+            self.report.add("warnings", self.name, self.at, "a blank line where an item is due: `heads` skips it, MODFLOW-2005 may read it as zeros")
+        raise Problem(f"{self.name} ends after line {len(self.lines)} where more is due: too few rows, layers, periods or entries for the counts in DIS?")
+
+    def number(self, word: str) -> str:
+        """A number's word as `heads` reads it, with remarks."""
+        try:
+            seen = number(word)
+        except Problem as error:
+            raise Problem(f"{self.name}, line {self.at}: {error}") from None
+        if seen.change:
+            self.report.add("needed", self.name, self.at, seen.change)
+        if seen.digits > 7:
+            self.report.precise += 1
+            self.report.first_precise = self.report.first_precise or f"{self.name}, line {self.at}: {word}"
+        return seen.text
+
+    def integer(self, word: str, what: str) -> int:
+        try:
+            return int(word)
+        except ValueError:
+            raise Problem(f"{self.name}, line {self.at}: {what} is `{word}`, where a whole number is due") from None
+
+    def free_values(self, count: int) -> list[str]:
+        """The words of a free list, which begins on a new line."""
+        out: list[str] = []
+        while len(out) < count:
+            line = self.line()
+            self._look_for_nulls(line)
+            for word in quoted_words(line) if "'" in line or '"' in line else line.replace(",", " ").split():
+                times, star, value = word.partition("*")
+                if star and (not times.isdigit() or int(times) < 1):
+                    raise Problem(f"{self.name}, line {self.at}: `{word}` is no repeated number")
+                if len(out) >= count:
+                    break
+                out += [self.number(value)] * min(int(times), count) if star else [self.number(word)]
+        return out[:count]
+
+    def _look_for_nulls(self, line: str) -> None:
+        squeezed = line.replace(" ", "").replace("\t", "")
+        if ",," in squeezed or squeezed.startswith(",") or "/" in squeezed or "*," in squeezed:
+            self.report.add("blocking", self.name, self.at, "a value is left out (`,,` or `/`): MODFLOW-2005 keeps there what it had, "
+                            "`heads` takes the next value: two different models. Write the value")
+
+    def fixed_values(self, count: int, text: str) -> list[str]:
+        """The words of a list in columns of fixed width."""
+        fields, out = fortran(text), []
+        while len(out) < count:
+            line = self.line(is_blank_taken=True)
+            out += [self.number(fields.of(line, n)) for n in range(min(fields.count, count - len(out)))]
+        return out
+
+
+def read_binary(path: Path, count: int, at: int, is_rest: bool) -> tuple[np.ndarray, int]:
+    """An array of MODFLOW's unformatted files from a byte on, and the byte after it: singles or doubles, with or
+    without a header and Fortran's record marks. `is_rest`: the array is the rest of the file."""
+    raw = path.read_bytes()[at:]
+    fits = []
+    for size, dtype in ((4, "<f4"), (8, "<f8")):
+        for marks in (0, 4):
+            for header in (0, 36 + 2 * size):
+                total = (header + 2 * marks if header else 0) + count * size + 2 * marks
+                named = not header or raw[marks + 8 + 2 * size:marks + 24 + 2 * size].isascii() and raw[marks + 8 + 2 * size:marks + 24 + 2 * size].strip().isalpha()
+                marked = not marks or raw[:4] == (header or count * size).to_bytes(4, "little")
+                if named and marked and (total == len(raw) if is_rest else header and total <= len(raw)):
+                    fits.append((size, dtype, total - count * size - marks, total))
+    if len({f[1] for f in fits}) != 1:
+        raise Problem(f"{path.name}: its {len(raw)} bytes are no array of {count} numbers that can be told for sure")
+    size, dtype, skip, total = fits[0]
+    values = np.frombuffer(raw, dtype, count, skip)
+    if not np.isfinite(values).all():
+        raise Problem(f"{path.name}: a value isn't a number")
+    return values, at + total
+
+
+def binary_words(values: np.ndarray) -> list[str]:
+    """The shortest decimals that name each value among its kind (9 digits for singles, 17 for doubles)."""
+    return [np.format_float_scientific(v, unique=True, trim="0") for v in values]

@@ -1,0 +1,96 @@
+"""Texts of files: words of lines, numbers of people, and files that are written whole or not at all."""
+from __future__ import annotations
+
+import os
+import re
+import tempfile
+from contextlib import contextmanager
+from pathlib import Path
+from typing import IO, Iterator
+
+LENGTHS = {0: "length units", 1: "ft", 2: "m", 3: "cm"}
+TIMES = {0: "time units", 1: "s", 2: "min", 3: "h", 4: "d", 5: "a"}
+
+
+class Problem(Exception):
+    """A sentence for people: what is wrong, with file and line where there is one."""
+
+
+def words(line: str) -> list[str]:
+    """The words of a line as `heads` parts them: by blanks, tabs, commas and carriage returns."""
+    return [w for w in re.split(r"[ \t,\r]+", line) if w]
+
+
+def on_disk(folder: Path, name: str) -> Path:
+    """The path of a name as it stands in a deck, in which a backslash parts folders too."""
+    return folder / name.replace("\\", "/")
+
+
+def read_text(path: Path) -> str:
+    """The text of a file, one character for each byte."""
+    try:
+        return Path(path).read_bytes().decode("latin-1")
+    except IsADirectoryError:
+        raise Problem(f"{path} is a folder; a file is due here") from None
+    except FileNotFoundError:
+        raise Problem(f"there is no file {path}") from None
+    except OSError as error:
+        raise Problem(f"{path} can't be read: {error.strerror}") from None
+
+
+@contextmanager
+def whole_file(path: Path | str, binary: bool = False) -> Iterator[IO]:
+    """A file to write, which gets its name once all was written. After an exception nothing of it is left."""
+    path = Path(path)
+    try:
+        path.parent.mkdir(parents=True, exist_ok=True)
+        handle, name = tempfile.mkstemp(prefix=f".{path.name}.", dir=path.parent)
+    except OSError as error:
+        raise Problem(f"{path} can't be written: {error.strerror}") from None
+    try:
+        with os.fdopen(handle, "wb" if binary else "w", **({} if binary else {"encoding": "utf-8"})) as file:
+            yield file
+        os.chmod(name, 0o644)
+        os.replace(name, path)
+    except BaseException as error:
+        if os.path.exists(name):
+            os.unlink(name)
+        if isinstance(error, OSError):
+            raise Problem(f"{path} can't be written: {error.strerror}") from None
+        raise
+
+
+def decimal_text(units: int, places: int) -> str:
+    """A whole number of 10^-places as a decimal with all its places."""
+    sign, units = ("-" if units < 0 else ""), abs(int(units))
+    if places == 0:
+        return f"{sign}{units}"
+    return f"{sign}{units // 10**places}.{units % 10**places:0{places}d}"
+
+
+def down(units: int, places: int, shown: int = 6) -> str:
+    """A lower bound with fewer places, rounded down."""
+    return decimal_text(int(units) // 10 ** (places - shown), shown)
+
+
+def up(units: int, places: int, shown: int = 6) -> str:
+    """An upper bound with fewer places, rounded up."""
+    return decimal_text(-(-int(units) // 10 ** (places - shown)), shown)
+
+
+def short_up(value: float) -> str:
+    """A number that isn't negative, with three digits, rounded up."""
+    return _short(value, 1)
+
+
+def short_down(value: float) -> str:
+    """A number that isn't negative, with three digits, rounded down."""
+    return _short(value, -1)
+
+
+def _short(value: float, side: int) -> str:
+    text = f"{value:.3g}"
+    if value == 0 or side * float(text) >= side * value:
+        return text
+    mantissa, exponent = f"{value:.2e}".split("e")
+    return f"{float(f'{float(mantissa) + side * 0.01:.2f}e{exponent}'):.3g}"
