@@ -24,7 +24,7 @@ fn files(alloc: Global, names: &Names) -> Result<String, AllocError> {
     format!(in alloc; " {basic} {wells}")
 }
 
-/// The answer, where this is one of these calls.
+/// The answer, if this is one of these calls.
 pub fn name_answer(
     alloc: Global,
     reader: &Reader<'_>,
