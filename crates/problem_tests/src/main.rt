@@ -1,4 +1,4 @@
-//! Asks of problems that stand in standard input for their barriers, heads, certificates and budgets, and prints the
+//! Answers questions about problems in standard input, on their barriers, heads, certificates and budgets, and prints the
 //! answers.
 //!
 //! `problem` begins a problem, and `cell ID` a cell of it, whose entries follow, each bound from below and above:
@@ -10,7 +10,7 @@
 //! Asked are `fits` (how many cells the problem has, where it is one), `balances INDEX HEAD HEAD ..` (of a cell, at its
 //! own head and those of its links), `raised` and `sunk` (its raise and sink values there), `rivers INDEX HEAD`, `barrier`,
 //! `guess`, `sweeps ROUNDS`, `workers WORKERS TURNS ROUNDS`, `phases WORKERS TURNS ROUNDS` and `run WORKERS TURNS ROUNDS`
-//! (these with the passes of a gate), and `listed SWEEPS INDEX ..`. `heads LOW HIGH ..` are bounds of the cells, of which
+//! (these with the passes of a gate), and `listed SWEEPS INDEX ..`. `heads LOW HIGH ..` are bounds of the cells, for which
 //! `check`, `budget` and `near TRIALS SWEEPS` (from the bounds, then by one round) are asked.
 //!
 //! `moves` begins moves of two actors, `first` and `second`, on shared heads that begin at the barrier: `look ACTOR INDEX

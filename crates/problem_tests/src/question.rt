@@ -1,4 +1,4 @@
-// What is asked of a problem.
+// Questions about a problem.
 use crate::balances::{print_balances, print_rivers};
 use crate::between::ask_between;
 use crate::covering::print_cover;
@@ -34,7 +34,7 @@ pub enum Question {
 }
 
 impl Question {
-    /// What a line's first word asks.
+    /// The question of a line's first word.
     pub fn of(word: &str) -> Option<Question> {
         match word {
             "fits" => Some(Question::Fits),
@@ -82,7 +82,7 @@ fn ask_problem<R: Print + Threads + Sync>(
     }
 }
 
-/// Asks of what is given, and prints the answer.
+/// Answers a question about the data so far, and prints the answer.
 pub fn ask<R: Print + Threads + Sync>(
     rt: &R,
     alloc: Global,
