@@ -14,7 +14,7 @@ pub struct Bench {
     put: Vec<u8>,
 }
 
-/// The words of a line, parted by blanks.
+/// The words of a line, separated by blanks.
 pub fn words_of(alloc: Global, line: &str) -> Result<Vec<&str>, AllocError> {
     let mut words = Vec::new(alloc);
     for word in line.split(' ') {
@@ -37,7 +37,7 @@ impl Bench {
         self.deck.folder.add(name, self.put.as_slice())
     }
 
-    /// Runs the words over the files, and answers the status. What is put to the side stands behind the rest.
+    /// Runs the words over the files, and returns the status. What is put to `side` follows the rest.
     pub fn run<R: Threads + Sync>(&mut self, rt: &R, alloc: Global, words: &str) -> io::Result<u8> {
         let words = words_of(alloc, words)?;
         let mut side = MemSink::new(alloc);
