@@ -1,4 +1,5 @@
--- Time-variant specified heads: Shead Ehead behind Layer Row Column (TM 6-A16, CHD). That a list names a cell once only, and the rule of growing steps, are this program's own.
+-- Time-variant specified heads: Shead Ehead after Layer Row Column (TM 6-A16, CHD). That a list names a cell at most
+-- once, and the rule of growing steps, are this program's own.
 use Rattle.std.specs.Prelude.{ℕ, Bool, true, not, ◌&&◌, nat_lt, List, Option, Some, None, Result, Ok, if◌then◌else◌}
 use Rattle.std.specs.List.{list_all}
 use Rattle.decimal_input.specs.Canonical.{IsDec}
