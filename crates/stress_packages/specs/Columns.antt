@@ -1,4 +1,4 @@
--- The numbers of an entry behind Layer Row Column (TM 6-A16, WEL, RIV, DRN, GHB).
+-- The numbers of an entry after Layer Row Column (TM 6-A16, WEL, RIV, DRN, GHB).
 use Rattle.std.specs.Prelude.{ℕ, not, List, Option, Some, None, Result, Ok, if◌then◌else◌}
 use Rattle.decimal_input.specs.Canonical.{IsDec}
 use Rattle.outside.specs.declared.codes.Code.{Code}
