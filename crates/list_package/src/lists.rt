@@ -44,7 +44,7 @@ fn list_of<C: Columns>(
     }
 }
 
-/// The next period's list, which is then the last.
+/// The next period's list, which becomes the last one.
 #[tactic(auto, unfolding(crate::specs::Lists::list_at))]
 fn list_at<C: Columns>(
     alloc: Global,
@@ -72,7 +72,7 @@ fn list_at<C: Columns>(
     Ok(list)
 }
 
-/// The next period with its list, which is then the last.
+/// The next period with its list, which becomes the last one.
 #[tactic(auto, unfolding(crate::specs::Lists::period_at))]
 fn period_at<C: Columns>(
     alloc: Global,
@@ -93,7 +93,7 @@ fn period_at<C: Columns>(
     Ok(C::put(period, list))
 }
 
-/// The periods with their lists, where this was the last.
+/// The periods with their lists, where `last` is the list of the period before.
 fn with_lists<C: Columns>(
     alloc: Global,
     lines: &mut Lines,
