@@ -1,4 +1,4 @@
-// Arrays that are read anew, or stand again.
+// Arrays that are read anew or used again.
 ghost use Rattle.std.specs.Prelude.{◌≡◌, IfOk, IfSome, IsSomeAnd, is_some, true, false, List};
 ghost use Rattle.outside.specs.Counts.{InputCounts};
 ghost use Rattle.outside.specs.Files.{File};
@@ -16,7 +16,7 @@ use outside::{Folder, InputFault};
 use record_lines::Lines;
 use std::alloc::{AllocError, Global};
 
-/// Reads an array of numbers where it comes anew, which stands in place of the last one.
+/// Reads an array of numbers if `anew`, which then replaces the last one.
 #[tactic(auto, unfolding(crate::specs::Updates::updated_reals))]
 pub fn update_reals<F: Folder>(
     alloc: Global,
@@ -62,7 +62,7 @@ fn layers_at<F: Folder>(
     Ok(values)
 }
 
-/// Reads an array of layers where it comes anew, which stands in place of the last one.
+/// Reads an array of layers if `anew`, which then replaces the last one.
 #[tactic(auto, unfolding(crate::specs::Updates::updated_layers))]
 pub fn update_layers<F: Folder>(
     alloc: Global,
@@ -89,7 +89,7 @@ pub fn update_layers<F: Folder>(
     Ok(())
 }
 
-/// The array that stands, once more; empty where there is none.
+/// Another handle to the array in force; an empty array where there is none.
 pub fn array_of<V: Drop>(alloc: Global, last: &Option<Shared<V>>) -> Result<Shared<V>, AllocError>
     ensures { IfOk result (λ l. l ≡ or_empty last.now) }
 {
