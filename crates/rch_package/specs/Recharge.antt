@@ -17,11 +17,11 @@ use Rattle.rch_package.specs.declared.periods.Arrays.{Arrays}
 use Rattle.rch_package.specs.declared.periods.Last.{Last}
 use Rattle.rch_package.specs.declared.read.Recharge.{Recharge}
 
--- INIRCH stands under option 2 alone
+-- INIRCH is there only under option 2
 abbrev pub layer_flag : Bool → List ℕ → ℕ → Bool → List (List ℕ) → Result (Bool × List (List ℕ)) Refusal
 layer_flag layered file line listed words = if layered then flag_at file line listed words else Ok (false, words)
 
--- INRECH and INIRCH, behind these last arrays
+-- INRECH and INIRCH, after these last arrays
 unfoldable pub flags_of : Bool → List ℕ → ℕ → Last → List (List ℕ) → Result Flags Refusal
 flags_of layered file line last words = do
   rate ← flag_at file line (is_some last.rates) words

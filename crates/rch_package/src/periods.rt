@@ -17,14 +17,14 @@ use period_arrays::{array_of, update_layers, update_reals};
 use record_lines::{Lines, Words};
 use std::alloc::Global;
 
-/// The arrays that stand: the last rates, and the last layers.
+/// The arrays in force: the last rates and layers that were read.
 #[derive(Debug, Drop)]
 pub struct Last {
     pub rates: Option<Shared<Dec>>,
     pub layers: Option<Shared<i64>>,
 }
 
-/// The arrays of a period: a rate for each column of layers, and the layers, where they are named.
+/// The arrays of a period: a rate for each column of layers and, where the file names them, the layers.
 #[derive(Debug, Drop)]
 pub struct Arrays {
     pub recharge: Shared<Dec>,
@@ -41,7 +41,7 @@ fn with_arrays(period: Period, arrays: Arrays) -> Period
     }
 }
 
-/// The arrays of the next period, which then stand.
+/// The arrays of the next period, which are then in force.
 #[tactic(auto, unfolding(crate::specs::Recharge::arrays_at), using(period_arrays::proofs::UpdateLemmas::stands))]
 fn arrays_at<F: Folder>(
     alloc: Global,
@@ -93,7 +93,7 @@ fn arrays_at<F: Folder>(
     Ok(Arrays { recharge, irch })
 }
 
-/// The next period with its arrays, which then stand.
+/// The next period with its arrays, which are then in force.
 #[tactic(auto, unfolding(crate::specs::Recharge::period_at))]
 fn period_at<F: Folder>(
     alloc: Global,
@@ -118,7 +118,7 @@ fn period_at<F: Folder>(
     Ok(with_arrays(period, arrays))
 }
 
-/// The periods with their arrays, where these were the last.
+/// The periods with their arrays, where `last` are the arrays in force.
 fn with_recharge<F: Folder>(
     alloc: Global,
     lines: &mut Lines,
@@ -145,7 +145,7 @@ fn with_recharge<F: Folder>(
     Ok(whole)
 }
 
-/// The periods with their arrays; `layered` tells whether layers are named.
+/// The periods with their arrays; `layered` says whether the file names layers.
 #[tactic(auto, unfolding(crate::specs::Recharge::periods_of))]
 pub fn periods_of<F: Folder>(
     alloc: Global,
