@@ -49,7 +49,7 @@ fn tested_period(
     Ok(period)
 }
 
-/// The next period with its arrays, which then stand. Its columns are tested.
+/// The next period with its arrays, which are then in force. Its columns are tested.
 #[tactic(auto, unfolding(crate::specs::Evaporation::period_at), using(crate::proofs::PeriodForms::are_arrays))]
 fn period_at<F: Folder>(
     alloc: Global,
@@ -77,7 +77,7 @@ fn period_at<F: Folder>(
     Ok(tested)
 }
 
-/// The periods with their arrays, where these were the last.
+/// The periods with their arrays, where `last` are the arrays in force.
 fn with_evaporation<F: Folder>(
     alloc: Global,
     lines: &mut Lines,
