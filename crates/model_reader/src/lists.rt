@@ -24,7 +24,7 @@ use stress_packages::{read_drn, read_ghb, read_riv, read_wel};
 
 /// A package of lists.
 pub trait ListPackage {
-    // What its reading makes of a file's name, the file's bytes, and a model.
+    // The model that its reading gives for a file's name, the file's bytes, and a model.
     ghost reading: { List ℕ → List ℕ → FlowModel → Result FlowModel Refusal };
 
     /// The model with the lists of a file.
