@@ -1,4 +1,5 @@
--- Models that are solved by hand. Lengths in metres; cells of length, width and thickness 1 and conductivity 1, so that each conductance between neighbours is 1.
+-- Models that are solved by hand. Lengths in metres; cells of length, width and thickness 1 and conductivity 1, so
+-- that each conductance between neighbours is 1.
 use Rattle.std.specs.Prelude.{ℕ, ℤ, pos, negsuc, Bool, true, false, List, [], ◌∷◌, replicate}
 use Rattle.decimal_input.specs.declared.dec.Dec.{Dec}
 use Rattle.model_types.specs.declared.grid.Grid.{Grid}
@@ -9,7 +10,7 @@ use Rattle.model_types.specs.declared.entry.Entry.{Entry}
 use Rattle.model_types.specs.declared.entry.Entry.TheVariants.{Well}
 use Rattle.model_types.specs.Layers.{no_number}
 
--- a whole number, and its negative, in canonical form: digits without a last zero
+-- a whole number, and its negative, in canonical form: digits without a trailing zero
 abbrev pub decimal : ℕ → ℕ → Dec
 decimal digits zeros = record { neg = false; digits = digits; exp = pos zeros }
 
@@ -43,6 +44,6 @@ idle_wells = row_model (negsuc 0 ∷ pos 1 ∷ negsuc 0 ∷ pos 0 ∷ []) (decim
 abbrev pub one_cell : FlowModel
 one_cell = row_model (pos 1 ∷ []) (decimal 1 1 ∷ []) (decimal 1 0 ∷ []) (period_with false (decimal 3 0) 3 (Well (cell 0) (below_zero 5) ∷ [])) 1
 
--- Two variable cells that nothing else holds.
+-- Two variable cells without any other flow.
 abbrev pub two_cells : FlowModel
 two_cells = row_model (pos 1 ∷ pos 1 ∷ []) (decimal 1 1 ∷ decimal 1 1 ∷ []) [] (period_with true (decimal 1 0) 1 []) 2
