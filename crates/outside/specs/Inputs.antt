@@ -1,4 +1,4 @@
--- What a named file of a folder comes to: its bytes, or a refusal of the file as a whole.
+-- What a named file of a folder gives: its bytes, or a refusal of the file as a whole.
 use Rattle.std.specs.Prelude.{◌≡◌, ℕ, List, length, nat_le, cond, None, Some, Option, Ok, Err, Result}
 use Rattle.outside.specs.Files.{File, bytes_under}
 use Rattle.outside.specs.Names.{folder_name}
@@ -13,7 +13,7 @@ use Rattle.outside.specs.declared.refusals.InputFault.TheVariants.{Refused, Read
 abbrev pub file_refusal : Code → List ℕ → Refusal
 file_refusal code name = record { code = code; file = name; line = 0; at = None }
 
--- a file's bytes, where it is there and not too long
+-- a file's bytes, where it exists and isn't too long
 abbrev pub bytes_or_refusal : List ℕ → Option (List ℕ) → Result (List ℕ) Refusal
 bytes_or_refusal name None = Err (file_refusal MissingFile name)
 bytes_or_refusal name (Some bytes) = cond (nat_le (length bytes) FILE_LIMIT) (Ok bytes) (Err (file_refusal TooLong name))
@@ -22,7 +22,7 @@ bytes_or_refusal name (Some bytes) = cond (nat_le (length bytes) FILE_LIMIT) (Ok
 abbrev pub file_at : List File → List ℕ → Result (List ℕ) Refusal
 file_at files name = bytes_or_refusal name (bytes_under (folder_name name) files)
 
--- a reading gave what the files define: a value, or its refusal; a fault of reading and want of
+-- a reading returned what the files define: a value, or its refusal; a read fault and lack of
 -- memory say nothing of the files
 abbrev pub IsReading : {V T : Type 0} → (T → V) → Result V Refusal → Result T InputFault → Type 0
 IsReading view defined (Ok v) = defined ≡ Ok (view v)

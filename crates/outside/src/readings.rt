@@ -1,4 +1,4 @@
-// What was read of the system, kept so that a file is read once.
+// What was read from the system, kept so that each file is read once.
 ghost use Rattle.std.specs.Prelude.{◌≡◌, ℕ, List, true, IfOk, IfSome};
 ghost use Rattle.outside.specs.Files.{File, IsFound, IsWithin};
 ghost use Rattle.outside.specs.Readings.{Read, AgreeWith, AreWithin};
@@ -42,7 +42,7 @@ pub(crate) fn found_before<'a>(readings: &'a [Reading], name: &str, limit: u64) 
     None
 }
 
-/// The same once more.
+/// A copy of what was found.
 pub(crate) fn copied(alloc: Global, found: &Found) -> Result<Found, AllocError>
     ensures agrees { (files : List File) (name : List ℕ) (limit : ℕ) → IsFound files name limit found.now → IfOk result (IsFound files name limit) }
     ensures within { (limit : ℕ) → IsWithin limit found.now → IfOk result (IsWithin limit) }

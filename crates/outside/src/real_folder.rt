@@ -13,8 +13,8 @@ use std::io::ErrorKind;
 use std::marker::Model;
 use std::rt::Files;
 
-/// The files of the system, each of which is read once and kept: what was asked for before is answered as it was. Files
-/// agree with the folder that are under each name what was found there. It counts the reads that failed.
+/// The files of the system. Each is read once and kept, so that the same request gets the same result. Files agree
+/// with the folder if they have under each name what was found there. It counts the reads that failed.
 #[derive(Drop)]
 pub struct RealFolder<'a, R: Files> {
     rt: &'a R,
@@ -74,7 +74,7 @@ impl<'a, R: Files> Folder for RealFolder<'a, R> {
         ensures found { IfOk result (λ found. (files : List File) → AgreeWith self.new.readings files → IsFound files name.now limit found) }
         ensures counts { ReadCounts self.old.faults self.new.faults result }
 
-        // What it gives is not too long, whichever files agree.
+        // The bytes that it returns are not too long, whichever files agree.
         ensures within { IfOk result (λ found. IsWithin limit found) }
     {
         if let Some(found) = found_before(self.readings.as_slice(), name, limit) {
