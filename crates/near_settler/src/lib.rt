@@ -1,4 +1,4 @@
-//! The settler of a run: plain phases of workers, and where these take long a guess, which one more settling certifies.
+//! The settler of a run: plain phases of workers and, where these take long, a guess, which one more settling certifies.
 #![tactic(auto)]
 
 ghost use Rattle.std.specs.Prelude.{◌≡◌, ◌≤◌};
@@ -13,7 +13,7 @@ use std::alloc::{AllocError, Global};
 use std::thread::Threads;
 use step_problem::{Barrier, Bound, Problem, SettleFault};
 
-// Problems of fewer cells settle by plain phases alone for a while.
+// Problems with fewer cells first settle by plain phases alone for a while.
 const FEW_CELLS: usize = 1_000;
 
 const PHASES_OF_FEW: u32 = 64;
@@ -31,7 +31,7 @@ fn first_phases(cells: usize) -> u32
 }
 
 /// Settles by workers in threads, with the handle and the gate that it borrows. Its plan's rounds are plain phases;
-/// what it does beside them only saves time.
+/// everything else that it does only saves time.
 #[derive(Drop)]
 pub struct NearSettler<'a, R: Threads + Sync, G: Gate + Sync> {
     rt: &'a R,
@@ -48,7 +48,7 @@ impl<'a, R: Threads + Sync, G: Gate + Sync> NearSettler<'a, R, G> {
         NearSettler { rt, gate, plan }
     }
 
-    // By plain phases, at most so many.
+    // Settles by at most `rounds` plain phases.
     fn settle_plainly(
         &self,
         alloc: Global,
@@ -67,7 +67,7 @@ impl<'a, R: Threads + Sync, G: Gate + Sync> NearSettler<'a, R, G> {
         ThreadSettler::new(self.rt, plan, self.gate).settle(alloc, p, b)
     }
 
-    // From a guess by trials on one thread, and by plain phases where these fail.
+    // Settles from a guess by trials on one thread, and by plain phases if these fail.
     fn settle_from_guess(
         &self,
         alloc: Global,
