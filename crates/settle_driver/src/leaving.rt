@@ -5,14 +5,14 @@ ghost use Rattle.step_problem.specs.Leaving.{HaveLeft};
 
 use step_problem::{Barrier, Bound, Problem};
 
-// Whether a lower head has left an inner floor, or this is the floor.
+// Whether a lower head has left an inner floor, or the inner floor is the floor.
 fn has_left_floor(floor: i64, inner: i64, head: i64) -> bool
     ensures { result ≡ true → (inner ≤ℤ floor) ⊎ (inner <ℤ head) }
 {
     inner <= floor || inner < head
 }
 
-// Whether an upper head has left an inner ceiling, or this is the ceiling.
+// Whether an upper head has left an inner ceiling, or the inner ceiling is the ceiling.
 fn has_left_ceiling(ceiling: i64, inner: i64, head: i64) -> bool
     ensures { result ≡ true → (ceiling ≤ℤ inner) ⊎ (head <ℤ inner) }
 {
@@ -45,7 +45,7 @@ fn high_have_left(b: &Barrier, inner: &Barrier, bounds: &[Bound]) -> bool
     true
 }
 
-/// Whether both heads of each cell have left the inner barrier, but for where this stands at b.
+/// Whether at each cell both heads have left the inner barrier, or the inner barrier is equal to b there.
 pub fn have_left(p: &Problem, b: &Barrier, inner: &Barrier, bounds: &[Bound]) -> bool
     requires barrier { IsBarrier p.now b.now }
     requires inner { IsBarrier p.now inner.now }

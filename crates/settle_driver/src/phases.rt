@@ -1,4 +1,4 @@
-// One phase: the seats are dealt, the workers make their turns, the seats are joined, and the table is closed.
+// One phase: the seats are made, the workers make their turns, the seats are joined, and the table is closed.
 ghost use Rattle.std.specs.Prelude.{◌≡◌, ℕ, ◌+◌, ◌%◌, ◌<◌, ◌≤◌, length, slice_index_or, IfOk, All, vec_len};
 ghost use Rattle.step_problem.specs.Heads.{AreOnTheWay};
 ghost use Rattle.head_table.specs.declared.table.HeadSeat.{HeadSeat};
@@ -16,7 +16,7 @@ use std::thread;
 use std::thread::Threads;
 use step_problem::{Barrier, Bound, Problem};
 
-// So many seats more, which have seen what this one has.
+// `count` more seats, which have seen what this one has.
 fn deal(
     alloc: Global,
     table: &HeadTable,
@@ -47,7 +47,7 @@ fn gather(table: &HeadTable, seat: &mut HeadSeat, mut seats: Vec<HeadSeat>)
     }
 }
 
-// What the worker of number i does in a phase.
+// The work of worker number i in a phase.
 fn work_one<G: Gate>(
     table: &HeadTable,
     seat: &mut HeadSeat,
@@ -61,7 +61,7 @@ fn work_one<G: Gate>(
     requires workers { (i < workers) × (workers ≤ 64) }
     ensures { HasWorked table.now i workers seat.old seat.new }
 {
-    // The problem's conditions come with its length.
+    // `len` ensures the problem's conditions.
     let _cells = table.problem().len();
     let worker = i as u32 + 1;
     work(table, seat, worker, turns, gate);
