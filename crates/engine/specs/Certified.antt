@@ -1,4 +1,4 @@
--- What a certified listing says.
+-- What a certified listing promises.
 use Rattle.std.specs.Prelude.{◌≡◌, ℕ, ℤ, List, Ok, Option, Some}
 use Rattle.std.specs.Io.KnownBytes.{Appends}
 use Rattle.outside.specs.Files.{File}
@@ -15,7 +15,10 @@ use Rattle.check_run.specs.Verdicts.{IsVerdict, checked_task, steps_of}
 use Rattle.engine.specs.Cases.{AskedCheck, Check, asked_in, listing_read}
 use Rattle.engine.specs.Checked.{certified_line}
 
--- A check with these words over these files that ended Ok, where a sink had the bytes `old` before it and `new` after it: the files have a listing, whoever wrote it, and every history of heads that solves the manual's exact equations of the files lies, step by step and cell by cell, between its heads, with each of its budget flows between its terms.
+-- A check with these words over these files that ended Ok, where a sink had the bytes `old` before it and `new` after
+-- it: the files have a listing, whoever wrote it, and every history of heads that solves the manual's exact equations
+-- of the files lies, step by step and cell by cell, between its heads, with each of its budget flows between its
+-- terms.
 pub record Certified (words : List Text) (files : List File) (old new : Option (List ℕ)) : Type 0 where
   -- The words ask for a check, the files read as a model, and the named file as a listing of it.
   pub asked : AskedCheck
@@ -27,5 +30,5 @@ pub record Certified (words : List Text) (files : List File) (old new : Option (
   -- Its verdict is that it is certified, and the line CERTIFIED was appended, and nothing else.
   pub verdict : IsVerdict model asked.digits steps Holds
   pub written : Appends old new certified_line
-  -- Every history over any denominator d that solves the model's exact equations lies within what it lists.
+  -- Every history over any denominator d that solves the model's exact equations lies within the listing.
   pub encloses : (d : ℕ) (history : List (ℕ → ℤ)) → Solves model d history → BoundAll (checked_task model asked.digits) d (start_head model) (steps_of (times model) steps) history

@@ -19,7 +19,7 @@ pub record IsCertified (m : FlowModel) (s : ℕ) (steps : List ListedStep) (piec
   pub encloses : ListingEncloses m s steps
   pub are : pieces ≡ certified_line ∷ []
 
--- The check of these steps ends so, with this line: by its verdict.
+-- The check of these steps has this end and this line, by its verdict.
 abbrev pub IsCheck : FlowModel → ℕ → List ListedStep → Status → List Text → Type 0
 IsCheck m s steps status.Ok pieces = IsCertified m s steps pieces
 IsCheck m s steps (status.NotCertified period step place) pieces = IsVerdict m s steps (Fails (time period step) place) × (pieces ≡ not_certified_line m.grid (time period step) place ∷ [])

@@ -14,7 +14,10 @@ use Rattle.listing_run.specs.Listing.{listing}
 use Rattle.listing_run.specs.Bounding.{BoundAll}
 use Rattle.engine.specs.Cases.{Asked, Run, asked_in, task_of}
 
--- A run with these words over these files that ended Ok, where a sink had the bytes `old` before it and `new` after it, has written the one listing that the files define; and every history of heads that solves the manual's exact equations of these files lies, step by step and cell by cell, between its heads, with each of its budget flows between its terms.
+-- A run with these words over these files that ended Ok, where a sink had the bytes `old` before it and `new` after
+-- it, has written the one listing that the files define; and every history of heads that solves the manual's exact
+-- equations of these files lies, step by step and cell by cell, between its heads, with each of its budget flows
+-- between its terms.
 pub record Headline (words : List Text) (files : List File) (old new : Option (List ℕ)) : Type 0 where
   -- The words ask for a listing, and the files read as a model.
   pub asked : Asked

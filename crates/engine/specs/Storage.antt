@@ -1,4 +1,4 @@
--- Where storage holds the heads of a step.
+-- Storage bounds the heads of a step.
 use Rattle.std.specs.Prelude.{◌≡◌, ◌≢◌, ℕ, ◌<◌, ◌≤◌, List, length, Contains}
 use Rattle.step_problem.specs.declared.entry.Fixed.{Fixed}
 use Rattle.step_problem.specs.declared.entry.FixedKind.TheVariants.{Storage}

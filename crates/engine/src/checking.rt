@@ -45,7 +45,7 @@ pub(crate) fn read_listed<F: Folder>(
     Ok(listing)
 }
 
-// Puts a last line, or the line MEMORY where memory was wanting for it.
+// Puts a last line, or the line MEMORY if there was no memory for it.
 fn put_line<K: Sink>(out: &mut K, line: Result<Vec<u8>, AllocError>, meant: Status) -> Status
     ensures { (start : _) (puts : List Put) → K.leads start puts out.old →
         (tail : List Put) × K.leads start (puts ++ tail) out.new × MatchResult line (λ text. IsLast text.items meant result tail) (λ _. IsWanting result tail) }

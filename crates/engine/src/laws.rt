@@ -1,4 +1,4 @@
-// Laws of what is defined. Each is the contract of an empty function, but for the laws below that it calls.
+// Laws of the definitions. Each is the contract of an empty function, but for the laws below that it calls.
 ghost use Rattle.engine.specs.Written.{WrittenIsCertified};
 ghost use Rattle.engine.specs.Storage.{StorageHolds};
 
@@ -10,7 +10,7 @@ pub fn storage_holds()
     ensures { StorageHolds }
 {}
 
-/// What `run` writes, `check` certifies.
+/// `check` certifies what `run` writes.
 pub fn written_is_certified()
     ensures { WrittenIsCertified }
 {
