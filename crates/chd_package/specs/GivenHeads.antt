@@ -44,4 +44,14 @@ abbrev pub AreHeads : Heads → Type 0
 AreHeads x = IsDec x.shead × IsDec x.ehead
 
 abbrev pub given_heads : Kind Heads Given
-given_heads = record { reading = heads_of; fault = heads_fault; entry = λ cell x. record { cell = cell; shead = x.shead; ehead = x.ehead }; place = λ x. x.cell.0; once = true; suits = suits_heads; list = λ period. period.given; put = λ period list. record period { given = list } }
+given_heads =
+    record {
+      reading = heads_of;
+      fault = heads_fault;
+      entry = λ cell x. record { cell = cell; shead = x.shead; ehead = x.ehead };
+      place = λ x. x.cell.0;
+      once = true;
+      suits = suits_heads;
+      list = λ period. period.given;
+      put = λ period list. record period { given = list };
+    }
