@@ -29,7 +29,9 @@ reach_of file line words = do
 
 -- heads are tested for their magnitude, and a conductance must not be below 0, in the order of the columns
 abbrev pub reach_fault : Reach → Option Code
-reach_fault x = if not (is_head x.stage) then Some HeadTooLarge else (if x.cond.neg then Some BadProperty else (if not (is_head x.bottom) then Some HeadTooLarge else None))
+reach_fault x =
+    if not (is_head x.stage) then Some HeadTooLarge
+    else (if x.cond.neg then Some BadProperty else (if not (is_head x.bottom) then Some HeadTooLarge else None))
 
 -- DRN: Elevation Cond
 unfoldable pub drain_of : List ℕ → ℕ → List (List ℕ) → Result DrainNumbers Refusal
