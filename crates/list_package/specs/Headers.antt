@@ -1,5 +1,6 @@
 -- The lines before entries: the first line of a file, and ITMP and NP of a stress period (TM 6-A16, WEL, RIV, DRN, GHB, CHD).
-use Rattle.std.specs.Prelude.{ℕ, ℤ, pos, negsuc, Bool, true, false, not, ◌&&◌, List, [], ◌∷◌, nat_le, nat_lt, Option, Some, None, Result, Ok, Err, if◌then◌else◌, codes}
+use Rattle.std.specs.Prelude.{ℕ, ℤ, pos, negsuc, Bool, true, false, not, ◌&&◌, List, [], ◌∷◌, nat_le, nat_lt, Option}
+use Rattle.std.specs.Prelude.{Some, None, Result, Ok, Err, if◌then◌else◌, codes}
 use Rattle.decimal_input.specs.Words.{integer_of}
 use Rattle.outside.specs.Refusals.{refusal}
 use Rattle.outside.specs.declared.codes.Code.TheVariants.{OutOfProfile, TooManyEntries, NothingToReuse}
@@ -44,4 +45,5 @@ unfoldable pub header_of : List ℕ → ℕ → Bool → List (List ℕ) → Res
 header_of file line listed words = do
   itmp ← number_at integer file line words
   count ← count_of itmp.0 (refusal TooManyEntries file line)
-  if is_reused count && not listed then Err (refusal NothingToReuse file line) else (if has_parameters itmp.1 then Err (refusal OutOfProfile file line) else Ok count)
+  if is_reused count && not listed then Err (refusal NothingToReuse file line)
+      else (if has_parameters itmp.1 then Err (refusal OutOfProfile file line) else Ok count)

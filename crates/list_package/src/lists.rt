@@ -104,7 +104,8 @@ fn with_lists<C: Columns>(
 ) -> Result<Vec<Period>, TextFault>
     requires size { HasSize grid.now }
     requires last { IfSome last.old (IsList C.kind (C.Valid (cell_count grid.now))) }
-    ensures periods { GivesText (λ v. v.items) result (last.new, lines.new) (for_each (period_at C.kind file.now grid.now) periods.items (last.old, lines.old)) }
+    ensures periods { GivesText (λ v. v.items) result (last.new, lines.new)
+        (for_each (period_at C.kind file.now grid.now) periods.items (last.old, lines.old)) }
     ensures lists { IfOk result (λ v. All (λ p. IsList C.kind (C.Valid (cell_count grid.now)) (C.kind.list p)) v.items) }
     ensures others { IfOk result (λ v. map (without C.kind) v.items ≡ map (without C.kind) periods.items) }
 {
