@@ -30,7 +30,8 @@ pub fn update_reals<F: Folder>(
     requires last { IfSome last.old (IsReals grid.now) }
     ensures since { (files : List File) → F.agrees folder.new files → F.agrees folder.old files }
     ensures counts { InputCounts (F.faults folder.old) (F.faults folder.new) result }
-    ensures array { (files : List File) → F.agrees folder.new files → Gives (λ _. last.new) result lines.new (updated_reals files file.now grid.now anew last.old lines.old) }
+    ensures array { (files : List File) → F.agrees folder.new files →
+        Gives (λ _. last.new) result lines.new (updated_reals files file.now grid.now anew last.old lines.old) }
     ensures last { IfOk result (λ _. IfSome last.new (IsReals grid.now)) }
     ensures some { IfOk result (λ _. (anew ≡ false → is_some last.old ≡ true) → IsSomeAnd last.new (IsReals grid.now)) }
 {
@@ -77,7 +78,8 @@ pub fn update_layers<F: Folder>(
     requires last { IfSome last.old (IsWhole grid.now) }
     ensures since { (files : List File) → F.agrees folder.new files → F.agrees folder.old files }
     ensures counts { InputCounts (F.faults folder.old) (F.faults folder.new) result }
-    ensures array { (files : List File) → F.agrees folder.new files → Gives (λ _. last.new) result lines.new (updated_layers files file.now grid.now anew last.old lines.old) }
+    ensures array { (files : List File) → F.agrees folder.new files →
+        Gives (λ _. last.new) result lines.new (updated_layers files file.now grid.now anew last.old lines.old) }
     ensures last { IfOk result (λ _. IfSome last.new (IsWhole grid.now)) }
     ensures some { IfOk result (λ _. (anew ≡ false → is_some last.old ≡ true) → IsSomeAnd last.new (IsWhole grid.now)) }
 {
