@@ -50,7 +50,9 @@ abbrev pub without_state : {X S : Type 0} → Result (X × S) Refusal → Result
 without_state read = read >>= λ x. Ok x.0
 
 unfoldable pub periods_of : Bool → List File → List ℕ → Grid → List Period → Left → Result (List Period) Refusal
-periods_of layered files file grid periods left = without_state (for_each (period_at layered files file grid) periods (record { rates = None; layers = None }, left))
+periods_of layered files file grid periods left =
+    without_state (for_each (period_at layered files file grid) periods
+    (record { rates = None; layers = None }, left))
 
 -- NRCHOP, and the arrays of each stress period
 unfoldable pub recharge_of : List File → List ℕ → List ℕ → Grid → List Period → Result Recharge Refusal

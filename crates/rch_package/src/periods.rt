@@ -56,7 +56,9 @@ fn arrays_at<F: Folder>(
     requires last { AreLast grid.now last.old }
     ensures since { (files : List File) → F.agrees folder.new files → F.agrees folder.old files }
     ensures counts { InputCounts (F.faults folder.old) (F.faults folder.new) result }
-    ensures arrays { (files : List File) → F.agrees folder.new files → Gives (λ a. a) result (last.new, lines.new) (arrays_at layered files file.now grid.now (last.old, lines.old)) }
+    ensures arrays { (files : List File) → F.agrees folder.new files →
+        Gives (λ a. a) result (last.new, lines.new)
+        (arrays_at layered files file.now grid.now (last.old, lines.old)) }
     ensures last { IfOk result (λ _. AreLast grid.now last.new) }
     ensures rates { IfOk result (λ a. IsReals grid.now a.recharge) }
     ensures layers { IfOk result (λ a. layered ≡ true → IsWhole grid.now a.irch) }
@@ -109,7 +111,9 @@ fn period_at<F: Folder>(
     requires last { AreLast grid.now last.old }
     ensures since { (files : List File) → F.agrees folder.new files → F.agrees folder.old files }
     ensures counts { InputCounts (F.faults folder.old) (F.faults folder.new) result }
-    ensures period { (files : List File) → F.agrees folder.new files → Gives (λ p. p) result (last.new, lines.new) (period_at layered files file.now grid.now period (last.old, lines.old)) }
+    ensures period { (files : List File) → F.agrees folder.new files →
+        Gives (λ p. p) result (last.new, lines.new)
+        (period_at layered files file.now grid.now period (last.old, lines.old)) }
     ensures last { IfOk result (λ _. AreLast grid.now last.new) }
     ensures arrays { IfOk result (AreArrays layered grid.now) }
     ensures others { IfOk result (λ p. without p ≡ without period) }
@@ -133,7 +137,9 @@ fn with_recharge<F: Folder>(
     requires last { AreLast grid.now last.old }
     ensures since { (files : List File) → F.agrees folder.new files → F.agrees folder.old files }
     ensures counts { InputCounts (F.faults folder.old) (F.faults folder.new) result }
-    ensures periods { (files : List File) → F.agrees folder.new files → Gives (λ v. v.items) result (last.new, lines.new) (for_each (period_at layered files file.now grid.now) periods.items (last.old, lines.old)) }
+    ensures periods { (files : List File) → F.agrees folder.new files →
+        Gives (λ v. v.items) result (last.new, lines.new)
+        (for_each (period_at layered files file.now grid.now) periods.items (last.old, lines.old)) }
     ensures arrays { IfOk result (λ v. All (AreArrays layered grid.now) v.items) }
     ensures others { IfOk result (λ v. map without v.items ≡ map without periods.items) }
 {
@@ -159,7 +165,8 @@ pub fn periods_of<F: Folder>(
     requires size { HasSize grid.now }
     ensures since { (files : List File) → F.agrees folder.new files → F.agrees folder.old files }
     ensures counts { InputCounts (F.faults folder.old) (F.faults folder.new) result }
-    ensures periods { (files : List File) → F.agrees folder.new files → Has (λ v. v.items) result (periods_of layered files file.now grid.now periods.items lines.old) }
+    ensures periods { (files : List File) → F.agrees folder.new files →
+        Has (λ v. v.items) result (periods_of layered files file.now grid.now periods.items lines.old) }
     ensures arrays { IfOk result (λ v. All (AreArrays layered grid.now) v.items) }
     ensures others { IfOk result (λ v. map without v.items ≡ map without periods.items) }
 {
