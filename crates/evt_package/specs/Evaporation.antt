@@ -73,7 +73,9 @@ abbrev pub without_state : {X S : Type 0} → Result (X × S) Refusal → Result
 without_state read = read >>= λ x. Ok x.0
 
 unfoldable pub periods_of : List File → List ℕ → Grid → List ℤ → ℤ → List Period → Left → Result (List Period) Refusal
-periods_of files file grid ibound option periods left = without_state (for_each (period_at files file grid ibound option) periods (record { surfaces = None; rates = None; depths = None; layers = None }, left))
+periods_of files file grid ibound option periods left =
+    without_state (for_each (period_at files file grid ibound option) periods
+    (record { surfaces = None; rates = None; depths = None; layers = None }, left))
 
 -- NEVTOP and IEVTCB
 unfoldable pub option_line : List ℕ → Left → Result (ℤ × Left) Refusal

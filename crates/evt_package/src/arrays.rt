@@ -68,7 +68,8 @@ fn arrays_of<F: Folder>(
     requires last { AreLast grid.now last.old }
     ensures since { (files : List File) → F.agrees folder.new files → F.agrees folder.old files }
     ensures counts { InputCounts (F.faults folder.old) (F.faults folder.new) result }
-    ensures arrays { (files : List File) → F.agrees folder.new files → Gives (λ _. last.new) result lines.new (arrays_of files file.now grid.now flags (last.old, lines.old)) }
+    ensures arrays { (files : List File) → F.agrees folder.new files →
+        Gives (λ _. last.new) result lines.new (arrays_of files file.now grid.now flags (last.old, lines.old)) }
     ensures last { IfOk result (λ _. AreLast grid.now last.new) }
     ensures some { IfOk result (λ _. HasLast grid.now flags last.old last.new) }
 {
@@ -132,7 +133,9 @@ pub fn arrays_at<F: Folder>(
     requires last { AreLast grid.now last.old }
     ensures since { (files : List File) → F.agrees folder.new files → F.agrees folder.old files }
     ensures counts { InputCounts (F.faults folder.old) (F.faults folder.new) result }
-    ensures arrays { (files : List File) → F.agrees folder.new files → Gives (λ a. a) result (last.new, lines.new) (arrays_at files file.now grid.now option.now (last.old, lines.old)) }
+    ensures arrays { (files : List File) → F.agrees folder.new files →
+        Gives (λ a. a) result (last.new, lines.new)
+        (arrays_at files file.now grid.now option.now (last.old, lines.old)) }
     ensures last { IfOk result (λ _. AreLast grid.now last.new) }
     ensures surfaces { IfOk result (λ a. IsReals grid.now a.surf) }
     ensures rates { IfOk result (λ a. IsReals grid.now a.evtr) }

@@ -66,7 +66,9 @@ fn period_at<F: Folder>(
     requires last { AreLast grid.now last.old }
     ensures since { (files : List File) → F.agrees folder.new files → F.agrees folder.old files }
     ensures counts { InputCounts (F.faults folder.old) (F.faults folder.new) result }
-    ensures period { (files : List File) → F.agrees folder.new files → Gives (λ p. p) result (last.new, lines.new) (period_at files file.now grid.now ibound.now option.now period (last.old, lines.old)) }
+    ensures period { (files : List File) → F.agrees folder.new files →
+        Gives (λ p. p) result (last.new, lines.new)
+        (period_at files file.now grid.now ibound.now option.now period (last.old, lines.old)) }
     ensures last { IfOk result (λ _. AreLast grid.now last.new) }
     ensures arrays { IfOk result (AreArrays file.now grid.now ibound.now option.now) }
     ensures others { IfOk result (λ p. without p ≡ without period) }
@@ -93,7 +95,9 @@ fn with_evaporation<F: Folder>(
     requires last { AreLast grid.now last.old }
     ensures since { (files : List File) → F.agrees folder.new files → F.agrees folder.old files }
     ensures counts { InputCounts (F.faults folder.old) (F.faults folder.new) result }
-    ensures periods { (files : List File) → F.agrees folder.new files → Gives (λ v. v.items) result (last.new, lines.new) (for_each (period_at files file.now grid.now ibound.now option.now) periods.items (last.old, lines.old)) }
+    ensures periods { (files : List File) → F.agrees folder.new files →
+        Gives (λ v. v.items) result (last.new, lines.new)
+        (for_each (period_at files file.now grid.now ibound.now option.now) periods.items (last.old, lines.old)) }
     ensures arrays { IfOk result (λ v. All (AreArrays file.now grid.now ibound.now option.now) v.items) }
     ensures others { IfOk result (λ v. map without v.items ≡ map without periods.items) }
 {
@@ -122,7 +126,8 @@ pub fn periods_of<F: Folder>(
     requires size { HasSize grid.now }
     ensures since { (files : List File) → F.agrees folder.new files → F.agrees folder.old files }
     ensures counts { InputCounts (F.faults folder.old) (F.faults folder.new) result }
-    ensures periods { (files : List File) → F.agrees folder.new files → Has (λ v. v.items) result (periods_of files file.now grid.now ibound.now option.now periods.items lines.old) }
+    ensures periods { (files : List File) → F.agrees folder.new files →
+        Has (λ v. v.items) result (periods_of files file.now grid.now ibound.now option.now periods.items lines.old) }
     ensures arrays { IfOk result (λ v. All (AreArrays file.now grid.now ibound.now option.now) v.items) }
     ensures others { IfOk result (λ v. map without v.items ≡ map without periods.items) }
 {

@@ -50,7 +50,8 @@ fn evaporation_of<F: Folder>(
     requires size { HasSize grid.now }
     ensures since { (files : List File) → F.agrees folder.new files → F.agrees folder.old files }
     ensures counts { InputCounts (F.faults folder.old) (F.faults folder.new) result }
-    ensures evaporation { (files : List File) → F.agrees folder.new files → Has (λ e. e) result (evaporation_of files file.now bytes.now grid.now ibound.now periods.items) }
+    ensures evaporation { (files : List File) → F.agrees folder.new files →
+        Has (λ e. e) result (evaporation_of files file.now bytes.now grid.now ibound.now periods.items) }
     ensures option { IfOk result (λ e. (pos 1 ≤ℤ e.nevtop) × (e.nevtop ≤ℤ pos 3)) }
     ensures arrays { IfOk result (λ e. All (AreArrays file.now grid.now ibound.now e.nevtop) e.periods) }
     ensures others { IfOk result (λ e. map without e.periods ≡ map without periods.items) }
