@@ -126,7 +126,8 @@ pub fn list_in<L: ListPackage, F: Folder>(
     requires valid { IsModel model }
     ensures since { (files : List File) → F.agrees folder.new files → F.agrees folder.old files }
     ensures counts { InputCounts (F.faults folder.old) (F.faults folder.new) result }
-    ensures model { (files : List File) → F.agrees folder.new files → Has (λ m. m) result (where_named (file_of asked names.now) (file_in L.reading files) model) }
+    ensures model { (files : List File) → F.agrees folder.new files →
+        Has (λ m. m) result (where_named (file_of asked names.now) (file_in L.reading files) model) }
     ensures form { IfOk result IsModel }
 {
     match names.file_of(asked) {
