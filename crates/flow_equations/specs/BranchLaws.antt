@@ -22,11 +22,16 @@ pub record AreAlike (m : FlowModel) (a b : ℕ) : Type 0 where
 
 -- Between two cells that are alike Darcy's law has one conductance: HK * THICK * DELC / DELR.
 abbrev pub MeetsDarcy : FlowModel → Type 0
-MeetsDarcy m = (a b : ℕ) → AreAlike m a b → Same (row_conductance m a b) (over (times (times (size (hk_at m a)) (thickness m a)) (size (delc_at m a))) (size (delr_at m a)))
+MeetsDarcy m =
+    (a b : ℕ) → AreAlike m a b →
+    Same (row_conductance m a b) (over (times (times (size (hk_at m a)) (thickness m a)) (size (delc_at m a)))
+    (size (delr_at m a)))
 
 -- Between square cells of unit conductivity and unit thickness it is 1.
 abbrev pub HasUnitBranches : FlowModel → Type 0
-HasUnitBranches m = (a b : ℕ) → AreAlike m a b → Same (size (delr_at m a)) (size (delc_at m a)) → Same (size (hk_at m a)) one → Same (thickness m a) one → Same (row_conductance m a b) one
+HasUnitBranches m =
+    (a b : ℕ) → AreAlike m a b → Same (size (delr_at m a)) (size (delc_at m a)) → Same (size (hk_at m a)) one →
+    Same (thickness m a) one → Same (row_conductance m a b) one
 
 -- Twice the conductance of two halves in series is their harmonic mean: it lies between the two halves' conductances, which are one over their resistances.
 pub record IsBetweenHalves (r₁ r₂ : Ratio) : Type 0 where

@@ -14,7 +14,8 @@ use Rattle.model_types.specs.Storage.{storage}
 use Rattle.model_types.specs.Kinds.{variable_cells, index_of}
 use Rattle.model_types.specs.Heads.{constant_head}
 use Rattle.model_types.specs.Receivers.{EvapSource, recharge_flow, evap_conductance, extinction}
-use Rattle.model_types.specs.Sources.{FixedSource, FlowSource, RiverSource, DrainSource, variable_faces, flow_sources, fixed_sources, river_sources, drain_sources, evap_sources}
+use Rattle.model_types.specs.Sources.{FixedSource, FlowSource, RiverSource, DrainSource, variable_faces, flow_sources}
+use Rattle.model_types.specs.Sources.{fixed_sources, river_sources, drain_sources, evap_sources}
 use Rattle.model_types.specs.Sources.FixedSource.{ToConstant, ToGeneral, FromStorage}
 use Rattle.model_types.specs.Sources.FlowSource.{Pumped, Received}
 

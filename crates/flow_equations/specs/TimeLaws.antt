@@ -26,7 +26,8 @@ pub record HasManualSteps (p : Period) : Type 0 where
   -- each step is TSMULT times as long as the one before
   pub grows : (n : ℕ) → 1 ≤ n → Same (step_length p (n + 1)) (times (size p.tsmult) (step_length p n))
   -- the first one by the manual's formula, dt * (T^NSTP - 1) = PERLEN * (T - 1), with what is subtracted on the other side
-  pub first : Same (plus (times (step_length p 1) (power (size p.tsmult) p.nstp)) (size p.perlen)) (plus (times (size p.perlen) (size p.tsmult)) (step_length p 1))
+  pub first : Same (plus (times (step_length p 1) (power (size p.tsmult) p.nstp)) (size p.perlen))
+      (plus (times (size p.perlen) (size p.tsmult)) (step_length p 1))
   -- steps of one length where TSMULT is 1
   pub equal : Same (size p.tsmult) one → (n : ℕ) → Same (step_length p n) (over (size p.perlen) (ratio p.nstp 1))
   -- all steps together are the period
