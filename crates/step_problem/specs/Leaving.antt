@@ -7,11 +7,15 @@ use Rattle.step_problem.specs.Heads.{Edges, head_at, IsSettledPair}
 
 -- if a cell's head is k units higher, and the heads at the other ends are at most k units higher, the lower balance is no greater
 abbrev pub LowerShifts : Type 0
-LowerShifts = (c : Entries) (k : ℕ) (v w : ℤ) (h g : ℕ → ℤ) → (w +ℤ pos k) ≤ℤ v → All (λ x. g x.cell ≤ℤ (h x.cell +ℤ pos k)) c.links → lower_balance c v g ≤ℤ lower_balance c w h
+LowerShifts =
+    (c : Entries) (k : ℕ) (v w : ℤ) (h g : ℕ → ℤ) → (w +ℤ pos k) ≤ℤ v →
+    All (λ x. g x.cell ≤ℤ (h x.cell +ℤ pos k)) c.links → lower_balance c v g ≤ℤ lower_balance c w h
 
 -- if a cell's head is k units lower, and the heads at the other ends are at most k units lower, the upper balance is no less
 abbrev pub UpperShifts : Type 0
-UpperShifts = (c : Entries) (k : ℕ) (v w : ℤ) (h g : ℕ → ℤ) → v ≤ℤ (w -ℤ pos k) → All (λ x. (h x.cell -ℤ pos k) ≤ℤ g x.cell) c.links → upper_balance c w h ≤ℤ upper_balance c v g
+UpperShifts =
+    (c : Entries) (k : ℕ) (v w : ℤ) (h g : ℕ → ℤ) → v ≤ℤ (w -ℤ pos k) →
+    All (λ x. (h x.cell -ℤ pos k) ≤ℤ g x.cell) c.links → upper_balance c w h ≤ℤ upper_balance c v g
 
 module _ (p : List Entries) where
   -- the barrier d lies inside b: no head of its floor is lower, and none of its ceiling higher
@@ -26,4 +30,6 @@ module _ (p : List Entries) where
 
 -- the settled pair of a barrier d inside b is that of b too, if at each cell it has left d or d is equal to b
 abbrev pub LeavingSettles : Type 0
-LeavingSettles = (p : List Entries) (b d : Edges) (l u : ℕ → ℤ) → IsProblem p → IsInside p b d → IsSettledPair p d l u → HaveLeft p b d l u → IsSettledPair p b l u
+LeavingSettles =
+    (p : List Entries) (b d : Edges) (l u : ℕ → ℤ) → IsProblem p → IsInside p b d → IsSettledPair p d l u →
+    HaveLeft p b d l u → IsSettledPair p b l u

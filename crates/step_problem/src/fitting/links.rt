@@ -41,7 +41,8 @@ fn are_others(links: &[Link], c: usize, count: usize) -> bool
 
 // Whether they lead to different other cells.
 fn ends_fit(links: &[Link], c: usize, count: usize) -> bool
-    ensures { IsTrue result ↔ (All (λ x. x.cell < count) links.now × All (λ x. x.cell ≡ c → ⊥) links.now × ((i j : ℕ) → i < j → j < length links.now → (link_at links.now i).cell ≡ (link_at links.now j).cell → ⊥)) }
+    ensures { IsTrue result ↔ (All (λ x. x.cell < count) links.now × All (λ x. x.cell ≡ c → ⊥) links.now
+        × ((i j : ℕ) → i < j → j < length links.now → (link_at links.now i).cell ≡ (link_at links.now j).cell → ⊥)) }
 {
     are_others(links, c, count) && ends_differ(links)
 }
