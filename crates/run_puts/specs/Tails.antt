@@ -22,4 +22,5 @@ status_after (Err error.Memory) = status.Memory
 pub data IsTail : List Text → Status → List Put → Type 0 where
   failed : (piece : Text) (after : List Text) → IsTail (piece ∷ after) status.WriteFault (refused piece error.Write ∷ [])
   wanting : (after : List Text) (answer : Result (Unit {0}) SinkError) → IsTail after (status_after answer) (memory_put answer ∷ [])
-  sink_wanting : (piece : Text) (after : List Text) (answer : Result (Unit {0}) SinkError) → IsTail (piece ∷ after) (status_after answer) (refused piece error.Memory ∷ memory_put answer ∷ [])
+  sink_wanting : (piece : Text) (after : List Text) (answer : Result (Unit {0}) SinkError) →
+      IsTail (piece ∷ after) (status_after answer) (refused piece error.Memory ∷ memory_put answer ∷ [])
