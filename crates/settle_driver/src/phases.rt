@@ -79,7 +79,8 @@ fn work_at<R: Threads + Sync, G: Gate + Sync>(
     requires seats { All (λ s. IsSeatOf table.now s) seats.old }
     requires some_cell { 0 < length table.now.problem.now }
     requires workers { (1 ≤ length seats.old) × (length seats.old ≤ 64) }
-    ensures { (i : ℕ) (d : HeadSeat) → i < length seats.old → HasWorked table.now i (length seats.old) (slice_index_or seats.old i d) (slice_index_or seats.new i d) }
+    ensures { (i : ℕ) (d : HeadSeat) → i < length seats.old →
+        HasWorked table.now i (length seats.old) (slice_index_or seats.old i d) (slice_index_or seats.new i d) }
 {
     let workers = seats.len();
     thread::for_each_mut(
@@ -102,7 +103,8 @@ fn worked<R: Threads + Sync, G: Gate + Sync>(
     requires some_cell { 0 < length table.now.problem.now }
     requires workers { (1 ≤ vec_len seats) × (vec_len seats ≤ 64) }
     ensures count { vec_len result ≡ vec_len seats }
-    ensures each { (i : ℕ) (d : HeadSeat) → i < vec_len seats → HasWorked table.now i (vec_len seats) (slice_index_or seats.items i d) (slice_index_or result.items i d) }
+    ensures each { (i : ℕ) (d : HeadSeat) → i < vec_len seats →
+        HasWorked table.now i (vec_len seats) (slice_index_or seats.items i d) (slice_index_or result.items i d) }
 {
     work_at(rt, table, seats.as_mut_slice(), turns, gate);
     seats
