@@ -106,4 +106,6 @@ CouldRead read listed = IfOk read (λ m. IsModel m × IfOk listed (AreListed m))
 -- The case of the words by these files. Where none are known there is some possible result of reading.
 abbrev pub IsCase : List Text → Option (List File) → Case → Type 0
 IsCase words (Some files) case = case ≡ case_of words files
-IsCase words None case = (read : Result FlowModel Refusal) × (listed : Result (List ListedStep) Refusal) × CouldRead read listed × (case ≡ case_asked (asked_in words) (λ name. read) (λ asked m. named asked.listing (λ name. listed)))
+IsCase words None case =
+    (read : Result FlowModel Refusal) × (listed : Result (List ListedStep) Refusal) × CouldRead read listed
+    × (case ≡ case_asked (asked_in words) (λ name. read) (λ asked m. named asked.listing (λ name. listed)))

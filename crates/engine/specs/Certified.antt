@@ -31,4 +31,5 @@ pub record Certified (words : List Text) (files : List File) (old new : Option (
   pub verdict : IsVerdict model asked.digits steps Holds
   pub written : Appends old new certified_line
   -- Every history over any denominator d that solves the model's exact equations lies within the listing.
-  pub encloses : (d : ℕ) (history : List (ℕ → ℤ)) → Solves model d history → BoundAll (checked_task model asked.digits) d (start_head model) (steps_of (times model) steps) history
+  pub encloses : (d : ℕ) (history : List (ℕ → ℤ)) → Solves model d history →
+      BoundAll (checked_task model asked.digits) d (start_head model) (steps_of (times model) steps) history

@@ -51,7 +51,9 @@ IsReadAs name None answer = (read : Result FlowModel Refusal) × IfOk read IsMod
 -- A reading gave the steps that a check names: by these files, or where none are known by some that are steps of the model or have a refusal.
 abbrev pub IsListedAs : AskedCheck → FlowModel → Option (List File) → Result (List ListedStep) InputFault → Type 0
 IsListedAs asked m (Some files) answer = IsReading (λ l. l) (listing_read files asked m) answer
-IsListedAs asked m None answer = (listed : Result (List ListedStep) Refusal) × IfOk listed (AreListed m) × IsReading (λ l. l) (named asked.listing (λ n. listed)) answer
+IsListedAs asked m None answer =
+    (listed : Result (List ListedStep) Refusal) × IfOk listed (AreListed m)
+    × IsReading (λ l. l) (named asked.listing (λ n. listed)) answer
 
 -- a run that stopped before it had read everything
 abbrev pub IsStopped : Status → Type 0

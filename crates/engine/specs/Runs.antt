@@ -39,7 +39,9 @@ IsUnfinished other = ⊥
 
 -- The run has the end that the words and files define, unless a read or a write fails, memory runs out, or a step doesn't settle within the rounds.
 abbrev pub Decided : Type 0 → List Text → List File → Status → Type 0
-Decided fault words files end = (meant : Status) (pieces : List Text) → Defines (case_of words files) meant pieces → (fault ⊎ IsUnfinished meant) ⊎ ((end ≡ meant) ⊎ ((end ≡ status.Memory) ⊎ IsUnfinished end))
+Decided fault words files end =
+    (meant : Status) (pieces : List Text) → Defines (case_of words files) meant pieces → (fault ⊎ IsUnfinished meant)
+    ⊎ ((end ≡ meant) ⊎ ((end ≡ status.Memory) ⊎ IsUnfinished end))
 
 -- the listing that is put, or summed up
 abbrev pub HasTask : Case → Task → Type 0

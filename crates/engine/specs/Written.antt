@@ -23,4 +23,7 @@ pub record ChecksWritten (words : List Text) (files : List File) (k : Task) (byt
 
 -- What a run that ends Ok writes is certified, if its model is valid: a check of it ends Ok, with the line CERTIFIED.
 abbrev pub WrittenIsCertified : Type 0
-WrittenIsCertified = (k : Task) (pieces words : List Text) (files : List File) → IsModel k.model → Defines (Listing k) status.Ok pieces → ChecksWritten words files k (concat pieces) → Defines (case_of words files) status.Ok (certified_line ∷ [])
+WrittenIsCertified =
+    (k : Task) (pieces words : List Text) (files : List File) → IsModel k.model →
+    Defines (Listing k) status.Ok pieces → ChecksWritten words files k (concat pieces) →
+    Defines (case_of words files) status.Ok (certified_line ∷ [])

@@ -67,7 +67,8 @@ pub fn run<R: Threads + Sync, F: Folder, K: Sink + Send, W: Sink + Send, G: Gate
         Made (map (λ w. w.now) words.now) (K.seen out.old).written (K.seen out.new).written }
 
     // A check that ends Ok certifies the listing that the words name.
-    ensures certified { result ≡ Status.Ok → (asked : AskedCheck) → asked_in (map (λ w. w.now) words.now) ≡ Some (Check asked) → (files : List File) → F.agrees folder.new files →
+    ensures certified { result ≡ Status.Ok → (asked : AskedCheck) →
+        asked_in (map (λ w. w.now) words.now) ≡ Some (Check asked) → (files : List File) → F.agrees folder.new files →
         Certified (map (λ w. w.now) words.now) files (K.seen out.old).written (K.seen out.new).written }
 
     // These statuses have a count as their cause.
@@ -76,9 +77,11 @@ pub fn run<R: Threads + Sync, F: Folder, K: Sink + Send, W: Sink + Send, G: Gate
 
     // The end that the words and files define is the end of the run, if nothing outside failed.
     ensures decided { (files : List File) → F.agrees folder.new files →
-        Decided (Rose (F.faults folder.old) (F.faults folder.new) ⊎ Rose (K.seen out.old).faults (K.seen out.new).faults) (map (λ w. w.now) words.now) files result }
+        Decided (Rose (F.faults folder.old) (F.faults folder.new)
+        ⊎ Rose (K.seen out.old).faults (K.seen out.new).faults) (map (λ w. w.now) words.now) files result }
     ensures complete { (files : List File) → F.agrees folder.new files →
-        Comes (Rose (F.faults folder.old) (F.faults folder.new) ⊎ Rose (K.seen out.old).faults (K.seen out.new).faults) (map (λ w. w.now) words.now) files result }
+        Comes (Rose (F.faults folder.old) (F.faults folder.new)
+        ⊎ Rose (K.seen out.old).faults (K.seen out.new).faults) (map (λ w. w.now) words.now) files result }
 {
     let _side = side;
     one_listing();
@@ -97,7 +100,8 @@ fn answer<R: Threads + Sync, F: Folder, K: Sink + Send, G: Gate + Sync>(
     ensures since { (files : List File) → F.agrees folder.new files → F.agrees folder.old files }
     ensures answers { (start : _) (puts : List Put) → K.leads start puts out.old →
         (more : List Put) × K.leads start (puts ++ more) out.new
-        × ((files : Option (List File)) → IfSome files (F.agrees folder.new) → Answers (map (λ w. w.now) words.now) files (F.faults folder.old) (F.faults folder.new) result more) }
+        × ((files : Option (List File)) → IfSome files (F.agrees folder.new) →
+        Answers (map (λ w. w.now) words.now) files (F.faults folder.old) (F.faults folder.new) result more) }
 {
     let order = match read_order(alloc, words) {
         Ok(order) => order,
@@ -124,7 +128,9 @@ fn put_model<'a, R: Threads + Sync, K: Sink + Send, G: Gate + Sync>(
     requires asked { IsAsked asked }
     requires model { IsModel model }
     ensures { (start : _) (puts : List Put) → K.leads start puts out.old →
-        (more : List Put) × K.leads start (puts ++ more) out.new × IsRun (IsListing (task_of (asked_of asked.entry) model)) (IsCutListing (task_of (asked_of asked.entry) model)) result more }
+        (more : List Put) × K.leads start (puts ++ more) out.new
+        × IsRun (IsListing (task_of (asked_of asked.entry) model))
+        (IsCutListing (task_of (asked_of asked.entry) model)) result more }
 {
     let task = Task {
         model,
@@ -148,7 +154,9 @@ fn list<'a, R: Threads + Sync, F: Folder, K: Sink + Send, G: Gate + Sync>(
     ensures since { (files : List File) → F.agrees folder.new files → F.agrees folder.old files }
     ensures answers { (start : _) (puts : List Put) → K.leads start puts out.old →
         (more : List Put) × K.leads start (puts ++ more) out.new
-        × ((words : List (List ℕ)) → asked_in words ≡ Some (Run (asked_of asked.entry)) → (files : Option (List File)) → IfSome files (F.agrees folder.new) → Answers words files (F.faults folder.old) (F.faults folder.new) result more) }
+        × ((words : List (List ℕ)) → asked_in words ≡ Some (Run (asked_of asked.entry)) →
+        (files : Option (List File)) → IfSome files (F.agrees folder.new) →
+        Answers words files (F.faults folder.old) (F.faults folder.new) result more) }
 {
     match read_named(alloc, folder, asked.name) {
         Ok(model) => put_model(rt, alloc, asked, model, out, gate),
