@@ -11,7 +11,7 @@ use Rattle.array_reader.specs.Control.{Control, constant, internal, named, contr
 use Rattle.array_reader.specs.Kinds.{Kind, multiplied, real, whole}
 use Rattle.array_reader.specs.Lists.{free_rows}
 
--- so many rows of so many values, by their control record; a file's values begin at its first line
+-- rows * cols values by their control record, row by row; the values of a named file begin at its first line
 abbrev pub values_of : {X : Type 0} → Kind X → List File → List ℕ → ℕ → ℕ → Left → Control X → Result (List X × Left) Refusal
 values_of kind files file rows cols left (constant value) = Ok (replicate (rows * cols) value, left)
 values_of kind files file rows cols left (internal by) = free_rows (multiplied kind by) file rows cols left
@@ -47,6 +47,6 @@ real_layer files file rows cols left = layer_of real files file rows cols left
 unfoldable pub integer_layer : List File → List ℕ → ℕ → ℕ → Left → Result (List ℤ × Left) Refusal
 integer_layer files file rows cols left = layer_of whole files file rows cols left
 
--- so many layers, one array for each, as one list
+-- this many layers, one array for each, as one list
 unfoldable pub layers : {X : Type 0} → Kind X → List File → List ℕ → ℕ → ℕ → ℕ → Left → Result (List X × Left) Refusal
 layers kind files file count rows cols left = appended count (layer_of kind files file rows cols) left

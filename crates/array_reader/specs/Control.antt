@@ -1,4 +1,4 @@
--- The control record in front of an array.
+-- The control record that precedes an array.
 use Rattle.std.specs.Prelude.{ℕ, Bool, true, List, Result, Ok, Err, if◌then◌else◌, codes}
 use Rattle.decimal_input.specs.declared.dec.NumFault.{NumFault}
 use Rattle.outside.specs.declared.codes.Code.TheVariants.{BadControl, OutOfProfile}
@@ -12,7 +12,10 @@ use Rattle.array_reader.specs.declared.keyword.Keyword.TheVariants.{Constant, In
 
 -- the first word of a control record, in any letter case
 unfoldable pub keyword : List ℕ → Keyword
-keyword word = if is_word (codes "CONSTANT") word then Constant else if is_word (codes "INTERNAL") word then Internal else if is_word (codes "OPEN/CLOSE") word then OpenClose else if is_word (codes "EXTERNAL") word then External else Other
+keyword word =
+    if is_word (codes "CONSTANT") word then Constant else if is_word (codes "INTERNAL") word then Internal
+    else if is_word (codes "OPEN/CLOSE") word then OpenClose else if is_word (codes "EXTERNAL") word then External
+    else Other
 
 -- the format (FREE), in any letter case
 unfoldable pub format_at : List ℕ → ℕ → List (List ℕ) → Result (Bool × List (List ℕ)) Refusal

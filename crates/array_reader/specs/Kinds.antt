@@ -5,7 +5,7 @@ use Rattle.decimal_input.specs.declared.dec.NumFault.{NumFault}
 use Rattle.record_lines.specs.Reading.{◌>>=◌}
 use Rattle.array_reader.specs.Numbers.{number, product, integer, integer_product}
 
--- how a word is read, and a value with its multiplier in front
+-- how a word is read, and how a value is multiplied
 pub record Kind (V : Type 0) : Type 0 where
   pub reading : List ℕ → Result V NumFault
   pub scaling : V → V → Result V NumFault

@@ -6,11 +6,11 @@ use Rattle.decimal_input.specs.Grammar.{IsInteger}
 use Rattle.decimal_input.specs.Outcomes.{IsCanonical, Names, differ}
 use Rattle.array_reader.specs.Numbers.{integer, number, product}
 
--- the integer of a word is the one that it is by the grammar
+-- a word is read as the integer that it is by the grammar
 abbrev pub IntegersFollowGrammar : Type 0
 IntegersFollowGrammar = (word : List ℕ) (z : ℤ) → (integer word ≡ Ok z) ↔ IsInteger word z
 
--- the number of a word, or its fault, is what it names by the grammar
+-- a word is read as the number, or refused with the fault, that it names by the grammar
 abbrev pub NumbersFollowGrammar : Type 0
 NumbersFollowGrammar = (word : List ℕ) (r : Result Dec NumFault) → (number word ≡ r) ↔ Names word r
 

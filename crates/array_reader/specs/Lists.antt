@@ -11,7 +11,7 @@ use Rattle.record_lines.specs.declared.free.FreeFault.{FreeFault}
 use Rattle.record_lines.specs.declared.free.FreeFault.TheVariants as free
 use Rattle.array_reader.specs.Items.{at_line}
 
--- a fault of a free list in this file
+-- the refusal for a fault of a free list in this file
 abbrev pub free_refusal : List ℕ → FreeFault → Refusal
 free_refusal file (free.EndOfFile line) = refusal EndOfFile file line
 free_refusal file (free.BadNumber line) = refusal BadNumber file line
@@ -34,7 +34,7 @@ value_alone read file s = value_at read file s >>= λ x. Ok (x.0.0, x.1)
 abbrev pub left_of : {X : Type 0} → Result (X × (Taking × Left)) Refusal → Result (X × Left) Refusal
 left_of read = read >>= λ x. Ok (x.0, x.1.1)
 
--- a free list of so many values, from a new line
+-- a free list of this many values, from a new line
 unfoldable pub free_list : {X : Type 0} → (List ℕ → Result X NumFault) → List ℕ → ℕ → Left → Result (List X × Left) Refusal
 free_list read file count left = left_of (repeated count (value_alone read file) (beginning, left))
 

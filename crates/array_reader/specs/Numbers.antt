@@ -1,6 +1,7 @@
 -- The number that a word names, and products, each exact and in canonical form, or the first test
 -- that it fails.
-use Rattle.std.specs.Prelude.{ℕ, zero, suc, ◌+◌, ◌*◌, ◌/◌, ◌%◌, Bool, ◌==◌, nat_le, nat_lt, if◌then◌else◌, List, length, Option, Some, None, Result, Ok, Err, ℤ, pos, negsuc, ◌+ℤ◌, ◌*ℤ◌, false}
+use Rattle.std.specs.Prelude.{ℕ, zero, suc, ◌+◌, ◌*◌, ◌/◌, ◌%◌, Bool, ◌==◌, nat_le, nat_lt, if◌then◌else◌, List, length}
+use Rattle.std.specs.Prelude.{Option, Some, None, Result, Ok, Err, ℤ, pos, negsuc, ◌+ℤ◌, ◌*ℤ◌, false}
 use Rattle.decimal_input.specs.declared.dec.Dec.{Dec}
 use Rattle.decimal_input.specs.declared.dec.NumFault.{NumFault}
 use Rattle.decimal_input.specs.declared.dec.NumFault.TheVariants.{BadNumber, TooManyDigits}
@@ -8,12 +9,12 @@ use Rattle.decimal_input.specs.Grammar.{Spelling}
 use Rattle.decimal_input.specs.Outcomes.{differ}
 use Rattle.decimal_input.specs.Words.{spelt, integer_of}
 
--- c without the zeros at its end, of which at most n are looked for
+-- c without its trailing zeros, of which at most n are removed
 unfoldable pub significant : ℕ → ℕ → ℕ
 significant zero c = c
 significant (suc n) c = if c % 10 == 0 then significant n (c / 10) else c
 
--- how many zeros stand at the end of c, of which at most n are looked for
+-- the number of trailing zeros of c, at most n
 unfoldable pub zeros : ℕ → ℕ → ℕ
 zeros zero c = 0
 zeros (suc n) c = if c % 10 == 0 then zeros n (c / 10) + 1 else 0
@@ -25,7 +26,10 @@ is_exponent (negsuc n) = nat_lt n 40
 
 -- the last two tests: 18 digits, then the exponent
 abbrev pub tested : Bool → ℕ → ℤ → Result Dec NumFault
-tested neg d e = if nat_lt d 1000000000000000000 then (if is_exponent e then Ok (record { neg = neg; digits = d; exp = e }) else Err BadNumber) else Err TooManyDigits
+tested neg d e =
+    if nat_lt d 1000000000000000000
+    then (if is_exponent e then Ok (record { neg = neg; digits = d; exp = e }) else Err BadNumber)
+    else Err TooManyDigits
 
 -- c * 10 ^ e with its sign; zero is zero whatever its sign and exponent
 unfoldable pub canonical : Bool → ℕ → ℤ → Result Dec NumFault

@@ -9,7 +9,7 @@ control_of (Constant value) = spec.constant value
 control_of (Internal by) = spec.internal by
 control_of (Named name by) = spec.named name.now by
 
--- its value, or its multiplier, is good; and its name can be a file's
+-- its value, or its multiplier, is good; and its name is a good file name
 abbrev pub Has_good : {X : Type 0} → (X → Type 0) → Control X → Type 0
 Has_good Good (Constant value) = Good value
 Has_good Good (Internal by) = Good by

@@ -15,7 +15,7 @@ use outside::{Folder, InputFault, read_input};
 use record_lines::{Lines, Words};
 use std::alloc::Global;
 
-/// A file of the folder, whole.
+/// A whole file of the folder.
 pub fn open_file<F: Folder>(
     alloc: Global,
     folder: &mut F,
@@ -42,7 +42,9 @@ fn values_of<V: Value, F: Folder>(
     requires good { Has_good V.Good control.now }
     ensures since { (files : List File) → F.agrees folder.new files → F.agrees folder.old files }
     ensures counts { InputCounts (F.faults folder.old) (F.faults folder.new) result }
-    ensures values { (files : List File) → F.agrees folder.new files → Gives (λ v. v.items) result lines.new (values_of V.kind files file.now rows cols lines.old (control_of control.now)) }
+    ensures values { (files : List File) → F.agrees folder.new files →
+        Gives (λ v. v.items) result lines.new
+        (values_of V.kind files file.now rows cols lines.old (control_of control.now)) }
     ensures good { IfOk result (λ v. All V.Good v.items) }
     ensures count { IfOk result (λ v. length v.items ≡ rows * cols) }
 {
@@ -60,7 +62,7 @@ fn values_of<V: Value, F: Folder>(
     }
 }
 
-/// An array with its control record, so many rows of so many values, and the control record's line.
+/// An array with its control record, `rows` rows of `cols` values, and the control record's line.
 #[tactic(auto, unfolding(crate::specs::Arrays::array_at))]
 pub fn read_array<V: Value, F: Folder>(
     alloc: Global,
@@ -72,7 +74,8 @@ pub fn read_array<V: Value, F: Folder>(
 ) -> Result<(Vec<V>, u32), InputFault>
     ensures since { (files : List File) → F.agrees folder.new files → F.agrees folder.old files }
     ensures counts { InputCounts (F.faults folder.old) (F.faults folder.new) result }
-    ensures array { (files : List File) → F.agrees folder.new files → Gives (λ x. (x.0.items, x.1)) result lines.new (array_at V.kind files file.now rows cols lines.old) }
+    ensures array { (files : List File) → F.agrees folder.new files →
+        Gives (λ x. (x.0.items, x.1)) result lines.new (array_at V.kind files file.now rows cols lines.old) }
     ensures good { IfOk result (λ x. All V.Good x.0.items) }
     ensures count { IfOk result (λ x. length x.0.items ≡ rows * cols) }
 {

@@ -11,7 +11,7 @@ use outside::{Code, TextFault, refused};
 use record_lines::Words;
 use std::alloc::Global;
 
-/// The record in front of an array.
+/// The record that precedes an array.
 #[derive(Drop)]
 pub enum Control<'a, V> {
     /// Every value.

@@ -9,14 +9,14 @@ use decimal_input::dec::{Dec, NumFault};
 pub trait Value: Copy {
     ghost kind: { Kind Self };
 
-    // What each value keeps, as a canonical form.
+    // What each value keeps: for a number its canonical form.
     ghost Good: { Self → Type 0 };
 
     fn of_word(word: &[u8]) -> Result<Self, NumFault>
         ensures value { result ≡ kind.reading word.now }
         ensures good { IfOk result Good };
 
-    /// The value times a multiplier, or as it stands where that is zero.
+    /// The value times a multiplier; unchanged where the multiplier is zero.
     fn scaled(self, by: Self) -> Result<Self, NumFault>
         requires value { Good self }
         requires by { Good by }

@@ -12,7 +12,7 @@ use outside::{Folder, InputFault};
 use record_lines::Lines;
 use std::alloc::Global;
 
-/// A one-dimensional array of so many numbers, with its control record.
+/// A one-dimensional array of `count` numbers, with its control record.
 #[tactic(auto, unfolding(crate::specs::Arrays::reals))]
 pub fn read_reals<F: Folder>(
     alloc: Global,
@@ -43,7 +43,8 @@ fn layer_of<V: Value, F: Folder>(
 ) -> Result<Vec<V>, InputFault>
     ensures since { (files : List File) → F.agrees folder.new files → F.agrees folder.old files }
     ensures counts { InputCounts (F.faults folder.old) (F.faults folder.new) result }
-    ensures layer { (files : List File) → F.agrees folder.new files → Gives (λ v. v.items) result lines.new (layer_of V.kind files file.now rows cols lines.old) }
+    ensures layer { (files : List File) → F.agrees folder.new files →
+        Gives (λ v. v.items) result lines.new (layer_of V.kind files file.now rows cols lines.old) }
     ensures good { IfOk result (λ v. All V.Good v.items) }
     ensures count { IfOk result (λ v. length v.items ≡ rows * cols) }
 {
@@ -88,7 +89,7 @@ pub fn read_int_layer<F: Folder>(
     layer_of(alloc, lines, file, folder, rows, cols)
 }
 
-/// One array for each of so many layers.
+/// One array for each of `count` layers.
 pub fn read_layers<V: Value, F: Folder>(
     alloc: Global,
     lines: &mut Lines,
@@ -100,7 +101,8 @@ pub fn read_layers<V: Value, F: Folder>(
 ) -> Result<Vec<V>, InputFault>
     ensures since { (files : List File) → F.agrees folder.new files → F.agrees folder.old files }
     ensures counts { InputCounts (F.faults folder.old) (F.faults folder.new) result }
-    ensures layers { (files : List File) → F.agrees folder.new files → Gives (λ v. v.items) result lines.new (layers V.kind files file.now count rows cols lines.old) }
+    ensures layers { (files : List File) → F.agrees folder.new files →
+        Gives (λ v. v.items) result lines.new (layers V.kind files file.now count rows cols lines.old) }
     ensures good { IfOk result (λ v. All V.Good v.items) }
     ensures count { IfOk result (λ v. length v.items ≡ count * (rows * cols)) }
 {

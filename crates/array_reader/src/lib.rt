@@ -1,4 +1,4 @@
-// Arrays of numbers: plain lists, and layers behind control records, in this file or a named one.
+//! Arrays of numbers: plain lists, and layers after control records, in this file or a named one.
 #![tactic(auto)]
 
 mod arrays;

@@ -23,7 +23,7 @@ pub fn next_line<'a>(
     }
 }
 
-/// The file's name that a word is; BadName where it is none.
+/// A word as the name of a file; BadName where it can't be one.
 pub fn name_of<'a>(
     alloc: Global,
     word: &'a [u8],

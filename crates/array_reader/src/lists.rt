@@ -10,7 +10,7 @@ use outside::{Code, TextFault, refused};
 use record_lines::{Free, FreeFault, Lines};
 use std::alloc::{AllocError, Global};
 
-/// The refusal of a fault of a free list in this file.
+/// The refusal for a fault of a free list in this file.
 pub fn free_refused(alloc: Global, fault: FreeFault, file: &str) -> TextFault
     ensures { IsRefusal (free_refusal file.now fault).code file.now (free_refusal file.now fault).line result }
 {
@@ -42,7 +42,7 @@ pub fn next_value<'a, V: Value>(
     }
 }
 
-// The next value, which is `last`, the value of the last word, where it is one of its repeats.
+// The next value. It is `last`, the value of the last word, if it is one of that word's repeats.
 #[tactic(auto, unfolding(crate::specs::Lists::value_alone))]
 fn next_kept<'a, V: Value>(
     alloc: Global,
@@ -68,7 +68,7 @@ fn next_kept<'a, V: Value>(
     Ok(value)
 }
 
-/// So many values of a free list. A word is read once for all its repeats.
+/// Reads `count` values of a free list. A word is parsed once for all its repeats.
 pub fn values<'a, V: Value>(
     alloc: Global,
     free: &mut Free<'a>,
@@ -78,7 +78,8 @@ pub fn values<'a, V: Value>(
     count: u32,
 ) -> Result<Vec<V>, TextFault>
     requires by { IfSome by V.Good }
-    ensures values { GivesText (λ v. v.items) result (free.new, lines.new) (repeated count (value_alone (with_multiplier V.kind by) file.now) (free.old, lines.old)) }
+    ensures values { GivesText (λ v. v.items) result (free.new, lines.new)
+        (repeated count (value_alone (with_multiplier V.kind by) file.now) (free.old, lines.old)) }
     ensures good { IfOk result (λ v. All V.Good v.items) }
     ensures count { IfOk result (λ v. length v.items ≡ count) }
 {
@@ -110,7 +111,7 @@ pub fn free_list<V: Value>(
     values(alloc, &mut free, lines, file, by, count)
 }
 
-/// So many free lists of one length, as one list.
+/// Reads `rows` free lists of `cols` values, as one list.
 #[tactic(auto, unfolding(crate::specs::Lists::free_rows))]
 pub fn free_rows<V: Value>(
     alloc: Global,
@@ -133,7 +134,7 @@ pub fn free_rows<V: Value>(
     Ok(values)
 }
 
-/// So many times the same value.
+/// `count` copies of one value.
 pub fn constants<V: Copy>(alloc: Global, value: V, count: usize) -> Result<Vec<V>, AllocError>
     ensures { IfOk result (λ v. v.items ≡ replicate count value) }
 {

@@ -26,7 +26,7 @@ fn real_product(a: Dec, b: Dec) -> Result<Dec, NumFault>
     times(a, b)
 }
 
-/// A value times its multiplier; as it stands where that is zero.
+/// A value times its multiplier; unchanged where the multiplier is zero.
 #[tactic(auto, unfolding(crate::specs::Kinds::scaled))]
 pub fn scaled_real(value: Dec, by: Dec) -> Result<Dec, NumFault>
     requires value { IsDec value }
@@ -41,7 +41,7 @@ pub fn scaled_real(value: Dec, by: Dec) -> Result<Dec, NumFault>
     }
 }
 
-/// The integer of a word: an optional sign and 1 to 18 digits; none where it has another form.
+/// The integer of a word: an optional sign and 1 to 18 digits. None where it has another form.
 pub fn short_integer(word: &[u8]) -> Option<i64>
     ensures { result ≡ integer_of word.now }
 {
@@ -68,7 +68,7 @@ fn integer_product(a: i64, b: i64) -> Result<i64, NumFault>
     }
 }
 
-/// A value times its multiplier; as it stands where that is zero.
+/// A value times its multiplier; unchanged where the multiplier is zero.
 #[tactic(auto, unfolding(crate::specs::Kinds::integer_scaled))]
 pub fn scaled_integer(value: i64, by: i64) -> Result<i64, NumFault>
     ensures { result ≡ integer_scaled by value }

@@ -10,7 +10,7 @@ use outside::TextFault;
 use record_lines::Lines;
 use std::alloc::Global;
 
-/// So many integers, without a control record.
+/// Reads `count` integers, without a control record.
 pub fn plain_ints(
     alloc: Global,
     lines: &mut Lines,
@@ -23,7 +23,7 @@ pub fn plain_ints(
     free_list(alloc, lines, file, None, count)
 }
 
-/// So many numbers, without a control record.
+/// Reads `count` numbers, without a control record.
 pub fn plain_reals(
     alloc: Global,
     lines: &mut Lines,

@@ -20,11 +20,11 @@ IsHighMark c v =
     ⊎ (((x : River) × Contains c.rivers x × (0 < x.hi) × ((v ≡ x.stage_hi) ⊎ (v ≡ x.bottom_hi)))
     ⊎ ((x : Drain) × Contains c.drains x × (0 < x.hi) × (v ≡ x.elev_hi)))
 
--- v stands in some cell of the problem
+-- v is at some cell of the problem
 abbrev pub IsSomewhere : (Entries → ℤ → Type 0) → List Entries → ℤ → Type 0
 IsSomewhere Mark p v = (c : ℕ) × (c < length p) × Mark (entries_at p c) v
 
--- b is the first in the order Le of the numbers with the property P, or 0 where none has it
+-- b is the first in the order Le of the numbers with the property P; 0 where none has it
 pub record IsFirstOf (Le : ℤ → ℤ → Type 0) (P : ℤ → Type 0) (b : ℤ) : Type 0 where
   pub reached : P b ⊎ (((v : ℤ) → P v → ⊥) × (b ≡ pos 0))
   pub first : (v : ℤ) → P v → Le b v

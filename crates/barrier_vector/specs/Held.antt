@@ -1,4 +1,4 @@
--- What a problem with storage at each cell can't lack.
+-- What holds of a problem with storage at each cell.
 use Rattle.std.specs.Prelude.{◌≡◌, ℕ, ◌<◌, List, length, Contains}
 use Rattle.step_problem.specs.declared.entry.Fixed.{Fixed}
 use Rattle.step_problem.specs.declared.entry.FixedKind.TheVariants.{Storage}

@@ -1,4 +1,4 @@
--- What the cells of a problem can lack and can have too much in all.
+-- The lack and the surplus of flow of all cells of a problem.
 use Rattle.std.specs.Prelude.{ℕ, zero, suc, List, sum_by, ℤ, pos, negsuc}
 use Rattle.step_problem.specs.Entries.{Entries}
 use Rattle.step_problem.specs.Flows.{total}

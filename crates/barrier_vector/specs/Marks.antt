@@ -1,4 +1,4 @@
--- What each entry sets as the base's mark on a side, and the outermost of several.
+-- The mark of each entry on a side, and the outermost of several.
 use Rattle.std.specs.Prelude.{◌≡◌, ℕ, zero, suc, ◌<◌, ◌⊎◌, List, Contains, Option, None, Some, ℤ, ◌≤ℤ◌}
 use Rattle.std.specs.Int.{int_max, int_min}
 use Rattle.step_problem.specs.declared.heads.Side.{Side}
@@ -25,7 +25,7 @@ abbrev pub drain_mark : Side → Drain → Option ℤ
 drain_mark Low x = if_some x.hi x.elev_lo
 drain_mark High x = if_some x.hi x.elev_hi
 
--- the outer of two marks: the lower on the low side, the higher on the high side
+-- the outer of two marks: the lower one on the low side, the higher one on the high side
 abbrev pub outer_of : Side → Option ℤ → Option ℤ → Option ℤ
 outer_of side None b = b
 outer_of side (Some a) None = Some a
@@ -37,7 +37,7 @@ abbrev pub IsInside : Side → ℤ → ℤ → Type 0
 IsInside Low b v = b ≤ℤ v
 IsInside High b v = v ≤ℤ b
 
--- the outermost of the numbers with the property P, none where there are none
+-- the outermost of the numbers with the property P; None where there are none
 abbrev pub IsOutermost : Side → (ℤ → Type 0) → Option ℤ → Type 0
 IsOutermost side P None = (v : ℤ) → P v → ⊥
 IsOutermost side P (Some b) = P b × ((v : ℤ) → P v → IsInside side b v)

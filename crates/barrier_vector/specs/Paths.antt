@@ -1,4 +1,4 @@
--- Paths along the branches of a problem to cells that hold the others, its roots, and the drops of head on them. Each branch carries at most q.
+-- Paths along the branches of a problem to its roots, which are the cells that bound the others, and the drops of head on them. Each branch carries at most q.
 use Rattle.std.specs.Prelude.{◌≡◌, ℕ, zero, suc, ◌+◌, ◌-◌, ◌/◌, ◌≤◌, List, Contains}
 use Rattle.step_problem.specs.declared.entry.Link.{Link}
 use Rattle.step_problem.specs.Entries.{Entries, entries_at}
@@ -28,7 +28,7 @@ module _ (p : List Entries) (q : ℕ) (Root : ℕ → ℕ → Type 0) where
     pub level : IsLevel x.cell k
     pub least : (z : Link) → Contains (entries_at p c).links z → IsLevel z.cell k → x.cell ≤ z.cell
 
-  -- s is the sum of the drops from cell c, of level k, through its parents, the root's own drop included
+  -- s is the sum of the drops from cell c, of level k, through its parents, including the root's own drop
   abbrev pub SumsTo : ℕ → ℕ → ℕ → Type 0
   SumsTo zero c s = Root c s
   SumsTo (suc k) c s = (x : Link) × IsParent k c x × (rest : ℕ) × SumsTo k x.cell rest × (s ≡ ceil_over q x.lo + rest)

@@ -60,7 +60,7 @@ IsRefusedAbove p n =
 abbrev pub IsRefused : List Entries → NoBound → Type 0
 IsRefused p n = IsRefusedBelow p n ⊎ (Nowhere p (HasNoFloor p) × Nowhere p (SinksTooLow p) × IsRefusedAbove p n)
 
--- A fault is the problem's refusal, or want of memory.
+-- A fault is the problem's refusal, or lack of memory.
 abbrev pub IsFault : List Entries → BarrierFault → Type 0
 IsFault p (IsNoBound n) = IsRefused p n
 IsFault p Memory = Unit {0}

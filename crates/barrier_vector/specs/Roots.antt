@@ -1,4 +1,4 @@
--- The roots of the searches, and what the low side is found from.
+-- The roots of the searches, and the data that the low side is found from.
 use Rattle.std.specs.Prelude.{◌≡◌, ℕ, ◌+◌, ◌<◌, List, length, min, Option, None, Some, slice_index, slice_index_or, ℤ, pos, neg_ℤ}
 use Rattle.std.specs.Int.{int_max, int_min}
 use Rattle.step_problem.specs.declared.heads.Side.{Side}
@@ -22,13 +22,14 @@ anchor_on High = high_anchor
 abbrev pub SelfRoot : List (Option ℕ) → ℕ → ℕ → Type 0
 SelfRoot labels c d = (mark_at labels c ≡ Some c) × (d ≡ 0)
 
--- The list has just these roots and their drops.
+-- The list has exactly these roots and their drops.
 pub record AreRoots (Root : ℕ → ℕ → Type 0) (own : List (Option ℕ)) : Type 0 where
   pub only : (c d : ℕ) → mark_at own c ≡ Some d → Root c d
   pub each : (c d : ℕ) → c < length own → Root c d → mark_at own c ≡ Some d
 
--- what the floors are made of
-pub record IsSurvey (p : List Entries) (base : ℤ) (levels : List (Option ℕ)) (paths : List ℕ) (labels : List (Option ℕ)) (inner : List ℕ) (sums : List ℤ) (longest : List ℕ) : Type 0 where
+-- the data of the floors
+pub record IsSurvey (p : List Entries) (base : ℤ) (levels : List (Option ℕ)) (paths : List ℕ)
+    (labels : List (Option ℕ)) (inner : List ℕ) (sums : List ℤ) (longest : List ℕ) : Type 0 where
   pub is_base : IsLowBase p base
   pub anchored : (c k : ℕ) → mark_at levels c ≡ Some k → (s : ℕ) × IsLowPath p c s × (slice_index paths c ≡ min s path_limit)
   pub unanchored : (c : ℕ) → c < length p → mark_at levels c ≡ None → IsUnanchored p c
@@ -42,7 +43,7 @@ pub record IsSurvey (p : List Entries) (base : ℤ) (levels : List (Option ℕ))
   pub sums_whole : length sums ≡ length p
   pub tops_whole : length longest ≡ length p
 
--- what the ceilings are made of
+-- the data of the ceilings
 pub record IsAscent (p : List Entries) (base : ℤ) (levels : List (Option ℕ)) (paths : List ℕ) : Type 0 where
   pub is_base : IsHighBase p base
   pub anchored : (c k : ℕ) → mark_at levels c ≡ Some k → (s : ℕ) × IsHighPath p c s × (slice_index paths c ≡ min s path_limit)
@@ -50,7 +51,7 @@ pub record IsAscent (p : List Entries) (base : ℤ) (levels : List (Option ℕ))
   pub levels_whole : length levels ≡ length p
   pub paths_whole : length paths ≡ length p
 
--- a floor, but one too low for a head is cut off just below all heads
+-- a floor; one too low for a head is cut off just below all heads
 abbrev pub floor_cut : ℤ → ℤ
 floor_cut f = int_max f (neg_ℤ (pos (head_limit + 1)))
 
@@ -60,7 +61,7 @@ ceiling_cut f = int_min f (pos (head_limit + 1))
 abbrev pub bound_at : List (Option ℤ) → ℕ → Option ℤ
 bound_at xs c = slice_index_or xs c None
 
--- the floor of cell c, cut off; none where it has no floor
+-- the floor of cell c, cut off; None where it has no floor
 abbrev pub IsFloorOrNone : List Entries → ℕ → Option ℤ → Type 0
 IsFloorOrNone p c None = HasNoFloor p c
 IsFloorOrNone p c (Some v) = (f : ℤ) × IsFloor p c f × (v ≡ floor_cut f)

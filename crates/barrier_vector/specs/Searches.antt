@@ -5,7 +5,7 @@ use Rattle.step_problem.specs.Entries.{Entries, entries_at, link_at}
 use Rattle.barrier_vector.specs.Paths.{ceil_over, LeadsToRoot, IsPath}
 use Rattle.barrier_vector.specs.Spreads.{mark_at, unmarked}
 
--- twice the greatest head, and one more: a path of this length leads out of range
+-- twice the greatest head plus one: a path of this length leads out of range
 abbrev pub path_limit : ℕ
 path_limit = 8000000000000000001
 
@@ -23,10 +23,11 @@ abbrev pub IsNearestOrNone : List Link → List (Option ℕ) → ℕ → ℕ →
 IsNearestOrNone links levels level i None = (j : ℕ) → j < i → mark_at levels (link_at links j).cell ≡ Some level → ⊥
 IsNearestOrNone links levels level i (Some x) = IsNearest links levels level i x
 
--- s goes from cell c to its nearest neighbour of this level, and on along that one's path; or c has no neighbour of this level
+-- s is the drop from cell c to its nearest neighbour of this level plus that neighbour's path; or c has no neighbour of this level
 abbrev pub ContinuesTo : List Entries → ℕ → List (Option ℕ) → ℕ → List ℕ → ℕ → ℕ → Type 0
 ContinuesTo p q levels level paths c s =
-    ((x : Link) × IsNearest (entries_at p c).links levels level (length (entries_at p c).links) x × (s ≡ min (ceil_over q x.lo + slice_index paths x.cell) path_limit))
+    ((x : Link) × IsNearest (entries_at p c).links levels level (length (entries_at p c).links) x
+    × (s ≡ min (ceil_over q x.lo + slice_index paths x.cell) path_limit))
     ⊎ ((j : ℕ) → j < length (entries_at p c).links → mark_at levels (link_at (entries_at p c).links j).cell ≡ Some level → ⊥)
 
 -- The levels mark the cells from which links lead to a root, and no others; each of these has its path there, cut off at the limit.
@@ -36,7 +37,7 @@ pub record IsSearched (p : List Entries) (q : ℕ) (own levels : List (Option �
   pub none : (c : ℕ) → c < length p → mark_at levels c ≡ None → (j : ℕ) → LeadsToRoot p q (ListRoot own) j c → ⊥
   pub some : (c k : ℕ) → mark_at levels c ≡ Some k → (s : ℕ) × IsPath p q (ListRoot own) c s × (slice_index paths c ≡ min s path_limit)
 
--- Before the first step just the roots are marked, at level 0, and stand in the frontier.
+-- Before the first step only the roots are marked, at level 0, and they are the frontier.
 pub record IsStart (own levels : List (Option ℕ)) (paths frontier : List ℕ) : Type 0 where
   pub levels_whole : length levels ≡ length own
   pub paths_whole : length paths ≡ length own

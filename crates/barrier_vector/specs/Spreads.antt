@@ -3,7 +3,7 @@ use Rattle.std.specs.Prelude.{◌≡◌, ℕ, suc, ◌+◌, ◌<◌, ◌⊎◌, 
 use Rattle.step_problem.specs.declared.entry.Link.{Link}
 use Rattle.step_problem.specs.Entries.{Entries, entries_at, link_at}
 
--- what stands at cell c, none past the end
+-- the mark of cell c; None past the end
 abbrev pub mark_at : List (Option ℕ) → ℕ → Option ℕ
 mark_at m c = slice_index_or m c None
 

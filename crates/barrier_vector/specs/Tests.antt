@@ -1,4 +1,4 @@
--- What is sought among the bounds of cells before they are a barrier.
+-- The tests of the bounds of cells before they are a barrier.
 use Rattle.std.specs.Prelude.{◌≡◌, ℕ, ◌<◌, List, length, Option, None, Some, Result, Ok, Err, ℤ, pos, neg_ℤ, ◌<ℤ◌}
 use Rattle.std.specs.declared.vec.Vec.{Vec}
 use Rattle.std.specs.declared.alloc.Global.{Global}
@@ -23,7 +23,7 @@ abbrev pub IsFirstFailing : Test → List (Option ℤ) → Option ℕ → Type 0
 IsFirstFailing t xs None = (d : ℕ) → d < length xs → Fails t (bound_at xs d) → ⊥
 IsFirstFailing t xs (Some c) = (c < length xs) × Fails t (bound_at xs c) × ((d : ℕ) → d < c → Fails t (bound_at xs d) → ⊥)
 
--- the heads that are there, 0 elsewhere
+-- the heads where there are some, 0 elsewhere
 abbrev pub AreHeadsOf : List (Option ℤ) → List ℤ → Type 0
 AreHeadsOf xs hs = (length hs ≡ length xs) × ((c : ℕ) (v : ℤ) → c < length xs → bound_at xs c ≡ Some v → head_at hs c ≡ v)
 

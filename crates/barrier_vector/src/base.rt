@@ -11,7 +11,7 @@ trait Mark {
 
     ghost mark: { Side → Self → Option ℤ };
 
-    // What the entry sets on a side, where it may conduct.
+    // The mark of the entry on a side, if it may conduct.
     fn mark_on(&self, side: Side) -> Option<i64>
         ensures { result ≡ mark side self.now };
 }

@@ -1,8 +1,9 @@
-// The deep flows of cells and their greatest constant flows, and what all cells lack or have too much.
+// The deep flows of cells and their greatest constant flows, and the sums of these over all cells: the lack and the surplus.
 ghost use Rattle.std.specs.Prelude.{◌≡◌, ℕ, ℤ, ◌<◌, ◌+◌, ◌^◌, length, List, All, IfOk, pos, ◌+ℤ◌, ◌-ℤ◌, sum_by};
 ghost use Rattle.step_problem.specs.Entries.{entries_at};
 ghost use Rattle.step_problem.specs.Flows.{total};
-ghost use Rattle.step_problem.specs.Conditions.{IsWithin, CellFits, RiverFits, EvapFits, FixedFits, magnitude, deep_river_low, deep_river_high, full_rate, flow_of};
+ghost use Rattle.step_problem.specs.Conditions.{IsWithin, CellFits, RiverFits, EvapFits, FixedFits, magnitude};
+ghost use Rattle.step_problem.specs.Conditions.{deep_river_low, deep_river_high, full_rate, flow_of};
 ghost use Rattle.cell_balance.specs.Components.{deep_low};
 ghost use Rattle.barrier_vector.specs.Lacks.{negative_part, positive_part, high_flow, lack, surplus};
 ghost use Rattle.barrier_vector.specs.Labels.{number_at};
@@ -10,7 +11,7 @@ ghost use Rattle.barrier_vector.specs.Labels.{number_at};
 use std::alloc::{AllocError, Global};
 use step_problem::{Cell, Evap, Flow, Problem, River, least_flow};
 
-// A flow of an entry, whose magnitude is at most its size.
+// The flow of an entry, whose magnitude is at most its size.
 trait Gives {
     ghost flow: { Self → ℤ };
 
@@ -48,7 +49,7 @@ impl Gives for River {
     }
 }
 
-// An evaporation's full rate.
+// The full rate of an evaporation.
 fn full_rate_of(x: &Evap) -> u128
     requires { EvapFits x.now }
     ensures value { result ≡ full_rate x.now }

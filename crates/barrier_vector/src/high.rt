@@ -13,7 +13,7 @@ use crate::search::search;
 use std::alloc::{AllocError, Global};
 use step_problem::{Problem, Side};
 
-// Just above all heads.
+// The least number above all heads.
 const HIGHEST: i64 = 4_000_000_000_000_000_001;
 
 fn plus(head: i128, path: u64) -> i128
@@ -35,7 +35,7 @@ fn cut_above(ceiling: i128) -> i64
     }
 }
 
-// The base and a path, cut off just above all heads.
+// The base plus a path, cut off just above all heads.
 fn raised(base: i64, path: u64) -> i64
     requires base { IsHead base }
     requires path { path ≤ path_limit }
@@ -62,7 +62,7 @@ fn ceiling_of(
     }
 }
 
-/// The ceiling of each cell, cut off just above all heads; none where it has no ceiling.
+/// The ceiling of each cell, cut off just above all heads; None where it has no ceiling.
 pub(crate) fn ceilings(alloc: Global, p: &Problem) -> Result<Vec<Option<i64>>, AllocError>
     ensures { IfOk result (λ ceilings. AreBounds p.now (IsCeilingOrNone p.now) ceilings.items) }
 {

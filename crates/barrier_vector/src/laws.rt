@@ -18,7 +18,7 @@ pub fn floors_hold()
     ensures { FloorsHold }
 {}
 
-/// The laws speak of something: a step with an entry of each kind has a solution, over the denominator 3.
+/// The laws are not empty: a step with an entry of each kind has a solution, over the denominator 3.
 pub fn solved_example()
     ensures { IsSolution example_problem 1 example_step 3 example_heads }
 {}

@@ -25,7 +25,7 @@ use refusal::{high_side, low_side};
 use std::alloc::Global;
 use step_problem::{Barrier, NoBound, Problem};
 
-/// Why a problem has no barrier: a refusal of 24 to 27 at the least cell that has it, or want of memory.
+/// Why a problem has no barrier: a refusal of 24 to 27 at the least cell that has it, or lack of memory.
 #[derive(Debug, Drop)]
 pub enum BarrierFault {
     NoBound(NoBound),
@@ -33,7 +33,9 @@ pub enum BarrierFault {
 }
 
 /// The floor and the ceiling of each variable cell, in units of 10^-9 length units. Time and memory grow as the number of cells and links.
-/// A problem without a barrier is refused at the least cell with the first of four causes: 24 where a component is neither anchored nor carried, 26 where a floor lies below all heads, 25 where a component has no anchor of the high side, 27 where a ceiling lies above all heads.
+/// A problem without a barrier is refused at the least cell with the first of four causes: 24 where a component is
+/// neither anchored nor carried, 26 where a floor lies below all heads, 25 where a component has no anchor of the
+/// high side, 27 where a ceiling lies above all heads.
 pub fn barrier(alloc: Global, p: &Problem) -> Result<Barrier, BarrierFault>
     ensures floors { IfOk result (λ b. (c : ℕ) → c < length p.now → IsFloor p.now c (head_at b.floor c)) }
     ensures ceilings { IfOk result (λ b. (c : ℕ) → c < length p.now → IsCeiling p.now c (head_at b.ceiling c)) }

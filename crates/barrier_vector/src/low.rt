@@ -15,7 +15,8 @@ use crate::search::{Found, search};
 use std::alloc::{AllocError, Global};
 use step_problem::{Problem, Side};
 
-// What the floors are made of: the base; each cell's level and path to the anchors; its component's label; its path to the component's least cell; by label the sum of deep flows and the longest inner path.
+// The data of the floors: the base; each cell's level and path to the anchors; its component's label; its path to the
+// component's least cell; by label the sum of deep flows and the longest inner path.
 #[derive(Debug, Drop)]
 struct Survey {
     base: i64,
@@ -52,7 +53,7 @@ fn survey_low(alloc: Global, p: &Problem) -> Result<Survey, AllocError>
     })
 }
 
-// Just below all heads.
+// The greatest number below all heads.
 const LOWEST: i64 = -4_000_000_000_000_000_001;
 
 fn minus(head: i128, path: u64) -> i128
@@ -135,7 +136,7 @@ fn floor_of(
     }
 }
 
-/// The floor of each cell, cut off just below all heads; none where it has no floor.
+/// The floor of each cell, cut off just below all heads; None where it has no floor.
 pub(crate) fn floors(alloc: Global, p: &Problem) -> Result<Vec<Option<i64>>, AllocError>
     ensures { IfOk result (λ floors. AreBounds p.now (IsFloorOrNone p.now) floors.items) }
 {

@@ -13,7 +13,7 @@ use std::alloc::{AllocError, Global};
 use step_problem::problem::HEAD_LIMIT;
 use step_problem::{NoBound, Place, Problem, Side};
 
-// What a cell's bound is tested for.
+// The test of a cell's bound.
 #[derive(Clone, Copy, Debug)]
 pub(crate) enum Test {
     Missing,

@@ -1,5 +1,6 @@
 // The search by levels: each cell's least number of links to a root, and its path there.
-ghost use Rattle.std.specs.Prelude.{◌≡◌, ℕ, ◌<◌, ◌≤◌, ◌+◌, ◌^◌, length, List, [], ◌∷◌, ◌++◌, Option, OnOk, All, IfOk, min, Some, None, MatchOption, ◌⊎◌, Contains, slice_index};
+ghost use Rattle.std.specs.Prelude.{◌≡◌, ℕ, ◌<◌, ◌≤◌, ◌+◌, ◌^◌, length, List, [], ◌∷◌, ◌++◌, Option, OnOk, All, IfOk};
+ghost use Rattle.std.specs.Prelude.{min, Some, None, MatchOption, ◌⊎◌, Contains, slice_index};
 ghost use Rattle.step_problem.specs.Entries.{entries_at};
 ghost use Rattle.barrier_vector.specs.Paths.{ceil_over};
 ghost use Rattle.barrier_vector.specs.Spreads.{mark_at};
@@ -9,7 +10,7 @@ use crate::spread::spread;
 use std::alloc::{AllocError, Global};
 use step_problem::{Link, Problem};
 
-/// A path that long leads out of the range of heads.
+/// A path of this length leads out of the range of heads.
 pub(crate) const PATH_LIMIT: u64 = 8_000_000_000_000_000_001;
 
 /// What a search finds: the level of each cell that leads to a root, and its path, cut off at the limit.
@@ -19,7 +20,7 @@ pub(crate) struct Found {
     pub paths: Vec<u64>,
 }
 
-// What a search begins with: the roots and their own drops.
+// The start of a search: the roots and their own drops.
 #[derive(Debug, Drop)]
 struct Start {
     levels: Vec<Option<u32>>,
@@ -109,9 +110,11 @@ fn extend_paths(
     }
 }
 
-// One cell more: a root with its own drop, or another cell.
+// Adds a cell: a root with its own drop, or another cell.
 fn add_cell(start: &mut Start, cell: u32, drop: Option<u128>) -> Result<(), AllocError>
-    ensures { OnOk result ((own : List (Option ℕ)) → length own ≡ cell → IsStart own start.old.levels.items start.old.paths.items start.old.frontier.items → IsStart (own ++ drop ∷ []) start.new.levels.items start.new.paths.items start.new.frontier.items) }
+    ensures { OnOk result ((own : List (Option ℕ)) → length own ≡ cell →
+        IsStart own start.old.levels.items start.old.paths.items start.old.frontier.items →
+        IsStart (own ++ drop ∷ []) start.new.levels.items start.new.paths.items start.new.frontier.items) }
 {
     match drop {
         Some(drop) => {
@@ -143,7 +146,7 @@ fn begin(alloc: Global, own: &[Option<u128>]) -> Result<Start, AllocError>
     Ok(start)
 }
 
-/// The level and the path of each cell that leads to a root. `own` has the own drops of the roots, none at the other cells; each branch carries at most `q`.
+/// The level and the path of each cell that leads to a root. `own` has the own drops of the roots, None at the other cells; each branch carries at most `q`.
 pub(crate) fn search(
     alloc: Global,
     p: &Problem,

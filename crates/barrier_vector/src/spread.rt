@@ -37,7 +37,7 @@ fn spread_from(
     Ok(())
 }
 
-// Marks the cells that links lead to from the frontier, and answers those that had no mark.
+// Marks the cells to which links lead from the frontier, and returns those that had no mark.
 pub(crate) fn spread(
     alloc: Global,
     p: &Problem,
@@ -49,7 +49,7 @@ pub(crate) fn spread(
     requires frontier { All (λ c. c < length p.now) frontier.now }
     ensures { IfOk result (λ next. Spreads (FrontLeads p.now frontier.now (length frontier.now)) mark marks.old marks.new [] next.items) }
 {
-    // The cells that links lead to come with the problem's conditions.
+    // That links lead to cells of the problem is one of the problem's conditions.
     let _cells = p.len();
     let mut next = Vec::new(alloc);
     for c in frontier {

@@ -18,7 +18,9 @@ use Rattle.model_types.specs.declared.model.FlowModel.{FlowModel}
 
 -- free format, and neither of the options XSECTION and CHTOCH, in any letter case
 abbrev pub is_in_profile : List (List ℕ) → Bool
-is_in_profile options = list_any (is_word (codes "FREE")) options && (not (list_any (is_word (codes "XSECTION")) options) && not (list_any (is_word (codes "CHTOCH")) options))
+is_in_profile options =
+    list_any (is_word (codes "FREE")) options
+    && (not (list_any (is_word (codes "XSECTION")) options) && not (list_any (is_word (codes "CHTOCH")) options))
 
 unfoldable pub option_line : List ℕ → Left → Result (Unit {0} × Left) Refusal
 option_line file left = do
@@ -45,7 +47,7 @@ basics_of files file bytes grid = do
   strt ← layers real files file grid.layers grid.rows grid.cols hnoflo.1
   Ok (ibound.0, strt.0)
 
--- the model with them
+-- the model with IBOUND and STRT of the file
 unfoldable pub bas_of : List File → List ℕ → List ℕ → FlowModel → Result FlowModel Refusal
 bas_of files file bytes m = do
   basics ← basics_of files file bytes m.grid

@@ -42,7 +42,8 @@ fn basics_of<F: Folder>(
 ) -> Result<Basics, InputFault>
     ensures since { (files : List File) → F.agrees folder.new files → F.agrees folder.old files }
     ensures counts { InputCounts (F.faults folder.old) (F.faults folder.new) result }
-    ensures basics { (files : List File) → F.agrees folder.new files → Has (λ b. (b.ibound.items, b.strt.items)) result (basics_of files file.now bytes.now grid.now) }
+    ensures basics { (files : List File) → F.agrees folder.new files →
+        Has (λ b. (b.ibound.items, b.strt.items)) result (basics_of files file.now bytes.now grid.now) }
     ensures ibound { IfOk result (λ b. length b.ibound.items ≡ cell_count grid.now) }
     ensures strt { IfOk result (λ b. length b.strt.items ≡ cell_count grid.now) }
     ensures canonical { IfOk result (λ b. All IsDec b.strt.items) }

@@ -1,4 +1,4 @@
-// The lines in front of the arrays.
+// The lines before the arrays.
 ghost use Rattle.std.specs.Prelude.{◌≡◌};
 ghost use Rattle.record_lines.specs.Layout.{words};
 ghost use Rattle.record_lines.specs.Reading.{GivesText};

@@ -1,4 +1,4 @@
--- Sums of flows that stand still at the limit, and what flows they can take.
+-- Sums of flows that stop at the limit, and the flows that may be added to them.
 use Rattle.std.specs.Prelude.{◌^◌, pos, ◌+ℤ◌, ◌≤ℤ◌}
 use Rattle.std.specs.Int.{int_min}
 use Rattle.step_problem.specs.declared.heads.Bound.{Bound}
@@ -9,7 +9,7 @@ use Rattle.budget_bounds.specs.Terms.{term_limit}
 abbrev pub plus_pair : TermPair → TermPair → TermPair
 plus_pair a b = record { lo = a.lo +ℤ b.lo; hi = a.hi +ℤ b.hi }
 
--- what is more than the limit counts as the limit
+-- more than the limit counts as the limit
 abbrev pub capped : TermPair → TermPair
 capped x = record { lo = int_min x.lo term_limit; hi = int_min x.hi term_limit }
 
@@ -19,7 +19,7 @@ pub record IsSum (x : TermPair) : Type 0 where
   pub hi_above : pos 0 ≤ℤ x.hi
   pub hi_below : x.hi ≤ℤ term_limit
 
--- a flow that a sum up to the limit can take
+-- a flow that may be added to a sum up to the limit
 pub record IsFlow (x : TermPair) : Type 0 where
   pub lo : IsWithin x.lo (2 ^ 123)
   pub hi : IsWithin x.hi (2 ^ 123)

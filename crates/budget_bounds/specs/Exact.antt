@@ -1,4 +1,4 @@
--- The exact budget of an exact step at heads that are fractions, and what it is for bounds to enclose it (TM 6-A16, chapter 3, the volumetric budget).
+-- The exact budget of an exact step at heads that are fractions, and what it means that bounds enclose it (TM 6-A16, chapter 3, the volumetric budget).
 use Rattle.std.specs.Prelude.{ℕ, ◌+◌, ◌<◌, List, map, length, ℤ, pos}
 use Rattle.std.specs.List.{filter}
 use Rattle.decimal_input.specs.Fractions.{Fraction, whole, negated, fraction_total}
@@ -35,7 +35,7 @@ exact_singles HeadDepBounds c v = map (fixed_flow v) (exact_fixed_of HeadDepBoun
 exact_singles Recharge c v = map (λ x. x.flow) (exact_flows_of Recharge c.flows)
 exact_singles Et c v = map (evap_flow v) c.evaps
 
--- what of a flow goes into the variable cells, and what goes out of them, as a magnitude
+-- the part of a flow that goes into the variable cells, and the part that goes out of them, as a magnitude
 abbrev pub exact_part : Dir → Fraction → Fraction
 exact_part In f = greater f (whole (pos 0))
 exact_part Out f = greater (negated f) (whole (pos 0))
@@ -56,6 +56,6 @@ BudgetEncloses s e h b = (dir : Dir) (t : Term) → EnclosesSigned (bounds_in b 
 abbrev pub EnclosesBudgets : List Entries → (ℕ → ℤ) → (ℕ → ℤ) → Budget → Type 0
 EnclosesBudgets p l u b = (s : ℕ) (e : List ExactCell) (h : ℕ → Fraction) → EnclosesStep s p e → AreWithin (length p) h l u → BudgetEncloses s e h b
 
--- Heads over one denominator that lie between whole heads are such heads.
+-- Heads over one denominator that lie between whole heads are among these.
 abbrev pub HeadsAreWithin : Type 0
 HeadsAreWithin = (n d : ℕ) (X l u : ℕ → ℤ) → 0 < d → LiesBetween n d X l u → AreWithin n (λ c. share d (X c)) l u

@@ -1,4 +1,5 @@
--- The single flows of each term into a variable cell, each known by its least and its greatest value (TM 6-A16, chapter 3, the volumetric budget). A flow into the cell is positive.
+-- The single flows of each term into a variable cell, each known by its least and its greatest value (TM 6-A16,
+-- chapter 3, the volumetric budget). A flow into the cell is positive.
 use Rattle.std.specs.Prelude.{ℕ, Bool, nat_eq, List, map, ℤ, pos, neg_ℤ}
 use Rattle.std.specs.List.{filter}
 use Rattle.std.specs.Int.{int_max}
@@ -43,7 +44,8 @@ flow_term packages.Recharge = Recharge
 abbrev pub is_term : Term → Term → Bool
 is_term a b = nat_eq (place_of a) (place_of b)
 
--- The bounds of a single flow into a cell whose head lies between l and u: a flow falls in the cell's head, so its least value is the lower one at u, and its greatest the upper one at l.
+-- The bounds of a single flow into a cell whose head lies between l and u: a flow falls in the cell's head, so its
+-- least value is the lower one at u, and its greatest the upper one at l.
 abbrev pub flow_pair : Flow → TermPair
 flow_pair x = record { lo = x.lo; hi = x.hi }
 
@@ -77,7 +79,7 @@ singles HeadDepBounds c l u = map (fixed_pair l u) (fixed_of HeadDepBounds c.fix
 singles Recharge c l u = map flow_pair (flows_of Recharge c.flows)
 singles Et c l u = map (evap_pair l u) c.evaps
 
--- what of a flow goes into the variable cells, and what goes out of them, as a magnitude
+-- the part of a flow that goes into the variable cells, and the part that goes out of them, as a magnitude
 abbrev pub part : Dir → TermPair → TermPair
 part In x = record { lo = int_max x.lo (pos 0); hi = int_max x.hi (pos 0) }
 part Out x = record { lo = int_max (neg_ℤ x.hi) (pos 0); hi = int_max (neg_ℤ x.lo) (pos 0) }

@@ -14,11 +14,11 @@ use Rattle.budget_bounds.specs.declared.pair.TermPair.{TermPair}
 use Rattle.budget_bounds.specs.declared.pair.Budget.{Budget}
 use Rattle.budget_bounds.specs.Singles.{place_of, singles, part}
 
--- the sum of what these flows bring in, or take out
+-- the sum of the parts of these flows that go in, or out
 unfoldable pub parts : Dir → List TermPair → TermPair
 parts dir xs = record { lo = total (λ x. (part dir x).lo) xs; hi = total (λ x. (part dir x).hi) xs }
 
--- The bounds of a term: the sum, over all variable cells, of what its single flows bring in, or take out. The head of cell c lies between l c and u c.
+-- The bounds of a term: the sum, over all variable cells, of the parts of its single flows that go in, or out. The head of cell c lies between l c and u c.
 unfoldable pub term_pair : List Entries → (ℕ → ℤ) → (ℕ → ℤ) → Dir → Term → TermPair
 term_pair p l u dir t = record {
   lo = sum_below (length p) (λ c. (parts dir (singles t (entries_at p c) (l c) (u c))).lo);

@@ -30,9 +30,10 @@ fn term_reaches(listed: &Budget, computed: &Budget, dir: Dir, term: Term) -> boo
     reaches(bounds_in(listed, dir, term), bounds_in(computed, dir, term))
 }
 
-// The first term, of those that go one way, whose listed bounds don't reach as far as the computed ones.
+// The first term in this direction whose listed bounds don't reach as far as the computed ones.
 fn first_short(listed: &Budget, computed: &Budget, dir: Dir) -> Option<Term>
-    ensures { MatchOption result ((t : Term) → Reaches (bounds_in listed.now dir t) (bounds_in computed.now dir t)) (λ t. IsFirstShort listed.now computed.now dir t) }
+    ensures { MatchOption result ((t : Term) → Reaches (bounds_in listed.now dir t) (bounds_in computed.now dir t))
+        (λ t. IsFirstShort listed.now computed.now dir t) }
 {
     for place in 0..8 {
         let term = term_at(place);
@@ -57,8 +58,8 @@ pub fn first_uncovered(listed: &Budget, computed: &Budget) -> Option<(Dir, Term)
     }
 }
 
-/// Whether the listed bounds of each term reach as far as the computed ones: the lower one is at most, the upper
-/// one at least the computed one.
+/// Whether the listed bounds of each term reach as far as the computed ones: the lower one is at most the computed
+/// lower one, and the upper one at least the computed upper one.
 pub fn covers(listed: &Budget, computed: &Budget) -> bool
     ensures { IsTrue result ↔ Covers listed.now computed.now }
 {

@@ -23,7 +23,7 @@ pub(crate) trait Entry {
     fn is_of(&self, term: Term) -> bool
         ensures { result ≡ of term self.now };
 
-    /// Its bounds where the cell's head lies between its own.
+    /// Its bounds where the cell's head lies between the two bounds `own`.
     fn pair_at(&self, own: Bound) -> TermPair
         requires own { AreHeads own }
         requires fits { fits self.now }

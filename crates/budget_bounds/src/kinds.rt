@@ -1,4 +1,4 @@
-// Which term an entry's flow is of.
+// The term of an entry's flow.
 ghost use Rattle.std.specs.Prelude.{◌≡◌, ◌<◌};
 ghost use Rattle.budget_bounds.specs.Singles.{fixed_term, flow_term, is_term, place_of};
 
@@ -57,7 +57,7 @@ pub(crate) fn flow_term(kind: FlowKind) -> Term
     }
 }
 
-/// Whether two terms are one.
+/// Whether two terms are the same.
 pub(crate) fn is_term(a: Term, b: Term) -> bool
     ensures { result ≡ is_term a b }
 {

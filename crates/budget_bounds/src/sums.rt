@@ -1,4 +1,4 @@
-// The sums of a term's flows. A sum stands still at 2^126, so that no flow which is added to it overflows.
+// The sums of a term's flows. A sum stops at 2^126, so that adding a flow can't overflow.
 ghost use Rattle.std.specs.Prelude.{◌≡◌, ◌^◌, cond, map, All, pos, ◌+ℤ◌, ◌≤ℤ◌};
 ghost use Rattle.std.specs.Int.{int_max, int_min};
 ghost use Rattle.std.specs.List.{filter};
@@ -25,7 +25,7 @@ fn positive(flow: i128) -> i128
     flow.max(0)
 }
 
-// What of a flow goes in, or out.
+// The part of a flow that goes in, or out.
 fn part_of(dir: Dir, flow: TermPair) -> TermPair
     requires { IsFlow flow }
     ensures value { result ≡ part dir flow }
@@ -69,7 +69,7 @@ pub fn plus_part(dir: Dir, sum: TermPair, flow: TermPair) -> TermPair
     }
 }
 
-// Adds an entry's flow, where it is of the term.
+// Adds an entry's flow, if it is of the term.
 fn add_single<E: Entry>(dir: Dir, term: Term, own: Bound, sum: TermPair, x: &E) -> TermPair
     requires own { AreHeads own }
     requires sum { IsSum sum }
@@ -123,7 +123,7 @@ fn add_cell(dir: Dir, term: Term, own: Bound, start: TermPair, cell: &Cell) -> T
     }
 }
 
-/// The two sums of a term over all cells, each of which stands still at 2^126.
+/// The two sums of a term over all cells, each of which stops at 2^126.
 pub(crate) fn term_sum(p: &Problem, bounds: &[Bound], dir: Dir, term: Term) -> TermPair
     requires { AreWords p.now bounds.now }
     ensures value { result ≡ capped (term_pair p.now (lower_at bounds.now) (upper_at bounds.now) dir term) }

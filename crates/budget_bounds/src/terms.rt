@@ -1,4 +1,4 @@
-// The budget's terms, each tested.
+// The budget's terms, each of them tested.
 ghost use Rattle.std.specs.Prelude.{◌≡◌, IfOk};
 ghost use Rattle.step_problem.specs.Heads.{lower_at, upper_at};
 ghost use Rattle.cell_relax.specs.Words.{AreWords};
@@ -56,7 +56,7 @@ fn all_terms_of(p: &Problem, bounds: &[Bound]) -> Result<Budget, NoBound>
 }
 
 /// The bounds of the budget of a step whose heads lie between these bounds, in units of 10^-(s+9) flow units, or
-/// FlowTooLarge at the first term of which a bound reaches 2^126: all In terms are tried in their order, and then
+/// FlowTooLarge at the first term with a bound that reaches 2^126: all In terms are tried in their order, and then
 /// all Out terms. A lower head may exceed the upper one. It takes no memory.
 pub fn budget(p: &Problem, bounds: &[Bound]) -> Result<Budget, NoBound>
     requires bounds { AreWords p.now bounds.now }

@@ -34,7 +34,8 @@ drain_flow v x = negated (times (signed x.conductance) (greater (minus v x.eleva
 abbrev pub evap_flow : Fraction → ExactEvap → Fraction
 evap_flow v x = negated (times (signed x.conductance) (greater (minus (lesser v x.surface) x.extinction) (whole (pos 0))))
 
--- The balance of a cell at its head v, where the cell of index k has the head h k: the sum of all flows into it (TM 6-A16, chapter 2, the finite-difference equation with all terms on one side).
+-- The balance of a cell at its head v, where the cell of index k has the head h k: the sum of all flows into it (TM
+-- 6-A16, chapter 2, the finite-difference equation with all terms on one side).
 abbrev pub balance : ExactCell → Fraction → (ℕ → Fraction) → Fraction
 balance c v h =
     plus (fraction_total (λ x. x.flow) c.flows)

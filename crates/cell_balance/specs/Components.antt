@@ -1,4 +1,4 @@
--- Components of a problem by its links, and what holds their heads on the low side: an anchor, or deep flows that sum above 0.
+-- Components of a problem by its links, and what bounds their heads from below: an anchor, or deep flows whose sum is above 0.
 use Rattle.std.specs.Prelude.{◌≡◌, ℕ, zero, suc, ◌<◌, ◌⊎◌, List, length, Contains, Bool, true, cond, ℤ, pos, ◌+ℤ◌, ◌-ℤ◌, ◌<ℤ◌}
 use Rattle.step_problem.specs.declared.entry.Link.{Link}
 use Rattle.step_problem.specs.declared.entry.Fixed.{Fixed}
@@ -15,7 +15,8 @@ sum_below (suc n) f = sum_below n f +ℤ f n
 abbrev pub sum_inside : ℕ → (ℕ → Bool) → (ℕ → ℤ) → ℤ
 sum_inside n inside f = sum_below n (λ k. cond (inside k) (f k) (pos 0))
 
--- The least deep flow of a cell, which it gets where its head lies below all bottoms: its constant flows and its rivers at their bottoms, less its evaporations at their full rate.
+-- The least deep flow of a cell, which it gets where its head lies below all bottoms: its constant flows and its
+-- rivers at their bottoms, less its evaporations at their full rate.
 abbrev pub deep_low : Entries → ℤ
 deep_low c = total (λ x. x.lo) c.flows +ℤ total deep_river_low c.rivers -ℤ total (λ x. pos (full_rate x)) c.evaps
 
@@ -32,12 +33,12 @@ IsAnchored p c = (x : Fixed) × Contains (entries_at p c).fixed x × (0 < x.lo)
 abbrev pub Leads : List Entries → ℕ → ℕ → Type 0
 Leads p j c = (a : ℕ) × Reaches p j c a × IsAnchored p a
 
--- The test picks the component of cell c: just the cells to which links lead from it.
+-- The test holds exactly for the component of cell c: the cells to which links lead from it.
 pub record IsComponent (p : List Entries) (c : ℕ) (inside : ℕ → Bool) : Type 0 where
   pub reached : (k : ℕ) → inside k ≡ true → (j : ℕ) × Reaches p j c k
   pub whole : (j k : ℕ) → Reaches p j c k → inside k ≡ true
 
--- A carried cell: the deep flows of its component sum above 0.
+-- A carried cell: the sum of the deep flows of its component is above 0.
 pub record IsCarried (p : List Entries) (c : ℕ) : Type 0 where
   pub inside : ℕ → Bool
   pub component : IsComponent p c inside

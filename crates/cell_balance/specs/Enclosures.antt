@@ -1,4 +1,6 @@
--- When the whole bounds of a step's problem enclose an exact step: they have the same entries at the same cells, place by place, and each exact value lies between its two bounds. Conductances are known to s decimals, heads to 9, flows to s + 9.
+-- When the whole bounds of a step's problem enclose an exact step: they have the same entries at the same cells,
+-- place by place, and each exact value lies between its two bounds. Conductances are known to s decimals, heads to 9,
+-- flows to s + 9.
 use Rattle.std.specs.Prelude.{◌≡◌, ℕ, ◌+◌, List}
 use Rattle.std.specs.List.{AllZip}
 use Rattle.decimal_input.specs.Enclosures.{Encloses, EnclosesSigned}

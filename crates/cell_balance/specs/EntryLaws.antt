@@ -1,4 +1,4 @@
--- What the manual says of single flows into a cell, and that the bounds of a flow enclose it.
+-- The manual's rules of single flows into a cell, and that the bounds of a flow enclose it.
 use Rattle.std.specs.Prelude.{◌≡◌, ℕ, ◌+◌, ◌<◌, ℤ, pos, ◌*ℤ◌, ◌≤ℤ◌, ◌<ℤ◌}
 use Rattle.decimal_input.specs.Fractions.{Fraction, den, signed, negated, times, AtMost, Same}
 use Rattle.decimal_input.specs.Enclosures.{EnclosesSigned}
@@ -26,19 +26,20 @@ pub record FixedLaws (v : Fraction) (x : ExactFixed) : Type 0 where
   pub gives : 0 < x.conductance.num → IsBelow v x.head → pos 0 <ℤ (fixed_flow v x).num
   pub takes : 0 < x.conductance.num → IsBelow x.head v → (fixed_flow v x).num <ℤ pos 0
 
--- a river takes water where the head is above its stage, gives C * (stage - head) above its bottom and the constant C * (stage - bottom) below
+-- a river takes water where the head is above its stage, gives C * (stage - head) above its bottom and the constant C * (stage - bottom) below it
 pub record RiverLaws (v : Fraction) (x : ExactRiver) : Type 0 where
   pub takes : 0 < x.conductance.num → IsBelow x.stage v → (river_flow v x).num <ℤ pos 0
   pub above : AtMost x.bottom v → Same (river_flow v x) (over_difference (signed x.conductance) x.stage v)
   pub below : AtMost v x.bottom → Same (river_flow v x) (deep_river x)
 
--- a drain never gives water, takes none at or below its elevation, and C * (head - elevation) above
+-- a drain never gives water, takes none at or below its elevation, and takes C * (head - elevation) above it
 pub record DrainLaws (v : Fraction) (x : ExactDrain) : Type 0 where
   pub never_gives : (drain_flow v x).num ≤ℤ pos 0
   pub below : AtMost v x.elevation → (drain_flow v x).num ≡ pos 0
   pub above : AtMost x.elevation v → Same (drain_flow v x) (over_difference (signed x.conductance) x.elevation v)
 
--- an evapotranspiration takes between nothing and its full rate: nothing at or below the extinction elevation, the full rate at or above the surface, and in proportion between
+-- an evapotranspiration takes between nothing and its full rate: nothing at or below the extinction elevation, the
+-- full rate at or above the surface, and in proportion between
 pub record EvapLaws (v : Fraction) (x : ExactEvap) : Type 0 where
   pub never_gives : (evap_flow v x).num ≤ℤ pos 0
   pub at_most_full : AtMost (negated (full_rate x)) (evap_flow v x)
@@ -52,9 +53,13 @@ pub record FlowsAreRight : Type 0 where
   pub drains : (v : Fraction) (x : ExactDrain) → DrainLaws v x
   pub evaps : (v : Fraction) (x : ExactEvap) → EvapLaws v x
 
--- Where a cell's head lies between l and u, in units of 10^-9, and the head at the other end of a link between L and U, each exact flow lies between the lower flow at u and the upper flow at l. For storage this takes the old head's lower bound on the one side and its upper bound on the other.
+-- Where a cell's head lies between l and u, in units of 10^-9, and the head at the other end of a link between L and
+-- U, each exact flow lies between the lower flow at u and the upper flow at l. For storage this takes the old head's
+-- lower bound on the one side and its upper bound on the other.
 pub record FlowsAreEnclosed (s : ℕ) (v : Fraction) (l u : ℤ) : Type 0 where
-  pub links : (p : Link) (x : ExactLink) (h : ℕ → Fraction) (L U : ℕ → ℤ) → LinkEncloses s p x → EnclosesSigned (L x.cell) (U x.cell) 9 (h x.cell) → EnclosesSigned (link_low L u p) (link_high U l p) (s + 9) (link_flow h v x)
+  pub links : (p : Link) (x : ExactLink) (h : ℕ → Fraction) (L U : ℕ → ℤ) → LinkEncloses s p x →
+      EnclosesSigned (L x.cell) (U x.cell) 9 (h x.cell) →
+      EnclosesSigned (link_low L u p) (link_high U l p) (s + 9) (link_flow h v x)
   pub fixed : (p : Fixed) (x : ExactFixed) → FixedEncloses s p x → EnclosesSigned (fixed_low u p) (fixed_high l p) (s + 9) (fixed_flow v x)
   pub rivers : (p : River) (x : ExactRiver) → RiverEncloses s p x → EnclosesSigned (river_low u p) (river_high l p) (s + 9) (river_flow v x)
   pub drains : (p : Drain) (x : ExactDrain) → DrainEncloses s p x → EnclosesSigned (drain_low u p) (drain_high l p) (s + 9) (drain_flow v x)

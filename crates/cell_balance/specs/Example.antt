@@ -1,4 +1,8 @@
--- A step of three variable cells, with an entry of each kind, by which the comparison is seen to speak of something. Two cells stand in a row between constant heads of 0 and 10, the first with storage and a river that is dry, the second with evapotranspiration above its head; a third stands alone, with a well that gives 2 and a drain at 0. Lengths in metres; every conductance is 1, and every exact value lies strictly between its two bounds. Conductances are known to one decimal.
+-- A step of three variable cells, with an entry of each kind, which meets the premises of the comparison. Two cells
+-- lie in a row between constant heads of 0 and 10, the first with storage and a dry river, the second with
+-- evapotranspiration above its head; a third is alone, with a well that gives 2 and a drain at 0. Lengths in metres;
+-- every conductance is 1, and every exact value lies strictly between its two bounds. Conductances are known to one
+-- decimal.
 use Rattle.std.specs.Prelude.{ℕ, List, [], ◌∷◌, ℤ, pos, neg_ℤ}
 use Rattle.decimal_input.specs.Ratios.{Ratio}
 use Rattle.decimal_input.specs.Fractions.{whole}
@@ -85,7 +89,7 @@ third_cell = record {
 abbrev pub example_step : List ExactCell
 example_step = first_cell ∷ second_cell ∷ third_cell ∷ []
 
--- the heads 10/3, 20/3 and 2, over 3
+-- the heads 10/3, 20/3 and 2, as numerators over 3
 abbrev pub example_heads : ℕ → ℤ
 example_heads = head_at (pos 10 ∷ pos 20 ∷ pos 6 ∷ [])
 

@@ -24,20 +24,23 @@ BalanceFalls =
     (c : ExactCell) (d : ℕ) (v w : ℤ) (X : ℕ → ℤ) → 0 < d → v ≤ℤ w →
     AtMost (balance c (share d w) (λ k. share d (X k))) (balance c (share d v) (λ k. share d (X k)))
 
--- and rises weakly in the head at each other end of its links
+-- a balance rises weakly in the head at the other end of each of its links
 abbrev pub BalanceRises : Type 0
 BalanceRises =
     (c : ExactCell) (d : ℕ) (v : ℤ) (X Z : ℕ → ℤ) → 0 < d → All (λ x. X x.cell ≤ℤ Z x.cell) c.links →
     AtMost (balance c (share d v) (λ k. share d (X k))) (balance c (share d v) (λ k. share d (Z k)))
 
--- The dry law: over a set of cells closed under links, each of whose heads lies at or below every fixed head, bottom and elevation there that conducts, the balances sum to at least the deep flows.
+-- The dry law: over a set of cells closed under links, each of whose heads lies at or below every fixed head, bottom
+-- and elevation there that conducts, the balances sum to at least the deep flows.
 abbrev pub DryLaw : Type 0
 DryLaw =
     (e : List ExactCell) (inside : ℕ → Bool) (d : ℕ) (X : ℕ → ℤ) → AreLinked e → IsClosed e inside → 0 < d →
     ((c : ℕ) → c < length e → inside c ≡ true → LiesBelow (share d (X c)) (cell_at e c)) →
-    AtMost (total_inside (length e) inside (λ c. deep_flow (cell_at e c))) (total_inside (length e) inside (λ c. balance (cell_at e c) (share d (X c)) (λ k. share d (X k))))
+    AtMost (total_inside (length e) inside (λ c. deep_flow (cell_at e c)))
+    (total_inside (length e) inside (λ c. balance (cell_at e c) (share d (X c)) (λ k. share d (X k))))
 
--- What the comparison asks: a problem whose components are each anchored or carried, a certificate over a barrier, an exact step that the problem encloses, and a solution of it that the barrier encloses.
+-- The premises of the comparison: a problem whose components are each anchored or carried, a certificate over a
+-- barrier, an exact step that the problem encloses, and a solution of it that the barrier encloses.
 pub record IsComparable (p : List Entries) (b : Edges) (l u : ℕ → ℤ) (s : ℕ) (e : List ExactCell) (d : ℕ) (X : ℕ → ℤ) : Type 0 where
   pub problem : IsProblem p
   pub held : IsHeldBelow p

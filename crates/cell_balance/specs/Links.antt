@@ -1,4 +1,4 @@
--- The links of an exact step: both ends of a branch between two variable cells are entries, one at each cell.
+-- The links of an exact step: a branch between two variable cells is an entry at each of them.
 use Rattle.std.specs.Prelude.{◌≡◌, ℕ, ◌<◌, List, length, All, Contains, slice_index_or}
 use Rattle.decimal_input.specs.Ratios.{Same}
 use Rattle.cell_balance.specs.Steps.{ExactLink, ExactCell, cell_at}
@@ -17,8 +17,9 @@ HasEqualEnds e = (c : ℕ) → c < length e → All (HasLinkBack e c) (cell_at e
 abbrev pub no_link : ExactLink
 no_link = record { cell = 0; conductance = record { num = 0; less = 0 } }
 
--- The links of a step: each cell's lead to different cells of the step, and their two ends have the same conductance.
+-- The links of a step: each cell's lead to different cells of the step, and the two ends of a link have the same conductance.
 pub record AreLinked (e : List ExactCell) : Type 0 where
   pub range : (c : ℕ) → c < length e → All (λ x. x.cell < length e) (cell_at e c).links
-  pub apart : (c i j : ℕ) → c < length e → i < j → j < length (cell_at e c).links → (slice_index_or (cell_at e c).links i no_link).cell ≡ (slice_index_or (cell_at e c).links j no_link).cell → ⊥
+  pub apart : (c i j : ℕ) → c < length e → i < j → j < length (cell_at e c).links →
+      (slice_index_or (cell_at e c).links i no_link).cell ≡ (slice_index_or (cell_at e c).links j no_link).cell → ⊥
   pub ends : HasEqualEnds e

@@ -1,4 +1,6 @@
--- The exact finite-difference equations of one time step as plain data: for each variable cell all that flows into it (TM 6-A16, chapters 2, 5 and 6). Conductances, heads and flows are exact fractions, in the model's units of length and time.
+-- The exact finite-difference equations of one time step as plain data: for each variable cell all that flows into it
+-- (TM 6-A16, chapters 2, 5 and 6). Conductances, heads and flows are exact fractions, in the model's units of length
+-- and time.
 use Rattle.std.specs.Prelude.{ℕ, List, [], slice_index_or}
 use Rattle.decimal_input.specs.Ratios.{Ratio}
 use Rattle.decimal_input.specs.Fractions.{Fraction}
@@ -15,7 +17,9 @@ pub record ExactLink : Type 0 where
   pub cell : ℕ
   pub conductance : Ratio
 
--- A branch to a head that is known (TM 6-A16, chapter 2): a constant-head neighbour at its head of this step, a general head, or in a transient period the cell's own head of the step before over its storage. The source is the cell number of the constant-head neighbour, else the cell's own.
+-- A branch to a known head (TM 6-A16, chapter 2): a constant-head neighbour at its head of this step, a general head,
+-- or in a transient period the cell's own head of the step before over its storage. The source is the cell number of
+-- the constant-head neighbour, else the cell's own.
 pub record ExactFixed : Type 0 where
   pub kind : FixedKind
   pub source : ℕ
@@ -33,7 +37,8 @@ pub record ExactDrain : Type 0 where
   pub conductance : Ratio
   pub elevation : Fraction
 
--- An evapotranspiration: the greatest rate over the extinction depth, as a conductance, the surface, and the extinction elevation, which lies the extinction depth below it (TM 6-A16, chapter 6, EVT).
+-- An evapotranspiration: the greatest rate over the extinction depth, as a conductance, the surface, and the
+-- extinction elevation, which lies the extinction depth below it (TM 6-A16, chapter 6, EVT).
 pub record ExactEvap : Type 0 where
   pub conductance : Ratio
   pub surface : Fraction

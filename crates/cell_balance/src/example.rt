@@ -8,7 +8,7 @@ use step_problem::{Cell, Drain, Evap, Fixed, FixedKind, Flow, FlowKind, Link, Pr
 
 const TEN_METRES: i64 = 10_000_000_000;
 
-/// A cell between the second one and a constant head of 0, with storage, and a river that stands at its bottom.
+/// A cell between the second one and a constant head of 0, with storage, and a river whose stage is at its bottom.
 fn first_cell(alloc: Global) -> Result<Cell, AllocError>
     ensures { IfOk result (λ c. c ≡ first_entries) }
 {
@@ -108,7 +108,14 @@ fn storage() -> Fixed
 }
 
 fn river() -> River
-    ensures { result ≡ record { lo = 9; hi = 11; stage_lo = pos 19999999999; stage_hi = pos 20000000001; bottom_lo = pos 19999999999; bottom_hi = pos 20000000001 } }
+    ensures { result ≡ record {
+      lo = 9;
+      hi = 11;
+      stage_lo = pos 19999999999;
+      stage_hi = pos 20000000001;
+      bottom_lo = pos 19999999999;
+      bottom_hi = pos 20000000001;
+    } }
 {
     River {
         lo: 9,
@@ -133,7 +140,7 @@ fn evapotranspiration() -> Evap
     }
 }
 
-/// The problem that the comparison's example is about.
+/// The problem of the comparison's example.
 pub fn example(alloc: Global) -> Result<Problem, AllocError>
     ensures { IfOk result (λ p. p ≡ example_problem) }
 {

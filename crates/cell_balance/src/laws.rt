@@ -8,7 +8,7 @@ pub fn single_flows()
     ensures { FlowsAreRight }
 {}
 
-/// The bounds of single flows enclose them, wherever the heads lie between theirs.
+/// The bounds of single flows enclose them, wherever the heads lie between their bounds.
 pub fn bounds_of_flows()
     ensures { BoundsHold }
 {}
@@ -34,7 +34,7 @@ pub fn comparison()
     ensures { Compares }
 {}
 
-/// The comparison speaks of something: a step with an entry of each kind meets all that it asks.
+/// The comparison is not empty: a step with an entry of each kind meets its premises.
 pub fn comparable_example()
     ensures { IsComparable example_problem example_barrier example_lows example_highs 1 example_step 3 example_heads }
 {}

@@ -1,4 +1,6 @@
-//! The exact equations of one time step, and the laws that tie their solutions to bounds. No call of this crate runs in the program: its public functions are laws, each the contract of an empty function, and the example that shows that the main law speaks of something.
+//! The exact equations of one time step, and the laws that relate their solutions to bounds. No call of this crate
+//! runs in the program: its public functions are laws, each the contract of an empty function, and an example that
+//! meets the premises of the main law.
 #![tactic(auto)]
 
 pub mod example;

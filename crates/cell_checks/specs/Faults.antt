@@ -1,4 +1,4 @@
--- What active cells have to pass. Limits are this program's own.
+-- The tests of active cells. The limits are this program's own.
 use Rattle.std.specs.Prelude.{ℕ, ◌+◌, Bool, true, not, ◌&&◌, ◌||◌, nat_lt, nat_le, Option, Some, None, if◌then◌else◌}
 use Rattle.outside.specs.declared.codes.Code.{Code}
 use Rattle.outside.specs.declared.codes.Code.TheVariants.{BadThickness, BadProperty, HeadTooLarge}
@@ -17,7 +17,7 @@ module _ (m : FlowModel) (c : ℕ) where
   is_checked_bed = has_bed m c && (nat_lt (c + layer_size m.grid) (cell_count m.grid) && (is_active m (c + layer_size m.grid) && not (is_same_number (bottom_at m c) (lowest m c))))
 
 module _ (m : FlowModel) (c : ℕ) where
-  -- the cell and the bed below it have room
+  -- the cell and the bed below it are thick enough
   abbrev pub is_thick_cell : Bool
   is_thick_cell = is_thick (top_at m c) (bottom_at m c) && (not (is_checked_bed m c) || is_thick (bottom_at m c) (lowest m c))
 
@@ -27,7 +27,10 @@ module _ (m : FlowModel) (c : ℕ) where
 
   -- HK and HANI are above 0, VKA too where there are several layers, SS isn't below 0, and VKCB of the bed is above 0
   abbrev pub has_good_properties : Bool
-  has_good_properties = is_positive (dec_at m.hk c) && (is_positive (dec_at m.hani c) && ((nat_le m.grid.layers 1 || is_positive (dec_at m.vka c)) && (not (dec_at m.ss c).neg && (not (is_checked_bed m c) || is_positive (dec_at m.vkcb c)))))
+  has_good_properties =
+      is_positive (dec_at m.hk c) && (is_positive (dec_at m.hani c)
+      && ((nat_le m.grid.layers 1 || is_positive (dec_at m.vka c))
+      && (not (dec_at m.ss c).neg && (not (is_checked_bed m c) || is_positive (dec_at m.vkcb c)))))
 
 abbrev pub passes : Check → FlowModel → ℕ → Bool
 passes Thickness m c = is_thick_cell m c
@@ -39,6 +42,6 @@ code_of Thickness = BadThickness
 code_of StartHead = HeadTooLarge
 code_of Properties = BadProperty
 
--- the fault of a cell: none where it isn't active or passes
+-- the fault of a cell; None where it isn't active or passes
 unfoldable pub fault_at : Check → FlowModel → ℕ → Option Code
 fault_at check m c = if not (is_active m c) || passes check m c then None else Some (code_of check)

@@ -34,7 +34,7 @@ fn lowest_of(model: &FlowModel, cell: u32) -> Dec
     model.lowest(cell)
 }
 
-/// Whether a bed below a cell is checked: there is an active cell below it, and its two elevations differ.
+/// Whether the bed below a cell is checked: there is an active cell below it, and its two elevations differ.
 pub fn is_checked_bed(model: &FlowModel, cell: u32) -> bool
     requires grid { IsGrid model.now.grid }
     requires cell { cell < cell_count model.now.grid }
@@ -47,7 +47,7 @@ pub fn is_checked_bed(model: &FlowModel, cell: u32) -> bool
         && model.bottom_at(cell) != model.lowest(cell)
 }
 
-/// Whether a cell is thick enough, and the bed below it where that is checked.
+/// Whether a cell is thick enough, and the bed below it if that is checked.
 pub fn is_thick_cell(model: &FlowModel, cell: u32) -> bool
     requires grid { IsGrid model.now.grid }
     requires cell { cell < cell_count model.now.grid }

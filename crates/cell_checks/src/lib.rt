@@ -1,4 +1,4 @@
-//! Checks over the active cells of a model: thickness, starting heads, properties.
+//! Checks of a model's active cells: thickness, starting heads, properties.
 #![tactic(auto)]
 
 mod checks;

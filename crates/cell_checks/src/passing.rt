@@ -1,4 +1,4 @@
-// What a cell has to pass.
+// The tests of a cell.
 ghost use Rattle.std.specs.Prelude.{◌≡◌, ◌<◌, All};
 ghost use Rattle.decimal_input.specs.Canonical.{IsDec};
 ghost use Rattle.model_types.specs.Cells.{cell_count};
@@ -72,7 +72,7 @@ fn code_of(check: Check) -> Code
     }
 }
 
-/// The fault of a cell under a check; none of a cell that isn't active or passes.
+/// The fault of a cell under a check; None where it isn't active or passes.
 #[tactic(auto, unfolding(crate::specs::Faults::fault_at))]
 pub fn fault_at(check: Check, model: &FlowModel, cell: u32) -> Option<Code>
     requires grid { IsGrid model.now.grid }

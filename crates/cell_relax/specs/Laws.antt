@@ -1,4 +1,4 @@
--- Raise and sink values keep the order of the heads from which they come.
+-- Raise and sink values keep the order of the heads from which they are computed.
 use Rattle.std.specs.Prelude.{ℕ, List, All, ℤ, ◌≤ℤ◌}
 use Rattle.step_problem.specs.Entries.{Entries, entries_at}
 use Rattle.step_problem.specs.Heads.{IsRaise, IsSink}

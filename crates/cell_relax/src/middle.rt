@@ -2,7 +2,7 @@
 ghost use Rattle.std.specs.Prelude.{◌+◌, pos, ◌+ℤ◌, ◌<ℤ◌};
 ghost use Rattle.step_problem.specs.Conditions.{IsWithin, head_limit};
 
-/// A number between two that are not neighbours.
+/// A number strictly between two that are not neighbours.
 pub fn middle_of(low: i64, high: i64) -> i64
     requires low { IsWithin low (head_limit + 1) }
     requires high { IsWithin high (head_limit + 1) }

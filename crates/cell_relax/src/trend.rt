@@ -1,24 +1,24 @@
-// Where a search for a relaxed head tries next: by the slopes of the balance that it has seen.
+// The next trial of a search for a relaxed head, by the slopes of the balance seen so far.
 ghost use Rattle.std.specs.Prelude.{◌+◌, pos, ◌+ℤ◌, ◌<ℤ◌};
 ghost use Rattle.step_problem.specs.Conditions.{IsWithin, head_limit};
 
 use crate::middle::middle_of;
 
-// So many trials go by slopes; those after them halve.
+// The number of trials by slopes; later trials halve the interval.
 const BY_SLOPES: u32 = 16;
 
-/// What trials have shown of a balance that falls as a head moves on. No answer of a search depends on it,
-/// only how many trials it takes.
+/// What trials have shown of a balance that falls as a head moves. No result of a search depends on it,
+/// only the number of trials.
 #[derive(Clone, Copy)]
 pub struct Trend {
     trials: u32,
-    // The balance at the head that is reached.
+    // The balance at the head reached.
     balance: i128,
-    // How much it fell with each unit, from there to the last trial.
+    // Its fall per unit, from there to the last trial.
     fall: i128,
 }
 
-// The fall with each of so many units.
+// The fall per unit, for a fall over `units` units.
 fn fall_of_each(fall: i128, units: i64) -> i128 {
     if units == 1 {
         return fall;
@@ -36,7 +36,7 @@ impl Trend {
         }
     }
 
-    /// After one more trial, so many units on, with this balance. The search moves on to a head whose balance
+    /// After one more trial, `units` units further, with this balance. The search moves to a head whose balance
     /// is not negative.
     pub fn after(self, units: i64, balance: i128) -> Trend {
         Trend {
@@ -46,8 +46,8 @@ impl Trend {
         }
     }
 
-    // How many units on the balance comes to an end, if it falls on as it did. Every second trial takes the next
-    // head, to see the slope there; so do the first two, before which no slope is known.
+    // After how many units the balance is 0 if it keeps falling as it did. Every second trial is at the next head,
+    // to see the slope there; so are the first two, before which no slope is known.
     fn units_on(self) -> i64 {
         if self.trials < 2 || self.trials % 2 == 1 {
             return 1;
@@ -56,7 +56,7 @@ impl Trend {
         i64::try_from(units).unwrap_or(1)
     }
 
-    /// The next trial of a search upwards: a number between two that are not neighbours.
+    /// The next trial of a search upwards: a number strictly between two that are not neighbours.
     pub fn next_above(self, reached: i64, beyond: i64) -> i64
         requires reached { IsWithin reached (head_limit + 1) }
         requires beyond { IsWithin beyond (head_limit + 1) }
@@ -75,7 +75,7 @@ impl Trend {
         }
     }
 
-    /// The same of a search downwards.
+    /// The same for a search downwards.
     pub fn next_below(self, reached: i64, beyond: i64) -> i64
         requires reached { IsWithin reached (head_limit + 1) }
         requires beyond { IsWithin beyond (head_limit + 1) }

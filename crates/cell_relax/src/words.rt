@@ -1,4 +1,4 @@
-// The relaxed head of a cell from words, which hold one bound for each cell.
+// The relaxed head of a cell, from a list of one bound for each cell.
 ghost use Rattle.std.specs.Prelude.{◌≡◌, ◌<◌, length, take};
 ghost use Rattle.step_problem.specs.Entries.{entries_at, ends_in};
 ghost use Rattle.step_problem.specs.Conditions.{IsHead};
@@ -19,7 +19,7 @@ fn head_on(side: Side, word: Bound) -> i64
 }
 
 /// Writes the heads at the other ends of a cell's links, in the order of the links, to the front of
-/// `values`, and answers their number.
+/// `values`, and returns their number.
 pub fn read_values(
     p: &Problem,
     cell: usize,
@@ -32,7 +32,7 @@ pub fn read_values(
     ensures count { result ≡ length (entries_at p.now cell).links }
     ensures read { take result values.new ≡ ends_in (heads_on side words.now) (entries_at p.now cell).links }
 {
-    // The number of cells comes with the problem's conditions.
+    // `len` ensures the problem's conditions.
     let _cells = p.len();
     let links = p.cell(cell).links.as_slice();
     for i in 0..links.len() {

@@ -8,7 +8,7 @@ use Rattle.step_problem.specs.Balances.{lower_balance, upper_balance}
 use Rattle.step_problem.specs.Heads.{Edges, head_at, lower_at, upper_at}
 
 module _ (p : List Entries) (b : Edges) (bounds : List Bound) where
-  -- The certificate holds at that side of cell c: its lower head stands at most at the floor, or its lower balance is not negative; the upper side mirrored.
+  -- The certificate holds at that side of cell c: its lower head is at most the floor, or its lower balance is not negative; the upper side mirrored.
   abbrev pub HoldsAt : ℕ → Side → Type 0
   HoldsAt c Low = (lower_at bounds c ≤ℤ head_at b.floor c) ⊎ (pos 0 ≤ℤ lower_balance (entries_at p c) (lower_at bounds c) (lower_at bounds))
   HoldsAt c High = (head_at b.ceiling c ≤ℤ upper_at bounds c) ⊎ (upper_balance (entries_at p c) (upper_at bounds c) (upper_at bounds) ≤ℤ pos 0)

@@ -13,7 +13,9 @@ fn failing_side(p: &Problem, barrier: &Barrier, bounds: &[Bound], cell: usize) -
     requires floors { length barrier.now.floor ≡ length p.now }
     requires ceilings { length barrier.now.ceiling ≡ length p.now }
     requires bounds { AreWords p.now bounds.now }
-    ensures { MatchOption result ((s : Side) → HoldsAt p.now barrier.now bounds.now cell s) (λ s. (HoldsAt p.now barrier.now bounds.now cell s → ⊥) × (s ≡ Side.High → HoldsAt p.now barrier.now bounds.now cell Side.Low)) }
+    ensures { MatchOption result ((s : Side) → HoldsAt p.now barrier.now bounds.now cell s)
+        (λ s. (HoldsAt p.now barrier.now bounds.now cell s → ⊥)
+        × (s ≡ Side.High → HoldsAt p.now barrier.now bounds.now cell Side.Low)) }
 {
     if !low_holds(p, barrier, bounds, cell) {
         return Some(Side::Low);
@@ -29,7 +31,8 @@ pub fn first_failing(p: &Problem, barrier: &Barrier, bounds: &[Bound]) -> Option
     requires floors { length barrier.now.floor ≡ length p.now }
     requires ceilings { length barrier.now.ceiling ≡ length p.now }
     requires bounds { AreWords p.now bounds.now }
-    ensures { MatchOption result (IsCertificate p.now barrier.now (lower_at bounds.now) (upper_at bounds.now)) (λ f. IsFirstFailing p.now barrier.now bounds.now f.0 f.1) }
+    ensures { MatchOption result (IsCertificate p.now barrier.now (lower_at bounds.now) (upper_at bounds.now))
+        (λ f. IsFirstFailing p.now barrier.now bounds.now f.0 f.1) }
 {
     let cells = p.len();
     for cell in 0..cells {

@@ -15,7 +15,7 @@ fn lower_in(p: &Problem, bounds: &[Bound], cell: usize) -> i128
     requires bounds { AreWords p.now bounds.now }
     ensures { result ≡ lower_balance (entries_at p.now cell) (lower_at bounds.now cell) (lower_at bounds.now) }
 {
-    // The number of cells comes with the problem's conditions.
+    // `len` ensures the problem's conditions.
     let _cells = p.len();
     let mut values = [0; 6];
     let count = read_values(p, cell, bounds, Side::Low, &mut values);

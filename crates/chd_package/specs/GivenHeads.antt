@@ -1,4 +1,5 @@
--- Time-variant specified heads: Shead Ehead behind Layer Row Column (TM 6-A16, CHD). That a list names a cell once only, and the rule of growing steps, are this program's own.
+-- Time-variant specified heads: Shead Ehead after Layer Row Column (TM 6-A16, CHD). That a list names a cell at most
+-- once, and the rule of growing steps, are this program's own.
 use Rattle.std.specs.Prelude.{ℕ, Bool, true, not, ◌&&◌, nat_lt, List, Option, Some, None, Result, Ok, if◌then◌else◌}
 use Rattle.std.specs.List.{list_all}
 use Rattle.decimal_input.specs.Canonical.{IsDec}
@@ -42,4 +43,14 @@ abbrev pub AreHeads : Heads → Type 0
 AreHeads x = IsDec x.shead × IsDec x.ehead
 
 abbrev pub given_heads : Kind Heads Given
-given_heads = record { reading = heads_of; fault = heads_fault; entry = λ cell x. record { cell = cell; shead = x.shead; ehead = x.ehead }; place = λ x. x.cell.0; once = true; suits = suits_heads; list = λ period. period.given; put = λ period list. record period { given = list } }
+given_heads =
+    record {
+      reading = heads_of;
+      fault = heads_fault;
+      entry = λ cell x. record { cell = cell; shead = x.shead; ehead = x.ehead };
+      place = λ x. x.cell.0;
+      once = true;
+      suits = suits_heads;
+      list = λ period. period.given;
+      put = λ period list. record period { given = list };
+    }

@@ -10,7 +10,7 @@ use outside::{Code, TextFault};
 use record_lines::Words;
 use std::alloc::Global;
 
-/// What an entry of a list of given heads has behind its cell: the heads at the start and at the end of the period.
+/// The numbers of an entry of a list of given heads: the heads at the start and at the end of the period.
 #[derive(Clone, Copy, Debug, PartialEq, Eq)]
 pub struct Heads {
     pub shead: Dec,

@@ -15,7 +15,7 @@ use outside::TextFault;
 use std::alloc::Global;
 
 /// The model with its lists of given heads, from a file of the package CHD. `file` is the file's name, for refusals. A
-/// period that reuses a list begins again at its heads at the start.
+/// period that reuses a list starts again at its heads at the start.
 ///
 /// # Errors
 /// The first item that is wrong is refused on its line: TooManyEntries past 65536 entries in a list, NothingToReuse

@@ -9,4 +9,6 @@ use Rattle.check_run.specs.Verdicts.{IsVerdict}
 
 -- the listing of a model has at most one verdict
 abbrev pub VerdictIsOne : Type 0
-VerdictIsOne = (m : FlowModel) (s : ℕ) (steps : List ListedStep) (a b : Verdict) → IsModel m → AreListed m steps → IsVerdict m s steps a → IsVerdict m s steps b → a ≡ b
+VerdictIsOne =
+    (m : FlowModel) (s : ℕ) (steps : List ListedStep) (a b : Verdict) → IsModel m → AreListed m steps →
+    IsVerdict m s steps a → IsVerdict m s steps b → a ≡ b

@@ -1,4 +1,4 @@
--- What the calls of a check hand to each other.
+-- Facts that the calls of a check pass to each other.
 use Rattle.std.specs.Prelude.{◌≡◌, ℕ, zero, suc, ◌<◌, List, map, length, Ok, Err}
 use Rattle.decimal_input.specs.Enclosures.{EnclosesSigned}
 use Rattle.decimal_input.specs.Fractions.{Fraction}
@@ -51,19 +51,19 @@ abbrev pub of_barrier : BarrierFault → Fault
 of_barrier (barrier.NoBound n) = fault.Refused n
 of_barrier barrier.Memory = fault.Memory
 
--- the cause of a step's fault; want of memory is free
+-- the cause of a step's fault; lack of memory is possible at any time
 abbrev pub FailsBy : FlowModel → ℕ → TimeStep → List Bound → ListedStep → Fault → Type 0
 FailsBy m s at old w (fault.Fails place) = FailsAt m s at old w place
 FailsBy m s at old w (fault.Refused n) = IsRefused m s at old w n
 FailsBy m s at old w fault.Memory = Unit {0}
 
--- the cause of a fault before its listed heads are looked at
+-- the cause of a fault before the listed heads are checked
 abbrev pub IsUnposed : FlowModel → ℕ → TimeStep → List Bound → Fault → Type 0
 IsUnposed m s at old (fault.Fails place) = ⊥
 IsUnposed m s at old (fault.Refused n) = HasNoHeads m s at old n
 IsUnposed m s at old fault.Memory = Unit {0}
 
--- What a step is posed of, and what that says of solutions.
+-- The sites, the problem and the barrier of a step, and how they enclose solutions.
 pub record ArePosed (m : FlowModel) (s : ℕ) (at : TimeStep) (old : List Bound) (x : Posed) : Type 0 where
   pub posed : IsPosed m s at old x.problem x.barrier
   pub held : IsHeldBelow x.problem
@@ -73,7 +73,7 @@ pub record ArePosed (m : FlowModel) (s : ℕ) (at : TimeStep) (old : List Bound)
   pub sites : AreSites m at x.sites
   pub pairs : (c : ℕ) (pair : Bound) → site_at x.sites c ≡ Given pair → EnclosesSigned pair.low pair.high 9 (constant_head m at.period at.step c)
 
--- A site, if its head is constant, is reached on that side by what is listed.
+-- On that side the listed bound is as wide as the pair of the site, if its head is constant.
 abbrev pub SiteReached : Site → Bound → Side → Type 0
 SiteReached site listed side = (pair : Bound) → site ≡ Given pair → ReachesOn side listed pair
 
@@ -96,13 +96,15 @@ pub record IsCovered (p : List Entries) (bounds : List Bound) (listed : Budget) 
   pub covers : Covers listed budget
   pub encloses : EnclosesBudgets p (lower_at bounds) (upper_at bounds) budget
 
--- that budget has a refusal, or a term that isn't reached, which is the first
+-- that budget has a refusal, or this is the first term whose listed bounds are too narrow
 abbrev pub IsUncovered : List Entries → List Bound → Budget → Fault → Type 0
-IsUncovered p bounds listed (fault.Fails place) = (budget : Budget) × (dir : Dir) × (t : Term) × (budget_of p (lower_at bounds) (upper_at bounds) ≡ Ok budget) × IsFirstUncovered listed budget dir t × (place ≡ places.Term dir t)
+IsUncovered p bounds listed (fault.Fails place) =
+    (budget : Budget) × (dir : Dir) × (t : Term) × (budget_of p (lower_at bounds) (upper_at bounds) ≡ Ok budget)
+    × IsFirstUncovered listed budget dir t × (place ≡ places.Term dir t)
 IsUncovered p bounds listed (fault.Refused n) = budget_of p (lower_at bounds) (upper_at bounds) ≡ Err n
 IsUncovered p bounds listed fault.Memory = ⊥
 
--- the verdict that a step's fault at its time makes
+-- the verdict from a step's fault at its time
 abbrev pub IsVerdictAt : TimeStep → Fault → Verdict → Type 0
 IsVerdictAt at (fault.Fails place) v = v ≡ verdict.Fails at place
 IsVerdictAt at (fault.Refused n) v = v ≡ verdict.Refused at n

@@ -30,11 +30,11 @@ module _ (m : FlowModel) (at : TimeStep) (heads : List Bound) where
   abbrev pub ReachesAt : ℕ → Side → Type 0
   ReachesAt c side = (pair : Bound) → IsConstantPair m at c pair.low pair.high → ReachesOn side (bound_at heads c) pair
 
-  -- so it is at each constant cell, on both sides
+  -- this holds at each constant cell, on both sides
   abbrev pub ConstantsReach : Type 0
   ConstantsReach = (c : ℕ) → IsConstantCell m at c → (side : Side) → ReachesAt c side
 
-  -- the first constant cell and side where it isn't so, the lower side first
+  -- the first constant cell and side where it doesn't, the lower side first
   pub record IsFirstShort (c : ℕ) (side : Side) : Type 0 where
     pub cell : IsConstantCell m at c
     pub short : ReachesAt c side → ⊥

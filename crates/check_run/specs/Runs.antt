@@ -1,4 +1,4 @@
--- The listing of a run, as a check reads it and judges it.
+-- The listing of a run, as a check reads and judges it.
 use Rattle.std.specs.Prelude.{◌≡◌, ◌<◌, ◌≤◌, ◌^◌, List, map, nat_abs, Ok}
 use Rattle.std.specs.List.{concat}
 use Rattle.model_types.specs.Valid.{IsModel}
@@ -20,7 +20,7 @@ as_listed v = record { heads = v.heads; budget = v.budget }
 abbrev pub RunIsCertified : Type 0
 RunIsCertified = (k : Task) (values : List Step) → IsModel k.model → AllSteps k values Whole → IsVerdict k.model k.digits (map as_listed values) Certified
 
--- what a run takes, a valid model and at most 18 digits, and a LENUNI of 64 bits, as the reader of models gives it
+-- a task of a run, a valid model and at most 18 digits, with a LENUNI of 64 bits, as the reader of models gives it
 pub record IsReadable (k : Task) : Type 0 where
   pub model : IsModel k.model
   pub digits : k.digits ≤ 18
@@ -28,4 +28,6 @@ pub record IsReadable (k : Task) : Type 0 where
 
 -- The bytes of such a listing are read as these values.
 abbrev pub RunIsReadAgain : Type 0
-RunIsReadAgain = (k : Task) (values : List Step) → IsReadable k → AllSteps k values Whole → listing_at k.model k.digits (all_lines (concat (listing k values end_line))) ≡ Ok (map as_listed values)
+RunIsReadAgain =
+    (k : Task) (values : List Step) → IsReadable k → AllSteps k values Whole →
+    listing_at k.model k.digits (all_lines (concat (listing k values end_line))) ≡ Ok (map as_listed values)

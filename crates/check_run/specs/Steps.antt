@@ -29,7 +29,8 @@ module _ (m : FlowModel) (s : ℕ) (at : TimeStep) (old : List Bound) (w : Liste
   abbrev pub budget_at : List Entries → Result Budget NoBound
   budget_at p = budget_of p (lower_at bounds) (upper_at bounds)
 
-  -- The listed heads of the constant cells are as wide as their pairs, and those of the variable cells are a certificate of the step's problem over its barrier.
+  -- The listed heads of the constant cells are as wide as their pairs, and those of the variable cells are a
+  -- certificate of the step's problem over its barrier.
   pub record HeadsHold (p : List Entries) (b : Edges) : Type 0 where
     pub posed : IsPosed m s at old p b
     pub constants : ConstantsReach m at w.heads
@@ -49,8 +50,13 @@ module _ (m : FlowModel) (s : ℕ) (at : TimeStep) (old : List Bound) (w : Liste
     no_heads : HasNoHeads m s at old n → IsRefused n
     no_budget : (p : List Entries) (b : Edges) → HeadsHold p b → budget_at p ≡ Err n → IsRefused n
 
-  -- The first place that fails: a constant cell and its side; where those hold, a variable cell and its side; where the heads hold, a term of the budget, all In terms before all Out terms.
+  -- The first place that fails: a constant cell and its side; where those hold, a variable cell and its side; where
+  -- the heads hold, a term of the budget, all In terms before all Out terms.
   pub data FailsAt (place : Place) : Type 0 where
-    at_constant : (p : List Entries) (b : Edges) (c : ℕ) (side : Side) → IsPosed m s at old p b → IsFirstShort m at w.heads c side → place ≡ places.Cell c side → FailsAt place
-    at_variable : (p : List Entries) (b : Edges) (k : ℕ) (side : Side) → IsPosed m s at old p b → ConstantsReach m at w.heads → IsFirstFailing p b bounds k side → place ≡ places.Cell (entries_at p k).id side → FailsAt place
-    at_term : (p : List Entries) (b : Edges) (budget : Budget) (dir : Dir) (t : Term) → HeadsHold p b → budget_at p ≡ Ok budget → IsFirstUncovered w.budget budget dir t → place ≡ places.Term dir t → FailsAt place
+    at_constant : (p : List Entries) (b : Edges) (c : ℕ) (side : Side) → IsPosed m s at old p b →
+        IsFirstShort m at w.heads c side → place ≡ places.Cell c side → FailsAt place
+    at_variable : (p : List Entries) (b : Edges) (k : ℕ) (side : Side) → IsPosed m s at old p b →
+        ConstantsReach m at w.heads → IsFirstFailing p b bounds k side →
+        place ≡ places.Cell (entries_at p k).id side → FailsAt place
+    at_term : (p : List Entries) (b : Edges) (budget : Budget) (dir : Dir) (t : Term) → HeadsHold p b →
+        budget_at p ≡ Ok budget → IsFirstUncovered w.budget budget dir t → place ≡ places.Term dir t → FailsAt place

@@ -1,4 +1,4 @@
--- The verdict on a listing, and what a certified one says of every history.
+-- The verdict on a listing, and how a certified listing encloses every history.
 use Rattle.std.specs.Prelude.{◌≡◌, ℕ, ◌⊎◌, List, [], ◌∷◌, None}
 use Rattle.step_problem.specs.declared.heads.Bound.{Bound}
 use Rattle.model_types.specs.declared.model.FlowModel.{FlowModel}
@@ -14,13 +14,13 @@ use Rattle.check_run.specs.declared.verdict.Verdict.TheVariants.{Certified, Fail
 use Rattle.check_run.specs.Steps.{Passes, FailsAt, IsRefused}
 
 module _ (m : FlowModel) (s : ℕ) where
-  -- the check ends at this step so
+  -- the check ends at this step with this verdict
   abbrev pub StopsAt : TimeStep → List Bound → ListedStep → Verdict → Type 0
   StopsAt at old w Certified = ⊥
   StopsAt at old w (Fails t place) = (t ≡ at) × FailsAt m s at old w place
   StopsAt at old w (Refused t n) = (t ≡ at) × IsRefused m s at old w n
 
-  -- From the heads `old` on, the check of these times' steps ends so. Each step is checked from the listed heads of the one before it.
+  -- From the heads `old` on, the check of these times' steps ends with this verdict. Each step is checked from the listed heads of the one before it.
   abbrev pub Checks : List Bound → List TimeStep → List ListedStep → Verdict → Type 0
   Checks old (at ∷ rest) (w ∷ steps) end = (Passes m s at old w × Checks w.heads rest steps end) ⊎ StopsAt at old w end
   Checks old [] [] Certified = Unit {0}
@@ -35,7 +35,7 @@ module _ (m : FlowModel) (s : ℕ) where
     pub is_start : AreStartHeads m start
     pub checks : Checks start (times m) steps end
 
-  -- the model as a task; rounds play no part
+  -- the model as a task; the rounds have no effect
   abbrev pub checked_task : Task
   checked_task = record { model = m; digits = s; zones = None; rounds = 0 }
 

@@ -10,7 +10,7 @@ ghost use Rattle.check_run.specs.Reaching.{ReachesOn};
 use problem_builder::Site;
 use step_problem::{Bound, Side};
 
-// The side on which what is listed is narrower than a pair, the lower one first.
+// The side on which a listed bound is narrower than a pair, the lower one first.
 fn short_side(listed: Bound, pair: Bound) -> Option<Side>
     ensures { MatchOption result
         ((side : Side) → ReachesOn side listed pair)
@@ -25,7 +25,7 @@ fn short_side(listed: Bound, pair: Bound) -> Option<Side>
     }
 }
 
-// The side on which a site isn't reached, the lower one first.
+// The side on which a listed bound is narrower than the pair of a site, the lower one first.
 fn unreached_side(site: Site, listed: Bound) -> Option<Side>
     ensures { MatchOption result
         ((side : Side) → SiteReached site listed side)

@@ -8,7 +8,7 @@ use problem_builder::BuildFault;
 use std::alloc::{AllocError, AllocFailed};
 use step_problem::{NoBound, Place};
 
-/// The first place that fails, a refusal of the step, or want of memory.
+/// The first place that fails, a refusal of the step, or lack of memory.
 #[derive(Clone, Copy, Debug, PartialEq, Eq)]
 pub enum Fault {
     Fails(Place),

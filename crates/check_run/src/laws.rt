@@ -25,7 +25,7 @@ pub fn one_verdict()
     one_refusal();
 }
 
-/// What a run lists is certified.
+/// The listing of a run is certified.
 pub fn run_is_certified()
     ensures { RunIsCertified }
 {
@@ -36,7 +36,7 @@ pub fn run_is_certified()
     heads_fit();
 }
 
-/// What a run writes is read as what it lists.
+/// The bytes that a run writes are read as the listing of the run.
 pub fn run_is_read_again()
     ensures { RunIsReadAgain }
 {

@@ -30,7 +30,7 @@ fn heads_before<'a>(start: &'a [Bound], listing: &'a Listing, index: usize) -> &
     listing.heads(index - 1)
 }
 
-// What a step's fault at its time makes of the listing.
+// The verdict on a listing from a step's fault at its time.
 fn verdict_at(at: TimeStep, fault: Fault) -> Result<Verdict, AllocError>
     ensures { IfOk result (IsVerdictAt at fault) }
 {
@@ -41,7 +41,7 @@ fn verdict_at(at: TimeStep, fault: Fault) -> Result<Verdict, AllocError>
     }
 }
 
-// Checks a listing step by step. The tables are those of the run.
+// Checks a listing step by step. `tables` are those of the run.
 fn check_steps(
     alloc: Global,
     model: &FlowModel,

@@ -1,4 +1,4 @@
-// What a step is posed of: the cells of the grid, its problem and the problem's barrier.
+// The data of a step before it is checked: the sites of the grid, its problem and the problem's barrier.
 ghost use Rattle.std.specs.Prelude.{◌≡◌, ◌≤◌, Contains, IfOk, IfErr};
 ghost use Rattle.model_types.specs.Times.{times};
 ghost use Rattle.model_types.specs.Valid.{IsModel};
@@ -22,7 +22,7 @@ pub struct Posed {
     pub barrier: Barrier,
 }
 
-/// Poses the step of a time from the heads of all cells before it.
+/// The sites, the problem and the barrier of the step of a time, from the heads of all cells before it.
 pub(crate) fn pose(
     alloc: Global,
     model: &FlowModel,

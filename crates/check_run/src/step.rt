@@ -22,8 +22,8 @@ use std::alloc::Global;
 use step_chain::RunTables;
 use step_problem::{Bound, Place};
 
-/// Checks the listed heads and budget of a time from the heads of all cells before it. The tables are those of the
-/// run, which go to the step's period.
+/// Checks the listed heads and budget of a time from the heads of all cells before it. `tables` are those of the
+/// run, and move to the step's period.
 pub(crate) fn check_listed(
     alloc: Global,
     model: &FlowModel,
@@ -43,8 +43,10 @@ pub(crate) fn check_listed(
     ensures tables { AreRunTables model.now tables.new }
     ensures passes { IfOk result (λ _. Passes model.now (digits_of tables.old) at old.now (record { heads = heads.now; budget = listed.now })) }
     ensures fault { IfErr result (FailsBy model.now (digits_of tables.old) at old.now (record { heads = heads.now; budget = listed.now })) }
-    // Every solution from exact heads within the old ones lies within what is listed.
-    ensures encloses { IfOk result (λ _. BoundsMoves (checked_task model.now (digits_of tables.old)) at old.now (step_of at (record { heads = heads.now; budget = listed.now }))) }
+    // Every solution from exact heads within the old ones lies within the listed bounds.
+    ensures encloses { IfOk result
+        (λ _. BoundsMoves (checked_task model.now (digits_of tables.old)) at old.now
+        (step_of at (record { heads = heads.now; budget = listed.now }))) }
 {
     constant_pairs();
     heads_within();

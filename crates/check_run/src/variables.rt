@@ -38,8 +38,13 @@ pub(crate) fn certified(problem: &Problem, barrier: &Barrier, bounds: &[Bound]) 
     requires ceilings { length barrier.now.ceiling ≡ length problem.now }
     requires bounds { AreWords problem.now bounds.now }
     ensures certificate { IfOk result (λ _. IsCertificate problem.now barrier.now (lower_at bounds.now) (upper_at bounds.now)) }
-    ensures encloses { IfOk result (λ _. IsHeldBelow problem.now → EnclosesSolutions problem.now (head_at barrier.now.floor) (head_at barrier.now.ceiling) → EnclosesSolutions problem.now (lower_at bounds.now) (upper_at bounds.now)) }
-    ensures fails { IfErr result (λ e. (k : ℕ) × (side : Side) × IsFirstFailing problem.now barrier.now bounds.now k side × (e ≡ Fails (Cell (entries_at problem.now k).id side))) }
+    ensures encloses { IfOk result
+        (λ _. IsHeldBelow problem.now →
+        EnclosesSolutions problem.now (head_at barrier.now.floor) (head_at barrier.now.ceiling) →
+        EnclosesSolutions problem.now (lower_at bounds.now) (upper_at bounds.now)) }
+    ensures fails { IfErr result (λ e. (k : ℕ) × (side : Side)
+        × IsFirstFailing problem.now barrier.now bounds.now k side
+        × (e ≡ Fails (Cell (entries_at problem.now k).id side))) }
 {
     match check_step(problem, barrier, bounds) {
         Verdict::Yes => Ok(()),

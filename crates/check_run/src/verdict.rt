@@ -1,9 +1,9 @@
-// What the check of a listing says.
+// The result of the check of a listing.
 use model_types::TimeStep;
 use step_problem::{NoBound, Place};
 
-/// What the check of a listing says: every step is certified; or at this time step, before which each is certified,
-/// this place is the first that fails; or its problem, barrier or budget has this refusal.
+/// The result of the check of a listing: every step is certified; or all steps before this time step are certified, and
+/// this place is the first that fails; or the problem, barrier or budget of this step has this refusal.
 #[derive(Clone, Copy, Debug, PartialEq, Eq)]
 pub enum Verdict {
     Certified,

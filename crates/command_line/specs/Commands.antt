@@ -5,11 +5,11 @@ use Rattle.clap.specs.declared.builder.command.Command.TheViews.{out-Command as 
 use Rattle.clap.specs.Words.{App, Rule, Text, new_app, new_rule, with_rule, with_subcommand}
 use Rattle.clap.specs.Simple.{on_top}
 
--- a positional word, which has to be there
+-- a positional word, which must be given
 abbrev pub word : Text → Rule
 word id = record (new_rule id) { required = true }
 
--- an option with a value, which may be left out
+-- an option with a value, which may be omitted
 abbrev pub option : Text → Rule
 option id = record (new_rule id) { long = Some id }
 
@@ -28,15 +28,20 @@ make_app = with_rule (with_rule (new_app (codes "make")) (word (codes "seed"))) 
 
 -- batch LIST [--digits S] [--workers W] [--rounds P]
 abbrev pub batch_app : App
-batch_app = with_rule (with_rule (with_rule (with_rule (new_app (codes "batch")) (word (codes "list"))) (option (codes "digits"))) (option (codes "workers"))) (option (codes "rounds"))
+batch_app =
+    with_rule (with_rule (with_rule (with_rule (new_app (codes "batch")) (word (codes "list")))
+    (option (codes "digits"))) (option (codes "workers"))) (option (codes "rounds"))
 
--- the same command, where a subcommand is needed
+-- the same command, which needs a subcommand
 abbrev pub needing : App → App
 needing = on_top (λ s. record s { subcommand_required = true })
 
 abbrev pub heads_app : App
-heads_app = needing (with_subcommand (with_subcommand (with_subcommand (with_subcommand (new_app (codes "heads")) run_app.top) check_app.top) make_app.top) batch_app.top)
+heads_app =
+    needing (with_subcommand (with_subcommand
+    (with_subcommand (with_subcommand (new_app (codes "heads")) run_app.top) check_app.top) make_app.top)
+    batch_app.top)
 
--- no argument is one of all subcommands
+-- no argument belongs to all subcommands
 abbrev pub IsLocal : Command → Type 0
 IsLocal c = (fields_of c).has_globals ≡ false

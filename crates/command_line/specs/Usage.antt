@@ -1,4 +1,4 @@
--- The line that says which words are taken.
+-- The line that says which words are accepted.
 use Rattle.std.specs.Prelude.{List, ℕ, codes}
 
 abbrev pub usage_line : List ℕ

@@ -11,14 +11,15 @@ infixl 10 ◌>>=◌
 abbrev ◌>>=◌ : {A B : Type 0} → Option A → (A → Option B) → Option B
 x >>= f = option_and_then f x
 
--- A listing of a model: its name file, digits, workers, rounds, zone file, turns of the watching seat. A check: name file, listing, digits. A made model: seed, size. A batch of models: list, digits, workers, rounds.
+-- A listing of a model: its name file, digits, workers, rounds, zone file, turns of the watching seat. A check: name
+-- file, listing, digits. A made model: seed, size. A batch of models: list, digits, workers, rounds.
 pub data Wanted : Type 0 where
   Lists : Text → ℕ → ℕ → ℕ → Option Text → Option ℕ → Wanted
   Checks : Text → Text → ℕ → Wanted
   Makes : ℕ → ℕ → Wanted
   Batches : Text → ℕ → ℕ → ℕ → Wanted
 
--- the options' values, and what stands in their place where they are left out
+-- the options' values, or their defaults where they are omitted
 abbrev pub digits_in : List Row → Option ℕ
 digits_in rows = number_or 0 18 12 (first_of (codes "digits") rows)
 
@@ -28,7 +29,7 @@ workers_in rows = number_or 1 64 4 (first_of (codes "workers") rows)
 abbrev pub rounds_in : List Row → Option ℕ
 rounds_in rows = number_or 1 4000000000 1000000 (first_of (codes "rounds") rows)
 
--- turns of the watching seat, which is there only where they are asked for
+-- the turns of the watching seat, which exists only if they are given
 abbrev pub turns_of : Option Text → Option (Option ℕ)
 turns_of None = Some None
 turns_of (Some text) = option_map Some (number_in 1 1000 text)
@@ -36,7 +37,7 @@ turns_of (Some text) = option_map Some (number_in 1 1000 text)
 abbrev pub watch_in : List Row → Option (Option ℕ)
 watch_in rows = turns_of (first_of (codes "watch") rows)
 
--- what the words behind a command ask for, by the values that they give its arguments
+-- what the words after a command ask for, by the values that they give to its arguments
 abbrev pub run_in : List Row → Option Wanted
 run_in rows = do
   name ← first_of (codes "name") rows
@@ -70,14 +71,17 @@ batch_in rows = do
   Some (Batches list digits workers rounds)
 
 abbrev pub command_in : Text → List Row → Option Wanted
-command_in name rows = cond (bytes_eq name (codes "run")) (run_in rows) (cond (bytes_eq name (codes "check")) (check_in rows) (cond (bytes_eq name (codes "make")) (make_in rows) (cond (bytes_eq name (codes "batch")) (batch_in rows) None)))
+command_in name rows =
+    cond (bytes_eq name (codes "run")) (run_in rows)
+    (cond (bytes_eq name (codes "check")) (check_in rows)
+    (cond (bytes_eq name (codes "make")) (make_in rows) (cond (bytes_eq name (codes "batch")) (batch_in rows) None)))
 
--- the command and its values, where clap finds no fault
+-- the command and its values, if clap finds no fault
 abbrev pub wanted_if : Kinds → Option (Text × List Row) → Option Wanted
 wanted_if [] found = option_and_then (λ p. command_in p.0 p.1) found
 wanted_if (fault ∷ faults) found = None
 
--- What the words ask for: clap takes them (a call for help is a fault), and each number is one of its range.
+-- What the words ask for: clap accepts them (a call for help is a fault), and each number is in its range.
 abbrev pub wanted_of : List Text → Option Wanted
 wanted_of words = wanted_if (fault_of heads_app words) (subcommand_of heads_app words)
 

@@ -5,7 +5,7 @@ ghost use Rattle.command_line.specs.Commands.{IsLocal, needing, run_app, check_a
 use clap::{Arg, Command};
 use std::alloc::{AllocError, Global};
 
-// A positional word more.
+// The command with one more positional word.
 fn with_word<'a>(
     alloc: Global,
     command: Command<'a>,
@@ -17,7 +17,7 @@ fn with_word<'a>(
     command.arg(Arg::new(alloc, id).required(true))
 }
 
-// An option with a value more.
+// The command with one more option that has a value.
 fn with_option<'a>(
     alloc: Global,
     command: Command<'a>,
@@ -64,7 +64,7 @@ fn batch_command<'a>(alloc: Global) -> Result<Command<'a>, AllocError>
     with_option(alloc, command, "rounds")
 }
 
-// A subcommand more.
+// The command with one more subcommand.
 fn with_command<'a>(command: Command<'a>, sub: Command<'a>) -> Result<Command<'a>, AllocError>
     requires top { IsLocal command }
     requires sub { IsLocal sub }
@@ -73,7 +73,7 @@ fn with_command<'a>(command: Command<'a>, sub: Command<'a>) -> Result<Command<'a
     command.subcommand(sub)
 }
 
-// The same command, where a subcommand is needed.
+// The same command, which then needs a subcommand.
 fn with_need<'a>(command: Command<'a>) -> Command<'a>
     requires { IsLocal command }
     ensures { (app_of result ≡ needing (app_of command.entry)) × IsLocal result }

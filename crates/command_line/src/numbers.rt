@@ -4,7 +4,7 @@ ghost use Rattle.command_line.specs.Wants.{turns_of};
 
 use itoa::Buffer;
 
-/// The number from `low` to `high` that a text writes in decimal digits, without a sign or a needless zero.
+/// The number from `low` to `high` that a text gives in decimal digits, without a sign or a needless zero.
 pub(crate) fn read_number(text: &str, low: u32, high: u32) -> Option<u32>
     ensures is { result ≡ number_in low high text.now }
     ensures in_range { IfSome result (λ n. (low ≤ n) × (n ≤ high)) }
@@ -31,7 +31,7 @@ fn number_or(text: Option<&str>, low: u32, high: u32, given: u32) -> Option<u32>
     }
 }
 
-/// The digits of conductances behind the point, 12 where they aren't given.
+/// The digits of conductances after the point; 12 if they aren't given.
 pub(crate) fn digits_or_given(text: Option<&str>) -> Option<u32>
     ensures is { result ≡ number_or 0 18 12 (option_map (λ s. s.now) text.entry) }
     ensures in_range { IfSome result (λ n. n ≤ 18) }
@@ -39,7 +39,7 @@ pub(crate) fn digits_or_given(text: Option<&str>) -> Option<u32>
     number_or(text, 0, 18, 12)
 }
 
-/// The workers that settle a step, 4 where they aren't given.
+/// The number of workers that settle a step; 4 if it isn't given.
 pub(crate) fn workers_or_given(text: Option<&str>) -> Option<u32>
     ensures is { result ≡ number_or 1 64 4 (option_map (λ s. s.now) text.entry) }
     ensures in_range { IfSome result (λ n. (1 ≤ n) × (n ≤ 64)) }
@@ -47,7 +47,7 @@ pub(crate) fn workers_or_given(text: Option<&str>) -> Option<u32>
     number_or(text, 1, 64, 4)
 }
 
-/// The plain rounds of a step, a million where they aren't given.
+/// The plain rounds of a step; a million if they aren't given.
 pub(crate) fn rounds_or_given(text: Option<&str>) -> Option<u32>
     ensures is { result ≡ number_or 1 4000000000 1000000 (option_map (λ s. s.now) text.entry) }
     ensures in_range { IfSome result (λ n. (1 ≤ n) × (n ≤ 4000000000)) }
@@ -55,7 +55,7 @@ pub(crate) fn rounds_or_given(text: Option<&str>) -> Option<u32>
     number_or(text, 1, 4_000_000_000, 1_000_000)
 }
 
-/// The turns of the watching seat, which is there only where they are given.
+/// The turns of the watching seat, which exists only if they are given.
 pub(crate) fn turns_or_none(text: Option<&str>) -> Option<Option<u32>>
     ensures is { result ≡ turns_of (option_map (λ s. s.now) text.entry) }
     ensures in_range { IfSome result (λ turns. IfSome turns (λ n. (1 ≤ n) × (n ≤ 1000))) }

@@ -46,13 +46,13 @@ pub enum Order<'a> {
 /// Why the words have no order.
 #[derive(Clone, Copy, Debug, PartialEq, Eq)]
 pub enum WordsFault {
-    /// They aren't those of a command.
+    /// They don't form a command.
     Usage,
-    /// Memory was wanting.
+    /// Memory ran out.
     Memory,
 }
 
-// The value that the words give an argument.
+// The value that the words give to an argument.
 fn text_of<'a>(found: &ArgMatches<'a>, id: &str) -> Option<&'a str>
     ensures { option_map (λ s. s.now) result ≡ first_of id.now (rows_of (found_of found.now)) }
 {
@@ -178,7 +178,7 @@ fn order_from<'a>(matches: &ArgMatches<'a>) -> Option<Order<'a>>
     }
 }
 
-/// What the words ask for, of which the first is the program's name. A call for help asks for nothing.
+/// What the words ask for; the first of them is the program's name. A call for help asks for nothing.
 pub fn read_order<'a>(alloc: Global, words: &'a [&'a str]) -> Result<Order<'a>, WordsFault>
     ensures order { IfOk result (λ o. wanted_of (map (λ w. w.now) words.entry.now) ≡ Some (wanted o)) }
     ensures in_range { IfOk result (λ o. IsInRange (wanted o)) }

@@ -1,4 +1,4 @@
--- What single calls ask of their numbers.
+-- What single calls require of their numbers.
 use Rattle.std.specs.Prelude.{◌≡◌, ◌⊎◌, pos, Option, IfSome}
 use Rattle.decimal_input.specs.Ratios.{Ratio}
 use Rattle.scaled_decimal.specs.declared.decimal.Sd.{Sd}

@@ -40,7 +40,7 @@ pub record AreFactors (n : ℕ) (lo hi : Sd) : Type 0 where
   pub high_size : HasSize hi (neg_ℤ (pos n)) (pos n)
   pub order : AtMost (value lo) (value hi)
 
--- factors that storage can be made of
+-- factors of which storage can be made
 pub record IsUsable (f : Factors) : Type 0 where
   pub sum : AreFactors 5000 f.sum_lo f.sum_hi
   pub power : AreFactors 4000 f.power_lo f.power_hi

@@ -28,7 +28,7 @@ abbrev pub IsWholePair : Term → ℕ → Option Pair → Type 0
 IsWholePair t s (Some p) = IsPair t s p.lo p.hi × (p.hi < 2 ^ 60)
 IsWholePair t s None = IsPast t (2 ^ 60 - 1) s
 
--- the bounds of a flow of either sign, by those of its magnitude: negated and exchanged where it is below 0
+-- the bounds of a flow of either sign, by those of its magnitude: negated and exchanged where the flow is below 0
 abbrev pub low_end : Bool → ℕ → ℕ → ℤ
 low_end false least most = pos least
 low_end true least most = neg_ℤ (pos most)
@@ -49,7 +49,7 @@ abbrev pub IsFlowPair : Term → Bool → ℕ → Option FlowPair → Type 0
 IsFlowPair t neg s (Some p) = IsFlow t neg s p.lo p.hi × (unsigned_abs p.lo < 2 ^ 126) × (unsigned_abs p.hi < 2 ^ 126)
 IsFlowPair t neg s None = IsPast t (2 ^ 126 - 1) s
 
--- a pair whose upper bound reaches 2 ^ 60 stands as 1 and 2 ^ 60 in a table
+-- in a table a pair whose upper bound reaches 2 ^ 60 is kept as 1 and 2 ^ 60
 pub record IsStandIn (t : Term) (s lo hi : ℕ) : Type 0 where
   pub past : IsPast t (2 ^ 60 - 1) s
   pub lower : lo ≡ 1

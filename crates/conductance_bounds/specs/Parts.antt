@@ -36,7 +36,7 @@ is_whole p n = n == p.nstp || p.perlen.digits == 0
 abbrev pub IsPart : Period → ℕ → ℕ → ℕ → Type 0
 IsPart p n lo hi = ((is_whole p n ≡ true) × (lo ≡ 10 ^ 18) × (hi ≡ 10 ^ 18)) ⊎ ((is_whole p n ≡ false) × IsGrowingPart p n lo hi)
 
--- F is at most 1 and lies from f to g, in units of 10 ^ -18, which are at most 1 too
+-- F is at most 1 and lies from f to g in units of 10 ^ -18; f and g are at most 1 too
 pub record IsPassed (F : Ratio) (f g : ℕ) : Type 0 where
   pub low_range : f ≤ 10 ^ 18
   pub high_range : g ≤ 10 ^ 18
@@ -66,7 +66,8 @@ pub record IsCeilingOf (x z : ℤ) : Type 0 where
   pub at_least : x ≤ℤ (z *ℤ pos (10 ^ 18))
   pub next : ((z +ℤ neg_ℤ (pos 1)) *ℤ pos (10 ^ 18)) <ℤ x
 
--- The bounds of a head, in units of 10 ^ -9, where the part of the period that has passed lies from f to g: the floor of the lesser blend of the floors of Shead and Ehead, and the ceiling of the greater blend of their ceilings.
+-- The bounds of a head, in units of 10 ^ -9, where the part of the period that has passed lies from f to g: the floor
+-- of the lesser blend of the floors of Shead and Ehead, and the ceiling of the greater blend of their ceilings.
 pub record IsGivenPair (shead ehead : Dec) (f g : ℕ) (lo hi : ℤ) : Type 0 where
   pub start_lo : ℤ
   pub start_hi : ℤ

@@ -1,4 +1,4 @@
--- A formula is data: what is summed, multiplied and divided in which order. The exact value and both rounded bounds are read off the same formula.
+-- A formula is data: what is added, multiplied and divided in which order. The exact value and both rounded bounds are defined from the same formula.
 use Rattle.std.specs.Prelude.{◌≡◌, ◌<◌}
 use Rattle.decimal_input.specs.Ratios.{Ratio, plus, times, over, AtMost, Same}
 use Rattle.scaled_decimal.specs.declared.decimal.Sd.{Sd}

@@ -24,7 +24,7 @@ fn share(head: i64, part: u64) -> i128
     head as i128 * part as i128
 }
 
-/// In units of 10 ^ -9, rounded down.
+/// A number in units of 10 ^ -27 as one in units of 10 ^ -9, rounded down.
 pub(crate) fn floor_of(x: i128) -> i64
     requires range { IsWithin x (4 * 10 ^ 36) }
     ensures floor { IsFloorOf x result }
@@ -33,7 +33,7 @@ pub(crate) fn floor_of(x: i128) -> i64
     x.div_euclid(WHOLE as i128) as i64
 }
 
-/// In units of 10 ^ -9, rounded up.
+/// A number in units of 10 ^ -27 as one in units of 10 ^ -9, rounded up.
 pub(crate) fn ceiling_of(x: i128) -> i64
     requires range { IsWithin x (4 * 10 ^ 36) }
     ensures ceiling { IsCeilingOf x result }

@@ -11,7 +11,7 @@ use crate::interval::exactly;
 use crate::pair::{Pair, pair_of};
 use decimal_input::dec::Dec;
 
-/// The bounds of evapotranspiration at the rate EVTR over the depth EXDP, as a conductance in units of 10 ^ -s; none
+/// The bounds of evapotranspiration at the rate EVTR over the depth EXDP, as a conductance in units of 10 ^ -s; None
 /// where the upper one is 2 ^ 60 or more. (TM 6-A16, chapter 6, EVT.)
 pub fn evap_branch(evtr: Dec, exdp: Dec, delr: Dec, delc: Dec, s: u32) -> Option<Pair>
     requires evtr { IsNotNegative evtr }

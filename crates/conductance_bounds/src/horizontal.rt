@@ -37,7 +37,7 @@ pub struct ColHalf {
     pub thick_hi: Sd,
 }
 
-/// The bounds of the conductance between two cells of a row whose width is `width`, in units of 10 ^ -s; none
+/// The bounds of the conductance between two cells of a row whose width is `width`, in units of 10 ^ -s; None
 /// where the upper one is 2 ^ 60 or more. (TM 6-A16, chapter 5, harmonic mean.)
 pub fn row_branch(a: &Half, b: &Half, width: Dec, s: u32) -> Option<Pair>
     requires first { IsHalf a.now }
@@ -64,7 +64,7 @@ pub fn row_branch(a: &Half, b: &Half, width: Dec, s: u32) -> Option<Pair>
     pair_of(in_a_row(first, second), s)
 }
 
-/// The bounds of the conductance between two cells of a column whose width is `width`, in units of 10 ^ -s; none
+/// The bounds of the conductance between two cells of a column whose width is `width`, in units of 10 ^ -s; None
 /// where the upper one is 2 ^ 60 or more. (TM 6-A16, chapter 5, harmonic mean.)
 pub fn col_branch(a: &ColHalf, b: &ColHalf, width: Dec, s: u32) -> Option<Pair>
     requires first { IsColHalf a.now }
@@ -121,7 +121,7 @@ fn resistance(along: Dec, width: Span, k: Span, thick: Span) -> Span
     exactly(along).over(width.plus(width).times(k.times(thick)))
 }
 
-// The conductance of two resistances in a row.
+// The conductance of two resistances in series.
 fn in_a_row(first: Span, second: Span) -> Span
     requires first { IsOrdered first }
     requires second { IsOrdered second }

@@ -1,4 +1,4 @@
-// What the bounds of a valid model owe to its exact numbers.
+// How the bounds of a valid model enclose its exact numbers.
 ghost use Rattle.std.specs.Prelude.{ℕ};
 ghost use Rattle.model_types.specs.declared.model.FlowModel.{FlowModel};
 ghost use Rattle.model_types.specs.Valid.{IsModel};
@@ -10,14 +10,14 @@ pub fn faces_enclose()
     ensures { (m : FlowModel) (thick bed : ℕ → Decimals) → IsModel m → AreSpanned m thick bed → FacesEnclose m thick bed }
 {}
 
-/// Those of its storages, recharges and evapotranspirations enclose the exact ones.
+/// The pairs of its storages, recharges and evapotranspirations enclose the exact values.
 pub fn sources_enclose()
     ensures storages { (m : FlowModel) (thick bed : ℕ → Decimals) → IsModel m → AreSpanned m thick bed → StoragesEnclose m thick }
     ensures recharges { (m : FlowModel) → RechargesEnclose m }
     ensures evaps { (m : FlowModel) → EvapsEnclose m }
 {}
 
-/// Those of its given heads enclose the exact ones at every step.
+/// The pairs of its given heads enclose the exact heads at every step.
 pub fn heads_enclose()
     ensures { HeadsEnclose }
 {}

@@ -1,4 +1,5 @@
-//! Rounded bounds of conductances, storage, recharge, evaporation and given heads. Each bound is one number: the formula's, each single operation rounded to its side; and the exact value lies between the two.
+//! Rounded bounds of conductances, storage, recharge, evaporation and given heads. Each bound is one number: the
+//! formula's, each single operation rounded to its side; and the exact value lies between the two.
 #![tactic(auto)]
 
 mod area;

@@ -23,7 +23,7 @@ pub struct FlowPair {
 
 const TOO_LARGE: u128 = 1 << 60;
 
-/// The whole bounds in units of 10 ^ -s, or none where the upper one is 2 ^ 60 or more.
+/// The whole bounds in units of 10 ^ -s, or None where the upper one is 2 ^ 60 or more.
 #[tactic(auto, using(crate::proofs::Whole::pair_lemmas))]
 pub(crate) fn pair_of(x: Span, s: u32) -> Option<Pair>
     requires ordered { IsOrdered x }

@@ -14,7 +14,7 @@ use crate::span::Span;
 use decimal_input::dec::Dec;
 use scaled_decimal::{ceil_units, floor_units};
 
-/// The bounds of the flow of recharge into a cell, in units of 10 ^ -(s + 9); none where a magnitude is 2 ^ 126 or
+/// The bounds of the flow of recharge into a cell, in units of 10 ^ -(s + 9); None where a magnitude is 2 ^ 126 or
 /// more. (TM 6-A16, chapter 6, RCH.)
 pub fn recharge_flow(rech: Dec, delr: Dec, delc: Dec, s: u32) -> Option<FlowPair>
     requires rech { IsDec rech }

@@ -48,7 +48,7 @@ struct Edge {
     hi: i128,
 }
 
-// Of the upper elevation, whose floor is small.
+// The bounds of the upper elevation, whose floor is below 2 ^ 126 in magnitude; its ceiling is at most 2 ^ 126.
 fn upper_edge(top: Dec) -> Edge
     requires number { IsDec top }
     requires small { (z : ℤ) → IsSignedFloor z (number top) 18 → unsigned_abs z < 2 ^ 126 }
@@ -64,7 +64,7 @@ fn upper_edge(top: Dec) -> Edge
     }
 }
 
-// Of the lower elevation, whose ceiling is small.
+// The bounds of the lower elevation, whose ceiling is below 2 ^ 126 in magnitude; its floor is at least -2 ^ 126.
 fn lower_edge(bottom: Dec) -> Edge
     requires number { IsDec bottom }
     requires small { (z : ℤ) → IsSignedCeiling z (number bottom) 18 → unsigned_abs z < 2 ^ 126 }

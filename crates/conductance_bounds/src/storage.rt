@@ -19,8 +19,8 @@ use crate::span::Span;
 use decimal_input::dec::Dec;
 use scaled_decimal::Sd;
 
-/// The bounds of a cell's storage over a time step, as a conductance in units of 10 ^ -s; none where the upper one is
-/// 2 ^ 60 or more. `thick` has the lower and the upper bound of the thickness, and is none under the option
+/// The bounds of a cell's storage over a time step, as a conductance in units of 10 ^ -s; None where the upper one is
+/// 2 ^ 60 or more. `thick` has the lower and the upper bound of the thickness, and is None under the option
 /// STORAGECOEFFICIENT; `factors` are those of the step, and `perlen` is the length of the stress period. (TM 6-A16,
 /// chapters 2 and 5.)
 pub fn storage_branch(

@@ -28,7 +28,7 @@ pub struct VertHalf {
     pub thick_hi: Sd,
 }
 
-/// The confining bed between two cells: the bounds of its thickness, both 0 where there is none, and VKCB.
+/// The confining bed between two cells: the bounds of its thickness, both 0 without a bed, and VKCB.
 #[derive(Clone, Copy, Debug, PartialEq, Eq)]
 pub struct Bed {
     pub thick_lo: Sd,
@@ -36,7 +36,7 @@ pub struct Bed {
     pub vkcb: Dec,
 }
 
-/// The bounds of the conductance between a cell `a` and the cell `b` below it, in units of 10 ^ -s; none where the
+/// The bounds of the conductance between a cell `a` and the cell `b` below it, in units of 10 ^ -s; None where the
 /// upper one is 2 ^ 60 or more. (TM 6-A16, chapter 5, vertical conductance.)
 pub fn vert_branch(
     a: &VertHalf,
@@ -78,7 +78,7 @@ fn conductivity(a: &VertHalf) -> Span
     }
 }
 
-// A half's resistance, times the area.
+// The resistance of a half, times the area.
 fn half(a: &VertHalf) -> Span
     requires half { IsVertHalf a.now }
     ensures ordered { IsOrdered result }
@@ -90,7 +90,7 @@ fn half(a: &VertHalf) -> Span
     between(a.thick_lo, a.thick_hi).over(k.plus(k))
 }
 
-// The resistance from cell to cell, with the bed's between the halves'.
+// The resistance from cell to cell, with the bed's between those of the halves.
 fn joined(first: Span, bed: &Bed, second: Span) -> Span
     requires first { IsOrdered first }
     requires second { IsOrdered second }
@@ -99,7 +99,8 @@ fn joined(first: Span, bed: &Bed, second: Span) -> Span
     requires second_positive { 0 < second.lo.m }
     requires near { (reach first ≤ 400) × (reach second ≤ 400) }
     ensures ordered { IsOrdered result }
-    ensures bounds { (t u : Term) (h : Ratio) → AreBounds t first → AreBounds u second → AreBounds (resistance_sum (bed.now.thick_lo.m == 0) t (bed_of bed.now h) u) result }
+    ensures bounds { (t u : Term) (h : Ratio) → AreBounds t first → AreBounds u second →
+        AreBounds (resistance_sum (bed.now.thick_lo.m == 0) t (bed_of bed.now h) u) result }
     ensures reach { reach result ≤ 1100 }
     ensures positive { 0 < result.lo.m }
 {

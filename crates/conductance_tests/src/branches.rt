@@ -72,7 +72,7 @@ fn vertical_half(words: &mut Words) -> Option<VertHalf>
     })
 }
 
-// No bed where both elevations are the same.
+// None if both elevations are the same.
 fn bed(words: &mut Words) -> Option<Bed>
     ensures { IfSome result IsBed }
 {

@@ -1,4 +1,4 @@
-//! Works out conductances, flows, factors of time steps and given heads from numbers that stand in standard input, and
+//! Computes conductances, flows, factors of time steps and given heads from the numbers in standard input, and
 //! prints their bounds.
 //!
 //! Each line asks for one pair of bounds. A cell's half of a branch is `LENGTH HK TOP BOTTOM` along a row, `LENGTH HK

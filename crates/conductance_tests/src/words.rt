@@ -9,7 +9,7 @@ use decimal_input::dec::Dec;
 use decimal_input::read::read_dec;
 use number_limits::{is_head, is_positive, is_thick};
 
-/// The words that are still to come. A number that isn't of the kind asked for is none.
+/// The words that are still to be read. A number of another kind than the one asked for is None.
 #[derive(Drop)]
 pub struct Words<'a> {
     rest: &'a str,
@@ -20,7 +20,7 @@ impl<'a> Words<'a> {
         Words { rest: line }
     }
 
-    /// The next word, empty behind the last one.
+    /// The next word; empty after the last one.
     pub fn next(&mut self) -> &'a str {
         let (word, rest) = self.rest.split_once(' ').unwrap_or((self.rest, ""));
         self.rest = rest;
@@ -78,7 +78,7 @@ impl<'a> Words<'a> {
         self.next().parse::<u32>().ok()
     }
 
-    /// How many digits a conductance has.
+    /// The number of digits of a conductance.
     pub fn digits(&mut self) -> Option<u32>
         ensures { IfSome result (λ s. s ≤ 18) }
     {

@@ -13,7 +13,7 @@ is_mark b = b == 69 || b == 101 || b == 68 || b == 100
 abbrev pub AreDigits : List ℕ → Type 0
 AreDigits bs = All (λ b. is_digit b ≡ true) bs
 
--- The number that digits spell, behind the number c.
+-- The number that digits spell after the number c.
 abbrev pub number_from : ℕ → List ℕ → ℕ
 number_from c [] = c
 number_from c (b ∷ bs) = number_from (c * 10 + (b - 48)) bs
@@ -34,7 +34,7 @@ pub record IsInteger (w : List ℕ) (z : ℤ) : Type 0 where
   pub few : length digits ≤ 18
   pub value : z ≡ with_sign neg (number_from 0 digits)
 
--- t is a point with the digits p behind it, or nothing.
+-- t is a point with the digits p after it, or nothing.
 abbrev pub IsPart : List ℕ → List ℕ → Type 0
 IsPart p t = ((t ≡ 46 ∷ p) × AreDigits p) ⊎ ((t ≡ []) × (p ≡ []))
 
@@ -51,7 +51,7 @@ pub record IsMarked (e : ℤ) (t : List ℕ) : Type 0 where
   pub some : 1 ≤ length digits
   pub value : e ≡ with_sign neg (number_from 0 digits)
 
--- t is the exponent e, or nothing, which stands for 0.
+-- t is the exponent e, or nothing, which means 0.
 abbrev pub IsExponent : ℤ → List ℕ → Type 0
 IsExponent e t = IsMarked e t ⊎ ((t ≡ []) × (e ≡ pos 0))
 

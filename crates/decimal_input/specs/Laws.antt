@@ -25,7 +25,7 @@ CeilingsKeepOrder = (f g : Fraction) (s : ℕ) (x y : ℤ) → AtMost f g → Is
 abbrev pub OneCanonicalForm : Type 0
 OneCanonicalForm = (a b : Dec) → IsDec a → IsDec b → Same (number a) (number b) → a ≡ b
 
--- what a word names is one
+-- a word names one thing
 abbrev pub WordsNameOneThing : Type 0
 WordsNameOneThing = (word : List ℕ) (r q : Result Dec NumFault) → Names word r → Names word q → r ≡ q
 
@@ -37,4 +37,6 @@ pub record OperationsKeepOrder : Type 0 where
 
 -- where lo and hi, in units of 10 ^ -s, enclose z over D, they enclose z * 10 ^ s over D
 abbrev pub BoundsHoldOverADenominator : Type 0
-BoundsHoldOverADenominator = (lo hi : ℤ) (s D : ℕ) (f : Fraction) (z : ℤ) → EnclosesSigned lo hi s f → IsOver D f z → IsBetweenSigned lo hi D (z *ℤ pos (10 ^ s))
+BoundsHoldOverADenominator =
+    (lo hi : ℤ) (s D : ℕ) (f : Fraction) (z : ℤ) → EnclosesSigned lo hi s f → IsOver D f z →
+    IsBetweenSigned lo hi D (z *ℤ pos (10 ^ s))

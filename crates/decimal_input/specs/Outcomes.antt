@@ -4,12 +4,12 @@ use Rattle.decimal_input.specs.declared.dec.NumFault.{NumFault}
 use Rattle.decimal_input.specs.declared.dec.NumFault.TheVariants.{BadNumber, TooManyDigits}
 use Rattle.decimal_input.specs.Grammar.{Spelling, Spells}
 
--- c is d with z zeros behind it, and d ends in another digit than 0.
+-- c is d with z zeros after it, and the last digit of d isn't 0.
 pub record IsTrimmed (c d z : ℕ) : Type 0 where
   pub whole : c ≡ d * 10 ^ z
   pub last : 0 < d % 10
 
--- The tests in their order: at most 18 digits, then an exponent from -40 to 40; for d * 10 ^ e where d ends in a digit other than 0.
+-- The tests in their order: at most 18 digits, then an exponent from -40 to 40; for d * 10 ^ e, where the last digit of d isn't 0.
 pub record IsTested (neg : Bool) (d : ℕ) (e : ℤ) (r : Result Dec NumFault) : Type 0 where
   pub many : 10 ^ 18 ≤ d → r ≡ Err TooManyDigits
   pub low : d < 10 ^ 18 → e <ℤ neg_ℤ (pos 40) → r ≡ Err BadNumber
@@ -29,7 +29,7 @@ pub record Names (w : List ℕ) (r : Result Dec NumFault) : Type 0 where
   pub no_number : ((n : Spelling) → Spells w n → ⊥) → r ≡ Err BadNumber
   pub number : length w ≤ 64 → (n : Spelling) → Spells w n → IsCanonical n.neg n.coefficient n.exp r
 
--- The sign of a product: whether exactly one of the two is a minus.
+-- Whether the product is negative: exactly one of the two numbers has a minus sign.
 abbrev pub differ : Bool → Bool → Bool
 differ true b = not b
 differ false b = b

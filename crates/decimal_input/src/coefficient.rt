@@ -1,12 +1,12 @@
-// The digits of a number, without the zeros before and behind.
+// The digits of a number, without its leading and trailing zeros.
 ghost use Rattle.std.specs.Prelude.{◌≡◌, ℕ, ◌+◌, ◌*◌, ◌<◌, ◌≤◌, ◌^◌, length, slice_index, true};
 ghost use Rattle.decimal_input.specs.Coefficients.{IsOf};
 ghost use Rattle.decimal_input.specs.Grammar.{number_from, is_digit};
 
-/// What has more digits is no number.
+/// A word with more digits than this names no number.
 pub const LIMIT: u128 = 1_000_000_000_000_000_000;
 
-/// The digits so far, and the zeros behind them; or that there are more than 18.
+/// The digits so far and the number of zeros after them, or that there are more than 18 digits.
 #[derive(Clone, Copy)]
 pub struct Coefficient {
     pub digits: u64,
@@ -14,7 +14,7 @@ pub struct Coefficient {
     pub many: bool,
 }
 
-// The same with one more digit.
+// The same number with one more digit.
 fn with_digit(k: Coefficient, digit: u64) -> Coefficient
     requires digit { digit < 10 }
     requires digits { k.digits < 10 ^ 18 }
@@ -60,7 +60,7 @@ pub const NOTHING: Coefficient = Coefficient {
     many: false,
 };
 
-// The same with more digits behind it.
+// The same number with more digits after it.
 pub fn with_digits(k: Coefficient, digits: &[u8]) -> Coefficient
     requires digits { (i : ℕ) → i < length digits.now → is_digit (slice_index digits.now i) ≡ true }
     requires few { k.digits < 10 ^ 18 }

@@ -10,7 +10,7 @@ use crate::word::{split_digits, split_sign};
 // A word has too few digits to bring such an exponent back into the range.
 const CAP: u32 = 10000;
 
-// The number that digits spell, or 10000 where it is more.
+// The number that the digits spell, at most 10000: a greater one gives 10000.
 fn capped_number(digits: &[u8]) -> u32
     requires { (i : ℕ) → i < length digits.now → is_digit (slice_index digits.now i) ≡ true }
     ensures { result ≡ min (number_from 0 digits.now) 10000 }
@@ -22,7 +22,7 @@ fn capped_number(digits: &[u8]) -> u32
     so_far
 }
 
-// The exponent, its magnitude capped, or none where the bytes spell none.
+// The exponent, its magnitude capped, or None where the bytes spell no exponent.
 pub fn exponent(tail: &[u8]) -> Option<i32>
     ensures capped { IsCapped result (exponent_of tail.now) }
     ensures near { IfSome result (λ e. (neg_ℤ (pos 10000) ≤ℤ e) × (e ≤ℤ pos 10000)) }

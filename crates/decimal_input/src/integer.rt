@@ -32,7 +32,7 @@ fn integer(word: &[u8]) -> Option<i64>
     Some(if neg { -size } else { size })
 }
 
-/// The integer that a word spells: an optional sign and 1 to 18 digits, or none where it has another form.
+/// The integer that a word spells: an optional sign and 1 to 18 digits. None where it has another form.
 pub fn read_int(word: &[u8]) -> Option<i64>
     ensures exact { (z : ℤ) → (result ≡ Some z) ↔ IsInteger word.now z }
 {

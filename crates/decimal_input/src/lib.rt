@@ -1,4 +1,4 @@
-// Numbers of the input, exactly: what a word names, products, and whole units of a number.
+//! Numbers of the input, exactly: what a word names, products, and whole units of a number.
 #![tactic(auto)]
 
 mod canonical;

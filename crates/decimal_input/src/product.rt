@@ -9,7 +9,7 @@ use crate::canonical::canonical;
 use crate::coefficient::{Coefficient, LIMIT, NOTHING};
 use crate::dec::{Dec, NumFault};
 
-// The digits of n, and the zeros behind them.
+// The digits of n, and the number of zeros after them.
 fn trimmed(n: u128) -> Coefficient
     ensures value { IsOf result n }
     ensures few { result.digits < 10 ^ 18 }

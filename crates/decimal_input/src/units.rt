@@ -6,7 +6,7 @@ ghost use Rattle.decimal_input.specs.Wholes.{IsCeilingPast, IsFloorPast, IsSigne
 use crate::dec::Dec;
 use crate::whole::{whole_dn, whole_up};
 
-/// The greatest whole number of units of 10 ^ -s not above the number, or none where its magnitude is 2 ^ 126 or more.
+/// The greatest whole number of units of 10 ^ -s not above the number; None where its magnitude is 2 ^ 126 or more.
 pub fn floor_at(a: Dec, s: u32) -> Option<i128>
     requires canonical { IsDec a }
     ensures floor { IfSome result (λ z. IsSignedFloor z (number a) s) }
@@ -22,7 +22,7 @@ pub fn floor_at(a: Dec, s: u32) -> Option<i128>
     }
 }
 
-/// The least whole number of units of 10 ^ -s not below the number, or none where its magnitude is 2 ^ 126 or more.
+/// The least whole number of units of 10 ^ -s not below the number; None where its magnitude is 2 ^ 126 or more.
 pub fn ceil_at(a: Dec, s: u32) -> Option<i128>
     requires canonical { IsDec a }
     ensures ceiling { IfSome result (λ z. IsSignedCeiling z (number a) s) }

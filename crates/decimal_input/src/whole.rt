@@ -1,4 +1,4 @@
-// A decimal as whole units: the greatest number of them below it, the least above it.
+// A decimal as whole units: the greatest number of them not above it, the least not below it.
 ghost use Rattle.std.specs.Prelude.{◌≡◌, ℕ, ◌*◌, ◌-◌, ◌<◌, ◌≤◌, ◌^◌, MatchOption};
 ghost use Rattle.decimal_input.specs.Decimals.{scaled};
 ghost use Rattle.decimal_input.specs.Wholes.{IsFloor, IsCeiling, Passes, Reaches};
@@ -6,7 +6,7 @@ ghost use Rattle.decimal_input.specs.Wholes.{IsFloor, IsCeiling, Passes, Reaches
 // The limit of every number of units.
 const LIMIT: u128 = 1 << 126;
 
-// m * 10 ^ places, or none where it is 2 ^ 126 or more.
+// m * 10 ^ places, or None where it is 2 ^ 126 or more.
 fn multiple(m: u64, places: u64) -> Option<u128>
     requires some { 0 < m }
     ensures value { MatchOption result (2 ^ 126 ≤ m * 10 ^ places) (λ n. (n ≡ m * 10 ^ places) × (n < 2 ^ 126)) }
@@ -21,7 +21,7 @@ fn multiple(m: u64, places: u64) -> Option<u128>
     }
 }
 
-/// The greatest whole number of units of 10 ^ -s not above m * 10 ^ e, or none where it is 2 ^ 126 or more.
+/// The greatest whole number of units of 10 ^ -s not above m * 10 ^ e, or None where it is 2 ^ 126 or more.
 pub fn whole_dn(m: u64, e: i16, s: u32) -> Option<u128>
     requires digits { m < 10 ^ 18 }
     ensures value { MatchOption result (Reaches (2 ^ 126) (scaled m e) s) (λ n. IsFloor n (scaled m e) s × (n < 2 ^ 126)) }
@@ -40,7 +40,7 @@ pub fn whole_dn(m: u64, e: i16, s: u32) -> Option<u128>
     }
 }
 
-/// The least whole number of units of 10 ^ -s not below m * 10 ^ e, or none where it is 2 ^ 126 or more.
+/// The least whole number of units of 10 ^ -s not below m * 10 ^ e, or None where it is 2 ^ 126 or more.
 pub fn whole_up(m: u64, e: i16, s: u32) -> Option<u128>
     requires digits { m < 10 ^ 18 }
     ensures value { MatchOption result (Passes (2 ^ 126 - 1) (scaled m e) s) (λ n. IsCeiling n (scaled m e) s × (n < 2 ^ 126)) }

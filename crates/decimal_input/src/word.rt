@@ -33,7 +33,7 @@ pub fn split_digits(word: &[u8]) -> (&[u8], &[u8])
     word.split_at(word.len())
 }
 
-// The digits behind a point, and what follows them.
+// The digits after a point, and what follows them.
 pub fn split_part(word: &[u8]) -> (&[u8], &[u8])
     ensures digits { result.0.now ≡ part_of word.now }
     ensures rest { result.1.now ≡ behind_part word.now }

@@ -15,7 +15,7 @@ pub struct Bench {
     put: Vec<u8>,
 }
 
-/// The words of a line, parted by blanks.
+/// The words of a line, separated by blanks.
 pub fn words_of(alloc: Global, line: &str) -> Result<Vec<&str>, AllocError> {
     let mut words = Vec::new(alloc);
     for word in line.split(' ') {

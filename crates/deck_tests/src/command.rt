@@ -12,7 +12,7 @@ pub enum Command<'a> {
     Ask(Question<'a>),
 }
 
-/// What is asked of a deck, with the names of its files.
+/// A question about a deck, with the names of its files.
 #[derive(Clone, Copy)]
 pub enum Question<'a> {
     Read(&'a str),
@@ -98,7 +98,7 @@ impl<'a> Question<'a> {
 }
 
 impl<'a> Command<'a> {
-    /// The command of a line, where it isn't a line of a file.
+    /// The command of a line, if it isn't a line of a file.
     pub fn of(line: &'a str) -> Option<Command<'a>> {
         let (word, rest) = line.split_once(' ')?;
         match word {

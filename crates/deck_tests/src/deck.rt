@@ -1,8 +1,8 @@
-// The files of a deck that stand as lines in a text.
+// The files of a deck, given as lines of a text.
 use outside::MemFolder;
 use std::alloc::{AllocError, Global};
 
-/// Files in memory, and the file whose lines come now, which has no name between files.
+/// Files in memory, and the current file, which has no name between files.
 #[derive(Drop)]
 pub struct Deck {
     pub folder: MemFolder,
@@ -20,13 +20,13 @@ impl Deck {
         }
     }
 
-    /// A line more of the file.
+    /// Adds a line to the file.
     pub fn push_line(&mut self, line: &str) -> Result<(), AllocError> {
         self.text.push_str(line)?;
         self.text.push_str("\n")
     }
 
-    /// So many such lines.
+    /// Adds this line `count` times.
     pub fn push_lines(&mut self, count: u32, line: &str) -> Result<(), AllocError> {
         for _ in 0..count {
             self.push_line(line)?;
@@ -34,7 +34,7 @@ impl Deck {
         Ok(())
     }
 
-    /// Ends the file, and begins one of this name, in place of an earlier one.
+    /// Ends the file, and begins one of this name, which replaces an earlier one.
     pub fn begin_file(&mut self, alloc: Global, name: &str) -> Result<(), AllocError> {
         self.end_file(alloc)?;
         self.name = String::from_str(alloc, name)?;

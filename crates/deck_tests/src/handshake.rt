@@ -8,8 +8,8 @@ use std::sync::atomic::{AtomicU64, Ordering};
 
 const SPINS: u32 = 1_000_000_000;
 
-/// Counts the passes of workers and the puts of a sink. The pass behind the first step's waits for the second put,
-/// and the second put for that pass, each for so many spins at most.
+/// Counts the passes of workers and the puts of a sink. The pass after the first step's waits for the second put,
+/// and the second put for that pass, each for a limited number of spins.
 #[derive(Drop)]
 pub struct Handshake {
     passes: AtomicU64,
@@ -29,7 +29,7 @@ impl Handshake {
         }
     }
 
-    // Waits until a count has come to a number.
+    // Waits until a count reaches a number.
     fn wait(&self, count: &AtomicU64, number: u64) {
         for _ in 0..SPINS {
             if count.load(Ordering::SeqCst) >= number {
@@ -39,7 +39,7 @@ impl Handshake {
         self.failures.fetch_add(1, Ordering::SeqCst);
     }
 
-    // Counts a put, and answers its number.
+    // Counts a put, and returns its number.
     fn begin_put(&self) -> u64 {
         let before = self.puts.fetch_add(1, Ordering::SeqCst);
         if before == 1 {
@@ -48,7 +48,7 @@ impl Handshake {
         before
     }
 
-    /// How often one waited in vain.
+    /// How often a wait was in vain.
     pub fn failures(&self) -> u64 {
         self.failures.load(Ordering::SeqCst)
     }
@@ -71,7 +71,7 @@ pub struct HandshakeSink<'a> {
 }
 
 impl<'a> HandshakeSink<'a> {
-    /// The put of this number, from 1, lacks memory; 0 is no put's.
+    /// The put of this number, from 1, lacks memory; 0 means none.
     pub fn new(alloc: Global, together: &'a Handshake, lacking: u64) -> HandshakeSink<'a> {
         HandshakeSink {
             together,
@@ -85,7 +85,7 @@ impl<'a> HandshakeSink<'a> {
     }
 }
 
-// It tells no bytes.
+// Its bytes are not shown to contracts.
 impl<'a> Sink for HandshakeSink<'a> {
     ghost use Rattle.std.specs.Prelude.{None, refl};
     ghost use Rattle.outside.specs.Puts.{PutsMake};

@@ -1,4 +1,4 @@
-// Time steps, and what the cells are from period to period.
+// Time steps, and the kinds of the cells from period to period.
 ghost use Rattle.std.specs.Prelude.{◌≡◌, ◌<◌, ◌≤◌, All, length, IsTrue};
 ghost use Rattle.model_types.specs.Grids.{HasSize};
 ghost use Rattle.model_types.specs.Kinds.{given_heads};
@@ -27,7 +27,7 @@ fn names_within(list: &[Given], cells: u32) -> bool
     list.iter().all(|x| x.cell.0 < cells)
 }
 
-// Goes on to the next period, where there is one and its list's cells lie in the grid.
+// Advances to the next period, if there is one and its list's cells lie in the grid.
 fn goes_on(given: &mut GivenHeads, model: &FlowModel) -> bool
     requires size { HasSize model.now.grid }
     requires few { length model.now.periods ≤ 1000 }
@@ -44,7 +44,7 @@ fn goes_on(given: &mut GivenHeads, model: &FlowModel) -> bool
     true
 }
 
-// The kinds of a period by a walk over the lists.
+// The kinds of a period, by reading the lists.
 fn walked(alloc: Global, model: &FlowModel, period: u32) -> Result<Vec<Kind>, AllocError>
     requires { HasSize model.now.grid }
 {
@@ -68,7 +68,7 @@ fn print_line(rt: &impl Print, word: &str, period: u32, kinds: &[Kind]) -> io::R
     println!(rt; "")
 }
 
-// The kinds of the cells in each period, by the heads given so far and by a walk.
+// The kinds of the cells in each period, by the heads given so far and by reading the lists.
 fn print_kinds(rt: &impl Print, alloc: Global, model: &FlowModel) -> io::Result<()>
     requires size { HasSize model.now.grid }
     requires few { length model.now.periods ≤ 1000 }
@@ -86,7 +86,7 @@ fn print_kinds(rt: &impl Print, alloc: Global, model: &FlowModel) -> io::Result<
     Ok(())
 }
 
-/// Prints the time steps of the model of a name file, and what its cells are in each period.
+/// Prints the time steps of the model of a name file, and the kinds of its cells in each period.
 pub fn print_periods(
     rt: &impl Print,
     alloc: Global,

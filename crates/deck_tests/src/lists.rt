@@ -1,4 +1,4 @@
-// Lists of a model, one in a line. A number stands as its digits and its exponent.
+// Lists of a model, one in a line. A number is printed as its digits and its exponent.
 use decimal_input::dec::Dec;
 use model_types::{Grid, Period};
 use std::io;

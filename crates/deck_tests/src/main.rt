@@ -1,20 +1,20 @@
-//! Reads decks from standard input, and prints what is asked of them: models and zones, the steps of a model, checks of
+//! Reads decks from standard input, and answers questions about them: models and zones, the steps of a model, checks of
 //! listings, made models, what words ask for, and runs of the program's commands.
 //!
-//! `@deck -` begins a deck without files. A line `@file NAME` begins a file, whose lines follow it, in place of an
-//! earlier file of that name; `@repeat N LINE` is N such lines. `@read_fault N` lets the folder's read of this number
-//! fail, and `@put_fault N KEPT` a put of the next run, which keeps so many bytes. `@keep NAME` makes a file of what the
+//! `@deck -` begins a deck without files. A line `@file NAME` begins a file, whose lines follow it, and replaces an
+//! earlier file of that name; `@repeat N LINE` is N such lines. `@read_fault N` makes the folder's read of this number
+//! fail, and `@put_fault N KEPT` a put of the next run, which keeps KEPT bytes. `@keep NAME` makes a file of what the
 //! last run put. A line `@ ..` says what is shown, and is printed, as each question is.
 //!
 //! `@read NAME` reads the model of a name file, and prints its lists, or why it is refused. `@zones NAME FILE` reads the
-//! zones of its cells. `@periods NAME` prints its time steps, and of each stress period what its cells are, by the heads
-//! given so far and by a walk over the CHD lists for each cell. `@share ENTRIES PERIODS` shares a list of so many entries
-//! so often, and prints the sum of the lengths. `@example HK RATE` prints the lists of the builder's example, whose well
-//! gives so much. `@steps NAME DIGITS` prints the steps of a model one after the other, each from the heads of the one
-//! before it: what each cell is, the problem, and the heads that settle it. `@check NAME LISTING DIGITS` checks a listing
+//! zones of its cells. `@periods NAME` prints its time steps, and for each stress period the kinds of its cells, by the
+//! heads given so far and by reading the CHD lists for each cell. `@share ENTRIES PERIODS` shares a list of ENTRIES entries
+//! PERIODS times, and prints the sum of the lengths. `@example HK RATE` prints the lists of the builder's example, whose
+//! well has this rate. `@steps NAME DIGITS` prints the steps of a model one after the other, each from the heads of the one
+//! before it: the sites, the problem, and the heads that settle it. `@check NAME LISTING DIGITS` checks a listing
 //! of it, and prints the last line. `@make SEED SIZE` prints the files of a made model.
 //!
-//! `@words WORD|WORD|..` prints what the words of a command line ask for; without any behind it there are none.
+//! `@words WORD|WORD|..` prints what the words of a command line ask for; without a word after it there are none.
 //!
 //! `@run WORDS` runs the program with these words, and prints its status and all that it put; `@ends WORDS` prints its
 //! first and its last line. `@meet WORDS` runs with a gate at which two workers wait for each other, and

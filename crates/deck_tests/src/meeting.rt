@@ -7,7 +7,7 @@ const TURNS: u32 = 64;
 
 const SPINS: u32 = 1_000_000_000;
 
-/// Holds whichever worker passes first until the other has passed, for so many spins at most, and counts the passes
+/// Holds whichever worker passes first until the other has passed, for a limited number of spins, and counts the passes
 /// of each worker.
 #[derive(Drop)]
 pub struct MeetingGate {

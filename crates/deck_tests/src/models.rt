@@ -1,4 +1,4 @@
-// What a reader answers: the model's lists, one in a line, or why it is refused.
+// The result of a reader: the model's lists, one in a line, or why it is refused.
 ghost use Rattle.std.specs.Prelude.{IfOk};
 ghost use Rattle.model_types.specs.Valid.{IsModel};
 

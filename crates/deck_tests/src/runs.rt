@@ -4,7 +4,7 @@ use std::alloc::Global;
 use std::thread::Threads;
 use std::{io, str};
 
-/// Prints a text, with a mark behind it where its last line isn't ended.
+/// Prints a text, with a mark after it if its last line isn't ended.
 pub fn print_text(rt: &impl Print, bytes: &[u8]) -> io::Result<()> {
     let text = str::from_utf8(bytes).unwrap_or("not a text");
     if text.is_empty() || text.ends_with('\n') {

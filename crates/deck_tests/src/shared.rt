@@ -3,7 +3,7 @@ use model_types::Shared;
 use std::alloc::{AllocError, Global};
 use std::io;
 
-// So many lists as one, and the sum of their lengths.
+// This list `count` times, and the sum of the lengths.
 fn shared_lists(alloc: Global, list: &Shared<u32>, count: u32) -> Result<usize, AllocError> {
     let mut lists = Vec::new(alloc);
     for _ in 0..count {
@@ -16,7 +16,7 @@ fn shared_lists(alloc: Global, list: &Shared<u32>, count: u32) -> Result<usize, 
     Ok(entries)
 }
 
-/// Shares a list of so many entries so often, and prints the sum of the lengths.
+/// Shares a list of `entries` entries `periods` times, and prints the sum of the lengths.
 pub fn print_shared(rt: &impl Print, alloc: Global, entries: u32, periods: u32) -> io::Result<()> {
     let list = Shared::new(alloc, vec![in alloc; 0u32; entries as usize]?)?;
     let sum = shared_lists(alloc, &list, periods)?;

@@ -9,7 +9,7 @@ use std::alloc::Global;
 use std::io;
 use std::thread::Threads;
 
-// Runs the words over the files, and answers the status.
+// Runs the words over the files, and returns the status.
 fn run_at<R: Threads + Sync, K: Sink + Send, G: Gate + Sync>(
     rt: &R,
     alloc: Global,

@@ -10,7 +10,7 @@ fn words_of(alloc: Global, line: &str) -> io::Result<Vec<&str>> {
     Ok(line.split('|').collect(alloc)?)
 }
 
-/// Prints what the words of a line ask for, which are parted by bars.
+/// Prints what the words of a line ask for, which are separated by bars.
 pub fn print_order(rt: &impl Print, alloc: Global, line: &str) -> io::Result<()> {
     let words = words_of(alloc, line)?;
     match read_order(alloc, words.as_slice()) {

@@ -14,9 +14,25 @@ use Rattle.dis_package.specs.Grids.{grid_of}
 use Rattle.dis_package.specs.Times.{periods_of}
 use Rattle.dis_package.specs.declared.frame.Frame.{Frame}
 
--- a model of which this much has been read
+-- a model of which only this has been read
 abbrev pub begun : Grid → ℤ → List Period → FlowModel
-begun grid lenuni periods = record { grid = grid; lenuni = lenuni; ibound = []; strt = []; layvka = []; coefficient = false; hk = []; hani = []; vka = []; ss = []; vkcb = []; nrchop = pos 0; nevtop = pos 0; periods = periods }
+begun grid lenuni periods =
+    record {
+      grid = grid;
+      lenuni = lenuni;
+      ibound = [];
+      strt = [];
+      layvka = [];
+      coefficient = false;
+      hk = [];
+      hani = [];
+      vka = [];
+      ss = [];
+      vkcb = [];
+      nrchop = pos 0;
+      nevtop = pos 0;
+      periods = periods;
+    }
 
 -- the first line, and LAYCBD
 unfoldable pub head_of : List ℕ → Left → Result ((Frame × List ℤ) × Left) Refusal

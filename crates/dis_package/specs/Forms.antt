@@ -1,4 +1,4 @@
--- What is known of a discretization that was read, whatever the folder tells: limits, lengths and signs.
+-- What is known of a discretization that was read, whatever the folder returned: limits, lengths and signs.
 use Rattle.std.specs.Prelude.{◌≡◌, ◌*◌, ◌≤◌, [], All, length, sum_by}
 use Rattle.decimal_input.specs.Canonical.{IsDec}
 use Rattle.model_types.specs.declared.model.FlowModel.{FlowModel}
@@ -29,7 +29,20 @@ pub record IsTime (t : Time) : Type 0 where
 
 -- a period without its stresses
 abbrev pub without_stresses : Period → Period
-without_stresses p = record p { wells = []; rivers = []; drains = []; generals = []; given = []; recharge = []; irch = []; surf = []; evtr = []; exdp = []; ievt = [] }
+without_stresses p =
+    record p {
+      wells = [];
+      rivers = [];
+      drains = [];
+      generals = [];
+      given = [];
+      recharge = [];
+      irch = [];
+      surf = [];
+      evtr = [];
+      exdp = [];
+      ievt = [];
+    }
 
 -- a period whose times are in limits, and which has no stresses yet
 pub record IsNewPeriod (p : Period) : Type 0 where

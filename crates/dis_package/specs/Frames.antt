@@ -27,7 +27,8 @@ size_at file line words = do
   layers ← count_at file line 64 words
   rows ← count_at file line 1024 layers.1
   cols ← count_at file line 1024 rows.1
-  if nat_le (layers.0 * (rows.0 * cols.0)) 65536 then Ok (record { layers = layers.0; rows = rows.0; cols = cols.0 }, cols.1) else Err (refusal BadGrid file line)
+  if nat_le (layers.0 * (rows.0 * cols.0)) 65536
+      then Ok (record { layers = layers.0; rows = rows.0; cols = cols.0 }, cols.1) else Err (refusal BadGrid file line)
 
 -- at most 1000 stress periods
 unfoldable pub frame_of : List ℕ → ℕ → List (List ℕ) → Result Frame Refusal

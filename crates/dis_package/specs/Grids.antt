@@ -23,7 +23,7 @@ widths files file count left = do
   read ← array_at real files file 1 count left
   if list_all is_positive read.0.0 then Ok (read.0.0, read.1) else Err (refusal BadGrid file read.0.1)
 
--- behind the layers above: the bottom of layer k (from 0), then that of the bed below it, which is 0 everywhere where there is none
+-- after the layers above: the bottom of layer k (from 0), then that of the bed below it, which is 0 everywhere where there is no bed
 unfoldable pub bottom_at : List File → List ℕ → Size → List ℤ → ℕ → (Bottoms × Left) → Result (Bottoms × Left) Refusal
 bottom_at files file size laycbd k s = do
   bottom ← real_layer files file size.rows size.cols s.1
@@ -40,4 +40,17 @@ grid_of files file size laycbd left = do
   delc ← widths files file size.rows delr.1
   top ← real_layer files file size.rows size.cols delc.1
   bottoms ← bottoms_of files file size laycbd size.layers top.1
-  Ok (record { layers = size.layers; rows = size.rows; cols = size.cols; delr = delr.0; delc = delc.0; top = top.0; bottom = bottoms.0.layers; laycbd = laycbd; bed_bottom = bottoms.0.beds }, bottoms.1)
+  Ok (
+    record {
+      layers = size.layers;
+      rows = size.rows;
+      cols = size.cols;
+      delr = delr.0;
+      delc = delc.0;
+      top = top.0;
+      bottom = bottoms.0.layers;
+      laycbd = laycbd;
+      bed_bottom = bottoms.0.beds;
+    },
+    bottoms.1,
+  )

@@ -43,9 +43,25 @@ time_of file line words = do
 
 -- a period without stresses
 abbrev pub bare : Time → Period
-bare t = record { perlen = t.perlen; nstp = t.nstp; tsmult = t.tsmult; steady = t.steady; wells = []; rivers = []; drains = []; generals = []; given = []; recharge = []; irch = []; surf = []; evtr = []; exdp = []; ievt = [] }
+bare t = record {
+  perlen = t.perlen;
+  nstp = t.nstp;
+  tsmult = t.tsmult;
+  steady = t.steady;
+  wells = [];
+  rivers = [];
+  drains = [];
+  generals = [];
+  given = [];
+  recharge = [];
+  irch = [];
+  surf = [];
+  evtr = [];
+  exdp = [];
+  ievt = [];
+}
 
--- a period, behind so many steps of the periods before it; with its own they are at most 100000
+-- a period after periods with this many steps; with its own they are at most 100000
 unfoldable pub period_at : List ℕ → (ℕ × Left) → Result (Period × (ℕ × Left)) Refusal
 period_at file s = do
   line ← line_at file s.1

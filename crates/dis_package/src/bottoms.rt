@@ -16,7 +16,7 @@ use package_items::layer_or;
 use record_lines::Lines;
 use std::alloc::{AllocError, Global};
 
-/// The bottoms of the layers that were read, and of the beds below them.
+/// The bottoms of the layers read so far, and of the beds below them.
 #[derive(Debug, Drop)]
 pub struct Bottoms {
     pub layers: Listed<Dec>,
@@ -51,7 +51,8 @@ fn bottom_at<F: Folder>(
     requires beds { All IsDec so_far.beds }
     ensures since { (files : List File) → F.agrees folder.new files → F.agrees folder.old files }
     ensures counts { InputCounts (F.faults folder.old) (F.faults folder.new) result }
-    ensures bottoms { (files : List File) → F.agrees folder.new files → Gives (λ b. b) result lines.new (bottom_at files file.now size.now laycbd.now k (so_far, lines.old)) }
+    ensures bottoms { (files : List File) → F.agrees folder.new files →
+        Gives (λ b. b) result lines.new (bottom_at files file.now size.now laycbd.now k (so_far, lines.old)) }
     ensures layers { IfOk result (λ b. length b.layers ≡ length so_far.layers + size.now.rows * size.now.cols) }
     ensures beds { IfOk result (λ b. length b.beds ≡ length so_far.beds + size.now.rows * size.now.cols) }
     ensures canonical { IfOk result (λ b. All IsDec b.layers × All IsDec b.beds) }
@@ -73,7 +74,7 @@ fn bottom_at<F: Folder>(
     })
 }
 
-/// The bottoms of so many layers.
+/// The bottoms of `count` layers.
 #[tactic(auto, unfolding(crate::specs::Grids::bottoms_of))]
 pub fn bottoms_of<F: Folder>(
     alloc: Global,
@@ -86,7 +87,8 @@ pub fn bottoms_of<F: Folder>(
 ) -> Result<Bottoms, InputFault>
     ensures since { (files : List File) → F.agrees folder.new files → F.agrees folder.old files }
     ensures counts { InputCounts (F.faults folder.old) (F.faults folder.new) result }
-    ensures bottoms { (files : List File) → F.agrees folder.new files → Gives (λ b. b) result lines.new (bottoms_of files file.now size.now laycbd.now count lines.old) }
+    ensures bottoms { (files : List File) → F.agrees folder.new files →
+        Gives (λ b. b) result lines.new (bottoms_of files file.now size.now laycbd.now count lines.old) }
     ensures layers { IfOk result (λ b. length b.layers ≡ count * (size.now.rows * size.now.cols)) }
     ensures beds { IfOk result (λ b. length b.beds ≡ count * (size.now.rows * size.now.cols)) }
     ensures canonical { IfOk result (λ b. All IsDec b.layers × All IsDec b.beds) }

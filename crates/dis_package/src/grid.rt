@@ -41,7 +41,7 @@ fn widths<F: Folder>(
     Ok(values)
 }
 
-/// The widths and elevations behind LAYCBD.
+/// The widths and elevations, which follow LAYCBD.
 #[tactic(auto, unfolding(crate::specs::Grids::grid_of))]
 pub fn grid_of<F: Folder>(
     alloc: Global,

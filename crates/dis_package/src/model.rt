@@ -1,4 +1,4 @@
-// The model that the discretization begins.
+// The model as DIS begins it.
 ghost use Rattle.std.specs.Prelude.{◌≡◌, ◌-◌, pos, IfOk, length, List};
 ghost use Rattle.outside.specs.Counts.{InputCounts};
 ghost use Rattle.outside.specs.Files.{File};
@@ -17,7 +17,7 @@ use outside::{Folder, InputFault, TextFault};
 use record_lines::{Lines, Words};
 use std::alloc::Global;
 
-/// The grid line, and LAYCBD.
+/// The first line, and LAYCBD.
 #[tactic(auto, unfolding(crate::specs::Discretization::head_of))]
 fn head_of(alloc: Global, lines: &mut Lines, file: &str) -> Result<(Frame, Vec<i64>), TextFault>
     ensures head { GivesText (λ h. (h.0, h.1.items)) result lines.new (head_of file.now lines.old) }
@@ -32,7 +32,7 @@ fn head_of(alloc: Global, lines: &mut Lines, file: &str) -> Result<(Frame, Vec<i
     Ok((frame, laycbd))
 }
 
-/// A model of which this much has been read.
+/// A model of which only this has been read.
 fn begun(alloc: Global, grid: Grid, lenuni: i64, periods: Vec<Period>) -> FlowModel
     ensures { result ≡ begun grid lenuni periods.items }
 {
@@ -54,8 +54,8 @@ fn begun(alloc: Global, grid: Grid, lenuni: i64, periods: Vec<Period>) -> FlowMo
     }
 }
 
-/// The model that a file of the discretization begins: its grid and its stress periods, which have no stresses
-/// yet. `file` is the file's name, for refusals, and `folder` has the files that its arrays name.
+/// The model with what a file of the discretization gives: its grid and its stress periods, without stresses.
+/// `file` is the file's name, for refusals, and `folder` has the files that its arrays name.
 ///
 /// # Errors
 /// The first item that is wrong is refused on its line; a read fault comes only from the folder.

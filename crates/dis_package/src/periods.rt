@@ -34,7 +34,7 @@ fn bare(alloc: Global, time: &Time) -> Result<Period, AllocError>
     })
 }
 
-/// The next period; `steps` are those of the periods before it.
+/// The next period; `steps` is the number of steps of the periods before it.
 #[tactic(auto, unfolding(crate::specs::Times::period_at), using(crate::proofs::TimeLemmas::new_of))]
 fn period_at(
     alloc: Global,
@@ -81,7 +81,7 @@ fn list_of(
     Ok(periods)
 }
 
-/// So many periods, with 100000 steps in all at most.
+/// Reads `count` periods, which have at most 100000 steps in all.
 #[tactic(auto, unfolding(crate::specs::Times::periods_of))]
 pub fn periods_of(
     alloc: Global,

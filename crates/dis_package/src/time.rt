@@ -22,7 +22,7 @@ pub struct Time {
     pub steady: bool,
 }
 
-/// Whether the next word says a steady period, or a transient one.
+/// Whether the next word is SS, a steady period, or TR, a transient one.
 fn kind_of(words: &mut Words) -> Option<bool>
     ensures { result ≡ kind_of words.old }
 {

@@ -1,4 +1,4 @@
--- What the words and the files come to.
+-- The case of a run: what its words and files define.
 use Rattle.std.specs.Prelude.{◌≡◌, ℕ, List, Result, Ok, Err, Option, Some, None, IfOk, codes, if◌then◌else◌, option_and_then}
 use Rattle.outside.specs.Files.{File}
 use Rattle.outside.specs.Inputs.{file_at, file_refusal}
@@ -16,7 +16,7 @@ use Rattle.listing_io.specs.Reading.{listing_in}
 use Rattle.run_puts.specs.Lines.{Text}
 use Rattle.listing_run.specs.declared.task.Task.{Task}
 
--- A listing that the words ask for: the name of its name file, the digits of conductances, and how many plain rounds a step is given to settle.
+-- A listing that the words ask for: the name of its name file, the digits of conductances, and the number of plain rounds in which a step must settle.
 pub record Asked : Type 0 where
   pub name : Text
   pub digits : ℕ
@@ -28,20 +28,20 @@ pub record AskedCheck : Type 0 where
   pub listing : Text
   pub digits : ℕ
 
--- A command: to list a model; to make one of this seed, with so many rows and columns, and sum it up; or to check a listing of a model.
+-- A command: to list a model; to make one from this seed, with this many rows and columns, and sum it up; or to check a listing of a model.
 pub data Command : Type 0 where
   Run : Asked → Command
   Make : ℕ → ℕ → Command
   Check : AskedCheck → Command
 
--- What is built of the commands: `run`, without a zone file and without a watching seat, `make`, and `check`. The number of workers stands in no definition.
+-- The commands that are implemented: `run`, without a zone file and without a watching seat, `make`, and `check`. No definition has the number of workers.
 abbrev pub built : Wanted → Option Command
 built (Lists name digits workers rounds None None) = Some (Run (record { name = name; digits = digits; rounds = rounds }))
 built (Makes seed size) = Some (Make seed size)
 built (Checks name listing digits) = Some (Check (record { name = name; listing = listing; digits = digits }))
 built other = None
 
--- the command that the words ask for; where there is none, they aren't taken
+-- the command that the words ask for; None where they aren't accepted
 abbrev pub asked_in : List Text → Option Command
 asked_in words = option_and_then built (wanted_of words)
 
@@ -49,7 +49,9 @@ asked_in words = option_and_then built (wanted_of words)
 abbrev pub task_of : Asked → FlowModel → Task
 task_of asked m = record { model = m; digits = asked.digits; zones = None; rounds = asked.rounds }
 
--- What a run comes to: the words aren't taken; this is the first refusal; this is listed; of this seed and size a model is made, whose files read as this one or have this refusal; or these steps of a listing of a model are checked, with so many digits.
+-- The case of a run: the words aren't accepted; this is the first refusal; this is listed; a model is made from this
+-- seed and size, whose files read as this one or have this refusal; or these steps of a listing of a model are
+-- checked, with these digits.
 pub data Case : Type 0 where
   NoWords : Case
   Refuses : Refusal → Case
@@ -57,11 +59,11 @@ pub data Case : Type 0 where
   Making : ℕ → ℕ → Result FlowModel Refusal → Case
   Checking : FlowModel → ℕ → List ListedStep → Case
 
--- what a name stands for, where files under it read so; a name that isn't taken is refused before any file
+-- what a name means, by this reading of the files under it; a bad name is refused before any file
 abbrev pub named : {T : Type 0} → Text → (Text → Result T Refusal) → Result T Refusal
 named name read = if is_good_name name then read name else Err (file_refusal BadName (codes "-"))
 
--- what the files of a made model read as
+-- the model of the files of a made model
 abbrev pub made_model : ℕ → ℕ → Result FlowModel Refusal
 made_model seed size = named made_name (reads (made_files seed size))
 
@@ -70,7 +72,7 @@ abbrev pub steps_in : AskedCheck → FlowModel → Result (List ℕ) Refusal →
 steps_in asked m (Ok bytes) = listing_in m asked.digits asked.listing bytes
 steps_in asked m (Err refusal) = Err refusal
 
--- the steps of the listing that a check names; its name is tested once the model was read
+-- the steps of the listing that a check names; its name is tested once the model is read
 abbrev pub listing_read : List File → AskedCheck → FlowModel → Result (List ListedStep) Refusal
 listing_read files asked m = named asked.listing (λ name. steps_in asked m (file_at files name))
 
@@ -86,22 +88,24 @@ abbrev pub case_checked : AskedCheck → Result FlowModel Refusal → (FlowModel
 case_checked asked (Ok m) listed = case_listed asked m (listed m)
 case_checked asked (Err refusal) listed = Refuses refusal
 
--- what a command comes to, where models and listings read so
+-- the case of a command, by these readings of models and listings
 abbrev pub case_asked : Option Command → (Text → Result FlowModel Refusal) → (AskedCheck → FlowModel → Result (List ListedStep) Refusal) → Case
 case_asked None read listed = NoWords
 case_asked (Some (Run asked)) read listed = case_read asked (named asked.name read)
 case_asked (Some (Make seed size)) read listed = Making seed size (made_model seed size)
 case_asked (Some (Check asked)) read listed = case_checked asked (named asked.name read) (listed asked)
 
--- what these words and files come to
+-- the case of these words and files
 abbrev pub case_of : List Text → List File → Case
 case_of words files = case_asked (asked_in words) (reads files) (listing_read files)
 
--- what could be read where no files are known: a valid model and steps of it, or a refusal
+-- a possible result of reading where no files are known: a valid model and steps of it, or a refusal
 abbrev pub CouldRead : Result FlowModel Refusal → Result (List ListedStep) Refusal → Type 0
 CouldRead read listed = IfOk read (λ m. IsModel m × IfOk listed (AreListed m))
 
--- What they come to by these files. Where none are known there are some that could be read so.
+-- The case of the words by these files. Where none are known there is some possible result of reading.
 abbrev pub IsCase : List Text → Option (List File) → Case → Type 0
 IsCase words (Some files) case = case ≡ case_of words files
-IsCase words None case = (read : Result FlowModel Refusal) × (listed : Result (List ListedStep) Refusal) × CouldRead read listed × (case ≡ case_asked (asked_in words) (λ name. read) (λ asked m. named asked.listing (λ name. listed)))
+IsCase words None case =
+    (read : Result FlowModel Refusal) × (listed : Result (List ListedStep) Refusal) × CouldRead read listed
+    × (case ≡ case_asked (asked_in words) (λ name. read) (λ asked m. named asked.listing (λ name. listed)))

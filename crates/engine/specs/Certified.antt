@@ -1,4 +1,4 @@
--- What a certified listing says.
+-- What a certified listing promises.
 use Rattle.std.specs.Prelude.{◌≡◌, ℕ, ℤ, List, Ok, Option, Some}
 use Rattle.std.specs.Io.KnownBytes.{Appends}
 use Rattle.outside.specs.Files.{File}

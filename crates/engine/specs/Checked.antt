@@ -21,9 +21,12 @@ pub record IsCertified (m : FlowModel) (s : ℕ) (steps : List ListedStep) (piec
   pub history : HasOneHistory m
   pub are : pieces ≡ certified_line ∷ []
 
--- The check of these steps ends so, with this line: by its verdict.
+-- The check of these steps has this end and this line, by its verdict.
 abbrev pub IsCheck : FlowModel → ℕ → List ListedStep → Status → List Text → Type 0
 IsCheck m s steps status.Ok pieces = IsCertified m s steps pieces
-IsCheck m s steps (status.NotCertified period step place) pieces = IsVerdict m s steps (Fails (time period step) place) × (pieces ≡ not_certified_line m.grid (time period step) place ∷ [])
-IsCheck m s steps (status.NoBound period step n) pieces = IsVerdict m s steps (Refused (time period step) n) × (pieces ≡ no_bound_line m.grid (time period step) n ∷ [])
+IsCheck m s steps (status.NotCertified period step place) pieces =
+    IsVerdict m s steps (Fails (time period step) place)
+    × (pieces ≡ not_certified_line m.grid (time period step) place ∷ [])
+IsCheck m s steps (status.NoBound period step n) pieces =
+    IsVerdict m s steps (Refused (time period step) n) × (pieces ≡ no_bound_line m.grid (time period step) n ∷ [])
 IsCheck m s steps other pieces = ⊥

@@ -1,4 +1,4 @@
--- The commands that are built, as the program has them.
+-- The commands that are implemented, in the form of the code.
 use Rattle.std.specs.Prelude.{ℕ, ◌≤◌}
 use Rattle.settle_driver.specs.Phases.{IsPlan}
 use Rattle.engine.specs.declared.asked.Asked.{Asked as AskedBy}
@@ -7,7 +7,7 @@ use Rattle.engine.specs.declared.asked.Command.{Command as CommandBy}
 use Rattle.engine.specs.declared.asked.Command.TheVariants as command
 use Rattle.engine.specs.Cases.{Asked, AskedCheck, Command, Run, Make, Check}
 
--- the listing that is asked for; how it is settled stands in no definition, but for its rounds
+-- the listing that is asked for; of how it is settled only the rounds are part of a definition
 abbrev pub asked_of : AskedBy → Asked
 asked_of a = record { name = a.name.now; digits = a.digits; rounds = a.plan.rounds }
 

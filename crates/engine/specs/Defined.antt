@@ -1,4 +1,4 @@
--- What a case defines: how its run ends, and with which pieces.
+-- The end and the pieces that a case defines.
 use Rattle.std.specs.Prelude.{◌≡◌, List, [], ◌∷◌}
 use Rattle.command_line.specs.Usage.{usage_line}
 use Rattle.listing_io.specs.LastLines.{refused_line}
@@ -10,7 +10,9 @@ use Rattle.engine.specs.Cases.{Case, NoWords, Refuses, Listing, Making, Checking
 use Rattle.engine.specs.Made.{IsMade}
 use Rattle.engine.specs.Checked.{IsCheck}
 
--- A run of this case ends so, with these pieces: the usage line; the line of the refusal; a listing, whole or up to a step without bounds or one that the rounds don't settle; what is put of a made model; or the line of a check's verdict.
+-- A run of this case has this end and these pieces: the usage line; the line of the refusal; a listing, whole or up
+-- to a step without bounds or one that the rounds don't settle; the pieces of a made model; or the line of a check's
+-- verdict.
 abbrev pub Defines : Case → Status → List Text → Type 0
 Defines NoWords end pieces = (end ≡ status.Usage) × (pieces ≡ usage_line ∷ [])
 Defines (Refuses refusal) end pieces = (end ≡ status.Refused refusal) × (pieces ≡ refused_line refusal ∷ [])
@@ -18,18 +20,18 @@ Defines (Listing k) end pieces = IsListing k end pieces
 Defines (Making seed size read) end pieces = IsMade seed size read end pieces
 Defines (Checking m s steps) end pieces = IsCheck m s steps end pieces
 
--- files of the folder that is handed in are read: not without a command, and not to make a model
+-- the files of the given folder are read: not without a command, and not to make a model
 abbrev pub ReadsFolder : Case → Type 0
 ReadsFolder NoWords = ⊥
 ReadsFolder (Making seed size read) = ⊥
 ReadsFolder other = Unit {0}
 
--- The pieces due where a run ends so: those that its case defines, or the line READFAULT alone, where a read failed.
+-- The pieces due if a run has this end: those that its case defines, or, if a read failed, the line READFAULT alone.
 pub data Due (read_failed : Type 0) (case : Case) : Status → List Text → Type 0 where
   defined : (end : Status) (pieces : List Text) → Defines case end pieces → Due read_failed case end pieces
   unread : read_failed → ReadsFolder case → Due read_failed case status.ReadFault (read_fault_line ∷ [])
 
--- the pieces with which a run may break off for want of memory: a listing's first ones
+-- the pieces after which a run may stop because memory ran out: the first ones of a listing
 abbrev pub CutOf : Case → List Text → Type 0
 CutOf (Listing k) pieces = IsCutListing k pieces
 CutOf other pieces = ⊥

@@ -1,4 +1,4 @@
--- A model that is made of a seed: how a run of it ends, and with which pieces.
+-- A model that is made from a seed: the end and the pieces of its run.
 use Rattle.std.specs.Prelude.{◌≡◌, ℕ, ℤ, List, [], ◌∷◌, ◌++◌, Ok, Err, Option, Some, Result}
 use Rattle.std.specs.Io.KnownBytes.{Appends}
 use Rattle.outside.specs.declared.refusals.Refusal.{Refusal}
@@ -23,16 +23,16 @@ use Rattle.listing_summary.specs.Texts.{summary_text}
 use Rattle.exact_histories.specs.Histories.{HasHistory, AreSame}
 use Rattle.engine.specs.Cases.{asked_in, task_of, Make}
 
--- what is listed of it, with the digits and the rounds of a run whose words give none
+-- the task of its listing, with the digits and the rounds of a run without options
 abbrev pub made_task : FlowModel → Task
 made_task m = task_of (record { name = made_name; digits = 12; rounds = 1000000 }) m
 
--- A whole listing is put as its summary. One that ends otherwise is put as its last line.
+-- A whole listing is put as its summary, any other one as its last line.
 abbrev pub IsSummed : ℕ → ℕ → Task → Status → List Text → Type 0
 IsSummed seed size k status.Ok pieces = (s : Summary) × IsSummarized k s × (pieces ≡ summary_text seed size s ∷ [])
 IsSummed seed size k end pieces = (before : List Text) × (line : Text) × IsListing k end (before ++ (line ∷ [])) × (pieces ≡ line ∷ [])
 
--- a run of the made files, which read as this
+-- a run of the made files, with this result of reading them
 abbrev pub IsMade : ℕ → ℕ → Result FlowModel Refusal → Status → List Text → Type 0
 IsMade seed size (Err refusal) end pieces = (end ≡ status.Refused refusal) × (pieces ≡ refused_line refusal ∷ [])
 IsMade seed size (Ok m) end pieces = IsSummed seed size (made_task m) end pieces

@@ -1,4 +1,4 @@
--- What the parts of a run answer and put.
+-- What the parts of a run return and put.
 use Rattle.std.specs.Prelude.{◌≡◌, ◌⊎◌, ℕ, List, Result, Ok, Err, Option, Some, None, IfOk, codes}
 use Rattle.outside.specs.Counts.{Rose}
 use Rattle.outside.specs.Files.{File}
@@ -31,19 +31,19 @@ use Rattle.engine.specs.Checked.{certified_line}
 use Rattle.engine.specs.Made.{IsMade}
 use Rattle.engine.specs.Runs.{IsRunOf}
 
--- the puts of an end at a reading with this fault
+-- the puts of an end because of this fault of reading
 abbrev pub IsReadingEnd : InputFault → Status → List Put → Type 0
 IsReadingEnd (input.Refused refusal) end puts = IsEnd (refused_line refusal) (status.Refused refusal) end puts
 IsReadingEnd input.ReadFault end puts = IsLast read_fault_line status.ReadFault end puts
 IsReadingEnd input.Memory end puts = IsWanting end puts
 
--- the refusal of a name that isn't taken, or want of memory for it
+-- the refusal of a bad name, or lack of memory for it
 abbrev pub IsNamedFault : InputFault → Type 0
 IsNamedFault (input.Refused refusal) = refusal ≡ file_refusal BadName (codes "-")
 IsNamedFault input.ReadFault = ⊥
 IsNamedFault input.Memory = Unit {0}
 
--- A reading gave what the name stands for: by these files, or where none are known by some that read as a valid model or have a refusal.
+-- A reading gave what the name means: by these files, or where none are known by some that read as a valid model or have a refusal.
 abbrev pub IsReadAs : Text → Option (List File) → Result FlowModel InputFault → Type 0
 IsReadAs name (Some files) answer = IsReading (λ m. m) (named name (reads files)) answer
 IsReadAs name None answer = (read : Result FlowModel Refusal) × IfOk read IsModel × IsReading (λ m. m) (named name (λ n. read)) answer
@@ -51,40 +51,42 @@ IsReadAs name None answer = (read : Result FlowModel Refusal) × IfOk read IsMod
 -- A reading gave the steps that a check names: by these files, or where none are known by some that are steps of the model or have a refusal.
 abbrev pub IsListedAs : AskedCheck → FlowModel → Option (List File) → Result (List ListedStep) InputFault → Type 0
 IsListedAs asked m (Some files) answer = IsReading (λ l. l) (listing_read files asked m) answer
-IsListedAs asked m None answer = (listed : Result (List ListedStep) Refusal) × IfOk listed (AreListed m) × IsReading (λ l. l) (named asked.listing (λ n. listed)) answer
+IsListedAs asked m None answer =
+    (listed : Result (List ListedStep) Refusal) × IfOk listed (AreListed m)
+    × IsReading (λ l. l) (named asked.listing (λ n. listed)) answer
 
--- a run that stopped before it had read all
+-- a run that stopped before it had read everything
 abbrev pub IsStopped : Status → Type 0
 IsStopped end = (end ≡ status.ReadFault) ⊎ ((end ≡ status.WriteFault) ⊎ (end ≡ status.Memory))
 
--- the model of a listing or of made files is valid, and so are the steps that are checked, but where they weren't read whole
+-- the model of a listing or of made files is valid, and so are the steps that are checked, unless they weren't read whole
 abbrev pub IsValid : Case → Status → Type 0
 IsValid (Listing k) end = IsModel k.model ⊎ IsStopped end
 IsValid (Making seed size read) end = IfOk read IsModel ⊎ IsStopped end
 IsValid (Checking m s steps) end = (IsModel m × AreListed m steps) ⊎ IsStopped end
 IsValid other end = Unit {0}
 
--- all that a run comes to
+-- all facts of a run's result
 pub record Answers (words : List Text) (files : Option (List File)) (before after : ℕ) (end : Status) (puts : List Put) : Type 0 where
   pub case : Case
   pub is : IsCase words files case
   pub run : IsRunOf (Rose before after) case end puts
   pub valid : IsValid case end
 
--- The puts of an end at a summary, or where there is none.
+-- The puts of an end with a summary, or without one.
 abbrev pub IsSummaryEnd : ℕ → ℕ → Task → Result Summary Stop → Status → List Put → Type 0
 IsSummaryEnd seed size k (Ok s) end puts = IsEnd (summary_text seed size s) status.Ok end puts
 IsSummaryEnd seed size k (Err (NoBound at n)) end puts = IsEnd (no_bound_line k.model.grid at n) (status.NoBound at.period at.step n) end puts
 IsSummaryEnd seed size k (Err (Unfinished at)) end puts = IsEnd (unfinished_line at) (status.Unfinished at.period at.step) end puts
 IsSummaryEnd seed size k (Err Memory) end puts = IsWanting end puts
 
--- the puts of an end at a reading of made files with this fault
+-- the puts of an end because of this fault of reading made files
 abbrev pub IsUnreadEnd : InputFault → Status → List Put → Type 0
 IsUnreadEnd (input.Refused refusal) end puts = IsEnd (refused_line refusal) (status.Refused refusal) end puts
 IsUnreadEnd input.ReadFault end puts = IsWanting end puts
 IsUnreadEnd input.Memory end puts = IsWanting end puts
 
--- all that the run of a made model comes to
+-- all facts of the result of a made model's run
 pub record IsMadeRun (seed size : ℕ) (end : Status) (puts : List Put) : Type 0 where
   pub run : IsRun (IsMade seed size (made_model seed size)) (λ pieces. ⊥) end puts
   pub valid : IfOk (made_model seed size) IsModel ⊎ IsStopped end
@@ -95,6 +97,6 @@ IsVerdictEnd m Certified end puts = IsLast certified_line status.Ok end puts
 IsVerdictEnd m (Fails at place) end puts = IsEnd (not_certified_line m.grid at place) (status.NotCertified at.period at.step place) end puts
 IsVerdictEnd m (Unbounded at n) end puts = IsEnd (no_bound_line m.grid at n) (status.NoBound at.period at.step n) end puts
 
--- a check puts one piece, and never breaks off behind one
+-- a check puts one piece, and never stops after a piece
 abbrev pub IsUncut : List Text → Type 0
 IsUncut pieces = ⊥

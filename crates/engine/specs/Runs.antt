@@ -1,4 +1,4 @@
--- What a run puts, how it ends, and what comes for sure.
+-- What a run puts, how it ends, and which end is certain.
 use Rattle.std.specs.Prelude.{◌≡◌, ◌⊎◌, ℕ, List, Ok, Option}
 use Rattle.outside.specs.Counts.{Rose}
 use Rattle.outside.specs.Files.{File}
@@ -19,11 +19,12 @@ use Rattle.engine.specs.Cases.{Case, Listing, Making, Checking, IsCase, case_of}
 use Rattle.engine.specs.Made.{made_task}
 use Rattle.engine.specs.Defined.{Defines, Due, CutOf}
 
--- a run of this case that ends so puts these
+-- the puts of a run of this case with this end
 abbrev pub IsRunOf : Type 0 → Case → Status → List Put → Type 0
 IsRunOf read_failed case = IsRun (Due read_failed case) (CutOf case)
 
--- What a run puts, whatever its status: `leads` says which puts lead from the sink before to the sink after, and two numbers are the folder's count of faults before and after.
+-- What a run puts, for every status: `leads` says which puts take the sink from its state before to its state after,
+-- and the two numbers are the folder's counts of faults before and after.
 pub record Puts (leads : List Put → Type 0) (words : List Text) (files : Option (List File)) (before after : ℕ) (end : Status) : Type 0 where
   pub case : Case
   pub is : IsCase words files case
@@ -36,9 +37,11 @@ abbrev pub IsUnfinished : Status → Type 0
 IsUnfinished (status.Unfinished period step) = Unit {0}
 IsUnfinished other = ⊥
 
--- What the words and files define comes, but for a fault outside, want of memory, and rounds that don't settle a step.
+-- The run has the end that the words and files define, unless a read or a write fails, memory runs out, or a step doesn't settle within the rounds.
 abbrev pub Decided : Type 0 → List Text → List File → Status → Type 0
-Decided fault words files end = (meant : Status) (pieces : List Text) → Defines (case_of words files) meant pieces → (fault ⊎ IsUnfinished meant) ⊎ ((end ≡ meant) ⊎ ((end ≡ status.Memory) ⊎ IsUnfinished end))
+Decided fault words files end =
+    (meant : Status) (pieces : List Text) → Defines (case_of words files) meant pieces → (fault ⊎ IsUnfinished meant)
+    ⊎ ((end ≡ meant) ⊎ ((end ≡ status.Memory) ⊎ IsUnfinished end))
 
 -- the listing that is put, or summed up
 abbrev pub HasTask : Case → Task → Type 0
@@ -46,7 +49,7 @@ HasTask (Listing k) task = k ≡ task
 HasTask (Making seed size (Ok m)) task = made_task m ≡ task
 HasTask other task = ⊥
 
--- The words are taken, the files read as a model, none of its steps has a refusal, and the rounds settle each.
+-- The words ask for a listing or a made model, the files read as a model, none of its steps has a refusal, and the rounds settle each.
 pub record HasListing (words : List Text) (files : List File) : Type 0 where
   pub task : Task
   pub values : List Step
@@ -62,6 +65,6 @@ pub record HasCertified (words : List Text) (files : List File) : Type 0 where
   pub is : case_of words files ≡ Checking model digits steps
   pub verdict : IsVerdict model digits steps Certified
 
--- Then the listing, its summary or the verdict comes, but for a fault outside and want of memory.
+-- Then the run ends Ok, unless a read or a write fails or memory runs out.
 abbrev pub Comes : Type 0 → List Text → List File → Status → Type 0
 Comes fault words files end = HasListing words files ⊎ HasCertified words files → fault ⊎ ((end ≡ status.Ok) ⊎ (end ≡ status.Memory))

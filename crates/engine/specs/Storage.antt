@@ -1,4 +1,4 @@
--- Where storage holds the heads of a step.
+-- Storage bounds the heads of a step.
 use Rattle.std.specs.Prelude.{◌≡◌, ◌≢◌, ℕ, ◌<◌, ◌≤◌, List, length, Contains}
 use Rattle.step_problem.specs.declared.entry.Fixed.{Fixed}
 use Rattle.step_problem.specs.declared.entry.FixedKind.TheVariants.{Storage}
@@ -16,4 +16,7 @@ IsStored p = (c : ℕ) → c < length p → (x : Fixed) × Contains (entries_at 
 
 -- Then a refusal of the step is neither 24 NoBarrierLow nor 25 NoBarrierHigh.
 abbrev pub StorageHolds : Type 0
-StorageHolds = (k : Task) (at : TimeStep) (old : List Bound) (n : NoBound) → ((p : List Entries) → IsProblemOf k.model k.digits at old p → IsStored p) → HasNoBound k at old n → (n.code ≢ 24) × (n.code ≢ 25)
+StorageHolds =
+    (k : Task) (at : TimeStep) (old : List Bound) (n : NoBound) →
+    ((p : List Entries) → IsProblemOf k.model k.digits at old p → IsStored p) → HasNoBound k at old n → (n.code ≢ 24)
+    × (n.code ≢ 25)

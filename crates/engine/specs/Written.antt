@@ -13,7 +13,8 @@ use Rattle.engine.specs.Checked.{certified_line}
 use Rattle.engine.specs.Defined.{Defines}
 use Rattle.engine.specs.OneListing.{OneListing}
 
--- These words ask for the check of a file that has these bytes, at most a file's limit, as a listing with the task's digits, where the files read as the task's model.
+-- These words ask for the check of a file with these bytes, at most a file's limit, as a listing with the task's
+-- digits, and the files read as the task's model.
 pub record ChecksWritten (words : List Text) (files : List File) (k : Task) (bytes : List ℕ) : Type 0 where
   pub asked : AskedCheck
   pub wanted : asked_in words ≡ Some (Check asked)
@@ -21,7 +22,7 @@ pub record ChecksWritten (words : List Text) (files : List File) (k : Task) (byt
   pub read : named asked.name (reads files) ≡ Ok k.model
   pub listing : named asked.listing (file_at files) ≡ Ok bytes
 
--- What a run writes that ends Ok is certified, where its model is valid: a check of it ends Ok, with the line CERTIFIED.
+-- What a run that ends Ok writes is certified, if its model is valid: a check of it ends Ok, with the line CERTIFIED.
 abbrev pub WrittenIsCertified : Type 0
 WrittenIsCertified = (k : Task) (pieces words : List Text) (files : List File) → IsModel k.model → Defines (Listing k) status.Ok pieces → ChecksWritten words files k (concat pieces) → Defines (case_of words files) status.Ok (certified_line ∷ [])
 

@@ -8,7 +8,7 @@ ghost use Rattle.engine.specs.Commands.{command_of, IsCommand};
 use command_line::Order;
 use settle_driver::Plan;
 
-// Turns of a worker for each cell in a phase.
+// The turns of a worker for each cell in a phase.
 const TURNS: u32 = 64;
 
 /// A listing that is asked for: the name of its name file, the digits of conductances, and how each step is settled.
@@ -27,7 +27,7 @@ pub(crate) struct AskedCheck<'a> {
     pub(crate) digits: u32,
 }
 
-/// A command that is built.
+/// A command that is implemented.
 #[derive(Clone, Copy, Debug, PartialEq, Eq)]
 pub(crate) enum Command<'a> {
     Run(Asked<'a>),
@@ -35,7 +35,7 @@ pub(crate) enum Command<'a> {
     Check(AskedCheck<'a>),
 }
 
-/// What is listed of a made model, with the digits, the workers and the rounds of a run whose words give none.
+/// The listing of a made model, with the digits, the workers and the rounds of a run without options.
 pub(crate) const MADE_DIGITS: u32 = 12;
 
 pub(crate) const MADE_PLAN: Plan = Plan {
@@ -44,7 +44,7 @@ pub(crate) const MADE_PLAN: Plan = Plan {
     rounds: 1_000_000,
 };
 
-/// The command that an order asks for, where it is built.
+/// The command that an order asks for; None where it isn't implemented.
 pub(crate) fn command_of<'a>(order: Order<'a>) -> Option<Command<'a>>
     requires { IsInRange (wanted order) }
     ensures is { option_map command_of result ≡ built (wanted order.entry) }

@@ -45,7 +45,7 @@ pub(crate) fn read_listed<F: Folder>(
     Ok(listing)
 }
 
-// Puts a last line, or the line MEMORY where memory was wanting for it.
+// Puts a last line, or the line MEMORY if there was no memory for it.
 fn put_line<K: Sink>(out: &mut K, line: Result<Vec<u8>, AllocError>, meant: Status) -> Status
     ensures { (start : _) (puts : List Put) → K.leads start puts out.old →
         (tail : List Put) × K.leads start (puts ++ tail) out.new × MatchResult line (λ text. IsLast text.items meant result tail) (λ _. IsWanting result tail) }
@@ -124,7 +124,9 @@ fn check_model<'a, F: Folder, K: Sink>(
     ensures since { (files : List File) → F.agrees folder.new files → F.agrees folder.old files }
     ensures answers { (start : _) (puts : List Put) → K.leads start puts out.old →
         (more : List Put) × K.leads start (puts ++ more) out.new
-        × ((words : List Text) → asked_in words ≡ Some (Check (check_of asked.entry)) → (files : Option (List File)) → IfSome files (F.agrees folder.new) → IsReadAs (check_of asked.entry).name files (Ok model.now) → Answers words files (F.faults folder.old) (F.faults folder.new) result more) }
+        × ((words : List Text) → asked_in words ≡ Some (Check (check_of asked.entry)) → (files : Option (List File)) →
+        IfSome files (F.agrees folder.new) → IsReadAs (check_of asked.entry).name files (Ok model.now) →
+        Answers words files (F.faults folder.old) (F.faults folder.new) result more) }
 {
     match read_listed(alloc, folder, model, asked) {
         Ok(listing) => put_check(alloc, model, &listing, asked.digits, out),
@@ -143,7 +145,9 @@ pub(crate) fn check<'a, F: Folder, K: Sink>(
     ensures since { (files : List File) → F.agrees folder.new files → F.agrees folder.old files }
     ensures answers { (start : _) (puts : List Put) → K.leads start puts out.old →
         (more : List Put) × K.leads start (puts ++ more) out.new
-        × ((words : List Text) → asked_in words ≡ Some (Check (check_of asked.entry)) → (files : Option (List File)) → IfSome files (F.agrees folder.new) → Answers words files (F.faults folder.old) (F.faults folder.new) result more) }
+        × ((words : List Text) → asked_in words ≡ Some (Check (check_of asked.entry)) → (files : Option (List File)) →
+        IfSome files (F.agrees folder.new) →
+        Answers words files (F.faults folder.old) (F.faults folder.new) result more) }
 {
     match read_named(alloc, folder, asked.name) {
         Ok(model) => check_model(alloc, asked, &model, folder, out),

@@ -1,4 +1,4 @@
-// The end of a run that has read nothing.
+// The end of a run that has read no model.
 ghost use Rattle.std.specs.Prelude.{List, ◌++◌};
 ghost use Rattle.outside.specs.Puts.{Put};
 ghost use Rattle.engine.specs.Parts.{IsReadingEnd};
@@ -8,7 +8,7 @@ use outside::{InputFault, Sink};
 use run_puts::{Status, put_last, put_memory};
 use std::alloc::Global;
 
-/// Ends where the files have no model.
+/// Ends a run whose files have no model.
 pub(crate) fn end_reading<K: Sink>(alloc: Global, fault: InputFault, out: &mut K) -> Status
     ensures { (start : _) (puts : List Put) → K.leads start puts out.old →
         (more : List Put) × K.leads start (puts ++ more) out.new × IsReadingEnd fault result more }

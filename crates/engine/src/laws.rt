@@ -10,7 +10,7 @@ pub fn storage_holds()
     ensures { StorageHolds }
 {}
 
-/// What `run` writes, `check` certifies.
+/// `check` certifies what `run` writes.
 pub fn written_is_certified()
     ensures { WrittenIsCertified }
 {

@@ -1,4 +1,4 @@
-// The engine: what the program's words ask is done here, from a folder's files to the bytes that are put.
+//! The engine: does what the program's words ask for, from a folder's files to the bytes that are put.
 #![tactic(auto)]
 
 mod asked;

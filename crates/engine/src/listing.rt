@@ -17,7 +17,7 @@ use std::alloc::Global;
 use std::thread::Threads;
 use step_problem::{Barrier, Bound, Problem, SettleFault};
 
-/// Puts the listing of a task, of which each step is settled by this plan. Workers pass the gate before each turn.
+/// Puts the listing of a task, each step settled by this plan. Workers pass the gate before each turn.
 pub(crate) fn put_listing<R: Threads + Sync, K: Sink + Send, G: Gate + Sync>(
     rt: &R,
     alloc: Global,

@@ -1,4 +1,4 @@
-// A model that is made of a seed, and the summary of its listing.
+// A model that is made from a seed, and the summary of its listing.
 ghost use Rattle.std.specs.Prelude.{◌≡◌, List, ◌++◌, Ok, IfOk, IfErr};
 ghost use Rattle.outside.specs.Puts.{Put};
 ghost use Rattle.step_problem.specs.Heads.{IsBarrier};
@@ -25,7 +25,7 @@ use std::alloc::Global;
 use std::thread::Threads;
 use step_problem::{Barrier, Bound, Problem, SettleFault};
 
-// The summary of the listing of a task, of which each step is settled by workers in threads.
+// The summary of a task's listing, each step settled by workers in threads.
 fn summarize_by_workers<R: Threads + Sync, G: Gate + Sync>(
     rt: &R,
     alloc: Global,
@@ -49,7 +49,7 @@ fn summarize_by_workers<R: Threads + Sync, G: Gate + Sync>(
     summarize(alloc, task, &mut settler)
 }
 
-// Ends with a summary, or where there is none.
+// Ends with a summary, or with the reason why there is none.
 fn end_summary<K: Sink>(
     alloc: Global,
     seed: u32,
@@ -87,7 +87,7 @@ fn end_summary<K: Sink>(
     }
 }
 
-// Ends where the made files have no model. They stand in memory, so a fault of reading them is want of memory.
+// Ends a run whose made files have no model. They are in memory, so a fault of reading them means that memory ran out.
 fn end_unread<K: Sink>(alloc: Global, fault: InputFault, out: &mut K) -> Status
     ensures { (start : _) (puts : List Put) → K.leads start puts out.old →
         (more : List Put) × K.leads start (puts ++ more) out.new × IsUnreadEnd fault result more }
@@ -126,7 +126,7 @@ fn put_summary<R: Threads + Sync, K: Sink, G: Gate + Sync>(
     end_summary(alloc, seed, size, &task, summed, out)
 }
 
-/// Makes the model of a seed and a size, reads its files as those of a folder are read, and puts the summary of its
+/// Makes the model of a seed and a size, reads its files like those of a folder, and puts the summary of its
 /// listing, or the last line of a listing that isn't whole.
 pub(crate) fn put_made<R: Threads + Sync, K: Sink, G: Gate + Sync>(
     rt: &R,

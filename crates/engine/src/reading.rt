@@ -1,4 +1,4 @@
-// The model under a name.
+// The model of a name.
 ghost use Rattle.std.specs.Prelude.{◌≡◌, IfOk, IfSome, List, Option};
 ghost use Rattle.outside.specs.Counts.{InputCounts};
 ghost use Rattle.outside.specs.Files.{File};
@@ -10,7 +10,7 @@ use model_types::FlowModel;
 use outside::{Code, Folder, InputFault, file_refusal, is_good_name};
 use std::alloc::Global;
 
-/// The refusal of a name that isn't taken.
+/// The refusal of a bad name.
 pub(crate) fn bad_name(alloc: Global) -> InputFault
     ensures { IsNamedFault result }
 {

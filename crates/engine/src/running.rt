@@ -33,12 +33,12 @@ use std::thread::Threads;
 const USAGE: &[u8] =
     b"USAGE: heads run NAME [--digits S] [--workers W] [--rounds P] [--zones Z] [--watch N] | heads check NAME LISTING [--digits S] | heads make SEED SIZE | heads batch LIST [--digits S] [--workers W] [--rounds P]\n";
 
-/// Does what the words ask: `run NAME` reads the model of that name file from the folder and puts its listing to
-/// `out`, step by step; `make SEED SIZE` makes a model, for which the folder isn't asked, and puts the summary of its
-/// listing; `check NAME LISTING` reads the model and a listing of it, whoever wrote it, and puts whether it is certified,
+/// Does what the words ask for. `run NAME` reads the model of that name file from the folder and puts its listing to
+/// `out`, step by step. `make SEED SIZE` makes a model, without the folder, and puts the summary of its listing.
+/// `check NAME LISTING` reads the model and a listing of it, whoever wrote it, and puts whether it is certified,
 /// or else the first place that fails. Nothing is put to `side`. Workers in threads settle each step, and pass the gate
-/// before each turn; a check has none. Other commands, a zone file and a watching seat aren't built yet, and are answered
-/// with the usage line.
+/// before each turn; a check has none. Other commands, a zone file and a watching seat aren't implemented; for these it
+/// puts the usage line.
 pub fn run<R: Threads + Sync, F: Folder, K: Sink + Send, W: Sink + Send, G: Gate + Sync>(
     rt: &R,
     alloc: Global,
@@ -48,13 +48,13 @@ pub fn run<R: Threads + Sync, F: Folder, K: Sink + Send, W: Sink + Send, G: Gate
     side: &mut W,
     gate: &G,
 ) -> Status
-    // What is put to out, after whatever status, with the cause of each, by files that agree with all that the folder
-    // has answered, or whatever they are; and to side.
+    // What is put to `out`, for every status, with the status' cause, by the files that agree with all results of the
+    // folder, or by any files; and to `side`.
     ensures puts { (files : Option (List File)) → IfSome files (F.agrees folder.new) →
         Puts (λ puts. K.leads out.old puts out.new) (map (λ w. w.now) words.now) files (F.faults folder.old) (F.faults folder.new) result }
     ensures side { W.leads side.old [] side.new }
 
-    // Files that agree with all that the folder has answered agreed with it before.
+    // Files that agree with all results of the folder agreed with it before.
     ensures since { (files : List File) → F.agrees folder.new files → F.agrees folder.old files }
 
     // Some files agree with all that the folder has answered.
@@ -77,18 +77,21 @@ pub fn run<R: Threads + Sync, F: Folder, K: Sink + Send, W: Sink + Send, G: Gate
         Made (map (λ w. w.now) words.now) (K.seen out.old).written (K.seen out.new).written }
 
     // A check that ends Ok certifies the listing that the words name.
-    ensures certified { result ≡ Status.Ok → (asked : AskedCheck) → asked_in (map (λ w. w.now) words.now) ≡ Some (Check asked) → (files : List File) → F.agrees folder.new files →
+    ensures certified { result ≡ Status.Ok → (asked : AskedCheck) →
+        asked_in (map (λ w. w.now) words.now) ≡ Some (Check asked) → (files : List File) → F.agrees folder.new files →
         Certified (map (λ w. w.now) words.now) files (K.seen out.old).written (K.seen out.new).written }
 
-    // The causes that are counts.
+    // These statuses have a count as their cause.
     ensures read_fault { result ≡ Status.ReadFault → Rose (F.faults folder.old) (F.faults folder.new) }
     ensures write_fault { result ≡ Status.WriteFault → Rose (K.seen out.old).faults (K.seen out.new).faults }
 
-    // What the words and files define comes, where nothing outside failed.
+    // The end that the words and files define is the end of the run, if nothing outside failed.
     ensures decided { (files : List File) → F.agrees folder.new files →
-        Decided (Rose (F.faults folder.old) (F.faults folder.new) ⊎ Rose (K.seen out.old).faults (K.seen out.new).faults) (map (λ w. w.now) words.now) files result }
+        Decided (Rose (F.faults folder.old) (F.faults folder.new)
+        ⊎ Rose (K.seen out.old).faults (K.seen out.new).faults) (map (λ w. w.now) words.now) files result }
     ensures complete { (files : List File) → F.agrees folder.new files →
-        Comes (Rose (F.faults folder.old) (F.faults folder.new) ⊎ Rose (K.seen out.old).faults (K.seen out.new).faults) (map (λ w. w.now) words.now) files result }
+        Comes (Rose (F.faults folder.old) (F.faults folder.new)
+        ⊎ Rose (K.seen out.old).faults (K.seen out.new).faults) (map (λ w. w.now) words.now) files result }
 {
     let _side = side;
     one_listing();
@@ -107,7 +110,8 @@ fn answer<R: Threads + Sync, F: Folder, K: Sink + Send, G: Gate + Sync>(
     ensures since { (files : List File) → F.agrees folder.new files → F.agrees folder.old files }
     ensures answers { (start : _) (puts : List Put) → K.leads start puts out.old →
         (more : List Put) × K.leads start (puts ++ more) out.new
-        × ((files : Option (List File)) → IfSome files (F.agrees folder.new) → Answers (map (λ w. w.now) words.now) files (F.faults folder.old) (F.faults folder.new) result more) }
+        × ((files : Option (List File)) → IfSome files (F.agrees folder.new) →
+        Answers (map (λ w. w.now) words.now) files (F.faults folder.old) (F.faults folder.new) result more) }
 {
     let order = match read_order(alloc, words) {
         Ok(order) => order,
@@ -134,7 +138,9 @@ fn put_model<'a, R: Threads + Sync, K: Sink + Send, G: Gate + Sync>(
     requires asked { IsAsked asked }
     requires model { IsModel model }
     ensures { (start : _) (puts : List Put) → K.leads start puts out.old →
-        (more : List Put) × K.leads start (puts ++ more) out.new × IsRun (IsListing (task_of (asked_of asked.entry) model)) (IsCutListing (task_of (asked_of asked.entry) model)) result more }
+        (more : List Put) × K.leads start (puts ++ more) out.new
+        × IsRun (IsListing (task_of (asked_of asked.entry) model))
+        (IsCutListing (task_of (asked_of asked.entry) model)) result more }
 {
     let task = Task {
         model,
@@ -158,7 +164,9 @@ fn list<'a, R: Threads + Sync, F: Folder, K: Sink + Send, G: Gate + Sync>(
     ensures since { (files : List File) → F.agrees folder.new files → F.agrees folder.old files }
     ensures answers { (start : _) (puts : List Put) → K.leads start puts out.old →
         (more : List Put) × K.leads start (puts ++ more) out.new
-        × ((words : List (List ℕ)) → asked_in words ≡ Some (Run (asked_of asked.entry)) → (files : Option (List File)) → IfSome files (F.agrees folder.new) → Answers words files (F.faults folder.old) (F.faults folder.new) result more) }
+        × ((words : List (List ℕ)) → asked_in words ≡ Some (Run (asked_of asked.entry)) →
+        (files : Option (List File)) → IfSome files (F.agrees folder.new) →
+        Answers words files (F.faults folder.old) (F.faults folder.new) result more) }
 {
     match read_named(alloc, folder, asked.name) {
         Ok(model) => put_model(rt, alloc, asked, model, out, gate),

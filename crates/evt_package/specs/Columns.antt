@@ -15,7 +15,9 @@ use Rattle.evt_package.specs.Faults.{evap_fault}
 -- the first active cell of column i among n layers from layer k on
 unfoldable pub highest : Grid → List ℤ → ℕ → ℕ → ℕ → Option ℕ
 highest grid ibound i k zero = None
-highest grid ibound i k (suc n) = if is_nonzero (int_at ibound (k * layer_size grid + i)) then Some (k * layer_size grid + i) else highest grid ibound i (k + 1) n
+highest grid ibound i k (suc n) =
+    if is_nonzero (int_at ibound (k * layer_size grid + i)) then Some (k * layer_size grid + i)
+    else highest grid ibound i (k + 1) n
 
 -- the cell of column i in a layer counted from 1
 abbrev pub in_layer : Grid → ℕ → Option ℕ → Option ℕ
@@ -24,7 +26,10 @@ in_layer grid i (Some k) = Some ((k - 1) * layer_size grid + i)
 
 -- the cell of column i that is chosen: that of layer 1 under option 1, of the layer which the array names under option 2, else the highest active one
 abbrev pub chosen : Grid → List ℤ → ℤ → List ℤ → ℕ → Option ℕ
-chosen grid ibound option layers i = if is_int option 1 then Some i else (if is_int option 2 then in_layer grid i (within (int_at layers i) grid.layers) else highest grid ibound i 0 grid.layers)
+chosen grid ibound option layers i =
+    if is_int option 1 then Some i
+    else (if is_int option 2 then in_layer grid i (within (int_at layers i) grid.layers)
+    else highest grid ibound i 0 grid.layers)
 
 -- a period's numbers at column i
 abbrev pub source : Period → ℕ → EvapSource

@@ -20,11 +20,11 @@ use Rattle.evt_package.specs.declared.arrays.Arrays.{Arrays}
 use Rattle.evt_package.specs.declared.arrays.Last.{Last}
 use Rattle.evt_package.specs.declared.read.Evaporation.{Evaporation}
 
--- INIEVT stands under option 2 alone
+-- INIEVT is there only under option 2
 abbrev pub layer_flag : Bool → List ℕ → ℕ → Bool → List (List ℕ) → Result (Bool × List (List ℕ)) Refusal
 layer_flag layered file line listed words = if layered then flag_at file line listed words else Ok (false, words)
 
--- INSURF, INEVTR, INEXDP and INIEVT, behind these last arrays
+-- INSURF, INEVTR, INEXDP and INIEVT, after these last arrays
 unfoldable pub flags_of : Bool → List ℕ → ℕ → Last → List (List ℕ) → Result Flags Refusal
 flags_of layered file line last words = do
   surface ← flag_at file line (is_some last.surfaces) words
@@ -42,7 +42,7 @@ arrays_of files file grid flags s = do
   layers ← updated_layers files file grid flags.layer s.0.layers depths.1
   Ok (record { surfaces = surfaces.0; rates = rates.0; depths = depths.0; layers = layers.0 }, layers.1)
 
--- those that stand
+-- the arrays in force
 abbrev pub standing : Last → Arrays
 standing last = record { surf = or_empty last.surfaces; evtr = or_empty last.rates; exdp = or_empty last.depths; ievt = or_empty last.layers }
 
@@ -73,7 +73,9 @@ abbrev pub without_state : {X S : Type 0} → Result (X × S) Refusal → Result
 without_state read = read >>= λ x. Ok x.0
 
 unfoldable pub periods_of : List File → List ℕ → Grid → List ℤ → ℤ → List Period → Left → Result (List Period) Refusal
-periods_of files file grid ibound option periods left = without_state (for_each (period_at files file grid ibound option) periods (record { surfaces = None; rates = None; depths = None; layers = None }, left))
+periods_of files file grid ibound option periods left =
+    without_state (for_each (period_at files file grid ibound option) periods
+    (record { surfaces = None; rates = None; depths = None; layers = None }, left))
 
 -- NEVTOP and IEVTCB
 unfoldable pub option_line : List ℕ → Left → Result (ℤ × Left) Refusal

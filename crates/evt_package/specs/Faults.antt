@@ -20,4 +20,8 @@ has_extinction surface depth = is_reached (floor surface 9) (ceiling depth 9)
 
 -- EVTR isn't below 0; where it is above 0, EXDP is above 0, and the surface and the extinction elevation are heads
 abbrev pub evap_fault : EvapSource → Option Code
-evap_fault x = if x.rate.neg then Some BadProperty else (if x.rate.digits == 0 then None else (if not (is_positive x.depth) then Some BadProperty else (if is_head x.surface && has_extinction x.surface x.depth then None else Some HeadTooLarge)))
+evap_fault x =
+    if x.rate.neg then Some BadProperty
+    else (if x.rate.digits == 0 then None
+    else (if not (is_positive x.depth) then Some BadProperty
+    else (if is_head x.surface && has_extinction x.surface x.depth then None else Some HeadTooLarge)))

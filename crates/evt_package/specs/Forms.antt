@@ -1,4 +1,4 @@
--- What is known of evapotranspiration that was read, whatever the folder tells.
+-- What is known of evapotranspiration that was read, whatever the folder returned.
 use Rattle.std.specs.Prelude.{◌≡◌, ℕ, ℤ, ◌≤ℤ◌, pos, true, false, List, [], Ok, All, map, length, is_some, IfSome, IsSomeAnd}
 use Rattle.model_types.specs.declared.grid.Grid.{Grid}
 use Rattle.model_types.specs.declared.model.FlowModel.{FlowModel}
@@ -18,14 +18,14 @@ pub record AreLast (grid : Grid) (last : Last) : Type 0 where
   pub depths : IfSome last.depths (IsReals grid)
   pub layers : IfSome last.layers (IsWhole grid)
 
--- after a period was read by these flags: each array stands that came anew, or stood before
+-- after a period was read by these flags: there is each array that was read anew or existed before
 pub record HasLast (grid : Grid) (flags : Flags) (before after : Last) : Type 0 where
   pub surfaces : (flags.surface ≡ false → is_some before.surfaces ≡ true) → IsSomeAnd after.surfaces (IsReals grid)
   pub rates : (flags.rate ≡ false → is_some before.rates ≡ true) → IsSomeAnd after.rates (IsReals grid)
   pub depths : (flags.depth ≡ false → is_some before.depths ≡ true) → IsSomeAnd after.depths (IsReals grid)
   pub layers : (flags.layer ≡ false → is_some before.layers ≡ true) → IsSomeAnd after.layers (IsWhole grid)
 
--- a period's arrays, where layers stand under option 2 alone, and whose columns passed their tests
+-- a period's arrays, whose columns passed their tests; there are layers only under option 2
 pub record AreArrays (file : List ℕ) (grid : Grid) (ibound : List ℤ) (option : ℤ) (p : Period) : Type 0 where
   pub surfaces : IsReals grid p.surf
   pub rates : IsReals grid p.evtr
@@ -49,7 +49,7 @@ pub record IsEvaporating (file : List ℕ) (m : FlowModel) : Type 0 where
   pub option : (pos 1 ≤ℤ m.nevtop) × (m.nevtop ≤ℤ pos 3)
   pub periods : All (HasEvaporation file m) m.periods
 
--- another model differs in its evapotranspiration alone
+-- another model differs only in its evapotranspiration
 pub record SameBut (m n : FlowModel) : Type 0 where
   pub model : n ≡ record m { nevtop = n.nevtop; periods = n.periods }
   pub periods : map without n.periods ≡ map without m.periods

@@ -1,4 +1,4 @@
-// The arrays that stand, and those of the next period.
+// The arrays in force, and those of the next period.
 ghost use Rattle.std.specs.Prelude.{◌≡◌, IfOk, true, List};
 ghost use Rattle.outside.specs.Counts.{InputCounts};
 ghost use Rattle.outside.specs.Files.{File};
@@ -18,7 +18,7 @@ use period_arrays::{array_of, update_layers, update_reals};
 use record_lines::{Lines, Words};
 use std::alloc::{AllocError, Global};
 
-/// The arrays that stand: the last surfaces, rates, depths and layers.
+/// The arrays in force: the last surfaces, rates, depths and layers that were read.
 #[derive(Debug, Drop)]
 pub struct Last {
     pub surfaces: Option<Shared<Dec>>,
@@ -27,8 +27,8 @@ pub struct Last {
     pub layers: Option<Shared<i64>>,
 }
 
-/// The arrays of a period: for each column of layers a surface, a greatest rate and an extinction depth, and the
-/// layers, where they are named.
+/// The arrays of a period: for each column of layers a surface, a greatest rate and an extinction depth and,
+/// where the file names them, the layers.
 #[derive(Debug, Drop)]
 pub struct Arrays {
     pub surf: Shared<Dec>,
@@ -37,7 +37,7 @@ pub struct Arrays {
     pub ievt: Shared<i64>,
 }
 
-/// The arrays that stand, which a period shares.
+/// The arrays in force, which a period shares.
 fn standing(alloc: Global, last: &Last) -> Result<Arrays, AllocError>
     ensures { IfOk result (λ a. a ≡ standing last.now) }
 {
@@ -68,7 +68,8 @@ fn arrays_of<F: Folder>(
     requires last { AreLast grid.now last.old }
     ensures since { (files : List File) → F.agrees folder.new files → F.agrees folder.old files }
     ensures counts { InputCounts (F.faults folder.old) (F.faults folder.new) result }
-    ensures arrays { (files : List File) → F.agrees folder.new files → Gives (λ _. last.new) result lines.new (arrays_of files file.now grid.now flags (last.old, lines.old)) }
+    ensures arrays { (files : List File) → F.agrees folder.new files →
+        Gives (λ _. last.new) result lines.new (arrays_of files file.now grid.now flags (last.old, lines.old)) }
     ensures last { IfOk result (λ _. AreLast grid.now last.new) }
     ensures some { IfOk result (λ _. HasLast grid.now flags last.old last.new) }
 {
@@ -117,7 +118,7 @@ fn is_layered(option: &i64) -> bool
     *option == 2
 }
 
-/// The arrays of the next period, which then stand.
+/// The arrays of the next period, which are then in force.
 #[tactic(auto, unfolding(crate::specs::Evaporation::arrays_at))]
 pub fn arrays_at<F: Folder>(
     alloc: Global,
@@ -132,7 +133,9 @@ pub fn arrays_at<F: Folder>(
     requires last { AreLast grid.now last.old }
     ensures since { (files : List File) → F.agrees folder.new files → F.agrees folder.old files }
     ensures counts { InputCounts (F.faults folder.old) (F.faults folder.new) result }
-    ensures arrays { (files : List File) → F.agrees folder.new files → Gives (λ a. a) result (last.new, lines.new) (arrays_at files file.now grid.now option.now (last.old, lines.old)) }
+    ensures arrays { (files : List File) → F.agrees folder.new files →
+        Gives (λ a. a) result (last.new, lines.new)
+        (arrays_at files file.now grid.now option.now (last.old, lines.old)) }
     ensures last { IfOk result (λ _. AreLast grid.now last.new) }
     ensures surfaces { IfOk result (λ a. IsReals grid.now a.surf) }
     ensures rates { IfOk result (λ a. IsReals grid.now a.evtr) }

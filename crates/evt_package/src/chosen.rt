@@ -50,7 +50,7 @@ fn in_layer(grid: &Grid, column: u32, layer: i64) -> Option<u32>
     }
 }
 
-/// The cell of a column that the option chooses, if there is one.
+/// The cell of a column that the option chooses; None where there is none.
 #[tactic(auto, using(period_arrays::proofs::PlaceLemmas::in_grid))]
 pub fn chosen(grid: &Grid, ibound: &[i64], option: &i64, layers: &[i64], column: u32) -> Option<u32>
     requires size { HasSize grid.now }

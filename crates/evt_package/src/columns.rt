@@ -47,7 +47,7 @@ fn column_fault(period: &Period, column: u32) -> Option<Code>
     )
 }
 
-/// The fault of a cell that a column chooses, if it is active.
+/// The fault of the cell that a column chooses, if that is active.
 fn cell_fault(ibound: &[i64], period: &Period, column: u32, cell: u32) -> Option<Code>
     requires surfaces { All IsDec period.now.surf }
     requires depths { All IsDec period.now.exdp }
@@ -84,7 +84,7 @@ fn column_tested(
     }
 }
 
-/// The first column whose chosen cell is active and fails a test is refused at that cell.
+/// Refuses the first column whose chosen cell is active and fails a test, at that cell.
 #[tactic(auto, unfolding(crate::specs::Columns::columns_tested))]
 pub fn columns_tested(
     alloc: Global,

@@ -9,7 +9,7 @@ use period_arrays::flag_at;
 use record_lines::Words;
 use std::alloc::Global;
 
-/// Which arrays of a period are read anew. The others stand again.
+/// Which arrays of a period are read anew. The others are used again.
 #[derive(Clone, Copy, Debug, PartialEq, Eq)]
 pub struct Flags {
     pub surface: bool,
@@ -36,7 +36,7 @@ fn layer_flag(
     }
 }
 
-/// The flags of a period by the words of its line; `layered` tells whether layers are named.
+/// The flags of a period by the words of its line; `layered` says whether the file names layers.
 #[tactic(auto, unfolding(crate::specs::Evaporation::flags_of))]
 pub fn flags_of(
     alloc: Global,

@@ -49,7 +49,7 @@ fn tested_period(
     Ok(period)
 }
 
-/// The next period with its arrays, which then stand. Its columns are tested.
+/// The next period with its arrays, which are then in force. Its columns are tested.
 #[tactic(auto, unfolding(crate::specs::Evaporation::period_at), using(crate::proofs::PeriodForms::are_arrays))]
 fn period_at<F: Folder>(
     alloc: Global,
@@ -66,7 +66,9 @@ fn period_at<F: Folder>(
     requires last { AreLast grid.now last.old }
     ensures since { (files : List File) → F.agrees folder.new files → F.agrees folder.old files }
     ensures counts { InputCounts (F.faults folder.old) (F.faults folder.new) result }
-    ensures period { (files : List File) → F.agrees folder.new files → Gives (λ p. p) result (last.new, lines.new) (period_at files file.now grid.now ibound.now option.now period (last.old, lines.old)) }
+    ensures period { (files : List File) → F.agrees folder.new files →
+        Gives (λ p. p) result (last.new, lines.new)
+        (period_at files file.now grid.now ibound.now option.now period (last.old, lines.old)) }
     ensures last { IfOk result (λ _. AreLast grid.now last.new) }
     ensures arrays { IfOk result (AreArrays file.now grid.now ibound.now option.now) }
     ensures others { IfOk result (λ p. without p ≡ without period) }
@@ -77,7 +79,7 @@ fn period_at<F: Folder>(
     Ok(tested)
 }
 
-/// The periods with their arrays, where these were the last.
+/// The periods with their arrays, where `last` are the arrays in force.
 fn with_evaporation<F: Folder>(
     alloc: Global,
     lines: &mut Lines,
@@ -93,7 +95,9 @@ fn with_evaporation<F: Folder>(
     requires last { AreLast grid.now last.old }
     ensures since { (files : List File) → F.agrees folder.new files → F.agrees folder.old files }
     ensures counts { InputCounts (F.faults folder.old) (F.faults folder.new) result }
-    ensures periods { (files : List File) → F.agrees folder.new files → Gives (λ v. v.items) result (last.new, lines.new) (for_each (period_at files file.now grid.now ibound.now option.now) periods.items (last.old, lines.old)) }
+    ensures periods { (files : List File) → F.agrees folder.new files →
+        Gives (λ v. v.items) result (last.new, lines.new)
+        (for_each (period_at files file.now grid.now ibound.now option.now) periods.items (last.old, lines.old)) }
     ensures arrays { IfOk result (λ v. All (AreArrays file.now grid.now ibound.now option.now) v.items) }
     ensures others { IfOk result (λ v. map without v.items ≡ map without periods.items) }
 {
@@ -122,7 +126,8 @@ pub fn periods_of<F: Folder>(
     requires size { HasSize grid.now }
     ensures since { (files : List File) → F.agrees folder.new files → F.agrees folder.old files }
     ensures counts { InputCounts (F.faults folder.old) (F.faults folder.new) result }
-    ensures periods { (files : List File) → F.agrees folder.new files → Has (λ v. v.items) result (periods_of files file.now grid.now ibound.now option.now periods.items lines.old) }
+    ensures periods { (files : List File) → F.agrees folder.new files →
+        Has (λ v. v.items) result (periods_of files file.now grid.now ibound.now option.now periods.items lines.old) }
     ensures arrays { IfOk result (λ v. All (AreArrays file.now grid.now ibound.now option.now) v.items) }
     ensures others { IfOk result (λ v. map without v.items ≡ map without periods.items) }
 {

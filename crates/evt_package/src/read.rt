@@ -17,7 +17,7 @@ use period_arrays::option_at;
 use record_lines::{Lines, Words};
 use std::alloc::Global;
 
-/// What a file of the package says: NEVTOP, and the periods with their arrays.
+/// The contents of a file of the package: NEVTOP, and the periods with their arrays.
 #[derive(Debug, Drop)]
 pub struct Evaporation {
     pub nevtop: i64,
@@ -50,7 +50,8 @@ fn evaporation_of<F: Folder>(
     requires size { HasSize grid.now }
     ensures since { (files : List File) → F.agrees folder.new files → F.agrees folder.old files }
     ensures counts { InputCounts (F.faults folder.old) (F.faults folder.new) result }
-    ensures evaporation { (files : List File) → F.agrees folder.new files → Has (λ e. e) result (evaporation_of files file.now bytes.now grid.now ibound.now periods.items) }
+    ensures evaporation { (files : List File) → F.agrees folder.new files →
+        Has (λ e. e) result (evaporation_of files file.now bytes.now grid.now ibound.now periods.items) }
     ensures option { IfOk result (λ e. (pos 1 ≤ℤ e.nevtop) × (e.nevtop ≤ℤ pos 3)) }
     ensures arrays { IfOk result (λ e. All (AreArrays file.now grid.now ibound.now e.nevtop) e.periods) }
     ensures others { IfOk result (λ e. map without e.periods ≡ map without periods.items) }
@@ -102,13 +103,13 @@ fn with_evaporation<F: Folder>(
 
 /// The model with the evapotranspiration of a file of the package EVT: the option NEVTOP, and in each stress period the
 /// surfaces, greatest rates and extinction depths and, under option 2, the layers. `file` is the file's name, for
-/// refusals, and `folder` has the files that its arrays name. An array that a period reuses is shared, and stands in
+/// refusals, and `folder` has the files that its arrays name. An array that a period reuses is shared, so it is in
 /// memory once.
 ///
 /// # Errors
 /// The first item that is wrong is refused on its line: OutOfProfile for parameters and for another option,
-/// NothingToReuse where a first array is to be reused; with line 0 and the cell CellOutside for a layer that the grid
-/// lacks, and, once all arrays of a period stand, BadProperty or HeadTooLarge at an active cell that is chosen. A read
+/// NothingToReuse where there is no array to reuse; with line 0 and the cell CellOutside for a layer that the grid
+/// lacks, and, once all arrays of a period are read, BadProperty or HeadTooLarge at an active cell that is chosen. A read
 /// fault comes only from the folder. (TM 6-A16, EVT)
 pub fn read_evt<F: Folder>(
     alloc: Global,

@@ -17,7 +17,7 @@ fn is_reached(surface: Option<i128>, depth: Option<i128>) -> bool
     }
 }
 
-/// Whether the extinction elevation is a head, from the floor of the surface and the ceiling of the depth in units of
+/// Whether the extinction elevation is a head, by the floor of the surface and the ceiling of the depth in units of
 /// 10 ^ -9 length units.
 #[tactic(auto, unfolding(crate::specs::Faults::has_extinction))]
 pub fn has_extinction(surface: Dec, depth: Dec) -> bool

@@ -6,10 +6,10 @@ abbrev pub sign : ℤ → List ℕ
 sign (pos n) = []
 sign (negsuc n) = codes "-"
 
--- the digits of n, with zeros before them up to this many places
+-- the digits of n, with leading zeros up to this many digits
 abbrev pub padded : ℕ → ℕ → List ℕ
 padded places n = replicate (places - length (decimal n)) 48 ++ decimal n
 
--- z units of 10 ^ -places, as a number with a point
+-- z * 10 ^ -places, written with a point
 abbrev pub fixed_text : ℕ → ℤ → List ℕ
 fixed_text places z = sign z ++ decimal (nat_abs z / 10 ^ places) ++ codes "." ++ padded places (nat_abs z % 10 ^ places)

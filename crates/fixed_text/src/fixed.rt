@@ -26,7 +26,7 @@ fn push_zeros(text: &mut Vec<u8>, count: usize) -> Result<(), AllocError>
     Ok(())
 }
 
-/// Writes a number in digits, without zeros in front.
+/// Appends a number in decimal, without leading zeros.
 pub fn push_number(text: &mut Vec<u8>, n: u128) -> Result<(), AllocError>
     ensures { IfOk result (λ _. text.new.items ≡ text.old.items ++ decimal n) }
 {
@@ -43,8 +43,8 @@ fn push_padded(text: &mut Vec<u8>, places: usize, n: u128) -> Result<(), AllocEr
     text.extend_from_slice(digits)
 }
 
-/// Writes a number of units of 10 ^ -places, with a minus sign where it is negative, a point, and so
-/// many digits behind the point.
+/// Appends z * 10 ^ -places: a minus sign if z is negative, the whole part, a point, and exactly
+/// `places` digits.
 pub fn push_fixed(text: &mut Vec<u8>, places: u32, z: i128) -> Result<(), AllocError>
     requires some { 0 < places }
     requires few { places ≤ 27 }

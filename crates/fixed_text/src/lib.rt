@@ -1,4 +1,4 @@
-// Whole numbers and numbers in fixed point, as text.
+//! Whole numbers and numbers in fixed point, as text.
 #![tactic(auto)]
 
 mod fixed;

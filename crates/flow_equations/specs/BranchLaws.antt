@@ -1,4 +1,4 @@
--- What conductances owe to the manual and to the textbook (TM 6-A16, chapter 5).
+-- Conductances by the manual and the textbook (TM 6-A16, chapter 5).
 use Rattle.std.specs.Prelude.{◌≡◌, ℕ, ◌<◌}
 use Rattle.decimal_input.specs.Canonical.{size}
 use Rattle.decimal_input.specs.Ratios.{Ratio, times, over, AtMost, Same}
@@ -22,7 +22,10 @@ pub record AreAlike (m : FlowModel) (a b : ℕ) : Type 0 where
 
 -- Between two cells that are alike Darcy's law has one conductance: HK * THICK * DELC / DELR.
 abbrev pub MeetsDarcy : FlowModel → Type 0
-MeetsDarcy m = (a b : ℕ) → AreAlike m a b → Same (row_conductance m a b) (over (times (times (size (hk_at m a)) (thickness m a)) (size (delc_at m a))) (size (delr_at m a)))
+MeetsDarcy m =
+    (a b : ℕ) → AreAlike m a b →
+    Same (row_conductance m a b) (over (times (times (size (hk_at m a)) (thickness m a)) (size (delc_at m a)))
+    (size (delr_at m a)))
 
 -- two cells of one column with the same positive widths, conductivities and thickness
 pub record AreAlikeInAColumn (m : FlowModel) (a b : ℕ) : Type 0 where
@@ -40,9 +43,11 @@ MeetsDarcyAlongColumns m = (a b : ℕ) → AreAlikeInAColumn m a b →
 
 -- Between square cells of unit conductivity and unit thickness it is 1.
 abbrev pub HasUnitBranches : FlowModel → Type 0
-HasUnitBranches m = (a b : ℕ) → AreAlike m a b → Same (size (delr_at m a)) (size (delc_at m a)) → Same (size (hk_at m a)) one → Same (thickness m a) one → Same (row_conductance m a b) one
+HasUnitBranches m =
+    (a b : ℕ) → AreAlike m a b → Same (size (delr_at m a)) (size (delc_at m a)) → Same (size (hk_at m a)) one →
+    Same (thickness m a) one → Same (row_conductance m a b) one
 
--- Twice the conductance of two halves in a row is their harmonic mean: it lies between the two halves' conductances, which are one over their resistances.
+-- Twice the conductance of two halves in series is their harmonic mean: it lies between the two halves' conductances, which are one over their resistances.
 pub record IsBetweenHalves (r₁ r₂ : Ratio) : Type 0 where
   pub least : AtMost (over one r₂) (times two (in_a_row r₁ r₂))
   pub most : AtMost (times two (in_a_row r₁ r₂)) (over one r₁)

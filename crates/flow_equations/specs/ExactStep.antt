@@ -1,4 +1,5 @@
--- The exact finite-difference equations of one time step of a model (TM 6-A16, chapters 2, 5 and 6): for each variable cell of the period all that flows into it, each with its exact conductance, head or flow.
+-- The exact finite-difference equations of one time step of a model (TM 6-A16, chapters 2, 5 and 6): for each
+-- variable cell of the period all that flows into it, each with its exact conductance, head or flow.
 use Rattle.std.specs.Prelude.{ℕ, List, map}
 use Rattle.decimal_input.specs.Canonical.{number, size}
 use Rattle.decimal_input.specs.Fractions.{Fraction}
@@ -13,7 +14,8 @@ use Rattle.model_types.specs.Storage.{storage}
 use Rattle.model_types.specs.Kinds.{variable_cells, index_of}
 use Rattle.model_types.specs.Heads.{constant_head}
 use Rattle.model_types.specs.Receivers.{EvapSource, recharge_flow, evap_conductance, extinction}
-use Rattle.model_types.specs.Sources.{FixedSource, FlowSource, RiverSource, DrainSource, variable_faces, flow_sources, fixed_sources, river_sources, drain_sources, evap_sources}
+use Rattle.model_types.specs.Sources.{FixedSource, FlowSource, RiverSource, DrainSource, variable_faces, flow_sources}
+use Rattle.model_types.specs.Sources.{fixed_sources, river_sources, drain_sources, evap_sources}
 use Rattle.model_types.specs.Sources.FixedSource.{ToConstant, ToGeneral, FromStorage}
 use Rattle.model_types.specs.Sources.FlowSource.{Pumped, Received}
 
@@ -30,7 +32,8 @@ module _ (m : FlowModel) (p n : ℕ) (old : ℕ → Fraction) where
   abbrev pub exact_link : Face → ExactLink
   exact_link x = record { cell = index_of m p x.end; conductance = conductance m x.axis x.first }
 
-  -- a branch of cell c to a known head: a constant-head neighbour's at this step, a general head, or the cell's old head over its storage (TM 6-A16, chapters 2 and 6)
+  -- a branch of cell c to a known head: a constant-head neighbour's at this step, a general head, or the cell's old
+  -- head over its storage (TM 6-A16, chapters 2 and 6)
   abbrev pub exact_fixed : ℕ → FixedSource → ExactFixed
   exact_fixed c (ToConstant x) = record { kind = Constant; source = x.end; conductance = conductance m x.axis x.first; head = constant_head m p n x.end }
   exact_fixed c (ToGeneral head cond) = record { kind = General; source = c; conductance = size cond; head = number head }

@@ -1,4 +1,5 @@
--- What it is that a history of heads solves a model's equations at every time step (TM 6-A16, chapter 2). A vector of heads has a whole numerator for each cell, by cell number; all vectors of a history stand over one denominator d.
+-- What it means that a history of heads solves a model's equations at every time step (TM 6-A16, chapter 2). A vector
+-- of heads has a whole numerator for each cell, by cell number; all vectors of a history have one denominator d.
 use Rattle.std.specs.Prelude.{◌≡◌, ℕ, ◌<◌, true, ℤ, List, [], ◌∷◌}
 use Rattle.decimal_input.specs.Fractions.{Fraction, IsOver}
 use Rattle.model_types.specs.declared.model.FlowModel.{FlowModel}
@@ -19,7 +20,8 @@ heads_of d X c = share d (X c)
 abbrev pub variable_heads : List ExactCell → (ℕ → ℤ) → ℕ → ℤ
 variable_heads e X k = X (cell_at e k).id
 
--- X over d solves a time step, where the heads of the step before are `old`: each constant-head cell has its head, and the balance of each variable cell is zero.
+-- X over d solves a time step, where the heads of the step before are `old`: each constant-head cell has its head,
+-- and the balance of each variable cell is zero.
 pub record SolvesAt (m : FlowModel) (at : TimeStep) (old : ℕ → Fraction) (d : ℕ) (X : ℕ → ℤ) : Type 0 where
   pub constant : (c : ℕ) → c < cell_count m.grid → is_constant m at.period c ≡ true → IsOver d (constant_head m at.period at.step c) (X c)
   pub balances : SolvesStep (exact_step m at.period at.step old) d (variable_heads (exact_step m at.period at.step old) X)

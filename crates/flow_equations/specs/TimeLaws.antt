@@ -1,4 +1,4 @@
--- What time steps owe to the manual (TM 6-A16, chapters 2 and 4).
+-- Time steps by the manual (TM 6-A16, chapters 2 and 4).
 use Rattle.std.specs.Prelude.{◌≡◌, ℕ, ◌+◌, ◌≤◌, false, List, [], ◌∷◌}
 use Rattle.std.specs.List.{range_with_len}
 use Rattle.decimal_input.specs.Canonical.{size}
@@ -15,7 +15,7 @@ abbrev pub ratio_total : (ℕ → Ratio) → List ℕ → Ratio
 ratio_total f [] = ratio 0 1
 ratio_total f (n ∷ ns) = plus (f n) (ratio_total f ns)
 
--- a transient period with at least one step, in which time passes
+-- a transient period of positive length with at least one step
 pub record Lasts (p : Period) : Type 0 where
   pub transient : p.steady ≡ false
   pub perlen : IsPositive p.perlen
@@ -30,12 +30,13 @@ pub record HasManualSteps (p : Period) : Type 0 where
   -- each step is TSMULT times as long as the one before
   pub grows : (n : ℕ) → 1 ≤ n → Same (step_length p (n + 1)) (times (size p.tsmult) (step_length p n))
   -- the first one by the manual's formula, dt * (T^NSTP - 1) = PERLEN * (T - 1), with what is subtracted on the other side
-  pub first : Same (plus (times (step_length p 1) (power (size p.tsmult) p.nstp)) (size p.perlen)) (plus (times (size p.perlen) (size p.tsmult)) (step_length p 1))
+  pub first : Same (plus (times (step_length p 1) (power (size p.tsmult) p.nstp)) (size p.perlen))
+      (plus (times (size p.perlen) (size p.tsmult)) (step_length p 1))
   -- steps of one length where TSMULT is 1
   pub equal : HasEqualSteps p → (n : ℕ) → Same (step_length p n) (over (size p.perlen) (ratio p.nstp 1))
   -- all steps together are the period
   pub whole : Same (ratio_total (step_length p) (range_with_len 1 p.nstp)) (size p.perlen)
-  -- and the steps up to the n-th are the part F of it
+  -- the steps up to the n-th are the part F of it
   pub part : (n : ℕ) → 1 ≤ n → n ≤ p.nstp → Same (ratio_total (step_length p) (range_with_len 1 n)) (times (passed p n) (size p.perlen))
 
 abbrev pub StepsAreTheManuals : Type 0

@@ -1,4 +1,5 @@
--- Models that are solved by hand. Lengths in metres; cells of length, width and thickness 1 and conductivity 1, so that each conductance between neighbours is 1.
+-- Models that are solved by hand. Lengths in metres; cells of length, width and thickness 1 and conductivity 1, so
+-- that each conductance between neighbours is 1.
 use Rattle.std.specs.Prelude.{ℕ, ℤ, pos, negsuc, Bool, true, false, List, [], ◌∷◌, replicate}
 use Rattle.decimal_input.specs.declared.dec.Dec.{Dec}
 use Rattle.model_types.specs.declared.grid.Grid.{Grid}
@@ -9,7 +10,7 @@ use Rattle.model_types.specs.declared.entry.Entry.{Entry}
 use Rattle.model_types.specs.declared.entry.Entry.TheVariants.{Well}
 use Rattle.model_types.specs.Layers.{no_number}
 
--- a whole number, and its negative, in canonical form: digits without a last zero
+-- a whole number, and its negative, in canonical form: digits without a trailing zero
 abbrev pub decimal : ℕ → ℕ → Dec
 decimal digits zeros = record { neg = false; digits = digits; exp = pos zeros }
 
@@ -21,15 +22,59 @@ cell c = record { 0 = c }
 
 -- a layer of one row of cells
 abbrev pub row_of_cells : ℕ → Grid
-row_of_cells n = record { layers = 1; rows = 1; cols = n; delr = replicate n (decimal 1 0); delc = decimal 1 0 ∷ []; top = replicate n (decimal 1 0); bottom = replicate n no_number; laycbd = pos 0 ∷ []; bed_bottom = replicate n no_number }
+row_of_cells n =
+    record {
+      layers = 1;
+      rows = 1;
+      cols = n;
+      delr = replicate n (decimal 1 0);
+      delc = decimal 1 0 ∷ [];
+      top = replicate n (decimal 1 0);
+      bottom = replicate n no_number;
+      laycbd = pos 0 ∷ [];
+      bed_bottom = replicate n no_number;
+    }
 
 -- a period of length `length` in `steps` steps with these wells
 abbrev pub period_with : Bool → Dec → ℕ → List Entry → Period
-period_with steady length steps wells = record { perlen = length; nstp = steps; tsmult = decimal 1 0; steady = steady; wells = wells; rivers = []; drains = []; generals = []; given = []; recharge = []; irch = []; surf = []; evtr = []; exdp = []; ievt = [] }
+period_with steady length steps wells =
+    record {
+      perlen = length;
+      nstp = steps;
+      tsmult = decimal 1 0;
+      steady = steady;
+      wells = wells;
+      rivers = [];
+      drains = [];
+      generals = [];
+      given = [];
+      recharge = [];
+      irch = [];
+      surf = [];
+      evtr = [];
+      exdp = [];
+      ievt = [];
+    }
 
 -- a row of cells with these IBOUND, STRT, specific storages and period
 abbrev pub row_model : List ℤ → List Dec → List Dec → Period → ℕ → FlowModel
-row_model ibound strt ss period n = record { grid = row_of_cells n; lenuni = pos 2; ibound = ibound; strt = strt; layvka = pos 0 ∷ []; coefficient = false; hk = replicate n (decimal 1 0); hani = replicate n (decimal 1 0); vka = replicate n (decimal 1 0); ss = ss; vkcb = replicate n no_number; nrchop = pos 0; nevtop = pos 0; periods = period ∷ [] }
+row_model ibound strt ss period n =
+    record {
+      grid = row_of_cells n;
+      lenuni = pos 2;
+      ibound = ibound;
+      strt = strt;
+      layvka = pos 0 ∷ [];
+      coefficient = false;
+      hk = replicate n (decimal 1 0);
+      hani = replicate n (decimal 1 0);
+      vka = replicate n (decimal 1 0);
+      ss = ss;
+      vkcb = replicate n no_number;
+      nrchop = pos 0;
+      nevtop = pos 0;
+      periods = period ∷ [];
+    }
 
 -- Three cells in a row: constant heads of 10 and 20 at the ends, a variable head between them.
 abbrev pub three_cells : FlowModel
@@ -37,12 +82,14 @@ three_cells = row_model (negsuc 0 ∷ pos 1 ∷ negsuc 0 ∷ []) (decimal 1 1 �
 
 -- Three cells and one more without flow; the entries of WEL in a constant-head cell and in one without flow have no effect.
 abbrev pub idle_wells : FlowModel
-idle_wells = row_model (negsuc 0 ∷ pos 1 ∷ negsuc 0 ∷ pos 0 ∷ []) (decimal 1 1 ∷ no_number ∷ decimal 2 1 ∷ below_zero 999 ∷ []) [] (period_with true (decimal 1 0) 1 (Well (cell 0) (decimal 7 0) ∷ Well (cell 3) (below_zero 3) ∷ [])) 4
+idle_wells =
+    row_model (negsuc 0 ∷ pos 1 ∷ negsuc 0 ∷ pos 0 ∷ []) (decimal 1 1 ∷ no_number ∷ decimal 2 1 ∷ below_zero 999 ∷ [])
+    [] (period_with true (decimal 1 0) 1 (Well (cell 0) (decimal 7 0) ∷ Well (cell 3) (below_zero 3) ∷ [])) 4
 
 -- One cell with a starting head of 10, unit storage, and a well that takes 5: three steps of length 1.
 abbrev pub one_cell : FlowModel
 one_cell = row_model (pos 1 ∷ []) (decimal 1 1 ∷ []) (decimal 1 0 ∷ []) (period_with false (decimal 3 0) 3 (Well (cell 0) (below_zero 5) ∷ [])) 1
 
--- Two variable cells that nothing else holds.
+-- Two variable cells without any other flow.
 abbrev pub two_cells : FlowModel
 two_cells = row_model (pos 1 ∷ pos 1 ∷ []) (decimal 1 1 ∷ decimal 1 1 ∷ []) [] (period_with true (decimal 1 0) 1 []) 2

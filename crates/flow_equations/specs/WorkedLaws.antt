@@ -13,7 +13,7 @@ pub record ThreeCells : Type 0 where
   pub valid : IsModel three_cells
   pub solved : Solves three_cells 1 (vector (pos 10 ∷ pos 15 ∷ pos 20 ∷ []) ∷ [])
 
--- and wells in cells that aren't variable leave it
+-- wells in cells that aren't variable have no effect
 pub record IdleWells : Type 0 where
   pub valid : IsModel idle_wells
   pub solved : Solves idle_wells 1 (vector (pos 10 ∷ pos 15 ∷ pos 20 ∷ []) ∷ [])
@@ -23,7 +23,7 @@ pub record OneCell : Type 0 where
   pub valid : IsModel one_cell
   pub solved : Solves one_cell 1 (vector (pos 5 ∷ []) ∷ vector (pos 0 ∷ []) ∷ vector (negsuc 4 ∷ []) ∷ [])
 
--- any head is a solution where it is the same in both cells
+-- any head is a solution if it is the same in both cells
 pub record TwoCells : Type 0 where
   pub valid : IsModel two_cells
   pub solved : (d : ℕ) (z : ℤ) → 0 < d → Solves two_cells d ((λ c. z) ∷ [])

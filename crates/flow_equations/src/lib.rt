@@ -1,4 +1,5 @@
-//! The exact equations of a model's time steps, and what it is that a history of heads solves them. Nothing of this crate runs in the program: its public functions are laws, each the contract of an empty function.
+//! The exact equations of a model's time steps, and what it means that a history of heads solves them. Nothing of
+//! this crate runs in the program: its public functions are laws, each the contract of an empty function.
 #![tactic(auto)]
 
 pub mod branches;

@@ -16,7 +16,7 @@ pub fn one_transient_cell()
     ensures { OneCell }
 {}
 
-/// Two cells that nothing holds: every head is a solution.
+/// Two cells without any other flow: every head is a solution.
 pub fn two_loose_cells()
     ensures { TwoCells }
 {}

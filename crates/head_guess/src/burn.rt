@@ -1,10 +1,10 @@
-// A unit pass: settled heads are lowered by a unit, and those that rise again stay.
+// A unit pass: settled heads are lowered by a unit, and those that rise again stay where they were.
 use crate::one_side::OneSide;
 use multigrid::numbers::{at, label, long_at, put};
 use std::alloc::{AllocError, Global};
 use step_problem::Link;
 
-/// What a unit pass did: the cells that rose again, in their order, and how many stay a unit lower.
+/// The result of a unit pass: the cells that rose again, in their order, and how many stay a unit lower.
 #[derive(Drop)]
 pub struct UnitPass {
     pub order: Vec<u32>,
@@ -19,7 +19,7 @@ struct Fire {
     order: Vec<u32>,
 }
 
-// What the flow over a link gains when the head of its other end goes up by a unit, to `there`.
+// The gain of the flow over a link when the head of its other end rises by a unit, to `there`.
 fn gain(link: &Link, there: i64, here: i64) -> i128 {
     if there > here {
         link.lo as i128
@@ -63,7 +63,7 @@ impl Fire {
         self.burnt.get(cell).copied().unwrap_or(true)
     }
 
-    // A cell has risen again: its neighbours gain, and some rise.
+    // A cell has risen again: the balances of its neighbours grow, and some of these rise.
     fn spread_from(
         &mut self,
         side: &OneSide,
@@ -96,7 +96,7 @@ impl Fire {
         Ok(())
     }
 
-    // Lowers the cells that have not risen again, and answers how many.
+    // Lowers the cells that have not risen again, and returns how many.
     fn lower(&self, heads: &mut [i64]) -> usize {
         let mut lowered = 0_usize;
         for cell in 0..heads.len() {

@@ -11,17 +11,17 @@ use std::alloc::{AllocError, Global};
 
 const MOST_PASSES: u32 = 1_000_000;
 
-// Unit passes before the first gallop, between two that gain, and between two at most.
+// The number of unit passes before the first gallop, between two gallops that gain, and at most between two.
 const FIRST_WAIT: u32 = 32;
 
 const SHORT_WAIT: u32 = 8;
 
 const LONG_WAIT: u32 = 64;
 
-// A gallop gains where it takes a head so many units down.
+// A gallop gains if it lowers a head by at least this many units.
 const GAIN: i64 = 64;
 
-// The units at most of the first step along a shape.
+// The greatest number of units of the first step along a shape.
 const SHAPE_UNITS: i64 = 16;
 
 // Rounds of conjugate gradients for a shape.
@@ -65,7 +65,7 @@ fn find_shape(
     Ok(shape)
 }
 
-// Goes on along the way that the passes since `from` went, and along the shape in which the cells of the last one fall.
+// Gallops along the way of the passes since `from`, and along the shape in which the cells of the last pass fall.
 fn gallop_on(
     alloc: Global,
     side: &OneSide,
@@ -81,7 +81,7 @@ fn gallop_on(
 }
 
 /// Lowers settled heads by unit passes, and by gallops along the way that the last ones went, until a pass moves
-/// nothing or the budget ends. Answers the order in which the cells rose again in the last pass.
+/// nothing or the budget ends. Returns the order in which the cells rose again in the last pass.
 pub fn descend(
     alloc: Global,
     side: &OneSide,

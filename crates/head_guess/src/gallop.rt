@@ -1,4 +1,4 @@
-// Lowering settled heads along a way, in longer and longer steps.
+// Lowering settled heads along a way, in steps that grow.
 use crate::one_side::OneSide;
 use crate::raise::raise_within;
 use crate::ways::{Fall, double, fall_between, halve, way_between};
@@ -31,7 +31,7 @@ struct Progress {
 }
 
 impl Progress {
-    // Heads settled lower: the next step is twice as long as what was kept. Whether there is one: where half was kept.
+    // The heads settled lower: the next step is twice as long as what was kept. Returns whether half was kept, so that there is a next step.
     fn go_on(
         &mut self,
         alloc: Global,
@@ -46,7 +46,7 @@ impl Progress {
         Ok(!self.is_last && kept.sum.saturating_mul(2) >= wanted.sum)
     }
 
-    // Heads did not settle: the next step is half as long, and the last one. Whether there is one.
+    // The heads did not settle: the next step is half as long, and the last one. Returns whether there is one.
     fn fall_short(&mut self) -> bool {
         if self.is_last || self.gained == 0 {
             return false;
@@ -57,14 +57,14 @@ impl Progress {
     }
 }
 
-// Each step that is followed by another one keeps half of its way at least.
+// A step that is followed by another one keeps at least half of its way.
 const MOST_STEPS: u32 = 64;
 
-// Turns that a step may take at each cell that it moves.
+// The number of turns that a step may take at each cell that it moves.
 const TURNS: u64 = 20;
 
 /// Lowers settled heads along a way, and then by twice what was kept of the last step, as long as they settle
-/// within a few turns at each cell that moves, and keep half. They stay settled. Answers the longest fall.
+/// within a few turns at each cell that moves, and keep half. They stay settled. Returns the longest fall.
 pub fn gallop(
     alloc: Global,
     side: &OneSide,

@@ -11,7 +11,7 @@ use multigrid::numbers::{at, greatest};
 use std::alloc::{AllocError, Global};
 use step_problem::{Barrier, Bound, FixedKind, Problem, Side};
 
-/// Heads near the settled ones, one bound for each cell, and cells in an order in which relaxing them takes heads
+/// Heads near the settled ones, one bound for each cell, and cells in an order in which relaxing them moves heads
 /// that are a unit off back to the settled ones at once.
 #[derive(Drop)]
 pub struct Guess {
@@ -19,8 +19,8 @@ pub struct Guess {
     pub order: Vec<u32>,
 }
 
-// Visits at each cell for balanced heads, and for the search and the descent; the latter get more where the room is
-// wide, since there plain sweeps take about ten times as many.
+// The visits at each cell for balanced heads, and for the search and the descent. The latter get more where the room
+// is wide, since plain sweeps there take about ten times as many.
 const VISITS_OF_NEWTON: u64 = 12_000;
 
 const VISITS_OF_DESCENT: u64 = 2_000;
@@ -38,7 +38,7 @@ fn descent_budget(balanced: &Balanced, cells: usize) -> Budget {
 struct HalfGuess {
     heads: Vec<i64>,
     order: Vec<u32>,
-    // The balanced heads, and the share of the room that was found, where one was.
+    // The balanced heads, and the share of the room that was found; None where none was.
     balanced: Vec<i64>,
     share: i64,
 }
@@ -70,7 +70,7 @@ fn half_guess(
     })
 }
 
-// Where a cell has storage its old head, else its ceiling: there rivers and drains take part.
+// The old head of a cell with storage, else its ceiling: at the ceiling rivers and drains have their effect.
 fn start_of(p: &Problem, b: &Barrier, cell: usize) -> i64 {
     let ceiling = at(b.ceiling.as_slice(), cell);
     if p.len() <= cell {

@@ -1,4 +1,4 @@
-//! A guess of the settled heads of a step's problem, in whole numbers. Nothing rests on it but time.
+//! A guess of the settled heads of a step's problem, in whole numbers. Only running time depends on it.
 #![tactic(auto)]
 
 mod burn;

@@ -27,7 +27,7 @@ impl Marks {
         }
     }
 
-    /// Whether the cell was in the set, which it leaves.
+    /// Removes the cell from the set, and returns whether it was in the set.
     pub fn take(&mut self, cell: usize) -> bool {
         let Some(word) = self.words.as_mut_slice().get_mut(cell / CELLS) else {
             return false;

@@ -38,8 +38,8 @@ impl Newton {
         })
     }
 
-    // The slope that the next round takes at a cell. Over a bend it is the greater of those at the head and from the
-    // head before, and it is given up by halves, so that heads do not swing about the bend.
+    // The slope of the next round at a cell. Where the balance bends it is the greater of the slope at the head and the
+    // slope from the head before. It is lowered only half way in each round, so that heads do not oscillate.
     fn slope(&self, side: &OneSide, cell: usize, balance: i128) -> i64 {
         let heads = self.heads.as_slice();
         let here = slope_at(side, cell, balance, heads);
@@ -62,7 +62,7 @@ impl Newton {
         }
     }
 
-    // The longest of the moves that would take away each balance alone.
+    // The longest of the moves that would each cancel one balance alone.
     fn longest_move(&self) -> i128 {
         let mut longest = 0_i128;
         for (balance, slope) in self.balances.iter().zip(self.slopes.as_slice()) {
@@ -72,7 +72,7 @@ impl Newton {
         longest
     }
 
-    // Moves the heads by unknowns of 2^-places, and answers the longest move.
+    // Moves the heads by unknowns of 2^-places, and returns the longest move.
     fn advance(&mut self, side: &OneSide, unknowns: &[i64], places: i64) -> i128 {
         let mut longest = 0_i128;
         let half = shifted(1, places.saturating_sub(1));
@@ -88,7 +88,7 @@ impl Newton {
         longest
     }
 
-    // One round; answers the longest move.
+    // One round. Returns the longest move.
     fn step(&mut self, side: &OneSide, solver: &mut Solver, budget: &mut Budget) -> i128 {
         let places = 20_i64.saturating_sub(width(self.longest_move()) as i64);
         solver.set_right_side(self.balances.as_slice(), places);

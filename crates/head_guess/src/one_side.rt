@@ -10,7 +10,7 @@ use step_problem::{Link, Problem, Side, high_at, low_at};
 
 const LIMIT: i128 = HEAD_LIMIT as i128;
 
-/// One side of a problem, seen so that heads rise: the lower heads above their floor, or the upper heads with
+/// One side of a problem, turned so that heads rise: the lower heads above their floor, or the upper heads with
 /// the opposite sign, whose floor is the ceiling.
 #[derive(Drop)]
 pub struct OneSide<'a> {
@@ -59,7 +59,7 @@ impl OneSide<'_> {
     }
 
     /// The balance of a cell at a head of its own: the lower one, or the upper one with the opposite sign. It falls
-    /// in the cell's own head, and may be answered where it is not negative.
+    /// in the cell's own head, and the cell may rise where it is not negative.
     pub fn balance(&self, cell: usize, own: i64, heads: &[i64]) -> i128 {
         if self.problem.len() <= cell {
             return 0;
@@ -87,7 +87,7 @@ impl OneSide<'_> {
         }
     }
 
-    /// Whether the balance of a cell has no bend but its links' and its known heads'.
+    /// Whether the balance of a cell is linear: it has only links and known heads.
     pub fn is_straight(&self, cell: usize) -> bool {
         if self.problem.len() <= cell {
             return true;

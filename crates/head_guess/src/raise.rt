@@ -5,7 +5,7 @@ use multigrid::Budget;
 use multigrid::numbers::{at, put};
 use std::alloc::{AllocError, Global};
 
-// Raises a cell, at most to its cap, and marks its neighbours that can still rise. Whether it moved.
+// Raises a cell, at most to its cap, and marks its neighbours that can still rise. Returns whether it moved.
 fn turn(side: &OneSide, heads: &mut [i64], caps: &[i64], cell: usize, marks: &mut Marks) -> bool {
     let head = side.raised(cell, heads).min(at(caps, cell));
     if head == at(heads, cell) {
@@ -21,7 +21,7 @@ fn turn(side: &OneSide, heads: &mut [i64], caps: &[i64], cell: usize, marks: &mu
     true
 }
 
-// A place counted from the front, or from the back.
+// A place counted from the start, or from the end.
 fn place(k: usize, of: usize, down: bool) -> usize {
     if down {
         of.saturating_sub(1).saturating_sub(k)
@@ -83,7 +83,7 @@ fn marks_below(alloc: Global, heads: &[i64], caps: &[i64]) -> Result<Marks, Allo
 
 const MOST_SWEEPS: u32 = 1_000_000;
 
-// Raises heads until nothing moves any more, or the budget ends. Whether nothing moves.
+// Raises heads until nothing moves any more, or the budget ends. Returns whether nothing moves.
 fn raise(
     side: &OneSide,
     heads: &mut [i64],
@@ -109,8 +109,8 @@ pub struct Raised {
     pub turns: u64,
 }
 
-/// Raises heads, none above its cap, by sweeps up and down over the cells beside a change, until nothing moves or so
-/// many turns are made.
+/// Raises heads, none above its cap, by sweeps up and down over the cells next to a change, until nothing moves or
+/// `turns` turns are made.
 pub fn raise_within(
     alloc: Global,
     side: &OneSide,

@@ -7,7 +7,7 @@ use multigrid::numbers::{at, greatest};
 use std::alloc::{AllocError, Global};
 use step_problem::problem::HEAD_LIMIT;
 
-/// Settled heads, and how far below the balanced ones they began: by so great a share of the room, in units of
+/// Settled heads, and how far below the balanced ones the search started: by this share of the room, in units of
 /// 2^-20.
 #[derive(Drop)]
 pub struct Settled {
@@ -23,10 +23,10 @@ pub const FIRST_SHARE: i64 = 686_080;
 
 const MOST_TRIALS: u32 = 60;
 
-// Turns at each cell that a trial may take: heads that are settled or a little too low settle in fewer.
+// The number of turns at each cell that a trial may take: heads that are settled or a little too low settle in fewer.
 const TURNS: u64 = 20;
 
-// The search ends where a step of the share moves no head by more than so many units.
+// The search ends where a step of the share moves no head by more than this many units.
 const NEAR: i128 = 64;
 
 fn heads_below(
@@ -45,7 +45,7 @@ fn heads_below(
     Ok(heads)
 }
 
-// The shares between which the search goes on: one that settled, or the least, and one that did not, or the whole.
+// The shares between which the search continues: one that settled, or the least, and one that did not, or the whole.
 #[derive(Drop)]
 struct Search {
     low: i64,
@@ -64,7 +64,7 @@ impl Search {
         }
     }
 
-    // One more trial, from so great a share.
+    // One more trial, from this share.
     fn try_share(
         &mut self,
         alloc: Global,
@@ -94,7 +94,7 @@ impl Search {
         Ok(())
     }
 
-    // The next share: near the first one, in longer and longer steps down while nothing settles; then the middle.
+    // The next share: near the first one, in steps down that grow while nothing settles; then the middle.
     fn next_share(&self) -> i64 {
         if self.trials == 1 && self.found.is_some() {
             return self.low.saturating_add(WHOLE / 64);
@@ -107,7 +107,7 @@ impl Search {
         self.low.saturating_add(width / 2)
     }
 
-    // Whether the heads at both shares are near one another, where the greatest room is this.
+    // Whether the heads at both shares are near each other, where this is the greatest room.
     fn is_done(&self, room: i64) -> bool {
         let width = self.high.saturating_sub(self.low);
         let units = (width as i128 * room as i128).wrapping_shr(30);
@@ -116,7 +116,7 @@ impl Search {
     }
 }
 
-/// Settled heads from balanced ones, with a share of the room that is nearly as great as it may be.
+/// Settled heads from balanced ones, with a share of the room that is nearly the greatest possible.
 pub fn settled_below(
     alloc: Global,
     side: &OneSide,

@@ -5,15 +5,15 @@ use multigrid::{Budget, Levels, Matrix};
 use std::alloc::{AllocError, Global};
 use step_problem::Link;
 
-// Making the levels takes about so many visits at each cell.
+// Making the levels takes about this many visits at each cell.
 const VISITS_OF_LEVELS: u64 = 20;
 
-/// The system of slopes, with its levels. A cell whose slope is 0 is held: its unknown is 0.
+/// The system of slopes, with its levels. A cell whose slope is 0 is fixed: its unknown is 0.
 #[derive(Drop)]
 pub struct Solver {
     levels: Levels,
     slopes: Vec<i64>,
-    // Weights are conductances over 2^scale, so that the sum of all fits.
+    // Weights are conductances over 2^scale, so that the sum of all of them fits.
     scale: u32,
 }
 
@@ -84,7 +84,7 @@ impl Solver {
         })
     }
 
-    /// Whether these slopes are its own, but for the units between lower and upper conductances.
+    /// Whether these slopes are nearly the solver's own: within the few units by which lower and upper conductances differ.
     pub fn serves(&self, slopes: &[i64]) -> bool {
         self.slopes.iter().zip(slopes).all(|(own, slope)| own.abs_diff(*slope)
             <= 16_u64.saturating_add(slope.unsigned_abs() >> 20))
@@ -110,12 +110,12 @@ impl Solver {
         }
     }
 
-    /// Solves, and answers the unknowns times the right side's power of two.
+    /// Solves, and returns the unknowns times the right side's power of two.
     pub fn solve(&mut self, rounds: u32, bits: u32, budget: &mut Budget) -> &[i64] {
         self.levels.solve(rounds, bits, budget)
     }
 
-    /// The room at each cell, in units of 2^-10: how far all heads go together when each cell's balance changes by its
+    /// The room at each cell, in units of 2^-10: how far all heads move together when each cell's balance changes by its
     /// slope. It is not negative.
     pub fn room(
         &mut self,

@@ -24,7 +24,7 @@ pub fn fall_between(from: &[i64], to: &[i64]) -> Fall {
     fall
 }
 
-/// What heads fell from some to others, cell by cell.
+/// The fall of each cell's head from one list to another.
 pub fn way_between(alloc: Global, from: &[i64], to: &[i64]) -> Result<Vec<i64>, AllocError> {
     let mut way = Vec::with_capacity(alloc, from.len())?;
     for (from, to) in from.iter().zip(to) {

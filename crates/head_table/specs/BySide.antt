@@ -31,11 +31,15 @@ module _ (p : List Entries) where
 
   -- x is not above what any settled lower heads, nowhere below the floor, have at cell c
   abbrev pub IsUnderSettled : (ℕ → ℤ) → ℕ → ℤ → Type 0
-  IsUnderSettled floor c x = (m : ℕ → ℤ) → AreHeads ◌≤ℤ◌ (CanRise p) (length p) m → IsSettled ◌≤ℤ◌ (CanRise p) (length p) m → AsTight ◌≤ℤ◌ (CanRise p) (length p) floor m → x ≤ℤ m c
+  IsUnderSettled floor c x =
+      (m : ℕ → ℤ) → AreHeads ◌≤ℤ◌ (CanRise p) (length p) m → IsSettled ◌≤ℤ◌ (CanRise p) (length p) m →
+      AsTight ◌≤ℤ◌ (CanRise p) (length p) floor m → x ≤ℤ m c
 
   -- x is not below what any settled upper heads, nowhere above the ceiling, have at cell c
   abbrev pub IsOverSettled : (ℕ → ℤ) → ℕ → ℤ → Type 0
-  IsOverSettled ceiling c x = (m : ℕ → ℤ) → AreHeads Ge (CanSink p) (length p) m → IsSettled Ge (CanSink p) (length p) m → AsTight Ge (CanSink p) (length p) ceiling m → m c ≤ℤ x
+  IsOverSettled ceiling c x =
+      (m : ℕ → ℤ) → AreHeads Ge (CanSink p) (length p) m → IsSettled Ge (CanSink p) (length p) m →
+      AsTight Ge (CanSink p) (length p) ceiling m → m c ≤ℤ x
 
   -- no head of the new bounds is less tight than the old one
   pub record AreNoLooser (old new : List Bound) : Type 0 where

@@ -18,7 +18,7 @@ pub record IsSound (v : Known) : Type 0 where
   pub low : (c : ℕ) → c < length v.problem → IsHead (lower_at v.seen c)
   pub high : (c : ℕ) → c < length v.problem → IsHead (upper_at v.seen c)
 
--- a live view knows the problem and the barrier, and what it has seen was seen of the words
+-- a live view has the problem and the barrier, and what it has seen was seen of the words
 pub record IsKnown (p : List Entries) (b : Edges) (words : List ℕ) (v : Known) : Type 0 where
   pub problem_is : v.problem ≡ p
   pub barrier_is : v.barrier ≡ b

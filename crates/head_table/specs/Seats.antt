@@ -1,4 +1,4 @@
--- What contracts say of a table and its seats.
+-- The words of contracts on a table and its seats.
 use Rattle.std.specs.Prelude.{◌≡◌, ℕ, ◌<◌, List, length, ℤ}
 use Rattle.std.specs.Int.{int_max, int_min}
 use Rattle.step_problem.specs.declared.heads.Bound.{Bound}
@@ -40,7 +40,7 @@ SameHigh a b = (d : ℕ) → high_seen b d ≡ high_seen a d
 abbrev pub SameHighBut : ℕ → HeadSeat → HeadSeat → Type 0
 SameHighBut c a b = (d : ℕ) → (d ≡ c → ⊥) → high_seen b d ≡ high_seen a d
 
--- at each cell the seat c has seen the tighter of what a and b had
+-- at each cell the seat c has seen the tighter of what a and b had seen
 pub record HasTighter (p : List Entries) (a b c : HeadSeat) : Type 0 where
   pub low : (d : ℕ) → d < length p → low_seen c d ≡ int_max (low_seen a d) (low_seen b d)
   pub high : (d : ℕ) → d < length p → high_seen c d ≡ int_min (high_seen a d) (high_seen b d)

@@ -5,7 +5,7 @@ ghost use Rattle.head_table.specs.Words.{head_of_word};
 
 use step_problem::problem::HEAD_LIMIT;
 
-// The word that stands for a head.
+// The word for a head.
 pub(crate) fn coded(head: i64) -> u64
     requires { IsHead head }
     ensures value { head_of_word result ≡ head }
@@ -14,7 +14,7 @@ pub(crate) fn coded(head: i64) -> u64
     (head + HEAD_LIMIT) as u64
 }
 
-// The head for which a word stands.
+// The head of a word.
 pub(crate) fn decoded(word: u64) -> i64
     requires { IsHead (head_of_word word) }
     ensures { result ≡ head_of_word word }

@@ -12,7 +12,7 @@ pub fn edge_words(alloc: Global, p: &Problem, b: &Barrier) -> Result<Vec<Bound>,
     ensures edges { IfOk result (λ v. AreEdges p.now b.now v.items) }
     ensures way { IfOk result (λ v. AreOnTheWay p.now b.now v.items) }
 {
-    // The problem's conditions come with its length.
+    // `len` ensures the problem's conditions.
     let _cells = p.len();
     let mut words = Vec::new(alloc);
     for cell in 0..b.floor.len() {

@@ -1,4 +1,4 @@
-// A table is made of words, and gives them back.
+// Making a table from words, and getting them back.
 ghost use Rattle.std.specs.Prelude.{◌≡◌, ℕ, ◌+◌, ◌*◌, ◌<◌, ◌≤◌, length, IfOk, vec_len};
 ghost use Rattle.std.specs.Mem.Slots.{slots_items, slots_len, IsFull};
 ghost use Rattle.step_problem.specs.Conditions.{IsHead};
@@ -46,7 +46,7 @@ impl<'a> HeadTable<'a> {
         ensures seat { IfOk result (λ r. IsSeatOf r.0 r.1) }
         ensures seen { IfOk result (λ r. seen_of r.1 ≡ words.now.items) }
     {
-        // The number of cells comes with the problem's conditions.
+        // `len` ensures the problem's conditions.
         let _cells = problem.len();
         let raw = raw_words(alloc, words.as_slice())?;
         let facts = Facts {
@@ -66,7 +66,7 @@ impl<'a> HeadTable<'a> {
     }
 }
 
-// The bounds for which closed words stand.
+// The bounds in closed words.
 fn read_all(
     alloc: Global,
     closed: &Closed<(), Global>,
@@ -88,8 +88,8 @@ fn read_all(
 }
 
 impl<'a> HeadTable<'a> {
-    /// Ends the table with one of its seats and gives its words, which are as tight as all that the seat has
-    /// seen. Where memory is refused the words are lost.
+    /// Ends the table with one of its seats and returns its words, which are as tight as all that the seat has
+    /// seen. If memory runs out the words are lost.
     pub fn close(self, seat: HeadSeat) -> Result<Vec<Bound>, AllocError>
         requires { IsSeatOf self seat }
         ensures kept { IfOk result (λ v. AreOnTheWay self.entry.problem.now (barrier_of self.entry) v.items) }

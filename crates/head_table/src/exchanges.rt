@@ -10,7 +10,7 @@ use crate::table::{HeadSeat, HeadTable};
 
 impl<'a> HeadTable<'a> {
     /// Raises the lower word of a cell to `to`, its raise value from what the seat has seen, unless it is
-    /// higher. Answers the word before.
+    /// higher. Returns the word before.
     pub fn raise(&self, seat: &mut HeadSeat, cell: usize, to: i64) -> i64
         requires seat { IsSeatOf self.now seat.old }
         requires cell { cell < length self.now.problem.now }
@@ -21,7 +21,7 @@ impl<'a> HeadTable<'a> {
         ensures others { SameLowBut cell seat.old seat.new }
         ensures high { SameHigh seat.old seat.new }
     {
-        // The problem's conditions come with its length.
+        // `len` ensures the problem's conditions.
         let _cells = self.problem.len();
         let word = coded(to);
         let found = self
@@ -32,7 +32,7 @@ impl<'a> HeadTable<'a> {
     }
 
     /// Sinks the upper word of a cell to `to`, its sink value from what the seat has seen, unless it is
-    /// lower. Answers the word before.
+    /// lower. Returns the word before.
     pub fn sink(&self, seat: &mut HeadSeat, cell: usize, to: i64) -> i64
         requires seat { IsSeatOf self.now seat.old }
         requires cell { cell < length self.now.problem.now }
@@ -43,7 +43,7 @@ impl<'a> HeadTable<'a> {
         ensures others { SameHighBut cell seat.old seat.new }
         ensures low { SameLow seat.old seat.new }
     {
-        // The problem's conditions come with its length.
+        // `len` ensures the problem's conditions.
         let _cells = self.problem.len();
         let word = coded(to);
         let found = self
@@ -53,7 +53,7 @@ impl<'a> HeadTable<'a> {
         decoded(found)
     }
 
-    /// Claims a ticket: the number of claims before, until the counter wraps.
+    /// Claims a ticket: the number of earlier claims, until the counter wraps.
     pub fn claim(&self, seat: &mut HeadSeat) -> u64
         requires { IsSeatOf self.now seat.old }
         ensures seat { IsSeatOf self.now seat.new }

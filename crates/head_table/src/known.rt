@@ -1,11 +1,11 @@
-// What a seat knows, the rule of the table, and what each kind of step tells.
+// What a seat knows, the rule of the table, and what each kind of step ensures.
 use atomic_table::{Join, Play, Split, TableRule};
 use std::collections::LinkedList;
 use std::snapshot::Snapshot;
 use step_problem::{Barrier, Bound, Problem};
 
-/// What a seat knows: the bounds that it has seen, and the problem and the barrier of its table. No value of
-/// it is made.
+/// What a seat knows: the bounds that it has seen, and the problem and the barrier of its table. It exists
+/// only in proofs.
 pub struct Known {
     pub live: bool,
     pub seen: LinkedList<Bound>,
@@ -13,7 +13,7 @@ pub struct Known {
     pub barrier: Barrier,
 }
 
-/// What a table is told when it is made.
+/// The facts with which a table is made.
 #[derive(Drop)]
 pub struct Facts {
     pub problem: Snapshot<Problem>,
@@ -81,7 +81,7 @@ impl Split<Known> for Same {
     ghost right = { λ v. v };
 }
 
-// The seat that stays has seen the tighter of both.
+// The seat that remains has seen the tighter of both.
 pub(crate) struct Both;
 
 impl Join<Known> for Both {

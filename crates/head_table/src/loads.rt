@@ -1,4 +1,4 @@
-// Looks at single words. Each is one atomic load.
+// Loads of single words. Each is one atomic load.
 ghost use Rattle.std.specs.Prelude.{◌≡◌, ◌<◌, length, ◌≤ℤ◌};
 ghost use Rattle.step_problem.specs.Heads.{head_at};
 ghost use Rattle.head_table.specs.BySide.{AreHeld, AreNoLooser, IsOverSettled, IsUnderSettled};
@@ -29,7 +29,7 @@ impl<'a> HeadTable<'a> {
         ensures others { SameLowBut cell seat.old seat.new }
         ensures high { SameHigh seat.old seat.new }
     {
-        // The problem's conditions come with its length.
+        // `len` ensures the problem's conditions.
         let _cells = self.problem.len();
         let found = self
             .table
@@ -50,7 +50,7 @@ impl<'a> HeadTable<'a> {
         ensures others { SameHighBut cell seat.old seat.new }
         ensures low { SameLow seat.old seat.new }
     {
-        // The problem's conditions come with its length.
+        // `len` ensures the problem's conditions.
         let _cells = self.problem.len();
         let found = self
             .table
@@ -59,7 +59,7 @@ impl<'a> HeadTable<'a> {
         decoded(found)
     }
 
-    /// Loads each word once, into a slice of one bound for each cell. What it shows is no looser than what the
+    /// Loads each word once, into a slice of one bound for each cell. The result is no looser than what the
     /// seat had seen, and no tighter than any settled heads past the barrier.
     pub fn watch(&self, seat: &mut HeadSeat, bounds: &mut [Bound])
         requires seat { IsSeatOf self.now seat.old }

@@ -1,4 +1,4 @@
-// Seats come and go.
+// Splitting and joining seats.
 ghost use Rattle.std.specs.Prelude.{◌≡◌};
 ghost use Rattle.head_table.specs.Seats.{HasTighter, IsSeatOf, seen_of};
 

@@ -1,4 +1,4 @@
-// The program `heads`, on the files and the streams of the system.
+//! The program `heads`, on the files and the streams of the system.
 #![tactic(auto)]
 
 ghost use Rattle.std.specs.Prelude.{◌≡◌, map, IfOk};
@@ -11,10 +11,10 @@ use std::env;
 use std::io::ErrorKind;
 use std::process::ExitCode;
 
-// Where memory is wanting for the words, the program ends so and writes nothing.
+// The exit code if memory runs out for the words; then nothing is written.
 const MEMORY: u8 = 7;
 
-// The program's words. Where one isn't UTF-8 there are none, which have no reading either.
+// The program's words. If one of them isn't UTF-8, the list is empty, which asks for no command either.
 fn words_of(rt: &HostRuntime, alloc: Global) -> Result<Vec<String>, AllocError> {
     match env::args(rt) {
         Ok(args) => args.collect(alloc),

@@ -1,5 +1,6 @@
 -- An entry of a list: Layer Row Column, and the numbers of its package (TM 6-A16, WEL, RIV, DRN, GHB, CHD).
-use Rattle.std.specs.Prelude.{ℕ, ◌-◌, ℤ, Bool, true, false, ◌||◌, List, Option, Some, None, Result, Ok, Err, if◌then◌else◌, cond, codes, replicate, slice_index_or, slice_set}
+use Rattle.std.specs.Prelude.{ℕ, ◌-◌, ℤ, Bool, true, false, ◌||◌, List, Option, Some, None, Result, Ok, Err}
+use Rattle.std.specs.Prelude.{if◌then◌else◌, cond, codes, replicate, slice_index_or, slice_set}
 use Rattle.outside.specs.Refusals.{refusal}
 use Rattle.outside.specs.declared.codes.Code.{Code}
 use Rattle.outside.specs.declared.codes.Code.TheVariants.{OutOfProfile, CellOutside, BadProperty}
@@ -19,7 +20,7 @@ abbrev pub inside : Option ℕ → Refusal → Result ℕ Refusal
 inside None r = Err r
 inside (Some n) r = Ok n
 
--- the cell in a layer, a row and a column, counted from 1, which have to be the grid's
+-- the cell in a layer, a row and a column, counted from 1, which must be in the grid
 unfoldable pub cell_at : List ℕ → ℕ → Grid → ℤ → ℤ → ℤ → Result CellId Refusal
 cell_at file line grid layer row col = do
   k ← inside (within layer grid.layers) (refusal CellOutside file line)
@@ -31,7 +32,8 @@ abbrev pub passed : Option Code → List ℕ → ℕ → Result (Unit {0}) Refus
 passed None file line = Ok tt
 passed (Some code) file line = Err (refusal code file line)
 
--- The entry that the words of a line make, with its cell. All words are read, then the cell is tested, then the numbers are; then the cell must not have been named before in a list that may name it once only, where a mark tells so.
+-- The entry that the words of a line make, with its cell. All words are read; then the cell is tested, then the
+-- numbers. Last, in a list that may name a cell at most once, the cell must not be marked.
 unfoldable pub entry_of : {C E : Type 0} → Kind C E → List ℕ → ℕ → Grid → List Bool → List (List ℕ) → Result (E × CellId) Refusal
 entry_of kind file line grid marks words = do
   layer ← number_at integer file line words
@@ -42,7 +44,7 @@ entry_of kind file line grid marks words = do
   tested ← passed (kind.fault columns) file line
   if slice_index_or marks cell.0 false then Err (refusal BadProperty file line) else Ok (kind.entry cell columns, cell)
 
--- a line in place of entries that this profile leaves out
+-- a line in place of entries that this program doesn't read
 abbrev pub is_left_out : List (List ℕ) → Bool
 is_left_out words = begins_with (codes "OPEN/CLOSE") words || (begins_with (codes "EXTERNAL") words || begins_with (codes "SFAC") words)
 
@@ -53,13 +55,13 @@ entry_at kind file grid s = do
   if is_left_out (words line.0.bytes) then Err (refusal OutOfProfile file line.0.number)
       else (entry_of kind file line.0.number grid s.0 (words line.0.bytes) >>= λ e. Ok (e.0, (slice_set s.0 e.1.0 true, line.1)))
 
--- the marks of a list that begins: one for each cell where a list may name a cell once only
+-- the marks of a new list: one for each cell where a list may name a cell at most once
 abbrev pub no_marks : {C E : Type 0} → Kind C E → Grid → List Bool
 no_marks kind grid = replicate (cond kind.once (cell_count grid) 0) false
 
 abbrev pub without_marks : {X : Type 0} → Result (X × (List Bool × Left)) Refusal → Result (X × Left) Refusal
 without_marks read = read >>= λ x. Ok (x.0, x.1.1)
 
--- so many entries, as a list
+-- a list of this many entries
 unfoldable pub new_list : {C E : Type 0} → Kind C E → List ℕ → Grid → ℕ → Left → Result (List E × Left) Refusal
 new_list kind file grid n left = without_marks (repeated n (entry_at kind file grid) (no_marks kind grid, left))

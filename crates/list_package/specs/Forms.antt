@@ -8,7 +8,7 @@ use Rattle.list_package.specs.Kinds.{Kind, without}
 abbrev pub Differ : {C E : Type 0} → Kind C E → E → E → Type 0
 Differ kind x y = kind.place x ≡ kind.place y → ⊥
 
--- a list of at most 65536 entries, each in limits, where a list that may name a cell once only does so
+-- a list of at most 65536 entries, each in limits; a list that may name a cell at most once does so
 pub record IsList {C E : Type 0} (kind : Kind C E) (Valid : E → Type 0) (xs : List E) : Type 0 where
   pub few : length xs ≤ 65536
   pub entries : All Valid xs
@@ -20,13 +20,13 @@ pub record AreMarked {C E : Type 0} (kind : Kind C E) (cells : ℕ) (marks : Lis
   pub marked : All (λ x. slice_index_or marks (kind.place x) false ≡ true) xs
   pub once : AllPairs (Differ kind) xs
 
--- an entry that was not marked, and now is
+-- an entry whose cell was not marked and is marked now
 pub record IsNewlyMarked {C E : Type 0} (kind : Kind C E) (cells : ℕ) (before after : List Bool) (x : E) : Type 0 where
   pub inside : kind.place x < cells
   pub new : slice_index_or before (kind.place x) false ≡ false
   pub marked : after ≡ slice_set before (kind.place x) true
 
--- another model differs in the lists of this kind alone
+-- another model differs only in the lists of this kind
 pub record SameBut {C E : Type 0} (kind : Kind C E) (m n : FlowModel) : Type 0 where
   pub model : n ≡ record m { periods = n.periods }
   pub periods : map (without kind) n.periods ≡ map (without kind) m.periods

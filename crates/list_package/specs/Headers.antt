@@ -1,5 +1,6 @@
--- The lines in front of entries: the first of a file, and ITMP and NP of a stress period (TM 6-A16, WEL, RIV, DRN, GHB, CHD).
-use Rattle.std.specs.Prelude.{ℕ, ℤ, pos, negsuc, Bool, true, false, not, ◌&&◌, List, [], ◌∷◌, nat_le, nat_lt, Option, Some, None, Result, Ok, Err, if◌then◌else◌, codes}
+-- The lines before entries: the first line of a file, and ITMP and NP of a stress period (TM 6-A16, WEL, RIV, DRN, GHB, CHD).
+use Rattle.std.specs.Prelude.{ℕ, ℤ, pos, negsuc, Bool, true, false, not, ◌&&◌, List, [], ◌∷◌, nat_le, nat_lt, Option}
+use Rattle.std.specs.Prelude.{Some, None, Result, Ok, Err, if◌then◌else◌, codes}
 use Rattle.decimal_input.specs.Words.{integer_of}
 use Rattle.outside.specs.Refusals.{refusal}
 use Rattle.outside.specs.declared.codes.Code.TheVariants.{OutOfProfile, TooManyEntries, NothingToReuse}
@@ -10,13 +11,13 @@ use Rattle.record_lines.specs.Reading.{◌>>=◌}
 use Rattle.array_reader.specs.Items.{number_at}
 use Rattle.array_reader.specs.Numbers.{integer}
 
--- the first line of a file of stresses behind its comments, which must not define parameters
+-- the first line of a file of stresses after its comments, which must not define parameters
 unfoldable pub item_line : List ℕ → Left → Result (Numbered × Left) Refusal
 item_line file left = do
   line ← line_at file left
   if begins_with (codes "PARAMETER") (words line.0.bytes) then Err (refusal OutOfProfile file line.0.number) else Ok line
 
--- ITMP: so many entries follow, 65536 at most, or the last list stands again where it is below 0
+-- ITMP: the number of entries that follow, at most 65536; where it is below 0 the last list is used again
 pub data Count : Type 0 where
   entries : ℕ → Count
   again : Count
@@ -25,7 +26,7 @@ abbrev pub count_of : ℤ → Refusal → Result Count Refusal
 count_of (pos n) r = if nat_le n 65536 then Ok (entries n) else Err r
 count_of (negsuc n) r = Ok again
 
--- NP counts where it is an integer above 0
+-- NP counts if it is an integer above 0
 abbrev pub is_positive : Option ℤ → Bool
 is_positive None = false
 is_positive (Some (pos n)) = nat_lt 0 n
@@ -39,9 +40,10 @@ abbrev pub is_reused : Count → Bool
 is_reused (entries n) = false
 is_reused again = true
 
--- the words of a period's line, where a list was read before or not
+-- the words of a period's line, after a first list or before it
 unfoldable pub header_of : List ℕ → ℕ → Bool → List (List ℕ) → Result Count Refusal
 header_of file line listed words = do
   itmp ← number_at integer file line words
   count ← count_of itmp.0 (refusal TooManyEntries file line)
-  if is_reused count && not listed then Err (refusal NothingToReuse file line) else (if has_parameters itmp.1 then Err (refusal OutOfProfile file line) else Ok count)
+  if is_reused count && not listed then Err (refusal NothingToReuse file line)
+      else (if has_parameters itmp.1 then Err (refusal OutOfProfile file line) else Ok count)

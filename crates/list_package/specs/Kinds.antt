@@ -1,11 +1,11 @@
--- What makes a list package: how its entries are read and tested, and where they go.
+-- The trait of a list package: how its entries are read and tested, and where they go.
 use Rattle.std.specs.Prelude.{ℕ, Bool, List, [], Option, Result}
 use Rattle.outside.specs.declared.codes.Code.{Code}
 use Rattle.outside.specs.declared.refusals.Refusal.{Refusal}
 use Rattle.model_types.specs.declared.grid.CellId.{CellId}
 use Rattle.model_types.specs.declared.period.Period.{Period}
 
--- C has the numbers of an entry behind Layer Row Column, E is the entry
+-- C has the numbers of an entry after Layer Row Column, E is the entry
 pub record Kind (C E : Type 0) : Type 0 where
   -- the numbers, by the words of a line of a file
   pub reading : List ℕ → ℕ → List (List ℕ) → Result C Refusal
@@ -14,7 +14,7 @@ pub record Kind (C E : Type 0) : Type 0 where
   -- the entry of a cell with these numbers, and an entry's cell
   pub entry : CellId → C → E
   pub place : E → ℕ
-  -- whether a list may name a cell once only
+  -- whether a list may name a cell at most once
   pub once : Bool
   -- whether a period may have this list
   pub suits : Period → List E → Bool

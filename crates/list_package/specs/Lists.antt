@@ -15,13 +15,13 @@ use Rattle.list_package.specs.Entries.{new_list}
 use Rattle.list_package.specs.Headers.{Count, entries, again, header_of, item_line}
 use Rattle.list_package.specs.Kinds.{Kind}
 
--- the list that follows, or the last one
+-- the list that follows, or the last one again
 abbrev pub list_of : {C E : Type 0} → Kind C E → List ℕ → Grid → Count → Option (List E) → Left → Result (List E × Left) Refusal
 list_of kind file grid (entries n) last left = new_list kind file grid n left
 list_of kind file grid again None left = Ok ([], left)
 list_of kind file grid again (Some list) left = Ok (list, left)
 
--- a period's list, where this one was the last
+-- a period's list, after this last one
 unfoldable pub list_at : {C E : Type 0} → Kind C E → List ℕ → Grid → Period → (Option (List E) × Left) → Result (List E × (Option (List E) × Left)) Refusal
 list_at kind file grid period s = do
   line ← line_at file s.1
@@ -49,7 +49,7 @@ lists_of kind file bytes grid periods = do
   most ← number_at integer file line.0.number (words line.0.bytes)
   periods_of kind file grid periods line.1
 
--- the model with them
+-- the model with these periods
 unfoldable pub package_of : {C E : Type 0} → Kind C E → List ℕ → List ℕ → FlowModel → Result FlowModel Refusal
 package_of kind file bytes m = do
   periods ← lists_of kind file bytes m.grid m.periods

@@ -1,4 +1,4 @@
--- How a period's list comes, as contracts see it.
+-- Where a period's list comes from, as contracts see it.
 use Rattle.std.specs.Prelude.{◌≤◌}
 use Rattle.list_package.specs.Headers as spec
 use Rattle.list_package.specs.declared.header.Count.{Count}

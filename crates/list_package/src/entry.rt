@@ -79,7 +79,7 @@ fn is_left_out(line: &Line) -> bool
     begins_with(b"OPEN/CLOSE", line) || begins_with(b"EXTERNAL", line) || begins_with(b"SFAC", line)
 }
 
-/// The next entry of a list; its cell is marked.
+/// The next entry of a list. Its cell is marked.
 #[tactic(auto, unfolding(crate::specs::Entries::entry_at))]
 fn entry_at<C: Columns>(
     alloc: Global,
@@ -103,7 +103,7 @@ fn entry_at<C: Columns>(
     Ok(entry)
 }
 
-/// So many entries.
+/// Reads `count` entries.
 fn entries<C: Columns>(
     alloc: Global,
     lines: &mut Lines,
@@ -135,7 +135,7 @@ fn no_marks<C: Columns>(alloc: Global, grid: &Grid) -> Result<Marks, TextFault>
     Ok(Marks::new(alloc, count as usize)?)
 }
 
-/// So many entries, as a list.
+/// Reads a list of `count` entries, each cell at most once if the package requires that.
 #[tactic(auto, unfolding(crate::specs::Entries::new_list))]
 pub fn new_list<C: Columns>(
     alloc: Global,

@@ -1,4 +1,4 @@
-// The lines in front of entries.
+// The lines before entries.
 ghost use Rattle.std.specs.Prelude.{◌≡◌, IfOk};
 ghost use Rattle.outside.specs.declared.codes.Code.TheVariants.{TooManyEntries};
 ghost use Rattle.outside.specs.Refusals.{refusal};
@@ -12,12 +12,12 @@ use outside::{Code, TextFault, refused};
 use record_lines::{Line, Lines, Words, begins_with};
 use std::alloc::Global;
 
-/// How a period's list comes.
+/// Where a period's list comes from.
 #[derive(Clone, Copy, Debug, PartialEq, Eq)]
 pub enum Count {
-    /// So many entries follow.
+    /// This many entries follow.
     Entries(u32),
-    /// The last list stands again.
+    /// The list of the period before is used again.
     Again,
 }
 
@@ -64,7 +64,7 @@ fn has_parameters(words: &mut Words) -> bool
     }
 }
 
-/// How the list of a period comes, by the words of its line; `listed` tells whether there was a list before.
+/// Where the list of a period comes from, by the words of its line; `listed` says whether there was a list before.
 #[tactic(auto, unfolding(crate::specs::Headers::header_of))]
 pub fn header_of(
     alloc: Global,

@@ -1,4 +1,4 @@
-// What makes a list package.
+// The trait of a list package.
 ghost use Rattle.std.specs.Prelude.{◌≡◌, ◌<◌, ℕ, None, List, [], IfOk};
 ghost use Rattle.outside.specs.declared.codes.Code.{Code};
 ghost use Rattle.record_lines.specs.Reading.{HasText};
@@ -11,16 +11,16 @@ use outside::{Code, TextFault};
 use record_lines::Words;
 use std::alloc::Global;
 
-/// The numbers of an entry behind Layer Row Column, and what a package of such entries keeps to.
+/// The numbers of an entry after Layer Row Column, and the rules of a package of such entries.
 pub trait Columns: Copy {
     type Entry: Copy + Drop;
 
     ghost kind: { Kind Self Self.Entry };
 
-    // What the numbers keep, as their canonical forms.
+    // What the numbers keep, such as canonical forms.
     ghost Good: { Self → Type 0 };
 
-    // An entry in limits, in a grid of so many cells.
+    // An entry in limits, in a grid of this many cells.
     ghost Valid: { ℕ → Self.Entry → Type 0 };
 
     /// The numbers by the next words of a line.
@@ -38,7 +38,7 @@ pub trait Columns: Copy {
         ensures entry { result ≡ kind.entry cell self }
         ensures valid { (cells : ℕ) → Good self → kind.fault self ≡ None → cell.0 < cells → Valid cells result };
 
-    /// Whether a list may name a cell once only.
+    /// Whether a list may name a cell at most once.
     fn is_once() -> bool
         ensures { result ≡ kind.once };
 
@@ -53,7 +53,7 @@ pub trait Columns: Copy {
     // An entry has its cell.
     ghost placed: { (cell : CellId) (x : Self) → kind.place (kind.entry cell x) ≡ cell.0 };
 
-    // A period has the list that it was given, in place of the one that it had.
+    // A period has the list that was put into it, in place of its earlier one.
     ghost kept: { (p : Period) (list : List Self.Entry) → kind.list (kind.put p list) ≡ list };
 
     ghost replaced: { (p : Period) (list : List Self.Entry) → kind.put (kind.put p list) [] ≡ kind.put p [] };

@@ -44,7 +44,7 @@ fn list_of<C: Columns>(
     }
 }
 
-/// The next period's list, which is then the last.
+/// The next period's list, which becomes the last one.
 #[tactic(auto, unfolding(crate::specs::Lists::list_at))]
 fn list_at<C: Columns>(
     alloc: Global,
@@ -72,7 +72,7 @@ fn list_at<C: Columns>(
     Ok(list)
 }
 
-/// The next period with its list, which is then the last.
+/// The next period with its list, which becomes the last one.
 #[tactic(auto, unfolding(crate::specs::Lists::period_at))]
 fn period_at<C: Columns>(
     alloc: Global,
@@ -93,7 +93,7 @@ fn period_at<C: Columns>(
     Ok(C::put(period, list))
 }
 
-/// The periods with their lists, where this was the last.
+/// The periods with their lists, where `last` is the list of the period before.
 fn with_lists<C: Columns>(
     alloc: Global,
     lines: &mut Lines,
@@ -104,7 +104,8 @@ fn with_lists<C: Columns>(
 ) -> Result<Vec<Period>, TextFault>
     requires size { HasSize grid.now }
     requires last { IfSome last.old (IsList C.kind (C.Valid (cell_count grid.now))) }
-    ensures periods { GivesText (λ v. v.items) result (last.new, lines.new) (for_each (period_at C.kind file.now grid.now) periods.items (last.old, lines.old)) }
+    ensures periods { GivesText (λ v. v.items) result (last.new, lines.new)
+        (for_each (period_at C.kind file.now grid.now) periods.items (last.old, lines.old)) }
     ensures lists { IfOk result (λ v. All (λ p. IsList C.kind (C.Valid (cell_count grid.now)) (C.kind.list p)) v.items) }
     ensures others { IfOk result (λ v. map (without C.kind) v.items ≡ map (without C.kind) periods.items) }
 {

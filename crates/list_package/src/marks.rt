@@ -4,7 +4,7 @@ ghost use Rattle.std.specs.Prelude.{◌≡◌, List, Bool, replicate, false, tru
 use std::alloc::{AllocError, Global};
 use std::marker::Model;
 
-/// A mark for each cell of a grid, or none at all. So an entry is tested without a walk over the list.
+/// A mark for each cell of a grid, or no marks at all. With marks an entry is tested without searching the list.
 #[derive(Debug, Drop)]
 pub struct Marks {
     marks: Vec<bool>,
@@ -17,7 +17,7 @@ impl Model for Marks {
 }
 
 impl Marks {
-    /// So many marks, none of them set.
+    /// `count` marks, none of them set.
     pub fn new(alloc: Global, count: usize) -> Result<Marks, AllocError>
         ensures { IfOk result (λ m. m ≡ replicate count false) }
     {
@@ -25,7 +25,7 @@ impl Marks {
         Ok(Marks { marks })
     }
 
-    /// Whether a cell is marked. One without a mark isn't.
+    /// Whether a cell is marked. A cell past the marks isn't.
     pub fn is_marked(&self, cell: u32) -> bool
         ensures { result ≡ slice_index_or self.now cell false }
     {
@@ -35,7 +35,7 @@ impl Marks {
         }
     }
 
-    /// Marks a cell, if it has a mark.
+    /// Marks a cell, unless it lies past the marks.
     pub fn mark(&mut self, cell: u32)
         ensures { self.new ≡ slice_set self.old cell true }
     {

@@ -38,7 +38,7 @@ fn lists_of<C: Columns>(
 }
 
 /// The model with the lists of a package's file in its periods. `file` is the file's name, for refusals. A list that
-/// a period reuses is shared, and stands in memory once.
+/// a period reuses is shared, so it is in memory once.
 ///
 /// # Errors
 /// The first item that is wrong is refused on its line.

@@ -2,7 +2,8 @@
 use Rattle.std.specs.Prelude.{ℕ, ◌==◌, Option, Some, None, List, [], ◌∷◌, ◌++◌, codes}
 use Rattle.std.specs.List.{find}
 use Rattle.outside.specs.declared.codes.Code.{Code}
-use Rattle.outside.specs.declared.codes.Code.TheVariants.{ConductanceTooSmall, ConductanceTooLarge, FlowTooLarge, NoBarrierLow, NoBarrierHigh, RangeLow, RangeHigh}
+use Rattle.outside.specs.declared.codes.Code.TheVariants.{ConductanceTooSmall, ConductanceTooLarge, FlowTooLarge}
+use Rattle.outside.specs.declared.codes.Code.TheVariants.{NoBarrierLow, NoBarrierHigh, RangeLow, RangeHigh}
 use Rattle.outside.specs.Codes.{CodeRow, code_row}
 use Rattle.outside.specs.declared.refusals.Refusal.{Refusal}
 use Rattle.step_problem.specs.declared.place.NoBound.{NoBound}
@@ -42,7 +43,7 @@ step_word n = word_of (find (λ code. (code_row code).number == n) step_codes)
 abbrev pub time_text : TimeStep → List ℕ
 time_text at = numbers_text (at.period ∷ at.step ∷ [])
 
--- where a step has no bound: the cell; or the way and the name of a budget term; or two zones
+-- where a step has no bound: the cell; or the direction and the name of a budget term; or two zones
 abbrev pub fault_place : Grid → Place → List ℕ
 fault_place g (places.Cell c side) = numbers_text (place g c)
 fault_place g (places.Term dir t) = codes " " ++ dir_name dir ++ codes " " ++ term_name t
@@ -55,7 +56,7 @@ no_bound_line g at n = ended (codes "NOBOUND" ++ code_text (record { number = n.
 unfoldable pub unfinished_line : TimeStep → List ℕ
 unfinished_line at = ended (codes "UNFINISHED" ++ time_text at)
 
--- the first place of a listing that isn't certified; of a cell its side is named as well
+-- the first place of a listing that isn't certified; for a cell its side is named too
 abbrev pub open_place : Grid → Place → List ℕ
 open_place g (places.Cell c side) = numbers_text (place g c) ++ codes " " ++ side_name side
 open_place g (places.Term dir t) = fault_place g (places.Term dir t)

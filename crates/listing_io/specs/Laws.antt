@@ -1,4 +1,4 @@
--- Laws of the listing's text: what is written of a model's steps is read again as these steps, and what is read was written so.
+-- Laws of the listing's text: the text written for a model's steps is read as these steps, and a text that is read is the one written for them.
 use Rattle.std.specs.Prelude.{◌≡◌, ◌⊎◌, ◌<◌, ◌≤◌, ◌^◌, ℕ, List, [], ◌∷◌, ◌++◌, All, nat_abs, Ok}
 use Rattle.record_lines.specs.Layout.{lines}
 use Rattle.model_types.specs.declared.model.FlowModel.{FlowModel}
@@ -22,14 +22,18 @@ pub record IsWritable (m : FlowModel) (s : ℕ) : Type 0 where
   pub unit : nat_abs m.lenuni < 2 ^ 64
   pub times : All IsTime (times m)
 
--- What is written is read again.
+-- A written listing is read as the steps written.
 abbrev pub ListingsAreReadAgain : Type 0
-ListingsAreReadAgain = (m : FlowModel) (s : ℕ) (steps : List ListedStep) → IsWritable m s → AreListed m steps → listing_at m s (all_lines (text_of (listing m s steps))) ≡ Ok steps
+ListingsAreReadAgain =
+    (m : FlowModel) (s : ℕ) (steps : List ListedStep) → IsWritable m s → AreListed m steps →
+    listing_at m s (all_lines (text_of (listing m s steps))) ≡ Ok steps
 
 -- the lines of a listing of version 2, or of version 1, which has the same further lines
 abbrev pub IsListing : FlowModel → ℕ → List ListedStep → List Line → Type 0
 IsListing m s steps rows = (rows ≡ listing m s steps) ⊎ (rows ≡ first_line_before ∷ (all_step_lines m s (times m) steps ++ (end_line ∷ [])))
 
--- What is read was written so: the text has these lines and no others.
+-- A text that is read is the one written: it has these lines and no others.
 abbrev pub ListingsWereWritten : Type 0
-ListingsWereWritten = (m : FlowModel) (s : ℕ) (text : List ℕ) (steps : List ListedStep) → listing_at m s (all_lines text) ≡ Ok steps → IsListing m s steps (lines text)
+ListingsWereWritten =
+    (m : FlowModel) (s : ℕ) (text : List ℕ) (steps : List ListedStep) → listing_at m s (all_lines text) ≡ Ok steps →
+    IsListing m s steps (lines text)

@@ -1,4 +1,4 @@
--- What holds of the steps that are read in a listing, and of those of which one is written.
+-- What holds of the steps that are read from a listing, and of the steps that can be written.
 use Rattle.std.specs.Prelude.{◌≡◌, ℕ, ◌+◌, ◌<◌, ◌^◌, false, List, [], ◌∷◌, All, length, nat_abs, slice_index_or}
 use Rattle.step_problem.specs.declared.heads.Bound.{Bound}
 use Rattle.step_problem.specs.Conditions.{IsHead}
@@ -20,23 +20,23 @@ no_budget = record { into = []; out = [] }
 abbrev pub step_in : List ListedStep → ℕ → ListedStep
 step_in steps i = slice_index_or steps i (record { heads = []; budget = no_budget })
 
--- both heads of an active cell lie from -4000000000 to 4000000000 length units; where there is no flow both are zeros
+-- both heads of an active cell are from -4000000000 to 4000000000 length units; where there is no flow both are zeros
 pub record IsCellBound (m : FlowModel) (c : ℕ) (b : Bound) : Type 0 where
   pub low : IsHead b.low
   pub high : IsHead b.high
   pub none : is_active m c ≡ false → b ≡ no_bound
 
--- of the cells from c on
+-- the same for the cells from c on
 abbrev pub AreCellBounds : FlowModel → ℕ → List Bound → Type 0
 AreCellBounds m c [] = Unit {0}
 AreCellBounds m c (b ∷ bs) = IsCellBound m c b × AreCellBounds m (c + 1) bs
 
--- a flow that a listing can have: its magnitude is below 2^126 units
+-- a flow of a listing: its magnitude is below 2^126 units
 pub record IsFlowPair (p : TermPair) : Type 0 where
   pub lo : nat_abs p.lo < 2 ^ 126
   pub hi : nat_abs p.hi < 2 ^ 126
 
--- eight terms, of which ET's is zero where the model has no EVT
+-- eight terms; ET's is zero where the model has no EVT
 pub record AreTerms (m : FlowModel) (pairs : List TermPair) : Type 0 where
   pub eight : length pairs ≡ 8
   pub small : All IsFlowPair pairs

@@ -1,4 +1,6 @@
--- The lines of a listing, version 2, in their order: the first line, for each time step the line STEP, the lines HEAD of the active cells, the lines IN and OUT of the budget's terms and the lines ZONE of the zone flows, and the line END.
+-- The lines of a listing, version 2, in their order: the first line, for each time step the line STEP, the lines HEAD
+-- of the active cells, the lines IN and OUT of the budget's terms and the lines ZONE of the zone flows, and the line
+-- END.
 use Rattle.std.specs.Prelude.{ℕ, ◌+◌, ◌-◌, ◌^◌, Bool, cond, List, [], ◌∷◌, ◌++◌, codes, decimal, map}
 use Rattle.std.specs.Fmt.{signed_decimal}
 use Rattle.std.specs.List.{flat_map}
@@ -33,7 +35,7 @@ ended line = line ++ codes "\n"
 abbrev pub text_of : List Line → List ℕ
 text_of rows = flat_map ended rows
 
--- numbers in digits, each behind a blank
+-- numbers in decimal, each after a blank
 abbrev pub numbers_text : List ℕ → List ℕ
 numbers_text [] = []
 numbers_text (n ∷ ns) = codes " " ++ decimal n ++ numbers_text ns
@@ -50,7 +52,7 @@ step_line at = codes "STEP" ++ numbers_text (at.period ∷ at.step ∷ [])
 abbrev pub head_form : Form
 head_form = record { places = 9; limit = head_limit; back = [] }
 
--- flows have s + 9 decimals, and a magnitude below 2^126 units; a name may stand behind them
+-- flows have s + 9 decimals, and a magnitude below 2^126 units; a name may follow them
 abbrev pub flow_form : ℕ → List ℕ → Form
 flow_form s back = record { places = s + 9; limit = 2 ^ 126 - 1; back = back }
 
@@ -64,7 +66,7 @@ head_pair b = record { lo = b.low; hi = b.high }
 abbrev pub head_line : Grid → ℕ → Bound → Line
 head_line g c b = pair_line (head_front g c) head_form (head_pair b)
 
--- the cells from c on, whose heads these are; a cell with IBOUND 0 has no line
+-- the lines of the cells from c on, with these heads; a cell with IBOUND 0 has no line
 unfoldable pub head_lines : FlowModel → ℕ → List Bound → List Line
 head_lines m c [] = []
 head_lines m c (b ∷ bs) = cond (is_active m c) (head_line m.grid c b ∷ []) [] ++ head_lines m (c + 1) bs
@@ -97,7 +99,7 @@ zone_pair z = record { lo = z.lo; hi = z.hi }
 abbrev pub zone_line : ℕ → ZoneFlow → Line
 zone_line s z = pair_line (codes "ZONE" ++ numbers_text (z.from ∷ z.to ∷ []) ++ codes " ") (flow_form s []) (zone_pair z)
 
--- a step whole; its heads are those of all cells of the grid
+-- a whole step; its heads are those of all cells of the grid
 unfoldable pub step_lines : FlowModel → ℕ → TimeStep → List Bound → Budget → List ZoneFlow → List Line
 step_lines m s at heads b zones = step_line at ∷ (head_lines m 0 heads ++ (term_lines m s In b ++ (term_lines m s Out b ++ map (zone_line s) zones)))
 
@@ -110,7 +112,7 @@ all_step_lines m s [] steps = []
 all_step_lines m s (at ∷ ats) [] = []
 all_step_lines m s (at ∷ ats) (x ∷ xs) = step_lines m s at x.heads x.budget [] ++ all_step_lines m s ats xs
 
--- a listing whole, without zone flows
+-- a whole listing, without zone flows
 unfoldable pub listing : FlowModel → ℕ → List ListedStep → List Line
 listing m s steps = first_line m s ∷ (all_step_lines m s (times m) steps ++ (end_line ∷ []))
 

@@ -1,4 +1,4 @@
--- Reading a listing: the lines that are due, one after another. A refusal is the number of the first line that isn't of the form due.
+-- Reading a listing: the lines that are due, one after another. A refusal is the number of the first line of another form than the one due.
 use Rattle.std.specs.Prelude.{◌≡◌, ℕ, zero, suc, ◌+◌, Bool, true, false, ◌||◌, codes, if◌then◌else◌, List, [], ◌∷◌, Option, Some, None, Result, Ok, Err}
 use Rattle.std.specs.Str.{bytes_eq}
 use Rattle.outside.specs.declared.codes.Code.TheVariants.{BadListing}
@@ -25,7 +25,7 @@ use Rattle.listing_io.specs.declared.fault.Fault.TheVariants.{BadLine, Memory}
 use Rattle.listing_io.specs.Forms.{Form, pair_in}
 use Rattle.listing_io.specs.Listing.{Line, first_line, step_line, head_form, head_front, dir_front, term_form, has_evt, end_line}
 
--- the lines to come, and the number of the first of them
+-- the lines left, and the number of the first of them
 pub record Left : Type 0 where
   pub lines : List Line
   pub number : ℕ
@@ -46,14 +46,14 @@ abbrev pub or_refused : {X : Type 0} → ℕ → Option X → Result X ℕ
 or_refused n None = Err n
 or_refused n (Some x) = Ok x
 
--- the two numbers of the next line, which is to begin so and to be of this form
+-- the two numbers of the next line, which must have this beginning and this form
 unfoldable pub pair_at : List ℕ → Form → Left → Result (TermPair × Left) ℕ
 pair_at front f left = do
   line ← line_at left
   p ← or_refused left.number (pair_in front f line.0)
   Ok (p, line.1)
 
--- the next line is to be this one
+-- the next line must be this one
 unfoldable pub text_at : Line → Left → Result Left ℕ
 text_at text left = do
   line ← line_at left
@@ -62,12 +62,12 @@ text_at text left = do
 abbrev pub bound_of : TermPair → Bound
 bound_of p = record { low = p.lo; high = p.hi }
 
--- the heads of a cell: no line and zeros where there is no flow
+-- the heads of a cell: no line, and zeros, where there is no flow
 abbrev pub head_if : Bool → List ℕ → Left → Result (Bound × Left) ℕ
 head_if true front left = pair_at front head_form left >>= λ p. Ok (bound_of p.0, p.1)
 head_if false front left = Ok (no_bound, left)
 
--- the heads of so many cells from c on
+-- the heads of this many cells from c on
 unfoldable pub heads_at : FlowModel → ℕ → ℕ → Left → Result (List Bound × Left) ℕ
 heads_at m c zero left = Ok ([], left)
 heads_at m c (suc k) left = do
@@ -78,12 +78,12 @@ heads_at m c (suc k) left = do
 abbrev pub term_at : ℕ → Dir → Term → Left → Result (TermPair × Left) ℕ
 term_at s dir t left = pair_at (dir_front dir) (term_form s t) left
 
--- ET has no line and zeros where the model has no EVT
+-- ET has no line, and zeros, where the model has no EVT
 abbrev pub term_if : Bool → ℕ → Dir → Left → Result (TermPair × Left) ℕ
 term_if true s dir left = term_at s dir Et left
 term_if false s dir left = Ok (no_pair, left)
 
--- the terms that go one way
+-- the terms in one direction
 unfoldable pub terms_at : Bool → ℕ → Dir → Left → Result (List TermPair × Left) ℕ
 terms_at evt s dir left = do
   storage ← term_at s dir Storage left
@@ -96,7 +96,7 @@ terms_at evt s dir left = do
   et ← term_if evt s dir recharge.1
   Ok (storage.0 ∷ constant.0 ∷ wells.0 ∷ drains.0 ∷ rivers.0 ∷ general.0 ∷ recharge.0 ∷ et.0 ∷ [], et.1)
 
--- a step whole
+-- a whole step
 unfoldable pub step_at : FlowModel → ℕ → TimeStep → Left → Result (ListedStep × Left) ℕ
 step_at m s at left = do
   after ← text_at (step_line at) left
@@ -105,7 +105,7 @@ step_at m s at left = do
   out ← terms_at (has_evt m) s Out into.1
   Ok (record { heads = heads.0; budget = record { into = into.0; out = out.0 } }, out.1)
 
--- the first line of version 1 named no digits and no unit
+-- the first line of version 1 has no digits and no unit
 abbrev pub first_line_before : Line
 first_line_before = codes "HEADS 1"
 
@@ -115,7 +115,7 @@ first_at m s left = do
   line ← line_at left
   if bytes_eq (first_line m s) line.0 || bytes_eq first_line_before line.0 then Ok line.1 else Err left.number
 
--- no line is to come
+-- no line may be left
 abbrev pub none_of : ℕ → List Line → Result (Unit {0}) ℕ
 none_of n [] = Ok tt
 none_of n (line ∷ more) = Err n
@@ -123,7 +123,7 @@ none_of n (line ∷ more) = Err n
 abbrev pub over_at : Left → Result (Unit {0}) ℕ
 over_at left = none_of left.number left.lines
 
--- a listing whole: its steps, or the number of the first line that isn't of the form due
+-- a whole listing: its steps, or the number of the first line of another form than the one due
 unfoldable pub listing_at : FlowModel → ℕ → Left → Result (List ListedStep) ℕ
 listing_at m s left = do
   after ← first_at m s left
@@ -140,7 +140,7 @@ or_bad_listing file (Err n) = Err (refusal BadListing file n)
 abbrev pub listing_in : FlowModel → ℕ → List ℕ → List ℕ → Result (List ListedStep) Refusal
 listing_in m s file text = or_bad_listing file (listing_at m s (all_lines text))
 
--- What a call answered, seen by view, and what it left to come: what reading gives, unless memory was wanting.
+-- What a call returned, seen by view, and what it left to be read: what reading gives, unless memory ran out.
 abbrev pub Stops : {Y : Type 0} → Fault → Result Y ℕ → Type 0
 Stops (BadLine n) read = read ≡ Err n
 Stops Memory read = Unit {0}
@@ -153,7 +153,7 @@ abbrev pub Passes : {S : Type 0} → Result (Unit {0}) Fault → S → Result S 
 Passes (Ok done) after read = read ≡ Ok after
 Passes (Err fault) after read = Stops fault read
 
--- the same where nothing is left to come
+-- the same where nothing is left to be read
 abbrev pub Has : {X Y : Type 0} → (X → Y) → Result X Fault → Result Y ℕ → Type 0
 Has view (Ok x) read = read ≡ Ok (view x)
 Has view (Err fault) read = Stops fault read

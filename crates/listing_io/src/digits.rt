@@ -1,10 +1,10 @@
-// The number that a word's digits write.
+// The number in a word's digits.
 ghost use Rattle.std.specs.Prelude.{◌≡◌, ◌≤◌, ◌<◌, ◌^◌, MatchOption, nat_abs};
 ghost use Rattle.listing_io.specs.Numbers.{digits_behind, is_negative, value_of, with_byte};
 
 const LIMIT: u128 = 1 << 126;
 
-// From here on one more digit reaches the limit, and ten times the number need not fit its type.
+// A number from here on reaches the limit with one more digit, and ten times it need not fit its type.
 const FULL: u128 = 1 << 124;
 
 fn next_number(number: u128, byte: u8) -> Option<u128>
@@ -43,7 +43,7 @@ fn is_negative(word: &[u8]) -> bool
     }
 }
 
-/// The number of a word's digits, where it is below 2^126 in magnitude.
+/// The number in a word's digits, if it is below 2^126 in magnitude.
 pub(crate) fn value_in(word: &[u8]) -> Option<i128>
     ensures { MatchOption result (2 ^ 126 ≤ nat_abs (value_of word.now)) (λ z. (z ≡ value_of word.now) × (nat_abs z < 2 ^ 126)) }
 {

@@ -4,7 +4,7 @@ ghost use Rattle.listing_io.specs.declared.fault.Fault.TheVariants.{Memory};
 
 use std::alloc::{AllocError, AllocFailed};
 
-/// A line that isn't of the form due, by its number, or want of memory.
+/// A line of another form than the one due, by its number, or lack of memory.
 #[derive(Clone, Copy, Debug, PartialEq, Eq)]
 pub enum Fault {
     BadLine(u32),

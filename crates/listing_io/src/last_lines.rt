@@ -2,7 +2,8 @@
 ghost use Rattle.std.specs.Prelude.{◌≡◌, ◌++◌, codes, IfOk};
 ghost use Rattle.model_types.specs.Grids.{HasSize};
 ghost use Rattle.outside.specs.Codes.{code_row};
-ghost use Rattle.listing_io.specs.LastLines.{cell_text, code_text, fault_place, no_bound_line, not_certified_line, open_place, refused_line, step_word, time_text, unfinished_line};
+ghost use Rattle.listing_io.specs.LastLines.{cell_text, code_text, fault_place, no_bound_line, not_certified_line};
+ghost use Rattle.listing_io.specs.LastLines.{open_place, refused_line, step_word, time_text, unfinished_line};
 
 use crate::places::{dir_word, push_place, push_three, push_two, push_word, side_word, term_word};
 use model_types::{Grid, TimeStep};

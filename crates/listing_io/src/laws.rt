@@ -2,17 +2,17 @@
 ghost use Rattle.listing_io.specs.Forms.{LinesReadExactly};
 ghost use Rattle.listing_io.specs.Laws.{ListingsAreReadAgain, ListingsWereWritten};
 
-/// A line is read as the numbers of which it is written, and as nothing else.
+/// A line is read as the numbers that are written as this line, and as nothing else.
 pub fn lines_read_exactly()
     ensures { LinesReadExactly }
 {}
 
-/// What is written of a model's steps is read again as these steps.
+/// The text written for a model's steps is read as these steps.
 pub fn listings_are_read_again()
     ensures { ListingsAreReadAgain }
 {}
 
-/// What is read was written so, but for a first line of version 1.
+/// A text that is read is the one written for the steps read, except for a first line of version 1.
 pub fn listings_were_written()
     ensures { ListingsWereWritten }
 {}

@@ -7,7 +7,7 @@ use crate::fault::Fault;
 use record_lines::cut_line;
 use std::marker::Model;
 
-/// The lines of a text that are still to come, blank ones included.
+/// The lines of a text that are still to be read, including blank ones.
 #[derive(Drop)]
 pub(crate) struct AllLines<'a> {
     rest: &'a [u8],
@@ -61,7 +61,7 @@ impl<'a> AllLines<'a> {
         Ok(line)
     }
 
-    /// Passes over the next line, which is to be this one.
+    /// Skips the next line, which must be this one.
     #[tactic(auto, unfolding(crate::specs::Reading::text_at))]
     pub(crate) fn expect(&mut self, text: &[u8]) -> Result<(), Fault>
         ensures { Passes result self.new (text_at text.now self.old) }
@@ -75,7 +75,7 @@ impl<'a> AllLines<'a> {
         }
     }
 
-    /// No line is to come.
+    /// Tests that no line is left.
     #[tactic(auto, using(crate::proofs::Ends::has_a_line), unfolding(record_lines::specs::Layout::lines))]
     pub(crate) fn end(&self) -> Result<(), Fault>
         ensures { Has (λ done. done) result (over_at self.now) }

@@ -77,9 +77,9 @@ fn read_lines(
     Ok(steps)
 }
 
-/// The listing that a file holds, for this model and so many digits of conductances: the lines are its first line,
-/// of version 2 or of version 1, its steps' lines without zone flows, END, and no others. Else the first line that
-/// isn't of the form due is refused as BadListing; a missing line has the number of the last line plus one.
+/// The listing in a file, for this model and s digits of conductances: its lines are the first line,
+/// of version 2 or of version 1, the lines of its steps without zone flows, END, and no others. Otherwise the first line
+/// of another form is refused as BadListing; a missing line has the number of the last line plus one.
 pub fn read_listing(
     alloc: Global,
     model: &FlowModel,

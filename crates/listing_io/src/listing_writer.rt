@@ -7,7 +7,9 @@ ghost use Rattle.model_types.specs.Layers.{is_active};
 ghost use Rattle.step_problem.specs.declared.place.Term.TheVariants.{Et};
 ghost use Rattle.budget_bounds.specs.Singles.{place_of};
 ghost use Rattle.budget_bounds.specs.Terms.{no_pair};
-ghost use Rattle.listing_io.specs.Listing.{ended, first_line, first_text, head_line, head_lines, head_pair, numbers_text, printed_terms, step_line, step_text, term_line, text_of, zone_line, zone_pair};
+ghost use Rattle.listing_io.specs.Listing.{ended, first_line, first_text, head_line, head_lines, head_pair};
+ghost use Rattle.listing_io.specs.Listing.{numbers_text, printed_terms, step_line, step_text, term_line, text_of};
+ghost use Rattle.listing_io.specs.Listing.{zone_line, zone_pair};
 
 use crate::pairs::{PairForm, push_pair};
 use crate::places::{
@@ -38,7 +40,7 @@ fn push_number_word(text: &mut Vec<u8>, n: u32) -> Result<(), AllocError>
     push_word(text, u64::from(n))
 }
 
-// The first line as far as its unit.
+// The first line up to its unit.
 fn push_digits(text: &mut Vec<u8>, s: u32) -> Result<(), AllocError>
     ensures { IfOk result (λ _. text.new.items ≡ text.old.items ++ (codes "HEADS 2 DIGITS" ++ numbers_text (s ∷ []) ++ codes " UNIT ")) }
 {
@@ -103,7 +105,7 @@ fn push_head(text: &mut Vec<u8>, grid: &Grid, cell: u32, bound: Bound) -> Result
     Ok(())
 }
 
-// The line of a cell, where it has one.
+// The line of a cell, if it has one.
 fn push_cell(
     text: &mut Vec<u8>,
     model: &FlowModel,
@@ -169,7 +171,7 @@ fn push_et(
     }
 }
 
-// The lines of the terms that go one way.
+// The lines of the terms in one direction.
 fn push_terms(
     text: &mut Vec<u8>,
     evt: bool,
@@ -178,7 +180,9 @@ fn push_terms(
     pairs: &[TermPair; 8],
 ) -> Result<(), AllocError>
     requires { s ≤ 18 }
-    ensures { IfOk result (λ _. text.new.items ≡ text.old.items ++ text_of (map (λ t. term_line s dir t (slice_index_or pairs.now (place_of t) no_pair)) (printed_terms evt))) }
+    ensures { IfOk result (λ _. text.new.items ≡ text.old.items
+        ++ text_of (map (λ t. term_line s dir t (slice_index_or pairs.now (place_of t) no_pair))
+        (printed_terms evt))) }
 {
     push_term(text, s, dir, Term::Storage, pairs[0])?;
     push_term(text, s, dir, Term::ConstantHead, pairs[1])?;
@@ -191,7 +195,7 @@ fn push_terms(
     Ok(())
 }
 
-// What the line of a zone flow begins with.
+// The beginning of the line of a zone flow.
 fn push_zone_front(text: &mut Vec<u8>, zone: ZoneFlow) -> Result<(), AllocError>
     ensures { IfOk result (λ _. text.new.items ≡ text.old.items ++ (codes "ZONE" ++ numbers_text (zone.from ∷ zone.to ∷ []) ++ codes " ")) }
 {
@@ -236,7 +240,7 @@ fn push_zones(text: &mut Vec<u8>, s: u32, zones: &[ZoneFlow]) -> Result<(), Allo
 }
 
 /// A step of a listing: the heads of all cells of the grid, of which the active ones are printed, the budget with ET
-/// where the model has EVT, and the zone flows.
+/// if the model has EVT, and the zone flows.
 #[tactic(auto, unfolding(crate::specs::Listing::step_text, crate::specs::Listing::step_lines, crate::specs::Listing::term_lines))]
 pub fn write_step(
     alloc: Global,

@@ -10,7 +10,7 @@ use fixed_text::push_fixed;
 use std::alloc::AllocError;
 use std::marker::Model;
 
-/// How two numbers stand in a line: their decimals, their greatest magnitude, and what stands behind them.
+/// The form of a line with two numbers: their decimals, their greatest magnitude, and the text after them.
 #[derive(Drop)]
 pub(crate) struct PairForm<'a> {
     pub places: u32,
@@ -41,7 +41,7 @@ fn push_numbers(
     Ok(())
 }
 
-/// Writes two numbers and what stands behind them.
+/// Writes two numbers and the text after them.
 pub(crate) fn push_pair(
     text: &mut Vec<u8>,
     form: &PairForm,
@@ -56,7 +56,8 @@ pub(crate) fn push_pair(
 
 #[tactic(auto, unfolding(crate::specs::Forms::candidate))]
 fn candidate(front: &[u8], line: &[u8]) -> Option<TermPair>
-    ensures { MatchOption result ((2 ^ 126 ≤ nat_abs (candidate front.now line.now).lo) ⊎ (2 ^ 126 ≤ nat_abs (candidate front.now line.now).hi)) (λ p. p ≡ candidate front.now line.now) }
+    ensures { MatchOption result ((2 ^ 126 ≤ nat_abs (candidate front.now line.now).lo)
+        ⊎ (2 ^ 126 ≤ nat_abs (candidate front.now line.now).hi)) (λ p. p ≡ candidate front.now line.now) }
 {
     let numbers = behind(line, front.len());
     let lo = value_in(first_word(numbers))?;
@@ -70,7 +71,7 @@ fn is_within(form: &PairForm, pair: TermPair) -> bool
     pair.lo.unsigned_abs() <= form.limit && pair.hi.unsigned_abs() <= form.limit
 }
 
-/// The numbers of which just this line is written, behind the text that it is to begin with.
+/// The two numbers after the prefix `text`, if writing them gives exactly this line.
 #[tactic(auto, unfolding(crate::specs::Forms::pair_in))]
 pub(crate) fn pair_in(
     text: &mut Vec<u8>,

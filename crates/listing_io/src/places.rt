@@ -1,4 +1,4 @@
-// The words that lines of a listing begin with.
+// The words at the beginning of a listing's lines.
 ghost use Rattle.std.specs.Prelude.{◌≡◌, ◌++◌, [], ◌∷◌, codes, decimal, IfOk};
 ghost use Rattle.step_problem.specs.Names.{dir_name, side_name, term_name};
 ghost use Rattle.model_types.specs.Cells.{place};
@@ -10,7 +10,7 @@ use model_types::{FlowModel, Grid, TimeStep};
 use std::alloc::AllocError;
 use step_problem::{Dir, Side, Term};
 
-/// Writes a number behind a blank.
+/// Writes a blank and a number.
 pub(crate) fn push_word(text: &mut Vec<u8>, n: u64) -> Result<(), AllocError>
     ensures { IfOk result (λ _. text.new.items ≡ text.old.items ++ (codes " " ++ decimal n)) }
 {
@@ -18,7 +18,7 @@ pub(crate) fn push_word(text: &mut Vec<u8>, n: u64) -> Result<(), AllocError>
     push_number(text, u128::from(n))
 }
 
-/// Writes two numbers, each behind a blank.
+/// Writes two numbers, each after a blank.
 pub(crate) fn push_two(text: &mut Vec<u8>, a: u32, b: u32) -> Result<(), AllocError>
     ensures { IfOk result (λ _. text.new.items ≡ text.old.items ++ numbers_text (a ∷ b ∷ [])) }
 {
@@ -26,7 +26,7 @@ pub(crate) fn push_two(text: &mut Vec<u8>, a: u32, b: u32) -> Result<(), AllocEr
     push_word(text, u64::from(b))
 }
 
-/// Writes three numbers, each behind a blank.
+/// Writes three numbers, each after a blank.
 pub(crate) fn push_three(text: &mut Vec<u8>, a: u64, b: u64, c: u64) -> Result<(), AllocError>
     ensures { IfOk result (λ _. text.new.items ≡ text.old.items ++ numbers_text (a ∷ b ∷ c ∷ [])) }
 {
@@ -51,7 +51,7 @@ pub(crate) fn push_place(text: &mut Vec<u8>, grid: &Grid, cell: u32) -> Result<(
     )
 }
 
-/// Writes what the line of a cell's heads begins with.
+/// Writes the beginning of the line of a cell's heads.
 pub(crate) fn push_head_front(text: &mut Vec<u8>, grid: &Grid, cell: u32) -> Result<(), AllocError>
     requires { HasSize grid.now }
     ensures { IfOk result (λ _. text.new.items ≡ text.old.items ++ head_front grid.now cell) }
@@ -70,7 +70,7 @@ pub(crate) fn push_step_line(text: &mut Vec<u8>, at: TimeStep) -> Result<(), All
     push_two(text, at.period, at.step)
 }
 
-/// What the lines of the terms that go one way begin with.
+/// The beginning of the lines of the terms in one direction.
 pub(crate) fn dir_front(dir: Dir) -> &'static [u8]
     ensures { result.now ≡ dir_front dir }
 {
@@ -80,7 +80,7 @@ pub(crate) fn dir_front(dir: Dir) -> &'static [u8]
     }
 }
 
-/// The word of a way, behind a blank.
+/// The word of a direction, after a blank.
 pub(crate) fn dir_word(dir: Dir) -> &'static [u8]
     ensures { result.now ≡ codes " " ++ dir_name dir }
 {
@@ -90,7 +90,7 @@ pub(crate) fn dir_word(dir: Dir) -> &'static [u8]
     }
 }
 
-/// The word of a side, behind a blank.
+/// The word of a side, after a blank.
 pub(crate) fn side_word(side: Side) -> &'static [u8]
     ensures { result.now ≡ codes " " ++ side_name side }
 {
@@ -100,7 +100,7 @@ pub(crate) fn side_word(side: Side) -> &'static [u8]
     }
 }
 
-/// The name of a term, behind a blank.
+/// The name of a term, after a blank.
 pub(crate) fn term_word(term: Term) -> &'static [u8]
     ensures { result.now ≡ codes " " ++ term_name term }
 {

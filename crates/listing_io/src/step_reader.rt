@@ -18,7 +18,7 @@ use model_types::{FlowModel, Grid, Listed, TimeStep};
 use std::alloc::Global;
 use step_problem::{Bound, Dir, Term};
 
-/// The two numbers of the next line, which is to begin with this text; the text is used up.
+/// The two numbers of the next line, which must begin with this text; the text is used up.
 #[tactic(auto, unfolding(crate::specs::Reading::pair_at))]
 fn read_pair(text: &mut Vec<u8>, form: &PairForm, lines: &mut AllLines) -> Result<TermPair, Fault>
     requires some { 0 < form.now.places }
@@ -162,7 +162,7 @@ fn read_title(text: &mut Vec<u8>, at: TimeStep, lines: &mut AllLines) -> Result<
     lines.expect(text.as_slice())
 }
 
-/// A step, or the first line that isn't of the form due.
+/// A step, or the first line of another form than the one due.
 #[tactic(auto, unfolding(crate::specs::Reading::step_at))]
 pub(crate) fn read_step(
     alloc: Global,

@@ -1,4 +1,4 @@
-// Where a word ends.
+// The end of a word.
 ghost use Rattle.std.specs.Prelude.{◌≡◌, ◌≤◌, ◌==◌, drop, length, position};
 ghost use Rattle.std.specs.List.{position_or_len};
 ghost use Rattle.listing_io.specs.Forms.{behind_word, first_word};
@@ -9,7 +9,7 @@ fn blank_at(text: &[u8]) -> Option<usize>
     text.iter().position(|byte| *byte == b' ')
 }
 
-/// The number of bytes in front of the first blank.
+/// The number of bytes before the first blank.
 #[tactic(auto, using(record_lines::proofs::CutLemmas::place_of_some, record_lines::proofs::CutLemmas::place_of_none, record_lines::proofs::CutLemmas::place_within))]
 fn word_length(text: &[u8]) -> usize
     ensures value { result ≡ position_or_len (λ c. c == 32) text.now }
@@ -21,7 +21,7 @@ fn word_length(text: &[u8]) -> usize
     }
 }
 
-/// What stands behind so many bytes.
+/// The text after `count` bytes.
 pub(crate) fn behind(text: &[u8], count: usize) -> &[u8]
     ensures { result.now ≡ drop count text.now }
 {
@@ -32,14 +32,14 @@ pub(crate) fn behind(text: &[u8], count: usize) -> &[u8]
     }
 }
 
-/// What stands in front of the first blank.
+/// The text before the first blank.
 pub(crate) fn first_word(text: &[u8]) -> &[u8]
     ensures { result.now ≡ first_word text.now }
 {
     text.split_at(word_length(text)).0
 }
 
-/// What stands behind the first blank.
+/// The text after the first blank.
 pub(crate) fn behind_word(text: &[u8]) -> &[u8]
     ensures { result.now ≡ behind_word text.now }
 {

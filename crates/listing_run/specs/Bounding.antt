@@ -1,4 +1,4 @@
--- What the steps of a listing say of every history that solves the model's exact equations.
+-- How the steps of a listing enclose every history that solves the model's exact equations.
 use Rattle.std.specs.Prelude.{ℕ, List, [], ◌∷◌, ℤ}
 use Rattle.decimal_input.specs.Fractions.{Fraction}
 use Rattle.step_problem.specs.declared.heads.Bound.{Bound}
@@ -11,22 +11,25 @@ use Rattle.step_chain.specs.Enclosing.{LiesWithin, IsMove}
 use Rattle.listing_run.specs.declared.task.Task.{Task}
 use Rattle.listing_run.specs.declared.step.Step.{Step}
 
--- The vector X over d lies between a step's heads, and each exact term of its budget between the step's two bounds, where `before` are the exact heads before it.
+-- The vector X over d lies between a step's heads, and each exact term of its budget between the step's two bounds,
+-- where `before` are the exact heads before it.
 pub record Bounds (k : Task) (v : Step) (before : ℕ → Fraction) (d : ℕ) (X : ℕ → ℤ) : Type 0 where
   pub heads : LiesWithin k.model v.heads d X
-  pub budget : BudgetEncloses k.digits (exact_step k.model v.at.period v.at.step before) (heads_of d (variable_heads (exact_step k.model v.at.period v.at.step before) X)) v.budget
+  pub budget : BudgetEncloses k.digits (exact_step k.model v.at.period v.at.step before)
+      (heads_of d (variable_heads (exact_step k.model v.at.period v.at.step before) X)) v.budget
 
--- so it is of each step and its vector, in turn
+-- this holds of each step and its vector, in turn
 abbrev pub BoundAll : Task → ℕ → (ℕ → Fraction) → List Step → List (ℕ → ℤ) → Type 0
 BoundAll k d before [] [] = Unit {0}
 BoundAll k d before (v ∷ values) (X ∷ Xs) = Bounds k v before d X × BoundAll k d (heads_of d X) values Xs
 BoundAll k d before [] (X ∷ Xs) = ⊥
 BoundAll k d before (v ∷ values) [] = ⊥
 
--- Every history that solves the exact equations of all steps, over any denominator, lies between their heads, with each of its budget flows between their terms.
+-- Every history that solves the exact equations of all steps, over any denominator, lies between their heads, with
+-- each of its budget flows between their terms.
 abbrev pub EnclosesHistories : Task → List Step → Type 0
 EnclosesHistories k values = (d : ℕ) (Xs : List (ℕ → ℤ)) → Solves k.model d Xs → BoundAll k d (start_head k.model) values Xs
 
--- of one step: so it is for all exact heads within the old ones, and every solution from them
+-- for one step: this holds for all exact heads within the old ones, and every solution from them
 abbrev pub BoundsMoves : Task → TimeStep → List Bound → Step → Type 0
 BoundsMoves k at old v = (before : ℕ → Fraction) (d : ℕ) (X : ℕ → ℤ) → IsMove k.model at old before d X → Bounds k v before d X

@@ -1,4 +1,4 @@
--- What the calls of a run over the steps hand to each other.
+-- Facts that the calls of a run over the steps pass to each other.
 use Rattle.std.specs.Prelude.{◌≡◌, List, ◌≤◌, None}
 use Rattle.outside.specs.Puts.{Put}
 use Rattle.step_problem.specs.declared.heads.Bound.{Bound}
@@ -22,7 +22,7 @@ use Rattle.listing_run.specs.Steps.{IsStep, HasNoBound, IsOpen}
 use Rattle.listing_run.specs.Bounding.{BoundsMoves}
 use Rattle.listing_run.specs.Listing.{text_of}
 
--- what a run asks of a task: a valid model, at most 18 digits, and no zone file
+-- the conditions on a task: a valid model, at most 18 digits, and no zone file
 pub record IsTask (k : Task) : Type 0 where
   pub model : IsModel k.model
   pub digits : k.digits ≤ 18
@@ -33,7 +33,7 @@ pub record AreTablesOf (k : Task) (t : RunTables) : Type 0 where
   pub digits : digits_of t ≡ k.digits
   pub tables : AreRunTables k.model t
 
--- the cause of a step's fault; want of memory is free
+-- the cause of a step's fault; lack of memory is possible at any time
 abbrev pub FailsBy : Task → TimeStep → List Bound → Fault → Type 0
 FailsBy k at old (fault.NoBound n) = HasNoBound k at old n
 FailsBy k at old fault.Unfinished = IsOpen k at old

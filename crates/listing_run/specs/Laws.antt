@@ -1,4 +1,4 @@
--- Laws of listings: a model has one listing, and one that is whole has no other end.
+-- Laws of listings: a model has one listing, and a model with a whole one has no other end.
 use Rattle.std.specs.Prelude.{◌≡◌, List}
 use Rattle.step_problem.specs.declared.place.NoBound.{NoBound}
 use Rattle.model_types.specs.declared.time_steps.TimeStep.{TimeStep}
@@ -12,14 +12,21 @@ use Rattle.listing_run.specs.Steps.{Whole, WithoutBound, Open, AllSteps, AllSett
 abbrev pub ListingIsOne : Type 0
 ListingIsOne = (k : Task) (values others : List Step) → IsModel k.model → AllSteps k values Whole → AllSteps k others Whole → others ≡ values
 
--- where there is one, no step has a refusal
+-- if there is one, no step has a refusal
 abbrev pub ListingExcludesRefusal : Type 0
-ListingExcludesRefusal = (k : Task) (values others : List Step) (at : TimeStep) (n : NoBound) → IsModel k.model → AllSteps k values Whole → AllSteps k others (WithoutBound at n) → ⊥
+ListingExcludesRefusal =
+    (k : Task) (values others : List Step) (at : TimeStep) (n : NoBound) → IsModel k.model → AllSteps k values Whole →
+    AllSteps k others (WithoutBound at n) → ⊥
 
--- and where the rounds settle each of its steps, none is open
+-- if the rounds settle each of its steps, none is open
 abbrev pub SettledListingIsClosed : Type 0
-SettledListingIsClosed = (k : Task) (values others : List Step) (at : TimeStep) → IsModel k.model → (whole : AllSteps k values Whole) → AllSettle k whole.start (times k.model) values → AllSteps k others (Open at) → ⊥
+SettledListingIsClosed =
+    (k : Task) (values others : List Step) (at : TimeStep) → IsModel k.model → (whole : AllSteps k values Whole) →
+    AllSettle k whole.start (times k.model) values → AllSteps k others (Open at) → ⊥
 
--- at most one step has a refusal, and it has one
+-- at most one step has a refusal, and only one refusal
 abbrev pub RefusalIsOne : Type 0
-RefusalIsOne = (k : Task) (values others : List Step) (s t : TimeStep) (a b : NoBound) → IsModel k.model → AllSteps k values (WithoutBound s a) → AllSteps k others (WithoutBound t b) → (s ≡ t) × (a ≡ b) × (values ≡ others)
+RefusalIsOne =
+    (k : Task) (values others : List Step) (s t : TimeStep) (a b : NoBound) → IsModel k.model →
+    AllSteps k values (WithoutBound s a) → AllSteps k others (WithoutBound t b) → (s ≡ t) × (a ≡ b)
+    × (values ≡ others)

@@ -40,7 +40,8 @@ time period step = record { period = period; step = step }
 -- The pieces of a listing that ends with this status, and the cause of that status.
 abbrev pub IsListing : Task → Status → List Text → Type 0
 IsListing k status.Ok pieces = IsWhole k pieces
-IsListing k (status.NoBound period step fault) pieces = IsBroken k (WithoutBound (time period step) fault) (no_bound_line k.model.grid (time period step) fault) pieces
+IsListing k (status.NoBound period step fault) pieces =
+    IsBroken k (WithoutBound (time period step) fault) (no_bound_line k.model.grid (time period step) fault) pieces
 IsListing k (status.Unfinished period step) pieces = IsBroken k (Open (time period step)) (unfinished_line (time period step)) pieces
 IsListing k other pieces = ⊥
 

@@ -1,4 +1,4 @@
-// What a run over the steps begins with.
+// The data with which a run over the steps begins.
 ghost use Rattle.std.specs.Prelude.{◌≡◌, IfOk};
 ghost use Rattle.model_types.specs.Heads.{start_head};
 ghost use Rattle.model_types.specs.Times.{times};
@@ -22,7 +22,7 @@ pub(crate) struct Begun {
     pub pending: Vec<u8>,
 }
 
-/// What a run over the steps of a task begins with.
+/// The data with which a run over the steps of a task begins.
 pub(crate) fn begin(alloc: Global, task: &Task) -> Result<Begun, AllocError>
     requires { IsTask task.now }
     ensures times { IfOk result (λ b. b.times.items ≡ times task.now.model) }

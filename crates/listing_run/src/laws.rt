@@ -4,7 +4,7 @@ ghost use Rattle.listing_run.specs.Laws.{ListingIsOne, ListingExcludesRefusal, S
 use problem_builder::laws::{one_list_of_start_heads, start_heads_fit};
 use step_chain::laws::{heads_fit, no_step_beside_a_refusal, one_refusal, one_step};
 
-/// A model has at most one listing, and one that is whole has no other end, but for rounds that don't settle a step.
+/// A model has at most one listing, and a model with a whole listing has no other end, except rounds that don't settle a step.
 pub fn one_listing()
     ensures one { ListingIsOne }
     ensures bound { ListingExcludesRefusal }

@@ -1,4 +1,4 @@
-//! A listing: step after step is solved, and each is put while the next one is solved.
+//! A listing: the steps are solved in order, and each is put while the next one is solved.
 #![tactic(auto)]
 
 mod begin;

@@ -1,4 +1,4 @@
-// The steps are put, each while the next one is solved.
+// Putting the steps, each while the next one is solved.
 ghost use Rattle.std.specs.Prelude.{◌≡◌, List, ◌++◌, Contains, IfOk, IfErr, MatchResult};
 ghost use Rattle.outside.specs.Puts.{Put};
 ghost use Rattle.model_types.specs.Times.{times};
@@ -54,7 +54,7 @@ fn put_while_solving<R: Threads + Sync, K: Sink + Send, S: Settler>(
     )
 }
 
-// Puts a last line, or the line MEMORY where memory was wanting for it.
+// Puts a last line, or the line MEMORY if there was no memory for it.
 fn put_line<K: Sink>(out: &mut K, line: Result<Vec<u8>, AllocError>, meant: Status) -> Status
     ensures { (start : _) (puts : List Put) → K.leads start puts out.old →
         (tail : List Put) × K.leads start (puts ++ tail) out.new × MatchResult line (λ text. IsLast text.items meant result tail) (λ _. IsWanting result tail) }
@@ -65,7 +65,7 @@ fn put_line<K: Sink>(out: &mut K, line: Result<Vec<u8>, AllocError>, meant: Stat
     }
 }
 
-// Ends at a step that has this fault.
+// Ends at a step with this fault.
 fn end_at<K: Sink>(alloc: Global, task: &Task, at: TimeStep, fault: Fault, out: &mut K) -> Status
     requires { IsTask task.now }
     ensures { (start : _) (puts : List Put) → K.leads start puts out.old →
@@ -153,7 +153,7 @@ fn put_listing<R: Threads + Sync, K: Sink + Send, S: Settler>(
 }
 
 /// Puts the listing of a task: the first line, each step while the next one is solved, and the last line. A failed
-/// put ends it before what the next step gave.
+/// put ends it, whatever the next step's result.
 pub fn put_steps<R: Threads + Sync, K: Sink + Send, S: Settler>(
     rt: &R,
     alloc: Global,

@@ -1,4 +1,4 @@
-// A step is solved and written.
+// Solving a step and writing its text.
 ghost use Rattle.std.specs.Prelude.{◌≡◌, Contains, IfOk, IfErr};
 ghost use Rattle.model_types.specs.Times.{times};
 ghost use Rattle.problem_builder.specs.GridHeads.{AreGridHeads};

@@ -17,7 +17,7 @@ pub struct Step {
     pub zones: Listed<ZoneFlow>,
 }
 
-/// Why a step isn't listed: its first refusal, rounds that don't settle it, or want of memory.
+/// Why a step isn't listed: its first refusal, rounds that don't settle it, or lack of memory.
 #[derive(Clone, Copy, Debug, PartialEq, Eq)]
 pub enum Fault {
     NoBound(NoBound),

@@ -1,8 +1,8 @@
-// What is listed.
+// A task: what is to be listed.
 use model_types::{FlowModel, Listed};
 
-/// What is listed: a model, the digits s of conductances, the zone of each cell, if there is a zone file, and how
-/// many plain rounds each step is given to settle.
+/// What is to be listed: a model, the digits s of conductances, the zone of each cell, if there is a zone file, and
+/// the number of plain rounds in which each step must settle.
 #[derive(Debug, Drop)]
 pub struct Task {
     pub model: FlowModel,

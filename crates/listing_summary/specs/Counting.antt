@@ -1,4 +1,4 @@
--- A summary, from one line HEAD and one step to the next, and what the calls that count hand to each other.
+-- A summary from one line HEAD and one step to the next, and facts that the counting calls pass to each other.
 use Rattle.std.specs.Prelude.{◌+◌, ◌*◌, pos, ◌+ℤ◌, List}
 use Rattle.std.specs.Int.{int_max}
 use Rattle.std.specs.List.{fold}
@@ -17,15 +17,22 @@ use Rattle.listing_summary.specs.Summaries.{printed, width}
 abbrev pub nothing : Summary
 nothing = record { steps = 0; heads = 0; widest = pos 0; low_sum = pos 0; high_sum = pos 0 }
 
--- one line HEAD more
+-- after one more line HEAD
 abbrev pub counted : Summary → Bound → Summary
-counted s b = record { steps = s.steps; heads = s.heads + 1; widest = int_max (width b) s.widest; low_sum = s.low_sum +ℤ b.low; high_sum = s.high_sum +ℤ b.high }
+counted s b =
+    record {
+      steps = s.steps;
+      heads = s.heads + 1;
+      widest = int_max (width b) s.widest;
+      low_sum = s.low_sum +ℤ b.low;
+      high_sum = s.high_sum +ℤ b.high;
+    }
 
--- one step more, with these heads of all cells
+-- after one more step, with these heads of all cells
 abbrev pub stepped : FlowModel → Summary → List Bound → Summary
 stepped m s heads = record (fold counted s (printed m 0 heads)) { steps = s.steps + 1 }
 
--- the sums are no greater than so many heads make them
+-- the sums are no greater than this many heads can make them
 pub record Fits (s : Summary) : Type 0 where
   pub widest : IsWithin s.widest (2 * head_limit)
   pub low : IsWithin s.low_sum (s.heads * head_limit)

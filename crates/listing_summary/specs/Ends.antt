@@ -1,4 +1,4 @@
--- What a summary says of its task, and why a task has none.
+-- What a summary says about its task, and why a task has none.
 use Rattle.std.specs.Prelude.{◌≡◌, List}
 use Rattle.listing_run.specs.declared.task.Task.{Task}
 use Rattle.listing_run.specs.declared.step.Step.{Step}
@@ -16,7 +16,7 @@ pub record IsSummarized (k : Task) (s : Summary) : Type 0 where
   pub encloses : EnclosesHistories k values
   pub is : s ≡ summary_of k.model values
 
--- A step has this refusal, or the rounds don't settle it. Want of memory is free.
+-- A step has this refusal, or the rounds don't settle it. Lack of memory is possible at any time.
 abbrev pub StopsBy : Task → Stop → Type 0
 StopsBy k (NoBound at n) = (values : List Step) × AllSteps k values (WithoutBound at n)
 StopsBy k (Unfinished at) = (values : List Step) × AllSteps k values (Open at)

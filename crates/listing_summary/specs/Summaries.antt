@@ -1,4 +1,4 @@
--- What a listing comes to in few numbers.
+-- A listing summed up in a few numbers.
 use Rattle.std.specs.Prelude.{ℕ, ◌+◌, ℤ, pos, ◌+ℤ◌, ◌-ℤ◌, cond, List, [], ◌∷◌, ◌++◌, length}
 use Rattle.std.specs.Int.{int_max}
 use Rattle.std.specs.List.{flat_map, fold}
@@ -32,6 +32,14 @@ low_sum bs = fold (λ s b. s +ℤ b.low) (pos 0) bs
 abbrev pub high_sum : List Bound → ℤ
 high_sum bs = fold (λ s b. s +ℤ b.high) (pos 0) bs
 
--- The summary of a listing of a model: how many lines STEP and HEAD it has, the greatest width of a line HEAD, and the sums of their lower and upper heads, in units of 10^-9.
+-- The summary of a listing of a model: the numbers of its lines STEP and HEAD, the greatest width of a line HEAD, and
+-- the sums of their lower and upper heads, in units of 10^-9.
 abbrev pub summary_of : FlowModel → List Step → Summary
-summary_of m values = record { steps = length values; heads = length (printed_heads m values); widest = widest (printed_heads m values); low_sum = low_sum (printed_heads m values); high_sum = high_sum (printed_heads m values) }
+summary_of m values =
+    record {
+      steps = length values;
+      heads = length (printed_heads m values);
+      widest = widest (printed_heads m values);
+      low_sum = low_sum (printed_heads m values);
+      high_sum = high_sum (printed_heads m values);
+    }

@@ -13,4 +13,7 @@ abbrev pub head_line : List ℕ → ℤ → List ℕ
 head_line word z = ended (word ++ codes " " ++ fixed_text 9 z)
 
 unfoldable pub summary_text : ℕ → ℕ → Summary → List ℕ
-summary_text seed size s = count_line (codes "MADE") (seed ∷ size ∷ []) ++ count_line (codes "STEPS") (s.steps ∷ []) ++ count_line (codes "HEADS") (s.heads ∷ []) ++ head_line (codes "WIDEST") s.widest ++ head_line (codes "LOWSUM") s.low_sum ++ head_line (codes "HIGHSUM") s.high_sum ++ codes "END\n"
+summary_text seed size s =
+    count_line (codes "MADE") (seed ∷ size ∷ []) ++ count_line (codes "STEPS") (s.steps ∷ [])
+    ++ count_line (codes "HEADS") (s.heads ∷ []) ++ head_line (codes "WIDEST") s.widest
+    ++ head_line (codes "LOWSUM") s.low_sum ++ head_line (codes "HIGHSUM") s.high_sum ++ codes "END\n"

@@ -1,4 +1,4 @@
-// What the steps of a listing begin with.
+// The data with which the steps of a listing begin.
 ghost use Rattle.std.specs.Prelude.{◌≡◌, ◌≤◌, length, IfOk};
 ghost use Rattle.model_types.specs.Heads.{start_head};
 ghost use Rattle.model_types.specs.Times.{times};
@@ -19,7 +19,7 @@ pub(crate) struct Begun {
     pub old: Vec<Bound>,
 }
 
-/// What the steps of a task begin with.
+/// The data with which the steps of a task begin.
 pub(crate) fn begin(alloc: Global, task: &Task) -> Result<Begun, AllocError>
     requires { IsTask task.now }
     ensures times { IfOk result (λ b. b.times.items ≡ times task.now.model) }

@@ -1,4 +1,4 @@
-//! The summary of a listing: its steps are solved one after another and counted, and none is put.
+//! The summary of a listing: its steps are solved one after another and counted; none of them is put.
 #![tactic(auto)]
 
 mod begin;

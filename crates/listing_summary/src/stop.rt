@@ -6,7 +6,7 @@ use listing_run::Fault;
 use model_types::TimeStep;
 use step_problem::NoBound;
 
-/// Why a listing has no summary: the first refusal of a step, rounds that don't settle a step, or want of memory.
+/// Why a listing has no summary: the first refusal of a step, rounds that don't settle a step, or lack of memory.
 #[derive(Clone, Copy, Debug, PartialEq, Eq)]
 pub enum Stop {
     NoBound(TimeStep, NoBound),
@@ -14,7 +14,7 @@ pub enum Stop {
     Memory,
 }
 
-/// The same, by the fault of the step of a time.
+/// The reason at the step of a time, from the step's fault.
 pub(crate) fn stop_at(at: TimeStep, fault: Fault) -> Stop
     ensures { result ≡ stop_of at fault }
 {

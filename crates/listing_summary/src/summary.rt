@@ -1,4 +1,4 @@
-// The lines HEAD of a listing are counted.
+// Counting the lines HEAD of a listing.
 ghost use Rattle.std.specs.Prelude.{◌≡◌, ◌+◌, ◌^◌, ◌+ℤ◌, ◌<◌, ◌≤◌, [], ◌∷◌, cond, length, All};
 ghost use Rattle.std.specs.Int.{int_max};
 ghost use Rattle.std.specs.List.{fold};
@@ -10,7 +10,7 @@ ghost use Rattle.listing_summary.specs.Summaries.{printed, width};
 use model_types::FlowModel;
 use step_problem::Bound;
 
-/// The summary of a listing: how many lines STEP and HEAD it has, the greatest upper less lower head of a line HEAD,
+/// The summary of a listing: the numbers of its lines STEP and HEAD, the greatest upper less lower head of a line HEAD,
 /// and the sums of their lower and of their upper heads, in units of 10^-9.
 #[derive(Clone, Copy, Debug, PartialEq, Eq)]
 pub struct Summary {
@@ -82,7 +82,7 @@ impl Summary {
         self.add(bound);
     }
 
-    // Counts a cell, where it has a line.
+    // Counts a cell, if it has a line.
     fn count_cell(&mut self, model: &FlowModel, cell: u32, bound: Bound)
         requires room { self.old.heads < 6553600000 }
         requires fits { Fits self.old }

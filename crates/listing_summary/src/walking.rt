@@ -1,4 +1,4 @@
-// The steps of a listing are solved one after another, and counted.
+// Solving the steps of a listing one after another, and counting them.
 ghost use Rattle.std.specs.Prelude.{◌≡◌, IfOk, IfErr};
 ghost use Rattle.listing_run.specs.Ends.{IsTask, AreTablesOf};
 ghost use Rattle.listing_summary.specs.Ends.{IsSummarized, StopsBy};
@@ -42,7 +42,7 @@ fn count_steps<S: Settler>(
     Ok(summary)
 }
 
-/// The summary of the one listing of a task, or why it has none.
+/// The summary of a task's one listing, or why it has none.
 pub fn summarize<S: Settler>(alloc: Global, task: &Task, settler: &mut S) -> Result<Summary, Stop>
     requires ready { S.ready settler.old }
     requires rounds { S.rounds settler.old ≡ task.now.rounds }

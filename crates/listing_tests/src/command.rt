@@ -45,7 +45,7 @@ fn of_word(word: &str) -> Option<Command> {
 }
 
 impl Command {
-    /// The command of a line and what stands behind it, where the line isn't one of a listing.
+    /// The command of a line and the text after it, if the line isn't one of a listing.
     pub fn of(line: &str) -> Option<(Command, &str)> {
         let (word, rest) = line.split_once(' ').unwrap_or((line, ""));
         Some((of_word(word)?, rest))

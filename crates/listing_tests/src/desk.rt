@@ -1,4 +1,4 @@
-// The model that is meant, its listing, and the step that is to be written.
+// The current model, its listing, and the step to be written.
 ghost use Rattle.std.specs.Prelude.{◌≤◌, IfOk, length};
 ghost use Rattle.model_types.specs.Grids.{HasSize};
 
@@ -30,7 +30,7 @@ impl Desk {
         }
     }
 
-    /// From here on this row of cells is meant.
+    /// Sets the current model to this row of cells.
     pub fn choose_row(&mut self, alloc: Global, words: &str) -> Result<(), AllocError> {
         let numbers = numbers_of(alloc, words)?;
         self.lenuni = integer_at(&numbers, 0);
@@ -42,12 +42,12 @@ impl Desk {
         Ok(())
     }
 
-    /// From here on so many digits are meant.
+    /// Sets the number of digits.
     pub fn choose_digits(&mut self, words: &str) {
         self.digits = words.parse::<u32>().unwrap_or(0);
     }
 
-    /// Begins the listing, which has no line yet.
+    /// Begins a listing without lines.
     pub fn begin_listing(&mut self, alloc: Global) {
         self.listing = String::new(alloc);
     }

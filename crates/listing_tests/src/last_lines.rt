@@ -22,7 +22,7 @@ fn unclear(alloc: Global) -> Result<Vec<u8>, AllocError> {
     Vec::from_slice(alloc, b"unclear\n")
 }
 
-// Behind the line a layer, a row and a column may stand.
+// A layer, a row and a column may follow the line.
 fn refused_line(alloc: Global, words: &str) -> Result<Vec<u8>, AllocError> {
     let (code, words) = words.split_once(' ').unwrap_or((words, ""));
     let (file, words) = words.split_once(' ').unwrap_or((words, ""));

@@ -1,18 +1,18 @@
 //! Writes listings, reads listings, and writes the last lines of runs that don't end well, all as standard input asks,
 //! and prints each text, what is read of it, or why it is refused.
 //!
-//! `@row LENUNI NEVTOP IBOUND ..` says which model is meant from here on: a row of cells in one steady step, where
-//! NEVTOP is 0 without EVT; and `@digits DIGITS` how many digits its conductances have. `@listing` begins a listing,
+//! `@row LENUNI NEVTOP IBOUND ..` sets the current model: a row of cells in one steady step, where
+//! NEVTOP is 0 without EVT; and `@digits DIGITS` the number of digits of its conductances. `@listing` begins a listing,
 //! whose lines follow it, and `@read` reads it. `@line NUMBER TEXT` reads it with this text in place of a line and its
-//! line feed, where `␊`, `␍` and `␉` stand for a line feed, a carriage return and a tab. `@bytes` reads it with `~` in
+//! line feed, where `␊`, `␍` and `␉` mean a line feed, a carriage return and a tab. `@bytes` reads it with `~` in
 //! place of each byte in turn, and prints how many bytes of each line, its line feed included, are refused at that line.
-//! `@cut` reads what stands in front of each line feed, and with it, and prints the line that each is refused at, or 0.
+//! `@cut` reads the text before each line feed, and with it, and prints the line at which each is refused, or 0.
 //!
 //! `@heads LOW HIGH ..` are the bounds of all cells of a step to be written, `@in LOW HIGH ..` and `@out LOW HIGH ..`
 //! the terms of its budget in the order of the listing, and `@zone FROM TO LOW HIGH` is one more flow between zones.
 //! `@write PERIOD STEP` writes the first line of the listing, and the step. `@nobound PERIOD STEP NUMBER PLACE`, `@open
-//! PERIOD STEP PLACE`, `@unfinished PERIOD STEP` and `@refused NUMBER FILE LINE`, behind which a layer, a row and a
-//! column may stand, write a last line. A place is `CELL ID SIDE`, `IN TERM`, `OUT TERM` or `ZONE FROM TO`. A line `@
+//! PERIOD STEP PLACE`, `@unfinished PERIOD STEP` and `@refused NUMBER FILE LINE`, after which a layer, a row and a
+//! column may follow, write a last line. A place is `CELL ID SIDE`, `IN TERM`, `OUT TERM` or `ZONE FROM TO`. A line `@
 //! ..` says what is shown, and is printed.
 #![tactic(auto)]
 

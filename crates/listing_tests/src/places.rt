@@ -2,7 +2,7 @@
 use model_types::TimeStep;
 use step_problem::{Dir, Place, Side, Term};
 
-// Two numbers, and the words behind them.
+// Two numbers, and the words after them.
 fn two_of(words: &str) -> Option<(u32, u32, &str)> {
     let (first, rest) = words.split_once(' ')?;
     let (second, rest) = rest.split_once(' ').unwrap_or((rest, ""));
@@ -13,7 +13,7 @@ fn two_of(words: &str) -> Option<(u32, u32, &str)> {
     ))
 }
 
-/// A stress period and a step of it, and the words behind them.
+/// A stress period and a step of it, and the words after them.
 pub fn time_of(words: &str) -> Option<(TimeStep, &str)> {
     let (period, step, rest) = two_of(words)?;
     Some((TimeStep { period, step }, rest))

@@ -1,4 +1,4 @@
-// What is read of a listing.
+// What is read from a listing.
 ghost use Rattle.std.specs.Prelude.{◌<◌, length};
 
 use crate::desk::Desk;

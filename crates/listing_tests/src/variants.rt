@@ -1,10 +1,10 @@
-// Variants of the listing, and what is read of them.
+// Variants of the listing, and the results of reading them.
 use crate::desk::Desk;
 use crate::reading::{print_read, refused_at};
 use std::alloc::{AllocError, Global};
 use std::io;
 
-// The text whose control characters stand as pictures in this one.
+// The text with the control characters that the pictures in this one mean.
 fn turned(alloc: Global, text: &str) -> Result<String, AllocError> {
     text.chars()
         .map(|c| match c {
@@ -16,7 +16,7 @@ fn turned(alloc: Global, text: &str) -> Result<String, AllocError> {
         .collect(alloc)
 }
 
-// The lines of the listing, where line `number`, counted from 1, and its line feed are this text.
+// The lines of the listing, with this text in place of line `number`, counted from 1, and its line feed.
 fn with_line(alloc: Global, listing: &str, number: u32, line: &str) -> Result<String, AllocError> {
     let mut text = String::new(alloc);
     let mut due: u32 = 1;
@@ -50,7 +50,7 @@ fn with_a_tilde(alloc: Global, listing: &str, place: usize) -> Result<String, Al
     Ok(text)
 }
 
-/// Prints of each line how many of its bytes are refused at it, each changed by itself.
+/// Prints for each line how many of its bytes are refused at it, each changed by itself.
 pub fn print_bytes(rt: &impl Print, alloc: Global, desk: &Desk) -> io::Result<()> {
     let mut line: u32 = 1;
     let mut refused: u32 = 0;
@@ -75,7 +75,7 @@ fn print_refused_at(rt: &impl Print, alloc: Global, desk: &Desk, text: &str) -> 
     }
 }
 
-/// Prints where each beginning of the listing that ends in front of a line feed or behind it is refused.
+/// Prints where each beginning of the listing that ends before or after a line feed is refused.
 pub fn print_cut(rt: &impl Print, alloc: Global, desk: &Desk) -> io::Result<()> {
     let mut text = String::new(alloc);
     print!(rt; "cut")?;

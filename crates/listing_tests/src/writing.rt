@@ -1,4 +1,4 @@
-// A step that is to be written.
+// A step to be written.
 ghost use Rattle.std.specs.Prelude.{◌≤◌};
 ghost use Rattle.model_types.specs.Grids.{HasSize};
 

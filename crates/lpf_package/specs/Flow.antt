@@ -18,13 +18,22 @@ abbrev pub is_transient : List Period → Bool
 is_transient periods = list_any (λ p. not p.steady) periods
 
 abbrev pub with_properties : FlowModel → Bool → List ℤ → Properties → FlowModel
-with_properties m coefficient layvka p = record m { coefficient = coefficient; layvka = layvka; hk = p.hk; hani = p.hani; vka = p.vka; ss = p.ss; vkcb = p.vkcb }
+with_properties m coefficient layvka p =
+    record m {
+      coefficient = coefficient;
+      layvka = layvka;
+      hk = p.hk;
+      hani = p.hani;
+      vka = p.vka;
+      ss = p.ss;
+      vkcb = p.vkcb;
+    }
 
--- a model with what a file of the package says
+-- a model with the contents of a file of the package
 abbrev pub with_contents : FlowModel → Contents → FlowModel
 with_contents m c = with_properties m c.coefficient c.layvka c.properties
 
--- What a file says for a grid, where SS stands in it or doesn't.
+-- The contents of a file for a grid; the flag says whether the file has SS.
 unfoldable pub contents_of : List File → List ℕ → List ℕ → Grid → Bool → Result Contents Refusal
 contents_of files file bytes grid stores = do
   coefficient ← option_line file (without_comments (left_from 1 bytes))
@@ -32,12 +41,12 @@ contents_of files file bytes grid stores = do
   layers ← layers_of files file grid settings.0.chani stores grid.layers settings.1
   Ok (record { coefficient = coefficient.0; layvka = settings.0.layvka; properties = layers.0 })
 
--- SS stands in the file where a period is transient
+-- the file has SS where a period is transient
 unfoldable pub lpf_of : List File → List ℕ → List ℕ → FlowModel → Result FlowModel Refusal
 lpf_of files file bytes m = do
   contents ← contents_of files file bytes m.grid (is_transient m.periods)
   Ok (with_contents m contents)
 
--- another model differs in what this package reads alone
+-- another model differs only in what this package reads
 abbrev pub SameBut : FlowModel → FlowModel → Type 0
 SameBut m n = n ≡ with_properties m n.coefficient n.layvka (record { hk = n.hk; hani = n.hani; vka = n.vka; ss = n.ss; vkcb = n.vkcb })

@@ -1,4 +1,4 @@
--- What is known of properties that were read, whatever the folder tells: lengths and canonical numbers.
+-- What is known of properties that were read, whatever the folder returned: lengths and canonical numbers.
 use Rattle.std.specs.Prelude.{◌≡◌, ℕ, cond, All, length}
 use Rattle.decimal_input.specs.Canonical.{IsDec}
 use Rattle.model_types.specs.declared.model.FlowModel.{FlowModel}
@@ -6,7 +6,7 @@ use Rattle.model_types.specs.Cells.{cell_count}
 use Rattle.lpf_package.specs.Flow.{is_transient}
 use Rattle.lpf_package.specs.declared.layer.Properties.{Properties}
 
--- arrays of so many cells, of which so many have storage
+-- arrays of this many cells, with storage for this many of them
 pub record AreLayers (cells stored : ℕ) (p : Properties) : Type 0 where
   pub hk : (length p.hk ≡ cells) × All IsDec p.hk
   pub hani : (length p.hani ≡ cells) × All IsDec p.hani

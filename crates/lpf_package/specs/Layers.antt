@@ -13,7 +13,7 @@ use Rattle.package_items.specs.Items.{layer_or}
 use Rattle.lpf_package.specs.declared.layer.Layer.{Layer}
 use Rattle.lpf_package.specs.declared.layer.Properties.{Properties}
 
--- SS, which is there only where a layer has storage
+-- SS, which the file has only for a layer with storage
 unfoldable pub storage_layer : List File → List ℕ → Layer → Left → Result (List Dec × Left) Refusal
 storage_layer files file x left = if x.stores then real_layer files file x.rows x.cols left else Ok ([], left)
 
@@ -30,7 +30,7 @@ layer_of files file x left = do
 abbrev pub joined : Properties → Properties → Properties
 joined above p = record { hk = above.hk ++ p.hk; hani = above.hani ++ p.hani; vka = above.vka ++ p.vka; ss = above.ss ++ p.ss; vkcb = above.vkcb ++ p.vkcb }
 
--- what layer k has, from 0
+-- what is read for layer k, from 0
 abbrev pub nth_layer : Grid → List Dec → Bool → ℕ → Layer
 nth_layer g chani stores k = record { rows = g.rows; cols = g.cols; chani = dec_at chani k; stores = stores; has_bed = is_nonzero (int_at g.laycbd k) }
 
@@ -39,4 +39,6 @@ layer_at files file g chani stores k s = layer_of files file (nth_layer g chani 
 
 -- layer by layer
 unfoldable pub layers_of : List File → List ℕ → Grid → List Dec → Bool → ℕ → Left → Result (Properties × Left) Refusal
-layers_of files file g chani stores count left = counted (layer_at files file g chani stores) 0 count (record { hk = []; hani = []; vka = []; ss = []; vkcb = [] }, left)
+layers_of files file g chani stores count left =
+    counted (layer_at files file g chani stores) 0 count
+    (record { hk = []; hani = []; vka = []; ss = []; vkcb = [] }, left)

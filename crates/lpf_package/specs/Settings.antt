@@ -1,4 +1,4 @@
--- The items in front of the layers' arrays (TM 6-A16, LPF, items 1 to 7).
+-- The items before the layers' arrays (TM 6-A16, LPF, items 1 to 7).
 use Rattle.std.specs.Prelude.{ℕ, pos, int_lt, List, Bool, Result, Ok, Err, if◌then◌else◌, codes}
 use Rattle.std.specs.List.{list_any}
 use Rattle.outside.specs.Refusals.{refusal}

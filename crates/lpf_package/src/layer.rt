@@ -16,7 +16,7 @@ use package_items::layer_or;
 use record_lines::Lines;
 use std::alloc::{AllocError, Global};
 
-/// The arrays of the layers that were read: conductivity along rows, its ratio along columns, VKA, specific
+/// The arrays of the layers read so far: conductivity along rows, its ratio along columns, VKA, specific
 /// storage, and the vertical conductivity of the beds below the layers.
 #[derive(Debug, Drop)]
 pub struct Properties {
@@ -27,7 +27,7 @@ pub struct Properties {
     pub vkcb: Listed<Dec>,
 }
 
-/// What a layer has: how many rows and columns, its CHANI, whether it has storage, and whether a bed lies below it.
+/// What is read for a layer: the numbers of rows and columns, its CHANI, whether it has storage, and whether a bed lies below it.
 #[derive(Clone, Copy, Debug, PartialEq, Eq)]
 pub struct Layer {
     pub rows: u32,
@@ -112,7 +112,7 @@ fn extended(list: Listed<Dec>, more: &[Dec]) -> Result<Listed<Dec>, AllocError>
     Ok(Listed::new(items))
 }
 
-/// The arrays of a layer behind those of the layers above it.
+/// The arrays of a layer after those of the layers above it.
 pub fn joined(above: Properties, layer: &Properties) -> Result<Properties, AllocError>
     ensures { IfOk result (λ p. p ≡ joined above layer.now) }
 {

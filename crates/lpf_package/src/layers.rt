@@ -15,7 +15,7 @@ use outside::{Folder, InputFault};
 use record_lines::Lines;
 use std::alloc::Global;
 
-/// What layer k has, from 0.
+/// What is read for layer k, from 0.
 fn nth_layer(grid: &Grid, chani: &[Dec], stores: bool, k: u32) -> Layer
     requires chani { All IsDec chani.now }
     ensures layer { result ≡ nth_layer grid.now chani.now stores k }
@@ -47,7 +47,8 @@ fn layer_at<F: Folder>(
     requires above { AreLayers (k * (grid.now.rows * grid.now.cols)) (cond stores (k * (grid.now.rows * grid.now.cols)) 0) above }
     ensures since { (files : List File) → F.agrees folder.new files → F.agrees folder.old files }
     ensures counts { InputCounts (F.faults folder.old) (F.faults folder.new) result }
-    ensures properties { (files : List File) → F.agrees folder.new files → Gives (λ p. p) result lines.new (layer_at files file.now grid.now chani.now stores k (above, lines.old)) }
+    ensures properties { (files : List File) → F.agrees folder.new files →
+        Gives (λ p. p) result lines.new (layer_at files file.now grid.now chani.now stores k (above, lines.old)) }
     ensures form { IfOk result (AreLayers ((k + 1) * (grid.now.rows * grid.now.cols)) (cond stores ((k + 1) * (grid.now.rows * grid.now.cols)) 0)) }
 {
     let layer = nth_layer(grid, chani, stores, k);
@@ -55,7 +56,7 @@ fn layer_at<F: Folder>(
     Ok(joined(above, &properties)?)
 }
 
-/// The arrays of so many layers.
+/// The arrays of `count` layers.
 #[tactic(auto, unfolding(crate::specs::Layers::layers_of), using(crate::proofs::LayerLemmas::at_first))]
 pub fn layers_of<F: Folder>(
     alloc: Global,
@@ -70,7 +71,8 @@ pub fn layers_of<F: Folder>(
     requires chani { All IsDec chani.now }
     ensures since { (files : List File) → F.agrees folder.new files → F.agrees folder.old files }
     ensures counts { InputCounts (F.faults folder.old) (F.faults folder.new) result }
-    ensures properties { (files : List File) → F.agrees folder.new files → Gives (λ p. p) result lines.new (layers_of files file.now grid.now chani.now stores count lines.old) }
+    ensures properties { (files : List File) → F.agrees folder.new files →
+        Gives (λ p. p) result lines.new (layers_of files file.now grid.now chani.now stores count lines.old) }
     ensures form { IfOk result (AreLayers (count * (grid.now.rows * grid.now.cols)) (cond stores (count * (grid.now.rows * grid.now.cols)) 0)) }
 {
     let mut properties = Properties {

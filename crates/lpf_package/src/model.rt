@@ -21,7 +21,7 @@ fn is_transient(periods: &[Period]) -> bool
     periods.iter().any(|p| !p.steady)
 }
 
-/// What a file of the package says: whether SS is a storage coefficient, LAYVKA by layer, and the layers' arrays.
+/// The contents of a file of the package: whether SS is a storage coefficient, LAYVKA by layer, and the layers' arrays.
 #[derive(Debug, Drop)]
 pub struct Contents {
     pub coefficient: bool,
@@ -57,7 +57,9 @@ fn contents_of<F: Folder>(
     ensures counts { InputCounts (F.faults folder.old) (F.faults folder.new) result }
     ensures contents { (files : List File) → F.agrees folder.new files → Has (λ c. c) result (contents_of files file.now bytes.now grid.now stores) }
     ensures layvka { IfOk result (λ c. length c.layvka ≡ grid.now.layers) }
-    ensures properties { IfOk result (λ c. AreLayers (grid.now.layers * (grid.now.rows * grid.now.cols)) (cond stores (grid.now.layers * (grid.now.rows * grid.now.cols)) 0) c.properties) }
+    ensures properties { IfOk result
+        (λ c. AreLayers (grid.now.layers * (grid.now.rows * grid.now.cols))
+        (cond stores (grid.now.layers * (grid.now.rows * grid.now.cols)) 0) c.properties) }
 {
     let mut lines = Lines::new(bytes);
     lines.skip_comments();
@@ -81,7 +83,7 @@ fn contents_of<F: Folder>(
 }
 
 /// The model with the properties of a file of the layer-property flow package. `file` is the file's name, for
-/// refusals, and `folder` has the files that its arrays name. `ss` stays empty where no period is transient, and
+/// refusals, and `folder` has the files that its arrays name. `ss` is empty where no period is transient, and
 /// `vkcb` is 0 in layers without a bed.
 ///
 /// # Errors

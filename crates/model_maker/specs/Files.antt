@@ -1,4 +1,5 @@
--- The files of a made model, by the number n of its rows and of its columns: two layers of n by n cells, and one transient stress period of four steps. `x` is the generator's number where a text's draws begin.
+-- The files of a made model, by the number n of its rows and of its columns: two layers of n by n cells, and one
+-- transient stress period of four steps. `x` is the generator's state where a text's draws begin.
 use Rattle.std.specs.Prelude.{ℕ, zero, suc, ◌+◌, ◌-◌, ◌*◌, List, [], ◌∷◌, ◌++◌, codes, decimal}
 use Rattle.outside.specs.Files.{File}
 use Rattle.model_maker.specs.Draws.{after, drawn}
@@ -6,12 +7,12 @@ use Rattle.model_maker.specs.Draws.{after, drawn}
 abbrev pub Text : Type 0
 Text = List ℕ
 
--- f 0, f 1, .., f (n - 1), one behind another
+-- f 0, f 1, .., f (n - 1), one after another
 unfoldable pub texts_below : ℕ → (ℕ → Text) → Text
 texts_below zero f = []
 texts_below (suc n) f = texts_below n f ++ f n
 
--- what parts the word at this place of a line from the word before it: a blank, but for the first one
+-- the separator before the word at this place of a line: a blank, but nothing before the first word
 abbrev pub gap : ℕ → Text
 gap zero = []
 gap (suc j) = codes " "
@@ -22,7 +23,9 @@ nam_text = codes "DIS 11 m.dis\nBAS6 12 m.bas\nLPF 13 m.lpf\nWEL 14 m.wel\nRIV 1
 
 -- NLAY NROW NCOL NPER ITMUNI LENUNI; LAYCBD; DELR, DELC, the top, and the bottoms of both layers; PERLEN NSTP TSMULT
 abbrev pub dis_text : ℕ → Text
-dis_text n = codes "2 " ++ decimal n ++ codes " " ++ decimal n ++ codes " 1 4 2\n0 0\nCONSTANT 100\nCONSTANT 100\nCONSTANT 20\nCONSTANT 10\nCONSTANT 0\n4 4 1 TR\n"
+dis_text n =
+    codes "2 " ++ decimal n ++ codes " " ++ decimal n
+    ++ codes " 1 4 2\n0 0\nCONSTANT 100\nCONSTANT 100\nCONSTANT 20\nCONSTANT 10\nCONSTANT 0\n4 4 1 TR\n"
 
 -- a row of IBOUND in layer 1, whose first column has given heads
 abbrev pub ibound_row : ℕ → Text
@@ -48,9 +51,11 @@ layer_text n x = codes "INTERNAL 1 (FREE) -1\n" ++ texts_below n (λ i. hk_row n
 abbrev pub lpf_text : ℕ → ℕ → Text
 lpf_text n x = codes "0 -1E+30 0\n0 0\n0 0\n1 1\n0 0\n0 0\n" ++ layer_text n x ++ layer_text n (after (n * n) x)
 
--- a well in layer 2: its row and its column, from 1 to n, and what it pumps, from 1 to 500
+-- a well in layer 2: its row and its column, from 1 to n, and its pumping rate, from 1 to 500
 abbrev pub wel_text : ℕ → ℕ → Text
-wel_text n x = codes "1 0\n1 0\n2 " ++ decimal (1 + drawn n x) ++ codes " " ++ decimal (1 + drawn n (after 1 x)) ++ codes " -" ++ decimal (1 + drawn 500 (after 2 x)) ++ codes "\n"
+wel_text n x =
+    codes "1 0\n1 0\n2 " ++ decimal (1 + drawn n x) ++ codes " " ++ decimal (1 + drawn n (after 1 x)) ++ codes " -"
+    ++ decimal (1 + drawn 500 (after 2 x)) ++ codes "\n"
 
 -- the river's reach in a row of layer 1, in the last column: its stage, its conductance and its bottom
 abbrev pub reach_text : ℕ → ℕ → Text
@@ -68,7 +73,10 @@ file name bytes = record { name = name; bytes = bytes }
 
 -- All files. The well is drawn after the 2 n n cells of the layers.
 unfoldable pub made_files : ℕ → ℕ → List File
-made_files seed n = file (codes "m.nam") nam_text ∷ file (codes "m.dis") (dis_text n) ∷ file (codes "m.bas") (bas_text n) ∷ file (codes "m.lpf") (lpf_text n seed) ∷ file (codes "m.wel") (wel_text n (after (2 * (n * n)) seed)) ∷ file (codes "m.riv") (riv_text n) ∷ file (codes "m.rch") rch_text ∷ []
+made_files seed n =
+    file (codes "m.nam") nam_text ∷ file (codes "m.dis") (dis_text n) ∷ file (codes "m.bas") (bas_text n)
+    ∷ file (codes "m.lpf") (lpf_text n seed) ∷ file (codes "m.wel") (wel_text n (after (2 * (n * n)) seed))
+    ∷ file (codes "m.riv") (riv_text n) ∷ file (codes "m.rch") rch_text ∷ []
 
 -- the name of the name file
 abbrev pub made_name : Text

@@ -1,8 +1,8 @@
-// The numbers that a made model is drawn from.
+// The generator of the numbers of a made model.
 ghost use Rattle.std.specs.Prelude.{◌≡◌, ◌<◌};
 ghost use Rattle.model_maker.specs.Draws.{drawn, next_state};
 
-/// The generator, by its number, which is below 2^31.
+/// The generator, with its state, which is below 2^31.
 #[derive(Drop)]
 pub(crate) struct Draws {
     pub(crate) x: u64,

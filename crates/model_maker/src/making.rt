@@ -1,4 +1,4 @@
-// All files in one folder. It has the file first that was added last.
+// All files in one folder. The folder lists the last added file first.
 ghost use Rattle.std.specs.Prelude.{◌≡◌, ◌≤◌, [], ◌∷◌, codes, IfOk};
 ghost use Rattle.model_maker.specs.Files.{bas_text, dis_text, file, made_files, made_name, nam_text, rch_text, riv_text};
 
@@ -23,7 +23,10 @@ fn add_stresses(
     well: &[u8],
     size: u64,
 ) -> Result<(), AllocError>
-    ensures { IfOk result (λ _. folder.new ≡ record folder.old { files = file (codes "m.wel") well.now ∷ file (codes "m.riv") (riv_text size) ∷ file (codes "m.rch") rch_text ∷ folder.old.files }) }
+    ensures { IfOk result (λ _. folder.new ≡ record folder.old {
+      files = file (codes "m.wel") well.now ∷ file (codes "m.riv") (riv_text size) ∷ file (codes "m.rch") rch_text
+          ∷ folder.old.files;
+    }) }
 {
     let river = riv_text(alloc, size)?;
     folder.add("m.rch", RECHARGE)?;
@@ -38,7 +41,10 @@ fn add_layers(
     size: u64,
 ) -> Result<(), AllocError>
     requires { 1 ≤ size }
-    ensures { IfOk result (λ _. folder.new ≡ record folder.old { files = file made_name nam_text ∷ file (codes "m.dis") (dis_text size) ∷ file (codes "m.bas") (bas_text size) ∷ file (codes "m.lpf") properties.now ∷ folder.old.files }) }
+    ensures { IfOk result (λ _. folder.new ≡ record folder.old {
+      files = file made_name nam_text ∷ file (codes "m.dis") (dis_text size)
+          ∷ file (codes "m.bas") (bas_text size) ∷ file (codes "m.lpf") properties.now ∷ folder.old.files;
+    }) }
 {
     let grid = dis_text(alloc, size)?;
     let heads = bas_text(alloc, size)?;
@@ -48,9 +54,9 @@ fn add_layers(
     folder.add(NAME, NAMES)
 }
 
-/// The files of the model that is made of a seed: two layers of `size` by `size` cells of 100 by 100 length units,
+/// The files of the model made from a seed: two layers of `size` by `size` cells of 100 by 100 length units,
 /// with hydraulic conductivities and a well that are drawn from the seed, given heads along the first column, a
-/// river along the last one, recharge, and one transient period of four steps. No call of the folder is to fail.
+/// river along the last one, recharge, and one transient period of four steps. No call of the folder fails.
 #[tactic(auto, unfolding(crate::specs::Files::made_files))]
 pub fn make(alloc: Global, seed: u32, size: u32) -> Result<MemFolder, AllocError>
     requires seed { seed ≤ 2147483647 }

@@ -6,7 +6,7 @@ use crate::draws::Draws;
 use fixed_text::push_number;
 use std::alloc::{AllocError, Global};
 
-/// The most that the well pumps.
+/// The greatest rate at which the well pumps.
 const GREATEST_RATE: u64 = 500;
 
 /// The file of WEL.

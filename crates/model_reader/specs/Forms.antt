@@ -1,4 +1,4 @@
--- What is known of a model behind BAS6, whatever the folder tells.
+-- What is known of a model after BAS6, whatever the folder returned.
 use Rattle.std.specs.Prelude.{◌≡◌, ℕ, ◌<◌, ◌≤◌, true, pos, All, length, sum_by}
 use Rattle.decimal_input.specs.Canonical.{IsDec}
 use Rattle.model_types.specs.declared.model.FlowModel.{FlowModel}

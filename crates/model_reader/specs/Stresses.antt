@@ -14,12 +14,12 @@ use Rattle.chd_package.specs.GivenHeads.{given_heads}
 use Rattle.rch_package.specs.Recharge.{rch_of}
 use Rattle.evt_package.specs.Evaporation.{evt_of}
 
--- the model with a package, where the name file names one
+-- the model with a package, if the name file names one
 abbrev pub where_named : Option (List ℕ) → (List ℕ → FlowModel → Result FlowModel Refusal) → FlowModel → Result FlowModel Refusal
 where_named None read m = Ok m
 where_named (Some name) read m = read name m
 
--- the model with what a package's reading makes of a file
+-- the model that a package's reading gives for a file
 unfoldable pub file_in : (List ℕ → List ℕ → FlowModel → Result FlowModel Refusal) → List File → List ℕ → FlowModel → Result FlowModel Refusal
 file_in read files name m = do
   bytes ← file_at files name

@@ -1,4 +1,4 @@
-// DIS, BAS6 and LPF with the checks on cells behind them.
+// DIS, BAS6 and LPF, each with the checks of cells that follow it.
 ghost use Rattle.std.specs.Prelude.{◌≡◌, Ok, All, IfOk, List};
 ghost use Rattle.outside.specs.Counts.{InputCounts};
 ghost use Rattle.outside.specs.Files.{File};
@@ -36,7 +36,7 @@ pub fn dis_in<F: Folder>(alloc: Global, folder: &mut F, name: &str) -> Result<Fl
     read_dis(alloc, name, &bytes, folder)
 }
 
-/// The model, whose cells pass a check.
+/// The model, if its cells pass a check.
 fn checked(
     alloc: Global,
     model: FlowModel,
@@ -52,8 +52,8 @@ fn checked(
     Ok(model)
 }
 
-/// The model behind the checks of the thickness of each active cell, which is refused with the file of DIS, and of the
-/// starting head of each.
+/// Checks the thickness of each active cell, which is refused with the file of DIS, and then the starting head
+/// of each.
 #[tactic(auto, unfolding(crate::specs::Model::basics_tested))]
 fn basics_tested(
     alloc: Global,

@@ -24,7 +24,7 @@ use stress_packages::{read_drn, read_ghb, read_riv, read_wel};
 
 /// A package of lists.
 pub trait ListPackage {
-    // What its reading makes of a file's name, the file's bytes, and a model.
+    // The model that its reading gives for a file's name, the file's bytes, and a model.
     ghost reading: { List ℕ → List ℕ → FlowModel → Result FlowModel Refusal };
 
     /// The model with the lists of a file.
@@ -126,7 +126,8 @@ pub fn list_in<L: ListPackage, F: Folder>(
     requires valid { IsModel model }
     ensures since { (files : List File) → F.agrees folder.new files → F.agrees folder.old files }
     ensures counts { InputCounts (F.faults folder.old) (F.faults folder.new) result }
-    ensures model { (files : List File) → F.agrees folder.new files → Has (λ m. m) result (where_named (file_of asked names.now) (file_in L.reading files) model) }
+    ensures model { (files : List File) → F.agrees folder.new files →
+        Has (λ m. m) result (where_named (file_of asked names.now) (file_in L.reading files) model) }
     ensures form { IfOk result IsModel }
 {
     match names.file_of(asked) {

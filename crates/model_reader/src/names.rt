@@ -15,7 +15,7 @@ use std::alloc::Global;
 /// The packages of the model that a name file of the folder describes.
 ///
 /// # Errors
-/// What `read_names` refuses. A name file that is missing or too long is refused with line 0. A read fault comes
+/// As `read_names`. A name file that is missing or too long is refused with line 0. A read fault comes
 /// only from the folder.
 #[tactic(auto, unfolding(crate::specs::Names::names_in))]
 pub fn read_name_file<F: Folder>(

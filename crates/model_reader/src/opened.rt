@@ -1,4 +1,4 @@
-// A file that a model is read on from.
+// A file, read with the model that its contents are added to.
 ghost use Rattle.std.specs.Prelude.{◌≡◌, IfOk, List};
 ghost use Rattle.outside.specs.Counts.{InputCounts};
 ghost use Rattle.outside.specs.Files.{File};
@@ -11,7 +11,7 @@ use model_types::FlowModel;
 use outside::{Folder, InputFault};
 use std::alloc::Global;
 
-/// The bytes of a file of the folder, and the model that they are read into.
+/// The bytes of a file of the folder, and the model unchanged.
 pub fn opened<F: Folder>(
     alloc: Global,
     folder: &mut F,

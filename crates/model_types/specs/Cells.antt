@@ -1,4 +1,5 @@
--- The cells of a grid and their places. Cells are numbered layer by layer, row by row, column by column, from 0 (TM 6-A16, chapter 2). Layers, rows and columns count from 0 here; the listing and the input count them from 1.
+-- The cells of a grid and their places. Cells are numbered layer by layer, row by row, column by column, from 0 (TM
+-- 6-A16, chapter 2). Layers, rows and columns count from 0 here; the listing and the input count them from 1.
 use Rattle.std.specs.Prelude.{ℕ, ◌+◌, ◌-◌, ◌*◌, ◌/◌, ◌%◌, nat_lt, cond, List, [], ◌∷◌, Option, Some, None}
 use Rattle.model_types.specs.declared.grid.Grid.{Grid}
 

@@ -1,4 +1,5 @@
--- The conductances between cells, exactly (TM 6-A16, chapter 5, LPF with harmonic means). Two half-cells lie in a row: their resistances add up, and the conductance is one over the sum.
+-- The conductances between cells, exactly (TM 6-A16, chapter 5, LPF with harmonic means). Two half-cells lie in a
+-- row: their resistances add up, and the conductance is one over the sum.
 use Rattle.std.specs.Prelude.{ℕ, ◌+◌}
 use Rattle.decimal_input.specs.Canonical.{size}
 use Rattle.decimal_input.specs.Ratios.{Ratio, ratio, plus, times, over}
@@ -18,7 +19,7 @@ two = ratio 2 1
 unfoldable pub half : Ratio → Ratio → Ratio → Ratio → Ratio
 half d w k t = over d (times (times (times two w) k) t)
 
--- the conductance of two resistances in a row: 1 / (r₁ + r₂)
+-- the conductance of two resistances in series: 1 / (r₁ + r₂)
 unfoldable pub in_a_row : Ratio → Ratio → Ratio
 in_a_row r₁ r₂ = over one (plus r₁ r₂)
 

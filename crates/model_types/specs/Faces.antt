@@ -1,4 +1,6 @@
--- The faces of a cell. Along each axis neighbours are the same distance apart in cell number, so that one definition serves the faces of all three: along a row 1, along a column NCOL, from layer to layer NROW * NCOL (TM 6-A16, chapter 2).
+-- The faces of a cell. Along each axis neighbours are the same distance apart in cell number, so the faces of all
+-- three axes have one definition: along a row 1, along a column NCOL, from layer to layer NROW * NCOL (TM 6-A16,
+-- chapter 2).
 use Rattle.std.specs.Prelude.{ℕ, ◌+◌, ◌-◌, ◌%◌, Bool, nat_le, nat_lt, cond, List, [], ◌∷◌, Option, Some, None}
 use Rattle.model_types.specs.declared.grid.Grid.{Grid}
 use Rattle.model_types.specs.declared.face.Axis.{Axis}
@@ -7,7 +9,7 @@ use Rattle.model_types.specs.declared.face.Axis.TheVariants.{Row, Column, Vertic
 use Rattle.model_types.specs.Cells.{layer_size, cell_count}
 
 module _ (g : Grid) where
-  -- how far the numbers of neighbours along an axis are apart, and after how many numbers the axis begins anew
+  -- by how much the numbers of neighbours along an axis differ, and after how many numbers the axis begins anew
   abbrev pub stride : Axis → ℕ
   stride Row = 1
   stride Column = g.cols

@@ -24,7 +24,8 @@ module _ (m : FlowModel) where
   kept_head (Some x) c = number x.ehead
 
 module _ (m : FlowModel) (p n : ℕ) where
-  -- at step n of period p: between Shead and Ehead where the period's list names the cell, by the part of the period that has passed; else what it keeps
+  -- the head at step n of period p. Where the period's list names the cell it lies between Shead and Ehead, by the
+  -- part of the period that has passed; else it is the head that the cell keeps.
   abbrev pub head_or_kept : Option Given → ℕ → Fraction
   head_or_kept (Some x) c = between_heads x (passed (period_at m p) n)
   head_or_kept None c = kept_head m (last_given (take (p - 1) m.periods) c) c

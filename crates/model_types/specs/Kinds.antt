@@ -1,4 +1,6 @@
--- Which cells have a variable head in a stress period, which a constant one, and which no flow (TM 6-A16, chapters 4 and 6, BAS and CHD; where the manual leaves room, this program's choice: a cell that a CHD list names is constant from then on).
+-- Which cells have a variable head in a stress period, which a constant one, and which no flow (TM 6-A16, chapters 4
+-- and 6, BAS and CHD; where the manual leaves room, this program's choice: a cell that a CHD list names is constant
+-- from then on).
 use Rattle.std.specs.Prelude.{ℕ, pos, Bool, cond, not, ◌&&◌, ◌==◌, int_lt, List, length, filter, map, take, Option, is_some, reverse}
 use Rattle.std.specs.List.{range_with_len, find, flat_map}
 use Rattle.model_types.specs.declared.model.FlowModel.{FlowModel}

@@ -1,4 +1,4 @@
--- What a cell has: its widths, its elevations and thickness, and its conductivities, with the exact numbers of the input (TM 6-A16, chapters 2 and 5).
+-- The properties of a cell: its widths, its elevations and thickness, and its conductivities, with the exact numbers of the input (TM 6-A16, chapters 2 and 5).
 use Rattle.std.specs.Prelude.{ℕ, ◌+◌, ◌-◌, ◌*◌, ℤ, pos, ◌*ℤ◌, ◌-ℤ◌, Bool, cond, not, nat_lt, ◌==◌, List, slice_index_or, unsigned_abs, false}
 use Rattle.decimal_input.specs.declared.dec.Dec.{Dec}
 use Rattle.decimal_input.specs.Canonical.{number, size}
@@ -10,7 +10,7 @@ use Rattle.model_types.specs.Cells.{layer_size, layer_of, row_of, column_of}
 abbrev pub no_number : Dec
 no_number = record { neg = false; digits = 0; exp = pos 0 }
 
--- the number of an array by its place, 0 past its end
+-- the number at a place of an array, 0 past its end
 abbrev pub dec_at : List Dec → ℕ → Dec
 dec_at xs i = slice_index_or xs i no_number
 
@@ -44,7 +44,7 @@ module _ (m : FlowModel) where
   abbrev pub has_bed : ℕ → Bool
   has_bed c = is_nonzero (int_at m.grid.laycbd (layer_of m.grid c))
 
-  -- the bottom of the cell's layer, and of what lies between the layer and the next one: the bed's bottom, or the layer's own
+  -- the bottom of the cell's layer, and the bottom of what lies between the layer and the next one: the bed's bottom, or the layer's own
   abbrev pub bottom_at : ℕ → Dec
   bottom_at c = dec_at m.grid.bottom c
 

@@ -1,4 +1,4 @@
--- What the readers test of single numbers of the input. Limits are this program's own.
+-- The tests of the readers on single numbers of the input. The limits are this program's own.
 use Rattle.std.specs.Prelude.{◌≡◌, ◌^◌, ◌<◌, ℤ, pos, neg_ℤ, ◌+ℤ◌, ◌≤ℤ◌, false, unsigned_abs}
 use Rattle.decimal_input.specs.declared.dec.Dec.{Dec}
 use Rattle.decimal_input.specs.Canonical.{IsDec, number}
@@ -21,7 +21,8 @@ pub record IsHeadNumber (d : Dec) : Type 0 where
   pub decimal : IsDec d
   pub range : EnclosesSigned (neg_ℤ (pos 4000000000)) (pos 4000000000) 0 (number d)
 
--- The room between two elevations, from the floor of the upper one and the ceiling of the lower one in units of 10^-18: at least 10^6 units, and both are below 2^126.
+-- The room between two elevations, from the floor of the upper one and the ceiling of the lower one in units of
+-- 10^-18: at least 10^6 units, and both are below 2^126.
 pub record IsThick (top bottom : Dec) : Type 0 where
   pub floor : ℤ
   pub ceiling : ℤ

@@ -19,7 +19,8 @@ module _ (m : FlowModel) where
   abbrev pub is_highest : ℕ → Bool
   is_highest c = not (list_any (λ k. is_active m (k * layer_size m.grid + place_in_layer m.grid c)) (range_with_len 0 (layer_of m.grid c)))
 
-  -- whether the cell is the one of its column of layers that an option chooses: under option 1 the cell of layer 1, under 2 that of the layer which the array names, under 3 the highest active cell
+  -- whether the cell is the one of its column of layers that an option chooses: under option 1 the cell of layer 1,
+  -- under 2 that of the layer which the array names, under 3 the highest active cell
   abbrev pub is_chosen : ℤ → List ℤ → ℕ → Bool
   is_chosen option layers c =
       (is_int option 1 && (layer_of m.grid c == 0))
@@ -39,7 +40,12 @@ module _ (m : FlowModel) (p : ℕ) where
 
   -- EVTR, SURF and EXDP at the place of a cell
   abbrev pub evap_source : ℕ → EvapSource
-  evap_source c = record { rate = dec_at (period_at m p).evtr (place_in_layer m.grid c); surface = dec_at (period_at m p).surf (place_in_layer m.grid c); depth = dec_at (period_at m p).exdp (place_in_layer m.grid c) }
+  evap_source c =
+      record {
+        rate = dec_at (period_at m p).evtr (place_in_layer m.grid c);
+        surface = dec_at (period_at m p).surf (place_in_layer m.grid c);
+        depth = dec_at (period_at m p).exdp (place_in_layer m.grid c);
+      }
 
   -- whether the cell evaporates: NEVTOP chooses it, and EVTR isn't 0
   abbrev pub evaporates : ℕ → Bool

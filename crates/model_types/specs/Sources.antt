@@ -1,4 +1,5 @@
--- What flows into a variable cell, in the terms of the packages and with the numbers of the input (TM 6-A16, chapters 5 and 6). The exact equations and their rounded bounds are both made from these lists, entry by entry.
+-- What flows into a variable cell, in the terms of the packages and with the numbers of the input (TM 6-A16, chapters
+-- 5 and 6). The exact equations and their rounded bounds are both made from these lists, entry by entry.
 use Rattle.std.specs.Prelude.{ℕ, cond, ◌==◌, List, ◌++◌, filter, map, Option, Some, None}
 use Rattle.std.specs.Option.{option_to_list}
 use Rattle.std.specs.List.{filter_map}
@@ -12,7 +13,8 @@ use Rattle.model_types.specs.Times.{period_at, entries}
 use Rattle.model_types.specs.Kinds.{is_variable, is_constant}
 use Rattle.model_types.specs.Receivers.{EvapSource, recharge_at, evap_at}
 
--- A branch to a head that is known: through a face to a constant-head neighbour, to a general head over its conductance, or to the cell's own head of the step before over its storage.
+-- A branch to a known head: through a face to a constant-head neighbour, to a general head over its conductance, or
+-- to the cell's own head of the step before over its storage.
 pub data FixedSource : Type 0 where
   ToConstant : Face → FixedSource
   ToGeneral : Dec → Dec → FixedSource

@@ -1,4 +1,5 @@
--- Stress periods and time steps (TM 6-A16, chapter 2). Periods and steps are counted from 1. With T for TSMULT each step of a transient period is T times as long as the one before, and G(n) = 1 + T + .. + T^(n-1).
+-- Stress periods and time steps (TM 6-A16, chapter 2). Periods and steps are counted from 1. With T for TSMULT each
+-- step of a transient period is T times as long as the one before, and G(n) = 1 + T + .. + T^(n-1).
 use Rattle.std.specs.Prelude.{ℕ, zero, suc, ◌-◌, true, cond, ◌||◌, ◌==◌, List, [], ◌++◌, map, length, slice_index_or}
 use Rattle.std.specs.List.{range_with_len, flat_map}
 use Rattle.decimal_input.specs.Canonical.{size}
@@ -11,7 +12,24 @@ use Rattle.model_types.specs.Layers.{no_number}
 use Rattle.model_types.specs.Conductances.{one}
 
 abbrev pub no_period : Period
-no_period = record { perlen = no_number; nstp = 0; tsmult = no_number; steady = true; wells = []; rivers = []; drains = []; generals = []; given = []; recharge = []; irch = []; surf = []; evtr = []; exdp = []; ievt = [] }
+no_period =
+    record {
+      perlen = no_number;
+      nstp = 0;
+      tsmult = no_number;
+      steady = true;
+      wells = [];
+      rivers = [];
+      drains = [];
+      generals = [];
+      given = [];
+      recharge = [];
+      irch = [];
+      surf = [];
+      evtr = [];
+      exdp = [];
+      ievt = [];
+    }
 
 -- stress period p of a model, from 1
 abbrev pub period_at : FlowModel → ℕ → Period

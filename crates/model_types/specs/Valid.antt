@@ -1,4 +1,5 @@
--- What the readers promise of a model, and what all that stands above may ask of it: limits, lengths of lists, and the checks on cells. Each field is one test of the readers, or a few.
+-- What the readers promise of a model, and what the crates above may require: limits, lengths of lists, and the
+-- checks on cells. Each field is one test of the readers, or a few.
 use Rattle.std.specs.Prelude.{◌≡◌, ℕ, ◌+◌, ◌<◌, ◌≤◌, ◌⊎◌, ℤ, pos, neg_ℤ, ◌+ℤ◌, ◌≤ℤ◌, true, false, List, All, length, sum_by}
 use Rattle.std.specs.List.{AllPairs}
 use Rattle.decimal_input.specs.declared.dec.Dec.{Dec}
@@ -34,7 +35,7 @@ pub record IsBedValid (m : FlowModel) (c : ℕ) : Type 0 where
   pub thick : IsThick (bottom_at m c) (lowest m c)
   pub vkcb : IsPositive (dec_at m.vkcb c)
 
--- an entry of WEL, RIV, DRN or GHB in a grid of so many cells
+-- an entry of WEL, RIV, DRN or GHB in a grid of this many cells
 abbrev pub IsEntryValid : ℕ → Entry → Type 0
 IsEntryValid cells (Well cell q) = (cell.0 < cells) × IsDec q
 IsEntryValid cells (River cell stage k bottom) = (cell.0 < cells) × IsHeadNumber stage × IsNotNegative k × IsHeadNumber bottom
@@ -51,7 +52,7 @@ pub record IsGivenValid (cells : ℕ) (x : Given) : Type 0 where
   pub shead : IsHeadNumber x.shead
   pub ehead : IsHeadNumber x.ehead
 
--- a CHD list, which names a cell once at most
+-- a CHD list, which names a cell at most once
 pub record IsGivenList (cells : ℕ) (xs : List Given) : Type 0 where
   pub few : length xs ≤ 65536
   pub entries : All (IsGivenValid cells) xs
@@ -62,7 +63,8 @@ pub record IsLayerArray (m : FlowModel) (xs : List Dec) : Type 0 where
   pub whole : length xs ≡ layer_size m.grid
   pub decimals : All IsDec xs
 
--- an evapotranspiration whose rate isn't 0: its depth is above 0, and its surface and its extinction elevation are heads, the latter as the floor of the surface less the ceiling of the depth in units of 10^-9
+-- an evapotranspiration whose rate isn't 0: its depth is above 0, and its surface and its extinction elevation are
+-- heads, the latter as the floor of the surface less the ceiling of the depth in units of 10^-9
 pub record IsEvapValid (x : EvapSource) : Type 0 where
   pub rate : IsPositive x.rate
   pub depth : IsPositive x.depth
@@ -116,7 +118,8 @@ pub record IsModel (m : FlowModel) : Type 0 where
   pub vkcb : length m.vkcb ≡ cell_count m.grid
   pub ss : All (λ p. p.steady ≡ true) m.periods ⊎ (length m.ss ≡ cell_count m.grid)
   pub cells : (c : ℕ) → c < cell_count m.grid → is_active m c ≡ true → IsCellValid m c
-  pub beds : (c : ℕ) → c + layer_size m.grid < cell_count m.grid → is_active m c ≡ true → is_active m (c + layer_size m.grid) ≡ true → has_bed m c ≡ true → IsBedChecked m c
+  pub beds : (c : ℕ) → c + layer_size m.grid < cell_count m.grid → is_active m c ≡ true →
+      is_active m (c + layer_size m.grid) ≡ true → has_bed m c ≡ true → IsBedChecked m c
   pub nrchop : (pos 0 ≤ℤ m.nrchop) × (m.nrchop ≤ℤ pos 3)
   pub nevtop : (pos 0 ≤ℤ m.nevtop) × (m.nevtop ≤ℤ pos 3)
   pub some : 1 ≤ length m.periods

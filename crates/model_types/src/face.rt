@@ -8,8 +8,8 @@ pub enum Axis {
     Vertical,
 }
 
-/// A face of a cell: the axis that goes through it, the one of its two cells that has the smaller number, and the
-/// neighbour behind it.
+/// A face of a cell: the axis through it, the one of its two cells that has the smaller number, and the
+/// neighbour on its other side.
 #[derive(Clone, Copy, Debug, PartialEq, Eq)]
 pub struct Face {
     pub axis: Axis,

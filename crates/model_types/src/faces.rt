@@ -94,7 +94,8 @@ impl Grid {
         requires cell { cell < cell_count self.now }
         ensures faces { result ≡ faces self.now cell }
         ensures within { All (IsInGrid self.now) result }
-        ensures ends { map (option_map (λ x. x.end)) result ≡ up self.now cell ∷ back self.now cell ∷ left self.now cell ∷ right self.now cell ∷ front self.now cell ∷ down self.now cell ∷ [] }
+        ensures ends { map (option_map (λ x. x.end)) result ≡ up self.now cell ∷ back self.now cell
+            ∷ left self.now cell ∷ right self.now cell ∷ front self.now cell ∷ down self.now cell ∷ [] }
     {
         [
             self.face_before(Axis::Vertical, cell),

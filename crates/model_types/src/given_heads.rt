@@ -11,8 +11,8 @@ use crate::listed::Listed;
 use crate::model::FlowModel;
 use std::alloc::{AllocError, Global};
 
-/// For each cell of a model the last entry of the CHD lists up to a stress period that names it. It goes from
-/// period to period, and so no list is walked twice.
+/// For each cell of a model the last entry of the CHD lists up to a stress period that names it. It is carried
+/// from period to period, so that each list is read once.
 #[derive(Debug, Drop)]
 pub struct GivenHeads {
     pub period: u32,
@@ -33,7 +33,7 @@ impl GivenHeads {
         })
     }
 
-    /// Goes on to the next period.
+    /// Advances to the next period.
     pub fn advance(&mut self, model: &FlowModel)
         requires size { HasSize model.now.grid }
         requires before { self.old ≡ given_heads model.now self.old.period }

@@ -17,8 +17,8 @@ pub enum Kind {
     Variable,
 }
 
-/// The kind of a cell in a period, counted from 1. It walks the CHD lists up to the period: `GivenHeads` answers
-/// the same of all cells in one pass.
+/// The kind of a cell in a period, counted from 1. It reads the CHD lists up to the period; `GivenHeads` finds the
+/// kinds of all cells in one pass.
 pub fn kind_at(model: &FlowModel, period: u32, cell: CellId) -> Kind
     ensures { result ≡ kind_of model.now period cell.0 }
 {

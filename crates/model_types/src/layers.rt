@@ -1,4 +1,4 @@
-// What a cell has, out of the model's lists.
+// The properties of a cell, from the model's lists.
 ghost use Rattle.std.specs.Prelude.{◌≡◌};
 ghost use Rattle.model_types.specs.Cells.{layer_of, row_of, column_of};
 ghost use Rattle.model_types.specs.Layers.{dec_at, int_at, is_nonzero, is_active, delr_at, delc_at, has_bed, bottom_at, lowest, top_at};
@@ -8,7 +8,7 @@ use crate::grid::Grid;
 use crate::model::FlowModel;
 use decimal_input::dec::Dec;
 
-/// The number of an array by its place, 0 past its end.
+/// The number at a place of an array; 0 past its end.
 pub fn dec_at(xs: &[Dec], place: u32) -> Dec
     ensures { result ≡ dec_at xs.now place }
 {
@@ -22,7 +22,7 @@ pub fn dec_at(xs: &[Dec], place: u32) -> Dec
     }
 }
 
-/// The integer of an array by its place, 0 past its end.
+/// The integer at a place of an array; 0 past its end.
 pub fn int_at(xs: &[i64], place: u32) -> i64
     ensures { result ≡ int_at xs.now place }
 {

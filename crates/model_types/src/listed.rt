@@ -3,7 +3,7 @@ ghost use Rattle.std.specs.Prelude.{◌≡◌, ◌<◌, List, length, slice_set}
 
 use std::marker::Model;
 
-/// A list that contracts see as a list. It is made from a `Vec` and gives it back without taking memory.
+/// A list that contracts see as a list. It is made from a `Vec`, and turned back into one, without taking memory.
 #[derive(Debug, Drop)]
 pub struct Listed<T> {
     items: Vec<T>,
@@ -34,7 +34,7 @@ impl<T> Listed<T> {
     {
         self.items.as_slice()
     }
-    /// Puts a value into a place of the list.
+    /// Replaces the value at a place of the list.
     pub fn set(&mut self, place: usize, value: T)
     where
         T: Drop,

@@ -3,8 +3,8 @@ use crate::entry::{Entry, Given};
 use crate::shared::Shared;
 use decimal_input::dec::Dec;
 
-/// A stress period: its length, its time steps, and its stresses. Each list and each array of a package that
-/// the period reuses is the very one of the period before, which stands in memory once. Arrays are by row,
+/// A stress period: its length, its time steps, and its stresses. A list or array of a package that the
+/// period reuses is the list or array of the period before; it is in memory once. Arrays are by row,
 /// then column, and empty where the model lacks the package; `irch` and `ievt` also where the option isn't 2.
 #[derive(Debug, Drop)]
 pub struct Period {

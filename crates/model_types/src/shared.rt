@@ -6,8 +6,8 @@ use std::alloc::{AllocError, Global};
 use std::marker::Model;
 use std::sync::Arc;
 
-/// A list of a stress period, which later periods may have as well. It stands in memory once, however many
-/// periods reuse it, and threads may share it.
+/// A list of a stress period, which later periods may share. It is in memory once, however many periods
+/// reuse it, and threads may share it.
 #[derive(Debug, Drop)]
 pub struct Shared<T> {
     items: Arc<Vec<T>>,
@@ -27,7 +27,7 @@ impl<T: Drop> Shared<T> {
         Ok(Shared { items })
     }
 
-    /// The same list once more, without a copy of it.
+    /// Another handle to the same list, without a copy of it.
     pub fn again(&self) -> Result<Shared<T>, AllocError>
         ensures { IfOk result (λ l. l ≡ self.now) }
     {

@@ -3,7 +3,7 @@ use crate::matrix::{Coupling, Matrix};
 use crate::numbers::put;
 use std::alloc::{AllocError, Global};
 
-/// An unknown that is in no aggregate: it has no couplings, so that the smoother solves it alone.
+/// An unknown that is in no aggregate: it has no couplings, so the smoother solves it alone.
 pub const ALONE: u32 = u32::MAX;
 
 /// The aggregate of each unknown, and their number.
@@ -44,15 +44,15 @@ fn find_strongest(couplings: &[Coupling], of: &[u32]) -> Strongest {
     Strongest { free, any }
 }
 
-// Puts an unknown into a new aggregate, and answers the number of aggregates.
+// Puts an unknown into a new aggregate, and returns the number of aggregates.
 fn found(of: &mut [u32], unknown: usize, count: u32) -> u32 {
     put(of, unknown, count);
     count.saturating_add(1)
 }
 
-// Puts an unknown into an aggregate: a new one with its strongest free neighbour, if that is at least a quarter as
-// strong as the strongest one, else the strongest neighbour's. One without couplings founds its own where `lone` says
-// so. Answers the number of aggregates.
+// Puts an unknown into an aggregate: a new one with its strongest free neighbour, if that coupling is at least a quarter
+// of the strongest one, else the strongest neighbour's. An unknown without couplings gets its own aggregate if `lone`.
+// Returns the number of aggregates.
 fn join(of: &mut [u32], unknown: usize, strongest: Strongest, count: u32, lone: bool) -> u32 {
     let Some(any) = strongest.any else {
         return if lone {
@@ -72,7 +72,7 @@ fn join(of: &mut [u32], unknown: usize, strongest: Strongest, count: u32, lone: 
     count
 }
 
-/// Aggregates of mostly two unknowns. One without couplings is in none, or in its own where `lone` says so.
+/// Aggregates of mostly two unknowns. An unknown without couplings is in none, or in its own if `lone`.
 pub fn pairs(alloc: Global, matrix: &Matrix, lone: bool) -> Result<Aggregates, AllocError> {
     let mut of = vec![in alloc; ALONE; matrix.len()]?;
     let mut count = 0;

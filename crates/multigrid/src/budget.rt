@@ -1,13 +1,13 @@
-// How much work a guess may take.
+// The amount of work that a guess may take.
 
-/// So many visits are left: a visit is a turn at a cell, or a step at an unknown of a system.
+/// The number of visits left. A visit is a turn at a cell, or a step at an unknown of a system.
 #[derive(Clone, Copy)]
 pub struct Budget {
     left: u64,
 }
 
 impl Budget {
-    /// So many visits at each of so many cells.
+    /// `visits` visits at each of `cells` cells.
     pub fn new(visits: u64, cells: usize) -> Budget {
         Budget {
             left: visits.saturating_mul(cells as u64),
@@ -26,14 +26,14 @@ impl Budget {
         self.left
     }
 
-    /// Takes out so many visits at most, for a part of the work.
+    /// Takes out at most `visits` visits, for a part of the work.
     pub fn split(&mut self, visits: u64) -> Budget {
         let part = self.left.min(visits);
         self.left = self.left.saturating_sub(part);
         Budget { left: part }
     }
 
-    /// Takes back what a part has not spent.
+    /// Adds what a part has not spent.
     pub fn join(&mut self, part: Budget) {
         self.left = self.left.saturating_add(part.left);
     }

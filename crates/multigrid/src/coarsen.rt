@@ -37,7 +37,7 @@ fn list_members(alloc: Global, aggregates: &Aggregates) -> Result<Members, Alloc
 }
 
 // Adds the couplings of a row to the open row of an aggregate. `places` has the place of the coupling with each
-// aggregate. Answers the weight that stays within the aggregate.
+// aggregate. Returns the weight that stays within the aggregate.
 fn add_row(
     matrix: &Matrix,
     row: &Row,

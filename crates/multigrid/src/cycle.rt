@@ -35,7 +35,7 @@ fn is_solved(levels: &[Level], bits: u32) -> bool {
     }
 }
 
-// One step on the finest level. Whether there was a way to go.
+// One step on the finest level. Returns whether there was a direction.
 fn step(levels: &mut [Level]) -> bool {
     match levels.first_mut() {
         Some(level) => advance(level),
@@ -44,7 +44,7 @@ fn step(levels: &mut [Level]) -> bool {
 }
 
 /// Solves the system of the finest of these levels for its residual, until that is below 2^bits of each pivot,
-/// but by so many rounds of conjugate gradients at most, and within the budget. The solution stands in the level.
+/// by at most `rounds` rounds of conjugate gradients, and within the budget. The solution is then in the level.
 #[cycle(multigrid)]
 pub fn solve(levels: &mut [Level], rounds: u32, bits: u32, budget: &mut Budget) {
     if let Some(level) = levels.first_mut() {

@@ -54,7 +54,7 @@ fn advance_residual(residual: &mut [i128], image: &[i128], factor: i64) {
     }
 }
 
-/// Goes on along the next direction, as far as the residual falls. Whether there was a way to go.
+/// Moves along the next direction, as far as the residual falls. Returns whether there was a direction.
 pub fn advance(level: &mut Level) -> bool {
     turn(level);
     apply(level);

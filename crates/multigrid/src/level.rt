@@ -11,7 +11,7 @@ pub struct Level {
     pub aggregates: Vec<u32>,
     pub solution: Vec<i64>,
     pub residual: Vec<i128>,
-    /// What the preconditioner makes of the residual.
+    /// The preconditioner's result for the residual.
     pub correction: Vec<i64>,
     pub direction: Vec<i64>,
     /// The matrix times the direction, and the inner product of the two.

@@ -39,8 +39,8 @@ impl Levels {
         }
     }
 
-    /// About the solution of the system: until each row's residual is below 2^bits of its diagonal, but by so many rounds of conjugate gradients at most, and
-    /// within the budget.
+    /// An approximate solution of the system: until each row's residual is below 2^bits of its diagonal, by at most `rounds` rounds of conjugate gradients,
+    /// and within the budget.
     pub fn solve(&mut self, rounds: u32, bits: u32, budget: &mut Budget) -> &[i64] {
         solve(self.levels.as_mut_slice(), rounds, bits, budget);
         match self.levels.as_slice().first() {

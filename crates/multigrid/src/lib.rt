@@ -1,5 +1,5 @@
 //! Solves sparse symmetric systems in whole numbers: conjugate gradients, preconditioned by multigrid over
-//! aggregates. Nothing is promised of a solution; what is built on one has to test it.
+//! aggregates. Nothing is promised of a solution; code that uses one must test it.
 #![tactic(auto)]
 
 mod aggregates;

@@ -2,7 +2,7 @@
 use crate::numbers::{at, cut};
 use std::alloc::{AllocError, Global};
 
-/// An entry off the diagonal: the other unknown, and the weight, which stands in the matrix with a minus.
+/// An entry off the diagonal: the other unknown, and the weight, which is negated in the matrix.
 #[derive(Clone, Copy)]
 pub struct Coupling {
     pub other: u32,
@@ -31,7 +31,7 @@ impl Pivot {
         }
     }
 
-    /// About a number over the weight.
+    /// An approximate quotient of a number by the weight.
     pub fn quotient(&self, x: i128) -> i64 {
         let x = cut(x.wrapping_shr(self.bits.saturating_sub(1)));
         cut((x as i128 * self.reciprocal as i128).wrapping_shr(62))
@@ -51,7 +51,7 @@ impl Pivot {
     }
 }
 
-/// A row's pivot, and where its couplings stand.
+/// A row's pivot, and the places of its couplings.
 #[derive(Clone, Copy)]
 pub struct Row {
     first: usize,
@@ -65,7 +65,7 @@ pub struct Row {
 pub struct Matrix {
     pub rows: Vec<Row>,
     couplings: Vec<Coupling>,
-    // Where the open row begins.
+    // The place where the open row begins.
     open: usize,
 }
 
@@ -82,14 +82,14 @@ impl Matrix {
         self.rows.len()
     }
 
-    /// Adds a coupling to the open row, and answers its place.
+    /// Adds a coupling to the open row, and returns its place.
     pub fn couple(&mut self, other: u32, weight: i64) -> Result<usize, AllocError> {
         let place = self.couplings.len();
         self.couplings.push(Coupling { other, weight })?;
         Ok(place)
     }
 
-    /// Adds to the weight of the open row's coupling with an unknown, if it stands at this place.
+    /// Adds to the weight of the open row's coupling with an unknown, if it is at this place.
     pub fn strengthen(&mut self, place: usize, other: u32, weight: i64) -> bool {
         if place < self.open || self.couplings.len() <= place {
             return false;
@@ -122,7 +122,7 @@ impl Matrix {
             .unwrap_or(&[])
     }
 
-    /// The row of an unknown; one without couplings where there is none.
+    /// The row of an unknown; a row without couplings past the last one.
     pub fn row(&self, unknown: usize) -> Row {
         self.rows.get(unknown).copied().unwrap_or(Row {
             first: 0,
@@ -132,7 +132,7 @@ impl Matrix {
     }
 }
 
-/// What an unknown takes from the others.
+/// The sum of the other unknowns by the weights of a row's couplings.
 pub fn inflow(couplings: &[Coupling], unknowns: &[i64]) -> i128 {
     let mut sum = 0_i128;
     for coupling in couplings {

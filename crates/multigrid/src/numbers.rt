@@ -1,19 +1,19 @@
 // Reading, writing and cutting the numbers of a solver. Each call is total.
 
-// No unknown is longer than 2^60, so that sums of products of weights and unknowns fit.
+// No unknown is above 2^60 in magnitude, so that sums of products of weights and unknowns fit.
 const LONGEST: i128 = 1_152_921_504_606_846_976;
 
-/// The number at an index, or 0 where there is none.
+/// The number at an index, or 0 past the end.
 pub fn at(xs: &[i64], index: usize) -> i64 {
     xs.get(index).copied().unwrap_or(0)
 }
 
-/// The long number at an index, or 0 where there is none.
+/// The long number at an index, or 0 past the end.
 pub fn long_at(xs: &[i128], index: usize) -> i128 {
     xs.get(index).copied().unwrap_or(0)
 }
 
-/// Writes a number at an index, where there is one.
+/// Writes a number at an index, unless that is past the end.
 pub fn put<T: Copy>(xs: &mut [T], index: usize, value: T) {
     if index < xs.len() {
         xs[index] = value;
@@ -47,7 +47,7 @@ pub fn shifted(x: i128, places: i64) -> i128 {
     }
 }
 
-/// The greatest of these numbers, but 1 at least.
+/// The greatest of these numbers, at least 1.
 pub fn greatest(xs: &[i64]) -> i64 {
     xs.iter().fold(1, |most, x| most.max(*x))
 }

@@ -24,7 +24,7 @@ fn width_of_long(xs: &[i128]) -> u32 {
     128_u32.saturating_sub(all.leading_zeros())
 }
 
-/// The inner product, of the leading 44 and 60 bits.
+/// The inner product, by the leading 44 and 60 bits.
 pub fn inner_product(xs: &[i64], ys: &[i128]) -> Scaled {
     let by = width_of_all(xs).saturating_sub(44);
     let of = width_of_long(ys).saturating_sub(60);
@@ -49,7 +49,7 @@ impl Scaled {
         self.number > 0
     }
 
-    /// The quotient in units of 2^-20, cut at 2^40; 0 by a divisor that is not above 0.
+    /// The quotient in units of 2^-20, cut off at 2^40; 0 if the divisor is not above 0.
     pub fn over(self, divisor: Scaled) -> i64 {
         let dropped = width(divisor.number).saturating_sub(60);
         let by = divisor.number.wrapping_shr(dropped);

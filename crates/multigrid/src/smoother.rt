@@ -32,7 +32,7 @@ pub fn smooth_down(level: &mut Level) {
     }
 }
 
-// What the correction leaves of the residual at one unknown.
+// The residual that the correction leaves at one unknown.
 fn defect(level: &Level, i: usize) -> i128 {
     let row = level.matrix.row(i);
     let inflow = inflow(level.matrix.couplings(&row), level.correction.as_slice());
@@ -42,7 +42,7 @@ fn defect(level: &Level, i: usize) -> i128 {
         .wrapping_sub(own)
 }
 
-/// Restricts what the correction leaves of the residual: its sum over each aggregate.
+/// Restricts the residual that the correction leaves: its sum over each aggregate.
 pub fn restrict(level: &Level, coarse: &mut Level) {
     coarse.residual.as_mut_slice().fill(0);
     for i in 0..level.matrix.rows.len() {
@@ -52,7 +52,7 @@ pub fn restrict(level: &Level, coarse: &mut Level) {
     }
 }
 
-/// Prolongs the coarser solution: each unknown is corrected by its aggregate's.
+/// Prolongs the coarser solution: each unknown is corrected by that of its aggregate.
 pub fn prolong(level: &mut Level, coarse: &Level) {
     for i in 0..level.matrix.rows.len() {
         let aggregate = aggregate_of(level.aggregates.as_slice(), i) as usize;

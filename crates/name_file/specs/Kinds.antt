@@ -19,8 +19,8 @@ package_of word =
     else if is_word (codes "EVT") word then Some Evt
     else None
 
--- the listing, output control, solvers, links to transport, parameters and data files: nothing that
--- the heads depend on; in any letter case
+-- the listing, output control, solvers, links to transport, parameters and data files: the heads
+-- don't depend on them; in any letter case
 unfoldable pub is_passed_over : List ℕ → Bool
 is_passed_over word =
     is_word (codes "LIST") word || (is_word (codes "OC") word || (is_word (codes "PCG") word || (is_word (codes "PCGN") word

@@ -11,7 +11,7 @@ use Rattle.name_file.specs.contracts.package.PackagePartialEq.TheImpl.{ghosts}
 abbrev pub Pairs : Type 0
 Pairs = List (Package × List ℕ)
 
--- the file of the pair that has this package, or none where no pair has it
+-- the file of the pair that has this package; None where no pair has it
 abbrev pub file_of : Package → Pairs → Option (List ℕ)
 file_of asked names = lookup (ghosts.eq asked) names
 
@@ -22,7 +22,7 @@ has_package asked names = is_some (file_of asked names)
 abbrev pub packages_of : Pairs → List Package
 packages_of names = map (λ pair. pair.0) names
 
--- each package once, and each name one that is taken
+-- each package at most once, and each name a good one
 pub record AreFiles (names : Pairs) : Type 0 where
   pub distinct : IsDistinct ghosts.eq (packages_of names)
   pub good : All (λ pair. IsGoodName pair.1) names

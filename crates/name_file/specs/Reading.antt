@@ -16,15 +16,15 @@ use Rattle.name_file.specs.declared.package.Package.TheVariants.{Dis, Bas, Lpf}
 unfoldable pub is_integer : List ℕ → Bool
 is_integer word = is_some (integer_of word)
 
--- the file's name behind the words Nunit and Fname, both there and Nunit an integer; the name is
--- looked at last
+-- the file's name after the words Nunit and Fname, where both are present and Nunit is an integer;
+-- the name is tested last
 unfoldable pub file_in : List ℕ → ℕ → List (List ℕ) → Result (List ℕ) Refusal
 file_in file line words = do
   unit ← word_at (refusal BadNameLine file line) words
   name ← word_at (refusal BadNameLine file line) unit.1
   if is_integer unit.0 then name_at file line name.0 else Err (refusal BadNameLine file line)
 
--- a package that is new goes last
+-- a new package is added at the end
 abbrev pub with_pair : Refusal → Package → List ℕ → Pairs → Result Pairs Refusal
 with_pair duplicate found name names = if has_package found names then Err duplicate else Ok (names ++ (found, name) ∷ [])
 
@@ -34,7 +34,7 @@ after_package file line found words names = do
   name ← file_in file line words
   with_pair (refusal DuplicatePackage file line) found name names
 
--- a type that is no package of a model is refused before its other words are looked at
+-- a type that is no package is refused before its other words are read
 abbrev pub after_type : Option Package → List ℕ → ℕ → List (List ℕ) → Pairs → Result Pairs Refusal
 after_type None file line words names = Err (refusal UnsupportedPackage file line)
 after_type (Some found) file line words names = after_package file line found words names
@@ -43,7 +43,7 @@ abbrev pub after_words : List ℕ → ℕ → List (List ℕ) → Pairs → Resu
 after_words file line [] names = Ok names
 after_words file line (kind ∷ words) names = if is_passed_over kind then Ok names else after_type (package_of kind) file line words names
 
--- the pairs after a line; one that begins with '#' says nothing
+-- the pairs after a line; a line that begins with '#' adds nothing
 unfoldable pub after_line : List ℕ → Numbered → Pairs → Result Pairs Refusal
 after_line file line names = if is_comment line.bytes then Ok names else after_words file line.number (words line.bytes) names
 
@@ -56,9 +56,11 @@ after_lines file (line ∷ others) names = do
 abbrev pub missing : List ℕ → Result Pairs Refusal
 missing file = Err (refusal MissingPackage file 0)
 
--- the packages that every model has are there
+-- the packages that every model has are present
 unfoldable pub whole : List ℕ → Pairs → Result Pairs Refusal
-whole file names = if has_package Dis names then (if has_package Bas names then (if has_package Lpf names then Ok names else missing file) else missing file) else missing file
+whole file names =
+    if has_package Dis names then (if has_package Bas names
+    then (if has_package Lpf names then Ok names else missing file) else missing file) else missing file
 
 -- the pairs of a name file, or its first refusal
 unfoldable pub names_of : List ℕ → List ℕ → Result Pairs Refusal

@@ -10,7 +10,7 @@ use std::alloc::{AllocFailed, Global};
 use std::marker::Model;
 
 /// Packages and the names of their files, as they are gathered from the lines of a name file: each
-/// package once, and each name one that is taken.
+/// package at most once, and each name a good one.
 #[derive(Drop)]
 pub struct Gathered {
     files: IndexMap<Package, Name>,
@@ -39,7 +39,7 @@ impl Gathered {
         self.files.contains_key(&asked)
     }
 
-    // A package that is new goes last.
+    // A new package is added at the end.
     pub fn add(&mut self, added: Package, name: Name) -> Result<(), AllocFailed<(Package, Name)>>
         requires new { has_package added self.old ≡ false }
         requires good { IsGoodName name }

@@ -34,7 +34,7 @@ pub fn package_of(word: &[u8]) -> Option<Package>
     }
 }
 
-/// Whether lines with this first word are passed over.
+/// Whether lines with this first word are skipped.
 #[tactic(auto, unfolding(crate::specs::Kinds::is_passed_over))]
 pub fn is_passed_over(word: &[u8]) -> bool
     ensures { result ≡ is_passed_over word.now }

@@ -1,4 +1,4 @@
-// The name file: which package of a model has which file.
+//! The name file: which package of a model has which file.
 #![tactic(auto)]
 
 mod gathered;

@@ -7,8 +7,8 @@ use crate::gathered::Gathered;
 use crate::package::Package;
 use std::marker::Model;
 
-/// The packages of a model and the names of their files, as they were written: each package once,
-/// each name one that is taken, and the packages that every model has. A contract sees the pairs in
+/// The packages of a model and the names of their files, as they were written: each package at most
+/// once, each name a good one, and the packages that every model has. A contract sees the pairs in
 /// the order of the name file.
 #[derive(Drop)]
 pub struct Names {
@@ -24,8 +24,8 @@ impl Model for Names {
 }
 
 impl Names {
-    /// The name of a package's file, or none exactly where no pair has that package. The packages that
-    /// every model has are always there.
+    /// The name of a package's file; None exactly where no pair has that package. The packages that
+    /// every model has are always present.
     #[tactic(auto, using(crate::proofs::FileLemmas::is_there))]
     pub fn file_of(&self, asked: Package) -> Option<&str>
         ensures file { option_map (λ name. name.now) result ≡ file_of asked self.now }
@@ -36,7 +36,7 @@ impl Names {
         self.files.file_of(asked)
     }
 
-    /// The pair at a place in the order of the name file, counted from 0, or none past the last.
+    /// The pair at a place in the order of the name file, counted from 0; None past the last one.
     pub fn pair_at(&self, place: usize) -> Option<(Package, &str)>
         ensures pair { option_map (λ p. (p.0, p.1.now)) result ≡ slice_get self.now place }
     {

@@ -21,7 +21,7 @@ fn is_integer(word: &[u8]) -> bool
     short_integer(word).is_some()
 }
 
-/// The name of the file of a package's line, whose first word was taken.
+/// The file's name on a package's line, from the words after the first.
 #[tactic(auto, unfolding(crate::specs::Reading::file_in, record_lines::specs::Items::word_at))]
 fn file_in<'a>(
     alloc: Global,
@@ -107,7 +107,7 @@ fn after_lines(
     Ok(())
 }
 
-/// The names of a whole model, where the packages that every model has are there.
+/// The names of a whole model, or the refusal of a missing package that every model has.
 #[tactic(auto, unfolding(crate::specs::Reading::whole))]
 fn whole(alloc: Global, files: Gathered, file: &str) -> Result<Names, TextFault>
     ensures { HasText (λ names. names) result (whole file.now files) }
@@ -118,8 +118,8 @@ fn whole(alloc: Global, files: Gathered, file: &str) -> Result<Names, TextFault>
     Ok(Names { files })
 }
 
-/// The packages that a name file names, in its order. `file` is its own name, for refusals, which
-/// are of the first line that is wrong; a package that is missing has line 0.
+/// The packages that a name file names, in its order. `file` is its own name, for refusals.
+/// The first line that is wrong is refused; a missing package is refused with line 0.
 #[tactic(auto, unfolding(crate::specs::Reading::names_of))]
 pub fn read_names(alloc: Global, file: &str, bytes: &[u8]) -> Result<Names, TextFault>
     ensures names { HasText (λ names. names) result (names_of file.now bytes.now) }

@@ -2,7 +2,7 @@
 ghost use Rattle.std.specs.Prelude.{◌≡◌};
 ghost use Rattle.number_limits.specs.Signs.{within};
 
-/// An integer as a count from 1 to a limit; none where it isn't one.
+/// An integer as a count from 1 to a limit; None where it isn't one.
 pub fn within(number: i64, limit: u32) -> Option<u32>
     ensures { result ≡ within number limit }
 {

@@ -16,7 +16,7 @@ const LEAST: u64 = 100_000_000_000_000_000;
 
 const LIMIT: u64 = 1_000_000_000_000_000_000;
 
-// The decimal that stands here, whose exponent is from -10000 to 10000.
+// The decimal that a word gives, whose exponent is from -10000 to 10000.
 fn decimal(word: &str) -> Option<Sd>
     ensures decimal { IfSome result IsSd }
     ensures near { IfSome result (λ x. IsNear x.e 10000) }
@@ -63,7 +63,7 @@ pub fn print_made_of_units(rt: &impl Print, units: &str, places: &str) -> io::Re
     }
 }
 
-/// The greatest whole number of units below, and the least above.
+/// The greatest whole number of units not above, and the least not below.
 pub fn print_whole(rt: &impl Print, x: &str, places: &str) -> io::Result<()> {
     match (decimal(x), places.parse::<u32>()) {
         (Some(x), Ok(places)) => print_wholes(rt, floor_units(x, places), ceil_units(x, places)),

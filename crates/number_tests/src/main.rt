@@ -1,12 +1,12 @@
-//! Reads words as numbers, calculates with decimals of 18 digits, writes numbers as text, as standard input asks, and
+//! Reads words as numbers, calculates with decimals of 18 digits, and writes numbers as text, as standard input asks, and
 //! prints the answers.
 //!
 //! A number of the input is a word; `word WORD` gives it as digits and exponent, `integer WORD` as an integer, `times
-//! WORD WORD` a product, and `units WORD PLACES` the whole units of 10 ^ -PLACES below it and above it. A decimal stands
+//! WORD WORD` a product, and `units WORD PLACES` the whole units of 10 ^ -PLACES below it and above it. A decimal is given
 //! as its 18 digits and its exponent, as in `250000000000000000e3`, or is `0e0`; `mul`, `div` and `add` of two of them give
 //! the answer rounded down and up, and `whole DECIMAL PLACES` the units below it and above it. `decimal WORD` makes one of
-//! a number, and `of_units UNITS PLACES` makes two, rounded down and up. `fixed PLACES UNITS` writes so many units of
-//! 10 ^ -PLACES with a point, and `digits N` a number behind `of`. A line `@ ..` says what is shown, and is printed.
+//! a number, and `of_units UNITS PLACES` makes two, rounded down and up. `fixed PLACES UNITS` writes UNITS * 10 ^ -PLACES
+//! with a point, and `digits N` a number after `of`. A line `@ ..` says what is shown, and is printed.
 #![tactic(auto)]
 
 mod answers;

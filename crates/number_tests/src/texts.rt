@@ -9,7 +9,7 @@ fn print_text(rt: &impl Print, text: &[u8]) -> io::Result<()> {
     println!(rt; "{text}")
 }
 
-/// So many digits behind the point, from 1 to 27.
+/// PLACES digits after the point, from 1 to 27.
 pub fn print_fixed(rt: &impl Print, alloc: Global, places: &str, units: &str) -> io::Result<()> {
     match (places.parse::<u32>(), units.parse::<i128>()) {
         (Ok(places), Ok(units)) if 0 < places && places <= 27 => {
@@ -21,7 +21,7 @@ pub fn print_fixed(rt: &impl Print, alloc: Global, places: &str, units: &str) ->
     }
 }
 
-/// A number behind what stands there already.
+/// A number after a text.
 pub fn print_digits(rt: &impl Print, alloc: Global, number: &str) -> io::Result<()> {
     match number.parse::<u128>() {
         Ok(number) => {

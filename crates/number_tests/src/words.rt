@@ -27,7 +27,7 @@ pub fn print_product(rt: &impl Print, a: &str, b: &str) -> io::Result<()> {
     print_number(rt, product(a, b))
 }
 
-/// The greatest whole number of units below, and the least above.
+/// The greatest whole number of units not above, and the least not below.
 pub fn print_units(rt: &impl Print, word: &str, places: &str) -> io::Result<()> {
     match (read_dec(word.as_bytes()), places.parse::<u32>()) {
         (Ok(number), Ok(places)) => {

@@ -1,7 +1,13 @@
 -- The refusals: the number and the word that each is printed with.
 use Rattle.std.specs.Prelude.{ℕ, List, codes}
 use Rattle.outside.specs.declared.codes.Code.{Code}
-use Rattle.outside.specs.declared.codes.Code.TheVariants.{MissingFile, TooLong, BadName, BadNameLine, DuplicatePackage, UnsupportedPackage, MissingPackage, EndOfFile, BadNumber, TooManyDigits, OutOfProfile, BadGrid, BadControl, BadThickness, BadProperty, CellOutside, TooManyEntries, NothingToReuse, HeadTooLarge, BadListing, ConductanceTooSmall, ConductanceTooLarge, FlowTooLarge, NoBarrierLow, NoBarrierHigh, RangeLow, RangeHigh}
+use Rattle.outside.specs.declared.codes.Code.TheVariants.{MissingFile, TooLong, BadName, BadNameLine, DuplicatePackage}
+use Rattle.outside.specs.declared.codes.Code.TheVariants.{UnsupportedPackage, MissingPackage, EndOfFile, BadNumber}
+use Rattle.outside.specs.declared.codes.Code.TheVariants.{TooManyDigits, OutOfProfile, BadGrid, BadControl}
+use Rattle.outside.specs.declared.codes.Code.TheVariants.{BadThickness, BadProperty, CellOutside, TooManyEntries}
+use Rattle.outside.specs.declared.codes.Code.TheVariants.{NothingToReuse, HeadTooLarge, BadListing, ConductanceTooSmall}
+use Rattle.outside.specs.declared.codes.Code.TheVariants.{ConductanceTooLarge, FlowTooLarge, NoBarrierLow}
+use Rattle.outside.specs.declared.codes.Code.TheVariants.{NoBarrierHigh, RangeLow, RangeHigh}
 
 pub record CodeRow : Type 0 where
   pub number : ℕ

@@ -1,4 +1,4 @@
--- Counts of faults, which never fall, and stand still at their type's end.
+-- Counts of faults, which never fall, and stay at the greatest number of their type.
 use Rattle.std.specs.Prelude.{◌≡◌, ℕ, ◌<◌, ◌≤◌, ◌+◌, ◌-◌, ◌^◌, ◌⊎◌, min, Ok, Err, Result}
 use Rattle.outside.specs.declared.traits.FolderError.{FolderError}
 use Rattle.outside.specs.declared.traits.FolderError.TheVariants as folder
@@ -7,7 +7,7 @@ use Rattle.outside.specs.declared.traits.SinkError.TheVariants as sink
 use Rattle.outside.specs.declared.refusals.InputFault.{InputFault}
 use Rattle.outside.specs.declared.refusals.InputFault.TheVariants as input
 
--- the count rose, or stands at its end
+-- the count rose, or is at its end
 pub record Rose (old new : ℕ) : Type 0 where
   pub kept : old ≤ new
   pub more : (old < new) ⊎ (new ≡ 2 ^ 64 - 1)
@@ -16,19 +16,19 @@ pub record Rose (old new : ℕ) : Type 0 where
 abbrev pub counted : ℕ → ℕ
 counted n = min (n + 1) (2 ^ 64 - 1)
 
--- a read that failed raises the folder's count, and no other answer changes it
+-- a failed read raises the folder's count, and no other result changes it
 abbrev pub ReadCounts : {T : Type 0} → ℕ → ℕ → Result T FolderError → Type 0
 ReadCounts old new (Ok found) = new ≡ old
 ReadCounts old new (Err folder.Read) = Rose old new
 ReadCounts old new (Err folder.Memory) = new ≡ old
 
--- a write that failed raises the sink's count, and no other answer changes it
+-- a failed write raises the sink's count, and no other result changes it
 abbrev pub PutCounts : {T : Type 0} → ℕ → ℕ → Result T SinkError → Type 0
 PutCounts old new (Ok done) = new ≡ old
 PutCounts old new (Err sink.Write) = Rose old new
 PutCounts old new (Err sink.Memory) = new ≡ old
 
--- a reading that met a fault raised the folder's count, and every other one left it
+-- a reading that met a fault raised the folder's count, and every other one left it unchanged
 abbrev pub InputCounts : {T : Type 0} → ℕ → ℕ → Result T InputFault → Type 0
 InputCounts old new (Ok value) = new ≡ old
 InputCounts old new (Err (input.Refused refusal)) = new ≡ old

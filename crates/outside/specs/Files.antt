@@ -14,19 +14,19 @@ abbrev pub bytes_under : List ℕ → List File → Option (List ℕ)
 bytes_under name [] = None
 bytes_under name (f ∷ files) = cond (bytes_eq name f.name) (Some f.bytes) (bytes_under name files)
 
--- what a reading of a file, of at most limit bytes, answers
+-- what a reading of a file of at most limit bytes returns
 abbrev pub IsFound : List File → List ℕ → ℕ → Found → Type 0
 IsFound files name limit (Bytes v) = (bytes_under name files ≡ Some v.items) × (length v.items ≤ limit)
 IsFound files name limit Missing = bytes_under name files ≡ None
 IsFound files name limit TooLong = IsSomeAnd (bytes_under name files) (λ bytes. limit < length bytes)
 
--- bytes that were found are at most so many
+-- bytes that were found are at most this many
 abbrev pub IsWithin : ℕ → Found → Type 0
 IsWithin limit (Bytes v) = length v.items ≤ limit
 IsWithin limit Missing = Unit {0}
 IsWithin limit TooLong = Unit {0}
 
--- what a reading of all the bytes that are left, of at most limit bytes, answers
+-- what a reading of all remaining bytes, at most limit, returns
 abbrev pub IsWhole : ℕ → Option (List ℕ) → Found → Type 0
 IsWhole limit left (Bytes v) = IfSome left (λ bytes. v.items ≡ bytes) × (length v.items ≤ limit)
 IsWhole limit left Missing = ⊥

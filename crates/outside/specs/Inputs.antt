@@ -1,4 +1,4 @@
--- What a named file of a folder comes to: its bytes, or a refusal of the file as a whole.
+-- What a named file of a folder gives: its bytes, or a refusal of the file as a whole.
 use Rattle.std.specs.Prelude.{◌≡◌, ℕ, List, length, nat_le, cond, None, Some, Option, Ok, Err, Result}
 use Rattle.outside.specs.Files.{File, bytes_under}
 use Rattle.outside.specs.Names.{folder_name}
@@ -25,7 +25,7 @@ bytes_or_refusal name (Some bytes) = cond (nat_le (length bytes) file_limit) (Ok
 abbrev pub file_at : List File → List ℕ → Result (List ℕ) Refusal
 file_at files name = bytes_or_refusal name (bytes_under (folder_name name) files)
 
--- a reading gave what the files define: a value, or its refusal; a fault of reading and want of
+-- a reading returned what the files define: a value, or its refusal; a read fault and lack of
 -- memory say nothing of the files
 abbrev pub IsReading : {V T : Type 0} → (T → V) → Result V Refusal → Result T InputFault → Type 0
 IsReading view defined (Ok v) = defined ≡ Ok (view v)

@@ -9,19 +9,19 @@ use Rattle.outside.specs.declared.traits.FolderError.TheVariants as folder
 use Rattle.outside.specs.declared.traits.SinkError.{SinkError}
 use Rattle.outside.specs.declared.traits.SinkError.TheVariants as sink
 
--- files, the latest first; the calls that are to fail; the calls made; and the faults
+-- the files, the latest first; the calls that must fail; the number of calls made; and of faults
 pub record FolderState : Type 0 where
   pub files : List File
   pub script : List ℕ
   pub calls : ℕ
   pub faults : ℕ
 
--- a put that is to fail, and how much of its piece it keeps
+-- a put that must fail, and how much of its piece it keeps
 pub record Failure : Type 0 where
   pub call : ℕ
   pub kept : ℕ
 
--- the bytes written, the puts that are to fail, the puts made, and the faults
+-- the bytes written, the puts that must fail, the number of puts made, and of faults
 pub record SinkState : Type 0 where
   pub bytes : List ℕ
   pub script : List Failure
@@ -32,19 +32,19 @@ pub record SinkState : Type 0 where
 abbrev pub seen_in_memory : SinkState → Seen
 seen_in_memory s = record { written = Some s.bytes; faults = s.faults }
 
--- what the put of this number keeps, where the script names it
+-- what the put of this number keeps, if the script names it
 abbrev pub kept_at : List Failure → ℕ → Option ℕ
 kept_at [] call = None
 kept_at (f ∷ script) call = cond (nat_eq f.call call) (Some f.kept) (kept_at script call)
 
--- a call that the script names fails and is a fault; every other one is answered
+-- a call that the script names fails and is a fault; every other one returns a result
 abbrev pub ReadsInMemory : {T : Type 0} → FolderState → Result T FolderError → FolderState → Type 0
 ReadsInMemory old (Ok found) new = (Contains old.script (counted old.calls) → ⊥) × (new ≡ record old { calls = counted old.calls })
 ReadsInMemory old (Err folder.Read) new = Contains old.script (counted old.calls)
     × (new ≡ record old { calls = counted old.calls; faults = counted old.faults })
 ReadsInMemory old (Err folder.Memory) new = (Contains old.script (counted old.calls) → ⊥) × (new ≡ record old { calls = counted old.calls })
 
--- a put that the script names fails, is a fault and keeps so much of its piece; every other one is
+-- a put that the script names fails, is a fault and keeps this much of its piece; every other one is
 -- taken whole; a put that lacks memory keeps nothing, and is no fault
 abbrev pub PutsInMemory : {T : Type 0} → SinkState → List ℕ → Result T SinkError → SinkState → Type 0
 PutsInMemory old piece (Ok done) new = (kept_at old.script (counted old.calls) ≡ None)

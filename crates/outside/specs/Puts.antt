@@ -1,21 +1,21 @@
--- Puts to a sink, and what they make of it.
+-- Puts to a sink, and what they change in it.
 use Rattle.std.specs.Prelude.{◌≡◌, ℕ, List, [], ◌∷◌, take, Ok, Err, Result, Option}
 use Rattle.std.specs.Io.KnownBytes.{Appends, Keeps}
 use Rattle.outside.specs.Counts.{PutCounts}
 use Rattle.outside.specs.declared.traits.SinkError.{SinkError}
 use Rattle.outside.specs.declared.traits.SinkError.TheVariants.{Write, Memory}
 
--- a put: the piece, and the answer
+-- a put: the piece, and the result
 pub record Put : Type 0 where
   pub piece : List ℕ
   pub answer : Result (Unit {0}) SinkError
 
--- what a clause sees of a sink: the bytes written, where it tells them, and its count of faults
+-- what a clause sees of a sink: the bytes written, if it shows them, and its count of faults
 pub record Seen : Type 0 where
   pub written : Option (List ℕ)
   pub faults : ℕ
 
--- an Ok appends the piece whole, a failed write a prefix of it, want of memory nothing
+-- Ok appends the piece whole, a failed write a prefix of it, lack of memory nothing
 abbrev pub PutWrites : Option (List ℕ) → Option (List ℕ) → List ℕ → Result (Unit {0}) SinkError → Type 0
 PutWrites old new piece (Ok done) = Appends old new piece
 PutWrites old new piece (Err Write) = (kept : ℕ) × Appends old new (take kept piece)
@@ -34,6 +34,6 @@ PutsMake old (put ∷ puts) new = (mid : Seen) × PutMakes old put mid × PutsMa
 abbrev pub taken : List ℕ → Put
 taken piece = record { piece = piece; answer = Ok tt }
 
--- a piece that was not taken
+-- a piece that was not taken whole, with its fault
 abbrev pub refused : List ℕ → SinkError → Put
 refused piece error = record { piece = piece; answer = Err error }

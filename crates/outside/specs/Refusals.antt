@@ -11,7 +11,7 @@ use Rattle.outside.specs.declared.refusals.InputFault.TheVariants.{Refused, Memo
 abbrev pub refusal : Code → List ℕ → ℕ → Refusal
 refusal code file line = record { code = code; file = file; line = line; at = None }
 
--- a refusal of a line, or want of memory for the file's name
+-- a refusal of a line, or lack of memory for the file's name
 abbrev pub IsRefusal : Code → List ℕ → ℕ → TextFault → Type 0
 IsRefusal code file line (texts.Refused r) = r ≡ refusal code file line
 IsRefusal code file line texts.Memory = Unit {0}

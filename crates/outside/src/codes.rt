@@ -1,7 +1,7 @@
 ghost use Rattle.std.specs.Prelude.{◌≡◌, MatchOption};
 ghost use Rattle.outside.specs.Codes.{code_row};
 
-/// Why an input is refused, in the order of their numbers.
+/// Why an input is refused, in the order of the codes' numbers.
 #[derive(Clone, Copy, Debug, PartialEq, Eq)]
 pub enum Code {
     MissingFile,
@@ -69,7 +69,7 @@ impl Code {
         }
     }
 
-    /// The code that has this number, or none where no code has it.
+    /// The code that has this number; None where no code has it.
     pub fn of_number(number: u8) -> Option<Code>
         ensures { MatchOption result ((c : Code) → ¬ ((code_row c).number ≡ number)) (λ c. (code_row c).number ≡ number) }
     {

@@ -11,11 +11,11 @@ use crate::refusals::{InputFault, Refusal, TextFault};
 use crate::traits::{Folder, FolderError, Found};
 use std::alloc::{AllocError, Global};
 
-/// How many bytes a file may have.
+/// The greatest number of bytes of a file.
 pub const FILE_LIMIT: u64 = 67_108_864;
 
-/// A file of the folder, whole. One that is missing or too long is refused, with its name as it
-/// was written.
+/// A whole file of the folder. A missing file and one that is too long are refused, with the name
+/// as it was written.
 pub fn read_input<F: Folder>(
     alloc: Global,
     folder: &mut F,
@@ -40,7 +40,7 @@ pub fn read_input<F: Folder>(
     }
 }
 
-/// The refusal of a file as a whole, which has line 0.
+/// The refusal of a file as a whole, with line 0.
 pub fn file_refusal(alloc: Global, code: Code, name: &str) -> Result<Refusal, AllocError>
     ensures { IfOk result (λ refusal. refusal ≡ file_refusal code name.now) }
 {
@@ -52,7 +52,7 @@ pub fn file_refusal(alloc: Global, code: Code, name: &str) -> Result<Refusal, Al
     })
 }
 
-/// The refusal of a line of a file, or `Memory` where there is none for the file's name.
+/// The refusal of a line of a file, or `Memory` where there is no memory for the file's name.
 pub fn refused(alloc: Global, code: Code, file: &str, line: u32) -> TextFault
     ensures { IsRefusal code file.now line result }
 {

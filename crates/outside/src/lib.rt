@@ -1,5 +1,5 @@
-// What a program has of the world outside: a folder to read, sinks to write to, a gate before each
-// turn; and what it says of an input that it refuses.
+//! What a program uses of the world outside: a folder to read, sinks to write to, a gate before each
+//! turn; and how an input is refused.
 #![tactic(auto)]
 
 mod accepted;

@@ -9,7 +9,7 @@ use crate::traits::{Folder, FolderError, Found, Gate, Sink, SinkError};
 use std::alloc::{AllocError, Global};
 
 impl MemFolder {
-    /// A file more, in place of an earlier one of that name.
+    /// Adds a file, which replaces an earlier one of that name.
     pub fn add(&mut self, name: &str, bytes: &[u8]) -> Result<(), AllocError>
         ensures ok { OnOk result (self.new ≡ record self.old { files = record { name = name.now; bytes = bytes.now } ∷ self.old.files }) }
         ensures err { OnErr result (self.new ≡ self.old) }
@@ -22,7 +22,7 @@ impl MemFolder {
         Ok(())
     }
 
-    /// The call of this number, counted from 1, fails.
+    /// Makes the call of this number, counted from 1, fail.
     pub fn fail_at(&mut self, call: u64) -> Result<(), AllocError>
         ensures ok { OnOk result (self.new ≡ record self.old { script = self.old.script ++ (call ∷ []) }) }
         ensures err { OnErr result (self.new ≡ self.old) }
@@ -42,7 +42,7 @@ impl Folder for MemFolder {
         ensures found { IfOk result (λ found. (files : List File) → files ≡ self.new.files → IsFound files name.now limit found) }
         ensures counts { ReadCounts self.old.faults self.new.faults result }
 
-        // A call fails exactly where its number stands in the script.
+        // A call fails exactly where its number is in the script.
         ensures script { ReadsInMemory self.old result self.new }
     {
         self.calls = self.calls.saturating_add(1);
@@ -68,7 +68,7 @@ impl Folder for MemFolder {
 }
 
 impl MemSink {
-    /// The put of this number, counted from 1, fails, and keeps so many bytes.
+    /// Makes the put of this number, counted from 1, fail and keep this many bytes.
     pub fn fail_at(&mut self, call: u64, kept: u64) -> Result<(), AllocError>
         ensures ok { OnOk result (self.new ≡ record self.old { script = self.old.script ++ (record { call = call; kept = kept } ∷ []) }) }
         ensures err { OnErr result (self.new ≡ self.old) }
@@ -98,7 +98,7 @@ impl Sink for MemSink {
         ensures leads { (start : SinkState) (puts : List Put) → PutsMake (seen_in_memory start) puts (seen_in_memory self.old) →
             PutsMake (seen_in_memory start) (puts ++ (record { piece = piece.now; answer = result } ∷ [])) (seen_in_memory self.new) }
 
-        // A put fails exactly where its number stands in the script, and keeps what stands there.
+        // A put fails exactly where its number is in the script, and then keeps as many bytes as the script says.
         ensures script { PutsInMemory self.old piece.now result self.new }
     {
         self.calls = self.calls.saturating_add(1);

@@ -47,14 +47,14 @@ impl PartialEq for Name {
     }
 }
 
-/// Whether a file's name is one that is taken: 1 to 255 bytes, each from 33 to 126.
+/// Whether a file's name is a good one: 1 to 255 bytes, each from 33 to 126.
 pub fn is_good_name(name: &[u8]) -> bool
     ensures { IsTrue result ↔ IsGoodName name.now }
 {
     1 <= name.len() && name.len() <= 255 && name.iter().all(|b| 33 <= *b && *b <= 126)
 }
 
-/// The bytes of a file's name as text, where the name is one that is taken.
+/// The bytes of a file's name as text; None where the name isn't a good one.
 pub fn good_name(name: &[u8]) -> Option<&str>
     ensures { MatchOption result (¬ IsGoodName name.now) (λ text. (text.now ≡ name.now) × IsGoodName name.now) }
 {
@@ -67,7 +67,7 @@ pub fn good_name(name: &[u8]) -> Option<&str>
     }
 }
 
-/// The name that a folder is asked for: each backslash becomes a slash.
+/// The name by which a folder is asked for a file: each backslash becomes a slash.
 pub fn folder_name(alloc: Global, name: &str) -> Result<String, AllocError>
     requires { IsGoodName name.now }
     ensures { IfOk result (λ asked. string_bytes asked ≡ folder_name name.now) }

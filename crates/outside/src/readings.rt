@@ -60,7 +60,7 @@ pub(crate) fn reading_of<'a>(readings: &'a [Reading], name: &str) -> Option<&'a 
     None
 }
 
-/// The same once more.
+/// A copy of what was found.
 pub(crate) fn copied(alloc: Global, found: &Found) -> Result<Found, AllocError>
     ensures found { IfOk result (λ copy. (under : Option (List ℕ)) (limit : ℕ) → IsAsFound under limit found.now → IsAsFound under limit copy) }
     ensures within { IfOk result (λ copy. (limit : ℕ) → IsWithin limit found.now → IsWithin limit copy) }

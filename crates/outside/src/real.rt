@@ -9,8 +9,8 @@ use std::alloc::Global;
 use std::io::{Read, Write};
 use std::marker::Model;
 
-/// All that a reader has left, where that is at most `limit` bytes. It reads no more once a read
-/// gave nothing or failed, or past the limit.
+/// All that a reader has left, if that is at most `limit` bytes. It stops reading once a read
+/// returned nothing or failed, or past the limit.
 pub fn read_whole<S: Read>(alloc: Global, from: &mut S, limit: u64) -> Result<Found, FolderError>
     ensures { IfOk result (IsWhole limit (S.remaining from.old)) }
 {
@@ -60,7 +60,7 @@ impl<W: Write + Drop> RealSink<W> {
     }
 }
 
-// How many of the bytes one write took. A write that takes none has failed.
+// The number of bytes that one write took; None if it failed or took none.
 fn write_part<W: Write>(to: &mut W, bytes: &[u8]) -> Option<usize>
     ensures some { IfSome result (λ n. 0 < n) }
     ensures within { IfSome result (λ n. n ≤ length bytes.now) }

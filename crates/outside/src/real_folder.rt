@@ -74,7 +74,7 @@ impl<'a, R: Files> Folder for RealFolder<'a, R> {
         ensures found { IfOk result (λ found. (files : List File) → AgreeWith self.new.readings files → IsFound files name.now limit found) }
         ensures counts { ReadCounts self.old.faults self.new.faults result }
 
-        // What it gives is not too long, whichever files agree.
+        // The bytes that it returns are not too long, whichever files agree.
         ensures within { IfOk result (λ found. IsWithin limit found) }
     {
         if let Some(reading) = reading_of(self.readings.as_slice(), name) {

@@ -4,8 +4,8 @@ use crate::codes::Code;
 use crate::names::Name;
 use std::alloc::{AllocError, AllocFailed};
 
-/// A refusal of an input: why, in which file and line (0 where no line is meant), and at which
-/// layer, row and column where a cell is meant.
+/// A refusal of an input: the code, the file and line (0 where no line is meant), and the layer, row
+/// and column where a cell is meant.
 #[derive(Debug, Drop, PartialEq)]
 pub struct Refusal {
     pub code: Code,
@@ -14,7 +14,7 @@ pub struct Refusal {
     pub at: Option<[u32; 3]>,
 }
 
-/// Why a reading that asks a folder has no value.
+/// Why a reading that uses a folder has no value.
 #[derive(Debug, Drop, PartialEq)]
 pub enum InputFault {
     Refused(Refusal),

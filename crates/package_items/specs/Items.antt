@@ -13,7 +13,7 @@ use Rattle.array_reader.specs.Lists.{value_at}
 use Rattle.array_reader.specs.Numbers.{integer}
 use Rattle.model_types.specs.Layers.{is_nonzero}
 
--- the next value of a free list, an integer that has to be 0: another is refused on its own line
+-- the next value of a free list, an integer that must be 0: any other is refused on its own line
 unfoldable pub zero_at : List ℕ → (Taking × Left) → Result (ℤ × (Taking × Left)) Refusal
 zero_at file s = do
   z ← value_at integer file s
@@ -22,7 +22,7 @@ zero_at file s = do
 unfoldable pub zero_step : List ℕ → ℕ → (Taking × Left) → Result (Taking × Left) Refusal
 zero_step file i s = zero_at file s >>= λ z. Ok z.1
 
--- a free list of so many of them
+-- a free list of this many of them
 unfoldable pub zero_list : List ℕ → ℕ → Left → Result (Unit {0} × Left) Refusal
 zero_list file count left = counted (zero_step file) 0 count (beginning, left) >>= λ s. Ok (tt, s.1)
 

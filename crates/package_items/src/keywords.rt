@@ -5,7 +5,7 @@ ghost use Rattle.record_lines.specs.Items.{is_word};
 
 use record_lines::{Words, is_word};
 
-/// Whether one of the words to come is this keyword, in any letter case.
+/// Whether one of the remaining words is this keyword, in any letter case.
 pub fn has_keyword(keyword: &[u8], words: &mut Words) -> bool
     ensures { result ≡ list_any (is_word keyword.now) words.old }
 {

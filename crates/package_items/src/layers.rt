@@ -27,7 +27,8 @@ pub fn layer_or<F: Folder>(
     requires canonical { IsDec other }
     ensures since { (files : List File) → F.agrees folder.new files → F.agrees folder.old files }
     ensures counts { InputCounts (F.faults folder.old) (F.faults folder.new) result }
-    ensures layer { (files : List File) → F.agrees folder.new files → Gives (λ v. v.items) result lines.new (layer_or files file.now rows cols is_there other lines.old) }
+    ensures layer { (files : List File) → F.agrees folder.new files →
+        Gives (λ v. v.items) result lines.new (layer_or files file.now rows cols is_there other lines.old) }
     ensures count { IfOk result (λ v. length v.items ≡ rows * cols) }
     ensures canonical { IfOk result (λ v. All IsDec v.items) }
 {

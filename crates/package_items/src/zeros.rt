@@ -1,4 +1,4 @@
-// Free lists whose values have to be 0.
+// Free lists whose values must be 0.
 ghost use Rattle.std.specs.Prelude.{◌≡◌, MatchResult, Ok, IfOk, pos};
 ghost use Rattle.record_lines.specs.Reading.{GivesText, StopsText, counted};
 ghost use Rattle.package_items.specs.Items.{zero_at, zero_step, zero_list};
@@ -8,7 +8,7 @@ use outside::{Code, TextFault, refused};
 use record_lines::{Free, Lines};
 use std::alloc::Global;
 
-/// The next value of a free list, which has to be 0: another is OutOfProfile on its own line.
+/// The next value of a free list, which must be 0; any other value is OutOfProfile on its own line.
 #[tactic(auto, unfolding(crate::specs::Items::zero_at))]
 pub fn zero_item<'a>(
     alloc: Global,
@@ -44,7 +44,7 @@ fn zero_items<'a>(
     Ok(())
 }
 
-/// A free list of so many values that have to be 0.
+/// Reads a free list of `count` values that must be 0.
 #[tactic(auto, unfolding(crate::specs::Items::zero_list))]
 pub fn zero_list(
     alloc: Global,

@@ -1,4 +1,4 @@
--- Words of the lines in front of arrays (TM 6-A16, RCH and EVT).
+-- Words of the lines before arrays (TM 6-A16, RCH and EVT).
 use Rattle.std.specs.Prelude.{ℕ, ℤ, pos, negsuc, Bool, true, false, not, ◌&&◌, nat_lt, nat_le, List, Result, Ok, Err, if◌then◌else◌}
 use Rattle.outside.specs.Refusals.{refusal}
 use Rattle.outside.specs.declared.codes.Code.TheVariants.{OutOfProfile, NothingToReuse}
@@ -21,7 +21,7 @@ abbrev pub is_negative : ℤ → Bool
 is_negative (pos n) = false
 is_negative (negsuc n) = true
 
--- whether an array is read anew: the flag isn't below 0, where the last array stands again, which there has to be
+-- whether an array is read anew; where the flag is below 0 the last array is used again, and there must be one
 unfoldable pub flag_at : List ℕ → ℕ → Bool → List (List ℕ) → Result (Bool × List (List ℕ)) Refusal
 flag_at file line listed words = do
   z ← number_at integer file line words

@@ -1,4 +1,4 @@
--- What is known of arrays that were read, whatever the folder tells.
+-- What is known of arrays that were read, whatever the folder returned.
 use Rattle.std.specs.Prelude.{◌≡◌, ℕ, ℤ, List, All, length}
 use Rattle.decimal_input.specs.declared.dec.Dec.{Dec}
 use Rattle.decimal_input.specs.Canonical.{IsDec}
@@ -17,7 +17,7 @@ IsReals grid xs = (length xs ≡ layer_size grid) × All IsDec xs
 abbrev pub IsWhole : Grid → List ℤ → Type 0
 IsWhole grid xs = length xs ≡ layer_size grid
 
--- a refusal of a cell, or want of memory for the file's name
+-- a refusal of a cell, or lack of memory for the file's name
 abbrev pub IsCellRefusal : Code → List ℕ → Grid → ℕ → TextFault → Type 0
 IsCellRefusal code file grid cell (texts.Refused r) = r ≡ refusal_at code file grid cell
 IsCellRefusal code file grid cell texts.Memory = Unit {0}

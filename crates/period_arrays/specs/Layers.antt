@@ -20,11 +20,11 @@ abbrev pub is_layer : Grid → ℤ → Bool
 is_layer grid (pos n) = nat_le n grid.layers
 is_layer grid (negsuc n) = false
 
--- another number is refused at the cell of layer 1
+-- any other number is refused at the cell of layer 1
 abbrev pub layer_step : List ℕ → Grid → List ℤ → ℕ → Unit {0} → Result (Unit {0}) Refusal
 layer_step file grid xs i s = if is_layer grid (int_at xs i) then Ok tt else Err (refusal_at CellOutside file grid i)
 
--- the first of an array that is refused
+-- the first number of an array that is refused
 unfoldable pub layers_tested : List ℕ → Grid → List ℤ → Result (Unit {0}) Refusal
 layers_tested file grid xs = counted (layer_step file grid xs) 0 (layer_size grid) tt
 

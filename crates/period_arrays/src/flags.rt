@@ -1,4 +1,4 @@
-// Words of the lines in front of arrays.
+// Words of the lines before arrays.
 ghost use Rattle.std.specs.Prelude.{◌≡◌, ◌≤ℤ◌, pos, true, false, IfOk};
 ghost use Rattle.record_lines.specs.Reading.{GivesText};
 ghost use Rattle.period_arrays.specs.Flags.{flag_at, option_at};
@@ -8,7 +8,7 @@ use outside::{Code, TextFault, refused};
 use record_lines::Words;
 use std::alloc::Global;
 
-/// The option that chooses a cell in each column of layers, from 1 to 3; another is OutOfProfile.
+/// The option that chooses a cell in each column of layers, from 1 to 3; any other is OutOfProfile.
 #[tactic(auto, unfolding(crate::specs::Flags::option_at))]
 pub fn option_at(alloc: Global, words: &mut Words, file: &str, line: u32) -> Result<i64, TextFault>
     ensures option { GivesText (λ z. z) result words.new (option_at file.now line words.old) }
@@ -21,7 +21,7 @@ pub fn option_at(alloc: Global, words: &mut Words, file: &str, line: u32) -> Res
     Ok(option)
 }
 
-/// Whether an array is read anew, by the next word; where it isn't, there has to be an array before.
+/// Whether an array is read anew, by the next word. If it isn't, there must be an array before it.
 #[tactic(auto, unfolding(crate::specs::Flags::flag_at))]
 pub fn flag_at(
     alloc: Global,

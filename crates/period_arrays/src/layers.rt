@@ -36,7 +36,7 @@ fn layer_tested(
     }
 }
 
-/// The first of an array that is no layer, nor 0, is refused at its row and column.
+/// Refuses the first number of an array that is neither a layer nor 0, at its row and column.
 #[tactic(auto, unfolding(crate::specs::Layers::layers_tested))]
 pub fn layers_tested(
     alloc: Global,

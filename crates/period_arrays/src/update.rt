@@ -1,4 +1,4 @@
-// Arrays that are read anew, or stand again.
+// Arrays that are read anew or used again.
 ghost use Rattle.std.specs.Prelude.{◌≡◌, IfOk, IfSome, IsSomeAnd, is_some, true, false, List};
 ghost use Rattle.outside.specs.Counts.{InputCounts};
 ghost use Rattle.outside.specs.Files.{File};
@@ -16,7 +16,7 @@ use outside::{Folder, InputFault};
 use record_lines::Lines;
 use std::alloc::{AllocError, Global};
 
-/// Reads an array of numbers where it comes anew, which stands in place of the last one.
+/// Reads an array of numbers if `anew`, which then replaces the last one.
 #[tactic(auto, unfolding(crate::specs::Updates::updated_reals))]
 pub fn update_reals<F: Folder>(
     alloc: Global,
@@ -30,7 +30,8 @@ pub fn update_reals<F: Folder>(
     requires last { IfSome last.old (IsReals grid.now) }
     ensures since { (files : List File) → F.agrees folder.new files → F.agrees folder.old files }
     ensures counts { InputCounts (F.faults folder.old) (F.faults folder.new) result }
-    ensures array { (files : List File) → F.agrees folder.new files → Gives (λ _. last.new) result lines.new (updated_reals files file.now grid.now anew last.old lines.old) }
+    ensures array { (files : List File) → F.agrees folder.new files →
+        Gives (λ _. last.new) result lines.new (updated_reals files file.now grid.now anew last.old lines.old) }
     ensures last { IfOk result (λ _. IfSome last.new (IsReals grid.now)) }
     ensures some { IfOk result (λ _. (anew ≡ false → is_some last.old ≡ true) → IsSomeAnd last.new (IsReals grid.now)) }
 {
@@ -62,7 +63,7 @@ fn layers_at<F: Folder>(
     Ok(values)
 }
 
-/// Reads an array of layers where it comes anew, which stands in place of the last one.
+/// Reads an array of layers if `anew`, which then replaces the last one.
 #[tactic(auto, unfolding(crate::specs::Updates::updated_layers))]
 pub fn update_layers<F: Folder>(
     alloc: Global,
@@ -77,7 +78,8 @@ pub fn update_layers<F: Folder>(
     requires last { IfSome last.old (IsWhole grid.now) }
     ensures since { (files : List File) → F.agrees folder.new files → F.agrees folder.old files }
     ensures counts { InputCounts (F.faults folder.old) (F.faults folder.new) result }
-    ensures array { (files : List File) → F.agrees folder.new files → Gives (λ _. last.new) result lines.new (updated_layers files file.now grid.now anew last.old lines.old) }
+    ensures array { (files : List File) → F.agrees folder.new files →
+        Gives (λ _. last.new) result lines.new (updated_layers files file.now grid.now anew last.old lines.old) }
     ensures last { IfOk result (λ _. IfSome last.new (IsWhole grid.now)) }
     ensures some { IfOk result (λ _. (anew ≡ false → is_some last.old ≡ true) → IsSomeAnd last.new (IsWhole grid.now)) }
 {
@@ -89,7 +91,7 @@ pub fn update_layers<F: Folder>(
     Ok(())
 }
 
-/// The array that stands, once more; empty where there is none.
+/// Another handle to the array in force; an empty array where there is none.
 pub fn array_of<V: Drop>(alloc: Global, last: &Option<Shared<V>>) -> Result<Shared<V>, AllocError>
     ensures { IfOk result (λ l. l ≡ or_empty last.now) }
 {

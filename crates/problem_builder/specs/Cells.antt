@@ -1,4 +1,5 @@
--- The cells of a step's problem: for each source of a variable cell one entry, in the order of the sources. What a source is stands in the model's definitions; here stands by which whole numbers it is known.
+-- The cells of a step's problem: for each source of a variable cell one entry, in the order of the sources. The
+-- model's definitions say what a source is; these say by which whole numbers it is known.
 use Rattle.std.specs.Prelude.{◌≡◌, ℕ, ◌-ℤ◌, ℤ, List}
 use Rattle.std.specs.List.{AllZip}
 use Rattle.decimal_input.specs.declared.dec.Dec.{Dec}
@@ -19,7 +20,8 @@ use Rattle.model_types.specs.declared.time_steps.TimeStep.{TimeStep}
 use Rattle.model_types.specs.Times.{period_at}
 use Rattle.model_types.specs.Kinds.{index_of}
 use Rattle.model_types.specs.Receivers.{EvapSource}
-use Rattle.model_types.specs.Sources.{FixedSource, FlowSource, RiverSource, DrainSource, variable_faces, flow_sources, fixed_sources, river_sources, drain_sources, evap_sources}
+use Rattle.model_types.specs.Sources.{FixedSource, FlowSource, RiverSource, DrainSource, variable_faces, flow_sources}
+use Rattle.model_types.specs.Sources.{fixed_sources, river_sources, drain_sources, evap_sources}
 use Rattle.model_types.specs.Sources.FixedSource.{ToConstant, ToGeneral, FromStorage}
 use Rattle.model_types.specs.Sources.FlowSource.{Pumped, Received}
 use Rattle.conductance_bounds.specs.Pairs.{IsCapped}
@@ -29,7 +31,7 @@ use Rattle.problem_builder.specs.Thicknesses.{Thicknesses}
 use Rattle.problem_builder.specs.ConstantHeads.{IsConstantPair}
 use Rattle.problem_builder.specs.RechargeBounds.{IsRechargePair}
 
--- Entries with the numbers of a list.
+-- Entries, by the numbers of a list.
 
 pub record IsRiver (s : ℕ) (x : River) (r : RiverSource) : Type 0 where
   pub cond : IsCond s r.cond x.lo x.hi
@@ -51,7 +53,7 @@ pub record IsGeneral (s c : ℕ) (x : Fixed) (head k : Dec) : Type 0 where
   pub cond : IsCond s k x.lo x.hi
   pub head_pair : IsHeadPair head x.head_lo x.head_hi
 
--- The other entries, with the numbers of a model.
+-- The other entries, by the numbers of a model.
 
 module _ (m : FlowModel) (s : ℕ) where
   -- recharge of cell c at a rate
@@ -59,7 +61,7 @@ module _ (m : FlowModel) (s : ℕ) where
     pub kind : x.kind ≡ Recharge
     pub flow : IsRechargePair m s c rate x.lo x.hi
 
-  -- an evapotranspiration of cell c: the bounds of the extinction elevation are differences of those of the surface and of the depth
+  -- an evapotranspiration of cell c: the bounds of the extinction elevation are the differences of the bounds of the surface and of the depth
   pub record IsEvap (c : ℕ) (x : Evap) (r : EvapSource) : Type 0 where
     pub conductance : IsCapped (evap_term m r.rate r.depth c) s x.lo x.hi
     pub surface : IsHeadPair r.surface x.surf_lo x.surf_hi
@@ -73,7 +75,7 @@ module _ (m : FlowModel) (s : ℕ) where
   IsFlow c x (Pumped q) = IsWell s x q
   IsFlow c x (Received rate) = IsReceived c x rate
 
--- of a model with these thicknesses, at a time
+-- for a model with these thicknesses, at a time
 module _ (m : FlowModel) (w : Thicknesses) (s : ℕ) (at : TimeStep) where
   -- the branch through a face to a variable neighbour, and to a constant-head one
   pub record IsLink (x : Link) (f : Face) : Type 0 where

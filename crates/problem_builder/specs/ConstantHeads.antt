@@ -9,12 +9,12 @@ use Rattle.model_types.specs.Kinds.{given_in, last_given}
 use Rattle.conductance_bounds.specs.Parts.{IsPart, IsGivenPair}
 use Rattle.problem_builder.specs.InputBounds.{IsHeadPair}
 
--- what a constant cell keeps: the Ehead of the last list that named it, or STRT
+-- the head that a constant cell keeps: the Ehead of the last list that named it, or STRT
 abbrev pub IsKeptPair : FlowModel → ℕ → Option Given → ℤ → ℤ → Type 0
 IsKeptPair m c None lo hi = IsHeadPair (dec_at m.strt c) lo hi
 IsKeptPair m c (Some x) lo hi = IsHeadPair x.ehead lo hi
 
--- where the period's list names the cell, between Shead and Ehead by the part of the period that has passed; else what it keeps
+-- where the period's list names the cell, between Shead and Ehead by the part of the period that has passed; else the head that the cell keeps
 abbrev pub IsGivenOrKept : FlowModel → TimeStep → ℕ → Option Given → ℤ → ℤ → Type 0
 IsGivenOrKept m at c None lo hi = IsKeptPair m c (last_given (take (at.period - 1) m.periods) c) lo hi
 IsGivenOrKept m at c (Some x) lo hi = (f : ℕ) × (g : ℕ) × IsPart (period_at m at.period) at.step f g × IsGivenPair x.shead x.ehead f g lo hi

@@ -1,4 +1,6 @@
--- A model that a problem can be built of. In a row of two cells, each 3 metres long, 1 metre wide and 1 metre thick, the first one is variable and has an entry of each kind, and the second one has a constant head. The only period is transient, with one time step. HK and the flow of the well are left open.
+-- A model for which a problem can be built. In a row of two cells, each 3 metres long, 1 metre wide and 1 metre
+-- thick, the first one is variable and has an entry of each kind, and the second one has a constant head. The only
+-- period is transient, with one time step. HK and the flow of the well are parameters.
 use Rattle.std.specs.Prelude.{ℕ, List, [], ◌∷◌, pos, neg_ℤ, Contains, false}
 use Rattle.decimal_input.specs.declared.dec.Dec.{Dec}
 use Rattle.decimal_input.specs.Canonical.{IsDec}
@@ -16,7 +18,7 @@ use Rattle.model_types.specs.Times.{times}
 use Rattle.model_types.specs.Valid.{IsModel}
 use Rattle.problem_builder.specs.GridHeads.{AreGridHeads, HeadsEnclose}
 
--- all that the problem of a time step is built of, and exact heads before it that the bounds enclose
+-- all premises of building a time step's problem, and exact heads before it that the bounds enclose
 pub record IsBuildable (m : FlowModel) (at : TimeStep) (bounds : List Bound) (before : ℕ → Fraction) : Type 0 where
   pub model : IsModel m
   pub time : Contains (times m) at
@@ -68,7 +70,7 @@ example_period q = record {
   ievt = [];
 }
 
--- recharge and evapotranspiration are of the highest active cell
+-- recharge and evapotranspiration are those of the highest active cell
 abbrev pub example_model : Dec → Dec → FlowModel
 example_model k q = record {
   grid = example_grid;

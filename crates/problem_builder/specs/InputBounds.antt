@@ -10,7 +10,7 @@ pub record IsRoundCond (s : ℕ) (d : Dec) (lo hi : ℕ) : Type 0 where
   pub ceiling : IsCeiling hi (size d) s
   pub small : hi < 2 ^ 60
 
--- A conductance whose upper bound reaches 2^60 units stands as 1 and 2^60, so that the sum of its cell reaches the limit.
+-- A conductance whose upper bound reaches 2^60 units is kept as 1 and 2^60, so that the sum of its cell reaches the limit.
 pub record IsPastCond (s : ℕ) (d : Dec) (lo hi : ℕ) : Type 0 where
   pub past : Passes (2 ^ 60 - 1) (size d) s
   pub lower : lo ≡ 1
@@ -25,7 +25,7 @@ pub record IsRoundWell (s : ℕ) (d : Dec) (lo hi : ℤ) : Type 0 where
   pub ceiling : IsSignedCeiling hi (number d) (s + 9)
   pub small : (unsigned_abs lo < 2 ^ 126) × (unsigned_abs hi < 2 ^ 126)
 
--- A flow of which a bound reaches 2^126 units stands as 2^109, so that the sum of its cell reaches the limit.
+-- A flow with a bound that reaches 2^126 units is kept as 2^109, so that the sum of its cell reaches the limit.
 pub record IsPastWell (s : ℕ) (d : Dec) (lo hi : ℤ) : Type 0 where
   pub past : IsFloorPast (number d) (s + 9) ⊎ IsCeilingPast (number d) (s + 9)
   pub lower : lo ≡ pos (2 ^ 109)

@@ -1,4 +1,4 @@
--- What is one, and what a problem keeps: for valid models and their times.
+-- Problems and refusals are unique, and problems meet their conditions: for valid models and their times.
 use Rattle.std.specs.Prelude.{◌≡◌, ℕ, ◌<◌, true, ℤ, List, Contains}
 use Rattle.step_problem.specs.declared.heads.Bound.{Bound}
 use Rattle.step_problem.specs.declared.place.NoBound.{NoBound}
@@ -19,21 +19,29 @@ use Rattle.problem_builder.specs.StartHeads.{AreStartHeads}
 
 -- a model, a time and the heads before it have at most one problem
 abbrev pub ProblemIsOne : Type 0
-ProblemIsOne = (m : FlowModel) (s : ℕ) (at : TimeStep) (old : List Bound) (p q : List Entries) → IsModel m → Contains (times m) at → IsProblemOf m s at old p → IsProblemOf m s at old q → p ≡ q
+ProblemIsOne =
+    (m : FlowModel) (s : ℕ) (at : TimeStep) (old : List Bound) (p q : List Entries) → IsModel m →
+    Contains (times m) at → IsProblemOf m s at old p → IsProblemOf m s at old q → p ≡ q
 
--- with a problem there is no refusal
+-- a step with a problem has no refusal
 abbrev pub ProblemExcludesRefusal : Type 0
-ProblemExcludesRefusal = (m : FlowModel) (s : ℕ) (at : TimeStep) (old : List Bound) (p : List Entries) (fault : NoBound) → IsModel m → Contains (times m) at → IsProblemOf m s at old p → HasNoProblem m s at old fault → ⊥
+ProblemExcludesRefusal =
+    (m : FlowModel) (s : ℕ) (at : TimeStep) (old : List Bound) (p : List Entries) (fault : NoBound) → IsModel m →
+    Contains (times m) at → IsProblemOf m s at old p → HasNoProblem m s at old fault → ⊥
 
--- there is at most one first refusal
+-- a step has at most one first refusal
 abbrev pub RefusalIsOne : Type 0
-RefusalIsOne = (m : FlowModel) (s : ℕ) (at : TimeStep) (old : List Bound) (a b : NoBound) → IsModel m → Contains (times m) at → HasNoProblem m s at old a → HasNoProblem m s at old b → a ≡ b
+RefusalIsOne =
+    (m : FlowModel) (s : ℕ) (at : TimeStep) (old : List Bound) (a b : NoBound) → IsModel m → Contains (times m) at →
+    HasNoProblem m s at old a → HasNoProblem m s at old b → a ≡ b
 
 -- a problem meets the conditions on problems
 abbrev pub ProblemFits : Type 0
-ProblemFits = (m : FlowModel) (s : ℕ) (at : TimeStep) (old : List Bound) (p : List Entries) → IsModel m → Contains (times m) at → AreGridHeads m old → IsProblemOf m s at old p → IsProblem p
+ProblemFits =
+    (m : FlowModel) (s : ℕ) (at : TimeStep) (old : List Bound) (p : List Entries) → IsModel m →
+    Contains (times m) at → AreGridHeads m old → IsProblemOf m s at old p → IsProblem p
 
--- the sites of a time, and the bounds of STRT, are one list each
+-- the sites of a time are one list, and so are the bounds of STRT
 abbrev pub SitesAreOne : Type 0
 SitesAreOne = (m : FlowModel) (at : TimeStep) (a b : List Site) → IsModel m → Contains (times m) at → AreSites m at a → AreSites m at b → a ≡ b
 
@@ -42,10 +50,15 @@ StartHeadsAreOne = (m : FlowModel) (a b : List Bound) → IsModel m → AreStart
 
 -- a constant-head cell has one pair at a time, and heads in range
 abbrev pub ConstantPairIsOne : Type 0
-ConstantPairIsOne = (m : FlowModel) (at : TimeStep) (c : ℕ) (lo hi low high : ℤ) → IsModel m → Contains (times m) at → c < cell_count m.grid → is_constant m at.period c ≡ true → IsConstantPair m at c lo hi → IsConstantPair m at c low high → (lo ≡ low) × (hi ≡ high)
+ConstantPairIsOne =
+    (m : FlowModel) (at : TimeStep) (c : ℕ) (lo hi low high : ℤ) → IsModel m → Contains (times m) at →
+    c < cell_count m.grid → is_constant m at.period c ≡ true → IsConstantPair m at c lo hi →
+    IsConstantPair m at c low high → (lo ≡ low) × (hi ≡ high)
 
 abbrev pub ConstantPairFits : Type 0
-ConstantPairFits = (m : FlowModel) (at : TimeStep) (c : ℕ) (lo hi : ℤ) → IsModel m → Contains (times m) at → c < cell_count m.grid → is_constant m at.period c ≡ true → IsConstantPair m at c lo hi → IsHead lo × IsHead hi
+ConstantPairFits =
+    (m : FlowModel) (at : TimeStep) (c : ℕ) (lo hi : ℤ) → IsModel m → Contains (times m) at → c < cell_count m.grid →
+    is_constant m at.period c ≡ true → IsConstantPair m at c lo hi → IsHead lo × IsHead hi
 
 -- the bounds of STRT are heads of all cells, in range
 abbrev pub StartHeadsFit : Type 0

@@ -1,4 +1,4 @@
--- What the functions of the builder hand to each other, on the way to a cell.
+-- Facts that the functions of the builder pass to each other on the way to a cell.
 use Rattle.std.specs.Prelude.{◌≡◌, ℕ, ◌<◌, true, List, Option, None, IfSome}
 use Rattle.step_problem.specs.declared.place.NoBound.{NoBound}
 use Rattle.step_problem.specs.declared.entry.Flow.{Flow}
@@ -39,11 +39,15 @@ pub record IsVariableCell (i : Inputs) (c : ℕ) : Type 0 where
   pub within : c < cell_count i.model.grid
   pub variable : is_variable i.model i.at.period c ≡ true
 
--- a face, if there is one, lies in the grid, and the table has its conductance where the cell behind it is active
+-- a face, if there is one, lies in the grid, and the table has its conductance if the neighbour is active
 abbrev pub HasPair : Inputs → Option Face → Type 0
-HasPair i x = IfSome x (λ f. (f.first < cell_count i.model.grid) × (f.end < cell_count i.model.grid) × (is_active i.model f.end ≡ true → IsCapped (face_term i.model (widths_of i.tables).thick (widths_of i.tables).bed f.axis f.first) i.tables.digits (pair_at i.tables f.axis f.first).lo (pair_at i.tables f.axis f.first).hi))
+HasPair i x =
+    IfSome x (λ f. (f.first < cell_count i.model.grid) × (f.end < cell_count i.model.grid)
+    × (is_active i.model f.end ≡ true →
+    IsCapped (face_term i.model (widths_of i.tables).thick (widths_of i.tables).bed f.axis f.first) i.tables.digits
+    (pair_at i.tables f.axis f.first).lo (pair_at i.tables f.axis f.first).hi))
 
--- a cell without a refusal, and the refusal of one
+-- a cell without a refusal, and the refusal of a cell
 pub record IsCheckedCell (i : Inputs) (c : ℕ) (e : Entries) : Type 0 where
   pub is : IsCellOf i.model (widths_of i.tables) i.tables.digits i.at i.old e c
   pub sound : fault_of e ≡ None

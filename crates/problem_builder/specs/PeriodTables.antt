@@ -1,4 +1,4 @@
--- What the tables of a stress period hold, cell by cell.
+-- The contents of the tables of a stress period, cell by cell.
 use Rattle.std.specs.Prelude.{◌≡◌, ℕ, Bool, true, not, List, Option, take}
 use Rattle.step_problem.specs.declared.heads.Bound.{Bound}
 use Rattle.step_problem.specs.declared.entry.Evap.{Evap}
@@ -23,7 +23,7 @@ IsIndex m p c i = i ≡ index_of m p c
 abbrev pub IsNamed : List Given → ℕ → Option Given → Type 0
 IsNamed list c x = x ≡ given_in list c
 
--- after p periods
+-- the head that a constant-head cell keeps after p periods
 abbrev pub IsKept : FlowModel → ℕ → ℕ → Bound → Type 0
 IsKept m p c b = is_active m c ≡ true → IsKeptPair m c (last_given (take p m.periods) c) b.low b.high
 

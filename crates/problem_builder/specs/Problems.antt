@@ -36,7 +36,7 @@ module _ (m : FlowModel) (s : ℕ) (at : TimeStep) (old : List Bound) where
     pub thicknesses : AreThicknesses m widths
     pub cells : AreCells m widths s at old (cell_count m.grid) p
 
-  -- It has none: the least variable cell that has a refusal has this one.
+  -- The step has none: the least variable cell that has a refusal has this one.
   pub record HasNoProblem (fault : NoBound) : Type 0 where
     pub widths : Thicknesses
     pub thicknesses : AreThicknesses m widths
@@ -47,7 +47,7 @@ module _ (m : FlowModel) (s : ℕ) (at : TimeStep) (old : List Bound) where
     pub cells_before : AreCells m widths s at old cell before
     pub refused : IsRefused m widths s at old cell fault
 
-  -- want of memory is free
+  -- lack of memory is possible at any time
   abbrev pub IsBuildFault : BuildFault → Type 0
   IsBuildFault (Refused fault) = HasNoProblem fault
   IsBuildFault Memory = Unit {0}

@@ -10,7 +10,7 @@ pub record IsRoundRecharge (m : FlowModel) (s c : ℕ) (rate : Dec) (lo hi : ℤ
   pub flow : IsFlow (recharge_term m rate c) rate.neg (s + 9) lo hi
   pub small : (unsigned_abs lo < 2 ^ 126) × (unsigned_abs hi < 2 ^ 126)
 
--- one whose magnitude reaches 2^126 units stands as 2^109, so that the sum of its cell reaches the limit
+-- one whose magnitude reaches 2^126 units is kept as 2^109, so that the sum of its cell reaches the limit
 pub record IsPastRecharge (m : FlowModel) (s c : ℕ) (rate : Dec) (lo hi : ℤ) : Type 0 where
   pub past : IsPast (recharge_term m rate c) (2 ^ 126 - 1) (s + 9)
   pub lower : lo ≡ pos (2 ^ 109)

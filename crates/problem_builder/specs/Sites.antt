@@ -1,4 +1,4 @@
--- What the cells of the grid are at a time.
+-- The kinds of the grid's cells at a time, with their constant heads.
 use Rattle.std.specs.Prelude.{◌≡◌, ℕ, List, slice_index_or}
 use Rattle.model_types.specs.declared.model.FlowModel.{FlowModel}
 use Rattle.model_types.specs.declared.time_steps.TimeStep.{TimeStep}
@@ -13,7 +13,7 @@ use Rattle.problem_builder.specs.Filled.{Filled}
 abbrev pub site_at : List Site → ℕ → Site
 site_at sites c = slice_index_or sites c NoFlow
 
--- cell c is without flow, has a constant head, of which the site has the pair, or a variable head
+-- cell c is without flow, or has a constant head with the site's pair, or a variable head
 abbrev pub IsSite : FlowModel → TimeStep → ℕ → Site → Type 0
 IsSite m at c NoFlow = kind_of m at.period c ≡ kind.NoFlow
 IsSite m at c (Given pair) = (kind_of m at.period c ≡ kind.Constant) × IsConstantPair m at c pair.low pair.high

@@ -1,4 +1,4 @@
--- What the tables of a time step hold, cell by cell.
+-- The contents of the tables of a time step, cell by cell.
 use Rattle.std.specs.Prelude.{◌≡◌, ℕ, ◌≤◌, ◌^◌, true, false, Option, Some, None}
 use Rattle.decimal_input.specs.Canonical.{size}
 use Rattle.step_problem.specs.declared.heads.Bound.{Bound}
@@ -22,16 +22,18 @@ pub record AreStepFactors (m : FlowModel) (at : TimeStep) (f : Factors) : Type 0
   pub grown : IsGrown (size (period_at m at.period).tsmult) (period_at m at.period).nstp at.step f
   pub usable : IsUsable f
 
--- or none in a steady one
+-- the factors, or None in a steady period
 abbrev pub AreFactorsOf : FlowModel → TimeStep → Option Factors → Type 0
 AreFactorsOf m at None = (period_at m at.period).steady ≡ true
 AreFactorsOf m at (Some f) = AreStepFactors m at f
 
 -- the bounds of a variable cell's storage in a transient period
 abbrev pub HasStorage : FlowModel → (ℕ → Span) → ℕ → TimeStep → ℕ → Pair → Type 0
-HasStorage m thick s at c x = is_variable m at.period c ≡ true → (period_at m at.period).steady ≡ false → IsCapped (storage_term m thick (period_at m at.period) at.step c) s x.lo x.hi
+HasStorage m thick s at c x =
+    is_variable m at.period c ≡ true → (period_at m at.period).steady ≡ false →
+    IsCapped (storage_term m thick (period_at m at.period) at.step c) s x.lo x.hi
 
--- the part of its period that has passed at a time
+-- the part of the period that has passed at a time
 pub record IsPartOf (m : FlowModel) (at : TimeStep) (part : Part) : Type 0 where
   pub is : IsPart (period_at m at.period) at.step part.lo part.hi
   pub range : (part.lo ≤ 10 ^ 18) × (part.hi ≤ 10 ^ 18)

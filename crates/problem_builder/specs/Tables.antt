@@ -1,4 +1,4 @@
--- What the builder's tables hold.
+-- The contents of the builder's tables.
 use Rattle.std.specs.Prelude.{◌≡◌, ℕ, ◌+◌, ◌<◌, ◌≤◌, true, false, pos, List, [], All, length, slice_index_or, Option, Some, None, take, ◌-◌}
 use Rattle.step_problem.specs.declared.heads.Bound.{Bound}
 use Rattle.step_problem.specs.Heads.{no_bound}
@@ -33,7 +33,7 @@ use Rattle.problem_builder.specs.Cells.{IsEvap}
 use Rattle.problem_builder.specs.GridHeads.{AreGridHeads}
 use Rattle.problem_builder.specs.Moments.{IsTimeOf}
 
--- two optional items are related, or there is neither
+-- two optional items are related, or both are None
 abbrev pub BothOrNone : {X Y : Type 0} → (X → Y → Type 0) → Option X → Option Y → Type 0
 BothOrNone R None None = Unit {0}
 BothOrNone R None (Some y) = ⊥
@@ -62,7 +62,7 @@ bound_in xs c = slice_index_or xs c no_bound
 abbrev pub item_in : {X : Type 0} → List (Option X) → ℕ → Option X
 item_in xs c = slice_index_or xs c None
 
--- Of a run: thicknesses, and the conductances of the faces by their first cells.
+-- The tables of a run: thicknesses, and the conductances of the faces by their first cells.
 
 abbrev pub pair_at : Tables → Axis → ℕ → Pair
 pair_at t Row c = pair_in t.row c
@@ -80,10 +80,11 @@ pub record AreTables (m : FlowModel) (s : ℕ) (t : Tables) : Type 0 where
   pub thicks : length t.thick ≡ cell_count m.grid
   pub thicknesses : AreThicknesses m (widths_of t)
   pub usable : (c : ℕ) → c < cell_count m.grid → is_active m c ≡ true → AreThick (span_in t.thick c).lo (span_in t.thick c).hi
-  pub faces : (axis : Axis) (a : ℕ) → a < cell_count m.grid → has_after m.grid axis a ≡ true → is_active m a ≡ true → is_active m (a + stride m.grid axis) ≡ true →
+  pub faces : (axis : Axis) (a : ℕ) → a < cell_count m.grid → has_after m.grid axis a ≡ true → is_active m a ≡ true →
+      is_active m (a + stride m.grid axis) ≡ true →
       IsCapped (face_term m (span_in t.thick) (span_in t.bed) axis a) s (pair_at t axis a).lo (pair_at t axis a).hi
 
--- Of a stress period: kinds and indices, given and kept heads, the entries of each cell, recharge and evapotranspiration.
+-- The tables of a stress period: kinds and indices, given and kept heads, the entries of each cell, recharge and evapotranspiration.
 
 abbrev pub local_in : List (List Entry) → ℕ → List Entry
 local_in xs c = slice_index_or xs c []
@@ -98,23 +99,28 @@ pub record ArePeriodTables (m : FlowModel) (s p : ℕ) (t : PeriodTables) : Type
   pub givens : length t.given ≡ cell_count m.grid
   pub given : (c : ℕ) → c < cell_count m.grid → item_in t.given c ≡ given_in (period_at m p).given c
   pub kepts : length t.kept ≡ cell_count m.grid
-  pub kept : (c : ℕ) → c < cell_count m.grid → is_constant m p c ≡ true → IsKeptPair m c (last_given (take (p - 1) m.periods) c) (bound_in t.kept c).low (bound_in t.kept c).high
+  pub kept : (c : ℕ) → c < cell_count m.grid → is_constant m p c ≡ true →
+      IsKeptPair m c (last_given (take (p - 1) m.periods) c) (bound_in t.kept c).low (bound_in t.kept c).high
   pub locals : length t.local ≡ cell_count m.grid
   pub local : (c : ℕ) → local_in t.local c ≡ local_entries m p c
   pub recharges : length t.recharge ≡ cell_count m.grid
-  pub recharge : (c : ℕ) → c < cell_count m.grid → is_variable m p c ≡ true → BothOrNone (λ x rate. IsRechargePair m s c rate x.lo x.hi) (item_in t.recharge c) (recharge_at m p c)
+  pub recharge : (c : ℕ) → c < cell_count m.grid → is_variable m p c ≡ true →
+      BothOrNone (λ x rate. IsRechargePair m s c rate x.lo x.hi) (item_in t.recharge c) (recharge_at m p c)
   pub evaps : length t.evaps ≡ cell_count m.grid
   pub evap : (c : ℕ) → c < cell_count m.grid → is_variable m p c ≡ true → BothOrNone (IsEvap m s c) (item_in t.evaps c) (evap_at m p c)
 
--- Of a time step: storage, and the heads of constant cells.
+-- The tables of a time step: storage, and the heads of constant cells.
 
 pub record AreStepTables (m : FlowModel) (w : Thicknesses) (s : ℕ) (at : TimeStep) (t : StepTables) : Type 0 where
   pub storages : length t.storage ≡ cell_count m.grid
-  pub storage : (c : ℕ) → c < cell_count m.grid → is_variable m at.period c ≡ true → (period_at m at.period).steady ≡ false → IsCapped (storage_term m w.thick (period_at m at.period) at.step c) s (pair_in t.storage c).lo (pair_in t.storage c).hi
+  pub storage : (c : ℕ) → c < cell_count m.grid → is_variable m at.period c ≡ true →
+      (period_at m at.period).steady ≡ false →
+      IsCapped (storage_term m w.thick (period_at m at.period) at.step c) s (pair_in t.storage c).lo
+      (pair_in t.storage c).hi
   pub heads : length t.heads ≡ cell_count m.grid
   pub head : (c : ℕ) → c < cell_count m.grid → is_constant m at.period c ≡ true → IsConstantPair m at c (bound_in t.heads c).low (bound_in t.heads c).high
 
--- All that a step's cells are made from.
+-- The data from which a step's cells are made.
 pub record Inputs : Type 0 where
   pub model : FlowModel
   pub tables : Tables

@@ -4,7 +4,7 @@ use Rattle.model_types.specs.declared.model.FlowModel.{FlowModel}
 use Rattle.conductance_bounds.specs.declared.span.Span.{Span}
 use Rattle.conductance_bounds.specs.ModelLaws.{AreSpanned}
 
--- by cell: its thickness, and that of the bed below it
+-- for each cell its thickness, and that of the bed below it
 pub record Thicknesses : Type 0 where
   pub thick : ℕ → Span
   pub bed : ℕ → Span

@@ -1,4 +1,4 @@
--- What the tables of thicknesses hold.
+-- The contents of the tables of thicknesses.
 use Rattle.std.specs.Prelude.{◌≡◌, ℕ, ◌+◌, ◌<◌, ◌⊎◌, true}
 use Rattle.model_types.specs.declared.model.FlowModel.{FlowModel}
 use Rattle.model_types.specs.declared.face.Axis.{Axis}
@@ -31,7 +31,7 @@ pub record IsBedOf (m : FlowModel) (c : ℕ) (t : Span) : Type 0 where
   pub thick : AreThick t.lo t.hi
   pub vkcb : IsPositive (vkcb_at m c)
 
--- or zeros where there is none
+-- zeros where there is no bed
 pub record IsNoBed (m : FlowModel) (c : ℕ) (t : Span) : Type 0 where
   pub none : (bed_thickness m c).num ≡ 0
   pub low : IsZero t.lo
@@ -49,7 +49,9 @@ pub record IsBranch (m : FlowModel) (axis : Axis) (a : ℕ) : Type 0 where
 
 -- the bounds of the conductance to the next cell along an axis
 abbrev pub HasConductance : FlowModel → (ℕ → Span) → (ℕ → Span) → ℕ → Axis → ℕ → Pair → Type 0
-HasConductance m thick bed s axis a x = has_after m.grid axis a ≡ true → is_active m a ≡ true → is_active m (a + stride m.grid axis) ≡ true → IsCapped (face_term m thick bed axis a) s x.lo x.hi
+HasConductance m thick bed s axis a x =
+    has_after m.grid axis a ≡ true → is_active m a ≡ true → is_active m (a + stride m.grid axis) ≡ true →
+    IsCapped (face_term m thick bed axis a) s x.lo x.hi
 
 -- a cell's half of a branch along each axis
 abbrev pub row_half : FlowModel → (ℕ → Span) → ℕ → Half

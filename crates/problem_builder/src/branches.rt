@@ -31,11 +31,12 @@ fn pair_of(input: &StepInput, face: Face) -> Pair
     }
 }
 
-// The branch through a face, where its end is variable.
+// The branch through a face whose other end is a variable cell.
 fn link_through(input: &StepInput, face: Option<Face>) -> Option<Link>
     requires input { AreInputs input.now }
     requires face { HasPair input.now face }
-    ensures { BothOrNone (IsLink input.now.model (widths_of input.now.tables) input.now.tables.digits input.now.at) result (through (is_variable input.now.model input.now.at.period) face) }
+    ensures { BothOrNone (IsLink input.now.model (widths_of input.now.tables) input.now.tables.digits input.now.at)
+        result (through (is_variable input.now.model input.now.at.period) face) }
 {
     match face {
         Some(face) if input.is_variable(face.end) => {
@@ -57,7 +58,9 @@ fn links_through(
 ) -> Result<Vec<Link>, AllocError>
     requires input { AreInputs input.now }
     requires faces { All (HasPair input.now) faces.now }
-    ensures { IfOk result (λ v. AllZip (IsLink input.now.model (widths_of input.now.tables) input.now.tables.digits input.now.at) v.items (filter_map (through (is_variable input.now.model input.now.at.period)) faces.now)) }
+    ensures { IfOk result (λ v. AllZip
+        (IsLink input.now.model (widths_of input.now.tables) input.now.tables.digits input.now.at) v.items
+        (filter_map (through (is_variable input.now.model input.now.at.period)) faces.now)) }
 {
     let mut links = Vec::new(alloc);
     for face in faces {
@@ -70,17 +73,20 @@ fn links_through(
 pub fn links(alloc: Global, input: &StepInput, cell: u32) -> Result<Vec<Link>, AllocError>
     requires input { AreInputs input.now }
     requires cell { IsVariableCell input.now cell }
-    ensures { IfOk result (λ v. AllZip (IsLink input.now.model (widths_of input.now.tables) input.now.tables.digits input.now.at) v.items (variable_faces input.now.model input.now.at.period cell)) }
+    ensures { IfOk result (λ v. AllZip
+        (IsLink input.now.model (widths_of input.now.tables) input.now.tables.digits input.now.at) v.items
+        (variable_faces input.now.model input.now.at.period cell)) }
 {
     let faces = input.model.grid.faces(cell);
     links_through(alloc, input, &faces)
 }
 
-// The branch through a face, where its end has a constant head.
+// The branch through a face whose other end has a constant head.
 fn constant_through(input: &StepInput, face: Option<Face>) -> Option<Fixed>
     requires input { AreInputs input.now }
     requires face { HasPair input.now face }
-    ensures { BothOrNone (IsConstant input.now.model (widths_of input.now.tables) input.now.tables.digits input.now.at) result (through (is_constant input.now.model input.now.at.period) face) }
+    ensures { BothOrNone (IsConstant input.now.model (widths_of input.now.tables) input.now.tables.digits
+        input.now.at) result (through (is_constant input.now.model input.now.at.period) face) }
 {
     match face {
         Some(face) if input.is_constant(face.end) => {
@@ -99,7 +105,9 @@ fn constants_through(
 ) -> Result<Vec<Fixed>, AllocError>
     requires input { AreInputs input.now }
     requires faces { All (HasPair input.now) faces.now }
-    ensures { IfOk result (λ v. AllZip (IsConstant input.now.model (widths_of input.now.tables) input.now.tables.digits input.now.at) v.items (filter_map (through (is_constant input.now.model input.now.at.period)) faces.now)) }
+    ensures { IfOk result (λ v. AllZip
+        (IsConstant input.now.model (widths_of input.now.tables) input.now.tables.digits input.now.at) v.items
+        (filter_map (through (is_constant input.now.model input.now.at.period)) faces.now)) }
 {
     let mut fixed = Vec::new(alloc);
     for face in faces {
@@ -112,7 +120,9 @@ fn constants_through(
 pub fn constants(alloc: Global, input: &StepInput, cell: u32) -> Result<Vec<Fixed>, AllocError>
     requires input { AreInputs input.now }
     requires cell { IsVariableCell input.now cell }
-    ensures { IfOk result (λ v. AllZip (IsConstant input.now.model (widths_of input.now.tables) input.now.tables.digits input.now.at) v.items (constant_faces input.now.model input.now.at.period cell)) }
+    ensures { IfOk result (λ v. AllZip
+        (IsConstant input.now.model (widths_of input.now.tables) input.now.tables.digits input.now.at) v.items
+        (constant_faces input.now.model input.now.at.period cell)) }
 {
     let faces = input.model.grid.faces(cell);
     constants_through(alloc, input, &faces)

@@ -43,7 +43,8 @@ fn checked_cell(alloc: Global, input: &StepInput, number: u32) -> Result<Cell, B
 // All variable cells, or the first refusal.
 pub(crate) fn cells(alloc: Global, input: &StepInput) -> Result<Vec<Cell>, BuildFault>
     requires { AreInputs input.now }
-    ensures cells { IfOk result (λ v. AreCells input.now.model (widths_of input.now.tables) input.now.tables.digits input.now.at input.now.old (cell_count input.now.model.grid) v.items) }
+    ensures cells { IfOk result (λ v. AreCells input.now.model (widths_of input.now.tables) input.now.tables.digits
+        input.now.at input.now.old (cell_count input.now.model.grid) v.items) }
     ensures fault { IfErr result (IsFirstFault input.now) }
 {
     let mut cells = Vec::new(alloc);
@@ -64,7 +65,10 @@ fn problem_of(alloc: Global, input: &StepInput) -> Result<Problem, BuildFault>
     ensures refusal { IfErr result (IsBuildFault input.now.model input.now.tables.digits input.now.at input.now.old) }
     ensures cells { IfOk result (λ p. map (λ e. e.id) p ≡ variable_cells input.now.model input.now.at.period) }
     ensures named { IfOk result (λ p. (c : ℕ) → IsNamed p c → IsActive input.now.model c) }
-    ensures encloses { IfOk result (λ p. (before : ℕ → Fraction) → HeadsEnclose input.now.model input.now.old before → EnclosesStep input.now.tables.digits p (exact_step input.now.model input.now.at.period input.now.at.step before)) }
+    ensures encloses { IfOk result
+        (λ p. (before : ℕ → Fraction) → HeadsEnclose input.now.model input.now.old before →
+        EnclosesStep input.now.tables.digits p
+        (exact_step input.now.model input.now.at.period input.now.at.step before)) }
     ensures stored { IfOk result (λ p. (period_at input.now.model input.now.at.period).steady ≡ false → HasOldHeads p) }
 {
     let cells = cells(alloc, input)?;
@@ -91,7 +95,9 @@ pub fn build_with(
     ensures refusal { IfErr result (IsBuildFault model.now tables.now.digits at old.now) }
     ensures cells { IfOk result (λ p. map (λ e. e.id) p ≡ variable_cells model.now at.period) }
     ensures named { IfOk result (λ p. (c : ℕ) → IsNamed p c → IsActive model.now c) }
-    ensures encloses { IfOk result (λ p. (before : ℕ → Fraction) → HeadsEnclose model.now old.now before → EnclosesStep tables.now.digits p (exact_step model.now at.period at.step before)) }
+    ensures encloses { IfOk result
+        (λ p. (before : ℕ → Fraction) → HeadsEnclose model.now old.now before →
+        EnclosesStep tables.now.digits p (exact_step model.now at.period at.step before)) }
     ensures stored { IfOk result (λ p. (period_at model.now at.period).steady ≡ false → HasOldHeads p) }
 {
     let step = step_tables(alloc, model, tables, period, at)?;
@@ -107,7 +113,7 @@ pub fn build_with(
 }
 
 /// The problem of a time step with s digits from the heads before it, one bound for each cell of the grid, or its
-/// first refusal. It makes all tables anew: `build_with` keeps them for a run.
+/// first refusal. It makes all tables anew; `build_with` takes tables that are kept for a run.
 pub fn build(
     alloc: Global,
     model: &FlowModel,
@@ -123,7 +129,9 @@ pub fn build(
     ensures refusal { IfErr result (IsBuildFault model.now s at old.now) }
     ensures cells { IfOk result (λ p. map (λ e. e.id) p ≡ variable_cells model.now at.period) }
     ensures named { IfOk result (λ p. (c : ℕ) → IsNamed p c → IsActive model.now c) }
-    ensures encloses { IfOk result (λ p. (before : ℕ → Fraction) → HeadsEnclose model.now old.now before → EnclosesStep s p (exact_step model.now at.period at.step before)) }
+    ensures encloses { IfOk result
+        (λ p. (before : ℕ → Fraction) → HeadsEnclose model.now old.now before →
+        EnclosesStep s p (exact_step model.now at.period at.step before)) }
     ensures stored { IfOk result (λ p. (period_at model.now at.period).steady ≡ false → HasOldHeads p) }
 {
     let tables = Tables::new(alloc, model, s)?;

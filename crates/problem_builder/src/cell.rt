@@ -19,7 +19,8 @@ use step_problem::{Cell, Evap, Fixed, FixedKind, Flow, FlowKind};
 fn stored(input: &StepInput, cell: u32) -> Option<Fixed>
     requires input { AreInputs input.now }
     requires cell { IsVariableCell input.now cell }
-    ensures { BothOrNone (IsFixed input.now.model (widths_of input.now.tables) input.now.tables.digits input.now.at input.now.old cell) result (storage_at input.now.model input.now.at.period) }
+    ensures { BothOrNone (IsFixed input.now.model (widths_of input.now.tables) input.now.tables.digits input.now.at
+        input.now.old cell) result (storage_at input.now.model input.now.at.period) }
 {
     if input.is_steady() {
         return None;
@@ -32,7 +33,9 @@ fn stored(input: &StepInput, cell: u32) -> Option<Fixed>
 fn fixed(alloc: Global, input: &StepInput, cell: u32) -> Result<Vec<Fixed>, AllocError>
     requires input { AreInputs input.now }
     requires cell { IsVariableCell input.now cell }
-    ensures { IfOk result (λ v. AllZip (IsFixed input.now.model (widths_of input.now.tables) input.now.tables.digits input.now.at input.now.old cell) v.items (fixed_sources input.now.model input.now.at.period cell)) }
+    ensures { IfOk result (λ v. AllZip
+        (IsFixed input.now.model (widths_of input.now.tables) input.now.tables.digits input.now.at input.now.old cell)
+        v.items (fixed_sources input.now.model input.now.at.period cell)) }
 {
     let mut fixed = Vec::new(alloc);
     push_some(&mut fixed, stored(input, cell))?;
@@ -79,7 +82,7 @@ fn evaps(alloc: Global, input: &StepInput, cell: u32) -> Result<Vec<Evap>, Alloc
     Ok(evaps)
 }
 
-/// The cell of a variable cell's number.
+/// The problem's cell of a variable cell's number.
 pub fn cell(alloc: Global, input: &StepInput, number: u32) -> Result<Cell, AllocError>
     requires input { AreInputs input.now }
     requires cell { IsVariableCell input.now number }

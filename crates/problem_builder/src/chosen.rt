@@ -11,7 +11,7 @@ use model_types::FlowModel;
 use model_types::layers::int_at;
 use std::alloc::{AllocError, Global};
 
-// Whether a cell above this one in its column of layers is active, where `before` says it of the cells before.
+// Whether a cell above this one in its column of layers is active; `before` has the answers for the cells before.
 fn is_covered(model: &FlowModel, before: &[bool], cell: u32) -> bool
     requires size { HasSize model.now.grid }
     requires cell { cell < cell_count model.now.grid }
@@ -26,7 +26,7 @@ fn is_covered(model: &FlowModel, before: &[bool], cell: u32) -> bool
     before[above as usize] || model.is_active(above)
 }
 
-/// By cell whether a cell above it in its column of layers is active.
+/// For each cell whether a cell above it in its column of layers is active.
 pub fn covered(alloc: Global, model: &FlowModel) -> Result<Vec<bool>, AllocError>
     requires { HasSize model.now.grid }
     ensures { IfOk result (λ v. Filled (IsCovered model.now) false (cell_count model.now.grid) v.items) }
@@ -40,7 +40,7 @@ pub fn covered(alloc: Global, model: &FlowModel) -> Result<Vec<bool>, AllocError
     Ok(covered)
 }
 
-/// Whether no cell above this one is active, where `covered` says it of all cells.
+/// Whether no cell above this one is active, by `covered`, the list for all cells.
 pub fn is_uncovered(model: &FlowModel, covered: &[bool], cell: u32) -> bool
     requires covered { Filled (IsCovered model.now) false (cell_count model.now.grid) covered.now }
     requires cell { cell < cell_count model.now.grid }
@@ -86,7 +86,7 @@ fn any(first: bool, second: bool, third: bool) -> bool
     first || second || third
 }
 
-/// Whether an option chooses a cell, of its column of layers.
+/// Whether an option chooses a cell in its column of layers.
 pub fn is_chosen(model: &FlowModel, option: i64, layers: &[i64], highest: bool, cell: u32) -> bool
     requires size { HasSize model.now.grid }
     requires cell { cell < cell_count model.now.grid }

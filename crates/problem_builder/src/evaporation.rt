@@ -28,7 +28,14 @@ use step_problem::{Bound, Evap};
 fn evap_with(pair: Pair, surface: Bound, depth: Bound) -> Evap
     requires lowest { IsHead (surface.low -ℤ depth.high) }
     requires highest { IsHead (surface.high -ℤ depth.low) }
-    ensures { result ≡ record { lo = pair.lo; hi = pair.hi; ext_lo = surface.low -ℤ depth.high; ext_hi = surface.high -ℤ depth.low; surf_lo = surface.low; surf_hi = surface.high } }
+    ensures { result ≡ record {
+      lo = pair.lo;
+      hi = pair.hi;
+      ext_lo = surface.low -ℤ depth.high;
+      ext_hi = surface.high -ℤ depth.low;
+      surf_lo = surface.low;
+      surf_hi = surface.high;
+    } }
 {
     Evap {
         lo: pair.lo,
@@ -98,7 +105,7 @@ fn evap_of(model: &FlowModel, number: u32, highest: bool, cell: u32, s: u32) -> 
     Some(evap_at(model, number, cell, s))
 }
 
-/// By cell its evapotranspiration in the period of this number, if it is active and evaporates, where `covered` says
+/// For each cell its evapotranspiration in the period of this number, if it is active and evaporates; `covered` says
 /// whether a cell above is active.
 pub fn evaps(
     alloc: Global,

@@ -1,4 +1,4 @@
-// The model that the builder's example is about, made in code.
+// The model of the builder's example, made in code.
 ghost use Rattle.std.specs.Prelude.{◌≡◌, ◌∷◌, [], pos, neg_ℤ, false, IfOk};
 ghost use Rattle.problem_builder.specs.Example.{whole, thousandths, first_cell, example_grid, example_period, example_model, twice};
 
@@ -71,7 +71,7 @@ fn one(alloc: Global, entry: Entry) -> Result<Shared<Entry>, AllocError>
     Shared::new(alloc, list)
 }
 
-/// The lists of the example's period.
+/// The lists of the example's period that have entries.
 #[derive(Drop)]
 struct Lists {
     wells: Shared<Entry>,
@@ -133,7 +133,7 @@ fn make_arrays(alloc: Global) -> Result<Arrays, AllocError>
     })
 }
 
-/// The lists that the example's period has no entries of.
+/// The lists of the example's period that are empty.
 #[derive(Drop)]
 struct Empty {
     given: Shared<Given>,
@@ -154,7 +154,23 @@ fn make_empty(alloc: Global) -> Result<Empty, AllocError>
 }
 
 fn period_of(lists: Lists, arrays: Arrays, empty: Empty) -> Period
-    ensures { result ≡ record { perlen = whole 1; nstp = 1; tsmult = whole 1; steady = false; wells = lists.wells; rivers = lists.rivers; drains = lists.drains; generals = lists.generals; given = empty.given; recharge = arrays.recharge; irch = empty.irch; surf = arrays.surf; evtr = arrays.evtr; exdp = arrays.exdp; ievt = empty.ievt } }
+    ensures { result ≡ record {
+      perlen = whole 1;
+      nstp = 1;
+      tsmult = whole 1;
+      steady = false;
+      wells = lists.wells;
+      rivers = lists.rivers;
+      drains = lists.drains;
+      generals = lists.generals;
+      given = empty.given;
+      recharge = arrays.recharge;
+      irch = empty.irch;
+      surf = arrays.surf;
+      evtr = arrays.evtr;
+      exdp = arrays.exdp;
+      ievt = empty.ievt;
+    } }
 {
     Period {
         perlen: whole(1),
@@ -184,7 +200,7 @@ fn make_periods(alloc: Global, q: Dec) -> Result<Vec<Period>, AllocError>
     Ok(vec![in alloc; period_of(lists, arrays, empty)]?)
 }
 
-/// What the example's cells have.
+/// The properties of the example's cells.
 #[derive(Drop)]
 struct Cells {
     ibound: Listed<i64>,
@@ -220,7 +236,22 @@ fn make_cells(alloc: Global, hk: Dec) -> Result<Cells, AllocError>
 }
 
 fn model_of(grid: Grid, cells: Cells, periods: Vec<Period>) -> FlowModel
-    ensures { result ≡ record { grid = grid; lenuni = pos 2; ibound = cells.ibound; strt = cells.strt; layvka = cells.layvka; coefficient = false; hk = cells.hk; hani = cells.hani; vka = cells.vka; ss = cells.ss; vkcb = cells.vkcb; nrchop = pos 3; nevtop = pos 3; periods = periods.items } }
+    ensures { result ≡ record {
+      grid = grid;
+      lenuni = pos 2;
+      ibound = cells.ibound;
+      strt = cells.strt;
+      layvka = cells.layvka;
+      coefficient = false;
+      hk = cells.hk;
+      hani = cells.hani;
+      vka = cells.vka;
+      ss = cells.ss;
+      vkcb = cells.vkcb;
+      nrchop = pos 3;
+      nevtop = pos 3;
+      periods = periods.items;
+    } }
 {
     FlowModel {
         grid,

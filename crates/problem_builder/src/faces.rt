@@ -23,7 +23,7 @@ use model_types::layers::{dec_at, int_at};
 use model_types::{Axis, FlowModel};
 use std::alloc::{AllocError, Global};
 
-/// What stands for a conductance that there isn't.
+/// The pair of a face without a conductance.
 pub const NO_PAIR: Pair = Pair { lo: 0, hi: 0 };
 
 /// The thickness of a cell.
@@ -176,7 +176,8 @@ fn is_branch(model: &FlowModel, axis: Axis, cell: u32) -> bool
     requires size { HasSize model.now.grid }
     requires cell { cell < cell_count model.now.grid }
     ensures branch { IsTrue result → IsBranch model.now axis cell }
-    ensures none { result ≡ false → has_after model.now.grid axis cell ≡ true → is_active model.now cell ≡ true → is_active model.now (cell + stride model.now.grid axis) ≡ true → ⊥ }
+    ensures none { result ≡ false → has_after model.now.grid axis cell ≡ true → is_active model.now cell ≡ true →
+        is_active model.now (cell + stride model.now.grid axis) ≡ true → ⊥ }
 {
     match model.grid.face_after(axis, cell) {
         Some(face) => model.is_active(cell) && model.is_active(face.end),

@@ -9,7 +9,7 @@ use std::alloc::{AllocError, AllocFailed};
 use step_problem::{Cell, Fixed, FixedKind, Link, NoBound, conductances_fit, flows_fit};
 
 /// Why a step has no problem: the refusal of the least cell that has one, by its number (21 ConductanceTooSmall,
-/// 22 ConductanceTooLarge, 23 FlowTooLarge), or want of memory.
+/// 22 ConductanceTooLarge, 23 FlowTooLarge), or lack of memory.
 #[derive(Clone, Copy, Debug, PartialEq, Eq)]
 pub enum BuildFault {
     NoBound(NoBound),
@@ -54,7 +54,7 @@ fn is_small_constant(x: &Fixed) -> bool
     }
 }
 
-/// The number of the first refusal of a cell, if it has one.
+/// The number of the first refusal of a cell; None where it has none.
 #[tactic(auto, unfolding(crate::specs::Refusals::fault_of))]
 pub fn fault(cell: &Cell) -> Option<u8>
     requires rivers { All RiverFits cell.now.rivers }

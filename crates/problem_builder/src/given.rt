@@ -1,4 +1,4 @@
-// Heads that CHD lists give, and heads that cells keep.
+// Heads that CHD lists give, and heads that constant-head cells keep.
 ghost use Rattle.std.specs.Prelude.{◌≡◌, ◌<◌, All, None, IfOk, IfSome, take};
 ghost use Rattle.step_problem.specs.Heads.{no_bound};
 ghost use Rattle.model_types.specs.Cells.{cell_count};
@@ -39,7 +39,7 @@ fn last_at(model: &FlowModel, given: &GivenHeads, cell: u32) -> Option<Given>
     given.last.as_slice()[cell as usize]
 }
 
-// What an active cell keeps whose last entry this is.
+// The head that an active cell keeps, where this is its last entry.
 fn kept_of(model: &FlowModel, last: Option<Given>, cell: u32) -> Bound
     requires strt { IsHeadNumber (dec_at model.now.strt cell) }
     requires last { IfSome last (λ x. IsHeadNumber x.ehead) }
@@ -64,7 +64,7 @@ fn kept_at(model: &FlowModel, given: &GivenHeads, cell: u32) -> Bound
     kept_of(model, last, cell)
 }
 
-/// What each active cell keeps after the period of `given`, if it is a constant-head cell.
+/// The head that each active cell keeps after the period of `given`, if it is a constant-head cell.
 pub fn kept(alloc: Global, model: &FlowModel, given: &GivenHeads) -> Result<Vec<Bound>, AllocError>
     requires model { IsModel model.now }
     requires given { given.now ≡ given_heads model.now given.now.period }

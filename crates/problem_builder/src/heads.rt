@@ -21,7 +21,7 @@ use model_types::{FlowModel, Kind, TimeStep};
 use std::alloc::{AllocError, Global};
 use step_problem::Bound;
 
-// The part of its period that has passed at a time.
+// The part of the period that has passed at a time.
 fn part_of(model: &FlowModel, at: TimeStep) -> Part
     requires model { IsModel model.now }
     requires time { IsTimeOf model.now at }
@@ -76,7 +76,7 @@ fn head_of(model: &FlowModel, period: &PeriodTables, at: TimeStep, part: Part, c
     }
 }
 
-/// By cell the bounds of its head, if it is a constant-head cell.
+/// For each cell the bounds of its head, if it is a constant-head cell.
 pub fn heads(
     alloc: Global,
     model: &FlowModel,

@@ -22,7 +22,7 @@ fn is_variable(model: &FlowModel, given: &GivenHeads, cell: u32) -> bool
     }
 }
 
-/// By cell its index, if it is a variable cell.
+/// For each cell its index, if it is a variable cell.
 pub fn indices(alloc: Global, model: &FlowModel, given: &GivenHeads) -> Result<Vec<u32>, AllocError>
     requires size { HasSize model.now.grid }
     requires given { given.now ≡ given_heads model.now given.now.period }

@@ -1,4 +1,4 @@
-// All that a step's cells are made from.
+// The data from which a step's cells are made.
 ghost use Rattle.std.specs.Prelude.{◌≡◌, ◌<◌, ◌≤◌, All};
 ghost use Rattle.model_types.specs.Cells.{cell_count};
 ghost use Rattle.model_types.specs.Kinds.{kind_of, is_variable, is_constant, index_of};

@@ -1,5 +1,7 @@
-// What is one, and what a problem keeps.
-ghost use Rattle.problem_builder.specs.Laws.{ProblemIsOne, ProblemExcludesRefusal, RefusalIsOne, ProblemFits, SitesAreOne, StartHeadsAreOne, ConstantPairIsOne, ConstantPairFits, StartHeadsFit};
+// Problems and refusals are unique, and problems meet their conditions. Each law is the contract of an empty function.
+ghost use Rattle.problem_builder.specs.Laws.{ProblemIsOne, ProblemExcludesRefusal, RefusalIsOne, ProblemFits};
+ghost use Rattle.problem_builder.specs.Laws.{SitesAreOne, StartHeadsAreOne, ConstantPairIsOne, ConstantPairFits};
+ghost use Rattle.problem_builder.specs.Laws.{StartHeadsFit};
 ghost use Rattle.problem_builder.specs.Example.{ExampleIsBuildable};
 
 /// A model, a time and the heads before it have at most one problem.
@@ -7,12 +9,12 @@ pub fn one_problem()
     ensures { ProblemIsOne }
 {}
 
-/// With a problem there is no refusal.
+/// A step with a problem has no refusal.
 pub fn no_problem_beside_a_refusal()
     ensures { ProblemExcludesRefusal }
 {}
 
-/// There is at most one first refusal.
+/// A step has at most one first refusal.
 pub fn one_refusal()
     ensures { RefusalIsOne }
 {}
@@ -43,7 +45,7 @@ pub fn start_heads_fit()
     ensures { StartHeadsFit }
 {}
 
-/// The builder's calls speak of something: a model of two cells meets all that they ask.
+/// The premises of the builder's calls can be met: a model of two cells meets them.
 pub fn buildable_example()
     ensures { ExampleIsBuildable }
 {}

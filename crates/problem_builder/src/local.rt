@@ -56,7 +56,7 @@ impl Local {
         Ok(())
     }
 
-    // Puts the entries of a list behind those of its cells.
+    // Appends the entries of a list to those of their cells.
     fn with(self, entries: &[Entry]) -> Result<Local, AllocError>
         requires cells { All (λ x. cell_of x < length self) entries.now }
         ensures len { IfOk result (λ l. length l ≡ length self) }
@@ -69,7 +69,7 @@ impl Local {
         Ok(local)
     }
 
-    /// The entries of WEL, RIV, DRN and GHB of a stress period, for each of so many cells.
+    /// The entries of WEL, RIV, DRN and GHB of a stress period, for each of `count` cells.
     pub fn of_period(alloc: Global, period: &Period, count: u32) -> Result<Local, AllocError>
         requires cells { All (λ x. cell_of x < count) (entries period.now) }
         ensures len { IfOk result (λ l. length l ≡ count) }

@@ -1,4 +1,4 @@
-// What a stress period's problems have in common.
+// The tables that all time steps of a stress period share.
 ghost use Rattle.std.specs.Prelude.{◌≡◌, ◌+◌, ◌<◌, ◌≤◌, IfOk, length, None, slice_index_or};
 ghost use Rattle.model_types.specs.declared.kind.Kind.TheVariants.{NoFlow};
 ghost use Rattle.model_types.specs.Kinds.{given_heads};
@@ -17,9 +17,9 @@ use model_types::{FlowModel, Given, GivenHeads, Kind, Listed};
 use std::alloc::{AllocError, Global};
 use step_problem::{Bound, Evap};
 
-/// What depends on the stress period alone, by cell: its kind, its index if it is variable, what the period's CHD
-/// list gives, what a constant-head cell keeps, its entries, the recharge that it receives, in units of 10^-(s+9),
-/// and its evapotranspiration.
+/// The data that depend on the stress period alone, by cell: its kind, its index if it is variable, what the period's
+/// CHD list gives, the head that a constant-head cell keeps, its entries, the recharge that it receives, in units of
+/// 10^-(s+9), and its evapotranspiration.
 #[derive(Debug, Drop)]
 pub struct PeriodTables {
     pub period: u32,
@@ -34,7 +34,7 @@ pub struct PeriodTables {
 }
 
 impl PeriodTables {
-    /// The tables of the stress period that follows on `given`, with s digits.
+    /// The tables of the stress period after `given`, with s digits.
     pub fn new(
         alloc: Global,
         model: &FlowModel,
@@ -72,7 +72,7 @@ impl PeriodTables {
         })
     }
 
-    /// The tables of a stress period, counted from 1, with s digits. It walks the CHD lists up to the period.
+    /// The tables of a stress period, counted from 1, with s digits. It reads the CHD lists up to the period.
     pub fn at(
         alloc: Global,
         model: &FlowModel,
@@ -88,7 +88,7 @@ impl PeriodTables {
         PeriodTables::new(alloc, model, &given, s)
     }
 
-    /// What a cell is.
+    /// The kind of a cell.
     pub fn kind_at(&self, cell: u32) -> Kind
         requires { cell < length self.now.kinds }
         ensures { result ≡ slice_index_or self.now.kinds cell NoFlow }
@@ -104,7 +104,7 @@ impl PeriodTables {
         self.given.as_slice()[cell as usize]
     }
 
-    /// What a constant-head cell keeps.
+    /// The head that a constant-head cell keeps.
     pub fn kept_at(&self, cell: u32) -> Bound
         requires { cell < length self.now.kept }
         ensures { result ≡ bound_in self.now.kept cell }

@@ -15,7 +15,7 @@ pub fn stress_period(model: &FlowModel, number: u32) -> &Period
     &model.periods.as_slice()[number as usize - 1]
 }
 
-/// The heads that are given before a stress period.
+/// The given heads before a stress period.
 pub fn given_before(alloc: Global, model: &FlowModel, number: u32) -> Result<GivenHeads, AllocError>
     requires model { IsModel model.now }
     requires number { (1 ≤ number) × (number ≤ length model.now.periods) }
@@ -29,7 +29,7 @@ pub fn given_before(alloc: Global, model: &FlowModel, number: u32) -> Result<Giv
     Ok(given)
 }
 
-/// The heads that are given after the stress period that follows on `given`.
+/// The given heads after the stress period that follows `given`.
 pub fn given_after(
     alloc: Global,
     model: &FlowModel,

@@ -17,7 +17,7 @@ use model_types::FlowModel;
 use model_types::layers::dec_at;
 use std::alloc::{AllocError, Global};
 
-// The bounds of recharge at a rate, or what stands for one that reaches 2^126 units.
+// The bounds of recharge at a rate; for one that reaches 2^126 units the pair that a table keeps in its place.
 fn recharge_pair(model: &FlowModel, rate: Dec, cell: u32, s: u32) -> FlowPair
     requires model { IsModel model.now }
     requires rate { IsDec rate }
@@ -61,7 +61,7 @@ fn recharge_of(model: &FlowModel, number: u32, highest: bool, cell: u32, s: u32)
     }
 }
 
-/// By cell the recharge that it receives in the period of this number, where `covered` says whether a cell above is
+/// For each cell the recharge that it receives in the period of this number; `covered` says whether a cell above is
 /// active.
 pub fn recharges(
     alloc: Global,

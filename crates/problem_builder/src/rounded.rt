@@ -14,10 +14,10 @@ use step_problem::Bound;
 
 const LARGEST: u128 = 1 << 60;
 
-/// What stands for a conductance whose upper bound reaches 2^60 units.
+/// The pair in place of a conductance whose upper bound reaches 2^60 units.
 pub const PAST: Pair = Pair { lo: 1, hi: 1 << 60 };
 
-/// What stands for a flow of which a bound reaches 2^126 units.
+/// The pair in place of a flow with a bound that reaches 2^126 units.
 pub const PAST_FLOW: FlowPair = FlowPair {
     lo: 1 << 109,
     hi: 1 << 109,
@@ -86,5 +86,5 @@ pub fn head_pair(head: Dec) -> Bound
     }
 }
 
-/// What stands for the head of a cell that has none.
+/// The bounds of the head of a cell that has none.
 pub const NO_BOUND: Bound = Bound { low: 0, high: 0 };

@@ -1,4 +1,4 @@
-// What the cells of the grid are at a time.
+// The kinds of the grid's cells at a time, with their constant heads.
 ghost use Rattle.std.specs.Prelude.{◌≡◌, ◌+◌, ◌<◌, ◌≤◌, ℕ, Contains, IfOk, length};
 ghost use Rattle.decimal_input.specs.Enclosures.{EnclosesSigned};
 ghost use Rattle.step_problem.specs.Conditions.{IsHead};
@@ -30,7 +30,7 @@ pub enum Site {
     Variable,
 }
 
-// The site of a cell, where `heads` are the heads of constant-head cells.
+// The site of a cell; `heads` are the heads of constant-head cells.
 fn site_of(
     model: &FlowModel,
     period: &PeriodTables,
@@ -84,20 +84,24 @@ pub fn sites_with(
     requires period { (s : ℕ) × ArePeriodTables model.now s at.period period.now }
     ensures sites { IfOk result (λ v. AreSites model.now at v.items) }
     ensures range { IfOk result (λ v. (c : ℕ) (pair : Pair) → site_at v.items c ≡ Given pair → IsHead pair.low × IsHead pair.high) }
-    ensures encloses { IfOk result (λ v. (c : ℕ) (pair : Pair) → site_at v.items c ≡ Given pair → EnclosesSigned pair.low pair.high 9 (constant_head model.now at.period at.step c)) }
+    ensures encloses { IfOk result
+        (λ v. (c : ℕ) (pair : Pair) → site_at v.items c ≡ Given pair →
+        EnclosesSigned pair.low pair.high 9 (constant_head model.now at.period at.step c)) }
     ensures active { IfOk result (λ v. (c : ℕ) → IsActive model.now c → site_at v.items c ≡ NoFlow → ⊥) }
 {
     let sites = sites_of(alloc, model, period, at)?;
     Ok(sites)
 }
 
-/// The sites of all cells of the grid at a time, by cell number. It walks the CHD lists up to the period.
+/// The sites of all cells of the grid at a time, by cell number. It reads the CHD lists up to the period.
 pub fn sites(alloc: Global, model: &FlowModel, at: TimeStep) -> Result<Vec<Site>, AllocError>
     requires model { IsModel model.now }
     requires time { Contains (times model.now) at }
     ensures sites { IfOk result (λ v. AreSites model.now at v.items) }
     ensures range { IfOk result (λ v. (c : ℕ) (pair : Pair) → site_at v.items c ≡ Given pair → IsHead pair.low × IsHead pair.high) }
-    ensures encloses { IfOk result (λ v. (c : ℕ) (pair : Pair) → site_at v.items c ≡ Given pair → EnclosesSigned pair.low pair.high 9 (constant_head model.now at.period at.step c)) }
+    ensures encloses { IfOk result
+        (λ v. (c : ℕ) (pair : Pair) → site_at v.items c ≡ Given pair →
+        EnclosesSigned pair.low pair.high 9 (constant_head model.now at.period at.step c)) }
     ensures active { IfOk result (λ v. (c : ℕ) → IsActive model.now c → site_at v.items c ≡ NoFlow → ⊥) }
 {
     let period = PeriodTables::at(alloc, model, at.period, 0)?;

@@ -40,7 +40,7 @@ fn bounds_of(alloc: Global, model: &FlowModel) -> Result<Vec<Bound>, AllocError>
     Ok(bounds)
 }
 
-/// The bounds of STRT of all cells, by cell number, in units of 10^-9: floor and ceiling, zeros where there is no
+/// The bounds of STRT of all cells, by cell number, in units of 10^-9: floor and ceiling, or zeros in a cell without
 /// flow.
 pub fn start_heads(alloc: Global, model: &FlowModel) -> Result<Vec<Bound>, AllocError>
     requires { IsModel model.now }

@@ -1,9 +1,9 @@
-// What a time step has beside what its period has.
+// The tables of a single time step, besides those of its period.
 use conductance_bounds::Pair;
 use model_types::Listed;
 use step_problem::Bound;
 
-/// By cell: storage, and the heads of constant-head cells.
+/// For each cell: storage, and the head of a constant-head cell.
 #[derive(Debug, Drop)]
 pub struct StepTables {
     pub storage: Listed<Pair>,

@@ -1,4 +1,4 @@
-// What a time step has beside what its period has.
+// The tables of a single time step, besides those of its period.
 ghost use Rattle.std.specs.Prelude.{◌≤◌, IfOk};
 ghost use Rattle.model_types.specs.Valid.{IsModel};
 ghost use Rattle.problem_builder.specs.Moments.{IsTimeOf};

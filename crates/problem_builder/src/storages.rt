@@ -36,7 +36,7 @@ fn factors_of(model: &FlowModel, at: TimeStep) -> Option<Factors>
     }
 }
 
-// The thickness that counts for storage: none under the option STORAGECOEFFICIENT.
+// The thickness for storage: None under the option STORAGECOEFFICIENT.
 fn thickness_in(model: &FlowModel, thickness: Span) -> Option<(Sd, Sd)>
     ensures { result ≡ cond model.now.coefficient None (Some (thickness.lo, thickness.hi)) }
 {
@@ -107,7 +107,7 @@ fn storage_of(
     }
 }
 
-/// By cell the bounds of its storage, if it is a variable cell and the period is transient.
+/// For each cell the bounds of its storage, if it is a variable cell and the period is transient.
 pub fn storages(
     alloc: Global,
     model: &FlowModel,

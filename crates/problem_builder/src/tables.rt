@@ -1,4 +1,4 @@
-// What a run's problems have in common.
+// The tables that all time steps of a run share.
 ghost use Rattle.std.specs.Prelude.{◌≤◌, IfOk};
 ghost use Rattle.model_types.specs.Valid.{IsModel};
 ghost use Rattle.problem_builder.specs.Tables.{AreTables};
@@ -9,9 +9,9 @@ use conductance_bounds::{Pair, Span};
 use model_types::{Axis, FlowModel, Listed};
 use std::alloc::{AllocError, Global};
 
-/// What depends on a model and the number of digits alone, and so is made once a run: by cell its thickness and
+/// The data that depend on a model and the number of digits alone, made once a run: for each cell its thickness and
 /// that of the bed below it, and by a face's first cell the conductance through it, in units of 10^-s. A
-/// conductance that reaches 2^60 units stands as 1 and 2^60.
+/// conductance that reaches 2^60 units is kept as 1 and 2^60.
 #[derive(Debug, Drop)]
 pub struct Tables {
     pub digits: u32,

@@ -12,7 +12,7 @@ use model_types::FlowModel;
 use scaled_decimal::Sd;
 use std::alloc::{AllocError, Global};
 
-/// What stands for a thickness that there isn't.
+/// The decimals of a missing thickness.
 pub const NO_SPAN: Span = Span {
     lo: Sd { m: 0, e: 0 },
     hi: Sd { m: 0, e: 0 },
@@ -47,7 +47,8 @@ pub fn thicknesses(alloc: Global, model: &FlowModel) -> Result<Vec<Span>, AllocE
 fn is_branch_below(model: &FlowModel, cell: u32) -> bool
     requires model { IsModel model.now }
     requires cell { cell < cell_count model.now.grid }
-    ensures { IsTrue result ↔ ((cell + layer_size model.now.grid < cell_count model.now.grid) × (is_active model.now cell ≡ true) × (is_active model.now (cell + layer_size model.now.grid) ≡ true)) }
+    ensures { IsTrue result ↔ ((cell + layer_size model.now.grid < cell_count model.now.grid)
+        × (is_active model.now cell ≡ true) × (is_active model.now (cell + layer_size model.now.grid) ≡ true)) }
 {
     let below = cell + model.grid.layer_size();
     below < model.grid.cell_count() && model.is_active(cell) && model.is_active(below)

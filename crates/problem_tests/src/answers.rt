@@ -12,7 +12,7 @@ fn print_pairs(rt: &impl Print, bounds: &[Bound]) -> io::Result<()> {
     println!(rt; "")
 }
 
-/// A word, and the bounds of each cell behind it.
+/// A word, and the bounds of each cell after it.
 pub fn print_bounds(rt: &impl Print, word: &str, bounds: &[Bound]) -> io::Result<()> {
     print!(rt; "{word}")?;
     print_pairs(rt, bounds)

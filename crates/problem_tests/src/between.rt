@@ -1,4 +1,4 @@
-// What is asked of a problem and its barrier.
+// Questions about a problem and its barrier.
 ghost use Rattle.step_problem.specs.Heads.{IsBarrier};
 
 use crate::answers::{print_barrier, print_bounds, print_budget, print_fault, print_verdict};
@@ -18,7 +18,7 @@ use std::io;
 use std::thread::Threads;
 use step_problem::{Barrier, Bound, Problem};
 
-// The certificate and the budget, of bounds that are words of the problem.
+// The certificate and the budget of bounds that fit the problem.
 fn ask_bounds(
     rt: &impl Print,
     p: &Problem,
@@ -63,7 +63,7 @@ fn ask_barrier<R: Print + Threads + Sync>(
     }
 }
 
-/// Asks of a problem between its barrier, and prints the answer, or why there is no barrier.
+/// Answers a question about a problem with its barrier, and prints the answer, or why there is no barrier.
 pub fn ask_between<R: Print + Threads + Sync>(
     rt: &R,
     alloc: Global,

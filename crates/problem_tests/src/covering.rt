@@ -47,7 +47,7 @@ impl Budgets {
         }
     }
 
-    /// Whether a line gives a term; then both have it.
+    /// Whether a line gives a term; if so, both budgets get it.
     pub fn take(&mut self, direction: &str, line: &str, n: &[i128]) -> bool {
         let Some(place) = TERM_NAMES.iter().position(|name| line.ends_with(*name)) else {
             return false;

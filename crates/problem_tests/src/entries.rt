@@ -73,7 +73,7 @@ fn evaporation(n: &[i128]) -> Evap {
     }
 }
 
-/// Whether a line is an entry of the cell; then the cell has it.
+/// Whether a line is an entry of the cell; if so, the cell gets it.
 pub fn push_entry(cell: &mut Cell, word: &str, n: &[i128]) -> Result<bool, AllocError> {
     match word {
         "link" => cell.links.push(link(n))?,
@@ -98,7 +98,7 @@ const ONE: u64 = 1_000_000_000_000;
 
 const METRE: i64 = 1_000_000_000;
 
-/// A cell of a row of so many, each beside a general head of its own, from 0 to 9 in turn.
+/// A cell of a row of `count` cells, each beside a general head of its own, from 0 to 9 in turn.
 pub fn cell_of_row(alloc: Global, index: u32, count: u32) -> Result<Cell, AllocError> {
     let mut cell = empty(alloc, index.wrapping_add(1));
     for other in [index.wrapping_sub(1), index.wrapping_add(1)] {

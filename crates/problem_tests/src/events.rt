@@ -20,7 +20,7 @@ fn event_of(next: Move) -> Option<Event> {
     }
 }
 
-// Whether the move is an event; then it is made.
+// Whether the move is an event; if so, it is made.
 fn make(p: &Problem, state: &mut State, next: Move) -> bool {
     let Some(event) = event_of(next) else {
         return false;

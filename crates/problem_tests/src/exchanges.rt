@@ -1,4 +1,4 @@
-// What a seat at a table does, after which `shown` is still what the seat has seen.
+// The moves of a seat at a table, after which `shown` is what the seat has seen.
 ghost use Rattle.std.specs.Prelude.{◌≡◌, ◌<◌, length};
 ghost use Rattle.head_table.specs.Seats.{IsSeatOf};
 ghost use Rattle.problem_tests.specs.Actors.{IsShown};
@@ -27,7 +27,7 @@ fn look_high(table: &HeadTable, seat: &mut HeadSeat, cell: usize, shown: &mut [B
     high
 }
 
-/// A look at one of the heads of a cell.
+/// Loads one of the heads of a cell.
 pub fn look(
     table: &HeadTable,
     seat: &mut HeadSeat,
@@ -45,7 +45,7 @@ pub fn look(
     }
 }
 
-/// Raises a cell from what the seat has seen, and answers the head before.
+/// Raises a cell from what the seat has seen, and returns the head before.
 pub fn raise(table: &HeadTable, seat: &mut HeadSeat, cell: usize, shown: &mut [Bound]) -> i64
     requires cell { cell < length table.now.problem.now }
     requires shown { IsShown table.now seat.old shown.old }
@@ -59,7 +59,7 @@ pub fn raise(table: &HeadTable, seat: &mut HeadSeat, cell: usize, shown: &mut [B
     found
 }
 
-/// Sinks a cell from what the seat has seen, and answers the head before.
+/// Sinks a cell from what the seat has seen, and returns the head before.
 pub fn sink(table: &HeadTable, seat: &mut HeadSeat, cell: usize, shown: &mut [Bound]) -> i64
     requires cell { cell < length table.now.problem.now }
     requires shown { IsShown table.now seat.old shown.old }
@@ -81,7 +81,7 @@ pub fn claim(table: &HeadTable, seat: &mut HeadSeat, shown: &[Bound]) -> u64
     table.claim(seat)
 }
 
-/// Looks at both heads of each cell.
+/// Loads both heads of each cell.
 pub fn watch(table: &HeadTable, seat: &mut HeadSeat, shown: &mut [Bound])
     requires seat { IsSeatOf table.now seat.old }
     requires whole { length shown.old ≡ length table.now.problem.now }

@@ -1,4 +1,4 @@
-// What lines have given so far.
+// The data of the lines so far.
 use crate::covering::Budgets;
 use crate::entries::{cell_of_row, empty, push_entry};
 use crate::moves::Move;
@@ -7,7 +7,7 @@ use cell_balance::example::example;
 use std::alloc::{AllocError, Global};
 use step_problem::{Bound, Cell, Problem, fits};
 
-/// The cells so far of a problem that isn't asked of yet; the problem that they make, or that they make none.
+/// The cells so far of a problem that isn't finished; the problem that they make, or that they make none.
 #[derive(Drop)]
 pub enum Stage {
     Cells(Vec<Cell>),
@@ -81,7 +81,7 @@ impl Given {
         Ok(true)
     }
 
-    /// Whether a line gives something; then it is taken.
+    /// Whether a line gives data; if so, they are taken.
     pub fn take(
         &mut self,
         alloc: Global,
@@ -106,7 +106,7 @@ impl Given {
         Ok(true)
     }
 
-    /// Makes the problem of the cells so far, where they make one.
+    /// Makes the problem of the cells so far, if they make one.
     pub fn finish(&mut self) {
         let stage = std::mem::replace(&mut self.stage, Stage::NoProblem);
         self.stage = match stage {

@@ -1,4 +1,4 @@
-//! Asks of problems that stand in standard input for their barriers, heads, certificates and budgets, and prints the
+//! Answers questions about problems in standard input, on their barriers, heads, certificates and budgets, and prints the
 //! answers.
 //!
 //! `problem` begins a problem, and `cell ID` a cell of it, whose entries follow, each bound from below and above:

@@ -1,4 +1,4 @@
-// What two actors do on shared heads, one move after the other.
+// The moves of two actors on shared heads, one after the other.
 use crate::numbers::number;
 use step_problem::Side;
 

@@ -13,7 +13,7 @@ pub fn numbers_of(alloc: Global, line: &str) -> io::Result<Vec<i128>> {
     Ok(numbers)
 }
 
-/// A number of a line, from 0; 0 where there is none or it is too long.
+/// A number of a line, by its place from 0; 0 where there is none or it is too long.
 pub fn at(numbers: &[i128], place: usize) -> i128 {
     numbers.get(place).copied().unwrap_or(0)
 }

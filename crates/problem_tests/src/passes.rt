@@ -1,4 +1,4 @@
-// How often workers pass a gate.
+// Counting the passes of a gate.
 use outside::Gate;
 use std::sync::atomic::{AtomicU64, Ordering};
 

@@ -1,4 +1,4 @@
-// What is asked of a problem.
+// Questions about a problem.
 use crate::balances::{print_balances, print_rivers};
 use crate::batches::{print_batch, print_book, print_meeting};
 use crate::between::ask_between;
@@ -44,7 +44,7 @@ pub enum Question {
 }
 
 impl Question {
-    /// What a line's first word asks.
+    /// The question of a line's first word.
     pub fn of(word: &str) -> Option<Question> {
         match word {
             "fits" => Some(Question::Fits),

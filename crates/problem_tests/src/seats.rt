@@ -1,4 +1,4 @@
-// Two seats at a table of a problem's heads: what one raises or sinks the other sees by a look, and not before.
+// Two seats at a table of a problem's heads: what one raises or sinks the other sees by a load, and not before.
 ghost use Rattle.std.specs.Prelude.{◌<◌, length};
 ghost use Rattle.step_problem.specs.Heads.{IsBarrier};
 ghost use Rattle.head_table.specs.Seats.{IsSeatOf};
@@ -21,7 +21,7 @@ struct Actor {
     shown: Vec<Bound>,
 }
 
-// Turns of a worker. The workers have numbers from 1 to 64.
+// The turns of a worker. The workers are numbered from 1 to 64.
 fn take_turns(table: &HeadTable, seat: &mut HeadSeat, act: Act)
     requires seat { IsSeatOf table.now seat.old }
     requires some_cell { 0 < length table.now.problem.now }
@@ -39,7 +39,7 @@ fn take_turns(table: &HeadTable, seat: &mut HeadSeat, act: Act)
     }
 }
 
-// What a move at one cell finds there.
+// What a move at one cell finds.
 fn found_at(
     table: &HeadTable,
     seat: &mut HeadSeat,

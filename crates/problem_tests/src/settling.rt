@@ -16,7 +16,7 @@ use std::io;
 use std::thread::Threads;
 use step_problem::{Barrier, Bound, Problem, SettleFault, Settler};
 
-// From these bounds, by trials of so many sweeps, and then by one round.
+// From these bounds, by trials of `sweeps` sweeps, and then by one round.
 fn from_near(
     alloc: Global,
     p: &Problem,
@@ -35,7 +35,7 @@ fn from_near(
     settle_near(&mut trial, &mut settler, alloc, p, b, near, trials)
 }
 
-// The first number is that of the sweeps behind the list, and the others name its cells.
+// The first number is that of the sweeps after the list, and the others name its cells.
 fn by_list(
     alloc: Global,
     p: &Problem,
@@ -62,7 +62,7 @@ pub fn print_answer(rt: &impl Print, answer: &Result<Vec<Bound>, SettleFault>) -
     }
 }
 
-// By workers, and how often they pass a gate.
+// By workers, with the number of passes of a gate.
 fn print_by_workers<R: Print + Threads + Sync>(
     rt: &R,
     alloc: Global,

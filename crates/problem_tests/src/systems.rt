@@ -21,7 +21,7 @@ fn row(alloc: Global, count: u32) -> Result<Matrix, AllocError> {
     Ok(matrix)
 }
 
-/// Solves the system of so many unknowns in a row between ones, each of which is one, and prints how many are.
+/// Solves the system of `count` unknowns in a row between ones, each of which is one, and prints how many are.
 pub fn print_system(rt: &impl Print, alloc: Global, count: u32) -> io::Result<()> {
     let mut levels = Levels::new(alloc, row(alloc, count)?)?;
     let right = levels.right_side();

@@ -1,4 +1,4 @@
--- What is known of recharge that was read, whatever the folder tells.
+-- What is known of recharge that was read, whatever the folder returned.
 use Rattle.std.specs.Prelude.{◌≡◌, ℕ, ◌≤ℤ◌, pos, Bool, true, false, List, [], All, map, length, IfSome}
 use Rattle.model_types.specs.declared.grid.Grid.{Grid}
 use Rattle.model_types.specs.declared.model.FlowModel.{FlowModel}
@@ -15,7 +15,7 @@ pub record AreLast (grid : Grid) (last : Last) : Type 0 where
   pub rates : IfSome last.rates (IsReals grid)
   pub layers : IfSome last.layers (IsWhole grid)
 
--- a period's arrays, where layers stand under option 2 alone
+-- a period's arrays; there are layers only under option 2
 pub record AreArrays (layered : Bool) (grid : Grid) (p : Period) : Type 0 where
   pub rates : IsReals grid p.recharge
   pub layers : layered ≡ true → IsWhole grid p.irch
@@ -33,7 +33,7 @@ pub record IsRecharged (m : FlowModel) : Type 0 where
   pub option : (pos 1 ≤ℤ m.nrchop) × (m.nrchop ≤ℤ pos 3)
   pub periods : All (HasRecharge m) m.periods
 
--- another model differs in its recharge alone
+-- another model differs only in its recharge
 pub record SameBut (m n : FlowModel) : Type 0 where
   pub model : n ≡ record m { nrchop = n.nrchop; periods = n.periods }
   pub periods : map without n.periods ≡ map without m.periods

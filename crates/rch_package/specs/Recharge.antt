@@ -17,11 +17,11 @@ use Rattle.rch_package.specs.declared.periods.Arrays.{Arrays}
 use Rattle.rch_package.specs.declared.periods.Last.{Last}
 use Rattle.rch_package.specs.declared.read.Recharge.{Recharge}
 
--- INIRCH stands under option 2 alone
+-- INIRCH is there only under option 2
 abbrev pub layer_flag : Bool → List ℕ → ℕ → Bool → List (List ℕ) → Result (Bool × List (List ℕ)) Refusal
 layer_flag layered file line listed words = if layered then flag_at file line listed words else Ok (false, words)
 
--- INRECH and INIRCH, behind these last arrays
+-- INRECH and INIRCH, after these last arrays
 unfoldable pub flags_of : Bool → List ℕ → ℕ → Last → List (List ℕ) → Result Flags Refusal
 flags_of layered file line last words = do
   rate ← flag_at file line (is_some last.rates) words
@@ -50,7 +50,9 @@ abbrev pub without_state : {X S : Type 0} → Result (X × S) Refusal → Result
 without_state read = read >>= λ x. Ok x.0
 
 unfoldable pub periods_of : Bool → List File → List ℕ → Grid → List Period → Left → Result (List Period) Refusal
-periods_of layered files file grid periods left = without_state (for_each (period_at layered files file grid) periods (record { rates = None; layers = None }, left))
+periods_of layered files file grid periods left =
+    without_state (for_each (period_at layered files file grid) periods
+    (record { rates = None; layers = None }, left))
 
 -- NRCHOP, and the arrays of each stress period
 unfoldable pub recharge_of : List File → List ℕ → List ℕ → Grid → List Period → Result Recharge Refusal

@@ -9,14 +9,14 @@ use period_arrays::flag_at;
 use record_lines::Words;
 use std::alloc::Global;
 
-/// Which arrays of a period are read anew. The others stand again.
+/// Which arrays of a period are read anew. The others are used again.
 #[derive(Clone, Copy, Debug, PartialEq, Eq)]
 pub struct Flags {
     pub rate: bool,
     pub layer: bool,
 }
 
-/// The flags of a period by the words of its line; `layered` tells whether layers are named.
+/// The flags of a period by the words of its line; `layered` says whether the file names layers.
 #[tactic(auto, unfolding(crate::specs::Recharge::flags_of))]
 pub fn flags_of(
     alloc: Global,

@@ -1,4 +1,4 @@
-//! The recharge package: a rate for each column of layers in each stress period, and what receives it.
+//! The recharge package: a rate for each column of layers in each stress period, and which cell receives it.
 #![tactic(auto)]
 
 mod flags;

@@ -17,14 +17,14 @@ use period_arrays::{array_of, update_layers, update_reals};
 use record_lines::{Lines, Words};
 use std::alloc::Global;
 
-/// The arrays that stand: the last rates, and the last layers.
+/// The arrays in force: the last rates and layers that were read.
 #[derive(Debug, Drop)]
 pub struct Last {
     pub rates: Option<Shared<Dec>>,
     pub layers: Option<Shared<i64>>,
 }
 
-/// The arrays of a period: a rate for each column of layers, and the layers, where they are named.
+/// The arrays of a period: a rate for each column of layers and, where the file names them, the layers.
 #[derive(Debug, Drop)]
 pub struct Arrays {
     pub recharge: Shared<Dec>,
@@ -41,7 +41,7 @@ fn with_arrays(period: Period, arrays: Arrays) -> Period
     }
 }
 
-/// The arrays of the next period, which then stand.
+/// The arrays of the next period, which are then in force.
 #[tactic(auto, unfolding(crate::specs::Recharge::arrays_at), using(period_arrays::proofs::UpdateLemmas::stands))]
 fn arrays_at<F: Folder>(
     alloc: Global,
@@ -56,7 +56,9 @@ fn arrays_at<F: Folder>(
     requires last { AreLast grid.now last.old }
     ensures since { (files : List File) → F.agrees folder.new files → F.agrees folder.old files }
     ensures counts { InputCounts (F.faults folder.old) (F.faults folder.new) result }
-    ensures arrays { (files : List File) → F.agrees folder.new files → Gives (λ a. a) result (last.new, lines.new) (arrays_at layered files file.now grid.now (last.old, lines.old)) }
+    ensures arrays { (files : List File) → F.agrees folder.new files →
+        Gives (λ a. a) result (last.new, lines.new)
+        (arrays_at layered files file.now grid.now (last.old, lines.old)) }
     ensures last { IfOk result (λ _. AreLast grid.now last.new) }
     ensures rates { IfOk result (λ a. IsReals grid.now a.recharge) }
     ensures layers { IfOk result (λ a. layered ≡ true → IsWhole grid.now a.irch) }
@@ -93,7 +95,7 @@ fn arrays_at<F: Folder>(
     Ok(Arrays { recharge, irch })
 }
 
-/// The next period with its arrays, which then stand.
+/// The next period with its arrays, which are then in force.
 #[tactic(auto, unfolding(crate::specs::Recharge::period_at))]
 fn period_at<F: Folder>(
     alloc: Global,
@@ -109,7 +111,9 @@ fn period_at<F: Folder>(
     requires last { AreLast grid.now last.old }
     ensures since { (files : List File) → F.agrees folder.new files → F.agrees folder.old files }
     ensures counts { InputCounts (F.faults folder.old) (F.faults folder.new) result }
-    ensures period { (files : List File) → F.agrees folder.new files → Gives (λ p. p) result (last.new, lines.new) (period_at layered files file.now grid.now period (last.old, lines.old)) }
+    ensures period { (files : List File) → F.agrees folder.new files →
+        Gives (λ p. p) result (last.new, lines.new)
+        (period_at layered files file.now grid.now period (last.old, lines.old)) }
     ensures last { IfOk result (λ _. AreLast grid.now last.new) }
     ensures arrays { IfOk result (AreArrays layered grid.now) }
     ensures others { IfOk result (λ p. without p ≡ without period) }
@@ -118,7 +122,7 @@ fn period_at<F: Folder>(
     Ok(with_arrays(period, arrays))
 }
 
-/// The periods with their arrays, where these were the last.
+/// The periods with their arrays, where `last` are the arrays in force.
 fn with_recharge<F: Folder>(
     alloc: Global,
     lines: &mut Lines,
@@ -133,7 +137,9 @@ fn with_recharge<F: Folder>(
     requires last { AreLast grid.now last.old }
     ensures since { (files : List File) → F.agrees folder.new files → F.agrees folder.old files }
     ensures counts { InputCounts (F.faults folder.old) (F.faults folder.new) result }
-    ensures periods { (files : List File) → F.agrees folder.new files → Gives (λ v. v.items) result (last.new, lines.new) (for_each (period_at layered files file.now grid.now) periods.items (last.old, lines.old)) }
+    ensures periods { (files : List File) → F.agrees folder.new files →
+        Gives (λ v. v.items) result (last.new, lines.new)
+        (for_each (period_at layered files file.now grid.now) periods.items (last.old, lines.old)) }
     ensures arrays { IfOk result (λ v. All (AreArrays layered grid.now) v.items) }
     ensures others { IfOk result (λ v. map without v.items ≡ map without periods.items) }
 {
@@ -145,7 +151,7 @@ fn with_recharge<F: Folder>(
     Ok(whole)
 }
 
-/// The periods with their arrays; `layered` tells whether layers are named.
+/// The periods with their arrays; `layered` says whether the file names layers.
 #[tactic(auto, unfolding(crate::specs::Recharge::periods_of))]
 pub fn periods_of<F: Folder>(
     alloc: Global,
@@ -159,7 +165,8 @@ pub fn periods_of<F: Folder>(
     requires size { HasSize grid.now }
     ensures since { (files : List File) → F.agrees folder.new files → F.agrees folder.old files }
     ensures counts { InputCounts (F.faults folder.old) (F.faults folder.new) result }
-    ensures periods { (files : List File) → F.agrees folder.new files → Has (λ v. v.items) result (periods_of layered files file.now grid.now periods.items lines.old) }
+    ensures periods { (files : List File) → F.agrees folder.new files →
+        Has (λ v. v.items) result (periods_of layered files file.now grid.now periods.items lines.old) }
     ensures arrays { IfOk result (λ v. All (AreArrays layered grid.now) v.items) }
     ensures others { IfOk result (λ v. map without v.items ≡ map without periods.items) }
 {

@@ -17,7 +17,7 @@ use period_arrays::option_at;
 use record_lines::{Lines, Words};
 use std::alloc::Global;
 
-/// What a file of the package says: NRCHOP, and the periods with their arrays.
+/// The contents of a file of the package: NRCHOP, and the periods with their arrays.
 #[derive(Debug, Drop)]
 pub struct Recharge {
     pub nrchop: i64,
@@ -79,11 +79,11 @@ fn with_recharge<F: Folder>(
 
 /// The model with the recharge of a file of the package RCH: the option NRCHOP, and in each stress period the rates and,
 /// under option 2, the layers. `file` is the file's name, for refusals, and `folder` has the files that its arrays
-/// name. An array that a period reuses is shared, and stands in memory once.
+/// name. An array that a period reuses is shared, so it is in memory once.
 ///
 /// # Errors
 /// The first item that is wrong is refused on its line: OutOfProfile for parameters and for another option,
-/// NothingToReuse where a first array is to be reused; CellOutside, with line 0 and the cell, for a layer that the grid
+/// NothingToReuse where there is no array to reuse; CellOutside, with line 0 and the cell, for a layer that the grid
 /// lacks. A read fault comes only from the folder. (TM 6-A16, RCH)
 pub fn read_rch<F: Folder>(
     alloc: Global,

@@ -7,7 +7,7 @@ use Rattle.outside.specs.Names.{is_good_name}
 use Rattle.outside.specs.Refusals.{refusal}
 use Rattle.record_lines.specs.Layout.{Numbered, Left}
 
--- the next word, or this refusal
+-- the next word, or this refusal where there is none
 unfoldable pub word_at : Refusal → List (List ℕ) → Result (List ℕ × List (List ℕ)) Refusal
 word_at missing [] = Err missing
 word_at missing (w ∷ ws) = Ok (w, ws)

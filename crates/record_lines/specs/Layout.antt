@@ -6,11 +6,11 @@ use Rattle.std.specs.List.{slice_split, onto_first, list_any}
 abbrev pub is_separator : ℕ → Bool
 is_separator c = ((c == 32) || (c == 9)) || ((c == 44) || (c == 13))
 
--- the words of a line: its pieces between separators that aren't empty
+-- the words of a line: its nonempty pieces between separators
 unfoldable pub words : List ℕ → List (List ℕ)
 words line = filter (λ w. nat_lt 0 (length w)) (slice_split is_separator line)
 
--- the lines of a text: it is cut at line feeds, and what stands behind the last is a line if it has a byte
+-- the lines of a text: it is cut at line feeds, and what follows the last one is a line if it has a byte
 unfoldable pub lines : List ℕ → List (List ℕ)
 lines [] = []
 lines (c ∷ cs) = if c == 10 then [] ∷ lines cs else onto_first c (lines cs)
@@ -23,12 +23,12 @@ pub record Numbered : Type 0 where
   pub number : ℕ
   pub bytes : List ℕ
 
--- what is left of a text: the lines to come that have a word, and the number of the line behind the last
+-- what is left of a text: the lines to come that have a word, and the number of the line after the last one
 pub record Left : Type 0 where
   pub lines : List Numbered
   pub end : ℕ
 
--- the number of the next line; it stands still at the end of its type
+-- the number of the next line; it stays at the greatest number of its type
 abbrev pub next_number : ℕ → ℕ
 next_number n = if nat_lt n 4294967295 then n + 1 else n
 
@@ -40,7 +40,7 @@ unfoldable pub number_behind : ℕ → List (List ℕ) → ℕ
 number_behind n [] = n
 number_behind n (line ∷ others) = number_behind (next_number n) others
 
--- what is left where this text is still to come, and its first line has this number
+-- what is left where this text is still to be read and its first line has this number
 unfoldable pub left_from : ℕ → List ℕ → Left
 left_from n text = record { lines = numbered n (lines text); end = number_behind n (lines text) }
 
@@ -56,7 +56,7 @@ after_comments (line ∷ others) = if is_comment line.bytes then after_comments 
 abbrev pub without_comments : Left → Left
 without_comments left = record { lines = after_comments left.lines; end = left.end }
 
--- What a call answered, seen by view, and what it left to come: exactly what reading gives.
+-- What a call returned, seen by view, and what it left to be read: exactly what reading gives.
 abbrev pub Yields : {X Y S E : Type 0} → (X → Y) → Result X E → S → Result (Y × S) E → Type 0
 Yields view (Ok x) after read = read ≡ Ok (view x, after)
 Yields view (Err e) after read = read ≡ Err e

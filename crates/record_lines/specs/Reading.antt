@@ -1,5 +1,5 @@
--- What reading a text gives: a value and what is left to come, or the first refusal; and what a
--- call may answer beside it.
+-- What reading a text gives: a value and what is left to be read, or the first refusal; and what a
+-- call may return besides.
 use Rattle.std.specs.Prelude.{◌≡◌, ℕ, zero, suc, ◌+◌, [], ◌∷◌, ◌++◌, Result, Ok, Err, List}
 use Rattle.outside.specs.declared.refusals.Refusal.{Refusal}
 use Rattle.outside.specs.declared.refusals.TextFault.{TextFault}
@@ -7,30 +7,30 @@ use Rattle.outside.specs.declared.refusals.TextFault.TheVariants as texts
 use Rattle.outside.specs.declared.refusals.InputFault.{InputFault}
 use Rattle.outside.specs.declared.refusals.InputFault.TheVariants.{Refused, ReadFault, Memory}
 
--- one reading after another; the first refusal ends it
+-- one reading after another; the first refusal ends them
 infixl 10 ◌>>=◌
 abbrev pub ◌>>=◌ : {A B E : Type 0} → Result A E → (A → Result B E) → Result B E
 (Ok x) >>= f = f x
 (Err e) >>= f = Err e
 
--- a refusal is the one that reading has; want of memory and a read fault may come at any place
+-- a refusal is the one that reading has; running out of memory and a read fault may come at any place
 abbrev pub Stops : {Y : Type 0} → InputFault → Result Y Refusal → Type 0
 Stops (Refused r) read = read ≡ Err r
 Stops ReadFault read = Unit {0}
 Stops Memory read = Unit {0}
 
--- What a call returned, seen by view, and what it left to come: what reading gives, unless a fault
--- or want of memory stopped it.
+-- What a call returned, seen by view, and what it left to be read: what reading gives, unless a fault
+-- or lack of memory stopped it.
 abbrev pub Gives : {X Y S : Type 0} → (X → Y) → Result X InputFault → S → Result (Y × S) Refusal → Type 0
 Gives view (Ok x) after read = read ≡ Ok (view x, after)
 Gives view (Err fault) after read = Stops fault read
 
--- the same where nothing is left to come
+-- the same where nothing is left to be read
 abbrev pub Has : {X Y : Type 0} → (X → Y) → Result X InputFault → Result Y Refusal → Type 0
 Has view (Ok x) read = read ≡ Ok (view x)
 Has view (Err fault) read = Stops fault read
 
--- The same of calls that are given no folder.
+-- The same for calls that take no folder.
 abbrev pub StopsText : {Y : Type 0} → TextFault → Result Y Refusal → Type 0
 StopsText (texts.Refused r) read = read ≡ Err r
 StopsText texts.Memory read = Unit {0}
@@ -43,7 +43,7 @@ abbrev pub HasText : {X Y : Type 0} → (X → Y) → Result X TextFault → Res
 HasText view (Ok x) read = read ≡ Ok (view x)
 HasText view (Err fault) read = StopsText fault read
 
--- the same reading so many times, each from where the one before it ended
+-- the same reading, this many times, each from where the one before it ended
 unfoldable pub repeated : {X S E : Type 0} → ℕ → (S → Result (X × S) E) → S → Result (List X × S) E
 repeated zero read s = Ok ([], s)
 repeated (suc n) read s = do
@@ -51,7 +51,7 @@ repeated (suc n) read s = do
   more ← repeated n read x.1
   Ok (x.0 ∷ more.0, more.1)
 
--- a reading for each of a list, each from where the one before it ended
+-- a reading for each element of a list, each from where the one before it ended
 unfoldable pub for_each : {A X S E : Type 0} → (A → S → Result (X × S) E) → List A → S → Result (List X × S) E
 for_each read [] s = Ok ([], s)
 for_each read (a ∷ others) s = do
@@ -59,7 +59,7 @@ for_each read (a ∷ others) s = do
   more ← for_each read others x.1
   Ok (x.0 ∷ more.0, more.1)
 
--- the lists of so many readings of the same thing, as one list
+-- the lists of this many readings of the same thing, appended
 unfoldable pub appended : {X S E : Type 0} → ℕ → (S → Result (List X × S) E) → S → Result (List X × S) E
 appended zero read s = Ok ([], s)
 appended (suc n) read s = do
@@ -67,7 +67,7 @@ appended (suc n) read s = do
   more ← appended n read xs.1
   Ok (xs.0 ++ more.0, more.1)
 
--- the same step for each of so many numbers, from this one on, each from where the one before it ended
+-- the same step for each of this many numbers from this one on, each from where the one before it ended
 unfoldable pub counted : {S E : Type 0} → (ℕ → S → Result S E) → ℕ → ℕ → S → Result S E
 counted step i zero s = Ok s
 counted step i (suc n) s = step i s >>= counted step (i + 1) n

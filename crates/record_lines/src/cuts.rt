@@ -35,7 +35,7 @@ fn separator_at(line: &[u8]) -> Option<usize>
     line.iter().position(|byte| is_separator(*byte))
 }
 
-/// The bytes in front of the first line feed.
+/// The number of bytes before the first line feed.
 #[tactic(auto, using(crate::proofs::CutLemmas::place_of_some, crate::proofs::CutLemmas::place_of_none, crate::proofs::CutLemmas::place_within))]
 fn line_length(text: &[u8]) -> usize
     ensures value { result ≡ position_or_len (λ c. c == 10) text.now }
@@ -47,7 +47,7 @@ fn line_length(text: &[u8]) -> usize
     }
 }
 
-/// The separators in front.
+/// The number of leading separators.
 #[tactic(auto, using(crate::proofs::CutLemmas::place_of_some, crate::proofs::CutLemmas::place_of_none, crate::proofs::CutLemmas::place_within))]
 fn gap_length(line: &[u8]) -> usize
     ensures value { result ≡ position_or_len (λ c. not (is_separator c)) line.now }
@@ -59,7 +59,7 @@ fn gap_length(line: &[u8]) -> usize
     }
 }
 
-/// The bytes in front of the first separator.
+/// The number of bytes before the first separator.
 #[tactic(auto, using(crate::proofs::CutLemmas::place_of_some, crate::proofs::CutLemmas::place_of_none, crate::proofs::CutLemmas::place_within))]
 fn word_length(line: &[u8]) -> usize
     ensures value { result ≡ position_or_len is_separator line.now }
@@ -71,7 +71,7 @@ fn word_length(line: &[u8]) -> usize
     }
 }
 
-/// The first line, and what stands behind its line feed.
+/// The first line, and what follows its line feed.
 pub fn cut_line(text: &[u8]) -> (&[u8], &[u8])
     requires { 0 < length text.now }
     ensures line { lines text.now ≡ result.0.now ∷ lines result.1.now }
@@ -85,7 +85,7 @@ pub fn cut_line(text: &[u8]) -> (&[u8], &[u8])
     }
 }
 
-/// The first word, or nothing, and what stands behind it.
+/// The first word, or an empty one, and what follows it.
 pub fn cut_word(line: &[u8]) -> (&[u8], &[u8])
     ensures word { words line.now ≡ (if nat_lt 0 (length result.0.now) then result.0.now ∷ words result.1.now else []) }
     ensures none { length result.0.now ≡ 0 → words result.1.now ≡ [] }
@@ -102,7 +102,7 @@ pub fn is_comment(line: &[u8]) -> bool
     matches!(line, [b'#', ..])
 }
 
-/// The first `*`.
+/// The place of the first `*`.
 pub fn star_at(word: &[u8]) -> Option<usize>
     ensures place { result ≡ position (λ c. c == 42) word.now }
     ensures within { IfSome result (λ at. at < length word.now) }
@@ -110,7 +110,7 @@ pub fn star_at(word: &[u8]) -> Option<usize>
     word.iter().position(|byte| *byte == b'*')
 }
 
-/// Whether a file's items begin here at the latest.
+/// Whether the line has a word and is no comment, so that a file's items begin here at the latest.
 pub fn is_item(line: &[u8]) -> bool
     ensures { result ≡ (has_word line.now && not (is_comment line.now)) }
 {

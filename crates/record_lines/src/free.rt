@@ -11,13 +11,13 @@ use std::marker::Model;
 /// Why a free list has no next value.
 #[derive(Clone, Copy, Debug, PartialEq, Eq)]
 pub enum FreeFault {
-    /// No line with a word is left; the number behind the last line.
+    /// No line with a word is left; the line after the last one.
     EndOfFile(u32),
-    /// A wrong repeat count, or none of a value behind it, on this line.
+    /// On this line: a wrong repeat count, or a count without a value after it.
     BadNumber(u32),
 }
 
-/// How many times a value is to be taken: one to nine digits that aren't all zero.
+/// A repeat count: one to nine digits, not all of them zero.
 #[tactic(auto, using(crate::proofs::SpreadLemmas::below_all))]
 fn count_of(digits: &[u8]) -> Option<u32>
     ensures value { result ≡ count digits.now }
@@ -36,7 +36,7 @@ fn count_of(digits: &[u8]) -> Option<u32>
     if value == 0 { None } else { Some(value) }
 }
 
-/// A word's count and value: `r*c` is r times c, any other word one time itself.
+/// A word's count and value: `r*c` is c, r times; any other word is itself, once.
 #[tactic(auto, using(crate::proofs::SpreadLemmas::plain_word, crate::proofs::SpreadLemmas::counted_word, crate::proofs::SpreadLemmas::uncounted_word, crate::proofs::SpreadLemmas::empty_value))]
 fn spread(word: &[u8]) -> Option<(u32, &[u8])>
     ensures value { option_map (λ x. (x.0, x.1.now)) result ≡ spread word.now }
@@ -57,7 +57,7 @@ fn spread(word: &[u8]) -> Option<(u32, &[u8])>
     }
 }
 
-/// A free list as it is read: the last word, how often it is still to be taken, and the words of its line that follow.
+/// A free list as it is read: the last word, how often it is still to be taken, and the words of its line after it.
 #[derive(Drop)]
 pub struct Free<'a> {
     repeat: u32,
@@ -85,8 +85,8 @@ impl<'a> Free<'a> {
         }
     }
 
-    /// Goes on to the next word, which is on a later line where this one has none. A fault leaves the
-    /// list in front of what is wrong.
+    /// Moves to the next word, on a later line if this one has none left. After a fault the list has not
+    /// advanced.
     fn start(&mut self, lines: &mut Lines<'a>) -> Result<(), FreeFault>
         requires none_left { self.old.repeat ≡ 0 }
         ensures word { MatchResult result
@@ -115,7 +115,7 @@ impl<'a> Free<'a> {
         }
     }
 
-    /// The next value, and the number of its line. A fault is answered again by each later call.
+    /// The next value, and the number of its line. After a fault every later call returns the same fault.
     #[tactic(auto, unfolding(crate::specs::Spread::next_value))]
     pub fn next(&mut self, lines: &mut Lines<'a>) -> Result<(&'a [u8], u32), FreeFault>
         ensures value { Yields (λ x. (x.0.now, x.1)) result (self.new, lines.new) (next_value self.old lines.old) }
@@ -128,7 +128,7 @@ impl<'a> Free<'a> {
         Ok((self.word, self.number))
     }
 
-    /// Whether the next value comes from the last word, as one more of its repeats; then it is taken.
+    /// Whether the next value is one more repeat of the last word; if so, it is taken.
     #[tactic(auto, unfolding(crate::specs::Spread::next_value))]
     pub fn repeats(&mut self) -> bool
         ensures taken { result ≡ true → (left : Left) → next_value self.old left ≡ Ok ((self.old.word, self.old.number), (self.new, left)) }

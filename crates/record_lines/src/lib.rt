@@ -1,5 +1,5 @@
-// A text as lines and words: a cursor that goes forward and copies nothing, and values that go on
-// over lines. No call takes memory.
+//! A text as lines and words: a cursor that moves forward and copies nothing, and free lists, whose
+//! values may continue on later lines. No call takes memory.
 #![tactic(auto)]
 
 mod cuts;

@@ -6,7 +6,7 @@ use crate::cuts::cut_word;
 use crate::lines::Line;
 use std::marker::Model;
 
-/// The words of a line that are still to come.
+/// The words of a line that are still to be read.
 #[derive(Drop)]
 pub struct Words<'a> {
     rest: &'a [u8],
@@ -25,7 +25,7 @@ impl<'a> Words<'a> {
         Words { rest: line }
     }
 
-    // The same words again.
+    // A copy: the same words again.
     pub(crate) fn same(&self) -> Words<'a>
         ensures { result ≡ self.now }
     {
@@ -39,7 +39,7 @@ impl<'a> Words<'a> {
         Words::of_bytes(line.bytes)
     }
 
-    /// The next word, or none where the line has no more.
+    /// The next word, or None where the line has no more.
     pub fn next(&mut self) -> Option<&'a [u8]>
         ensures { MatchOption result ((self.old ≡ []) × (self.new ≡ [])) (λ w. self.old ≡ w.now ∷ self.new) }
     {

@@ -23,7 +23,7 @@ abbrev pub with_head : Side → List Bound → ℕ → ℤ → List Bound
 with_head Low bounds c h = slice_set bounds c (record { low = h; high = upper_at bounds c })
 with_head High bounds c h = slice_set bounds c (record { low = lower_at bounds c; high = h })
 
--- the state of the first words, which each of so many actors has seen
+-- the state with these first words, which each of count actors has seen
 pub record IsStart (first : List Bound) (count : ℕ) (s : Core) : Type 0 where
   pub words : s.words ≡ first
   pub actors : length s.seen ≡ count

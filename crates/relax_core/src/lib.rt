@@ -1,4 +1,4 @@
-//! Heads that several actors share, changed by single events: what every event keeps, however stale what an actor has seen.
+//! Heads that several actors share, changed by single events: what every event keeps, even if what an actor has seen is out of date.
 #![tactic(auto)]
 
 pub mod events;

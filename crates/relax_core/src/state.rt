@@ -53,7 +53,7 @@ fn put_head(bounds: &mut Vec<Bound>, cell: usize, side: Side, head: i64)
 }
 
 impl State {
-    /// The state of these words, which each actor has seen.
+    /// The state with these words, which each actor has seen.
     pub fn start(alloc: Global, words: Vec<Bound>, actors: usize) -> Result<State, AllocError>
         ensures { IfOk result (λ s. IsStart words.items actors s) }
     {
@@ -161,19 +161,19 @@ impl State {
     }
 }
 
-/// Makes one event, and takes no memory. The state is to have one bound for each cell, in range, in its
-/// words and in what each actor has seen; the event names an actor of it and a cell of the problem.
+/// Performs one event, and takes no memory. The state must have one bound for each cell, in range, in its
+/// words and in what each actor has seen; the event names an actor of the state and a cell of the problem.
 pub fn apply(p: &Problem, state: &mut State, event: Event)
     requires in_range { IsInRange p.now state.old }
     requires named { IsNamed p.now state.old event }
     ensures step { Step p.now event state.old state.new }
     ensures in_range { IsInRange p.now state.new }
     ensures actors { length state.new.seen ≡ length state.old.seen }
-    // whatever the actor has seen, and for each barrier
+    // This holds whatever the actor has seen, and for each barrier.
     ensures kept { (b : Edges) → IsKept p.now b state.old → IsKept p.now b state.new }
     ensures no_looser { IsNoLooser p.now state.old state.new }
 {
-    // The problem's conditions come with its length.
+    // `len` ensures the problem's conditions.
     let _cells = p.len();
     state.change(p, event);
 }

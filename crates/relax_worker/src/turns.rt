@@ -18,7 +18,7 @@ fn raise_cell(table: &HeadTable, seat: &mut HeadSeat, cell: usize)
     ensures high { SameHigh seat.old seat.new }
 {
     let problem = table.problem();
-    // The problem's conditions come with its length.
+    // `len` ensures the problem's conditions.
     let _cells = problem.len();
     let links = problem.cell(cell).links.as_slice();
     let own = table.load_low(seat, cell);
@@ -39,7 +39,7 @@ fn sink_cell(table: &HeadTable, seat: &mut HeadSeat, cell: usize)
     ensures low { SameLow seat.old seat.new }
 {
     let problem = table.problem();
-    // The problem's conditions come with its length.
+    // `len` ensures the problem's conditions.
     let _cells = problem.len();
     let links = problem.cell(cell).links.as_slice();
     let own = table.load_high(seat, cell);

@@ -8,11 +8,11 @@ use head_table::{HeadSeat, HeadTable};
 use outside::Gate;
 use step_problem::Problem;
 
-// Tickets that follow one another are of cells so far apart, so that workers seldom share a cache line. A prime, so that
-// as many tickets as cells come to each cell, but where their number is a multiple of it.
+// Consecutive tickets are this many cells apart, so workers rarely share a cache line. It is prime: n consecutive
+// tickets visit all n cells unless it divides n.
 const STRIDE: u64 = 509;
 
-/// Makes so many turns, each at a claimed ticket and each after a pass of the gate.
+/// Makes `turns` turns, each at a claimed ticket and each after a pass of the gate.
 pub fn work<G: Gate>(table: &HeadTable, seat: &mut HeadSeat, worker: u32, turns: u32, gate: &G)
     requires seat { IsSeatOf table.now seat.old }
     requires some_cell { 0 < length table.now.problem.now }
@@ -26,15 +26,17 @@ pub fn work<G: Gate>(table: &HeadTable, seat: &mut HeadSeat, worker: u32, turns:
     }
 }
 
-/// Makes a turn at each cell of the worker's own: those of index `worker - 1`, counted by `workers`. The
-/// workers have numbers from 1.
+/// Makes a turn at each of the worker's own cells: those of index `worker - 1` modulo `workers`. The
+/// workers are numbered from 1.
 pub fn own_turns(table: &HeadTable, seat: &mut HeadSeat, worker: u32, workers: u32)
     requires seat { IsSeatOf table.now seat.old }
     requires some_cell { 0 < length table.now.problem.now }
     requires worker { (1 ≤ worker) × (worker ≤ workers) × (workers ≤ 64) }
     ensures seat { IsSeatOf table.now seat.new }
-    ensures raised { (c : ℕ) → c < length table.now.problem.now → c % workers ≡ worker - 1 → IsRaised table.now.problem.now (low_seen seat.old) c (low_seen seat.new c) }
-    ensures sunk { (c : ℕ) → c < length table.now.problem.now → c % workers ≡ worker - 1 → IsSunk table.now.problem.now (high_seen seat.old) c (high_seen seat.new c) }
+    ensures raised { (c : ℕ) → c < length table.now.problem.now → c % workers ≡ worker - 1 →
+        IsRaised table.now.problem.now (low_seen seat.old) c (low_seen seat.new c) }
+    ensures sunk { (c : ℕ) → c < length table.now.problem.now → c % workers ≡ worker - 1 →
+        IsSunk table.now.problem.now (high_seen seat.old) c (high_seen seat.new c) }
     ensures no_looser { AreNoLooser table.now.problem.now (seen_of seat.old) (seen_of seat.new) }
 {
     for cell in 0..table.problem().len() {

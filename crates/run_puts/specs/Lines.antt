@@ -1,4 +1,4 @@
--- The last lines that are the same for each run.
+-- The last lines that are the same in each run.
 use Rattle.std.specs.Prelude.{ℕ, List, codes}
 
 -- the bytes of a piece

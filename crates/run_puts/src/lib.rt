@@ -1,4 +1,4 @@
-// How a run ends, and the pieces that it puts to a sink until then, whatever they are.
+//! How a run ends, and the pieces that it puts to a sink before, for any pieces.
 #![tactic(auto)]
 
 mod puts;

@@ -5,7 +5,7 @@ ghost use Rattle.run_puts.specs.Ends.{IsLast, IsPut, IsWanting};
 use crate::status::Status;
 use outside::{Sink, SinkError};
 
-/// Puts the line MEMORY, once, and ends the run.
+/// Puts the line MEMORY once, and ends the run.
 pub fn put_memory<K: Sink>(out: &mut K) -> Status
     ensures { (start : _) (puts : List Put) → K.leads start puts out.old →
         (more : List Put) × K.leads start (puts ++ more) out.new × IsWanting result more }
@@ -17,7 +17,7 @@ pub fn put_memory<K: Sink>(out: &mut K) -> Status
     }
 }
 
-/// Puts a piece. A status ends the run.
+/// Puts a piece. If the result is a status, it ends the run.
 pub fn put_piece<K: Sink>(out: &mut K, piece: &[u8]) -> Option<Status>
     ensures { (start : _) (puts : List Put) → K.leads start puts out.old →
         (more : List Put) × K.leads start (puts ++ more) out.new × IsPut piece.now result more }
@@ -29,7 +29,7 @@ pub fn put_piece<K: Sink>(out: &mut K, piece: &[u8]) -> Option<Status>
     }
 }
 
-/// Puts the last line of a run, which then ends as it is meant to.
+/// Puts the last line of a run, which then ends with the status `meant`.
 pub fn put_last<K: Sink>(out: &mut K, line: &[u8], meant: Status) -> Status
     ensures { (start : _) (puts : List Put) → K.leads start puts out.old →
         (more : List Put) × K.leads start (puts ++ more) out.new × IsLast line.now meant result more }

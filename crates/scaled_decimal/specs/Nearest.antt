@@ -12,13 +12,13 @@ IsSd x = ((10 ^ 17 ≤ x.m) × (x.m < 10 ^ 18)) ⊎ ((x.m ≡ 0) × (x.e ≡ pos
 abbrev pub value : Sd → Ratio
 value x = scaled x.m x.e
 
--- r is the greatest 18-digit decimal not above f, of all exponents
+-- r is the greatest 18-digit decimal not above f, over all exponents
 pub record IsDown (r : Sd) (f : Ratio) : Type 0 where
   pub decimal : IsSd r
   pub at_most : AtMost (value r) f
   pub greatest : (x : Sd) → IsSd x → AtMost (value x) f → AtMost (value x) (value r)
 
--- r is the least 18-digit decimal not below f, of all exponents
+-- r is the least 18-digit decimal not below f, over all exponents
 pub record IsUp (r : Sd) (f : Ratio) : Type 0 where
   pub decimal : IsSd r
   pub at_least : AtMost f (value r)

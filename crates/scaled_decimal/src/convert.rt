@@ -12,7 +12,7 @@ use crate::power::behind_18_digits;
 use crate::rounding::{round_dn, round_up};
 use decimal_input::dec::Dec;
 
-// Zeros behind a number of at most 18 digits until it has 18.
+// The digits with zeros appended until there are 18.
 fn padded(digits: u64, exponent: i16) -> Sd
     requires positive { 0 < digits }
     requires few { digits < 10 ^ 18 }

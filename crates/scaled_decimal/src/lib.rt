@@ -1,4 +1,4 @@
-// Decimal numbers of 18 digits, rounded down or up.
+//! Decimal numbers of 18 digits, rounded down or up.
 #![tactic(auto)]
 
 pub mod convert;

@@ -45,7 +45,7 @@ pub fn div_up(a: Sd, b: Sd) -> Sd
     if a.m == 0 {
         ZERO
     } else {
-        // A quotient that is whole lies above this one, and not above one more, too.
+        // The quotient lies above `below` and not above `below + 1`, whole or not.
         let below = (a.m as u128 * LIMIT as u128 - 1) / b.m as u128;
         round_up(below, ONE, a.e - b.e - 18)
     }

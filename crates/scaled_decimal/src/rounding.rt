@@ -1,4 +1,4 @@
-// Rounding a longer number to its 18 digits at the front.
+// Rounding a longer number to its leading 18 digits.
 
 ghost use Rattle.std.specs.Prelude.{◌≡◌, ◌+◌, ◌-◌, ◌*◌, ◌^◌, ◌≤◌, ◌<◌, pos, ◌+ℤ◌};
 ghost use Rattle.decimal_input.specs.Ratios.{Ratio};
@@ -8,8 +8,8 @@ ghost use Rattle.scaled_decimal.specs.Cuts.{IsFrom, IsUpTo};
 use crate::decimal::{LEAST, LIMIT, Sd};
 use crate::power::Power;
 
-/// The 18 digits at the front of q, behind which stand the digits of the power, or one more.
-/// The digits that q leaves out of an exact value count as nothing.
+/// The leading 18 digits of q, which has `behind.places` digits after them, or one more.
+/// Digits of the exact value that q leaves out don't change the result.
 pub(crate) fn round_dn(q: u128, behind: Power, e: i16) -> Sd
     requires power { behind.unit ≡ 10 ^ behind.places }
     requires few { behind.places < 22 }
@@ -31,7 +31,7 @@ pub(crate) fn round_dn(q: u128, behind: Power, e: i16) -> Sd
     }
 }
 
-/// The least 18 digits that reach what lies above p and not above p + 1.
+/// The least 18-digit decimal that isn't below a value above p and at most p + 1.
 pub(crate) fn round_up(p: u128, behind: Power, e: i16) -> Sd
     requires power { behind.unit ≡ 10 ^ behind.places }
     requires few { behind.places < 22 }
@@ -47,7 +47,7 @@ pub(crate) fn round_up(p: u128, behind: Power, e: i16) -> Sd
     if front < LIMIT - 1 {
         Sd { m: front + 1, e }
     } else if front == LIMIT - 1 {
-        // 18 nines carry into a further digit.
+        // A carry out of 18 nines adds a digit.
         Sd { m: LEAST, e: e + 1 }
     } else {
         Sd {

@@ -1,4 +1,4 @@
--- Which side is named where cells can move.
+-- Which side is named if a cell can move.
 use Rattle.std.specs.Prelude.{◌≡◌, Bool, true, false}
 use Rattle.step_problem.specs.declared.heads.Side.{Side}
 use Rattle.step_problem.specs.declared.heads.Side.TheVariants.{Low, High}

@@ -1,4 +1,4 @@
--- What seats know in a phase, and what phases make of a barrier's own words.
+-- What seats know in a phase, and the result of phases from a barrier's own words.
 use Rattle.std.specs.Prelude.{◌≡◌, ℕ, ◌%◌, ◌+◌, ◌*◌, ◌<◌, ◌≤◌, List, length}
 use Rattle.step_problem.specs.declared.heads.Bound.{Bound}
 use Rattle.head_table.specs.declared.table.HeadTable.{HeadTable}
@@ -14,17 +14,17 @@ pub record IsPlan (plan : Plan) : Type 0 where
   pub turns : plan.turns_per_cell ≤ 1024
   pub some_round : 1 ≤ plan.rounds
 
--- each of so many workers makes so many turns: together all turns, and no worker one that is not needed
+-- each of `workers` workers makes `each` turns: together at least all turns, and none more than needed
 pub record AreShared (turns workers each : ℕ) : Type 0 where
   pub enough : turns ≤ workers * each
   pub no_more : workers * each < turns + workers
 
--- a seat of the table has seen just these heads
+-- a seat of the table has seen exactly these heads
 pub record HasSeen (t : HeadTable) (seen : List Bound) (s : HeadSeat) : Type 0 where
   pub seat : IsSeatOf t s
   pub seen_is : seen_of s ≡ seen
 
--- what the worker of number i, of so many, leaves of its seat: at each cell of its own it has seen the raise and the sink value
+-- the seat of worker number i after its turns: at each cell of its own it has seen the raise and the sink value
 pub record HasWorked (t : HeadTable) (i workers : ℕ) (a b : HeadSeat) : Type 0 where
   pub seat : IsSeatOf t b
   pub raised : (c : ℕ) → c < length t.problem.now → c % workers ≡ i → IsRaised t.problem.now (low_seen a) c (low_seen b c)

@@ -26,7 +26,11 @@ module _ (p : List Entries) where
     pub low : IsSettled ◌≤ℤ◌ (CanRise p) (length p) (lower_at words)
     pub high : IsSettled Ge (CanSink p) (length p) (upper_at words)
 
-  -- where k plain rounds from a barrier settle, the new words, from old ones on the way, are settled
+  -- where k plain rounds from a barrier settle, the new words are settled if the old ones are on the way
   pub record SettleWithin (k : ℕ) (old new : List Bound) : Type 0 where
-    pub low : (edge : ℕ → ℤ) → AreHeads ◌≤ℤ◌ (CanRise p) (length p) edge → IsOnTheWay ◌≤ℤ◌ (CanRise p) (length p) edge (lower_at old) → RoundsSettle ◌≤ℤ◌ (CanRise p) (length p) k edge → IsSettled ◌≤ℤ◌ (CanRise p) (length p) (lower_at new)
-    pub high : (edge : ℕ → ℤ) → AreHeads Ge (CanSink p) (length p) edge → IsOnTheWay Ge (CanSink p) (length p) edge (upper_at old) → RoundsSettle Ge (CanSink p) (length p) k edge → IsSettled Ge (CanSink p) (length p) (upper_at new)
+    pub low : (edge : ℕ → ℤ) → AreHeads ◌≤ℤ◌ (CanRise p) (length p) edge →
+        IsOnTheWay ◌≤ℤ◌ (CanRise p) (length p) edge (lower_at old) → RoundsSettle ◌≤ℤ◌ (CanRise p) (length p) k edge →
+        IsSettled ◌≤ℤ◌ (CanRise p) (length p) (lower_at new)
+    pub high : (edge : ℕ → ℤ) → AreHeads Ge (CanSink p) (length p) edge →
+        IsOnTheWay Ge (CanSink p) (length p) edge (upper_at old) → RoundsSettle Ge (CanSink p) (length p) k edge →
+        IsSettled Ge (CanSink p) (length p) (upper_at new)

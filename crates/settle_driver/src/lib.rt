@@ -1,4 +1,4 @@
-//! Who settles the problem of a time step.
+//! Settlers of the problem of a time step.
 #![tactic(auto)]
 
 mod leaving;

@@ -1,4 +1,4 @@
-// A settler that begins with cells in the order of a list.
+// A settler that starts with cells in the order of a list.
 ghost use Rattle.std.specs.Prelude.{◌≡◌};
 ghost use Rattle.cell_relax.specs.Words.{AreWords};
 ghost use Rattle.settle_driver.specs.Sweeps.{StayOnTheWay, SettleWithin};
@@ -9,7 +9,7 @@ use head_table::edge_words;
 use std::alloc::{AllocError, Global};
 use step_problem::{Barrier, Bound, Open, Problem, SettleFault, Settler};
 
-/// Settles as a `PlainSettler` of so many rounds, once it has relaxed the cells of a list in its order. The list
+/// Settles as a `PlainSettler` with this many rounds, after relaxing the cells of a list in its order. The list
 /// may be any; a good one saves sweeps.
 #[derive(Debug, Drop)]
 pub struct ListedSettler {
@@ -18,7 +18,7 @@ pub struct ListedSettler {
 }
 
 impl ListedSettler {
-    /// A settler that begins with these cells, by their indices, and sweeps at most so many times.
+    /// A settler that starts with these cells, by their indices, and sweeps at most `rounds` times.
     pub fn new(list: Vec<u32>, rounds: u32) -> ListedSettler
         ensures list { ListedSettler.list result ≡ list }
         ensures rounds { ListedSettler.rounds result ≡ rounds }
@@ -27,7 +27,7 @@ impl ListedSettler {
     }
 }
 
-// Relaxes the cells of a list in its order, and passes over numbers that are no cell's.
+// Relaxes the cells of a list in its order, and skips numbers that are no cell's.
 fn relax_listed(p: &Problem, words: &mut [Bound], list: &[u32])
     requires words { AreWords p.now words.old }
     ensures words { AreWords p.now words.new }
@@ -42,7 +42,7 @@ fn relax_listed(p: &Problem, words: &mut [Bound], list: &[u32])
     }
 }
 
-// Relaxes the cells of a list, and then sweeps up to so many times.
+// Relaxes the cells of a list, and then sweeps at most `rounds` times.
 fn sweep_listed(p: &Problem, words: &mut [Bound], list: &[u32], rounds: u32)
     requires words { AreWords p.now words.old }
     ensures words { AreWords p.now words.new }
@@ -53,7 +53,7 @@ fn sweep_listed(p: &Problem, words: &mut [Bound], list: &[u32], rounds: u32)
     sweep_up_to(p, words, rounds);
 }
 
-// The words that the list and then up to so many sweeps make of these.
+// The words after relaxing the cells of the list and then at most `rounds` sweeps.
 fn listed(p: &Problem, mut words: Vec<Bound>, list: &[u32], rounds: u32) -> Vec<Bound>
     requires words { AreWords p.now words.items }
     ensures words { AreWords p.now result.items }
@@ -69,7 +69,7 @@ impl Settler for ListedSettler {
 
     ghost ready = { λ _. Unit {0} };
 
-    // Any settling leads from any state to any other.
+    // Any settling may take any state to any other.
     ghost leads = { λ _ _ _ _ _. Unit {0} };
 
     fn settle(
@@ -78,7 +78,7 @@ impl Settler for ListedSettler {
         p: &Problem,
         b: &Barrier,
     ) -> Result<Vec<Bound>, SettleFault> {
-        // The problem's conditions come with its length.
+        // `len` ensures the problem's conditions.
         let _cells = p.len();
         let start = match edge_words(alloc, p, b) {
             Ok(start) => start,

@@ -9,9 +9,9 @@ use crate::nearer::barrier_near;
 use std::alloc::{AllocError, Global};
 use step_problem::{Barrier, Bound, Problem, SettleFault, Settler};
 
-// The settled pair of b by that of a barrier inside it, after so many trials at most: each settles from a unit off
-// the heads of the one before. None where a trial does not settle, or where the heads have not left the last
-// barrier.
+// The settled pair of b, from that of a barrier inside it, after at most `trials` trials. Each trial settles from a
+// unit off the heads of the one before. None where a trial does not settle, or where the heads have not left the
+// last barrier.
 fn settled_near<N: Settler>(
     trial: &mut N,
     alloc: Global,
@@ -26,7 +26,7 @@ fn settled_near<N: Settler>(
     ensures rounds { N.rounds trial.new ≡ N.rounds trial.old }
     ensures ready { N.ready trial.new }
 {
-    // The problem's conditions come with its length.
+    // `len` ensures the problem's conditions.
     let _cells = p.len();
     let mut near = near;
     for _trial in 0..trials {
@@ -43,10 +43,10 @@ fn settled_near<N: Settler>(
     Ok(None)
 }
 
-/// The answer of `settler`, from heads that are near the settled ones; they may be any, and too few or too many.
-/// So many trials at most settle a barrier inside b, a unit off the heads that the last one left: where each
-/// head then leaves that barrier, or it stands at b, the heads are the settled pair of b. Where none does,
-/// `settler` settles b from its floor and its ceiling; else it stays as it was.
+/// Settles as `settler`, but first from heads that are near the settled ones. They may be any, and too few or too
+/// many. At most `trials` trials settle a barrier inside b, a unit off the heads that the last one left. If then each
+/// head leaves that barrier, or the barrier is equal to b there, the heads are the settled pair of b. If no trial
+/// succeeds, `settler` settles b from its floor and its ceiling; else `settler` is unchanged.
 pub fn settle_near<N: Settler, S: Settler>(
     trial: &mut N,
     settler: &mut S,

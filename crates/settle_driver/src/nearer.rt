@@ -55,8 +55,8 @@ fn ceilings_near(alloc: Global, b: &Barrier, near: &[Bound]) -> Result<Vec<i64>,
     Ok(ceilings)
 }
 
-/// A barrier inside b, a unit off these heads where they lie inside b. A cell that has none keeps its floor and
-/// its ceiling.
+/// A barrier inside b, a unit off these heads where they lie inside b. A cell without a head here keeps its floor
+/// and its ceiling.
 pub fn barrier_near(
     alloc: Global,
     p: &Problem,

@@ -25,7 +25,8 @@ fn first_side(low: bool, high: bool) -> Option<Side>
 fn open_side(p: &Problem, words: &[Bound], cell: usize) -> Option<Side>
     requires index { cell < length p.now }
     requires words { AreWords p.now words.now }
-    ensures { MatchOption result ((s : Side) → CanMove p.now words.now cell s → ⊥) (λ s. CanMove p.now words.now cell s × (s ≡ Side.High → CanMove p.now words.now cell Side.Low → ⊥)) }
+    ensures { MatchOption result ((s : Side) → CanMove p.now words.now cell s → ⊥)
+        (λ s. CanMove p.now words.now cell s × (s ≡ Side.High → CanMove p.now words.now cell Side.Low → ⊥)) }
 {
     let low = raise_in(p, words, cell) > words[cell].low;
     let high = sink_in(p, words, cell) < words[cell].high;

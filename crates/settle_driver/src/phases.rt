@@ -1,4 +1,4 @@
-// One phase: the seats are dealt, the workers make their turns, the seats are joined, and the table is closed.
+// One phase: the seats are made, the workers make their turns, the seats are joined, and the table is closed.
 ghost use Rattle.std.specs.Prelude.{◌≡◌, ℕ, ◌+◌, ◌%◌, ◌<◌, ◌≤◌, length, slice_index_or, IfOk, All, vec_len};
 ghost use Rattle.step_problem.specs.Heads.{AreOnTheWay};
 ghost use Rattle.head_table.specs.declared.table.HeadSeat.{HeadSeat};
@@ -47,7 +47,7 @@ pub(crate) fn gather(table: &HeadTable, seat: &mut HeadSeat, mut seats: Vec<Head
     }
 }
 
-// What the worker of number i does in a phase.
+// The work of worker number i in a phase.
 fn work_one<G: Gate>(
     table: &HeadTable,
     seat: &mut HeadSeat,
@@ -61,7 +61,7 @@ fn work_one<G: Gate>(
     requires workers { (i < workers) × (workers ≤ 64) }
     ensures { HasWorked table.now i workers seat.old seat.new }
 {
-    // The problem's conditions come with its length.
+    // `len` ensures the problem's conditions.
     let _cells = table.problem().len();
     let worker = i as u32 + 1;
     work(table, seat, worker, turns, gate);
@@ -79,7 +79,8 @@ pub(crate) fn work_at<R: Threads + Sync, G: Gate + Sync>(
     requires seats { All (λ s. IsSeatOf table.now s) seats.old }
     requires some_cell { 0 < length table.now.problem.now }
     requires workers { (1 ≤ length seats.old) × (length seats.old ≤ 64) }
-    ensures { (i : ℕ) (d : HeadSeat) → i < length seats.old → HasWorked table.now i (length seats.old) (slice_index_or seats.old i d) (slice_index_or seats.new i d) }
+    ensures { (i : ℕ) (d : HeadSeat) → i < length seats.old →
+        HasWorked table.now i (length seats.old) (slice_index_or seats.old i d) (slice_index_or seats.new i d) }
 {
     let workers = seats.len();
     thread::for_each_mut(
@@ -102,7 +103,8 @@ fn worked<R: Threads + Sync, G: Gate + Sync>(
     requires some_cell { 0 < length table.now.problem.now }
     requires workers { (1 ≤ vec_len seats) × (vec_len seats ≤ 64) }
     ensures count { vec_len result ≡ vec_len seats }
-    ensures each { (i : ℕ) (d : HeadSeat) → i < vec_len seats → HasWorked table.now i (vec_len seats) (slice_index_or seats.items i d) (slice_index_or result.items i d) }
+    ensures each { (i : ℕ) (d : HeadSeat) → i < vec_len seats →
+        HasWorked table.now i (vec_len seats) (slice_index_or seats.items i d) (slice_index_or result.items i d) }
 {
     work_at(rt, table, seats.as_mut_slice(), turns, gate);
     seats

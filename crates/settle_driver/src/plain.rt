@@ -10,14 +10,14 @@ use std::alloc::{AllocError, Global};
 use step_problem::{Barrier, Bound, Open, Problem, SettleFault, Settler};
 
 /// Settles by plain sweeps in ascending order of the cells, at each cell the lower side and then the upper
-/// one. Sweeps end after so many rounds, and before that where one moved nothing.
+/// one. It ends after `rounds` sweeps, or earlier, after a sweep that moved nothing.
 #[derive(Debug, Drop)]
 pub struct PlainSettler {
     rounds: u32,
 }
 
 impl PlainSettler {
-    /// A settler of at most so many sweeps.
+    /// A settler of at most `rounds` sweeps.
     pub fn new(rounds: u32) -> PlainSettler
         ensures { PlainSettler.rounds result ≡ rounds }
     {
@@ -25,7 +25,7 @@ impl PlainSettler {
     }
 }
 
-// The words that up to so many sweeps make of these.
+// The words after at most `rounds` sweeps.
 fn swept(p: &Problem, mut words: Vec<Bound>, rounds: u32) -> Vec<Bound>
     requires words { AreWords p.now words.items }
     ensures words { AreWords p.now result.items }
@@ -41,7 +41,7 @@ impl Settler for PlainSettler {
 
     ghost ready = { λ _. Unit {0} };
 
-    // Any settling leads from any state to any other.
+    // Any settling may take any state to any other.
     ghost leads = { λ _ _ _ _ _. Unit {0} };
 
     fn settle(
@@ -50,7 +50,7 @@ impl Settler for PlainSettler {
         p: &Problem,
         b: &Barrier,
     ) -> Result<Vec<Bound>, SettleFault> {
-        // The number of cells comes with the problem's conditions.
+        // `len` ensures the problem's conditions.
         let _cells = p.len();
         let start = match edge_words(alloc, p, b) {
             Ok(start) => start,

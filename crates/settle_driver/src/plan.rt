@@ -2,7 +2,7 @@
 ghost use Rattle.std.specs.Prelude.{◌*◌, ◌≤◌, ◌↔◌, IsTrue};
 ghost use Rattle.settle_driver.specs.Phases.{AreShared, IsPlan};
 
-/// So many workers, from 1 to 64; in each phase so many turns for each cell, at most 1024; and at least one
+/// The number of workers, from 1 to 64; the turns for each cell in a phase, at most 1024; and at least one
 /// round, which is the greatest number of phases.
 #[derive(Clone, Copy, Debug, PartialEq, Eq)]
 pub struct Plan {

@@ -7,7 +7,7 @@ ghost use Rattle.settle_driver.specs.Sweeps.{IsRelaxedCell, IsPastCell, StayOnTh
 use cell_relax::{raise_in, sink_in};
 use step_problem::{Bound, Problem};
 
-// Moves the two heads of a cell to its raise and its sink value, and answers whether one moved.
+// Moves the two heads of a cell to its raise and its sink value, and returns whether one moved.
 pub(crate) fn relax_cell(p: &Problem, words: &mut [Bound], cell: usize) -> bool
     requires index { cell < length p.now }
     requires words { AreWords p.now words.old }
@@ -24,7 +24,7 @@ pub(crate) fn relax_cell(p: &Problem, words: &mut [Bound], cell: usize) -> bool
     moved
 }
 
-// Relaxes each cell once, in ascending order, and answers whether a head moved.
+// Relaxes each cell once, in ascending order, and returns whether a head moved.
 fn sweep(p: &Problem, words: &mut [Bound]) -> bool
     requires words { AreWords p.now words.old }
     ensures words { AreWords p.now words.new }
@@ -39,14 +39,14 @@ fn sweep(p: &Problem, words: &mut [Bound]) -> bool
     moved
 }
 
-/// Sweeps up to so many times, until a sweep moves nothing.
+/// Sweeps at most `rounds` times, until a sweep moves nothing.
 pub fn sweep_up_to(p: &Problem, words: &mut [Bound], rounds: u32)
     requires words { AreWords p.now words.old }
     ensures words { AreWords p.now words.new }
     ensures way { StayOnTheWay p.now words.old words.new }
     ensures reached { SettleWithin p.now rounds words.old words.new }
 {
-    // The number of cells comes with the problem's conditions.
+    // `len` ensures the problem's conditions.
     let _cells = p.len();
     for _round in 0..rounds {
         if !sweep(p, words) {

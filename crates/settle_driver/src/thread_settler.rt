@@ -36,8 +36,8 @@ impl<'a, R: Threads + Sync, G: Gate + Sync> ThreadSettler<'a, R, G> {
     }
 }
 
-/// A settler by a closure: it is ready where the closure may be called with every problem and barrier, and
-/// settles them with so many rounds. A function that has the handle writes it over a `ThreadSettler`.
+/// A settler by a closure. It is ready if the closure may be called with every problem and barrier and
+/// settles them within `rounds` rounds. A function that has the handle writes the closure over a `ThreadSettler`.
 #[derive(Drop)]
 pub struct SettleBy<F: Fn(Global, &Problem, &Barrier) -> Result<Vec<Bound>, SettleFault> + Drop> {
     rounds: u32,
@@ -61,9 +61,10 @@ impl<F: Fn(Global, &Problem, &Barrier) -> Result<Vec<Bound>, SettleFault> + Drop
 
     ghost rounds = { λ s. s.rounds };
 
-    ghost ready = { λ s. (a : _) (p : Bor (List Entries)) (b : Bor Edges) → IsBarrier p.now b.now → F.pre s.call a p b × ((r : _) → F.post s.call a p b r → Settles p.now b.now s.rounds r) };
+    ghost ready = { λ s. (a : _) (p : Bor (List Entries)) (b : Bor Edges) → IsBarrier p.now b.now → F.pre s.call a p b
+        × ((r : _) → F.post s.call a p b r → Settles p.now b.now s.rounds r) };
 
-    // Any settling leads from any state to any other.
+    // Any settling may take any state to any other.
     ghost leads = { λ _ _ _ _ _. Unit {0} };
 
     fn settle(

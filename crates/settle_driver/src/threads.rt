@@ -13,7 +13,7 @@ use std::alloc::{AllocError, Global};
 use std::thread::Threads;
 use step_problem::{Barrier, Bound, Open, Problem, SettleFault};
 
-// Phases from the barrier's own words, which are at most as many as the plan's rounds.
+// Phases from the barrier's own words, at most as many as the plan's rounds.
 fn settle_cells<R: Threads + Sync, G: Gate + Sync>(
     rt: &R,
     alloc: Global,
@@ -27,7 +27,7 @@ fn settle_cells<R: Threads + Sync, G: Gate + Sync>(
     requires plan { IsPlan plan }
     ensures { Settles p.now b.now plan.rounds result }
 {
-    // The number of cells comes with the problem's conditions.
+    // `len` ensures the problem's conditions.
     let _cells = p.len();
     let mut words = match edge_words(alloc, p, b) {
         Ok(start) => start,
@@ -51,7 +51,7 @@ fn settle_cells<R: Threads + Sync, G: Gate + Sync>(
 }
 
 /// Settles a problem by the plan's workers, which share its heads: the one settled pair, or Unfinished only
-/// where the plan's number of plain rounds does not settle. Without variable cells the answer is an empty list.
+/// where the plan's number of plain rounds does not settle. Without variable cells the result is an empty list.
 pub fn settle<R: Threads + Sync, G: Gate + Sync>(
     rt: &R,
     alloc: Global,

@@ -1,4 +1,4 @@
--- What a step's heads say of every solution of the model's exact equations.
+-- How a step's heads enclose every solution of the model's exact equations.
 use Rattle.std.specs.Prelude.{ℕ, ◌^◌, ◌<◌, List, length, ℤ, pos, ◌*ℤ◌, ◌≤ℤ◌}
 use Rattle.decimal_input.specs.Fractions.{Fraction}
 use Rattle.step_problem.specs.declared.heads.Bound.{Bound}
@@ -30,6 +30,6 @@ module _ (m : FlowModel) (s : ℕ) (at : TimeStep) where
     pub variables : LiesBetween (length x.problem) d (variable_heads (exact_step m at.period at.step before) X) (lower_at x.bounds) (upper_at x.bounds)
     pub heads : LiesWithin m x.heads d X
 
-  -- So it is for all exact heads within the old ones, and every solution from them.
+  -- This holds for all exact heads within the old ones, and every solution from them.
   abbrev pub EnclosesMoves : List Bound → Solved → Type 0
   EnclosesMoves old x = (before : ℕ → Fraction) (d : ℕ) (X : ℕ → ℤ) → IsMove m at old before d X → EnclosesMove x before d X

@@ -1,4 +1,4 @@
--- The cause of each answer by which a step has no heads.
+-- The cause of each result without heads.
 use Rattle.std.specs.Prelude.{ℕ, List}
 use Rattle.step_problem.specs.declared.heads.Bound.{Bound}
 use Rattle.step_problem.specs.declared.heads.SettleFault.{SettleFault}
@@ -16,14 +16,14 @@ use Rattle.step_chain.specs.declared.solved.StepFault.{StepFault}
 use Rattle.step_chain.specs.declared.solved.StepFault.TheVariants as fault
 use Rattle.step_chain.specs.Steps.{IsPosed, HasNoHeads}
 
--- a settler that is good for so many rounds gave up, and these don't settle the step
+-- a settler with this many rounds gave up, and these don't settle the step
 pub record IsOpenStep (m : FlowModel) (s : ℕ) (at : TimeStep) (old : List Bound) (rounds : ℕ) (o : OpenHeads) : Type 0 where
   pub problem : List Entries
   pub barrier : Edges
   pub posed : IsPosed m s at old problem barrier
   pub unfinished : IsUnfinished problem barrier rounds o
 
--- want of memory is free
+-- lack of memory is possible at any time
 abbrev pub FailsBy : FlowModel → ℕ → TimeStep → List Bound → ℕ → StepFault → Type 0
 FailsBy m s at old rounds (fault.NoBound n) = HasNoHeads m s at old n
 FailsBy m s at old rounds (fault.Unfinished o) = IsOpenStep m s at old rounds o

@@ -1,4 +1,4 @@
--- The heads of all cells on the way: those that are known before the step is settled, and then those of the variable cells.
+-- The heads of all cells while a step is made: those known before it is settled, and then those of the variable cells.
 use Rattle.std.specs.Prelude.{◌≡◌, ℕ, ◌<◌, Bool, true, false, List, length}
 use Rattle.std.specs.List.{filter, range_with_len}
 use Rattle.step_problem.specs.declared.heads.Bound.{Bound}
@@ -23,7 +23,7 @@ is_free Variable = true
 abbrev pub variable_before : List Site → ℕ → ℕ
 variable_before sites c = length (filter (λ k. is_free (site_at sites k)) (range_with_len 0 c))
 
--- a variable site has the bound of this index, another one what is known
+-- a variable site has the bound of this index, any other site the head that is known
 abbrev pub filled : List Bound → Site → ℕ → Bound
 filled bounds NoFlow k = no_bound
 filled bounds (Given pair) k = pair

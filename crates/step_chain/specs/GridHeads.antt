@@ -13,7 +13,8 @@ use Rattle.problem_builder.specs.ConstantHeads.{IsConstantPair}
 abbrev pub bound_at : List Bound → ℕ → Bound
 bound_at bounds c = slice_index_or bounds c no_bound
 
--- One bound for each cell of the grid, by cell number: a variable cell has that of its index, a constant-head cell those of its head at this time, a cell without flow zeros.
+-- One bound for each cell of the grid, by cell number: a variable cell has that of its index, a constant-head cell
+-- that of its head at this time, a cell without flow zeros.
 pub record AreHeadsOf (m : FlowModel) (at : TimeStep) (bounds heads : List Bound) : Type 0 where
   pub whole : length heads ≡ cell_count m.grid
   pub variable : (c : ℕ) → c < cell_count m.grid → is_variable m at.period c ≡ true → bound_at heads c ≡ bound_at bounds (index_of m at.period c)

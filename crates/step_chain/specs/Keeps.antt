@@ -9,7 +9,7 @@ use Rattle.step_chain.specs.declared.kept.RunTables.{RunTables}
 abbrev pub digits_of : RunTables → ℕ
 digits_of t = t.tables.digits
 
--- those of the model, of the given heads up to some period, and of the period at hand
+-- the tables of the model, of the given heads up to some period, and of the current period
 pub record AreRunTables (m : FlowModel) (t : RunTables) : Type 0 where
   pub tables : AreTables m (digits_of t) t.tables
   pub given : t.given ≡ given_heads m t.given.period

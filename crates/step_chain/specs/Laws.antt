@@ -18,15 +18,21 @@ pub record IsBefore (m : FlowModel) (at : TimeStep) (old : List Bound) : Type 0 
 
 -- there is at most one step
 abbrev pub StepIsOne : Type 0
-StepIsOne = (m : FlowModel) (s : ℕ) (at : TimeStep) (old : List Bound) (x y : Solved) → IsBefore m at old → IsSettledStep m s at old x → IsSettledStep m s at old y → x ≡ y
+StepIsOne =
+    (m : FlowModel) (s : ℕ) (at : TimeStep) (old : List Bound) (x y : Solved) → IsBefore m at old →
+    IsSettledStep m s at old x → IsSettledStep m s at old y → x ≡ y
 
--- with a step there is no refusal
+-- a time with a step has no refusal
 abbrev pub StepExcludesRefusal : Type 0
-StepExcludesRefusal = (m : FlowModel) (s : ℕ) (at : TimeStep) (old : List Bound) (x : Solved) (n : NoBound) → IsBefore m at old → IsSettledStep m s at old x → HasNoHeads m s at old n → ⊥
+StepExcludesRefusal =
+    (m : FlowModel) (s : ℕ) (at : TimeStep) (old : List Bound) (x : Solved) (n : NoBound) → IsBefore m at old →
+    IsSettledStep m s at old x → HasNoHeads m s at old n → ⊥
 
--- there is at most one refusal
+-- a step has at most one refusal
 abbrev pub RefusalIsOne : Type 0
-RefusalIsOne = (m : FlowModel) (s : ℕ) (at : TimeStep) (old : List Bound) (a b : NoBound) → IsBefore m at old → HasNoHeads m s at old a → HasNoHeads m s at old b → a ≡ b
+RefusalIsOne =
+    (m : FlowModel) (s : ℕ) (at : TimeStep) (old : List Bound) (a b : NoBound) → IsBefore m at old →
+    HasNoHeads m s at old a → HasNoHeads m s at old b → a ≡ b
 
 -- the heads of a step are heads of all cells, in range
 abbrev pub HeadsFit : Type 0

@@ -31,6 +31,6 @@ module _ (m : FlowModel) (s : ℕ) (at : TimeStep) (old : List Bound) where
   abbrev pub HasNoHeads : NoBound → Type 0
   HasNoHeads n = HasNoProblem m s at old n ⊎ ((p : List Entries) × IsProblemOf m s at old p × IsRefused p n)
 
-  -- so many plain rounds settle it
+  -- this many plain rounds settle it
   abbrev pub SettlesIn : ℕ → Type 0
   SettlesIn rounds = (p : List Entries) (b : Edges) → IsPosed p b → RoundsSettleBoth p b rounds

@@ -9,7 +9,7 @@ use step_problem::Bound;
 
 const NONE: Bound = Bound { low: 0, high: 0 };
 
-// What is known of a cell's head before the step is settled.
+// The head of a cell that is known before the step is settled.
 fn known(site: Site) -> Bound
     ensures { result ≡ known site }
 {

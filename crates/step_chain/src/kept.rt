@@ -8,8 +8,8 @@ use model_types::{FlowModel, GivenHeads};
 use problem_builder::{PeriodTables, Tables};
 use std::alloc::{AllocError, Global};
 
-/// What the problems of a run have in common: the tables of the model, made once a run, those of the stress period
-/// at hand, made once a period, and the heads that CHD lists have given up to some period.
+/// The tables that all steps of a run share: the tables of the model, made once a run, those of the current stress
+/// period, made once a period, and the given heads up to some period.
 #[derive(Debug, Drop)]
 pub struct RunTables {
     pub tables: Tables,
@@ -35,8 +35,8 @@ impl RunTables {
         })
     }
 
-    /// Goes to a stress period, if it isn't there. It goes on from the period at hand, and begins anew before an earlier
-    /// one.
+    /// Moves to a stress period, if it isn't there. It continues from the current period, and starts anew before an
+    /// earlier one.
     pub fn go_to(&mut self, alloc: Global, model: &FlowModel, period: u32) -> Result<(), AllocError>
         requires model { IsModel model.now }
         requires digits { digits_of self.old ≤ 18 }
@@ -55,7 +55,7 @@ impl RunTables {
     }
 }
 
-// Begins anew before the first period, if the given heads are those of this period or of a later one.
+// Starts anew before the first period, if the given heads are those of this period or of a later one.
 fn begin_before(
     given: &mut GivenHeads,
     alloc: Global,
@@ -74,7 +74,7 @@ fn begin_before(
     Ok(())
 }
 
-// Goes to the given heads of the period before this one.
+// Moves to the given heads of the period before this one.
 fn go_before(
     given: &mut GivenHeads,
     alloc: Global,

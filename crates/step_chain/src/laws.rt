@@ -21,7 +21,7 @@ pub fn one_step()
     settled_pair();
 }
 
-/// With a step there is no refusal.
+/// A time with a step has no refusal.
 pub fn no_step_beside_a_refusal()
     ensures { StepExcludesRefusal }
 {

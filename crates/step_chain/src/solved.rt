@@ -1,4 +1,4 @@
-// What a step comes to.
+// The result of a step.
 ghost use Rattle.std.specs.Prelude.{◌≡◌};
 ghost use Rattle.step_chain.specs.Faults.{of_build, of_barrier, of_settle};
 ghost use Rattle.step_chain.specs.declared.solved.StepFault.TheVariants.{Memory as OutOfMemory};
@@ -18,7 +18,7 @@ pub struct Solved {
     pub heads: Listed<Bound>,
 }
 
-/// Why a step has no heads: the refusal of its problem or barrier, a settler that gave up, or want of memory.
+/// Why a step has no heads: the refusal of its problem or barrier, a settler that gave up, or lack of memory.
 #[derive(Debug, Drop)]
 pub enum StepFault {
     NoBound(NoBound),

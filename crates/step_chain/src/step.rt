@@ -21,8 +21,8 @@ use problem_builder::{build_with, sites_with};
 use std::alloc::Global;
 use step_problem::{Bound, Settler};
 
-/// The step of a time, from the heads of all cells before it: its problem is built and settled. The tables are
-/// those of the run, which go to the step's period.
+/// The step at a time, from the heads of all cells before it: its problem is built and settled. `tables` are those
+/// of the run, and move to the step's period.
 pub fn next_step_with<S: Settler>(
     alloc: Global,
     model: &FlowModel,
@@ -44,7 +44,7 @@ pub fn next_step_with<S: Settler>(
     // The problem from the old heads, the settled pair between its barrier, and the heads of all cells.
     ensures step { IfOk result (IsSettledStep model.now (digits_of tables.old) at old.now) }
     ensures fault { IfErr result (FailsBy model.now (digits_of tables.old) at old.now (S.rounds settler.old)) }
-    // What the budget and the flows between zones ask for.
+    // What `budget` and the flows between zones require.
     ensures words { IfOk result (λ r. AreWords r.problem r.bounds) }
     ensures heads { IfOk result (λ r. AreGridHeads model.now r.heads) }
     ensures named { IfOk result (λ r. (c : ℕ) → IsNamed r.problem c → IsActive model.now c) }
@@ -63,7 +63,7 @@ pub fn next_step_with<S: Settler>(
     fill_in(&mut heads, &sites, &bounds);
     settled_pair_encloses();
     heads_fit();
-    // The problem's conditions come with the number of its cells.
+    // `len` ensures the problem's conditions.
     let _cells = problem.len();
     Ok(Solved {
         problem,
@@ -72,8 +72,8 @@ pub fn next_step_with<S: Settler>(
     })
 }
 
-/// The step of a time with s digits of conductances, from the heads of all cells before it. It makes all tables
-/// anew: `next_step_with` keeps them for a run.
+/// The step at a time with s digits of conductances, from the heads of all cells before it. It makes all tables
+/// anew; `next_step_with` takes tables that are kept for a run.
 pub fn next_step<S: Settler>(
     alloc: Global,
     model: &FlowModel,

@@ -10,7 +10,8 @@ use Rattle.step_problem.specs.declared.entry.Evap.{Evap}
 use Rattle.step_problem.specs.declared.entry.Flow.{Flow}
 use Rattle.step_problem.specs.Entries.{Entries}
 use Rattle.step_problem.specs.Flows.{least, most}
-use Rattle.step_problem.specs.Balances.{link_low, fixed_low, river_low, drain_low, evap_low, lower_balance, link_high, fixed_high, river_high, drain_high, evap_high, upper_balance}
+use Rattle.step_problem.specs.Balances.{link_low, fixed_low, river_low, drain_low, evap_low, lower_balance, link_high}
+use Rattle.step_problem.specs.Balances.{fixed_high, river_high, drain_high, evap_high, upper_balance}
 
 abbrev pub branch_flow : Side → ℕ → ℕ → ℤ → ℤ
 branch_flow Low = least

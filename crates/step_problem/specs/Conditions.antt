@@ -1,4 +1,4 @@
--- What a list of cells keeps to be a step's problem.
+-- The conditions on a list of cells that make it a step's problem.
 use Rattle.std.specs.Prelude.{◌≡◌, ℕ, ℤ, pos, neg_ℤ, List, All, Contains, length, max, sum_by, unsigned_abs, ◌+◌, ◌*◌, ◌^◌, ◌<◌, ◌≤◌, ◌-ℤ◌, ◌≤ℤ◌}
 use Rattle.step_problem.specs.declared.entry.Link.{Link}
 use Rattle.step_problem.specs.declared.entry.Fixed.{Fixed}
@@ -77,7 +77,7 @@ flow_of c =
     sum_by (λ x. magnitude x.lo x.hi) c.flows + sum_by (λ x. magnitude (deep_river_low x) (deep_river_high x)) c.rivers
     + sum_by full_rate c.evaps
 
--- what holds of a cell alone
+-- the conditions on a cell alone
 pub record CellFits (c : Entries) : Type 0 where
   pub links : All LinkFits c.links
   pub fixed : All FixedFits c.fixed
@@ -87,7 +87,7 @@ pub record CellFits (c : Entries) : Type 0 where
   pub conductances : conductance_of c < 2 ^ 60
   pub flows : flow_of c < 2 ^ 109
 
--- the links of cell c: at most six, to different other cells of the problem, each with its equal at the other end
+-- the links of cell c: at most six, to different other cells of the problem, each with an equal one back
 pub record LinksFit (p : List Entries) (c : ℕ) (links : List Link) : Type 0 where
   pub few : length links ≤ 6
   pub within : All (λ x. x.cell < length p) links

@@ -1,4 +1,4 @@
--- What a step's problem holds, as lists.
+-- The data of a step's problem, as lists.
 use Rattle.std.specs.Prelude.{ℕ, ℤ, List, [], map, slice_index_or}
 use Rattle.step_problem.specs.declared.entry.Link.{Link}
 use Rattle.step_problem.specs.declared.entry.Fixed.{Fixed}

@@ -2,12 +2,12 @@
 use Rattle.std.specs.Prelude.{◌≡◌, ℕ, ◌⊎◌, ℤ}
 use Rattle.step_problem.specs.Sides.{AsTight, AreHeads}
 
--- seen are heads that were read from l, now or earlier: none is tighter
+-- `seen` was read from l, now or earlier: none of its heads is tighter
 pub record AreSeen (Le : ℤ → ℤ → Type 0) (Moves : ℕ → ℤ → (ℕ → ℤ) → Type 0) (n : ℕ) (l seen : ℕ → ℤ) : Type 0 where
   pub behind : AsTight Le Moves n seen l
   pub heads : AreHeads Le Moves n seen
 
--- next is l but for cell c, where it is w, the tighter of l's head and r
+-- next is l except at cell c, where it is w, the tighter of l's head and r
 pub record IsExchange (Le : ℤ → ℤ → Type 0) (l : ℕ → ℤ) (c : ℕ) (r w : ℤ) (next : ℕ → ℤ) : Type 0 where
   pub here : next c ≡ w
   pub elsewhere : (d : ℕ) → (d ≡ c → ⊥) → next d ≡ l d

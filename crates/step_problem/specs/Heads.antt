@@ -12,7 +12,7 @@ pub record Edges : Type 0 where
   pub floor : List ℤ
   pub ceiling : List ℤ
 
--- where a settling gave up: a cell that can still move, the side on which it can, and the heads reached
+-- where a settling gave up: a cell that can still move, its side, and the heads reached
 pub record OpenHeads : Type 0 where
   pub cell : ℕ
   pub side : Side
@@ -31,7 +31,7 @@ lower_at bs c = (slice_index_or bs c no_bound).low
 abbrev pub upper_at : List Bound → ℕ → ℤ
 upper_at bs c = (slice_index_or bs c no_bound).high
 
--- of upper heads the lower one is tighter
+-- for upper heads the lower one is tighter
 abbrev pub Ge : ℤ → ℤ → Type 0
 Ge x y = y ≤ℤ x
 
@@ -69,12 +69,12 @@ module _ (p : List Entries) where
     pub low : RoundsSettle ◌≤ℤ◌ CanRise (length p) k (head_at b.floor)
     pub high : RoundsSettle Ge CanSink (length p) k (head_at b.ceiling)
 
-  -- at each cell the lower head stands at most at the floor, or its lower balance is not negative; the upper one mirrored
+  -- at each cell the lower head is at most the floor, or its lower balance is not negative; the upper one mirrored
   pub record IsCertificate (b : Edges) (l u : ℕ → ℤ) : Type 0 where
     pub low : (c : ℕ) → c < length p → (l c ≤ℤ head_at b.floor c) ⊎ (pos 0 ≤ℤ lower_balance (entries_at p c) (l c) l)
     pub high : (c : ℕ) → c < length p → (head_at b.ceiling c ≤ℤ u c) ⊎ (upper_balance (entries_at p c) (u c) u ≤ℤ pos 0)
 
-  -- words on the way from the barrier: past it, certified, and no tighter than any settled vector past it
+  -- bounds on the way from the barrier: past it, certified, and no tighter than any settled vector past it
   pub record AreOnTheWay (b : Edges) (words : List Bound) : Type 0 where
     pub whole : length words ≡ length p
     pub low : IsOnTheWay ◌≤ℤ◌ CanRise (length p) (head_at b.floor) (lower_at words)

@@ -27,7 +27,9 @@ SettledPairExists = (p : List Entries) (b : Edges) → IsProblem p → IsBarrier
 
 -- and no other
 abbrev pub SettledPairIsOne : Type 0
-SettledPairIsOne = (p : List Entries) (b : Edges) (l u x y : ℕ → ℤ) → IsSettledPair p b l u → IsSettledPair p b x y → (c : ℕ) → c < length p → (x c ≡ l c) × (y c ≡ u c)
+SettledPairIsOne =
+    (p : List Entries) (b : Edges) (l u x y : ℕ → ℤ) → IsSettledPair p b l u → IsSettledPair p b x y → (c : ℕ) →
+    c < length p → (x c ≡ l c) × (y c ≡ u c)
 
 -- a settled pair is a certificate
 abbrev pub SettledPairCertifies : Type 0

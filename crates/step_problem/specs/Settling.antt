@@ -1,4 +1,4 @@
--- What a settler answers.
+-- What a settler returns.
 use Rattle.std.specs.Prelude.{◌≡◌, ℕ, ◌<◌, List, length, ℤ, ◌<ℤ◌, Result, Ok, Err}
 use Rattle.std.specs.declared.vec.Vec.{Vec}
 use Rattle.std.specs.declared.alloc.Global.{Global}
@@ -29,13 +29,13 @@ module _ (p : List Entries) where
     pub whole : length bounds ≡ length p
     pub pair : IsSettledPair p b (lower_at bounds) (upper_at bounds)
 
-  -- why a settler good for so many rounds gives up: they don't settle; its words are on the way, and the cell named is open
+  -- why a settler with this many rounds gives up: they don't settle; its bounds are on the way, and the cell named can still move
   pub record IsUnfinished (b : Edges) (rounds : ℕ) (o : OpenHeads) : Type 0 where
     pub cause : RoundsSettleBoth p b rounds → ⊥
     pub words : AreOnTheWay p b o.words
     pub open_cell : IsFirstOpen o.words o.cell o.side
 
-  -- the answer of a settler: the settled pair, or a fault by its cause
+  -- the result of a settler: the settled pair, or a fault by its cause
   abbrev pub Settles : Edges → ℕ → Result (Vec Bound Global) SettleFault → Type 0
   Settles b rounds (Ok bounds) = AreSettled b bounds.items
   Settles b rounds (Err (Unfinished o)) = IsUnfinished b rounds o

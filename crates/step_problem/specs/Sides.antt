@@ -1,4 +1,6 @@
--- One side of the heads, lower or upper. `Le x y` says that the head y is as tight as x; `Moves c v l` that cell c, where the others have the heads l, may go as far as v. A vector of heads is a function of the cell; only cells below n count.
+-- One side of the heads, lower or upper. `Le x y` says that the head y is as tight as x; `Moves c v l` says that cell
+-- c, where the others have the heads l, may go as far as v. A vector of heads is a function of the cell; only cells
+-- below n count.
 use Rattle.std.specs.Prelude.{◌≡◌, ℕ, zero, suc, ◌<◌, ◌⊎◌, ℤ}
 use Rattle.step_problem.specs.Conditions.{IsHead}
 
@@ -30,7 +32,7 @@ module _ (Le : ℤ → ℤ → Type 0) (Moves : ℕ → ℤ → (ℕ → ℤ) �
   Rounds zero l m = (c : ℕ) → c < n → m c ≡ l c
   Rounds (suc k) l m = (j : ℕ → ℤ) × Rounds k l j × IsRound j m
 
-  -- a plain round leaves these heads alone
+  -- a plain round does not change these heads
   abbrev pub IsSettled : (ℕ → ℤ) → Type 0
   IsSettled l = (c : ℕ) → c < n → (v : ℤ) → IsHead v → Moves c v l → Le v (l c)
 
@@ -49,11 +51,11 @@ module _ (Le : ℤ → ℤ → Type 0) (Moves : ℕ → ℤ → (ℕ → ℤ) �
     pub settled : IsSettled l
     pub first : IsNoTighterThanSettled edge l
 
-  -- each head stands at the barrier or is looser, or its cell may stay there
+  -- each head is at the barrier or looser, or its cell may stay there
   abbrev pub IsCertified : (ℕ → ℤ) → (ℕ → ℤ) → Type 0
   IsCertified edge l = (c : ℕ) → c < n → Le (l c) (edge c) ⊎ Moves c (l c) l
 
-  -- what heads on their way from the barrier keep
+  -- the conditions on heads on their way from the barrier
   pub record IsOnTheWay (edge l : ℕ → ℤ) : Type 0 where
     pub heads : AreHeads l
     pub past_barrier : AsTight edge l

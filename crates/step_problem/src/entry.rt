@@ -1,4 +1,5 @@
-// What a variable cell of a step's problem holds. Conductances are whole numbers of 10^-s, heads of 10^-9 length units, flows of 10^-(s+9), where s is the number of digits; `lo` and `hi` are the bounds of one exact value.
+// The data of a variable cell of a step's problem. Conductances are in units of 10^-s, heads in 10^-9 length units,
+// flows in 10^-(s+9), where s is the number of digits; `lo` and `hi` are the bounds of one exact value.
 use std::marker::Model;
 
 /// Which kind of known head a branch leads to.
@@ -24,7 +25,7 @@ pub struct Link {
     pub hi: u64,
 }
 
-/// A branch to a head that is known: the old head with storage, a constant head, a general head.
+/// A branch to a known head: the old head over storage, a constant head, a general head.
 /// The source is the cell number of the constant neighbour, else the cell's own.
 #[derive(Clone, Copy, Debug, PartialEq, Eq)]
 pub struct Fixed {

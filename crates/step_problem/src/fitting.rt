@@ -14,7 +14,7 @@ pub use sums::{conductances_fit, flows_fit};
 
 const MOST_CELLS: usize = 65_536;
 
-/// Whether these cells make a problem: what `Problem::new` asks. It takes time in proportion to the number of entries.
+/// Whether these cells make a problem: the condition of `Problem::new`. It takes time in proportion to the number of entries.
 pub fn fits(cells: &[Cell]) -> bool
     ensures { IsTrue result ↔ IsProblem cells.now }
 {
@@ -36,7 +36,8 @@ fn ids_ascend(cells: &[Cell]) -> bool
 
 fn each_fits(cells: &[Cell]) -> bool
     requires { length cells.now ≤ 65536 }
-    ensures { IsTrue result ↔ (((c : ℕ) → c < length cells.now → CellFits (entries_at cells.now c)) × ((c : ℕ) → c < length cells.now → LinksFit cells.now c (entries_at cells.now c).links)) }
+    ensures { IsTrue result ↔ (((c : ℕ) → c < length cells.now → CellFits (entries_at cells.now c))
+        × ((c : ℕ) → c < length cells.now → LinksFit cells.now c (entries_at cells.now c).links)) }
 {
     all_cells_fit(cells) && all_links_hold(cells)
 }
@@ -54,7 +55,8 @@ fn cell_fits(cell: &Cell) -> bool
 }
 
 fn entries_fit(cell: &Cell) -> bool
-    ensures { IsTrue result ↔ (All LinkFits cell.now.links × All FixedFits cell.now.fixed × All RiverFits cell.now.rivers × All DrainFits cell.now.drains × All EvapFits cell.now.evaps) }
+    ensures { IsTrue result ↔ (All LinkFits cell.now.links × All FixedFits cell.now.fixed
+        × All RiverFits cell.now.rivers × All DrainFits cell.now.drains × All EvapFits cell.now.evaps) }
 {
     in_range(
         &cell.links,
@@ -65,7 +67,7 @@ fn entries_fit(cell: &Cell) -> bool
     )
 }
 
-// The counts come first, so that no test looks through more than six links.
+// The numbers of links are tested first, so that no test searches more than six links.
 fn all_links_hold(cells: &[Cell]) -> bool
     requires { length cells.now ≤ 65536 }
     ensures { IsTrue result ↔ ((c : ℕ) → c < length cells.now → LinksFit cells.now c (entries_at cells.now c).links) }

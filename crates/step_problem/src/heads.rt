@@ -1,4 +1,4 @@
-// Heads of a problem's cells, in units of 10^-9 length units, and what a settler answers.
+// Heads of a problem's cells, in units of 10^-9 length units, and what a settler returns.
 use std::fmt;
 use std::marker::Model;
 
@@ -9,7 +9,7 @@ pub struct Bound {
     pub high: i64,
 }
 
-/// Which of its two heads a fact is about.
+/// The head of the two that a fact is about.
 #[derive(Clone, Copy, Debug, PartialEq, Eq)]
 pub enum Side {
     Low,
@@ -30,7 +30,7 @@ impl fmt::Display for Side {
     }
 }
 
-/// A floor and a ceiling for each variable cell. That every solution lies between them is said by the call that finds them.
+/// A floor and a ceiling for each variable cell. The type does not say that every solution lies between them; the call that finds them does.
 #[derive(Debug, Drop)]
 pub struct Barrier {
     pub floor: Vec<i64>,

@@ -9,7 +9,7 @@ pub fn balances_fall()
     ensures upper { FallsInOwnHead upper_balance }
 {}
 
-/// A balance rises weakly in the head at each other end.
+/// A balance rises weakly in the head at the other end of each link.
 pub fn balances_rise()
     ensures lower { RisesInOtherHeads lower_balance }
     ensures upper { RisesInOtherHeads upper_balance }
@@ -31,15 +31,15 @@ pub fn settled_pair_certifies()
     ensures { SettledPairCertifies }
 {}
 
-/// Where all heads move by so many units, a cell's own by at least and the others by at most so many, the
-/// balances get no better.
+/// If a cell's head rises by k units and its neighbours' by at most k, its lower balance does not rise
+/// (mirrored for the upper one).
 pub fn balances_shift()
     ensures lower { LowerShifts }
     ensures upper { UpperShifts }
 {}
 
-/// The settled pair of a barrier inside another one is the other's settled pair too, where at each cell it has
-/// left the inner barrier, or this stands there at the other one.
+/// The settled pair of a barrier inside another one is the settled pair of the other one too, if at each cell
+/// it has left the inner barrier or the two barriers are equal there.
 pub fn leaving_settles()
     ensures { LeavingSettles }
 {}

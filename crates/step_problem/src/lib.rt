@@ -1,4 +1,4 @@
-//! The integer data of one time step: its variable cells, their two balances, and what it is to settle them.
+//! The integer data of one time step: its variable cells, their two balances, and what settling them means.
 #![tactic(auto)]
 
 pub mod balance;

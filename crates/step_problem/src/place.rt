@@ -61,7 +61,8 @@ pub enum Place {
     Zone(u32, u32),
 }
 
-/// The flow over the faces between two zones, from the zone of the lesser number into the other one: the bounds of its exact value, in units of 10^-(s+9) of the model's flow, where s is the number of digits.
+/// The flow over the faces between two zones, from the zone of the lesser number to the other one: the bounds of its
+/// exact value, in units of 10^-(s+9) of the model's flow, where s is the number of digits.
 #[derive(Clone, Copy, Debug, PartialEq, Eq)]
 pub struct ZoneFlow {
     pub from: u32,

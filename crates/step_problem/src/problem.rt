@@ -42,7 +42,7 @@ impl Model for Problem {
 }
 
 impl Problem {
-    /// The problem of just these cells. `fits` tests what it asks.
+    /// The problem of these cells. `fits` tests the condition.
     pub fn new(cells: Vec<Cell>) -> Problem
         requires { IsProblem cells.items }
         ensures { result ≡ cells.items }
@@ -72,7 +72,7 @@ impl Problem {
         &self.cells[index]
     }
 
-    // The cell with what it keeps.
+    // The cell, with the conditions on it.
     pub(crate) fn fitting_cell(&self, index: usize) -> &Cell
         requires { index < length self.now }
         ensures is { result.now ≡ entries_at self.now index }

@@ -1,4 +1,4 @@
-// Who settles a problem.
+// The trait of a settler.
 ghost use Rattle.std.specs.Prelude.{◌≡◌, ℕ, Bool, List};
 ghost use Rattle.std.specs.Result.{is_ok};
 ghost use Rattle.step_problem.specs.Entries.{Entries};
@@ -9,7 +9,7 @@ use crate::heads::{Barrier, Bound, SettleFault};
 use crate::problem::Problem;
 use std::alloc::Global;
 
-/// Settles problems. It has a number of plain rounds for which it is good, which no call changes. It says when it may be called, and which settlings, of a problem and a barrier and ending Ok or not, lead from one of its states to another.
+/// Settles problems. `rounds`: how many plain rounds it may use; no call changes it. `ready`: when it may be called. `leads`: how a call may change it.
 pub trait Settler {
     ghost rounds: { Self → ℕ };
 

@@ -1,4 +1,4 @@
--- The numbers of an entry behind Layer Row Column (TM 6-A16, WEL, RIV, DRN, GHB).
+-- The numbers of an entry after Layer Row Column (TM 6-A16, WEL, RIV, DRN, GHB).
 use Rattle.std.specs.Prelude.{ℕ, not, List, Option, Some, None, Result, Ok, if◌then◌else◌}
 use Rattle.decimal_input.specs.Canonical.{IsDec}
 use Rattle.outside.specs.declared.codes.Code.{Code}
@@ -29,7 +29,9 @@ reach_of file line words = do
 
 -- heads are tested for their magnitude, and a conductance must not be below 0, in the order of the columns
 abbrev pub reach_fault : Reach → Option Code
-reach_fault x = if not (is_head x.stage) then Some HeadTooLarge else (if x.cond.neg then Some BadProperty else (if not (is_head x.bottom) then Some HeadTooLarge else None))
+reach_fault x =
+    if not (is_head x.stage) then Some HeadTooLarge
+    else (if x.cond.neg then Some BadProperty else (if not (is_head x.bottom) then Some HeadTooLarge else None))
 
 -- DRN: Elevation Cond
 unfoldable pub drain_of : List ℕ → ℕ → List (List ℕ) → Result DrainNumbers Refusal

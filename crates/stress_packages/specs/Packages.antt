@@ -11,13 +11,49 @@ use Rattle.stress_packages.specs.declared.drains.DrainNumbers.{DrainNumbers}
 use Rattle.stress_packages.specs.declared.generals.GeneralNumbers.{GeneralNumbers}
 
 abbrev pub wells : Kind Rate Entry
-wells = record { reading = rate_of; fault = λ x. None; entry = λ cell x. Well cell x.q; place = cell_of; once = false; suits = λ period list. true; list = λ period. period.wells; put = λ period list. record period { wells = list } }
+wells = record {
+  reading = rate_of;
+  fault = λ x. None;
+  entry = λ cell x. Well cell x.q;
+  place = cell_of;
+  once = false;
+  suits = λ period list. true;
+  list = λ period. period.wells;
+  put = λ period list. record period { wells = list };
+}
 
 abbrev pub rivers : Kind Reach Entry
-rivers = record { reading = reach_of; fault = reach_fault; entry = λ cell x. River cell x.stage x.cond x.bottom; place = cell_of; once = false; suits = λ period list. true; list = λ period. period.rivers; put = λ period list. record period { rivers = list } }
+rivers = record {
+  reading = reach_of;
+  fault = reach_fault;
+  entry = λ cell x. River cell x.stage x.cond x.bottom;
+  place = cell_of;
+  once = false;
+  suits = λ period list. true;
+  list = λ period. period.rivers;
+  put = λ period list. record period { rivers = list };
+}
 
 abbrev pub drains : Kind DrainNumbers Entry
-drains = record { reading = drain_of; fault = drain_fault; entry = λ cell x. Drain cell x.elevation x.cond; place = cell_of; once = false; suits = λ period list. true; list = λ period. period.drains; put = λ period list. record period { drains = list } }
+drains = record {
+  reading = drain_of;
+  fault = drain_fault;
+  entry = λ cell x. Drain cell x.elevation x.cond;
+  place = cell_of;
+  once = false;
+  suits = λ period list. true;
+  list = λ period. period.drains;
+  put = λ period list. record period { drains = list };
+}
 
 abbrev pub generals : Kind GeneralNumbers Entry
-generals = record { reading = general_of; fault = general_fault; entry = λ cell x. General cell x.head x.cond; place = cell_of; once = false; suits = λ period list. true; list = λ period. period.generals; put = λ period list. record period { generals = list } }
+generals = record {
+  reading = general_of;
+  fault = general_fault;
+  entry = λ cell x. General cell x.head x.cond;
+  place = cell_of;
+  once = false;
+  suits = λ period list. true;
+  list = λ period. period.generals;
+  put = λ period list. record period { generals = list };
+}

@@ -14,7 +14,7 @@ use outside::{Code, TextFault};
 use record_lines::Words;
 use std::alloc::Global;
 
-/// What an entry of a list of drains has behind its cell: the drain's elevation and its conductance.
+/// The numbers of an entry of a list of drains: the drain's elevation and its conductance.
 #[derive(Clone, Copy, Debug, PartialEq, Eq)]
 pub struct DrainNumbers {
     pub elevation: Dec,

@@ -14,7 +14,7 @@ use outside::{Code, TextFault};
 use record_lines::Words;
 use std::alloc::Global;
 
-/// What an entry of a list of general heads has behind its cell: the head outside and the conductance to it.
+/// The numbers of an entry of a list of general heads: the outside head and the conductance to it.
 #[derive(Clone, Copy, Debug, PartialEq, Eq)]
 pub struct GeneralNumbers {
     pub head: Dec,

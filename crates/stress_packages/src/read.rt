@@ -1,6 +1,6 @@
 // The readers of files of wells, rivers, drains and general heads.
 //
-// Each takes a model over and gives it back with the lists of the file in its stress periods. `file` is the file's
+// Each takes a model and returns it with the lists of the file in its stress periods. `file` is the file's
 // name, for refusals. The first item that is wrong is refused on its line.
 ghost use Rattle.std.specs.Prelude.{◌≡◌, IfOk, All};
 ghost use Rattle.record_lines.specs.Reading.{HasText};

@@ -14,7 +14,7 @@ use outside::{Code, TextFault};
 use record_lines::Words;
 use std::alloc::Global;
 
-/// What an entry of a list of river reaches has behind its cell: the river's stage, the conductance of the riverbed,
+/// The numbers of an entry of a list of river reaches: the river's stage, the conductance of the riverbed,
 /// and the elevation of its bottom.
 #[derive(Clone, Copy, Debug, PartialEq, Eq)]
 pub struct Reach {

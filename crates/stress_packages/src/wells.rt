@@ -13,7 +13,7 @@ use outside::{Code, TextFault};
 use record_lines::Words;
 use std::alloc::Global;
 
-/// What an entry of a list of wells has behind its cell: the rate at which the well recharges.
+/// The number of an entry of a list of wells: the rate at which the well recharges.
 #[derive(Clone, Copy, Debug, PartialEq, Eq)]
 pub struct Rate {
     pub q: Dec,

@@ -1,4 +1,4 @@
-// What a call answers, and how it is printed.
+// The answer of a call, and how it is printed.
 use decimal_input::dec::Dec;
 use outside::{InputFault, Refusal};
 use std::io;
@@ -12,7 +12,7 @@ pub enum Answer {
     Line(u32),
     /// The number of the next line.
     Then(u32),
-    /// The number of the line behind the last.
+    /// The number of the line after the last one.
     End(u32),
     Integer(i64),
     Number(Dec),
@@ -20,7 +20,7 @@ pub enum Answer {
     /// Integers, and the number of a line.
     IntegersOf(Vec<i64>, u32),
     Numbers(Vec<Dec>),
-    /// Words, each behind a blank.
+    /// Words, each after a blank.
     Text(String),
 }
 
@@ -65,7 +65,7 @@ pub fn print_fault(rt: &impl Print, fault: &InputFault) -> io::Result<()> {
     }
 }
 
-/// The answer, each of its words behind a blank.
+/// The answer, each of its words after a blank.
 pub fn print_answer(rt: &impl Print, answer: &Answer) -> io::Result<()> {
     match answer {
         Answer::Nothing => Ok(()),

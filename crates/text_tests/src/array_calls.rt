@@ -1,4 +1,4 @@
-// Calls on arrays behind control records.
+// Calls on arrays after control records.
 use crate::answer::Answer;
 use crate::call::Call;
 use crate::reader::Reader;
@@ -6,7 +6,7 @@ use array_reader::{read_array, read_int_layer, read_layer, read_layers, read_rea
 use outside::{InputFault, MemFolder};
 use std::alloc::Global;
 
-/// The answer, where this is one of these calls.
+/// The answer, if this is one of these calls.
 pub fn array_answer(
     alloc: Global,
     reader: &mut Reader<'_>,

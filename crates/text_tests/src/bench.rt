@@ -15,7 +15,7 @@ pub struct Bench {
     text: String,
 }
 
-// Prints what one call answers, ended by a semicolon, and says whether it was refused.
+// Prints the answer of one call and a semicolon, and says whether it was refused.
 fn print_call(
     rt: &impl Print,
     alloc: Global,
@@ -33,7 +33,7 @@ fn print_call(
     Ok(answer.is_err())
 }
 
-// Prints in one line what the calls on a text answer in turn, or as far as the first refusal.
+// Prints in one line the answers of the calls on a text in turn, up to the first refusal.
 fn print_calls(
     rt: &impl Print,
     alloc: Global,
@@ -71,14 +71,14 @@ impl Bench {
         self.folder.add(name, text.as_str().as_bytes())
     }
 
-    /// The calls in order, each whatever came before.
+    /// The calls in order, also after a refusal.
     pub fn print_read(&mut self, rt: &impl Print, alloc: Global, calls: &str) -> io::Result<()> {
         let reader = Reader::new(self.file.as_str(), self.text.as_str().as_bytes());
         print!(rt; "read")?;
         print_calls(rt, alloc, reader, &mut self.folder, calls, true)
     }
 
-    /// The calls on the text cut in front of each line feed and behind it.
+    /// The calls on the text cut before each line feed and after it.
     pub fn print_cuts(&mut self, rt: &impl Print, alloc: Global, calls: &str) -> io::Result<()> {
         let text = self.text.as_str().as_bytes();
         for (place, byte) in text.iter().enumerate() {

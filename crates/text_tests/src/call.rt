@@ -2,7 +2,7 @@
 use crate::command::first_word;
 use std::alloc::{AllocError, Global};
 
-/// A call's word, what stands behind it, the counts among that, and its multiplier.
+/// A call's word, the text after it, the counts in that text, and its multiplier.
 #[derive(Drop)]
 pub struct Call<'a> {
     pub word: &'a str,

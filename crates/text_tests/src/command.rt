@@ -18,12 +18,12 @@ pub enum Command<'a> {
     Other,
 }
 
-/// The first word, and what stands behind its blank.
+/// The first word, and the text after its blank.
 pub fn first_word(text: &str) -> (&str, &str) {
     text.split_once(' ').unwrap_or((text, ""))
 }
 
-/// A number, or 0 in place of another word.
+/// The number of a word, or 0 if it isn't one.
 pub fn number(word: &str) -> u64 {
     word.parse::<u64>().unwrap_or(0)
 }

@@ -7,7 +7,7 @@ use std::alloc::Global;
 use std::rt::Files;
 use std::{fs, io};
 
-/// Makes files and folders, and prints what the folder answers where it is asked.
+/// Makes files and folders, and prints the folder's answers.
 pub fn print_disk<R: Files + Print>(rt: &R, alloc: Global, calls: &str) -> io::Result<()> {
     let mut folder = RealFolder::new(rt, alloc);
     print!(rt; "disk")?;
@@ -40,7 +40,7 @@ impl io::Read for FailsInMidStream {
     }
 }
 
-/// Past the limit no further read is asked for.
+/// Past the limit no further read is made.
 pub fn print_reader(rt: &impl Print, alloc: Global, limit: u64) -> io::Result<()> {
     let found = read_whole(alloc, &mut FailsInMidStream(0), limit);
     let text = found_text(alloc, found)?;

@@ -21,7 +21,7 @@ pub fn found_text(alloc: Global, found: Result<Found, FolderError>) -> Result<St
     }
 }
 
-// A file of a model, one that a control record names, or what a name becomes, where the name is taken.
+// A file of a model, one that a control record names, or what a name becomes, if the name is a good one.
 fn named(
     alloc: Global,
     folder: &mut MemFolder,

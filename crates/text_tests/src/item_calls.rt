@@ -28,7 +28,7 @@ fn control(alloc: Global, reader: &mut Reader<'_>) -> Result<Answer, InputFault>
     Ok(Answer::Text(format!(in alloc; " {kind} {by}")?))
 }
 
-// The next word, of which a call asks what it is.
+// The next word, in the form that a call asks for.
 fn word_answer(alloc: Global, reader: &mut Reader<'_>, call: &Call) -> Result<Answer, InputFault> {
     let word = reader.words.next().unwrap_or(b"");
     match call.word {
@@ -44,7 +44,7 @@ fn word_answer(alloc: Global, reader: &mut Reader<'_>, call: &Call) -> Result<An
     }
 }
 
-/// The answer, where this is one of these calls.
+/// The answer, if this is one of these calls.
 pub fn item_answer(
     alloc: Global,
     reader: &mut Reader<'_>,

@@ -23,7 +23,7 @@ fn next_words(alloc: Global, lines: &mut Lines) -> Result<Answer, AllocError> {
     Ok(Answer::Text(text))
 }
 
-// So many words of the free list, each with its line, or its fault in place of the word.
+// `count` words of the free list, each with its line, or its fault in place of the word.
 fn free_words(alloc: Global, reader: &mut Reader<'_>, count: u32) -> Result<Answer, AllocError> {
     let mut text = String::new(alloc);
     for _ in 0..count {
@@ -37,7 +37,7 @@ fn free_words(alloc: Global, reader: &mut Reader<'_>, count: u32) -> Result<Answ
     Ok(Answer::Text(text))
 }
 
-/// The answer, where this is one of these calls.
+/// The answer, if this is one of these calls.
 pub fn line_answer(
     alloc: Global,
     reader: &mut Reader<'_>,

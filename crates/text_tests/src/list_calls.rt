@@ -6,7 +6,7 @@ use array_reader::{constants, free_list, free_rows, next_value, plain_ints, plai
 use outside::InputFault;
 use std::alloc::Global;
 
-/// The answer, where this is one of these calls.
+/// The answer, if this is one of these calls.
 pub fn list_answer<'a>(
     alloc: Global,
     reader: &mut Reader<'a>,

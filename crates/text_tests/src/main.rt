@@ -1,29 +1,29 @@
-//! Reads texts that stand in standard input by calls on their lines, words, lists and arrays, asks folders and sinks,
-//! and prints what each answers.
+//! Reads texts from standard input by calls on their lines, words, lists and arrays, calls folders and sinks,
+//! and prints the answers.
 //!
 //! `@text FILE TEXT` is the text that is read, and the name that refusals give it. `@read CALL; CALL; ..` does the
-//! calls in order from the front of the text, and goes on behind a refusal. `@cut CALL; ..` does them on the text cut
-//! after each of its lines, without and with the last line feed, as far as the first refusal. The calls are
-//! - on the text's lines: `comments` passes over comments; `line` gives the next line's number and its first five
+//! calls in order from the beginning of the text, and continues after a refusal. `@cut CALL; ..` does them on the text cut
+//! after each of its lines, without and with the last line feed, up to the first refusal. The calls are
+//! - on the text's lines: `comments` skips comments; `line` gives the next line's number and its first five
 //!   words; `after` says whether there is one, and its number; `free N` gives words of a free list, with their lines;
 //! - on the words of a line: `items` goes to the next line; `integer`, `whole`, `number` and `real` read its next word
 //!   as an integer or a number, `short` as an integer or nothing, `name` as a file's name, and `control` as a control
 //!   record with those that follow; `is WORD` and `begins WORD` say whether the next word, or the line's first, is this
 //!   keyword;
-//! - on lists of integers, each times M where `by M` stands behind: `next` and `values N` of a free list that goes on,
+//! - on lists of integers, each times M if `by M` follows: `next` and `values N` of a free list in progress,
 //!   `list N` and `rows ROWS COLUMNS` of new ones, `integers N`; `numbers N` is a list of numbers, and `constants N by M`
 //!   one of N times M;
-//! - on arrays behind control records: `row N` and `layer ROWS COLUMNS` of numbers; `integer_layer ROWS COLUMNS`,
+//! - on arrays after control records: `row N` and `layer ROWS COLUMNS` of numbers; `integer_layer ROWS COLUMNS`,
 //!   `integer_layers LAYERS ROWS COLUMNS` and `array ROWS COLUMNS` of integers;
 //! - on the whole text as a name file: `packages` gives its pairs, and `files` the files of two packages;
 //! - on the whole text as the list of a batch: `models` gives the number of its names, and the names;
 //! - on the folder in memory: `found NAME LIMIT`, `input NAME` and `open NAME` ask for a file; `taken NAME` whether files
 //!   may have this name, and `named NAME` what it becomes.
 //!
-//! `@folder` begins a folder in memory, `@file NAME TEXT` puts a file into it, and `@fail N` lets its call of this
-//! number fail. `@disk` does calls on the real folder, which is asked anew in each line: `write NAME TEXT` and `make
+//! `@folder` begins a folder in memory, `@file NAME TEXT` puts a file into it, and `@fail N` makes its call of this
+//! number fail. `@disk` does calls on the real folder, which is made anew in each line: `write NAME TEXT` and `make
 //! NAME` make a file and a folder, and `found NAME LIMIT` asks for a file. `@reader LIMIT` reads from a reader that fails
-//! behind four bytes. `@sink`, `@disk_sink` and `@full_sink` put pieces, `put PIECE; ..`, into a sink in memory, whose put
+//! after four bytes. `@sink`, `@disk_sink` and `@full_sink` put pieces, `put PIECE; ..`, into a sink in memory, whose put
 //! of number N fails and keeps some bytes by `fail N KEPT`, into a file, and into a writer that takes nothing.
 //! `@refusals` and `@codes` print refusals as calls make them, and the codes that they have.
 //!

@@ -1,4 +1,4 @@
-// Texts in one line, where control pictures stand for what isn't seen.
+// Texts in one line, with control pictures in place of control characters.
 use std::alloc::{AllocError, Global};
 use std::str;
 
@@ -18,7 +18,7 @@ pub fn plain_text(alloc: Global, shown: &str) -> Result<String, AllocError> {
     shown.chars().map(meant).collect(alloc)
 }
 
-/// A text behind a blank, with its line feeds shown.
+/// A text after a blank, with its line feeds shown.
 pub fn shown_text(alloc: Global, bytes: &[u8]) -> Result<String, AllocError> {
     let text = str::from_utf8(bytes).unwrap_or("no text");
     let mut shown = String::from_str(alloc, " ")?;

@@ -1,4 +1,4 @@
-// The calls on one text, one behind another.
+// The calls on one text, one after another.
 use crate::answer::Answer;
 use crate::array_calls::array_answer;
 use crate::call::Call;
@@ -11,7 +11,7 @@ use outside::{InputFault, MemFolder};
 use record_lines::{Free, Line, Lines, Words};
 use std::alloc::Global;
 
-/// A text that is read: the lines to come, a free list among them, and the words to come of the line that `items` went
+/// A text that is read: the lines to come, a free list among them, and the remaining words of the line that `items` went
 /// to.
 #[derive(Drop)]
 pub struct Reader<'a> {

@@ -7,7 +7,7 @@ use record_lines::FreeFault;
 use std::alloc::Global;
 use std::io;
 
-/// A line, a number, a list and a file as a whole that are refused, and want of memory.
+/// A line, a number, a list and a whole file that are refused, and lack of memory.
 pub fn print_refusals(rt: &impl Print, alloc: Global) -> io::Result<()> {
     for fault in [
         refused(alloc, Code::BadGrid, "a.dis", 3),

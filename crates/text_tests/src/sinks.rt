@@ -23,7 +23,7 @@ fn print_puts<S: Sink>(
     Ok(())
 }
 
-/// A sink in memory, and the bytes that it has then. A gate that does nothing is passed in front.
+/// A sink in memory, and its bytes afterwards. A gate that does nothing is passed first.
 pub fn print_sink(rt: &impl Print, alloc: Global, calls: &str) -> io::Result<()> {
     let mut sink = MemSink::new(alloc);
     for call in calls.split("; ") {
@@ -39,7 +39,7 @@ pub fn print_sink(rt: &impl Print, alloc: Global, calls: &str) -> io::Result<()>
     println!(rt; "{text}")
 }
 
-/// A sink in a file, and the bytes that the file has then.
+/// A sink in a file, and the bytes of the file afterwards.
 pub fn print_disk_sink(rt: &HostRuntime, alloc: Global, calls: &str) -> io::Result<()> {
     let mut sink = RealSink::new(fs::create(rt, WRITTEN)?);
     print!(rt; "disk_sink")?;
@@ -49,7 +49,7 @@ pub fn print_disk_sink(rt: &HostRuntime, alloc: Global, calls: &str) -> io::Resu
     println!(rt; "{text}")
 }
 
-// Takes no byte, or says that it took none: the number counts how often it was asked.
+// Takes no byte, or says that it took none: the number counts how often it was called.
 #[derive(Drop)]
 struct TakesNothing(u32);
 

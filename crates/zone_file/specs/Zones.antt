@@ -1,4 +1,5 @@
--- The zone of each cell, out of a file of arrays of integers. The file and its limits are this program's own; the arrays are those of IBOUND (TM 6-A16, array reader U2DINT).
+-- The zone of each cell, from a file of arrays of integers. The file and its limits are this program's own; the
+-- arrays are those of IBOUND (TM 6-A16, array reader U2DINT).
 use Rattle.std.specs.Prelude.{ℕ, ℤ, pos, negsuc, ◌≤ℤ◌, Bool, false, not, nat_le, List, Option, Some, None, Result, Ok, Err, codes}
 use Rattle.std.specs.List.{position}
 use Rattle.outside.specs.Files.{File}
@@ -31,7 +32,8 @@ wrong_at file grid (Some cell) = Err (refusal_at BadProperty file grid cell)
 unfoldable pub zones_tested : List ℕ → Grid → List ℤ → Result (Unit {0}) Refusal
 zones_tested file grid zones = wrong_at file grid (position (λ z. not (is_zone z)) zones)
 
--- The zones that a file gives the cells of a grid, under a name of a command, which is refused with the file '-': an array for each layer, from the file's first line, and once all are read the test of all numbers.
+-- The zones that a file gives the cells of a grid. A bad name of the file is refused with the file '-'. The file has
+-- an array for each layer from its first line on; once all are read, all numbers are tested.
 unfoldable pub zones_of : List File → Grid → List ℕ → Result (List ℤ) Refusal
 zones_of files grid name = do
   file ← name_at (codes "-") 0 name

@@ -1,4 +1,4 @@
-//! The zones of a model's cells, out of a file of integer arrays.
+//! The zones of a model's cells, from a file of integer arrays.
 #![tactic(auto)]
 
 mod limits;

@@ -17,7 +17,7 @@ fn is_zone(number: i64) -> bool
     0 <= number && number <= 999
 }
 
-// The first cell whose number is no zone's, nor 0.
+// The first cell whose number isn't from 0 to 999.
 fn first_wrong(zones: &[i64]) -> Option<usize>
     ensures { result ≡ position (λ z. not (is_zone z)) zones.now }
 {

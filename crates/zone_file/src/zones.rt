@@ -15,7 +15,7 @@ use record_lines::Lines;
 use std::alloc::Global;
 
 /// The zones of a model, one for each cell: 1 to 999, or 0 for a cell in no zone. `name` is the name of their file as a
-/// command gives it, which may be any, and `folder` has this file and those that its arrays name.
+/// command gives it, which may be any text, and `folder` has this file and those that its arrays name.
 ///
 /// # Errors
 /// BadName, with the file `-` and line 0, before any file is read; then MissingFile or TooLong with line 0; then what

@@ -1,4 +1,4 @@
-// The flow over one branch to a head that is known.
+// The flow over one branch to a known head.
 ghost use Rattle.std.specs.Prelude.{◌≡◌, ◌≤◌, ◌*◌, ◌^◌, ◌-ℤ◌, ◌*ℤ◌, neg_ℤ, pos, ℕ, ℤ};
 ghost use Rattle.std.specs.Int.{int_max, int_min};
 ghost use Rattle.step_problem.specs.Conditions.{IsHead, IsWithin, FixedFits, RiverFits, DrainFits, EvapFits};
@@ -124,7 +124,7 @@ fn lower(a: i64, b: i64) -> i64
     a.min(b)
 }
 
-// What leaves over a conductance to a head that is lower by `depth`, where it is lower.
+// The flow that leaves over a conductance to a head that is lower by `depth`; 0 where `depth` is negative.
 fn loss(conductance: u64, greatest: u64, depth: i64) -> i128
     requires { conductance ≤ greatest }
     ensures value { result ≡ neg_ℤ (pos conductance *ℤ int_max depth (pos 0)) }

@@ -8,7 +8,7 @@ use crate::entry::{Cell, Link};
 // Each cell has at most six neighbours.
 pub(crate) const MOST_LINKS: usize = 6;
 
-// Whether no link before the one of index j leads where it leads.
+// Whether no link before index j leads to the same cell as link j.
 fn is_first_there(links: &[Link], j: usize) -> bool
     requires { j < length links.now }
     ensures { IsTrue result ↔ ((i : ℕ) → i < j → (link_at links.now i).cell ≡ (link_at links.now j).cell → ⊥) }
@@ -41,7 +41,8 @@ fn are_others(links: &[Link], c: usize, count: usize) -> bool
 
 // Whether they lead to different other cells.
 fn ends_fit(links: &[Link], c: usize, count: usize) -> bool
-    ensures { IsTrue result ↔ (All (λ x. x.cell < count) links.now × All (λ x. x.cell ≡ c → ⊥) links.now × ((i j : ℕ) → i < j → j < length links.now → (link_at links.now i).cell ≡ (link_at links.now j).cell → ⊥)) }
+    ensures { IsTrue result ↔ (All (λ x. x.cell < count) links.now × All (λ x. x.cell ≡ c → ⊥) links.now
+        × ((i j : ℕ) → i < j → j < length links.now → (link_at links.now i).cell ≡ (link_at links.now j).cell → ⊥)) }
 {
     are_others(links, c, count) && ends_differ(links)
 }

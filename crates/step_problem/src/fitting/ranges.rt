@@ -96,7 +96,8 @@ pub(crate) fn in_range(
     drains: &[Drain],
     evaps: &[Evap],
 ) -> bool
-    ensures { IsTrue result ↔ (All LinkFits links.now × All FixedFits fixed.now × All RiverFits rivers.now × All DrainFits drains.now × All EvapFits evaps.now) }
+    ensures { IsTrue result ↔ (All LinkFits links.now × All FixedFits fixed.now × All RiverFits rivers.now
+        × All DrainFits drains.now × All EvapFits evaps.now) }
 {
     links_in_range(links) && sources_in_range(fixed, rivers) && sinks_in_range(drains, evaps)
 }

@@ -1,4 +1,4 @@
-// Sums over a cell's entries. Each stops at a cap, so that no number of entries overflows it.
+// Sums over a cell's entries. Each stops at a cap, so that it can't overflow.
 ghost use Rattle.std.specs.Prelude.{◌≡◌, ◌+◌, ◌*◌, ◌^◌, ◌<◌, ◌-ℤ◌, ◌↔◌, ℕ, IsTrue, All, min, sum_by, unsigned_abs};
 ghost use Rattle.step_problem.specs.Conditions.{conductance_of, flow_of, magnitude, deep_river_low, deep_river_high, full_rate, RiverFits, EvapFits};
 
@@ -134,7 +134,8 @@ fn sum_full_rates(evaps: &[Evap]) -> u128
     sum
 }
 
-/// Whether the magnitudes of a cell's constant flows, of the flows of its rivers where it is dry, and of its full rates of evaporation sum to less than 2^109 units.
+/// Whether the magnitudes of a cell's constant flows, of the flows of its rivers where it is dry, and of its full
+/// rates of evaporation sum to less than 2^109 units.
 pub fn flows_fit(cell: &Cell) -> bool
     requires rivers { All RiverFits cell.now.rivers }
     requires evaps { All EvapFits cell.now.evaps }
