@@ -4,8 +4,8 @@ ghost use Rattle.decimal_input.specs.Canonical.{IsDec};
 ghost use Rattle.model_types.specs.Numbers.{IsThick};
 ghost use Rattle.number_limits.specs.Room.{has_room, is_thick};
 
-use decimal_input::dec::Dec;
 use crate::units::{ceiling, floor};
+use decimal_input::dec::Dec;
 
 fn has_room(upper: Option<i128>, lower: Option<i128>) -> bool
     requires upper { IfSome upper (λ z. unsigned_abs z < 2 ^ 126) }
