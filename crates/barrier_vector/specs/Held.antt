@@ -3,6 +3,8 @@ use Rattle.std.specs.Prelude.{◌≡◌, ℕ, ◌<◌, List, length, Contains}
 use Rattle.step_problem.specs.declared.entry.Fixed.{Fixed}
 use Rattle.step_problem.specs.declared.entry.FixedKind.TheVariants.{Storage}
 use Rattle.step_problem.specs.declared.place.NoBound.{NoBound}
+use Rattle.step_problem.specs.declared.refusal.StepRefusal.TheVariants.{NoBarrierLow, NoBarrierHigh}
+use Rattle.step_problem.specs.StepRefusals.{number_of}
 use Rattle.step_problem.specs.Entries.{Entries, entries_at}
 use Rattle.barrier_vector.specs.declared.BarrierFault.{BarrierFault}
 use Rattle.barrier_vector.specs.declared.BarrierFault.TheVariants.{NoBound as IsNoBound, Memory}
@@ -13,5 +15,5 @@ HasStorage p = (c : ℕ) → c < length p → (x : Fixed) × Contains (entries_a
 
 -- the fault is neither NoBarrierLow nor NoBarrierHigh
 abbrev pub IsNoWantOfAnchors : BarrierFault → Type 0
-IsNoWantOfAnchors (IsNoBound n) = (n.code ≡ 24 → ⊥) × (n.code ≡ 25 → ⊥)
+IsNoWantOfAnchors (IsNoBound n) = (n.code ≡ number_of NoBarrierLow → ⊥) × (n.code ≡ number_of NoBarrierHigh → ⊥)
 IsNoWantOfAnchors Memory = Unit {0}

@@ -4,6 +4,8 @@ use Rattle.step_problem.specs.declared.heads.Side.{Side}
 use Rattle.step_problem.specs.declared.heads.Side.TheVariants.{Low, High}
 use Rattle.step_problem.specs.declared.place.NoBound.{NoBound}
 use Rattle.step_problem.specs.declared.place.Place.TheVariants.{Cell}
+use Rattle.step_problem.specs.declared.refusal.StepRefusal.TheVariants.{NoBarrierLow, NoBarrierHigh, RangeLow, RangeHigh}
+use Rattle.step_problem.specs.StepRefusals.{number_of}
 use Rattle.step_problem.specs.Entries.{Entries, entries_at}
 use Rattle.step_problem.specs.Conditions.{head_limit}
 use Rattle.cell_balance.specs.Components.{Reaches, IsCarried}
@@ -46,15 +48,15 @@ pub record Names (p : List Entries) (n : NoBound) (number c : ℕ) (side : Side)
 abbrev pub IsRefusedBelow : List Entries → NoBound → Type 0
 IsRefusedBelow p n =
     (c : ℕ) ×
-    ((Names p n 24 c Low × IsLeastWith p (HasNoFloor p) c)
-    ⊎ (Names p n 26 c Low × Nowhere p (HasNoFloor p) × IsLeastWith p (SinksTooLow p) c))
+    ((Names p n (number_of NoBarrierLow) c Low × IsLeastWith p (HasNoFloor p) c)
+    ⊎ (Names p n (number_of RangeLow) c Low × Nowhere p (HasNoFloor p) × IsLeastWith p (SinksTooLow p) c))
 
 -- The high side is refused.
 abbrev pub IsRefusedAbove : List Entries → NoBound → Type 0
 IsRefusedAbove p n =
     (c : ℕ) ×
-    ((Names p n 25 c High × IsLeastWith p (HasNoCeiling p) c)
-    ⊎ (Names p n 27 c High × Nowhere p (HasNoCeiling p) × IsLeastWith p (RisesTooHigh p) c))
+    ((Names p n (number_of NoBarrierHigh) c High × IsLeastWith p (HasNoCeiling p) c)
+    ⊎ (Names p n (number_of RangeHigh) c High × Nowhere p (HasNoCeiling p) × IsLeastWith p (RisesTooHigh p) c))
 
 -- The low side is tried first, whole.
 abbrev pub IsRefused : List Entries → NoBound → Type 0

@@ -1,6 +1,7 @@
 // The two sides of a barrier, or the first refusal of each.
 ghost use Rattle.std.specs.Prelude.{◌≡◌, ℕ, ◌<◌, ◌↔◌, length, MatchOption, None, IfOk, IfErr, IsTrue};
 ghost use Rattle.step_problem.specs.declared.heads.Side.{Side};
+ghost use Rattle.step_problem.specs.StepRefusals.{number_of};
 ghost use Rattle.barrier_vector.specs.declared.refusal.Test.TheVariants.{Missing, TooLow, TooHigh};
 ghost use Rattle.barrier_vector.specs.Refusals.{Names, IsRefusedBelow, IsRefusedAbove};
 ghost use Rattle.barrier_vector.specs.Roots.{IsFloorOrNone, IsCeilingOrNone, AreBounds};
@@ -11,7 +12,7 @@ use crate::high::ceilings;
 use crate::low::floors;
 use std::alloc::{AllocError, Global};
 use step_problem::problem::HEAD_LIMIT;
-use step_problem::{NoBound, Place, Problem, Side};
+use step_problem::{NoBound, Place, Problem, Side, StepRefusal};
 
 // The test of a cell's bound.
 #[derive(Clone, Copy, Debug)]
@@ -60,13 +61,13 @@ fn heads_of(alloc: Global, bounds: &[Option<i64>]) -> Result<Vec<i64>, AllocErro
     Ok(heads)
 }
 
-fn refusal(p: &Problem, code: u8, c: usize, side: Side) -> NoBound
+fn refusal(p: &Problem, cause: StepRefusal, c: usize, side: Side) -> NoBound
     requires { c < length p.now }
-    ensures { Names p.now result code c side }
+    ensures { Names p.now result (number_of cause) c side }
 {
     let cell = p.cell(c);
     NoBound {
-        code,
+        code: cause.number(),
         place: Place::Cell(cell.id, side),
     }
 }
@@ -77,9 +78,9 @@ fn low_refusal(p: &Problem, bounds: &[Option<i64>]) -> Option<NoBound>
 {
     let _cells = p.len();
     match first_failing(Test::Missing, bounds) {
-        Some(c) => Some(refusal(p, 24, c, Side::Low)),
+        Some(c) => Some(refusal(p, StepRefusal::NoBarrierLow, c, Side::Low)),
         None => match first_failing(Test::TooLow, bounds) {
-            Some(c) => Some(refusal(p, 26, c, Side::Low)),
+            Some(c) => Some(refusal(p, StepRefusal::RangeLow, c, Side::Low)),
             None => None,
         },
     }
@@ -91,9 +92,9 @@ fn high_refusal(p: &Problem, bounds: &[Option<i64>]) -> Option<NoBound>
 {
     let _cells = p.len();
     match first_failing(Test::Missing, bounds) {
-        Some(c) => Some(refusal(p, 25, c, Side::High)),
+        Some(c) => Some(refusal(p, StepRefusal::NoBarrierHigh, c, Side::High)),
         None => match first_failing(Test::TooHigh, bounds) {
-            Some(c) => Some(refusal(p, 27, c, Side::High)),
+            Some(c) => Some(refusal(p, StepRefusal::RangeHigh, c, Side::High)),
             None => None,
         },
     }

@@ -7,6 +7,8 @@ use Rattle.step_problem.specs.declared.place.Term.{Term}
 use Rattle.step_problem.specs.declared.place.Term.TheVariants.{Storage, ConstantHead, Wells, Drains, RiverLeakage, HeadDepBounds, Recharge, Et}
 use Rattle.step_problem.specs.declared.place.NoBound.{NoBound}
 use Rattle.step_problem.specs.declared.place.Place.TheVariants as places
+use Rattle.step_problem.specs.declared.refusal.StepRefusal.TheVariants.{FlowTooLarge}
+use Rattle.step_problem.specs.StepRefusals.{number_of}
 use Rattle.step_problem.specs.Entries.{Entries, entries_at}
 use Rattle.step_problem.specs.Flows.{total}
 use Rattle.cell_balance.specs.Components.{sum_below}
@@ -35,7 +37,7 @@ is_small x = lt_z x.lo term_limit && lt_z x.hi term_limit
 
 -- FlowTooLarge at a term
 abbrev pub too_large : Dir → Term → NoBound
-too_large dir t = record { code = 23; place = places.Term dir t }
+too_large dir t = record { code = number_of FlowTooLarge; place = places.Term dir t }
 
 infixl 10 ◌>>=◌
 abbrev pub ◌>>=◌ : {A B E : Type 0} → Result A E → (A → Result B E) → Result B E

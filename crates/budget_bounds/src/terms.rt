@@ -7,9 +7,7 @@ ghost use Rattle.budget_bounds.specs.Terms.{all_terms, budget_of, term_of, terms
 
 use crate::pair::{Budget, TermPair};
 use crate::sums::{TERM_LIMIT, term_sum};
-use step_problem::{Bound, Dir, NoBound, Place, Problem, Term};
-
-const FLOW_TOO_LARGE: u8 = 23;
+use step_problem::{Bound, Dir, NoBound, Place, Problem, StepRefusal, Term};
 
 #[tactic(auto, unfolding(crate::specs::Terms::term_of))]
 fn term_of(p: &Problem, bounds: &[Bound], dir: Dir, term: Term) -> Result<TermPair, NoBound>
@@ -21,7 +19,7 @@ fn term_of(p: &Problem, bounds: &[Bound], dir: Dir, term: Term) -> Result<TermPa
         Ok(sum)
     } else {
         Err(NoBound {
-            code: FLOW_TOO_LARGE,
+            code: StepRefusal::FlowTooLarge.number(),
             place: Place::Term(dir, term),
         })
     }

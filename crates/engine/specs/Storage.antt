@@ -1,9 +1,11 @@
--- Storage bounds the heads of a step.
+-- Where storage holds the heads of a step.
 use Rattle.std.specs.Prelude.{◌≡◌, ◌≢◌, ℕ, ◌<◌, ◌≤◌, List, length, Contains}
 use Rattle.step_problem.specs.declared.entry.Fixed.{Fixed}
 use Rattle.step_problem.specs.declared.entry.FixedKind.TheVariants.{Storage}
 use Rattle.step_problem.specs.declared.heads.Bound.{Bound}
 use Rattle.step_problem.specs.declared.place.NoBound.{NoBound}
+use Rattle.step_problem.specs.declared.refusal.StepRefusal.TheVariants.{NoBarrierLow, NoBarrierHigh}
+use Rattle.step_problem.specs.StepRefusals.{number_of}
 use Rattle.step_problem.specs.Entries.{Entries, entries_at}
 use Rattle.model_types.specs.declared.time_steps.TimeStep.{TimeStep}
 use Rattle.problem_builder.specs.Problems.{IsProblemOf}
@@ -14,9 +16,6 @@ use Rattle.listing_run.specs.Steps.{HasNoBound}
 abbrev pub IsStored : List Entries → Type 0
 IsStored p = (c : ℕ) → c < length p → (x : Fixed) × Contains (entries_at p c).fixed x × (x.kind ≡ Storage) × (1 ≤ x.lo)
 
--- Then a refusal of the step is neither 24 NoBarrierLow nor 25 NoBarrierHigh.
+-- Then a refusal of the step is neither NoBarrierLow nor NoBarrierHigh.
 abbrev pub StorageHolds : Type 0
-StorageHolds =
-    (k : Task) (at : TimeStep) (old : List Bound) (n : NoBound) →
-    ((p : List Entries) → IsProblemOf k.model k.digits at old p → IsStored p) → HasNoBound k at old n → (n.code ≢ 24)
-    × (n.code ≢ 25)
+StorageHolds = (k : Task) (at : TimeStep) (old : List Bound) (n : NoBound) → ((p : List Entries) → IsProblemOf k.model k.digits at old p → IsStored p) → HasNoBound k at old n → (n.code ≢ number_of NoBarrierLow) × (n.code ≢ number_of NoBarrierHigh)

@@ -1,14 +1,12 @@
 -- The last lines of a run that name a refusal, a time step, or a place in it.
-use Rattle.std.specs.Prelude.{ℕ, ◌==◌, Option, Some, None, List, [], ◌∷◌, ◌++◌, codes}
-use Rattle.std.specs.List.{find}
-use Rattle.outside.specs.declared.codes.Code.{Code}
-use Rattle.outside.specs.declared.codes.Code.TheVariants.{ConductanceTooSmall, ConductanceTooLarge, FlowTooLarge}
-use Rattle.outside.specs.declared.codes.Code.TheVariants.{NoBarrierLow, NoBarrierHigh, RangeLow, RangeHigh}
+use Rattle.std.specs.Prelude.{ℕ, Option, Some, None, List, [], ◌∷◌, ◌++◌, codes}
 use Rattle.outside.specs.Codes.{CodeRow, code_row}
 use Rattle.outside.specs.declared.refusals.Refusal.{Refusal}
 use Rattle.step_problem.specs.declared.place.NoBound.{NoBound}
 use Rattle.step_problem.specs.declared.place.Place.{Place}
 use Rattle.step_problem.specs.declared.place.Place.TheVariants as places
+use Rattle.step_problem.specs.declared.refusal.StepRefusal.{StepRefusal}
+use Rattle.step_problem.specs.StepRefusals.{refusal_of, word_of}
 use Rattle.step_problem.specs.Names.{side_name, dir_name, term_name}
 use Rattle.model_types.specs.declared.grid.Grid.{Grid}
 use Rattle.model_types.specs.declared.time_steps.TimeStep.{TimeStep}
@@ -28,22 +26,18 @@ cell_text (Some at) = numbers_text at
 unfoldable pub refused_line : Refusal → List ℕ
 refused_line r = ended (codes "REFUSED" ++ code_text (code_row r.code) ++ codes " " ++ r.file ++ numbers_text (r.line ∷ []) ++ cell_text r.at)
 
--- the refusals of a step
-abbrev pub step_codes : List Code
-step_codes = ConductanceTooSmall ∷ ConductanceTooLarge ∷ FlowTooLarge ∷ NoBarrierLow ∷ NoBarrierHigh ∷ RangeLow ∷ RangeHigh ∷ []
-
 -- the word of a step's refusal, by its number
-abbrev pub word_of : Option Code → List ℕ
-word_of None = []
-word_of (Some code) = (code_row code).word
+abbrev pub word_or_none : Option StepRefusal → List ℕ
+word_or_none None = []
+word_or_none (Some refusal) = word_of refusal
 
 abbrev pub step_word : ℕ → List ℕ
-step_word n = word_of (find (λ code. (code_row code).number == n) step_codes)
+step_word n = word_or_none (refusal_of n)
 
 abbrev pub time_text : TimeStep → List ℕ
 time_text at = numbers_text (at.period ∷ at.step ∷ [])
 
--- where a step has no bound: the cell; or the direction and the name of a budget term; or two zones
+-- where a step has no bound: the cell; or the way and the name of a budget term; or two zones
 abbrev pub fault_place : Grid → Place → List ℕ
 fault_place g (places.Cell c side) = numbers_text (place g c)
 fault_place g (places.Term dir t) = codes " " ++ dir_name dir ++ codes " " ++ term_name t
@@ -56,7 +50,7 @@ no_bound_line g at n = ended (codes "NOBOUND" ++ code_text (record { number = n.
 unfoldable pub unfinished_line : TimeStep → List ℕ
 unfinished_line at = ended (codes "UNFINISHED" ++ time_text at)
 
--- the first place of a listing that isn't certified; for a cell its side is named too
+-- the first place of a listing that isn't certified; of a cell its side is named as well
 abbrev pub open_place : Grid → Place → List ℕ
 open_place g (places.Cell c side) = numbers_text (place g c) ++ codes " " ++ side_name side
 open_place g (places.Term dir t) = fault_place g (places.Term dir t)

@@ -9,7 +9,7 @@ use crate::places::{dir_word, push_place, push_three, push_two, push_word, side_
 use model_types::{Grid, TimeStep};
 use outside::{Code, Refusal};
 use std::alloc::{AllocError, Global};
-use step_problem::{NoBound, Place};
+use step_problem::{NoBound, Place, StepRefusal};
 
 fn push_code(text: &mut Vec<u8>, number: u8, word: &str) -> Result<(), AllocError>
     ensures { IfOk result (λ _. text.new.items ≡ text.old.items ++ code_text (record { number = number; word = word.now })) }
@@ -52,15 +52,9 @@ pub fn write_refused(alloc: Global, refusal: &Refusal) -> Result<Vec<u8>, AllocE
 fn step_word(number: u8) -> &'static str
     ensures { result.now ≡ step_word number }
 {
-    match number {
-        21 => "ConductanceTooSmall",
-        22 => "ConductanceTooLarge",
-        23 => "FlowTooLarge",
-        24 => "NoBarrierLow",
-        25 => "NoBarrierHigh",
-        26 => "RangeLow",
-        27 => "RangeHigh",
-        _ => "",
+    match StepRefusal::of_number(number) {
+        Some(refusal) => refusal.word(),
+        None => "",
     }
 }
 

@@ -1,13 +1,7 @@
--- The refusals: the number and the word that each is printed with.
+-- The refusals of inputs: the number and the word that each is printed with.
 use Rattle.std.specs.Prelude.{ℕ, List, codes}
 use Rattle.outside.specs.declared.codes.Code.{Code}
-use Rattle.outside.specs.declared.codes.Code.TheVariants.{MissingFile, TooLong, BadName, BadNameLine, DuplicatePackage}
-use Rattle.outside.specs.declared.codes.Code.TheVariants.{UnsupportedPackage, MissingPackage, EndOfFile, BadNumber}
-use Rattle.outside.specs.declared.codes.Code.TheVariants.{TooManyDigits, OutOfProfile, BadGrid, BadControl}
-use Rattle.outside.specs.declared.codes.Code.TheVariants.{BadThickness, BadProperty, CellOutside, TooManyEntries}
-use Rattle.outside.specs.declared.codes.Code.TheVariants.{NothingToReuse, HeadTooLarge, BadListing, ConductanceTooSmall}
-use Rattle.outside.specs.declared.codes.Code.TheVariants.{ConductanceTooLarge, FlowTooLarge, NoBarrierLow}
-use Rattle.outside.specs.declared.codes.Code.TheVariants.{NoBarrierHigh, RangeLow, RangeHigh}
+use Rattle.outside.specs.declared.codes.Code.TheVariants.{MissingFile, TooLong, BadName, BadNameLine, DuplicatePackage, UnsupportedPackage, MissingPackage, EndOfFile, BadNumber, TooManyDigits, OutOfProfile, BadGrid, BadControl, BadThickness, BadProperty, CellOutside, TooManyEntries, NothingToReuse, HeadTooLarge, BadListing}
 
 pub record CodeRow : Type 0 where
   pub number : ℕ
@@ -37,10 +31,3 @@ code_row TooManyEntries = row 17 (codes "TooManyEntries")
 code_row NothingToReuse = row 18 (codes "NothingToReuse")
 code_row HeadTooLarge = row 19 (codes "HeadTooLarge")
 code_row BadListing = row 20 (codes "BadListing")
-code_row ConductanceTooSmall = row 21 (codes "ConductanceTooSmall")
-code_row ConductanceTooLarge = row 22 (codes "ConductanceTooLarge")
-code_row FlowTooLarge = row 23 (codes "FlowTooLarge")
-code_row NoBarrierLow = row 24 (codes "NoBarrierLow")
-code_row NoBarrierHigh = row 25 (codes "NoBarrierHigh")
-code_row RangeLow = row 26 (codes "RangeLow")
-code_row RangeHigh = row 27 (codes "RangeHigh")

@@ -1,7 +1,7 @@
 ghost use Rattle.std.specs.Prelude.{◌≡◌, MatchOption};
 ghost use Rattle.outside.specs.Codes.{code_row};
 
-/// Why an input is refused, in the order of the codes' numbers.
+/// Why an input is refused, in the order of the numbers.
 #[derive(Clone, Copy, Debug, PartialEq, Eq)]
 pub enum Code {
     MissingFile,
@@ -24,17 +24,10 @@ pub enum Code {
     NothingToReuse,
     HeadTooLarge,
     BadListing,
-    ConductanceTooSmall,
-    ConductanceTooLarge,
-    FlowTooLarge,
-    NoBarrierLow,
-    NoBarrierHigh,
-    RangeLow,
-    RangeHigh,
 }
 
 impl Code {
-    /// The number that the refusal is printed with, from 1 to 27.
+    /// The number that the refusal is printed with, from 1 to 20.
     pub fn number(self) -> u8
         ensures { result ≡ (code_row self).number }
     {
@@ -59,17 +52,10 @@ impl Code {
             Code::NothingToReuse => 18,
             Code::HeadTooLarge => 19,
             Code::BadListing => 20,
-            Code::ConductanceTooSmall => 21,
-            Code::ConductanceTooLarge => 22,
-            Code::FlowTooLarge => 23,
-            Code::NoBarrierLow => 24,
-            Code::NoBarrierHigh => 25,
-            Code::RangeLow => 26,
-            Code::RangeHigh => 27,
         }
     }
 
-    /// The code that has this number; None where no code has it.
+    /// The code that has this number, or none where no code has it.
     pub fn of_number(number: u8) -> Option<Code>
         ensures { MatchOption result ((c : Code) → ¬ ((code_row c).number ≡ number)) (λ c. (code_row c).number ≡ number) }
     {
@@ -94,13 +80,6 @@ impl Code {
             18 => Some(Code::NothingToReuse),
             19 => Some(Code::HeadTooLarge),
             20 => Some(Code::BadListing),
-            21 => Some(Code::ConductanceTooSmall),
-            22 => Some(Code::ConductanceTooLarge),
-            23 => Some(Code::FlowTooLarge),
-            24 => Some(Code::NoBarrierLow),
-            25 => Some(Code::NoBarrierHigh),
-            26 => Some(Code::RangeLow),
-            27 => Some(Code::RangeHigh),
             _ => None,
         }
     }
@@ -130,13 +109,6 @@ impl Code {
             Code::NothingToReuse => "NothingToReuse",
             Code::HeadTooLarge => "HeadTooLarge",
             Code::BadListing => "BadListing",
-            Code::ConductanceTooSmall => "ConductanceTooSmall",
-            Code::ConductanceTooLarge => "ConductanceTooLarge",
-            Code::FlowTooLarge => "FlowTooLarge",
-            Code::NoBarrierLow => "NoBarrierLow",
-            Code::NoBarrierHigh => "NoBarrierHigh",
-            Code::RangeLow => "RangeLow",
-            Code::RangeHigh => "RangeHigh",
         }
     }
 }

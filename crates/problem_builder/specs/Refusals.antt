@@ -4,6 +4,8 @@ use Rattle.std.specs.List.{list_any}
 use Rattle.step_problem.specs.declared.entry.FixedKind.{FixedKind}
 use Rattle.step_problem.specs.declared.entry.FixedKind.TheVariants.{Constant, General, Storage}
 use Rattle.step_problem.specs.Entries.{Entries}
+use Rattle.step_problem.specs.declared.refusal.StepRefusal.TheVariants.{ConductanceTooSmall, ConductanceTooLarge, FlowTooLarge}
+use Rattle.step_problem.specs.StepRefusals.{number_of}
 use Rattle.step_problem.specs.Conditions.{conductance_of, flow_of}
 
 -- a branch to a constant-head neighbour
@@ -16,6 +18,6 @@ is_branch Storage = false
 abbrev pub has_small_branch : Entries → Bool
 has_small_branch e = list_any (λ x. x.lo == 0) e.links || list_any (λ x. is_branch x.kind && (x.lo == 0)) e.fixed
 
--- 21 ConductanceTooSmall, 22 ConductanceTooLarge, 23 FlowTooLarge: the first that a cell has
+-- the number of the first refusal that a cell has
 unfoldable pub fault_of : Entries → Option ℕ
-fault_of e = cond (has_small_branch e) (Some 21) (cond (nat_le (2 ^ 60) (conductance_of e)) (Some 22) (cond (nat_le (2 ^ 109) (flow_of e)) (Some 23) None))
+fault_of e = cond (has_small_branch e) (Some (number_of ConductanceTooSmall)) (cond (nat_le (2 ^ 60) (conductance_of e)) (Some (number_of ConductanceTooLarge)) (cond (nat_le (2 ^ 109) (flow_of e)) (Some (number_of FlowTooLarge)) None))

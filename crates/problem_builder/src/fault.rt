@@ -6,10 +6,12 @@ ghost use Rattle.problem_builder.specs.Refusals.{fault_of, is_branch};
 ghost use Rattle.problem_builder.specs.declared.fault.BuildFault.TheVariants.{Memory};
 
 use std::alloc::{AllocError, AllocFailed};
-use step_problem::{Cell, Fixed, FixedKind, Link, NoBound, conductances_fit, flows_fit};
+use step_problem::{
+    Cell, Fixed, FixedKind, Link, NoBound, StepRefusal, conductances_fit, flows_fit,
+};
 
-/// Why a step has no problem: the refusal of the least cell that has one, by its number (21 ConductanceTooSmall,
-/// 22 ConductanceTooLarge, 23 FlowTooLarge), or lack of memory.
+/// Why a step has no problem: the refusal of the least cell that has one, by its number (that of
+/// ConductanceTooSmall, ConductanceTooLarge or FlowTooLarge), or out of memory.
 #[derive(Clone, Copy, Debug, PartialEq, Eq)]
 pub enum BuildFault {
     NoBound(NoBound),
@@ -54,7 +56,7 @@ fn is_small_constant(x: &Fixed) -> bool
     }
 }
 
-/// The number of the first refusal of a cell; None where it has none.
+/// The number of the first refusal of a cell, if it has one.
 #[tactic(auto, unfolding(crate::specs::Refusals::fault_of))]
 pub fn fault(cell: &Cell) -> Option<u8>
     requires rivers { All RiverFits cell.now.rivers }
@@ -62,13 +64,13 @@ pub fn fault(cell: &Cell) -> Option<u8>
     ensures { result ≡ fault_of cell.now }
 {
     if has_small_link(&cell.links) {
-        Some(21)
+        Some(StepRefusal::ConductanceTooSmall.number())
     } else if has_small_constant(&cell.fixed) {
-        Some(21)
+        Some(StepRefusal::ConductanceTooSmall.number())
     } else if !conductances_fit(cell) {
-        Some(22)
+        Some(StepRefusal::ConductanceTooLarge.number())
     } else if !flows_fit(cell) {
-        Some(23)
+        Some(StepRefusal::FlowTooLarge.number())
     } else {
         None
     }

@@ -9,4 +9,5 @@ pub mod Settling
 pub mod Laws
 pub mod BothSides
 pub mod Names
+pub mod StepRefusals
 pub mod Leaving

@@ -9,6 +9,7 @@ pub mod heads;
 pub mod laws;
 pub mod place;
 pub mod problem;
+pub mod refusal;
 pub mod settler;
 
 pub use balance::branch::Branch;
@@ -19,4 +20,5 @@ pub use flow::{least_flow, most_flow};
 pub use heads::{Barrier, Bound, Open, SettleFault, Side};
 pub use place::{Dir, NoBound, Place, Term, ZoneFlow};
 pub use problem::{Problem, are_heads, is_head};
+pub use refusal::StepRefusal;
 pub use settler::Settler;
