@@ -34,7 +34,7 @@ module _ (ends : List JobEnd) where
       let after : List Text = drop (suc i) ts ++ (end_line ∷ []) in
       let split : ts ≡ take i ts ++ (piece ∷ drop (suc i) ts) = split_after ts i piece h ∙ ap (λ p. take i ts ++ (p ∷ drop (suc i) ts)) (sym read) in
       let all : take i ts ++ (piece ∷ after) ≡ ts ++ (end_line ∷ []) = sym (append_assoc (take i ts) (piece ∷ drop (suc i) ts) (end_line ∷ [])) ∙ ap (λ l. l ++ (end_line ∷ [])) (sym split) in
-      rw was (early end (take i ts) (piece ∷ after) tail (all_due (first_not_ok ends) (take i ts ++ (piece ∷ after)) (record { status_is = refl; are = all })) (stops after))
+      rw was (early end (take i ts) (piece ∷ after) tail (all_due (first_not_ok ends) (take i ts) piece after (record { status_is = refl; are = all })) (stops after))
 
   pub ends_whole : (puts last : List Put) (end : Status) → puts ≡ map taken (texts ends) → IsLast end_line (first_not_ok ends) end last → IsEndedRun end (puts ++ last)
   ends_whole puts last end was (inl (same, is)) =
@@ -44,7 +44,7 @@ module _ (ends : List JobEnd) where
       subst P all (whole end (texts ends ++ (end_line ∷ [])) due)
   ends_whole puts last end was (inr stops) =
       let due : IsEnded ends (first_not_ok ends) (texts ends ++ (end_line ∷ [])) = record { status_is = refl; are = refl } in
-      rw was (early end (texts ends) (end_line ∷ []) last (all_due (first_not_ok ends) (texts ends ++ (end_line ∷ [])) due) stops)
+      rw was (early end (texts ends) (end_line ∷ []) last (all_due (first_not_ok ends) (texts ends) end_line [] due) stops)
 
 take_all : {X : Type 0} (xs : List X) (i : ℕ) → length xs ≤ i → take i xs ≡ xs
 take_all [] zero h = refl
