@@ -31,7 +31,7 @@ def test_products_are_exact():
     assert Decimal(product("0.1", "3e5").text) == 30000
 
 
-@pytest.mark.parametrize("text, line, values", [("(3F4.1)", " 1.5  202.25", ["1.5", "20", "2.25"]), ("(2I3)", " -1  4", ["-1", "4"]), ("(1P2E9.2)", " 1.50E+01     2.5", ["15", "0.25"]), ("(3F4.0)", "  1", ["1", "0", "0"])])
+@pytest.mark.parametrize("text, line, values", [("(3F4.1)", " 1.5  202.25", ["1.5", "2", "2.25"]), ("(2I3)", " -1  4", ["-1", "4"]), ("(1P2E9.2)", " 1.50E+01     2.5", ["15", "0.25"]), ("(3F4.0)", "  1", ["1", "0", "0"])])
 def test_fields_of_fixed_width(text, line, values):
     fields = fortran(text)
     assert [Fraction(exact(fields.of(line, n))) for n in range(len(values))] == [Fraction(v) for v in values]
