@@ -27,9 +27,7 @@ def compare(listing: Listing, heads: Heads) -> list[Difference]:
         given = heads.get((step.period, step.step), heads.get(ANY_STEP))
         if given is None:
             continue
-        if any(a > b for a, b in zip(listing.shape, given.shape)):
-            raise Problem(f"the given heads are of a grid {given.shape}, and the listing has cells up to {listing.shape}")
-        h = given[at].astype(np.longdouble)
+        h = padded(given, listing.shape)[at].astype(np.longdouble)
         low, high = step.low.astype(np.longdouble) / 10**9, step.high.astype(np.longdouble) / 10**9
         slack = 4 * np.finfo(float).eps * np.maximum(np.abs(h), np.maximum(np.abs(low), np.abs(high)))
         least = np.maximum(0, np.maximum(low - h, h - high) - slack)
@@ -42,6 +40,11 @@ def compare(listing: Listing, heads: Heads) -> list[Difference]:
     return out
 
 
+def padded(grid: np.ndarray, least: tuple[int, int, int]) -> np.ndarray:
+    """The grid, with nan added where it is smaller than the least shape."""
+    return np.pad(grid, [(0, max(0, b - a)) for a, b in zip(grid.shape, least)], constant_values=np.nan)
+
+
 def sentences(listing: Listing, differences: list[Difference], unit: str) -> list[str]:
     """What the differences come to, in sentences."""
     out = []
@@ -52,8 +55,10 @@ def sentences(listing: Listing, differences: list[Difference], unit: str) -> lis
         worst = int(np.nanargmax(d.least if np.nanmax(d.least) > 0 else d.most))
         cell = " ".join(map(str, listing.cells[worst]))
         outside = int((d.least[here] > 0).sum())
+        part = "" if here.all() else f"; heads are given of {int(here.sum())} of the listing's {len(here)} cells alone"
         out.append(f"period {d.step.period} step {d.step.step}: off by at least {short_down(float(np.nanmax(d.least)))} {unit} and at most "
-                   f"{short_up(float(np.nanmax(d.most)))} {unit}; {outside} of {int(here.sum())} cells lie outside their pair; the worst is layer row column {cell}")
+                   f"{short_up(float(np.nanmax(d.most)))} {unit}; {outside} of {int(here.sum())} cells lie outside their pair; "
+                   f"the worst is layer row column {cell}{part}")
     least, most = (max(float(np.nanmax(getattr(d, name))) for d in differences) for name in ("least", "most"))
     out.append(f"in all {len(differences)} steps: off by at least {short_down(least)} {unit} somewhere, and by at most {short_up(most)} {unit} everywhere")
     if not listing.is_whole:

@@ -12,7 +12,7 @@ from .listing import Listing, Step
 from .model import Model
 from .page import Page, write_page
 from .tables import budget_of, write_tables
-from .text import LENGTHS, Problem, decimal_text, down, up
+from .text import LENGTHS, Problem, decimal_text, down, signed_down, signed_up, up
 
 Cell = tuple[int, int, int]
 MOST_STEPS = 400
@@ -71,7 +71,8 @@ class Look:
         layers = [k for k in range(nlay) if np.isfinite(lower[k]).any()]
         chosen = layers[::max(1, len(layers) // 8)]
         curves = [(f"layer {k + 1}", lower[k].ravel(), upper[k].ravel()) for k in chosen]
-        name = pictures.band(self.folder / f"profile_p{step.period}_s{step.step}", along, curves, f"distance, {self.unit}", self.unit, f"Heads along the model, {self.when(step)}")
+        path, title = self.folder / f"profile_p{step.period}_s{step.step}", f"Heads along the model, {self.when(step)}"
+        name = pictures.band(path, along, curves, f"distance, {self.unit}", self.unit, title)
         self.page.picture("Profiles", name, self.when(step))
 
     @property
@@ -88,12 +89,12 @@ class Look:
         nlay, nrow, ncol = self.shape
         top, bottom = self.plan.top, self.plan.bottom
         if ncol > 1 and (nlay > 1 or nrow > 1):
-            name = pictures.section(self.folder / f"section_row{row}", self.plan, lower[:, row - 1], width[:, row - 1], self.plan.x, top[:, row - 1], bottom[:, row - 1],
-                                    f"Section along row {row}, {self.when(step)}")
+            parts = [v[:, row - 1] for v in (lower, width, top, bottom)]
+            name = pictures.section(self.folder / f"section_row{row}", self.plan, self.plan.x, *parts, f"Section along row {row}, {self.when(step)}")
             self.page.picture("Sections", name, f"Row {row}, west to east")
         if nrow > 1 and (nlay > 1 or ncol > 1):
-            name = pictures.section(self.folder / f"section_column{col}", self.plan, lower[:, :, col - 1], width[:, :, col - 1], self.plan.y, top[:, :, col - 1], bottom[:, :, col - 1],
-                                    f"Section along column {col} (south at 0), {self.when(step)}")
+            parts, title = [v[:, :, col - 1] for v in (lower, width, top, bottom)], f"Section along column {col} (south at 0), {self.when(step)}"
+            name = pictures.section(self.folder / f"section_column{col}", self.plan, self.plan.y, *parts, title)
             self.page.picture("Sections", name, f"Column {col}, south to north")
 
     def draw_hydrographs(self) -> None:
@@ -109,7 +110,8 @@ class Look:
         for cell in cells or [self.moving()]:
             at = self.listing.at(cell)
             curves.append(("layer {} row {} column {}".format(*cell), np.array([s.low[at] for s in steps]) / 1e9, np.array([s.high[at] for s in steps]) / 1e9))
-        name = pictures.band(self.folder / "hydrographs", x, curves, f"time, {self.time}" if times else "step", self.unit, "Hydrographs: bands between lower and upper heads")
+        label = f"time, {self.time}" if times else "step"
+        name = pictures.band(self.folder / "hydrographs", x, curves, label, self.unit, "Hydrographs: bands between lower and upper heads")
         self.page.picture("Hydrographs", name, "Bands between lower and upper heads, and their widths")
 
     def moving(self) -> Cell:
@@ -127,14 +129,18 @@ class Look:
         self.page.table(f"Budget, {self.when(step)} (rates, {unit}; rounded outward)", ["term", "in, from", "to", "out, from", "to"], rows)
         nets = [[n[0], down(n[1], places), up(n[2], places), down(n[3], places), up(n[4], places)] for n in budget.nets if any(n[1:])]
         if nets:
-            self.page.table("Net flow into the cells (in less out), and narrowed by the law that the exact net flows sum to 0", ["term", "from", "to", "narrowed from", "to"], nets)
+            room = "Net flow into the cells (in less out), and narrowed by the law that the exact net flows sum to 0"
+            self.page.table(room, ["term", "from", "to", "narrowed from", "to"], nets)
         if budget.discrepancy:
-            self.page.say("Percent discrepancy of each exact solution: 0. That of these bounds lies from {:.2e} to {:.2e}: it says how wide they are, not how wrong.".format(*budget.discrepancy))
+            low, high = signed_down(budget.discrepancy[0]), signed_up(budget.discrepancy[1])
+            self.page.say("Percent discrepancy of each exact solution: 0. "
+                          f"That of these bounds lies from {low} to {high}: it says how wide they are, not how wrong.")
         drawn = [(r[0], *(v / 10**places for v in r[1:])) for r in budget.rows if any(r[1:])]
         if drawn:
             self.page.picture("Budget", pictures.budget(self.folder / "budget", drawn, unit, self.when(step)), f"Terms of {self.when(step)}")
         if step.zones:
-            self.page.table("Flows between zones of the last step", ["from zone", "to zone", "from", "to"], [[str(a), str(b), down(lo, places), up(hi, places)] for a, b, lo, hi in step.zones])
+            flows = [[str(a), str(b), down(lo, places), up(hi, places)] for a, b, lo, hi in step.zones]
+            self.page.table("Flows between zones of the last step", ["from zone", "to zone", "from", "to"], flows)
 
     def compare(self, given: Path) -> None:
         differences = compare(self.listing, read_heads(given))

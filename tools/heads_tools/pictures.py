@@ -120,11 +120,12 @@ def error_map(path: Path, plan: Plan, most: np.ndarray, layer: int, when: str) -
     return save(figure, path)
 
 
-def section(path: Path, plan: Plan, lower: np.ndarray, width: np.ndarray, edges: np.ndarray, top: np.ndarray, bottom: np.ndarray, title: str) -> str:
+def section(path: Path, plan: Plan, edges: np.ndarray, lower: np.ndarray, width: np.ndarray, top: np.ndarray, bottom: np.ndarray, title: str) -> str:
     """A section: cells of shape (layers, along) between their tops and bottoms, coloured by lower head and by width."""
     figure, axes = plt.subplots(2, 1, figsize=(9, 5.4), sharex=True, constrained_layout=True)
     for ax, values, label, cmap, is_width in ((axes[0], lower, "lower head", HEADS_MAP, False), (axes[1], width, "width", WIDTH_MAP, True)):
-        shapes = [[(edges[j], bottom[k, j]), (edges[j + 1], bottom[k, j]), (edges[j + 1], top[k, j]), (edges[j], top[k, j])] for k, j in np.ndindex(values.shape)]
+        corner = lambda k, j: [(edges[j], bottom[k, j]), (edges[j + 1], bottom[k, j]), (edges[j + 1], top[k, j]), (edges[j], top[k, j])]
+        shapes = [corner(k, j) for k, j in np.ndindex(values.shape)]
         flat = values.ravel()
         shown = np.ma.masked_invalid(np.where(flat > 0, flat, np.nan) if is_width else flat)
         cells = PolyCollection(shapes, array=shown, cmap=cmap, norm=norm_of(values, is_width), edgecolors="0.6", linewidths=0.2 if values.shape[1] <= 40 else 0)

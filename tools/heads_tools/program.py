@@ -7,6 +7,7 @@ import shutil
 import subprocess
 import sys
 import time
+from contextlib import nullcontext
 from dataclasses import dataclass
 from pathlib import Path
 
@@ -119,11 +120,13 @@ class Progress:
 
 
 def run(nam: Path, options: list[str], target: Path, steps: int | None = None, is_told: bool = True) -> Ended:
-    """Runs `heads run` in the model's folder into a file, which gets its name once the run ended."""
+    """Runs `heads run` in the model's folder into a file, which gets its name once the run ended. What --watch tells
+    goes into a file beside it."""
     progress = Progress(nam.name, steps)
     began, last, count = time.monotonic(), b"", 0
-    with whole_file(target, binary=True) as file:
-        process = subprocess.Popen([program(), "run", nam.name, *options], cwd=nam.parent, stdout=subprocess.PIPE)
+    is_watched = any(o.startswith("--watch") for o in options)
+    with whole_file(target, binary=True) as file, (open(target.with_suffix(".watch"), "wb") if is_watched else nullcontext()) as side:
+        process = subprocess.Popen([program(), "run", nam.name, *options], cwd=nam.parent, stdout=subprocess.PIPE, stderr=side)
         try:
             is_open = False
             for line in process.stdout:

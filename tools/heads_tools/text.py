@@ -88,6 +88,16 @@ def short_down(value: float) -> str:
     return _short(value, -1)
 
 
+def signed_down(value: float) -> str:
+    """A number with three digits, rounded down."""
+    return short_down(value) if value >= 0 else "-" + short_up(-value)
+
+
+def signed_up(value: float) -> str:
+    """A number with three digits, rounded up."""
+    return short_up(value) if value >= 0 else "-" + short_down(-value)
+
+
 def _short(value: float, side: int) -> str:
     text = f"{value:.3g}"
     if value == 0 or side * float(text) >= side * value:

@@ -68,8 +68,8 @@ def test_compare_says_how_far_given_heads_are_off(ran, tool, tmp_path):
     nam, listing = ran("three_cells")
     (tmp_path / "given.csv").write_text("layer,row,col,head\n1,1,2,15.25\n")
     status, out, err = tool("compare", listing, tmp_path / "given.csv")
-    assert status == 0 and "at least 0.249" in out and "at most 0.251" in out, out
-    (tmp_path / "wide.csv").write_text("layer,row,col,head\n1,1,1,3\n")
+    assert status == 0 and "at least 0.249" in out and "at most 0.251" in out and "1 of the listing's 3 cells" in out, out
+    (tmp_path / "wide.csv").write_text("layer,row,col,head\n9,9,9,3\n")
     assert tool("compare", listing, tmp_path / "wide.csv")[0] == 2
 
 
