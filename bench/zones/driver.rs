@@ -1,4 +1,5 @@
 // Milliseconds to find the flows between 999 zones in a sheet of 65,536 cells: the proved call beside plain Rust.
+#[path = "../shared/processor.rs"]
 mod processor;
 
 use processor::processor_time;
