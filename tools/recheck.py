@@ -221,7 +221,8 @@ class Step:
 class Listing:
     def __init__(self, name, model):
         self.lines, self.at, self.model = read(name).split("\n"), 0, model
-        self.digits = int(self.take(rf"HEADS [12] DIGITS (\d+) UNIT {model.unit}")[0])
+        digits = self.take(rf"HEADS 1|HEADS 2 DIGITS (\d+) UNIT {model.unit}")[0]
+        self.digits = int(digits or len(next(line for line in self.lines if line.startswith("IN ")).split()[1].partition(".")[2]) - 9)
 
     def take(self, form):
         self.at += 1
