@@ -140,7 +140,8 @@ def run_slurm(path: Path, jobs: list[Job], options: list[str], at_once: int, is_
     names, script = write_names(path, jobs), path.with_suffix(".slurm")
     cpus = next((options[n + 1] for n, o in enumerate(options[:-1]) if o == "--workers"), "4")
     with whole_file(script) as file:
-        file.write(f"#!/bin/bash\n#SBATCH --job-name=heads\n#SBATCH --array=1-{len(jobs)}%{at_once}\n#SBATCH --cpus-per-task={cpus}\n#SBATCH --output={path.stem}.%a.log\n"
+        file.write(f"#!/bin/bash\n#SBATCH --job-name=heads\n#SBATCH --array=1-{len(jobs)}%{at_once}\n"
+                   f"#SBATCH --cpus-per-task={cpus}\n#SBATCH --output={path.stem}.%a.log\n"
                    f'NAM=$(sed -n "${{SLURM_ARRAY_TASK_ID}}p" {shlex.quote(str(names))})\n{shell_line(options)}\n')
     print(f"written: {script} (sbatch --wait {script.name})")
     if not is_written_only:
