@@ -116,6 +116,20 @@ def test_batch_collects_the_ends(example, tool, tmp_path):
     assert status == 0 and "parallel --jobs" in (tmp_path / "list.parallel.sh").read_text()
 
 
+@pytest.mark.program
+def test_a_listing_from_before_is_not_taken_for_a_run(ran, tool, tmp_path, monkeypatch):
+    nam, listing = ran("three_cells")
+    sbatch = tmp_path / "bin" / "sbatch"
+    sbatch.parent.mkdir()
+    sbatch.write_text("#!/bin/sh\necho 'no node has 4 processors' >&2\nexit 1\n")
+    sbatch.chmod(0o755)
+    monkeypatch.setenv("PATH", str(sbatch.parent), prepend=":")
+    (tmp_path / "list.txt").write_text("three_cells/a.nam\n")
+    status, out, err = tool("batch", tmp_path / "list.txt", "--slurm")
+    assert status == 6 and "a.nam: END" not in out and "no node has 4 processors" in err, out + err
+    assert listing.is_file()
+
+
 def test_a_batch_of_the_program_is_parted_by_model(tmp_path):
     from heads_tools.batch import Job, split_batch
 
