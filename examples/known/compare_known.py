@@ -35,7 +35,8 @@ def compare(folder):
         wrong += away > within
         farthest = max(farthest, away)
     width = max(high - low for low, high in found.values())
-    print(f"{folder.name}: {len(rows)} answers, {exact} of them exact; {wrong} not where they have to be; the farthest from its pair by {float(farthest):.3g}; widest pair {float(width):.3g}")
+    print(f"{folder.name}: {len(rows)} answers, {exact} of them exact; {wrong} not where they have to be; "
+          f"the farthest from its pair by {float(farthest):.3g}; widest pair {float(width):.3g}")
     return not wrong
 
 

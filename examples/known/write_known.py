@@ -93,7 +93,8 @@ def step_times(length, count, mult):
 
 def first_tutorial():
     n = 10
-    deck = Deck("first_tutorial", ["FloPy's first tutorial: a sheet between heads of 10 and 0 at two sides.", "Exact: the head of column j is 10 - 10 (j - 1) / 9."],
+    deck = Deck("first_tutorial", ["FloPy's first tutorial: a sheet between heads of 10 and 0 at two sides.",
+                                   "Exact: the head of column j is 10 - 10 (j - 1) / 9."],
                 (1, n, n), 100, 100, 0, [-50], 10, 10, [[-1] + [1] * (n - 2) + [-1]] * n, [[10] + [1] * (n - 2) + [0]] * n)
     for i in range(n):
         for j in range(n):
@@ -103,7 +104,8 @@ def first_tutorial():
 
 def strip():
     n, dx, transmissivity, rate = 41, 25, 50, Fraction(1, 1000)
-    deck = Deck("strip_recharge", ["Recharge w on a strip of width L between two canals (Bear; Fetter), transmissivity T.", "Exact: h = 10 + w x (L - x) / (2 T), a parabola, which the differences hold as it is."],
+    deck = Deck("strip_recharge", ["Recharge w on a strip of width L between two canals (Bear; Fetter), transmissivity T.",
+                                   "Exact: h = 10 + w x (L - x) / (2 T), a parabola, which the differences hold as it is."],
                 (1, 1, n), dx, dx, 10, [0], 5, 5, [[-1] + [1] * (n - 2) + [-1]], 10)
     deck.recharge(0.001)
     for j in range(n):
@@ -156,7 +158,8 @@ def toth():
     nlay, ncol, dz, dx, slope = 40, 100, 2.5, 10, 0.05
     height, length = nlay * dz - dz / 2, ncol * dx
     level = [[round(100 + slope * (j + 0.5) * dx, 6) for j in range(ncol)]]
-    deck = Deck("toth", ["Toth's section (1962): flow in a box under a water table that slopes by 0.05, 40 layers, one row.", "Published: his series of cosines. The difference is the grid's."],
+    deck = Deck("toth", ["Toth's section (1962): flow in a box under a water table that slopes by 0.05, 40 layers, one row.",
+                         "Published: his series of cosines. The difference is the grid's."],
                 (nlay, 1, ncol), dx, 1, 100, [100 - dz * (k + 1) for k in range(nlay)], 1, 1, (-1,) + (1,) * (nlay - 1), (level,) + (100,) * (nlay - 1))
     for k in range(0, nlay, 3):
         for j in range(0, ncol, 7):
@@ -210,7 +213,8 @@ def glover():
     nrow, ncol, well = len(delc), len(delr), 10
     mid, days, count, mult = nrow // 2, 100, 20, 1.2
     deck = Deck("glover", ["A well of 2000 m3/d, 250 m from a river that is a line of given heads; T 1000 m2/d, S 0.01, 100 days.",
-                           "Published (Theis 1941; Glover and Balmer 1954): the head is Theis' with the well's image across the river; the river loses Q erfc(sqrt(a a S / (4 T t)))."],
+                           "Published (Theis 1941; Glover and Balmer 1954): the head is Theis' with the well's image across the river; "
+                           "the river loses Q erfc(sqrt(a a S / (4 T t)))."],
                 (1, nrow, ncol), delr, delc, 10, [0], 100, 100, 1, 100, (f"{days} {count} {mult} TR",), ss=0.001)
     deck.entries("CHD", [[(1, i + 1, 1, 100, 100) for i in range(nrow)]])
     deck.entries("WEL", [[(1, mid + 1, well + 1, -2000)]])
@@ -228,7 +232,8 @@ def island():
     far = lambda i, j: math.hypot(i - mid, j - mid) * dx
     is_land = [[int(far(i, j) <= radius) for j in range(n)] for i in range(n)]
     is_rim = lambda i, j: is_land[i][j] and not all(is_land[i + a][j + b] for a, b in ((0, 1), (1, 0), (0, -1), (-1, 0)))
-    deck = Deck("island", ["A round island of radius 1400 m in the sea, recharge w 0.002 m/d, T 500 m2/d; the sea is a general head of conductance 1e7 on its rim.",
+    deck = Deck("island", ["A round island of radius 1400 m in the sea, recharge w 0.002 m/d, T 500 m2/d; "
+                           "the sea is a general head of conductance 1e7 on its rim.",
                            "Published: w (R R - r r) / (4 T). The difference is the rim's steps. So large a conductance wants --digits 9."],
                 (1, n, n), dx, dx, 10, [-40], 10, 10, is_land, 0)
     deck.entries("GHB", [[(1, i + 1, j + 1, 0, 10000000) for i in range(1, n - 1) for j in range(1, n - 1) if is_rim(i, j)]])

@@ -53,6 +53,7 @@ def read_jobs(path: Path) -> list[Job]:
 def batch(path: Path, options: list[str], way: str, at_once: int, is_written_only: bool) -> int:
     """Runs all models of a list in the way asked for, and prints how each ended; the first status that isn't 0."""
     jobs, at_once = read_jobs(path), at_once or os.cpu_count() or 1
+    before = [stamp(job) for job in jobs]
     if way == "slurm":
         run_slurm(path, jobs, options, at_once, is_written_only)
     elif way == "parallel":
@@ -61,16 +62,26 @@ def batch(path: Path, options: list[str], way: str, at_once: int, is_written_onl
         with ThreadPoolExecutor(at_once) as pool:
             for done, job in enumerate(pool.map(lambda job: run(job.nam, options, job.listing, is_told=False) and job, jobs), 1):
                 print(f"{done} of {len(jobs)}: {job.name}", file=sys.stderr)
-    return 0 if is_written_only and way != "here" else collect(jobs, options, path.with_suffix(".ends.csv"))
+    return 0 if is_written_only and way != "here" else collect(jobs, before, options, path.with_suffix(".ends.csv"))
 
 
-def collect(jobs: list[Job], options: list[str], table: Path) -> int:
-    """Prints how each model ended, writes it as a table, and gives the first status that isn't 0."""
+def stamp(job: Job) -> tuple[int, int] | None:
+    """What tells a listing of this batch from one that stood there before: its inode and the time it was written."""
+    if not job.listing.is_file():
+        return None
+    at = job.listing.stat()
+    return at.st_ino, at.st_mtime_ns
+
+
+def collect(jobs: list[Job], before: list[tuple[int, int] | None], options: list[str], table: Path) -> int:
+    """Prints how each model ended, writes it as a table, and gives the first status that isn't 0. A listing that stood
+    there `before` isn't this batch's: its model has not run."""
     first = 0
     with whole_file(table) as file:
         file.write("model,status,last_line,steps,cells,widest\n")
-        for job in jobs:
-            last = read_text(job.listing).rstrip("\n").rsplit("\n", 1)[-1] if job.listing.is_file() else ""
+        for job, old in zip(jobs, before):
+            has_run = stamp(job) not in (None, old)
+            last = read_text(job.listing).rstrip("\n").rsplit("\n", 1)[-1] if has_run else ""
             meaning = explain(last, job.nam.parent, digits_of(options))
             steps = cells = width = ""
             if meaning.is_good:
@@ -140,7 +151,8 @@ def run_slurm(path: Path, jobs: list[Job], options: list[str], at_once: int, is_
     names, script = write_names(path, jobs), path.with_suffix(".slurm")
     cpus = next((options[n + 1] for n, o in enumerate(options[:-1]) if o == "--workers"), "4")
     with whole_file(script) as file:
-        file.write(f"#!/bin/bash\n#SBATCH --job-name=heads\n#SBATCH --array=1-{len(jobs)}%{at_once}\n#SBATCH --cpus-per-task={cpus}\n#SBATCH --output={path.stem}.%a.log\n"
+        file.write(f"#!/bin/bash\n#SBATCH --job-name=heads\n#SBATCH --array=1-{len(jobs)}%{at_once}\n"
+                   f"#SBATCH --cpus-per-task={cpus}\n#SBATCH --output={path.stem}.%a.log\n"
                    f'NAM=$(sed -n "${{SLURM_ARRAY_TASK_ID}}p" {shlex.quote(str(names))})\n{shell_line(options)}\n')
     print(f"written: {script} (sbatch --wait {script.name})")
     if not is_written_only:

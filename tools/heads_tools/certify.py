@@ -136,9 +136,11 @@ class Bounds:
         evap = np.maximum(np.minimum(h[step.evt_at], step.evt_surf) - step.evt_ext, 0)
         total = step.links @ h - step.link_sum * h + step.sum(step.at, step.c * d) + step.sum(step.flow_at, step.flow)
         total += step.sum(step.riv_at, step.riv_c * river) - step.sum(step.drn_at, step.drn_c * drain) - step.sum(step.evt_at, step.evt_c * evap)
-        slope = step.link_sum + step.sum(step.at, step.c) + step.sum(step.riv_at, step.riv_c * (h[step.riv_at] > step.riv_bottom)) + step.sum(step.drn_at, step.drn_c * (drain > 0))
+        above_bottom = step.riv_c * (h[step.riv_at] > step.riv_bottom)
+        slope = step.link_sum + step.sum(step.at, step.c) + step.sum(step.riv_at, above_bottom) + step.sum(step.drn_at, step.drn_c * (drain > 0))
         slope += step.sum(step.evt_at, step.evt_c * ((h[step.evt_at] < step.evt_surf) & (evap > 0)))
-        apart = self.apart(step, h) + step.sum(step.at, np.abs(d)) + step.sum(step.riv_at, np.abs(river)) + step.sum(step.drn_at, drain) + step.sum(step.evt_at, evap)
+        apart = self.apart(step, h) + step.sum(step.at, np.abs(d)) + step.sum(step.riv_at, np.abs(river))
+        apart = apart + step.sum(step.drn_at, drain) + step.sum(step.evt_at, evap)
         return total, slope, apart
 
     def apart(self, step: Step, h: np.ndarray) -> np.ndarray:

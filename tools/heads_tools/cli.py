@@ -19,7 +19,8 @@ def cell(text: str) -> tuple[int, int, int]:
 
 
 def parser() -> argparse.ArgumentParser:
-    top = argparse.ArgumentParser(prog="heads-tools", description="Runs, explains, feeds and shows `heads`.", epilog=EPILOG, formatter_class=argparse.RawDescriptionHelpFormatter)
+    top = argparse.ArgumentParser(prog="heads-tools", description="Runs, explains, feeds and shows `heads`.", epilog=EPILOG,
+                                  formatter_class=argparse.RawDescriptionHelpFormatter)
     commands = top.add_subparsers(dest="command", metavar="COMMAND", required=True)
 
     def add(name: str, text: str, *words: tuple) -> argparse.ArgumentParser:
@@ -46,7 +47,8 @@ def parser() -> argparse.ArgumentParser:
     s = add("compare", "how far given heads are from every exact solution", listing, ("heads", "heads of MODFLOW: hds or CSV"))
     s.add_argument("--map", type=Path, metavar="FOLDER", help="draw maps into this folder")
     s.add_argument("--name", type=Path, metavar="M.NAM", help="the model, for the maps")
-    s = add("certify", "certified bounds from any solver's heads: margins by a sparse solve, then heads check", nam, ("heads", "heads to begin with: hds or CSV"))
+    s = add("certify", "certified bounds from any solver's heads: margins by a sparse solve, then heads check", nam,
+            ("heads", "heads to begin with: hds or CSV"))
     s.add_argument("--digits", type=int, default=12)
     s.add_argument("--out", type=Path, help="the listing's file, NAME.certified.heads where left out")
     s.add_argument("--theta", type=float, help="the margin, in roundings of a head; 1.05 and more are tried where left out")
@@ -56,7 +58,8 @@ def parser() -> argparse.ArgumentParser:
     for name in ("lower", "upper", "middle"):
         side.add_argument(f"--{name}", dest="side", action="store_const", const=name)
     s.add_argument("--single", action="store_true", help="single precision (double where left out)")
-    add("exhibit", "for a report or a court: deck, listing, verdicts, hashes, versions, pictures; further options go to heads run", nam, ("folder", "the folder to write into"))
+    add("exhibit", "for a report or a court: deck, listing, verdicts, hashes, versions, pictures; further options go to heads run",
+        nam, ("folder", "the folder to write into"))
     s = add("batch", "run many models and collect their ends; further options go to heads", ("list", "a file with one name file a line"))
     where = s.add_mutually_exclusive_group()
     where.add_argument("--slurm", action="store_true", help="as an array job of Slurm")

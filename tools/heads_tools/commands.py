@@ -93,7 +93,8 @@ def do_look(args: argparse.Namespace, _: list[str]) -> int:
     from .model import read_model
 
     listing = read_listing(existing(args.listing))
-    said = look(listing, args.folder, read_model(existing(args.name)) if args.name else None, args.cell, existing(args.given) if args.given else None, args.every)
+    model = read_model(existing(args.name)) if args.name else None
+    said = look(listing, args.folder, model, args.cell, existing(args.given) if args.given else None, args.every)
     say(said + [f"open {args.folder / 'index.html'}"])
     return 0
 
@@ -144,7 +145,8 @@ def do_hds(args: argparse.Namespace, _: list[str]) -> int:
     side = args.side or "middle"
     write_heads(args.out, listing, side, model.shape if model else None, model.times if model else None, args.single)
     how = {"lower": "rounded down", "upper": "rounded up", "middle": "rounded: no bounds"}[side]
-    say([f"{side} heads of {len(listing.steps)} steps in {args.out} ({'single' if args.single else 'double'} precision, {how}; -999.99 where there is no flow)"])
+    precision = "single" if args.single else "double"
+    say([f"{side} heads of {len(listing.steps)} steps in {args.out} ({precision} precision, {how}; -999.99 where there is no flow)"])
     return 0
 
 

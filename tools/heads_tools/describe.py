@@ -11,7 +11,8 @@ def describe(model: Model) -> list[str]:
     deck, active = model.deck, model.ibound != 0
     nlay, nrow, ncol = model.shape
     out = [f"{deck.path.name}: {nlay} layers, {nrow} rows, {ncol} columns: {deck.cells} cells",
-           f"  IBOUND: {int((model.ibound > 0).sum())} above 0, {int((model.ibound < 0).sum())} below 0 (constant), {int((model.ibound == 0).sum())} without flow",
+           f"  IBOUND: {int((model.ibound > 0).sum())} above 0, {int((model.ibound < 0).sum())} below 0 (constant), "
+           f"{int((model.ibound == 0).sum())} without flow",
            f"  units (not converted): {model.length}, {model.time} (LENUNI {deck.lenuni}, ITMUNI {deck.itmuni})",
            f"  DELR {span(model.delr)}, in all {model.delr.sum():.6g}; DELC {span(model.delc)}, in all {model.delc.sum():.6g}",
            f"  top of layer 1: {span(model.top[active.any(axis=0)])}"]
@@ -29,7 +30,8 @@ def describe(model: Model) -> list[str]:
         out.append(f"  {kind}: " + " ".join(list_text(kind, p, entries) for p, entries in enumerate(lists, 1) if p <= 12) + (" .." if len(lists) > 12 else ""))
     for kind, areal in deck.areal.items():
         out.append(f"  {kind}: option {areal.option}; " + " ".join(
-            f"[{p}: " + ("; ".join(f"{n} {span(a.floats())}" for n, a in arrays.items()) or "as before") + "]" for p, (_, arrays) in enumerate(areal.periods, 1) if p <= 12))
+            f"[{p}: " + ("; ".join(f"{n} {span(a.floats())}" for n, a in arrays.items()) or "as before") + "]"
+            for p, (_, arrays) in enumerate(areal.periods, 1) if p <= 12))
     return out
 
 

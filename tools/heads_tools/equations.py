@@ -109,10 +109,11 @@ class Step:
         self.drn_level, self.drn_c = drn.T
         self.evt_at, evt = self.areal("EVT")
         self.evt_c, self.evt_surf, self.evt_ext = evt.T
-        self.conductance = self.link_sum + self.sum(self.at, self.c) + self.sum(self.riv_at, self.riv_c) + self.sum(self.drn_at, self.drn_c) + self.sum(self.evt_at, self.evt_c)
+        bounded = self.sum(self.riv_at, self.riv_c) + self.sum(self.drn_at, self.drn_c)
+        self.conductance = self.link_sum + self.sum(self.at, self.c) + bounded + self.sum(self.evt_at, self.evt_c)
         rounded = self.term == TERMS["HEAD DEP BOUNDS"]
         # What the rounding of the deck's own heads to 10^-9 can cost, by conductance.
-        self.input_c = self.sum(self.at[rounded], self.c[rounded]) + self.sum(self.riv_at, self.riv_c) + self.sum(self.drn_at, self.drn_c) + 2 * self.sum(self.evt_at, self.evt_c)
+        self.input_c = self.sum(self.at[rounded], self.c[rounded]) + bounded + 2 * self.sum(self.evt_at, self.evt_c)
 
     def sum(self, at: np.ndarray, values: np.ndarray) -> np.ndarray:
         """The sums of entries' values by variable cell."""

@@ -16,10 +16,10 @@ from .program import TOP, call, digits_of, run, sha256, version
 from .spelling import quoted_words
 from .text import Problem, on_disk, read_text, whole_file, words
 
-MAY_SAY = "Each exact solution of the finite-difference equations of this deck has, at each cell with flow and at the end of each step, a head between the two listed numbers, and each of its budget flows lies between the two listed ones."
+MAY_SAY = ("The finite-difference equations of this deck have exactly one solution (up to the heads of cells without flow). It has, at each cell "
+           "with flow and at the end of each step, a head between the two listed numbers, and each of its budget flows lies between the two listed ones.")
 MAY_NOT_SAY = ["The head in the aquifer lies between these numbers. (The listing speaks of the model's equations and not of the ground.)",
                "MODFLOW's printed heads lie between these numbers. (`heads-tools compare` says how far they are off.)",
-               "The model has a solution. (Where it has none, the sentence above says nothing.)",
                "The pictures and rounded tables are proved. (They are made from the listing by tools that aren't.)"]
 MOST_RECHECK_CELLS = 200_000
 
@@ -68,12 +68,15 @@ def exhibit(nam: Path, folder: Path, options: list[str]) -> int:
         lines += more + ["", *look(read_listing(listing), folder / "look", read_model(deck / nam.name))]
     else:
         lines += meaning.lines
-    lines += ["", "program", *("  " + line for line in version().lines), f"  heads-tools {__version__}, Python {sys.version.split()[0]} (not proved)", ""]
-    if meaning.is_good and status == 0:
-        lines += ["What may be said:", f"  {MAY_SAY}", "What may not be said:", *(f"  - {t}" for t in MAY_NOT_SAY)]
+    known = version()
+    lines += ["", "program", *("  " + line for line in known.lines), f"  heads-tools {__version__}, Python {sys.version.split()[0]} (not proved)", ""]
+    if meaning.is_good and status == 0 and known.is_recorded is not False:
+        condition = "" if known.is_recorded else ", if the program is a proved one (no record of its bytes stands beside it)"
+        lines += [f"What may be said{condition}:", f"  {MAY_SAY}", "What may not be said:", *(f"  - {t}" for t in MAY_NOT_SAY)]
     else:
         lines += ["Nothing may be said of this model's heads from this run."]
-    lines += ["", "sha256 of each file", *(f"  {sha256(p)}  {p.relative_to(folder)}" for p in sorted(folder.rglob("*")) if p.is_file() and p.name != "EXHIBIT.txt")]
+    files = [p for p in sorted(folder.rglob("*")) if p.is_file() and p.name != "EXHIBIT.txt"]
+    lines += ["", "sha256 of each file", *(f"  {sha256(p)}  {p.relative_to(folder)}" for p in files)]
     with whole_file(folder / "EXHIBIT.txt") as file:
         file.write("\n".join(lines) + "\n")
     print("\n".join(lines))

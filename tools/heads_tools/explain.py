@@ -9,12 +9,13 @@ from .advice import NO_BOUNDS, ONLY_PRINT, OTHER_PACKAGES, REFUSALS, REMEDIES, U
 from .text import on_disk, read_text, words
 
 STATUSES = {
-    "USAGE:": (1, "The words weren't taken.", "Commands: run NAME, check NAME LISTING, make SEED SIZE, batch LIST; --digits 0 to 18, --workers 1 to 64, --rounds 1 to 4000000000, "
-               "--zones FILE, --watch 1 to 1000. A program older than --zones, --watch or batch answers them so too."),
+    "USAGE:": (1, "The words weren't taken.", "Commands: run NAME, check NAME LISTING, make SEED SIZE, batch LIST; --digits 0 to 18, --workers 1 to 64, "
+               "--rounds 1 to 4000000000, --zones FILE, --watch 1 to 1000. A program older than --zones, --watch or batch answers them so too."),
     "UNFINISHED": (4, "Period {0}, step {1} needs more rounds than were allowed.", "Leave --rounds out; or `heads-tools certify`, which needs no rounds."),
     "READFAULT": (5, "A file could not be read.", "Look at its permissions, and at the disk."),
     "MEMORY": (7, "There was too little memory.", "Close other programs, or take a machine with more memory; fewer --workers need a little less."),
-    "NOT": (8, "The listing isn't a certificate: period {1} step {2}, {3} is the first place that fails.", "Its margin there is too small, or its model has changed. `heads-tools certify` makes margins that hold."),
+    "NOT": (8, "The listing isn't a certificate: period {1} step {2}, {3} is the first place that fails.",
+            "Its margin there is too small, or its model has changed. `heads-tools certify` makes margins that hold."),
 }
 
 
@@ -64,7 +65,8 @@ def explain(last: str, folder: Path, digits: int = 12, has_steps: bool = False) 
     if not w:
         return Meaning(6, False, ["Nothing was written: a write failed (is the disk full?), or the run was stopped."])
     if last in ("END", "CERTIFIED"):
-        return Meaning(0, True, ["The run ended well (END)." if last == "END" else "CERTIFIED: every exact solution of the deck's equations lies within the listing."])
+        said = {"END": "The run ended well (END).", "CERTIFIED": "CERTIFIED: every exact solution of the deck's equations lies within the listing."}
+        return Meaning(0, True, [said[last]])
     if w[0] == "REFUSED" and len(w) >= 5 and w[1].isdigit() and int(w[1]) in REFUSALS:
         return Meaning(2, False, refusal(int(w[1]), w[2], w[3], w[4], w[5:8], folder))
     if w[0] == "NOBOUND" and len(w) >= 5 and w[1].isdigit() and int(w[1]) in NO_BOUNDS:
@@ -82,7 +84,8 @@ def no_bound(code: int, word: str, period: str, step: str, place: list[str], dig
     if has_steps:
         out.append("     The steps before it stand in the output, but nothing is promised of a run that doesn't end with END.")
     if code == 21:
-        more = f"Run with more digits, as --digits {min(18, digits + 3)}. Or make the cell inactive, if so small a conductivity was a marker." if digits < 18 else "18 digits are the most. Make the cell inactive, if so small a conductivity was a marker."
+        more = f"Run with more digits, as --digits {min(18, digits + 3)}. Or make" if digits < 18 else "18 digits are the most. Make"
+        more += " the cell inactive, if so small a conductivity was a marker."
     elif code in (22, 23):
         fewer = max(0, digits - 3)
         more = (f"Run with fewer digits: --digits {fewer} has room for conductances up to {1.15e18 / 10**fewer:.3g} at a cell. " if digits else "") + \
@@ -121,7 +124,8 @@ def kind_of(folder: Path, file: str) -> str:
 
 def advice(code: int, spot: Spot, folder: Path) -> str:
     """What to change for a refusal."""
-    special = {1: missing, 3: lambda s, f: "Rename the file, without blanks (`heads-tools plain` does).", 6: package, 9: bad_number, 10: many_digits, 11: profile, 12: grid, 13: control}
+    special = {1: missing, 3: lambda s, f: "Rename the file, without blanks (`heads-tools plain` does).", 6: package,
+               9: bad_number, 10: many_digits, 11: profile, 12: grid, 13: control}
     return special[code](spot, folder) if code in special else REMEDIES.get(code, "")
 
 
@@ -163,14 +167,16 @@ def bad_number(spot: Spot, folder: Path) -> str:
             return f"`{word}` is a Fortran exponent without a letter: write an E before the last sign (`heads-tools plain` does)."
         exponent = re.fullmatch(r"[+-]?[0-9.]+[EeDd]([+-]?\d+)", word)
         if exponent and abs(int(exponent[1])) > 40:
-            return f"`{word}`: exponents go from -40 to 40. As HNOFLO or HDRY it is only a marker: any other number will do (`heads-tools plain` writes -999.99)."
+            return (f"`{word}`: exponents go from -40 to 40. As HNOFLO or HDRY it is only a marker: "
+                    "any other number will do (`heads-tools plain` writes -999.99).")
         if re.fullmatch(r"\d+\.\d*", word) and spot.item == 1 and spot.kind not in ("BAS6", ""):
             return f"`{word}` is a count: write it without a point (MODFLOW refuses it, too)."
     if spot.first == "NOPRINT":
         return "Options stand after the count, on the same line."
     if spot.first in ("CONSTANT", "INTERNAL", "OPEN/CLOSE"):
         return f"The array before line {spot.line} has too few values (or leaves one out by `,,`): count the values of its rows."
-    return "If the word looks right, a value is missing further up: values run on over lines. In columns of fixed width numbers may touch (`heads-tools plain` reads them)."
+    return ("If the word looks right, a value is missing further up: values run on over lines. "
+            "In columns of fixed width numbers may touch (`heads-tools plain` reads them).")
 
 
 def many_digits(spot: Spot, folder: Path) -> str:
@@ -187,7 +193,8 @@ def profile(spot: Spot, folder: Path) -> str:
         return "BAS6 lacks the option FREE, so the deck is in columns of fixed width: `heads-tools plain` reads and rewrites it."
     if spot.kind == "LPF" and spot.item in (1, 2, 3, 6):
         return {1: "LPF has parameters (its third number is above 0): load the model in FloPy and write it again, which writes their values.",
-                2: "LAYTYP: every layer is confined (0) here. A convertible layer is another model, whose transmissivity changes with the head: to make it confined is your decision, not a spelling.",
+                2: "LAYTYP: every layer is confined (0) here. A convertible layer is another model, whose transmissivity changes "
+                   "with the head: to make it confined is your decision, not a spelling.",
                 3: "LAYAVG: only the harmonic mean (0) is read.", 6: "LAYWET: no wetting in confined layers; write 0."}[spot.item]
     if spot.kind == "DIS" and spot.item <= 3:
         return "LAYCBD of the last layer is 0: there is no layer below its bed."
@@ -204,7 +211,8 @@ def profile(spot: Spot, folder: Path) -> str:
     if any(w.startswith(("(", "'(")) and w != "(FREE)" for w in all_words):
         return "Only (FREE), without quotes, is read, and no columns of fixed width (`heads-tools plain` rewrites it)."
     if spot.kind == "CHD":
-        return "A steady period of several steps with a TSMULT that isn't 1 and given heads that change within it: MODFLOW's times of its steps differ from the deck's; set TSMULT to 1."
+        return ("A steady period of several steps with a TSMULT that isn't 1 and given heads that change within it: "
+                "MODFLOW's times of its steps differ from the deck's; set TSMULT to 1.")
     if spot.kind in ("RCH", "EVT") and spot.item == 1:
         return "The option is 1, 2 or 3."
     return "Parameters (a second number above 0)? Load the model in FloPy and write it again."
@@ -212,9 +220,12 @@ def profile(spot: Spot, folder: Path) -> str:
 
 def grid(spot: Spot, folder: Path) -> str:
     if spot.kind == "DIS" and spot.item == 1:
-        return "NLAY from 1 to 64, NROW and NCOL from 1 to 1,024, at most 65,536 cells, NPER from 1 to 1,000. A part of the model can be cut out with CHD or GHB on its edge; it is another model then."
-    return "PERLEN above 0 where transient; at most 100,000 steps in all; TSMULT from 0.001 to 1000 with at most 1,000 steps where it isn't 1; SS or TR. Widths are above 0."
+        return ("NLAY from 1 to 64, NROW and NCOL from 1 to 1,024, at most 65,536 cells, NPER from 1 to 1,000. "
+                "A part of the model can be cut out with CHD or GHB on its edge; it is another model then.")
+    return ("PERLEN above 0 where transient; at most 100,000 steps in all; "
+            "TSMULT from 0.001 to 1000 with at most 1,000 steps where it isn't 1; SS or TR. Widths are above 0.")
 
 
 def control(spot: Spot, folder: Path) -> str:
-    return "A record in fixed columns (LOCAT CNSTNT FMTIN) isn't read: `heads-tools plain` rewrites it. Or the array before it has more values than its grid: count them."
+    return ("A record in fixed columns (LOCAT CNSTNT FMTIN) isn't read: `heads-tools plain` rewrites it. "
+            "Or the array before it has more values than its grid: count them.")

@@ -42,7 +42,7 @@ def inside(nam: Path, most: int = 12) -> Verdict:
         out.append(f"NOT INSIDE, for {len(report.refusals)} reason{'s' * (len(report.refusals) > 1)}:")
         out += listed(report.refusals, most)
     elif report.needed:
-        out.append("INSIDE AFTER `heads-tools plain`, which would change:" if not report.blocking else "NOT INSIDE AS IT IS, and `heads-tools plain` would change:")
+        out.append("NOT INSIDE AS IT IS, and `heads-tools plain` would change:" if report.blocking else "INSIDE AFTER `heads-tools plain`, which would change:")
     else:
         out.append("INSIDE as it is")
     if report.needed:
@@ -50,7 +50,8 @@ def inside(nam: Path, most: int = 12) -> Verdict:
             out.append("`heads-tools plain` could change:")
         out += listed(report.needed, most)
     if report.precise:
-        report.add("warnings", report.first_precise, 0, f"{report.precise} numbers have more than seven digits: MODFLOW-2005 keeps 24 bits of each, `heads` all digits, so perfect heads of MODFLOW can lie outside the pairs")
+        report.add("warnings", report.first_precise, 0, f"{report.precise} numbers have more than seven digits: "
+                   "MODFLOW-2005 keeps 24 bits of each, `heads` all digits, so perfect heads of MODFLOW can lie outside the pairs")
     warnings = report.blocking + report.warnings
     if warnings:
         out.append("CAREFUL:")
@@ -69,8 +70,10 @@ def listed(remarks: list, most: int) -> list[str]:
 def look_at_cells(model: Model, report: Report) -> None:
     """Values that the program refuses in cells with flow."""
     deck, active = model.deck, model.ibound != 0
-    tests = [("DIS", "its top isn't above its bottom", model.thick <= 0), ("LPF", "HK isn't above 0 (MODFLOW makes such a cell inactive: write IBOUND 0)", model.hk <= 0),
-             ("LPF", "HANI isn't above 0", model.hani <= 0), ("LPF", "SS is below 0", model.ss < 0), ("BAS6", "STRT is past 4,000,000,000", np.abs(model.strt) > 4e9)]
+    tests = [("DIS", "its top isn't above its bottom", model.thick <= 0),
+             ("LPF", "HK isn't above 0 (MODFLOW makes such a cell inactive: write IBOUND 0)", model.hk <= 0),
+             ("LPF", "HANI isn't above 0", model.hani <= 0), ("LPF", "SS is below 0", model.ss < 0),
+             ("BAS6", "STRT is past 4,000,000,000", np.abs(model.strt) > 4e9)]
     if model.shape[0] > 1:
         tests.append(("LPF", "VKA isn't above 0", model.vk <= 0))
         below = np.zeros_like(active)
@@ -90,11 +93,13 @@ def look_at_entries(model: Model, report: Report) -> None:
         for p, entries in enumerate(periods, 1):
             seen: set[tuple[int, int, int]] = set()
             for e in entries or []:
-                heads = [float(w.replace("D", "E").replace("d", "e")) for n, w in enumerate(e.words) if (kind, n) not in (("WEL", 0), ("RIV", 1), ("DRN", 1), ("GHB", 1))]
+                no_heads = ("WEL", 0), ("RIV", 1), ("DRN", 1), ("GHB", 1)
+                heads = [float(w.replace("D", "E").replace("d", "e")) for n, w in enumerate(e.words) if (kind, n) not in no_heads]
                 if any(abs(h) > 4e9 for h in heads):
                     report.add("refusals", e.file, e.line, "a head or an elevation past 4,000,000,000")
                 if kind == "CHD" and model.ibound.flat[model.index(e.cell)] == 0:
-                    report.add("warnings", e.file, e.line, "CHD in a cell without flow (IBOUND 0): MODFLOW-2005 stops here, for `heads` the entry has no effect")
+                    report.add("warnings", e.file, e.line, "CHD in a cell without flow (IBOUND 0): "
+                               "MODFLOW-2005 stops here, for `heads` the entry has no effect")
                 if kind == "CHD" and e.cell in seen:
                     report.add("refusals", e.file, e.line, "the cell stands twice in this CHD list (MODFLOW-2005 adds the two heads)")
                 seen.add(e.cell)

@@ -199,7 +199,8 @@ class Reader:
         nlay, nrow, ncol, nper, deck.itmuni, deck.lenuni = (s.integer(x, "a count") for x in w[:6])
         over = [text for is_bad, text in (
             (not 1 <= nlay <= 64, "NLAY from 1 to 64"), (not (1 <= nrow <= 1024 and 1 <= ncol <= 1024), "NROW and NCOL from 1 to 1,024"),
-            (nlay * nrow * ncol > 65536, f"at most 65,536 cells in all (these are {nlay * nrow * ncol:,})"), (not 1 <= nper <= 1000, "NPER from 1 to 1,000")) if is_bad]
+            (nlay * nrow * ncol > 65536, f"at most 65,536 cells in all (these are {nlay * nrow * ncol:,})"),
+            (not 1 <= nper <= 1000, "NPER from 1 to 1,000")) if is_bad]
         if over:
             self.refuse("`heads` takes " + "; ".join(over))
         deck.nlay, deck.nrow, deck.ncol = nlay, nrow, ncol
@@ -271,7 +272,8 @@ class Reader:
             if at in (0, 1, 4) and any(float(x) for x in rows[at]):
                 layers = " ".join(str(k + 1) for k, x in enumerate(rows[at]) if float(x))
                 self.refuse({"LAYTYP": f"LAYTYP of layer {layers} isn't 0: a convertible layer is another model, whose transmissivity changes with the head. "
-                             "To make it confined is your decision, not a spelling", "LAYAVG": f"LAYAVG of layer {layers} isn't 0: only the harmonic mean is read",
+                             "To make it confined is your decision, not a spelling",
+                   "LAYAVG": f"LAYAVG of layer {layers} isn't 0: only the harmonic mean is read",
                              "LAYWET": f"LAYWET of layer {layers} isn't 0: no wetting in confined layers"}[name])
         if any(float(x) for x in rows[4]):
             s.line()

@@ -12,8 +12,9 @@ h1{font-size:1.4em}h2{font-size:1.1em;margin-top:1.6em;border-bottom:1px solid #
 img{max-width:100%}figure{margin:0.6em 0}figcaption{color:#555;font-size:0.9em}
 table{border-collapse:collapse;font-variant-numeric:tabular-nums}td,th{padding:0.15em 0.8em;border-bottom:1px solid #e3e3e3;text-align:right}
 td:first-child,th:first-child{text-align:left}.note{color:#555;font-size:0.9em}"""
-NOTE = ("The pairs in heads.csv and budget.csv are those of the listing, which `heads` wrote and its proof speaks of. Pictures, rounded numbers and this page are "
-        "made by heads-tools, which isn't proved; it rounds lower numbers down and upper ones up. The pairs enclose every exact solution of the deck's equations; they say nothing of the aquifer itself.")
+NOTE = ("The pairs in heads.csv and budget.csv are those of the listing, which `heads` wrote and its proof speaks of. "
+        "Pictures, rounded numbers and this page are made by heads-tools, which isn't proved; it rounds lower numbers down and upper ones up. "
+        "The pairs enclose every exact solution of the deck's equations; they say nothing of the aquifer itself.")
 
 
 @dataclass
@@ -29,7 +30,9 @@ class Page:
 
     def picture(self, room: str, name: str, caption: str) -> None:
         svg = name.rsplit(".", 1)[0] + ".svg"
-        self.rooms.setdefault(room, []).append(f'<figure><img src="{escape(name)}" alt="{escape(caption)}"><figcaption>{escape(caption)} (<a href="{escape(svg)}">SVG</a>)</figcaption></figure>')
+        about = f'{escape(caption)} (<a href="{escape(svg)}">SVG</a>)'
+        picture = f'<figure><img src="{escape(name)}" alt="{escape(caption)}"><figcaption>{about}</figcaption></figure>'
+        self.rooms.setdefault(room, []).append(picture)
 
     def table(self, room: str, head: list[str], rows: list[list[str]]) -> None:
         line = lambda cells, tag: "<tr>" + "".join(f"<{tag}>{escape(c)}</{tag}>" for c in cells) + "</tr>"
@@ -42,5 +45,6 @@ def write_page(page: Page, folder: Path) -> None:
     rooms = "".join(f"<h2>{escape(room)}</h2>" + "".join(parts) for room, parts in page.rooms.items())
     with whole_file(folder / "index.html") as file:
         file.write(f'<!doctype html><html lang="en"><meta charset="utf-8"><title>{escape(page.title)}</title><style>{STYLE}</style>'
-                   f"<h1>{escape(page.title)}</h1><ul>{said}</ul>{rooms}<h2>Files</h2><p><a href=\"heads.csv\">heads.csv</a>, <a href=\"budget.csv\">budget.csv</a>"
+                   f"<h1>{escape(page.title)}</h1><ul>{said}</ul>{rooms}<h2>Files</h2><p>"
+                   f"<a href=\"heads.csv\">heads.csv</a>, <a href=\"budget.csv\">budget.csv</a>"
                    f'{", <a href=zones.csv>zones.csv</a>" if (folder / "zones.csv").exists() else ""}</p><p class="note">{escape(NOTE)}</p></html>\n')

@@ -11,7 +11,9 @@ import matplotlib.pyplot as plt  # noqa: E402
 import numpy as np  # noqa: E402
 from matplotlib.collections import PolyCollection  # noqa: E402
 from matplotlib.colors import LogNorm, Normalize  # noqa: E402
+from matplotlib.ticker import MaxNLocator  # noqa: E402
 
+MOST_LABELS = 24
 HEADS_MAP, WIDTH_MAP, ERROR_MAP, NO_FLOW = "viridis", "magma_r", "cividis_r", "0.85"
 MARKS = {"WEL": ("v", "crimson", "well"), "RIV": ("s", "royalblue", "river"), "DRN": ("s", "seagreen", "drain"),
          "GHB": ("s", "darkorange", "general head"), "CHD": ("s", "purple", "given head")}
@@ -69,20 +71,22 @@ def draw_map(axes: plt.Axes, plan: Plan, values: np.ndarray, title: str, label: 
     low, high = (np.nanmin(values), np.nanmax(values)) if np.isfinite(values).any() else (0, 0)
     if not is_width and min(values.shape) > 1 and high - low > 1e-9 * max(abs(high), 1):
         lines = axes.contour(*plan.middles, values, levels=8, colors="k", linewidths=0.5)
-        axes.clabel(lines, fontsize=6, fmt="%g")
+        if sum(map(len, lines.allsegs)) <= MOST_LABELS:
+            axes.clabel(lines, fontsize=6, fmt="%g")
     for kind, (mark, colour, _) in MARKS.items():
         spots = sorted({(i, j) for k, i, j in plan.entries.get(kind, []) if k == layer})
         if spots and not is_width and len(spots) < values.size / 3:
             x, y = plan.middles
-            axes.plot([x[j - 1] for _, j in spots], [y[i - 1] for i, _ in spots], mark, color=colour, ms=3, mew=0)
+            axes.plot([x[j - 1] for _, j in spots], [y[i - 1] for i, _ in spots], mark, color=colour, ms=3.4, mec="white", mew=0.4, zorder=3)
     axes.set_title(title)
     spans = (plan.x[-1], plan.y[0])
     axes.set_aspect("equal" if 0.2 < spans[0] / spans[1] < 5 else "auto")
     axes.set_xlabel(plan.unit)
     axes.tick_params(labelsize=7)
-    bar = axes.figure.colorbar(mesh, ax=axes, orientation="horizontal", pad=0.02, shrink=0.9, aspect=28)
+    few = {} if isinstance(mesh.norm, LogNorm) else {"ticks": MaxNLocator(5)}
+    bar = axes.figure.colorbar(mesh, ax=axes, orientation="horizontal", pad=0.02, shrink=0.9, aspect=28, **few)
     bar.set_label(label, fontsize=8)
-    bar.ax.tick_params(labelsize=7, rotation=30)
+    bar.ax.tick_params(labelsize=7)
     bar.formatter.set_powerlimits((-3, 5)) if hasattr(bar.formatter, "set_powerlimits") else None
     bar.ax.xaxis.get_offset_text().set_fontsize(7)
 

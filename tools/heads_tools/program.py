@@ -58,7 +58,8 @@ def version() -> Version:
     script = TOP / "scripts" / "program_sources"
     if binary == TOP / "dist" / "heads" and script.is_file():
         now = subprocess.run([script], capture_output=True, text=True).stdout.strip()
-        lines.append("the checkout's sources are those it was built from" if now == noted.get("sources") else "the checkout's sources have changed since it was built")
+        is_current = now == noted.get("sources")
+        lines.append("the checkout's sources are those it was built from" if is_current else "the checkout's sources have changed since it was built")
     return Version(lines, is_same)
 
 

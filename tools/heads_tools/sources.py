@@ -175,7 +175,8 @@ def read_binary(path: Path, count: int, at: int, is_rest: bool) -> tuple[np.ndar
         for marks in (0, 4):
             for header in (0, 36 + 2 * size):
                 total = (header + 2 * marks if header else 0) + count * size + 2 * marks
-                named = not header or raw[marks + 8 + 2 * size:marks + 24 + 2 * size].isascii() and raw[marks + 8 + 2 * size:marks + 24 + 2 * size].strip().isalpha()
+                name = raw[marks + 8 + 2 * size:marks + 24 + 2 * size]
+                named = not header or name.isascii() and name.strip().isalpha()
                 marked = not marks or raw[:4] == (header or count * size).to_bytes(4, "little")
                 if named and marked and (total == len(raw) if is_rest else header and total <= len(raw)):
                     fits.append((size, dtype, total - count * size - marks, total))

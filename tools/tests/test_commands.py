@@ -116,6 +116,20 @@ def test_batch_collects_the_ends(example, tool, tmp_path):
     assert status == 0 and "parallel --jobs" in (tmp_path / "list.parallel.sh").read_text()
 
 
+@pytest.mark.program
+def test_a_listing_from_before_is_not_taken_for_a_run(ran, tool, tmp_path, monkeypatch):
+    nam, listing = ran("three_cells")
+    sbatch = tmp_path / "bin" / "sbatch"
+    sbatch.parent.mkdir()
+    sbatch.write_text("#!/bin/sh\necho 'no node has 4 processors' >&2\nexit 1\n")
+    sbatch.chmod(0o755)
+    monkeypatch.setenv("PATH", str(sbatch.parent), prepend=":")
+    (tmp_path / "list.txt").write_text("three_cells/a.nam\n")
+    status, out, err = tool("batch", tmp_path / "list.txt", "--slurm")
+    assert status == 6 and "a.nam: END" not in out and "no node has 4 processors" in err, out + err
+    assert listing.is_file()
+
+
 def test_a_batch_of_the_program_is_parted_by_model(tmp_path):
     from heads_tools.batch import Job, split_batch
 
@@ -129,8 +143,10 @@ def test_model_tells_what_was_read(example, tool):
     assert status == 0 and "3 layers, 15 rows, 15 columns: 675 cells" in out and "VKCB 0.001" in out and "WEL: [1: 1 entries" in out
 
 
-@pytest.mark.parametrize("words", [["look", "nothing.heads", "out"], ["run", "nothing.nam"], ["inside", "."], ["compare", "nothing", "nothing"], ["explain", "nothing"], ["plain", "nothing.nam", "out"],
-                                   ["hds", "nothing", "x.hds"], ["model", "nothing.nam"], ["batch", "nothing.txt"], ["certify", "nothing.nam", "x"], ["exhibit", "nothing.nam", "out"], ["grow"]])
+@pytest.mark.parametrize("words", [
+    ["look", "nothing.heads", "out"], ["run", "nothing.nam"], ["inside", "."], ["compare", "nothing", "nothing"], ["explain", "nothing"],
+    ["plain", "nothing.nam", "out"], ["hds", "nothing", "x.hds"], ["model", "nothing.nam"], ["batch", "nothing.txt"],
+    ["certify", "nothing.nam", "x"], ["exhibit", "nothing.nam", "out"], ["grow"]])
 def test_bad_input_gets_a_sentence(words, tool, tmp_path, monkeypatch):
     monkeypatch.chdir(tmp_path)
     status, out, err = tool(*words)
@@ -153,8 +169,9 @@ def test_explain_has_a_sentence_for_each_code(code, tmp_path, tool):
     assert status == (2 if code <= 20 else 3) and len(out) > 60 and "  -> " in out
 
 
-@pytest.mark.parametrize("last, status", [("END", 0), ("CERTIFIED", 0), ("USAGE: heads run NAME", 1), ("UNFINISHED 1 2", 4), ("READFAULT", 5), ("", 6), ("HEAD 1 1 1 0.0", 6), ("MEMORY", 7),
-                                          ("NOT CERTIFIED 1 1 1 1 2 LOW", 8), ("NOT CERTIFIED 1 1 IN RIVER LEAKAGE", 8), ("NOBOUND 23 FlowTooLarge 1 1 ZONE 1 2", 3)])
+@pytest.mark.parametrize("last, status", [
+    ("END", 0), ("CERTIFIED", 0), ("USAGE: heads run NAME", 1), ("UNFINISHED 1 2", 4), ("READFAULT", 5), ("", 6), ("HEAD 1 1 1 0.0", 6), ("MEMORY", 7),
+    ("NOT CERTIFIED 1 1 1 1 2 LOW", 8), ("NOT CERTIFIED 1 1 IN RIVER LEAKAGE", 8), ("NOBOUND 23 FlowTooLarge 1 1 ZONE 1 2", 3)])
 def test_explain_has_a_sentence_for_each_status(last, status, tmp_path, tool):
     (tmp_path / "out").write_text(last + "\n" if last else "")
     got, out, err = tool("explain", tmp_path / "out")

@@ -10,7 +10,8 @@ from heads_tools.listing import Step
 from heads_tools.text import Problem, decimal_text, down, short_down, short_up, signed_down, signed_up, up
 
 
-@pytest.mark.parametrize("word, value", [("1", 1), ("-.5", Decimal("-0.5")), ("1.D2", 100), ("1.0+02", 100), ("2.5-3", Decimal("0.0025")), ("1e-20", Decimal("1e-20"))])
+@pytest.mark.parametrize("word, value", [
+    ("1", 1), ("-.5", Decimal("-0.5")), ("1.D2", 100), ("1.0+02", 100), ("2.5-3", Decimal("0.0025")), ("1e-20", Decimal("1e-20"))])
 def test_spellings_of_numbers(word, value):
     assert exact(word) == value
 
@@ -31,7 +32,9 @@ def test_products_are_exact():
     assert Decimal(product("0.1", "3e5").text) == 30000
 
 
-@pytest.mark.parametrize("text, line, values", [("(3F4.1)", " 1.5  202.25", ["1.5", "2", "2.25"]), ("(2I3)", " -1  4", ["-1", "4"]), ("(1P2E9.2)", " 1.50E+01     2.5", ["15", "0.25"]), ("(3F4.0)", "  1", ["1", "0", "0"])])
+@pytest.mark.parametrize("text, line, values", [
+    ("(3F4.1)", " 1.5  202.25", ["1.5", "2", "2.25"]), ("(2I3)", " -1  4", ["-1", "4"]), ("(1P2E9.2)", " 1.50E+01     2.5", ["15", "0.25"]),
+    ("(3F4.0)", "  1", ["1", "0", "0"])])
 def test_fields_of_fixed_width(text, line, values):
     fields = fortran(text)
     assert [Fraction(exact(fields.of(line, n))) for n in range(len(values))] == [Fraction(v) for v in values]

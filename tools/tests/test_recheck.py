@@ -52,7 +52,9 @@ def test_it_names_the_place_that_the_program_names(seed, example):
 
 
 @pytest.mark.program
-@pytest.mark.parametrize("spoil", [lambda l: l[:-2], lambda l: l[:3] + l[4:], lambda l: l[:4] + [l[4][:-1]] + l[5:], lambda l: [l[0].replace("12", "11")] + l[1:], lambda l: l[:-1] + ["END", ""]])
+@pytest.mark.parametrize("spoil", [
+    lambda l: l[:-2], lambda l: l[:3] + l[4:], lambda l: l[:4] + [l[4][:-1]] + l[5:],
+    lambda l: [l[0].replace("12", "11")] + l[1:], lambda l: l[:-1] + ["END", ""]])
 def test_it_refuses_another_form(spoil, example):
     nam = example("three_cells")
     lines = heads(["run", nam.name], nam.parent).stdout.split("\n")
