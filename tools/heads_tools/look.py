@@ -77,9 +77,11 @@ class Look:
 
     @property
     def place(self) -> tuple[int, int]:
-        """The row and the column of the cell whose head is farthest from the mean in the last step."""
-        low = self.listing.steps[-1].low.astype(float)
-        _, i, j = self.listing.cells[int(np.abs(low - low.mean()).argmax())]
+        """The row and the column of the cell whose head is farthest from the mean in the last step, of those whose head
+        isn't known from the start."""
+        last = self.listing.steps[-1]
+        low, is_open = last.low.astype(float), last.width() > 0
+        _, i, j = self.listing.cells[int((np.abs(low - low.mean()) * (is_open | ~is_open.any())).argmax())]
         return int(i), int(j)
 
     def draw_section(self, step: Step, row: int, col: int) -> None:
