@@ -73,7 +73,7 @@ class Look:
         curves = [(f"layer {k + 1}", lower[k].ravel(), upper[k].ravel()) for k in chosen]
         path, title = self.folder / f"profile_p{step.period}_s{step.step}", f"Heads along the model, {self.when(step)}"
         name = pictures.band(path, along, curves, f"distance, {self.unit}", self.unit, title)
-        self.page.picture("Profiles", name, self.when(step))
+        self.page.picture("Profiles", name, title)
 
     @property
     def place(self) -> tuple[int, int]:
