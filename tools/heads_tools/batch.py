@@ -86,7 +86,7 @@ def collect(jobs: list[Job], before: list[tuple[int, int] | None], options: list
             steps = cells = width = ""
             if meaning.is_good:
                 listing = read_listing(job.listing)
-                steps, cells, width = len(listing.steps), len(listing.cells), decimal_text(listing.widest()[0], 9)
+                steps, cells, width = len(listing.steps), len(listing.cells), decimal_text(listing.widest()[0] if len(listing.cells) else 0, 9)
             file.write(f"{job.name},{meaning.status},{last[:100]},{steps},{cells},{width}\n")
             good = meaning.is_good and f"END, {counted(steps, 'step')} of {counted(cells, 'cell')}, widest pair {width}"
             print(f"{job.name}: {good or meaning.lines[0]}")

@@ -87,6 +87,8 @@ class Listing:
         return out
 
     def summary(self) -> str:
+        if not len(self.cells):
+            return f"{counted(len(self.steps), 'step')} without a cell with flow"
         width, step, cell = self.widest()
         return (f"{counted(len(self.steps), 'step')} of {counted(len(self.cells), 'cell')}; widest pair {decimal_text(width, 9)} "
                 f"(period {step.period} step {step.step}, layer row column {' '.join(map(str, cell))})")

@@ -24,6 +24,8 @@ class Look:
     def __init__(self, listing: Listing, folder: Path, model: Model | None, cells: list[Cell] = ()):
         if not listing.steps:
             raise Problem(f"{listing.path} has no whole step: it ends with {listing.end or 'a part of a step'}")
+        if not len(listing.cells):
+            raise Problem(f"{listing.path} has no cell with flow: there is nothing to draw")
         self.listing, self.folder, self.model, self.cells = listing, folder, model, list(cells)
         self.shape = model.shape if model else listing.shape
         if any(a > b for a, b in zip(listing.shape, self.shape)):

@@ -160,8 +160,8 @@ def band(path: Path, x: np.ndarray, curves: list[tuple[str, np.ndarray, np.ndarr
     axes[1].set(ylabel=f"width, {unit}", xlabel=xlabel)
     most = max(float(np.max(high - low)) for _, low, high in curves)
     axes[1].set_ylim(0, 1.08 * most if most > 0 else 1e-9)
-    if any(name for name, _, _ in curves):
-        axes[0].legend(fontsize=7)
+    columns = max(1, 100 // (8 + max(len(name) for name, _, _ in curves)))
+    axes[0].legend(fontsize=7, loc="lower right", bbox_to_anchor=(1, 1), ncol=columns, frameon=False)
     figure.suptitle(title, fontsize=10)
     return save(figure, path)
 
