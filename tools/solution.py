@@ -93,7 +93,7 @@ def main(name, listing, most=200):
                     print(f"OUTSIDE: period {p + 1} step {n}, {model.place(c)}: {float(x)} isn't between {float(low[c])} and {float(high[c])}")
                     return 1
             old, longest, count = old | heads | step.constant, max(longest, digits_of(heads)), count + 1
-    print(f"FOUND: the solution of {count} steps lies between the listed heads; its longest denominator has {longest} digits")
+    print(f"FOUND: the solution of {count} step{'s' * (count != 1)} lies between the listed heads; digits of its longest denominator: {longest}")
     return 0
 
 

@@ -14,7 +14,7 @@ from pathlib import Path
 from .explain import explain
 from .listing import read_listing
 from .program import digits_of, program, run
-from .text import Problem, decimal_text, read_text, whole_file, words
+from .text import Problem, counted, decimal_text, read_text, whole_file, words
 
 MOST_JOBS = 1000
 
@@ -86,11 +86,12 @@ def collect(jobs: list[Job], before: list[tuple[int, int] | None], options: list
             steps = cells = width = ""
             if meaning.is_good:
                 listing = read_listing(job.listing)
-                steps, cells, width = len(listing.steps), len(listing.cells), decimal_text(listing.widest()[0], 9)
+                steps, cells, width = len(listing.steps), len(listing.cells), decimal_text(listing.widest()[0] if len(listing.cells) else 0, 9)
             file.write(f"{job.name},{meaning.status},{last[:100]},{steps},{cells},{width}\n")
-            print(f"{job.name}: " + (f"END, {steps} steps of {cells} cells, widest pair {width}" if meaning.is_good else meaning.lines[0]))
+            good = meaning.is_good and f"END, {counted(steps, 'step')} of {counted(cells, 'cell')}, widest pair {width}"
+            print(f"{job.name}: {good or meaning.lines[0]}")
             first = first or meaning.status
-    print(f"{len(jobs)} models; a table of their ends: {table}")
+    print(f"{counted(len(jobs), 'model')}; a table of their ends: {table}")
     return first
 
 

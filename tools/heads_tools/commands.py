@@ -4,7 +4,7 @@ from __future__ import annotations
 import argparse
 from pathlib import Path
 
-from .text import Problem
+from .text import Problem, counted
 
 MOST_DIGITS = 18
 
@@ -146,7 +146,7 @@ def do_hds(args: argparse.Namespace, _: list[str]) -> int:
     write_heads(args.out, listing, side, model.shape if model else None, model.times if model else None, args.single)
     how = {"lower": "rounded down", "upper": "rounded up", "middle": "rounded: no bounds"}[side]
     precision = "single" if args.single else "double"
-    say([f"{side} heads of {len(listing.steps)} steps in {args.out} ({precision} precision, {how}; -999.99 where there is no flow)"])
+    say([f"{side} heads of {counted(len(listing.steps), 'step')} in {args.out} ({precision} precision, {how}; -999.99 where there is no flow)"])
     return 0
 
 

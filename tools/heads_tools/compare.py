@@ -7,7 +7,7 @@ import numpy as np
 
 from .headfile import ANY_STEP, Heads
 from .listing import Listing, Step
-from .text import Problem, short_down, short_up
+from .text import Problem, counted, short_down, short_up
 
 
 @dataclass
@@ -60,7 +60,8 @@ def sentences(listing: Listing, differences: list[Difference], unit: str) -> lis
                    f"{short_up(float(np.nanmax(d.most)))} {unit}; {outside} of {int(here.sum())} cells lie outside their pair; "
                    f"the worst is layer row column {cell}{part}")
     least, most = (max(float(np.nanmax(getattr(d, name))) for d in differences) for name in ("least", "most"))
-    out.append(f"in all {len(differences)} steps: off by at least {short_down(least)} {unit} somewhere, and by at most {short_up(most)} {unit} everywhere")
+    steps = counted(len(differences), "step")
+    out.append(f"in {steps} in all: off by at least {short_down(least)} {unit} somewhere, and by at most {short_up(most)} {unit} everywhere")
     if not listing.is_whole:
         out.append("the listing doesn't end with END: its pairs are no bounds")
     return out

@@ -5,12 +5,13 @@ import numpy as np
 
 from .deck import COLUMNS
 from .model import Model, value
+from .text import counted
 
 
 def describe(model: Model) -> list[str]:
     deck, active = model.deck, model.ibound != 0
     nlay, nrow, ncol = model.shape
-    out = [f"{deck.path.name}: {nlay} layers, {nrow} rows, {ncol} columns: {deck.cells} cells",
+    out = [f"{deck.path.name}: {counted(nlay, 'layer')}, {counted(nrow, 'row')}, {counted(ncol, 'column')}: {counted(deck.cells, 'cell')}",
            f"  IBOUND: {int((model.ibound > 0).sum())} above 0, {int((model.ibound < 0).sum())} below 0 (constant), "
            f"{int((model.ibound == 0).sum())} without flow",
            f"  units (not converted): {model.length}, {model.time} (LENUNI {deck.lenuni}, ITMUNI {deck.itmuni})",
@@ -46,7 +47,7 @@ def span(values: np.ndarray) -> str:
 def periods(model: Model) -> list[str]:
     deck = model.deck
     steps = sum(p.nstp for p in deck.periods)
-    out = [f"  {len(deck.periods)} periods, {steps} steps, {sum(value(p.perlen) for p in deck.periods):.6g} {model.time} in all"]
+    out = [f"  {counted(len(deck.periods), 'period')}, {counted(steps, 'step')}, {sum(value(p.perlen) for p in deck.periods):.6g} {model.time} in all"]
     for n, p in enumerate(deck.periods[:12], 1):
         first = model.times[n, 1][0] if p.nstp else 0
         out.append(f"    period {n}: {'steady' if p.is_steady else 'transient'}, PERLEN {p.perlen}, NSTP {p.nstp}, TSMULT {p.tsmult}, first step {first:.6g}")

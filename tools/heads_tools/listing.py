@@ -7,7 +7,7 @@ from pathlib import Path
 
 import numpy as np
 
-from .text import Problem, decimal_text, read_text
+from .text import Problem, counted, decimal_text, read_text
 
 TERMS = ["STORAGE", "CONSTANT HEAD", "WELLS", "DRAINS", "RIVER LEAKAGE", "HEAD DEP BOUNDS", "RECHARGE", "ET"]
 UNITS_IN_ONE = 10**9
@@ -87,8 +87,10 @@ class Listing:
         return out
 
     def summary(self) -> str:
+        if not len(self.cells):
+            return f"{counted(len(self.steps), 'step')} without a cell with flow"
         width, step, cell = self.widest()
-        return (f"{len(self.steps)} steps of {len(self.cells)} cells; widest pair {decimal_text(width, 9)} "
+        return (f"{counted(len(self.steps), 'step')} of {counted(len(self.cells), 'cell')}; widest pair {decimal_text(width, 9)} "
                 f"(period {step.period} step {step.step}, layer row column {' '.join(map(str, cell))})")
 
 

@@ -24,6 +24,8 @@ class Look:
     def __init__(self, listing: Listing, folder: Path, model: Model | None, cells: list[Cell] = ()):
         if not listing.steps:
             raise Problem(f"{listing.path} has no whole step: it ends with {listing.end or 'a part of a step'}")
+        if not len(listing.cells):
+            raise Problem(f"{listing.path} has no cell with flow: there is nothing to draw")
         self.listing, self.folder, self.model, self.cells = listing, folder, model, list(cells)
         self.shape = model.shape if model else listing.shape
         if any(a > b for a, b in zip(listing.shape, self.shape)):
@@ -73,13 +75,15 @@ class Look:
         curves = [(f"layer {k + 1}", lower[k].ravel(), upper[k].ravel()) for k in chosen]
         path, title = self.folder / f"profile_p{step.period}_s{step.step}", f"Heads along the model, {self.when(step)}"
         name = pictures.band(path, along, curves, f"distance, {self.unit}", self.unit, title)
-        self.page.picture("Profiles", name, self.when(step))
+        self.page.picture("Profiles", name, title)
 
     @property
     def place(self) -> tuple[int, int]:
-        """The row and the column of the cell whose head is farthest from the mean in the last step."""
-        low = self.listing.steps[-1].low.astype(float)
-        _, i, j = self.listing.cells[int(np.abs(low - low.mean()).argmax())]
+        """The row and the column of the cell whose head is farthest from the mean in the last step, of those whose head
+        isn't known from the start."""
+        last = self.listing.steps[-1]
+        low, is_open = last.low.astype(float), last.width() > 0
+        _, i, j = self.listing.cells[int((np.abs(low - low.mean()) * (is_open | ~is_open.any())).argmax())]
         return int(i), int(j)
 
     def draw_section(self, step: Step, row: int, col: int) -> None:

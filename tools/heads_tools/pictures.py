@@ -17,7 +17,7 @@ MOST_LABELS = 24
 HEADS_MAP, WIDTH_MAP, ERROR_MAP, NO_FLOW = "viridis", "magma_r", "cividis_r", "0.85"
 MARKS = {"WEL": ("v", "crimson", "well"), "RIV": ("s", "royalblue", "river"), "DRN": ("s", "seagreen", "drain"),
          "GHB": ("s", "darkorange", "general head"), "CHD": ("s", "purple", "given head")}
-plt.rcParams.update({"font.size": 9, "axes.titlesize": 9, "svg.hashsalt": "heads", "figure.dpi": 100})
+plt.rcParams.update({"font.size": 9, "axes.titlesize": 9, "svg.hashsalt": "heads", "figure.dpi": 100, "axes.formatter.useoffset": False})
 
 
 @dataclass
@@ -60,7 +60,8 @@ def norm_of(values: np.ndarray, is_width: bool) -> Normalize:
         return LogNorm(low, high)
     if is_width:
         low = 0.0
-    return Normalize(low, high if high > low else low + max(abs(low), 1e-9) * 1e-3)
+    room = 0 if high > low else max(abs(low), 1e-9) * 1e-3
+    return Normalize(low - room, high + room)
 
 
 def draw_map(axes: plt.Axes, plan: Plan, values: np.ndarray, title: str, label: str, cmap: str, layer: int, is_width: bool = False) -> None:
@@ -159,8 +160,8 @@ def band(path: Path, x: np.ndarray, curves: list[tuple[str, np.ndarray, np.ndarr
     axes[1].set(ylabel=f"width, {unit}", xlabel=xlabel)
     most = max(float(np.max(high - low)) for _, low, high in curves)
     axes[1].set_ylim(0, 1.08 * most if most > 0 else 1e-9)
-    if any(name for name, _, _ in curves):
-        axes[0].legend(fontsize=7)
+    columns = max(1, 100 // (8 + max(len(name) for name, _, _ in curves)))
+    axes[0].legend(fontsize=7, loc="lower right", bbox_to_anchor=(1, 1), ncol=columns, frameon=False)
     figure.suptitle(title, fontsize=10)
     return save(figure, path)
 

@@ -21,6 +21,11 @@ def words(line: str) -> list[str]:
     return [w for w in re.split(r"[ \t,\r]+", line) if w]
 
 
+def counted(count: int, name: str) -> str:
+    """1 step, 2 steps."""
+    return f"{count} {name}" + ("" if count == 1 else "s")
+
+
 def on_disk(folder: Path, name: str) -> Path:
     """The path of a name as it stands in a deck, in which a backslash parts folders too."""
     return folder / name.replace("\\", "/")

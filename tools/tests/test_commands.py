@@ -178,6 +178,19 @@ def test_explain_has_a_sentence_for_each_status(last, status, tmp_path, tool):
     assert got == status and len(out) > 20
 
 
+@pytest.mark.program
+def test_a_model_without_flow_has_nothing_to_draw(example, tool, tmp_path):
+    nam = example("three_cells")
+    bas = nam.with_suffix(".bas")
+    bas.write_text(re.sub("(?m)^-1 1 -1$", "0 0 0", bas.read_text()))
+    status, out, err = tool("run", nam)
+    assert status == 0 and "1 step without a cell with flow" in out, out + err
+    status, out, err = tool("look", nam.with_suffix(".heads"), tmp_path / "look")
+    assert status == 2 and "no cell with flow" in err and not (tmp_path / "look").exists()
+    (tmp_path / "list.txt").write_text("three_cells/a.nam\n")
+    assert tool("batch", tmp_path / "list.txt")[0] == 0
+
+
 def test_zone_flows_are_shown(tmp_path, tool):
     text = (Path(__file__).parent / "test_listing.py").read_text().split('"""')[3].lstrip("\n")
     (tmp_path / "m.heads").write_text(text)

@@ -18,7 +18,7 @@ def test_three_cells_have_the_mean_of_their_neighbours(example):
     listing = nam.parent / "m.heads"
     listing.write_text(heads(["run", nam.name], nam.parent).stdout)
     status, text = solution(nam, listing)
-    assert (status, text) == (0, "FOUND: the solution of 1 steps lies between the listed heads; its longest denominator has 1 digits")
+    assert (status, text) == (0, "FOUND: the solution of 1 step lies between the listed heads; digits of its longest denominator: 1")
 
 
 @pytest.mark.program
