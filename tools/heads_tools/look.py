@@ -39,7 +39,7 @@ class Look:
             bed_bottom = model.bottom - model.bed
             elevations = {"top": np.concatenate([model.top[None], bed_bottom[:-1]]), "bottom": model.bottom}
         delr, delc = (model.delr, model.delc) if model else (np.ones(ncol), np.ones(nrow))
-        self.plan = pictures.plan_of(delr, delc, self.unit if model else "columns, rows", entries=entries, **elevations)
+        self.plan = pictures.plan_of(delr, delc, self.unit, self.unit if model else "columns, rows", entries=entries, **elevations)
         self.page = Page(f"Certified heads of {listing.path.name}")
 
     def when(self, step: Step) -> str:

@@ -22,12 +22,13 @@ plt.rcParams.update({"font.size": 9, "axes.titlesize": 9, "svg.hashsalt": "heads
 
 @dataclass
 class Plan:
-    """The grid as it is drawn: edges of columns from the west and of rows from the south, in `unit`; entries by kind
+    """The grid as it is drawn: edges of columns from the west and of rows from the south, in `axis`; the unit of heads; entries by kind
     (layer, row, column); elevations of layers, shape (layers, rows, cols), None where they aren't known."""
 
     x: np.ndarray
     y: np.ndarray
     unit: str
+    axis: str
     entries: dict[str, list[tuple[int, int, int]]]
     top: np.ndarray | None = None
     bottom: np.ndarray | None = None
@@ -37,9 +38,9 @@ class Plan:
         return (self.x[1:] + self.x[:-1]) / 2, (self.y[1:] + self.y[:-1]) / 2
 
 
-def plan_of(delr: np.ndarray, delc: np.ndarray, unit: str, **more) -> Plan:
+def plan_of(delr: np.ndarray, delc: np.ndarray, unit: str, axis: str, **more) -> Plan:
     """The plan of a grid from its widths: row 1 lies in the north."""
-    return Plan(np.concatenate([[0], np.cumsum(delr)]), np.sum(delc) - np.concatenate([[0], np.cumsum(delc)]), unit, **more)
+    return Plan(np.concatenate([[0], np.cumsum(delr)]), np.sum(delc) - np.concatenate([[0], np.cumsum(delc)]), unit, axis, **more)
 
 
 def save(figure: plt.Figure, path: Path) -> str:
@@ -82,7 +83,7 @@ def draw_map(axes: plt.Axes, plan: Plan, values: np.ndarray, title: str, label: 
     axes.set_title(title)
     spans = (plan.x[-1], plan.y[0])
     axes.set_aspect("equal" if 0.2 < spans[0] / spans[1] < 5 else "auto")
-    axes.set_xlabel(plan.unit)
+    axes.set_xlabel(plan.axis)
     axes.tick_params(labelsize=7)
     few = {} if isinstance(mesh.norm, LogNorm) else {"ticks": MaxNLocator(5)}
     bar = axes.figure.colorbar(mesh, ax=axes, orientation="horizontal", pad=0.02, shrink=0.9, aspect=28, **few)
@@ -104,7 +105,7 @@ def maps(path: Path, plan: Plan, lower: np.ndarray, upper: np.ndarray, width: np
     draw_map(axes[0], plan, lower, "lower head", f"head, {plan.unit}", HEADS_MAP, layer)
     draw_map(axes[1], plan, upper, "upper head", f"head, {plan.unit}", HEADS_MAP, layer)
     draw_map(axes[2], plan, width, "width: upper less lower", f"width, {plan.unit} (its own scale)", WIDTH_MAP, layer, is_width=True)
-    axes[0].set_ylabel(plan.unit)
+    axes[0].set_ylabel(plan.axis)
     _legend(figure, plan, layer)
     figure.suptitle(f"Layer {layer}, {when}: every exact solution lies between lower and upper", fontsize=10)
     return save(figure, path)
@@ -121,7 +122,7 @@ def error_map(path: Path, plan: Plan, most: np.ndarray, layer: int, when: str) -
     """A map of how far given heads are off at most."""
     figure, axes = plt.subplots(figsize=(5.2, height_of(plan, 4.4)), constrained_layout=True)
     draw_map(axes, plan, most, f"Layer {layer}, {when}: given heads are off by at most", f"{plan.unit}", ERROR_MAP, layer, is_width=True)
-    axes.set_ylabel(plan.unit)
+    axes.set_ylabel(plan.axis)
     return save(figure, path)
 
 
@@ -141,7 +142,7 @@ def section(path: Path, plan: Plan, edges: np.ndarray, lower: np.ndarray, width:
         bar = figure.colorbar(cells, ax=ax)
         bar.set_label(f"{label}, {plan.unit}", fontsize=8)
         bar.ax.tick_params(labelsize=7)
-    axes[1].set_xlabel(plan.unit)
+    axes[1].set_xlabel(plan.axis)
     figure.suptitle(title, fontsize=10)
     return save(figure, path)
 
