@@ -84,8 +84,8 @@ fn after_lines(
     Ok(())
 }
 
-/// The names of a list, in its order: the first word of each line, but of lines that begin with '#'. A name stands as
-/// often as in the list. There are at most 1,000. `file` is the list's own name, for refusals, which are of the first
+/// The names of a list, in its order: the first word of each line, but of lines that begin with '#'. A name is there
+/// as often as in the list. There are at most 1,000. `file` is the list's own name, for refusals, which are of the first
 /// line that is wrong: BadName for a word that is no file's name, TooManyEntries for the 1,001st name.
 pub fn read_list(alloc: Global, file: &str, bytes: &[u8]) -> Result<Vec<Name>, TextFault>
     ensures names { HasText (λ names. names.items) result (names_in file.now bytes.now) }

@@ -7,7 +7,7 @@ use Rattle.outside.specs.declared.traits.SinkError.{SinkError}
 use Rattle.outside.specs.declared.traits.SinkError.TheVariants as error
 use Rattle.step_problem.specs.declared.heads.Bound.{Bound}
 
--- the puts of a text: it was taken, or viewing stops since it was refused, or since memory was wanting for it
+-- the puts of a text: it was taken, or viewing stops since it was refused, or since there was no memory for it
 abbrev pub IsPutOf : {E : Type 0} → Result (Vec ℕ Global) E → Option SinkError → List Put → Type 0
 IsPutOf (Ok text) None puts = puts ≡ taken text.items ∷ []
 IsPutOf (Ok text) (Some e) puts = puts ≡ refused text.items e ∷ []
@@ -16,7 +16,7 @@ IsPutOf (Err x) (Some e) puts = (e ≡ error.Memory) × (puts ≡ [])
 
 -- `text` writes heads, of which Shown holds; before and after say whether viewing had stopped, and why.
 module _ (text : List Bound → List ℕ) (Shown : List Bound → Type 0) where
-  -- what stands after the taken pieces: nothing, or where viewing stopped meanwhile the refused one, or none for want of memory
+  -- what follows the taken pieces: nothing, or where viewing stopped meanwhile the refused one, or none where memory ran out
   abbrev pub IsStopPut : Option SinkError → Option SinkError → List Put → Type 0
   IsStopPut None None puts = puts ≡ []
   IsStopPut None (Some e) puts = ((e ≡ error.Memory) × (puts ≡ [])) ⊎ ((heads : List Bound) × Shown heads × (puts ≡ refused (text heads) e ∷ []))

@@ -9,7 +9,7 @@ use std::alloc::Global;
 use step_problem::{Barrier, Bound, Problem};
 
 /// Puts each view to a sink, which it borrows, as one piece of text. It stops at the first put that fails, and where
-/// memory is wanting for a text. From then on nothing is put.
+/// a text is out of memory. From then on nothing is put.
 #[derive(Drop)]
 pub struct SinkViewer<'a, W: Sink, X: ViewText> {
     sink: &'a mut W,

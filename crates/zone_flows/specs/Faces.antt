@@ -32,11 +32,11 @@ module _ (zones : List ℕ) (lower upper : ℕ → ℤ) where
   unfoldable pub face_from : ℕ → ℕ → ℕ → ℕ → List Face
   face_from x y lo hi = cond (is_lower_zone (zone_of x) (zone_of y)) (face_between x y lo hi ∷ []) []
 
-  -- a branch between two variable cells, which stands at both: its face is that of the cell in the lower zone
+  -- a branch between two variable cells, which both of them list: its face is that of the cell in the lower zone
   abbrev pub link_faces : List Entries → Entries → Link → List Face
   link_faces p c x = face_from c.id (entries_at p x.cell).id x.lo x.hi
 
-  -- a branch to a constant-head cell, which stands at the variable cell alone; storage and general heads have no face
+  -- a branch to a constant-head cell, which the variable cell alone lists; storage and general heads have no face
   abbrev pub faces_by_kind : FixedKind → ℕ → ℕ → ℕ → ℕ → List Face
   faces_by_kind Storage x y lo hi = []
   faces_by_kind Constant x y lo hi = face_from x y lo hi ++ face_from y x lo hi

@@ -15,7 +15,7 @@ abbrev pub IsBeforeAll : ZoneFlow → List ZoneFlow → Type 0
 IsBeforeAll v [] = Unit {0}
 IsBeforeAll v (w ∷ ws) = IsBefore v.from v.to w.from w.to × IsBeforeAll v ws
 
--- each pair comes before all that follow it, so none stands twice
+-- each pair comes before all that follow it, so none is there twice
 abbrev pub PairsAscend : List ZoneFlow → Type 0
 PairsAscend [] = Unit {0}
 PairsAscend (v ∷ vs) = IsBeforeAll v vs × PairsAscend vs
