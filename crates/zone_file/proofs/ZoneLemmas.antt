@@ -1,6 +1,6 @@
 -- Zones that pass the test are within their limits.
-use Rattle.std.proofs.Common.{◌≡◌, ℕ, Bool, true, false, not, List, None, All, length, slice_index_or, refl, arith}
-use Rattle.std.specs.Prelude.{ℤ, pos, negsuc, nat_le}
+use Rattle.std.proofs.Common.{◌≡◌, false, not, List, None, All, length, slice_index_or, arith}
+use Rattle.std.specs.Prelude.{ℤ, pos, negsuc}
 use Rattle.std.specs.List.{position, position_or_len}
 use Rattle.std.proofs.lemmas.Int.{ints}
 use Rattle.std.proofs.lemmas.List.Sums.{fails_before_first}

@@ -2,6 +2,8 @@
 #![tactic(auto)]
 
 mod limits;
+mod numbers;
 mod zones;
 
+pub use numbers::zone_numbers;
 pub use zones::read_zones;

@@ -1,6 +1,4 @@
-use Rattle.std.proofs.Common.{◌≡◌, None, sym, ◌∙◌, not}
-use Rattle.std.specs.List.{position}
-use Rattle.zone_file.specs.Zones.{is_zone}
+use Rattle.std.proofs.Common.{sym, ◌∙◌}
 use Rattle.zone_file.proofs.ZoneLemmas.{zones_are}
 use Rattle.zone_file.proofs.limits.zones_tested.Goals as goal
 
