@@ -1,3 +1,4 @@
+pub mod Zoned
 pub mod Moves
 pub mod Lines
 pub mod UnderWay

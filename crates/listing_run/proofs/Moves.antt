@@ -1,5 +1,5 @@
 -- A step of a listing, by the clauses of the calls that gave its parts.
-use Rattle.std.proofs.Common.{◌≡◌, ℕ, length, List, [], ℤ, None, Ok, Err, Result, subst, sym, refl}
+use Rattle.std.proofs.Common.{◌≡◌, ℕ, length, List, ℤ, Ok, Err, Result, subst, sym, refl}
 use Rattle.step_problem.specs.declared.heads.Bound.{Bound}
 use Rattle.step_problem.specs.declared.place.NoBound.{NoBound}
 use Rattle.step_problem.specs.declared.place.ZoneFlow.{ZoneFlow}
@@ -17,9 +17,14 @@ use Rattle.step_chain.specs.Faults.{FailsBy as StepFailsBy}
 use Rattle.step_chain.specs.Steps.{IsSettledStep}
 use Rattle.step_chain.specs.Enclosing.{EnclosesMoves}
 use Rattle.listing_run.specs.declared.task.Task.{Task}
-use Rattle.listing_run.specs.Steps.{IsStep, HasNoBound, no_heads, no_budget, budget_at}
+use Rattle.problem_builder.specs.GridHeads.{IsActive, IsNamed}
+use Rattle.listing_run.specs.declared.step.Fault.{Fault}
+use Rattle.listing_run.specs.declared.step.Fault.TheVariants as fault
+use Rattle.listing_run.specs.Zones.{AreFlowsAt, FlowsEncloseAt}
+use Rattle.listing_run.specs.Steps.{IsStep, HasNoBound, no_heads, no_budget, no_zones, budget_at}
 use Rattle.listing_run.specs.Bounding.{BoundsMoves}
-use Rattle.listing_run.specs.Ends.{FailsBy, of_step}
+use Rattle.listing_run.specs.Ends.{FailsBy, FlowsFailBy, of_step}
+use Rattle.listing_run.proofs.Zoned.{within_enclosed, heads_named, flows_enclose}
 
 -- the budget by bounds that a slice lent
 budget_by : (x : Solved) (lent : List Bound) (r : Result Budget NoBound) → lent ≡ x.bounds → r ≡ budget_of x.problem (lower_at lent) (upper_at lent) → budget_at x ≡ r
@@ -45,12 +50,19 @@ module _ (k : Task) (s : ℕ) (at : TimeStep) (old : List Bound) (digits : s ≡
     pub budget_refused : (n : NoBound) → Err n ≡ budget_of x.problem (lower_at lent) (upper_at lent) → HasNoBound k at old n
     budget_refused n is = no_budget x by_digits (budget_by x lent (Err n) same is)
 
-    pub step_is : (b : Budget) (flows : List ZoneFlow) → k.zones ≡ None → flows ≡ [] → Ok b ≡ budget_of x.problem (lower_at lent) (upper_at lent) → IsStep k at old (record { at = at; heads = x.heads; budget = b; zones = flows })
-    step_is b flows none empty is = record { solved = x; settled = by_digits; time = refl; heads = refl; budget = budget_by x lent (Ok b) same is; zones = (none, empty) }
+    -- a fault of the flows between zones comes after the budget
+    pub flows_refused : (b : Budget) → Ok b ≡ budget_of x.problem (lower_at lent) (upper_at lent) → (f : Fault) → FlowsFailBy k.zones x f → FailsBy k at old f
+    flows_refused b is (fault.NoBound n) h = no_zones x b by_digits (budget_by x lent (Ok b) same is) h
+    flows_refused b is fault.Unfinished h = absurd h
+    flows_refused b is fault.Memory h = tt
+
+    pub step_is : (b : Budget) (flows : List ZoneFlow) → AreFlowsAt k.zones x flows → Ok b ≡ budget_of x.problem (lower_at lent) (upper_at lent) → IsStep k at old (record { at = at; heads = x.heads; budget = b; zones = flows })
+    step_is b flows are is = record { solved = x; settled = by_digits; time = refl; heads = refl; budget = budget_by x lent (Ok b) same is; zones = are }
 
   pub bounds_moves : HeadsAreWithin → (x : Solved) (lent : List Bound) (b : Budget) (flows : List ZoneFlow) → lent ≡ x.bounds → EnclosesMoves k.model s at old x → EnclosesBudgets x.problem (lower_at lent) (upper_at lent) b →
+      ((c : ℕ) → IsNamed x.problem c → IsActive k.model c) → FlowsEncloseAt k.zones x flows →
       BoundsMoves k at old (record { at = at; heads = x.heads; budget = b; zones = flows })
-  bounds_moves within x lent b flows same encloses budget before d X move =
+  bounds_moves within x lent b flows same encloses budget named zones before d X move =
       let M : ℕ → Type 0 = λ n. EnclosesMoves k.model n at old x in
       let B : List Bound → Type 0 = λ v. EnclosesBudgets x.problem (lower_at v) (upper_at v) b in
       let by_digits : EnclosesMoves k.model k.digits at old x = subst M digits encloses in
@@ -60,4 +72,5 @@ module _ (k : Task) (s : ℕ) (at : TimeStep) (old : List Bound) (digits : s ≡
       record {
         heads = e.heads;
         budget = terms k.digits (exact_step k.model at.period at.step before) (heads_of d Y) e.step (within (length x.problem) d Y (lower_at x.bounds) (upper_at x.bounds) move.some e.variables);
+        zones = flows_enclose k.zones x flows zones k.digits (exact_step k.model at.period at.step before) (heads_of d X) e.step (heads_named k.model x.problem named x.heads (heads_of d X) (within_enclosed k.model x.heads d X move.some e.heads));
       }

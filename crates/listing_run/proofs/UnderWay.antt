@@ -1,19 +1,16 @@
 -- A run over the steps, from one piece to the next, and its ends.
-use Rattle.std.proofs.Common.{◌≡◌, ℕ, suc, List, [], ◌∷◌, ◌++◌, ◌+◌, ◌-◌, ◌<◌, ◌≤◌, ◌^◌, Some, subst, sym, ap, refl, arith, ◌∙◌, drop, length, get_or, ℤ, pos, ◌*ℤ◌, ◌≤ℤ◌}
+use Rattle.std.proofs.Common.{◌≡◌, ℕ, List, [], ◌∷◌, ◌++◌, ◌+◌, ◌<◌, ◌≤◌, Some, subst, sym, ap, refl, ◌∙◌, drop, length, get_or, ℤ}
 use Rattle.std.proofs.lemmas.List.{append_assoc, append-nil, map-append, drop_more, drop_all}
 use Rattle.decimal_input.specs.Fractions.{Fraction}
 use Rattle.outside.specs.Puts.{Put, taken}
 use Rattle.step_problem.specs.declared.heads.Bound.{Bound}
 use Rattle.step_problem.specs.declared.place.NoBound.{NoBound}
-use Rattle.step_problem.specs.Heads.{lower_at, upper_at}
-use Rattle.model_types.specs.declared.model.FlowModel.{FlowModel}
 use Rattle.model_types.specs.declared.time_steps.TimeStep.{TimeStep}
 use Rattle.model_types.specs.Heads.{start_head}
 use Rattle.model_types.specs.Times.{times}
 use Rattle.flow_equations.specs.Histories.{SolvesFrom, Solves, heads_of}
 use Rattle.problem_builder.specs.GridHeads.{HeadsEnclose}
 use Rattle.problem_builder.specs.StartHeads.{AreStartHeads}
-use Rattle.step_chain.specs.Enclosing.{LiesWithin}
 use Rattle.listing_io.specs.Listing.{first_text}
 use Rattle.listing_io.specs.LastLines.{no_bound_line, unfinished_line}
 use Rattle.run_puts.specs.Lines.{Text, end_line}
@@ -30,14 +27,7 @@ use Rattle.listing_run.specs.Steps.{IsStep, HasNoBound, IsOpen, End, Whole, Cut,
 use Rattle.listing_run.specs.Bounding.{BoundAll, BoundsMoves, EnclosesHistories}
 use Rattle.listing_run.specs.Listing.{text_of, begun, listing, IsWhole, IsBroken, IsListing, IsCutListing}
 use Rattle.listing_run.specs.Ends.{FailsBy, IsWritten, IsStepEnd}
-
--- a vector that lies within heads is enclosed by them
-within_enclosed : (m : FlowModel) (heads : List Bound) (d : ℕ) (X : ℕ → ℤ) → 0 < d → LiesWithin m heads d X → HeadsEnclose m heads (heads_of d X)
-within_enclosed m heads d X some h = λ c active.
-    let same : d ≡ suc (d - 1) = omega (arith, some) in
-    let L : ℕ → Type 0 = λ n. (lower_at heads c *ℤ pos n) ≤ℤ (X c *ℤ pos (10 ^ 9)) in
-    let U : ℕ → Type 0 = λ n. (X c *ℤ pos (10 ^ 9)) ≤ℤ (upper_at heads c *ℤ pos n) in
-    record { lower = subst L same (h.low c active); upper = subst U same (h.high c active) }
+use Rattle.listing_run.proofs.Zoned.{within_enclosed}
 
 module _ (k : Task) where
   -- where a history stands that has solved the steps so far: it lies within the old heads, solves the rest, and where the rest is bound, all of it is

@@ -1,5 +1,5 @@
 -- A model has one listing, and one that is whole has no other end.
-use Rattle.std.proofs.Common.{◌≡◌, suc, List, [], ◌∷◌, sym, ap, ◌∙◌, refl, arith, Ok, Err, Result, Contains, subst}
+use Rattle.std.proofs.Common.{◌≡◌, ℕ, suc, List, [], ◌∷◌, sym, ap, ◌∙◌, refl, arith, Ok, Err, Result, Contains, subst, Option, Some, None}
 use Rattle.step_problem.specs.declared.heads.Bound.{Bound}
 use Rattle.step_problem.specs.declared.place.NoBound.{NoBound}
 use Rattle.budget_bounds.specs.declared.pair.Budget.{Budget}
@@ -9,11 +9,14 @@ use Rattle.model_types.specs.Valid.{IsModel}
 use Rattle.problem_builder.specs.GridHeads.{AreGridHeads}
 use Rattle.problem_builder.specs.Laws.{StartHeadsAreOne, StartHeadsFit}
 use Rattle.step_chain.specs.declared.solved.Solved.{Solved}
+use Rattle.step_chain.specs.Steps.{IsSettledStep}
 use Rattle.step_chain.specs.Laws.{IsBefore, StepIsOne, StepExcludesRefusal, RefusalIsOne as StepRefusalIsOne, HeadsFit}
 use Rattle.step_problem.specs.declared.place.ZoneFlow.{ZoneFlow}
 use Rattle.listing_run.specs.declared.task.Task.{Task}
 use Rattle.listing_run.specs.declared.step.Step.{Step}
-use Rattle.listing_run.specs.Steps.{IsStep, budget_at, HasNoBound, no_heads, no_budget, Steps, Whole, WithoutBound, Open, AllSettle}
+use Rattle.zone_flows.specs.Laws.{FlowsAreOne, FlowsExcludeRefusal, RefusalIsOne as ZoneRefusalIsOne}
+use Rattle.listing_run.specs.Zones.{AreFlowsAt, HasLargeFlow, faces_at}
+use Rattle.listing_run.specs.Steps.{IsStep, budget_at, HasNoBound, no_heads, no_budget, no_zones, Steps, Whole, WithoutBound, Open, AllSettle}
 use Rattle.listing_run.specs.Laws.{ListingIsOne, ListingExcludesRefusal, SettledListingIsClosed, RefusalIsOne}
 
 abbrev the_ok : {X E : Type 0} → X → Result X E → X
@@ -39,7 +42,7 @@ one_err a b e = ap (the_err a) e
 pub ok_not_err : (a : Budget) (e : NoBound) → as_ok a ≡ as_err e → ⊥
 ok_not_err a e h = cc
 
--- the laws of a step, and of STRT
+-- the laws of a step, of STRT, and of flows between zones
 pub record Laws : Type 0 where
   pub start_one : StartHeadsAreOne
   pub start_fits : StartHeadsFit
@@ -47,9 +50,26 @@ pub record Laws : Type 0 where
   pub excludes : StepExcludesRefusal
   pub refusal_one : StepRefusalIsOne
   pub fits : HeadsFit
+  pub flows_one : FlowsAreOne
+  pub flows_exclude : FlowsExcludeRefusal
+  pub large_one : ZoneRefusalIsOne
 
-pub laws_of : StartHeadsAreOne → StartHeadsFit → StepIsOne → StepExcludesRefusal → StepRefusalIsOne → HeadsFit → Laws
-laws_of a b c d e f = record { start_one = a; start_fits = b; step_one = c; excludes = d; refusal_one = e; fits = f }
+pub laws_of : StartHeadsAreOne → StartHeadsFit → StepIsOne → StepExcludesRefusal → StepRefusalIsOne → HeadsFit → FlowsAreOne → FlowsExcludeRefusal → ZoneRefusalIsOne → Laws
+laws_of a b c d e f g h i = record { start_one = a; start_fits = b; step_one = c; excludes = d; refusal_one = e; fits = f; flows_one = g; flows_exclude = h; large_one = i }
+
+-- a solved step has one list of flows between zones, or one pair that is too large
+module _ (laws : Laws) (x : Solved) where
+  same_flows : (o : Option (List ℕ)) (vs ws : List ZoneFlow) → AreFlowsAt o x vs → AreFlowsAt o x ws → vs ≡ ws
+  same_flows None vs ws a b = a ∙ sym b
+  same_flows (Some zones) vs ws a b = laws.flows_one (faces_at zones x) ws vs b a
+
+  none_large : (o : Option (List ℕ)) (vs : List ZoneFlow) (n : NoBound) → AreFlowsAt o x vs → HasLargeFlow o x n → ⊥
+  none_large None vs n a h = h
+  none_large (Some zones) vs n a h = laws.flows_exclude (faces_at zones x) vs n a h
+
+  same_large : (o : Option (List ℕ)) (a b : NoBound) → HasLargeFlow o x a → HasLargeFlow o x b → a ≡ b
+  same_large None a b h i = absurd h
+  same_large (Some zones) a b h i = laws.large_one (faces_at zones x) a b h i
 
 -- the first of the times at hand is one of the model's, and so are those behind it
 pub record IsRest (all rest : List TimeStep) : Type 0 where
@@ -80,7 +100,8 @@ module _ (laws : Laws) (k : Task) (model : IsModel k.model) where
         let budgets : v.budget ≡ w.budget = one_ok v.budget w.budget (sym x.budget ∙ subst B (sym same) y.budget) in
         let all_heads : v.heads ≡ w.heads = x.heads ∙ ap (λ (s : Solved). s.heads) same ∙ sym y.heads in
         let times_same : v.at ≡ w.at = x.time ∙ sym y.time in
-        let zones : v.zones ≡ w.zones = x.zones.1 ∙ sym y.zones.1 in
+        let F : Solved → Type 0 = λ s. AreFlowsAt k.zones s w.zones in
+        let zones : v.zones ≡ w.zones = same_flows laws x.solved k.zones v.zones w.zones x.zones (subst F (sym same) y.zones) in
         let by_time : TimeStep → Step = λ t. record { at = t; heads = v.heads; budget = v.budget; zones = v.zones } in
         let by_heads : List Bound → Step = λ hs. record { at = w.at; heads = hs; budget = v.budget; zones = v.zones } in
         let by_budget : Budget → Step = λ b. record { at = w.at; heads = w.heads; budget = b; zones = v.zones } in
@@ -98,6 +119,16 @@ module _ (laws : Laws) (k : Task) (model : IsModel k.model) where
         let B : Solved → Type 0 = λ s. budget_at s ≡ Err n in
         ok_not_err v.budget n (sym x.budget ∙ subst B (laws.step_one k.model k.digits at old solved x.solved before settled x.settled) refused)
 
+    has_bound v n x (no_zones solved b settled is large) =
+        let L : Solved → Type 0 = λ s. HasLargeFlow k.zones s n in
+        none_large laws x.solved k.zones v.zones n x.zones (subst L (laws.step_one k.model k.digits at old solved x.solved before settled x.settled) large)
+
+    -- a step whose budget is refused has no flows between zones
+    no_budget_no_zones : (x y : Solved) (b : Budget) (n : NoBound) → IsSettledStep k.model k.digits at old x → budget_at x ≡ Err n → IsSettledStep k.model k.digits at old y → budget_at y ≡ Ok b → ⊥
+    no_budget_no_zones x y b n settled refused also is =
+        let B : Solved → Type 0 = λ s. budget_at s ≡ Ok b in
+        ok_not_err b n (sym (subst B (sym (laws.step_one k.model k.digits at old x y before settled also)) is) ∙ refused)
+
     -- and a step has one refusal
     one_refusal : (a b : NoBound) → HasNoBound k at old a → HasNoBound k at old b → a ≡ b
     one_refusal a b (no_heads x) (no_heads y) = laws.refusal_one k.model k.digits at old a b before x y
@@ -106,6 +137,13 @@ module _ (laws : Laws) (k : Task) (model : IsModel k.model) where
     one_refusal a b (no_budget x settled refused) (no_budget y also other) =
         let B : Solved → Type 0 = λ s. budget_at s ≡ Err b in
         one_err a b (sym refused ∙ subst B (sym (laws.step_one k.model k.digits at old x y before settled also)) other)
+    one_refusal a b (no_heads x) (no_zones solved c settled is large) = absurd (laws.excludes k.model k.digits at old solved a before settled x)
+    one_refusal a b (no_zones solved c settled is large) (no_heads y) = absurd (laws.excludes k.model k.digits at old solved b before settled y)
+    one_refusal a b (no_budget x settled refused) (no_zones y c also is large) = absurd (no_budget_no_zones x y c a settled refused also is)
+    one_refusal a b (no_zones x c settled is large) (no_budget y also refused) = absurd (no_budget_no_zones y x c b also refused settled is)
+    one_refusal a b (no_zones x c settled is large) (no_zones y d also other too) =
+        let L : Solved → Type 0 = λ s. HasLargeFlow k.zones s b in
+        same_large laws x k.zones a b large (subst L (sym (laws.step_one k.model k.digits at old x y before settled also)) too)
 
   -- the heads of one more step
   next_heads : (old : List Bound) (at : TimeStep) (rest : List TimeStep) (v : Step) → IsRest (times k.model) (at ∷ rest) → AreGridHeads k.model old → IsStep k at old v → AreGridHeads k.model v.heads

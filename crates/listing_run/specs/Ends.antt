@@ -1,11 +1,12 @@
 -- Facts that the calls of a run over the steps pass to each other.
-use Rattle.std.specs.Prelude.{◌≡◌, List, ◌≤◌, None}
+use Rattle.std.specs.Prelude.{◌≡◌, ℕ, List, ◌≤◌, Option}
 use Rattle.outside.specs.Puts.{Put}
 use Rattle.step_problem.specs.declared.heads.Bound.{Bound}
 use Rattle.model_types.specs.declared.time_steps.TimeStep.{TimeStep}
 use Rattle.model_types.specs.Valid.{IsModel}
 use Rattle.problem_builder.specs.GridHeads.{AreGridHeads}
 use Rattle.step_chain.specs.declared.kept.RunTables.{RunTables}
+use Rattle.step_chain.specs.declared.solved.Solved.{Solved}
 use Rattle.step_chain.specs.declared.solved.StepFault.{StepFault}
 use Rattle.step_chain.specs.declared.solved.StepFault.TheVariants as chain
 use Rattle.step_chain.specs.Keeps.{AreRunTables, digits_of}
@@ -18,15 +19,16 @@ use Rattle.listing_run.specs.declared.task.Task.{Task}
 use Rattle.listing_run.specs.declared.step.Step.{Step}
 use Rattle.listing_run.specs.declared.step.Fault.{Fault}
 use Rattle.listing_run.specs.declared.step.Fault.TheVariants as fault
+use Rattle.listing_run.specs.Zones.{AreZones, HasLargeFlow}
 use Rattle.listing_run.specs.Steps.{IsStep, HasNoBound, IsOpen}
 use Rattle.listing_run.specs.Bounding.{BoundsMoves}
 use Rattle.listing_run.specs.Listing.{text_of}
 
--- the conditions on a task: a valid model, at most 18 digits, and no zone file
+-- the conditions on a task: a valid model, at most 18 digits, and a zone for each cell if there is a zone file
 pub record IsTask (k : Task) : Type 0 where
   pub model : IsModel k.model
   pub digits : k.digits ≤ 18
-  pub zones : k.zones ≡ None
+  pub zones : AreZones k.model k.zones
 
 -- the tables of a task
 pub record AreTablesOf (k : Task) (t : RunTables) : Type 0 where
@@ -43,6 +45,12 @@ abbrev pub of_step : StepFault → Fault
 of_step (chain.NoBound n) = fault.NoBound n
 of_step (chain.Unfinished o) = fault.Unfinished
 of_step chain.Memory = fault.Memory
+
+-- the cause of a fault of the flows between zones
+abbrev pub FlowsFailBy : Option (List ℕ) → Solved → Fault → Type 0
+FlowsFailBy zones x (fault.NoBound n) = HasLargeFlow zones x n
+FlowsFailBy zones x fault.Unfinished = ⊥
+FlowsFailBy zones x fault.Memory = Unit {0}
 
 -- a step's heads and its text
 pub record IsWritten (k : Task) (at : TimeStep) (old heads : List Bound) (text : Text) : Type 0 where

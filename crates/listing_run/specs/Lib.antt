@@ -1,3 +1,4 @@
+pub mod Zones
 pub mod Steps
 pub mod Bounding
 pub mod Listing

@@ -1,5 +1,5 @@
 -- The steps of a listing: each from the heads of the one before it, the first from STRT.
-use Rattle.std.specs.Prelude.{◌≡◌, ℕ, List, [], ◌∷◌, Result, Ok, Err, Option, None}
+use Rattle.std.specs.Prelude.{◌≡◌, List, [], ◌∷◌, Result, Ok, Err}
 use Rattle.step_problem.specs.declared.heads.Bound.{Bound}
 use Rattle.step_problem.specs.declared.place.NoBound.{NoBound}
 use Rattle.step_problem.specs.Entries.{Entries}
@@ -11,36 +11,33 @@ use Rattle.model_types.specs.Times.{times}
 use Rattle.problem_builder.specs.StartHeads.{AreStartHeads}
 use Rattle.step_chain.specs.declared.solved.Solved.{Solved}
 use Rattle.step_chain.specs.Steps.{IsPosed, IsSettledStep, HasNoHeads, SettlesIn}
-use Rattle.step_problem.specs.declared.place.ZoneFlow.{ZoneFlow}
 use Rattle.listing_run.specs.declared.task.Task.{Task}
 use Rattle.listing_run.specs.declared.step.Step.{Step}
+use Rattle.listing_run.specs.Zones.{AreFlowsAt, HasLargeFlow}
 
 -- the bounds of a solved step's budget, or its first term that is too large
 abbrev pub budget_at : Solved → Result Budget NoBound
 budget_at x = budget_of x.problem (lower_at x.bounds) (upper_at x.bounds)
-
--- the flows between zones: none without a zone file
-abbrev pub AreZoneFlows : Option (List ℕ) → List ZoneFlow → Type 0
-AreZoneFlows zones flows = (zones ≡ None) × (flows ≡ [])
 
 -- A time of a task, where `old` are the heads of all cells before it.
 module _ (k : Task) (at : TimeStep) (old : List Bound) where
   abbrev pub IsSettled : Solved → Type 0
   IsSettled x = IsSettledStep k.model k.digits at old x
 
-  -- v is its step: the heads, the budget and the zone flows of its settled problem
+  -- v is its step: the heads, the budget and the flows between zones of its settled problem
   pub record IsStep (v : Step) : Type 0 where
     pub solved : Solved
     pub settled : IsSettled solved
     pub time : v.at ≡ at
     pub heads : v.heads ≡ solved.heads
     pub budget : budget_at solved ≡ Ok v.budget
-    pub zones : AreZoneFlows k.zones v.zones
+    pub zones : AreFlowsAt k.zones solved v.zones
 
-  -- its first refusal: of the problem or the barrier, then of the budget
+  -- its first refusal: of the problem or the barrier, then of the budget, then of the flows between zones
   pub data HasNoBound (n : NoBound) : Type 0 where
     no_heads : HasNoHeads k.model k.digits at old n → HasNoBound n
     no_budget : (solved : Solved) → IsSettled solved → budget_at solved ≡ Err n → HasNoBound n
+    no_zones : (solved : Solved) (budget : Budget) → IsSettled solved → budget_at solved ≡ Ok budget → HasLargeFlow k.zones solved n → HasNoBound n
 
   -- the task's rounds don't settle it
   pub record IsOpen : Type 0 where

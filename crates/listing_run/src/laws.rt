@@ -3,6 +3,7 @@ ghost use Rattle.listing_run.specs.Laws.{ListingIsOne, ListingExcludesRefusal, S
 
 use problem_builder::laws::{one_list_of_start_heads, start_heads_fit};
 use step_chain::laws::{heads_fit, no_step_beside_a_refusal, one_refusal, one_step};
+use zone_flows::laws::one_list_or_refusal;
 
 /// A model has at most one listing, and a model with a whole listing has no other end, except rounds that don't settle a step.
 pub fn one_listing()
@@ -17,4 +18,5 @@ pub fn one_listing()
     no_step_beside_a_refusal();
     one_refusal();
     heads_fit();
+    one_list_or_refusal();
 }

@@ -7,6 +7,7 @@ mod putting;
 mod solving;
 pub mod step;
 pub mod task;
+mod zoning;
 
 pub use putting::put_steps;
 pub use solving::{Written, solve, solve_text};

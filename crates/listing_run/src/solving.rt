@@ -8,6 +8,7 @@ ghost use Rattle.listing_run.specs.Ends.{IsTask, AreTablesOf, FailsBy, IsWritten
 
 use crate::step::{Fault, Step};
 use crate::task::Task;
+use crate::zoning::flows_between;
 use budget_bounds::budget;
 use budget_bounds::laws::heads_within;
 use listing_io::write_step;
@@ -37,18 +38,21 @@ pub fn solve<S: Settler>(
     ensures step { IfOk result (IsStep task.now at old.now) }
     ensures fault { IfErr result (FailsBy task.now at old.now) }
     ensures heads { IfOk result (λ v. AreGridHeads task.now.model v.heads) }
-    // Every solution from exact heads within the old ones lies within the step's heads and budget.
+    // Every solution from exact heads within the old ones lies within the step's heads, budget and flows between zones.
     ensures encloses { IfOk result (BoundsMoves task.now at old.now) }
 {
     let solved = next_step_with(alloc, &task.model, tables, at, old, settler)?;
     heads_within();
     match budget(&solved.problem, solved.bounds.as_slice()) {
-        Ok(budget) => Ok(Step {
-            at,
-            heads: solved.heads,
-            budget,
-            zones: Listed::new(Vec::new(alloc)),
-        }),
+        Ok(budget) => {
+            let zones = flows_between(alloc, task, &solved)?;
+            Ok(Step {
+                at,
+                heads: solved.heads,
+                budget,
+                zones: Listed::new(zones),
+            })
+        }
         Err(refusal) => Err(Fault::NoBound(refusal)),
     }
 }

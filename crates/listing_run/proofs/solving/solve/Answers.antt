@@ -1,6 +1,5 @@
-use Rattle.std.proofs.Common.{rules}
 use Rattle.std.proofs.lemmas.Result.{err_from_is_err_and}
-use Rattle.listing_run.proofs.Moves.{step_fails, budget_refused, step_is, bounds_moves}
+use Rattle.listing_run.proofs.Moves.{step_fails, budget_refused, flows_refused, step_is, bounds_moves}
 use Rattle.listing_run.proofs.solving.solve.Goals as goal
 
 pub returns-in_err-solved-clause-fault : goal.returns-in_err-solved-clause-fault
@@ -12,10 +11,15 @@ pub returns-in-Err-clause-fault : goal.returns-in-Err-clause-fault
 returns-in-Err-clause-fault g c =
     budget_refused c.args.task.now _ c.args.at c.args.old.now c.requires.tables.digits c.in_ok-solved.solved c.in_ok-solved.ensures.step c.as_slice.result.now c.as_slice.ensures c.in-Err.refusal c.in-Err.ensures.budget
 
-pub returns-in-Ok-clause-step : goal.returns-in-Ok-clause-step
-returns-in-Ok-clause-step g c =
-    step_is c.args.task.now _ c.args.at c.args.old.now c.requires.tables.digits c.in_ok-solved.solved c.in_ok-solved.ensures.step c.as_slice.result.now c.as_slice.ensures c.in-Ok.budget c.new-in-Ok.result c.requires.task.zones (search rules) c.in-Ok.ensures.budget
+pub returns-in_ok-zones-in-Ok-clause-step : goal.returns-in_ok-zones-in-Ok-clause-step
+returns-in_ok-zones-in-Ok-clause-step g c =
+    rw c.new.ensures (step_is c.args.task.now _ c.args.at c.args.old.now c.requires.tables.digits c.in_ok-solved.solved c.in_ok-solved.ensures.step c.as_slice.result.now c.as_slice.ensures c.in-Ok.budget c.in_ok-zones-in-Ok.zones.items c.in_ok-zones-in-Ok.ensures.flows c.in-Ok.ensures.budget)
 
-pub returns-in-Ok-clause-encloses : goal.returns-in-Ok-clause-encloses
-returns-in-Ok-clause-encloses g c =
-    bounds_moves c.args.task.now _ c.args.at c.args.old.now c.requires.tables.digits c.heads_within.ensures c.in_ok-solved.solved c.as_slice.result.now c.in-Ok.budget c.new-in-Ok.result c.as_slice.ensures c.in_ok-solved.ensures.encloses c.in-Ok.ensures.encloses
+pub returns-in_ok-zones-in-Ok-clause-encloses : goal.returns-in_ok-zones-in-Ok-clause-encloses
+returns-in_ok-zones-in-Ok-clause-encloses g c =
+    rw c.new.ensures (bounds_moves c.args.task.now _ c.args.at c.args.old.now c.requires.tables.digits c.heads_within.ensures c.in_ok-solved.solved c.as_slice.result.now c.in-Ok.budget c.in_ok-zones-in-Ok.zones.items c.as_slice.ensures c.in_ok-solved.ensures.encloses c.in-Ok.ensures.encloses c.in_ok-solved.ensures.named c.in_ok-zones-in-Ok.ensures.encloses)
+
+pub returns-in_err-zones-in-Ok-clause-fault : goal.returns-in_err-zones-in-Ok-clause-fault
+returns-in_err-zones-in-Ok-clause-fault g c =
+    let p = err_from_is_err_and c.from_residual-in_err-zones-in-Ok.result c.from_residual-in_err-zones-in-Ok.ensures.1 in
+    rw (p.1, p.2) (flows_refused c.args.task.now _ c.args.at c.args.old.now c.requires.tables.digits c.in_ok-solved.solved c.in_ok-solved.ensures.step c.as_slice.result.now c.as_slice.ensures c.in-Ok.budget c.in-Ok.ensures.budget c.in_err-zones-in-Ok.field-0.0 c.in_err-zones-in-Ok.ensures.fault)
