@@ -96,4 +96,5 @@ module _ (m : FlowModel) (s : ℕ) (at : TimeStep) (old : List Bound) (p : List 
       record {
         heads = lies before d X move;
         budget = cover listed computed s e (heads_of d Y) covers (terms s e (heads_of d Y) (step before d X move) inside);
+        zones = tt;
       }

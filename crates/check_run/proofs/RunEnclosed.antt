@@ -19,7 +19,7 @@ module _ (k : Task) where
   step_bounds : (at : TimeStep) (old : List Bound) (v : Step) (before : ℕ → Fraction) (d : ℕ) (X : ℕ → ℤ) → IsStep k at old v → Bounds k v before d X → Bounds (checked_task k.model k.digits) (step_of at (as_listed v)) before d X
   step_bounds at old v before d X is b =
       let B : TimeStep → Type 0 = λ t. BudgetEncloses k.digits (exact_step k.model t.period t.step before) (heads_of d (variable_heads (exact_step k.model t.period t.step before) X)) v.budget in
-      record { heads = b.heads; budget = subst B is.time b.budget }
+      record { heads = b.heads; budget = subst B is.time b.budget; zones = tt }
 
   all_bounds : (d : ℕ) (old : List Bound) (before : ℕ → Fraction) (rest : List TimeStep) (values : List Step) (Xs : List (ℕ → ℤ)) → Steps k old rest values Whole → BoundAll k d before values Xs →
       BoundAll (checked_task k.model k.digits) d before (steps_of rest (map as_listed values)) Xs

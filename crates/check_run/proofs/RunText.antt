@@ -1,5 +1,5 @@
 -- The text of a run's listing is that of its steps, and is read as these.
-use Rattle.std.proofs.Common.{◌≡◌, ℕ, List, [], ◌∷◌, ◌++◌, map, get_or, Contains, Ok, refl, sym, ap, ◌∙◌, subst, arith}
+use Rattle.std.proofs.Common.{◌≡◌, ℕ, List, [], ◌∷◌, ◌++◌, map, get_or, Contains, Ok, Option, None, refl, sym, ap, ◌∙◌, subst, arith}
 use Rattle.std.specs.List.{concat}
 use Rattle.std.proofs.lemmas.List.{append_assoc, append-nil, get_or_default}
 use Rattle.std.proofs.lemmas.List.Concat.{flat_map-append}
@@ -20,17 +20,22 @@ use Rattle.listing_run.specs.declared.task.Task.{Task}
 use Rattle.listing_run.specs.declared.step.Step.{Step}
 use Rattle.listing_run.specs.Listing.{listing, text_of}
 use Rattle.listing_run.specs.Steps.{AllSteps, IsStep, Steps, Whole}
+use Rattle.listing_run.specs.Zones.{AreFlowsAt}
 use Rattle.check_run.specs.Runs.{IsReadable, RunIsReadAgain, as_listed}
 use Rattle.check_run.proofs.RunListed.{are_listed}
 
-module _ (k : Task) where
-  -- the lines of a step, at its time and without zone flows
+module _ (k : Task) (none : k.zones ≡ None) where
+  -- a step has no flows between zones, since there is no zone file
+  no_flows : (at : TimeStep) (old : List Bound) (v : Step) → IsStep k at old v → v.zones ≡ []
+  no_flows at old v is = let F : Option (List ℕ) → Type 0 = λ o. AreFlowsAt o is.solved v.zones in subst F none is.zones
+
+  -- the lines of a step, at its time and without flows between zones
   step_rows : (at : TimeStep) (old : List Bound) (v : Step) → IsStep k at old v → text_of k v ≡ text (step_lines k.model k.digits at v.heads v.budget [])
   unfolding step_text
   step_rows at old v is =
       let T : TimeStep → List ℕ = λ t. text (step_lines k.model k.digits t v.heads v.budget v.zones) in
       let Z : List ZoneFlow → List ℕ = λ zs. text (step_lines k.model k.digits at v.heads v.budget zs) in
-      ap T is.time ∙ ap Z is.zones.1
+      ap T is.time ∙ ap Z (no_flows at old v is)
 
   rows_text : (old : List Bound) (rest : List TimeStep) (values : List Step) → Steps k old rest values Whole → concat (map (text_of k) values ++ (end_line ∷ [])) ≡ text (all_step_lines k.model k.digits rest (map as_listed values) ++ (last_row ∷ []))
   unfolding all_step_lines
@@ -72,4 +77,4 @@ writable k h = record {
 pub run_read : HeadsFit → StartHeadsFit → ListingsAreReadAgain → RunIsReadAgain
 run_read fits start_fits again k values readable h =
     let P : List ℕ → Type 0 = λ bytes. listing_at k.model k.digits (all_lines bytes) ≡ Ok (map as_listed values) in
-    subst P (sym (whole_text k values h)) (again k.model k.digits (map as_listed values) (writable k readable) (are_listed fits k readable.model start_fits values h))
+    subst P (sym (whole_text k readable.zones values h)) (again k.model k.digits (map as_listed values) (writable k readable) (are_listed fits k readable.model start_fits values h))

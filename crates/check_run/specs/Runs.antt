@@ -1,5 +1,5 @@
 -- The listing of a run, as a check reads and judges it.
-use Rattle.std.specs.Prelude.{◌≡◌, ◌<◌, ◌≤◌, ◌^◌, List, map, nat_abs, Ok}
+use Rattle.std.specs.Prelude.{◌≡◌, ◌<◌, ◌≤◌, ◌^◌, List, map, nat_abs, Ok, None}
 use Rattle.std.specs.List.{concat}
 use Rattle.model_types.specs.Valid.{IsModel}
 use Rattle.listing_io.specs.declared.listing.ListedStep.{ListedStep}
@@ -20,10 +20,12 @@ as_listed v = record { heads = v.heads; budget = v.budget }
 abbrev pub RunIsCertified : Type 0
 RunIsCertified = (k : Task) (values : List Step) → IsModel k.model → AllSteps k values Whole → IsVerdict k.model k.digits (map as_listed values) Certified
 
--- a task of a run, a valid model and at most 18 digits, with a LENUNI of 64 bits, as the reader of models gives it
+-- a task of a run, a valid model and at most 18 digits, without a zone file, since a check knows no lines ZONE; with a
+-- LENUNI of 64 bits, as the reader of models gives it
 pub record IsReadable (k : Task) : Type 0 where
   pub model : IsModel k.model
   pub digits : k.digits ≤ 18
+  pub zones : k.zones ≡ None
   pub unit : nat_abs k.model.lenuni < 2 ^ 64
 
 -- The bytes of such a listing are read as these values.
