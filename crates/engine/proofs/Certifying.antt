@@ -17,7 +17,7 @@ use Rattle.check_run.specs.declared.verdict.Verdict.{Verdict}
 use Rattle.check_run.specs.declared.verdict.Verdict.TheVariants.{Certified as Holds, Fails, Refused as Unbounded}
 use Rattle.check_run.specs.Laws.{VerdictIsOne}
 use Rattle.check_run.specs.Verdicts.{IsVerdict}
-use Rattle.engine.specs.Cases.{Asked, AskedCheck, Case, Command, Run, Make, Check, NoWords, Refuses, Listing, Making, Checking, asked_in, case_asked, case_checked, case_listed, case_of, case_read, listing_read, made_model, named, task_of}
+use Rattle.engine.specs.Cases.{Asked, AskedCheck, Case, Command, Run, Make, Check, NoWords, Refuses, Listing, Making, Checking, asked_in, case_asked, case_checked, case_listed, case_of, case_read, case_zoned, listing_read, made_model, named, task_of, zones_read}
 use Rattle.engine.specs.Certified.{Certified}
 use Rattle.engine.specs.Checked.{IsCheck, certified_line}
 use Rattle.engine.specs.Defined.{Defines}
@@ -64,8 +64,8 @@ module _ (words : List Text) (files : List File) (old new : Seen) (puts : List P
 
   pub of_check : IsValid (case_of words files) status.Ok → Defines (case_of words files) status.Ok pieces → Tells
   of_check valid d =
-      let P : Option Command → Type 0 = λ a. Defines (case_asked a (reads files) (listing_read files)) status.Ok pieces in
-      let V : Option Command → Type 0 = λ a. IsValid (case_asked a (reads files) (listing_read files)) status.Ok in
+      let P : Option Command → Type 0 = λ a. Defines (case_asked a (reads files) (zones_read files) (listing_read files)) status.Ok pieces in
+      let V : Option Command → Type 0 = λ a. IsValid (case_asked a (reads files) (zones_read files) (listing_read files)) status.Ok in
       of_model (named asked.name (reads files)) refl (subst V wanted valid) (subst P wanted d)
 
 -- a check comes to a refusal, or to steps that are checked
@@ -79,11 +79,15 @@ checked_case P refuses checks asked (Ok f) listed = by_listing (listed f)
 
 -- where steps are checked, the words ask for a check
 module _ (words : List Text) (files : List File) (m : FlowModel) (s : ℕ) (steps : List ListedStep) where
-  no_check : (asked : Asked) (r : Result FlowModel Refusal) → case_read asked r ≡ Checking m s steps → ⊥
-  no_check asked (Ok f) e = let bad : Listing (task_of asked f) ≡ Checking m s steps = e in cc
+  no_check_zoned : (asked : Asked) (f : FlowModel) (z : Result (Option (List ℕ)) Refusal) → case_zoned asked f z ≡ Checking m s steps → ⊥
+  no_check_zoned asked f (Ok zones) e = let bad : Listing (task_of asked f zones) ≡ Checking m s steps = e in cc
+  no_check_zoned asked f (Err refusal) e = let bad : Refuses refusal ≡ Checking m s steps = e in cc
+
+  no_check : (asked : Asked) (r : Result FlowModel Refusal) → case_read asked r (zones_read files asked.zones) ≡ Checking m s steps → ⊥
+  no_check asked (Ok f) e = no_check_zoned asked f (zones_read files asked.zones f) e
   no_check asked (Err refusal) e = let bad : Refuses refusal ≡ Checking m s steps = e in cc
 
-  check_by_words : (a : Option Command) → asked_in words ≡ a → case_asked a (reads files) (listing_read files) ≡ Checking m s steps → (asked : AskedCheck) × (asked_in words ≡ Some (Check asked))
+  check_by_words : (a : Option Command) → asked_in words ≡ a → case_asked a (reads files) (zones_read files) (listing_read files) ≡ Checking m s steps → (asked : AskedCheck) × (asked_in words ≡ Some (Check asked))
   check_by_words None wanted e = absurd (let bad : NoWords ≡ Checking m s steps = e in cc)
   check_by_words (Some (Run asked)) wanted e = absurd (no_check asked (named asked.name (reads files)) e)
   check_by_words (Some (Make seed size)) wanted e = absurd (let bad : Making seed size (made_model seed size) ≡ Checking m s steps = e in cc)

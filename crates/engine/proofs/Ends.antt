@@ -1,8 +1,8 @@
 -- The ends of a run, by its words, its reading and its listing.
-use Rattle.std.proofs.Common.{◌≡◌, ℕ, List, [], ◌∷◌, Ok, Err, Result, Option, None, Some, IfOk, subst, sym, ap, refl, inl, inr, ◌∙◌, codes, option_and_then}
+use Rattle.std.proofs.Common.{◌≡◌, ℕ, List, [], ◌∷◌, Ok, Err, Result, Option, None, Some, IfOk, subst, sym, ap, refl, inl, inr, ◌∙◌, codes, option_and_then, map, ℤ, unsigned_abs}
 use Rattle.outside.specs.Files.{File}
 use Rattle.outside.specs.Counts.{Rose, InputCounts}
-use Rattle.outside.specs.Inputs.{file_refusal}
+use Rattle.outside.specs.Inputs.{IsReading, file_refusal}
 use Rattle.outside.specs.Puts.{Put}
 use Rattle.outside.specs.declared.codes.Code.TheVariants.{BadName}
 use Rattle.outside.specs.declared.refusals.InputFault.{InputFault}
@@ -25,11 +25,13 @@ use Rattle.run_puts.specs.declared.status.Status.TheVariants as status
 use Rattle.run_puts.proofs.Pieces.{IsLate, tail_late, lone, lacks_at_first, weaker}
 use Rattle.listing_run.specs.declared.task.Task.{Task}
 use Rattle.listing_run.specs.Listing.{IsListing, IsCutListing}
-use Rattle.engine.specs.Cases.{Asked, AskedCheck, Case, Command, Run, Make, Check, NoWords, Refuses, Listing, Making, Checking, IsCase, CouldRead, asked_in, built, case_asked, case_checked, case_listed, case_of, case_read, listing_read, made_model, named, task_of}
+use Rattle.listing_run.specs.Zones.{AreZonesOf}
+use Rattle.engine.specs.Cases.{Asked, AskedCheck, Case, Command, Run, Make, Check, NoWords, Refuses, Listing, Making, Checking, IsCase, CouldRead, asked_in, built, case_asked, case_checked, case_listed, case_of, case_read, case_zoned, listing_read, made_model, named, task_of, zones_named, zones_read}
 use Rattle.engine.specs.Defined.{Due, ReadsFolder, defined, unread, CutOf}
 use Rattle.engine.specs.Made.{IsMade}
 use Rattle.engine.specs.Checked.{IsCheck}
-use Rattle.engine.specs.Parts.{Answers, IsMadeRun, IsReadAs, IsReadingEnd, IsStopped, IsUncut, IsValid}
+use Rattle.engine.specs.Parts.{AreZonesAs, Answers, IsMadeRun, IsReadAs, IsReadingEnd, IsStopped, IsUncut, IsValid}
+use Rattle.engine.proofs.Readings.{named_read, no_zones}
 
 -- what an order asks for, the words ask for
 pub asked_by : (words : List Text) (wanted : Wanted) (asked : Option Command) → wanted_of words ≡ Some wanted → asked ≡ built wanted → asked_in words ≡ asked
@@ -86,15 +88,31 @@ no_steps = Err (file_refusal BadName (codes "-"))
 abbrev pub same_steps : Result (List ListedStep) Refusal → AskedCheck → FlowModel → Result (List ListedStep) Refusal
 same_steps listed asked m = named asked.listing (λ name. listed)
 
-pub could_read : (read : Result FlowModel Refusal) → IfOk read IsModel → CouldRead read no_steps
-could_read (Ok f) valid = (valid, tt)
-could_read (Err refusal) valid = tt
+-- what a run reads as its zones where no files are known
+abbrev pub same_zones : Result (List ℤ) Refusal → Option Text → FlowModel → Result (Option (List ℕ)) Refusal
+same_zones zoned zones m = zones_named zones (λ name. zoned)
+
+pub of_each : (Q : FlowModel → Type 0) (read : Result FlowModel Refusal) → ((m : FlowModel) → Q m) → IfOk read Q
+of_each Q (Ok m) h = h m
+of_each Q (Err refusal) h = tt
+
+-- a model was read, or a refusal, and nothing else
+pub could_read : (read : Result FlowModel Refusal) → IfOk read IsModel → CouldRead read no_zones no_steps
+could_read read valid = record {
+  model = valid;
+  zones = of_each (λ m. IfOk no_zones (λ zones. AreZonesOf m (map unsigned_abs zones))) read (λ m. tt);
+  steps = of_each (λ m. IfOk no_steps (AreListed m)) read (λ m. tt);
+}
+
+-- this model was read
+pub of_model_read : (Q : FlowModel → Type 0) (read : Result FlowModel Refusal) (f : FlowModel) → read ≡ Ok f → Q f → IfOk read Q
+of_model_read Q read f is q = subst (λ r. IfOk r Q) (sym is) q
 
 pub no_words : (words : List Text) (files : Option (List File)) → asked_in words ≡ None → IsCase words files NoWords
-no_words words (Some fs) e = let P : Option Command → Type 0 = λ a. NoWords ≡ case_asked a (reads fs) (listing_read fs) in subst P (sym e) refl
+no_words words (Some fs) e = let P : Option Command → Type 0 = λ a. NoWords ≡ case_asked a (reads fs) (zones_read fs) (listing_read fs) in subst P (sym e) refl
 no_words words None e =
-    let P : Option Command → Type 0 = λ a. NoWords ≡ case_asked a (λ name. no_model) (same_steps no_steps) in
-    (no_model, no_steps, tt, subst P (sym e) refl)
+    let P : Option Command → Type 0 = λ a. NoWords ≡ case_asked a (λ name. no_model) (same_zones no_zones) (same_steps no_steps) in
+    (no_model, no_zones, no_steps, could_read no_model tt, subst P (sym e) refl)
 
 -- the words come to some case, whatever is read; for a listing and for a check the folder is read
 pub record SomeCase (words : List Text) (files : Option (List File)) : Type 0 where
@@ -103,9 +121,13 @@ pub record SomeCase (words : List Text) (files : Option (List File)) : Type 0 wh
   pub worded : (asked : Asked) → asked_in words ≡ Some (Run asked) → ReadsFolder case
   pub check_worded : (asked : AskedCheck) → asked_in words ≡ Some (Check asked) → ReadsFolder case
 
-read_worded : (asked : Asked) (r : Result FlowModel Refusal) → ReadsFolder (case_read asked r)
-read_worded asked (Ok f) = tt
-read_worded asked (Err refusal) = tt
+zoned_worded : (asked : Asked) (f : FlowModel) (z : Result (Option (List ℕ)) Refusal) → ReadsFolder (case_zoned asked f z)
+zoned_worded asked f (Ok zones) = tt
+zoned_worded asked f (Err refusal) = tt
+
+read_worded : (asked : Asked) (r : Result FlowModel Refusal) (zoned : FlowModel → Result (Option (List ℕ)) Refusal) → ReadsFolder (case_read asked r zoned)
+read_worded asked (Ok f) zoned = zoned_worded asked f (zoned f)
+read_worded asked (Err refusal) zoned = tt
 
 listed_worded : (asked : AskedCheck) (f : FlowModel) (r : Result (List ListedStep) Refusal) → ReadsFolder (case_listed asked f r)
 listed_worded asked f (Ok steps) = tt
@@ -115,59 +137,83 @@ checked_worded : (asked : AskedCheck) (r : Result FlowModel Refusal) (listed : F
 checked_worded asked (Ok f) listed = listed_worded asked f (listed f)
 checked_worded asked (Err refusal) listed = tt
 
-module _ (words : List Text) (read : Text → Result FlowModel Refusal) (listed : AskedCheck → FlowModel → Result (List ListedStep) Refusal) where
+module _ (words : List Text) (read : Text → Result FlowModel Refusal) (zoned : Option Text → FlowModel → Result (Option (List ℕ)) Refusal) (listed : AskedCheck → FlowModel → Result (List ListedStep) Refusal) where
   abbrev ReadsFor : Option Command → Type 0
-  ReadsFor a = ReadsFolder (case_asked a read listed)
+  ReadsFor a = ReadsFolder (case_asked a read zoned listed)
 
   asked_worded : (asked : Asked) → asked_in words ≡ Some (Run asked) → ReadsFor (asked_in words)
-  asked_worded asked e = subst ReadsFor (sym e) (read_worded asked (named asked.name read))
+  asked_worded asked e = subst ReadsFor (sym e) (read_worded asked (named asked.name read) (zoned asked.zones))
 
   check_worded_by : (asked : AskedCheck) → asked_in words ≡ Some (Check asked) → ReadsFor (asked_in words)
   check_worded_by asked e = subst ReadsFor (sym e) (checked_worded asked (named asked.name read) (listed asked))
 
 pub some_case : (words : List Text) (files : Option (List File)) → SomeCase words files
-some_case words (Some fs) = record { case = case_of words fs; is = refl; worded = asked_worded words (reads fs) (listing_read fs); check_worded = check_worded_by words (reads fs) (listing_read fs) }
+some_case words (Some fs) = record { case = case_of words fs; is = refl; worded = asked_worded words (reads fs) (zones_read fs) (listing_read fs); check_worded = check_worded_by words (reads fs) (zones_read fs) (listing_read fs) }
 some_case words None = record {
-  case = case_asked (asked_in words) (λ name. no_model) (same_steps no_steps);
-  is = (no_model, no_steps, tt, refl);
-  worded = asked_worded words (λ name. no_model) (same_steps no_steps);
-  check_worded = check_worded_by words (λ name. no_model) (same_steps no_steps);
+  case = case_asked (asked_in words) (λ name. no_model) (same_zones no_zones) (same_steps no_steps);
+  is = (no_model, no_zones, no_steps, could_read no_model tt, refl);
+  worded = asked_worded words (λ name. no_model) (same_zones no_zones) (same_steps no_steps);
+  check_worded = check_worded_by words (λ name. no_model) (same_zones no_zones) (same_steps no_steps);
 }
 
 pub ends_without_words : (words : List Text) (files : Option (List File)) (n m : ℕ) (end : Status) (puts : List Put) → IsWanting end puts → Answers words files n m end puts
 ends_without_words words files n m end puts h = let c = some_case words files in lacking words files n m c.case end puts c.is h
 
-case_by : (words : List Text) (asked : Asked) (read : Text → Result FlowModel Refusal) (listed : AskedCheck → FlowModel → Result (List ListedStep) Refusal) (r : Result FlowModel Refusal) → asked_in words ≡ Some (Run asked) → named asked.name read ≡ r → case_read asked r ≡ case_asked (asked_in words) read listed
-case_by words asked read listed r e is = let P : Option Command → Type 0 = λ a. case_read asked r ≡ case_asked a read listed in subst P (sym e) (ap (case_read asked) (sym is))
+module _ (words : List Text) (asked : Asked) (wanted : asked_in words ≡ Some (Run asked)) (read : Text → Result FlowModel Refusal) (zoned : Option Text → FlowModel → Result (Option (List ℕ)) Refusal) (listed : AskedCheck → FlowModel → Result (List ListedStep) Refusal) where
+  case_by : (r : Result FlowModel Refusal) → named asked.name read ≡ r → case_read asked r (zoned asked.zones) ≡ case_asked (asked_in words) read zoned listed
+  case_by r is =
+      let P : Option Command → Type 0 = λ a. case_read asked r (zoned asked.zones) ≡ case_asked a read zoned listed in
+      subst P (sym wanted) (ap (λ x. case_read asked x (zoned asked.zones)) (sym is))
+
+  zoned_by : (f : FlowModel) (z : Result (Option (List ℕ)) Refusal) → named asked.name read ≡ Ok f → zoned asked.zones f ≡ z → case_zoned asked f z ≡ case_asked (asked_in words) read zoned listed
+  zoned_by f z is also = ap (case_zoned asked f) (sym also) ∙ case_by (Ok f) is
 
 module _ (words : List Text) (files : Option (List File)) (n m : ℕ) (asked : Asked) (wanted : asked_in words ≡ Some (Run asked)) where
   refused_case : (files : Option (List File)) (refusal : Refusal) → IsReadAs asked.name files (Err (input.Refused refusal)) → IsCase words files (Refuses refusal)
-  refused_case (Some fs) refusal h = case_by words asked (reads fs) (listing_read fs) (Err refusal) wanted h
-  refused_case None refusal (read, valid, h) = (read, no_steps, could_read read valid, case_by words asked (λ name. read) (same_steps no_steps) (Err refusal) wanted h)
+  refused_case (Some fs) refusal h = case_by words asked wanted (reads fs) (zones_read fs) (listing_read fs) (Err refusal) h
+  refused_case None refusal (read, valid, h) = (read, no_zones, no_steps, could_read read valid, case_by words asked wanted (λ name. read) (same_zones no_zones) (same_steps no_steps) (Err refusal) h)
 
-  model_case : (files : Option (List File)) (f : FlowModel) → IsReadAs asked.name files (Ok f) → IsCase words files (Listing (task_of asked f))
-  model_case (Some fs) f h = case_by words asked (reads fs) (listing_read fs) (Ok f) wanted h
-  model_case None f (read, valid, h) = (read, no_steps, could_read read valid, case_by words asked (λ name. read) (same_steps no_steps) (Ok f) wanted h)
+  -- a model was read, and then its zones as z
+  zones_case : (files : Option (List File)) (f : FlowModel) (z : Result (Option (List ℕ)) InputFault) (known : Result (Option (List ℕ)) Refusal) → ((defined : Result (Option (List ℕ)) Refusal) → IsReading (λ x. x) defined z → defined ≡ known) → IsReadAs asked.name files (Ok f) → IsModel f → AreZonesAs asked.zones f files z → IsCase words files (case_zoned asked f known)
+  zones_case (Some fs) f z known same h model zones = zoned_by words asked wanted (reads fs) (zones_read fs) (listing_read fs) f known h (same (zones_read fs asked.zones f) zones)
+  zones_case None f z known same (read, valid, h) model (zoned, fits, zones) =
+      let is : read ≡ Ok f = named_read asked.name (λ name. read) f h in (
+        read,
+        zoned,
+        no_steps,
+        record {
+          model = valid;
+          zones = of_model_read (λ m. IfOk zoned (λ zs. AreZonesOf m (map unsigned_abs zs))) read f is fits;
+          steps = of_each (λ m. IfOk no_steps (AreListed m)) read (λ m. tt);
+        },
+        zoned_by words asked wanted (λ name. read) (same_zones zoned) (same_steps no_steps) f known h (same (same_zones zoned asked.zones f) zones),
+      )
 
   pub ends_reading : (fault : InputFault) (end : Status) (puts : List Put) → IsReadAs asked.name files (Err fault) → InputCounts {T = FlowModel} n m (Err fault) → IsReadingEnd fault end puts → Answers words files n m end puts
   ends_reading (input.Refused refusal) end puts reads counts h = refused words files n m refusal end puts (refused_case files refusal reads) h
   ends_reading input.ReadFault end puts reads counts h = let c = some_case words files in unreadable words files n m c.case end puts c.is (c.worded asked wanted) counts h
   ends_reading input.Memory end puts reads counts h = ends_without_words words files n m end puts h
 
-  pub ends_listing : (f : FlowModel) (end : Status) (puts : List Put) → IsReadAs asked.name files (Ok f) → IsModel f → IsRun (IsListing (task_of asked f)) (IsCutListing (task_of asked f)) end puts → Answers words files n m end puts
-  ends_listing f end puts reads model h = listed words files n m (task_of asked f) end puts (model_case files f reads) model h
+  module _ (f : FlowModel) (read : IsReadAs asked.name files (Ok f)) (model : IsModel f) where
+    pub ends_unzoned : (fault : InputFault) (end : Status) (puts : List Put) → AreZonesAs asked.zones f files (Err fault) → InputCounts {T = Option (List ℕ)} n m (Err fault) → IsReadingEnd fault end puts → Answers words files n m end puts
+    ends_unzoned (input.Refused refusal) end puts zones counts h = refused words files n m refusal end puts (zones_case files f (Err (input.Refused refusal)) (Err refusal) (λ defined is. is) read model zones) h
+    ends_unzoned input.ReadFault end puts zones counts h = let c = some_case words files in unreadable words files n m c.case end puts c.is (c.worded asked wanted) counts h
+    ends_unzoned input.Memory end puts zones counts h = ends_without_words words files n m end puts h
+
+    pub ends_listing : (zones : Option (List ℕ)) (end : Status) (puts : List Put) → AreZonesAs asked.zones f files (Ok zones) → IsRun (IsListing (task_of asked f zones)) (IsCutListing (task_of asked f zones)) end puts → Answers words files n m end puts
+    ends_listing zones end puts zoned h = listed words files n m (task_of asked f zones) end puts (zones_case files f (Ok zones) (Ok zones) (λ defined is. is) read model zoned) model h
 
 -- a made model
 module _ (words : List Text) (seed size : ℕ) (wanted : asked_in words ≡ Some (Make seed size)) where
   abbrev made_case : Case
   made_case = Making seed size (made_model seed size)
 
-  made_by : (read : Text → Result FlowModel Refusal) (listed : AskedCheck → FlowModel → Result (List ListedStep) Refusal) → made_case ≡ case_asked (asked_in words) read listed
-  made_by read listed = let P : Option Command → Type 0 = λ a. made_case ≡ case_asked a read listed in subst P (sym wanted) refl
+  made_by : (read : Text → Result FlowModel Refusal) (zoned : Option Text → FlowModel → Result (Option (List ℕ)) Refusal) (listed : AskedCheck → FlowModel → Result (List ListedStep) Refusal) → made_case ≡ case_asked (asked_in words) read zoned listed
+  made_by read zoned listed = let P : Option Command → Type 0 = λ a. made_case ≡ case_asked a read zoned listed in subst P (sym wanted) refl
 
   is_made : (files : Option (List File)) → IsCase words files made_case
-  is_made (Some fs) = made_by (reads fs) (listing_read fs)
-  is_made None = (no_model, no_steps, tt, made_by (λ name. no_model) (same_steps no_steps))
+  is_made (Some fs) = made_by (reads fs) (zones_read fs) (listing_read fs)
+  is_made None = (no_model, no_zones, no_steps, could_read no_model tt, made_by (λ name. no_model) (same_zones no_zones) (same_steps no_steps))
 
   pub ends_made : (files : Option (List File)) (n m : ℕ) (end : Status) (puts : List Put) → IsMadeRun seed size end puts → Answers words files n m end puts
   ends_made files n m end puts h = record {

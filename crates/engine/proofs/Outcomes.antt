@@ -29,7 +29,7 @@ use Rattle.listing_summary.specs.declared.summary.Summary.{Summary}
 use Rattle.listing_summary.specs.Texts.{summary_text}
 use Rattle.exact_histories.proofs.WholeRuns.{history_exists, history_is_one}
 use Rattle.check_run.specs.Laws.{VerdictIsOne}
-use Rattle.engine.specs.Cases.{Asked, AskedCheck, Case, Command, Run, Make, Check, NoWords, Refuses, Listing, Making, Checking, IsCase, asked_in, case_asked, case_of, case_read, listing_read, made_model, named, task_of}
+use Rattle.engine.specs.Cases.{Asked, AskedCheck, Case, Command, Run, Make, Check, NoWords, Refuses, Listing, Making, Checking, IsCase, asked_in, case_asked, case_of, case_read, case_zoned, listing_read, made_model, named, task_of, zones_named, zones_read}
 use Rattle.engine.specs.Certified.{Certified}
 use Rattle.engine.specs.Checked.{IsCheck}
 use Rattle.engine.specs.Defined.{CutOf, Defines, Due, defined, unread}
@@ -72,7 +72,9 @@ record Listed (words : List Text) (files : List File) (k : Task) : Type 0 where
   wanted : asked_in words ≡ Some (Run asked)
   model : FlowModel
   read : reads files asked.name ≡ Ok model
-  task : task_of asked model ≡ k
+  zones : Option (List ℕ)
+  zoned : zones_read files asked.zones model ≡ Ok zones
+  task : task_of asked model zones ≡ k
 
 task_in : Task → Case → Task
 task_in other NoWords = other
@@ -86,11 +88,15 @@ unfolding task_in
 one_task j k e = ap (task_in k) e
 
 module _ (words : List Text) (files : List File) (k : Task) where
-  by_reading : (asked : Asked) → asked_in words ≡ Some (Run asked) → (r : Result FlowModel Refusal) → named asked.name (reads files) ≡ r → case_read asked r ≡ Listing k → Listed words files k
-  by_reading asked wanted (Ok f) is e = record { asked = asked; wanted = wanted; model = f; read = named_read asked.name (reads files) f is; task = one_task (task_of asked f) k e }
+  by_zones : (asked : Asked) → asked_in words ≡ Some (Run asked) → (f : FlowModel) → named asked.name (reads files) ≡ Ok f → (z : Result (Option (List ℕ)) Refusal) → zones_read files asked.zones f ≡ z → case_zoned asked f z ≡ Listing k → Listed words files k
+  by_zones asked wanted f is (Ok zones) also e = record { asked = asked; wanted = wanted; model = f; read = named_read asked.name (reads files) f is; zones = zones; zoned = also; task = one_task (task_of asked f zones) k e }
+  by_zones asked wanted f is (Err refusal) also e = absurd (let bad : Refuses refusal ≡ Listing k = e in cc)
+
+  by_reading : (asked : Asked) → asked_in words ≡ Some (Run asked) → (r : Result FlowModel Refusal) → named asked.name (reads files) ≡ r → case_read asked r (zones_read files asked.zones) ≡ Listing k → Listed words files k
+  by_reading asked wanted (Ok f) is e = by_zones asked wanted f is (zones_read files asked.zones f) refl e
   by_reading asked wanted (Err refusal) is e = absurd (let bad : Refuses refusal ≡ Listing k = e in cc)
 
-  by_words : (a : Option Command) → asked_in words ≡ a → case_asked a (reads files) (listing_read files) ≡ Listing k → Listed words files k
+  by_words : (a : Option Command) → asked_in words ≡ a → case_asked a (reads files) (zones_read files) (listing_read files) ≡ Listing k → Listed words files k
   by_words None wanted e = absurd (let bad : NoWords ≡ Listing k = e in cc)
   by_words (Some (Run asked)) wanted e = by_reading asked wanted (named asked.name (reads files)) refl e
   by_words (Some (Make seed size)) wanted e = absurd (let bad : Making seed size (made_model seed size) ≡ Listing k = e in cc)
@@ -125,11 +131,15 @@ module _ (words : List Text) (files : List File) (seed size : ℕ) (read : Resul
       let S : ℕ → Type 0 = λ n. made_model seed n ≡ read in
       record { wanted = subst Q b (subst P a wanted); is = subst S b (subst R a is) }
 
-  made_by_reading : (asked : Asked) (r : Result FlowModel Refusal) → case_read asked r ≡ Making seed size read → Summed words seed size read
-  made_by_reading asked (Ok f) e = absurd (let bad : Listing (task_of asked f) ≡ Making seed size read = e in cc)
+  made_by_zones : (asked : Asked) (f : FlowModel) (z : Result (Option (List ℕ)) Refusal) → case_zoned asked f z ≡ Making seed size read → Summed words seed size read
+  made_by_zones asked f (Ok zones) e = absurd (let bad : Listing (task_of asked f zones) ≡ Making seed size read = e in cc)
+  made_by_zones asked f (Err refusal) e = absurd (let bad : Refuses refusal ≡ Making seed size read = e in cc)
+
+  made_by_reading : (asked : Asked) (r : Result FlowModel Refusal) → case_read asked r (zones_read files asked.zones) ≡ Making seed size read → Summed words seed size read
+  made_by_reading asked (Ok f) e = made_by_zones asked f (zones_read files asked.zones f) e
   made_by_reading asked (Err refusal) e = absurd (let bad : Refuses refusal ≡ Making seed size read = e in cc)
 
-  made_by_words : (a : Option Command) → asked_in words ≡ a → case_asked a (reads files) (listing_read files) ≡ Making seed size read → Summed words seed size read
+  made_by_words : (a : Option Command) → asked_in words ≡ a → case_asked a (reads files) (zones_read files) (listing_read files) ≡ Making seed size read → Summed words seed size read
   made_by_words None wanted e = absurd (let bad : NoWords ≡ Making seed size read = e in cc)
   made_by_words (Some (Run asked)) wanted e = made_by_reading asked (named asked.name (reads files)) e
   made_by_words (Some (Make i j)) wanted e = same_words i j wanted (one_making i j seed size (made_model i j) read e)
@@ -161,20 +171,22 @@ module _ (laws : Laws) where
       let W : Task → Type 0 = λ j. IsWhole j pieces in
       by_task (subst W (sym l.task) w) (let M : Task → Type 0 = λ j. IsModel j.model in subst M (sym l.task) valid)
     where
-      by_task : IsWhole (task_of l.asked l.model) pieces → IsModel l.model → Headline words files old.written new.written × OneListing words files old.written new.written
+      by_task : IsWhole (task_of l.asked l.model l.zones) pieces → IsModel l.model → Headline words files old.written new.written × OneListing words files old.written new.written
       by_task v model =
-          let all = all_written (listing (task_of l.asked l.model) v.values end_line) old new puts (written ∙ ap (map taken) v.are) makes in (
+          let all = all_written (listing (task_of l.asked l.model l.zones) v.values end_line) old new puts (written ∙ ap (map taken) v.are) makes in (
             record {
               asked = l.asked;
               wanted = l.wanted;
               model = l.model;
               read = l.read;
               valid = model;
+              zones = l.zones;
+              zoned = l.zoned;
               values = v.values;
               written = all;
               encloses = v.encloses;
-              solvable = history_exists (task_of l.asked l.model) v.values model v.steps;
-              one = history_is_one (task_of l.asked l.model) v.values model v.steps;
+              solvable = history_exists (task_of l.asked l.model l.zones) v.values model v.steps;
+              one = history_is_one (task_of l.asked l.model l.zones) v.values model v.steps;
             },
             record {
               asked = l.asked;
@@ -182,9 +194,11 @@ module _ (laws : Laws) where
               model = l.model;
               read = l.read;
               valid = model;
+              zones = l.zones;
+              zoned = l.zoned;
               values = v.values;
               steps = v.steps;
-              only = λ others steps. laws.one (task_of l.asked l.model) v.values others model v.steps steps;
+              only = λ others steps. laws.one (task_of l.asked l.model l.zones) v.values others model v.steps steps;
               encloses = v.encloses;
               written = all;
             },
@@ -246,8 +260,8 @@ module _ (laws : Laws) where
   both words None n m end puts old new a makes e = tt
 
   made_of : (words : List Text) (files : Option (List File)) (seed size : ℕ) (case : Case) → asked_in words ≡ Some (Make seed size) → IsCase words files case → case ≡ Making seed size (made_model seed size)
-  made_of words (Some fs) seed size case wanted is = let P : Option Command → Type 0 = λ a. case ≡ case_asked a (reads fs) (listing_read fs) in subst P wanted is
-  made_of words None seed size case wanted (read, listed, valid, is) = let P : Option Command → Type 0 = λ a. case ≡ case_asked a (λ name. read) (λ asked m. named asked.listing (λ name. listed)) in subst P wanted is
+  made_of words (Some fs) seed size case wanted is = let P : Option Command → Type 0 = λ a. case ≡ case_asked a (reads fs) (zones_read fs) (listing_read fs) in subst P wanted is
+  made_of words None seed size case wanted (read, zoned, listed, valid, is) = let P : Option Command → Type 0 = λ a. case ≡ case_asked a (λ name. read) (λ zones m. zones_named zones (λ name. zoned)) (λ asked m. named asked.listing (λ name. listed)) in subst P wanted is
 
   pub made : (words : List Text) (files : Option (List File)) (n m : ℕ) (end : Status) (puts : List Put) (old new : Seen) → Answers words files n m end puts → PutsMake old puts new → end ≡ status.Ok → (seed size : ℕ) → asked_in words ≡ Some (Make seed size) → Made words old.written new.written × OneSummary words old.written new.written
   made words files n m end puts old new a makes e seed size wanted =

@@ -1,5 +1,6 @@
 -- What a reading gives, by the name and what the folder tells.
-use Rattle.std.proofs.Common.{◌≡◌, ℕ, Bool, true, false, IfSome, List, Option, None, Some, Result, Ok, Err, IfOk, sym, ap, refl, ◌∙◌, codes, if◌then◌else◌}
+use Rattle.std.proofs.Common.{◌≡◌, ℕ, ◌≤◌, All, Bool, true, false, IfSome, length, List, Option, None, Some, Result, Ok, Err, IfOk, sym, ap, refl, ◌∙◌, codes, if◌then◌else◌, map, subst, ℤ, unsigned_abs}
+use Rattle.std.proofs.lemmas.List.{length-map}
 use Rattle.outside.specs.Files.{File}
 use Rattle.outside.specs.Inputs.{IsReading, file_at, file_refusal}
 use Rattle.outside.specs.Refusals.{input_fault}
@@ -11,16 +12,19 @@ use Rattle.outside.specs.declared.refusals.InputFault.{InputFault}
 use Rattle.outside.specs.declared.refusals.InputFault.TheVariants as input
 use Rattle.outside.specs.declared.refusals.Refusal.{Refusal}
 use Rattle.outside.proofs.NameTests.{is_taken, is_good}
-use Rattle.record_lines.specs.Reading.{Has, StopsText}
+use Rattle.record_lines.specs.Reading.{Has, Stops, StopsText}
 use Rattle.model_types.specs.declared.model.FlowModel.{FlowModel}
+use Rattle.model_types.specs.Cells.{cell_count}
 use Rattle.model_types.specs.Valid.{IsModel}
 use Rattle.model_reader.specs.Model.{reads}
 use Rattle.run_puts.specs.Lines.{Text}
 use Rattle.listing_io.specs.declared.listing.ListedStep.{ListedStep}
 use Rattle.listing_io.specs.Listed.{AreListed}
 use Rattle.listing_io.specs.Reading.{listing_in}
-use Rattle.engine.specs.Cases.{AskedCheck, named, steps_in}
-use Rattle.engine.specs.Parts.{IsListedAs, IsNamedFault, IsReadAs}
+use Rattle.zone_file.specs.Zones.{zones_of}
+use Rattle.listing_run.specs.Zones.{AreZonesOf}
+use Rattle.engine.specs.Cases.{AskedCheck, named, numbers_of, steps_in}
+use Rattle.engine.specs.Parts.{AreZonesAs, IsListedAs, IsNamedFault, IsReadAs}
 
 not_good : (name : Text) → (IsGoodName name → ⊥) → is_good_name name ≡ false
 not_good name bad = by_test (is_good_name name) refl
@@ -108,3 +112,37 @@ module _ (asked : AskedCheck) (m : FlowModel) (good : IsGoodName asked.listing) 
 pub text_read : (read : Result (List ListedStep) Refusal) (fault : TextFault) → StopsText fault read → IsReading {T = List ListedStep} (λ l. l) read (Err (input_fault fault))
 text_read read (texts.Refused refusal) h = h
 text_read read texts.Memory h = tt
+
+-- The zones of a zone file.
+
+abbrev pub no_zones : Result (List ℤ) Refusal
+no_zones = Err (file_refusal BadName (codes "-"))
+
+-- one number for each cell, each at most 999
+pub zones_fit : (m : FlowModel) (zones : List ℤ) (numbers : List ℕ) → numbers ≡ map unsigned_abs zones → length zones ≡ cell_count m.grid → All (λ z. z ≤ 999) numbers → AreZonesOf m numbers
+zones_fit m zones numbers is count limits = record { count = ap length is ∙ length-map zones unsigned_abs ∙ count; limits = limits }
+
+-- without a zone file nothing is read
+pub none_zoned : (m : FlowModel) (files : Option (List File)) → AreZonesAs None m files (Ok None)
+none_zoned m (Some fs) = refl
+none_zoned m None = (no_zones, tt, refl)
+
+module _ (name : Text) (m : FlowModel) where
+  -- the file's reading failed
+  pub unread_zones : (files : Option (List File)) (fault : InputFault) → IfSome files (λ fs. Stops fault (zones_of fs m.grid name)) → AreZonesAs (Some name) m files (Err fault)
+  unread_zones (Some fs) (input.Refused refusal) h = ap numbers_of h
+  unread_zones (Some fs) input.ReadFault h = tt
+  unread_zones (Some fs) input.Memory h = tt
+  unread_zones None (input.Refused refusal) h = (Err refusal, tt, refl)
+  unread_zones None input.ReadFault h = (no_zones, tt, tt)
+  unread_zones None input.Memory h = (no_zones, tt, tt)
+
+  -- its numbers were read
+  pub zones_were_read : (files : Option (List File)) (zones : List ℤ) (numbers : List ℕ) → IfSome files (λ fs. zones_of fs m.grid name ≡ Ok zones) → numbers ≡ map unsigned_abs zones → AreZonesOf m numbers → AreZonesAs (Some name) m files (Ok (Some numbers))
+  zones_were_read (Some fs) zones numbers h is fits = ap numbers_of h ∙ ap (λ (ns : List ℕ). Ok (Some ns)) (sym is)
+  zones_were_read None zones numbers h is fits = (Ok zones, subst (AreZonesOf m) is fits, ap (λ (ns : List ℕ). Ok (Some ns)) (sym is))
+
+  -- memory was lacking for them
+  pub zones_lack_memory : (files : Option (List File)) → AreZonesAs (Some name) m files (Err input.Memory)
+  zones_lack_memory (Some fs) = tt
+  zones_lack_memory None = (no_zones, tt, tt)

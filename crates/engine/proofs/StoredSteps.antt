@@ -12,7 +12,9 @@ use Rattle.barrier_vector.specs.Bounds.{greatest}
 use Rattle.barrier_vector.specs.Refusals.{HasNoFloor, HasNoCeiling, IsRefused}
 use Rattle.budget_bounds.specs.Terms.{◌>>=◌, all_terms, budget_of, is_small, term_of, term_pair, terms_of, too_large}
 use Rattle.problem_builder.specs.Refusals.{fault_of}
-use Rattle.listing_run.specs.Steps.{no_heads, no_budget}
+use Rattle.step_chain.specs.declared.solved.Solved.{Solved}
+use Rattle.listing_run.specs.Steps.{no_heads, no_budget, no_zones}
+use Rattle.listing_run.specs.Zones.{HasLargeFlow}
 use Rattle.engine.specs.Storage.{IsStored, StorageHolds}
 
 -- what a refusal is not
@@ -97,7 +99,13 @@ module _ (p : List Entries) (l u : ℕ → ℤ) where
   unfolding budget_of
   budget_code n e = bind_code (terms_of p l u In all_terms) _ (terms_code In all_terms) (λ into. bind_code (terms_of p l u Out all_terms) _ (terms_code Out all_terms) (λ out m h. cc)) n e
 
+-- flows between zones that are too large have that number too
+large_code : (zones : Option (List ℕ)) (x : Solved) (n : NoBound) → HasLargeFlow zones x n → TooLarge n
+large_code None x n h = absurd h
+large_code (Some zones) x n h = ap (λ (m : NoBound). m.code) h.is
+
 pub storage_holds : StorageHolds
 storage_holds k at old n stored (no_heads (inl none)) = problem_code none.refused.entries n.code none.refused.is_fault
 storage_holds k at old n stored (no_heads (inr (p, is, refused))) = barrier_code p n (stored p is) refused
 storage_holds k at old n stored (no_budget solved settled refused) = other_code n.code 23 (budget_code solved.problem (lower_at solved.bounds) (upper_at solved.bounds) n refused) (omega arith, omega arith)
+storage_holds k at old n stored (no_zones solved budget settled is large) = other_code n.code 23 (large_code k.zones solved n large) (omega arith, omega arith)

@@ -1,5 +1,5 @@
 -- The ends of a check, by its readings and its verdict.
-use Rattle.std.proofs.Common.{◌≡◌, ℕ, List, Ok, Err, Result, Option, None, Some, IfOk, inl, refl, sym, ap, subst, ◌∙◌}
+use Rattle.std.proofs.Common.{◌≡◌, ℕ, List, Ok, Err, Result, Option, None, Some, IfOk, inl, refl, sym, ap, subst, ◌∙◌, map, ℤ, unsigned_abs}
 use Rattle.outside.specs.Counts.{InputCounts}
 use Rattle.outside.specs.Files.{File}
 use Rattle.outside.specs.Puts.{Put}
@@ -21,11 +21,12 @@ use Rattle.exact_histories.specs.Histories.{HasOneHistory}
 use Rattle.check_run.specs.declared.verdict.Verdict.{Verdict}
 use Rattle.check_run.specs.declared.verdict.Verdict.TheVariants.{Certified, Fails, Refused}
 use Rattle.check_run.specs.Verdicts.{IsVerdict, ListingEncloses}
-use Rattle.engine.specs.Cases.{AskedCheck, Command, Check, Refuses, Checking, IsCase, CouldRead, asked_in, case_asked, case_checked, case_listed, listing_read, named}
+use Rattle.engine.specs.Cases.{AskedCheck, Command, Check, Refuses, Checking, IsCase, CouldRead, asked_in, case_asked, case_checked, case_listed, listing_read, named, zones_read}
 use Rattle.engine.specs.Checked.{IsCheck, certified_line}
 use Rattle.engine.specs.Parts.{Answers, IsListedAs, IsReadAs, IsReadingEnd, IsUncut, IsVerdictEnd}
-use Rattle.engine.proofs.Ends.{checked, could_read, ends_without_words, no_steps, refused, same_steps, some_case, unreadable}
-use Rattle.engine.proofs.Readings.{named_read}
+use Rattle.listing_run.specs.Zones.{AreZonesOf}
+use Rattle.engine.proofs.Ends.{checked, could_read, ends_without_words, no_steps, of_each, of_model_read, refused, same_steps, same_zones, some_case, unreadable}
+use Rattle.engine.proofs.Readings.{named_read, no_zones}
 
 module _ (m : FlowModel) (s : ℕ) (steps : List ListedStep) where
   pub puts_verdict : (v : Verdict) (end : Status) (puts : List Put) → IsVerdict m s steps v → (v ≡ Certified → ListingEncloses m s steps) → (v ≡ Certified → HasOneHistory m) → IsVerdictEnd m v end puts → IsRun (IsCheck m s steps) IsUncut end puts
@@ -35,29 +36,32 @@ module _ (m : FlowModel) (s : ℕ) (steps : List ListedStep) where
 
 -- the ends of a check
 module _ (words : List Text) (files : Option (List File)) (n m : ℕ) (asked : AskedCheck) (wanted : asked_in words ≡ Some (Check asked)) where
-  check_case : (read : Text → Result FlowModel Refusal) (listed : AskedCheck → FlowModel → Result (List ListedStep) Refusal) (r : Result FlowModel Refusal) → named asked.name read ≡ r → case_checked asked r (listed asked) ≡ case_asked (asked_in words) read listed
-  check_case read listed r is =
-      let P : Option Command → Type 0 = λ a. case_checked asked r (listed asked) ≡ case_asked a read listed in
+  check_case : (read : Text → Result FlowModel Refusal) (zoned : Option Text → FlowModel → Result (Option (List ℕ)) Refusal) (listed : AskedCheck → FlowModel → Result (List ListedStep) Refusal) (r : Result FlowModel Refusal) → named asked.name read ≡ r → case_checked asked r (listed asked) ≡ case_asked (asked_in words) read zoned listed
+  check_case read zoned listed r is =
+      let P : Option Command → Type 0 = λ a. case_checked asked r (listed asked) ≡ case_asked a read zoned listed in
       subst P (sym wanted) (ap (λ x. case_checked asked x (listed asked)) (sym is))
 
   unread_case : (files : Option (List File)) (refusal : Refusal) → IsReadAs asked.name files (Err (input.Refused refusal)) → IsCase words files (Refuses refusal)
-  unread_case (Some fs) refusal h = check_case (reads fs) (listing_read fs) (Err refusal) h
-  unread_case None refusal (read, valid, h) = (read, no_steps, could_read read valid, check_case (λ name. read) (same_steps no_steps) (Err refusal) h)
+  unread_case (Some fs) refusal h = check_case (reads fs) (zones_read fs) (listing_read fs) (Err refusal) h
+  unread_case None refusal (read, valid, h) = (read, no_zones, no_steps, could_read read valid, check_case (λ name. read) (same_zones no_zones) (same_steps no_steps) (Err refusal) h)
 
   -- a model was read, and then what the check names as r
-  read_both : (f : FlowModel) (read : Result FlowModel Refusal) (listed : Result (List ListedStep) Refusal) → named asked.name (λ name. read) ≡ Ok f → IsModel f → IfOk listed (AreListed f) → CouldRead read listed
+  read_both : (f : FlowModel) (read : Result FlowModel Refusal) (listed : Result (List ListedStep) Refusal) → named asked.name (λ name. read) ≡ Ok f → IsModel f → IfOk listed (AreListed f) → CouldRead read no_zones listed
   read_both f read listed is model fits =
       let e : read ≡ Ok f = named_read asked.name (λ name. read) f is in
-      let P : Result FlowModel Refusal → Type 0 = λ r. CouldRead r listed in
-      subst P (sym e) (model, fits)
+      record {
+        model = of_model_read IsModel read f e model;
+        zones = of_each (λ m. IfOk no_zones (λ zones. AreZonesOf m (map unsigned_abs zones))) read (λ m. tt);
+        steps = of_model_read (λ m. IfOk listed (AreListed m)) read f e fits;
+      }
 
   steps_case : (files : Option (List File)) (f : FlowModel) → IsReadAs asked.name files (Ok f) → IsModel f → (steps : List ListedStep) → IsListedAs asked f files (Ok steps) → IsCase words files (Checking f asked.digits steps)
-  steps_case (Some fs) f h model steps l = ap (case_listed asked f) (sym l) ∙ check_case (reads fs) (listing_read fs) (Ok f) h
-  steps_case None f (read, valid, h) model steps (listed, fits, l) = (read, listed, read_both f read listed h model fits, ap (case_listed asked f) (sym l) ∙ check_case (λ name. read) (same_steps listed) (Ok f) h)
+  steps_case (Some fs) f h model steps l = ap (case_listed asked f) (sym l) ∙ check_case (reads fs) (zones_read fs) (listing_read fs) (Ok f) h
+  steps_case None f (read, valid, h) model steps (listed, fits, l) = (read, no_zones, listed, read_both f read listed h model fits, ap (case_listed asked f) (sym l) ∙ check_case (λ name. read) (same_zones no_zones) (same_steps listed) (Ok f) h)
 
   unlisted_case : (files : Option (List File)) (f : FlowModel) → IsReadAs asked.name files (Ok f) → IsModel f → (refusal : Refusal) → IsListedAs asked f files (Err (input.Refused refusal)) → IsCase words files (Refuses refusal)
-  unlisted_case (Some fs) f h model refusal l = ap (case_listed asked f) (sym l) ∙ check_case (reads fs) (listing_read fs) (Ok f) h
-  unlisted_case None f (read, valid, h) model refusal (listed, fits, l) = (read, listed, read_both f read listed h model fits, ap (case_listed asked f) (sym l) ∙ check_case (λ name. read) (same_steps listed) (Ok f) h)
+  unlisted_case (Some fs) f h model refusal l = ap (case_listed asked f) (sym l) ∙ check_case (reads fs) (zones_read fs) (listing_read fs) (Ok f) h
+  unlisted_case None f (read, valid, h) model refusal (listed, fits, l) = (read, no_zones, listed, read_both f read listed h model fits, ap (case_listed asked f) (sym l) ∙ check_case (λ name. read) (same_zones no_zones) (same_steps listed) (Ok f) h)
 
   pub ends_unread : (fault : InputFault) (end : Status) (puts : List Put) → IsReadAs asked.name files (Err fault) → InputCounts {T = FlowModel} n m (Err fault) → IsReadingEnd fault end puts → Answers words files n m end puts
   ends_unread (input.Refused refusal) end puts reads counts h = refused words files n m refusal end puts (unread_case files refusal reads) h

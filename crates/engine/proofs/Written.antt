@@ -21,7 +21,7 @@ use Rattle.listing_run.specs.Listing.{IsWhole, listing}
 use Rattle.check_run.specs.Runs.{IsReadable, RunIsCertified, RunIsReadAgain, as_listed}
 use Rattle.exact_histories.proofs.WholeRuns.{history_exists, history_is_one}
 use Rattle.check_run.proofs.RunEnclosed.{run_encloses}
-use Rattle.engine.specs.Cases.{AskedCheck, Case, Check, Command, Checking, asked_in, built, case_asked, case_checked, case_listed, case_of, listing_read, steps_in, task_of}
+use Rattle.engine.specs.Cases.{AskedCheck, Case, Check, Command, Checking, asked_in, built, case_asked, case_checked, case_listed, case_of, listing_read, steps_in, task_of, zones_read}
 use Rattle.engine.specs.Checked.{IsCertified, certified_line}
 use Rattle.engine.specs.Defined.{Defines}
 use Rattle.engine.specs.OneListing.{OneListing}
@@ -38,9 +38,8 @@ with_bytes false found made refusal bytes h = absurd (clash refusal bytes (Err r
 
 -- a check has at most 18 digits
 built_check : (asked : AskedCheck) (w : Wanted) → built w ≡ Some (Check asked) → w ≡ Checks asked.name asked.listing asked.digits
-built_check asked (Lists name digits workers rounds None None) e = cc
-built_check asked (Lists name digits workers rounds None (Some turns)) e = cc
-built_check asked (Lists name digits workers rounds (Some zones) turns) e = cc
+built_check asked (Lists name digits workers rounds zones None) e = cc
+built_check asked (Lists name digits workers rounds zones (Some turns)) e = cc
 built_check asked (Checks name listing digits) e = cc
 built_check asked (Makes seed size) e = cc
 built_check asked (Batches list digits workers rounds) e = cc
@@ -52,13 +51,14 @@ asked_digits words asked = by_wanted (wanted_of words) refl
     by_wanted None is e = cc
     by_wanted (Some w) is e = check_digits words asked.name asked.listing asked.digits (is ∙ ap Some (built_check asked w e))
 
-module _ (certified : RunIsCertified) (again : RunIsReadAgain) (k : Task) (pieces words : List Text) (files : List File) (model : IsModel k.model) (whole : IsWhole k pieces) (h : ChecksWritten words files k (concat pieces)) where
+module _ (certified : RunIsCertified) (again : RunIsReadAgain) (k : Task) (pieces words : List Text) (files : List File) (model : IsModel k.model) (none : k.zones ≡ None) (whole : IsWhole k pieces) (h : ChecksWritten words files k (concat pieces)) where
   abbrev steps : List ListedStep
   steps = map as_listed whole.values
 
   readable : IsReadable k
   readable = record {
     model = model;
+    zones = none;
     digits = let few = asked_digits words h.asked h.wanted in let same = h.digits in omega (arith, few, same);
     unit = unit_is_short files h.asked.name k.model (named_read h.asked.name (reads files) k.model h.read);
   }
@@ -74,7 +74,7 @@ module _ (certified : RunIsCertified) (again : RunIsReadAgain) (k : Task) (piece
 
   case_is : case_of words files ≡ Checking k.model h.asked.digits steps
   case_is =
-      ap (λ (c : Option Command). case_asked c (reads files) (listing_read files)) h.wanted
+      ap (λ (c : Option Command). case_asked c (reads files) (zones_read files) (listing_read files)) h.wanted
       ∙ ap (λ (r : Result FlowModel Refusal). case_checked h.asked r (listing_read files h.asked)) h.read
       ∙ ap (case_listed h.asked k.model) read
 
@@ -90,12 +90,12 @@ module _ (certified : RunIsCertified) (again : RunIsReadAgain) (k : Task) (piece
       }))
 
 pub written_is_certified : RunIsCertified → RunIsReadAgain → WrittenIsCertified
-written_is_certified certified again k pieces words files model whole h = is_certified certified again k pieces words files model whole h
+written_is_certified certified again k pieces words files model none whole h = is_certified certified again k pieces words files model none whole h
 
 pub one_listing_is_certified : WrittenIsCertified → OneListingIsCertified
-one_listing_is_certified written words files bytes h checks others check =
-    let k = task_of h.asked h.model in
+one_listing_is_certified written words files bytes h none checks others check =
+    let k = task_of h.asked h.model h.zones in
     let pieces = listing k h.values end_line in
     let whole : IsWhole k pieces = record { values = h.values; steps = h.steps; encloses = h.encloses; are = refl } in
     let C : List ℕ → Type 0 = λ bs. ChecksWritten checks others k bs in
-    written k pieces checks others h.valid whole (subst C h.written check)
+    written k pieces checks others h.valid none whole (subst C h.written check)

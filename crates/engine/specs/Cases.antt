@@ -1,5 +1,5 @@
 -- The case of a run: what its words and files define.
-use Rattle.std.specs.Prelude.{◌≡◌, ℕ, List, Result, Ok, Err, Option, Some, None, IfOk, codes, if◌then◌else◌, option_and_then}
+use Rattle.std.specs.Prelude.{◌≡◌, ℕ, ℤ, List, map, Result, Ok, Err, Option, Some, None, IfOk, codes, if◌then◌else◌, option_and_then, unsigned_abs}
 use Rattle.outside.specs.Files.{File}
 use Rattle.outside.specs.Inputs.{file_at, file_refusal}
 use Rattle.outside.specs.Names.{is_good_name}
@@ -9,18 +9,22 @@ use Rattle.command_line.specs.Wants.{Wanted, Lists, Checks, Makes, wanted_of}
 use Rattle.model_types.specs.declared.model.FlowModel.{FlowModel}
 use Rattle.model_types.specs.Valid.{IsModel}
 use Rattle.model_reader.specs.Model.{reads}
+use Rattle.zone_file.specs.Zones.{zones_of}
 use Rattle.model_maker.specs.Files.{made_files, made_name}
 use Rattle.listing_io.specs.declared.listing.ListedStep.{ListedStep}
 use Rattle.listing_io.specs.Listed.{AreListed}
 use Rattle.listing_io.specs.Reading.{listing_in}
 use Rattle.run_puts.specs.Lines.{Text}
 use Rattle.listing_run.specs.declared.task.Task.{Task}
+use Rattle.listing_run.specs.Zones.{AreZonesOf}
 
--- A listing that the words ask for: the name of its name file, the digits of conductances, and the number of plain rounds in which a step must settle.
+-- A listing that the words ask for: the name of its name file, the digits of conductances, the number of plain rounds
+-- in which a step must settle, and the name of a zone file, if there is one.
 pub record Asked : Type 0 where
   pub name : Text
   pub digits : ℕ
   pub rounds : ℕ
+  pub zones : Option Text
 
 -- A check that the words ask for: the name of the name file, that of the listing, and the digits of conductances.
 pub record AskedCheck : Type 0 where
@@ -34,9 +38,9 @@ pub data Command : Type 0 where
   Make : ℕ → ℕ → Command
   Check : AskedCheck → Command
 
--- The commands that are implemented: `run`, without a zone file and without a watching seat, `make`, and `check`. No definition has the number of workers.
+-- The commands that are implemented: `run`, without a watching seat, `make`, and `check`. No definition has the number of workers.
 abbrev pub built : Wanted → Option Command
-built (Lists name digits workers rounds None None) = Some (Run (record { name = name; digits = digits; rounds = rounds }))
+built (Lists name digits workers rounds zones None) = Some (Run (record { name = name; digits = digits; rounds = rounds; zones = zones }))
 built (Makes seed size) = Some (Make seed size)
 built (Checks name listing digits) = Some (Check (record { name = name; listing = listing; digits = digits }))
 built other = None
@@ -45,9 +49,9 @@ built other = None
 abbrev pub asked_in : List Text → Option Command
 asked_in words = option_and_then built (wanted_of words)
 
--- what is listed of a model
-abbrev pub task_of : Asked → FlowModel → Task
-task_of asked m = record { model = m; digits = asked.digits; zones = None; rounds = asked.rounds }
+-- what is listed of a model, with the zones of its cells if there is a zone file
+abbrev pub task_of : Asked → FlowModel → Option (List ℕ) → Task
+task_of asked m zones = record { model = m; digits = asked.digits; zones = zones; rounds = asked.rounds }
 
 -- The case of a run: the words aren't accepted; this is the first refusal; this is listed; a model is made from this
 -- seed and size, whose files read as this one or have this refusal; or these steps of a listing of a model are
@@ -76,9 +80,28 @@ steps_in asked m (Err refusal) = Err refusal
 abbrev pub listing_read : List File → AskedCheck → FlowModel → Result (List ListedStep) Refusal
 listing_read files asked m = named asked.listing (λ name. steps_in asked m (file_at files name))
 
-abbrev pub case_read : Asked → Result FlowModel Refusal → Case
-case_read asked (Ok m) = Listing (task_of asked m)
-case_read asked (Err refusal) = Refuses refusal
+-- the zones that a file gives, as unsigned numbers
+abbrev pub numbers_of : Result (List ℤ) Refusal → Result (Option (List ℕ)) Refusal
+numbers_of (Ok zones) = Ok (Some (map unsigned_abs zones))
+numbers_of (Err refusal) = Err refusal
+
+-- the zones of the named zone file, if there is one, by this reading of zone files
+abbrev pub zones_named : Option Text → (Text → Result (List ℤ) Refusal) → Result (Option (List ℕ)) Refusal
+zones_named None read = Ok None
+zones_named (Some name) read = numbers_of (read name)
+
+-- the zones of a model's cells, from these files
+abbrev pub zones_read : List File → Option Text → FlowModel → Result (Option (List ℕ)) Refusal
+zones_read files zones m = zones_named zones (zones_of files m.grid)
+
+-- a refusal of the model comes before one of the zone file
+abbrev pub case_zoned : Asked → FlowModel → Result (Option (List ℕ)) Refusal → Case
+case_zoned asked m (Ok zones) = Listing (task_of asked m zones)
+case_zoned asked m (Err refusal) = Refuses refusal
+
+abbrev pub case_read : Asked → Result FlowModel Refusal → (FlowModel → Result (Option (List ℕ)) Refusal) → Case
+case_read asked (Ok m) zoned = case_zoned asked m (zoned m)
+case_read asked (Err refusal) zoned = Refuses refusal
 
 abbrev pub case_listed : AskedCheck → FlowModel → Result (List ListedStep) Refusal → Case
 case_listed asked m (Ok steps) = Checking m asked.digits steps
@@ -88,24 +111,31 @@ abbrev pub case_checked : AskedCheck → Result FlowModel Refusal → (FlowModel
 case_checked asked (Ok m) listed = case_listed asked m (listed m)
 case_checked asked (Err refusal) listed = Refuses refusal
 
--- the case of a command, by these readings of models and listings
-abbrev pub case_asked : Option Command → (Text → Result FlowModel Refusal) → (AskedCheck → FlowModel → Result (List ListedStep) Refusal) → Case
-case_asked None read listed = NoWords
-case_asked (Some (Run asked)) read listed = case_read asked (named asked.name read)
-case_asked (Some (Make seed size)) read listed = Making seed size (made_model seed size)
-case_asked (Some (Check asked)) read listed = case_checked asked (named asked.name read) (listed asked)
+-- the case of a command, by these readings of models, zone files and listings
+abbrev pub case_asked : Option Command → (Text → Result FlowModel Refusal)
+    → (Option Text → FlowModel → Result (Option (List ℕ)) Refusal)
+    → (AskedCheck → FlowModel → Result (List ListedStep) Refusal) → Case
+case_asked None read zoned listed = NoWords
+case_asked (Some (Run asked)) read zoned listed = case_read asked (named asked.name read) (zoned asked.zones)
+case_asked (Some (Make seed size)) read zoned listed = Making seed size (made_model seed size)
+case_asked (Some (Check asked)) read zoned listed = case_checked asked (named asked.name read) (listed asked)
 
 -- the case of these words and files
 abbrev pub case_of : List Text → List File → Case
-case_of words files = case_asked (asked_in words) (reads files) (listing_read files)
+case_of words files = case_asked (asked_in words) (reads files) (zones_read files) (listing_read files)
 
--- a possible result of reading where no files are known: a valid model and steps of it, or a refusal
-abbrev pub CouldRead : Result FlowModel Refusal → Result (List ListedStep) Refusal → Type 0
-CouldRead read listed = IfOk read (λ m. IsModel m × IfOk listed (AreListed m))
+-- a possible result of reading where no files are known: a valid model, and zones and steps of it, or a refusal
+pub record CouldRead (read : Result FlowModel Refusal) (zoned : Result (List ℤ) Refusal)
+    (listed : Result (List ListedStep) Refusal) : Type 0 where
+  pub model : IfOk read IsModel
+  pub zones : IfOk read (λ m. IfOk zoned (λ zones. AreZonesOf m (map unsigned_abs zones)))
+  pub steps : IfOk read (λ m. IfOk listed (AreListed m))
 
 -- The case of the words by these files. Where none are known there is some possible result of reading.
 abbrev pub IsCase : List Text → Option (List File) → Case → Type 0
 IsCase words (Some files) case = case ≡ case_of words files
 IsCase words None case =
-    (read : Result FlowModel Refusal) × (listed : Result (List ListedStep) Refusal) × CouldRead read listed
-    × (case ≡ case_asked (asked_in words) (λ name. read) (λ asked m. named asked.listing (λ name. listed)))
+    (read : Result FlowModel Refusal) × (zoned : Result (List ℤ) Refusal) × (listed : Result (List ListedStep) Refusal)
+    × CouldRead read zoned listed
+    × (case ≡ case_asked (asked_in words) (λ name. read) (λ zones m. zones_named zones (λ name. zoned))
+        (λ asked m. named asked.listing (λ name. listed)))

@@ -1,5 +1,5 @@
 -- The commands that are implemented, in the form of the code.
-use Rattle.std.specs.Prelude.{ℕ, ◌≤◌}
+use Rattle.std.specs.Prelude.{ℕ, ◌≤◌, option_map}
 use Rattle.settle_driver.specs.Phases.{IsPlan}
 use Rattle.engine.specs.declared.asked.Asked.{Asked as AskedBy}
 use Rattle.engine.specs.declared.asked.AskedCheck.{AskedCheck as AskedCheckBy}
@@ -9,7 +9,7 @@ use Rattle.engine.specs.Cases.{Asked, AskedCheck, Command, Run, Make, Check}
 
 -- the listing that is asked for; of how it is settled only the rounds are part of a definition
 abbrev pub asked_of : AskedBy → Asked
-asked_of a = record { name = a.name.now; digits = a.digits; rounds = a.plan.rounds }
+asked_of a = record { name = a.name.now; digits = a.digits; rounds = a.plan.rounds; zones = option_map (λ name. name.now) a.zones }
 
 -- the check that is asked for
 abbrev pub check_of : AskedCheckBy → AskedCheck

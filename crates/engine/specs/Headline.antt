@@ -13,21 +13,23 @@ use Rattle.listing_run.specs.declared.step.Step.{Step}
 use Rattle.listing_run.specs.Listing.{listing}
 use Rattle.listing_run.specs.Bounding.{BoundAll}
 use Rattle.exact_histories.specs.Histories.{HasHistory, AreSame}
-use Rattle.engine.specs.Cases.{Asked, Run, asked_in, task_of}
+use Rattle.engine.specs.Cases.{Asked, Run, asked_in, task_of, zones_read}
 
--- A run with these words over these files that ended Ok, where a sink had the bytes `old` before it and `new` after it, has written a listing of the model that the files read as; and every history of heads that solves the manual's exact equations of these files lies, step by step and cell by cell, between its heads, with each of its budget flows between its terms. That it is the one listing which the files define stands in `OneListing`.
+-- A run with these words over these files that ended Ok, where a sink had the bytes `old` before it and `new` after it, has written a listing of the model that the files read as; and every history of heads that solves the manual's exact equations of these files lies, step by step and cell by cell, between its heads, with each of its budget flows between its terms, and each of its flows between two zones of a zone file between its two numbers. That it is the one listing which the files define stands in `OneListing`.
 pub record Headline (words : List Text) (files : List File) (old new : Option (List ℕ)) : Type 0 where
-  -- The words ask for a listing, and the files read as a model, which is valid.
+  -- The words ask for a listing, and the files read as a model, which is valid, and as zones of its cells where the words name a zone file.
   pub asked : Asked
   pub wanted : asked_in words ≡ Some (Run asked)
   pub model : FlowModel
   pub read : reads files asked.name ≡ Ok model
   pub valid : IsModel model
-  -- The listing of some values, which are the heads and the budget of each step, was appended, and nothing else.
+  pub zones : Option (List ℕ)
+  pub zoned : zones_read files asked.zones model ≡ Ok zones
+  -- The listing of some values, which are the heads, the budget and the flows between zones of each step, was appended, and nothing else.
   pub values : List Step
-  pub written : Appends old new (concat (listing (task_of asked model) values end_line))
+  pub written : Appends old new (concat (listing (task_of asked model zones) values end_line))
   -- Every history over any denominator d that solves the model's exact equations lies between them.
-  pub encloses : (d : ℕ) (history : List (ℕ → ℤ)) → Solves model d history → BoundAll (task_of asked model) d (start_head model) values history
+  pub encloses : (d : ℕ) (history : List (ℕ → ℤ)) → Solves model d history → BoundAll (task_of asked model zones) d (start_head model) values history
   -- And there is one: a history solves them, and any two are the same heads at all active cells, step by step.
   pub solvable : HasHistory model
   pub one : (d e : ℕ) (history other : List (ℕ → ℤ)) → Solves model d history → Solves model e other → AreSame model d e history other

@@ -17,24 +17,26 @@ use Rattle.listing_summary.specs.Summaries.{summary_of}
 use Rattle.listing_summary.specs.Texts.{summary_text}
 use Rattle.check_run.specs.declared.verdict.Verdict.TheVariants.{Certified as Holds}
 use Rattle.check_run.specs.Verdicts.{IsVerdict}
-use Rattle.engine.specs.Cases.{Asked, AskedCheck, Check, Make, Run, asked_in, listing_read, task_of}
+use Rattle.engine.specs.Cases.{Asked, AskedCheck, Check, Make, Run, asked_in, listing_read, task_of, zones_read}
 use Rattle.engine.specs.Made.{made_task}
 
 -- A run with these words over these files that ended Ok, where a sink had the bytes `old` before it and `new` after it, has written the one listing that the files define.
 pub record OneListing (words : List Text) (files : List File) (old new : Option (List ℕ)) : Type 0 where
-  -- The words ask for a listing, and the files read as a model, which is valid.
+  -- The words ask for a listing, and the files read as a model, which is valid, and as zones of its cells where the words name a zone file.
   pub asked : Asked
   pub wanted : asked_in words ≡ Some (Run asked)
   pub model : FlowModel
   pub read : reads files asked.name ≡ Ok model
   pub valid : IsModel model
-  -- All its time steps have values, which are heads and budgets, and no others. They enclose its histories.
+  pub zones : Option (List ℕ)
+  pub zoned : zones_read files asked.zones model ≡ Ok zones
+  -- All its time steps have values, which are heads, budgets and flows between zones, and no others. They enclose its histories.
   pub values : List Step
-  pub steps : AllSteps (task_of asked model) values Whole
-  pub only : (others : List Step) → AllSteps (task_of asked model) others Whole → others ≡ values
-  pub encloses : EnclosesHistories (task_of asked model) values
+  pub steps : AllSteps (task_of asked model zones) values Whole
+  pub only : (others : List Step) → AllSteps (task_of asked model zones) others Whole → others ≡ values
+  pub encloses : EnclosesHistories (task_of asked model zones) values
   -- Their listing was appended, and nothing else.
-  pub written : Appends old new (concat (listing (task_of asked model) values end_line))
+  pub written : Appends old new (concat (listing (task_of asked model zones) values end_line))
 
 -- A run with these words that ended Ok has written the summary of the one listing that the made files define.
 pub record OneSummary (words : List Text) (old new : Option (List ℕ)) : Type 0 where

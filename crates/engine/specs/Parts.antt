@@ -1,5 +1,5 @@
 -- What the parts of a run return and put.
-use Rattle.std.specs.Prelude.{◌≡◌, ◌⊎◌, ℕ, List, Result, Ok, Err, Option, Some, None, IfOk, codes}
+use Rattle.std.specs.Prelude.{◌≡◌, ◌⊎◌, ℕ, ℤ, List, map, unsigned_abs, Result, Ok, Err, Option, Some, None, IfOk, codes}
 use Rattle.outside.specs.Counts.{Rose}
 use Rattle.outside.specs.Files.{File}
 use Rattle.outside.specs.Puts.{Put}
@@ -15,6 +15,7 @@ use Rattle.listing_io.specs.declared.listing.ListedStep.{ListedStep}
 use Rattle.listing_io.specs.Listed.{AreListed}
 use Rattle.listing_io.specs.LastLines.{refused_line, no_bound_line, not_certified_line, unfinished_line}
 use Rattle.listing_run.specs.declared.task.Task.{Task}
+use Rattle.listing_run.specs.Zones.{AreZonesOf}
 use Rattle.listing_summary.specs.declared.stop.Stop.{Stop}
 use Rattle.listing_summary.specs.declared.stop.Stop.TheVariants.{NoBound, Unfinished, Memory}
 use Rattle.listing_summary.specs.declared.summary.Summary.{Summary}
@@ -26,7 +27,7 @@ use Rattle.run_puts.specs.declared.status.Status.{Status}
 use Rattle.run_puts.specs.declared.status.Status.TheVariants as status
 use Rattle.check_run.specs.declared.verdict.Verdict.{Verdict}
 use Rattle.check_run.specs.declared.verdict.Verdict.TheVariants.{Certified, Fails, Refused as Unbounded}
-use Rattle.engine.specs.Cases.{AskedCheck, Case, Listing, Making, Checking, IsCase, listing_read, made_model, named}
+use Rattle.engine.specs.Cases.{AskedCheck, Case, Listing, Making, Checking, IsCase, listing_read, made_model, named, zones_named, zones_read}
 use Rattle.engine.specs.Checked.{certified_line}
 use Rattle.engine.specs.Made.{IsMade}
 use Rattle.engine.specs.Runs.{IsRunOf}
@@ -47,6 +48,14 @@ IsNamedFault input.Memory = Unit {0}
 abbrev pub IsReadAs : Text → Option (List File) → Result FlowModel InputFault → Type 0
 IsReadAs name (Some files) answer = IsReading (λ m. m) (named name (reads files)) answer
 IsReadAs name None answer = (read : Result FlowModel Refusal) × IfOk read IsModel × IsReading (λ m. m) (named name (λ n. read)) answer
+
+-- A reading gave the zones of the named zone file, if there is one: by these files, or where none are known by some
+-- that are zones of the model or have a refusal.
+abbrev pub AreZonesAs : Option Text → FlowModel → Option (List File) → Result (Option (List ℕ)) InputFault → Type 0
+AreZonesAs zones m (Some files) answer = IsReading (λ z. z) (zones_read files zones m) answer
+AreZonesAs zones m None answer =
+    (zoned : Result (List ℤ) Refusal) × IfOk zoned (λ zs. AreZonesOf m (map unsigned_abs zs))
+    × IsReading (λ z. z) (zones_named zones (λ name. zoned)) answer
 
 -- A reading gave the steps that a check names: by these files, or where none are known by some that are steps of the model or have a refusal.
 abbrev pub IsListedAs : AskedCheck → FlowModel → Option (List File) → Result (List ListedStep) InputFault → Type 0

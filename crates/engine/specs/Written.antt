@@ -1,5 +1,5 @@
 -- The check of what a run wrote.
-use Rattle.std.specs.Prelude.{◌≡◌, ℕ, List, [], ◌∷◌, Ok, Some}
+use Rattle.std.specs.Prelude.{◌≡◌, ℕ, List, [], ◌∷◌, Ok, Some, None}
 use Rattle.std.specs.List.{concat}
 use Rattle.outside.specs.Files.{File}
 use Rattle.outside.specs.Inputs.{file_at}
@@ -22,10 +22,11 @@ pub record ChecksWritten (words : List Text) (files : List File) (k : Task) (byt
   pub read : named asked.name (reads files) ≡ Ok k.model
   pub listing : named asked.listing (file_at files) ≡ Ok bytes
 
--- What a run that ends Ok writes is certified, if its model is valid: a check of it ends Ok, with the line CERTIFIED.
+-- What a run without a zone file that ends Ok writes is certified, if its model is valid: a check of it ends Ok, with the
+-- line CERTIFIED. A check knows no lines ZONE.
 abbrev pub WrittenIsCertified : Type 0
-WrittenIsCertified = (k : Task) (pieces words : List Text) (files : List File) → IsModel k.model → Defines (Listing k) status.Ok pieces → ChecksWritten words files k (concat pieces) → Defines (case_of words files) status.Ok (certified_line ∷ [])
+WrittenIsCertified = (k : Task) (pieces words : List Text) (files : List File) → IsModel k.model → k.zones ≡ None → Defines (Listing k) status.Ok pieces → ChecksWritten words files k (concat pieces) → Defines (case_of words files) status.Ok (certified_line ∷ [])
 
--- The bytes that a run appended to nothing are certified by any check of them, at the same digits, of the same model.
+-- The bytes that a run without a zone file appended to nothing are certified by any check of them, at the same digits, of the same model.
 abbrev pub OneListingIsCertified : Type 0
-OneListingIsCertified = (words : List Text) (files : List File) (bytes : List ℕ) (h : OneListing words files (Some []) (Some bytes)) (checks : List Text) (others : List File) → ChecksWritten checks others (task_of h.asked h.model) bytes → Defines (case_of checks others) status.Ok (certified_line ∷ [])
+OneListingIsCertified = (words : List Text) (files : List File) (bytes : List ℕ) (h : OneListing words files (Some []) (Some bytes)) → h.zones ≡ None → (checks : List Text) (others : List File) → ChecksWritten checks others (task_of h.asked h.model h.zones) bytes → Defines (case_of checks others) status.Ok (certified_line ∷ [])

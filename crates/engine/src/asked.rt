@@ -11,12 +11,14 @@ use settle_driver::Plan;
 // The turns of a worker for each cell in a phase.
 const TURNS: u32 = 64;
 
-/// A listing that is asked for: the name of its name file, the digits of conductances, and how each step is settled.
+/// A listing that is asked for: the name of its name file, the digits of conductances, how each step is settled, and the
+/// name of a zone file, if there is one.
 #[derive(Clone, Copy, Debug, PartialEq, Eq)]
 pub(crate) struct Asked<'a> {
     pub(crate) name: &'a str,
     pub(crate) digits: u32,
     pub(crate) plan: Plan,
+    pub(crate) zones: Option<&'a str>,
 }
 
 /// A check that is asked for: the name of its name file, that of the listing, and the digits of conductances.
@@ -56,7 +58,7 @@ pub(crate) fn command_of<'a>(order: Order<'a>) -> Option<Command<'a>>
             digits,
             workers,
             rounds,
-            zones: None,
+            zones,
             watch: None,
         } => Some(Command::Run(Asked {
             name,
@@ -66,6 +68,7 @@ pub(crate) fn command_of<'a>(order: Order<'a>) -> Option<Command<'a>>
                 turns_per_cell: TURNS,
                 rounds,
             },
+            zones,
         })),
         Order::Make { seed, size } => Some(Command::Make { seed, size }),
         Order::Check {

@@ -1,14 +1,16 @@
-// The model of a name.
-ghost use Rattle.std.specs.Prelude.{◌≡◌, IfOk, IfSome, List, Option};
+// The model of a name, and the zones of its cells.
+ghost use Rattle.std.specs.Prelude.{◌≡◌, IfOk, IfSome, List, Option, option_map};
 ghost use Rattle.outside.specs.Counts.{InputCounts};
 ghost use Rattle.outside.specs.Files.{File};
 ghost use Rattle.model_types.specs.Valid.{IsModel};
-ghost use Rattle.engine.specs.Parts.{IsNamedFault, IsReadAs};
+ghost use Rattle.listing_run.specs.Zones.{AreZones};
+ghost use Rattle.engine.specs.Parts.{AreZonesAs, IsNamedFault, IsReadAs};
 
 use model_reader::read_named_model;
-use model_types::FlowModel;
+use model_types::{FlowModel, Listed};
 use outside::{Code, Folder, InputFault, file_refusal, is_good_name};
 use std::alloc::Global;
+use zone_file::{read_zones, zone_numbers};
 
 /// The refusal of a bad name.
 pub(crate) fn bad_name(alloc: Global) -> InputFault
@@ -35,4 +37,26 @@ pub(crate) fn read_named<F: Folder>(
         return Err(bad_name(alloc));
     }
     read_named_model(alloc, name, folder)
+}
+
+/// The zones of a model's cells, from the named zone file, if there is one.
+pub(crate) fn read_zones_of<F: Folder>(
+    alloc: Global,
+    model: &FlowModel,
+    zones: Option<&str>,
+    folder: &mut F,
+) -> Result<Option<Listed<u32>>, InputFault>
+    requires model { IsModel model.now }
+    ensures since { (files : List File) → F.agrees folder.new files → F.agrees folder.old files }
+    ensures counts { InputCounts (F.faults folder.old) (F.faults folder.new) result }
+    ensures zones { (files : Option (List File)) → IfSome files (F.agrees folder.new) →
+        AreZonesAs (option_map (λ name. name.now) zones.entry) model.now files result }
+    ensures fit { IfOk result (AreZones model.now) }
+{
+    let Some(name) = zones else {
+        return Ok(None);
+    };
+    let read = read_zones(alloc, model, name, folder)?;
+    let numbers = zone_numbers(alloc, &read)?;
+    Ok(Some(Listed::new(numbers)))
 }

@@ -1,10 +1,11 @@
-ghost use Rattle.std.specs.Prelude.{◌≡◌, ◌⊎◌, ℕ, List, [], ◌++◌, map, IfSome, Option, Some};
+ghost use Rattle.std.specs.Prelude.{◌≡◌, ◌⊎◌, ℕ, List, [], ◌++◌, map, IfSome, Ok, Option, Some};
 ghost use Rattle.outside.specs.Files.{File};
 ghost use Rattle.outside.specs.Puts.{Put};
 ghost use Rattle.outside.specs.Counts.{Rose};
 ghost use Rattle.model_types.specs.Valid.{IsModel};
 ghost use Rattle.run_puts.specs.Runs.{IsRun};
 ghost use Rattle.listing_run.specs.Listing.{IsListing, IsCutListing};
+ghost use Rattle.listing_run.specs.Zones.{AreZones};
 ghost use Rattle.engine.specs.Headline.{Headline};
 ghost use Rattle.engine.specs.Runs.{Puts, Decided, Comes};
 ghost use Rattle.engine.specs.Cases.{asked_in, task_of, AskedCheck, Check, Make, Run};
@@ -12,19 +13,19 @@ ghost use Rattle.engine.specs.Commands.{asked_of, IsAsked};
 ghost use Rattle.engine.specs.Made.{Made};
 ghost use Rattle.engine.specs.Certified.{Certified};
 ghost use Rattle.engine.specs.OneListing.{OneListing, OneSummary, OneVerdict};
-ghost use Rattle.engine.specs.Parts.{Answers};
+ghost use Rattle.engine.specs.Parts.{Answers, IsReadAs};
 
 use crate::asked::{Asked, Command, command_of};
 use crate::checking::check;
 use crate::ending::end_reading;
 use crate::listing::put_listing;
 use crate::making::put_made;
-use crate::reading::read_named;
+use crate::reading::{read_named, read_zones_of};
 use check_run::laws::one_verdict;
 use command_line::{WordsFault, read_order};
 use listing_run::Task;
 use listing_run::laws::one_listing;
-use model_types::FlowModel;
+use model_types::{FlowModel, Listed};
 use outside::{Folder, Gate, Sink};
 use run_puts::{Status, put_last, put_memory};
 use std::alloc::Global;
@@ -33,12 +34,12 @@ use std::thread::Threads;
 const USAGE: &[u8] =
     b"USAGE: heads run NAME [--digits S] [--workers W] [--rounds P] [--zones Z] [--watch N] | heads check NAME LISTING [--digits S] | heads make SEED SIZE | heads batch LIST [--digits S] [--workers W] [--rounds P]\n";
 
-/// Does what the words ask for. `run NAME` reads the model of that name file from the folder and puts its listing to
-/// `out`, step by step. `make SEED SIZE` makes a model, without the folder, and puts the summary of its listing.
-/// `check NAME LISTING` reads the model and a listing of it, whoever wrote it, and puts whether it is certified,
-/// or else the first place that fails. Nothing is put to `side`. Workers in threads settle each step, and pass the gate
-/// before each turn; a check has none. Other commands, a zone file and a watching seat aren't implemented; for these it
-/// puts the usage line.
+/// Does what the words ask for. `run NAME` reads the model of that name file from the folder, and the zones of its cells
+/// if the words name a zone file, and puts its listing to `out`, step by step. `make SEED SIZE` makes a model, without the
+/// folder, and puts the summary of its listing. `check NAME LISTING` reads the model and a listing of it, whoever wrote
+/// it, and puts whether it is certified, or else the first place that fails. Nothing is put to `side`. Workers in threads
+/// settle each step, and pass the gate before each turn; a check has none. Other commands and a watching seat aren't
+/// implemented; for these it puts the usage line.
 pub fn run<R: Threads + Sync, F: Folder, K: Sink + Send, W: Sink + Send, G: Gate + Sync>(
     rt: &R,
     alloc: Global,
@@ -132,23 +133,51 @@ fn put_model<'a, R: Threads + Sync, K: Sink + Send, G: Gate + Sync>(
     alloc: Global,
     asked: Asked<'a>,
     model: FlowModel,
+    zones: Option<Listed<u32>>,
     out: &mut K,
     gate: &G,
 ) -> Status
     requires asked { IsAsked asked }
     requires model { IsModel model }
+    requires zones { AreZones model zones }
     ensures { (start : _) (puts : List Put) → K.leads start puts out.old →
         (more : List Put) × K.leads start (puts ++ more) out.new
-        × IsRun (IsListing (task_of (asked_of asked.entry) model))
-        (IsCutListing (task_of (asked_of asked.entry) model)) result more }
+        × IsRun (IsListing (task_of (asked_of asked.entry) model zones))
+        (IsCutListing (task_of (asked_of asked.entry) model zones)) result more }
 {
     let task = Task {
         model,
         digits: asked.digits,
-        zones: None,
+        zones,
         rounds: asked.plan.rounds,
     };
     put_listing(rt, alloc, &task, asked.plan, out, gate)
+}
+
+// Reads the zones of a model's cells, and puts its listing.
+fn list_model<'a, R: Threads + Sync, F: Folder, K: Sink + Send, G: Gate + Sync>(
+    rt: &R,
+    alloc: Global,
+    asked: Asked<'a>,
+    model: FlowModel,
+    folder: &mut F,
+    out: &mut K,
+    gate: &G,
+) -> Status
+    requires asked { IsAsked asked }
+    requires model { IsModel model }
+    ensures since { (files : List File) → F.agrees folder.new files → F.agrees folder.old files }
+    ensures answers { (start : _) (puts : List Put) → K.leads start puts out.old →
+        (more : List Put) × K.leads start (puts ++ more) out.new
+        × ((words : List (List ℕ)) → asked_in words ≡ Some (Run (asked_of asked.entry)) →
+        (files : Option (List File)) → IfSome files (F.agrees folder.new) →
+        IsReadAs (asked_of asked.entry).name files (Ok model) →
+        Answers words files (F.faults folder.old) (F.faults folder.new) result more) }
+{
+    match read_zones_of(alloc, &model, asked.zones, folder) {
+        Ok(zones) => put_model(rt, alloc, asked, model, zones, out, gate),
+        Err(fault) => end_reading(alloc, fault, out),
+    }
 }
 
 // Puts the listing of a model of the folder.
@@ -169,7 +198,7 @@ fn list<'a, R: Threads + Sync, F: Folder, K: Sink + Send, G: Gate + Sync>(
         Answers words files (F.faults folder.old) (F.faults folder.new) result more) }
 {
     match read_named(alloc, folder, asked.name) {
-        Ok(model) => put_model(rt, alloc, asked, model, out, gate),
+        Ok(model) => list_model(rt, alloc, asked, model, folder, out, gate),
         Err(fault) => end_reading(alloc, fault, out),
     }
 }
