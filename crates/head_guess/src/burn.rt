@@ -1,8 +1,9 @@
 // A unit pass: settled heads are lowered by a unit, and those that rise again stay where they were.
+use crate::flows::unit_gain;
 use crate::one_side::OneSide;
+use crate::state::State;
 use multigrid::numbers::{at, label, long_at, put};
 use std::alloc::{AllocError, Global};
-use step_problem::Link;
 
 /// The result of a unit pass: the cells that rose again, in their order, and how many stay a unit lower.
 #[derive(Drop)]
@@ -19,37 +20,39 @@ struct Fire {
     order: Vec<u32>,
 }
 
-// The gain of the flow over a link when the head of its other end rises by a unit, to `there`.
-fn gain(link: &Link, there: i64, here: i64) -> i128 {
-    if there > here {
-        link.lo as i128
-    } else {
-        link.hi as i128
-    }
+fn is_at_floor(side: &OneSide, heads: &[i64], cell: usize) -> bool {
+    at(heads, cell) <= at(side.floor.as_slice(), cell)
 }
 
-fn a_unit_lower(alloc: Global, side: &OneSide, heads: &[i64]) -> Result<Vec<i64>, AllocError> {
-    let mut lower = Vec::with_capacity(alloc, heads.len())?;
-    for cell in 0..heads.len() {
-        let head = at(heads, cell).saturating_sub(1);
-        lower.push(side.above_floor(cell, head as i128))?;
+// The balance of a cell while all others that are not at their floor are a unit lower.
+fn balance_amid_lower(side: &OneSide, state: &State, cell: usize) -> i128 {
+    let heads = state.heads.as_slice();
+    let own = at(heads, cell);
+    let mut sum = long_at(state.balances.as_slice(), cell);
+    let row = side.links.row(cell);
+    for edge in side.links.edges(&row) {
+        let other = edge.other as usize;
+        let head = at(heads, other);
+        if head > at(side.floor.as_slice(), other) {
+            let above = head.wrapping_sub(1).wrapping_sub(own);
+            sum = sum.wrapping_sub(unit_gain(edge.lo, edge.hi, above) as i128);
+        }
     }
-    Ok(lower)
+    sum
 }
 
 impl Fire {
     // The cells that rise at once, while all others are a unit lower. Those at the floor stay there.
-    fn lit(alloc: Global, side: &OneSide, heads: &[i64]) -> Result<Fire, AllocError> {
-        let lower = a_unit_lower(alloc, side, heads)?;
+    fn lit(alloc: Global, side: &OneSide, state: &State) -> Result<Fire, AllocError> {
+        let heads = state.heads.as_slice();
         let mut fire = Fire {
             sums: Vec::with_capacity(alloc, heads.len())?,
             burnt: Vec::with_capacity(alloc, heads.len())?,
             order: Vec::new(alloc),
         };
         for cell in 0..heads.len() {
-            let head = at(heads, cell);
-            let sum = side.balance(cell, head, lower.as_slice());
-            let is_at_floor = head <= at(side.floor.as_slice(), cell);
+            let sum = balance_amid_lower(side, state, cell);
+            let is_at_floor = is_at_floor(side, heads, cell);
             fire.sums.push(sum)?;
             fire.burnt.push(is_at_floor || sum >= 0)?;
             if !is_at_floor && sum >= 0 {
@@ -70,17 +73,17 @@ impl Fire {
         heads: &[i64],
         cell: usize,
     ) -> Result<(), AllocError> {
-        for link in side.links(cell) {
-            let other = link.cell as usize;
-            if self.is_burnt(other) {
-                continue;
-            }
-            let gain = gain(link, at(heads, cell), at(heads, other));
-            let sum = long_at(self.sums.as_slice(), other).saturating_add(gain);
+        let below = at(heads, cell).wrapping_sub(1);
+        let row = side.links.row(cell);
+        for edge in side.links.edges(&row) {
+            let other = edge.other as usize;
+            let above = below.wrapping_sub(at(heads, other));
+            let gain = unit_gain(edge.lo, edge.hi, above) as i128;
+            let sum = long_at(self.sums.as_slice(), other).wrapping_add(gain);
             put(self.sums.as_mut_slice(), other, sum);
-            if sum >= 0 {
+            if sum >= 0 && !self.is_burnt(other) {
                 put(self.burnt.as_mut_slice(), other, true);
-                self.order.push(link.cell)?;
+                self.order.push(edge.other)?;
             }
         }
         Ok(())
@@ -107,13 +110,32 @@ impl Fire {
         }
         lowered
     }
+
+    // The balance of a cell after the pass.
+    fn balance_after(&self, side: &OneSide, heads: &[i64], cell: usize) -> i128 {
+        let sum = long_at(self.sums.as_slice(), cell);
+        if self.is_burnt(cell) {
+            return sum;
+        }
+        let row = side.links.row(cell);
+        let own = at(heads, cell);
+        if row.is_straight {
+            sum.wrapping_add(side.straight_fall(&row, own, heads) as i128)
+        } else {
+            side.balance(cell, own, heads)
+        }
+    }
 }
 
 /// One unit pass over settled heads, which stay settled.
-pub fn unit_pass(alloc: Global, side: &OneSide, heads: &mut [i64]) -> Result<UnitPass, AllocError> {
-    let mut fire = Fire::lit(alloc, side, heads)?;
-    fire.spread(side, heads)?;
-    let lowered = fire.lower(heads);
+pub fn unit_pass(alloc: Global, side: &OneSide, state: &mut State) -> Result<UnitPass, AllocError> {
+    let mut fire = Fire::lit(alloc, side, state)?;
+    fire.spread(side, state.heads.as_slice())?;
+    let lowered = fire.lower(state.heads.as_mut_slice());
+    for cell in 0..state.heads.len() {
+        let balance = fire.balance_after(side, state.heads.as_slice(), cell);
+        put(state.balances.as_mut_slice(), cell, balance);
+    }
     Ok(UnitPass {
         order: fire.order,
         lowered,

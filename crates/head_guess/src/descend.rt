@@ -4,9 +4,10 @@ use crate::gallop::gallop;
 use crate::one_side::OneSide;
 use crate::slopes::slope_at;
 use crate::solver::Solver;
+use crate::state::State;
 use crate::ways::way_between;
 use multigrid::Budget;
-use multigrid::numbers::{at, greatest};
+use multigrid::numbers::{at, greatest, long_at};
 use std::alloc::{AllocError, Global};
 
 const MOST_PASSES: u32 = 1_000_000;
@@ -32,13 +33,13 @@ fn slopes_where_fallen(
     alloc: Global,
     side: &OneSide,
     before: &[i64],
-    heads: &[i64],
+    state: &State,
 ) -> Result<Vec<i64>, AllocError> {
+    let heads = state.heads.as_slice();
     let mut slopes = Vec::with_capacity(alloc, heads.len())?;
     for cell in 0..heads.len() {
-        let head = at(heads, cell);
-        slopes.push(if head < at(before, cell) {
-            slope_at(side, cell, side.balance(cell, head, heads), heads)
+        slopes.push(if at(heads, cell) < at(before, cell) {
+            slope_at(side, cell, long_at(state.balances.as_slice(), cell), heads)
         } else {
             0
         })?;
@@ -51,10 +52,10 @@ fn find_shape(
     alloc: Global,
     side: &OneSide,
     before: &[i64],
-    heads: &[i64],
+    state: &State,
     budget: &mut Budget,
 ) -> Result<Vec<i64>, AllocError> {
-    let slopes = slopes_where_fallen(alloc, side, before, heads)?;
+    let slopes = slopes_where_fallen(alloc, side, before, state)?;
     let mut solver = Solver::new(alloc, side, slopes, budget)?;
     let mut shape = solver.room(alloc, ROUNDS, 14, budget)?;
     let most = greatest(shape.as_slice());
@@ -71,13 +72,13 @@ fn gallop_on(
     side: &OneSide,
     from: &[i64],
     before: &[i64],
-    heads: &mut Vec<i64>,
+    state: &mut State,
     budget: &mut Budget,
 ) -> Result<i64, AllocError> {
-    let way = way_between(alloc, from, heads.as_slice())?;
-    let gained = gallop(alloc, side, heads, way, budget)?;
-    let shape = find_shape(alloc, side, before, heads.as_slice(), budget)?;
-    Ok(gained.max(gallop(alloc, side, heads, shape, budget)?))
+    let way = way_between(alloc, from, state.heads.as_slice())?;
+    let gained = gallop(alloc, side, state, way, budget)?;
+    let shape = find_shape(alloc, side, before, state, budget)?;
+    Ok(gained.max(gallop(alloc, side, state, shape, budget)?))
 }
 
 /// Lowers settled heads by unit passes, and by gallops along the way that the last ones went, until a pass moves
@@ -85,15 +86,15 @@ fn gallop_on(
 pub fn descend(
     alloc: Global,
     side: &OneSide,
-    heads: &mut Vec<i64>,
+    state: &mut State,
     budget: &mut Budget,
 ) -> Result<Vec<u32>, AllocError> {
-    let mut from = heads.clone()?;
+    let mut from = state.heads.clone()?;
     let mut wait = FIRST_WAIT;
     let mut since = 0_u32;
     for _ in 0..MOST_PASSES {
-        let before = heads.clone()?;
-        let pass = unit_pass(alloc, side, heads.as_mut_slice())?;
+        let before = state.heads.clone()?;
+        let pass = unit_pass(alloc, side, state)?;
         budget.spend(side.len() as u64);
         if pass.lowered == 0 || budget.is_spent() {
             return Ok(pass.order);
@@ -106,7 +107,7 @@ pub fn descend(
                 side,
                 from.as_slice(),
                 before.as_slice(),
-                heads,
+                state,
                 budget,
             )?;
             wait = if gained >= GAIN {
@@ -114,7 +115,7 @@ pub fn descend(
             } else {
                 LONG_WAIT.min(wait.saturating_mul(2))
             };
-            from = heads.clone()?;
+            from = state.heads.clone()?;
         }
     }
     Ok(Vec::new(alloc))

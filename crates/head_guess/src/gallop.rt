@@ -1,6 +1,7 @@
 // Lowering settled heads along a way, in steps that grow.
 use crate::one_side::OneSide;
 use crate::raise::raise_within;
+use crate::state::State;
 use crate::ways::{Fall, double, fall_between, halve, way_between};
 use multigrid::Budget;
 use multigrid::numbers::at;
@@ -63,12 +64,24 @@ const MOST_STEPS: u32 = 64;
 // The number of turns that a step may take at each cell that it moves.
 const TURNS: u64 = 20;
 
+// The way of a gallop's next step. Returns the state there, and how far it is.
+fn state_below(
+    alloc: Global,
+    side: &OneSide,
+    state: &State,
+    way: &[i64],
+) -> Result<(State, Fall), AllocError> {
+    let heads = lowered(alloc, side, state.heads.as_slice(), way)?;
+    let wanted = fall_between(state.heads.as_slice(), heads.as_slice());
+    Ok((state.moved(alloc, side, heads)?, wanted))
+}
+
 /// Lowers settled heads along a way, and then by twice what was kept of the last step, as long as they settle
 /// within a few turns at each cell that moves, and keep half. They stay settled. Returns the longest fall.
 pub fn gallop(
     alloc: Global,
     side: &OneSide,
-    heads: &mut Vec<i64>,
+    state: &mut State,
     way: Vec<i64>,
     budget: &mut Budget,
 ) -> Result<i64, AllocError> {
@@ -79,18 +92,22 @@ pub fn gallop(
         is_last: false,
     };
     for _ in 0..MOST_STEPS {
-        let mut lower = lowered(alloc, side, heads.as_slice(), run.way.as_slice())?;
-        let wanted = fall_between(heads.as_slice(), lower.as_slice());
+        let (mut lower, wanted) = state_below(alloc, side, state, run.way.as_slice())?;
         if wanted.cells == 0 {
             break;
         }
         let turns = wanted.cells.saturating_mul(TURNS).max(run.turns / 2);
-        let caps = heads.as_slice();
-        let raised = raise_within(alloc, side, lower.as_mut_slice(), caps, turns, budget)?;
+        let caps = Some(state.heads.as_slice());
+        let raised = raise_within(alloc, side, &mut lower, caps, turns, budget)?;
         run.turns = run.turns.saturating_add(raised.turns);
         let goes_on = if raised.settled {
-            let goes_on = run.go_on(alloc, heads.as_slice(), lower.as_slice(), wanted)?;
-            *heads = lower;
+            let goes_on = run.go_on(
+                alloc,
+                state.heads.as_slice(),
+                lower.heads.as_slice(),
+                wanted,
+            )?;
+            *state = lower;
             goes_on
         } else {
             run.fall_short()

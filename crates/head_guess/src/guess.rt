@@ -3,6 +3,8 @@ ghost use Rattle.std.specs.Prelude.{IfOk};
 ghost use Rattle.cell_relax.specs.Words.{AreWords};
 
 use crate::descend::descend;
+use crate::linear::Linear;
+use crate::links::Links;
 use crate::newton::{Balanced, find_balanced};
 use crate::one_side::{OneSide, turned};
 use crate::search::{FIRST_SHARE, settled_below};
@@ -48,9 +50,10 @@ fn half_guess(
     side: &OneSide,
     from: Vec<i64>,
     share: i64,
+    kept: &mut Option<Linear>,
 ) -> Result<HalfGuess, AllocError> {
     let mut budget = Budget::new(VISITS_OF_NEWTON, side.len());
-    let balanced = find_balanced(alloc, side, from, &mut budget)?;
+    let balanced = find_balanced(alloc, side, from, kept, &mut budget)?;
     let mut budget = descent_budget(&balanced, side.len());
     let Some(settled) = settled_below(alloc, side, &balanced, share, &mut budget)? else {
         return Ok(HalfGuess {
@@ -60,10 +63,10 @@ fn half_guess(
             share,
         });
     };
-    let mut heads = settled.heads;
-    let order = descend(alloc, side, &mut heads, &mut budget)?;
+    let mut state = settled.state;
+    let order = descend(alloc, side, &mut state, &mut budget)?;
     Ok(HalfGuess {
-        heads,
+        heads: state.heads,
         order,
         balanced: balanced.heads,
         share: settled.share,
@@ -123,19 +126,21 @@ fn bounds_of(
 pub fn guess_heads(alloc: Global, p: &Problem, b: &Barrier) -> Result<Guess, AllocError>
     ensures { IfOk result (λ g. AreWords p.now (Guess.bounds g).items) }
 {
-    let low_side = OneSide {
-        problem: p,
-        side: Side::Low,
-        floor: all_turned(alloc, Side::Low, b.floor.as_slice())?,
-    };
-    let low = half_guess(alloc, &low_side, start(alloc, p, b)?, FIRST_SHARE)?;
-    let high_side = OneSide {
-        problem: p,
-        side: Side::High,
-        floor: all_turned(alloc, Side::High, b.ceiling.as_slice())?,
-    };
+    let links = Links::of(alloc, p)?;
+    let mut kept = None;
+    let floor = all_turned(alloc, Side::Low, b.floor.as_slice())?;
+    let low_side = OneSide::new(alloc, p, Side::Low, &links, floor)?;
+    let low = half_guess(
+        alloc,
+        &low_side,
+        start(alloc, p, b)?,
+        FIRST_SHARE,
+        &mut kept,
+    )?;
+    let floor = all_turned(alloc, Side::High, b.ceiling.as_slice())?;
+    let high_side = OneSide::new(alloc, p, Side::High, &links, floor)?;
     let from = all_turned(alloc, Side::High, low.balanced.as_slice())?;
-    let high = half_guess(alloc, &high_side, from, low.share)?;
+    let high = half_guess(alloc, &high_side, from, low.share, &mut kept)?;
     let mut order = low.order;
     order.extend_from_slice(high.order.as_slice())?;
     let bounds = bounds_of(alloc, p, low.heads.as_slice(), high.heads.as_slice())?;

@@ -3,15 +3,21 @@
 
 mod burn;
 mod descend;
+mod flows;
 mod gallop;
 mod guess;
+mod known;
+mod linear;
+mod links;
 mod marks;
 mod newton;
+mod nodes;
 mod one_side;
 mod raise;
 mod search;
 mod slopes;
 mod solver;
+mod state;
 mod ways;
 
 pub use guess::{Guess, guess_heads};

@@ -10,8 +10,49 @@ pub struct Marks {
 /// The cells of one word.
 pub const CELLS: usize = 64;
 
-fn bit_of(cell: usize) -> u64 {
-    1_u64.wrapping_shl((cell % CELLS) as u32)
+/// A sweep over the cells in ascending or descending order.
+#[derive(Clone, Copy, PartialEq, Eq)]
+pub enum Order {
+    Up,
+    Down,
+}
+
+// The places of a word.
+const ALL: u64 = u64::MAX;
+
+// The places of a word that a sweep visits after this one.
+fn places_after(place: u32, order: Order) -> u64 {
+    match order {
+        Order::Up => ALL.wrapping_shl(place).wrapping_shl(1),
+        Order::Down => 1_u64.wrapping_shl(place).wrapping_sub(1),
+    }
+}
+
+// The first of these places in a sweep.
+fn first_of(places: u64, order: Order) -> u32 {
+    match order {
+        Order::Up => places.trailing_zeros(),
+        Order::Down => 63_u32.saturating_sub(places.leading_zeros()),
+    }
+}
+
+/// A sweep over the cells of a word.
+#[derive(Clone, Copy)]
+pub struct Sweep {
+    word: usize,
+    order: Order,
+    // The places that it has not passed.
+    open: u64,
+}
+
+impl Sweep {
+    pub fn new(word: usize, order: Order) -> Sweep {
+        Sweep {
+            word,
+            order,
+            open: ALL,
+        }
+    }
 }
 
 impl Marks {
@@ -23,27 +64,30 @@ impl Marks {
 
     pub fn set(&mut self, cell: usize) {
         if let Some(word) = self.words.as_mut_slice().get_mut(cell / CELLS) {
-            *word |= bit_of(cell);
+            *word |= 1_u64.wrapping_shl((cell % CELLS) as u32);
         }
     }
 
-    /// Removes the cell from the set, and returns whether it was in the set.
-    pub fn take(&mut self, cell: usize) -> bool {
-        let Some(word) = self.words.as_mut_slice().get_mut(cell / CELLS) else {
-            return false;
-        };
-        let held = *word & bit_of(cell) != 0;
-        *word &= !bit_of(cell);
-        held
+    /// Removes the next cell of a sweep from the set, and returns it. Cells that the sweep has passed are left.
+    pub fn take_next(&mut self, sweep: &mut Sweep) -> Option<usize> {
+        let word = self.words.as_mut_slice().get_mut(sweep.word)?;
+        let places = *word & sweep.open;
+        if places == 0 {
+            return None;
+        }
+        let place = first_of(places, sweep.order);
+        *word &= !1_u64.wrapping_shl(place);
+        sweep.open = places_after(place, sweep.order);
+        Some(
+            sweep
+                .word
+                .saturating_mul(CELLS)
+                .saturating_add(place as usize),
+        )
     }
 
     /// The number of words.
     pub fn len(&self) -> usize {
         self.words.len()
-    }
-
-    /// Whether a word has no cell of the set.
-    pub fn is_empty(&self, word: usize) -> bool {
-        self.words.get(word).copied().unwrap_or(0) == 0
     }
 }

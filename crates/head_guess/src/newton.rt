@@ -1,9 +1,10 @@
 // Newton's method for heads at which each cell's balance is 0.
+use crate::flows::product;
+use crate::linear::Linear;
 use crate::one_side::OneSide;
 use crate::slopes::{slope_at, slope_between};
-use crate::solver::Solver;
 use multigrid::Budget;
-use multigrid::numbers::{at, put, shifted, width};
+use multigrid::numbers::{at, cut, put, shifted, width};
 use std::alloc::{AllocError, Global};
 
 /// Heads near those at which each balance is 0, and the room at each cell there, in units of 2^-10.
@@ -15,8 +16,11 @@ pub struct Balanced {
 
 const MOST_ROUNDS: u32 = 60;
 
-// Rounds of conjugate gradients for a correction, and for the room.
-const ROUNDS: u32 = 30;
+// Where all balances are straight, a round is the last one if it began with shorter moves than these, by each balance
+// alone and in all: it leaves less than a unit of them.
+const SHORT: i64 = 1 << 12;
+
+const LONG: i128 = 1 << 26;
 
 #[derive(Drop)]
 struct Newton {
@@ -43,7 +47,7 @@ impl Newton {
     fn slope(&self, side: &OneSide, cell: usize, balance: i128) -> i64 {
         let heads = self.heads.as_slice();
         let here = slope_at(side, cell, balance, heads);
-        if side.is_straight(cell) {
+        if side.links.row(cell).is_straight {
             return here;
         }
         let before = at(self.before.as_slice(), cell);
@@ -63,11 +67,13 @@ impl Newton {
     }
 
     // The longest of the moves that would each cancel one balance alone.
-    fn longest_move(&self) -> i128 {
-        let mut longest = 0_i128;
+    fn longest_move(&self) -> i64 {
+        let mut longest = 0_i64;
         for (balance, slope) in self.balances.iter().zip(self.slopes.as_slice()) {
-            let units = balance.checked_div(*slope as i128).unwrap_or(0);
-            longest = longest.max(units.saturating_abs());
+            let size = balance.saturating_abs();
+            if size > product(longest, *slope) {
+                longest = cut(size.checked_div(*slope as i128).unwrap_or(0));
+            }
         }
         longest
     }
@@ -88,35 +94,37 @@ impl Newton {
         longest
     }
 
-    // One round. Returns the longest move.
-    fn step(&mut self, side: &OneSide, solver: &mut Solver, budget: &mut Budget) -> i128 {
-        let places = 20_i64.saturating_sub(width(self.longest_move()) as i64);
-        solver.set_right_side(self.balances.as_slice(), places);
-        let unknowns = solver.solve(ROUNDS, 4, budget);
-        self.advance(side, unknowns, places)
+    // One round. Returns whether one more would only confirm it.
+    fn step(&mut self, side: &OneSide, linear: &mut Linear, budget: &mut Budget) -> bool {
+        let alone = self.longest_move();
+        let places = 20_i64.saturating_sub(width(alone as i128) as i64);
+        let unknowns = linear.correction(self.balances.as_slice(), places, budget);
+        let longest = self.advance(side, unknowns, places);
+        longest <= 1 || (alone < SHORT && longest < LONG && side.links.are_straight())
     }
 }
 
-/// Newton's method from these heads, until no head moves by more than a unit, or its rounds or the budget end.
+/// Newton's method from these heads, until no head moves by more than a unit, or its rounds or the budget end. A linear
+/// system is kept from one call to the next.
 pub fn find_balanced(
     alloc: Global,
     side: &OneSide,
     heads: Vec<i64>,
+    kept: &mut Option<Linear>,
     budget: &mut Budget,
 ) -> Result<Balanced, AllocError> {
     let mut newton = Newton::new(alloc, heads)?;
     newton.linearize(side);
-    let mut solver = Solver::new(alloc, side, newton.slopes.clone()?, budget)?;
+    let mut linear = Linear::of(alloc, side, &newton.slopes, kept.take(), budget)?;
     for _ in 0..MOST_ROUNDS {
-        if newton.step(side, &mut solver, budget) <= 1 || budget.is_spent() {
+        if newton.step(side, &mut linear, budget) || budget.is_spent() {
             break;
         }
         newton.linearize(side);
-        if !solver.serves(newton.slopes.as_slice()) {
-            solver = Solver::new(alloc, side, newton.slopes.clone()?, budget)?;
-        }
+        linear = Linear::of(alloc, side, &newton.slopes, Some(linear), budget)?;
     }
-    let room = solver.room(alloc, 2 * ROUNDS, 10, budget)?;
+    let room = linear.room(alloc, budget)?;
+    *kept = Some(linear);
     Ok(Balanced {
         heads: newton.heads,
         room,

@@ -3,10 +3,14 @@ ghost use Rattle.std.specs.Prelude.{◌≡◌, ◌<◌, All, length, take};
 ghost use Rattle.step_problem.specs.Entries.{entries_at};
 ghost use Rattle.step_problem.specs.Conditions.{IsHead};
 
+use crate::flows::{inflow, unit_loss};
+use crate::known::{Known, inflow_of, known_head};
+use crate::links::{Edge, Links, Row};
 use cell_relax::{raise_to, sink_to};
-use multigrid::numbers::at;
+use multigrid::numbers::{at, long_at};
+use std::alloc::{AllocError, Global};
 use step_problem::problem::HEAD_LIMIT;
-use step_problem::{Link, Problem, Side, high_at, low_at};
+use step_problem::{Problem, Side, high_at, low_at};
 
 const LIMIT: i128 = HEAD_LIMIT as i128;
 
@@ -14,9 +18,13 @@ const LIMIT: i128 = HEAD_LIMIT as i128;
 /// the opposite sign, whose floor is the ceiling.
 #[derive(Drop)]
 pub struct OneSide<'a> {
-    pub problem: &'a Problem,
-    pub side: Side,
+    problem: &'a Problem,
+    side: Side,
+    pub links: &'a Links,
     pub floor: Vec<i64>,
+    knowns: Vec<Known>,
+    // The constant flows into each cell.
+    inflows: Vec<i128>,
 }
 
 /// A head in range, with the opposite sign on the upper side.
@@ -30,70 +38,122 @@ pub fn turned(side: Side, head: i64) -> i64
     }
 }
 
+// The heads `around` a cell, in the order of its links, as its balance takes them, and their number.
+fn ends(p: &Problem, side: Side, cell: usize, around: &[i64; 6], ends: &mut [i64; 6]) -> usize
+    requires index { cell < length p.now }
+    requires heads { All IsHead ends.old }
+    ensures count { result ≡ length (entries_at p.now cell).links }
+    ensures heads { All IsHead (take result ends.new) }
+{
+    let _cells = p.len();
+    let links = p.cell(cell).links.as_slice();
+    for i in 0..links.len() {
+        ends[i] = turned(side, around[i]);
+    }
+    links.len()
+}
+
 impl OneSide<'_> {
+    /// A side of a problem with its links, and the floor of its heads, which has its sign.
+    pub fn new<'a>(
+        alloc: Global,
+        problem: &'a Problem,
+        side: Side,
+        links: &'a Links,
+        floor: Vec<i64>,
+    ) -> Result<OneSide<'a>, AllocError> {
+        let mut knowns = Vec::new(alloc);
+        let mut inflows = Vec::with_capacity(alloc, problem.len())?;
+        for index in 0..problem.len() {
+            let cell = problem.cell(index);
+            for fixed in &cell.fixed {
+                knowns.push(known_head(side, fixed))?;
+            }
+            inflows.push(inflow_of(side, cell))?;
+        }
+        Ok(OneSide {
+            problem,
+            side,
+            links,
+            floor,
+            knowns,
+            inflows,
+        })
+    }
+
     pub fn len(&self) -> usize {
         self.problem.len()
     }
 
-    /// The links of a cell.
-    pub fn links(&self, cell: usize) -> &[Link] {
-        if self.problem.len() <= cell {
-            return &[];
-        }
-        self.problem.cell(cell).links.as_slice()
+    /// A cell's branches to known heads.
+    pub fn knowns(&self, row: &Row) -> &[Known] {
+        row.knowns(self.knowns.as_slice())
     }
 
-    // The heads at the other ends of a cell's links, and their number.
-    fn ends(&self, cell: usize, heads: &[i64], ends: &mut [i64; 6]) -> usize
-        requires index { cell < length self.now.problem.now }
-        requires heads { All IsHead ends.old }
-        ensures count { result ≡ length (entries_at self.now.problem.now cell).links }
-        ensures heads { All IsHead (take result ends.new) }
-    {
-        let _cells = self.problem.len();
-        let links = self.problem.cell(cell).links.as_slice();
-        for i in 0..links.len() {
-            ends[i] = turned(self.side, at(heads, links[i].cell as usize));
+    // A straight balance.
+    fn straight_balance(&self, cell: usize, row: &Row, own: i64, heads: &[i64]) -> i128 {
+        let mut sum = long_at(self.inflows.as_slice(), cell);
+        for edge in self.links.edges(row) {
+            let rise = at(heads, edge.other as usize).wrapping_sub(own);
+            sum = sum.wrapping_add(inflow(edge.lo, edge.hi, rise));
         }
-        links.len()
+        for known in self.knowns(row) {
+            let rise = known.head.wrapping_sub(own);
+            sum = sum.wrapping_add(inflow(known.lo, known.hi, rise));
+        }
+        sum
+    }
+
+    /// The balance of a cell with any entries, where `around` are the heads of its links' other ends.
+    pub fn balance_amid(&self, cell: usize, own: i64, around: &[i64; 6]) -> i128 {
+        if self.problem.len() <= cell {
+            return 0;
+        }
+        let mut values = [0; 6];
+        let count = ends(self.problem, self.side, cell, around, &mut values);
+        let own = turned(self.side, own);
+        match self.side {
+            Side::Low => low_at(self.problem, cell, own, &values[..count]),
+            Side::High => 0_i128.saturating_sub(high_at(self.problem, cell, own, &values[..count])),
+        }
     }
 
     /// The balance of a cell at a head of its own: the lower one, or the upper one with the opposite sign. It falls
     /// in the cell's own head, and the cell may rise where it is not negative.
     pub fn balance(&self, cell: usize, own: i64, heads: &[i64]) -> i128 {
-        if self.problem.len() <= cell {
-            return 0;
+        let row = self.links.row(cell);
+        if row.is_straight {
+            return self.straight_balance(cell, &row, own, heads);
         }
-        let mut ends = [0; 6];
-        let count = self.ends(cell, heads, &mut ends);
-        let own = turned(self.side, own);
-        match self.side {
-            Side::Low => low_at(self.problem, cell, own, &ends[..count]),
-            Side::High => 0_i128.saturating_sub(high_at(self.problem, cell, own, &ends[..count])),
-        }
+        self.balance_amid(cell, own, &around(self.links.edges(&row), heads))
     }
 
-    /// The head to which a cell can be raised.
-    pub fn raised(&self, cell: usize, heads: &[i64]) -> i64 {
-        let own = turned(self.side, at(heads, cell));
+    /// How far a straight balance falls when its cell's head rises by a unit from `own`.
+    pub fn straight_fall(&self, row: &Row, own: i64, heads: &[i64]) -> i64 {
+        let mut sum = 0_i64;
+        for edge in self.links.edges(row) {
+            let above = own.wrapping_sub(at(heads, edge.other as usize));
+            sum = sum.saturating_add(unit_loss(edge.lo, edge.hi, above));
+        }
+        for known in self.knowns(row) {
+            let above = own.wrapping_sub(known.head);
+            sum = sum.saturating_add(unit_loss(known.lo, known.hi, above));
+        }
+        sum
+    }
+
+    /// The head to which a cell can be raised from `own`, where `around` are the heads of its links' other ends.
+    pub fn raised_amid(&self, cell: usize, own: i64, around: &[i64; 6]) -> i64 {
+        let own = turned(self.side, own);
         if self.problem.len() <= cell {
             return own;
         }
-        let mut ends = [0; 6];
-        let count = self.ends(cell, heads, &mut ends);
+        let mut values = [0; 6];
+        let count = ends(self.problem, self.side, cell, around, &mut values);
         match self.side {
-            Side::Low => raise_to(self.problem, cell, own, &ends[..count]),
-            Side::High => 0_i64.saturating_sub(sink_to(self.problem, cell, own, &ends[..count])),
+            Side::Low => raise_to(self.problem, cell, own, &values[..count]),
+            Side::High => 0_i64.saturating_sub(sink_to(self.problem, cell, own, &values[..count])),
         }
-    }
-
-    /// Whether the balance of a cell is linear: it has only links and known heads.
-    pub fn is_straight(&self, cell: usize) -> bool {
-        if self.problem.len() <= cell {
-            return true;
-        }
-        let cell = self.problem.cell(cell);
-        cell.rivers.is_empty() && cell.drains.is_empty() && cell.evaps.is_empty()
     }
 
     /// The nearest head that is in range and not below the floor.
@@ -101,4 +161,13 @@ impl OneSide<'_> {
         let head = head.clamp(-LIMIT, LIMIT) as i64;
         head.max(at(self.floor.as_slice(), cell))
     }
+}
+
+// The heads at the other ends of edges.
+fn around(edges: &[Edge], heads: &[i64]) -> [i64; 6] {
+    let mut around = [0; 6];
+    for (place, edge) in around.iter_mut().zip(edges) {
+        *place = at(heads, edge.other as usize);
+    }
+    around
 }

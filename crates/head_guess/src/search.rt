@@ -2,16 +2,16 @@
 use crate::newton::Balanced;
 use crate::one_side::OneSide;
 use crate::raise::raise_within;
+use crate::state::State;
 use multigrid::Budget;
 use multigrid::numbers::{at, greatest};
 use std::alloc::{AllocError, Global};
-use step_problem::problem::HEAD_LIMIT;
 
 /// Settled heads, and how far below the balanced ones the search started: by this share of the room, in units of
 /// 2^-20.
 #[derive(Drop)]
 pub struct Settled {
-    pub heads: Vec<i64>,
+    pub state: State,
     pub share: i64,
 }
 
@@ -24,7 +24,7 @@ pub const FIRST_SHARE: i64 = 686_080;
 const MOST_TRIALS: u32 = 60;
 
 // The number of turns at each cell that a trial may take: heads that are settled or a little too low settle in fewer.
-const TURNS: u64 = 20;
+const TURNS: u64 = 12;
 
 // The search ends where a step of the share moves no head by more than this many units.
 const NEAR: i128 = 64;
@@ -73,21 +73,14 @@ impl Search {
         share: i64,
         budget: &mut Budget,
     ) -> Result<(), AllocError> {
-        let caps = vec![in alloc; HEAD_LIMIT; side.len()]?;
         let turns = TURNS.saturating_mul(side.len() as u64);
-        let mut heads = heads_below(alloc, side, balanced, share)?;
-        let raised = raise_within(
-            alloc,
-            side,
-            heads.as_mut_slice(),
-            caps.as_slice(),
-            turns,
-            budget,
-        )?;
+        let heads = heads_below(alloc, side, balanced, share)?;
+        let mut state = State::new(alloc, side, heads)?;
+        let raised = raise_within(alloc, side, &mut state, None, turns, budget)?;
         self.trials = self.trials.saturating_add(1);
         if raised.settled {
             self.low = share;
-            self.found = Some(Settled { heads, share });
+            self.found = Some(Settled { state, share });
         } else {
             self.high = share;
         }

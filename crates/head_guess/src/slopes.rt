@@ -5,6 +5,11 @@ use multigrid::numbers::{at, cut};
 /// The greater slope of a balance, to either side of the cell's head.
 pub fn slope_at(side: &OneSide, cell: usize, balance: i128, heads: &[i64]) -> i64 {
     let own = at(heads, cell);
+    let row = side.links.row(cell);
+    if row.is_straight {
+        let left = side.straight_fall(&row, own.saturating_sub(1), heads);
+        return left.max(side.straight_fall(&row, own, heads)).max(1);
+    }
     let below = side.balance(cell, own.saturating_sub(1), heads);
     let above = side.balance(cell, own.saturating_add(1), heads);
     let left = below.saturating_sub(balance);

@@ -3,7 +3,6 @@ use crate::one_side::OneSide;
 use multigrid::numbers::{at, cut, shifted};
 use multigrid::{Budget, Levels, Matrix};
 use std::alloc::{AllocError, Global};
-use step_problem::Link;
 
 // Making the levels takes about this many visits at each cell.
 const VISITS_OF_LEVELS: u64 = 20;
@@ -26,10 +25,6 @@ fn scale_of(slopes: &[i64]) -> u32 {
     67_u32.saturating_sub(sum.leading_zeros())
 }
 
-fn weight_of(link: &Link, scale: u32) -> i64 {
-    i64::try_from(link.lo.wrapping_shr(scale)).unwrap_or(0)
-}
-
 // The row of a cell.
 fn add_cell(
     matrix: &mut Matrix,
@@ -43,11 +38,12 @@ fn add_cell(
         return matrix.close_row(1);
     }
     let mut sum = 0_i64;
-    for link in side.links(cell) {
-        let weight = weight_of(link, scale);
+    let row = side.links.row(cell);
+    for edge in side.links.edges(&row) {
+        let weight = edge.lo.wrapping_shr(scale);
         sum = sum.saturating_add(weight);
-        if weight > 0 && at(slopes, link.cell as usize) > 0 {
-            matrix.couple(link.cell, weight)?;
+        if weight > 0 && at(slopes, edge.other as usize) > 0 {
+            matrix.couple(edge.other, weight)?;
         }
     }
     matrix.close_row(slope.wrapping_shr(scale).max(sum))

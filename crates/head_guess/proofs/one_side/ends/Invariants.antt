@@ -1,6 +1,6 @@
 use Rattle.std.proofs.Common.{◌≡◌, All, length}
 use Rattle.step_problem.specs.Conditions.{IsHead}
-use Rattle.head_guess.proofs.one_side.OneSide.ends.Given as goal
+use Rattle.head_guess.proofs.one_side.ends.Given as goal
 
 abbrev pub invariant-loop-i : goal.invariant-loop-i
 invariant-loop-i l = record {

@@ -1,0 +1,122 @@
+// A copy of a problem's links in one list.
+use multigrid::numbers::label;
+use std::alloc::{AllocError, Global};
+use step_problem::{Cell, Problem};
+
+/// A link of a cell: the other cell, and the bounds of the conductance.
+#[derive(Clone, Copy)]
+pub struct Edge {
+    pub other: u32,
+    pub lo: i64,
+    pub hi: i64,
+}
+
+/// A cell's edges and branches to known heads, as places in their lists, and how far its balance falls when its head
+/// rises by a unit: at least, and at most where it is straight.
+#[derive(Clone, Copy)]
+pub struct Row {
+    first_edge: u32,
+    end_edge: u32,
+    first_known: u32,
+    end_known: u32,
+    pub least: i64,
+    pub greatest: i64,
+    /// Whether the balance is linear but for rounding: the cell has only links and known heads.
+    pub is_straight: bool,
+}
+
+const NO_ROW: Row = Row {
+    first_edge: 0,
+    end_edge: 0,
+    first_known: 0,
+    end_known: 0,
+    least: 1,
+    greatest: 1,
+    is_straight: true,
+};
+
+/// The rows of all cells, with their edges.
+#[derive(Drop)]
+pub struct Links {
+    rows: Vec<Row>,
+    edges: Vec<Edge>,
+    knowns: u32,
+}
+
+/// A conductance as a number with a sign.
+pub fn conductance(number: u64) -> i64 {
+    i64::try_from(number).unwrap_or(i64::MAX)
+}
+
+impl Row {
+    /// The row's part of a list of the branches to known heads of all cells.
+    pub fn knowns<'a, T>(&self, all: &'a [T]) -> &'a [T] {
+        all.get(self.first_known as usize..self.end_known as usize)
+            .unwrap_or(&[])
+    }
+}
+
+impl Links {
+    fn add_cell(&mut self, cell: &Cell) -> Result<(), AllocError> {
+        let first_edge = label(self.edges.len());
+        let first_known = self.knowns;
+        let mut least = 0_i64;
+        let mut greatest = 0_i64;
+        for link in &cell.links {
+            let edge = Edge {
+                other: link.cell,
+                lo: conductance(link.lo),
+                hi: conductance(link.hi),
+            };
+            least = least.saturating_add(edge.lo);
+            greatest = greatest.saturating_add(edge.hi);
+            self.edges.push(edge)?;
+        }
+        for fixed in &cell.fixed {
+            least = least.saturating_add(conductance(fixed.lo));
+            greatest = greatest.saturating_add(conductance(fixed.hi));
+            self.knowns = self.knowns.saturating_add(1);
+        }
+        self.rows.push(Row {
+            first_edge,
+            end_edge: label(self.edges.len()),
+            first_known,
+            end_known: self.knowns,
+            least: least.max(1),
+            greatest: greatest.max(1),
+            is_straight: cell.rivers.is_empty() && cell.drains.is_empty() && cell.evaps.is_empty(),
+        })?;
+        Ok(())
+    }
+
+    /// The links of a problem.
+    pub fn of(alloc: Global, p: &Problem) -> Result<Links, AllocError> {
+        let mut links = Links {
+            rows: Vec::with_capacity(alloc, p.len())?,
+            edges: Vec::new(alloc),
+            knowns: 0,
+        };
+        for cell in 0..p.len() {
+            links.add_cell(p.cell(cell))?;
+        }
+        Ok(links)
+    }
+
+    /// The row of a cell; an empty one past the last cell.
+    pub fn row(&self, cell: usize) -> Row {
+        self.rows.get(cell).copied().unwrap_or(NO_ROW)
+    }
+
+    /// The edges of a row.
+    pub fn edges(&self, row: &Row) -> &[Edge] {
+        self.edges
+            .as_slice()
+            .get(row.first_edge as usize..row.end_edge as usize)
+            .unwrap_or(&[])
+    }
+
+    /// Whether all balances are straight.
+    pub fn are_straight(&self) -> bool {
+        self.rows.iter().all(|row| row.is_straight)
+    }
+}
