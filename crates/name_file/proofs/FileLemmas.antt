@@ -1,5 +1,5 @@
 -- What a look-up by a package finds.
-use Rattle.std.proofs.Common.{◌≡◌, ℕ, Bool, true, false, Some, None, List, [], ◌∷◌, ◌++◌, refl, sym, ◌∙◌, Contains, is_some, rules}
+use Rattle.std.proofs.Common.{◌≡◌, ℕ, Bool, true, false, Some, None, List, [], ◌∷◌, ◌++◌, refl, sym, ◌∙◌, Contains, is_some, rules, arith}
 use Rattle.std.specs.Prelude.{IsTrue}
 use Rattle.std.proofs.lemmas.List.Elements.{All-contains, All-push}
 use Rattle.std.proofs.lemmas.Map.Keys.{IsDistinct-push}
@@ -7,18 +7,20 @@ use Rattle.std.proofs.lemmas.Map.Made.{is_some-lookup}
 use Rattle.std.proofs.lemmas.Map.Views.{Contains-from_lookup, IsSome-lookup_from_Contains}
 use Rattle.outside.specs.Names.{IsGoodName}
 use Rattle.std.specs.Cmp.{IsEquivalence}
-use Rattle.std.specs.Map.{keys_of}
+use Rattle.std.specs.List.{IsDistinct}
+use Rattle.std.specs.Map.{keys_of, lookup}
 use denote.Enum.Bare.{same_true}
 use Rattle.name_file.specs.contracts.package.Package.{the_type}
 use Rattle.name_file.specs.contracts.package.PackagePartialEq.TheImpl.{ghosts}
 use Rattle.name_file.specs.declared.package.Package.{Package}
 use Rattle.name_file.specs.declared.package.Package.TheVariants.{Dis, Bas, Lpf, Wel, Riv, Drn, Ghb, Rch, Chd, Evt}
-use Rattle.name_file.specs.Pairs.{Pairs, AreFiles, IsWhole, file_of, has_package, is_needed, packages_of}
+use Rattle.name_file.specs.Pairs.{Pairs, AreFiles, IsWhole, is_same_package, file_of, has_package, is_needed, packages_of}
+use Rattle.name_file.proofs.SamePackage.{derived_is, looked_up}
 
-is_same : (x y : Package) → ghosts.eq x y ≡ true → x ≡ y
-is_same x y e = same_true the_type (search rules) x y e
+is_same : (x y : Package) → is_same_package x y ≡ true → x ≡ y
+is_same x y e = same_true the_type (search rules) x y (derived_is x y ∙ e)
 
-is_itself : (x : Package) → ghosts.eq x x ≡ true
+is_itself : (x : Package) → is_same_package x x ≡ true
 is_itself Dis = refl
 is_itself Bas = refl
 is_itself Lpf = refl
@@ -30,34 +32,42 @@ is_itself Rch = refl
 is_itself Chd = refl
 is_itself Evt = refl
 
-turned : (x y : Package) → ghosts.eq x y ≡ true → ghosts.eq y x ≡ true
+turned : (x y : Package) → is_same_package x y ≡ true → is_same_package y x ≡ true
 turned x y e = rw (is_same x y e) (is_itself y)
 
-same_sides : (x y : Package) (a b : Bool) → ghosts.eq x y ≡ a → ghosts.eq y x ≡ b → a ≡ b
+same_sides : (x y : Package) (a b : Bool) → is_same_package x y ≡ a → is_same_package y x ≡ b → a ≡ b
 same_sides x y true true e f = refl
 same_sides x y true false e f = sym (turned x y e) ∙ f
 same_sides x y false true e f = sym e ∙ turned y x f
 same_sides x y false false e f = refl
 
-is_equivalence : IsEquivalence ghosts.eq
+is_equivalence : IsEquivalence is_same_package
 is_equivalence = record {
   refl = is_itself;
-  symm = λ x y. same_sides x y (ghosts.eq x y) (ghosts.eq y x) refl refl;
+  symm = λ x y. same_sides x y (is_same_package x y) (is_same_package y x) refl refl;
   congr = λ x y z e. rw (is_same x y e) refl;
 }
 
-pub is_held : (asked : Package) (names : Pairs) (name : List ℕ) → file_of asked names ≡ Some name → Contains names (asked, name)
-is_held asked names name e = Contains-from_lookup is_same asked name names e
+held : (asked : Package) (names : Pairs) (name : List ℕ) → file_of asked names ≡ Some name → Contains names (asked, name)
+held asked names name e = Contains-from_lookup is_same asked name names e
 
-pub is_not_named : (asked : Package) (names : Pairs) → file_of asked names ≡ None → Contains (keys_of names) asked → ⊥
-is_not_named asked names e held =
-    let found : is_some (file_of asked names) ≡ true = IsSome-lookup_from_Contains is_equivalence asked names held in
-    let none : is_some (file_of asked names) ≡ false = rw e refl in
+-- what a map's look-up finds
+pub is_held : (asked : Package) (names : Pairs) (name : List ℕ) → lookup (ghosts.eq asked) names ≡ Some name → Contains names (asked, name)
+is_held asked names name e = held asked names name (sym (looked_up asked names) ∙ e)
+
+pub is_not_named : (asked : Package) (names : Pairs) → lookup (ghosts.eq asked) names ≡ None → Contains (keys_of names) asked → ⊥
+is_not_named asked names e contained =
+    let found : is_some (file_of asked names) ≡ true = IsSome-lookup_from_Contains is_equivalence asked names contained in
+    let none : is_some (file_of asked names) ≡ false = rw (sym (looked_up asked names) ∙ e) refl in
     let clash : true ≡ false = sym found ∙ none in
     cc
 
-pub is_good_file : (asked : Package) (names : Pairs) (name : List ℕ) → AreFiles names → file_of asked names ≡ Some name → IsGoodName name
+pub is_good_file : (asked : Package) (names : Pairs) (name : List ℕ) → AreFiles names → lookup (ghosts.eq asked) names ≡ Some name → IsGoodName name
 is_good_file asked names name h e = All-contains (λ pair. IsGoodName pair.1) names (asked, name) h.good (is_held asked names name e)
+
+pub no_files : (names : Pairs) → names ≡ [] → AreFiles names
+unfolding IsDistinct
+no_files names e = rw e (record { distinct = tt; good = λ k d lt. absurd (omega arith) })
 
 one_more_package : (found : Package) (name : List ℕ) (old : Pairs) → packages_of (old ++ (found, name) ∷ []) ≡ packages_of old ++ found ∷ []
 one_more_package found name [] = refl
@@ -66,7 +76,7 @@ one_more_package found name (pair ∷ old) = rw (one_more_package found name old
 -- one more package, which is new, with a good name
 pub one_more : (found : Package) (name : List ℕ) (old new : Pairs) → AreFiles old → has_package found old ≡ false → IsGoodName name → new ≡ old ++ (found, name) ∷ [] → AreFiles new
 one_more found name old new h absent good e =
-    let apart = sym (is_some-lookup (ghosts.eq found) old) ∙ absent in
+    let apart = sym (is_some-lookup (is_same_package found) old) ∙ absent in
     rw e (record {
       distinct = rw (one_more_package found name old) (IsDistinct-push is_equivalence (packages_of old) found h.distinct apart);
       good = All-push (λ pair. IsGoodName pair.1) old (found, name) h.good good;

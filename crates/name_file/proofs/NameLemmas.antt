@@ -1,5 +1,5 @@
 -- A package that is new goes last; and a name file goes on, stops or ends line by line.
-use Rattle.std.proofs.Common.{◌≡◌, ℕ, false, List, [], ◌∷◌, ◌++◌, Option, Some, None, Ok, refl, is_some}
+use Rattle.std.proofs.Common.{◌≡◌, ℕ, false, List, [], ◌∷◌, ◌++◌, Option, Some, None, Ok, refl, ap, ◌∙◌, is_some}
 use Rattle.std.specs.HashMap.{HashMap}
 use Rattle.indexmap.specs.IndexMap.{get, insert_entry}
 use Rattle.indexmap.proofs.CallerLemmas.{insert_entry-new}
@@ -7,6 +7,7 @@ use Rattle.name_file.specs.declared.package.Package.{Package}
 use Rattle.name_file.specs.contracts.package.PackagePartialEq.TheImpl.{ghosts}
 use Rattle.name_file.specs.Pairs.{Pairs, has_package}
 use Rattle.name_file.specs.Reading.{after_line, after_lines}
+use Rattle.name_file.proofs.SamePackage.{looked_up}
 use Rattle.record_lines.specs.Layout.{Left, Numbered}
 use Rattle.record_lines.specs.Reading.{StopsText}
 use Rattle.outside.specs.declared.refusals.TextFault.{TextFault}
@@ -20,7 +21,7 @@ pub goes_last : {S : Type 0} (found : Package) (m : HashMap Package (List ℕ) S
     → has_package found old ≡ false → new ≡ insert_entry ghosts.eq m.entries found name → new ≡ old ++ (found, name) ∷ []
 goes_last found m name old new shown absent e =
     let missing : has_package found m.entries ≡ false = rw (← shown) absent in
-    rw (shown, e, insert_entry-new ghosts.eq m found name (is_none (get ghosts.eq m found) missing)) refl
+    rw (shown, e, insert_entry-new ghosts.eq m found name (is_none (get ghosts.eq m found) (ap is_some (looked_up found m.entries) ∙ missing))) refl
 
 pub goes_on : (file : List ℕ) (left after : Left) (line : Numbered) (names next : Pairs) → left ≡ record { lines = line ∷ after.lines; end = after.end } → after_line file line names ≡ Ok next
     → after_lines file left.lines names ≡ after_lines file after.lines next

@@ -5,15 +5,28 @@ use Rattle.std.specs.Map.{lookup}
 use Rattle.outside.specs.Names.{IsGoodName}
 use Rattle.name_file.specs.declared.package.Package.{Package}
 use Rattle.name_file.specs.declared.package.Package.TheVariants.{Dis, Bas, Lpf, Wel, Riv, Drn, Ghb, Rch, Chd, Evt}
-use Rattle.name_file.specs.contracts.package.PackagePartialEq.TheImpl.{ghosts}
 
 -- pairs of a package and its file's name, in the order of the name file
 abbrev pub Pairs : Type 0
 Pairs = List (Package × List ℕ)
 
+-- two packages are the same one
+abbrev pub is_same_package : Package → Package → Bool
+is_same_package Dis Dis = true
+is_same_package Bas Bas = true
+is_same_package Lpf Lpf = true
+is_same_package Wel Wel = true
+is_same_package Riv Riv = true
+is_same_package Drn Drn = true
+is_same_package Ghb Ghb = true
+is_same_package Rch Rch = true
+is_same_package Chd Chd = true
+is_same_package Evt Evt = true
+is_same_package asked other = false
+
 -- the file of the pair that has this package; None where no pair has it
 abbrev pub file_of : Package → Pairs → Option (List ℕ)
-file_of asked names = lookup (ghosts.eq asked) names
+file_of asked names = lookup (is_same_package asked) names
 
 abbrev pub has_package : Package → Pairs → Bool
 has_package asked names = is_some (file_of asked names)
@@ -24,7 +37,7 @@ packages_of names = map (λ pair. pair.0) names
 
 -- each package at most once, and each name a good one
 pub record AreFiles (names : Pairs) : Type 0 where
-  pub distinct : IsDistinct ghosts.eq (packages_of names)
+  pub distinct : IsDistinct is_same_package (packages_of names)
   pub good : All (λ pair. IsGoodName pair.1) names
 
 -- every model has the discretization, the basic package and the layer-property flow package

@@ -33,6 +33,7 @@ impl Gathered {
         }
     }
 
+    #[tactic(auto, using(crate::proofs::SamePackage::looked_up))]
     pub fn has(&self, asked: Package) -> bool
         ensures { result ≡ has_package asked self.now }
     {
@@ -49,7 +50,7 @@ impl Gathered {
         Ok(())
     }
 
-    #[tactic(auto, using(crate::proofs::FileLemmas::is_held, crate::proofs::FileLemmas::is_not_named, crate::proofs::FileLemmas::is_good_file))]
+    #[tactic(auto, using(crate::proofs::SamePackage::looked_up, crate::proofs::FileLemmas::is_held, crate::proofs::FileLemmas::is_not_named, crate::proofs::FileLemmas::is_good_file))]
     pub fn file_of(&self, asked: Package) -> Option<&str>
         ensures file { option_map (λ name. name.now) result ≡ file_of asked self.now }
         ensures pair { MatchOption result (¬ Contains (packages_of self.now) asked) (λ name. Contains self.now (asked, name.now)) }

@@ -1,0 +1,38 @@
+-- The derived equality of packages is `is_same_package`, so a map's look-up finds the file of a package.
+use Rattle.std.proofs.Common.{◌≡◌, [], ◌∷◌, refl}
+use Rattle.std.specs.Map.{lookup}
+use Rattle.name_file.specs.contracts.package.PackagePartialEq.TheImpl.{ghosts}
+use Rattle.name_file.specs.declared.package.Package.{Package}
+use Rattle.name_file.specs.declared.package.Package.TheVariants.{Dis, Bas, Lpf, Wel, Riv, Drn, Ghb, Rch, Chd, Evt}
+use Rattle.name_file.specs.Pairs.{Pairs, is_same_package, file_of}
+
+at_each : (P : Package → Type 0) → P Dis → P Bas → P Lpf → P Wel → P Riv → P Drn → P Ghb → P Rch → P Chd → P Evt → (b : Package) → P b
+at_each P dis bas lpf wel riv drn ghb rch chd evt Dis = dis
+at_each P dis bas lpf wel riv drn ghb rch chd evt Bas = bas
+at_each P dis bas lpf wel riv drn ghb rch chd evt Lpf = lpf
+at_each P dis bas lpf wel riv drn ghb rch chd evt Wel = wel
+at_each P dis bas lpf wel riv drn ghb rch chd evt Riv = riv
+at_each P dis bas lpf wel riv drn ghb rch chd evt Drn = drn
+at_each P dis bas lpf wel riv drn ghb rch chd evt Ghb = ghb
+at_each P dis bas lpf wel riv drn ghb rch chd evt Rch = rch
+at_each P dis bas lpf wel riv drn ghb rch chd evt Chd = chd
+at_each P dis bas lpf wel riv drn ghb rch chd evt Evt = evt
+
+abbrev IsDerived : Package → Package → Type 0
+IsDerived a b = ghosts.eq a b ≡ is_same_package a b
+
+pub derived_is : (a b : Package) → ghosts.eq a b ≡ is_same_package a b
+derived_is Dis b = at_each (IsDerived Dis) refl refl refl refl refl refl refl refl refl refl b
+derived_is Bas b = at_each (IsDerived Bas) refl refl refl refl refl refl refl refl refl refl b
+derived_is Lpf b = at_each (IsDerived Lpf) refl refl refl refl refl refl refl refl refl refl b
+derived_is Wel b = at_each (IsDerived Wel) refl refl refl refl refl refl refl refl refl refl b
+derived_is Riv b = at_each (IsDerived Riv) refl refl refl refl refl refl refl refl refl refl b
+derived_is Drn b = at_each (IsDerived Drn) refl refl refl refl refl refl refl refl refl refl b
+derived_is Ghb b = at_each (IsDerived Ghb) refl refl refl refl refl refl refl refl refl refl b
+derived_is Rch b = at_each (IsDerived Rch) refl refl refl refl refl refl refl refl refl refl b
+derived_is Chd b = at_each (IsDerived Chd) refl refl refl refl refl refl refl refl refl refl b
+derived_is Evt b = at_each (IsDerived Evt) refl refl refl refl refl refl refl refl refl refl b
+
+pub looked_up : (asked : Package) (names : Pairs) → lookup (ghosts.eq asked) names ≡ file_of asked names
+looked_up asked [] = refl
+looked_up asked (pair ∷ names) = rw (derived_is asked pair.0, looked_up asked names) refl
