@@ -10,7 +10,7 @@ use Rattle.outside.specs.declared.codes.Code.TheVariants.{BadName}
 use Rattle.outside.specs.declared.refusals.Refusal.{Refusal}
 use Rattle.step_problem.specs.declared.place.NoBound.{NoBound}
 use Rattle.model_types.specs.declared.model.FlowModel.{FlowModel}
-use Rattle.model_types.specs.Times.{times}
+use Rattle.model_types.specs.declared.time_steps.TimeStep.{TimeStep}
 use Rattle.model_types.specs.Valid.{IsModel}
 use Rattle.model_reader.specs.Model.{reads}
 use Rattle.model_maker.specs.Files.{made_files, made_name}
@@ -22,9 +22,9 @@ use Rattle.run_puts.proofs.Pieces.{IsLate, tail_late, late_not_ok, late_not_read
 use Rattle.run_puts.proofs.Makes.{all_written, write_rose}
 use Rattle.listing_run.specs.declared.task.Task.{Task}
 use Rattle.listing_run.specs.declared.step.Step.{Step}
-use Rattle.listing_run.specs.Steps.{Whole, AllSteps, AllSettle}
+use Rattle.listing_run.specs.Steps.{WithoutBound, Open, AllSteps}
 use Rattle.listing_run.specs.Listing.{listing, time, IsListing, IsWhole}
-use Rattle.listing_run.specs.Laws.{ListingIsOne, ListingExcludesRefusal, SettledListingIsClosed, RefusalIsOne}
+use Rattle.listing_run.specs.Laws.{ListingIsOne, ListingExcludesRefusal, RefusalIsOne}
 use Rattle.listing_summary.specs.declared.summary.Summary.{Summary}
 use Rattle.listing_summary.specs.Texts.{summary_text}
 use Rattle.exact_histories.proofs.WholeRuns.{history_exists, history_is_one}
@@ -45,12 +45,11 @@ use Rattle.engine.proofs.Readings.{named_read}
 pub record Laws : Type 0 where
   pub one : ListingIsOne
   pub bound : ListingExcludesRefusal
-  pub closed : SettledListingIsClosed
   pub refusal : RefusalIsOne
   pub verdict : VerdictIsOne
 
-pub laws_of : ListingIsOne → ListingExcludesRefusal → SettledListingIsClosed → RefusalIsOne → VerdictIsOne → Laws
-laws_of one bound closed refusal verdict = record { one = one; bound = bound; closed = closed; refusal = refusal; verdict = verdict }
+pub laws_of : ListingIsOne → ListingExcludesRefusal → RefusalIsOne → VerdictIsOne → Laws
+laws_of one bound refusal verdict = record { one = one; bound = bound; refusal = refusal; verdict = verdict }
 
 -- all pieces that the case defines were taken
 record Delivers (case : Case) (puts : List Put) : Type 0 where
@@ -349,17 +348,19 @@ module _ (laws : Laws) (k : Task) (valid : IsModel k.model) where
   agree meant status.Memory p q x y = absurd y
   agree meant (status.NotCertified period step place) p q x y = absurd y
 
-  -- where the rounds settle each step of a whole listing, no other end comes
-  settles : (end : Status) (q : List Text) (values : List Step) (whole_steps : AllSteps k values Whole) → AllSettle k whole_steps.start (times k.model) values → IsListing k end q → end ≡ status.Ok
-  settles status.Ok q values whole_steps settle y = refl
-  settles (status.NoBound period step fault) q values whole_steps settle y = absurd (laws.bound k values y.values (time period step) fault valid whole_steps y.steps)
-  settles (status.Unfinished period step) q values whole_steps settle y = absurd (laws.closed k values y.values (time period step) valid whole_steps settle y.steps)
-  settles status.Usage q values whole_steps settle y = absurd y
-  settles (status.Refused refusal) q values whole_steps settle y = absurd y
-  settles status.ReadFault q values whole_steps settle y = absurd y
-  settles status.WriteFault q values whole_steps settle y = absurd y
-  settles status.Memory q values whole_steps settle y = absurd y
-  settles (status.NotCertified period step place) q values whole_steps settle y = absurd y
+-- where no step has a refusal, and the rounds leave none open, no other end comes
+module _ (k : Task) (no_refusal : (before : List Step) (at : TimeStep) (n : NoBound) → AllSteps k before (WithoutBound at n) → ⊥)
+    (none_open : (before : List Step) (at : TimeStep) → AllSteps k before (Open at) → ⊥) where
+  goes_through : (end : Status) (q : List Text) → IsListing k end q → end ≡ status.Ok
+  goes_through status.Ok q y = refl
+  goes_through (status.NoBound period step fault) q y = absurd (no_refusal y.values (time period step) fault y.steps)
+  goes_through (status.Unfinished period step) q y = absurd (none_open y.values (time period step) y.steps)
+  goes_through status.Usage q y = absurd y
+  goes_through (status.Refused refusal) q y = absurd y
+  goes_through status.ReadFault q y = absurd y
+  goes_through status.WriteFault q y = absurd y
+  goes_through status.Memory q y = absurd y
+  goes_through (status.NotCertified period step place) q y = absurd y
 
 never_stopped : (k : Task) (end : Status) (q : List Text) → IsStopped end → IsListing k end q → ⊥
 never_stopped k end q (inl e) y = let P : Status → Type 0 = λ s. IsListing k s q in subst P e y
@@ -412,33 +413,27 @@ decided laws words (Some fs) n m end puts old new a makes = λ meant pieces x.
     decided_by laws (Rose n m ⊎ Rose old.faults new.faults) a.case meant end pieces a.valid (subst P (sym a.is) x) (ended n m a.case end puts old new a.run makes)
 decided laws words None n m end puts old new a makes = tt
 
--- the model of a case whose listing is put or summed up is valid, and an end that the case defines is one of that listing
-record IsOf (k : Task) (case : Case) (end : Status) : Type 0 where
-  model : IsModel k.model ⊎ IsStopped end
-  ends : (q : List Text) → Defines case end q → (p : List Text) × IsListing k end p
+-- an end that a case defines is one of the listing that is put or summed up
+abbrev AreEndsOf : Task → Status → Case → Type 0
+AreEndsOf k end case = (q : List Text) → Defines case end q → (p : List Text) × IsListing k end p
 
-is_of : (k : Task) (case : Case) (end : Status) → HasTask case k → IsValid case end → IsOf k case end
-is_of k NoWords end has valid = absurd has
-is_of k (Refuses refusal) end has valid = absurd has
-is_of k (Making seed size (Err refusal)) end has valid = absurd has
-is_of k (Checking m s steps) end has valid = absurd has
-is_of k (Listing j) end has valid =
-    let P : Task → Type 0 = λ t. IsOf t (Listing j) end in
-    subst P has (record { model = valid; ends = λ q y. (q, y) })
-is_of k (Making seed size (Ok m)) end has valid =
-    let P : Task → Type 0 = λ t. IsOf t (Making seed size (Ok m)) end in
-    subst P has (record { model = valid; ends = λ q y. listing_of seed size (made_task m) end q y })
+ends_of : (k : Task) (case : Case) (end : Status) → HasTask case k → AreEndsOf k end case
+ends_of k NoWords end has = absurd has
+ends_of k (Refuses refusal) end has = absurd has
+ends_of k (Making seed size (Err refusal)) end has = absurd has
+ends_of k (Checking m s steps) end has = absurd has
+ends_of k (Listing j) end has =
+    let P : Task → Type 0 = λ t. AreEndsOf t end (Listing j) in
+    subst P has (λ q y. (q, y))
+ends_of k (Making seed size (Ok m)) end has =
+    let P : Task → Type 0 = λ t. AreEndsOf t end (Making seed size (Ok m)) in
+    subst P has (λ q y. listing_of seed size (made_task m) end q y)
 
-comes_by : (laws : Laws) (fault : Type 0) (k : Task) (end : Status) (values : List Step) (whole_steps : AllSteps k values Whole) → AllSettle k whole_steps.start (times k.model) values → IsModel k.model ⊎ IsStopped end → fault ⊎ ((end ≡ status.Memory) ⊎ ((p : List Text) × IsListing k end p)) → fault ⊎ ((end ≡ status.Ok) ⊎ (end ≡ status.Memory))
-comes_by laws fault k end values steps settle valid (inl f) = inl f
-comes_by laws fault k end values steps settle valid (inr (inl e)) = inr (inr e)
-comes_by laws fault k end values steps settle (inl valid) (inr (inr (q, y))) = inr (inl (settles laws k valid end q values steps settle y))
-comes_by laws fault k end values steps settle (inr stops) (inr (inr (q, y))) = absurd (never_stopped k end q stops y)
-
-ended_of : (fault : Type 0) (k : Task) (case : Case) (end : Status) → IsOf k case end → Ended fault case end → fault ⊎ ((end ≡ status.Memory) ⊎ ((p : List Text) × IsListing k end p))
-ended_of fault k case end o (inl f) = inl f
-ended_of fault k case end o (inr (inl e)) = inr (inl e)
-ended_of fault k case end o (inr (inr (q, y))) = inr (inr (o.ends q y))
+-- of ends that are all Ok, a run's is Ok, unless a fault outside or want of memory came before
+comes_by : (fault : Type 0) (case : Case) (end : Status) → ((q : List Text) → Defines case end q → end ≡ status.Ok) → Ended fault case end → fault ⊎ ((end ≡ status.Ok) ⊎ (end ≡ status.Memory))
+comes_by fault case end through (inl f) = inl f
+comes_by fault case end through (inr (inl e)) = inr (inr e)
+comes_by fault case end through (inr (inr (q, y))) = inr (inl (through q y))
 
 module _ (laws : Laws) (words : List Text) (files : List File) (n m : ℕ) (end : Status) (puts : List Put) (old new : Seen) (a : Answers words (Some files) n m end puts) (makes : PutsMake old puts new) where
   abbrev Fault : Type 0
@@ -450,8 +445,8 @@ module _ (laws : Laws) (words : List Text) (files : List File) (n m : ℕ) (end 
   complete_by : HasListing words files ⊎ HasCertified words files → Fault ⊎ ((end ≡ status.Ok) ⊎ (end ≡ status.Memory))
   complete_by (inl l) =
       let P : Case → Type 0 = λ case. HasTask case l.task in
-      let o = is_of l.task a.case end (subst P (sym a.is) l.is) a.valid in
-      comes_by laws Fault l.task end l.values l.steps l.settle o.model (ended_of Fault l.task a.case end o ends_here)
+      let ends = ends_of l.task a.case end (subst P (sym a.is) l.is) in
+      comes_by Fault a.case end (λ q y. let p = ends q y in goes_through l.task l.no_refusal l.none_open end p.0 p.1) ends_here
   complete_by (inr l) =
       let V : Case → Type 0 = λ case. IsValid case end in
       let E : Case → Type 0 = λ case. Ended Fault case end in

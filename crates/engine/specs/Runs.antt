@@ -3,8 +3,9 @@ use Rattle.std.specs.Prelude.{◌≡◌, ◌⊎◌, ℕ, List, Ok, Option}
 use Rattle.outside.specs.Counts.{Rose}
 use Rattle.outside.specs.Files.{File}
 use Rattle.outside.specs.Puts.{Put}
+use Rattle.step_problem.specs.declared.place.NoBound.{NoBound}
 use Rattle.model_types.specs.declared.model.FlowModel.{FlowModel}
-use Rattle.model_types.specs.Times.{times}
+use Rattle.model_types.specs.declared.time_steps.TimeStep.{TimeStep}
 use Rattle.listing_io.specs.declared.listing.ListedStep.{ListedStep}
 use Rattle.run_puts.specs.Lines.{Text}
 use Rattle.run_puts.specs.Runs.{IsRun}
@@ -12,7 +13,7 @@ use Rattle.run_puts.specs.declared.status.Status.{Status}
 use Rattle.run_puts.specs.declared.status.Status.TheVariants as status
 use Rattle.listing_run.specs.declared.task.Task.{Task}
 use Rattle.listing_run.specs.declared.step.Step.{Step}
-use Rattle.listing_run.specs.Steps.{Whole, AllSteps, AllSettle}
+use Rattle.listing_run.specs.Steps.{WithoutBound, Open, AllSteps}
 use Rattle.check_run.specs.declared.verdict.Verdict.TheVariants.{Certified}
 use Rattle.check_run.specs.Verdicts.{IsVerdict}
 use Rattle.engine.specs.Cases.{Case, Listing, Making, Checking, IsCase, case_of}
@@ -49,13 +50,12 @@ HasTask (Listing k) task = k ≡ task
 HasTask (Making seed size (Ok m)) task = made_task m ≡ task
 HasTask other task = ⊥
 
--- The words ask for a listing or a made model, the files read as a model, none of its steps has a refusal, and the rounds settle each.
+-- The words ask for a listing or a made model, the files read as a model, and from STRT on, each step from the heads of the one before, no step has a refusal, and the rounds leave none open.
 pub record HasListing (words : List Text) (files : List File) : Type 0 where
   pub task : Task
-  pub values : List Step
   pub is : HasTask (case_of words files) task
-  pub steps : AllSteps task values Whole
-  pub settle : AllSettle task steps.start (times task.model) values
+  pub no_refusal : (before : List Step) (at : TimeStep) (n : NoBound) → AllSteps task before (WithoutBound at n) → ⊥
+  pub none_open : (before : List Step) (at : TimeStep) → AllSteps task before (Open at) → ⊥
 
 -- The words ask for a check, the files read as a model and a listing of it, and its verdict is that it is certified.
 pub record HasCertified (words : List Text) (files : List File) : Type 0 where

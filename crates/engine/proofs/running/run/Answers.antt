@@ -16,21 +16,21 @@ pub returns-clause-headline : goal.returns-clause-headline
 returns-clause-headline g c = λ ok files agree.
     let words : List (List ℕ) = map (λ w. w.now) c.args.words.now in
     let r = c.answer.ensures.answers c.args.out.now [] (((g.met.K.Sink g.world.𝓛 g.world.𝓜 g.world.𝓡 ((λ s x. x), (λ x. x), (λ x. x), λ x. x))).rests c.args.out.now) in
-    let laws = laws_of c.one_listing.ensures.one c.one_listing.ensures.bound c.one_listing.ensures.closed c.one_listing.ensures.refusal c.one_verdict.ensures in
+    let laws = laws_of c.one_listing.ensures.one c.one_listing.ensures.bound c.one_listing.ensures.refusal c.one_verdict.ensures in
     first_of (both laws words (Some files) _ _ c.answer.result r.0 (g.K.Sink.seen c.args.out.now) (g.K.Sink.seen c.answer.new.out) (r.2 (Some files) agree) (((g.met.K.Sink g.world.𝓛 g.world.𝓜 g.world.𝓡 ((λ s x. x), (λ x. x), (λ x. x), λ x. x))).tells c.args.out.now r.0 c.answer.new.out r.1) ok)
 
 pub returns-clause-one : goal.returns-clause-one
 returns-clause-one g c = λ ok files agree.
     let words : List (List ℕ) = map (λ w. w.now) c.args.words.now in
     let r = c.answer.ensures.answers c.args.out.now [] (((g.met.K.Sink g.world.𝓛 g.world.𝓜 g.world.𝓡 ((λ s x. x), (λ x. x), (λ x. x), λ x. x))).rests c.args.out.now) in
-    let laws = laws_of c.one_listing.ensures.one c.one_listing.ensures.bound c.one_listing.ensures.closed c.one_listing.ensures.refusal c.one_verdict.ensures in
+    let laws = laws_of c.one_listing.ensures.one c.one_listing.ensures.bound c.one_listing.ensures.refusal c.one_verdict.ensures in
     second_of (both laws words (Some files) _ _ c.answer.result r.0 (g.K.Sink.seen c.args.out.now) (g.K.Sink.seen c.answer.new.out) (r.2 (Some files) agree) (((g.met.K.Sink g.world.𝓛 g.world.𝓜 g.world.𝓡 ((λ s x. x), (λ x. x), (λ x. x), λ x. x))).tells c.args.out.now r.0 c.answer.new.out r.1) ok)
 
 pub returns-clause-made : goal.returns-clause-made
 returns-clause-made g c = λ ok seed size wanted.
     let words : List (List ℕ) = map (λ w. w.now) c.args.words.now in
     let r = c.answer.ensures.answers c.args.out.now [] (((g.met.K.Sink g.world.𝓛 g.world.𝓜 g.world.𝓡 ((λ s x. x), (λ x. x), (λ x. x), λ x. x))).rests c.args.out.now) in
-    let laws = laws_of c.one_listing.ensures.one c.one_listing.ensures.bound c.one_listing.ensures.closed c.one_listing.ensures.refusal c.one_verdict.ensures in
+    let laws = laws_of c.one_listing.ensures.one c.one_listing.ensures.bound c.one_listing.ensures.refusal c.one_verdict.ensures in
     (made laws words None _ _ c.answer.result r.0 (g.K.Sink.seen c.args.out.now) (g.K.Sink.seen c.answer.new.out) (r.2 None tt) (((g.met.K.Sink g.world.𝓛 g.world.𝓜 g.world.𝓡 ((λ s x. x), (λ x. x), (λ x. x), λ x. x))).tells c.args.out.now r.0 c.answer.new.out r.1) ok seed size wanted).0
 
 pub returns-clause-certified : goal.returns-clause-certified
@@ -55,12 +55,12 @@ pub returns-clause-decided : goal.returns-clause-decided
 returns-clause-decided g c = λ files agree.
     let words : List (List ℕ) = map (λ w. w.now) c.args.words.now in
     let r = c.answer.ensures.answers c.args.out.now [] (((g.met.K.Sink g.world.𝓛 g.world.𝓜 g.world.𝓡 ((λ s x. x), (λ x. x), (λ x. x), λ x. x))).rests c.args.out.now) in
-    let laws = laws_of c.one_listing.ensures.one c.one_listing.ensures.bound c.one_listing.ensures.closed c.one_listing.ensures.refusal c.one_verdict.ensures in
+    let laws = laws_of c.one_listing.ensures.one c.one_listing.ensures.bound c.one_listing.ensures.refusal c.one_verdict.ensures in
     decided laws words (Some files) _ _ c.answer.result r.0 (g.K.Sink.seen c.args.out.now) (g.K.Sink.seen c.answer.new.out) (r.2 (Some files) agree) (((g.met.K.Sink g.world.𝓛 g.world.𝓜 g.world.𝓡 ((λ s x. x), (λ x. x), (λ x. x), λ x. x))).tells c.args.out.now r.0 c.answer.new.out r.1)
 
 pub returns-clause-complete : goal.returns-clause-complete
 returns-clause-complete g c = λ files agree.
     let words : List (List ℕ) = map (λ w. w.now) c.args.words.now in
     let r = c.answer.ensures.answers c.args.out.now [] (((g.met.K.Sink g.world.𝓛 g.world.𝓜 g.world.𝓡 ((λ s x. x), (λ x. x), (λ x. x), λ x. x))).rests c.args.out.now) in
-    let laws = laws_of c.one_listing.ensures.one c.one_listing.ensures.bound c.one_listing.ensures.closed c.one_listing.ensures.refusal c.one_verdict.ensures in
+    let laws = laws_of c.one_listing.ensures.one c.one_listing.ensures.bound c.one_listing.ensures.refusal c.one_verdict.ensures in
     complete laws words (Some files) _ _ c.answer.result r.0 (g.K.Sink.seen c.args.out.now) (g.K.Sink.seen c.answer.new.out) (r.2 (Some files) agree) (((g.met.K.Sink g.world.𝓛 g.world.𝓜 g.world.𝓡 ((λ s x. x), (λ x. x), (λ x. x), λ x. x))).tells c.args.out.now r.0 c.answer.new.out r.1)
