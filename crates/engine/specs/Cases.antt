@@ -49,6 +49,13 @@ built other = None
 abbrev pub asked_in : List Text → Option Command
 asked_in words = option_and_then built (wanted_of words)
 
+-- no file of the folder is read: without a command, and to make a model
+abbrev pub ReadsNothing : Option Command → Type 0
+ReadsNothing None = Unit {0}
+ReadsNothing (Some (Run asked)) = ⊥
+ReadsNothing (Some (Make seed size)) = Unit {0}
+ReadsNothing (Some (Check asked)) = ⊥
+
 -- what is listed of a model, with the zones of its cells if there is a zone file
 abbrev pub task_of : Asked → FlowModel → Option (List ℕ) → Task
 task_of asked m zones = record { model = m; digits = asked.digits; zones = zones; rounds = asked.rounds }

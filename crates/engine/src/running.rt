@@ -8,7 +8,7 @@ ghost use Rattle.listing_run.specs.Listing.{IsListing, IsCutListing};
 ghost use Rattle.listing_run.specs.Zones.{AreZones};
 ghost use Rattle.engine.specs.Headline.{Headline};
 ghost use Rattle.engine.specs.Runs.{Puts, Decided, Comes};
-ghost use Rattle.engine.specs.Cases.{asked_in, task_of, AskedCheck, Check, Make, Run};
+ghost use Rattle.engine.specs.Cases.{asked_in, task_of, AskedCheck, Check, Make, ReadsNothing, Run};
 ghost use Rattle.engine.specs.Commands.{asked_of, IsAsked};
 ghost use Rattle.engine.specs.Made.{Made};
 ghost use Rattle.engine.specs.Certified.{Certified};
@@ -57,6 +57,9 @@ pub fn run<R: Threads + Sync, F: Folder, K: Sink + Send, W: Sink + Send, G: Gate
 
     // Files that agree with all results of the folder agreed with it before.
     ensures since { (files : List File) → F.agrees folder.new files → F.agrees folder.old files }
+
+    // A folder of which no file is read isn't asked.
+    ensures unasked { ReadsNothing (asked_in (map (λ w. w.now) words.now)) → folder.new ≡ folder.old }
 
     // Some files agree with all that the folder has answered.
     ensures told { (files : List File) × F.agrees folder.new files }
@@ -109,6 +112,7 @@ fn answer<R: Threads + Sync, F: Folder, K: Sink + Send, G: Gate + Sync>(
     gate: &G,
 ) -> Status
     ensures since { (files : List File) → F.agrees folder.new files → F.agrees folder.old files }
+    ensures unasked { ReadsNothing (asked_in (map (λ w. w.now) words.now)) → folder.new ≡ folder.old }
     ensures answers { (start : _) (puts : List Put) → K.leads start puts out.old →
         (more : List Put) × K.leads start (puts ++ more) out.new
         × ((files : Option (List File)) → IfSome files (F.agrees folder.new) →

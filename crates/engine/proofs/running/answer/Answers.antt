@@ -1,6 +1,6 @@
-use Rattle.std.proofs.Common.{◌≡◌, ◌∙◌, ℕ, List, map, Err, Option, Some, None, ap, sym}
+use Rattle.std.proofs.Common.{◌≡◌, ◌∙◌, ℕ, List, map, Err, Option, Some, None, ap, sym, subst}
 use Rattle.engine.specs.declared.asked.Command.{Command as CommandBy}
-use Rattle.engine.specs.Cases.{Command, asked_in, Check, Make, Run}
+use Rattle.engine.specs.Cases.{Command, asked_in, Check, Make, ReadsNothing, Run}
 use Rattle.engine.specs.Commands.{asked_of, check_of, command_of}
 use Rattle.engine.proofs.Ends.{asked_by, asked_none, ends_usage, ends_made, ends_without_words, no_words}
 use Rattle.engine.proofs.running.answer.Goals as goal
@@ -47,3 +47,17 @@ returns-in-Some-Check-clause-answers g c = λ start puts h.
     let m = c.check.ensures.answers start puts h in
     let words : List (List ℕ) = map (λ w. w.now) c.args.words.now in
     (m.0, m.1, m.2 words (asked_by words _ (Some (Check (check_of c.in-Some-Check.asked))) c.in-Ok.ensures.order (by_variant _ _ _ c.in-Some-Check.field-0-is c.in-Some-Check.ensures.is)))
+
+pub returns-in-Some-Run-clause-unasked : goal.returns-in-Some-Run-clause-unasked
+returns-in-Some-Run-clause-unasked g c = λ nothing.
+    let words : List (List ℕ) = map (λ w. w.now) c.args.words.now in
+    let wanted : asked_in words ≡ Some (Run (asked_of c.in-Some-Run.asked)) = asked_by words _ (Some (Run (asked_of c.in-Some-Run.asked))) c.in-Ok.ensures.order (by_variant _ _ _ c.in-Some-Run.field-0-is c.in-Some-Run.ensures.is) in
+    let P : Option Command → Type 0 = ReadsNothing in
+    absurd (subst P wanted nothing)
+
+pub returns-in-Some-Check-clause-unasked : goal.returns-in-Some-Check-clause-unasked
+returns-in-Some-Check-clause-unasked g c = λ nothing.
+    let words : List (List ℕ) = map (λ w. w.now) c.args.words.now in
+    let wanted : asked_in words ≡ Some (Check (check_of c.in-Some-Check.asked)) = asked_by words _ (Some (Check (check_of c.in-Some-Check.asked))) c.in-Ok.ensures.order (by_variant _ _ _ c.in-Some-Check.field-0-is c.in-Some-Check.ensures.is) in
+    let P : Option Command → Type 0 = ReadsNothing in
+    absurd (subst P wanted nothing)
