@@ -24,7 +24,6 @@ use Rattle.check_run.proofs.RunEnclosed.{run_encloses}
 use Rattle.engine.specs.Cases.{AskedCheck, Case, Check, Command, Checking, asked_in, built, case_asked, case_checked, case_listed, case_of, listing_read, steps_in, task_of, zones_read}
 use Rattle.engine.specs.Checked.{IsCertified, certified_line}
 use Rattle.engine.specs.Defined.{Defines}
-use Rattle.engine.specs.OneListing.{OneListing}
 use Rattle.engine.specs.Written.{ChecksWritten, OneListingIsCertified, WrittenIsCertified}
 use Rattle.engine.proofs.Readings.{named_read}
 
