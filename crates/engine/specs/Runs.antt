@@ -50,7 +50,8 @@ HasTask (Listing k) task = k ≡ task
 HasTask (Making seed size (Ok m)) task = made_task m ≡ task
 HasTask other task = ⊥
 
--- The words ask for a listing or a made model, the files read as a model, and from STRT on, each step from the heads of the one before, no step has a refusal, and the rounds leave none open.
+-- The words ask for a listing or a made model, the files read as a model, and from STRT on, each step from the heads of
+-- the one before, no step has a refusal, and the rounds leave none open.
 pub record HasListing (words : List Text) (files : List File) : Type 0 where
   pub task : Task
   pub is : HasTask (case_of words files) task
