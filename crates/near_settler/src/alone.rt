@@ -1,0 +1,149 @@
+// A settler that starts no thread.
+ghost use Rattle.std.specs.Prelude.{◌≡◌};
+ghost use Rattle.step_problem.specs.Heads.{IsBarrier};
+ghost use Rattle.step_problem.specs.Settling.{Settles};
+
+use crate::first::{has_few_cells, settles_soon};
+use crate::guessing::settle_by_guess;
+use settle_driver::PlainSettler;
+use std::alloc::Global;
+use step_problem::{Barrier, Bound, Problem, SettleFault, Settler};
+
+// The sweeps of a look, which relax each cell as often as a short phase of workers does.
+const LOOK: u32 = 4;
+
+const TWO_LOOKS: u32 = 8;
+
+// The sweeps before a guess of a problem that was found to settle soon, and of one with few cells.
+const SWEEPS_OF_SOON: u32 = 128;
+
+const SWEEPS_OF_FEW: u32 = 4_096;
+
+/// Settles as a `PlainSettler` with this many sweeps does, on the calling thread. A guess after the first sweeps only
+/// saves time.
+#[derive(Debug, Drop)]
+pub struct AloneSettler {
+    rounds: u32,
+}
+
+impl AloneSettler {
+    /// A settler of at most `rounds` plain sweeps.
+    pub fn new(rounds: u32) -> AloneSettler
+        ensures { AloneSettler.rounds result ≡ rounds }
+    {
+        AloneSettler { rounds }
+    }
+}
+
+// By plain sweeps, at most so many.
+fn sweep(alloc: Global, p: &Problem, b: &Barrier, rounds: u32) -> Result<Vec<Bound>, SettleFault>
+    requires { IsBarrier p.now b.now }
+    ensures { Settles p.now b.now rounds result }
+{
+    PlainSettler::new(rounds).settle(alloc, p, b)
+}
+
+// By a guess, and by all the sweeps where it is not certified.
+fn settle_onward(
+    alloc: Global,
+    p: &Problem,
+    b: &Barrier,
+    rounds: u32,
+) -> Result<Vec<Bound>, SettleFault>
+    requires { IsBarrier p.now b.now }
+    ensures { Settles p.now b.now rounds result }
+{
+    match settle_by_guess(alloc, p, b) {
+        Ok(bounds) => Ok(bounds),
+        Err(SettleFault::Unfinished(_)) => sweep(alloc, p, b, rounds),
+        Err(SettleFault::Memory) => Err(SettleFault::Memory),
+    }
+}
+
+// By `first` sweeps, then by a guess.
+fn settle_few_first(
+    alloc: Global,
+    p: &Problem,
+    b: &Barrier,
+    first: u32,
+    rounds: u32,
+) -> Result<Vec<Bound>, SettleFault>
+    requires { IsBarrier p.now b.now }
+    ensures { Settles p.now b.now rounds result }
+{
+    if rounds <= first {
+        return sweep(alloc, p, b, rounds);
+    }
+    match sweep(alloc, p, b, first) {
+        Ok(bounds) => Ok(bounds),
+        Err(SettleFault::Unfinished(_)) => settle_onward(alloc, p, b, rounds),
+        Err(SettleFault::Memory) => Err(SettleFault::Memory),
+    }
+}
+
+// After one look that led to `first`: by a second one, then by sweeps or by a guess, as the moves promise.
+fn settle_as_promised(
+    alloc: Global,
+    p: &Problem,
+    b: &Barrier,
+    first: &[Bound],
+    rounds: u32,
+) -> Result<Vec<Bound>, SettleFault>
+    requires { IsBarrier p.now b.now }
+    ensures { Settles p.now b.now rounds result }
+{
+    match sweep(alloc, p, b, TWO_LOOKS) {
+        Ok(bounds) => Ok(bounds),
+        Err(SettleFault::Unfinished(open)) => {
+            if settles_soon(b, first, &open.words) {
+                settle_few_first(alloc, p, b, SWEEPS_OF_SOON, rounds)
+            } else {
+                settle_onward(alloc, p, b, rounds)
+            }
+        }
+        Err(SettleFault::Memory) => Err(SettleFault::Memory),
+    }
+}
+
+// By a look first, which costs less than a guess.
+fn settle_by_look(
+    alloc: Global,
+    p: &Problem,
+    b: &Barrier,
+    rounds: u32,
+) -> Result<Vec<Bound>, SettleFault>
+    requires { IsBarrier p.now b.now }
+    ensures { Settles p.now b.now rounds result }
+{
+    match sweep(alloc, p, b, LOOK) {
+        Ok(bounds) => Ok(bounds),
+        Err(SettleFault::Unfinished(open)) => {
+            settle_as_promised(alloc, p, b, &open.words, rounds)
+        }
+        Err(SettleFault::Memory) => Err(SettleFault::Memory),
+    }
+}
+
+impl Settler for AloneSettler {
+    ghost rounds = { λ s. s.rounds };
+
+    ghost ready = { λ _. Unit {0} };
+
+    // Any settling may take any state to any other.
+    ghost leads = { λ _ _ _ _ _. Unit {0} };
+
+    fn settle(
+        &mut self,
+        alloc: Global,
+        p: &Problem,
+        b: &Barrier,
+    ) -> Result<Vec<Bound>, SettleFault> {
+        if has_few_cells(p.len()) {
+            return settle_few_first(alloc, p, b, SWEEPS_OF_FEW, self.rounds);
+        }
+        if self.rounds <= TWO_LOOKS {
+            return sweep(alloc, p, b, self.rounds);
+        }
+        settle_by_look(alloc, p, b, self.rounds)
+    }
+}
