@@ -40,14 +40,14 @@ asked_by words wanted asked e is = ap (option_and_then built) e ∙ sym is
 pub asked_none : (words : List Text) → wanted_of words ≡ None → asked_in words ≡ None
 asked_none words e = ap (option_and_then built) e
 
-late_stops : (end : Status) → IsLate end → IsStopped end
+pub late_stops : (end : Status) → IsLate end → IsStopped end
 late_stops end (inl e) = inr (inl e)
 late_stops end (inr e) = inr (inr e)
 
 pub wanting_stops : (end : Status) (puts : List Put) → IsWanting end puts → IsStopped end
 wanting_stops end puts (answer, s, t) = let P : Status → Type 0 = IsStopped in subst P (sym s) (late_stops (status_after answer) (tail_late [] (status_after answer) (memory_put answer ∷ []) (wanting [] answer)))
 
-read_stops : (end : Status) (puts : List Put) → IsLast read_fault_line status.ReadFault end puts → IsStopped end
+pub read_stops : (end : Status) (puts : List Put) → IsLast read_fault_line status.ReadFault end puts → IsStopped end
 read_stops end puts (inl (e, t)) = inl e
 read_stops end puts (inr t) = late_stops end (tail_late (read_fault_line ∷ []) end puts t)
 

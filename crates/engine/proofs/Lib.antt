@@ -7,3 +7,7 @@ pub mod Outcomes
 pub mod StoredSteps
 pub mod Written
 pub mod Numbers
+pub mod BatchEnds
+pub mod BatchOutcomes
+pub mod BatchReading
+pub mod AnyOutcomes

@@ -316,7 +316,7 @@ pub put_rose : (read_failed : Type 0) (case : Case) (end : Status) (puts : List 
 put_rose read_failed case = write_rose (Due read_failed case) (CutOf case) (λ pieces due. due_write read_failed case status.WriteFault pieces due refl)
 
 -- Two ends that a listing has: they are one, or at one of them the rounds didn't settle a step.
-abbrev Agree : Status → Status → Type 0
+abbrev pub Agree : Status → Status → Type 0
 Agree meant end = IsUnfinished meant ⊎ ((end ≡ meant) ⊎ IsUnfinished end)
 
 same_refusal : (p q i j : ℕ) (a b : NoBound) → (time p i ≡ time q j) × (a ≡ b) → status.NoBound q j b ≡ status.NoBound p i a
@@ -326,7 +326,7 @@ same_refusal p q i j a b (at, is) =
     rw (periods, steps, sym is) refl
 
 module _ (laws : Laws) (k : Task) (valid : IsModel k.model) where
-  agree : (meant end : Status) (p q : List Text) → IsListing k meant p → IsListing k end q → Agree meant end
+  pub agree : (meant end : Status) (p q : List Text) → IsListing k meant p → IsListing k end q → Agree meant end
   agree status.Ok status.Ok p q x y = inr (inl refl)
   agree status.Ok (status.NoBound period step fault) p q x y = absurd (laws.bound k x.values y.values (time period step) fault valid x.steps y.steps)
   agree (status.NoBound period step fault) status.Ok p q x y = absurd (laws.bound k y.values x.values (time period step) fault valid y.steps x.steps)
@@ -351,7 +351,7 @@ module _ (laws : Laws) (k : Task) (valid : IsModel k.model) where
 -- where no step has a refusal, and the rounds leave none open, no other end comes
 module _ (k : Task) (no_refusal : (before : List Step) (at : TimeStep) (n : NoBound) → AllSteps k before (WithoutBound at n) → ⊥)
     (none_open : (before : List Step) (at : TimeStep) → AllSteps k before (Open at) → ⊥) where
-  goes_through : (end : Status) (q : List Text) → IsListing k end q → end ≡ status.Ok
+  pub goes_through : (end : Status) (q : List Text) → IsListing k end q → end ≡ status.Ok
   goes_through status.Ok q y = refl
   goes_through (status.NoBound period step fault) q y = absurd (no_refusal y.values (time period step) fault y.steps)
   goes_through (status.Unfinished period step) q y = absurd (none_open y.values (time period step) y.steps)
@@ -362,7 +362,7 @@ module _ (k : Task) (no_refusal : (before : List Step) (at : TimeStep) (n : NoBo
   goes_through status.Memory q y = absurd y
   goes_through (status.NotCertified period step place) q y = absurd y
 
-never_stopped : (k : Task) (end : Status) (q : List Text) → IsStopped end → IsListing k end q → ⊥
+pub never_stopped : (k : Task) (end : Status) (q : List Text) → IsStopped end → IsListing k end q → ⊥
 never_stopped k end q (inl e) y = let P : Status → Type 0 = λ s. IsListing k s q in subst P e y
 never_stopped k end q (inr (inl e)) y = let P : Status → Type 0 = λ s. IsListing k s q in subst P e y
 never_stopped k end q (inr (inr e)) y = let P : Status → Type 0 = λ s. IsListing k s q in subst P e y

@@ -34,10 +34,10 @@ not_good name bad = by_test (is_good_name name) refl
     by_test false e = e
 
 -- a name that isn't taken stands for its refusal, and another one for what its files read as
-bad_named : {T : Type 0} (name : Text) (read : Text → Result T Refusal) → (IsGoodName name → ⊥) → named name read ≡ Err (file_refusal BadName (codes "-"))
+pub bad_named : {T : Type 0} (name : Text) (read : Text → Result T Refusal) → (IsGoodName name → ⊥) → named name read ≡ Err (file_refusal BadName (codes "-"))
 bad_named name read bad = rw (not_good name bad) refl
 
-good_named : {T : Type 0} (name : Text) (read : Text → Result T Refusal) → IsGoodName name → named name read ≡ read name
+pub good_named : {T : Type 0} (name : Text) (read : Text → Result T Refusal) → IsGoodName name → named name read ≡ read name
 good_named name read good = rw (is_taken name good) refl
 
 bad_reading : {T : Type 0} (name : Text) (read : Text → Result T Refusal) (fault : InputFault) → (IsGoodName name → ⊥) → IsNamedFault fault → IsReading {T = T} (λ m. m) (named name read) (Err fault)

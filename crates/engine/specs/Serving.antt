@@ -8,16 +8,17 @@ use Rattle.run_puts.specs.declared.status.Status.{Status}
 use Rattle.engine.specs.Certified.{Certified}
 use Rattle.engine.specs.Headline.{Headline}
 use Rattle.engine.specs.Made.{Made}
-use Rattle.engine.specs.Runs.{Puts}
+use Rattle.engine.specs.BatchRuns.{AnyPuts}
+use Rattle.engine.specs.Batched.{Batched}
 
--- The headline: of a listing, of a made model whose listing is summed up, or of a listing that was checked.
-abbrev pub AnyHeadline : List Text → List File → Seen → Seen → Type 0
-AnyHeadline words files old new = Headline words files old.written new.written ⊎ (Made words old.written new.written ⊎ Certified words files old.written new.written)
+-- The headline: of a listing, of a made model whose listing is summed up, of a listing that was checked, or of each listing of a batch.
+abbrev pub AnyHeadline : List Text → List File → Status → Seen → Seen → Type 0
+AnyHeadline words files end old new = (Headline words files old.written new.written ⊎ (Made words old.written new.written ⊎ Certified words files old.written new.written)) ⊎ Batched words files end old.written new.written
 
 -- A program that ends with this number: it is that of its run's status, whose puts lead from the sink before to the sink after; and where it is 0, the headline holds of files that agree with the folder, of which there are some.
 pub record Serves (leads : List Put → Type 0) (agrees : List File → Type 0) (words : List Text) (before after : ℕ) (old new : Seen) (number : ℕ) : Type 0 where
   pub end : Status
   pub number_is : number ≡ code_of end
-  pub puts : (files : Option (List File)) → IfSome files agrees → Puts leads words files before after end
+  pub puts : (files : Option (List File)) → IfSome files agrees → AnyPuts leads words files before after end
   pub some : (files : List File) × agrees files
-  pub headline : number ≡ 0 → (files : List File) → agrees files → AnyHeadline words files old new
+  pub headline : number ≡ 0 → (files : List File) → agrees files → AnyHeadline words files end old new

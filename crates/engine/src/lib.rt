@@ -2,8 +2,14 @@
 #![tactic(auto)]
 
 mod asked;
+mod asked_batch;
+mod batch_jobs;
+mod batch_reading;
+mod batching;
 mod checking;
+mod commands;
 mod ending;
+mod job;
 pub mod laws;
 mod listing;
 mod making;
@@ -11,6 +17,7 @@ mod reading;
 mod running;
 mod serving;
 
+pub use commands::run;
 pub use run_puts::Status;
-pub use running::run;
+pub use running::run_one;
 pub use serving::serve;

@@ -38,9 +38,9 @@ const USAGE: &[u8] =
 /// if the words name a zone file, and puts its listing to `out`, step by step. `make SEED SIZE` makes a model, without the
 /// folder, and puts the summary of its listing. `check NAME LISTING` reads the model and a listing of it, whoever wrote
 /// it, and puts whether it is certified, or else the first place that fails. Nothing is put to `side`. Workers in threads
-/// settle each step, and pass the gate before each turn; a check has none. Other commands and a watching seat aren't
-/// implemented; for these it puts the usage line.
-pub fn run<R: Threads + Sync, F: Folder, K: Sink + Send, W: Sink + Send, G: Gate + Sync>(
+/// settle each step, and pass the gate before each turn; a check has none. For a batch, which only `run` does, it puts
+/// the usage line; and for a watching seat, which isn't implemented.
+pub fn run_one<R: Threads + Sync, F: Folder, K: Sink + Send, W: Sink + Send, G: Gate + Sync>(
     rt: &R,
     alloc: Global,
     words: &[&str],
@@ -103,7 +103,8 @@ pub fn run<R: Threads + Sync, F: Folder, K: Sink + Send, W: Sink + Send, G: Gate
     answer(rt, alloc, words, folder, out, gate)
 }
 
-fn answer<R: Threads + Sync, F: Folder, K: Sink + Send, G: Gate + Sync>(
+// Does what the words ask for, but a batch.
+pub(crate) fn answer<R: Threads + Sync, F: Folder, K: Sink + Send, G: Gate + Sync>(
     rt: &R,
     alloc: Global,
     words: &[&str],

@@ -4,14 +4,15 @@ ghost use Rattle.std.specs.Process.{exit_status};
 ghost use Rattle.outside.specs.Puts.{Put};
 ghost use Rattle.engine.specs.Serving.{Serves};
 
-use crate::running::run;
+use crate::commands::run;
 use outside::{Folder, Gate, Sink};
 use std::alloc::Global;
 use std::process::ExitCode;
+use std::sync::Wait;
 use std::thread::Threads;
 
 /// Does what the words ask, as `run` does, and ends with the number of its status: where that is 0, the headline holds.
-pub fn serve<R: Threads + Sync, F: Folder, K: Sink + Send, W: Sink + Send, G: Gate + Sync>(
+pub fn serve<R: Threads + Wait + Sync, F: Folder, K: Sink + Send, W: Sink + Send, G: Gate + Sync>(
     rt: &R,
     alloc: Global,
     words: &[&str],

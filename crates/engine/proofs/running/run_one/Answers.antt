@@ -1,7 +1,7 @@
 use Rattle.std.proofs.Common.{List, [], map, ℕ, None, Some}
 use Rattle.outside.specs.Counts.{Rose}
 use Rattle.engine.proofs.Outcomes.{both, certified, complete, decided, first_of, laws_of, made, put_rose, read_rose, second_of}
-use Rattle.engine.proofs.running.run.Goals as goal
+use Rattle.engine.proofs.running.run_one.Goals as goal
 
 pub returns-clause-puts : goal.returns-clause-puts
 returns-clause-puts g c = λ files agree.

@@ -1,0 +1,142 @@
+-- The ends of a batch, by its reading and its jobs.
+use Rattle.std.proofs.Common.{◌≡◌, ℕ, zero, suc, ◌<◌, get_or, arith, ◌++◌, List, [], ◌∷◌, Ok, Err, Result, Option, None, Some, IfOk, subst, sym, ap, refl, inl, inr, ◌∙◌, codes, option_and_then, option_map}
+use Rattle.std.specs.Prelude.{All, IfSome, MatchOption, length, slice_get}
+use Rattle.std.specs.List.{AllZip}
+use Rattle.std.proofs.lemmas.List.{append-nil}
+use Rattle.std.proofs.lemmas.List.Elements.{All-get_or, All-weaker}
+use Rattle.outside.specs.Files.{File}
+use Rattle.outside.specs.Counts.{Rose, InputCounts}
+use Rattle.outside.specs.Inputs.{file_refusal}
+use Rattle.outside.specs.Puts.{Put}
+use Rattle.outside.specs.declared.codes.Code.TheVariants.{BadName}
+use Rattle.outside.specs.declared.refusals.InputFault.{InputFault}
+use Rattle.outside.specs.declared.refusals.InputFault.TheVariants as input
+use Rattle.outside.specs.declared.refusals.Refusal.{Refusal}
+use Rattle.command_line.specs.Wants.{Wanted, Lists, Checks, Makes, Batches, wanted_of}
+use Rattle.model_types.specs.Valid.{IsModel}
+use Rattle.listing_io.specs.LastLines.{refused_line}
+use Rattle.run_puts.specs.Lines.{Text, read_fault_line}
+use Rattle.run_puts.specs.Ends.{IsEnd, IsLast, IsWanting}
+use Rattle.run_puts.specs.Runs.{IsRun}
+use Rattle.run_puts.specs.declared.status.Status.{Status}
+use Rattle.run_puts.specs.declared.status.Status.TheVariants as status
+use Rattle.run_puts.proofs.Pieces.{lone, lacks_at_first, weaker}
+use Rattle.batch_book.specs.Ends.{AreJobEnds}
+use Rattle.batch_puts.specs.declared.job_end.JobEnd.{JobEnd}
+use Rattle.batch_puts.proofs.Batches.{ends_of_jobs}
+use Rattle.batch_puts.specs.Batches.{IsBatch}
+use Rattle.batch_puts.specs.Ended.{NeverCut}
+use Rattle.listing_run.specs.Ends.{IsTask}
+use Rattle.listing_run.specs.declared.task.Task.{Task}
+use Rattle.engine.specs.declared.job.Job.{Job}
+use Rattle.engine.specs.Batches.{AskedBatch, BatchCase, Jobs, NoList, IsBatchCase, IsJobEnd, IsRunText, batch_asked, batch_case_of, batch_of, job_case, model_line}
+use Rattle.engine.specs.BatchReads.{AreTasks, IsFaultOf}
+use Rattle.engine.specs.BatchRuns.{AnyAnswers, AreValid, BatchAnswers, BatchDue, IsValidJob, defined, unread}
+use Rattle.engine.specs.Cases.{Refuses, asked_in, built}
+use Rattle.engine.specs.Parts.{Answers, IsReadingEnd, IsStopped}
+use Rattle.engine.proofs.Ends.{ends_without_words, read_stops, wanting_stops}
+
+-- words that ask for a batch ask for no other command
+pub other_none : (words : List Text) (b : AskedBatch) → batch_asked words ≡ Some b → asked_in words ≡ None
+other_none words b = by_wanted (wanted_of words)
+  where
+    by_wanted : (w : Option Wanted) → option_and_then batch_of w ≡ Some b → option_and_then built w ≡ None
+    by_wanted None e = refl
+    by_wanted (Some (Batches list digits workers rounds)) e = refl
+    by_wanted (Some (Checks name listing digits)) e = absurd (let bad : Path (Option AskedBatch) None (Some b) = e in cc)
+    by_wanted (Some (Makes seed size)) e = absurd (let bad : Path (Option AskedBatch) None (Some b) = e in cc)
+    by_wanted (Some (Lists name digits workers rounds zones turns)) e = absurd (let bad : Path (Option AskedBatch) None (Some b) = e in cc)
+
+still_stopped : (case : BatchCase) (end : Status) → IsStopped end → AreValid case end
+still_stopped (NoList refusal) end h = tt
+still_stopped (Jobs jobs) end h = inr h
+
+-- some case, whatever is read
+record SomeCase (b : AskedBatch) (files : Option (List File)) : Type 0 where
+  case : BatchCase
+  is : IsBatchCase b files case
+
+some_case : (b : AskedBatch) (files : Option (List File)) → SomeCase b files
+some_case b (Some fs) = record { case = batch_case_of b fs; is = refl }
+some_case b None = record { case = NoList (file_refusal BadName (codes "-")); is = tt }
+
+module _ (b : AskedBatch) (files : Option (List File)) (n m : ℕ) where
+  pub batch_lacks : (end : Status) (puts : List Put) → IsWanting end puts → BatchAnswers b files n m end puts
+  batch_lacks end puts h =
+      let c = some_case b files in
+      record { case = c.case; is = c.is; run = lacks_at_first (BatchDue (Rose n m) c.case) NeverCut end puts h; valid = still_stopped c.case end (wanting_stops end puts h) }
+
+  unreadable : (end : Status) (puts : List Put) → Rose n m → IsLast read_fault_line status.ReadFault end puts → BatchAnswers b files n m end puts
+  unreadable end puts rose h =
+      let c = some_case b files in
+      record { case = c.case; is = c.is; run = lone (BatchDue (Rose n m) c.case) NeverCut read_fault_line status.ReadFault end puts (unread rose) (inl h); valid = still_stopped c.case end (read_stops end puts h) }
+
+  refused : (refusal : Refusal) (end : Status) (puts : List Put) → IsBatchCase b files (NoList refusal) → IsEnd (refused_line refusal) (status.Refused refusal) end puts → BatchAnswers b files n m end puts
+  refused refusal end puts is h = record { case = NoList refusal; is = is; run = lone (BatchDue (Rose n m) (NoList refusal)) NeverCut (refused_line refusal) (status.Refused refusal) end puts (defined (status.Refused refusal) (refused_line refusal ∷ []) (refl, refl)) h; valid = tt }
+
+  -- a batch whose jobs ran
+  pub batch_ran : (jobs : List Job) (end : Status) (puts : List Put) → IsBatchCase b files (Jobs jobs) → All IsValidJob jobs → IsRun (IsBatch IsJobEnd jobs) NeverCut end puts → BatchAnswers b files n m end puts
+  batch_ran jobs end puts is valid h = record { case = Jobs jobs; is = is; run = weaker (IsBatch IsJobEnd jobs) (BatchDue (Rose n m) (Jobs jobs)) NeverCut (λ meant pieces d. defined meant pieces d) end puts h; valid = inl valid }
+
+  -- a batch that was not read
+  pub batch_unread : (fault : InputFault) (end : Status) (puts : List Put) → IsFaultOf b files fault → InputCounts {T = ℕ} n m (Err fault) → IsReadingEnd fault end puts → BatchAnswers b files n m end puts
+  batch_unread (input.Refused refusal) end puts is counts h = refused refusal end puts is h
+  batch_unread input.ReadFault end puts is counts h = unreadable end puts counts h
+  batch_unread input.Memory end puts is counts h = batch_lacks end puts h
+
+-- the line of a refusal, after the bytes before it
+pub refusal_text : (refusal : Refusal) (before : Text) (e : JobEnd) → e.status ≡ status.Refused refusal → e.text.items ≡ before ++ refused_line refusal → IsRunText (Refuses refusal) before e
+refusal_text refusal before e is text = record {
+  pieces = refused_line refusal ∷ [];
+  defined = (is, refl);
+  text = text ∙ ap (λ (l : Text). before ++ l) (sym (append-nil (refused_line refusal)));
+}
+
+-- an end of the run of what was read, after the line of the name
+pub end_of_read : {E : Type 0} (job : Job) (text : Text) (read : Result Task Refusal) (r : Result JobEnd E) → job.read ≡ read → text ≡ model_line job.name → IfOk r (IsRunText (job_case read) text) → IfOk r (IsJobEnd job)
+end_of_read job text read (Ok e) is named end =
+    let P : Text → Type 0 = λ t. IsRunText (job_case job.read) t e in
+    let Q : Result Task Refusal → Type 0 = λ c. IsRunText (job_case c) text e in
+    subst P named (subst Q (sym is) end)
+end_of_read job text read (Err error) is named end = tt
+
+-- what holds of the entry at an index
+holds_at : (P : Job → Type 0) (jobs : List Job) (i : ℕ) (d : Job) → i < length jobs → P (get_or jobs i d) → IfSome (slice_get jobs i) P
+holds_at P [] i d h p = absurd (let no : ⊥ = omega arith in no)
+holds_at P (job ∷ jobs) zero d h p = p
+holds_at P (job ∷ jobs) (suc i) d h p = holds_at P jobs i d (omega arith) p
+
+-- the end of the job at an index
+pub end_at_index : {E : Type 0} (jobs : List Job) (i : ℕ) (job : Job) (r : Result JobEnd E) → i < length jobs → job ≡ get_or jobs i job → IfOk r (IsJobEnd job) → IfOk r (λ e. IfSome (slice_get jobs i) (λ j. IsJobEnd j e))
+end_at_index jobs i job (Ok e) h is end = let P : Job → Type 0 = λ j. IsJobEnd j e in holds_at (λ j. IsJobEnd j e) jobs i job h (subst P is end)
+end_at_index jobs i job (Err error) h is end = tt
+
+-- the task of the job at an index
+pub task_at_index : (jobs : List Job) (i : ℕ) (job : Job) → i < length jobs → job ≡ get_or jobs i job → AreTasks jobs → IfOk job.read IsTask
+task_at_index jobs i job h is tasks = let P : Job → Type 0 = λ j. IfOk j.read IsTask in subst P (sym is) (All-get_or (λ (j : Job). IfOk j.read IsTask) jobs i job h tasks)
+
+-- ends that workers found, each of its job, are one end for each job
+pub jobs_ended : (jobs seen : List Job) (ends : List JobEnd) → seen ≡ jobs → AreJobEnds (λ i e. IfSome (slice_get seen i) (λ job. IsJobEnd job e)) (length seen) ends → AllZip IsJobEnd jobs ends
+jobs_ended jobs seen ends is h = let P : List Job → Type 0 = λ js. AllZip IsJobEnd js ends in subst P is (ends_of_jobs IsJobEnd seen ends h.whole h.each)
+
+-- the models of tasks are valid
+pub valid_jobs : (jobs : List Job) → AreTasks jobs → All IsValidJob jobs
+valid_jobs jobs h = All-weaker (λ (job : Job). IfOk job.read IsTask) IsValidJob (λ job t. by_read job.read t) jobs h
+  where
+    by_read : (r : Result Task Refusal) → IfOk r IsTask → IfOk r (λ k. IsModel k.model)
+    by_read (Ok k) t = t.model
+    by_read (Err refusal) t = tt
+
+module _ (words : List Text) (files : Option (List File)) (n m : ℕ) (end : Status) (puts : List Put) where
+  pub any_batch : (b : AskedBatch) → Some b ≡ batch_asked words → BatchAnswers b files n m end puts → AnyAnswers words files n m end puts
+  any_batch b e h = let P : Option AskedBatch → Type 0 = λ o. MatchOption o (Answers words files n m end puts) (λ b. BatchAnswers b files n m end puts) in subst P e h
+
+  pub any_other : None ≡ batch_asked words → Answers words files n m end puts → AnyAnswers words files n m end puts
+  any_other e h = let P : Option AskedBatch → Type 0 = λ o. MatchOption o (Answers words files n m end puts) (λ b. BatchAnswers b files n m end puts) in subst P e h
+
+  pub any_lacks : IsWanting end puts → AnyAnswers words files n m end puts
+  any_lacks h = by_option (batch_asked words)
+    where
+      by_option : (o : Option AskedBatch) → MatchOption o (Answers words files n m end puts) (λ b. BatchAnswers b files n m end puts)
+      by_option None = ends_without_words words files n m end puts h
+      by_option (Some b) = batch_lacks b files n m end puts h

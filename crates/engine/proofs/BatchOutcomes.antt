@@ -1,0 +1,258 @@
+-- The public clauses of a batch, from all that it comes to.
+use Rattle.std.proofs.Common.{◌≡◌, ℕ, List, [], ◌∷◌, ◌++◌, Option, Some, None, IfSome, IfOk, Result, Ok, Err, map, subst, sym, ◌∙◌, ap, refl, inl, inr, ◌⊎◌}
+use Rattle.std.specs.Prelude.{All}
+use Rattle.std.proofs.lemmas.List.Elements.{All-head, All-tail}
+use Rattle.std.specs.List.{AllZip, concat}
+use Rattle.std.specs.Io.KnownBytes.{Appends}
+use Rattle.outside.specs.Files.{File}
+use Rattle.outside.specs.Counts.{Rose}
+use Rattle.outside.specs.Puts.{Put, Seen, PutsMake, taken}
+use Rattle.outside.specs.declared.refusals.Refusal.{Refusal}
+use Rattle.model_types.specs.declared.model.FlowModel.{FlowModel}
+use Rattle.model_types.specs.Times.{times}
+use Rattle.model_types.specs.Valid.{IsModel}
+use Rattle.model_reader.specs.Model.{reads}
+use Rattle.run_puts.specs.Lines.{Text, end_line}
+use Rattle.run_puts.specs.Runs.{whole, early}
+use Rattle.run_puts.specs.declared.status.Status.{Status}
+use Rattle.run_puts.specs.declared.status.Status.TheVariants as status
+use Rattle.run_puts.proofs.Pieces.{IsLate, tail_late, late_not_read}
+use Rattle.run_puts.proofs.Makes.{all_written, write_rose}
+use Rattle.listing_run.specs.declared.task.Task.{Task}
+use Rattle.listing_run.specs.declared.step.Step.{Step}
+use Rattle.listing_run.specs.Steps.{Whole, AllSteps, AllSettle}
+use Rattle.listing_run.specs.Listing.{listing, IsListing, IsWhole}
+use Rattle.exact_histories.proofs.WholeRuns.{history_exists, history_is_one}
+use Rattle.batch_puts.specs.declared.job_end.JobEnd.{JobEnd}
+use Rattle.batch_puts.specs.Ended.{NeverCut, IsEnded, first_not_ok, or_else, texts}
+use Rattle.batch_puts.specs.Batches.{Agree, IsBatch, IsUnfinished}
+use Rattle.batch_puts.proofs.Batches.{batch_settles, batches_agree}
+use Rattle.engine.specs.declared.job.Job.{Job}
+use Rattle.engine.specs.Batched.{Batched, HasEnded, HasNoList, IsJobListing}
+use Rattle.engine.specs.Batches.{AskedBatch, BatchCase, BatchDefines, IsBatchCase, IsJobEnd, IsRunText, Jobs, NoList, batch_asked, batch_case, batch_case_of, job_case, job_of, job_task, model_line, names_read, task_read}
+use Rattle.engine.specs.BatchRuns.{AreValid, BatchAnswers, BatchComes, BatchDecided, BatchDue, HasBatch, HasJob, IsBatchRun, IsValidJob, defined, unread}
+use Rattle.engine.specs.Cases.{Case, Listing, Refuses}
+use Rattle.engine.specs.Defined.{Defines}
+use Rattle.engine.specs.Parts.{IsStopped}
+use Rattle.engine.specs.Runs.{IsUnfinished as IsOpenEnd}
+use Rattle.engine.proofs.Certifying.{not_stopped}
+use Rattle.engine.proofs.Ends.{late_stops}
+use Rattle.engine.proofs.Outcomes.{Agree as OpenAgree, Laws, agree, never_stopped, settles}
+
+-- no job ends with a status that stops a run
+job_not_stopped : (read : Result Task Refusal) (before : Text) (e : JobEnd) → IsRunText (job_case read) before e → IsStopped e.status → ⊥
+job_not_stopped (Ok k) before e h stops = never_stopped k e.status h.pieces stops h.defined
+job_not_stopped (Err refusal) before e h (inl s) = let bad : status.Refused refusal ≡ status.ReadFault = sym h.defined.0 ∙ s in cc
+job_not_stopped (Err refusal) before e h (inr (inl s)) = let bad : status.Refused refusal ≡ status.WriteFault = sym h.defined.0 ∙ s in cc
+job_not_stopped (Err refusal) before e h (inr (inr s)) = let bad : status.Refused refusal ≡ status.Memory = sym h.defined.0 ∙ s in cc
+
+first_or_later : (first later : Status) → (or_else first later ≡ first) ⊎ (or_else first later ≡ later)
+first_or_later status.Ok later = inr refl
+first_or_later status.Usage later = inl refl
+first_or_later (status.Refused refusal) later = inl refl
+first_or_later (status.NoBound period step fault) later = inl refl
+first_or_later (status.Unfinished period step) later = inl refl
+first_or_later status.ReadFault later = inl refl
+first_or_later status.WriteFault later = inl refl
+first_or_later status.Memory later = inl refl
+first_or_later (status.NotCertified period step place) later = inl refl
+
+neither_stopped : (first later end : Status) → (end ≡ first) ⊎ (end ≡ later) → (IsStopped first → ⊥) → (IsStopped later → ⊥) → IsStopped end → ⊥
+neither_stopped first later end (inl is) f g stops = f (let P : Status → Type 0 = IsStopped in subst P is stops)
+neither_stopped first later end (inr is) f g stops = g (let P : Status → Type 0 = IsStopped in subst P is stops)
+
+-- nor does a batch whose jobs ran
+jobs_not_stopped : (jobs : List Job) (ends : List JobEnd) → AllZip IsJobEnd jobs ends → IsStopped (first_not_ok ends) → ⊥
+jobs_not_stopped [] [] h stops = not_stopped stops
+jobs_not_stopped [] (e ∷ ends) h stops = absurd h
+jobs_not_stopped (job ∷ jobs) [] h stops = absurd h
+jobs_not_stopped (job ∷ jobs) (e ∷ ends) (x, h) stops = neither_stopped e.status (first_not_ok ends) (or_else e.status (first_not_ok ends)) (first_or_later e.status (first_not_ok ends)) (job_not_stopped job.read (model_line job.name) e x) (jobs_not_stopped jobs ends h) stops
+
+defined_not_stopped : (case : BatchCase) (end : Status) (pieces : List Text) → BatchDefines case end pieces → IsStopped end → ⊥
+defined_not_stopped (NoList refusal) end pieces (is, p) (inl s) = let bad : status.Refused refusal ≡ status.ReadFault = sym is ∙ s in cc
+defined_not_stopped (NoList refusal) end pieces (is, p) (inr (inl s)) = let bad : status.Refused refusal ≡ status.WriteFault = sym is ∙ s in cc
+defined_not_stopped (NoList refusal) end pieces (is, p) (inr (inr s)) = let bad : status.Refused refusal ≡ status.Memory = sym is ∙ s in cc
+defined_not_stopped (Jobs jobs) end pieces d stops = jobs_not_stopped jobs d.ends d.each (let P : Status → Type 0 = IsStopped in subst P d.ended.status_is stops)
+
+due_read : (read_failed : Type 0) (case : BatchCase) (end : Status) (pieces : List Text) → BatchDue read_failed case end pieces → end ≡ status.ReadFault → read_failed
+due_read read_failed case end pieces (defined meant all d) e = absurd (defined_not_stopped case end pieces d (inl e))
+due_read read_failed case end pieces (unread failed) e = failed
+
+pub batch_read_rose : (read_failed : Type 0) (case : BatchCase) (end : Status) (puts : List Put) → IsBatchRun read_failed case end puts → end ≡ status.ReadFault → read_failed
+batch_read_rose read_failed case end puts (whole meant pieces due) e = due_read read_failed case end pieces due e
+batch_read_rose read_failed case end puts (early meant before after tail b t) e = absurd (late_not_read end (tail_late after end tail t) e)
+
+due_write : (read_failed : Type 0) (case : BatchCase) (end : Status) (pieces : List Text) → BatchDue read_failed case end pieces → end ≡ status.WriteFault → ⊥
+due_write read_failed case end pieces (defined meant all d) e = defined_not_stopped case end pieces d (inr (inl e))
+due_write read_failed case end pieces (unread failed) e = let bad : status.ReadFault ≡ status.WriteFault = e in cc
+
+pub batch_put_rose : (read_failed : Type 0) (case : BatchCase) (end : Status) (puts : List Put) (old new : Seen) → IsBatchRun read_failed case end puts → end ≡ status.WriteFault → PutsMake old puts new → Rose old.faults new.faults
+batch_put_rose read_failed case = write_rose (BatchDue read_failed case) NeverCut (λ pieces due. due_write read_failed case status.WriteFault pieces due refl)
+
+-- a batch that didn't stop has put the pieces that its case defines
+record Delivers (case : BatchCase) (end : Status) (puts : List Put) : Type 0 where
+  pieces : List Text
+  defines : BatchDefines case end pieces
+  written : puts ≡ map taken pieces
+
+due_delivers : (read_failed : Type 0) (case : BatchCase) (end : Status) (pieces : List Text) → BatchDue read_failed case end pieces → (IsStopped end → ⊥) → Delivers case end (map taken pieces)
+due_delivers read_failed case end pieces (defined meant all d) goes = record { pieces = pieces; defines = d; written = refl }
+due_delivers read_failed case end pieces (unread failed) goes = absurd (goes (inl refl))
+
+delivers : (read_failed : Type 0) (case : BatchCase) (end : Status) (puts : List Put) → IsBatchRun read_failed case end puts → (IsStopped end → ⊥) → Delivers case end puts
+delivers read_failed case end puts (whole meant pieces due) goes = due_delivers read_failed case end pieces due goes
+delivers read_failed case end puts (early meant before after tail b t) goes = absurd (goes (late_stops end (tail_late after end tail t)))
+
+module _ (laws : Laws) (b : AskedBatch) (files : List File) where
+  -- the text of a job that ended Ok
+  job_listing : (name : Text) (e : JobEnd) (r : Result FlowModel Refusal) → reads files name ≡ r → IfOk (task_read b r) (λ k. IsModel k.model) → IsRunText (job_case (task_read b r)) (model_line name) e → e.status ≡ status.Ok → IsJobListing b files name e.text.items
+  job_listing name e (Err refusal) is valid h ok = absurd (let bad : status.Refused refusal ≡ status.Ok = sym h.defined.0 ∙ ok in cc)
+  job_listing name e (Ok m) is valid h ok = of_whole (let P : Status → Type 0 = λ s. IsListing (job_task b m) s h.pieces in subst P ok h.defined)
+    where
+      of_whole : IsWhole (job_task b m) h.pieces → IsJobListing b files name e.text.items
+      of_whole w = record {
+        model = m;
+        read = is;
+        valid = valid;
+        values = w.values;
+        steps = w.steps;
+        only = λ others steps. laws.one (job_task b m) w.values others valid w.steps steps;
+        is = h.text ∙ ap (λ (p : List Text). model_line name ++ concat p) w.are;
+        encloses = w.encloses;
+        solvable = history_exists (job_task b m) w.values valid w.steps;
+        one = history_is_one (job_task b m) w.values valid w.steps;
+      }
+
+  all_ended : (names : List Text) (ends : List JobEnd) → All IsValidJob (map (job_of b (reads files)) names) → AllZip IsJobEnd (map (job_of b (reads files)) names) ends → AllZip (HasEnded b files) names ends
+  all_ended [] [] valid h = tt
+  all_ended [] (e ∷ ends) valid h = absurd h
+  all_ended (name ∷ names) [] valid h = absurd h
+  all_ended (name ∷ names) (e ∷ ends) valid (x, h) = (record { end = x; listing = job_listing name e (reads files name) refl (All-head IsValidJob (job_of b (reads files) name) (map (job_of b (reads files)) names) valid) x }, all_ended names ends (All-tail IsValidJob (job_of b (reads files) name) (map (job_of b (reads files)) names) valid) h)
+
+  module _ (words : List Text) (wanted : batch_asked words ≡ Some b) (end : Status) (old new : Seen) (puts : List Put) (makes : PutsMake old puts new) where
+    of_names : (names : List Text) → names_read files b ≡ Ok names → AreValid (Jobs (map (job_of b (reads files)) names)) end → (IsStopped end → ⊥) → Delivers (Jobs (map (job_of b (reads files)) names)) end puts → Batched words files end old.written new.written
+    of_names names read (inr stops) goes d = absurd (goes stops)
+    of_names names read (inl valid) goes d = record {
+      asked = b;
+      wanted = wanted;
+      names = names;
+      read = read;
+      ends = d.defines.ends;
+      each = all_ended names d.defines.ends valid d.defines.each;
+      status_is = d.defines.ended.status_is;
+      written = all_written (texts d.defines.ends ++ (end_line ∷ [])) old new puts (d.written ∙ ap (map taken) d.defines.ended.are) makes;
+    }
+
+    of_list : (r : Result (List Text) Refusal) → names_read files b ≡ r → AreValid (batch_case b r (reads files)) end → (IsStopped end → ⊥) → Delivers (batch_case b r (reads files)) end puts → HasNoList b files end ⊎ Batched words files end old.written new.written
+    of_list (Ok names) read valid goes d = inr (of_names names read valid goes d)
+    of_list (Err refusal) read valid goes d = inl (refusal, read, d.defines.0)
+
+    pub batched : (n m : ℕ) → BatchAnswers b (Some files) n m end puts → (IsStopped end → ⊥) → HasNoList b files end ⊎ Batched words files end old.written new.written
+    batched n m a goes =
+        let V : BatchCase → Type 0 = λ case. AreValid case end in
+        let D : BatchCase → Type 0 = λ case. Delivers case end puts in
+        of_list (names_read files b) refl (subst V a.is a.valid) goes (subst D a.is (delivers (Rose n m) a.case end puts a.run goes))
+
+-- how a batch ended: after a fault outside, for want of memory, or as its case defines
+abbrev Ended : Type 0 → BatchCase → Status → Type 0
+Ended fault case end = fault ⊎ ((end ≡ status.Memory) ⊎ ((q : List Text) × BatchDefines case end q))
+
+due_ended : (n m u v : ℕ) (case : BatchCase) (end : Status) (pieces : List Text) → BatchDue (Rose n m) case end pieces → Ended (Rose n m ⊎ Rose u v) case end
+due_ended n m u v case end pieces (defined meant all d) = inr (inr (pieces, d))
+due_ended n m u v case end pieces (unread failed) = inl (inl failed)
+
+late_ended : (n m : ℕ) (case : BatchCase) (end : Status) (puts : List Put) (old new : Seen) → IsBatchRun (Rose n m) case end puts → PutsMake old puts new → IsLate end → Ended (Rose n m ⊎ Rose old.faults new.faults) case end
+late_ended n m case end puts old new run makes (inl e) = inl (inr (batch_put_rose (Rose n m) case end puts old new run e makes))
+late_ended n m case end puts old new run makes (inr e) = inr (inl e)
+
+ended : (n m : ℕ) (case : BatchCase) (end : Status) (puts : List Put) (old new : Seen) → IsBatchRun (Rose n m) case end puts → PutsMake old puts new → Ended (Rose n m ⊎ Rose old.faults new.faults) case end
+ended n m case end puts old new (whole meant pieces due) makes = due_ended n m old.faults new.faults case end pieces due
+ended n m case end puts old new (early meant before after tail b t) makes = late_ended n m case end puts old new (early meant before after tail b t) makes (tail_late after end tail t)
+
+is_open : (s : Status) → IsOpenEnd s → IsUnfinished s
+is_open (status.Unfinished period step) h = tt
+is_open status.Ok h = absurd h
+is_open status.Usage h = absurd h
+is_open (status.Refused refusal) h = absurd h
+is_open (status.NoBound period step fault) h = absurd h
+is_open status.ReadFault h = absurd h
+is_open status.WriteFault h = absurd h
+is_open status.Memory h = absurd h
+is_open (status.NotCertified period step place) h = absurd h
+
+same_agree : (meant end : Status) → OpenAgree meant end → Agree meant end
+same_agree meant end (inl h) = inl (is_open meant h)
+same_agree meant end (inr (inl e)) = inr (inl e)
+same_agree meant end (inr (inr h)) = inr (inr (is_open end h))
+
+-- an end of a job whose model is valid
+abbrev IsValidEnd : Job → JobEnd → Type 0
+IsValidEnd job e = IsValidJob job × IsJobEnd job e
+
+with_valid : (jobs : List Job) (ends : List JobEnd) → All IsValidJob jobs → AllZip IsJobEnd jobs ends → AllZip IsValidEnd jobs ends
+with_valid [] [] valid h = tt
+with_valid [] (e ∷ ends) valid h = absurd h
+with_valid (job ∷ jobs) [] valid h = absurd h
+with_valid (job ∷ jobs) (e ∷ ends) valid (x, h) = ((All-head IsValidJob job jobs valid, x), with_valid jobs ends (All-tail IsValidJob job jobs valid) h)
+
+weighed : (fault : Type 0) (meant end : Status) → Agree meant end → (fault ⊎ IsUnfinished meant) ⊎ ((end ≡ meant) ⊎ ((end ≡ status.Memory) ⊎ IsUnfinished end))
+weighed fault meant end (inl open_meant) = inl (inr open_meant)
+weighed fault meant end (inr (inl e)) = inr (inl e)
+weighed fault meant end (inr (inr open_end)) = inr (inr (inr open_end))
+
+module _ (laws : Laws) where
+  read_agree : (read : Result Task Refusal) (line : Text) (a c : JobEnd) → IfOk read (λ k. IsModel k.model) → IsRunText (job_case read) line a → IsRunText (job_case read) line c → Agree a.status c.status
+  read_agree (Ok k) line a c valid x y = same_agree a.status c.status (agree laws k valid a.status c.status x.pieces y.pieces x.defined y.defined)
+  read_agree (Err refusal) line a c valid x y = inr (inl (y.defined.0 ∙ sym x.defined.0))
+
+  job_agree : (job : Job) (a c : JobEnd) → IsValidEnd job a → IsValidEnd job c → Agree a.status c.status
+  job_agree job a c x y = read_agree job.read (model_line job.name) a c x.0 x.1 y.1
+
+  decides : (case : BatchCase) (meant end : Status) (p q : List Text) → AreValid case end → BatchDefines case meant p → BatchDefines case end q → Agree meant end
+  decides (NoList refusal) meant end p q valid x y = inr (inl (y.0 ∙ sym x.0))
+  decides (Jobs jobs) meant end p q (inr stops) x y = absurd (defined_not_stopped (Jobs jobs) end q y stops)
+  decides (Jobs jobs) meant end p q (inl valid) x y =
+      let both : Agree (first_not_ok x.ends) (first_not_ok y.ends) = batches_agree IsValidEnd job_agree jobs x.ends y.ends (with_valid jobs x.ends valid x.each) (with_valid jobs y.ends valid y.each) in
+      let P : Status → Type 0 = λ s. Agree s (first_not_ok y.ends) in
+      let Q : Status → Type 0 = λ s. Agree meant s in
+      subst Q (sym y.ended.status_is) (subst P (sym x.ended.status_is) both)
+
+  decided_by : (fault : Type 0) (case : BatchCase) (meant end : Status) (p : List Text) → AreValid case end → BatchDefines case meant p → Ended fault case end → (fault ⊎ IsUnfinished meant) ⊎ ((end ≡ meant) ⊎ ((end ≡ status.Memory) ⊎ IsUnfinished end))
+  decided_by fault case meant end p valid x (inl f) = inl (inl f)
+  decided_by fault case meant end p valid x (inr (inl e)) = inr (inr (inl e))
+  decided_by fault case meant end p valid x (inr (inr (q, y))) = weighed fault meant end (decides case meant end p q valid x y)
+
+  pub batch_decided : (b : AskedBatch) (files : List File) (n m : ℕ) (end : Status) (puts : List Put) (old new : Seen) → BatchAnswers b (Some files) n m end puts → PutsMake old puts new → BatchDecided (Rose n m ⊎ Rose old.faults new.faults) b files end
+  batch_decided b files n m end puts old new a makes = λ meant pieces x.
+      let P : BatchCase → Type 0 = λ case. BatchDefines case meant pieces in
+      decided_by (Rose n m ⊎ Rose old.faults new.faults) a.case meant end pieces a.valid (subst P (sym a.is) x) (ended n m a.case end puts old new a.run makes)
+
+  module _ (b : AskedBatch) (files : List File) where
+    job_settles : (name : Text) (e : JobEnd) → HasJob b files name → IsValidEnd (job_of b (reads files) name) e → e.status ≡ status.Ok
+    job_settles name e j x =
+        let P : Result FlowModel Refusal → Type 0 = λ r. IfOk (task_read b r) (λ k. IsModel k.model) → IsRunText (job_case (task_read b r)) (model_line name) e → e.status ≡ status.Ok in
+        subst P (sym j.read) (λ valid h. settles laws (job_task b j.model) valid e.status h.pieces j.values j.steps j.settle h.defined) x.0 x.1
+
+    all_settle : (names : List Text) (ends : List JobEnd) → All (HasJob b files) names → AllZip IsValidEnd (map (job_of b (reads files)) names) ends → AllZip (λ job e. e.status ≡ status.Ok) (map (job_of b (reads files)) names) ends
+    all_settle [] [] each h = tt
+    all_settle [] (e ∷ ends) each h = absurd h
+    all_settle (name ∷ names) [] each h = absurd h
+    all_settle (name ∷ names) (e ∷ ends) each (x, h) = (job_settles name e (All-head (HasJob b files) name names each) x, all_settle names ends (All-tail (HasJob b files) name names each) h)
+
+    jobs_end_ok : (names : List Text) (end : Status) (q : List Text) → All (HasJob b files) names → AreValid (Jobs (map (job_of b (reads files)) names)) end → BatchDefines (Jobs (map (job_of b (reads files)) names)) end q → end ≡ status.Ok
+    jobs_end_ok names end q each (inr stops) y = absurd (defined_not_stopped (Jobs (map (job_of b (reads files)) names)) end q y stops)
+    jobs_end_ok names end q each (inl valid) y =
+        let jobs : List Job = map (job_of b (reads files)) names in
+        y.ended.status_is ∙ batch_settles (λ job e. e.status ≡ status.Ok) (λ job e is. is) jobs y.ends (all_settle names y.ends each (with_valid jobs y.ends valid y.each))
+
+    comes_by : (fault : Type 0) (names : List Text) (end : Status) → All (HasJob b files) names → AreValid (Jobs (map (job_of b (reads files)) names)) end → Ended fault (Jobs (map (job_of b (reads files)) names)) end → fault ⊎ ((end ≡ status.Ok) ⊎ (end ≡ status.Memory))
+    comes_by fault names end each valid (inl f) = inl f
+    comes_by fault names end each valid (inr (inl e)) = inr (inr e)
+    comes_by fault names end each valid (inr (inr (q, y))) = inr (inl (jobs_end_ok names end q each valid y))
+
+    pub batch_complete : (n m : ℕ) (end : Status) (puts : List Put) (old new : Seen) → BatchAnswers b (Some files) n m end puts → PutsMake old puts new → BatchComes (Rose n m ⊎ Rose old.faults new.faults) b files end
+    batch_complete n m end puts old new a makes = λ has.
+        let is : a.case ≡ Jobs (map (job_of b (reads files)) has.names) = a.is ∙ ap (λ r. batch_case b r (reads files)) has.read in
+        let V : BatchCase → Type 0 = λ case. AreValid case end in
+        let E : BatchCase → Type 0 = λ case. Ended (Rose n m ⊎ Rose old.faults new.faults) case end in
+        comes_by (Rose n m ⊎ Rose old.faults new.faults) has.names end has.each (subst V is a.valid) (subst E is (ended n m a.case end puts old new a.run makes))

@@ -1,0 +1,15 @@
+-- The jobs so far are those of the names so far, whatever files agree with the folder.
+use Rattle.std.proofs.Common.{◌≡◌, List, length, take, IfSome, Option}
+use Rattle.outside.specs.Files.{File}
+use Rattle.engine.specs.BatchCommands.{batch_by}
+use Rattle.engine.specs.BatchReads.{AreJobsRead, AreTasks}
+use Rattle.engine.proofs.batch_reading.read_jobs.Given as goal
+
+abbrev pub invariant-loop-name : goal.invariant-loop-name
+invariant-loop-name g l = record {
+  since : (files : List File) → g.F.Folder.agrees l.folder files → g.F.Folder.agrees l.fn.folder files;
+  counts : g.F.Folder.faults l.folder ≡ g.F.Folder.faults l.fn.folder;
+  reads : (files : Option (List File)) → IfSome files (g.F.Folder.agrees l.folder) → AreJobsRead (batch_by l.asked) (take l.name-index l.names) files l.jobs.items;
+  tasks : AreTasks l.jobs.items;
+  whole : length l.jobs.items ≡ l.name-index;
+}

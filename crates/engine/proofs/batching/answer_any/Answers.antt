@@ -1,0 +1,22 @@
+use Rattle.std.proofs.Common.{List, ℕ, map}
+use Rattle.engine.specs.BatchCommands.{batch_by}
+use Rattle.engine.proofs.BatchEnds.{any_batch, any_lacks, any_other}
+use Rattle.engine.proofs.batching.answer_any.Goals as goal
+
+pub returns-in-Ok-Some-clause-answers : goal.returns-in-Ok-Some-clause-answers
+returns-in-Ok-Some-clause-answers g c = λ start puts h.
+    let m = c.put_batch.ensures.answers start puts h in
+    let words : List (List ℕ) = map (λ w. w.now) c.args.words.now in
+    (m.0, m.1, λ files agree. any_batch words files (g.F.Folder.faults c.args.folder.now) _ c.put_batch.result m.0 (batch_by c.in-Ok-Some.asked) (rw c.in-Ok-Some.field-0-is at c.in-Ok-Some.ensures.is) (m.2 files agree))
+
+pub returns-in-Ok-None-clause-answers : goal.returns-in-Ok-None-clause-answers
+returns-in-Ok-None-clause-answers g c = λ start puts h.
+    let m = c.answer.ensures.answers start puts h in
+    let words : List (List ℕ) = map (λ w. w.now) c.args.words.now in
+    (m.0, m.1, λ files agree. any_other words files (g.F.Folder.faults c.args.folder.now) _ c.answer.result m.0 (rw c.in-Ok-None.field-0-is at c.in-Ok-None.ensures.is) (m.2 files agree))
+
+pub returns-in-Err-clause-answers : goal.returns-in-Err-clause-answers
+returns-in-Err-clause-answers g c = λ start puts h.
+    let m = c.put_memory.ensures start puts h in
+    let words : List (List ℕ) = map (λ w. w.now) c.args.words.now in
+    (m.0, m.1, λ files agree. any_lacks words files (g.F.Folder.faults c.args.folder.now) _ c.put_memory.result m.0 m.2)

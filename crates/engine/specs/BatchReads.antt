@@ -1,0 +1,51 @@
+-- What the reading of a batch returns.
+use Rattle.std.specs.Prelude.{◌≡◌, ℕ, List, map, Result, Ok, Err, Option, Some, None, IfOk, All}
+use Rattle.std.specs.declared.vec.Vec.{Vec}
+use Rattle.std.specs.declared.alloc.Global.{Global}
+use Rattle.outside.specs.Files.{File}
+use Rattle.outside.specs.Inputs.{IsReading}
+use Rattle.outside.specs.declared.refusals.Refusal.{Refusal}
+use Rattle.outside.specs.declared.refusals.InputFault.{InputFault}
+use Rattle.outside.specs.declared.refusals.InputFault.TheVariants as input
+use Rattle.model_reader.specs.Model.{reads}
+use Rattle.run_puts.specs.Lines.{Text}
+use Rattle.listing_run.specs.Ends.{IsTask}
+use Rattle.engine.specs.declared.job.Job.{Job}
+use Rattle.engine.specs.Batches.{AskedBatch, BatchCase, Jobs, NoList, IsBatchCase, IsSomeJob, job_of, names_read}
+
+-- each task that is to be listed meets the conditions on tasks
+abbrev pub AreTasks : List Job → Type 0
+AreTasks jobs = All (λ job. IfOk job.read IsTask) jobs
+
+-- the job that a name stands for: by these files, or where none are known some job
+abbrev pub IsJobRead : AskedBatch → Text → Option (List File) → Job → Type 0
+IsJobRead b name (Some files) job = job ≡ job_of b (reads files) name
+IsJobRead b name None job = IsSomeJob b job
+
+-- a fault of reading a batch: its list's refusal; a read fault and lack of memory say nothing of the files
+abbrev pub IsFaultOf : AskedBatch → Option (List File) → InputFault → Type 0
+IsFaultOf b files (input.Refused refusal) = IsBatchCase b files (NoList refusal)
+IsFaultOf b files input.ReadFault = Unit {0}
+IsFaultOf b files input.Memory = Unit {0}
+
+-- A reading of a batch gave its jobs, or failed by its cause.
+abbrev pub IsBatchRead : AskedBatch → Option (List File) → Result (Vec Job Global) InputFault → Type 0
+IsBatchRead b files (Ok jobs) = IsBatchCase b files (Jobs jobs.items)
+IsBatchRead b files (Err fault) = IsFaultOf b files fault
+
+-- the jobs that names stand for, in order
+abbrev pub AreJobsRead : AskedBatch → List Text → Option (List File) → List Job → Type 0
+AreJobsRead b names (Some files) jobs = jobs ≡ map (job_of b (reads files)) names
+AreJobsRead b names None jobs = All (IsSomeJob b) jobs
+
+-- the names of the list, or its first refusal, where files are known
+abbrev pub HasNames : AskedBatch → Option (List File) → Result (Vec (List ℕ) Global) InputFault → Type 0
+HasNames b None answer = Unit {0}
+HasNames b (Some files) answer = IsReading (λ (names : Vec (List ℕ) Global). names.items) (names_read files b) answer
+
+-- a reading whose fault is no refusal
+abbrev pub NeverRefused : {T : Type 0} → Result T InputFault → Type 0
+NeverRefused (Ok value) = Unit {0}
+NeverRefused (Err (input.Refused refusal)) = ⊥
+NeverRefused (Err input.ReadFault) = Unit {0}
+NeverRefused (Err input.Memory) = Unit {0}

@@ -1,0 +1,92 @@
+-- What a batch puts, how it ends, and which end is certain.
+use Rattle.std.specs.Prelude.{◌≡◌, ◌⊎◌, ℕ, List, [], ◌∷◌, Ok, Option, All, IfOk, MatchOption}
+use Rattle.outside.specs.Counts.{Rose}
+use Rattle.outside.specs.Files.{File}
+use Rattle.outside.specs.Puts.{Put}
+use Rattle.model_types.specs.declared.model.FlowModel.{FlowModel}
+use Rattle.model_types.specs.Times.{times}
+use Rattle.model_types.specs.Valid.{IsModel}
+use Rattle.model_reader.specs.Model.{reads}
+use Rattle.run_puts.specs.Lines.{Text, read_fault_line}
+use Rattle.run_puts.specs.Runs.{IsRun}
+use Rattle.run_puts.specs.declared.status.Status.{Status}
+use Rattle.run_puts.specs.declared.status.Status.TheVariants as status
+use Rattle.listing_run.specs.declared.step.Step.{Step}
+use Rattle.listing_run.specs.Steps.{Whole, AllSteps, AllSettle}
+use Rattle.batch_puts.specs.Ended.{NeverCut}
+use Rattle.batch_puts.specs.Batches.{IsUnfinished}
+use Rattle.engine.specs.declared.job.Job.{Job}
+use Rattle.engine.specs.Batches.{AskedBatch, BatchCase, NoList, Jobs, IsBatchCase, BatchDefines, batch_asked, batch_case_of, job_task, names_read}
+use Rattle.engine.specs.Parts.{Answers, IsStopped}
+use Rattle.engine.specs.Runs.{Puts, Decided, Comes}
+
+-- The pieces due if a batch has this end: those that its case defines; or, if a read failed, the line READFAULT alone, as all files are read before the first job runs.
+pub data BatchDue (read_failed : Type 0) (case : BatchCase) : Status → List Text → Type 0 where
+  defined : (end : Status) (pieces : List Text) → BatchDefines case end pieces → BatchDue read_failed case end pieces
+  unread : read_failed → BatchDue read_failed case status.ReadFault (read_fault_line ∷ [])
+
+-- the puts of a batch of this case with this end
+abbrev pub IsBatchRun : Type 0 → BatchCase → Status → List Put → Type 0
+IsBatchRun read_failed case = IsRun (BatchDue read_failed case) NeverCut
+
+-- What a batch puts, for every status: `leads` says which puts take the sink from its state before to its state after,
+-- and the two numbers are the folder's counts of faults before and after.
+pub record BatchPuts (leads : List Put → Type 0) (b : AskedBatch) (files : Option (List File)) (before after : ℕ) (end : Status) : Type 0 where
+  pub case : BatchCase
+  pub is : IsBatchCase b files case
+  pub puts : List Put
+  pub leads_on : leads puts
+  pub run : IsBatchRun (Rose before after) case end puts
+
+-- The batch has the end that the list and the files define, unless a read or a write fails, memory runs out, or a step doesn't settle within the rounds.
+abbrev pub BatchDecided : Type 0 → AskedBatch → List File → Status → Type 0
+BatchDecided fault b files end =
+    (meant : Status) (pieces : List Text) → BatchDefines (batch_case_of b files) meant pieces → (fault ⊎ IsUnfinished meant)
+    ⊎ ((end ≡ meant) ⊎ ((end ≡ status.Memory) ⊎ IsUnfinished end))
+
+-- The files of a name read as a model, none of its steps has a refusal, and the rounds settle each.
+pub record HasJob (b : AskedBatch) (files : List File) (name : Text) : Type 0 where
+  pub model : FlowModel
+  pub read : reads files name ≡ Ok model
+  pub values : List Step
+  pub steps : AllSteps (job_task b model) values Whole
+  pub settle : AllSettle (job_task b model) steps.start (times model) values
+
+-- The list has no refusal, and each of its names is such a one.
+pub record HasBatch (b : AskedBatch) (files : List File) : Type 0 where
+  pub names : List Text
+  pub read : names_read files b ≡ Ok names
+  pub each : All (HasJob b files) names
+
+-- Then the batch ends Ok, unless a read or a write fails or memory runs out.
+abbrev pub BatchComes : Type 0 → AskedBatch → List File → Status → Type 0
+BatchComes fault b files end = HasBatch b files → fault ⊎ ((end ≡ status.Ok) ⊎ (end ≡ status.Memory))
+
+-- What is said of a batch, where the words ask for one, and else what is said of another command.
+abbrev pub AnyPuts : (List Put → Type 0) → List Text → Option (List File) → ℕ → ℕ → Status → Type 0
+AnyPuts leads words files before after end = MatchOption (batch_asked words) (Puts leads words files before after end) (λ b. BatchPuts leads b files before after end)
+
+abbrev pub AnyDecided : Type 0 → List Text → List File → Status → Type 0
+AnyDecided fault words files end = MatchOption (batch_asked words) (Decided fault words files end) (λ b. BatchDecided fault b files end)
+
+abbrev pub AnyComes : Type 0 → List Text → List File → Status → Type 0
+AnyComes fault words files end = MatchOption (batch_asked words) (Comes fault words files end) (λ b. BatchComes fault b files end)
+
+-- the model of a job that has no refusal is valid
+abbrev pub IsValidJob : Job → Type 0
+IsValidJob job = IfOk job.read (λ k. IsModel k.model)
+
+-- the models of the jobs are valid, unless they weren't all read
+abbrev pub AreValid : BatchCase → Status → Type 0
+AreValid (NoList refusal) end = Unit {0}
+AreValid (Jobs jobs) end = All IsValidJob jobs ⊎ IsStopped end
+
+-- all facts of a batch's result
+pub record BatchAnswers (b : AskedBatch) (files : Option (List File)) (before after : ℕ) (end : Status) (puts : List Put) : Type 0 where
+  pub case : BatchCase
+  pub is : IsBatchCase b files case
+  pub run : IsBatchRun (Rose before after) case end puts
+  pub valid : AreValid case end
+
+abbrev pub AnyAnswers : List Text → Option (List File) → ℕ → ℕ → Status → List Put → Type 0
+AnyAnswers words files before after end puts = MatchOption (batch_asked words) (Answers words files before after end puts) (λ b. BatchAnswers b files before after end puts)

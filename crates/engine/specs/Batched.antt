@@ -1,0 +1,63 @@
+-- The headline of a batch: of each listing among its texts.
+use Rattle.std.specs.Prelude.{◌≡◌, ℕ, ℤ, List, [], ◌∷◌, ◌++◌, Ok, Err, Option, Some}
+use Rattle.std.specs.List.{AllZip, concat}
+use Rattle.std.specs.Io.KnownBytes.{Appends}
+use Rattle.outside.specs.Files.{File}
+use Rattle.outside.specs.declared.refusals.Refusal.{Refusal}
+use Rattle.model_types.specs.declared.model.FlowModel.{FlowModel}
+use Rattle.model_types.specs.Heads.{start_head}
+use Rattle.model_types.specs.Valid.{IsModel}
+use Rattle.model_reader.specs.Model.{reads}
+use Rattle.flow_equations.specs.Histories.{Solves}
+use Rattle.run_puts.specs.Lines.{Text, end_line}
+use Rattle.run_puts.specs.declared.status.Status.{Status}
+use Rattle.run_puts.specs.declared.status.Status.TheVariants as status
+use Rattle.listing_run.specs.declared.step.Step.{Step}
+use Rattle.listing_run.specs.Steps.{Whole, AllSteps}
+use Rattle.listing_run.specs.Listing.{listing}
+use Rattle.listing_run.specs.Bounding.{BoundAll}
+use Rattle.exact_histories.specs.Histories.{HasHistory, AreSame}
+use Rattle.batch_puts.specs.declared.job_end.JobEnd.{JobEnd}
+use Rattle.batch_puts.specs.Ended.{first_not_ok, texts}
+use Rattle.engine.specs.Batches.{AskedBatch, IsJobEnd, batch_asked, job_of, job_task, model_line, names_read}
+
+-- The text of a name is the one listing that its files define; and every history of heads that solves the manual's exact equations of these files lies, step by step and cell by cell, between its heads, with each of its budget flows between its terms.
+pub record IsJobListing (b : AskedBatch) (files : List File) (name text : Text) : Type 0 where
+  -- The files read as a model, which is valid.
+  pub model : FlowModel
+  pub read : reads files name ≡ Ok model
+  pub valid : IsModel model
+  -- All its time steps have values, which are heads and budgets, and no others.
+  pub values : List Step
+  pub steps : AllSteps (job_task b model) values Whole
+  pub only : (others : List Step) → AllSteps (job_task b model) others Whole → others ≡ values
+  -- The text is the name and their listing.
+  pub is : text ≡ model_line name ++ concat (listing (job_task b model) values end_line)
+  -- Every history over any denominator d that solves the model's exact equations lies between them.
+  pub encloses : (d : ℕ) (history : List (ℕ → ℤ)) → Solves model d history → BoundAll (job_task b model) d (start_head model) values history
+  -- And there is one: a history solves them, and any two are the same heads at all active cells, step by step.
+  pub solvable : HasHistory model
+  pub one : (d e : ℕ) (history other : List (ℕ → ℤ)) → Solves model d history → Solves model e other → AreSame model d e history other
+
+-- A name's job ended so: with a status and a text that its files allow a run of its model; if Ok, it is such a listing.
+pub record HasEnded (b : AskedBatch) (files : List File) (name : Text) (e : JobEnd) : Type 0 where
+  pub end : IsJobEnd (job_of b (reads files) name) e
+  pub listing : e.status ≡ status.Ok → IsJobListing b files name e.text.items
+
+-- A batch with these words over these files whose jobs ran, where a sink had the bytes `old` before it and `new` after it, has written one text for each name of its list, in the order of the list, and END; and its status is that of the first job that didn't end Ok.
+pub record Batched (words : List Text) (files : List File) (end : Status) (old new : Option (List ℕ)) : Type 0 where
+  -- The words ask for a batch, and its list has these names.
+  pub asked : AskedBatch
+  pub wanted : batch_asked words ≡ Some asked
+  pub names : List Text
+  pub read : names_read files asked ≡ Ok names
+  -- Each has one end.
+  pub ends : List JobEnd
+  pub each : AllZip (HasEnded asked files) names ends
+  pub status_is : end ≡ first_not_ok ends
+  -- Their texts and END were appended, and nothing else.
+  pub written : Appends old new (concat (texts ends ++ (end_line ∷ [])))
+
+-- The batch ended with the first refusal of its list.
+abbrev pub HasNoList : AskedBatch → List File → Status → Type 0
+HasNoList b files end = (refusal : Refusal) × (names_read files b ≡ Err refusal) × (end ≡ status.Refused refusal)

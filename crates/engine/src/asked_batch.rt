@@ -1,0 +1,56 @@
+// Whether the words ask for a batch.
+ghost use Rattle.std.specs.Prelude.{◌≡◌, map, option_map, IfOk, IfSome};
+ghost use Rattle.engine.specs.BatchCommands.{batch_by, IsBatchOrder};
+ghost use Rattle.engine.specs.Batches.{batch_asked, batch_of};
+ghost use Rattle.command_line.specs.Ranges.{IsInRange};
+ghost use Rattle.command_line.specs.Wants.{wanted};
+
+use command_line::{Order, WordsFault, read_order};
+use std::alloc::{AllocError, Global};
+
+/// A batch that is asked for: the name of its list, the digits of conductances, the workers that run its jobs, and the
+/// plain rounds in which a step must settle.
+#[derive(Clone, Copy, Debug, PartialEq, Eq)]
+pub(crate) struct BatchOrder<'a> {
+    pub(crate) list: &'a str,
+    pub(crate) digits: u32,
+    pub(crate) workers: u32,
+    pub(crate) rounds: u32,
+}
+
+// The batch that an order asks for; None where it asks for something else.
+fn batch_order<'a>(order: Order<'a>) -> Option<BatchOrder<'a>>
+    requires { IsInRange (wanted order) }
+    ensures is { option_map batch_by result ≡ batch_of (wanted order.entry) }
+    ensures in_range { IfSome result IsBatchOrder }
+{
+    match order {
+        Order::Batch {
+            list,
+            digits,
+            workers,
+            rounds,
+        } => Some(BatchOrder {
+            list,
+            digits,
+            workers,
+            rounds,
+        }),
+        _ => None,
+    }
+}
+
+/// The batch that the words ask for; None where they ask for something else or for nothing.
+pub(crate) fn asked_batch<'a>(
+    alloc: Global,
+    words: &'a [&'a str],
+) -> Result<Option<BatchOrder<'a>>, AllocError>
+    ensures is { IfOk result (λ o. option_map batch_by o ≡ batch_asked (map (λ w. w.now) words.entry.now)) }
+    ensures in_range { IfOk result (λ o. IfSome o IsBatchOrder) }
+{
+    match read_order(alloc, words) {
+        Ok(order) => Ok(batch_order(order)),
+        Err(WordsFault::Usage) => Ok(None),
+        Err(WordsFault::Memory) => Err(AllocError),
+    }
+}

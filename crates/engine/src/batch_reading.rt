@@ -1,0 +1,114 @@
+// The jobs of a batch, read from its list and the files of its models.
+ghost use Rattle.std.specs.Prelude.{◌≡◌, ◌≤◌, List, ◌++◌, ◌∷◌, [], length, map, All, IfOk, IfSome, Option};
+ghost use Rattle.outside.specs.Counts.{InputCounts};
+ghost use Rattle.outside.specs.Files.{File};
+ghost use Rattle.outside.specs.Inputs.{IsReading};
+ghost use Rattle.outside.specs.Names.{IsGoodName};
+ghost use Rattle.listing_run.specs.Ends.{IsTask};
+ghost use Rattle.engine.specs.BatchCommands.{batch_by, IsBatchOrder};
+ghost use Rattle.engine.specs.BatchReads.{AreTasks, IsBatchRead, IsJobRead, AreJobsRead, NeverRefused, HasNames};
+
+use crate::asked_batch::BatchOrder;
+use crate::job::Job;
+use crate::reading::bad_name;
+use batch_list::read_list;
+use listing_run::Task;
+use model_reader::read_named_model;
+use outside::{Folder, InputFault, Name, is_good_name, read_input};
+use std::alloc::Global;
+
+/// Reads the model of a name. A refusal of its files is the job's own, and no fault of the reading.
+fn read_job<'a, F: Folder>(
+    alloc: Global,
+    folder: &mut F,
+    asked: BatchOrder<'a>,
+    name: &Name,
+) -> Result<Job, InputFault>
+    requires name { IsGoodName name.now }
+    requires asked { IsBatchOrder asked }
+    ensures since { (files : List File) → F.agrees folder.new files → F.agrees folder.old files }
+    ensures counts { InputCounts (F.faults folder.old) (F.faults folder.new) result }
+    ensures never { NeverRefused result }
+    ensures reads { (files : Option (List File)) → IfSome files (F.agrees folder.new) → IfOk result (IsJobRead (batch_by asked.entry) name.now files) }
+    ensures task { IfOk result (λ job. IfOk job.read IsTask) }
+{
+    let copy = Name::new(alloc, name.as_str())?;
+    match read_named_model(alloc, name.as_str(), folder) {
+        Ok(model) => Ok(Job {
+            name: copy,
+            read: Ok(Task {
+                model,
+                digits: asked.digits,
+                zones: None,
+                rounds: asked.rounds,
+            }),
+        }),
+        Err(InputFault::Refused(refusal)) => Ok(Job {
+            name: copy,
+            read: Err(refusal),
+        }),
+        Err(InputFault::ReadFault) => Err(InputFault::ReadFault),
+        Err(InputFault::Memory) => Err(InputFault::Memory),
+    }
+}
+
+/// Reads the models of the names, in order.
+fn read_jobs<'a, F: Folder>(
+    alloc: Global,
+    folder: &mut F,
+    asked: BatchOrder<'a>,
+    names: &[Name],
+) -> Result<Vec<Job>, InputFault>
+    requires names { All IsGoodName names.now }
+    requires asked { IsBatchOrder asked }
+    ensures since { (files : List File) → F.agrees folder.new files → F.agrees folder.old files }
+    ensures counts { InputCounts (F.faults folder.old) (F.faults folder.new) result }
+    ensures never { NeverRefused result }
+    ensures reads { (files : Option (List File)) → IfSome files (F.agrees folder.new) → IfOk result (λ jobs. AreJobsRead (batch_by asked.entry) names.now files jobs.items) }
+    ensures tasks { IfOk result (λ jobs. AreTasks jobs.items) }
+    ensures whole { IfOk result (λ jobs. length jobs.items ≡ length names.now) }
+{
+    let mut jobs = Vec::with_capacity(alloc, names.len())?;
+    for name in names {
+        let job = read_job(alloc, folder, asked, name)?;
+        jobs.push(job)?;
+    }
+    Ok(jobs)
+}
+
+/// The names of a batch's list. The list's own name is tested before its file is read.
+fn read_names<'a, F: Folder>(
+    alloc: Global,
+    folder: &mut F,
+    asked: BatchOrder<'a>,
+) -> Result<Vec<Name>, InputFault>
+    ensures since { (files : List File) → F.agrees folder.new files → F.agrees folder.old files }
+    ensures counts { InputCounts (F.faults folder.old) (F.faults folder.new) result }
+    ensures reads { (files : Option (List File)) → IfSome files (F.agrees folder.new) → HasNames (batch_by asked.entry) files result }
+    ensures few { IfOk result (λ names. length names.items ≤ 1000) }
+    ensures good { IfOk result (λ names. All IsGoodName names.items) }
+{
+    if !is_good_name(asked.list.as_bytes()) {
+        return Err(bad_name(alloc));
+    }
+    let bytes = read_input(alloc, folder, asked.list)?;
+    let names = read_list(alloc, asked.list, bytes.as_slice())?;
+    Ok(names)
+}
+
+/// The jobs of a batch: its list is read, and then all models, in order.
+pub(crate) fn read_batch<'a, F: Folder>(
+    alloc: Global,
+    folder: &mut F,
+    asked: BatchOrder<'a>,
+) -> Result<Vec<Job>, InputFault>
+    requires { IsBatchOrder asked }
+    ensures since { (files : List File) → F.agrees folder.new files → F.agrees folder.old files }
+    ensures counts { InputCounts (F.faults folder.old) (F.faults folder.new) result }
+    ensures reads { (files : Option (List File)) → IfSome files (F.agrees folder.new) → IsBatchRead (batch_by asked.entry) files result }
+    ensures tasks { IfOk result (λ jobs. AreTasks jobs.items) }
+    ensures few { IfOk result (λ jobs. length jobs.items ≤ 1000) }
+{
+    let names = read_names(alloc, folder, asked)?;
+    read_jobs(alloc, folder, asked, names.as_slice())
+}

@@ -1,0 +1,90 @@
+// A batch of models.
+ghost use Rattle.std.specs.Prelude.{◌≡◌, ◌≤◌, ℕ, List, ◌++◌, length, map, IfSome, Option};
+ghost use Rattle.outside.specs.Files.{File};
+ghost use Rattle.outside.specs.Puts.{Put};
+ghost use Rattle.run_puts.specs.Runs.{IsRun};
+ghost use Rattle.batch_puts.specs.Batches.{IsBatch};
+ghost use Rattle.batch_puts.specs.Ended.{NeverCut};
+ghost use Rattle.engine.specs.BatchCommands.{batch_by, IsBatchOrder};
+ghost use Rattle.engine.specs.BatchReads.{AreTasks};
+ghost use Rattle.engine.specs.BatchRuns.{AnyAnswers, BatchAnswers};
+ghost use Rattle.engine.specs.Batches.{IsJobEnd};
+
+use crate::asked_batch::{BatchOrder, asked_batch};
+use crate::batch_jobs::ReadJobs;
+use crate::batch_reading::read_batch;
+use crate::ending::end_reading;
+use crate::job::Job;
+use crate::running::answer;
+use batch_book::run_batch;
+use batch_puts::put_ends;
+use outside::{Folder, Gate, Sink};
+use run_puts::{Status, put_memory};
+use std::alloc::{AllocError, Global};
+use std::sync::Wait;
+use std::thread::Threads;
+
+// Runs the jobs by workers, each job on one thread, and puts the text of each.
+fn put_jobs<R: Threads + Wait + Sync, K: Sink, G: Gate + Sync>(
+    rt: &R,
+    alloc: Global,
+    jobs: &[Job],
+    workers: u32,
+    out: &mut K,
+    gate: &G,
+) -> Status
+    requires workers { (1 ≤ workers) × (workers ≤ 64) }
+    requires few { length jobs.now ≤ 1000 }
+    requires tasks { AreTasks jobs.now }
+    ensures { (start : _) (puts : List Put) → K.leads start puts out.old →
+        (more : List Put) × K.leads start (puts ++ more) out.new × IsRun (IsBatch IsJobEnd jobs.now) NeverCut result more }
+{
+    match run_batch(rt, alloc, &ReadJobs::new(jobs), workers, gate) {
+        Ok(ends) => put_ends(out, ends),
+        Err(AllocError) => put_memory(out),
+    }
+}
+
+// Reads a batch, runs its jobs, and puts the text of each.
+fn put_batch<'a, R: Threads + Wait + Sync, F: Folder, K: Sink, G: Gate + Sync>(
+    rt: &R,
+    alloc: Global,
+    asked: BatchOrder<'a>,
+    folder: &mut F,
+    out: &mut K,
+    gate: &G,
+) -> Status
+    requires { IsBatchOrder asked }
+    ensures since { (files : List File) → F.agrees folder.new files → F.agrees folder.old files }
+    ensures answers { (start : _) (puts : List Put) → K.leads start puts out.old →
+        (more : List Put) × K.leads start (puts ++ more) out.new
+        × ((files : Option (List File)) → IfSome files (F.agrees folder.new) →
+        BatchAnswers (batch_by asked.entry) files (F.faults folder.old) (F.faults folder.new) result more) }
+{
+    match read_batch(alloc, folder, asked) {
+        Ok(jobs) => put_jobs(rt, alloc, jobs.as_slice(), asked.workers, out, gate),
+        Err(fault) => end_reading(alloc, fault, out),
+    }
+}
+
+/// Does what the words ask for: a batch, or another command.
+pub(crate) fn answer_any<R: Threads + Wait + Sync, F: Folder, K: Sink + Send, G: Gate + Sync>(
+    rt: &R,
+    alloc: Global,
+    words: &[&str],
+    folder: &mut F,
+    out: &mut K,
+    gate: &G,
+) -> Status
+    ensures since { (files : List File) → F.agrees folder.new files → F.agrees folder.old files }
+    ensures answers { (start : _) (puts : List Put) → K.leads start puts out.old →
+        (more : List Put) × K.leads start (puts ++ more) out.new
+        × ((files : Option (List File)) → IfSome files (F.agrees folder.new) →
+        AnyAnswers (map (λ w. w.now) words.now) files (F.faults folder.old) (F.faults folder.new) result more) }
+{
+    match asked_batch(alloc, words) {
+        Ok(Some(asked)) => put_batch(rt, alloc, asked, folder, out, gate),
+        Ok(None) => answer(rt, alloc, words, folder, out, gate),
+        Err(AllocError) => put_memory(out),
+    }
+}

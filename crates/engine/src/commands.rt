@@ -1,0 +1,94 @@
+ghost use Rattle.std.specs.Prelude.{◌≡◌, ◌⊎◌, ℕ, List, [], map, IfSome, Option, Some};
+ghost use Rattle.outside.specs.Files.{File};
+ghost use Rattle.outside.specs.Counts.{Rose};
+ghost use Rattle.engine.specs.BatchRuns.{AnyPuts, AnyDecided, AnyComes};
+ghost use Rattle.engine.specs.Batched.{Batched, HasNoList};
+ghost use Rattle.engine.specs.Batches.{AskedBatch, batch_asked};
+ghost use Rattle.engine.specs.Cases.{asked_in, AskedCheck, Check, Make};
+ghost use Rattle.engine.specs.Certified.{Certified};
+ghost use Rattle.engine.specs.Headline.{Headline};
+ghost use Rattle.engine.specs.Made.{Made};
+ghost use Rattle.engine.specs.OneListing.{OneListing, OneSummary, OneVerdict};
+ghost use Rattle.engine.specs.Parts.{IsStopped};
+
+use crate::batching::answer_any;
+use check_run::laws::one_verdict;
+use listing_run::laws::one_listing;
+use outside::{Folder, Gate, Sink};
+use run_puts::Status;
+use std::alloc::Global;
+use std::sync::Wait;
+use std::thread::Threads;
+
+/// Does what the words ask for, as `run_one` does, and `batch LIST` too: reads the list, then the model of each of its
+/// names, in order; runs the jobs by workers, each job on one thread; and puts the text of each, in the order of the
+/// list, and END. Workers pass the gate before each job. A refusal of a name's files is its whole text.
+pub fn run<R: Threads + Wait + Sync, F: Folder, K: Sink + Send, W: Sink + Send, G: Gate + Sync>(
+    rt: &R,
+    alloc: Global,
+    words: &[&str],
+    folder: &mut F,
+    out: &mut K,
+    side: &mut W,
+    gate: &G,
+) -> Status
+    // What is put to `out`, for every status, with the status' cause, by the files that agree with all results of the
+    // folder, or by any files; and to `side`.
+    ensures puts { (files : Option (List File)) → IfSome files (F.agrees folder.new) →
+        AnyPuts (λ puts. K.leads out.old puts out.new) (map (λ w. w.now) words.now) files (F.faults folder.old) (F.faults folder.new) result }
+    ensures side { W.leads side.old [] side.new }
+
+    // Files that agree with all results of the folder agreed with it before.
+    ensures since { (files : List File) → F.agrees folder.new files → F.agrees folder.old files }
+
+    // Some files agree with all that the folder has answered.
+    ensures told { (files : List File) × F.agrees folder.new files }
+
+    // The headline: of a listing, of the listing that a made model's summary sums up, of one that was checked, or of
+    // each listing of a batch.
+    ensures headline { result ≡ Status.Ok → (files : List File) → F.agrees folder.new files →
+        (Headline (map (λ w. w.now) words.now) files (K.seen out.old).written (K.seen out.new).written
+        ⊎ (Made (map (λ w. w.now) words.now) (K.seen out.old).written (K.seen out.new).written
+        ⊎ Certified (map (λ w. w.now) words.now) files (K.seen out.old).written (K.seen out.new).written))
+        ⊎ Batched (map (λ w. w.now) words.now) files result (K.seen out.old).written (K.seen out.new).written }
+
+    // And it is the one listing that the files define, or each step of the one that was checked is certified; of a
+    // batch, `Batched` says it of each listing.
+    ensures one { result ≡ Status.Ok → (files : List File) → F.agrees folder.new files →
+        (OneListing (map (λ w. w.now) words.now) files (K.seen out.old).written (K.seen out.new).written
+        ⊎ (OneSummary (map (λ w. w.now) words.now) (K.seen out.old).written (K.seen out.new).written
+        ⊎ OneVerdict (map (λ w. w.now) words.now) files))
+        ⊎ Batched (map (λ w. w.now) words.now) files result (K.seen out.old).written (K.seen out.new).written }
+
+    // Of a made model it holds whatever the folder is.
+    ensures made { result ≡ Status.Ok → (seed size : ℕ) → asked_in (map (λ w. w.now) words.now) ≡ Some (Make seed size) →
+        Made (map (λ w. w.now) words.now) (K.seen out.old).written (K.seen out.new).written }
+
+    // A check that ends Ok certifies the listing that the words name.
+    ensures certified { result ≡ Status.Ok → (asked : AskedCheck) →
+        asked_in (map (λ w. w.now) words.now) ≡ Some (Check asked) → (files : List File) → F.agrees folder.new files →
+        Certified (map (λ w. w.now) words.now) files (K.seen out.old).written (K.seen out.new).written }
+
+    // A batch that didn't stop has put the text of each job, whatever the jobs' statuses, or its list is refused.
+    ensures batch { (IsStopped result → ⊥) → (asked : AskedBatch) →
+        batch_asked (map (λ w. w.now) words.now) ≡ Some asked → (files : List File) → F.agrees folder.new files →
+        HasNoList asked files result
+        ⊎ Batched (map (λ w. w.now) words.now) files result (K.seen out.old).written (K.seen out.new).written }
+
+    // These statuses have a count as their cause.
+    ensures read_fault { result ≡ Status.ReadFault → Rose (F.faults folder.old) (F.faults folder.new) }
+    ensures write_fault { result ≡ Status.WriteFault → Rose (K.seen out.old).faults (K.seen out.new).faults }
+
+    // The end that the words and files define is the end of the run, if nothing outside failed.
+    ensures decided { (files : List File) → F.agrees folder.new files →
+        AnyDecided (Rose (F.faults folder.old) (F.faults folder.new)
+        ⊎ Rose (K.seen out.old).faults (K.seen out.new).faults) (map (λ w. w.now) words.now) files result }
+    ensures complete { (files : List File) → F.agrees folder.new files →
+        AnyComes (Rose (F.faults folder.old) (F.faults folder.new)
+        ⊎ Rose (K.seen out.old).faults (K.seen out.new).faults) (map (λ w. w.now) words.now) files result }
+{
+    let _side = side;
+    one_listing();
+    one_verdict();
+    answer_any(rt, alloc, words, folder, out, gate)
+}

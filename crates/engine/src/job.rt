@@ -1,0 +1,78 @@
+// A job of a batch, and its run.
+ghost use Rattle.std.specs.Prelude.{◌≡◌, IfOk};
+ghost use Rattle.listing_run.specs.Ends.{IsTask};
+ghost use Rattle.engine.specs.Batches.{IsJobEnd, IsRunText, model_line};
+ghost use Rattle.engine.specs.Cases.{Listing, Refuses};
+
+use batch_puts::JobEnd;
+use listing_io::write_refused;
+use listing_run::Task;
+use listing_text::push_listing;
+use near_settler::AloneSettler;
+use outside::{Name, Refusal};
+use run_puts::Status;
+use std::alloc::{AllocError, Global};
+
+/// A name of a batch's list, and what is listed of its model, or the first refusal of its files.
+#[derive(Debug, Drop)]
+pub(crate) struct Job {
+    pub(crate) name: Name,
+    pub(crate) read: Result<Task, Refusal>,
+}
+
+// The line before the text of a job.
+fn name_line(alloc: Global, name: &str) -> Result<Vec<u8>, AllocError>
+    ensures { IfOk result (λ line. line.items ≡ model_line name.now) }
+{
+    let mut line = Vec::from_slice(alloc, b"MODEL ")?;
+    line.extend_from_slice(name.as_bytes())?;
+    line.push(b'\n')?;
+    Ok(line)
+}
+
+// A refusal with memory of its own.
+fn copy_of(alloc: Global, refusal: &Refusal) -> Result<Refusal, AllocError>
+    ensures { IfOk result (λ copy. copy ≡ refusal.now) }
+{
+    Ok(Refusal {
+        code: refusal.code,
+        file: Name::new(alloc, refusal.file.as_str())?,
+        line: refusal.line,
+        at: refusal.at,
+    })
+}
+
+// Adds the listing of a task to the line of its name.
+fn end_of_task(alloc: Global, mut text: Vec<u8>, task: &Task) -> Result<JobEnd, AllocError>
+    requires { IsTask task.now }
+    ensures { IfOk result (IsRunText (Listing task.now) text.items) }
+{
+    let mut settler = AloneSettler::new(task.rounds);
+    let status = push_listing(alloc, &mut text, task, &mut settler)?;
+    Ok(JobEnd { status, text })
+}
+
+// Adds the line of a refusal to the line of a name.
+fn end_of_refusal(alloc: Global, mut text: Vec<u8>, refusal: &Refusal) -> Result<JobEnd, AllocError>
+    ensures { IfOk result (IsRunText (Refuses refusal.now) text.items) }
+{
+    let line = write_refused(alloc, refusal)?;
+    text.extend_from_slice(line.as_slice())?;
+    let copy = copy_of(alloc, refusal)?;
+    Ok(JobEnd {
+        status: Status::Refused(copy),
+        text,
+    })
+}
+
+/// Runs a job on the calling thread, to its end. The error is out of memory.
+pub(crate) fn end_of_job(alloc: Global, job: &Job) -> Result<JobEnd, AllocError>
+    requires { IfOk job.now.read IsTask }
+    ensures { IfOk result (IsJobEnd job.now) }
+{
+    let text = name_line(alloc, job.name.as_str())?;
+    match &job.read {
+        Ok(task) => end_of_task(alloc, text, task),
+        Err(refusal) => end_of_refusal(alloc, text, refusal),
+    }
+}
