@@ -5,6 +5,7 @@ use outside::{FreeGate, MemSink};
 use std::alloc::{AllocError, Global};
 use std::io;
 use std::process::ExitCode;
+use std::sync::Wait;
 use std::thread::Threads;
 
 /// The files of a deck, the sink of the next run, and what the last run put.
@@ -50,7 +51,12 @@ impl Bench {
 
     /// Runs the words over the files as the program does, and returns the number that it ends with. What is put to the side
     /// stands after the rest.
-    pub fn run<R: Threads + Sync>(&mut self, rt: &R, alloc: Global, words: &str) -> io::Result<u8> {
+    pub fn run<R: Threads + Wait + Sync>(
+        &mut self,
+        rt: &R,
+        alloc: Global,
+        words: &str,
+    ) -> io::Result<u8> {
         let words = words_of(alloc, words)?;
         let mut side = MemSink::new(alloc);
         let code = serve(

@@ -50,12 +50,13 @@ use runs::{print_ends, print_run};
 use shared::print_shared;
 use std::alloc::Global;
 use std::io;
+use std::sync::Wait;
 use std::thread::Threads;
 use steps::print_steps;
 use waiting::{print_handshake, print_meeting};
 use words::print_order;
 
-fn ask<R: Print + Threads + Sync>(
+fn ask<R: Print + Threads + Wait + Sync>(
     rt: &R,
     alloc: Global,
     bench: &mut Bench,
@@ -82,7 +83,7 @@ fn ask<R: Print + Threads + Sync>(
     }
 }
 
-fn step<R: Print + Threads + Sync>(
+fn step<R: Print + Threads + Wait + Sync>(
     rt: &R,
     alloc: Global,
     bench: &mut Bench,

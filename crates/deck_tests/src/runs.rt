@@ -1,6 +1,7 @@
 // What a run puts.
 use crate::bench::Bench;
 use std::alloc::Global;
+use std::sync::Wait;
 use std::thread::Threads;
 use std::{io, str};
 
@@ -13,7 +14,7 @@ pub fn print_text(rt: &impl Print, bytes: &[u8]) -> io::Result<()> {
     println!(rt; "{text}<cut>")
 }
 
-pub fn print_run<R: Print + Threads + Sync>(
+pub fn print_run<R: Print + Threads + Wait + Sync>(
     rt: &R,
     alloc: Global,
     bench: &mut Bench,
@@ -25,7 +26,7 @@ pub fn print_run<R: Print + Threads + Sync>(
 }
 
 /// The first line that a run puts, and the last one.
-pub fn print_ends<R: Print + Threads + Sync>(
+pub fn print_ends<R: Print + Threads + Wait + Sync>(
     rt: &R,
     alloc: Global,
     bench: &mut Bench,

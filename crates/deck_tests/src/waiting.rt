@@ -3,14 +3,15 @@ use crate::bench::words_of;
 use crate::handshake::{Handshake, HandshakeSink};
 use crate::meeting::MeetingGate;
 use crate::runs::print_text;
-use engine::run;
+use engine::{run, run_one};
 use outside::{Gate, MemFolder, MemSink, Sink};
 use std::alloc::Global;
 use std::io;
+use std::sync::Wait;
 use std::thread::Threads;
 
-// Runs the words over the files, and returns the status.
-fn run_at<R: Threads + Sync, K: Sink + Send, G: Gate + Sync>(
+// Runs the words over the files as the program does, and returns the status.
+fn run_at<R: Threads + Wait + Sync, K: Sink + Send, G: Gate + Sync>(
     rt: &R,
     alloc: Global,
     folder: &mut MemFolder,
@@ -31,7 +32,7 @@ fn print_put(rt: &impl Print, status: u8, bytes: &[u8], failures: u64) -> io::Re
 }
 
 /// A run of two workers, each of which waits for the other's first pass.
-pub fn print_meeting<R: Print + Threads + Sync>(
+pub fn print_meeting<R: Print + Threads + Wait + Sync>(
     rt: &R,
     alloc: Global,
     folder: &mut MemFolder,
@@ -59,6 +60,16 @@ pub fn print_handshake<R: Print + Threads + Sync>(
 ) -> io::Result<()> {
     let together = Handshake::new();
     let mut out = HandshakeSink::new(alloc, &together, lacking);
-    let status = run_at(rt, alloc, folder, words, &mut out, &together)?;
-    print_put(rt, status, out.bytes(), together.failures())
+    let words = words_of(alloc, words)?;
+    let mut side = MemSink::new(alloc);
+    let status = run_one(
+        rt,
+        alloc,
+        words.as_slice(),
+        folder,
+        &mut out,
+        &mut side,
+        &together,
+    );
+    print_put(rt, status.code(), out.bytes(), together.failures())
 }
