@@ -37,7 +37,7 @@ use Rattle.engine.specs.Parts.{IsStopped}
 use Rattle.engine.specs.Runs.{IsUnfinished as IsOpenEnd}
 use Rattle.engine.proofs.Certifying.{not_stopped}
 use Rattle.engine.proofs.Ends.{late_stops}
-use Rattle.engine.proofs.Outcomes.{Agree as OpenAgree, Laws, agree, never_stopped, settles}
+use Rattle.engine.proofs.Outcomes.{Agree as OpenAgree, Laws, agree, goes_through, never_stopped}
 
 -- no job ends with a status that stops a run
 job_not_stopped : (read : Result Task Refusal) (before : Text) (e : JobEnd) → IsRunText (job_case read) before e → IsStopped e.status → ⊥
@@ -231,7 +231,7 @@ module _ (laws : Laws) where
     job_settles : (name : Text) (e : JobEnd) → HasJob b files name → IsValidEnd (job_of b (reads files) name) e → e.status ≡ status.Ok
     job_settles name e j x =
         let P : Result FlowModel Refusal → Type 0 = λ r. IfOk (task_read b r) (λ k. IsModel k.model) → IsRunText (job_case (task_read b r)) (model_line name) e → e.status ≡ status.Ok in
-        subst P (sym j.read) (λ valid h. settles laws (job_task b j.model) valid e.status h.pieces j.values j.steps j.settle h.defined) x.0 x.1
+        subst P (sym j.read) (λ valid h. goes_through (job_task b j.model) j.no_refusal j.none_open e.status h.pieces h.defined) x.0 x.1
 
     all_settle : (names : List Text) (ends : List JobEnd) → All (HasJob b files) names → AllZip IsValidEnd (map (job_of b (reads files)) names) ends → AllZip (λ job e. e.status ≡ status.Ok) (map (job_of b (reads files)) names) ends
     all_settle [] [] each h = tt

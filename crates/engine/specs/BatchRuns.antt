@@ -3,8 +3,9 @@ use Rattle.std.specs.Prelude.{◌≡◌, ◌⊎◌, ℕ, List, [], ◌∷◌, Ok
 use Rattle.outside.specs.Counts.{Rose}
 use Rattle.outside.specs.Files.{File}
 use Rattle.outside.specs.Puts.{Put}
+use Rattle.step_problem.specs.declared.place.NoBound.{NoBound}
 use Rattle.model_types.specs.declared.model.FlowModel.{FlowModel}
-use Rattle.model_types.specs.Times.{times}
+use Rattle.model_types.specs.declared.time_steps.TimeStep.{TimeStep}
 use Rattle.model_types.specs.Valid.{IsModel}
 use Rattle.model_reader.specs.Model.{reads}
 use Rattle.run_puts.specs.Lines.{Text, read_fault_line}
@@ -12,7 +13,7 @@ use Rattle.run_puts.specs.Runs.{IsRun}
 use Rattle.run_puts.specs.declared.status.Status.{Status}
 use Rattle.run_puts.specs.declared.status.Status.TheVariants as status
 use Rattle.listing_run.specs.declared.step.Step.{Step}
-use Rattle.listing_run.specs.Steps.{Whole, AllSteps, AllSettle}
+use Rattle.listing_run.specs.Steps.{AllSteps, Open, WithoutBound}
 use Rattle.batch_puts.specs.Ended.{NeverCut}
 use Rattle.batch_puts.specs.Batches.{IsUnfinished}
 use Rattle.engine.specs.declared.job.Job.{Job}
@@ -44,13 +45,13 @@ BatchDecided fault b files end =
     (meant : Status) (pieces : List Text) → BatchDefines (batch_case_of b files) meant pieces → (fault ⊎ IsUnfinished meant)
     ⊎ ((end ≡ meant) ⊎ ((end ≡ status.Memory) ⊎ IsUnfinished end))
 
--- The files of a name read as a model, none of its steps has a refusal, and the rounds settle each.
+-- The files of a name read as a model, and from STRT on, each step from the heads of the one before, no step has a
+-- refusal, and the rounds leave none open.
 pub record HasJob (b : AskedBatch) (files : List File) (name : Text) : Type 0 where
   pub model : FlowModel
   pub read : reads files name ≡ Ok model
-  pub values : List Step
-  pub steps : AllSteps (job_task b model) values Whole
-  pub settle : AllSettle (job_task b model) steps.start (times model) values
+  pub no_refusal : (before : List Step) (at : TimeStep) (n : NoBound) → AllSteps (job_task b model) before (WithoutBound at n) → ⊥
+  pub none_open : (before : List Step) (at : TimeStep) → AllSteps (job_task b model) before (Open at) → ⊥
 
 -- The list has no refusal, and each of its names is such a one.
 pub record HasBatch (b : AskedBatch) (files : List File) : Type 0 where

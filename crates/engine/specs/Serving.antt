@@ -8,6 +8,7 @@ use Rattle.run_puts.specs.declared.status.Status.{Status}
 use Rattle.engine.specs.Certified.{Certified}
 use Rattle.engine.specs.Headline.{Headline}
 use Rattle.engine.specs.Made.{Made}
+use Rattle.engine.specs.OneListing.{OneListing, OneSummary, OneVerdict}
 use Rattle.engine.specs.BatchRuns.{AnyPuts}
 use Rattle.engine.specs.Batched.{Batched}
 
@@ -15,10 +16,15 @@ use Rattle.engine.specs.Batched.{Batched}
 abbrev pub AnyHeadline : List Text → List File → Status → Seen → Seen → Type 0
 AnyHeadline words files end old new = (Headline words files old.written new.written ⊎ (Made words old.written new.written ⊎ Certified words files old.written new.written)) ⊎ Batched words files end old.written new.written
 
--- A program that ends with this number: it is that of its run's status, whose puts lead from the sink before to the sink after; and where it is 0, the headline holds of files that agree with the folder, of which there are some.
+-- And what was put is the one listing that the files define, or sums it up, or each step of the one that was checked is certified.
+abbrev pub AnyOne : List Text → List File → Status → Seen → Seen → Type 0
+AnyOne words files end old new = (OneListing words files old.written new.written ⊎ (OneSummary words old.written new.written ⊎ OneVerdict words files)) ⊎ Batched words files end old.written new.written
+
+-- A program that ends with this number: it is that of its run's status, whose puts lead from the sink before to the sink after; and where it is 0, the headline holds of files that agree with the folder, of which there are some, and the listing is the one that they define.
 pub record Serves (leads : List Put → Type 0) (agrees : List File → Type 0) (words : List Text) (before after : ℕ) (old new : Seen) (number : ℕ) : Type 0 where
   pub end : Status
   pub number_is : number ≡ code_of end
   pub puts : (files : Option (List File)) → IfSome files agrees → AnyPuts leads words files before after end
   pub some : (files : List File) × agrees files
   pub headline : number ≡ 0 → (files : List File) → agrees files → AnyHeadline words files end old new
+  pub one : number ≡ 0 → (files : List File) → agrees files → AnyOne words files end old new

@@ -1,5 +1,5 @@
 // A batch of models.
-ghost use Rattle.std.specs.Prelude.{◌≡◌, ◌≤◌, ℕ, List, ◌++◌, length, map, IfSome, Option};
+ghost use Rattle.std.specs.Prelude.{◌≡◌, ◌≤◌, ℕ, List, ◌++◌, length, map, IfSome, None, Option};
 ghost use Rattle.outside.specs.Files.{File};
 ghost use Rattle.outside.specs.Puts.{Put};
 ghost use Rattle.run_puts.specs.Runs.{IsRun};
@@ -8,7 +8,8 @@ ghost use Rattle.batch_puts.specs.Ended.{NeverCut};
 ghost use Rattle.engine.specs.BatchCommands.{batch_by, IsBatchOrder};
 ghost use Rattle.engine.specs.BatchReads.{AreTasks};
 ghost use Rattle.engine.specs.BatchRuns.{AnyAnswers, BatchAnswers};
-ghost use Rattle.engine.specs.Batches.{IsJobEnd};
+ghost use Rattle.engine.specs.Batches.{IsJobEnd, batch_asked};
+ghost use Rattle.engine.specs.Cases.{asked_in, ReadsNothing};
 
 use crate::asked_batch::{BatchOrder, asked_batch};
 use crate::batch_jobs::ReadJobs;
@@ -77,6 +78,8 @@ pub(crate) fn answer_any<R: Threads + Wait + Sync, F: Folder, K: Sink + Send, G:
     gate: &G,
 ) -> Status
     ensures since { (files : List File) → F.agrees folder.new files → F.agrees folder.old files }
+    ensures unasked { batch_asked (map (λ w. w.now) words.now) ≡ None →
+        ReadsNothing (asked_in (map (λ w. w.now) words.now)) → folder.new ≡ folder.old }
     ensures answers { (start : _) (puts : List Put) → K.leads start puts out.old →
         (more : List Put) × K.leads start (puts ++ more) out.new
         × ((files : Option (List File)) → IfSome files (F.agrees folder.new) →

@@ -1,10 +1,10 @@
-ghost use Rattle.std.specs.Prelude.{◌≡◌, ◌⊎◌, ℕ, List, [], map, IfSome, Option, Some};
+ghost use Rattle.std.specs.Prelude.{◌≡◌, ◌⊎◌, ℕ, List, [], map, IfSome, None, Option, Some};
 ghost use Rattle.outside.specs.Files.{File};
 ghost use Rattle.outside.specs.Counts.{Rose};
 ghost use Rattle.engine.specs.BatchRuns.{AnyPuts, AnyDecided, AnyComes};
 ghost use Rattle.engine.specs.Batched.{Batched, HasNoList};
 ghost use Rattle.engine.specs.Batches.{AskedBatch, batch_asked};
-ghost use Rattle.engine.specs.Cases.{asked_in, AskedCheck, Check, Make};
+ghost use Rattle.engine.specs.Cases.{asked_in, AskedCheck, Check, Make, ReadsNothing};
 ghost use Rattle.engine.specs.Certified.{Certified};
 ghost use Rattle.engine.specs.Headline.{Headline};
 ghost use Rattle.engine.specs.Made.{Made};
@@ -40,6 +40,10 @@ pub fn run<R: Threads + Wait + Sync, F: Folder, K: Sink + Send, W: Sink + Send, 
 
     // Files that agree with all results of the folder agreed with it before.
     ensures since { (files : List File) → F.agrees folder.new files → F.agrees folder.old files }
+
+    // A folder of which no file is read isn't asked.
+    ensures unasked { batch_asked (map (λ w. w.now) words.now) ≡ None →
+        ReadsNothing (asked_in (map (λ w. w.now) words.now)) → folder.new ≡ folder.old }
 
     // Some files agree with all that the folder has answered.
     ensures told { (files : List File) × F.agrees folder.new files }

@@ -1,4 +1,4 @@
-use Rattle.std.proofs.Common.{List, ℕ, map}
+use Rattle.std.proofs.Common.{◌≡◌, ◌∙◌, ap, List, ℕ, map, None, Option, Some, option_map, sym}
 use Rattle.engine.specs.BatchCommands.{batch_by}
 use Rattle.engine.proofs.BatchEnds.{any_batch, any_lacks, any_other}
 use Rattle.engine.proofs.batching.answer_any.Goals as goal
@@ -20,3 +20,8 @@ returns-in-Err-clause-answers g c = λ start puts h.
     let m = c.put_memory.ensures start puts h in
     let words : List (List ℕ) = map (λ w. w.now) c.args.words.now in
     (m.0, m.1, λ files agree. any_lacks words files (g.F.Folder.faults c.args.folder.now) _ c.put_memory.result m.0 m.2)
+
+pub returns-in-Ok-Some-clause-unasked : goal.returns-in-Ok-Some-clause-unasked
+returns-in-Ok-Some-clause-unasked g c = λ none nothing.
+    let is : option_map batch_by (Some c.in-Ok-Some.asked) ≡ None = (rw c.in-Ok-Some.field-0-is at c.in-Ok-Some.ensures.is) ∙ none in
+    absurd (let bad : Some (batch_by c.in-Ok-Some.asked) ≡ None = is in cc)

@@ -13,4 +13,5 @@ returns-clause-serves g c =
       puts = c.run-status.ensures.puts;
       some = c.run-status.ensures.told;
       headline = λ zero files agree. c.run-status.ensures.headline (ok_from_zero c.run-status.result (sym is ∙ zero)) files agree;
+      one = λ zero files agree. c.run-status.ensures.one (ok_from_zero c.run-status.result (sym is ∙ zero)) files agree;
     }
