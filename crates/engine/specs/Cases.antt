@@ -145,4 +145,4 @@ IsCase words None case =
     (read : Result FlowModel Refusal) × (zoned : Result (List ℤ) Refusal) × (listed : Result (List ListedStep) Refusal)
     × CouldRead read zoned listed
     × (case ≡ case_asked (asked_in words) (λ name. read) (λ zones m. zones_named zones (λ name. zoned))
-        (λ asked m. named asked.listing (λ name. listed)))
+    (λ asked m. named asked.listing (λ name. listed)))

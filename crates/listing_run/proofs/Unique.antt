@@ -118,7 +118,6 @@ module _ (laws : Laws) (k : Task) (model : IsModel k.model) where
     has_bound v n x (no_budget solved settled refused) =
         let B : Solved → Type 0 = λ s. budget_at s ≡ Err n in
         ok_not_err v.budget n (sym x.budget ∙ subst B (laws.step_one k.model k.digits at old solved x.solved before settled x.settled) refused)
-
     has_bound v n x (no_zones solved b settled is large) =
         let L : Solved → Type 0 = λ s. HasLargeFlow k.zones s n in
         none_large laws x.solved k.zones v.zones n x.zones (subst L (laws.step_one k.model k.digits at old solved x.solved before settled x.settled) large)

@@ -27,7 +27,12 @@ pub(crate) fn flows_between(
     let Some(zones) = &task.zones else {
         return Ok(Vec::new(alloc));
     };
-    match zone_flows(alloc, &solved.problem, zones.as_slice(), solved.heads.as_slice()) {
+    match zone_flows(
+        alloc,
+        &solved.problem,
+        zones.as_slice(),
+        solved.heads.as_slice(),
+    ) {
         Ok(flows) => Ok(flows),
         Err(ZoneFault::NoBound(refusal)) => Err(Fault::NoBound(refusal)),
         Err(ZoneFault::Memory) => Err(Fault::Memory),
