@@ -1,0 +1,71 @@
+-- The budgets of a history, step by step: by induction on the time steps.
+use Rattle.std.proofs.Common.{◌≡◌, ℕ, ◌<◌, inl, inr, refl, sym, ap, subst, List, [], ◌∷◌, map, ℤ}
+use Rattle.decimal_input.specs.Fractions.{Fraction}
+use Rattle.model_types.specs.declared.model.FlowModel.{FlowModel}
+use Rattle.model_types.specs.declared.time_steps.TimeStep.{TimeStep}
+use Rattle.model_types.specs.Heads.{start_head}
+use Rattle.model_types.specs.Times.{times}
+use Rattle.model_types.specs.Valid.{IsModel}
+use Rattle.step_problem.specs.declared.heads.Bound.{Bound}
+use Rattle.cell_balance.specs.Steps.{ExactCell}
+use Rattle.cell_balance.specs.Links.{AreLinked}
+use Rattle.flow_equations.specs.ExactStep.{exact_step}
+use Rattle.flow_equations.specs.Histories.{heads_of, variable_heads, SolvesAt, SolvesFrom}
+use Rattle.flow_equations.proofs.Links.{are_linked}
+use Rattle.listing_io.specs.declared.listing.ListedStep.{ListedStep}
+use Rattle.check_run.specs.declared.verdict.Verdict.TheVariants.{Certified}
+use Rattle.check_run.specs.Verdicts.{Checks, steps_of}
+use Rattle.listing_run.specs.declared.task.Task.{Task}
+use Rattle.listing_run.specs.declared.step.Step.{Step}
+use Rattle.listing_run.specs.Steps.{Whole, Steps}
+use Rattle.listing_run.specs.Bounding.{Bounds, BoundAll}
+use Rattle.exact_budgets.specs.Histories.{NetTermsLieAt, AllNetTermsLie}
+use Rattle.exact_budgets.specs.Laws.{NetTermsLieInTheOthers, StepsHaveTheirTimes, CertifiedHaveTheirTimes}
+use Rattle.exact_budgets.proofs.Balance.{terms_over, solutions_balance}
+use Rattle.exact_budgets.proofs.Bounds.{net_terms_lie}
+
+module _ (k : Task) (valid : IsModel k.model) (d : ℕ) (some : 0 < d) where
+  one_step : (v : Step) (before : ℕ → Fraction) (X : ℕ → ℤ) → SolvesAt k.model v.at before d X → Bounds k v before d X → NetTermsLieAt k v before d X
+  one_step v before X solves bounds = record {
+    balanced = solutions_balance e d Y linked some solves.balances;
+    nets = net_terms_lie k.digits e (heads_of d Y) v.budget (terms_over e d Y linked some solves.balances) bounds.budget;
+  }
+    where
+      e : List ExactCell
+      e = exact_step k.model v.at.period v.at.step before
+
+      Y : ℕ → ℤ
+      Y = variable_heads e X
+
+      linked : AreLinked e
+      linked = are_linked k.model v.at.period v.at.step before valid.grid.size
+
+  all_steps : (steps : List TimeStep) (values : List Step) (before : ℕ → Fraction) (Xs : List (ℕ → ℤ)) → map (λ v. v.at) values ≡ steps → SolvesFrom k.model d before steps Xs → BoundAll k d before values Xs → AllNetTermsLie k d before values Xs
+  all_steps steps [] before [] e h b = tt
+  all_steps steps [] before (X ∷ Xs) e h b = absurd b
+  all_steps steps (v ∷ values) before [] e h b = absurd b
+  all_steps steps (v ∷ values) before (X ∷ Xs) e h b =
+      let solves = subst (λ (ts : List TimeStep). SolvesFrom k.model d before ts (X ∷ Xs)) (sym e) h in
+      (one_step v before X solves.0 b.0, all_steps (map (λ v. v.at) values) values (heads_of d X) Xs refl solves.1 b.1)
+
+pub net_terms_lie_in_the_others : NetTermsLieInTheOthers
+net_terms_lie_in_the_others k values valid at encloses d history solves =
+    all_steps k valid d solves.some (times k.model) values (start_head k.model) history at solves.steps (encloses d history solves)
+
+times_of : (k : Task) (steps : List TimeStep) (values : List Step) (old : List Bound) → Steps k old steps values Whole → map (λ v. v.at) values ≡ steps
+times_of k [] [] old h = refl
+times_of k [] (v ∷ values) old h = absurd h
+times_of k (at ∷ steps) [] old h = absurd h
+times_of k (at ∷ steps) (v ∷ values) old h = rw (h.0.time, times_of k steps values v.heads h.1) refl
+
+pub steps_have_their_times : StepsHaveTheirTimes
+steps_have_their_times k values all = times_of k (times k.model) values all.start all.steps
+
+certified_times : (m : FlowModel) (s : ℕ) (times : List TimeStep) (steps : List ListedStep) (old : List Bound) → Checks m s old times steps Certified → map (λ v. v.at) (steps_of times steps) ≡ times
+certified_times m s [] steps old h = refl
+certified_times m s (at ∷ rest) [] old h = absurd h
+certified_times m s (at ∷ rest) (w ∷ steps) old (inl h) = ap (λ (ts : List TimeStep). at ∷ ts) (certified_times m s rest steps w.heads h.1)
+certified_times m s (at ∷ rest) (w ∷ steps) old (inr h) = absurd h
+
+pub certified_have_their_times : CertifiedHaveTheirTimes
+certified_have_their_times m s steps verdict = certified_times m s (times m) steps verdict.start verdict.checks

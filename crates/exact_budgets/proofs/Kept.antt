@@ -1,0 +1,84 @@
+-- Flows over one denominator, as whole numbers: what of them goes in, and out; of a whole list, and of those that a test keeps.
+use Rattle.std.proofs.Common.{◌≡◌, ℕ, refl, arith, ℤ, pos, neg_ℤ, ◌+ℤ◌, ◌-ℤ◌, List, [], ◌∷◌, map, Bool, true, false, cond}
+use Rattle.std.specs.List.{AllZip, filter}
+use Rattle.std.specs.Int.{int_max}
+use Rattle.std.proofs.lemmas.Int.{ints, clamps}
+use Rattle.decimal_input.specs.Fractions.{Fraction, whole, negated, fraction_total, IsOver}
+use Rattle.step_problem.specs.Flows.{total}
+use Rattle.step_problem.specs.declared.place.Dir.TheVariants.{In, Out}
+use Rattle.cell_balance.proofs.Scaling.{IsOver-plus, IsOver-negated, IsOver-none, IsOver-greater}
+use Rattle.budget_bounds.specs.Exact.{exact_part}
+
+-- what of these flows goes in, and out, over D; their sum is z
+pub record Parts (D : ℕ) (flows : List Fraction) (z : ℤ) : Type 0 where
+  pub into : ℤ
+  pub out : ℤ
+  pub is_in : IsOver D (fraction_total (exact_part In) flows) into
+  pub is_out : IsOver D (fraction_total (exact_part Out) flows) out
+  pub net : into -ℤ out ≡ z
+
+no_parts : (D : ℕ) → Parts D [] (pos 0)
+no_parts D = record { into = pos 0; out = pos 0; is_in = IsOver-none D; is_out = IsOver-none D; net = refl }
+
+one_more : (D : ℕ) (f : Fraction) (y : ℤ) (flows : List Fraction) (z : ℤ) → IsOver D f y → Parts D flows z → Parts D (f ∷ flows) (y +ℤ z)
+one_more D f y flows z over rest = record {
+  into = int_max y (pos 0) +ℤ rest.into;
+  out = int_max (neg_ℤ y) (pos 0) +ℤ rest.out;
+  is_in = IsOver-plus D _ _ _ _ (IsOver-greater D f (whole (pos 0)) y (pos 0) over (IsOver-none D)) rest.is_in;
+  is_out = IsOver-plus D _ _ _ _ (IsOver-greater D (negated f) (whole (pos 0)) (neg_ℤ y) (pos 0) (IsOver-negated D f y over) (IsOver-none D)) rest.is_out;
+  net = both y rest.into rest.out z rest.net;
+}
+  where
+    both : (y a b z : ℤ) → a -ℤ b ≡ z → int_max y (pos 0) +ℤ a -ℤ (int_max (neg_ℤ y) (pos 0) +ℤ b) ≡ y +ℤ z
+    both y a b z e = omega (arith, ints, clamps)
+
+-- the sum of the second elements whose first ones a test keeps
+abbrev pub kept : {X Y : Type 0} → (X → Bool) → (Y → ℤ) → List X → List Y → ℤ
+kept p g [] ys = pos 0
+kept p g (x ∷ xs) [] = pos 0
+kept p g (x ∷ xs) (y ∷ ys) = cond (p x) (g y) (pos 0) +ℤ kept p g xs ys
+
+module _ {X Y : Type 0} (R : X → Y → Type 0) (D : ℕ) (f : X → Fraction) (g : Y → ℤ) (each : (x : X) (y : Y) → R x y → IsOver D (f x) (g y)) where
+  -- all flows of a list
+  pub all_parts : (xs : List X) (ys : List Y) → AllZip R xs ys → Parts D (map f xs) (total g ys)
+  all_parts [] [] h = no_parts D
+  all_parts [] (y ∷ ys) h = absurd h
+  all_parts (x ∷ xs) [] h = absurd h
+  all_parts (x ∷ xs) (y ∷ ys) h = one_more D (f x) (g y) (map f xs) (total g ys) (each x y h.0) (all_parts xs ys h.1)
+
+  one_kept : (p : X → Bool) (x : X) (y : Y) (xs : List X) (ys : List Y) → R x y → Parts D (map f (filter p xs)) (kept p g xs ys) → (b : Bool) → p x ≡ b → Parts D (map f (filter p (x ∷ xs))) (kept p g (x ∷ xs) (y ∷ ys))
+  one_kept p x y xs ys r rest true e = rw e (one_more D (f x) (g y) (map f (filter p xs)) (kept p g xs ys) (each x y r) rest)
+  one_kept p x y xs ys r rest false e = rw (e, none_more (kept p g xs ys)) rest
+    where
+      none_more : (z : ℤ) → pos 0 +ℤ z ≡ z
+      none_more z = omega (arith, ints)
+
+  -- those that a test keeps
+  pub kept_parts : (p : X → Bool) (xs : List X) (ys : List Y) → AllZip R xs ys → Parts D (map f (filter p xs)) (kept p g xs ys)
+  kept_parts p [] [] h = no_parts D
+  kept_parts p [] (y ∷ ys) h = absurd h
+  kept_parts p (x ∷ xs) [] h = absurd h
+  kept_parts p (x ∷ xs) (y ∷ ys) h = one_kept p x y xs ys h.0 (kept_parts p xs ys h.1) (p x) refl
+
+module _ {X Y : Type 0} (R : X → Y → Type 0) (g : Y → ℤ) where
+  -- tests of which each element passes one alone
+  pub total_by_three : (p q r : X → Bool) → ((x : X) (a : ℤ) → cond (p x) a (pos 0) +ℤ cond (q x) a (pos 0) +ℤ cond (r x) a (pos 0) ≡ a) → (xs : List X) (ys : List Y) → AllZip R xs ys → total g ys ≡ kept p g xs ys +ℤ kept q g xs ys +ℤ kept r g xs ys
+  total_by_three p q r one [] [] h = refl
+  total_by_three p q r one [] (y ∷ ys) h = absurd h
+  total_by_three p q r one (x ∷ xs) [] h = absurd h
+  total_by_three p q r one (x ∷ xs) (y ∷ ys) h =
+      regroup (cond (p x) (g y) (pos 0)) (cond (q x) (g y) (pos 0)) (cond (r x) (g y) (pos 0)) (g y) (total g ys) (kept p g xs ys) (kept q g xs ys) (kept r g xs ys)
+      (one x (g y)) (total_by_three p q r one xs ys h.1)
+    where
+      regroup : (a b c z t x y w : ℤ) → a +ℤ b +ℤ c ≡ z → t ≡ x +ℤ y +ℤ w → z +ℤ t ≡ a +ℤ x +ℤ (b +ℤ y) +ℤ (c +ℤ w)
+      regroup a b c z t x y w e h = omega (arith, ints)
+
+  pub total_by_two : (p q : X → Bool) → ((x : X) (a : ℤ) → cond (p x) a (pos 0) +ℤ cond (q x) a (pos 0) ≡ a) → (xs : List X) (ys : List Y) → AllZip R xs ys → total g ys ≡ kept p g xs ys +ℤ kept q g xs ys
+  total_by_two p q one [] [] h = refl
+  total_by_two p q one [] (y ∷ ys) h = absurd h
+  total_by_two p q one (x ∷ xs) [] h = absurd h
+  total_by_two p q one (x ∷ xs) (y ∷ ys) h =
+      regroup (cond (p x) (g y) (pos 0)) (cond (q x) (g y) (pos 0)) (g y) (total g ys) (kept p g xs ys) (kept q g xs ys) (one x (g y)) (total_by_two p q one xs ys h.1)
+    where
+      regroup : (a b z t x y : ℤ) → a +ℤ b ≡ z → t ≡ x +ℤ y → z +ℤ t ≡ a +ℤ x +ℤ (b +ℤ y)
+      regroup a b z t x y e h = omega (arith, ints)

@@ -1,0 +1,6 @@
+pub mod Kept
+pub mod CellNets
+pub mod Balance
+pub mod Bounds
+pub mod History
+pub mod WorkedCell

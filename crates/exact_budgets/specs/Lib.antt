@@ -1,0 +1,4 @@
+pub mod NetTerms
+pub mod Histories
+pub mod Laws
+pub mod Worked

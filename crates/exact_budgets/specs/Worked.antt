@@ -1,0 +1,52 @@
+-- A step that is solved by hand, and a listed budget of it. Lengths in metres, flows in cubic metres per day.
+use Rattle.std.specs.Prelude.{◌≡◌, ℕ, ◌*◌, List, [], ◌∷◌, pos, neg_ℤ, ℤ}
+use Rattle.decimal_input.specs.Ratios.{Ratio}
+use Rattle.decimal_input.specs.Fractions.{whole, Same}
+use Rattle.step_problem.specs.declared.entry.FixedKind.TheVariants as kinds
+use Rattle.step_problem.specs.declared.entry.FlowKind.TheVariants as packages
+use Rattle.step_problem.specs.declared.place.Term.TheVariants.{Storage}
+use Rattle.cell_balance.specs.Steps.{ExactCell}
+use Rattle.cell_balance.specs.Solutions.{SolvesStep}
+use Rattle.budget_bounds.specs.declared.pair.TermPair.{TermPair}
+use Rattle.budget_bounds.specs.declared.pair.Budget.{Budget}
+use Rattle.budget_bounds.specs.Terms.{no_pair}
+use Rattle.budget_bounds.specs.Exact.{BudgetEncloses}
+use Rattle.flow_equations.specs.Histories.{heads_of}
+use Rattle.exact_budgets.specs.NetTerms.{net_flow, net_lower, net_upper, lower_by_others, upper_by_others}
+
+abbrev pub one : Ratio
+one = record { num = 1; less = 0 }
+
+-- One cell with a storage of 1 m2/d, whose head was 10 before the step, and a well that takes 5: its new head is 5.
+abbrev pub pumped_step : List ExactCell
+pumped_step = record {
+  id = 0;
+  flows = record { kind = packages.Wells; flow = whole (neg_ℤ (pos 5)) } ∷ [];
+  links = [];
+  fixed = record { kind = kinds.Storage; source = 0; conductance = one; head = whole (pos 10) } ∷ [];
+  rivers = [];
+  drains = [];
+  evaps = [];
+} ∷ []
+
+abbrev pub five : ℕ → ℤ
+five c = pos 5
+
+-- flows from a to b, which are whole, in units of 10^-9
+abbrev pub units : ℕ → ℕ → TermPair
+units a b = record { lo = pos (a * 1000000000); hi = pos (b * 1000000000) }
+
+-- What is listed of it: STORAGE gives from 4 to 6, and WELLS takes 5.
+abbrev pub pumped_budget : Budget
+pumped_budget = record {
+  into = units 4 6 ∷ no_pair ∷ no_pair ∷ no_pair ∷ no_pair ∷ no_pair ∷ no_pair ∷ no_pair ∷ [];
+  out = no_pair ∷ no_pair ∷ units 5 5 ∷ no_pair ∷ no_pair ∷ no_pair ∷ no_pair ∷ no_pair ∷ [];
+}
+
+-- The net flow of STORAGE is 5. By what is listed of it, it lies from 4 to 6, and by the other terms it is 5.
+pub record PumpedCell : Type 0 where
+  pub solved : SolvesStep pumped_step 1 five
+  pub encloses : BudgetEncloses 0 pumped_step (heads_of 1 five) pumped_budget
+  pub net : Same (net_flow pumped_step (heads_of 1 five) Storage) (whole (pos 5))
+  pub listed : (net_lower pumped_budget Storage ≡ pos 4000000000) × (net_upper pumped_budget Storage ≡ pos 6000000000)
+  pub by_others : (lower_by_others pumped_budget Storage ≡ pos 5000000000) × (upper_by_others pumped_budget Storage ≡ pos 5000000000)
