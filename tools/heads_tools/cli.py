@@ -11,6 +11,12 @@ EPILOG = """Nothing in heads-tools is proved. The program is found by the enviro
 Statuses: those of heads where it ran; 2 for bad input; 1 where the answer is no (inside, version). Windows: run it in WSL (Debian or Ubuntu)."""
 
 
+LOOK = """Tables, maps, sections, hydrographs, budget and a page. Each net budget term (in less out) has two pairs of bounds: the one
+of its listed in and out, and that narrowed to what the other terms leave, minus the sum of their bounds. Every exact solution's
+net term lies within both, by the theorem net_terms_lie_in_the_others (crates/exact_budgets), where the listing ends with END
+and was written by `heads run` or certified by `heads check`."""
+
+
 def cell(text: str) -> tuple[int, int, int]:
     parts = text.replace(" ", ",").split(",")
     if len(parts) != 3 or not all(p.isdigit() for p in parts):
@@ -40,6 +46,7 @@ def parser() -> argparse.ArgumentParser:
     add("plain", "rewrite the deck in the spelling that heads reads, with notes", nam, ("folder", "the folder to write into"))
     add("model", "what was read: sizes, ranges of arrays, entries, steps", nam)
     s = add("look", "tables, maps, sections, hydrographs, budget and a page", listing, ("folder", "the folder to write into"))
+    s.description = LOOK
     s.add_argument("--name", type=Path, metavar="M.NAM", help="the model: true widths, elevations, times, units")
     s.add_argument("--cell", type=cell, action="append", default=[], metavar="K,I,J", help="a hydrograph of this cell; may stand again")
     s.add_argument("--given", type=Path, metavar="RUN.HDS", help="heads of MODFLOW (hds or CSV): how far they are off")

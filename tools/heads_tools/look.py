@@ -133,8 +133,11 @@ class Look:
         self.page.table(f"Budget, {self.when(step)} (rates, {unit}; rounded outward)", ["term", "in, from", "to", "out, from", "to"], rows)
         nets = [[n[0], down(n[1], places), up(n[2], places), down(n[3], places), up(n[4], places)] for n in budget.nets if any(n[1:])]
         if nets:
-            room = "Net flow into the cells (in less out), and narrowed by the law that the exact net flows sum to 0"
+            room = "Net flow into the cells (in less out), and narrowed: exact net flows sum to 0 (net_terms_lie_in_the_others)"
             self.page.table(room, ["term", "from", "to", "narrowed from", "to"], nets)
+        if budget.is_empty:
+            self.page.say(f"No exact solution has such a budget: {self.when(step)} has a term whose bounds and those of the other terms "
+                          "share no number. No listing that `heads run` wrote or `heads check` certified is like this.")
         if budget.discrepancy:
             low, high = signed_down(budget.discrepancy[0]), signed_up(budget.discrepancy[1])
             self.page.say("Percent discrepancy of each exact solution: 0. "

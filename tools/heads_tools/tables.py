@@ -17,10 +17,15 @@ class Budget:
     nets: list[tuple[str, int, int, int, int]]
     discrepancy: tuple[float, float] | None
 
+    @property
+    def is_empty(self) -> bool:
+        """Whether no budget whose net terms sum to 0 lies between the bounds."""
+        return any(low > high for *_, low, high in self.nets)
+
 
 def budget_of(step: Step) -> Budget:
     """Totals and net terms. In an exact solution all net terms sum to 0, so each one lies also between the negated
-    sums of the others' bounds: its pair is narrowed to what both say."""
+    sums of the others' bounds (the theorem net_terms_lie_in_the_others): its pair is narrowed to what both say."""
     rows = [(name, *t) for name, t in step.terms.items()]
     total = tuple(sum(r[n] for r in rows) for n in range(1, 5))
     lows, highs = {r[0]: r[1] - r[4] for r in rows}, {r[0]: r[2] - r[3] for r in rows}

@@ -1,4 +1,5 @@
 """Numbers: their spellings, and rounding to the safe side."""
+import random
 from decimal import Decimal
 from fractions import Fraction
 
@@ -53,3 +54,34 @@ def test_net_terms_are_narrowed_by_their_sum():
     budget = budget_of(step)
     assert dict((n[0], n[3:]) for n in budget.nets)["DRAINS"] == (-50, -50)
     assert budget.rows[-1] == ("TOTAL", 150, 150, 110, 190)
+    assert not budget.is_empty
+
+
+def test_a_net_term_is_what_the_others_leave():
+    """Period 1 step 3 of examples/pumping_test: storage is 500 less what the constant heads give, to its last place."""
+    unit = 10**21
+    flows = {"STORAGE": "498.160914334119820125330 498.166227168947438997716", "CONSTANT HEAD": "1.836335428399504856912 1.836521538799862064100"}
+    terms = {name: [*(int(Fraction(w) * unit) for w in words.split()), 0, 0] for name, words in flows.items()}
+    nets = {n[0]: n[3:] for n in budget_of(Step(1, 3, None, None, terms | {"WELLS": [0, 0, 500 * unit, 500 * unit]})).nets}
+    assert nets["STORAGE"] == (500 * unit - 1836521538799862064100, 500 * unit - 1836335428399504856912)
+    assert nets["CONSTANT HEAD"] == (1836335428399504856912, 1836521538799862064100)
+    assert nets["WELLS"] == (-500 * unit, -500 * unit)
+
+
+def test_each_budget_that_sums_to_zero_is_within_the_narrowed_bounds():
+    draw = random.Random(5)
+    for _ in range(300):
+        into, out = [draw.randrange(1000) for _ in range(7)], [draw.randrange(1000) for _ in range(7)]
+        rest = sum(out) - sum(into)
+        into, out = into + [max(rest, 0)], out + [max(-rest, 0)]
+        around = lambda v: (max(v - draw.randrange(50), 0), v + draw.randrange(50))
+        terms = {str(n): [*around(a), *around(b)] for n, (a, b) in enumerate(zip(into, out))}
+        budget = budget_of(Step(1, 1, None, None, terms))
+        for name, low, high, narrow, tight in budget.nets:
+            net = into[int(name)] - out[int(name)]
+            assert low <= narrow <= net <= tight <= high
+        assert not budget.is_empty
+
+
+def test_bounds_that_no_budget_fits_are_seen():
+    assert budget_of(Step(1, 1, None, None, {"WELLS": [0, 0, 100, 100], "RECHARGE": [150, 150, 0, 0]})).is_empty
