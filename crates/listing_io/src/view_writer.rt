@@ -1,5 +1,6 @@
 // A view of heads while they settle, as text.
-ghost use Rattle.std.specs.Prelude.{◌≡◌, ◌++◌, length, IfOk};
+ghost use Rattle.std.specs.Prelude.{◌≡◌, ◌++◌, ◌<◌, length, IfOk};
+ghost use Rattle.step_problem.specs.Entries.{entries_at};
 ghost use Rattle.model_types.specs.Grids.{HasSize};
 ghost use Rattle.listing_io.specs.Listing.{ended, text_of};
 ghost use Rattle.listing_io.specs.Views.{variable_lines, view_text, watch_line};
@@ -19,6 +20,14 @@ fn push_watch_line(text: &mut Vec<u8>, at: TimeStep) -> Result<(), AllocError>
     Ok(())
 }
 
+// The cell number of a variable cell.
+fn id_at(p: &Problem, cell: usize) -> u32
+    requires { cell < length p.now }
+    ensures { result ≡ (entries_at p.now cell).id }
+{
+    p.cell(cell).id
+}
+
 fn push_variable_cells(
     text: &mut Vec<u8>,
     grid: &Grid,
@@ -30,7 +39,7 @@ fn push_variable_cells(
     ensures { IfOk result (λ _. text.new.items ≡ text.old.items ++ text_of (variable_lines grid.now p.now 0 heads.now)) }
 {
     for cell in 0..heads.len() {
-        push_head(text, grid, p.cell(cell).id, heads[cell])?;
+        push_head(text, grid, id_at(p, cell), heads[cell])?;
     }
     Ok(())
 }
