@@ -1,6 +1,7 @@
 -- One view more, as a put more.
 use Rattle.std.proofs.Common.{◌≡◌, ℕ, ◌+◌, inl, inr, refl, sym, ap, ◌∙◌, subst, arith, true, false, List, [], ◌∷◌, ◌++◌, length, map, Result, Ok, Err, Option, Some, None}
 use Rattle.std.specs.Prelude.{is_some, IfOk}
+use Rattle.std.specs.Result.{result_err}
 use Rattle.std.proofs.lemmas.List.{append-nil, append_assoc}
 use Rattle.std.specs.declared.vec.Vec.{Vec}
 use Rattle.std.specs.declared.alloc.Global.{Global}
@@ -8,6 +9,17 @@ use Rattle.outside.specs.Puts.{Put, taken, refused}
 use Rattle.outside.specs.declared.traits.SinkError.{SinkError}
 use Rattle.step_problem.specs.declared.heads.Bound.{Bound}
 use Rattle.view_puts.specs.Puts.{IsPutOf, IsStopPut, AreAllShown, LeadOn, ViewPuts}
+
+-- the put of a text, by its result
+put_of : (E : Type 0) (text : Vec ℕ Global) (r : Result (Unit {0}) SinkError) (piece : List ℕ) → piece ≡ text.items → IsPutOf {E = E} (Ok text) (result_err r) (record { piece = piece; answer = r } ∷ [])
+put_of E text (Ok done) piece same = ap (λ (x : List ℕ). taken x ∷ []) same
+put_of E text (Err e) piece same = ap (λ (x : List ℕ). refused x e ∷ []) same
+
+pub is_put_of : (E : Type 0) (t : Result (Vec ℕ Global) E) (text : Vec ℕ Global) (r : Result (Unit {0}) SinkError) (o : Option SinkError) (piece : List ℕ) → t ≡ Ok text → o ≡ result_err r → piece ≡ text.items → IsPutOf {E = E} t o (record { piece = piece; answer = r } ∷ [])
+is_put_of E t text r o piece is same items =
+    let T : Result (Vec ℕ Global) E → Type 0 = λ x. IsPutOf {E = E} x o (record { piece = piece; answer = r } ∷ []) in
+    let O : Option SinkError → Type 0 = λ x. IsPutOf {E = E} (Ok text) x (record { piece = piece; answer = r } ∷ []) in
+    subst T (sym is) (subst O (sym same) (put_of E text r piece items))
 
 -- puts after puts
 pub lead_more : {W : Type 0} (leads : W → List Put → W → Type 0) (a b c : W) (puts more : List Put) → LeadOn leads a b puts → LeadOn leads b c more → LeadOn leads a c (puts ++ more)
