@@ -55,7 +55,7 @@ pub fn print_pieces<R: Print + Threads + Sync>(
 {
     let mut sink = MemSink::new(alloc);
     sink.fail_at(u64::from(views.limit), 2)?;
-    let mut viewer = SinkViewer::new(alloc, &mut sink, SameText);
+    let mut viewer = SinkViewer::new(alloc, &mut sink, &SameText);
     let answer = WatchSettler::new(rt, plan, &FreeGate, views.each_phase).settle(
         alloc,
         p,

@@ -13,7 +13,7 @@ use step_problem::{Barrier, Bound, Problem};
 #[derive(Drop)]
 pub struct SinkViewer<'a, W: Sink, X: ViewText> {
     sink: &'a mut W,
-    text: X,
+    text: &'a X,
     alloc: Global,
     period: u32,
     step: u32,
@@ -28,17 +28,19 @@ impl<'a, W: Sink, X: ViewText> Viewer for SinkViewer<'a, W, X> {
     ghost use Rattle.settle_driver.specs.Views.{EnclosesPair};
     ghost use Rattle.view_puts.specs.Puts.{LeadOn, ViewPuts, no_lead, no_view};
 
-    ghost viewed = { λ s p b n t. (t.sink.ghost_name ≡ s.sink.ghost_name) × (t.text ≡ s.text) × (t.period ≡ s.period) × (t.step ≡ s.step) × ViewPuts (X.text s.text s.period s.step p) (EnclosesPair p b) (LeadOn W.leads s.sink.now t.sink.now) n s.stop t.stop };
+    ghost viewed = { λ s p b n t. (t.sink.ghost_name ≡ s.sink.ghost_name) × (t.text ≡ s.text) × (t.period ≡ s.period) × (t.step ≡ s.step) × ViewPuts (X.text s.text.now s.period s.step p) (EnclosesPair p b) (LeadOn W.leads s.sink.now t.sink.now) n s.stop t.stop };
 
     ghost stopped = { λ s. is_some s.stop ≡ true };
 
-    ghost rests = { λ s p b. (refl, refl, refl, refl, no_view (X.text s.text s.period s.step p) (EnclosesPair p b) (LeadOn W.leads s.sink.now s.sink.now) s.stop (no_lead W.leads s.sink.now)) };
+    ghost rests = { λ s p b. (refl, refl, refl, refl, no_view (X.text s.text.now s.period s.step p) (EnclosesPair p b) (LeadOn W.leads s.sink.now s.sink.now) s.stop (no_lead W.leads s.sink.now)) };
 
     fn view(&mut self, p: &Problem, _b: &Barrier, heads: &[Bound]) -> bool {
         if self.stop.is_some() {
             return false;
         }
-        let text = self.text.write(self.alloc, self.period, self.step, p, heads);
+        let text = self
+            .text
+            .write(self.alloc, self.period, self.step, p, heads);
         self.stop = put_text(self.sink, text);
         self.stop.is_none()
     }
@@ -61,9 +63,9 @@ impl<'a, W: Sink, X: ViewText> StepViewer for SinkViewer<'a, W, X> {
 
 impl<'a, W: Sink, X: ViewText> SinkViewer<'a, W, X> {
     /// It has been told no time.
-    pub fn new(alloc: Global, sink: &'a mut W, text: X) -> SinkViewer<'a, W, X>
+    pub fn new(alloc: Global, sink: &'a mut W, text: &'a X) -> SinkViewer<'a, W, X>
         ensures sink { (result.sink.ghost_name ≡ sink.entry.ghost_name) × (result.sink.now ≡ sink.entry.now) }
-        ensures text { result.text ≡ text }
+        ensures text { result.text.now ≡ text.entry.now }
         ensures stop { result.stop ≡ None }
     {
         SinkViewer {
