@@ -110,6 +110,14 @@ COMMANDS = [
     Command("run a.nam --watch 2", reading_order("a.nam", "a.dis", "a.bas", "a.lpf"), THREE_CELLS_PUTS, side=rb"(?:(?:%s){2})+" % VIEW),
 ]
 
+# Further decks: heads of thirds, three steps, a listing of thirds that is checked, and an array in a file of its own.
+FURTHER = [
+    Command("run a.nam --workers 3", FOUR_CELLS, FOUR_CELLS_PUTS),
+    Command("run a.nam", THREE_STEPS, THREE_STEPS_PUTS),
+    Command("check a.nam l.txt", FOUR_CELLS | {"l.txt": b"".join(FOUR_CELLS_PUTS)}, [text("CERTIFIED")]),
+    Command("run a.nam", deck(flow=("OPEN/CLOSE hk.txt 1 (FREE)", "CONSTANT 1")) | {"hk.txt": text("3*1")}, THREE_CELLS_PUTS),
+]
+
 
 def write_files(folder, files):
     for name, content in files.items():
@@ -123,6 +131,13 @@ def built_commands(program):
         done = subprocess.run([program, *command.words], cwd="/", capture_output=True, check=False)
         return done.returncode != 1
     return [command for command in COMMANDS if is_built(command)]
+
+
+def run_in(program, command, folder, **how):
+    """Status, standard output and standard error of a command whose files are put into a folder."""
+    write_files(folder, command.files)
+    done = subprocess.run([program, *command.words], cwd=folder, capture_output=True, check=False, **how)
+    return done.returncode, done.stdout, done.stderr
 
 
 def left_out(commands):
