@@ -77,11 +77,12 @@ VIEW = rb"WATCH 1 1\nHEAD 1 1 2 (1\d\.\d{9}) (1\d\.\d{9}|20\.000000000)\n"
 
 
 class Command:
-    """Words, the files that they name in the order in which they are read, the pieces that are written, and the form of
-    what is written to standard error."""
+    """Words, the files that they name in the order in which they are read, the pieces that are written, the form of what is
+    written to standard error, and how often a file is opened."""
 
-    def __init__(self, words, files, puts, side=b"", status=0):
+    def __init__(self, words, files, puts, side=b"", status=0, opens=None):
         self.words, self.files, self.puts, self.side, self.status = words.split(" "), files, puts, side, status
+        self.opens = len(files) if opens is None else opens
         self.name = " ".join(word for word in self.words[:1] + [word for word in self.words if word.startswith("--")])
 
     def reads(self):
@@ -110,8 +111,15 @@ COMMANDS = [
     Command("run a.nam --watch 2", reading_order("a.nam", "a.dis", "a.bas", "a.lpf"), THREE_CELLS_PUTS, side=rb"(?:(?:%s){2})+" % VIEW),
 ]
 
-# Further decks: heads of thirds, three steps, a listing of thirds that is checked, and an array in a file of its own.
+# Three models as a batch: the second one has no files, so its refusal is its text, and decides the status.
+BATCH = (THREE_CELLS | {name.replace("a.", "b."): content.replace(b"a.", b"b.") for name, content in FOUR_CELLS.items()}
+         | {"list.txt": text("a.nam", "none.nam", "b.nam")})
+BATCH_PUTS = [text("MODEL a.nam") + b"".join(THREE_CELLS_PUTS), text("MODEL none.nam", "REFUSED 1 MissingFile none.nam 0"),
+              text("MODEL b.nam") + b"".join(FOUR_CELLS_PUTS), LAST]
+
+# Further decks: a batch, heads of thirds, three steps, a listing of thirds that is checked, and an array in a file of its own.
 FURTHER = [
+    Command("batch list.txt --workers 2", BATCH, BATCH_PUTS, status=2, opens=10),
     Command("run a.nam --workers 3", FOUR_CELLS, FOUR_CELLS_PUTS),
     Command("run a.nam", THREE_STEPS, THREE_STEPS_PUTS),
     Command("check a.nam l.txt", FOUR_CELLS | {"l.txt": b"".join(FOUR_CELLS_PUTS)}, [text("CERTIFIED")]),
@@ -125,12 +133,16 @@ def write_files(folder, files):
             file.write(content)
 
 
-def built_commands(program):
-    """The commands that this program has: it takes the words of one that it hasn't as usage."""
+def built(program, commands):
+    """Those of the commands that this program has: it takes the words of one that it hasn't as usage."""
     def is_built(command):
         done = subprocess.run([program, *command.words], cwd="/", capture_output=True, check=False)
         return done.returncode != 1
-    return [command for command in COMMANDS if is_built(command)]
+    return [command for command in commands if is_built(command)]
+
+
+def built_commands(program):
+    return built(program, COMMANDS)
 
 
 def run_in(program, command, folder, **how):
