@@ -4,7 +4,7 @@ ghost use Rattle.step_problem.specs.Heads.{IsBarrier};
 ghost use Rattle.step_problem.specs.Settling.{Settles};
 ghost use Rattle.settle_driver.specs.Phases.{IsPlan};
 
-use crate::first::{has_few_cells, look, phases_of_few, phases_of_soon, settles_soon};
+use crate::first::{has_few_cells, look, phases_of_few, settles_soon, soon};
 use crate::guessing::settle_by_guess;
 use outside::Gate;
 use settle_driver::{Plan, ThreadSettler};
@@ -66,22 +66,19 @@ impl<'a, R: Threads + Sync, G: Gate + Sync> NearSettler<'a, R, G> {
         }
     }
 
-    // By `first` plain phases, then by a guess.
-    fn settle_few_first(
+    // By the phases of a plan, then by a guess.
+    fn settle_first(
         &self,
         alloc: Global,
         p: &Problem,
         b: &Barrier,
-        first: u32,
+        first: Plan,
     ) -> Result<Vec<Bound>, SettleFault>
         requires barrier { IsBarrier p.now b.now }
-        requires first { 1 ≤ first }
+        requires first { IsPlan first }
         ensures { Settles p.now b.now self.now.plan.rounds result }
     {
-        if self.plan.rounds <= first {
-            return self.settle_plainly(alloc, p, b, self.plan.rounds);
-        }
-        match self.settle_plainly(alloc, p, b, first) {
+        match ThreadSettler::new(self.rt, first, self.gate).settle(alloc, p, b) {
             Ok(bounds) => Ok(bounds),
             Err(SettleFault::Unfinished(_)) => self.settle_onward(alloc, p, b),
             Err(SettleFault::Memory) => Err(SettleFault::Memory),
@@ -118,7 +115,7 @@ impl<'a, R: Threads + Sync, G: Gate + Sync> NearSettler<'a, R, G> {
             Ok(bounds) => Ok(bounds),
             Err(SettleFault::Unfinished(open)) => {
                 if settles_soon(b, first, &open.words) {
-                    self.settle_few_first(alloc, p, b, phases_of_soon())
+                    self.settle_first(alloc, p, b, soon(self.plan))
                 } else {
                     self.settle_onward(alloc, p, b)
                 }
@@ -151,11 +148,17 @@ impl<'a, R: Threads + Sync, G: Gate + Sync> NearSettler<'a, R, G> {
         requires { IsBarrier p.now b.now }
         ensures { Settles p.now b.now self.now.plan.rounds result }
     {
-        if has_few_cells(p.len()) {
-            return self.settle_few_first(alloc, p, b, phases_of_few());
-        }
-        if self.plan.rounds <= 1 {
+        let few = has_few_cells(p.len());
+        let rounds = if few { phases_of_few() } else { 1 };
+        if self.plan.rounds <= rounds {
             return self.settle_plainly(alloc, p, b, self.plan.rounds);
+        }
+        if few {
+            let first = Plan {
+                rounds,
+                ..self.plan
+            };
+            return self.settle_first(alloc, p, b, first);
         }
         self.settle_by_look(alloc, p, b)
     }
