@@ -1,8 +1,8 @@
 -- Lines of values are read as rows of them, and a control record with rows as an array.
 use Rattle.std.proofs.Common.{◌≡◌, ℕ, zero, suc, ◌*◌, ◌≤◌, List, [], ◌∷◌, ◌++◌, length, take, drop, All, Result, Ok, refl, arith}
 use Rattle.std.specs.Prelude.{codes}
-use Rattle.std.proofs.lemmas.List.{length-take-le, length-drop, take-append-drop, nil_from_length}
-use Rattle.std.proofs.lemmas.List.Elements.{All-take, All-drop}
+use Rattle.std.proofs.lemmas.List.{length-take-le, length-drop, length-map, take-append-drop, nil_from_length}
+use Rattle.std.proofs.lemmas.List.Elements.{All-nil, All-cons, All-take, All-drop}
 use Rattle.decimal_input.specs.declared.dec.NumFault.{NumFault}
 use Rattle.outside.specs.Files.{File}
 use Rattle.record_lines.specs.Layout.{next_number}
@@ -17,7 +17,7 @@ use Rattle.array_text.specs.Lines.{Line, IsLine, number_after, unread, Reads}
 use Rattle.array_text.specs.Arrays.{control_record, row_line, row_lines, array_lines}
 use Rattle.array_text.proofs.WordTexts.{line_by_test}
 use Rattle.array_text.proofs.LineTexts.{line_words, next_line}
-use Rattle.array_text.proofs.FreeTexts.{IsWrittenAs, free_list_reads}
+use Rattle.array_text.proofs.FreeTexts.{IsWrittenAs, row_is_words, free_list_reads}
 
 row_reads : {X : Type 0} (read : List ℕ → Result X NumFault) (word : X → List ℕ) (file : List ℕ) (cols : ℕ) (xs : List X) → length xs ≡ cols → 1 ≤ cols → All (λ x. IsWrittenAs read word x) xs
     → Reads (free_list read file cols) (row_line word xs ∷ []) xs
@@ -65,3 +65,29 @@ pub layer_reads : {X : Type 0} (kind : Kind X) (word : X → List ℕ) (by : X) 
     → Reads (λ left. without_line (array_at kind files file rows cols left)) (array_lines word rows cols xs) xs
 layer_reads kind word by files file rows cols xs one some e h =
     record { reads = λ n others. rw (array_reads kind word by files file rows cols xs one some e h n others) refl }
+
+row_length : {X : Type 0} (word : X → List ℕ) (xs : List X) → length (row_line word xs) ≡ length xs
+unfolding row_line
+row_length word xs = length-map xs word
+
+pub row_is_line : {X : Type 0} (read : List ℕ → Result X NumFault) (word : X → List ℕ) (xs : List X) → 1 ≤ length xs → All (λ x. IsWrittenAs read word x) xs → IsLine (row_line word xs)
+row_is_line read word xs some h = record { some = as_long; words = row_is_words read word xs h }
+  where
+    as_long : 1 ≤ length (row_line word xs)
+    as_long = omega (arith, row_length word xs)
+
+rows_are_lines : {X : Type 0} (read : List ℕ → Result X NumFault) (word : X → List ℕ) (rows cols : ℕ) (xs : List X) → 1 ≤ cols → length xs ≡ rows * cols → All (λ x. IsWrittenAs read word x) xs → All (λ line. IsLine line) (row_lines word rows cols xs)
+unfolding row_lines
+rows_are_lines read word zero cols xs some e h = All-nil (λ line. IsLine line)
+rows_are_lines read word (suc rows) cols xs some e h =
+    let enough : cols ≤ length xs = omega arith in
+    let front_length : length (take cols xs) ≡ cols = length-take-le cols xs enough in
+    let back_length : length (drop cols xs) ≡ rows * cols = omega (arith, length-drop cols xs) in
+    let front = row_is_line read word (take cols xs) (omega arith) (All-take (λ x. IsWrittenAs read word x) cols xs h) in
+    All-cons (λ line. IsLine line) (row_line word (take cols xs)) (row_lines word rows cols (drop cols xs)) front
+    (rows_are_lines read word rows cols (drop cols xs) some back_length (All-drop (λ x. IsWrittenAs read word x) cols xs h))
+
+-- what is written of an array is lines
+pub array_is_lines : {X : Type 0} (read : List ℕ → Result X NumFault) (word : X → List ℕ) (rows cols : ℕ) (xs : List X) → 1 ≤ cols → length xs ≡ rows * cols → All (λ x. IsWrittenAs read word x) xs → All (λ line. IsLine line) (array_lines word rows cols xs)
+array_is_lines read word rows cols xs some e h =
+    All-cons (λ line. IsLine line) control_record (row_lines word rows cols xs) control_is_line (rows_are_lines read word rows cols xs some e h)

@@ -25,6 +25,13 @@ LinesReadAsWritten = (line : Line) → IsLine line → words (line_text line) �
 abbrev pub TextsReadAsWritten : Type 0
 TextsReadAsWritten = (n : ℕ) (lines : List Line) → All IsLine lines → left_from n (text lines) ≡ unread n lines
 
+-- what is written of values is lines: a list of values, a layer of numbers, and one of integers
+pub record WritesLines : Type 0 where
+  pub rows : (xs : List Dec) → 1 ≤ length xs → All IsDec xs → IsLine (row_line number_word xs)
+  pub integer_rows : (xs : List ℤ) → 1 ≤ length xs → All IsShort xs → IsLine (row_line integer_word xs)
+  pub layers : (rows cols : ℕ) (xs : List Dec) → 1 ≤ cols → length xs ≡ rows * cols → All IsDec xs → All IsLine (real_array rows cols xs)
+  pub integer_layers : (rows cols : ℕ) (xs : List ℤ) → 1 ≤ cols → length xs ≡ rows * cols → All IsShort xs → All IsLine (integer_array rows cols xs)
+
 -- at least one value, all on one line
 pub record FreeListsReadAsWritten : Type 0 where
   pub numbers : (file : List ℕ) (xs : List Dec) → 1 ≤ length xs → All IsDec xs →

@@ -1,6 +1,6 @@
 // What is written is read as itself. Each law is the contract of an empty function.
 ghost use Rattle.array_text.specs.Laws.{NumbersReadAsWritten, IntegersReadAsWritten, LinesReadAsWritten};
-ghost use Rattle.array_text.specs.Laws.{TextsReadAsWritten, FreeListsReadAsWritten, ArraysReadAsWritten};
+ghost use Rattle.array_text.specs.Laws.{TextsReadAsWritten, WritesLines, FreeListsReadAsWritten, ArraysReadAsWritten};
 
 /// A number's word is read as that number.
 pub fn numbers_read_as_written()
@@ -20,6 +20,11 @@ pub fn lines_read_as_written()
 /// A text has the lines that were written to it, each with its number.
 pub fn texts_read_as_written()
     ensures { TextsReadAsWritten }
+{}
+
+/// What is written of values is lines.
+pub fn values_are_written_as_lines()
+    ensures { WritesLines }
 {}
 
 /// A free list on one line is read as its values.

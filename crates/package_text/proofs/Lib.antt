@@ -1,0 +1,3 @@
+pub mod LineCounts
+pub mod CountTexts
+pub mod FrameTexts
