@@ -73,7 +73,7 @@ unfolding unread numbered_lines number_after
 line_follows n line others = goes_on 0 [] (unread n (line ∷ others)) (unread (next_number n) others) (record { number = n; bytes = line_text line }) refl refl
 
 -- a list begins on the next line
-line_begins : (n : ℕ) (line : Line) (others : List Line) → All (λ x. IsWord x) line → next_value beginning (unread n (line ∷ others)) ≡ next_value (on_line n [] line) (unread (next_number n) others)
+pub line_begins : (n : ℕ) (line : Line) (others : List Line) → All (λ x. IsWord x) line → next_value beginning (unread n (line ∷ others)) ≡ next_value (on_line n [] line) (unread (next_number n) others)
 unfolding next_value
 line_begins n line others h = rw (line_follows n line others, line_words line h) refl
 
@@ -82,7 +82,7 @@ pub alone_begins : {X : Type 0} (read : List ℕ → Result X NumFault) (file : 
 unfolding value_alone value_at
 alone_begins read file n line others h = rw (line_begins n line others h) refl
 
-same_start : {X S E : Type 0} (count : ℕ) (read : S → Result (X × S) E) (s t : S) → read s ≡ read t → repeated (suc count) read s ≡ repeated (suc count) read t
+pub same_start : {X S E : Type 0} (count : ℕ) (read : S → Result (X × S) E) (s t : S) → read s ≡ read t → repeated (suc count) read s ≡ repeated (suc count) read t
 unfolding repeated
 same_start count read s t e = rw e refl
 

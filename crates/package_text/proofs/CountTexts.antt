@@ -7,7 +7,8 @@ use Rattle.std.proofs.lemmas.Bool.Decides.{nat_tests}
 use Rattle.decimal_input.specs.declared.dec.Dec.{Dec}
 use Rattle.decimal_input.specs.Canonical.{IsDec}
 use Rattle.array_reader.specs.Items.{number_at}
-use Rattle.array_reader.specs.Numbers.{number, integer}
+use Rattle.array_reader.specs.Numbers.{number, canonical, integer}
+use Rattle.model_types.specs.Layers.{no_number}
 use Rattle.number_limits.specs.Signs.{within}
 use Rattle.dis_package.specs.Frames.{count_at}
 use Rattle.array_text.specs.Words.{IsShort, number_word, integer_word}
@@ -42,3 +43,12 @@ unfolding count_at
 count_reads file line limit n ws some few small =
     let short : n < 10 ^ 18 = omega arith in
     rw (decimal_item file line n ws short, is_within n limit some few) refl
+
+-- the word 0, as an integer and as a number
+pub zero_item : (file : List ℕ) (line : ℕ) (ws : Line) → number_at integer file line (codes "0" ∷ ws) ≡ Ok (pos 0, ws)
+unfolding number_at integer
+zero_item file line ws = refl
+
+pub zero_number_item : (file : List ℕ) (line : ℕ) (ws : Line) → number_at number file line (codes "0" ∷ ws) ≡ Ok (no_number, ws)
+unfolding number_at number canonical
+zero_number_item file line ws = refl

@@ -1,3 +1,6 @@
 pub mod LineCounts
 pub mod CountTexts
 pub mod FrameTexts
+pub mod GridTexts
+pub mod TimeTexts
+pub mod DisTexts

@@ -41,9 +41,14 @@ layers_are_lines lines total h (suc count) k e =
     All-append (λ line. IsLine line) (lines k) (flat_map lines (range_with_len (k + 1) count)) (h k low) (layers_are_lines lines total h count (k + 1) (omega arith))
 
 take_more : {X : Type 0} (a b : ℕ) (xs : List X) → take a xs ++ take b (drop a xs) ≡ take (a + b) xs
-take_more zero b xs = refl
-take_more (suc a) zero [] = refl
-take_more (suc a) (suc b) [] = refl
+take_more zero b xs = let e : 0 + b ≡ b = omega arith in rw e refl
+take_more {X = X} (suc a) b [] = take_none b (suc a + b)
+  where
+    take_none : (m n : ℕ) → take {A = X} m [] ≡ take n []
+    take_none zero zero = refl
+    take_none zero (suc n) = refl
+    take_none (suc m) zero = refl
+    take_none (suc m) (suc n) = refl
 take_more (suc a) b (x ∷ xs) = let e : suc a + b ≡ suc (a + b) = omega arith in rw e (ap (λ ys. x ∷ ys) (take_more a b xs))
 
 module _ (g : Grid) where
