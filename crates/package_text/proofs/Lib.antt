@@ -4,3 +4,4 @@ pub mod FrameTexts
 pub mod GridTexts
 pub mod TimeTexts
 pub mod DisTexts
+pub mod BasTexts
