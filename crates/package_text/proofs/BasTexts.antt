@@ -1,10 +1,8 @@
 -- The file of BAS6 is read as written.
-use Rattle.std.proofs.Common.{◌≡◌, ℕ, zero, suc, ◌+◌, ◌-◌, ◌*◌, ◌<◌, ◌≤◌, List, [], ◌∷◌, ◌++◌, append_assoc, length, take, drop, All, Result, Ok, refl, sym, ap, ◌∙◌, arith, ℤ, false}
+use Rattle.std.proofs.Common.{◌≡◌, ℕ, zero, suc, ◌+◌, ◌*◌, ◌<◌, List, [], ◌∷◌, ◌++◌, append_assoc, length, drop, All, Result, Ok, refl, sym, arith, false}
 use Rattle.std.specs.Prelude.{codes}
 use Rattle.std.specs.List.{flat_map, range_with_len}
 use Rattle.std.proofs.lemmas.List.{append-nil, drop_all, drop-drop, take-append-drop}
-use Rattle.decimal_input.specs.declared.dec.Dec.{Dec}
-use Rattle.decimal_input.specs.Canonical.{IsDec}
 use Rattle.outside.specs.Files.{File}
 use Rattle.outside.specs.declared.refusals.Refusal.{Refusal}
 use Rattle.record_lines.specs.Layout.{Left, is_comment, next_number}
@@ -14,7 +12,6 @@ use Rattle.array_reader.specs.Arrays.{layer_of, real_layer, integer_layer, layer
 use Rattle.model_types.specs.declared.grid.Grid.{Grid}
 use Rattle.model_types.specs.declared.model.FlowModel.{FlowModel}
 use Rattle.model_types.specs.Cells.{layer_size, cell_count}
-use Rattle.model_types.specs.Grids.{HasSize}
 use Rattle.bas_package.specs.Basics.{option_line, head_item, basics_of, with_basics, bas_of}
 use Rattle.array_text.specs.Words.{IsShort}
 use Rattle.array_text.specs.Lines.{Line, IsLine, line_text, text, number_after, unread, Reads}
@@ -32,7 +29,7 @@ use Rattle.package_text.proofs.DisTexts.{AreLines, one_line, joined, layer_is_li
 
 -- Readings that each take a layer's lines take those of all layers.
 module _ {X : Type 0} (read : Left → Result (List X × Left) Refusal) (g : Grid) (lines : ℕ → List Line) (xs : List X) (whole_list : length xs ≡ cell_count g)
-         (reads : (k : ℕ) → k < g.layers → Reads read (lines k) (layer_values g k xs)) where
+    (reads : (k : ℕ) → k < g.layers → Reads read (lines k) (layer_values g k xs)) where
   from_layer : (k : ℕ) → layer_values g k xs ++ drop ((k + 1) * layer_size g) xs ≡ drop (k * layer_size g) xs
   from_layer k =
       let e : (k + 1) * layer_size g ≡ k * layer_size g + layer_size g = omega arith in
@@ -51,8 +48,13 @@ module _ {X : Type 0} (read : Left → Result (List X × Left) Refusal) (g : Gri
       let low : k < g.layers = omega arith in
       let more : (k + 1) + count ≡ g.layers = omega arith in
       let tail = flat_map lines (range_with_len (k + 1) count) in
-      rw (append_assoc (lines k) tail others, (reads k low).reads n (tail ++ others), appended_reads count (k + 1) more (number_after n (lines k)) others,
-          number_after-append n (lines k) tail, from_layer k) refl
+      rw (
+        append_assoc (lines k) tail others,
+        (reads k low).reads n (tail ++ others),
+        appended_reads count (k + 1) more (number_after n (lines k)) others,
+        number_after-append n (lines k) tail,
+        from_layer k,
+      ) refl
 
   pub all_layers_read : (n : ℕ) (others : List Line) → appended g.layers read (unread n (each_layer g lines ++ others)) ≡ Ok (xs, unread (number_after n (each_layer g lines)) others)
   all_layers_read n others = let none : 0 * layer_size g ≡ 0 = omega arith in rw none at (appended_reads g.layers 0 (omega arith) n others)
@@ -99,7 +101,7 @@ module _ (files : List File) (file : List ℕ) (m : FlowModel) (d : IsDiscretize
   bas_is_lines =
       let ibound : AreLines (bas_item_2 m) = record { all = layers_are_lines (integer_layer_lines m.grid m.ibound) m.grid.layers ibound_is_lines m.grid.layers 0 (omega arith) } in
       let strt : AreLines (bas_item_4 m) =
-              record { all = layers_are_lines (real_layer_lines m.grid m.strt) m.grid.layers (λ k low. (layer_is_lines m.grid m.strt d.grid.size b.strt.0 b.strt.1 k low).all) m.grid.layers 0 (omega arith) } in
+      record { all = layers_are_lines (real_layer_lines m.grid m.strt) m.grid.layers (λ k low. (layer_is_lines m.grid m.strt d.grid.size b.strt.0 b.strt.1 k low).all) m.grid.layers 0 (omega arith) } in
       one_line options_line (joined ibound (one_line zero_line strt))
 
   options_are_item : is_comment (line_text bas_item_1) ≡ false

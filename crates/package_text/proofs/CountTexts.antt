@@ -1,8 +1,7 @@
 -- Counts in lines.
-use Rattle.std.proofs.Common.{◌≡◌, ℕ, ◌+◌, ◌*◌, ◌^◌, ◌<◌, ◌≤◌, true, false, List, [], ◌∷◌, nat_lt, nat_le, Some, Ok, refl, sym, ap, ◌∙◌, arith, ℤ, pos}
+use Rattle.std.proofs.Common.{◌≡◌, ℕ, ◌^◌, ◌<◌, ◌≤◌, true, List, ◌∷◌, nat_lt, nat_le, Some, Ok, refl, arith, ℤ, pos}
 use Rattle.std.specs.Prelude.{codes}
 use Rattle.std.specs.Fmt.{decimal}
-use Rattle.std.proofs.lemmas.Bool.{le-leb}
 use Rattle.std.proofs.lemmas.Bool.Decides.{nat_tests}
 use Rattle.decimal_input.specs.declared.dec.Dec.{Dec}
 use Rattle.decimal_input.specs.Canonical.{IsDec}
@@ -32,7 +31,7 @@ pub decimal_item : (file : List ℕ) (line n : ℕ) (ws : Line) → n < 10 ^ 18 
 unfolding number_at
 decimal_item file line n ws h = rw (decimal_reads n h) refl
 
-is_within : (n limit : ℕ) → 1 ≤ n → n ≤ limit → within (pos n) limit ≡ Some n
+pub is_within : (n limit : ℕ) → 1 ≤ n → n ≤ limit → within (pos n) limit ≡ Some n
 is_within n limit some few =
     let low : nat_lt 0 n ≡ true = grind (arith, nat_tests) in
     let high : nat_le n limit ≡ true = grind (arith, nat_tests) in

@@ -1,8 +1,7 @@
 -- The file of DIS is read as written.
-use Rattle.std.proofs.Common.{◌≡◌, ℕ, ◌+◌, ◌*◌, ◌^◌, ◌<◌, ◌≤◌, ◌==◌, true, false, Bool, if◌then◌else◌, List, [], ◌∷◌, ◌++◌, length, map, All, Ok, refl, sym, ap, ◌∙◌, arith, ℤ, pos}
+use Rattle.std.proofs.Common.{◌≡◌, ℕ, ◌^◌, ◌<◌, ◌≤◌, ◌==◌, true, false, Bool, if◌then◌else◌, List, [], ◌∷◌, ◌++◌, length, map, All, Ok, refl, arith}
 use Rattle.std.specs.Prelude.{codes}
 use Rattle.std.specs.Fmt.{decimal}
-use Rattle.std.specs.List.{join_with_byte}
 use Rattle.std.proofs.lemmas.List.Elements.{All-nil, All-cons, All-append, All-head, All-map, All-weaker, All-from_recursion}
 use Rattle.std.proofs.lemmas.Bool.Decides.{nat_tests}
 use Rattle.decimal_input.specs.declared.dec.Dec.{Dec}
@@ -13,13 +12,13 @@ use Rattle.record_lines.specs.Layout.{is_comment, without_comments, left_from, n
 use Rattle.model_types.specs.declared.grid.Grid.{Grid}
 use Rattle.model_types.specs.declared.model.FlowModel.{FlowModel}
 use Rattle.model_types.specs.Cells.{cell_count}
-use Rattle.model_types.specs.Grids.{HasSize, IsGrid}
+use Rattle.model_types.specs.Grids.{HasSize}
 use Rattle.model_types.specs.Layers.{int_at, is_nonzero}
 use Rattle.model_types.specs.Numbers.{IsPositive}
 use Rattle.model_types.specs.Valid.{IsTimed}
 use Rattle.dis_package.specs.Discretization.{begun, head_of, dis_of}
 use Rattle.dis_package.specs.Forms.{without_stresses}
-use Rattle.array_text.specs.Words.{IsWord, integer_word}
+use Rattle.array_text.specs.Words.{IsWord}
 use Rattle.array_text.specs.Lines.{Line, IsLine, line_text, text, numbered_lines, unread}
 use Rattle.array_text.proofs.DigitTexts.{digits_spell}
 use Rattle.array_text.proofs.WordTexts.{word_by_test, count_is_word, integer_is_word}
@@ -28,7 +27,6 @@ use Rattle.array_text.proofs.ArrayTexts.{are_lines}
 use Rattle.package_text.specs.Layers.{real_layer, layer_values, each_layer}
 use Rattle.package_text.specs.Discretization.{dis_item_1, dis_item_2, dis_item_3, dis_item_4, dis_item_5, dis_item_6, dis_item_7, dis_lines}
 use Rattle.package_text.specs.Readable.{IsDiscretized}
-use Rattle.package_text.specs.Laws.{DisReadsAsWritten}
 use Rattle.package_text.proofs.LineCounts.{layers_are_lines, layer_length, layer_has}
 use Rattle.package_text.proofs.FrameTexts.{frame_reads, beds_read}
 use Rattle.package_text.proofs.GridTexts.{grid_reads, grid_end, grid_lines}
@@ -132,8 +130,12 @@ module _ (m : FlowModel) (h : IsDiscretized m) where
       ≡ Ok ((record { size = record { layers = m.grid.layers; rows = m.grid.rows; cols = m.grid.cols }; periods = length m.periods; lenuni = m.lenuni }, m.grid.laycbd), unread (next_number (next_number 1)) others)
   unfolding head_of
   head_reads file others =
-      rw (next_line file 1 (dis_item_1 m) (dis_item_2 m.grid ∷ others), line_words (dis_item_1 m) frame_is_line.words, frame_reads file 1 m h,
-          beds_read file (next_number 1) others m.grid h.grid h.laycbd) refl
+      rw (
+        next_line file 1 (dis_item_1 m) (dis_item_2 m.grid ∷ others),
+        line_words (dis_item_1 m) frame_is_line.words,
+        frame_reads file 1 m h,
+        beds_read file (next_number 1) others m.grid h.grid h.laycbd,
+      ) refl
 
   pub dis_reads : (files : List File) (file : List ℕ) → dis_of files file (text (dis_lines m)) ≡ Ok (begun m.grid m.lenuni (map without_stresses m.periods))
   unfolding dis_of dis_lines
@@ -141,5 +143,9 @@ module _ (m : FlowModel) (h : IsDiscretized m) where
       let periods = map dis_item_7 m.periods in
       let n = next_number (next_number 1) in
       let start = file_begins (dis_item_1 m) (dis_item_2 m.grid ∷ grid_lines files file m.grid h.grid h.bed_bottom periods) dis_is_lines.all frame_is_item in
-      rw (start, head_reads file (grid_lines files file m.grid h.grid h.bed_bottom periods), grid_reads files file m.grid h.grid h.bed_bottom n periods,
-          periods_read file (grid_end files file m.grid h.grid h.bed_bottom n) m.periods h.times h.steps) refl
+      rw (
+        start,
+        head_reads file (grid_lines files file m.grid h.grid h.bed_bottom periods),
+        grid_reads files file m.grid h.grid h.bed_bottom n periods,
+        periods_read file (grid_end files file m.grid h.grid h.bed_bottom n) m.periods h.times h.steps,
+      ) refl

@@ -1,14 +1,13 @@
 -- DIS items 3 to 6 are read as written.
-use Rattle.std.proofs.Common.{◌≡◌, ℕ, zero, suc, ◌+◌, ◌-◌, ◌*◌, ◌<◌, ◌≤◌, Bool, true, false, ◌&&◌, not, if◌then◌else◌, List, [], ◌∷◌, ◌++◌, append_assoc, length, take, drop, replicate, nat_lt, All, Result, Ok, refl, sym, ap, ◌∙◌, arith}
-use Rattle.std.specs.List.{list_all, flat_map, range_with_len}
+use Rattle.std.proofs.Common.{◌≡◌, ℕ, ◌+◌, ◌*◌, ◌<◌, ◌≤◌, Bool, true, false, if◌then◌else◌, List, [], ◌∷◌, ◌++◌, append_assoc, length, take, replicate, nat_lt, All, Ok, refl, arith}
+use Rattle.std.specs.List.{list_all}
 use Rattle.std.proofs.lemmas.List.Elements.{All-head, All-tail, All-weaker}
 use Rattle.std.proofs.lemmas.Bool.Decides.{nat_tests}
 use Rattle.decimal_input.specs.declared.dec.Dec.{Dec}
 use Rattle.decimal_input.specs.Canonical.{IsDec}
 use Rattle.outside.specs.Files.{File}
-use Rattle.record_lines.specs.Layout.{Left}
 use Rattle.array_reader.specs.Kinds.{real}
-use Rattle.array_reader.specs.Arrays.{array_at, real_layer}
+use Rattle.array_reader.specs.Arrays.{real_layer}
 use Rattle.model_types.specs.declared.grid.Grid.{Grid}
 use Rattle.model_types.specs.Cells.{layer_size, cell_count}
 use Rattle.model_types.specs.Grids.{HasSize, IsGrid}
@@ -25,7 +24,7 @@ use Rattle.array_text.specs.Arrays.{real_array}
 use Rattle.array_text.proofs.NumberTexts.{one}
 use Rattle.array_text.proofs.RowTexts.{array_reads}
 use Rattle.array_text.proofs.ArrayTexts.{real_one, reals_written, arrays}
-use Rattle.package_text.specs.Layers.{layer_values, each_layer} 
+use Rattle.package_text.specs.Layers.{layer_values, each_layer}
 use Rattle.package_text.specs.Layers.{real_layer as real_layer_lines}
 use Rattle.package_text.specs.Discretization.{dis_item_3, dis_item_4, dis_item_5, dis_item_6}
 use Rattle.package_text.specs.Readable.{IsOfBeds}
@@ -51,7 +50,7 @@ pub layer_reads : (files : List File) (file : List ℕ) (g : Grid) (k : ℕ) (xs
     → Reads (real_layer files file g.rows g.cols) (real_layer_lines g xs k) (layer_values g k xs)
 layer_reads files file g k xs size low e h = arrays.layers files file g.rows g.cols (layer_values g k xs) size.cols.0 (layer_length g k xs low e) (layer_has g IsDec k xs h)
 
-layer_or_by : (b : Bool) (files : List File) (file : List ℕ) (g : Grid) (k : ℕ) (xs : List Dec) (other : Dec) → HasSize g → k < g.layers → length xs ≡ cell_count g → All IsDec xs
+pub layer_or_by : (b : Bool) (files : List File) (file : List ℕ) (g : Grid) (k : ℕ) (xs : List Dec) (other : Dec) → HasSize g → k < g.layers → length xs ≡ cell_count g → All IsDec xs
     → (b ≡ false → layer_values g k xs ≡ replicate (layer_size g) other)
     → Reads (layer_or files file g.rows g.cols b other) (if b then real_layer_lines g xs k else []) (layer_values g k xs)
 unfolding layer_or number_after

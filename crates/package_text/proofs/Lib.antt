@@ -5,3 +5,6 @@ pub mod GridTexts
 pub mod TimeTexts
 pub mod DisTexts
 pub mod BasTexts
+pub mod SettingTexts
+pub mod PropertyTexts
+pub mod LpfTexts

@@ -1,5 +1,5 @@
 -- DIS item 7 is read as written.
-use Rattle.std.proofs.Common.{◌≡◌, ℕ, zero, suc, ◌+◌, ◌*◌, ◌^◌, ◌<◌, ◌≤◌, ◌⊎◌, inl, inr, Bool, true, false, ◌||◌, List, [], ◌∷◌, ◌++◌, length, map, nat_le, sum_by, fold, All, Result, Ok, refl, sym, ap, ◌∙◌, arith, pos}
+use Rattle.std.proofs.Common.{◌≡◌, ℕ, ◌+◌, ◌*◌, ◌≤◌, ◌⊎◌, inl, inr, Bool, true, false, ◌||◌, List, [], ◌∷◌, length, map, nat_le, sum_by, fold, All, Ok, refl, arith}
 use Rattle.std.specs.Prelude.{codes}
 use Rattle.std.specs.Fmt.{decimal}
 use Rattle.std.proofs.lemmas.List.Elements.{All-nil, All-cons, All-head, All-tail}
@@ -16,7 +16,7 @@ use Rattle.model_types.specs.Valid.{IsTimed, IsGrowing, number_one}
 use Rattle.number_limits.specs.Magnitudes.{is_at_most, is_at_least}
 use Rattle.number_limits.specs.Signs.{is_one}
 use Rattle.dis_package.specs.Forms.{without_stresses}
-use Rattle.dis_package.specs.Times.{kind_of, known, is_growth, is_time, time_of, bare, period_at, periods_of}
+use Rattle.dis_package.specs.Times.{kind_of, known, is_growth, is_time, time_of, period_at, periods_of}
 use Rattle.dis_package.specs.declared.time.Time.{Time}
 use Rattle.array_text.specs.Words.{IsWord, number_word}
 use Rattle.array_text.specs.Lines.{Line, IsLine, number_after, unread}

@@ -2,7 +2,5 @@ pub mod Layers
 pub mod Discretization
 pub mod Basics
 pub mod Flow
-pub mod Lists
-pub mod Areas
 pub mod Readable
 pub mod Laws
