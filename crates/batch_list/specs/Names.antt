@@ -1,37 +1,56 @@
--- The list of a batch, line by line: the first word of a line is the name of a name file.
-use Rattle.std.specs.Prelude.{ℕ, List, [], ◌∷◌, ◌++◌, length, Result, Ok, Err, nat_lt, if◌then◌else◌}
-use Rattle.outside.specs.declared.codes.Code.TheVariants.{TooManyEntries}
+-- The list of a batch: the first word of a line is the name of a name file.
+use Rattle.std.specs.Prelude.{ℕ, List, [], ◌∷◌, ◌++◌, length, map, Option, None, Some, Result, Ok, Err, nat_lt, if◌then◌else◌}
+use Rattle.std.specs.List.{filter_map, enumerate_from}
+use Rattle.outside.specs.Names.{is_good_name}
+use Rattle.outside.specs.declared.codes.Code.TheVariants.{BadName, TooManyEntries}
 use Rattle.outside.specs.declared.refusals.Refusal.{Refusal}
 use Rattle.outside.specs.Refusals.{refusal}
-use Rattle.record_lines.specs.Reading.{◌>>=◌}
 use Rattle.record_lines.specs.Layout.{Numbered, words, is_comment, left_from}
-use Rattle.record_lines.specs.Items.{name_at}
 
--- one more name, of at most 1,000
-abbrev pub with_name : List ℕ → ℕ → List ℕ → List (List ℕ) → Result (List (List ℕ)) Refusal
-with_name file line name names = if nat_lt (length names) 1000 then Ok (names ++ name ∷ []) else Err (refusal TooManyEntries file line)
+-- A word where a name is due, and the number of its line.
+pub record Entry : Type 0 where
+  pub line : ℕ
+  pub word : List ℕ
 
--- the names after a word; whether it is a name is tested before the number of names
-unfoldable pub after_word : List ℕ → ℕ → List ℕ → List (List ℕ) → Result (List (List ℕ)) Refusal
-after_word file line word names = do
-  name ← name_at file line word
-  with_name file line name names
+abbrev pub entry_at : ℕ → List ℕ → Entry
+entry_at line word = record { line = line; word = word }
 
--- the names after the words of a line, of which the first alone counts; a line without a word has no name
-abbrev pub after_words : List ℕ → ℕ → List (List ℕ) → List (List ℕ) → Result (List (List ℕ)) Refusal
-after_words file line [] names = Ok names
-after_words file line (word ∷ words) names = after_word file line word names
+-- the entry of a line with these words: the first of them
+abbrev pub first_entry : ℕ → List (List ℕ) → Option Entry
+first_entry line [] = None
+first_entry line (word ∷ words) = Some (entry_at line word)
 
--- the names after a line; a line that begins with '#' has no name
-unfoldable pub after_line : List ℕ → Numbered → List (List ℕ) → Result (List (List ℕ)) Refusal
-after_line file line names = if is_comment line.bytes then Ok names else after_words file line.number (words line.bytes) names
+-- the entry of a line; a line that begins with '#' and a line without a word have none
+unfoldable pub entry_of : Numbered → Option Entry
+entry_of line = if is_comment line.bytes then None else first_entry line.number (words line.bytes)
 
-unfoldable pub after_lines : List ℕ → List Numbered → List (List ℕ) → Result (List (List ℕ)) Refusal
-after_lines file [] names = Ok names
-after_lines file (line ∷ others) names = do
-  next ← after_line file line names
-  after_lines file others next
+-- the entries of these lines, in order
+abbrev pub entries : List Numbered → List Entry
+entries lines = filter_map entry_of lines
 
--- the names of a list, or its first refusal
-abbrev pub names_in : List ℕ → List ℕ → Result (List (List ℕ)) Refusal
-names_in file bytes = after_lines file (left_from 1 bytes).lines []
+-- The refusal of an entry that comes after this many others, if it has one: BadName for a word that is no file's name,
+-- and TooManyEntries for a name after 1,000 others. (The limit is the project's own.)
+unfoldable pub refusal_of : List ℕ → ℕ × Entry → Option Refusal
+refusal_of file entry =
+    if is_good_name entry.1.word then if nat_lt entry.0 1000 then None else Some (refusal TooManyEntries file entry.1.line)
+    else Some (refusal BadName file entry.1.line)
+
+-- the refusals of entries that come after this many others, in order
+abbrev pub refusals : List ℕ → ℕ → List Entry → List Refusal
+refusals file count entries = filter_map (refusal_of file) (enumerate_from count entries)
+
+-- these names, or else the first of these refusals
+abbrev pub unless_refused : List Refusal → List (List ℕ) → Result (List (List ℕ)) Refusal
+unless_refused [] names = Ok names
+unless_refused (first ∷ others) names = Err first
+
+abbrev pub words_of : List Entry → List (List ℕ)
+words_of entries = map (λ entry. entry.word) entries
+
+-- the names of a list: the words of its entries, in order; or the first refusal of an entry
+unfoldable pub names_in : List ℕ → List ℕ → Result (List (List ℕ)) Refusal
+names_in file bytes = let listed = entries (left_from 1 bytes).lines in unless_refused (refusals file 0 listed) (words_of listed)
+
+-- what entries give that come after these names: the names, and then the words of the entries; or the first refusal
+abbrev pub with_entries : List ℕ → List (List ℕ) → List Entry → Result (List (List ℕ)) Refusal
+with_entries file names entries = unless_refused (refusals file (length names) entries) (names ++ words_of entries)

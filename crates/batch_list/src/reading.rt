@@ -1,8 +1,8 @@
-ghost use Rattle.std.specs.Prelude.{◌≡◌, ◌≤◌, length, All, IfOk, MatchResult, Ok};
+ghost use Rattle.std.specs.Prelude.{◌≡◌, ◌≤◌, [], ◌∷◌, length, All, IfOk, MatchResult, Ok};
 ghost use Rattle.outside.specs.Names.{IsGoodName};
 ghost use Rattle.record_lines.specs.Reading.{HasText, StopsText};
 ghost use Rattle.record_lines.specs.Seen.{numbered_of};
-ghost use Rattle.batch_list.specs.Names.{after_word, after_line, after_lines, names_in};
+ghost use Rattle.batch_list.specs.Names.{entries, entry_at, names_in, with_entries};
 
 use array_reader::name_of;
 use outside::{Code, Name, TextFault, refused};
@@ -12,8 +12,8 @@ use std::alloc::Global;
 /// The most names of a list.
 const MOST_NAMES: usize = 1_000;
 
-/// Adds a word as a name.
-#[tactic(auto, unfolding(crate::specs::Names::after_word))]
+/// Adds the first word of a line as a name.
+#[tactic(auto, unfolding(crate::specs::Names::refusal_of, record_lines::specs::Items::name_at))]
 fn after_word(
     alloc: Global,
     names: &mut Vec<Name>,
@@ -26,8 +26,8 @@ fn after_word(
     ensures few { length names.new.items ≤ 1000 }
     ensures good { All IsGoodName names.new.items }
     ensures names { MatchResult result
-        (λ _. after_word file.now line word.now names.old.items ≡ Ok names.new.items)
-        (λ fault. StopsText fault (after_word file.now line word.now names.old.items)) }
+        (λ _. with_entries file.now names.old.items (entry_at line word.now ∷ []) ≡ Ok names.new.items)
+        (λ fault. StopsText fault (with_entries file.now names.old.items (entry_at line word.now ∷ []))) }
 {
     let name = name_of(alloc, word, file, line)?;
     if names.len() >= MOST_NAMES {
@@ -39,7 +39,7 @@ fn after_word(
 }
 
 /// Adds the name of a line, if it has one.
-#[tactic(auto, unfolding(crate::specs::Names::after_line))]
+#[tactic(auto, unfolding(crate::specs::Names::entry_of))]
 fn after_line(
     alloc: Global,
     names: &mut Vec<Name>,
@@ -51,8 +51,8 @@ fn after_line(
     ensures few { length names.new.items ≤ 1000 }
     ensures good { All IsGoodName names.new.items }
     ensures names { MatchResult result
-        (λ _. after_line file.now (numbered_of line.now) names.old.items ≡ Ok names.new.items)
-        (λ fault. StopsText fault (after_line file.now (numbered_of line.now) names.old.items)) }
+        (λ _. with_entries file.now names.old.items (entries (numbered_of line.now ∷ [])) ≡ Ok names.new.items)
+        (λ fault. StopsText fault (with_entries file.now names.old.items (entries (numbered_of line.now ∷ [])))) }
 {
     if is_comment(line.bytes) {
         return Ok(());
@@ -75,8 +75,8 @@ fn after_lines(
     ensures few { length names.new.items ≤ 1000 }
     ensures good { All IsGoodName names.new.items }
     ensures names { MatchResult result
-        (λ _. after_lines file.now lines.old.lines names.old.items ≡ Ok names.new.items)
-        (λ fault. StopsText fault (after_lines file.now lines.old.lines names.old.items)) }
+        (λ _. with_entries file.now names.old.items (entries lines.old.lines) ≡ Ok names.new.items)
+        (λ fault. StopsText fault (with_entries file.now names.old.items (entries lines.old.lines))) }
 {
     while let Ok(line) = lines.next_line() {
         after_line(alloc, names, &line, file)?;
@@ -87,6 +87,7 @@ fn after_lines(
 /// The names of a list, in its order: the first word of each line, but of lines that begin with '#'. A name is there
 /// as often as in the list. There are at most 1,000. `file` is the list's own name, for refusals, which are of the first
 /// line that is wrong: BadName for a word that is no file's name, TooManyEntries for the 1,001st name.
+#[tactic(auto, unfolding(crate::specs::Names::names_in))]
 pub fn read_list(alloc: Global, file: &str, bytes: &[u8]) -> Result<Vec<Name>, TextFault>
     ensures names { HasText (λ names. names.items) result (names_in file.now bytes.now) }
     ensures few { IfOk result (λ names. length names.items ≤ 1000) }

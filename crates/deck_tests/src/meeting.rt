@@ -54,6 +54,12 @@ impl MeetingGate {
         let two = self.passes_of_two.load(Ordering::SeqCst);
         one == two && one > 0 && one % u64::from(TURNS) == 0
     }
+
+    /// Whether each of the two workers passed once, as where each runs one job of a batch.
+    pub fn each_passed_once(&self) -> bool {
+        self.passes_of_one.load(Ordering::SeqCst) == 1
+            && self.passes_of_two.load(Ordering::SeqCst) == 1
+    }
 }
 
 impl Gate for MeetingGate {

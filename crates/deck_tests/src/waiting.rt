@@ -44,6 +44,8 @@ pub fn print_meeting<R: Print + Threads + Wait + Sync>(
     print_put(rt, status, out.bytes(), gate.failures())?;
     let told = if gate.passes_are_whole_phases() {
         "equal, in whole phases"
+    } else if gate.each_passed_once() {
+        "one each"
     } else {
         "unequal"
     };

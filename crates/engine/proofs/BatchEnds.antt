@@ -27,13 +27,15 @@ use Rattle.batch_puts.proofs.Batches.{ends_of_jobs}
 use Rattle.batch_puts.specs.Batches.{IsBatch}
 use Rattle.batch_puts.specs.Ended.{NeverCut}
 use Rattle.listing_run.specs.Ends.{IsTask}
+use Rattle.listing_run.proofs.Stopping.{wanting_not_ok}
 use Rattle.listing_run.specs.declared.task.Task.{Task}
 use Rattle.engine.specs.declared.job.Job.{Job}
 use Rattle.engine.specs.Batches.{AskedBatch, BatchCase, Jobs, NoList, IsBatchCase, IsJobEnd, IsRunText, batch_asked, batch_case_of, batch_of, job_case, model_line}
 use Rattle.engine.specs.BatchReads.{AreTasks, IsFaultOf}
 use Rattle.engine.specs.BatchRuns.{AnyAnswers, AreValid, BatchAnswers, BatchDue, IsValidJob, defined, unread}
 use Rattle.engine.specs.Cases.{Refuses, asked_in, built}
-use Rattle.engine.specs.Parts.{Answers, IsReadingEnd, IsStopped}
+use Rattle.engine.specs.Parts.{AnswersBeside, IsReadingEnd, IsStopped}
+use Rattle.engine.proofs.Beside.{not_ok}
 use Rattle.engine.proofs.Ends.{ends_without_words, read_stops, wanting_stops}
 
 -- words that ask for a batch ask for no other command
@@ -127,16 +129,16 @@ valid_jobs jobs h = All-weaker (λ (job : Job). IfOk job.read IsTask) IsValidJob
     by_read (Ok k) t = t.model
     by_read (Err refusal) t = tt
 
-module _ (words : List Text) (files : Option (List File)) (n m : ℕ) (end : Status) (puts : List Put) where
-  pub any_batch : (b : AskedBatch) → Some b ≡ batch_asked words → BatchAnswers b files n m end puts → AnyAnswers words files n m end puts
-  any_batch b e h = let P : Option AskedBatch → Type 0 = λ o. MatchOption o (Answers words files n m end puts) (λ b. BatchAnswers b files n m end puts) in subst P e h
+module _ (words : List Text) (files : Option (List File)) (n m : ℕ) (S : Type 0) (L : List Put → Type 0) (end : Status) (puts : List Put) where
+  pub any_batch : (b : AskedBatch) → Some b ≡ batch_asked words → BatchAnswers b files n m end puts → AnyAnswers words files n m S L end puts
+  any_batch b e h = let P : Option AskedBatch → Type 0 = λ o. MatchOption o (AnswersBeside words files n m S L end puts) (λ b. BatchAnswers b files n m end puts) in subst P e h
 
-  pub any_other : None ≡ batch_asked words → Answers words files n m end puts → AnyAnswers words files n m end puts
-  any_other e h = let P : Option AskedBatch → Type 0 = λ o. MatchOption o (Answers words files n m end puts) (λ b. BatchAnswers b files n m end puts) in subst P e h
+  pub any_other : None ≡ batch_asked words → AnswersBeside words files n m S L end puts → AnyAnswers words files n m S L end puts
+  any_other e h = let P : Option AskedBatch → Type 0 = λ o. MatchOption o (AnswersBeside words files n m S L end puts) (λ b. BatchAnswers b files n m end puts) in subst P e h
 
-  pub any_lacks : IsWanting end puts → AnyAnswers words files n m end puts
+  pub any_lacks : IsWanting end puts → AnyAnswers words files n m S L end puts
   any_lacks h = by_option (batch_asked words)
     where
-      by_option : (o : Option AskedBatch) → MatchOption o (Answers words files n m end puts) (λ b. BatchAnswers b files n m end puts)
-      by_option None = ends_without_words words files n m end puts h
+      by_option : (o : Option AskedBatch) → MatchOption o (AnswersBeside words files n m S L end puts) (λ b. BatchAnswers b files n m end puts)
+      by_option None = not_ok words files n m S L end puts (ends_without_words words files n m end puts h) (wanting_not_ok end puts h)
       by_option (Some b) = batch_lacks b files n m end puts h

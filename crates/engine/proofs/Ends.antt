@@ -174,7 +174,7 @@ module _ (words : List Text) (files : Option (List File)) (n m : ℕ) (asked : A
   refused_case None refusal (read, valid, h) = (read, no_zones, no_steps, could_read read valid, case_by words asked wanted (λ name. read) (same_zones no_zones) (same_steps no_steps) (Err refusal) h)
 
   -- a model was read, and then its zones as z
-  zones_case : (files : Option (List File)) (f : FlowModel) (z : Result (Option (List ℕ)) InputFault) (known : Result (Option (List ℕ)) Refusal) → ((defined : Result (Option (List ℕ)) Refusal) → IsReading (λ x. x) defined z → defined ≡ known) → IsReadAs asked.name files (Ok f) → IsModel f → AreZonesAs asked.zones f files z → IsCase words files (case_zoned asked f known)
+  pub zones_case : (files : Option (List File)) (f : FlowModel) (z : Result (Option (List ℕ)) InputFault) (known : Result (Option (List ℕ)) Refusal) → ((defined : Result (Option (List ℕ)) Refusal) → IsReading (λ x. x) defined z → defined ≡ known) → IsReadAs asked.name files (Ok f) → IsModel f → AreZonesAs asked.zones f files z → IsCase words files (case_zoned asked f known)
   zones_case (Some fs) f z known same h model zones = zoned_by words asked wanted (reads fs) (zones_read fs) (listing_read fs) f known h (same (zones_read fs asked.zones f) zones)
   zones_case None f z known same (read, valid, h) model (zoned, fits, zones) =
       let is : read ≡ Ok f = named_read asked.name (λ name. read) f h in (

@@ -7,6 +7,10 @@ pub mod Outcomes
 pub mod StoredSteps
 pub mod Written
 pub mod Numbers
+pub mod Beside
+pub mod Mapped
+pub mod Viewed
+pub mod SideViews
 pub mod BatchEnds
 pub mod BatchOutcomes
 pub mod BatchReading

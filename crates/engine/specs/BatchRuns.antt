@@ -18,7 +18,7 @@ use Rattle.batch_puts.specs.Ended.{NeverCut}
 use Rattle.batch_puts.specs.Batches.{IsUnfinished}
 use Rattle.engine.specs.declared.job.Job.{Job}
 use Rattle.engine.specs.Batches.{AskedBatch, BatchCase, NoList, Jobs, IsBatchCase, BatchDefines, batch_asked, batch_case_of, job_task, names_read}
-use Rattle.engine.specs.Parts.{Answers, IsStopped}
+use Rattle.engine.specs.Parts.{AnswersBeside, IsStopped}
 use Rattle.engine.specs.Runs.{Puts, Decided, Comes}
 
 -- The pieces due if a batch has this end: those that its case defines; or, if a read failed, the line READFAULT alone, as all files are read before the first job runs.
@@ -64,8 +64,8 @@ abbrev pub BatchComes : Type 0 → AskedBatch → List File → Status → Type 
 BatchComes fault b files end = HasBatch b files → fault ⊎ ((end ≡ status.Ok) ⊎ (end ≡ status.Memory))
 
 -- What is said of a batch, where the words ask for one, and else what is said of another command.
-abbrev pub AnyPuts : (List Put → Type 0) → List Text → Option (List File) → ℕ → ℕ → Status → Type 0
-AnyPuts leads words files before after end = MatchOption (batch_asked words) (Puts leads words files before after end) (λ b. BatchPuts leads b files before after end)
+abbrev pub AnyPuts : (List Put → Type 0) → List Text → Option (List File) → ℕ → ℕ → Type 0 → Status → Type 0
+AnyPuts leads words files before after failed_beside end = MatchOption (batch_asked words) (Puts leads words files before after failed_beside end) (λ b. BatchPuts leads b files before after end)
 
 abbrev pub AnyDecided : Type 0 → List Text → List File → Status → Type 0
 AnyDecided fault words files end = MatchOption (batch_asked words) (Decided fault words files end) (λ b. BatchDecided fault b files end)
@@ -89,5 +89,5 @@ pub record BatchAnswers (b : AskedBatch) (files : Option (List File)) (before af
   pub run : IsBatchRun (Rose before after) case end puts
   pub valid : AreValid case end
 
-abbrev pub AnyAnswers : List Text → Option (List File) → ℕ → ℕ → Status → List Put → Type 0
-AnyAnswers words files before after end puts = MatchOption (batch_asked words) (Answers words files before after end puts) (λ b. BatchAnswers b files before after end puts)
+abbrev pub AnyAnswers : List Text → Option (List File) → ℕ → ℕ → Type 0 → (List Put → Type 0) → Status → List Put → Type 0
+AnyAnswers words files before after failed_beside leads end puts = MatchOption (batch_asked words) (AnswersBeside words files before after failed_beside leads end puts) (λ b. BatchAnswers b files before after end puts)

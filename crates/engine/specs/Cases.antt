@@ -38,9 +38,9 @@ pub data Command : Type 0 where
   Make : ℕ → ℕ → Command
   Check : AskedCheck → Command
 
--- The commands that are implemented: `run`, without a watching seat, `make`, and `check`. No definition has the number of workers.
+-- The commands that are implemented here. What is put does not depend on the number of workers, nor on views.
 abbrev pub built : Wanted → Option Command
-built (Lists name digits workers rounds zones None) = Some (Run (record { name = name; digits = digits; rounds = rounds; zones = zones }))
+built (Lists name digits workers rounds zones watch) = Some (Run (record { name = name; digits = digits; rounds = rounds; zones = zones }))
 built (Makes seed size) = Some (Make seed size)
 built (Checks name listing digits) = Some (Check (record { name = name; listing = listing; digits = digits }))
 built other = None

@@ -1,5 +1,5 @@
 -- The commands that are implemented, in the form of the code.
-use Rattle.std.specs.Prelude.{ℕ, ◌≤◌, option_map}
+use Rattle.std.specs.Prelude.{ℕ, ◌≤◌, Option, None, option_map}
 use Rattle.settle_driver.specs.Phases.{IsPlan}
 use Rattle.engine.specs.declared.asked.Asked.{Asked as AskedBy}
 use Rattle.engine.specs.declared.asked.AskedCheck.{AskedCheck as AskedCheckBy}
@@ -19,6 +19,11 @@ abbrev pub command_of : CommandBy → Command
 command_of (command.Run a) = Run (asked_of a)
 command_of (command.Make seed size) = Make seed size
 command_of (command.Check a) = Check (check_of a)
+
+-- the number of views in each phase
+abbrev pub views_of : CommandBy → Option ℕ
+views_of (command.Run a) = a.watch
+views_of other = None
 
 -- the ranges of its numbers
 abbrev pub IsAsked : AskedBy → Type 0

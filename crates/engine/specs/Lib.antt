@@ -6,6 +6,7 @@ pub mod OneListing
 pub mod Checked
 pub mod Commands
 pub mod Defined
+pub mod Watched
 pub mod Runs
 pub mod Storage
 pub mod Parts

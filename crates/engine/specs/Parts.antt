@@ -1,5 +1,5 @@
 -- What the parts of a run return and put.
-use Rattle.std.specs.Prelude.{◌≡◌, ◌⊎◌, ℕ, ℤ, List, map, unsigned_abs, Result, Ok, Err, Option, Some, None, IfOk, codes}
+use Rattle.std.specs.Prelude.{◌≡◌, ◌⊎◌, ℕ, ℤ, List, map, unsigned_abs, Result, Ok, Err, Option, Some, None, IfOk, IfSome, codes}
 use Rattle.outside.specs.Counts.{Rose}
 use Rattle.outside.specs.Files.{File}
 use Rattle.outside.specs.Puts.{Put}
@@ -30,7 +30,8 @@ use Rattle.check_run.specs.declared.verdict.Verdict.TheVariants.{Certified, Fail
 use Rattle.engine.specs.Cases.{AskedCheck, Case, Listing, Making, Checking, IsCase, listing_read, made_model, named, zones_named, zones_read}
 use Rattle.engine.specs.Checked.{certified_line}
 use Rattle.engine.specs.Made.{IsMade}
-use Rattle.engine.specs.Runs.{IsRunOf}
+use Rattle.engine.specs.Runs.{IsLeft, IsRunOf}
+use Rattle.engine.specs.Watched.{Watched, views_in}
 
 -- the puts of an end because of this fault of reading
 abbrev pub IsReadingEnd : InputFault → Status → List Put → Type 0
@@ -81,6 +82,11 @@ pub record Answers (words : List Text) (files : Option (List File)) (before afte
   pub is : IsCase words files case
   pub run : IsRunOf (Rose before after) case end puts
   pub valid : IsValid case end
+
+-- Facts of a run's result beside which a side sink is led so: all of the above, or it stopped since a write beside it failed; and the side sink got the views that are asked for.
+pub record AnswersBeside (words : List Text) (files : Option (List File)) (before after : ℕ) (failed_beside : Type 0) (leads : List Put → Type 0) (end : Status) (puts : List Put) : Type 0 where
+  pub answers : Answers words files before after end puts ⊎ ((case : Case) × IsCase words files case × IsLeft failed_beside case end puts)
+  pub watched : end ≡ status.Ok → (n : ℕ) → views_in words ≡ Some n → IfSome files (λ fs. Watched words fs n leads)
 
 -- The puts of an end with a summary, or without one.
 abbrev pub IsSummaryEnd : ℕ → ℕ → Task → Result Summary Stop → Status → List Put → Type 0

@@ -1,8 +1,8 @@
 -- What a run puts, how it ends, and which end is certain.
-use Rattle.std.specs.Prelude.{◌≡◌, ◌⊎◌, ℕ, List, Ok, Option}
+use Rattle.std.specs.Prelude.{◌≡◌, ◌⊎◌, ℕ, List, map, Ok, Option}
 use Rattle.outside.specs.Counts.{Rose}
 use Rattle.outside.specs.Files.{File}
-use Rattle.outside.specs.Puts.{Put}
+use Rattle.outside.specs.Puts.{Put, taken}
 use Rattle.step_problem.specs.declared.place.NoBound.{NoBound}
 use Rattle.model_types.specs.declared.model.FlowModel.{FlowModel}
 use Rattle.model_types.specs.declared.time_steps.TimeStep.{TimeStep}
@@ -24,14 +24,22 @@ use Rattle.engine.specs.Defined.{Defines, Due, CutOf}
 abbrev pub IsRunOf : Type 0 → Case → Status → List Put → Type 0
 IsRunOf read_failed case = IsRun (Due read_failed case) (CutOf case)
 
+-- A run that stopped since a write beside it failed has put the first pieces of a listing, each taken whole.
+pub record IsLeft (failed_beside : Type 0) (case : Case) (end : Status) (puts : List Put) : Type 0 where
+  pub why : failed_beside
+  pub is : end ≡ status.WriteFault
+  pub pieces : List Text
+  pub cut : CutOf case pieces
+  pub taken_whole : puts ≡ map taken pieces
+
 -- What a run puts, for every status: `leads` says which puts take the sink from its state before to its state after,
--- and the two numbers are the folder's counts of faults before and after.
-pub record Puts (leads : List Put → Type 0) (words : List Text) (files : Option (List File)) (before after : ℕ) (end : Status) : Type 0 where
+-- and the two numbers are the folder's counts of faults before and after. `failed_beside` says that a write to the side failed.
+pub record Puts (leads : List Put → Type 0) (words : List Text) (files : Option (List File)) (before after : ℕ) (failed_beside : Type 0) (end : Status) : Type 0 where
   pub case : Case
   pub is : IsCase words files case
   pub puts : List Put
   pub leads_on : leads puts
-  pub run : IsRunOf (Rose before after) case end puts
+  pub run : IsRunOf (Rose before after) case end puts ⊎ IsLeft failed_beside case end puts
 
 -- the rounds didn't settle a step
 abbrev pub IsUnfinished : Status → Type 0

@@ -3,7 +3,8 @@ ghost use Rattle.std.specs.Prelude.{◌≡◌, option_map, IfSome};
 ghost use Rattle.command_line.specs.Wants.{wanted};
 ghost use Rattle.command_line.specs.Ranges.{IsInRange};
 ghost use Rattle.engine.specs.Cases.{built};
-ghost use Rattle.engine.specs.Commands.{command_of, IsCommand};
+ghost use Rattle.engine.specs.Commands.{command_of, views_of, IsCommand};
+ghost use Rattle.engine.specs.Watched.{views_asked};
 
 use command_line::Order;
 use settle_driver::Plan;
@@ -11,14 +12,15 @@ use settle_driver::Plan;
 // The turns of a worker for each cell in a phase.
 const TURNS: u32 = 64;
 
-/// A listing that is asked for: the name of its name file, the digits of conductances, how each step is settled, and the
-/// name of a zone file, if there is one.
+/// A listing that is asked for: the name of its name file, the digits of conductances, how each step is settled, the name
+/// of a zone file, if there is one, and the number of views in each phase, if the heads are viewed.
 #[derive(Clone, Copy, Debug, PartialEq, Eq)]
 pub(crate) struct Asked<'a> {
     pub(crate) name: &'a str,
     pub(crate) digits: u32,
     pub(crate) plan: Plan,
     pub(crate) zones: Option<&'a str>,
+    pub(crate) watch: Option<u32>,
 }
 
 /// A check that is asked for: the name of its name file, that of the listing, and the digits of conductances.
@@ -51,6 +53,7 @@ pub(crate) fn command_of<'a>(order: Order<'a>) -> Option<Command<'a>>
     requires { IsInRange (wanted order) }
     ensures is { option_map command_of result ≡ built (wanted order.entry) }
     ensures in_range { IfSome result IsCommand }
+    ensures views { IfSome result (λ c. views_of c ≡ views_asked (wanted order.entry)) }
 {
     match order {
         Order::Run {
@@ -59,7 +62,7 @@ pub(crate) fn command_of<'a>(order: Order<'a>) -> Option<Command<'a>>
             workers,
             rounds,
             zones,
-            watch: None,
+            watch,
         } => Some(Command::Run(Asked {
             name,
             digits,
@@ -69,6 +72,7 @@ pub(crate) fn command_of<'a>(order: Order<'a>) -> Option<Command<'a>>
                 rounds,
             },
             zones,
+            watch,
         })),
         Order::Make { seed, size } => Some(Command::Make { seed, size }),
         Order::Check {

@@ -10,6 +10,8 @@ ghost use Rattle.engine.specs.BatchReads.{AreTasks};
 ghost use Rattle.engine.specs.BatchRuns.{AnyAnswers, BatchAnswers};
 ghost use Rattle.engine.specs.Batches.{IsJobEnd, batch_asked};
 ghost use Rattle.engine.specs.Cases.{asked_in, ReadsNothing};
+ghost use Rattle.engine.specs.Watched.{SidePuts, views_in};
+ghost use Rattle.outside.specs.Counts.{Rose};
 
 use crate::asked_batch::{BatchOrder, asked_batch};
 use crate::batch_jobs::ReadJobs;
@@ -69,12 +71,19 @@ fn put_batch<'a, R: Threads + Wait + Sync, F: Folder, K: Sink, G: Gate + Sync>(
 }
 
 /// Does what the words ask for: a batch, or another command.
-pub(crate) fn answer_any<R: Threads + Wait + Sync, F: Folder, K: Sink + Send, G: Gate + Sync>(
+pub(crate) fn answer_any<
+    R: Threads + Wait + Sync,
+    F: Folder,
+    K: Sink + Send,
+    W: Sink + Send,
+    G: Gate + Sync,
+>(
     rt: &R,
     alloc: Global,
     words: &[&str],
     folder: &mut F,
     out: &mut K,
+    side: &mut W,
     gate: &G,
 ) -> Status
     ensures since { (files : List File) → F.agrees folder.new files → F.agrees folder.old files }
@@ -83,11 +92,13 @@ pub(crate) fn answer_any<R: Threads + Wait + Sync, F: Folder, K: Sink + Send, G:
     ensures answers { (start : _) (puts : List Put) → K.leads start puts out.old →
         (more : List Put) × K.leads start (puts ++ more) out.new
         × ((files : Option (List File)) → IfSome files (F.agrees folder.new) →
-        AnyAnswers (map (λ w. w.now) words.now) files (F.faults folder.old) (F.faults folder.new) result more) }
+        AnyAnswers (map (λ w. w.now) words.now) files (F.faults folder.old) (F.faults folder.new)
+        (Rose (W.seen side.old).faults (W.seen side.new).faults) (λ puts. W.leads side.old puts side.new) result more) }
+    ensures side { SidePuts (λ puts. W.leads side.old puts side.new) (views_in (map (λ w. w.now) words.now)) }
 {
     match asked_batch(alloc, words) {
         Ok(Some(asked)) => put_batch(rt, alloc, asked, folder, out, gate),
-        Ok(None) => answer(rt, alloc, words, folder, out, gate),
+        Ok(None) => answer(rt, alloc, words, folder, out, side, gate),
         Err(AllocError) => put_memory(out),
     }
 }

@@ -1,4 +1,4 @@
-ghost use Rattle.std.specs.Prelude.{◌≡◌, ◌⊎◌, ℕ, List, [], map, IfSome, None, Option, Some};
+ghost use Rattle.std.specs.Prelude.{◌≡◌, ◌⊎◌, ℕ, List, map, IfSome, None, Option, Some};
 ghost use Rattle.outside.specs.Files.{File};
 ghost use Rattle.outside.specs.Counts.{Rose};
 ghost use Rattle.engine.specs.BatchRuns.{AnyPuts, AnyDecided, AnyComes};
@@ -10,6 +10,7 @@ ghost use Rattle.engine.specs.Headline.{Headline};
 ghost use Rattle.engine.specs.Made.{Made};
 ghost use Rattle.engine.specs.OneListing.{OneListing, OneSummary, OneVerdict};
 ghost use Rattle.engine.specs.Parts.{IsStopped};
+ghost use Rattle.engine.specs.Watched.{SidePuts, Watched, views_in};
 
 use crate::batching::answer_any;
 use check_run::laws::one_verdict;
@@ -33,10 +34,15 @@ pub fn run<R: Threads + Wait + Sync, F: Folder, K: Sink + Send, W: Sink + Send, 
     gate: &G,
 ) -> Status
     // What is put to `out`, for every status, with the status' cause, by the files that agree with all results of the
-    // folder, or by any files; and to `side`.
+    // folder, or by any files.
     ensures puts { (files : Option (List File)) → IfSome files (F.agrees folder.new) →
-        AnyPuts (λ puts. K.leads out.old puts out.new) (map (λ w. w.now) words.now) files (F.faults folder.old) (F.faults folder.new) result }
-    ensures side { W.leads side.old [] side.new }
+        AnyPuts (λ puts. K.leads out.old puts out.new) (map (λ w. w.now) words.now) files (F.faults folder.old) (F.faults folder.new)
+        (Rose (W.seen side.old).faults (W.seen side.new).faults) result }
+
+    // What is put to `side`: nothing without `--watch`, else texts. If the run ends Ok, they are the views of all steps.
+    ensures side { SidePuts (λ puts. W.leads side.old puts side.new) (views_in (map (λ w. w.now) words.now)) }
+    ensures watched { result ≡ Status.Ok → (n : ℕ) → views_in (map (λ w. w.now) words.now) ≡ Some n → (files : List File) →
+        F.agrees folder.new files → Watched (map (λ w. w.now) words.now) files n (λ puts. W.leads side.old puts side.new) }
 
     // Files that agree with all results of the folder agreed with it before.
     ensures since { (files : List File) → F.agrees folder.new files → F.agrees folder.old files }
@@ -81,18 +87,20 @@ pub fn run<R: Threads + Wait + Sync, F: Folder, K: Sink + Send, W: Sink + Send, 
 
     // These statuses have a count as their cause.
     ensures read_fault { result ≡ Status.ReadFault → Rose (F.faults folder.old) (F.faults folder.new) }
-    ensures write_fault { result ≡ Status.WriteFault → Rose (K.seen out.old).faults (K.seen out.new).faults }
+    ensures write_fault { result ≡ Status.WriteFault → Rose (K.seen out.old).faults (K.seen out.new).faults
+        ⊎ Rose (W.seen side.old).faults (W.seen side.new).faults }
 
     // The end that the words and files define is the end of the run, if nothing outside failed.
     ensures decided { (files : List File) → F.agrees folder.new files →
         AnyDecided (Rose (F.faults folder.old) (F.faults folder.new)
-        ⊎ Rose (K.seen out.old).faults (K.seen out.new).faults) (map (λ w. w.now) words.now) files result }
+        ⊎ (Rose (K.seen out.old).faults (K.seen out.new).faults
+        ⊎ Rose (W.seen side.old).faults (W.seen side.new).faults)) (map (λ w. w.now) words.now) files result }
     ensures complete { (files : List File) → F.agrees folder.new files →
         AnyComes (Rose (F.faults folder.old) (F.faults folder.new)
-        ⊎ Rose (K.seen out.old).faults (K.seen out.new).faults) (map (λ w. w.now) words.now) files result }
+        ⊎ (Rose (K.seen out.old).faults (K.seen out.new).faults
+        ⊎ Rose (W.seen side.old).faults (W.seen side.new).faults)) (map (λ w. w.now) words.now) files result }
 {
-    let _side = side;
     one_listing();
     one_verdict();
-    answer_any(rt, alloc, words, folder, out, gate)
+    answer_any(rt, alloc, words, folder, out, side, gate)
 }

@@ -16,6 +16,8 @@ mod making;
 mod reading;
 mod running;
 mod serving;
+mod view_lines;
+mod viewing;
 
 pub use commands::run;
 pub use run_puts::Status;

@@ -1,13 +1,16 @@
 // A listing by workers in threads.
-ghost use Rattle.std.specs.Prelude.{◌≡◌, List, ◌++◌};
+ghost use Rattle.std.specs.Prelude.{◌≡◌, List, ◌++◌, IfSome};
+ghost use Rattle.outside.specs.Counts.{Rose};
 ghost use Rattle.outside.specs.Puts.{Put};
 ghost use Rattle.run_puts.specs.Runs.{IsRun};
 ghost use Rattle.step_problem.specs.Heads.{IsBarrier};
 ghost use Rattle.step_problem.specs.Settling.{Settles};
 ghost use Rattle.settle_driver.specs.Phases.{IsPlan};
 ghost use Rattle.listing_run.specs.Ends.{IsTask};
-ghost use Rattle.listing_run.specs.Listing.{IsListing, IsCutListing};
+ghost use Rattle.listing_run.specs.Listing.{IsListing, IsListingBeside, IsCutListing};
+ghost use Rattle.engine.specs.Watched.{IsWatched, SidePuts};
 
+use crate::viewing::put_watched;
 use listing_run::{Task, put_steps};
 use near_settler::NearSettler;
 use outside::{Gate, Sink};
@@ -17,8 +20,8 @@ use std::alloc::Global;
 use std::thread::Threads;
 use step_problem::{Barrier, Bound, Problem, SettleFault};
 
-/// Puts the listing of a task, each step settled by this plan. Workers pass the gate before each turn.
-pub(crate) fn put_listing<R: Threads + Sync, K: Sink + Send, G: Gate + Sync>(
+// Puts the listing of a task, each step settled by this plan.
+fn put_unwatched<R: Threads + Sync, K: Sink + Send, G: Gate + Sync>(
     rt: &R,
     alloc: Global,
     task: &Task,
@@ -42,4 +45,31 @@ pub(crate) fn put_listing<R: Threads + Sync, K: Sink + Send, G: Gate + Sync>(
         { near.settle(alloc, p, b) },
     );
     put_steps(rt, alloc, task, &mut settler, out)
+}
+
+/// Puts the listing of a task, each step settled by this plan. Workers pass the gate before each turn. If a number of
+/// views is given, so many are put to the side sink in each phase.
+pub(crate) fn put_listing<R: Threads + Sync, K: Sink + Send, W: Sink + Send, G: Gate + Sync>(
+    rt: &R,
+    alloc: Global,
+    task: &Task,
+    plan: Plan,
+    views: Option<u32>,
+    out: &mut K,
+    side: &mut W,
+    gate: &G,
+) -> Status
+    requires task { IsTask task.now }
+    requires plan { IsPlan plan }
+    requires rounds { plan.rounds ≡ task.now.rounds }
+    ensures puts { (start : _) (puts : List Put) → K.leads start puts out.old →
+        (more : List Put) × K.leads start (puts ++ more) out.new
+        × IsRun (IsListingBeside (Rose (W.seen side.old).faults (W.seen side.new).faults) task.now) (IsCutListing task.now) result more
+        × (result ≡ Status.Ok → IfSome views (λ n. IsWatched task.now n (λ puts. W.leads side.old puts side.new))) }
+    ensures side { SidePuts (λ puts. W.leads side.old puts side.new) views }
+{
+    match views {
+        None => put_unwatched(rt, alloc, task, plan, out, gate),
+        Some(views) => put_watched(rt, alloc, task, plan, views, out, side, gate),
+    }
 }

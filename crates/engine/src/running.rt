@@ -1,10 +1,10 @@
-ghost use Rattle.std.specs.Prelude.{◌≡◌, ◌⊎◌, ℕ, List, [], ◌++◌, map, IfSome, Ok, Option, Some};
+ghost use Rattle.std.specs.Prelude.{◌≡◌, ◌⊎◌, ℕ, List, ◌++◌, map, IfSome, Ok, Option, Some};
 ghost use Rattle.outside.specs.Files.{File};
 ghost use Rattle.outside.specs.Puts.{Put};
 ghost use Rattle.outside.specs.Counts.{Rose};
 ghost use Rattle.model_types.specs.Valid.{IsModel};
 ghost use Rattle.run_puts.specs.Runs.{IsRun};
-ghost use Rattle.listing_run.specs.Listing.{IsListing, IsCutListing};
+ghost use Rattle.listing_run.specs.Listing.{IsListingBeside, IsCutListing};
 ghost use Rattle.listing_run.specs.Zones.{AreZones};
 ghost use Rattle.engine.specs.Headline.{Headline};
 ghost use Rattle.engine.specs.Runs.{Puts, Decided, Comes};
@@ -13,7 +13,8 @@ ghost use Rattle.engine.specs.Commands.{asked_of, IsAsked};
 ghost use Rattle.engine.specs.Made.{Made};
 ghost use Rattle.engine.specs.Certified.{Certified};
 ghost use Rattle.engine.specs.OneListing.{OneListing, OneSummary, OneVerdict};
-ghost use Rattle.engine.specs.Parts.{Answers, IsReadAs};
+ghost use Rattle.engine.specs.Parts.{AnswersBeside, IsReadAs};
+ghost use Rattle.engine.specs.Watched.{IsWatched, SidePuts, Watched, views_in};
 
 use crate::asked::{Asked, Command, command_of};
 use crate::checking::check;
@@ -37,9 +38,10 @@ const USAGE: &[u8] =
 /// Does what the words ask for. `run NAME` reads the model of that name file from the folder, and the zones of its cells
 /// if the words name a zone file, and puts its listing to `out`, step by step. `make SEED SIZE` makes a model, without the
 /// folder, and puts the summary of its listing. `check NAME LISTING` reads the model and a listing of it, whoever wrote
-/// it, and puts whether it is certified, or else the first place that fails. Nothing is put to `side`. Workers in threads
-/// settle each step, and pass the gate before each turn; a check has none. For a batch, which only `run` does, it puts
-/// the usage line; and for a watching seat, which isn't implemented.
+/// it, and puts whether it is certified, or else the first place that fails. Workers in threads settle each step, and pass
+/// the gate before each turn; a check has none. With `--watch N` one more seat makes N views of the heads in each phase, and
+/// each is put to `side` as one piece, up to the first put that fails; the run then ends, with WriteFault if a write
+/// failed. For a batch, which only `run` does, it puts the usage line.
 pub fn run_one<R: Threads + Sync, F: Folder, K: Sink + Send, W: Sink + Send, G: Gate + Sync>(
     rt: &R,
     alloc: Global,
@@ -50,10 +52,15 @@ pub fn run_one<R: Threads + Sync, F: Folder, K: Sink + Send, W: Sink + Send, G: 
     gate: &G,
 ) -> Status
     // What is put to `out`, for every status, with the status' cause, by the files that agree with all results of the
-    // folder, or by any files; and to `side`.
+    // folder, or by any files.
     ensures puts { (files : Option (List File)) → IfSome files (F.agrees folder.new) →
-        Puts (λ puts. K.leads out.old puts out.new) (map (λ w. w.now) words.now) files (F.faults folder.old) (F.faults folder.new) result }
-    ensures side { W.leads side.old [] side.new }
+        Puts (λ puts. K.leads out.old puts out.new) (map (λ w. w.now) words.now) files (F.faults folder.old) (F.faults folder.new)
+        (Rose (W.seen side.old).faults (W.seen side.new).faults) result }
+
+    // What is put to `side`: nothing without `--watch`, else texts. If the run ends Ok, they are the views of all steps.
+    ensures side { SidePuts (λ puts. W.leads side.old puts side.new) (views_in (map (λ w. w.now) words.now)) }
+    ensures watched { result ≡ Status.Ok → (n : ℕ) → views_in (map (λ w. w.now) words.now) ≡ Some n → (files : List File) →
+        F.agrees folder.new files → Watched (map (λ w. w.now) words.now) files n (λ puts. W.leads side.old puts side.new) }
 
     // Files that agree with all results of the folder agreed with it before.
     ensures since { (files : List File) → F.agrees folder.new files → F.agrees folder.old files }
@@ -87,29 +94,32 @@ pub fn run_one<R: Threads + Sync, F: Folder, K: Sink + Send, W: Sink + Send, G: 
 
     // These statuses have a count as their cause.
     ensures read_fault { result ≡ Status.ReadFault → Rose (F.faults folder.old) (F.faults folder.new) }
-    ensures write_fault { result ≡ Status.WriteFault → Rose (K.seen out.old).faults (K.seen out.new).faults }
+    ensures write_fault { result ≡ Status.WriteFault → Rose (K.seen out.old).faults (K.seen out.new).faults
+        ⊎ Rose (W.seen side.old).faults (W.seen side.new).faults }
 
     // The end that the words and files define is the end of the run, if nothing outside failed.
     ensures decided { (files : List File) → F.agrees folder.new files →
         Decided (Rose (F.faults folder.old) (F.faults folder.new)
-        ⊎ Rose (K.seen out.old).faults (K.seen out.new).faults) (map (λ w. w.now) words.now) files result }
+        ⊎ (Rose (K.seen out.old).faults (K.seen out.new).faults
+        ⊎ Rose (W.seen side.old).faults (W.seen side.new).faults)) (map (λ w. w.now) words.now) files result }
     ensures complete { (files : List File) → F.agrees folder.new files →
         Comes (Rose (F.faults folder.old) (F.faults folder.new)
-        ⊎ Rose (K.seen out.old).faults (K.seen out.new).faults) (map (λ w. w.now) words.now) files result }
+        ⊎ (Rose (K.seen out.old).faults (K.seen out.new).faults
+        ⊎ Rose (W.seen side.old).faults (W.seen side.new).faults)) (map (λ w. w.now) words.now) files result }
 {
-    let _side = side;
     one_listing();
     one_verdict();
-    answer(rt, alloc, words, folder, out, gate)
+    answer(rt, alloc, words, folder, out, side, gate)
 }
 
 // Does what the words ask for, but a batch.
-pub(crate) fn answer<R: Threads + Sync, F: Folder, K: Sink + Send, G: Gate + Sync>(
+pub(crate) fn answer<R: Threads + Sync, F: Folder, K: Sink + Send, W: Sink + Send, G: Gate + Sync>(
     rt: &R,
     alloc: Global,
     words: &[&str],
     folder: &mut F,
     out: &mut K,
+    side: &mut W,
     gate: &G,
 ) -> Status
     ensures since { (files : List File) → F.agrees folder.new files → F.agrees folder.old files }
@@ -117,7 +127,9 @@ pub(crate) fn answer<R: Threads + Sync, F: Folder, K: Sink + Send, G: Gate + Syn
     ensures answers { (start : _) (puts : List Put) → K.leads start puts out.old →
         (more : List Put) × K.leads start (puts ++ more) out.new
         × ((files : Option (List File)) → IfSome files (F.agrees folder.new) →
-        Answers (map (λ w. w.now) words.now) files (F.faults folder.old) (F.faults folder.new) result more) }
+        AnswersBeside (map (λ w. w.now) words.now) files (F.faults folder.old) (F.faults folder.new)
+        (Rose (W.seen side.old).faults (W.seen side.new).faults) (λ puts. W.leads side.old puts side.new) result more) }
+    ensures side { SidePuts (λ puts. W.leads side.old puts side.new) (views_in (map (λ w. w.now) words.now)) }
 {
     let order = match read_order(alloc, words) {
         Ok(order) => order,
@@ -126,29 +138,32 @@ pub(crate) fn answer<R: Threads + Sync, F: Folder, K: Sink + Send, G: Gate + Syn
     };
     match command_of(order) {
         None => put_last(out, USAGE, Status::Usage),
-        Some(Command::Run(asked)) => list(rt, alloc, asked, folder, out, gate),
+        Some(Command::Run(asked)) => list(rt, alloc, asked, folder, out, side, gate),
         Some(Command::Make { seed, size }) => put_made(rt, alloc, seed, size, out, gate),
         Some(Command::Check(asked)) => check(alloc, asked, folder, out),
     }
 }
 
 // Puts the listing of a model.
-fn put_model<'a, R: Threads + Sync, K: Sink + Send, G: Gate + Sync>(
+fn put_model<'a, R: Threads + Sync, K: Sink + Send, W: Sink + Send, G: Gate + Sync>(
     rt: &R,
     alloc: Global,
     asked: Asked<'a>,
     model: FlowModel,
     zones: Option<Listed<u32>>,
     out: &mut K,
+    side: &mut W,
     gate: &G,
 ) -> Status
     requires asked { IsAsked asked }
     requires model { IsModel model }
     requires zones { AreZones model zones }
-    ensures { (start : _) (puts : List Put) → K.leads start puts out.old →
+    ensures puts { (start : _) (puts : List Put) → K.leads start puts out.old →
         (more : List Put) × K.leads start (puts ++ more) out.new
-        × IsRun (IsListing (task_of (asked_of asked.entry) model zones))
-        (IsCutListing (task_of (asked_of asked.entry) model zones)) result more }
+        × IsRun (IsListingBeside (Rose (W.seen side.old).faults (W.seen side.new).faults) (task_of (asked_of asked.entry) model zones))
+        (IsCutListing (task_of (asked_of asked.entry) model zones)) result more
+        × (result ≡ Status.Ok → IfSome asked.entry.watch (λ n. IsWatched (task_of (asked_of asked.entry) model zones) n (λ puts. W.leads side.old puts side.new))) }
+    ensures side { SidePuts (λ puts. W.leads side.old puts side.new) asked.entry.watch }
 {
     let task = Task {
         model,
@@ -156,17 +171,18 @@ fn put_model<'a, R: Threads + Sync, K: Sink + Send, G: Gate + Sync>(
         zones,
         rounds: asked.plan.rounds,
     };
-    put_listing(rt, alloc, &task, asked.plan, out, gate)
+    put_listing(rt, alloc, &task, asked.plan, asked.watch, out, side, gate)
 }
 
 // Reads the zones of a model's cells, and puts its listing.
-fn list_model<'a, R: Threads + Sync, F: Folder, K: Sink + Send, G: Gate + Sync>(
+fn list_model<'a, R: Threads + Sync, F: Folder, K: Sink + Send, W: Sink + Send, G: Gate + Sync>(
     rt: &R,
     alloc: Global,
     asked: Asked<'a>,
     model: FlowModel,
     folder: &mut F,
     out: &mut K,
+    side: &mut W,
     gate: &G,
 ) -> Status
     requires asked { IsAsked asked }
@@ -174,36 +190,41 @@ fn list_model<'a, R: Threads + Sync, F: Folder, K: Sink + Send, G: Gate + Sync>(
     ensures since { (files : List File) → F.agrees folder.new files → F.agrees folder.old files }
     ensures answers { (start : _) (puts : List Put) → K.leads start puts out.old →
         (more : List Put) × K.leads start (puts ++ more) out.new
-        × ((words : List (List ℕ)) → asked_in words ≡ Some (Run (asked_of asked.entry)) →
+        × ((words : List (List ℕ)) → asked_in words ≡ Some (Run (asked_of asked.entry)) → views_in words ≡ asked.entry.watch →
         (files : Option (List File)) → IfSome files (F.agrees folder.new) →
         IsReadAs (asked_of asked.entry).name files (Ok model) →
-        Answers words files (F.faults folder.old) (F.faults folder.new) result more) }
+        AnswersBeside words files (F.faults folder.old) (F.faults folder.new)
+        (Rose (W.seen side.old).faults (W.seen side.new).faults) (λ puts. W.leads side.old puts side.new) result more) }
+    ensures side { SidePuts (λ puts. W.leads side.old puts side.new) asked.entry.watch }
 {
     match read_zones_of(alloc, &model, asked.zones, folder) {
-        Ok(zones) => put_model(rt, alloc, asked, model, zones, out, gate),
+        Ok(zones) => put_model(rt, alloc, asked, model, zones, out, side, gate),
         Err(fault) => end_reading(alloc, fault, out),
     }
 }
 
 // Puts the listing of a model of the folder.
-fn list<'a, R: Threads + Sync, F: Folder, K: Sink + Send, G: Gate + Sync>(
+fn list<'a, R: Threads + Sync, F: Folder, K: Sink + Send, W: Sink + Send, G: Gate + Sync>(
     rt: &R,
     alloc: Global,
     asked: Asked<'a>,
     folder: &mut F,
     out: &mut K,
+    side: &mut W,
     gate: &G,
 ) -> Status
     requires { IsAsked asked }
     ensures since { (files : List File) → F.agrees folder.new files → F.agrees folder.old files }
     ensures answers { (start : _) (puts : List Put) → K.leads start puts out.old →
         (more : List Put) × K.leads start (puts ++ more) out.new
-        × ((words : List (List ℕ)) → asked_in words ≡ Some (Run (asked_of asked.entry)) →
+        × ((words : List (List ℕ)) → asked_in words ≡ Some (Run (asked_of asked.entry)) → views_in words ≡ asked.entry.watch →
         (files : Option (List File)) → IfSome files (F.agrees folder.new) →
-        Answers words files (F.faults folder.old) (F.faults folder.new) result more) }
+        AnswersBeside words files (F.faults folder.old) (F.faults folder.new)
+        (Rose (W.seen side.old).faults (W.seen side.new).faults) (λ puts. W.leads side.old puts side.new) result more) }
+    ensures side { SidePuts (λ puts. W.leads side.old puts side.new) asked.entry.watch }
 {
     match read_named(alloc, folder, asked.name) {
-        Ok(model) => list_model(rt, alloc, asked, model, folder, out, gate),
+        Ok(model) => list_model(rt, alloc, asked, model, folder, out, side, gate),
         Err(fault) => end_reading(alloc, fault, out),
     }
 }

@@ -1,8 +1,10 @@
 // A program's run, and the number that it ends with.
-ghost use Rattle.std.specs.Prelude.{List, [], map};
+ghost use Rattle.std.specs.Prelude.{List, map};
 ghost use Rattle.std.specs.Process.{exit_status};
 ghost use Rattle.outside.specs.Puts.{Put};
+ghost use Rattle.outside.specs.Counts.{Rose};
 ghost use Rattle.engine.specs.Serving.{Serves};
+ghost use Rattle.engine.specs.Watched.{SidePuts, views_in};
 
 use crate::commands::run;
 use outside::{Folder, Gate, Sink};
@@ -21,8 +23,9 @@ pub fn serve<R: Threads + Wait + Sync, F: Folder, K: Sink + Send, W: Sink + Send
     side: &mut W,
     gate: &G,
 ) -> ExitCode
-    ensures serves { Serves (λ puts. K.leads out.old puts out.new) (F.agrees folder.new) (map (λ w. w.now) words.now) (F.faults folder.old) (F.faults folder.new) (K.seen out.old) (K.seen out.new) (exit_status result) }
-    ensures side { W.leads side.old [] side.new }
+    ensures serves { Serves (λ puts. K.leads out.old puts out.new) (F.agrees folder.new) (map (λ w. w.now) words.now) (F.faults folder.old) (F.faults folder.new)
+        (Rose (W.seen side.old).faults (W.seen side.new).faults) (K.seen out.old) (K.seen out.new) (exit_status result) }
+    ensures side { SidePuts (λ puts. W.leads side.old puts side.new) (views_in (map (λ w. w.now) words.now)) }
 {
     let status = run(rt, alloc, words, folder, out, side, gate);
     ExitCode::from(status.code())

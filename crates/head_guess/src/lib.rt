@@ -6,6 +6,7 @@ mod descend;
 mod flows;
 mod gallop;
 mod guess;
+mod half;
 mod known;
 mod linear;
 mod links;
@@ -18,6 +19,8 @@ mod search;
 mod slopes;
 mod solver;
 mod state;
+mod steps;
 mod ways;
 
 pub use guess::{Guess, guess_heads};
+pub use steps::Kept;

@@ -84,3 +84,15 @@ impl Linear {
         Ok(room)
     }
 }
+
+/// The room at each cell of a kept system; no room where none is kept.
+pub fn room_of(
+    alloc: Global,
+    kept: &mut Option<Linear>,
+    budget: &mut Budget,
+) -> Result<Vec<i64>, AllocError> {
+    match kept {
+        Some(linear) => linear.room(alloc, budget),
+        None => Ok(Vec::new(alloc)),
+    }
+}

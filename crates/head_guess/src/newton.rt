@@ -7,13 +7,6 @@ use multigrid::Budget;
 use multigrid::numbers::{at, cut, put, shifted, width};
 use std::alloc::{AllocError, Global};
 
-/// Heads near those at which each balance is 0, and the room at each cell there, in units of 2^-10.
-#[derive(Drop)]
-pub struct Balanced {
-    pub heads: Vec<i64>,
-    pub room: Vec<i64>,
-}
-
 const MOST_ROUNDS: u32 = 60;
 
 // Where all balances are straight, a round is the last one if it began with shorter moves than these, by each balance
@@ -21,6 +14,9 @@ const MOST_ROUNDS: u32 = 60;
 const SHORT: i64 = 1 << 12;
 
 const LONG: i128 = 1 << 26;
+
+// Where some balances bend, a round is the last one if it moves no head by more than these units: few cells pass a bend.
+const NEAR: i128 = 256;
 
 #[derive(Drop)]
 struct Newton {
@@ -100,19 +96,19 @@ impl Newton {
         let places = 20_i64.saturating_sub(width(alone as i128) as i64);
         let unknowns = linear.correction(self.balances.as_slice(), places, budget);
         let longest = self.advance(side, unknowns, places);
-        longest <= 1 || (alone < SHORT && longest < LONG && side.links.are_straight())
+        longest <= NEAR || (alone < SHORT && longest < LONG && side.links.are_straight())
     }
 }
 
-/// Newton's method from these heads, until no head moves by more than a unit, or its rounds or the budget end. A linear
-/// system is kept from one call to the next.
+/// Heads near those at which each balance is 0, by Newton's method from these heads, until no head moves by more than a few units, or its
+/// rounds or the budget end. A linear system is kept from one call to the next.
 pub fn find_balanced(
     alloc: Global,
     side: &OneSide,
     heads: Vec<i64>,
     kept: &mut Option<Linear>,
     budget: &mut Budget,
-) -> Result<Balanced, AllocError> {
+) -> Result<Vec<i64>, AllocError> {
     let mut newton = Newton::new(alloc, heads)?;
     newton.linearize(side);
     let mut linear = Linear::of(alloc, side, &newton.slopes, kept.take(), budget)?;
@@ -123,10 +119,6 @@ pub fn find_balanced(
         newton.linearize(side);
         linear = Linear::of(alloc, side, &newton.slopes, Some(linear), budget)?;
     }
-    let room = linear.room(alloc, budget)?;
     *kept = Some(linear);
-    Ok(Balanced {
-        heads: newton.heads,
-        room,
-    })
+    Ok(newton.heads)
 }

@@ -1,11 +1,17 @@
 // A search for settled heads below balanced ones.
-use crate::newton::Balanced;
 use crate::one_side::OneSide;
 use crate::raise::raise_within;
 use crate::state::State;
 use multigrid::Budget;
 use multigrid::numbers::{at, greatest};
 use std::alloc::{AllocError, Global};
+
+/// Heads near those at which each balance is 0, and the room at each cell there, in units of 2^-10.
+#[derive(Drop)]
+pub struct Balanced {
+    pub heads: Vec<i64>,
+    pub room: Vec<i64>,
+}
 
 /// Settled heads, and how far below the balanced ones the search started: by this share of the room, in units of
 /// 2^-20.

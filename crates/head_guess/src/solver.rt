@@ -82,8 +82,9 @@ impl Solver {
 
     /// Whether these slopes are nearly the solver's own: within the few units by which lower and upper conductances differ.
     pub fn serves(&self, slopes: &[i64]) -> bool {
-        self.slopes.iter().zip(slopes).all(|(own, slope)| own.abs_diff(*slope)
-            <= 16_u64.saturating_add(slope.unsigned_abs() >> 20))
+        self.slopes.len() == slopes.len()
+            && self.slopes.iter().zip(slopes).all(|(own, slope)| own.abs_diff(*slope)
+                <= 16_u64.saturating_add(slope.unsigned_abs() >> 20))
     }
 
     /// Sets the right side, numbers of the problem's unit times 2^places.

@@ -5,11 +5,14 @@ use Rattle.std.proofs.lemmas.List.Concat.{flat_map-cons, flat_map-append}
 use Rattle.record_lines.specs.Reading.{for_each}
 use Rattle.record_lines.proofs.Loops.{with_front, regroup}
 use Rattle.step_problem.specs.declared.heads.Bound.{Bound}
+use Rattle.step_problem.specs.Entries.{Entries, entries_at}
+use Rattle.model_types.specs.declared.grid.Grid.{Grid}
 use Rattle.model_types.specs.declared.model.FlowModel.{FlowModel}
 use Rattle.model_types.specs.Layers.{is_active}
 use Rattle.listing_io.specs.declared.fault.Fault.{Fault}
 use Rattle.listing_io.specs.declared.fault.Fault.TheVariants.{BadLine, Memory}
 use Rattle.listing_io.specs.Listing.{Line, ended, text_of, head_front, head_line, head_lines}
+use Rattle.listing_io.specs.Views.{variable_lines}
 use Rattle.listing_io.specs.Reading.{Left, Stops, head_if, heads_at}
 
 -- the cells whose heads are read
@@ -66,6 +69,22 @@ pub cells_written : (m : FlowModel) (bs : List Bound) (i : ℕ) (t whole : List 
 unfolding head_lines
 cells_written m bs i t whole le h =
     let one : t ++ text_of (head_lines m i (drop i bs)) ≡ t = rw (drop_all i bs le) (append-nil t) in
+    sym one ∙ h
+
+-- the variable cells whose heads are written
+pub variable_written : (g : Grid) (p : List Entries) (bs : List Bound) (i : ℕ) (d : Bound) (t whole : List ℕ) → i < length bs → t ++ text_of (variable_lines g p i (drop i bs)) ≡ whole
+    → (t ++ ended (head_line g (entries_at p i).id (get_or bs i d))) ++ text_of (variable_lines g p (i + 1) (drop (i + 1) bs)) ≡ whole
+unfolding variable_lines
+variable_written g p bs i d t whole lt h =
+    let row = head_line g (entries_at p i).id (get_or bs i d) in
+    let rest = variable_lines g p (i + 1) (drop (i + 1) bs) in
+    let one : t ++ text_of (variable_lines g p i (drop i bs)) ≡ (t ++ ended row) ++ text_of rest = rw (next_of bs i d lt) (ap (λ (xs : List ℕ). t ++ xs) (flat_map-cons ended row rest) ∙ sym (append_assoc t (ended row) (text_of rest))) in
+    sym one ∙ h
+
+pub variables_written : (g : Grid) (p : List Entries) (bs : List Bound) (i : ℕ) (t whole : List ℕ) → length bs ≤ i → t ++ text_of (variable_lines g p i (drop i bs)) ≡ whole → t ≡ whole
+unfolding variable_lines
+variables_written g p bs i t whole le h =
+    let one : t ++ text_of (variable_lines g p i (drop i bs)) ≡ t = rw (drop_all i bs le) (append-nil t) in
     sym one ∙ h
 
 -- one more line of a list of lines

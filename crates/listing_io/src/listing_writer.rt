@@ -90,7 +90,12 @@ fn head_pair(bound: Bound) -> TermPair
     }
 }
 
-fn push_head(text: &mut Vec<u8>, grid: &Grid, cell: u32, bound: Bound) -> Result<(), AllocError>
+pub(crate) fn push_head(
+    text: &mut Vec<u8>,
+    grid: &Grid,
+    cell: u32,
+    bound: Bound,
+) -> Result<(), AllocError>
     requires { HasSize grid.now }
     ensures { IfOk result (λ _. text.new.items ≡ text.old.items ++ ended (head_line grid.now cell bound)) }
 {

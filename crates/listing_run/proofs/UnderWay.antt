@@ -111,7 +111,7 @@ module _ (k : Task) where
         solved = solved_more old at rest u.values w.value heads u.solved w.is w.same w.encloses;
       }
 
-  cut_listing : (old : List Bound) (rest : List TimeStep) (pending : Text) (puts : List Put) (u : IsUnderWay old rest pending puts) → IsCutListing k (begun k u.values)
+  pub cut_listing : (old : List Bound) (rest : List TimeStep) (pending : Text) (puts : List Put) (u : IsUnderWay old rest pending puts) → IsCutListing k (begun k u.values)
   cut_listing old rest pending puts u = record { values = u.values; steps = ended old rest u.values Cut u.solved tt; are = refl }
 
   abbrev IsRunOf : Status → List Put → Type 0

@@ -1,6 +1,8 @@
 -- Facts that the calls of a run over the steps pass to each other.
-use Rattle.std.specs.Prelude.{◌≡◌, ℕ, List, ◌≤◌, Option}
+use Rattle.std.specs.Prelude.{◌≡◌, ℕ, List, [], ◌≤◌, Option}
 use Rattle.outside.specs.Puts.{Put}
+use Rattle.outside.specs.declared.traits.SinkError.{SinkError}
+use Rattle.outside.specs.declared.traits.SinkError.TheVariants as error
 use Rattle.step_problem.specs.declared.heads.Bound.{Bound}
 use Rattle.model_types.specs.declared.time_steps.TimeStep.{TimeStep}
 use Rattle.model_types.specs.Valid.{IsModel}
@@ -66,3 +68,8 @@ abbrev pub IsStepEnd : Task → TimeStep → Fault → Status → List Put → T
 IsStepEnd k at (fault.NoBound n) end tail = IsEnd (no_bound_line k.model.grid at n) (status.NoBound at.period at.step n) end tail
 IsStepEnd k at fault.Unfinished end tail = IsEnd (unfinished_line at) (status.Unfinished at.period at.step) end tail
 IsStepEnd k at fault.Memory end tail = IsWanting end tail
+
+-- the puts of an end because the settler had to stop: none after a failed write
+abbrev pub IsStopEnd : SinkError → Status → List Put → Type 0
+IsStopEnd error.Write end tail = (end ≡ status.WriteFault) × (tail ≡ [])
+IsStopEnd error.Memory end tail = IsWanting end tail

@@ -50,3 +50,8 @@ pub record IsCutListing (k : Task) (pieces : List Text) : Type 0 where
   pub values : List Step
   pub steps : AllSteps k values Cut
   pub are : pieces ≡ begun k values
+
+-- the pieces of a listing that ends so; or, where a write beside it failed, the first ones of a listing
+pub data IsListingBeside (failed : Type 0) (k : Task) : Status → List Text → Type 0 where
+  listed : (end : Status) (pieces : List Text) → IsListing k end pieces → IsListingBeside failed k end pieces
+  left : (pieces : List Text) → failed → IsCutListing k pieces → IsListingBeside failed k status.WriteFault pieces

@@ -1,12 +1,14 @@
 // Putting the steps, each while the next one is solved.
-ghost use Rattle.std.specs.Prelude.{◌≡◌, List, ◌++◌, Contains, IfOk, IfErr, MatchResult};
+ghost use Rattle.std.specs.Prelude.{◌≡◌, List, ◌++◌, Contains, IfOk, IfErr, MatchResult, None, Some};
 ghost use Rattle.outside.specs.Puts.{Put};
+ghost use Rattle.outside.specs.declared.traits.SinkError.TheVariants.{Write};
 ghost use Rattle.model_types.specs.Times.{times};
 ghost use Rattle.problem_builder.specs.GridHeads.{AreGridHeads};
 ghost use Rattle.run_puts.specs.Ends.{IsPut, IsLast, IsWanting};
 ghost use Rattle.run_puts.specs.Runs.{IsRun};
-ghost use Rattle.listing_run.specs.Listing.{IsListing, IsCutListing};
-ghost use Rattle.listing_run.specs.Ends.{IsTask, AreTablesOf, FailsBy, IsWritten, IsStepEnd};
+ghost use Rattle.listing_run.specs.Listing.{IsListingBeside, IsCutListing};
+ghost use Rattle.listing_run.specs.Settlers.{AllSettledBy, IsSettledBy, Reaches, RestsOrSettles};
+ghost use Rattle.listing_run.specs.Ends.{IsTask, AreTablesOf, FailsBy, IsWritten, IsStepEnd, IsStopEnd};
 
 use crate::begin::{Begun, begin};
 use crate::solving::{Written, solve_text};
@@ -14,8 +16,9 @@ use crate::step::Fault;
 use crate::task::Task;
 use listing_io::{write_no_bound, write_unfinished};
 use model_types::TimeStep;
-use outside::Sink;
+use outside::{Sink, SinkError};
 use run_puts::{Status, put_last, put_memory, put_piece};
+use settle_driver::StepSettler;
 use std::alloc::{AllocError, Global};
 use std::thread::{Threads, join_mut};
 use step_chain::RunTables;
@@ -46,6 +49,7 @@ fn put_while_solving<R: Threads + Sync, K: Sink + Send, S: Settler>(
     ensures tables { AreTablesOf task.now tables.new }
     ensures written { IfOk result.1 (λ w. IsWritten task.now at old.now w.heads.items w.text.items) }
     ensures fault { IfErr result.1 (FailsBy task.now at old.now) }
+    ensures led { MatchResult result.1 (λ _. IsSettledBy S.leads task.now at old.now settler.old settler.new) (λ _. RestsOrSettles S.leads settler.old settler.new) }
 {
     join_mut(
         rt,
@@ -99,8 +103,29 @@ fn end_at<K: Sink>(alloc: Global, task: &Task, at: TimeStep, fault: Fault, out: 
     }
 }
 
+// Ends a run whose settler has to stop.
+fn end_stopped<K: Sink>(error: SinkError, out: &mut K) -> Status
+    ensures { (start : _) (puts : List Put) → K.leads start puts out.old →
+        (tail : List Put) × K.leads start (puts ++ tail) out.new × IsStopEnd error result tail }
+{
+    match error {
+        SinkError::Write => Status::WriteFault,
+        SinkError::Memory => put_memory(out),
+    }
+}
+
+// Tells a settler the time of a step.
+fn tell<S: StepSettler>(settler: &mut S, at: TimeStep)
+    requires ready { S.ready settler.old }
+    ensures begins { S.begins settler.old at.period at.step settler.new }
+    ensures rounds { S.rounds settler.new ≡ S.rounds settler.old }
+    ensures ready { S.ready settler.new }
+{
+    settler.begin(at.period, at.step);
+}
+
 // Puts the first line, each step while the next one is solved, and the last line.
-fn put_listing<R: Threads + Sync, K: Sink + Send, S: Settler>(
+fn put_listing<R: Threads + Sync, K: Sink + Send, S: StepSettler>(
     rt: &R,
     alloc: Global,
     task: &Task,
@@ -110,10 +135,14 @@ fn put_listing<R: Threads + Sync, K: Sink + Send, S: Settler>(
 ) -> Status
     requires ready { S.ready settler.old }
     requires rounds { S.rounds settler.old ≡ task.now.rounds }
+    requires goes_on { S.stop settler.old ≡ None }
     requires task { IsTask task.now }
     requires tables { AreTablesOf task.now tables.old }
-    ensures { (start : _) (puts : List Put) → K.leads start puts out.old →
-        (more : List Put) × K.leads start (puts ++ more) out.new × IsRun (IsListing task.now) (IsCutListing task.now) result more }
+    ensures puts { (start : _) (puts : List Put) → K.leads start puts out.old →
+        (more : List Put) × K.leads start (puts ++ more) out.new
+        × IsRun (IsListingBeside (S.stop settler.new ≡ Some Write) task.now) (IsCutListing task.now) result more
+        × (result ≡ Status.Ok → AllSettledBy S.begins S.leads S.stop task.now settler.old settler.new) }
+    ensures reaches { Reaches S.begins S.leads S.stop settler.old settler.new }
 {
     let Ok(begun) = begin(alloc, task) else {
         return put_memory(out);
@@ -124,6 +153,7 @@ fn put_listing<R: Threads + Sync, K: Sink + Send, S: Settler>(
         mut pending,
     } = begun;
     for at in times.as_slice() {
+        tell(settler, *at);
         let (put, next) = put_while_solving(
             rt,
             alloc,
@@ -137,6 +167,9 @@ fn put_listing<R: Threads + Sync, K: Sink + Send, S: Settler>(
         );
         if let Some(status) = put {
             return status;
+        }
+        if let Some(error) = settler.stop() {
+            return end_stopped(error, out);
         }
         match next {
             Ok(written) => {
@@ -152,9 +185,10 @@ fn put_listing<R: Threads + Sync, K: Sink + Send, S: Settler>(
     put_last(out, b"END\n", Status::Ok)
 }
 
-/// Puts the listing of a task: the first line, each step while the next one is solved, and the last line. A failed
-/// put ends it, whatever the next step's result.
-pub fn put_steps<R: Threads + Sync, K: Sink + Send, S: Settler>(
+/// Puts the listing of a task: the first line, each step while the next one is solved, and the last line. The settler is
+/// told the time of each step. A failed put ends the run, whatever the next step's result; then a settler that has to
+/// stop does, with WriteFault where it failed to write, or else with the line MEMORY.
+pub fn put_steps<R: Threads + Sync, K: Sink + Send, S: StepSettler>(
     rt: &R,
     alloc: Global,
     task: &Task,
@@ -163,9 +197,13 @@ pub fn put_steps<R: Threads + Sync, K: Sink + Send, S: Settler>(
 ) -> Status
     requires ready { S.ready settler.old }
     requires rounds { S.rounds settler.old ≡ task.now.rounds }
+    requires goes_on { S.stop settler.old ≡ None }
     requires task { IsTask task.now }
-    ensures { (start : _) (puts : List Put) → K.leads start puts out.old →
-        (more : List Put) × K.leads start (puts ++ more) out.new × IsRun (IsListing task.now) (IsCutListing task.now) result more }
+    ensures puts { (start : _) (puts : List Put) → K.leads start puts out.old →
+        (more : List Put) × K.leads start (puts ++ more) out.new
+        × IsRun (IsListingBeside (S.stop settler.new ≡ Some Write) task.now) (IsCutListing task.now) result more
+        × (result ≡ Status.Ok → AllSettledBy S.begins S.leads S.stop task.now settler.old settler.new) }
+    ensures reaches { Reaches S.begins S.leads S.stop settler.old settler.new }
 {
     match RunTables::new(alloc, &task.model, task.digits) {
         Ok(mut tables) => put_listing(rt, alloc, task, &mut tables, settler, out),

@@ -1,14 +1,16 @@
 // Solving a step and writing its text.
-ghost use Rattle.std.specs.Prelude.{◌≡◌, Contains, IfOk, IfErr};
+ghost use Rattle.std.specs.Prelude.{◌≡◌, Contains, IfOk, IfErr, MatchResult};
 ghost use Rattle.model_types.specs.Times.{times};
 ghost use Rattle.problem_builder.specs.GridHeads.{AreGridHeads};
 ghost use Rattle.listing_run.specs.Steps.{IsStep};
 ghost use Rattle.listing_run.specs.Bounding.{BoundsMoves};
 ghost use Rattle.listing_run.specs.Ends.{IsTask, AreTablesOf, FailsBy, IsWritten};
+ghost use Rattle.listing_run.specs.Settlers.{IsSettledBy, RestsOrSettles};
 
 use crate::step::{Fault, Step};
 use crate::task::Task;
 use crate::zoning::flows_between;
+use barrier_vector::laws::one_barrier;
 use budget_bounds::budget;
 use budget_bounds::laws::heads_within;
 use listing_io::write_step;
@@ -37,12 +39,16 @@ pub fn solve<S: Settler>(
     ensures tables { AreTablesOf task.now tables.new }
     ensures step { IfOk result (IsStep task.now at old.now) }
     ensures fault { IfErr result (FailsBy task.now at old.now) }
+    ensures led { MatchResult result (λ _. IsSettledBy S.leads task.now at old.now settler.old settler.new) (λ _. RestsOrSettles S.leads settler.old settler.new) }
     ensures heads { IfOk result (λ v. AreGridHeads task.now.model v.heads) }
     // Every solution from exact heads within the old ones lies within the step's heads, budget and flows between zones.
     ensures encloses { IfOk result (BoundsMoves task.now at old.now) }
 {
     let solved = next_step_with(alloc, &task.model, tables, at, old, settler)?;
     heads_within();
+    one_barrier();
+    // `len` ensures the problem's conditions.
+    let _cells = solved.problem.len();
     match budget(&solved.problem, solved.bounds.as_slice()) {
         Ok(budget) => {
             let zones = flows_between(alloc, task, &solved)?;
@@ -84,6 +90,7 @@ pub fn solve_text<S: Settler>(
     ensures tables { AreTablesOf task.now tables.new }
     ensures written { IfOk result (λ w. IsWritten task.now at old.now w.heads.items w.text.items) }
     ensures fault { IfErr result (FailsBy task.now at old.now) }
+    ensures led { MatchResult result (λ _. IsSettledBy S.leads task.now at old.now settler.old settler.new) (λ _. RestsOrSettles S.leads settler.old settler.new) }
 {
     let step = solve(alloc, task, tables, at, old, settler)?;
     let text = write_step(

@@ -4,7 +4,7 @@ ghost use Rattle.step_problem.specs.Heads.{IsBarrier};
 ghost use Rattle.step_problem.specs.Settling.{Settles};
 
 use crate::first::{has_few_cells, settles_soon};
-use crate::guessing::settle_by_guess;
+use crate::guessing::Course;
 use settle_driver::PlainSettler;
 use std::alloc::Global;
 use step_problem::{Barrier, Bound, Problem, SettleFault, Settler};
@@ -20,10 +20,11 @@ const SWEEPS_OF_SOON: u32 = 128;
 const SWEEPS_OF_FEW: u32 = 4_096;
 
 /// Settles as a `PlainSettler` with this many sweeps does, on the calling thread. A guess after the first sweeps only
-/// saves time.
-#[derive(Debug, Drop)]
+/// saves time, as does what is kept from one step to the next.
+#[derive(Drop)]
 pub struct AloneSettler {
     rounds: u32,
+    course: Course,
 }
 
 impl AloneSettler {
@@ -31,7 +32,10 @@ impl AloneSettler {
     pub fn new(rounds: u32) -> AloneSettler
         ensures { AloneSettler.rounds result ≡ rounds }
     {
-        AloneSettler { rounds }
+        AloneSettler {
+            rounds,
+            course: Course::new(),
+        }
     }
 }
 
@@ -49,11 +53,12 @@ fn settle_onward(
     p: &Problem,
     b: &Barrier,
     rounds: u32,
+    course: &mut Course,
 ) -> Result<Vec<Bound>, SettleFault>
     requires { IsBarrier p.now b.now }
     ensures { Settles p.now b.now rounds result }
 {
-    match settle_by_guess(alloc, p, b) {
+    match course.settle_by_guess(alloc, p, b) {
         Ok(bounds) => Ok(bounds),
         Err(SettleFault::Unfinished(_)) => sweep(alloc, p, b, rounds),
         Err(SettleFault::Memory) => Err(SettleFault::Memory),
@@ -67,6 +72,7 @@ fn settle_few_first(
     b: &Barrier,
     first: u32,
     rounds: u32,
+    course: &mut Course,
 ) -> Result<Vec<Bound>, SettleFault>
     requires { IsBarrier p.now b.now }
     ensures { Settles p.now b.now rounds result }
@@ -76,7 +82,7 @@ fn settle_few_first(
     }
     match sweep(alloc, p, b, first) {
         Ok(bounds) => Ok(bounds),
-        Err(SettleFault::Unfinished(_)) => settle_onward(alloc, p, b, rounds),
+        Err(SettleFault::Unfinished(_)) => settle_onward(alloc, p, b, rounds, course),
         Err(SettleFault::Memory) => Err(SettleFault::Memory),
     }
 }
@@ -88,6 +94,7 @@ fn settle_as_promised(
     b: &Barrier,
     first: &[Bound],
     rounds: u32,
+    course: &mut Course,
 ) -> Result<Vec<Bound>, SettleFault>
     requires { IsBarrier p.now b.now }
     ensures { Settles p.now b.now rounds result }
@@ -96,29 +103,33 @@ fn settle_as_promised(
         Ok(bounds) => Ok(bounds),
         Err(SettleFault::Unfinished(open)) => {
             if settles_soon(b, first, &open.words) {
-                settle_few_first(alloc, p, b, SWEEPS_OF_SOON, rounds)
+                settle_few_first(alloc, p, b, SWEEPS_OF_SOON, rounds, course)
             } else {
-                settle_onward(alloc, p, b, rounds)
+                settle_onward(alloc, p, b, rounds, course)
             }
         }
         Err(SettleFault::Memory) => Err(SettleFault::Memory),
     }
 }
 
-// By a look first, which costs less than a guess.
+// By a look first, which costs less than a guess, unless one of the last steps had a look.
 fn settle_by_look(
     alloc: Global,
     p: &Problem,
     b: &Barrier,
     rounds: u32,
+    course: &mut Course,
 ) -> Result<Vec<Bound>, SettleFault>
     requires { IsBarrier p.now b.now }
     ensures { Settles p.now b.now rounds result }
 {
+    if course.skips_look() {
+        return settle_onward(alloc, p, b, rounds, course);
+    }
     match sweep(alloc, p, b, LOOK) {
         Ok(bounds) => Ok(bounds),
         Err(SettleFault::Unfinished(open)) => {
-            settle_as_promised(alloc, p, b, &open.words, rounds)
+            settle_as_promised(alloc, p, b, &open.words, rounds, course)
         }
         Err(SettleFault::Memory) => Err(SettleFault::Memory),
     }
@@ -139,11 +150,11 @@ impl Settler for AloneSettler {
         b: &Barrier,
     ) -> Result<Vec<Bound>, SettleFault> {
         if has_few_cells(p.len()) {
-            return settle_few_first(alloc, p, b, SWEEPS_OF_FEW, self.rounds);
+            return settle_few_first(alloc, p, b, SWEEPS_OF_FEW, self.rounds, &mut self.course);
         }
         if self.rounds <= TWO_LOOKS {
             return sweep(alloc, p, b, self.rounds);
         }
-        settle_by_look(alloc, p, b, self.rounds)
+        settle_by_look(alloc, p, b, self.rounds, &mut self.course)
     }
 }

@@ -18,8 +18,10 @@ const TURNS: u32 = SHARED_TURNS + 1;
 // Turns of each cell after a look that are fewer than a guess costs.
 const SOON: u32 = 56;
 
-// The phases in which problems settle that are found to settle soon.
-const PHASES_OF_SOON: u32 = 2;
+// The phases of a problem that is found to settle soon are short, since it is settled at the end of one of them.
+const SHARED_TURNS_OF_SOON: u32 = 7;
+
+const PHASES_OF_SOON: u32 = 16;
 
 /// Whether a problem has so few cells that its first phases are many.
 pub(crate) fn has_few_cells(cells: usize) -> bool {
@@ -33,13 +35,6 @@ pub(crate) fn phases_of_few() -> u32
     PHASES_OF_FEW
 }
 
-/// The plain phases before a guess of a problem that was found to settle soon.
-pub(crate) fn phases_of_soon() -> u32
-    ensures { 1 ≤ result }
-{
-    PHASES_OF_SOON
-}
-
 /// A plan of `rounds` short phases, with no more turns than the plan's own.
 pub(crate) fn look(plan: Plan, rounds: u32) -> Plan
     requires plan { IsPlan plan }
@@ -50,6 +45,18 @@ pub(crate) fn look(plan: Plan, rounds: u32) -> Plan
     Plan {
         turns_per_cell: plan.turns_per_cell.min(SHARED_TURNS),
         rounds,
+        ..plan
+    }
+}
+
+/// The plan before a guess of a problem that was found to settle soon, with no more turns in a phase than the plan's own.
+pub(crate) fn soon(plan: Plan) -> Plan
+    requires { IsPlan plan }
+    ensures { IsPlan result }
+{
+    Plan {
+        turns_per_cell: plan.turns_per_cell.min(SHARED_TURNS_OF_SOON),
+        rounds: PHASES_OF_SOON,
         ..plan
     }
 }

@@ -4,21 +4,23 @@ ghost use Rattle.step_problem.specs.Heads.{IsBarrier};
 ghost use Rattle.step_problem.specs.Settling.{Settles};
 ghost use Rattle.settle_driver.specs.Phases.{IsPlan};
 
-use crate::first::{has_few_cells, look, phases_of_few, phases_of_soon, settles_soon};
-use crate::guessing::settle_by_guess;
+use crate::first::{has_few_cells, look, phases_of_few, settles_soon, soon};
+use crate::guessing::Course;
 use outside::Gate;
 use settle_driver::{Plan, ThreadSettler};
 use std::alloc::Global;
+use std::cell::Cell;
 use std::thread::Threads;
 use step_problem::{Barrier, Bound, Problem, SettleFault};
 
 /// Settles by workers in threads, with the handle and the gate that it borrows. Its plan's rounds are plain phases;
-/// what it does beside them only saves time.
+/// what it does beside them only saves time, as does what it keeps from one step to the next.
 #[derive(Drop)]
 pub struct NearSettler<'a, R: Threads + Sync, G: Gate + Sync> {
     pub(crate) rt: &'a R,
     pub(crate) gate: &'a G,
     pub(crate) plan: Plan,
+    course: Cell<Course>,
     pub ghost plan_fits: { IsPlan plan },
 }
 
@@ -27,7 +29,36 @@ impl<'a, R: Threads + Sync, G: Gate + Sync> NearSettler<'a, R, G> {
         requires { IsPlan plan }
         ensures { result.plan ≡ plan }
     {
-        NearSettler { rt, gate, plan }
+        NearSettler {
+            rt,
+            gate,
+            plan,
+            course: Cell::new(Course::new()),
+        }
+    }
+
+    // Whether the next problem is settled by a guess without a look.
+    fn skips_look(&self) -> bool {
+        let course = self.course.replace(Course::new());
+        let skips = course.skips_look();
+        self.course.set(course);
+        skips
+    }
+
+    // From a guess. Unfinished where it is not certified.
+    pub(crate) fn settle_by_guess(
+        &self,
+        alloc: Global,
+        p: &Problem,
+        b: &Barrier,
+    ) -> Result<Vec<Bound>, SettleFault>
+        requires { IsBarrier p.now b.now }
+        ensures { Settles p.now b.now 0 result }
+    {
+        let mut course = self.course.replace(Course::new());
+        let settled = course.settle_by_guess(alloc, p, b);
+        self.course.set(course);
+        settled
     }
 
     // By plain phases, at most so many.
@@ -59,29 +90,26 @@ impl<'a, R: Threads + Sync, G: Gate + Sync> NearSettler<'a, R, G> {
         requires { IsBarrier p.now b.now }
         ensures { Settles p.now b.now self.now.plan.rounds result }
     {
-        match settle_by_guess(alloc, p, b) {
+        match self.settle_by_guess(alloc, p, b) {
             Ok(bounds) => Ok(bounds),
             Err(SettleFault::Unfinished(_)) => self.settle_plainly(alloc, p, b, self.plan.rounds),
             Err(SettleFault::Memory) => Err(SettleFault::Memory),
         }
     }
 
-    // By `first` plain phases, then by a guess.
-    fn settle_few_first(
+    // By the phases of a plan, then by a guess.
+    fn settle_first(
         &self,
         alloc: Global,
         p: &Problem,
         b: &Barrier,
-        first: u32,
+        first: Plan,
     ) -> Result<Vec<Bound>, SettleFault>
         requires barrier { IsBarrier p.now b.now }
-        requires first { 1 ≤ first }
+        requires first { IsPlan first }
         ensures { Settles p.now b.now self.now.plan.rounds result }
     {
-        if self.plan.rounds <= first {
-            return self.settle_plainly(alloc, p, b, self.plan.rounds);
-        }
-        match self.settle_plainly(alloc, p, b, first) {
+        match ThreadSettler::new(self.rt, first, self.gate).settle(alloc, p, b) {
             Ok(bounds) => Ok(bounds),
             Err(SettleFault::Unfinished(_)) => self.settle_onward(alloc, p, b),
             Err(SettleFault::Memory) => Err(SettleFault::Memory),
@@ -118,7 +146,7 @@ impl<'a, R: Threads + Sync, G: Gate + Sync> NearSettler<'a, R, G> {
             Ok(bounds) => Ok(bounds),
             Err(SettleFault::Unfinished(open)) => {
                 if settles_soon(b, first, &open.words) {
-                    self.settle_few_first(alloc, p, b, phases_of_soon())
+                    self.settle_first(alloc, p, b, soon(self.plan))
                 } else {
                     self.settle_onward(alloc, p, b)
                 }
@@ -127,7 +155,7 @@ impl<'a, R: Threads + Sync, G: Gate + Sync> NearSettler<'a, R, G> {
         }
     }
 
-    // By a look first, which costs less than a guess.
+    // By a look first, which costs less than a guess, unless one of the last steps had a look.
     fn settle_by_look(
         &self,
         alloc: Global,
@@ -137,6 +165,9 @@ impl<'a, R: Threads + Sync, G: Gate + Sync> NearSettler<'a, R, G> {
         requires { IsBarrier p.now b.now }
         ensures { Settles p.now b.now self.now.plan.rounds result }
     {
+        if self.skips_look() {
+            return self.settle_onward(alloc, p, b);
+        }
         match self.look(alloc, p, b, 1) {
             Ok(bounds) => Ok(bounds),
             Err(SettleFault::Unfinished(open)) => self.settle_as_promised(alloc, p, b, &open.words),
@@ -145,17 +176,23 @@ impl<'a, R: Threads + Sync, G: Gate + Sync> NearSettler<'a, R, G> {
     }
 
     /// The one settled pair, or Unfinished only where the plan's number of plain rounds does not settle. A problem of
-    /// few cells begins with plain phases, another one with a few turns that show whether plain phases settle it soon.
-    /// Then heads are guessed and tried, and then all the plain phases follow.
+    /// few cells begins with plain phases, another one with a few turns that show whether plain phases settle it soon; the next
+    /// steps have no such turns where they do not. Then heads are guessed and tried, and then all the plain phases follow.
     pub fn settle(&self, alloc: Global, p: &Problem, b: &Barrier) -> Result<Vec<Bound>, SettleFault>
         requires { IsBarrier p.now b.now }
         ensures { Settles p.now b.now self.now.plan.rounds result }
     {
-        if has_few_cells(p.len()) {
-            return self.settle_few_first(alloc, p, b, phases_of_few());
-        }
-        if self.plan.rounds <= 1 {
+        let few = has_few_cells(p.len());
+        let rounds = if few { phases_of_few() } else { 1 };
+        if self.plan.rounds <= rounds {
             return self.settle_plainly(alloc, p, b, self.plan.rounds);
+        }
+        if few {
+            let first = Plan {
+                rounds,
+                ..self.plan
+            };
+            return self.settle_first(alloc, p, b, first);
         }
         self.settle_by_look(alloc, p, b)
     }

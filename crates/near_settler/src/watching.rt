@@ -6,7 +6,6 @@ ghost use Rattle.settle_driver.specs.Phases.{IsPlan};
 ghost use Rattle.settle_driver.specs.Views.{AddsPhases, had_memory};
 
 use crate::first::{has_few_cells, look, phases_of_few};
-use crate::guessing::settle_by_guess;
 use crate::settling::NearSettler;
 use outside::Gate;
 use settle_driver::{Plan, Viewer, WatchSettler};
@@ -50,7 +49,7 @@ impl<'a, R: Threads + Sync, G: Gate + Sync> NearSettler<'a, R, G> {
         ensures settles { Settles p.now b.now self.now.plan.rounds result }
         ensures viewed { (start : V) → AddsPhases V.viewed V.stopped p.now b.now views true start viewer.old → AddsPhases V.viewed V.stopped p.now b.now views (had_memory result) start viewer.new }
     {
-        match settle_by_guess(alloc, p, b) {
+        match self.settle_by_guess(alloc, p, b) {
             Ok(bounds) => Ok(bounds),
             Err(SettleFault::Unfinished(_)) => {
                 self.watch_plainly(alloc, p, b, self.plan.rounds, views, viewer)

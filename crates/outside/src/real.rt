@@ -1,13 +1,31 @@
 ghost use Rattle.std.specs.Prelude.{◌≡◌, ℕ, ◌<◌, ◌≤◌, List, [], length, take, refl, IfOk, IfSome, IfNone, Some};
-ghost use Rattle.std.specs.Io.KnownBytes.{Appends, Keeps};
+ghost use Rattle.std.specs.Io.KnownBytes.{Appends, Consumes, IsAtEnd, Keeps};
 ghost use Rattle.outside.specs.Files.{IsWhole};
 ghost use Rattle.outside.specs.Puts.{Put, PutsMake, Seen};
 
 use crate::accepted::Accepted;
 use crate::traits::{FolderError, Found, Sink, SinkError};
 use std::alloc::Global;
-use std::io::{Read, Write};
+use std::io::{ErrorKind, Read, Write};
 use std::marker::Model;
+
+// The number of bytes that one read put at the start of the piece; None if it failed. A read that a signal interrupts is
+// no failure: it is made again, as `read_to_end` does.
+fn read_part<S: Read>(from: &mut S, piece: &mut [u8]) -> Option<usize>
+    ensures within { IfSome result (λ n. n ≤ length piece.new) }
+    ensures taken { IfSome result (λ n. Consumes (S.remaining from.old) (S.remaining from.new) (take n piece.new)) }
+    ensures end { IfSome result (λ n. n ≡ 0 → 0 < length piece.old → IsAtEnd (S.remaining from.new)) }
+    ensures failed { IfNone result (Keeps (S.remaining from.old) (S.remaining from.new)) }
+{
+    for _ in 0..u64::MAX {
+        match from.read(piece) {
+            Ok(n) => return Some(n),
+            Err(e) if e.kind() == ErrorKind::Interrupted => {}
+            Err(_) => return None,
+        }
+    }
+    None
+}
 
 /// All that a reader has left, if that is at most `limit` bytes. It stops reading once a read
 /// returned nothing or failed, or past the limit.
@@ -17,14 +35,14 @@ pub fn read_whole<S: Read>(alloc: Global, from: &mut S, limit: u64) -> Result<Fo
     let mut bytes = Vec::new(alloc);
     let mut piece = [0u8; 4096];
     while bytes.len() as u64 <= limit {
-        match from.read(&mut piece) {
-            Ok(0) => return Ok(Found::Bytes(bytes)),
-            Ok(n) => {
+        match read_part(from, &mut piece) {
+            Some(0) => return Ok(Found::Bytes(bytes)),
+            Some(n) => {
                 if bytes.extend_from_slice(&piece[..n]).is_err() {
                     return Err(FolderError::Memory);
                 }
             }
-            Err(_) => return Err(FolderError::Read),
+            None => return Err(FolderError::Read),
         }
     }
     Ok(Found::TooLong)
@@ -60,17 +78,22 @@ impl<W: Write + Drop> RealSink<W> {
     }
 }
 
-// The number of bytes that one write took; None if it failed or took none.
+// The number of bytes that one write took; None if it failed or took none. A write that a signal interrupts is no
+// failure: it is made again, as `write_all` does.
 fn write_part<W: Write>(to: &mut W, bytes: &[u8]) -> Option<usize>
     ensures some { IfSome result (λ n. 0 < n) }
     ensures within { IfSome result (λ n. n ≤ length bytes.now) }
     ensures taken { IfSome result (λ n. Appends (W.contents to.old) (W.contents to.new) (take n bytes.now)) }
     ensures failed { IfNone result (Keeps (W.contents to.old) (W.contents to.new)) }
 {
-    match to.write(bytes) {
-        Ok(n) if n > 0 => Some(n),
-        _ => None,
+    for _ in 0..u64::MAX {
+        match to.write(bytes) {
+            Ok(n) if n > 0 => return Some(n),
+            Err(e) if e.kind() == ErrorKind::Interrupted => {}
+            _ => return None,
+        }
     }
+    None
 }
 
 impl<W: Write + Drop> Sink for RealSink<W> {

@@ -4,6 +4,7 @@ ghost use Rattle.step_problem.specs.Heads.{IsBarrier};
 use crate::answers::{print_barrier, print_bounds, print_budget, print_fault, print_verdict};
 use crate::events::print_events;
 use crate::given::Given;
+use crate::numbers::number;
 use crate::question::Question;
 use crate::seats::print_seats;
 use crate::settling::print_settled;
@@ -11,9 +12,9 @@ use barrier_vector::{BarrierFault, barrier};
 use budget_bounds::budget;
 use cell_relax::are_words;
 use certificate_check::check_step;
-use head_guess::guess_heads;
+use head_guess::{Guess, Kept, guess_heads};
 use head_table::edge_words;
-use std::alloc::Global;
+use std::alloc::{AllocError, Global};
 use std::io;
 use std::thread::Threads;
 use step_problem::{Barrier, Bound, Problem};
@@ -37,6 +38,15 @@ fn ask_bounds(
     }
 }
 
+// The last of so many guesses, each of which begins with what the one before kept.
+fn last_guess(alloc: Global, p: &Problem, b: &Barrier, guesses: u32) -> Result<Guess, AllocError> {
+    let mut kept = Kept::new();
+    for _ in 1..guesses {
+        guess_heads(alloc, p, b, &mut kept)?;
+    }
+    guess_heads(alloc, p, b, &mut kept)
+}
+
 fn ask_barrier<R: Print + Threads + Sync>(
     rt: &R,
     alloc: Global,
@@ -53,7 +63,7 @@ fn ask_barrier<R: Print + Threads + Sync>(
     match question {
         Question::Barrier => print_barrier(rt, b),
         Question::Guess => {
-            let guess = guess_heads(alloc, p, b)?;
+            let guess = last_guess(alloc, p, b, number(numbers, 0))?;
             print_bounds(rt, "guessed", guess.bounds.as_slice())
         }
         Question::Events => print_events(rt, alloc, p, edge_words(alloc, p, b)?, moves),

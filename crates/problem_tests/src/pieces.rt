@@ -5,7 +5,7 @@ ghost use Rattle.settle_driver.specs.Phases.{IsPlan};
 use crate::settling::print_answer;
 use crate::watched::Views;
 use outside::{FreeGate, MemSink, SinkError};
-use settle_driver::{Plan, WatchSettler};
+use settle_driver::{Plan, StepViewer, WatchSettler};
 use std::alloc::{AllocError, Global};
 use std::thread::Threads;
 use std::{io, str};
@@ -19,9 +19,16 @@ struct SameText;
 impl ViewText for SameText {
     ghost use Rattle.std.specs.Prelude.{codes};
 
-    ghost text = { λ _ _ _. codes "view\n" };
+    ghost text = { λ _ _ _ _ _. codes "view\n" };
 
-    fn write(&self, alloc: Global, _p: &Problem, _heads: &[Bound]) -> Result<Vec<u8>, AllocError> {
+    fn write(
+        &self,
+        alloc: Global,
+        _period: u32,
+        _step: u32,
+        _p: &Problem,
+        _heads: &[Bound],
+    ) -> Result<Vec<u8>, AllocError> {
         Vec::from_slice(alloc, b"view\n")
     }
 }
@@ -48,7 +55,7 @@ pub fn print_pieces<R: Print + Threads + Sync>(
 {
     let mut sink = MemSink::new(alloc);
     sink.fail_at(u64::from(views.limit), 2)?;
-    let mut viewer = SinkViewer::new(alloc, &mut sink, SameText);
+    let mut viewer = SinkViewer::new(alloc, &mut sink, &SameText);
     let answer = WatchSettler::new(rt, plan, &FreeGate, views.each_phase).settle(
         alloc,
         p,

@@ -16,7 +16,7 @@ pub struct WatchBy<
 > {
     rounds: u32,
     views: u32,
-    viewer: &'a mut V,
+    pub(crate) viewer: &'a mut V,
     call: F,
 }
 

@@ -26,21 +26,22 @@ pub fn print_disk<R: Files + Print>(rt: &R, alloc: Global, calls: &str) -> io::R
     println!(rt; "")
 }
 
-// Gives two bytes at each of its first two reads, and then fails.
+// Gives two bytes at each of two reads, between which a signal interrupts one, and then fails.
 #[derive(Drop)]
 struct FailsInMidStream(u32);
 
 impl io::Read for FailsInMidStream {
     fn read(&mut self, buf: &mut [u8]) -> io::Result<usize> {
-        if self.0 == 2 || buf.len() < 2 {
-            return Err(io::Error::from(io::ErrorKind::TimedOut));
-        }
         self.0 = self.0.saturating_add(1);
-        Ok(2)
+        match self.0 {
+            1 | 3 if buf.len() >= 2 => Ok(2),
+            2 => Err(io::Error::from(io::ErrorKind::Interrupted)),
+            _ => Err(io::Error::from(io::ErrorKind::TimedOut)),
+        }
     }
 }
 
-/// Past the limit no further read is made.
+/// An interrupted read is made again. Past the limit no further read is made.
 pub fn print_reader(rt: &impl Print, alloc: Global, limit: u64) -> io::Result<()> {
     let found = read_whole(alloc, &mut FailsInMidStream(0), limit);
     let text = found_text(alloc, found)?;

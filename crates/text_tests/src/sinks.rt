@@ -1,4 +1,4 @@
-// Sinks in memory, in a file, and over a writer that takes nothing.
+// Sinks in memory, in a file, and over a writer that takes one byte.
 use crate::command::{first_word, number};
 use crate::pictures::{plain_text, shown_text};
 use outside::{FreeGate, Gate, MemSink, RealSink, Sink};
@@ -49,14 +49,18 @@ pub fn print_disk_sink(rt: &HostRuntime, alloc: Global, calls: &str) -> io::Resu
     println!(rt; "{text}")
 }
 
-// Takes no byte, or says that it took none: the number counts how often it was called.
+// Takes one byte, after a write that a signal interrupts, and then nothing: the number counts how often it was called.
 #[derive(Drop)]
-struct TakesNothing(u32);
+struct TakesOneByte(u32);
 
-impl io::Write for TakesNothing {
-    fn write(&mut self, _: &[u8]) -> io::Result<usize> {
+impl io::Write for TakesOneByte {
+    fn write(&mut self, buf: &[u8]) -> io::Result<usize> {
         self.0 = self.0.saturating_add(1);
-        Ok(0)
+        match self.0 {
+            1 => Err(io::Error::from(io::ErrorKind::Interrupted)),
+            2 => Ok(buf.len().min(1)),
+            _ => Ok(0),
+        }
     }
 
     fn flush(&mut self) -> io::Result<()> {
@@ -65,7 +69,7 @@ impl io::Write for TakesNothing {
 }
 
 pub fn print_full_sink(rt: &impl Print, alloc: Global, calls: &str) -> io::Result<()> {
-    let mut sink = RealSink::new(TakesNothing(0));
+    let mut sink = RealSink::new(TakesOneByte(0));
     print!(rt; "full_sink")?;
     print_puts(rt, alloc, &mut sink, calls)?;
     println!(rt; "")

@@ -1,13 +1,29 @@
 -- One view more, as a put more.
 use Rattle.std.proofs.Common.{◌≡◌, ℕ, ◌+◌, inl, inr, refl, sym, ap, ◌∙◌, subst, arith, true, false, List, [], ◌∷◌, ◌++◌, length, map, Result, Ok, Err, Option, Some, None}
 use Rattle.std.specs.Prelude.{is_some, IfOk}
-use Rattle.std.proofs.lemmas.List.{append-nil}
+use Rattle.std.specs.Result.{result_err}
+use Rattle.std.proofs.lemmas.List.{append-nil, append_assoc}
 use Rattle.std.specs.declared.vec.Vec.{Vec}
 use Rattle.std.specs.declared.alloc.Global.{Global}
 use Rattle.outside.specs.Puts.{Put, taken, refused}
 use Rattle.outside.specs.declared.traits.SinkError.{SinkError}
 use Rattle.step_problem.specs.declared.heads.Bound.{Bound}
-use Rattle.view_puts.specs.Puts.{IsPutOf, IsStopPut, AreAllShown, ViewPuts}
+use Rattle.view_puts.specs.Puts.{IsPutOf, IsStopPut, AreAllShown, LeadOn, ViewPuts}
+
+-- the put of a text, by its result
+put_of : (E : Type 0) (text : Vec ℕ Global) (r : Result (Unit {0}) SinkError) (piece : List ℕ) → piece ≡ text.items → IsPutOf {E = E} (Ok text) (result_err r) (record { piece = piece; answer = r } ∷ [])
+put_of E text (Ok done) piece same = ap (λ (x : List ℕ). taken x ∷ []) same
+put_of E text (Err e) piece same = ap (λ (x : List ℕ). refused x e ∷ []) same
+
+pub is_put_of : (E : Type 0) (t : Result (Vec ℕ Global) E) (text : Vec ℕ Global) (r : Result (Unit {0}) SinkError) (o : Option SinkError) (piece : List ℕ) → t ≡ Ok text → o ≡ result_err r → piece ≡ text.items → IsPutOf {E = E} t o (record { piece = piece; answer = r } ∷ [])
+is_put_of E t text r o piece is same items =
+    let T : Result (Vec ℕ Global) E → Type 0 = λ x. IsPutOf {E = E} x o (record { piece = piece; answer = r } ∷ []) in
+    let O : Option SinkError → Type 0 = λ x. IsPutOf {E = E} (Ok text) x (record { piece = piece; answer = r } ∷ []) in
+    subst T (sym is) (subst O (sym same) (put_of E text r piece items))
+
+-- puts after puts
+pub lead_more : {W : Type 0} (leads : W → List Put → W → Type 0) (a b c : W) (puts more : List Put) → LeadOn leads a b puts → LeadOn leads b c more → LeadOn leads a c (puts ++ more)
+lead_more leads a b c puts more h k = λ start before x. subst (λ (ps : List Put). leads start ps c) (append_assoc before puts more) (k start (before ++ puts) (h start before x))
 
 module _ (text : List Bound → List ℕ) (Shown : List Bound → Type 0) where
   abbrev pieces : List (List Bound) → List Put
@@ -35,11 +51,11 @@ module _ (text : List Bound → List ℕ) (Shown : List Bound → Type 0) where
     taken_put (Ok v) puts same h = h ∙ ap (λ (x : List ℕ). taken x ∷ []) same
     taken_put (Err x) puts same h = absurd h
 
-    one_taken : (n : ℕ) (before : Option SinkError) → ((puts : List Put) → leads puts → (more : List Put) × leads' (puts ++ more) × IsPutOf t None more) → ViewPuts text Shown leads n before None → ViewPuts text Shown leads' (n + 1) before None
+    one_taken : (n : ℕ) (before : Option SinkError) → ((more : List Put) × IsPutOf t None more × ((puts : List Put) → leads puts → leads' (puts ++ more))) → ViewPuts text Shown leads n before None → ViewPuts text Shown leads' (n + 1) before None
     one_taken n before put s =
-        let r = put (pieces s.views ++ s.last) s.led in
+        let r = put in
         let none : s.last ≡ [] = no_stop_put before s.last s.stop in
-        let one : r.0 ≡ taken (text heads) ∷ [] = taken_put t r.0 is_text r.2 in
+        let one : r.0 ≡ taken (text heads) ∷ [] = taken_put t r.0 is_text r.1 in
         let front : pieces s.views ++ s.last ≡ pieces s.views = ap (λ (ps : List Put). pieces s.views ++ ps) none ∙ append-nil (pieces s.views) in
         let all : (pieces s.views ++ s.last) ++ r.0 ≡ pieces (s.views ++ heads ∷ []) ++ [] = ap (λ (ps : List Put). ps ++ r.0) front ∙ ap (λ (ps : List Put). pieces s.views ++ ps) one ∙ sym (pieces_more s.views heads) ∙ sym (append-nil (pieces (s.views ++ heads ∷ []))) in
         record {
@@ -48,7 +64,7 @@ module _ (text : List Bound → List ℕ) (Shown : List Bound → Type 0) where
           shown = all_shown_more s.views heads s.shown shown;
           last = [];
           stop = subst (λ (ps : List Put). IsStopPut text Shown before None ps) none s.stop;
-          led = subst leads' all r.1;
+          led = subst leads' all (r.2 (pieces s.views ++ s.last) s.led);
         }
 
     stop_put : (r : Result (Vec ℕ Global) E) (e : SinkError) (before : Option SinkError) (old puts : List Put) → IfOk r (λ v. v.items ≡ text heads) → IsStopPut text Shown before None old → IsPutOf r (Some e) puts → IsStopPut text Shown before (Some e) puts
@@ -56,9 +72,9 @@ module _ (text : List Bound → List ℕ) (Shown : List Bound → Type 0) where
     stop_put (Err x) e None old puts same i h = inl h
     stop_put r e (Some d) old puts same i h = absurd i
 
-    one_refused : (n : ℕ) (before : Option SinkError) (e : SinkError) → ((puts : List Put) → leads puts → (more : List Put) × leads' (puts ++ more) × IsPutOf t (Some e) more) → ViewPuts text Shown leads n before None → ViewPuts text Shown leads' n before (Some e)
+    one_refused : (n : ℕ) (before : Option SinkError) (e : SinkError) → ((more : List Put) × IsPutOf t (Some e) more × ((puts : List Put) → leads puts → leads' (puts ++ more))) → ViewPuts text Shown leads n before None → ViewPuts text Shown leads' n before (Some e)
     one_refused n before e put s =
-        let r = put (pieces s.views ++ s.last) s.led in
+        let r = put in
         let none : s.last ≡ [] = no_stop_put before s.last s.stop in
         let front : pieces s.views ++ s.last ≡ pieces s.views = ap (λ (ps : List Put). pieces s.views ++ ps) none ∙ append-nil (pieces s.views) in
         record {
@@ -66,18 +82,18 @@ module _ (text : List Bound → List ℕ) (Shown : List Bound → Type 0) where
           count = s.count;
           shown = s.shown;
           last = r.0;
-          stop = stop_put t e before s.last r.0 is_text s.stop r.2;
-          led = subst leads' (ap (λ (ps : List Put). ps ++ r.0) front) r.1;
+          stop = stop_put t e before s.last r.0 is_text s.stop r.1;
+          led = subst leads' (ap (λ (ps : List Put). ps ++ r.0) front) (r.2 (pieces s.views ++ s.last) s.led);
         }
 
     -- a view that gives true
-    pub one_view_more : (n : ℕ) (before old new : Option SinkError) → is_some old ≡ false → is_some new ≡ false → ((puts : List Put) → leads puts → (more : List Put) × leads' (puts ++ more) × IsPutOf t new more) → ViewPuts text Shown leads n before old → ViewPuts text Shown leads' (n + 1) before new
+    pub one_view_more : (n : ℕ) (before old new : Option SinkError) → is_some old ≡ false → is_some new ≡ false → ((more : List Put) × IsPutOf t new more × ((puts : List Put) → leads puts → leads' (puts ++ more))) → ViewPuts text Shown leads n before old → ViewPuts text Shown leads' (n + 1) before new
     one_view_more n before None None a b put s = one_taken n before put s
     one_view_more n before None (Some e) a b put s = absurd cc
     one_view_more n before (Some d) new a b put s = absurd cc
 
     -- a view that gives false
-    pub no_view_more : (n : ℕ) (before old new : Option SinkError) → is_some old ≡ false → is_some new ≡ true → ((puts : List Put) → leads puts → (more : List Put) × leads' (puts ++ more) × IsPutOf t new more) → ViewPuts text Shown leads n before old → ViewPuts text Shown leads' n before new
+    pub no_view_more : (n : ℕ) (before old new : Option SinkError) → is_some old ≡ false → is_some new ≡ true → ((more : List Put) × IsPutOf t new more × ((puts : List Put) → leads puts → leads' (puts ++ more))) → ViewPuts text Shown leads n before old → ViewPuts text Shown leads' n before new
     no_view_more n before None None a b put s = absurd cc
     no_view_more n before None (Some e) a b put s = one_refused n before e put s
     no_view_more n before (Some d) new a b put s = absurd cc

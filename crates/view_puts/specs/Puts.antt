@@ -1,5 +1,7 @@
 -- What views put to a sink.
 use Rattle.std.specs.Prelude.{◌≡◌, ◌⊎◌, ℕ, List, [], ◌∷◌, ◌++◌, map, length, refl, Option, Some, None, Result, Ok, Err}
+use Rattle.std.proofs.Common.{subst, sym}
+use Rattle.std.proofs.lemmas.List.{append-nil}
 use Rattle.std.specs.declared.vec.Vec.{Vec}
 use Rattle.std.specs.declared.alloc.Global.{Global}
 use Rattle.outside.specs.Puts.{Put, taken, refused}
@@ -13,6 +15,10 @@ IsPutOf (Ok text) None puts = puts ≡ taken text.items ∷ []
 IsPutOf (Ok text) (Some e) puts = puts ≡ refused text.items e ∷ []
 IsPutOf (Err x) None puts = ⊥
 IsPutOf (Err x) (Some e) puts = (e ≡ error.Memory) × (puts ≡ [])
+
+-- These puts lead from one state of a sink to another, after any puts before them.
+abbrev pub LeadOn : {W : Type 0} → (W → List Put → W → Type 0) → W → W → List Put → Type 0
+LeadOn leads old new puts = (start : _) (before : List Put) → leads start before old → leads start (before ++ puts) new
 
 -- `text` writes heads, of which Shown holds; before and after say whether viewing had stopped, and why.
 module _ (text : List Bound → List ℕ) (Shown : List Bound → Type 0) where
@@ -43,3 +49,7 @@ module _ (text : List Bound → List ℕ) (Shown : List Bound → Type 0) where
 
   pub no_view : (leads : List Put → Type 0) (stop : Option SinkError) → leads [] → ViewPuts leads 0 stop stop
   no_view leads stop led = record { views = []; count = refl; shown = tt; last = []; stop = no_stop stop; led = led }
+
+-- no put leads a sink nowhere else
+pub no_lead : {W : Type 0} (leads : W → List Put → W → Type 0) (s : W) → LeadOn leads s s []
+no_lead leads s = λ start before h. subst (λ (ps : List Put). leads start ps s) (sym (append-nil before)) h

@@ -1,7 +1,7 @@
 // One piece is put.
-ghost use Rattle.std.specs.Prelude.{List, ◌++◌};
+ghost use Rattle.std.specs.Prelude.{List};
 ghost use Rattle.outside.specs.Puts.{Put};
-ghost use Rattle.view_puts.specs.Puts.{IsPutOf};
+ghost use Rattle.view_puts.specs.Puts.{IsPutOf, LeadOn};
 
 use outside::{Sink, SinkError};
 use std::alloc::AllocError;
@@ -11,8 +11,7 @@ pub(crate) fn put_text<W: Sink>(
     sink: &mut W,
     text: Result<Vec<u8>, AllocError>,
 ) -> Option<SinkError>
-    ensures { (start : _) (puts : List Put) → W.leads start puts sink.old →
-        (tail : List Put) × W.leads start (puts ++ tail) sink.new × IsPutOf text result tail }
+    ensures { (tail : List Put) × IsPutOf text result tail × LeadOn W.leads sink.old sink.new tail }
 {
     match text {
         Err(AllocError) => Some(SinkError::Memory),

@@ -1,4 +1,5 @@
 pub mod Faces
+pub mod OwnZones
 pub mod Exact
 pub mod Tables
 pub mod TableFlows

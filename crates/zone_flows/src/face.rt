@@ -4,7 +4,7 @@ ghost use Rattle.step_problem.specs.Conditions.{IsHead};
 ghost use Rattle.step_problem.specs.Flows.{least, most};
 ghost use Rattle.step_problem.specs.Heads.{lower_at, upper_at};
 ghost use Rattle.budget_bounds.specs.Capped.{AreHeads, IsFlow};
-ghost use Rattle.zone_flows.specs.Faces.{face_from};
+ghost use Rattle.zone_flows.specs.Faces.{face_from, is_lower_zone};
 ghost use Rattle.zone_flows.specs.Tables.{IsTable, with_faces};
 
 use crate::sum::ZoneSum;
@@ -37,6 +37,13 @@ fn flow_between(x: Bound, y: Bound, lo: u64, hi: u64) -> TermPair
     }
 }
 
+/// Whether cells of these zones have a face that counts from the first to the second.
+pub(crate) fn is_face(from: u32, to: u32) -> bool
+    ensures { result ≡ is_lower_zone from to }
+{
+    0 < from && from < to
+}
+
 /// Adds the face from cell x to cell y, where the zone of x is the lower of two zones.
 #[tactic(auto, unfolding(crate::specs::Faces::face_from, crate::specs::Tables::with_faces))]
 pub(crate) fn add_face_from(
@@ -61,7 +68,7 @@ pub(crate) fn add_face_from(
 {
     let from = zones[x as usize];
     let to = zones[y as usize];
-    if 0 < from && from < to {
+    if is_face(from, to) {
         add_face(
             map,
             from,

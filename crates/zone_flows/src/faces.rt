@@ -7,31 +7,58 @@ ghost use Rattle.step_problem.specs.Conditions.{CellFits};
 ghost use Rattle.budget_bounds.specs.Capped.{AreHeads};
 ghost use Rattle.zone_flows.specs.Faces.{cell_faces, face_from, faces, faces_by_kind};
 ghost use Rattle.zone_flows.specs.Tables.{IsTable, with_faces};
+ghost use Rattle.zone_flows.specs.OwnZones.{AreOwnZones};
 
-use crate::face::add_face_from;
+use crate::face::{add_face_from, is_face};
+use crate::own::{id_at, zone_at};
 use crate::sum::ZoneSum;
 use std::alloc::AllocError;
 use std::collections::BTreeMap;
 use step_problem::{Bound, Cell, Fixed, FixedKind, Link, Problem};
 
-// The number of the cell at this index.
-fn id_at(p: &Problem, index: usize) -> u32
-    requires { index < length p.now }
-    ensures { result ≡ (entries_at p.now index).id }
+// Adds the face of a link. Most links are within a zone, so the other cell is only read where its zone is another.
+#[tactic(auto, unfolding(crate::specs::Faces::face_from, crate::specs::Tables::with_faces))]
+fn add_link(
+    map: &mut BTreeMap<u32, ZoneSum>,
+    p: &Problem,
+    zones: &[u32],
+    own: &[u32],
+    heads: &[Bound],
+    id: u32,
+    x: &Link,
+) -> Result<(), AllocError>
+    requires table { IsTable map.old.entries }
+    requires zones { All (λ z. z ≤ 999) zones.now }
+    requires own { AreOwnZones p.now zones.now own.now }
+    requires heads { All AreHeads heads.now }
+    requires same { length heads.now ≡ length zones.now }
+    requires ids { (c : ℕ) → c < length p.now → (entries_at p.now c).id < length zones.now }
+    requires id { id < length zones.now }
+    requires end { x.now.cell < length p.now }
+    requires ordered { x.now.lo ≤ x.now.hi }
+    requires small { x.now.hi < 2 ^ 60 }
+    ensures faces { IfOk result (λ _. map.new.entries ≡ with_faces map.old.entries (face_from zones.now (lower_at heads.now) (upper_at heads.now) id (entries_at p.now x.now.cell).id x.now.lo x.now.hi)) }
+    ensures table { IfOk result (λ _. IsTable map.new.entries) }
 {
-    p.cell(index).id
+    if is_face(zones[id as usize], zone_at(p, zones, own, x.cell as usize)) {
+        add_face_from(map, zones, heads, id, id_at(p, x.cell as usize), x.lo, x.hi)
+    } else {
+        Ok(())
+    }
 }
 
 fn add_links(
     map: &mut BTreeMap<u32, ZoneSum>,
     p: &Problem,
     zones: &[u32],
+    own: &[u32],
     heads: &[Bound],
     id: u32,
     links: &[Link],
 ) -> Result<(), AllocError>
     requires table { IsTable map.old.entries }
     requires zones { All (λ z. z ≤ 999) zones.now }
+    requires own { AreOwnZones p.now zones.now own.now }
     requires heads { All AreHeads heads.now }
     requires same { length heads.now ≡ length zones.now }
     requires ids { (c : ℕ) → c < length p.now → (entries_at p.now c).id < length zones.now }
@@ -43,7 +70,7 @@ fn add_links(
     ensures table { IfOk result (λ _. IsTable map.new.entries) }
 {
     for x in links {
-        add_face_from(map, zones, heads, id, id_at(p, x.cell as usize), x.lo, x.hi)?;
+        add_link(map, p, zones, own, heads, id, x)?;
     }
     Ok(())
 }
@@ -107,11 +134,13 @@ fn add_cell(
     map: &mut BTreeMap<u32, ZoneSum>,
     p: &Problem,
     zones: &[u32],
+    own: &[u32],
     heads: &[Bound],
     cell: &Cell,
 ) -> Result<(), AllocError>
     requires table { IsTable map.old.entries }
     requires zones { All (λ z. z ≤ 999) zones.now }
+    requires own { AreOwnZones p.now zones.now own.now }
     requires heads { All AreHeads heads.now }
     requires same { length heads.now ≡ length zones.now }
     requires ids { (c : ℕ) → c < length p.now → (entries_at p.now c).id < length zones.now }
@@ -122,7 +151,7 @@ fn add_cell(
     ensures faces { IfOk result (λ _. map.new.entries ≡ with_faces map.old.entries (cell_faces zones.now (lower_at heads.now) (upper_at heads.now) p.now cell.now)) }
     ensures table { IfOk result (λ _. IsTable map.new.entries) }
 {
-    add_links(map, p, zones, heads, cell.id, &cell.links)?;
+    add_links(map, p, zones, own, heads, cell.id, &cell.links)?;
     add_fixed(map, zones, heads, cell.id, &cell.fixed)?;
     Ok(())
 }
@@ -132,10 +161,12 @@ pub(crate) fn add_faces(
     map: &mut BTreeMap<u32, ZoneSum>,
     p: &Problem,
     zones: &[u32],
+    own: &[u32],
     heads: &[Bound],
 ) -> Result<(), AllocError>
     requires table { IsTable map.old.entries }
     requires zones { All (λ z. z ≤ 999) zones.now }
+    requires own { AreOwnZones p.now zones.now own.now }
     requires heads { All AreHeads heads.now }
     requires same { length heads.now ≡ length zones.now }
     requires ids { (c : ℕ) → c < length p.now → (entries_at p.now c).id < length zones.now }
@@ -144,7 +175,7 @@ pub(crate) fn add_faces(
     ensures table { IfOk result (λ _. IsTable map.new.entries) }
 {
     for c in 0..p.len() {
-        add_cell(map, p, zones, heads, p.cell(c))?;
+        add_cell(map, p, zones, own, heads, p.cell(c))?;
     }
     Ok(())
 }

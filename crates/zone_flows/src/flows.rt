@@ -12,6 +12,7 @@ ghost use Rattle.zone_flows.specs.Tables.{with_faces};
 use crate::faces::add_faces;
 use crate::fault::ZoneFault;
 use crate::listed::flows_in_order;
+use crate::own::own_zones;
 use std::alloc::Global;
 use std::collections::BTreeMap;
 use step_problem::{Bound, Problem, ZoneFlow};
@@ -30,8 +31,9 @@ fn flows_by_table(
     requires sources { (c : ℕ) → c < length p.now → All (λ x. x.source < length zones.now) (entries_at p.now c).fixed }
     ensures { Returns (listed_flows (with_faces [] (faces zones.now (lower_at heads.now) (upper_at heads.now) p.now))) result }
 {
+    let own = own_zones(alloc, p, zones)?;
     let mut map = BTreeMap::new(alloc);
-    add_faces(&mut map, p, zones, heads)?;
+    add_faces(&mut map, p, zones, own.as_slice(), heads)?;
     flows_in_order(alloc, &map)
 }
 

@@ -7,6 +7,7 @@ pub mod fault;
 mod flows;
 pub mod laws;
 mod listed;
+mod own;
 pub mod sum;
 mod table;
 

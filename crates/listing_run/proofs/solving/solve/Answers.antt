@@ -1,5 +1,7 @@
+use Rattle.std.proofs.Common.{inr, true}
 use Rattle.std.proofs.lemmas.Result.{err_from_is_err_and}
 use Rattle.listing_run.proofs.Moves.{step_fails, budget_refused, flows_refused, step_is, bounds_moves}
+use Rattle.listing_run.proofs.Settled.{rests_or_settles, settles}
 use Rattle.listing_run.proofs.solving.solve.Goals as goal
 
 pub returns-in_err-solved-clause-fault : goal.returns-in_err-solved-clause-fault
@@ -23,3 +25,20 @@ pub returns-in_err-zones-in-Ok-clause-fault : goal.returns-in_err-zones-in-Ok-cl
 returns-in_err-zones-in-Ok-clause-fault g c =
     let p = err_from_is_err_and c.from_residual-in_err-zones-in-Ok.result c.from_residual-in_err-zones-in-Ok.ensures.1 in
     rw (p.1, p.2) (flows_refused c.args.task.now _ c.args.at c.args.old.now c.requires.tables.digits c.in_ok-solved.solved c.in_ok-solved.ensures.step c.as_slice.result.now c.as_slice.ensures c.in-Ok.budget c.in-Ok.ensures.budget c.in_err-zones-in-Ok.field-0.0 c.in_err-zones-in-Ok.ensures.fault)
+
+pub returns-in_err-solved-clause-led : goal.returns-in_err-solved-clause-led
+returns-in_err-solved-clause-led g c =
+    let p = err_from_is_err_and c.from_residual.result c.from_residual.ensures.1 in
+    rw p.1 (rests_or_settles g.S.Settler.leads c.args.task.now _ c.args.at c.args.old.now _ _ c.in_err-solved.ensures.leads)
+
+pub returns-in-Err-clause-led : goal.returns-in-Err-clause-led
+returns-in-Err-clause-led g c = let l = c.in_ok-solved.ensures.leads in inr (c.in_ok-solved.solved.problem, l.barrier, true, l.led)
+
+pub returns-in_err-zones-in-Ok-clause-led : goal.returns-in_err-zones-in-Ok-clause-led
+returns-in_err-zones-in-Ok-clause-led g c =
+    let l = c.in_ok-solved.ensures.leads in
+    let p = err_from_is_err_and c.from_residual-in_err-zones-in-Ok.result c.from_residual-in_err-zones-in-Ok.ensures.1 in
+    rw p.1 (inr (c.in_ok-solved.solved.problem, l.barrier, true, l.led))
+
+pub returns-in_ok-zones-in-Ok-clause-led : goal.returns-in_ok-zones-in-Ok-clause-led
+returns-in_ok-zones-in-Ok-clause-led g c = settles c.args.task.now _ c.args.at c.args.old.now c.requires.tables.digits c.one_barrier.ensures g.S.Settler.leads _ _ c.in_ok-solved.solved c.len-cells.ensures.fits c.in_ok-solved.ensures.step c.in_ok-solved.ensures.encloses c.in_ok-solved.ensures.leads

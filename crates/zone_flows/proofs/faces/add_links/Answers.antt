@@ -8,8 +8,8 @@ use Rattle.zone_flows.proofs.faces.add_links.Goals as goal
 
 pub loop-x-preserved : goal.loop-x-preserved
 loop-x-preserved c = record {
-  faces = goes_on (λ (x : Link). face_from c.args.zones.now (lower_at c.args.heads.now) (upper_at c.args.heads.now) c.args.id (entries_at c.args.p.now x.cell).id x.lo x.hi) c.args.links.now c.loop-x.x-index no_link _ c.loop-x.map.entries _ _ c.loop-x-test.true refl (rw c.id_at.ensures at c.in_ok-add_face_from.ensures.faces) c.loop-x.invariant.faces;
-  table = c.in_ok-add_face_from.ensures.table;
+  faces = goes_on (λ (x : Link). face_from c.args.zones.now (lower_at c.args.heads.now) (upper_at c.args.heads.now) c.args.id (entries_at c.args.p.now x.cell).id x.lo x.hi) c.args.links.now c.loop-x.x-index no_link _ c.loop-x.map.entries _ _ c.loop-x-test.true refl c.in_ok-add_link.ensures.faces c.loop-x.invariant.faces;
+  table = c.in_ok-add_link.ensures.table;
 }
 
 pub returns-clause-faces : goal.returns-clause-faces

@@ -1,0 +1,49 @@
+-- Statements of laws: what is written is read as itself.
+use Rattle.std.specs.Prelude.{◌≡◌, ℕ, ◌*◌, ◌≤◌, ℤ, List, [], ◌∷◌, All, length, Ok}
+use Rattle.decimal_input.specs.declared.dec.Dec.{Dec}
+use Rattle.decimal_input.specs.Canonical.{IsDec}
+use Rattle.outside.specs.Files.{File}
+use Rattle.record_lines.specs.Layout.{words, left_from}
+use Rattle.array_reader.specs.Numbers.{number, integer}
+use Rattle.array_reader.specs.Lists.{free_list}
+use Rattle.array_reader.specs.Arrays.{reals, real_layer, integer_layer}
+use Rattle.array_text.specs.Words.{IsShort, number_word, integer_word}
+use Rattle.array_text.specs.Lines.{Line, IsLine, line_text, text, unread, Reads}
+use Rattle.array_text.specs.Arrays.{row_line, real_array, integer_array}
+
+-- a number in canonical form
+abbrev pub NumbersReadAsWritten : Type 0
+NumbersReadAsWritten = (d : Dec) → IsDec d → number (number_word d) ≡ Ok d
+
+abbrev pub IntegersReadAsWritten : Type 0
+IntegersReadAsWritten = (z : ℤ) → IsShort z → integer (integer_word z) ≡ Ok z
+
+abbrev pub LinesReadAsWritten : Type 0
+LinesReadAsWritten = (line : Line) → IsLine line → words (line_text line) ≡ line
+
+-- from any number of its first line on
+abbrev pub TextsReadAsWritten : Type 0
+TextsReadAsWritten = (n : ℕ) (lines : List Line) → All IsLine lines → left_from n (text lines) ≡ unread n lines
+
+-- what is written of values is lines: a list of values, a layer of numbers, and one of integers
+pub record WritesLines : Type 0 where
+  pub rows : (xs : List Dec) → 1 ≤ length xs → All IsDec xs → IsLine (row_line number_word xs)
+  pub integer_rows : (xs : List ℤ) → 1 ≤ length xs → All IsShort xs → IsLine (row_line integer_word xs)
+  pub layers : (rows cols : ℕ) (xs : List Dec) → 1 ≤ cols → length xs ≡ rows * cols → All IsDec xs → All IsLine (real_array rows cols xs)
+  pub integer_layers : (rows cols : ℕ) (xs : List ℤ) → 1 ≤ cols → length xs ≡ rows * cols → All IsShort xs → All IsLine (integer_array rows cols xs)
+
+-- at least one value, all on one line
+pub record FreeListsReadAsWritten : Type 0 where
+  pub numbers : (file : List ℕ) (xs : List Dec) → 1 ≤ length xs → All IsDec xs →
+      Reads (free_list number file (length xs)) (row_line number_word xs ∷ []) xs
+  pub integers : (file : List ℕ) (xs : List ℤ) → 1 ≤ length xs → All IsShort xs →
+      Reads (free_list integer file (length xs)) (row_line integer_word xs ∷ []) xs
+
+-- a list of values, which is one row; a layer of numbers, and one of integers
+pub record ArraysReadAsWritten : Type 0 where
+  pub lists : (files : List File) (file : List ℕ) (xs : List Dec) → 1 ≤ length xs → All IsDec xs →
+      Reads (reals files file (length xs)) (real_array 1 (length xs) xs) xs
+  pub layers : (files : List File) (file : List ℕ) (rows cols : ℕ) (xs : List Dec) → 1 ≤ cols → length xs ≡ rows * cols → All IsDec xs →
+      Reads (real_layer files file rows cols) (real_array rows cols xs) xs
+  pub integer_layers : (files : List File) (file : List ℕ) (rows cols : ℕ) (xs : List ℤ) → 1 ≤ cols → length xs ≡ rows * cols → All IsShort xs →
+      Reads (integer_layer files file rows cols) (integer_array rows cols xs) xs

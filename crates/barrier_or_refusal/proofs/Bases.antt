@@ -1,0 +1,67 @@
+-- A problem has a base on each side: the outermost of its marks, or 0.
+use Rattle.std.proofs.Common.{◌≡◌, ℕ, zero, suc, ◌+◌, ◌⊎◌, inl, inr, refl, subst, arith, List, [], ◌∷◌, length, Option, None, Some, ℤ, pos}
+use Rattle.std.proofs.lemmas.Int.{ints}
+use Rattle.step_problem.specs.declared.heads.Side.{Side}
+use Rattle.step_problem.specs.declared.heads.Side.TheVariants.{Low, High}
+use Rattle.step_problem.specs.Entries.{Entries, entries_at}
+use Rattle.barrier_vector.specs.Bases.{IsLowBase, IsHighBase}
+use Rattle.barrier_vector.specs.Marks.{fixed_mark, river_mark, drain_mark, outer_of, IsOutermost, IsMarkIn, IsCellMark, IsMarkBelow}
+use Rattle.barrier_vector.proofs.Marking.{outer_joins, no_marks, no_cells, cells_more, low_base_is, high_base_is}
+use Rattle.barrier_or_refusal.proofs.Decided.{of_all, first_entry, later_entry}
+
+outermost_as : (side : Side) (P Q : ℤ → Type 0) (o : Option ℤ) → ((v : ℤ) → P v → Q v) → ((v : ℤ) → Q v → P v) → IsOutermost side P o → IsOutermost side Q o
+outermost_as side P Q None to from h = λ v q. h v (from v q)
+outermost_as side P Q (Some b) to from h = (to b h.0, λ v q. h.1 v (from v q))
+
+one_mark : (side : Side) (o : Option ℤ) → IsOutermost side (λ v. o ≡ Some v) o
+one_mark side None = λ v e. cc
+one_mark Low (Some b) = (refl, λ v e. let is : v ≡ b = cc in omega (arith, ints, is))
+one_mark High (Some b) = (refl, λ v e. let is : v ≡ b = cc in omega (arith, ints, is))
+
+marks : {X : Type 0} (side : Side) (mark : X → Option ℤ) (xs : List X) → (o : Option ℤ) × IsOutermost side (IsMarkIn mark xs) o
+marks side mark [] = (None, no_marks side mark)
+marks {X} side mark (x ∷ xs) =
+    let (o, is) = marks side mark xs in
+    (outer_of side (mark x) o, outermost_as side (λ v. (mark x ≡ Some v) ⊎ IsMarkIn mark xs v) (IsMarkIn mark (x ∷ xs)) (outer_of side (mark x) o) to back (outer_joins side (λ v. mark x ≡ Some v) (IsMarkIn mark xs) (mark x) o (one_mark side (mark x)) is))
+  where
+    to : (v : ℤ) → (mark x ≡ Some v) ⊎ IsMarkIn mark xs v → IsMarkIn mark (x ∷ xs) v
+    to v (inl e) = (x, first_entry x xs, e)
+    to v (inr (z, has, e)) = (z, later_entry x z xs has, e)
+
+    back : (v : ℤ) → IsMarkIn mark (x ∷ xs) v → (mark x ≡ Some v) ⊎ IsMarkIn mark xs v
+    back v (z, has, e) = of_all (λ (z : X). mark z ≡ Some v → (mark x ≡ Some v) ⊎ IsMarkIn mark xs v) x xs (λ e. inl e) (λ z has e. inr (z, has, e)) z has e
+
+cell_marks : (side : Side) (c : Entries) → (o : Option ℤ) × IsOutermost side (IsCellMark side c) o
+cell_marks side c =
+    let (a, a_is) = marks side (fixed_mark side) c.fixed in
+    let (b, b_is) = marks side (river_mark side) c.rivers in
+    let (d, d_is) = marks side (drain_mark side) c.drains in
+    (outer_of side a (outer_of side b d), outer_joins side (IsMarkIn (fixed_mark side) c.fixed) (λ v. IsMarkIn (river_mark side) c.rivers v ⊎ IsMarkIn (drain_mark side) c.drains v) a (outer_of side b d) a_is (outer_joins side (IsMarkIn (river_mark side) c.rivers) (IsMarkIn (drain_mark side) c.drains) b d b_is d_is))
+
+marks_below : (side : Side) (p : List Entries) (n : ℕ) → (o : Option ℤ) × IsOutermost side (IsMarkBelow side p n) o
+marks_below side p zero = (None, no_cells side p)
+marks_below side p (suc n) =
+    let (best, so_far) = marks_below side p n in
+    let (o, here) = cell_marks side (entries_at p n) in
+    (outer_of side best o, subst (λ (k : ℕ). IsOutermost side (IsMarkBelow side p k) (outer_of side best o)) (one_more n) (cells_more side p n best o (outer_of side best o) refl so_far here))
+  where
+    one_more : (k : ℕ) → k + 1 ≡ suc k
+    one_more k = omega arith
+
+abbrev or_zero : Option ℤ → ℤ
+or_zero None = pos 0
+or_zero (Some b) = b
+
+where_some : (o : Option ℤ) (v : ℤ) → o ≡ Some v → or_zero o ≡ v
+where_some None v e = absurd cc
+where_some (Some b) v e = cc
+
+where_none : (o : Option ℤ) → o ≡ None → or_zero o ≡ pos 0
+where_none None e = refl
+where_none (Some b) e = absurd cc
+
+pub low_base : (p : List Entries) → (b : ℤ) × IsLowBase p b
+low_base p = let (o, is) = marks_below Low p (length p) in (or_zero o, low_base_is p o (or_zero o) is (where_some o) (where_none o))
+
+pub high_base : (p : List Entries) → (b : ℤ) × IsHighBase p b
+high_base p = let (o, is) = marks_below High p (length p) in (or_zero o, high_base_is p o (or_zero o) is (where_some o) (where_none o))

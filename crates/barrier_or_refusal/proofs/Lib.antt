@@ -1,0 +1,7 @@
+pub mod Decided
+pub mod Ways
+pub mod RootPaths
+pub mod Bases
+pub mod Components
+pub mod Bounds
+pub mod Barrier

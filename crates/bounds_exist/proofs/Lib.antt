@@ -1,0 +1,3 @@
+pub mod Roundings
+pub mod TermBounds
+pub mod Pairs

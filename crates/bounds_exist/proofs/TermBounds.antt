@@ -1,0 +1,88 @@
+-- Each formula of decimals whose divisors are above 0 has both bounds.
+use Rattle.std.proofs.Common.{ℕ, zero, suc, ◌+◌, ◌*◌, ◌≤◌, ◌<◌, ◌^◌, inl, inr, refl, sym, subst, arith}
+use Rattle.decimal_input.specs.Decimals.{up}
+use Rattle.decimal_input.specs.Ratios.{Ratio, den, plus, times, over, AtMost}
+use Rattle.decimal_input.proofs.Orders.{Same-back, num_plus, num_times, num_over}
+use Rattle.decimal_input.proofs.Powers.{num_scaled}
+use Rattle.scaled_decimal.specs.declared.decimal.Sd.{Sd}
+use Rattle.scaled_decimal.specs.Nearest.{value}
+use Rattle.conductance_bounds.specs.Terms.{Term, Side, other, end, IsRounded, IsBound}
+use Rattle.conductance_bounds.specs.Terms.Term.{Number, Within, Sum, Product, Quotient}
+use Rattle.conductance_bounds.specs.Terms.Side.{Lower, Upper}
+use Rattle.conductance_bounds.proofs.Enclosing.{positive_value}
+use Rattle.bounds_exist.specs.Bounded.{HasPositiveBounds, IsBounded}
+use Rattle.bounds_exist.proofs.Roundings.{down_of, up_of, down_positive}
+
+positive_product : (a b : ℕ) → 0 < a → 0 < b → 0 < a * b
+positive_product a b h k = grind arith
+
+more_positive : (f g : Ratio) → AtMost f g → 0 < f.num → 0 < g.num
+more_positive f g le some = step f.num (den g) g.num (den f) some (omega arith) le.cross
+  where
+    step : (a y b x : ℕ) → 0 < a → 0 < y → a * y ≤ b * x → 0 < b
+    step a y zero x h k le = absurd (omega (arith, positive_product a y h k, le))
+    step a y (suc b) x h k le = omega arith
+
+decimal_positive : (r : Sd) → 0 < (value r).num → 0 < r.m
+decimal_positive r h = step r.m (10 ^ up r.e) (rw (num_scaled r.m r.e) at h)
+  where
+    step : (m t : ℕ) → 0 < m * t → 0 < m
+    step zero t h = absurd (omega (arith, h))
+    step (suc m) t h = omega arith
+
+-- a positive ratio is rounded to a positive decimal
+pub rounded_positive : (side : Side) (r : Sd) (f : Ratio) → IsRounded side r f → 0 < f.num → 0 < r.m
+rounded_positive Lower r f is some =
+    let (x, x_is, x_some) = down_positive f some in
+    decimal_positive r (more_positive (value x) (value r) (is.greatest x x_is.decimal x_is.at_most) (positive_value x x_some))
+rounded_positive Upper r f is some = decimal_positive r (more_positive f (value r) is.at_least some)
+
+plus_positive : (a b : Sd) → (0 < a.m) → 0 < (plus (value a) (value b)).num
+plus_positive a b h = rw num_plus (first (value a).num (den (value b)) (value b).num (den (value a)) (positive_value a h) (omega arith))
+  where
+    first : (x y z w : ℕ) → 0 < x → 0 < y → 0 < x * y + z * w
+    first x y z w h k = omega (arith, positive_product x y h k)
+
+plus_positive_too : (a b : Sd) → (0 < b.m) → 0 < (plus (value a) (value b)).num
+plus_positive_too a b h = rw num_plus (second (value a).num (den (value b)) (value b).num (den (value a)) (positive_value b h) (omega arith))
+  where
+    second : (x y z w : ℕ) → 0 < z → 0 < w → 0 < x * y + z * w
+    second x y z w h k = omega (arith, positive_product z w h k)
+
+times_positive : (a b : Sd) → 0 < a.m → 0 < b.m → 0 < (times (value a) (value b)).num
+times_positive a b h k = rw num_times (positive_product (value a).num (value b).num (positive_value a h) (positive_value b k))
+
+over_positive : (a b : Sd) → 0 < a.m → 0 < (over (value a) (value b)).num
+over_positive a b h = rw num_over (positive_product (value a).num (den (value b)) (positive_value a h) (omega arith))
+
+bound_positive : (t : Term) → HasPositiveBounds t → (side : Side) (r : Sd) → IsBound t side r → 0 < r.m
+bound_positive (Number f) some side r is = decimal_positive r (more_positive f (value r) (Same-back is.1) some)
+bound_positive (Within lo hi f) some Lower r is = subst (λ (x : Sd). 0 < x.m) (sym is) some.0
+bound_positive (Within lo hi f) some Upper r is = subst (λ (x : Sd). 0 < x.m) (sym is) some.1
+bound_positive (Sum t u) (inl some) side r (a, b, ta, ub, is) = rounded_positive side r (plus (value a) (value b)) is (plus_positive a b (bound_positive t some side a ta))
+bound_positive (Sum t u) (inr some) side r (a, b, ta, ub, is) = rounded_positive side r (plus (value a) (value b)) is (plus_positive_too a b (bound_positive u some side b ub))
+bound_positive (Product t u) some side r (a, b, ta, ub, is) = rounded_positive side r (times (value a) (value b)) is (times_positive a b (bound_positive t some.0 side a ta) (bound_positive u some.1 side b ub))
+bound_positive (Quotient t u) some side r (a, b, ta, ub, divisor, is) = rounded_positive side r (over (value a) (value b)) is (over_positive a b (bound_positive t some side a ta))
+
+rounding : (side : Side) (f : Ratio) → (r : Sd) × IsRounded side r f
+rounding Lower f = down_of f
+rounding Upper f = up_of f
+
+pub bound_of : (t : Term) → IsBounded t → (side : Side) → (r : Sd) × IsBound t side r
+bound_of (Number f) (x, is, same) side = (x, (is, same))
+bound_of (Within lo hi f) within side = (end side lo hi, refl)
+bound_of (Sum t u) (t_is, u_is) side =
+    let (a, ta) = bound_of t t_is side in
+    let (b, ub) = bound_of u u_is side in
+    let (r, is) = rounding side (plus (value a) (value b)) in
+    (r, (a, b, ta, ub, is))
+bound_of (Product t u) (t_is, u_is) side =
+    let (a, ta) = bound_of t t_is side in
+    let (b, ub) = bound_of u u_is side in
+    let (r, is) = rounding side (times (value a) (value b)) in
+    (r, (a, b, ta, ub, is))
+bound_of (Quotient t u) (t_is, u_is, some) side =
+    let (a, ta) = bound_of t t_is side in
+    let (b, ub) = bound_of u u_is (other side) in
+    let (r, is) = rounding side (over (value a) (value b)) in
+    (r, (a, b, ta, ub, bound_positive u some (other side) b ub, is))

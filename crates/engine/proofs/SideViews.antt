@@ -1,0 +1,73 @@
+-- What a viewer that puts to a sink put in a run.
+use Rattle.std.proofs.Common.{◌≡◌, ◌∙◌, ℕ, List, [], Bool, true, Option, None, Some, ap, refl}
+use Rattle.std.specs.Prelude.{is_some}
+use Rattle.outside.specs.Counts.{Rose}
+use Rattle.outside.specs.Puts.{Put, PutsMake, Seen}
+use Rattle.outside.specs.declared.traits.SinkError.{SinkError}
+use Rattle.outside.specs.declared.traits.SinkError.TheVariants.{Write}
+use Rattle.step_problem.specs.declared.heads.Bound.{Bound}
+use Rattle.step_problem.specs.Entries.{Entries}
+use Rattle.step_problem.specs.Heads.{Edges}
+use Rattle.settle_driver.specs.Views.{AddsPhases, EnclosesPair}
+use Rattle.view_puts.specs.declared.viewer.SinkViewer.{SinkViewer}
+use Rattle.view_puts.specs.Puts.{LeadOn, ViewPuts, no_lead, no_view}
+use Rattle.listing_run.specs.declared.task.Task.{Task}
+use Rattle.listing_run.specs.Settlers.{AllSettledBy, Reaches}
+use Rattle.engine.specs.Watched.{IsWatched, Shows, SidePuts, lines_of}
+use Rattle.engine.proofs.Mapped.{reached}
+use Rattle.engine.proofs.Viewed.{SideSoFar, is_watched, side_puts, side_rose, side_so_far}
+
+module _ {W X : Type 0} (leads : W → List Put → W → Type 0) (text : X → ℕ → ℕ → List Entries → List Bound → List ℕ) where
+  abbrev Viewer : Type 0
+  Viewer = SinkViewer W X
+
+  abbrev begins : Viewer → ℕ → ℕ → Viewer → Type 0
+  begins s i j t = t ≡ record s { period = i; step = j }
+
+  abbrev viewed : Viewer → List Entries → Edges → ℕ → Viewer → Type 0
+  viewed s p b n t = (t.sink.ghost_name ≡ s.sink.ghost_name) × (t.text ≡ s.text) × (t.period ≡ s.period) × (t.step ≡ s.step) × ViewPuts (text s.text.now s.period s.step p) (EnclosesPair p b) (LeadOn leads s.sink.now t.sink.now) n s.stop t.stop
+
+  abbrev stopped : Viewer → Type 0
+  stopped s = is_some s.stop ≡ true
+
+  abbrev stop : Viewer → Option SinkError
+  stop s = s.stop
+
+  abbrev sink : Viewer → W
+  sink s = s.sink.now
+
+  abbrev text_of : Viewer → ℕ → ℕ → List Entries → List Bound → List ℕ
+  text_of s = text s.text.now
+
+  is_begun : (s t : Viewer) (i j : ℕ) → begins s i j t → (sink t ≡ sink s) × (text_of t ≡ text_of s) × (t.period ≡ i) × (t.step ≡ j) × (stop t ≡ stop s)
+  is_begun s t i j e = (ap (λ (v : Viewer). v.sink.now) e, ap (λ (v : Viewer). text v.text.now) e, ap (λ (v : Viewer). v.period) e, ap (λ (v : Viewer). v.step) e, ap (λ (v : Viewer). v.stop) e)
+
+  is_viewed : (s t : Viewer) (p : List Entries) (b : Edges) (n : ℕ) → viewed s p b n t → (text_of t ≡ text_of s) × ViewPuts (text_of s s.period s.step p) (EnclosesPair p b) (LeadOn leads (sink s) (sink t)) n (stop s) (stop t)
+  is_viewed s t p b n h = (ap (λ x. text x.now) h.1, h.4)
+
+  no_view_yet : (s : Viewer) (p : List Entries) (b : Edges) → viewed s p b 0 s
+  no_view_yet s p b = (refl, refl, refl, refl, no_view (text s.text.now s.period s.step p) (EnclosesPair p b) (LeadOn leads s.sink.now s.sink.now) s.stop (no_lead leads s.sink.now))
+
+  -- the sink stays the same reference
+  pub same_sink : (n : ℕ) (first now : Viewer) → Reaches begins (Shows viewed stopped n) stop first now → now.sink.ghost_name ≡ first.sink.ghost_name
+  same_sink n first now h =
+      (reached begins (Shows viewed stopped n) stop begins (Shows viewed stopped n) stop (λ s. s) (λ s. s.sink.ghost_name ≡ first.sink.ghost_name)
+      (λ s t i j k b. (ap (λ (v : Viewer). v.sink.ghost_name) b ∙ k, b))
+      (λ s t p b ended k l. ((l.views.more s 0 (no_view_yet s p b)).0 ∙ k, l))
+      (λ s. refl) first now refl h).0
+
+  abbrev SoFar : Viewer → Viewer → Type 0
+  SoFar = SideSoFar leads sink text_of (λ s. s.period) (λ s. s.step) stop begins viewed stopped is_begun is_viewed (λ s h. h) no_view_yet
+
+  so_far : (n : ℕ) (first now : Viewer) → stop first ≡ None → Reaches begins (Shows viewed stopped n) stop first now → SoFar first now
+  so_far n first now none h = side_so_far leads sink text_of (λ s. s.period) (λ s. s.step) stop begins viewed stopped is_begun is_viewed (λ s h. h) no_view_yet n first now none h
+
+  module _ (starts : (s : W) → leads s [] s) (n : ℕ) (first now : Viewer) (none : first.stop ≡ None) (h : Reaches begins (Shows viewed stopped n) stop first now) where
+    pub puts_of_side : SidePuts (λ puts. leads first.sink.now puts now.sink.now) (Some n)
+    puts_of_side = side_puts leads sink text_of (λ s. s.period) (λ s. s.step) stop begins viewed stopped is_begun is_viewed (λ s h. h) no_view_yet starts n first now (so_far n first now none h)
+
+    pub side_failed : (seen : W → Seen) → ((s : W) (puts : List Put) (t : W) → leads s puts t → PutsMake (seen s) puts (seen t)) → now.stop ≡ Some Write → Rose (seen first.sink.now).faults (seen now.sink.now).faults
+    side_failed seen tells wrote = side_rose leads sink text_of (λ s. s.period) (λ s. s.step) stop begins viewed stopped is_begun is_viewed (λ s h. h) no_view_yet starts seen tells first now (so_far n first now none h) wrote
+
+    pub views_of_all : (k : Task) → text first.text.now ≡ lines_of k.model.grid → AllSettledBy begins (Shows viewed stopped n) stop k first now → IsWatched k n (λ puts. leads first.sink.now puts now.sink.now)
+    views_of_all k fits all = is_watched leads sink text_of (λ s. s.period) (λ s. s.step) stop begins viewed stopped is_begun is_viewed (λ s h. h) no_view_yet starts k n first now fits none all

@@ -1,0 +1,84 @@
+-- What a watched run puts to its side sink.
+use Rattle.std.specs.Prelude.{◌≡◌, ◌⊎◌, ℕ, ◌*◌, ◌<◌, List, [], ◌∷◌, ◌++◌, length, map, All, Bool, Option, Some, None, option_and_then}
+use Rattle.outside.specs.Files.{File}
+use Rattle.outside.specs.Puts.{Put, taken, refused}
+use Rattle.outside.specs.declared.traits.SinkError.{SinkError}
+use Rattle.step_problem.specs.declared.heads.Bound.{Bound}
+use Rattle.step_problem.specs.Entries.{Entries}
+use Rattle.step_problem.specs.Heads.{Edges}
+use Rattle.command_line.specs.Wants.{Wanted, Lists, wanted_of}
+use Rattle.model_types.specs.declared.grid.Grid.{Grid}
+use Rattle.model_types.specs.declared.time_steps.TimeStep.{TimeStep}
+use Rattle.model_types.specs.Times.{times}
+use Rattle.problem_builder.specs.StartHeads.{AreStartHeads}
+use Rattle.settle_driver.specs.Views.{AddsPhases, EnclosesPair}
+use Rattle.step_chain.specs.Steps.{IsPosed}
+use Rattle.listing_io.specs.Views.{view_text}
+use Rattle.run_puts.specs.Lines.{Text}
+use Rattle.listing_run.specs.declared.task.Task.{Task}
+use Rattle.listing_run.specs.declared.step.Step.{Step}
+use Rattle.listing_run.specs.Listing.{time}
+use Rattle.listing_run.specs.Settlers.{EnclosesSolutions}
+use Rattle.listing_run.specs.Steps.{IsStep}
+use Rattle.engine.specs.Cases.{Listing, case_of}
+
+-- the number of views in each phase that the words ask for
+abbrev pub views_asked : Wanted → Option ℕ
+views_asked (Lists name digits workers rounds zones watch) = watch
+views_asked other = None
+
+abbrev pub views_in : List Text → Option ℕ
+views_in words = option_and_then views_asked (wanted_of words)
+
+-- the text of a view, by the stress period and the number of its step
+abbrev pub lines_of : Grid → ℕ → ℕ → List Entries → List Bound → List ℕ
+lines_of grid period step p heads = view_text grid (time period step) p heads
+
+-- Between the heads of a view lie the settled pair of its step's problem, and every solution of the exact step, from all exact heads within the old ones, at the variable cells.
+pub record IsView (k : Task) (at : TimeStep) (old : List Bound) (p : List Entries) (b : Edges) (heads : List Bound) : Type 0 where
+  pub pair : EnclosesPair p b heads
+  pub solutions : EnclosesSolutions k.model at old p heads
+
+-- These are the texts of the views of a step: none without a variable cell, else the same number of views in each of some phases.
+pub record AreViews (k : Task) (each_phase : ℕ) (at : TimeStep) (old : List Bound) (texts : List Text) : Type 0 where
+  pub problem : List Entries
+  pub barrier : Edges
+  pub posed : IsPosed k.model k.digits at old problem barrier
+  pub views : List (List Bound)
+  pub no_cell : length problem ≡ 0 → views ≡ []
+  pub each : 0 < length problem → (phases : ℕ) × (0 < phases) × (length views ≡ phases * each_phase)
+  pub enclose : All (IsView k at old problem barrier) views
+  pub are : texts ≡ map (view_text k.model.grid at problem) views
+
+-- The steps of these times, each from the heads of the one before it, have views with these texts, in turn.
+abbrev pub AreWatched : Task → ℕ → List Bound → List TimeStep → List Text → Type 0
+AreWatched k n old [] texts = texts ≡ []
+AreWatched k n old (at ∷ times) texts =
+    (v : Step) × (here : List Text) × (rest : List Text) × IsStep k at old v × AreViews k n at old here × (texts ≡ here ++ rest) × AreWatched k n v.heads times rest
+
+-- The side sink got the texts of the views of all steps, each taken whole, and nothing else: `leads` says which puts lead from that sink before to that sink after.
+pub record IsWatched (k : Task) (each_phase : ℕ) (leads : List Put → Type 0) : Type 0 where
+  pub start : List Bound
+  pub is_start : AreStartHeads k.model start
+  pub texts : List Text
+  pub watched : AreWatched k each_phase start (times k.model) texts
+  pub led : leads (map taken texts)
+
+-- so it is with the listing of these words and files
+pub record Watched (words : List Text) (files : List File) (each_phase : ℕ) (leads : List Put → Type 0) : Type 0 where
+  pub task : Task
+  pub is : case_of words files ≡ Listing task
+  pub watched : IsWatched task each_phase leads
+
+-- what is put to the side sink after the texts that were taken: nothing, or one text that was refused
+abbrev pub IsSideEnd : List Put → Type 0
+IsSideEnd last = (last ≡ []) ⊎ ((text : Text) × (error : SinkError) × (last ≡ refused text error ∷ []))
+
+-- What is put to the side sink, whatever the status: nothing without `--watch`; with it texts, each taken whole, and at most one more, which was refused.
+abbrev pub SidePuts : (List Put → Type 0) → Option ℕ → Type 0
+SidePuts leads None = leads []
+SidePuts leads (Some n) = (texts : List Text) × (last : List Put) × IsSideEnd last × leads (map taken texts ++ last)
+
+-- what a settling shows to a viewer, with this many views in each phase
+abbrev pub Shows : {V : Type 0} → (V → List Entries → Edges → ℕ → V → Type 0) → (V → Type 0) → ℕ → V → List Entries → Edges → Bool → V → Type 0
+Shows viewed stopped n s p b ended t = AddsPhases viewed stopped p b n ended s t

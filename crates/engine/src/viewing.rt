@@ -1,0 +1,112 @@
+// A listing by workers in threads, whose heads are viewed while they settle.
+ghost use Rattle.std.specs.Prelude.{◌≡◌, List, ◌++◌, None, Some};
+ghost use Rattle.outside.specs.Counts.{Rose};
+ghost use Rattle.outside.specs.Puts.{Put};
+ghost use Rattle.outside.specs.declared.traits.SinkError.TheVariants.{Write};
+ghost use Rattle.run_puts.specs.Runs.{IsRun};
+ghost use Rattle.step_problem.specs.Heads.{IsBarrier};
+ghost use Rattle.step_problem.specs.Settling.{Settles};
+ghost use Rattle.settle_driver.specs.Phases.{IsPlan};
+ghost use Rattle.settle_driver.specs.Views.{AddsPhases, had_memory};
+ghost use Rattle.listing_run.specs.Ends.{IsTask};
+ghost use Rattle.listing_run.specs.Listing.{IsListingBeside, IsCutListing};
+ghost use Rattle.listing_run.specs.Settlers.{AllSettledBy, Reaches};
+ghost use Rattle.engine.specs.Watched.{IsWatched, Shows, SidePuts, lines_of};
+
+use crate::view_lines::ViewLines;
+use listing_run::{Task, put_steps};
+use near_settler::NearSettler;
+use outside::{Gate, Sink};
+use run_puts::Status;
+use settle_driver::{Plan, StepViewer, WatchBy};
+use std::alloc::Global;
+use std::thread::Threads;
+use step_problem::{Barrier, Bound, Problem, SettleFault};
+use view_puts::{SinkViewer, ViewText};
+
+// Puts the listing of a task, each step settled by this plan, while a viewer looks at the heads: so many views in each
+// phase.
+fn put_shown<R: Threads + Sync, K: Sink + Send, V: StepViewer + Send, G: Gate + Sync>(
+    rt: &R,
+    alloc: Global,
+    task: &Task,
+    plan: Plan,
+    views: u32,
+    viewer: &mut V,
+    out: &mut K,
+    gate: &G,
+) -> Status
+    requires task { IsTask task.now }
+    requires plan { IsPlan plan }
+    requires rounds { plan.rounds ≡ task.now.rounds }
+    requires goes_on { V.stop viewer.old ≡ None }
+    ensures puts { (start : _) (puts : List Put) → K.leads start puts out.old →
+        (more : List Put) × K.leads start (puts ++ more) out.new
+        × IsRun (IsListingBeside (V.stop viewer.new ≡ Some Write) task.now) (IsCutListing task.now) result more
+        × (result ≡ Status.Ok → AllSettledBy V.begins (Shows V.viewed V.stopped views) V.stop task.now viewer.old viewer.new) }
+    ensures reaches { Reaches V.begins (Shows V.viewed V.stopped views) V.stop viewer.old viewer.new }
+{
+    let near = NearSettler::new(rt, plan, gate);
+    let near = &near;
+    let mut settler = WatchBy::new(
+        plan.rounds,
+        views,
+        viewer,
+        |alloc: Global, p: &Problem, b: &Barrier, v: &mut V| -> Result<Vec<Bound>, SettleFault>
+            requires { IsBarrier p.now b.now }
+            ensures settles { Settles p.entry.now b.entry.now near.entry.now.plan.rounds result }
+            ensures viewed { AddsPhases V.viewed V.stopped p.entry.now b.entry.now views (had_memory result) v.entry.now v.exit.now }
+        { near.settle_watched(alloc, p, b, views, v) },
+    );
+    put_steps(rt, alloc, task, &mut settler, out)
+}
+
+// Puts the listing of a task, and each view to the side sink, as one piece of text: so many views in each phase.
+fn put_texts<R: Threads + Sync, K: Sink + Send, W: Sink + Send, X: ViewText + Sync, G: Gate + Sync>(
+    rt: &R,
+    alloc: Global,
+    task: &Task,
+    plan: Plan,
+    views: u32,
+    text: &X,
+    out: &mut K,
+    side: &mut W,
+    gate: &G,
+) -> Status
+    requires task { IsTask task.now }
+    requires plan { IsPlan plan }
+    requires rounds { plan.rounds ≡ task.now.rounds }
+    requires text { X.text text.now ≡ lines_of task.now.model.grid }
+    ensures puts { (start : _) (puts : List Put) → K.leads start puts out.old →
+        (more : List Put) × K.leads start (puts ++ more) out.new
+        × IsRun (IsListingBeside (Rose (W.seen side.old).faults (W.seen side.new).faults) task.now) (IsCutListing task.now) result more
+        × (result ≡ Status.Ok → IsWatched task.now views (λ puts. W.leads side.old puts side.new)) }
+    ensures side { SidePuts (λ puts. W.leads side.old puts side.new) (Some views) }
+{
+    let mut viewer = SinkViewer::new(alloc, side, text);
+    put_shown(rt, alloc, task, plan, views, &mut viewer, out, gate)
+}
+
+/// Puts the listing of a task, as `put_listing` does, and each view to the side sink: so many views in each phase.
+pub(crate) fn put_watched<R: Threads + Sync, K: Sink + Send, W: Sink + Send, G: Gate + Sync>(
+    rt: &R,
+    alloc: Global,
+    task: &Task,
+    plan: Plan,
+    views: u32,
+    out: &mut K,
+    side: &mut W,
+    gate: &G,
+) -> Status
+    requires task { IsTask task.now }
+    requires plan { IsPlan plan }
+    requires rounds { plan.rounds ≡ task.now.rounds }
+    ensures puts { (start : _) (puts : List Put) → K.leads start puts out.old →
+        (more : List Put) × K.leads start (puts ++ more) out.new
+        × IsRun (IsListingBeside (Rose (W.seen side.old).faults (W.seen side.new).faults) task.now) (IsCutListing task.now) result more
+        × (result ≡ Status.Ok → IsWatched task.now views (λ puts. W.leads side.old puts side.new)) }
+    ensures side { SidePuts (λ puts. W.leads side.old puts side.new) (Some views) }
+{
+    let text = ViewLines::new(&task.model.grid);
+    put_texts(rt, alloc, task, plan, views, &text, out, side, gate)
+}

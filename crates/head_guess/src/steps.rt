@@ -1,0 +1,144 @@
+// What the guess of a step keeps for that of the next one.
+use crate::half::Ended;
+use crate::linear::Linear;
+use crate::one_side::turned;
+use multigrid::numbers::{at, cut};
+use std::alloc::{AllocError, Global};
+use step_problem::{Barrier, Cell, FixedKind, Problem, Side};
+
+/// Where both sides ended in a step, and the balanced heads of the step before it, if those are known.
+#[derive(Drop)]
+pub struct LastStep {
+    pub low: Ended,
+    pub high: Ended,
+    pub before: Option<Before>,
+}
+
+/// Balanced heads of both sides, each with its sign.
+#[derive(Drop)]
+pub struct Before {
+    pub low: Vec<i64>,
+    pub high: Vec<i64>,
+}
+
+/// The balanced heads of a step, if it is known.
+pub fn before_of(step: Option<LastStep>) -> Option<Before> {
+    let LastStep { low, high, .. } = step?;
+    Some(Before {
+        low: low.balanced,
+        high: high.balanced,
+    })
+}
+
+/// What the guess of a step leaves for that of the next one. Only running time depends on it.
+#[derive(Drop)]
+pub struct Kept {
+    pub(crate) linear: Option<Linear>,
+    pub(crate) last: Option<LastStep>,
+}
+
+// The old head of a cell with storage.
+fn old_head(cell: &Cell) -> Option<i64> {
+    for fixed in &cell.fixed {
+        if fixed.kind == FixedKind::Storage && fixed.lo > 0 {
+            return Some(fixed.head_lo);
+        }
+    }
+    None
+}
+
+fn has_storage(p: &Problem) -> bool {
+    for cell in 0..p.len() {
+        if old_head(p.cell(cell)).is_some() {
+            return true;
+        }
+    }
+    false
+}
+
+impl Kept {
+    /// Nothing, as before the first step.
+    pub fn new() -> Kept {
+        Kept {
+            linear: None,
+            last: None,
+        }
+    }
+
+    // Takes the last step out, if both sides settled there. None where this step has no storage, since steady heads may be far from
+    // the last ones, or where it has other cells.
+    pub(crate) fn take_last(&mut self, p: &Problem) -> Option<LastStep> {
+        let last = self.last.take()?;
+        let serves = last.low.is_settled
+            && last.high.is_settled
+            && last.low.balanced.len() == p.len()
+            && has_storage(p);
+        if serves { Some(last) } else { None }
+    }
+}
+
+// The old head of a cell with storage, else its ceiling: at the ceiling rivers and drains have their effect.
+fn first_head(p: &Problem, b: &Barrier, cell: usize) -> i64 {
+    let ceiling = at(b.ceiling.as_slice(), cell);
+    if p.len() <= cell {
+        return ceiling;
+    }
+    old_head(p.cell(cell)).unwrap_or(ceiling)
+}
+
+// Heads as far from the first ones as these are from those before them.
+fn continued(alloc: Global, before: &[i64], heads: &[i64]) -> Result<Vec<i64>, AllocError> {
+    let mut next = Vec::with_capacity(alloc, heads.len())?;
+    for (cell, head) in heads.iter().enumerate() {
+        let way = *head as i128 - at(before, cell) as i128;
+        next.push(turned(Side::Low, cut((*head as i128).wrapping_add(way))))?;
+    }
+    Ok(next)
+}
+
+/// Where the balanced lower heads start: as far from those of the last step as these were from the ones before.
+pub fn low_start(
+    alloc: Global,
+    p: &Problem,
+    b: &Barrier,
+    last: &Option<LastStep>,
+) -> Result<Vec<i64>, AllocError> {
+    if let Some(last) = last {
+        if let Some(before) = &last.before {
+            return continued(alloc, before.low.as_slice(), last.low.balanced.as_slice());
+        }
+    }
+    let mut heads = Vec::with_capacity(alloc, p.len())?;
+    for cell in 0..p.len() {
+        heads.push(first_head(p, b, cell))?;
+    }
+    Ok(heads)
+}
+
+// How far the balanced heads of a cell will be apart, as they were in the last step and before it.
+fn apart(last: &LastStep, cell: usize) -> i128 {
+    let low = at(last.low.balanced.as_slice(), cell) as i128;
+    let apart = low.wrapping_add(at(last.high.balanced.as_slice(), cell) as i128);
+    match &last.before {
+        Some(before) => {
+            let low = at(before.low.as_slice(), cell) as i128;
+            let past = low.wrapping_add(at(before.high.as_slice(), cell) as i128);
+            apart.wrapping_mul(2).wrapping_sub(past)
+        }
+        None => apart,
+    }
+}
+
+/// Where the balanced upper heads start, with the opposite sign: near the lower ones, as far from these as the last steps promise.
+pub fn high_start(
+    alloc: Global,
+    low: &[i64],
+    last: &Option<LastStep>,
+) -> Result<Vec<i64>, AllocError> {
+    let mut heads = Vec::with_capacity(alloc, low.len())?;
+    for (cell, head) in low.iter().enumerate() {
+        let apart = last.as_ref().map_or(0, |last| apart(last, cell));
+        heads.push(turned(Side::Low, cut(apart.wrapping_sub(*head as i128))))?;
+    }
+    Ok(heads)
+}

@@ -1,0 +1,64 @@
+// A view of heads while they settle, as text.
+ghost use Rattle.std.specs.Prelude.{◌≡◌, ◌++◌, ◌<◌, length, IfOk};
+ghost use Rattle.step_problem.specs.Entries.{entries_at};
+ghost use Rattle.model_types.specs.Grids.{HasSize};
+ghost use Rattle.listing_io.specs.Listing.{ended, text_of};
+ghost use Rattle.listing_io.specs.Views.{variable_lines, view_text, watch_line};
+
+use crate::listing_writer::push_head;
+use crate::places::push_two;
+use model_types::{Grid, TimeStep};
+use std::alloc::{AllocError, Global};
+use step_problem::{Bound, Problem};
+
+fn push_watch_line(text: &mut Vec<u8>, at: TimeStep) -> Result<(), AllocError>
+    ensures { IfOk result (λ _. text.new.items ≡ text.old.items ++ ended (watch_line at)) }
+{
+    text.extend_from_slice(b"WATCH")?;
+    push_two(text, at.period, at.step)?;
+    text.push(b'\n')?;
+    Ok(())
+}
+
+// The cell number of a variable cell.
+fn id_at(p: &Problem, cell: usize) -> u32
+    requires { cell < length p.now }
+    ensures { result ≡ (entries_at p.now cell).id }
+{
+    p.cell(cell).id
+}
+
+fn push_variable_cells(
+    text: &mut Vec<u8>,
+    grid: &Grid,
+    p: &Problem,
+    heads: &[Bound],
+) -> Result<(), AllocError>
+    requires size { HasSize grid.now }
+    requires whole { length heads.now ≡ length p.now }
+    ensures { IfOk result (λ _. text.new.items ≡ text.old.items ++ text_of (variable_lines grid.now p.now 0 heads.now)) }
+{
+    for cell in 0..heads.len() {
+        push_head(text, grid, id_at(p, cell), heads[cell])?;
+    }
+    Ok(())
+}
+
+/// A view of a time step: the line WATCH, then the heads of the problem's variable cells.
+#[tactic(auto, unfolding(crate::specs::Views::view_text))]
+pub fn write_view(
+    alloc: Global,
+    grid: &Grid,
+    at: TimeStep,
+    p: &Problem,
+    heads: &[Bound],
+) -> Result<Vec<u8>, AllocError>
+    requires size { HasSize grid.now }
+    requires whole { length heads.now ≡ length p.now }
+    ensures { IfOk result (λ text. text.items ≡ view_text grid.now at p.now heads.now) }
+{
+    let mut text = Vec::new(alloc);
+    push_watch_line(&mut text, at)?;
+    push_variable_cells(&mut text, grid, p, heads)?;
+    Ok(text)
+}

@@ -1,0 +1,77 @@
+-- Runs that end before all steps are listed, and runs beside which a write failed.
+use Rattle.std.proofs.Common.{◌≡◌, ◌∙◌, List, [], ◌∷◌, ◌++◌, map, inl, inr, sym, subst, ap, refl, Some}
+use Rattle.std.proofs.lemmas.List.{append-nil, map-append}
+use Rattle.outside.specs.Puts.{Put, taken}
+use Rattle.outside.specs.declared.traits.SinkError.{SinkError}
+use Rattle.outside.specs.declared.traits.SinkError.TheVariants as error
+use Rattle.step_problem.specs.declared.heads.Bound.{Bound}
+use Rattle.model_types.specs.declared.time_steps.TimeStep.{TimeStep}
+use Rattle.run_puts.specs.Lines.{Text}
+use Rattle.run_puts.specs.Ends.{IsEnd, IsLast, IsPut, IsWanting}
+use Rattle.run_puts.specs.Runs.{IsRun, whole}
+use Rattle.run_puts.specs.Tails.{memory_put, status_after, wanting}
+use Rattle.run_puts.specs.declared.status.Status.{Status}
+use Rattle.run_puts.specs.declared.status.Status.TheVariants as status
+use Rattle.run_puts.proofs.Pieces.{IsLate, lacks_after, late_not_ok, tail_late, weaker}
+use Rattle.listing_run.specs.declared.task.Task.{Task}
+use Rattle.listing_run.specs.declared.step.Fault.{Fault}
+use Rattle.listing_run.specs.declared.step.Fault.TheVariants as why
+use Rattle.listing_run.specs.Ends.{IsStepEnd, IsStopEnd}
+use Rattle.listing_run.specs.Listing.{IsCutListing, IsListing, IsListingBeside, begun, left, listed}
+use Rattle.listing_run.proofs.UnderWay.{IsUnderWay, cut_listing}
+
+-- a run that ended so didn't end Ok
+pub put_not_ok : (pending : Text) (end : Status) (tail : List Put) → IsPut pending (Some end) tail → end ≡ status.Ok → ⊥
+put_not_ok pending end tail h = late_not_ok end (tail_late (pending ∷ []) end tail (h []))
+
+pub wanting_not_ok : (end : Status) (tail : List Put) → IsWanting end tail → end ≡ status.Ok → ⊥
+wanting_not_ok end tail (answer, s, t) =
+    let P : Status → Type 0 = IsLate in
+    late_not_ok end (subst P (sym s) (tail_late [] (status_after answer) (memory_put answer ∷ []) (wanting [] answer)))
+
+end_not_ok : (line : Text) (meant end : Status) (tail : List Put) → (meant ≡ status.Ok → ⊥) → IsEnd line meant end tail → end ≡ status.Ok → ⊥
+end_not_ok line meant end tail not (inl (inl (same, t))) e = not (sym same ∙ e)
+end_not_ok line meant end tail not (inl (inr t)) e = late_not_ok end (tail_late (line ∷ []) end tail t) e
+end_not_ok line meant end tail not (inr w) e = wanting_not_ok end tail w e
+
+pub step_end_not_ok : (k : Task) (at : TimeStep) (f : Fault) (end : Status) (tail : List Put) → IsStepEnd k at f end tail → end ≡ status.Ok → ⊥
+step_end_not_ok k at (why.NoBound n) end tail h = end_not_ok _ (status.NoBound at.period at.step n) end tail (λ e. let bad : status.NoBound at.period at.step n ≡ status.Ok = e in cc) h
+step_end_not_ok k at why.Unfinished end tail h = end_not_ok _ (status.Unfinished at.period at.step) end tail (λ e. let bad : status.Unfinished at.period at.step ≡ status.Ok = e in cc) h
+step_end_not_ok k at why.Memory end tail h = wanting_not_ok end tail h
+
+pub stop_end_not_ok : (fault : SinkError) (end : Status) (tail : List Put) → IsStopEnd fault end tail → end ≡ status.Ok → ⊥
+stop_end_not_ok error.Write end tail (same, t) e = let bad : status.WriteFault ≡ status.Ok = sym same ∙ e in cc
+stop_end_not_ok error.Memory end tail h e = wanting_not_ok end tail h e
+
+module _ (failed : Type 0) (k : Task) where
+  pub beside : (end : Status) (puts : List Put) → IsRun (IsListing k) (IsCutListing k) end puts → IsRun (IsListingBeside failed k) (IsCutListing k) end puts
+  beside end puts h = weaker (IsListing k) (IsListingBeside failed k) (IsCutListing k) (λ meant pieces d. listed meant pieces d) end puts h
+
+  pub ends_stopped : (fault : SinkError) (old : List Bound) (rest : List TimeStep) (pending : Text) (puts tail last : List Put) (end : Status) → IsUnderWay k old rest pending puts → tail ≡ taken pending ∷ [] → (fault ≡ error.Write → failed) → IsStopEnd fault end last →
+      IsRun (IsListingBeside failed k) (IsCutListing k) end (puts ++ tail ++ last)
+  ends_stopped error.Write old rest pending puts tail last end u e why (same, none) =
+      let i = u.here in
+      let both : puts ++ tail ≡ map taken (i.before ++ (pending ∷ [])) = rw (e, i.written) (sym (map-append taken i.before (pending ∷ []))) in
+      let all : puts ++ tail ≡ map taken (begun k u.values) = both ∙ ap (map taken) (sym i.all) in
+      let Q : List Put → Type 0 = λ ps. IsRun (IsListingBeside failed k) (IsCutListing k) status.WriteFault ps in
+      let ran : Q (puts ++ tail) = subst Q (sym all) (whole status.WriteFault (begun k u.values) (left (begun k u.values) (why refl) (cut_listing k old rest pending puts u))) in
+      rw (same, none) (subst Q (sym (append-nil (puts ++ tail))) ran)
+  ends_stopped error.Memory old rest pending puts tail last end u e why h =
+      let i = u.here in
+      lacks_after (IsListingBeside failed k) (IsCutListing k) (begun k u.values) pending puts tail last end (record { before = i.before; all = i.all; written = i.written }) (cut_listing k old rest pending puts u) e h
+
+-- a write failed beside by another account
+beside_taken : (failed other : Type 0) (k : Task) → (failed → other) → (end : Status) (pieces : List Text) → IsListingBeside failed k end pieces → IsListingBeside other k end pieces
+beside_taken failed other k takes end pieces (listed meant all d) = listed meant all d
+beside_taken failed other k takes end pieces (left all f c) = left all (takes f) c
+
+pub beside_by : (failed other : Type 0) (k : Task) → (failed → other) → (end : Status) (puts : List Put) → IsRun (IsListingBeside failed k) (IsCutListing k) end puts → IsRun (IsListingBeside other k) (IsCutListing k) end puts
+beside_by failed other k takes end puts h = weaker (IsListingBeside failed k) (IsListingBeside other k) (IsCutListing k) (beside_taken failed other k takes) end puts h
+
+-- nothing beside can fail to be written
+listed_alone : (failed : Type 0) (k : Task) → (failed → ⊥) → (end : Status) (pieces : List Text) → IsListingBeside failed k end pieces → IsListing k end pieces
+listed_alone failed k never end pieces (listed meant all d) = d
+listed_alone failed k never end pieces (left all f c) = absurd (never f)
+
+pub alone : (failed : Type 0) (k : Task) → (failed → ⊥) → (end : Status) (puts : List Put) → IsRun (IsListingBeside failed k) (IsCutListing k) end puts → IsRun (IsListing k) (IsCutListing k) end puts
+alone failed k never end puts h = weaker (IsListingBeside failed k) (IsListing k) (IsCutListing k) (listed_alone failed k never) end puts h

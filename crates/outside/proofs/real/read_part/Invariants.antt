@@ -1,0 +1,6 @@
+use Rattle.std.proofs.Common.{◌≡◌, length}
+use Rattle.std.specs.Io.KnownBytes.{Keeps}
+use Rattle.outside.proofs.real.read_part.Given as goal
+
+abbrev pub invariant-loop : goal.invariant-loop
+invariant-loop g l = (length l.piece ≡ length l.initial.piece) × Keeps (g.S.Read.remaining l.initial.from) (g.S.Read.remaining l.from)

@@ -1,0 +1,43 @@
+-- What is asked of a model, file by file, so that a file can say it. Each model that is read has it.
+use Rattle.std.specs.Prelude.{◌≡◌, ℕ, ◌<◌, ◌≤◌, false, cond, List, All, length, replicate, sum_by}
+use Rattle.decimal_input.specs.declared.dec.Dec.{Dec}
+use Rattle.decimal_input.specs.Canonical.{IsDec}
+use Rattle.model_types.specs.declared.grid.Grid.{Grid}
+use Rattle.model_types.specs.declared.model.FlowModel.{FlowModel}
+use Rattle.model_types.specs.Cells.{layer_size, cell_count}
+use Rattle.model_types.specs.Grids.{IsGrid}
+use Rattle.model_types.specs.Layers.{int_at, is_nonzero, no_number}
+use Rattle.model_types.specs.Valid.{IsTimed}
+use Rattle.lpf_package.specs.Flow.{is_transient}
+use Rattle.array_text.specs.Words.{IsShort}
+use Rattle.package_text.specs.Layers.{layer_values}
+
+-- a list by cell is 0 in each layer that has no confining bed below it
+abbrev pub IsOfBeds : Grid → List Dec → Type 0
+IsOfBeds g xs = (k : ℕ) → k < g.layers → is_nonzero (int_at g.laycbd k) ≡ false → layer_values g k xs ≡ replicate (layer_size g) no_number
+
+-- DIS: a grid in limits, integers of at most 18 digits, and 1 to 1000 stress periods with at most 100000 time steps
+pub record IsDiscretized (m : FlowModel) : Type 0 where
+  pub grid : IsGrid m.grid
+  pub laycbd : All IsShort m.grid.laycbd
+  pub bed_bottom : IsOfBeds m.grid m.grid.bed_bottom
+  pub lenuni : IsShort m.lenuni
+  pub some : 1 ≤ length m.periods
+  pub few : length m.periods ≤ 1000
+  pub steps : sum_by (λ p. p.nstp) m.periods ≤ 100000
+  pub times : All IsTimed m.periods
+
+-- BAS6: IBOUND and STRT for each cell
+pub record IsBasic (m : FlowModel) : Type 0 where
+  pub ibound : (length m.ibound ≡ cell_count m.grid) × All IsShort m.ibound
+  pub strt : (length m.strt ≡ cell_count m.grid) × All IsDec m.strt
+
+-- LPF: LAYVKA for each layer, and properties for each cell; SS only where a period is transient
+pub record HasFlow (m : FlowModel) : Type 0 where
+  pub layvka : (length m.layvka ≡ m.grid.layers) × All IsShort m.layvka
+  pub hk : (length m.hk ≡ cell_count m.grid) × All IsDec m.hk
+  pub hani : (length m.hani ≡ cell_count m.grid) × All IsDec m.hani
+  pub vka : (length m.vka ≡ cell_count m.grid) × All IsDec m.vka
+  pub ss : (length m.ss ≡ cond (is_transient m.periods) (cell_count m.grid) 0) × All IsDec m.ss
+  pub vkcb : (length m.vkcb ≡ cell_count m.grid) × All IsDec m.vkcb
+  pub beds : IsOfBeds m.grid m.vkcb

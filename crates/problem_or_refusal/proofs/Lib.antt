@@ -1,0 +1,7 @@
+pub mod Rounded
+pub mod Spans
+pub mod Formulas
+pub mod ConstantHeads
+pub mod CellEntries
+pub mod Problem
+pub mod Heads

@@ -1,0 +1,100 @@
+-- Numbers of the input have whole bounds, and are decimals of 18 digits.
+use Rattle.std.proofs.Common.{◌≡◌, ℕ, zero, suc, ◌+◌, ◌-◌, ◌*◌, ◌/◌, ◌≤◌, ◌<◌, ◌^◌, inl, inr, refl, subst, arith, ℤ, pos, negsuc, neg_ℤ, ◌+ℤ◌, ◌-ℤ◌, ◌*ℤ◌, ◌≤ℤ◌, ◌<ℤ◌}
+use Rattle.std.specs.Prelude.{unsigned_abs}
+use Rattle.std.proofs.Math.Nat.{pow-suc, lt-mul-div-succ, div-mul-le_self}
+use Rattle.std.proofs.lemmas.Bool.{cases_lt, cases_Bool}
+use Rattle.std.proofs.lemmas.Int.{ints}
+use Rattle.decimal_input.specs.declared.dec.Dec.{Dec}
+use Rattle.decimal_input.specs.Canonical.{IsDec, size, number}
+use Rattle.decimal_input.specs.Decimals.{scaled}
+use Rattle.decimal_input.specs.Ratios.{Same}
+use Rattle.decimal_input.specs.Wholes.{IsSignedFloor, IsSignedCeiling}
+use Rattle.decimal_input.proofs.Powers.{scaled_shift}
+use Rattle.decimal_input.proofs.SignedFloors.{floor_of_floor, floor_of_ceiling, ceiling_of_ceiling, ceiling_of_floor}
+use Rattle.scaled_decimal.proofs.Products.{nothing_same}
+use Rattle.conductance_bounds.specs.Parts.{IsFloorOf, IsCeilingOf}
+use Rattle.conductance_bounds.specs.Terms.Term.{Number}
+use Rattle.conductance_bounds.proofs.PartBounds.{has_ceiling}
+use Rattle.conductance_bounds.proofs.Whole.{ceiling-passes}
+use Rattle.problem_builder.specs.InputBounds.{IsCond, IsWellPair, IsHeadPair}
+use Rattle.bounds_exist.specs.Bounded.{IsBounded}
+use Rattle.bounds_exist.proofs.Pairs.{floor_of}
+
+pub signed_floor : (d : Dec) (s : ℕ) → (z : ℤ) × IsSignedFloor z (number d) s
+signed_floor d s =
+    elim (cases_Bool d.neg) [
+      | inl minus ↦ let (k, is) = has_ceiling (size d) s in (neg_ℤ (pos k), floor_of_ceiling d s k (neg_ℤ (pos k)) minus refl is)
+      | inr plus ↦ let (k, is) = floor_of (size d) s in (pos k, floor_of_floor d s k (pos k) plus refl is)
+    ]
+
+pub signed_ceiling : (d : Dec) (s : ℕ) → (z : ℤ) × IsSignedCeiling z (number d) s
+signed_ceiling d s =
+    elim (cases_Bool d.neg) [
+      | inl minus ↦ let (k, is) = floor_of (size d) s in (neg_ℤ (pos k), ceiling_of_floor d s k (neg_ℤ (pos k)) minus refl is)
+      | inr plus ↦ let (k, is) = has_ceiling (size d) s in (pos k, ceiling_of_ceiling d s k (pos k) plus refl is)
+    ]
+
+pub head_pair : (d : Dec) → (lo : ℤ) × (hi : ℤ) × IsHeadPair d lo hi
+head_pair d =
+    let (lo, floor) = signed_floor d 9 in
+    let (hi, ceiling) = signed_ceiling d 9 in
+    (lo, hi, record { floor = floor; ceiling = ceiling })
+
+pub cond_pair : (s : ℕ) (d : Dec) → (lo : ℕ) × (hi : ℕ) × IsCond s d lo hi
+cond_pair s d =
+    let (lo, floor) = floor_of (size d) s in
+    let (hi, ceiling) = has_ceiling (size d) s in
+    elim (cases_lt hi (2 ^ 60)) [
+      | inl small ↦ (lo, hi, inl (record { floor = floor; ceiling = ceiling; small = small }))
+      | inr large ↦ (1, 2 ^ 60, inr (record { past = ceiling-passes hi (2 ^ 60 - 1) (size d) s (omega (arith, large)) ceiling; lower = refl; upper = refl }))
+    ]
+
+pub well_pair : (s : ℕ) (d : Dec) → (lo : ℤ) × (hi : ℤ) × IsWellPair s d lo hi
+well_pair s d =
+    let (lo, floor) = signed_floor d (s + 9) in
+    let (hi, ceiling) = signed_ceiling d (s + 9) in
+    elim (cases_lt (unsigned_abs lo) (2 ^ 126)) [
+      | inr large ↦ (pos (2 ^ 109), pos (2 ^ 109), inr (record { past = inl (record { floor = lo; is = floor; past = large }); lower = refl; upper = refl }))
+      | inl low ↦ elim (cases_lt (unsigned_abs hi) (2 ^ 126)) [
+        | inr large ↦ (pos (2 ^ 109), pos (2 ^ 109), inr (record { past = inr (record { ceiling = hi; is = ceiling; past = large }); lower = refl; upper = refl }))
+        | inl high ↦ (lo, hi, inl (record { floor = floor; ceiling = ceiling; small = (low, high) }))
+      ]
+    ]
+
+-- a whole number over 10 ^ 18
+pub floor_over : (x : ℤ) → (z : ℤ) × IsFloorOf x z
+floor_over (pos n) = (pos (n / 10 ^ 18), record { at_most = omega (arith, ints, div-mul-le_self n (10 ^ 18)); next = omega (arith, ints, lt-mul-div-succ n {b = 10 ^ 18} (omega arith)) })
+floor_over (negsuc n) = (negsuc (n / 10 ^ 18), record { at_most = omega (arith, ints, lt-mul-div-succ n {b = 10 ^ 18} (omega arith)); next = omega (arith, ints, div-mul-le_self n (10 ^ 18)) })
+
+pub ceiling_over : (x : ℤ) → (z : ℤ) × IsCeilingOf x z
+ceiling_over x = let (z, is) = floor_over (neg_ℤ x) in (neg_ℤ z, record { at_least = turned x z is.at_most; next = turned_next x z is.next })
+  where
+    turned : (x z : ℤ) → (z *ℤ pos (10 ^ 18)) ≤ℤ neg_ℤ x → x ≤ℤ (neg_ℤ z *ℤ pos (10 ^ 18))
+    turned x z h = omega (arith, ints, h)
+
+    turned_next : (x z : ℤ) → neg_ℤ x <ℤ ((z +ℤ pos 1) *ℤ pos (10 ^ 18)) → ((neg_ℤ z +ℤ neg_ℤ (pos 1)) *ℤ pos (10 ^ 18)) <ℤ x
+    turned_next x z h = omega (arith, ints, h)
+
+-- a number with at most 18 digits has just 18, with zeros behind
+padded : (n : ℕ) → n < 10 ^ 18 → (k : ℕ) → 10 ^ 17 ≤ n * 10 ^ k → (j : ℕ) × (10 ^ 17 ≤ n * 10 ^ j) × (n * 10 ^ j < 10 ^ 18)
+padded n few zero long = (0, long, omega (arith, few))
+padded n few (suc k) long =
+    elim (cases_lt (n * 10 ^ k) (10 ^ 17)) [
+      | inr more ↦ padded n few k more
+      | inl less ↦ (suc k, long, next n k less)
+    ]
+  where
+    next : (n k : ℕ) → n * 10 ^ k < 10 ^ 17 → n * 10 ^ suc k < 10 ^ 18
+    next n k h = rw (pow-suc 10 k) (omega (arith, h))
+
+pub number_bounded : (d : Dec) → IsDec d → IsBounded (Number (size d))
+number_bounded d is =
+    elim (cases_lt 0 d.digits) [
+      | inr none ↦ (record { m = 0; e = pos 0 }, inr (refl, refl), nothing_same 0 d.digits (pos 0) d.exp refl (omega (arith, none)))
+      | inl some ↦
+          let (j, long, short) = padded d.digits is.few 17 (omega (arith, some)) in
+          (record { m = d.digits * 10 ^ j; e = d.exp -ℤ pos j }, inl (long, short), subst (λ (e : ℤ). Same (scaled (d.digits * 10 ^ j) (d.exp -ℤ pos j)) (scaled d.digits e)) (back d.exp j) (scaled_shift d.digits j (d.exp -ℤ pos j)))
+    ]
+  where
+    back : (e : ℤ) (j : ℕ) → e -ℤ pos j +ℤ pos j ≡ e
+    back e j = omega (arith, ints)

@@ -1,0 +1,79 @@
+-- A model has a whole listing, or a first refusal at one of its times.
+use Rattle.std.proofs.Common.{◌≡◌, ℕ, ◌⊎◌, inl, inr, Option, None, Some, Ok, Err, Result, List, [], ◌∷◌, refl, sym, subst}
+use Rattle.step_problem.specs.declared.heads.Bound.{Bound}
+use Rattle.step_problem.specs.declared.place.NoBound.{NoBound}
+use Rattle.step_problem.specs.declared.place.ZoneFlow.{ZoneFlow}
+use Rattle.step_problem.specs.Heads.{lower_at, upper_at}
+use Rattle.model_types.specs.declared.model.FlowModel.{FlowModel}
+use Rattle.model_types.specs.declared.time_steps.TimeStep.{TimeStep}
+use Rattle.model_types.specs.Times.{times}
+use Rattle.model_types.specs.Valid.{IsModel}
+use Rattle.problem_builder.specs.GridHeads.{AreGridHeads}
+use Rattle.problem_builder.specs.Laws.{StartHeadsFit}
+use Rattle.problem_or_refusal.specs.Laws.{StartHeadsExist}
+use Rattle.step_chain.specs.declared.solved.Solved.{Solved}
+use Rattle.step_chain.specs.Laws.{IsBefore, HeadsFit}
+use Rattle.step_chain.specs.Steps.{IsSettledStep}
+use Rattle.zone_flows.specs.TableFlows.{listed_flows}
+use Rattle.zone_flows.specs.Tables.{with_faces}
+use Rattle.zone_flows.proofs.Fitting.{faces_fit}
+use Rattle.zone_flows.proofs.Meaning.{are_flows, is_first}
+use Rattle.listing_run.specs.declared.step.Step.{Step}
+use Rattle.listing_run.specs.declared.task.Task.{Task}
+use Rattle.listing_run.specs.Steps.{budget_at, IsStep, HasNoBound, no_heads, no_budget, no_zones, Steps, Whole, WithoutBound}
+use Rattle.listing_run.specs.Zones.{AreZones, AreFlowsAt, HasLargeFlow, faces_at}
+use Rattle.listing_run.proofs.Unique.{IsRest, rest_whole, rest_more, first_in}
+use Rattle.step_or_refusal.specs.Laws.{StepOrRefusal, ListingOrRefusal}
+
+ok_or_err : {X : Type 0} (r : Result X NoBound) → ((x : X) × (r ≡ Ok x)) ⊎ ((n : NoBound) × (r ≡ Err n))
+ok_or_err (Ok x) = inl (x, refl)
+ok_or_err (Err n) = inr (n, refl)
+
+-- the flows between the zones of a solved step, or the first that is too large
+flows_or_large : (m : FlowModel) (o : Option (List ℕ)) (x : Solved) → AreZones m o → ((vs : List ZoneFlow) × AreFlowsAt o x vs) ⊎ ((n : NoBound) × HasLargeFlow o x n)
+flows_or_large m None x zoned = inl ([], refl)
+flows_or_large m (Some zones) x zoned =
+    let fs = faces_at zones x in
+    let fit = faces_fit zones (lower_at x.heads) (upper_at x.heads) zoned.limits x.problem in
+    elim (ok_or_err (listed_flows (with_faces [] fs))) [
+      | inl (vs, e) ↦ inl (vs, are_flows fs fit vs e)
+      | inr (n, e) ↦ inr (n, is_first fs fit n e)
+    ]
+
+module _ (step : StepOrRefusal) (fits : HeadsFit) (k : Task) (valid : IsModel k.model) (zoned : AreZones k.model k.zones) where
+  -- a step of the listing from a settled one, or its refusal
+  listed : (at : TimeStep) (old : List Bound) (x : Solved) → IsSettledStep k.model k.digits at old x → ((v : Step) × IsStep k at old v) ⊎ ((n : NoBound) × HasNoBound k at old n)
+  listed at old x settled =
+      elim (ok_or_err (budget_at x)) [
+        | inr (n, e) ↦ inr (n, no_budget x settled e)
+        | inl (b, e) ↦ elim (flows_or_large k.model k.zones x zoned) [
+          | inr (n, large) ↦ inr (n, no_zones x b settled e large)
+          | inl (vs, flows) ↦ inl (record { at = at; heads = x.heads; budget = b; zones = vs }, record { solved = x; settled = settled; time = refl; heads = refl; budget = e; zones = flows })
+        ]
+      ]
+
+  listing_from : (rest : List TimeStep) → IsRest (times k.model) rest → (old : List Bound) → AreGridHeads k.model old →
+      ((values : List Step) × Steps k old rest values Whole) ⊎ ((values : List Step) × (at : TimeStep) × (n : NoBound) × Steps k old rest values (WithoutBound at n))
+  listing_from [] among old heads = inl ([], tt)
+  listing_from (at ∷ rest) among old heads =
+      let before : IsBefore k.model at old = record { model = valid; time = among.each at (first_in at rest); heads = heads } in
+      elim (step k.model k.digits at old before) [
+        | inr (n, none) ↦ inr ([], at, n, (refl, no_heads none))
+        | inl (x, settled) ↦ elim (listed at old x settled) [
+          | inr (n, none) ↦ inr ([], at, n, (refl, none))
+          | inl (v, is) ↦
+              let next = subst (AreGridHeads k.model) (sym is.heads) (fits k.model k.digits at old is.solved before is.settled) in
+              elim (listing_from rest (rest_more (times k.model) at rest among) v.heads next) [
+                | inl (values, steps) ↦ inl (v ∷ values, (is, steps))
+                | inr (values, t, n, steps) ↦ inr (v ∷ values, t, n, (is, steps))
+              ]
+        ]
+      ]
+
+pub a_listing : StepOrRefusal → HeadsFit → StartHeadsExist → StartHeadsFit → ListingOrRefusal
+a_listing step fits starts start_fits k valid zoned =
+    let (start, is) = starts k.model in
+    elim (listing_from step fits k valid zoned (times k.model) (rest_whole (times k.model)) start (start_fits k.model start valid is)) [
+      | inl (values, steps) ↦ inl (values, record { start = start; is_start = is; steps = steps })
+      | inr (values, at, n, steps) ↦ inr (values, at, n, record { start = start; is_start = is; steps = steps })
+    ]

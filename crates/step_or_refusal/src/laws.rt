@@ -1,0 +1,29 @@
+// Steps and listings exist, or a refusal says why not. Each law is the contract of a function without results, which calls the laws below that it stands on.
+ghost use Rattle.step_or_refusal.specs.Laws.{StepOrRefusal, ListingOrRefusal};
+
+use barrier_or_refusal::laws::barrier_or_refusal;
+use problem_builder::laws::{problems_fit, start_heads_fit};
+use problem_or_refusal::laws::{constant_pairs_exist, problem_or_refusal, start_heads_exist};
+use step_chain::laws::heads_fit;
+use step_problem::laws::settled_pair;
+
+/// A time of a valid model, from heads of all its cells, has a settled step or a refusal.
+pub fn step_or_refusal()
+    ensures { StepOrRefusal }
+{
+    problem_or_refusal();
+    problems_fit();
+    barrier_or_refusal();
+    settled_pair();
+    constant_pairs_exist();
+}
+
+/// A model has a whole listing, or a first refusal at one of its times.
+pub fn listing_or_refusal()
+    ensures { ListingOrRefusal }
+{
+    step_or_refusal();
+    heads_fit();
+    start_heads_exist();
+    start_heads_fit();
+}

@@ -1,0 +1,5 @@
+pub mod PlaceTexts
+pub mod MarkTexts
+pub mod EntryTexts
+pub mod ListTexts
+pub mod KindTexts

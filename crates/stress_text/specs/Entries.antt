@@ -1,0 +1,29 @@
+-- What is asked of the lists of a package, so that its file can say them. Each list that is read has it.
+use Rattle.std.specs.Prelude.{◌≡◌, ℕ, ◌<◌, ◌≤◌, true, None, List, [], ◌∷◌, All, length}
+use Rattle.std.specs.List.{AllPairs}
+use Rattle.model_types.specs.declared.grid.CellId.{CellId}
+use Rattle.model_types.specs.declared.period.Period.{Period}
+use Rattle.list_package.specs.Forms.{Differ}
+use Rattle.list_package.specs.Kinds.{Kind}
+
+-- x is the entry of a cell of the grid, with numbers in canonical form that pass the tests of their package
+pub record IsEntry {C E : Type 0} (kind : Kind C E) (AreNumbers : C → Type 0) (cells : ℕ) (x : E) : Type 0 where
+  pub cell : CellId
+  pub numbers : C
+  pub inside : cell.0 < cells
+  pub canonical : AreNumbers numbers
+  pub passes : kind.fault numbers ≡ None
+  pub is : x ≡ kind.entry cell numbers
+
+-- a period's list: at most 65536 entries; where a list may name a cell at most once, it does; and the period may have it
+pub record IsListOf {C E : Type 0} (kind : Kind C E) (AreNumbers : C → Type 0) (cells : ℕ) (p : Period) (xs : List E) : Type 0 where
+  pub few : length xs ≤ 65536
+  pub entries : All (IsEntry kind AreNumbers cells) xs
+  pub once : kind.once ≡ true → AllPairs (Differ kind) xs
+  pub suits : kind.suits p xs ≡ true
+
+-- the periods with these lists
+abbrev pub with_lists : {C E : Type 0} → Kind C E → List Period → List (List E) → List Period
+with_lists kind [] lists = []
+with_lists kind (p ∷ ps) [] = []
+with_lists kind (p ∷ ps) (xs ∷ lists) = kind.put p xs ∷ with_lists kind ps lists

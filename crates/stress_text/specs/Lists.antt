@@ -1,0 +1,59 @@
+-- The files of list packages (TM 6-A16, input instructions, WEL, RIV, DRN, GHB, CHD).
+use Rattle.std.specs.Prelude.{ℕ, List, [], ◌∷◌, ◌++◌, map, length, max, fold, codes, decimal}
+use Rattle.std.specs.List.{flat_map}
+use Rattle.decimal_input.specs.declared.dec.Dec.{Dec}
+use Rattle.model_types.specs.declared.entry.Entry.{Entry}
+use Rattle.model_types.specs.declared.entry.Entry.TheVariants.{Well, River, Drain, General}
+use Rattle.model_types.specs.declared.entry.Given.{Given}
+use Rattle.model_types.specs.declared.grid.Grid.{Grid}
+use Rattle.model_types.specs.declared.model.FlowModel.{FlowModel}
+use Rattle.model_types.specs.Cells.{place}
+use Rattle.model_types.specs.Sources.{cell_of}
+use Rattle.array_text.specs.Words.{number_word}
+use Rattle.array_text.specs.Lines.{Line}
+
+-- WEL: Q; RIV: Stage Cond Rbot; DRN: Elevation Cond; GHB: Bhead Cond
+abbrev pub numbers_of : Entry → List Dec
+numbers_of (Well cell q) = q ∷ []
+numbers_of (River cell stage k bottom) = stage ∷ k ∷ bottom ∷ []
+numbers_of (Drain cell elevation k) = elevation ∷ k ∷ []
+numbers_of (General cell head k) = head ∷ k ∷ []
+
+-- CHD: Shead Ehead
+abbrev pub heads_of : Given → List Dec
+heads_of x = x.shead ∷ x.ehead ∷ []
+
+-- item 2: the greatest number of entries, MXACTW, MXACTR, MXACTD, MXACTB or MXACTC, and no file for flows
+unfoldable pub list_item_2 : {E : Type 0} → List (List E) → Line
+list_item_2 lists = decimal (fold max 0 (map length lists)) ∷ codes "0" ∷ []
+
+-- item 5: ITMP NP
+unfoldable pub list_item_5 : {E : Type 0} → List E → Line
+list_item_5 list = decimal (length list) ∷ codes "0" ∷ []
+
+-- item 6: Layer Row Column, and the numbers of the package
+unfoldable pub list_item_6 : Grid → ℕ → List Dec → Line
+list_item_6 g cell numbers = map decimal (place g cell) ++ map number_word numbers
+
+-- a period's list
+unfoldable pub period_list : {E : Type 0} → Grid → (E → ℕ) → (E → List Dec) → List E → List Line
+period_list g cell numbers list = list_item_5 list ∷ map (λ x. list_item_6 g (cell x) (numbers x)) list
+
+unfoldable pub list_lines : {E : Type 0} → Grid → (E → ℕ) → (E → List Dec) → List (List E) → List Line
+list_lines g cell numbers lists = list_item_2 lists ∷ flat_map (period_list g cell numbers) lists
+
+module _ (m : FlowModel) where
+  abbrev pub wel_lines : List Line
+  wel_lines = list_lines m.grid cell_of numbers_of (map (λ p. p.wells) m.periods)
+
+  abbrev pub riv_lines : List Line
+  riv_lines = list_lines m.grid cell_of numbers_of (map (λ p. p.rivers) m.periods)
+
+  abbrev pub drn_lines : List Line
+  drn_lines = list_lines m.grid cell_of numbers_of (map (λ p. p.drains) m.periods)
+
+  abbrev pub ghb_lines : List Line
+  ghb_lines = list_lines m.grid cell_of numbers_of (map (λ p. p.generals) m.periods)
+
+  abbrev pub chd_lines : List Line
+  chd_lines = list_lines m.grid (λ x. x.cell.0) heads_of (map (λ p. p.given) m.periods)

@@ -1,0 +1,6 @@
+use Rattle.std.proofs.Common.{◌≡◌, map, take, slice_index}
+use Rattle.step_problem.specs.Entries.{Entries}
+use Rattle.zone_flows.proofs.own.own_zones.Given as goal
+
+abbrev pub invariant-loop-c : goal.invariant-loop-c
+invariant-loop-c l = l.own.items ≡ map (λ (e : Entries). slice_index l.fn.zones e.id) (take l.c l.fn.p)

@@ -1,0 +1,158 @@
+"""Small decks with listings that were worked by hand, and the program's commands on them, for the scripts that hand the
+program bad files, failing reads and writes, and little memory.
+
+A deck is a map from names to bytes. The listings are those of an exact solution by hand: nothing here came from the
+program.
+"""
+import os
+import re
+import subprocess
+
+ZERO = "0.000000000000000000000"
+TERMS = ["STORAGE", "CONSTANT HEAD", "WELLS", "DRAINS", "RIVER LEAKAGE", "HEAD DEP BOUNDS", "RECHARGE"]
+
+USAGE = (b"USAGE: heads run NAME [--digits S] [--workers W] [--rounds P] [--zones Z] [--watch N] | heads check NAME LISTING "
+         b"[--digits S] | heads make SEED SIZE | heads batch LIST [--digits S] [--workers W] [--rounds P]\n")
+
+
+def text(*lines):
+    return "".join(line + "\n" for line in lines).encode()
+
+
+def deck(columns="3", ibound="-1 1 -1", heads="10 0 20", period="1 1 1 SS", flow=("CONSTANT 1", "CONSTANT 1"), more=()):
+    """A row of cells of unit size and conductivity between two constant heads; `more` are pairs of a package and its
+    lines."""
+    files = {
+        "a.nam": text("DIS 11 a.dis", "BAS6 12 a.bas", "LPF 13 a.lpf", *(f"{name} {14 + i} a.{name.lower()}" for i, (name, _) in enumerate(more))),
+        "a.dis": text(f"1 1 {columns} 1 4 2", "0", "CONSTANT 1", "CONSTANT 1", "CONSTANT 1", "CONSTANT 0", period),
+        "a.bas": text("FREE", "INTERNAL 1 (FREE) -1", ibound, "-999.99", "INTERNAL 1 (FREE) -1", heads),
+        "a.lpf": text("0 -1E+30 0", "0", "0", "1", "0", "0", *flow),
+    }
+    return files | {f"a.{name.lower()}": text(*lines) for name, lines in more}
+
+
+def step(number, heads, inward, outward, zones=()):
+    """A step's lines: heads as pairs by column, terms as pairs by name, lines of zones."""
+    def lines(side, terms):
+        return [f"{side} {' '.join(terms.get(name, (ZERO, ZERO)))} {name}" for name in TERMS]
+    cells = [f"HEAD 1 1 {column} {low} {high}" for column, (low, high) in enumerate(heads, 1)]
+    return text(f"STEP 1 {number}", *cells, *lines("IN", inward), *lines("OUT", outward), *zones)
+
+
+FIRST = text("HEADS 2 DIGITS 12 UNIT 2")
+LAST = text("END")
+
+
+def twice(value):
+    return value, value
+
+
+FLOW_5 = twice("5.000000000000000000000")
+THIRD = "3.333333333000000000000", "3.333333334000000000000"
+
+# Two constant heads of 10 and 20, and a cell halfway.
+THREE_CELLS = deck()
+THREE_CELLS_STEP = step(1, [twice("10.000000000"), twice("15.000000000"), twice("20.000000000")],
+                        {"CONSTANT HEAD": FLOW_5}, {"CONSTANT HEAD": FLOW_5})
+THREE_CELLS_PUTS = [FIRST, THREE_CELLS_STEP, LAST]
+
+# The same with zone 1 at the first cell, and zone 2 at the others: 5 units flow from zone 2 to zone 1.
+ZONES = THREE_CELLS | {"z.txt": text("INTERNAL 1 (FREE) -1", "1 2 2")}
+ZONES_PUTS = [FIRST, THREE_CELLS_STEP + text("ZONE 1 2 -5.000000000000000000000 -5.000000000000000000000"), LAST]
+
+# Two constant heads of 0 and 10, and heads of thirds.
+FOUR_CELLS = deck("4", "-1 1 1 -1", "0 0 0 10")
+FOUR_CELLS_PUTS = [FIRST, step(1, [twice("0.000000000"), ("3.333333333", "3.333333334"), ("6.666666666", "6.666666667"), twice("10.000000000")],
+                               {"CONSTANT HEAD": THIRD}, {"CONSTANT HEAD": THIRD}), LAST]
+
+# One cell whose well takes 5 units a day from storage, for three days.
+THREE_STEPS = deck("1", "1", "10", "3 3 1 TR", ("CONSTANT 1", "CONSTANT 1", "CONSTANT 1"), [("WEL", ["1 0", "1 0", "1 1 1 -5"])])
+THREE_STEPS_PUTS = [FIRST, *(step(n, [twice(head)], {"STORAGE": FLOW_5}, {"WELLS": FLOW_5})
+                             for n, head in [(1, "5.000000000"), (2, "0.000000000"), (3, "-5.000000000")]), LAST]
+
+MADE = text("MADE 1 1", "STEPS 4", "HEADS 8", "WIDEST 0.000000000", "LOWSUM 79.840750000", "HIGHSUM 79.840750000", "END")
+
+# One piece of a view: two constant heads aren't shown.
+VIEW = rb"WATCH 1 1\nHEAD 1 1 2 (1\d\.\d{9}) (1\d\.\d{9}|20\.000000000)\n"
+
+
+class Command:
+    """Words, the files that they name in the order in which they are read, the pieces that are written, the form of what is
+    written to standard error, and how often a file is opened."""
+
+    def __init__(self, words, files, puts, side=b"", status=0, opens=None):
+        self.words, self.files, self.puts, self.side, self.status = words.split(" "), files, puts, side, status
+        self.opens = len(files) if opens is None else opens
+        self.name = " ".join(word for word in self.words[:1] + [word for word in self.words if word.startswith("--")])
+
+    def reads(self):
+        return list(self.files)
+
+    def out(self):
+        return b"".join(self.puts)
+
+    def is_side(self, written):
+        return re.fullmatch(self.side, written) is not None
+
+
+def reading_order(*names):
+    """The files of THREE_CELLS and the others named, in the order in which a command reads them."""
+    files = THREE_CELLS | {"z.txt": ZONES["z.txt"], "l.txt": b"".join(THREE_CELLS_PUTS), "list.txt": text("a.nam")}
+    return {name: files[name] for name in names}
+
+
+RUN = Command("run a.nam", reading_order("a.nam", "a.dis", "a.bas", "a.lpf"), THREE_CELLS_PUTS)
+COMMANDS = [
+    RUN,
+    Command("check a.nam l.txt", reading_order("a.nam", "a.dis", "a.bas", "a.lpf", "l.txt"), [text("CERTIFIED")]),
+    Command("make 1 1", {}, [MADE]),
+    Command("run a.nam --zones z.txt", reading_order("a.nam", "a.dis", "a.bas", "a.lpf", "z.txt"), ZONES_PUTS),
+    Command("batch list.txt", reading_order("list.txt", "a.nam", "a.dis", "a.bas", "a.lpf"), [text("MODEL a.nam") + b"".join(THREE_CELLS_PUTS), LAST]),
+    Command("run a.nam --watch 2", reading_order("a.nam", "a.dis", "a.bas", "a.lpf"), THREE_CELLS_PUTS, side=rb"(?:(?:%s){2})+" % VIEW),
+]
+
+# Three models as a batch: the second one has no files, so its refusal is its text, and decides the status.
+BATCH = (THREE_CELLS | {name.replace("a.", "b."): content.replace(b"a.", b"b.") for name, content in FOUR_CELLS.items()}
+         | {"list.txt": text("a.nam", "none.nam", "b.nam")})
+BATCH_PUTS = [text("MODEL a.nam") + b"".join(THREE_CELLS_PUTS), text("MODEL none.nam", "REFUSED 1 MissingFile none.nam 0"),
+              text("MODEL b.nam") + b"".join(FOUR_CELLS_PUTS), LAST]
+
+# Further decks: a batch, heads of thirds, three steps, a listing of thirds that is checked, and an array in a file of its own.
+FURTHER = [
+    Command("batch list.txt --workers 2", BATCH, BATCH_PUTS, status=2, opens=10),
+    Command("run a.nam --workers 3", FOUR_CELLS, FOUR_CELLS_PUTS),
+    Command("run a.nam", THREE_STEPS, THREE_STEPS_PUTS),
+    Command("check a.nam l.txt", FOUR_CELLS | {"l.txt": b"".join(FOUR_CELLS_PUTS)}, [text("CERTIFIED")]),
+    Command("run a.nam", deck(flow=("OPEN/CLOSE hk.txt 1 (FREE)", "CONSTANT 1")) | {"hk.txt": text("3*1")}, THREE_CELLS_PUTS),
+]
+
+
+def write_files(folder, files):
+    for name, content in files.items():
+        with open(os.path.join(folder, name), "wb") as file:
+            file.write(content)
+
+
+def built(program, commands):
+    """Those of the commands that this program has: it takes the words of one that it hasn't as usage."""
+    def is_built(command):
+        done = subprocess.run([program, *command.words], cwd="/", capture_output=True, check=False)
+        return done.returncode != 1
+    return [command for command in commands if is_built(command)]
+
+
+def built_commands(program):
+    return built(program, COMMANDS)
+
+
+def run_in(program, command, folder, **how):
+    """Status, standard output and standard error of a command whose files are put into a folder."""
+    write_files(folder, command.files)
+    done = subprocess.run([program, *command.words], cwd=folder, capture_output=True, check=False, **how)
+    return done.returncode, done.stdout, done.stderr
+
+
+def left_out(commands):
+    """What to say of the commands that a program hasn't."""
+    names = [command.name for command in COMMANDS if command not in commands]
+    return f"; not built: {', '.join(names)}" if names else ""
