@@ -8,7 +8,7 @@
 //     CHANGE=NAME CHANGE_AT=N CHANGE_HOW=cut|write|replace CHANGE_TO=OTHER
 //                             before the Nth read of the file NAME it is made empty, or is written anew with the bytes of OTHER,
 //                             or OTHER is put in its place
-//     FAILED=FILE             this file is made where a call fails
+//     FAILED=FILE             this file is made where a call fails, and gets a byte for each thread that is started after that
 #define _GNU_SOURCE
 #include <dlfcn.h>
 #include <errno.h>
@@ -29,6 +29,7 @@ enum kind { ALLOC, OPEN, READ, WRITE, THREAD, KINDS };
 static const char *const words[KINDS] = {"FAIL_ALLOC", "FAIL_OPEN", "FAIL_READ", "FAIL_WRITE", "FAIL_THREAD"};
 static long failing[KINDS];
 static atomic_long calls[KINDS], change_reads;
+static atomic_int has_failed;
 static long kept, change_at;
 static int is_short, interrupts, changed_file = -1;
 static __thread int was_interrupted;
@@ -53,9 +54,18 @@ __attribute__((constructor)) static void begin(void) {
     real_thread = dlsym(RTLD_NEXT, "pthread_create");
 }
 
+// Makes the file FAILED, or puts so many bytes at its end.
+static void note(size_t bytes) {
+    if (!failed) return;
+    int file = syscall(SYS_openat, AT_FDCWD, failed, O_CREAT | O_WRONLY | O_APPEND, 0666);
+    syscall(SYS_write, file, "t", bytes);
+    syscall(SYS_close, file);
+}
+
 static int fails(enum kind kind) {
     if (atomic_fetch_add(&calls[kind], 1) + 1 != failing[kind]) return 0;
-    if (failed) syscall(SYS_close, syscall(SYS_openat, AT_FDCWD, failed, O_CREAT | O_WRONLY, 0666));
+    note(0);
+    has_failed = 1;
     return 1;
 }
 
@@ -125,5 +135,6 @@ ssize_t __write(int file, const void *bytes, size_t size) { return put(file, byt
 
 int pthread_create(pthread_t *thread, const pthread_attr_t *how, void *(*what)(void *), void *with) {
     if (fails(THREAD)) return EAGAIN;
+    if (has_failed) note(1);
     return real_thread(thread, how, what, with);
 }
