@@ -21,7 +21,8 @@ use Rattle.engine.specs.Batches.{AskedBatch, BatchCase, NoList, Jobs, IsBatchCas
 use Rattle.engine.specs.Parts.{AnswersBeside, IsStopped}
 use Rattle.engine.specs.Runs.{Puts, Decided, Comes}
 
--- The pieces due if a batch has this end: those that its case defines; or, if a read failed, the line READFAULT alone, as all files are read before the first job runs.
+-- The pieces due if a batch has this end: those that its case defines; or, if a read failed, the line READFAULT alone,
+-- as all files are read before the first job runs.
 pub data BatchDue (read_failed : Type 0) (case : BatchCase) : Status → List Text → Type 0 where
   defined : (end : Status) (pieces : List Text) → BatchDefines case end pieces → BatchDue read_failed case end pieces
   unread : read_failed → BatchDue read_failed case status.ReadFault (read_fault_line ∷ [])

@@ -21,7 +21,9 @@ use Rattle.batch_puts.specs.declared.job_end.JobEnd.{JobEnd}
 use Rattle.batch_puts.specs.Ended.{first_not_ok, texts}
 use Rattle.engine.specs.Batches.{AskedBatch, IsJobEnd, batch_asked, job_of, job_task, model_line, names_read}
 
--- The text of a name is the one listing that its files define; and every history of heads that solves the manual's exact equations of these files lies, step by step and cell by cell, between its heads, with each of its budget flows between its terms.
+-- The text of a name is the one listing that its files define; and every history of heads that solves the manual's
+-- exact equations of these files lies, step by step and cell by cell, between its heads, with each of its budget flows
+-- between its terms.
 pub record IsJobListing (b : AskedBatch) (files : List File) (name text : Text) : Type 0 where
   -- The files read as a model, which is valid.
   pub model : FlowModel
@@ -44,7 +46,9 @@ pub record HasEnded (b : AskedBatch) (files : List File) (name : Text) (e : JobE
   pub end : IsJobEnd (job_of b (reads files) name) e
   pub listing : e.status ≡ status.Ok → IsJobListing b files name e.text.items
 
--- A batch with these words over these files whose jobs ran, where a sink had the bytes `old` before it and `new` after it, has written one text for each name of its list, in the order of the list, and END; and its status is that of the first job that didn't end Ok.
+-- A batch with these words over these files whose jobs ran, where a sink had the bytes `old` before it and `new` after
+-- it, has written one text for each name of its list, in the order of the list, and END; and its status is that of the
+-- first job that didn't end Ok.
 pub record Batched (words : List Text) (files : List File) (end : Status) (old new : Option (List ℕ)) : Type 0 where
   -- The words ask for a batch, and its list has these names.
   pub asked : AskedBatch

@@ -16,7 +16,10 @@ use Rattle.exact_histories.specs.Histories.{HasHistory, AreSame}
 use Rattle.engine.specs.Cases.{AskedCheck, Check, asked_in, listing_read}
 use Rattle.engine.specs.Checked.{certified_line}
 
--- A check with these words over these files that ended Ok, where a sink had the bytes `old` before it and `new` after it: the files have a listing, whoever wrote it, and every history of heads that solves the manual's exact equations of the files lies, step by step and cell by cell, between its heads, with each of its budget flows between its terms. How it was judged stands in `OneVerdict`.
+-- A check with these words over these files that ended Ok, where a sink had the bytes `old` before it and `new` after
+-- it: the files have a listing, whoever wrote it, and every history of heads that solves the manual's exact equations
+-- of the files lies, step by step and cell by cell, between its heads, with each of its budget flows between its terms.
+-- How it was judged stands in `OneVerdict`.
 pub record Certified (words : List Text) (files : List File) (old new : Option (List ℕ)) : Type 0 where
   -- The words ask for a check, the files read as a model, which is valid, and the named file as a listing of it.
   pub asked : AskedCheck

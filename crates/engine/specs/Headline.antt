@@ -15,7 +15,11 @@ use Rattle.listing_run.specs.Bounding.{BoundAll}
 use Rattle.exact_histories.specs.Histories.{HasHistory, AreSame}
 use Rattle.engine.specs.Cases.{Asked, Run, asked_in, task_of, zones_read}
 
--- A run with these words over these files that ended Ok, where a sink had the bytes `old` before it and `new` after it, has written a listing of the model that the files read as; and every history of heads that solves the manual's exact equations of these files lies, step by step and cell by cell, between its heads, with each of its budget flows between its terms, and each of its flows between two zones of a zone file between its two numbers. That it is the one listing which the files define stands in `OneListing`.
+-- A run with these words over these files that ended Ok, where a sink had the bytes `old` before it and `new` after it,
+-- has written a listing of the model that the files read as; and every history of heads that solves the manual's exact
+-- equations of these files lies, step by step and cell by cell, between its heads, with each of its budget flows
+-- between its terms, and each of its flows between two zones of a zone file between its two numbers. That it is the one
+-- listing which the files define stands in `OneListing`.
 pub record Headline (words : List Text) (files : List File) (old new : Option (List ℕ)) : Type 0 where
   -- The words ask for a listing, and the files read as a model, which is valid, and as zones of its cells where the words name a zone file.
   pub asked : Asked

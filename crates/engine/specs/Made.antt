@@ -37,7 +37,10 @@ abbrev pub IsMade : ℕ → ℕ → Result FlowModel Refusal → Status → List
 IsMade seed size (Err refusal) end pieces = (end ≡ status.Refused refusal) × (pieces ≡ refused_line refusal ∷ [])
 IsMade seed size (Ok m) end pieces = IsSummed seed size (made_task m) end pieces
 
--- A run with these words that ended Ok, where a sink had the bytes `old` before it and `new` after it, has written the summary of a listing of the model that the made files read as; and every history of heads that solves the manual's exact equations of these files lies between the heads and the terms of that listing. That it is the one listing which the made files define stands in `OneSummary`.
+-- A run with these words that ended Ok, where a sink had the bytes `old` before it and `new` after it, has written the
+-- summary of a listing of the model that the made files read as; and every history of heads that solves the manual's
+-- exact equations of these files lies between the heads and the terms of that listing. That it is the one listing which
+-- the made files define stands in `OneSummary`.
 pub record Made (words : List Text) (old new : Option (List ℕ)) : Type 0 where
   -- The words ask for a made model, and its files read as a model, which is valid.
   pub seed : ℕ

@@ -20,7 +20,8 @@ use Rattle.check_run.specs.Verdicts.{IsVerdict}
 use Rattle.engine.specs.Cases.{Asked, AskedCheck, Check, Make, Run, asked_in, listing_read, task_of, zones_read}
 use Rattle.engine.specs.Made.{made_task}
 
--- A run with these words over these files that ended Ok, where a sink had the bytes `old` before it and `new` after it, has written the one listing that the files define.
+-- A run with these words over these files that ended Ok, where a sink had the bytes `old` before it and `new` after it,
+-- has written the one listing that the files define.
 pub record OneListing (words : List Text) (files : List File) (old new : Option (List ℕ)) : Type 0 where
   -- The words ask for a listing, and the files read as a model, which is valid, and as zones of its cells where the words name a zone file.
   pub asked : Asked

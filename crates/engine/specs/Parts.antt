@@ -83,7 +83,8 @@ pub record Answers (words : List Text) (files : Option (List File)) (before afte
   pub run : IsRunOf (Rose before after) case end puts
   pub valid : IsValid case end
 
--- Facts of a run's result beside which a side sink is led so: all of the above, or it stopped since a write beside it failed; and the side sink got the views that are asked for.
+-- Facts of a run's result beside which a side sink is led so: all of the above, or it stopped since a write beside it
+-- failed; and the side sink got the views that are asked for.
 pub record AnswersBeside (words : List Text) (files : Option (List File)) (before after : ℕ) (failed_beside : Type 0) (leads : List Put → Type 0) (end : Status) (puts : List Put) : Type 0 where
   pub answers : Answers words files before after end puts ⊎ ((case : Case) × IsCase words files case × IsLeft failed_beside case end puts)
   pub watched : end ≡ status.Ok → (n : ℕ) → views_in words ≡ Some n → IfSome files (λ fs. Watched words fs n leads)

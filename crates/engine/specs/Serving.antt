@@ -20,7 +20,9 @@ AnyHeadline words files end old new = (Headline words files old.written new.writ
 abbrev pub AnyOne : List Text → List File → Status → Seen → Seen → Type 0
 AnyOne words files end old new = (OneListing words files old.written new.written ⊎ (OneSummary words old.written new.written ⊎ OneVerdict words files)) ⊎ Batched words files end old.written new.written
 
--- A program that ends with this number: it is that of its run's status, whose puts lead from the sink before to the sink after; and where it is 0, the headline holds of files that agree with the folder, of which there are some, and the listing is the one that they define.
+-- A program that ends with this number: it is that of its run's status, whose puts lead from the sink before to the
+-- sink after; and where it is 0, the headline holds of files that agree with the folder, of which there are some, and
+-- the listing is the one that they define.
 pub record Serves (leads : List Put → Type 0) (agrees : List File → Type 0) (words : List Text) (before after : ℕ) (failed_beside : Type 0) (old new : Seen) (number : ℕ) : Type 0 where
   pub end : Status
   pub number_is : number ≡ code_of end

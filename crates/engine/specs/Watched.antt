@@ -34,7 +34,8 @@ views_in words = option_and_then views_asked (wanted_of words)
 abbrev pub lines_of : Grid → ℕ → ℕ → List Entries → List Bound → List ℕ
 lines_of grid period step p heads = view_text grid (time period step) p heads
 
--- Between the heads of a view lie the settled pair of its step's problem, and every solution of the exact step, from all exact heads within the old ones, at the variable cells.
+-- Between the heads of a view lie the settled pair of its step's problem, and every solution of the exact step, from
+-- all exact heads within the old ones, at the variable cells.
 pub record IsView (k : Task) (at : TimeStep) (old : List Bound) (p : List Entries) (b : Edges) (heads : List Bound) : Type 0 where
   pub pair : EnclosesPair p b heads
   pub solutions : EnclosesSolutions k.model at old p heads
@@ -56,7 +57,8 @@ AreWatched k n old [] texts = texts ≡ []
 AreWatched k n old (at ∷ times) texts =
     (v : Step) × (here : List Text) × (rest : List Text) × IsStep k at old v × AreViews k n at old here × (texts ≡ here ++ rest) × AreWatched k n v.heads times rest
 
--- The side sink got the texts of the views of all steps, each taken whole, and nothing else: `leads` says which puts lead from that sink before to that sink after.
+-- The side sink got the texts of the views of all steps, each taken whole, and nothing else: `leads` says which puts
+-- lead from that sink before to that sink after.
 pub record IsWatched (k : Task) (each_phase : ℕ) (leads : List Put → Type 0) : Type 0 where
   pub start : List Bound
   pub is_start : AreStartHeads k.model start

@@ -48,7 +48,7 @@ pub(crate) const MADE_PLAN: Plan = Plan {
     rounds: 1_000_000,
 };
 
-/// The command that an order asks for; None where it isn't implemented.
+/// The command that an order asks for; None for a batch, which is no command of one model.
 pub(crate) fn command_of<'a>(order: Order<'a>) -> Option<Command<'a>>
     requires { IsInRange (wanted order) }
     ensures is { option_map command_of result ≡ built (wanted order.entry) }

@@ -47,8 +47,8 @@ fn put_unwatched<R: Threads + Sync, K: Sink + Send, G: Gate + Sync>(
     put_steps(rt, alloc, task, &mut settler, out)
 }
 
-/// Puts the listing of a task, each step settled by this plan. Workers pass the gate before each turn. If a number of
-/// views is given, so many are put to the side sink in each phase.
+/// Puts the listing of a task, each step settled by this plan. Workers pass the gate before each turn. If `views`
+/// is given, that number of views is put to the side sink in each phase.
 pub(crate) fn put_listing<R: Threads + Sync, K: Sink + Send, W: Sink + Send, G: Gate + Sync>(
     rt: &R,
     alloc: Global,

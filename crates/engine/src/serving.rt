@@ -1,10 +1,11 @@
 // A program's run, and the number that it ends with.
-ghost use Rattle.std.specs.Prelude.{List, map};
+ghost use Rattle.std.specs.Prelude.{◌≡◌, ℕ, List, map, Some};
 ghost use Rattle.std.specs.Process.{exit_status};
 ghost use Rattle.outside.specs.Puts.{Put};
+ghost use Rattle.outside.specs.Files.{File};
 ghost use Rattle.outside.specs.Counts.{Rose};
 ghost use Rattle.engine.specs.Serving.{Serves};
-ghost use Rattle.engine.specs.Watched.{SidePuts, views_in};
+ghost use Rattle.engine.specs.Watched.{SidePuts, Watched, views_in};
 
 use crate::commands::run;
 use outside::{Folder, Gate, Sink};
@@ -13,7 +14,8 @@ use std::process::ExitCode;
 use std::sync::Wait;
 use std::thread::Threads;
 
-/// Does what the words ask, as `run` does, and ends with the number of its status: where that is 0, the headline holds.
+/// Does what the words ask, as `run` does, and ends with the number of its status: where that is 0, the headline holds, and
+/// the views of a watched run are those of all its steps.
 pub fn serve<R: Threads + Wait + Sync, F: Folder, K: Sink + Send, W: Sink + Send, G: Gate + Sync>(
     rt: &R,
     alloc: Global,
@@ -26,6 +28,8 @@ pub fn serve<R: Threads + Wait + Sync, F: Folder, K: Sink + Send, W: Sink + Send
     ensures serves { Serves (λ puts. K.leads out.old puts out.new) (F.agrees folder.new) (map (λ w. w.now) words.now) (F.faults folder.old) (F.faults folder.new)
         (Rose (W.seen side.old).faults (W.seen side.new).faults) (K.seen out.old) (K.seen out.new) (exit_status result) }
     ensures side { SidePuts (λ puts. W.leads side.old puts side.new) (views_in (map (λ w. w.now) words.now)) }
+    ensures watched { exit_status result ≡ 0 → (n : ℕ) → views_in (map (λ w. w.now) words.now) ≡ Some n → (files : List File) →
+        F.agrees folder.new files → Watched (map (λ w. w.now) words.now) files n (λ puts. W.leads side.old puts side.new) }
 {
     let status = run(rt, alloc, words, folder, out, side, gate);
     ExitCode::from(status.code())

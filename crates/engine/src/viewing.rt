@@ -24,7 +24,7 @@ use std::thread::Threads;
 use step_problem::{Barrier, Bound, Problem, SettleFault};
 use view_puts::{SinkViewer, ViewText};
 
-// Puts the listing of a task, each step settled by this plan, while a viewer looks at the heads: so many views in each
+// Puts the listing of a task, each step settled by this plan, while a viewer looks at the heads: `views` views in each
 // phase.
 fn put_shown<R: Threads + Sync, K: Sink + Send, V: StepViewer + Send, G: Gate + Sync>(
     rt: &R,
@@ -61,7 +61,7 @@ fn put_shown<R: Threads + Sync, K: Sink + Send, V: StepViewer + Send, G: Gate + 
     put_steps(rt, alloc, task, &mut settler, out)
 }
 
-// Puts the listing of a task, and each view to the side sink, as one piece of text: so many views in each phase.
+// Puts the listing of a task, and each view to the side sink, as one piece of text: `views` views in each phase.
 fn put_texts<R: Threads + Sync, K: Sink + Send, W: Sink + Send, X: ViewText + Sync, G: Gate + Sync>(
     rt: &R,
     alloc: Global,
@@ -87,7 +87,7 @@ fn put_texts<R: Threads + Sync, K: Sink + Send, W: Sink + Send, X: ViewText + Sy
     put_shown(rt, alloc, task, plan, views, &mut viewer, out, gate)
 }
 
-/// Puts the listing of a task, as `put_listing` does, and each view to the side sink: so many views in each phase.
+/// Puts the listing of a task, as `put_listing` does, and each view to the side sink: `views` views in each phase.
 pub(crate) fn put_watched<R: Threads + Sync, K: Sink + Send, W: Sink + Send, G: Gate + Sync>(
     rt: &R,
     alloc: Global,

@@ -15,3 +15,8 @@ returns-clause-serves g c =
       headline = λ zero files agree. c.run-status.ensures.headline (ok_from_zero c.run-status.result (sym is ∙ zero)) files agree;
       one = λ zero files agree. c.run-status.ensures.one (ok_from_zero c.run-status.result (sym is ∙ zero)) files agree;
     }
+
+pub returns-clause-watched : goal.returns-clause-watched
+returns-clause-watched g c = λ zero n asked files agree.
+    let is : exit_status c.from.result ≡ code_of c.run-status.result = c.from.ensures ∙ c.code.ensures in
+    c.run-status.ensures.watched (ok_from_zero c.run-status.result (sym is ∙ zero)) n asked files agree
