@@ -1,4 +1,4 @@
--- What is asked of a model, file by file, so that a file can say it. Each model that is read has it.
+-- What is asked of a model, file by file, so that a file can say it.
 use Rattle.std.specs.Prelude.{◌≡◌, ℕ, ◌<◌, ◌≤◌, false, cond, List, All, length, replicate, sum_by}
 use Rattle.decimal_input.specs.declared.dec.Dec.{Dec}
 use Rattle.decimal_input.specs.Canonical.{IsDec}

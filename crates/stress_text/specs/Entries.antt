@@ -1,4 +1,4 @@
--- What is asked of the lists of a package, so that its file can say them. Each list that is read has it.
+-- What is asked of the lists of a package, so that its file can say them.
 use Rattle.std.specs.Prelude.{◌≡◌, ℕ, ◌<◌, ◌≤◌, true, None, List, [], ◌∷◌, All, length}
 use Rattle.std.specs.List.{AllPairs}
 use Rattle.model_types.specs.declared.grid.CellId.{CellId}

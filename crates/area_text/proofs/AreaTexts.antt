@@ -1,0 +1,135 @@
+-- Flags, arrays of one layer, and arrays of layers are read as written.
+use Rattle.std.proofs.Common.{◌≡◌, ℕ, zero, suc, ◌+◌, ◌^◌, ◌<◌, ◌≤◌, Bool, true, false, ◌&&◌, nat_lt, nat_le, if◌then◌else◌, List, [], ◌∷◌, ◌++◌, length, drop, All, Option, Some, None, Ok, refl, sym, arith, ℤ, pos, negsuc}
+use Rattle.std.specs.Prelude.{codes}
+use Rattle.std.proofs.lemmas.Bool.Decides.{nat_tests}
+use Rattle.std.proofs.lemmas.List.Elements.{All-from_recursion}
+use Rattle.decimal_input.specs.declared.dec.Dec.{Dec}
+use Rattle.outside.specs.Files.{File}
+use Rattle.record_lines.specs.Layout.{is_comment}
+use Rattle.record_lines.specs.Reading.{counted}
+use Rattle.record_lines.specs.Items.{is_word}
+use Rattle.array_reader.specs.Items.{number_at}
+use Rattle.array_reader.specs.Numbers.{integer}
+use Rattle.model_types.specs.declared.grid.Grid.{Grid}
+use Rattle.model_types.specs.Cells.{layer_size}
+use Rattle.model_types.specs.Grids.{HasSize}
+use Rattle.model_types.specs.Layers.{int_at}
+use Rattle.model_types.specs.Receivers.{is_int}
+use Rattle.period_arrays.specs.Flags.{flag_at, is_option, option_at}
+use Rattle.period_arrays.specs.Forms.{IsReals, IsWhole}
+use Rattle.period_arrays.specs.Layers.{is_layer, layer_step, layers_tested, layers_at}
+use Rattle.period_arrays.specs.Updates.{updated_reals, updated_layers, or_empty}
+use Rattle.array_text.specs.Words.{IsShort, IsWord, integer_word}
+use Rattle.array_text.specs.Lines.{Line, IsLine, number_after, unread}
+use Rattle.array_text.specs.Arrays.{real_array, integer_array}
+use Rattle.array_text.proofs.ArrayTexts.{arrays, are_lines}
+use Rattle.array_text.proofs.DigitTexts.{digits_spell}
+use Rattle.array_text.proofs.WordTexts.{integer_is_word, word_by_test}
+use Rattle.package_text.proofs.CountTexts.{integer_item}
+use Rattle.package_text.proofs.DisTexts.{AreLines, no_lines, decimal_is_item}
+use Rattle.stress_text.proofs.PlaceTexts.{no_keyword}
+use Rattle.area_text.specs.Readable.{IsLayers}
+
+one_item : (file : List ℕ) (line : ℕ) (ws : Line) → number_at integer file line (codes "1" ∷ ws) ≡ Ok (pos 1, ws)
+unfolding number_at integer
+one_item file line ws = refl
+
+-- an array is read anew
+pub flag_reads : (file : List ℕ) (line : ℕ) (listed : Bool) (ws : Line) → flag_at file line listed (codes "1" ∷ ws) ≡ Ok (true, ws)
+unfolding flag_at
+flag_reads file line listed ws = rw (one_item file line ws) refl
+
+pub option_reads : (file : List ℕ) (line : ℕ) (z : ℤ) (ws : Line) → IsShort z → is_option z ≡ true → option_at file line (integer_word z ∷ ws) ≡ Ok (z, ws)
+unfolding option_at
+option_reads file line z ws short good = rw (integer_item file line z ws short, good) refl
+
+is_few : (n : ℕ) → (nat_lt 0 n && nat_le n 3) ≡ true → n ≤ 3
+is_few n h = by_test (nat_lt 0 n) (nat_le n 3) refl h
+  where
+    by_test : (a b : Bool) → nat_le n 3 ≡ b → (a && b) ≡ true → n ≤ 3
+    by_test true true e k = grind (arith, nat_tests)
+    by_test true false e k = absurd (cc)
+    by_test false b e k = absurd (cc)
+
+pub option_is_short : (z : ℤ) → is_option z ≡ true → IsShort z
+option_is_short (pos n) h = record { few = small (is_few n h) }
+  where
+    small : n ≤ 3 → n < 10 ^ 18
+    small k = omega arith
+option_is_short (negsuc n) h = absurd (cc)
+
+-- NRCHOP or NEVTOP is no comment and no keyword
+pub option_is_item : (z : ℤ) → is_option z ≡ true → (1 ≤ length (integer_word z)) × (is_comment (integer_word z) ≡ false) × (is_word (codes "PARAMETER") (integer_word z) ≡ false)
+unfolding integer_word
+option_is_item (pos n) h =
+    let few : n ≤ 3 = is_few n h in
+    let small : n < 10 ^ 18 = omega arith in
+    ((digits_spell n small).some, decimal_is_item n small, no_keyword 80 (drop 1 (codes "PARAMETER")) n small (omega arith))
+option_is_item (negsuc n) h = absurd (cc)
+
+pub option_is_line : (z : ℤ) → is_option z ≡ true → IsLine (integer_word z ∷ codes "0" ∷ [])
+option_is_line z h =
+    record { some = omega arith; words = All-from_recursion (λ w. IsWord w) (integer_word z ∷ codes "0" ∷ []) (integer_is_word z (option_is_short z h), (word_by_test (codes "0") refl, tt)) }
+
+-- the layers in force, which a period has under option 2
+abbrev pub layers_now : ℤ → List ℤ → Option (List ℤ)
+layers_now option xs = if is_int option 2 then Some xs else None
+
+abbrev pub layers_lines : Grid → ℤ → List ℤ → List Line
+layers_lines g option xs = if is_int option 2 then integer_array g.rows g.cols xs else []
+
+pub layers_in_force : (g : Grid) (option : ℤ) (xs : List ℤ) → IsLayers g option xs → or_empty (layers_now option xs) ≡ xs
+layers_in_force g option xs h = by_case (is_int option 2) h.none
+  where
+    by_case : (b : Bool) → (b ≡ false → xs ≡ []) → or_empty (if b then Some xs else None) ≡ xs
+    by_case true none = refl
+    by_case false none = sym (none refl)
+
+pub no_layers_now : (option : ℤ) (xs : List ℤ) → is_int option 2 ≡ false → layers_now option xs ≡ None
+no_layers_now option xs h = rw h refl
+
+pub layers_are_lines : (g : Grid) (option : ℤ) (xs : List ℤ) → HasSize g → IsLayers g option xs → AreLines (layers_lines g option xs)
+layers_are_lines g option xs size h = by_case (is_int option 2) h.whole
+  where
+    by_case : (b : Bool) → (b ≡ true → IsWhole g xs) → AreLines (if b then integer_array g.rows g.cols xs else [])
+    by_case true whole = record { all = are_lines.integer_layers g.rows g.cols xs size.cols.0 (whole refl) h.short }
+    by_case false whole = no_lines
+
+pub reals_are_lines : (g : Grid) (xs : List Dec) → HasSize g → IsReals g xs → AreLines (real_array g.rows g.cols xs)
+reals_are_lines g xs size h = record { all = are_lines.layers g.rows g.cols xs size.cols.0 h.0 h.1 }
+
+module _ (files : List File) (file : List ℕ) (g : Grid) (size : HasSize g) where
+  pub reals_read : (xs : List Dec) → IsReals g xs → (last : Option (List Dec)) (n : ℕ) (others : List Line)
+      → updated_reals files file g true last (unread n (real_array g.rows g.cols xs ++ others)) ≡ Ok (Some xs, unread (number_after n (real_array g.rows g.cols xs)) others)
+  unfolding updated_reals
+  reals_read xs h last n others = rw ((arrays.layers files file g.rows g.cols xs size.cols.0 h.0 h.1).reads n others) refl
+
+  tests_pass : (xs : List ℤ) → ((i : ℕ) → i < layer_size g → is_layer g (int_at xs i) ≡ true) → (count i : ℕ) → i + count ≡ layer_size g → counted (layer_step file g xs) i count tt ≡ Ok tt
+  unfolding counted
+  tests_pass xs h zero i e = refl
+  tests_pass xs h (suc count) i e =
+      let low : i < layer_size g = omega arith in
+      let good : is_layer g (int_at xs i) ≡ true = h i low in
+      let more : (i + 1) + count ≡ layer_size g = omega arith in
+      rw good (tests_pass xs h count (i + 1) more)
+
+  layers_pass : (xs : List ℤ) → ((i : ℕ) → i < layer_size g → is_layer g (int_at xs i) ≡ true) → layers_tested file g xs ≡ Ok tt
+  unfolding layers_tested
+  layers_pass xs h = tests_pass xs h (layer_size g) 0 (omega arith)
+
+  layers_anew : (xs : List ℤ) → IsWhole g xs → All (λ z. IsShort z) xs → ((i : ℕ) → i < layer_size g → is_layer g (int_at xs i) ≡ true) → (n : ℕ) (others : List Line)
+      → layers_at files file g (unread n (integer_array g.rows g.cols xs ++ others)) ≡ Ok (xs, unread (number_after n (integer_array g.rows g.cols xs)) others)
+  unfolding layers_at
+  layers_anew xs whole short good n others = rw ((arrays.integer_layers files file g.rows g.cols xs size.cols.0 whole short).reads n others, layers_pass xs good) refl
+
+  layers_by : (b : Bool) (xs : List ℤ) → (b ≡ true → IsWhole g xs) → All (λ z. IsShort z) xs → (b ≡ true → (i : ℕ) → i < layer_size g → is_layer g (int_at xs i) ≡ true)
+      → (last : Option (List ℤ)) → (b ≡ false → last ≡ None) → (n : ℕ) (others : List Line)
+      → updated_layers files file g b last (unread n ((if b then integer_array g.rows g.cols xs else []) ++ others))
+      ≡ Ok (if b then Some xs else None, unread (number_after n (if b then integer_array g.rows g.cols xs else [])) others)
+  unfolding updated_layers number_after
+  layers_by true xs whole short good last none n others = rw (layers_anew xs (whole refl) short (good refl) n others) refl
+  layers_by false xs whole short good last none n others = rw (none refl) refl
+
+  pub layers_read : (option : ℤ) (xs : List ℤ) → IsLayers g option xs → (last : Option (List ℤ)) → (is_int option 2 ≡ false → last ≡ None) → (n : ℕ) (others : List Line)
+      → updated_layers files file g (is_int option 2) last (unread n (layers_lines g option xs ++ others)) ≡ Ok (layers_now option xs, unread (number_after n (layers_lines g option xs)) others)
+  layers_read option xs h last none n others = layers_by (is_int option 2) xs h.whole h.short h.layers last none n others

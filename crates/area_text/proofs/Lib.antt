@@ -1,0 +1,3 @@
+pub mod AreaTexts
+pub mod RchTexts
+pub mod EvtTexts

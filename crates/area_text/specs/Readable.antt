@@ -1,0 +1,46 @@
+-- What is asked of recharge and evapotranspiration, so that a file can say them.
+use Rattle.std.specs.Prelude.{◌≡◌, ℕ, ◌<◌, ℤ, true, false, List, [], ◌∷◌, All, Ok}
+use Rattle.model_types.specs.declared.model.FlowModel.{FlowModel}
+use Rattle.model_types.specs.declared.grid.Grid.{Grid}
+use Rattle.model_types.specs.declared.period.Period.{Period}
+use Rattle.model_types.specs.Cells.{layer_size}
+use Rattle.model_types.specs.Layers.{int_at}
+use Rattle.model_types.specs.Receivers.{is_int}
+use Rattle.period_arrays.specs.Flags.{is_option}
+use Rattle.period_arrays.specs.Forms.{IsReals, IsWhole}
+use Rattle.period_arrays.specs.Layers.{is_layer}
+use Rattle.evt_package.specs.Columns.{columns_tested}
+use Rattle.array_text.specs.Words.{IsShort}
+
+-- IRCH or IEVT: layers of the grid, or 0, under option 2; else nothing
+pub record IsLayers (g : Grid) (option : ℤ) (xs : List ℤ) : Type 0 where
+  pub none : is_int option 2 ≡ false → xs ≡ []
+  pub whole : is_int option 2 ≡ true → IsWhole g xs
+  pub short : All IsShort xs
+  pub layers : is_int option 2 ≡ true → (i : ℕ) → i < layer_size g → is_layer g (int_at xs i) ≡ true
+
+-- RCH: NRCHOP from 1 to 3
+pub record IsRecharged (m : FlowModel) : Type 0 where
+  pub option : is_option m.nrchop ≡ true
+  pub recharge : All (λ p. IsReals m.grid p.recharge) m.periods
+  pub irch : All (λ p. IsLayers m.grid m.nrchop p.irch) m.periods
+
+-- EVT: NEVTOP from 1 to 3, and each column passes its test
+pub record IsEvaporating (m : FlowModel) : Type 0 where
+  pub option : is_option m.nevtop ≡ true
+  pub surf : All (λ p. IsReals m.grid p.surf) m.periods
+  pub evtr : All (λ p. IsReals m.grid p.evtr) m.periods
+  pub exdp : All (λ p. IsReals m.grid p.exdp) m.periods
+  pub ievt : All (λ p. IsLayers m.grid m.nevtop p.ievt) m.periods
+  pub passed : (file : List ℕ) → All (λ p. columns_tested file m.grid m.ibound m.nevtop p ≡ Ok tt) m.periods
+
+-- the periods with recharge as these other ones, and with evapotranspiration
+abbrev pub recharged : List Period → List Period → List Period
+recharged [] qs = []
+recharged (p ∷ ps) [] = []
+recharged (p ∷ ps) (q ∷ qs) = record p { recharge = q.recharge; irch = q.irch } ∷ recharged ps qs
+
+abbrev pub evaporated : List Period → List Period → List Period
+evaporated [] qs = []
+evaporated (p ∷ ps) [] = []
+evaporated (p ∷ ps) (q ∷ qs) = record p { surf = q.surf; evtr = q.evtr; exdp = q.exdp; ievt = q.ievt } ∷ evaporated ps qs
