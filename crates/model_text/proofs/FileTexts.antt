@@ -1,0 +1,102 @@
+-- The files of a deck are found by their names.
+use Rattle.std.proofs.Common.{◌≡◌, ℕ, ◌≤◌, ◌==◌, Bool, true, false, nat_le, List, [], ◌∷◌, length, map, filter, All, Option, Some, Ok, refl, sym, ap, ◌∙◌, arith}
+use Rattle.std.specs.List.{list_any}
+use Rattle.std.specs.Str.{bytes_eq}
+use Rattle.std.proofs.lemmas.List.Elements.{All-head, All-tail}
+use Rattle.std.proofs.lemmas.Bool.Decides.{nat_tests}
+use Rattle.std.proofs.lemmas.Slice.Eq.{bytes_eq-Decides}
+use Rattle.outside.specs.Files.{File, bytes_under}
+use Rattle.outside.specs.Inputs.{file_limit, file_at}
+use Rattle.outside.specs.Names.{folder_name}
+use Rattle.name_file.specs.Pairs.{is_same_package}
+use Rattle.name_file.specs.declared.package.Package.{Package}
+use Rattle.model_types.specs.declared.model.FlowModel.{FlowModel}
+use Rattle.array_text.specs.Lines.{text}
+use Rattle.model_text.specs.Names.{packages, name_item, IsFileName, AreNames}
+use Rattle.model_text.specs.Written.{has, lines_of, package_file, name_file, written}
+use Rattle.model_text.proofs.PackageTexts.{same_itself, same_is}
+
+-- a folder is asked for a name without a backslash by the name itself
+plain_name : (w : List ℕ) → All (λ b. b ≡ 92 → ⊥) w → folder_name w ≡ w
+plain_name [] h = refl
+plain_name (b ∷ bs) h =
+    let other : b ≡ 92 → ⊥ = All-head (λ x. x ≡ 92 → ⊥) b bs h in
+    let test : (b == 92) ≡ false = grind (arith, nat_tests) in
+    rw test (ap (λ (x : List ℕ). b ∷ x) (plain_name bs (All-tail (λ x. x ≡ 92 → ⊥) b bs h)))
+
+same_bytes : (w : List ℕ) → bytes_eq w w ≡ true
+same_bytes w = (bytes_eq-Decides w w).1 refl
+
+other_bytes : (v w : List ℕ) → (v ≡ w → ⊥) → bytes_eq v w ≡ false
+other_bytes v w apart = by_case (bytes_eq v w) refl
+  where
+    by_case : (b : Bool) → bytes_eq v w ≡ b → b ≡ false
+    by_case true e = absurd (apart ((bytes_eq-Decides v w).0 e))
+    by_case false e = refl
+
+-- bytes that are found are those of a file
+found_bytes : (w bytes : List ℕ) (limit : ℕ) (files : List File) → All (λ f. length f.bytes ≤ limit) files → bytes_under w files ≡ Some bytes → length bytes ≤ limit
+found_bytes w bytes limit [] small e = absurd (cc)
+found_bytes w bytes limit (f ∷ files) small e = by_case (λ later. found_bytes w bytes limit files rest later) (bytes_eq w f.name) refl
+  where
+    first : length f.bytes ≤ limit
+    first = All-head (λ x. length x.bytes ≤ limit) f files small
+
+    rest : All (λ x. length x.bytes ≤ limit) files
+    rest = All-tail (λ x. length x.bytes ≤ limit) f files small
+
+    by_case : (bytes_under w files ≡ Some bytes → length bytes ≤ limit) → (b : Bool) → bytes_eq w f.name ≡ b → length bytes ≤ limit
+    by_case further true d = let same : Path (Option (List ℕ)) (Some f.bytes) (Some bytes) = rw d at e in let is : f.bytes ≡ bytes = cc in rw is at first
+    by_case further false d = let later : bytes_under w files ≡ Some bytes = rw d at e in further later
+
+small_file : (w bytes : List ℕ) (files : List File) → IsFileName w → All (λ f. length f.bytes ≤ file_limit) files → bytes_under w files ≡ Some bytes → file_at files w ≡ Ok bytes
+small_file w bytes files name small e =
+    let short : length bytes ≤ file_limit = found_bytes w bytes file_limit files small e in
+    let test : nat_le (length bytes) file_limit ≡ true = grind (arith, nat_tests) in
+    rw (plain_name w name.plain, e, test) refl
+
+module _ (m : FlowModel) (names : Package → List ℕ) (name : List ℕ) (h : AreNames names name) where
+  abbrev IsFound : Package → List Package → Type 0
+  IsFound asked ks = bytes_under (names asked) (map (package_file m names) (filter (has m) ks)) ≡ Some (text (lines_of m asked))
+
+  package_bytes : (asked : Package) → has m asked ≡ true → (ks : List Package) → list_any (λ k. is_same_package asked k) ks ≡ true
+      → IsFound asked ks
+  package_bytes asked is_in [] there = absurd (cc)
+  package_bytes asked is_in (k ∷ ks) there = by_case (λ later. package_bytes asked is_in ks later) (is_same_package asked k) refl
+    where
+      first : (j : Package) → asked ≡ j → IsFound asked (j ∷ ks)
+      first j e = rw (← e, is_in, same_bytes (names asked)) refl
+
+      by_case : (list_any (λ j. is_same_package asked j) ks ≡ true → IsFound asked ks) → (b : Bool) → is_same_package asked k ≡ b → IsFound asked (k ∷ ks)
+      by_case rest true e = first k (same_is asked k e)
+      by_case rest false e = further (has m k) refl
+        where
+          later : list_any (λ j. is_same_package asked j) ks ≡ true
+          later = rw e at there
+
+          differ : names asked ≡ names k → ⊥
+          differ same =
+              let is : asked ≡ k = h.distinct asked k same in
+              let itself : is_same_package asked k ≡ true = rw is (same_itself k) in
+              let clash : true ≡ false = sym itself ∙ e in
+              cc
+
+          further : (b : Bool) → has m k ≡ b → IsFound asked (k ∷ ks)
+          further true f = rw (f, other_bytes (names asked) (names k) differ) (rest later)
+          further false f = rw f (rest later)
+
+  pub name_file_there : All (λ f. length f.bytes ≤ file_limit) (written m names name)
+      → file_at (written m names name) name ≡ Ok (text (map (name_item names) (filter (has m) packages)))
+  unfolding written
+  name_file_there small =
+      let first = same_bytes name in
+      let found : bytes_under name (name_file m names name ∷ map (package_file m names) (filter (has m) packages)) ≡ Some (text (map (name_item names) (filter (has m) packages))) = rw first refl in
+      small_file name (text (map (name_item names) (filter (has m) packages))) (name_file m names name ∷ map (package_file m names) (filter (has m) packages)) h.first small found
+
+  pub package_file_there : All (λ f. length f.bytes ≤ file_limit) (written m names name) → (k : Package) → has m k ≡ true → list_any (λ j. is_same_package k j) packages ≡ true
+      → file_at (written m names name) (names k) ≡ Ok (text (lines_of m k))
+  unfolding written
+  package_file_there small k is_in there =
+      let other = other_bytes (names k) name (h.apart k) in
+      let found : bytes_under (names k) (name_file m names name ∷ map (package_file m names) (filter (has m) packages)) ≡ Some (text (lines_of m k)) = rw other (package_bytes k is_in packages there) in
+      small_file (names k) (text (lines_of m k)) (name_file m names name ∷ map (package_file m names) (filter (has m) packages)) (h.each k) small found

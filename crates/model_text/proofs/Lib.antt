@@ -1,0 +1,5 @@
+pub mod PackageTexts
+pub mod NameTexts
+pub mod FileTexts
+pub mod StageTexts
+pub mod ModelTexts

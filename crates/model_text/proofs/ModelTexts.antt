@@ -1,0 +1,184 @@
+-- A model is read as written.
+use Rattle.std.proofs.Common.{◌≡◌, ℕ, ◌≤◌, pos, Bool, true, false, if◌then◌else◌, List, [], ◌∷◌, length, map, All, Some, None, Ok, refl, ap}
+use Rattle.std.specs.List.{list_any}
+use Rattle.outside.specs.Files.{File}
+use Rattle.outside.specs.Inputs.{file_limit, file_at}
+use Rattle.name_file.specs.Pairs.{Pairs, is_same_package, file_of}
+use Rattle.name_file.specs.declared.package.Package.{Package}
+use Rattle.name_file.specs.declared.package.Package.TheVariants.{Dis, Bas, Lpf, Wel, Riv, Drn, Ghb, Rch, Chd, Evt}
+use Rattle.model_types.specs.declared.model.FlowModel.{FlowModel}
+use Rattle.model_types.specs.declared.period.Period.{Period}
+use Rattle.model_types.specs.Grids.{HasSize}
+use Rattle.model_types.specs.Sources.{cell_of}
+use Rattle.dis_package.specs.Discretization.{begun}
+use Rattle.dis_package.specs.Forms.{without_stresses}
+use Rattle.bas_package.specs.Basics.{with_basics}
+use Rattle.cell_checks.specs.Checks.{checked}
+use Rattle.cell_checks.specs.Faults.{fault_at}
+use Rattle.cell_checks.specs.declared.passing.Check.TheVariants.{Thickness, StartHead, Properties}
+use Rattle.stress_packages.specs.Columns.{IsRate, IsReach, IsDrain, IsGeneral}
+use Rattle.stress_packages.specs.Packages.{wells, rivers, drains, generals}
+use Rattle.chd_package.specs.GivenHeads.{AreHeads, given_heads}
+use Rattle.model_reader.specs.Names.{names_in, needed}
+use Rattle.model_reader.specs.Stresses.{where_named, list_in, rch_in, evt_in, with_entries, with_stresses}
+use Rattle.model_reader.specs.Model.{dis_in, basics_tested, bas_in, lpf_in, model_of, reads}
+use Rattle.array_text.specs.Lines.{text}
+use Rattle.package_text.proofs.DisTexts.{dis_reads}
+use Rattle.package_text.proofs.BasTexts.{bas_reads}
+use Rattle.package_text.proofs.LpfTexts.{lpf_reads}
+use Rattle.stress_text.specs.Lists.{numbers_of, heads_of}
+use Rattle.stress_text.proofs.KindTexts.{list_packages}
+use Rattle.model_text.specs.Names.{packages, AreNames}
+use Rattle.model_text.specs.Written.{has, lines_of, written}
+use Rattle.model_text.specs.Writable.{IsWritable, IsDry, IsStill}
+use Rattle.model_text.proofs.NameTexts.{pairs_of, absent, present, names_read}
+use Rattle.model_text.proofs.FileTexts.{name_file_there, package_file_there}
+use Rattle.model_text.proofs.StageTexts.{staged, with_list, with_recharge, with_evaporation, list_stage, recharge_stage, evaporation_stage}
+
+-- The periods without stresses, and then with one package more at each stage.
+abbrev with_wells : Period → Period
+with_wells = with_list wells without_stresses
+
+abbrev with_rivers : Period → Period
+with_rivers = with_list rivers with_wells
+
+abbrev with_drains : Period → Period
+with_drains = with_list drains with_rivers
+
+abbrev with_generals : Period → Period
+with_generals = with_list generals with_drains
+
+abbrev with_rain : Period → Period
+with_rain = with_recharge with_generals
+
+abbrev with_given : Period → Period
+with_given = with_list given_heads with_rain
+
+abbrev with_all : Period → Period
+with_all = with_evaporation with_given
+
+dry : (p : Period) → IsDry p → with_rain p ≡ with_generals p
+dry p h = rw (h.recharge, h.irch) refl
+
+still : (p : Period) → IsStill p → with_all p ≡ with_given p
+still p h = rw (h.surf, h.evtr, h.exdp, h.ievt) refl
+
+all_back : (ps : List Period) → map with_all ps ≡ ps
+all_back [] = refl
+all_back (p ∷ ps) = ap (λ (qs : List Period). p ∷ qs) (all_back ps)
+
+-- the model after DIS and BAS6
+abbrev basic_part : FlowModel → FlowModel
+basic_part m = with_basics (begun m.grid m.lenuni (map without_stresses m.periods)) m.ibound m.strt
+
+thickness_kept : (m : FlowModel) (file : List ℕ) → checked (basic_part m) file Thickness ≡ checked m file Thickness
+unfolding checked fault_at
+thickness_kept m file = refl
+
+heads_kept : (m : FlowModel) (file : List ℕ) → checked (basic_part m) file StartHead ≡ checked m file StartHead
+unfolding checked fault_at
+heads_kept m file = refl
+
+properties_kept : (m : FlowModel) (file : List ℕ) → checked (staged m (pos 0) (pos 0) without_stresses) file Properties ≡ checked m file Properties
+unfolding checked fault_at
+properties_kept m file = refl
+
+bare_twice : (ps : List Period) → map without_stresses (map without_stresses ps) ≡ map without_stresses ps
+bare_twice [] = refl
+bare_twice (p ∷ ps) = ap (λ (qs : List Period). without_stresses p ∷ qs) (bare_twice ps)
+
+-- A model is read from files that have its packages under these names.
+module _ (m : FlowModel) (w : IsWritable m) (names : Package → List ℕ) (files : List File) (pairs : Pairs)
+    (named : (k : Package) → file_of k pairs ≡ (if has m k then Some (names k) else None))
+    (there : (k : Package) → has m k ≡ true → file_at files (names k) ≡ Ok (text (lines_of m k))) where
+  size : HasSize m.grid
+  size = w.discretization.grid.size
+
+  needed_is : (k : Package) → has m k ≡ true → needed k pairs ≡ names k
+  needed_is k h = rw (named k, h) refl
+
+  dis_there : dis_in files (names Dis) ≡ Ok (begun m.grid m.lenuni (map without_stresses m.periods))
+  unfolding dis_in
+  dis_there = rw (there Dis refl) (dis_reads m w.discretization files (names Dis))
+
+  basics_pass : (dis bas : List ℕ) → basics_tested dis bas (basic_part m) ≡ Ok tt
+  unfolding basics_tested
+  basics_pass dis bas = rw (thickness_kept m dis, w.passed Thickness dis, heads_kept m bas, w.passed StartHead bas) refl
+
+  bas_there : bas_in files (names Dis) (names Bas) (begun m.grid m.lenuni (map without_stresses m.periods)) ≡ Ok (basic_part m)
+  unfolding bas_in
+  bas_there =
+      let read = bas_reads files (names Bas) m w.discretization w.basic (begun m.grid m.lenuni (map without_stresses m.periods)) refl in
+      rw (there Bas refl, read, basics_pass (names Dis) (names Bas)) refl
+
+  lpf_there : lpf_in files (names Lpf) (basic_part m) ≡ Ok (staged m (pos 0) (pos 0) without_stresses)
+  unfolding lpf_in
+  lpf_there =
+      let read = lpf_reads files (names Lpf) m w.discretization w.flow (basic_part m) refl (bare_twice m.periods) in
+      rw (there Lpf refl, read, properties_kept m (names Lpf), w.passed Properties (names Lpf)) refl
+
+  wells_there : where_named (file_of Wel pairs) (list_in wells files) (staged m (pos 0) (pos 0) without_stresses) ≡ Ok (staged m (pos 0) (pos 0) with_wells)
+  wells_there = list_stage wells IsRate cell_of numbers_of list_packages.wel m size w.wel files (names Wel) (pos 0) (pos 0) without_stresses (λ p xs. refl) (λ p. refl) (file_of Wel pairs) (named Wel) (there Wel)
+
+  rivers_there : where_named (file_of Riv pairs) (list_in rivers files) (staged m (pos 0) (pos 0) with_wells) ≡ Ok (staged m (pos 0) (pos 0) with_rivers)
+  rivers_there = list_stage rivers IsReach cell_of numbers_of list_packages.riv m size w.riv files (names Riv) (pos 0) (pos 0) with_wells (λ p xs. refl) (λ p. refl) (file_of Riv pairs) (named Riv) (there Riv)
+
+  drains_there : where_named (file_of Drn pairs) (list_in drains files) (staged m (pos 0) (pos 0) with_rivers) ≡ Ok (staged m (pos 0) (pos 0) with_drains)
+  drains_there = list_stage drains IsDrain cell_of numbers_of list_packages.drn m size w.drn files (names Drn) (pos 0) (pos 0) with_rivers (λ p xs. refl) (λ p. refl) (file_of Drn pairs) (named Drn) (there Drn)
+
+  generals_there : where_named (file_of Ghb pairs) (list_in generals files) (staged m (pos 0) (pos 0) with_drains) ≡ Ok (staged m (pos 0) (pos 0) with_generals)
+  generals_there = list_stage generals IsGeneral cell_of numbers_of list_packages.ghb m size w.ghb files (names Ghb) (pos 0) (pos 0) with_drains (λ p xs. refl) (λ p. refl) (file_of Ghb pairs) (named Ghb) (there Ghb)
+
+  rain_there : where_named (file_of Rch pairs) (rch_in files) (staged m (pos 0) (pos 0) with_generals) ≡ Ok (staged m m.nrchop (pos 0) with_rain)
+  rain_there = recharge_stage m size files (names Rch) with_generals (file_of Rch pairs) w.rch dry (named Rch) (there Rch)
+
+  given_there : where_named (file_of Chd pairs) (list_in given_heads files) (staged m m.nrchop (pos 0) with_rain) ≡ Ok (staged m m.nrchop (pos 0) with_given)
+  given_there =
+      list_stage given_heads AreHeads (λ x. x.cell.0) heads_of list_packages.chd m size w.chd files (names Chd) m.nrchop (pos 0) with_rain (λ p xs. refl) (λ p. refl) (file_of Chd pairs) (named Chd) (there Chd)
+
+  all_there : where_named (file_of Evt pairs) (evt_in files) (staged m m.nrchop (pos 0) with_given) ≡ Ok (staged m m.nrchop m.nevtop with_all)
+  all_there = evaporation_stage m size files (names Evt) with_given (file_of Evt pairs) w.evt still (named Evt) (there Evt)
+
+  entries_there : with_entries files pairs (staged m (pos 0) (pos 0) without_stresses) ≡ Ok (staged m (pos 0) (pos 0) with_generals)
+  unfolding with_entries
+  entries_there = rw (wells_there, rivers_there, drains_there) generals_there
+
+  stresses_there : with_stresses files pairs (staged m (pos 0) (pos 0) without_stresses) ≡ Ok m
+  unfolding with_stresses
+  stresses_there = rw (entries_there, rain_there, given_there, all_there, all_back m.periods) refl
+
+  model_there : model_of files pairs ≡ Ok m
+  unfolding model_of
+  model_there = rw (needed_is Dis refl, dis_there, needed_is Bas refl, bas_there, needed_is Lpf refl, lpf_there) stresses_there
+
+module _ (m : FlowModel) (w : IsWritable m) (names : Package → List ℕ) (name : List ℕ) (h : AreNames names name) (small : All (λ f. length f.bytes ≤ file_limit) (written m names name)) where
+  abbrev pairs : Pairs
+  pairs = pairs_of names (has m) packages
+
+  listed : (k : Package) → list_any (λ j. is_same_package k j) packages ≡ true
+  listed Dis = refl
+  listed Bas = refl
+  listed Lpf = refl
+  listed Wel = refl
+  listed Riv = refl
+  listed Drn = refl
+  listed Ghb = refl
+  listed Rch = refl
+  listed Chd = refl
+  listed Evt = refl
+
+  named : (k : Package) → file_of k pairs ≡ (if has m k then Some (names k) else None)
+  named k = by_case (has m k) refl
+    where
+      by_case : (b : Bool) → has m k ≡ b → file_of k pairs ≡ (if b then Some (names k) else None)
+      by_case true e = present names (has m) k e packages (listed k)
+      by_case false e = absent names (has m) k e packages
+
+  names_there : names_in (written m names name) name ≡ Ok pairs
+  unfolding names_in
+  names_there = rw (name_file_there m names name h small) (names_read names name h (has m) refl refl refl)
+
+  pub model_reads : reads (written m names name) name ≡ Ok m
+  unfolding reads
+  model_reads =
+      rw names_there (model_there m w names (written m names name) pairs named (λ k is_in. package_file_there m names name h small k is_in (listed k)))

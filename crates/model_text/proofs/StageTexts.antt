@@ -1,0 +1,142 @@
+-- A model's packages of stresses are read one after the other, each where the model has it.
+use Rattle.std.proofs.Common.{◌≡◌, ◌⊎◌, inl, inr, ℕ, zero, suc, ℤ, pos, negsuc, Bool, true, false, not, nat_lt, if◌then◌else◌, List, [], ◌∷◌, length, map, All, Option, Some, None, Ok, refl, ap, ◌∙◌, arith}
+use Rattle.std.specs.List.{AllZip}
+use Rattle.std.proofs.lemmas.Bool.{or_parts}
+use Rattle.std.proofs.lemmas.Bool.Decides.{nat_tests}
+use Rattle.std.proofs.lemmas.List.{length-map, nil_from_length}
+use Rattle.std.proofs.lemmas.List.Elements.{All-head, All-tail}
+use Rattle.decimal_input.specs.declared.dec.Dec.{Dec}
+use Rattle.outside.specs.Files.{File}
+use Rattle.outside.specs.Inputs.{file_at}
+use Rattle.model_types.specs.declared.model.FlowModel.{FlowModel}
+use Rattle.model_types.specs.declared.period.Period.{Period}
+use Rattle.model_types.specs.Cells.{cell_count}
+use Rattle.model_types.specs.Grids.{HasSize}
+use Rattle.model_types.specs.Receivers.{is_int}
+use Rattle.list_package.specs.Kinds.{Kind}
+use Rattle.list_package.specs.Lists.{package_of}
+use Rattle.period_arrays.specs.Flags.{is_option}
+use Rattle.model_reader.specs.Stresses.{where_named, file_in, list_in, rch_in, evt_in}
+use Rattle.array_text.specs.Lines.{text}
+use Rattle.stress_text.specs.Lists.{list_lines}
+use Rattle.stress_text.specs.Entries.{IsListOf, with_lists}
+use Rattle.stress_text.specs.Laws.{ListsReadAsWritten}
+use Rattle.area_text.specs.Areas.{rch_lines, evt_lines}
+use Rattle.area_text.specs.Readable.{IsRecharged, IsEvaporating, recharged, evaporated}
+use Rattle.area_text.proofs.RchTexts.{rch_reads}
+use Rattle.area_text.proofs.EvtTexts.{evt_reads}
+use Rattle.model_text.specs.Written.{is_listed}
+use Rattle.model_text.specs.Writable.{HasLists, IsDry, IsStill, HasNoRecharge, HasNoEvaporation}
+
+-- the model with these options, and with each period at this stage
+abbrev pub staged : FlowModel → ℤ → ℤ → (Period → Period) → FlowModel
+staged m nrchop nevtop stage = record m { nrchop = nrchop; nevtop = nevtop; periods = map stage m.periods }
+
+is_empty : {X : Type 0} (xs : List X) → nat_lt 0 (length xs) ≡ false → xs ≡ []
+is_empty xs h = let none : length xs ≡ 0 = grind (arith, nat_tests) in nil_from_length xs none
+
+pub same_stage : (f g : Period → Period) (P : Period → Type 0) → ((p : Period) → P p → g p ≡ f p) → (ps : List Period) → All P ps → map g ps ≡ map f ps
+same_stage f g P same [] h = refl
+same_stage f g P same (p ∷ ps) h = rw (same p (All-head P p ps h)) (ap (λ (qs : List Period). f p ∷ qs) (same_stage f g P same ps (All-tail P p ps h)))
+
+-- A list package: the next stage has its lists.
+module _ {C E : Type 0} (kind : Kind C E) (stage : Period → Period) where
+  abbrev pub with_list : Period → Period
+  with_list p = kind.put (stage p) (kind.list p)
+
+  abbrev lists_of : List Period → List (List E)
+  lists_of ps = map (λ p. kind.list p) ps
+
+  lists_put : (ps : List Period) → with_lists kind (map stage ps) (lists_of ps) ≡ map with_list ps
+  lists_put [] = refl
+  lists_put (p ∷ ps) = ap (λ (qs : List Period). with_list p ∷ qs) (lists_put ps)
+
+  none_put : ((p : Period) → kind.put (stage p) [] ≡ stage p) → (ps : List Period) → is_listed (λ p. kind.list p) ps ≡ false → map with_list ps ≡ map stage ps
+  none_put empty [] none = refl
+  none_put empty (p ∷ ps) none =
+      let parts = or_parts (nat_lt 0 (length (kind.list p))) (is_listed (λ q. kind.list q) ps) none in
+      let bare : kind.list p ≡ [] = is_empty (kind.list p) parts.0 in
+      let first : with_list p ≡ stage p = ap (λ (xs : List E). kind.put (stage p) xs) bare ∙ empty p in
+      rw first (ap (λ (qs : List Period). stage p ∷ qs) (none_put empty ps parts.1))
+
+  all_lists : (AreNumbers : C → Type 0) (cells : ℕ) → ((p : Period) (xs : List E) → kind.suits (stage p) xs ≡ kind.suits p xs) → (ps : List Period)
+      → All (λ p. IsListOf kind AreNumbers cells p (kind.list p)) ps → AllZip (λ p xs. IsListOf kind AreNumbers cells p xs) (map stage ps) (lists_of ps)
+  all_lists AreNumbers cells same [] h = tt
+  all_lists AreNumbers cells same (p ∷ ps) h =
+      let first : IsListOf kind AreNumbers cells p (kind.list p) = All-head (λ q. IsListOf kind AreNumbers cells q (kind.list q)) p ps h in
+      let rest = All-tail (λ q. IsListOf kind AreNumbers cells q (kind.list q)) p ps h in
+      (record { few = first.few; entries = first.entries; once = first.once; suits = same p (kind.list p) ∙ first.suits }, all_lists AreNumbers cells same ps rest)
+
+module _ {C E : Type 0} (kind : Kind C E) (AreNumbers : C → Type 0) (cell : E → ℕ) (numbers : E → List Dec) (reads : ListsReadAsWritten kind AreNumbers cell numbers)
+    (m : FlowModel) (size : HasSize m.grid) (lists : HasLists kind AreNumbers m) (files : List File) (name : List ℕ) (nrchop nevtop : ℤ) (stage : Period → Period)
+    (suits : (p : Period) (xs : List E) → kind.suits (stage p) xs ≡ kind.suits p xs) (empty : (p : Period) → kind.put (stage p) [] ≡ stage p) where
+  list_there : file_at files name ≡ Ok (text (list_lines m.grid cell numbers (map (λ p. kind.list p) m.periods)))
+      → list_in kind files name (staged m nrchop nevtop stage) ≡ Ok (staged m nrchop nevtop (with_list kind stage))
+  unfolding file_in package_of
+  list_there there =
+      let good = all_lists kind stage AreNumbers (cell_count m.grid) suits m.periods lists in
+      rw (there, reads name m.grid (map stage m.periods) (map (λ p. kind.list p) m.periods) size good, lists_put kind stage m.periods) refl
+
+  pub list_stage : (named : Option (List ℕ)) → named ≡ (if is_listed (λ p. kind.list p) m.periods then Some name else None)
+      → (is_listed (λ p. kind.list p) m.periods ≡ true → file_at files name ≡ Ok (text (list_lines m.grid cell numbers (map (λ p. kind.list p) m.periods))))
+      → where_named named (list_in kind files) (staged m nrchop nevtop stage) ≡ Ok (staged m nrchop nevtop (with_list kind stage))
+  list_stage named asked there = by_case (is_listed (λ p. kind.list p) m.periods) refl
+    where
+      by_case : (b : Bool) → is_listed (λ p. kind.list p) m.periods ≡ b → where_named named (list_in kind files) (staged m nrchop nevtop stage) ≡ Ok (staged m nrchop nevtop (with_list kind stage))
+      by_case true e = let is : named ≡ Some name = rw e at asked in rw is (list_there (there e))
+      by_case false e = let is : named ≡ None = rw e at asked in rw (is, none_put kind stage empty m.periods e) refl
+
+option_is_some : (z : ℤ) → is_option z ≡ true → is_int z 0 ≡ false
+option_is_some (pos zero) h = absurd (cc)
+option_is_some (pos (suc n)) h = grind (arith, nat_tests)
+option_is_some (negsuc n) h = absurd (cc)
+
+-- RCH: the next stage has the recharge.
+abbrev pub with_recharge : (Period → Period) → Period → Period
+with_recharge stage p = record (stage p) { recharge = p.recharge; irch = p.irch }
+
+module _ (m : FlowModel) (size : HasSize m.grid) (files : List File) (name : List ℕ) (stage : Period → Period) where
+  recharge_put : (ps : List Period) → recharged (map stage ps) ps ≡ map (with_recharge stage) ps
+  recharge_put [] = refl
+  recharge_put (p ∷ ps) = ap (λ (qs : List Period). with_recharge stage p ∷ qs) (recharge_put ps)
+
+  recharge_there : IsRecharged m → file_at files name ≡ Ok (text (rch_lines m)) → rch_in files name (staged m (pos 0) (pos 0) stage) ≡ Ok (staged m m.nrchop (pos 0) (with_recharge stage))
+  unfolding rch_in
+  recharge_there w there = rw (there, rch_reads files name m size w (staged m (pos 0) (pos 0) stage) refl (length-map m.periods stage), recharge_put m.periods) refl
+
+  pub recharge_stage : (named : Option (List ℕ)) → IsRecharged m ⊎ HasNoRecharge m → ((p : Period) → IsDry p → with_recharge stage p ≡ stage p)
+      → named ≡ (if not (is_int m.nrchop 0) then Some name else None) → (not (is_int m.nrchop 0) ≡ true → file_at files name ≡ Ok (text (rch_lines m)))
+      → where_named named (rch_in files) (staged m (pos 0) (pos 0) stage) ≡ Ok (staged m m.nrchop (pos 0) (with_recharge stage))
+  recharge_stage named (inl w) dry asked there =
+      let is_in : is_int m.nrchop 0 ≡ false = option_is_some m.nrchop w.option in
+      let is : named ≡ Some name = rw is_in at asked in
+      rw is (recharge_there w (there (rw is_in refl)))
+  recharge_stage named (inr w) dry asked there =
+      let out : is_int m.nrchop 0 ≡ true = rw w.option refl in
+      let is : named ≡ None = rw out at asked in
+      rw (is, same_stage stage (with_recharge stage) IsDry dry m.periods w.none, w.option) refl
+
+-- EVT: the next stage has the evapotranspiration.
+abbrev pub with_evaporation : (Period → Period) → Period → Period
+with_evaporation stage p = record (stage p) { surf = p.surf; evtr = p.evtr; exdp = p.exdp; ievt = p.ievt }
+
+module _ (m : FlowModel) (size : HasSize m.grid) (files : List File) (name : List ℕ) (stage : Period → Period) where
+  evaporation_put : (ps : List Period) → evaporated (map stage ps) ps ≡ map (with_evaporation stage) ps
+  evaporation_put [] = refl
+  evaporation_put (p ∷ ps) = ap (λ (qs : List Period). with_evaporation stage p ∷ qs) (evaporation_put ps)
+
+  evaporation_there : IsEvaporating m → file_at files name ≡ Ok (text (evt_lines m)) → evt_in files name (staged m m.nrchop (pos 0) stage) ≡ Ok (staged m m.nrchop m.nevtop (with_evaporation stage))
+  unfolding evt_in
+  evaporation_there w there = rw (there, evt_reads files name m size w (staged m m.nrchop (pos 0) stage) refl refl (length-map m.periods stage), evaporation_put m.periods) refl
+
+  pub evaporation_stage : (named : Option (List ℕ)) → IsEvaporating m ⊎ HasNoEvaporation m → ((p : Period) → IsStill p → with_evaporation stage p ≡ stage p)
+      → named ≡ (if not (is_int m.nevtop 0) then Some name else None) → (not (is_int m.nevtop 0) ≡ true → file_at files name ≡ Ok (text (evt_lines m)))
+      → where_named named (evt_in files) (staged m m.nrchop (pos 0) stage) ≡ Ok (staged m m.nrchop m.nevtop (with_evaporation stage))
+  evaporation_stage named (inl w) still asked there =
+      let is_in : is_int m.nevtop 0 ≡ false = option_is_some m.nevtop w.option in
+      let is : named ≡ Some name = rw is_in at asked in
+      rw is (evaporation_there w (there (rw is_in refl)))
+  evaporation_stage named (inr w) still asked there =
+      let out : is_int m.nevtop 0 ≡ true = rw w.option refl in
+      let is : named ≡ None = rw out at asked in
+      rw (is, same_stage stage (with_evaporation stage) IsStill still m.periods w.none, w.option) refl

@@ -1,0 +1,52 @@
+-- What is asked of a model, so that files can say it.
+use Rattle.std.specs.Prelude.{◌≡◌, ◌⊎◌, ℕ, pos, List, [], All, Ok}
+use Rattle.model_types.specs.declared.model.FlowModel.{FlowModel}
+use Rattle.model_types.specs.declared.period.Period.{Period}
+use Rattle.model_types.specs.Cells.{cell_count}
+use Rattle.cell_checks.specs.Checks.{checked}
+use Rattle.cell_checks.specs.declared.passing.Check.{Check}
+use Rattle.list_package.specs.Kinds.{Kind}
+use Rattle.stress_packages.specs.Columns.{IsRate, IsReach, IsDrain, IsGeneral}
+use Rattle.stress_packages.specs.Packages.{wells, rivers, drains, generals}
+use Rattle.chd_package.specs.GivenHeads.{AreHeads, given_heads}
+use Rattle.package_text.specs.Readable.{IsDiscretized, IsBasic, HasFlow}
+use Rattle.stress_text.specs.Entries.{IsListOf}
+use Rattle.area_text.specs.Readable.{IsRecharged, IsEvaporating}
+
+-- each stress period has a list of this package that its file can say
+abbrev pub HasLists : {C E : Type 0} → Kind C E → (C → Type 0) → FlowModel → Type 0
+HasLists kind AreNumbers m = All (λ p. IsListOf kind AreNumbers (cell_count m.grid) p (kind.list p)) m.periods
+
+-- a period without recharge, and one without evapotranspiration
+pub record IsDry (p : Period) : Type 0 where
+  pub recharge : p.recharge ≡ []
+  pub irch : p.irch ≡ []
+
+pub record IsStill (p : Period) : Type 0 where
+  pub surf : p.surf ≡ []
+  pub evtr : p.evtr ≡ []
+  pub exdp : p.exdp ≡ []
+  pub ievt : p.ievt ≡ []
+
+-- a model without recharge, and one without evapotranspiration
+pub record HasNoRecharge (m : FlowModel) : Type 0 where
+  pub option : m.nrchop ≡ pos 0
+  pub none : All IsDry m.periods
+
+pub record HasNoEvaporation (m : FlowModel) : Type 0 where
+  pub option : m.nevtop ≡ pos 0
+  pub none : All IsStill m.periods
+
+-- each package is as its file can say it, and the cells pass the tests of thickness, starting heads and properties
+pub record IsWritable (m : FlowModel) : Type 0 where
+  pub discretization : IsDiscretized m
+  pub basic : IsBasic m
+  pub flow : HasFlow m
+  pub passed : (check : Check) (file : List ℕ) → checked m file check ≡ Ok tt
+  pub wel : HasLists wells IsRate m
+  pub riv : HasLists rivers IsReach m
+  pub drn : HasLists drains IsDrain m
+  pub ghb : HasLists generals IsGeneral m
+  pub rch : IsRecharged m ⊎ HasNoRecharge m
+  pub chd : HasLists given_heads AreHeads m
+  pub evt : IsEvaporating m ⊎ HasNoEvaporation m

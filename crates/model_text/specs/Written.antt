@@ -1,0 +1,59 @@
+-- A model as the files of a deck.
+use Rattle.std.specs.Prelude.{ℕ, Bool, true, not, nat_lt, List, ◌∷◌, map, filter, length}
+use Rattle.std.specs.List.{list_any}
+use Rattle.outside.specs.Files.{File}
+use Rattle.name_file.specs.declared.package.Package.{Package}
+use Rattle.name_file.specs.declared.package.Package.TheVariants.{Dis, Bas, Lpf, Wel, Riv, Drn, Ghb, Rch, Chd, Evt}
+use Rattle.model_types.specs.declared.model.FlowModel.{FlowModel}
+use Rattle.model_types.specs.declared.period.Period.{Period}
+use Rattle.model_types.specs.Receivers.{is_int}
+use Rattle.array_text.specs.Lines.{Line, text}
+use Rattle.package_text.specs.Discretization.{dis_lines}
+use Rattle.package_text.specs.Basics.{bas_lines}
+use Rattle.package_text.specs.Flow.{lpf_lines}
+use Rattle.stress_text.specs.Lists.{wel_lines, riv_lines, drn_lines, ghb_lines, chd_lines}
+use Rattle.area_text.specs.Areas.{rch_lines, evt_lines}
+use Rattle.model_text.specs.Names.{packages, name_item}
+
+-- whether a stress period has an entry in its list
+abbrev pub is_listed : {E : Type 0} → (Period → List E) → List Period → Bool
+is_listed list ps = list_any (λ p. nat_lt 0 (length (list p))) ps
+
+module _ (m : FlowModel) where
+  -- the packages that the model has: those of each model, a list package that has an entry, RCH and EVT by NRCHOP and NEVTOP
+  abbrev pub has : Package → Bool
+  has Dis = true
+  has Bas = true
+  has Lpf = true
+  has Wel = is_listed (λ p. p.wells) m.periods
+  has Riv = is_listed (λ p. p.rivers) m.periods
+  has Drn = is_listed (λ p. p.drains) m.periods
+  has Ghb = is_listed (λ p. p.generals) m.periods
+  has Rch = not (is_int m.nrchop 0)
+  has Chd = is_listed (λ p. p.given) m.periods
+  has Evt = not (is_int m.nevtop 0)
+
+  -- the lines of a package's file
+  abbrev pub lines_of : Package → List Line
+  lines_of Dis = dis_lines m
+  lines_of Bas = bas_lines m
+  lines_of Lpf = lpf_lines m
+  lines_of Wel = wel_lines m
+  lines_of Riv = riv_lines m
+  lines_of Drn = drn_lines m
+  lines_of Ghb = ghb_lines m
+  lines_of Rch = rch_lines m
+  lines_of Chd = chd_lines m
+  lines_of Evt = evt_lines m
+
+  -- a package's file
+  abbrev pub package_file : (Package → List ℕ) → Package → File
+  package_file names k = record { name = names k; bytes = text (lines_of k) }
+
+  -- the name file
+  abbrev pub name_file : (Package → List ℕ) → List ℕ → File
+  name_file names name = record { name = name; bytes = text (map (name_item names) (filter has packages)) }
+
+  -- the files of a deck: the name file, and a file for each package that the model has
+  unfoldable pub written : (Package → List ℕ) → List ℕ → List File
+  written names name = name_file names name ∷ map (package_file names) (filter has packages)

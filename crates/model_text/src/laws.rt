@@ -1,0 +1,7 @@
+// A model is read as written. Each law is the contract of an empty function.
+ghost use Rattle.model_text.specs.Laws.{ModelsReadAsWritten};
+
+/// The files of a model, with good names and at most 64 MiB each, are read as the model.
+pub fn models_read_as_written()
+    ensures { ModelsReadAsWritten }
+{}
