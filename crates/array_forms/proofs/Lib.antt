@@ -1,0 +1,4 @@
+pub mod Readings
+pub mod NumberForms
+pub mod ListForms
+pub mod ArrayForms
