@@ -12,6 +12,8 @@ const VISITS_OF_LEVELS: u64 = 20;
 pub struct Solver {
     levels: Levels,
     slopes: Vec<i64>,
+    // How far each slope may be off.
+    slack: Vec<u64>,
     // Weights are conductances over 2^scale, so that the sum of all of them fits.
     scale: u32,
 }
@@ -62,6 +64,20 @@ fn matrix_of(
     Ok(matrix)
 }
 
+// How far each slope may be off: a few units, and 2^-20 of what it exceeds the cell's links by.
+fn slack_of(alloc: Global, side: &OneSide, slopes: &[i64]) -> Result<Vec<u64>, AllocError> {
+    let mut slack = Vec::with_capacity(alloc, slopes.len())?;
+    for (cell, slope) in slopes.iter().enumerate() {
+        let row = side.links.row(cell);
+        let mut excess = *slope;
+        for edge in side.links.edges(&row) {
+            excess = excess.saturating_sub(edge.lo);
+        }
+        slack.push(16_u64.saturating_add(excess.max(0).unsigned_abs() >> 20))?;
+    }
+    Ok(slack)
+}
+
 impl Solver {
     pub fn new(
         alloc: Global,
@@ -73,18 +89,25 @@ impl Solver {
         let matrix = matrix_of(alloc, side, slopes.as_slice(), scale)?;
         budget.spend(VISITS_OF_LEVELS.saturating_mul(side.len() as u64));
         let levels = Levels::new(alloc, matrix)?;
+        let slack = slack_of(alloc, side, slopes.as_slice())?;
         Ok(Solver {
             levels,
             slopes,
+            slack,
             scale,
         })
     }
 
-    /// Whether these slopes are nearly the solver's own: within the few units by which lower and upper conductances differ.
+    /// Whether these slopes are nearly the solver's own: within the few units by which lower and upper conductances differ, or a
+    /// small part of what they exceed the cell's links by. Heads move together as far as that part lets them, however great the links are.
     pub fn serves(&self, slopes: &[i64]) -> bool {
         self.slopes.len() == slopes.len()
-            && self.slopes.iter().zip(slopes).all(|(own, slope)| own.abs_diff(*slope)
-                <= 16_u64.saturating_add(slope.unsigned_abs() >> 20))
+            && self
+                .slopes
+                .iter()
+                .zip(slopes)
+                .zip(self.slack.as_slice())
+                .all(|((own, slope), slack)| own.abs_diff(*slope) <= *slack)
     }
 
     /// Sets the right side, numbers of the problem's unit times 2^places.

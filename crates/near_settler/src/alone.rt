@@ -4,7 +4,8 @@ ghost use Rattle.step_problem.specs.Heads.{IsBarrier};
 ghost use Rattle.step_problem.specs.Settling.{Settles};
 
 use crate::first::{has_few_cells, settles_soon};
-use crate::guessing::Course;
+use crate::guesser::{Guesser, NearGuesser};
+use crate::guessing::Guessing;
 use settle_driver::PlainSettler;
 use std::alloc::Global;
 use step_problem::{Barrier, Bound, Problem, SettleFault, Settler};
@@ -22,20 +23,17 @@ const SWEEPS_OF_FEW: u32 = 4_096;
 /// Settles as a `PlainSettler` with this many sweeps does, on the calling thread. A guess after the first sweeps only
 /// saves time, as does what is kept from one step to the next.
 #[derive(Drop)]
-pub struct AloneSettler {
+pub struct AloneSettler<S: Guesser = NearGuesser> {
     rounds: u32,
-    course: Course,
+    guessing: Guessing<S>,
 }
 
-impl AloneSettler {
+impl AloneSettler<NearGuesser> {
     /// A settler of at most `rounds` plain sweeps.
-    pub fn new(rounds: u32) -> AloneSettler
+    pub fn new(rounds: u32) -> AloneSettler<NearGuesser>
         ensures { AloneSettler.rounds result ≡ rounds }
     {
-        AloneSettler {
-            rounds,
-            course: Course::new(),
-        }
+        AloneSettler::with_guesser(NearGuesser, rounds)
     }
 }
 
@@ -47,95 +45,101 @@ fn sweep(alloc: Global, p: &Problem, b: &Barrier, rounds: u32) -> Result<Vec<Bou
     PlainSettler::new(rounds).settle(alloc, p, b)
 }
 
-// By a guess, and by all the sweeps where it is not certified.
-fn settle_onward(
-    alloc: Global,
-    p: &Problem,
-    b: &Barrier,
-    rounds: u32,
-    course: &mut Course,
-) -> Result<Vec<Bound>, SettleFault>
-    requires { IsBarrier p.now b.now }
-    ensures { Settles p.now b.now rounds result }
-{
-    match course.settle_by_guess(alloc, p, b) {
-        Ok(bounds) => Ok(bounds),
-        Err(SettleFault::Unfinished(_)) => sweep(alloc, p, b, rounds),
-        Err(SettleFault::Memory) => Err(SettleFault::Memory),
+impl<S: Guesser> AloneSettler<S> {
+    /// A settler of at most `rounds` plain sweeps, which tries the heads of any guesser.
+    pub fn with_guesser(guesser: S, rounds: u32) -> AloneSettler<S>
+        ensures { AloneSettler.rounds result ≡ rounds }
+    {
+        AloneSettler {
+            rounds,
+            guessing: Guessing::new(guesser),
+        }
     }
-}
 
-// By `first` sweeps, then by a guess.
-fn settle_few_first(
-    alloc: Global,
-    p: &Problem,
-    b: &Barrier,
-    first: u32,
-    rounds: u32,
-    course: &mut Course,
-) -> Result<Vec<Bound>, SettleFault>
-    requires { IsBarrier p.now b.now }
-    ensures { Settles p.now b.now rounds result }
-{
-    if rounds <= first {
-        return sweep(alloc, p, b, rounds);
+    // By a guess, and by all the sweeps where it is not certified.
+    fn settle_onward(
+        &self,
+        alloc: Global,
+        p: &Problem,
+        b: &Barrier,
+    ) -> Result<Vec<Bound>, SettleFault>
+        requires { IsBarrier p.now b.now }
+        ensures { Settles p.now b.now self.now.rounds result }
+    {
+        match self.guessing.settle(alloc, p, b) {
+            Ok(bounds) => Ok(bounds),
+            Err(SettleFault::Unfinished(_)) => sweep(alloc, p, b, self.rounds),
+            Err(SettleFault::Memory) => Err(SettleFault::Memory),
+        }
     }
-    match sweep(alloc, p, b, first) {
-        Ok(bounds) => Ok(bounds),
-        Err(SettleFault::Unfinished(_)) => settle_onward(alloc, p, b, rounds, course),
-        Err(SettleFault::Memory) => Err(SettleFault::Memory),
-    }
-}
 
-// After one look that led to `first`: by a second one, then by sweeps or by a guess, as the moves promise.
-fn settle_as_promised(
-    alloc: Global,
-    p: &Problem,
-    b: &Barrier,
-    first: &[Bound],
-    rounds: u32,
-    course: &mut Course,
-) -> Result<Vec<Bound>, SettleFault>
-    requires { IsBarrier p.now b.now }
-    ensures { Settles p.now b.now rounds result }
-{
-    match sweep(alloc, p, b, TWO_LOOKS) {
-        Ok(bounds) => Ok(bounds),
-        Err(SettleFault::Unfinished(open)) => {
-            if settles_soon(b, first, &open.words) {
-                settle_few_first(alloc, p, b, SWEEPS_OF_SOON, rounds, course)
-            } else {
-                settle_onward(alloc, p, b, rounds, course)
+    // By `first` sweeps, then by a guess.
+    fn settle_few_first(
+        &self,
+        alloc: Global,
+        p: &Problem,
+        b: &Barrier,
+        first: u32,
+    ) -> Result<Vec<Bound>, SettleFault>
+        requires { IsBarrier p.now b.now }
+        ensures { Settles p.now b.now self.now.rounds result }
+    {
+        if self.rounds <= first {
+            return sweep(alloc, p, b, self.rounds);
+        }
+        match sweep(alloc, p, b, first) {
+            Ok(bounds) => Ok(bounds),
+            Err(SettleFault::Unfinished(_)) => self.settle_onward(alloc, p, b),
+            Err(SettleFault::Memory) => Err(SettleFault::Memory),
+        }
+    }
+
+    // After one look that led to `first`: by a second one, then by sweeps or by a guess, as the moves promise.
+    fn settle_as_promised(
+        &self,
+        alloc: Global,
+        p: &Problem,
+        b: &Barrier,
+        first: &[Bound],
+    ) -> Result<Vec<Bound>, SettleFault>
+        requires { IsBarrier p.now b.now }
+        ensures { Settles p.now b.now self.now.rounds result }
+    {
+        match sweep(alloc, p, b, TWO_LOOKS) {
+            Ok(bounds) => Ok(bounds),
+            Err(SettleFault::Unfinished(open)) => {
+                if settles_soon(b, first, &open.words) {
+                    self.settle_few_first(alloc, p, b, SWEEPS_OF_SOON)
+                } else {
+                    self.settle_onward(alloc, p, b)
+                }
             }
+            Err(SettleFault::Memory) => Err(SettleFault::Memory),
         }
-        Err(SettleFault::Memory) => Err(SettleFault::Memory),
+    }
+
+    // By a look first, which costs less than a guess, unless one of the last steps had a look.
+    fn settle_by_look(
+        &self,
+        alloc: Global,
+        p: &Problem,
+        b: &Barrier,
+    ) -> Result<Vec<Bound>, SettleFault>
+        requires { IsBarrier p.now b.now }
+        ensures { Settles p.now b.now self.now.rounds result }
+    {
+        if self.guessing.skips_look() {
+            return self.settle_onward(alloc, p, b);
+        }
+        match sweep(alloc, p, b, LOOK) {
+            Ok(bounds) => Ok(bounds),
+            Err(SettleFault::Unfinished(open)) => self.settle_as_promised(alloc, p, b, &open.words),
+            Err(SettleFault::Memory) => Err(SettleFault::Memory),
+        }
     }
 }
 
-// By a look first, which costs less than a guess, unless one of the last steps had a look.
-fn settle_by_look(
-    alloc: Global,
-    p: &Problem,
-    b: &Barrier,
-    rounds: u32,
-    course: &mut Course,
-) -> Result<Vec<Bound>, SettleFault>
-    requires { IsBarrier p.now b.now }
-    ensures { Settles p.now b.now rounds result }
-{
-    if course.skips_look() {
-        return settle_onward(alloc, p, b, rounds, course);
-    }
-    match sweep(alloc, p, b, LOOK) {
-        Ok(bounds) => Ok(bounds),
-        Err(SettleFault::Unfinished(open)) => {
-            settle_as_promised(alloc, p, b, &open.words, rounds, course)
-        }
-        Err(SettleFault::Memory) => Err(SettleFault::Memory),
-    }
-}
-
-impl Settler for AloneSettler {
+impl<S: Guesser> Settler for AloneSettler<S> {
     ghost rounds = { λ s. s.rounds };
 
     ghost ready = { λ _. Unit {0} };
@@ -150,11 +154,11 @@ impl Settler for AloneSettler {
         b: &Barrier,
     ) -> Result<Vec<Bound>, SettleFault> {
         if has_few_cells(p.len()) {
-            return settle_few_first(alloc, p, b, SWEEPS_OF_FEW, self.rounds, &mut self.course);
+            return self.settle_few_first(alloc, p, b, SWEEPS_OF_FEW);
         }
         if self.rounds <= TWO_LOOKS {
             return sweep(alloc, p, b, self.rounds);
         }
-        settle_by_look(alloc, p, b, self.rounds, &mut self.course)
+        self.settle_by_look(alloc, p, b)
     }
 }

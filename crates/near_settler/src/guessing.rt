@@ -2,9 +2,11 @@
 ghost use Rattle.step_problem.specs.Heads.{IsBarrier};
 ghost use Rattle.step_problem.specs.Settling.{Settles};
 
-use head_guess::{Kept, guess_heads};
+use crate::guesser::Guesser;
+use head_guess::Kept;
 use settle_driver::{ListedSettler, PlainSettler, settle_near};
 use std::alloc::{AllocError, Global};
+use std::cell::Cell;
 use step_problem::{Barrier, Bound, Problem, SettleFault};
 
 // Trials from a guess, and the sweeps of each: right heads take one trial and one sweep.
@@ -16,7 +18,8 @@ const SWEEPS: u32 = 32;
 const GUESSES: u32 = 8;
 
 // From a guess by trials on one thread. Unfinished where none of them certifies the settled pair.
-fn settle_by_guess(
+fn settle_by_guess<S: Guesser>(
+    guesser: &S,
     alloc: Global,
     p: &Problem,
     b: &Barrier,
@@ -25,7 +28,7 @@ fn settle_by_guess(
     requires { IsBarrier p.now b.now }
     ensures { Settles p.now b.now 0 result }
 {
-    let guess = match guess_heads(alloc, p, b, kept) {
+    let guess = match guesser.guess(alloc, p, b, kept) {
         Ok(guess) => guess,
         Err(AllocError) => return Err(SettleFault::Memory),
     };
@@ -35,31 +38,27 @@ fn settle_by_guess(
     settle_near(&mut trial, &mut no_rounds, alloc, p, b, near, TRIALS)
 }
 
-/// What a settler keeps from one step of a run to the next, so that a guess takes less time.
+// What a settler keeps from one step of a run to the next, so that a guess takes less time.
 #[derive(Drop)]
-pub(crate) struct Course {
+struct Course {
     kept: Kept,
     // The guesses that are left before the next look.
     guesses: u32,
 }
 
 impl Course {
-    /// As before the first step.
-    pub(crate) fn new() -> Course {
+    // As before the first step.
+    fn new() -> Course {
         Course {
             kept: Kept::new(),
             guesses: 0,
         }
     }
 
-    /// Whether the next problem is settled by a guess without a look.
-    pub(crate) fn skips_look(&self) -> bool {
-        self.guesses > 0
-    }
-
-    /// From a guess by trials on one thread. Unfinished where none of them certifies the settled pair; then nothing is kept.
-    pub(crate) fn settle_by_guess(
+    // From a guess by trials on one thread. Unfinished where none of them certifies the settled pair; then nothing is kept.
+    fn settle<S: Guesser>(
         &mut self,
+        guesser: &S,
         alloc: Global,
         p: &Problem,
         b: &Barrier,
@@ -67,7 +66,7 @@ impl Course {
         requires { IsBarrier p.now b.now }
         ensures { Settles p.now b.now 0 result }
     {
-        let settled = settle_by_guess(alloc, p, b, &mut self.kept);
+        let settled = settle_by_guess(guesser, alloc, p, b, &mut self.kept);
         if settled.is_err() {
             *self = Course::new();
             return settled;
@@ -76,6 +75,47 @@ impl Course {
             0 => GUESSES - 1,
             left => left - 1,
         };
+        settled
+    }
+}
+
+/// A guesser, and what a settler keeps for it from one step to the next.
+#[derive(Drop)]
+pub(crate) struct Guessing<S: Guesser> {
+    guesser: S,
+    course: Cell<Course>,
+}
+
+impl<S: Guesser> Guessing<S> {
+    /// As before the first step.
+    pub(crate) fn new(guesser: S) -> Guessing<S> {
+        Guessing {
+            guesser,
+            course: Cell::new(Course::new()),
+        }
+    }
+
+    /// Whether the next problem is settled by a guess without a look.
+    pub(crate) fn skips_look(&self) -> bool {
+        let course = self.course.replace(Course::new());
+        let skips = course.guesses > 0;
+        self.course.set(course);
+        skips
+    }
+
+    /// From a guess by trials on one thread. Unfinished where none of them certifies the settled pair; then nothing is kept.
+    pub(crate) fn settle(
+        &self,
+        alloc: Global,
+        p: &Problem,
+        b: &Barrier,
+    ) -> Result<Vec<Bound>, SettleFault>
+        requires { IsBarrier p.now b.now }
+        ensures { Settles p.now b.now 0 result }
+    {
+        let mut course = self.course.replace(Course::new());
+        let settled = course.settle(&self.guesser, alloc, p, b);
+        self.course.set(course);
         settled
     }
 }

@@ -4,9 +4,11 @@
 
 mod alone;
 mod first;
+mod guesser;
 mod guessing;
 mod settling;
 mod watching;
 
 pub use alone::AloneSettler;
+pub use guesser::{Guesser, NearGuesser};
 pub use settling::NearSettler;

@@ -5,27 +5,37 @@ ghost use Rattle.step_problem.specs.Settling.{Settles};
 ghost use Rattle.settle_driver.specs.Phases.{IsPlan};
 
 use crate::first::{has_few_cells, look, phases_of_few, settles_soon, soon};
-use crate::guessing::Course;
+use crate::guesser::{Guesser, NearGuesser};
+use crate::guessing::Guessing;
 use outside::Gate;
 use settle_driver::{Plan, ThreadSettler};
 use std::alloc::Global;
-use std::cell::Cell;
 use std::thread::Threads;
 use step_problem::{Barrier, Bound, Problem, SettleFault};
 
 /// Settles by workers in threads, with the handle and the gate that it borrows. Its plan's rounds are plain phases;
 /// what it does beside them only saves time, as does what it keeps from one step to the next.
 #[derive(Drop)]
-pub struct NearSettler<'a, R: Threads + Sync, G: Gate + Sync> {
+pub struct NearSettler<'a, R: Threads + Sync, G: Gate + Sync, S: Guesser = NearGuesser> {
     pub(crate) rt: &'a R,
     pub(crate) gate: &'a G,
     pub(crate) plan: Plan,
-    course: Cell<Course>,
+    pub(crate) guessing: Guessing<S>,
     pub ghost plan_fits: { IsPlan plan },
 }
 
-impl<'a, R: Threads + Sync, G: Gate + Sync> NearSettler<'a, R, G> {
-    pub fn new(rt: &'a R, plan: Plan, gate: &'a G) -> NearSettler<'a, R, G>
+impl<'a, R: Threads + Sync, G: Gate + Sync> NearSettler<'a, R, G, NearGuesser> {
+    pub fn new(rt: &'a R, plan: Plan, gate: &'a G) -> NearSettler<'a, R, G, NearGuesser>
+        requires { IsPlan plan }
+        ensures { result.plan ≡ plan }
+    {
+        NearSettler::with_guesser(rt, plan, gate, NearGuesser)
+    }
+}
+
+impl<'a, R: Threads + Sync, G: Gate + Sync, S: Guesser> NearSettler<'a, R, G, S> {
+    /// A settler that tries the heads of any guesser.
+    pub fn with_guesser(rt: &'a R, plan: Plan, gate: &'a G, guesser: S) -> NearSettler<'a, R, G, S>
         requires { IsPlan plan }
         ensures { result.plan ≡ plan }
     {
@@ -33,32 +43,8 @@ impl<'a, R: Threads + Sync, G: Gate + Sync> NearSettler<'a, R, G> {
             rt,
             gate,
             plan,
-            course: Cell::new(Course::new()),
+            guessing: Guessing::new(guesser),
         }
-    }
-
-    // Whether the next problem is settled by a guess without a look.
-    fn skips_look(&self) -> bool {
-        let course = self.course.replace(Course::new());
-        let skips = course.skips_look();
-        self.course.set(course);
-        skips
-    }
-
-    // From a guess. Unfinished where it is not certified.
-    pub(crate) fn settle_by_guess(
-        &self,
-        alloc: Global,
-        p: &Problem,
-        b: &Barrier,
-    ) -> Result<Vec<Bound>, SettleFault>
-        requires { IsBarrier p.now b.now }
-        ensures { Settles p.now b.now 0 result }
-    {
-        let mut course = self.course.replace(Course::new());
-        let settled = course.settle_by_guess(alloc, p, b);
-        self.course.set(course);
-        settled
     }
 
     // By plain phases, at most so many.
@@ -90,7 +76,7 @@ impl<'a, R: Threads + Sync, G: Gate + Sync> NearSettler<'a, R, G> {
         requires { IsBarrier p.now b.now }
         ensures { Settles p.now b.now self.now.plan.rounds result }
     {
-        match self.settle_by_guess(alloc, p, b) {
+        match self.guessing.settle(alloc, p, b) {
             Ok(bounds) => Ok(bounds),
             Err(SettleFault::Unfinished(_)) => self.settle_plainly(alloc, p, b, self.plan.rounds),
             Err(SettleFault::Memory) => Err(SettleFault::Memory),
@@ -165,7 +151,7 @@ impl<'a, R: Threads + Sync, G: Gate + Sync> NearSettler<'a, R, G> {
         requires { IsBarrier p.now b.now }
         ensures { Settles p.now b.now self.now.plan.rounds result }
     {
-        if self.skips_look() {
+        if self.guessing.skips_look() {
             return self.settle_onward(alloc, p, b);
         }
         match self.look(alloc, p, b, 1) {

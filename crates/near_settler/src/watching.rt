@@ -6,6 +6,7 @@ ghost use Rattle.settle_driver.specs.Phases.{IsPlan};
 ghost use Rattle.settle_driver.specs.Views.{AddsPhases, had_memory};
 
 use crate::first::{has_few_cells, look, phases_of_few};
+use crate::guesser::Guesser;
 use crate::settling::NearSettler;
 use outside::Gate;
 use settle_driver::{Plan, Viewer, WatchSettler};
@@ -13,7 +14,7 @@ use std::alloc::Global;
 use std::thread::Threads;
 use step_problem::{Barrier, Bound, Problem, SettleFault};
 
-impl<'a, R: Threads + Sync, G: Gate + Sync> NearSettler<'a, R, G> {
+impl<'a, R: Threads + Sync, G: Gate + Sync, S: Guesser> NearSettler<'a, R, G, S> {
     // By plain phases, at most so many, each with so many views.
     fn watch_plainly<V: Viewer + Send>(
         &self,
@@ -49,7 +50,7 @@ impl<'a, R: Threads + Sync, G: Gate + Sync> NearSettler<'a, R, G> {
         ensures settles { Settles p.now b.now self.now.plan.rounds result }
         ensures viewed { (start : V) → AddsPhases V.viewed V.stopped p.now b.now views true start viewer.old → AddsPhases V.viewed V.stopped p.now b.now views (had_memory result) start viewer.new }
     {
-        match self.settle_by_guess(alloc, p, b) {
+        match self.guessing.settle(alloc, p, b) {
             Ok(bounds) => Ok(bounds),
             Err(SettleFault::Unfinished(_)) => {
                 self.watch_plainly(alloc, p, b, self.plan.rounds, views, viewer)

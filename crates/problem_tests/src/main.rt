@@ -11,7 +11,8 @@
 //! own head and those of its links), `raised` and `sunk` (its raise and sink values there), `rivers INDEX HEAD`, `zones ZONE
 //! LOW HIGH ..` (the zone and the bounds of the head of each cell of the grid, by cell number), `barrier`,
 //! `guess`, `sweeps ROUNDS`, `workers WORKERS TURNS ROUNDS`, `phases WORKERS TURNS ROUNDS` and `run WORKERS TURNS ROUNDS`
-//! (these with the passes of a gate), and `listed SWEEPS INDEX ..`. `watched WORKERS TURNS ROUNDS VIEWS LIMIT` settles
+//! (these with the passes of a gate), and `listed SWEEPS INDEX ..`. `spoilt WORKERS TURNS ROUNDS` settles as a run does and on
+//! one thread, where the bounds of `heads` are the guess. `watched WORKERS TURNS ROUNDS VIEWS LIMIT` settles
 //! by workers with VIEWS views in each phase, which stop at number LIMIT; `watched_run` as a run does; `pieces` puts the
 //! views to a sink whose put of number LIMIT fails. `heads LOW HIGH ..` are bounds of the cells, of which
 //! `check`, `budget` and `near TRIALS SWEEPS` (from the bounds, then by one round) are asked.
@@ -46,6 +47,7 @@ mod pieces;
 mod question;
 mod seats;
 mod settling;
+mod spoilt;
 mod systems;
 mod watched;
 mod zoning;

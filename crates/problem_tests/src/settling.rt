@@ -7,6 +7,7 @@ use crate::numbers::number;
 use crate::passes::Passes;
 use crate::pieces::print_pieces;
 use crate::question::Question;
+use crate::spoilt::print_from_spoilt;
 use crate::watched::{Views, print_watched};
 use near_settler::NearSettler;
 use outside::FreeGate;
@@ -120,6 +121,7 @@ pub fn print_settled<R: Print + Threads + Sync>(
                 Question::Watched | Question::WatchedRun => {
                     print_watched(rt, alloc, p, b, question, plan, views)
                 }
+                Question::Spoilt => print_from_spoilt(rt, alloc, p, b, plan, bounds),
                 Question::Pieces => print_pieces(rt, alloc, p, b, plan, views),
                 _ => print_by_workers(rt, alloc, p, b, question, plan),
             };
