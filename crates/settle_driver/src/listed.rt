@@ -69,8 +69,8 @@ impl Settler for ListedSettler {
 
     ghost ready = { λ _. Unit {0} };
 
-    // Any settling may take any state to any other.
-    ghost leads = { λ _ _ _ _ _. Unit {0} };
+    // A settling leaves it as it was.
+    ghost leads = { λ s _ _ _ t. t ≡ s };
 
     fn settle(
         &mut self,

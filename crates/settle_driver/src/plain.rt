@@ -41,8 +41,8 @@ impl Settler for PlainSettler {
 
     ghost ready = { λ _. Unit {0} };
 
-    // Any settling may take any state to any other.
-    ghost leads = { λ _ _ _ _ _. Unit {0} };
+    // A settling leaves it as it was.
+    ghost leads = { λ s _ _ _ t. t ≡ s };
 
     fn settle(
         &mut self,

@@ -62,7 +62,8 @@ impl<
     F: Fn(Global, &Problem, &Barrier, &mut V) -> Result<Vec<Bound>, SettleFault> + Drop,
 > StepSettler for WatchBy<'a, V, F> {
     // The viewer is told.
-    ghost begins = { λ s period step t. (t.views ≡ s.views) × (t.viewer.ghost_name ≡ s.viewer.ghost_name) × V.begins s.viewer.now period step t.viewer.now };
+    ghost begins = { λ s period step t. (t.views ≡ s.views) × (t.viewer.ghost_name ≡ s.viewer.ghost_name)
+        × V.begins s.viewer.now period step t.viewer.now };
 
     ghost stop = { λ s. V.stop s.viewer.now };
 

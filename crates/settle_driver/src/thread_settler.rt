@@ -64,8 +64,8 @@ impl<F: Fn(Global, &Problem, &Barrier) -> Result<Vec<Bound>, SettleFault> + Drop
     ghost ready = { λ s. (a : _) (p : Bor (List Entries)) (b : Bor Edges) → IsBarrier p.now b.now → F.pre s.call a p b
         × ((r : _) → F.post s.call a p b r → Settles p.now b.now s.rounds r) };
 
-    // Any settling may take any state to any other.
-    ghost leads = { λ _ _ _ _ _. Unit {0} };
+    // A settling leaves it as it was.
+    ghost leads = { λ s _ _ _ t. t ≡ s };
 
     fn settle(
         &mut self,

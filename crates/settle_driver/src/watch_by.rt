@@ -53,10 +53,13 @@ impl<
 
     ghost rounds = { λ s. s.rounds };
 
-    ghost ready = { λ s. (a : _) (p : Bor (List Entries)) (b : Bor Edges) (v : MutBor V) → IsBarrier p.now b.now → F.pre s.call a p b v × ((r : _) (w : MutBor V) → F.post s.call a p b v r w → Settles p.now b.now s.rounds r × AddsPhases V.viewed V.stopped p.now b.now s.views (had_memory r) v.now w.now) };
+    ghost ready = { λ s. (a : _) (p : Bor (List Entries)) (b : Bor Edges) (v : MutBor V) → IsBarrier p.now b.now → F.pre s.call a p b v
+        × ((r : _) (w : MutBor V) → F.post s.call a p b v r w
+            → Settles p.now b.now s.rounds r × AddsPhases V.viewed V.stopped p.now b.now s.views (had_memory r) v.now w.now) };
 
     // A settling adds its phases to the viewer that is lent.
-    ghost leads = { λ s p b ended t. (t.views ≡ s.views) × (t.viewer.ghost_name ≡ s.viewer.ghost_name) × AddsPhases V.viewed V.stopped p b s.views ended s.viewer.now t.viewer.now };
+    ghost leads = { λ s p b ended t. (t.views ≡ s.views) × (t.viewer.ghost_name ≡ s.viewer.ghost_name)
+        × AddsPhases V.viewed V.stopped p b s.views ended s.viewer.now t.viewer.now };
 
     fn settle(
         &mut self,

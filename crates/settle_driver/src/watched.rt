@@ -32,7 +32,8 @@ fn work_all<R: Threads + Sync, G: Gate + Sync>(
     requires some_cell { 0 < length table.now.problem.now }
     requires workers { (1 ≤ vec_len seats.old) × (vec_len seats.old ≤ 64) }
     ensures count { vec_len seats.new ≡ vec_len seats.old }
-    ensures each { (i : ℕ) (d : HeadSeat) → i < vec_len seats.old → HasWorked table.now i (vec_len seats.old) (slice_index_or seats.old.items i d) (slice_index_or seats.new.items i d) }
+    ensures each { (i : ℕ) (d : HeadSeat) → i < vec_len seats.old
+        → HasWorked table.now i (vec_len seats.old) (slice_index_or seats.old.items i d) (slice_index_or seats.new.items i d) }
 {
     work_at(rt, table, seats.as_mut_slice(), turns, gate);
 }
@@ -59,7 +60,8 @@ fn worked_watched<R: Threads + Sync, G: Gate + Sync, V: Viewer + Send>(
     requires edges { IsBarrier p.now b.now }
     requires whole { length watch.heads.items ≡ length p.now }
     ensures count { vec_len result ≡ vec_len seats }
-    ensures each { (i : ℕ) (d : HeadSeat) → i < vec_len seats → HasWorked table.now i (vec_len seats) (slice_index_or seats.items i d) (slice_index_or result.items i d) }
+    ensures each { (i : ℕ) (d : HeadSeat) → i < vec_len seats
+        → HasWorked table.now i (vec_len seats) (slice_index_or seats.items i d) (slice_index_or result.items i d) }
     ensures viewed { AddsTurns V.viewed V.stopped p.now b.now views true viewer.old viewer.new }
 {
     join_mut(

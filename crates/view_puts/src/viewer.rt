@@ -28,11 +28,13 @@ impl<'a, W: Sink, X: ViewText> Viewer for SinkViewer<'a, W, X> {
     ghost use Rattle.settle_driver.specs.Views.{EnclosesPair};
     ghost use Rattle.view_puts.specs.Puts.{LeadOn, ViewPuts, no_lead, no_view};
 
-    ghost viewed = { λ s p b n t. (t.sink.ghost_name ≡ s.sink.ghost_name) × (t.text ≡ s.text) × (t.period ≡ s.period) × (t.step ≡ s.step) × ViewPuts (X.text s.text.now s.period s.step p) (EnclosesPair p b) (LeadOn W.leads s.sink.now t.sink.now) n s.stop t.stop };
+    ghost viewed = { λ s p b n t. (t.sink.ghost_name ≡ s.sink.ghost_name) × (t.text ≡ s.text) × (t.period ≡ s.period) × (t.step ≡ s.step)
+        × ViewPuts (X.text s.text.now s.period s.step p) (EnclosesPair p b) (LeadOn W.leads s.sink.now t.sink.now) n s.stop t.stop };
 
     ghost stopped = { λ s. is_some s.stop ≡ true };
 
-    ghost rests = { λ s p b. (refl, refl, refl, refl, no_view (X.text s.text.now s.period s.step p) (EnclosesPair p b) (LeadOn W.leads s.sink.now s.sink.now) s.stop (no_lead W.leads s.sink.now)) };
+    ghost rests = { λ s p b. (refl, refl, refl, refl,
+        no_view (X.text s.text.now s.period s.step p) (EnclosesPair p b) (LeadOn W.leads s.sink.now s.sink.now) s.stop (no_lead W.leads s.sink.now)) };
 
     fn view(&mut self, p: &Problem, _b: &Barrier, heads: &[Bound]) -> bool {
         if self.stop.is_some() {

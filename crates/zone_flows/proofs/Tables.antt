@@ -1,5 +1,5 @@
 -- Tables of sums.
-use Rattle.std.proofs.Common.{◌≡◌, ℕ, ◌+◌, ◌<◌, ◌≤◌, ◌++◌, length, get_or, drop, drop-cons, add-one, sym, ap, ◌∙◌, Bool, true, false, cond, refl, arith, List, [], ◌∷◌, pos, Some}
+use Rattle.std.proofs.Common.{◌≡◌, ℕ, ◌+◌, ◌<◌, ◌≤◌, ◌++◌, length, get_or, drop, drop-cons, add-one, sym, ap, subst, ◌∙◌, Bool, true, false, cond, refl, arith, List, [], ◌∷◌, pos, Some}
 use Rattle.std.proofs.lemmas.Int.{ints}
 use Rattle.std.proofs.lemmas.List.Elements.{All-cons, All-head, All-tail}
 use Rattle.std.specs.declared.cmp.Ordering.{Ordering}
@@ -60,3 +60,6 @@ ends {X = X} f xs i t whole over h = ap (λ (ys : List X). with_faces t (flat_ma
 
 pub two_faces : (t mid after : Table) (xs ys : List Face) → mid ≡ with_faces t xs → after ≡ with_faces mid ys → after ≡ with_faces t (xs ++ ys)
 two_faces t mid after xs ys e d = d ∙ ap (λ (m : Table). with_faces m ys) e ∙ sym (with_faces-append t xs ys)
+
+pub same_table : (t u : Table) → t ≡ u → IsTable u → IsTable t
+same_table t u e h = subst (λ (x : Table). IsTable x) (sym e) h

@@ -23,7 +23,9 @@ pub record ExactFace : Type 0 where
 module _ (zones : List ℕ) (h : ℕ → Fraction) where
   -- the face from cell x to cell y, where the zone of x is the lower of two zones: its flow is C * (h_x - h_y), as in TM 6-A16, chapter 2, Darcy's law
   unfoldable pub exact_from : ℕ → ℕ → Ratio → List ExactFace
-  exact_from x y c = cond (is_lower_zone (slice_index zones x) (slice_index zones y)) (record { from = slice_index zones x; to = slice_index zones y; flow = times (signed c) (minus (h x) (h y)) } ∷ []) []
+  exact_from x y c =
+      let face : ExactFace = record { from = slice_index zones x; to = slice_index zones y; flow = times (signed c) (minus (h x) (h y)) } in
+      cond (is_lower_zone (slice_index zones x) (slice_index zones y)) (face ∷ []) []
 
   abbrev pub exact_link : List ExactCell → ExactCell → ExactLink → List ExactFace
   exact_link e c x = exact_from c.id (cell_at e x.cell).id x.conductance
@@ -49,7 +51,8 @@ is_exact_between a b f = (f.from == a) && (f.to == b)
 abbrev pub exact_flow : ℕ → ℕ → List ExactFace → Fraction
 exact_flow a b fs = fraction_total (λ f. f.flow) (filter (is_exact_between a b) fs)
 
--- The exact heads h lie between lower and upper, which are in units of 10^-9, at each cell that the problem names: its variable cells, and the sources of its given heads.
+-- The exact heads h lie between lower and upper, which are in units of 10^-9, at each cell that the problem names:
+-- its variable cells, and the sources of its given heads.
 pub record HeadsLieWithin (p : List Entries) (lower upper : ℕ → ℤ) (h : ℕ → Fraction) : Type 0 where
   pub variable : (k : ℕ) → k < length p → EnclosesSigned (lower (entries_at p k).id) (upper (entries_at p k).id) 9 (h (entries_at p k).id)
   pub sources : (k : ℕ) → k < length p → All (λ x. EnclosesSigned (lower x.source) (upper x.source) 9 (h x.source)) (entries_at p k).fixed
@@ -60,4 +63,5 @@ EncloseExact s e zones h vs = All (λ v. EnclosesSigned v.lo v.hi (s + 9) (exact
 
 -- That holds for every exact step that the problem encloses, at all heads between lower and upper.
 abbrev pub EncloseEveryStep : List Entries → List ℕ → (ℕ → ℤ) → (ℕ → ℤ) → List ZoneFlow → Type 0
-EncloseEveryStep p zones lower upper vs = (s : ℕ) (e : List ExactCell) (h : ℕ → Fraction) → EnclosesStep s p e → HeadsLieWithin p lower upper h → EncloseExact s e zones h vs
+EncloseEveryStep p zones lower upper vs = (s : ℕ) (e : List ExactCell) (h : ℕ → Fraction) →
+    EnclosesStep s p e → HeadsLieWithin p lower upper h → EncloseExact s e zones h vs

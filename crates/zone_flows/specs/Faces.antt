@@ -26,7 +26,8 @@ module _ (zones : List ℕ) (lower upper : ℕ → ℤ) where
 
   -- the flow from cell x to cell y: conductance, from lo to hi, times head of x less head of y
   abbrev pub face_between : ℕ → ℕ → ℕ → ℕ → Face
-  face_between x y lo hi = record { from = zone_of x; to = zone_of y; flow = record { lo = least lo hi (lower x -ℤ upper y); hi = most lo hi (upper x -ℤ lower y) } }
+  face_between x y lo hi =
+      record { from = zone_of x; to = zone_of y; flow = record { lo = least lo hi (lower x -ℤ upper y); hi = most lo hi (upper x -ℤ lower y) } }
 
   -- the face from cell x to cell y, where the zone of x is the lower of two zones
   unfoldable pub face_from : ℕ → ℕ → ℕ → ℕ → List Face

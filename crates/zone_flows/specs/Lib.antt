@@ -1,5 +1,6 @@
 pub mod Faces
 pub mod OwnZones
+pub mod Walks
 pub mod Exact
 pub mod Tables
 pub mod TableFlows

@@ -6,6 +6,7 @@ ghost use Rattle.step_problem.specs.Heads.{lower_at, upper_at};
 ghost use Rattle.budget_bounds.specs.Capped.{AreHeads, IsFlow};
 ghost use Rattle.zone_flows.specs.Faces.{face_from, is_lower_zone};
 ghost use Rattle.zone_flows.specs.Tables.{IsTable, with_faces};
+ghost use Rattle.zone_flows.specs.Walks.{AreOfGrid};
 
 use crate::sum::ZoneSum;
 use crate::table::add_face;
@@ -56,14 +57,13 @@ pub(crate) fn add_face_from(
     hi: u64,
 ) -> Result<(), AllocError>
     requires table { IsTable map.old.entries }
-    requires zones { All (λ z. z ≤ 999) zones.now }
-    requires heads { All AreHeads heads.now }
-    requires same { length heads.now ≡ length zones.now }
+    requires grid { AreOfGrid zones.now heads.now }
     requires x { x < length zones.now }
     requires y { y < length zones.now }
     requires ordered { lo ≤ hi }
     requires small { hi < 2 ^ 60 }
-    ensures faces { IfOk result (λ _. map.new.entries ≡ with_faces map.old.entries (face_from zones.now (lower_at heads.now) (upper_at heads.now) x y lo hi)) }
+    ensures faces { IfOk result (λ _. map.new.entries ≡ with_faces map.old.entries
+        (face_from zones.now (lower_at heads.now) (upper_at heads.now) x y lo hi)) }
     ensures table { IfOk result (λ _. IsTable map.new.entries) }
 {
     let from = zones[x as usize];

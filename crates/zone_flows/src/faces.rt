@@ -4,10 +4,9 @@ ghost use Rattle.std.specs.List.{flat_map};
 ghost use Rattle.step_problem.specs.Heads.{lower_at, upper_at};
 ghost use Rattle.step_problem.specs.Entries.{entries_at};
 ghost use Rattle.step_problem.specs.Conditions.{CellFits};
-ghost use Rattle.budget_bounds.specs.Capped.{AreHeads};
 ghost use Rattle.zone_flows.specs.Faces.{cell_faces, face_from, faces, faces_by_kind};
 ghost use Rattle.zone_flows.specs.Tables.{IsTable, with_faces};
-ghost use Rattle.zone_flows.specs.OwnZones.{AreOwnZones};
+ghost use Rattle.zone_flows.specs.Walks.{AreOfGrid, IsWalk};
 
 use crate::face::{add_face_from, is_face};
 use crate::own::{id_at, zone_at};
@@ -28,16 +27,13 @@ fn add_link(
     x: &Link,
 ) -> Result<(), AllocError>
     requires table { IsTable map.old.entries }
-    requires zones { All (λ z. z ≤ 999) zones.now }
-    requires own { AreOwnZones p.now zones.now own.now }
-    requires heads { All AreHeads heads.now }
-    requires same { length heads.now ≡ length zones.now }
-    requires ids { (c : ℕ) → c < length p.now → (entries_at p.now c).id < length zones.now }
+    requires walk { IsWalk p.now zones.now own.now heads.now }
     requires id { id < length zones.now }
     requires end { x.now.cell < length p.now }
     requires ordered { x.now.lo ≤ x.now.hi }
     requires small { x.now.hi < 2 ^ 60 }
-    ensures faces { IfOk result (λ _. map.new.entries ≡ with_faces map.old.entries (face_from zones.now (lower_at heads.now) (upper_at heads.now) id (entries_at p.now x.now.cell).id x.now.lo x.now.hi)) }
+    ensures faces { IfOk result (λ _. map.new.entries ≡ with_faces map.old.entries
+        (face_from zones.now (lower_at heads.now) (upper_at heads.now) id (entries_at p.now x.now.cell).id x.now.lo x.now.hi)) }
     ensures table { IfOk result (λ _. IsTable map.new.entries) }
 {
     if is_face(zones[id as usize], zone_at(p, zones, own, x.cell as usize)) {
@@ -57,16 +53,13 @@ fn add_links(
     links: &[Link],
 ) -> Result<(), AllocError>
     requires table { IsTable map.old.entries }
-    requires zones { All (λ z. z ≤ 999) zones.now }
-    requires own { AreOwnZones p.now zones.now own.now }
-    requires heads { All AreHeads heads.now }
-    requires same { length heads.now ≡ length zones.now }
-    requires ids { (c : ℕ) → c < length p.now → (entries_at p.now c).id < length zones.now }
+    requires walk { IsWalk p.now zones.now own.now heads.now }
     requires id { id < length zones.now }
     requires ends { All (λ x. x.cell < length p.now) links.now }
     requires ordered { All (λ x. x.lo ≤ x.hi) links.now }
     requires small { All (λ x. x.hi < 2 ^ 60) links.now }
-    ensures faces { IfOk result (λ _. map.new.entries ≡ with_faces map.old.entries (flat_map (λ x. face_from zones.now (lower_at heads.now) (upper_at heads.now) id (entries_at p.now x.cell).id x.lo x.hi) links.now)) }
+    ensures faces { IfOk result (λ _. map.new.entries ≡ with_faces map.old.entries
+        (flat_map (λ x. face_from zones.now (lower_at heads.now) (upper_at heads.now) id (entries_at p.now x.cell).id x.lo x.hi) links.now)) }
     ensures table { IfOk result (λ _. IsTable map.new.entries) }
 {
     for x in links {
@@ -85,14 +78,13 @@ fn add_constant(
     x: &Fixed,
 ) -> Result<(), AllocError>
     requires table { IsTable map.old.entries }
-    requires zones { All (λ z. z ≤ 999) zones.now }
-    requires heads { All AreHeads heads.now }
-    requires same { length heads.now ≡ length zones.now }
+    requires grid { AreOfGrid zones.now heads.now }
     requires id { id < length zones.now }
     requires source { x.now.source < length zones.now }
     requires ordered { x.now.lo ≤ x.now.hi }
     requires small { x.now.hi < 2 ^ 60 }
-    ensures faces { IfOk result (λ _. map.new.entries ≡ with_faces map.old.entries (faces_by_kind zones.now (lower_at heads.now) (upper_at heads.now) x.now.kind id x.now.source x.now.lo x.now.hi)) }
+    ensures faces { IfOk result (λ _. map.new.entries ≡ with_faces map.old.entries
+        (faces_by_kind zones.now (lower_at heads.now) (upper_at heads.now) x.now.kind id x.now.source x.now.lo x.now.hi)) }
     ensures table { IfOk result (λ _. IsTable map.new.entries) }
 {
     match x.kind {
@@ -113,14 +105,13 @@ fn add_fixed(
     fixed: &[Fixed],
 ) -> Result<(), AllocError>
     requires table { IsTable map.old.entries }
-    requires zones { All (λ z. z ≤ 999) zones.now }
-    requires heads { All AreHeads heads.now }
-    requires same { length heads.now ≡ length zones.now }
+    requires grid { AreOfGrid zones.now heads.now }
     requires id { id < length zones.now }
     requires sources { All (λ x. x.source < length zones.now) fixed.now }
     requires ordered { All (λ x. x.lo ≤ x.hi) fixed.now }
     requires small { All (λ x. x.hi < 2 ^ 60) fixed.now }
-    ensures faces { IfOk result (λ _. map.new.entries ≡ with_faces map.old.entries (flat_map (λ x. faces_by_kind zones.now (lower_at heads.now) (upper_at heads.now) x.kind id x.source x.lo x.hi) fixed.now)) }
+    ensures faces { IfOk result (λ _. map.new.entries ≡ with_faces map.old.entries
+        (flat_map (λ x. faces_by_kind zones.now (lower_at heads.now) (upper_at heads.now) x.kind id x.source x.lo x.hi) fixed.now)) }
     ensures table { IfOk result (λ _. IsTable map.new.entries) }
 {
     for x in fixed {
@@ -139,16 +130,13 @@ fn add_cell(
     cell: &Cell,
 ) -> Result<(), AllocError>
     requires table { IsTable map.old.entries }
-    requires zones { All (λ z. z ≤ 999) zones.now }
-    requires own { AreOwnZones p.now zones.now own.now }
-    requires heads { All AreHeads heads.now }
-    requires same { length heads.now ≡ length zones.now }
-    requires ids { (c : ℕ) → c < length p.now → (entries_at p.now c).id < length zones.now }
+    requires walk { IsWalk p.now zones.now own.now heads.now }
     requires id { cell.now.id < length zones.now }
     requires ends { All (λ x. x.cell < length p.now) cell.now.links }
     requires sources { All (λ x. x.source < length zones.now) cell.now.fixed }
     requires fits { CellFits cell.now }
-    ensures faces { IfOk result (λ _. map.new.entries ≡ with_faces map.old.entries (cell_faces zones.now (lower_at heads.now) (upper_at heads.now) p.now cell.now)) }
+    ensures faces { IfOk result (λ _. map.new.entries ≡ with_faces map.old.entries
+        (cell_faces zones.now (lower_at heads.now) (upper_at heads.now) p.now cell.now)) }
     ensures table { IfOk result (λ _. IsTable map.new.entries) }
 {
     add_links(map, p, zones, own, heads, cell.id, &cell.links)?;
@@ -165,13 +153,10 @@ pub(crate) fn add_faces(
     heads: &[Bound],
 ) -> Result<(), AllocError>
     requires table { IsTable map.old.entries }
-    requires zones { All (λ z. z ≤ 999) zones.now }
-    requires own { AreOwnZones p.now zones.now own.now }
-    requires heads { All AreHeads heads.now }
-    requires same { length heads.now ≡ length zones.now }
-    requires ids { (c : ℕ) → c < length p.now → (entries_at p.now c).id < length zones.now }
+    requires walk { IsWalk p.now zones.now own.now heads.now }
     requires sources { (c : ℕ) → c < length p.now → All (λ x. x.source < length zones.now) (entries_at p.now c).fixed }
-    ensures faces { IfOk result (λ _. map.new.entries ≡ with_faces map.old.entries (faces zones.now (lower_at heads.now) (upper_at heads.now) p.now)) }
+    ensures faces { IfOk result (λ _. map.new.entries ≡ with_faces map.old.entries
+        (faces zones.now (lower_at heads.now) (upper_at heads.now) p.now)) }
     ensures table { IfOk result (λ _. IsTable map.new.entries) }
 {
     for c in 0..p.len() {

@@ -8,6 +8,7 @@ ghost use Rattle.zone_flows.specs.Exact.{EncloseEveryStep};
 ghost use Rattle.zone_flows.specs.Faces.{faces};
 ghost use Rattle.zone_flows.specs.TableFlows.{listed_flows};
 ghost use Rattle.zone_flows.specs.Tables.{with_faces};
+ghost use Rattle.zone_flows.specs.Walks.{AreOfGrid};
 
 use crate::faces::add_faces;
 use crate::fault::ZoneFault;
@@ -24,9 +25,7 @@ fn flows_by_table(
     zones: &[u32],
     heads: &[Bound],
 ) -> Result<Vec<ZoneFlow>, ZoneFault>
-    requires zones { All (λ z. z ≤ 999) zones.now }
-    requires heads { All AreHeads heads.now }
-    requires same { length heads.now ≡ length zones.now }
+    requires grid { AreOfGrid zones.now heads.now }
     requires ids { (c : ℕ) → c < length p.now → (entries_at p.now c).id < length zones.now }
     requires sources { (c : ℕ) → c < length p.now → All (λ x. x.source < length zones.now) (entries_at p.now c).fixed }
     ensures { Returns (listed_flows (with_faces [] (faces zones.now (lower_at heads.now) (upper_at heads.now) p.now))) result }

@@ -21,16 +21,6 @@ fn key_of(from: u32, to: u32) -> u32
     from * 1000 + to
 }
 
-#[tactic(auto, unfolding(crate::specs::Tables::sum_at))]
-fn sum_at(map: &BTreeMap<u32, ZoneSum>, key: u32) -> ZoneSum
-    ensures { result ≡ sum_at map.now.entries key }
-{
-    match map.get(&key) {
-        Some(sum) => *sum,
-        None => NO_FLOW,
-    }
-}
-
 #[tactic(auto, unfolding(crate::specs::Tables::with_face))]
 pub(crate) fn add_face(
     map: &mut BTreeMap<u32, ZoneSum>,
@@ -46,7 +36,7 @@ pub(crate) fn add_face(
     ensures table { IfOk result (λ _. IsTable map.new.entries) }
 {
     let key = key_of(from, to);
-    let sum = plus_flow(sum_at(map, key), flow);
-    map.insert(key, sum)?;
+    let sum = map.entry(key)?.or_insert(NO_FLOW);
+    *sum = plus_flow(*sum, flow);
     Ok(())
 }

@@ -1,7 +1,7 @@
-use Rattle.std.proofs.Common.{◌≡◌, ℕ, ◌∙◌, ap, sym, subst, false, true}
+use Rattle.std.proofs.Common.{◌≡◌, ℕ, ◌∙◌, ap, sym, subst}
 use Rattle.std.specs.Prelude.{not, IfOk}
 use Rattle.settle_driver.specs.Views.{EnclosesPair}
-use Rattle.view_puts.proofs.Views.{lead_more, no_view_more, one_view_more}
+use Rattle.view_puts.proofs.Views.{lead_more, one_view_more}
 use Rattle.view_puts.proofs.viewer.SinkViewerViewer.view.Goals as goal
 
 pub returns-clause-one_more : goal.returns-clause-one_more
