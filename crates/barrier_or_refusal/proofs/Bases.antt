@@ -6,17 +6,8 @@ use Rattle.step_problem.specs.declared.heads.Side.TheVariants.{Low, High}
 use Rattle.step_problem.specs.Entries.{Entries, entries_at}
 use Rattle.barrier_vector.specs.Bases.{IsLowBase, IsHighBase}
 use Rattle.barrier_vector.specs.Marks.{fixed_mark, river_mark, drain_mark, outer_of, IsOutermost, IsMarkIn, IsCellMark, IsMarkBelow}
-use Rattle.barrier_vector.proofs.Marking.{outer_joins, no_marks, no_cells, cells_more, low_base_is, high_base_is}
+use Rattle.barrier_vector.proofs.Marking.{outer_joins, no_marks, no_cells, cells_more, low_base_is, high_base_is, outermost_as, one_mark}
 use Rattle.barrier_or_refusal.proofs.Decided.{of_all, first_entry, later_entry}
-
-outermost_as : (side : Side) (P Q : ℤ → Type 0) (o : Option ℤ) → ((v : ℤ) → P v → Q v) → ((v : ℤ) → Q v → P v) → IsOutermost side P o → IsOutermost side Q o
-outermost_as side P Q None to from h = λ v q. h v (from v q)
-outermost_as side P Q (Some b) to from h = (to b h.0, λ v q. h.1 v (from v q))
-
-one_mark : (side : Side) (o : Option ℤ) → IsOutermost side (λ v. o ≡ Some v) o
-one_mark side None = λ v e. cc
-one_mark Low (Some b) = (refl, λ v e. let is : v ≡ b = cc in omega (arith, ints, is))
-one_mark High (Some b) = (refl, λ v e. let is : v ≡ b = cc in omega (arith, ints, is))
 
 marks : {X : Type 0} (side : Side) (mark : X → Option ℤ) (xs : List X) → (o : Option ℤ) × IsOutermost side (IsMarkIn mark xs) o
 marks side mark [] = (None, no_marks side mark)

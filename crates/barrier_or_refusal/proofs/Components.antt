@@ -13,11 +13,7 @@ use Rattle.barrier_vector.proofs.Uniques.{inner_one}
 use Rattle.barrier_or_refusal.proofs.Decided.{Decided, test_of, test_true, true_test, first_or_none}
 use Rattle.barrier_or_refusal.proofs.Ways.{LeadTo, join, leading_decided}
 use Rattle.barrier_or_refusal.proofs.RootPaths.{path}
-
-same_tests : (a b : Bool) → (a ≡ true → b ≡ true) → (b ≡ true → a ≡ true) → a ≡ b
-same_tests true b f g = sym (f refl)
-same_tests false true f g = g refl
-same_tests false false f g = refl
+use Rattle.barrier_vector.proofs.Surveying.{same_tests}
 
 module _ (p : List Entries) (ok : IsProblem p) where
   abbrev inside : ℕ → ℕ → Bool

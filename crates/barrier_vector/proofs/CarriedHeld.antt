@@ -4,7 +4,7 @@ use Rattle.step_problem.specs.Entries.{Entries, entries_at}
 use Rattle.cell_balance.specs.Components.{Leads, IsCarried}
 use Rattle.barrier_vector.specs.Bounds.{IsFloor}
 use Rattle.barrier_vector.specs.Laws.{FloorsHold}
-use Rattle.barrier_vector.proofs.Floors.{greatest_is}
+use Rattle.barrier_vector.proofs.Rooting.{greatest_has}
 
 pub held_cell : (p : List Entries) (c : ℕ) (f : ℤ) → IsFloor p c f → ((j : ℕ) × Leads p j c) ⊎ IsCarried p c
 held_cell p c f (b, base, kind) =
@@ -12,7 +12,7 @@ held_cell p c f (b, base, kind) =
       | inl (s, path, is) ↦
           let leads = path.is_level.leads in
           let (r_in, some, d) = leads.is_root in
-          let (x, has, lo) = greatest_is (λ x. x.lo) (entries_at p leads.root).fixed some in
+          let (x, has, lo) = greatest_has (λ x. x.lo) (entries_at p leads.root).fixed some in
           inl (path.level, (leads.root, leads.reaches, (x, has, omega (arith, some, lo))))
       | inr rest ↦ inr rest.1
     ]

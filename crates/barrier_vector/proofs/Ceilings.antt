@@ -20,16 +20,16 @@ use Rattle.barrier_vector.specs.Laws.{CeilingsEnclose}
 use Rattle.barrier_vector.proofs.Backs.{leads_within, conducts}
 use Rattle.barrier_vector.proofs.FloorsWhole.{whole_head, whole_solution, high_back}
 use Rattle.barrier_vector.proofs.FloorsSteps.{ceil_enough, joined_high}
-use Rattle.barrier_vector.proofs.Floors.{greatest_is}
 use Rattle.barrier_vector.proofs.CeilingsLinks.{rises_over, rises_at_fixed, rises_at_river, rises_at_drain}
+use Rattle.barrier_vector.proofs.Rooting.{greatest_has}
 
 -- an anchor of the high side is a fixed link, a river or a drain
 data_anchor : (c : Entries) → 0 < high_anchor c → ((x : Fixed) × Contains c.fixed x × (x.lo ≡ high_anchor c)) ⊎ (((x : River) × Contains c.rivers x × (x.lo ≡ high_anchor c)) ⊎ ((x : Drain) × Contains c.drains x × (x.lo ≡ high_anchor c)))
 data_anchor c some =
     which (greatest (λ (x : Fixed). x.lo) c.fixed) (greatest (λ (x : River). x.lo) c.rivers) (greatest (λ (x : Drain). x.lo) c.drains) some
-    (λ s e. let (x, has, is) = greatest_is (λ (x : Fixed). x.lo) c.fixed s in (x, has, omega (arith, is, e)))
-    (λ s e. let (x, has, is) = greatest_is (λ (x : River). x.lo) c.rivers s in (x, has, omega (arith, is, e)))
-    (λ s e. let (x, has, is) = greatest_is (λ (x : Drain). x.lo) c.drains s in (x, has, omega (arith, is, e)))
+    (λ s e. let (x, has, is) = greatest_has (λ (x : Fixed). x.lo) c.fixed s in (x, has, omega (arith, is, e)))
+    (λ s e. let (x, has, is) = greatest_has (λ (x : River). x.lo) c.rivers s in (x, has, omega (arith, is, e)))
+    (λ s e. let (x, has, is) = greatest_has (λ (x : Drain). x.lo) c.drains s in (x, has, omega (arith, is, e)))
   where
     which : {F G H : Type 0} (f r d : ℕ) → 0 < max f (max r d) → (0 < f → f ≡ max f (max r d) → F) → (0 < r → r ≡ max f (max r d) → G) → (0 < d → d ≡ max f (max r d) → H) → F ⊎ (G ⊎ H)
     which f r d some on_f on_r on_d =

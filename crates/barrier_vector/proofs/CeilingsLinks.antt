@@ -28,8 +28,8 @@ use Rattle.barrier_vector.specs.Bases.{IsHighMark, IsSomewhere}
 use Rattle.barrier_vector.specs.Lacks.{surplus, positive_part, high_flow}
 use Rattle.barrier_vector.proofs.FloorsSums.{limited_sum, AllZip-has, term-le-total}
 use Rattle.barrier_vector.proofs.FloorsDry.{IsWet, cell_wet, IsWet-higher}
-use Rattle.barrier_vector.proofs.FloorsLinks.{no_whole_fixed}
-use Rattle.barrier_vector.proofs.FloorsSteps.{step_bound, weak, positive, risen, kept_high}
+use Rattle.barrier_vector.proofs.FloorsLinks.{no_whole_fixed, test_false}
+use Rattle.barrier_vector.proofs.FloorsSteps.{step_bound, weak, difference_not_negative, risen, kept_high}
 use Rattle.barrier_vector.proofs.CeilingsLeave.{lies_above, cut_leaves, wet_fixed, wet_river, takes_drain, Loses, loses}
 
 abbrev no_whole_river : WholeRiver
@@ -37,9 +37,6 @@ no_whole_river = record { c = 0; stage = pos 0; bottom = pos 0 }
 
 abbrev no_whole_drain : WholeDrain
 no_whole_drain = record { c = 0; elev = pos 0 }
-
-test_false : (a b : ℤ) → b ≤ℤ a → lt_z a b ≡ false
-test_false a b h = sym (false_is_lt a b (le_out b a h))
 
 conducts : {P : Type 0} (c : ℕ) → 0 < c → (c ≡ 0) ⊎ P → P
 conducts c some (inl e) = absurd (omega arith)
@@ -91,7 +88,7 @@ module _ (m n : ℕ) (some_m : 0 < m) (some_n : 0 < n) (p : List Entries) (w : L
         let limit = one_loss (λ y. Unit {0}) (cut_link (lies_above Y t) Y (Y c)) (whole_at w c).links _ (λ y u. cut_leaves Y t (Y c) h y) (λ k d l. tt) (limits t high c i h).links z has_z in
         let under : Y z.cell ≤ℤ t = subst (λ (k : ℕ). Y k ≤ℤ t) exact.same far in
         let carry = rw (test_false t (Y z.cell) under, ← mul_neg) at limit in
-        risen t (drop * n) (Y c) (step_bound x.lo m n z.c drop (surplus p) (Y c -ℤ t) (neg_ℤ (Y z.cell -ℤ Y c)) exact.conducts some_m exact.c.lower (positive _ _ h) (further (Y z.cell) t (Y c) under) carry enough))
+        risen t (drop * n) (Y c) (step_bound x.lo m n z.c drop (surplus p) (Y c -ℤ t) (neg_ℤ (Y z.cell -ℤ Y c)) exact.conducts some_m exact.c.lower (difference_not_negative _ _ h) (further (Y z.cell) t (Y c) under) carry enough))
         (λ h. kept_high t (drop * n) (Y c) h)
       where
         further : (a t y : ℤ) → a ≤ℤ t → (y -ℤ t) ≤ℤ neg_ℤ (a -ℤ y)
@@ -105,7 +102,7 @@ module _ (m n : ℕ) (some_m : 0 < m) (some_n : 0 < n) (p : List Entries) (w : L
         let (z, has_z, exact) = AllZip-has (FixedWithin m n) (entries_at p c).fixed (whole_at w c).fixed x no_whole_fixed (enclosed c i).fixed has in
         let limit = one_loss _ (whole_fixed (Y c)) (whole_at w c).fixed _ (wet_fixed (Y c) (b *ℤ pos n) (weak _ _ h)) (base_wet c i).fixed (limits (b *ℤ pos n) (same_z _) c i h).fixed z has_z in
         let under : z.head ≤ℤ (b *ℤ pos n) = conducts z.c (conducting m x.lo z.c some_m some exact.c.lower) (All-contains (λ y. (y.c ≡ 0) ⊎ (y.head ≤ℤ (b *ℤ pos n))) (whole_at w c).fixed z (base_wet c i).fixed has_z) in
-        risen _ (drop * n) (Y c) (step_bound x.lo m n z.c drop (surplus p) (Y c -ℤ b *ℤ pos n) (neg_ℤ (z.head -ℤ Y c)) some some_m exact.c.lower (positive _ _ h) (further z.head (b *ℤ pos n) (Y c) under) (rw (← mul_neg) at limit) enough))
+        risen _ (drop * n) (Y c) (step_bound x.lo m n z.c drop (surplus p) (Y c -ℤ b *ℤ pos n) (neg_ℤ (z.head -ℤ Y c)) some some_m exact.c.lower (difference_not_negative _ _ h) (further z.head (b *ℤ pos n) (Y c) under) (rw (← mul_neg) at limit) enough))
         (λ h. kept_high (b *ℤ pos n) (drop * n) (Y c) h)
       where
         further : (a t y : ℤ) → a ≤ℤ t → (y -ℤ t) ≤ℤ neg_ℤ (a -ℤ y)
@@ -118,7 +115,7 @@ module _ (m n : ℕ) (some_m : 0 < m) (some_n : 0 < n) (p : List Entries) (w : L
         let (z, has_z, exact) = AllZip-has (RiverWithin m n) (entries_at p c).rivers (whole_at w c).rivers x no_whole_river (enclosed c i).rivers has in
         let limit = one_loss _ (whole_river (Y c)) (whole_at w c).rivers _ (wet_river (Y c) (b *ℤ pos n) (weak _ _ h)) (base_wet c i).rivers (limits (b *ℤ pos n) (same_z _) c i h).rivers z has_z in
         let under : (z.stage ≤ℤ (b *ℤ pos n)) × (z.bottom ≤ℤ (b *ℤ pos n)) = conducts z.c (conducting m x.lo z.c some_m some exact.c.lower) (All-contains (λ y. (y.c ≡ 0) ⊎ ((y.stage ≤ℤ (b *ℤ pos n)) × (y.bottom ≤ℤ (b *ℤ pos n)))) (whole_at w c).rivers z (base_wet c i).rivers has_z) in
-        risen _ (drop * n) (Y c) (step_bound x.lo m n z.c drop (surplus p) (Y c -ℤ b *ℤ pos n) (neg_ℤ (z.stage -ℤ int_max (Y c) z.bottom)) some some_m exact.c.lower (positive _ _ h) (further z.stage z.bottom (b *ℤ pos n) (Y c) under.0) (rw (← mul_neg) at limit) enough))
+        risen _ (drop * n) (Y c) (step_bound x.lo m n z.c drop (surplus p) (Y c -ℤ b *ℤ pos n) (neg_ℤ (z.stage -ℤ int_max (Y c) z.bottom)) some some_m exact.c.lower (difference_not_negative _ _ h) (further z.stage z.bottom (b *ℤ pos n) (Y c) under.0) (rw (← mul_neg) at limit) enough))
         (λ h. kept_high (b *ℤ pos n) (drop * n) (Y c) h)
       where
         further : (a d t y : ℤ) → a ≤ℤ t → (y -ℤ t) ≤ℤ neg_ℤ (a -ℤ int_max y d)
@@ -131,7 +128,7 @@ module _ (m n : ℕ) (some_m : 0 < m) (some_n : 0 < n) (p : List Entries) (w : L
         let (z, has_z, exact) = AllZip-has (DrainWithin m n) (entries_at p c).drains (whole_at w c).drains x no_whole_drain (enclosed c i).drains has in
         let limit = one_loss (λ y. Unit {0}) (whole_drain (Y c)) (whole_at w c).drains _ (λ y u. takes_drain (Y c) y) (λ k d l. tt) (limits (b *ℤ pos n) (same_z _) c i h).drains z has_z in
         let under : z.elev ≤ℤ (b *ℤ pos n) = conducts z.c (conducting m x.lo z.c some_m some exact.c.lower) (All-contains (λ y. (y.c ≡ 0) ⊎ (y.elev ≤ℤ (b *ℤ pos n))) (whole_at w c).drains z (base_wet c i).drains has_z) in
-        risen _ (drop * n) (Y c) (step_bound x.lo m n z.c drop (surplus p) (Y c -ℤ b *ℤ pos n) (int_max (Y c -ℤ z.elev) (pos 0)) some some_m exact.c.lower (positive _ _ h) (further z.elev (b *ℤ pos n) (Y c) under) (twice _ _ limit) enough))
+        risen _ (drop * n) (Y c) (step_bound x.lo m n z.c drop (surplus p) (Y c -ℤ b *ℤ pos n) (int_max (Y c -ℤ z.elev) (pos 0)) some some_m exact.c.lower (difference_not_negative _ _ h) (further z.elev (b *ℤ pos n) (Y c) under) (twice _ _ limit) enough))
         (λ h. kept_high (b *ℤ pos n) (drop * n) (Y c) h)
       where
         twice : (a k : ℤ) → neg_ℤ (neg_ℤ a) ≤ℤ k → a ≤ℤ k

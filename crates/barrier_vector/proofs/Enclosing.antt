@@ -17,6 +17,7 @@ use Rattle.barrier_vector.specs.Laws.{IsSolution}
 use Rattle.barrier_vector.proofs.Floors.{floors_enclose}
 use Rattle.barrier_vector.proofs.Ceilings.{ceilings_enclose}
 use Rattle.barrier_vector.proofs.CarriedHeld.{held_cell}
+use Rattle.barrier_vector.proofs.HighSides.{stored_ceiling, stored_floor}
 
 pub encloses_all : (p : List Entries) (low high : ℕ → ℤ) → IsProblem p → ((c : ℕ) → c < length p → IsFloor p c (low c)) → ((c : ℕ) → c < length p → IsCeiling p c (high c)) → (s : ℕ) (e : List ExactCell) (d : ℕ) (X : ℕ → ℤ) → EnclosesStep s p e → 0 < d → SolvesStep e d X → LiesBetween (length p) d X low high
 encloses_all p low high ok floors ceilings s e d X encloses some solves =
@@ -25,22 +26,6 @@ encloses_all p low high ok floors ceilings s e d X encloses some solves =
 
 pub held_all : (p : List Entries) (low : ℕ → ℤ) → ((c : ℕ) → c < length p → IsFloor p c (low c)) → IsHeldBelow p
 held_all p low floors c i = held_cell p c (low c) (floors c i)
-
-greatest_at_least : {X : Type 0} (f : X → ℕ) (xs : List X) (x : X) → Contains xs x → f x ≤ greatest f xs
-greatest_at_least f [] x has = absurd (omega (arith, has.1))
-greatest_at_least f (y ∷ ys) x (zero, h, e) = omega (arith, ap f e)
-greatest_at_least f (y ∷ ys) x (suc k, h, e) = let rest = greatest_at_least f ys x (k, omega arith, e) in omega (arith, rest)
-
--- with storage at each cell no cell lacks a floor for want of an anchor, and none a ceiling
-stored_floor : (p : List Entries) → HasStorage p → (c : ℕ) → c < length p → HasNoFloor p c → ⊥
-stored_floor p stored c i none = let (x, has, kind, conducts) = stored c i in none.0 0 (c, refl, (x, has, conducts))
-
-stored_ceiling : (p : List Entries) → HasStorage p → (c : ℕ) → c < length p → HasNoCeiling p c → ⊥
-stored_ceiling p stored c i none =
-    let (x, has, kind, conducts) = stored c i in
-    let more = greatest_at_least (λ (z : Fixed). z.lo) (entries_at p c).fixed x has in
-    let nothing = none 0 c refl in
-    omega (arith, more, conducts, nothing)
 
 -- a refusal by another number is not for want of an anchor
 other_code : (n a : ℕ) → n ≡ a → (a ≡ 24 → ⊥) → (a ≡ 25 → ⊥) → (n ≡ 24 → ⊥) × (n ≡ 25 → ⊥)

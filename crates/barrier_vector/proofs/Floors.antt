@@ -23,15 +23,7 @@ use Rattle.barrier_vector.proofs.FloorsLinks.{falls_over, falls_at}
 use Rattle.barrier_vector.proofs.FloorsPaths.{falls_along, falls_to_root}
 use Rattle.barrier_vector.proofs.CarriedAbove.{somewhere_above}
 use Rattle.barrier_vector.proofs.CarriedRoots.{same_root, inner_path}
-
--- the greatest of a list, above 0, is that of one of its elements
-pub greatest_is : {X : Type 0} (f : X → ℕ) (xs : List X) → 0 < greatest f xs → (x : X) × Contains xs x × (f x ≡ greatest f xs)
-greatest_is f [] h = absurd (omega arith)
-greatest_is f (x ∷ xs) h =
-    elim (cases_lt (f x) (greatest f xs)) [
-      | inl less ↦ let (z, has, is) = greatest_is f xs (omega (arith, less)) in (z, (suc has.0, omega (arith, has.1), has.2), omega (arith, is, less))
-      | inr more ↦ (x, (0, omega arith, refl), omega (arith, more))
-    ]
+use Rattle.barrier_vector.proofs.Rooting.{greatest_has}
 
 module _ (m n : ℕ) (some_m : 0 < m) (some_n : 0 < n) (p : List Entries) (w : List WholeCell) (Y : ℕ → ℤ)
     (within : AllZip (CellWithin m n (length p)) p w) (both : IsMutual w)
@@ -46,7 +38,7 @@ module _ (m n : ℕ) (some_m : 0 < m) (some_n : 0 < n) (p : List Entries) (w : L
     anchored_floor c s i path =
         falls_along p ok n (lack p) Y (b *ℤ pos n) over _ (b *ℤ pos n) (same_z _) path.level c s i path.sums
         (λ r d j (r_in, some, is) way.
-        let (x, has, lo) = greatest_is (λ x. x.lo) (entries_at p r).fixed some in
+        let (x, has, lo) = greatest_has (λ x. x.lo) (entries_at p r).fixed some in
         let enough = ceil_enough (lack p) (low_anchor (entries_at p r)) some in
         falls_at m n some_m some_n p w Y within both solves b base d r r_in x has (omega (arith, some, lo)) (rw (is, lo) enough))
 

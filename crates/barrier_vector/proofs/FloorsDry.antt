@@ -5,10 +5,10 @@ use Rattle.std.proofs.lemmas.List.Elements.{Contains-get_or, All-weaker}
 use Rattle.step_problem.specs.Entries.{Entries}
 use Rattle.cell_balance.proofs.Totals.{le_trans_z}
 use Rattle.cell_balance.proofs.Zips.{All-zip}
-use Rattle.cell_balance.proofs.Products.{mul_mono_right}
 use Rattle.cell_balance.proofs.Whole.{WholeCell}
 use Rattle.cell_balance.proofs.Within.{FixedWithin, RiverWithin, DrainWithin, CellWithin, IsDry}
 use Rattle.barrier_vector.specs.Bases.{IsLowMark, IsHighMark}
+use Rattle.decimal_input.proofs.Signs.{mul_mono_right}
 
 -- a cell of which no entry that conducts has its head, stage, bottom or elevation above t
 pub record IsWet (t : ℤ) (w : WholeCell) : Type 0 where

@@ -28,12 +28,12 @@ use Rattle.barrier_vector.specs.Lacks.{lack, negative_part}
 use Rattle.barrier_vector.proofs.FloorsSums.{limited_sum, AllZip-has, term-le-total}
 use Rattle.barrier_vector.proofs.FloorsDry.{cell_dry, IsDry-lower}
 use Rattle.barrier_vector.proofs.FloorsEnter.{lies_below, cut_enters, enters}
-use Rattle.barrier_vector.proofs.FloorsSteps.{step_bound, weak, positive, minus, fallen, kept_low}
+use Rattle.barrier_vector.proofs.FloorsSteps.{step_bound, weak, difference_not_negative, minus, fallen, kept_low}
 
 abbrev pub no_whole_fixed : WholeFixed
 no_whole_fixed = record { c = 0; head = pos 0 }
 
-test_false : (a b : ℤ) → b ≤ℤ a → lt_z a b ≡ false
+pub test_false : (a b : ℤ) → b ≤ℤ a → lt_z a b ≡ false
 test_false a b h = sym (false_is_lt a b (le_out b a h))
 
 reached : (c : ℕ) (z t : ℤ) → 0 < c → (c ≡ 0) ⊎ (t ≤ℤ z) → t ≤ℤ z
@@ -85,7 +85,7 @@ module _ (m n : ℕ) (some_m : 0 < m) (some_n : 0 < n) (p : List Entries) (w : L
         let limit = le_trans_z _ _ _ one (limits t low c i h).0 in
         let above : t ≤ℤ Y z.cell = subst (λ (k : ℕ). t ≤ℤ Y k) exact.same far in
         let carry = rw (test_false (Y z.cell) t above) at limit in
-        fallen t (drop * n) (Y c) (step_bound x.lo m n z.c drop (lack p) (t -ℤ Y c) (Y z.cell -ℤ Y c) exact.conducts some_m exact.c.lower (positive _ _ h) (minus _ _ _ above) carry enough))
+        fallen t (drop * n) (Y c) (step_bound x.lo m n z.c drop (lack p) (t -ℤ Y c) (Y z.cell -ℤ Y c) exact.conducts some_m exact.c.lower (difference_not_negative _ _ h) (minus _ _ _ above) carry enough))
         (λ h. kept_low t (drop * n) (Y c) h)
 
     -- at an anchor a head lies below the base by at most the drop that pays for the lack
@@ -98,5 +98,5 @@ module _ (m n : ℕ) (some_m : 0 < m) (some_n : 0 < n) (p : List Entries) (w : L
         let carry = le_trans_z _ _ _ one (limits (b *ℤ pos n) (same_z _) c i h).1 in
         let some_c = conducting m x.lo z.c some_m conducts exact.c.lower in
         let above = reached z.c z.head (b *ℤ pos n) some_c (All-contains (λ y. (y.c ≡ 0) ⊎ ((b *ℤ pos n) ≤ℤ y.head)) (whole_at w c).fixed z (base_dry c i).fixed has_z) in
-        fallen _ (drop * n) (Y c) (step_bound x.lo m n z.c drop (lack p) (b *ℤ pos n -ℤ Y c) (z.head -ℤ Y c) conducts some_m exact.c.lower (positive _ _ h) (minus _ _ _ above) carry enough))
+        fallen _ (drop * n) (Y c) (step_bound x.lo m n z.c drop (lack p) (b *ℤ pos n -ℤ Y c) (z.head -ℤ Y c) conducts some_m exact.c.lower (difference_not_negative _ _ h) (minus _ _ _ above) carry enough))
         (λ h. kept_low (b *ℤ pos n) (drop * n) (Y c) h)

@@ -3,8 +3,8 @@ use Rattle.std.proofs.Common.{◌≡◌, ℕ, ◌+◌, ◌*◌, ◌<◌, ◌≤�
 use Rattle.std.proofs.Math.Nat.{mul-le-mul_right, le_of_mul-le-mul_left}
 use Rattle.std.proofs.lemmas.Int.{ints}
 use Rattle.step_problem.proofs.Ring.{mul_mono}
-use Rattle.cell_balance.proofs.Products.{mul_mono_right}
 use Rattle.barrier_vector.specs.Paths.{ceil_over}
+use Rattle.decimal_input.proofs.Signs.{mul_mono_right}
 
 pub ceil_enough : (q lo : ℕ) → 0 < lo → q ≤ ceil_over q lo * lo
 ceil_enough q lo h = omega arith
@@ -31,8 +31,8 @@ step_bound lo m n c drop q (pos u) d l some_m h some below carry enough =
 pub weak : (a b : ℤ) → a <ℤ b → a ≤ℤ b
 weak a b h = omega (arith, ints)
 
-pub positive : (a b : ℤ) → a <ℤ b → pos 0 ≤ℤ (b -ℤ a)
-positive a b h = omega (arith, ints)
+pub difference_not_negative : (a b : ℤ) → a <ℤ b → pos 0 ≤ℤ (b -ℤ a)
+difference_not_negative a b h = omega (arith, ints)
 
 pub minus : (a b z : ℤ) → a ≤ℤ b → (a -ℤ z) ≤ℤ (b -ℤ z)
 minus a b z h = omega (arith, ints)

@@ -2,19 +2,18 @@
 use Rattle.std.proofs.Common.{◌≡◌, ℕ, ◌*◌, ◌^◌, ◌<◌, sym, ◌∙◌, subst, arith, ℤ, pos, ◌*ℤ◌, ◌≤ℤ◌, List, length}
 use Rattle.std.specs.List.{AllZip}
 use Rattle.decimal_input.specs.Fractions.{IsOver}
-use Rattle.decimal_input.proofs.Signs.{cancel_right}
+use Rattle.decimal_input.proofs.Signs.{cancel_right, swap}
 use Rattle.step_problem.specs.Entries.{Entries}
 use Rattle.step_problem.proofs.Ring.{mul_assoc}
 use Rattle.cell_balance.specs.Steps.{ExactCell}
 use Rattle.cell_balance.specs.Solutions.{share}
-use Rattle.cell_balance.proofs.Scaling.{mul_swap}
 use Rattle.cell_balance.proofs.Over.{CellOver}
-use Rattle.cell_balance.proofs.Denominators.{step_common}
+use Rattle.cell_balance.proofs.Denominators.{step_common, some_product}
 use Rattle.cell_balance.proofs.Wholes.{whole_step}
 use Rattle.cell_balance.proofs.Enclosed.{step_within}
 use Rattle.cell_balance.proofs.Mutual.{mutual_whole}
 use Rattle.cell_balance.proofs.Linked.{linked, links_good}
-use Rattle.cell_balance.proofs.Encloses.{share_is, some_product, whole_solves}
+use Rattle.cell_balance.proofs.Encloses.{share_is, whole_solves}
 use Rattle.cell_balance.proofs.Cancel.{IsMutual}
 use Rattle.cell_balance.proofs.Whole.{WholeCell, whole_at, whole_balance}
 use Rattle.cell_balance.proofs.Within.{CellWithin}
@@ -61,7 +60,7 @@ whole_solution p s e d X given =
 
 -- a bound over n * d is one over d
 spread : (n d : ℕ) (a : ℤ) → a *ℤ pos (n * d) ≡ (a *ℤ pos d) *ℤ pos n
-spread n d a = sym (mul_swap a (pos d) (pos n) ∙ mul_assoc a (pos n) (pos d))
+spread n d a = sym (swap a (pos d) (pos n) ∙ mul_assoc a (pos n) (pos d))
 
 pub low_back : (n d : ℕ) → 0 < n → (a y : ℤ) → (a *ℤ pos (n * d)) ≤ℤ (y *ℤ pos n) → (a *ℤ pos d) ≤ℤ y
 low_back n d h a y k = cancel_right n _ _ h (rw (spread n d a) at k)

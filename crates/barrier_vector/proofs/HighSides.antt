@@ -21,16 +21,7 @@ use Rattle.step_problem.specs.declared.entry.Fixed.{Fixed}
 use Rattle.barrier_vector.specs.declared.BarrierFault.{BarrierFault}
 use Rattle.barrier_vector.specs.declared.BarrierFault.TheVariants.{NoBound as AFault, Memory}
 use Rattle.barrier_vector.proofs.Uniques.{path_anchors, floor_one, ceiling_one}
-
-some_or_none : (o : Option ℤ) → (o ≡ None) ⊎ ((v : ℤ) × (o ≡ Some v))
-some_or_none None = inl refl
-some_or_none (Some v) = inr (v, refl)
-
-not_both : (o : Option ℤ) (v : ℤ) → o ≡ None → o ≡ Some v → ⊥
-not_both o v e f = cc
-
-same_value : (o : Option ℤ) (v w : ℤ) → o ≡ Some v → o ≡ Some w → v ≡ w
-same_value o v w e f = cc
+use Rattle.barrier_vector.proofs.Sides.{some_or_none}
 
 -- and on the high side
 module _ (p : List Entries) (ok : IsProblem p) (xs : List (Option ℤ)) (b : AreBounds p (IsCeilingOrNone p) xs) where

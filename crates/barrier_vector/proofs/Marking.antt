@@ -26,11 +26,11 @@ some_is : (hi : ℕ) (a v : ℤ) → if_some hi a ≡ Some v → (0 < hi) × (v 
 some_is zero a v e = absurd cc
 some_is (suc n) a v e = (omega arith, cc)
 
-outermost_as : (side : Side) (P Q : ℤ → Type 0) (o : Option ℤ) → ((v : ℤ) → P v → Q v) → ((v : ℤ) → Q v → P v) → IsOutermost side P o → IsOutermost side Q o
+pub outermost_as : (side : Side) (P Q : ℤ → Type 0) (o : Option ℤ) → ((v : ℤ) → P v → Q v) → ((v : ℤ) → Q v → P v) → IsOutermost side P o → IsOutermost side Q o
 outermost_as side P Q None to from h = λ v q. h v (from v q)
 outermost_as side P Q (Some b) to from h = (to b h.0, λ v q. h.1 v (from v q))
 
-one_mark : (side : Side) (o : Option ℤ) → IsOutermost side (λ v. o ≡ Some v) o
+pub one_mark : (side : Side) (o : Option ℤ) → IsOutermost side (λ v. o ≡ Some v) o
 one_mark side None = λ v e. cc
 one_mark Low (Some b) = (refl, λ v e. let is : v ≡ b = cc in omega (arith, ints, is))
 one_mark High (Some b) = (refl, λ v e. let is : v ≡ b = cc in omega (arith, ints, is))

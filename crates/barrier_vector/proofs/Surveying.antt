@@ -66,7 +66,7 @@ module _ (p : List Entries) (ok : IsProblem p) where
   sums_as_deep labels deep sums whole values h m = h m ∙ ap (λ (n : ℕ). sum_inside n (labelled labels m) (number_at deep)) whole ∙ sum-same (length p) _ _ (λ k k_in. ap (λ (z : ℤ). cond (labelled labels m k) z (pos 0)) (values k k_in))
 
 -- the tests of a component agree
-same_tests : (a b : Bool) → (a ≡ true → b ≡ true) → (b ≡ true → a ≡ true) → a ≡ b
+pub same_tests : (a b : Bool) → (a ≡ true → b ≡ true) → (b ≡ true → a ≡ true) → a ≡ b
 same_tests true b f g = sym (f refl)
 same_tests false true f g = g refl
 same_tests false false f g = refl

@@ -55,7 +55,7 @@ fn ceiling_of(
     requires ascent { IsAscent p.now base levels.now paths.now }
     ensures { IsCeilingOrNone p.now c result }
 {
-    let _cells = p.len();
+    p.recall_conditions();
     match levels[c] {
         Some(_) => Some(raised(base, paths[c])),
         None => None,

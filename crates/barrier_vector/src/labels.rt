@@ -14,7 +14,7 @@ fn fill(alloc: Global, p: &Problem, labels: &mut [Option<u32>], cell: u32) -> Re
     requires none { mark_at labels.old cell ≡ None }
     ensures { OnOk result (Fills p.now cell labels.old labels.new) }
 {
-    let _cells = p.len();
+    p.recall_conditions();
     labels[cell as usize] = Some(cell);
     let mut frontier = vec![in alloc; cell]?;
     while !frontier.is_empty() {
@@ -34,7 +34,7 @@ fn label_from(
     requires labels { AreLabels p.now labels.old c }
     ensures { OnOk result (AreLabels p.now labels.new (c + 1)) }
 {
-    let _cells = p.len();
+    p.recall_conditions();
     if labels[c].is_none() {
         fill(alloc, p, labels, c as u32)?;
         return Ok(());

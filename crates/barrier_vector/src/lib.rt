@@ -45,7 +45,7 @@ pub fn barrier(alloc: Global, p: &Problem) -> Result<Barrier, BarrierFault>
     ensures encloses { IfOk result (λ b. EnclosesSolutions p.now (head_at b.floor) (head_at b.ceiling)) }
     ensures stored { HasStorage p.now → IfErr result (λ e. IsNoWantOfAnchors e) }
 {
-    let _cells = p.len();
+    p.recall_conditions();
     let floor = match low_side(alloc, p) {
         Ok(floor) => floor,
         Err(fault) => return Err(fault),

@@ -31,7 +31,7 @@ struct Survey {
 fn survey_low(alloc: Global, p: &Problem) -> Result<Survey, AllocError>
     ensures { IfOk result (λ s. IsSurvey p.now s.base s.levels.items s.paths.items s.labels.items s.inner.items s.sums.items s.longest.items) }
 {
-    let _cells = p.len();
+    p.recall_conditions();
     let lack = lack_of(p);
     let roots = anchor_roots(alloc, Side::Low, p, lack)?;
     let anchored = search(alloc, p, &roots, lack)?;
@@ -102,7 +102,7 @@ fn carried_floor(
     requires none { mark_at levels.now c ≡ None }
     ensures { IsFloorOrNone p.now c result }
 {
-    let _cells = p.len();
+    p.recall_conditions();
     match labels[c] {
         Some(m) => {
             if sums[m as usize] > 0 {
@@ -129,7 +129,7 @@ fn floor_of(
     requires survey { IsSurvey p.now base levels.now paths.now labels.now inner.now sums.now longest.now }
     ensures { IsFloorOrNone p.now c result }
 {
-    let _cells = p.len();
+    p.recall_conditions();
     match levels[c] {
         Some(_) => Some(lowered(base, paths[c], 0)),
         None => carried_floor(p, base, levels, paths, labels, inner, sums, longest, c),

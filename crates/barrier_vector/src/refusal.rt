@@ -76,7 +76,7 @@ fn low_refusal(p: &Problem, bounds: &[Option<i64>]) -> Option<NoBound>
     requires { AreBounds p.now (IsFloorOrNone p.now) bounds.now }
     ensures { MatchOption result (IsFirstFailing Missing bounds.now None × IsFirstFailing TooLow bounds.now None) (IsRefusedBelow p.now) }
 {
-    let _cells = p.len();
+    p.recall_conditions();
     match first_failing(Test::Missing, bounds) {
         Some(c) => Some(refusal(p, StepRefusal::NoBarrierLow, c, Side::Low)),
         None => match first_failing(Test::TooLow, bounds) {
@@ -90,7 +90,7 @@ fn high_refusal(p: &Problem, bounds: &[Option<i64>]) -> Option<NoBound>
     requires { AreBounds p.now (IsCeilingOrNone p.now) bounds.now }
     ensures { MatchOption result (IsFirstFailing Missing bounds.now None × IsFirstFailing TooHigh bounds.now None) (IsRefusedAbove p.now) }
 {
-    let _cells = p.len();
+    p.recall_conditions();
     match first_failing(Test::Missing, bounds) {
         Some(c) => Some(refusal(p, StepRefusal::NoBarrierHigh, c, Side::High)),
         None => match first_failing(Test::TooHigh, bounds) {
@@ -105,7 +105,7 @@ pub(crate) fn low_side(alloc: Global, p: &Problem) -> Result<Vec<i64>, BarrierFa
     ensures side { IfOk result (λ heads. IsLowSide p.now heads.items) }
     ensures fault { IfErr result (IsLowFault p.now) }
 {
-    let _cells = p.len();
+    p.recall_conditions();
     match floors(alloc, p) {
         Err(_) => Err(BarrierFault::Memory),
         Ok(bounds) => match low_refusal(p, &bounds) {
@@ -123,7 +123,7 @@ pub(crate) fn high_side(alloc: Global, p: &Problem) -> Result<Vec<i64>, BarrierF
     ensures side { IfOk result (λ heads. IsHighSide p.now heads.items) }
     ensures fault { IfErr result (IsHighFault p.now) }
 {
-    let _cells = p.len();
+    p.recall_conditions();
     match ceilings(alloc, p) {
         Err(_) => Err(BarrierFault::Memory),
         Ok(bounds) => match high_refusal(p, &bounds) {

@@ -81,7 +81,7 @@ fn path_from(
     requires q { q < 2 ^ 126 }
     ensures { ContinuesTo p.now q levels.now level paths.now cell result }
 {
-    let _cells = p.len();
+    p.recall_conditions();
     match parent(&p.cell(cell).links, levels, level) {
         Some(x) => longer_path(drop_over(q, x.lo), paths[x.cell as usize]),
         None => 0,

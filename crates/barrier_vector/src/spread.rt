@@ -49,8 +49,7 @@ pub(crate) fn spread(
     requires frontier { All (λ c. c < length p.now) frontier.now }
     ensures { IfOk result (λ next. Spreads (FrontLeads p.now frontier.now (length frontier.now)) mark marks.old marks.new [] next.items) }
 {
-    // That links lead to cells of the problem is one of the problem's conditions.
-    let _cells = p.len();
+    p.recall_conditions();
     let mut next = Vec::new(alloc);
     for c in frontier {
         spread_from(marks, &mut next, &p.cell(*c as usize).links, mark)?;

@@ -75,8 +75,8 @@ counts_or_not dir of f x xs s true h = capped_twice s (part dir (f x)) (parts di
 counts_or_not dir of f x xs s false h = ap (λ (z : TermPair). capped (plus_pair s z)) (sym (passed dir of f x xs h))
 
 -- one entry of a loop
-pub goes_on : {X : Type 0} (dir : Dir) (of : X → Bool) (f : X → TermPair) (xs : List X) (i : ℕ) (d x : X) (s next whole : TermPair) → i < length xs → x ≡ get_or xs i d → next ≡ cond (of x) (capped (plus_pair s (part dir (f x)))) s → capped (plus_pair s (parts dir (map f (filter of (drop i xs))))) ≡ whole → capped (plus_pair next (parts dir (map f (filter of (drop (i + 1) xs))))) ≡ whole
-goes_on {X = X} dir of f xs i d x s next whole lt e is h =
+pub next_part_capped : {X : Type 0} (dir : Dir) (of : X → Bool) (f : X → TermPair) (xs : List X) (i : ℕ) (d x : X) (s next whole : TermPair) → i < length xs → x ≡ get_or xs i d → next ≡ cond (of x) (capped (plus_pair s (part dir (f x)))) s → capped (plus_pair s (parts dir (map f (filter of (drop i xs))))) ≡ whole → capped (plus_pair next (parts dir (map f (filter of (drop (i + 1) xs))))) ≡ whole
+next_part_capped {X = X} dir of f xs i d x s next whole lt e is h =
     rw is (counts_or_not dir of f x (drop (i + 1) xs) s (of x) refl ∙ ap (λ (ys : List X). capped (plus_pair s (parts dir (map f (filter of ys))))) (sym (from xs i d x lt e)) ∙ h)
 
 pub ends : {X : Type 0} (dir : Dir) (of : X → Bool) (f : X → TermPair) (xs : List X) (i : ℕ) (s whole : TermPair) → IsSum s → length xs ≤ i → capped (plus_pair s (parts dir (map f (filter of (drop i xs))))) ≡ whole → s ≡ whole

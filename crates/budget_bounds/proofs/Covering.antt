@@ -7,13 +7,14 @@ use Rattle.step_problem.specs.declared.place.Term.{Term}
 use Rattle.std.proofs.lemmas.Bool.{cases_eq}
 use Rattle.decimal_input.specs.Fractions.{Fraction, den}
 use Rattle.decimal_input.specs.Enclosures.{EnclosesSigned}
-use Rattle.cell_balance.proofs.Products.{mul_mono_right}
 use Rattle.budget_bounds.specs.declared.pair.TermPair.{TermPair}
 use Rattle.budget_bounds.specs.declared.pair.Budget.{Budget}
 use Rattle.budget_bounds.specs.Singles.{place_of}
 use Rattle.budget_bounds.specs.Terms.{all_terms, bounds_in}
 use Rattle.budget_bounds.specs.Covers.{CoverEncloses, Covers, IsFirstShort, IsFirstUncovered, Reaches, line_of}
 use Rattle.budget_bounds.proofs.Ordered.{at_place, place_within}
+use Rattle.decimal_input.proofs.Signs.{mul_mono_right}
+use Rattle.cell_balance.proofs.Totals.{le_trans_z}
 
 -- terms at one place are one
 pub same_place : (s t : Term) → place_of s ≡ place_of t → s ≡ t
@@ -45,13 +46,10 @@ first_out listed computed t into f = record { short = f.short; first = before }
     before In x h = into x
     before Out x h = f.first x (omega (arith, h))
 
-trans : (a b c : ℤ) → a ≤ℤ b → b ≤ℤ c → a ≤ℤ c
-trans a b c h k = omega (arith, ints)
-
 wider : (a b : TermPair) (k : ℕ) (f : Fraction) → Reaches a b → EnclosesSigned b.lo b.hi k f → EnclosesSigned a.lo a.hi k f
 wider a b k f r h = record {
-  lower = trans _ _ _ (mul_mono_right (den f) a.lo b.lo r.lower) h.lower;
-  upper = trans _ _ _ h.upper (mul_mono_right (den f) b.hi a.hi r.upper);
+  lower = le_trans_z _ _ _ (mul_mono_right (den f) a.lo b.lo r.lower) h.lower;
+  upper = le_trans_z _ _ _ h.upper (mul_mono_right (den f) b.hi a.hi r.upper);
 }
 
 pub cover_encloses : CoverEncloses

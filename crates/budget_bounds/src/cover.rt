@@ -45,7 +45,8 @@ fn first_short(listed: &Budget, computed: &Budget, dir: Dir) -> Option<Term>
 }
 
 /// The first term whose listed bounds do not reach as far as the computed ones, all In terms before all Out
-/// terms.
+/// terms. Bounds reach as far as others if their lower one is at most the other lower one, and their upper one at
+/// least the other upper one.
 pub fn first_uncovered(listed: &Budget, computed: &Budget) -> Option<(Dir, Term)>
     ensures { MatchOption result (Covers listed.now computed.now) (λ t. IsFirstUncovered listed.now computed.now t.0 t.1) }
 {
@@ -56,12 +57,4 @@ pub fn first_uncovered(listed: &Budget, computed: &Budget) -> Option<(Dir, Term)
         Some(term) => Some((Dir::Out, term)),
         None => None,
     }
-}
-
-/// Whether the listed bounds of each term reach as far as the computed ones: the lower one is at most the computed
-/// lower one, and the upper one at least the computed upper one.
-pub fn covers(listed: &Budget, computed: &Budget) -> bool
-    ensures { IsTrue result ↔ Covers listed.now computed.now }
-{
-    first_uncovered(listed, computed).is_none()
 }

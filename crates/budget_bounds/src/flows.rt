@@ -32,7 +32,7 @@ pub(crate) trait Entry {
 }
 
 // The flow of an entry falls in the cell's head: it is least at the upper head and greatest at the lower one.
-fn pair_of<B: Branch>(x: &B, own: Bound) -> TermPair
+fn branch_pair<B: Branch>(x: &B, own: Bound) -> TermPair
     requires own { AreHeads own }
     requires fits { B.fits x.now }
     requires conductance { B.conductance x.now < 2 ^ 60 }
@@ -76,7 +76,7 @@ impl Entry for Fixed {
     }
 
     fn pair_at(&self, own: Bound) -> TermPair {
-        pair_of(self, own)
+        branch_pair(self, own)
     }
 }
 
@@ -92,7 +92,7 @@ impl Entry for River {
     }
 
     fn pair_at(&self, own: Bound) -> TermPair {
-        pair_of(self, own)
+        branch_pair(self, own)
     }
 }
 
@@ -108,7 +108,7 @@ impl Entry for Drain {
     }
 
     fn pair_at(&self, own: Bound) -> TermPair {
-        pair_of(self, own)
+        branch_pair(self, own)
     }
 }
 
@@ -124,6 +124,6 @@ impl Entry for Evap {
     }
 
     fn pair_at(&self, own: Bound) -> TermPair {
-        pair_of(self, own)
+        branch_pair(self, own)
     }
 }

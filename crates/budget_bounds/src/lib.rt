@@ -9,7 +9,7 @@ pub mod pair;
 mod sums;
 mod terms;
 
-pub use cover::{covers, first_uncovered};
+pub use cover::first_uncovered;
 pub use pair::{Budget, TermPair};
 pub use sums::{TERM_LIMIT, plus_part};
 pub use terms::budget;

@@ -20,7 +20,7 @@ pub record IsMutual (w : List WholeCell) : Type 0 where
   pub same : (c k : ℕ) → c < length w → k < length w → weight (whole_at w c).links k ≡ weight (whole_at w k).links c
 
 -- the flow over a list of links, by the cells that they lead to
-by_weight : (n : ℕ) (xs : List WholeLink) (g : ℕ → ℤ) → All (λ x. x.cell < n) xs → total (λ x. pos x.c *ℤ g x.cell) xs ≡ sum_below n (λ k. weight xs k *ℤ g k)
+pub by_weight : (n : ℕ) (xs : List WholeLink) (g : ℕ → ℤ) → All (λ x. x.cell < n) xs → total (λ x. pos x.c *ℤ g x.cell) xs ≡ sum_below n (λ k. weight xs k *ℤ g k)
 by_weight n [] g h = sym (sum-same n _ (λ k. pos 0) (λ k i. zero-*ℤ (g k)) ∙ sum-zero n)
 by_weight n (x ∷ xs) g h =
     let range = All-head (λ y. y.cell < n) x xs h in

@@ -5,7 +5,7 @@ use Rattle.std.proofs.lemmas.Int.{ints, by_lt_z}
 use Rattle.step_problem.specs.Entries.{Entries, entries_at}
 use Rattle.step_problem.specs.Balances.{lower_balance, upper_balance}
 use Rattle.cell_balance.proofs.Zips.{AllZip-length}
-use Rattle.cell_balance.proofs.Products.{mul_mono_right, not_zero}
+use Rattle.cell_balance.proofs.Products.{not_zero}
 use Rattle.cell_balance.proofs.Greatest.{max_of}
 use Rattle.cell_balance.proofs.Cancel.{IsMutual}
 use Rattle.cell_balance.proofs.Tight.{IsTight}
@@ -15,6 +15,7 @@ use Rattle.cell_balance.proofs.Spread.{cell_within, no_anchor, not_carried}
 use Rattle.cell_balance.proofs.Whole.{WholeCell, whole_at, whole_balance}
 use Rattle.cell_balance.proofs.Within.{CellWithin}
 use Rattle.cell_balance.specs.Components.{IsHeldBelow}
+use Rattle.decimal_input.proofs.Signs.{mul_mono_right}
 
 module _ (m n : ℕ) (some_m : 0 < m) (some_n : 0 < n) (p : List Entries) (w : List WholeCell) (Y : ℕ → ℤ)
     (within : AllZip (CellWithin m n (length p)) p w) (both : IsMutual w)

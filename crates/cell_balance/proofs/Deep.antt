@@ -7,10 +7,11 @@ use Rattle.step_problem.specs.declared.entry.Evap.{Evap}
 use Rattle.step_problem.specs.Entries.{Entries}
 use Rattle.step_problem.specs.Conditions.{deep_river_low, full_rate}
 use Rattle.cell_balance.proofs.Totals.{add_mul, sub_mul, le_trans_z, total_less, total_more}
-use Rattle.cell_balance.proofs.Products.{mul_mono_right, entry_less, entry_more, max_above, sub_less}
+use Rattle.cell_balance.proofs.Products.{entry_less, entry_more, max_above, sub_less}
 use Rattle.cell_balance.proofs.Whole.{WholeRiver, WholeEvap, WholeCell, whole_deep_river, whole_full, whole_deep}
 use Rattle.cell_balance.proofs.Within.{FlowWithin, RiverWithin, EvapWithin, CellWithin}
 use Rattle.cell_balance.specs.Components.{deep_low}
+use Rattle.decimal_input.proofs.Signs.{mul_mono_right}
 
 deep_river : (m n : ℕ) (p : River) (x : WholeRiver) → RiverWithin m n p x → (deep_river_low p *ℤ pos (m * n)) ≤ℤ whole_deep_river x
 deep_river m n p x r = entry_less p.lo p.hi x.c m n _ _ r.c (rw sub_mul (sub_less _ _ _ _ r.stage.lower r.bottom.upper))

@@ -24,7 +24,7 @@ Goes-trans a b c (q, e) (r, f) = (q * r, f ∙ ap (λ (z : ℕ). z * r) e ∙ as
     assoc : (a q r : ℕ) → a * q * r ≡ a * (q * r)
     assoc a q r = omega arith
 
-some_product : (a b : ℕ) → 0 < a → 0 < b → 0 < a * b
+pub some_product : (a b : ℕ) → 0 < a → 0 < b → 0 < a * b
 some_product a b h k = let p : 1 * 1 ≤ a * b = mul-le-mul h k in omega arith
 
 -- a conductance and a head over multiples of a denominator that theirs goes into
@@ -103,7 +103,7 @@ common_of f some (x ∷ xs) =
 some_two : (a b : ℕ) → 0 < suc a * suc b
 some_two a b = some_product (suc a) (suc b) (omega arith) (omega arith)
 
-some_three : (a b c : ℕ) → 0 < suc a * (suc b * suc c)
+pub some_three : (a b c : ℕ) → 0 < suc a * (suc b * suc c)
 some_three a b c = some_product (suc a) (suc b * suc c) (omega arith) (some_two b c)
 
 -- the product of six numbers

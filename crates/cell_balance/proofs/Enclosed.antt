@@ -6,7 +6,7 @@ use Rattle.std.proofs.lemmas.Nat.{pow-add}
 use Rattle.decimal_input.specs.Ratios.{Ratio, den as ratio_den}
 use Rattle.decimal_input.specs.Fractions.{Fraction, den, IsOver}
 use Rattle.decimal_input.specs.Enclosures.{Encloses, EnclosesSigned, IsShare, IsBetweenWhole, IsBetweenSigned}
-use Rattle.decimal_input.proofs.Signs.{cancel_right}
+use Rattle.decimal_input.proofs.Signs.{cancel_right, mul_mono_right, swap}
 use Rattle.step_problem.specs.declared.entry.Flow.{Flow}
 use Rattle.step_problem.specs.declared.entry.Link.{Link}
 use Rattle.step_problem.specs.declared.entry.Fixed.{Fixed}
@@ -18,8 +18,6 @@ use Rattle.step_problem.proofs.Ring.{mul_assoc}
 use Rattle.cell_balance.specs.Steps.{ExactFlow, ExactLink, ExactFixed, ExactRiver, ExactDrain, ExactEvap, ExactCell}
 use Rattle.cell_balance.specs.Enclosures.{FlowEncloses, LinkEncloses, FixedEncloses, RiverEncloses, DrainEncloses, EvapEncloses, CellEncloses}
 use Rattle.cell_balance.proofs.Zips.{AllZip-compose}
-use Rattle.cell_balance.proofs.Products.{mul_mono_right}
-use Rattle.cell_balance.proofs.Scaling.{mul_swap}
 use Rattle.cell_balance.proofs.Whole.{WholeLink, WholeFixed, WholeRiver, WholeDrain, WholeEvap, WholeCell}
 use Rattle.cell_balance.proofs.Over.{FlowOver, LinkOver, FixedOver, RiverOver, DrainOver, EvapOver, CellOver}
 use Rattle.cell_balance.proofs.Within.{FlowWithin, LinkWithin, FixedWithin, RiverWithin, DrainWithin, EvapWithin, CellWithin}
@@ -42,8 +40,8 @@ pub between_over : (lo hi : ℤ) (s n : ℕ) (f : Fraction) (z : ℤ) → Enclos
 between_over lo hi s n f z h e =
     let both : (f.num *ℤ pos (10 ^ s)) *ℤ pos n ≡ z *ℤ pos (den f) = mul_assoc f.num (pos (10 ^ s)) (pos n) ∙ ap (λ (k : ℕ). f.num *ℤ pos k) (comm (10 ^ s) n) ∙ e.is in
     record {
-      lower = cancel_right (den f) _ _ (omega arith) (rw (mul_swap lo (pos n) (pos (den f)), ← both) (mul_mono_right n _ _ h.lower));
-      upper = cancel_right (den f) _ _ (omega arith) (rw (mul_swap hi (pos n) (pos (den f)), ← both) (mul_mono_right n _ _ h.upper));
+      lower = cancel_right (den f) _ _ (omega arith) (rw (swap lo (pos n) (pos (den f)), ← both) (mul_mono_right n _ _ h.lower));
+      upper = cancel_right (den f) _ _ (omega arith) (rw (swap hi (pos n) (pos (den f)), ← both) (mul_mono_right n _ _ h.upper));
     }
   where
     comm : (a b : ℕ) → a * b ≡ b * a

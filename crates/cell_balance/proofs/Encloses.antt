@@ -3,7 +3,7 @@ use Rattle.std.proofs.Common.{◌≡◌, ℕ, suc, ◌-◌, ◌*◌, ◌^◌, �
 use Rattle.std.specs.List.{AllZip}
 use Rattle.std.proofs.Math.Nat.{mul-le-mul}
 use Rattle.decimal_input.specs.Fractions.{IsOver}
-use Rattle.decimal_input.proofs.Signs.{cancel_right}
+use Rattle.decimal_input.proofs.Signs.{cancel_right, mul_mono_right, swap}
 use Rattle.step_problem.proofs.Ring.{mul_assoc}
 use Rattle.step_problem.specs.Heads.{head_at}
 use Rattle.cell_balance.specs.Steps.{ExactCell, cell_at, no_cell}
@@ -11,10 +11,9 @@ use Rattle.cell_balance.specs.Balance.{balance}
 use Rattle.cell_balance.specs.Solutions.{share, SolvesStep}
 use Rattle.cell_balance.specs.Laws.{Compares}
 use Rattle.cell_balance.proofs.Zips.{AllZip-at, AllZip-length}
-use Rattle.cell_balance.proofs.Products.{mul_mono_right}
-use Rattle.cell_balance.proofs.Scaling.{zero_over, mul_swap}
+use Rattle.cell_balance.proofs.Scaling.{zero_over}
 use Rattle.cell_balance.proofs.Over.{CellOver, balance_over}
-use Rattle.cell_balance.proofs.Denominators.{step_common}
+use Rattle.cell_balance.proofs.Denominators.{step_common, some_product}
 use Rattle.cell_balance.proofs.Wholes.{whole_step}
 use Rattle.cell_balance.proofs.Enclosed.{step_within}
 use Rattle.cell_balance.proofs.Mutual.{mutual_whole}
@@ -31,9 +30,6 @@ share_is d j z some = record { is = ap (λ (k : ℕ). z *ℤ pos k) (ring (suc (
 
     ring : (t : ℕ) → d ≡ t → d * j ≡ j * t
     ring t e = comm d j ∙ ap (λ (k : ℕ). j * k) e
-
-pub some_product : (a b : ℕ) → 0 < a → 0 < b → 0 < a * b
-some_product a b h k = let p : 1 * 1 ≤ a * b = mul-le-mul h k in omega arith
 
 -- a solution, in whole numbers
 pub whole_solves : (k m : ℕ) (e : List ExactCell) (w : List WholeCell) (d : ℕ) (X Y : ℕ → ℤ) → AllZip (CellOver k m) e w → SolvesStep e d X → ((c : ℕ) → IsOver m (share d (X c)) (Y c)) → (c : ℕ) → c < length w → whole_balance (whole_at w c) (Y c) Y ≡ pos 0
@@ -73,7 +69,7 @@ compares p b l u s e d X given =
 
     -- a bound over d is one over n * d, and back
     spread : (n : ℕ) (a : ℤ) → a *ℤ pos (n * d) ≡ (a *ℤ pos d) *ℤ pos n
-    spread n a = sym (mul_swap a (pos d) (pos n) ∙ mul_assoc a (pos n) (pos d))
+    spread n a = sym (swap a (pos d) (pos n) ∙ mul_assoc a (pos n) (pos d))
 
     up : (n : ℕ) (a y : ℤ) → (a *ℤ pos d) ≤ℤ y → (a *ℤ pos (n * d)) ≤ℤ (y *ℤ pos n)
     up n a y h = rw (spread n a) (mul_mono_right n _ _ h)

@@ -12,12 +12,12 @@ use Rattle.cell_balance.specs.Balance.{greater}
 use Rattle.cell_balance.specs.Components.{sum_below}
 use Rattle.cell_balance.specs.Deep.{total_below}
 use Rattle.cell_balance.proofs.Totals.{add_mul}
-use Rattle.cell_balance.proofs.Products.{max_above, max_below, turned}
+use Rattle.cell_balance.proofs.Products.{max_above, max_below}
 use Rattle.cell_balance.proofs.Scaling.{IsOver-plus, IsOver-greater, IsOver-negated, IsOver-none}
 use Rattle.cell_balance.proofs.Enclosed.{between_over}
 use Rattle.cell_balance.proofs.EntryScaled.{enclosed_over}
-use Rattle.cell_balance.proofs.EntryFlows.{some_product}
-use Rattle.cell_balance.proofs.Denominators.{Goes, fraction_over}
+use Rattle.cell_balance.proofs.Denominators.{Goes, fraction_over, some_product}
+use Rattle.decimal_input.proofs.Signs.{turned}
 
 first : (a b : ℕ) → Goes a (a * b)
 first a b = (b, refl)

@@ -22,8 +22,8 @@ use Rattle.cell_balance.proofs.HighEntries.{river_more, drain_more, evap_more}
 use Rattle.cell_balance.proofs.HighEntries.{fixed_gap as fixed_gap_high}
 use Rattle.cell_balance.proofs.Enclosed.{between_share, between_over, flow_denominator, fixed_within, river_within, drain_within, evap_within}
 use Rattle.cell_balance.proofs.EntryScaled.{enclosed_over}
-use Rattle.cell_balance.proofs.EntryFlows.{some_product, difference_over}
-use Rattle.cell_balance.proofs.Denominators.{Goes, fraction_over, share_over, left_goes, right_goes, link_den, fixed_den, river_den, drain_den, evap_den}
+use Rattle.cell_balance.proofs.EntryFlows.{difference_over}
+use Rattle.cell_balance.proofs.Denominators.{Goes, fraction_over, share_over, left_goes, right_goes, link_den, fixed_den, river_den, drain_den, evap_den, some_three, some_product}
 use Rattle.cell_balance.proofs.Over.{fixed_over, river_over, drain_over, evap_over}
 use Rattle.cell_balance.proofs.Wholes.{fixed, river, drain, evap}
 
@@ -92,9 +92,6 @@ second a b = (a, omega arith)
 
 some_two : (a b : ℕ) → 0 < suc a * suc b
 some_two a b = some_product (suc a) (suc b) (omega arith) (omega arith)
-
-some_three : (a b c : ℕ) → 0 < suc a * (suc b * suc c)
-some_three a b c = some_product (suc a) (suc b * suc c) (omega arith) (some_two b c)
 
 pub bounds_hold : BoundsHold
 bounds_hold s v l u own = record {

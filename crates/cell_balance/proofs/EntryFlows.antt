@@ -16,14 +16,11 @@ use Rattle.cell_balance.specs.EntryLaws.{over_difference, FixedLaws, RiverLaws, 
 use Rattle.cell_balance.proofs.Scaling.{IsOver-times, IsOver-minus, IsOver-negated, IsOver-none, IsOver-signed, IsOver-greater, over_zero}
 use Rattle.cell_balance.proofs.Order.{over_le, le_over}
 use Rattle.cell_balance.proofs.EntryScaled.{same_over, negative_over, negative_below, positive_above, below_over}
-use Rattle.cell_balance.proofs.Denominators.{Goes, fraction_over, fixed_den, river_den, drain_den, evap_den}
+use Rattle.cell_balance.proofs.Denominators.{Goes, fraction_over, fixed_den, river_den, drain_den, evap_den, some_product}
 use Rattle.cell_balance.proofs.Over.{FixedOver, RiverOver, DrainOver, EvapOver, fixed_over, river_over, drain_over, evap_over}
 use Rattle.cell_balance.proofs.Wholes.{fixed, river, drain, evap}
 use Rattle.cell_balance.proofs.Dry.{evap_within_full}
 use Rattle.cell_balance.proofs.Whole.{WholeFixed, WholeRiver, WholeDrain, WholeEvap, whole_fixed, whole_river, whole_drain, whole_evap, whole_full}
-
-pub some_product : (a b : ℕ) → 0 < a → 0 < b → 0 < a * b
-some_product a b h k = let p : 1 * 1 ≤ a * b = mul-le-mul h k in omega arith
 
 -- what conducts has a positive share
 some_share : (d c : ℕ) (r : Ratio) → 0 < d → 0 < r.num → IsShare d r c → 0 < c

@@ -4,11 +4,9 @@ use Rattle.std.proofs.lemmas.Int.{ints, by_lt_z}
 use Rattle.std.proofs.Math.IntN.{zero-*ℤ}
 use Rattle.decimal_input.specs.Fractions.{Fraction, den, Same, IsOver}
 use Rattle.decimal_input.specs.Enclosures.{EnclosesSigned}
-use Rattle.decimal_input.proofs.Signs.{cancel_right}
+use Rattle.decimal_input.proofs.Signs.{cancel_right, mul_mono_right, swap}
 use Rattle.step_problem.proofs.Ring.{mul_assoc}
 use Rattle.cell_balance.specs.EntryLaws.{IsBelow}
-use Rattle.cell_balance.proofs.Products.{mul_mono_right}
-use Rattle.cell_balance.proofs.Scaling.{mul_swap}
 use Rattle.cell_balance.proofs.Order.{le_over}
 
 le_both : (a b : ℤ) → a ≤ℤ b → b ≤ℤ a → a ≡ b
@@ -59,8 +57,8 @@ pub enclosed_over : (lo hi : ℤ) (s n : ℕ) (f : Fraction) (z : ℤ) → 0 < n
 enclosed_over lo hi s n f z some e low high =
     let both : (f.num *ℤ pos (10 ^ s)) *ℤ pos n ≡ z *ℤ pos (den f) = mul_assoc f.num (pos (10 ^ s)) (pos n) ∙ ap (λ (k : ℕ). f.num *ℤ pos k) (comm (10 ^ s) n) ∙ e.is in
     record {
-      lower = cancel_right n _ _ some (rw (mul_swap lo (pos (den f)) (pos n), both) (mul_mono_right (den f) _ _ low));
-      upper = cancel_right n _ _ some (rw (mul_swap hi (pos (den f)) (pos n), both) (mul_mono_right (den f) _ _ high));
+      lower = cancel_right n _ _ some (rw (swap lo (pos (den f)) (pos n), both) (mul_mono_right (den f) _ _ low));
+      upper = cancel_right n _ _ some (rw (swap hi (pos (den f)) (pos n), both) (mul_mono_right (den f) _ _ high));
     }
   where
     comm : (a b : ℕ) → a * b ≡ b * a

@@ -13,19 +13,19 @@ use Rattle.cell_balance.specs.Solutions.{share}
 use Rattle.cell_balance.specs.Deep.{total_inside, IsClosed, deep_river, full_rate, deep_flow, LiesBelow}
 use Rattle.cell_balance.specs.Laws.{LinksCancel, BalanceFalls, BalanceRises, DryLaw}
 use Rattle.cell_balance.proofs.Zips.{AllZip-at, AllZip-length, All-zip}
-use Rattle.cell_balance.proofs.Products.{mul_mono_right}
 use Rattle.cell_balance.proofs.Scaling.{IsOver-plus, IsOver-times, IsOver-minus, IsOver-none, IsOver-signed, IsOver-greater, IsOver-total, over_zero}
 use Rattle.cell_balance.proofs.Order.{over_le, le_over, IsOver-inside}
 use Rattle.cell_balance.proofs.Over.{FlowOver, LinkOver, FixedOver, RiverOver, DrainOver, EvapOver, CellOver, link_over, balance_over}
-use Rattle.cell_balance.proofs.Denominators.{cell_common, step_common}
+use Rattle.cell_balance.proofs.Denominators.{cell_common, step_common, some_product}
 use Rattle.cell_balance.proofs.Wholes.{whole_cell, whole_step}
 use Rattle.cell_balance.proofs.Mutual.{mutual_whole}
 use Rattle.cell_balance.proofs.Cancel.{closed_cancel}
 use Rattle.cell_balance.proofs.Dry.{dry_law}
 use Rattle.cell_balance.proofs.Falling.{whole_falls, whole_rises}
-use Rattle.cell_balance.proofs.Encloses.{share_is, some_product}
+use Rattle.cell_balance.proofs.Encloses.{share_is}
 use Rattle.cell_balance.proofs.Within.{IsDry}
 use Rattle.cell_balance.proofs.Whole.{WholeRiver, WholeEvap, WholeCell, whole_at, no_whole, whole_link, whole_balance, whole_deep_river, whole_full, whole_deep}
+use Rattle.decimal_input.proofs.Signs.{mul_mono_right}
 
 -- numerators over d, over n * d
 pub heads_over : (n d : ℕ) → 0 < d → (z : ℤ) → IsOver (n * d) (share d z) (z *ℤ pos n)

@@ -14,11 +14,12 @@ use Rattle.step_problem.proofs.Ring.{mul_nonneg}
 use Rattle.step_problem.proofs.Leasts.{most_times, neg_most, neg_mul, mul_neg}
 use Rattle.cell_balance.proofs.Totals.{add_mul, sub_mul, le_trans_z, total_more, tight_more}
 use Rattle.cell_balance.proofs.Zips.{AllZip-left, AllZip-right}
-use Rattle.cell_balance.proofs.Products.{mul_mono_right, cancel_le, conducting, max_is}
+use Rattle.cell_balance.proofs.Products.{cancel_le, conducting, max_is}
 use Rattle.cell_balance.proofs.Tight.{IsTight, slack_open, link_closed, fixed_closed, no_lo}
 use Rattle.cell_balance.proofs.HighEntries.{link_gap, fixed_gap, river_more, drain_more, evap_more}
 use Rattle.cell_balance.proofs.Whole.{WholeLink, WholeFixed, WholeRiver, WholeDrain, WholeCell, whole_link, whole_fixed, whole_river, whole_drain, whole_evap, whole_balance}
 use Rattle.cell_balance.proofs.Within.{FlowWithin, LinkWithin, FixedWithin, RiverWithin, DrainWithin, EvapWithin, CellWithin}
+use Rattle.decimal_input.proofs.Signs.{mul_mono_right}
 
 -- a river that gives as much as its bound at the lower head has its bottom above the higher one
 dry_river : (m n : ℕ) (v y : ℤ) → (v *ℤ pos n) <ℤ y → (p : River) (w : WholeRiver) → RiverWithin m n p w → (river_high v p *ℤ pos (m * n)) ≤ℤ whole_river y w → (w.c ≡ 0) ⊎ (y ≤ℤ w.bottom)

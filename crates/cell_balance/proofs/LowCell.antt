@@ -13,11 +13,12 @@ use Rattle.step_problem.proofs.Ring.{mul_nonneg}
 use Rattle.step_problem.proofs.Leasts.{least_times, neg_least, neg_mul, mul_neg}
 use Rattle.cell_balance.proofs.Totals.{add_mul, sub_mul, le_trans_z, total_less, tight_less}
 use Rattle.cell_balance.proofs.Zips.{AllZip-left, AllZip-right}
-use Rattle.cell_balance.proofs.Products.{mul_mono_right, cancel_le, conducting}
+use Rattle.cell_balance.proofs.Products.{cancel_le, conducting}
 use Rattle.cell_balance.proofs.Tight.{IsTight, slack_open, link_closed, fixed_closed, no_lo}
 use Rattle.cell_balance.proofs.LowEntries.{link_gap, fixed_gap, river_less, drain_less, evap_less}
 use Rattle.cell_balance.proofs.Whole.{WholeLink, WholeFixed, WholeRiver, WholeDrain, WholeCell, whole_link, whole_fixed, whole_river, whole_drain, whole_evap, whole_balance}
 use Rattle.cell_balance.proofs.Within.{FlowWithin, LinkWithin, FixedWithin, RiverWithin, DrainWithin, EvapWithin, CellWithin}
+use Rattle.decimal_input.proofs.Signs.{mul_mono_right}
 
 -- a river that gives no more than its bound at the higher head has its bottom above the lower one
 dry_river : (m n : ℕ) (v y : ℤ) → y <ℤ (v *ℤ pos n) → (p : River) (w : WholeRiver) → RiverWithin m n p w → whole_river y w ≤ℤ (river_low v p *ℤ pos (m * n)) → (w.c ≡ 0) ⊎ (y ≤ℤ w.bottom)

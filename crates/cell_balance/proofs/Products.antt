@@ -9,9 +9,7 @@ use Rattle.step_problem.specs.Flows.{least, most}
 use Rattle.step_problem.proofs.Ring.{mul_mono, mul_add}
 use Rattle.step_problem.proofs.Leasts.{least_times, most_times}
 use Rattle.cell_balance.proofs.Totals.{le_trans_z}
-
-pub mul_mono_right : (k : ℕ) (a b : ℤ) → a ≤ℤ b → (a *ℤ pos k) ≤ℤ (b *ℤ pos k)
-mul_mono_right k a b h = omega (arith, ints, mul-le-mul_right k (le_out a b h))
+use Rattle.decimal_input.proofs.Signs.{mul_mono_right}
 
 -- a product with a positive number is zero only where the other factor is
 pub zero_factor : (c : ℕ) (a : ℤ) → 0 < c → pos c *ℤ a ≡ pos 0 → a ≡ pos 0
@@ -90,6 +88,3 @@ min_above n v b y t p q =
 
 pub sub_less : (a b c d : ℤ) → a ≤ℤ c → d ≤ℤ b → (a -ℤ b) ≤ℤ (c -ℤ d)
 sub_less a b c d h k = omega (arith, ints)
-
-pub turned : (a b : ℤ) → a ≤ℤ b → neg_ℤ b ≤ℤ neg_ℤ a
-turned a b h = omega (arith, ints)

@@ -11,13 +11,11 @@ use Rattle.step_problem.proofs.Ring.{diffs, as_diff, same_diff}
 use Rattle.step_problem.proofs.Leasts.{neg_mul}
 use Rattle.step_problem.specs.Flows.{total}
 use Rattle.cell_balance.specs.Balance.{minus, greater, lesser}
-use Rattle.cell_balance.proofs.Products.{zero_factor, mul_mono_right}
+use Rattle.cell_balance.proofs.Products.{zero_factor}
+use Rattle.decimal_input.proofs.Signs.{mul_mono_right, swap}
 
 pub mul_comm : (a b : ℤ) → a *ℤ b ≡ b *ℤ a
 mul_comm a b = rw (as_diff a, as_diff b) (simp diffs (same_diff _ _ _ _ (omega arith)))
-
-pub mul_swap : (a b c : ℤ) → (a *ℤ b) *ℤ c ≡ (a *ℤ c) *ℤ b
-mul_swap a b c = rw (as_diff a, as_diff b, as_diff c) (simp diffs (same_diff _ _ _ _ (omega arith)))
 
 den_product : (f g : Fraction) → pos (suc (f.less * g.less + f.less + g.less)) ≡ pos (den f) *ℤ pos (den g)
 den_product f g = ap pos (omega arith)
@@ -83,7 +81,7 @@ min_times k a b =
 
 -- f crossed with the other denominator, over d
 pub crossed : (d : ℕ) (f : Fraction) (a : ℤ) (k : ℕ) → IsOver d f a → (f.num *ℤ pos k) *ℤ pos d ≡ a *ℤ (pos (den f) *ℤ pos k)
-crossed d f a k p = mul_swap f.num (pos k) (pos d) ∙ ap (λ (z : ℤ). z *ℤ pos k) p.is ∙ assoc a (pos (den f)) (pos k)
+crossed d f a k p = swap f.num (pos k) (pos d) ∙ ap (λ (z : ℤ). z *ℤ pos k) p.is ∙ assoc a (pos (den f)) (pos k)
   where
     assoc : (a b c : ℤ) → (a *ℤ b) *ℤ c ≡ a *ℤ (b *ℤ c)
     assoc a b c = rw (as_diff a, as_diff b, as_diff c) (simp diffs (same_diff _ _ _ _ (omega arith)))

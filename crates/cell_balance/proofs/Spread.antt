@@ -9,7 +9,6 @@ use Rattle.step_problem.specs.declared.entry.Link.{Link}
 use Rattle.step_problem.specs.Entries.{Entries, entries_at, no_entries}
 use Rattle.cell_balance.proofs.Totals.{same_z}
 use Rattle.cell_balance.proofs.Zips.{AllZip-at, AllZip-length, AllZip-left, All-zip}
-use Rattle.cell_balance.proofs.Products.{mul_mono_right}
 use Rattle.cell_balance.proofs.Sums.{sum-same, sum-zero, sum-times, sum_at_most}
 use Rattle.cell_balance.proofs.Cancel.{IsMutual}
 use Rattle.cell_balance.proofs.Dry.{dry_law}
@@ -18,6 +17,7 @@ use Rattle.cell_balance.proofs.Tight.{IsTight}
 use Rattle.cell_balance.proofs.Whole.{WholeCell, no_whole, whole_at, whole_balance, whole_deep}
 use Rattle.cell_balance.proofs.Within.{LinkWithin, CellWithin, IsDry}
 use Rattle.cell_balance.specs.Components.{deep_low, Reaches, Leads, IsCarried}
+use Rattle.decimal_input.proofs.Signs.{mul_mono_right}
 
 -- one more link at the end of a way
 pub Reaches-more : (p : List Entries) (j a k : ℕ) (x : Link) → Reaches p j a k → Contains (entries_at p k).links x → Reaches p (suc j) a x.cell

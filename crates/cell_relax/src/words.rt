@@ -32,8 +32,7 @@ pub fn read_values(
     ensures count { result ≡ length (entries_at p.now cell).links }
     ensures read { take result values.new ≡ ends_in (heads_on side words.now) (entries_at p.now cell).links }
 {
-    // `len` ensures the problem's conditions.
-    let _cells = p.len();
+    p.recall_conditions();
     let links = p.cell(cell).links.as_slice();
     for i in 0..links.len() {
         values[i] = head_on(side, words[links[i].cell as usize]);
@@ -48,7 +47,7 @@ pub fn raise_in(p: &Problem, words: &[Bound], cell: usize) -> i64
     ensures raise { IsRaise p.now (lower_at words.now) cell result }
     ensures head { IsHead result }
 {
-    let _cells = p.len();
+    p.recall_conditions();
     let mut values = [0; 6];
     let count = read_values(p, cell, words, Side::Low, &mut values);
     raise_to(p, cell, words[cell].low, &values[..count])
@@ -61,7 +60,7 @@ pub fn sink_in(p: &Problem, words: &[Bound], cell: usize) -> i64
     ensures sink { IsSink p.now (upper_at words.now) cell result }
     ensures head { IsHead result }
 {
-    let _cells = p.len();
+    p.recall_conditions();
     let mut values = [0; 6];
     let count = read_values(p, cell, words, Side::High, &mut values);
     sink_to(p, cell, words[cell].high, &values[..count])

@@ -46,8 +46,7 @@ pub fn check_step(p: &Problem, barrier: &Barrier, bounds: &[Bound]) -> Verdict
         EnclosesSolutions p.now (head_at barrier.now.floor) (head_at barrier.now.ceiling) →
         EnclosesSolutions p.now (lower_at bounds.now) (upper_at bounds.now) }
 {
-    // `len` ensures the problem's conditions.
-    let _cells = p.len();
+    p.recall_conditions();
     match first_failing(p, barrier, bounds) {
         None => Verdict::Yes,
         Some((cell, side)) => Verdict::No { cell, side },

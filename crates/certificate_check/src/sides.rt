@@ -15,8 +15,7 @@ fn lower_in(p: &Problem, bounds: &[Bound], cell: usize) -> i128
     requires bounds { AreWords p.now bounds.now }
     ensures { result ≡ lower_balance (entries_at p.now cell) (lower_at bounds.now cell) (lower_at bounds.now) }
 {
-    // `len` ensures the problem's conditions.
-    let _cells = p.len();
+    p.recall_conditions();
     let mut values = [0; 6];
     let count = read_values(p, cell, bounds, Side::Low, &mut values);
     low_at(p, cell, bounds[cell].low, &values[..count])
@@ -28,7 +27,7 @@ fn upper_in(p: &Problem, bounds: &[Bound], cell: usize) -> i128
     requires bounds { AreWords p.now bounds.now }
     ensures { result ≡ upper_balance (entries_at p.now cell) (upper_at bounds.now cell) (upper_at bounds.now) }
 {
-    let _cells = p.len();
+    p.recall_conditions();
     let mut values = [0; 6];
     let count = read_values(p, cell, bounds, Side::High, &mut values);
     high_at(p, cell, bounds[cell].high, &values[..count])

@@ -15,7 +15,6 @@ use Rattle.budget_bounds.specs.Exact.{EnclosesBudgets, HeadsAreWithin}
 use Rattle.cell_balance.specs.Enclosures.{EnclosesStep, CellEncloses}
 use Rattle.cell_balance.specs.SolutionBounds.{EnclosesSolutions}
 use Rattle.cell_balance.specs.Solutions.{LiesBetween}
-use Rattle.cell_balance.proofs.Products.{mul_mono_right}
 use Rattle.cell_balance.proofs.Zips.{AllZip-length}
 use Rattle.flow_equations.specs.ExactStep.{exact_step}
 use Rattle.flow_equations.specs.Histories.{heads_of, variable_heads}
@@ -35,6 +34,7 @@ use Rattle.listing_run.specs.Bounding.{BoundsMoves}
 use Rattle.check_run.specs.Reaching.{ConstantsReach, IsConstantCell, variable_bounds}
 use Rattle.check_run.specs.Verdicts.{checked_task, step_of}
 use Rattle.check_run.proofs.Listed.{variable_listed}
+use Rattle.decimal_input.proofs.Signs.{mul_mono_right}
 
 -- the head x over d lies within a bound
 record Holds (b : Bound) (d : ℕ) (x : ℤ) : Type 0 where

@@ -37,10 +37,10 @@ bound_on (Quotient t u) h Lower r (a, b, ta, ub, divisor, rounded) = AtMost-tran
 bound_on (Quotient t u) h Upper r (a, b, ta, ub, divisor, rounded) = AtMost-trans (over-AtMost h.2 (positive_value b divisor) (bound_on t h.0 Upper a ta) (bound_on u h.1 Lower b ub)) rounded.at_least
 
 -- n / 10 ^ s ≤ a / x ≤ b / y, over plain numbers
-below_units : (n a x b y p : ℕ) → 0 < x → n * x ≤ a * p → a * y ≤ b * x → n * y ≤ b * p
+pub below_units : (n a x b y p : ℕ) → 0 < x → n * x ≤ a * p → a * y ≤ b * x → n * y ≤ b * p
 below_units n a x b y p h q r = le_of_mul-le-mul_right {k = x} (omega (arith, mul-le-mul_right y q, mul-le-mul_right p r)) h
 
-above_units : (n a x b y p : ℕ) → 0 < x → a * p ≤ n * x → b * x ≤ a * y → b * p ≤ n * y
+pub above_units : (n a x b y p : ℕ) → 0 < x → a * p ≤ n * x → b * x ≤ a * y → b * p ≤ n * y
 above_units n a x b y p h q r = le_of_mul-le-mul_right {k = x} (omega (arith, mul-le-mul_right y q, mul-le-mul_right p r)) h
 
 -- The pair of a formula contains its value.

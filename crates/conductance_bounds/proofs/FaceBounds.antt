@@ -28,10 +28,10 @@ use Rattle.conductance_bounds.proofs.Ready.{IsReady, is_ready}
 use Rattle.conductance_bounds.proofs.SpanBounds.{thick_positive}
 use Rattle.conductance_bounds.proofs.ThickBounds.{thick_between}
 
-none_between : (x : ℤ) → unsigned_abs (x -ℤ x) ≡ 0
+pub none_between : (x : ℤ) → unsigned_abs (x -ℤ x) ≡ 0
 none_between x = let e : x -ℤ x ≡ pos 0 = omega (arith, ints) in ap unsigned_abs e
 
-no_gap : (f g : Fraction) → f ≡ g → (gap g f).num ≡ 0
+pub no_gap : (f g : Fraction) → f ≡ g → (gap g f).num ≡ 0
 no_gap f g e = ap (λ h. (gap g h).num) e ∙ none_between (g.num *ℤ pos (suc g.less))
 
 zero_test : (n : ℕ) → n ≡ 0 → (n == 0) ≡ true

@@ -3,10 +3,7 @@ use Rattle.std.proofs.Common.{◌≡◌, ℕ, ◌+◌, ◌*◌, ◌<◌, arith, 
 use Rattle.decimal_input.specs.Ratios.{Ratio, den, ratio, plus, times, over, AtMost, Same}
 use Rattle.decimal_input.proofs.Orders.{Same-AtMost, Same-back, plus-AtMost, times-AtMost, over-AtMost, num_times, den_times, num_plus, den_plus, num_over}
 use Rattle.model_types.specs.Conductances.{two, half}
-
--- what is at most and at least another is the same
-Same-both : {f g : Ratio} → AtMost f g → AtMost g f → Same f g
-Same-both p q = record { cross = omega (arith, p.cross, q.cross) }
+use Rattle.scaled_decimal.proofs.Sums.{Same-both}
 
 pub Same-self : (f : Ratio) → Same f f
 Same-self f = record { cross = refl }

@@ -12,7 +12,7 @@ use Rattle.conductance_bounds.specs.Parts.{IsHeadUnits}
 abbrev head_limit : ℕ
 head_limit = 4000000000000000000
 
-abbrev InRange : Fraction → Type 0
+abbrev pub InRange : Fraction → Type 0
 InRange f = EnclosesSigned (neg_ℤ (pos 4000000000)) (pos 4000000000) 0 f
 
 -- in units of 10 ^ -9

@@ -23,7 +23,7 @@ use Rattle.conductance_bounds.specs.Terms.Side.{Lower, Upper}
 use Rattle.conductance_bounds.specs.Terms.Term.{Quotient}
 use Rattle.conductance_bounds.specs.Growth.{sum_term, IsMultiplier}
 use Rattle.conductance_bounds.specs.Parts.{IsPart, IsGrowingPart, IsPassed, part_term}
-use Rattle.conductance_bounds.proofs.Enclosing.{bound_on}
+use Rattle.conductance_bounds.proofs.Enclosing.{bound_on, below_units, above_units}
 use Rattle.conductance_bounds.proofs.Harmonic.{over-Same}
 use Rattle.conductance_bounds.proofs.Horner.{sum_is, sum_holds, power_positive}
 
@@ -44,15 +44,15 @@ pub geometric_grows : (t : Ratio) (n k : ℕ) → AtMost (geometric t n) (geomet
 geometric_grows t n zero = subst (λ (m : ℕ). AtMost (geometric t n) (geometric t m)) (let e : n ≡ n + 0 = omega arith in e) (AtMost-refl (geometric t n))
 geometric_grows t n (suc k) = AtMost-trans (geometric_grows t n k) (subst (λ (m : ℕ). AtMost (geometric t (n + k)) (geometric t m)) (let e : suc (n + k) ≡ n + suc k = omega arith in e) (next t (n + k)))
 
-positive : (a l : ℕ) → 0 < a → 0 < a * suc l
-positive a l p = grind arith
+times_suc_positive : (a l : ℕ) → 0 < a → 0 < a * suc l
+times_suc_positive a l p = grind arith
 
 positive_next : (t : Ratio) (n : ℕ) → 0 < t.num → 0 < (geometric t (suc n)).num
 unfolding geometric ratio
-positive_next t n h = rw num_plus (omega (arith, positive (power t n).num (geometric t n).less (power_positive t n h)))
+positive_next t n h = rw num_plus (omega (arith, times_suc_positive (power t n).num (geometric t n).less (power_positive t n h)))
 
 nonzero : (m x k l : ℕ) → 0 < k → m * x ≡ k * suc l → 0 < m
-nonzero zero x k l h e = absurd (omega (arith, positive k l h, e))
+nonzero zero x k l h e = absurd (omega (arith, times_suc_positive k l h, e))
 nonzero (suc m) x k l h e = omega arith
 
 same_positive : (a b : Ratio) → 0 < a.num → Same b a → 0 < b.num
@@ -63,13 +63,6 @@ least c g d top e a b = elim (cases_lt c (10 ^ 18)) [
   | inl lt ↦ (let q : g ≡ c = omega (arith, e, lt) in let r : g * d ≡ c * d = ap (λ (z : ℕ). z * d) q in omega (arith, r, a))
   | inr le ↦ (let q : g ≡ 10 ^ 18 = omega (arith, e, le) in let r : g * d ≡ 10 ^ 18 * d = ap (λ (z : ℕ). z * d) q in omega (arith, r, b))
 ]
-
--- from a bound of one ratio to that of a greater or equal one
-below_units : (n a x b y p : ℕ) → 0 < x → n * x ≤ a * p → a * y ≤ b * x → n * y ≤ b * p
-below_units n a x b y p h q r = le_of_mul-le-mul_right {k = x} (omega (arith, mul-le-mul_right y q, mul-le-mul_right p r)) h
-
-above_units : (n a x b y p : ℕ) → 0 < x → a * p ≤ n * x → b * x ≤ a * y → b * p ≤ n * y
-above_units n a x b y p h q r = le_of_mul-le-mul_right {k = x} (omega (arith, mul-le-mul_right y q, mul-le-mul_right p r)) h
 
 all_passed : (f g : ℕ) → f ≡ 10 ^ 18 → g ≡ 10 ^ 18 → IsPassed one f g
 unfolding ratio

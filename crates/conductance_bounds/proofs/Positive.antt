@@ -11,7 +11,7 @@ use Rattle.model_types.specs.Numbers.{IsPositive}
 use Rattle.conductance_bounds.specs.Terms.{IsBetween}
 use Rattle.conductance_bounds.proofs.Enclosing.{positive_value}
 
-positive_product : (a b : ℕ) → 0 < a → 0 < b → 0 < a * b
+pub positive_product : (a b : ℕ) → 0 < a → 0 < b → 0 < a * b
 positive_product a b p q = grind arith
 
 pub size_positive : (d : Dec) → IsPositive d → 0 < (size d).num

@@ -15,6 +15,7 @@ use Rattle.model_types.specs.Numbers.{IsThick}
 use Rattle.conductance_bounds.specs.Terms.{IsBetween}
 use Rattle.conductance_bounds.specs.declared.span.Span.{Span}
 use Rattle.conductance_bounds.specs.Thicknesses.{IsSpan}
+use Rattle.conductance_bounds.proofs.Positive.{positive_product}
 
 ring_left : (a b x y : ℤ) → (a -ℤ b) *ℤ (x *ℤ y) ≡ (a *ℤ x) *ℤ y -ℤ (b *ℤ y) *ℤ x
 ring_left a b x y = rw (as_diff a, as_diff b, as_diff x, as_diff y) (simp diffs (same_diff _ _ _ _ (omega arith)))
@@ -38,9 +39,6 @@ abs_high : (z g : ℤ) (x y p : ℕ) → pos 0 ≤ℤ z → pos 0 ≤ℤ g → (
 abs_high (pos n) (pos k) x y p a b h = omega (arith, ints, h)
 abs_high (pos n) (negsuc k) x y p a b h = absurd (omega (arith, ints, b))
 abs_high (negsuc n) g x y p a b h = absurd (omega (arith, ints, a))
-
-positive_product : (a b : ℕ) → 0 < a → 0 < b → 0 < a * b
-positive_product a b p q = grind arith
 
 -- what is more than a positive number of units is positive
 above_zero : (z g : ℤ) (x y p : ℕ) → pos 0 <ℤ z → 0 < x → 0 < y → (z *ℤ (pos x *ℤ pos y)) ≤ℤ (g *ℤ pos p) → pos 0 <ℤ g

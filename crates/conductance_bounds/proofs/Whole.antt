@@ -3,9 +3,7 @@ use Rattle.std.proofs.lemmas.Bool.{cases_lt}
 use Rattle.std.proofs.Math.Nat.{mul-le-mul_right, le_of_mul-le-mul_right}
 use Rattle.decimal_input.specs.Ratios.{Ratio, den, AtMost}
 use Rattle.decimal_input.specs.Wholes.{IsFloor, IsCeiling, Reaches, Passes}
-
-le_cancel : (k m n : ℕ) → 0 < k → m * k ≤ n * k → m ≤ n
-le_cancel k m n h p = grind (arith, le_of_mul-le-mul_right)
+use Rattle.decimal_input.proofs.Cross.{le_cancel}
 
 pub Passes-less : (n m : ℕ) (f : Ratio) (s : ℕ) → m ≤ n → Passes n f s → Passes m f s
 Passes-less n m f s le h = record { pass = omega (arith, h.pass, mul-le-mul_right (den f) le) }

@@ -8,7 +8,7 @@ ghost use Rattle.conductance_bounds.specs.Pairs.{IsWholePair};
 
 use crate::area::area;
 use crate::interval::exactly;
-use crate::pair::{Pair, pair_of};
+use crate::pair::{Pair, rounded_pair};
 use decimal_input::dec::Dec;
 
 /// The bounds of evapotranspiration at the rate EVTR over the depth EXDP, as a conductance in units of 10 ^ -s; None
@@ -23,5 +23,5 @@ pub fn evap_branch(evtr: Dec, exdp: Dec, delr: Dec, delc: Dec, s: u32) -> Option
     ensures encloses { IfSome result (λ p. Encloses p.lo p.hi s (evap_exact evtr exdp delr delc)) }
 {
     let rate = exactly(evtr).times(area(delr, delc));
-    pair_of(rate.over(exactly(exdp)), s)
+    rounded_pair(rate.over(exactly(exdp)), s)
 }

@@ -44,6 +44,19 @@ pub fn given_head(shead: Dec, ehead: Dec, part: Part) -> HeadPair
     }
 }
 
+/// The bounds of a head of the input: its floor and its ceiling.
+pub fn head_bounds(head: Dec) -> HeadPair
+    requires head { IsHeadNumber head }
+    ensures floor { IsSignedFloor result.lo (number head) 9 }
+    ensures ceiling { IsSignedCeiling result.hi (number head) 9 }
+    ensures range { IsHeadUnits result.lo × IsHeadUnits result.hi }
+{
+    HeadPair {
+        lo: head_floor(head),
+        hi: head_ceiling(head),
+    }
+}
+
 fn head_floor(head: Dec) -> i64
     requires head { IsHeadNumber head }
     ensures floor { IsSignedFloor result (number head) 9 }

@@ -13,7 +13,7 @@ ghost use Rattle.conductance_bounds.specs.Pairs.{IsWholePair};
 ghost use Rattle.conductance_bounds.specs.Calls.{IsHalf, IsColHalf};
 
 use crate::interval::{between, exactly, one};
-use crate::pair::{Pair, pair_of};
+use crate::pair::{Pair, rounded_pair};
 use crate::span::Span;
 use decimal_input::dec::Dec;
 use scaled_decimal::Sd;
@@ -61,7 +61,7 @@ pub fn row_branch(a: &Half, b: &Half, width: Dec, s: u32) -> Option<Pair>
         exactly(b.hk),
         between(b.thick_lo, b.thick_hi),
     );
-    pair_of(in_a_row(first, second), s)
+    rounded_pair(in_a_row(first, second), s)
 }
 
 /// The bounds of the conductance between two cells of a column whose width is `width`, in units of 10 ^ -s; None
@@ -88,7 +88,7 @@ pub fn col_branch(a: &ColHalf, b: &ColHalf, width: Dec, s: u32) -> Option<Pair>
         along_column(b),
         between(b.thick_lo, b.thick_hi),
     );
-    pair_of(in_a_row(first, second), s)
+    rounded_pair(in_a_row(first, second), s)
 }
 
 // HK * HANI, the conductivity along a column.

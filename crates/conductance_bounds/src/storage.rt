@@ -14,7 +14,7 @@ ghost use Rattle.conductance_bounds.specs.Calls.{IsThickness, LiesWithin};
 use crate::area::area;
 use crate::factors::Factors;
 use crate::interval::{between, exactly, factor};
-use crate::pair::{Pair, pair_of};
+use crate::pair::{Pair, rounded_pair};
 use crate::span::Span;
 use decimal_input::dec::Dec;
 use scaled_decimal::Sd;
@@ -47,7 +47,7 @@ pub fn storage_branch(
     let capacity = storativity(ss, thick).times(area(delr, delc));
     let sum = factor(factors.sum_lo, factors.sum_hi);
     let power = factor(factors.power_lo, factors.power_hi);
-    pair_of(capacity.times(sum).over(exactly(perlen).times(power)), s)
+    rounded_pair(capacity.times(sum).over(exactly(perlen).times(power)), s)
 }
 
 // SS times the thickness, or SS alone.

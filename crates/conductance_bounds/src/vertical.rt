@@ -12,7 +12,7 @@ ghost use Rattle.conductance_bounds.specs.Calls.{IsVertHalf, IsBed};
 
 use crate::area::area;
 use crate::interval::{between, exactly};
-use crate::pair::{Pair, pair_of};
+use crate::pair::{Pair, rounded_pair};
 use crate::span::Span;
 use decimal_input::dec::Dec;
 use scaled_decimal::Sd;
@@ -57,9 +57,9 @@ pub fn vert_branch(
         IsBetween bed.now.thick_lo bed.now.thick_hi h →
         IfSome result (λ p. Encloses p.lo p.hi s (vertical_exact a.now b.now bed.now delr delc f g h)) }
 {
-    let first = half(a);
-    let second = half(b);
-    pair_of(area(delr, delc).over(joined(first, bed, second)), s)
+    let first = half_resistance(a);
+    let second = half_resistance(b);
+    rounded_pair(area(delr, delc).over(joined(first, bed, second)), s)
 }
 
 // VK: VKA, or HK / VKA.
@@ -79,7 +79,7 @@ fn conductivity(a: &VertHalf) -> Span
 }
 
 // The resistance of a half, times the area.
-fn half(a: &VertHalf) -> Span
+fn half_resistance(a: &VertHalf) -> Span
     requires half { IsVertHalf a.now }
     ensures ordered { IsOrdered result }
     ensures bounds { (f : Ratio) → AreBounds (vertical_half_of a.now f) result }

@@ -15,10 +15,10 @@ use Rattle.cell_balance.specs.Solutions.{share, SolvesStep}
 use Rattle.cell_balance.proofs.Zips.{AllZip-at, AllZip-length}
 use Rattle.cell_balance.proofs.Scaling.{IsOver-plus, IsOver-minus, IsOver-none, IsOver-total, zero_over, over_zero}
 use Rattle.cell_balance.proofs.Over.{LinkOver, CellOver, link_over}
-use Rattle.cell_balance.proofs.Denominators.{step_common}
+use Rattle.cell_balance.proofs.Denominators.{step_common, some_product}
 use Rattle.cell_balance.proofs.Wholes.{whole_step}
 use Rattle.cell_balance.proofs.Whole.{WholeCell, whole_at, no_whole, whole_link}
-use Rattle.cell_balance.proofs.Encloses.{some_product, whole_solves}
+use Rattle.cell_balance.proofs.Encloses.{whole_solves}
 use Rattle.cell_balance.proofs.EntryScaled.{same_over}
 use Rattle.cell_balance.proofs.ExactLaws.{heads_over, links_cancel}
 use Rattle.budget_bounds.specs.Terms.{all_terms}

@@ -7,7 +7,8 @@ use Rattle.listing_run.specs.declared.task.Task.{Task}
 use Rattle.listing_run.specs.declared.step.Step.{Step}
 use Rattle.exact_budgets.specs.NetTerms.{IsBalanced, NetTermsLie}
 
--- At a step of a listing the exact budget of the vector X over d is balanced, and its net terms lie between both pairs of bounds, where `before` are the exact heads before it.
+-- At a step of a listing the exact budget of the vector X over d is balanced, and its net terms lie between both pairs of
+-- bounds, where `before` are the exact heads before it.
 pub record NetTermsLieAt (k : Task) (v : Step) (before : ℕ → Fraction) (d : ℕ) (X : ℕ → ℤ) : Type 0 where
   pub balanced : IsBalanced (exact_step k.model v.at.period v.at.step before)
       (heads_of d (variable_heads (exact_step k.model v.at.period v.at.step before) X))

@@ -34,4 +34,5 @@ abbrev pub StepsHaveTheirTimes : Type 0
 StepsHaveTheirTimes = (k : Task) (values : List Step) → AllSteps k values Whole → map (λ v. v.at) values ≡ times k.model
 
 abbrev pub CertifiedHaveTheirTimes : Type 0
-CertifiedHaveTheirTimes = (m : FlowModel) (s : ℕ) (steps : List ListedStep) → IsVerdict m s steps Certified → map (λ v. v.at) (steps_of (times m) steps) ≡ times m
+CertifiedHaveTheirTimes = (m : FlowModel) (s : ℕ) (steps : List ListedStep) → IsVerdict m s steps Certified →
+    map (λ v. v.at) (steps_of (times m) steps) ≡ times m

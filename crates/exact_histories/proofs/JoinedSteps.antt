@@ -5,10 +5,10 @@ use Rattle.model_types.specs.declared.model.FlowModel.{FlowModel}
 use Rattle.model_types.specs.declared.time_steps.TimeStep.{TimeStep}
 use Rattle.step_problem.proofs.Ring.{mul_assoc}
 use Rattle.cell_balance.specs.Solutions.{share}
-use Rattle.cell_balance.proofs.Encloses.{some_product}
 use Rattle.flow_equations.specs.Histories.{heads_of, SolvesAt, SolvesFrom}
 use Rattle.exact_histories.proofs.GridVectors.{HasVector}
 use Rattle.exact_histories.proofs.SameTimes.{solves_same}
+use Rattle.cell_balance.proofs.Denominators.{some_product}
 
 -- these times can be solved in turn: the first one, and from each of its solutions the others
 abbrev pub GoOn : FlowModel → List TimeStep → (ℕ → Fraction) → Type 0

@@ -6,14 +6,15 @@ use Rattle.step_problem.proofs.Ring.{mul_assoc}
 use Rattle.cell_balance.specs.Balance.{balance}
 use Rattle.cell_balance.specs.Solutions.{share, SolvesStep}
 use Rattle.cell_balance.specs.Steps.{ExactFixed, ExactCell, cell_at, no_cell}
-use Rattle.cell_balance.proofs.Denominators.{step_common}
-use Rattle.cell_balance.proofs.Encloses.{share_is, some_product, whole_solves}
+use Rattle.cell_balance.proofs.Denominators.{step_common, some_product}
+use Rattle.cell_balance.proofs.Encloses.{share_is, whole_solves}
 use Rattle.cell_balance.proofs.Over.{FlowOver, LinkOver, FixedOver, RiverOver, DrainOver, EvapOver, CellOver, balance_over}
-use Rattle.cell_balance.proofs.Scaling.{mul_swap, over_zero}
+use Rattle.cell_balance.proofs.Scaling.{over_zero}
 use Rattle.cell_balance.proofs.Whole.{WholeFixed, WholeCell, whole_at, no_whole}
 use Rattle.cell_balance.proofs.Wholes.{whole_step}
 use Rattle.cell_balance.proofs.Zips.{AllZip-at, AllZip-length}
 use Rattle.exact_solutions.proofs.Equal.{cancel_same}
+use Rattle.decimal_input.proofs.Signs.{swap}
 
 pub record FixedAgrees (x y : ExactFixed) : Type 0 where
   pub conductance : x.conductance ≡ y.conductance
@@ -40,7 +41,7 @@ agrees_itself (x ∷ xs) = (record { flows = refl; links = refl; fixed = fixed_a
 over_same : (m : ℕ) (f g : Fraction) (z : ℤ) → Same f g → IsOver m f z → IsOver m g z
 over_same m f g z same h = record {
   is = cancel_same (den f) _ _ (omega arith)
-      (mul_swap g.num (pos m) (pos (den f)) ∙ ap (λ (x : ℤ). x *ℤ pos m) (sym same.same) ∙ mul_swap f.num (pos (den g)) (pos m) ∙ ap (λ (x : ℤ). x *ℤ pos (den g)) h.is ∙ mul_swap z (pos (den f)) (pos (den g)));
+      (swap g.num (pos m) (pos (den f)) ∙ ap (λ (x : ℤ). x *ℤ pos m) (sym same.same) ∙ swap f.num (pos (den g)) (pos m) ∙ ap (λ (x : ℤ). x *ℤ pos (den g)) h.is ∙ swap z (pos (den f)) (pos (den g)));
 }
 
 module _ (k m : ℕ) where

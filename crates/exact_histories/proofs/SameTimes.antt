@@ -10,11 +10,11 @@ use Rattle.model_types.specs.declared.model.FlowModel.{FlowModel}
 use Rattle.model_types.specs.declared.time_steps.TimeStep.{TimeStep}
 use Rattle.cell_balance.specs.Solutions.{SolvesStep}
 use Rattle.cell_balance.specs.Steps.{cell_at, no_cell}
-use Rattle.cell_balance.proofs.Scaling.{mul_swap}
 use Rattle.exact_solutions.proofs.Equal.{cancel_same}
 use Rattle.flow_equations.specs.ExactStep.{exact_step, exact_cell, exact_fixed}
 use Rattle.flow_equations.specs.Histories.{variable_heads, SolvesAt}
 use Rattle.exact_histories.proofs.SameSteps.{FixedAgrees, CellAgrees, same_heads_solve}
+use Rattle.decimal_input.proofs.Signs.{swap}
 
 -- heads before a step that are the same numbers give steps that agree
 module _ (m : FlowModel) (p n : ℕ) (old new : ℕ → Fraction) where
@@ -38,7 +38,7 @@ module _ (m : FlowModel) (p n : ℕ) (old new : ℕ → Fraction) where
 pub over_again : (d k : ℕ) (f : Fraction) (x y : ℤ) → 0 < d → x *ℤ pos k ≡ y *ℤ pos d → IsOver d f x → IsOver k f y
 over_again d k f x y some e over = record {
   is = cancel_same d _ _ some
-      (mul_swap f.num (pos k) (pos d) ∙ ap (λ (z : ℤ). z *ℤ pos k) over.is ∙ mul_swap x (pos (den f)) (pos k) ∙ ap (λ (z : ℤ). z *ℤ pos (den f)) e ∙ mul_swap y (pos d) (pos (den f)));
+      (swap f.num (pos k) (pos d) ∙ ap (λ (z : ℤ). z *ℤ pos k) over.is ∙ swap x (pos (den f)) (pos k) ∙ ap (λ (z : ℤ). z *ℤ pos (den f)) e ∙ swap y (pos d) (pos (den f)));
 }
 
 -- the same heads, however they and those before are written, have zero balances at the same time

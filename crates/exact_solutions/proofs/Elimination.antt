@@ -5,9 +5,9 @@ use Rattle.std.proofs.lemmas.Bool.{cases_eq}
 use Rattle.std.proofs.lemmas.Int.{by_lt_z, ints}
 use Rattle.step_problem.proofs.Ring.{as_diff, diffs, mul_nonneg, same_diff}
 use Rattle.cell_balance.specs.Components.{sum_below}
-use Rattle.cell_balance.proofs.Encloses.{some_product}
 use Rattle.cell_balance.proofs.Products.{cancel_le}
 use Rattle.exact_solutions.proofs.LastCell.{with_last, with_last-at, with_last-below, sum_below-with_last, sum_below-combined}
+use Rattle.cell_balance.proofs.Denominators.{some_product}
 
 -- An inverse-positive matrix: where D i * X i is at least the sum of a i j * X j in each row, no X i is below 0. (Textbook; cell i has the total conductance D i, and conducts a i j to cell j.)
 abbrev pub IsInversePositive : ℕ → (ℕ → ℕ → ℤ) → (ℕ → ℤ) → Type 0

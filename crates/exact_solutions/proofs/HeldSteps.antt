@@ -2,12 +2,10 @@
 use Rattle.std.proofs.Common.{◌*◌, ◌^◌, ◌∙◌, arith, length, pos}
 use Rattle.decimal_input.proofs.Powers.{ten_pos}
 use Rattle.cell_balance.specs.Enclosures.{CellEncloses}
-use Rattle.cell_balance.proofs.Denominators.{step_common}
+use Rattle.cell_balance.proofs.Denominators.{step_common, some_product}
 use Rattle.cell_balance.proofs.Enclosed.{step_within}
-use Rattle.cell_balance.proofs.Encloses.{some_product}
 use Rattle.cell_balance.proofs.Linked.{linked, links_good}
 use Rattle.cell_balance.proofs.Mutual.{mutual_whole}
-use Rattle.cell_balance.proofs.Scaling.{mul_swap}
 use Rattle.cell_balance.proofs.Wholes.{whole_step}
 use Rattle.cell_balance.proofs.Within.{CellWithin}
 use Rattle.cell_balance.proofs.Zips.{AllZip-length}
@@ -19,6 +17,7 @@ use Rattle.exact_solutions.proofs.Existence.{whole_solution_exists}
 use Rattle.exact_solutions.proofs.WholeRamps.{ramps_from, a_of, b_of, q_of}
 use Rattle.exact_solutions.proofs.HeldWholes.{both_ways, held_below, held_above}
 use Rattle.exact_solutions.proofs.WholeSolutions.{solves_step, solves_whole}
+use Rattle.decimal_input.proofs.Signs.{swap}
 
 pub solution_exists : HeldHaveASolution
 solution_exists p fits held above s e encloses =
@@ -44,4 +43,4 @@ solution_is_one p fits held s e encloses d k X Y some_d some_k solves_x solves_y
     let x = solves_whole (n * 10 ^ s) (n * 10 ^ 9) some_k' some_m e w over both d X some_d solves_x in
     let y = solves_whole (n * 10 ^ s) (n * 10 ^ 9) some_k' some_m e w over both k Y some_k solves_y in
     let same = one_whole_solution (length w) (a_of w) (b_of w) (q_of w) (ramps_from 0 w) (both_ways n n some_n some_n p w within both) (held_below n n some_n some_n p w within both held) d k _ _ x y c (omega (arith, i, AllZip-length (CellEncloses s) p e encloses.cells, AllZip-length (CellWithin n n (length p)) p w within)) in
-    crossed_same d k (X c) (Y c) some_d some_k (cancel_same (n * 10 ^ 9) _ _ some_m (mul_swap (X c) (pos k) (pos (n * 10 ^ 9)) ∙ same ∙ mul_swap (Y c) (pos (n * 10 ^ 9)) (pos d)))
+    crossed_same d k (X c) (Y c) some_d some_k (cancel_same (n * 10 ^ 9) _ _ some_m (swap (X c) (pos k) (pos (n * 10 ^ 9)) ∙ same ∙ swap (Y c) (pos (n * 10 ^ 9)) (pos d)))

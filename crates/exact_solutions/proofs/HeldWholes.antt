@@ -10,8 +10,7 @@ use Rattle.step_problem.specs.Flows.{total}
 use Rattle.cell_balance.specs.Components.{IsHeldBelow, Reaches, deep_low, sum_inside}
 use Rattle.cell_balance.proofs.Cancel.{IsMutual}
 use Rattle.cell_balance.proofs.Deep.{deep_less}
-use Rattle.cell_balance.proofs.Encloses.{some_product}
-use Rattle.cell_balance.proofs.Products.{conducting, mul_mono_right}
+use Rattle.cell_balance.proofs.Products.{conducting}
 use Rattle.cell_balance.proofs.Spread.{Reaches-more}
 use Rattle.cell_balance.proofs.Sums.{sum-times, sum_at_most}
 use Rattle.cell_balance.proofs.Whole.{WholeCell, WholeDrain, WholeEvap, WholeRiver, no_whole, whole_at, whole_deep, whole_deep_river, whole_full}
@@ -21,6 +20,8 @@ use Rattle.exact_solutions.specs.Held.{IsAnchoredAbove, IsHeldAbove}
 use Rattle.exact_solutions.proofs.Ramps.{extent, open_conductance, open_conductance_at, IsClosed, AreMutual, deep, IsHeldFromBelow, IsHeldFromAbove}
 use Rattle.exact_solutions.proofs.WholeRamps.{ramps_from, a_of, b_of, q_of, ramps_at_cell}
 use Rattle.exact_solutions.proofs.Conducting.{All-back, weight_nonneg, links_lead_to_weight, weight_is_of_links, none_conduct, total_positive, no_known_conductance, no_known_flow, total_nothing}
+use Rattle.decimal_input.proofs.Signs.{mul_mono_right}
+use Rattle.cell_balance.proofs.Denominators.{some_product}
 
 -- a cell without a conductance to a known head has its deep flow
 deep-loose : (w : List WholeCell) (i : ℕ) → b_of w i ≡ 0 → deep (length w) (a_of w) (b_of w) (q_of w) (ramps_from 0 w) i ≡ whole_deep (whole_at w i)

@@ -18,8 +18,8 @@ use Rattle.cell_balance.specs.Links.{AreLinked}
 use Rattle.cell_balance.specs.Solutions.{share, SolvesStep}
 use Rattle.cell_balance.specs.Steps.{ExactRiver, ExactEvap, ExactCell, cell_at, no_cell}
 use Rattle.cell_balance.proofs.Cancel.{IsMutual, closed_cancel}
-use Rattle.cell_balance.proofs.Denominators.{step_common}
-use Rattle.cell_balance.proofs.Encloses.{some_product, whole_solves}
+use Rattle.cell_balance.proofs.Denominators.{step_common, some_product}
+use Rattle.cell_balance.proofs.Encloses.{whole_solves}
 use Rattle.cell_balance.proofs.ExactLaws.{heads_over}
 use Rattle.cell_balance.proofs.Falling.{whole_falls}
 use Rattle.cell_balance.proofs.Mutual.{mutual_whole}
@@ -33,11 +33,11 @@ use Rattle.cell_balance.proofs.Wholes.{whole_step}
 use Rattle.cell_balance.proofs.Zips.{AllZip-at, AllZip-length, All-zip}
 use Rattle.exact_solutions.specs.Loose.{IsLoose}
 use Rattle.exact_solutions.specs.LooseLaws.{DrainedHaveAnother, AfloatHaveAnother}
-use Rattle.exact_solutions.proofs.Equal.{at_most_both}
 use Rattle.exact_solutions.proofs.Lowered.{without_links, lowered, balance-links, lowered_balances}
 use Rattle.exact_solutions.proofs.Shares.{same_crossed}
 use Rattle.exact_solutions.proofs.TightSums.{sum_below-tight}
 use Rattle.exact_solutions.proofs.WholeSolutions.{whole_balances_solve}
+use Rattle.step_problem.proofs.BothSides.{le_anti}
 
 total-none : {X : Type 0} (P : X → Type 0) (f : X → ℤ) (xs : List X) → ((x : X) → P x → f x ≡ pos 0) → All P xs → total f xs ≡ pos 0
 total-none P f [] each all = refl
@@ -178,7 +178,7 @@ module _ (e : List ExactCell) (inside : ℕ → Bool) (linked : AreLinked e) (lo
 
       pub drained_stays : (c : ℕ) → c < length e → inside c ≡ true → whole_balance (without_links (whole_at w c)) (Y c -ℤ pos 1) Y ≡ whole_balance (without_links (whole_at w c)) (Y c) Y
       drained_stays c i t =
-          at_most_both _ _
+          le_anti _ _
           (through _ _ _ (flows_at_most_deep (whole_at w c) (Y c -ℤ pos 1) Y (no_fixed c i t) (no_evaps c i t)) (deep_reached c (omega (arith, i, same_length)) t))
           (whole_falls (without_links (whole_at w c)) (Y c -ℤ pos 1) (Y c) Y (lower (Y c)))
         where

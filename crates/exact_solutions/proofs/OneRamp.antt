@@ -2,11 +2,9 @@
 use Rattle.std.proofs.Common.{◌*ℤ◌, ◌+ℤ◌, ◌-ℤ◌, ◌<◌, ◌∙◌, ◌∷◌, ◌≡◌, ◌≤ℤ◌, List, Option, Some, ap, arith, cond, nat_eq, neg_ℤ, pos, refl, subst, sym, ℕ, ℤ}
 use Rattle.std.proofs.Math.IntN.{*ℤ-zero}
 use Rattle.std.proofs.lemmas.Int.{ints}
-use Rattle.decimal_input.proofs.Signs.{cancel_right}
+use Rattle.decimal_input.proofs.Signs.{cancel_right, mul_mono_right, swap}
 use Rattle.step_problem.proofs.Falls.{loss_falls}
 use Rattle.step_problem.proofs.Ring.{as_diff, diffs, mul_mono, same_diff}
-use Rattle.cell_balance.proofs.Products.{mul_mono_right}
-use Rattle.cell_balance.proofs.Scaling.{mul_swap}
 use Rattle.cell_balance.proofs.Totals.{sub_mul}
 use Rattle.exact_solutions.proofs.Equal.{same_at_most, same_at_least}
 use Rattle.exact_solutions.proofs.Ramps.{Ramp, rise, ramp_flow, AreMutual, net_flow, IsHeldFromBelow, IsSolution, HasWholeSolution, IsSinking, HasSinking}
@@ -18,13 +16,13 @@ use Rattle.exact_solutions.proofs.Regimes.{ramp, flow-middle, flow-full, held_wi
 
 -- (y * e ≤ x * d), and x at most t * e
 below_over : (e d : ℕ) (x y t : ℤ) → 0 < e → (y *ℤ pos e) ≤ℤ (x *ℤ pos d) → x ≤ℤ (t *ℤ pos e) → y ≤ℤ (t *ℤ pos d)
-below_over e d x y t some h k = cancel_right e y (t *ℤ pos d) some (step _ _ _ _ (mul_swap t (pos e) (pos d)) h (mul_mono_right d x (t *ℤ pos e) k))
+below_over e d x y t some h k = cancel_right e y (t *ℤ pos d) some (step _ _ _ _ (swap t (pos e) (pos d)) h (mul_mono_right d x (t *ℤ pos e) k))
   where
     step : (a c f g : ℤ) → c ≡ f → a ≤ℤ g → g ≤ℤ c → a ≤ℤ f
     step a c f g q h k = omega (arith, ints)
 
 above_over : (e d : ℕ) (x y u : ℤ) → 0 < e → (x *ℤ pos d) ≤ℤ (y *ℤ pos e) → (u *ℤ pos e) ≤ℤ x → (u *ℤ pos d) ≤ℤ y
-above_over e d x y u some h k = cancel_right e (u *ℤ pos d) y some (step _ _ _ _ (mul_swap u (pos e) (pos d)) h (mul_mono_right d (u *ℤ pos e) x k))
+above_over e d x y u some h k = cancel_right e (u *ℤ pos d) y some (step _ _ _ _ (swap u (pos e) (pos d)) h (mul_mono_right d (u *ℤ pos e) x k))
   where
     step : (a c f g : ℤ) → c ≡ f → g ≤ℤ a → c ≤ℤ g → f ≤ℤ a
     step a c f g q h k = omega (arith, ints)

@@ -4,14 +4,15 @@ use Rattle.std.specs.Int.{int_min}
 use Rattle.std.proofs.Math.IntN.{zero-*ℤ}
 use Rattle.step_problem.specs.Flows.{total}
 use Rattle.step_problem.proofs.Ring.{as_diff, diffs, mul_assoc, same_diff}
-use Rattle.cell_balance.proofs.Encloses.{some_product}
-use Rattle.cell_balance.proofs.Products.{mul_mono_right}
 use Rattle.cell_balance.proofs.Scaling.{max_times, min_times}
 use Rattle.cell_balance.proofs.Sums.{sum-same, sum-times}
 use Rattle.cell_balance.proofs.Totals.{add_mul, sub_mul}
-use Rattle.exact_solutions.proofs.Equal.{at_most_both, same_at_most, same_at_least}
+use Rattle.exact_solutions.proofs.Equal.{same_at_most, same_at_least}
 use Rattle.exact_solutions.proofs.Ramps.{Ramp, rise, ramp_flow, link_flow, AreMutual, net_flow, IsHeldFromBelow, IsSolution}
 use Rattle.exact_solutions.proofs.Comparison.{comparison}
+use Rattle.decimal_input.proofs.Signs.{mul_mono_right}
+use Rattle.step_problem.proofs.BothSides.{le_anti}
+use Rattle.cell_balance.proofs.Denominators.{some_product}
 
 -- heads, feet and tops times k
 rise_scaled : (t : ℤ) (top : Option ℤ) (d k : ℕ) (x : ℤ) → rise t top (d * k) (x *ℤ pos k) ≡ rise t top d x *ℤ pos k
@@ -67,6 +68,6 @@ module _ (n : ℕ) (a : ℕ → ℕ → ℤ) where
 pub one_whole_solution : (n : ℕ) (a : ℕ → ℕ → ℤ) (b : ℕ → ℕ) (q : ℕ → ℤ) (ramps : List Ramp) → AreMutual n a → IsHeldFromBelow n a b q ramps →
     (d k : ℕ) (X Y : ℕ → ℤ) → IsSolution n a b q ramps d X → IsSolution n a b q ramps k Y → (i : ℕ) → i < n → X i *ℤ pos k ≡ Y i *ℤ pos d
 one_whole_solution n a b q rs both held d k X Y one two i h =
-    at_most_both _ _
+    le_anti _ _
     (comparison_over n a b q rs both held k d Y X two.some one.some (λ j g. same_at_most _ _ (two.solves j g)) (λ j g. same_at_least _ _ (one.solves j g)) i h)
     (comparison_over n a b q rs both held d k X Y one.some two.some (λ j g. same_at_most _ _ (one.solves j g)) (λ j g. same_at_least _ _ (two.solves j g)) i h)

@@ -7,7 +7,7 @@ use Rattle.std.proofs.lemmas.List.Elements.{All-head, All-tail}
 use Rattle.step_problem.specs.Flows.{total}
 use Rattle.step_problem.proofs.Ring.{as_diff, diffs, same_diff}
 use Rattle.cell_balance.specs.Components.{sum_below}
-use Rattle.cell_balance.proofs.Cancel.{weight}
+use Rattle.cell_balance.proofs.Cancel.{weight, by_weight}
 use Rattle.cell_balance.proofs.Sums.{sum-add, sum-one, sum-same, sum-zero}
 use Rattle.cell_balance.proofs.Totals.{add_mul}
 use Rattle.cell_balance.proofs.Whole.{WholeCell, WholeFixed, WholeLink, WholeRiver, whole_at, whole_balance, whole_deep_river, whole_drain, whole_evap, whole_fixed, whole_river}
@@ -61,16 +61,6 @@ rivers_scaled_total d i y (x ∷ xs) = rw (rivers_scaled_total d i y xs, apart y
 
     ring : (c s b d m t g : ℤ) → c *ℤ (s *ℤ d -ℤ (b *ℤ d +ℤ m)) +ℤ (d *ℤ t +ℤ g) ≡ d *ℤ (c *ℤ (s -ℤ b) +ℤ t) +ℤ (neg_ℤ (c *ℤ m) +ℤ g)
     ring c s b d m t g = rw (as_diff c, as_diff s, as_diff b, as_diff d, as_diff m, as_diff t, as_diff g) (simp diffs (same_diff _ _ _ _ (omega arith)))
-
--- the flow over a list of links, by the cells that they lead to
-by_weight : (n : ℕ) (xs : List WholeLink) (g : ℕ → ℤ) → All (λ x. x.cell < n) xs → total (λ x. pos x.c *ℤ g x.cell) xs ≡ sum_below n (λ k. weight xs k *ℤ g k)
-by_weight n [] g h = sym (sum-same n _ (λ k. pos 0) (λ k i. zero-*ℤ (g k)) ∙ sum-zero n)
-by_weight n (x ∷ xs) g h =
-    let range = All-head (λ y. y.cell < n) x xs h in
-    let others = by_weight n xs g (All-tail (λ y. y.cell < n) x xs h) in
-    sym (sum-same n _ _ (λ k i. add_mul (cond (nat_eq x.cell k) (pos x.c) (pos 0)) (weight xs k) (g k))
-    ∙ sum-add n (λ k. cond (nat_eq x.cell k) (pos x.c) (pos 0) *ℤ g k) (λ k. weight xs k *ℤ g k)
-    ∙ rw (sum-one n x.cell (pos x.c) g range, others) refl)
 
 -- a cell's balance at heads over d
 pub scaled_balance : (w : List WholeCell) (d : ℕ) (X : ℕ → ℤ) (i : ℕ) → All (λ x. x.cell < length w) (whole_at w i).links → whole_balance (scaled d (whole_at w i)) (X i) X ≡ net_flow (length w) (a_of w) (b_of w) (q_of w) (ramps_from 0 w) d X i

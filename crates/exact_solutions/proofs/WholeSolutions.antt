@@ -7,14 +7,16 @@ use Rattle.cell_balance.specs.Balance.{balance}
 use Rattle.cell_balance.specs.Solutions.{SolvesStep, share}
 use Rattle.cell_balance.specs.Steps.{ExactCell, cell_at, no_cell}
 use Rattle.cell_balance.proofs.Cancel.{IsMutual}
-use Rattle.cell_balance.proofs.Encloses.{share_is, some_product, whole_solves}
+use Rattle.cell_balance.proofs.Encloses.{share_is, whole_solves}
 use Rattle.cell_balance.proofs.Over.{CellOver, DrainOver, EvapOver, FixedOver, FlowOver, LinkOver, RiverOver, balance_over}
-use Rattle.cell_balance.proofs.Scaling.{mul_swap, over_zero}
+use Rattle.cell_balance.proofs.Scaling.{over_zero}
 use Rattle.cell_balance.proofs.Whole.{WholeCell, no_whole, whole_at, whole_balance}
 use Rattle.cell_balance.proofs.Zips.{AllZip-at, AllZip-length}
 use Rattle.exact_solutions.proofs.Ramps.{IsSolution}
 use Rattle.exact_solutions.proofs.WholeRamps.{ramps_from, a_of, b_of, q_of}
 use Rattle.exact_solutions.proofs.WholeBalances.{scaled, scaled_balance}
+use Rattle.decimal_input.proofs.Signs.{swap}
+use Rattle.cell_balance.proofs.Denominators.{some_product}
 
 AllZip-map : {X Y Z : Type 0} (R : X → Y → Type 0) (S : X → Z → Type 0) (f : Y → Z) → ((x : X) (y : Y) → R x y → S x (f y)) → (xs : List X) (ys : List Y) → AllZip R xs ys → AllZip S xs (map f ys)
 AllZip-map R S f each [] [] h = tt
@@ -23,7 +25,7 @@ AllZip-map R S f each (x ∷ xs) [] h = absurd h
 AllZip-map R S f each (x ∷ xs) (y ∷ ys) h = (each x y h.0, AllZip-map R S f each xs ys h.1)
 
 pub IsOver-scaled : (m d : ℕ) (f : Fraction) (z : ℤ) → IsOver m f z → IsOver (m * d) f (z *ℤ pos d)
-IsOver-scaled m d f z h = record { is = sym (mul_assoc f.num (pos m) (pos d)) ∙ ap (λ (y : ℤ). y *ℤ pos d) h.is ∙ mul_swap z (pos (den f)) (pos d) }
+IsOver-scaled m d f z h = record { is = sym (mul_assoc f.num (pos m) (pos d)) ∙ ap (λ (y : ℤ). y *ℤ pos d) h.is ∙ swap z (pos (den f)) (pos d) }
 
 module _ (k m d : ℕ) where
   cell_scaled : (e : ExactCell) (w : WholeCell) → CellOver k m e w → CellOver k (m * d) e (scaled d w)

@@ -8,8 +8,6 @@ use Rattle.step_problem.proofs.Leasts.{neg_mul}
 use Rattle.cell_balance.specs.Solutions.{share, SolvesStep}
 use Rattle.cell_balance.proofs.Encloses.{whole_solves}
 use Rattle.cell_balance.proofs.Over.{CellOver}
-use Rattle.cell_balance.proofs.Products.{mul_mono_right}
-use Rattle.cell_balance.proofs.Scaling.{mul_swap}
 use Rattle.cell_balance.proofs.Totals.{add_mul, sub_mul}
 use Rattle.cell_balance.proofs.Whole.{WholeCell, whole_at, whole_balance}
 use Rattle.exact_solutions.specs.Counts.{HasNoneOrMany}
@@ -17,6 +15,7 @@ use Rattle.exact_solutions.specs.Worked.{river_and_well, linked_to, two_cells}
 use Rattle.exact_solutions.specs.WorkedLaws.{WellPastDeepFlow, WellWithinDeepFlow, WellOfDeepFlow, TwoLooseCells}
 use Rattle.exact_solutions.proofs.Shares.{crossed_same, same_crossed}
 use Rattle.exact_solutions.proofs.WholeSolutions.{share_is_over, whole_balances_solve}
+use Rattle.decimal_input.proofs.Signs.{mul_mono_right, swap}
 
 -- a whole number over d
 whole_over : (d : ℕ) (z : ℤ) → IsOver d (whole z) (z *ℤ pos d)
@@ -105,7 +104,7 @@ well_within_deep_flow taken less = (
     one d k X Y some_d some_k solves_x solves_y zero h = crossed_same d k (X 0) (Y 0) some_d some_k (crossed (pos 5 -ℤ pos taken) (pos d) (pos k) (X 0) (Y 0) (head_is d X some_d solves_x) (head_is k Y some_k solves_y))
       where
         crossed : (h d k x y : ℤ) → x ≡ h *ℤ d → y ≡ h *ℤ k → x *ℤ k ≡ y *ℤ d
-        crossed h d k x y e f = rw (e, f) (mul_swap h d k)
+        crossed h d k x y e f = rw (e, f) (swap h d k)
     one d k X Y some_d some_k solves_x solves_y (suc c) h = absurd (omega (arith, h))
 
 -- where the well takes the deep flow, every head at or below the bottom is a solution

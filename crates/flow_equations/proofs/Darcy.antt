@@ -9,9 +9,7 @@ use Rattle.model_types.specs.Layers.{delr_at, delc_at, hk_at, hani_at, thickness
 use Rattle.model_types.specs.Conductances.{one, half, in_a_row, row_conductance, column_conductance}
 use Rattle.flow_equations.specs.BranchLaws.{IsSameFromBothEnds, AreAlike, AreAlikeInAColumn, IsBetweenHalves}
 use Rattle.flow_equations.proofs.Values.{itself, value_one, value_two, value_times, value_plus, value_over, same_by, cross_by, at_most_by, size_positive}
-
-positive : (a b : ℕ) → 0 < a → 0 < b → 0 < a * b
-positive a b p q = grind arith
+use Rattle.flow_equations.proofs.TurnedFlows.{product_positive}
 
 -- two resistances in either order
 sums : (a x b y : ℕ) → a * y + b * x ≡ b * x + a * y
@@ -50,12 +48,12 @@ pub darcy_of : (d w k t : Ratio) → 0 < d.num → 0 < w.num → 0 < k.num → 0
 unfolding in_a_row half
 darcy_of d w k t hd hw hk ht =
     let divisor = value_times (value_times (value_times value_two (itself w)) (itself k)) (itself t) in
-    let some : 0 < ((2 * w.num) * k.num) * t.num = positive ((2 * w.num) * k.num) t.num (positive (2 * w.num) k.num (omega (arith, hw)) hk) ht in
+    let some : 0 < ((2 * w.num) * k.num) * t.num = product_positive ((2 * w.num) * k.num) t.num (product_positive (2 * w.num) k.num (omega (arith, hw)) hk) ht in
     let resistance = value_over some (itself d) divisor in
-    let above : 0 < d.num * (((1 * den w) * den k) * den t) = positive d.num (((1 * den w) * den k) * den t) hd (positive ((1 * den w) * den k) (den t) (positive (1 * den w) (den k) (omega arith) (omega arith)) (omega arith)) in
-    let below : 0 < den d * (((2 * w.num) * k.num) * t.num) = positive (den d) (((2 * w.num) * k.num) * t.num) (omega arith) some in
+    let above : 0 < d.num * (((1 * den w) * den k) * den t) = product_positive d.num (((1 * den w) * den k) * den t) hd (product_positive ((1 * den w) * den k) (den t) (product_positive (1 * den w) (den k) (omega arith) (omega arith)) (omega arith)) in
+    let below : 0 < den d * (((2 * w.num) * k.num) * t.num) = product_positive (den d) (((2 * w.num) * k.num) * t.num) (omega arith) some in
     let sum = value_plus resistance resistance in
-    same_by (value_over (let r = positive (d.num * (((1 * den w) * den k) * den t)) (den d * (((2 * w.num) * k.num) * t.num)) above below in omega (arith, r)) value_one sum)
+    same_by (value_over (let r = product_positive (d.num * (((1 * den w) * den k) * den t)) (den d * (((2 * w.num) * k.num) * t.num)) above below in omega (arith, r)) value_one sum)
     (value_over hd (value_times (value_times (itself k) (itself t)) (itself w)) (itself d))
     (equal_halves d.num (den d) w.num (den w) k.num (den k) t.num (den t))
 
@@ -77,7 +75,7 @@ meets_darcy_along_columns m a b h =
     λ i. in_a_row (half d w k t) (half (size (sym h.delc i)) w (times (size (sym h.hk i)) (size (sym h.hani i))) (sym h.thickness_of i)) in
     let hk = size_positive _ h.positive.0 in
     let hani = size_positive _ h.positive.1 in
-    let product : 0 < k.num = let r = positive _ _ hk hani in omega (arith, (value_times (itself (size (hk_at m a))) (itself (size (hani_at m a)))).num, r) in
+    let product : 0 < k.num = let r = product_positive _ _ hk hani in omega (arith, (value_times (itself (size (hk_at m a))) (itself (size (hani_at m a)))).num, r) in
     Same-trans (as_same same) (darcy_of d w k t (size_positive _ h.widths.0) (size_positive _ h.widths.1) product h.positive.2)
 
 -- k t w / d where k and t are 1 and w is d
@@ -98,7 +96,7 @@ unit_branch m a b h square k t =
     (same_by value value_one (units _ _ _ _ _ _ _ _ (cross_by (itself (size (hk_at m a))) value_one k) (cross_by (itself (thickness m a)) value_one t) square.cross))
 
 above_zero : (a x b y : ℕ) → 0 < a → 0 < y → a * y ≤ b * x → 0 < b
-above_zero a x zero y h k le = let p = positive a y h k in absurd (omega (arith, p, le))
+above_zero a x zero y h k le = let p = product_positive a y h k in absurd (omega (arith, p, le))
 above_zero a x (suc b) y h k le = omega arith
 
 -- between the halves
@@ -120,7 +118,7 @@ pub between_halves : (r q : Ratio) → 0 < r.num → AtMost r q → IsBetweenHal
 unfolding in_a_row
 between_halves r q some le =
     let second : 0 < q.num = above_zero r.num (den r) q.num (den q) some (omega arith) le.cross in
-    let sum : 0 < r.num * den q + q.num * den r = let p = positive r.num (den q) some (omega arith) in omega (arith, p) in
+    let sum : 0 < r.num * den q + q.num * den r = let p = product_positive r.num (den q) some (omega arith) in omega (arith, p) in
     let whole = value_times value_two (value_over sum value_one (value_plus (itself r) (itself q))) in
     record {
       least = at_most_by (value_over second value_one (itself q)) whole (lesser_half r.num (den r) q.num (den q) le.cross);

@@ -1,4 +1,4 @@
-mod Values
+pub mod Values
 pub mod Links
 mod Darcy
 mod StepSums

@@ -20,11 +20,11 @@ Ordered-map R S f [] h k = tt
 Ordered-map R S f (x ∷ xs) h k =
     ((λ y i. let (z, j, e) = map-In f xs y i in subst (S (f x)) e (h x z (inl refl) (inr j) (k.0 z j))), Ordered-map R S f xs (λ a b i j. h a b (inr i) (inr j)) k.1)
 
-length-map : {X Y : Type 0} (f : X → Y) (xs : List X) → length (map f xs) ≡ length xs
+pub length-map : {X Y : Type 0} (f : X → Y) (xs : List X) → length (map f xs) ≡ length xs
 length-map f [] = refl
 length-map f (x ∷ xs) = ap suc (length-map f xs)
 
-get_or-map : {X Y : Type 0} (f : X → Y) (xs : List X) (i : ℕ) (d : X) (e : Y) → i < length xs → get_or (map f xs) i e ≡ f (get_or xs i d)
+pub get_or-map : {X Y : Type 0} (f : X → Y) (xs : List X) (i : ℕ) (d : X) (e : Y) → i < length xs → get_or (map f xs) i e ≡ f (get_or xs i d)
 get_or-map f [] i d e lt = absurd (omega arith)
 get_or-map f (x ∷ xs) zero d e lt = refl
 get_or-map f (x ∷ xs) (suc i) d e lt = get_or-map f xs i d e (omega arith)

@@ -14,9 +14,7 @@ use Rattle.model_types.specs.Storage.{storage, storage_capacity}
 use Rattle.model_types.proofs.Ranks.{range_more}
 use Rattle.flow_equations.specs.TimeLaws.{ratio_total, Lasts, HasManualSteps}
 use Rattle.flow_equations.proofs.Values.{IsValue, itself, value_one, value_times, value_plus, value_over, same_by, size_positive}
-
-positive : (a b : ℕ) → 0 < a → 0 < b → 0 < a * b
-positive a b p q = grind arith
+use Rattle.flow_equations.proofs.TurnedFlows.{product_positive}
 
 pub Same-self : (f : Ratio) → Same f f
 Same-self f = record { cross = refl }
@@ -24,8 +22,8 @@ Same-self f = record { cross = refl }
 pub as_same : {f g : Ratio} → f ≡ g → Same f g
 as_same {f} e = subst (Same f) e (record { cross = refl })
 
-both : {f g : Ratio} → Same f g → (f.num * den g ≤ g.num * den f) × (g.num * den f ≤ f.num * den g)
-both s = (omega (arith, s.cross), omega (arith, s.cross))
+same_in_both_orders : {f g : Ratio} → Same f g → (f.num * den g ≤ g.num * den f) × (g.num * den f ≤ f.num * den g)
+same_in_both_orders s = (omega (arith, s.cross), omega (arith, s.cross))
 
 pub value_ratio : (n : ℕ) → IsValue (ratio n 1) n 1
 unfolding ratio
@@ -63,13 +61,13 @@ over-Same {f} {g} {h} {k} hp kp p q = same_by (value_over hp (itself f) (itself 
 power_positive : (t : Ratio) (n : ℕ) → 0 < t.num → 0 < (power t n).num
 unfolding power
 power_positive t zero h = omega (arith, value_one.num)
-power_positive t (suc n) h = let r = positive (power t n).num t.num (power_positive t n h) h in omega (arith, (value_times (itself (power t n)) (itself t)).num, r)
+power_positive t (suc n) h = let r = product_positive (power t n).num t.num (power_positive t n h) h in omega (arith, (value_times (itself (power t n)) (itself t)).num, r)
 
 geometric_positive : (t : Ratio) (n : ℕ) → 0 < t.num → 1 ≤ n → 0 < (geometric t n).num
 unfolding geometric
 geometric_positive t zero h some = absurd (omega arith)
 geometric_positive t (suc n) h some =
-    let p = positive (power t n).num (den (geometric t n)) (power_positive t n h) (omega arith) in
+    let p = product_positive (power t n).num (den (geometric t n)) (power_positive t n h) (omega arith) in
     omega (arith, (value_plus (itself (geometric t n)) (itself (power t n))).num, p)
 
 -- G(n) + t ^ n is G(n) t + 1
@@ -127,7 +125,7 @@ module _ (P g : Ratio) (some : 0 < g.num) where
   as_part q = same_by (value_over some (value_times (itself P) (itself q)) (itself g)) (value_times (value_over some (itself q) (itself g)) (itself P)) (omega arith)
 
   capacity_over : (c w : Ratio) → 0 < P.num → 0 < w.num → Same (times (over (times c g) (times P w)) (over (times P w) g)) c
-  capacity_over c w h k = same_by (value_times (value_over (positive P.num w.num h k) (value_times (itself c) (itself g)) (value_times (itself P) (itself w))) (value_over some (value_times (itself P) (itself w)) (itself g))) (itself c) (omega arith)
+  capacity_over c w h k = same_by (value_times (value_over (product_positive P.num w.num h k) (value_times (itself c) (itself g)) (value_times (itself P) (itself w))) (value_over some (value_times (itself P) (itself w)) (itself g))) (itself c) (omega arith)
 
 cancel : (n : ℕ) → 1 + n - 1 ≡ n
 cancel n = omega arith

@@ -25,8 +25,8 @@ over_second f g = record { is = sym (mul_assoc g.num (pos (den f)) (pos (den g))
 pub own_share : (r : Ratio) → IsShare (ratio_den r) r r.num
 own_share r = record { is = omega arith }
 
-pub positive : (a b : ℕ) → 0 < a → 0 < b → 0 < a * b
-positive a b p q = grind arith
+pub product_positive : (a b : ℕ) → 0 < a → 0 < b → 0 < a * b
+product_positive a b p q = grind arith
 
 -- C * (f - g) over one denominator
 flow_over : (r : Ratio) (m : ℕ) (f g : Fraction) (a b : ℤ) → IsOver m f a → IsOver m g b → IsOver (ratio_den r * m) (times (signed r) (minus f g)) (pos r.num *ℤ (a -ℤ b))
@@ -43,7 +43,7 @@ module _ (r : Ratio) (f g : Fraction) where
   b = g.num *ℤ pos (den f)
 
   some : 0 < ratio_den r * m
-  some = positive (ratio_den r) m (omega arith) (positive (den f) (den g) (omega arith) (omega arith))
+  some = product_positive (ratio_den r) m (omega arith) (product_positive (den f) (den g) (omega arith) (omega arith))
 
   abbrev flow : Fraction
   flow = times (signed r) (minus f g)

@@ -39,7 +39,8 @@ pub record AreAlikeInAColumn (m : FlowModel) (a b : ℕ) : Type 0 where
 -- Along columns the conductivity is HK * HANI: the conductance is HK * HANI * THICK * DELR / DELC.
 abbrev pub MeetsDarcyAlongColumns : FlowModel → Type 0
 MeetsDarcyAlongColumns m = (a b : ℕ) → AreAlikeInAColumn m a b →
-    Same (column_conductance m a b) (over (times (times (times (size (hk_at m a)) (size (hani_at m a))) (thickness m a)) (size (delr_at m a))) (size (delc_at m a)))
+    Same (column_conductance m a b)
+    (over (times (times (times (size (hk_at m a)) (size (hani_at m a))) (thickness m a)) (size (delr_at m a))) (size (delc_at m a)))
 
 -- Between square cells of unit conductivity and unit thickness it is 1.
 abbrev pub HasUnitBranches : FlowModel → Type 0

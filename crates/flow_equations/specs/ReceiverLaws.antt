@@ -14,9 +14,11 @@ use Rattle.model_types.specs.Times.{period_at}
 use Rattle.model_types.specs.Receivers.{EvapSource, is_chosen, is_highest}
 use Rattle.flow_equations.specs.ExactStep.{exact_cell, exact_evap}
 
--- An option chooses at most one cell of a column of layers: under 1 its cell of layer 1, under 2 the cell of the layer that the array names, under 3 its highest active cell.
+-- An option chooses at most one cell of a column of layers: under 1 its cell of layer 1, under 2 the cell of the layer that the
+-- array names, under 3 its highest active cell.
 pub record ChoosesOneCell (m : FlowModel) (layers : List ℤ) : Type 0 where
-  pub one : (option : ℤ) (a b : ℕ) → place_in_layer m.grid a ≡ place_in_layer m.grid b → is_chosen m option layers a ≡ true → is_chosen m option layers b ≡ true → a ≡ b
+  pub one : (option : ℤ) (a b : ℕ) → place_in_layer m.grid a ≡ place_in_layer m.grid b →
+      is_chosen m option layers a ≡ true → is_chosen m option layers b ≡ true → a ≡ b
   pub top : (c : ℕ) → layer_of m.grid c ≡ 0 → is_chosen m (pos 1) layers c ≡ true
   pub named : (c : ℕ) → int_at layers (place_in_layer m.grid c) ≡ pos (suc (layer_of m.grid c)) → is_chosen m (pos 2) layers c ≡ true
   pub highest : (c : ℕ) → is_active m c ≡ true → is_highest m c ≡ true → is_chosen m (pos 3) layers c ≡ true
@@ -27,7 +29,8 @@ recharge_of m p c = product (number (dec_at (period_at m p).recharge (place_in_l
 
 -- The cell that the option chooses receives its rate times its area, and no other cell receives recharge.
 pub record ReceivesRecharge (m : FlowModel) (p n : ℕ) (old : ℕ → Fraction) (c : ℕ) : Type 0 where
-  pub chosen : is_chosen m m.nrchop (period_at m p).irch c ≡ true → Contains (exact_cell m p n old c).flows (record { kind = Recharge; flow = recharge_of m p c })
+  pub chosen : is_chosen m m.nrchop (period_at m p).irch c ≡ true →
+      Contains (exact_cell m p n old c).flows (record { kind = Recharge; flow = recharge_of m p c })
   pub other : is_chosen m m.nrchop (period_at m p).irch c ≡ false → All (λ x. x.kind ≡ Wells) (exact_cell m p n old c).flows
 
 -- Evapotranspiration takes EVTR * DELR * DELC where the head is at SURF or above, and nothing where it is at SURF - EXDP or below.
@@ -36,4 +39,5 @@ pub record Evaporates (m : FlowModel) (c : ℕ) (v : Fraction) (x : EvapSource) 
   pub below : AtMost v (minus (number x.surface) (number x.depth)) → (evap_flow v e).num ≡ pos 0
 
 abbrev pub TakesEvapotranspiration : FlowModel → Type 0
-TakesEvapotranspiration m = (p n : ℕ) (old : ℕ → Fraction) (c : ℕ) (v : Fraction) (x : EvapSource) → IsPositive x.depth → Evaporates m c v x (exact_evap m p n old c x)
+TakesEvapotranspiration m = (p n : ℕ) (old : ℕ → Fraction) (c : ℕ) (v : Fraction) (x : EvapSource) → IsPositive x.depth →
+    Evaporates m c v x (exact_evap m p n old c x)

@@ -8,8 +8,10 @@ use Rattle.cell_balance.specs.Balance.{link_flow, fixed_flow}
 abbrev pub turned : ExactFixed → ExactFixed
 turned x = record { kind = x.kind; source = x.source; conductance = x.conductance; head = negated x.head }
 
--- Where all heads are turned round zero, each flow over a branch changes its sign. Where the heads at the two ends of a branch change places, it does too: what one cell gives the other receives.
+-- If all heads are turned round zero, each flow over a branch changes its sign. If the heads at the two ends of a branch change
+-- places, it does too: what one cell gives the other receives.
 pub record FlowsChangeSign : Type 0 where
   pub links : (h : ℕ → Fraction) (v : Fraction) (x : ExactLink) → Same (link_flow (λ k. negated (h k)) (negated v) x) (negated (link_flow h v x))
   pub fixed : (v : Fraction) (x : ExactFixed) → Same (fixed_flow (negated v) (turned x)) (negated (fixed_flow v x))
-  pub ends : (h : ℕ → Fraction) (v : Fraction) (x y : ExactLink) → Same (link_flow (λ k. v) (h x.cell) (record { cell = y.cell; conductance = x.conductance })) (negated (link_flow h v x))
+  pub ends : (h : ℕ → Fraction) (v : Fraction) (x y : ExactLink) →
+      Same (link_flow (λ k. v) (h x.cell) (record { cell = y.cell; conductance = x.conductance })) (negated (link_flow h v x))

@@ -39,4 +39,5 @@ pub record ElevationsFall (m : FlowModel) (a b : ℕ) : Type 0 where
 -- A cell, the bed below it and the cell of the next layer fill the space from the cell's top to the other's bottom.
 abbrev pub LayersFillTheSpace : FlowModel → Type 0
 LayersFillTheSpace m = (a : ℕ) → ElevationsFall m a (a + layer_size m.grid) →
-    Same (gap (number (top_at m a)) (number (bottom_at m (a + layer_size m.grid)))) (plus (plus (thickness m a) (bed_thickness m a)) (thickness m (a + layer_size m.grid)))
+    Same (gap (number (top_at m a)) (number (bottom_at m (a + layer_size m.grid))))
+    (plus (plus (thickness m a) (bed_thickness m a)) (thickness m (a + layer_size m.grid)))

@@ -30,7 +30,8 @@ pub fn darcy_along_columns()
     ensures { (m : FlowModel) → MeetsDarcyAlongColumns m }
 {}
 
-/// Between two cells one above the other, of one material with the bed between them, the conductance is VK * DELR * DELC over the distance between their centres.
+/// Between two cells one above the other, of one material with the bed between them, the conductance is
+/// VK * DELR * DELC over the distance between their centres.
 pub fn darcy_downwards()
     ensures { (m : FlowModel) → MeetsDarcyDownwards m }
 {}

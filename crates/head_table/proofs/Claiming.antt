@@ -12,18 +12,18 @@ use Rattle.head_table.specs.BySide.{LowOnTheWay, HighOnTheWay, LowSeen, HighSeen
 use Rattle.head_table.specs.Rule.{IsTableKept}
 use Rattle.head_table.specs.Plays.{claimed}
 
-abbrev M : Type 0
-M = Me (Unit {0}) Known
+abbrev KnownMe : Type 0
+KnownMe = Me (Unit {0}) Known
 
-abbrev St : Type 0
-St = State (Unit {0}) Known
+abbrev KnownState : Type 0
+KnownState = State (Unit {0}) Known
 
 module _ (cells : List Entries) (edges : Edges) where
-  abbrev Rule : St → Type 0
+  abbrev Rule : KnownState → Type 0
   Rule = IsTableKept cells edges
 
   -- a step on the counter
-  pub claims : (slots id : ℕ) (me : M) (f : ℕ → ℕ) → Allows Rule slots id me 0 f (claimed (step slots 0 1 0 none) me)
+  pub claims : (slots id : ℕ) (me : KnownMe) (f : ℕ → ℕ) → Allows Rule slots id me 0 f (claimed (step slots 0 1 0 none) me)
   claims slots id me f s r _ at small = let x : ℕ = f (get_or s.words 0 0) in let ws : List ℕ = set s.words 0 x in
       let low : lower_words ws ≡ lower_words s.words = λ i d. ap head_of_word (get_or-set_other s.words 0 (2 * d + 1) x 0 (λ e. omega arith)) i in
       let high : upper_words ws ≡ upper_words s.words = λ i d. ap head_of_word (get_or-set_other s.words 0 (2 * d + 2) x 0 (λ e. omega arith)) i in (

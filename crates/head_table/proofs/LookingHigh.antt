@@ -16,17 +16,17 @@ use Rattle.head_table.specs.Plays.{SeesHigh, looked_high}
 use Rattle.head_table.proofs.SideLaws.{see_high}
 use Rattle.head_table.proofs.Unmoved.{unmoved}
 
-abbrev M : Type 0
-M = Me (Unit {0}) Known
+abbrev KnownMe : Type 0
+KnownMe = Me (Unit {0}) Known
 
-abbrev St : Type 0
-St = State (Unit {0}) Known
+abbrev KnownState : Type 0
+KnownState = State (Unit {0}) Known
 
 module _ (cells : List Entries) (edges : Edges) (ok : IsProblem cells) where
-  abbrev Rule : St → Type 0
+  abbrev Rule : KnownState → Type 0
   Rule = IsTableKept cells edges
 
-  pub looks_high : (slots id : ℕ) (me : M) (c : ℕ) → c < length cells → me.0.live ≡ true → Allows Rule slots id me (2 * c + 2) (λ n. n) (looked_high (step slots (2 * c + 2) 0 0 none) me)
+  pub looks_high : (slots id : ℕ) (me : KnownMe) (c : ℕ) → c < length cells → me.0.live ≡ true → Allows Rule slots id me (2 * c + 2) (λ n. n) (looked_high (step slots (2 * c + 2) 0 0 none) me)
   looks_high slots id me c h live s k _ at small = let x : ℕ = get_or s.words (2 * c + 2) 0 in let mine = k.each_seat id me.0 at live in let long : c < length me.0.seen = omega (arith, mine.whole) in
       let w : Known = record me.0 { seen = with_head High me.0.seen c (head_of_word x) } in (
         w,

@@ -21,21 +21,21 @@ use Rattle.head_table.proofs.SideLaws.{raise_keeps, raise_fits, see_low}
 use Rattle.head_table.proofs.WordReads.{low_word_here, low_word_else, high_word_stays}
 use Rattle.head_table.proofs.Unmoved.{views_stay}
 
-abbrev M : Type 0
-M = Me (Unit {0}) Known
+abbrev KnownMe : Type 0
+KnownMe = Me (Unit {0}) Known
 
-abbrev St : Type 0
-St = State (Unit {0}) Known
+abbrev KnownState : Type 0
+KnownState = State (Unit {0}) Known
 
 module _ (cells : List Entries) (edges : Edges) (ok : IsProblem cells) where
-  abbrev Rule : St → Type 0
+  abbrev Rule : KnownState → Type 0
   Rule = IsTableKept cells edges
 
   larger : (x k : ℕ) → Dec (x ≤ k) → (head_of_word (max x k) ≡ head_of_word x) ⊎ (head_of_word (max x k) ≡ head_of_word k)
   larger x k (yes l) = inr (ap head_of_word (omega arith))
   larger x k (no g) = inl (ap head_of_word (omega arith))
 
-  pub raises : (slots id : ℕ) (me : M) (c k : ℕ) → c < length cells → me.0.live ≡ true → IsRaise cells (lower_at me.0.seen) c (head_of_word k)
+  pub raises : (slots id : ℕ) (me : KnownMe) (c k : ℕ) → c < length cells → me.0.live ≡ true → IsRaise cells (lower_at me.0.seen) c (head_of_word k)
       → Allows Rule slots id me (2 * c + 1) (λ n. max n k) (raised (step slots (2 * c + 1) k 0 none) me)
   raises slots id me c k h live turn s r _ at small = let x : ℕ = get_or s.words (2 * c + 1) 0 in let y : ℕ = max x k in let ws : List ℕ = set s.words (2 * c + 1) y in
       let mine = r.each_seat id me.0 at live in let long : c < length me.0.seen = omega (arith, mine.whole) in let wide : 2 * c + 1 < length s.words = omega (arith, r.wide) in

@@ -9,10 +9,10 @@ use Rattle.head_table.specs.declared.known.Known.{Known}
 use Rattle.head_table.specs.Rule.{IsSound}
 use Rattle.head_table.specs.Plays.{SeesLow, SeesHigh}
 
-abbrev M : Type 0
-M = Me (Unit {0}) Known
+abbrev KnownMe : Type 0
+KnownMe = Me (Unit {0}) Known
 
-pub sound_low : (m m' : M) (c : ℕ) (h : ℤ) → IsSound m.0 → IsHead h → SeesLow m c h m' → IsSound m'.0
+pub sound_low : (m m' : KnownMe) (c : ℕ) (h : ℤ) → IsSound m.0 → IsHead h → SeesLow m c h m' → IsSound m'.0
 sound_low m m' c h s ok e = let n : length m'.0.problem ≡ length m.0.problem = ap length e.stays.problem in record {
   whole = e.stays.whole ∙ (s.whole ∙ sym n);
   low = λ d l. dite (ℕ_discrete d c)
@@ -21,7 +21,7 @@ sound_low m m' c h s ok e = let n : length m'.0.problem ≡ length m.0.problem =
   high = λ d l. subst IsHead (sym (e.high d)) (s.high d (omega arith));
 }
 
-pub sound_high : (m m' : M) (c : ℕ) (h : ℤ) → IsSound m.0 → IsHead h → SeesHigh m c h m' → IsSound m'.0
+pub sound_high : (m m' : KnownMe) (c : ℕ) (h : ℤ) → IsSound m.0 → IsHead h → SeesHigh m c h m' → IsSound m'.0
 sound_high m m' c h s ok e = let n : length m'.0.problem ≡ length m.0.problem = ap length e.stays.problem in record {
   whole = e.stays.whole ∙ (s.whole ∙ sym n);
   high = λ d l. dite (ℕ_discrete d c)

@@ -21,21 +21,21 @@ use Rattle.head_table.proofs.SideLaws.{sink_keeps, sink_fits, see_high}
 use Rattle.head_table.proofs.WordReads.{high_word_here, high_word_else, low_word_stays}
 use Rattle.head_table.proofs.Unmoved.{views_stay}
 
-abbrev M : Type 0
-M = Me (Unit {0}) Known
+abbrev KnownMe : Type 0
+KnownMe = Me (Unit {0}) Known
 
-abbrev St : Type 0
-St = State (Unit {0}) Known
+abbrev KnownState : Type 0
+KnownState = State (Unit {0}) Known
 
 module _ (cells : List Entries) (edges : Edges) (ok : IsProblem cells) where
-  abbrev Rule : St → Type 0
+  abbrev Rule : KnownState → Type 0
   Rule = IsTableKept cells edges
 
   smaller : (x k : ℕ) → Dec (x ≤ k) → (head_of_word (min x k) ≡ head_of_word x) ⊎ (head_of_word (min x k) ≡ head_of_word k)
   smaller x k (yes l) = inl (ap head_of_word (omega arith))
   smaller x k (no g) = inr (ap head_of_word (omega arith))
 
-  pub sinks : (slots id : ℕ) (me : M) (c k : ℕ) → c < length cells → me.0.live ≡ true → IsSink cells (upper_at me.0.seen) c (head_of_word k)
+  pub sinks : (slots id : ℕ) (me : KnownMe) (c k : ℕ) → c < length cells → me.0.live ≡ true → IsSink cells (upper_at me.0.seen) c (head_of_word k)
       → Allows Rule slots id me (2 * c + 2) (λ n. min n k) (sunk (step slots (2 * c + 2) k 0 none) me)
   sinks slots id me c k h live turn s r _ at small = let x : ℕ = get_or s.words (2 * c + 2) 0 in let y : ℕ = min x k in let ws : List ℕ = set s.words (2 * c + 2) y in
       let mine = r.each_seat id me.0 at live in let long : c < length me.0.seen = omega (arith, mine.whole) in let wide : 2 * c + 2 < length s.words = omega (arith, r.wide) in

@@ -10,11 +10,11 @@ use Rattle.step_problem.specs.Heads.{Edges}
 use Rattle.head_table.specs.declared.known.Known.{Known}
 use Rattle.head_table.specs.Rule.{IsKnown, IsTableKept}
 
-abbrev M : Type 0
-M = Me (Unit {0}) Known
+abbrev KnownMe : Type 0
+KnownMe = Me (Unit {0}) Known
 
-abbrev St : Type 0
-St = State (Unit {0}) Known
+abbrev KnownState : Type 0
+KnownState = State (Unit {0}) Known
 
 -- what is asked of each live view, after one view has changed
 pub views_stay : (P : Known → Type 0) (vs : List Known) (id : ℕ) (w : Known) → (w.live ≡ true → P w) → ((j : ℕ) (v : Known) → get_elem? vs j ≡ some v → v.live ≡ true → P v)
@@ -22,11 +22,11 @@ pub views_stay : (P : Known → Type 0) (vs : List Known) (id : ℕ) (w : Known)
 views_stay P vs id w mine others j v e live = ⊎_elim (λ (t : (j ≡ id) × (w ≡ v)). subst P t.1 (mine (ap (λ (u : Known). u.live) t.1 ∙ live))) (λ (t : (j ≢ id) × (get_elem? vs j ≡ some v)). others j v t.1 live) (at_set vs id j w v e)
 
 module _ (cells : List Entries) (edges : Edges) where
-  abbrev Rule : St → Type 0
+  abbrev Rule : KnownState → Type 0
   Rule = IsTableKept cells edges
 
   -- a step that changes no word
-  pub unmoved : (s : St) (k : Rule s) (i id : ℕ) (me : M) (w : Known) → IsKnown cells edges s.words w → Rule (stepped s i (get_or s.words i 0) id me.1 w keeps)
+  pub unmoved : (s : KnownState) (k : Rule s) (i id : ℕ) (me : KnownMe) (w : Known) → IsKnown cells edges s.words w → Rule (stepped s i (get_or s.words i 0) id me.1 w keeps)
   unmoved s k i id me w mine = subst (λ (ws : List ℕ). Rule record { words = ws; homes = s.homes; views = set s.views id w }) (sym (set-get_or s.words i 0)) record {
     wide = k.wide;
     low = k.low;

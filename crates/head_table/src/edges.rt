@@ -12,8 +12,7 @@ pub fn edge_words(alloc: Global, p: &Problem, b: &Barrier) -> Result<Vec<Bound>,
     ensures edges { IfOk result (λ v. AreEdges p.now b.now v.items) }
     ensures way { IfOk result (λ v. AreOnTheWay p.now b.now v.items) }
 {
-    // `len` ensures the problem's conditions.
-    let _cells = p.len();
+    p.recall_conditions();
     let mut words = Vec::new(alloc);
     for cell in 0..b.floor.len() {
         let word = Bound {

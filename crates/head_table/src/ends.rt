@@ -46,8 +46,7 @@ impl<'a> HeadTable<'a> {
         ensures seat { IfOk result (λ r. IsSeatOf r.0 r.1) }
         ensures seen { IfOk result (λ r. seen_of r.1 ≡ words.now.items) }
     {
-        // `len` ensures the problem's conditions.
-        let _cells = problem.len();
+        problem.recall_conditions();
         let raw = raw_words(alloc, words.as_slice())?;
         let facts = Facts {
             problem: Snapshot::of(problem),

@@ -21,8 +21,7 @@ impl<'a> HeadTable<'a> {
         ensures others { SameLowBut cell seat.old seat.new }
         ensures high { SameHigh seat.old seat.new }
     {
-        // `len` ensures the problem's conditions.
-        let _cells = self.problem.len();
+        self.problem.recall_conditions();
         let word = coded(to);
         let found = self
             .table
@@ -43,8 +42,7 @@ impl<'a> HeadTable<'a> {
         ensures others { SameHighBut cell seat.old seat.new }
         ensures low { SameLow seat.old seat.new }
     {
-        // `len` ensures the problem's conditions.
-        let _cells = self.problem.len();
+        self.problem.recall_conditions();
         let word = coded(to);
         let found = self
             .table

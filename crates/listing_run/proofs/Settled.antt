@@ -7,7 +7,6 @@ use Rattle.step_problem.specs.declared.heads.Bound.{Bound}
 use Rattle.step_problem.specs.Conditions.{IsProblem}
 use Rattle.step_problem.specs.Entries.{Entries}
 use Rattle.step_problem.specs.Heads.{Edges, IsSettledPair, lower_at, upper_at}
-use Rattle.cell_balance.proofs.Products.{mul_mono_right}
 use Rattle.cell_balance.proofs.Totals.{le_trans_z}
 use Rattle.barrier_vector.specs.Barriers.{BarrierIsOne, IsBarrierOf}
 use Rattle.model_types.specs.declared.time_steps.TimeStep.{TimeStep}
@@ -22,6 +21,7 @@ use Rattle.listing_run.specs.declared.step.Step.{Step}
 use Rattle.listing_run.specs.Ends.{IsWritten}
 use Rattle.listing_run.specs.Settlers.{AllSettledBy, AreSettledBy, IsSettledBy, PairEncloses, Reaches, RestsOrSettles, more}
 use Rattle.listing_run.specs.Steps.{IsStep}
+use Rattle.decimal_input.proofs.Signs.{mul_mono_right}
 
 module _ (k : Task) (s : ℕ) (at : TimeStep) (old : List Bound) (digits : s ≡ k.digits) (one : BarrierIsOne) where
   pair_encloses : (x : Solved) (b : Edges) → IsProblem x.problem → IsSettledStep k.model s at old x → IsBarrierOf x.problem b → EnclosesMoves k.model s at old x → PairEncloses k.model at old x.problem b

@@ -49,7 +49,8 @@ fn put_while_solving<R: Threads + Sync, K: Sink + Send, S: Settler>(
     ensures tables { AreTablesOf task.now tables.new }
     ensures written { IfOk result.1 (λ w. IsWritten task.now at old.now w.heads.items w.text.items) }
     ensures fault { IfErr result.1 (FailsBy task.now at old.now) }
-    ensures led { MatchResult result.1 (λ _. IsSettledBy S.leads task.now at old.now settler.old settler.new) (λ _. RestsOrSettles S.leads settler.old settler.new) }
+    ensures led { MatchResult result.1 (λ _. IsSettledBy S.leads task.now at old.now settler.old settler.new)
+        (λ _. RestsOrSettles S.leads settler.old settler.new) }
 {
     join_mut(
         rt,

@@ -39,7 +39,8 @@ pub fn solve<S: Settler>(
     ensures tables { AreTablesOf task.now tables.new }
     ensures step { IfOk result (IsStep task.now at old.now) }
     ensures fault { IfErr result (FailsBy task.now at old.now) }
-    ensures led { MatchResult result (λ _. IsSettledBy S.leads task.now at old.now settler.old settler.new) (λ _. RestsOrSettles S.leads settler.old settler.new) }
+    ensures led { MatchResult result (λ _. IsSettledBy S.leads task.now at old.now settler.old settler.new)
+        (λ _. RestsOrSettles S.leads settler.old settler.new) }
     ensures heads { IfOk result (λ v. AreGridHeads task.now.model v.heads) }
     // Every solution from exact heads within the old ones lies within the step's heads, budget and flows between zones.
     ensures encloses { IfOk result (BoundsMoves task.now at old.now) }
@@ -47,8 +48,7 @@ pub fn solve<S: Settler>(
     let solved = next_step_with(alloc, &task.model, tables, at, old, settler)?;
     heads_within();
     one_barrier();
-    // `len` ensures the problem's conditions.
-    let _cells = solved.problem.len();
+    solved.problem.recall_conditions();
     match budget(&solved.problem, solved.bounds.as_slice()) {
         Ok(budget) => {
             let zones = flows_between(alloc, task, &solved)?;
@@ -90,7 +90,8 @@ pub fn solve_text<S: Settler>(
     ensures tables { AreTablesOf task.now tables.new }
     ensures written { IfOk result (λ w. IsWritten task.now at old.now w.heads.items w.text.items) }
     ensures fault { IfErr result (FailsBy task.now at old.now) }
-    ensures led { MatchResult result (λ _. IsSettledBy S.leads task.now at old.now settler.old settler.new) (λ _. RestsOrSettles S.leads settler.old settler.new) }
+    ensures led { MatchResult result (λ _. IsSettledBy S.leads task.now at old.now settler.old settler.new)
+        (λ _. RestsOrSettles S.leads settler.old settler.new) }
 {
     let step = solve(alloc, task, tables, at, old, settler)?;
     let text = write_step(

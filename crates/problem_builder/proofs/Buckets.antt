@@ -10,23 +10,15 @@ use Rattle.std.specs.Prelude.{All}
 use Rattle.model_types.proofs.Members.{In, All-In, In-All}
 use Rattle.model_types.specs.Sources.{cell_of, entries_of}
 use Rattle.problem_builder.specs.Tables.{local_in}
+use Rattle.flow_equations.proofs.Links.{get_or-map, length-map}
 
 pub map-set : {X Y : Type 0} (f : X → Y) (xs : List X) (i : ℕ) (y : X) → map f (set xs i y) ≡ set (map f xs) i (f y)
 map-set f [] i y = refl
 map-set f (x ∷ xs) zero y = refl
 map-set f (x ∷ xs) (suc i) y = ap (λ zs. f x ∷ zs) (map-set f xs i y)
 
-length_map : {X Y : Type 0} (f : X → Y) (xs : List X) → length (map f xs) ≡ length xs
-length_map f [] = refl
-length_map f (x ∷ xs) = ap suc (length_map f xs)
-
-get_or_map : {X Y : Type 0} (f : X → Y) (xs : List X) (i : ℕ) (d : X) (e : Y) → i < length xs → get_or (map f xs) i e ≡ f (get_or xs i d)
-get_or_map f [] i d e lt = absurd (omega arith)
-get_or_map f (x ∷ xs) zero d e lt = refl
-get_or_map f (x ∷ xs) (suc i) d e lt = get_or_map f xs i d e (omega arith)
-
 pub set_here : {X : Type 0} (f : X → List Entry) (xs : List X) (i : ℕ) (y : X) → i < length xs → local_in (map f (set xs i y)) i ≡ f y
-set_here f xs i y lt = ap (λ zs. local_in zs i) (map-set f xs i y) ∙ get_or-set_same (map f xs) i (f y) [] (omega (arith, lt, length_map f xs))
+set_here f xs i y lt = ap (λ zs. local_in zs i) (map-set f xs i y) ∙ get_or-set_same (map f xs) i (f y) [] (omega (arith, lt, length-map f xs))
 
 pub set_other : {X : Type 0} (f : X → List Entry) (xs : List X) (i c : ℕ) (y : X) → (c ≡ i → ⊥) → local_in (map f (set xs i y)) c ≡ local_in (map f xs) c
 set_other f xs i c y ne = ap (λ zs. local_in zs c) (map-set f xs i y) ∙ get_or-set_other (map f xs) i c (f y) [] ne
@@ -38,10 +30,10 @@ entries_next c xs i d lt = filter_more (λ x. cell_of x == c) xs i d lt
 
 -- what a type's view says of its parts
 pub inside : {X : Type 0} (f : X → List Entry) (xs : List X) (l : List (List Entry)) (c : ℕ) → map f xs ≡ l → c < length l → c < length xs
-inside f xs l c e lt = omega (arith, lt, (let q : length (map f xs) ≡ length l = ap length e in q), length_map f xs)
+inside f xs l c e lt = omega (arith, lt, (let q : length (map f xs) ≡ length l = ap length e in q), length-map f xs)
 
 pub read_here : {X : Type 0} (f : X → List Entry) (xs : List X) (l : List (List Entry)) (c : ℕ) (x : X) → map f xs ≡ l → c < length l → x ≡ get_or xs c x → f x ≡ local_in l c
-read_here f xs l c x e lt same = ap f same ∙ sym (get_or_map f xs c x [] (inside f xs l c e lt)) ∙ ap (λ zs. local_in zs c) e
+read_here f xs l c x e lt same = ap f same ∙ sym (get_or-map f xs c x [] (inside f xs l c e lt)) ∙ ap (λ zs. local_in zs c) e
 
 pub none_yet : (c : ℕ) → entries_of c [] ≡ []
 unfolding entries_of

@@ -41,7 +41,7 @@ use Rattle.problem_builder.proofs.Bounds.{BoundsEnclose}
 use Rattle.problem_builder.proofs.FacePairs.{face_range, face_active}
 use Rattle.problem_builder.proofs.Fits.{cond_ordered, head_pair_range, river_valid, river_fits, evap_fits}
 use Rattle.problem_builder.proofs.Members.{constant_is, storage_is, general_among, some_same}
-use Rattle.problem_builder.proofs.Sound.{sound, or_false, none_passes, positive}
+use Rattle.problem_builder.proofs.Sound.{sound, or_false, none_passes, positive_unless_zero}
 use Rattle.problem_builder.proofs.ValidEntries.{local_valid}
 use Rattle.problem_builder.proofs.Zipped.{zip_all, left_of}
 
@@ -104,7 +104,7 @@ module _ (m : FlowModel) (w : Thicknesses) (s : ℕ) (at : TimeStep) (old : List
         links = All-In LinkFits e.links (λ x i.
             let (f, j, r) = left_of (IsLink m w s at) e.links (variable_faces m at.period c) x is.links i in
             let (g, b) = passing_are m.grid (is_variable m at.period) c f j in
-            record { conducts = positive x.lo (none_passes (λ (y : Link). y.lo == 0) e.links small x i); ordered = face_ordered f x.lo x.hi g (variable_active m at.period f.end b) r.conductance });
+            record { conducts = positive_unless_zero x.lo (none_passes (λ (y : Link). y.lo == 0) e.links small x i); ordered = face_ordered f x.lo x.hi g (variable_active m at.period f.end b) r.conductance });
         fixed = zip_all FixedFits (IsFixed m w s at old c) e.fixed (fixed_sources m at.period c) one_fixed is.fixed;
         rivers = zip_all RiverFits (IsRiver s) e.rivers (river_sources m at.period c)
             (λ x r j q. let (y, l, o) = filter_map-In as_river (local_entries m at.period c) r j in

@@ -10,10 +10,7 @@ use Rattle.model_types.specs.Grids.{HasSize}
 use Rattle.model_types.specs.Layers.{is_active}
 use Rattle.model_types.specs.Receivers.{is_highest}
 use Rattle.model_types.proofs.Numbering.{size_some}
-
-range_more : (a n : ℕ) → range_with_len a (suc n) ≡ range_with_len a n ++ (a + n) ∷ []
-range_more a zero = ap (λ k. k ∷ []) (omega arith)
-range_more a (suc n) = ap (λ xs. a ∷ xs) (range_more (a + 1) n ∙ ap (λ k. range_with_len (a + 1) n ++ k ∷ []) (omega arith))
+use Rattle.model_types.proofs.Ranks.{range_more}
 
 range_last : (k : ℕ) → range_with_len 0 (suc k) ≡ range_with_len 0 k ++ k ∷ []
 range_last k = range_more 0 k ∙ ap (λ q. range_with_len 0 k ++ q ∷ []) (let e : 0 + k ≡ k = omega arith in e)

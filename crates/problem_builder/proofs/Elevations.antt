@@ -12,6 +12,7 @@ use Rattle.model_types.specs.Cells.{cell_count, layer_size}
 use Rattle.model_types.specs.Layers.{no_number, dec_at, gap, is_active, has_bed, top_at, bottom_at, lowest, bed_thickness}
 use Rattle.model_types.specs.Valid.{IsModel, IsBedValid}
 use Rattle.std.specs.Prelude.{nat_lt}
+use Rattle.conductance_bounds.proofs.FaceBounds.{no_gap}
 
 no_number_valid : IsDec no_number
 no_number_valid = record { few = omega arith; form = inl (refl, refl, refl); above = omega (arith, ints); below = omega (arith, ints) }
@@ -39,12 +40,6 @@ lowest_valid m c valid = either (has_bed m c) (dec_at m.grid.bed_bottom c) (bott
 
 pub top_valid : (m : FlowModel) (c : ℕ) → IsModel m → IsDec (top_at m c)
 top_valid m c valid = either (nat_lt c (layer_size m.grid)) (dec_at m.grid.top c) (lowest m (c - layer_size m.grid)) (dec_valid m.grid.top c valid.grid.top.1) (lowest_valid m (c - layer_size m.grid) valid)
-
-none_between : (x : ℤ) → unsigned_abs (x -ℤ x) ≡ 0
-none_between x = let e : x -ℤ x ≡ pos 0 = omega (arith, ints) in ap unsigned_abs e
-
-no_gap : (f g : Fraction) → f ≡ g → (gap g f).num ≡ 0
-no_gap f g e = ap (λ h. (gap g h).num) e ∙ none_between (g.num *ℤ pos (suc g.less))
 
 pub no_bed_gap : (m : FlowModel) (c : ℕ) → has_bed m c ≡ false → (bed_thickness m c).num ≡ 0
 no_bed_gap m c e = no_gap (number (lowest m c)) (number (bottom_at m c)) (ap (λ b. number (cond b (dec_at m.grid.bed_bottom c) (dec_at m.grid.bottom c))) e)

@@ -37,12 +37,8 @@ use Rattle.problem_builder.specs.Tables.{Inputs, AreInputs, widths_of}
 use Rattle.problem_builder.proofs.ActiveCells.{variable_active}
 use Rattle.problem_builder.proofs.HeadRange.{floor_in_range, ceiling_in_range}
 use Rattle.problem_builder.proofs.Zipped.{zip_all}
-
-pub size_positive : (d : Dec) → IsPositive d → 0 < (size d).num
-size_positive d h = rw num_scaled (positive d.digits (10 ^ up d.exp) h.positive (ten_pos (up d.exp)))
-  where
-    positive : (a b : ℕ) → 0 < a → 0 < b → 0 < a * b
-    positive a b p q = grind arith
+use Rattle.problem_builder.proofs.Members.{some_same}
+use Rattle.flow_equations.proofs.Values.{size_positive}
 
 pub cond_ordered : (s : ℕ) (d : Dec) (lo hi : ℕ) → IsCond s d lo hi → lo ≤ hi
 cond_ordered s d lo hi (inl k) = floor-ceiling lo hi (size d) (size d) s (AtMost-refl (size d)) k.floor k.ceiling
@@ -60,9 +56,6 @@ evap_holds m c x h = ((tt, (tt, tt)), tt, size_positive x.depth h)
 
 pub head_pair_range : (d : Dec) (lo hi : ℤ) → IsHeadNumber d → IsHeadPair d lo hi → IsHead lo × IsHead hi
 head_pair_range d lo hi h k = (floor_in_range (number d) lo h.range k.floor, ceiling_in_range (number d) hi h.range k.ceiling)
-
-pub some_same : {X : Type 0} {a b : X} → Some a ≡ Some b → a ≡ b
-some_same e = grind arith
 
 -- a river of the lists has heads in range
 pub river_valid : (y : Entry) (r : RiverSource) → as_river y ≡ Some r → IsEntryValid 65536 y → IsHeadNumber r.stage × IsHeadNumber r.bottom

@@ -13,7 +13,7 @@ use Rattle.model_types.specs.Cells.{cell_count}
 use Rattle.model_types.specs.Kinds.{given_in, last_given}
 use Rattle.model_types.specs.Valid.{IsModel, IsPeriod, IsGivenValid}
 use Rattle.model_types.proofs.Members.{In, In-All}
-use Rattle.problem_builder.proofs.Members.{some_same}
+use Rattle.problem_builder.proofs.Members.{some_same, In-append}
 
 first_or : {X : Type 0} (b : Bool) (y : X) (ys : List X) (x : X) (o : Option X) → (o ≡ Some x → In ys x) → cond b (Some y) o ≡ Some x → In (y ∷ ys) x
 first_or true y ys x o f e = inl (some_same e)
@@ -23,21 +23,13 @@ find-In : {X : Type 0} (test : X → Bool) (xs : List X) (x : X) → find test x
 find-In test [] x e = absurd (none-some x e)
 find-In test (y ∷ ys) x e = first_or (test y) y ys x (find test ys) (λ q. find-In test ys x q) e
 
-In-join : {X : Type 0} (xs ys : List X) (x : X) → In (xs ++ ys) x → In xs x ⊎ In ys x
-In-join [] ys x i = inr i
-In-join (z ∷ zs) ys x (inl e) = inl (inl e)
-In-join (z ∷ zs) ys x (inr i) = elim (In-join zs ys x i) [
-  | inl j ↦ inl (inr j)
-  | inr j ↦ inr j
-]
-
 one_of : {X : Type 0} (y x : X) → In (y ∷ []) x → y ≡ x
 one_of y x (inl e) = e
 one_of y x (inr i) = absurd i
 
 turned-In : {X : Type 0} (xs : List X) (x : X) → In (reverse xs) x → In xs x
 turned-In [] x i = absurd i
-turned-In (y ∷ ys) x i = elim (In-join (reverse ys) (y ∷ []) x (subst (λ zs. In zs x) (reverse-append (y ∷ []) ys) i)) [
+turned-In (y ∷ ys) x i = elim (In-append (reverse ys) (y ∷ []) x (subst (λ zs. In zs x) (reverse-append (y ∷ []) ys) i)) [
   | inl j ↦ inr (turned-In ys x j)
   | inr j ↦ inl (one_of y x j)
 ]

@@ -10,7 +10,6 @@ use Rattle.model_types.specs.declared.face.Axis.TheVariants.{Vertical}
 use Rattle.model_types.specs.declared.face.Face.{Face}
 use Rattle.model_types.specs.declared.grid.Grid.{Grid}
 use Rattle.model_types.specs.Faces.{stride, has_after, face_after}
-use Rattle.problem_builder.proofs.Fits.{some_same}
 use Rattle.model_types.specs.declared.model.FlowModel.{FlowModel}
 use Rattle.model_types.specs.Cells.{layer_size, column_of, row_of}
 use Rattle.model_types.specs.Layers.{no_number, delr_at, delc_at, thickness, bed_thickness, vkcb_at, bottom_at, lowest}
@@ -23,6 +22,7 @@ use Rattle.conductance_bounds.specs.Terms.Term.{Quotient}
 use Rattle.conductance_bounds.specs.Branches.{vertical_of, resistance_sum}
 use Rattle.conductance_bounds.specs.Formulas.{face_term, area_term, bed_term, vertical_half_term}
 use Rattle.problem_builder.specs.Widths.{IsBedOf, IsNoBed, layer_half}
+use Rattle.problem_builder.proofs.Members.{some_same}
 
 pub delr_positive : (m : FlowModel) (c : ℕ) → IsModel m → IsPositive (delr_at m c)
 delr_positive m c valid = valid.grid.delr.1 (column_of m.grid c) no_number (omega (arith, valid.grid.delr.0, mod_below c m.grid.cols (omega (arith, valid.grid.size.cols.0))))

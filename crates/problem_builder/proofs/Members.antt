@@ -48,7 +48,7 @@ In-variable m p n c v lt =
     let k = rank_below (is_variable m p) c n v lt in
     subst (λ xs. In xs c) (sym (below_is m p n)) (subst (In (passing (is_variable m p) n)) (at_rank (is_variable m p) n c v lt) (In-get_or (passing (is_variable m p) n) (rank (is_variable m p) c) 0 k))
 
-In-append : {X : Type 0} (xs ys : List X) (x : X) → In (xs ++ ys) x → In xs x ⊎ In ys x
+pub In-append : {X : Type 0} (xs ys : List X) (x : X) → In (xs ++ ys) x → In xs x ⊎ In ys x
 In-append [] ys x i = inr i
 In-append (z ∷ zs) ys x (inl e) = inl (inl e)
 In-append (z ∷ zs) ys x (inr i) = elim (In-append zs ys x i) [

@@ -24,7 +24,7 @@ use Rattle.problem_builder.proofs.ActiveCells.{variable_active, constant_active}
 use Rattle.problem_builder.proofs.Members.{variable-In, constant_is}
 use Rattle.problem_builder.proofs.Zipped.{left_of, right_of}
 
-In-Contains : {X : Type 0} (xs : List X) (x : X) → Contains xs x → In xs x
+pub In-Contains : {X : Type 0} (xs : List X) (x : X) → Contains xs x → In xs x
 In-Contains xs x (k, lt, e) = subst (In xs) e (In-get_or xs k x lt)
 
 module _ (m : FlowModel) (w : Thicknesses) (s : ℕ) (at : TimeStep) (old : List Bound) (size : HasSize m.grid) (es : List Entries) (are : AreCells m w s at old (cell_count m.grid) es) where

@@ -28,18 +28,16 @@ use Rattle.problem_builder.specs.InputBounds.{IsCond, IsWellPair, IsHeadPair}
 use Rattle.problem_builder.specs.RechargeBounds.{IsRechargePair}
 use Rattle.model_types.specs.declared.model.FlowModel.{FlowModel}
 use Rattle.conductance_bounds.specs.Formulas.{recharge_term}
-
-both_ways : {f g : Ratio} → AtMost f g → AtMost g f → Same f g
-both_ways p q = record { cross = omega (arith, p.cross, q.cross) }
+use Rattle.scaled_decimal.proofs.Sums.{Same-both}
 
 same_decimal : (r q : Sd) → IsSd r → IsSd q → Same (value r) (value q) → r ≡ q
 same_decimal r q h k s = let (m, e) = one_decimal r q h k s in λ i. record { m = m i; e = e i }
 
 one_down : (r q : Sd) (f : Ratio) → IsDown r f → IsDown q f → r ≡ q
-one_down r q f h k = same_decimal r q h.decimal k.decimal (both_ways (k.greatest r h.decimal h.at_most) (h.greatest q k.decimal k.at_most))
+one_down r q f h k = same_decimal r q h.decimal k.decimal (Same-both (k.greatest r h.decimal h.at_most) (h.greatest q k.decimal k.at_most))
 
 one_up : (r q : Sd) (f : Ratio) → IsUp r f → IsUp q f → r ≡ q
-one_up r q f h k = same_decimal r q h.decimal k.decimal (both_ways (h.least q k.decimal k.at_least) (k.least r h.decimal h.at_least))
+one_up r q f h k = same_decimal r q h.decimal k.decimal (Same-both (h.least q k.decimal k.at_least) (k.least r h.decimal h.at_least))
 
 one_rounded : (side : Side) (r q : Sd) (f : Ratio) → IsRounded side r f → IsRounded side q f → r ≡ q
 one_rounded Lower r q f h k = one_down r q f h k

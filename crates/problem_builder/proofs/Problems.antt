@@ -27,7 +27,7 @@ use Rattle.problem_builder.specs.Problems.{AreCells}
 use Rattle.problem_builder.proofs.Bounds.{BoundsEnclose}
 use Rattle.problem_builder.proofs.CellFits.{cell_fits}
 use Rattle.problem_builder.proofs.OneBound.{one_capped}
-use Rattle.problem_builder.proofs.Zipped.{left_of, right_of, zip_length, zip_ordered}
+use Rattle.problem_builder.proofs.Zipped.{left_of, right_of, zip_ordered}
 
 module _ (m : FlowModel) (w : Thicknesses) (s : ℕ) (at : TimeStep) (old : List Bound) (valid : IsModel m) (time : IsTimeOf m at) (near : BoundsEnclose m w s at) (heads : AreGridHeads m old)
     (es : List Entries) (are : AreCells m w s at old (cell_count m.grid) es) where
@@ -122,7 +122,7 @@ module _ (m : FlowModel) (w : Thicknesses) (s : ℕ) (at : TimeStep) (old : List
 
     links_fit : LinksFit es i links
     links_fit = record {
-      few = omega (arith, zip_length (IsLink m w s at) links (variable_faces m at.period here) links_are, few_faces m.grid test here);
+      few = omega (arith, AllZip-length (IsLink m w s at) links (variable_faces m at.period here) links_are, few_faces m.grid test here);
       within = All-In (λ x. x.cell < length es) links within_count;
       others = All-In (λ x. x.cell ≡ i → ⊥) links other;
       apart = (λ a b less k same. omega (arith, same, Ordered-at (λ (x y : Link). x.cell < y.cell) links a b no_link ordered less k));

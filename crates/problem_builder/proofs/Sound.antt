@@ -37,9 +37,9 @@ none_passes test [] e x i = absurd i
 none_passes test (y ∷ ys) e x (inl same) = subst (λ z. test z ≡ false) same (or_false (test y) (list_any test ys) e).0
 none_passes test (y ∷ ys) e x (inr i) = none_passes test ys (or_false (test y) (list_any test ys) e).1 x i
 
-pub positive : (n : ℕ) → (n == 0) ≡ false → 0 < n
-positive zero e = absurd (false≢true (sym e))
-positive (suc n) e = omega arith
+pub positive_unless_zero : (n : ℕ) → (n == 0) ≡ false → 0 < n
+positive_unless_zero zero e = absurd (false≢true (sym e))
+positive_unless_zero (suc n) e = omega arith
 
 fold_least : {X : Type 0} (f : X → ℕ) (xs : List X) (a : ℕ) → a ≤ fold (λ b x. b + f x) a xs
 fold_least f [] a = omega arith

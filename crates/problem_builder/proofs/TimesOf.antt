@@ -7,17 +7,8 @@ use Rattle.model_types.specs.Times.{period_at, no_period, steps_of, times}
 use Rattle.model_types.specs.Valid.{IsModel}
 use Rattle.model_types.proofs.Members.{In, In-get_or, map-In}
 use Rattle.problem_builder.specs.Moments.{IsTimeOf}
-
-In-Contains : {X : Type 0} (xs : List X) (x : X) → Contains xs x → In xs x
-In-Contains xs x (k, lt, e) = subst (In xs) e (In-get_or xs k x lt)
-
-In-append : {X : Type 0} (xs ys : List X) (x : X) → In (xs ++ ys) x → In xs x ⊎ In ys x
-In-append [] ys x i = inr i
-In-append (z ∷ zs) ys x (inl e) = inl (inl e)
-In-append (z ∷ zs) ys x (inr i) = elim (In-append zs ys x i) [
-  | inl j ↦ inl (inr j)
-  | inr j ↦ inr j
-]
+use Rattle.problem_builder.proofs.Members.{In-append}
+use Rattle.problem_builder.proofs.Named.{In-Contains}
 
 flat-In : {X Y : Type 0} (f : X → List Y) (xs : List X) (y : Y) → In (flat_map f xs) y → (x : X) × In xs x × In (f x) y
 flat-In f [] y i = absurd i

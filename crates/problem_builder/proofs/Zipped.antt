@@ -38,12 +38,6 @@ zip_one_list R S [] us (y ∷ ys) f h k = absurd h
 zip_one_list R S (x ∷ xs) [] (y ∷ ys) f h k = absurd k
 zip_one_list R S (x ∷ xs) (u ∷ us) (y ∷ ys) f h k = λ t. f x u y (inl refl) h.0 k.0 t ∷ zip_one_list R S xs us ys (λ a b c i. f a b c (inr i)) h.1 k.1 t
 
-pub zip_length : {X Y : Type 0} (R : X → Y → Type 0) (xs : List X) (ys : List Y) → AllZip R xs ys → length xs ≡ length ys
-zip_length R [] [] h = refl
-zip_length R [] (y ∷ ys) h = absurd h
-zip_length R (x ∷ xs) [] h = absurd h
-zip_length R (x ∷ xs) (y ∷ ys) h = ap suc (zip_length R xs ys h.1)
-
 -- an order of the right list is one of the left list
 pub zip_ordered : {X Y : Type 0} (R : X → Y → Type 0) (P : Y → Y → Type 0) (Q : X → X → Type 0) (xs : List X) (ys : List Y) → ((x u : X) (y v : Y) → In ys y → In ys v → R x y → R u v → P y v → Q x u) → AllZip R xs ys → Ordered P ys → Ordered Q xs
 zip_ordered R P Q [] [] f h k = tt

@@ -20,4 +20,7 @@ has_small_branch e = list_any (λ x. x.lo == 0) e.links || list_any (λ x. is_br
 
 -- the number of the first refusal that a cell has
 unfoldable pub fault_of : Entries → Option ℕ
-fault_of e = cond (has_small_branch e) (Some (number_of ConductanceTooSmall)) (cond (nat_le (2 ^ 60) (conductance_of e)) (Some (number_of ConductanceTooLarge)) (cond (nat_le (2 ^ 109) (flow_of e)) (Some (number_of FlowTooLarge)) None))
+fault_of e =
+    cond (has_small_branch e) (Some (number_of ConductanceTooSmall))
+    (cond (nat_le (2 ^ 60) (conductance_of e)) (Some (number_of ConductanceTooLarge))
+    (cond (nat_le (2 ^ 109) (flow_of e)) (Some (number_of FlowTooLarge)) None))

@@ -18,7 +18,7 @@ use std::alloc::{AllocError, Global};
 use step_problem::{Fixed, FixedKind, Link};
 
 // The bounds of a face's conductance.
-fn pair_of(input: &StepInput, face: Face) -> Pair
+fn face_pair(input: &StepInput, face: Face) -> Pair
     requires input { AreInputs input.now }
     requires first { face.first < cell_count input.now.model.grid }
     ensures { result ≡ pair_at input.now.tables face.axis face.first }
@@ -40,7 +40,7 @@ fn link_through(input: &StepInput, face: Option<Face>) -> Option<Link>
 {
     match face {
         Some(face) if input.is_variable(face.end) => {
-            let pair = pair_of(input, face);
+            let pair = face_pair(input, face);
             Some(Link {
                 cell: input.index(face.end),
                 lo: pair.lo,
@@ -90,7 +90,7 @@ fn constant_through(input: &StepInput, face: Option<Face>) -> Option<Fixed>
 {
     match face {
         Some(face) if input.is_constant(face.end) => {
-            let pair = pair_of(input, face);
+            let pair = face_pair(input, face);
             let head = input.given_head(face.end);
             Some(known_head(FixedKind::Constant, face.end, pair, head))
         }

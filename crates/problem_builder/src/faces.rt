@@ -34,7 +34,7 @@ pub fn span_at(spans: &[Span], cell: u32) -> Span
     spans[cell as usize]
 }
 
-fn half_of(along: Dec, hk: Dec, thickness: Span) -> Half
+fn row_half_of(along: Dec, hk: Dec, thickness: Span) -> Half
     ensures { result ≡ record { along = along; hk = hk; thick_lo = thickness.lo; thick_hi = thickness.hi } }
 {
     Half {
@@ -45,7 +45,7 @@ fn half_of(along: Dec, hk: Dec, thickness: Span) -> Half
     }
 }
 
-fn half(model: &FlowModel, thick: &[Span], cell: u32) -> Half
+fn row_half(model: &FlowModel, thick: &[Span], cell: u32) -> Half
     requires model { IsModel model.now }
     requires cell { cell < cell_count model.now.grid }
     requires active { is_active model.now cell ≡ true }
@@ -56,7 +56,7 @@ fn half(model: &FlowModel, thick: &[Span], cell: u32) -> Half
     let along = model.delr_at(cell);
     let hk = dec_at(model.hk.as_slice(), cell);
     let thickness = span_at(thick, cell);
-    half_of(along, hk, thickness)
+    row_half_of(along, hk, thickness)
 }
 
 fn col_half_of(along: Dec, hk: Dec, hani: Dec, thickness: Span) -> ColHalf
@@ -138,8 +138,8 @@ fn row_pair(model: &FlowModel, thick: &[Span], first: u32, s: u32) -> Pair
     requires digits { s ≤ 18 }
     ensures { (bed : ℕ → Interval) → IsCapped (face_term model.now (span_in thick.now) bed Row first) s result.lo result.hi }
 {
-    let a = half(model, thick, first);
-    let b = half(model, thick, first + 1);
+    let a = row_half(model, thick, first);
+    let b = row_half(model, thick, first + 1);
     capped(row_branch(&a, &b, model.delc_at(first), s))
 }
 

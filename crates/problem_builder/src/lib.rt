@@ -35,6 +35,6 @@ pub mod widths;
 pub use builder::{build, build_with};
 pub use fault::BuildFault;
 pub use period::PeriodTables;
-pub use site::{Site, sites, sites_with};
+pub use site::{Site, sites_with};
 pub use start::start_heads;
 pub use tables::Tables;

@@ -1,12 +1,11 @@
 // Numbers of the input as whole bounds.
 ghost use Rattle.std.specs.Prelude.{◌≡◌, ◌<◌, ◌≤◌, ◌^◌};
-ghost use Rattle.decimal_input.specs.Canonical.{IsDec, number};
-ghost use Rattle.decimal_input.specs.Wholes.{IsSignedFloor, IsSignedCeiling};
+ghost use Rattle.decimal_input.specs.Canonical.{IsDec};
 ghost use Rattle.step_problem.specs.Conditions.{IsHead};
 ghost use Rattle.model_types.specs.Numbers.{IsNotNegative, IsHeadNumber};
 ghost use Rattle.problem_builder.specs.InputBounds.{IsCond, IsWellPair, IsHeadPair};
 
-use conductance_bounds::{FlowPair, Pair};
+use conductance_bounds::{FlowPair, Pair, head_bounds};
 use decimal_input::dec::Dec;
 use decimal_input::units::{ceil_at, floor_at};
 use decimal_input::whole::{whole_dn, whole_up};
@@ -52,37 +51,16 @@ pub fn well_pair(q: Dec, s: u32) -> FlowPair
     }
 }
 
-fn head_floor(head: Dec) -> i64
-    requires head { IsHeadNumber head }
-    ensures floor { IsSignedFloor result (number head) 9 }
-    ensures range { IsHead result }
-{
-    match floor_at(head, 9) {
-        Some(low) => low as i64,
-        None => unreachable!(),
-    }
-}
-
-fn head_ceiling(head: Dec) -> i64
-    requires head { IsHeadNumber head }
-    ensures ceiling { IsSignedCeiling result (number head) 9 }
-    ensures range { IsHead result }
-{
-    match ceil_at(head, 9) {
-        Some(high) => high as i64,
-        None => unreachable!(),
-    }
-}
-
 /// The bounds of a head of the input.
 pub fn head_pair(head: Dec) -> Bound
     requires head { IsHeadNumber head }
     ensures is { IsHeadPair head result.low result.high }
     ensures range { IsHead result.low × IsHead result.high }
 {
+    let pair = head_bounds(head);
     Bound {
-        low: head_floor(head),
-        high: head_ceiling(head),
+        low: pair.lo,
+        high: pair.hi,
     }
 }
 

@@ -92,18 +92,3 @@ pub fn sites_with(
     let sites = sites_of(alloc, model, period, at)?;
     Ok(sites)
 }
-
-/// The sites of all cells of the grid at a time, by cell number. It reads the CHD lists up to the period.
-pub fn sites(alloc: Global, model: &FlowModel, at: TimeStep) -> Result<Vec<Site>, AllocError>
-    requires model { IsModel model.now }
-    requires time { Contains (times model.now) at }
-    ensures sites { IfOk result (λ v. AreSites model.now at v.items) }
-    ensures range { IfOk result (λ v. (c : ℕ) (pair : Pair) → site_at v.items c ≡ Given pair → IsHead pair.low × IsHead pair.high) }
-    ensures encloses { IfOk result
-        (λ v. (c : ℕ) (pair : Pair) → site_at v.items c ≡ Given pair →
-        EnclosesSigned pair.low pair.high 9 (constant_head model.now at.period at.step c)) }
-    ensures active { IfOk result (λ v. (c : ℕ) → IsActive model.now c → site_at v.items c ≡ NoFlow → ⊥) }
-{
-    let period = PeriodTables::at(alloc, model, at.period, 0)?;
-    sites_with(alloc, model, &period, at)
-}

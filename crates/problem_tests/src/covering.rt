@@ -1,6 +1,6 @@
 // Whether a listed budget covers a computed one.
 use crate::numbers::at;
-use budget_bounds::{Budget, TermPair, covers, first_uncovered};
+use budget_bounds::{Budget, TermPair, first_uncovered};
 use std::io;
 
 const TERM_NAMES: [&str; 8] = [
@@ -68,9 +68,8 @@ impl Budgets {
 
 /// Prints whether the listed budget covers the computed one, and the first term that it doesn't.
 pub fn print_cover(rt: &impl Print, budgets: &Budgets) -> io::Result<()> {
-    let covered = covers(&budgets.listed, &budgets.computed);
     match first_uncovered(&budgets.listed, &budgets.computed) {
-        None => println!(rt; "covers {covered}"),
-        Some((direction, term)) => println!(rt; "covers {covered} {direction} {term}"),
+        None => println!(rt; "covers true"),
+        Some((direction, term)) => println!(rt; "covers false {direction} {term}"),
     }
 }

@@ -52,7 +52,7 @@ pub fn raise(table: &HeadTable, seat: &mut HeadSeat, cell: usize, shown: &mut [B
     ensures { IsShown table.now seat.new shown.new }
 {
     let problem = table.problem();
-    let _cells = problem.len();
+    problem.recall_conditions();
     let to = raise_in(problem, shown, cell);
     let found = table.raise(seat, cell, to);
     shown[cell].low = found.max(to);
@@ -66,7 +66,7 @@ pub fn sink(table: &HeadTable, seat: &mut HeadSeat, cell: usize, shown: &mut [Bo
     ensures { IsShown table.now seat.new shown.new }
 {
     let problem = table.problem();
-    let _cells = problem.len();
+    problem.recall_conditions();
     let to = sink_in(problem, shown, cell);
     let found = table.sink(seat, cell, to);
     shown[cell].high = found.min(to);

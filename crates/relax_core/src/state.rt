@@ -173,7 +173,6 @@ pub fn apply(p: &Problem, state: &mut State, event: Event)
     ensures kept { (b : Edges) → IsKept p.now b state.old → IsKept p.now b state.new }
     ensures no_looser { IsNoLooser p.now state.old state.new }
 {
-    // `len` ensures the problem's conditions.
-    let _cells = p.len();
+    p.recall_conditions();
     state.change(p, event);
 }

@@ -18,8 +18,7 @@ fn raise_cell(table: &HeadTable, seat: &mut HeadSeat, cell: usize)
     ensures high { SameHigh seat.old seat.new }
 {
     let problem = table.problem();
-    // `len` ensures the problem's conditions.
-    let _cells = problem.len();
+    problem.recall_conditions();
     let links = problem.cell(cell).links.as_slice();
     let own = table.load_low(seat, cell);
     let mut values = [0i64; 6];
@@ -39,8 +38,7 @@ fn sink_cell(table: &HeadTable, seat: &mut HeadSeat, cell: usize)
     ensures low { SameLow seat.old seat.new }
 {
     let problem = table.problem();
-    // `len` ensures the problem's conditions.
-    let _cells = problem.len();
+    problem.recall_conditions();
     let links = problem.cell(cell).links.as_slice();
     let own = table.load_high(seat, cell);
     let mut values = [0i64; 6];

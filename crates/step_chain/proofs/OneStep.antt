@@ -23,7 +23,7 @@ use Rattle.step_chain.specs.Laws.{IsBefore, StepIsOne, StepExcludesRefusal, Refu
 use Rattle.step_chain.proofs.Assembled.{active_constant, heads_in_range}
 use Rattle.step_chain.proofs.Following.{settled_words}
 
-same_bounds : (xs ys : List Bound) → length xs ≡ length ys → ((c : ℕ) → c < length xs → bound_at xs c ≡ bound_at ys c) → xs ≡ ys
+pub same_bounds : (xs ys : List Bound) → length xs ≡ length ys → ((c : ℕ) → c < length xs → bound_at xs c ≡ bound_at ys c) → xs ≡ ys
 same_bounds [] [] whole same = refl
 same_bounds [] (y ∷ ys) whole same = absurd (omega arith)
 same_bounds (x ∷ xs) [] whole same = absurd (omega arith)
@@ -31,7 +31,7 @@ same_bounds (x ∷ xs) (y ∷ ys) whole same =
     let rest = same_bounds xs ys (omega arith) (λ c within. same (suc c) (omega arith)) in
     ap (λ b. b ∷ xs) (same 0 (omega arith)) ∙ ap (λ bs. y ∷ bs) rest
 
-same_bound : (a b : Bound) → (a.low ≡ b.low) × (a.high ≡ b.high) → a ≡ b
+pub same_bound : (a b : Bound) → (a.low ≡ b.low) × (a.high ≡ b.high) → a ≡ b
 same_bound a b (low, high) =
     let by_low : ℤ → Bound = λ z. record { low = z; high = a.high } in
     let by_high : ℤ → Bound = λ z. record { low = b.low; high = z } in

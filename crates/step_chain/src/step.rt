@@ -63,8 +63,7 @@ pub fn next_step_with<S: Settler>(
     fill_in(&mut heads, &sites, &bounds);
     settled_pair_encloses();
     heads_fit();
-    // `len` ensures the problem's conditions.
-    let _cells = problem.len();
+    problem.recall_conditions();
     Ok(Solved {
         problem,
         bounds: Listed::new(bounds),

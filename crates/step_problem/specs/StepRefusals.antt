@@ -2,7 +2,8 @@
 use Rattle.std.specs.Prelude.{ℕ, ◌==◌, List, [], ◌∷◌, Option, codes}
 use Rattle.std.specs.List.{find}
 use Rattle.step_problem.specs.declared.refusal.StepRefusal.{StepRefusal}
-use Rattle.step_problem.specs.declared.refusal.StepRefusal.TheVariants.{ConductanceTooSmall, ConductanceTooLarge, FlowTooLarge, NoBarrierLow, NoBarrierHigh, RangeLow, RangeHigh}
+use Rattle.step_problem.specs.declared.refusal.StepRefusal.TheVariants.{ConductanceTooSmall, ConductanceTooLarge, FlowTooLarge}
+use Rattle.step_problem.specs.declared.refusal.StepRefusal.TheVariants.{NoBarrierLow, NoBarrierHigh, RangeLow, RangeHigh}
 
 abbrev pub number_of : StepRefusal → ℕ
 number_of ConductanceTooSmall = 21

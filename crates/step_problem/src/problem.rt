@@ -64,6 +64,13 @@ impl Problem {
         self.cells.is_empty()
     }
 
+    /// Recalls the conditions on a problem, for a proof. It does nothing when it runs.
+    pub fn recall_conditions(&self)
+        ensures fits { IsProblem self.now }
+    {
+        let _cells = &self.cells;
+    }
+
     /// The cell of an index.
     pub fn cell(&self, index: usize) -> &Cell
         requires { index < length self.now }

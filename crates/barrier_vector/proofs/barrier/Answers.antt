@@ -7,7 +7,7 @@ pub returns-in-Ok-high_side-clause-held : goal.returns-in-Ok-high_side-clause-he
 returns-in-Ok-high_side-clause-held c = held_below c.args.p.now c.in-Ok.floor.items c.in-Ok.ensures.side
 
 pub returns-in-Ok-high_side-clause-encloses : goal.returns-in-Ok-high_side-clause-encloses
-returns-in-Ok-high_side-clause-encloses c = encloses_all c.args.p.now (head_at c.in-Ok.floor.items) (head_at c.in-Ok-high_side.ceiling.items) c.len-cells.ensures.fits c.in-Ok.ensures.side.is c.in-Ok-high_side.ensures.side.is
+returns-in-Ok-high_side-clause-encloses c = encloses_all c.args.p.now (head_at c.in-Ok.floor.items) (head_at c.in-Ok-high_side.ceiling.items) c.recall_conditions.ensures.fits c.in-Ok.ensures.side.is c.in-Ok-high_side.ensures.side.is
 
 pub returns-in-Err-clause-stored : goal.returns-in-Err-clause-stored
 returns-in-Err-clause-stored c = λ stored. stored_low c.args.p.now stored c.in-Err.fault c.in-Err.ensures.fault

@@ -8,5 +8,5 @@ pub returns-in-Some : goal.returns-in-Some
 returns-in-Some c =
     let fits : FitsSigned w64 c.raised.result = search rules in
     let base_fits : FitsSigned w64 c.args.base = c.ranges.base in
-    let head = high_base_head c.args.p.now c.len-cells.ensures.fits c.args.base c.requires.ascent.is_base in
+    let head = high_base_head c.args.p.now c.recall_conditions.ensures.fits c.args.base c.requires.ascent.is_base in
     simp to_z-of_z (ceiling_some c.args.p.now c.args.base c.args.levels.now c.args.paths.now c.requires.ascent head c.args.c c.in-Some.field-0 c.raised.result c.in-Some.is (simp to_z-of_z at c.raised.ensures))

@@ -16,20 +16,20 @@ lowered-requires-clause-more c = greatest_within c.args.labels.now c.args.inner.
 pub returns-then-sums-m-gt0 : goal.returns-then-sums-m-gt0
 returns-then-sums-m-gt0 c =
     let fits : FitsSigned w64 c.lowered.result = search rules in
-    let head = low_base_head c.args.p.now c.len-cells.ensures.fits c.args.base c.requires.survey.is_base in
+    let head = low_base_head c.args.p.now c.recall_conditions.ensures.fits c.args.base c.requires.survey.is_base in
     let base_fits : FitsSigned w64 c.args.base = c.ranges.base in
     let sum_fits : FitsSigned w128 (slice_index_or c.args.sums.now c.in-Some.m (pos 0)) = search rules in
     let t = simp to_z-of_z at c.if-sums-m-gt0.true in
     let positive : pos 0 <ℤ number_at c.args.sums.now c.in-Some.m = omega (arith, ints, t) in
-    simp to_z-of_z (floor_carried c.args.p.now c.len-cells.ensures.fits c.args.base c.args.levels.now c.args.paths.now c.args.labels.now c.args.inner.now c.args.sums.now c.args.longest.now c.requires.survey head c.args.c c.in-Some.m c.lowered.result c.requires.cell c.requires.none c.in-Some.is positive (simp to_z-of_z at c.lowered.ensures))
+    simp to_z-of_z (floor_carried c.args.p.now c.recall_conditions.ensures.fits c.args.base c.args.levels.now c.args.paths.now c.args.labels.now c.args.inner.now c.args.sums.now c.args.longest.now c.requires.survey head c.args.c c.in-Some.m c.lowered.result c.requires.cell c.requires.none c.in-Some.is positive (simp to_z-of_z at c.lowered.ensures))
 
 pub returns-else-sums-m-gt0 : goal.returns-else-sums-m-gt0
 returns-else-sums-m-gt0 c =
-    let head = low_base_head c.args.p.now c.len-cells.ensures.fits c.args.base c.requires.survey.is_base in
+    let head = low_base_head c.args.p.now c.recall_conditions.ensures.fits c.args.base c.requires.survey.is_base in
     let sum_fits : FitsSigned w128 (slice_index_or c.args.sums.now c.in-Some.m (pos 0)) = search rules in
     let t = simp to_z-of_z at c.if-sums-m-gt0.false in
     let empty : number_at c.args.sums.now c.in-Some.m ≤ℤ pos 0 = omega (arith, ints, t) in
-    floor_none c.args.p.now c.len-cells.ensures.fits c.args.base c.args.levels.now c.args.paths.now c.args.labels.now c.args.inner.now c.args.sums.now c.args.longest.now c.requires.survey head c.args.c c.in-Some.m c.requires.cell c.requires.none c.in-Some.is empty
+    floor_none c.args.p.now c.recall_conditions.ensures.fits c.args.base c.args.levels.now c.args.paths.now c.args.labels.now c.args.inner.now c.args.sums.now c.args.longest.now c.requires.survey head c.args.c c.in-Some.m c.requires.cell c.requires.none c.in-Some.is empty
 
 pub returns-in-None : goal.returns-in-None
 returns-in-None c = let (m, e) = c.requires.survey.labelling.all c.args.c c.requires.cell in absurd (no_both _ m c.in-None.is e)

@@ -10,17 +10,17 @@ use Rattle.barrier_vector.proofs.Surveying.{survey_made, searched_as, label_in}
 use Rattle.barrier_vector.proofs.low.survey_low.Goals as goal
 
 pub sum_components-requires-clause-labels : goal.sum_components-requires-clause-labels
-sum_components-requires-clause-labels c = label_in c.args.p.now c.len-cells.ensures.fits c.in_ok-labels.labels.items c.deref-4.result.now c.deref-4.ensures.value c.in_ok-labels.ensures
+sum_components-requires-clause-labels c = label_in c.args.p.now c.recall_conditions.ensures.fits c.in_ok-labels.labels.items c.deref-4.result.now c.deref-4.ensures.value c.in_ok-labels.ensures
 
 pub greatest_of_components-requires-clause-labels : goal.greatest_of_components-requires-clause-labels
-greatest_of_components-requires-clause-labels c = label_in c.args.p.now c.len-cells.ensures.fits c.in_ok-labels.labels.items c.deref-6.result.now c.deref-6.ensures.value c.in_ok-labels.ensures
+greatest_of_components-requires-clause-labels c = label_in c.args.p.now c.recall_conditions.ensures.fits c.in_ok-labels.labels.items c.deref-6.result.now c.deref-6.ensures.value c.in_ok-labels.ensures
 
 pub returns : goal.returns
 returns c =
     let fits : FitsSigned w64 c.low_base-base.result = search rules in
     let labels = c.in_ok-labels.labels.items in
     let q = c.lack_of-lack.ensures.value in
-    simp to_z-of_z (survey_made c.args.p.now c.len-cells.ensures.fits c.low_base-base.result
+    simp to_z-of_z (survey_made c.args.p.now c.recall_conditions.ensures.fits c.low_base-base.result
     c.in_ok-roots.roots.items c.in_ok-anchored.anchored.levels.items c.in_ok-anchored.anchored.paths.items labels
     c.in_ok-least.least.items c.in_ok-inner.inner.levels.items c.in_ok-inner.inner.paths.items
     c.in_ok-deep.deep.items c.in_ok-sums.sums.items c.in_ok-longest.longest.items

@@ -1,9 +1,9 @@
-use Rattle.budget_bounds.proofs.Caps.{goes_on, ends}
+use Rattle.budget_bounds.proofs.Caps.{next_part_capped, ends}
 use Rattle.budget_bounds.proofs.sums.add_singles.Goals as goal
 
 pub loop-x-preserved : goal.loop-x-preserved
 loop-x-preserved g c = record {
-  value = goes_on c.args.dir (g.E.Entry.of c.args.term) (g.E.Entry.pair c.args.own.low c.args.own.high) c.args.entries.now c.loop-x.x-index _ _ c.loop-x.sum _ _ c.loop-x-test.true c.x-item.is c.add_single-sum.ensures.value c.loop-x.invariant.value;
+  value = next_part_capped c.args.dir (g.E.Entry.of c.args.term) (g.E.Entry.pair c.args.own.low c.args.own.high) c.args.entries.now c.loop-x.x-index _ _ c.loop-x.sum _ _ c.loop-x-test.true c.x-item.is c.add_single-sum.ensures.value c.loop-x.invariant.value;
   sum = c.add_single-sum.ensures.sum;
 }
 

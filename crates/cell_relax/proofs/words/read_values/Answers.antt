@@ -9,7 +9,7 @@ use Rattle.cell_relax.proofs.words.read_values.Goals as goal
 pub loop-i-preserved : goal.loop-i-preserved
 loop-i-preserved c =
     let fits : FitsSigned w64 c.head_on.result = search rules in
-    let links = (c.len-cells.ensures.fits.links c.args.cell c.requires.index) in
+    let links = (c.recall_conditions.ensures.fits.links c.args.cell c.requires.index) in
     let same : length c.as_slice-links.result.now ≡ length (entries_at c.args.p.now c.args.cell).links = search rules in
     let room : c.loop-i.i < length c.loop-i.values = omega (arith, c.loop-i.invariant.six, links.few, same, c.loop-i-test.true) in
     simp to_z-of_z

@@ -10,7 +10,7 @@ pub sink_to-requires-clause-values : goal.sink_to-requires-clause-values
 sink_to-requires-clause-values c =
     let p = c.args.p.now in
     let links = (entries_at p c.args.cell).links in
-    let within = (c.len-cells.ensures.fits.links c.args.cell c.requires.index).within in
+    let within = (c.recall_conditions.ensures.fits.links c.args.cell c.requires.index).within in
     rw c.read_values-count.ensures.read (ends_in_range (length p) (upper_at c.args.words.now) c.requires.words.high links within)
 
 pub returns-clause-sink : goal.returns-clause-sink

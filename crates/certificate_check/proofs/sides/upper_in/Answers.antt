@@ -8,5 +8,5 @@ pub high_at-requires-clause-values : goal.high_at-requires-clause-values
 high_at-requires-clause-values c =
     let p = c.args.p.now in
     let links = (entries_at p c.args.cell).links in
-    let within = (c.len-cells.ensures.fits.links c.args.cell c.requires.index).within in
+    let within = (c.recall_conditions.ensures.fits.links c.args.cell c.requires.index).within in
     rw c.read_values-count.ensures.read (ends_in_range (length p) (upper_at c.args.bounds.now) c.requires.bounds.high links within)

@@ -12,7 +12,7 @@ pub over-requires-clause-near : goal.over-requires-clause-near
 over-requires-clause-near c = omega (arith, c.times-capacity.ensures.reach, c.storativity.ensures.reach, c.area.ensures.reach, c.times.ensures.reach, c.times-2.ensures.reach, c.exactly.ensures.reach, c.factor-sum.ensures.reach 5000 c.requires.factors.sum, c.factor-power.ensures.reach 4000 c.requires.factors.power)
 
 pub returns-clause-rounded : goal.returns-clause-rounded
-returns-clause-rounded c = λ t steps n f grown. c.pair_of.ensures.bounds _
+returns-clause-rounded c = λ t steps n f grown. c.rounded_pair.ensures.bounds _
     (c.over.ensures.bounds _ _ (c.times.ensures.bounds _ _ (c.times-capacity.ensures.bounds _ _ (c.storativity.ensures.bounds f) c.area.ensures.bounds) (c.factor-sum.ensures.bounds _ grown.sum_lo grown.sum_hi))
     (c.times-2.ensures.bounds _ _ c.exactly.ensures.bounds (c.factor-power.ensures.bounds _ grown.power_lo grown.power_hi)))
 

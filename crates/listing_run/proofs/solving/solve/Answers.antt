@@ -41,4 +41,4 @@ returns-in_err-zones-in-Ok-clause-led g c =
     rw p.1 (inr (c.in_ok-solved.solved.problem, l.barrier, true, l.led))
 
 pub returns-in_ok-zones-in-Ok-clause-led : goal.returns-in_ok-zones-in-Ok-clause-led
-returns-in_ok-zones-in-Ok-clause-led g c = settles c.args.task.now _ c.args.at c.args.old.now c.requires.tables.digits c.one_barrier.ensures g.S.Settler.leads _ _ c.in_ok-solved.solved c.len-cells.ensures.fits c.in_ok-solved.ensures.step c.in_ok-solved.ensures.encloses c.in_ok-solved.ensures.leads
+returns-in_ok-zones-in-Ok-clause-led g c = settles c.args.task.now _ c.args.at c.args.old.now c.requires.tables.digits c.one_barrier.ensures g.S.Settler.leads _ _ c.in_ok-solved.solved c.recall_conditions.ensures.fits c.in_ok-solved.ensures.step c.in_ok-solved.ensures.encloses c.in_ok-solved.ensures.leads

@@ -23,6 +23,6 @@ returns-in-Some c =
     (subst (λ (x : Fixed). IsConstant i.model (widths_of i.tables) i.tables.digits i.at x f) (sym c.known_head.ensures) (record {
       kind = refl;
       source = refl;
-      conductance = subst (λ (q : Pair). IsCapped (face_term i.model (span_in i.tables.thick) (span_in i.tables.bed) f.axis f.first) i.tables.digits q.lo q.hi) (sym c.pair_of-pair.ensures) (h.2 (constant_active i.model i.at.period f.end v));
+      conductance = subst (λ (q : Pair). IsCapped (face_term i.model (span_in i.tables.thick) (span_in i.tables.bed) f.axis f.first) i.tables.digits q.lo q.hi) (sym c.face_pair-pair.ensures) (h.2 (constant_active i.model i.at.period f.end v));
       head = subst (λ (q : Bound). IsConstantPair i.model i.at f.end q.low q.high) (sym c.given_head-head.ensures) (c.requires.input.step.head f.end h.1 v);
     }))

@@ -17,4 +17,4 @@ returns-in-Some c =
     let h = subst (HasPair i) c.in-Some.is c.requires.face in
     let v = sym c.is_variable.ensures ∙ c.if-is_variable.true in
     both_through (IsLink i.model (widths_of i.tables) i.tables.digits i.at) (is_variable i.model i.at.period) c.args.face f _ c.in-Some.is v
-    (record { cell = c.index.ensures; conductance = subst (λ (q : Pair). IsCapped (face_term i.model (span_in i.tables.thick) (span_in i.tables.bed) f.axis f.first) i.tables.digits q.lo q.hi) (sym c.pair_of-pair.ensures) (h.2 (variable_active i.model i.at.period f.end v)) })
+    (record { cell = c.index.ensures; conductance = subst (λ (q : Pair). IsCapped (face_term i.model (span_in i.tables.thick) (span_in i.tables.bed) f.axis f.first) i.tables.digits q.lo q.hi) (sym c.face_pair-pair.ensures) (h.2 (variable_active i.model i.at.period f.end v)) })

@@ -16,10 +16,10 @@ returns c = λ bed.
     let m = c.args.model.now in
     let a = c.args.first in
     let b = a + stride m.grid Row in
-    let x = c.half-a.ensures.is in
-    let y = c.half-b.ensures.is in
+    let x = c.row_half-a.ensures.is in
+    let y = c.row_half-b.ensures.is in
     let w = c.delc_at.ensures in
-    let same : row_of c.half-a.result c.half-b.result c.delc_at.result (thickness m a) (thickness m b) ≡ face_term m (span_in c.args.thick.now) bed Row a = λ t. row_of (x t) (y t) (w t) (thickness m a) (thickness m b) in
+    let same : row_of c.row_half-a.result c.row_half-b.result c.delc_at.result (thickness m a) (thickness m b) ≡ face_term m (span_in c.args.thick.now) bed Row a = λ t. row_of (x t) (y t) (w t) (thickness m a) (thickness m b) in
     let P : Term → Type 0 = λ t. IsCapped t c.args.s c.capped.result.lo c.capped.result.hi in
     subst P same (c.capped.ensures _ c.args.s (c.row_branch.ensures.rounded (thickness m a) (thickness m b)))
 

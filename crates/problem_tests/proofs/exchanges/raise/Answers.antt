@@ -14,7 +14,7 @@ use Rattle.problem_tests.proofs.exchanges.raise.Goals as goal
 pub raise-found-requires-clause-to : goal.raise-found-requires-clause-to
 raise-found-requires-clause-to c =
     let p = c.args.table.now.problem.now in
-    let ok = subst IsProblem c.problem-problem.ensures c.len-cells.ensures.fits in
+    let ok = subst IsProblem c.problem-problem.ensures c.recall_conditions.ensures.fits in
     let to = c.raise_in-to.result in
     let fits : FitsSigned w64 to = search rules in
     let value = subst (λ (ps : List Entries). IsRaise ps (lower_at c.args.shown.now) c.args.cell to) c.problem-problem.ensures c.raise_in-to.ensures.raise in

@@ -31,7 +31,7 @@ sink_to-to-requires-clause-values c =
 pub returns-clause-gain : goal.returns-clause-gain
 returns-clause-gain c =
     let p = c.args.table.now.problem.now in
-    let ok = subst IsProblem c.problem-problem.ensures c.len-cells.ensures.fits in
+    let ok = subst IsProblem c.problem-problem.ensures c.recall_conditions.ensures.fits in
     let seen = high_seen c.load_links_high.new.seat in
     let to = c.sink_to-to.result in
     let fits : FitsSigned w64 to = search rules in

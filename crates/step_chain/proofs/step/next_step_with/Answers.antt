@@ -68,4 +68,4 @@ returns-clause-encloses g c =
     let made = (goal.at.returns-clause-encloses g c).After-new-2 in
     let all = parts g made in
     follows c.args.model.now (digits_of c.args.tables.now) c.args.at c.args.old.now c.in_ok-problem.problem c.in_ok-sites.sites.items c.new.result c.new-2.result all.are all.fills c.in_ok-sites.ensures.encloses (rw c.go_to.ensures.digits at c.in_ok-problem.ensures.encloses)
-    (settled_encloses c.args.model.now (digits_of c.args.tables.now) c.args.at c.args.old.now c.in_ok-barrier.barrier c.in_ok-sites.sites.items (solved g made) all c.settled_pair_encloses.ensures c.len-cells.ensures.fits c.in_ok-barrier.ensures.held c.in_ok-barrier.ensures.encloses)
+    (settled_encloses c.args.model.now (digits_of c.args.tables.now) c.args.at c.args.old.now c.in_ok-barrier.barrier c.in_ok-sites.sites.items (solved g made) all c.settled_pair_encloses.ensures c.recall_conditions.ensures.fits c.in_ok-barrier.ensures.held c.in_ok-barrier.ensures.encloses)

@@ -17,7 +17,7 @@ pub load-found-requires : goal.load-found-requires
 load-found-requires c = let t = c.args.self.now in let back = sym t.same in (
   search rules,
   omega (arith, t.words),
-  looks _ _ (subst IsProblem back c.len-cells.ensures.fits) _ _ _ c.args.cell (subst (λ (cells : List Entries). c.args.cell < length cells) back c.requires.cell) c.args.seat.now.live,
+  looks _ _ (subst IsProblem back c.recall_conditions.ensures.fits) _ _ _ c.args.cell (subst (λ (cells : List Entries). c.args.cell < length cells) back c.requires.cell) c.args.seat.now.live,
 )
 
 pub invariant_of-seat : goal.invariant_of-seat

@@ -10,4 +10,4 @@ of_words-requires c = let raw = c.in_ok-raw.raw in let words = c.args.words.now.
     let wide : length raw.items ≡ 2 * length words + 1 = omega (arith, raw.ok, c.in_ok-raw.ensures.len, ap length same) in
     let low = subst (λ (ws : List Bound). (k : ℕ) → k < length ws → lower_words raw.items k ≡ lower_at ws k) same c.in_ok-raw.ensures.low in
     let high = subst (λ (ws : List Bound). (k : ℕ) → k < length ws → upper_words raw.items k ≡ upper_at ws k) same c.in_ok-raw.ensures.high in
-    rw (c.of.ensures, c.of-2.ensures, c.of-3.ensures, c.as_slice-2.ensures.value) (opens c.args.problem.now c.args.barrier.now c.len-cells.ensures.fits words raw.items wide low high c.requires)
+    rw (c.of.ensures, c.of-2.ensures, c.of-3.ensures, c.as_slice-2.ensures.value) (opens c.args.problem.now c.args.barrier.now c.recall_conditions.ensures.fits words raw.items wide low high c.requires)

@@ -15,7 +15,7 @@ pub fetch_min-found-requires : goal.fetch_min-found-requires
 fetch_min-found-requires c = let t = c.args.self.now in let back = sym t.same in (
   search rules,
   omega (arith, t.words),
-  sinks _ _ (subst IsProblem back c.len-cells.ensures.fits) _ _ _ c.args.cell c.coded-word.result (subst (λ (cells : List Entries). c.args.cell < length cells) back c.requires.cell) c.args.seat.now.live
+  sinks _ _ (subst IsProblem back c.recall_conditions.ensures.fits) _ _ _ c.args.cell c.coded-word.result (subst (λ (cells : List Entries). c.args.cell < length cells) back c.requires.cell) c.args.seat.now.live
       (subst (λ (cells : List Entries). IsSink cells (upper_at c.args.seat.now.seat.me.0.seen) c.args.cell (head_of_word c.coded-word.result)) back
       (subst (IsSink t.problem.now (upper_at c.args.seat.now.seat.me.0.seen) c.args.cell) (sym (c.coded-word.ensures.value ∙ to_z-of_z w64 c.args.to c.ranges.to)) c.requires.to)),
 )

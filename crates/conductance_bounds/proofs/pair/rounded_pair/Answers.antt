@@ -1,7 +1,7 @@
 use Rattle.std.proofs.Common.{◌-◌, ◌^◌, arith}
 use Rattle.scaled_decimal.specs.Nearest.{value}
 use Rattle.conductance_bounds.proofs.Whole.{Reaches-passes, ceiling-passes}
-use Rattle.conductance_bounds.proofs.pair.pair_of.Goals as goal
+use Rattle.conductance_bounds.proofs.pair.rounded_pair.Goals as goal
 
 pub returns-in_default-floor_units : goal.returns-in_default-floor_units
 returns-in_default-floor_units c = record {

@@ -3,21 +3,21 @@ use Rattle.conductance_bounds.specs.declared.horizontal.Half.{Half}
 use Rattle.conductance_bounds.specs.Calls.{IsHalf}
 use Rattle.model_types.specs.Layers.{dec_at}
 use Rattle.problem_builder.proofs.Halves.{delr_positive}
-use Rattle.problem_builder.proofs.faces.half.Goals as goal
+use Rattle.problem_builder.proofs.faces.row_half.Goals as goal
 
 pub returns-clause-is : goal.returns-clause-is
 returns-clause-is c =
     let along = c.delr_at-along.ensures in
     let hk = c.dec_at-hk.ensures ∙ ap (λ xs. dec_at xs c.args.cell) c.as_slice.ensures in
     let t = c.span_at-thickness.ensures in
-    c.half_of.ensures ∙ (λ q. record { along = along q; hk = hk q; thick_lo = (t q).lo; thick_hi = (t q).hi })
+    c.row_half_of.ensures ∙ (λ q. record { along = along q; hk = hk q; thick_lo = (t q).lo; thick_hi = (t q).hi })
 
 pub returns-clause-fits : goal.returns-clause-fits
 returns-clause-fits c =
     let along = c.delr_at-along.ensures in
     let hk = c.dec_at-hk.ensures ∙ ap (λ xs. dec_at xs c.args.cell) c.as_slice.ensures in
     let t = c.span_at-thickness.ensures in
-    let same = c.half_of.ensures ∙ (λ q. record { along = along q; hk = hk q; thick_lo = (t q).lo; thick_hi = (t q).hi }) in
+    let same = c.row_half_of.ensures ∙ (λ q. record { along = along q; hk = hk q; thick_lo = (t q).lo; thick_hi = (t q).hi }) in
     let valid = c.requires.model.cells c.args.cell c.requires.cell c.requires.active in
     let P : Half → Type 0 = λ h. IsHalf h in
     subst P (sym same) (record { along = delr_positive c.args.model.now c.args.cell c.requires.model; hk = valid.hk; thick = (c.requires.thick.each c.args.cell c.requires.cell c.requires.active).thick })
