@@ -5,7 +5,7 @@ ghost use Rattle.step_problem.specs.Settling.{Settles};
 
 use crate::first::{has_few_cells, settles_soon};
 use crate::guesser::{Guesser, NearGuesser};
-use crate::guessing::Guessing;
+use crate::guessing::{Guessing, Way};
 use settle_driver::PlainSettler;
 use std::alloc::Global;
 use step_problem::{Barrier, Bound, Problem, SettleFault, Settler};
@@ -94,6 +94,29 @@ impl<S: Guesser> AloneSettler<S> {
         }
     }
 
+    // By sweeps of a problem that is taken to settle soon, then by a guess.
+    fn settle_soon(
+        &self,
+        alloc: Global,
+        p: &Problem,
+        b: &Barrier,
+    ) -> Result<Vec<Bound>, SettleFault>
+        requires { IsBarrier p.now b.now }
+        ensures { Settles p.now b.now self.now.rounds result }
+    {
+        if self.rounds <= SWEEPS_OF_SOON {
+            return sweep(alloc, p, b, self.rounds);
+        }
+        match sweep(alloc, p, b, SWEEPS_OF_SOON) {
+            Ok(bounds) => {
+                self.guessing.count_soon();
+                Ok(bounds)
+            }
+            Err(SettleFault::Unfinished(_)) => self.settle_onward(alloc, p, b),
+            Err(SettleFault::Memory) => Err(SettleFault::Memory),
+        }
+    }
+
     // After one look that led to `first`: by a second one, then by sweeps or by a guess, as the moves promise.
     fn settle_as_promised(
         &self,
@@ -109,7 +132,7 @@ impl<S: Guesser> AloneSettler<S> {
             Ok(bounds) => Ok(bounds),
             Err(SettleFault::Unfinished(open)) => {
                 if settles_soon(b, first, &open.words) {
-                    self.settle_few_first(alloc, p, b, SWEEPS_OF_SOON)
+                    self.settle_soon(alloc, p, b)
                 } else {
                     self.settle_onward(alloc, p, b)
                 }
@@ -118,7 +141,7 @@ impl<S: Guesser> AloneSettler<S> {
         }
     }
 
-    // By a look first, which costs less than a guess, unless one of the last steps had a look.
+    // By a look first, which costs less than a guess.
     fn settle_by_look(
         &self,
         alloc: Global,
@@ -128,9 +151,6 @@ impl<S: Guesser> AloneSettler<S> {
         requires { IsBarrier p.now b.now }
         ensures { Settles p.now b.now self.now.rounds result }
     {
-        if self.guessing.skips_look() {
-            return self.settle_onward(alloc, p, b);
-        }
         match sweep(alloc, p, b, LOOK) {
             Ok(bounds) => Ok(bounds),
             Err(SettleFault::Unfinished(open)) => self.settle_as_promised(alloc, p, b, &open.words),
@@ -159,6 +179,10 @@ impl<S: Guesser> Settler for AloneSettler<S> {
         if self.rounds <= TWO_LOOKS {
             return sweep(alloc, p, b, self.rounds);
         }
-        self.settle_by_look(alloc, p, b)
+        match self.guessing.next_way() {
+            Way::Look => self.settle_by_look(alloc, p, b),
+            Way::Guess => self.settle_onward(alloc, p, b),
+            Way::Soon => self.settle_soon(alloc, p, b),
+        }
     }
 }

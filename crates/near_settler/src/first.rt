@@ -19,9 +19,9 @@ const TURNS: u32 = SHARED_TURNS + 1;
 const SOON: u32 = 56;
 
 // The phases of a problem that is found to settle soon are short, since it is settled at the end of one of them.
-const SHARED_TURNS_OF_SOON: u32 = 7;
+const SHARED_TURNS_OF_SOON: u32 = 3;
 
-const PHASES_OF_SOON: u32 = 16;
+pub(crate) const PHASES_OF_SOON: u32 = 32;
 
 /// Whether a problem has so few cells that its first phases are many.
 pub(crate) fn has_few_cells(cells: usize) -> bool {
@@ -52,7 +52,8 @@ pub(crate) fn look(plan: Plan, rounds: u32) -> Plan
 /// The plan before a guess of a problem that was found to settle soon, with no more turns in a phase than the plan's own.
 pub(crate) fn soon(plan: Plan) -> Plan
     requires { IsPlan plan }
-    ensures { IsPlan result }
+    ensures plan { IsPlan result }
+    ensures rounds { result.rounds ≡ 32 }
 {
     Plan {
         turns_per_cell: plan.turns_per_cell.min(SHARED_TURNS_OF_SOON),

@@ -14,8 +14,8 @@ const TRIALS: u32 = 4;
 
 const SWEEPS: u32 = 32;
 
-// The guesses after a look that found that a guess is due, before the next look.
-const GUESSES: u32 = 8;
+// A look tells the way of this many problems, one step after another.
+const STEPS_OF_LOOK: u32 = 8;
 
 // From a guess by trials on one thread. Unfinished where none of them certifies the settled pair.
 fn settle_by_guess<S: Guesser>(
@@ -38,12 +38,21 @@ fn settle_by_guess<S: Guesser>(
     settle_near(&mut trial, &mut no_rounds, alloc, p, b, near, TRIALS)
 }
 
-// What a settler keeps from one step of a run to the next, so that a guess takes less time.
+/// How a problem begins: with a look, by a guess, or by short phases, since it is taken to settle soon.
+#[derive(Clone, Copy)]
+pub(crate) enum Way {
+    Look,
+    Guess,
+    Soon,
+}
+
+// What a settler keeps from one step of a run to the next, so that a step takes less time.
 #[derive(Drop)]
 struct Course {
     kept: Kept,
-    // The guesses that are left before the next look.
-    guesses: u32,
+    // The way of the last problem, and the problems that are left before the next look.
+    way: Way,
+    left: u32,
 }
 
 impl Course {
@@ -51,8 +60,23 @@ impl Course {
     fn new() -> Course {
         Course {
             kept: Kept::new(),
-            guesses: 0,
+            way: Way::Look,
+            left: 0,
         }
+    }
+
+    // How the next problem begins.
+    fn next_way(&self) -> Way {
+        if self.left == 0 { Way::Look } else { self.way }
+    }
+
+    // A problem was settled in this way.
+    fn count(&mut self, way: Way) {
+        self.way = way;
+        self.left = match self.left {
+            0 => STEPS_OF_LOOK - 1,
+            left => left - 1,
+        };
     }
 
     // From a guess by trials on one thread. Unfinished where none of them certifies the settled pair; then nothing is kept.
@@ -71,10 +95,7 @@ impl Course {
             *self = Course::new();
             return settled;
         }
-        self.guesses = match self.guesses {
-            0 => GUESSES - 1,
-            left => left - 1,
-        };
+        self.count(Way::Guess);
         settled
     }
 }
@@ -95,12 +116,19 @@ impl<S: Guesser> Guessing<S> {
         }
     }
 
-    /// Whether the next problem is settled by a guess without a look.
-    pub(crate) fn skips_look(&self) -> bool {
+    /// How the next problem begins.
+    pub(crate) fn next_way(&self) -> Way {
         let course = self.course.replace(Course::new());
-        let skips = course.guesses > 0;
+        let way = course.next_way();
         self.course.set(course);
-        skips
+        way
+    }
+
+    /// A problem was settled soon.
+    pub(crate) fn count_soon(&self) {
+        let mut course = self.course.replace(Course::new());
+        course.count(Way::Soon);
+        self.course.set(course);
     }
 
     /// From a guess by trials on one thread. Unfinished where none of them certifies the settled pair; then nothing is kept.
