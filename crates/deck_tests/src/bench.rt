@@ -8,12 +8,14 @@ use std::process::ExitCode;
 use std::sync::Wait;
 use std::thread::Threads;
 
-/// The files of a deck, the sink of the next run, and what the last run put.
+/// The files of a deck, the sinks of the next run, and what the last run put to each.
 #[derive(Drop)]
 pub struct Bench {
     pub deck: Deck,
     pub out: MemSink,
+    pub side: MemSink,
     put: Vec<u8>,
+    shown: Vec<u8>,
 }
 
 /// The words of a line, separated by blanks.
@@ -40,7 +42,9 @@ impl Bench {
         Bench {
             deck: Deck::new(alloc),
             out: MemSink::new(alloc),
+            side: MemSink::new(alloc),
             put: Vec::new(alloc),
+            shown: Vec::new(alloc),
         }
     }
 
@@ -49,8 +53,7 @@ impl Bench {
         self.deck.folder.add(name, self.put.as_slice())
     }
 
-    /// Runs the words over the files as the program does, and returns the number that it ends with. What is put to the side
-    /// stands after the rest.
+    /// Runs the words over the files as the program does, and returns the number that it ends with.
     pub fn run<R: Threads + Wait + Sync>(
         &mut self,
         rt: &R,
@@ -58,23 +61,28 @@ impl Bench {
         words: &str,
     ) -> io::Result<u8> {
         let words = words_of(alloc, words)?;
-        let mut side = MemSink::new(alloc);
         let code = serve(
             rt,
             alloc,
             words.as_slice(),
             &mut self.deck.folder,
             &mut self.out,
-            &mut side,
+            &mut self.side,
             &FreeGate,
         );
         self.put = Vec::from_slice(alloc, self.out.bytes())?;
-        self.put.extend_from_slice(side.bytes())?;
+        self.shown = Vec::from_slice(alloc, self.side.bytes())?;
         self.out = MemSink::new(alloc);
+        self.side = MemSink::new(alloc);
         Ok(number_of(code))
     }
 
     pub fn put(&self) -> &[u8] {
         self.put.as_slice()
+    }
+
+    /// What the last run put to the side.
+    pub fn shown(&self) -> &[u8] {
+        self.shown.as_slice()
     }
 }

@@ -8,6 +8,7 @@ pub enum Command<'a> {
     Repeat(u32, &'a str),
     ReadFault(u64),
     PutFault(u64, u64),
+    SideFault(u64, u64),
     Keep(&'a str),
     Ask(Question<'a>),
 }
@@ -26,6 +27,9 @@ pub enum Question<'a> {
     Words(&'a str),
     Run(&'a str),
     Ends(&'a str),
+    Watch(u32, &'a str),
+    Await(&'a str, &'a str),
+    Lack(u64, &'a str),
     Meet(&'a str),
     ShakeHands(u64, &'a str),
 }
@@ -35,9 +39,9 @@ fn repeat(rest: &str) -> Option<Command<'_>> {
     Some(Command::Repeat(count.parse::<u32>().ok()?, line))
 }
 
-fn put_fault(rest: &str) -> Option<Command<'_>> {
+fn put_fault(rest: &str) -> Option<(u64, u64)> {
     let (call, kept) = rest.split_once(' ')?;
-    Some(Command::PutFault(call.parse::<u64>().ok()?, kept.parse::<u64>().ok()?))
+    Some((call.parse::<u64>().ok()?, kept.parse::<u64>().ok()?))
 }
 
 fn zones(rest: &str) -> Option<Question<'_>> {
@@ -71,9 +75,30 @@ fn example(rest: &str) -> Option<Question<'_>> {
     Some(Question::Example(hk.parse::<u64>().ok()?, rate.parse::<u64>().ok()?))
 }
 
-fn shake_hands(rest: &str) -> Option<Question<'_>> {
+fn watch(rest: &str) -> Option<Question<'_>> {
+    let (views, words) = rest.split_once(' ')?;
+    Some(Question::Watch(views.parse::<u32>().ok()?, words))
+}
+
+fn awaiting(rest: &str) -> Option<Question<'_>> {
+    let (head, words) = rest.split_once(' ')?;
+    Some(Question::Await(head, words))
+}
+
+// The number of a put, and words.
+fn put_and_words(rest: &str) -> Option<(u64, &str)> {
     let (put, words) = rest.split_once(' ')?;
-    Some(Question::ShakeHands(put.parse::<u64>().ok()?, words))
+    Some((put.parse::<u64>().ok()?, words))
+}
+
+fn lack(rest: &str) -> Option<Question<'_>> {
+    let (put, words) = put_and_words(rest)?;
+    Some(Question::Lack(put, words))
+}
+
+fn shake_hands(rest: &str) -> Option<Question<'_>> {
+    let (put, words) = put_and_words(rest)?;
+    Some(Question::ShakeHands(put, words))
 }
 
 impl<'a> Question<'a> {
@@ -90,6 +115,9 @@ impl<'a> Question<'a> {
             "@words" => Some(Question::Words(rest)),
             "@run" => Some(Question::Run(rest)),
             "@ends" => Some(Question::Ends(rest)),
+            "@watch" => watch(rest),
+            "@await" => awaiting(rest),
+            "@lack" => lack(rest),
             "@meet" => Some(Question::Meet(rest)),
             "@shake_hands" => shake_hands(rest),
             _ => None,
@@ -107,7 +135,14 @@ impl<'a> Command<'a> {
             "@file" => Some(Command::File(rest)),
             "@repeat" => repeat(rest),
             "@read_fault" => Some(Command::ReadFault(rest.parse::<u64>().ok()?)),
-            "@put_fault" => put_fault(rest),
+            "@put_fault" => {
+                let (call, kept) = put_fault(rest)?;
+                Some(Command::PutFault(call, kept))
+            }
+            "@side_fault" => {
+                let (call, kept) = put_fault(rest)?;
+                Some(Command::SideFault(call, kept))
+            }
             "@keep" => Some(Command::Keep(rest)),
             _ => Some(Command::Ask(Question::of(word, rest)?)),
         }

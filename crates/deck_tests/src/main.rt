@@ -3,8 +3,9 @@
 //!
 //! `@deck -` begins a deck without files. A line `@file NAME` begins a file, whose lines follow it, and replaces an
 //! earlier file of that name; `@repeat N LINE` is N such lines. `@read_fault N` makes the folder's read of this number
-//! fail, and `@put_fault N KEPT` a put of the next run, which keeps KEPT bytes. `@keep NAME` makes a file of what the
-//! last run put. A line `@ ..` says what is shown, and is printed, as each question is.
+//! fail, and `@put_fault N KEPT` a put of the next run, which keeps KEPT bytes; `@side_fault N KEPT` a put to its side.
+//! `@keep NAME` makes a file of what the last run put. A line `@ ..` says what is shown, and is printed, as each question
+//! is.
 //!
 //! `@read NAME` reads the model of a name file, and prints its lists, or why it is refused. `@zones NAME FILE` reads the
 //! zones of its cells. `@periods NAME` prints its time steps, and for each stress period the kinds of its cells, by the
@@ -19,8 +20,15 @@
 //! `@run WORDS` runs the program with these words, and prints its status and all that it put; `@ends WORDS` prints its
 //! first and its last line. `@meet WORDS` runs with a gate at which two workers wait for each other, and
 //! `@shake_hands N WORDS` with a gate and a sink that wait for each other, whose put of number N lacks memory (0: none).
+//!
+//! `@watch N WORDS` prints what `@run` does, but of the side, for each step, by how many its views exceed a multiple of N,
+//! how many heads each has, how many of these are wider than in the view before, and how many are not around the listed
+//! ones.
+//! `@await HEAD WORDS` runs with a gate at which the watching seat waits for two turns of a worker, and prints on which side
+//! of HEAD the heads of its first view lie. `@lack N WORDS` runs with a side whose put of number N lacks memory.
 #![tactic(auto)]
 
+mod awaiting;
 mod bench;
 mod checks;
 mod command;
@@ -37,9 +45,12 @@ mod runs;
 mod shared;
 mod steps;
 mod stresses;
+mod views;
 mod waiting;
+mod watching;
 mod words;
 
+use awaiting::print_awaiting;
 use bench::Bench;
 use checks::print_check;
 use command::{Command, Question};
@@ -53,7 +64,8 @@ use std::io;
 use std::sync::Wait;
 use std::thread::Threads;
 use steps::print_steps;
-use waiting::{print_handshake, print_meeting};
+use waiting::{print_handshake, print_lacking, print_meeting};
+use watching::print_watch;
 use words::print_order;
 
 fn ask<R: Print + Threads + Wait + Sync>(
@@ -78,6 +90,9 @@ fn ask<R: Print + Threads + Wait + Sync>(
         Question::Words(line) => print_order(rt, alloc, line),
         Question::Run(words) => print_run(rt, alloc, bench, words),
         Question::Ends(words) => print_ends(rt, alloc, bench, words),
+        Question::Watch(views, words) => print_watch(rt, alloc, bench, views, words),
+        Question::Await(head, words) => print_awaiting(rt, alloc, folder, head, words),
+        Question::Lack(put, words) => print_lacking(rt, alloc, bench, put, words),
         Question::Meet(words) => print_meeting(rt, alloc, folder, words),
         Question::ShakeHands(lacking, words) => print_handshake(rt, alloc, folder, lacking, words),
     }
@@ -100,6 +115,7 @@ fn step<R: Print + Threads + Wait + Sync>(
         Some(Command::Repeat(count, line)) => Ok(bench.deck.push_lines(count, line)?),
         Some(Command::ReadFault(call)) => Ok(bench.deck.folder.fail_at(call)?),
         Some(Command::PutFault(call, kept)) => Ok(bench.out.fail_at(call, kept)?),
+        Some(Command::SideFault(call, kept)) => Ok(bench.side.fail_at(call, kept)?),
         Some(Command::Keep(name)) => Ok(bench.keep(name)?),
         Some(Command::Ask(question)) => {
             println!(rt; "{line}")?;

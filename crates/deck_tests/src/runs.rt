@@ -22,7 +22,8 @@ pub fn print_run<R: Print + Threads + Wait + Sync>(
 ) -> io::Result<()> {
     let status = bench.run(rt, alloc, words)?;
     println!(rt; "status {status}")?;
-    print_text(rt, bench.put())
+    print_text(rt, bench.put())?;
+    print_text(rt, bench.shown())
 }
 
 /// The first line that a run puts, and the last one.

@@ -1,14 +1,14 @@
 // Runs with gates and sinks that wait.
-use crate::bench::words_of;
+use crate::bench::{Bench, words_of};
 use crate::handshake::{Handshake, HandshakeSink};
 use crate::meeting::MeetingGate;
 use crate::runs::print_text;
 use engine::{run, run_one};
-use outside::{Gate, MemFolder, MemSink, Sink};
+use outside::{FreeGate, Gate, MemFolder, MemSink, Sink};
 use std::alloc::Global;
-use std::io;
 use std::sync::Wait;
 use std::thread::Threads;
+use std::{io, str};
 
 // Runs the words over the files as the program does, and returns the status.
 fn run_at<R: Threads + Wait + Sync, K: Sink + Send, G: Gate + Sync>(
@@ -74,4 +74,32 @@ pub fn print_handshake<R: Print + Threads + Sync>(
         &together,
     );
     print_put(rt, status.code(), out.bytes(), together.failures())
+}
+
+/// A run whose side lacks memory at one put.
+pub fn print_lacking<R: Print + Threads + Wait + Sync>(
+    rt: &R,
+    alloc: Global,
+    bench: &mut Bench,
+    lacking: u64,
+    words: &str,
+) -> io::Result<()> {
+    let words = words_of(alloc, words)?;
+    let over = Handshake::over();
+    let mut side = HandshakeSink::new(alloc, &over, lacking);
+    let status = run(
+        rt,
+        alloc,
+        words.as_slice(),
+        &mut bench.deck.folder,
+        &mut bench.out,
+        &mut side,
+        &FreeGate,
+    );
+    println!(rt; "status {}", status.code())?;
+    print_text(rt, bench.out.bytes())?;
+    let shown = str::from_utf8(side.bytes()).unwrap_or("not a text");
+    println!(rt; "views put {}", shown.split("WATCH ").skip(1).count())?;
+    bench.out = MemSink::new(alloc);
+    Ok(())
 }
