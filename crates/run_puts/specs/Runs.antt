@@ -17,4 +17,4 @@ pub data Begins (Due : Status → List Text → Type 0) (Cut : List Text → Typ
 pub data IsRun (Due : Status → List Text → Type 0) (Cut : List Text → Type 0) : Status → List Put → Type 0 where
   whole : (end : Status) (pieces : List Text) → Due end pieces → IsRun Due Cut end (map taken pieces)
   early : (end : Status) (before after : List Text) (tail : List Put) → Begins Due Cut before after →
-    IsTail after end tail → IsRun Due Cut end (map taken before ++ tail)
+      IsTail after end tail → IsRun Due Cut end (map taken before ++ tail)

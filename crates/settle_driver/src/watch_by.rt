@@ -55,7 +55,7 @@ impl<
 
     ghost ready = { λ s. (a : _) (p : Bor (List Entries)) (b : Bor Edges) (v : MutBor V) → IsBarrier p.now b.now → F.pre s.call a p b v
         × ((r : _) (w : MutBor V) → F.post s.call a p b v r w
-            → Settles p.now b.now s.rounds r × AddsPhases V.viewed V.stopped p.now b.now s.views (had_memory r) v.now w.now) };
+        → Settles p.now b.now s.rounds r × AddsPhases V.viewed V.stopped p.now b.now s.views (had_memory r) v.now w.now) };
 
     // A settling adds its phases to the viewer that is lent.
     ghost leads = { λ s p b ended t. (t.views ≡ s.views) × (t.viewer.ghost_name ≡ s.viewer.ghost_name)

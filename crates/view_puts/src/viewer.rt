@@ -33,8 +33,13 @@ impl<'a, W: Sink, X: ViewText> Viewer for SinkViewer<'a, W, X> {
 
     ghost stopped = { λ s. is_some s.stop ≡ true };
 
-    ghost rests = { λ s p b. (refl, refl, refl, refl,
-        no_view (X.text s.text.now s.period s.step p) (EnclosesPair p b) (LeadOn W.leads s.sink.now s.sink.now) s.stop (no_lead W.leads s.sink.now)) };
+    ghost rests = { λ s p b. (
+      refl,
+      refl,
+      refl,
+      refl,
+      no_view (X.text s.text.now s.period s.step p) (EnclosesPair p b) (LeadOn W.leads s.sink.now s.sink.now) s.stop (no_lead W.leads s.sink.now),
+    ) };
 
     fn view(&mut self, p: &Problem, _b: &Barrier, heads: &[Bound]) -> bool {
         if self.stop.is_some() {
