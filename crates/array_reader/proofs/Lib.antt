@@ -2,3 +2,4 @@ pub mod ListLemmas
 pub mod NumberLemmas
 pub mod StepLemmas
 pub mod NameLemmas
+pub mod Forward

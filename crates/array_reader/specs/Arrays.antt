@@ -5,7 +5,8 @@ use Rattle.outside.specs.Files.{File}
 use Rattle.outside.specs.Inputs.{file_at}
 use Rattle.outside.specs.declared.refusals.Refusal.{Refusal}
 use Rattle.record_lines.specs.Items.{line_at}
-use Rattle.record_lines.specs.Layout.{Left, words, left_from}
+use Rattle.outside.specs.Words.{words}
+use Rattle.record_lines.specs.Layout.{Left, left_from}
 use Rattle.record_lines.specs.Reading.{◌>>=◌, appended}
 use Rattle.array_reader.specs.Control.{Control, constant, internal, named, control_at}
 use Rattle.array_reader.specs.Kinds.{Kind, multiplied, real, whole}
@@ -36,17 +37,17 @@ unfoldable pub reals : List File → List ℕ → ℕ → Left → Result (List 
 reals files file count left = without_line (array_at real files file 1 count left)
 
 -- a layer: one free list for each row of the grid
-unfoldable pub layer_of : {X : Type 0} → Kind X → List File → List ℕ → ℕ → ℕ → Left → Result (List X × Left) Refusal
-layer_of kind files file rows cols left = without_line (array_at kind files file rows cols left)
+unfoldable pub layer_array : {X : Type 0} → Kind X → List File → List ℕ → ℕ → ℕ → Left → Result (List X × Left) Refusal
+layer_array kind files file rows cols left = without_line (array_at kind files file rows cols left)
 
 -- a layer of numbers
 unfoldable pub real_layer : List File → List ℕ → ℕ → ℕ → Left → Result (List Dec × Left) Refusal
-real_layer files file rows cols left = layer_of real files file rows cols left
+real_layer files file rows cols left = layer_array real files file rows cols left
 
 -- a layer of integers
 unfoldable pub integer_layer : List File → List ℕ → ℕ → ℕ → Left → Result (List ℤ × Left) Refusal
-integer_layer files file rows cols left = layer_of whole files file rows cols left
+integer_layer files file rows cols left = layer_array whole files file rows cols left
 
 -- this many layers, one array for each, as one list
 unfoldable pub layers : {X : Type 0} → Kind X → List File → List ℕ → ℕ → ℕ → ℕ → Left → Result (List X × Left) Refusal
-layers kind files file count rows cols left = appended count (layer_of kind files file rows cols) left
+layers kind files file count rows cols left = appended count (layer_array kind files file rows cols) left

@@ -6,3 +6,4 @@ pub mod Control
 pub mod Arrays
 pub mod Seen
 pub mod Laws
+pub mod Asking

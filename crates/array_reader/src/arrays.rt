@@ -1,10 +1,10 @@
 ghost use Rattle.std.specs.Prelude.{◌≡◌, ◌*◌, length, IfOk, All, List};
-ghost use Rattle.outside.specs.Counts.{InputCounts};
 ghost use Rattle.outside.specs.Files.{File};
-ghost use Rattle.outside.specs.Inputs.{file_at};
-ghost use Rattle.outside.specs.Names.{IsGoodName};
-ghost use Rattle.record_lines.specs.Reading.{Gives, Has};
+ghost use Rattle.outside.specs.Folders.{ReadsOn};
+ghost use Rattle.record_lines.specs.Asking.{LinesMay};
+ghost use Rattle.record_lines.specs.Reading.{Gives};
 ghost use Rattle.array_reader.specs.Arrays.{values_of, array_at};
+ghost use Rattle.array_reader.specs.Asking.{ControlMay};
 ghost use Rattle.array_reader.specs.Seen.{control_of, Has_good};
 
 use crate::control::{Control, control_record};
@@ -15,21 +15,8 @@ use outside::{Folder, InputFault, read_input};
 use record_lines::{Lines, Words};
 use std::alloc::Global;
 
-/// A whole file of the folder.
-pub fn open_file<F: Folder>(
-    alloc: Global,
-    folder: &mut F,
-    name: &str,
-) -> Result<Vec<u8>, InputFault>
-    requires { IsGoodName name.now }
-    ensures since { (files : List File) → F.agrees folder.new files → F.agrees folder.old files }
-    ensures counts { InputCounts (F.faults folder.old) (F.faults folder.new) result }
-    ensures bytes { (files : List File) → F.agrees folder.new files → Has (λ v. v.items) result (file_at files name.now) }
-{
-    read_input(alloc, folder, name)
-}
-
 /// The values of an array by its control record.
+#[tactic(auto, using(record_lines::proofs::Forward::lines_still))]
 fn values_of<V: Value, F: Folder>(
     alloc: Global,
     lines: &mut Lines,
@@ -40,8 +27,10 @@ fn values_of<V: Value, F: Folder>(
     cols: u32,
 ) -> Result<Vec<V>, InputFault>
     requires good { Has_good V.Good control.now }
-    ensures since { (files : List File) → F.agrees folder.new files → F.agrees folder.old files }
-    ensures counts { InputCounts (F.faults folder.old) (F.faults folder.new) result }
+    requires name { ControlMay (F.may folder.old) (control_of control.now) }
+    requires lines { LinesMay (F.may folder.old) lines.old }
+    ensures folder { ReadsOn F.Folder folder.old folder.new result }
+    ensures lines { IfOk result (λ _. LinesMay (F.may folder.new) lines.new) }
     ensures values { (files : List File) → F.agrees folder.new files →
         Gives (λ v. v.items) result lines.new
         (values_of V.kind files file.now rows cols lines.old (control_of control.now)) }
@@ -55,7 +44,7 @@ fn values_of<V: Value, F: Folder>(
         }
         Control::Internal(by) => Ok(free_rows(alloc, lines, file, Some(by), rows, cols)?),
         Control::Named(name, by) => {
-            let bytes = open_file(alloc, folder, name)?;
+            let bytes = read_input(alloc, folder, name)?;
             let mut inner = Lines::new(&bytes);
             Ok(free_rows(alloc, &mut inner, name, Some(by), rows, cols)?)
         }
@@ -72,8 +61,9 @@ pub fn read_array<V: Value, F: Folder>(
     rows: u32,
     cols: u32,
 ) -> Result<(Vec<V>, u32), InputFault>
-    ensures since { (files : List File) → F.agrees folder.new files → F.agrees folder.old files }
-    ensures counts { InputCounts (F.faults folder.old) (F.faults folder.new) result }
+    requires lines { LinesMay (F.may folder.old) lines.old }
+    ensures folder { ReadsOn F.Folder folder.old folder.new result }
+    ensures lines { IfOk result (λ _. LinesMay (F.may folder.new) lines.new) }
     ensures array { (files : List File) → F.agrees folder.new files →
         Gives (λ x. (x.0.items, x.1)) result lines.new (array_at V.kind files file.now rows cols lines.old) }
     ensures good { IfOk result (λ x. All V.Good x.0.items) }

@@ -1,9 +1,10 @@
 ghost use Rattle.std.specs.Prelude.{◌≡◌, ◌*◌, length, IfOk, All, List};
 ghost use Rattle.decimal_input.specs.Canonical.{IsDec};
-ghost use Rattle.outside.specs.Counts.{InputCounts};
 ghost use Rattle.outside.specs.Files.{File};
+ghost use Rattle.outside.specs.Folders.{ReadsOn};
+ghost use Rattle.record_lines.specs.Asking.{LinesMay};
 ghost use Rattle.record_lines.specs.Reading.{Gives};
-ghost use Rattle.array_reader.specs.Arrays.{reals, layer_of, layers, real_layer, integer_layer};
+ghost use Rattle.array_reader.specs.Arrays.{reals, layer_array, layers, real_layer, integer_layer};
 
 use crate::arrays::read_array;
 use crate::kinds::Value;
@@ -21,8 +22,9 @@ pub fn read_reals<F: Folder>(
     folder: &mut F,
     count: u32,
 ) -> Result<Vec<Dec>, InputFault>
-    ensures since { (files : List File) → F.agrees folder.new files → F.agrees folder.old files }
-    ensures counts { InputCounts (F.faults folder.old) (F.faults folder.new) result }
+    requires lines { LinesMay (F.may folder.old) lines.old }
+    ensures folder { ReadsOn F.Folder folder.old folder.new result }
+    ensures lines { IfOk result (λ _. LinesMay (F.may folder.new) lines.new) }
     ensures array { (files : List File) → F.agrees folder.new files → Gives (λ v. v.items) result lines.new (reals files file.now count lines.old) }
     ensures canonical { IfOk result (λ v. All IsDec v.items) }
     ensures count { IfOk result (λ v. length v.items ≡ count) }
@@ -32,8 +34,8 @@ pub fn read_reals<F: Folder>(
 }
 
 /// A layer, with its control record.
-#[tactic(auto, unfolding(crate::specs::Arrays::layer_of))]
-fn layer_of<V: Value, F: Folder>(
+#[tactic(auto, unfolding(crate::specs::Arrays::layer_array))]
+fn layer_array<V: Value, F: Folder>(
     alloc: Global,
     lines: &mut Lines,
     file: &str,
@@ -41,10 +43,11 @@ fn layer_of<V: Value, F: Folder>(
     rows: u32,
     cols: u32,
 ) -> Result<Vec<V>, InputFault>
-    ensures since { (files : List File) → F.agrees folder.new files → F.agrees folder.old files }
-    ensures counts { InputCounts (F.faults folder.old) (F.faults folder.new) result }
+    requires lines { LinesMay (F.may folder.old) lines.old }
+    ensures folder { ReadsOn F.Folder folder.old folder.new result }
+    ensures lines { IfOk result (λ _. LinesMay (F.may folder.new) lines.new) }
     ensures layer { (files : List File) → F.agrees folder.new files →
-        Gives (λ v. v.items) result lines.new (layer_of V.kind files file.now rows cols lines.old) }
+        Gives (λ v. v.items) result lines.new (layer_array V.kind files file.now rows cols lines.old) }
     ensures good { IfOk result (λ v. All V.Good v.items) }
     ensures count { IfOk result (λ v. length v.items ≡ rows * cols) }
 {
@@ -62,13 +65,14 @@ pub fn read_layer<F: Folder>(
     rows: u32,
     cols: u32,
 ) -> Result<Vec<Dec>, InputFault>
-    ensures since { (files : List File) → F.agrees folder.new files → F.agrees folder.old files }
-    ensures counts { InputCounts (F.faults folder.old) (F.faults folder.new) result }
+    requires lines { LinesMay (F.may folder.old) lines.old }
+    ensures folder { ReadsOn F.Folder folder.old folder.new result }
+    ensures lines { IfOk result (λ _. LinesMay (F.may folder.new) lines.new) }
     ensures array { (files : List File) → F.agrees folder.new files → Gives (λ v. v.items) result lines.new (real_layer files file.now rows cols lines.old) }
     ensures canonical { IfOk result (λ v. All IsDec v.items) }
     ensures count { IfOk result (λ v. length v.items ≡ rows * cols) }
 {
-    layer_of(alloc, lines, file, folder, rows, cols)
+    layer_array(alloc, lines, file, folder, rows, cols)
 }
 
 /// A layer of integers, row by row, with its control record.
@@ -81,12 +85,13 @@ pub fn read_int_layer<F: Folder>(
     rows: u32,
     cols: u32,
 ) -> Result<Vec<i64>, InputFault>
-    ensures since { (files : List File) → F.agrees folder.new files → F.agrees folder.old files }
-    ensures counts { InputCounts (F.faults folder.old) (F.faults folder.new) result }
+    requires lines { LinesMay (F.may folder.old) lines.old }
+    ensures folder { ReadsOn F.Folder folder.old folder.new result }
+    ensures lines { IfOk result (λ _. LinesMay (F.may folder.new) lines.new) }
     ensures array { (files : List File) → F.agrees folder.new files → Gives (λ v. v.items) result lines.new (integer_layer files file.now rows cols lines.old) }
     ensures count { IfOk result (λ v. length v.items ≡ rows * cols) }
 {
-    layer_of(alloc, lines, file, folder, rows, cols)
+    layer_array(alloc, lines, file, folder, rows, cols)
 }
 
 /// One array for each of `count` layers.
@@ -99,8 +104,9 @@ pub fn read_layers<V: Value, F: Folder>(
     rows: u32,
     cols: u32,
 ) -> Result<Vec<V>, InputFault>
-    ensures since { (files : List File) → F.agrees folder.new files → F.agrees folder.old files }
-    ensures counts { InputCounts (F.faults folder.old) (F.faults folder.new) result }
+    requires lines { LinesMay (F.may folder.old) lines.old }
+    ensures folder { ReadsOn F.Folder folder.old folder.new result }
+    ensures lines { IfOk result (λ _. LinesMay (F.may folder.new) lines.new) }
     ensures layers { (files : List File) → F.agrees folder.new files →
         Gives (λ v. v.items) result lines.new (layers V.kind files file.now count rows cols lines.old) }
     ensures good { IfOk result (λ v. All V.Good v.items) }
@@ -108,7 +114,7 @@ pub fn read_layers<V: Value, F: Folder>(
 {
     let mut values = Vec::new(alloc);
     for _ in 0..count {
-        let layer = layer_of::<V, F>(alloc, lines, file, folder, rows, cols)?;
+        let layer = layer_array::<V, F>(alloc, lines, file, folder, rows, cols)?;
         values.extend_from_slice(&layer)?;
     }
     Ok(values)

@@ -13,7 +13,7 @@ mod lists;
 mod numbers;
 mod plain;
 
-pub use arrays::{open_file, read_array};
+pub use arrays::read_array;
 pub use control::{Control, control_record};
 pub use items::{integer, number, number_refused, value_item};
 pub use kinds::Value;

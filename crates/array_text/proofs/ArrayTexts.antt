@@ -8,7 +8,7 @@ use Rattle.decimal_input.specs.declared.dec.Dec.{Dec}
 use Rattle.decimal_input.specs.Canonical.{IsDec}
 use Rattle.array_reader.specs.Numbers.{number, significant, zeros, canonical, integer, is_short, integer_product}
 use Rattle.array_reader.specs.Kinds.{scaled, integer_scaled, real, whole, multiplied}
-use Rattle.array_reader.specs.Arrays.{reals, layer_of, real_layer, integer_layer}
+use Rattle.array_reader.specs.Arrays.{reals, layer_array, real_layer, integer_layer}
 use Rattle.array_text.specs.Words.{number_word, integer_word, IsShort}
 use Rattle.array_text.specs.Arrays.{real_array, integer_array}
 use Rattle.array_text.specs.Laws.{WritesLines, FreeListsReadAsWritten, ArraysReadAsWritten}
@@ -60,7 +60,7 @@ free_lists = record {
 }
 
 pub arrays : ArraysReadAsWritten
-unfolding reals layer_of real_layer integer_layer real_array integer_array
+unfolding reals layer_array real_layer integer_layer real_array integer_array
 arrays = record {
   lists = λ files file xs some h. layer_reads real number_word one files file 1 (length xs) xs real_one some (omega arith) (reals_written xs h);
   layers = λ files file rows cols xs some e h. layer_reads real number_word one files file rows cols xs real_one some e (reals_written xs h);

@@ -5,7 +5,8 @@ use Rattle.std.proofs.lemmas.List.{append-nil}
 use Rattle.std.proofs.lemmas.List.Elements.{All-head, All-tail, All-map, All-weaker}
 use Rattle.std.proofs.lemmas.Bool.Decides.{nat_tests}
 use Rattle.decimal_input.specs.declared.dec.NumFault.{NumFault}
-use Rattle.record_lines.specs.Layout.{Left, words, next_number}
+use Rattle.outside.specs.Words.{words}
+use Rattle.record_lines.specs.Layout.{Left, next_number}
 use Rattle.record_lines.specs.Reading.{repeated}
 use Rattle.record_lines.specs.Spread.{Taking, beginning, spread, next_word, next_value}
 use Rattle.record_lines.proofs.WordLemmas.{word_found, goes_on}

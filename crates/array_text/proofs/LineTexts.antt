@@ -4,7 +4,8 @@ use Rattle.std.specs.List.{join_with_byte}
 use Rattle.std.proofs.lemmas.List.Splits.{slice_split_none, slice_split_at}
 use Rattle.std.proofs.lemmas.List.Elements.{All-nil, All-cons, All-append, All-weaker, All-head, All-tail}
 use Rattle.std.proofs.lemmas.Bool.Decides.{nat_tests}
-use Rattle.record_lines.specs.Layout.{is_separator, words, lines, has_word, left_from, next_number}
+use Rattle.outside.specs.Words.{is_separator, words, lines}
+use Rattle.record_lines.specs.Layout.{has_word, left_from, next_number}
 use Rattle.record_lines.specs.Items.{line_at}
 use Rattle.record_lines.proofs.LeftLemmas.{left_word, left_nothing}
 use Rattle.array_text.specs.Words.{IsWordByte, IsWord}

@@ -7,7 +7,7 @@ use Rattle.std.proofs.lemmas.List.Elements.{All-nil, All-cons, All-append, All-w
 use Rattle.std.proofs.lemmas.Bool.Decides.{nat_tests}
 use Rattle.decimal_input.specs.declared.dec.Dec.{Dec}
 use Rattle.decimal_input.specs.Grammar.{is_digit}
-use Rattle.record_lines.specs.Layout.{is_separator}
+use Rattle.outside.specs.Words.{is_separator}
 use Rattle.array_text.specs.Words.{sign, number_word, integer_word, IsShort, IsWordByte, IsWord}
 use Rattle.array_text.specs.Lines.{Line, IsLine}
 use Rattle.array_text.proofs.DigitTexts.{digits_spell}

@@ -3,7 +3,8 @@ use Rattle.std.specs.Prelude.{◌≡◌, ℕ, ◌*◌, ◌≤◌, ℤ, List, [],
 use Rattle.decimal_input.specs.declared.dec.Dec.{Dec}
 use Rattle.decimal_input.specs.Canonical.{IsDec}
 use Rattle.outside.specs.Files.{File}
-use Rattle.record_lines.specs.Layout.{words, left_from}
+use Rattle.outside.specs.Words.{words}
+use Rattle.record_lines.specs.Layout.{left_from}
 use Rattle.array_reader.specs.Numbers.{number, integer}
 use Rattle.array_reader.specs.Lists.{free_list}
 use Rattle.array_reader.specs.Arrays.{reals, real_layer, integer_layer}

@@ -7,7 +7,8 @@ use Rattle.outside.specs.Refusals.{refusal}
 use Rattle.outside.specs.declared.codes.Code.TheVariants.{OutOfProfile}
 use Rattle.outside.specs.declared.refusals.Refusal.{Refusal}
 use Rattle.record_lines.specs.Items.{is_word, line_at}
-use Rattle.record_lines.specs.Layout.{Left, words, left_from, without_comments}
+use Rattle.outside.specs.Words.{words}
+use Rattle.record_lines.specs.Layout.{Left, left_from, without_comments}
 use Rattle.record_lines.specs.Reading.{◌>>=◌}
 use Rattle.array_reader.specs.Arrays.{layers}
 use Rattle.array_reader.specs.Items.{number_at}

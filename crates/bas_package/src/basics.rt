@@ -1,8 +1,9 @@
 // IBOUND and the starting heads.
 ghost use Rattle.std.specs.Prelude.{◌≡◌, IfOk, length, All, List};
 ghost use Rattle.decimal_input.specs.Canonical.{IsDec};
-ghost use Rattle.outside.specs.Counts.{InputCounts};
+ghost use Rattle.outside.specs.Asking.{TextMay};
 ghost use Rattle.outside.specs.Files.{File};
+ghost use Rattle.outside.specs.Folders.{ReadsOn};
 ghost use Rattle.record_lines.specs.Reading.{Has};
 ghost use Rattle.model_types.specs.Cells.{cell_count};
 ghost use Rattle.bas_package.specs.Basics.{basics_of, with_basics, bas_of};
@@ -40,8 +41,8 @@ fn basics_of<F: Folder>(
     folder: &mut F,
     grid: &Grid,
 ) -> Result<Basics, InputFault>
-    ensures since { (files : List File) → F.agrees folder.new files → F.agrees folder.old files }
-    ensures counts { InputCounts (F.faults folder.old) (F.faults folder.new) result }
+    requires text { TextMay (F.may folder.old) bytes.now }
+    ensures folder { ReadsOn F.Folder folder.old folder.new result }
     ensures basics { (files : List File) → F.agrees folder.new files →
         Has (λ b. (b.ibound.items, b.strt.items)) result (basics_of files file.now bytes.now grid.now) }
     ensures ibound { IfOk result (λ b. length b.ibound.items ≡ cell_count grid.now) }
@@ -72,8 +73,8 @@ pub fn read_bas<F: Folder>(
     folder: &mut F,
     model: FlowModel,
 ) -> Result<FlowModel, InputFault>
-    ensures since { (files : List File) → F.agrees folder.new files → F.agrees folder.old files }
-    ensures counts { InputCounts (F.faults folder.old) (F.faults folder.new) result }
+    requires text { TextMay (F.may folder.old) bytes.now }
+    ensures folder { ReadsOn F.Folder folder.old folder.new result }
     ensures model { (files : List File) → F.agrees folder.new files → Has (λ m. m) result (bas_of files file.now bytes.now model) }
     ensures others { IfOk result (λ m. m ≡ with_basics model m.ibound m.strt) }
     ensures ibound { IfOk result (λ m. length m.ibound ≡ cell_count model.grid) }

@@ -1,6 +1,6 @@
 // The lines before the arrays.
 ghost use Rattle.std.specs.Prelude.{◌≡◌};
-ghost use Rattle.record_lines.specs.Layout.{words};
+ghost use Rattle.outside.specs.Words.{words};
 ghost use Rattle.record_lines.specs.Reading.{GivesText};
 ghost use Rattle.bas_package.specs.Basics.{is_in_profile, option_line, head_item};
 

@@ -5,7 +5,8 @@ use Rattle.outside.specs.Names.{is_good_name}
 use Rattle.outside.specs.declared.codes.Code.TheVariants.{BadName, TooManyEntries}
 use Rattle.outside.specs.declared.refusals.Refusal.{Refusal}
 use Rattle.outside.specs.Refusals.{refusal}
-use Rattle.record_lines.specs.Layout.{Numbered, words, is_comment, left_from}
+use Rattle.outside.specs.Words.{words}
+use Rattle.record_lines.specs.Layout.{Numbered, is_comment, left_from}
 
 -- A word where a name is due, and the number of its line.
 pub record Entry : Type 0 where

@@ -1,3 +1,4 @@
 pub mod BedLemmas
 pub mod TimeLemmas
 pub mod ModelLemmas
+pub mod Forward

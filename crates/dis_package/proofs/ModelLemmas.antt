@@ -1,7 +1,11 @@
 -- A discretization, one item behind the other.
-use Rattle.std.proofs.Common.{◌≡◌, refl, ℕ, ℤ, List, Ok}
+use Rattle.std.proofs.Common.{◌≡◌, refl, ℕ, ℤ, List, Ok, Err}
 use Rattle.outside.specs.Files.{File}
+use Rattle.outside.specs.Refusals.{input_fault}
+use Rattle.outside.specs.declared.refusals.TextFault.{TextFault}
+use Rattle.outside.specs.declared.refusals.TextFault.TheVariants.{Refused, Memory}
 use Rattle.record_lines.specs.Layout.{Left, left_from, without_comments}
+use Rattle.record_lines.specs.Reading.{Stops, StopsText}
 use Rattle.model_types.specs.declared.grid.Grid.{Grid}
 use Rattle.model_types.specs.declared.model.FlowModel.{FlowModel}
 use Rattle.model_types.specs.declared.period.Period.{Period}
@@ -19,3 +23,14 @@ pub dis_read : (files : List File) (file bytes : List ℕ) (left : Left) (head :
     → dis_of files file bytes ≡ Ok m
 unfolding dis_of
 dis_read files file bytes left head grid periods m from a b d is = rw (← from, a, b, d, is) refl
+
+-- a fault of the periods is one of the discretization
+pub dis_stops : (fault : TextFault) (files : List File) (file bytes : List ℕ) (left : Left) (head : (Frame × List ℤ) × Left) (grid : Grid × Left)
+    → left ≡ without_comments (left_from 1 bytes)
+    → head_of file left ≡ Ok head
+    → grid_of files file head.0.0.size head.0.1 head.1 ≡ Ok grid
+    → StopsText fault (periods_of file head.0.0.periods grid.1)
+    → Stops (input_fault fault) (dis_of files file bytes)
+unfolding dis_of
+dis_stops (Refused r) files file bytes left head grid from a b d = rw (← from, a, b, d) refl
+dis_stops Memory files file bytes left head grid from a b d = tt

@@ -5,7 +5,8 @@ use Rattle.outside.specs.Refusals.{refusal}
 use Rattle.outside.specs.declared.codes.Code.TheVariants.{BadGrid}
 use Rattle.outside.specs.declared.refusals.Refusal.{Refusal}
 use Rattle.record_lines.specs.Items.{is_word, line_at}
-use Rattle.record_lines.specs.Layout.{Left, words}
+use Rattle.outside.specs.Words.{words}
+use Rattle.record_lines.specs.Layout.{Left}
 use Rattle.record_lines.specs.Reading.{◌>>=◌, repeated}
 use Rattle.array_reader.specs.Items.{number_at}
 use Rattle.array_reader.specs.Numbers.{number}

@@ -1,8 +1,9 @@
 // The bottoms of the layers and of the confining beds below them.
 ghost use Rattle.std.specs.Prelude.{◌≡◌, ◌*◌, IfOk, length, [], ◌+◌, ◌++◌, All, List};
 ghost use Rattle.decimal_input.specs.Canonical.{IsDec};
-ghost use Rattle.outside.specs.Counts.{InputCounts};
 ghost use Rattle.outside.specs.Files.{File};
+ghost use Rattle.outside.specs.Folders.{ReadsOn};
+ghost use Rattle.record_lines.specs.Asking.{LinesMay};
 ghost use Rattle.record_lines.specs.Reading.{Gives, counted};
 ghost use Rattle.dis_package.specs.Grids.{bottom_at, bottoms_of};
 
@@ -49,8 +50,9 @@ fn bottom_at<F: Folder>(
 ) -> Result<Bottoms, InputFault>
     requires layers { All IsDec so_far.layers }
     requires beds { All IsDec so_far.beds }
-    ensures since { (files : List File) → F.agrees folder.new files → F.agrees folder.old files }
-    ensures counts { InputCounts (F.faults folder.old) (F.faults folder.new) result }
+    requires lines { LinesMay (F.may folder.old) lines.old }
+    ensures folder { ReadsOn F.Folder folder.old folder.new result }
+    ensures lines { IfOk result (λ _. LinesMay (F.may folder.new) lines.new) }
     ensures bottoms { (files : List File) → F.agrees folder.new files →
         Gives (λ b. b) result lines.new (bottom_at files file.now size.now laycbd.now k (so_far, lines.old)) }
     ensures layers { IfOk result (λ b. length b.layers ≡ length so_far.layers + size.now.rows * size.now.cols) }
@@ -85,8 +87,9 @@ pub fn bottoms_of<F: Folder>(
     laycbd: &[i64],
     count: u32,
 ) -> Result<Bottoms, InputFault>
-    ensures since { (files : List File) → F.agrees folder.new files → F.agrees folder.old files }
-    ensures counts { InputCounts (F.faults folder.old) (F.faults folder.new) result }
+    requires lines { LinesMay (F.may folder.old) lines.old }
+    ensures folder { ReadsOn F.Folder folder.old folder.new result }
+    ensures lines { IfOk result (λ _. LinesMay (F.may folder.new) lines.new) }
     ensures bottoms { (files : List File) → F.agrees folder.new files →
         Gives (λ b. b) result lines.new (bottoms_of files file.now size.now laycbd.now count lines.old) }
     ensures layers { IfOk result (λ b. length b.layers ≡ count * (size.now.rows * size.now.cols)) }

@@ -1,7 +1,8 @@
 // Widths and elevations.
 ghost use Rattle.std.specs.Prelude.{◌≡◌, ◌-◌, pos, IfOk, length, All, List};
-ghost use Rattle.outside.specs.Counts.{InputCounts};
 ghost use Rattle.outside.specs.Files.{File};
+ghost use Rattle.outside.specs.Folders.{ReadsOn};
+ghost use Rattle.record_lines.specs.Asking.{LinesMay};
 ghost use Rattle.record_lines.specs.Reading.{Gives};
 ghost use Rattle.model_types.specs.Grids.{IsGrid};
 ghost use Rattle.model_types.specs.Layers.{int_at};
@@ -28,8 +29,9 @@ fn widths<F: Folder>(
     folder: &mut F,
     count: u32,
 ) -> Result<Vec<Dec>, InputFault>
-    ensures since { (files : List File) → F.agrees folder.new files → F.agrees folder.old files }
-    ensures counts { InputCounts (F.faults folder.old) (F.faults folder.new) result }
+    requires lines { LinesMay (F.may folder.old) lines.old }
+    ensures folder { ReadsOn F.Folder folder.old folder.new result }
+    ensures lines { IfOk result (λ _. LinesMay (F.may folder.new) lines.new) }
     ensures widths { (files : List File) → F.agrees folder.new files → Gives (λ v. v.items) result lines.new (widths files file.now count lines.old) }
     ensures count { IfOk result (λ v. length v.items ≡ count) }
     ensures positive { IfOk result (λ v. All IsPositive v.items) }
@@ -54,8 +56,9 @@ pub fn grid_of<F: Folder>(
     requires size { IsSize size.now }
     requires beds { length laycbd.items ≡ size.now.layers }
     requires last { int_at laycbd.items (size.now.layers - 1) ≡ pos 0 }
-    ensures since { (files : List File) → F.agrees folder.new files → F.agrees folder.old files }
-    ensures counts { InputCounts (F.faults folder.old) (F.faults folder.new) result }
+    requires lines { LinesMay (F.may folder.old) lines.old }
+    ensures folder { ReadsOn F.Folder folder.old folder.new result }
+    ensures lines { IfOk result (λ _. LinesMay (F.may folder.new) lines.new) }
     ensures grid { (files : List File) → F.agrees folder.new files → Gives (λ g. g) result lines.new (grid_of files file.now size.now laycbd.items lines.old) }
     ensures form { IfOk result IsGrid }
 {

@@ -1,7 +1,8 @@
 // The model as DIS begins it.
 ghost use Rattle.std.specs.Prelude.{◌≡◌, ◌-◌, pos, IfOk, length, List};
-ghost use Rattle.outside.specs.Counts.{InputCounts};
+ghost use Rattle.outside.specs.Asking.{TextMay};
 ghost use Rattle.outside.specs.Files.{File};
+ghost use Rattle.outside.specs.Folders.{ReadsOn};
 ghost use Rattle.record_lines.specs.Reading.{Has, GivesText};
 ghost use Rattle.model_types.specs.Layers.{int_at};
 ghost use Rattle.dis_package.specs.Discretization.{begun, head_of, dis_of};
@@ -67,8 +68,8 @@ pub fn read_dis<F: Folder>(
     bytes: &[u8],
     folder: &mut F,
 ) -> Result<FlowModel, InputFault>
-    ensures since { (files : List File) → F.agrees folder.new files → F.agrees folder.old files }
-    ensures counts { InputCounts (F.faults folder.old) (F.faults folder.new) result }
+    requires text { TextMay (F.may folder.old) bytes.now }
+    ensures folder { ReadsOn F.Folder folder.old folder.new result }
     ensures model { (files : List File) → F.agrees folder.new files → Has (λ m. m) result (dis_of files file.now bytes.now) }
     ensures form { IfOk result IsBegun }
 {

@@ -15,3 +15,4 @@ pub mod BatchEnds
 pub mod BatchOutcomes
 pub mod BatchReading
 pub mod AnyOutcomes
+pub mod Naming

@@ -17,3 +17,4 @@ pub mod BatchRuns
 pub mod Batched
 pub mod BatchCommands
 pub mod BatchReads
+pub mod Asking

@@ -1,9 +1,10 @@
 // The jobs of a batch, read from its list and the files of its models.
 ghost use Rattle.std.specs.Prelude.{◌≡◌, ◌≤◌, List, ◌++◌, ◌∷◌, [], length, map, All, IfOk, IfSome, Option};
-ghost use Rattle.outside.specs.Counts.{InputCounts};
+ghost use Rattle.outside.specs.Asking.{WordsMay};
 ghost use Rattle.outside.specs.Files.{File};
+ghost use Rattle.outside.specs.Folders.{ReadsOn};
 ghost use Rattle.outside.specs.Inputs.{IsReading};
-ghost use Rattle.outside.specs.Names.{IsGoodName};
+ghost use Rattle.outside.specs.Names.{IsGoodName, folder_name};
 ghost use Rattle.listing_run.specs.Ends.{IsTask};
 ghost use Rattle.engine.specs.BatchCommands.{batch_by, IsBatchOrder};
 ghost use Rattle.engine.specs.BatchReads.{AreTasks, IsBatchRead, IsJobRead, AreJobsRead, NeverRefused, HasNames};
@@ -26,8 +27,8 @@ fn read_job<'a, F: Folder>(
 ) -> Result<Job, InputFault>
     requires name { IsGoodName name.now }
     requires asked { IsBatchOrder asked }
-    ensures since { (files : List File) → F.agrees folder.new files → F.agrees folder.old files }
-    ensures counts { InputCounts (F.faults folder.old) (F.faults folder.new) result }
+    requires may { F.may folder.old (folder_name name.now) }
+    ensures folder { ReadsOn F.Folder folder.old folder.new result }
     ensures never { NeverRefused result }
     ensures reads { (files : Option (List File)) → IfSome files (F.agrees folder.new) → IfOk result (IsJobRead (batch_by asked.entry) name.now files) }
     ensures task { IfOk result (λ job. IfOk job.read IsTask) }
@@ -61,8 +62,8 @@ fn read_jobs<'a, F: Folder>(
 ) -> Result<Vec<Job>, InputFault>
     requires names { All IsGoodName names.now }
     requires asked { IsBatchOrder asked }
-    ensures since { (files : List File) → F.agrees folder.new files → F.agrees folder.old files }
-    ensures counts { InputCounts (F.faults folder.old) (F.faults folder.new) result }
+    requires may { WordsMay (F.may folder.old) names.now }
+    ensures folder { ReadsOn F.Folder folder.old folder.new result }
     ensures never { NeverRefused result }
     ensures reads { (files : Option (List File)) → IfSome files (F.agrees folder.new) → IfOk result (λ jobs. AreJobsRead (batch_by asked.entry) names.now files jobs.items) }
     ensures tasks { IfOk result (λ jobs. AreTasks jobs.items) }
@@ -82,9 +83,10 @@ fn read_names<'a, F: Folder>(
     folder: &mut F,
     asked: BatchOrder<'a>,
 ) -> Result<Vec<Name>, InputFault>
-    ensures since { (files : List File) → F.agrees folder.new files → F.agrees folder.old files }
-    ensures counts { InputCounts (F.faults folder.old) (F.faults folder.new) result }
+    requires { F.may folder.old (folder_name asked.list.now) }
+    ensures folder { ReadsOn F.Folder folder.old folder.new result }
     ensures reads { (files : Option (List File)) → IfSome files (F.agrees folder.new) → HasNames (batch_by asked.entry) files result }
+    ensures may { IfOk result (λ names. WordsMay (F.may folder.new) names.items) }
     ensures few { IfOk result (λ names. length names.items ≤ 1000) }
     ensures good { IfOk result (λ names. All IsGoodName names.items) }
 {
@@ -102,9 +104,9 @@ pub(crate) fn read_batch<'a, F: Folder>(
     folder: &mut F,
     asked: BatchOrder<'a>,
 ) -> Result<Vec<Job>, InputFault>
-    requires { IsBatchOrder asked }
-    ensures since { (files : List File) → F.agrees folder.new files → F.agrees folder.old files }
-    ensures counts { InputCounts (F.faults folder.old) (F.faults folder.new) result }
+    requires asked { IsBatchOrder asked }
+    requires may { F.may folder.old (folder_name asked.list.now) }
+    ensures folder { ReadsOn F.Folder folder.old folder.new result }
     ensures reads { (files : Option (List File)) → IfSome files (F.agrees folder.new) → IsBatchRead (batch_by asked.entry) files result }
     ensures tasks { IfOk result (λ jobs. AreTasks jobs.items) }
     ensures few { IfOk result (λ jobs. length jobs.items ≤ 1000) }

@@ -1,5 +1,8 @@
 // A batch of models.
 ghost use Rattle.std.specs.Prelude.{◌≡◌, ◌≤◌, ℕ, List, ◌++◌, length, map, IfSome, None, Option};
+ghost use Rattle.outside.specs.Asking.{WordsMay};
+ghost use Rattle.outside.specs.Names.{folder_name};
+ghost use Rattle.engine.specs.Asking.{files_named};
 ghost use Rattle.outside.specs.Files.{File};
 ghost use Rattle.outside.specs.Puts.{Put};
 ghost use Rattle.run_puts.specs.Runs.{IsRun};
@@ -57,7 +60,8 @@ fn put_batch<'a, R: Threads + Wait + Sync, F: Folder, K: Sink, G: Gate + Sync>(
     out: &mut K,
     gate: &G,
 ) -> Status
-    requires { IsBatchOrder asked }
+    requires asked { IsBatchOrder asked }
+    requires may { F.may folder.old (folder_name asked.list.now) }
     ensures since { (files : List File) → F.agrees folder.new files → F.agrees folder.old files }
     ensures answers { (start : _) (puts : List Put) → K.leads start puts out.old →
         (more : List Put) × K.leads start (puts ++ more) out.new
@@ -86,6 +90,7 @@ pub(crate) fn answer_any<
     side: &mut W,
     gate: &G,
 ) -> Status
+    requires may { WordsMay (F.may folder.old) (files_named (map (λ w. w.now) words.now)) }
     ensures since { (files : List File) → F.agrees folder.new files → F.agrees folder.old files }
     ensures unasked { batch_asked (map (λ w. w.now) words.now) ≡ None →
         ReadsNothing (asked_in (map (λ w. w.now) words.now)) → folder.new ≡ folder.old }

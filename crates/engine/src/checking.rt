@@ -1,7 +1,8 @@
 // The check of a listing of the folder.
 ghost use Rattle.std.specs.Prelude.{◌≡◌, ◌≤◌, List, ◌++◌, Ok, IfOk, IfSome, MatchResult, Option, Some};
-ghost use Rattle.outside.specs.Counts.{InputCounts};
+ghost use Rattle.outside.specs.Names.{folder_name};
 ghost use Rattle.outside.specs.Files.{File};
+ghost use Rattle.outside.specs.Folders.{ReadsOn};
 ghost use Rattle.outside.specs.Puts.{Put};
 ghost use Rattle.model_types.specs.Valid.{IsModel};
 ghost use Rattle.listing_io.specs.Listed.{AreListed};
@@ -32,8 +33,8 @@ pub(crate) fn read_listed<F: Folder>(
 ) -> Result<Listing, InputFault>
     requires model { IsModel model.now }
     requires digits { asked.digits ≤ 18 }
-    ensures since { (files : List File) → F.agrees folder.new files → F.agrees folder.old files }
-    ensures counts { InputCounts (F.faults folder.old) (F.faults folder.new) result }
+    requires may { F.may folder.old (folder_name asked.listing.now) }
+    ensures folder { ReadsOn F.Folder folder.old folder.new result }
     ensures reads { (files : Option (List File)) → IfSome files (F.agrees folder.new) → IsListedAs (check_of asked.entry) model.now files result }
     ensures listed { IfOk result (AreListed model.now) }
 {
@@ -121,6 +122,7 @@ fn check_model<'a, F: Folder, K: Sink>(
 ) -> Status
     requires digits { asked.digits ≤ 18 }
     requires model { IsModel model.now }
+    requires may { F.may folder.old (folder_name asked.listing.now) }
     ensures since { (files : List File) → F.agrees folder.new files → F.agrees folder.old files }
     ensures answers { (start : _) (puts : List Put) → K.leads start puts out.old →
         (more : List Put) × K.leads start (puts ++ more) out.new
@@ -141,7 +143,9 @@ pub(crate) fn check<'a, F: Folder, K: Sink>(
     folder: &mut F,
     out: &mut K,
 ) -> Status
-    requires { asked.digits ≤ 18 }
+    requires digits { asked.digits ≤ 18 }
+    requires name { F.may folder.old (folder_name asked.name.now) }
+    requires listing { F.may folder.old (folder_name asked.listing.now) }
     ensures since { (files : List File) → F.agrees folder.new files → F.agrees folder.old files }
     ensures answers { (start : _) (puts : List Put) → K.leads start puts out.old →
         (more : List Put) × K.leads start (puts ++ more) out.new

@@ -1,4 +1,6 @@
 ghost use Rattle.std.specs.Prelude.{◌≡◌, ◌⊎◌, ℕ, List, map, IfSome, None, Option, Some};
+ghost use Rattle.outside.specs.Asking.{WordsMay};
+ghost use Rattle.engine.specs.Asking.{files_named};
 ghost use Rattle.outside.specs.Files.{File};
 ghost use Rattle.outside.specs.Counts.{Rose};
 ghost use Rattle.engine.specs.BatchRuns.{AnyPuts, AnyDecided, AnyComes};
@@ -33,6 +35,7 @@ pub fn run<R: Threads + Wait + Sync, F: Folder, K: Sink + Send, W: Sink + Send, 
     side: &mut W,
     gate: &G,
 ) -> Status
+    requires may { WordsMay (F.may folder.old) (files_named (map (λ w. w.now) words.now)) }
     // What is put to `out`, for every status, with the status' cause, by the files that agree with all results of the
     // folder, or by any files.
     ensures puts { (files : Option (List File)) → IfSome files (F.agrees folder.new) →

@@ -3,6 +3,7 @@
 
 mod asked;
 mod asked_batch;
+mod asked_files;
 mod batch_jobs;
 mod batch_reading;
 mod batching;
@@ -19,6 +20,7 @@ mod serving;
 mod view_lines;
 mod viewing;
 
+pub use asked_files::files_named;
 pub use commands::run;
 pub use run_puts::Status;
 pub use running::run_one;

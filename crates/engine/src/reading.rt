@@ -1,7 +1,8 @@
 // The model of a name, and the zones of its cells.
 ghost use Rattle.std.specs.Prelude.{◌≡◌, IfOk, IfSome, List, Option, option_map};
-ghost use Rattle.outside.specs.Counts.{InputCounts};
+ghost use Rattle.outside.specs.Names.{folder_name};
 ghost use Rattle.outside.specs.Files.{File};
+ghost use Rattle.outside.specs.Folders.{ReadsOn};
 ghost use Rattle.model_types.specs.Valid.{IsModel};
 ghost use Rattle.listing_run.specs.Zones.{AreZones};
 ghost use Rattle.engine.specs.Parts.{AreZonesAs, IsNamedFault, IsReadAs};
@@ -28,8 +29,8 @@ pub(crate) fn read_named<F: Folder>(
     folder: &mut F,
     name: &str,
 ) -> Result<FlowModel, InputFault>
-    ensures since { (files : List File) → F.agrees folder.new files → F.agrees folder.old files }
-    ensures counts { InputCounts (F.faults folder.old) (F.faults folder.new) result }
+    requires may { F.may folder.old (folder_name name.now) }
+    ensures folder { ReadsOn F.Folder folder.old folder.new result }
     ensures reads { (files : Option (List File)) → IfSome files (F.agrees folder.new) → IsReadAs name.now files result }
     ensures model { IfOk result IsModel }
 {
@@ -47,8 +48,8 @@ pub(crate) fn read_zones_of<F: Folder>(
     folder: &mut F,
 ) -> Result<Option<Listed<u32>>, InputFault>
     requires model { IsModel model.now }
-    ensures since { (files : List File) → F.agrees folder.new files → F.agrees folder.old files }
-    ensures counts { InputCounts (F.faults folder.old) (F.faults folder.new) result }
+    requires may { IfSome (option_map (λ name. name.now) zones) (λ name. F.may folder.old (folder_name name)) }
+    ensures folder { ReadsOn F.Folder folder.old folder.new result }
     ensures zones { (files : Option (List File)) → IfSome files (F.agrees folder.new) →
         AreZonesAs (option_map (λ name. name.now) zones.entry) model.now files result }
     ensures fit { IfOk result (AreZones model.now) }

@@ -1,4 +1,7 @@
 ghost use Rattle.std.specs.Prelude.{◌≡◌, ◌⊎◌, ℕ, List, ◌++◌, map, IfSome, Ok, Option, Some};
+ghost use Rattle.outside.specs.Asking.{WordsMay};
+ghost use Rattle.outside.specs.Names.{folder_name};
+ghost use Rattle.engine.specs.Asking.{files_named};
 ghost use Rattle.outside.specs.Files.{File};
 ghost use Rattle.outside.specs.Puts.{Put};
 ghost use Rattle.outside.specs.Counts.{Rose};
@@ -51,6 +54,7 @@ pub fn run_one<R: Threads + Sync, F: Folder, K: Sink + Send, W: Sink + Send, G: 
     side: &mut W,
     gate: &G,
 ) -> Status
+    requires may { WordsMay (F.may folder.old) (files_named (map (λ w. w.now) words.now)) }
     // What is put to `out`, for every status, with the status' cause, by the files that agree with all results of the
     // folder, or by any files.
     ensures puts { (files : Option (List File)) → IfSome files (F.agrees folder.new) →
@@ -122,6 +126,7 @@ pub(crate) fn answer<R: Threads + Sync, F: Folder, K: Sink + Send, W: Sink + Sen
     side: &mut W,
     gate: &G,
 ) -> Status
+    requires may { WordsMay (F.may folder.old) (files_named (map (λ w. w.now) words.now)) }
     ensures since { (files : List File) → F.agrees folder.new files → F.agrees folder.old files }
     ensures unasked { ReadsNothing (asked_in (map (λ w. w.now) words.now)) → folder.new ≡ folder.old }
     ensures answers { (start : _) (puts : List Put) → K.leads start puts out.old →
@@ -187,6 +192,7 @@ fn list_model<'a, R: Threads + Sync, F: Folder, K: Sink + Send, W: Sink + Send, 
 ) -> Status
     requires asked { IsAsked asked }
     requires model { IsModel model }
+    requires zones { IfSome (asked_of asked).zones (λ zones. F.may folder.old (folder_name zones)) }
     ensures since { (files : List File) → F.agrees folder.new files → F.agrees folder.old files }
     ensures answers { (start : _) (puts : List Put) → K.leads start puts out.old →
         (more : List Put) × K.leads start (puts ++ more) out.new
@@ -213,7 +219,9 @@ fn list<'a, R: Threads + Sync, F: Folder, K: Sink + Send, W: Sink + Send, G: Gat
     side: &mut W,
     gate: &G,
 ) -> Status
-    requires { IsAsked asked }
+    requires asked { IsAsked asked }
+    requires name { F.may folder.old (folder_name asked.name.now) }
+    requires zones { IfSome (asked_of asked).zones (λ zones. F.may folder.old (folder_name zones)) }
     ensures since { (files : List File) → F.agrees folder.new files → F.agrees folder.old files }
     ensures answers { (start : _) (puts : List Put) → K.leads start puts out.old →
         (more : List Put) × K.leads start (puts ++ more) out.new

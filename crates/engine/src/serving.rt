@@ -1,6 +1,8 @@
 // A program's run, and the number that it ends with.
 ghost use Rattle.std.specs.Prelude.{◌≡◌, ℕ, List, map, Some};
 ghost use Rattle.std.specs.Process.{exit_status};
+ghost use Rattle.outside.specs.Asking.{WordsMay};
+ghost use Rattle.engine.specs.Asking.{files_named};
 ghost use Rattle.outside.specs.Puts.{Put};
 ghost use Rattle.outside.specs.Files.{File};
 ghost use Rattle.outside.specs.Counts.{Rose};
@@ -25,6 +27,7 @@ pub fn serve<R: Threads + Wait + Sync, F: Folder, K: Sink + Send, W: Sink + Send
     side: &mut W,
     gate: &G,
 ) -> ExitCode
+    requires may { WordsMay (F.may folder.old) (files_named (map (λ w. w.now) words.now)) }
     ensures serves { Serves (λ puts. K.leads out.old puts out.new) (F.agrees folder.new) (map (λ w. w.now) words.now) (F.faults folder.old) (F.faults folder.new)
         (Rose (W.seen side.old).faults (W.seen side.new).faults) (K.seen out.old) (K.seen out.new) (exit_status result) }
     ensures side { SidePuts (λ puts. W.leads side.old puts side.new) (views_in (map (λ w. w.now) words.now)) }

@@ -3,3 +3,4 @@ pub mod PeriodForms
 pub mod ChosenLemmas
 pub mod EvapLemmas
 pub mod ModelLemmas
+pub mod Forward

@@ -7,7 +7,8 @@ use Rattle.model_types.specs.declared.period.Period.{Period}
 use Rattle.model_types.specs.Receivers.{is_int}
 use Rattle.outside.specs.Files.{File}
 use Rattle.record_lines.specs.Items.{line_at}
-use Rattle.record_lines.specs.Layout.{Left, Numbered, words}
+use Rattle.outside.specs.Words.{words}
+use Rattle.record_lines.specs.Layout.{Left, Numbered}
 use Rattle.period_arrays.specs.Forms.{IsReals, IsWhole}
 use Rattle.period_arrays.proofs.UpdateLemmas.{stands}
 use Rattle.evt_package.specs.Columns.{columns_tested}

@@ -1,7 +1,8 @@
 // The arrays in force, and those of the next period.
 ghost use Rattle.std.specs.Prelude.{◌≡◌, IfOk, true, List};
-ghost use Rattle.outside.specs.Counts.{InputCounts};
 ghost use Rattle.outside.specs.Files.{File};
+ghost use Rattle.outside.specs.Folders.{ReadsOn};
+ghost use Rattle.record_lines.specs.Asking.{LinesMay};
 ghost use Rattle.record_lines.specs.Reading.{Gives};
 ghost use Rattle.model_types.specs.Grids.{HasSize};
 ghost use Rattle.model_types.specs.Receivers.{is_int};
@@ -66,8 +67,9 @@ fn arrays_of<F: Folder>(
 ) -> Result<(), InputFault>
     requires size { HasSize grid.now }
     requires last { AreLast grid.now last.old }
-    ensures since { (files : List File) → F.agrees folder.new files → F.agrees folder.old files }
-    ensures counts { InputCounts (F.faults folder.old) (F.faults folder.new) result }
+    requires lines { LinesMay (F.may folder.old) lines.old }
+    ensures folder { ReadsOn F.Folder folder.old folder.new result }
+    ensures lines { IfOk result (λ _. LinesMay (F.may folder.new) lines.new) }
     ensures arrays { (files : List File) → F.agrees folder.new files →
         Gives (λ _. last.new) result lines.new (arrays_of files file.now grid.now flags (last.old, lines.old)) }
     ensures last { IfOk result (λ _. AreLast grid.now last.new) }
@@ -131,8 +133,9 @@ pub fn arrays_at<F: Folder>(
 ) -> Result<Arrays, InputFault>
     requires size { HasSize grid.now }
     requires last { AreLast grid.now last.old }
-    ensures since { (files : List File) → F.agrees folder.new files → F.agrees folder.old files }
-    ensures counts { InputCounts (F.faults folder.old) (F.faults folder.new) result }
+    requires lines { LinesMay (F.may folder.old) lines.old }
+    ensures folder { ReadsOn F.Folder folder.old folder.new result }
+    ensures lines { IfOk result (λ _. LinesMay (F.may folder.new) lines.new) }
     ensures arrays { (files : List File) → F.agrees folder.new files →
         Gives (λ a. a) result (last.new, lines.new)
         (arrays_at files file.now grid.now option.now (last.old, lines.old)) }

@@ -1,7 +1,8 @@
 // The periods with their arrays.
 ghost use Rattle.std.specs.Prelude.{◌≡◌, Ok, IfOk, All, map, List};
-ghost use Rattle.outside.specs.Counts.{InputCounts};
 ghost use Rattle.outside.specs.Files.{File};
+ghost use Rattle.outside.specs.Folders.{ReadsOn};
+ghost use Rattle.record_lines.specs.Asking.{LinesMay};
 ghost use Rattle.record_lines.specs.Reading.{Gives, Has, HasText, for_each};
 ghost use Rattle.model_types.specs.Grids.{HasSize};
 ghost use Rattle.period_arrays.specs.Forms.{IsReals};
@@ -64,8 +65,9 @@ fn period_at<F: Folder>(
 ) -> Result<Period, InputFault>
     requires size { HasSize grid.now }
     requires last { AreLast grid.now last.old }
-    ensures since { (files : List File) → F.agrees folder.new files → F.agrees folder.old files }
-    ensures counts { InputCounts (F.faults folder.old) (F.faults folder.new) result }
+    requires lines { LinesMay (F.may folder.old) lines.old }
+    ensures folder { ReadsOn F.Folder folder.old folder.new result }
+    ensures lines { IfOk result (λ _. LinesMay (F.may folder.new) lines.new) }
     ensures period { (files : List File) → F.agrees folder.new files →
         Gives (λ p. p) result (last.new, lines.new)
         (period_at files file.now grid.now ibound.now option.now period (last.old, lines.old)) }
@@ -93,8 +95,9 @@ fn with_evaporation<F: Folder>(
 ) -> Result<Vec<Period>, InputFault>
     requires size { HasSize grid.now }
     requires last { AreLast grid.now last.old }
-    ensures since { (files : List File) → F.agrees folder.new files → F.agrees folder.old files }
-    ensures counts { InputCounts (F.faults folder.old) (F.faults folder.new) result }
+    requires lines { LinesMay (F.may folder.old) lines.old }
+    ensures folder { ReadsOn F.Folder folder.old folder.new result }
+    ensures lines { IfOk result (λ _. LinesMay (F.may folder.new) lines.new) }
     ensures periods { (files : List File) → F.agrees folder.new files →
         Gives (λ v. v.items) result (last.new, lines.new)
         (for_each (period_at files file.now grid.now ibound.now option.now) periods.items (last.old, lines.old)) }
@@ -124,8 +127,9 @@ pub fn periods_of<F: Folder>(
     periods: Vec<Period>,
 ) -> Result<Vec<Period>, InputFault>
     requires size { HasSize grid.now }
-    ensures since { (files : List File) → F.agrees folder.new files → F.agrees folder.old files }
-    ensures counts { InputCounts (F.faults folder.old) (F.faults folder.new) result }
+    requires lines { LinesMay (F.may folder.old) lines.old }
+    ensures folder { ReadsOn F.Folder folder.old folder.new result }
+    ensures lines { IfOk result (λ _. LinesMay (F.may folder.new) lines.new) }
     ensures periods { (files : List File) → F.agrees folder.new files →
         Has (λ v. v.items) result (periods_of files file.now grid.now ibound.now option.now periods.items lines.old) }
     ensures arrays { IfOk result (λ v. All (AreArrays file.now grid.now ibound.now option.now) v.items) }

@@ -1,7 +1,8 @@
 // A model with its evapotranspiration.
 ghost use Rattle.std.specs.Prelude.{◌≡◌, ◌≤ℤ◌, pos, All, IfOk, List, map};
-ghost use Rattle.outside.specs.Counts.{InputCounts};
+ghost use Rattle.outside.specs.Asking.{TextMay};
 ghost use Rattle.outside.specs.Files.{File};
+ghost use Rattle.outside.specs.Folders.{ReadsOn};
 ghost use Rattle.record_lines.specs.Reading.{GivesText, Has};
 ghost use Rattle.model_types.specs.Grids.{HasSize};
 ghost use Rattle.model_types.specs.Valid.{IsModel};
@@ -48,8 +49,8 @@ fn evaporation_of<F: Folder>(
     periods: Vec<Period>,
 ) -> Result<Evaporation, InputFault>
     requires size { HasSize grid.now }
-    ensures since { (files : List File) → F.agrees folder.new files → F.agrees folder.old files }
-    ensures counts { InputCounts (F.faults folder.old) (F.faults folder.new) result }
+    requires text { TextMay (F.may folder.old) bytes.now }
+    ensures folder { ReadsOn F.Folder folder.old folder.new result }
     ensures evaporation { (files : List File) → F.agrees folder.new files →
         Has (λ e. e) result (evaporation_of files file.now bytes.now grid.now ibound.now periods.items) }
     ensures option { IfOk result (λ e. (pos 1 ≤ℤ e.nevtop) × (e.nevtop ≤ℤ pos 3)) }
@@ -78,8 +79,8 @@ fn with_evaporation<F: Folder>(
     model: FlowModel,
 ) -> Result<FlowModel, InputFault>
     requires size { HasSize model.grid }
-    ensures since { (files : List File) → F.agrees folder.new files → F.agrees folder.old files }
-    ensures counts { InputCounts (F.faults folder.old) (F.faults folder.new) result }
+    requires text { TextMay (F.may folder.old) bytes.now }
+    ensures folder { ReadsOn F.Folder folder.old folder.new result }
     ensures model { (files : List File) → F.agrees folder.new files → Has (λ m. m) result (evt_of files file.now bytes.now model) }
     ensures form { IfOk result (IsEvaporating file.now) }
     ensures others { IfOk result (SameBut model) }
@@ -119,8 +120,8 @@ pub fn read_evt<F: Folder>(
     model: FlowModel,
 ) -> Result<FlowModel, InputFault>
     requires size { HasSize model.grid }
-    ensures since { (files : List File) → F.agrees folder.new files → F.agrees folder.old files }
-    ensures counts { InputCounts (F.faults folder.old) (F.faults folder.new) result }
+    requires text { TextMay (F.may folder.old) bytes.now }
+    ensures folder { ReadsOn F.Folder folder.old folder.new result }
     ensures model { (files : List File) → F.agrees folder.new files → Has (λ m. m) result (evt_of files file.now bytes.now model) }
     ensures form { IfOk result (IsEvaporating file.now) }
     ensures others { IfOk result (SameBut model) }

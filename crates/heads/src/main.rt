@@ -4,14 +4,14 @@
 ghost use Rattle.std.specs.Prelude.{◌≡◌, map, IfOk};
 ghost use Rattle.std.specs.String.{string_bytes};
 
-use engine::serve;
+use engine::{files_named, serve};
 use outside::{FreeGate, RealFolder, RealSink};
 use std::alloc::{AllocError, Global};
 use std::env;
 use std::io::ErrorKind;
 use std::process::ExitCode;
 
-// The exit code if memory runs out for the words; then nothing is written.
+// The exit code if memory runs out for the words or the names among them; then nothing is written.
 const MEMORY: u8 = 7;
 
 // The program's words. If one of them isn't UTF-8, the list is empty, which asks for no command either.
@@ -43,7 +43,10 @@ fn main(rt: HostRuntime) -> ExitCode {
     let Ok(texts) = as_texts(alloc, words.as_slice()) else {
         return ExitCode::from(MEMORY);
     };
-    let mut folder = RealFolder::new(&rt, alloc);
+    let Ok(names) = files_named(alloc, texts.as_slice()) else {
+        return ExitCode::from(MEMORY);
+    };
+    let mut folder = RealFolder::new(&rt, alloc, names.as_slice());
     let mut out = RealSink::new(rt.stdout());
     let mut side = RealSink::new(rt.stderr());
     serve(

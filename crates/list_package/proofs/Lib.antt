@@ -1,3 +1,4 @@
 pub mod MarkLemmas
 pub mod PeriodLemmas
 pub mod ModelLemmas
+pub mod Forward

@@ -6,7 +6,8 @@ use Rattle.outside.specs.declared.codes.Code.{Code}
 use Rattle.outside.specs.declared.codes.Code.TheVariants.{OutOfProfile, CellOutside, BadProperty}
 use Rattle.outside.specs.declared.refusals.Refusal.{Refusal}
 use Rattle.record_lines.specs.Items.{begins_with, line_at}
-use Rattle.record_lines.specs.Layout.{Left, words}
+use Rattle.outside.specs.Words.{words}
+use Rattle.record_lines.specs.Layout.{Left}
 use Rattle.record_lines.specs.Reading.{◌>>=◌, repeated}
 use Rattle.array_reader.specs.Items.{number_at}
 use Rattle.array_reader.specs.Numbers.{integer}

@@ -6,7 +6,8 @@ use Rattle.outside.specs.Refusals.{refusal}
 use Rattle.outside.specs.declared.codes.Code.TheVariants.{OutOfProfile, TooManyEntries, NothingToReuse}
 use Rattle.outside.specs.declared.refusals.Refusal.{Refusal}
 use Rattle.record_lines.specs.Items.{begins_with, line_at}
-use Rattle.record_lines.specs.Layout.{Numbered, Left, words}
+use Rattle.outside.specs.Words.{words}
+use Rattle.record_lines.specs.Layout.{Numbered, Left}
 use Rattle.record_lines.specs.Reading.{◌>>=◌}
 use Rattle.array_reader.specs.Items.{number_at}
 use Rattle.array_reader.specs.Numbers.{integer}

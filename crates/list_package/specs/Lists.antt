@@ -4,7 +4,8 @@ use Rattle.outside.specs.Refusals.{refusal}
 use Rattle.outside.specs.declared.codes.Code.TheVariants.{OutOfProfile}
 use Rattle.outside.specs.declared.refusals.Refusal.{Refusal}
 use Rattle.record_lines.specs.Items.{line_at}
-use Rattle.record_lines.specs.Layout.{Left, words, left_from, without_comments}
+use Rattle.outside.specs.Words.{words}
+use Rattle.record_lines.specs.Layout.{Left, left_from, without_comments}
 use Rattle.record_lines.specs.Reading.{◌>>=◌, for_each}
 use Rattle.array_reader.specs.Items.{number_at}
 use Rattle.array_reader.specs.Numbers.{integer}

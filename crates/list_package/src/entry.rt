@@ -1,7 +1,7 @@
 // The entries of a list.
 ghost use Rattle.std.specs.Prelude.{◌≡◌, ◌≤◌, ◌<◌, Ok, IfOk, true, false, All, length, slice_index_or};
 ghost use Rattle.std.specs.List.{AllPairs};
-ghost use Rattle.record_lines.specs.Layout.{words};
+ghost use Rattle.outside.specs.Words.{words};
 ghost use Rattle.record_lines.specs.Reading.{GivesText, HasText, repeated};
 ghost use Rattle.model_types.specs.Cells.{cell_count};
 ghost use Rattle.model_types.specs.Grids.{HasSize};

@@ -1,6 +1,6 @@
 -- A text that isn't empty has a line.
 use Rattle.std.proofs.Common.{◌≡◌, ℕ, ◌<◌, List, length, ap, Err}
-use Rattle.record_lines.specs.Layout.{lines}
+use Rattle.outside.specs.Words.{lines}
 use Rattle.record_lines.proofs.CutLemmas.{lines_cut}
 use Rattle.listing_io.specs.Reading.{none_of}
 

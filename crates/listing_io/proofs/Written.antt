@@ -3,7 +3,8 @@ use Rattle.std.proofs.Common.{◌≡◌, ◌⊎◌, inl, inr, ℕ, zero, suc, �
 use Rattle.std.specs.Str.{bytes_eq}
 use Rattle.std.proofs.lemmas.List.{append_assoc}
 use Rattle.std.proofs.lemmas.Slice.Eq.{bytes_eq-Decides}
-use Rattle.record_lines.specs.Layout.{lines, next_number}
+use Rattle.outside.specs.Words.{lines}
+use Rattle.record_lines.specs.Layout.{next_number}
 use Rattle.record_lines.specs.Reading.{◌>>=◌, for_each}
 use Rattle.step_problem.specs.declared.heads.Bound.{Bound}
 use Rattle.step_problem.specs.declared.place.Dir.{Dir}

@@ -1,6 +1,6 @@
 -- Laws of the listing's text: the text written for a model's steps is read as these steps, and a text that is read is the one written for them.
 use Rattle.std.specs.Prelude.{◌≡◌, ◌⊎◌, ◌<◌, ◌≤◌, ◌^◌, ℕ, List, [], ◌∷◌, ◌++◌, All, nat_abs, Ok}
-use Rattle.record_lines.specs.Layout.{lines}
+use Rattle.outside.specs.Words.{lines}
 use Rattle.model_types.specs.declared.model.FlowModel.{FlowModel}
 use Rattle.model_types.specs.declared.time_steps.TimeStep.{TimeStep}
 use Rattle.model_types.specs.Grids.{HasSize}

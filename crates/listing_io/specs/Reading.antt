@@ -4,7 +4,8 @@ use Rattle.std.specs.Str.{bytes_eq}
 use Rattle.outside.specs.declared.codes.Code.TheVariants.{BadListing}
 use Rattle.outside.specs.declared.refusals.Refusal.{Refusal}
 use Rattle.outside.specs.Refusals.{refusal}
-use Rattle.record_lines.specs.Layout.{lines, next_number}
+use Rattle.outside.specs.Words.{lines}
+use Rattle.record_lines.specs.Layout.{next_number}
 use Rattle.record_lines.specs.Reading.{◌>>=◌, for_each}
 use Rattle.step_problem.specs.declared.heads.Bound.{Bound}
 use Rattle.step_problem.specs.declared.place.Dir.{Dir}

@@ -1,1 +1,2 @@
 pub mod LayerLemmas
+pub mod Forward

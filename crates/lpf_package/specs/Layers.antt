@@ -18,8 +18,8 @@ unfoldable pub storage_layer : List File → List ℕ → Layer → Left → Res
 storage_layer files file x left = if x.stores then real_layer files file x.rows x.cols left else Ok ([], left)
 
 -- HK; HANI where CHANI isn't above 0, else CHANI everywhere; VKA; SS; VKCB where a bed lies below, else 0
-unfoldable pub layer_of : List File → List ℕ → Layer → Left → Result (Properties × Left) Refusal
-layer_of files file x left = do
+unfoldable pub properties_of : List File → List ℕ → Layer → Left → Result (Properties × Left) Refusal
+properties_of files file x left = do
   hk ← real_layer files file x.rows x.cols left
   hani ← layer_or files file x.rows x.cols (not (is_positive x.chani)) x.chani hk.1
   vka ← real_layer files file x.rows x.cols hani.1
@@ -35,7 +35,7 @@ abbrev pub nth_layer : Grid → List Dec → Bool → ℕ → Layer
 nth_layer g chani stores k = record { rows = g.rows; cols = g.cols; chani = dec_at chani k; stores = stores; has_bed = is_nonzero (int_at g.laycbd k) }
 
 unfoldable pub layer_at : List File → List ℕ → Grid → List Dec → Bool → ℕ → (Properties × Left) → Result (Properties × Left) Refusal
-layer_at files file g chani stores k s = layer_of files file (nth_layer g chani stores k) s.1 >>= λ x. Ok (joined s.0 x.0, x.1)
+layer_at files file g chani stores k s = properties_of files file (nth_layer g chani stores k) s.1 >>= λ x. Ok (joined s.0 x.0, x.1)
 
 -- layer by layer
 unfoldable pub layers_of : List File → List ℕ → Grid → List Dec → Bool → ℕ → Left → Result (Properties × Left) Refusal

@@ -1,11 +1,12 @@
 // The arrays of one layer.
 ghost use Rattle.std.specs.Prelude.{◌≡◌, ◌*◌, ◌++◌, cond, IfOk, length, All, List};
 ghost use Rattle.decimal_input.specs.Canonical.{IsDec};
-ghost use Rattle.outside.specs.Counts.{InputCounts};
 ghost use Rattle.outside.specs.Files.{File};
+ghost use Rattle.outside.specs.Folders.{ReadsOn};
+ghost use Rattle.record_lines.specs.Asking.{LinesMay};
 ghost use Rattle.record_lines.specs.Reading.{Gives};
 ghost use Rattle.lpf_package.specs.Forms.{AreLayers};
-ghost use Rattle.lpf_package.specs.Layers.{storage_layer, layer_of, joined};
+ghost use Rattle.lpf_package.specs.Layers.{storage_layer, properties_of, joined};
 
 use array_reader::read_layer;
 use decimal_input::dec::Dec;
@@ -46,8 +47,9 @@ fn storage_layer<F: Folder>(
     folder: &mut F,
     layer: &Layer,
 ) -> Result<Vec<Dec>, InputFault>
-    ensures since { (files : List File) → F.agrees folder.new files → F.agrees folder.old files }
-    ensures counts { InputCounts (F.faults folder.old) (F.faults folder.new) result }
+    requires lines { LinesMay (F.may folder.old) lines.old }
+    ensures folder { ReadsOn F.Folder folder.old folder.new result }
+    ensures lines { IfOk result (λ _. LinesMay (F.may folder.new) lines.new) }
     ensures ss { (files : List File) → F.agrees folder.new files → Gives (λ v. v.items) result lines.new (storage_layer files file.now layer.now lines.old) }
     ensures count { IfOk result (λ v. length v.items ≡ cond layer.now.stores (layer.now.rows * layer.now.cols) 0) }
     ensures canonical { IfOk result (λ v. All IsDec v.items) }
@@ -60,8 +62,8 @@ fn storage_layer<F: Folder>(
 }
 
 /// The arrays of a layer: HK, HANI where CHANI isn't above 0, VKA, SS, and VKCB where a bed lies below.
-#[tactic(auto, unfolding(crate::specs::Layers::layer_of))]
-pub fn layer_of<F: Folder>(
+#[tactic(auto, unfolding(crate::specs::Layers::properties_of))]
+pub fn properties_of<F: Folder>(
     alloc: Global,
     lines: &mut Lines,
     file: &str,
@@ -69,9 +71,10 @@ pub fn layer_of<F: Folder>(
     layer: &Layer,
 ) -> Result<Properties, InputFault>
     requires chani { IsDec layer.now.chani }
-    ensures since { (files : List File) → F.agrees folder.new files → F.agrees folder.old files }
-    ensures counts { InputCounts (F.faults folder.old) (F.faults folder.new) result }
-    ensures properties { (files : List File) → F.agrees folder.new files → Gives (λ p. p) result lines.new (layer_of files file.now layer.now lines.old) }
+    requires lines { LinesMay (F.may folder.old) lines.old }
+    ensures folder { ReadsOn F.Folder folder.old folder.new result }
+    ensures lines { IfOk result (λ _. LinesMay (F.may folder.new) lines.new) }
+    ensures properties { (files : List File) → F.agrees folder.new files → Gives (λ p. p) result lines.new (properties_of files file.now layer.now lines.old) }
     ensures form { IfOk result (AreLayers (layer.now.rows * layer.now.cols) (cond layer.now.stores (layer.now.rows * layer.now.cols) 0)) }
 {
     let (rows, cols) = (layer.rows, layer.cols);

@@ -1,13 +1,14 @@
 // The arrays of all layers.
 ghost use Rattle.std.specs.Prelude.{◌≡◌, ◌*◌, ◌+◌, cond, IfOk, All, List};
 ghost use Rattle.decimal_input.specs.Canonical.{IsDec};
-ghost use Rattle.outside.specs.Counts.{InputCounts};
 ghost use Rattle.outside.specs.Files.{File};
+ghost use Rattle.outside.specs.Folders.{ReadsOn};
+ghost use Rattle.record_lines.specs.Asking.{LinesMay};
 ghost use Rattle.record_lines.specs.Reading.{Gives};
 ghost use Rattle.lpf_package.specs.Forms.{AreLayers};
 ghost use Rattle.lpf_package.specs.Layers.{layer_at, layers_of, nth_layer};
 
-use crate::layer::{Layer, Properties, joined, layer_of};
+use crate::layer::{Layer, Properties, joined, properties_of};
 use decimal_input::dec::Dec;
 use model_types::layers::{dec_at, int_at};
 use model_types::{Grid, Listed};
@@ -45,14 +46,15 @@ fn layer_at<F: Folder>(
 ) -> Result<Properties, InputFault>
     requires chani { All IsDec chani.now }
     requires above { AreLayers (k * (grid.now.rows * grid.now.cols)) (cond stores (k * (grid.now.rows * grid.now.cols)) 0) above }
-    ensures since { (files : List File) → F.agrees folder.new files → F.agrees folder.old files }
-    ensures counts { InputCounts (F.faults folder.old) (F.faults folder.new) result }
+    requires lines { LinesMay (F.may folder.old) lines.old }
+    ensures folder { ReadsOn F.Folder folder.old folder.new result }
+    ensures lines { IfOk result (λ _. LinesMay (F.may folder.new) lines.new) }
     ensures properties { (files : List File) → F.agrees folder.new files →
         Gives (λ p. p) result lines.new (layer_at files file.now grid.now chani.now stores k (above, lines.old)) }
     ensures form { IfOk result (AreLayers ((k + 1) * (grid.now.rows * grid.now.cols)) (cond stores ((k + 1) * (grid.now.rows * grid.now.cols)) 0)) }
 {
     let layer = nth_layer(grid, chani, stores, k);
-    let properties = layer_of(alloc, lines, file, folder, &layer)?;
+    let properties = properties_of(alloc, lines, file, folder, &layer)?;
     Ok(joined(above, &properties)?)
 }
 
@@ -69,8 +71,9 @@ pub fn layers_of<F: Folder>(
     count: u32,
 ) -> Result<Properties, InputFault>
     requires chani { All IsDec chani.now }
-    ensures since { (files : List File) → F.agrees folder.new files → F.agrees folder.old files }
-    ensures counts { InputCounts (F.faults folder.old) (F.faults folder.new) result }
+    requires lines { LinesMay (F.may folder.old) lines.old }
+    ensures folder { ReadsOn F.Folder folder.old folder.new result }
+    ensures lines { IfOk result (λ _. LinesMay (F.may folder.new) lines.new) }
     ensures properties { (files : List File) → F.agrees folder.new files →
         Gives (λ p. p) result lines.new (layers_of files file.now grid.now chani.now stores count lines.old) }
     ensures form { IfOk result (AreLayers (count * (grid.now.rows * grid.now.cols)) (cond stores (count * (grid.now.rows * grid.now.cols)) 0)) }

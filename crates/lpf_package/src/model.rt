@@ -1,8 +1,9 @@
 // The model with its properties.
 ghost use Rattle.std.specs.Prelude.{◌≡◌, ◌*◌, cond, IfOk, length, not, List};
 ghost use Rattle.std.specs.List.{list_any};
-ghost use Rattle.outside.specs.Counts.{InputCounts};
+ghost use Rattle.outside.specs.Asking.{TextMay};
 ghost use Rattle.outside.specs.Files.{File};
+ghost use Rattle.outside.specs.Folders.{ReadsOn};
 ghost use Rattle.record_lines.specs.Reading.{Has};
 ghost use Rattle.lpf_package.specs.Forms.{AreLayers, HasProperties};
 ghost use Rattle.lpf_package.specs.Flow.{contents_of, is_transient, with_contents, lpf_of, SameBut};
@@ -53,8 +54,8 @@ fn contents_of<F: Folder>(
     grid: &Grid,
     stores: bool,
 ) -> Result<Contents, InputFault>
-    ensures since { (files : List File) → F.agrees folder.new files → F.agrees folder.old files }
-    ensures counts { InputCounts (F.faults folder.old) (F.faults folder.new) result }
+    requires text { TextMay (F.may folder.old) bytes.now }
+    ensures folder { ReadsOn F.Folder folder.old folder.new result }
     ensures contents { (files : List File) → F.agrees folder.new files → Has (λ c. c) result (contents_of files file.now bytes.now grid.now stores) }
     ensures layvka { IfOk result (λ c. length c.layvka ≡ grid.now.layers) }
     ensures properties { IfOk result
@@ -97,8 +98,8 @@ pub fn read_lpf<F: Folder>(
     folder: &mut F,
     model: FlowModel,
 ) -> Result<FlowModel, InputFault>
-    ensures since { (files : List File) → F.agrees folder.new files → F.agrees folder.old files }
-    ensures counts { InputCounts (F.faults folder.old) (F.faults folder.new) result }
+    requires text { TextMay (F.may folder.old) bytes.now }
+    ensures folder { ReadsOn F.Folder folder.old folder.new result }
     ensures model { (files : List File) → F.agrees folder.new files → Has (λ m. m) result (lpf_of files file.now bytes.now model) }
     ensures others { IfOk result (SameBut model) }
     ensures form { IfOk result HasProperties }

@@ -9,7 +9,8 @@ use Rattle.outside.specs.Files.{File}
 use Rattle.outside.specs.Inputs.{file_at}
 use Rattle.outside.specs.declared.refusals.Refusal.{Refusal}
 use Rattle.record_lines.specs.Items.{line_at}
-use Rattle.record_lines.specs.Layout.{Left, left_from, without_comments, words}
+use Rattle.outside.specs.Words.{words}
+use Rattle.record_lines.specs.Layout.{Left, left_from, without_comments}
 use Rattle.record_lines.specs.Reading.{◌>>=◌}
 use Rattle.array_reader.specs.Items.{at_line, number_at}
 use Rattle.array_reader.specs.Numbers.{integer}

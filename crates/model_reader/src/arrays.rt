@@ -2,9 +2,10 @@
 //
 // Each is read where the name file names it.
 ghost use Rattle.std.specs.Prelude.{◌≡◌, IfOk, List};
-ghost use Rattle.outside.specs.Counts.{InputCounts};
 ghost use Rattle.outside.specs.Files.{File};
+ghost use Rattle.outside.specs.Folders.{ReadsOn};
 ghost use Rattle.record_lines.specs.Reading.{Has};
+ghost use Rattle.name_file.specs.Asking.{NamesMay};
 ghost use Rattle.name_file.specs.Pairs.{file_of};
 ghost use Rattle.name_file.specs.declared.package.Package.TheVariants.{Rch, Evt};
 ghost use Rattle.model_types.specs.Valid.{IsModel};
@@ -27,8 +28,8 @@ pub fn rch_in<F: Folder>(
     model: FlowModel,
 ) -> Result<FlowModel, InputFault>
     requires valid { IsModel model }
-    ensures since { (files : List File) → F.agrees folder.new files → F.agrees folder.old files }
-    ensures counts { InputCounts (F.faults folder.old) (F.faults folder.new) result }
+    requires names { NamesMay (F.may folder.old) names.now }
+    ensures folder { ReadsOn F.Folder folder.old folder.new result }
     ensures model { (files : List File) → F.agrees folder.new files → Has (λ m. m) result (where_named (file_of Rch names.now) (rch_in files) model) }
     ensures form { IfOk result IsModel }
 {
@@ -50,8 +51,8 @@ pub fn evt_in<F: Folder>(
     model: FlowModel,
 ) -> Result<FlowModel, InputFault>
     requires valid { IsModel model }
-    ensures since { (files : List File) → F.agrees folder.new files → F.agrees folder.old files }
-    ensures counts { InputCounts (F.faults folder.old) (F.faults folder.new) result }
+    requires names { NamesMay (F.may folder.old) names.now }
+    ensures folder { ReadsOn F.Folder folder.old folder.new result }
     ensures model { (files : List File) → F.agrees folder.new files → Has (λ m. m) result (where_named (file_of Evt names.now) (evt_in files) model) }
     ensures form { IfOk result IsModel }
 {

@@ -1,8 +1,8 @@
 // DIS, BAS6 and LPF, each with the checks of cells that follow it.
 ghost use Rattle.std.specs.Prelude.{◌≡◌, Ok, All, IfOk, List};
-ghost use Rattle.outside.specs.Counts.{InputCounts};
 ghost use Rattle.outside.specs.Files.{File};
-ghost use Rattle.outside.specs.Names.{IsGoodName};
+ghost use Rattle.outside.specs.Folders.{ReadsOn};
+ghost use Rattle.outside.specs.Names.{IsGoodName, folder_name};
 ghost use Rattle.record_lines.specs.Reading.{Has, HasText};
 ghost use Rattle.decimal_input.specs.Canonical.{IsDec};
 ghost use Rattle.model_types.specs.Grids.{IsGrid};
@@ -14,25 +14,24 @@ ghost use Rattle.model_reader.specs.Forms.{IsBasic};
 ghost use Rattle.model_reader.specs.Model.{dis_in, basics_tested, bas_in, lpf_in};
 
 use crate::opened::opened;
-use array_reader::open_file;
 use bas_package::read_bas;
 use cell_checks::{Check, check_cells};
 use dis_package::read_dis;
 use lpf_package::read_lpf;
 use model_types::FlowModel;
-use outside::{Folder, InputFault, TextFault};
+use outside::{Folder, InputFault, TextFault, read_input};
 use std::alloc::Global;
 
 /// The model that DIS begins.
 #[tactic(auto, unfolding(crate::specs::Model::dis_in))]
 pub fn dis_in<F: Folder>(alloc: Global, folder: &mut F, name: &str) -> Result<FlowModel, InputFault>
     requires name { IsGoodName name.now }
-    ensures since { (files : List File) → F.agrees folder.new files → F.agrees folder.old files }
-    ensures counts { InputCounts (F.faults folder.old) (F.faults folder.new) result }
+    requires may { F.may folder.old (folder_name name.now) }
+    ensures folder { ReadsOn F.Folder folder.old folder.new result }
     ensures model { (files : List File) → F.agrees folder.new files → Has (λ m. m) result (dis_in files name.now) }
     ensures form { IfOk result IsBegun }
 {
-    let bytes = open_file(alloc, folder, name)?;
+    let bytes = read_input(alloc, folder, name)?;
     read_dis(alloc, name, &bytes, folder)
 }
 
@@ -82,9 +81,9 @@ pub fn bas_in<F: Folder>(
     model: FlowModel,
 ) -> Result<FlowModel, InputFault>
     requires name { IsGoodName name.now }
+    requires may { F.may folder.old (folder_name name.now) }
     requires begun { IsBegun model }
-    ensures since { (files : List File) → F.agrees folder.new files → F.agrees folder.old files }
-    ensures counts { InputCounts (F.faults folder.old) (F.faults folder.new) result }
+    ensures folder { ReadsOn F.Folder folder.old folder.new result }
     ensures model { (files : List File) → F.agrees folder.new files → Has (λ m. m) result (bas_in files dis.now name.now model) }
     ensures form { IfOk result IsBasic }
 {
@@ -103,9 +102,9 @@ pub fn lpf_in<F: Folder>(
     model: FlowModel,
 ) -> Result<FlowModel, InputFault>
     requires name { IsGoodName name.now }
+    requires may { F.may folder.old (folder_name name.now) }
     requires basic { IsBasic model }
-    ensures since { (files : List File) → F.agrees folder.new files → F.agrees folder.old files }
-    ensures counts { InputCounts (F.faults folder.old) (F.faults folder.new) result }
+    ensures folder { ReadsOn F.Folder folder.old folder.new result }
     ensures model { (files : List File) → F.agrees folder.new files → Has (λ m. m) result (lpf_in files name.now model) }
     ensures form { IfOk result IsModel }
 {

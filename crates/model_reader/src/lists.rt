@@ -2,10 +2,11 @@
 //
 // Each is read where the name file names it.
 ghost use Rattle.std.specs.Prelude.{◌≡◌, ℕ, IfOk, List, Result};
-ghost use Rattle.outside.specs.Counts.{InputCounts};
 ghost use Rattle.outside.specs.Files.{File};
+ghost use Rattle.outside.specs.Folders.{ReadsOn};
 ghost use Rattle.outside.specs.declared.refusals.Refusal.{Refusal};
 ghost use Rattle.record_lines.specs.Reading.{Has, HasText};
+ghost use Rattle.name_file.specs.Asking.{NamesMay};
 ghost use Rattle.name_file.specs.Pairs.{file_of};
 ghost use Rattle.model_types.specs.declared.model.FlowModel.{FlowModel};
 ghost use Rattle.model_types.specs.Valid.{IsModel};
@@ -124,8 +125,8 @@ pub fn list_in<L: ListPackage, F: Folder>(
     model: FlowModel,
 ) -> Result<FlowModel, InputFault>
     requires valid { IsModel model }
-    ensures since { (files : List File) → F.agrees folder.new files → F.agrees folder.old files }
-    ensures counts { InputCounts (F.faults folder.old) (F.faults folder.new) result }
+    requires names { NamesMay (F.may folder.old) names.now }
+    ensures folder { ReadsOn F.Folder folder.old folder.new result }
     ensures model { (files : List File) → F.agrees folder.new files →
         Has (λ m. m) result (where_named (file_of asked names.now) (file_in L.reading files) model) }
     ensures form { IfOk result IsModel }

@@ -1,9 +1,10 @@
 // A model in reading order.
 ghost use Rattle.std.specs.Prelude.{◌≡◌, IfOk, List};
-ghost use Rattle.outside.specs.Counts.{InputCounts};
 ghost use Rattle.outside.specs.Files.{File};
-ghost use Rattle.outside.specs.Names.{IsGoodName};
+ghost use Rattle.outside.specs.Folders.{ReadsOn};
+ghost use Rattle.outside.specs.Names.{IsGoodName, folder_name};
 ghost use Rattle.record_lines.specs.Reading.{Has};
+ghost use Rattle.name_file.specs.Asking.{NamesMay};
 ghost use Rattle.model_types.specs.Valid.{IsModel};
 ghost use Rattle.model_reader.specs.Model.{model_of, reads};
 
@@ -27,8 +28,8 @@ pub fn read_model<F: Folder>(
     names: &Names,
     folder: &mut F,
 ) -> Result<FlowModel, InputFault>
-    ensures since { (files : List File) → F.agrees folder.new files → F.agrees folder.old files }
-    ensures counts { InputCounts (F.faults folder.old) (F.faults folder.new) result }
+    requires names { NamesMay (F.may folder.old) names.now }
+    ensures folder { ReadsOn F.Folder folder.old folder.new result }
     ensures model { (files : List File) → F.agrees folder.new files → Has (λ m. m) result (model_of files names.now) }
     ensures form { IfOk result IsModel }
 {
@@ -53,8 +54,8 @@ pub fn read_named_model<F: Folder>(
     folder: &mut F,
 ) -> Result<FlowModel, InputFault>
     requires name { IsGoodName name.now }
-    ensures since { (files : List File) → F.agrees folder.new files → F.agrees folder.old files }
-    ensures counts { InputCounts (F.faults folder.old) (F.faults folder.new) result }
+    requires may { F.may folder.old (folder_name name.now) }
+    ensures folder { ReadsOn F.Folder folder.old folder.new result }
     ensures model { (files : List File) → F.agrees folder.new files → Has (λ m. m) result (reads files name.now) }
     ensures form { IfOk result IsModel }
 {

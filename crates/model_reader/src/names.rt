@@ -1,15 +1,15 @@
 // The name file.
-ghost use Rattle.std.specs.Prelude.{◌≡◌, IsTrue, unwrap_or, [], List};
-ghost use Rattle.outside.specs.Counts.{InputCounts};
+ghost use Rattle.std.specs.Prelude.{◌≡◌, Contains, IfOk, IsTrue, unwrap_or, [], List};
 ghost use Rattle.outside.specs.Files.{File};
-ghost use Rattle.outside.specs.Names.{IsGoodName};
+ghost use Rattle.outside.specs.Folders.{ReadsOn};
+ghost use Rattle.outside.specs.Names.{IsGoodName, folder_name};
 ghost use Rattle.record_lines.specs.Reading.{Has};
+ghost use Rattle.name_file.specs.Asking.{NamesMay};
 ghost use Rattle.name_file.specs.Pairs.{file_of, is_needed};
 ghost use Rattle.model_reader.specs.Names.{names_in, needed};
 
-use array_reader::open_file;
 use name_file::{Names, Package, read_names};
-use outside::{Folder, InputFault};
+use outside::{Folder, InputFault, read_input};
 use std::alloc::Global;
 
 /// The packages of the model that a name file of the folder describes.
@@ -24,11 +24,12 @@ pub fn read_name_file<F: Folder>(
     name: &str,
 ) -> Result<Names, InputFault>
     requires name { IsGoodName name.now }
-    ensures since { (files : List File) → F.agrees folder.new files → F.agrees folder.old files }
-    ensures counts { InputCounts (F.faults folder.old) (F.faults folder.new) result }
+    requires may { F.may folder.old (folder_name name.now) }
+    ensures folder { ReadsOn F.Folder folder.old folder.new result }
+    ensures files { IfOk result (NamesMay (F.may folder.new)) }
     ensures names { (files : List File) → F.agrees folder.new files → Has (λ n. n) result (names_in files name.now) }
 {
-    let bytes = open_file(alloc, folder, name)?;
+    let bytes = read_input(alloc, folder, name)?;
     Ok(read_names(alloc, name, &bytes)?)
 }
 
@@ -36,6 +37,7 @@ pub fn read_name_file<F: Folder>(
 pub fn needed(names: &Names, asked: Package) -> &str
     requires asked { IsTrue (is_needed asked) }
     ensures file { result.now ≡ needed asked names.now }
+    ensures pair { Contains names.now (asked, result.now) }
     ensures good { IsGoodName result.now }
 {
     match names.file_of(asked) {

@@ -1,8 +1,9 @@
 // The stresses of a model in reading order.
 ghost use Rattle.std.specs.Prelude.{◌≡◌, IfOk, List};
-ghost use Rattle.outside.specs.Counts.{InputCounts};
 ghost use Rattle.outside.specs.Files.{File};
+ghost use Rattle.outside.specs.Folders.{ReadsOn};
 ghost use Rattle.record_lines.specs.Reading.{Has};
+ghost use Rattle.name_file.specs.Asking.{NamesMay};
 ghost use Rattle.model_types.specs.Valid.{IsModel};
 ghost use Rattle.model_reader.specs.Stresses.{with_entries, with_stresses};
 
@@ -22,8 +23,8 @@ fn with_entries<F: Folder>(
     model: FlowModel,
 ) -> Result<FlowModel, InputFault>
     requires valid { IsModel model }
-    ensures since { (files : List File) → F.agrees folder.new files → F.agrees folder.old files }
-    ensures counts { InputCounts (F.faults folder.old) (F.faults folder.new) result }
+    requires names { NamesMay (F.may folder.old) names.now }
+    ensures folder { ReadsOn F.Folder folder.old folder.new result }
     ensures model { (files : List File) → F.agrees folder.new files → Has (λ m. m) result (with_entries files names.now model) }
     ensures form { IfOk result IsModel }
 {
@@ -43,8 +44,8 @@ pub fn with_stresses<F: Folder>(
     model: FlowModel,
 ) -> Result<FlowModel, InputFault>
     requires valid { IsModel model }
-    ensures since { (files : List File) → F.agrees folder.new files → F.agrees folder.old files }
-    ensures counts { InputCounts (F.faults folder.old) (F.faults folder.new) result }
+    requires names { NamesMay (F.may folder.old) names.now }
+    ensures folder { ReadsOn F.Folder folder.old folder.new result }
     ensures model { (files : List File) → F.agrees folder.new files → Has (λ m. m) result (with_stresses files names.now model) }
     ensures form { IfOk result IsModel }
 {

@@ -1,3 +1,4 @@
 pub mod Kinds
 pub mod Pairs
 pub mod Reading
+pub mod Asking

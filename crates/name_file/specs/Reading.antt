@@ -5,7 +5,8 @@ use Rattle.outside.specs.declared.codes.Code.TheVariants.{BadNameLine, Duplicate
 use Rattle.outside.specs.declared.refusals.Refusal.{Refusal}
 use Rattle.outside.specs.Refusals.{refusal}
 use Rattle.record_lines.specs.Reading.{◌>>=◌}
-use Rattle.record_lines.specs.Layout.{Numbered, words, is_comment, left_from}
+use Rattle.outside.specs.Words.{words}
+use Rattle.record_lines.specs.Layout.{Numbered, is_comment, left_from}
 use Rattle.record_lines.specs.Items.{word_at, name_at}
 use Rattle.name_file.specs.Kinds.{package_of, is_passed_over}
 use Rattle.name_file.specs.Pairs.{Pairs, has_package}

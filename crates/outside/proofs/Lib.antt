@@ -4,3 +4,4 @@ pub mod GoodNames
 pub mod NameTests
 mod Made
 pub mod Answered
+pub mod Named

@@ -8,3 +8,6 @@ pub mod Names
 pub mod Codes
 pub mod Inputs
 pub mod Refusals
+pub mod Words
+pub mod Asking
+pub mod Folders

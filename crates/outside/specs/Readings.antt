@@ -1,7 +1,9 @@
 -- What a folder of the system has read, and which files agree with it.
-use Rattle.std.specs.Prelude.{◌≡◌, ℕ, ◌<◌, List, [], ◌∷◌, length, cond, Option, Some, None, IfSome, IsSomeAnd}
+use Rattle.std.specs.Prelude.{◌≡◌, ℕ, ◌<◌, ◌⊎◌, List, [], ◌∷◌, length, cond, Contains, Option, Some, None, IfSome, IsSomeAnd}
 use Rattle.std.specs.Str.{bytes_eq}
 use Rattle.outside.specs.Files.{File, bytes_under}
+use Rattle.outside.specs.Names.{folder_name}
+use Rattle.outside.specs.Words.{lines, words}
 use Rattle.outside.specs.declared.traits.Found.{Found}
 use Rattle.outside.specs.declared.traits.Found.TheVariants.{Bytes, Missing, TooLong}
 
@@ -11,8 +13,9 @@ pub record Read : Type 0 where
   pub limit : ℕ
   pub found : Found
 
--- the readings, and the faults
+-- the words given at the start, the readings, and the faults
 pub record ReadState : Type 0 where
+  pub given : List (List ℕ)
   pub readings : List Read
   pub faults : ℕ
 
@@ -30,3 +33,20 @@ IsAsFound under limit TooLong = IsSomeAnd under (λ bytes. limit < length bytes)
 -- the files under each name that was read are what was found there
 abbrev pub AgreeWith : List Read → List File → Type 0
 AgreeWith readings files = (name : List ℕ) → IfSome (reading_of name readings) (λ r. IsAsFound (bytes_under name files) r.limit r.found)
+
+-- one of these words is this name, with a slash for each backslash
+abbrev pub AreNaming : List (List ℕ) → List ℕ → Type 0
+AreNaming ws name = (word : List ℕ) × Contains ws word × (folder_name word ≡ name)
+
+-- a word of what was found is this name
+abbrev pub FoundNames : List ℕ → Found → Type 0
+FoundNames name (Bytes v) = (line : List ℕ) × Contains (lines v.items) line × AreNaming (words line) name
+FoundNames name Missing = ⊥
+FoundNames name TooLong = ⊥
+
+-- a word that was given, or a word of a file that was read, is this name
+abbrev pub IsNamedBy : List (List ℕ) → List Read → List ℕ → Type 0
+IsNamedBy given readings name = AreNaming given name ⊎ ((r : Read) × Contains readings r × FoundNames name r.found)
+
+abbrev pub IsNamed : ReadState → List ℕ → Type 0
+IsNamed s name = IsNamedBy s.given s.readings name

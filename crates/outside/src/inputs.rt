@@ -1,8 +1,9 @@
 ghost use Rattle.std.specs.Prelude.{◌≡◌, List, IfOk};
-ghost use Rattle.outside.specs.Counts.{InputCounts};
+ghost use Rattle.outside.specs.Asking.{TextMay};
 ghost use Rattle.outside.specs.Files.{File};
+ghost use Rattle.outside.specs.Folders.{ReadsOn};
 ghost use Rattle.outside.specs.Inputs.{file_at, file_refusal, IsReading};
-ghost use Rattle.outside.specs.Names.{IsGoodName};
+ghost use Rattle.outside.specs.Names.{IsGoodName, folder_name};
 ghost use Rattle.outside.specs.Refusals.{IsRefusal};
 
 use crate::codes::Code;
@@ -21,9 +22,10 @@ pub fn read_input<F: Folder>(
     folder: &mut F,
     name: &str,
 ) -> Result<Vec<u8>, InputFault>
-    requires { IsGoodName name.now }
-    ensures since { (files : List File) → F.agrees folder.new files → F.agrees folder.old files }
-    ensures counts { InputCounts (F.faults folder.old) (F.faults folder.new) result }
+    requires name { IsGoodName name.now }
+    requires may { F.may folder.old (folder_name name.now) }
+    ensures folder { ReadsOn F.Folder folder.old folder.new result }
+    ensures words { IfOk result (λ v. TextMay (F.may folder.new) v.items) }
     ensures reads { (files : List File) → F.agrees folder.new files → IsReading (λ v. v.items) (file_at files name.now) result }
 {
     let asked = folder_name(alloc, name)?;

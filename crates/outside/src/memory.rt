@@ -1,6 +1,7 @@
-ghost use Rattle.std.specs.Prelude.{◌≡◌, List, [], ◌∷◌, ◌++◌, refl, IfOk, OnOk, OnErr};
+ghost use Rattle.std.specs.Prelude.{◌≡◌, ℕ, List, [], ◌∷◌, ◌++◌, refl, IfOk, OnOk, OnErr};
 ghost use Rattle.outside.specs.Memory.{SinkState, seen_in_memory, ReadsInMemory, PutsInMemory};
 ghost use Rattle.outside.specs.Counts.{ReadCounts};
+ghost use Rattle.outside.specs.Asking.{FoundMay};
 ghost use Rattle.outside.specs.Files.{File, IsFound};
 ghost use Rattle.outside.specs.Puts.{Put, PutMakes, PutsMake};
 
@@ -37,7 +38,12 @@ impl Folder for MemFolder {
 
     ghost faults = { λ f. f.faults };
 
+    // It may be asked for any file.
+    ghost may = { λ _ _. Unit {0} };
+
     fn read_file(&mut self, alloc: Global, name: &str, limit: u64) -> Result<Found, FolderError>
+        ensures still { (other : List ℕ) → Unit {0} → Unit {0} }
+        ensures words { IfOk result (FoundMay (λ _. Unit {0})) }
         ensures since { (files : List File) → files ≡ self.new.files → files ≡ self.old.files }
         ensures found { IfOk result (λ found. (files : List File) → files ≡ self.new.files → IsFound files name.now limit found) }
         ensures counts { ReadCounts self.old.faults self.new.faults result }

@@ -1,7 +1,7 @@
 // What was read of the system, kept so that a file is read once.
 ghost use Rattle.std.specs.Prelude.{◌≡◌, ℕ, List, option_map, IfOk, IfSome, Option};
 ghost use Rattle.outside.specs.Files.{IsWithin};
-ghost use Rattle.outside.specs.Readings.{Read, IsAsFound, reading_of};
+ghost use Rattle.outside.specs.Readings.{Read, FoundNames, IsAsFound, reading_of};
 
 use crate::traits::Found;
 use std::alloc::{AllocError, Global};
@@ -27,6 +27,7 @@ impl Reading {
     pub(crate) fn answer(&self, alloc: Global, limit: u64) -> Result<Option<Found>, AllocError>
         ensures found { IfOk result (λ answer. IfSome answer (λ found. (under : Option (List ℕ)) → IsAsFound under self.now.limit self.now.found → IsAsFound under limit found)) }
         ensures within { IfOk result (λ answer. IfSome answer (IsWithin limit)) }
+        ensures words { IfOk result (λ answer. IfSome answer (λ found. (name : List ℕ) → FoundNames name found → FoundNames name self.now.found)) }
     {
         Ok(match &self.found {
             Found::Bytes(bytes) => {
@@ -64,6 +65,7 @@ pub(crate) fn reading_of<'a>(readings: &'a [Reading], name: &str) -> Option<&'a 
 pub(crate) fn copied(alloc: Global, found: &Found) -> Result<Found, AllocError>
     ensures found { IfOk result (λ copy. (under : Option (List ℕ)) (limit : ℕ) → IsAsFound under limit found.now → IsAsFound under limit copy) }
     ensures within { IfOk result (λ copy. (limit : ℕ) → IsWithin limit found.now → IsWithin limit copy) }
+    ensures words { IfOk result (λ copy. (name : List ℕ) → FoundNames name copy → FoundNames name found.now) }
 {
     Ok(match found {
         Found::Bytes(bytes) => Found::Bytes(Vec::from_slice(alloc, bytes.as_slice())?),

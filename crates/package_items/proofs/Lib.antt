@@ -1,1 +1,2 @@
 mod ZeroLemmas
+pub mod Forward

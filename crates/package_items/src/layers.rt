@@ -1,8 +1,9 @@
 // Layer arrays that a file may lack.
 ghost use Rattle.std.specs.Prelude.{◌≡◌, ◌*◌, IfOk, length, All, List};
 ghost use Rattle.decimal_input.specs.Canonical.{IsDec};
-ghost use Rattle.outside.specs.Counts.{InputCounts};
 ghost use Rattle.outside.specs.Files.{File};
+ghost use Rattle.outside.specs.Folders.{ReadsOn};
+ghost use Rattle.record_lines.specs.Asking.{LinesMay};
 ghost use Rattle.record_lines.specs.Reading.{Gives};
 ghost use Rattle.package_items.specs.Items.{layer_or};
 
@@ -25,8 +26,9 @@ pub fn layer_or<F: Folder>(
     other: Dec,
 ) -> Result<Vec<Dec>, InputFault>
     requires canonical { IsDec other }
-    ensures since { (files : List File) → F.agrees folder.new files → F.agrees folder.old files }
-    ensures counts { InputCounts (F.faults folder.old) (F.faults folder.new) result }
+    requires lines { LinesMay (F.may folder.old) lines.old }
+    ensures folder { ReadsOn F.Folder folder.old folder.new result }
+    ensures lines { IfOk result (λ _. LinesMay (F.may folder.new) lines.new) }
     ensures layer { (files : List File) → F.agrees folder.new files →
         Gives (λ v. v.items) result lines.new (layer_or files file.now rows cols is_there other lines.old) }
     ensures count { IfOk result (λ v. length v.items ≡ rows * cols) }

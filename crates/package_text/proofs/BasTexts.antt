@@ -8,7 +8,7 @@ use Rattle.outside.specs.declared.refusals.Refusal.{Refusal}
 use Rattle.record_lines.specs.Layout.{Left, is_comment, next_number}
 use Rattle.record_lines.specs.Reading.{appended}
 use Rattle.array_reader.specs.Kinds.{real, whole}
-use Rattle.array_reader.specs.Arrays.{layer_of, real_layer, integer_layer, layers}
+use Rattle.array_reader.specs.Arrays.{layer_array, real_layer, integer_layer, layers}
 use Rattle.model_types.specs.declared.grid.Grid.{Grid}
 use Rattle.model_types.specs.declared.model.FlowModel.{FlowModel}
 use Rattle.model_types.specs.Cells.{layer_size, cell_count}
@@ -67,12 +67,12 @@ module _ (files : List File) (file : List ℕ) (m : FlowModel) (d : IsDiscretize
 
   ibound_reads : (n : ℕ) (others : List Line) → layers whole files file m.grid.layers m.grid.rows m.grid.cols (unread n (bas_item_2 m ++ others)) ≡ Ok (m.ibound, unread (number_after n (bas_item_2 m)) others)
   unfolding layers bas_item_2 integer_layer
-  ibound_reads n others = all_layers_read (layer_of whole files file m.grid.rows m.grid.cols) m.grid (integer_layer_lines m.grid m.ibound) m.ibound b.ibound.0 integer_layer_reads n others
+  ibound_reads n others = all_layers_read (layer_array whole files file m.grid.rows m.grid.cols) m.grid (integer_layer_lines m.grid m.ibound) m.ibound b.ibound.0 integer_layer_reads n others
 
   strt_reads : (n : ℕ) (others : List Line) → layers real files file m.grid.layers m.grid.rows m.grid.cols (unread n (bas_item_4 m ++ others)) ≡ Ok (m.strt, unread (number_after n (bas_item_4 m)) others)
   unfolding layers bas_item_4 real_layer
   strt_reads n others =
-      all_layers_read (layer_of real files file m.grid.rows m.grid.cols) m.grid (real_layer_lines m.grid m.strt) m.strt b.strt.0
+      all_layers_read (layer_array real files file m.grid.rows m.grid.cols) m.grid (real_layer_lines m.grid m.strt) m.strt b.strt.0
       (λ k low. layer_reads files file m.grid k m.strt d.grid.size low b.strt.0 b.strt.1) n others
 
   options_line : IsLine bas_item_1

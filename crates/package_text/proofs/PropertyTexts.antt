@@ -7,7 +7,7 @@ use Rattle.model_types.specs.declared.model.FlowModel.{FlowModel}
 use Rattle.model_types.specs.Cells.{layer_size}
 use Rattle.model_types.specs.Layers.{int_at, dec_at, is_nonzero, no_number}
 use Rattle.lpf_package.specs.Flow.{is_transient}
-use Rattle.lpf_package.specs.Layers.{storage_layer, layer_of, nth_layer}
+use Rattle.lpf_package.specs.Layers.{storage_layer, properties_of, nth_layer}
 use Rattle.lpf_package.specs.declared.layer.Properties.{Properties}
 use Rattle.array_text.specs.Lines.{Line, number_after, unread, Reads}
 use Rattle.package_text.specs.Layers.{layer_values, real_layer}
@@ -68,11 +68,11 @@ module _ (files : List File) (file : List ℕ) (m : FlowModel) (d : IsDiscretize
         vkcb = layer_values m.grid k m.vkcb;
       }
 
-  pub arrays_read : (k : ℕ) → k < m.grid.layers → Reads (layer_of files file (nth_layer m.grid chani transient k)) (lpf_arrays m k) (layer k)
-  unfolding layer_of lpf_arrays
+  pub arrays_read : (k : ℕ) → k < m.grid.layers → Reads (properties_of files file (nth_layer m.grid chani transient k)) (lpf_arrays m k) (layer k)
+  unfolding properties_of lpf_arrays
   arrays_read k low = record { reads = read }
     where
-      read : (n : ℕ) (others : List Line) → layer_of files file (nth_layer m.grid chani transient k) (unread n (lpf_arrays m k ++ others)) ≡ Ok (layer k, unread (number_after n (lpf_arrays m k)) others)
+      read : (n : ℕ) (others : List Line) → properties_of files file (nth_layer m.grid chani transient k) (unread n (lpf_arrays m k ++ others)) ≡ Ok (layer k, unread (number_after n (lpf_arrays m k)) others)
       read n others =
           let g = m.grid in
           let none : dec_at chani k ≡ minus_one = get_or-replicate m.grid.layers k minus_one no_number low in

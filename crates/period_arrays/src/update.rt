@@ -1,7 +1,8 @@
 // Arrays that are read anew or used again.
 ghost use Rattle.std.specs.Prelude.{◌≡◌, IfOk, IfSome, IsSomeAnd, is_some, true, false, List};
-ghost use Rattle.outside.specs.Counts.{InputCounts};
 ghost use Rattle.outside.specs.Files.{File};
+ghost use Rattle.outside.specs.Folders.{ReadsOn};
+ghost use Rattle.record_lines.specs.Asking.{LinesMay};
 ghost use Rattle.record_lines.specs.Reading.{Gives};
 ghost use Rattle.model_types.specs.Grids.{HasSize};
 ghost use Rattle.period_arrays.specs.Forms.{IsReals, IsWhole};
@@ -28,8 +29,9 @@ pub fn update_reals<F: Folder>(
     last: &mut Option<Shared<Dec>>,
 ) -> Result<(), InputFault>
     requires last { IfSome last.old (IsReals grid.now) }
-    ensures since { (files : List File) → F.agrees folder.new files → F.agrees folder.old files }
-    ensures counts { InputCounts (F.faults folder.old) (F.faults folder.new) result }
+    requires lines { LinesMay (F.may folder.old) lines.old }
+    ensures folder { ReadsOn F.Folder folder.old folder.new result }
+    ensures lines { IfOk result (λ _. LinesMay (F.may folder.new) lines.new) }
     ensures array { (files : List File) → F.agrees folder.new files →
         Gives (λ _. last.new) result lines.new (updated_reals files file.now grid.now anew last.old lines.old) }
     ensures last { IfOk result (λ _. IfSome last.new (IsReals grid.now)) }
@@ -53,8 +55,9 @@ fn layers_at<F: Folder>(
     grid: &Grid,
 ) -> Result<Vec<i64>, InputFault>
     requires size { HasSize grid.now }
-    ensures since { (files : List File) → F.agrees folder.new files → F.agrees folder.old files }
-    ensures counts { InputCounts (F.faults folder.old) (F.faults folder.new) result }
+    requires lines { LinesMay (F.may folder.old) lines.old }
+    ensures folder { ReadsOn F.Folder folder.old folder.new result }
+    ensures lines { IfOk result (λ _. LinesMay (F.may folder.new) lines.new) }
     ensures array { (files : List File) → F.agrees folder.new files → Gives (λ v. v.items) result lines.new (layers_at files file.now grid.now lines.old) }
     ensures form { IfOk result (λ v. IsWhole grid.now v.items) }
 {
@@ -76,8 +79,9 @@ pub fn update_layers<F: Folder>(
 ) -> Result<(), InputFault>
     requires size { HasSize grid.now }
     requires last { IfSome last.old (IsWhole grid.now) }
-    ensures since { (files : List File) → F.agrees folder.new files → F.agrees folder.old files }
-    ensures counts { InputCounts (F.faults folder.old) (F.faults folder.new) result }
+    requires lines { LinesMay (F.may folder.old) lines.old }
+    ensures folder { ReadsOn F.Folder folder.old folder.new result }
+    ensures lines { IfOk result (λ _. LinesMay (F.may folder.new) lines.new) }
     ensures array { (files : List File) → F.agrees folder.new files →
         Gives (λ _. last.new) result lines.new (updated_layers files file.now grid.now anew last.old lines.old) }
     ensures last { IfOk result (λ _. IfSome last.new (IsWhole grid.now)) }

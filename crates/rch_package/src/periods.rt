@@ -1,7 +1,8 @@
 // The arrays of each stress period.
 ghost use Rattle.std.specs.Prelude.{◌≡◌, IfOk, All, map, true, List};
-ghost use Rattle.outside.specs.Counts.{InputCounts};
 ghost use Rattle.outside.specs.Files.{File};
+ghost use Rattle.outside.specs.Folders.{ReadsOn};
+ghost use Rattle.record_lines.specs.Asking.{LinesMay};
 ghost use Rattle.record_lines.specs.Reading.{Gives, Has, for_each};
 ghost use Rattle.model_types.specs.Grids.{HasSize};
 ghost use Rattle.period_arrays.specs.Forms.{IsReals, IsWhole};
@@ -54,8 +55,9 @@ fn arrays_at<F: Folder>(
 ) -> Result<Arrays, InputFault>
     requires size { HasSize grid.now }
     requires last { AreLast grid.now last.old }
-    ensures since { (files : List File) → F.agrees folder.new files → F.agrees folder.old files }
-    ensures counts { InputCounts (F.faults folder.old) (F.faults folder.new) result }
+    requires lines { LinesMay (F.may folder.old) lines.old }
+    ensures folder { ReadsOn F.Folder folder.old folder.new result }
+    ensures lines { IfOk result (λ _. LinesMay (F.may folder.new) lines.new) }
     ensures arrays { (files : List File) → F.agrees folder.new files →
         Gives (λ a. a) result (last.new, lines.new)
         (arrays_at layered files file.now grid.now (last.old, lines.old)) }
@@ -109,8 +111,9 @@ fn period_at<F: Folder>(
 ) -> Result<Period, InputFault>
     requires size { HasSize grid.now }
     requires last { AreLast grid.now last.old }
-    ensures since { (files : List File) → F.agrees folder.new files → F.agrees folder.old files }
-    ensures counts { InputCounts (F.faults folder.old) (F.faults folder.new) result }
+    requires lines { LinesMay (F.may folder.old) lines.old }
+    ensures folder { ReadsOn F.Folder folder.old folder.new result }
+    ensures lines { IfOk result (λ _. LinesMay (F.may folder.new) lines.new) }
     ensures period { (files : List File) → F.agrees folder.new files →
         Gives (λ p. p) result (last.new, lines.new)
         (period_at layered files file.now grid.now period (last.old, lines.old)) }
@@ -135,8 +138,9 @@ fn with_recharge<F: Folder>(
 ) -> Result<Vec<Period>, InputFault>
     requires size { HasSize grid.now }
     requires last { AreLast grid.now last.old }
-    ensures since { (files : List File) → F.agrees folder.new files → F.agrees folder.old files }
-    ensures counts { InputCounts (F.faults folder.old) (F.faults folder.new) result }
+    requires lines { LinesMay (F.may folder.old) lines.old }
+    ensures folder { ReadsOn F.Folder folder.old folder.new result }
+    ensures lines { IfOk result (λ _. LinesMay (F.may folder.new) lines.new) }
     ensures periods { (files : List File) → F.agrees folder.new files →
         Gives (λ v. v.items) result (last.new, lines.new)
         (for_each (period_at layered files file.now grid.now) periods.items (last.old, lines.old)) }
@@ -163,8 +167,9 @@ pub fn periods_of<F: Folder>(
     periods: Vec<Period>,
 ) -> Result<Vec<Period>, InputFault>
     requires size { HasSize grid.now }
-    ensures since { (files : List File) → F.agrees folder.new files → F.agrees folder.old files }
-    ensures counts { InputCounts (F.faults folder.old) (F.faults folder.new) result }
+    requires lines { LinesMay (F.may folder.old) lines.old }
+    ensures folder { ReadsOn F.Folder folder.old folder.new result }
+    ensures lines { IfOk result (λ _. LinesMay (F.may folder.new) lines.new) }
     ensures periods { (files : List File) → F.agrees folder.new files →
         Has (λ v. v.items) result (periods_of layered files file.now grid.now periods.items lines.old) }
     ensures arrays { IfOk result (λ v. All (AreArrays layered grid.now) v.items) }

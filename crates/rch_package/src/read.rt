@@ -1,7 +1,8 @@
 // A model with its recharge.
 ghost use Rattle.std.specs.Prelude.{◌≡◌, ◌≤ℤ◌, pos, All, IfOk, List, map};
-ghost use Rattle.outside.specs.Counts.{InputCounts};
+ghost use Rattle.outside.specs.Asking.{TextMay};
 ghost use Rattle.outside.specs.Files.{File};
+ghost use Rattle.outside.specs.Folders.{ReadsOn};
 ghost use Rattle.record_lines.specs.Reading.{Has};
 ghost use Rattle.model_types.specs.Grids.{HasSize};
 ghost use Rattle.model_types.specs.Receivers.{is_int};
@@ -34,8 +35,8 @@ fn recharge_of<F: Folder>(
     periods: Vec<Period>,
 ) -> Result<Recharge, InputFault>
     requires size { HasSize grid.now }
-    ensures since { (files : List File) → F.agrees folder.new files → F.agrees folder.old files }
-    ensures counts { InputCounts (F.faults folder.old) (F.faults folder.new) result }
+    requires text { TextMay (F.may folder.old) bytes.now }
+    ensures folder { ReadsOn F.Folder folder.old folder.new result }
     ensures recharge { (files : List File) → F.agrees folder.new files → Has (λ r. r) result (recharge_of files file.now bytes.now grid.now periods.items) }
     ensures option { IfOk result (λ r. (pos 1 ≤ℤ r.nrchop) × (r.nrchop ≤ℤ pos 3)) }
     ensures arrays { IfOk result (λ r. All (AreArrays (is_int r.nrchop 2) grid.now) r.periods) }
@@ -62,8 +63,8 @@ fn with_recharge<F: Folder>(
     model: FlowModel,
 ) -> Result<FlowModel, InputFault>
     requires size { HasSize model.grid }
-    ensures since { (files : List File) → F.agrees folder.new files → F.agrees folder.old files }
-    ensures counts { InputCounts (F.faults folder.old) (F.faults folder.new) result }
+    requires text { TextMay (F.may folder.old) bytes.now }
+    ensures folder { ReadsOn F.Folder folder.old folder.new result }
     ensures model { (files : List File) → F.agrees folder.new files → Has (λ m. m) result (rch_of files file.now bytes.now model) }
     ensures form { IfOk result IsRecharged }
     ensures others { IfOk result (SameBut model) }
@@ -93,8 +94,8 @@ pub fn read_rch<F: Folder>(
     model: FlowModel,
 ) -> Result<FlowModel, InputFault>
     requires size { HasSize model.grid }
-    ensures since { (files : List File) → F.agrees folder.new files → F.agrees folder.old files }
-    ensures counts { InputCounts (F.faults folder.old) (F.faults folder.new) result }
+    requires text { TextMay (F.may folder.old) bytes.now }
+    ensures folder { ReadsOn F.Folder folder.old folder.new result }
     ensures model { (files : List File) → F.agrees folder.new files → Has (λ m. m) result (rch_of files file.now bytes.now model) }
     ensures form { IfOk result IsRecharged }
     ensures others { IfOk result (SameBut model) }

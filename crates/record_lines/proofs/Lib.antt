@@ -5,3 +5,4 @@ pub mod Each
 pub mod Counted
 pub mod SpreadLemmas
 pub mod WordLemmas
+pub mod Forward

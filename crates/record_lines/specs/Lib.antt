@@ -3,3 +3,4 @@ pub mod Seen
 pub mod Spread
 pub mod Reading
 pub mod Items
+pub mod Asking

@@ -2,7 +2,8 @@
 
 ghost use Rattle.std.specs.Prelude.{IfSome, ◌&&◌, ◌≡◌, ◌<◌, ◌≤◌, ◌==◌, not, [], ◌∷◌, length, nat_lt, position, if◌then◌else◌};
 ghost use Rattle.std.specs.List.{position_or_len, list_any};
-ghost use Rattle.record_lines.specs.Layout.{is_comment, is_separator, has_word, lines, words};
+ghost use Rattle.outside.specs.Words.{is_separator, lines, words};
+ghost use Rattle.record_lines.specs.Layout.{is_comment, has_word};
 
 pub fn is_separator(byte: u8) -> bool
     ensures { result ≡ is_separator byte }

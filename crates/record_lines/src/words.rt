@@ -1,6 +1,6 @@
 ghost use Rattle.std.specs.Prelude.{◌≡◌, List, [], ◌∷◌, ℕ, MatchOption};
 ghost use Rattle.record_lines.specs.Items.{begins_with, is_word};
-ghost use Rattle.record_lines.specs.Layout.{words};
+ghost use Rattle.outside.specs.Words.{words};
 
 use crate::cuts::cut_word;
 use crate::lines::Line;

@@ -3,7 +3,6 @@ use crate::answer::Answer;
 use crate::call::Call;
 use crate::command::{first_word, number};
 use crate::pictures::shown_text;
-use array_reader::open_file;
 use outside::{
     Folder, FolderError, Found, InputFault, MemFolder, Name, folder_name, good_name, is_good_name,
     read_input,
@@ -21,7 +20,7 @@ pub fn found_text(alloc: Global, found: Result<Found, FolderError>) -> Result<St
     }
 }
 
-// A file of a model, one that a control record names, or what a name becomes, if the name is a good one.
+// A file of a model, or what a name becomes, if the name is a good one.
 fn named(
     alloc: Global,
     folder: &mut MemFolder,
@@ -33,7 +32,6 @@ fn named(
     };
     match word {
         "input" => Ok(shown_text(alloc, read_input(alloc, folder, name)?.as_slice())?),
-        "open" => Ok(shown_text(alloc, open_file(alloc, folder, name)?.as_slice())?),
         _ => {
             let asked = folder_name(alloc, name)?;
             let written = Name::new(alloc, name)?;
@@ -54,7 +52,7 @@ pub fn folder_answer(
             let (name, limit) = first_word(call.rest);
             found_text(alloc, folder.read_file(alloc, name, number(limit)))?
         }
-        "input" | "open" | "named" => named(alloc, folder, call.word, call.rest)?,
+        "input" | "named" => named(alloc, folder, call.word, call.rest)?,
         "taken" => return Ok(Answer::Holds(is_good_name(call.rest.as_bytes()))),
         _ => String::from_str(alloc, " no call")?,
     };

@@ -17,7 +17,7 @@
 //!   `integer_layers LAYERS ROWS COLUMNS` and `array ROWS COLUMNS` of integers;
 //! - on the whole text as a name file: `packages` gives its pairs, and `files` the files of two packages;
 //! - on the whole text as the list of a batch: `models` gives the number of its names, and the names;
-//! - on the folder in memory: `found NAME LIMIT`, `input NAME` and `open NAME` ask for a file; `taken NAME` whether files
+//! - on the folder in memory: `found NAME LIMIT` and `input NAME` ask for a file; `taken NAME` whether files
 //!   may have this name, and `named NAME` what it becomes.
 //!
 //! `@folder` begins a folder in memory, `@file NAME TEXT` puts a file into it, and `@fail N` makes its call of this

@@ -1,16 +1,17 @@
 // The zones of a model's cells.
 ghost use Rattle.std.specs.Prelude.{◌≡◌, IfOk, length, All, List};
-ghost use Rattle.outside.specs.Counts.{InputCounts};
 ghost use Rattle.outside.specs.Files.{File};
+ghost use Rattle.outside.specs.Folders.{ReadsOn};
+ghost use Rattle.outside.specs.Names.{folder_name};
 ghost use Rattle.record_lines.specs.Reading.{Has};
 ghost use Rattle.model_types.specs.Cells.{cell_count};
 ghost use Rattle.model_types.specs.Grids.{HasSize};
 ghost use Rattle.zone_file.specs.Zones.{IsZone, zones_of};
 
 use crate::limits::zones_tested;
-use array_reader::{name_of, open_file, read_layers};
+use array_reader::{name_of, read_layers};
 use model_types::FlowModel;
-use outside::{Folder, InputFault};
+use outside::{Folder, InputFault, read_input};
 use record_lines::Lines;
 use std::alloc::Global;
 
@@ -30,8 +31,8 @@ pub fn read_zones<F: Folder>(
     folder: &mut F,
 ) -> Result<Vec<i64>, InputFault>
     requires size { HasSize model.now.grid }
-    ensures since { (files : List File) → F.agrees folder.new files → F.agrees folder.old files }
-    ensures counts { InputCounts (F.faults folder.old) (F.faults folder.new) result }
+    requires may { F.may folder.old (folder_name name.now) }
+    ensures folder { ReadsOn F.Folder folder.old folder.new result }
     ensures zones { (files : List File) → F.agrees folder.new files → Has (λ v. v.items) result (zones_of files model.now.grid name.now) }
     ensures count { IfOk result (λ v. length v.items ≡ cell_count model.now.grid) }
     ensures limits { IfOk result (λ v. All IsZone v.items) }
@@ -39,7 +40,7 @@ pub fn read_zones<F: Folder>(
     let grid = &model.grid;
     let (layers, rows, cols) = (grid.layers, grid.rows, grid.cols);
     let file = name_of(alloc, name.as_bytes(), "-", 0)?;
-    let bytes = open_file(alloc, folder, file)?;
+    let bytes = read_input(alloc, folder, file)?;
     let mut lines = Lines::new(&bytes);
     let zones = read_layers::<i64, F>(alloc, &mut lines, file, folder, layers, rows, cols)?;
     zones_tested(alloc, file, grid, &zones)?;

@@ -1,14 +1,16 @@
-use Rattle.std.proofs.Common.{◌≡◌, ◌-◌, ◌*◌, length, All}
+use Rattle.std.proofs.Common.{◌≡◌, ℕ, ◌-◌, ◌*◌, length, All}
 use Rattle.std.specs.Prelude.{List}
 use Rattle.outside.specs.Files.{File}
+use Rattle.record_lines.specs.Asking.{LinesMay}
 use Rattle.record_lines.specs.Reading.{appended}
 use Rattle.record_lines.proofs.Loops.{with_front}
-use Rattle.array_reader.specs.Arrays.{layer_of}
+use Rattle.array_reader.specs.Arrays.{layer_array}
 use Rattle.array_reader.proofs.layers.read_layers.Given as goal
 
 abbrev pub invariant-loop : goal.invariant-loop
 invariant-loop g l =
-    ((files : List File) → g.F.Folder.agrees l.folder files → with_front l.values.items (appended (l.count - l.counter) (layer_of g.V.Value.kind files l.file l.rows l.cols) l.lines)
-    ≡ appended l.count (layer_of g.V.Value.kind files l.file l.rows l.cols) l.fn.lines)
+    ((files : List File) → g.F.Folder.agrees l.folder files → with_front l.values.items (appended (l.count - l.counter) (layer_array g.V.Value.kind files l.file l.rows l.cols) l.lines)
+    ≡ appended l.count (layer_array g.V.Value.kind files l.file l.rows l.cols) l.fn.lines)
     × ((files : List File) → g.F.Folder.agrees l.folder files → g.F.Folder.agrees l.fn.folder files) × (g.F.Folder.faults l.folder ≡ g.F.Folder.faults l.fn.folder)
     × All g.V.Value.Good l.values.items × (length l.values.items ≡ l.counter * (l.rows * l.cols))
+    × ((name : List ℕ) → g.F.Folder.may l.fn.folder name → g.F.Folder.may l.folder name) × LinesMay (g.F.Folder.may l.folder) l.lines

@@ -8,18 +8,20 @@ pub returns-in_err-more-clause-bottoms : goal.returns-in_err-more-clause-bottoms
 unfolding bottoms_of
 returns-in_err-more-clause-bottoms g c = λ files agree.
     let p = err_from_is_err_and c.from_residual.result c.from_residual.ensures.1 in
-    rw (p.1, p.2) (steps_stop _ c.in_err-more.field-0.0 c.args.count c.loop-k.k _ _ c.loop-k-test.true (c.in_err-more.ensures.bottoms files agree) (c.loop-k.invariant.0 files (c.in_err-more.ensures.since files agree)))
+    rw (p.1, p.2) (steps_stop _ c.in_err-more.field-0.0 c.args.count c.loop-k.k _ _ c.loop-k-test.true (c.in_err-more.ensures.bottoms files agree) (c.loop-k.invariant.0 files (c.in_err-more.ensures.folder.since files agree)))
 
 pub loop-k-preserved : goal.loop-k-preserved
 loop-k-preserved g c = (
   (λ files agree.
-      step_goes_on _ c.args.count c.loop-k.k _ _ _ c.loop-k-test.true (c.in_ok-more.ensures.bottoms files agree) (c.loop-k.invariant.0 files (c.in_ok-more.ensures.since files agree))),
-  (λ files agree. c.loop-k.invariant.1 files (c.in_ok-more.ensures.since files agree)),
-  c.in_ok-more.ensures.counts ∙ c.loop-k.invariant.2,
+      step_goes_on _ c.args.count c.loop-k.k _ _ _ c.loop-k-test.true (c.in_ok-more.ensures.bottoms files agree) (c.loop-k.invariant.0 files (c.in_ok-more.ensures.folder.since files agree))),
+  (λ files agree. c.loop-k.invariant.1 files (c.in_ok-more.ensures.folder.since files agree)),
+  c.in_ok-more.ensures.folder.counts ∙ c.loop-k.invariant.2,
   grind arith,
   grind arith,
   c.in_ok-more.ensures.canonical.0,
   c.in_ok-more.ensures.canonical.1,
+  (λ name h. c.in_ok-more.ensures.folder.still name (c.loop-k.invariant.7 name h)),
+  c.in_ok-more.ensures.lines,
 )
 
 pub returns-clause-bottoms : goal.returns-clause-bottoms

@@ -1,7 +1,8 @@
-use Rattle.std.proofs.Common.{◌≡◌, ◌-◌, ◌*◌, length, [], All}
+use Rattle.std.proofs.Common.{◌≡◌, ℕ, ◌-◌, ◌*◌, length, [], All}
 use Rattle.std.specs.Prelude.{List}
 use Rattle.outside.specs.Files.{File}
 use Rattle.decimal_input.specs.Canonical.{IsDec}
+use Rattle.record_lines.specs.Asking.{LinesMay}
 use Rattle.record_lines.specs.Reading.{counted}
 use Rattle.dis_package.specs.Grids.{bottom_at}
 use Rattle.dis_package.proofs.bottoms.bottoms_of.Given as goal
@@ -13,3 +14,4 @@ invariant-loop-k g l =
     × ((files : List File) → g.F.Folder.agrees l.folder files → g.F.Folder.agrees l.fn.folder files) × (g.F.Folder.faults l.folder ≡ g.F.Folder.faults l.fn.folder)
     × (length l.bottoms.layers ≡ l.k * (l.size.rows * l.size.cols)) × (length l.bottoms.beds ≡ l.k * (l.size.rows * l.size.cols))
     × All IsDec l.bottoms.layers × All IsDec l.bottoms.beds
+    × ((name : List ℕ) → g.F.Folder.may l.fn.folder name → g.F.Folder.may l.folder name) × LinesMay (g.F.Folder.may l.folder) l.lines

@@ -1,8 +1,22 @@
 use Rattle.std.proofs.Common.{rules, ◌≡◌, ◌∙◌, ap, refl}
+use Rattle.std.proofs.lemmas.Result.{err_from_is_err_and}
+use Rattle.record_lines.specs.Asking.{LinesMay}
 use Rattle.record_lines.specs.Layout.{without_comments}
+use Rattle.record_lines.proofs.Forward.{begun_held}
 use Rattle.dis_package.specs.Discretization.{begun}
-use Rattle.dis_package.proofs.ModelLemmas.{dis_read}
+use Rattle.dis_package.proofs.Forward.{head_leaves}
+use Rattle.dis_package.proofs.ModelLemmas.{dis_read, dis_stops}
 use Rattle.dis_package.proofs.model.read_dis.Goals as goal
+
+pub grid_of-requires-clause-lines : goal.grid_of-requires-clause-lines
+grid_of-requires-clause-lines g c =
+    let begun : LinesMay (g.F.Folder.may c.args.folder.now) c.skip_comments.new.self = rw (c.skip_comments.ensures, c.new-lines.ensures) (begun_held _ _ c.requires.text) in
+    head_leaves _ _ _ _ _ c.in_ok-frame.ensures.head begun
+
+pub returns-in_err-periods-clause-model : goal.returns-in_err-periods-clause-model
+returns-in_err-periods-clause-model g c = λ files agree.
+    let p = err_from_is_err_and c.from_residual-in_err-periods.result c.from_residual-in_err-periods.ensures.1 in
+    rw (p.1, p.2) (dis_stops c.in_err-periods.field-0.0 files _ _ _ _ _ (c.skip_comments.ensures ∙ ap without_comments c.new-lines.ensures) c.in_ok-frame.ensures.head (c.in_ok-grid.ensures.grid files agree) c.in_err-periods.ensures.periods)
 
 pub returns-clause-model : goal.returns-clause-model
 returns-clause-model g c = λ files agree.

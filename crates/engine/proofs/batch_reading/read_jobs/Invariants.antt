@@ -1,5 +1,5 @@
 -- The jobs so far are those of the names so far, whatever files agree with the folder.
-use Rattle.std.proofs.Common.{◌≡◌, List, length, take, IfSome, Option}
+use Rattle.std.proofs.Common.{◌≡◌, ℕ, List, length, take, IfSome, Option}
 use Rattle.outside.specs.Files.{File}
 use Rattle.engine.specs.BatchCommands.{batch_by}
 use Rattle.engine.specs.BatchReads.{AreJobsRead, AreTasks}
@@ -10,6 +10,7 @@ invariant-loop-name g l = record {
   since : (files : List File) → g.F.Folder.agrees l.folder files → g.F.Folder.agrees l.fn.folder files;
   counts : g.F.Folder.faults l.folder ≡ g.F.Folder.faults l.fn.folder;
   reads : (files : Option (List File)) → IfSome files (g.F.Folder.agrees l.folder) → AreJobsRead (batch_by l.asked) (take l.name-index l.names) files l.jobs.items;
+  still : (name : List ℕ) → g.F.Folder.may l.fn.folder name → g.F.Folder.may l.folder name;
   tasks : AreTasks l.jobs.items;
   whole : length l.jobs.items ≡ l.name-index;
 }

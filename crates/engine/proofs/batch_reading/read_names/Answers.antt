@@ -6,6 +6,7 @@ use Rattle.engine.specs.BatchCommands.{batch_by}
 use Rattle.engine.specs.Batches.{AskedBatch}
 use Rattle.engine.proofs.BatchReading.{names_are, names_bad, names_stop, names_unread}
 use Rattle.engine.proofs.Readings.{of_known}
+use Rattle.batch_list.proofs.Forward.{names_named}
 use Rattle.engine.proofs.batch_reading.read_names.Goals as goal
 
 pub returns-then-not-is_good_name-clause-reads : goal.returns-then-not-is_good_name-clause-reads
@@ -31,3 +32,6 @@ pub returns-clause-reads : goal.returns-clause-reads
 returns-clause-reads g c =
     let b : AskedBatch = batch_by c.args.asked in
     λ files agree. names_are b (search rules) files c.in_ok-bytes.bytes.items c.in_ok-names.names (of_known files c.in_ok-bytes.ensures.reads agree) (rw c.as_slice.ensures.value at c.in_ok-names.ensures.names)
+
+pub returns-clause-may : goal.returns-clause-may
+returns-clause-may g c = names_named _ _ _ _ c.in_ok-names.ensures.names (rw c.as_slice.ensures.value c.in_ok-bytes.ensures.words)

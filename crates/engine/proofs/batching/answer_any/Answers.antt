@@ -3,6 +3,7 @@ use Rattle.engine.specs.BatchCommands.{batch_by}
 use Rattle.engine.proofs.BatchEnds.{any_batch, any_lacks, any_other}
 use Rattle.engine.specs.Watched.{views_in}
 use Rattle.engine.proofs.Beside.{quiet}
+use Rattle.engine.proofs.Naming.{batch_named}
 use Rattle.engine.proofs.batching.answer_any.Goals as goal
 
 pub returns-in-Ok-Some-clause-answers : goal.returns-in-Ok-Some-clause-answers
@@ -33,3 +34,7 @@ returns-in-Ok-Some-clause-side g c = quiet g.W.Sink.leads c.args.side.now (views
 
 pub returns-in-Err-clause-side : goal.returns-in-Err-clause-side
 returns-in-Err-clause-side g c = quiet g.W.Sink.leads c.args.side.now (views_in (map (λ w. w.now) c.args.words.now)) (((g.met.W.Sink g.world.𝓛 g.world.𝓜 g.world.𝓡 ((λ s x. x), (λ x. x), (λ x. x), λ x. x))).rests c.args.side.now)
+
+pub put_batch-requires-clause-may : goal.put_batch-requires-clause-may
+put_batch-requires-clause-may g c =
+    batch_named (g.F.Folder.may c.args.folder.now) (map (λ w. w.now) c.args.words.now) c.requires (batch_by c.in-Ok-Some.asked) (sym (rw c.in-Ok-Some.field-0-is at c.in-Ok-Some.ensures.is))

@@ -10,4 +10,4 @@ returns-in-Ok-clause-answers g c = λ start puts h.
 pub returns-in-Err-clause-answers : goal.returns-in-Err-clause-answers
 returns-in-Err-clause-answers g c = λ start puts h.
     let m = c.end_reading.ensures start puts h in
-    (m.0, m.1, λ files agree. batch_unread (batch_by c.args.asked) files (g.F.Folder.faults c.args.folder.now) _ c.in-Err.fault c.end_reading.result m.0 (c.in-Err.ensures.reads files agree) c.in-Err.ensures.counts m.2)
+    (m.0, m.1, λ files agree. batch_unread (batch_by c.args.asked) files (g.F.Folder.faults c.args.folder.now) _ c.in-Err.fault c.end_reading.result m.0 (c.in-Err.ensures.reads files agree) c.in-Err.ensures.folder.counts m.2)

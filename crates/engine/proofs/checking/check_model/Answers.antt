@@ -13,4 +13,4 @@ pub returns-in-Err-clause-answers : goal.returns-in-Err-clause-answers
 returns-in-Err-clause-answers g c = λ start puts h.
     let m = c.end_reading.ensures start puts h in
     let asked : AskedCheck = check_of c.args.asked in
-    (m.0, m.1, λ words wanted files agree read. ends_unlisted words files (g.F.Folder.faults c.args.folder.now) _ asked wanted c.args.model.now read c.requires.model c.in-Err.fault c.end_reading.result m.0 (c.in-Err.ensures.reads files agree) c.in-Err.ensures.counts m.2)
+    (m.0, m.1, λ words wanted files agree read. ends_unlisted words files (g.F.Folder.faults c.args.folder.now) _ asked wanted c.args.model.now read c.requires.model c.in-Err.fault c.end_reading.result m.0 (c.in-Err.ensures.reads files agree) c.in-Err.ensures.folder.counts m.2)

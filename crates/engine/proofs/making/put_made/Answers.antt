@@ -11,13 +11,13 @@ returns-in_default g c = λ start puts h.
 pub returns-in-Ok-read_named : goal.returns-in-Ok-read_named
 returns-in-Ok-read_named g c = λ start puts h.
     let m = c.put_summary.ensures start puts h in
-    let files = c.in-Ok-read_named.ensures.since c.read_named.new.folder.files refl ∙ ap (λ (f : FolderState). f.files) c.in-Ok.ensures in
+    let files = c.in-Ok-read_named.ensures.folder.since c.read_named.new.folder.files refl ∙ ap (λ (f : FolderState). f.files) c.in-Ok.ensures in
     let read = made_reading c.args.seed c.args.size c.read_named.new.folder.files (Ok c.in-Ok-read_named.model) files (c.in-Ok-read_named.ensures.reads (Some c.read_named.new.folder.files) refl) in
     (m.0, m.1, m.2 read)
 
 pub returns : goal.returns
 returns g c = λ start puts h.
     let m = c.end_unread.ensures start puts h in
-    let files = c.in-Err.ensures.since c.read_named.new.folder.files refl ∙ ap (λ (f : FolderState). f.files) c.in-Ok.ensures in
+    let files = c.in-Err.ensures.folder.since c.read_named.new.folder.files refl ∙ ap (λ (f : FolderState). f.files) c.in-Ok.ensures in
     let read = made_reading c.args.seed c.args.size c.read_named.new.folder.files (Err c.in-Err.fault) files (c.in-Err.ensures.reads (Some c.read_named.new.folder.files) refl) in
     (m.0, m.1, made_unread c.args.seed c.args.size c.in-Err.fault c.end_unread.result m.0 read m.2)

@@ -24,3 +24,6 @@ returns-clause-zones g c =
 
 pub returns-clause-fit : goal.returns-clause-fit
 returns-clause-fit g c = rw c.new.ensures (zones_fit c.args.model.now c.in_ok-read.read.items c.in_ok-numbers.numbers.items (search rules) c.in_ok-read.ensures.count c.in_ok-numbers.ensures.limits)
+
+pub read_zones-requires-clause-may : goal.read_zones-requires-clause-may
+read_zones-requires-clause-may g c = rw c.in-Some.is at c.requires.may

@@ -6,6 +6,7 @@ use Rattle.engine.specs.Parts.{AnswersBeside}
 use Rattle.engine.proofs.Beside.{not_ok, quiet, reading_not_ok}
 use Rattle.engine.proofs.Ends.{ends_reading}
 use Rattle.engine.proofs.Readings.{of_known}
+use Rattle.engine.proofs.Naming.{zones_still}
 use Rattle.engine.proofs.running.list.Goals as goal
 
 pub returns-in-Ok-clause-answers : goal.returns-in-Ok-clause-answers
@@ -17,13 +18,16 @@ returns-in-Ok-clause-answers g c = λ start puts h.
       m.1,
       λ words wanted watch files agree.
           let A : ℕ → Type 0 = λ n. AnswersBeside words files n (g.F.Folder.faults c.list_model.new.folder) failed leads c.list_model.result m.0 in
-          subst A c.in-Ok.ensures.counts (m.2 words wanted watch files agree (c.in-Ok.ensures.reads files (of_known files c.list_model.ensures.since agree))),
+          subst A c.in-Ok.ensures.folder.counts (m.2 words wanted watch files agree (c.in-Ok.ensures.reads files (of_known files c.list_model.ensures.since agree))),
     )
 
 pub returns-in-Err-clause-answers : goal.returns-in-Err-clause-answers
 returns-in-Err-clause-answers g c = λ start puts h.
     let m = c.end_reading.ensures start puts h in
-    (m.0, m.1, λ words wanted watch files agree. not_ok words files (g.F.Folder.faults c.args.folder.now) _ _ _ c.end_reading.result m.0 (ends_reading words files (g.F.Folder.faults c.args.folder.now) _ (asked_of c.args.asked) wanted c.in-Err.fault c.end_reading.result m.0 (c.in-Err.ensures.reads files agree) c.in-Err.ensures.counts m.2) (reading_not_ok c.in-Err.fault c.end_reading.result m.0 m.2))
+    (m.0, m.1, λ words wanted watch files agree. not_ok words files (g.F.Folder.faults c.args.folder.now) _ _ _ c.end_reading.result m.0 (ends_reading words files (g.F.Folder.faults c.args.folder.now) _ (asked_of c.args.asked) wanted c.in-Err.fault c.end_reading.result m.0 (c.in-Err.ensures.reads files agree) c.in-Err.ensures.folder.counts m.2) (reading_not_ok c.in-Err.fault c.end_reading.result m.0 m.2))
 
 pub returns-in-Err-clause-side : goal.returns-in-Err-clause-side
 returns-in-Err-clause-side g c = quiet g.W.Sink.leads c.args.side.now c.args.asked.watch (((g.met.W.Sink g.world.𝓛 g.world.𝓜 g.world.𝓡 ((λ s x. x), (λ x. x), (λ x. x), λ x. x))).rests c.args.side.now)
+
+pub list_model-requires-clause-zones : goal.list_model-requires-clause-zones
+list_model-requires-clause-zones g c = zones_still _ _ (asked_of c.args.asked).zones c.in-Ok.ensures.folder.still c.requires.zones

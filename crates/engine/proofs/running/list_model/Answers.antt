@@ -23,7 +23,7 @@ returns-in-Ok-clause-answers g c = λ start puts h.
 pub returns-in-Err-clause-answers : goal.returns-in-Err-clause-answers
 returns-in-Err-clause-answers g c = λ start puts h.
     let m = c.end_reading.ensures start puts h in
-    (m.0, m.1, λ words wanted watch files agree read. not_ok words files (g.F.Folder.faults c.args.folder.now) _ _ _ c.end_reading.result m.0 (ends_unzoned words files (g.F.Folder.faults c.args.folder.now) _ (asked_of c.args.asked) wanted c.args.model read c.requires.model c.in-Err.fault c.end_reading.result m.0 (c.in-Err.ensures.zones files agree) c.in-Err.ensures.counts m.2) (reading_not_ok c.in-Err.fault c.end_reading.result m.0 m.2))
+    (m.0, m.1, λ words wanted watch files agree read. not_ok words files (g.F.Folder.faults c.args.folder.now) _ _ _ c.end_reading.result m.0 (ends_unzoned words files (g.F.Folder.faults c.args.folder.now) _ (asked_of c.args.asked) wanted c.args.model read c.requires.model c.in-Err.fault c.end_reading.result m.0 (c.in-Err.ensures.zones files agree) c.in-Err.ensures.folder.counts m.2) (reading_not_ok c.in-Err.fault c.end_reading.result m.0 m.2))
 
 pub returns-in-Err-clause-side : goal.returns-in-Err-clause-side
 returns-in-Err-clause-side g c = quiet g.W.Sink.leads c.args.side.now c.args.asked.watch (((g.met.W.Sink g.world.𝓛 g.world.𝓜 g.world.𝓡 ((λ s x. x), (λ x. x), (λ x. x), λ x. x))).rests c.args.side.now)

@@ -1,7 +1,8 @@
-use Rattle.std.proofs.Common.{◌≡◌, ◌++◌, map, All}
+use Rattle.std.proofs.Common.{◌≡◌, ℕ, ◌++◌, map, All}
 use Rattle.std.specs.Prelude.{List}
 use Rattle.outside.specs.Files.{File}
 use Rattle.std.specs.Vec.Iter.{into_iter_items}
+use Rattle.record_lines.specs.Asking.{LinesMay}
 use Rattle.record_lines.specs.Reading.{for_each}
 use Rattle.record_lines.proofs.Loops.{with_front}
 use Rattle.evt_package.specs.Forms.{AreArrays, AreLast, without}
@@ -17,3 +18,4 @@ invariant-loop-period g l =
     × AreLast l.grid l.last
     × All (AreArrays l.file l.grid l.ibound l.option) l.whole.items
     × (map without l.whole.items ++ map without (into_iter_items l.period-iterator) ≡ map without l.fn.periods.items)
+    × ((name : List ℕ) → g.F.Folder.may l.fn.folder name → g.F.Folder.may l.folder name) × LinesMay (g.F.Folder.may l.folder) l.lines

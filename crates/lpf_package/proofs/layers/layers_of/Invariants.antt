@@ -1,6 +1,7 @@
-use Rattle.std.proofs.Common.{◌≡◌, ◌-◌, ◌*◌, [], cond}
+use Rattle.std.proofs.Common.{◌≡◌, ℕ, ◌-◌, ◌*◌, [], cond}
 use Rattle.std.specs.Prelude.{List}
 use Rattle.outside.specs.Files.{File}
+use Rattle.record_lines.specs.Asking.{LinesMay}
 use Rattle.record_lines.specs.Reading.{counted}
 use Rattle.lpf_package.specs.Forms.{AreLayers}
 use Rattle.lpf_package.specs.Layers.{layer_at}
@@ -12,3 +13,4 @@ invariant-loop-k g l =
     ≡ counted (layer_at files l.file l.grid l.chani l.stores) 0 l.count (record { hk = []; hani = []; vka = []; ss = []; vkcb = [] }, l.fn.lines))
     × ((files : List File) → g.F.Folder.agrees l.folder files → g.F.Folder.agrees l.fn.folder files) × (g.F.Folder.faults l.folder ≡ g.F.Folder.faults l.fn.folder)
     × AreLayers (l.k * (l.grid.rows * l.grid.cols)) (cond l.stores (l.k * (l.grid.rows * l.grid.cols)) 0) l.properties
+    × ((name : List ℕ) → g.F.Folder.may l.fn.folder name → g.F.Folder.may l.folder name) × LinesMay (g.F.Folder.may l.folder) l.lines

@@ -8,10 +8,10 @@ basics_tested-requires-clause-grid g c = grid_kept c.in_ok-bytes.begun c.in_ok-b
 pub returns-in_err-tested-clause-model : goal.returns-in_err-tested-clause-model
 returns-in_err-tested-clause-model g c = λ files agree.
     let p = err_from_is_err_and c.from_residual-in_err-tested.result c.from_residual-in_err-tested.ensures.1 in
-    rw (p.1, p.2) (bas_refused c.in_err-tested.field-0.0 files _ _ _ _ _ _ (c.in_ok-bytes.ensures.bytes files (c.in_ok-basic.ensures.since files agree)) c.in_ok-bytes.ensures.same (rw c.deref.ensures.value at (c.in_ok-basic.ensures.model files agree)) c.in_err-tested.ensures.tests)
+    rw (p.1, p.2) (bas_refused c.in_err-tested.field-0.0 files _ _ _ _ _ _ (c.in_ok-bytes.ensures.bytes files (c.in_ok-basic.ensures.folder.since files agree)) c.in_ok-bytes.ensures.same (rw c.deref.ensures.value at (c.in_ok-basic.ensures.model files agree)) c.in_err-tested.ensures.tests)
 
 pub returns-clause-model : goal.returns-clause-model
-returns-clause-model g c = λ files agree. bas_read files _ _ _ _ _ _ _ (c.in_ok-bytes.ensures.bytes files (c.in_ok-basic.ensures.since files agree)) c.in_ok-bytes.ensures.same (rw c.deref.ensures.value at (c.in_ok-basic.ensures.model files agree)) c.in_ok-tested.ensures.tests c.in_ok-tested.ensures.same
+returns-clause-model g c = λ files agree. bas_read files _ _ _ _ _ _ _ (c.in_ok-bytes.ensures.bytes files (c.in_ok-basic.ensures.folder.since files agree)) c.in_ok-bytes.ensures.same (rw c.deref.ensures.value at (c.in_ok-basic.ensures.model files agree)) c.in_ok-tested.ensures.tests c.in_ok-tested.ensures.same
 
 pub returns-clause-form : goal.returns-clause-form
 returns-clause-form g c = rw c.in_ok-tested.ensures.same (basic_of c.in_ok-bytes.begun c.in_ok-basic.basic c.args.dis.now c.args.name.now (rw c.in_ok-bytes.ensures.same c.requires.begun) c.in_ok-basic.ensures.others c.in_ok-basic.ensures.ibound c.in_ok-basic.ensures.strt c.in_ok-basic.ensures.canonical (rw c.in_ok-tested.ensures.same at c.in_ok-tested.ensures.thickness) (rw c.in_ok-tested.ensures.same at c.in_ok-tested.ensures.heads))

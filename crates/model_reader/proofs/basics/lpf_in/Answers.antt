@@ -11,10 +11,10 @@ checked-requires-clause-strt g c = heads_kept c.in_ok-bytes.basic c.in_ok-flow.f
 pub returns-in_err-good-clause-model : goal.returns-in_err-good-clause-model
 returns-in_err-good-clause-model g c = λ files agree.
     let p = err_from_is_err_and c.from_residual-in_err-good.result c.from_residual-in_err-good.ensures.1 in
-    rw (p.1, p.2) (lpf_refused c.in_err-good.field-0.0 files _ _ _ _ _ (c.in_ok-bytes.ensures.bytes files (c.in_ok-flow.ensures.since files agree)) c.in_ok-bytes.ensures.same (rw c.deref.ensures.value at (c.in_ok-flow.ensures.model files agree)) c.in_err-good.ensures.check)
+    rw (p.1, p.2) (lpf_refused c.in_err-good.field-0.0 files _ _ _ _ _ (c.in_ok-bytes.ensures.bytes files (c.in_ok-flow.ensures.folder.since files agree)) c.in_ok-bytes.ensures.same (rw c.deref.ensures.value at (c.in_ok-flow.ensures.model files agree)) c.in_err-good.ensures.check)
 
 pub returns-clause-model : goal.returns-clause-model
-returns-clause-model g c = λ files agree. lpf_read files _ _ _ _ _ _ (c.in_ok-bytes.ensures.bytes files (c.in_ok-flow.ensures.since files agree)) c.in_ok-bytes.ensures.same (rw c.deref.ensures.value at (c.in_ok-flow.ensures.model files agree)) c.in_ok-good.ensures.check c.in_ok-good.ensures.same
+returns-clause-model g c = λ files agree. lpf_read files _ _ _ _ _ _ (c.in_ok-bytes.ensures.bytes files (c.in_ok-flow.ensures.folder.since files agree)) c.in_ok-bytes.ensures.same (rw c.deref.ensures.value at (c.in_ok-flow.ensures.model files agree)) c.in_ok-good.ensures.check c.in_ok-good.ensures.same
 
 pub returns-clause-form : goal.returns-clause-form
 returns-clause-form g c = rw c.in_ok-good.ensures.same (model_of c.in_ok-bytes.basic c.in_ok-flow.flow c.args.name.now (rw c.in_ok-bytes.ensures.same c.requires.basic) c.in_ok-flow.ensures.others c.in_ok-flow.ensures.form c.in_ok-good.ensures.check)

@@ -2,36 +2,46 @@ use Rattle.std.proofs.lemmas.Result.{err_from_is_err_and}
 use Rattle.std.proofs.Common.{Err}
 use Rattle.model_reader.specs.Stresses.{with_stresses}
 use Rattle.model_reader.proofs.Chains.{goes_on, stops_here}
+use Rattle.name_file.proofs.Forward.{names_still}
 use Rattle.model_reader.proofs.stresses.with_stresses.Goals as goal
 
 pub returns-in_err-with_recharge-clause-model : goal.returns-in_err-with_recharge-clause-model
 unfolding with_stresses
 returns-in_err-with_recharge-clause-model g c = λ files agree.
     let p = err_from_is_err_and c.from_residual-in_err-with_recharge.result c.from_residual-in_err-with_recharge.ensures.1 in
-    rw (p.1, p.2) (goes_on (λ m. m) (Err c.in_err-with_recharge.field-0.0) _ _ _ (c.in_ok-with_generals.ensures.model files (c.in_err-with_recharge.ensures.since files agree))
+    rw (p.1, p.2) (goes_on (λ m. m) (Err c.in_err-with_recharge.field-0.0) _ _ _ (c.in_ok-with_generals.ensures.model files (c.in_err-with_recharge.ensures.folder.since files agree))
     (stops_here c.in_err-with_recharge.field-0.0 _ _ (c.in_err-with_recharge.ensures.model files agree)))
 
-pub returns-in_err-with_given-clause-since : goal.returns-in_err-with_given-clause-since
-returns-in_err-with_given-clause-since g c = λ files agree. c.in_ok-with_generals.ensures.since files (c.in_ok-with_recharge.ensures.since files (c.in_err-with_given.ensures.since files agree))
+pub returns-in_err-with_given-clause-folder : goal.returns-in_err-with_given-clause-folder
+returns-in_err-with_given-clause-folder g c = record { since = λ files agree. c.in_ok-with_generals.ensures.folder.since files (c.in_ok-with_recharge.ensures.folder.since files (c.in_err-with_given.ensures.folder.since files agree)); counts = search rules; still = λ name h. c.in_err-with_given.ensures.folder.still name (c.in_ok-with_recharge.ensures.folder.still name (c.in_ok-with_generals.ensures.folder.still name h)) }
 
 pub returns-in_err-with_given-clause-model : goal.returns-in_err-with_given-clause-model
 unfolding with_stresses
 returns-in_err-with_given-clause-model g c = λ files agree.
     let p = err_from_is_err_and c.from_residual-in_err-with_given.result c.from_residual-in_err-with_given.ensures.1 in
-    let recharge = c.in_err-with_given.ensures.since files agree in
-    rw (p.1, p.2) (goes_on (λ m. m) (Err c.in_err-with_given.field-0.0) _ _ _ (c.in_ok-with_generals.ensures.model files (c.in_ok-with_recharge.ensures.since files recharge))
+    let recharge = c.in_err-with_given.ensures.folder.since files agree in
+    rw (p.1, p.2) (goes_on (λ m. m) (Err c.in_err-with_given.field-0.0) _ _ _ (c.in_ok-with_generals.ensures.model files (c.in_ok-with_recharge.ensures.folder.since files recharge))
     (goes_on (λ m. m) (Err c.in_err-with_given.field-0.0) _ _ _ (c.in_ok-with_recharge.ensures.model files recharge)
     (stops_here c.in_err-with_given.field-0.0 _ _ (c.in_err-with_given.ensures.model files agree))))
 
-pub returns-clause-since : goal.returns-clause-since
-returns-clause-since g c = λ files agree. c.in_ok-with_generals.ensures.since files (c.in_ok-with_recharge.ensures.since files (c.in_ok-with_given.ensures.since files (c.evt_in.ensures.since files agree)))
+pub returns-clause-folder : goal.returns-clause-folder
+returns-clause-folder g c = record { since = λ files agree. c.in_ok-with_generals.ensures.folder.since files (c.in_ok-with_recharge.ensures.folder.since files (c.in_ok-with_given.ensures.folder.since files (c.evt_in.ensures.folder.since files agree))); counts = search rules; still = λ name h. c.evt_in.ensures.folder.still name (c.in_ok-with_given.ensures.folder.still name (c.in_ok-with_recharge.ensures.folder.still name (c.in_ok-with_generals.ensures.folder.still name h))) }
 
 pub returns-clause-model : goal.returns-clause-model
 unfolding with_stresses
 returns-clause-model g c = λ files agree.
-    let given = c.evt_in.ensures.since files agree in
-    let recharge = c.in_ok-with_given.ensures.since files given in
-    goes_on (λ m. m) c.evt_in.result _ _ _ (c.in_ok-with_generals.ensures.model files (c.in_ok-with_recharge.ensures.since files recharge))
+    let given = c.evt_in.ensures.folder.since files agree in
+    let recharge = c.in_ok-with_given.ensures.folder.since files given in
+    goes_on (λ m. m) c.evt_in.result _ _ _ (c.in_ok-with_generals.ensures.model files (c.in_ok-with_recharge.ensures.folder.since files recharge))
     (goes_on (λ m. m) c.evt_in.result _ _ _ (c.in_ok-with_recharge.ensures.model files recharge)
     (goes_on (λ m. m) c.evt_in.result _ _ _ (c.in_ok-with_given.ensures.model files given)
     (c.evt_in.ensures.model files agree)))
+
+pub rch_in-requires-clause-names : goal.rch_in-requires-clause-names
+rch_in-requires-clause-names g c = names_still _ _ _ (λ name h. c.in_ok-with_generals.ensures.folder.still name h) c.requires.names
+
+pub list_in-requires-clause-names : goal.list_in-requires-clause-names
+list_in-requires-clause-names g c = names_still _ _ _ (λ name h. c.in_ok-with_recharge.ensures.folder.still name (c.in_ok-with_generals.ensures.folder.still name h)) c.requires.names
+
+pub evt_in-requires-clause-names : goal.evt_in-requires-clause-names
+evt_in-requires-clause-names g c = names_still _ _ _ (λ name h. c.in_ok-with_given.ensures.folder.still name (c.in_ok-with_recharge.ensures.folder.still name (c.in_ok-with_generals.ensures.folder.still name h))) c.requires.names

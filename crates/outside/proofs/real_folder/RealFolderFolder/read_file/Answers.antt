@@ -1,7 +1,8 @@
 use Rattle.std.proofs.Common.{rules, ◌≡◌, subst, List, ◌∷◌, Some}
 use Rattle.outside.specs.Files.{File}
-use Rattle.outside.specs.Readings.{Read, AgreeWith, reading_of}
+use Rattle.outside.specs.Readings.{Read, AgreeWith, IsNamedBy, reading_of}
 use Rattle.outside.proofs.Answered.{is_found, by_reading, by_latest, earlier}
+use Rattle.outside.proofs.Named.{found_may, known_named, latest_named, same_named, still_named}
 use Rattle.outside.proofs.real_folder.RealFolderFolder.read_file.Goals as goal
 
 pub returns-in-Some-2-clause-found : goal.returns-in-Some-2-clause-found
@@ -24,3 +25,16 @@ returns-clause-found g c = λ files agree.
 
 pub returns-clause-within : goal.returns-clause-within
 returns-clause-within g c = c.in_ok-answer.ensures.within _ c.in_ok-found-2.ensures.within
+
+pub returns-in-Some-2-clause-words : goal.returns-in-Some-2-clause-words
+returns-in-Some-2-clause-words g c =
+    let is : reading_of c.args.name.now c.args.self.now.readings ≡ Some c.in-Some.reading.now = search rules in
+    found_may _ _ (λ word h. known_named c.args.self.now.given _ _ _ is word ((rw c.in-Some-2.is at c.in_ok-found.ensures.words) word h))
+
+pub returns-clause-still : goal.returns-clause-still
+returns-clause-still g c = λ other h.
+    let found : IsNamedBy c.find.new.self.given c.find.new.self.readings other = same_named _ _ _ _ c.find.ensures.given c.find.ensures.readings other h in
+    still_named _ _ _ _ c.in_ok-insert.ensures.items other (rw (← c.self-2.view_is) at found)
+
+pub returns-clause-words : goal.returns-clause-words
+returns-clause-words g c = found_may _ _ (λ word h. latest_named _ _ _ _ c.in_ok-insert.ensures.items word (c.in_ok-answer.ensures.words word h))

@@ -1,5 +1,5 @@
 use Rattle.std.proofs.Common.{refl}
-use Rattle.record_lines.specs.Layout.{words}
+use Rattle.outside.specs.Words.{words}
 use Rattle.record_lines.proofs.free.Free.begin.Goals as goal
 
 pub returns : goal.returns

@@ -1,0 +1,77 @@
+-- What arrays and control records take and leave are words and lines that they were given.
+use Rattle.std.proofs.Common.{◌≡◌, ℕ, List, Result, Ok, Err, All, refl}
+use Rattle.std.specs.Prelude.{IfOk}
+use Rattle.outside.specs.Asking.{WordsMay}
+use Rattle.outside.specs.Names.{folder_name}
+use Rattle.outside.specs.Words.{words}
+use Rattle.decimal_input.specs.declared.dec.NumFault.{NumFault}
+use Rattle.record_lines.specs.Asking.{LineMay, LinesMay}
+use Rattle.record_lines.specs.Items.{word_at, line_at, name_at}
+use Rattle.record_lines.specs.Layout.{Left, Numbered}
+use Rattle.record_lines.specs.Reading.{repeated}
+use Rattle.record_lines.specs.Spread.{Taking, beginning, next_value}
+use Rattle.record_lines.specs.declared.free.FreeFault.{FreeFault}
+use Rattle.record_lines.proofs.Forward.{chain, after, given, repeated_held, appended_held, value_held, word_held, name_held, line_words, leaves}
+use Rattle.array_reader.specs.Asking.{ControlMay}
+use Rattle.array_reader.specs.Items.{number_at, at_line}
+use Rattle.array_reader.specs.Control.{Control, keyword, format_at, constant_at, internal_at, named_at, of_keyword, control_at}
+use Rattle.array_reader.specs.declared.keyword.Keyword.{Keyword}
+use Rattle.array_reader.specs.declared.keyword.Keyword.TheVariants.{Constant, Internal, OpenClose, External, Other}
+use Rattle.array_reader.specs.Lists.{in_file, value_at, value_alone, free_list, free_rows}
+
+module _ {X : Type 0} (P : Numbered → Type 0) (read : List ℕ → Result X NumFault) (file : List ℕ) where
+  in_file_held : {A : Type 0} (Q : A → Type 0) (r : Result A FreeFault) → IfOk r Q → IfOk (in_file file r) Q
+  in_file_held Q (Ok a) h = h
+  in_file_held Q (Err fault) h = tt
+
+  pub value_at_held : (s : Taking × Left) → All P s.1.lines → IfOk (value_at read file s) (λ x. All P x.1.1.lines)
+  unfolding value_at
+  value_at_held s h =
+      chain (λ v. All P v.1.1.lines) (λ x. All P x.1.1.lines) (in_file file (next_value s.0 s.1)) _
+      (in_file_held (λ x. All P x.1.1.lines) (next_value s.0 s.1) (value_held P s.0 s.1 h))
+      (λ v hv. after (λ x. All P x.1.1.lines) (at_line file v.0.1 (read v.0.0)) _ (λ x. hv))
+
+  pub value_alone_held : (s : Taking × Left) → All P s.1.lines → IfOk (value_alone read file s) (λ x. All P x.1.1.lines)
+  unfolding value_alone
+  value_alone_held s h = chain (λ x. All P x.1.1.lines) (λ x. All P x.1.1.lines) (value_at read file s) _ (value_at_held s h) (λ x hx. hx)
+
+  pub list_held : (count : ℕ) (left : Left) → All P left.lines → IfOk (free_list read file count left) (λ x. All P x.1.lines)
+  unfolding free_list
+  list_held count left h =
+      chain (λ x. All P x.1.1.lines) (λ x. All P x.1.lines) (repeated count (value_alone read file) (beginning, left)) _
+      (repeated_held (λ s. All P s.1.lines) (value_alone read file) value_alone_held count (beginning, left) h) (λ x hx. hx)
+
+  pub rows_held : (rows cols : ℕ) (left : Left) → All P left.lines → IfOk (free_rows read file rows cols left) (λ x. All P x.1.lines)
+  unfolding free_rows
+  rows_held rows cols left h = appended_held (λ l. All P l.lines) (free_list read file cols) (list_held cols) rows left h
+
+module _ {X : Type 0} (may : List ℕ → Type 0) (read : List ℕ → Result X NumFault) (file : List ℕ) (line : ℕ) where
+  by_keyword : (k : Keyword) (ws : List (List ℕ)) → WordsMay may ws → IfOk (of_keyword k read file line ws) (ControlMay {X = X} may)
+  unfolding constant_at internal_at named_at
+  by_keyword Constant ws h = after (ControlMay may) (number_at read file line ws) _ (λ value. tt)
+  by_keyword Internal ws h = after (ControlMay may) (number_at read file line ws) _ (λ by. after (ControlMay may) (format_at file line by.1) _ (λ form. tt))
+  by_keyword OpenClose ws h =
+      chain (λ x. may (folder_name x.0) × WordsMay may x.1) (ControlMay may) (word_at _ ws) _ (word_held may _ ws h)
+      (λ word hw. chain (λ n. may (folder_name n)) (ControlMay may) (name_at file line word.0) _ (name_held may file line word.0 hw.0)
+          (λ name hn. after (ControlMay may) (number_at read file line word.1) _ (λ by. after (ControlMay may) (format_at file line by.1) _ (λ form. hn))))
+  by_keyword External ws h = tt
+  by_keyword Other ws h = tt
+
+  control_held : (ws : List (List ℕ)) → WordsMay may ws → IfOk (control_at read file line ws) (ControlMay {X = X} may)
+  unfolding control_at
+  control_held ws h = chain (λ x. may (folder_name x.0) × WordsMay may x.1) (ControlMay may) (word_at _ ws) _ (word_held may _ ws h) (λ word hw. by_keyword (keyword word.0) word.1 hw.1)
+
+-- the file that the control record of the next line names
+pub control_named : {X : Type 0} (may : List ℕ → Type 0) (read : List ℕ → Result X NumFault) (file : List ℕ) (number : ℕ) (left rest : Left) (line : Numbered) (ws : List (List ℕ)) (c : Control X)
+    → line_at file left ≡ Ok (line, rest) → ws ≡ words line.bytes → control_at read file number ws ≡ Ok c → LinesMay may left → ControlMay may c
+control_named may read file number left rest line ws c is all e h =
+    given (ControlMay may) (control_at read file number ws) c e (control_held may read file number ws (rw all (line_words may file left rest line is h)))
+
+-- what is left after lists of values
+pub list_leaves : {X : Type 0} (may : List ℕ → Type 0) (read : List ℕ → Result X NumFault) (file : List ℕ) (count : ℕ) (left rest : Left) (xs : List X)
+    → free_list read file count left ≡ Ok (xs, rest) → LinesMay may left → LinesMay may rest
+list_leaves may read file count left rest xs e h = leaves may (free_list read file count left) xs rest e (list_held (LineMay may) read file count left h.each)
+
+pub rows_leave : {X : Type 0} (may : List ℕ → Type 0) (read : List ℕ → Result X NumFault) (file : List ℕ) (rows cols : ℕ) (left rest : Left) (xs : List X)
+    → free_rows read file rows cols left ≡ Ok (xs, rest) → LinesMay may left → LinesMay may rest
+rows_leave may read file rows cols left rest xs e h = leaves may (free_rows read file rows cols left) xs rest e (rows_held (LineMay may) read file rows cols left h.each)

@@ -1,0 +1,37 @@
+-- The first line and LAYCBD leave lines that they were given.
+use Rattle.std.proofs.Common.{◌≡◌, ℕ, ◌-◌, ℤ, List, Result, Ok, All}
+use Rattle.std.specs.Prelude.{IfOk}
+use Rattle.outside.specs.Words.{words}
+use Rattle.record_lines.specs.Asking.{LineMay, LinesMay}
+use Rattle.record_lines.specs.Items.{line_at}
+use Rattle.record_lines.specs.Layout.{Left, Numbered}
+use Rattle.record_lines.specs.Reading.{repeated}
+use Rattle.record_lines.specs.Spread.{beginning}
+use Rattle.record_lines.proofs.Forward.{chain, after, line_held, leaves, repeated_held}
+use Rattle.array_reader.specs.Lists.{value_alone}
+use Rattle.array_reader.specs.Numbers.{integer}
+use Rattle.array_reader.proofs.Forward.{value_alone_held}
+use Rattle.package_items.specs.Items.{zero_at}
+use Rattle.package_items.proofs.Forward.{zero_held}
+use Rattle.dis_package.specs.Beds.{beds_of}
+use Rattle.dis_package.specs.Discretization.{head_of}
+use Rattle.dis_package.specs.Frames.{frame_of}
+use Rattle.dis_package.specs.declared.frame.Frame.{Frame}
+
+module _ (P : Numbered → Type 0) (file : List ℕ) where
+  beds_held : (layers : ℕ) (left : Left) → All P left.lines → IfOk (beds_of file layers left) (λ x. All P x.1.lines)
+  unfolding beds_of
+  beds_held layers left h =
+      chain (λ x. All P x.1.1.lines) (λ x. All P x.1.lines) (repeated (layers - 1) (value_alone integer file) (beginning, left)) _
+      (repeated_held (λ s. All P s.1.lines) (value_alone integer file) (value_alone_held P integer file) (layers - 1) (beginning, left) h)
+      (λ above ha. chain (λ x. All P x.1.1.lines) (λ x. All P x.1.lines) (zero_at file above.1) _ (zero_held P file above.1 ha) (λ last hl. hl))
+
+  head_held : (left : Left) → All P left.lines → IfOk (head_of file left) (λ x. All P x.1.lines)
+  unfolding head_of
+  head_held left h =
+      chain (λ x. P x.0 × All P x.1.lines) (λ x. All P x.1.lines) (line_at file left) _ (line_held P file left h)
+      (λ line hl. after (λ x. All P x.1.lines) (frame_of file line.0.number (words line.0.bytes)) _
+          (λ frame. chain (λ x. All P x.1.lines) (λ x. All P x.1.lines) (beds_of file frame.size.layers line.1) _ (beds_held frame.size.layers line.1 hl.1) (λ laycbd hb. hb)))
+
+pub head_leaves : (may : List ℕ → Type 0) (file : List ℕ) (left rest : Left) (x : Frame × List ℤ) → head_of file left ≡ Ok (x, rest) → LinesMay may left → LinesMay may rest
+head_leaves may file left rest x e h = leaves may (head_of file left) x rest e (head_held (LineMay may) file left h.each)

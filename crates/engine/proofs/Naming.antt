@@ -1,0 +1,78 @@
+-- The files of a command are those that its words name.
+use Rattle.std.proofs.Common.{◌≡◌, ℕ, List, [], ◌∷◌, Option, Some, None, subst, option_and_then}
+use Rattle.std.specs.Prelude.{IfSome}
+use Rattle.std.proofs.lemmas.List.Elements.{All-head, All-tail}
+use Rattle.outside.specs.Asking.{WordsMay}
+use Rattle.outside.specs.Names.{folder_name}
+use Rattle.command_line.specs.Wants.{Wanted, Lists, Checks, Makes, Batches, wanted_of}
+use Rattle.run_puts.specs.Lines.{Text}
+use Rattle.engine.specs.Asking.{files_of, files_if, files_named}
+use Rattle.engine.specs.Batches.{AskedBatch, batch_of, batch_asked}
+use Rattle.engine.specs.Cases.{Asked, AskedCheck, Command, Run, Make, Check, built, asked_in}
+
+module _ (may : List ℕ → Type 0) where
+  abbrev May : List ℕ → Type 0
+  May name = may (folder_name name)
+
+  abbrev OfRun : Asked → Type 0
+  OfRun a = May a.name × IfSome a.zones May
+
+  abbrev OfCheck : AskedCheck → Type 0
+  OfCheck a = May a.name × May a.listing
+
+  by_run : (w : Wanted) (a : Asked) → built w ≡ Some (Run a) → WordsMay may (files_of w) → OfRun a
+  by_run (Lists name digits workers rounds None turns) a e h =
+      let same : record { name = name; digits = digits; rounds = rounds; zones = None } ≡ a = cc in
+      subst OfRun same (All-head May name [] h, tt)
+  by_run (Lists name digits workers rounds (Some zones) turns) a e h =
+      let same : record { name = name; digits = digits; rounds = rounds; zones = Some zones } ≡ a = cc in
+      subst OfRun same (All-head May name (zones ∷ []) h, All-head May zones [] (All-tail May name (zones ∷ []) h))
+  by_run (Checks name listing digits) a e h = absurd cc
+  by_run (Makes seed size) a e h = absurd cc
+  by_run (Batches list digits workers rounds) a e h = absurd cc
+
+  by_check : (w : Wanted) (a : AskedCheck) → built w ≡ Some (Check a) → WordsMay may (files_of w) → OfCheck a
+  by_check (Lists name digits workers rounds zones turns) a e h = absurd cc
+  by_check (Checks name listing digits) a e h =
+      let same : record { name = name; listing = listing; digits = digits } ≡ a = cc in
+      subst OfCheck same (All-head May name (listing ∷ []) h, All-head May listing [] (All-tail May name (listing ∷ []) h))
+  by_check (Makes seed size) a e h = absurd cc
+  by_check (Batches list digits workers rounds) a e h = absurd cc
+
+  by_batch : (w : Wanted) (b : AskedBatch) → batch_of w ≡ Some b → WordsMay may (files_of w) → May b.list
+  by_batch (Lists name digits workers rounds zones turns) b e h = absurd cc
+  by_batch (Checks name listing digits) b e h = absurd cc
+  by_batch (Makes seed size) b e h = absurd cc
+  by_batch (Batches list digits workers rounds) b e h =
+      let same : record { list = list; digits = digits; rounds = rounds } ≡ b = cc in
+      subst (λ (x : AskedBatch). May x.list) same (All-head May list [] h)
+
+  if_run : (o : Option Wanted) (a : Asked) → option_and_then built o ≡ Some (Run a) → WordsMay may (files_if o) → OfRun a
+  if_run None a e h = absurd cc
+  if_run (Some w) a e h = by_run w a e h
+
+  if_check : (o : Option Wanted) (a : AskedCheck) → option_and_then built o ≡ Some (Check a) → WordsMay may (files_if o) → OfCheck a
+  if_check None a e h = absurd cc
+  if_check (Some w) a e h = by_check w a e h
+
+  if_batch : (o : Option Wanted) (b : AskedBatch) → option_and_then batch_of o ≡ Some b → WordsMay may (files_if o) → May b.list
+  if_batch None b e h = absurd cc
+  if_batch (Some w) b e h = by_batch w b e h
+
+  module _ (words : List Text) (h : WordsMay may (files_named words)) where
+    -- the name file of a run, and its zone file
+    pub run_named : (a : Asked) → asked_in words ≡ Some (Run a) → OfRun a
+    run_named a e = if_run (wanted_of words) a e h
+
+    -- the name file and the listing of a check
+    pub check_named : (a : AskedCheck) → asked_in words ≡ Some (Check a) → OfCheck a
+    check_named a e = if_check (wanted_of words) a e h
+
+    -- the list of a batch
+    pub batch_named : (b : AskedBatch) → batch_asked words ≡ Some b → May b.list
+    batch_named b e = if_batch (wanted_of words) b e h
+
+-- a zone file that might be asked for may still be
+pub zones_still : (may more : List ℕ → Type 0) (zones : Option Text) → ((name : List ℕ) → may name → more name) → IfSome zones (λ name. may (folder_name name)) → IfSome zones (λ name. more (folder_name name))
+zones_still may more None still h = tt
+zones_still may more (Some name) still h = still _ h

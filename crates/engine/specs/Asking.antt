@@ -1,0 +1,20 @@
+-- The files that the words name.
+use Rattle.std.specs.Prelude.{List, [], ◌∷◌, Option, Some, None}
+use Rattle.command_line.specs.Wants.{Wanted, Lists, Checks, Makes, Batches, wanted_of}
+use Rattle.run_puts.specs.Lines.{Text}
+
+-- the name file of a run, and its zone file if there is one; the name file and the listing of a check; the list of a batch
+abbrev pub files_of : Wanted → List Text
+files_of (Lists name digits workers rounds None turns) = name ∷ []
+files_of (Lists name digits workers rounds (Some zones) turns) = name ∷ zones ∷ []
+files_of (Checks name listing digits) = name ∷ listing ∷ []
+files_of (Makes seed size) = []
+files_of (Batches list digits workers rounds) = list ∷ []
+
+abbrev pub files_if : Option Wanted → List Text
+files_if None = []
+files_if (Some wanted) = files_of wanted
+
+-- what the words name, if they are accepted
+abbrev pub files_named : List Text → List Text
+files_named words = files_if (wanted_of words)

@@ -1,0 +1,44 @@
+// The files that the words name.
+ghost use Rattle.std.specs.Prelude.{◌≡◌, map, IfOk};
+ghost use Rattle.command_line.specs.Wants.{wanted};
+ghost use Rattle.engine.specs.Asking.{files_named, files_of};
+
+use command_line::{Order, WordsFault, read_order};
+use std::alloc::{AllocError, Global};
+
+// The files that an order names.
+fn files_of<'a>(alloc: Global, order: Order<'a>) -> Result<Vec<&'a str>, AllocError>
+    ensures { IfOk result (λ names. map (λ n. n.now) names.items ≡ files_of (wanted order.entry)) }
+{
+    let mut names = Vec::new(alloc);
+    match order {
+        Order::Run { name, zones, .. } => {
+            names.push(name)?;
+            if let Some(zones) = zones {
+                names.push(zones)?;
+            }
+        }
+        Order::Check { name, listing, .. } => {
+            names.push(name)?;
+            names.push(listing)?;
+        }
+        Order::Make { .. } => {}
+        Order::Batch { list, .. } => names.push(list)?,
+    }
+    Ok(names)
+}
+
+/// The names of the files that the words name, as a folder may be asked for them: the name file of a run, and its zone
+/// file; the name file and the listing of a check; the list of a batch. None where the words aren't accepted.
+pub fn files_named<'a>(
+    alloc: Global,
+    words: &'a [&'a str],
+) -> Result<Vec<&'a str>, AllocError>
+    ensures { IfOk result (λ names. map (λ n. n.now) names.items ≡ files_named (map (λ w. w.now) words.entry.now)) }
+{
+    match read_order(alloc, words) {
+        Ok(order) => files_of(alloc, order),
+        Err(WordsFault::Usage) => Ok(Vec::new(alloc)),
+        Err(WordsFault::Memory) => Err(AllocError),
+    }
+}

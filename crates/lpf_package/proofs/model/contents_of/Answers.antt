@@ -1,0 +1,9 @@
+use Rattle.record_lines.proofs.Forward.{begun_held}
+use Rattle.record_lines.specs.Asking.{LinesMay}
+use Rattle.lpf_package.proofs.Forward.{option_leaves, settings_leave}
+use Rattle.lpf_package.proofs.model.contents_of.Goals as goal
+
+pub layers_of-requires-clause-lines : goal.layers_of-requires-clause-lines
+layers_of-requires-clause-lines g c =
+    let begun : LinesMay (g.F.Folder.may c.args.folder.now) c.skip_comments.new.self = rw (c.skip_comments.ensures, c.new-lines.ensures) (begun_held _ _ c.requires.text) in
+    settings_leave _ _ _ _ _ _ c.in_ok-settings.ensures.settings (option_leaves _ _ _ _ _ c.in_ok-coefficient.ensures begun)
