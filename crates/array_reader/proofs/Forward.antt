@@ -53,7 +53,7 @@ module _ {X : Type 0} (may : List ℕ → Type 0) (read : List ℕ → Result X 
   by_keyword OpenClose ws h =
       chain (λ x. may (folder_name x.0) × WordsMay may x.1) (ControlMay may) (word_at _ ws) _ (word_held may _ ws h)
       (λ word hw. chain (λ n. may (folder_name n)) (ControlMay may) (name_at file line word.0) _ (name_held may file line word.0 hw.0)
-          (λ name hn. after (ControlMay may) (number_at read file line word.1) _ (λ by. after (ControlMay may) (format_at file line by.1) _ (λ form. hn))))
+      (λ name hn. after (ControlMay may) (number_at read file line word.1) _ (λ by. after (ControlMay may) (format_at file line by.1) _ (λ form. hn))))
   by_keyword External ws h = tt
   by_keyword Other ws h = tt
 

@@ -17,7 +17,7 @@ unfolding option_line
 option_held P file left h =
     chain (λ x. All P x.1.lines) (λ x. All P x.1.lines) (item_line file left) _ (item_held P file left h)
     (λ line hl. after (λ x. All P x.1.lines) (option_at file line.0.number (words line.0.bytes)) _
-        (λ option. after (λ x. All P x.1.lines) (number_at integer file line.0.number option.1) _ (λ unit. hl)))
+    (λ option. after (λ x. All P x.1.lines) (number_at integer file line.0.number option.1) _ (λ unit. hl)))
 
 pub option_leaves : (may : List ℕ → Type 0) (file : List ℕ) (left rest : Left) (option : ℤ) → option_line file left ≡ Ok (option, rest) → LinesMay may left → LinesMay may rest
 option_leaves may file left rest option e h = leaves may (option_line file left) option rest e (option_held (LineMay may) file left h.each)

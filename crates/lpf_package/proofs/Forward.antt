@@ -24,19 +24,19 @@ module _ (P : Numbered → Type 0) (file : List ℕ) where
   option_held left h =
       chain (λ x. P x.0 × All P x.1.lines) (λ x. All P x.1.lines) (line_at file left) _ (line_held P file left h)
       (λ line hl. after (λ x. All P x.1.lines) (number_at integer file line.0.number (words line.0.bytes)) _
-          (λ ilpfcb. after (λ x. All P x.1.lines) (number_at number file line.0.number ilpfcb.1) _
-              (λ hdry. after (λ x. All P x.1.lines) (number_at integer file line.0.number hdry.1) _
-                  (λ nplpf. either (λ x. All P x.1.lines) (int_lt (pos 0) nplpf.0) (Err (refusal OutOfProfile file line.0.number))
-                      (Ok (list_any (is_word (codes "STORAGECOEFFICIENT")) nplpf.1, line.1)) tt hl.1))))
+      (λ ilpfcb. after (λ x. All P x.1.lines) (number_at number file line.0.number ilpfcb.1) _
+      (λ hdry. after (λ x. All P x.1.lines) (number_at integer file line.0.number hdry.1) _
+      (λ nplpf. either (λ x. All P x.1.lines) (int_lt (pos 0) nplpf.0) (Err (refusal OutOfProfile file line.0.number))
+      (Ok (list_any (is_word (codes "STORAGECOEFFICIENT")) nplpf.1, line.1)) tt hl.1))))
 
   settings_held : (layers : ℕ) (left : Left) → All P left.lines → IfOk (settings_of file layers left) (λ x. All P x.1.lines)
   unfolding settings_of
   settings_held layers left h =
       chain (λ x. All P x.1.lines) (λ x. All P x.1.lines) (zero_list file layers left) _ (zeros_held P file layers left h)
       (λ a ha. chain (λ x. All P x.1.lines) (λ x. All P x.1.lines) (zero_list file layers a.1) _ (zeros_held P file layers a.1 ha)
-          (λ b hb. chain (λ x. All P x.1.lines) (λ x. All P x.1.lines) (free_list number file layers b.1) _ (list_held P number file layers b.1 hb)
-              (λ c hc. chain (λ x. All P x.1.lines) (λ x. All P x.1.lines) (free_list integer file layers c.1) _ (list_held P integer file layers c.1 hc)
-                  (λ d hd. chain (λ x. All P x.1.lines) (λ x. All P x.1.lines) (zero_list file layers d.1) _ (zeros_held P file layers d.1 hd) (λ e he. he)))))
+      (λ b hb. chain (λ x. All P x.1.lines) (λ x. All P x.1.lines) (free_list number file layers b.1) _ (list_held P number file layers b.1 hb)
+      (λ c hc. chain (λ x. All P x.1.lines) (λ x. All P x.1.lines) (free_list integer file layers c.1) _ (list_held P integer file layers c.1 hc)
+      (λ d hd. chain (λ x. All P x.1.lines) (λ x. All P x.1.lines) (zero_list file layers d.1) _ (zeros_held P file layers d.1 hd) (λ e he. he)))))
 
 module _ (may : List ℕ → Type 0) (file : List ℕ) where
   pub option_leaves : (left rest : Left) (x : Bool) → option_line file left ≡ Ok (x, rest) → LinesMay may left → LinesMay may rest

@@ -28,7 +28,7 @@ module _ (may : List ℕ → Type 0) where
   file_held file line ws h =
       chain (λ x. may (folder_name x.0) × WordsMay may x.1) (λ n. may (folder_name n)) (word_at (refusal BadNameLine file line) ws) _ (word_held may (refusal BadNameLine file line) ws h)
       (λ unit hu. chain (λ x. may (folder_name x.0) × WordsMay may x.1) (λ n. may (folder_name n)) (word_at (refusal BadNameLine file line) unit.1) _ (word_held may (refusal BadNameLine file line) unit.1 hu.1)
-          (λ name hn. either (λ n. may (folder_name n)) (is_integer unit.0) (name_at file line name.0) (Err (refusal BadNameLine file line)) (name_held may file line name.0 hn.0) tt))
+      (λ name hn. either (λ n. may (folder_name n)) (is_integer unit.0) (name_at file line name.0) (Err (refusal BadNameLine file line)) (name_held may file line name.0 hn.0) tt))
 
   package_held : (file : List ℕ) (line : ℕ) (found : Package) (ws : List (List ℕ)) (names : Pairs) → WordsMay may ws → Named names → IfOk (after_package file line found ws names) Named
   unfolding after_package
@@ -62,7 +62,7 @@ module _ (may : List ℕ → Type 0) where
   whole_held file names h =
       either Named (has_package Dis names) (if has_package Bas names then (if has_package Lpf names then Ok names else missing file) else missing file) (missing file)
       (either Named (has_package Bas names) (if has_package Lpf names then Ok names else missing file) (missing file)
-          (either Named (has_package Lpf names) (Ok names) (missing file) h tt) tt) tt
+      (either Named (has_package Lpf names) (Ok names) (missing file) h tt) tt) tt
 
   names_held : (file bytes : List ℕ) → TextMay may bytes → IfOk (names_of file bytes) Named
   unfolding names_of
