@@ -26,8 +26,8 @@ use Rattle.step_chain.specs.Steps.{IsPosed, HasNoHeads}
 use Rattle.listing_io.specs.declared.listing.ListedStep.{ListedStep}
 use Rattle.listing_io.specs.Listed.{IsListedStep}
 use Rattle.listing_run.proofs.Unique.{one_ok, one_err, ok_not_err, IsRest, first_in, rest_more, rest_whole}
-use Rattle.check_run.specs.declared.verdict.Verdict.{Verdict}
-use Rattle.check_run.specs.declared.verdict.Verdict.TheVariants.{Certified, Fails, Refused}
+use Rattle.check_run.specs.declared.verdict.ListingVerdict.{ListingVerdict}
+use Rattle.check_run.specs.declared.verdict.ListingVerdict.TheVariants.{Certified, Fails, Refused}
 use Rattle.check_run.specs.Laws.{VerdictIsOne}
 use Rattle.check_run.specs.Reaching.{ConstantsReach, IsConstantCell, IsFirstShort, ReachesAt}
 use Rattle.check_run.specs.Steps.{bounds, budget_at, Passes, FailsAt, at_constant, at_variable, at_term, IsRefused, no_heads, no_budget}
@@ -148,34 +148,34 @@ module _ (m : FlowModel) (s : ℕ) (at : TimeStep) (old : List Bound) (w : Liste
         constants_one r c o q (subst Q barriers (subst P problems h)) k
 
   -- what a verdict at this step says
-  abbrev told : Said → Verdict
+  abbrev told : Said → ListingVerdict
   told passed = Certified
   told (failed place) = Fails at place
   told (refused n) = Refused at n
 
-  record Stopped (v : Verdict) : Type 0 where
+  record Stopped (v : ListingVerdict) : Type 0 where
     said : Said
     says : Says said
     is : v ≡ told said
     stops : said ≢ passed
 
-  stopped : (v : Verdict) → StopsAt m s at old w v → Stopped v
+  stopped : (v : ListingVerdict) → StopsAt m s at old w v → Stopped v
   stopped Certified h = absurd h
   stopped (Fails t place) (same, f) = record { said = failed place; says = fails_said place f; is = ap (λ x. Fails x place) same; stops = λ e. cc }
   stopped (Refused t n) (same, r) = record { said = refused n; says = refused_said n r; is = ap (λ x. Refused x n) same; stops = λ e. cc }
 
   module _ (laws : Laws) (before : IsBefore m at old) where
-    stops_one : (a b : Verdict) → StopsAt m s at old w a → StopsAt m s at old w b → a ≡ b
+    stops_one : (a b : ListingVerdict) → StopsAt m s at old w a → StopsAt m s at old w b → a ≡ b
     stops_one a b h k =
         let x = stopped a h in
         let y = stopped b k in
         x.is ∙ ap told (said_one laws before x.said y.said x.says y.says) ∙ sym y.is
 
-    passes_excludes : (v : Verdict) → Passes m s at old w → StopsAt m s at old w v → ⊥
+    passes_excludes : (v : ListingVerdict) → Passes m s at old w → StopsAt m s at old w v → ⊥
     passes_excludes v h k = let x = stopped v k in x.stops (said_one laws before x.said passed x.says (passes_said h))
 
 module _ (laws : Laws) (m : FlowModel) (s : ℕ) (model : IsModel m) where
-  checks_one : (old : List Bound) (rest : List TimeStep) (steps : List ListedStep) (a b : Verdict) → IsRest (times m) rest → AreGridHeads m old → All (IsListedStep m) steps → Checks m s old rest steps a → Checks m s old rest steps b → a ≡ b
+  checks_one : (old : List Bound) (rest : List TimeStep) (steps : List ListedStep) (a b : ListingVerdict) → IsRest (times m) rest → AreGridHeads m old → All (IsListedStep m) steps → Checks m s old rest steps a → Checks m s old rest steps b → a ≡ b
   checks_one old [] [] Certified Certified r heads l h k = refl
   checks_one old [] [] Certified (Fails t place) r heads l h k = absurd k
   checks_one old [] [] Certified (Refused t n) r heads l h k = absurd k

@@ -29,7 +29,7 @@ use Rattle.listing_run.specs.declared.task.Task.{Task}
 use Rattle.listing_run.specs.declared.step.Step.{Step}
 use Rattle.listing_run.specs.Steps.{IsStep, Steps, Whole, budget_at}
 use Rattle.listing_run.proofs.Unique.{IsRest, first_in, rest_more, rest_whole}
-use Rattle.check_run.specs.declared.verdict.Verdict.TheVariants.{Certified}
+use Rattle.check_run.specs.declared.verdict.ListingVerdict.TheVariants.{Certified}
 use Rattle.check_run.specs.Reaching.{ConstantsReach, ReachesOn, variable_bounds}
 use Rattle.check_run.specs.Runs.{RunIsCertified, as_listed}
 use Rattle.check_run.specs.Steps.{Passes}

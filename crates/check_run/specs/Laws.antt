@@ -4,11 +4,11 @@ use Rattle.model_types.specs.declared.model.FlowModel.{FlowModel}
 use Rattle.model_types.specs.Valid.{IsModel}
 use Rattle.listing_io.specs.declared.listing.ListedStep.{ListedStep}
 use Rattle.listing_io.specs.Listed.{AreListed}
-use Rattle.check_run.specs.declared.verdict.Verdict.{Verdict}
+use Rattle.check_run.specs.declared.verdict.ListingVerdict.{ListingVerdict}
 use Rattle.check_run.specs.Verdicts.{IsVerdict}
 
 -- the listing of a model has at most one verdict
 abbrev pub VerdictIsOne : Type 0
 VerdictIsOne =
-    (m : FlowModel) (s : ℕ) (steps : List ListedStep) (a b : Verdict) → IsModel m → AreListed m steps →
+    (m : FlowModel) (s : ℕ) (steps : List ListedStep) (a b : ListingVerdict) → IsModel m → AreListed m steps →
     IsVerdict m s steps a → IsVerdict m s steps b → a ≡ b

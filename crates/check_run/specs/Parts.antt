@@ -37,8 +37,8 @@ use Rattle.listing_io.specs.Listed.{step_in}
 use Rattle.check_run.specs.declared.fault.Fault.{Fault}
 use Rattle.check_run.specs.declared.fault.Fault.TheVariants as fault
 use Rattle.check_run.specs.declared.posed.Posed.{Posed}
-use Rattle.check_run.specs.declared.verdict.Verdict.{Verdict}
-use Rattle.check_run.specs.declared.verdict.Verdict.TheVariants as verdict
+use Rattle.check_run.specs.declared.verdict.ListingVerdict.{ListingVerdict}
+use Rattle.check_run.specs.declared.verdict.ListingVerdict.TheVariants as verdict
 use Rattle.check_run.specs.Reaching.{ReachesOn}
 use Rattle.check_run.specs.Steps.{FailsAt, IsRefused}
 
@@ -105,7 +105,7 @@ IsUncovered p bounds listed (fault.Refused n) = budget_of p (lower_at bounds) (u
 IsUncovered p bounds listed fault.Memory = ⊥
 
 -- the verdict from a step's fault at its time
-abbrev pub IsVerdictAt : TimeStep → Fault → Verdict → Type 0
+abbrev pub IsVerdictAt : TimeStep → Fault → ListingVerdict → Type 0
 IsVerdictAt at (fault.Fails place) v = v ≡ verdict.Fails at place
 IsVerdictAt at (fault.Refused n) v = v ≡ verdict.Refused at n
 IsVerdictAt at fault.Memory v = ⊥

@@ -9,19 +9,19 @@ use Rattle.listing_io.specs.declared.listing.ListedStep.{ListedStep}
 use Rattle.listing_run.specs.declared.task.Task.{Task}
 use Rattle.listing_run.specs.declared.step.Step.{Step}
 use Rattle.listing_run.specs.Bounding.{EnclosesHistories}
-use Rattle.check_run.specs.declared.verdict.Verdict.{Verdict}
-use Rattle.check_run.specs.declared.verdict.Verdict.TheVariants.{Certified, Fails, Refused}
+use Rattle.check_run.specs.declared.verdict.ListingVerdict.{ListingVerdict}
+use Rattle.check_run.specs.declared.verdict.ListingVerdict.TheVariants.{Certified, Fails, Refused}
 use Rattle.check_run.specs.Steps.{Passes, FailsAt, IsRefused}
 
 module _ (m : FlowModel) (s : ℕ) where
   -- the check ends at this step with this verdict
-  abbrev pub StopsAt : TimeStep → List Bound → ListedStep → Verdict → Type 0
+  abbrev pub StopsAt : TimeStep → List Bound → ListedStep → ListingVerdict → Type 0
   StopsAt at old w Certified = ⊥
   StopsAt at old w (Fails t place) = (t ≡ at) × FailsAt m s at old w place
   StopsAt at old w (Refused t n) = (t ≡ at) × IsRefused m s at old w n
 
   -- From the heads `old` on, the check of these times' steps ends with this verdict. Each step is checked from the listed heads of the one before it.
-  abbrev pub Checks : List Bound → List TimeStep → List ListedStep → Verdict → Type 0
+  abbrev pub Checks : List Bound → List TimeStep → List ListedStep → ListingVerdict → Type 0
   Checks old (at ∷ rest) (w ∷ steps) end = (Passes m s at old w × Checks w.heads rest steps end) ⊎ StopsAt at old w end
   Checks old [] [] Certified = Unit {0}
   Checks old [] [] (Fails t place) = ⊥
@@ -30,7 +30,7 @@ module _ (m : FlowModel) (s : ℕ) where
   Checks old (at ∷ rest) [] end = ⊥
 
   -- The verdict on a listing's steps: they are checked in turn, the first from STRT.
-  pub record IsVerdict (steps : List ListedStep) (end : Verdict) : Type 0 where
+  pub record IsVerdict (steps : List ListedStep) (end : ListingVerdict) : Type 0 where
     pub start : List Bound
     pub is_start : AreStartHeads m start
     pub checks : Checks start (times m) steps end

@@ -12,4 +12,4 @@ mod variables;
 pub mod verdict;
 
 pub use listing::check_listing;
-pub use verdict::Verdict;
+pub use verdict::ListingVerdict;

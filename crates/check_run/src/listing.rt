@@ -4,14 +4,14 @@ ghost use Rattle.model_types.specs.Valid.{IsModel};
 ghost use Rattle.listing_io.specs.Listed.{AreListed};
 ghost use Rattle.exact_histories.specs.Histories.{HasOneHistory};
 ghost use Rattle.step_chain.specs.Keeps.{AreRunTables, digits_of};
-ghost use Rattle.check_run.specs.declared.verdict.Verdict.TheVariants.{Certified};
+ghost use Rattle.check_run.specs.declared.verdict.ListingVerdict.TheVariants.{Certified};
 ghost use Rattle.check_run.specs.Parts.{heads_before, IsVerdictAt};
 ghost use Rattle.check_run.specs.Verdicts.{IsVerdict, ListingEncloses};
 
 use crate::fault::Fault;
 use crate::laws::one_verdict;
 use crate::step::check_listed;
-use crate::verdict::Verdict;
+use crate::verdict::ListingVerdict;
 use listing_io::Listing;
 use model_types::{FlowModel, TimeStep, times};
 use problem_builder::start_heads;
@@ -31,12 +31,12 @@ fn heads_before<'a>(start: &'a [Bound], listing: &'a Listing, index: usize) -> &
 }
 
 // The verdict on a listing from a step's fault at its time.
-fn verdict_at(at: TimeStep, fault: Fault) -> Result<Verdict, AllocError>
+fn verdict_at(at: TimeStep, fault: Fault) -> Result<ListingVerdict, AllocError>
     ensures { IfOk result (IsVerdictAt at fault) }
 {
     match fault {
-        Fault::Fails(place) => Ok(Verdict::Fails(at, place)),
-        Fault::Refused(refusal) => Ok(Verdict::Refused(at, refusal)),
+        Fault::Fails(place) => Ok(ListingVerdict::Fails(at, place)),
+        Fault::Refused(refusal) => Ok(ListingVerdict::Refused(at, refusal)),
         Fault::Memory => Err(AllocError),
     }
 }
@@ -47,13 +47,13 @@ fn check_steps(
     model: &FlowModel,
     tables: &mut RunTables,
     listing: &Listing,
-) -> Result<Verdict, AllocError>
+) -> Result<ListingVerdict, AllocError>
     requires model { IsModel model.now }
     requires digits { digits_of tables.old ≤ 18 }
     requires listing { AreListed model.now listing.now }
     requires tables { AreRunTables model.now tables.old }
     ensures verdict { IfOk result (IsVerdict model.now (digits_of tables.old) listing.now) }
-    ensures only { IfOk result (λ v. (other : Verdict) → IsVerdict model.now (digits_of tables.old) listing.now other → other ≡ v) }
+    ensures only { IfOk result (λ v. (other : ListingVerdict) → IsVerdict model.now (digits_of tables.old) listing.now other → other ≡ v) }
     ensures encloses { IfOk result (λ v. v ≡ Certified → ListingEncloses model.now (digits_of tables.old) listing.now) }
     ensures history { IfOk result (λ v. v ≡ Certified → HasOneHistory model.now) }
 {
@@ -69,7 +69,7 @@ fn check_steps(
             Err(fault) => return verdict_at(*at, fault),
         }
     }
-    Ok(Verdict::Certified)
+    Ok(ListingVerdict::Certified)
 }
 
 /// Checks a listing of a model with s digits of conductances, step by step, each from the listed heads of the one
@@ -79,13 +79,13 @@ pub fn check_listing(
     model: &FlowModel,
     listing: &Listing,
     s: u32,
-) -> Result<Verdict, AllocError>
+) -> Result<ListingVerdict, AllocError>
     requires model { IsModel model.now }
     requires digits { s ≤ 18 }
     requires listing { AreListed model.now listing.now }
     // The listing's one verdict.
     ensures verdict { IfOk result (IsVerdict model.now s listing.now) }
-    ensures only { IfOk result (λ v. (other : Verdict) → IsVerdict model.now s listing.now other → other ≡ v) }
+    ensures only { IfOk result (λ v. (other : ListingVerdict) → IsVerdict model.now s listing.now other → other ≡ v) }
     // Where it is certified, every history that solves the model lies within it, whoever wrote it.
     ensures encloses { IfOk result (λ v. v ≡ Certified → ListingEncloses model.now s listing.now) }
     // And there is exactly one such history.

@@ -1,20 +1,24 @@
 // The last lines of checks.
 ghost use Rattle.model_types.specs.Grids.{HasSize};
 
-use check_run::Verdict;
+use check_run::ListingVerdict;
 use listing_io::{write_no_bound, write_not_certified, write_refused};
 use model_types::Grid;
 use outside::InputFault;
 use std::alloc::{AllocError, Global};
 
 /// The line of a verdict on a listing of a model with this grid.
-pub fn verdict_line(alloc: Global, grid: &Grid, verdict: Verdict) -> Result<Vec<u8>, AllocError>
+pub fn verdict_line(
+    alloc: Global,
+    grid: &Grid,
+    verdict: ListingVerdict,
+) -> Result<Vec<u8>, AllocError>
     requires { HasSize grid.now }
 {
     match verdict {
-        Verdict::Certified => Vec::from_slice(alloc, b"CERTIFIED\n"),
-        Verdict::Fails(at, place) => write_not_certified(alloc, grid, at, place),
-        Verdict::Refused(at, refusal) => write_no_bound(alloc, grid, at, refusal),
+        ListingVerdict::Certified => Vec::from_slice(alloc, b"CERTIFIED\n"),
+        ListingVerdict::Fails(at, place) => write_not_certified(alloc, grid, at, place),
+        ListingVerdict::Refused(at, refusal) => write_no_bound(alloc, grid, at, refusal),
     }
 }
 

@@ -13,8 +13,8 @@ use Rattle.run_puts.specs.declared.status.Status.{Status}
 use Rattle.run_puts.specs.declared.status.Status.TheVariants as status
 use Rattle.run_puts.proofs.Makes.{all_written}
 use Rattle.listing_run.specs.Listing.{time}
-use Rattle.check_run.specs.declared.verdict.Verdict.{Verdict}
-use Rattle.check_run.specs.declared.verdict.Verdict.TheVariants.{Certified as Holds, Fails, Refused as Unbounded}
+use Rattle.check_run.specs.declared.verdict.ListingVerdict.{ListingVerdict}
+use Rattle.check_run.specs.declared.verdict.ListingVerdict.TheVariants.{Certified as Holds, Fails, Refused as Unbounded}
 use Rattle.check_run.specs.Laws.{VerdictIsOne}
 use Rattle.check_run.specs.Verdicts.{IsVerdict}
 use Rattle.engine.specs.Cases.{Asked, AskedCheck, Case, Command, Run, Make, Check, NoWords, Refuses, Listing, Making, Checking, asked_in, case_asked, case_checked, case_listed, case_of, case_read, case_zoned, listing_read, made_model, named, task_of, zones_read}
@@ -98,14 +98,14 @@ module _ (words : List Text) (files : List File) (m : FlowModel) (s : ℕ) (step
 
 -- A check has one end.
 
-abbrev status_by : Verdict → Status
+abbrev status_by : ListingVerdict → Status
 status_by Holds = status.Ok
 status_by (Fails at place) = status.NotCertified at.period at.step place
 status_by (Unbounded at n) = status.NoBound at.period at.step n
 
 module _ (m : FlowModel) (s : ℕ) (steps : List ListedStep) where
   record IsBy (end : Status) : Type 0 where
-    verdict : Verdict
+    verdict : ListingVerdict
     is : IsVerdict m s steps verdict
     end_is : end ≡ status_by verdict
 

@@ -18,8 +18,8 @@ use Rattle.run_puts.specs.declared.status.Status.{Status}
 use Rattle.run_puts.specs.declared.status.Status.TheVariants as status
 use Rattle.run_puts.proofs.Pieces.{lone}
 use Rattle.exact_histories.specs.Histories.{HasOneHistory}
-use Rattle.check_run.specs.declared.verdict.Verdict.{Verdict}
-use Rattle.check_run.specs.declared.verdict.Verdict.TheVariants.{Certified, Fails, Refused}
+use Rattle.check_run.specs.declared.verdict.ListingVerdict.{ListingVerdict}
+use Rattle.check_run.specs.declared.verdict.ListingVerdict.TheVariants.{Certified, Fails, Refused}
 use Rattle.check_run.specs.Verdicts.{IsVerdict, ListingEncloses}
 use Rattle.engine.specs.Cases.{AskedCheck, Command, Check, Refuses, Checking, IsCase, CouldRead, asked_in, case_asked, case_checked, case_listed, listing_read, named, zones_read}
 use Rattle.engine.specs.Checked.{IsCheck, certified_line}
@@ -29,7 +29,7 @@ use Rattle.engine.proofs.Ends.{checked, could_read, ends_without_words, no_steps
 use Rattle.engine.proofs.Readings.{named_read, no_zones}
 
 module _ (m : FlowModel) (s : ℕ) (steps : List ListedStep) where
-  pub puts_verdict : (v : Verdict) (end : Status) (puts : List Put) → IsVerdict m s steps v → (v ≡ Certified → ListingEncloses m s steps) → (v ≡ Certified → HasOneHistory m) → IsVerdictEnd m v end puts → IsRun (IsCheck m s steps) IsUncut end puts
+  pub puts_verdict : (v : ListingVerdict) (end : Status) (puts : List Put) → IsVerdict m s steps v → (v ≡ Certified → ListingEncloses m s steps) → (v ≡ Certified → HasOneHistory m) → IsVerdictEnd m v end puts → IsRun (IsCheck m s steps) IsUncut end puts
   puts_verdict Certified end puts is encloses history h = lone (IsCheck m s steps) IsUncut certified_line status.Ok end puts (record { verdict = is; encloses = encloses refl; history = history refl; are = refl }) (inl h)
   puts_verdict (Fails at place) end puts is encloses history h = lone (IsCheck m s steps) IsUncut (not_certified_line m.grid at place) (status.NotCertified at.period at.step place) end puts (is, refl) h
   puts_verdict (Refused at n) end puts is encloses history h = lone (IsCheck m s steps) IsUncut (no_bound_line m.grid at n) (status.NoBound at.period at.step n) end puts (is, refl) h

@@ -7,7 +7,7 @@ use Rattle.run_puts.specs.Lines.{Text}
 use Rattle.run_puts.specs.declared.status.Status.{Status}
 use Rattle.run_puts.specs.declared.status.Status.TheVariants as status
 use Rattle.listing_run.specs.Listing.{time}
-use Rattle.check_run.specs.declared.verdict.Verdict.TheVariants.{Certified, Fails, Refused}
+use Rattle.check_run.specs.declared.verdict.ListingVerdict.TheVariants.{Certified, Fails, Refused}
 use Rattle.exact_histories.specs.Histories.{HasOneHistory}
 use Rattle.check_run.specs.Verdicts.{IsVerdict, ListingEncloses}
 

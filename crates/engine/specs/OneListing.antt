@@ -15,7 +15,7 @@ use Rattle.listing_run.specs.Bounding.{EnclosesHistories}
 use Rattle.listing_run.specs.Listing.{listing}
 use Rattle.listing_summary.specs.Summaries.{summary_of}
 use Rattle.listing_summary.specs.Texts.{summary_text}
-use Rattle.check_run.specs.declared.verdict.Verdict.TheVariants.{Certified as Holds}
+use Rattle.check_run.specs.declared.verdict.ListingVerdict.TheVariants.{Certified as Holds}
 use Rattle.check_run.specs.Verdicts.{IsVerdict}
 use Rattle.engine.specs.Cases.{Asked, AskedCheck, Check, Make, Run, asked_in, listing_read, task_of, zones_read}
 use Rattle.engine.specs.Made.{made_task}

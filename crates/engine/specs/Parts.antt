@@ -25,8 +25,8 @@ use Rattle.run_puts.specs.Lines.{Text, read_fault_line}
 use Rattle.run_puts.specs.Runs.{IsRun}
 use Rattle.run_puts.specs.declared.status.Status.{Status}
 use Rattle.run_puts.specs.declared.status.Status.TheVariants as status
-use Rattle.check_run.specs.declared.verdict.Verdict.{Verdict}
-use Rattle.check_run.specs.declared.verdict.Verdict.TheVariants.{Certified, Fails, Refused as Unbounded}
+use Rattle.check_run.specs.declared.verdict.ListingVerdict.{ListingVerdict}
+use Rattle.check_run.specs.declared.verdict.ListingVerdict.TheVariants.{Certified, Fails, Refused as Unbounded}
 use Rattle.engine.specs.Cases.{AskedCheck, Case, Listing, Making, Checking, IsCase, listing_read, made_model, named, zones_named, zones_read}
 use Rattle.engine.specs.Checked.{certified_line}
 use Rattle.engine.specs.Made.{IsMade}
@@ -108,7 +108,7 @@ pub record IsMadeRun (seed size : ℕ) (end : Status) (puts : List Put) : Type 0
   pub valid : IfOk (made_model seed size) IsModel ⊎ IsStopped end
 
 -- the puts of a verdict's line
-abbrev pub IsVerdictEnd : FlowModel → Verdict → Status → List Put → Type 0
+abbrev pub IsVerdictEnd : FlowModel → ListingVerdict → Status → List Put → Type 0
 IsVerdictEnd m Certified end puts = IsLast certified_line status.Ok end puts
 IsVerdictEnd m (Fails at place) end puts = IsEnd (not_certified_line m.grid at place) (status.NotCertified at.period at.step place) end puts
 IsVerdictEnd m (Unbounded at n) end puts = IsEnd (no_bound_line m.grid at n) (status.NoBound at.period at.step n) end puts

@@ -14,7 +14,7 @@ use Rattle.run_puts.specs.declared.status.Status.TheVariants as status
 use Rattle.listing_run.specs.declared.task.Task.{Task}
 use Rattle.listing_run.specs.declared.step.Step.{Step}
 use Rattle.listing_run.specs.Steps.{WithoutBound, Open, AllSteps}
-use Rattle.check_run.specs.declared.verdict.Verdict.TheVariants.{Certified}
+use Rattle.check_run.specs.declared.verdict.ListingVerdict.TheVariants.{Certified}
 use Rattle.check_run.specs.Verdicts.{IsVerdict}
 use Rattle.engine.specs.Cases.{Case, Listing, Making, Checking, IsCase, case_of}
 use Rattle.engine.specs.Made.{made_task}

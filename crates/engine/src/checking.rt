@@ -17,7 +17,7 @@ ghost use Rattle.engine.specs.Parts.{Answers, IsListedAs, IsReadAs, IsUncut, IsV
 use crate::asked::AskedCheck;
 use crate::ending::end_reading;
 use crate::reading::{bad_name, read_named};
-use check_run::{Verdict, check_listing};
+use check_run::{ListingVerdict, check_listing};
 use listing_io::{Listing, read_listing, write_no_bound, write_not_certified};
 use model_types::FlowModel;
 use outside::{Folder, InputFault, Sink, is_good_name, read_input};
@@ -58,14 +58,19 @@ fn put_line<K: Sink>(out: &mut K, line: Result<Vec<u8>, AllocError>, meant: Stat
 }
 
 // Puts the line of a verdict.
-fn put_verdict<K: Sink>(alloc: Global, model: &FlowModel, verdict: Verdict, out: &mut K) -> Status
+fn put_verdict<K: Sink>(
+    alloc: Global,
+    model: &FlowModel,
+    verdict: ListingVerdict,
+    out: &mut K,
+) -> Status
     requires { IsModel model.now }
     ensures { (start : _) (puts : List Put) → K.leads start puts out.old →
         (more : List Put) × K.leads start (puts ++ more) out.new × IsVerdictEnd model.now verdict result more }
 {
     match verdict {
-        Verdict::Certified => put_last(out, b"CERTIFIED\n", Status::Ok),
-        Verdict::Fails(at, place) => {
+        ListingVerdict::Certified => put_last(out, b"CERTIFIED\n", Status::Ok),
+        ListingVerdict::Fails(at, place) => {
             let line = write_not_certified(alloc, &model.grid, at, place);
             put_line(
                 out,
@@ -77,7 +82,7 @@ fn put_verdict<K: Sink>(alloc: Global, model: &FlowModel, verdict: Verdict, out:
                 },
             )
         }
-        Verdict::Refused(at, fault) => {
+        ListingVerdict::Refused(at, fault) => {
             let line = write_no_bound(alloc, &model.grid, at, fault);
             put_line(
                 out,

@@ -13,7 +13,7 @@ use Rattle.flow_equations.specs.ExactStep.{exact_step}
 use Rattle.flow_equations.specs.Histories.{heads_of, variable_heads, SolvesAt, SolvesFrom}
 use Rattle.flow_equations.proofs.Links.{are_linked}
 use Rattle.listing_io.specs.declared.listing.ListedStep.{ListedStep}
-use Rattle.check_run.specs.declared.verdict.Verdict.TheVariants.{Certified}
+use Rattle.check_run.specs.declared.verdict.ListingVerdict.TheVariants.{Certified}
 use Rattle.check_run.specs.Verdicts.{Checks, steps_of}
 use Rattle.listing_run.specs.declared.task.Task.{Task}
 use Rattle.listing_run.specs.declared.step.Step.{Step}

@@ -13,7 +13,7 @@ use Rattle.listing_run.specs.declared.step.Step.{Step}
 use Rattle.listing_run.specs.Steps.{Whole, AllSteps}
 use Rattle.listing_run.specs.Bounding.{EnclosesHistories}
 use Rattle.listing_io.specs.declared.listing.ListedStep.{ListedStep}
-use Rattle.check_run.specs.declared.verdict.Verdict.TheVariants.{Certified}
+use Rattle.check_run.specs.declared.verdict.ListingVerdict.TheVariants.{Certified}
 use Rattle.check_run.specs.Verdicts.{IsVerdict, steps_of}
 use Rattle.exact_budgets.specs.NetTerms.{IsBalanced}
 use Rattle.exact_budgets.specs.Histories.{AllNetTermsLie}
