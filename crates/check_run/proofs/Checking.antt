@@ -19,8 +19,8 @@ use Rattle.listing_io.specs.Listed.{AreListed, IsListedStep, step_in}
 use Rattle.listing_run.specs.declared.step.Step.{Step}
 use Rattle.listing_run.specs.Bounding.{BoundAll, BoundsMoves}
 use Rattle.listing_run.proofs.UnderWay.{HasCome, one_move, nothing_more}
-use Rattle.check_run.specs.declared.fault.Fault.{Fault}
-use Rattle.check_run.specs.declared.fault.Fault.TheVariants as fault
+use Rattle.check_run.specs.declared.fault.CheckFault.{CheckFault}
+use Rattle.check_run.specs.declared.fault.CheckFault.TheVariants as fault
 use Rattle.check_run.specs.declared.verdict.ListingVerdict.{ListingVerdict}
 use Rattle.check_run.specs.declared.verdict.ListingVerdict.TheVariants.{Certified, Fails, Refused}
 use Rattle.check_run.specs.Parts.{FailsBy, IsVerdictAt, heads_before}
@@ -122,12 +122,12 @@ module _ (m : FlowModel) (s : ℕ) (all : List ListedStep) where
         one = λ d e history other first second. end.one (λ before other olds same. none_left m before other) d e history other first.some second.some first.steps second.steps;
       }
 
-  stops_by : (at : TimeStep) (old : List Bound) (w : ListedStep) (f : Fault) (v : ListingVerdict) → FailsBy m s at old w f → IsVerdictAt at f v → StopsAt m s at old w v
+  stops_by : (at : TimeStep) (old : List Bound) (w : ListedStep) (f : CheckFault) (v : ListingVerdict) → FailsBy m s at old w f → IsVerdictAt at f v → StopsAt m s at old w v
   stops_by at old w (fault.Fails place) v h is = let P : ListingVerdict → Type 0 = StopsAt m s at old w in subst P (sym is) (refl, h)
   stops_by at old w (fault.Refused n) v h is = let P : ListingVerdict → Type 0 = StopsAt m s at old w in subst P (sym is) (refl, h)
   stops_by at old w fault.Memory v h is = absurd is
 
-  pub ends_by : (old : List Bound) (at : TimeStep) (rest : List TimeStep) (w : ListedStep) (steps : List ListedStep) (f : Fault) (v : ListingVerdict) → IsSoFar old (at ∷ rest) (w ∷ steps) → FailsBy m s at old w f → IsVerdictAt at f v → IsVerdict m s all v
+  pub ends_by : (old : List Bound) (at : TimeStep) (rest : List TimeStep) (w : ListedStep) (steps : List ListedStep) (f : CheckFault) (v : ListingVerdict) → IsSoFar old (at ∷ rest) (w ∷ steps) → FailsBy m s at old w f → IsVerdictAt at f v → IsVerdict m s all v
   ends_by old at rest w steps f v so_far h is = so_far.goes_on v (inr (stops_by at old w f v h is))
 
   -- One step of the loop, from what was lent to the check of the step.
@@ -136,7 +136,7 @@ module _ (m : FlowModel) (s : ℕ) (all : List ListedStep) where
     pub listed_at : IsListedStep m (step_in all i)
     listed_at = listed.steps i _ (omega (arith, below, ap length is, listed.whole))
 
-    pub stops_here : (fault : Fault) (v : ListingVerdict) → FailsBy m n (get_or items i d) old (record { heads = heads; budget = budget }) fault → IsVerdictAt (get_or items i d) fault v → IsVerdict m s all v
+    pub stops_here : (fault : CheckFault) (v : ListingVerdict) → FailsBy m n (get_or items i d) old (record { heads = heads; budget = budget }) fault → IsVerdictAt (get_or items i d) fault v → IsVerdict m s all v
     stops_here fault v h verdict =
         let D : ℕ → Type 0 = λ k. FailsBy m k (get_or items i d) old (record { heads = heads; budget = budget }) fault in
         let P : List Bound → ListedStep → Type 0 = λ o w. FailsBy m s (get_or items i d) o w fault in
@@ -154,7 +154,7 @@ module _ (m : FlowModel) (s : ℕ) (all : List ListedStep) where
         subst Q next (one_more (heads_before start all i) (get_or items i d) (drop (i + 1) (times m)) (step_in all i) (drop (i + 1) all) (at_step (heads_before start all i) i items d is listed below f) (grid_of m (step_in all i) listed_at) valid h.0 h.1)
 
 -- a fault makes no verdict that all is certified
-pub not_certified : (at : TimeStep) (f : Fault) (v : ListingVerdict) → IsVerdictAt at f v → v ≡ Certified → ⊥
+pub not_certified : (at : TimeStep) (f : CheckFault) (v : ListingVerdict) → IsVerdictAt at f v → v ≡ Certified → ⊥
 not_certified at (fault.Fails place) v is e = let bad : Fails at place ≡ Certified = sym is ∙ e in cc
 not_certified at (fault.Refused n) v is e = let bad : Refused at n ≡ Certified = sym is ∙ e in cc
 not_certified at fault.Memory v is e = is

@@ -15,8 +15,8 @@ use Rattle.model_types.specs.declared.model.FlowModel.{FlowModel}
 use Rattle.model_types.specs.declared.time_steps.TimeStep.{TimeStep}
 use Rattle.step_chain.specs.GridHeads.{bound_at}
 use Rattle.listing_run.specs.Bounding.{BoundsMoves}
-use Rattle.check_run.specs.declared.fault.Fault.{Fault}
-use Rattle.check_run.specs.declared.fault.Fault.TheVariants as fault
+use Rattle.check_run.specs.declared.fault.CheckFault.{CheckFault}
+use Rattle.check_run.specs.declared.fault.CheckFault.TheVariants as fault
 use Rattle.check_run.specs.declared.posed.Posed.{Posed}
 use Rattle.check_run.specs.Parts.{ArePosed, FailsBy, IsCovered, IsUncovered}
 use Rattle.check_run.specs.Reaching.{ConstantsReach, IsFirstShort, variable_bounds}
@@ -33,10 +33,10 @@ module _ (m : FlowModel) (s : ℕ) (at : TimeStep) (old : List Bound) (x : Posed
     same : lent ≡ variable_bounds m at heads
     same = lent_is ∙ are ∙ bounds_are m at heads x.problem posed.cells
 
-    pub variable_fails : (e : Fault) → (k : ℕ) × (side : Side) × IsFirstFailing x.problem x.barrier lent k side × (e ≡ fault.Fails (places.Cell (entries_at x.problem k).id side)) → FailsBy m s at old (record { heads = heads; budget = listed }) e
+    pub variable_fails : (e : CheckFault) → (k : ℕ) × (side : Side) × IsFirstFailing x.problem x.barrier lent k side × (e ≡ fault.Fails (places.Cell (entries_at x.problem k).id side)) → FailsBy m s at old (record { heads = heads; budget = listed }) e
     variable_fails e (k, side, f, is) =
         let F : List Bound → Type 0 = λ v. IsFirstFailing x.problem x.barrier v k side in
-        let P : Fault → Type 0 = FailsBy m s at old (record { heads = heads; budget = listed }) in
+        let P : CheckFault → Type 0 = FailsBy m s at old (record { heads = heads; budget = listed }) in
         subst P (sym is) (at_variable x.problem x.barrier k side posed.posed reach (subst F same f) refl)
 
     module _ (certificate : IsCertificate x.problem x.barrier (lower_at lent) (upper_at lent)) where
@@ -45,7 +45,7 @@ module _ (m : FlowModel) (s : ℕ) (at : TimeStep) (old : List Bound) (x : Posed
           let C : List Bound → Type 0 = λ v. IsCertificate x.problem x.barrier (lower_at v) (upper_at v) in
           record { posed = posed.posed; constants = reach; certificate = subst C same certificate }
 
-      pub term_fails : (e : Fault) → IsUncovered x.problem lent listed e → FailsBy m s at old (record { heads = heads; budget = listed }) e
+      pub term_fails : (e : CheckFault) → IsUncovered x.problem lent listed e → FailsBy m s at old (record { heads = heads; budget = listed }) e
       term_fails (fault.Fails place) (budget, dir, t, is, f, e) =
           let B : List Bound → Type 0 = λ v. budget_of x.problem (lower_at v) (upper_at v) ≡ Ok budget in
           at_term x.problem x.barrier budget dir t hold (subst B same is) f e

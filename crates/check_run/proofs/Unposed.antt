@@ -8,8 +8,8 @@ use Rattle.barrier_vector.specs.Refusals.{IsFault}
 use Rattle.model_types.specs.declared.model.FlowModel.{FlowModel}
 use Rattle.model_types.specs.declared.time_steps.TimeStep.{TimeStep}
 use Rattle.problem_builder.specs.Problems.{IsProblemOf}
-use Rattle.check_run.specs.declared.fault.Fault.{Fault}
-use Rattle.check_run.specs.declared.fault.Fault.TheVariants as fault
+use Rattle.check_run.specs.declared.fault.CheckFault.{CheckFault}
+use Rattle.check_run.specs.declared.fault.CheckFault.TheVariants as fault
 use Rattle.listing_io.specs.declared.listing.ListedStep.{ListedStep}
 use Rattle.check_run.specs.Parts.{FailsBy, IsUnposed, of_barrier}
 use Rattle.check_run.specs.Steps.{no_heads}
@@ -20,7 +20,7 @@ module _ (m : FlowModel) (s : ℕ) (at : TimeStep) (old : List Bound) where
   barrier_unposed p is barrier.Memory h = tt
 
   -- a step that isn't posed isn't certified
-  pub unposed_fails : (w : ListedStep) (f : Fault) → IsUnposed m s at old f → FailsBy m s at old w f
+  pub unposed_fails : (w : ListedStep) (f : CheckFault) → IsUnposed m s at old f → FailsBy m s at old w f
   unposed_fails w (fault.Fails place) h = absurd h
   unposed_fails w (fault.Refused n) h = no_heads h
   unposed_fails w fault.Memory h = tt

@@ -34,8 +34,8 @@ use Rattle.step_chain.specs.GridHeads.{bound_at}
 use Rattle.step_chain.specs.Steps.{IsPosed, HasNoHeads}
 use Rattle.listing_io.specs.declared.listing.ListedStep.{ListedStep}
 use Rattle.listing_io.specs.Listed.{step_in}
-use Rattle.check_run.specs.declared.fault.Fault.{Fault}
-use Rattle.check_run.specs.declared.fault.Fault.TheVariants as fault
+use Rattle.check_run.specs.declared.fault.CheckFault.{CheckFault}
+use Rattle.check_run.specs.declared.fault.CheckFault.TheVariants as fault
 use Rattle.check_run.specs.declared.posed.Posed.{Posed}
 use Rattle.check_run.specs.declared.verdict.ListingVerdict.{ListingVerdict}
 use Rattle.check_run.specs.declared.verdict.ListingVerdict.TheVariants as verdict
@@ -43,22 +43,22 @@ use Rattle.check_run.specs.Reaching.{ReachesOn}
 use Rattle.check_run.specs.Steps.{FailsAt, IsRefused}
 
 -- a fault of a step by that of its builder, or its barrier
-abbrev pub of_build : BuildFault → Fault
+abbrev pub of_build : BuildFault → CheckFault
 of_build (build.NoBound n) = fault.Refused n
 of_build build.Memory = fault.Memory
 
-abbrev pub of_barrier : BarrierFault → Fault
+abbrev pub of_barrier : BarrierFault → CheckFault
 of_barrier (barrier.NoBound n) = fault.Refused n
 of_barrier barrier.Memory = fault.Memory
 
 -- the cause of a step's fault; lack of memory is possible at any time
-abbrev pub FailsBy : FlowModel → ℕ → TimeStep → List Bound → ListedStep → Fault → Type 0
+abbrev pub FailsBy : FlowModel → ℕ → TimeStep → List Bound → ListedStep → CheckFault → Type 0
 FailsBy m s at old w (fault.Fails place) = FailsAt m s at old w place
 FailsBy m s at old w (fault.Refused n) = IsRefused m s at old w n
 FailsBy m s at old w fault.Memory = Unit {0}
 
 -- the cause of a fault before the listed heads are checked
-abbrev pub IsUnposed : FlowModel → ℕ → TimeStep → List Bound → Fault → Type 0
+abbrev pub IsUnposed : FlowModel → ℕ → TimeStep → List Bound → CheckFault → Type 0
 IsUnposed m s at old (fault.Fails place) = ⊥
 IsUnposed m s at old (fault.Refused n) = HasNoHeads m s at old n
 IsUnposed m s at old fault.Memory = Unit {0}
@@ -97,7 +97,7 @@ pub record IsCovered (p : List Entries) (bounds : List Bound) (listed : Budget) 
   pub encloses : EnclosesBudgets p (lower_at bounds) (upper_at bounds) budget
 
 -- that budget has a refusal, or this is the first term whose listed bounds are too narrow
-abbrev pub IsUncovered : List Entries → List Bound → Budget → Fault → Type 0
+abbrev pub IsUncovered : List Entries → List Bound → Budget → CheckFault → Type 0
 IsUncovered p bounds listed (fault.Fails place) =
     (budget : Budget) × (dir : Dir) × (t : Term) × (budget_of p (lower_at bounds) (upper_at bounds) ≡ Ok budget)
     × IsFirstUncovered listed budget dir t × (place ≡ places.Term dir t)
@@ -105,7 +105,7 @@ IsUncovered p bounds listed (fault.Refused n) = budget_of p (lower_at bounds) (u
 IsUncovered p bounds listed fault.Memory = ⊥
 
 -- the verdict from a step's fault at its time
-abbrev pub IsVerdictAt : TimeStep → Fault → ListingVerdict → Type 0
+abbrev pub IsVerdictAt : TimeStep → CheckFault → ListingVerdict → Type 0
 IsVerdictAt at (fault.Fails place) v = v ≡ verdict.Fails at place
 IsVerdictAt at (fault.Refused n) v = v ≡ verdict.Refused at n
 IsVerdictAt at fault.Memory v = ⊥

@@ -1,7 +1,7 @@
 // Why a step of a listing isn't certified.
 ghost use Rattle.std.specs.Prelude.{◌≡◌};
 ghost use Rattle.check_run.specs.Parts.{of_build, of_barrier};
-ghost use Rattle.check_run.specs.declared.fault.Fault.TheVariants.{Memory as OutOfMemory};
+ghost use Rattle.check_run.specs.declared.fault.CheckFault.TheVariants.{Memory as OutOfMemory};
 
 use barrier_vector::BarrierFault;
 use problem_builder::BuildFault;
@@ -10,38 +10,38 @@ use step_problem::{NoBound, Place};
 
 /// The first place that fails, a refusal of the step, or lack of memory.
 #[derive(Clone, Copy, Debug, PartialEq, Eq)]
-pub enum Fault {
+pub enum CheckFault {
     Fails(Place),
     Refused(NoBound),
     Memory,
 }
 
-impl From<AllocError> for Fault {
+impl From<AllocError> for CheckFault {
     ghost from_gives = { λ _ e. e ≡ OutOfMemory };
 
-    fn from(_e: AllocError) -> Fault {
-        Fault::Memory
+    fn from(_e: AllocError) -> CheckFault {
+        CheckFault::Memory
     }
 }
 
-impl From<BuildFault> for Fault {
+impl From<BuildFault> for CheckFault {
     ghost from_gives = { λ fault e. e ≡ of_build fault };
 
-    fn from(fault: BuildFault) -> Fault {
+    fn from(fault: BuildFault) -> CheckFault {
         match fault {
-            BuildFault::NoBound(refusal) => Fault::Refused(refusal),
-            BuildFault::Memory => Fault::Memory,
+            BuildFault::NoBound(refusal) => CheckFault::Refused(refusal),
+            BuildFault::Memory => CheckFault::Memory,
         }
     }
 }
 
-impl From<BarrierFault> for Fault {
+impl From<BarrierFault> for CheckFault {
     ghost from_gives = { λ fault e. e ≡ of_barrier fault };
 
-    fn from(fault: BarrierFault) -> Fault {
+    fn from(fault: BarrierFault) -> CheckFault {
         match fault {
-            BarrierFault::NoBound(refusal) => Fault::Refused(refusal),
-            BarrierFault::Memory => Fault::Memory,
+            BarrierFault::NoBound(refusal) => CheckFault::Refused(refusal),
+            BarrierFault::Memory => CheckFault::Memory,
         }
     }
 }

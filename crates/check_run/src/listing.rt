@@ -8,7 +8,7 @@ ghost use Rattle.check_run.specs.declared.verdict.ListingVerdict.TheVariants.{Ce
 ghost use Rattle.check_run.specs.Parts.{heads_before, IsVerdictAt};
 ghost use Rattle.check_run.specs.Verdicts.{IsVerdict, ListingEncloses};
 
-use crate::fault::Fault;
+use crate::fault::CheckFault;
 use crate::laws::one_verdict;
 use crate::step::check_listed;
 use crate::verdict::ListingVerdict;
@@ -31,13 +31,13 @@ fn heads_before<'a>(start: &'a [Bound], listing: &'a Listing, index: usize) -> &
 }
 
 // The verdict on a listing from a step's fault at its time.
-fn verdict_at(at: TimeStep, fault: Fault) -> Result<ListingVerdict, AllocError>
+fn verdict_at(at: TimeStep, fault: CheckFault) -> Result<ListingVerdict, AllocError>
     ensures { IfOk result (IsVerdictAt at fault) }
 {
     match fault {
-        Fault::Fails(place) => Ok(ListingVerdict::Fails(at, place)),
-        Fault::Refused(refusal) => Ok(ListingVerdict::Refused(at, refusal)),
-        Fault::Memory => Err(AllocError),
+        CheckFault::Fails(place) => Ok(ListingVerdict::Fails(at, place)),
+        CheckFault::Refused(refusal) => Ok(ListingVerdict::Refused(at, refusal)),
+        CheckFault::Memory => Err(AllocError),
     }
 }
 

@@ -6,7 +6,7 @@ ghost use Rattle.problem_builder.specs.GridHeads.{AreGridHeads};
 ghost use Rattle.step_chain.specs.Keeps.{AreRunTables, digits_of};
 ghost use Rattle.check_run.specs.Parts.{ArePosed, IsUnposed};
 
-use crate::fault::Fault;
+use crate::fault::CheckFault;
 use barrier_vector::barrier;
 use model_types::{FlowModel, Listed, TimeStep};
 use problem_builder::{Site, build_with, sites_with};
@@ -29,7 +29,7 @@ pub(crate) fn pose(
     tables: &mut RunTables,
     at: TimeStep,
     old: &[Bound],
-) -> Result<Posed, Fault>
+) -> Result<Posed, CheckFault>
     requires model { IsModel model.now }
     requires time { Contains (times model.now) at }
     requires old { AreGridHeads model.now old.now }

@@ -10,7 +10,7 @@ ghost use Rattle.check_run.specs.Steps.{Passes};
 ghost use Rattle.check_run.specs.Verdicts.{checked_task, step_of};
 
 use crate::constants::first_unreached;
-use crate::fault::Fault;
+use crate::fault::CheckFault;
 use crate::posed::pose;
 use crate::terms::covered;
 use crate::variables::{bounds_of, certified};
@@ -32,7 +32,7 @@ pub(crate) fn check_listed(
     old: &[Bound],
     heads: &[Bound],
     listed: &Budget,
-) -> Result<(), Fault>
+) -> Result<(), CheckFault>
     requires model { IsModel model.now }
     requires time { Contains (times model.now) at }
     requires old { AreGridHeads model.now old.now }
@@ -53,7 +53,7 @@ pub(crate) fn check_listed(
     cover_encloses();
     let posed = pose(alloc, model, tables, at, old)?;
     if let Some((cell, side)) = first_unreached(posed.sites.as_slice(), heads) {
-        return Err(Fault::Fails(Place::Cell(cell, side)));
+        return Err(CheckFault::Fails(Place::Cell(cell, side)));
     }
     let bounds = bounds_of(alloc, &posed.problem, heads)?;
     certified(&posed.problem, &posed.barrier, bounds.as_slice())?;

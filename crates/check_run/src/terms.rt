@@ -3,22 +3,26 @@ ghost use Rattle.std.specs.Prelude.{IfOk, IfErr};
 ghost use Rattle.cell_relax.specs.Words.{AreWords};
 ghost use Rattle.check_run.specs.Parts.{IsCovered, IsUncovered};
 
-use crate::fault::Fault;
+use crate::fault::CheckFault;
 use budget_bounds::{Budget, budget, first_uncovered};
 use step_problem::{Bound, Place, Problem};
 
 /// Tests listed terms against the budget of the heads between these bounds. It takes no memory.
-pub(crate) fn covered(problem: &Problem, bounds: &[Bound], listed: &Budget) -> Result<(), Fault>
+pub(crate) fn covered(
+    problem: &Problem,
+    bounds: &[Bound],
+    listed: &Budget,
+) -> Result<(), CheckFault>
     requires bounds { AreWords problem.now bounds.now }
     ensures covers { IfOk result (λ _. IsCovered problem.now bounds.now listed.now) }
     ensures fails { IfErr result (IsUncovered problem.now bounds.now listed.now) }
 {
     let computed = match budget(problem, bounds) {
         Ok(computed) => computed,
-        Err(refusal) => return Err(Fault::Refused(refusal)),
+        Err(refusal) => return Err(CheckFault::Refused(refusal)),
     };
     match first_uncovered(listed, &computed) {
         None => Ok(()),
-        Some((dir, term)) => Err(Fault::Fails(Place::Term(dir, term))),
+        Some((dir, term)) => Err(CheckFault::Fails(Place::Term(dir, term))),
     }
 }

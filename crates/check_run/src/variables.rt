@@ -9,9 +9,9 @@ ghost use Rattle.cell_balance.specs.SolutionBounds.{EnclosesSolutions};
 ghost use Rattle.cell_relax.specs.Words.{AreWords};
 ghost use Rattle.certificate_check.specs.Certificates.{IsFirstFailing};
 ghost use Rattle.step_chain.specs.GridHeads.{bound_at};
-ghost use Rattle.check_run.specs.declared.fault.Fault.TheVariants.{Fails};
+ghost use Rattle.check_run.specs.declared.fault.CheckFault.TheVariants.{Fails};
 
-use crate::fault::Fault;
+use crate::fault::CheckFault;
 use certificate_check::{Verdict, check_step};
 use std::alloc::{AllocError, Global};
 use step_problem::{Barrier, Bound, Place, Problem};
@@ -33,7 +33,11 @@ pub(crate) fn bounds_of(
 }
 
 /// Tests the bounds of a problem's cells over its barrier. It takes no memory.
-pub(crate) fn certified(problem: &Problem, barrier: &Barrier, bounds: &[Bound]) -> Result<(), Fault>
+pub(crate) fn certified(
+    problem: &Problem,
+    barrier: &Barrier,
+    bounds: &[Bound],
+) -> Result<(), CheckFault>
     requires floors { length barrier.now.floor ≡ length problem.now }
     requires ceilings { length barrier.now.ceiling ≡ length problem.now }
     requires bounds { AreWords problem.now bounds.now }
@@ -50,7 +54,7 @@ pub(crate) fn certified(problem: &Problem, barrier: &Barrier, bounds: &[Bound]) 
         Verdict::Yes => Ok(()),
         Verdict::No { cell, side } => {
             let id = problem.cell(cell as usize).id;
-            Err(Fault::Fails(Place::Cell(id, side)))
+            Err(CheckFault::Fails(Place::Cell(id, side)))
         }
     }
 }
