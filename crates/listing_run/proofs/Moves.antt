@@ -18,8 +18,8 @@ use Rattle.step_chain.specs.Steps.{IsSettledStep}
 use Rattle.step_chain.specs.Enclosing.{EnclosesMoves}
 use Rattle.listing_run.specs.declared.task.Task.{Task}
 use Rattle.problem_builder.specs.GridHeads.{IsActive, IsNamed}
-use Rattle.listing_run.specs.declared.step.Fault.{Fault}
-use Rattle.listing_run.specs.declared.step.Fault.TheVariants as fault
+use Rattle.listing_run.specs.declared.step.ListFault.{ListFault}
+use Rattle.listing_run.specs.declared.step.ListFault.TheVariants as fault
 use Rattle.listing_run.specs.Zones.{AreFlowsAt, FlowsEncloseAt}
 use Rattle.listing_run.specs.Steps.{IsStep, HasNoBound, no_heads, no_budget, no_zones, budget_at}
 use Rattle.listing_run.specs.Bounding.{BoundsMoves}
@@ -51,7 +51,7 @@ module _ (k : Task) (s : ℕ) (at : TimeStep) (old : List Bound) (digits : s ≡
     budget_refused n is = no_budget x by_digits (budget_by x lent (Err n) same is)
 
     -- a fault of the flows between zones comes after the budget
-    pub flows_refused : (b : Budget) → Ok b ≡ budget_of x.problem (lower_at lent) (upper_at lent) → (f : Fault) → FlowsFailBy k.zones x f → FailsBy k at old f
+    pub flows_refused : (b : Budget) → Ok b ≡ budget_of x.problem (lower_at lent) (upper_at lent) → (f : ListFault) → FlowsFailBy k.zones x f → FailsBy k at old f
     flows_refused b is (fault.NoBound n) h = no_zones x b by_digits (budget_by x lent (Ok b) same is) h
     flows_refused b is fault.Unfinished h = absurd h
     flows_refused b is fault.Memory h = tt

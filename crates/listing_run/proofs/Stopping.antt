@@ -14,8 +14,8 @@ use Rattle.run_puts.specs.declared.status.Status.{Status}
 use Rattle.run_puts.specs.declared.status.Status.TheVariants as status
 use Rattle.run_puts.proofs.Pieces.{IsLate, lacks_after, late_not_ok, tail_late, weaker}
 use Rattle.listing_run.specs.declared.task.Task.{Task}
-use Rattle.listing_run.specs.declared.step.Fault.{Fault}
-use Rattle.listing_run.specs.declared.step.Fault.TheVariants as why
+use Rattle.listing_run.specs.declared.step.ListFault.{ListFault}
+use Rattle.listing_run.specs.declared.step.ListFault.TheVariants as why
 use Rattle.listing_run.specs.Ends.{IsStepEnd, IsStopEnd}
 use Rattle.listing_run.specs.Listing.{IsCutListing, IsListing, IsListingBeside, begun, left, listed}
 use Rattle.listing_run.proofs.UnderWay.{IsUnderWay, cut_listing}
@@ -34,7 +34,7 @@ end_not_ok line meant end tail not (inl (inl (same, t))) e = not (sym same ∙ e
 end_not_ok line meant end tail not (inl (inr t)) e = late_not_ok end (tail_late (line ∷ []) end tail t) e
 end_not_ok line meant end tail not (inr w) e = wanting_not_ok end tail w e
 
-pub step_end_not_ok : (k : Task) (at : TimeStep) (f : Fault) (end : Status) (tail : List Put) → IsStepEnd k at f end tail → end ≡ status.Ok → ⊥
+pub step_end_not_ok : (k : Task) (at : TimeStep) (f : ListFault) (end : Status) (tail : List Put) → IsStepEnd k at f end tail → end ≡ status.Ok → ⊥
 step_end_not_ok k at (why.NoBound n) end tail h = end_not_ok _ (status.NoBound at.period at.step n) end tail (λ e. let bad : status.NoBound at.period at.step n ≡ status.Ok = e in cc) h
 step_end_not_ok k at why.Unfinished end tail h = end_not_ok _ (status.Unfinished at.period at.step) end tail (λ e. let bad : status.Unfinished at.period at.step ≡ status.Ok = e in cc) h
 step_end_not_ok k at why.Memory end tail h = wanting_not_ok end tail h

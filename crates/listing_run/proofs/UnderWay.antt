@@ -21,8 +21,8 @@ use Rattle.run_puts.specs.declared.status.Status.TheVariants as status
 use Rattle.run_puts.proofs.Pieces.{IsAt, at_more, stops_at, lacks_after, ends, ends_or_lacks}
 use Rattle.listing_run.specs.declared.task.Task.{Task}
 use Rattle.listing_run.specs.declared.step.Step.{Step}
-use Rattle.listing_run.specs.declared.step.Fault.{Fault}
-use Rattle.listing_run.specs.declared.step.Fault.TheVariants as fault
+use Rattle.listing_run.specs.declared.step.ListFault.{ListFault}
+use Rattle.listing_run.specs.declared.step.ListFault.TheVariants as fault
 use Rattle.listing_run.specs.Steps.{IsStep, HasNoBound, IsOpen, End, Whole, Cut, WithoutBound, Open, Steps, AllSteps}
 use Rattle.listing_run.specs.Bounding.{BoundAll, BoundsMoves, EnclosesHistories}
 use Rattle.listing_run.specs.Listing.{text_of, begun, listing, IsWhole, IsBroken, IsListing, IsCutListing}
@@ -120,7 +120,7 @@ module _ (k : Task) where
   pub stops_at_piece : (old : List Bound) (rest : List TimeStep) (pending : Text) (puts tail : List Put) (end : Status) → IsUnderWay old rest pending puts → IsPut pending (Some end) tail → IsRunOf end (puts ++ tail)
   stops_at_piece old rest pending puts tail end u h = stops_at (IsListing k) (IsCutListing k) (begun k u.values) pending puts tail end u.here (cut_listing old rest pending puts u) h
 
-  pub ends_by_fault : (old : List Bound) (at : TimeStep) (rest : List TimeStep) (pending : Text) (puts tail last : List Put) (end : Status) (f : Fault) → IsUnderWay old (at ∷ rest) pending puts → tail ≡ taken pending ∷ [] → FailsBy k at old f → IsStepEnd k at f end last → IsRunOf end (puts ++ tail ++ last)
+  pub ends_by_fault : (old : List Bound) (at : TimeStep) (rest : List TimeStep) (pending : Text) (puts tail last : List Put) (end : Status) (f : ListFault) → IsUnderWay old (at ∷ rest) pending puts → tail ≡ taken pending ∷ [] → FailsBy k at old f → IsStepEnd k at f end last → IsRunOf end (puts ++ tail ++ last)
   ends_by_fault old at rest pending puts tail last end (fault.NoBound n) u e why h =
       ends_or_lacks (IsListing k) (IsCutListing k) (begun k u.values) pending (no_bound_line k.model.grid at n) (status.NoBound at.period at.step n) end puts tail last u.here (cut_listing old (at ∷ rest) pending puts u) e (without_bound old at rest u.values n u.solved why) h
   ends_by_fault old at rest pending puts tail last end fault.Unfinished u e why h =

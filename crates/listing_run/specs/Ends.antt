@@ -19,8 +19,8 @@ use Rattle.run_puts.specs.declared.status.Status.{Status}
 use Rattle.run_puts.specs.declared.status.Status.TheVariants as status
 use Rattle.listing_run.specs.declared.task.Task.{Task}
 use Rattle.listing_run.specs.declared.step.Step.{Step}
-use Rattle.listing_run.specs.declared.step.Fault.{Fault}
-use Rattle.listing_run.specs.declared.step.Fault.TheVariants as fault
+use Rattle.listing_run.specs.declared.step.ListFault.{ListFault}
+use Rattle.listing_run.specs.declared.step.ListFault.TheVariants as fault
 use Rattle.listing_run.specs.Zones.{AreZones, HasLargeFlow}
 use Rattle.listing_run.specs.Steps.{IsStep, HasNoBound, IsOpen}
 use Rattle.listing_run.specs.Bounding.{BoundsMoves}
@@ -38,18 +38,18 @@ pub record AreTablesOf (k : Task) (t : RunTables) : Type 0 where
   pub tables : AreRunTables k.model t
 
 -- the cause of a step's fault; lack of memory is possible at any time
-abbrev pub FailsBy : Task → TimeStep → List Bound → Fault → Type 0
+abbrev pub FailsBy : Task → TimeStep → List Bound → ListFault → Type 0
 FailsBy k at old (fault.NoBound n) = HasNoBound k at old n
 FailsBy k at old fault.Unfinished = IsOpen k at old
 FailsBy k at old fault.Memory = Unit {0}
 
-abbrev pub of_step : StepFault → Fault
+abbrev pub of_step : StepFault → ListFault
 of_step (chain.NoBound n) = fault.NoBound n
 of_step (chain.Unfinished o) = fault.Unfinished
 of_step chain.Memory = fault.Memory
 
 -- the cause of a fault of the flows between zones
-abbrev pub FlowsFailBy : Option (List ℕ) → Solved → Fault → Type 0
+abbrev pub FlowsFailBy : Option (List ℕ) → Solved → ListFault → Type 0
 FlowsFailBy zones x (fault.NoBound n) = HasLargeFlow zones x n
 FlowsFailBy zones x fault.Unfinished = ⊥
 FlowsFailBy zones x fault.Memory = Unit {0}
@@ -64,7 +64,7 @@ pub record IsWritten (k : Task) (at : TimeStep) (old heads : List Bound) (text :
   pub encloses : BoundsMoves k at old value
 
 -- the puts of an end at a step with this fault
-abbrev pub IsStepEnd : Task → TimeStep → Fault → Status → List Put → Type 0
+abbrev pub IsStepEnd : Task → TimeStep → ListFault → Status → List Put → Type 0
 IsStepEnd k at (fault.NoBound n) end tail = IsEnd (no_bound_line k.model.grid at n) (status.NoBound at.period at.step n) end tail
 IsStepEnd k at fault.Unfinished end tail = IsEnd (unfinished_line at) (status.Unfinished at.period at.step) end tail
 IsStepEnd k at fault.Memory end tail = IsWanting end tail

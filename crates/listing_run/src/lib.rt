@@ -11,5 +11,5 @@ mod zoning;
 
 pub use putting::put_steps;
 pub use solving::{Written, solve, solve_text};
-pub use step::{Fault, Step};
+pub use step::{ListFault, Step};
 pub use task::Task;

@@ -12,7 +12,7 @@ ghost use Rattle.listing_run.specs.Ends.{IsTask, AreTablesOf, FailsBy, IsWritten
 
 use crate::begin::{Begun, begin};
 use crate::solving::{Written, solve_text};
-use crate::step::Fault;
+use crate::step::ListFault;
 use crate::task::Task;
 use listing_io::{write_no_bound, write_unfinished};
 use model_types::TimeStep;
@@ -35,7 +35,7 @@ fn put_while_solving<R: Threads + Sync, K: Sink + Send, S: Settler>(
     piece: &[u8],
     at: TimeStep,
     old: &[Bound],
-) -> (Option<Status>, Result<Written, Fault>)
+) -> (Option<Status>, Result<Written, ListFault>)
     requires ready { S.ready settler.old }
     requires rounds { S.rounds settler.old ≡ task.now.rounds }
     requires task { IsTask task.now }
@@ -71,14 +71,20 @@ fn put_line<K: Sink>(out: &mut K, line: Result<Vec<u8>, AllocError>, meant: Stat
 }
 
 // Ends at a step with this fault.
-fn end_at<K: Sink>(alloc: Global, task: &Task, at: TimeStep, fault: Fault, out: &mut K) -> Status
+fn end_at<K: Sink>(
+    alloc: Global,
+    task: &Task,
+    at: TimeStep,
+    fault: ListFault,
+    out: &mut K,
+) -> Status
     requires { IsTask task.now }
     ensures { (start : _) (puts : List Put) → K.leads start puts out.old →
         (tail : List Put) × K.leads start (puts ++ tail) out.new × IsStepEnd task.now at fault result tail }
 {
     match fault {
-        Fault::Memory => put_memory(out),
-        Fault::NoBound(refusal) => {
+        ListFault::Memory => put_memory(out),
+        ListFault::NoBound(refusal) => {
             let line = write_no_bound(alloc, &task.model.grid, at, refusal);
             put_line(
                 out,
@@ -90,7 +96,7 @@ fn end_at<K: Sink>(alloc: Global, task: &Task, at: TimeStep, fault: Fault, out: 
                 },
             )
         }
-        Fault::Unfinished => {
+        ListFault::Unfinished => {
             let line = write_unfinished(alloc, at);
             put_line(
                 out,

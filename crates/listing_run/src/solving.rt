@@ -7,7 +7,7 @@ ghost use Rattle.listing_run.specs.Bounding.{BoundsMoves};
 ghost use Rattle.listing_run.specs.Ends.{IsTask, AreTablesOf, FailsBy, IsWritten};
 ghost use Rattle.listing_run.specs.Settlers.{IsSettledBy, RestsOrSettles};
 
-use crate::step::{Fault, Step};
+use crate::step::{ListFault, Step};
 use crate::task::Task;
 use crate::zoning::flows_between;
 use barrier_vector::laws::one_barrier;
@@ -27,7 +27,7 @@ pub fn solve<S: Settler>(
     at: TimeStep,
     old: &[Bound],
     settler: &mut S,
-) -> Result<Step, Fault>
+) -> Result<Step, ListFault>
     requires ready { S.ready settler.old }
     requires rounds { S.rounds settler.old ≡ task.now.rounds }
     requires task { IsTask task.now }
@@ -59,7 +59,7 @@ pub fn solve<S: Settler>(
                 zones: Listed::new(zones),
             })
         }
-        Err(refusal) => Err(Fault::NoBound(refusal)),
+        Err(refusal) => Err(ListFault::NoBound(refusal)),
     }
 }
 
@@ -78,7 +78,7 @@ pub fn solve_text<S: Settler>(
     at: TimeStep,
     old: &[Bound],
     settler: &mut S,
-) -> Result<Written, Fault>
+) -> Result<Written, ListFault>
     requires ready { S.ready settler.old }
     requires rounds { S.rounds settler.old ≡ task.now.rounds }
     requires task { IsTask task.now }
@@ -108,6 +108,6 @@ pub fn solve_text<S: Settler>(
             heads: step.heads.into_vec(),
             text,
         }),
-        Err(_) => Err(Fault::Memory),
+        Err(_) => Err(ListFault::Memory),
     }
 }

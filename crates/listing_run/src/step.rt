@@ -19,20 +19,20 @@ pub struct Step {
 
 /// Why a step isn't listed: its first refusal, rounds that don't settle it, or lack of memory.
 #[derive(Clone, Copy, Debug, PartialEq, Eq)]
-pub enum Fault {
+pub enum ListFault {
     NoBound(NoBound),
     Unfinished,
     Memory,
 }
 
-impl From<StepFault> for Fault {
+impl From<StepFault> for ListFault {
     ghost from_gives = { λ fault e. e ≡ of_step fault };
 
-    fn from(fault: StepFault) -> Fault {
+    fn from(fault: StepFault) -> ListFault {
         match fault {
-            StepFault::NoBound(refusal) => Fault::NoBound(refusal),
-            StepFault::Unfinished(_) => Fault::Unfinished,
-            StepFault::Memory => Fault::Memory,
+            StepFault::NoBound(refusal) => ListFault::NoBound(refusal),
+            StepFault::Unfinished(_) => ListFault::Unfinished,
+            StepFault::Memory => ListFault::Memory,
         }
     }
 }

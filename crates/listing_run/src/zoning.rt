@@ -4,7 +4,7 @@ ghost use Rattle.problem_builder.specs.GridHeads.{AreGridHeads, IsActive, IsName
 ghost use Rattle.listing_run.specs.Zones.{AreFlowsAt, FlowsEncloseAt};
 ghost use Rattle.listing_run.specs.Ends.{IsTask, FlowsFailBy};
 
-use crate::step::Fault;
+use crate::step::ListFault;
 use crate::task::Task;
 use std::alloc::Global;
 use step_chain::Solved;
@@ -16,7 +16,7 @@ pub(crate) fn flows_between(
     alloc: Global,
     task: &Task,
     solved: &Solved,
-) -> Result<Vec<ZoneFlow>, Fault>
+) -> Result<Vec<ZoneFlow>, ListFault>
     requires task { IsTask task.now }
     requires heads { AreGridHeads task.now.model solved.now.heads }
     requires named { (c : ℕ) → IsNamed solved.now.problem c → IsActive task.now.model c }
@@ -34,7 +34,7 @@ pub(crate) fn flows_between(
         solved.heads.as_slice(),
     ) {
         Ok(flows) => Ok(flows),
-        Err(ZoneFault::NoBound(refusal)) => Err(Fault::NoBound(refusal)),
-        Err(ZoneFault::Memory) => Err(Fault::Memory),
+        Err(ZoneFault::NoBound(refusal)) => Err(ListFault::NoBound(refusal)),
+        Err(ZoneFault::Memory) => Err(ListFault::Memory),
     }
 }

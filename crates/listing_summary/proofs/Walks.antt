@@ -9,8 +9,8 @@ use Rattle.problem_builder.specs.GridHeads.{HeadsEnclose}
 use Rattle.problem_builder.specs.StartHeads.{AreStartHeads}
 use Rattle.listing_run.specs.declared.task.Task.{Task}
 use Rattle.listing_run.specs.declared.step.Step.{Step}
-use Rattle.listing_run.specs.declared.step.Fault.{Fault}
-use Rattle.listing_run.specs.declared.step.Fault.TheVariants as fault
+use Rattle.listing_run.specs.declared.step.ListFault.{ListFault}
+use Rattle.listing_run.specs.declared.step.ListFault.TheVariants as fault
 use Rattle.listing_run.specs.Steps.{IsStep, Whole, WithoutBound, Open}
 use Rattle.listing_run.specs.Bounding.{BoundsMoves}
 use Rattle.listing_run.specs.Ends.{FailsBy}
@@ -56,7 +56,7 @@ module _ (k : Task) where
     counts = one_step k.model c.values v lent s t lends c.counts steps;
   }
 
-  pub stops : (old : List Bound) (at : TimeStep) (rest : List TimeStep) (s : Summary) (f : Fault) → FailsBy k at old f → IsCounted old s (at ∷ rest) → StopsBy k (stop_of at f)
+  pub stops : (old : List Bound) (at : TimeStep) (rest : List TimeStep) (s : Summary) (f : ListFault) → FailsBy k at old f → IsCounted old s (at ∷ rest) → StopsBy k (stop_of at f)
   stops old at rest s (fault.NoBound n) why c = (c.values, ended k old (at ∷ rest) c.values (WithoutBound at n) c.solved (refl, why))
   stops old at rest s fault.Unfinished why c = (c.values, ended k old (at ∷ rest) c.values (Open at) c.solved (refl, why))
   stops old at rest s fault.Memory why c = tt

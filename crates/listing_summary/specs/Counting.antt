@@ -6,8 +6,8 @@ use Rattle.step_problem.specs.declared.heads.Bound.{Bound}
 use Rattle.step_problem.specs.Conditions.{IsWithin, head_limit}
 use Rattle.model_types.specs.declared.model.FlowModel.{FlowModel}
 use Rattle.model_types.specs.declared.time_steps.TimeStep.{TimeStep}
-use Rattle.listing_run.specs.declared.step.Fault.{Fault}
-use Rattle.listing_run.specs.declared.step.Fault.TheVariants as fault
+use Rattle.listing_run.specs.declared.step.ListFault.{ListFault}
+use Rattle.listing_run.specs.declared.step.ListFault.TheVariants as fault
 use Rattle.listing_summary.specs.declared.summary.Summary.{Summary}
 use Rattle.listing_summary.specs.declared.stop.Stop.{Stop}
 use Rattle.listing_summary.specs.declared.stop.Stop.TheVariants as stop
@@ -39,7 +39,7 @@ pub record Fits (s : Summary) : Type 0 where
   pub high : IsWithin s.high_sum (s.heads * head_limit)
 
 -- why there is no summary, by the fault of a step
-abbrev pub stop_of : TimeStep → Fault → Stop
+abbrev pub stop_of : TimeStep → ListFault → Stop
 stop_of at (fault.NoBound n) = stop.NoBound at n
 stop_of at fault.Unfinished = stop.Unfinished at
 stop_of at fault.Memory = stop.Memory

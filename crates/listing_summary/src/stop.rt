@@ -2,7 +2,7 @@
 ghost use Rattle.std.specs.Prelude.{◌≡◌};
 ghost use Rattle.listing_summary.specs.Counting.{stop_of};
 
-use listing_run::Fault;
+use listing_run::ListFault;
 use model_types::TimeStep;
 use step_problem::NoBound;
 
@@ -15,12 +15,12 @@ pub enum Stop {
 }
 
 /// The reason at the step of a time, from the step's fault.
-pub(crate) fn stop_at(at: TimeStep, fault: Fault) -> Stop
+pub(crate) fn stop_at(at: TimeStep, fault: ListFault) -> Stop
     ensures { result ≡ stop_of at fault }
 {
     match fault {
-        Fault::NoBound(refusal) => Stop::NoBound(at, refusal),
-        Fault::Unfinished => Stop::Unfinished(at),
-        Fault::Memory => Stop::Memory,
+        ListFault::NoBound(refusal) => Stop::NoBound(at, refusal),
+        ListFault::Unfinished => Stop::Unfinished(at),
+        ListFault::Memory => Stop::Memory,
     }
 }

@@ -15,8 +15,8 @@ use Rattle.run_puts.specs.declared.status.Status.TheVariants as status
 use Rattle.listing_io.specs.LastLines.{no_bound_line, unfinished_line}
 use Rattle.listing_run.specs.declared.task.Task.{Task}
 use Rattle.listing_run.specs.declared.step.Step.{Step}
-use Rattle.listing_run.specs.declared.step.Fault.{Fault}
-use Rattle.listing_run.specs.declared.step.Fault.TheVariants as fault
+use Rattle.listing_run.specs.declared.step.ListFault.{ListFault}
+use Rattle.listing_run.specs.declared.step.ListFault.TheVariants as fault
 use Rattle.listing_run.specs.Steps.{IsStep, Whole, WithoutBound, Open}
 use Rattle.listing_run.specs.Listing.{text_of, begun, listing}
 use Rattle.listing_run.specs.Ends.{FailsBy, IsWritten}
@@ -82,7 +82,7 @@ module _ (k : Task) (start : Text) where
     text = with_line t.values text end_line new t.written is;
   }
 
-  pub broken_text : (old : List Bound) (at : TimeStep) (rest : List TimeStep) (text new : Text) (f : Fault) (end : Status) → FailsBy k at old f → EndsAt k at f end text new → IsText old (at ∷ rest) text → IsPushed k end start new
+  pub broken_text : (old : List Bound) (at : TimeStep) (rest : List TimeStep) (text new : Text) (f : ListFault) (end : Status) → FailsBy k at old f → EndsAt k at f end text new → IsText old (at ∷ rest) text → IsPushed k end start new
   broken_text old at rest text new (fault.NoBound n) end why (same, is) t =
       let P : Status → Type 0 = λ s. IsPushed k s start new in
       subst P (sym same) (record {

@@ -4,7 +4,7 @@ ghost use Rattle.listing_run.specs.Ends.{IsTask};
 ghost use Rattle.listing_text.specs.Texts.{EndsAt};
 
 use listing_io::{write_no_bound, write_unfinished};
-use listing_run::{Fault, Task};
+use listing_run::{ListFault, Task};
 use model_types::TimeStep;
 use run_puts::Status;
 use std::alloc::{AllocError, Global};
@@ -16,14 +16,14 @@ pub(crate) fn push_fault(
     text: &mut Vec<u8>,
     task: &Task,
     at: TimeStep,
-    fault: Fault,
+    fault: ListFault,
 ) -> Result<Status, AllocError>
     requires { IsTask task.now }
     ensures { IfOk result (λ end. EndsAt task.now at fault end text.old.items text.new.items) }
 {
     let (line, status) = match fault {
-        Fault::Memory => return Err(AllocError),
-        Fault::NoBound(refusal) => (
+        ListFault::Memory => return Err(AllocError),
+        ListFault::NoBound(refusal) => (
             write_no_bound(alloc, &task.model.grid, at, refusal)?,
             Status::NoBound {
                 period: at.period,
@@ -31,7 +31,7 @@ pub(crate) fn push_fault(
                 fault: refusal,
             },
         ),
-        Fault::Unfinished => (
+        ListFault::Unfinished => (
             write_unfinished(alloc, at)?,
             Status::Unfinished {
                 period: at.period,
