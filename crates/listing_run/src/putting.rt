@@ -132,7 +132,7 @@ fn tell<S: StepSettler>(settler: &mut S, at: TimeStep)
 }
 
 // Puts the first line, each step while the next one is solved, and the last line.
-fn put_listing<R: Threads + Sync, K: Sink + Send, S: StepSettler>(
+fn put_with_tables<R: Threads + Sync, K: Sink + Send, S: StepSettler>(
     rt: &R,
     alloc: Global,
     task: &Task,
@@ -213,7 +213,7 @@ pub fn put_steps<R: Threads + Sync, K: Sink + Send, S: StepSettler>(
     ensures reaches { Reaches S.begins S.leads S.stop settler.old settler.new }
 {
     match RunTables::new(alloc, &task.model, task.digits) {
-        Ok(mut tables) => put_listing(rt, alloc, task, &mut tables, settler, out),
+        Ok(mut tables) => put_with_tables(rt, alloc, task, &mut tables, settler, out),
         Err(_) => put_memory(out),
     }
 }

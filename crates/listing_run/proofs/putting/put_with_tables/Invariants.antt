@@ -6,7 +6,7 @@ use Rattle.listing_run.specs.Ends.{AreTablesOf}
 use Rattle.listing_run.specs.Settlers.{Reaches}
 use Rattle.listing_run.proofs.Settled.{AreSettledSoFar}
 use Rattle.listing_run.proofs.UnderWay.{IsUnderWay}
-use Rattle.listing_run.proofs.putting.put_listing.Given as goal
+use Rattle.listing_run.proofs.putting.put_with_tables.Given as goal
 
 abbrev pub invariant-loop-at : goal.invariant-loop-at
 invariant-loop-at g l = record {

@@ -8,7 +8,7 @@ use Rattle.listing_run.specs.Settlers.{rests}
 use Rattle.listing_run.proofs.Settled.{all_settled, reaches_more, settled_at_first, settled_more}
 use Rattle.listing_run.proofs.Stopping.{beside, ends_stopped, put_not_ok, step_end_not_ok, stop_end_not_ok, wanting_not_ok}
 use Rattle.listing_run.proofs.UnderWay.{under_way_at_first, under_way_more, stops_at_piece, ends_by_fault, ends_whole, at_head, at_end}
-use Rattle.listing_run.proofs.putting.put_listing.Goals as goal
+use Rattle.listing_run.proofs.putting.put_with_tables.Goals as goal
 
 pub returns-in_default-clause-puts : goal.returns-in_default-clause-puts
 returns-in_default-clause-puts g c = λ start puts h.
