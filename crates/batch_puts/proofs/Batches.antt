@@ -1,16 +1,17 @@
 -- Laws on batches of jobs, whatever is an end of a job.
-use Rattle.std.proofs.Common.{◌≡◌, ℕ, zero, suc, ◌+◌, List, [], ◌∷◌, ◌++◌, map, length, Option, Some, None, IfSome, subst, sym, ap, refl, ◌∙◌, inl, inr, ◌⊎◌, arith}
+use Rattle.std.proofs.Common.{◌≡◌, ℕ, suc, ◌+◌, List, [], ◌∷◌, ◌++◌, map, length, Some, IfSome, subst, sym, ap, refl, ◌∙◌, inl, inr, arith}
 use Rattle.std.specs.Prelude.{slice_get}
 use Rattle.std.specs.List.{AllZip}
 use Rattle.outside.specs.Puts.{Put, taken}
-use Rattle.run_puts.specs.Lines.{Text, end_line}
-use Rattle.run_puts.specs.Runs.{IsRun, whole, early}
+use Rattle.run_puts.specs.Lines.{end_line}
+use Rattle.run_puts.specs.Runs.{IsRun, whole, early, NeverCut}
+use Rattle.run_puts.specs.Agreement.{Agree, IsUnfinished}
 use Rattle.run_puts.specs.declared.status.Status.{Status}
 use Rattle.run_puts.specs.declared.status.Status.TheVariants as status
 use Rattle.run_puts.proofs.Pieces.{IsLate, tail_late, weaker}
 use Rattle.batch_puts.specs.declared.job_end.JobEnd.{JobEnd}
-use Rattle.batch_puts.specs.Ended.{or_else, first_not_ok, texts, IsEnded, NeverCut}
-use Rattle.batch_puts.specs.Batches.{IsBatch, IsUnfinished, Agree}
+use Rattle.batch_puts.specs.Ended.{or_else, first_not_ok, texts, IsEnded}
+use Rattle.batch_puts.specs.Batches.{IsBatch}
 
 agree_later : (first later also : Status) → Agree later also → Agree (or_else first later) (or_else first also)
 agree_later status.Ok later also h = h

@@ -22,7 +22,3 @@ texts ends = map (λ e. e.text.items) ends
 pub record IsEnded (ends : List JobEnd) (end : Status) (pieces : List Text) : Type 0 where
   pub status_is : end ≡ first_not_ok ends
   pub are : pieces ≡ texts ends ++ (end_line ∷ [])
-
--- All ends are there before the first piece. So what is put is always a beginning of the pieces that are due.
-abbrev pub NeverCut : List Text → Type 0
-NeverCut pieces = ⊥

@@ -17,7 +17,7 @@ use Rattle.model_types.specs.Valid.{IsModel}
 use Rattle.listing_io.specs.LastLines.{refused_line}
 use Rattle.run_puts.specs.Lines.{Text, read_fault_line}
 use Rattle.run_puts.specs.Ends.{IsEnd, IsLast, IsWanting}
-use Rattle.run_puts.specs.Runs.{IsRun}
+use Rattle.run_puts.specs.Runs.{IsRun, NeverCut}
 use Rattle.run_puts.specs.declared.status.Status.{Status}
 use Rattle.run_puts.specs.declared.status.Status.TheVariants as status
 use Rattle.run_puts.proofs.Pieces.{lone, lacks_at_first, weaker}
@@ -25,7 +25,6 @@ use Rattle.batch_book.specs.Ends.{AreJobEnds}
 use Rattle.batch_puts.specs.declared.job_end.JobEnd.{JobEnd}
 use Rattle.batch_puts.proofs.Batches.{ends_of_jobs}
 use Rattle.batch_puts.specs.Batches.{IsBatch}
-use Rattle.batch_puts.specs.Ended.{NeverCut}
 use Rattle.listing_run.specs.Ends.{IsTask}
 use Rattle.listing_run.proofs.Stopping.{wanting_not_ok}
 use Rattle.listing_run.specs.declared.task.Task.{Task}

@@ -13,7 +13,8 @@ use Rattle.model_types.specs.Times.{times}
 use Rattle.model_types.specs.Valid.{IsModel}
 use Rattle.model_reader.specs.Model.{reads}
 use Rattle.run_puts.specs.Lines.{Text, end_line}
-use Rattle.run_puts.specs.Runs.{whole, early}
+use Rattle.run_puts.specs.Runs.{whole, early, NeverCut}
+use Rattle.run_puts.specs.Agreement.{Agree, IsUnfinished}
 use Rattle.run_puts.specs.declared.status.Status.{Status}
 use Rattle.run_puts.specs.declared.status.Status.TheVariants as status
 use Rattle.run_puts.proofs.Pieces.{IsLate, tail_late, late_not_read}
@@ -24,8 +25,8 @@ use Rattle.listing_run.specs.Steps.{Whole, AllSteps, AllSettle}
 use Rattle.listing_run.specs.Listing.{listing, IsListing, IsWhole}
 use Rattle.exact_histories.proofs.WholeRuns.{history_exists, history_is_one}
 use Rattle.batch_puts.specs.declared.job_end.JobEnd.{JobEnd}
-use Rattle.batch_puts.specs.Ended.{NeverCut, IsEnded, first_not_ok, or_else, texts}
-use Rattle.batch_puts.specs.Batches.{Agree, IsBatch, IsUnfinished}
+use Rattle.batch_puts.specs.Ended.{IsEnded, first_not_ok, or_else, texts}
+use Rattle.batch_puts.specs.Batches.{IsBatch}
 use Rattle.batch_puts.proofs.Batches.{batch_settles, batches_agree}
 use Rattle.engine.specs.declared.job.Job.{Job}
 use Rattle.engine.specs.Batched.{Batched, HasEnded, HasNoList, IsJobListing}
@@ -34,10 +35,9 @@ use Rattle.engine.specs.BatchRuns.{AreValid, BatchAnswers, BatchComes, BatchDeci
 use Rattle.engine.specs.Cases.{Case, Listing, Refuses}
 use Rattle.engine.specs.Defined.{Defines}
 use Rattle.engine.specs.Parts.{IsStopped}
-use Rattle.engine.specs.Runs.{IsUnfinished as IsOpenEnd}
 use Rattle.engine.proofs.Certifying.{not_stopped}
 use Rattle.engine.proofs.Ends.{late_stops}
-use Rattle.engine.proofs.Outcomes.{Agree as OpenAgree, Laws, agree, goes_through, never_stopped}
+use Rattle.engine.proofs.Outcomes.{Laws, agree, goes_through, never_stopped, weighed}
 
 -- no job ends with a status that stops a run
 job_not_stopped : (read : Result Task Refusal) (before : Text) (e : JobEnd) → IsRunText (job_case read) before e → IsStopped e.status → ⊥
@@ -169,22 +169,6 @@ ended : (n m : ℕ) (case : BatchCase) (end : Status) (puts : List Put) (old new
 ended n m case end puts old new (whole meant pieces due) makes = due_ended n m old.faults new.faults case end pieces due
 ended n m case end puts old new (early meant before after tail b t) makes = late_ended n m case end puts old new (early meant before after tail b t) makes (tail_late after end tail t)
 
-is_open : (s : Status) → IsOpenEnd s → IsUnfinished s
-is_open (status.Unfinished period step) h = tt
-is_open status.Ok h = absurd h
-is_open status.Usage h = absurd h
-is_open (status.Refused refusal) h = absurd h
-is_open (status.NoBound period step fault) h = absurd h
-is_open status.ReadFault h = absurd h
-is_open status.WriteFault h = absurd h
-is_open status.Memory h = absurd h
-is_open (status.NotCertified period step place) h = absurd h
-
-same_agree : (meant end : Status) → OpenAgree meant end → Agree meant end
-same_agree meant end (inl h) = inl (is_open meant h)
-same_agree meant end (inr (inl e)) = inr (inl e)
-same_agree meant end (inr (inr h)) = inr (inr (is_open end h))
-
 -- an end of a job whose model is valid
 abbrev IsValidEnd : Job → JobEnd → Type 0
 IsValidEnd job e = IsValidJob job × IsJobEnd job e
@@ -195,14 +179,9 @@ with_valid [] (e ∷ ends) valid h = absurd h
 with_valid (job ∷ jobs) [] valid h = absurd h
 with_valid (job ∷ jobs) (e ∷ ends) valid (x, h) = ((All-head IsValidJob job jobs valid, x), with_valid jobs ends (All-tail IsValidJob job jobs valid) h)
 
-weighed : (fault : Type 0) (meant end : Status) → Agree meant end → (fault ⊎ IsUnfinished meant) ⊎ ((end ≡ meant) ⊎ ((end ≡ status.Memory) ⊎ IsUnfinished end))
-weighed fault meant end (inl open_meant) = inl (inr open_meant)
-weighed fault meant end (inr (inl e)) = inr (inl e)
-weighed fault meant end (inr (inr open_end)) = inr (inr (inr open_end))
-
 module _ (laws : Laws) where
   read_agree : (read : Result Task Refusal) (line : Text) (a c : JobEnd) → IfOk read (λ k. IsModel k.model) → IsRunText (job_case read) line a → IsRunText (job_case read) line c → Agree a.status c.status
-  read_agree (Ok k) line a c valid x y = same_agree a.status c.status (agree laws k valid a.status c.status x.pieces y.pieces x.defined y.defined)
+  read_agree (Ok k) line a c valid x y = agree laws k valid a.status c.status x.pieces y.pieces x.defined y.defined
   read_agree (Err refusal) line a c valid x y = inr (inl (y.defined.0 ∙ sym x.defined.0))
 
   job_agree : (job : Job) (a c : JobEnd) → IsValidEnd job a → IsValidEnd job c → Agree a.status c.status

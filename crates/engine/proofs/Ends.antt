@@ -19,7 +19,7 @@ use Rattle.listing_io.specs.LastLines.{refused_line}
 use Rattle.run_puts.specs.Lines.{Text, read_fault_line}
 use Rattle.run_puts.specs.Ends.{IsEnd, IsLast, IsWanting}
 use Rattle.run_puts.specs.Tails.{wanting, memory_put, status_after}
-use Rattle.run_puts.specs.Runs.{IsRun}
+use Rattle.run_puts.specs.Runs.{IsRun, NeverCut}
 use Rattle.run_puts.specs.declared.status.Status.{Status}
 use Rattle.run_puts.specs.declared.status.Status.TheVariants as status
 use Rattle.run_puts.proofs.Pieces.{IsLate, tail_late, lone, lacks_at_first, weaker}
@@ -30,7 +30,7 @@ use Rattle.engine.specs.Cases.{Asked, AskedCheck, Case, Command, Run, Make, Chec
 use Rattle.engine.specs.Defined.{Due, ReadsFolder, defined, unread, CutOf}
 use Rattle.engine.specs.Made.{IsMade}
 use Rattle.engine.specs.Checked.{IsCheck}
-use Rattle.engine.specs.Parts.{AreZonesAs, Answers, IsMadeRun, IsReadAs, IsReadingEnd, IsStopped, IsUncut, IsValid}
+use Rattle.engine.specs.Parts.{AreZonesAs, Answers, IsMadeRun, IsReadAs, IsReadingEnd, IsStopped, IsValid}
 use Rattle.engine.proofs.Readings.{named_read, no_zones}
 
 -- what an order asks for, the words ask for
@@ -74,8 +74,8 @@ module _ (words : List Text) (files : Option (List File)) (n m : ℕ) where
   listed : (k : Task) (end : Status) (puts : List Put) → IsCase words files (Listing k) → IsModel k.model → IsRun (IsListing k) (IsCutListing k) end puts → Answers words files n m end puts
   listed k end puts is model h = record { case = Listing k; is = is; run = weaker (IsListing k) (Due (Rose n m) (Listing k)) (IsCutListing k) (λ meant pieces d. defined meant pieces d) end puts h; valid = inl model }
 
-  pub checked : (f : FlowModel) (s : ℕ) (steps : List ListedStep) (end : Status) (puts : List Put) → IsCase words files (Checking f s steps) → IsModel f → AreListed f steps → IsRun (IsCheck f s steps) IsUncut end puts → Answers words files n m end puts
-  checked f s steps end puts is model listed h = record { case = Checking f s steps; is = is; run = weaker (IsCheck f s steps) (Due (Rose n m) (Checking f s steps)) IsUncut (λ meant pieces d. defined meant pieces d) end puts h; valid = inl (model, listed) }
+  pub checked : (f : FlowModel) (s : ℕ) (steps : List ListedStep) (end : Status) (puts : List Put) → IsCase words files (Checking f s steps) → IsModel f → AreListed f steps → IsRun (IsCheck f s steps) NeverCut end puts → Answers words files n m end puts
+  checked f s steps end puts is model listed h = record { case = Checking f s steps; is = is; run = weaker (IsCheck f s steps) (Due (Rose n m) (Checking f s steps)) NeverCut (λ meant pieces d. defined meant pieces d) end puts h; valid = inl (model, listed) }
 
 -- a reading that gave no model, and one that gave no steps
 abbrev pub no_model : Result FlowModel Refusal

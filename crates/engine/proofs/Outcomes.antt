@@ -16,6 +16,7 @@ use Rattle.model_reader.specs.Model.{reads}
 use Rattle.model_maker.specs.Files.{made_files, made_name}
 use Rattle.run_puts.specs.Lines.{Text, end_line}
 use Rattle.run_puts.specs.Runs.{whole, early}
+use Rattle.run_puts.specs.Agreement.{Agree, IsUnfinished}
 use Rattle.run_puts.specs.declared.status.Status.{Status}
 use Rattle.run_puts.specs.declared.status.Status.TheVariants as status
 use Rattle.run_puts.proofs.Pieces.{IsLate, tail_late, late_not_ok, late_not_read}
@@ -36,7 +37,7 @@ use Rattle.engine.specs.Defined.{CutOf, Defines, Due, defined, unread}
 use Rattle.engine.specs.Headline.{Headline}
 use Rattle.engine.specs.Made.{IsSummed, Made, made_task}
 use Rattle.engine.specs.OneListing.{OneListing, OneSummary, OneVerdict}
-use Rattle.engine.specs.Runs.{Decided, Comes, HasCertified, HasListing, HasTask, IsRunOf, IsUnfinished}
+use Rattle.engine.specs.Runs.{Decided, Comes, HasCertified, HasListing, HasTask, IsRunOf}
 use Rattle.engine.specs.Parts.{Answers, IsStopped, IsValid}
 use Rattle.engine.proofs.Certifying.{asks_check, certifies, checked_case, never_stopped_check, not_stopped, of_check, one_end}
 use Rattle.engine.proofs.Readings.{named_read}
@@ -315,10 +316,6 @@ due_write read_failed case end pieces (unread failed worded) e = let bad : statu
 pub put_rose : (read_failed : Type 0) (case : Case) (end : Status) (puts : List Put) (old new : Seen) → IsRunOf read_failed case end puts → end ≡ status.WriteFault → PutsMake old puts new → Rose old.faults new.faults
 put_rose read_failed case = write_rose (Due read_failed case) (CutOf case) (λ pieces due. due_write read_failed case status.WriteFault pieces due refl)
 
--- Two ends that a listing has: they are one, or at one of them the rounds didn't settle a step.
-abbrev pub Agree : Status → Status → Type 0
-Agree meant end = IsUnfinished meant ⊎ ((end ≡ meant) ⊎ IsUnfinished end)
-
 same_refusal : (p q i j : ℕ) (a b : NoBound) → (time p i ≡ time q j) × (a ≡ b) → status.NoBound q j b ≡ status.NoBound p i a
 same_refusal p q i j a b (at, is) =
     let periods : q ≡ p = sym (ap (λ t. t.period) at) in
@@ -397,7 +394,7 @@ decides laws (Making seed size (Ok m)) meant end p q (inr stops) x y = let w = l
 decides laws (Checking m s steps) meant end p q (inl (model, listed)) x y = inr (inl (one_end m s steps laws.verdict model listed meant end p q x y))
 decides laws (Checking m s steps) meant end p q (inr stops) x y = absurd (never_stopped_check m s steps end q stops y)
 
-weighed : (fault : Type 0) (meant end : Status) → Agree meant end → (fault ⊎ IsUnfinished meant) ⊎ ((end ≡ meant) ⊎ ((end ≡ status.Memory) ⊎ IsUnfinished end))
+pub weighed : (fault : Type 0) (meant end : Status) → Agree meant end → (fault ⊎ IsUnfinished meant) ⊎ ((end ≡ meant) ⊎ ((end ≡ status.Memory) ⊎ IsUnfinished end))
 weighed fault meant end (inl open_meant) = inl (inr open_meant)
 weighed fault meant end (inr (inl e)) = inr (inl e)
 weighed fault meant end (inr (inr open_end)) = inr (inr (inr open_end))

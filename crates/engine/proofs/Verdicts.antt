@@ -13,7 +13,7 @@ use Rattle.listing_io.specs.declared.listing.ListedStep.{ListedStep}
 use Rattle.listing_io.specs.Listed.{AreListed}
 use Rattle.listing_io.specs.LastLines.{no_bound_line, not_certified_line}
 use Rattle.run_puts.specs.Lines.{Text}
-use Rattle.run_puts.specs.Runs.{IsRun}
+use Rattle.run_puts.specs.Runs.{IsRun, NeverCut}
 use Rattle.run_puts.specs.declared.status.Status.{Status}
 use Rattle.run_puts.specs.declared.status.Status.TheVariants as status
 use Rattle.run_puts.proofs.Pieces.{lone}
@@ -23,16 +23,16 @@ use Rattle.check_run.specs.declared.verdict.ListingVerdict.TheVariants.{Certifie
 use Rattle.check_run.specs.Verdicts.{IsVerdict, ListingEncloses}
 use Rattle.engine.specs.Cases.{AskedCheck, Command, Check, Refuses, Checking, IsCase, CouldRead, asked_in, case_asked, case_checked, case_listed, listing_read, named, zones_read}
 use Rattle.engine.specs.Checked.{IsCheck, certified_line}
-use Rattle.engine.specs.Parts.{Answers, IsListedAs, IsReadAs, IsReadingEnd, IsUncut, IsVerdictEnd}
+use Rattle.engine.specs.Parts.{Answers, IsListedAs, IsReadAs, IsReadingEnd, IsVerdictEnd}
 use Rattle.listing_run.specs.Zones.{AreZonesOf}
 use Rattle.engine.proofs.Ends.{checked, could_read, ends_without_words, no_steps, of_each, of_model_read, refused, same_steps, same_zones, some_case, unreadable}
 use Rattle.engine.proofs.Readings.{named_read, no_zones}
 
 module _ (m : FlowModel) (s : ℕ) (steps : List ListedStep) where
-  pub puts_verdict : (v : ListingVerdict) (end : Status) (puts : List Put) → IsVerdict m s steps v → (v ≡ Certified → ListingEncloses m s steps) → (v ≡ Certified → HasOneHistory m) → IsVerdictEnd m v end puts → IsRun (IsCheck m s steps) IsUncut end puts
-  puts_verdict Certified end puts is encloses history h = lone (IsCheck m s steps) IsUncut certified_line status.Ok end puts (record { verdict = is; encloses = encloses refl; history = history refl; are = refl }) (inl h)
-  puts_verdict (Fails at place) end puts is encloses history h = lone (IsCheck m s steps) IsUncut (not_certified_line m.grid at place) (status.NotCertified at.period at.step place) end puts (is, refl) h
-  puts_verdict (Refused at n) end puts is encloses history h = lone (IsCheck m s steps) IsUncut (no_bound_line m.grid at n) (status.NoBound at.period at.step n) end puts (is, refl) h
+  pub puts_verdict : (v : ListingVerdict) (end : Status) (puts : List Put) → IsVerdict m s steps v → (v ≡ Certified → ListingEncloses m s steps) → (v ≡ Certified → HasOneHistory m) → IsVerdictEnd m v end puts → IsRun (IsCheck m s steps) NeverCut end puts
+  puts_verdict Certified end puts is encloses history h = lone (IsCheck m s steps) NeverCut certified_line status.Ok end puts (record { verdict = is; encloses = encloses refl; history = history refl; are = refl }) (inl h)
+  puts_verdict (Fails at place) end puts is encloses history h = lone (IsCheck m s steps) NeverCut (not_certified_line m.grid at place) (status.NotCertified at.period at.step place) end puts (is, refl) h
+  puts_verdict (Refused at n) end puts is encloses history h = lone (IsCheck m s steps) NeverCut (no_bound_line m.grid at n) (status.NoBound at.period at.step n) end puts (is, refl) h
 
 -- the ends of a check
 module _ (words : List Text) (files : Option (List File)) (n m : ℕ) (asked : AskedCheck) (wanted : asked_in words ≡ Some (Check asked)) where
@@ -74,5 +74,5 @@ module _ (words : List Text) (files : Option (List File)) (n m : ℕ) (asked : A
     ends_unlisted input.ReadFault end puts lists counts h = let c = some_case words files in unreadable words files n m c.case end puts c.is (c.check_worded asked wanted) counts h
     ends_unlisted input.Memory end puts lists counts h = ends_without_words words files n m end puts h
 
-    pub ends_check : (steps : List ListedStep) (end : Status) (puts : List Put) → IsListedAs asked f files (Ok steps) → AreListed f steps → IsRun (IsCheck f asked.digits steps) IsUncut end puts → Answers words files n m end puts
+    pub ends_check : (steps : List ListedStep) (end : Status) (puts : List Put) → IsListedAs asked f files (Ok steps) → AreListed f steps → IsRun (IsCheck f asked.digits steps) NeverCut end puts → Answers words files n m end puts
     ends_check steps end puts lists listed h = checked words files n m f asked.digits steps end puts (steps_case files f read model steps lists) model listed h

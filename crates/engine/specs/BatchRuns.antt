@@ -9,13 +9,12 @@ use Rattle.model_types.specs.declared.time_steps.TimeStep.{TimeStep}
 use Rattle.model_types.specs.Valid.{IsModel}
 use Rattle.model_reader.specs.Model.{reads}
 use Rattle.run_puts.specs.Lines.{Text, read_fault_line}
-use Rattle.run_puts.specs.Runs.{IsRun}
+use Rattle.run_puts.specs.Runs.{IsRun, NeverCut}
+use Rattle.run_puts.specs.Agreement.{IsUnfinished}
 use Rattle.run_puts.specs.declared.status.Status.{Status}
 use Rattle.run_puts.specs.declared.status.Status.TheVariants as status
 use Rattle.listing_run.specs.declared.step.Step.{Step}
 use Rattle.listing_run.specs.Steps.{AllSteps, Open, WithoutBound}
-use Rattle.batch_puts.specs.Ended.{NeverCut}
-use Rattle.batch_puts.specs.Batches.{IsUnfinished}
 use Rattle.engine.specs.declared.job.Job.{Job}
 use Rattle.engine.specs.Batches.{AskedBatch, BatchCase, NoList, Jobs, IsBatchCase, BatchDefines, batch_asked, batch_case_of, job_task, names_read}
 use Rattle.engine.specs.Parts.{AnswersBeside, IsStopped}

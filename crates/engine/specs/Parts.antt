@@ -104,7 +104,7 @@ IsUnreadEnd input.Memory end puts = IsWanting end puts
 
 -- all facts of the result of a made model's run
 pub record IsMadeRun (seed size : ℕ) (end : Status) (puts : List Put) : Type 0 where
-  pub run : IsRun (IsMade seed size (made_model seed size)) (λ pieces. ⊥) end puts
+  pub run : IsRun (IsMade seed size (made_model seed size)) NeverCut end puts
   pub valid : IfOk (made_model seed size) IsModel ⊎ IsStopped end
 
 -- the puts of a verdict's line
@@ -112,7 +112,3 @@ abbrev pub IsVerdictEnd : FlowModel → ListingVerdict → Status → List Put �
 IsVerdictEnd m Certified end puts = IsLast certified_line status.Ok end puts
 IsVerdictEnd m (Fails at place) end puts = IsEnd (not_certified_line m.grid at place) (status.NotCertified at.period at.step place) end puts
 IsVerdictEnd m (Unbounded at n) end puts = IsEnd (no_bound_line m.grid at n) (status.NoBound at.period at.step n) end puts
-
--- a check puts one piece, and never stops after a piece
-abbrev pub IsUncut : List Text → Type 0
-IsUncut pieces = ⊥

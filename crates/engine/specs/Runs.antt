@@ -41,11 +41,6 @@ pub record Puts (leads : List Put → Type 0) (words : List Text) (files : Optio
   pub leads_on : leads puts
   pub run : IsRunOf (Rose before after) case end puts ⊎ IsLeft failed_beside case end puts
 
--- the rounds didn't settle a step
-abbrev pub IsUnfinished : Status → Type 0
-IsUnfinished (status.Unfinished period step) = Unit {0}
-IsUnfinished other = ⊥
-
 -- The run has the end that the words and files define, unless a read or a write fails, memory runs out, or a step doesn't settle within the rounds.
 abbrev pub Decided : Type 0 → List Text → List File → Status → Type 0
 Decided fault words files end =

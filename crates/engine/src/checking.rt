@@ -8,11 +8,11 @@ ghost use Rattle.model_types.specs.Valid.{IsModel};
 ghost use Rattle.listing_io.specs.Listed.{AreListed};
 ghost use Rattle.run_puts.specs.Lines.{Text};
 ghost use Rattle.run_puts.specs.Ends.{IsLast, IsWanting};
-ghost use Rattle.run_puts.specs.Runs.{IsRun};
+ghost use Rattle.run_puts.specs.Runs.{IsRun, NeverCut};
 ghost use Rattle.engine.specs.Checked.{IsCheck};
 ghost use Rattle.engine.specs.Cases.{asked_in, Check};
 ghost use Rattle.engine.specs.Commands.{check_of};
-ghost use Rattle.engine.specs.Parts.{Answers, IsListedAs, IsReadAs, IsUncut, IsVerdictEnd};
+ghost use Rattle.engine.specs.Parts.{Answers, IsListedAs, IsReadAs, IsVerdictEnd};
 
 use crate::asked::AskedCheck;
 use crate::ending::end_reading;
@@ -109,7 +109,7 @@ pub(crate) fn put_check<K: Sink>(
     requires digits { digits ≤ 18 }
     requires listing { AreListed model.now listing.now }
     ensures { (start : _) (puts : List Put) → K.leads start puts out.old →
-        (more : List Put) × K.leads start (puts ++ more) out.new × IsRun (IsCheck model.now digits listing.now) IsUncut result more }
+        (more : List Put) × K.leads start (puts ++ more) out.new × IsRun (IsCheck model.now digits listing.now) NeverCut result more }
 {
     match check_listing(alloc, model, listing, digits) {
         Ok(verdict) => put_verdict(alloc, model, verdict, out),

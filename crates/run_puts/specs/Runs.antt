@@ -18,3 +18,7 @@ pub data IsRun (Due : Status → List Text → Type 0) (Cut : List Text → Type
   whole : (end : Status) (pieces : List Text) → Due end pieces → IsRun Due Cut end (map taken pieces)
   early : (end : Status) (before after : List Text) (tail : List Put) → Begins Due Cut before after →
       IsTail after end tail → IsRun Due Cut end (map taken before ++ tail)
+
+-- A run that doesn't break off by itself: whatever it has put is a beginning of pieces that are due.
+abbrev pub NeverCut : List Text → Type 0
+NeverCut pieces = ⊥

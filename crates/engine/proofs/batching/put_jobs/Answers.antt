@@ -1,7 +1,6 @@
-use Rattle.run_puts.specs.Runs.{IsRun}
+use Rattle.run_puts.specs.Runs.{IsRun, NeverCut}
 use Rattle.run_puts.proofs.Pieces.{lacks_at_first}
 use Rattle.batch_puts.specs.Batches.{IsBatch}
-use Rattle.batch_puts.specs.Ended.{NeverCut}
 use Rattle.batch_puts.proofs.Batches.{batch_run}
 use Rattle.engine.specs.Batches.{IsJobEnd}
 use Rattle.engine.proofs.BatchEnds.{jobs_ended}

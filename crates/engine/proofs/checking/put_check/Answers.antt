@@ -1,6 +1,6 @@
+use Rattle.run_puts.specs.Runs.{NeverCut}
 use Rattle.run_puts.proofs.Pieces.{lacks_at_first}
 use Rattle.engine.specs.Checked.{IsCheck}
-use Rattle.engine.specs.Parts.{IsUncut}
 use Rattle.engine.proofs.Verdicts.{puts_verdict}
 use Rattle.engine.proofs.checking.put_check.Goals as goal
 
@@ -12,4 +12,4 @@ returns-in-Ok g c = λ start puts h.
 pub returns-in-Err : goal.returns-in-Err
 returns-in-Err g c = λ start puts h.
     let m = c.put_memory.ensures start puts h in
-    (m.0, m.1, lacks_at_first (IsCheck c.args.model.now c.args.digits c.args.listing.now) IsUncut c.put_memory.result m.0 m.2)
+    (m.0, m.1, lacks_at_first (IsCheck c.args.model.now c.args.digits c.args.listing.now) NeverCut c.put_memory.result m.0 m.2)
