@@ -78,8 +78,7 @@ impl Settler for ListedSettler {
         p: &Problem,
         b: &Barrier,
     ) -> Result<Vec<Bound>, SettleFault> {
-        // `len` ensures the problem's conditions.
-        let _cells = p.len();
+        p.recall_conditions();
         let start = match edge_words(alloc, p, b) {
             Ok(start) => start,
             Err(AllocError) => return Err(SettleFault::Memory),

@@ -26,8 +26,7 @@ fn settled_near<N: Settler>(
     ensures rounds { N.rounds trial.new ≡ N.rounds trial.old }
     ensures ready { N.ready trial.new }
 {
-    // `len` ensures the problem's conditions.
-    let _cells = p.len();
+    p.recall_conditions();
     let mut near = near;
     for _trial in 0..trials {
         let inner = barrier_near(alloc, p, b, near.as_slice())?;

@@ -61,8 +61,7 @@ fn work_one<G: Gate>(
     requires workers { (i < workers) × (workers ≤ 64) }
     ensures { HasWorked table.now i workers seat.old seat.new }
 {
-    // `len` ensures the problem's conditions.
-    let _cells = table.problem().len();
+    table.problem().recall_conditions();
     let worker = i as u32 + 1;
     work(table, seat, worker, turns, gate);
     own_turns(table, seat, worker, workers as u32);

@@ -50,8 +50,7 @@ impl Settler for PlainSettler {
         p: &Problem,
         b: &Barrier,
     ) -> Result<Vec<Bound>, SettleFault> {
-        // `len` ensures the problem's conditions.
-        let _cells = p.len();
+        p.recall_conditions();
         let start = match edge_words(alloc, p, b) {
             Ok(start) => start,
             Err(AllocError) => return Err(SettleFault::Memory),

@@ -46,8 +46,7 @@ pub fn sweep_up_to(p: &Problem, words: &mut [Bound], rounds: u32)
     ensures way { StayOnTheWay p.now words.old words.new }
     ensures reached { SettleWithin p.now rounds words.old words.new }
 {
-    // `len` ensures the problem's conditions.
-    let _cells = p.len();
+    p.recall_conditions();
     for _round in 0..rounds {
         if !sweep(p, words) {
             return;

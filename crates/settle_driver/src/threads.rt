@@ -27,8 +27,7 @@ fn settle_cells<R: Threads + Sync, G: Gate + Sync>(
     requires plan { IsPlan plan }
     ensures { Settles p.now b.now plan.rounds result }
 {
-    // `len` ensures the problem's conditions.
-    let _cells = p.len();
+    p.recall_conditions();
     let mut words = match edge_words(alloc, p, b) {
         Ok(start) => start,
         Err(AllocError) => return Err(SettleFault::Memory),

@@ -126,8 +126,7 @@ fn settle_cells_watched<R: Threads + Sync, G: Gate + Sync, V: Viewer + Send>(
     ensures settles { Settles p.now b.now plan.rounds result }
     ensures viewed { AddsPhases V.viewed V.stopped p.now b.now views (had_memory result) viewer.old viewer.new }
 {
-    // The number of cells comes with the problem's conditions.
-    let _cells = p.len();
+    p.recall_conditions();
     let mut words = match edge_words(alloc, p, b) {
         Ok(start) => start,
         Err(AllocError) => return Err(SettleFault::Memory),

@@ -55,7 +55,6 @@ pub fn zone_flows(
     // At all heads between these, in every exact step that the problem encloses, each exact flow lies between its bounds.
     ensures encloses { IfOk result (λ flows. EncloseEveryStep p.now zones.now (lower_at heads.now) (upper_at heads.now) flows.items) }
 {
-    // The problem's conditions come with its length.
-    let _cells = p.len();
+    p.recall_conditions();
     flows_by_table(alloc, p, zones, heads)
 }

@@ -16,5 +16,5 @@ returns-then-have_left-clause-settled g c =
     let left = subst (λ (x : List Bound). HaveLeft p b inner (lower_at x) (upper_at x)) c.as_slice-in-loop-trial.ensures.value (c.have_left.ensures c.if-have_left.true) in
     record {
       whole = settled.whole;
-      pair = leaving_settles p b inner (lower_at bounds) (upper_at bounds) c.len-cells.ensures.fits c.in_ok-inner.ensures.inside settled.pair left;
+      pair = leaving_settles p b inner (lower_at bounds) (upper_at bounds) c.recall_conditions.ensures.fits c.in_ok-inner.ensures.inside settled.pair left;
     }

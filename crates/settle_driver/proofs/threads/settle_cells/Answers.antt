@@ -18,13 +18,13 @@ returns-then-is_none g c =
     let p = c.args.p.now in
     let next : List Bound = c.in-Ok-phase.next.items in
     let tested = subst (λ (x : List Bound). MatchOption c.first_open-open.result (AreBothSettled p x) (λ o. IsFirstOpen p x o.0 o.1)) c.as_slice.ensures.value c.first_open-open.ensures in
-    settled_on_the_way p c.args.b.now c.len-cells.ensures.fits next c.in-Ok-phase.ensures.way (where_none c.first_open-open.result _ _ (c.is_none.ensures ∙ ap not c.if-is_none.true) tested)
+    settled_on_the_way p c.args.b.now c.recall_conditions.ensures.fits next c.in-Ok-phase.ensures.way (where_none c.first_open-open.result _ _ (c.is_none.ensures ∙ ap not c.if-is_none.true) tested)
 
 pub loop-round-preserved : goal.loop-round-preserved
 loop-round-preserved g c =
     let p = c.args.p.now in
     let next : List Bound = c.in-Ok-phase.next.items in record {
-      phased = phased_again p c.args.b.now c.len-cells.ensures.fits c.loop-round.words.items next c.loop-round._round c.loop-round.invariant.phased c.in-Ok-phase.ensures.way c.in-Ok-phase.ensures.past;
+      phased = phased_again p c.args.b.now c.recall_conditions.ensures.fits c.loop-round.words.items next c.loop-round._round c.loop-round.invariant.phased c.in-Ok-phase.ensures.way c.in-Ok-phase.ensures.past;
       tested = λ some. subst (λ (x : List Bound). MatchOption c.first_open-open.result (AreBothSettled p x) (λ o. IsFirstOpen p x o.0 o.1)) c.as_slice.ensures.value c.first_open-open.ensures;
     }
 
@@ -36,4 +36,4 @@ returns-in-Some g c =
     let some : 0 < c.loop-round._round = omega (arith, all, c.requires.plan.some_round) in
     let phased = subst (λ (k : ℕ). ArePhased p c.args.b.now k words) all c.loop-round.invariant.phased in
     let first = where_some c.loop-round.open (c.in-Some.cell, c.in-Some.side) _ _ c.in-Some.is (c.loop-round.invariant.tested some) in
-    phased_unfinished p c.args.b.now c.len-cells.ensures.fits words c.args.plan.rounds _ c.requires.barrier phased refl first
+    phased_unfinished p c.args.b.now c.recall_conditions.ensures.fits words c.args.plan.rounds _ c.requires.barrier phased refl first

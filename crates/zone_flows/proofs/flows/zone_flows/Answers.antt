@@ -9,4 +9,4 @@ pub returns-clause-encloses : goal.returns-clause-encloses
 returns-clause-encloses c =
     let l = lower_at c.args.heads.now in
     let u = upper_at c.args.heads.now in
-    ok_encloses c.args.zones.now l u c.requires.zones c.args.p.now c.flows_by_table.result c.len-cells.ensures.fits (gives c.args.zones.now l u c.requires.zones c.args.p.now c.flows_by_table.result c.flows_by_table.ensures)
+    ok_encloses c.args.zones.now l u c.requires.zones c.args.p.now c.flows_by_table.result c.recall_conditions.ensures.fits (gives c.args.zones.now l u c.requires.zones c.args.p.now c.flows_by_table.result c.flows_by_table.ensures)
