@@ -1,5 +1,5 @@
 // The check of a listing of the folder.
-ghost use Rattle.std.specs.Prelude.{◌≡◌, ◌≤◌, List, ◌++◌, Ok, IfOk, IfSome, MatchResult, Option, Some};
+ghost use Rattle.std.specs.Prelude.{◌≡◌, ◌≤◌, List, ◌++◌, Ok, IfOk, IfSome, Option, Some};
 ghost use Rattle.outside.specs.Names.{folder_name};
 ghost use Rattle.outside.specs.Files.{File};
 ghost use Rattle.outside.specs.Folders.{ReadsOn};
@@ -7,7 +7,6 @@ ghost use Rattle.outside.specs.Puts.{Put};
 ghost use Rattle.model_types.specs.Valid.{IsModel};
 ghost use Rattle.listing_io.specs.Listed.{AreListed};
 ghost use Rattle.run_puts.specs.Lines.{Text};
-ghost use Rattle.run_puts.specs.Ends.{IsLast, IsWanting};
 ghost use Rattle.run_puts.specs.Runs.{IsRun, NeverCut};
 ghost use Rattle.engine.specs.Checked.{IsCheck};
 ghost use Rattle.engine.specs.Cases.{asked_in, Check};
@@ -21,8 +20,8 @@ use check_run::{ListingVerdict, check_listing};
 use listing_io::{Listing, read_listing, write_no_bound, write_not_certified};
 use model_types::FlowModel;
 use outside::{Folder, InputFault, Sink, is_good_name, read_input};
-use run_puts::{Status, put_last, put_memory};
-use std::alloc::{AllocError, Global};
+use run_puts::{Status, put_last, put_line, put_memory};
+use std::alloc::Global;
 
 /// The listing of a model that a check names. The name is tested before the file is read.
 pub(crate) fn read_listed<F: Folder>(
@@ -44,17 +43,6 @@ pub(crate) fn read_listed<F: Folder>(
     let bytes = read_input(alloc, folder, asked.listing)?;
     let listing = read_listing(alloc, model, asked.listing, bytes.as_slice(), asked.digits)?;
     Ok(listing)
-}
-
-// Puts a last line, or the line MEMORY if there was no memory for it.
-fn put_line<K: Sink>(out: &mut K, line: Result<Vec<u8>, AllocError>, meant: Status) -> Status
-    ensures { (start : _) (puts : List Put) → K.leads start puts out.old →
-        (tail : List Put) × K.leads start (puts ++ tail) out.new × MatchResult line (λ text. IsLast text.items meant result tail) (λ _. IsWanting result tail) }
-{
-    match line {
-        Ok(text) => put_last(out, text.as_slice(), meant),
-        Err(_) => put_memory(out),
-    }
 }
 
 // Puts the line of a verdict.

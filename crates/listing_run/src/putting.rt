@@ -4,7 +4,7 @@ ghost use Rattle.outside.specs.Puts.{Put};
 ghost use Rattle.outside.specs.declared.traits.SinkError.TheVariants.{Write};
 ghost use Rattle.model_types.specs.Times.{times};
 ghost use Rattle.problem_builder.specs.GridHeads.{AreGridHeads};
-ghost use Rattle.run_puts.specs.Ends.{IsPut, IsLast, IsWanting};
+ghost use Rattle.run_puts.specs.Ends.{IsPut};
 ghost use Rattle.run_puts.specs.Runs.{IsRun};
 ghost use Rattle.listing_run.specs.Listing.{IsListingBeside, IsCutListing};
 ghost use Rattle.listing_run.specs.Settlers.{AllSettledBy, IsSettledBy, Reaches, RestsOrSettles};
@@ -17,9 +17,9 @@ use crate::task::Task;
 use listing_io::{write_no_bound, write_unfinished};
 use model_types::TimeStep;
 use outside::{Sink, SinkError};
-use run_puts::{Status, put_last, put_memory, put_piece};
+use run_puts::{Status, put_last, put_line, put_memory, put_piece};
 use settle_driver::StepSettler;
-use std::alloc::{AllocError, Global};
+use std::alloc::Global;
 use std::thread::{Threads, join_mut};
 use step_chain::RunTables;
 use step_problem::{Bound, Settler};
@@ -57,17 +57,6 @@ fn put_while_solving<R: Threads + Sync, K: Sink + Send, S: Settler>(
         &mut || put_piece(out, piece),
         &mut || solve_text(alloc, task, tables, at, old, settler),
     )
-}
-
-// Puts a last line, or the line MEMORY if there was no memory for it.
-fn put_line<K: Sink>(out: &mut K, line: Result<Vec<u8>, AllocError>, meant: Status) -> Status
-    ensures { (start : _) (puts : List Put) → K.leads start puts out.old →
-        (tail : List Put) × K.leads start (puts ++ tail) out.new × MatchResult line (λ text. IsLast text.items meant result tail) (λ _. IsWanting result tail) }
-{
-    match line {
-        Ok(text) => put_last(out, text.as_slice(), meant),
-        Err(_) => put_memory(out),
-    }
 }
 
 // Ends at a step with this fault.

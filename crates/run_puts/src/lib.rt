@@ -4,5 +4,5 @@
 mod puts;
 mod status;
 
-pub use puts::{put_last, put_memory, put_piece};
+pub use puts::{put_last, put_line, put_memory, put_piece};
 pub use status::Status;

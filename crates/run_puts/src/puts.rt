@@ -1,9 +1,10 @@
-ghost use Rattle.std.specs.Prelude.{◌≡◌, List, ◌++◌};
+ghost use Rattle.std.specs.Prelude.{◌≡◌, List, ◌++◌, MatchResult};
 ghost use Rattle.outside.specs.Puts.{Put};
 ghost use Rattle.run_puts.specs.Ends.{IsLast, IsPut, IsWanting};
 
 use crate::status::Status;
 use outside::{Sink, SinkError};
+use std::alloc::AllocError;
 
 /// Puts the line MEMORY once, and ends the run.
 pub fn put_memory<K: Sink>(out: &mut K) -> Status
@@ -37,5 +38,17 @@ pub fn put_last<K: Sink>(out: &mut K, line: &[u8], meant: Status) -> Status
     match put_piece(out, line) {
         None => meant,
         Some(other) => other,
+    }
+}
+
+/// Puts the last line of a run, or the line MEMORY if there was no memory for it.
+pub fn put_line<K: Sink>(out: &mut K, line: Result<Vec<u8>, AllocError>, meant: Status) -> Status
+    ensures { (start : _) (puts : List Put) → K.leads start puts out.old →
+        (more : List Put) × K.leads start (puts ++ more) out.new
+        × MatchResult line (λ text. IsLast text.items meant result more) (λ _. IsWanting result more) }
+{
+    match line {
+        Ok(text) => put_last(out, text.as_slice(), meant),
+        Err(_) => put_memory(out),
     }
 }
