@@ -28,7 +28,7 @@ use Rattle.listing_io.specs.Listing.{Line, first_line, step_line, head_form, hea
 use Rattle.listing_io.specs.Reading.{Left, pair_at, text_at, head_if, heads_at, term_at, term_if, terms_at, step_at, first_at, listing_at}
 use Rattle.listing_io.specs.Listed.{AreCellBounds, IsFlowPair, AreTerms, IsListedStep, AreListed}
 use Rattle.listing_io.proofs.Exactly.{line_whole}
-use Rattle.listing_io.proofs.Written.{eight_lines, lines_in, lines_out}
+use Rattle.listing_io.proofs.Written.{eight_lines, lines_in, lines_out, grouped}
 
 abbrev pub left_of : List Line → ℕ → Left
 left_of rows n = record { lines = rows; number = n }
@@ -87,9 +87,6 @@ cell_again : (front : List ℕ) (b : Bound) (flag : Bool) (rest : List Line) (n 
     → (k : ℕ) × (head_if flag front (left_of (cond flag (pair_line front head_form (head_pair b) ∷ []) [] ++ rest) n) ≡ Ok (b, left_of rest k))
 cell_again front b true rest n l h none = (next_number n, rw (pair_again front head_form (head_pair b) rest n (head_fits b l h)) refl)
 cell_again front b false rest n l h none = (n, rw (none refl) refl)
-
-grouped : {X : Type 0} (a b c : List X) → (a ++ b) ++ c ≡ a ++ (b ++ c)
-grouped a b c = append_assoc a b c
 
 pub heads_again : (m : FlowModel) (c : ℕ) (bs : List Bound) (rest : List Line) (n : ℕ) → AreCellBounds m c bs → (k : ℕ) × (heads_at m c (length bs) (left_of (head_lines m c bs ++ rest) n) ≡ Ok (bs, left_of rest k))
 unfolding heads_at head_lines

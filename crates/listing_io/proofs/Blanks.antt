@@ -1,4 +1,4 @@
--- No blank stands in a number, so the first blank behind one ends it.
+-- A number has no blank, so the first blank after one ends it.
 use Rattle.std.proofs.Common.{◌≡◌, ℕ, zero, suc, ◌+◌, ◌-◌, ◌/◌, ◌%◌, ◌^◌, ◌<◌, ◌≤◌, ◌==◌, false, List, [], ◌∷◌, ◌++◌, length, take, drop, replicate, codes, decimal, nat_abs, add-one, refl, ap, ◌∙◌, arith, ℤ, pos, negsuc}
 use Rattle.std.proofs.lemmas.Bool.Decides.{nat_tests}
 use Rattle.std.proofs.lemmas.Fmt.{decimal_is_IsNumeral_wide}

@@ -44,14 +44,14 @@ is_same xs ys h = (bytes_eq-Decides xs ys).0 h
 same_is : (xs : List ℕ) → bytes_eq xs xs ≡ true
 same_is xs = (bytes_eq-Decides xs xs).1 refl
 
-both : (a b : Bool) → a ≡ true → b ≡ true → (a && b) ≡ true
-both a b h k = rw (h, k) refl
+and_is_true : (a b : Bool) → a ≡ true → b ≡ true → (a && b) ≡ true
+and_is_true a b h k = rw (h, k) refl
 
 numbers_fit : (f : Form) (p : TermPair) → is_within f p ≡ true → (nat_abs p.lo ≤ f.limit) × (nat_abs p.hi ≤ f.limit)
 numbers_fit f p h = let (a, b) = and_parts (nat_le (nat_abs p.lo) f.limit) (nat_le (nat_abs p.hi) f.limit) h in (leb-true _ _ a, leb-true _ _ b)
 
 fit_numbers : (f : Form) (p : TermPair) → nat_abs p.lo ≤ f.limit → nat_abs p.hi ≤ f.limit → is_within f p ≡ true
-fit_numbers f p lo hi = both _ _ (le-leb _ _ lo) (le-leb _ _ hi)
+fit_numbers f p lo hi = and_is_true _ _ (le-leb _ _ lo) (le-leb _ _ hi)
 
 pub line_sound : (front : List ℕ) (f : Form) (line : List ℕ) (p : TermPair) → pair_in front f line ≡ Some p → IsPairLine front f line p
 unfolding pair_in
@@ -63,7 +63,7 @@ line_sound front f line p h =
 
 pub line_whole : (front : List ℕ) (f : Form) (p : TermPair) → IsForm f → nat_abs p.lo ≤ f.limit → nat_abs p.hi ≤ f.limit → pair_in front f (pair_line front f p) ≡ Some p
 unfolding pair_in
-line_whole front f p good lo hi = rw (candidate_is front f p good lo hi, both (is_within f p) (bytes_eq (pair_line front f p) (pair_line front f p)) (fit_numbers f p lo hi) (same_is (pair_line front f p))) refl
+line_whole front f p good lo hi = rw (candidate_is front f p good lo hi, and_is_true (is_within f p) (bytes_eq (pair_line front f p) (pair_line front f p)) (fit_numbers f p lo hi) (same_is (pair_line front f p))) refl
 
 pub lines_read_exactly : LinesReadExactly
 lines_read_exactly front f good = record {

@@ -91,9 +91,9 @@ front_without g c h =
     (Without-append 10 (codes "HEAD") (numbers_text (place g c)) (by_test (codes "HEAD") refl) (numbers_without (place g c) (place_small g c h)))
     (by_test (codes " ") refl)
 
-both : {X : Type 0} (P : X → Type 0) (xs ys : List X) → AllByRecursion P xs → AllByRecursion P ys → AllByRecursion P (xs ++ ys)
-both P [] ys h k = k
-both P (x ∷ xs) ys h k = (h.0, both P xs ys h.1 k)
+all_appended : {X : Type 0} (P : X → Type 0) (xs ys : List X) → AllByRecursion P xs → AllByRecursion P ys → AllByRecursion P (xs ++ ys)
+all_appended P [] ys h k = k
+all_appended P (x ∷ xs) ys h k = (h.0, all_appended P xs ys h.1 k)
 
 cell_without : (g : Grid) (c : ℕ) (flag : Bool) (b : Bound) → c < 65536 → NoFeed (head_line g c b) → AllByRecursion NoFeed (cond flag (head_line g c b ∷ []) [])
 cell_without g c true b lt h = (h, tt)
@@ -105,7 +105,7 @@ heads_without m c [] few h = tt
 heads_without m c (b ∷ bs) few h =
     let lt : c < 65536 = omega (arith, few) in
     let more : c + 1 + length bs ≤ 65536 = omega (arith, few) in
-    both NoFeed (cond (is_active m c) (head_line m.grid c b ∷ []) []) (head_lines m (c + 1) bs)
+    all_appended NoFeed (cond (is_active m c) (head_line m.grid c b ∷ []) []) (head_lines m (c + 1) bs)
     (cell_without m.grid c (is_active m c) b lt (pair_without (head_front m.grid c) head_form (head_pair b) (head_fits b h.0.low h.0.high) (front_without m.grid c lt) tt))
     (heads_without m (c + 1) bs more h.1)
 
@@ -170,16 +170,16 @@ step_without m s at x good time h =
     let whole = h.whole in
     let few : 0 + length x.heads ≤ 65536 = omega (arith, cells, whole) in (
       title_without at time,
-      both NoFeed (head_lines m 0 x.heads) (term_lines m s In x.budget ++ (term_lines m s Out x.budget ++ [])) (heads_without m 0 x.heads few h.heads)
-          (both NoFeed (term_lines m s In x.budget) (term_lines m s Out x.budget ++ []) (terms_without m s In (term_lines m s In x.budget) x.budget.into i good.digits h.into (lines_in m s x.budget.into x.budget.out i.a i.b i.c i.d i.e i.f i.g i.x i.are))
-          (both NoFeed (term_lines m s Out x.budget) [] (terms_without m s Out (term_lines m s Out x.budget) x.budget.out o good.digits h.out (lines_out m s x.budget.into x.budget.out o.a o.b o.c o.d o.e o.f o.g o.x o.are)) tt)),
+      all_appended NoFeed (head_lines m 0 x.heads) (term_lines m s In x.budget ++ (term_lines m s Out x.budget ++ [])) (heads_without m 0 x.heads few h.heads)
+          (all_appended NoFeed (term_lines m s In x.budget) (term_lines m s Out x.budget ++ []) (terms_without m s In (term_lines m s In x.budget) x.budget.into i good.digits h.into (lines_in m s x.budget.into x.budget.out i.a i.b i.c i.d i.e i.f i.g i.x i.are))
+          (all_appended NoFeed (term_lines m s Out x.budget) [] (terms_without m s Out (term_lines m s Out x.budget) x.budget.out o good.digits h.out (lines_out m s x.budget.into x.budget.out o.a o.b o.c o.d o.e o.f o.g o.x o.are)) tt)),
     )
 
 steps_without : (m : FlowModel) (s : ℕ) (ats : List TimeStep) (xs : List ListedStep) → IsWritable m s → AllByRecursion IsTime ats → AllByRecursion (IsListedStep m) xs → AllByRecursion NoFeed (all_step_lines m s ats xs)
 unfolding all_step_lines
 steps_without m s [] xs good time h = tt
 steps_without m s (at ∷ ats) [] good time h = tt
-steps_without m s (at ∷ ats) (x ∷ xs) good time h = both NoFeed (step_lines m s at x.heads x.budget []) (all_step_lines m s ats xs) (step_without m s at x good time.0 h.0) (steps_without m s ats xs good time.1 h.1)
+steps_without m s (at ∷ ats) (x ∷ xs) good time h = all_appended NoFeed (step_lines m s at x.heads x.budget []) (all_step_lines m s ats xs) (step_without m s at x good time.0 h.0) (steps_without m s ats xs good time.1 h.1)
 
 signed_without : (z : ℤ) → nat_abs z < 2 ^ 64 → NoFeed (signed_decimal z)
 signed_without (pos n) h = decimal_without 10 (omega arith) n (omega arith)
@@ -197,7 +197,7 @@ first_without m s good =
 listing_without : (m : FlowModel) (s : ℕ) (steps : List ListedStep) → IsWritable m s → AreListed m steps → AllByRecursion NoFeed (listing m s steps)
 unfolding listing
 listing_without m s steps good h =
-    (first_without m s good, both NoFeed (all_step_lines m s (times m) steps) (end_line ∷ []) (steps_without m s (times m) steps good (recursion_from_All IsTime (times m) good.times) (recursion_from_All (IsListedStep m) steps h.steps)) (by_test end_line refl, tt))
+    (first_without m s good, all_appended NoFeed (all_step_lines m s (times m) steps) (end_line ∷ []) (steps_without m s (times m) steps good (recursion_from_All IsTime (times m) good.times) (recursion_from_All (IsListedStep m) steps h.steps)) (by_test end_line refl, tt))
 
 pub listings_are_read_again : ListingsAreReadAgain
 listings_are_read_again m s steps good h =

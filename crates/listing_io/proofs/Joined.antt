@@ -20,7 +20,7 @@ step_joined title a b c d =
     ∙ with_lines ([] ++ ended title) a (b ++ (c ++ d))
     ∙ with_line [] title (a ++ (b ++ (c ++ d)))
 
--- seven lines, and others behind them
+-- seven lines, and others after them
 pub seven_joined : (t : List ℕ) (a b c d e f g : Line) (more : List Line) → t ++ ended a ++ ended b ++ ended c ++ ended d ++ ended e ++ ended f ++ ended g ++ text_of more ≡ t ++ text_of (a ∷ b ∷ c ∷ d ∷ e ∷ f ∷ g ∷ more)
 seven_joined t a b c d e f g more =
     with_line (t ++ ended a ++ ended b ++ ended c ++ ended d ++ ended e ++ ended f) g more

@@ -41,7 +41,7 @@ shifted n m (c ∷ cs) = ap (λ (k : ℕ). digits_value_after 10 k cs) (ring n m
     power : (n p : ℕ) → n * 10 * p ≡ n * (p * 10)
     power n p = omega arith
 
--- behind n, the digits of a number
+-- after n, the digits of a number
 pub behind_decimal : (n m : ℕ) → m < 10 ^ 64 → digits_behind n (decimal m) ≡ n * 10 ^ length (decimal m) + m
 behind_decimal n m h =
     let (numeral, value) = decimal_is_IsNumeral_wide m h in
@@ -50,7 +50,7 @@ behind_decimal n m h =
     plus_none : (n : ℕ) → n ≡ n + 0
     plus_none n = omega arith
 
--- behind n, zeros
+-- after n, zeros
 behind_zeros : (n j : ℕ) → digits_behind n (replicate j 48) ≡ n * 10 ^ j
 unfolding digits_behind
 behind_zeros n zero = one n
@@ -65,7 +65,7 @@ behind_zeros n (suc j) = ap (λ (k : ℕ). digits_behind k (replicate j 48)) (ze
     power : (n p : ℕ) → n * 10 * p ≡ n * (p * 10)
     power n p = omega arith
 
--- behind n, the padded digits of a part
+-- after n, the padded digits of a part
 pub behind_padded : (n k r : ℕ) → 0 < k → r < 10 ^ k → r < 10 ^ 64 → digits_behind n (padded k r) ≡ n * 10 ^ k + r
 behind_padded n k r some small wide =
     let short : length (decimal r) ≤ k = length-decimal-le_wide k r some small wide in
@@ -124,8 +124,8 @@ no_minus (c ∷ cs) rest some h = let (low, high, is) = is_digit c h.0 in other 
     other : (c : ℕ) → 48 ≤ c → (c == 45) ≡ false
     other c low = grind (arith, nat_tests)
 
-positive : (w : List ℕ) (n : ℕ) → is_negative w ≡ false → digits_behind 0 w ≡ n → value_of w ≡ pos n
-positive w n h e = rw (h, e) refl
+value_without_sign : (w : List ℕ) (n : ℕ) → is_negative w ≡ false → digits_behind 0 w ≡ n → value_of w ≡ pos n
+value_without_sign w n h e = rw (h, e) refl
 
 negative : (w : List ℕ) (n : ℕ) → is_negative w ≡ true → digits_behind 0 w ≡ suc n → value_of w ≡ negsuc n
 negative w n h e = rw (h, e) refl
@@ -143,12 +143,12 @@ behind_minus xs = refl
 negative_is : (k n : ℕ) (rest : List ℕ) → fixed_text k (negsuc n) ++ rest ≡ 45 ∷ (body k (suc n) ++ rest)
 negative_is k n rest = refl
 
--- what is read in a text with a point, and nothing with a digit behind it
+-- what is read in a text with a point, and nothing with a digit after it
 pub value_is : (k : ℕ) (z : ℤ) (rest : List ℕ) → 0 < k → nat_abs z < 10 ^ 64 → ((m : ℕ) → digits_behind m rest ≡ m) → value_of (fixed_text k z ++ rest) ≡ z
 value_is k (pos n) rest some small none =
     let (numeral, value) = decimal_is_IsNumeral_wide (n / 10 ^ k) (quotient_less n (10 ^ k) (10 ^ 64) (some_power k) small) in
     let minus : is_negative (body k n ++ rest) ≡ false = ap is_negative (regrouped (decimal (n / 10 ^ k)) (codes ".") (padded k (n % 10 ^ k)) rest) ∙ no_minus (decimal (n / 10 ^ k)) (codes "." ++ (padded k (n % 10 ^ k) ++ rest)) numeral.0 numeral.1 in
-    positive (body k n ++ rest) n minus (behind_body k n rest some small none)
+    value_without_sign (body k n ++ rest) n minus (behind_body k n rest some small none)
 value_is k (negsuc n) rest some small none =
     ap value_of (negative_is k n rest) ∙ negative (45 ∷ (body k (suc n) ++ rest)) n refl (behind_minus (body k (suc n) ++ rest) ∙ behind_body k (suc n) rest some small none)
 

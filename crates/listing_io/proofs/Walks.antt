@@ -48,10 +48,6 @@ each_stops read (BadLine n) front all others a s total e h so_far =
     sym so_far ∙ one
 each_stops read Memory front all others a s total e h so_far = tt
 
-pub none_in_front : {X S E : Type 0} (r : Result (List X × S) E) → with_front [] r ≡ r
-none_in_front (Ok x) = refl
-none_in_front (Err e) = refl
-
 pub next_of : {X : Type 0} (xs : List X) (i : ℕ) (d : X) → i < length xs → drop i xs ≡ get_or xs i d ∷ drop (i + 1) xs
 next_of xs i d lt = rw (add-one, drop-cons xs i d) refl
 

@@ -33,7 +33,7 @@ pub record Goes {A B E : Type 0} (r : Result A E) (f : A → Result B E) (y : B)
   pub first : r ≡ Ok item
   pub then_ : f item ≡ Ok y
 
-clash : {B E : Type 0} (e : E) (y : B) (r : Result B E) → r ≡ Err e → r ≡ Ok y → ⊥
+pub clash : {B E : Type 0} (e : E) (y : B) (r : Result B E) → r ≡ Err e → r ≡ Ok y → ⊥
 clash e y r h k = cc
 
 pub same_ok : {B E : Type 0} (x y : B) (r : Result B E) → r ≡ Ok x → r ≡ Ok y → x ≡ y
@@ -91,7 +91,7 @@ module _ (m : FlowModel) where
       let p = goes (pair_at (head_front m.grid c) head_form left) _ got h in
       (pair_row (head_front m.grid c) head_form left p.item p.first).row ∙ ap (λ (x : Bound × Left). head_line m.grid c x.0 ∷ x.1.lines) (same_ok (bound_of p.item.0, p.item.1) got _ refl p.then_)
 
-grouped : {X : Type 0} (a b c : List X) → (a ++ b) ++ c ≡ a ++ (b ++ c)
+pub grouped : {X : Type 0} (a b c : List X) → (a ++ b) ++ c ≡ a ++ (b ++ c)
 grouped a b c = append_assoc a b c
 
 pub heads_row : (m : FlowModel) (c k : ℕ) (left : Left) (got : List Bound × Left) → heads_at m c k left ≡ Ok got → left.lines ≡ head_lines m c got.0 ++ got.1.lines
