@@ -1,4 +1,4 @@
--- What a settler that sweeps answers.
+-- What a settler that sweeps returns.
 use Rattle.std.proofs.Common.{◌≡◌, ℕ, sym, subst, List}
 use Rattle.step_problem.specs.declared.heads.Bound.{Bound}
 use Rattle.step_problem.specs.Entries.{Entries}
@@ -31,7 +31,7 @@ module _ (p : List Entries) (b : Edges) (ok : IsProblem p) (barrier : IsBarrier 
     high = within.high (head_at b.ceiling) barrier.ceiling from.high rounds.high;
   }
 
-  -- words with a cell that can move, swept from a barrier's own, show that so many rounds do not settle
+  -- words with a cell that can move, swept from a barrier's own, show that this number of rounds does not settle
   pub sweeps_are_unfinished : (w next : List Bound) (k : ℕ) (o : OpenHeads) → AreOnTheWay p b w → StayOnTheWay p w next → AreWords p next → SettleWithin p k w next → o.words ≡ next → IsFirstOpen p next o.cell o.side → IsUnfinished p b k o
   sweeps_are_unfinished w next k o from way words within same first = record {
     cause = λ rounds. settled_stays p next o.cell o.side first.within (settles_both w next k from within rounds) first.moves;

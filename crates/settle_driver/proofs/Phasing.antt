@@ -1,4 +1,4 @@
--- Phases cover plain rounds, and reach the settled pair where so many rounds settle.
+-- Phases cover plain rounds, and reach the settled pair where that number of rounds settles.
 use Rattle.std.proofs.Common.{◌≡◌, ℕ, ◌+◌, ◌<◌, sym, subst, List, length, ◌≤ℤ◌}
 use Rattle.step_problem.specs.declared.heads.Bound.{Bound}
 use Rattle.step_problem.specs.Entries.{Entries}

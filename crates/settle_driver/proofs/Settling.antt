@@ -1,4 +1,4 @@
--- Sweeps cover plain rounds, and reach the settled pair where so many rounds settle.
+-- Sweeps cover plain rounds, and reach the settled pair where that number of rounds settles.
 use Rattle.std.proofs.Common.{ℕ, ◌+◌, ◌<◌, sym, subst, add-one, List, length, ℤ, ◌≤ℤ◌}
 use Rattle.step_problem.specs.declared.heads.Bound.{Bound}
 use Rattle.step_problem.specs.Entries.{Entries}
