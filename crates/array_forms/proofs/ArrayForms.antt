@@ -17,7 +17,7 @@ use Rattle.array_reader.specs.Lists.{free_rows}
 use Rattle.array_reader.specs.Control.{Control, constant, internal, named, keyword, format_at, constant_at, internal_at, named_at, of_keyword, control_at}
 use Rattle.array_reader.specs.declared.keyword.Keyword.{Keyword}
 use Rattle.array_reader.specs.declared.keyword.Keyword.TheVariants.{Constant, Internal, OpenClose, External, Other}
-use Rattle.array_reader.specs.Arrays.{values_of, array_at, without_line, reals, layer_of, real_layer, integer_layer, layers}
+use Rattle.array_reader.specs.Arrays.{values_of, array_at, without_line, reals, layer_array, real_layer, integer_layer, layers}
 use Rattle.array_forms.specs.Laws.{ArraysHaveForm}
 use Rattle.array_forms.proofs.Readings.{clash, goes, ends, appended_are}
 use Rattle.array_forms.proofs.NumberForms.{number_is, multiplied_is}
@@ -103,14 +103,14 @@ module _ {X : Type 0} (kind : Kind X) (P : X → Type 0) (form : (w : List ℕ) 
       let a = goes (array_at kind files file rows cols left) _ (xs, after) h in
       ends {E = Refusal} (λ (y : List X × Left). (length y.0 ≡ rows * cols) × All P y.0) (a.item.0.0, a.item.1) (xs, after) a.then_ (array_is rows cols left a.item.1 a.item.0 a.first)
 
-  pub layer_is : (rows cols : ℕ) (left after : Left) (xs : List X) → layer_of kind files file rows cols left ≡ Ok (xs, after) → (length xs ≡ rows * cols) × All P xs
-  unfolding layer_of
+  pub layer_is : (rows cols : ℕ) (left after : Left) (xs : List X) → layer_array kind files file rows cols left ≡ Ok (xs, after) → (length xs ≡ rows * cols) × All P xs
+  unfolding layer_array
   layer_is rows cols left after xs h = plain_is rows cols left after xs h
 
   pub layers_are : (count rows cols : ℕ) (left after : Left) (xs : List X) → layers kind files file count rows cols left ≡ Ok (xs, after) → (length xs ≡ count * (rows * cols)) × All P xs
   unfolding layers
   layers_are count rows cols left after xs h =
-      appended_are (layer_of kind files file rows cols) (rows * cols) P (λ s t ys k. layer_is rows cols s t ys k) count left after xs h
+      appended_are (layer_array kind files file rows cols) (rows * cols) P (λ s t ys k. layer_is rows cols s t ys k) count left after xs h
 
 abbrev Any : ℤ → Type 0
 Any z = Unit {0}
