@@ -82,7 +82,7 @@ module _ (m : FlowModel) (s : ℕ) (all : List ListedStep) where
     one = λ others. f.one (one_turn_more m s at old passes.problem passes.barrier valid (All-head (Contains (times m)) at rest f.left) f.grid passes.heads.posed w.heads (lands at old w moves) rest others);
   }
 
-  -- the step at hand stands first among the rest
+  -- the step at hand is the first of the rest
   pub at_step : (old : List Bound) (i : ℕ) (items : List TimeStep) (d : TimeStep) → items ≡ times m → AreListed m all → i < length items → IsSoFar old (drop i (times m)) (drop i all) → IsSoFar old (get_or items i d ∷ drop (i + 1) (times m)) (step_in all i ∷ drop (i + 1) all)
   at_step old i items d is listed below f =
       let P : List TimeStep → Type 0 = λ ts. IsSoFar old ts (step_in all i ∷ drop (i + 1) all) in

@@ -18,12 +18,7 @@ use Rattle.step_chain.specs.GridHeads.{bound_at}
 use Rattle.step_chain.proofs.Assembled.{constant_site}
 use Rattle.check_run.specs.Parts.{IsFirstUnreached, SiteReached}
 use Rattle.check_run.specs.Reaching.{ConstantsReach, IsConstantCell, IsFirstShort, ReachesAt, ReachesOn}
-
-same_bound : (a b : Bound) → (a.low ≡ b.low) × (a.high ≡ b.high) → a ≡ b
-same_bound a b (low, high) =
-    let by_low : ℤ → Bound = λ z. record { low = z; high = a.high } in
-    let by_high : ℤ → Bound = λ z. record { low = b.low; high = z } in
-    ap by_low low ∙ ap by_high high
+use Rattle.step_chain.proofs.OneStep.{same_bound}
 
 -- a site that isn't reached is that of a constant head
 is_given : (site : Site) (listed : Bound) (side : Side) → (SiteReached site listed side → ⊥) → (pair : Bound) × (site ≡ Given pair)

@@ -35,14 +35,7 @@ use Rattle.check_run.specs.Runs.{RunIsCertified, as_listed}
 use Rattle.check_run.specs.Steps.{Passes}
 use Rattle.check_run.specs.Verdicts.{Checks}
 use Rattle.check_run.proofs.Listed.{count_is}
-
-same_bounds : (xs ys : List Bound) → length xs ≡ length ys → ((c : ℕ) → c < length xs → bound_at xs c ≡ bound_at ys c) → xs ≡ ys
-same_bounds [] [] whole same = refl
-same_bounds [] (y ∷ ys) whole same = absurd (omega arith)
-same_bounds (x ∷ xs) [] whole same = absurd (omega arith)
-same_bounds (x ∷ xs) (y ∷ ys) whole same =
-    let rest = same_bounds xs ys (omega arith) (λ c within. same (suc c) (omega arith)) in
-    ap (λ b. b ∷ xs) (same 0 (omega arith)) ∙ ap (λ bs. y ∷ bs) rest
+use Rattle.step_chain.proofs.OneStep.{same_bounds}
 
 reaches : (side : Side) (listed pair : Bound) → (listed.low ≡ pair.low) × (listed.high ≡ pair.high) → ReachesOn side listed pair
 reaches Low listed pair same = omega (arith, ints, same.0)

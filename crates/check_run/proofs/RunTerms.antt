@@ -18,20 +18,13 @@ use Rattle.budget_bounds.specs.Terms.{◌>>=◌, all_terms, budget_of, is_small,
 use Rattle.budget_bounds.proofs.Caps.{parts_lo, parts_hi}
 use Rattle.problem_builder.proofs.ActiveCells.{and_true}
 use Rattle.listing_io.specs.Listed.{IsFlowPair}
-use Rattle.listing_io.proofs.Written.{same_ok}
-
-clash : {B E : Type 0} (e : E) (y : B) (r : Result B E) → r ≡ Err e → r ≡ Ok y → ⊥
-clash e y r h k = cc
+use Rattle.listing_io.proofs.Written.{same_ok, goes, clash}
 
 -- what goes on was not refused
 record Goes {A B E : Type 0} (r : Result A E) (f : A → Result B E) (y : B) : Type 0 where
   item : A
   first : r ≡ Ok item
   then_ : f item ≡ Ok y
-
-goes : {A B E : Type 0} (r : Result A E) (f : A → Result B E) (y : B) → (r >>= f) ≡ Ok y → Goes r f y
-goes (Ok x) f y h = record { item = x; first = refl; then_ = h }
-goes {A = A} {B = B} {E = E} (Err e) f y h = absurd (clash e y (Err e) refl h)
 
 tested : (test : Bool) (q x : TermPair) (e : NoBound) → (if test then Ok q else Err e) ≡ Ok x → (test ≡ true) × (x ≡ q)
 tested true q x e h = (refl, sym (same_ok q x (Ok q) refl h))
