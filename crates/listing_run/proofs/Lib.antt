@@ -5,3 +5,4 @@ pub mod Settled
 pub mod UnderWay
 pub mod Stopping
 pub mod Unique
+pub mod RestOfTimes

@@ -1,6 +1,6 @@
 -- A run over the steps, from one piece to the next, and its ends.
 use Rattle.std.proofs.Common.{◌≡◌, ℕ, List, [], ◌∷◌, ◌++◌, ◌+◌, ◌<◌, ◌≤◌, Some, subst, sym, ap, refl, ◌∙◌, drop, length, get_or, ℤ}
-use Rattle.std.proofs.lemmas.List.{append_assoc, append-nil, map-append, drop_more, drop_all}
+use Rattle.std.proofs.lemmas.List.{append_assoc, append-nil, map-append}
 use Rattle.decimal_input.specs.Fractions.{Fraction}
 use Rattle.outside.specs.Puts.{Put, taken}
 use Rattle.step_problem.specs.declared.heads.Bound.{Bound}
@@ -28,9 +28,10 @@ use Rattle.listing_run.specs.Bounding.{BoundAll, BoundsMoves, EnclosesHistories}
 use Rattle.listing_run.specs.Listing.{text_of, begun, listing, IsWhole, IsBroken, IsListing, IsCutListing}
 use Rattle.listing_run.specs.Ends.{FailsBy, IsWritten, IsStepEnd}
 use Rattle.listing_run.proofs.Zoned.{within_enclosed}
+use Rattle.listing_run.proofs.RestOfTimes.{first_of_rest, none_left}
 
 module _ (k : Task) where
-  -- where a history stands that has solved the steps so far: it lies within the old heads, solves the rest, and where the rest is bound, all of it is
+  -- where a history is that has solved the steps so far: it lies within the old heads, solves the rest, and where the rest is bound, all of it is
   pub record HasCome (old : List Bound) (rest : List TimeStep) (values : List Step) (d : ℕ) (Xs : List (ℕ → ℤ)) : Type 0 where
     pub before : ℕ → Fraction
     pub last : List (ℕ → ℤ)
@@ -131,16 +132,11 @@ module _ (k : Task) where
   pub ends_whole : (old : List Bound) (pending : Text) (puts tail last : List Put) (end : Status) → IsUnderWay old [] pending puts → tail ≡ taken pending ∷ [] → IsLast end_line status.Ok end last → IsRunOf end (puts ++ tail ++ last)
   ends_whole old pending puts tail last end u e h = ends (IsListing k) (IsCutListing k) (begun k u.values) pending end_line status.Ok end puts tail last u.here e (whole_listing old u.values u.solved) h
 
-  -- the step at hand stands first among the rest, and past the last one there is none
+  -- the step at hand is the first of the rest, and past the last one there is none
   pub at_head : (old : List Bound) (i : ℕ) (d : TimeStep) (pending : Text) (puts : List Put) (items : List TimeStep) → items ≡ times k.model → i < length items → IsUnderWay old (drop i (times k.model)) pending puts → IsUnderWay old (get_or items i d ∷ drop (i + 1) (times k.model)) pending puts
   at_head old i d pending puts items is below u =
-      let P : List TimeStep → Type 0 = λ rest. IsUnderWay old rest pending puts in
-      let Q : List TimeStep → Type 0 = λ ts. IsUnderWay old (get_or items i d ∷ drop (i + 1) ts) pending puts in
-      let R : List TimeStep → Type 0 = λ ts. IsUnderWay old (drop i ts) pending puts in
-      subst Q is (subst P (drop_more items i d below) (subst R (sym is) u))
+      first_of_rest (λ rest. IsUnderWay old rest pending puts) (times k.model) items i d is below u
 
   pub at_end : (old : List Bound) (i : ℕ) (pending : Text) (puts : List Put) (items : List TimeStep) → items ≡ times k.model → length items ≤ i → IsUnderWay old (drop i (times k.model)) pending puts → IsUnderWay old [] pending puts
   at_end old i pending puts items is above u =
-      let P : List TimeStep → Type 0 = λ rest. IsUnderWay old rest pending puts in
-      let R : List TimeStep → Type 0 = λ ts. IsUnderWay old (drop i ts) pending puts in
-      subst P (drop_all i items above) (subst R (sym is) u)
+      none_left (λ rest. IsUnderWay old rest pending puts) (times k.model) items i is above u

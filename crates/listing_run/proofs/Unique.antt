@@ -71,7 +71,7 @@ module _ (laws : Laws) (x : Solved) where
   same_large None a b h i = absurd h
   same_large (Some zones) a b h i = laws.large_one (faces_at zones x) a b h i
 
--- the first of the times at hand is one of the model's, and so are those behind it
+-- the first of the times at hand is one of the model's, and so are those after it
 pub record IsRest (all rest : List TimeStep) : Type 0 where
   pub each : (at : TimeStep) → Contains rest at → Contains all at
 

@@ -1,6 +1,5 @@
 -- The steps are counted, from one to the next, and how that ends.
 use Rattle.std.proofs.Common.{◌≡◌, ℕ, ◌+◌, ◌<◌, ◌≤◌, List, [], ◌∷◌, ◌++◌, length, drop, get_or, sym, subst, refl, ◌∙◌}
-use Rattle.std.proofs.lemmas.List.{drop_more, drop_all}
 use Rattle.step_problem.specs.declared.heads.Bound.{Bound}
 use Rattle.model_types.specs.declared.time_steps.TimeStep.{TimeStep}
 use Rattle.model_types.specs.Heads.{start_head}
@@ -19,18 +18,6 @@ use Rattle.listing_summary.specs.declared.summary.Summary.{Summary}
 use Rattle.listing_summary.specs.Counting.{nothing, stepped, stop_of}
 use Rattle.listing_summary.specs.Ends.{IsSummarized, StopsBy}
 use Rattle.listing_summary.proofs.Counts.{all_counted, all_counted_is, one_step}
-
--- the time at hand stands first among the rest, and past the last one there is none
-pub at_head : (P : List TimeStep → Type 0) (all items : List TimeStep) (i : ℕ) (d : TimeStep) → items ≡ all → i < length items → P (drop i all) → P (get_or items i d ∷ drop (i + 1) all)
-at_head P all items i d is below h =
-    let Q : List TimeStep → Type 0 = λ ts. P (get_or items i d ∷ drop (i + 1) ts) in
-    let R : List TimeStep → Type 0 = λ ts. P (drop i ts) in
-    subst Q is (subst P (drop_more items i d below) (subst R (sym is) h))
-
-pub at_end : (P : List TimeStep → Type 0) (all items : List TimeStep) (i : ℕ) → items ≡ all → length items ≤ i → P (drop i all) → P []
-at_end P all items i is above h =
-    let R : List TimeStep → Type 0 = λ ts. P (drop i ts) in
-    subst P (drop_all i items above) (subst R (sym is) h)
 
 -- what a step says of solutions, at a time and heads that are the same
 pub moves_at : (k : Task) (at time : TimeStep) (old heads : List Bound) (v : Step) → BoundsMoves k time heads v → time ≡ at → heads ≡ old → BoundsMoves k at old v

@@ -1,6 +1,6 @@
 -- The text of the steps so far, from one to the next, and how it ends.
 use Rattle.std.proofs.Common.{◌≡◌, ℕ, ◌+◌, ◌<◌, ◌≤◌, List, [], ◌∷◌, ◌++◌, length, drop, get_or, subst, sym, refl, ap, ◌∙◌, Result, Ok, Err, IfOk}
-use Rattle.std.proofs.lemmas.List.{append_assoc, append-nil, map-append, drop_more, drop_all}
+use Rattle.std.proofs.lemmas.List.{append_assoc, append-nil, map-append}
 use Rattle.std.specs.List.{concat}
 use Rattle.step_problem.specs.declared.heads.Bound.{Bound}
 use Rattle.model_types.specs.declared.time_steps.TimeStep.{TimeStep}
@@ -29,18 +29,6 @@ concat_append (x ∷ a) b = ap (λ t. x ++ t) (concat_append a b) ∙ sym (appen
 
 concat_one : (before : List Text) (line : Text) → concat (before ++ (line ∷ [])) ≡ concat before ++ line
 concat_one before line = concat_append before (line ∷ []) ∙ ap (λ t. concat before ++ t) (append-nil line)
-
--- the time at hand stands first among the rest, and past the last one there is none
-pub at_head : (P : List TimeStep → Type 0) (all items : List TimeStep) (i : ℕ) (d : TimeStep) → items ≡ all → i < length items → P (drop i all) → P (get_or items i d ∷ drop (i + 1) all)
-at_head P all items i d is below h =
-    let Q : List TimeStep → Type 0 = λ ts. P (get_or items i d ∷ drop (i + 1) ts) in
-    let R : List TimeStep → Type 0 = λ ts. P (drop i ts) in
-    subst Q is (subst P (drop_more items i d below) (subst R (sym is) h))
-
-pub at_end : (P : List TimeStep → Type 0) (all items : List TimeStep) (i : ℕ) → items ≡ all → length items ≤ i → P (drop i all) → P []
-at_end P all items i is above h =
-    let R : List TimeStep → Type 0 = λ ts. P (drop i ts) in
-    subst P (drop_all i items above) (subst R (sym is) h)
 
 pub if_ok : {X E : Type 0} (P Q : X → Type 0) (r : Result X E) → ((x : X) → P x → Q x) → IfOk r P → IfOk r Q
 if_ok P Q (Ok x) takes h = takes x h

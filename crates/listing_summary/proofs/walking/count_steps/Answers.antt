@@ -6,7 +6,8 @@ use Rattle.model_types.specs.Times.{times}
 use Rattle.listing_summary.specs.declared.summary.Summary.{Summary}
 use Rattle.listing_summary.specs.declared.stop.Stop.{Stop}
 use Rattle.listing_summary.specs.Ends.{StopsBy}
-use Rattle.listing_summary.proofs.Walks.{IsCounted, at_head, at_end, counted_at_first, counted_more, done, moves_at, stops}
+use Rattle.listing_run.proofs.RestOfTimes.{first_of_rest, none_left}
+use Rattle.listing_summary.proofs.Walks.{IsCounted, counted_at_first, counted_more, done, moves_at, stops}
 use Rattle.listing_summary.proofs.walking.count_steps.Goals as goal
 
 pub loop-at-init : goal.loop-at-init
@@ -32,14 +33,14 @@ count_step-requires-clause-range g c =
 pub returns-in-Err-clause-stop : goal.returns-in-Err-clause-stop
 returns-in-Err-clause-stop g c =
     let items = c.as_slice-at-items.ensures.value ∙ c.in-Ok.ensures.times in
-    let here = at_head (IsCounted c.args.task.now c.loop-at.old.items c.loop-at.summary) (times c.args.task.now.model) c.as_slice-at-items.result.now c.loop-at.at-index (record { period = 0; step = 0 }) items c.loop-at-test.true c.loop-at.invariant.counted in
+    let here = first_of_rest (IsCounted c.args.task.now c.loop-at.old.items c.loop-at.summary) (times c.args.task.now.model) c.as_slice-at-items.result.now c.loop-at.at-index (record { period = 0; step = 0 }) items c.loop-at-test.true c.loop-at.invariant.counted in
     let S : Stop → Type 0 = StopsBy c.args.task.now in
     subst S (sym c.stop_at.ensures) (stops c.args.task.now c.loop-at.old.items _ _ c.loop-at.summary c.in-Err.fault (search rules) here)
 
 pub loop-at-preserved : goal.loop-at-preserved
 loop-at-preserved g c =
     let items = c.as_slice-at-items.ensures.value ∙ c.in-Ok.ensures.times in
-    let here = at_head (IsCounted c.args.task.now c.loop-at.old.items c.loop-at.summary) (times c.args.task.now.model) c.as_slice-at-items.result.now c.loop-at.at-index (record { period = 0; step = 0 }) items c.loop-at-test.true c.loop-at.invariant.counted in
+    let here = first_of_rest (IsCounted c.args.task.now c.loop-at.old.items c.loop-at.summary) (times c.args.task.now.model) c.as_slice-at-items.result.now c.loop-at.at-index (record { period = 0; step = 0 }) items c.loop-at-test.true c.loop-at.invariant.counted in
     let whole : length c.as_slice-in-Ok-solve.result.now ≡ cell_count c.args.task.now.model.grid = ap (λ (hs : List Bound). length hs) c.as_slice-in-Ok-solve.ensures ∙ c.in-Ok-solve.ensures.heads.whole in
     record {
       ready = c.solve.ensures.ready;
@@ -55,4 +56,4 @@ loop-at-preserved g c =
 pub returns-clause-summary : goal.returns-clause-summary
 returns-clause-summary g c =
     let items = c.as_slice-at-items.ensures.value ∙ c.in-Ok.ensures.times in
-    done c.args.task.now c.loop-at.old.items c.loop-at.summary (at_end (IsCounted c.args.task.now c.loop-at.old.items c.loop-at.summary) (times c.args.task.now.model) c.as_slice-at-items.result.now c.loop-at.at-index items c.loop-at-test.false c.loop-at.invariant.counted)
+    done c.args.task.now c.loop-at.old.items c.loop-at.summary (none_left (IsCounted c.args.task.now c.loop-at.old.items c.loop-at.summary) (times c.args.task.now.model) c.as_slice-at-items.result.now c.loop-at.at-index items c.loop-at-test.false c.loop-at.invariant.counted)

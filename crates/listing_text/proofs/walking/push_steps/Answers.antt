@@ -3,7 +3,8 @@ use Rattle.model_types.specs.Times.{times}
 use Rattle.run_puts.specs.Lines.{Text}
 use Rattle.run_puts.specs.declared.status.Status.{Status}
 use Rattle.listing_text.specs.Texts.{IsPushed, EndsAt}
-use Rattle.listing_text.proofs.Walks.{IsText, at_head, at_end, if_ok, text_at_first, text_more, whole_text, broken_text}
+use Rattle.listing_run.proofs.RestOfTimes.{first_of_rest, none_left}
+use Rattle.listing_text.proofs.Walks.{IsText, if_ok, text_at_first, text_more, whole_text, broken_text}
 use Rattle.listing_text.proofs.walking.push_steps.Goals as goal
 
 pub loop-at-init : goal.loop-at-init
@@ -25,7 +26,7 @@ returns-in-Err g c =
     let text : Text = c.loop-at.text.items in
     let new : Text = c.push_fault.new.text.items in
     let items = c.as_slice-at-items.ensures.value ∙ c.in_ok-times.ensures.times in
-    let here = at_head (λ rest. IsText k start old rest text) (times k.model) c.as_slice-at-items.result.now c.loop-at.at-index (record { period = 0; step = 0 }) items c.loop-at-test.true c.loop-at.invariant.text in
+    let here = first_of_rest (λ rest. IsText k start old rest text) (times k.model) c.as_slice-at-items.result.now c.loop-at.at-index (record { period = 0; step = 0 }) items c.loop-at-test.true c.loop-at.invariant.text in
     if_ok _ (λ (end : Status). IsPushed k end start new) c.push_fault.result (λ end ends. broken_text k start old _ _ text new c.in-Err.fault end (search rules) ends here) c.push_fault.ensures
 
 pub loop-at-preserved : goal.loop-at-preserved
@@ -35,7 +36,7 @@ loop-at-preserved g c =
     let old = c.loop-at.old.items in
     let text : Text = c.loop-at.text.items in
     let items = c.as_slice-at-items.ensures.value ∙ c.in_ok-times.ensures.times in
-    let here = at_head (λ rest. IsText k start old rest text) (times k.model) c.as_slice-at-items.result.now c.loop-at.at-index (record { period = 0; step = 0 }) items c.loop-at-test.true c.loop-at.invariant.text in
+    let here = first_of_rest (λ rest. IsText k start old rest text) (times k.model) c.as_slice-at-items.result.now c.loop-at.at-index (record { period = 0; step = 0 }) items c.loop-at-test.true c.loop-at.invariant.text in
     record {
       ready = c.solve_text.ensures.ready;
       rounds = c.solve_text.ensures.rounds ∙ c.loop-at.invariant.rounds;
@@ -51,4 +52,4 @@ returns g c =
     let old = c.loop-at.old.items in
     let text : Text = c.loop-at.text.items in
     let items = c.as_slice-at-items.ensures.value ∙ c.in_ok-times.ensures.times in
-    whole_text k start old text c.extend_from_slice-2.new.self.items c.in_ok-extend_from_slice-2.ensures.items (at_end (λ rest. IsText k start old rest text) (times k.model) c.as_slice-at-items.result.now c.loop-at.at-index items c.loop-at-test.false c.loop-at.invariant.text)
+    whole_text k start old text c.extend_from_slice-2.new.self.items c.in_ok-extend_from_slice-2.ensures.items (none_left (λ rest. IsText k start old rest text) (times k.model) c.as_slice-at-items.result.now c.loop-at.at-index items c.loop-at-test.false c.loop-at.invariant.text)
