@@ -153,7 +153,7 @@ module _ (laws : Laws) (b : AskedBatch) (files : List File) where
         let D : BatchCase → Type 0 = λ case. Delivers case end puts in
         of_list (names_read files b) refl (subst V a.is a.valid) goes (subst D a.is (delivers (Rose n m) a.case end puts a.run goes))
 
--- how a batch ended: after a fault outside, for want of memory, or as its case defines
+-- how a batch ended: after a fault outside, because memory ran out, or as its case defines
 abbrev Ended : Type 0 → BatchCase → Status → Type 0
 Ended fault case end = fault ⊎ ((end ≡ status.Memory) ⊎ ((q : List Text) × BatchDefines case end q))
 

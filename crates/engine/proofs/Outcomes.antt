@@ -364,7 +364,7 @@ never_stopped k end q (inl e) y = let P : Status → Type 0 = λ s. IsListing k 
 never_stopped k end q (inr (inl e)) y = let P : Status → Type 0 = λ s. IsListing k s q in subst P e y
 never_stopped k end q (inr (inr e)) y = let P : Status → Type 0 = λ s. IsListing k s q in subst P e y
 
--- how a run ended: after a fault outside, for want of memory, or as its case defines
+-- how a run ended: after a fault outside, because memory ran out, or as its case defines
 abbrev Ended : Type 0 → Case → Status → Type 0
 Ended fault case end = fault ⊎ ((end ≡ status.Memory) ⊎ ((q : List Text) × Defines case end q))
 
@@ -426,7 +426,7 @@ ends_of k (Making seed size (Ok m)) end has =
     let P : Task → Type 0 = λ t. AreEndsOf t end (Making seed size (Ok m)) in
     subst P has (λ q y. listing_of seed size (made_task m) end q y)
 
--- of ends that are all Ok, a run's is Ok, unless a fault outside or want of memory came before
+-- of ends that are all Ok, a run's is Ok, unless there was a fault outside or memory ran out before
 comes_by : (fault : Type 0) (case : Case) (end : Status) → ((q : List Text) → Defines case end q → end ≡ status.Ok) → Ended fault case end → fault ⊎ ((end ≡ status.Ok) ⊎ (end ≡ status.Memory))
 comes_by fault case end through (inl f) = inl f
 comes_by fault case end through (inr (inl e)) = inr (inr e)
