@@ -1,6 +1,5 @@
 -- Bounds that reach as far, term by term.
-use Rattle.std.proofs.Common.{◌≡◌, ℕ, ◌+◌, ◌<◌, inl, inr, sym, ap, ◌∙◌, subst, arith, get_or, ℤ, ◌≤ℤ◌}
-use Rattle.std.proofs.lemmas.Int.{ints}
+use Rattle.std.proofs.Common.{◌≡◌, ℕ, ◌+◌, ◌<◌, inl, inr, sym, ap, ◌∙◌, subst, arith, get_or}
 use Rattle.step_problem.specs.declared.place.Dir.{Dir}
 use Rattle.step_problem.specs.declared.place.Dir.TheVariants.{In, Out}
 use Rattle.step_problem.specs.declared.place.Term.{Term}

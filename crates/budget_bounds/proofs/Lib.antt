@@ -3,3 +3,5 @@ pub mod Cells
 pub mod Enclosed
 pub mod Ordered
 pub mod Covering
+pub mod Testing
+pub mod Walking

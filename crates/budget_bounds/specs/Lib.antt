@@ -3,3 +3,4 @@ pub mod Terms
 pub mod Exact
 pub mod Covers
 pub mod Capped
+pub mod Tested

@@ -8,6 +8,7 @@ pub mod laws;
 pub mod pair;
 mod sums;
 mod terms;
+mod walk;
 
 pub use cover::first_uncovered;
 pub use pair::{Budget, TermPair};

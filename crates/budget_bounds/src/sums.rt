@@ -3,15 +3,13 @@ ghost use Rattle.std.specs.Prelude.{◌≡◌, ◌^◌, cond, map, All, pos, ◌
 ghost use Rattle.std.specs.Int.{int_max, int_min};
 ghost use Rattle.std.specs.List.{filter};
 ghost use Rattle.step_problem.specs.Conditions.{CellFits};
-ghost use Rattle.step_problem.specs.Heads.{lower_at, upper_at};
-ghost use Rattle.cell_relax.specs.Words.{AreWords};
 ghost use Rattle.budget_bounds.specs.Singles.{part, singles};
-ghost use Rattle.budget_bounds.specs.Terms.{parts, term_limit, term_pair};
+ghost use Rattle.budget_bounds.specs.Terms.{parts, term_limit};
 ghost use Rattle.budget_bounds.specs.Capped.{AreHeads, IsFlow, IsPart, IsSum, capped, plus_pair};
 
 use crate::flows::Entry;
 use crate::pair::TermPair;
-use step_problem::{Bound, Cell, Dir, Problem, Term};
+use step_problem::{Bound, Cell, Dir, Term};
 
 /// What a term, or the magnitudes of the flows between two zones, must stay below, in units of 10^-(s+9) flow units.
 pub const TERM_LIMIT: i128 = 1 << 126;
@@ -104,7 +102,14 @@ fn add_singles<E: Entry>(
     sum
 }
 
-fn add_cell(dir: Dir, term: Term, own: Bound, start: TermPair, cell: &Cell) -> TermPair
+/// A sum with what of a cell's flows of the term goes in, or out.
+pub(crate) fn add_entries(
+    dir: Dir,
+    term: Term,
+    own: Bound,
+    start: TermPair,
+    cell: &Cell,
+) -> TermPair
     requires own { AreHeads own }
     requires start { IsSum start }
     requires fits { CellFits cell.now }
@@ -121,17 +126,4 @@ fn add_cell(dir: Dir, term: Term, own: Bound, start: TermPair, cell: &Cell) -> T
         Term::Recharge => add_singles(dir, term, own, start, &cell.flows),
         Term::Et => add_singles(dir, term, own, start, &cell.evaps),
     }
-}
-
-/// The two sums of a term over all cells, each of which stops at 2^126.
-pub(crate) fn term_sum(p: &Problem, bounds: &[Bound], dir: Dir, term: Term) -> TermPair
-    requires { AreWords p.now bounds.now }
-    ensures value { result ≡ capped (term_pair p.now (lower_at bounds.now) (upper_at bounds.now) dir term) }
-    ensures sum { IsSum result }
-{
-    let mut sum = TermPair { lo: 0, hi: 0 };
-    for c in 0..p.len() {
-        sum = add_cell(dir, term, bounds[c], sum, p.cell(c));
-    }
-    sum
 }

@@ -14,7 +14,7 @@ const TRIALS: u32 = 4;
 
 const SWEEPS: u32 = 32;
 
-// A look tells the way of this many problems, one step after another.
+// A look says the way of this many problems, one step after another.
 const STEPS_OF_LOOK: u32 = 8;
 
 // From a guess by trials on one thread. Unfinished where none of them certifies the settled pair.

@@ -37,11 +37,13 @@ fn fixed(alloc: Global, input: &StepInput, cell: u32) -> Result<Vec<Fixed>, Allo
         (IsFixed input.now.model (widths_of input.now.tables) input.now.tables.digits input.now.at input.now.old cell)
         v.items (fixed_sources input.now.model input.now.at.period cell)) }
 {
-    let mut fixed = Vec::new(alloc);
-    push_some(&mut fixed, stored(input, cell))?;
+    let stored = stored(input, cell);
     let constants = constants(alloc, input, cell)?;
     let entries = input.entries(cell);
     let generals = generals(alloc, entries, cell, input.digits())?;
+    let count = usize::from(stored.is_some()) + constants.len() + generals.len();
+    let mut fixed = Vec::with_capacity(alloc, count)?;
+    push_some(&mut fixed, stored)?;
     fixed.extend_from_slice(&constants)?;
     fixed.extend_from_slice(&generals)?;
     Ok(fixed)
@@ -64,10 +66,11 @@ fn flows(alloc: Global, input: &StepInput, cell: u32) -> Result<Vec<Flow>, Alloc
     requires cell { IsVariableCell input.now cell }
     ensures { IfOk result (λ v. AllZip (IsFlow input.now.model input.now.tables.digits cell) v.items (flow_sources input.now.model input.now.at.period cell)) }
 {
-    let mut flows = Vec::new(alloc);
-    push_some(&mut flows, received(input, cell))?;
+    let received = received(input, cell);
     let entries = input.entries(cell);
     let wells = wells(alloc, entries, input.digits())?;
+    let mut flows = Vec::with_capacity(alloc, usize::from(received.is_some()) + wells.len())?;
+    push_some(&mut flows, received)?;
     flows.extend_from_slice(&wells)?;
     Ok(flows)
 }

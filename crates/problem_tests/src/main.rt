@@ -12,7 +12,8 @@
 //! LOW HIGH ..` (the zone and the bounds of the head of each cell of the grid, by cell number), `barrier`,
 //! `guess`, `sweeps ROUNDS`, `workers WORKERS TURNS ROUNDS`, `phases WORKERS TURNS ROUNDS` and `run WORKERS TURNS ROUNDS`
 //! (these with the passes of a gate), and `listed SWEEPS INDEX ..`. `spoilt WORKERS TURNS ROUNDS` settles as a run does and on
-//! one thread, where the bounds of `heads` are the guess. `watched WORKERS TURNS ROUNDS VIEWS LIMIT` settles
+//! one thread, where the bounds of `heads` are the guess; `twice WORKERS TURNS ROUNDS` settles two steps of the same problem,
+//! with the passes of the gate and the guesses at each. `watched WORKERS TURNS ROUNDS VIEWS LIMIT` settles
 //! by workers with VIEWS views in each phase, which stop at number LIMIT; `watched_run` as a run does; `pieces` puts the
 //! views to a sink whose put of number LIMIT fails. `heads LOW HIGH ..` are bounds of the cells, of which
 //! `check`, `budget` and `near TRIALS SWEEPS` (from the bounds, then by one round) are asked.
@@ -49,6 +50,7 @@ mod seats;
 mod settling;
 mod spoilt;
 mod systems;
+mod twice;
 mod watched;
 mod zoning;
 

@@ -8,6 +8,7 @@ use crate::passes::Passes;
 use crate::pieces::print_pieces;
 use crate::question::Question;
 use crate::spoilt::print_from_spoilt;
+use crate::twice::print_twice;
 use crate::watched::{Views, print_watched};
 use near_settler::NearSettler;
 use outside::FreeGate;
@@ -122,6 +123,7 @@ pub fn print_settled<R: Print + Threads + Sync>(
                     print_watched(rt, alloc, p, b, question, plan, views)
                 }
                 Question::Spoilt => print_from_spoilt(rt, alloc, p, b, plan, bounds),
+                Question::Twice => print_twice(rt, alloc, p, b, plan),
                 Question::Pieces => print_pieces(rt, alloc, p, b, plan, views),
                 _ => print_by_workers(rt, alloc, p, b, question, plan),
             };

@@ -13,11 +13,11 @@ use std::io;
 use std::thread::Threads;
 use step_problem::{Barrier, Bound, Problem, Settler};
 
-// Guesses these bounds, with an order that names no cell, and counts its guesses.
+/// Guesses these bounds, with an order that names no cell, and counts its guesses.
 #[derive(Drop)]
-struct Spoilt<'a> {
-    bounds: &'a [Bound],
-    guesses: &'a Cell<u32>,
+pub struct Spoilt<'a> {
+    pub bounds: &'a [Bound],
+    pub guesses: &'a Cell<u32>,
 }
 
 impl Guesser for Spoilt<'_> {

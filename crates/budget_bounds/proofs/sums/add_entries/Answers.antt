@@ -3,7 +3,7 @@ use Rattle.budget_bounds.specs.declared.pair.TermPair.{TermPair}
 use Rattle.budget_bounds.specs.Terms.{parts}
 use Rattle.budget_bounds.specs.Capped.{capped, plus_pair}
 use Rattle.budget_bounds.proofs.Cells.{storage_is, constant_is, general_is, wells_are, recharge_is, drains_are, rivers_are, evaps_are}
-use Rattle.budget_bounds.proofs.sums.add_cell.Goals as goal
+use Rattle.budget_bounds.proofs.sums.add_entries.Goals as goal
 
 pub returns-in-Storage-clause-value : goal.returns-in-Storage-clause-value
 returns-in-Storage-clause-value c =

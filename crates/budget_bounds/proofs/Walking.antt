@@ -1,0 +1,30 @@
+-- The sums of a term over the first cells.
+use Rattle.std.proofs.Common.{◌≡◌, ℕ, ◌+◌, ap, ◌∙◌, List, length, ℤ}
+use Rattle.step_problem.specs.declared.place.Dir.{Dir}
+use Rattle.step_problem.specs.declared.place.Term.{Term}
+use Rattle.step_problem.specs.Entries.{Entries, entries_at}
+use Rattle.cell_balance.specs.Components.{sum_below}
+use Rattle.budget_bounds.specs.declared.pair.TermPair.{TermPair}
+use Rattle.budget_bounds.specs.Singles.{singles}
+use Rattle.budget_bounds.specs.Terms.{parts, term_pair, no_pair}
+use Rattle.budget_bounds.specs.Capped.{capped, plus_pair}
+use Rattle.budget_bounds.proofs.Caps.{cell_more, no_cells, parts_lo, parts_hi}
+
+module _ (p : List Entries) (l u : ℕ → ℤ) (dir : Dir) (t : Term) where
+  -- the parts of cell c
+  abbrev pub cell_parts : ℕ → TermPair
+  cell_parts c = parts dir (singles t (entries_at p c) (l c) (u c))
+
+  -- the sum over the first n cells, which stops at the limit
+  abbrev pub sums_below : ℕ → TermPair
+  sums_below n = capped (record { lo = sum_below n (λ c. (cell_parts c).lo); hi = sum_below n (λ c. (cell_parts c).hi) })
+
+  pub none_below : (x : TermPair) → x ≡ no_pair → x ≡ sums_below 0
+  none_below x e = e ∙ no_cells cell_parts
+
+  pub one_more : (c : ℕ) (s next : TermPair) → s ≡ sums_below c → next ≡ capped (plus_pair s (cell_parts c)) → next ≡ sums_below (c + 1)
+  one_more c s next sum more = cell_more c cell_parts s next sum more (parts_lo dir _) (parts_hi dir _)
+
+  pub all_below : (n : ℕ) (x : TermPair) → n ≡ length p → x ≡ sums_below n → x ≡ capped (term_pair p l u dir t)
+  unfolding term_pair
+  all_below n x e sum = sum ∙ ap sums_below e

@@ -1,0 +1,15 @@
+use Rattle.std.proofs.Common.{◌≡◌}
+use Rattle.step_problem.specs.declared.place.Dir.TheVariants.{In, Out}
+use Rattle.step_problem.specs.declared.place.Term.{Term}
+use Rattle.step_problem.specs.Heads.{lower_at, upper_at}
+use Rattle.budget_bounds.specs.Tested.{AreSums, sum_of}
+use Rattle.budget_bounds.proofs.Walking.{sums_below}
+use Rattle.budget_bounds.proofs.walk.flow_sums.Given as goal
+
+abbrev pub invariant-loop-c : goal.invariant-loop-c
+invariant-loop-c l = record {
+  into : (t : Term) → sum_of l.into t ≡ sums_below l.fn.p (lower_at l.fn.bounds) (upper_at l.fn.bounds) In t l.c;
+  into_sums : AreSums l.into;
+  out : (t : Term) → sum_of l.out t ≡ sums_below l.fn.p (lower_at l.fn.bounds) (upper_at l.fn.bounds) Out t l.c;
+  out_sums : AreSums l.out;
+}
