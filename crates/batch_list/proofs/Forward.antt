@@ -1,7 +1,7 @@
 -- The names of a list are words of it.
 use Rattle.std.proofs.Common.{◌≡◌, ℕ, Bool, true, false, List, [], ◌∷◌, Option, Some, None, Result, Ok, Err, All, map, if◌then◌else◌}
 use Rattle.std.specs.Prelude.{IfOk, IfSome}
-use Rattle.core.specs.List.{filter_map, cons_option}
+use Rattle.std.specs.List.{cons_option}
 use Rattle.std.proofs.lemmas.List.Elements.{All-nil, All-cons, All-head, All-tail}
 use Rattle.outside.specs.Asking.{WordsMay, TextMay}
 use Rattle.outside.specs.Names.{folder_name}

@@ -1,27 +1,74 @@
 // The real folder, and a reader that fails.
+ghost use Rattle.std.specs.Prelude.{All};
+ghost use Rattle.outside.specs.Names.{folder_name};
+
 use crate::command::{first_word, number};
 use crate::folder_calls::found_text;
+use crate::given::given_name;
 use crate::pictures::plain_text;
-use outside::{Folder, RealFolder, read_whole};
-use std::alloc::Global;
+use outside::{Folder, RealFolder, folder_name, read_whole};
+use std::alloc::{AllocError, Global};
 use std::rt::Files;
 use std::{fs, io};
 
+// What a folder has under one of the names that were given to it. It is asked for no other.
+fn asked_text<F: Folder>(
+    alloc: Global,
+    folder: &mut F,
+    names: &[&str],
+    name: &str,
+    limit: u64,
+) -> Result<String, AllocError>
+    requires { All (λ n. F.may folder.old (folder_name n.now)) names.now }
+    ensures { All (λ n. F.may folder.new (folder_name n.now)) names.now }
+{
+    match given_name(names, name) {
+        None => String::from_str(alloc, " not given"),
+        Some(given) => {
+            let asked = folder_name(alloc, given)?;
+            found_text(alloc, folder.read_file(alloc, asked.as_str(), limit))
+        }
+    }
+}
+
+// Makes a file or a folder, or prints what the folder has under a name.
+fn disk_call<R: Files + Print, F: Folder>(
+    rt: &R,
+    alloc: Global,
+    folder: &mut F,
+    names: &[&str],
+    call: &str,
+) -> io::Result<()>
+    requires { All (λ n. F.may folder.old (folder_name n.now)) names.now }
+    ensures { All (λ n. F.may folder.new (folder_name n.now)) names.now }
+{
+    let (word, rest) = first_word(call);
+    let (name, more) = first_word(rest);
+    match word {
+        "write" => fs::write(rt, name, plain_text(alloc, more)?.as_str()),
+        "make" => fs::create_dir(rt, name),
+        _ => {
+            let text = asked_text(alloc, folder, names, name, number(more))?;
+            print!(rt; "{text};")
+        }
+    }
+}
+
 /// Makes files and folders, and prints the folder's answers.
 pub fn print_disk<R: Files + Print>(rt: &R, alloc: Global, calls: &str) -> io::Result<()> {
-    let mut folder = RealFolder::new(rt, alloc);
+    let names = [
+        "three.txt",
+        "four.txt",
+        "folder.txt",
+        "three.txt/a.txt",
+        "model.txt",
+        "later.txt",
+        "long.txt",
+    ];
+    let mut folder = RealFolder::new(rt, alloc, &names);
     print!(rt; "disk")?;
     for call in calls.split("; ") {
-        let (word, rest) = first_word(call);
-        let (name, more) = first_word(rest);
-        match word {
-            "write" => fs::write(rt, name, plain_text(alloc, more)?.as_str())?,
-            "make" => fs::create_dir(rt, name)?,
-            _ => {
-                let text = found_text(alloc, folder.read_file(alloc, name, number(more)))?;
-                print!(rt; "{text};")?;
-            }
-        }
+        disk_call(rt, alloc, &mut folder, &names, call)?;
     }
     println!(rt; "")
 }

@@ -39,6 +39,7 @@ mod call;
 mod command;
 mod disk;
 mod folder_calls;
+mod given;
 mod item_calls;
 mod line_calls;
 mod list_calls;

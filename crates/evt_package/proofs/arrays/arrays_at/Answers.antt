@@ -1,4 +1,5 @@
 use Rattle.std.proofs.Common.{◌∙◌}
+use Rattle.record_lines.proofs.Forward.{line_leaves}
 use Rattle.evt_package.proofs.PeriodForms.{arrays_read, depths_stand, layers_stand, rates_stand, surfaces_stand}
 use Rattle.evt_package.proofs.arrays.arrays_at.Goals as goal
 
@@ -16,3 +17,6 @@ returns-clause-depths g c = depths_stand _ _ _ _ _ c.in_ok-arrays_of.ensures.som
 
 pub returns-clause-layers : goal.returns-clause-layers
 returns-clause-layers g c = λ two. layers_stand _ _ _ _ _ c.in_ok-arrays_of.ensures.some c.in_ok-arrays.ensures (c.in_ok-flags.ensures.layer (c.is_layered.ensures ∙ two))
+
+pub arrays_of-requires-clause-lines : goal.arrays_of-requires-clause-lines
+arrays_of-requires-clause-lines g c = line_leaves _ _ _ _ _ c.in_ok-line.ensures c.requires.lines

@@ -1,0 +1,18 @@
+// The names that a folder was given.
+ghost use Rattle.std.specs.Prelude.{Contains, IfSome};
+ghost use Rattle.outside.specs.Names.{IsGoodName};
+
+use outside::is_good_name;
+
+/// The given name that is this one, if it is a file's name.
+pub fn given_name<'a>(names: &'a [&'a str], name: &str) -> Option<&'a str>
+    ensures given { IfSome result (Contains names.now) }
+    ensures good { IfSome result (λ n. IsGoodName n.now) }
+{
+    for given in names {
+        if *given == name && is_good_name(given.as_bytes()) {
+            return Some(given);
+        }
+    }
+    None
+}
