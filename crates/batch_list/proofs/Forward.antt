@@ -1,5 +1,5 @@
 -- The names of a list are words of it.
-use Rattle.std.proofs.Common.{◌≡◌, ℕ, Bool, true, false, List, [], ◌∷◌, Option, Some, None, Result, Ok, Err, All, map, if◌then◌else◌}
+use Rattle.std.proofs.Common.{◌≡◌, ℕ, Bool, true, false, List, [], ◌∷◌, Option, Some, None, Ok, All, if◌then◌else◌}
 use Rattle.std.specs.Prelude.{IfOk, IfSome}
 use Rattle.std.specs.List.{cons_option}
 use Rattle.std.proofs.lemmas.List.Elements.{All-nil, All-cons, All-head, All-tail}
@@ -10,7 +10,7 @@ use Rattle.outside.specs.declared.refusals.Refusal.{Refusal}
 use Rattle.record_lines.specs.Asking.{LineMay}
 use Rattle.record_lines.specs.Layout.{Numbered, left_from, is_comment}
 use Rattle.record_lines.proofs.Forward.{given, text_held}
-use Rattle.batch_list.specs.Names.{Entry, entry_at, first_entry, entry_of, entries, refusals, unless_refused, words_of, names_in}
+use Rattle.batch_list.specs.Names.{Entry, first_entry, entry_of, entries, refusals, unless_refused, words_of, names_in}
 
 module _ (may : List ℕ → Type 0) where
   first_held : (line : ℕ) (ws : List (List ℕ)) → WordsMay may ws → IfSome (first_entry line ws) (λ e. may (folder_name e.word))

@@ -1,5 +1,5 @@
 -- The line of the option leaves lines that it was given.
-use Rattle.std.proofs.Common.{◌≡◌, ℕ, ℤ, List, Result, Ok, All}
+use Rattle.std.proofs.Common.{◌≡◌, ℕ, ℤ, List, Ok, All}
 use Rattle.std.specs.Prelude.{IfOk}
 use Rattle.outside.specs.Words.{words}
 use Rattle.record_lines.specs.Asking.{LineMay, LinesMay}

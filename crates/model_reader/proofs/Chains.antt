@@ -1,7 +1,10 @@
 -- Readings one behind the other.
 use Rattle.std.proofs.Common.{◌≡◌, ℕ, List, Option, Some, refl, sym, subst, Result, Ok}
+use Rattle.outside.specs.Counts.{InputCounts}
 use Rattle.outside.specs.Files.{File}
+use Rattle.outside.specs.Folders.{ReadsOn}
 use Rattle.outside.specs.Inputs.{file_at}
+use Rattle.outside.specs.declared.traits.Folder.{Ghosts as FolderOf}
 use Rattle.outside.specs.declared.refusals.InputFault.{InputFault}
 use Rattle.outside.specs.declared.refusals.InputFault.TheVariants as input
 use Rattle.outside.specs.declared.refusals.TextFault.{TextFault}
@@ -11,6 +14,14 @@ use Rattle.outside.specs.Refusals.{input_fault}
 use Rattle.record_lines.specs.Reading.{◌>>=◌, Has, Stops, StopsText}
 use Rattle.model_types.specs.declared.model.FlowModel.{FlowModel}
 use Rattle.model_reader.specs.Stresses.{file_in, where_named}
+
+-- what two readings in a row do to their folder
+pub both_read : {S T U : Type 0} {F : FolderOf S} {old mid new : S} {x : T} {result : Result U InputFault} → ReadsOn F old mid (Ok x) → ReadsOn F mid new result → ReadsOn F old new result
+both_read {F = F} {new = new} {result = result} first second = record {
+  since = λ files agree. first.since files (second.since files agree);
+  counts = subst (λ n. InputCounts n (F.faults new) result) first.counts second.counts;
+  still = λ name h. second.still name (first.still name h);
+}
 
 -- what comes of the rest comes of the whole
 pub goes_on : {X Y T : Type 0} (view : T → Y) (answer : Result T InputFault) (r : Result X Refusal) (k : X → Result Y Refusal) (v : X) → r ≡ Ok v → Has view answer (k v) → Has view answer (r >>= k)

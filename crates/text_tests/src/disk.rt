@@ -54,6 +54,21 @@ fn disk_call<R: Files + Print, F: Folder>(
     }
 }
 
+// Makes files and folders, and prints the answers of a folder that these names were given to.
+fn print_calls<R: Files + Print>(
+    rt: &R,
+    alloc: Global,
+    names: &[&str],
+    calls: &str,
+) -> io::Result<()> {
+    let mut folder = RealFolder::new(rt, alloc, names);
+    print!(rt; "disk")?;
+    for call in calls.split("; ") {
+        disk_call(rt, alloc, &mut folder, names, call)?;
+    }
+    println!(rt; "")
+}
+
 /// Makes files and folders, and prints the folder's answers.
 pub fn print_disk<R: Files + Print>(rt: &R, alloc: Global, calls: &str) -> io::Result<()> {
     let names = [
@@ -65,12 +80,7 @@ pub fn print_disk<R: Files + Print>(rt: &R, alloc: Global, calls: &str) -> io::R
         "later.txt",
         "long.txt",
     ];
-    let mut folder = RealFolder::new(rt, alloc, &names);
-    print!(rt; "disk")?;
-    for call in calls.split("; ") {
-        disk_call(rt, alloc, &mut folder, &names, call)?;
-    }
-    println!(rt; "")
+    print_calls(rt, alloc, &names, calls)
 }
 
 // Gives two bytes at each of two reads, between which a signal interrupts one, and then fails.

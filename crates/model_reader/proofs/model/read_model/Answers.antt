@@ -1,7 +1,7 @@
 use Rattle.std.proofs.lemmas.Result.{err_from_is_err_and}
 use Rattle.std.proofs.Common.{Err}
 use Rattle.model_reader.specs.Model.{model_of}
-use Rattle.model_reader.proofs.Chains.{goes_on, stops_here}
+use Rattle.model_reader.proofs.Chains.{both_read, goes_on, stops_here}
 use Rattle.name_file.proofs.Forward.{file_named, names_still}
 use Rattle.model_reader.proofs.model.read_model.Goals as goal
 
@@ -15,7 +15,8 @@ returns-in_err-flow-clause-model g c = λ files agree.
     (stops_here c.in_err-flow.field-0.0 _ _ (rw c.needed-lpf.ensures.file at (c.in_err-flow.ensures.model files agree)))))
 
 pub returns-clause-folder : goal.returns-clause-folder
-returns-clause-folder g c = record { since = λ files agree. c.in_ok-begun.ensures.folder.since files (c.in_ok-basic.ensures.folder.since files (c.in_ok-flow.ensures.folder.since files (c.with_stresses.ensures.folder.since files agree))); counts = search rules; still = λ name h. c.with_stresses.ensures.folder.still name (c.in_ok-flow.ensures.folder.still name (c.in_ok-basic.ensures.folder.still name (c.in_ok-begun.ensures.folder.still name h))) }
+returns-clause-folder g c =
+    both_read c.in_ok-begun.ensures.folder (both_read c.in_ok-basic.ensures.folder (both_read c.in_ok-flow.ensures.folder c.with_stresses.ensures.folder))
 
 pub returns-clause-model : goal.returns-clause-model
 unfolding model_of

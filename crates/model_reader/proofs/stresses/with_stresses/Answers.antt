@@ -1,7 +1,7 @@
 use Rattle.std.proofs.lemmas.Result.{err_from_is_err_and}
 use Rattle.std.proofs.Common.{Err}
 use Rattle.model_reader.specs.Stresses.{with_stresses}
-use Rattle.model_reader.proofs.Chains.{goes_on, stops_here}
+use Rattle.model_reader.proofs.Chains.{both_read, goes_on, stops_here}
 use Rattle.name_file.proofs.Forward.{names_still}
 use Rattle.model_reader.proofs.stresses.with_stresses.Goals as goal
 
@@ -13,7 +13,9 @@ returns-in_err-with_recharge-clause-model g c = λ files agree.
     (stops_here c.in_err-with_recharge.field-0.0 _ _ (c.in_err-with_recharge.ensures.model files agree)))
 
 pub returns-in_err-with_given-clause-folder : goal.returns-in_err-with_given-clause-folder
-returns-in_err-with_given-clause-folder g c = record { since = λ files agree. c.in_ok-with_generals.ensures.folder.since files (c.in_ok-with_recharge.ensures.folder.since files (c.in_err-with_given.ensures.folder.since files agree)); counts = search rules; still = λ name h. c.in_err-with_given.ensures.folder.still name (c.in_ok-with_recharge.ensures.folder.still name (c.in_ok-with_generals.ensures.folder.still name h)) }
+returns-in_err-with_given-clause-folder g c =
+    let p = err_from_is_err_and c.from_residual-in_err-with_given.result c.from_residual-in_err-with_given.ensures.1 in
+    rw (p.1, p.2) (both_read c.in_ok-with_generals.ensures.folder (both_read c.in_ok-with_recharge.ensures.folder c.in_err-with_given.ensures.folder))
 
 pub returns-in_err-with_given-clause-model : goal.returns-in_err-with_given-clause-model
 unfolding with_stresses
@@ -25,7 +27,8 @@ returns-in_err-with_given-clause-model g c = λ files agree.
     (stops_here c.in_err-with_given.field-0.0 _ _ (c.in_err-with_given.ensures.model files agree))))
 
 pub returns-clause-folder : goal.returns-clause-folder
-returns-clause-folder g c = record { since = λ files agree. c.in_ok-with_generals.ensures.folder.since files (c.in_ok-with_recharge.ensures.folder.since files (c.in_ok-with_given.ensures.folder.since files (c.evt_in.ensures.folder.since files agree))); counts = search rules; still = λ name h. c.evt_in.ensures.folder.still name (c.in_ok-with_given.ensures.folder.still name (c.in_ok-with_recharge.ensures.folder.still name (c.in_ok-with_generals.ensures.folder.still name h))) }
+returns-clause-folder g c =
+    both_read c.in_ok-with_generals.ensures.folder (both_read c.in_ok-with_recharge.ensures.folder (both_read c.in_ok-with_given.ensures.folder c.evt_in.ensures.folder))
 
 pub returns-clause-model : goal.returns-clause-model
 unfolding with_stresses

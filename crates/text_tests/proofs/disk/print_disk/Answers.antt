@@ -1,5 +1,0 @@
-use Rattle.text_tests.proofs.Given.{given_named}
-use Rattle.text_tests.proofs.disk.print_disk.Goals as goal
-
-pub loop-call-init : goal.loop-call-init
-loop-call-init g c = rw c.new-folder.ensures (given_named (λ n. n.now) c.names _)
