@@ -1,11 +1,11 @@
 // Runs whose heads are viewed while they settle.
 use crate::bench::Bench;
-use crate::runs::print_text;
 use crate::views::{not_around, step_of};
 use std::alloc::{AllocError, Global};
 use std::sync::Wait;
 use std::thread::Threads;
 use std::{io, str};
+use test_decks::print_text;
 
 /// The views of a step: how many there are, with how many heads; how many of these are not around those that the
 /// listing has at that step, and in how many a view is wider than the one before.

@@ -1,6 +1,5 @@
 // A gate at which the watching seat waits for a worker, and a run with it.
 use crate::bench::words_of;
-use crate::runs::print_text;
 use crate::views::{head_of, heads_of};
 use engine::run;
 use outside::{Gate, MemFolder, MemSink};
@@ -9,6 +8,7 @@ use std::sync::Wait;
 use std::sync::atomic::{AtomicU64, Ordering};
 use std::thread::Threads;
 use std::{io, str};
+use test_decks::print_text;
 
 const SPINS: u32 = 1_000_000_000;
 

@@ -1,5 +1,4 @@
 // A deck, and what runs over its files put.
-use crate::deck::Deck;
 use engine::serve;
 use outside::{FreeGate, MemSink};
 use std::alloc::{AllocError, Global};
@@ -7,6 +6,7 @@ use std::io;
 use std::process::ExitCode;
 use std::sync::Wait;
 use std::thread::Threads;
+use test_decks::Deck;
 
 /// The files of a deck, the sinks of the next run, and what the last run put to each.
 #[derive(Drop)]

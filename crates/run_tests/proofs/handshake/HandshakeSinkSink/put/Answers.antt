@@ -1,6 +1,6 @@
 use Rattle.std.proofs.Common.{rules}
 use Rattle.outside.proofs.Putting.{PutsMake-more}
-use Rattle.deck_tests.proofs.handshake.HandshakeSinkSink.put.Goals as goal
+use Rattle.run_tests.proofs.handshake.HandshakeSinkSink.put.Goals as goal
 
 pub returns-then-begin_put-self-clause-leads : goal.returns-then-begin_put-self-clause-leads
 returns-then-begin_put-self-clause-leads c = λ start puts h. PutsMake-more puts _ _ _ _ h (search rules)

@@ -2,13 +2,13 @@
 use crate::bench::{Bench, words_of};
 use crate::handshake::{Handshake, HandshakeSink};
 use crate::meeting::MeetingGate;
-use crate::runs::print_text;
 use engine::{run, run_one};
 use outside::{FreeGate, Gate, MemFolder, MemSink, Sink};
 use std::alloc::Global;
 use std::sync::Wait;
 use std::thread::Threads;
 use std::{io, str};
+use test_decks::print_text;
 
 // Runs the words over the files as the program does, and returns the status.
 fn run_at<R: Threads + Wait + Sync, K: Sink + Send, G: Gate + Sync>(

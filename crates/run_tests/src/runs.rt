@@ -4,16 +4,9 @@ use std::alloc::Global;
 use std::sync::Wait;
 use std::thread::Threads;
 use std::{io, str};
+use test_decks::print_text;
 
-/// Prints a text, with a mark after it if its last line isn't ended.
-pub fn print_text(rt: &impl Print, bytes: &[u8]) -> io::Result<()> {
-    let text = str::from_utf8(bytes).unwrap_or("not a text");
-    if text.is_empty() || text.ends_with('\n') {
-        return print!(rt; "{text}");
-    }
-    println!(rt; "{text}<cut>")
-}
-
+/// Prints what a run puts, and what it puts to its side.
 pub fn print_run<R: Print + Threads + Wait + Sync>(
     rt: &R,
     alloc: Global,
