@@ -2,15 +2,15 @@
 ghost use Rattle.std.specs.Prelude.{◌≤◌};
 ghost use Rattle.model_types.specs.Valid.{IsModel};
 
-use crate::lines::{fault_line, verdict_line};
 use crate::models::read_model;
-use crate::runs::print_text;
+use crate::verdicts::{fault_line, verdict_line};
 use check_run::check_listing;
 use listing_io::read_listing;
 use model_types::FlowModel;
 use outside::{InputFault, MemFolder, good_name, read_input};
 use std::alloc::Global;
 use std::io;
+use test_decks::print_text;
 
 fn bytes_of(alloc: Global, folder: &mut MemFolder, name: &str) -> Result<Vec<u8>, InputFault> {
     match good_name(name.as_bytes()) {

@@ -1,15 +1,16 @@
 // The files of a made model.
-use crate::runs::print_text;
 use model_maker::make;
 use outside::{FILE_LIMIT, Folder, Found, MemFolder};
 use std::alloc::Global;
 use std::io;
+use test_decks::print_text;
 
 const NAMES: [&str; 7] = [
     "m.nam", "m.dis", "m.bas", "m.lpf", "m.wel", "m.riv", "m.rch",
 ];
 
-fn print_file(
+/// Prints a file of a folder.
+pub fn print_file(
     rt: &impl Print,
     alloc: Global,
     folder: &mut MemFolder,

@@ -83,7 +83,8 @@ fn print_lists(rt: &impl Print, model: &FlowModel) -> io::Result<()> {
     print_option(rt, "NEVTOP", model.nevtop)
 }
 
-fn print_fault(rt: &impl Print, fault: &InputFault) -> io::Result<()> {
+/// Prints why there is no model.
+pub fn print_fault(rt: &impl Print, fault: &InputFault) -> io::Result<()> {
     match fault {
         InputFault::Refused(refusal) => print_refusal(rt, refusal),
         InputFault::ReadFault => println!(rt; "ReadFault"),

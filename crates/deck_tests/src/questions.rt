@@ -1,0 +1,67 @@
+// The questions among the lines of decks.
+
+/// A question about a deck, with the names of its files.
+#[derive(Clone, Copy)]
+pub enum Question<'a> {
+    Read(&'a str),
+    Write(&'a str),
+    Zones(&'a str, &'a str),
+    Periods(&'a str),
+    Share(u32, u32),
+    Example(u64, u64),
+    Steps(&'a str, u32),
+    Check(&'a str, &'a str, u32),
+    Make(u32, u32),
+    Words(&'a str),
+}
+
+fn zones(rest: &str) -> Option<Question<'_>> {
+    let (name, zones) = rest.split_once(' ')?;
+    Some(Question::Zones(name, zones))
+}
+
+fn steps(rest: &str) -> Option<Question<'_>> {
+    let (name, digits) = rest.split_once(' ')?;
+    Some(Question::Steps(name, digits.parse::<u32>().ok()?))
+}
+
+fn check(rest: &str) -> Option<Question<'_>> {
+    let (name, more) = rest.split_once(' ')?;
+    let (listing, digits) = more.split_once(' ')?;
+    Some(Question::Check(name, listing, digits.parse::<u32>().ok()?))
+}
+
+fn make(rest: &str) -> Option<Question<'_>> {
+    let (seed, size) = rest.split_once(' ')?;
+    Some(Question::Make(seed.parse::<u32>().ok()?, size.parse::<u32>().ok()?))
+}
+
+fn share(rest: &str) -> Option<Question<'_>> {
+    let (entries, periods) = rest.split_once(' ')?;
+    Some(Question::Share(entries.parse::<u32>().ok()?, periods.parse::<u32>().ok()?))
+}
+
+fn example(rest: &str) -> Option<Question<'_>> {
+    let (hk, rate) = rest.split_once(' ')?;
+    Some(Question::Example(hk.parse::<u64>().ok()?, rate.parse::<u64>().ok()?))
+}
+
+impl<'a> Question<'a> {
+    /// The question of a line, if it is one.
+    pub fn of(line: &'a str) -> Option<Question<'a>> {
+        let (word, rest) = line.split_once(' ')?;
+        match word {
+            "@read" => Some(Question::Read(rest)),
+            "@write" => Some(Question::Write(rest)),
+            "@zones" => zones(rest),
+            "@periods" => Some(Question::Periods(rest)),
+            "@share" => share(rest),
+            "@example" => example(rest),
+            "@steps" => steps(rest),
+            "@check" => check(rest),
+            "@make" => make(rest),
+            "@words" => Some(Question::Words(rest)),
+            _ => None,
+        }
+    }
+}

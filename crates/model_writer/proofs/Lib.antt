@@ -1,0 +1,7 @@
+pub mod Texts
+pub mod Spaces
+pub mod Repeats
+pub mod Items
+pub mod Fixed
+pub mod Files
+pub mod ListTexts

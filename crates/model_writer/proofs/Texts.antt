@@ -1,0 +1,114 @@
+-- The bytes of lines, one after another.
+use Rattle.std.proofs.Common.{◌≡◌, ℕ, zero, suc, ◌+◌, ◌*◌, ◌≤◌, ◌<◌, List, [], ◌∷◌, ◌++◌, refl, sym, ap, ◌∙◌, length, take, drop, get_or, map, min, inl, inr, ◌-◌, arith, append_assoc}
+use Rattle.std.specs.List.{flat_map, range_with_len}
+use Rattle.std.proofs.lemmas.Grind.{flat_map-append}
+use Rattle.std.proofs.lemmas.List.{take_more, append-nil, map-append, map-id, drop_all}
+use Rattle.std.proofs.lemmas.List.FromFn.{map-range_with_len_more}
+use Rattle.array_text.specs.Lines.{Line, line_text, text}
+use Rattle.array_text.specs.Arrays.{row_line, row_lines, in_rows}
+use Rattle.model_writer.specs.Lines.{line_bytes, spaced}
+
+pub text-nil : text [] ≡ []
+unfolding text
+text-nil = refl
+
+pub text-cons : (line : Line) (ls : List Line) → text (line ∷ ls) ≡ line_bytes line ++ text ls
+unfolding text line_bytes
+text-cons line ls = sym (append_assoc (line_text line) (10 ∷ []) (text ls))
+
+pub text-append : (ls more : List Line) → text (ls ++ more) ≡ text ls ++ text more
+text-append [] more = ap (λ x. x ++ text more) (sym text-nil)
+text-append (line ∷ ls) more =
+    text-cons line (ls ++ more) ∙ ap (λ x. line_bytes line ++ x) (text-append ls more) ∙ sym (append_assoc (line_bytes line) (text ls) (text more))
+    ∙ ap (λ x. x ++ text more) (sym (text-cons line ls))
+
+pub ruleset texts = (text-nil, text-cons, text-append, append_assoc, append-nil)
+
+-- words with a blank after each, and then one more or the words of a line
+pub spaced-nil : {X : Type 0} (word : X → List ℕ) → spaced word [] ≡ []
+unfolding spaced
+spaced-nil word = refl
+
+pub spaced-cons : {X : Type 0} (word : X → List ℕ) (x : X) (xs : List X) → spaced word (x ∷ xs) ≡ word x ++ (32 ∷ spaced word xs)
+unfolding spaced
+spaced-cons word x xs = append_assoc (word x) (32 ∷ []) (flat_map (λ y. word y ++ (32 ∷ [])) xs)
+
+pub spaced_more : {X : Type 0} (word : X → List ℕ) (xs : List X) (i : ℕ) (d : X) → i < length xs →
+    spaced word (take (i + 1) xs) ≡ spaced word (take i xs) ++ (word (get_or xs i d) ++ (32 ∷ []))
+unfolding spaced
+spaced_more word xs i d lt =
+    ap (flat_map (λ y. word y ++ (32 ∷ []))) (take_more xs i d lt)
+    ∙ flat_map-append (λ y. word y ++ (32 ∷ [])) (take i xs) (get_or xs i d ∷ [])
+    ∙ ap (λ t. flat_map (λ y. word y ++ (32 ∷ [])) (take i xs) ++ t) (append-nil (word (get_or xs i d) ++ (32 ∷ [])))
+
+pub spaced_line : {X : Type 0} (word : X → List ℕ) (xs : List X) (w : List ℕ) (ws : Line) → line_bytes (map word xs ++ (w ∷ ws)) ≡ spaced word xs ++ line_bytes (w ∷ ws)
+unfolding line_bytes line_text spaced
+spaced_line word [] w ws = refl
+spaced_line word (x ∷ []) w ws = grind (arith, append_assoc)
+spaced_line word (x ∷ y ∷ xs) w ws = grind (arith, append_assoc, spaced_line word (y ∷ xs) w ws)
+
+pub line_of_none : {X : Type 0} (word : X → List ℕ) → line_bytes (row_line word []) ≡ 10 ∷ []
+unfolding line_bytes line_text row_line
+line_of_none word = refl
+
+pub line_of_last : {X : Type 0} (word : X → List ℕ) (front : List X) (x : X) → line_bytes (row_line word (front ++ (x ∷ []))) ≡ spaced word front ++ (word x ++ (10 ∷ []))
+unfolding line_bytes line_text row_line
+line_of_last word front x = ap line_bytes (map-append word front (x ∷ [])) ∙ spaced_line word front (word x) []
+
+-- rows, one after another
+pub no_rows : {X : Type 0} (word : X → List ℕ) (cols : ℕ) (xs : List X) → text (row_lines word 0 cols xs) ≡ []
+unfolding row_lines
+no_rows word cols xs = text-nil
+
+pub next_row : {X : Type 0} (word : X → List ℕ) (n cols : ℕ) (xs : List X) →
+    text (row_lines word (suc n) cols xs) ≡ line_bytes (row_line word (take cols xs)) ++ text (row_lines word n cols (drop cols xs))
+unfolding row_lines
+next_row word n cols xs = text-cons (row_line word (take cols xs)) (map (row_line word) (in_rows n cols (drop cols xs)))
+
+-- the numbers below k + 1
+range-more : (k : ℕ) → range_with_len 0 (k + 1) ≡ range_with_len 0 k ++ (k ∷ [])
+range-more k = sym (map-id (range_with_len 0 (k + 1))) ∙ map-range_with_len_more (λ x. x) 0 k k (omega arith) ∙ ap (λ xs. xs ++ (k ∷ [])) (map-id (range_with_len 0 k))
+
+pub drop_min : {X : Type 0} (n : ℕ) (xs : List X) → drop (min n (length xs)) xs ≡ drop n xs
+drop_min n xs = grind (arith, drop_all)
+
+-- parts, one after another
+pub no_parts : {X : Type 0} (f : X → List Line) → text (flat_map f []) ≡ []
+no_parts f = text-nil
+
+pub next_part : {X : Type 0} (f : X → List Line) (xs : List X) (x : X) → text (flat_map f (xs ++ (x ∷ []))) ≡ text (flat_map f xs) ++ text (f x)
+next_part f xs x = ap text (flat_map-append f xs (x ∷ []) ∙ ap (λ t. flat_map f xs ++ t) (append-nil (f x))) ∙ text-append (flat_map f xs) (f x)
+
+pub line_of_empty : {X : Type 0} (word : X → List ℕ) (xs : List X) → length xs ≡ 0 → line_bytes (row_line word xs) ≡ 10 ∷ []
+line_of_empty word [] h = line_of_none word
+line_of_empty word (x ∷ xs) h = absurd (let more : suc (length xs) ≡ 0 = h in omega arith)
+
+pub ruleset line_ends = (line_of_empty, line_of_last)
+
+pub ruleset spaces = (spaced-nil, spaced_more)
+
+pub rows_left : {X : Type 0} (word : X → List ℕ) (rows i cols : ℕ) (xs : List X) → i < rows →
+    text (row_lines word (rows - i) cols xs) ≡ line_bytes (row_line word (take cols xs)) ++ text (row_lines word (rows - (i + 1)) cols (drop cols xs))
+rows_left word rows i cols xs lt =
+    let more : rows - i ≡ suc (rows - (i + 1)) = omega arith in
+    ap (λ n. text (row_lines word n cols xs)) more ∙ next_row word (rows - (i + 1)) cols xs
+
+pub no_rows_left : {X : Type 0} (word : X → List ℕ) (rows i cols : ℕ) (xs : List X) → rows ≤ i → text (row_lines word (rows - i) cols xs) ≡ []
+no_rows_left word rows i cols xs le =
+    let none : rows - i ≡ 0 = omega arith in
+    ap (λ n. text (row_lines word n cols xs)) none ∙ no_rows word cols xs
+
+pub ruleset rows = (rows_left, no_rows_left)
+
+pub no_layers : (f : ℕ → List Line) → text (flat_map f (range_with_len 0 0)) ≡ []
+no_layers f = text-nil
+
+pub next_layer : (f : ℕ → List Line) (k : ℕ) → text (flat_map f (range_with_len 0 (k + 1))) ≡ text (flat_map f (range_with_len 0 k)) ++ text (f k)
+next_layer f k = ap (λ xs. text (flat_map f xs)) (range-more k) ∙ next_part f (range_with_len 0 k) k
+
+pub ruleset layers = (no_layers, next_layer)
+
+pub spaced_push : {X : Type 0} (word : X → List ℕ) (xs : List X) (x : X) → spaced word (xs ++ (x ∷ [])) ≡ spaced word xs ++ (word x ++ (32 ∷ []))
+unfolding spaced
+spaced_push word xs x =
+    flat_map-append (λ y. word y ++ (32 ∷ [])) xs (x ∷ []) ∙ ap (λ t. flat_map (λ y. word y ++ (32 ∷ [])) xs ++ t) (append-nil (word x ++ (32 ∷ [])))

@@ -1,0 +1,11 @@
+use Rattle.std.proofs.Common.{◌≡◌, ◌++◌}
+use Rattle.std.specs.List.{flat_map, range_with_len}
+use Rattle.array_text.specs.Arrays.{array_lines}
+use Rattle.array_text.specs.Lines.{text}
+use Rattle.package_text.specs.Layers.{layer_values}
+use Rattle.model_writer.proofs.arrays.push_layers.Given as goal
+
+abbrev pub invariant-loop-layer : goal.invariant-loop-layer
+invariant-loop-layer g l =
+    l.bytes.items ≡ l.fn.bytes.items
+    ++ text (flat_map (λ k. array_lines g.T.Word.word l.grid.rows l.grid.cols (layer_values l.grid k l.values)) (range_with_len 0 l.layer))

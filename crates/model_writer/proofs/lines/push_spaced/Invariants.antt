@@ -1,0 +1,6 @@
+use Rattle.std.proofs.Common.{◌≡◌, ◌++◌, take}
+use Rattle.model_writer.specs.Lines.{spaced}
+use Rattle.model_writer.proofs.lines.push_spaced.Given as goal
+
+abbrev pub invariant-loop-value : goal.invariant-loop-value
+invariant-loop-value g l = l.bytes.items ≡ l.fn.bytes.items ++ spaced g.T.Word.word (take l.value-index l.values)

@@ -1,0 +1,8 @@
+use Rattle.std.proofs.Common.{◌≡◌, ◌++◌, map, take}
+use Rattle.array_text.specs.Lines.{text}
+use Rattle.model_writer.specs.Lists.{entry_line}
+use Rattle.model_writer.proofs.lists.push_entries.Given as goal
+
+abbrev pub invariant-loop-entry : goal.invariant-loop-entry
+invariant-loop-entry g l =
+    l.bytes.items ≡ l.fn.bytes.items ++ text (map (entry_line l.grid g.E.ListEntry.number g.E.ListEntry.numbers) (take l.entry-index l.list))

@@ -1,0 +1,10 @@
+use Rattle.std.proofs.Common.{◌≡◌, ◌++◌, map, take}
+use Rattle.std.specs.List.{flat_map}
+use Rattle.array_text.specs.Lines.{text}
+use Rattle.stress_text.specs.Lists.{period_list}
+use Rattle.model_writer.proofs.lists.push_lists_of_periods.Given as goal
+
+abbrev pub invariant-loop-period : goal.invariant-loop-period
+invariant-loop-period g l =
+    l.bytes.items ≡ l.fn.bytes.items
+    ++ text (flat_map (period_list l.grid g.E.ListEntry.number g.E.ListEntry.numbers) (map (g.E.ListEntry.list l.kind) (take l.period-index l.periods)))

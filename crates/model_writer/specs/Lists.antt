@@ -1,0 +1,27 @@
+-- The lists of a stress period.
+use Rattle.std.specs.Prelude.{ℕ, List, []}
+use Rattle.decimal_input.specs.declared.dec.Dec.{Dec}
+use Rattle.model_types.specs.declared.grid.Grid.{Grid}
+use Rattle.array_text.specs.Lines.{Line}
+use Rattle.stress_text.specs.Lists.{list_item_6}
+use Rattle.model_types.specs.declared.entry.Entry.{Entry}
+use Rattle.model_types.specs.declared.period.Period.{Period}
+use Rattle.name_file.specs.declared.package.Package.{Package}
+use Rattle.name_file.specs.declared.package.Package.TheVariants.{Dis, Bas, Lpf, Wel, Riv, Drn, Ghb, Rch, Chd, Evt}
+
+-- the list of WEL, RIV, DRN or GHB; the other packages have none of this kind
+abbrev pub entries_in : Package → Period → List Entry
+entries_in Dis p = []
+entries_in Bas p = []
+entries_in Lpf p = []
+entries_in Wel p = p.wells
+entries_in Riv p = p.rivers
+entries_in Drn p = p.drains
+entries_in Ghb p = p.generals
+entries_in Rch p = []
+entries_in Chd p = []
+entries_in Evt p = []
+
+-- item 6 of an entry
+unfoldable pub entry_line : {E : Type 0} → Grid → (E → ℕ) → (E → List Dec) → E → Line
+entry_line g number numbers x = list_item_6 g (number x) (numbers x)

@@ -1,0 +1,110 @@
+// The files of RCH and EVT.
+ghost use Rattle.std.specs.Prelude.{◌≡◌, [], ◌∷◌, ◌++◌, codes, if◌then◌else◌, IfOk};
+ghost use Rattle.std.specs.List.{flat_map};
+ghost use Rattle.model_types.specs.Receivers.{is_int};
+ghost use Rattle.array_text.specs.Arrays.{integer_array};
+ghost use Rattle.array_text.specs.Lines.{text};
+ghost use Rattle.array_text.specs.Words.{integer_word};
+ghost use Rattle.area_text.specs.Areas.{evt_items, evt_lines, rch_items, rch_lines};
+ghost use Rattle.model_writer.specs.Lines.{line_bytes};
+
+use crate::arrays::push_array;
+use crate::words::Word;
+use model_types::{FlowModel, Grid, Period};
+use std::alloc::AllocError;
+
+fn is_two(option: i64) -> bool
+    ensures { result ≡ is_int option 2 }
+{
+    option == 2
+}
+
+/// Appends the line of NRCHOP or NEVTOP, and a 0.
+#[tactic(auto, using(crate::proofs::Texts::texts), unfolding(crate::specs::Lines::line_bytes, array_text::specs::Lines::line_text))]
+fn push_choice(bytes: &mut Vec<u8>, option: i64) -> Result<(), AllocError>
+    ensures { IfOk result (λ _. bytes.new.items ≡ bytes.old.items ++ line_bytes (integer_word option ∷ codes "0" ∷ [])) }
+{
+    option.push_to(bytes)?;
+    bytes.extend_from_slice(b" 0\n")
+}
+
+/// Appends IRCH or IEVT where NRCHOP or NEVTOP is 2.
+#[tactic(auto, using(crate::proofs::Texts::texts), unfolding(array_text::specs::Arrays::integer_array))]
+fn push_layers_if_two(
+    bytes: &mut Vec<u8>,
+    option: i64,
+    grid: &Grid,
+    values: &[i64],
+) -> Result<(), AllocError>
+    ensures { IfOk result (λ _. bytes.new.items ≡ bytes.old.items
+        ++ text (if is_int option 2 then integer_array grid.now.rows grid.now.cols values.now else [])) }
+{
+    if is_two(option) {
+        push_array(bytes, grid.rows, grid.cols, values)?;
+    }
+    Ok(())
+}
+
+#[tactic(auto, using(crate::proofs::Fixed::two_flags, crate::proofs::Texts::texts), unfolding(area_text::specs::Areas::rch_items, array_text::specs::Arrays::real_array))]
+fn push_recharge(bytes: &mut Vec<u8>, model: &FlowModel, period: &Period) -> Result<(), AllocError>
+    ensures { IfOk result (λ _. bytes.new.items ≡ bytes.old.items ++ text (rch_items model.now period.now)) }
+{
+    let grid = &model.grid;
+    bytes.extend_from_slice(b"1 1\n")?;
+    push_array(bytes, grid.rows, grid.cols, period.recharge.as_slice())?;
+    push_layers_if_two(bytes, model.nrchop, grid, period.irch.as_slice())
+}
+
+#[tactic(auto, using(crate::proofs::Items::items, crate::proofs::Texts::texts))]
+fn push_recharge_of_periods(bytes: &mut Vec<u8>, model: &FlowModel) -> Result<(), AllocError>
+    ensures { IfOk result (λ _. bytes.new.items ≡ bytes.old.items ++ text (flat_map (rch_items model.now) model.now.periods)) }
+{
+    for period in model.periods.as_slice() {
+        push_recharge(bytes, model, period)?;
+    }
+    Ok(())
+}
+
+/// Appends the file of RCH.
+#[tactic(auto, using(crate::proofs::Texts::texts), unfolding(area_text::specs::Areas::rch_lines, area_text::specs::Areas::rch_item_2))]
+pub(crate) fn push_rch(bytes: &mut Vec<u8>, model: &FlowModel) -> Result<(), AllocError>
+    ensures { IfOk result (λ _. bytes.new.items ≡ bytes.old.items ++ text (rch_lines model.now)) }
+{
+    push_choice(bytes, model.nrchop)?;
+    push_recharge_of_periods(bytes, model)
+}
+
+#[tactic(auto, using(crate::proofs::Fixed::four_flags, crate::proofs::Texts::texts), unfolding(area_text::specs::Areas::evt_items, array_text::specs::Arrays::real_array))]
+fn push_evaporation(
+    bytes: &mut Vec<u8>,
+    model: &FlowModel,
+    period: &Period,
+) -> Result<(), AllocError>
+    ensures { IfOk result (λ _. bytes.new.items ≡ bytes.old.items ++ text (evt_items model.now period.now)) }
+{
+    let grid = &model.grid;
+    bytes.extend_from_slice(b"1 1 1 1\n")?;
+    push_array(bytes, grid.rows, grid.cols, period.surf.as_slice())?;
+    push_array(bytes, grid.rows, grid.cols, period.evtr.as_slice())?;
+    push_array(bytes, grid.rows, grid.cols, period.exdp.as_slice())?;
+    push_layers_if_two(bytes, model.nevtop, grid, period.ievt.as_slice())
+}
+
+#[tactic(auto, using(crate::proofs::Items::items, crate::proofs::Texts::texts))]
+fn push_evaporation_of_periods(bytes: &mut Vec<u8>, model: &FlowModel) -> Result<(), AllocError>
+    ensures { IfOk result (λ _. bytes.new.items ≡ bytes.old.items ++ text (flat_map (evt_items model.now) model.now.periods)) }
+{
+    for period in model.periods.as_slice() {
+        push_evaporation(bytes, model, period)?;
+    }
+    Ok(())
+}
+
+/// Appends the file of EVT.
+#[tactic(auto, using(crate::proofs::Texts::texts), unfolding(area_text::specs::Areas::evt_lines, area_text::specs::Areas::evt_item_2))]
+pub(crate) fn push_evt(bytes: &mut Vec<u8>, model: &FlowModel) -> Result<(), AllocError>
+    ensures { IfOk result (λ _. bytes.new.items ≡ bytes.old.items ++ text (evt_lines model.now)) }
+{
+    push_choice(bytes, model.nevtop)?;
+    push_evaporation_of_periods(bytes, model)
+}

@@ -1,0 +1,18 @@
+//! A model, written as the files of a deck in MODFLOW's free format.
+#![tactic(auto)]
+
+mod areas;
+mod arrays;
+mod basics;
+mod deck;
+mod discretization;
+mod entries;
+mod flow;
+mod lines;
+mod lists;
+mod names;
+mod packages;
+mod words;
+
+pub use deck::write_model;
+pub use names::DeckNames;

@@ -1,0 +1,88 @@
+// The commands among the lines of decks.
+
+#[derive(Clone, Copy)]
+pub enum Command<'a> {
+    Deck,
+    PutFault(u64, u64),
+    SideFault(u64, u64),
+    Keep(&'a str),
+    Ask(Question<'a>),
+}
+
+/// A question on a run, with its words.
+#[derive(Clone, Copy)]
+pub enum Question<'a> {
+    Run(&'a str),
+    Ends(&'a str),
+    Watch(u32, &'a str),
+    Await(&'a str, &'a str),
+    Lack(u64, &'a str),
+    Meet(&'a str),
+    ShakeHands(u64, &'a str),
+}
+
+fn put_fault(rest: &str) -> Option<(u64, u64)> {
+    let (call, kept) = rest.split_once(' ')?;
+    Some((call.parse::<u64>().ok()?, kept.parse::<u64>().ok()?))
+}
+
+fn watch(rest: &str) -> Option<Question<'_>> {
+    let (views, words) = rest.split_once(' ')?;
+    Some(Question::Watch(views.parse::<u32>().ok()?, words))
+}
+
+fn awaiting(rest: &str) -> Option<Question<'_>> {
+    let (head, words) = rest.split_once(' ')?;
+    Some(Question::Await(head, words))
+}
+
+// The number of a put, and words.
+fn put_and_words(rest: &str) -> Option<(u64, &str)> {
+    let (put, words) = rest.split_once(' ')?;
+    Some((put.parse::<u64>().ok()?, words))
+}
+
+fn lack(rest: &str) -> Option<Question<'_>> {
+    let (put, words) = put_and_words(rest)?;
+    Some(Question::Lack(put, words))
+}
+
+fn shake_hands(rest: &str) -> Option<Question<'_>> {
+    let (put, words) = put_and_words(rest)?;
+    Some(Question::ShakeHands(put, words))
+}
+
+impl<'a> Question<'a> {
+    fn of(word: &str, rest: &'a str) -> Option<Question<'a>> {
+        match word {
+            "@run" => Some(Question::Run(rest)),
+            "@ends" => Some(Question::Ends(rest)),
+            "@watch" => watch(rest),
+            "@await" => awaiting(rest),
+            "@lack" => lack(rest),
+            "@meet" => Some(Question::Meet(rest)),
+            "@shake_hands" => shake_hands(rest),
+            _ => None,
+        }
+    }
+}
+
+impl<'a> Command<'a> {
+    /// The command of a line, if the line isn't one of a deck's files.
+    pub fn of(line: &'a str) -> Option<Command<'a>> {
+        let (word, rest) = line.split_once(' ')?;
+        match word {
+            "@deck" => Some(Command::Deck),
+            "@put_fault" => {
+                let (call, kept) = put_fault(rest)?;
+                Some(Command::PutFault(call, kept))
+            }
+            "@side_fault" => {
+                let (call, kept) = put_fault(rest)?;
+                Some(Command::SideFault(call, kept))
+            }
+            "@keep" => Some(Command::Keep(rest)),
+            _ => Some(Command::Ask(Question::of(word, rest)?)),
+        }
+    }
+}
