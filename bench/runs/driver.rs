@@ -1,5 +1,5 @@
-// Seconds of whole runs on models of several kinds: the program beside a plain one that settles by the same guess, and the
-// plain one by plain sweeps.
+// Seconds and memory of whole runs, beside a plain program that settles by the same guess, and by plain sweeps where these end.
+mod cases;
 #[path = "../shared/decks.rs"]
 mod decks;
 #[path = "../shared/packages.rs"]
@@ -7,100 +7,103 @@ mod packages;
 #[path = "../shared/processes.rs"]
 mod processes;
 
-use decks::{Deck, Kind};
-use packages::{Packages, Shape};
+use cases::{CASES, Model, Task, task_of};
 use processes::{Cost, least, run};
 use std::path::Path;
 
-const CASES: [&str; 13] = [
-    "sheet:32", "sheet:64", "sheet:128", "sheet:256", "contrasts:32", "contrasts:64", "layers:32", "rivers:64",
-    "rivers:128", "steps:32", "steps:64", "packages:64", "basin:64",
-];
-
-// A deck of a case.
-enum Model {
-    Plain(Deck),
-    Packages(Packages),
+struct Bench<'a> {
+    folder: &'a Path,
+    examples: &'a Path,
+    program: &'a str,
+    plain: &'a str,
 }
 
-impl Model {
-    fn side(&self) -> usize {
-        match self {
-            Model::Plain(deck) => deck.side,
-            Model::Packages(deck) => deck.side,
-        }
+impl Bench<'_> {
+    fn ours(&self, words: &[&str], to: &str) -> Cost {
+        run(self.program, words, self.folder, to)
     }
 
-    // Plain sweeps take too long where there are many cells, steps or great contrasts.
-    fn ends_by_sweeps(&self) -> bool {
-        matches!(self, Model::Plain(deck) if deck.side <= 64 && deck.kind != Kind::Heterogeneous)
+    fn theirs(&self, settler: &str, words: &[&str], to: &str) -> Cost {
+        run(self.plain, &[&["--settler", settler], words].concat(), self.folder, to)
     }
 
-    fn write(&self, folder: &Path) {
-        match self {
-            Model::Plain(deck) => deck.write(folder),
-            Model::Packages(deck) => deck.write(folder),
-        }
+    fn agree(&self, case: &str, names: [&str; 2]) {
+        let [ours, theirs] = names.map(|name| std::fs::read(self.folder.join(name)).expect("an answer"));
+        assert!(ours == theirs, "{case}: two answers");
     }
-}
 
-fn model_of(case: &str) -> Model {
-    let (kind, side) = case.split_once(':').expect("a kind and a side");
-    let side = side.parse().expect("a number of rows");
-    let steady = |kind: Kind| (kind, None);
-    let (kind, steps) = match kind {
-        "sheet" => steady(Kind::Sheet),
-        "contrasts" => steady(Kind::Heterogeneous),
-        "layers" => steady(Kind::Layers),
-        "rivers" => steady(Kind::RiverValley),
-        "steps" => (Kind::Sheet, Some((10, "0.00001"))),
-        "packages" => {
-            let shape = Shape::Sheet;
-            return Model::Packages(Packages { shape, side, periods: 1, steps: 100, days: 1000, growth: "1.02" });
+    // The least costs of both programs, by turns.
+    fn pair(&self, case: &str, repeats: usize, words: &[&str], alone: &[&str]) -> [Cost; 2] {
+        let own = [words, alone].concat();
+        let pairs: Vec<[Cost; 2]> =
+            (0..repeats).map(|_| [self.ours(&own, "ours"), self.theirs("whole", words, "theirs")]).collect();
+        self.agree(case, ["ours", "theirs"]);
+        [0, 1].map(|side| least(&pairs.iter().map(|pair| pair[side]).collect::<Vec<_>>()))
+    }
+
+    fn run(&self, case: &str, model: &Model) -> ([Cost; 2], Option<Cost>) {
+        model.write(self.examples, self.folder);
+        let repeats = if model.side < 128 { 3 } else { 1 };
+        let pair = self.pair(case, repeats, &["run", "m.nam"], &["--workers", "1"]);
+        let swept = model.ends_by_sweeps.then(|| self.theirs("sweep", &["run", "m.nam"], "swept"));
+        if swept.is_some() {
+            self.agree(case, ["ours", "swept"]);
         }
-        "basin" => {
-            let shape = Shape::Basin;
-            return Model::Packages(Packages { shape, side, periods: 36, steps: 1, days: 30, growth: "1" });
+        (pair, swept)
+    }
+
+    fn check(&self, case: &str, model: &Model) -> [Cost; 2] {
+        model.write(self.examples, self.folder);
+        self.ours(&["run", "m.nam"], "m.heads");
+        self.pair(case, 3, &["check", "m.nam", "m.heads"], &[])
+    }
+
+    // The seconds by the clock and of all processors, with one, two and four workers.
+    fn workers(&self, case: &str, model: &Model) {
+        model.write(self.examples, self.folder);
+        print!("{case:24}");
+        for workers in ["1", "2", "4"] {
+            let cost = self.ours(&["run", "m.nam", "--workers", workers], "ours");
+            print!("   {workers}: {:6.2} s of {:6.2} s", cost.clock, cost.seconds);
         }
-        _ => panic!("sheet, contrasts, layers, rivers, steps, packages or basin, and not {kind}"),
-    };
-    Model::Plain(Deck { kind, side, steps })
-}
+        println!();
+    }
 
-fn listed(folder: &Path, name: &str) -> Vec<u8> {
-    std::fs::read(folder.join(name)).expect("a listing")
-}
-
-fn report(folder: &Path, [program, plain]: [&str; 2], case: &str) {
-    let model = model_of(case);
-    model.write(folder);
-    let repeats = if model.side() < 128 { 3 } else { 1 };
-    let ours = || run(program, &["run", "m.nam", "--workers", "1"], folder, "ours");
-    let theirs = || run(plain, &["--settler", "whole", "run", "m.nam"], folder, "theirs");
-    let pairs: Vec<[Cost; 2]> = (0..repeats).map(|_| [ours(), theirs()]).collect();
-    assert!(listed(folder, "ours") == listed(folder, "theirs"), "{case}: two listings");
-    let [ours, theirs] = [0, 1].map(|side| least(&pairs.iter().map(|pair| pair[side]).collect::<Vec<_>>()).seconds);
-    let swept = model.ends_by_sweeps().then(|| {
-        let swept = run(plain, &["--settler", "sweep", "run", "m.nam"], folder, "swept");
-        assert!(listed(folder, "ours") == listed(folder, "swept"), "{case}: two listings");
-        swept.seconds
-    });
-    let ratio = ours / theirs;
-    print!("{case:14} {ours:9.2} s {theirs:9.2} s   ratio {ratio:6.2}");
-    match swept {
-        Some(swept) => println!(" {swept:9.2} s   ratio {:6.2}", ours / swept),
-        None => println!("         -"),
+    fn report(&self, case: &str, wanted: Option<f64>) {
+        let ([ours, theirs], swept) = match task_of(case) {
+            Task::Run(model) => self.run(case, &model),
+            Task::Check(model) => (self.check(case, &model), None),
+            Task::Make(side) => (self.pair(case, 3, &["make", "7", &side], &[]), None),
+            Task::Workers(model) => return self.workers(case, &model),
+        };
+        let ratio = ours.seconds / theirs.seconds;
+        print!("{case:24} {:7.2} {:7.2} {ratio:7.2}", ours.seconds, theirs.seconds);
+        match wanted {
+            Some(wanted) => print!(" {wanted:7.2} {}", if ratio <= wanted { "met " } else { "over" }),
+            None => print!("       -     "),
+        }
+        print!(" {:7.1} {:7.1}", ours.megabytes, theirs.megabytes);
+        match swept {
+            Some(swept) => println!(" {:8.2}", swept.seconds),
+            None => println!("        -"),
+        }
     }
 }
 
 fn main() {
     let words: Vec<String> = std::env::args().skip(1).collect();
-    let [folder, program, plain, cases @ ..] = &words[..] else {
-        panic!("the words are a folder, two programs and cases");
+    let [folder, examples, program, plain, cases @ ..] = &words[..] else {
+        panic!("the words are a folder, that of the examples, two programs and cases");
     };
-    let cases: Vec<&str> = cases.iter().map(String::as_str).collect();
-    println!("processor time of a run with one worker; of plain Rust by the same guess; of plain Rust by plain sweeps");
-    for case in if cases.is_empty() { &CASES[..] } else { &cases } {
-        report(Path::new(folder), [program, plain], case);
+    let bench = Bench { folder: Path::new(folder), examples: Path::new(examples), program, plain };
+    println!("seconds of processor time with one worker, those of plain Rust by the same guess, their ratio and the wanted one;");
+    println!("the most memory of both in MB; seconds of plain Rust by plain sweeps. Cases of workers: by the clock, of all processors");
+    for (case, wanted) in CASES {
+        if cases.is_empty() || cases.iter().any(|named| named == case) {
+            bench.report(case, wanted);
+        }
+    }
+    for case in cases.iter().filter(|named| CASES.iter().all(|(case, _)| case != named)) {
+        bench.report(case, None);
     }
 }

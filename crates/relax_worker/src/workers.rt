@@ -8,9 +8,13 @@ use head_table::{HeadSeat, HeadTable};
 use outside::Gate;
 use step_problem::Problem;
 
-// Consecutive tickets are this many cells apart, so workers rarely share a cache line. It is prime: n consecutive
-// tickets visit all n cells unless it divides n.
-const STRIDE: u64 = 509;
+// The place of a ticket's cell, before it is taken modulo the number of cells. A worker goes through the cells as they lie in memory,
+// an even number of cells from where the next worker does: so workers rarely share a cache line, and two that take tickets by turns
+// come to all cells.
+fn place(ticket: u64, worker: u32, cells: usize) -> u64 {
+    let distance = cells as u64 / 128 * 2;
+    ticket.wrapping_add(distance.wrapping_mul(worker as u64))
+}
 
 /// Makes `turns` turns, each at a claimed ticket and each after a pass of the gate.
 pub fn work<G: Gate>(table: &HeadTable, seat: &mut HeadSeat, worker: u32, turns: u32, gate: &G)
@@ -19,10 +23,11 @@ pub fn work<G: Gate>(table: &HeadTable, seat: &mut HeadSeat, worker: u32, turns:
     ensures seat { IsSeatOf table.now seat.new }
     ensures no_looser { AreNoLooser table.now.problem.now (seen_of seat.old) (seen_of seat.new) }
 {
+    let cells = table.problem().len();
     for number in 0..turns {
         gate.pass(worker, number);
         let ticket = table.claim(seat);
-        turn(table, seat, ticket.wrapping_mul(STRIDE));
+        turn(table, seat, place(ticket, worker, cells));
     }
 }
 
