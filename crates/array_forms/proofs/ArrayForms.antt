@@ -9,7 +9,8 @@ use Rattle.outside.specs.Inputs.{file_at}
 use Rattle.outside.specs.Refusals.{refusal}
 use Rattle.outside.specs.declared.codes.Code.TheVariants.{BadControl}
 use Rattle.outside.specs.declared.refusals.Refusal.{Refusal}
-use Rattle.record_lines.specs.Layout.{Left, words, left_from}
+use Rattle.outside.specs.Words.{words}
+use Rattle.record_lines.specs.Layout.{Left, left_from}
 use Rattle.record_lines.specs.Items.{line_at, word_at, name_at}
 use Rattle.array_reader.specs.Items.{at_line, number_at}
 use Rattle.array_reader.specs.Kinds.{Kind, real, whole, multiplied}
