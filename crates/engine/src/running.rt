@@ -54,7 +54,10 @@ pub fn run_one<R: Threads + Sync, F: Folder, K: Sink + Send, W: Sink + Send, G: 
     side: &mut W,
     gate: &G,
 ) -> Status
+    // Each file that the words name may be asked for. The folder is asked for no others but those that words of its files
+    // name, since `read_file` requires that.
     requires may { WordsMay (F.may folder.old) (files_named (map (λ w. w.now) words.now)) }
+
     // What is put to `out`, for every status, with the status' cause, by the files that agree with all results of the
     // folder, or by any files.
     ensures puts { (files : Option (List File)) → IfSome files (F.agrees folder.new) →

@@ -34,4 +34,4 @@ returns-clause-reads g c =
     λ files agree. names_are b (search rules) files c.in_ok-bytes.bytes.items c.in_ok-names.names (of_known files c.in_ok-bytes.ensures.reads agree) (rw c.as_slice.ensures.value at c.in_ok-names.ensures.names)
 
 pub returns-clause-may : goal.returns-clause-may
-returns-clause-may g c = names_named _ _ _ _ c.in_ok-names.ensures.names (rw c.as_slice.ensures.value c.in_ok-bytes.ensures.words)
+returns-clause-may g c = names_named _ _ c.in_ok-bytes.bytes.items c.in_ok-names.names.items (rw c.as_slice.ensures.value at c.in_ok-names.ensures.names) c.in_ok-bytes.ensures.words

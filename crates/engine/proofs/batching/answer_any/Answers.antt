@@ -36,5 +36,5 @@ pub returns-in-Err-clause-side : goal.returns-in-Err-clause-side
 returns-in-Err-clause-side g c = quiet g.W.Sink.leads c.args.side.now (views_in (map (λ w. w.now) c.args.words.now)) (((g.met.W.Sink g.world.𝓛 g.world.𝓜 g.world.𝓡 ((λ s x. x), (λ x. x), (λ x. x), λ x. x))).rests c.args.side.now)
 
 pub put_batch-requires-clause-may : goal.put_batch-requires-clause-may
-put_batch-requires-clause-may g c =
-    batch_named (g.F.Folder.may c.args.folder.now) (map (λ w. w.now) c.args.words.now) c.requires (batch_by c.in-Ok-Some.asked) (sym (rw c.in-Ok-Some.field-0-is at c.in-Ok-Some.ensures.is))
+put_batch-requires-clause-may g c = λ κs outlives.
+    batch_named (g.F.Folder.may c.args.folder.now) (map (λ w. w.now) c.args.words.now) c.requires.may (batch_by c.in-Ok-Some.asked) (sym (rw c.in-Ok-Some.field-0-is at c.in-Ok-Some.ensures.is))

@@ -89,21 +89,21 @@ returns-in-Some-Run-clause-side g c =
     subst P (sym (views_by words _ _ _ c.in-Ok.ensures.order c.in-Some-Run.field-0-is c.in-Some-Run.ensures.views)) c.list.ensures.side
 
 pub list-requires-clause-name : goal.list-requires-clause-name
-list-requires-clause-name g c =
+list-requires-clause-name g c = λ κs outlives.
     let words : List (List ℕ) = map (λ w. w.now) c.args.words.now in
-    (run_named (g.F.Folder.may c.args.folder.now) words c.requires (asked_of c.in-Some-Run.asked) (asked_by words _ (Some (Run (asked_of c.in-Some-Run.asked))) c.in-Ok.ensures.order (by_variant _ _ _ c.in-Some-Run.field-0-is c.in-Some-Run.ensures.is))).0
+    (run_named (g.F.Folder.may c.args.folder.now) words c.requires.may (asked_of c.in-Some-Run.asked) (asked_by words _ (Some (Run (asked_of c.in-Some-Run.asked))) c.in-Ok.ensures.order (by_variant _ _ _ c.in-Some-Run.field-0-is c.in-Some-Run.ensures.is))).0
 
 pub list-requires-clause-zones : goal.list-requires-clause-zones
-list-requires-clause-zones g c =
+list-requires-clause-zones g c = λ κs outlives.
     let words : List (List ℕ) = map (λ w. w.now) c.args.words.now in
-    (run_named (g.F.Folder.may c.args.folder.now) words c.requires (asked_of c.in-Some-Run.asked) (asked_by words _ (Some (Run (asked_of c.in-Some-Run.asked))) c.in-Ok.ensures.order (by_variant _ _ _ c.in-Some-Run.field-0-is c.in-Some-Run.ensures.is))).1
+    (run_named (g.F.Folder.may c.args.folder.now) words c.requires.may (asked_of c.in-Some-Run.asked) (asked_by words _ (Some (Run (asked_of c.in-Some-Run.asked))) c.in-Ok.ensures.order (by_variant _ _ _ c.in-Some-Run.field-0-is c.in-Some-Run.ensures.is))).1
 
 pub check-requires-clause-name : goal.check-requires-clause-name
 check-requires-clause-name g c =
     let words : List (List ℕ) = map (λ w. w.now) c.args.words.now in
-    (check_named (g.F.Folder.may c.args.folder.now) words c.requires (check_of c.in-Some-Check.asked) (asked_by words _ (Some (Check (check_of c.in-Some-Check.asked))) c.in-Ok.ensures.order (by_variant _ _ _ c.in-Some-Check.field-0-is c.in-Some-Check.ensures.is))).0
+    (check_named (g.F.Folder.may c.args.folder.now) words c.requires.may (check_of c.in-Some-Check.asked) (asked_by words _ (Some (Check (check_of c.in-Some-Check.asked))) c.in-Ok.ensures.order (by_variant _ _ _ c.in-Some-Check.field-0-is c.in-Some-Check.ensures.is))).0
 
 pub check-requires-clause-listing : goal.check-requires-clause-listing
 check-requires-clause-listing g c =
     let words : List (List ℕ) = map (λ w. w.now) c.args.words.now in
-    (check_named (g.F.Folder.may c.args.folder.now) words c.requires (check_of c.in-Some-Check.asked) (asked_by words _ (Some (Check (check_of c.in-Some-Check.asked))) c.in-Ok.ensures.order (by_variant _ _ _ c.in-Some-Check.field-0-is c.in-Some-Check.ensures.is))).1
+    (check_named (g.F.Folder.may c.args.folder.now) words c.requires.may (check_of c.in-Some-Check.asked) (asked_by words _ (Some (Check (check_of c.in-Some-Check.asked))) c.in-Ok.ensures.order (by_variant _ _ _ c.in-Some-Check.field-0-is c.in-Some-Check.ensures.is))).1

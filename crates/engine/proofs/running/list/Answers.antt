@@ -30,4 +30,4 @@ pub returns-in-Err-clause-side : goal.returns-in-Err-clause-side
 returns-in-Err-clause-side g c = quiet g.W.Sink.leads c.args.side.now c.args.asked.watch (((g.met.W.Sink g.world.𝓛 g.world.𝓜 g.world.𝓡 ((λ s x. x), (λ x. x), (λ x. x), λ x. x))).rests c.args.side.now)
 
 pub list_model-requires-clause-zones : goal.list_model-requires-clause-zones
-list_model-requires-clause-zones g c = zones_still _ _ (asked_of c.args.asked).zones c.in-Ok.ensures.folder.still c.requires.zones
+list_model-requires-clause-zones g c = λ κs outlives. zones_still _ _ (asked_of c.args.asked).zones c.in-Ok.ensures.folder.still c.requires.zones
