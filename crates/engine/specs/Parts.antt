@@ -22,7 +22,7 @@ use Rattle.listing_summary.specs.declared.summary.Summary.{Summary}
 use Rattle.listing_summary.specs.Texts.{summary_text}
 use Rattle.run_puts.specs.Ends.{IsEnd, IsLast, IsWanting}
 use Rattle.run_puts.specs.Lines.{Text, read_fault_line}
-use Rattle.run_puts.specs.Runs.{IsRun}
+use Rattle.run_puts.specs.Runs.{IsRun, NeverCut}
 use Rattle.run_puts.specs.declared.status.Status.{Status}
 use Rattle.run_puts.specs.declared.status.Status.TheVariants as status
 use Rattle.check_run.specs.declared.verdict.ListingVerdict.{ListingVerdict}

@@ -7,6 +7,7 @@ use Rattle.step_problem.specs.declared.place.NoBound.{NoBound}
 use Rattle.model_types.specs.declared.model.FlowModel.{FlowModel}
 use Rattle.model_types.specs.declared.time_steps.TimeStep.{TimeStep}
 use Rattle.listing_io.specs.declared.listing.ListedStep.{ListedStep}
+use Rattle.run_puts.specs.Agreement.{IsUnfinished}
 use Rattle.run_puts.specs.Lines.{Text}
 use Rattle.run_puts.specs.Runs.{IsRun}
 use Rattle.run_puts.specs.declared.status.Status.{Status}
