@@ -14,9 +14,6 @@ const TRIALS: u32 = 4;
 
 const SWEEPS: u32 = 32;
 
-// A look says the way of this many problems, one step after another.
-const STEPS_OF_LOOK: u32 = 8;
-
 // From a guess by trials on one thread. Unfinished where none of them certifies the settled pair.
 fn settle_by_guess<S: Guesser>(
     guesser: &S,
@@ -38,21 +35,12 @@ fn settle_by_guess<S: Guesser>(
     settle_near(&mut trial, &mut no_rounds, alloc, p, b, near, TRIALS)
 }
 
-/// How a problem begins: with a look, by a guess, or by short phases, since it is taken to settle soon.
-#[derive(Clone, Copy)]
-pub(crate) enum Way {
-    Look,
-    Guess,
-    Soon,
-}
-
 // What a settler keeps from one step of a run to the next, so that a step takes less time.
 #[derive(Drop)]
 struct Course {
     kept: Kept,
-    // The way of the last problem, and the problems that are left before the next look.
-    way: Way,
-    left: u32,
+    // Whether a guess settled the last problem.
+    is_guessed: bool,
 }
 
 impl Course {
@@ -60,23 +48,8 @@ impl Course {
     fn new() -> Course {
         Course {
             kept: Kept::new(),
-            way: Way::Look,
-            left: 0,
+            is_guessed: false,
         }
-    }
-
-    // How the next problem begins.
-    fn next_way(&self) -> Way {
-        if self.left == 0 { Way::Look } else { self.way }
-    }
-
-    // A problem was settled in this way.
-    fn count(&mut self, way: Way) {
-        self.way = way;
-        self.left = match self.left {
-            0 => STEPS_OF_LOOK - 1,
-            left => left - 1,
-        };
     }
 
     // From a guess by trials on one thread. Unfinished where none of them certifies the settled pair; then nothing is kept.
@@ -91,11 +64,10 @@ impl Course {
         ensures { Settles p.now b.now 0 result }
     {
         let settled = settle_by_guess(guesser, alloc, p, b, &mut self.kept);
-        if settled.is_err() {
-            *self = Course::new();
-            return settled;
+        self.is_guessed = settled.is_ok();
+        if !self.is_guessed {
+            self.kept = Kept::new();
         }
-        self.count(Way::Guess);
         settled
     }
 }
@@ -116,19 +88,12 @@ impl<S: Guesser> Guessing<S> {
         }
     }
 
-    /// How the next problem begins.
-    pub(crate) fn next_way(&self) -> Way {
+    /// Whether a guess settled the last problem.
+    pub(crate) fn has_guessed(&self) -> bool {
         let course = self.course.replace(Course::new());
-        let way = course.next_way();
+        let is_guessed = course.is_guessed;
         self.course.set(course);
-        way
-    }
-
-    /// A problem was settled soon.
-    pub(crate) fn count_soon(&self) {
-        let mut course = self.course.replace(Course::new());
-        course.count(Way::Soon);
-        self.course.set(course);
+        is_guessed
     }
 
     /// From a guess by trials on one thread. Unfinished where none of them certifies the settled pair; then nothing is kept.

@@ -5,7 +5,7 @@ ghost use Rattle.step_problem.specs.Settling.{Settles};
 ghost use Rattle.settle_driver.specs.Phases.{IsPlan};
 ghost use Rattle.settle_driver.specs.Views.{AddsPhases, had_memory};
 
-use crate::first::{has_few_cells, look, phases_of_few};
+use crate::first::{first_phases, first_plan};
 use crate::guesser::Guesser;
 use crate::settling::NearSettler;
 use outside::Gate;
@@ -96,19 +96,11 @@ impl<'a, R: Threads + Sync, G: Gate + Sync, S: Guesser> NearSettler<'a, R, G, S>
         ensures settles { Settles p.now b.now self.now.plan.rounds result }
         ensures viewed { AddsPhases V.viewed V.stopped p.now b.now views (had_memory result) viewer.old viewer.new }
     {
-        let few = has_few_cells(p.len());
-        let rounds = if few { phases_of_few() } else { 1 };
-        if self.plan.rounds <= rounds {
+        let cells = p.len();
+        if self.plan.rounds <= first_phases(cells) {
             return self.watch_plainly(alloc, p, b, self.plan.rounds, views, viewer);
         }
-        let first = if few {
-            Plan {
-                rounds,
-                ..self.plan
-            }
-        } else {
-            look(self.plan, rounds)
-        };
+        let first = first_plan(self.plan, cells);
         self.watch_first(alloc, p, b, first, views, viewer)
     }
 }
