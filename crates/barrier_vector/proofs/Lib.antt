@@ -26,6 +26,7 @@ pub mod Rooting
 pub mod Uniques
 pub mod OneAnswer
 pub mod Surveying
+pub mod Carrying
 pub mod Basing
 pub mod Sides
 pub mod HighSides

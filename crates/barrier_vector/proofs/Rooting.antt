@@ -1,17 +1,16 @@
 -- Lists of roots, one cell after another, and searches from one description of the roots to another.
-use Rattle.std.proofs.Common.{◌≡◌, ℕ, zero, suc, ◌+◌, ◌<◌, ◌≤◌, ◌⊎◌, inl, inr, refl, sym, ◌∙◌, ap, subst, arith, List, [], ◌∷◌, ◌++◌, length, max, drop, get_or, length-append, Contains, Option, None, Some}
+use Rattle.std.proofs.Common.{◌≡◌, ℕ, zero, suc, ◌+◌, ◌<◌, ◌≤◌, inl, inr, refl, sym, ◌∙◌, ap, subst, arith, List, [], ◌∷◌, ◌++◌, length, max, drop, get_or, length-append, Contains, Option, None, Some}
 use Rattle.std.proofs.lemmas.Bool.{cases_lt}
 use Rattle.std.proofs.lemmas.List.{at_drop_more}
 use Rattle.step_problem.specs.declared.entry.Link.{Link}
 use Rattle.step_problem.specs.declared.entry.Fixed.{Fixed}
 use Rattle.step_problem.specs.Entries.{Entries, entries_at}
-use Rattle.cell_balance.specs.Components.{Reaches, IsAnchored, Leads}
+use Rattle.cell_balance.specs.Components.{IsAnchored}
 use Rattle.barrier_vector.specs.Paths.{LeadsToRoot, IsLevel, IsParent, SumsTo, IsPath}
 use Rattle.barrier_vector.specs.Bounds.{greatest, low_anchor}
 use Rattle.barrier_vector.specs.Spreads.{mark_at}
-use Rattle.barrier_vector.specs.Searches.{ListRoot}
+use Rattle.barrier_vector.specs.Searches.{IsSearched}
 use Rattle.barrier_vector.specs.Roots.{AreRoots}
-use Rattle.barrier_vector.proofs.Spreading.{no_both}
 use Rattle.barrier_vector.proofs.Levels.{marked_within}
 use Rattle.barrier_vector.proofs.Starting.{push_before, push_last, pushed}
 
@@ -88,3 +87,7 @@ anchored_by p c h = let (x, has, is) = greatest_has (λ (x : Fixed). x.lo) (entr
 
 pub anchors : (p : List Entries) (c : ℕ) → IsAnchored p c → 0 < low_anchor (entries_at p c)
 anchors p c (x, has, h) = let le = at_most_greatest (λ (x : Fixed). x.lo) (entries_at p c).fixed x has in omega (arith, h, le)
+
+-- a search over equal roots and flows
+pub searched_as : (p : List Entries) (q r : ℕ) (own o : List (Option ℕ)) (levels : List (Option ℕ)) (paths : List ℕ) → q ≡ r → o ≡ own → IsSearched p q o levels paths → IsSearched p r own levels paths
+searched_as p q r own o levels paths e f s = subst (λ (n : ℕ). IsSearched p n own levels paths) e (subst (λ (z : List (Option ℕ)). IsSearched p q z levels paths) f s)

@@ -1,29 +1,17 @@
--- What the floors are made of, from the searches, labels, sums and maxima.
-use Rattle.std.proofs.Common.{◌≡◌, ℕ, zero, suc, ◌+◌, ◌<◌, ◌≤◌, ◌⊎◌, inl, inr, refl, sym, ◌∙◌, ap, subst, arith, List, length, min, Option, None, Some, Bool, true, false, cond, slice_index, ℤ, pos, neg_ℤ, ◌+ℤ◌, ◌-ℤ◌, ◌≤ℤ◌, ◌<ℤ◌}
-use Rattle.std.specs.Int.{int_max}
-use Rattle.std.proofs.lemmas.Bool.{cases_lt}
+-- What the floors of the cells that lead to an anchor are made of, from a search.
+use Rattle.std.proofs.Common.{◌≡◌, ℕ, ◌+◌, ◌<◌, inl, refl, sym, ◌∙◌, subst, arith, List, length, min, All, IsSome, Option, None, Some, Bool, true, false, slice_index, ℤ, pos, ◌-ℤ◌}
 use Rattle.std.proofs.lemmas.Int.{ints, clamps}
 use Rattle.step_problem.specs.Entries.{Entries, entries_at}
-use Rattle.step_problem.specs.Conditions.{IsProblem, IsHead, head_limit}
-use Rattle.cell_balance.specs.Components.{Reaches, Leads, IsAnchored, IsComponent, IsCarried, sum_below, sum_inside, deep_low}
-use Rattle.cell_balance.proofs.Sums.{sum-same}
+use Rattle.step_problem.specs.Conditions.{IsProblem, IsHead}
 use Rattle.barrier_vector.specs.Bases.{IsLowBase}
 use Rattle.barrier_vector.specs.Lacks.{lack}
-use Rattle.barrier_vector.specs.Paths.{ceil_over, LeadsToRoot, IsPath}
-use Rattle.barrier_vector.specs.Bounds.{low_anchor, AnchorRoot, LeastRoot, IsLowPath, IsInnerPath, IsLongest, IsUnanchored, IsFloor}
-use Rattle.barrier_vector.specs.Refusals.{HasNoFloor}
+use Rattle.barrier_vector.specs.Paths.{ceil_over}
+use Rattle.barrier_vector.specs.Bounds.{low_anchor, AnchorRoot, IsLowPath, IsUnanchored}
 use Rattle.barrier_vector.specs.Spreads.{mark_at}
 use Rattle.barrier_vector.specs.Searches.{path_limit, ListRoot, IsSearched}
-use Rattle.barrier_vector.specs.Labels.{AreLabels, is_label, labelled, number_at, IsGreatestOf}
-use Rattle.barrier_vector.specs.Roots.{SelfRoot, AreRoots, IsSurvey, floor_cut, IsFloorOrNone}
-use Rattle.barrier_vector.proofs.Spreading.{no_both}
-use Rattle.barrier_vector.proofs.Backs.{reaches_within, turn_way, join_ways}
-use Rattle.barrier_vector.proofs.Levels.{same_some, marked_or_not, marked_within}
-use Rattle.barrier_vector.proofs.Labelling.{along}
-use Rattle.barrier_vector.proofs.Gathering.{label_true, label_is}
+use Rattle.barrier_vector.specs.Roots.{AreRoots, IsDescent, floor_cut, IsAnchoredFloor, IsFloorOrNone, bound_at, AreBounds}
+use Rattle.barrier_vector.proofs.Backs.{reaches_within}
 use Rattle.barrier_vector.proofs.Rooting.{path_as, anchors}
-use Rattle.barrier_vector.proofs.Uniques.{inner_one}
-use Rattle.barrier_vector.proofs.Basing.{label_within}
 
 module _ (p : List Entries) (ok : IsProblem p) where
   pub low_paths : (own levels : List (Option ℕ)) (paths : List ℕ) → length own ≡ length p → AreRoots (AnchorRoot low_anchor p (lack p)) own → IsSearched p (lack p) own levels paths → (c k : ℕ) → mark_at levels c ≡ Some k → (s : ℕ) × IsLowPath p c s × (slice_index paths c ≡ min s path_limit)
@@ -36,156 +24,34 @@ module _ (p : List Entries) (ok : IsProblem p) where
       let a_in = reaches_within p ok j c a h way in
       found.none c h e j (record { root = a; drop = ceil_over (lack p) (low_anchor (entries_at p a)); is_root = roots.each a _ (subst (λ (n : ℕ). a < n) (sym whole) a_in) (a_in, anchors p a held, refl); reaches = way })
 
-  -- every cell leads to the least cell of its component
-  pub inner_paths_of : (labels own levels : List (Option ℕ)) (paths : List ℕ) → AreLabels p labels (length p) → length own ≡ length labels → AreRoots (SelfRoot labels) own → IsSearched p (lack p) own levels paths → (c : ℕ) → c < length p → (s : ℕ) × IsInnerPath p c s × (slice_index paths c ≡ min s path_limit)
-  inner_paths_of labels own levels paths l whole roots found c h =
-      elim (marked_or_not (mark_at levels c)) [
-        | inl none ↦
-            let (m, e) = l.all c h in
-            let (j, way) = l.reached c m e in
-            let (i, back_way) = turn_way p ok j m c way in
-            let self = along p labels (length p) l i c m m e back_way in
-            absurd (found.none c h none i (record { root = m; drop = 0; is_root = roots.each m 0 (subst (λ (n : ℕ). m < n) (sym whole) (marked_within labels m m self)) (self, refl); reaches = back_way }))
-        | inr (k, e) ↦ let (s, path, cut) = found.some c k e in (s, path_as p (lack p) (ListRoot own) (LeastRoot p) least_is is_least c s path, cut)
-      ]
-    where
-      least_is : (c d : ℕ) → ListRoot own c d → LeastRoot p c d
-      least_is c d e = let (self, none) = roots.only c d e in (subst (λ (n : ℕ). c < n) l.whole (marked_within labels c c self), (λ j k way. l.least c c j k self way), none)
-
-      is_least : (c d : ℕ) → LeastRoot p c d → ListRoot own c d
-      is_least c d (within, least, none) =
-          let (m, e) = l.all c within in
-          let (j, way) = l.reached c m e in
-          let (i, back_way) = turn_way p ok j m c way in
-          let le = l.least c m j c e way in
-          let ge = least i m back_way in
-          let at : m ≡ c = omega (arith, le, ge) in
-          roots.each c d (subst (λ (n : ℕ). c < n) (sym (whole ∙ l.whole)) within) (subst (λ (z : ℕ). mark_at labels c ≡ Some z) at e, none)
-
-  pub sums_as_deep : (labels : List (Option ℕ)) (deep sums : List ℤ) → length labels ≡ length p → ((c : ℕ) → c < length p → number_at deep c ≡ deep_low (entries_at p c)) → ((m : ℕ) → number_at sums m ≡ sum_inside (length labels) (labelled labels m) (number_at deep)) → (m : ℕ) → number_at sums m ≡ sum_inside (length p) (labelled labels m) (λ k. deep_low (entries_at p k))
-  sums_as_deep labels deep sums whole values h m = h m ∙ ap (λ (n : ℕ). sum_inside n (labelled labels m) (number_at deep)) whole ∙ sum-same (length p) _ _ (λ k k_in. ap (λ (z : ℤ). cond (labelled labels m k) z (pos 0)) (values k k_in))
-
 -- the tests of a component agree
 pub same_tests : (a b : Bool) → (a ≡ true → b ≡ true) → (b ≡ true → a ≡ true) → a ≡ b
 same_tests true b f g = sym (f refl)
 same_tests false true f g = g refl
 same_tests false false f g = refl
 
-capped_sum : (b : ℤ) (x y s t : ℕ) → IsHead b → x ≡ min s path_limit → y ≡ min t path_limit → floor_cut (b -ℤ pos (x + y)) ≡ floor_cut (b -ℤ pos (s + t))
-capped_sum b x y s t h p q = omega (arith, ints, clamps, h.below, h.above, p, q)
-
-capped_one : (b : ℤ) (x s : ℕ) → IsHead b → x ≡ min s path_limit → floor_cut (b -ℤ pos (x + 0)) ≡ floor_cut (b -ℤ pos s)
-capped_one b x s h p = omega (arith, ints, clamps, h.below, h.above, p)
-
-module _ (p : List Entries) (ok : IsProblem p) (base : ℤ) (levels : List (Option ℕ)) (paths : List ℕ) (labels : List (Option ℕ)) (inner : List ℕ) (sums : List ℤ) (longest : List ℕ)
-    (y : IsSurvey p base levels paths labels inner sums longest) (head : IsHead base)
-  where
-    pub floor_anchored : (c k : ℕ) (v : ℤ) → mark_at levels c ≡ Some k → v ≡ floor_cut (base -ℤ pos (slice_index paths c + 0)) → IsFloorOrNone p c (Some v)
-    floor_anchored c k v e is = let (s, path, cut) = y.anchored c k e in (base -ℤ pos s, (base, y.is_base, inl (s, path, refl)), is ∙ capped_one base (slice_index paths c) s head cut)
-
-    component_of : (c m : ℕ) → mark_at labels c ≡ Some m → IsComponent p c (labelled labels m)
-    component_of c m e = record {
-      reached = λ k t.
-          let (j, way) = y.labelling.reached c m e in
-          let (i, back_way) = turn_way p ok j m c way in
-          let (l, on) = y.labelling.reached k m (label_is (mark_at labels k) m t) in
-          (i + l, join_ways p ok i l c m k back_way on);
-      whole = λ j k way. label_true (mark_at labels k) m (along p labels (length p) y.labelling j c k m e way);
-    }
-
-    sum_is : (c m : ℕ) → c < length p → mark_at labels c ≡ Some m → (inside : ℕ → Bool) → IsComponent p c inside → sum_inside (length p) inside (λ k. deep_low (entries_at p k)) ≡ number_at sums m
-    sum_is c m h e inside component = sum-same (length p) _ _ (λ k k_in. ap (λ (b : Bool). cond b (deep_low (entries_at p k)) (pos 0)) (same_tests (inside k) (labelled labels m k) (λ t. let (j, way) = component.reached k t in (component_of c m e).whole j k way) (λ t. let (j, way) = (component_of c m e).reached k t in component.whole j k way))) ∙ sym (y.component_sums m)
-
-    -- among the first i cells of a component one has the longest path, or none is there
-    longest_of : (m i : ℕ) → i ≤ length p → ((k t : ℕ) × (k < i) × (mark_at labels k ≡ Some m) × IsInnerPath p k t × ((l s : ℕ) → l < i → mark_at labels l ≡ Some m → IsInnerPath p l s → s ≤ t)) ⊎ ((l : ℕ) → l < i → mark_at labels l ≡ Some m → ⊥)
-    longest_of m zero h = inr (λ l l_in e. absurd (omega arith))
-    longest_of m (suc i) h =
-        let (s, path, _) = y.inner_paths i (omega arith) in
-        elim (label_or_not i) [
-          | inr off ↦ elim (longest_of m i (omega arith)) [
-            | inl (k, t, k_in, on, k_path, top) ↦ inl (k, t, omega arith, on, k_path, λ l r l_in l_on l_path. elim (cases_lt l i) [ inl less ↦ top l r less l_on l_path | inr past ↦ let at : l ≡ i = omega (arith, l_in, past) in absurd (off (subst (λ (z : ℕ). mark_at labels z ≡ Some m) at l_on)) ])
-            | inr none ↦ inr (λ l l_in l_on. elim (cases_lt l i) [ inl less ↦ none l less l_on | inr past ↦ let at : l ≡ i = omega (arith, l_in, past) in off (subst (λ (z : ℕ). mark_at labels z ≡ Some m) at l_on) ])
-          ]
-          | inl here ↦ elim (longest_of m i (omega arith)) [
-            | inr none ↦ inl (i, s, omega arith, here, path, λ l r l_in l_on l_path. elim (cases_lt l i) [ inl less ↦ absurd (none l less l_on) | inr past ↦ let at : l ≡ i = omega (arith, l_in, past) in at_i l r at l_path s path s (omega arith) ])
-            | inl (k, t, k_in, on, k_path, top) ↦ elim (cases_lt t s) [
-              | inl less ↦ inl (i, s, omega arith, here, path, λ l r l_in l_on l_path. elim (cases_lt l i) [ inl before ↦ let le = top l r before l_on l_path in omega (arith, le, less) | inr past ↦ let at : l ≡ i = omega (arith, l_in, past) in at_i l r at l_path s path s (omega arith) ])
-              | inr more ↦ inl (k, t, omega arith, on, k_path, λ l r l_in l_on l_path. elim (cases_lt l i) [ inl before ↦ top l r before l_on l_path | inr past ↦ let at : l ≡ i = omega (arith, l_in, past) in at_i l r at l_path s path t more ])
-            ]
-          ]
-        ]
-      where
-        at_i : (l r : ℕ) → l ≡ i → IsInnerPath p l r → (s : ℕ) → IsInnerPath p i s → (t : ℕ) → s ≤ t → r ≤ t
-        at_i l r at l_path s path t le = let same = inner_one p ok i r s (subst (λ (z : ℕ). IsInnerPath p z r) at l_path) path in omega (arith, same, le)
-
-        label_or_not : (i : ℕ) → (mark_at labels i ≡ Some m) ⊎ (mark_at labels i ≡ Some m → ⊥)
-        label_or_not i = by_test (is_label (mark_at labels i) m) refl
-          where
-            by_test : (b : Bool) → is_label (mark_at labels i) m ≡ b → (mark_at labels i ≡ Some m) ⊎ (mark_at labels i ≡ Some m → ⊥)
-            by_test true e = inl (label_is (mark_at labels i) m e)
-            by_test false e = inr (λ on. let t = label_true (mark_at labels i) m on in absurd (cc (e, t)))
-
-    longest_is : (c m : ℕ) → c < length p → mark_at labels c ≡ Some m → (t : ℕ) × IsLongest p c t × (slice_index longest m ≡ min t path_limit)
-    longest_is c m h e =
-        elim (longest_of m (length p) (omega arith)) [
-          | inr none ↦ absurd (none c h e)
-          | inl (k, t, k_in, on, path, top) ↦
-              let (j, way) = (component_of c m e).reached k (label_true (mark_at labels k) m on) in (
-                t,
-                record {
-                  cell = k;
-                  links = j;
-                  reached = way;
-                  is_path = path;
-                  longest = λ i l s l_way l_path. top l s (reaches_within p ok i c l h l_way) (along p labels (length p) y.labelling i c l m e l_way) l_path;
-                },
-                capped k t k_in on path top,
-              )
-        ]
-      where
-        capped : (k t : ℕ) → k < length p → mark_at labels k ≡ Some m → IsInnerPath p k t → ((l s : ℕ) → l < length p → mark_at labels l ≡ Some m → IsInnerPath p l s → s ≤ t) → slice_index longest m ≡ min t path_limit
-        capped k t k_in on path top =
-            let g = y.tops m in
-            let at_least = g.greatest k k_in on in
-            let (s, s_path, s_cut) = y.inner_paths k k_in in
-            let same = inner_one p ok k s t s_path path in
-            elim g.reached [
-              | inl nought ↦ omega (arith, at_least, s_cut, same, nought)
-              | inr (l, l_in, l_on, is) ↦ let (r, r_path, r_cut) = y.inner_paths l l_in in let le = top l r l_in l_on r_path in omega (arith, at_least, s_cut, same, is, r_cut, le)
-            ]
-
-    pub floor_carried : (c m : ℕ) (v : ℤ) → c < length p → mark_at levels c ≡ None → mark_at labels c ≡ Some m → pos 0 <ℤ number_at sums m → v ≡ floor_cut (base -ℤ pos (slice_index inner c + slice_index longest m)) → IsFloorOrNone p c (Some v)
-    floor_carried c m v h none e carries is =
-        let (s, path, cut) = y.inner_paths c h in
-        let (t, top, top_cut) = longest_is c m h e in
-        (base -ℤ pos (s + t), (base, y.is_base, inr (y.unanchored c h none, record { inside = labelled labels m; component = component_of c m e; carries = subst (λ (z : ℤ). pos 0 <ℤ z) (y.component_sums m) carries }, s, path, t, top, refl)), is ∙ capped_sum base (slice_index inner c) (slice_index longest m) s t head cut top_cut)
-
-    pub floor_none : (c m : ℕ) → c < length p → mark_at levels c ≡ None → mark_at labels c ≡ Some m → number_at sums m ≤ℤ pos 0 → IsFloorOrNone p c None
-    floor_none c m h none e empty = (y.unanchored c h none, λ carried. let same = sum_is c m h e carried.inside carried.component in let k = carried.carries in omega (arith, ints, same, k, empty))
-
--- the survey, from what the code made
-pub survey_made : (p : List Entries) → IsProblem p → (base : ℤ) (own levels : List (Option ℕ)) (paths : List ℕ) (labels least inner_levels : List (Option ℕ)) (inner : List ℕ) (deep sums : List ℤ) (longest : List ℕ) → IsLowBase p base → length own ≡ length p → AreRoots (AnchorRoot low_anchor p (lack p)) own → IsSearched p (lack p) own levels paths → AreLabels p labels (length p) → length least ≡ length labels → AreRoots (SelfRoot labels) least → IsSearched p (lack p) least inner_levels inner → ((c : ℕ) → c < length p → number_at deep c ≡ deep_low (entries_at p c)) → length sums ≡ length labels → ((m : ℕ) → number_at sums m ≡ sum_inside (length labels) (labelled labels m) (number_at deep)) → length longest ≡ length labels → ((m : ℕ) → IsGreatestOf labels inner m (length labels) (slice_index longest m)) → IsSurvey p base levels paths labels inner sums longest
-survey_made p ok base own levels paths labels least inner_levels inner deep sums longest is whole roots found l least_whole least_roots inner_found values sums_whole sum_is tops_whole tops = record {
+pub descent_made : (p : List Entries) → IsProblem p → (base : ℤ) (own levels : List (Option ℕ)) (paths : List ℕ) → IsLowBase p base → length own ≡ length p → AreRoots (AnchorRoot low_anchor p (lack p)) own → IsSearched p (lack p) own levels paths → IsDescent p base levels paths
+descent_made p ok base own levels paths is whole roots found = record {
   is_base = is;
   anchored = low_paths p ok own levels paths whole roots found;
   unanchored = no_anchor p ok own levels paths whole roots found;
-  labelling = l;
-  inner_paths = inner_paths_of p ok labels least inner_levels inner l least_whole least_roots inner_found;
-  component_sums = sums_as_deep p ok labels deep sums l.whole values sum_is;
-  tops = λ m. subst (λ (n : ℕ). IsGreatestOf labels inner m n (slice_index longest m)) l.whole (tops m);
   levels_whole = found.levels_whole;
   paths_whole = found.paths_whole;
-  inner_whole = inner_found.paths_whole;
-  sums_whole = sums_whole ∙ l.whole;
-  tops_whole = tops_whole ∙ l.whole;
 }
 
-pub searched_as : (p : List Entries) (q r : ℕ) (own o : List (Option ℕ)) (levels : List (Option ℕ)) (paths : List ℕ) → q ≡ r → o ≡ own → IsSearched p q o levels paths → IsSearched p r own levels paths
-searched_as p q r own o levels paths e f s = subst (λ (n : ℕ). IsSearched p n own levels paths) e (subst (λ (z : List (Option ℕ)). IsSearched p q z levels paths) f s)
+pub floor_anchored : (p : List Entries) (base : ℤ) (levels : List (Option ℕ)) (paths : List ℕ) → IsDescent p base levels paths → IsHead base → (c k : ℕ) (v : ℤ) → mark_at levels c ≡ Some k → v ≡ floor_cut (base -ℤ pos (slice_index paths c + 0)) → IsAnchoredFloor p c (Some v)
+floor_anchored p base levels paths y head c k v e is = let (s, path, cut) = y.anchored c k e in (base -ℤ pos s, (base, y.is_base, inl (s, path, refl)), is ∙ capped_one base (slice_index paths c) s head cut)
+  where
+    capped_one : (b : ℤ) (x s : ℕ) → IsHead b → x ≡ min s path_limit → floor_cut (b -ℤ pos (x + 0)) ≡ floor_cut (b -ℤ pos s)
+    capped_one b x s h p = omega (arith, ints, clamps, h.below, h.above, p)
 
-pub label_in : (p : List Entries) → IsProblem p → (labels l : List (Option ℕ)) → l ≡ labels → AreLabels p labels (length p) → (k m : ℕ) → mark_at l k ≡ Some m → m < length l
-label_in p ok labels l e a k m is =
-    let is' = rw e at is in
-    let within = marked_within labels k m is' in
-    let low = label_within p ok labels a k m (omega (arith, within, a.whole)) is' in
-    rw e (omega (arith, low, a.whole))
+-- floors by the anchors are floors where each cell has one
+pub all_floors : (p : List Entries) (xs ys : List (Option ℤ)) → ys ≡ xs → AreBounds p (IsAnchoredFloor p) xs → All IsSome ys → AreBounds p (IsFloorOrNone p) xs
+all_floors p xs ys e b all = record { whole = b.whole; each = λ c h. each (bound_at xs c) c (b.each c h) (subst (λ (z : List (Option ℤ)). All IsSome z) e all c None (subst (λ (n : ℕ). c < n) (sym b.whole) h)) }
+  where
+    none : false ≡ true → ⊥
+    none e = cc
+
+    each : (o : Option ℤ) (c : ℕ) → IsAnchoredFloor p c o → IsSome o → IsFloorOrNone p c o
+    each (Some v) c f some = f
+    each None c f some = absurd (none some)

@@ -1,4 +1,4 @@
--- The roots of the searches, and the data that the low side is found from.
+-- The roots of the searches, and the data that the bounds are found from.
 use Rattle.std.specs.Prelude.{◌≡◌, ℕ, ◌+◌, ◌<◌, List, length, min, Option, None, Some, slice_index, slice_index_or, ℤ, pos, neg_ℤ}
 use Rattle.std.specs.Int.{int_max, int_min}
 use Rattle.step_problem.specs.declared.heads.Side.{Side}
@@ -27,18 +27,20 @@ pub record AreRoots (Root : ℕ → ℕ → Type 0) (own : List (Option ℕ)) : 
   pub only : (c d : ℕ) → mark_at own c ≡ Some d → Root c d
   pub each : (c d : ℕ) → c < length own → Root c d → mark_at own c ≡ Some d
 
--- the data of the floors
-pub record IsSurvey (p : List Entries) (base : ℤ) (levels : List (Option ℕ)) (paths : List ℕ)
-    (labels : List (Option ℕ)) (inner : List ℕ) (sums : List ℤ) (longest : List ℕ) : Type 0 where
+-- the data of the floors of the cells that lead to an anchor: the base, and each cell's level and path
+pub record IsDescent (p : List Entries) (base : ℤ) (levels : List (Option ℕ)) (paths : List ℕ) : Type 0 where
   pub is_base : IsLowBase p base
   pub anchored : (c k : ℕ) → mark_at levels c ≡ Some k → (s : ℕ) × IsLowPath p c s × (slice_index paths c ≡ min s path_limit)
   pub unanchored : (c : ℕ) → c < length p → mark_at levels c ≡ None → IsUnanchored p c
+  pub levels_whole : length levels ≡ length p
+  pub paths_whole : length paths ≡ length p
+
+-- the components: labels of cells, paths to the least cell of each component, and by label the sum of deep flows and the longest of these paths
+pub record AreComponents (p : List Entries) (labels : List (Option ℕ)) (inner : List ℕ) (sums : List ℤ) (longest : List ℕ) : Type 0 where
   pub labelling : AreLabels p labels (length p)
   pub inner_paths : (c : ℕ) → c < length p → (s : ℕ) × IsInnerPath p c s × (slice_index inner c ≡ min s path_limit)
   pub component_sums : (m : ℕ) → number_at sums m ≡ sum_inside (length p) (labelled labels m) (λ k. deep_low (entries_at p k))
   pub tops : (m : ℕ) → IsGreatestOf labels inner m (length p) (slice_index longest m)
-  pub levels_whole : length levels ≡ length p
-  pub paths_whole : length paths ≡ length p
   pub inner_whole : length inner ≡ length p
   pub sums_whole : length sums ≡ length p
   pub tops_whole : length longest ≡ length p
@@ -60,6 +62,11 @@ ceiling_cut f = int_min f (pos (head_limit + 1))
 
 abbrev pub bound_at : List (Option ℤ) → ℕ → Option ℤ
 bound_at xs c = slice_index_or xs c None
+
+-- the floor of cell c, cut off; None where no anchor holds its component
+abbrev pub IsAnchoredFloor : List Entries → ℕ → Option ℤ → Type 0
+IsAnchoredFloor p c None = IsUnanchored p c
+IsAnchoredFloor p c (Some v) = (f : ℤ) × IsFloor p c f × (v ≡ floor_cut f)
 
 -- the floor of cell c, cut off; None where it has no floor
 abbrev pub IsFloorOrNone : List Entries → ℕ → Option ℤ → Type 0

@@ -10,6 +10,7 @@ ghost use Rattle.barrier_vector.specs.Refusals.{IsFault};
 ghost use Rattle.barrier_vector.specs.Held.{HasStorage, IsNoWantOfAnchors};
 
 mod base;
+mod carried;
 mod flows;
 mod gathered;
 mod high;

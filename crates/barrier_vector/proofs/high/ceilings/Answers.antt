@@ -1,11 +1,11 @@
-use Rattle.std.proofs.Common.{◌≡◌, ◌+◌, rules, ap, ◌∙◌, sym, subst, length, length-append, List, Option, ℤ, ℕ, ◌∷◌, [], FitsSigned}
+use Rattle.std.proofs.Common.{◌+◌, rules, ap, ◌∙◌, sym, subst, length, length-append, List, Option, ℤ, ℕ, ◌∷◌, [], FitsSigned}
 use Rattle.std.specs.Int.{w64}
 use Rattle.std.proofs.lemmas.Int.{to_z-of_z}
 use Rattle.barrier_vector.specs.Lacks.{surplus}
 use Rattle.barrier_vector.specs.Bounds.{high_anchor, AnchorRoot}
 use Rattle.barrier_vector.specs.Roots.{IsCeilingOrNone, AreRoots, IsAscent}
 use Rattle.barrier_vector.proofs.Basing.{bounds_more, ascent_made}
-use Rattle.barrier_vector.proofs.Surveying.{searched_as}
+use Rattle.barrier_vector.proofs.Rooting.{searched_as}
 use Rattle.barrier_vector.proofs.high.ceilings.Goals as goal
 
 pub ceiling_of-requires-clause-ascent : goal.ceiling_of-requires-clause-ascent

@@ -1,10 +1,5 @@
-use Rattle.std.proofs.Common.{◌≡◌, ◌+◌, ap, ◌∙◌, arith, length, length-append, List, Option, ℤ, ℕ, ◌∷◌, []}
-use Rattle.barrier_vector.specs.Roots.{IsFloorOrNone}
-use Rattle.barrier_vector.proofs.Basing.{bounds_more}
+use Rattle.barrier_vector.proofs.Surveying.{all_floors}
 use Rattle.barrier_vector.proofs.low.floors.Goals as goal
 
-pub loop-c-preserved : goal.loop-c-preserved
-loop-c-preserved c = record {
-  whole = ap (λ (z : List (Option ℤ)). length z) c.in_ok-push.ensures.items ∙ length-append c.loop-c.floors.items (c.floor_of.result ∷ []) ∙ ap (λ (n : ℕ). n + 1) c.loop-c.invariant.whole;
-  each = bounds_more c.args.p.now (IsFloorOrNone c.args.p.now) c.loop-c.floors.items c.push.new.self.items c.floor_of.result c.loop-c.c c.in_ok-push.ensures.items c.loop-c.invariant.whole c.floor_of.ensures c.loop-c.invariant.each;
-}
+pub returns-then-all_anchored : goal.returns-then-all_anchored
+returns-then-all_anchored c = all_floors c.args.p.now c.in_ok-anchored.anchored.items c.deref.result.now c.deref.ensures.value c.in_ok-anchored.ensures (c.all_anchored.ensures.0 c.if-all_anchored.true)

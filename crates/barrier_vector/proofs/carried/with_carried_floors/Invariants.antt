@@ -1,6 +1,6 @@
 use Rattle.std.proofs.Common.{◌≡◌, ℕ, ◌<◌, length}
 use Rattle.barrier_vector.specs.Roots.{IsFloorOrNone, bound_at}
-use Rattle.barrier_vector.proofs.low.floors.Given as goal
+use Rattle.barrier_vector.proofs.carried.with_carried_floors.Given as goal
 
 abbrev pub invariant-loop-c : goal.invariant-loop-c
 invariant-loop-c l = record {

@@ -1,0 +1,121 @@
+// The floors of the cells that lead to no anchor: each component of such cells is carried by its deep flows, or it has no floor.
+ghost use Rattle.std.specs.Prelude.{◌≡◌, ◌<◌, ◌^◌, length, IfOk};
+ghost use Rattle.barrier_vector.specs.Bases.{IsLowBase};
+ghost use Rattle.barrier_vector.specs.Bounds.{IsUnanchored};
+ghost use Rattle.barrier_vector.specs.Lacks.{lack};
+ghost use Rattle.barrier_vector.specs.Roots.{AreComponents, IsAnchoredFloor, IsFloorOrNone, AreBounds};
+
+use crate::flows::deep_flows;
+use crate::gathered::{greatest_of_components, sum_components};
+use crate::labels::label_components;
+use crate::low::lowered;
+use crate::roots::self_roots;
+use crate::search::search;
+use std::alloc::{AllocError, Global};
+use step_problem::Problem;
+
+// The label of each cell's component and its path to the component's least cell; by label the sum of deep flows and the longest of these paths.
+#[derive(Debug, Drop)]
+struct Components {
+    labels: Vec<Option<u32>>,
+    inner: Vec<u64>,
+    sums: Vec<i128>,
+    longest: Vec<u64>,
+}
+
+fn find_components(alloc: Global, p: &Problem, q: u128) -> Result<Components, AllocError>
+    requires lack { q ≡ lack p.now }
+    requires small { q < 2 ^ 126 }
+    ensures { IfOk result (λ s. AreComponents p.now s.labels.items s.inner.items s.sums.items s.longest.items) }
+{
+    p.recall_conditions();
+    let labels = label_components(alloc, p)?;
+    let least = self_roots(alloc, &labels)?;
+    let inner = search(alloc, p, &least, q)?;
+    let deep = deep_flows(alloc, p)?;
+    let sums = sum_components(alloc, &labels, &deep)?;
+    let longest = greatest_of_components(alloc, &labels, &inner.paths)?;
+    Ok(Components {
+        labels,
+        inner: inner.paths,
+        sums,
+        longest,
+    })
+}
+
+fn carried_floor(
+    p: &Problem,
+    base: i64,
+    labels: &[Option<u32>],
+    inner: &[u64],
+    sums: &[i128],
+    longest: &[u64],
+    c: usize,
+) -> Option<i64>
+    requires cell { c < length p.now }
+    requires base { IsLowBase p.now base }
+    requires components { AreComponents p.now labels.now inner.now sums.now longest.now }
+    requires unanchored { IsUnanchored p.now c }
+    ensures { IsFloorOrNone p.now c result }
+{
+    p.recall_conditions();
+    match labels[c] {
+        Some(m) => {
+            if sums[m as usize] > 0 {
+                return Some(lowered(base, inner[c], longest[m as usize]));
+            }
+            None
+        }
+        None => None,
+    }
+}
+
+// The floor of a cell from its floor by the anchors.
+fn floor_of(
+    p: &Problem,
+    base: i64,
+    anchored: Option<i64>,
+    found: &Components,
+    c: usize,
+) -> Option<i64>
+    requires cell { c < length p.now }
+    requires base { IsLowBase p.now base }
+    requires anchored { IsAnchoredFloor p.now c anchored }
+    requires components { AreComponents p.now found.now.labels.items found.now.inner.items found.now.sums.items found.now.longest.items }
+    ensures { IsFloorOrNone p.now c result }
+{
+    match anchored {
+        Some(floor) => Some(floor),
+        None => carried_floor(
+            p,
+            base,
+            &found.labels,
+            &found.inner,
+            &found.sums,
+            &found.longest,
+            c,
+        ),
+    }
+}
+
+/// The floor of each cell, cut off just below all heads, from the floors by the anchors; None where it has no floor.
+pub(crate) fn with_carried_floors(
+    alloc: Global,
+    p: &Problem,
+    base: i64,
+    q: u128,
+    anchored: &[Option<i64>],
+) -> Result<Vec<Option<i64>>, AllocError>
+    requires base { IsLowBase p.now base }
+    requires lack { q ≡ lack p.now }
+    requires small { q < 2 ^ 126 }
+    requires anchored { AreBounds p.now (IsAnchoredFloor p.now) anchored.now }
+    ensures { IfOk result (λ floors. AreBounds p.now (IsFloorOrNone p.now) floors.items) }
+{
+    let found = find_components(alloc, p, q)?;
+    let mut floors = Vec::with_capacity(alloc, p.len())?;
+    for c in 0..p.len() {
+        floors.push(floor_of(p, base, anchored[c], &found, c))?;
+    }
+    Ok(floors)
+}
