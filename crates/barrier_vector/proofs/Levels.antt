@@ -1,5 +1,5 @@
 -- The search by levels: after k steps just the cells of a level up to k are marked, those of level k are the frontier, and each has its path.
-use Rattle.std.proofs.Common.{◌≡◌, ℕ, zero, suc, ◌+◌, ◌<◌, ◌≤◌, ◌⊎◌, inl, inr, refl, sym, ◌∙◌, ap, subst, arith, List, [], length, Contains, min, Option, None, Some, All, take, take_at, ◌++◌, slice_index, get_or}
+use Rattle.std.proofs.Common.{◌≡◌, ℕ, zero, suc, ◌+◌, ◌<◌, ◌≤◌, ◌⊎◌, inl, inr, refl, sym, ◌∙◌, ap, subst, arith, List, [], ◌∷◌, length, Contains, min, Option, None, Some, All, take, take_at, ◌++◌, slice_index, get_or}
 use Rattle.std.proofs.lemmas.Bool.{cases_eq, cases_lt}
 use Rattle.std.proofs.lemmas.List.{get_or_default, get_or_past}
 use Rattle.std.proofs.lemmas.List.Elements.{Contains-get_or}
@@ -41,6 +41,13 @@ link_place xs x has = (has.0, has.1, get_or_default xs has.0 no_link x has.1 ∙
 
 pub no_member : (c : ℕ) → Contains [] c → ⊥
 no_member c has = omega (arith, has.1)
+
+-- where no cell is unmarked, each has a mark
+all_marked : (m : List (Option ℕ)) (c : ℕ) → unmarked m ≡ 0 → c < length m → mark_at m c ≡ None → ⊥
+all_marked [] c e h none = omega arith
+all_marked (None ∷ xs) c e h none = omega (arith, e)
+all_marked (Some x ∷ xs) zero e h none = cc
+all_marked (Some x ∷ xs) (suc c) e h none = all_marked xs c e (omega arith) none
 
 module _ (p : List Entries) (ok : IsProblem p) (q : ℕ) (own : List (Option ℕ)) where
   abbrev Leads : ℕ → ℕ → Type 0
@@ -207,31 +214,33 @@ module _ (p : List Entries) (ok : IsProblem p) (q : ℕ) (own : List (Option ℕ
         path = path';
       }
 
-  module _ (levels : List (Option ℕ)) (paths front : List ℕ) (u : IsUpTo p q own (length p) levels paths front) where
-    no_front : length front ≡ 0
-    no_front = elim (cases_eq (length front) 0) [ inl e ↦ e | inr n ↦ let h = u.room (omega arith) in absurd (omega (arith, h)) ]
-
-    all_found : (j c : ℕ) → Leads j c → (m : ℕ) × (mark_at levels c ≡ Some m)
-    all_found zero c l = u.found c 0 (omega arith) l
-    all_found (suc j) c l =
+  module _ (k : ℕ) (levels : List (Option ℕ)) (paths front : List ℕ) (u : IsUpTo p q own k levels paths front) where
+    all_found : length front ≡ 0 → (j c : ℕ) → Leads j c → (m : ℕ) × (mark_at levels c ≡ Some m)
+    all_found empty zero c l = u.found c 0 (omega arith) l
+    all_found empty (suc j) c l =
         let (x, has, way) = l.reaches in
-        let (m, e) = all_found j x.cell (record { root = l.root; drop = l.drop; is_root = l.is_root; reaches = way }) in
+        let (m, e) = all_found empty j x.cell (record { root = l.root; drop = l.drop; is_root = l.is_root; reaches = way }) in
         let (level, le) = u.exact x.cell m e in
-        elim (cases_lt m (length p)) [
+        elim (cases_lt m k) [
           | inl less ↦ u.found c (suc m) (omega (arith, less)) (one_more m c x has level.leads)
           | inr more ↦
-              let at : m ≡ length p = omega (arith, le, more) in
+              let at : m ≡ k = omega (arith, le, more) in
               let on = u.in_front x.cell (subst (λ (n : ℕ). mark_at levels x.cell ≡ Some n) at e) in
-              let h = on.1 in absurd (omega (arith, h, no_front))
+              let h = on.1 in absurd (omega (arith, h, empty))
         ]
 
-    pub all_searched : IsSearched p q own levels paths
-    all_searched = record {
+    searched : ((c : ℕ) → c < length p → mark_at levels c ≡ None → (j : ℕ) → Leads j c → ⊥) → IsSearched p q own levels paths
+    searched none = record {
       levels_whole = u.levels_whole;
       paths_whole = u.paths_whole;
-      none = λ c h e j l. let (m, is) = all_found j c l in no_both _ m e is;
-      some = λ c k e. let (s, sum, cut) = u.path c k e in (s, record { level = k; is_level = (u.exact c k e).0; sums = sum }, cut);
+      none = none;
+      some = λ c j e. let (s, sum, cut) = u.path c j e in (s, record { level = j; is_level = (u.exact c j e).0; sums = sum }, cut);
     }
+
+    -- the search is at its end where no cell is left, or the frontier is empty
+    pub searched_at_end : (unmarked levels ≡ 0) ⊎ (length front ≡ 0) → IsSearched p q own levels paths
+    searched_at_end (inl none_left) = searched (λ c h e j l. all_marked levels c none_left (subst (λ (n : ℕ). c < n) (sym u.levels_whole) h) e)
+    searched_at_end (inr empty) = searched (λ c h e j l. let (m, is) = all_found empty j c l in no_both _ m e is)
 
 -- the next step leads to the next level
 pub up_to_next : (p : List Entries) → IsProblem p → (q : ℕ) (own : List (Option ℕ)) (k k' : ℕ) (levels levels' : List (Option ℕ)) (paths paths' front next : List ℕ) → k' ≡ suc k → IsUpTo p q own k levels paths front → Spreads (FrontLeads p front (length front)) k' levels levels' [] next → length paths' ≡ length paths → ((c : ℕ) → (Contains next c → ⊥) → slice_index paths' c ≡ slice_index paths c) → ((c : ℕ) → Contains next c → ContinuesTo p q levels' k paths c (slice_index paths' c)) → IsUpTo p q own k' levels' paths' next

@@ -136,8 +136,8 @@ fn begin(alloc: Global, own: &[Option<u128>]) -> Result<Start, AllocError>
     ensures { IfOk result (λ s. IsStart own.now s.levels.items s.paths.items s.frontier.items) }
 {
     let mut start = Start {
-        levels: Vec::new(alloc),
-        paths: Vec::new(alloc),
+        levels: Vec::with_capacity(alloc, own.len())?,
+        paths: Vec::with_capacity(alloc, own.len())?,
         frontier: Vec::new(alloc),
     };
     for c in 0..own.len() {
@@ -163,9 +163,13 @@ pub(crate) fn search(
         mut paths,
         mut frontier,
     } = begin(alloc, own)?;
-    for level in 0..count as u32 {
+    let mut left = count - frontier.len();
+    let mut level = 0;
+    while left > 0 && !frontier.is_empty() {
         frontier = spread(alloc, p, &mut levels, &frontier, level + 1)?;
         extend_paths(p, &levels, level, &frontier, q, &mut paths);
+        left -= frontier.len();
+        level += 1;
     }
     Ok(Found { levels, paths })
 }

@@ -1,5 +1,13 @@
+use Rattle.std.proofs.Common.{◌≡◌, ◌+◌, ◌*◌, length}
+use Rattle.barrier_vector.specs.Spreads.{unmarked}
 use Rattle.barrier_vector.proofs.Levels.{IsUpTo}
 use Rattle.barrier_vector.proofs.search.search.Given as goal
 
-abbrev pub invariant-loop-level : goal.invariant-loop-level
-invariant-loop-level l = IsUpTo l.p l.q l.own l.level l.levels.items l.paths.items l.frontier.items
+abbrev pub invariant-loop-left : goal.invariant-loop-left
+invariant-loop-left l = record {
+  up_to : IsUpTo l.p l.q l.own l.level l.levels.items l.paths.items l.frontier.items;
+  left : l.left ≡ unmarked l.levels.items;
+}
+
+abbrev pub decreases-loop-left : goal.decreases-loop-left
+decreases-loop-left l = 2 * l.left + length l.frontier.items
