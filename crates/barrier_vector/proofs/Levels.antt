@@ -1,18 +1,18 @@
 -- The search by levels: after k steps just the cells of a level up to k are marked, those of level k are the frontier, and each has its path.
 use Rattle.std.proofs.Common.{◌≡◌, ℕ, zero, suc, ◌+◌, ◌<◌, ◌≤◌, ◌⊎◌, inl, inr, refl, sym, ◌∙◌, ap, subst, arith, List, [], ◌∷◌, length, Contains, min, Option, None, Some, All, take, take_at, ◌++◌, slice_index, get_or}
-use Rattle.std.proofs.lemmas.Bool.{cases_eq, cases_lt}
+use Rattle.std.proofs.lemmas.Bool.{cases_lt}
 use Rattle.std.proofs.lemmas.List.{get_or_default, get_or_past}
 use Rattle.std.proofs.lemmas.List.Elements.{Contains-get_or}
 use Rattle.step_problem.specs.declared.entry.Link.{Link}
 use Rattle.step_problem.specs.Entries.{Entries, entries_at, link_at, no_link}
 use Rattle.step_problem.specs.Conditions.{IsProblem}
 use Rattle.cell_balance.specs.Components.{Reaches}
-use Rattle.barrier_vector.specs.Paths.{ceil_over, LeadsToRoot, IsLevel, IsParent, SumsTo, IsPath}
+use Rattle.barrier_vector.specs.Paths.{ceil_over, LeadsToRoot, IsLevel, IsParent, SumsTo}
 use Rattle.barrier_vector.specs.Spreads.{mark_at, unmarked, LinkLeads, FrontLeads, Spreads}
 use Rattle.barrier_vector.specs.Searches.{path_limit, ListRoot, IsNearest, ContinuesTo, IsSearched, IsStart}
 use Rattle.barrier_vector.proofs.Spreading.{no_both}
 use Rattle.barrier_vector.proofs.Extending.{place_of}
-use Rattle.barrier_vector.proofs.Backs.{has_links, leads_within, back}
+use Rattle.barrier_vector.proofs.Backs.{back}
 
 pub record IsUpTo (p : List Entries) (q : ℕ) (own : List (Option ℕ)) (k : ℕ) (levels : List (Option ℕ)) (paths front : List ℕ) : Type 0 where
   pub levels_whole : length levels ≡ length p

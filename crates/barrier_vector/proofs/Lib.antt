@@ -27,6 +27,7 @@ pub mod Uniques
 pub mod OneAnswer
 pub mod Surveying
 pub mod Carrying
+pub mod Outlining
 pub mod Basing
 pub mod Sides
 pub mod HighSides

@@ -1,5 +1,7 @@
 -- The lack and the surplus of flow of all cells of a problem.
-use Rattle.std.specs.Prelude.{ℕ, zero, suc, List, sum_by, ℤ, pos, negsuc}
+use Rattle.std.specs.Prelude.{ℕ, suc, List, sum_by, ℤ, pos, negsuc}
+use Rattle.step_problem.specs.declared.heads.Side.{Side}
+use Rattle.step_problem.specs.declared.heads.Side.TheVariants.{Low, High}
 use Rattle.step_problem.specs.Entries.{Entries}
 use Rattle.step_problem.specs.Flows.{total}
 use Rattle.cell_balance.specs.Components.{deep_low}
@@ -24,3 +26,8 @@ high_flow c = total (λ x. x.hi) c.flows
 -- the sum over all cells of the positive parts of their greatest constant flows
 abbrev pub surplus : List Entries → ℕ
 surplus p = sum_by (λ c. positive_part (high_flow c)) p
+
+-- what a cell adds to the lack on the low side, and to the surplus on the high side
+abbrev pub need_on : Side → Entries → ℕ
+need_on Low c = negative_part (deep_low c)
+need_on High c = positive_part (high_flow c)

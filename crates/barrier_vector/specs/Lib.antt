@@ -11,4 +11,5 @@ pub mod Searches
 pub mod Labels
 pub mod Marks
 pub mod Roots
+pub mod Outlines
 pub mod Tests

@@ -8,6 +8,7 @@ use Rattle.step_problem.specs.Conditions.{head_limit}
 use Rattle.cell_balance.specs.Components.{sum_inside, deep_low}
 use Rattle.barrier_vector.specs.Bases.{IsLowBase, IsHighBase}
 use Rattle.barrier_vector.specs.Bounds.{low_anchor, high_anchor, IsLowPath, IsHighPath, IsInnerPath, IsUnanchored, IsFloor, IsCeiling}
+use Rattle.barrier_vector.specs.Paths.{ceil_over}
 use Rattle.barrier_vector.specs.Refusals.{HasNoFloor, HasNoCeiling}
 use Rattle.barrier_vector.specs.Spreads.{mark_at}
 use Rattle.barrier_vector.specs.Searches.{path_limit}
@@ -17,6 +18,10 @@ use Rattle.barrier_vector.specs.Labels.{AreLabels, labelled, number_at, IsGreate
 abbrev pub anchor_on : Side → Entries → ℕ
 anchor_on Low = low_anchor
 anchor_on High = high_anchor
+
+-- by a list of greatest anchors, a cell with one above 0 is a root, with the drop of that anchor
+abbrev pub ListAnchor : List ℕ → ℕ → ℕ → ℕ → Type 0
+ListAnchor anchors q c d = (c < length anchors) × (0 < slice_index anchors c) × (d ≡ ceil_over q (slice_index anchors c))
 
 -- a cell labelled with itself is a root without a drop
 abbrev pub SelfRoot : List (Option ℕ) → ℕ → ℕ → Type 0

@@ -1,10 +1,8 @@
-// The base of each side: the outermost of the heads, stages, bottoms and elevations that may conduct.
-ghost use Rattle.std.specs.Prelude.{◌≡◌, ℕ, ℤ, ◌<◌, length, Option};
-ghost use Rattle.step_problem.specs.Entries.{entries_at};
-ghost use Rattle.barrier_vector.specs.Bases.{IsLowBase, IsHighBase};
-ghost use Rattle.barrier_vector.specs.Marks.{if_some, fixed_mark, river_mark, drain_mark, outer_of, IsOutermost, IsMarkIn, IsCellMark, IsMarkBelow};
+// The marks of a side: the heads, stages, bottoms and elevations that may conduct. The outermost is the base.
+ghost use Rattle.std.specs.Prelude.{◌≡◌, ℤ, Option};
+ghost use Rattle.barrier_vector.specs.Marks.{if_some, fixed_mark, river_mark, drain_mark, outer_of, IsOutermost, IsMarkIn, IsCellMark};
 
-use step_problem::{Cell, Drain, Fixed, Problem, River, Side};
+use step_problem::{Cell, Drain, Fixed, River, Side};
 
 trait Mark {
     ghost use Rattle.step_problem.specs.declared.heads.Side.{Side};
@@ -55,7 +53,8 @@ impl Mark for Drain {
     }
 }
 
-fn outer(side: Side, a: Option<i64>, b: Option<i64>) -> Option<i64>
+/// The outer of two marks.
+pub(crate) fn outer(side: Side, a: Option<i64>, b: Option<i64>) -> Option<i64>
     ensures { result ≡ outer_of side a b }
 {
     match (a, b) {
@@ -78,35 +77,12 @@ fn outermost<E: Mark>(side: Side, entries: &[E]) -> Option<i64>
     best
 }
 
-fn cell_mark(side: Side, cell: &Cell) -> Option<i64>
+/// The outermost mark of a cell.
+pub(crate) fn cell_mark(side: Side, cell: &Cell) -> Option<i64>
     ensures { IsOutermost side (IsCellMark side cell.now) result }
 {
     let fixed = outermost(side, &cell.fixed);
     let rivers = outermost(side, &cell.rivers);
     let drains = outermost(side, &cell.drains);
     outer(side, fixed, outer(side, rivers, drains))
-}
-
-fn problem_mark(side: Side, p: &Problem) -> Option<i64>
-    ensures { IsOutermost side (IsMarkBelow side p.now (length p.now)) result }
-{
-    let mut best = None;
-    for c in 0..p.len() {
-        best = outer(side, best, cell_mark(side, p.cell(c)));
-    }
-    best
-}
-
-/// The least low mark of the problem, 0 if it has none.
-pub(crate) fn low_base(p: &Problem) -> i64
-    ensures { IsLowBase p.now result }
-{
-    problem_mark(Side::Low, p).unwrap_or(0)
-}
-
-/// The greatest high mark of the problem, 0 if it has none.
-pub(crate) fn high_base(p: &Problem) -> i64
-    ensures { IsHighBase p.now result }
-{
-    problem_mark(Side::High, p).unwrap_or(0)
 }

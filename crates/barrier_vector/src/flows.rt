@@ -1,15 +1,15 @@
-// The deep flows of cells and their greatest constant flows, and the sums of these over all cells: the lack and the surplus.
-ghost use Rattle.std.specs.Prelude.{◌≡◌, ℕ, ℤ, ◌<◌, ◌+◌, ◌^◌, length, List, All, IfOk, pos, ◌+ℤ◌, ◌-ℤ◌, sum_by};
+// The deep flows of cells, and the flow that a cell adds to the lack or the surplus.
+ghost use Rattle.std.specs.Prelude.{◌≡◌, ℕ, ℤ, ◌<◌, ◌≤◌, ◌+◌, ◌^◌, length, List, All, IfOk, pos, ◌+ℤ◌, ◌-ℤ◌, sum_by};
 ghost use Rattle.step_problem.specs.Entries.{entries_at};
 ghost use Rattle.step_problem.specs.Flows.{total};
 ghost use Rattle.step_problem.specs.Conditions.{IsWithin, CellFits, RiverFits, EvapFits, FixedFits, magnitude};
 ghost use Rattle.step_problem.specs.Conditions.{deep_river_low, deep_river_high, full_rate, flow_of};
 ghost use Rattle.cell_balance.specs.Components.{deep_low};
-ghost use Rattle.barrier_vector.specs.Lacks.{negative_part, positive_part, high_flow, lack, surplus};
+ghost use Rattle.barrier_vector.specs.Lacks.{negative_part, positive_part, need_on};
 ghost use Rattle.barrier_vector.specs.Labels.{number_at};
 
 use std::alloc::{AllocError, Global};
-use step_problem::{Cell, Evap, Flow, Problem, River, least_flow};
+use step_problem::{Cell, Evap, Flow, Problem, River, Side, least_flow};
 
 // The flow of an entry, whose magnitude is at most its size.
 trait Gives {
@@ -144,26 +144,15 @@ fn positive_of(flow: i128) -> u128
     if flow > 0 { flow.unsigned_abs() } else { 0 }
 }
 
-/// The sum of the negative parts of the deep flows.
-pub(crate) fn lack_of(p: &Problem) -> u128
-    ensures value { result ≡ lack p.now }
-    ensures small { result < 2 ^ 126 }
+/// The flow that a cell adds to the greatest flow of a side: the negative part of its deep flow on the low side,
+/// the positive part of its greatest constant flow on the high side.
+pub(crate) fn need_of(side: Side, cell: &Cell) -> u128
+    requires { CellFits cell.now }
+    ensures value { result ≡ need_on side cell.now }
+    ensures small { result ≤ 2 ^ 109 }
 {
-    let mut sum: u128 = 0;
-    for c in 0..p.len() {
-        sum += negative_of(deep_flow(p.cell(c)));
+    match side {
+        Side::Low => negative_of(deep_flow(cell)),
+        Side::High => positive_of(sum_high(&cell.flows)),
     }
-    sum
-}
-
-/// The sum of the positive parts of the cells' greatest constant flows.
-pub(crate) fn surplus_of(p: &Problem) -> u128
-    ensures value { result ≡ surplus p.now }
-    ensures small { result < 2 ^ 126 }
-{
-    let mut sum: u128 = 0;
-    for c in 0..p.len() {
-        sum += positive_of(sum_high(&p.cell(c).flows));
-    }
-    sum
 }

@@ -1,17 +1,16 @@
 // The high side: the ceiling of each cell, or none.
 ghost use Rattle.std.specs.Prelude.{◌≡◌, ℕ, ◌<◌, ◌≤◌, ◌^◌, length, IfOk, Some, None, slice_index, pos, neg_ℤ, ◌≤ℤ◌, ◌+ℤ◌};
+ghost use Rattle.step_problem.specs.declared.heads.Side.TheVariants.{High};
 ghost use Rattle.step_problem.specs.Conditions.{IsHead, IsWithin, head_limit};
-ghost use Rattle.barrier_vector.specs.Bases.{IsHighBase};
-ghost use Rattle.barrier_vector.specs.Lacks.{surplus};
-ghost use Rattle.barrier_vector.specs.Searches.{path_limit, IsSearched};
+ghost use Rattle.barrier_vector.specs.Searches.{path_limit};
 ghost use Rattle.barrier_vector.specs.Roots.{ceiling_cut, IsCeilingOrNone, AreBounds, IsAscent};
+ghost use Rattle.barrier_vector.specs.Outlines.{IsOutline};
 
-use crate::base::high_base;
-use crate::flows::surplus_of;
+use crate::outline::Outline;
 use crate::roots::anchor_roots;
 use crate::search::search;
 use std::alloc::{AllocError, Global};
-use step_problem::{Problem, Side};
+use step_problem::Problem;
 
 // The least number above all heads.
 const HIGHEST: i64 = 4_000_000_000_000_000_001;
@@ -63,14 +62,19 @@ fn ceiling_of(
 }
 
 /// The ceiling of each cell, cut off just above all heads; None where it has no ceiling.
-pub(crate) fn ceilings(alloc: Global, p: &Problem) -> Result<Vec<Option<i64>>, AllocError>
+pub(crate) fn ceilings(
+    alloc: Global,
+    p: &Problem,
+    outline: &Outline,
+) -> Result<Vec<Option<i64>>, AllocError>
+    requires { IsOutline High p.now (length p.now) outline.now.mark outline.now.need outline.now.anchors.items }
     ensures { IfOk result (λ ceilings. AreBounds p.now (IsCeilingOrNone p.now) ceilings.items) }
 {
-    let surplus = surplus_of(p);
-    let roots = anchor_roots(alloc, Side::High, p, surplus)?;
-    let anchored = search(alloc, p, &roots, surplus)?;
-    let base = high_base(p);
-    let mut ceilings = Vec::new(alloc);
+    p.recall_conditions();
+    let roots = anchor_roots(alloc, &outline.anchors, outline.need)?;
+    let anchored = search(alloc, p, &roots, outline.need)?;
+    let base = outline.base();
+    let mut ceilings = Vec::with_capacity(alloc, p.len())?;
     for c in 0..p.len() {
         ceilings.push(ceiling_of(p, base, &anchored.levels, &anchored.paths, c))?;
     }

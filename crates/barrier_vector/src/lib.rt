@@ -17,11 +17,13 @@ mod high;
 mod labels;
 pub mod laws;
 mod low;
+mod outline;
 mod refusal;
 mod roots;
 mod search;
 mod spread;
 
+use outline::outline_sides;
 use refusal::{high_side, low_side};
 use std::alloc::Global;
 use step_problem::{Barrier, NoBound, Problem};
@@ -47,11 +49,15 @@ pub fn barrier(alloc: Global, p: &Problem) -> Result<Barrier, BarrierFault>
     ensures stored { HasStorage p.now → IfErr result (λ e. IsNoWantOfAnchors e) }
 {
     p.recall_conditions();
-    let floor = match low_side(alloc, p) {
+    let outlines = match outline_sides(alloc, p) {
+        Ok(outlines) => outlines,
+        Err(_) => return Err(BarrierFault::Memory),
+    };
+    let floor = match low_side(alloc, p, &outlines.low) {
         Ok(floor) => floor,
         Err(fault) => return Err(fault),
     };
-    match high_side(alloc, p) {
+    match high_side(alloc, p, &outlines.high) {
         Ok(ceiling) => Ok(Barrier { floor, ceiling }),
         Err(fault) => Err(fault),
     }

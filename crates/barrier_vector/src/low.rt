@@ -1,18 +1,18 @@
 // The low side: the floor of each cell, or none.
 ghost use Rattle.std.specs.Prelude.{◌≡◌, ◌<◌, ◌≤◌, ◌+◌, ◌^◌, ◌↔◌, length, IfOk, IsTrue, IsSome, All, pos, ◌-ℤ◌, ◌≤ℤ◌};
+ghost use Rattle.step_problem.specs.declared.heads.Side.TheVariants.{Low};
 ghost use Rattle.step_problem.specs.Conditions.{IsHead, IsWithin, head_limit};
 ghost use Rattle.barrier_vector.specs.Bases.{IsLowBase};
-ghost use Rattle.barrier_vector.specs.Lacks.{lack};
 ghost use Rattle.barrier_vector.specs.Searches.{path_limit};
 ghost use Rattle.barrier_vector.specs.Roots.{floor_cut, IsDescent, IsAnchoredFloor, IsFloorOrNone, AreBounds};
+ghost use Rattle.barrier_vector.specs.Outlines.{IsOutline};
 
-use crate::base::low_base;
 use crate::carried::with_carried_floors;
-use crate::flows::lack_of;
+use crate::outline::Outline;
 use crate::roots::anchor_roots;
 use crate::search::search;
 use std::alloc::{AllocError, Global};
-use step_problem::{Problem, Side};
+use step_problem::Problem;
 
 // The greatest number below all heads.
 const LOWEST: i64 = -4_000_000_000_000_000_001;
@@ -70,15 +70,15 @@ fn anchored_floors(
     alloc: Global,
     p: &Problem,
     base: i64,
-    q: u128,
+    outline: &Outline,
 ) -> Result<Vec<Option<i64>>, AllocError>
     requires base { IsLowBase p.now base }
-    requires lack { q ≡ lack p.now }
-    requires small { q < 2 ^ 126 }
+    requires outline { IsOutline Low p.now (length p.now) outline.now.mark outline.now.need outline.now.anchors.items }
     ensures { IfOk result (λ floors. AreBounds p.now (IsAnchoredFloor p.now) floors.items) }
 {
-    let roots = anchor_roots(alloc, Side::Low, p, q)?;
-    let anchored = search(alloc, p, &roots, q)?;
+    p.recall_conditions();
+    let roots = anchor_roots(alloc, &outline.anchors, outline.need)?;
+    let anchored = search(alloc, p, &roots, outline.need)?;
     let mut floors = Vec::with_capacity(alloc, p.len())?;
     for c in 0..p.len() {
         floors.push(anchored_floor(p, base, &anchored.levels, &anchored.paths, c))?;
@@ -94,14 +94,19 @@ fn all_anchored(floors: &[Option<i64>]) -> bool
 
 /// The floor of each cell, cut off just below all heads; None where it has no floor.
 /// The components are found only where some cell leads to no anchor.
-pub(crate) fn floors(alloc: Global, p: &Problem) -> Result<Vec<Option<i64>>, AllocError>
+pub(crate) fn floors(
+    alloc: Global,
+    p: &Problem,
+    outline: &Outline,
+) -> Result<Vec<Option<i64>>, AllocError>
+    requires { IsOutline Low p.now (length p.now) outline.now.mark outline.now.need outline.now.anchors.items }
     ensures { IfOk result (λ floors. AreBounds p.now (IsFloorOrNone p.now) floors.items) }
 {
-    let base = low_base(p);
-    let lack = lack_of(p);
-    let anchored = anchored_floors(alloc, p, base, lack)?;
+    p.recall_conditions();
+    let base = outline.base();
+    let anchored = anchored_floors(alloc, p, base, outline)?;
     if all_anchored(&anchored) {
         return Ok(anchored);
     }
-    with_carried_floors(alloc, p, base, lack, &anchored)
+    with_carried_floors(alloc, p, base, outline.need, &anchored)
 }

@@ -1,15 +1,18 @@
 // The two sides of a barrier, or the first refusal of each.
 ghost use Rattle.std.specs.Prelude.{◌≡◌, ℕ, ◌<◌, ◌↔◌, length, MatchOption, None, IfOk, IfErr, IsTrue};
 ghost use Rattle.step_problem.specs.declared.heads.Side.{Side};
+ghost use Rattle.step_problem.specs.declared.heads.Side.TheVariants.{Low, High};
 ghost use Rattle.step_problem.specs.StepRefusals.{number_of};
 ghost use Rattle.barrier_vector.specs.declared.refusal.Test.TheVariants.{Missing, TooLow, TooHigh};
 ghost use Rattle.barrier_vector.specs.Refusals.{Names, IsRefusedBelow, IsRefusedAbove};
 ghost use Rattle.barrier_vector.specs.Roots.{IsFloorOrNone, IsCeilingOrNone, AreBounds};
+ghost use Rattle.barrier_vector.specs.Outlines.{IsOutline};
 ghost use Rattle.barrier_vector.specs.Tests.{Fails, IsFirstFailing, AreHeadsOf, IsLowSide, IsHighSide, IsLowFault, IsHighFault};
 
 use crate::BarrierFault;
 use crate::high::ceilings;
 use crate::low::floors;
+use crate::outline::Outline;
 use std::alloc::{AllocError, Global};
 use step_problem::problem::HEAD_LIMIT;
 use step_problem::{NoBound, Place, Problem, Side, StepRefusal};
@@ -54,7 +57,7 @@ fn first_failing(test: Test, bounds: &[Option<i64>]) -> Option<usize>
 fn heads_of(alloc: Global, bounds: &[Option<i64>]) -> Result<Vec<i64>, AllocError>
     ensures { IfOk result (λ heads. AreHeadsOf bounds.now heads.items) }
 {
-    let mut heads = Vec::new(alloc);
+    let mut heads = Vec::with_capacity(alloc, bounds.len())?;
     for c in 0..bounds.len() {
         heads.push(bounds[c].unwrap_or(0))?;
     }
@@ -101,12 +104,17 @@ fn high_refusal(p: &Problem, bounds: &[Option<i64>]) -> Option<NoBound>
 }
 
 /// The floor of each cell, or the first refusal of the low side.
-pub(crate) fn low_side(alloc: Global, p: &Problem) -> Result<Vec<i64>, BarrierFault>
+pub(crate) fn low_side(
+    alloc: Global,
+    p: &Problem,
+    outline: &Outline,
+) -> Result<Vec<i64>, BarrierFault>
+    requires { IsOutline Low p.now (length p.now) outline.now.mark outline.now.need outline.now.anchors.items }
     ensures side { IfOk result (λ heads. IsLowSide p.now heads.items) }
     ensures fault { IfErr result (IsLowFault p.now) }
 {
     p.recall_conditions();
-    match floors(alloc, p) {
+    match floors(alloc, p, outline) {
         Err(_) => Err(BarrierFault::Memory),
         Ok(bounds) => match low_refusal(p, &bounds) {
             Some(refused) => Err(BarrierFault::NoBound(refused)),
@@ -119,12 +127,17 @@ pub(crate) fn low_side(alloc: Global, p: &Problem) -> Result<Vec<i64>, BarrierFa
 }
 
 /// The ceiling of each cell, or the first refusal of the high side.
-pub(crate) fn high_side(alloc: Global, p: &Problem) -> Result<Vec<i64>, BarrierFault>
+pub(crate) fn high_side(
+    alloc: Global,
+    p: &Problem,
+    outline: &Outline,
+) -> Result<Vec<i64>, BarrierFault>
+    requires { IsOutline High p.now (length p.now) outline.now.mark outline.now.need outline.now.anchors.items }
     ensures side { IfOk result (λ heads. IsHighSide p.now heads.items) }
     ensures fault { IfErr result (IsHighFault p.now) }
 {
     p.recall_conditions();
-    match ceilings(alloc, p) {
+    match ceilings(alloc, p, outline) {
         Err(_) => Err(BarrierFault::Memory),
         Ok(bounds) => match high_refusal(p, &bounds) {
             Some(refused) => Err(BarrierFault::NoBound(refused)),

@@ -1,13 +1,12 @@
 // The roots of the searches: anchored cells, and the least cells of components.
 ghost use Rattle.std.specs.Prelude.{◌≡◌, ℕ, ◌<◌, ◌^◌, length, IfOk, Some, max};
-ghost use Rattle.step_problem.specs.Entries.{entries_at};
 ghost use Rattle.barrier_vector.specs.Paths.{ceil_over};
-ghost use Rattle.barrier_vector.specs.Bounds.{greatest, AnchorRoot};
-ghost use Rattle.barrier_vector.specs.Roots.{anchor_on, SelfRoot, AreRoots};
+ghost use Rattle.barrier_vector.specs.Bounds.{greatest};
+ghost use Rattle.barrier_vector.specs.Roots.{anchor_on, ListAnchor, SelfRoot, AreRoots};
 
 use crate::search::drop_over;
 use std::alloc::{AllocError, Global};
-use step_problem::{Cell, Drain, Fixed, Problem, River, Side};
+use step_problem::{Cell, Drain, Fixed, River, Side};
 
 trait Anchor {
     ghost lower: { Self → ℕ };
@@ -51,8 +50,8 @@ fn greatest_lower<E: Anchor>(entries: &[E]) -> u64
     best
 }
 
-// The greatest lower conductance of a cell's anchors.
-fn greatest_anchor(side: Side, cell: &Cell) -> u64
+/// The greatest lower conductance of a cell's anchors.
+pub(crate) fn greatest_anchor(side: Side, cell: &Cell) -> u64
     ensures { result ≡ anchor_on side cell.now }
 {
     let fixed = greatest_lower(&cell.fixed);
@@ -70,20 +69,19 @@ fn anchor_drop(lo: u64, q: u128) -> Option<u128>
     if lo > 0 { Some(drop_over(q, lo)) } else { None }
 }
 
-/// The own drops of the anchored cells.
+/// The own drops of the anchored cells, by the greatest anchor of each cell.
 pub(crate) fn anchor_roots(
     alloc: Global,
-    side: Side,
-    p: &Problem,
+    anchors: &[u64],
     q: u128,
 ) -> Result<Vec<Option<u128>>, AllocError>
     requires { q < 2 ^ 126 }
-    ensures whole { IfOk result (λ own. length own.items ≡ length p.now) }
-    ensures roots { IfOk result (λ own. AreRoots (AnchorRoot (anchor_on side) p.now q) own.items) }
+    ensures whole { IfOk result (λ own. length own.items ≡ length anchors.now) }
+    ensures roots { IfOk result (λ own. AreRoots (ListAnchor anchors.now q) own.items) }
 {
-    let mut own = Vec::new(alloc);
-    for c in 0..p.len() {
-        own.push(anchor_drop(greatest_anchor(side, p.cell(c)), q))?;
+    let mut own = Vec::with_capacity(alloc, anchors.len())?;
+    for c in 0..anchors.len() {
+        own.push(anchor_drop(anchors[c], q))?;
     }
     Ok(own)
 }
@@ -104,7 +102,7 @@ pub(crate) fn self_roots(
     ensures whole { IfOk result (λ own. length own.items ≡ length labels.now) }
     ensures roots { IfOk result (λ own. AreRoots (SelfRoot labels.now) own.items) }
 {
-    let mut own = Vec::new(alloc);
+    let mut own = Vec::with_capacity(alloc, labels.len())?;
     for c in 0..labels.len() {
         own.push(self_drop(labels[c], c as u32))?;
     }

@@ -1,0 +1,70 @@
+-- The outline of the first cells: one cell more, and what it is of all cells.
+use Rattle.std.proofs.Common.{◌≡◌, ℕ, ◌+◌, ◌*◌, ◌^◌, ◌<◌, ◌≤◌, inl, inr, refl, sym, ◌∙◌, ap, subst, arith, List, [], ◌∷◌, ◌++◌, length, length-append, sum_by, Option, None, slice_index, ℤ, pos}
+use Rattle.std.specs.Option.{unwrap_or}
+use Rattle.std.proofs.lemmas.Bool.{cases_lt}
+use Rattle.std.proofs.Math.Seq.{take-length}
+use Rattle.std.proofs.lemmas.List.Sums.{sum_by_more}
+use Rattle.step_problem.specs.declared.heads.Side.{Side}
+use Rattle.step_problem.specs.declared.heads.Side.TheVariants.{Low, High}
+use Rattle.step_problem.specs.Entries.{Entries, entries_at, no_entries}
+use Rattle.barrier_vector.specs.Bases.{IsLowBase, IsHighBase}
+use Rattle.barrier_vector.specs.Bounds.{AnchorRoot}
+use Rattle.barrier_vector.specs.Lacks.{need_on}
+use Rattle.barrier_vector.specs.Marks.{outer_of, IsOutermost, IsCellMark}
+use Rattle.barrier_vector.specs.Paths.{ceil_over}
+use Rattle.barrier_vector.specs.Roots.{anchor_on, ListAnchor, AreRoots}
+use Rattle.barrier_vector.specs.Outlines.{IsOutline}
+use Rattle.barrier_vector.proofs.Starting.{push_before, push_last}
+use Rattle.barrier_vector.proofs.Marking.{no_cells, cells_more, low_base_is, high_base_is}
+
+pub outline_none : (side : Side) (p : List Entries) (anchors : List ℕ) → anchors ≡ [] → IsOutline side p 0 None 0 anchors
+outline_none side p anchors e = rw e (record {
+  outermost = no_cells side p;
+  sum = refl;
+  small = omega arith;
+  whole = refl;
+  each = λ c h. absurd (omega arith);
+})
+
+-- one cell more
+pub outline_more : (side : Side) (p : List Entries) (i : ℕ) (e : Entries) (mark o mark' : Option ℤ) (need n need' : ℕ) (anchors anchors' : List ℕ) (a : ℕ) → i < length p → e ≡ entries_at p i → mark' ≡ outer_of side mark o → IsOutermost side (IsCellMark side e) o → need' ≡ need + n → n ≡ need_on side e → n ≤ 2 ^ 109 → anchors' ≡ anchors ++ a ∷ [] → a ≡ anchor_on side e → IsOutline side p i mark need anchors → IsOutline side p (i + 1) mark' need' anchors'
+outline_more side p i e mark o mark' need n need' anchors anchors' a h here joined outermost added need_is small pushed anchor_is y = record {
+  outermost = cells_more side p i mark o mark' joined y.outermost (subst (λ (z : Entries). IsOutermost side (IsCellMark side z) o) here outermost);
+  sum = let more = sum_by_more (need_on side) p i no_entries h in let same = need_is ∙ ap (need_on side) here in sums _ _ _ more same y.sum;
+  small = let was = y.small in fits (2 ^ 109) was small;
+  whole = ap (λ (z : List ℕ). length z) pushed ∙ length-append anchors (a ∷ []) ∙ ap (λ (k : ℕ). k + 1) y.whole;
+  each = λ c c_in.
+      elim (cases_lt c i) [
+        | inl less ↦ let in_list : c < length anchors = omega (arith, less, y.whole) in rw pushed (push_before anchors a 0 c in_list ∙ y.each c less)
+        | inr past ↦ let at : length anchors ≡ c = omega (arith, past, c_in, y.whole) in rw pushed (ap (λ (k : ℕ). slice_index (anchors ++ a ∷ []) k) (sym at) ∙ push_last anchors a 0 ∙ anchor_is ∙ ap (anchor_on side) (here ∙ ap (entries_at p) (sym y.whole ∙ at)))
+      ];
+}
+  where
+    sums : (s t m : ℕ) → t ≡ s + m → n ≡ m → need ≡ s → need' ≡ t
+    sums s t m more same was = omega (arith, added)
+
+    fits : (b : ℕ) → need ≤ i * b → n ≤ b → need' ≤ (i + 1) * b
+    fits b was le = omega (arith, added)
+
+pub low_base_of : (p : List Entries) (mark : Option ℤ) (need : ℕ) (anchors : List ℕ) (b : ℤ) → IsOutline Low p (length p) mark need anchors → b ≡ unwrap_or mark (pos 0) → IsLowBase p b
+low_base_of p mark need anchors b y e = low_base_is p mark b y.outermost (λ v is. e ∙ ap (λ (o : Option ℤ). unwrap_or o (pos 0)) is) (λ is. e ∙ ap (λ (o : Option ℤ). unwrap_or o (pos 0)) is)
+
+pub high_base_of : (p : List Entries) (mark : Option ℤ) (need : ℕ) (anchors : List ℕ) (b : ℤ) → IsOutline High p (length p) mark need anchors → b ≡ unwrap_or mark (pos 0) → IsHighBase p b
+high_base_of p mark need anchors b y e = high_base_is p mark b y.outermost (λ v is. e ∙ ap (λ (o : Option ℤ). unwrap_or o (pos 0)) is) (λ is. e ∙ ap (λ (o : Option ℤ). unwrap_or o (pos 0)) is)
+
+-- the lack or the surplus
+pub need_whole : (side : Side) (p : List Entries) (mark : Option ℤ) (need : ℕ) (anchors : List ℕ) → IsOutline side p (length p) mark need anchors → need ≡ sum_by (need_on side) p
+need_whole side p mark need anchors y = y.sum ∙ ap (sum_by (need_on side)) (take-length p)
+
+-- roots by the list of greatest anchors are the anchored cells
+pub roots_on : (side : Side) (p : List Entries) (mark : Option ℤ) (need q : ℕ) (anchors own : List ℕ) (roots : List (Option ℕ)) → IsOutline side p (length p) mark need anchors → own ≡ anchors → need ≡ q → AreRoots (ListAnchor own need) roots → AreRoots (AnchorRoot (anchor_on side) p q) roots
+roots_on side p mark need q anchors own roots y e f r =
+    let r' : AreRoots (ListAnchor anchors q) roots = rw (e, f) at r in
+    record {
+      only = λ c d is. let (h, some, at) = r'.only c d is in let c_in = subst (λ (n : ℕ). c < n) y.whole h in (c_in, subst (λ (n : ℕ). 0 < n) (y.each c c_in) some, at ∙ ap (ceil_over q) (y.each c c_in));
+      each = λ c d h root. r'.each c d h (subst (λ (n : ℕ). c < n) (sym y.whole) root.0, subst (λ (n : ℕ). 0 < n) (sym (y.each c root.0)) root.1, root.2 ∙ ap (ceil_over q) (sym (y.each c root.0)));
+    }
+
+-- a root for each cell
+pub roots_whole : (side : Side) (p : List Entries) (mark : Option ℤ) (need : ℕ) (anchors own : List ℕ) (roots : List (Option ℕ)) → IsOutline side p (length p) mark need anchors → own ≡ anchors → length roots ≡ length own → length roots ≡ length p
+roots_whole side p mark need anchors own roots y e h = h ∙ ap (λ (z : List ℕ). length z) e ∙ y.whole
