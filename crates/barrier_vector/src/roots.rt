@@ -61,15 +61,45 @@ pub(crate) fn greatest_anchor(side: Side, cell: &Cell) -> u64
     }
 }
 
-fn anchor_drop(lo: u64, q: u128) -> Option<u128>
-    requires { q < 2 ^ 126 }
+// The drop over a lower conductance.
+#[derive(Clone, Copy, Debug)]
+struct KnownDrop {
+    lo: u64,
+    drop: u128,
+}
+
+// The drop over `lo`, by a division where it is not the known one.
+fn drop_by(known: KnownDrop, lo: u64, q: u128) -> KnownDrop
+    requires q { q < 2 ^ 126 }
+    requires lo { 0 < lo }
+    requires known { known.drop ≡ ceil_over q known.lo }
+    ensures lo { result.lo ≡ lo }
+    ensures drop { result.drop ≡ ceil_over q lo }
+{
+    if known.lo == lo {
+        return known;
+    }
+    KnownDrop {
+        lo,
+        drop: drop_over(q, lo),
+    }
+}
+
+fn anchor_drop(known: &mut KnownDrop, lo: u64, q: u128) -> Option<u128>
+    requires q { q < 2 ^ 126 }
+    requires known { known.old.drop ≡ ceil_over q known.old.lo }
+    ensures known { known.new.drop ≡ ceil_over q known.new.lo }
     ensures only { (d : ℕ) → result ≡ Some d → (0 < lo) × (d ≡ ceil_over q lo) }
     ensures each { 0 < lo → result ≡ Some (ceil_over q lo) }
 {
-    if lo > 0 { Some(drop_over(q, lo)) } else { None }
+    if lo == 0 {
+        return None;
+    }
+    *known = drop_by(*known, lo, q);
+    Some(known.drop)
 }
 
-/// The own drops of the anchored cells, by the greatest anchor of each cell.
+/// The own drops of the anchored cells, by the greatest anchor of each cell. Neighbours often have equal ones, so the last drop is kept.
 pub(crate) fn anchor_roots(
     alloc: Global,
     anchors: &[u64],
@@ -80,8 +110,12 @@ pub(crate) fn anchor_roots(
     ensures roots { IfOk result (λ own. AreRoots (ListAnchor anchors.now q) own.items) }
 {
     let mut own = Vec::with_capacity(alloc, anchors.len())?;
+    let mut known = KnownDrop {
+        lo: 1,
+        drop: drop_over(q, 1),
+    };
     for c in 0..anchors.len() {
-        own.push(anchor_drop(anchors[c], q))?;
+        own.push(anchor_drop(&mut known, anchors[c], q))?;
     }
     Ok(own)
 }

@@ -1,9 +1,11 @@
 use Rattle.std.proofs.Common.{◌≡◌, length}
+use Rattle.barrier_vector.specs.Paths.{ceil_over}
 use Rattle.barrier_vector.specs.Roots.{ListAnchor, AreRoots}
 use Rattle.barrier_vector.proofs.roots.anchor_roots.Given as goal
 
 abbrev pub invariant-loop-c : goal.invariant-loop-c
 invariant-loop-c l = record {
   whole : length l.own.items ≡ l.c;
+  known : l.known.drop ≡ ceil_over l.q l.known.lo;
   roots : AreRoots (ListAnchor l.anchors l.q) l.own.items;
 }
