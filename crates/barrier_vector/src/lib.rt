@@ -9,7 +9,6 @@ ghost use Rattle.barrier_vector.specs.Bounds.{IsFloor, IsCeiling};
 ghost use Rattle.barrier_vector.specs.Refusals.{IsFault};
 ghost use Rattle.barrier_vector.specs.Held.{HasStorage, IsNoWantOfAnchors};
 
-mod base;
 mod carried;
 mod flows;
 mod gathered;
@@ -17,6 +16,7 @@ mod high;
 mod labels;
 pub mod laws;
 mod low;
+mod marks;
 mod outline;
 mod refusal;
 mod roots;

@@ -3,11 +3,11 @@ ghost use Rattle.std.specs.Prelude.{◌≡◌, ◌<◌, ◌+◌, length, List, I
 ghost use Rattle.std.specs.Option.{unwrap_or};
 ghost use Rattle.step_problem.specs.declared.heads.Side.{Side};
 ghost use Rattle.step_problem.specs.declared.heads.Side.TheVariants.{Low, High};
-ghost use Rattle.step_problem.specs.Entries.{Entries, entries_at};
+ghost use Rattle.step_problem.specs.Entries.{Entries};
 ghost use Rattle.barrier_vector.specs.Outlines.{IsOutline};
 
-use crate::base::{cell_mark, outer};
 use crate::flows::need_of;
+use crate::marks::{cell_mark, outer};
 use crate::roots::greatest_anchor;
 use std::alloc::{AllocError, Global};
 use step_problem::{Problem, Side};

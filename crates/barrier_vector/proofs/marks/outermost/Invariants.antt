@@ -1,6 +1,6 @@
 use Rattle.std.proofs.Common.{take}
 use Rattle.barrier_vector.specs.Marks.{IsOutermost, IsMarkIn}
-use Rattle.barrier_vector.proofs.base.outermost.Given as goal
+use Rattle.barrier_vector.proofs.marks.outermost.Given as goal
 
 abbrev pub invariant-loop-x : goal.invariant-loop-x
 invariant-loop-x g l = IsOutermost l.side (IsMarkIn (g.E.Mark.mark l.side) (take l.x-index l.entries)) l.best

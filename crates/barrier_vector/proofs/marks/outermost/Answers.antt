@@ -1,5 +1,5 @@
 use Rattle.barrier_vector.proofs.Marking.{no_marks, marks_more}
-use Rattle.barrier_vector.proofs.base.outermost.Goals as goal
+use Rattle.barrier_vector.proofs.marks.outermost.Goals as goal
 
 pub loop-x-init : goal.loop-x-init
 loop-x-init g c = no_marks c.args.side (g.E.Mark.mark c.args.side)
