@@ -8,7 +8,7 @@ use crate::models::read_model;
 use crate::problem::print_cell;
 use model_types::{FlowModel, Listed, TimeStep, times};
 use outside::{InputFault, MemFolder};
-use problem_builder::{BuildFault, PeriodTables, Site, build, sites_with, start_heads};
+use problem_builder::{BuildFault, PeriodTables, Site, Tables, build, sites_with, start_heads};
 use settle_driver::PlainSettler;
 use std::alloc::Global;
 use std::io;
@@ -90,8 +90,9 @@ fn print_step(
 {
     let (period, number) = (at.period, at.step);
     println!(rt; "step {period} {number}")?;
-    let tables = PeriodTables::at(alloc, model, period, s)?;
-    print_sites(rt, sites_with(alloc, model, &tables, at)?.as_slice())?;
+    let tables = Tables::new(alloc, model, s)?;
+    let period_tables = PeriodTables::at(alloc, model, &tables, period)?;
+    print_sites(rt, sites_with(alloc, model, &period_tables, at)?.as_slice())?;
     print_built(rt, &build(alloc, model, at, old, s))?;
     match next_step(alloc, model, at, old, s, &mut PlainSettler::new(ROUNDS)) {
         Ok(solved) => {

@@ -37,7 +37,8 @@ pub mod PeriodsOf
 pub mod ChosenRates
 pub mod Depths
 pub mod PeriodMade
-pub mod StepMade
+pub mod StorageParts
+pub mod EvenSteps
 pub mod KindsOf
 pub mod SitesMade
 pub mod ExampleMet

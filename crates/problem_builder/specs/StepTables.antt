@@ -3,9 +3,11 @@ use Rattle.std.specs.Prelude.{◌≡◌, ℕ, ◌≤◌, ◌^◌, true, false, O
 use Rattle.decimal_input.specs.Canonical.{size}
 use Rattle.step_problem.specs.declared.heads.Bound.{Bound}
 use Rattle.model_types.specs.declared.model.FlowModel.{FlowModel}
+use Rattle.model_types.specs.declared.period.Period.{Period}
 use Rattle.model_types.specs.declared.time_steps.TimeStep.{TimeStep}
 use Rattle.model_types.specs.Times.{period_at}
 use Rattle.model_types.specs.Kinds.{is_variable, is_constant}
+use Rattle.model_types.specs.Valid.{number_one}
 use Rattle.conductance_bounds.specs.declared.factors.Factors.{Factors}
 use Rattle.conductance_bounds.specs.declared.pair.Pair.{Pair}
 use Rattle.conductance_bounds.specs.declared.part.Part.{Part}
@@ -32,6 +34,20 @@ abbrev pub HasStorage : FlowModel → (ℕ → Span) → ℕ → TimeStep → �
 HasStorage m thick s at c x =
     is_variable m at.period c ≡ true → (period_at m at.period).steady ≡ false →
     IsCapped (storage_term m thick (period_at m at.period) at.step c) s x.lo x.hi
+
+-- a transient period whose steps are equally long (TM 6-A16, chapter 4, DIS)
+pub record HasEvenSteps (p : Period) : Type 0 where
+  pub transient : p.steady ≡ false
+  pub even : p.tsmult ≡ number_one
+
+-- the factors of every step of such a period, or None in another one
+abbrev pub AreEvenFactors : FlowModel → ℕ → Option Factors → Type 0
+AreEvenFactors m p None = HasEvenSteps (period_at m p) → ⊥
+AreEvenFactors m p (Some f) = (n : ℕ) → AreStepFactors m (record { period = p; step = n }) f
+
+-- the bounds of a variable cell's storage in every step
+abbrev pub HasEvenStorage : FlowModel → (ℕ → Span) → ℕ → ℕ → ℕ → Pair → Type 0
+HasEvenStorage m thick s p c x = (n : ℕ) → HasStorage m thick s (record { period = p; step = n }) c x
 
 -- the part of the period that has passed at a time
 pub record IsPartOf (m : FlowModel) (at : TimeStep) (part : Part) : Type 0 where

@@ -1,5 +1,5 @@
 -- The contents of the builder's tables.
-use Rattle.std.specs.Prelude.{◌≡◌, ℕ, ◌+◌, ◌<◌, ◌≤◌, true, false, pos, List, [], All, length, slice_index_or, Option, Some, None, take, ◌-◌}
+use Rattle.std.specs.Prelude.{◌≡◌, ℕ, ◌+◌, ◌<◌, ◌≤◌, true, pos, List, [], All, length, slice_index_or, Option, Some, None, take, ◌-◌}
 use Rattle.step_problem.specs.declared.heads.Bound.{Bound}
 use Rattle.step_problem.specs.Heads.{no_bound}
 use Rattle.scaled_decimal.specs.declared.decimal.Sd.{Sd}
@@ -22,7 +22,7 @@ use Rattle.conductance_bounds.specs.declared.span.Span.{Span}
 use Rattle.conductance_bounds.specs.declared.pair.Pair.{Pair}
 use Rattle.conductance_bounds.specs.Pairs.{IsCapped}
 use Rattle.conductance_bounds.specs.Thicknesses.{AreThick}
-use Rattle.conductance_bounds.specs.Formulas.{face_term, storage_term}
+use Rattle.conductance_bounds.specs.Formulas.{face_term}
 use Rattle.problem_builder.specs.declared.tables.Tables.{Tables}
 use Rattle.problem_builder.specs.declared.period.PeriodTables.{PeriodTables}
 use Rattle.problem_builder.specs.declared.step.StepTables.{StepTables}
@@ -30,8 +30,10 @@ use Rattle.problem_builder.specs.Thicknesses.{Thicknesses, AreThicknesses}
 use Rattle.problem_builder.specs.ConstantHeads.{IsConstantPair, IsKeptPair}
 use Rattle.problem_builder.specs.RechargeBounds.{IsRechargePair}
 use Rattle.problem_builder.specs.Cells.{IsEvap}
+use Rattle.problem_builder.specs.Filled.{Filled}
 use Rattle.problem_builder.specs.GridHeads.{AreGridHeads}
 use Rattle.problem_builder.specs.Moments.{IsTimeOf}
+use Rattle.problem_builder.specs.StepTables.{AreFactorsOf, HasEvenSteps, HasEvenStorage}
 
 -- two optional items are related, or both are None
 abbrev pub BothOrNone : {X Y : Type 0} → (X → Y → Type 0) → Option X → Option Y → Type 0
@@ -109,14 +111,16 @@ pub record ArePeriodTables (m : FlowModel) (s p : ℕ) (t : PeriodTables) : Type
   pub evaps : length t.evaps ≡ cell_count m.grid
   pub evap : (c : ℕ) → c < cell_count m.grid → is_variable m p c ≡ true → BothOrNone (IsEvap m s c) (item_in t.evaps c) (evap_at m p c)
 
--- The tables of a time step: storage, and the heads of constant cells.
+-- A stress period's table of storage, for these thicknesses: the same in every step. None, where steps aren't equally long.
 
-pub record AreStepTables (m : FlowModel) (w : Thicknesses) (s : ℕ) (at : TimeStep) (t : StepTables) : Type 0 where
-  pub storages : length t.storage ≡ cell_count m.grid
-  pub storage : (c : ℕ) → c < cell_count m.grid → is_variable m at.period c ≡ true →
-      (period_at m at.period).steady ≡ false →
-      IsCapped (storage_term m w.thick (period_at m at.period) at.step c) s (pair_in t.storage c).lo
-      (pair_in t.storage c).hi
+abbrev pub AreEvenStorages : FlowModel → (ℕ → Span) → ℕ → ℕ → Option (List Pair) → Type 0
+AreEvenStorages m thick s p None = HasEvenSteps (period_at m p) → ⊥
+AreEvenStorages m thick s p (Some xs) = Filled (HasEvenStorage m thick s p) no_pair (cell_count m.grid) xs
+
+-- The tables of a time step: the factors of its length, and the heads of constant cells.
+
+pub record AreStepTables (m : FlowModel) (at : TimeStep) (t : StepTables) : Type 0 where
+  pub factors : AreFactorsOf m at t.factors
   pub heads : length t.heads ≡ cell_count m.grid
   pub head : (c : ℕ) → c < cell_count m.grid → is_constant m at.period c ≡ true → IsConstantPair m at c (bound_in t.heads c).low (bound_in t.heads c).high
 
@@ -137,5 +141,6 @@ pub record AreInputs (i : Inputs) : Type 0 where
   pub entries : (c : ℕ) → All (IsEntryValid 65536) (local_entries i.model i.at.period c)
   pub tables : AreTables i.model i.tables.digits i.tables
   pub period : ArePeriodTables i.model i.tables.digits i.at.period i.period
-  pub step : AreStepTables i.model (widths_of i.tables) i.tables.digits i.at i.step
+  pub storage : AreEvenStorages i.model (span_in i.tables.thick) i.tables.digits i.at.period i.period.storage
+  pub step : AreStepTables i.model i.at i.step
   pub old : AreGridHeads i.model i.old

@@ -11,7 +11,7 @@ ghost use Rattle.problem_builder.specs.GridHeads.{AreGridHeads, HeadsEnclose, Is
 ghost use Rattle.problem_builder.specs.Problems.{AreCells, IsProblemOf, IsBuildFault};
 ghost use Rattle.problem_builder.specs.Stored.{HasOldHeads};
 ghost use Rattle.problem_builder.specs.Made.{IsVariableCell, IsCheckedCell, IsCellFault, IsFirstFault};
-ghost use Rattle.problem_builder.specs.Tables.{AreInputs, AreTables, ArePeriodTables, widths_of};
+ghost use Rattle.problem_builder.specs.Tables.{AreInputs, AreTables, ArePeriodTables, AreEvenStorages, span_in, widths_of};
 
 use crate::cell::cell;
 use crate::fault::{BuildFault, fault};
@@ -91,6 +91,7 @@ pub fn build_with(
     requires digits { tables.now.digits ≤ 18 }
     requires tables { AreTables model.now tables.now.digits tables.now }
     requires period { ArePeriodTables model.now tables.now.digits at.period period.now }
+    requires storage { AreEvenStorages model.now (span_in tables.now.thick) tables.now.digits at.period period.now.storage }
     ensures problem { IfOk result (λ p. IsProblemOf model.now tables.now.digits at old.now p) }
     ensures refusal { IfErr result (IsBuildFault model.now tables.now.digits at old.now) }
     ensures cells { IfOk result (λ p. map (λ e. e.id) p ≡ variable_cells model.now at.period) }
@@ -100,7 +101,7 @@ pub fn build_with(
         EnclosesStep tables.now.digits p (exact_step model.now at.period at.step before)) }
     ensures stored { IfOk result (λ p. (period_at model.now at.period).steady ≡ false → HasOldHeads p) }
 {
-    let step = step_tables(alloc, model, tables, period, at)?;
+    let step = step_tables(alloc, model, period, at)?;
     let input = StepInput {
         model,
         tables,
@@ -135,6 +136,6 @@ pub fn build(
     ensures stored { IfOk result (λ p. (period_at model.now at.period).steady ≡ false → HasOldHeads p) }
 {
     let tables = Tables::new(alloc, model, s)?;
-    let period = PeriodTables::at(alloc, model, at.period, s)?;
+    let period = PeriodTables::at(alloc, model, &tables, at.period)?;
     build_with(alloc, model, &tables, &period, at, old)
 }

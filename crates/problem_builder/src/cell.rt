@@ -1,7 +1,7 @@
 // A cell of a step's problem.
 ghost use Rattle.std.specs.Prelude.{◌≡◌, ◌<◌, ◌≤◌, All, IfOk};
 ghost use Rattle.std.specs.List.{AllZip};
-ghost use Rattle.model_types.specs.Sources.{storage_at, fixed_sources, flow_sources, evap_sources};
+ghost use Rattle.model_types.specs.Sources.{fixed_sources, flow_sources, evap_sources};
 ghost use Rattle.model_types.specs.Receivers.{recharge_at, evap_at};
 ghost use Rattle.problem_builder.specs.Cells.{IsFixed, IsFlow, IsReceived, IsEvap, IsCellOf};
 ghost use Rattle.problem_builder.specs.Made.{IsVariableCell};
@@ -10,25 +10,11 @@ ghost use Rattle.problem_builder.specs.Tables.{AreInputs, BothOrNone, widths_of}
 use crate::branches::{constants, links};
 use crate::entries::{drains, generals, rivers, wells};
 use crate::input::StepInput;
-use crate::known::{constant_flow, known_head};
+use crate::known::constant_flow;
 use crate::pushing::push_some;
+use crate::stored::stored;
 use std::alloc::{AllocError, Global};
-use step_problem::{Cell, Evap, Fixed, FixedKind, Flow, FlowKind};
-
-// The branch to the cell's old head, in a transient period.
-fn stored(input: &StepInput, cell: u32) -> Option<Fixed>
-    requires input { AreInputs input.now }
-    requires cell { IsVariableCell input.now cell }
-    ensures { BothOrNone (IsFixed input.now.model (widths_of input.now.tables) input.now.tables.digits input.now.at
-        input.now.old cell) result (storage_at input.now.model input.now.at.period) }
-{
-    if input.is_steady() {
-        return None;
-    }
-    let pair = input.storage(cell);
-    let head = input.old_head(cell);
-    Some(known_head(FixedKind::Storage, cell, pair, head))
-}
+use step_problem::{Cell, Evap, Fixed, Flow, FlowKind};
 
 fn fixed(alloc: Global, input: &StepInput, cell: u32) -> Result<Vec<Fixed>, AllocError>
     requires input { AreInputs input.now }

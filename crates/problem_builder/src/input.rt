@@ -5,12 +5,12 @@ ghost use Rattle.model_types.specs.Kinds.{kind_of, is_variable, is_constant, ind
 ghost use Rattle.model_types.specs.Sources.{local_entries};
 ghost use Rattle.model_types.specs.Times.{period_at};
 ghost use Rattle.model_types.specs.Valid.{IsEntryValid};
-ghost use Rattle.problem_builder.specs.Tables.{AreInputs, pair_in, bound_in, item_in};
+ghost use Rattle.problem_builder.specs.Tables.{AreInputs, bound_in, item_in};
 
 use crate::period::PeriodTables;
 use crate::step::StepTables;
 use crate::tables::Tables;
-use conductance_bounds::{FlowPair, Pair};
+use conductance_bounds::FlowPair;
 use model_types::{Entry, FlowModel, Kind, TimeStep};
 use std::marker::Model;
 use step_problem::{Bound, Evap};
@@ -57,15 +57,6 @@ impl<'a> StepInput<'a> {
         ensures { result ≡ (period_at self.now.model self.now.at.period).steady }
     {
         self.period.steady
-    }
-
-    /// The bounds of a cell's storage.
-    pub fn storage(&self, cell: u32) -> Pair
-        requires input { AreInputs self.now }
-        requires cell { cell < cell_count self.now.model.grid }
-        ensures { result ≡ pair_in self.now.step.storage cell }
-    {
-        self.step.storage.as_slice()[cell as usize]
     }
 
     /// The bounds of the head of a constant-head cell.

@@ -29,6 +29,7 @@ pub mod start;
 pub mod step;
 pub mod step_tables;
 pub mod storages;
+pub mod stored;
 pub mod tables;
 pub mod widths;
 

@@ -3,7 +3,7 @@ ghost use Rattle.std.specs.Prelude.{◌≡◌, ◌+◌, ◌<◌, ◌≤◌, IfOk
 ghost use Rattle.model_types.specs.declared.kind.Kind.TheVariants.{NoFlow};
 ghost use Rattle.model_types.specs.Kinds.{given_heads};
 ghost use Rattle.model_types.specs.Valid.{IsModel};
-ghost use Rattle.problem_builder.specs.Tables.{ArePeriodTables, bound_in, item_in};
+ghost use Rattle.problem_builder.specs.Tables.{AreTables, ArePeriodTables, AreEvenStorages, bound_in, item_in, span_in};
 
 use crate::chosen::covered;
 use crate::evaporation::evaps;
@@ -12,14 +12,16 @@ use crate::index::indices;
 use crate::local::Local;
 use crate::periods::{given_after, given_before, stress_period};
 use crate::recharge::recharges;
-use conductance_bounds::FlowPair;
+use crate::storages::even_storages;
+use crate::tables::Tables;
+use conductance_bounds::{FlowPair, Pair};
 use model_types::{FlowModel, Given, GivenHeads, Kind, Listed};
 use std::alloc::{AllocError, Global};
 use step_problem::{Bound, Evap};
 
 /// The data that depend on the stress period alone, by cell: its kind, its index if it is variable, what the period's
 /// CHD list gives, the head that a constant-head cell keeps, its entries, the recharge that it receives, in units of
-/// 10^-(s+9), and its evapotranspiration.
+/// 10^-(s+9), and its evapotranspiration; and where all steps are equally long, its storage.
 #[derive(Debug, Drop)]
 pub struct PeriodTables {
     pub period: u32,
@@ -31,25 +33,31 @@ pub struct PeriodTables {
     pub local: Local,
     pub recharge: Listed<Option<FlowPair>>,
     pub evaps: Listed<Option<Evap>>,
+    pub storage: Option<Listed<Pair>>,
 }
 
 impl PeriodTables {
-    /// The tables of the stress period after `given`, with s digits.
+    /// The tables of the stress period after `given`, with the digits of the run's tables.
     pub fn new(
         alloc: Global,
         model: &FlowModel,
+        tables: &Tables,
         given: &GivenHeads,
-        s: u32,
     ) -> Result<PeriodTables, AllocError>
         requires model { IsModel model.now }
+        requires digits { tables.now.digits ≤ 18 }
+        requires tables { AreTables model.now tables.now.digits tables.now }
         requires given { given.now ≡ given_heads model.now given.now.period }
         requires period { given.now.period < length model.now.periods }
-        requires digits { s ≤ 18 }
-        ensures { IfOk result (ArePeriodTables model.now s (given.now.period + 1)) }
+        ensures tables { IfOk result (ArePeriodTables model.now tables.now.digits (given.now.period + 1)) }
+        ensures storage { IfOk result
+            (λ t. AreEvenStorages model.now (span_in tables.now.thick) tables.now.digits (given.now.period + 1) t.storage) }
     {
+        let s = tables.digits;
         let next = given_after(alloc, model, given)?;
         let number = next.period;
         let kinds = next.kinds(alloc, model)?;
+        let storage = even_storages(alloc, model, tables, kinds.as_slice(), number)?;
         let index = indices(alloc, model, &next)?;
         let kept = kept(alloc, model, given)?;
         let covered = covered(alloc, model)?;
@@ -69,23 +77,27 @@ impl PeriodTables {
             local,
             recharge: Listed::new(recharge),
             evaps: Listed::new(evaps),
+            storage,
         })
     }
 
-    /// The tables of a stress period, counted from 1, with s digits. It reads the CHD lists up to the period.
+    /// The tables of a stress period, counted from 1. It reads the CHD lists up to the period.
     pub fn at(
         alloc: Global,
         model: &FlowModel,
+        tables: &Tables,
         period: u32,
-        s: u32,
     ) -> Result<PeriodTables, AllocError>
         requires model { IsModel model.now }
+        requires digits { tables.now.digits ≤ 18 }
+        requires tables { AreTables model.now tables.now.digits tables.now }
         requires period { (1 ≤ period) × (period ≤ length model.now.periods) }
-        requires digits { s ≤ 18 }
-        ensures { IfOk result (ArePeriodTables model.now s period) }
+        ensures tables { IfOk result (ArePeriodTables model.now tables.now.digits period) }
+        ensures storage { IfOk result
+            (λ t. AreEvenStorages model.now (span_in tables.now.thick) tables.now.digits period t.storage) }
     {
         let given = given_before(alloc, model, period)?;
-        PeriodTables::new(alloc, model, &given, s)
+        PeriodTables::new(alloc, model, tables, &given)
     }
 
     /// The kind of a cell.

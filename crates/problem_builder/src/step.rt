@@ -1,11 +1,11 @@
 // The tables of a single time step, besides those of its period.
-use conductance_bounds::Pair;
+use conductance_bounds::Factors;
 use model_types::Listed;
 use step_problem::Bound;
 
-/// For each cell: storage, and the head of a constant-head cell.
+/// The factors of the step's length, unless its period is steady, and for each cell the head of a constant-head cell.
 #[derive(Debug, Drop)]
 pub struct StepTables {
-    pub storage: Listed<Pair>,
+    pub factors: Option<Factors>,
     pub heads: Listed<Bound>,
 }

@@ -1,29 +1,33 @@
-// Storage in a time step, by cell.
-ghost use Rattle.std.specs.Prelude.{◌≡◌, ◌<◌, ◌≤◌, true, cond, None, Some, IfOk, length};
+// Storage, by cell.
+ghost use Rattle.std.specs.Prelude.{◌≡◌, ◌<◌, ◌≤◌, ℕ, true, false, cond, None, Some, IfOk, length};
+ghost use Rattle.decimal_input.specs.Canonical.{size};
 ghost use Rattle.conductance_bounds.specs.Formulas.{storage_term};
+ghost use Rattle.conductance_bounds.specs.Growth.{IsUsable, IsGrown};
 ghost use Rattle.conductance_bounds.specs.Pairs.{IsCapped};
+ghost use Rattle.model_types.specs.declared.kind.Kind.TheVariants.{NoFlow};
 ghost use Rattle.model_types.specs.Cells.{cell_count};
 ghost use Rattle.model_types.specs.Layers.{is_active};
 ghost use Rattle.model_types.specs.Times.{period_at};
 ghost use Rattle.model_types.specs.Valid.{IsModel};
 ghost use Rattle.problem_builder.specs.Filled.{Filled};
 ghost use Rattle.problem_builder.specs.Moments.{IsTimeOf};
-ghost use Rattle.problem_builder.specs.StepTables.{AreStepFactors, AreFactorsOf, HasStorage};
-ghost use Rattle.problem_builder.specs.Tables.{AreTables, ArePeriodTables, no_pair, span_in};
+ghost use Rattle.problem_builder.specs.PeriodTables.{IsKind};
+ghost use Rattle.problem_builder.specs.StepTables.{AreFactorsOf, AreEvenFactors, HasEvenStorage};
+ghost use Rattle.problem_builder.specs.Tables.{AreTables, AreEvenStorages, no_pair, span_in};
 
 use crate::capped::capped;
 use crate::faces::{NO_PAIR, span_at};
-use crate::period::PeriodTables;
 use crate::periods::stress_period;
 use crate::tables::Tables;
 use conductance_bounds::{Factors, Pair, Span, step_factors, storage_branch};
 use model_types::layers::dec_at;
-use model_types::{FlowModel, Kind, TimeStep};
+use model_types::{FlowModel, Kind, Listed, TimeStep};
+use number_limits::is_one;
 use scaled_decimal::Sd;
 use std::alloc::{AllocError, Global};
 
-// The factors of a step, unless its period is steady.
-fn factors_of(model: &FlowModel, at: TimeStep) -> Option<Factors>
+/// The factors of a step, unless its period is steady.
+pub fn factors_of(model: &FlowModel, at: TimeStep) -> Option<Factors>
     requires model { IsModel model.now }
     requires time { IsTimeOf model.now at }
     ensures { AreFactorsOf model.now at result }
@@ -33,6 +37,22 @@ fn factors_of(model: &FlowModel, at: TimeStep) -> Option<Factors>
         None
     } else {
         Some(step_factors(period.tsmult, period.nstp, at.step))
+    }
+}
+
+// The factors of every step of a transient period whose steps are equally long; None for another period.
+fn even_factors(model: &FlowModel, number: u32) -> Option<Factors>
+    requires model { IsModel model.now }
+    requires number { (1 ≤ number) × (number ≤ length model.now.periods) }
+    ensures { AreEvenFactors model.now number result }
+{
+    let period = stress_period(model, number);
+    if period.steady {
+        None
+    } else if is_one(period.tsmult) {
+        Some(step_factors(period.tsmult, period.nstp, 1))
+    } else {
+        None
     }
 }
 
@@ -47,24 +67,27 @@ fn thickness_in(model: &FlowModel, thickness: Span) -> Option<(Sd, Sd)>
     }
 }
 
-// The bounds of an active cell's storage in a step with these factors.
-fn storage_at(
+/// The bounds of an active cell's storage, in each step of a transient period that has these factors.
+pub fn storage_at(
     model: &FlowModel,
     tables: &Tables,
-    at: TimeStep,
+    number: u32,
     factors: &Factors,
     cell: u32,
 ) -> Pair
     requires model { IsModel model.now }
-    requires time { IsTimeOf model.now at }
+    requires number { (1 ≤ number) × (number ≤ length model.now.periods) }
+    requires transient { (period_at model.now number).steady ≡ false }
     requires digits { tables.now.digits ≤ 18 }
     requires tables { AreTables model.now tables.now.digits tables.now }
-    requires factors { AreStepFactors model.now at factors.now }
+    requires factors { IsUsable factors.now }
     requires cell { cell < cell_count model.now.grid }
     requires active { is_active model.now cell ≡ true }
-    ensures { IsCapped (storage_term model.now (span_in tables.now.thick) (period_at model.now at.period) at.step cell) tables.now.digits result.lo result.hi }
+    ensures { (n : ℕ) → IsGrown (size (period_at model.now number).tsmult) (period_at model.now number).nstp n factors.now →
+        IsCapped (storage_term model.now (span_in tables.now.thick) (period_at model.now number) n cell) tables.now.digits
+        result.lo result.hi }
 {
-    let period = stress_period(model, at.period);
+    let period = stress_period(model, number);
     let ss = dec_at(model.ss.as_slice(), cell);
     let thickness = thickness_in(model, span_at(tables.thick.as_slice(), cell));
     let delr = model.delr_at(cell);
@@ -80,53 +103,75 @@ fn storage_at(
     ))
 }
 
-fn storage_of(
+// The bounds of a cell's storage in every step, if it is a variable cell.
+fn even_storage(
     model: &FlowModel,
     tables: &Tables,
-    period: &PeriodTables,
-    at: TimeStep,
-    factors: Option<Factors>,
+    kinds: &[Kind],
+    number: u32,
+    factors: &Factors,
     cell: u32,
 ) -> Pair
     requires model { IsModel model.now }
-    requires time { IsTimeOf model.now at }
+    requires number { (1 ≤ number) × (number ≤ length model.now.periods) }
     requires digits { tables.now.digits ≤ 18 }
     requires tables { AreTables model.now tables.now.digits tables.now }
-    requires period { ArePeriodTables model.now tables.now.digits at.period period.now }
-    requires factors { AreFactorsOf model.now at factors }
+    requires kinds { Filled (IsKind model.now number) NoFlow (cell_count model.now.grid) kinds.now }
+    requires factors { AreEvenFactors model.now number (Some factors.now) }
     requires cell { cell < cell_count model.now.grid }
-    ensures { HasStorage model.now (span_in tables.now.thick) tables.now.digits at cell result }
+    ensures { HasEvenStorage model.now (span_in tables.now.thick) tables.now.digits number cell result }
 {
-    let Some(factors) = factors else {
-        return NO_PAIR;
-    };
-    match period.kind_at(cell) {
-        Kind::Variable => storage_at(model, tables, at, &factors, cell),
+    match kinds[cell as usize] {
+        Kind::Variable => storage_at(model, tables, number, factors, cell),
         Kind::Constant => NO_PAIR,
         Kind::NoFlow => NO_PAIR,
     }
 }
 
-/// For each cell the bounds of its storage, if it is a variable cell and the period is transient.
-pub fn storages(
+// For each cell the bounds of its storage in every step, if it is a variable cell.
+fn storages(
     alloc: Global,
     model: &FlowModel,
     tables: &Tables,
-    period: &PeriodTables,
-    at: TimeStep,
+    kinds: &[Kind],
+    number: u32,
+    factors: &Factors,
 ) -> Result<Vec<Pair>, AllocError>
     requires model { IsModel model.now }
-    requires time { IsTimeOf model.now at }
+    requires number { (1 ≤ number) × (number ≤ length model.now.periods) }
     requires digits { tables.now.digits ≤ 18 }
     requires tables { AreTables model.now tables.now.digits tables.now }
-    requires period { ArePeriodTables model.now tables.now.digits at.period period.now }
-    ensures { IfOk result (λ v. Filled (HasStorage model.now (span_in tables.now.thick) tables.now.digits at) no_pair (cell_count model.now.grid) v.items) }
+    requires kinds { Filled (IsKind model.now number) NoFlow (cell_count model.now.grid) kinds.now }
+    requires factors { AreEvenFactors model.now number (Some factors.now) }
+    ensures { IfOk result (λ v. Filled (HasEvenStorage model.now (span_in tables.now.thick) tables.now.digits number) no_pair (cell_count model.now.grid) v.items) }
 {
-    let factors = factors_of(model, at);
     let mut pairs = Vec::new(alloc);
     let count = model.grid.cell_count();
     for cell in 0..count {
-        pairs.push(storage_of(model, tables, period, at, factors, cell))?;
+        pairs.push(even_storage(model, tables, kinds, number, factors, cell))?;
     }
     Ok(pairs)
+}
+
+/// For each cell the bounds of its storage in every step, if it is a variable cell; None where the period is steady,
+/// or its steps are not equally long.
+pub fn even_storages(
+    alloc: Global,
+    model: &FlowModel,
+    tables: &Tables,
+    kinds: &[Kind],
+    number: u32,
+) -> Result<Option<Listed<Pair>>, AllocError>
+    requires model { IsModel model.now }
+    requires number { (1 ≤ number) × (number ≤ length model.now.periods) }
+    requires digits { tables.now.digits ≤ 18 }
+    requires tables { AreTables model.now tables.now.digits tables.now }
+    requires kinds { Filled (IsKind model.now number) NoFlow (cell_count model.now.grid) kinds.now }
+    ensures { IfOk result (AreEvenStorages model.now (span_in tables.now.thick) tables.now.digits number) }
+{
+    let Some(factors) = even_factors(model, number) else {
+        return Ok(None);
+    };
+    let pairs = storages(alloc, model, tables, kinds, number, &factors)?;
+    Ok(Some(Listed::new(pairs)))
 }

@@ -2,7 +2,7 @@
 use Rattle.std.specs.Prelude.{◌≡◌, ℕ}
 use Rattle.model_types.specs.declared.model.FlowModel.{FlowModel}
 use Rattle.model_types.specs.Kinds.{given_heads}
-use Rattle.problem_builder.specs.Tables.{AreTables, ArePeriodTables}
+use Rattle.problem_builder.specs.Tables.{AreTables, ArePeriodTables, AreEvenStorages, span_in}
 use Rattle.step_chain.specs.declared.kept.RunTables.{RunTables}
 
 -- the digits of conductances
@@ -14,3 +14,4 @@ pub record AreRunTables (m : FlowModel) (t : RunTables) : Type 0 where
   pub tables : AreTables m (digits_of t) t.tables
   pub given : t.given ≡ given_heads m t.given.period
   pub period : ArePeriodTables m (digits_of t) t.period.period t.period
+  pub storage : AreEvenStorages m (span_in t.tables.thick) (digits_of t) t.period.period t.period.storage

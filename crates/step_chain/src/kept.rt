@@ -27,7 +27,7 @@ impl RunTables {
     {
         let tables = Tables::new(alloc, model, s)?;
         let given = GivenHeads::new(alloc, model)?;
-        let period = PeriodTables::new(alloc, model, &given, s)?;
+        let period = PeriodTables::new(alloc, model, &tables, &given)?;
         Ok(RunTables {
             tables,
             given,
@@ -49,7 +49,7 @@ impl RunTables {
     {
         if self.period.period != period {
             go_before(&mut self.given, alloc, model, period)?;
-            self.period = PeriodTables::new(alloc, model, &self.given, self.tables.digits)?;
+            self.period = PeriodTables::new(alloc, model, &self.tables, &self.given)?;
         }
         Ok(())
     }

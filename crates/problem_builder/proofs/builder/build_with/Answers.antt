@@ -17,6 +17,7 @@ problem_of-requires c =
       entries = (λ d. local_valid m c.args.at.period d c.requires.model time.valid);
       tables = c.requires.tables;
       period = c.requires.period;
+      storage = c.requires.storage;
       step = c.in_ok-step.ensures;
       old = c.requires.old;
     }

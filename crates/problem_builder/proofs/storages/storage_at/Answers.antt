@@ -13,7 +13,8 @@ use Rattle.conductance_bounds.specs.Pairs.{IsCapped}
 use Rattle.conductance_bounds.specs.Terms.{Term}
 use Rattle.problem_builder.specs.Tables.{span_in}
 use Rattle.problem_builder.proofs.Halves.{delr_positive, delc_positive}
-use Rattle.problem_builder.proofs.StepMade.{thick_case, usable_case}
+use Rattle.problem_builder.proofs.PeriodsOf.{period_valid}
+use Rattle.problem_builder.proofs.StorageParts.{thick_case, usable_case}
 use Rattle.problem_builder.proofs.storages.storage_at.Goals as goal
 
 pub storage_branch-requires-clause-ss : goal.storage_branch-requires-clause-ss
@@ -39,24 +40,23 @@ storage_branch-requires-clause-delc c = subst IsPositive (sym c.delc_at-delc.ens
 pub storage_branch-requires-clause-perlen : goal.storage_branch-requires-clause-perlen
 storage_branch-requires-clause-perlen c =
     let P : Period → Type 0 = λ x. IsPositive x.perlen in
-    subst P (sym c.stress_period-period.ensures) (c.requires.time.valid.times.lasts c.requires.factors.transient)
+    subst P (sym c.stress_period-period.ensures) ((period_valid c.args.model.now c.args.number c.requires.model c.requires.number).times.lasts c.requires.transient)
 
 pub returns : goal.returns
-returns c =
+returns c n grown =
     let m = c.args.model.now in
     let t = c.args.tables.now in
-    let at = c.args.at in
     let d = c.args.cell in
-    let w = period_at m at.period in
+    let w = period_at m c.args.number in
     let per = c.stress_period-period.ensures in
     let ss = c.dec_at-ss.ensures ∙ ap (λ xs. dec_at xs d) c.as_slice.ensures in
     let span = c.span_at.ensures ∙ ap (λ xs. span_in xs d) c.as_slice-2.ensures in
     let thick : c.thickness_in-thickness.result ≡ cond m.coefficient None (Some ((span_in t.thick d).lo, (span_in t.thick d).hi)) = c.thickness_in-thickness.ensures ∙ (λ q. cond m.coefficient None (Some ((span q).lo, (span q).hi))) in
     let delr = c.delr_at-delr.ensures in
     let delc = c.delc_at-delc.ensures in
-    let called = c.capped.ensures _ t.digits (c.storage_branch.ensures.rounded (size w.tsmult) w.nstp at.step (thickness m d) c.requires.factors.grown) in
-    let same : storage_of c.dec_at-ss.result c.thickness_in-thickness.result c.delr_at-delr.result c.delc_at-delc.result (size w.tsmult) w.nstp at.step c.stress_period-period.result.now.perlen (thickness m d) ≡ storage_term m (span_in t.thick) w at.step d =
-    (λ q. storage_of (ss q) (thick q) (delr q) (delc q) (size w.tsmult) w.nstp at.step (per q).perlen (thickness m d))
-    ∙ ap (λ o. storage_formula (storativity_term (size (dec_at m.ss d)) o) (area_term m d) (sum_term (size w.tsmult) (w.nstp - 1)) (size w.perlen) (power_term (size w.tsmult) (at.step - 1))) (thick_case m.coefficient (span_in t.thick d) (thickness m d)) in
+    let called = c.capped.ensures _ t.digits (c.storage_branch.ensures.rounded (size w.tsmult) w.nstp n (thickness m d) grown) in
+    let same : storage_of c.dec_at-ss.result c.thickness_in-thickness.result c.delr_at-delr.result c.delc_at-delc.result (size w.tsmult) w.nstp n c.stress_period-period.result.now.perlen (thickness m d) ≡ storage_term m (span_in t.thick) w n d =
+    (λ q. storage_of (ss q) (thick q) (delr q) (delc q) (size w.tsmult) w.nstp n (per q).perlen (thickness m d))
+    ∙ ap (λ o. storage_formula (storativity_term (size (dec_at m.ss d)) o) (area_term m d) (sum_term (size w.tsmult) (w.nstp - 1)) (size w.perlen) (power_term (size w.tsmult) (n - 1))) (thick_case m.coefficient (span_in t.thick d) (thickness m d)) in
     let P : Term → Type 0 = λ z. IsCapped z t.digits c.capped.result.lo c.capped.result.hi in
     subst P same called

@@ -1,4 +1,4 @@
-use Rattle.std.proofs.Common.{None, ap, ◌∙◌, refl, arith}
+use Rattle.std.proofs.Common.{ℕ, None, subst, ap, ◌∙◌, refl, arith}
 use Rattle.step_problem.specs.Heads.{no_bound}
 use Rattle.model_types.specs.declared.kind.Kind.TheVariants.{NoFlow}
 use Rattle.model_types.specs.declared.period.Period.{Period}
@@ -6,6 +6,7 @@ use Rattle.model_types.specs.Cells.{cell_count}
 use Rattle.model_types.specs.Sources.{entries_of}
 use Rattle.model_types.specs.Times.{entries}
 use Rattle.problem_builder.specs.PeriodTables.{IsKind, IsIndex, IsKept, IsRecharged, IsEvaporated}
+use Rattle.problem_builder.specs.Tables.{AreEvenStorages, span_in}
 use Rattle.problem_builder.proofs.CellTables.{kinds_filled}
 use Rattle.problem_builder.proofs.PeriodMade.{period_made, filled_as, named_as}
 use Rattle.problem_builder.proofs.PeriodsOf.{entries_within}
@@ -14,11 +15,22 @@ use Rattle.problem_builder.proofs.period.PeriodTables.new.Goals as goal
 pub of_period-requires : goal.of_period-requires
 of_period-requires c = record { cells = entries_within c.args.model.now c.in_ok-next.next.period c.cell_count-count.result _ c.requires.model (omega (arith, c.in_ok-next.ensures.period), omega (arith, c.in_ok-next.ensures.period, c.requires.period)) c.stress_period-period.ensures c.cell_count-count.ensures.count }
 
-pub returns : goal.returns
-returns c =
+pub even_storages-requires-clause-kinds : goal.even_storages-requires-clause-kinds
+even_storages-requires-clause-kinds c =
+    let m = c.args.model.now in
+    let p = c.in_ok-next.next.period in
+    filled_as (IsKind m p) NoFlow (cell_count m.grid) _ _ c.as_slice.ensures.value (kinds_filled m p _ c.in_ok-kinds.ensures)
+
+pub returns-clause-storage : goal.returns-clause-storage
+returns-clause-storage c =
+    let t = c.args.tables.now in
+    subst (λ (q : ℕ). AreEvenStorages c.args.model.now (span_in t.thick) t.digits q c.in_ok-storage.storage) c.in_ok-next.ensures.period c.in_ok-storage.ensures
+
+pub returns-clause-tables : goal.returns-clause-tables
+returns-clause-tables c =
     let m = c.args.model.now in
     let n = cell_count m.grid in
-    let s = c.args.s in
+    let s = c.args.tables.now.digits in
     let p = c.in_ok-next.next.period in
     let per = c.stress_period-period.ensures in
     let count = c.cell_count-count.ensures.count in
@@ -27,7 +39,7 @@ returns c =
       steady = ap (λ (x : Period). x.steady) per;
       kinds = filled_as (IsKind m p) NoFlow n _ _ c.new.ensures (kinds_filled m p _ c.in_ok-kinds.ensures);
       index = filled_as (IsIndex m p) 0 n _ _ c.new-2.ensures c.in_ok-index.ensures;
-      given = named_as _ _ _ _ _ (c.as_slice-3.ensures ∙ ap (λ (x : Period). x.given) per) count c.in_ok-given.ensures;
+      given = named_as _ _ _ _ _ (c.as_slice-4.ensures ∙ ap (λ (x : Period). x.given) per) count c.in_ok-given.ensures;
       kept = filled_as (IsKept m c.args.given.now.period) no_bound n _ _ c.new-3.ensures c.in_ok-kept.ensures;
       locals = c.in_ok-local.ensures.len ∙ count;
       local = (λ d. c.in_ok-local.ensures.are d ∙ ap (λ (x : Period). entries_of d (entries x)) per);

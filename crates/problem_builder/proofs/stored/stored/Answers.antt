@@ -3,13 +3,10 @@ use Rattle.step_problem.specs.declared.heads.Bound.{Bound}
 use Rattle.step_problem.specs.declared.entry.Fixed.{Fixed}
 use Rattle.model_types.specs.Times.{period_at}
 use Rattle.model_types.specs.Sources.FixedSource.{FromStorage}
-use Rattle.conductance_bounds.specs.declared.pair.Pair.{Pair}
-use Rattle.conductance_bounds.specs.Formulas.{storage_term}
-use Rattle.conductance_bounds.specs.Pairs.{IsCapped}
 use Rattle.problem_builder.specs.Cells.{IsFixed, IsStorage}
-use Rattle.problem_builder.specs.Tables.{widths_of, span_in}
+use Rattle.problem_builder.specs.Tables.{widths_of}
 use Rattle.problem_builder.proofs.Pushed.{both_unless}
-use Rattle.problem_builder.proofs.cell.stored.Goals as goal
+use Rattle.problem_builder.proofs.stored.stored.Goals as goal
 
 pub returns : goal.returns
 returns c =
@@ -19,7 +16,7 @@ returns c =
     (subst (λ (x : Fixed). IsStorage i.model (widths_of i.tables) i.tables.digits i.at i.old c.args.cell x) (sym c.known_head.ensures) (record {
       kind = refl;
       source = refl;
-      conductance = subst (λ (q : Pair). IsCapped (storage_term i.model (span_in i.tables.thick) (period_at i.model i.at.period) i.at.step c.args.cell) i.tables.digits q.lo q.hi) (sym c.storage-pair.ensures) (c.requires.input.step.storage c.args.cell c.requires.cell.within c.requires.cell.variable e);
+      conductance = c.storage-pair.ensures c.requires.cell.variable e;
       low = ap (λ (q : Bound). q.low) c.old_head-head.ensures;
       high = ap (λ (q : Bound). q.high) c.old_head-head.ensures;
     }))

@@ -1,11 +1,7 @@
--- The tables of a time step, put together; storage and its factors.
-use Rattle.std.proofs.Common.{◌≡◌, ℕ, inl, inr, Bool, true, false, cond, Some, None, refl}
+-- What storage is made of: thicknesses and multipliers.
+use Rattle.std.proofs.Common.{◌≡◌, inl, inr, Bool, true, false, cond, Some, None, refl}
 use Rattle.decimal_input.specs.Ratios.{Ratio}
-use Rattle.step_problem.specs.Heads.{no_bound}
-use Rattle.model_types.specs.declared.model.FlowModel.{FlowModel}
 use Rattle.model_types.specs.declared.period.Period.{Period}
-use Rattle.model_types.specs.declared.time_steps.TimeStep.{TimeStep}
-use Rattle.model_types.specs.Cells.{cell_count}
 use Rattle.model_types.specs.Valid.{IsTimed}
 use Rattle.conductance_bounds.specs.declared.span.Span.{Span}
 use Rattle.conductance_bounds.specs.Branches.{thickness_of}
@@ -13,19 +9,6 @@ use Rattle.conductance_bounds.specs.Calls.{IsThickness}
 use Rattle.conductance_bounds.specs.Growth.{IsMultiplier}
 use Rattle.conductance_bounds.specs.Terms.Term.{Within}
 use Rattle.conductance_bounds.specs.Thicknesses.{AreThick}
-use Rattle.problem_builder.specs.declared.step.StepTables.{StepTables}
-use Rattle.problem_builder.specs.Filled.{Filled}
-use Rattle.problem_builder.specs.StepTables.{HasStorage, HasHead}
-use Rattle.problem_builder.specs.Tables.{AreStepTables, no_pair}
-use Rattle.problem_builder.specs.Thicknesses.{Thicknesses}
-
-pub step_made : (m : FlowModel) (w : Thicknesses) (s : ℕ) (at : TimeStep) (t : StepTables) → Filled (HasStorage m w.thick s at) no_pair (cell_count m.grid) t.storage → Filled (HasHead m at) no_bound (cell_count m.grid) t.heads → AreStepTables m w s at t
-step_made m w s at t storage heads = record {
-  storages = storage.count;
-  storage = storage.each;
-  heads = heads.count;
-  head = heads.each;
-}
 
 -- the thickness that counts for storage
 pub thick_case : (b : Bool) (t : Span) (f : Ratio) → thickness_of (cond b None (Some (t.lo, t.hi))) f ≡ cond b None (Some (Within t.lo t.hi f))

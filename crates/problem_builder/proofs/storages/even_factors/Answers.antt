@@ -1,0 +1,25 @@
+use Rattle.std.proofs.Common.{refl, ap, sym, ◌∙◌, subst}
+use Rattle.std.proofs.lemmas.Bool.{false≢true}
+use Rattle.decimal_input.specs.Canonical.{size}
+use Rattle.model_types.specs.declared.period.Period.{Period}
+use Rattle.model_types.specs.Times.{period_at}
+use Rattle.conductance_bounds.specs.Growth.{IsGrown}
+use Rattle.problem_builder.specs.StepTables.{HasEvenSteps}
+use Rattle.problem_builder.proofs.EvenSteps.{even_factors}
+use Rattle.problem_builder.proofs.storages.even_factors.Goals as goal
+
+pub returns-then-period : goal.returns-then-period
+returns-then-period c steps = absurd (false≢true (sym steps.transient ∙ sym (ap (λ (x : Period). x.steady) c.stress_period-period.ensures) ∙ c.if-period.true))
+
+pub returns-then-is_one : goal.returns-then-is_one
+returns-then-is_one c =
+    let period = c.stress_period-period.ensures in
+    let steps : HasEvenSteps (period_at c.args.model.now c.args.number) = record {
+      transient = sym (ap (λ (x : Period). x.steady) period) ∙ c.if-period.false;
+      even = sym (ap (λ (x : Period). x.tsmult) period) ∙ c.if-is_one.ensures.means.0 refl;
+    } in
+    let P : Period → Type 0 = λ x. IsGrown (size x.tsmult) x.nstp 1 c.step_factors.result in
+    even_factors c.args.model.now c.args.number c.step_factors.result steps (subst P period c.step_factors.ensures.grown) c.step_factors.ensures.usable
+
+pub returns-else-is_one : goal.returns-else-is_one
+returns-else-is_one c steps = absurd (false≢true (c.if-is_one.ensures.means.1 (ap (λ (x : Period). x.tsmult) c.stress_period-period.ensures ∙ steps.even)))
