@@ -13,7 +13,7 @@ use std::alloc::{AllocError, Global};
 const MOST_PASSES: u32 = 1_000_000;
 
 // The number of unit passes before the first gallop, between two gallops that gain, and at most between two.
-const FIRST_WAIT: u32 = 32;
+const FIRST_WAIT: u32 = 64;
 
 const SHORT_WAIT: u32 = 8;
 

@@ -3,7 +3,7 @@ use crate::one_side::OneSide;
 use crate::raise::raise_within;
 use crate::state::State;
 use multigrid::Budget;
-use multigrid::numbers::{at, greatest};
+use multigrid::numbers::{at, cut, greatest};
 use std::alloc::{AllocError, Global};
 
 /// Heads near those at which each balance is 0, and the room at each cell there, in units of 2^-10.
@@ -13,12 +13,13 @@ pub struct Balanced {
     pub room: Vec<i64>,
 }
 
-/// Settled heads, and how far below the balanced ones the search started: by this share of the room, in units of
-/// 2^-20.
+/// Settled heads, how far below the balanced ones the search started: by this share of the room, in units of
+/// 2^-20, and the turns in which they settled.
 #[derive(Drop)]
 pub struct Settled {
     pub state: State,
     pub share: i64,
+    turns: u64,
 }
 
 // The whole room.
@@ -34,6 +35,18 @@ const TURNS: u64 = 12;
 
 // The search ends where a step of the share moves no head by more than this many units.
 const NEAR: i128 = 64;
+
+// A step up, where turns say nothing of the next share.
+const STEP: i64 = WHOLE / 64;
+
+// Trials that go up by what the turns of the last one promise; the next ones go four times as far.
+const SURE_TRIALS: u32 = 4;
+
+// Heads that start a part of 1 / n of the whole room above the lowest that settle take about n / PARTS turns of each cell more than one.
+const PARTS: i128 = 200;
+
+// Unit passes that cost less than a trial does in which each cell takes one turn.
+const PASSES: i128 = 4;
 
 fn heads_below(
     alloc: Global,
@@ -58,15 +71,20 @@ struct Search {
     high: i64,
     trials: u32,
     found: Option<Settled>,
+    // The greatest room, in units, and the number of cells.
+    room: i128,
+    cells: i128,
 }
 
 impl Search {
-    fn new() -> Search {
+    fn new(balanced: &Balanced) -> Search {
         Search {
             low: -WHOLE / 4,
             high: WHOLE,
             trials: 0,
             found: None,
+            room: greatest(balanced.room.as_slice()) as i128 >> 10,
+            cells: balanced.heads.len() as i128,
         }
     }
 
@@ -86,32 +104,64 @@ impl Search {
         self.trials = self.trials.saturating_add(1);
         if raised.settled {
             self.low = share;
-            self.found = Some(Settled { state, share });
+            self.found = Some(Settled {
+                state,
+                share,
+                turns: raised.turns,
+            });
         } else {
             self.high = share;
         }
         Ok(())
     }
 
-    // The next share: near the first one, in steps down that grow while nothing settles; then the middle.
-    fn next_share(&self) -> i64 {
-        if self.trials == 1 && self.found.is_some() {
-            return self.low.saturating_add(WHOLE / 64);
+    // How far up a share can go that settled in these turns, a little less than these promise.
+    fn promised_step(&self, turns: u64) -> i64 {
+        let more = (turns as i128).saturating_sub(self.cells);
+        if more <= 0 {
+            return STEP;
         }
-        if self.trials <= 3 && self.found.is_none() {
-            let step = (WHOLE / 256).wrapping_shl(self.trials.saturating_mul(2));
-            return self.high.saturating_sub(step);
-        }
-        let width = self.high.saturating_sub(self.low);
-        self.low.saturating_add(width / 2)
+        let step = (WHOLE as i128 * 3 / 4).wrapping_mul(self.cells);
+        cut(step.checked_div(more.saturating_mul(PARTS)).unwrap_or(0))
     }
 
-    // Whether the heads at both shares are near each other, where this is the greatest room.
-    fn is_done(&self, room: i64) -> bool {
+    // The next share: up in steps that the turns promise, until one share does not settle; down in steps that grow, until one settles; then
+    // the middle.
+    fn next_share(&self) -> i64 {
+        let middle = self.high.saturating_sub(self.low) / 2;
+        let step = match &self.found {
+            Some(_) if self.high < WHOLE => middle,
+            Some(found) if self.trials <= SURE_TRIALS => self.promised_step(found.turns),
+            Some(found) => self.promised_step(found.turns).saturating_mul(4),
+            None if self.trials <= 3 => {
+                let step = (WHOLE / 256).wrapping_shl(self.trials.saturating_mul(2));
+                return self.high.saturating_sub(step);
+            }
+            None => middle,
+        };
+        self.low.saturating_add(step.min(middle).max(1))
+    }
+
+    // Whether the heads at both shares are near each other, or unit passes from the settled heads cost less than one more trial.
+    fn is_done(&self) -> bool {
         let width = self.high.saturating_sub(self.low);
-        let units = (width as i128 * room as i128).wrapping_shr(30);
+        let units = (width as i128).wrapping_mul(self.room).wrapping_shr(20);
         let near = units <= NEAR && (self.found.is_some() || self.trials > 9);
-        near || width <= 1
+        near || width <= 1 || self.is_low()
+    }
+
+    // Whether unit passes from the settled heads cost less than one more trial.
+    fn is_low(&self) -> bool {
+        let Some(found) = &self.found else {
+            return false;
+        };
+        let turns = found.turns as i128;
+        let parts = turns.saturating_mul(turns.saturating_sub(self.cells));
+        let room = self
+            .room
+            .saturating_mul(self.cells)
+            .saturating_mul(self.cells);
+        parts.saturating_mul(PARTS * PASSES) >= room
     }
 }
 
@@ -123,12 +173,11 @@ pub fn settled_below(
     first: i64,
     budget: &mut Budget,
 ) -> Result<Option<Settled>, AllocError> {
-    let room = greatest(balanced.room.as_slice());
-    let mut search = Search::new();
+    let mut search = Search::new(balanced);
     let mut share = first;
     for _ in 0..MOST_TRIALS {
         search.try_share(alloc, side, balanced, share, budget)?;
-        if search.is_done(room) || budget.is_spent() {
+        if search.is_done() || budget.is_spent() {
             break;
         }
         share = search.next_share();

@@ -98,6 +98,10 @@ impl Solver {
         })
     }
 
+    pub fn slopes(&self) -> &[i64] {
+        self.slopes.as_slice()
+    }
+
     /// Whether these slopes are nearly the solver's own: within the few units by which lower and upper conductances differ, or a
     /// small part of what they exceed the cell's links by. Heads move together as far as that part lets them, however great the links are.
     pub fn serves(&self, slopes: &[i64]) -> bool {
