@@ -24,7 +24,7 @@ struct Sides<'a> {
 }
 
 // Lower heads near balanced ones, and beside them the room, which serves both sides.
-fn near_with_room<R: Threads + Sync>(
+fn near_with_room<R: Threads>(
     rt: &R,
     alloc: Global,
     sides: &Sides,
@@ -44,7 +44,7 @@ fn near_with_room<R: Threads + Sync>(
 }
 
 // Lower heads from which each side is guessed for itself.
-fn near_heads<R: Threads + Sync>(
+fn near_heads<R: Threads>(
     rt: &R,
     alloc: Global,
     sides: &Sides,
@@ -60,7 +60,7 @@ fn near_heads<R: Threads + Sync>(
 }
 
 // The guesses of both sides from near heads.
-fn both_halves<R: Threads + Sync>(
+fn both_halves<R: Threads>(
     rt: &R,
     alloc: Global,
     sides: &Sides,
@@ -89,7 +89,7 @@ fn both_halves<R: Threads + Sync>(
 
 /// A guess as `guess_heads` makes it, with both sides in two threads where a problem has many cells: a few rounds of Newton's method for the
 /// lower side lead near the balanced heads of both.
-pub fn guess_beside<R: Threads + Sync>(
+pub fn guess_beside<R: Threads>(
     rt: &R,
     alloc: Global,
     p: &Problem,
