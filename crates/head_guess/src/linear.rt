@@ -96,6 +96,12 @@ impl Linear {
         }
     }
 
+    /// Whether the last correction, in units of 2^-places, was solved to its bits.
+    pub fn is_solved(&mut self, places: i64) -> bool {
+        let bits = self.bits(places);
+        self.solver.is_solved(bits)
+    }
+
     /// Finds the room, which is kept.
     pub fn find_room(&mut self, alloc: Global, budget: &mut Budget) -> Result<(), AllocError> {
         if self.room.is_none() {

@@ -9,11 +9,11 @@ use std::alloc::{AllocError, Global};
 
 const MOST_ROUNDS: u32 = 60;
 
-// Where the slopes stay as they were, a round is the last one if it began with shorter moves than these, by each balance
-// alone and in all: it leaves less than a unit of them.
+// A round of Newton's method may be the last one if it began with shorter moves than these, by each balance alone and in all: a solved system
+// leaves less than a unit of them.
 const SHORT: i64 = 1 << 12;
 
-const LONG: i128 = 1 << 26;
+const LONG: i128 = 1 << 16;
 
 // A round is the last one if it moves no head by more than these units: few cells pass a bend.
 const NEAR: i128 = 256;
@@ -90,17 +90,20 @@ impl Newton {
         longest
     }
 
-    // One round, where `alone` is the longest move by one balance alone. Returns the longest move.
+    // One round, where `alone` is the longest move by one balance alone. Returns the longest move, and whether it leaves less than a unit if
+    // the slopes stay as they were.
     fn step(
         &mut self,
         side: &OneSide,
         alone: i64,
         linear: &mut Linear,
         budget: &mut Budget,
-    ) -> i128 {
+    ) -> (i128, bool) {
         let places = 20_i64.saturating_sub(width(alone as i128) as i64);
         let unknowns = linear.correction(self.balances.as_slice(), places, budget);
-        self.advance(side, unknowns, places)
+        let longest = self.advance(side, unknowns, places);
+        let is_short = alone < SHORT && longest < LONG;
+        (longest, is_short && linear.is_solved(places))
     }
 }
 
@@ -129,12 +132,12 @@ pub fn find_balanced(
         if until == Until::Near && alone < SHORT {
             break;
         }
-        let longest = newton.step(side, alone, &mut linear, budget);
+        let (longest, is_last) = newton.step(side, alone, &mut linear, budget);
         if longest <= NEAR || budget.is_spent() {
             break;
         }
         newton.linearize(side);
-        if alone < SHORT && longest < LONG && linear.serves(newton.slopes.as_slice()) {
+        if is_last && linear.serves(newton.slopes.as_slice()) {
             break;
         }
         linear = Linear::of(alloc, side, &newton.slopes, Some(linear), budget)?;
