@@ -70,7 +70,7 @@ fn half_by_search(
         });
     };
     let mut state = settled.state;
-    let order = descend(alloc, side, &mut state, &mut budget)?;
+    let order = descend(alloc, side, &mut state, settled.is_low, &mut budget)?;
     Ok(HalfGuess {
         ended: Ended {
             heads: state.heads,
@@ -135,7 +135,7 @@ fn half_by_last(
     let Some(mut state) = settled_near(alloc, side, balanced, last, &mut budget)? else {
         return Ok(None);
     };
-    let order = descend(alloc, side, &mut state, &mut budget)?;
+    let order = descend(alloc, side, &mut state, false, &mut budget)?;
     if budget.is_spent() {
         return Ok(None);
     }

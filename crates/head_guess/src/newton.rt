@@ -10,10 +10,10 @@ use std::alloc::{AllocError, Global};
 const MOST_ROUNDS: u32 = 60;
 
 // A round of Newton's method may be the last one if it began with shorter moves than these, by each balance alone and in all: a solved system
-// leaves less than a unit of them.
+// leaves few units of them.
 const SHORT: i64 = 1 << 12;
 
-const LONG: i128 = 1 << 16;
+const LONG: i128 = 1 << 20;
 
 // A round is the last one if it moves no head by more than these units: few cells pass a bend.
 const NEAR: i128 = 256;
@@ -90,8 +90,8 @@ impl Newton {
         longest
     }
 
-    // One round, where `alone` is the longest move by one balance alone. Returns the longest move, and whether it leaves less than a unit if
-    // the slopes stay as they were.
+    // One round, where `alone` is the longest move by one balance alone. Returns the longest move, and whether it leaves few units if the slopes
+    // stay as they were.
     fn step(
         &mut self,
         side: &OneSide,

@@ -14,11 +14,13 @@ pub struct Balanced {
 }
 
 /// Settled heads, how far below the balanced ones the search started: by this share of the room, in units of
-/// 2^-20, and the turns in which they settled.
+/// 2^-20, and whether they are so low that unit passes cost less than one more trial.
 #[derive(Drop)]
 pub struct Settled {
     pub state: State,
     pub share: i64,
+    pub is_low: bool,
+    // The turns in which they settled.
     turns: u64,
 }
 
@@ -71,9 +73,9 @@ struct Search {
     high: i64,
     trials: u32,
     found: Option<Settled>,
-    // The greatest room, in units, and the number of cells.
+    // The greatest room, in units.
     room: i128,
-    cells: i128,
+    cells: u64,
 }
 
 impl Search {
@@ -84,8 +86,13 @@ impl Search {
             trials: 0,
             found: None,
             room: greatest(balanced.room.as_slice()) as i128 >> 10,
-            cells: balanced.heads.len() as i128,
+            cells: balanced.heads.len() as u64,
         }
+    }
+
+    // The turns of a trial.
+    fn most_turns(&self) -> u64 {
+        TURNS.saturating_mul(self.cells)
     }
 
     // One more trial, from this share.
@@ -97,16 +104,16 @@ impl Search {
         share: i64,
         budget: &mut Budget,
     ) -> Result<(), AllocError> {
-        let turns = TURNS.saturating_mul(side.len() as u64);
         let heads = heads_below(alloc, side, balanced, share)?;
         let mut state = State::new(alloc, side, heads)?;
-        let raised = raise_within(alloc, side, &mut state, None, turns, budget)?;
+        let raised = raise_within(alloc, side, &mut state, None, self.most_turns(), budget)?;
         self.trials = self.trials.saturating_add(1);
         if raised.settled {
             self.low = share;
             self.found = Some(Settled {
                 state,
                 share,
+                is_low: self.is_low(raised.turns),
                 turns: raised.turns,
             });
         } else {
@@ -115,14 +122,27 @@ impl Search {
         Ok(())
     }
 
-    // How far up a share can go that settled in these turns, a little less than these promise.
+    // Whether unit passes from heads that settled in these turns cost less than one more trial.
+    fn is_low(&self, turns: u64) -> bool {
+        let (turns, cells) = (turns as i128, self.cells as i128);
+        let parts = turns.saturating_mul(turns.saturating_sub(cells));
+        let room = self.room.saturating_mul(cells).saturating_mul(cells);
+        parts.saturating_mul(PARTS * PASSES) >= room
+    }
+
+    // How far up a share can go that settled in these turns, a little less than these promise. Where the room is wide they promise too little.
     fn promised_step(&self, turns: u64) -> i64 {
-        let more = (turns as i128).saturating_sub(self.cells);
-        if more <= 0 {
+        let more = (turns as i128).saturating_sub(self.cells as i128);
+        if more <= 0 || !self.is_low(self.most_turns()) {
             return STEP;
         }
-        let step = (WHOLE as i128 * 3 / 4).wrapping_mul(self.cells);
-        cut(step.checked_div(more.saturating_mul(PARTS)).unwrap_or(0))
+        let step = (WHOLE as i128 * 3 / 4).wrapping_mul(self.cells as i128);
+        let sure = cut(step.checked_div(more.saturating_mul(PARTS)).unwrap_or(0));
+        if self.trials <= SURE_TRIALS {
+            sure
+        } else {
+            sure.saturating_mul(4)
+        }
     }
 
     // The next share: up in steps that the turns promise, until one share does not settle; down in steps that grow, until one settles; then
@@ -130,38 +150,22 @@ impl Search {
     fn next_share(&self) -> i64 {
         let middle = self.high.saturating_sub(self.low) / 2;
         let step = match &self.found {
-            Some(_) if self.high < WHOLE => middle,
-            Some(found) if self.trials <= SURE_TRIALS => self.promised_step(found.turns),
-            Some(found) => self.promised_step(found.turns).saturating_mul(4),
+            Some(found) if self.high == WHOLE => self.promised_step(found.turns).min(middle),
             None if self.trials <= 3 => {
                 let step = (WHOLE / 256).wrapping_shl(self.trials.saturating_mul(2));
                 return self.high.saturating_sub(step);
             }
-            None => middle,
+            _ => middle,
         };
-        self.low.saturating_add(step.min(middle).max(1))
+        self.low.saturating_add(step.max(1))
     }
 
-    // Whether the heads at both shares are near each other, or unit passes from the settled heads cost less than one more trial.
+    // Whether the heads at both shares are near each other, or the settled ones are low.
     fn is_done(&self) -> bool {
         let width = self.high.saturating_sub(self.low);
         let units = (width as i128).wrapping_mul(self.room).wrapping_shr(20);
         let near = units <= NEAR && (self.found.is_some() || self.trials > 9);
-        near || width <= 1 || self.is_low()
-    }
-
-    // Whether unit passes from the settled heads cost less than one more trial.
-    fn is_low(&self) -> bool {
-        let Some(found) = &self.found else {
-            return false;
-        };
-        let turns = found.turns as i128;
-        let parts = turns.saturating_mul(turns.saturating_sub(self.cells));
-        let room = self
-            .room
-            .saturating_mul(self.cells)
-            .saturating_mul(self.cells);
-        parts.saturating_mul(PARTS * PASSES) >= room
+        near || width <= 1 || self.found.as_ref().is_some_and(|found| found.is_low)
     }
 }
 
