@@ -2,7 +2,7 @@
 ghost use Rattle.std.specs.Prelude.{IfOk};
 ghost use Rattle.cell_relax.specs.Words.{AreWords};
 
-use crate::guess::{Guess, guess_heads, guess_of, side_of};
+use crate::guess::{Guess, guess_of, side_of};
 use crate::half::{HalfGuess, Start, find_room, half_guess, near_balanced};
 use crate::linear::share_room;
 use crate::links::Links;
@@ -12,9 +12,6 @@ use crate::steps::{Kept, LastStep, high_start, low_start};
 use std::alloc::{AllocError, Global};
 use std::thread::{Threads, join};
 use step_problem::{Barrier, Problem, Side};
-
-// Problems of fewer cells are guessed on one thread.
-const LEAST_CELLS: usize = 4_000;
 
 // Both sides of a problem.
 #[derive(Drop)]
@@ -87,8 +84,8 @@ fn both_halves<R: Threads>(
     Ok((low?, high?))
 }
 
-/// A guess as `guess_heads` makes it, with both sides in two threads where a problem has many cells: a few rounds of Newton's method for the
-/// lower side lead near the balanced heads of both.
+/// A guess as `guess_heads` makes it, with both sides in two threads: a few rounds of Newton's method for the lower side lead near the
+/// balanced heads of both.
 pub fn guess_beside<R: Threads>(
     rt: &R,
     alloc: Global,
@@ -98,9 +95,6 @@ pub fn guess_beside<R: Threads>(
 ) -> Result<Guess, AllocError>
     ensures { IfOk result (λ g. AreWords p.now (Guess.bounds g).items) }
 {
-    if p.len() < LEAST_CELLS {
-        return guess_heads(alloc, p, b, kept);
-    }
     let links = Links::of(alloc, p)?;
     let last = kept.take_last(p);
     let sides = Sides {

@@ -32,7 +32,10 @@ impl Guesser for NearGuesser {
     }
 }
 
-/// Guesses heads near the settled ones, both sides in two threads where there are two workers or more.
+// Problems of fewer cells are guessed on one thread.
+const CELLS_OF_TWO: usize = 4_000;
+
+/// Guesses heads near the settled ones, both sides in two threads where there are two workers or more, and many cells.
 #[derive(Drop)]
 pub struct BesideGuesser<'a, R: Threads> {
     rt: &'a R,
@@ -54,7 +57,7 @@ impl<R: Threads> Guesser for BesideGuesser<'_, R> {
         b: &Barrier,
         kept: &mut Kept,
     ) -> Result<Guess, AllocError> {
-        if self.workers < 2 {
+        if self.workers < 2 || p.len() < CELLS_OF_TWO {
             return guess_heads(alloc, p, b, kept);
         }
         guess_beside(self.rt, alloc, p, b, kept)
