@@ -82,15 +82,17 @@ fn gallop_on(
 }
 
 /// Lowers settled heads by unit passes, and by gallops along the way that the last ones went, until a pass moves
-/// nothing or the budget ends. Returns the order in which the cells rose again in the last pass.
+/// nothing or the budget ends. Returns the order in which the cells rose again in the last pass. From low heads a few unit passes are
+/// enough, so that the first gallop is later.
 pub fn descend(
     alloc: Global,
     side: &OneSide,
     state: &mut State,
+    is_low: bool,
     budget: &mut Budget,
 ) -> Result<Vec<u32>, AllocError> {
     let mut from = state.heads.clone()?;
-    let mut wait = FIRST_WAIT;
+    let mut wait = if is_low { LONG_WAIT } else { FIRST_WAIT };
     let mut since = 0_u32;
     for _ in 0..MOST_PASSES {
         let before = state.heads.clone()?;

@@ -3,7 +3,6 @@ ghost use Rattle.std.specs.Prelude.{IfOk};
 ghost use Rattle.cell_relax.specs.Words.{AreWords};
 
 use crate::half::{HalfGuess, Start, half_guess};
-use crate::linear::Linear;
 use crate::links::Links;
 use crate::one_side::{OneSide, turned};
 use crate::search::FIRST_SHARE;
@@ -47,19 +46,43 @@ fn bounds_of(
     Ok(bounds)
 }
 
-// One side's guess, above the floor or below the ceiling.
-fn guess_side(
+/// A side of a problem, above the floor or below the ceiling.
+pub fn side_of<'a>(
+    alloc: Global,
+    p: &'a Problem,
+    side: Side,
+    links: &'a Links,
+    edge: &[i64],
+) -> Result<OneSide<'a>, AllocError> {
+    let floor = all_turned(alloc, side, edge)?;
+    OneSide::new(alloc, p, side, links, floor)
+}
+
+/// The guess of both sides, which is kept for the next step.
+pub fn guess_of(
     alloc: Global,
     p: &Problem,
-    side: Side,
-    links: &Links,
-    edge: &[i64],
-    start: Start,
-    linear: &mut Option<Linear>,
-) -> Result<HalfGuess, AllocError> {
-    let floor = all_turned(alloc, side, edge)?;
-    let side = OneSide::new(alloc, p, side, links, floor)?;
-    half_guess(alloc, &side, start, linear)
+    low: HalfGuess,
+    high: HalfGuess,
+    last: Option<LastStep>,
+    kept: &mut Option<LastStep>,
+) -> Result<Guess, AllocError>
+    ensures { IfOk result (λ g. AreWords p.now (Guess.bounds g).items) }
+{
+    let mut order = low.order;
+    order.extend_from_slice(high.order.as_slice())?;
+    let bounds = bounds_of(
+        alloc,
+        p,
+        low.ended.heads.as_slice(),
+        high.ended.heads.as_slice(),
+    )?;
+    *kept = Some(LastStep {
+        before: before_of(last),
+        low: low.ended,
+        high: high.ended,
+    });
+    Ok(Guess { bounds, order })
 }
 
 /// A guess of the settled pair of a problem and a barrier. It begins with what the guess of the last step has kept, which may be that of any
@@ -74,46 +97,19 @@ pub fn guess_heads(
 {
     let links = Links::of(alloc, p)?;
     let last = kept.take_last(p);
+    let side = side_of(alloc, p, Side::Low, &links, b.floor.as_slice())?;
     let start = Start {
         heads: low_start(alloc, p, b, &last)?,
         share: FIRST_SHARE,
         last: last.as_ref().map(|last| &last.low),
     };
-    let low = guess_side(
-        alloc,
-        p,
-        Side::Low,
-        &links,
-        b.floor.as_slice(),
-        start,
-        &mut kept.linear,
-    )?;
+    let low = half_guess(alloc, &side, start, &mut kept.linear)?;
+    let side = side_of(alloc, p, Side::High, &links, b.ceiling.as_slice())?;
     let start = Start {
         heads: high_start(alloc, low.ended.balanced.as_slice(), &last)?,
         share: low.ended.share,
         last: last.as_ref().map(|last| &last.high),
     };
-    let high = guess_side(
-        alloc,
-        p,
-        Side::High,
-        &links,
-        b.ceiling.as_slice(),
-        start,
-        &mut kept.linear,
-    )?;
-    let mut order = low.order;
-    order.extend_from_slice(high.order.as_slice())?;
-    let bounds = bounds_of(
-        alloc,
-        p,
-        low.ended.heads.as_slice(),
-        high.ended.heads.as_slice(),
-    )?;
-    kept.last = Some(LastStep {
-        before: before_of(last),
-        low: low.ended,
-        high: high.ended,
-    });
-    Ok(Guess { bounds, order })
+    let high = half_guess(alloc, &side, start, &mut kept.linear)?;
+    guess_of(alloc, p, low, high, last, &mut kept.last)
 }

@@ -1,10 +1,11 @@
 // The guess of one side.
 use crate::descend::descend;
 use crate::linear::{Linear, room_of};
-use crate::newton::find_balanced;
+use crate::newton::{Until, find_balanced};
 use crate::one_side::OneSide;
 use crate::raise::raise_within;
 use crate::search::{Balanced, settled_below};
+use crate::slopes::slopes_at;
 use crate::state::State;
 use multigrid::Budget;
 use multigrid::numbers::{at, greatest};
@@ -69,7 +70,7 @@ fn half_by_search(
         });
     };
     let mut state = settled.state;
-    let order = descend(alloc, side, &mut state, &mut budget)?;
+    let order = descend(alloc, side, &mut state, settled.is_low, &mut budget)?;
     Ok(HalfGuess {
         ended: Ended {
             heads: state.heads,
@@ -134,7 +135,7 @@ fn half_by_last(
     let Some(mut state) = settled_near(alloc, side, balanced, last, &mut budget)? else {
         return Ok(None);
     };
-    let order = descend(alloc, side, &mut state, &mut budget)?;
+    let order = descend(alloc, side, &mut state, false, &mut budget)?;
     if budget.is_spent() {
         return Ok(None);
     }
@@ -150,6 +151,32 @@ fn half_by_last(
     }))
 }
 
+/// Heads near balanced ones, from which a round of Newton's method or two lead to them.
+pub fn near_balanced(
+    alloc: Global,
+    side: &OneSide,
+    heads: Vec<i64>,
+    kept: &mut Option<Linear>,
+) -> Result<Vec<i64>, AllocError> {
+    let mut budget = Budget::new(VISITS_OF_NEWTON, side.len());
+    find_balanced(alloc, side, Until::Near, heads, kept, &mut budget)
+}
+
+/// Finds the room of a side, with the slopes at these heads.
+pub fn find_room(
+    alloc: Global,
+    side: &OneSide,
+    heads: &[i64],
+    kept: &mut Option<Linear>,
+) -> Result<(), AllocError> {
+    let mut budget = Budget::new(VISITS_OF_NEWTON, side.len());
+    let slopes = slopes_at(alloc, side, heads)?;
+    let mut linear = Linear::of(alloc, side, &slopes, kept.take(), &mut budget)?;
+    linear.find_room(alloc, &mut budget)?;
+    *kept = Some(linear);
+    Ok(())
+}
+
 /// The guess of a side from its start. The linear system is kept from one call to the next.
 pub fn half_guess(
     alloc: Global,
@@ -158,7 +185,7 @@ pub fn half_guess(
     kept: &mut Option<Linear>,
 ) -> Result<HalfGuess, AllocError> {
     let mut budget = Budget::new(VISITS_OF_NEWTON, side.len());
-    let heads = find_balanced(alloc, side, start.heads, kept, &mut budget)?;
+    let heads = find_balanced(alloc, side, Until::Balanced, start.heads, kept, &mut budget)?;
     if let Some(last) = start.last {
         if let Some(half) = half_by_last(alloc, side, heads.as_slice(), last)? {
             return Ok(half);

@@ -1,6 +1,7 @@
 //! A guess of the settled heads of a step's problem, in whole numbers. Only running time depends on it.
 #![tactic(auto)]
 
+mod beside;
 mod burn;
 mod descend;
 mod flows;
@@ -22,5 +23,6 @@ mod state;
 mod steps;
 mod ways;
 
+pub use beside::guess_beside;
 pub use guess::{Guess, guess_heads};
 pub use steps::Kept;

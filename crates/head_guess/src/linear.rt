@@ -47,9 +47,14 @@ impl Linear {
         budget: &mut Budget,
     ) -> Result<Linear, AllocError> {
         match kept {
-            Some(kept) if kept.solver.serves(slopes.as_slice()) => Ok(kept),
+            Some(kept) if kept.serves(slopes.as_slice()) => Ok(kept),
             _ => Linear::new(alloc, side, slopes, budget),
         }
+    }
+
+    /// Whether these slopes are nearly the system's own.
+    pub fn serves(&self, slopes: &[i64]) -> bool {
+        self.solver.serves(slopes)
     }
 
     // How small a residual has to be, in bits, for unknowns of 2^-places: where the room is known, so small that what is
@@ -72,16 +77,48 @@ impl Linear {
         self.solver.solve(ROUNDS, bits, budget)
     }
 
+    /// Takes the room of another system, if that serves this one.
+    fn take_room(&mut self, other: &Linear) -> Result<(), AllocError> {
+        if let (None, Some(room)) = (&self.room, &other.room) {
+            if other.serves(self.solver.slopes()) {
+                self.room = Some(room.clone()?);
+            }
+        }
+        Ok(())
+    }
+
     /// The room at each cell.
     pub fn room(&mut self, alloc: Global, budget: &mut Budget) -> Result<Vec<i64>, AllocError> {
-        if let Some(room) = &self.room {
-            return room.clone();
+        self.find_room(alloc, budget)?;
+        match &self.room {
+            Some(room) => room.clone(),
+            None => Ok(Vec::new(alloc)),
         }
-        let room = self
-            .solver
-            .room(alloc, ROUNDS_OF_ROOM, BITS_OF_ROOM, budget)?;
-        self.room = Some(room.clone()?);
-        Ok(room)
+    }
+
+    /// Whether the last correction, in units of 2^-places, was solved to its bits.
+    pub fn is_solved(&mut self, places: i64) -> bool {
+        let bits = self.bits(places);
+        self.solver.is_solved(bits)
+    }
+
+    /// Finds the room, which is kept.
+    pub fn find_room(&mut self, alloc: Global, budget: &mut Budget) -> Result<(), AllocError> {
+        if self.room.is_none() {
+            let room = self
+                .solver
+                .room(alloc, ROUNDS_OF_ROOM, BITS_OF_ROOM, budget)?;
+            self.room = Some(room);
+        }
+        Ok(())
+    }
+}
+
+/// Gives the room of one kept system to another one that it serves.
+pub fn share_room(to: &mut Option<Linear>, from: &Option<Linear>) -> Result<(), AllocError> {
+    match (to, from) {
+        (Some(to), Some(from)) => to.take_room(from),
+        _ => Ok(()),
     }
 }
 

@@ -115,8 +115,9 @@ impl Links {
             .unwrap_or(&[])
     }
 
-    /// Whether all balances are straight.
-    pub fn are_straight(&self) -> bool {
-        self.rows.iter().all(|row| row.is_straight)
+    /// Whether all balances but a few are straight.
+    pub fn are_nearly_straight(&self) -> bool {
+        let bent = self.rows.iter().filter(|row| !row.is_straight).count();
+        bent <= self.rows.len() / 16
     }
 }

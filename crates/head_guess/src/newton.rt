@@ -9,13 +9,13 @@ use std::alloc::{AllocError, Global};
 
 const MOST_ROUNDS: u32 = 60;
 
-// Where all balances are straight, a round is the last one if it began with shorter moves than these, by each balance
-// alone and in all: it leaves less than a unit of them.
+// A round of Newton's method may be the last one if it began with shorter moves than these, by each balance alone and in all: a solved system
+// leaves few units of them.
 const SHORT: i64 = 1 << 12;
 
-const LONG: i128 = 1 << 26;
+const LONG: i128 = 1 << 20;
 
-// Where some balances bend, a round is the last one if it moves no head by more than these units: few cells pass a bend.
+// A round is the last one if it moves no head by more than these units: few cells pass a bend.
 const NEAR: i128 = 256;
 
 #[derive(Drop)]
@@ -90,14 +90,28 @@ impl Newton {
         longest
     }
 
-    // One round. Returns whether one more would only confirm it.
-    fn step(&mut self, side: &OneSide, linear: &mut Linear, budget: &mut Budget) -> bool {
-        let alone = self.longest_move();
+    // One round, where `alone` is the longest move by one balance alone. Returns the longest move, and whether it leaves few units if the slopes
+    // stay as they were.
+    fn step(
+        &mut self,
+        side: &OneSide,
+        alone: i64,
+        linear: &mut Linear,
+        budget: &mut Budget,
+    ) -> (i128, bool) {
         let places = 20_i64.saturating_sub(width(alone as i128) as i64);
         let unknowns = linear.correction(self.balances.as_slice(), places, budget);
         let longest = self.advance(side, unknowns, places);
-        longest <= NEAR || (alone < SHORT && longest < LONG && side.links.are_straight())
+        let is_short = alone < SHORT && longest < LONG;
+        (longest, is_short && linear.is_solved(places))
     }
+}
+
+/// How far Newton's method goes: to heads from which one more round leads to the balanced ones, or to these.
+#[derive(Clone, Copy, PartialEq, Eq)]
+pub enum Until {
+    Near,
+    Balanced,
 }
 
 /// Heads near those at which each balance is 0, by Newton's method from these heads, until no head moves by more than a few units, or its
@@ -105,6 +119,7 @@ impl Newton {
 pub fn find_balanced(
     alloc: Global,
     side: &OneSide,
+    until: Until,
     heads: Vec<i64>,
     kept: &mut Option<Linear>,
     budget: &mut Budget,
@@ -113,10 +128,18 @@ pub fn find_balanced(
     newton.linearize(side);
     let mut linear = Linear::of(alloc, side, &newton.slopes, kept.take(), budget)?;
     for _ in 0..MOST_ROUNDS {
-        if newton.step(side, &mut linear, budget) || budget.is_spent() {
+        let alone = newton.longest_move();
+        if until == Until::Near && alone < SHORT {
+            break;
+        }
+        let (longest, is_last) = newton.step(side, alone, &mut linear, budget);
+        if longest <= NEAR || budget.is_spent() {
             break;
         }
         newton.linearize(side);
+        if is_last && linear.serves(newton.slopes.as_slice()) {
+            break;
+        }
         linear = Linear::of(alloc, side, &newton.slopes, Some(linear), budget)?;
     }
     *kept = Some(linear);

@@ -1,6 +1,7 @@
 // Slopes of a cell's balance in its own head.
 use crate::one_side::OneSide;
 use multigrid::numbers::{at, cut};
+use std::alloc::{AllocError, Global};
 
 /// The greater slope of a balance, to either side of the cell's head.
 pub fn slope_at(side: &OneSide, cell: usize, balance: i128, heads: &[i64]) -> i64 {
@@ -28,4 +29,14 @@ pub fn slope_between(
     let way = (before as i128).wrapping_sub(at(heads, cell) as i128);
     let fall = balance.saturating_sub(side.balance(cell, before, heads));
     cut(fall.checked_div(way).unwrap_or(0)).max(0)
+}
+
+/// The slope at each cell.
+pub fn slopes_at(alloc: Global, side: &OneSide, heads: &[i64]) -> Result<Vec<i64>, AllocError> {
+    let mut slopes = Vec::with_capacity(alloc, heads.len())?;
+    for cell in 0..heads.len() {
+        let balance = side.balance(cell, at(heads, cell), heads);
+        slopes.push(slope_at(side, cell, balance, heads))?;
+    }
+    Ok(slopes)
 }

@@ -78,6 +78,12 @@ fn slack_of(alloc: Global, side: &OneSide, slopes: &[i64]) -> Result<Vec<u64>, A
     Ok(slack)
 }
 
+// Whether a residual is at most 2^bits of a slope, or twice that.
+fn is_small(rest: i128, slope: i64, bits: u32) -> bool {
+    let most = (slope as i128).max(1).wrapping_shl(bits.saturating_add(1));
+    rest.unsigned_abs() <= most.unsigned_abs()
+}
+
 impl Solver {
     pub fn new(
         alloc: Global,
@@ -96,6 +102,10 @@ impl Solver {
             slack,
             scale,
         })
+    }
+
+    pub fn slopes(&self) -> &[i64] {
+        self.slopes.as_slice()
     }
 
     /// Whether these slopes are nearly the solver's own: within the few units by which lower and upper conductances differ, or a
@@ -133,6 +143,16 @@ impl Solver {
     /// Solves, and returns the unknowns times the right side's power of two.
     pub fn solve(&mut self, rounds: u32, bits: u32, budget: &mut Budget) -> &[i64] {
         self.levels.solve(rounds, bits, budget)
+    }
+
+    /// Whether the last solution leaves no more than 2^bits of each slope, or twice that.
+    pub fn is_solved(&mut self, bits: u32) -> bool {
+        let scale = self.scale;
+        self.levels
+            .right_side()
+            .iter()
+            .zip(self.slopes.as_slice())
+            .all(|(rest, slope)| is_small(*rest, slope.wrapping_shr(scale), bits))
     }
 
     /// The room at each cell, in units of 2^-10: how far all heads move together when each cell's balance changes by its

@@ -34,6 +34,8 @@ pub fn before_of(step: Option<LastStep>) -> Option<Before> {
 #[derive(Drop)]
 pub struct Kept {
     pub(crate) linear: Option<Linear>,
+    // That of the upper side, where sides are guessed beside each other.
+    pub(crate) beside: Option<Linear>,
     pub(crate) last: Option<LastStep>,
 }
 
@@ -61,6 +63,7 @@ impl Kept {
     pub fn new() -> Kept {
         Kept {
             linear: None,
+            beside: None,
             last: None,
         }
     }

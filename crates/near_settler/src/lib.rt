@@ -10,5 +10,5 @@ mod settling;
 mod watching;
 
 pub use alone::AloneSettler;
-pub use guesser::{Guesser, NearGuesser};
+pub use guesser::{BesideGuesser, Guesser, NearGuesser};
 pub use settling::NearSettler;

@@ -5,7 +5,7 @@ ghost use Rattle.step_problem.specs.Settling.{Settles};
 ghost use Rattle.settle_driver.specs.Phases.{IsPlan};
 
 use crate::first::{first_phases, first_plan, has_few_cells};
-use crate::guesser::{Guesser, NearGuesser};
+use crate::guesser::{BesideGuesser, Guesser};
 use crate::guessing::Guessing;
 use outside::Gate;
 use settle_driver::{Plan, ThreadSettler};
@@ -16,7 +16,7 @@ use step_problem::{Barrier, Bound, Problem, SettleFault};
 /// Settles by workers in threads, with the handle and the gate that it borrows. Its plan's rounds are plain phases;
 /// what it does beside them only saves time, as does what it keeps from one step to the next.
 #[derive(Drop)]
-pub struct NearSettler<'a, R: Threads + Sync, G: Gate + Sync, S: Guesser = NearGuesser> {
+pub struct NearSettler<'a, R: Threads + Sync, G: Gate + Sync, S: Guesser = BesideGuesser<'a, R>> {
     pub(crate) rt: &'a R,
     pub(crate) gate: &'a G,
     pub(crate) plan: Plan,
@@ -24,12 +24,13 @@ pub struct NearSettler<'a, R: Threads + Sync, G: Gate + Sync, S: Guesser = NearG
     pub ghost plan_fits: { IsPlan plan },
 }
 
-impl<'a, R: Threads + Sync, G: Gate + Sync> NearSettler<'a, R, G, NearGuesser> {
-    pub fn new(rt: &'a R, plan: Plan, gate: &'a G) -> NearSettler<'a, R, G, NearGuesser>
+impl<'a, R: Threads + Sync, G: Gate + Sync> NearSettler<'a, R, G, BesideGuesser<'a, R>> {
+    /// A settler whose guesses are made in two threads, if its plan has two workers or more.
+    pub fn new(rt: &'a R, plan: Plan, gate: &'a G) -> NearSettler<'a, R, G, BesideGuesser<'a, R>>
         requires { IsPlan plan }
         ensures { result.plan ≡ plan }
     {
-        NearSettler::with_guesser(rt, plan, gate, NearGuesser)
+        NearSettler::with_guesser(rt, plan, gate, BesideGuesser::new(rt, plan.workers))
     }
 }
 

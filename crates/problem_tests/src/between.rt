@@ -12,7 +12,7 @@ use barrier_vector::{BarrierFault, barrier};
 use budget_bounds::budget;
 use cell_relax::are_words;
 use certificate_check::check_step;
-use head_guess::{Guess, Kept, guess_heads};
+use head_guess::{Guess, Kept, guess_beside, guess_heads};
 use head_table::edge_words;
 use std::alloc::{AllocError, Global};
 use std::io;
@@ -38,13 +38,28 @@ fn ask_bounds(
     }
 }
 
-// The last of so many guesses, each of which begins with what the one before kept.
+// The last of so many guesses on one thread, each of which begins with what the one before kept.
 fn last_guess(alloc: Global, p: &Problem, b: &Barrier, guesses: u32) -> Result<Guess, AllocError> {
     let mut kept = Kept::new();
     for _ in 1..guesses {
         guess_heads(alloc, p, b, &mut kept)?;
     }
     guess_heads(alloc, p, b, &mut kept)
+}
+
+// The same, with each guess in two threads.
+fn last_guess_beside<R: Threads>(
+    rt: &R,
+    alloc: Global,
+    p: &Problem,
+    b: &Barrier,
+    guesses: u32,
+) -> Result<Guess, AllocError> {
+    let mut kept = Kept::new();
+    for _ in 1..guesses {
+        guess_beside(rt, alloc, p, b, &mut kept)?;
+    }
+    guess_beside(rt, alloc, p, b, &mut kept)
 }
 
 fn ask_barrier<R: Print + Threads + Sync>(
@@ -63,8 +78,11 @@ fn ask_barrier<R: Print + Threads + Sync>(
     match question {
         Question::Barrier => print_barrier(rt, b),
         Question::Guess => {
-            let guess = last_guess(alloc, p, b, number(numbers, 0))?;
-            print_bounds(rt, "guessed", guess.bounds.as_slice())
+            let guesses = number(numbers, 0);
+            let guess = last_guess(alloc, p, b, guesses)?;
+            print_bounds(rt, "guessed", guess.bounds.as_slice())?;
+            let guess = last_guess_beside(rt, alloc, p, b, guesses)?;
+            print_bounds(rt, "beside", guess.bounds.as_slice())
         }
         Question::Events => print_events(rt, alloc, p, edge_words(alloc, p, b)?, moves),
         Question::Seats => print_seats(rt, alloc, p, b, moves),
