@@ -41,6 +41,8 @@ pub struct Links {
     rows: Vec<Row>,
     edges: Vec<Edge>,
     knowns: u32,
+    /// Whether all balances bend to one side alone: no cell has evaporation.
+    pub bend_one_way: bool,
 }
 
 /// A conductance as a number with a sign.
@@ -62,6 +64,7 @@ impl Links {
         let first_known = self.knowns;
         let mut least = 0_i64;
         let mut greatest = 0_i64;
+        self.bend_one_way = self.bend_one_way && cell.evaps.is_empty();
         for link in &cell.links {
             let edge = Edge {
                 other: link.cell,
@@ -95,6 +98,7 @@ impl Links {
             rows: Vec::with_capacity(alloc, p.len())?,
             edges: Vec::new(alloc),
             knowns: 0,
+            bend_one_way: true,
         };
         for cell in 0..p.len() {
             links.add_cell(p.cell(cell))?;

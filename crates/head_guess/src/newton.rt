@@ -38,12 +38,13 @@ impl Newton {
         })
     }
 
-    // The slope of the next round at a cell. Where the balance bends it is the greater of the slope at the head and the
-    // slope from the head before. It is lowered only half way in each round, so that heads do not oscillate.
+    // The slope of the next round at a cell. Where all balances bend to one side alone, heads do not oscillate: after the first round they
+    // move one way. Else it is, where the balance bends, the greater of the slope at the head and the slope from the head before, and is
+    // lowered only half way in each round.
     fn slope(&self, side: &OneSide, cell: usize, balance: i128) -> i64 {
         let heads = self.heads.as_slice();
         let here = slope_at(side, cell, balance, heads);
-        if side.links.row(cell).is_straight {
+        if side.links.bend_one_way || side.links.row(cell).is_straight {
             return here;
         }
         let before = at(self.before.as_slice(), cell);
