@@ -1,4 +1,4 @@
-// Seconds and memory of whole runs, beside a plain program that settles by the same guess, and by plain sweeps where these end.
+// Seconds and memory of whole runs, beside a plain program that settles by an earlier guess, and by plain sweeps where these end.
 mod cases;
 #[path = "../shared/decks.rs"]
 mod decks;
@@ -96,7 +96,7 @@ fn main() {
         panic!("the words are a folder, that of the examples, two programs and cases");
     };
     let bench = Bench { folder: Path::new(folder), examples: Path::new(examples), program, plain };
-    println!("seconds of processor time with one worker, those of plain Rust by the same guess, their ratio and the wanted one;");
+    println!("seconds of processor time with one worker, those of plain Rust by an earlier guess, their ratio and the wanted one;");
     println!("the most memory of both in MB; seconds of plain Rust by plain sweeps. Cases of workers: by the clock, of all processors");
     for (case, wanted) in CASES {
         if cases.is_empty() || cases.iter().any(|named| named == case) {
