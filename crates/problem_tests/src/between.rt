@@ -38,7 +38,7 @@ fn ask_bounds(
     }
 }
 
-// The last of so many guesses on one thread, each of which begins with what the one before kept.
+// The last of `guesses` guesses on one thread, each of which begins with what the one before kept.
 fn last_guess(alloc: Global, p: &Problem, b: &Barrier, guesses: u32) -> Result<Guess, AllocError> {
     let mut kept = Kept::new();
     for _ in 1..guesses {
