@@ -10,7 +10,7 @@ use record_lines::{Words, is_word};
 use std::alloc::Global;
 
 /// The first word of a control record.
-#[derive(Clone, Copy, Debug, PartialEq, Eq)]
+#[derive(Clone, Copy)]
 pub enum Keyword {
     Constant,
     Internal,

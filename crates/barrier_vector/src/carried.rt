@@ -15,7 +15,7 @@ use std::alloc::{AllocError, Global};
 use step_problem::Problem;
 
 // The label of each cell's component and its path to the component's least cell; by label the sum of deep flows and the longest of these paths.
-#[derive(Debug, Drop)]
+#[derive(Drop)]
 struct Components {
     labels: Vec<Option<u32>>,
     inner: Vec<u64>,

@@ -29,7 +29,7 @@ use std::alloc::Global;
 use step_problem::{Barrier, NoBound, Problem};
 
 /// Why a problem has no barrier: a refusal of 24 to 27 at the least cell that has it, or lack of memory.
-#[derive(Debug, Drop)]
+#[derive(Drop)]
 pub enum BarrierFault {
     NoBound(NoBound),
     Memory,

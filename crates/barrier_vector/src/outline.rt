@@ -13,7 +13,7 @@ use std::alloc::{AllocError, Global};
 use step_problem::{Problem, Side};
 
 /// One side of the cells: the outermost mark, the lack or the surplus of flow, and the greatest anchor of each cell.
-#[derive(Debug, Drop)]
+#[derive(Drop)]
 pub(crate) struct Outline {
     pub mark: Option<i64>,
     pub need: u128,
@@ -54,7 +54,7 @@ impl Outline {
 }
 
 /// The outlines of both sides.
-#[derive(Debug, Drop)]
+#[derive(Drop)]
 pub(crate) struct Outlines {
     pub low: Outline,
     pub high: Outline,

@@ -18,7 +18,7 @@ use step_problem::problem::HEAD_LIMIT;
 use step_problem::{NoBound, Place, Problem, Side, StepRefusal};
 
 // The test of a cell's bound.
-#[derive(Clone, Copy, Debug)]
+#[derive(Clone, Copy)]
 pub(crate) enum Test {
     Missing,
     TooLow,

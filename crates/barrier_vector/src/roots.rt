@@ -62,7 +62,7 @@ pub(crate) fn greatest_anchor(side: Side, cell: &Cell) -> u64
 }
 
 // The drop over a lower conductance.
-#[derive(Clone, Copy, Debug)]
+#[derive(Clone, Copy)]
 struct KnownDrop {
     lo: u64,
     drop: u128,

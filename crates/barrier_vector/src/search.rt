@@ -14,14 +14,14 @@ use step_problem::{Link, Problem};
 pub(crate) const PATH_LIMIT: u64 = 8_000_000_000_000_000_001;
 
 /// What a search finds: the level of each cell that leads to a root, and its path, cut off at the limit.
-#[derive(Debug, Drop)]
+#[derive(Drop)]
 pub(crate) struct Found {
     pub levels: Vec<Option<u32>>,
     pub paths: Vec<u64>,
 }
 
 // The start of a search: the roots and their own drops.
-#[derive(Debug, Drop)]
+#[derive(Drop)]
 struct Start {
     levels: Vec<Option<u32>>,
     paths: Vec<u64>,

@@ -17,7 +17,7 @@ use record_lines::Lines;
 use std::alloc::Global;
 
 /// IBOUND and STRT for the cells of a grid.
-#[derive(Debug, Drop)]
+#[derive(Drop)]
 struct Basics {
     ibound: Vec<i64>,
     strt: Vec<Dec>,

@@ -1,7 +1,7 @@
 use run_puts::Status;
 
 /// How a job ended, and the text that it writes.
-#[derive(Debug, Drop)]
+#[derive(Drop)]
 pub struct JobEnd {
     pub status: Status,
     pub text: Vec<u8>,

@@ -15,7 +15,7 @@ use outside::Code;
 
 /// The checks over the active cells: after BAS6 the thickness of each and the starting head of each, after LPF the
 /// properties of each.
-#[derive(Clone, Copy, Debug, PartialEq, Eq)]
+#[derive(Clone, Copy)]
 pub enum Check {
     Thickness,
     StartHead,

@@ -20,7 +20,7 @@ use search::first_failing;
 use step_problem::{Barrier, Bound, Problem, Side};
 
 /// Whether bounds are a certificate, or the first place that fails: a variable cell, by its index, and a side of it.
-#[derive(Clone, Copy, Debug, PartialEq, Eq)]
+#[derive(Clone, Copy)]
 pub enum Verdict {
     Yes,
     No { cell: u32, side: Side },

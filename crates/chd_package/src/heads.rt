@@ -11,7 +11,7 @@ use record_lines::Words;
 use std::alloc::Global;
 
 /// The numbers of an entry of a list of given heads: the heads at the start and at the end of the period.
-#[derive(Clone, Copy, Debug, PartialEq, Eq)]
+#[derive(Clone, Copy)]
 pub struct Heads {
     pub shead: Dec,
     pub ehead: Dec,

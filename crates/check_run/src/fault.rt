@@ -9,7 +9,7 @@ use std::alloc::{AllocError, AllocFailed};
 use step_problem::{NoBound, Place};
 
 /// The first place that fails, a refusal of the step, or lack of memory.
-#[derive(Clone, Copy, Debug, PartialEq, Eq)]
+#[derive(Clone, Copy)]
 pub enum CheckFault {
     Fails(Place),
     Refused(NoBound),

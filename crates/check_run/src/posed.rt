@@ -15,7 +15,7 @@ use step_chain::RunTables;
 use step_problem::{Barrier, Bound, Problem};
 
 /// The sites of a time, its problem, and the problem's barrier.
-#[derive(Debug, Drop)]
+#[derive(Drop)]
 pub struct Posed {
     pub sites: Listed<Site>,
     pub problem: Problem,

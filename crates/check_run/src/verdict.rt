@@ -4,7 +4,7 @@ use step_problem::{NoBound, Place};
 
 /// The result of the check of a listing: every step is certified; or all steps before this time step are certified, and
 /// this place is the first that fails; or the problem, barrier or budget of this step has this refusal.
-#[derive(Clone, Copy, Debug, PartialEq, Eq)]
+#[derive(Clone, Copy)]
 pub enum ListingVerdict {
     Certified,
     Fails(TimeStep, Place),

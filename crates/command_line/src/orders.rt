@@ -12,7 +12,7 @@ use clap::error::ErrorKind;
 use std::alloc::Global;
 
 /// What the words ask for.
-#[derive(Clone, Copy, Debug, PartialEq, Eq)]
+#[derive(Clone, Copy, Debug)]
 pub enum Order<'a> {
     /// The listing of a model.
     Run {
@@ -44,7 +44,7 @@ pub enum Order<'a> {
 }
 
 /// Why the words have no order.
-#[derive(Clone, Copy, Debug, PartialEq, Eq)]
+#[derive(Clone, Copy, Debug)]
 pub enum WordsFault {
     /// They don't form a command.
     Usage,

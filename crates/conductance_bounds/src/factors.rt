@@ -13,7 +13,7 @@ use scaled_decimal::{Sd, of_units_dn};
 
 /// The bounds of two factors of a time step, with T for TSMULT: the sum 1 + T + .. + T ^ (NSTP - 1), and the power
 /// T ^ (m - 1) of step m.
-#[derive(Clone, Copy, Debug, PartialEq, Eq)]
+#[derive(Clone, Copy)]
 pub struct Factors {
     pub sum_lo: Sd,
     pub sum_hi: Sd,

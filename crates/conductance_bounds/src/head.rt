@@ -15,7 +15,7 @@ use decimal_input::dec::Dec;
 use decimal_input::units::{ceil_at, floor_at};
 
 /// The bounds of a head, in units of 10 ^ -9.
-#[derive(Clone, Copy, Debug, PartialEq, Eq)]
+#[derive(Clone, Copy)]
 pub struct HeadPair {
     pub lo: i64,
     pub hi: i64,

@@ -19,7 +19,7 @@ use decimal_input::dec::Dec;
 use scaled_decimal::Sd;
 
 /// A cell's half of a branch along a row: its length, HK, and the bounds of its thickness.
-#[derive(Clone, Copy, Debug, PartialEq, Eq)]
+#[derive(Clone, Copy)]
 pub struct Half {
     pub along: Dec,
     pub hk: Dec,
@@ -28,7 +28,7 @@ pub struct Half {
 }
 
 /// A cell's half of a branch along a column: its length, HK, HANI, and the bounds of its thickness.
-#[derive(Clone, Copy, Debug, PartialEq, Eq)]
+#[derive(Clone, Copy)]
 pub struct ColHalf {
     pub along: Dec,
     pub hk: Dec,

@@ -8,14 +8,14 @@ use crate::span::Span;
 use scaled_decimal::{ceil_units, floor_units};
 
 /// A lower and an upper bound of a conductance, in units of 10 ^ -s.
-#[derive(Clone, Copy, Debug, PartialEq, Eq)]
+#[derive(Clone, Copy)]
 pub struct Pair {
     pub lo: u64,
     pub hi: u64,
 }
 
 /// A lower and an upper bound of a flow, in units of 10 ^ -(s + 9).
-#[derive(Clone, Copy, Debug, PartialEq, Eq)]
+#[derive(Clone, Copy)]
 pub struct FlowPair {
     pub lo: i128,
     pub hi: i128,

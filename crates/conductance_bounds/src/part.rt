@@ -17,7 +17,7 @@ use model_types::Period;
 use scaled_decimal::{Sd, ceil_units, floor_units};
 
 /// The bounds of the part of a stress period that has passed, in units of 10 ^ -18.
-#[derive(Clone, Copy, Debug, PartialEq, Eq)]
+#[derive(Clone, Copy)]
 pub struct Part {
     pub lo: u64,
     pub hi: u64,

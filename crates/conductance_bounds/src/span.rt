@@ -12,7 +12,7 @@ use decimal_input::units::{ceil_at, floor_at};
 use scaled_decimal::{Sd, of_units_dn, of_units_up};
 
 /// Two decimals between which a number is known.
-#[derive(Clone, Copy, Debug, PartialEq, Eq)]
+#[derive(Clone, Copy)]
 pub struct Span {
     pub lo: Sd,
     pub hi: Sd,

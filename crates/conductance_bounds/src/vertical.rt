@@ -19,7 +19,7 @@ use scaled_decimal::Sd;
 
 /// A cell's half of a branch to the layer above or below: HK and VKA, whether VKA is the ratio of HK to the vertical
 /// conductivity (LAYVKA isn't 0), and the bounds of its thickness.
-#[derive(Clone, Copy, Debug, PartialEq, Eq)]
+#[derive(Clone, Copy)]
 pub struct VertHalf {
     pub hk: Dec,
     pub vka: Dec,
@@ -29,7 +29,7 @@ pub struct VertHalf {
 }
 
 /// The confining bed between two cells: the bounds of its thickness, both 0 without a bed, and VKCB.
-#[derive(Clone, Copy, Debug, PartialEq, Eq)]
+#[derive(Clone, Copy)]
 pub struct Bed {
     pub thick_lo: Sd,
     pub thick_hi: Sd,

@@ -18,7 +18,7 @@ use record_lines::Lines;
 use std::alloc::{AllocError, Global};
 
 /// The bottoms of the layers read so far, and of the beds below them.
-#[derive(Debug, Drop)]
+#[derive(Drop)]
 pub struct Bottoms {
     pub layers: Listed<Dec>,
     pub beds: Listed<Dec>,

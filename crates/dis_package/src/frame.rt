@@ -11,7 +11,7 @@ use record_lines::Words;
 use std::alloc::Global;
 
 /// How many layers, rows and columns.
-#[derive(Clone, Copy, Debug, PartialEq, Eq)]
+#[derive(Clone, Copy)]
 pub struct Size {
     pub layers: u32,
     pub rows: u32,
@@ -19,7 +19,7 @@ pub struct Size {
 }
 
 /// The first line of a file of the discretization.
-#[derive(Clone, Copy, Debug, PartialEq, Eq)]
+#[derive(Clone, Copy)]
 pub struct Frame {
     pub size: Size,
     pub periods: u32,

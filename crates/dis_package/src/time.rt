@@ -14,7 +14,7 @@ use record_lines::{Words, is_word};
 use std::alloc::Global;
 
 /// The times of a stress period.
-#[derive(Clone, Copy, Debug, PartialEq, Eq)]
+#[derive(Clone, Copy)]
 pub struct Time {
     pub perlen: Dec,
     pub nstp: u32,

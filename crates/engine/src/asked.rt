@@ -14,7 +14,7 @@ const TURNS: u32 = 64;
 
 /// A listing that is asked for: the name of its name file, the digits of conductances, how each step is settled, the name
 /// of a zone file, if there is one, and the number of views in each phase, if the heads are viewed.
-#[derive(Clone, Copy, Debug, PartialEq, Eq)]
+#[derive(Clone, Copy)]
 pub(crate) struct Asked<'a> {
     pub(crate) name: &'a str,
     pub(crate) digits: u32,
@@ -24,7 +24,7 @@ pub(crate) struct Asked<'a> {
 }
 
 /// A check that is asked for: the name of its name file, that of the listing, and the digits of conductances.
-#[derive(Clone, Copy, Debug, PartialEq, Eq)]
+#[derive(Clone, Copy)]
 pub(crate) struct AskedCheck<'a> {
     pub(crate) name: &'a str,
     pub(crate) listing: &'a str,
@@ -32,7 +32,7 @@ pub(crate) struct AskedCheck<'a> {
 }
 
 /// A command that is implemented.
-#[derive(Clone, Copy, Debug, PartialEq, Eq)]
+#[derive(Clone, Copy)]
 pub(crate) enum Command<'a> {
     Run(Asked<'a>),
     Make { seed: u32, size: u32 },

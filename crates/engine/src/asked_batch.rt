@@ -10,7 +10,7 @@ use std::alloc::{AllocError, Global};
 
 /// A batch that is asked for: the name of its list, the digits of conductances, the workers that run its jobs, and the
 /// plain rounds in which a step must settle.
-#[derive(Clone, Copy, Debug, PartialEq, Eq)]
+#[derive(Clone, Copy)]
 pub(crate) struct BatchOrder<'a> {
     pub(crate) list: &'a str,
     pub(crate) digits: u32,

@@ -14,7 +14,7 @@ use run_puts::Status;
 use std::alloc::{AllocError, Global};
 
 /// A name of a batch's list, and what is listed of its model, or the first refusal of its files.
-#[derive(Debug, Drop)]
+#[derive(Drop)]
 pub(crate) struct Job {
     pub(crate) name: Name,
     pub(crate) read: Result<Task, Refusal>,

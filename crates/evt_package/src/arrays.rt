@@ -20,7 +20,7 @@ use record_lines::{Lines, Words};
 use std::alloc::{AllocError, Global};
 
 /// The arrays in force: the last surfaces, rates, depths and layers that were read.
-#[derive(Debug, Drop)]
+#[derive(Drop)]
 pub struct Last {
     pub surfaces: Option<Shared<Dec>>,
     pub rates: Option<Shared<Dec>>,
@@ -30,7 +30,7 @@ pub struct Last {
 
 /// The arrays of a period: for each column of layers a surface, a greatest rate and an extinction depth and,
 /// where the file names them, the layers.
-#[derive(Debug, Drop)]
+#[derive(Drop)]
 pub struct Arrays {
     pub surf: Shared<Dec>,
     pub evtr: Shared<Dec>,

@@ -19,7 +19,7 @@ use record_lines::{Lines, Words};
 use std::alloc::Global;
 
 /// The contents of a file of the package: NEVTOP, and the periods with their arrays.
-#[derive(Debug, Drop)]
+#[derive(Drop)]
 pub struct Evaporation {
     pub nevtop: i64,
     pub periods: Listed<Period>,

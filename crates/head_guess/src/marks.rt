@@ -11,7 +11,7 @@ pub struct Marks {
 pub const CELLS: usize = 64;
 
 /// A sweep over the cells in ascending or descending order.
-#[derive(Clone, Copy, PartialEq, Eq)]
+#[derive(Clone, Copy)]
 pub enum Order {
     Up,
     Down,

@@ -109,7 +109,7 @@ impl Newton {
 }
 
 /// How far Newton's method goes: to heads from which one more round leads to the balanced ones, or to these.
-#[derive(Clone, Copy, PartialEq, Eq)]
+#[derive(Clone, Copy)]
 pub enum Until {
     Near,
     Balanced,

@@ -13,7 +13,7 @@ use record_lines::{Line, Lines, Words, begins_with};
 use std::alloc::Global;
 
 /// Where a period's list comes from.
-#[derive(Clone, Copy, Debug, PartialEq, Eq)]
+#[derive(Clone, Copy, PartialEq, Eq)]
 pub enum Count {
     /// This many entries follow.
     Entries(u32),

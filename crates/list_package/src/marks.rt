@@ -5,7 +5,7 @@ use std::alloc::{AllocError, Global};
 use std::marker::Model;
 
 /// A mark for each cell of a grid, or no marks at all. With marks an entry is tested without searching the list.
-#[derive(Debug, Drop)]
+#[derive(Drop)]
 pub struct Marks {
     marks: Vec<bool>,
 }

@@ -5,7 +5,7 @@ ghost use Rattle.listing_io.specs.declared.fault.Fault.TheVariants.{Memory};
 use std::alloc::{AllocError, AllocFailed};
 
 /// A line of another form than the one due, by its number, or lack of memory.
-#[derive(Clone, Copy, Debug, PartialEq, Eq)]
+#[derive(Clone, Copy)]
 pub enum Fault {
     BadLine(u32),
     Memory,

@@ -10,14 +10,14 @@ use step_problem::Bound;
 
 /// A time step of a listing: the heads of all cells of the grid, in units of 10^-9 length units, with zeros where
 /// there is no flow, and the budget in units of 10^-(s+9) flow units.
-#[derive(Debug, Drop)]
+#[derive(Drop)]
 pub struct ListedStep {
     pub heads: Listed<Bound>,
     pub budget: Budget,
 }
 
 /// The steps of a listing, in order.
-#[derive(Debug, Drop)]
+#[derive(Drop)]
 pub struct Listing {
     steps: Listed<ListedStep>,
 }

@@ -15,7 +15,7 @@ use std::alloc::{AllocError, Global};
 use step_problem::Bound;
 
 /// The times of a model, the bounds of STRT, and the first line of its listing.
-#[derive(Debug, Drop)]
+#[derive(Drop)]
 pub(crate) struct Begun {
     pub times: Vec<TimeStep>,
     pub old: Vec<Bound>,

@@ -64,7 +64,7 @@ pub fn solve<S: Settler>(
 }
 
 /// A step's heads and its text.
-#[derive(Debug, Drop)]
+#[derive(Drop)]
 pub struct Written {
     pub heads: Vec<Bound>,
     pub text: Vec<u8>,

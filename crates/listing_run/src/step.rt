@@ -9,7 +9,7 @@ use step_problem::{Bound, NoBound, ZoneFlow};
 
 /// A step: its time, the heads of all cells of the grid by cell number, in units of 10^-9, its budget, and the flows
 /// between zones, in units of 10^-(s+9).
-#[derive(Debug, Drop)]
+#[derive(Drop)]
 pub struct Step {
     pub at: TimeStep,
     pub heads: Listed<Bound>,
@@ -18,7 +18,7 @@ pub struct Step {
 }
 
 /// Why a step isn't listed: its first refusal, rounds that don't settle it, or lack of memory.
-#[derive(Clone, Copy, Debug, PartialEq, Eq)]
+#[derive(Clone, Copy)]
 pub enum ListFault {
     NoBound(NoBound),
     Unfinished,

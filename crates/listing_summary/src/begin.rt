@@ -13,7 +13,7 @@ use std::alloc::{AllocError, Global};
 use step_problem::Bound;
 
 /// The times of a model, and the bounds of STRT.
-#[derive(Debug, Drop)]
+#[derive(Drop)]
 pub(crate) struct Begun {
     pub times: Vec<TimeStep>,
     pub old: Vec<Bound>,

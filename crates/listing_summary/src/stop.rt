@@ -7,7 +7,7 @@ use model_types::TimeStep;
 use step_problem::NoBound;
 
 /// Why a listing has no summary: the first refusal of a step, rounds that don't settle a step, or lack of memory.
-#[derive(Clone, Copy, Debug, PartialEq, Eq)]
+#[derive(Clone, Copy)]
 pub enum Stop {
     NoBound(TimeStep, NoBound),
     Unfinished(TimeStep),

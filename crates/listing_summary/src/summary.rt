@@ -12,7 +12,7 @@ use step_problem::Bound;
 
 /// The summary of a listing: the numbers of its lines STEP and HEAD, the greatest upper less lower head of a line HEAD,
 /// and the sums of their lower and of their upper heads, in units of 10^-9.
-#[derive(Clone, Copy, Debug, PartialEq, Eq)]
+#[derive(Clone, Copy)]
 pub struct Summary {
     pub steps: u64,
     pub heads: u64,

@@ -19,7 +19,7 @@ use std::alloc::{AllocError, Global};
 
 /// The arrays of the layers read so far: conductivity along rows, its ratio along columns, VKA, specific
 /// storage, and the vertical conductivity of the beds below the layers.
-#[derive(Debug, Drop)]
+#[derive(Drop)]
 pub struct Properties {
     pub hk: Listed<Dec>,
     pub hani: Listed<Dec>,
@@ -29,7 +29,7 @@ pub struct Properties {
 }
 
 /// What is read for a layer: the numbers of rows and columns, its CHANI, whether it has storage, and whether a bed lies below it.
-#[derive(Clone, Copy, Debug, PartialEq, Eq)]
+#[derive(Clone, Copy)]
 pub struct Layer {
     pub rows: u32,
     pub cols: u32,

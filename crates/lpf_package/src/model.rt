@@ -23,7 +23,7 @@ fn is_transient(periods: &[Period]) -> bool
 }
 
 /// The contents of a file of the package: whether SS is a storage coefficient, LAYVKA by layer, and the layers' arrays.
-#[derive(Debug, Drop)]
+#[derive(Drop)]
 pub struct Contents {
     pub coefficient: bool,
     pub layvka: Listed<i64>,

@@ -13,7 +13,7 @@ use record_lines::{Lines, Words};
 use std::alloc::Global;
 
 /// CHANI and LAYVKA, by layer.
-#[derive(Debug, Drop)]
+#[derive(Drop)]
 pub struct Settings {
     pub chani: Listed<Dec>,
     pub layvka: Listed<i64>,

@@ -3,7 +3,7 @@ use crate::grid::CellId;
 use decimal_input::dec::Dec;
 
 /// An entry of a WEL, RIV, DRN or GHB list: the cell, and the package's numbers.
-#[derive(Clone, Copy, Debug, PartialEq, Eq)]
+#[derive(Clone, Copy)]
 pub enum Entry {
     Well {
         cell: CellId,
@@ -28,7 +28,7 @@ pub enum Entry {
 }
 
 /// An entry of a CHD list: the cell, and its heads at the start and at the end of the stress period.
-#[derive(Clone, Copy, Debug, PartialEq, Eq)]
+#[derive(Clone, Copy)]
 pub struct Given {
     pub cell: CellId,
     pub shead: Dec,

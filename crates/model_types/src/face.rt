@@ -1,7 +1,7 @@
 // The faces between cells.
 
 /// A direction in which cells have neighbours: along a row, along a column, from layer to layer.
-#[derive(Clone, Copy, Debug, PartialEq, Eq)]
+#[derive(Clone, Copy)]
 pub enum Axis {
     Row,
     Column,
@@ -10,7 +10,7 @@ pub enum Axis {
 
 /// A face of a cell: the axis through it, the one of its two cells that has the smaller number, and the
 /// neighbour on its other side.
-#[derive(Clone, Copy, Debug, PartialEq, Eq)]
+#[derive(Clone, Copy)]
 pub struct Face {
     pub axis: Axis,
     pub first: u32,

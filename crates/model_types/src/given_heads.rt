@@ -13,7 +13,7 @@ use std::alloc::{AllocError, Global};
 
 /// For each cell of a model the last entry of the CHD lists up to a stress period that names it. It is carried
 /// from period to period, so that each list is read once.
-#[derive(Debug, Drop)]
+#[derive(Drop)]
 pub struct GivenHeads {
     pub period: u32,
     pub last: Listed<Option<Given>>,

@@ -3,12 +3,12 @@ use crate::listed::Listed;
 use decimal_input::dec::Dec;
 
 /// A cell, by its number: from 0, layer by layer, row by row, column by column.
-#[derive(Clone, Copy, Debug, PartialEq, Eq)]
+#[derive(Clone, Copy)]
 pub struct CellId(pub u32);
 
 /// The grid. `delr` is by column, `delc` by row, `laycbd` by layer, `top` by the cells of layer 1, and the others
 /// by cell. `laycbd` isn't 0 where a confining bed lies below the layer, and `bed_bottom` is that bed's bottom.
-#[derive(Debug, Drop)]
+#[derive(Drop)]
 pub struct Grid {
     pub layers: u32,
     pub rows: u32,

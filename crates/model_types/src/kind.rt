@@ -10,7 +10,7 @@ use crate::model::FlowModel;
 use crate::period::Period;
 
 /// What a cell is in a stress period: without flow, with a constant head, or with a variable head.
-#[derive(Clone, Copy, Debug, PartialEq, Eq)]
+#[derive(Clone, Copy)]
 pub enum Kind {
     NoFlow,
     Constant,

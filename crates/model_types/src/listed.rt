@@ -4,7 +4,7 @@ ghost use Rattle.std.specs.Prelude.{◌≡◌, ◌<◌, List, length, slice_set}
 use std::marker::Model;
 
 /// A list that contracts see as a list. It is made from a `Vec`, and turned back into one, without taking memory.
-#[derive(Debug, Drop)]
+#[derive(Drop)]
 pub struct Listed<T> {
     items: Vec<T>,
 }

@@ -6,7 +6,7 @@ use decimal_input::dec::Dec;
 
 /// A model. Lists are by cell, but `layvka` is by layer. `ss` is empty where no period is transient; `nrchop` and
 /// `nevtop` are 0 where the model lacks RCH and EVT. A part that isn't read yet is empty, false or 0.
-#[derive(Debug, Drop)]
+#[derive(Drop)]
 pub struct FlowModel {
     pub grid: Grid,
     pub lenuni: i64,

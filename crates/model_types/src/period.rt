@@ -6,7 +6,7 @@ use decimal_input::dec::Dec;
 /// A stress period: its length, its time steps, and its stresses. A list or array of a package that the
 /// period reuses is the list or array of the period before; it is in memory once. Arrays are by row,
 /// then column, and empty where the model lacks the package; `irch` and `ievt` also where the option isn't 2.
-#[derive(Debug, Drop)]
+#[derive(Drop)]
 pub struct Period {
     pub perlen: Dec,
     pub nstp: u32,

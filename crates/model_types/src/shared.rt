@@ -8,7 +8,7 @@ use std::sync::Arc;
 
 /// A list of a stress period, which later periods may share. It is in memory once, however many periods
 /// reuse it, and threads may share it.
-#[derive(Debug, Drop)]
+#[derive(Drop)]
 pub struct Shared<T> {
     items: Arc<Vec<T>>,
 }

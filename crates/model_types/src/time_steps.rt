@@ -7,7 +7,7 @@ use crate::model::FlowModel;
 use std::alloc::{AllocError, Global};
 
 /// A time step by the numbers of its stress period and of the step in it, each from 1.
-#[derive(Clone, Copy, Debug, PartialEq, Eq)]
+#[derive(Clone, Copy)]
 pub struct TimeStep {
     pub period: u32,
     pub step: u32,

@@ -12,7 +12,7 @@ use name_file::Package;
 use std::alloc::AllocError;
 
 /// The names of a deck's files: of the name file, and of each package's file.
-#[derive(Clone, Copy, Debug)]
+#[derive(Clone, Copy)]
 pub struct DeckNames<'a> {
     pub name: &'a str,
     pub dis: &'a str,

@@ -17,7 +17,7 @@ pub trait Guesser: Drop {
 }
 
 /// Guesses heads near the settled ones, on the calling thread.
-#[derive(Clone, Copy, Debug, Drop)]
+#[derive(Clone, Copy, Drop)]
 pub struct NearGuesser;
 
 impl Guesser for NearGuesser {

@@ -10,7 +10,7 @@ use std::marker::Model;
 use std::str;
 
 /// A file's name as it was written. Clauses see its bytes.
-#[derive(Debug, Drop)]
+#[derive(Drop)]
 pub struct Name {
     text: String,
 }

@@ -6,7 +6,7 @@ use std::alloc::{AllocError, AllocFailed};
 
 /// A refusal of an input: the code, the file and line (0 where no line is meant), and the layer, row
 /// and column where a cell is meant.
-#[derive(Debug, Drop, PartialEq)]
+#[derive(Drop)]
 pub struct Refusal {
     pub code: Code,
     pub file: Name,
@@ -15,7 +15,7 @@ pub struct Refusal {
 }
 
 /// Why a reading that uses a folder has no value.
-#[derive(Debug, Drop, PartialEq)]
+#[derive(Drop)]
 pub enum InputFault {
     Refused(Refusal),
     ReadFault,
@@ -23,7 +23,7 @@ pub enum InputFault {
 }
 
 /// Why a reading of a text has no value.
-#[derive(Debug, Drop, PartialEq)]
+#[derive(Drop)]
 pub enum TextFault {
     Refused(Refusal),
     Memory,

@@ -12,7 +12,7 @@ use step_problem::{
 
 /// Why a step has no problem: the refusal of the least cell that has one, by its number (that of
 /// ConductanceTooSmall, ConductanceTooLarge or FlowTooLarge), or out of memory.
-#[derive(Clone, Copy, Debug, PartialEq, Eq)]
+#[derive(Clone, Copy)]
 pub enum BuildFault {
     NoBound(NoBound),
     Memory,

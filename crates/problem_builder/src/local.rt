@@ -9,7 +9,7 @@ use std::alloc::{AllocError, Global};
 use std::marker::Model;
 
 /// The entries of a list, cell by cell, in the order of the list.
-#[derive(Debug, Drop)]
+#[derive(Drop)]
 pub struct Local {
     cells: Vec<Vec<Entry>>,
 }

@@ -22,7 +22,7 @@ use step_problem::{Bound, Evap};
 /// The data that depend on the stress period alone, by cell: its kind, its index if it is variable, what the period's
 /// CHD list gives, the head that a constant-head cell keeps, its entries, the recharge that it receives, in units of
 /// 10^-(s+9), and its evapotranspiration; and where all steps are equally long, its storage.
-#[derive(Debug, Drop)]
+#[derive(Drop)]
 pub struct PeriodTables {
     pub period: u32,
     pub steady: bool,

@@ -23,7 +23,7 @@ use std::alloc::{AllocError, Global};
 use step_problem::Bound;
 
 /// A cell at a time: without flow, with a constant head (its bounds, in units of 10^-9), or with a variable head.
-#[derive(Clone, Copy, Debug, PartialEq, Eq)]
+#[derive(Clone, Copy)]
 pub enum Site {
     NoFlow,
     Given(Bound),

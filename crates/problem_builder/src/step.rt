@@ -4,7 +4,7 @@ use model_types::Listed;
 use step_problem::Bound;
 
 /// The factors of the step's length, unless its period is steady, and for each cell the head of a constant-head cell.
-#[derive(Debug, Drop)]
+#[derive(Drop)]
 pub struct StepTables {
     pub factors: Option<Factors>,
     pub heads: Listed<Bound>,

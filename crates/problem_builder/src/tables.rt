@@ -12,7 +12,7 @@ use std::alloc::{AllocError, Global};
 /// The data that depend on a model and the number of digits alone, made once a run: for each cell its thickness and
 /// that of the bed below it, and by a face's first cell the conductance through it, in units of 10^-s. A
 /// conductance that reaches 2^60 units is kept as 1 and 2^60.
-#[derive(Debug, Drop)]
+#[derive(Drop)]
 pub struct Tables {
     pub digits: u32,
     pub thick: Listed<Span>,

@@ -10,7 +10,7 @@ use record_lines::Words;
 use std::alloc::Global;
 
 /// Which arrays of a period are read anew. The others are used again.
-#[derive(Clone, Copy, Debug, PartialEq, Eq)]
+#[derive(Clone, Copy)]
 pub struct Flags {
     pub rate: bool,
     pub layer: bool,

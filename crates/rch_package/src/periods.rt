@@ -19,14 +19,14 @@ use record_lines::{Lines, Words};
 use std::alloc::Global;
 
 /// The arrays in force: the last rates and layers that were read.
-#[derive(Debug, Drop)]
+#[derive(Drop)]
 pub struct Last {
     pub rates: Option<Shared<Dec>>,
     pub layers: Option<Shared<i64>>,
 }
 
 /// The arrays of a period: a rate for each column of layers and, where the file names them, the layers.
-#[derive(Debug, Drop)]
+#[derive(Drop)]
 pub struct Arrays {
     pub recharge: Shared<Dec>,
     pub irch: Shared<i64>,

@@ -19,7 +19,7 @@ use record_lines::{Lines, Words};
 use std::alloc::Global;
 
 /// The contents of a file of the package: NRCHOP, and the periods with their arrays.
-#[derive(Debug, Drop)]
+#[derive(Drop)]
 pub struct Recharge {
     pub nrchop: i64,
     pub periods: Listed<Period>,

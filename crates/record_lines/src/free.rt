@@ -9,7 +9,7 @@ use crate::words::Words;
 use std::marker::Model;
 
 /// Why a free list has no next value.
-#[derive(Clone, Copy, Debug, PartialEq, Eq)]
+#[derive(Clone, Copy)]
 pub enum FreeFault {
     /// No line with a word is left; the line after the last one.
     EndOfFile(u32),

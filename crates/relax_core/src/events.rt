@@ -2,7 +2,7 @@
 use step_problem::Side;
 
 /// One atomic action of an actor on one word.
-#[derive(Clone, Copy, Debug, PartialEq, Eq)]
+#[derive(Clone, Copy)]
 pub enum Event {
     /// The actor sees the word of the cell on that side.
     See { actor: u32, cell: u32, side: Side },

@@ -14,7 +14,7 @@ use std::marker::Model;
 use step_problem::{Bound, Problem, Side};
 
 /// The words, one bound for each cell, and for each actor the bounds that it has seen last.
-#[derive(Debug, Drop)]
+#[derive(Drop)]
 pub struct State {
     pub words: Vec<Bound>,
     pub seen: Vec<Vec<Bound>>,

@@ -1,7 +1,7 @@
 // The type of 18-digit decimals.
 
 /// The value m * 10 ^ e, which isn't negative: m has 18 digits, or is zero, and then e is zero too.
-#[derive(Clone, Copy, Debug, PartialEq, Eq)]
+#[derive(Clone, Copy)]
 pub struct Sd {
     pub m: u64,
     pub e: i16,

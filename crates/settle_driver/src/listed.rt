@@ -11,7 +11,7 @@ use step_problem::{Barrier, Bound, Open, Problem, SettleFault, Settler};
 
 /// Settles as a `PlainSettler` with this many rounds, after relaxing the cells of a list in its order. The list
 /// may be any; a good one saves sweeps.
-#[derive(Debug, Drop)]
+#[derive(Drop)]
 pub struct ListedSettler {
     list: Vec<u32>,
     rounds: u32,

@@ -11,7 +11,7 @@ use step_problem::{Barrier, Bound, Open, Problem, SettleFault, Settler};
 
 /// Settles by plain sweeps in ascending order of the cells, at each cell the lower side and then the upper
 /// one. It ends after `rounds` sweeps, or earlier, after a sweep that moved nothing.
-#[derive(Debug, Drop)]
+#[derive(Drop)]
 pub struct PlainSettler {
     rounds: u32,
 }

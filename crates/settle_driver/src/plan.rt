@@ -4,7 +4,7 @@ ghost use Rattle.settle_driver.specs.Phases.{AreShared, IsPlan};
 
 /// The number of workers, from 1 to 64; the turns for each cell in a phase, at most 1024; and at least one
 /// round, which is the greatest number of phases.
-#[derive(Clone, Copy, Debug, PartialEq, Eq)]
+#[derive(Clone, Copy, Debug)]
 pub struct Plan {
     pub workers: u32,
     pub turns_per_cell: u32,

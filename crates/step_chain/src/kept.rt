@@ -10,7 +10,7 @@ use std::alloc::{AllocError, Global};
 
 /// The tables that all steps of a run share: the tables of the model, made once a run, those of the current stress
 /// period, made once a period, and the given heads up to some period.
-#[derive(Debug, Drop)]
+#[derive(Drop)]
 pub struct RunTables {
     pub tables: Tables,
     pub given: GivenHeads,

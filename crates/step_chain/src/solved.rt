@@ -11,7 +11,7 @@ use step_problem::{Bound, NoBound, Open, Problem, SettleFault};
 
 /// A step's problem, the settled pair of its variable cells by their index, and the heads of all cells of the grid
 /// by cell number, in units of 10^-9.
-#[derive(Debug, Drop)]
+#[derive(Drop)]
 pub struct Solved {
     pub problem: Problem,
     pub bounds: Listed<Bound>,
@@ -19,7 +19,7 @@ pub struct Solved {
 }
 
 /// Why a step has no heads: the refusal of its problem or barrier, a settler that gave up, or lack of memory.
-#[derive(Debug, Drop)]
+#[derive(Drop)]
 pub enum StepFault {
     NoBound(NoBound),
     Unfinished(Open),

@@ -3,7 +3,7 @@
 use std::marker::Model;
 
 /// Which kind of known head a branch leads to.
-#[derive(Clone, Copy, Debug, PartialEq, Eq)]
+#[derive(Clone, Copy)]
 pub enum FixedKind {
     Storage,
     Constant,
@@ -11,14 +11,14 @@ pub enum FixedKind {
 }
 
 /// Which package a constant flow comes from.
-#[derive(Clone, Copy, Debug, PartialEq, Eq)]
+#[derive(Clone, Copy)]
 pub enum FlowKind {
     Wells,
     Recharge,
 }
 
 /// A branch to another variable cell, named by its index.
-#[derive(Clone, Copy, Debug, PartialEq, Eq)]
+#[derive(Clone, Copy, PartialEq, Eq)]
 pub struct Link {
     pub cell: u32,
     pub lo: u64,
@@ -27,7 +27,7 @@ pub struct Link {
 
 /// A branch to a known head: the old head over storage, a constant head, a general head.
 /// The source is the cell number of the constant neighbour, else the cell's own.
-#[derive(Clone, Copy, Debug, PartialEq, Eq)]
+#[derive(Clone, Copy)]
 pub struct Fixed {
     pub kind: FixedKind,
     pub source: u32,
@@ -38,7 +38,7 @@ pub struct Fixed {
 }
 
 /// A river: its conductance, stage and bottom.
-#[derive(Clone, Copy, Debug, PartialEq, Eq)]
+#[derive(Clone, Copy)]
 pub struct River {
     pub lo: u64,
     pub hi: u64,
@@ -49,7 +49,7 @@ pub struct River {
 }
 
 /// A drain: its conductance and elevation.
-#[derive(Clone, Copy, Debug, PartialEq, Eq)]
+#[derive(Clone, Copy)]
 pub struct Drain {
     pub lo: u64,
     pub hi: u64,
@@ -58,7 +58,7 @@ pub struct Drain {
 }
 
 /// An evaporation: the greatest rate over the extinction depth, as a conductance, the extinction elevation and the surface.
-#[derive(Clone, Copy, Debug, PartialEq, Eq)]
+#[derive(Clone, Copy)]
 pub struct Evap {
     pub lo: u64,
     pub hi: u64,
@@ -69,7 +69,7 @@ pub struct Evap {
 }
 
 /// A constant flow into the cell.
-#[derive(Clone, Copy, Debug, PartialEq, Eq)]
+#[derive(Clone, Copy)]
 pub struct Flow {
     pub kind: FlowKind,
     pub lo: i128,
@@ -77,7 +77,7 @@ pub struct Flow {
 }
 
 /// A variable cell: its cell number and its entries. Contracts see it as a record of lists.
-#[derive(Debug, Drop)]
+#[derive(Drop)]
 pub struct Cell {
     pub id: u32,
     pub flows: Vec<Flow>,

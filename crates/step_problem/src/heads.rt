@@ -3,14 +3,14 @@ use std::fmt;
 use std::marker::Model;
 
 /// The lower and the upper head of a cell.
-#[derive(Clone, Copy, Debug, PartialEq, Eq)]
+#[derive(Clone, Copy, PartialEq, Eq)]
 pub struct Bound {
     pub low: i64,
     pub high: i64,
 }
 
 /// The head of the two that a fact is about.
-#[derive(Clone, Copy, Debug, PartialEq, Eq)]
+#[derive(Clone, Copy)]
 pub enum Side {
     Low,
     High,
@@ -31,7 +31,7 @@ impl fmt::Display for Side {
 }
 
 /// A floor and a ceiling for each variable cell. The type does not say that every solution lies between them; the call that finds them does.
-#[derive(Debug, Drop)]
+#[derive(Drop)]
 pub struct Barrier {
     pub floor: Vec<i64>,
     pub ceiling: Vec<i64>,
@@ -49,7 +49,7 @@ impl Model for Barrier {
 }
 
 /// A settling that gave up: a cell, by its index, that can still move on one side, and the heads reached.
-#[derive(Debug, Drop)]
+#[derive(Drop)]
 pub struct Open {
     pub cell: u32,
     pub side: Side,
@@ -69,7 +69,7 @@ impl Model for Open {
 }
 
 /// Why a problem was not settled.
-#[derive(Debug, Drop)]
+#[derive(Drop)]
 pub enum SettleFault {
     Unfinished(Open),
     Memory,

@@ -6,7 +6,7 @@ use crate::heads::Side;
 use std::fmt;
 
 /// A flow into the variable cells is In.
-#[derive(Clone, Copy, Debug, PartialEq, Eq)]
+#[derive(Clone, Copy)]
 pub enum Dir {
     In,
     Out,
@@ -24,7 +24,7 @@ impl fmt::Display for Dir {
 }
 
 /// The terms of the volumetric budget, in the order of the listing.
-#[derive(Clone, Copy, Debug, PartialEq, Eq)]
+#[derive(Clone, Copy)]
 pub enum Term {
     Storage,
     ConstantHead,
@@ -54,7 +54,7 @@ impl fmt::Display for Term {
 }
 
 /// Where a step fails: at a cell, by its cell number, and a side; at a budget term; or at a pair of zones.
-#[derive(Clone, Copy, Debug, PartialEq, Eq)]
+#[derive(Clone, Copy)]
 pub enum Place {
     Cell(u32, Side),
     Term(Dir, Term),
@@ -63,7 +63,7 @@ pub enum Place {
 
 /// The flow over the faces between two zones, from the zone of the lesser number to the other one: the bounds of its
 /// exact value, in units of 10^-(s+9) of the model's flow, where s is the number of digits.
-#[derive(Clone, Copy, Debug, PartialEq, Eq)]
+#[derive(Clone, Copy)]
 pub struct ZoneFlow {
     pub from: u32,
     pub to: u32,
@@ -72,7 +72,7 @@ pub struct ZoneFlow {
 }
 
 /// A step without bounds: the refusal's number, from 21 to 27, and its place.
-#[derive(Clone, Copy, Debug, PartialEq, Eq)]
+#[derive(Clone, Copy)]
 pub struct NoBound {
     pub code: u8,
     pub place: Place,

@@ -24,7 +24,7 @@ pub fn are_heads(heads: &[i64]) -> bool
 }
 
 /// The variable cells of one step, by ascending cell number.
-#[derive(Debug, Drop)]
+#[derive(Drop)]
 pub struct Problem {
     cells: Vec<Cell>,
 }

@@ -2,7 +2,7 @@ ghost use Rattle.std.specs.Prelude.{◌≡◌};
 ghost use Rattle.step_problem.specs.StepRefusals.{number_of, refusal_of, word_of};
 
 /// Why a step has no bounds, in the order of the numbers.
-#[derive(Clone, Copy, Debug, PartialEq, Eq)]
+#[derive(Clone, Copy)]
 pub enum StepRefusal {
     /// The conductance to an active neighbour may be 0.
     ConductanceTooSmall,

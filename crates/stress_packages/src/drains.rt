@@ -15,7 +15,7 @@ use record_lines::Words;
 use std::alloc::Global;
 
 /// The numbers of an entry of a list of drains: the drain's elevation and its conductance.
-#[derive(Clone, Copy, Debug, PartialEq, Eq)]
+#[derive(Clone, Copy)]
 pub struct DrainNumbers {
     pub elevation: Dec,
     pub cond: Dec,

@@ -15,7 +15,7 @@ use record_lines::Words;
 use std::alloc::Global;
 
 /// The numbers of an entry of a list of general heads: the outside head and the conductance to it.
-#[derive(Clone, Copy, Debug, PartialEq, Eq)]
+#[derive(Clone, Copy)]
 pub struct GeneralNumbers {
     pub head: Dec,
     pub cond: Dec,

@@ -16,7 +16,7 @@ use std::alloc::Global;
 
 /// The numbers of an entry of a list of river reaches: the river's stage, the conductance of the riverbed,
 /// and the elevation of its bottom.
-#[derive(Clone, Copy, Debug, PartialEq, Eq)]
+#[derive(Clone, Copy)]
 pub struct Reach {
     pub stage: Dec,
     pub cond: Dec,

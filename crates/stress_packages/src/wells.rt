@@ -14,7 +14,7 @@ use record_lines::Words;
 use std::alloc::Global;
 
 /// The number of an entry of a list of wells: the rate at which the well recharges.
-#[derive(Clone, Copy, Debug, PartialEq, Eq)]
+#[derive(Clone, Copy)]
 pub struct Rate {
     pub q: Dec,
 }

@@ -5,7 +5,7 @@ use std::alloc::{AllocError, AllocFailed};
 use step_problem::NoBound;
 
 /// A refusal, which is FlowTooLarge at a pair of zones; or out of memory.
-#[derive(Clone, Copy, Debug, PartialEq, Eq)]
+#[derive(Clone, Copy)]
 pub enum ZoneFault {
     NoBound(NoBound),
     Memory,

@@ -10,7 +10,7 @@ use budget_bounds::{TERM_LIMIT, TermPair, plus_part};
 use step_problem::{Dir, NoBound, Place, ZoneFlow};
 
 /// What flows from the lower of two zones to the higher, and what flows back, each summed up to 2^126.
-#[derive(Clone, Copy, Debug, PartialEq, Eq)]
+#[derive(Clone, Copy)]
 pub struct ZoneSum {
     pub into: TermPair,
     pub out: TermPair,
