@@ -1,28 +1,24 @@
 -- The base of either side is a head; paths that are cut off, and bounds that are.
-use Rattle.std.proofs.Common.{◌≡◌, ℕ, ◌+◌, ◌<◌, ◌≤◌, ◌⊎◌, inl, inr, refl, sym, ◌∙◌, ap, subst, arith, List, [], ◌∷◌, ◌++◌, length, length-append, min, All, Contains, Option, None, Some, slice_index, ℤ, pos, neg_ℤ, ◌+ℤ◌, ◌-ℤ◌, ◌≤ℤ◌}
-use Rattle.std.specs.Int.{int_max, int_min}
-use Rattle.std.proofs.lemmas.Bool.{cases_lt, cases_eq}
+use Rattle.std.proofs.Common.{◌≡◌, ℕ, ◌+◌, ◌<◌, ◌≤◌, inl, inr, refl, sym, ◌∙◌, ap, subst, arith, List, [], ◌∷◌, ◌++◌, length, min, Option, None, Some, slice_index, ℤ, pos, ◌+ℤ◌}
+use Rattle.std.proofs.lemmas.Bool.{cases_lt}
 use Rattle.std.proofs.lemmas.Int.{ints, clamps}
 use Rattle.std.proofs.lemmas.List.Elements.{All-contains}
-use Rattle.step_problem.specs.declared.entry.Fixed.{Fixed}
-use Rattle.step_problem.specs.declared.entry.River.{River}
-use Rattle.step_problem.specs.declared.entry.Drain.{Drain}
 use Rattle.step_problem.specs.Entries.{Entries, entries_at}
-use Rattle.step_problem.specs.Conditions.{IsProblem, IsHead, IsWithin, FixedFits, RiverFits, DrainFits, head_limit}
-use Rattle.cell_balance.specs.Components.{Reaches}
+use Rattle.step_problem.specs.Conditions.{IsProblem, IsHead, FixedFits, RiverFits, DrainFits}
 use Rattle.barrier_vector.specs.Bases.{IsLowMark, IsHighMark, IsLowBase, IsHighBase}
-use Rattle.barrier_vector.specs.Lacks.{surplus}
-use Rattle.barrier_vector.specs.Paths.{ceil_over, LeadsToRoot}
+use Rattle.step_problem.specs.declared.heads.Side.TheVariants.{High}
+use Rattle.barrier_vector.specs.Lacks.{surplus, stopped}
+use Rattle.barrier_vector.specs.Paths.{ceil_over}
 use Rattle.barrier_vector.specs.Bounds.{high_anchor, AnchorRoot, IsHighPath}
 use Rattle.barrier_vector.specs.Refusals.{HasNoCeiling}
 use Rattle.barrier_vector.specs.Spreads.{mark_at}
 use Rattle.barrier_vector.specs.Searches.{path_limit, ListRoot, IsSearched}
 use Rattle.barrier_vector.specs.Labels.{AreLabels, IsGreatestOf}
-use Rattle.barrier_vector.specs.Roots.{AreRoots, IsAscent, ceiling_cut, IsCeilingOrNone, bound_at, AreBounds}
-use Rattle.barrier_vector.proofs.Spreading.{no_both}
+use Rattle.barrier_vector.specs.Roots.{AreRoots, IsAscent, ceiling_cut, IsCeilingOrNone, bound_at}
 use Rattle.barrier_vector.proofs.Backs.{reaches_within, turn_way}
 use Rattle.barrier_vector.proofs.Starting.{push_before, push_last}
 use Rattle.barrier_vector.proofs.Rooting.{path_as}
+use Rattle.barrier_vector.proofs.StoppedFlows.{whole_anchor_path}
 
 zero_head : IsHead (pos 0)
 zero_head = record { above = omega (arith, ints); below = omega (arith, ints) }
@@ -73,21 +69,22 @@ bounds_more p Is xs xs' o i pushed whole here so_far c h =
     ]
 
 module _ (p : List Entries) (ok : IsProblem p) where
-  pub high_paths : (own levels : List (Option ℕ)) (paths : List ℕ) → length own ≡ length p → AreRoots (AnchorRoot high_anchor p (surplus p)) own → IsSearched p (surplus p) own levels paths → (c k : ℕ) → mark_at levels c ≡ Some k → (s : ℕ) × IsHighPath p c s × (slice_index paths c ≡ min s path_limit)
+  pub high_paths : (own levels : List (Option ℕ)) (paths : List ℕ) → length own ≡ length p → AreRoots (AnchorRoot high_anchor p (stopped (surplus p))) own → IsSearched p (stopped (surplus p)) own levels paths → (c k : ℕ) → mark_at levels c ≡ Some k → (s : ℕ) × IsHighPath p c s × (slice_index paths c ≡ min s path_limit)
   high_paths own levels paths whole roots found c k e =
       let (s, path, cut) = found.some c k e in
-      (s, path_as p (surplus p) (ListRoot own) (AnchorRoot high_anchor p (surplus p)) roots.only (λ a d r. roots.each a d (subst (λ (n : ℕ). a < n) (sym whole) r.0) r) c s path, cut)
+      let (t, full, same) = whole_anchor_path High p ok (surplus p) c s (path_as p (stopped (surplus p)) (ListRoot own) (AnchorRoot high_anchor p (stopped (surplus p))) roots.only (λ a d r. roots.each a d (subst (λ (n : ℕ). a < n) (sym whole) r.0) r) c s path) in
+      (t, full, cut ∙ same)
 
-  pub no_high_anchor : (own levels : List (Option ℕ)) (paths : List ℕ) → length own ≡ length p → AreRoots (AnchorRoot high_anchor p (surplus p)) own → IsSearched p (surplus p) own levels paths → (c : ℕ) → c < length p → mark_at levels c ≡ None → HasNoCeiling p c
+  pub no_high_anchor : (own levels : List (Option ℕ)) (paths : List ℕ) → length own ≡ length p → AreRoots (AnchorRoot high_anchor p (stopped (surplus p))) own → IsSearched p (stopped (surplus p)) own levels paths → (c : ℕ) → c < length p → mark_at levels c ≡ None → HasNoCeiling p c
   no_high_anchor own levels paths whole roots found c h e j a way =
       elim (cases_lt 0 (high_anchor (entries_at p a))) [
         | inr none ↦ omega (arith, none)
         | inl some ↦
             let a_in = reaches_within p ok j c a h way in
-            absurd (found.none c h e j (record { root = a; drop = ceil_over (surplus p) (high_anchor (entries_at p a)); is_root = roots.each a _ (subst (λ (n : ℕ). a < n) (sym whole) a_in) (a_in, some, refl); reaches = way }))
+            absurd (found.none c h e j (record { root = a; drop = ceil_over (stopped (surplus p)) (high_anchor (entries_at p a)); is_root = roots.each a _ (subst (λ (n : ℕ). a < n) (sym whole) a_in) (a_in, some, refl); reaches = way }))
       ]
 
-pub ascent_made : (p : List Entries) → IsProblem p → (base : ℤ) (own levels : List (Option ℕ)) (paths : List ℕ) → IsHighBase p base → length own ≡ length p → AreRoots (AnchorRoot high_anchor p (surplus p)) own → IsSearched p (surplus p) own levels paths → IsAscent p base levels paths
+pub ascent_made : (p : List Entries) → IsProblem p → (base : ℤ) (own levels : List (Option ℕ)) (paths : List ℕ) → IsHighBase p base → length own ≡ length p → AreRoots (AnchorRoot high_anchor p (stopped (surplus p))) own → IsSearched p (stopped (surplus p)) own levels paths → IsAscent p base levels paths
 ascent_made p ok base own levels paths is whole roots found = record {
   is_base = is;
   anchored = high_paths p ok own levels paths whole roots found;

@@ -1,8 +1,7 @@
 -- What a barrier's floors and ceilings give to its caller.
-use Rattle.std.proofs.Common.{◌≡◌, ℕ, zero, suc, ◌<◌, ◌≤◌, inl, inr, refl, ap, arith, ℤ, List, [], ◌∷◌, length, Contains}
-use Rattle.step_problem.specs.declared.entry.Fixed.{Fixed}
+use Rattle.std.proofs.Common.{◌≡◌, ℕ, ◌<◌, inl, inr, arith, ℤ, List, length}
 use Rattle.step_problem.specs.declared.place.NoBound.{NoBound as Refusal}
-use Rattle.step_problem.specs.Entries.{Entries, entries_at}
+use Rattle.step_problem.specs.Entries.{Entries}
 use Rattle.step_problem.specs.Conditions.{IsProblem}
 use Rattle.cell_balance.specs.Steps.{ExactCell}
 use Rattle.cell_balance.specs.Enclosures.{EnclosesStep}
@@ -10,8 +9,8 @@ use Rattle.cell_balance.specs.Solutions.{SolvesStep, LiesBetween}
 use Rattle.cell_balance.specs.Components.{IsHeldBelow}
 use Rattle.barrier_vector.specs.declared.BarrierFault.{BarrierFault}
 use Rattle.barrier_vector.specs.declared.BarrierFault.TheVariants.{NoBound as IsNoBound, Memory}
-use Rattle.barrier_vector.specs.Bounds.{greatest, IsFloor, IsCeiling}
-use Rattle.barrier_vector.specs.Refusals.{HasNoFloor, HasNoCeiling, IsRefusedAbove, IsRefused, IsFault}
+use Rattle.barrier_vector.specs.Bounds.{IsFloor, IsCeiling}
+use Rattle.barrier_vector.specs.Refusals.{IsRefusedAbove, IsRefused, IsFault}
 use Rattle.barrier_vector.specs.Held.{HasStorage, IsNoWantOfAnchors}
 use Rattle.barrier_vector.specs.Laws.{IsSolution}
 use Rattle.barrier_vector.proofs.Floors.{floors_enclose}

@@ -1,8 +1,7 @@
 -- No solution lies below a floor.
-use Rattle.std.proofs.Common.{◌≡◌, ℕ, suc, ◌+◌, ◌*◌, ◌^◌, ◌<◌, ◌≤◌, inl, inr, refl, subst, arith, ℤ, pos, ◌-ℤ◌, ◌*ℤ◌, ◌≤ℤ◌, List, [], ◌∷◌, length, Contains}
+use Rattle.std.proofs.Common.{◌≡◌, ℕ, ◌+◌, ◌*◌, ◌^◌, ◌<◌, ◌≤◌, inl, inr, refl, subst, arith, ℤ, pos, ◌-ℤ◌, ◌*ℤ◌, ◌≤ℤ◌, List, length, Contains}
 use Rattle.std.specs.List.{AllZip}
 use Rattle.std.proofs.Math.Nat.{mul-le-mul_right}
-use Rattle.std.proofs.lemmas.Bool.{cases_lt}
 use Rattle.std.proofs.lemmas.Int.{ints}
 use Rattle.step_problem.specs.declared.entry.Link.{Link}
 use Rattle.step_problem.specs.Entries.{Entries, entries_at}
@@ -14,7 +13,7 @@ use Rattle.cell_balance.proofs.Whole.{WholeCell, whole_at, whole_balance}
 use Rattle.cell_balance.proofs.Within.{CellWithin}
 use Rattle.barrier_vector.specs.Bases.{IsLowMark, IsSomewhere}
 use Rattle.barrier_vector.specs.Lacks.{lack}
-use Rattle.barrier_vector.specs.Bounds.{greatest, low_anchor, LeastRoot, IsLowPath, IsInnerPath, IsLongest, IsFloor}
+use Rattle.barrier_vector.specs.Bounds.{low_anchor, LeastRoot, IsLowPath, IsInnerPath, IsLongest, IsFloor}
 use Rattle.barrier_vector.specs.Laws.{FloorsEnclose}
 use Rattle.barrier_vector.proofs.Backs.{join_ways, turn_way}
 use Rattle.barrier_vector.proofs.FloorsWhole.{whole_head, whole_solution, low_back}

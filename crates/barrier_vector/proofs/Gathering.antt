@@ -1,15 +1,15 @@
 -- Sums and maxima by label, one cell after another.
-use Rattle.std.proofs.Common.{◌≡◌, ℕ, zero, suc, ◌+◌, ◌*◌, ◌^◌, ◌<◌, ◌≤◌, ◌⊎◌, inl, inr, refl, sym, ◌∙◌, ap, subst, arith, max, List, [], ◌∷◌, length, Option, None, Some, Bool, true, false, cond, nat_eq, replicate, slice_index, ℤ, pos, ◌+ℤ◌}
+use Rattle.std.proofs.Common.{◌≡◌, ℕ, zero, suc, ◌+◌, ◌*◌, ◌^◌, ◌<◌, ◌≤◌, ◌⊎◌, inl, inr, refl, sym, ◌∙◌, ap, subst, arith, max, List, Option, None, Some, Bool, true, false, cond, replicate, slice_index, ℤ, pos, negsuc, unsigned_abs, ◌+ℤ◌, ◌*ℤ◌, ◌≤ℤ◌, ◌<ℤ◌, add-one, div-add-mod', mod-lt}
+use Rattle.std.specs.Int.{int_div_euclid, int_rem_euclid}
 use Rattle.std.proofs.lemmas.Bool.{cases_eq, cases_lt, eq-eqb, ne_eqb}
 use Rattle.std.proofs.lemmas.Int.{ints}
 use Rattle.step_problem.specs.Conditions.{IsWithin}
-use Rattle.cell_balance.specs.Components.{sum_below, sum_inside}
+use Rattle.cell_balance.specs.Components.{sum_inside}
 use Rattle.barrier_vector.specs.Spreads.{mark_at}
-use Rattle.barrier_vector.specs.Labels.{is_label, labelled, number_at, IsGreatestOf}
-use Rattle.barrier_vector.proofs.Levels.{marked_or_not, same_some}
-use Rattle.barrier_vector.proofs.Spreading.{no_both}
+use Rattle.barrier_vector.specs.Labels.{is_label, labelled, number_at, no_flow, flow_sum, sum_at, IsGreatestOf}
+use Rattle.barrier_vector.specs.declared.gathered.FlowSum.{FlowSum}
 
-pub zero_at : (n k : ℕ) → number_at (replicate n (pos 0)) k ≡ pos 0
+pub zero_at : (n k : ℕ) → sum_at (replicate n no_flow) k ≡ pos 0
 zero_at zero zero = refl
 zero_at zero (suc k) = refl
 zero_at (suc n) zero = refl
@@ -78,17 +78,38 @@ greatest_more labels xs m i t t' g e =
     }
 
 -- one cell more, over what the code holds before and after
-pub sum_more : (labels : List (Option ℕ)) (flows sums s0 s1 sf : List ℤ) (i m : ℕ) → s0 ≡ sums → sf ≡ s1 → number_at sums m ≡ sum_inside i (labelled labels m) (number_at flows) → number_at s1 m ≡ number_at s0 m +ℤ cond (is_label (mark_at labels i) m) (number_at flows i) (pos 0) → number_at sf m ≡ sum_inside (i + 1) (labelled labels m) (number_at flows)
-sum_more labels flows sums s0 s1 sf i m e0 ef h t = let t' = rw e0 at t in rw (ef, next i) (t' ∙ ap (λ (z : ℤ). z +ℤ cond (is_label (mark_at labels i) m) (number_at flows i) (pos 0)) h)
-  where
-    next : (n : ℕ) → n + 1 ≡ suc n
-    next n = omega arith
+pub sum_more : (labels : List (Option ℕ)) (flows : List ℤ) (sums s0 s1 sf : List FlowSum) (i m : ℕ) → s0 ≡ sums → sf ≡ s1 → sum_at sums m ≡ sum_inside i (labelled labels m) (number_at flows) → sum_at s1 m ≡ sum_at s0 m +ℤ cond (is_label (mark_at labels i) m) (number_at flows i) (pos 0) → sum_at sf m ≡ sum_inside (i + 1) (labelled labels m) (number_at flows)
+sum_more labels flows sums s0 s1 sf i m e0 ef h t = let t' = rw e0 at t in rw (ef, add-one i) (t' ∙ ap (λ (z : ℤ). z +ℤ cond (is_label (mark_at labels i) m) (number_at flows i) (pos 0)) h)
 
 pub greatest_step : (labels : List (Option ℕ)) (xs tops t0 t1 tf : List ℕ) (m i : ℕ) → t0 ≡ tops → tf ≡ t1 → IsGreatestOf labels xs m i (slice_index tops m) → slice_index t1 m ≡ cond (is_label (mark_at labels i) m) (max (slice_index t0 m) (slice_index xs i)) (slice_index t0 m) → IsGreatestOf labels xs m (i + 1) (slice_index tf m)
 greatest_step labels xs tops t0 t1 tf m i e0 ef g t = let t' = rw e0 at t in rw ef (greatest_more labels xs m i (slice_index tops m) (slice_index t1 m) g t')
 
-pub sums_within : (labels : List (Option ℕ)) (flows sums s0 : List ℤ) (i m : ℕ) → s0 ≡ sums → i < 65536 → ((k : ℕ) → IsWithin (number_at flows k) (2 ^ 109)) → number_at sums m ≡ sum_inside i (labelled labels m) (number_at flows) → IsWithin (number_at s0 m) (65535 * 2 ^ 109)
+pub sums_within : (labels : List (Option ℕ)) (flows : List ℤ) (sums s0 : List FlowSum) (i m : ℕ) → s0 ≡ sums → i < 2 ^ 32 → ((k : ℕ) → IsWithin (number_at flows k) (2 ^ 109)) → sum_at sums m ≡ sum_inside i (labelled labels m) (number_at flows) → IsWithin (sum_at s0 m) (2 ^ 141)
 sums_within labels flows sums s0 i m e0 small each h = let w = sum_within i (2 ^ 109) (labelled labels m) (number_at flows) each in rw (e0, h) (wider _ w)
   where
-    wider : (z : ℤ) → IsWithin z (i * 2 ^ 109) → IsWithin z (65535 * 2 ^ 109)
-    wider z w = let le : i * 2 ^ 109 ≤ 65535 * 2 ^ 109 = omega arith in record { above = omega (arith, ints); below = omega (arith, ints) }
+    wider : (z : ℤ) → IsWithin z (i * 2 ^ 109) → IsWithin z (2 ^ 141)
+    wider z w = let le : i * 2 ^ 109 ≤ 2 ^ 141 = omega arith in record { above = omega (arith, ints); below = omega (arith, ints) }
+
+-- the two words of a sum
+pub euclid : (z : ℤ) (n : ℕ) → 0 < n → int_div_euclid z (pos n) *ℤ pos n +ℤ int_rem_euclid z (pos n) ≡ z
+euclid (pos a) n some = let e = div-add-mod' a n in omega (arith, ints, e)
+euclid (negsuc a) n some = let e = div-add-mod' a n in let h = mod-lt a some in omega (arith, ints, e, h)
+
+rest_whole : (z : ℤ) (n : ℕ) → pos (unsigned_abs (int_rem_euclid z (pos n))) ≡ int_rem_euclid z (pos n)
+rest_whole (pos a) n = refl
+rest_whole (negsuc a) n = refl
+
+-- a flow more: what passes 2 ^ 64 goes to the higher word
+pub two_words : (s : FlowSum) (flow rest q r : ℤ) → rest ≡ pos s.low +ℤ flow → q ≡ int_div_euclid rest (pos (2 ^ 64)) → r ≡ int_rem_euclid rest (pos (2 ^ 64)) → flow_sum (record { high = s.high +ℤ q; low = unsigned_abs r }) ≡ flow_sum s +ℤ flow
+two_words s flow rest q r is eq er = rw (eq, er) (words (int_div_euclid rest (pos (2 ^ 64))) (int_rem_euclid rest (pos (2 ^ 64))) (euclid rest (2 ^ 64) (omega arith)) (rest_whole rest (2 ^ 64)))
+  where
+    words : (q' r' : ℤ) → q' *ℤ pos (2 ^ 64) +ℤ r' ≡ rest → pos (unsigned_abs r') ≡ r' → (s.high +ℤ q') *ℤ pos (2 ^ 64) +ℤ pos (unsigned_abs r') ≡ (s.high *ℤ pos (2 ^ 64) +ℤ pos s.low) +ℤ flow
+    words q' r' e a = omega (arith, ints, e, a, is)
+
+pub not_positive : (b : Bool) (z : ℤ) → (pos 0 <ℤ z → b ≡ true) → b ≡ false → z ≤ℤ pos 0
+not_positive b z only e = elim (z_cases z) [ inl some ↦ let t = only some in absurd (cc (e, t)) | inr none ↦ none ]
+  where
+    z_cases : (y : ℤ) → (pos 0 <ℤ y) ⊎ (y ≤ℤ pos 0)
+    z_cases (pos zero) = inr (omega (arith, ints))
+    z_cases (pos (suc n)) = inl (omega (arith, ints))
+    z_cases (negsuc n) = inr (omega (arith, ints))

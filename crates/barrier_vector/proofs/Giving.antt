@@ -1,12 +1,11 @@
 -- Sums of flows within the sums of their sizes.
-use Rattle.std.proofs.Common.{◌≡◌, ℕ, zero, suc, ◌+◌, ◌*◌, ◌^◌, ◌<◌, ◌≤◌, refl, sym, ◌∙◌, ap, arith, List, [], ◌∷◌, ◌++◌, length, get_or, take, sum_by, max, unsigned_abs, ℤ, pos, negsuc, ◌+ℤ◌, ◌-ℤ◌, FitsSigned}
+use Rattle.std.proofs.Common.{◌≡◌, ℕ, ◌+◌, ◌^◌, ◌<◌, sym, ◌∙◌, ap, arith, List, [], ◌∷◌, ◌++◌, length, get_or, take, sum_by, ℤ, pos, negsuc, ◌+ℤ◌, ◌-ℤ◌, FitsSigned}
 use Rattle.std.specs.Int.{w128}
 use Rattle.std.proofs.lemmas.Int.{ints}
 use Rattle.std.proofs.lemmas.Bool.{cases_lt}
 use Rattle.std.proofs.lemmas.List.Sums.{sum_by_more, sum_by-take-le}
 use Rattle.step_problem.specs.Conditions.{IsWithin, magnitude}
-use Rattle.step_problem.specs.Entries.{Entries, entries_at, no_entries}
-use Rattle.barrier_vector.specs.Lacks.{negative_part, positive_part}
+use Rattle.step_problem.specs.Entries.{Entries, entries_at}
 use Rattle.barrier_vector.specs.Labels.{number_at}
 use Rattle.barrier_vector.proofs.Starting.{push_before, push_last}
 use Rattle.std.proofs.lemmas.List.{get_or_past}

@@ -1,18 +1,16 @@
 -- The high side of a barrier, or its refusal, and what both sides give.
-use Rattle.std.proofs.Common.{◌≡◌, ℕ, ◌+◌, ◌<◌, ◌⊎◌, inl, inr, refl, sym, ◌∙◌, ap, subst, arith, List, length, Option, None, Some, ℤ, pos, neg_ℤ, ◌<ℤ◌, ◌≤ℤ◌}
-use Rattle.std.specs.Int.{int_max, int_min}
+use Rattle.std.proofs.Common.{◌≡◌, ℕ, ◌<◌, inl, inr, refl, sym, ◌∙◌, ap, subst, arith, List, length, Option, None, Some, ℤ, pos, neg_ℤ, ◌≤ℤ◌}
 use Rattle.std.proofs.lemmas.Int.{ints, clamps, by_lt_z}
-use Rattle.step_problem.specs.declared.heads.Side.TheVariants.{Low, High}
+use Rattle.step_problem.specs.declared.heads.Side.TheVariants.{High}
 use Rattle.step_problem.specs.declared.place.NoBound.{NoBound}
 use Rattle.step_problem.specs.Entries.{Entries, entries_at}
 use Rattle.step_problem.specs.Conditions.{IsProblem, IsHead, head_limit}
 use Rattle.step_problem.specs.Heads.{head_at}
 use Rattle.barrier_vector.specs.Bounds.{IsFloor, IsCeiling}
-use Rattle.barrier_vector.specs.Refusals.{HasNoFloor, SinksTooLow, HasNoCeiling, RisesTooHigh, Nowhere, IsLeastWith, Names, IsRefusedBelow, IsRefusedAbove}
-use Rattle.barrier_vector.specs.Roots.{floor_cut, ceiling_cut, bound_at, IsFloorOrNone, IsCeilingOrNone, AreBounds}
-use Rattle.barrier_vector.specs.declared.refusal.Test.TheVariants.{Missing, TooLow, TooHigh}
-use Rattle.barrier_vector.specs.Tests.{Fails, IsFirstFailing, AreHeadsOf, IsSide, IsLowSide, IsHighSide, IsLowFault, IsHighFault}
-use Rattle.barrier_vector.proofs.Levels.{marked_or_not}
+use Rattle.barrier_vector.specs.Refusals.{HasNoFloor, HasNoCeiling, RisesTooHigh, Nowhere, Names, IsRefusedBelow, IsRefusedAbove}
+use Rattle.barrier_vector.specs.Roots.{ceiling_cut, bound_at, IsCeilingOrNone, AreBounds}
+use Rattle.barrier_vector.specs.declared.refusal.Test.TheVariants.{Missing, TooHigh}
+use Rattle.barrier_vector.specs.Tests.{Fails, IsFirstFailing, AreHeadsOf, IsLowSide, IsHighSide, IsLowFault, IsHighFault}
 use Rattle.barrier_vector.proofs.Basing.{low_base_head, high_base_head}
 use Rattle.barrier_vector.proofs.Rooting.{anchored_by, at_most_greatest}
 use Rattle.barrier_vector.specs.Held.{HasStorage, IsNoWantOfAnchors}
@@ -20,7 +18,7 @@ use Rattle.cell_balance.specs.Components.{IsHeldBelow}
 use Rattle.step_problem.specs.declared.entry.Fixed.{Fixed}
 use Rattle.barrier_vector.specs.declared.BarrierFault.{BarrierFault}
 use Rattle.barrier_vector.specs.declared.BarrierFault.TheVariants.{NoBound as AFault, Memory}
-use Rattle.barrier_vector.proofs.Uniques.{path_anchors, floor_one, ceiling_one}
+use Rattle.barrier_vector.proofs.Uniques.{ceiling_one}
 use Rattle.barrier_vector.proofs.Sides.{some_or_none}
 
 -- and on the high side

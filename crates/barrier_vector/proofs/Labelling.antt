@@ -1,5 +1,5 @@
 -- Labels of components: one component is filled from its least cell, and one after another.
-use Rattle.std.proofs.Common.{◌≡◌, ℕ, zero, suc, ◌+◌, ◌*◌, ◌<◌, ◌≤◌, ◌⊎◌, inl, inr, refl, sym, ◌∙◌, ap, subst, arith, List, [], ◌∷◌, length, Contains, Option, None, Some, All, set, replicate, slice_index, get_or, get_or-set_same, get_or-set_other}
+use Rattle.std.proofs.Common.{◌≡◌, ℕ, zero, suc, ◌+◌, ◌<◌, ◌≤◌, ◌⊎◌, inl, inr, refl, sym, ◌∙◌, ap, subst, arith, List, [], ◌∷◌, length, Contains, Option, None, Some, All, set, replicate, slice_index, get_or, get_or-set_same, get_or-set_other}
 use Rattle.std.proofs.lemmas.Bool.{cases_eq, cases_lt}
 use Rattle.std.proofs.lemmas.List.{length-set}
 use Rattle.std.proofs.lemmas.List.Elements.{Contains-get_or}
@@ -7,11 +7,11 @@ use Rattle.step_problem.specs.declared.entry.Link.{Link}
 use Rattle.step_problem.specs.Entries.{Entries, entries_at, link_at}
 use Rattle.step_problem.specs.Conditions.{IsProblem}
 use Rattle.cell_balance.specs.Components.{Reaches}
-use Rattle.barrier_vector.specs.Spreads.{mark_at, unmarked, LinkLeads, FrontLeads, Spreads}
+use Rattle.barrier_vector.specs.Spreads.{mark_at, LinkLeads, FrontLeads, Spreads}
 use Rattle.barrier_vector.specs.Labels.{AreLabels, Fills}
 use Rattle.barrier_vector.proofs.Spreading.{no_both}
 use Rattle.barrier_vector.proofs.Extending.{place_of}
-use Rattle.barrier_vector.proofs.Backs.{back, turn_way, join_ways}
+use Rattle.barrier_vector.proofs.Backs.{turn_way, join_ways}
 use Rattle.barrier_vector.proofs.Levels.{same_some, marked_or_not, marked_within, link_place, no_member}
 
 -- The cells filled so far are reached from c; those that aren't in the frontier have no neighbour without a label.

@@ -25,6 +25,7 @@ pub mod Giving
 pub mod Rooting
 pub mod Uniques
 pub mod OneAnswer
+pub mod StoppedFlows
 pub mod Surveying
 pub mod Carrying
 pub mod Outlining

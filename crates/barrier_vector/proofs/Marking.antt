@@ -1,7 +1,7 @@
 -- The outermost mark: of several marks, of a list, of a cell, of a problem.
 use Rattle.std.proofs.Common.{◌≡◌, ℕ, zero, suc, ◌+◌, ◌<◌, ◌⊎◌, inl, inr, refl, sym, ◌∙◌, ap, subst, arith, List, [], ◌∷◌, ◌++◌, length, take, get_or, Contains, Option, None, Some, ℤ, pos, ◌≤ℤ◌, ◌<ℤ◌}
 use Rattle.std.specs.Int.{int_max, int_min}
-use Rattle.std.proofs.lemmas.Bool.{cases_eq, cases_lt}
+use Rattle.std.proofs.lemmas.Bool.{cases_lt}
 use Rattle.std.proofs.lemmas.Int.{ints, clamps, by_lt_z}
 use Rattle.std.proofs.lemmas.List.{take_more}
 use Rattle.std.proofs.lemmas.List.Elements.{Contains-push, Contains-push_cases, Contains-append_left}
@@ -11,8 +11,8 @@ use Rattle.step_problem.specs.declared.entry.Fixed.{Fixed}
 use Rattle.step_problem.specs.declared.entry.River.{River}
 use Rattle.step_problem.specs.declared.entry.Drain.{Drain}
 use Rattle.step_problem.specs.Entries.{Entries, entries_at}
-use Rattle.barrier_vector.specs.Bases.{IsLowMark, IsHighMark, IsSomewhere, IsFirstOf, IsLowBase, IsHighBase}
-use Rattle.barrier_vector.specs.Marks.{if_some, fixed_mark, river_mark, drain_mark, outer_of, IsInside, IsOutermost, IsMarkIn, IsCellMark, IsMarkBelow}
+use Rattle.barrier_vector.specs.Bases.{IsLowMark, IsHighMark, IsLowBase, IsHighBase}
+use Rattle.barrier_vector.specs.Marks.{if_some, fixed_mark, river_mark, drain_mark, outer_of, IsOutermost, IsMarkIn, IsCellMark, IsMarkBelow}
 
 pub some_at : (hi : ℕ) (v : ℤ) → 0 < hi → if_some hi v ≡ Some v
 some_at zero v h = absurd (omega arith)

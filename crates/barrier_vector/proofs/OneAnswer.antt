@@ -1,5 +1,5 @@
 -- A problem has one barrier or one refusal, and not both.
-use Rattle.std.proofs.Common.{◌≡◌, ℕ, suc, ◌<◌, ◌⊎◌, inl, inr, refl, sym, ◌∙◌, ap, subst, arith, List, [], ◌∷◌, length, ℤ}
+use Rattle.std.proofs.Common.{◌≡◌, ℕ, suc, ◌<◌, inl, inr, refl, sym, ◌∙◌, ap, subst, arith, List, [], ◌∷◌, length, ℤ}
 use Rattle.std.proofs.lemmas.Bool.{cases_lt}
 use Rattle.std.proofs.lemmas.Int.{ints}
 use Rattle.step_problem.specs.declared.heads.Side.{Side}
@@ -7,12 +7,11 @@ use Rattle.step_problem.specs.declared.heads.Side.TheVariants.{Low, High}
 use Rattle.step_problem.specs.declared.place.NoBound.{NoBound}
 use Rattle.step_problem.specs.declared.place.Place.{Place}
 use Rattle.step_problem.specs.declared.place.Place.TheVariants.{Cell}
-use Rattle.step_problem.specs.Conditions.{IsProblem}
 use Rattle.step_problem.specs.Entries.{Entries, entries_at}
 use Rattle.step_problem.specs.Heads.{Edges, head_at}
 use Rattle.barrier_vector.specs.Bounds.{IsFloor, IsCeiling}
 use Rattle.barrier_vector.specs.Refusals.{HasNoFloor, SinksTooLow, HasNoCeiling, RisesTooHigh, Nowhere, IsLeastWith, Names, IsRefusedBelow, IsRefusedAbove}
-use Rattle.barrier_vector.specs.Barriers.{IsBarrierOf, BarrierIsOne, BarrierExcludesRefusal, RefusalIsOne}
+use Rattle.barrier_vector.specs.Barriers.{BarrierIsOne, BarrierExcludesRefusal, RefusalIsOne}
 use Rattle.barrier_vector.proofs.Uniques.{floor_one, ceiling_one, path_anchors}
 
 same_heads : (xs ys : List ℤ) → length xs ≡ length ys → ((c : ℕ) → c < length xs → head_at xs c ≡ head_at ys c) → xs ≡ ys

@@ -1,5 +1,5 @@
 -- The outline of the first cells: one cell more, and what it is of all cells.
-use Rattle.std.proofs.Common.{◌≡◌, ℕ, ◌+◌, ◌*◌, ◌^◌, ◌<◌, ◌≤◌, inl, inr, refl, sym, ◌∙◌, ap, subst, arith, List, [], ◌∷◌, ◌++◌, length, length-append, sum_by, Option, None, slice_index, ℤ, pos}
+use Rattle.std.proofs.Common.{◌≡◌, ℕ, ◌+◌, ◌<◌, inl, inr, refl, sym, ◌∙◌, ap, subst, arith, List, [], ◌∷◌, ◌++◌, length, length-append, sum_by, Option, None, slice_index, ℤ, pos}
 use Rattle.std.specs.Option.{unwrap_or}
 use Rattle.std.proofs.lemmas.Bool.{cases_lt}
 use Rattle.std.proofs.Math.Seq.{take-length}
@@ -9,7 +9,7 @@ use Rattle.step_problem.specs.declared.heads.Side.TheVariants.{Low, High}
 use Rattle.step_problem.specs.Entries.{Entries, entries_at, no_entries}
 use Rattle.barrier_vector.specs.Bases.{IsLowBase, IsHighBase}
 use Rattle.barrier_vector.specs.Bounds.{AnchorRoot}
-use Rattle.barrier_vector.specs.Lacks.{need_on}
+use Rattle.barrier_vector.specs.Lacks.{need_on, stopped}
 use Rattle.barrier_vector.specs.Marks.{outer_of, IsOutermost, IsCellMark}
 use Rattle.barrier_vector.specs.Paths.{ceil_over}
 use Rattle.barrier_vector.specs.Roots.{anchor_on, ListAnchor, AreRoots}
@@ -21,17 +21,15 @@ pub outline_none : (side : Side) (p : List Entries) (anchors : List ℕ) → anc
 outline_none side p anchors e = rw e (record {
   outermost = no_cells side p;
   sum = refl;
-  small = omega arith;
   whole = refl;
   each = λ c h. absurd (omega arith);
 })
 
 -- one cell more
-pub outline_more : (side : Side) (p : List Entries) (i : ℕ) (e : Entries) (mark o mark' : Option ℤ) (need n need' : ℕ) (anchors anchors' : List ℕ) (a : ℕ) → i < length p → e ≡ entries_at p i → mark' ≡ outer_of side mark o → IsOutermost side (IsCellMark side e) o → need' ≡ need + n → n ≡ need_on side e → n ≤ 2 ^ 109 → anchors' ≡ anchors ++ a ∷ [] → a ≡ anchor_on side e → IsOutline side p i mark need anchors → IsOutline side p (i + 1) mark' need' anchors'
-outline_more side p i e mark o mark' need n need' anchors anchors' a h here joined outermost added need_is small pushed anchor_is y = record {
+pub outline_more : (side : Side) (p : List Entries) (i : ℕ) (e : Entries) (mark o mark' : Option ℤ) (need n need' : ℕ) (anchors anchors' : List ℕ) (a : ℕ) → i < length p → e ≡ entries_at p i → mark' ≡ outer_of side mark o → IsOutermost side (IsCellMark side e) o → need' ≡ stopped (need + n) → n ≡ need_on side e → anchors' ≡ anchors ++ a ∷ [] → a ≡ anchor_on side e → IsOutline side p i mark need anchors → IsOutline side p (i + 1) mark' need' anchors'
+outline_more side p i e mark o mark' need n need' anchors anchors' a h here joined outermost added need_is pushed anchor_is y = record {
   outermost = cells_more side p i mark o mark' joined y.outermost (subst (λ (z : Entries). IsOutermost side (IsCellMark side z) o) here outermost);
   sum = let more = sum_by_more (need_on side) p i no_entries h in let same = need_is ∙ ap (need_on side) here in sums _ _ _ more same y.sum;
-  small = let was = y.small in fits (2 ^ 109) was small;
   whole = ap (λ (z : List ℕ). length z) pushed ∙ length-append anchors (a ∷ []) ∙ ap (λ (k : ℕ). k + 1) y.whole;
   each = λ c c_in.
       elim (cases_lt c i) [
@@ -40,11 +38,8 @@ outline_more side p i e mark o mark' need n need' anchors anchors' a h here join
       ];
 }
   where
-    sums : (s t m : ℕ) → t ≡ s + m → n ≡ m → need ≡ s → need' ≡ t
+    sums : (s t m : ℕ) → t ≡ s + m → n ≡ m → need ≡ stopped s → need' ≡ stopped t
     sums s t m more same was = omega (arith, added)
-
-    fits : (b : ℕ) → need ≤ i * b → n ≤ b → need' ≤ (i + 1) * b
-    fits b was le = omega (arith, added)
 
 pub low_base_of : (p : List Entries) (mark : Option ℤ) (need : ℕ) (anchors : List ℕ) (b : ℤ) → IsOutline Low p (length p) mark need anchors → b ≡ unwrap_or mark (pos 0) → IsLowBase p b
 low_base_of p mark need anchors b y e = low_base_is p mark b y.outermost (λ v is. e ∙ ap (λ (o : Option ℤ). unwrap_or o (pos 0)) is) (λ is. e ∙ ap (λ (o : Option ℤ). unwrap_or o (pos 0)) is)
@@ -53,8 +48,8 @@ pub high_base_of : (p : List Entries) (mark : Option ℤ) (need : ℕ) (anchors 
 high_base_of p mark need anchors b y e = high_base_is p mark b y.outermost (λ v is. e ∙ ap (λ (o : Option ℤ). unwrap_or o (pos 0)) is) (λ is. e ∙ ap (λ (o : Option ℤ). unwrap_or o (pos 0)) is)
 
 -- the lack or the surplus
-pub need_whole : (side : Side) (p : List Entries) (mark : Option ℤ) (need : ℕ) (anchors : List ℕ) → IsOutline side p (length p) mark need anchors → need ≡ sum_by (need_on side) p
-need_whole side p mark need anchors y = y.sum ∙ ap (sum_by (need_on side)) (take-length p)
+pub need_whole : (side : Side) (p : List Entries) (mark : Option ℤ) (need : ℕ) (anchors : List ℕ) → IsOutline side p (length p) mark need anchors → need ≡ stopped (sum_by (need_on side) p)
+need_whole side p mark need anchors y = y.sum ∙ ap (λ (z : List Entries). stopped (sum_by (need_on side) z)) (take-length p)
 
 -- roots by the list of greatest anchors are the anchored cells
 pub roots_on : (side : Side) (p : List Entries) (mark : Option ℤ) (need q : ℕ) (anchors own : List ℕ) (roots : List (Option ℕ)) → IsOutline side p (length p) mark need anchors → own ≡ anchors → need ≡ q → AreRoots (ListAnchor own need) roots → AreRoots (AnchorRoot (anchor_on side) p q) roots

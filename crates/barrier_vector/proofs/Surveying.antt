@@ -4,7 +4,8 @@ use Rattle.std.proofs.lemmas.Int.{ints, clamps}
 use Rattle.step_problem.specs.Entries.{Entries, entries_at}
 use Rattle.step_problem.specs.Conditions.{IsProblem, IsHead}
 use Rattle.barrier_vector.specs.Bases.{IsLowBase}
-use Rattle.barrier_vector.specs.Lacks.{lack}
+use Rattle.step_problem.specs.declared.heads.Side.TheVariants.{Low}
+use Rattle.barrier_vector.specs.Lacks.{lack, stopped}
 use Rattle.barrier_vector.specs.Paths.{ceil_over}
 use Rattle.barrier_vector.specs.Bounds.{low_anchor, AnchorRoot, IsLowPath, IsUnanchored}
 use Rattle.barrier_vector.specs.Spreads.{mark_at}
@@ -12,17 +13,19 @@ use Rattle.barrier_vector.specs.Searches.{path_limit, ListRoot, IsSearched}
 use Rattle.barrier_vector.specs.Roots.{AreRoots, IsDescent, floor_cut, IsAnchoredFloor, IsFloorOrNone, bound_at, AreBounds}
 use Rattle.barrier_vector.proofs.Backs.{reaches_within}
 use Rattle.barrier_vector.proofs.Rooting.{path_as, anchors}
+use Rattle.barrier_vector.proofs.StoppedFlows.{whole_anchor_path}
 
 module _ (p : List Entries) (ok : IsProblem p) where
-  pub low_paths : (own levels : List (Option ℕ)) (paths : List ℕ) → length own ≡ length p → AreRoots (AnchorRoot low_anchor p (lack p)) own → IsSearched p (lack p) own levels paths → (c k : ℕ) → mark_at levels c ≡ Some k → (s : ℕ) × IsLowPath p c s × (slice_index paths c ≡ min s path_limit)
+  pub low_paths : (own levels : List (Option ℕ)) (paths : List ℕ) → length own ≡ length p → AreRoots (AnchorRoot low_anchor p (stopped (lack p))) own → IsSearched p (stopped (lack p)) own levels paths → (c k : ℕ) → mark_at levels c ≡ Some k → (s : ℕ) × IsLowPath p c s × (slice_index paths c ≡ min s path_limit)
   low_paths own levels paths whole roots found c k e =
       let (s, path, cut) = found.some c k e in
-      (s, path_as p (lack p) (ListRoot own) (AnchorRoot low_anchor p (lack p)) roots.only (λ a d r. roots.each a d (subst (λ (n : ℕ). a < n) (sym whole) r.0) r) c s path, cut)
+      let (t, full, same) = whole_anchor_path Low p ok (lack p) c s (path_as p (stopped (lack p)) (ListRoot own) (AnchorRoot low_anchor p (stopped (lack p))) roots.only (λ a d r. roots.each a d (subst (λ (n : ℕ). a < n) (sym whole) r.0) r) c s path) in
+      (t, full, cut ∙ same)
 
-  pub no_anchor : (own levels : List (Option ℕ)) (paths : List ℕ) → length own ≡ length p → AreRoots (AnchorRoot low_anchor p (lack p)) own → IsSearched p (lack p) own levels paths → (c : ℕ) → c < length p → mark_at levels c ≡ None → IsUnanchored p c
+  pub no_anchor : (own levels : List (Option ℕ)) (paths : List ℕ) → length own ≡ length p → AreRoots (AnchorRoot low_anchor p (stopped (lack p))) own → IsSearched p (stopped (lack p)) own levels paths → (c : ℕ) → c < length p → mark_at levels c ≡ None → IsUnanchored p c
   no_anchor own levels paths whole roots found c h e j (a, way, held) =
       let a_in = reaches_within p ok j c a h way in
-      found.none c h e j (record { root = a; drop = ceil_over (lack p) (low_anchor (entries_at p a)); is_root = roots.each a _ (subst (λ (n : ℕ). a < n) (sym whole) a_in) (a_in, anchors p a held, refl); reaches = way })
+      found.none c h e j (record { root = a; drop = ceil_over (stopped (lack p)) (low_anchor (entries_at p a)); is_root = roots.each a _ (subst (λ (n : ℕ). a < n) (sym whole) a_in) (a_in, anchors p a held, refl); reaches = way })
 
 -- the tests of a component agree
 pub same_tests : (a b : Bool) → (a ≡ true → b ≡ true) → (b ≡ true → a ≡ true) → a ≡ b
@@ -30,7 +33,7 @@ same_tests true b f g = sym (f refl)
 same_tests false true f g = g refl
 same_tests false false f g = refl
 
-pub descent_made : (p : List Entries) → IsProblem p → (base : ℤ) (own levels : List (Option ℕ)) (paths : List ℕ) → IsLowBase p base → length own ≡ length p → AreRoots (AnchorRoot low_anchor p (lack p)) own → IsSearched p (lack p) own levels paths → IsDescent p base levels paths
+pub descent_made : (p : List Entries) → IsProblem p → (base : ℤ) (own levels : List (Option ℕ)) (paths : List ℕ) → IsLowBase p base → length own ≡ length p → AreRoots (AnchorRoot low_anchor p (stopped (lack p))) own → IsSearched p (stopped (lack p)) own levels paths → IsDescent p base levels paths
 descent_made p ok base own levels paths is whole roots found = record {
   is_base = is;
   anchored = low_paths p ok own levels paths whole roots found;

@@ -1,15 +1,13 @@
 -- Levels, parents, paths, bases, floors and ceilings are each one number.
-use Rattle.std.proofs.Common.{◌≡◌, ℕ, zero, suc, ◌+◌, ◌<◌, ◌≤◌, ◌⊎◌, inl, inr, refl, sym, ◌∙◌, ap, subst, arith, List, length, Contains, ℤ, pos, ◌+ℤ◌, ◌-ℤ◌, ◌≤ℤ◌}
+use Rattle.std.proofs.Common.{◌≡◌, ℕ, zero, suc, ◌+◌, inl, inr, sym, ◌∙◌, ap, subst, arith, List, Contains, ℤ, pos, ◌+ℤ◌, ◌-ℤ◌}
 use Rattle.std.proofs.lemmas.Bool.{cases_lt}
 use Rattle.std.proofs.lemmas.Int.{ints}
 use Rattle.step_problem.specs.declared.entry.Link.{Link}
 use Rattle.step_problem.specs.Entries.{Entries, entries_at, link_at}
 use Rattle.step_problem.specs.Conditions.{IsProblem}
-use Rattle.step_problem.specs.Heads.{Ge}
-use Rattle.cell_balance.specs.Components.{Reaches}
-use Rattle.barrier_vector.specs.Bases.{IsFirstOf, IsLowBase, IsHighBase}
+use Rattle.barrier_vector.specs.Bases.{IsLowBase, IsHighBase}
 use Rattle.barrier_vector.specs.Lacks.{lack, surplus}
-use Rattle.barrier_vector.specs.Paths.{ceil_over, LeadsToRoot, IsLevel, IsParent, SumsTo, IsPath}
+use Rattle.barrier_vector.specs.Paths.{ceil_over, IsLevel, SumsTo, IsPath}
 use Rattle.barrier_vector.specs.Bounds.{low_anchor, high_anchor, AnchorRoot, LeastRoot, IsLowPath, IsHighPath, IsInnerPath, IsLongest, IsUnanchored, IsFloor, IsCeiling}
 use Rattle.barrier_vector.proofs.Backs.{has_links}
 use Rattle.barrier_vector.proofs.Levels.{link_place}

@@ -1,6 +1,5 @@
 -- The floor and the ceiling of a cell, by the base of its side and its path to an anchor.
 use Rattle.std.specs.Prelude.{◌≡◌, ℕ, ◌+◌, ◌<◌, ◌≤◌, ◌⊎◌, List, [], ◌∷◌, length, max, ℤ, pos, ◌+ℤ◌, ◌-ℤ◌}
-use Rattle.step_problem.specs.declared.entry.Fixed.{Fixed}
 use Rattle.step_problem.specs.Entries.{Entries, entries_at}
 use Rattle.cell_balance.specs.Components.{Reaches, Leads, IsCarried}
 use Rattle.barrier_vector.specs.Bases.{IsLowBase, IsHighBase}

@@ -1,9 +1,10 @@
 -- The components of a problem, each cell labelled with the least cell of its component, and sums over them.
-use Rattle.std.specs.Prelude.{◌≡◌, ℕ, ◌<◌, ◌≤◌, ◌⊎◌, List, length, Contains, Option, None, Some, Bool, false, nat_eq, slice_index, slice_index_or, ℤ, pos}
+use Rattle.std.specs.Prelude.{◌≡◌, ℕ, ◌<◌, ◌≤◌, ◌⊎◌, ◌^◌, List, length, Contains, Option, None, Some, Bool, false, nat_eq, slice_index, slice_index_or, ℤ, pos, ◌+ℤ◌, ◌*ℤ◌}
 use Rattle.step_problem.specs.declared.entry.Link.{Link}
 use Rattle.step_problem.specs.Entries.{Entries, entries_at}
-use Rattle.cell_balance.specs.Components.{Reaches, sum_inside}
+use Rattle.cell_balance.specs.Components.{Reaches}
 use Rattle.barrier_vector.specs.Spreads.{mark_at}
+use Rattle.barrier_vector.specs.declared.gathered.FlowSum.{FlowSum}
 
 -- Labels are the same at both ends of a link; each is the least cell of its component; and the cells below i have one.
 pub record AreLabels (p : List Entries) (labels : List (Option ℕ)) (i : ℕ) : Type 0 where
@@ -31,6 +32,16 @@ labelled labels m k = is_label (mark_at labels k) m
 
 abbrev pub number_at : List ℤ → ℕ → ℤ
 number_at xs k = slice_index_or xs k (pos 0)
+
+-- the sum that two words make, and the sum with the label k in a list of sums
+abbrev pub flow_sum : FlowSum → ℤ
+flow_sum s = s.high *ℤ pos (2 ^ 64) +ℤ pos s.low
+
+abbrev pub no_flow : FlowSum
+no_flow = record { high = pos 0; low = 0 }
+
+abbrev pub sum_at : List FlowSum → ℕ → ℤ
+sum_at sums k = flow_sum (slice_index_or sums k no_flow)
 
 -- t is the greatest of the numbers of the first i cells with the label m, 0 if there is none
 pub record IsGreatestOf (labels : List (Option ℕ)) (xs : List ℕ) (m i t : ℕ) : Type 0 where

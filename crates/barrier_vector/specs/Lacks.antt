@@ -1,5 +1,5 @@
 -- The lack and the surplus of flow of all cells of a problem.
-use Rattle.std.specs.Prelude.{ℕ, suc, List, sum_by, ℤ, pos, negsuc}
+use Rattle.std.specs.Prelude.{ℕ, suc, ◌^◌, min, List, sum_by, ℤ, pos, negsuc}
 use Rattle.step_problem.specs.declared.heads.Side.{Side}
 use Rattle.step_problem.specs.declared.heads.Side.TheVariants.{Low, High}
 use Rattle.step_problem.specs.Entries.{Entries}
@@ -26,6 +26,10 @@ high_flow c = total (λ x. x.hi) c.flows
 -- the sum over all cells of the positive parts of their greatest constant flows
 abbrev pub surplus : List Entries → ℕ
 surplus p = sum_by (λ c. positive_part (high_flow c)) p
+
+-- a flow that stops at 2 ^ 126. Over any conductance so great a flow drops farther than heads can lie apart.
+abbrev pub stopped : ℕ → ℕ
+stopped q = min q (2 ^ 126)
 
 -- what a cell adds to the lack on the low side, and to the surplus on the high side
 abbrev pub need_on : Side → Entries → ℕ

@@ -12,7 +12,8 @@ use Rattle.barrier_vector.specs.Paths.{ceil_over}
 use Rattle.barrier_vector.specs.Refusals.{HasNoFloor, HasNoCeiling}
 use Rattle.barrier_vector.specs.Spreads.{mark_at}
 use Rattle.barrier_vector.specs.Searches.{path_limit}
-use Rattle.barrier_vector.specs.Labels.{AreLabels, labelled, number_at, IsGreatestOf}
+use Rattle.barrier_vector.specs.Labels.{AreLabels, labelled, sum_at, IsGreatestOf}
+use Rattle.barrier_vector.specs.declared.gathered.FlowSum.{FlowSum}
 
 -- the greatest lower conductance of a cell's anchors on a side
 abbrev pub anchor_on : Side → Entries → ℕ
@@ -41,10 +42,10 @@ pub record IsDescent (p : List Entries) (base : ℤ) (levels : List (Option ℕ)
   pub paths_whole : length paths ≡ length p
 
 -- the components: labels of cells, paths to the least cell of each component, and by label the sum of deep flows and the longest of these paths
-pub record AreComponents (p : List Entries) (labels : List (Option ℕ)) (inner : List ℕ) (sums : List ℤ) (longest : List ℕ) : Type 0 where
+pub record AreComponents (p : List Entries) (labels : List (Option ℕ)) (inner : List ℕ) (sums : List FlowSum) (longest : List ℕ) : Type 0 where
   pub labelling : AreLabels p labels (length p)
   pub inner_paths : (c : ℕ) → c < length p → (s : ℕ) × IsInnerPath p c s × (slice_index inner c ≡ min s path_limit)
-  pub component_sums : (m : ℕ) → number_at sums m ≡ sum_inside (length p) (labelled labels m) (λ k. deep_low (entries_at p k))
+  pub component_sums : (m : ℕ) → sum_at sums m ≡ sum_inside (length p) (labelled labels m) (λ k. deep_low (entries_at p k))
   pub tops : (m : ℕ) → IsGreatestOf labels inner m (length p) (slice_index longest m)
   pub inner_whole : length inner ≡ length p
   pub sums_whole : length sums ≡ length p

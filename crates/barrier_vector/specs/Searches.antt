@@ -1,5 +1,5 @@
 -- What a search by levels finds: how far each cell lies from the roots, and its path, cut off at a limit.
-use Rattle.std.specs.Prelude.{◌≡◌, ℕ, zero, ◌+◌, ◌<◌, ◌≤◌, ◌⊎◌, List, length, Contains, min, Option, None, Some, slice_index}
+use Rattle.std.specs.Prelude.{◌≡◌, ℕ, ◌+◌, ◌<◌, ◌≤◌, ◌⊎◌, List, length, Contains, min, Option, None, Some, slice_index}
 use Rattle.step_problem.specs.declared.entry.Link.{Link}
 use Rattle.step_problem.specs.Entries.{Entries, entries_at, link_at}
 use Rattle.barrier_vector.specs.Paths.{ceil_over, LeadsToRoot, IsPath}

@@ -1,7 +1,5 @@
 -- The tests of the bounds of cells before they are a barrier.
-use Rattle.std.specs.Prelude.{◌≡◌, ℕ, ◌<◌, List, length, Option, None, Some, Result, Ok, Err, ℤ, pos, neg_ℤ, ◌<ℤ◌}
-use Rattle.std.specs.declared.vec.Vec.{Vec}
-use Rattle.std.specs.declared.alloc.Global.{Global}
+use Rattle.std.specs.Prelude.{◌≡◌, ℕ, ◌<◌, List, length, Option, None, Some, ℤ, pos, neg_ℤ, ◌<ℤ◌}
 use Rattle.step_problem.specs.Entries.{Entries}
 use Rattle.step_problem.specs.Conditions.{IsHead, head_limit}
 use Rattle.step_problem.specs.Heads.{head_at}

@@ -1,12 +1,12 @@
 // The floors of the cells that lead to no anchor: each component of such cells is carried by its deep flows, or it has no floor.
-ghost use Rattle.std.specs.Prelude.{◌≡◌, ◌<◌, ◌^◌, length, IfOk};
+ghost use Rattle.std.specs.Prelude.{◌≡◌, ◌<◌, length, IfOk};
 ghost use Rattle.barrier_vector.specs.Bases.{IsLowBase};
 ghost use Rattle.barrier_vector.specs.Bounds.{IsUnanchored};
-ghost use Rattle.barrier_vector.specs.Lacks.{lack};
+ghost use Rattle.barrier_vector.specs.Lacks.{lack, stopped};
 ghost use Rattle.barrier_vector.specs.Roots.{AreComponents, IsAnchoredFloor, IsFloorOrNone, AreBounds};
 
 use crate::flows::deep_flows;
-use crate::gathered::{greatest_of_components, sum_components};
+use crate::gathered::{FlowSum, greatest_of_components, sum_components};
 use crate::labels::label_components;
 use crate::low::lowered;
 use crate::roots::self_roots;
@@ -19,13 +19,12 @@ use step_problem::Problem;
 struct Components {
     labels: Vec<Option<u32>>,
     inner: Vec<u64>,
-    sums: Vec<i128>,
+    sums: Vec<FlowSum>,
     longest: Vec<u64>,
 }
 
 fn find_components(alloc: Global, p: &Problem, q: u128) -> Result<Components, AllocError>
-    requires lack { q ≡ lack p.now }
-    requires small { q < 2 ^ 126 }
+    requires lack { q ≡ stopped (lack p.now) }
     ensures { IfOk result (λ s. AreComponents p.now s.labels.items s.inner.items s.sums.items s.longest.items) }
 {
     p.recall_conditions();
@@ -48,7 +47,7 @@ fn carried_floor(
     base: i64,
     labels: &[Option<u32>],
     inner: &[u64],
-    sums: &[i128],
+    sums: &[FlowSum],
     longest: &[u64],
     c: usize,
 ) -> Option<i64>
@@ -61,7 +60,7 @@ fn carried_floor(
     p.recall_conditions();
     match labels[c] {
         Some(m) => {
-            if sums[m as usize] > 0 {
+            if sums[m as usize].is_positive() {
                 return Some(lowered(base, inner[c], longest[m as usize]));
             }
             None
@@ -107,8 +106,7 @@ pub(crate) fn with_carried_floors(
     anchored: &[Option<i64>],
 ) -> Result<Vec<Option<i64>>, AllocError>
     requires base { IsLowBase p.now base }
-    requires lack { q ≡ lack p.now }
-    requires small { q < 2 ^ 126 }
+    requires lack { q ≡ stopped (lack p.now) }
     requires anchored { AreBounds p.now (IsAnchoredFloor p.now) anchored.now }
     ensures { IfOk result (λ floors. AreBounds p.now (IsFloorOrNone p.now) floors.items) }
 {

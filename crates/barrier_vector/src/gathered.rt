@@ -1,29 +1,64 @@
 // Sums and maxima over the components of a problem.
-ghost use Rattle.std.specs.Prelude.{◌≡◌, ℕ, ◌<◌, ◌≤◌, ◌*◌, ◌^◌, ◌+◌, max, length, All, IfOk, None, Some, slice_index, ◌+ℤ◌, pos, cond};
+ghost use Rattle.std.specs.Prelude.{◌≡◌, ℕ, ◌<◌, ◌^◌, ◌↔◌, max, length, IfOk, IsTrue, None, Some, slice_index, ◌+ℤ◌, ◌<ℤ◌, pos, cond};
 ghost use Rattle.step_problem.specs.Conditions.{IsWithin};
 ghost use Rattle.cell_balance.specs.Components.{sum_inside};
 ghost use Rattle.barrier_vector.specs.Spreads.{mark_at};
-ghost use Rattle.barrier_vector.specs.Labels.{is_label, labelled, number_at, IsGreatestOf};
+ghost use Rattle.barrier_vector.specs.Labels.{is_label, labelled, number_at, flow_sum, sum_at, IsGreatestOf};
 
 use std::alloc::{AllocError, Global};
 
-fn add_flow(sum: i128, flow: i128) -> i128
-    requires sum { IsWithin sum (65535 * 2 ^ 109) }
-    requires flow { IsWithin flow (2 ^ 109) }
-    ensures { result ≡ sum +ℤ flow }
-{
-    sum + flow
+// 2^64
+const UNIT: i128 = 18_446_744_073_709_551_616;
+
+/// A sum of flows of up to 2^32 cells, which one word cannot hold: `high` counts units of 2^64, `low` is the rest.
+#[derive(Clone, Copy)]
+pub(crate) struct FlowSum {
+    pub high: i128,
+    pub low: u64,
+}
+
+impl FlowSum {
+    // The lower word and a flow.
+    fn rest(self, flow: i128) -> i128
+        requires { IsWithin flow (2 ^ 109) }
+        ensures { result ≡ pos self.low +ℤ flow }
+    {
+        self.low as i128 + flow
+    }
+
+    fn plus(self, flow: i128) -> FlowSum
+        requires sum { IsWithin (flow_sum self) (2 ^ 141) }
+        requires flow { IsWithin flow (2 ^ 109) }
+        ensures { flow_sum result ≡ flow_sum self +ℤ flow }
+    {
+        let rest = self.rest(flow);
+        FlowSum {
+            high: self.high + rest.div_euclid(UNIT),
+            low: rest.rem_euclid(UNIT) as u64,
+        }
+    }
+
+    pub(crate) fn is_positive(&self) -> bool
+        ensures { IsTrue result ↔ (pos 0 <ℤ flow_sum self.now) }
+    {
+        let low = self.low;
+        if self.high < 0 {
+            false
+        } else {
+            self.high > 0 || low > 0
+        }
+    }
 }
 
 // Adds a flow to the sum with that label, if there is a label.
-fn add_to(sums: &mut [i128], label: Option<u32>, flow: i128)
+fn add_to(sums: &mut [FlowSum], label: Option<u32>, flow: i128)
     requires label { (m : ℕ) → label ≡ Some m → m < length sums.old }
-    requires sums { (m : ℕ) → IsWithin (number_at sums.old m) (65535 * 2 ^ 109) }
+    requires sums { (m : ℕ) → IsWithin (sum_at sums.old m) (2 ^ 141) }
     requires flow { IsWithin flow (2 ^ 109) }
-    ensures { (m : ℕ) → number_at sums.new m ≡ number_at sums.old m +ℤ cond (is_label label m) flow (pos 0) }
+    ensures { (m : ℕ) → sum_at sums.new m ≡ sum_at sums.old m +ℤ cond (is_label label m) flow (pos 0) }
 {
     match label {
-        Some(m) => sums[m as usize] = add_flow(sums[m as usize], flow),
+        Some(m) => sums[m as usize] = sums[m as usize].plus(flow),
         None => {}
     }
 }
@@ -33,15 +68,15 @@ pub(crate) fn sum_components(
     alloc: Global,
     labels: &[Option<u32>],
     flows: &[i128],
-) -> Result<Vec<i128>, AllocError>
-    requires few { length labels.now ≤ 65536 }
+) -> Result<Vec<FlowSum>, AllocError>
+    requires few { length labels.now < 2 ^ 32 }
     requires same { length flows.now ≡ length labels.now }
     requires labels { (k m : ℕ) → mark_at labels.now k ≡ Some m → m < length labels.now }
     requires flows { (k : ℕ) → IsWithin (number_at flows.now k) (2 ^ 109) }
     ensures whole { IfOk result (λ sums. length sums.items ≡ length labels.now) }
-    ensures sums { IfOk result (λ sums. (m : ℕ) → number_at sums.items m ≡ sum_inside (length labels.now) (labelled labels.now m) (number_at flows.now)) }
+    ensures sums { IfOk result (λ sums. (m : ℕ) → sum_at sums.items m ≡ sum_inside (length labels.now) (labelled labels.now m) (number_at flows.now)) }
 {
-    let mut sums: Vec<i128> = vec![in alloc; 0; labels.len()]?;
+    let mut sums = vec![in alloc; FlowSum { high: 0, low: 0 }; labels.len()]?;
     for c in 0..labels.len() {
         add_to(&mut sums, labels[c], flows[c]);
     }

@@ -1,5 +1,5 @@
 // The roots of the searches: anchored cells, and the least cells of components.
-ghost use Rattle.std.specs.Prelude.{◌≡◌, ℕ, ◌<◌, ◌^◌, length, IfOk, Some, max};
+ghost use Rattle.std.specs.Prelude.{◌≡◌, ℕ, ◌<◌, ◌≤◌, ◌^◌, length, IfOk, Some, max};
 ghost use Rattle.barrier_vector.specs.Paths.{ceil_over};
 ghost use Rattle.barrier_vector.specs.Bounds.{greatest};
 ghost use Rattle.barrier_vector.specs.Roots.{anchor_on, ListAnchor, SelfRoot, AreRoots};
@@ -70,7 +70,7 @@ struct KnownDrop {
 
 // The drop over `lo`, by a division where it is not the known one.
 fn drop_by(known: KnownDrop, lo: u64, q: u128) -> KnownDrop
-    requires q { q < 2 ^ 126 }
+    requires q { q ≤ 2 ^ 126 }
     requires lo { 0 < lo }
     requires known { known.drop ≡ ceil_over q known.lo }
     ensures lo { result.lo ≡ lo }
@@ -86,7 +86,7 @@ fn drop_by(known: KnownDrop, lo: u64, q: u128) -> KnownDrop
 }
 
 fn anchor_drop(known: &mut KnownDrop, lo: u64, q: u128) -> Option<u128>
-    requires q { q < 2 ^ 126 }
+    requires q { q ≤ 2 ^ 126 }
     requires known { known.old.drop ≡ ceil_over q known.old.lo }
     ensures known { known.new.drop ≡ ceil_over q known.new.lo }
     ensures only { (d : ℕ) → result ≡ Some d → (0 < lo) × (d ≡ ceil_over q lo) }
@@ -105,7 +105,7 @@ pub(crate) fn anchor_roots(
     anchors: &[u64],
     q: u128,
 ) -> Result<Vec<Option<u128>>, AllocError>
-    requires { q < 2 ^ 126 }
+    requires { q ≤ 2 ^ 126 }
     ensures whole { IfOk result (λ own. length own.items ≡ length anchors.now) }
     ensures roots { IfOk result (λ own. AreRoots (ListAnchor anchors.now q) own.items) }
 {

@@ -30,7 +30,7 @@ struct Start {
 
 /// The drop of head on a branch that carries `q`: the least whole number not below q / lo.
 pub(crate) fn drop_over(q: u128, lo: u64) -> u128
-    requires q { q < 2 ^ 126 }
+    requires q { q ≤ 2 ^ 126 }
     requires lo { 0 < lo }
     ensures { result ≡ ceil_over q lo }
 {
@@ -78,7 +78,7 @@ fn path_from(
     requires cell { cell < length p.now }
     requires levels { length levels.now ≡ length p.now }
     requires paths { length paths.now ≡ length p.now }
-    requires q { q < 2 ^ 126 }
+    requires q { q ≤ 2 ^ 126 }
     ensures { ContinuesTo p.now q levels.now level paths.now cell result }
 {
     p.recall_conditions();
@@ -101,7 +101,7 @@ fn extend_paths(
     requires paths { length paths.old ≡ length p.now }
     requires frontier { All (λ c. c < length p.now) frontier.now }
     requires past { All (λ c. mark_at levels.now c ≡ Some level → ⊥) frontier.now }
-    requires q { q < 2 ^ 126 }
+    requires q { q ≤ 2 ^ 126 }
     ensures others { (c : ℕ) → (Contains frontier.now c → ⊥) → slice_index paths.new c ≡ slice_index paths.old c }
     ensures paths { (c : ℕ) → Contains frontier.now c → ContinuesTo p.now q levels.now level paths.old c (slice_index paths.new c) }
 {
@@ -132,7 +132,7 @@ fn add_cell(start: &mut Start, cell: u32, drop: Option<u128>) -> Result<(), Allo
 }
 
 fn begin(alloc: Global, own: &[Option<u128>]) -> Result<Start, AllocError>
-    requires { length own.now ≤ 65536 }
+    requires { length own.now < 2 ^ 32 }
     ensures { IfOk result (λ s. IsStart own.now s.levels.items s.paths.items s.frontier.items) }
 {
     let mut start = Start {
@@ -154,7 +154,7 @@ pub(crate) fn search(
     q: u128,
 ) -> Result<Found, AllocError>
     requires own { length own.now ≡ length p.now }
-    requires q { q < 2 ^ 126 }
+    requires q { q ≤ 2 ^ 126 }
     ensures { IfOk result (λ f. IsSearched p.now q own.now f.levels.items f.paths.items) }
 {
     let count = p.len();

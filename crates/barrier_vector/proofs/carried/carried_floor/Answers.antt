@@ -1,10 +1,10 @@
-use Rattle.std.proofs.Common.{length, rules, arith, pos, ◌<ℤ◌, ◌≤ℤ◌, slice_index, slice_index_or, FitsSigned}
-use Rattle.std.specs.Int.{w64, w128}
-use Rattle.std.proofs.lemmas.Int.{ints, to_z-of_z}
-use Rattle.barrier_vector.specs.Labels.{number_at}
+use Rattle.std.proofs.Common.{length, rules, slice_index, FitsSigned}
+use Rattle.std.specs.Int.{w64}
+use Rattle.std.proofs.lemmas.Int.{to_z-of_z}
 use Rattle.barrier_vector.proofs.Spreading.{no_both}
 use Rattle.barrier_vector.proofs.Basing.{low_base_head, capped_within, greatest_within}
 use Rattle.barrier_vector.proofs.Carrying.{floor_carried, floor_none}
+use Rattle.barrier_vector.proofs.Gathering.{not_positive}
 use Rattle.barrier_vector.proofs.carried.carried_floor.Goals as goal
 
 pub lowered-requires-clause-base : goal.lowered-requires-clause-base
@@ -16,21 +16,17 @@ lowered-requires-clause-path c = let (s, path, cut) = c.requires.components.inne
 pub lowered-requires-clause-more : goal.lowered-requires-clause-more
 lowered-requires-clause-more c = greatest_within c.args.labels.now c.args.inner.now c.in-Some.m (length c.args.p.now) _ (λ k h. let (s, path, cut) = c.requires.components.inner_paths k h in capped_within (slice_index c.args.inner.now k) s cut) (c.requires.components.tops c.in-Some.m)
 
-pub returns-then-sums-m-gt0 : goal.returns-then-sums-m-gt0
-returns-then-sums-m-gt0 c =
+pub returns-then-is_positive : goal.returns-then-is_positive
+returns-then-is_positive c =
     let fits : FitsSigned w64 c.lowered.result = search rules in
     let head = low_base_head c.args.p.now c.recall_conditions.ensures.fits c.args.base c.requires.base in
     let base_fits : FitsSigned w64 c.args.base = c.ranges.base in
-    let sum_fits : FitsSigned w128 (slice_index_or c.args.sums.now c.in-Some.m (pos 0)) = search rules in
-    let t = simp to_z-of_z at c.if-sums-m-gt0.true in
-    let positive : pos 0 <ℤ number_at c.args.sums.now c.in-Some.m = omega (arith, ints, t) in
+    let positive = c.is_positive.ensures.0 c.if-is_positive.true in
     simp to_z-of_z (floor_carried c.args.p.now c.recall_conditions.ensures.fits c.args.labels.now c.args.inner.now c.args.sums.now c.args.longest.now c.requires.components c.args.base c.requires.base head c.args.c c.in-Some.m c.lowered.result c.requires.cell c.requires.unanchored c.in-Some.is positive (simp to_z-of_z at c.lowered.ensures))
 
-pub returns-else-sums-m-gt0 : goal.returns-else-sums-m-gt0
-returns-else-sums-m-gt0 c =
-    let sum_fits : FitsSigned w128 (slice_index_or c.args.sums.now c.in-Some.m (pos 0)) = search rules in
-    let t = simp to_z-of_z at c.if-sums-m-gt0.false in
-    let empty : number_at c.args.sums.now c.in-Some.m ≤ℤ pos 0 = omega (arith, ints, t) in
+pub returns-else-is_positive : goal.returns-else-is_positive
+returns-else-is_positive c =
+    let empty = not_positive c.is_positive.result _ c.is_positive.ensures.1 c.if-is_positive.false in
     floor_none c.args.p.now c.recall_conditions.ensures.fits c.args.labels.now c.args.inner.now c.args.sums.now c.args.longest.now c.requires.components c.args.c c.in-Some.m c.requires.cell c.requires.unanchored c.in-Some.is empty
 
 pub returns-in-None : goal.returns-in-None

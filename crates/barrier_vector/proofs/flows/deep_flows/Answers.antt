@@ -1,4 +1,4 @@
-use Rattle.std.proofs.Common.{◌≡◌, rules, arith, ◌+◌, ◌++◌, ◌∷◌, [], length, length-append, ap, ◌∙◌, FitsSigned, List, ℤ}
+use Rattle.std.proofs.Common.{◌≡◌, rules, ◌+◌, ◌++◌, ◌∷◌, [], length, length-append, ap, ◌∙◌, FitsSigned, List, ℤ}
 use Rattle.std.specs.Int.{w128}
 use Rattle.std.proofs.lemmas.Int.{to_z-of_z}
 use Rattle.cell_balance.specs.Components.{deep_low}

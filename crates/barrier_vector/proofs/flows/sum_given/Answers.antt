@@ -1,4 +1,4 @@
-use Rattle.std.proofs.Common.{◌+◌, rules, arith, take, sum_by, ◌+ℤ◌, FitsSigned, to_z}
+use Rattle.std.proofs.Common.{◌+◌, rules, take, sum_by, ◌+ℤ◌, FitsSigned, to_z}
 use Rattle.std.specs.Int.{w128}
 use Rattle.std.proofs.lemmas.Int.{to_z-of_z}
 use Rattle.step_problem.specs.Conditions.{IsWithin}

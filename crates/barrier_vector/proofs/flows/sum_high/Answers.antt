@@ -1,4 +1,4 @@
-use Rattle.std.proofs.Common.{◌+◌, rules, refl, arith, take, sum_by, pos, ◌+ℤ◌, FitsSigned, to_z, slice_index_or}
+use Rattle.std.proofs.Common.{◌+◌, rules, refl, take, sum_by, pos, ◌+ℤ◌, FitsSigned, to_z, slice_index_or}
 use Rattle.std.specs.Int.{w128}
 use Rattle.std.proofs.lemmas.Int.{to_z-of_z}
 use Rattle.step_problem.specs.declared.entry.Flow.{Flow}

@@ -1,4 +1,4 @@
-use Rattle.std.proofs.Common.{arith, ◌≡◌, ◌<◌, length, sym, subst, ap, ◌∙◌, drop, List, ℕ}
+use Rattle.std.proofs.Common.{arith, ◌≡◌, length, ap, ◌∙◌, drop, List, ℕ}
 use Rattle.barrier_vector.proofs.Levels.{written}
 use Rattle.barrier_vector.proofs.Gathering.{greatest_step}
 use Rattle.barrier_vector.proofs.gathered.greatest_of_components.Goals as goal

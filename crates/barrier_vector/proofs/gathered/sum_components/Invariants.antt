@@ -1,10 +1,10 @@
 use Rattle.std.proofs.Common.{ℕ, ◌≡◌, length}
 use Rattle.cell_balance.specs.Components.{sum_inside}
-use Rattle.barrier_vector.specs.Labels.{labelled, number_at}
+use Rattle.barrier_vector.specs.Labels.{labelled, number_at, sum_at}
 use Rattle.barrier_vector.proofs.gathered.sum_components.Given as goal
 
 abbrev pub invariant-loop-c : goal.invariant-loop-c
 invariant-loop-c l = record {
   whole : length l.sums.items ≡ length l.labels;
-  sums : (m : ℕ) → number_at l.sums.items m ≡ sum_inside l.c (labelled l.labels m) (number_at l.flows);
+  sums : (m : ℕ) → sum_at l.sums.items m ≡ sum_inside l.c (labelled l.labels m) (number_at l.flows);
 }

@@ -1,7 +1,7 @@
-use Rattle.std.proofs.Common.{◌≡◌, rules, FitsSigned}
+use Rattle.std.proofs.Common.{rules, FitsSigned}
 use Rattle.std.specs.Int.{w64}
 use Rattle.std.proofs.lemmas.Int.{to_z-of_z}
-use Rattle.barrier_vector.proofs.Basing.{high_base_head, capped_within, ceiling_some}
+use Rattle.barrier_vector.proofs.Basing.{high_base_head, ceiling_some}
 use Rattle.barrier_vector.proofs.high.ceiling_of.Goals as goal
 
 pub returns-in-Some : goal.returns-in-Some

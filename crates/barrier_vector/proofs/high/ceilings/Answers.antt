@@ -2,7 +2,7 @@ use Rattle.std.proofs.Common.{◌+◌, rules, ap, ◌∙◌, sym, subst, length,
 use Rattle.std.specs.Int.{w64}
 use Rattle.std.proofs.lemmas.Int.{to_z-of_z}
 use Rattle.step_problem.specs.declared.heads.Side.TheVariants.{High}
-use Rattle.barrier_vector.specs.Lacks.{surplus}
+use Rattle.barrier_vector.specs.Lacks.{surplus, stopped}
 use Rattle.barrier_vector.specs.Roots.{IsCeilingOrNone, IsAscent}
 use Rattle.barrier_vector.proofs.Basing.{bounds_more, ascent_made}
 use Rattle.barrier_vector.proofs.Rooting.{searched_as}
@@ -16,8 +16,8 @@ ceiling_of-requires-clause-ascent c =
     let q = need_whole High c.args.p.now o.mark o.need o.anchors.items c.requires in
     let made = ascent_made c.args.p.now c.recall_conditions.ensures.fits c.base-base.result c.in_ok-roots.roots.items c.in_ok-anchored.anchored.levels.items c.in_ok-anchored.anchored.paths.items (high_base_of c.args.p.now o.mark o.need o.anchors.items c.base-base.result c.requires c.base-base.ensures)
     (roots_whole High c.args.p.now o.mark o.need o.anchors.items c.deref.result.now c.in_ok-roots.roots.items c.requires c.deref.ensures.value c.in_ok-roots.ensures.whole)
-    (roots_on High c.args.p.now o.mark o.need (surplus c.args.p.now) o.anchors.items c.deref.result.now c.in_ok-roots.roots.items c.requires c.deref.ensures.value q c.in_ok-roots.ensures.roots)
-    (searched_as c.args.p.now o.need (surplus c.args.p.now) c.in_ok-roots.roots.items c.deref-2.result.now c.in_ok-anchored.anchored.levels.items c.in_ok-anchored.anchored.paths.items q c.deref-2.ensures.value c.in_ok-anchored.ensures) in
+    (roots_on High c.args.p.now o.mark o.need (stopped (surplus c.args.p.now)) o.anchors.items c.deref.result.now c.in_ok-roots.roots.items c.requires c.deref.ensures.value q c.in_ok-roots.ensures.roots)
+    (searched_as c.args.p.now o.need (stopped (surplus c.args.p.now)) c.in_ok-roots.roots.items c.deref-2.result.now c.in_ok-anchored.anchored.levels.items c.in_ok-anchored.anchored.paths.items q c.deref-2.ensures.value c.in_ok-anchored.ensures) in
     simp to_z-of_z (subst (λ (z : List (Option ℕ)). IsAscent c.args.p.now c.base-base.result z c.deref-in-loop-c-2.result.now) (sym c.deref-in-loop-c.ensures.value) (subst (λ (z : List ℕ). IsAscent c.args.p.now c.base-base.result c.in_ok-anchored.anchored.levels.items z) (sym c.deref-in-loop-c-2.ensures.value) made))
 
 pub loop-c-preserved : goal.loop-c-preserved

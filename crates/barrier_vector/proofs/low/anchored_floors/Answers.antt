@@ -2,7 +2,7 @@ use Rattle.std.proofs.Common.{◌+◌, ap, ◌∙◌, sym, subst, length, length
 use Rattle.std.specs.Int.{w64}
 use Rattle.std.proofs.lemmas.Int.{to_z-of_z}
 use Rattle.step_problem.specs.declared.heads.Side.TheVariants.{Low}
-use Rattle.barrier_vector.specs.Lacks.{lack}
+use Rattle.barrier_vector.specs.Lacks.{lack, stopped}
 use Rattle.barrier_vector.specs.Roots.{IsAnchoredFloor, IsDescent}
 use Rattle.barrier_vector.proofs.Rooting.{searched_as}
 use Rattle.barrier_vector.proofs.Basing.{bounds_more}
@@ -17,8 +17,8 @@ anchored_floor-requires-clause-descent c =
     let q = need_whole Low c.args.p.now o.mark o.need o.anchors.items c.requires.outline in
     let made = descent_made c.args.p.now c.recall_conditions.ensures.fits c.args.base c.in_ok-roots.roots.items c.in_ok-anchored.anchored.levels.items c.in_ok-anchored.anchored.paths.items c.requires.base
     (roots_whole Low c.args.p.now o.mark o.need o.anchors.items c.deref.result.now c.in_ok-roots.roots.items c.requires.outline c.deref.ensures.value c.in_ok-roots.ensures.whole)
-    (roots_on Low c.args.p.now o.mark o.need (lack c.args.p.now) o.anchors.items c.deref.result.now c.in_ok-roots.roots.items c.requires.outline c.deref.ensures.value q c.in_ok-roots.ensures.roots)
-    (searched_as c.args.p.now o.need (lack c.args.p.now) c.in_ok-roots.roots.items c.deref-2.result.now c.in_ok-anchored.anchored.levels.items c.in_ok-anchored.anchored.paths.items q c.deref-2.ensures.value c.in_ok-anchored.ensures) in
+    (roots_on Low c.args.p.now o.mark o.need (stopped (lack c.args.p.now)) o.anchors.items c.deref.result.now c.in_ok-roots.roots.items c.requires.outline c.deref.ensures.value q c.in_ok-roots.ensures.roots)
+    (searched_as c.args.p.now o.need (stopped (lack c.args.p.now)) c.in_ok-roots.roots.items c.deref-2.result.now c.in_ok-anchored.anchored.levels.items c.in_ok-anchored.anchored.paths.items q c.deref-2.ensures.value c.in_ok-anchored.ensures) in
     simp to_z-of_z (subst (λ (z : List (Option ℕ)). IsDescent c.args.p.now c.args.base z c.deref-in-loop-c-2.result.now) (sym c.deref-in-loop-c.ensures.value) (subst (λ (z : List ℕ). IsDescent c.args.p.now c.args.base c.in_ok-anchored.anchored.levels.items z) (sym c.deref-in-loop-c-2.ensures.value) made))
 
 pub loop-c-preserved : goal.loop-c-preserved
