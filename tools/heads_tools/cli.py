@@ -47,13 +47,13 @@ def parser() -> argparse.ArgumentParser:
     add("model", "what was read: sizes, ranges of arrays, entries, steps", nam)
     s = add("look", "tables, maps, sections, hydrographs, budget and a page", listing, ("folder", "the folder to write into"))
     s.description = LOOK
-    s.add_argument("--name", type=Path, metavar="M.NAM", help="the model: true widths, elevations, times, units")
+    s.add_argument("--name", type=Path, metavar="M.NAM", help="the model: true widths, elevations, times, units; and the listing is checked against it by heads check")
     s.add_argument("--cell", type=cell, action="append", default=[], metavar="K,I,J", help="a hydrograph of this cell; may stand again")
     s.add_argument("--given", type=Path, metavar="RUN.HDS", help="heads of MODFLOW (hds or CSV): how far they are off")
     s.add_argument("--every", action="store_true", help="maps of every step, and not of the last alone")
     s = add("compare", "how far given heads are from every exact solution", listing, ("heads", "heads of MODFLOW: hds or CSV"))
     s.add_argument("--map", type=Path, metavar="FOLDER", help="draw maps into this folder")
-    s.add_argument("--name", type=Path, metavar="M.NAM", help="the model, for the maps")
+    s.add_argument("--name", type=Path, metavar="M.NAM", help="the model, for the maps, and for heads check, which says whether the pairs are bounds")
     s = add("certify", "certified bounds from any solver's heads: margins by a sparse solve, then heads check", nam,
             ("heads", "heads to begin with: hds or CSV"))
     s.add_argument("--digits", type=int, default=12)

@@ -3,8 +3,13 @@ from __future__ import annotations
 
 import argparse
 from pathlib import Path
+from typing import TYPE_CHECKING
 
 from .text import Problem, counted
+
+if TYPE_CHECKING:
+    from .listing import Listing
+    from .verdict import Verdict
 
 MOST_DIGITS = 18
 
@@ -94,9 +99,17 @@ def do_look(args: argparse.Namespace, _: list[str]) -> int:
 
     listing = read_listing(existing(args.listing))
     model = read_model(existing(args.name)) if args.name else None
-    said = look(listing, args.folder, model, args.cell, existing(args.given) if args.given else None, args.every)
+    verdict = verdict_of(args, listing)
+    said = look(listing, args.folder, model, args.cell, existing(args.given) if args.given else None, args.every, verdict)
     say(said + [f"open {args.folder / 'index.html'}"])
-    return 0
+    return verdict.status or 0
+
+
+def verdict_of(args: argparse.Namespace, listing: Listing) -> Verdict:
+    """What `heads check` says of the listing, where the model is named."""
+    from .verdict import check_listing, not_checked
+
+    return check_listing(existing(args.name), listing) if args.name else not_checked(listing)
 
 
 def do_compare(args: argparse.Namespace, _: list[str]) -> int:
@@ -106,7 +119,9 @@ def do_compare(args: argparse.Namespace, _: list[str]) -> int:
     from .text import LENGTHS
 
     listing = read_listing(existing(args.listing))
-    say(sentences(listing, compare(listing, read_heads(existing(args.heads))), LENGTHS.get(listing.unit, "length units")))
+    verdict = verdict_of(args, listing)
+    differences = compare(listing, read_heads(existing(args.heads)))
+    say([verdict.sentence, *sentences(listing, differences, LENGTHS.get(listing.unit, "length units"))])
     if args.map:
         from .look import Look
         from .model import read_model
@@ -114,12 +129,12 @@ def do_compare(args: argparse.Namespace, _: list[str]) -> int:
         from .tables import write_tables
 
         args.map.mkdir(parents=True, exist_ok=True)
-        it = Look(listing, args.map, read_model(existing(args.name)) if args.name else None)
+        it = Look(listing, args.map, read_model(existing(args.name)) if args.name else None, verdict=verdict)
         it.compare(existing(args.heads))
         write_tables(listing, args.map, it.model.times if it.model else None)
         write_page(it.page, args.map)
         say([f"open {args.map / 'index.html'}"])
-    return 0
+    return verdict.status or 0
 
 
 def do_certify(args: argparse.Namespace, _: list[str]) -> int:

@@ -61,7 +61,8 @@ def sentences(listing: Listing, differences: list[Difference], unit: str) -> lis
                    f"the worst is layer row column {cell}{part}")
     least, most = (max(float(np.nanmax(getattr(d, name))) for d in differences) for name in ("least", "most"))
     steps = counted(len(differences), "step")
-    out.append(f"in {steps} in all: off by at least {short_down(least)} {unit} somewhere, and by at most {short_up(most)} {unit} everywhere")
+    where = "where heads are given" if any(np.isnan(d.most).any() for d in differences) else "everywhere"
+    out.append(f"in {steps} in all: off by at least {short_down(least)} {unit} somewhere, and by at most {short_up(most)} {unit} {where}")
     if not listing.is_whole:
         out.append("the listing doesn't end with END: its pairs are no bounds")
     return out

@@ -13,6 +13,7 @@ from .model import Model
 from .page import Page, write_page
 from .tables import budget_of, write_tables
 from .text import LENGTHS, Problem, decimal_text, down, signed_down, signed_up, up
+from .verdict import Verdict, not_checked
 
 Cell = tuple[int, int, int]
 MOST_STEPS = 400
@@ -21,7 +22,7 @@ MOST_STEPS = 400
 class Look:
     """The pictures of one listing, in one folder."""
 
-    def __init__(self, listing: Listing, folder: Path, model: Model | None, cells: list[Cell] = ()):
+    def __init__(self, listing: Listing, folder: Path, model: Model | None, cells: list[Cell] = (), verdict: Verdict | None = None):
         if not listing.steps:
             raise Problem(f"{listing.path} has no whole step: it ends with {listing.end or 'a part of a step'}")
         if not len(listing.cells):
@@ -40,7 +41,9 @@ class Look:
             elevations = {"top": np.concatenate([model.top[None], bed_bottom[:-1]]), "bottom": model.bottom}
         delr, delc = (model.delr, model.delc) if model else (np.ones(ncol), np.ones(nrow))
         self.plan = pictures.plan_of(delr, delc, self.unit, self.unit if model else "columns, rows", entries=entries, **elevations)
-        self.page = Page(f"Certified heads of {listing.path.name}")
+        self.verdict = verdict or not_checked(listing)
+        self.page = Page(self.verdict.title, note=self.verdict.note)
+        self.page.say(self.verdict.sentence)
 
     def when(self, step: Step) -> str:
         times = self.model.times if self.model else {}
@@ -140,7 +143,7 @@ class Look:
                           "share no number. No listing that `heads run` wrote or `heads check` certified is like this.")
         if budget.discrepancy:
             low, high = signed_down(budget.discrepancy[0]), signed_up(budget.discrepancy[1])
-            self.page.say("Percent discrepancy of each exact solution: 0. "
+            self.page.say("The percent discrepancy of the budget is 0 in each exact solution. "
                           f"That of these bounds lies from {low} to {high}: it says how wide they are, not how wrong.")
         drawn = [(r[0], *(v / 10**places for v in r[1:])) for r in budget.rows if any(r[1:])]
         if drawn:
@@ -162,11 +165,12 @@ class Look:
                     self.page.picture("Given heads", name, f"{given.name}, layer {k + 1}: off from every exact solution by at most so much")
 
 
-def look(listing: Listing, folder: Path, model: Model | None = None, cells: list[Cell] = (), given: Path | None = None, is_every: bool = False) -> list[str]:
+def look(listing: Listing, folder: Path, model: Model | None = None, cells: list[Cell] = (), given: Path | None = None, is_every: bool = False,
+         verdict: Verdict | None = None) -> list[str]:
     """Writes tables, pictures and the page of a listing into a folder; what there is to say about it."""
     for cell in cells:
         listing.at(cell)
-    it = Look(listing, folder, model, cells)
+    it = Look(listing, folder, model, cells, verdict)
     folder.mkdir(parents=True, exist_ok=True)
     page = it.page
     page.say(listing.summary() + f" in {it.unit}")

@@ -12,9 +12,8 @@ h1{font-size:1.4em}h2{font-size:1.1em;margin-top:1.6em;border-bottom:1px solid #
 img{max-width:100%}figure{margin:0.6em 0}figcaption{color:#555;font-size:0.9em}
 table{border-collapse:collapse;font-variant-numeric:tabular-nums}td,th{padding:0.15em 0.8em;border-bottom:1px solid #e3e3e3;text-align:right}
 td:first-child,th:first-child{text-align:left}.note{color:#555;font-size:0.9em}"""
-NOTE = ("The pairs in heads.csv and budget.csv are those of the listing, which `heads` wrote and its proof speaks of. "
-        "Pictures, rounded numbers and this page are made by heads-tools, which isn't proved; it rounds lower numbers down and upper ones up. "
-        "The pairs enclose every exact solution of the deck's equations; they say nothing of the aquifer itself.")
+NOTE = ("Pictures, rounded numbers and this page are made by heads-tools, which isn't proved; it rounds lower numbers down and upper ones up. "
+        "Certified pairs enclose every exact solution of the deck's equations; they say nothing of the aquifer itself.")
 
 
 @dataclass
@@ -24,6 +23,7 @@ class Page:
     title: str
     sentences: list[str] = field(default_factory=list)
     rooms: dict[str, list[str]] = field(default_factory=dict)
+    note: str = ""
 
     def say(self, text: str) -> None:
         self.sentences.append(text)
@@ -47,4 +47,4 @@ def write_page(page: Page, folder: Path) -> None:
         file.write(f'<!doctype html><html lang="en"><meta charset="utf-8"><title>{escape(page.title)}</title><style>{STYLE}</style>'
                    f"<h1>{escape(page.title)}</h1><ul>{said}</ul>{rooms}<h2>Files</h2><p>"
                    f"<a href=\"heads.csv\">heads.csv</a>, <a href=\"budget.csv\">budget.csv</a>"
-                   f'{", <a href=zones.csv>zones.csv</a>" if (folder / "zones.csv").exists() else ""}</p><p class="note">{escape(NOTE)}</p></html>\n')
+                   f'{", <a href=zones.csv>zones.csv</a>" if (folder / "zones.csv").exists() else ""}</p><p class="note">{escape(f"{page.note} {NOTE}")}</p></html>\n')

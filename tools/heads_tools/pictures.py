@@ -107,7 +107,7 @@ def maps(path: Path, plan: Plan, lower: np.ndarray, upper: np.ndarray, width: np
     draw_map(axes[2], plan, width, "width: upper less lower", f"width, {plan.unit} (its own scale)", WIDTH_MAP, layer, is_width=True)
     axes[0].set_ylabel(plan.axis)
     _legend(figure, plan, layer)
-    figure.suptitle(f"Layer {layer}, {when}: every exact solution lies between lower and upper", fontsize=10)
+    figure.suptitle(f"Layer {layer}, {when}", fontsize=10)
     return save(figure, path)
 
 
