@@ -90,18 +90,6 @@ def test_run_explains_how_it_ended(name, status, part, example, tool):
 
 
 @pytest.mark.program
-def test_exhibit_holds_all_that_it_speaks_of(example, tool, tmp_path):
-    status, out, err = tool("exhibit", example("tide"), tmp_path / "exhibit")
-    text = (tmp_path / "exhibit" / "EXHIBIT.txt").read_text()
-    assert status == 0 and "CERTIFIED" in text and ": HOLDS" in text and "What may not be said" in text, text
-    for line in re.findall(r"^  ([0-9a-f]{64})  (.+)$", text, re.M):
-        import hashlib
-
-        assert hashlib.sha256((tmp_path / "exhibit" / line[1]).read_bytes()).hexdigest() == line[0]
-    assert tool("exhibit", example("three_cells"), tmp_path / "exhibit")[0] == 2
-
-
-@pytest.mark.program
 def test_batch_collects_the_ends(example, tool, tmp_path):
     for name in ("three_cells", "no_answer", "refused"):
         example(name)
