@@ -8,6 +8,7 @@ What conductances with s digits and the deck's own heads cost is added."""
 from __future__ import annotations
 
 import math
+import os
 import sys
 from dataclasses import dataclass
 from pathlib import Path
@@ -43,16 +44,18 @@ def certify(nam: Path, heads: Path, digits: int, out: Path, theta: float | None 
 
     model = read_model(nam)
     given = read_heads(heads, model.shape)
+    tried = out.with_name(out.name + ".tried")
     for margin in (theta,) if theta else THETAS:
-        listing = Bounds(model, digits, margin).listing(given, out)
+        listing = Bounds(model, digits, margin).listing(given, tried)
         write_listing(listing, model)
-        ended = call(["check", nam.name, str(out), "--digits", str(digits)], nam.parent)
+        ended = call(["check", nam.name, str(tried), "--digits", str(digits)], nam.parent)
         if ended.status != 8:
             break
         print(f"margins of {margin} roundings don't hold: {ended.last}", file=sys.stderr)
     meaning = explain(ended.last, nam.parent, digits)
     if not meaning.is_good:
-        return Certified(ended.status, [*meaning.lines, f"{out} is no certificate"])
+        return Certified(ended.status, [*meaning.lines, f"{tried} is no certificate"])
+    os.replace(tried, out)
     lines = [f"CERTIFIED: {out} (margins of {margin} roundings; the check took {ended.seconds:.2f} s)", listing.summary()]
     beside = nam.with_suffix(".heads")
     if beside.is_file() and beside != out:

@@ -54,7 +54,10 @@ def do_run(args: argparse.Namespace, options: list[str]) -> int:
         print(f"{ended.last}: {'too few' if not fewer else 'too many'} digits; once more with --digits {digits}")
         ended = run(nam, [*options, "--digits", str(digits)], out, steps)
     meaning = explain(ended.last, nam.parent, digits, ended.steps > 0)
-    say(meaning.lines + ([summary(out), f"listing {out} ({ended.seconds:.1f} s" + (f", --digits {digits})" if tried else ")")] if meaning.is_good else []))
+    if meaning.is_good:
+        say([*meaning.lines, summary(out), f"listing {out} ({ended.seconds:.1f} s" + (f", --digits {digits})" if tried else ")")])
+    else:
+        say(meaning.lines + ([f"{out} is that of an earlier run and was left; this run's output is {ended.output.name}"] if ended.output != out else []))
     return ended.status
 
 

@@ -1,6 +1,7 @@
 """The program `heads`: where it is, what it says of itself, and runs of it."""
 from __future__ import annotations
 
+import functools
 import hashlib
 import os
 import shutil
@@ -29,6 +30,19 @@ def program() -> Path:
         if path.is_file() and os.access(path, os.X_OK):
             return path.resolve()
     raise Problem("where is `heads`? Set HEADS=/path/to/heads, or put it on the PATH")
+
+
+@functools.lru_cache
+def direct(found: Path) -> Path:
+    kept, check = TOP / "dist" / "heads", TOP / "scripts" / "check_dist"
+    is_script = found == TOP / "heads" and kept.is_file() and check.is_file()
+    return kept if is_script and subprocess.run([check], capture_output=True).returncode == 0 else found
+
+
+def direct_program() -> Path:
+    """The program for many calls: the kept one where the checkout's script would run it, as one call of scripts/check_dist
+    says; the script itself hashes its sources at each call."""
+    return direct(program())
 
 
 def sha256(path: Path) -> str:
@@ -65,12 +79,13 @@ def version() -> Version:
 
 @dataclass
 class Ended:
-    """How a run ended: its status, its last line, seconds by the clock, the steps that it wrote."""
+    """How a run ended: its status, its last line, seconds by the clock, the steps that it wrote, the file that it wrote."""
 
     status: int
     last: str
     seconds: float
     steps: int = 0
+    output: Path | None = None
 
 
 def call(words: list[str], folder: Path, seconds: float | None = None) -> Ended:
@@ -120,13 +135,37 @@ class Progress:
             print(file=sys.stderr)
 
 
+def has_steps(path: Path) -> bool:
+    """Whether a file is a listing with a step, or its beginning: one that is worth keeping."""
+    if not path.is_file():
+        return False
+    with open(path, "rb") as file:
+        return file.readline().startswith(b"HEADS ") and file.readline().startswith(b"STEP ")
+
+
+def end_of(target: Path) -> Path:
+    """The file beside a listing for an output without a step, where the listing of an earlier run is kept."""
+    return target.with_name(target.name + ".end")
+
+
+def settle_output(new: Path, target: Path) -> Path:
+    """Gives a new output the listing's name; but a listing with a step stays where the new output has none, which then
+    has the name with `.end`. The file that holds the output."""
+    place = end_of(target) if has_steps(target) and not has_steps(new) else target
+    os.replace(new, place)
+    if place == target:
+        end_of(target).unlink(missing_ok=True)
+    return place
+
+
 def run(nam: Path, options: list[str], target: Path, steps: int | None = None, is_told: bool = True) -> Ended:
-    """Runs `heads run` in the model's folder into a file, which gets its name once the run ended. What --watch tells
-    goes into a file beside it."""
+    """Runs `heads run` in the model's folder into a file, which gets its name once the run ended (settle_output). What
+    --watch tells goes into a file beside it."""
     progress = Progress(nam.name, steps)
     began, last, count = time.monotonic(), b"", 0
     is_watched = any(o.startswith("--watch") for o in options)
-    with whole_file(target, binary=True) as file, (open(target.with_suffix(".watch"), "wb") if is_watched else nullcontext()) as side:
+    new = target.with_name(f".{target.name}.new")
+    with whole_file(new, binary=True) as file, (open(target.with_suffix(".watch"), "wb") if is_watched else nullcontext()) as side:
         process = subprocess.Popen([program(), "run", nam.name, *options], cwd=nam.parent, stdout=subprocess.PIPE, stderr=side)
         try:
             is_open = False
@@ -147,7 +186,7 @@ def run(nam: Path, options: list[str], target: Path, steps: int | None = None, i
         status = process.wait()
     if is_told:
         progress.end()
-    return Ended(status, last.decode("latin-1").strip(), time.monotonic() - began, count)
+    return Ended(status, last.decode("latin-1").strip(), time.monotonic() - began, count, settle_output(new, target))
 
 
 def digits_of(options: list[str]) -> int:

@@ -101,7 +101,7 @@ def test_batch_collects_the_ends(example, tool, tmp_path):
     status, out, err = tool("batch", tmp_path / "list.txt", "--slurm", "--write-only")
     assert status == 0 and "#SBATCH --array=1-3" in (tmp_path / "list.slurm").read_text()
     status, out, err = tool("batch", tmp_path / "list.txt", "--parallel", "--write-only")
-    assert status == 0 and "parallel --jobs" in (tmp_path / "list.parallel.sh").read_text()
+    assert status == 0 and "parallel --joblog" in (tmp_path / "list.parallel.sh").read_text()
 
 
 @pytest.mark.program
