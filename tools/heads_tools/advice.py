@@ -54,7 +54,15 @@ REMEDIES = {
     26: "The model may well have heads. Leave the lens of small conductivity out (IBOUND 0), or give its cells a conductivity nearer to that beside it.",
     27: "The model may well have heads. Leave the lens of small conductivity out (IBOUND 0), or give its cells a conductivity nearer to that beside it.",
 }
-ONLY_PRINT = {"HOB", "CHOB", "DROB", "GBOB", "RVOB", "HYD", "GAGE", "GLOBAL"}
+OUT_OF_RANGE = {
+    "LPF": "HK, HANI, VKA and VKCB are above 0 in cells with flow, SS is at least 0. A cell of HK 0 is inactive in MODFLOW: write IBOUND 0 there.",
+    "CHD": "A cell stands in a list once (MODFLOW-2005 adds the heads of two entries): take one of the two entries out.",
+    "RIV": "Cond is at least 0.",
+    "DRN": "Cond is at least 0.",
+    "GHB": "Cond is at least 0.",
+    "EVT": "EVTR is at least 0, and EXDP above 0 where EVTR is.",
+}
+ONLY_PRINT = {"HOB", "CHOB", "DROB", "GBOB", "RVOB", "HYD", "GAGE", "GLOBAL", "DATAGLO", "DATAGLO(BINARY)"}
 UNKNOWN_PACKAGE = "it changes the equations, or is unknown. DIS BAS6 LPF WEL RIV DRN GHB RCH CHD EVT are read"
 OTHER_PACKAGES = {
     "BCF6": "BCF6 gives transmissivities: load the model in FloPy and write its layers with LPF (HK = transmissivity / thickness)",

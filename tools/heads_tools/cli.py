@@ -2,6 +2,7 @@
 from __future__ import annotations
 
 import argparse
+import os
 import sys
 from pathlib import Path
 
@@ -58,7 +59,7 @@ def parser() -> argparse.ArgumentParser:
             ("heads", "heads to begin with: hds or CSV"))
     s.add_argument("--digits", type=int, default=12)
     s.add_argument("--out", type=Path, help="the listing's file, NAME.certified.heads where left out")
-    s.add_argument("--theta", type=float, help="the margin, in roundings of a head; 1.05 and more are tried where left out")
+    s.add_argument("--theta", type=float, help="the margin, in roundings of a head; 0.5 and more are tried where left out")
     s = add("hds", "a head file for FloPy, ModelMuse, Model Viewer", listing, ("out", "the head file to write"))
     s.add_argument("--name", type=Path, metavar="M.NAM", help="the model: its whole grid and its times")
     side = s.add_mutually_exclusive_group()
@@ -77,6 +78,11 @@ def parser() -> argparse.ArgumentParser:
     return top
 
 
+def silence() -> None:
+    """Sends what standard output still holds nowhere: it can't be written."""
+    os.dup2(os.open(os.devnull, os.O_WRONLY), sys.stdout.fileno())
+
+
 PASSING = {"run", "exhibit", "batch"}
 
 
@@ -88,13 +94,20 @@ def main(words: list[str] | None = None) -> int:
         top.error(f"unknown words: {' '.join(rest)}")
     from . import commands
     try:
-        return getattr(commands, "do_" + args.command)(args, rest)
+        status = getattr(commands, "do_" + args.command)(args, rest)
+        sys.stdout.flush()
+        return status
     except Problem as error:
         print(f"heads-tools: {error}", file=sys.stderr)
         return 2
     except BrokenPipeError:
         sys.stderr.close()
         return 141
+    except OSError as error:
+        print(f"heads-tools: {error.filename or 'standard output'}: {error.strerror}", file=sys.stderr)
+        if error.filename is None:
+            silence()
+        return 2
     except KeyboardInterrupt:
         print("heads-tools: stopped", file=sys.stderr)
         return 130

@@ -2,6 +2,7 @@
 from __future__ import annotations
 
 import argparse
+import sys
 from pathlib import Path
 from typing import TYPE_CHECKING
 
@@ -39,9 +40,12 @@ def steps_of(nam: Path) -> int | None:
 
 def do_run(args: argparse.Namespace, options: list[str]) -> int:
     from .explain import explain
+    from .inside import careful
     from .program import digits_of, run, summary
 
     nam = existing(args.nam)
+    for warning in careful(nam):
+        print(f"CAREFUL: {warning}", file=sys.stderr)
     out = (args.out or nam.with_suffix(".heads")).resolve()
     digits, tried, steps = digits_of(options), [], steps_of(nam)
     ended = run(nam, options, out, steps)
@@ -78,13 +82,15 @@ def do_inside(args: argparse.Namespace, _: list[str]) -> int:
 
 
 def do_plain(args: argparse.Namespace, _: list[str]) -> int:
-    from .plain import notes, plain
+    from .plain import plain
 
-    report = plain(existing(args.nam), args.folder)
-    lines = notes(report)
+    written = plain(existing(args.nam), args.folder)
+    lines = written.notes()
     say([f"  {line}" for line in lines[:20]] + ([f"  and {len(lines) - 20} more"] if len(lines) > 20 else []))
     say([f"written: {args.folder / args.nam.name}; each change stands in {args.folder / 'plain.txt'}"])
-    return 0
+    if written.refused:
+        say(["the program refuses it all the same:", *("  " + line for line in written.refused)])
+    return 1 if written.refused else 0
 
 
 def do_model(args: argparse.Namespace, _: list[str]) -> int:

@@ -58,4 +58,4 @@ def list_text(kind: str, period: int, entries: list | None) -> str:
     if entries is None:
         return f"[{period}: as before]"
     columns = [np.array([value(e.words[n]) for e in entries]) for n in range(len(COLUMNS[kind]))]
-    return f"[{period}: {len(entries)} entries" + "".join(f"; {name} {span(c)}" for name, c in zip(COLUMNS[kind], columns) if entries) + "]"
+    return f"[{period}: {len(entries)} {'entry' if len(entries) == 1 else 'entries'}" + "".join(f"; {name} {span(c)}" for name, c in zip(COLUMNS[kind], columns) if entries) + "]"

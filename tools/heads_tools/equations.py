@@ -2,8 +2,6 @@
 `heads check` decides on what is made with it."""
 from __future__ import annotations
 
-from dataclasses import dataclass
-
 import numpy as np
 import scipy.sparse
 

@@ -5,8 +5,8 @@ import re
 from dataclasses import dataclass
 from pathlib import Path
 
-from .advice import NO_BOUNDS, ONLY_PRINT, OTHER_PACKAGES, REFUSALS, REMEDIES, UNKNOWN_PACKAGE
-from .text import on_disk, read_text, words
+from .advice import NO_BOUNDS, ONLY_PRINT, OTHER_PACKAGES, OUT_OF_RANGE, REFUSALS, REMEDIES, UNKNOWN_PACKAGE
+from .text import Problem, on_disk, read_text, words
 
 STATUSES = {
     "USAGE:": (1, "The words weren't taken.", "Commands: run NAME, check NAME LISTING, make SEED SIZE, batch LIST; --digits 0 to 18, --workers 1 to 64, "
@@ -53,6 +53,28 @@ class Spot:
 def explain_output(output: Path, folder: Path, digits: int | None = None) -> Meaning:
     """The meaning of the last line of an output file."""
     lines = read_text(output).splitlines()
+    if lines and lines[0].startswith("MODEL "):
+        return explain_batch(lines, folder, digits)
+    return explain_lines(lines, folder, digits)
+
+
+def explain_batch(lines: list[str], folder: Path, digits: int | None) -> Meaning:
+    """The meanings of the models of a batch: the status is the first one that isn't 0."""
+    starts = [n for n, line in enumerate(lines) if line.startswith("MODEL ")]
+    tail = len(lines) - (lines[-1] == "END" and lines[-2] != lines[starts[-1]])
+    status, said = 0, []
+    for begin, end in zip(starts, starts[1:] + [tail]):
+        one = explain_lines(lines[begin + 1:end], folder, digits)
+        status = status or one.status
+        said += [f"{lines[begin][6:]}: {one.lines[0]}", *one.lines[1:]]
+    if lines[-1] != "END":
+        status = status or 6
+        said.append("The batch doesn't end with END: it was stopped, or a write failed.")
+    return Meaning(status, status == 0, said)
+
+
+def explain_lines(lines: list[str], folder: Path, digits: int | None) -> Meaning:
+    """The meaning of the last line of a run's output."""
     first = lines[0].split() if lines else []
     if digits is None:
         digits = int(first[3]) if first[:1] == ["HEADS"] and len(first) > 3 and first[3].isdigit() else 12
@@ -102,7 +124,19 @@ def refusal(code: int, word: str, file: str, line: str, cell: list[str], folder:
     if spot.text.strip():
         out.append(f"     {spot.text.strip()[:110]}")
     remedy = advice(code, spot, folder)
-    return out + ([f"  -> {remedy}"] if remedy else [])
+    due = due_of(folder, file) if code in (8, 9, 13) else ""
+    return out + ([f"     This was due there: {due}."] if due else []) + ([f"  -> {remedy}"] if remedy else [])
+
+
+def due_of(folder: Path, file: str) -> str:
+    """What was being read of a file where its reading stopped, by the name file of the folder that names it."""
+    from .packages import read_deck
+
+    nam = nam_of(folder, file)
+    try:
+        return read_deck(nam)[1].due.get(file, "") if nam else ""
+    except (Problem, IndexError, ValueError):
+        return ""
 
 
 def spot_of(folder: Path, file: str, line: int) -> Spot:
@@ -112,20 +146,26 @@ def spot_of(folder: Path, file: str, line: int) -> Spot:
     return Spot(file, line, text, kind_of(folder, file), lines)
 
 
+def name_lines(folder: Path) -> list[tuple[Path, str]]:
+    """The lines of a folder's name files that aren't comments, each with its name file."""
+    files = sorted(f for f in folder.iterdir() if f.suffix.lower() in (".nam", ".mfn")) if folder.is_dir() else []
+    return [(nam, line) for nam in files for line in read_text(nam).split("\n") if words(line) and not line.startswith("#")]
+
+
+def nam_of(folder: Path, file: str) -> Path | None:
+    """A name file of the folder that names a file."""
+    return next((nam for nam, line in name_lines(folder) if words(line)[2:3] == [file]), None)
+
+
 def kind_of(folder: Path, file: str) -> str:
     """The package that a file belongs to, by a name file of the folder."""
-    for nam in sorted(f for f in folder.iterdir() if f.suffix.lower() in (".nam", ".mfn")) if folder.is_dir() else []:
-        for line in read_text(nam).split("\n"):
-            w = words(line)
-            if len(w) > 2 and w[2] == file and not line.startswith("#"):
-                return w[0].upper()
-    return ""
+    return next((words(line)[0].upper() for _, line in name_lines(folder) if words(line)[2:3] == [file]), "")
 
 
 def advice(code: int, spot: Spot, folder: Path) -> str:
     """What to change for a refusal."""
     special = {1: missing, 3: lambda s, f: "Rename the file, without blanks (`heads-tools plain` does).", 6: package,
-               9: bad_number, 10: many_digits, 11: profile, 12: grid, 13: control}
+               9: bad_number, 10: many_digits, 11: profile, 12: grid, 13: control, 15: out_of_range}
     return special[code](spot, folder) if code in special else REMEDIES.get(code, "")
 
 
@@ -141,6 +181,11 @@ def missing(spot: Spot, folder: Path) -> str:
     if same:
         return f"On disk it is named {same[0]}: capital and small letters count here. Rename it, or write the name so (`heads-tools plain` does)."
     near = [f for f in here if f.startswith(path.name + " ")]
+    parted = [" ".join(words(line)[2:]) for _, line in name_lines(folder) if words(line)[2:3] == [name] and len(words(line)) > 3]
+    parted = [t for t in parted if not re.fullmatch(r"(OLD|NEW|REPLACE|UNKNOWN|#.*|\d+)", t.split()[1].upper())]
+    if parted and not near:
+        return (f"The line of the name file goes on after this word: a blank ends a name. If the file is named `{parted[0]}`, put the name into quotes "
+                "and use `heads-tools plain`, or rename the file.")
     if near:
         return f"On disk there is `{near[0]}`: a blank ends a name. Put the name into quotes and use `heads-tools plain`, or rename the file."
     return "Names are looked up from the folder in which the program runs, as MODFLOW's are: `cd` into the model's folder first (`heads-tools run` does)."
@@ -159,8 +204,14 @@ def bad_number(spot: Spot, folder: Path) -> str:
     if spot.text.startswith(("\u00ef\u00bb\u00bf", "\ufeff")):
         return "The file begins with a byte order mark of a Windows editor: save it as ASCII (`heads-tools plain` does)."
     if spot.text.lstrip().startswith("#"):
-        return "A comment begins in the first column (MODFLOW wants it so, too)."
-    for word in words(spot.text):
+        return "Comments stand only before the first item of a file, and begin in the first column (MODFLOW stops here, too): take the line out."
+    if spot.first == "SPECIFY":
+        return "SPECIFY is an option of MODFLOW-NWT, which acts in convertible layers alone: take the line out (`heads-tools plain` does)."
+    if spot.first == "PARAMETER":
+        return "Parameters aren't read: load the model in FloPy and write it again, which writes their values (`heads-tools plain` drops `PARAMETER 0`)."
+    for place, word in enumerate(words(spot.text)):
+        if word.endswith("*") and word[:-1].isdigit():
+            return f"`{word}` repeats no value: MODFLOW keeps there what it had. Write the value."
         if word.lower().lstrip("+-") in ("nan", "inf", "infinity"):
             return f"`{word}` came out of a script: find the cell that has no value there."
         if re.fullmatch(r"[+-]?[0-9.]+[+-]\d+", word):
@@ -169,8 +220,11 @@ def bad_number(spot: Spot, folder: Path) -> str:
         if exponent and abs(int(exponent[1])) > 40:
             return (f"`{word}`: exponents go from -40 to 40. As HNOFLO or HDRY it is only a marker: "
                     "any other number will do (`heads-tools plain` writes -999.99).")
-        if re.fullmatch(r"\d+\.\d*", word) and spot.item == 1 and spot.kind not in ("BAS6", ""):
+        is_count = spot.item == 1 or (spot.kind == "DIS" and place == 1 and spot.text.split()[-1:] and words(spot.text)[-1].upper() in ("SS", "TR"))
+        if re.fullmatch(r"[+-]?\d+\.\d*", word) and is_count and spot.kind not in ("BAS6", ""):
             return f"`{word}` is a count: write it without a point (MODFLOW refuses it, too)."
+        if re.fullmatch(r"[+-]?\d+\.\d*", word) and spot.kind in ("BAS6", "LPF"):
+            return f"Where whole numbers are due (IBOUND, LAYTYP, LAYAVG, LAYVKA, LAYWET) write `{word}` without a point (MODFLOW refuses it, too)."
     if spot.first == "NOPRINT":
         return "Options stand after the count, on the same line."
     if spot.first in ("CONSTANT", "INTERNAL", "OPEN/CLOSE"):
@@ -216,6 +270,10 @@ def profile(spot: Spot, folder: Path) -> str:
     if spot.kind in ("RCH", "EVT") and spot.item == 1:
         return "The option is 1, 2 or 3."
     return "Parameters (a second number above 0)? Load the model in FloPy and write it again."
+
+
+def out_of_range(spot: Spot, folder: Path) -> str:
+    return OUT_OF_RANGE.get(spot.kind, REMEDIES[15])
 
 
 def grid(spot: Spot, folder: Path) -> str:

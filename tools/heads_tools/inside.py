@@ -9,14 +9,15 @@ from pathlib import Path
 
 import numpy as np
 
+from .deck import Deck
 from .equations import Network, given_heads
 from .explain import explain
 from .model import Model, model_of
 from .packages import read_deck
 from .plain import write_deck
-from .program import DEFAULT_DIGITS, call, read_alone
+from .program import DEFAULT_DIGITS, read_alone
 from .sources import Report
-from .text import Problem, short_down, short_up
+from .text import Problem, counted, short_down, short_up
 
 MOST_UNITS = 2.0**60
 MOST_FLOW = 2.0**109
@@ -30,36 +31,56 @@ class Verdict:
     is_inside: bool
 
 
+@dataclass
+class Told:
+    """What the program says to a deck: lines for people, and whether it reads it (or wasn't there to ask)."""
+
+    lines: list[str]
+    is_read: bool
+
+
 def inside(nam: Path, most: int = 12) -> Verdict:
-    deck, report = read_deck(nam)
+    deck, report = read_deck(nam, as_modflow=True)
     model = None
     if not report.refusals:
         model = model_of(deck)
         look_at_cells(model, report)
         look_at_entries(model, report)
-    out: list[str] = []
-    if report.refusals:
-        out.append(f"NOT INSIDE, for {len(report.refusals)} reason{'s' * (len(report.refusals) > 1)}:")
-        out += listed(report.refusals, most)
-    elif report.needed:
-        out.append("NOT INSIDE AS IT IS, and `heads-tools plain` would change:" if report.blocking else "INSIDE AFTER `heads-tools plain`, which would change:")
-    else:
-        out.append("INSIDE as it is")
-    if report.needed:
-        if report.refusals:
-            out.append("`heads-tools plain` could change:")
-        out += listed(report.needed, most)
+    told = confirmed(nam, model, bool(report.needed)) if model and not report.refusals and not report.blocking else Told([], True)
+    is_inside = told.is_read and not report.refusals and not (report.needed and report.blocking)
+    out = headline(report, told, most)
     if report.precise:
-        report.add("warnings", report.first_precise, 0, f"{report.precise} numbers have more than seven digits: "
+        numbers = "1 number has" if report.precise == 1 else f"{report.precise} numbers have"
+        report.add("warnings", report.first_precise, 0, f"{numbers} more than seven digits: "
                    "MODFLOW-2005 keeps 24 bits of each, `heads` all digits, so perfect heads of MODFLOW can lie outside the pairs")
-    warnings = report.blocking + report.warnings
+    warnings = ([] if report.refusals else report.blocking) + report.warnings
     if warnings:
         out.append("CAREFUL:")
         out += listed(warnings, most)
-    is_inside = not report.refusals and not (report.needed and report.blocking)
-    if model and is_inside:
-        out += digits_lines(model) + confirmed(nam, model, bool(report.needed))
-    return Verdict(out, is_inside)
+    return Verdict(out + (digits_lines(model) + told.lines if model and is_inside else []), is_inside)
+
+
+def headline(report: Report, told: Told, most: int) -> list[str]:
+    """Whether the deck is inside, why not, and what `plain` would change."""
+    reasons = report.blocking + report.refusals if report.refusals else []
+    if reasons:
+        out = [f"NOT INSIDE, for {counted(len(reasons), 'reason')}:", *listed(reasons, most)]
+        return out + (["`heads-tools plain` could change:", *listed(report.needed, most)] if report.needed else [])
+    if not told.is_read:
+        out = ["NOT INSIDE, the program refuses it" + (" after `heads-tools plain`, too:" if report.needed else ":"), *told.lines]
+        return out + (["`heads-tools plain` would change:", *listed(report.needed, most)] if report.needed else [])
+    if report.needed:
+        said = "NOT INSIDE AS IT IS, and `heads-tools plain` would change:" if report.blocking else "INSIDE AFTER `heads-tools plain`, which would change:"
+        return [said, *listed(report.needed, most)]
+    return ["INSIDE as it is"]
+
+
+def careful(nam: Path) -> list[str]:
+    """Where MODFLOW-2005 reads a deck otherwise than `heads` does, for the user of a run."""
+    deck, report = read_deck(nam)
+    if len(deck.ibound) == deck.nlay > 0:
+        look_at_given_heads(deck, report)
+    return [str(r) for r in report.blocking + report.warnings]
 
 
 def listed(remarks: list, most: int) -> list[str]:
@@ -83,12 +104,24 @@ def look_at_cells(model: Model, report: Report) -> None:
     for kind, text, where in tests:
         bad = np.flatnonzero(where & active)
         if bad.size:
-            report.add("refusals", deck.files[kind], 0, f"{bad.size} cells with flow, first layer row column {' '.join(map(str, model.cell(bad[0])))}: {text}")
+            first = " ".join(map(str, model.cell(bad[0])))
+            cells = f"the cell {first}" if bad.size == 1 else f"{bad.size} cells with flow, the first one {first}"
+            report.add("refusals", deck.files[kind], 0, f"{cells} (layer row column): {text}")
+
+
+def look_at_given_heads(deck: Deck, report: Report) -> None:
+    """Given heads in cells without flow."""
+    ibound = [array.floats() for array in deck.ibound] if "CHD" in deck.lists else []
+    for e in (e for entries in deck.lists.get("CHD", []) for e in entries or []):
+        k, i, j = e.cell
+        if 1 <= k <= deck.nlay and 1 <= i <= deck.nrow and 1 <= j <= deck.ncol and ibound[k - 1][i - 1, j - 1] == 0:
+            report.add("warnings", e.file, e.line, "CHD in a cell without flow (IBOUND 0): MODFLOW-2005 stops here, for `heads` the entry has no effect")
 
 
 def look_at_entries(model: Model, report: Report) -> None:
     """Entries and arrays of stresses that are refused, or that MODFLOW-2005 takes otherwise."""
     deck = model.deck
+    look_at_given_heads(deck, report)
     for kind, periods in deck.lists.items():
         for p, entries in enumerate(periods, 1):
             seen: set[tuple[int, int, int]] = set()
@@ -97,9 +130,6 @@ def look_at_entries(model: Model, report: Report) -> None:
                 heads = [float(w.replace("D", "E").replace("d", "e")) for n, w in enumerate(e.words) if (kind, n) not in no_heads]
                 if any(abs(h) > 4e9 for h in heads):
                     report.add("refusals", e.file, e.line, "a head or an elevation past 4,000,000,000")
-                if kind == "CHD" and model.ibound.flat[model.index(e.cell)] == 0:
-                    report.add("warnings", e.file, e.line, "CHD in a cell without flow (IBOUND 0): "
-                               "MODFLOW-2005 stops here, for `heads` the entry has no effect")
                 if kind == "CHD" and e.cell in seen:
                     report.add("refusals", e.file, e.line, "the cell stands twice in this CHD list (MODFLOW-2005 adds the two heads)")
                 seen.add(e.cell)
@@ -135,7 +165,7 @@ def digits_lines(model: Model) -> list[str]:
     return [f"digits: {facts}; give --digits {min(high, max(floor, DEFAULT_DIGITS))} ({floor} to {high} fit, the default of {DEFAULT_DIGITS} doesn't)"]
 
 
-def confirmed(nam: Path, model: Model, is_rewritten: bool) -> list[str]:
+def confirmed(nam: Path, model: Model, is_rewritten: bool) -> Told:
     """What the program itself says to the deck, or to the plain one."""
     try:
         with tempfile.TemporaryDirectory() as folder:
@@ -144,7 +174,7 @@ def confirmed(nam: Path, model: Model, is_rewritten: bool) -> list[str]:
                 nam = Path(folder) / nam.name
             last = read_alone(nam.resolve())
             if last is None:
-                return ["the program reads it" + (" so rewritten" if is_rewritten else "")]
-            return ["but the program says:", *explain(last, nam.parent).lines]
+                return Told(["the program reads it" + (" so rewritten" if is_rewritten else "")], True)
+            return Told(["  " + line for line in explain(last, nam.parent).lines], False)
     except Problem as error:
-        return [f"not confirmed by the program: {error}"]
+        return Told([f"not confirmed by the program: {error}"], True)

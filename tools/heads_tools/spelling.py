@@ -29,6 +29,12 @@ def quoted_words(line: str) -> list[str]:
     return [a or b or c for a, b, c in re.findall(r"'([^']*)'|\"([^\"]*)\"|([^\s,'\"]+)", line)]
 
 
+def record_words(line: str) -> list[str]:
+    """The words of an array's record, in which a format in parentheses is one word, its commas included."""
+    shielded = re.sub(r"\([^()]*(\([^()]*\)[^()]*)*\)", lambda m: re.sub(r"\s", "", m[0]).replace(",", "\x00"), line)
+    return [w.replace("\x00", ",") for w in quoted_words(shielded)]
+
+
 @functools.lru_cache(maxsize=1 << 18)
 def number(word: str) -> Number:
     """The number of a word, written so that `heads` reads the same value (rounded only past 18 digits)."""

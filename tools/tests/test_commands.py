@@ -128,7 +128,7 @@ def test_a_batch_of_the_program_is_parted_by_model(tmp_path):
 
 def test_model_tells_what_was_read(example, tool):
     status, out, err = tool("model", example("three_aquifers"))
-    assert status == 0 and "3 layers, 15 rows, 15 columns: 675 cells" in out and "VKCB 0.001" in out and "WEL: [1: 1 entries" in out
+    assert status == 0 and "3 layers, 15 rows, 15 columns: 675 cells" in out and "VKCB 0.001" in out and "WEL: [1: 1 entry;" in out
 
 
 @pytest.mark.parametrize("words", [
