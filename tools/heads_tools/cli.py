@@ -55,6 +55,15 @@ def parser() -> argparse.ArgumentParser:
     s = add("compare", "how far given heads are from every exact solution", listing, ("heads", "heads of MODFLOW: hds or CSV"))
     s.add_argument("--map", type=Path, metavar="FOLDER", help="draw maps into this folder")
     s.add_argument("--name", type=Path, metavar="M.NAM", help="the model, for the maps, and for heads check, which says whether the pairs are bounds")
+    s = add("drawdown", "what a plan does: the differences of two listings with bounds, as tables, map, curves and sentences",
+            ("plan", "the plan's listing"), ("base", "the listing without the plan"), ("folder", "the folder to write into"))
+    s.add_argument("--name", type=Path, metavar="PLAN.NAM", help="the plan's model: its listing is checked; true widths, times, units")
+    s.add_argument("--base-name", type=Path, metavar="BASE.NAM", help="the base's model: its listing is checked")
+    s.add_argument("--cell", type=cell, action="append", default=[], metavar="K,I,J", help="a curve of this cell; may stand again")
+    s = add("plans", "one page that compares all listings of a batch with the first of them", ("list", "the batch's list"),
+            ("folder", "the folder to write into"))
+    s.add_argument("--base", metavar="NAME", help="the model of the list to compare with, the first where left out")
+    s.add_argument("--cell", type=cell, action="append", default=[], metavar="K,I,J", help="the drawdown at this cell; may stand again")
     s = add("certify", "certified bounds from any solver's heads: margins by a sparse solve, then heads check", nam,
             ("heads", "heads to begin with: hds or CSV"))
     s.add_argument("--digits", type=int, default=12)

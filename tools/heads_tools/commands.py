@@ -146,6 +146,24 @@ def do_compare(args: argparse.Namespace, _: list[str]) -> int:
     return verdict.status or 0
 
 
+def do_drawdown(args: argparse.Namespace, _: list[str]) -> int:
+    from .drawdown import drawdown
+    from .listing import read_listing
+
+    plan, base = (read_listing(existing(path)) for path in (args.plan, args.base))
+    name, base_name = (existing(path) if path else None for path in (args.name, args.base_name))
+    said, status = drawdown(plan, base, args.folder, name, base_name, args.cell)
+    say(said + [f"open {args.folder / 'index.html'}"])
+    return status
+
+
+def do_plans(args: argparse.Namespace, _: list[str]) -> int:
+    from .plans import compare_plans
+
+    say(compare_plans(existing(args.list), args.folder, args.base, args.cell) + [f"open {args.folder / 'index.html'}"])
+    return 0
+
+
 def do_certify(args: argparse.Namespace, _: list[str]) -> int:
     from .certify import certify
 
