@@ -6,6 +6,7 @@ import os
 import sys
 from pathlib import Path
 
+from . import __version__
 from .text import Problem
 
 EPILOG = """Nothing in heads-tools is proved. The program is found by the environment variable HEADS, else in this checkout, else on the PATH.
@@ -18,6 +19,18 @@ net term lies within both, by the theorem net_terms_lie_in_the_others (crates/ex
 and was written by `heads run` or certified by `heads check`."""
 
 
+MF2005 = """Runs the model as MODFLOW-2005 is called: the name file as the one word. It writes the head file where the output
+control saves heads (single precision, the middles of the pairs), the list file with budgets, the listing NAME.heads, and the
+words 'Normal termination of simulation'. In FloPy: exe_name="/path/to/tools/mf2005". No cell-by-cell flows are written.
+Written from the documented call and files of MODFLOW-2005."""
+
+
+def add_place(sub: argparse.ArgumentParser, is_needed: bool) -> None:
+    sub.add_argument("--name", type=Path, metavar="M.NAM", required=is_needed, help="the model: its grid and times")
+    sub.add_argument("--at", metavar="X0,Y0[,ANGLE[,EPSG]]", default="0,0",
+                     help="the grid's lower left corner, degrees against the clock, a code of EPSG")
+
+
 def cell(text: str) -> tuple[int, int, int]:
     parts = text.replace(" ", ",").split(",")
     if len(parts) != 3 or not all(p.isdigit() for p in parts):
@@ -28,6 +41,7 @@ def cell(text: str) -> tuple[int, int, int]:
 def parser() -> argparse.ArgumentParser:
     top = argparse.ArgumentParser(prog="heads-tools", description="Runs, explains, feeds and shows `heads`.", epilog=EPILOG,
                                   formatter_class=argparse.RawDescriptionHelpFormatter)
+    top.add_argument("--version", action="version", version=f"heads-tools {__version__}")
     commands = top.add_subparsers(dest="command", metavar="COMMAND", required=True)
 
     def add(name: str, text: str, *words: tuple) -> argparse.ArgumentParser:
@@ -54,6 +68,7 @@ def parser() -> argparse.ArgumentParser:
     s.add_argument("--every", action="store_true", help="maps of every step, and not of the last alone")
     s = add("compare", "how far given heads are from every exact solution", listing, ("heads", "heads of MODFLOW: hds or CSV"))
     s.add_argument("--map", type=Path, metavar="FOLDER", help="draw maps into this folder")
+    s.add_argument("--csv", type=Path, metavar="FILE", help="a table of the steps: least, most, cells outside, the worst cell")
     s.add_argument("--name", type=Path, metavar="M.NAM", help="the model, for the maps, and for heads check, which says whether the pairs are bounds")
     s = add("drawdown", "what a plan does: the differences of two listings with bounds, as tables, map, curves and sentences",
             ("plan", "the plan's listing"), ("base", "the listing without the plan"), ("folder", "the folder to write into"))
@@ -75,6 +90,17 @@ def parser() -> argparse.ArgumentParser:
     for name in ("lower", "upper", "middle"):
         side.add_argument(f"--{name}", dest="side", action="store_const", const=name)
     s.add_argument("--single", action="store_true", help="single precision (double where left out)")
+    s = add("export", "NetCDF, GeoTIFF, VTK and CSV of a listing, each if its package is here", listing,
+            ("folder", "the folder to write into"))
+    add_place(s, True)
+    s.add_argument("--as", dest="formats", default="nc,tif,vtu,csv", metavar="LIST", help="of nc, tif, vtu, csv (all)")
+    s = add("observe", "heads at points, by a table name,x,y,layer,time,measured or a HOB file: lower, upper, measured", listing,
+            ("points", "the table or the HOB file"))
+    add_place(s, True)
+    s.add_argument("--out", type=Path, help="the table's file, standard output where left out")
+    s = commands.add_parser("mf2005", help="run as MODFLOW-2005 is called by FloPy and ModelMuse: head file and list file")
+    s.description = MF2005
+    s.add_argument("words", nargs="*", metavar="WORD", help="the name file; further words go to heads run")
     add("exhibit", "for a report or a court: deck, listing, verdicts, hashes, versions, pictures; further options go to heads run",
         nam, ("folder", "the folder to write into"))
     s = add("batch", "run many models and collect their ends; further options go to heads", ("list", "a file with one name file a line"))
@@ -92,12 +118,22 @@ def silence() -> None:
     os.dup2(os.open(os.devnull, os.O_WRONLY), sys.stdout.fileno())
 
 
-PASSING = {"run", "exhibit", "batch"}
+PASSING = {"run", "exhibit", "batch", "mf2005"}
+
+
+def complete(top: argparse.ArgumentParser) -> None:
+    """Completion in the shell, where python3-argcomplete is installed: eval "$(register-python-argcomplete heads-tools)"."""
+    try:
+        import argcomplete
+    except ImportError:
+        return
+    argcomplete.autocomplete(top)
 
 
 def main(words: list[str] | None = None) -> int:
     """Does what the words say; the status."""
     top = parser()
+    complete(top)
     args, rest = top.parse_known_args(words)
     if rest and args.command not in PASSING:
         top.error(f"unknown words: {' '.join(rest)}")

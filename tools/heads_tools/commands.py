@@ -10,6 +10,7 @@ from .text import Problem, counted
 
 if TYPE_CHECKING:
     from .listing import Listing
+    from .model import Model
     from .verdict import Verdict
 
 MOST_DIGITS = 18
@@ -122,7 +123,7 @@ def verdict_of(args: argparse.Namespace, listing: Listing) -> Verdict:
 
 
 def do_compare(args: argparse.Namespace, _: list[str]) -> int:
-    from .compare import compare, sentences
+    from .compare import compare, sentences, write_csv
     from .headfile import read_heads
     from .listing import read_listing
     from .text import LENGTHS
@@ -131,6 +132,9 @@ def do_compare(args: argparse.Namespace, _: list[str]) -> int:
     verdict = verdict_of(args, listing)
     differences = compare(listing, read_heads(existing(args.heads)))
     say([verdict.sentence, *sentences(listing, differences, LENGTHS.get(listing.unit, "length units"))])
+    if args.csv:
+        write_csv(args.csv, listing, differences)
+        say([f"written: {args.csv}"])
     if args.map:
         from .look import Look
         from .model import read_model
@@ -190,6 +194,45 @@ def do_hds(args: argparse.Namespace, _: list[str]) -> int:
     precision = "single" if args.single else "double"
     say([f"{side} heads of {counted(len(listing.steps), 'step')} in {args.out} ({precision} precision, {how}; -999.99 where there is no flow)"])
     return 0
+
+
+def do_export(args: argparse.Namespace, _: list[str]) -> int:
+    from .exports import FORMATS, export, place_of
+    from .listing import read_listing
+    from .model import read_model
+
+    formats = [f for f in args.formats.split(",") if f]
+    if not formats or not set(formats) <= set(FORMATS):
+        raise Problem(f"--as is a list of {', '.join(FORMATS)}")
+    listing, model = read_listing(existing(args.listing)), read_model(existing(args.name))
+    say(export(fitting(listing, model), args.folder, model, place_of(args.at), formats))
+    return 0
+
+
+def do_observe(args: argparse.Namespace, _: list[str]) -> int:
+    from .exports import place_of
+    from .listing import read_listing
+    from .model import read_model
+    from .observe import observe
+
+    listing, model = read_listing(existing(args.listing)), read_model(existing(args.name))
+    say(observe(fitting(listing, model), model, existing(args.points), place_of(args.at), args.out))
+    return 0
+
+
+def fitting(listing: Listing, model: Model) -> Listing:
+    """A listing with a step, whose cells lie in the model's grid."""
+    if not listing.steps:
+        raise Problem(f"{listing.path} has no whole step")
+    if any(a > b for a, b in zip(listing.shape, model.shape)):
+        raise Problem(f"{listing.path} has cells up to {listing.shape}, and the model's grid is {model.shape}: another model")
+    return listing
+
+
+def do_mf2005(args: argparse.Namespace, options: list[str]) -> int:
+    from .mf2005 import mf2005
+
+    return mf2005(args.words + options)
 
 
 def do_exhibit(args: argparse.Namespace, options: list[str]) -> int:

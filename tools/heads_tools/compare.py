@@ -2,12 +2,13 @@
 from __future__ import annotations
 
 from dataclasses import dataclass
+from pathlib import Path
 
 import numpy as np
 
 from .headfile import ANY_STEP, Heads
 from .listing import Listing, Step
-from .text import Problem, counted, short_down, short_up
+from .text import Problem, counted, short_down, short_up, whole_file
 
 
 @dataclass
@@ -43,6 +44,19 @@ def compare(listing: Listing, heads: Heads) -> list[Difference]:
 def padded(grid: np.ndarray, least: tuple[int, int, int]) -> np.ndarray:
     """The grid, with nan added where it is smaller than the least shape."""
     return np.pad(grid, [(0, max(0, b - a)) for a, b in zip(grid.shape, least)], constant_values=np.nan)
+
+
+def write_csv(path: Path, listing: Listing, differences: list[Difference]) -> None:
+    """A table of the steps: off by `least` at least (rounded down) and by `most` at most (rounded up), the cells outside
+    their pair, and the worst one."""
+    with whole_file(path) as file:
+        file.write("period,step,least,most,outside,given,layer,row,col\n")
+        for d in differences:
+            here = ~np.isnan(d.most)
+            if here.any():
+                least, most = float(np.nanmax(d.least)), float(np.nanmax(d.most))
+                cell = ",".join(map(str, listing.cells[int(np.nanargmax(d.least if least > 0 else d.most))].tolist()))
+                file.write(f"{d.step.period},{d.step.step},{least!r},{most!r},{int((d.least[here] > 0).sum())},{int(here.sum())},{cell}\n")
 
 
 def sentences(listing: Listing, differences: list[Difference], unit: str) -> list[str]:

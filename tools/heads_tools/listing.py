@@ -15,7 +15,7 @@ FIFTHS = 5**9
 NO_LISTING = ("REFUSED", "READFAULT", "MEMORY", "USAGE:", "CERTIFIED", "NOT")
 
 
-@dataclass
+@dataclass(repr=False)
 class Step:
     """One time step. `low`, `high`: heads in 10^-9 length units, shape (cells,); `terms`: name to the whole
     numbers in_low, in_high, out_low, out_high of 10^-(digits + 9) length units cubed by time unit; `zones`: the
@@ -28,11 +28,14 @@ class Step:
     terms: dict[str, list[int]] = field(default_factory=dict)
     zones: list[tuple[int, int, int, int]] = field(default_factory=list)
 
+    def __repr__(self) -> str:
+        return f"<period {self.period} step {self.step}: {counted(len(self.low), 'cell')}>"
+
     def width(self) -> np.ndarray:
         return self.high - self.low
 
 
-@dataclass
+@dataclass(repr=False)
 class Listing:
     """A listing. `cells`: layer, row and column of each cell with flow, from 1, shape (cells, 3); `end`: its last line."""
 
@@ -42,6 +45,10 @@ class Listing:
     steps: list[Step] = field(default_factory=list)
     cells: np.ndarray = field(default_factory=lambda: np.zeros((0, 3), int))
     end: str = ""
+
+    def __repr__(self) -> str:
+        size = f"{counted(len(self.steps), 'step')} of {counted(len(self.cells), 'cell')}"
+        return f"<{self.path.name}: {size}, {self.digits} digits, ends with {self.end or 'a part of a step'}>"
 
     @property
     def is_whole(self) -> bool:

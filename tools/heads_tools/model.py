@@ -11,7 +11,7 @@ from .packages import read_deck
 from .text import LENGTHS, TIMES, Problem
 
 
-@dataclass
+@dataclass(repr=False)
 class Model:
     """`thick`, `bed`: thickness of layers and of the beds below them (0 where there is none); `vk`: vertical
     conductivity, VKA or HK / VKA; `ss`: specific storage, or the coefficient where `is_coefficient`."""
@@ -32,6 +32,10 @@ class Model:
     vkcb: np.ndarray
     is_coefficient: bool
     times: dict[tuple[int, int], tuple[float, float]] = field(default_factory=dict)
+
+    def __repr__(self) -> str:
+        nlay, nrow, ncol = self.shape
+        return f"<model {self.deck.path.name}: {nlay} x {nrow} x {ncol} cells, {len(self.times)} time steps>"
 
     @property
     def shape(self) -> tuple[int, int, int]:

@@ -290,7 +290,7 @@ class Reader:
             raise Problem("XSECTION (MODFLOW takes the word behind a # too) changes how arrays are read: load and save the model by FloPy")
         deck.ibound = [self.array(deck.nrow, deck.ncol, f"IBOUND of layer {k + 1}", True) for k in range(deck.nlay)]
         s.due = "HNOFLO"
-        self.marker(s, quoted_words(s.line(on_blank=""))[0], "HNOFLO")
+        deck.options["HNOFLO"] = self.marker(s, quoted_words(s.line(on_blank=""))[0], "HNOFLO")
         deck.strt = [self.array(deck.nrow, deck.ncol, f"STRT of layer {k + 1}") for k in range(deck.nlay)]
 
     def marker(self, s: Source, word: str, name: str) -> str:

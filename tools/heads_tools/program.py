@@ -16,17 +16,30 @@ from .listing import read_listing
 from .text import Problem, decimal_text, whole_file
 
 TOP = Path(__file__).resolve().parents[2]
+BIN = Path(__file__).resolve().parent / "bin"
 DEFAULT_DIGITS = 12
 
 
+def beside(name: str) -> Path | None:
+    """A file of the checkout's tools/, else of the wheel: recheck.py, solution.py."""
+    return next((path for path in (TOP / "tools" / name, BIN / name) if path.is_file()), None)
+
+
+def main() -> None:
+    """The command `heads` of a wheel: the program that it carries."""
+    path = str(program())
+    os.execv(path, [path, *sys.argv[1:]])
+
+
 def program() -> Path:
-    """The program: the environment's HEADS, else the kept one or the script of this checkout, else `heads` on the path."""
+    """The program: the environment's HEADS, else the script of this checkout, else that of the wheel, else `heads` on the
+    path."""
     if os.environ.get("HEADS"):
         path = Path(os.environ["HEADS"]).resolve()
         if not os.access(path, os.X_OK) or path.is_dir():
             raise Problem(f"HEADS names {path}, which is no program")
         return path
-    for path in (TOP / "heads", Path(shutil.which("heads") or "")):
+    for path in (TOP / "heads", BIN / "heads", Path(shutil.which("heads") or "")):
         if path.is_file() and os.access(path, os.X_OK):
             return path.resolve()
     raise Problem("where is `heads`? Set HEADS=/path/to/heads, or put it on the PATH")
