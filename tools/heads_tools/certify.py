@@ -15,7 +15,6 @@ from pathlib import Path
 
 import numpy as np
 import scipy.sparse
-import scipy.sparse.linalg
 
 from .compare import compare, sentences
 from .equations import TERMS, Given, Network, Step, given_heads
@@ -24,6 +23,7 @@ from .listing import Listing, read_listing
 from .listing import Step as Listed
 from .model import Model, growth, read_model, value
 from .program import call
+from .solvers import solved
 from .text import decimal_text, whole_file
 
 UNIT = 1e-9
@@ -170,7 +170,7 @@ class Bounds:
             share = max(share / 2, 0.05) if worst > 0.7 * before else min(share * 1.5, 1.0)
             before = worst
             matrix = diagonal.multiply(np.maximum(slope, np.maximum(step.conductance * 1e-12, 1e-300))[:, None]).tocsc() - step.links.tocsc()
-            change = scipy.sparse.linalg.splu(matrix.tocsc(), permc_spec="MMD_AT_PLUS_A", diag_pivot_thresh=0.0, options={"SymmetricMode": True}).solve(rest)
+            change = solved(matrix, rest, self.model.shape[0])
             h = np.clip(h + share * np.nan_to_num(change), -3.9e9, 3.9e9)
         return self.repaired(step, h, side)
 
@@ -202,13 +202,17 @@ class Bounds:
             units[wrong] = np.clip(units[wrong] - sign * np.maximum(np.ceil(move / UNIT), 1), -MOST_UNITS, MOST_UNITS)
         return units.astype(np.int64)
 
-    def budget(self, step: Step, low: np.ndarray, high: np.ndarray) -> dict[str, list[int]]:
-        """The terms' pairs in units of 10^-(digits + 9), with slack for doubles and rounded conductances."""
+    def budget(self, step: Step, low: np.ndarray, high: np.ndarray, is_inward: bool = False) -> dict[str, list[int]]:
+        """The terms' pairs in units of 10^-(digits + 9), with slack for doubles and rounded conductances. `is_inward`: pairs
+        that lie within those of the exact equations, with slack for doubles alone."""
         l, u = low[step.cells] * UNIT, high[step.cells] * UNIT
+        self.size = max(float(np.abs(v).max(initial=0)) for v in (l, u, *self.holders, step.head, step.riv_bottom))
         sums = np.zeros((8, 4))
 
         def add(term: np.ndarray, lo: np.ndarray, hi: np.ndarray, c=0.0, apart=0.0) -> None:
             room = 1e-9 * (np.abs(lo) + np.abs(hi)) + 1e-9 + self.slack * apart + 3 * c * UNIT
+            if is_inward:
+                room = -(1e-12 * (np.abs(lo) + np.abs(hi)) + 16 * np.finfo(float).eps * c * (1 + self.size))
             lo, hi = lo - room, hi + room
             for column, values in enumerate((np.maximum(0, lo), np.maximum(0, hi), np.maximum(0, -hi), np.maximum(0, -lo))):
                 sums[:, column] += np.bincount(term, values, 8)

@@ -179,6 +179,25 @@ def do_certify(args: argparse.Namespace, _: list[str]) -> int:
     return ended.status
 
 
+def do_check(args: argparse.Namespace, _: list[str]) -> int:
+    from .listing import read_listing
+
+    nam, path = existing(args.nam), existing(args.listing)
+    if args.parts is None:
+        from .verdict import check_listing
+
+        verdict = check_listing(nam, read_listing(path))
+        say([verdict.sentence])
+        return verdict.status or 0
+    from .parts import check_parts
+
+    if args.parts < 1:
+        raise Problem("--parts is 1 or more")
+    checked = check_parts(nam, path, args.parts, args.jobs)
+    say(checked.lines)
+    return checked.status
+
+
 def do_hds(args: argparse.Namespace, _: list[str]) -> int:
     from .headfile import write_heads
     from .listing import read_listing

@@ -13,10 +13,11 @@ from .text import Problem
 EVT_ARRAYS = ("SURF", "EVTR", "EXDP")
 
 
-def read_deck(nam: str | Path, as_modflow: bool = False) -> tuple[Deck, Report]:
+def read_deck(nam: str | Path, as_modflow: bool = False, any_size: bool = False) -> tuple[Deck, Report]:
     """Reads all files of a name file. What can't be read stands under the report's refusals. A blank line where counts
-    or flags are due is passed over, as `heads` does, or read `as_modflow`, which takes it as zeros."""
-    reader = Reader(Path(nam), as_modflow)
+    or flags are due is passed over, as `heads` does, or read `as_modflow`, which takes it as zeros. `any_size`: more cells
+    than the program takes are no refusal."""
+    reader = Reader(Path(nam), as_modflow, any_size)
     reader.read_names()
     for kind in KINDS:
         if kind in reader.deck.files:
@@ -57,7 +58,8 @@ def layer_word_refused(name: str, row: list[str], by_start: bool) -> str:
 class Reader:
     """The reading of one deck."""
 
-    def __init__(self, nam: Path, as_modflow: bool = False):
+    def __init__(self, nam: Path, as_modflow: bool = False, any_size: bool = False):
+        self.any_size = any_size
         self.report, self.deck, self.folder, self.as_modflow = Report(), Deck(nam), nam.parent, as_modflow
         self.sources: dict[str, Source] = {}
         self.binary_at: dict[str, int] = {}
@@ -246,7 +248,7 @@ class Reader:
             (not 1 <= nlay <= 64, "NLAY from 1 to 64"), (not (1 <= nrow <= 1024 and 1 <= ncol <= 1024), "NROW and NCOL from 1 to 1,024"),
             (nlay * nrow * ncol > 65536, f"at most 65,536 cells in all (these are {nlay * nrow * ncol:,})"),
             (not 1 <= nper <= 1000, "NPER from 1 to 1,000")) if is_bad]
-        if over:
+        if over and not self.any_size:
             self.refuse("`heads` takes " + "; ".join(over))
         deck.nlay, deck.nrow, deck.ncol = nlay, nrow, ncol
         deck.laycbd = [s.integer(x, "LAYCBD") for x in s.free_values(nlay)]
