@@ -106,11 +106,17 @@ def do_look(args: argparse.Namespace, _: list[str]) -> int:
     from .listing import read_listing
     from .look import look
     from .model import read_model
+    from .zones import read_zones
 
+    if args.zones and not args.name:
+        raise Problem("--zones needs the model, too: --name M.NAM")
     listing = read_listing(existing(args.listing))
     model = read_model(existing(args.name)) if args.name else None
     verdict = verdict_of(args, listing)
-    said = look(listing, args.folder, model, args.cell, existing(args.given) if args.given else None, args.every, verdict)
+    given = existing(args.given) if args.given else None
+    zones = read_zones(existing(args.zones), existing(args.name), model.shape) if args.zones and model else None
+    base = read_listing(existing(args.minus)) if args.minus else None
+    said = look(listing, args.folder, model, args.cell, given, args.every, verdict, zones, base, args.svg)
     say(said + [f"open {args.folder / 'index.html'}"])
     return verdict.status or 0
 
@@ -136,16 +142,10 @@ def do_compare(args: argparse.Namespace, _: list[str]) -> int:
         write_csv(args.csv, listing, differences)
         say([f"written: {args.csv}"])
     if args.map:
-        from .look import Look
+        from .look import look_at_given
         from .model import read_model
-        from .page import write_page
-        from .tables import write_tables
 
-        args.map.mkdir(parents=True, exist_ok=True)
-        it = Look(listing, args.map, read_model(existing(args.name)) if args.name else None, verdict=verdict)
-        it.compare(existing(args.heads))
-        write_tables(listing, args.map, it.model.times if it.model else None)
-        write_page(it.page, args.map)
+        look_at_given(listing, args.map, read_model(existing(args.name)) if args.name else None, verdict, existing(args.heads))
         say([f"open {args.map / 'index.html'}"])
     return verdict.status or 0
 

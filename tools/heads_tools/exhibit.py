@@ -17,12 +17,12 @@ from . import __version__
 from .deck import KINDS
 from .explain import explain
 from .listing import Listing, read_listing
-from .look import look
+from .look import look, title_of
 from .model import Model, read_model
-from .program import TOP, Ended, Version, digits_of, program, sha256, version
+from .program import TOP, Ended, Version, digits_of, sha256, version
 from .spelling import quoted_words
 from .text import Problem, decimal_text, on_disk, read_text, whole_file, words
-from .verdict import Verdict, has_zones
+from .verdict import Verdict, has_zones, program_file
 
 EACH_HEAD = ("Each exact solution of this model's finite-difference equations has, at the end of each listed time step and at each listed cell, "
              "a head between the two listed numbers, and budget flows between the two listed numbers of each term.")
@@ -171,12 +171,6 @@ def is_part(path: Path) -> bool:
     return "\nSTEP " in read_text(path)
 
 
-def title_of(nam: Path) -> str:
-    """The model's own title: the first comment of its name file, else the file's name."""
-    lines = (line[1:].strip() for line in read_text(nam).split("\n") if line.startswith("#"))
-    return next((line for line in lines if line), nam.name)
-
-
 def zone_file(options: list[str]) -> list[str]:
     return [options[n + 1] for n, word in enumerate(options[:-1]) if word == "--zones"] + [w[8:] for w in options if w.startswith("--zones=")]
 
@@ -204,16 +198,6 @@ def copy_deck(nam: Path, deck: Path, options: list[str]) -> None:
         if source.is_file():
             target.parent.mkdir(parents=True, exist_ok=True)
             shutil.copyfile(source, target)
-
-
-def program_file() -> Path:
-    """The program itself, not a script that starts it."""
-    found = program()
-    choices = [TOP / "dist" / "heads", TOP / "crates" / "heads" / "out" / "heads"] if found == TOP / "heads" else [found]
-    for path in choices:
-        if path.is_file() and path.read_bytes()[:2] != b"#!":
-            return path
-    raise Problem(f"{found} is a script and no built program lies beside it: set HEADS to the program, which the exhibit holds a copy of")
 
 
 def copy_program(binary: Path, folder: Path) -> None:

@@ -9,7 +9,7 @@ from pathlib import Path
 from typing import Iterator
 
 from .listing import Listing
-from .program import call
+from .program import TOP, call, program, sha256
 from .text import Problem
 
 CERTIFIED = "CERTIFIED"
@@ -68,7 +68,8 @@ def check_listing(nam: Path, listing: Listing) -> Verdict:
             ended = call(["check", nam.name, str(path), "--digits", str(listing.digits)], nam.parent)
         except Problem as error:
             return Verdict(None, str(error), listing.path.name, zones)
-    return Verdict(ended.status, ended.last, listing.path.name, zones)
+    last = ended.last.replace(str(path), listing.path.name) or f"status {ended.status}"
+    return Verdict(ended.status, last, listing.path.name, zones)
 
 
 def has_zones(listing: Listing) -> bool:
@@ -94,3 +95,19 @@ def readable(path: Path, has_zones: bool) -> Iterator[Path]:
 def copy_without_zones(source: Path, target: Path) -> None:
     with open(source, "rb") as lines, open(target, "wb") as copy:
         copy.writelines(line for line in lines if not line.startswith(b"ZONE "))
+
+
+def program_file() -> Path:
+    """The program itself, not a script that starts it."""
+    found = program()
+    choices = [TOP / "dist" / "heads", TOP / "crates" / "heads" / "out" / "heads"] if found == TOP / "heads" else [found]
+    for path in choices:
+        if path.is_file() and path.read_bytes()[:2] != b"#!":
+            return path
+    raise Problem(f"{found} is a script and no built program lies beside it: set HEADS to the program itself")
+
+
+def program_name() -> str:
+    """The program by its path and hash."""
+    path = program_file()
+    return f"{path}, sha256 {sha256(path)}"

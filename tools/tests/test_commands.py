@@ -36,7 +36,7 @@ def test_look_draws_and_tables_hold_the_listing(name, ran, tool, tmp_path):
     page = (tmp_path / "look" / "index.html").read_text()
     for picture in re.findall(r'src="([^"]+)"', page):
         assert (tmp_path / "look" / picture).read_bytes().startswith(b"\x89PNG")
-        assert (tmp_path / "look" / picture).with_suffix(".svg").is_file()
+    assert not list((tmp_path / "look").glob("*.svg"))
     lines = [l.split()[1:] for l in listing.read_text().split("\n") if l.startswith("HEAD ")]
     rows = list(csv.DictReader((tmp_path / "look" / "heads.csv").open()))
     assert [[r["layer"], r["row"], r["col"], r["lower"], r["upper"]] for r in rows] == lines
