@@ -28,7 +28,7 @@ EACH_HEAD = ("Each exact solution of this model's finite-difference equations ha
              "a head between the two listed numbers, and budget flows between the two listed numbers of each term.")
 ONE_HEAD = ("For example: each exact solution of this model's equations has, in layer {}, row {}, column {}, at the end of period {}, step {}, "
             "a head between {} and {} {}.")
-ZONE_FLOWS = "Each flow between two zones lies between its two listed numbers, too (this rests on the run alone: `heads check` reads no zones)."
+ZONE_FLOWS = "Each flow between two zones lies between its two listed numbers, too (this rests on the run and on recheck.py; `heads check` reads no zones)."
 NOT_THE_GROUND = "The head in the aquifer lies between these numbers."
 WHY_NOT = "The listing speaks of the equations of these files. It says nothing of the ground, nor of the heads that MODFLOW prints."
 NOTHING = "Nothing may be said of this model's heads from this run."
@@ -122,7 +122,7 @@ def add_verdicts(told: Exhibit, folder: Path, name: str, listing: str, options: 
     told.commands.append(f"(cd deck && ../heads check {shlex.join([name, '../' + plain])} --digits {read.digits})")
     checked = shell(folder, told.commands[-1])
     told.facts.append(("check", f"{checked.last} (status {checked.status})"))
-    add_recheck(told, folder, shlex.join([name, "../" + plain]), sum(len(step.low) for step in read.steps))
+    add_recheck(told, folder, shlex.join([name, "../" + listing, *zone_file(options)]), sum(len(step.low) for step in read.steps))
     verdict = Verdict(checked.status, checked.last, listing, has_zones(read))
     told.verdict = verdict.sentence
     if verdict.is_certified and known.is_recorded is not False:

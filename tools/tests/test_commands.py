@@ -4,7 +4,7 @@ import re
 from pathlib import Path
 
 import pytest
-from conftest import TOOLS, TOP, heads
+from conftest import TOOLS, heads
 
 EXAMPLES = ["three_cells", "drained_field", "tide", "river_valley"]
 
