@@ -19,7 +19,7 @@ from .explain import explain
 from .listing import Listing, read_listing
 from .look import look, title_of
 from .model import Model, read_model
-from .program import TOP, Ended, Version, digits_of, sha256, version
+from .program import TOP, Ended, Version, beside, digits_of, sha256, version
 from .spelling import quoted_words
 from .text import Problem, decimal_text, on_disk, read_text, whole_file, words
 from .verdict import Verdict, has_zones, program_file
@@ -207,8 +207,8 @@ def copy_program(binary: Path, folder: Path) -> None:
     record = binary.with_name(binary.name + ".txt")
     if record.is_file():
         shutil.copyfile(record, folder / "heads.txt")
-    script = TOP / "tools" / "recheck.py"
-    if script.is_file():
+    script = beside("recheck.py")
+    if script:
         shutil.copyfile(script, folder / "recheck.py")
 
 

@@ -8,8 +8,9 @@ from typing import Callable
 
 import numpy as np
 
-from . import __version__, change, curves, maps
+from . import __version__, curves, maps
 from .compare import compare, sentences
+from .drawdown import Drawdown, difference
 from .headfile import read_heads
 from .listing import Listing, Step
 from .model import Model, value
@@ -299,9 +300,11 @@ class Look:
         self.page.picture(GIVEN, f"off_layer{layer}.png", f"{name}, layer {layer}: off from every exact solution by at most this much", title if layer > 1 else "")
 
     def add_minus(self, base: Listing) -> None:
-        changes = change.difference(self.listing, base)
-        for text in change.told(self.listing, base, changes, self.unit):
-            self.page.say(text)
+        changes = difference(self.listing, base)
+        for text in Drawdown(self.listing, base, changes, self.unit, self.model).sentences([]):
+            self.page.text(MINUS, text)
+        self.page.text(MINUS, f"The plan is {self.listing.path.name}, the other run {base.path.name}, which wasn't checked: "
+                       "the differences hold only if its pairs are bounds (`heads-tools drawdown` checks both).")
         last = changes[-1]
         middle = self.grid((last.low + last.high) / 2)
         widest = decimal_text(int((last.high - last.low).max()), 9)

@@ -21,7 +21,7 @@ def read_zones(path: Path, nam: Path, shape: tuple[int, int, int]) -> np.ndarray
     """The zone of each cell from a zone file: an array of whole numbers for each layer."""
     reader = Reader(nam)
     reader.at = Source(path, path.name, reader.report)
-    zones = np.array([reader.array(*shape[1:]).floats() for _ in range(shape[0])])
+    zones = np.array([reader.array(*shape[1:], f"the zones of layer {k}").floats() for k in range(1, shape[0] + 1)])
     if (zones != np.round(zones)).any() or (zones < 0).any() or (zones > 999).any():
         raise Problem(f"{path}: a zone is a whole number from 0 to 999")
     return zones.astype(int)

@@ -1,8 +1,6 @@
 """Listings in other programs' forms, calls in Python, heads at points, and the call of MODFLOW-2005."""
 import csv
 import importlib.util
-import shutil
-import struct
 import subprocess
 import sys
 import zipfile

@@ -5,7 +5,7 @@ import numpy as np
 import pytest
 from conftest import heads
 
-from heads_tools.change import difference, told
+from heads_tools.drawdown import difference
 from heads_tools.listing import Step, read_listing
 from heads_tools.zones import net_flows
 
@@ -62,23 +62,9 @@ def test_the_difference_of_two_listings_has_bounds(example, tool, tmp_path):
     wel.write_text(re.sub(r"(?m)-\d+(\.\d*)?$", "0", wel.read_text()))
     base = listed(nam)
     text = page(tool, tmp_path, plan, tmp_path / "look", "--minus", base)
-    assert "the greatest fall of the head is" in text and "minus_layer1.png" in text
+    assert "the plan lowers the head at layer 1 row" in text and "minus_layer1.png" in text
     change, = difference(with_wells, read_listing(base))
     assert (change.low <= change.high).all() and (change.high < 0).any()
-
-
-def made(tmp_path, name, low, high):
-    lines = [f"HEAD 1 1 {n + 1} {a / 10**9:.9f} {b / 10**9:.9f}" for n, (a, b) in enumerate(zip(low, high))]
-    (tmp_path / name).write_text("\n".join(["HEADS 2 DIGITS 3 UNIT 2", "STEP 1 1", *lines, "END", ""]))
-    return read_listing(tmp_path / name)
-
-
-def test_a_difference_is_rounded_outward_and_says_no_more_than_its_bounds(tmp_path):
-    plan, base = made(tmp_path, "a", [10, 20, 30], [11, 22, 30]), made(tmp_path, "b", [40, 21, 30], [42, 25, 30])
-    change, = difference(plan, base)
-    assert change.low.tolist() == [10 - 42, 20 - 25, 0] and change.high.tolist() == [11 - 40, 22 - 21, 0]
-    text = told(plan, base, [change], "m")
-    assert "fall of the head is 0.000000029 to 0.000000032 m, at layer 1 row 1 column 1" in text[0] and "at 1 cell of 3" in text[-1]
 
 
 def test_net_flows_of_zones_are_sums_of_their_bounds():
