@@ -3,7 +3,9 @@ from __future__ import annotations
 
 import argparse
 import os
+import signal
 import sys
+import threading
 from pathlib import Path
 
 from . import __version__
@@ -119,6 +121,11 @@ def parser() -> argparse.ArgumentParser:
     return top
 
 
+def stop(*_: object) -> None:
+    """A signal to end is taken as one from the keyboard, so that the program that was called ends too."""
+    raise KeyboardInterrupt
+
+
 def silence() -> None:
     """Sends what standard output still holds nowhere: it can't be written."""
     os.dup2(os.open(os.devnull, os.O_WRONLY), sys.stdout.fileno())
@@ -144,6 +151,8 @@ def main(words: list[str] | None = None) -> int:
     if rest and args.command not in PASSING:
         top.error(f"unknown words: {' '.join(rest)}")
     from . import commands
+    if threading.current_thread() is threading.main_thread():
+        signal.signal(signal.SIGTERM, stop)
     try:
         status = getattr(commands, "do_" + args.command)(args, rest)
         sys.stdout.flush()

@@ -26,8 +26,8 @@ def say(lines: list[str]) -> None:
     print("\n".join(lines))
 
 
-def steps_of(nam: Path) -> int | None:
-    """The count of a model's time steps, where its DIS can be read."""
+def size_of(nam: Path) -> tuple[int | None, int]:
+    """The count of a model's time steps, where its DIS can be read, and that of its cells."""
     from .packages import Reader
 
     reader = Reader(nam)
@@ -35,12 +35,13 @@ def steps_of(nam: Path) -> int | None:
         reader.read_names()
         reader.read_dis()
     except (Problem, IndexError, ValueError, KeyError):
-        return None
-    return sum(p.nstp for p in reader.deck.periods) or None
+        return None, 0
+    return sum(p.nstp for p in reader.deck.periods) or None, reader.deck.cells
 
 
 def do_run(args: argparse.Namespace, options: list[str]) -> int:
     from .explain import explain
+    from .follow import MOST_WATCHED
     from .inside import careful
     from .program import digits_of, run, summary
 
@@ -48,8 +49,9 @@ def do_run(args: argparse.Namespace, options: list[str]) -> int:
     for warning in careful(nam):
         print(f"CAREFUL: {warning}", file=sys.stderr)
     out = (args.out or nam.with_suffix(".heads")).resolve()
-    digits, tried, steps = digits_of(options), [], steps_of(nam)
-    ended = run(nam, options, out, steps)
+    digits, tried, (steps, cells) = digits_of(options), [], size_of(nam)
+    is_followed = steps is not None and cells * steps <= MOST_WATCHED
+    ended = run(nam, options, out, steps, is_followed=is_followed)
     while ended.status == 3 and ended.last.split()[1:2] in (["22"], ["21"]) and "--digits" not in " ".join(options):
         tried.append(digits)
         fewer = ended.last.split()[1] == "22"
@@ -57,7 +59,7 @@ def do_run(args: argparse.Namespace, options: list[str]) -> int:
         if not 0 <= digits <= MOST_DIGITS or digits in tried:
             break
         print(f"{ended.last}: {'too few' if not fewer else 'too many'} digits; once more with --digits {digits}")
-        ended = run(nam, [*options, "--digits", str(digits)], out, steps)
+        ended = run(nam, [*options, "--digits", str(digits)], out, steps, is_followed=is_followed)
     meaning = explain(ended.last, nam.parent, digits, ended.steps > 0)
     if meaning.is_good:
         say([*meaning.lines, summary(out), f"listing {out} ({ended.seconds:.1f} s" + (f", --digits {digits})" if tried else ")")])

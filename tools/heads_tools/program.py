@@ -12,8 +12,9 @@ from contextlib import nullcontext
 from dataclasses import dataclass
 from pathlib import Path
 
+from .follow import Progress
 from .listing import read_listing
-from .text import Problem, decimal_text, whole_file
+from .text import Problem, whole_file
 
 TOP = Path(__file__).resolve().parents[2]
 BIN = Path(__file__).resolve().parent / "bin"
@@ -118,36 +119,6 @@ def read_alone(nam: Path) -> str | None:
     return None if ended.last.startswith("REFUSED 20 ") else ended.last
 
 
-class Progress:
-    """One line on standard error that tells how far a run is: the step, the widest pair so far, the time."""
-
-    def __init__(self, name: str, steps: int | None):
-        self.name, self.steps, self.began, self.told = name, steps, time.monotonic(), 0.0
-        self.count, self.widest, self.is_live = 0, 0, sys.stderr.isatty()
-
-    def head(self, line: bytes) -> None:
-        words = line.split()
-        if len(words) == 6:
-            self.widest = max(self.widest, int(words[5].replace(b".", b"")) - int(words[4].replace(b".", b"")))
-
-    def step(self) -> None:
-        self.count += 1
-        now = time.monotonic()
-        if now - self.told > (0.2 if self.is_live else 10) or self.count == self.steps:
-            self.told = now
-            self.tell()
-
-    def tell(self) -> None:
-        of = f" of {self.steps}" if self.steps else ""
-        text = f"{self.name}: step {self.count}{of}, widest pair so far {decimal_text(self.widest, 9)}, {time.monotonic() - self.began:.1f} s"
-        print(("\r" if self.is_live else "") + text, end="" if self.is_live else "\n", file=sys.stderr, flush=True)
-
-    def end(self) -> None:
-        if self.is_live and self.count:
-            self.tell()
-            print(file=sys.stderr)
-
-
 def has_steps(path: Path) -> bool:
     """Whether a file is a listing with a step, or its beginning: one that is worth keeping."""
     if not path.is_file():
@@ -171,15 +142,19 @@ def settle_output(new: Path, target: Path) -> Path:
     return place
 
 
-def run(nam: Path, options: list[str], target: Path, steps: int | None = None, is_told: bool = True) -> Ended:
+def run(nam: Path, options: list[str], target: Path, steps: int | None = None, is_told: bool = True, is_followed: bool = False) -> Ended:
     """Runs `heads run` in the model's folder into a file, which gets its name once the run ended (settle_output). What
-    --watch tells goes into a file beside it."""
+    --watch tells goes into a file beside it; a run that `is_followed` is watched for what to say of a slow step."""
     progress = Progress(nam.name, steps)
     began, last, count = time.monotonic(), b"", 0
     is_watched = any(o.startswith("--watch") for o in options)
     new = target.with_name(f".{target.name}.new")
     with whole_file(new, binary=True) as file, (open(target.with_suffix(".watch"), "wb") if is_watched else nullcontext()) as side:
-        process = subprocess.Popen([program(), "run", nam.name, *options], cwd=nam.parent, stdout=subprocess.PIPE, stderr=side)
+        is_followed = is_followed and is_told and not is_watched
+        words = [program(), "run", nam.name, *options, *(["--watch", "1"] if is_followed else [])]
+        process = subprocess.Popen(words, cwd=nam.parent, stdout=subprocess.PIPE, stderr=subprocess.PIPE if is_followed else side)
+        if process.stderr is not None:
+            progress.follow(process.stderr)
         try:
             is_open = False
             for line in process.stdout:

@@ -197,3 +197,26 @@ def test_the_script_runs_from_anywhere(tmp_path):
 
     done = subprocess.run([TOOLS / "heads-tools", "--help"], cwd=tmp_path, capture_output=True, text=True)
     assert done.returncode == 0 and "certify" in done.stdout
+
+
+def test_a_slow_step_tells_its_phase_and_how_many_cells_move(capfd, monkeypatch):
+    import io
+
+    from heads_tools.follow import Progress
+
+    progress = Progress("m.nam", 3)
+    views = b"WATCH 1 2\nHEAD 1 1 2 0.0 9.0\nHEAD 1 1 3 0.0 9.0\nWATCH 1 2\nHEAD 1 1 2 0.0 9.0\nHEAD 1 1 3 1.0 9.0\nanother line\n"
+    progress.step()
+    progress.read(io.BytesIO(views))
+    progress.tell_step()
+    err = capfd.readouterr().err
+    assert "another line" in err and "step 2 of 3 (period 1 step 2): phase 2, 1 of 2 cells still move, 0 s so far" in err, err
+
+
+@pytest.mark.program
+def test_a_run_that_is_followed_writes_the_same_listing(example):
+    from heads_tools.program import run
+
+    nam = example("tide")
+    ended = run(nam, [], nam.with_suffix(".heads"), 48, is_followed=True)
+    assert ended.status == 0 and nam.with_suffix(".heads").read_text() == heads(["run", nam.name], nam.parent).stdout
