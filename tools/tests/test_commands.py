@@ -220,3 +220,17 @@ def test_a_run_that_is_followed_writes_the_same_listing(example):
     nam = example("tide")
     ended = run(nam, [], nam.with_suffix(".heads"), 48, is_followed=True)
     assert ended.status == 0 and nam.with_suffix(".heads").read_text() == heads(["run", nam.name], nam.parent).stdout
+
+
+def test_each_command_stands_in_the_man_page_and_in_the_readme():
+    from heads_tools.cli import parser
+
+    commands = next(a for a in parser()._actions if hasattr(a, "choices") and a.choices).choices
+    page, readme = (TOP / "docs" / "heads-tools.1").read_text(), (TOOLS / "README.md").read_text()
+    for name in commands:
+        assert f"heads\\-tools {name} " in page.replace(f'"heads-tools {name}"', f"heads\\-tools {name} ") and f"`{name}" in readme, name
+
+
+def test_the_version_is_told(tool):
+    status, out, err = tool("--version")
+    assert status == 0 and out == "heads-tools 0.1.0\n" and "version: 0.1.0" in (TOP / "CITATION.cff").read_text()
