@@ -11,14 +11,36 @@ from .text import Problem
 
 __version__ = "0.1.0"
 CALLS = ("certify", "compare", "drawdown", "inside", "look", "plain", "run")
-__all__ = ["Answer", "Listing", "Model", "Place", "Problem", "Step", "certify", "compare", "drawdown", "heads_frame",
-           "inside", "look", "plain", "read_heads", "read_listing", "read_model", "run", "terms_frame", "to_geotiff",
-           "to_netcdf", "to_vtk", "to_xarray", "write_heads"]
+__all__ = [
+    "Answer",
+    "Listing",
+    "Model",
+    "Place",
+    "Problem",
+    "Step",
+    "certify",
+    "compare",
+    "drawdown",
+    "heads_frame",
+    "inside",
+    "look",
+    "plain",
+    "read_heads",
+    "read_listing",
+    "read_model",
+    "run",
+    "terms_frame",
+    "to_geotiff",
+    "to_netcdf",
+    "to_vtk",
+    "to_xarray",
+    "write_heads",
+]
 
 
 class Package(ModuleType):
-    """This package, whose calls keep their names: some of its modules have the same ones, and the first import of a module
-    would put it in the call's place."""
+    """This package, whose calls keep their names: some of its modules have the same ones, and the first import of a
+    module would put it in the call's place."""
 
     def __setattr__(self, name: str, value: object) -> None:
         if not (name in CALLS and isinstance(value, ModuleType)):

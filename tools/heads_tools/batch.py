@@ -1,4 +1,5 @@
-"""batch: runs many models and collects how they ended: by `heads batch`, by single runs, by Slurm or by GNU parallel."""
+"""batch: runs many models and collects how they ended: by `heads batch`, by single runs, by Slurm or by GNU
+parallel."""
 from __future__ import annotations
 
 import os
@@ -65,7 +66,9 @@ def batch(path: Path, options: list[str], way: str, at_once: int, is_written_onl
         run_parallel(path, jobs, options, at_once, is_written_only)
     elif not run_by_program(jobs, options, at_once or os.cpu_count() or 1):
         with ThreadPoolExecutor(at_once or os.cpu_count() or 1) as pool:
-            for done, job in enumerate(pool.map(lambda job: run(job.nam, options, job.listing, is_told=False) and job, jobs), 1):
+            for done, job in enumerate(
+                pool.map(lambda job: run(job.nam, options, job.listing, is_told=False) and job, jobs), 1
+            ):
                 print(f"{done} of {len(jobs)}: {job.name}", file=sys.stderr)
     return 0 if is_written_only and way != "here" else collect(jobs, before, options, path.with_suffix(".ends.csv"))
 
@@ -100,10 +103,18 @@ def collect(jobs: list[Job], before: list[list[tuple[int, int] | None]], options
             steps = cells = width = ""
             if meaning.is_good:
                 listing = read_listing(job.listing)
-                steps, cells, width = len(listing.steps), len(listing.cells), decimal_text(listing.widest()[0] if len(listing.cells) else 0, 9)
+                steps, cells, width = (
+                    len(listing.steps),
+                    len(listing.cells),
+                    decimal_text(listing.widest()[0] if len(listing.cells) else 0, 9),
+                )
             file.write(f"{job.name},{meaning.status},{last[:100]},{steps},{cells},{width}\n")
             good = meaning.is_good and f"END, {counted(steps, 'step')} of {counted(cells, 'cell')}, widest pair {width}"
-            kept = "" if good or not has_steps(job.listing) or output == job.listing else f" ({job.listing.name} is that of an earlier run)"
+            kept = (
+                ""
+                if good or not has_steps(job.listing) or output == job.listing
+                else f" ({job.listing.name} is that of an earlier run)"
+            )
             print(f"{job.name}: {good or meaning.lines[0]}{kept}")
             first = first or meaning.status
     print(f"{counted(len(jobs), 'model')}; a table of their ends: {table}")
@@ -119,7 +130,9 @@ def run_by_program(jobs: list[Job], options: list[str], at_once: int) -> bool:
             names.write("".join(f"{j.nam.name}\n" for j in here))
             names.flush()
             workers = [] if "--workers" in options else ["--workers", str(min(at_once, 64))]
-            done = subprocess.run([program(), "batch", Path(names.name).name, *options, *workers], cwd=folder, capture_output=True)
+            done = subprocess.run(
+                [program(), "batch", Path(names.name).name, *options, *workers], cwd=folder, capture_output=True
+            )
         text = done.stdout.decode("latin-1")
         if text.startswith("USAGE:"):
             return False
@@ -167,7 +180,9 @@ exit $status
 def shell_job(options: list[str]) -> str:
     """What a job does with its name file in $NAM: a run in the model's folder, whose listing gets its name at the end.
     It calls the program itself: the checkout's script hashes its sources at each call."""
-    return SHELL_JOB.format(program=shlex.quote(str(direct_program())), options=" ".join(shlex.quote(o) for o in options))
+    return SHELL_JOB.format(
+        program=shlex.quote(str(direct_program())), options=" ".join(shlex.quote(o) for o in options)
+    )
 
 
 def write_names(path: Path, jobs: list[Job]) -> Path:
@@ -178,17 +193,22 @@ def write_names(path: Path, jobs: list[Job]) -> Path:
 
 
 def run_slurm(path: Path, jobs: list[Job], options: list[str], at_once: int, is_written_only: bool) -> None:
-    """Writes an array job, and submits it and waits for its end. At most `at_once` jobs at a time, 0: as Slurm likes."""
+    """Writes an array job, and submits it and waits for its end. At most `at_once` jobs at a time, 0: as Slurm
+    likes."""
     names, script = write_names(path, jobs), path.with_suffix(".slurm")
     cpus = next((options[n + 1] for n, o in enumerate(options[:-1]) if o == "--workers"), "4")
     limit = f"%{at_once}" if at_once else ""
     with whole_file(script) as file:
-        file.write(f"#!/bin/bash\n#SBATCH --job-name=heads\n#SBATCH --array=1-{len(jobs)}{limit}\n"
-                   f'#SBATCH --cpus-per-task={cpus}\n#SBATCH --output="{path.stem}.%a.log"\n'
-                   f'NAM=$(sed -n "${{SLURM_ARRAY_TASK_ID}}p" {shlex.quote(str(names))})\n{shell_job(options)}')
+        file.write(
+            f"#!/bin/bash\n#SBATCH --job-name=heads\n#SBATCH --array=1-{len(jobs)}{limit}\n"
+            f'#SBATCH --cpus-per-task={cpus}\n#SBATCH --output="{path.stem}.%a.log"\n'
+            f'NAM=$(sed -n "${{SLURM_ARRAY_TASK_ID}}p" {shlex.quote(str(names))})\n{shell_job(options)}'
+        )
     print(f"written: {script} (sbatch --wait {shlex.quote(script.name)})")
     if not is_written_only:
-        call_tool("sbatch", ["sbatch", "--wait", script.name], path.parent, "slurm-wlm (or run where your cluster has it)")
+        call_tool(
+            "sbatch", ["sbatch", "--wait", script.name], path.parent, "slurm-wlm (or run where your cluster has it)"
+        )
 
 
 def run_parallel(path: Path, jobs: list[Job], options: list[str], at_once: int, is_written_only: bool) -> None:
@@ -196,8 +216,11 @@ def run_parallel(path: Path, jobs: list[Job], options: list[str], at_once: int, 
     names, script = write_names(path, jobs), path.with_suffix(".parallel.sh")
     limit = f"--jobs {at_once} " if at_once else ""
     with whole_file(script) as file:
-        file.write(f"#!/bin/bash\n# Further words, as --sshloginfile hosts, go to parallel.\none() {{\nNAM=$1\n{shell_job(options)}}}\nexport -f one\n"
-                   f'parallel {limit}--joblog {shlex.quote(path.stem + ".joblog")} "$@" one {{}} <{shlex.quote(str(names))}\n')
+        file.write(
+            "#!/bin/bash\n# Further words, as --sshloginfile hosts, go to parallel.\none()"
+            f" {{\nNAM=$1\n{shell_job(options)}}}\nexport -f one\nparallel {limit}--joblog"
+            f" {shlex.quote(path.stem + '.joblog')} \"$@\" one {{}} <{shlex.quote(str(names))}\n"
+        )
     script.chmod(0o755)
     print(f"written: {script}")
     if not is_written_only:
@@ -206,7 +229,9 @@ def run_parallel(path: Path, jobs: list[Job], options: list[str], at_once: int, 
 
 def call_tool(tool: str, command: list[str], folder: Path, debian: str) -> None:
     if not shutil.which(tool):
-        raise Problem(f"{tool} isn't here: apt-get install {debian}; the files stand written, --write-only leaves it at that")
+        raise Problem(
+            f"{tool} isn't here: apt-get install {debian}; the files stand written, --write-only leaves it at that"
+        )
     done = subprocess.run(command, cwd=folder, capture_output=True, text=True, errors="replace")
     if done.returncode and done.stderr.strip():
         print(f"{tool} ended with {done.returncode}: {done.stderr.strip().splitlines()[-1][:200]}", file=sys.stderr)

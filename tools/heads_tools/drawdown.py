@@ -1,6 +1,6 @@
-"""Differences of two listings with bounds: what a plan does to heads, budget terms and flows between zones. If one run's
-value lies from l1 to u1 and the other's from l2 to u2, their difference lies from l1 - u2 to u1 - l2: whole numbers,
-outward, with nothing rounded."""
+"""Differences of two listings with bounds: what a plan does to heads, budget terms and flows between zones. If one
+run's value lies from l1 to u1 and the other's from l2 to u2, their difference lies from l1 - u2 to u1 - l2: whole
+numbers, outward, with nothing rounded."""
 from __future__ import annotations
 
 from dataclasses import dataclass, field
@@ -20,8 +20,8 @@ SHOWN = 3
 
 @dataclass
 class Change:
-    """One step of the first listing less that of the second. `low`, `high`: heads in 10^-9 length units, shape (cells,);
-    `nets`: budget terms, into the cells, and `zones`: flows by (from, to), both in 10^-places."""
+    """One step of the first listing less that of the second. `low`, `high`: heads in 10^-9 length units, shape
+    (cells,); `nets`: budget terms, into the cells, and `zones`: flows by (from, to), both in 10^-places."""
 
     period: int
     step: int
@@ -46,8 +46,18 @@ def difference(listing: Listing, base: Listing) -> list[Change]:
         raise Problem(f"{base.path} has none of the periods and steps of {listing.path}")
     places = max(listing.flow_places, base.flow_places)
     scales = 10 ** (places - listing.flow_places), 10 ** (places - base.flow_places)
-    return [Change(s.period, s.step, s.low - t.high, s.high - t.low, places, terms_less(nets(s, scales[0]), nets(t, scales[1])),
-                   terms_less(zone_flows(s, scales[0]), zone_flows(t, scales[1]))) for s, t in pairs]
+    return [
+        Change(
+            s.period,
+            s.step,
+            s.low - t.high,
+            s.high - t.low,
+            places,
+            terms_less(nets(s, scales[0]), nets(t, scales[1])),
+            terms_less(zone_flows(s, scales[0]), zone_flows(t, scales[1])),
+        )
+        for s, t in pairs
+    ]
 
 
 def nets(step: Step, scale: int) -> dict[str, Pair]:
@@ -60,18 +70,25 @@ def zone_flows(step: Step, scale: int) -> dict[tuple[int, int], Pair]:
 
 
 def terms_less(a: dict, b: dict) -> dict:
-    """Terms that one run lacks (a package that it doesn't have) are 0 there; flows between zones have to stand in both."""
-    names = [n for n in a if n in b] if a and isinstance(next(iter(a)), tuple) else list(a) + [n for n in b if n not in a]
+    """Terms that one run lacks (a package that it doesn't have) are 0 there; flows between zones have to stand in
+    both."""
+    names = (
+        [n for n in a if n in b] if a and isinstance(next(iter(a)), tuple) else list(a) + [n for n in b if n not in a]
+    )
     return {name: minus(a.get(name, (0, 0)), b.get(name, (0, 0))) for name in names}
 
 
 def told(low: int, high: int, unit: str, plan: str = "the plan", where: str = "here") -> str:
-    """What a change of the head from low to high (10^-9, plan less base) is, in a sentence, rounded outward to thousandths."""
+    """What a change of the head from low to high (10^-9, plan less base) is, in a sentence, rounded outward to
+    thousandths."""
     if high <= 0:
         return f"{plan} lowers the head {where} by {down(-high, 9, SHOWN)} to {up(-low, 9, SHOWN)} {unit}"
     if low >= 0:
         return f"{plan} raises the head {where} by {down(low, 9, SHOWN)} to {up(high, 9, SHOWN)} {unit}"
-    return f"{plan} changes the head {where} by {down(low, 9, SHOWN)} to {up(high, 9, SHOWN)} {unit}: the bounds don't show which way"
+    return (
+        f"{plan} changes the head {where} by {down(low, 9, SHOWN)} to {up(high, 9, SHOWN)} {unit}: the bounds don't"
+        " show which way"
+    )
 
 
 def told_term(name: str, pair: Pair, places: int, unit: str) -> str:
@@ -90,8 +107,8 @@ def place_of(cell: Cell) -> str:
 
 @dataclass
 class Drawdown:
-    """The changes from base to plan, with what is needed to say them: units, times and the plan's grid, where its model is
-    named. `verdicts`: a sentence on each of the two listings."""
+    """The changes from base to plan, with what is needed to say them: units, times and the plan's grid, where its
+    model is named. `verdicts`: a sentence on each of the two listings."""
 
     plan: Listing
     base: Listing
@@ -112,7 +129,8 @@ class Drawdown:
         return times.get((change.period, change.step), (0.0, None))[1]
 
     def deepest(self, change: Change) -> int:
-        """The place of the cell whose head the plan lowers most, by the least that the bounds show; else changes most."""
+        """The place of the cell whose head the plan lowers most, by the least that the bounds show; else changes
+        most."""
         return int(change.high.argmin() if (change.high < 0).any() else np.maximum(-change.low, change.high).argmax())
 
     def sentences(self, cells: list[Cell]) -> list[str]:
@@ -121,8 +139,14 @@ class Drawdown:
         at = self.deepest(last)
         most = told(int(last.low[at]), int(last.high[at]), self.unit, where=place_of(tuple(self.plan.cells[at])))
         out = [*self.verdicts, f"At the end of {self.at(last)}, {most}, the most of all cells."]
-        out += [told(int(last.low[n]), int(last.high[n]), self.unit, where=place_of(cell)).replace("the plan", "The plan", 1) + "."
-                for cell in cells for n in [self.plan.at(cell)]]
+        out += [
+            told(int(last.low[n]), int(last.high[n]), self.unit, where=place_of(cell)).replace(
+                "the plan", "The plan", 1
+            )
+            + "."
+            for cell in cells
+            for n in [self.plan.at(cell)]
+        ]
         shown = int(((last.low > 0) | (last.high < 0)).sum())
         out.append(f"At {counted(shown, 'cell')} of {len(last.low)} the bounds show which of the two heads is higher.")
         return out
@@ -130,13 +154,15 @@ class Drawdown:
     def term_sentences(self) -> list[str]:
         last = self.changes[-1]
         out = [told_term(name, pair, last.places, self.rate) for name, pair in last.nets.items() if any(pair)]
-        return out + [told_term(f"zone {a} to zone {b}", pair, last.places, self.rate).replace("into the cells", "that way")
-                      for (a, b), pair in last.zones.items()]
+        return out + [
+            told_term(f"zone {a} to zone {b}", pair, last.places, self.rate).replace("into the cells", "that way")
+            for (a, b), pair in last.zones.items()
+        ]
 
 
 def write_changes(it: Drawdown, folder: Path) -> None:
-    """drawdown.csv (base less plan: above 0 where the plan lowers the head), budget_change.csv and zones_change.csv (plan
-    less base), all bounds with all their digits."""
+    """drawdown.csv (base less plan: above 0 where the plan lowers the head), budget_change.csv and zones_change.csv
+    (plan less base), all bounds with all their digits."""
     with whole_file(folder / "drawdown.csv") as file:
         file.write("period,step,time,layer,row,col,drawdown_lower,drawdown_upper\n")
         for change in it.changes:
@@ -148,13 +174,19 @@ def write_changes(it: Drawdown, folder: Path) -> None:
         file.write("period,step,term,net_lower,net_upper\n")
         for change in it.changes:
             for name, (low, high) in change.nets.items():
-                file.write(f"{change.period},{change.step},{name},{decimal_text(low, change.places)},{decimal_text(high, change.places)}\n")
+                file.write(
+                    f"{change.period},{change.step},{name},"
+                    f"{decimal_text(low, change.places)},{decimal_text(high, change.places)}\n"
+                )
     if any(change.zones for change in it.changes):
         with whole_file(folder / "zones_change.csv") as file:
             file.write("period,step,from,to,lower,upper\n")
             for change in it.changes:
                 for (a, b), (low, high) in change.zones.items():
-                    file.write(f"{change.period},{change.step},{a},{b},{decimal_text(low, change.places)},{decimal_text(high, change.places)}\n")
+                    file.write(
+                        f"{change.period},{change.step},{a},{b},"
+                        f"{decimal_text(low, change.places)},{decimal_text(high, change.places)}\n"
+                    )
 
 
 def verdict_of(listing: Listing, nam: Path | None) -> tuple[str, int]:
@@ -168,8 +200,14 @@ def verdict_of(listing: Listing, nam: Path | None) -> tuple[str, int]:
     return f"{seen.name}: {why}; the differences hold only if its pairs are bounds.", seen.status or 0
 
 
-def drawdown(plan: Listing, base: Listing, folder: Path, nam: Path | None = None, base_nam: Path | None = None,
-             cells: list[Cell] | None = None) -> tuple[list[str], int]:
+def drawdown(
+    plan: Listing,
+    base: Listing,
+    folder: Path,
+    nam: Path | None = None,
+    base_nam: Path | None = None,
+    cells: list[Cell] | None = None,
+) -> tuple[list[str], int]:
     """Tables, a map, curves and a page of what a plan does; what there is to say, and the first status of a check that
     isn't 0. `nam`, `base_nam`: the models, for the checks, true widths, times and units."""
     from .drawdown_page import draw
@@ -183,8 +221,14 @@ def drawdown(plan: Listing, base: Listing, folder: Path, nam: Path | None = None
     if base_nam and model and read_model(base_nam).times != model.times:
         raise Problem(f"{base_nam} has other times at the ends of its steps than {nam}")
     told_plan, told_base = verdict_of(plan, nam), verdict_of(base, base_nam)
-    it = Drawdown(plan, base, difference(plan, base), model.length if model else LENGTHS.get(plan.unit, "length units"), model,
-                  [told_plan[0], told_base[0]])
+    it = Drawdown(
+        plan,
+        base,
+        difference(plan, base),
+        model.length if model else LENGTHS.get(plan.unit, "length units"),
+        model,
+        [told_plan[0], told_base[0]],
+    )
     folder.mkdir(parents=True, exist_ok=True)
     write_changes(it, folder)
     draw(it, folder, cells)

@@ -37,7 +37,11 @@ class Grid:
 
 def grid_of(model: Model | None, shape: tuple[int, int, int], unit: str) -> Grid:
     delr, delc = (model.delr, model.delc) if model else (np.ones(shape[2]), np.ones(shape[1]))
-    return Grid(np.concatenate([[0], np.cumsum(delr)]), np.sum(delc) - np.concatenate([[0], np.cumsum(delc)]), unit if model else "columns, rows")
+    return Grid(
+        np.concatenate([[0], np.cumsum(delr)]),
+        np.sum(delc) - np.concatenate([[0], np.cumsum(delc)]),
+        unit if model else "columns, rows",
+    )
 
 
 def save(figure: Figure, path: Path) -> str:
@@ -68,7 +72,9 @@ def draw_fall(axes: Axes, grid: Grid, values: np.ndarray, most: float, cells: li
 
 
 def bar_below(figure: Figure, axes: list[Axes] | Axes, most: float, unit: str) -> None:
-    bar = figure.colorbar(ScalarMappable(Normalize(-most, most), COLOURS + "_r"), ax=axes, orientation="horizontal", shrink=0.7, aspect=40)
+    bar = figure.colorbar(
+        ScalarMappable(Normalize(-most, most), COLOURS + "_r"), ax=axes, orientation="horizontal", shrink=0.7, aspect=40
+    )
     bar.set_label(f"drawdown, {unit}: the plan lowers the head where it is above 0", fontsize=8)
     bar.ax.tick_params(labelsize=7)
 
@@ -89,7 +95,9 @@ def draw_maps(it: Drawdown, folder: Path, page: Page, cells: list[Cell]) -> None
         bar_below(figure, axes, most, it.unit)
         width = int((last.high - last.low).max())
         caption = f"Layer {k + 1}: the middle of the bounds, which are at most {decimal_text(width, 9)} {it.unit} apart"
-        page.picture("Maps", save(figure, folder / f"drawdown_layer{k + 1}.png"), caption + "; one scale for all layers")
+        page.picture(
+            "Maps", save(figure, folder / f"drawdown_layer{k + 1}.png"), caption + "; one scale for all layers"
+        )
 
 
 def draw_curves(it: Drawdown, folder: Path, page: Page, cells: list[Cell]) -> None:
@@ -111,7 +119,11 @@ def draw_curves(it: Drawdown, folder: Path, page: Page, cells: list[Cell]) -> No
     axes.invert_yaxis()
     axes.tick_params(labelsize=7)
     axes.legend(fontsize=7, loc="lower left", bbox_to_anchor=(0, 1), ncol=2, frameon=False)
-    page.picture("Curves", save(figure, folder / "drawdown_curves.png"), "Drawdown over time, bands between its bounds; down is deeper")
+    page.picture(
+        "Curves",
+        save(figure, folder / "drawdown_curves.png"),
+        "Drawdown over time, bands between its bounds; down is deeper",
+    )
 
 
 def draw(it: Drawdown, folder: Path, cells: list[Cell]) -> None:
@@ -121,14 +133,22 @@ def draw(it: Drawdown, folder: Path, cells: list[Cell]) -> None:
     for text in it.sentences(cells):
         page.say(text)
     chosen = cells or [tuple(it.plan.cells[it.deepest(last)].tolist())]
-    rows = [[place_of(c)[3:], decimal_text(-int(last.high[n]), 9), decimal_text(-int(last.low[n]), 9)] for c in chosen for n in [it.plan.at(c)]]
+    rows = [
+        [place_of(c)[3:], decimal_text(-int(last.high[n]), 9), decimal_text(-int(last.low[n]), 9)]
+        for c in chosen
+        for n in [it.plan.at(c)]
+    ]
     page.table(f"Drawdown at cells, {it.at(last)}, {it.unit}", ["cell", "from", "to"], rows)
     draw_maps(it, folder, page, chosen)
     draw_curves(it, folder, page, chosen)
-    terms = [[name, down(low, last.places), up(high, last.places)] for name, (low, high) in last.nets.items() if low or high]
+    terms = [
+        [name, down(low, last.places), up(high, last.places)] for name, (low, high) in last.nets.items() if low or high
+    ]
     page.table(f"Change of the net flow into the cells, {it.at(last)}, {it.rate}", ["term", "from", "to"], terms)
     if last.zones:
-        flows = [[f"{a} to {b}", down(low, last.places), up(high, last.places)] for (a, b), (low, high) in last.zones.items()]
+        flows = [
+            [f"{a} to {b}", down(low, last.places), up(high, last.places)] for (a, b), (low, high) in last.zones.items()
+        ]
         page.table(f"Change of the flow between zones, {it.at(last)}, {it.rate}", ["zones", "from", "to"], flows)
     write_page(page, folder)
 
@@ -149,15 +169,28 @@ def draw_plans(plans: list[Plan], base: str, folder: Path, cells: list[Cell]) ->
     for plan in plans:
         page.say(f"{plan.name}: {plan.ended}")
     unit = drawn[0].it.unit if drawn else ""
-    head, rows = ["plan", "deepest at", "by at least", "at most", *(f"{place_of(c)[3:]}: {side}" for c in cells for side in ("from", "to"))], []
+    head, rows = [
+        "plan",
+        "deepest at",
+        "by at least",
+        "at most",
+        *(f"{place_of(c)[3:]}: {side}" for c in cells for side in ("from", "to")),
+    ], []
     for plan in drawn:
         last, listing = plan.it.changes[-1], plan.it.plan
         places = [plan.it.deepest(last), *(listing.at(c) for c in cells)]
-        row = [text for n in places for text in (decimal_text(-int(last.high[n]), 9), decimal_text(-int(last.low[n]), 9))]
+        row = [
+            text for n in places for text in (decimal_text(-int(last.high[n]), 9), decimal_text(-int(last.low[n]), 9))
+        ]
         rows.append([plan.name, " ".join(map(str, listing.cells[places[0]].tolist())), *row])
     page.table(f"Drawdown at the end of the last step, {unit}", head, rows)
-    terms = [[plan.name, told_term(name, pair, last.places, plan.it.rate)] for plan in drawn for last in [plan.it.changes[-1]]
-             for name, pair in last.nets.items() if any(pair)]
+    terms = [
+        [plan.name, told_term(name, pair, last.places, plan.it.rate)]
+        for plan in drawn
+        for last in [plan.it.changes[-1]]
+        for name, pair in last.nets.items()
+        if any(pair)
+    ]
     page.table("Change of the budget at the end of the last step", ["plan", "change"], terms)
     draw_small_maps(drawn, folder, page, cells)
     write_page(page, folder)
@@ -171,7 +204,7 @@ def draw_small_maps(plans: list[Plan], folder: Path, page: Page, cells: list[Cel
     most = max(float(np.nanmax(np.abs(v))) for v in falls) or 1e-9
     grid = grid_of(plans[0].it.model, falls[0].shape, plans[0].it.unit)
     for first in range(0, len(plans), 12):
-        part = list(zip(plans, falls))[first:first + 12]
+        part = list(zip(plans, falls))[first : first + 12]
         rows = -(-len(part) // 3)
         figure = Figure(figsize=(10, 1.0 + rows * (0.5 + 3.0 * min(grid.ratio, 1.6))), dpi=100, layout="constrained")
         all_axes = figure.subplots(rows, 3, squeeze=False).ravel()
@@ -179,7 +212,11 @@ def draw_small_maps(plans: list[Plan], folder: Path, page: Page, cells: list[Cel
             k = next(k for k in range(len(values)) if np.isfinite(values[k]).any())
             draw_fall(axes, grid, values[k], most, cells, k + 1)
             axes.set_title(f"{plan.name}, layer {k + 1}", fontsize=8)
-        for axes in all_axes[len(part):]:
+        for axes in all_axes[len(part) :]:
             axes.set_axis_off()
         bar_below(figure, list(all_axes), most, plans[0].it.unit)
-        page.picture("Maps", save(figure, folder / f"plans{first // 12 + 1}.png"), "Drawdown of each plan at the end of the last step, in one scale")
+        page.picture(
+            "Maps",
+            save(figure, folder / f"plans{first // 12 + 1}.png"),
+            "Drawdown of each plan at the end of the last step, in one scale",
+        )

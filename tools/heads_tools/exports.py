@@ -20,9 +20,17 @@ if TYPE_CHECKING:
     import pandas
     import xarray
 
-PACKAGES = {"xarray": "python3-xarray python3-netcdf4", "netCDF4": "python3-netcdf4", "pandas": "python3-pandas",
-            "rasterio": "python3-rasterio", "meshio": "python3-meshio"}
-COMMENT = "every exact solution lies between lower and upper where `heads check` certified the listing; rounded outward to doubles"
+PACKAGES = {
+    "xarray": "python3-xarray python3-netcdf4",
+    "netCDF4": "python3-netcdf4",
+    "pandas": "python3-pandas",
+    "rasterio": "python3-rasterio",
+    "meshio": "python3-meshio",
+}
+COMMENT = (
+    "every exact solution lies between lower and upper where `heads check` certified the listing; rounded outward to"
+    " doubles"
+)
 
 
 @dataclass(frozen=True)
@@ -54,7 +62,10 @@ def place_of(text: str) -> Place:
             raise ValueError
         return Place(*map(float, parts[:3]), **({"epsg": int(parts[3])} if len(parts) == 4 else {}))
     except ValueError:
-        raise Problem(f"`{text}`: a place is X0,Y0[,ANGLE[,EPSG]], the grid's lower left corner, degrees against the clock, a code of EPSG") from None
+        raise Problem(
+            f"`{text}`: a place is X0,Y0[,ANGLE[,EPSG]], the grid's lower left corner, degrees against the clock, a"
+            " code of EPSG"
+        ) from None
 
 
 def package(name: str) -> Any:
@@ -62,7 +73,9 @@ def package(name: str) -> Any:
     try:
         return importlib.import_module(name)
     except ImportError:
-        raise Problem(f"this needs the Python package {name}: apt-get install {PACKAGES[name]}, or pip install {name}") from None
+        raise Problem(
+            f"this needs the Python package {name}: apt-get install {PACKAGES[name]}, or pip install {name}"
+        ) from None
 
 
 def outward(units: int, places: int, side: int) -> float:
@@ -82,8 +95,8 @@ def time_of(model: Model | None, step: Step) -> float:
 
 
 def to_xarray(listing: Listing, model: Model | None = None, place: Place = Place()) -> xarray.Dataset:
-    """Lower and upper heads by time (step without a model), layer, y and x; a grid that is turned has rows and columns, and
-    the coordinates of their middles."""
+    """Lower and upper heads by time (step without a model), layer, y and x; a grid that is turned has rows and
+    columns, and the coordinates of their middles."""
     xarray = package("xarray")
     shape = model.shape if model else listing.shape
     rows, cols, axes = np.arange(1, shape[1] + 1), np.arange(1, shape[2] + 1), ("row", "col")
@@ -92,27 +105,49 @@ def to_xarray(listing: Listing, model: Model | None = None, place: Place = Place
         x, y = middles(model)
         if place.angle:
             wx, wy = place.world(*np.meshgrid(x, y))
-            coords |= {"x": (("row", "col"), wx, {"units": model.length}), "y": (("row", "col"), wy, {"units": model.length})}
+            coords |= {
+                "x": (("row", "col"), wx, {"units": model.length}),
+                "y": (("row", "col"), wy, {"units": model.length}),
+            }
         else:
             axes = ("y", "x")
-            coords = {"layer": coords["layer"], "y": ("y", place.y + y, {"units": model.length}), "x": ("x", place.x + x, {"units": model.length})}
+            coords = {
+                "layer": coords["layer"],
+                "y": ("y", place.y + y, {"units": model.length}),
+                "x": ("x", place.x + x, {"units": model.length}),
+            }
     first = "time" if model else "step"
     if model:
-        coords["time"] = ("time", [time_of(model, s) for s in listing.steps], {"long_name": "time since the start", "model_unit": model.time})
-    coords |= {"period": (first, [s.period for s in listing.steps]), "step_of_period": (first, [s.step for s in listing.steps])}
+        coords["time"] = (
+            "time",
+            [time_of(model, s) for s in listing.steps],
+            {"long_name": "time since the start", "model_unit": model.time},
+        )
+    coords |= {
+        "period": (first, [s.period for s in listing.steps]),
+        "step_of_period": (first, [s.step for s in listing.steps]),
+    }
     dims = (first, "layer", *axes)
     about = {"units": LENGTHS.get(listing.unit, "length units"), "comment": COMMENT}
     data = {"lower": (dims, listing.lower(shape), about), "upper": (dims, listing.upper(shape), about)}
-    attrs = {"source": f"heads, {listing.path.name}, {listing.digits} digits, ends with {listing.end or 'a part of a step'}"}
+    attrs = {
+        "source": f"heads, {listing.path.name}, {listing.digits} digits, ends with {listing.end or 'a part of a step'}"
+    }
     return xarray.Dataset(data, coords, attrs | ({"crs": f"EPSG:{place.epsg}"} if place.epsg else {}))
 
 
 def heads_frame(listing: Listing, model: Model | None = None, place: Place = Place()) -> pandas.DataFrame:
     """A row for each step and cell: period, step, time, layer, row, col, x, y (with a model), lower, upper."""
     pandas = package("pandas")
-    lower, upper = (np.concatenate([grid[tuple((listing.cells - 1).T)] for grid in side]) for side in (listing.lower(), listing.upper()))
+    lower, upper = (
+        np.concatenate([grid[tuple((listing.cells - 1).T)] for grid in side])
+        for side in (listing.lower(), listing.upper())
+    )
     n, steps = len(listing.cells), listing.steps
-    columns: dict[str, Any] = {"period": np.repeat([s.period for s in steps], n), "step": np.repeat([s.step for s in steps], n)}
+    columns: dict[str, Any] = {
+        "period": np.repeat([s.period for s in steps], n),
+        "step": np.repeat([s.step for s in steps], n),
+    }
     if model:
         columns["time"] = np.repeat([time_of(model, s) for s in steps], n)
     columns |= {name: np.tile(listing.cells[:, at], len(steps)) for at, name in enumerate(("layer", "row", "col"))}
@@ -126,7 +161,18 @@ def heads_frame(listing: Listing, model: Model | None = None, place: Place = Pla
 def terms_frame(listing: Listing, model: Model | None = None) -> pandas.DataFrame:
     """A row for each step and budget term, rates: in, out and net (narrowed to what the other terms leave), outward."""
     pandas = package("pandas")
-    names = ["period", "step", "time", "term", "in_lower", "in_upper", "out_lower", "out_upper", "net_lower", "net_upper"]
+    names = [
+        "period",
+        "step",
+        "time",
+        "term",
+        "in_lower",
+        "in_upper",
+        "out_lower",
+        "out_upper",
+        "net_lower",
+        "net_upper",
+    ]
     rows = []
     for step in listing.steps:
         budget = budget_of(step)
@@ -143,8 +189,8 @@ def to_netcdf(path: Path, listing: Listing, model: Model | None = None, place: P
 
 
 def to_geotiff(path: Path, listing: Listing, model: Model, place: Place = Place(), at: int = -1) -> None:
-    """A picture element for each cell of a grid of equal widths; for each layer a band of lower and one of upper heads of
-    a step, the last one where it isn't named."""
+    """A picture element for each cell of a grid of equal widths; for each layer a band of lower and one of upper
+    heads of a step, the last one where it isn't named."""
     rasterio = package("rasterio")
     from rasterio.transform import Affine
 
@@ -152,11 +198,25 @@ def to_geotiff(path: Path, listing: Listing, model: Model, place: Place = Place(
         if widths.max() - widths.min() > 1e-9 * widths.max():
             raise Problem(f"a GeoTIFF has cells of one width, and {name} differs: take NetCDF or VTK")
     x, y = place.world(np.array(0.0), np.array(model.delc.sum()))
-    transform = Affine.translation(float(x), float(y)) * Affine.rotation(place.angle) * Affine.scale(model.delr[0], -model.delc[0])
+    transform = (
+        Affine.translation(float(x), float(y))
+        * Affine.rotation(place.angle)
+        * Affine.scale(model.delr[0], -model.delc[0])
+    )
     lower, upper = listing.lower(model.shape)[at], listing.upper(model.shape)[at]
     nlay, nrow, ncol = model.shape
-    options = {"driver": "GTiff", "width": ncol, "height": nrow, "count": 2 * nlay, "dtype": "float64", "nodata": math.nan, "compress": "deflate"}
-    with rasterio.open(path, "w", transform=transform, crs=f"EPSG:{place.epsg}" if place.epsg else None, **options) as file:
+    options = {
+        "driver": "GTiff",
+        "width": ncol,
+        "height": nrow,
+        "count": 2 * nlay,
+        "dtype": "float64",
+        "nodata": math.nan,
+        "compress": "deflate",
+    }
+    with rasterio.open(
+        path, "w", transform=transform, crs=f"EPSG:{place.epsg}" if place.epsg else None, **options
+    ) as file:
         for k in range(nlay):
             for band, (name, values) in enumerate((("lower", lower), ("upper", upper)), 2 * k + 1):
                 file.write(values[k], band)
@@ -164,7 +224,8 @@ def to_geotiff(path: Path, listing: Listing, model: Model, place: Place = Place(
 
 
 def to_vtk(path: Path, listing: Listing, model: Model, place: Place = Place(), at: int = -1) -> None:
-    """A hexahedron for each cell with flow, with its lower and upper head of a step, the last one where it isn't named."""
+    """A hexahedron for each cell with flow, with its lower and upper head of a step, the last one where it isn't
+    named."""
     meshio = package("meshio")
     x = np.concatenate([[0], np.cumsum(model.delr)])
     y = model.delc.sum() - np.concatenate([[0], np.cumsum(model.delc)])
@@ -182,17 +243,23 @@ FORMATS = ("nc", "tif", "vtu", "csv")
 
 
 def export(listing: Listing, folder: Path, model: Model, place: Place, formats: list[str]) -> list[str]:
-    """Writes the formats into a folder; a sentence on each. One whose package is missing, or that can't hold the grid, is
-    an error only where it was asked for alone."""
+    """Writes the formats into a folder; a sentence on each. One whose package is missing, or that can't hold the
+    grid, is an error only where it was asked for alone."""
     folder.mkdir(parents=True, exist_ok=True)
-    write = {"nc": lambda p: to_netcdf(p, listing, model, place), "tif": lambda p: to_geotiff(p, listing, model, place),
-             "vtu": lambda p: to_vtk(p, listing, model, place), "csv": lambda p: heads_frame(listing, model, place).to_csv(p, index=False)}
+    write = {
+        "nc": lambda p: to_netcdf(p, listing, model, place),
+        "tif": lambda p: to_geotiff(p, listing, model, place),
+        "vtu": lambda p: to_vtk(p, listing, model, place),
+        "csv": lambda p: heads_frame(listing, model, place).to_csv(p, index=False),
+    }
     said = []
     for name in formats:
         path = folder / f"heads.{name}"
         try:
             write[name](path)
-            said.append(f"written: {path}" + (" (the last step)" if name in ("tif", "vtu") and len(listing.steps) > 1 else ""))
+            said.append(
+                f"written: {path}" + (" (the last step)" if name in ("tif", "vtu") and len(listing.steps) > 1 else "")
+            )
         except Problem as error:
             if len(formats) == 1:
                 raise

@@ -40,14 +40,25 @@ class Progress:
 
     def tell(self) -> None:
         of = f" of {self.steps}" if self.steps else ""
-        self.show(f"{self.name}: step {self.count}{of}, widest pair so far {decimal_text(self.widest, 9)}, {time.monotonic() - self.began:.1f} s")
+        self.show(
+            f"{self.name}: step {self.count}{of}, widest pair so far {decimal_text(self.widest, 9)},"
+            f" {time.monotonic() - self.began:.1f} s"
+        )
 
     def show(self, text: str) -> None:
-        print(("\r" + text.ljust(79)) if self.is_live else text, end="" if self.is_live else "\n", file=sys.stderr, flush=True)
+        print(
+            ("\r" + text.ljust(79)) if self.is_live else text,
+            end="" if self.is_live else "\n",
+            file=sys.stderr,
+            flush=True,
+        )
 
     def follow(self, stream: IO[bytes]) -> None:
         """Reads the views of --watch 1 from a run's standard error, and tells of a slow step until the run ends."""
-        self.threads = [threading.Thread(target=target, args=args, daemon=True) for target, args in ((self.read, (stream,)), (self.tick, ()))]
+        self.threads = [
+            threading.Thread(target=target, args=args, daemon=True)
+            for target, args in ((self.read, (stream,)), (self.tick, ()))
+        ]
         for thread in self.threads:
             thread.start()
 
@@ -82,8 +93,12 @@ class Progress:
         of = f" of {self.steps}" if self.steps else ""
         period, _, step = self.place.partition(" ")
         where = f" (period {period} step {step})" if step else ""
-        moving = "" if self.moving is None else f"phase {self.views}, {self.moving} of {len(self.view)} cells still move, "
-        self.show(f"{self.name}: step {self.count + 1}{of}{where}: {moving}{time.monotonic() - self.step_began:.0f} s so far")
+        moving = (
+            "" if self.moving is None else f"phase {self.views}, {self.moving} of {len(self.view)} cells still move, "
+        )
+        self.show(
+            f"{self.name}: step {self.count + 1}{of}{where}: {moving}{time.monotonic() - self.step_began:.0f} s so far"
+        )
 
     def end(self) -> None:
         self.ended.set()

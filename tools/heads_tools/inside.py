@@ -46,13 +46,24 @@ def inside(nam: Path, most: int = 12) -> Verdict:
         model = model_of(deck)
         look_at_cells(model, report)
         look_at_entries(model, report)
-    told = confirmed(nam, model, bool(report.needed)) if model and not report.refusals and not report.blocking else Told([], True)
+    told = (
+        confirmed(nam, model, bool(report.needed))
+        if model and not report.refusals and not report.blocking
+        else Told([], True)
+    )
     is_inside = told.is_read and not report.refusals and not (report.needed and report.blocking)
     out = headline(report, told, most)
     if report.precise:
         numbers = "1 number has" if report.precise == 1 else f"{report.precise} numbers have"
-        report.add("warnings", report.first_precise, 0, f"{numbers} more than seven digits: "
-                   "MODFLOW-2005 keeps 24 bits of each, `heads` all digits, so perfect heads of MODFLOW can lie outside the pairs")
+        report.add(
+            "warnings",
+            report.first_precise,
+            0,
+            (
+                f"{numbers} more than seven digits: MODFLOW-2005 keeps 24 bits of each, `heads` all digits, so perfect"
+                " heads of MODFLOW can lie outside the pairs"
+            ),
+        )
     warnings = ([] if report.refusals else report.blocking) + report.warnings
     if warnings:
         out.append("CAREFUL:")
@@ -67,10 +78,17 @@ def headline(report: Report, told: Told, most: int) -> list[str]:
         out = [f"NOT INSIDE, for {counted(len(reasons), 'reason')}:", *listed(reasons, most)]
         return out + (["`heads-tools plain` could change:", *listed(report.needed, most)] if report.needed else [])
     if not told.is_read:
-        out = ["NOT INSIDE, the program refuses it" + (" after `heads-tools plain`, too:" if report.needed else ":"), *told.lines]
+        out = [
+            "NOT INSIDE, the program refuses it" + (" after `heads-tools plain`, too:" if report.needed else ":"),
+            *told.lines,
+        ]
         return out + (["`heads-tools plain` would change:", *listed(report.needed, most)] if report.needed else [])
     if report.needed:
-        said = "NOT INSIDE AS IT IS, and `heads-tools plain` would change:" if report.blocking else "INSIDE AFTER `heads-tools plain`, which would change:"
+        said = (
+            "NOT INSIDE AS IT IS, and `heads-tools plain` would change:"
+            if report.blocking
+            else "INSIDE AFTER `heads-tools plain`, which would change:"
+        )
         return [said, *listed(report.needed, most)]
     return ["INSIDE as it is"]
 
@@ -91,10 +109,13 @@ def listed(remarks: list, most: int) -> list[str]:
 def look_at_cells(model: Model, report: Report) -> None:
     """Values that the program refuses in cells with flow."""
     deck, active = model.deck, model.ibound != 0
-    tests = [("DIS", "its top isn't above its bottom", model.thick <= 0),
-             ("LPF", "HK isn't above 0 (MODFLOW makes such a cell inactive: write IBOUND 0)", model.hk <= 0),
-             ("LPF", "HANI isn't above 0", model.hani <= 0), ("LPF", "SS is below 0", model.ss < 0),
-             ("BAS6", "STRT is past 4,000,000,000", np.abs(model.strt) > 4e9)]
+    tests = [
+        ("DIS", "its top isn't above its bottom", model.thick <= 0),
+        ("LPF", "HK isn't above 0 (MODFLOW makes such a cell inactive: write IBOUND 0)", model.hk <= 0),
+        ("LPF", "HANI isn't above 0", model.hani <= 0),
+        ("LPF", "SS is below 0", model.ss < 0),
+        ("BAS6", "STRT is past 4,000,000,000", np.abs(model.strt) > 4e9),
+    ]
     if model.shape[0] > 1:
         tests.append(("LPF", "VKA isn't above 0", model.vk <= 0))
         below = np.zeros_like(active)
@@ -115,7 +136,12 @@ def look_at_given_heads(deck: Deck, report: Report) -> None:
     for e in (e for entries in deck.lists.get("CHD", []) for e in entries or []):
         k, i, j = e.cell
         if 1 <= k <= deck.nlay and 1 <= i <= deck.nrow and 1 <= j <= deck.ncol and ibound[k - 1][i - 1, j - 1] == 0:
-            report.add("warnings", e.file, e.line, "CHD in a cell without flow (IBOUND 0): MODFLOW-2005 stops here, for `heads` the entry has no effect")
+            report.add(
+                "warnings",
+                e.file,
+                e.line,
+                "CHD in a cell without flow (IBOUND 0): MODFLOW-2005 stops here, for `heads` the entry has no effect",
+            )
 
 
 def look_at_entries(model: Model, report: Report) -> None:
@@ -127,11 +153,20 @@ def look_at_entries(model: Model, report: Report) -> None:
             seen: set[tuple[int, int, int]] = set()
             for e in entries or []:
                 no_heads = ("WEL", 0), ("RIV", 1), ("DRN", 1), ("GHB", 1)
-                heads = [float(w.replace("D", "E").replace("d", "e")) for n, w in enumerate(e.words) if (kind, n) not in no_heads]
+                heads = [
+                    float(w.replace("D", "E").replace("d", "e"))
+                    for n, w in enumerate(e.words)
+                    if (kind, n) not in no_heads
+                ]
                 if any(abs(h) > 4e9 for h in heads):
                     report.add("refusals", e.file, e.line, "a head or an elevation past 4,000,000,000")
                 if kind == "CHD" and e.cell in seen:
-                    report.add("refusals", e.file, e.line, "the cell stands twice in this CHD list (MODFLOW-2005 adds the two heads)")
+                    report.add(
+                        "refusals",
+                        e.file,
+                        e.line,
+                        "the cell stands twice in this CHD list (MODFLOW-2005 adds the two heads)",
+                    )
                 seen.add(e.cell)
     for kind, areal in deck.areal.items():
         layers = {"RCH": "IRCH", "EVT": "IEVT"}[kind]
@@ -143,7 +178,8 @@ def look_at_entries(model: Model, report: Report) -> None:
 
 
 def digits_lines(model: Model) -> list[str]:
-    """Which --digits have room for the model's conductances, by doubles: a neighbour of a limit may fall on its other side."""
+    """Which --digits have room for the model's conductances, by doubles: a neighbour of a limit may fall on its other
+    side."""
     network = Network(model)
     most, least, flow = 0.0, network.least_branch(), 0.0
     given: dict = {}
@@ -156,13 +192,18 @@ def digits_lines(model: Model) -> list[str]:
     if flow:
         ceiling = min(ceiling, math.floor(math.log10(MOST_FLOW / flow) - 1e-9) - 9)
     floor = 0 if not math.isfinite(least) else max(0, math.ceil(-math.log10(least) + 1e-9))
-    facts = f"conductances at a cell sum to {short_up(most)} at most" + (f", the least branch is {short_down(least)}" if math.isfinite(least) else "")
+    facts = f"conductances at a cell sum to {short_up(most)} at most" + (
+        f", the least branch is {short_down(least)}" if math.isfinite(least) else ""
+    )
     if ceiling < 0 or floor > min(18, ceiling):
         return [f"digits: {facts}; no --digits takes both (from {floor} up, to {ceiling} down): NOBOUND 21 or 22"]
     high = min(18, ceiling)
     if floor <= DEFAULT_DIGITS <= high:
         return [f"digits: {facts}; --digits {floor} to {high} fit, the default of {DEFAULT_DIGITS} among them"]
-    return [f"digits: {facts}; give --digits {min(high, max(floor, DEFAULT_DIGITS))} ({floor} to {high} fit, the default of {DEFAULT_DIGITS} doesn't)"]
+    return [
+        f"digits: {facts}; give --digits {min(high, max(floor, DEFAULT_DIGITS))} ({floor} to {high} fit, the default of"
+        f" {DEFAULT_DIGITS} doesn't)"
+    ]
 
 
 def confirmed(nam: Path, model: Model, is_rewritten: bool) -> Told:

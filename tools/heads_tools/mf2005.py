@@ -1,6 +1,7 @@
-"""mf2005: runs `heads` as MODFLOW-2005 is called, for FloPy, ModelMuse and scripts: the name file as the one word, head
-file at the unit of the name file, a list file with the budget, and the words 'Normal termination of simulation'. Written
-from the documented call and files; the heads are the middles of the pairs, which lie beside the head file in NAME.heads."""
+"""mf2005: runs `heads` as MODFLOW-2005 is called, for FloPy, ModelMuse and scripts: the name file as the one word,
+head file at the unit of the name file, a list file with the budget, and the words 'Normal termination of simulation'.
+Written from the documented call and files; the heads are the middles of the pairs, which lie beside the head file in
+NAME.heads."""
 from __future__ import annotations
 
 import re
@@ -25,7 +26,8 @@ NORMAL = "Normal termination of simulation"
 
 @dataclass
 class Output:
-    """What the name file and the output control ask for: the list file, the head file, the steps whose heads are saved."""
+    """What the name file and the output control ask for: the list file, the head file, the steps whose heads are
+    saved."""
 
     list_file: Path | None = None
     head_file: Path | None = None
@@ -93,7 +95,8 @@ def saved_by_numbers(lines: list[str], model: Model) -> tuple[str, set[tuple[int
 
 
 def simulate(nam: Path, options: list[str]) -> tuple[Ended, Path, Model]:
-    """Runs the deck, or the plain one where the program refuses the deck as it stands; how it ended, the listing, the model."""
+    """Runs the deck, or the plain one where the program refuses the deck as it stands; how it ended, the listing, the
+    model."""
     target = nam.with_suffix(".heads")
     ended = run(nam, options, target, is_told=False)
     if ended.status != 2:
@@ -120,8 +123,14 @@ def mf2005(words: list[str]) -> int:
         return ended.status or 6
     listing, out = read_listing(target), output_of(nam, model)
     if out.head_file is not None and out.saved:
-        chosen = Listing(listing.path, listing.digits, listing.unit, [s for s in listing.steps if (s.period, s.step) in out.saved],
-                         listing.cells, listing.end)
+        chosen = Listing(
+            listing.path,
+            listing.digits,
+            listing.unit,
+            [s for s in listing.steps if (s.period, s.step) in out.saved],
+            listing.cells,
+            listing.end,
+        )
         write_heads(out.head_file, chosen, "middle", model.shape, model.times, is_single=True, no_flow=no_flow(nam))
     if out.list_file is not None:
         write_list(out.list_file, nam, listing, model)
@@ -150,8 +159,11 @@ def write_list(path: Path, nam: Path, listing: Listing, model: Model) -> None:
     """A list file with a budget and a time summary for each step, in the form that FloPy's reader of budgets takes."""
     volumes = {name: [0.0, 0.0] for name in TERMS}
     with whole_file(path) as file:
-        file.write(f"                                  heads\n      BOUNDS OF THE EQUATIONS OF MODFLOW-2005; LISTING {listing.path.name}, NAME FILE {nam.name}\n"
-                   " HEADS AND FLOWS HERE ARE THE MIDDLES OF THE LISTED PAIRS, WITHOUT BOUNDS\n\n")
+        file.write(
+            "                                  heads\n      BOUNDS OF THE EQUATIONS OF MODFLOW-2005; LISTING"
+            f" {listing.path.name}, NAME FILE {nam.name}\n HEADS AND FLOWS HERE ARE THE MIDDLES OF THE LISTED PAIRS,"
+            " WITHOUT BOUNDS\n\n"
+        )
         begin = 0.0
         for step in listing.steps:
             within, total = model.times[step.period, step.step]
@@ -178,11 +190,16 @@ def number_text(value: float) -> str:
 def budget_text(step: Step, volumes: dict[str, list[float]], rates: dict[str, tuple[float, float]]) -> str:
     title = f"VOLUMETRIC BUDGET FOR ENTIRE MODEL AT END OF TIME STEP {step.step:4d}, STRESS PERIOD {step.period:4d}"
     line = lambda name, a, b: f"{name:>20} ={number_text(a)}     {name:>16} ={number_text(b)}\n"
-    out = [f"\n  {title}\n  {'-' * len(title)}\n\n     CUMULATIVE VOLUMES      L**3       RATES FOR THIS TIME STEP      L**3/T\n"
-           "     ------------------                 ------------------------\n"]
+    out = [
+        f"\n  {title}\n  {'-' * len(title)}\n\n     CUMULATIVE VOLUMES      L**3       RATES FOR THIS TIME STEP     "
+        " L**3/T\n     ------------------                 ------------------------\n"
+    ]
     totals = []
     for side, word in ((0, "IN"), (1, "OUT")):
-        out.append(f"\n{word + ':':>14}                                     {word + ':':>4}\n{'---':>14}                                     {'---':>4}\n")
+        out.append(
+            f"\n{word + ':':>14}                                     {word + ':':>4}\n{'---':>14}                      "
+            f"               {'---':>4}\n"
+        )
         out += [line(name, volumes[name][side], rates[name][side]) for name in rates]
         totals.append((sum(v[side] for v in volumes.values()), sum(r[side] for r in rates.values())))
         out.append("\n" + line(f"TOTAL {word}", *totals[-1]))
@@ -195,8 +212,13 @@ def budget_text(step: Step, volumes: dict[str, list[float]], rates: dict[str, tu
 def time_text(step: Step, times: tuple[float, float, float], seconds: float) -> str:
     names = ("  TIME STEP LENGTH", "STRESS PERIOD TIME", "        TOTAL TIME")
     parts = (1.0, 60.0, 3600.0, 86400.0, 31557600.0)
-    out = [f"\n         TIME SUMMARY AT END OF TIME STEP {step.step:4d} IN STRESS PERIOD {step.period:4d}\n"
-           "                    SECONDS     MINUTES      HOURS       DAYS        YEARS\n"
-           "                    -----------------------------------------------------------\n"]
-    out += [f"{name} " + " ".join(f"{time * seconds / part:11.5G}" for part in parts) + "\n" for name, time in zip(names, times)]
+    out = [
+        f"\n         TIME SUMMARY AT END OF TIME STEP {step.step:4d} IN STRESS PERIOD {step.period:4d}\n"
+        "                    SECONDS     MINUTES      HOURS       DAYS        YEARS\n"
+        "                    -----------------------------------------------------------\n"
+    ]
+    out += [
+        f"{name} " + " ".join(f"{time * seconds / part:11.5G}" for part in parts) + "\n"
+        for name, time in zip(names, times)
+    ]
     return "".join(out) + "\n"

@@ -34,7 +34,10 @@ def read_points(path: Path, model: Model, place: Place) -> list[Point]:
         raise Problem(f"{path} has no line")
     header = [w.strip().lower() for w in lines[0].split(",")]
     if {"x", "y"} <= set(header) or {"row", "col"} <= set(header):
-        return [table_point(path, n, row, model, place) for n, row in enumerate(csv.DictReader([",".join(header), *lines[1:]]), 2)]
+        return [
+            table_point(path, n, row, model, place)
+            for n, row in enumerate(csv.DictReader([",".join(header), *lines[1:]]), 2)
+        ]
     return hob_points(path, lines, model)
 
 
@@ -48,7 +51,9 @@ def table_point(path: Path, n: int, row: dict, model: Model, place: Place) -> Po
             i, j = int(row["row"]), int(row["col"])
         return Point((row.get("name") or f"point {n - 1}").strip(), (layer, i, j), number("time"), number("measured"))
     except (ValueError, TypeError, KeyError):
-        raise Problem(f"{path}, line {n}: a line is name,x,y or name,row,col, with layer, time and measured where they are known") from None
+        raise Problem(
+            f"{path}, line {n}: a line is name,x,y or name,row,col, with layer, time and measured where they are known"
+        ) from None
     except Problem as error:
         raise Problem(f"{path}, line {n}: {error}") from None
 
@@ -60,11 +65,14 @@ def cell_at(model: Model, place: Place, x: float, y: float) -> tuple[int, int]:
     down = float(south[-1]) - gy
     if not (0 <= gx <= east[-1] and 0 <= down <= south[-1]):
         raise Problem(f"x {x:g}, y {y:g} lies outside the grid (is --at right?)")
-    return min(int(np.searchsorted(south, down, "right")) + 1, len(south)), min(int(np.searchsorted(east, gx, "right")) + 1, len(east))
+    return min(int(np.searchsorted(south, down, "right")) + 1, len(south)), min(
+        int(np.searchsorted(east, gx, "right")) + 1, len(east)
+    )
 
 
 def hob_points(path: Path, lines: list[str], model: Model) -> list[Point]:
-    """The observations of a HOB file: those of one layer, at the head of their cell (ROFF and COFF aren't interpolated)."""
+    """The observations of a HOB file: those of one layer, at the head of their cell (ROFF and COFF aren't
+    interpolated)."""
     try:
         count, multiplier = int(quoted_words(lines[0])[0]), float(quoted_words(lines[1])[0])
         begins = [0.0, *np.cumsum([float(p.perlen) for p in model.deck.periods])]
@@ -79,7 +87,7 @@ def hob_points(path: Path, lines: list[str], model: Model) -> list[Point]:
                 points.append(Point(name, cell, begins[reference - 1] + offset * multiplier, float(w[8])))
                 continue
             at += 1
-            for line in lines[at:at - reference]:
+            for line in lines[at : at - reference]:
                 v = quoted_words(line)
                 points.append(Point(v[0], cell, begins[int(v[1]) - 1] + float(v[2]) * multiplier, float(v[3])))
             at -= reference
@@ -89,8 +97,8 @@ def hob_points(path: Path, lines: list[str], model: Model) -> list[Point]:
 
 
 def head_at(listing: Listing, model: Model, point: Point, n: int) -> tuple[int, int]:
-    """The pair of a point in 10^-9: at the end of step n, or between two ends by the time, which encloses the straight line
-    between exact heads."""
+    """The pair of a point in 10^-9: at the end of step n, or between two ends by the time, which encloses the
+    straight line between exact heads."""
     at = listing.at(point.cell)
     step = listing.steps[n]
     low, high = int(step.low[at]), int(step.high[at])
@@ -102,27 +110,47 @@ def head_at(listing: Listing, model: Model, point: Point, n: int) -> tuple[int, 
     share = (point.time - begin) / (end - begin)
     old_low, old_high = int(before.low[at]), int(before.high[at])
     slack = 2 + (abs(high) + abs(low) + abs(old_low) + abs(old_high)) * 4e-16
-    return math.floor(old_low + share * (low - old_low) - slack), math.ceil(old_high + share * (high - old_high) + slack)
+    return math.floor(old_low + share * (low - old_low) - slack), math.ceil(
+        old_high + share * (high - old_high) + slack
+    )
 
 
 def rows_of(listing: Listing, model: Model, points: list[Point]) -> list[list[str]]:
-    """A row for each point: name, layer, row, col, time, lower, upper, measured, and measured less upper and less lower."""
+    """A row for each point: name, layer, row, col, time, lower, upper, measured, and measured less upper and less
+    lower."""
     ends = [model.times[s.period, s.step][1] for s in listing.steps]
     out = []
     for p in points:
         if p.time is not None and p.time > ends[-1] * (1 + 1e-12):
             raise Problem(f"{p.name}: time {p.time:g} lies after the listing's last step, {ends[-1]:g}")
-        for n in range(len(ends)) if p.time is None else [min(int(np.searchsorted(ends, p.time * (1 - 1e-12))), len(ends) - 1)]:
+        for n in (
+            range(len(ends))
+            if p.time is None
+            else [min(int(np.searchsorted(ends, p.time * (1 - 1e-12))), len(ends) - 1)]
+        ):
             low, high = head_at(listing, model, p, n)
             measured = ["", "", ""]
             if p.measured is not None:
                 measured = [f"{p.measured:.12g}", f"{p.measured - high / 1e9:.6g}", f"{p.measured - low / 1e9:.6g}"]
             time = ends[n] if p.time is None else p.time
-            out.append([p.name, *map(str, p.cell), f"{time:.12g}", decimal_text(low, 9), decimal_text(high, 9), *measured])
+            out.append(
+                [p.name, *map(str, p.cell), f"{time:.12g}", decimal_text(low, 9), decimal_text(high, 9), *measured]
+            )
     return out
 
 
-HEADER = ["name", "layer", "row", "col", "time", "lower", "upper", "measured", "measured_less_upper", "measured_less_lower"]
+HEADER = [
+    "name",
+    "layer",
+    "row",
+    "col",
+    "time",
+    "lower",
+    "upper",
+    "measured",
+    "measured_less_upper",
+    "measured_less_lower",
+]
 
 
 def observe(listing: Listing, model: Model, path: Path, place: Place, out: Path | None) -> list[str]:

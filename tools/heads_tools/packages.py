@@ -1,4 +1,5 @@
-"""Reads a deck in any spelling of the MODFLOW family, with all that is remarkable in it and not the first fault alone."""
+"""Reads a deck in any spelling of the MODFLOW family, with all that is remarkable in it and not the first fault
+alone."""
 from __future__ import annotations
 
 import re
@@ -14,9 +15,9 @@ EVT_ARRAYS = ("SURF", "EVTR", "EXDP")
 
 
 def read_deck(nam: str | Path, as_modflow: bool = False, any_size: bool = False) -> tuple[Deck, Report]:
-    """Reads all files of a name file. What can't be read stands under the report's refusals. A blank line where counts
-    or flags are due is passed over, as `heads` does, or read `as_modflow`, which takes it as zeros. `any_size`: more cells
-    than the program takes are no refusal."""
+    """Reads all files of a name file. What can't be read stands under the report's refusals. A blank line where
+    counts or flags are due is passed over, as `heads` does, or read `as_modflow`, which takes it as zeros.
+    `any_size`: more cells than the program takes are no refusal."""
     reader = Reader(Path(nam), as_modflow, any_size)
     reader.read_names()
     for kind in KINDS:
@@ -49,10 +50,14 @@ def layer_word_refused(name: str, row: list[str], by_start: bool) -> str:
     if name == "LAYWET":
         return f"LAYWET of layer {layers} isn't 0: no wetting in confined layers"
     if by_start and all(float(x) <= 0 for x in row):
-        return (f"LAYTYP of layer {layers} is below 0 with THICKSTRT: such a layer is confined, as thick as STRT less its bottom. "
-                "Write LAYTYP 0, and STRT as its top in DIS")
-    return (f"LAYTYP of layer {layers} isn't 0: a convertible layer is another model, whose transmissivity changes with the head. "
-            "To make it confined is your decision, not a spelling")
+        return (
+            f"LAYTYP of layer {layers} is below 0 with THICKSTRT: such a layer is confined, as thick as STRT less its"
+            " bottom. Write LAYTYP 0, and STRT as its top in DIS"
+        )
+    return (
+        f"LAYTYP of layer {layers} isn't 0: a convertible layer is another model, whose transmissivity changes with the"
+        " head. To make it confined is your decision, not a spelling"
+    )
 
 
 class Reader:
@@ -126,7 +131,9 @@ class Reader:
         if "'" in line or '"' in line:
             self.need("quotes taken out")
         if plain_name(w[2]) != w[2]:
-            (self.need if re.search(r"[^\x21-\x7e]|:", w[2]) else self.change)(f"`{w[2]}` written as {plain_name(w[2])}")
+            (self.need if re.search(r"[^\x21-\x7e]|:", w[2]) else self.change)(
+                f"`{w[2]}` written as {plain_name(w[2])}"
+            )
         deck.name_lines.append(f"{kind} {w[1]} {plain_name(w[2])}")
 
     def open(self, name: str) -> Source:
@@ -154,22 +161,42 @@ class Reader:
         return self.sources[name]
 
     def fields(self, source: Source, line: str, count: int) -> list[str]:
-        """The first words of a line: parted by blanks, or by columns of 10 in a deck without FREE. Missing ones are 0."""
-        w = quoted_words(line) if self.deck.is_free else [line[k:k + 10].replace(" ", "") or "0" for k in range(0, 10 * count, 10)]
+        """The first words of a line: parted by blanks, or by columns of 10 in a deck without FREE. Missing ones are
+        0."""
+        w = (
+            quoted_words(line)
+            if self.deck.is_free
+            else [line[k : k + 10].replace(" ", "") or "0" for k in range(0, 10 * count, 10)]
+        )
         if not self.deck.is_free:
             self.report.add("needed", source.name, 0, "columns of fixed width written free")
         return w[:count] + ["0"] * (count - len(w))
 
     def counts(self, source: Source, count: int, what: str) -> list[str]:
-        """The counts or flags that begin a stress period, or zeros for a blank line where it is read as MODFLOW does."""
+        """The counts or flags that begin a stress period, or zeros for a blank line where it is read as MODFLOW
+        does."""
         source.due = what
         if not self.as_modflow:
-            return self.fields(source, source.line(on_blank=f"a blank line where {what} is due: MODFLOW-2005 reads zeros, `heads` takes the next line"), count)
+            return self.fields(
+                source,
+                source.line(
+                    on_blank=f"a blank line where {what} is due: MODFLOW-2005 reads zeros, `heads` takes the next line"
+                ),
+                count,
+            )
         line = source.line(is_blank_taken=True)
         if not line.strip(" \t,\x1a"):
             zeros = " ".join(["0"] * count)
-            self.report.add("needed", source.name, source.at, f"a blank line where {what} is due written as `{zeros}`, "
-                            "which MODFLOW-2005 reads there; `heads` skips it", is_first=True)
+            self.report.add(
+                "needed",
+                source.name,
+                source.at,
+                (
+                    f"a blank line where {what} is due written as `{zeros}`, "
+                    "which MODFLOW-2005 reads there; `heads` skips it"
+                ),
+                is_first=True,
+            )
             return ["0"] * count
         return self.fields(source, line, count)
 
@@ -206,8 +233,10 @@ class Reader:
             return self._values(source, self.unit(w[1]), w[2], w[3], shape, kind)
         locat, factor, text = line[:10].strip(), line[10:20].strip() or "0", line[20:40].strip() or "(FREE)"
         if not re.fullmatch(r"[+-]?\d+", locat):
-            raise Problem(f"{source.name}, line {source.at}: an array begins with CONSTANT, INTERNAL, OPEN/CLOSE or EXTERNAL, "
-                          f"and here stands `{line.strip()[:40]}`. Or the array before has more values than its grid")
+            raise Problem(
+                f"{source.name}, line {source.at}: an array begins with CONSTANT, INTERNAL, OPEN/CLOSE or EXTERNAL, "
+                f"and here stands `{line.strip()[:40]}`. Or the array before has more values than its grid"
+            )
         self.need("an array's record in fixed columns written with a keyword")
         if int(locat) == 0:
             return Array([source.number(factor)], "1", shape)
@@ -225,14 +254,20 @@ class Reader:
             self.need(f"EXTERNAL: array of {data.name} put in place")
         if text.upper() != "(FREE)":
             self.need(f"format {text} written as (FREE)")
-        out = [w for _ in range(shape[0]) for w in (data.free_values(count) if is_free else data.fixed_values(count, text))]
+        out = [
+            w for _ in range(shape[0]) for w in (data.free_values(count) if is_free else data.fixed_values(count, text))
+        ]
         return Array(out, factor, shape)
 
     def _binary(self, source: Source, name: str, factor: str, shape: tuple[int, int], is_rest: bool) -> Array:
         path, _ = find_file(self.folder, name)
-        values, self.binary_at[name] = read_binary(path, shape[0] * shape[1], 0 if is_rest else self.binary_at.get(name, 0), is_rest)
+        values, self.binary_at[name] = read_binary(
+            path, shape[0] * shape[1], 0 if is_rest else self.binary_at.get(name, 0), is_rest
+        )
         digits = "9" if values.dtype.itemsize == 4 else "17"
-        self.need(f"binary array of {path.name} written as text of up to {digits} digits, the shortest that names each value")
+        self.need(
+            f"binary array of {path.name} written as text of up to {digits} digits, the shortest that names each value"
+        )
         return Array([number(w).text for w in binary_words(values)], source.number(factor), shape)
 
     # The packages that every deck has.
@@ -244,17 +279,27 @@ class Reader:
             raise Problem("a comment has to begin in the first column (MODFLOW wants it so, too)")
         w = quoted_words(line)
         nlay, nrow, ncol, nper, deck.itmuni, deck.lenuni = (s.integer(x, "a count") for x in w[:6])
-        over = [text for is_bad, text in (
-            (not 1 <= nlay <= 64, "NLAY from 1 to 64"), (not (1 <= nrow <= 1024 and 1 <= ncol <= 1024), "NROW and NCOL from 1 to 1,024"),
-            (nlay * nrow * ncol > 65536, f"at most 65,536 cells in all (these are {nlay * nrow * ncol:,})"),
-            (not 1 <= nper <= 1000, "NPER from 1 to 1,000")) if is_bad]
+        over = [
+            text
+            for is_bad, text in (
+                (not 1 <= nlay <= 64, "NLAY from 1 to 64"),
+                (not (1 <= nrow <= 1024 and 1 <= ncol <= 1024), "NROW and NCOL from 1 to 1,024"),
+                (nlay * nrow * ncol > 65536, f"at most 65,536 cells in all (these are {nlay * nrow * ncol:,})"),
+                (not 1 <= nper <= 1000, "NPER from 1 to 1,000"),
+            )
+            if is_bad
+        ]
         if over and not self.any_size:
             self.refuse("`heads` takes " + "; ".join(over))
         deck.nlay, deck.nrow, deck.ncol = nlay, nrow, ncol
         deck.laycbd = [s.integer(x, "LAYCBD") for x in s.free_values(nlay)]
         if deck.laycbd[-1]:
             self.refuse("LAYCBD of the last layer isn't 0: there is no layer below its bed")
-        deck.delr, deck.delc, deck.top = self.array(1, ncol, "DELR"), self.array(1, nrow, "DELC"), self.array(nrow, ncol, "the top of layer 1")
+        deck.delr, deck.delc, deck.top = (
+            self.array(1, ncol, "DELR"),
+            self.array(1, nrow, "DELC"),
+            self.array(nrow, ncol, "the top of layer 1"),
+        )
         for k in range(nlay):
             deck.bottom.append(self.array(nrow, ncol, f"the bottom of layer {k + 1}"))
             if deck.laycbd[k]:
@@ -274,7 +319,9 @@ class Reader:
         if perlen < 0 or (perlen == 0 and not period.is_steady) or mult <= 0:
             self.refuse("PERLEN is above 0 in a transient period, TSMULT above 0")
         if not period.is_steady and mult != 1 and not (0.001 <= mult <= 1000 and period.nstp <= 1000):
-            self.refuse("TSMULT lies from 0.001 to 1000, with at most 1,000 steps, where it isn't 1 in a transient period")
+            self.refuse(
+                "TSMULT lies from 0.001 to 1000, with at most 1,000 steps, where it isn't 1 in a transient period"
+            )
         return period
 
     def read_bas6(self) -> None:
@@ -289,7 +336,10 @@ class Reader:
         if "CHTOCH" in options:
             self.need("CHTOCH dropped: it only adds flows between constant cells to MODFLOW's budget")
         if "XSECTION" in options:
-            raise Problem("XSECTION (MODFLOW takes the word behind a # too) changes how arrays are read: load and save the model by FloPy")
+            raise Problem(
+                "XSECTION (MODFLOW takes the word behind a # too) changes how arrays are read: load and save the model"
+                " by FloPy"
+            )
         deck.ibound = [self.array(deck.nrow, deck.ncol, f"IBOUND of layer {k + 1}", True) for k in range(deck.nlay)]
         s.due = "HNOFLO"
         deck.options["HNOFLO"] = self.marker(s, quoted_words(s.line(on_blank=""))[0], "HNOFLO")
@@ -315,7 +365,10 @@ class Reader:
         if "UPW" in deck.options:
             deck.options["LPF"] = f"{w[0]} {hdry} 0"
         elif "STORAGECOEFFICIENT" in (line.partition("#")[2]).upper():
-            self.warn("STORAGECOEFFICIENT stands behind a #, and counts all the same: MODFLOW-2005 looks at the whole line, and so does `heads`")
+            self.warn(
+                "STORAGECOEFFICIENT stands behind a #, and counts all the same: MODFLOW-2005 looks at the whole line,"
+                " and so does `heads`"
+            )
         rows = deck.layer_words = [[] for _ in range(5)]
         by_start = "THICKSTRT" in (w.upper() for w in quoted_words(line)[3:])
         for at, name in enumerate(("LAYTYP", "LAYAVG", "CHANI", "LAYVKA", "LAYWET")):
@@ -338,7 +391,9 @@ class Reader:
         names += (["SS"] + ["SY"] * is_convertible) * deck.is_transient
         names += ["VKCB"] * (deck.laycbd[k] != 0) + ["WETDRY"] * (is_convertible and float(rows[4][k]) != 0)
         after = lambda n: f" (after {' '.join(names[:n])})" if n else ""
-        return {name: self.array(deck.nrow, deck.ncol, f"{name} of layer {k + 1}{after(n)}") for n, name in enumerate(names)}
+        return {
+            name: self.array(deck.nrow, deck.ncol, f"{name} of layer {k + 1}{after(n)}") for n, name in enumerate(names)
+        }
 
     # Stress packages.
 
@@ -360,7 +415,9 @@ class Reader:
                 self.refuse("ITMP below 0 says `as in the last period`, and there is none before")
             if count > most:
                 entries = "entry" if count == 1 else "entries"
-                self.warn(f"{count} {entries} where the file's maximum is {most}: MODFLOW-2005 stops, `heads` doesn't compare")
+                self.warn(
+                    f"{count} {entries} where the file's maximum is {most}: MODFLOW-2005 stops, `heads` doesn't compare"
+                )
             if count > 65536:
                 raise Problem("more than 65,536 entries")
             s.due = f"the list of period {period + 1}"
@@ -400,15 +457,29 @@ class Reader:
         deck = self.deck
         w = self.fields(source, line, 3 + columns)
         if deck.is_free and len(quoted_words(line)) < 3 + columns:
-            self.report.add("needed", source.name, source.at, "missing numbers of an entry written as 0, as MODFLOW-2005 reads them")
+            self.report.add(
+                "needed", source.name, source.at, "missing numbers of an entry written as 0, as MODFLOW-2005 reads them"
+            )
         cell = tuple(source.integer(x, "a layer, row or column") for x in w[:3])
         if not all(1 <= x <= n for x, n in zip(cell, (deck.nlay, deck.nrow, deck.ncol))):
-            self.report.add("refusals", source.name, source.at, f"layer, row, column {cell} lie outside the grid of {deck.nlay}, {deck.nrow}, {deck.ncol}")
+            self.report.add(
+                "refusals",
+                source.name,
+                source.at,
+                f"layer, row, column {cell} lie outside the grid of {deck.nlay}, {deck.nrow}, {deck.ncol}",
+            )
         values = [source.number(x) for x in w[3:]]
-        rest = quoted_words(line)[3 + columns:] if deck.is_free else []
+        rest = quoted_words(line)[3 + columns :] if deck.is_free else []
         if rest and re.search(r"\d,\d", line) and number_like(rest[0]) and "AUX" not in deck.options[kind].upper():
-            self.report.add("warnings", source.name, source.at, f"`{line.strip()[:60]}` has {len(rest)} more than the {3 + columns} numbers of an entry: "
-                            "a decimal comma? `heads` and MODFLOW-2005 take a comma as a blank")
+            self.report.add(
+                "warnings",
+                source.name,
+                source.at,
+                (
+                    f"`{line.strip()[:60]}` has {len(rest)} more than the {3 + columns} numbers of an entry: "
+                    "a decimal comma? `heads` and MODFLOW-2005 take a comma as a blank"
+                ),
+            )
         if factor:
             values = [product(x, factor).text if n in SCALED[kind] else x for n, x in enumerate(values)]
         if kind in ("RIV", "DRN", "GHB") and float(values[1].replace("D", "E").replace("d", "e")) < 0:
@@ -431,11 +502,19 @@ class Reader:
         areal = deck.areal[kind] = Areal(option)
         names += (layers,) * (option == 2)
         for period in range(len(deck.periods)):
-            flags = [s.integer(x, "a flag") for x in self.counts(s, len(names), f"the line of flags of period {period + 1}")]
+            flags = [
+                s.integer(x, "a flag") for x in self.counts(s, len(names), f"the line of flags of period {period + 1}")
+            ]
             if period == 0 and min(flags) < 0:
                 self.refuse("a flag below 0 says `as in the last period`, and there is none before")
-            arrays = {name: self.array(deck.nrow, deck.ncol, f"{name} of period {period + 1}", name == layers)
-                      for name, flag in zip(names, flags) if flag >= 0}
+            arrays = {
+                name: self.array(deck.nrow, deck.ncol, f"{name} of period {period + 1}", name == layers)
+                for name, flag in zip(names, flags)
+                if flag >= 0
+            }
             areal.periods.append((flags, arrays))
             if layers in arrays and (arrays[layers].floats() == 0).any():
-                self.warn(f"{layers} is 0 in a column: `heads` reads `no layer`; MODFLOW-2005 stops there, or passes over it in newer versions")
+                self.warn(
+                    f"{layers} is 0 in a column: `heads` reads `no layer`; MODFLOW-2005 stops there, or passes over it"
+                    " in newer versions"
+                )

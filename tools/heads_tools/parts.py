@@ -1,13 +1,14 @@
 """check --parts: a listing certified piece by piece, for models larger than one call of the program takes.
 
-A certificate is one sign at each cell and side, of the cell's own entries and its neighbours' heads. A piece is a slab of
-rows with a ring of the next rows, whose heads are constant: in one deck at the listed lower heads, in another at the upper
-ones. The low side's signs in the one and the high side's in the other are those of the whole model; so are they with the
-heads of the step before as starting heads. `heads check` certifies both decks of each piece and step.
+A certificate is one sign at each cell and side, of the cell's own entries and its neighbours' heads. A piece is a
+slab of rows with a ring of the next rows, whose heads are constant: in one deck at the listed lower heads, in another
+at the upper ones. The low side's signs in the one and the high side's in the other are those of the whole model; so
+are they with the heads of the step before as starting heads. `heads check` certifies both decks of each piece and
+step.
 
-What pieces don't show is computed here and isn't proved: that each group of cells touches a constant head, a general head
-or storage; that no cell passed by the floor or ceiling of its piece alone (its sign, in doubles with a margin); that
-constant heads lie within their pairs; and the sums of the budget, in doubles."""
+What pieces don't show is computed here and isn't proved: that each group of cells is held by a constant head, a general
+head or storage, or carried by recharge and rivers; that no cell passed by the floor or ceiling of its piece alone (its
+sign, in doubles with a margin); that constant heads lie within their pairs; and the sums of the budget, in doubles."""
 from __future__ import annotations
 
 import os
@@ -54,7 +55,10 @@ def parts_of(model: Model, count: int) -> list[Part]:
     nlay, nrow, ncol = model.shape
     most = min(MOST_CELLS // (nlay * ncol), 1024) - 2
     if most < 1 or ncol > 1024 or nlay > 64:
-        raise Problem(f"a part is a slab of rows, and three rows of {nlay * ncol} cells are more than the {MOST_CELLS} that the program takes")
+        raise Problem(
+            f"a part is a slab of rows, and three rows of {nlay * ncol} cells are more than the {MOST_CELLS} that the"
+            " program takes"
+        )
     size = min(most, -(-nrow // max(count, 1)))
     return [Part(a, min(a + size, nrow), max(a - 1, 0), min(a + size + 1, nrow)) for a in range(0, nrow, size)]
 
@@ -71,7 +75,9 @@ def read_large(nam: Path) -> Model:
 def rows_of(array: Array, part: Part, cols: int) -> Array:
     """The rows of a part of an array."""
     shape = (part.end - part.begin, cols)
-    return Array(array.words if array.is_constant else array.words[part.begin * cols:part.end * cols], array.factor, shape)
+    return Array(
+        array.words if array.is_constant else array.words[part.begin * cols : part.end * cols], array.factor, shape
+    )
 
 
 def decimal_word(value: Fraction) -> str:
@@ -79,7 +85,10 @@ def decimal_word(value: Fraction) -> str:
     for places in range(19):
         if (value * 10**places).denominator == 1:
             return decimal_text(int(value * 10**places), places)
-    raise Problem(f"the length of a time step, {float(value):.12g}, is no decimal of 18 places: such steps aren't checked by parts")
+    raise Problem(
+        f"the length of a time step, {float(value):.12g}, is no decimal of 18 places: such steps aren't checked by"
+        " parts"
+    )
 
 
 def length_of(model: Model, step: Step) -> str:
@@ -93,7 +102,8 @@ def length_of(model: Model, step: Step) -> str:
 
 
 class Pieces:
-    """The decks of one step of a listing. `low`, `high`: the step's heads on the grid in 10^-9, and the step before's."""
+    """The decks of one step of a listing. `low`, `high`: the step's heads on the grid in 10^-9, and the step
+    before's."""
 
     def __init__(self, model: Model, listing: Listing, at: int, constant: np.ndarray):
         self.model, self.listing, self.step, self.constant = model, listing, listing.steps[at], constant
@@ -111,17 +121,33 @@ class Pieces:
         deck, model = self.model.deck, self.model
         nlay, nrow, ncol = model.shape
         ring = np.zeros(nrow, bool)
-        ring[part.begin:part.first] = ring[part.last:part.end] = True
+        ring[part.begin : part.first] = ring[part.last : part.end] = True
         held = (self.constant | ring[None, :, None]) & (model.ibound != 0)
-        ibound = np.where(held, -1, np.sign(np.abs(model.ibound)))[:, part.begin:part.end]
-        heads = np.where(held, self.now[side], self.old[side] if self.has_old else self.now[side])[:, part.begin:part.end]
-        new = Deck(folder / "m.nam", {k: f"m.{k.lower()}" for k in deck.files}, name_lines=[f"{k} {n} m.{k.lower()}" for n, k in enumerate(deck.files, 11)
-                                                                                        if k != "CHD"])
+        ibound = np.where(held, -1, np.sign(np.abs(model.ibound)))[:, part.begin : part.end]
+        heads = np.where(held, self.now[side], self.old[side] if self.has_old else self.now[side])[
+            :, part.begin : part.end
+        ]
+        new = Deck(
+            folder / "m.nam",
+            {k: f"m.{k.lower()}" for k in deck.files},
+            name_lines=[f"{k} {n} m.{k.lower()}" for n, k in enumerate(deck.files, 11) if k != "CHD"],
+        )
         new.files.pop("CHD", None)
-        new.nlay, new.nrow, new.ncol, new.itmuni, new.lenuni, new.laycbd = nlay, part.end - part.begin, ncol, deck.itmuni, deck.lenuni, deck.laycbd
+        new.nlay, new.nrow, new.ncol, new.itmuni, new.lenuni, new.laycbd = (
+            nlay,
+            part.end - part.begin,
+            ncol,
+            deck.itmuni,
+            deck.lenuni,
+            deck.laycbd,
+        )
         cut = lambda array: rows_of(array, part, ncol)
         new.delr, new.top, new.bottom = deck.delr, cut(deck.top), [cut(a) for a in deck.bottom]
-        new.delc = Array(deck.delc.words if deck.delc.is_constant else deck.delc.words[part.begin:part.end], deck.delc.factor, (1, new.nrow))
+        new.delc = Array(
+            deck.delc.words if deck.delc.is_constant else deck.delc.words[part.begin : part.end],
+            deck.delc.factor,
+            (1, new.nrow),
+        )
         new.bed_bottom = {k: cut(a) for k, a in deck.bed_bottom.items()}
         period = deck.periods[self.step.period - 1]
         new.periods = [type(period)(length_of(model, self.step), 1, "1", period.is_steady)]
@@ -144,29 +170,37 @@ class Pieces:
 
     def entries(self, kind: str, part: Part) -> list[Entry]:
         """The list that holds in the step, of the part's own rows."""
-        lists = self.model.deck.lists[kind][:self.step.period]
+        lists = self.model.deck.lists[kind][: self.step.period]
         now = next((entries for entries in reversed(lists) if entries is not None), [])
-        return [Entry((e.cell[0], e.cell[1] - part.begin, e.cell[2]), e.words, e.file, e.line) for e in now if part.first < e.cell[1] <= part.last]
+        return [
+            Entry((e.cell[0], e.cell[1] - part.begin, e.cell[2]), e.words, e.file, e.line)
+            for e in now
+            if part.first < e.cell[1] <= part.last
+        ]
 
     def areal(self, kind: str, part: Part):
         areal = self.model.deck.areal[kind]
         arrays: dict[str, Array] = {}
-        for _, new in areal.periods[:self.step.period]:
+        for _, new in areal.periods[: self.step.period]:
             arrays |= new
         cut = {name: rows_of(a, part, self.model.shape[2]) for name, a in arrays.items()}
         return type(areal)(areal.option, [([1] * (1 if kind == "RCH" else 3) + [1] * (areal.option == 2), cut)])
 
     def write_listing(self, part: Part, side: int, held: np.ndarray, path: Path) -> None:
         places = self.listing.flow_places
-        names = list(TERMS)[:8 if "EVT" in self.model.deck.areal else 7]
+        names = list(TERMS)[: 8 if "EVT" in self.model.deck.areal else 7]
         with whole_file(path) as file:
             file.write(f"HEADS 2 DIGITS {self.listing.digits} UNIT {self.listing.unit}\nSTEP 1 1\n")
             for k, i, j in (self.listing.cells - 1).tolist():
                 if part.begin <= i < part.end:
                     low, high = (int(self.now[side if held[k, i, j] else s][k, i, j]) for s in (0, 1))
-                    file.write(f"HEAD {k + 1} {i - part.begin + 1} {j + 1} {decimal_text(low, 9)} {decimal_text(high, 9)}\n")
+                    file.write(
+                        f"HEAD {k + 1} {i - part.begin + 1} {j + 1} {decimal_text(low, 9)} {decimal_text(high, 9)}\n"
+                    )
             for word in ("IN", "OUT"):
-                file.write("".join(f"{word} {decimal_text(0, places)} {decimal_text(WIDE, places)} {name}\n" for name in names))
+                file.write(
+                    "".join(f"{word} {decimal_text(0, places)} {decimal_text(WIDE, places)} {name}\n" for name in names)
+                )
             file.write("END\n")
 
 
@@ -199,16 +233,36 @@ def check_parts(nam: Path, path: Path, count: int, jobs: int = 0) -> Checked:
         with ThreadPoolExecutor(jobs or os.cpu_count() or 1) as pool:
             for (part, side), last in zip(tasks, pool.map(lambda task: piece_end(pieces, *task), tasks)):
                 if last != "CERTIFIED":
-                    failed.append(f"period {step.period} step {step.step}, rows {part.first + 1} to {part.last}, "
-                                  f"{('low', 'high')[side]} side: {in_whole(last, part)}")
+                    failed.append(
+                        f"period {step.period} step {step.step}, rows {part.first + 1} to {part.last}, "
+                        f"{('low', 'high')[side]} side: {in_whole(last, part)}"
+                    )
         if sys.stderr.isatty():
             print(f"\r{path.name}: step {at + 1} of {len(listing.steps)}", end="", file=sys.stderr, flush=True)
-    checks = f"{counted(len(listing.steps), 'step')} in {counted(len(parts), 'part')}, {counted(2 * len(parts) * len(listing.steps), 'check')}"
+    checks = (
+        f"{counted(len(listing.steps), 'step')} in {counted(len(parts), 'part')},"
+        f" {counted(2 * len(parts) * len(listing.steps), 'check')}"
+    )
     if failed:
-        return Checked(8, [f"NOT CERTIFIED BY PARTS ({checks}):", *("  " + f for f in failed[:12]), *([f"  and {len(failed) - 12} more"] if len(failed) > 12 else [])])
-    return Checked(0, [f"CERTIFIED BY PARTS: {checks}, each CERTIFIED by heads check.",
-                       "Not proved, but computed here in doubles: that each group of cells is held; that no cell passed by the floor or the",
-                       "ceiling of its part alone; the pairs of constant heads; the budget's sums."])
+        return Checked(
+            8,
+            [
+                f"NOT CERTIFIED BY PARTS ({checks}):",
+                *("  " + f for f in failed[:12]),
+                *([f"  and {len(failed) - 12} more"] if len(failed) > 12 else []),
+            ],
+        )
+    return Checked(
+        0,
+        [
+            f"CERTIFIED BY PARTS: {checks}, each CERTIFIED by heads check.",
+            (
+                "Not proved, but computed here in doubles: that each group of cells is held; that no cell passed by the"
+                " floor or the"
+            ),
+            "ceiling of its part alone; the pairs of constant heads; the budget's sums.",
+        ],
+    )
 
 
 def in_whole(last: str, part: Part) -> str:
@@ -235,7 +289,11 @@ def start_heads(model: Model) -> list[np.ndarray]:
         wrong = next((word for word, value in units.items() if value != int(value)), None)
         if wrong is not None:
             raise Problem(f"STRT {wrong} has more than nine decimals: such a start isn't checked by parts")
-        layers.append(np.full(model.area.size, int(units[array.words[0]])) if array.is_constant else np.array([int(units[w]) for w in array.words]))
+        layers.append(
+            np.full(model.area.size, int(units[array.words[0]]))
+            if array.is_constant
+            else np.array([int(units[w]) for w in array.words])
+        )
     return [np.array(layers, np.int64).reshape(model.shape)] * 2
 
 
@@ -247,7 +305,9 @@ def whole_faults(bounds: Bounds, equations: Equations, listing: Listing, at: int
     low, high = flat(step.low), flat(step.high)
     before = listing.steps[at - 1] if at else None
     old = [flat(v) for v in (before.low, before.high)] if before else [flat_start(model)] * 2
-    bounds.holders = [np.where(equations.is_constant, mine, past) * UNIT for mine, past in ((low, old[0]), (high, old[1]))]
+    bounds.holders = [
+        np.where(equations.is_constant, mine, past) * UNIT for mine, past in ((low, old[0]), (high, old[1]))
+    ]
     out = []
     for n in loose_groups(equations)[:3]:
         cell = " ".join(map(str, model.cell(equations.cells[n])))
@@ -263,7 +323,9 @@ def whole_faults(bounds: Bounds, equations: Equations, listing: Listing, at: int
     for cell in np.flatnonzero(equations.is_constant & (model.ibound.ravel() != 0)):
         head = constant_head(model, equations, int(cell), given) * 10**9
         if not low[cell] <= head <= high[cell]:
-            out.append(f"{where}: the pair of the constant head at {' '.join(map(str, model.cell(cell)))} lies beside it")
+            out.append(
+                f"{where}: the pair of the constant head at {' '.join(map(str, model.cell(cell)))} lies beside it"
+            )
     return out + budget_faults(bounds, equations, step, low, high, where)
 
 
@@ -284,29 +346,40 @@ def constant_head(model: Model, equations: Equations, cell: int, given: Given) -
 
 
 def loose_groups(equations: Equations) -> list[int]:
-    """A cell of each group of cells that touches no constant head, general head or storage, and that isn't carried either:
-    rivers and drains take from it, and recharge and rivers at their bottoms bring more than wells and evapotranspiration
-    can take (in doubles, with a margin)."""
+    """A cell of each group of cells that touches no constant head, general head or storage, and that isn't carried
+    either: rivers and drains take from it, and recharge and rivers at their bottoms bring more than wells and
+    evapotranspiration can take (in doubles, with a margin)."""
     if not equations.n:
         return []
     groups, labels = scipy.sparse.csgraph.connected_components(equations.links, directed=False)
     total = lambda at, values: np.bincount(labels[at], values, groups)
     held = total(equations.at, equations.c) > 0
     takers = total(equations.riv_at, equations.riv_c) + total(equations.drn_at, equations.drn_c) > 0
-    parts = [(equations.flow_at, equations.flow), (equations.riv_at, equations.riv_c * (equations.riv_stage - equations.riv_bottom)),
-             (equations.evt_at, -equations.evt_c * (equations.evt_surf - equations.evt_ext))]
+    parts = [
+        (equations.flow_at, equations.flow),
+        (equations.riv_at, equations.riv_c * (equations.riv_stage - equations.riv_bottom)),
+        (equations.evt_at, -equations.evt_c * (equations.evt_surf - equations.evt_ext)),
+    ]
     brought = sum(total(at, values) for at, values in parts)
     size = sum(total(at, np.abs(values)) for at, values in parts)
     carried = takers & (brought > TOLERANCE * size)
     return [int(np.argmax(labels == group)) for group in np.flatnonzero(~held & ~carried)]
 
 
-def budget_faults(bounds: Bounds, equations: Equations, step: Step, low: np.ndarray, high: np.ndarray, where: str) -> list[str]:
+def budget_faults(
+    bounds: Bounds, equations: Equations, step: Step, low: np.ndarray, high: np.ndarray, where: str
+) -> list[str]:
     """Terms whose listed bounds lie within those of the listed heads by more than doubles can differ."""
     out = []
     for name, inner in bounds.budget(equations, low, high, is_inward=True).items():
         listed = step.terms.get(name)
-        if listed is None or listed[0] > inner[0] or listed[2] > inner[2] or listed[1] < inner[1] or listed[3] < inner[3]:
+        if (
+            listed is None
+            or listed[0] > inner[0]
+            or listed[2] > inner[2]
+            or listed[1] < inner[1]
+            or listed[3] < inner[3]
+        ):
             out.append(f"{where}: {name} isn't as wide as the listed heads make it")
     return out
 

@@ -1,4 +1,5 @@
-"""plain: writes a deck in the spelling that `heads` reads. Each number keeps its value, but where a note says `rounded`."""
+"""plain: writes a deck in the spelling that `heads` reads. Each number keeps its value, but where a note says
+`rounded`."""
 from __future__ import annotations
 
 from dataclasses import dataclass
@@ -24,7 +25,11 @@ class Written:
         changes = [str(r) for r in self.report.needed + self.report.changes]
         warnings = [f"CAREFUL: {r}" for r in self.report.warnings]
         nothing = [] if self.refused else ["nothing but layout was changed"]
-        return (changes or nothing) + warnings + ["REFUSED ALL THE SAME: " + "\n  ".join(self.refused)] * bool(self.refused)
+        return (
+            (changes or nothing)
+            + warnings
+            + ["REFUSED ALL THE SAME: " + "\n  ".join(self.refused)] * bool(self.refused)
+        )
 
 
 def plain(nam: Path, folder: Path) -> Written:
@@ -73,7 +78,10 @@ def package_lines(deck: Deck, kind: str) -> list[str]:
 
 
 def dis_lines(deck: Deck) -> list[str]:
-    out = [f"{deck.nlay} {deck.nrow} {deck.ncol} {len(deck.periods)} {deck.itmuni} {deck.lenuni}", " ".join(map(str, deck.laycbd))]
+    out = [
+        f"{deck.nlay} {deck.nrow} {deck.ncol} {len(deck.periods)} {deck.itmuni} {deck.lenuni}",
+        " ".join(map(str, deck.laycbd)),
+    ]
     for array in (deck.delr, deck.delc, deck.top):
         out += array.lines()
     for k, bottom in enumerate(deck.bottom):
@@ -113,7 +121,9 @@ def entry_line(entry: Entry) -> str:
 
 def areal_lines(deck: Deck, kind: str) -> list[str]:
     areal = deck.areal[kind]
-    names = (("RECH",) if kind == "RCH" else EVT_ARRAYS) + (("IRCH" if kind == "RCH" else "IEVT",) if areal.option == 2 else ())
+    names = (("RECH",) if kind == "RCH" else EVT_ARRAYS) + (
+        ("IRCH" if kind == "RCH" else "IEVT",) if areal.option == 2 else ()
+    )
     out = [deck.options[kind]]
     for flags, arrays in areal.periods:
         out.append(" ".join(map(str, flags)))

@@ -40,7 +40,9 @@ def plan_of(job: Job, ground: Listing, told: str) -> Plan:
         return Plan(job.name, meaning.lines[0], None)
     model, listing = read_model(job.nam), read_listing(job.listing)
     try:
-        it = Drawdown(listing, ground, difference(listing, ground), model.length, model, [told, verdict_of(listing, job.nam)[0]])
+        it = Drawdown(
+            listing, ground, difference(listing, ground), model.length, model, [told, verdict_of(listing, job.nam)[0]]
+        )
     except Problem as error:
         return Plan(job.name, str(error), None)
     return Plan(job.name, " ".join(it.sentences([])[1:3]), it)

@@ -33,8 +33,8 @@ def main() -> None:
 
 
 def program() -> Path:
-    """The program: the environment's HEADS, else the script of this checkout, else that of the wheel, else `heads` on the
-    path."""
+    """The program: the environment's HEADS, else the script of this checkout, else that of the wheel, else `heads` on
+    the path."""
     if os.environ.get("HEADS"):
         path = Path(os.environ["HEADS"]).resolve()
         if not os.access(path, os.X_OK) or path.is_dir():
@@ -54,8 +54,8 @@ def direct(found: Path) -> Path:
 
 
 def direct_program() -> Path:
-    """The program for many calls: the kept one where the checkout's script would run it, as one call of scripts/check_dist
-    says; the script itself hashes its sources at each call."""
+    """The program for many calls: the kept one where the checkout's script would run it, as one call of
+    scripts/check_dist says; the script itself hashes its sources at each call."""
     return direct(program())
 
 
@@ -74,7 +74,9 @@ class Version:
 def version() -> Version:
     found = program()
     binary = TOP / "dist" / "heads" if found == TOP / "heads" and (TOP / "dist" / "heads").is_file() else found
-    lines = [f"program {found}"] + ([f"        which runs {binary} where that was built from the checkout's sources"] if binary != found else [])
+    lines = [f"program {found}"] + (
+        [f"        which runs {binary} where that was built from the checkout's sources"] if binary != found else []
+    )
     lines.append(f"sha256  {sha256(binary)}")
     record = binary.with_name(binary.name + ".txt")
     if not record.is_file():
@@ -87,13 +89,18 @@ def version() -> Version:
     if binary == TOP / "dist" / "heads" and script.is_file():
         now = subprocess.run([script], capture_output=True, text=True).stdout.strip()
         is_current = now == noted.get("sources")
-        lines.append("the checkout's sources are those it was built from" if is_current else "the checkout's sources have changed since it was built")
+        lines.append(
+            "the checkout's sources are those it was built from"
+            if is_current
+            else "the checkout's sources have changed since it was built"
+        )
     return Version(lines, is_same)
 
 
 @dataclass
 class Ended:
-    """How a run ended: its status, its last line, seconds by the clock, the steps that it wrote, the file that it wrote."""
+    """How a run ended: its status, its last line, seconds by the clock, the steps that it wrote, the file that it
+    wrote."""
 
     status: int
     last: str
@@ -106,7 +113,9 @@ def call(words: list[str], folder: Path, seconds: float | None = None) -> Ended:
     """Runs the program in a folder and takes its last line alone."""
     began = time.monotonic()
     try:
-        done = subprocess.run([program(), *words], cwd=folder, capture_output=True, text=True, errors="replace", timeout=seconds)
+        done = subprocess.run(
+            [program(), *words], cwd=folder, capture_output=True, text=True, errors="replace", timeout=seconds
+        )
     except subprocess.TimeoutExpired:
         return Ended(-1, "", time.monotonic() - began)
     lines = done.stdout.rstrip("\n").rsplit("\n", 1)
@@ -114,7 +123,8 @@ def call(words: list[str], folder: Path, seconds: float | None = None) -> Ended:
 
 
 def read_alone(nam: Path) -> str | None:
-    """None where the program reads the deck as a model, else its last line. Nothing is solved: a name file is no listing."""
+    """None where the program reads the deck as a model, else its last line. Nothing is solved: a name file is no
+    listing."""
     ended = call(["check", nam.name, nam.name], nam.parent)
     return None if ended.last.startswith("REFUSED 20 ") else ended.last
 
@@ -142,17 +152,29 @@ def settle_output(new: Path, target: Path) -> Path:
     return place
 
 
-def run(nam: Path, options: list[str], target: Path, steps: int | None = None, is_told: bool = True, is_followed: bool = False) -> Ended:
+def run(
+    nam: Path,
+    options: list[str],
+    target: Path,
+    steps: int | None = None,
+    is_told: bool = True,
+    is_followed: bool = False,
+) -> Ended:
     """Runs `heads run` in the model's folder into a file, which gets its name once the run ended (settle_output). What
     --watch tells goes into a file beside it; a run that `is_followed` is watched for what to say of a slow step."""
     progress = Progress(nam.name, steps)
     began, last, count = time.monotonic(), b"", 0
     is_watched = any(o.startswith("--watch") for o in options)
     new = target.with_name(f".{target.name}.new")
-    with whole_file(new, binary=True) as file, (open(target.with_suffix(".watch"), "wb") if is_watched else nullcontext()) as side:
+    with (
+        whole_file(new, binary=True) as file,
+        open(target.with_suffix(".watch"), "wb") if is_watched else nullcontext() as side,
+    ):
         is_followed = is_followed and is_told and not is_watched
         words = [program(), "run", nam.name, *options, *(["--watch", "1"] if is_followed else [])]
-        process = subprocess.Popen(words, cwd=nam.parent, stdout=subprocess.PIPE, stderr=subprocess.PIPE if is_followed else side)
+        process = subprocess.Popen(
+            words, cwd=nam.parent, stdout=subprocess.PIPE, stderr=subprocess.PIPE if is_followed else side
+        )
         if process.stderr is not None:
             progress.follow(process.stderr)
         try:
@@ -180,7 +202,11 @@ def run(nam: Path, options: list[str], target: Path, steps: int | None = None, i
 def digits_of(options: list[str]) -> int:
     """The digits that the options of a run ask for."""
     for n, word in enumerate(options):
-        text = word.partition("=")[2] if word.startswith("--digits=") else options[n + 1] if word == "--digits" and n + 1 < len(options) else ""
+        text = (
+            word.partition("=")[2]
+            if word.startswith("--digits=")
+            else options[n + 1] if word == "--digits" and n + 1 < len(options) else ""
+        )
         if text:
             return int(text) if text.isdigit() and int(text) <= 18 else DEFAULT_DIGITS
     return DEFAULT_DIGITS

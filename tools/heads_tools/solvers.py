@@ -1,5 +1,6 @@
-"""Solves the sparse, symmetric systems of certify: directly where few operations do, else by conjugate gradients with an
-algebraic multigrid preconditioner (PETSc's hypre, where it is installed), the diagonal, or an incomplete factoring."""
+"""Solves the sparse, symmetric systems of certify: directly where few operations do, else by conjugate gradients with
+an algebraic multigrid preconditioner (PETSc's hypre, where it is installed), the diagonal, or an incomplete
+factoring."""
 from __future__ import annotations
 
 import functools
@@ -18,7 +19,8 @@ Matrix = scipy.sparse.csc_matrix
 
 
 def solved(matrix: Matrix, rest: np.ndarray, layers: int) -> np.ndarray:
-    """The solution of matrix x = rest. A factoring of a grid of one or two layers fills little; of more it fills much."""
+    """The solution of matrix x = rest. A factoring of a grid of one or two layers fills little; of more it fills
+    much."""
     if matrix.shape[0] <= (DIRECT_FLAT if layers < 3 else DIRECT_DEEP):
         return direct(matrix, rest)
     for solve in (by_hypre, by_scaling, by_incomplete):
@@ -54,7 +56,9 @@ def by_hypre(matrix: Matrix, rest: np.ndarray) -> np.ndarray | None:
     if lib is None:
         return None
     rows = matrix.tocsr()
-    form = lib.Mat().createAIJ(size=rows.shape, csr=(rows.indptr.astype(np.int32), rows.indices.astype(np.int32), rows.data))
+    form = lib.Mat().createAIJ(
+        size=rows.shape, csr=(rows.indptr.astype(np.int32), rows.indices.astype(np.int32), rows.data)
+    )
     form.assemble()
     solver = lib.KSP().create()
     solver.setOperators(form)

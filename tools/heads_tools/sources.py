@@ -1,4 +1,5 @@
-"""Files of a deck in any spelling of the MODFLOW family: their lines, arrays and lists, and what is remarkable in them."""
+"""Files of a deck in any spelling of the MODFLOW family: their lines, arrays and lists, and what is remarkable in
+them."""
 from __future__ import annotations
 
 import re
@@ -29,9 +30,9 @@ class Remark:
 @dataclass
 class Report:
     """What was seen while a deck was read. `refusals`: not inside, and no other spelling helps. `needed`: changes
-    without which `heads` refuses the deck or reads another model. `changes`: changes of layout alone. `warnings`: where
-    MODFLOW-2005 reads the same file otherwise; `blocking` those of them that `plain` can't write. `due`: for a file that
-    couldn't be read to its end, what was being read."""
+    without which `heads` refuses the deck or reads another model. `changes`: changes of layout alone. `warnings`:
+    where MODFLOW-2005 reads the same file otherwise; `blocking` those of them that `plain` can't write. `due`: for a
+    file that couldn't be read to its end, what was being read."""
 
     refusals: list[Remark] = field(default_factory=list)
     needed: list[Remark] = field(default_factory=list)
@@ -79,7 +80,7 @@ class Array:
         if self.is_constant:
             return [f"CONSTANT {self.words[0]}"]
         cols = self.shape[1]
-        rows = (self.words[n:n + cols] for n in range(0, len(self.words), cols))
+        rows = (self.words[n : n + cols] for n in range(0, len(self.words), cols))
         return [f"INTERNAL {self.factor} (FREE) -1", *(" ".join(row) for row in rows)]
 
 
@@ -88,7 +89,11 @@ def find_file(folder: Path, name: str) -> tuple[Path, str]:
     for path in (on_disk(folder, name), folder / PureWindowsPath(name).name):
         if path.is_file():
             return path, "" if path == on_disk(folder, name) else f"`{name}` found as {path.name}"
-        near = [f for f in (sorted(path.parent.iterdir()) if path.parent.is_dir() else []) if f.name.lower() == path.name.lower()]
+        near = [
+            f
+            for f in (sorted(path.parent.iterdir()) if path.parent.is_dir() else [])
+            if f.name.lower() == path.name.lower()
+        ]
         if near:
             return near[0], f"`{name}` found as {near[0].name}"
     raise Problem(f"there is no file {name} in {folder}")
@@ -113,13 +118,15 @@ class Source:
     def comments(self, is_blank_taken: bool = False) -> list[str]:
         """The comment lines from here on. A blank line ends them where it may be the first item."""
         begin = self.at
-        while self.at < len(self.lines) and (self.lines[self.at].startswith("#") or not (is_blank_taken or self.lines[self.at].strip(" \t,"))):
+        while self.at < len(self.lines) and (
+            self.lines[self.at].startswith("#") or not (is_blank_taken or self.lines[self.at].strip(" \t,"))
+        ):
             self.at += 1
-        return [line for line in self.lines[begin:self.at] if line.startswith("#")]
+        return [line for line in self.lines[begin : self.at] if line.startswith("#")]
 
     def line(self, is_blank_taken: bool = False, on_blank: str = BLANK) -> str:
-        """The next line with a word, or the next one whatever it is. `on_blank`: what there is to say of a blank one that
-        is passed over."""
+        """The next line with a word, or the next one whatever it is. `on_blank`: what there is to say of a blank one
+        that is passed over."""
         while self.at < len(self.lines):
             self.at += 1
             line = self.lines[self.at - 1]
@@ -159,7 +166,10 @@ class Source:
             for word in quoted_words(line) if "'" in line or '"' in line else line.replace(",", " ").split():
                 times, star, value = word.partition("*")
                 if star and not value:
-                    raise Problem(f"{self.name}, line {self.at}: `{word}` repeats no value: MODFLOW-2005 keeps there what it had. Write the value")
+                    raise Problem(
+                        f"{self.name}, line {self.at}: `{word}` repeats no value: MODFLOW-2005 keeps there what it had."
+                        " Write the value"
+                    )
                 if star and (not times.isdigit() or int(times) < 1):
                     raise Problem(f"{self.name}, line {self.at}: `{word}` is no repeated number")
                 if len(out) >= count:
@@ -170,8 +180,15 @@ class Source:
     def _look_for_nulls(self, line: str) -> None:
         squeezed = line.replace(" ", "").replace("\t", "")
         if ",," in squeezed or squeezed.startswith(",") or "/" in squeezed or re.search(r"\d\*([\s,]|$)", line):
-            self.report.add("blocking", self.name, self.at, "a value is left out (`,,` or `/`): MODFLOW-2005 keeps there what it had, "
-                            "`heads` takes the next value: two different models. Write the value")
+            self.report.add(
+                "blocking",
+                self.name,
+                self.at,
+                (
+                    "a value is left out (`,,` or `/`): MODFLOW-2005 keeps there what it had, "
+                    "`heads` takes the next value: two different models. Write the value"
+                ),
+            )
 
     def fixed_values(self, count: int, text: str) -> list[str]:
         """The words of a list in columns of fixed width."""
@@ -191,7 +208,7 @@ def read_binary(path: Path, count: int, at: int, is_rest: bool) -> tuple[np.ndar
         for marks in (0, 4):
             for header in (0, 36 + 2 * size):
                 total = (header + 2 * marks if header else 0) + count * size + 2 * marks
-                name = raw[marks + 8 + 2 * size:marks + 24 + 2 * size]
+                name = raw[marks + 8 + 2 * size : marks + 24 + 2 * size]
                 named = not header or name.isascii() and name.strip().isalpha()
                 marked = not marks or raw[:4] == (header or count * size).to_bytes(4, "little")
                 if named and marked and (total == len(raw) if is_rest else header and total <= len(raw)):

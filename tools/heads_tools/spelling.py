@@ -83,7 +83,7 @@ class Fields(NamedTuple):
 
     def of(self, line: str, at: int) -> str:
         """The word of a field, with its point and exponent where the format says them. Blank is 0."""
-        word = line[at * self.width:(at + 1) * self.width].replace(" ", "").strip()
+        word = line[at * self.width : (at + 1) * self.width].replace(" ", "").strip()
         if not word:
             return "0"
         has_exponent = bool(re.search("[EeDd]", word)) or bool(NO_LETTER.search(word))

@@ -11,11 +11,26 @@ REFUSED = {
     "laytyp with points": ("m.lpf", "0 0\n0 0\n1 1\n", "0. 0.\n0 0\n1 1\n", "LAYTYP is `0.`"),
     "no conductivity": ("m.lpf", "6 7 8 9 10\n", "6 7 0 9 10\n", "the cell 1 2 3 (layer row column): HK isn't above 0"),
     "given head twice": ("m.chd", "0 0\n1 0\n2 1 5 20 21\n", "0 0\n2 0\n2 1 5 20 21\n2 1 5 20 21\n", "stands twice"),
-    "comment in an array": ("m.lpf", "6 7 8 9 10\n", "# row 2\n6 7 8 9 10\n", "comments stand only before the first item"),
+    "comment in an array": (
+        "m.lpf",
+        "6 7 8 9 10\n",
+        "# row 2\n6 7 8 9 10\n",
+        "comments stand only before the first item",
+    ),
     "repeat without a value": ("m.lpf", "6 7 8 9 10\n", "6 7 8 9 1* \n", "repeats no value"),
-    "format of two fields": ("m.lpf", "INTERNAL 1 (FREE) -1\n", "INTERNAL 1 (2F8.2,3F10.2) -1\n", "the format (2F8.2,3F10.2) isn't of one repeated field"),
+    "format of two fields": (
+        "m.lpf",
+        "INTERNAL 1 (FREE) -1\n",
+        "INTERNAL 1 (2F8.2,3F10.2) -1\n",
+        "the format (2F8.2,3F10.2) isn't of one repeated field",
+    ),
     "file ends early": ("m.lpf", "CONSTANT 0.4\nCONSTANT 0.00002\n", "CONSTANT 0.4\n", "SS of layer 2 (after HK VKA)"),
-    "as thick as the head": ("m.lpf", "53 -1E+30 0\n0 0\n", "53 -1E+30 0 THICKSTRT\n-1 0\n", "Write LAYTYP 0, and STRT as its top"),
+    "as thick as the head": (
+        "m.lpf",
+        "53 -1E+30 0\n0 0\n",
+        "53 -1E+30 0 THICKSTRT\n-1 0\n",
+        "Write LAYTYP 0, and STRT as its top",
+    ),
 }
 TAKEN = {
     "no parameter": ("m.wel", "1 53\n1 0\n", "PARAMETER 0 0\n1 53\n1 0\n", "PARAMETER 0 dropped"),
@@ -50,7 +65,11 @@ def test_what_the_program_refuses_is_not_inside(name, tmp_path, tool):
     assert status == 1 and out.startswith("NOT INSIDE") and part in out, out + err
     status, out, err = tool("plain", nam, tmp_path / "plain")
     assert status in (1, 2) and "nothing but layout" not in out
-    assert status == 2 or end_of(tmp_path / "plain" / "m.nam").returncode == 2 and "REFUSED ALL THE SAME" in (tmp_path / "plain" / "plain.txt").read_text()
+    assert (
+        status == 2
+        or end_of(tmp_path / "plain" / "m.nam").returncode == 2
+        and "REFUSED ALL THE SAME" in (tmp_path / "plain" / "plain.txt").read_text()
+    )
 
 
 @pytest.mark.program
@@ -77,11 +96,15 @@ def test_a_blank_line_of_counts_is_written_as_modflow_reads_it(tmp_path, tool):
 
 
 @pytest.mark.program
-@pytest.mark.parametrize("change, part", [
-    (("m.chd", "2 1 5 20 21\n", "1 3 4 20 21\n"), "m.chd, line 4: CHD in a cell without flow"),
-    (("m.ghb", "2 4 1 18 5\n", "2 4 1 18,5 5,0\n"), "a decimal comma?"),
-    (("m.lpf", "6 7 8 9 10\n", "6 7,,8 9 10\n"), "a value is left out"),
-    (("m.wel", "1 53\n1 0\n", "0 53\n1 0\n"), "1 entry where the file's maximum is 0")])
+@pytest.mark.parametrize(
+    "change, part",
+    [
+        (("m.chd", "2 1 5 20 21\n", "1 3 4 20 21\n"), "m.chd, line 4: CHD in a cell without flow"),
+        (("m.ghb", "2 4 1 18 5\n", "2 4 1 18,5 5,0\n"), "a decimal comma?"),
+        (("m.lpf", "6 7 8 9 10\n", "6 7,,8 9 10\n"), "a value is left out"),
+        (("m.wel", "1 53\n1 0\n", "0 53\n1 0\n"), "1 entry where the file's maximum is 0"),
+    ],
+)
 def test_a_run_says_where_modflow_reads_otherwise(change, part, tmp_path, tool):
     nam = deck(tmp_path / "deck", *change)
     status, out, err = tool("run", nam)
@@ -96,16 +119,25 @@ def test_a_plain_deck_runs_without_a_warning(tmp_path, tool):
 
 
 @pytest.mark.program
-@pytest.mark.parametrize("change, part", [
-    (("m.lpf", "6 7 8 9 10\n", "# row 2\n6 7 8 9 10\n"), "Comments stand only before the first item"),
-    (("m.wel", "1 53\n1 0\n", "1 53\nSPECIFY 0.05 55\n1 0\n"), "acts in convertible layers alone"),
-    (("m.dis", "10 3 1.5 TR", "10 3.0 1.5 TR"), "`3.0` is a count"),
-    (("m.bas", IBOUND_ROW, "-1. 1 1 0 1\n"), "write `-1.` without a point"),
-    (("m.chd", "0 0\n1 0\n2 1 5 20 21\n", "0 0\n2 0\n2 1 5 20 21\n2 1 5 20 21\n"), "-> A cell stands in a list once"),
-    (("m.lpf", "CONSTANT 0.4\nCONSTANT 0.00002\n", "CONSTANT 0.4\n"), "This was due there: SS of layer 2 (after HK VKA)"),
-    (("m.nam", "WEL 20 m.wel", "WEL 20 my wells.wel"), "goes on after this word"),
-    (("m.nam", "OC 14", "DATAGLO(BINARY) 60 m.cbb\nOC 14"), "only prints or compares"),
-])
+@pytest.mark.parametrize(
+    "change, part",
+    [
+        (("m.lpf", "6 7 8 9 10\n", "# row 2\n6 7 8 9 10\n"), "Comments stand only before the first item"),
+        (("m.wel", "1 53\n1 0\n", "1 53\nSPECIFY 0.05 55\n1 0\n"), "acts in convertible layers alone"),
+        (("m.dis", "10 3 1.5 TR", "10 3.0 1.5 TR"), "`3.0` is a count"),
+        (("m.bas", IBOUND_ROW, "-1. 1 1 0 1\n"), "write `-1.` without a point"),
+        (
+            ("m.chd", "0 0\n1 0\n2 1 5 20 21\n", "0 0\n2 0\n2 1 5 20 21\n2 1 5 20 21\n"),
+            "-> A cell stands in a list once",
+        ),
+        (
+            ("m.lpf", "CONSTANT 0.4\nCONSTANT 0.00002\n", "CONSTANT 0.4\n"),
+            "This was due there: SS of layer 2 (after HK VKA)",
+        ),
+        (("m.nam", "WEL 20 m.wel", "WEL 20 my wells.wel"), "goes on after this word"),
+        (("m.nam", "OC 14", "DATAGLO(BINARY) 60 m.cbb\nOC 14"), "only prints or compares"),
+    ],
+)
 def test_explain_fits_the_line(change, part, tmp_path, tool):
     nam = deck(tmp_path / "deck", *change)
     end_of(nam)
@@ -114,7 +146,9 @@ def test_explain_fits_the_line(change, part, tmp_path, tool):
 
 
 def test_explain_tells_each_model_of_a_batch(tmp_path, tool):
-    (tmp_path / "out").write_text("MODEL a.nam\nHEADS 2 DIGITS 12 UNIT 2\nEND\nMODEL b.nam\nREFUSED 1 MissingFile x 0\nEND\n")
+    (tmp_path / "out").write_text(
+        "MODEL a.nam\nHEADS 2 DIGITS 12 UNIT 2\nEND\nMODEL b.nam\nREFUSED 1 MissingFile x 0\nEND\n"
+    )
     status, out, err = tool("explain", tmp_path / "out")
     assert status == 2 and "a.nam: The run ended well" in out and "b.nam: MissingFile in x" in out, out
 

@@ -77,7 +77,9 @@ def test_frames_hold_the_listing(valley):
     terms = heads_tools.terms_frame(listing, model)
     flows = listing.steps[0].terms["RIVER LEAKAGE"]
     row = terms.loc[1, 1, "RIVER LEAKAGE"]
-    assert Fraction(row.in_lower) <= Fraction(flows[0], 10**21) and Fraction(flows[3], 10**21) <= Fraction(row.out_upper)
+    assert Fraction(row.in_lower) <= Fraction(flows[0], 10**21) and Fraction(flows[3], 10**21) <= Fraction(
+        row.out_upper
+    )
 
 
 @needs("xarray", "netCDF4")
@@ -116,7 +118,10 @@ def test_vtk_has_a_hexahedron_for_each_cell(valley, tmp_path):
     nam, model, listing = valley
     heads_tools.to_vtk(tmp_path / "m.vtu", listing, model, Place(100, 200))
     mesh = meshio.read(tmp_path / "m.vtu")
-    assert len(mesh.cells[0].data) == len(listing.cells) and mesh.cell_data["lower"][0][0] == listing.lower()[-1].ravel()[0]
+    assert (
+        len(mesh.cells[0].data) == len(listing.cells)
+        and mesh.cell_data["lower"][0][0] == listing.lower()[-1].ravel()[0]
+    )
     x, y, z = mesh.points.T
     assert (x.min(), x.max(), y.min()) == (100, 100 + model.delr.sum(), 200) and z.max() == model.top.max()
 
@@ -150,13 +155,18 @@ def test_hob_files_are_read(tide, tool, tmp_path):
     nam, model, listing = tide
     period = model.deck.periods[0]
     length = float(period.perlen)
-    (tmp_path / "m.hob").write_text(f"# heads\n3 0 0 0 -888\n1.0\nA 1 1 20 1 {length} 0 0 5.5\nB 1 1 20 -2 0 0 0 0\n1\n"
-                                    f"B1 1 {length} 0 0\n" + f"B2 1 {length / 2} 1.25 0\n")
+    (tmp_path / "m.hob").write_text(
+        f"# heads\n3 0 0 0 -888\n1.0\nA 1 1 20 1 {length} 0 0 5.5\nB 1 1 20 -2 0 0 0 0\n1\nB1 1 {length} 0 0\n"
+        + f"B2 1 {length / 2} 1.25 0\n"
+    )
     status, out, err = tool("observe", listing.path, tmp_path / "m.hob", "--name", nam)
     rows = list(csv.DictReader(out.splitlines()))
     assert status == 0 and [r["name"] for r in rows] == ["A", "B1", "B2"], out + err
     at = max(n for n, s in enumerate(listing.steps) if s.period == 1)
-    assert rows[0]["lower"] == f"{listing.steps[at].low[listing.at((1, 1, 20))] / 1e9:.9f}" and rows[0]["measured"] == "5.5"
+    assert (
+        rows[0]["lower"] == f"{listing.steps[at].low[listing.at((1, 1, 20))] / 1e9:.9f}"
+        and rows[0]["measured"] == "5.5"
+    )
 
 
 def test_called_as_modflow_it_writes_head_and_list_files(example):
@@ -172,7 +182,10 @@ def test_called_as_modflow_it_writes_head_and_list_files(example):
     known = ~np.isnan(lower)
     assert np.allclose(heads[1, 1][known], ((lower + upper) / 2)[known], rtol=1e-6)
     said = (nam.parent / "m.list").read_text()
-    assert said.count("VOLUMETRIC BUDGET FOR ENTIRE MODEL AT END OF TIME STEP") == len(listing.steps) and "PERCENT DISCREPANCY" in said
+    assert (
+        said.count("VOLUMETRIC BUDGET FOR ENTIRE MODEL AT END OF TIME STEP") == len(listing.steps)
+        and "PERCENT DISCREPANCY" in said
+    )
     (nam.parent / "m.oc").write_text("0 0 61 0\n" + "0 0 0 0\n0 0 1 0\n" * len(listing.steps))
     assert subprocess.run([TOOLS / "mf2005", nam.stem], cwd=nam.parent, capture_output=True).returncode == 0
     assert len(read_heads(nam.parent / "m.hds")) == len(listing.steps)
@@ -186,17 +199,31 @@ def test_called_as_modflow_it_reads_other_spellings_and_ends_badly_where_it_must
     assert done.returncode == 0 and "normal termination" in done.stdout.lower(), done.stdout + done.stderr
     nam = example("no_answer")
     done = subprocess.run([TOOLS / "mf2005", nam.name], cwd=nam.parent, capture_output=True, text=True)
-    assert done.returncode == 3 and "normal termination" not in done.stdout.lower() and "Nothing holds the heads" in done.stdout
+    assert (
+        done.returncode == 3
+        and "normal termination" not in done.stdout.lower()
+        and "Nothing holds the heads" in done.stdout
+    )
 
 
 def test_the_wheel_carries_the_program(tmp_path):
-    if subprocess.run([sys.executable, "-c", "import setuptools, wheel"], capture_output=True).returncode or not (TOP / "dist" / "heads").is_file():
+    if (
+        subprocess.run([sys.executable, "-c", "import setuptools, wheel"], capture_output=True).returncode
+        or not (TOP / "dist" / "heads").is_file()
+    ):
         pytest.skip("without setuptools and wheel, or without dist/heads")
-    done = subprocess.run([TOOLS / "wheel", tmp_path], capture_output=True, text=True, env={"PATH": "/usr/bin:/bin", "PYTHON": sys.executable})
+    done = subprocess.run(
+        [TOOLS / "wheel", tmp_path],
+        capture_output=True,
+        text=True,
+        env={"PATH": "/usr/bin:/bin", "PYTHON": sys.executable},
+    )
     assert done.returncode == 0, done.stderr
     wheel = next(tmp_path.glob("*.whl"))
     with zipfile.ZipFile(wheel) as file:
         assert file.read("heads_tools/bin/heads") == (TOP / "dist" / "heads").read_bytes()
         assert file.getinfo("heads_tools/bin/heads").external_attr >> 16 & 0o111
         assert "heads_tools/bin/recheck.py" in file.namelist()
-        assert set(p.name for p in (TOOLS / "heads_tools").iterdir() if p.is_file()) <= {n.split("/")[-1] for n in file.namelist()}
+        assert set(p.name for p in (TOOLS / "heads_tools").iterdir() if p.is_file()) <= {
+            n.split("/")[-1] for n in file.namelist()
+        }

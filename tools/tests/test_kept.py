@@ -24,7 +24,9 @@ def test_a_wrong_option_leaves_the_listing(ran, tool):
     nam, listing, text = ran
     status, out, err = tool("run", nam, "--digits", "99")
     assert status == 1 and "was left" in out and listing.read_text() == text
-    assert files(nam.parent) == ["a.heads", "a.heads.end"] and (nam.parent / "a.heads.end").read_text().startswith("USAGE")
+    assert files(nam.parent) == ["a.heads", "a.heads.end"] and (nam.parent / "a.heads.end").read_text().startswith(
+        "USAGE"
+    )
     assert tool("run", nam)[0] == 0 and files(nam.parent) == ["a.heads"]
 
 
@@ -33,7 +35,9 @@ def test_a_refused_model_leaves_the_listing_and_without_one_it_is_the_output(ran
     lpf = nam.with_suffix(".lpf")
     lpf.write_text("nothing\n" + lpf.read_text())
     status, out, err = tool("run", nam)
-    assert status == 2 and listing.read_text() == text and (nam.parent / "a.heads.end").read_text().startswith("REFUSED")
+    assert (
+        status == 2 and listing.read_text() == text and (nam.parent / "a.heads.end").read_text().startswith("REFUSED")
+    )
     listing.unlink()
     assert tool("run", nam)[0] == 2 and listing.read_text().startswith("REFUSED")
 
@@ -77,4 +81,6 @@ def test_heads_that_are_not_certified_leave_the_certified_listing(ran, tool, tmp
     before = nam.with_suffix(".certified.heads").read_text()
     status, out, err = tool("certify", nam, tmp_path / "given.csv", "--theta", "0.0001", "--digits", "0")
     assert nam.with_suffix(".certified.heads").read_text() == before or status == 0, out + err
-    assert heads(["check", nam.name, "a.certified.heads", "--digits", "12" if status else "0"], nam.parent).returncode == 0
+    assert (
+        heads(["check", nam.name, "a.certified.heads", "--digits", "12" if status else "0"], nam.parent).returncode == 0
+    )

@@ -30,12 +30,16 @@ def test_a_run_is_certified_by_parts(name, count, ran, tool):
     assert tool("check", nam, listing)[0] == 0
 
 
-@pytest.mark.parametrize("old, new, part", [
-    ("HEAD 1 8 17 7.138119734", "HEAD 1 8 17 7.138119735", "not certified at 1 8 17 LOW"),
-    ("7.138119992", "7.138119700", "not certified at 1 8 17 HIGH"),
-    ("IN 175.7734106", "IN 175.7734107", "RIVER LEAKAGE isn't as wide"),
-    ("END", "", "doesn't end with END"),
-    ("HEAD 1 1 1 ", "HEAD 1 1 99 ", "other cells")])
+@pytest.mark.parametrize(
+    "old, new, part",
+    [
+        ("HEAD 1 8 17 7.138119734", "HEAD 1 8 17 7.138119735", "not certified at 1 8 17 LOW"),
+        ("7.138119992", "7.138119700", "not certified at 1 8 17 HIGH"),
+        ("IN 175.7734106", "IN 175.7734107", "RIVER LEAKAGE isn't as wide"),
+        ("END", "", "doesn't end with END"),
+        ("HEAD 1 1 1 ", "HEAD 1 1 99 ", "other cells"),
+    ],
+)
 def test_a_spoilt_listing_is_not_certified(old, new, part, ran, tool):
     nam, listing, text = ran("river_valley")
     assert old in text
@@ -71,8 +75,11 @@ def test_solvers_agree():
     n = 12
     line = scipy.sparse.diags([-np.ones(n - 1), 2.1 * np.ones(n), -np.ones(n - 1)], [-1, 0, 1])
     eye = scipy.sparse.identity(n)
-    matrix = (scipy.sparse.kron(scipy.sparse.kron(line, eye), eye) + scipy.sparse.kron(scipy.sparse.kron(eye, line), eye)
-              + scipy.sparse.kron(scipy.sparse.kron(eye, eye), line)).tocsc()
+    matrix = (
+        scipy.sparse.kron(scipy.sparse.kron(line, eye), eye)
+        + scipy.sparse.kron(scipy.sparse.kron(eye, line), eye)
+        + scipy.sparse.kron(scipy.sparse.kron(eye, eye), line)
+    ).tocsc()
     rest = np.random.default_rng(1).normal(size=n**3)
     for solve in (by_scaling, by_incomplete):
         near = solve(matrix, rest)
