@@ -62,9 +62,22 @@ def do_run(args: argparse.Namespace, options: list[str]) -> int:
         ended = run(nam, [*options, "--digits", str(digits)], out, steps, is_followed=is_followed)
     meaning = explain(ended.last, nam.parent, digits, ended.steps > 0)
     if meaning.is_good:
-        say([*meaning.lines, summary(out), f"listing {out} ({ended.seconds:.1f} s" + (f", --digits {digits})" if tried else ")")])
+        say(
+            [
+                *meaning.lines,
+                summary(out),
+                f"listing {out} ({ended.seconds:.1f} s" + (f", --digits {digits})" if tried else ")"),
+            ]
+        )
     else:
-        say(meaning.lines + ([f"{out} is that of an earlier run and was left; this run's output is {ended.output.name}"] if ended.output != out else []))
+        say(
+            meaning.lines
+            + (
+                [f"{out} is that of an earlier run and was left; this run's output is {ended.output.name}"]
+                if ended.output != out
+                else []
+            )
+        )
     return ended.status
 
 
@@ -147,7 +160,9 @@ def do_compare(args: argparse.Namespace, _: list[str]) -> int:
         from .look import look_at_given
         from .model import read_model
 
-        look_at_given(listing, args.map, read_model(existing(args.name)) if args.name else None, verdict, existing(args.heads))
+        look_at_given(
+            listing, args.map, read_model(existing(args.name)) if args.name else None, verdict, existing(args.heads)
+        )
         say([f"open {args.map / 'index.html'}"])
     return verdict.status or 0
 
@@ -176,7 +191,9 @@ def do_certify(args: argparse.Namespace, _: list[str]) -> int:
     if not 0 <= args.digits <= MOST_DIGITS:
         raise Problem("--digits is from 0 to 18")
     nam = existing(args.nam)
-    ended = certify(nam, existing(args.heads), args.digits, (args.out or nam.with_suffix(".certified.heads")).resolve(), args.theta)
+    ended = certify(
+        nam, existing(args.heads), args.digits, (args.out or nam.with_suffix(".certified.heads")).resolve(), args.theta
+    )
     say(ended.lines)
     return ended.status
 
@@ -213,7 +230,12 @@ def do_hds(args: argparse.Namespace, _: list[str]) -> int:
     write_heads(args.out, listing, side, model.shape if model else None, model.times if model else None, args.single)
     how = {"lower": "rounded down", "upper": "rounded up", "middle": "rounded: no bounds"}[side]
     precision = "single" if args.single else "double"
-    say([f"{side} heads of {counted(len(listing.steps), 'step')} in {args.out} ({precision} precision, {how}; -999.99 where there is no flow)"])
+    say(
+        [
+            f"{side} heads of {counted(len(listing.steps), 'step')} in {args.out} ({precision} precision, {how};"
+            " -999.99 where there is no flow)"
+        ]
+    )
     return 0
 
 
@@ -246,7 +268,9 @@ def fitting(listing: Listing, model: Model) -> Listing:
     if not listing.steps:
         raise Problem(f"{listing.path} has no whole step")
     if any(a > b for a, b in zip(listing.shape, model.shape)):
-        raise Problem(f"{listing.path} has cells up to {listing.shape}, and the model's grid is {model.shape}: another model")
+        raise Problem(
+            f"{listing.path} has cells up to {listing.shape}, and the model's grid is {model.shape}: another model"
+        )
     return listing
 
 

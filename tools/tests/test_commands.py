@@ -4,7 +4,7 @@ import re
 from pathlib import Path
 
 import pytest
-from conftest import TOOLS, heads
+from conftest import heads, TOOLS, TOP
 
 EXAMPLES = ["three_cells", "drained_field", "tide", "river_valley"]
 
@@ -68,7 +68,9 @@ def test_compare_says_how_far_given_heads_are_off(ran, tool, tmp_path):
     nam, listing = ran("three_cells")
     (tmp_path / "given.csv").write_text("layer,row,col,head\n1,1,2,15.25\n")
     status, out, err = tool("compare", listing, tmp_path / "given.csv")
-    assert status == 0 and "at least 0.249" in out and "at most 0.251" in out and "1 of the listing's 3 cells" in out, out
+    assert (
+        status == 0 and "at least 0.249" in out and "at most 0.251" in out and "1 of the listing's 3 cells" in out
+    ), out
     (tmp_path / "wide.csv").write_text("layer,row,col,head\n9,9,9,3\n")
     assert tool("compare", listing, tmp_path / "wide.csv")[0] == 2
 
@@ -83,7 +85,9 @@ def test_runs_again_with_the_digits_that_fit(example, tool):
 
 
 @pytest.mark.program
-@pytest.mark.parametrize("name, status, part", [("no_answer", 3, "Nothing holds the heads"), ("refused", 2, "HOB only prints or compares")])
+@pytest.mark.parametrize(
+    "name, status, part", [("no_answer", 3, "Nothing holds the heads"), ("refused", 2, "HOB only prints or compares")]
+)
 def test_run_explains_how_it_ended(name, status, part, example, tool):
     got, out, err = tool("run", example(name))
     assert got == status and part in out and "END" not in out
@@ -122,19 +126,47 @@ def test_a_batch_of_the_program_is_parted_by_model(tmp_path):
     from heads_tools.batch import Job, split_batch
 
     jobs = [Job(n, tmp_path / n) for n in ("a.nam", "b.nam", "c.nam")]
-    split_batch("MODEL a.nam\nHEADS 2 DIGITS 12 UNIT 2\nEND\nMODEL b.nam\nREFUSED 1 MissingFile x 0\nMODEL c.nam\nHEADS 2 DIGITS 12 UNIT 2\nEND\nEND\n", jobs)
-    assert [j.listing.read_text() for j in jobs] == ["HEADS 2 DIGITS 12 UNIT 2\nEND\n", "REFUSED 1 MissingFile x 0\n", "HEADS 2 DIGITS 12 UNIT 2\nEND\n"]
+    split_batch(
+        (
+            "MODEL a.nam\nHEADS 2 DIGITS 12 UNIT 2\nEND\nMODEL b.nam\nREFUSED 1 MissingFile x 0\nMODEL c.nam\nHEADS 2"
+            " DIGITS 12 UNIT 2\nEND\nEND\n"
+        ),
+        jobs,
+    )
+    assert [j.listing.read_text() for j in jobs] == [
+        "HEADS 2 DIGITS 12 UNIT 2\nEND\n",
+        "REFUSED 1 MissingFile x 0\n",
+        "HEADS 2 DIGITS 12 UNIT 2\nEND\n",
+    ]
 
 
 def test_model_tells_what_was_read(example, tool):
     status, out, err = tool("model", example("three_aquifers"))
-    assert status == 0 and "3 layers, 15 rows, 15 columns: 675 cells" in out and "VKCB 0.001" in out and "WEL: [1: 1 entry;" in out
+    assert (
+        status == 0
+        and "3 layers, 15 rows, 15 columns: 675 cells" in out
+        and "VKCB 0.001" in out
+        and "WEL: [1: 1 entry;" in out
+    )
 
 
-@pytest.mark.parametrize("words", [
-    ["look", "nothing.heads", "out"], ["run", "nothing.nam"], ["inside", "."], ["compare", "nothing", "nothing"], ["explain", "nothing"],
-    ["plain", "nothing.nam", "out"], ["hds", "nothing", "x.hds"], ["model", "nothing.nam"], ["batch", "nothing.txt"],
-    ["certify", "nothing.nam", "x"], ["exhibit", "nothing.nam", "out"], ["grow"]])
+@pytest.mark.parametrize(
+    "words",
+    [
+        ["look", "nothing.heads", "out"],
+        ["run", "nothing.nam"],
+        ["inside", "."],
+        ["compare", "nothing", "nothing"],
+        ["explain", "nothing"],
+        ["plain", "nothing.nam", "out"],
+        ["hds", "nothing", "x.hds"],
+        ["model", "nothing.nam"],
+        ["batch", "nothing.txt"],
+        ["certify", "nothing.nam", "x"],
+        ["exhibit", "nothing.nam", "out"],
+        ["grow"],
+    ],
+)
 def test_bad_input_gets_a_sentence(words, tool, tmp_path, monkeypatch):
     monkeypatch.chdir(tmp_path)
     status, out, err = tool(*words)
@@ -157,9 +189,22 @@ def test_explain_has_a_sentence_for_each_code(code, tmp_path, tool):
     assert status == (2 if code <= 20 else 3) and len(out) > 60 and "  -> " in out
 
 
-@pytest.mark.parametrize("last, status", [
-    ("END", 0), ("CERTIFIED", 0), ("USAGE: heads run NAME", 1), ("UNFINISHED 1 2", 4), ("READFAULT", 5), ("", 6), ("HEAD 1 1 1 0.0", 6), ("MEMORY", 7),
-    ("NOT CERTIFIED 1 1 1 1 2 LOW", 8), ("NOT CERTIFIED 1 1 IN RIVER LEAKAGE", 8), ("NOBOUND 23 FlowTooLarge 1 1 ZONE 1 2", 3)])
+@pytest.mark.parametrize(
+    "last, status",
+    [
+        ("END", 0),
+        ("CERTIFIED", 0),
+        ("USAGE: heads run NAME", 1),
+        ("UNFINISHED 1 2", 4),
+        ("READFAULT", 5),
+        ("", 6),
+        ("HEAD 1 1 1 0.0", 6),
+        ("MEMORY", 7),
+        ("NOT CERTIFIED 1 1 1 1 2 LOW", 8),
+        ("NOT CERTIFIED 1 1 IN RIVER LEAKAGE", 8),
+        ("NOBOUND 23 FlowTooLarge 1 1 ZONE 1 2", 3),
+    ],
+)
 def test_explain_has_a_sentence_for_each_status(last, status, tmp_path, tool):
     (tmp_path / "out").write_text(last + "\n" if last else "")
     got, out, err = tool("explain", tmp_path / "out")
@@ -183,7 +228,10 @@ def test_zone_flows_are_shown(tmp_path, tool):
     text = (Path(__file__).parent / "test_listing.py").read_text().split('"""')[3].lstrip("\n")
     (tmp_path / "m.heads").write_text(text)
     status, out, err = tool("look", tmp_path / "m.heads", tmp_path / "look")
-    assert status == 0 and (tmp_path / "look" / "zones.csv").read_text().split("\n")[1] == "1,1,1,2,-0.250000000000,0.000000000001", err
+    assert (
+        status == 0
+        and (tmp_path / "look" / "zones.csv").read_text().split("\n")[1] == "1,1,1,2,-0.250000000000,0.000000000001"
+    ), err
 
 
 @pytest.mark.program
@@ -205,12 +253,17 @@ def test_a_slow_step_tells_its_phase_and_how_many_cells_move(capfd, monkeypatch)
     from heads_tools.follow import Progress
 
     progress = Progress("m.nam", 3)
-    views = b"WATCH 1 2\nHEAD 1 1 2 0.0 9.0\nHEAD 1 1 3 0.0 9.0\nWATCH 1 2\nHEAD 1 1 2 0.0 9.0\nHEAD 1 1 3 1.0 9.0\nanother line\n"
+    views = (
+        b"WATCH 1 2\nHEAD 1 1 2 0.0 9.0\nHEAD 1 1 3 0.0 9.0\nWATCH 1 2\nHEAD 1 1 2 0.0 9.0\nHEAD 1 1 3 1.0 9.0\nanother"
+        b" line\n"
+    )
     progress.step()
     progress.read(io.BytesIO(views))
     progress.tell_step()
     err = capfd.readouterr().err
-    assert "another line" in err and "step 2 of 3 (period 1 step 2): phase 2, 1 of 2 cells still move, 0 s so far" in err, err
+    assert (
+        "another line" in err and "step 2 of 3 (period 1 step 2): phase 2, 1 of 2 cells still move, 0 s so far" in err
+    ), err
 
 
 @pytest.mark.program
@@ -228,7 +281,10 @@ def test_each_command_stands_in_the_man_page_and_in_the_readme():
     commands = next(a for a in parser()._actions if hasattr(a, "choices") and a.choices).choices
     page, readme = (TOP / "docs" / "heads-tools.1").read_text(), (TOOLS / "README.md").read_text()
     for name in commands:
-        assert f"heads\\-tools {name} " in page.replace(f'"heads-tools {name}"', f"heads\\-tools {name} ") and f"`{name}" in readme, name
+        assert (
+            f"heads\\-tools {name} " in page.replace(f'"heads-tools {name}"', f"heads\\-tools {name} ")
+            and f"`{name}" in readme
+        ), name
 
 
 def test_the_version_is_told(tool):
