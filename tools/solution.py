@@ -1,39 +1,60 @@
 #!/usr/bin/env python3
-"""The exact solution of a deck, beside a listing of `heads`:  python3 solution.py NAME LISTING [MOST]  (in the deck's folder)
+"""The exact solution of a deck, beside a listing of `heads`.
 
-It makes the manual's equations as recheck.py does, solves each time step in fractions, and says whether the solution lies between the listed heads.
-A river, a drain and an evapotranspiration is linear in each of its ranges; the ranges are those of the listed heads' middle first, then those of the
-last solution, until they are its own. So what is found is a solution, whatever was guessed: its balances are tested to be 0.
+    python3 solution.py NAME LISTING [MOST]      (in the deck's folder, beside recheck.py)
+
+It makes the manual's equations as recheck.py does, solves each time step in fractions, and says whether the solution
+lies between the listed heads. It tests no terms and no flows between zones: take a listing without lines ZONE.
+A river, a drain and an evapotranspiration is linear in each of its ranges; the ranges are those of the listed heads'
+middle first, then those of the last solution, until they are its own. So what is found is a solution, whatever was
+guessed: its balances are tested to be 0.
 
 Fractions grow with cells and steps. A model of more than MOST variable cells (200 where it is left out) is not tried.
+Status 0: FOUND. 1: OUTSIDE. 2: not tried, not found, or the files can't be read. 3: the words aren't these.
 """
+from __future__ import annotations
+
 import sys
-from fractions import Fraction as Q
+from fractions import Fraction
 from math import lcm
 
-from recheck import Fault, Listing, Model, Step
+from recheck import USAGE, ZERO, Fault, GivenHead, Heads, Listing, Model, Step, given_heads
+
+FOUND, OUTSIDE, NOT_TRIED = 0, 1, 2
+MOST_CELLS, MOST_ROUNDS = 200, 100
+
+Row = dict[int, Fraction]
 
 
-def linear_row(step, c, head, old):
-    """The balance of cell c where its head lies in the range of `head`: how it falls with the head, and what it is at a head of 0."""
-    slope, flow = Q(0), Q(0)
-    for _, g, known in step.known[c]:
-        slope, flow = slope + g, flow + g * (old[c] if known is None else known)
-    flow += sum(q for _, q in step.flat[c])
-    for g, stage, bottom in step.rivers[c]:
-        slope, flow = (slope + g, flow + g * stage) if head > bottom else (slope, flow + g * (stage - bottom))
-    for g, level in step.drains[c]:
-        slope, flow = (slope + g, flow + g * level) if head > level else (slope, flow)
-    for g, surface, extinction in step.evaps[c]:
-        if head >= surface:
-            flow -= g * (surface - extinction)
-        elif head > extinction:
-            slope, flow = slope + g, flow + g * extinction
-    return slope + sum(g for _, g in step.links[c]), flow
+def linear_row(step: Step, cell: int, head: Fraction, old: Heads) -> tuple[Fraction, Fraction]:
+    """A cell's balance where its head lies in the range of `head`: how it falls with the head, and what it is at 0."""
+    slope = sum((g for _, g in step.links[cell]), ZERO)
+    flow = sum((q for _, q in step.flat[cell]), ZERO)
+    for known in step.known[cell]:
+        slope += known.conductance
+        flow += known.conductance * (old[cell] if known.head is None else known.head)
+    for river in step.rivers[cell]:
+        if head > river.bottom:
+            slope += river.conductance
+            flow += river.conductance * river.stage
+        else:
+            flow += river.conductance * (river.stage - river.bottom)
+    for drain in step.drains[cell]:
+        if head > drain.elevation:
+            slope += drain.conductance
+            flow += drain.conductance * drain.elevation
+    for evap in step.evaps[cell]:
+        if head >= evap.surface:
+            flow -= evap.conductance * (evap.surface - evap.extinction)
+        elif head > evap.extinction:
+            slope += evap.conductance
+            flow += evap.conductance * evap.extinction
+    return slope, flow
 
 
-def solve_linear(rows, right):
-    """Heads x with `rows[c][c] x[c] - sum of rows[c][b] x[b] = right[c]`: elimination in whole numbers (Bareiss), where each division leaves nothing."""
+def solve_linear(rows: dict[int, Row], right: Row) -> Row:
+    """Heads x with `rows[c][c] x[c] - sum of rows[c][b] x[b] = right[c]`: elimination in whole numbers (Bareiss), where
+    each division leaves nothing."""
     order = list(rows)
     scale = lcm(*(g.denominator for row in rows.values() for g in row.values()))
     under = lcm(*(q.denominator for q in right.values()))
@@ -46,66 +67,82 @@ def solve_linear(rows, right):
             raise Fault("the equations have no single solution in these ranges")
         for b in order[k + 1:]:
             factor = a[b].pop(c, 0)
-            a[b] = {d: (pivot * a[b].get(d, 0) - factor * a[c].get(d, 0)) // last for d in a[b].keys() | (a[c].keys() - {c} if factor else set())}
+            columns = a[b].keys() | (a[c].keys() - {c} if factor else set())
+            a[b] = {d: (pivot * a[b].get(d, 0) - factor * a[c].get(d, 0)) // last for d in columns}
             y[b] = (pivot * y[b] - factor * y[c]) // last
         last = pivot
-    x = {}
+    x: dict[int, int] = {}
     for c in reversed(order):
         x[c] = (last * y[c] - sum(g * x[d] for d, g in a[c].items() if d != c)) // a[c][c]
-    return {c: Q(x[c], last * under) for c in order}
+    return {c: Fraction(x[c], last * under) for c in order}
 
 
-def solve_step(step, guess, old):
+def solve_step(step: Step, guess: Heads, old: Heads) -> Heads:
     """The heads that make all balances 0."""
-    heads = dict(guess)
-    for _ in range(100):
-        rows, right = {}, {}
-        for c in step.cells:
-            slope, right[c] = linear_row(step, c, heads[c], old)
-            rows[c] = {c: slope}
-            for b, g in step.links[c]:
-                rows[c][b] = rows[c].get(b, Q(0)) + g
-        heads = solve_linear(rows, right)
-        if all(step.balance(c, heads, old) == 0 for c in step.cells):
+    heads = list(guess)
+    for _ in range(MOST_ROUNDS):
+        rows: dict[int, Row] = {}
+        right: Row = {}
+        for cell in step.cells:
+            slope, right[cell] = linear_row(step, cell, heads[cell], old)
+            rows[cell] = {cell: slope}
+            for b, g in step.links[cell]:
+                rows[cell][b] = rows[cell].get(b, ZERO) + g
+        for cell, head in solve_linear(rows, right).items():
+            heads[cell] = head
+        if all(step.balance(cell, heads, old) == 0 for cell in step.cells):
             return heads
-    raise Fault("no solution was found in 100 rounds")
+    raise Fault(f"no solution was found in {MOST_ROUNDS} rounds")
 
 
-def digits_of(heads):
+def digits_of(heads: Heads) -> int:
     """The digits of the longest denominator."""
-    return max((len(str(x.denominator)) for x in heads.values()), default=1)
+    return max((len(str(head.denominator)) for head in heads), default=1)
 
 
-def main(name, listing, most=200):
-    model, named, old, longest, count = Model(name), {}, None, 1, 0
-    text, old = Listing(listing, model), dict(enumerate(model.strt))
-    for p, (_, nstp, _, _) in enumerate(model.periods):
-        named = {c: (a, e, False) for c, (a, e, _) in named.items()} | {c: (*v, True) for c, v in model.lists.get("CHD", [[]] * model.nper)[p]}
-        for n in range(1, nstp + 1):
-            low, high, _ = text.step(p + 1, n)
-            step = Step(model, p, n, named)
+def find(model: Model, listing: Listing, most: int) -> int:
+    """Solves the steps one after another, and prints what was found."""
+    old, longest, count = list(model.strt), 1, 0
+    given: dict[int, GivenHead] = {}
+    for period, times in enumerate(model.periods):
+        given = given_heads(model, period, given)
+        for number in range(1, times.steps + 1):
+            listed = listing.step(period + 1, number, [])
+            step = Step(model, period, number, given)
             if len(step.cells) > most:
                 print(f"NOT TRIED: {len(step.cells)} variable cells are more than {most}")
-                return 2
-            heads = solve_step(step, {c: (low[c] + high[c]) / 2 for c in step.cells}, old)
-            for c, x in (heads | step.constant).items():
-                if not low[c] <= x <= high[c]:
-                    print(f"OUTSIDE: period {p + 1} step {n}, {model.place(c)}: {float(x)} isn't between {float(low[c])} and {float(high[c])}")
-                    return 1
-            old, longest, count = old | heads | step.constant, max(longest, digits_of(heads)), count + 1
-    print(f"FOUND: the solution of {count} step{'s' * (count != 1)} lies between the listed heads; digits of its longest denominator: {longest}")
-    return 0
+                return NOT_TRIED
+            middle = [(low + high) / 2 for low, high in zip(listed.lower, listed.upper)]
+            heads = solve_step(step, middle, old)
+            for cell, head in step.constant.items():
+                heads[cell] = head
+            for cell in [*step.cells, *step.constant]:
+                low, high = listed.lower[cell], listed.upper[cell]
+                if not low <= heads[cell] <= high:
+                    print(f"OUTSIDE: period {period + 1} step {number}, {model.place(cell)}: {float(heads[cell])} "
+                          f"isn't between {float(low)} and {float(high)}")
+                    return OUTSIDE
+            old, longest, count = heads, max(longest, digits_of(heads)), count + 1
+    print(f"FOUND: the solution of {count} step{'s' * (count != 1)} lies between the listed heads; "
+          f"digits of its longest denominator: {longest}")
+    return FOUND
+
+
+def main(arguments: list[str]) -> int:
+    if len(arguments) not in (2, 3) or not arguments[2:3] == [word for word in arguments[2:3] if word.isdigit()]:
+        print("usage: python3 solution.py NAME LISTING [MOST]   (in the folder of the deck)", file=sys.stderr)
+        return USAGE
+    if hasattr(sys, "set_int_max_str_digits"):
+        sys.set_int_max_str_digits(0)
+    try:
+        model = Model(arguments[0])
+        return find(model, Listing(arguments[1], model), int(arguments[2]) if len(arguments) == 3 else MOST_CELLS)
+    except Fault as fault:
+        print(f"NOT FOUND: {fault}")
+    except (OSError, StopIteration, KeyError, IndexError, ValueError, ZeroDivisionError) as error:
+        print(f"NOT FOUND: the deck or the listing can't be read here: {type(error).__name__} {error}")
+    return NOT_TRIED
 
 
 if __name__ == "__main__":
-    sys.set_int_max_str_digits(0)
-    if len(sys.argv) not in (3, 4):
-        sys.exit("usage: python3 solution.py NAME LISTING [MOST]   (in the folder of the deck)")
-    try:
-        sys.exit(main(*sys.argv[1:3], *map(int, sys.argv[3:])))
-    except Fault as fault:
-        print(f"NOT FOUND: {fault}")
-        sys.exit(2)
-    except (OSError, StopIteration, KeyError, IndexError, ValueError, ZeroDivisionError) as error:
-        print(f"NOT FOUND: the deck or the listing can't be read here: {type(error).__name__} {error}")
-        sys.exit(2)
+    sys.exit(main(sys.argv[1:]))

@@ -1,7 +1,50 @@
 """Tools beside `heads`, the program of certified heads for MODFLOW-2005. Nothing in this package is proved."""
+import sys
+from types import ModuleType
+
+from .calls import Answer, certify, compare, drawdown, inside, look, plain, run
+from .exports import Place, heads_frame, terms_frame, to_geotiff, to_netcdf, to_vtk, to_xarray
 from .headfile import read_heads, write_heads
 from .listing import Listing, Step, read_listing
+from .model import Model, read_model
 from .text import Problem
 
-__all__ = ["Listing", "Problem", "Step", "read_heads", "read_listing", "write_heads"]
-__version__ = "1.0"
+__version__ = "0.1.0"
+CALLS = ("certify", "compare", "drawdown", "inside", "look", "plain", "run")
+__all__ = [
+    "Answer",
+    "Listing",
+    "Model",
+    "Place",
+    "Problem",
+    "Step",
+    "certify",
+    "compare",
+    "drawdown",
+    "heads_frame",
+    "inside",
+    "look",
+    "plain",
+    "read_heads",
+    "read_listing",
+    "read_model",
+    "run",
+    "terms_frame",
+    "to_geotiff",
+    "to_netcdf",
+    "to_vtk",
+    "to_xarray",
+    "write_heads",
+]
+
+
+class Package(ModuleType):
+    """This package, whose calls keep their names: some of its modules have the same ones, and the first import of a
+    module would put it in the call's place."""
+
+    def __setattr__(self, name: str, value: object) -> None:
+        if not (name in CALLS and isinstance(value, ModuleType)):
+            super().__setattr__(name, value)
+
+
+sys.modules[__name__].__class__ = Package

@@ -24,15 +24,27 @@ REFUSALS = {
 }
 NO_BOUNDS = {
     21: "Two neighbouring cells are joined by less than one unit of conductance (10^-{digits}).",
-    22: "The conductances at this cell (branches, storage, rivers, drains, general heads, evapotranspiration) sum to 2^60 units of 10^-{digits} or more.",
+    22: (
+        "The conductances at this cell (branches, storage, rivers, drains, general heads, evapotranspiration) sum to"
+        " 2^60 units of 10^-{digits} or more."
+    ),
     23: "A flow is too great for --digits {digits}.",
-    24: "Nothing holds the heads of this cell's group of cells from below: it touches no constant head, general head or storage, "
-        "and its rivers and drains give less than its wells and evapotranspiration take.",
-    25: "Nothing holds the heads of this cell's group of cells from above: it touches no constant head, general head, river, drain or storage.",
-    26: "The floor under the heads lies below -4,000,000,000: a very small conductance stands on the way to the next known head, "
-        "and the floor sums what all cells lack.",
-    27: "The ceiling over the heads lies above 4,000,000,000: a very small conductance stands on the way to the next known head, "
-        "and the ceiling sums what all cells have too much.",
+    24: (
+        "Nothing holds the heads of this cell's group of cells from below: it touches no constant head, general head or"
+        " storage, and its rivers and drains give less than its wells and evapotranspiration take."
+    ),
+    25: (
+        "Nothing holds the heads of this cell's group of cells from above: it touches no constant head, general head,"
+        " river, drain or storage."
+    ),
+    26: (
+        "The floor under the heads lies below -4,000,000,000: a very small conductance stands on the way to the next"
+        " known head, and the floor sums what all cells lack."
+    ),
+    27: (
+        "The ceiling over the heads lies above 4,000,000,000: a very small conductance stands on the way to the next"
+        " known head, and the ceiling sums what all cells have too much."
+    ),
 }
 REMEDIES = {
     2: "Split the file: arrays may stand in files of their own (OPEN/CLOSE).",
@@ -40,34 +52,75 @@ REMEDIES = {
     5: "Take one of the two lines out, or make one file of both.",
     7: "Look at the name file: each package has a line `TYPE UNIT FILE`.",
     8: "Count the lines after the last item that was read; an array with too few values takes those of the next.",
-    16: "Count layers, rows and columns from 1; NLAY, NROW and NCOL stand in the first line of DIS. (FloPy counts from 0 in Python and from 1 in files.)",
+    16: (
+        "Count layers, rows and columns from 1; NLAY, NROW and NCOL stand in the first line of DIS. (FloPy counts from"
+        " 0 in Python and from 1 in files.)"
+    ),
     19: "Write a head within the model's range; for a cell without flow write IBOUND 0.",
     14: "Raise the top or lower the bottom there, or make the cell inactive (IBOUND 0).",
-    15: "HK, HANI, VKA and VKCB are above 0 in active cells, SS, Cond and EVTR at least 0, EXDP above 0 where EVTR is; a CHD cell stands in a list once. "
-        "A cell of HK 0 is inactive in MODFLOW: write IBOUND 0 there. A zone number lies from 0 to 999.",
+    15: (
+        "HK, HANI, VKA and VKCB are above 0 in active cells, SS, Cond and EVTR at least 0, EXDP above 0 where EVTR is;"
+        " a CHD cell stands in a list once. A cell of HK 0 is inactive in MODFLOW: write IBOUND 0 there. A zone number"
+        " lies from 0 to 999."
+    ),
     17: "Split the model, or merge entries of one cell (flows add; conductances to one level add).",
     18: "Write the list or the array of the first period out.",
-    20: "A listing is checked with the --digits that it was made with (12 where they are left out), without ZONE lines; or its model has changed.",
-    24: "Either the model has no solution or any lower head solves it too; MODFLOW prints heads there all the same. "
-        "Join the cells to a head, take less, or make them inactive (IBOUND 0).",
+    20: (
+        "A listing is checked with the --digits that it was made with (12 where they are left out), without ZONE lines;"
+        " or its model has changed."
+    ),
+    24: (
+        "Either the model has no solution or any lower head solves it too; MODFLOW prints heads there all the same. "
+        "Join the cells to a head, take less, or make them inactive (IBOUND 0)."
+    ),
     25: "Join the cells to something that takes water, or make them inactive (IBOUND 0).",
-    26: "The model may well have heads. Leave the lens of small conductivity out (IBOUND 0), or give its cells a conductivity nearer to that beside it.",
-    27: "The model may well have heads. Leave the lens of small conductivity out (IBOUND 0), or give its cells a conductivity nearer to that beside it.",
+    26: (
+        "The model may well have heads. Leave the lens of small conductivity out (IBOUND 0), or give its cells a"
+        " conductivity nearer to that beside it."
+    ),
+    27: (
+        "The model may well have heads. Leave the lens of small conductivity out (IBOUND 0), or give its cells a"
+        " conductivity nearer to that beside it."
+    ),
 }
-ONLY_PRINT = {"HOB", "CHOB", "DROB", "GBOB", "RVOB", "HYD", "GAGE", "GLOBAL"}
+OUT_OF_RANGE = {
+    "LPF": (
+        "HK, HANI, VKA and VKCB are above 0 in cells with flow, SS is at least 0. A cell of HK 0 is inactive in"
+        " MODFLOW: write IBOUND 0 there."
+    ),
+    "CHD": (
+        "A cell stands in a list once (MODFLOW-2005 adds the heads of two entries): take one of the two entries out."
+    ),
+    "RIV": "Cond is at least 0.",
+    "DRN": "Cond is at least 0.",
+    "GHB": "Cond is at least 0.",
+    "EVT": "EVTR is at least 0, and EXDP above 0 where EVTR is.",
+}
+ONLY_PRINT = {"HOB", "CHOB", "DROB", "GBOB", "RVOB", "HYD", "GAGE", "GLOBAL", "DATAGLO", "DATAGLO(BINARY)"}
 UNKNOWN_PACKAGE = "it changes the equations, or is unknown. DIS BAS6 LPF WEL RIV DRN GHB RCH CHD EVT are read"
 OTHER_PACKAGES = {
-    "BCF6": "BCF6 gives transmissivities: load the model in FloPy and write its layers with LPF (HK = transmissivity / thickness)",
+    "BCF6": (
+        "BCF6 gives transmissivities: load the model in FloPy and write its layers with LPF (HK = transmissivity /"
+        " thickness)"
+    ),
     "HUF2": "write hydrogeologic units as layers of LPF",
     "UPW": "UPW is MODFLOW-NWT's: where every LAYTYP is 0 it says the same as LPF, and `heads-tools plain` writes LPF",
     "NWT": "the solver of MODFLOW-NWT: take the line out (`heads-tools plain` does)",
     "LMG": "a solver of MODFLOW-2000: take the line out (`heads-tools plain` does)",
     "SMS": "the solver of MODFLOW-USG: take the line out (`heads-tools plain` does)",
     "HFB6": "barriers change conductances, so the equations; there is no way round in this version",
-    "SFR": "streams that route water aren't inside. A river (RIV) with the stages that SFR found is another model: say so where you use it",
-    "STR": "streams that route water aren't inside. A river (RIV) with fixed stages is another model: say so where you use it",
+    "SFR": (
+        "streams that route water aren't inside. A river (RIV) with the stages that SFR found is another model: say so"
+        " where you use it"
+    ),
+    "STR": (
+        "streams that route water aren't inside. A river (RIV) with fixed stages is another model: say so where you"
+        " use it"
+    ),
     "LAK": "lakes whose stage is solved for aren't inside",
-    "UZF": "unsaturated flow isn't inside. Recharge (RCH) of the rates that reach the water table is another model: say so",
+    "UZF": (
+        "unsaturated flow isn't inside. Recharge (RCH) of the rates that reach the water table is another model: say so"
+    ),
     "MNW1": "multi-node wells aren't inside. Entries of WEL by layer are another model: say so",
     "MNW2": "multi-node wells aren't inside. Entries of WEL by layer are another model: say so",
     "FHB": "write its flows with WEL and its heads with CHD",

@@ -1,4 +1,5 @@
-"""batch: runs many models and collects how they ended: by `heads batch`, by single runs, by Slurm or by GNU parallel."""
+"""batch: runs many models and collects how they ended: by `heads batch`, by single runs, by Slurm or by GNU
+parallel."""
 from __future__ import annotations
 
 import os
@@ -13,7 +14,7 @@ from pathlib import Path
 
 from .explain import explain
 from .listing import read_listing
-from .program import digits_of, program, run
+from .program import digits_of, direct_program, end_of, has_steps, program, run, settle_output
 from .text import Problem, counted, decimal_text, read_text, whole_file, words
 
 MOST_JOBS = 1000
@@ -29,6 +30,11 @@ class Job:
     @property
     def listing(self) -> Path:
         return self.nam.with_suffix(".heads")
+
+    @property
+    def outputs(self) -> tuple[Path, Path]:
+        """Where a run's output may be: the listing, or the file beside it for one without a step."""
+        return self.listing, end_of(self.listing)
 
 
 def read_jobs(path: Path) -> list[Job]:
@@ -52,44 +58,64 @@ def read_jobs(path: Path) -> list[Job]:
 
 def batch(path: Path, options: list[str], way: str, at_once: int, is_written_only: bool) -> int:
     """Runs all models of a list in the way asked for, and prints how each ended; the first status that isn't 0."""
-    jobs, at_once = read_jobs(path), at_once or os.cpu_count() or 1
-    before = [stamp(job) for job in jobs]
+    jobs = read_jobs(path)
+    before = [stamps(job) for job in jobs]
     if way == "slurm":
         run_slurm(path, jobs, options, at_once, is_written_only)
     elif way == "parallel":
         run_parallel(path, jobs, options, at_once, is_written_only)
-    elif not run_by_program(jobs, options, at_once):
-        with ThreadPoolExecutor(at_once) as pool:
-            for done, job in enumerate(pool.map(lambda job: run(job.nam, options, job.listing, is_told=False) and job, jobs), 1):
+    elif not run_by_program(jobs, options, at_once or os.cpu_count() or 1):
+        with ThreadPoolExecutor(at_once or os.cpu_count() or 1) as pool:
+            for done, job in enumerate(
+                pool.map(lambda job: run(job.nam, options, job.listing, is_told=False) and job, jobs), 1
+            ):
                 print(f"{done} of {len(jobs)}: {job.name}", file=sys.stderr)
     return 0 if is_written_only and way != "here" else collect(jobs, before, options, path.with_suffix(".ends.csv"))
 
 
-def stamp(job: Job) -> tuple[int, int] | None:
-    """What tells a listing of this batch from one that stood there before: its inode and the time it was written."""
-    if not job.listing.is_file():
+def stamp(path: Path) -> tuple[int, int] | None:
+    """What tells a file of this batch from one that was there before: its inode and the time it was written."""
+    if not path.is_file():
         return None
-    at = job.listing.stat()
+    at = path.stat()
     return at.st_ino, at.st_mtime_ns
 
 
-def collect(jobs: list[Job], before: list[tuple[int, int] | None], options: list[str], table: Path) -> int:
-    """Prints how each model ended, writes it as a table, and gives the first status that isn't 0. A listing that stood
+def stamps(job: Job) -> list[tuple[int, int] | None]:
+    return [stamp(path) for path in job.outputs]
+
+
+def new_output(job: Job, before: list[tuple[int, int] | None]) -> Path | None:
+    """The output that this batch wrote for a model: None where it has not run."""
+    return next((path for path, old in zip(job.outputs, before) if stamp(path) not in (None, old)), None)
+
+
+def collect(jobs: list[Job], before: list[list[tuple[int, int] | None]], options: list[str], table: Path) -> int:
+    """Prints how each model ended, writes it as a table, and gives the first status that isn't 0. A listing that was
     there `before` isn't this batch's: its model has not run."""
     first = 0
     with whole_file(table) as file:
         file.write("model,status,last_line,steps,cells,widest\n")
         for job, old in zip(jobs, before):
-            has_run = stamp(job) not in (None, old)
-            last = read_text(job.listing).rstrip("\n").rsplit("\n", 1)[-1] if has_run else ""
+            output = new_output(job, old)
+            last = read_text(output).rstrip("\n").rsplit("\n", 1)[-1] if output else ""
             meaning = explain(last, job.nam.parent, digits_of(options))
             steps = cells = width = ""
             if meaning.is_good:
                 listing = read_listing(job.listing)
-                steps, cells, width = len(listing.steps), len(listing.cells), decimal_text(listing.widest()[0] if len(listing.cells) else 0, 9)
+                steps, cells, width = (
+                    len(listing.steps),
+                    len(listing.cells),
+                    decimal_text(listing.widest()[0] if len(listing.cells) else 0, 9),
+                )
             file.write(f"{job.name},{meaning.status},{last[:100]},{steps},{cells},{width}\n")
             good = meaning.is_good and f"END, {counted(steps, 'step')} of {counted(cells, 'cell')}, widest pair {width}"
-            print(f"{job.name}: {good or meaning.lines[0]}")
+            kept = (
+                ""
+                if good or not has_steps(job.listing) or output == job.listing
+                else f" ({job.listing.name} is that of an earlier run)"
+            )
+            print(f"{job.name}: {good or meaning.lines[0]}{kept}")
             first = first or meaning.status
     print(f"{counted(len(jobs), 'model')}; a table of their ends: {table}")
     return first
@@ -104,7 +130,9 @@ def run_by_program(jobs: list[Job], options: list[str], at_once: int) -> bool:
             names.write("".join(f"{j.nam.name}\n" for j in here))
             names.flush()
             workers = [] if "--workers" in options else ["--workers", str(min(at_once, 64))]
-            done = subprocess.run([program(), "batch", Path(names.name).name, *options, *workers], cwd=folder, capture_output=True)
+            done = subprocess.run(
+                [program(), "batch", Path(names.name).name, *options, *workers], cwd=folder, capture_output=True
+            )
         text = done.stdout.decode("latin-1")
         if text.startswith("USAGE:"):
             return False
@@ -129,15 +157,32 @@ def split_batch(text: str, jobs: list[Job]) -> None:
     if len(parts) < len(jobs):
         raise Problem(f"the batch ended with: {lines[-1][:100] if lines else ''}")
     for job, part in zip(jobs, parts):
-        with whole_file(job.listing) as file:
+        new = job.listing.with_name(f".{job.listing.name}.new")
+        with whole_file(new) as file:
             file.write("".join(line + "\n" for line in part))
+        settle_output(new, job.listing)
 
 
-def shell_line(options: list[str]) -> str:
-    """What a job does with its name file in $NAM: a run in the model's folder, whose listing gets its name at the end."""
-    words_ = " ".join(shlex.quote(o) for o in options)
-    return (f'cd "$(dirname "$NAM")" && {{ {shlex.quote(str(program()))} run "$(basename "$NAM")" {words_} >"${{NAM%.*}}.heads.part"; '
-            'status=$?; mv "${NAM%.*}.heads.part" "${NAM%.*}.heads"; exit $status; }')
+SHELL_JOB = """cd "$(dirname "$NAM")" || exit 6
+OUT=$(basename "${{NAM%.*}}").heads
+{program} run "$(basename "$NAM")" {options} >".$OUT.new"
+status=$?
+# A listing with a step stays where the new output has none.
+if [ -s "$OUT" ] && grep -q -m 1 "^STEP " "$OUT" && ! grep -q -m 1 "^STEP " ".$OUT.new"; then
+    mv ".$OUT.new" "$OUT.end"
+else
+    mv ".$OUT.new" "$OUT" && rm -f "$OUT.end"
+fi
+exit $status
+"""
+
+
+def shell_job(options: list[str]) -> str:
+    """What a job does with its name file in $NAM: a run in the model's folder, whose listing gets its name at the end.
+    It calls the program itself: the checkout's script hashes its sources at each call."""
+    return SHELL_JOB.format(
+        program=shlex.quote(str(direct_program())), options=" ".join(shlex.quote(o) for o in options)
+    )
 
 
 def write_names(path: Path, jobs: list[Job]) -> Path:
@@ -148,24 +193,34 @@ def write_names(path: Path, jobs: list[Job]) -> Path:
 
 
 def run_slurm(path: Path, jobs: list[Job], options: list[str], at_once: int, is_written_only: bool) -> None:
-    """Writes an array job, and submits it and waits for its end."""
+    """Writes an array job, and submits it and waits for its end. At most `at_once` jobs at a time, 0: as Slurm
+    likes."""
     names, script = write_names(path, jobs), path.with_suffix(".slurm")
     cpus = next((options[n + 1] for n, o in enumerate(options[:-1]) if o == "--workers"), "4")
+    limit = f"%{at_once}" if at_once else ""
     with whole_file(script) as file:
-        file.write(f"#!/bin/bash\n#SBATCH --job-name=heads\n#SBATCH --array=1-{len(jobs)}%{at_once}\n"
-                   f"#SBATCH --cpus-per-task={cpus}\n#SBATCH --output={path.stem}.%a.log\n"
-                   f'NAM=$(sed -n "${{SLURM_ARRAY_TASK_ID}}p" {shlex.quote(str(names))})\n{shell_line(options)}\n')
-    print(f"written: {script} (sbatch --wait {script.name})")
+        file.write(
+            f"#!/bin/bash\n#SBATCH --job-name=heads\n#SBATCH --array=1-{len(jobs)}{limit}\n"
+            f'#SBATCH --cpus-per-task={cpus}\n#SBATCH --output="{path.stem}.%a.log"\n'
+            f'NAM=$(sed -n "${{SLURM_ARRAY_TASK_ID}}p" {shlex.quote(str(names))})\n{shell_job(options)}'
+        )
+    print(f"written: {script} (sbatch --wait {shlex.quote(script.name)})")
     if not is_written_only:
-        call_tool("sbatch", ["sbatch", "--wait", script.name], path.parent, "slurm-wlm (or run where your cluster has it)")
+        call_tool(
+            "sbatch", ["sbatch", "--wait", script.name], path.parent, "slurm-wlm (or run where your cluster has it)"
+        )
 
 
 def run_parallel(path: Path, jobs: list[Job], options: list[str], at_once: int, is_written_only: bool) -> None:
-    """Writes a script for GNU parallel, and runs it."""
+    """Writes a script for GNU parallel, and runs it. At most `at_once` jobs at a time, 0: one for each processor."""
     names, script = write_names(path, jobs), path.with_suffix(".parallel.sh")
+    limit = f"--jobs {at_once} " if at_once else ""
     with whole_file(script) as file:
-        file.write(f"#!/bin/bash\n# Further words, as --sshloginfile hosts, go to parallel.\none() {{ NAM=$1; {shell_line(options)}; }}\nexport -f one\n"
-                   f'parallel --jobs {at_once} --joblog {shlex.quote(path.stem + ".joblog")} "$@" one {{}} <{shlex.quote(str(names))}\n')
+        file.write(
+            "#!/bin/bash\n# Further words, as --sshloginfile hosts, go to parallel.\none()"
+            f" {{\nNAM=$1\n{shell_job(options)}}}\nexport -f one\nparallel {limit}--joblog"
+            f" {shlex.quote(path.stem + '.joblog')} \"$@\" one {{}} <{shlex.quote(str(names))}\n"
+        )
     script.chmod(0o755)
     print(f"written: {script}")
     if not is_written_only:
@@ -174,7 +229,9 @@ def run_parallel(path: Path, jobs: list[Job], options: list[str], at_once: int, 
 
 def call_tool(tool: str, command: list[str], folder: Path, debian: str) -> None:
     if not shutil.which(tool):
-        raise Problem(f"{tool} isn't here: apt-get install {debian}; the files stand written, --write-only leaves it at that")
+        raise Problem(
+            f"{tool} isn't here: apt-get install {debian}; the files stand written, --write-only leaves it at that"
+        )
     done = subprocess.run(command, cwd=folder, capture_output=True, text=True, errors="replace")
     if done.returncode and done.stderr.strip():
         print(f"{tool} ended with {done.returncode}: {done.stderr.strip().splitlines()[-1][:200]}", file=sys.stderr)

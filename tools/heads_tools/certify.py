@@ -1,20 +1,20 @@
-"""certify: a listing round the heads of any solver, which `heads check` then certifies or not. Nothing here is proved or
-trusted; a wrong number does no harm, since the check names its place.
+"""certify: a listing round the heads of any solver, which `heads check` then certifies or not. Nothing here is proved
+or trusted; a wrong number does no harm, since the check names its place.
 
 Rounding a head to 10^-9 costs a cell at most K * 10^-9 of flow, K the sum of its conductances. So the lower heads are
 solved for a balance of theta * K * 10^-9 in each cell, the upper ones for the negative of it, by Newton's method from
-the heads given. Then each is rounded outward, and moved out further where the balance has the wrong sign all the same.
-What conductances with s digits and the deck's own heads cost is added."""
+the heads given. Then each is rounded outward, and moved out further where the balance has the wrong sign all the
+same. What conductances with s digits and the deck's own heads cost is added."""
 from __future__ import annotations
 
 import math
+import os
 import sys
 from dataclasses import dataclass
 from pathlib import Path
 
 import numpy as np
 import scipy.sparse
-import scipy.sparse.linalg
 
 from .compare import compare, sentences
 from .equations import TERMS, Given, Network, Step, given_heads
@@ -23,6 +23,7 @@ from .listing import Listing, read_listing
 from .listing import Step as Listed
 from .model import Model, growth, read_model, value
 from .program import call
+from .solvers import solved
 from .text import decimal_text, whole_file
 
 UNIT = 1e-9
@@ -43,17 +44,22 @@ def certify(nam: Path, heads: Path, digits: int, out: Path, theta: float | None 
 
     model = read_model(nam)
     given = read_heads(heads, model.shape)
+    tried = out.with_name(out.name + ".tried")
     for margin in (theta,) if theta else THETAS:
-        listing = Bounds(model, digits, margin).listing(given, out)
+        listing = Bounds(model, digits, margin).listing(given, tried)
         write_listing(listing, model)
-        ended = call(["check", nam.name, str(out), "--digits", str(digits)], nam.parent)
+        ended = call(["check", nam.name, str(tried), "--digits", str(digits)], nam.parent)
         if ended.status != 8:
             break
         print(f"margins of {margin} roundings don't hold: {ended.last}", file=sys.stderr)
     meaning = explain(ended.last, nam.parent, digits)
     if not meaning.is_good:
-        return Certified(ended.status, [*meaning.lines, f"{out} is no certificate"])
-    lines = [f"CERTIFIED: {out} (margins of {margin} roundings; the check took {ended.seconds:.2f} s)", listing.summary()]
+        return Certified(ended.status, [*meaning.lines, f"{tried} is no certificate"])
+    os.replace(tried, out)
+    lines = [
+        f"CERTIFIED: {out} (margins of {margin} roundings; the check took {ended.seconds:.2f} s)",
+        listing.summary(),
+    ]
     beside = nam.with_suffix(".heads")
     if beside.is_file() and beside != out:
         ran = read_listing(beside)
@@ -61,7 +67,9 @@ def certify(nam: Path, heads: Path, digits: int, out: Path, theta: float | None 
             lines.append(f"beside `heads run` ({beside.name}): its widest pair is {decimal_text(ran.widest()[0], 9)}")
     else:
         lines.append(f"`heads-tools run {nam.name}` gives the run's own pairs to compare with")
-    return Certified(0, lines + [f"{heads.name}: {s}" for s in sentences(listing, compare(listing, given), model.length)])
+    return Certified(
+        0, lines + [f"{heads.name}: {s}" for s in sentences(listing, compare(listing, given), model.length)]
+    )
 
 
 class Bounds:
@@ -77,8 +85,11 @@ class Bounds:
         model, active = self.model, np.flatnonzero(self.model.ibound.ravel())
         cells = np.array([model.cell(c) for c in active]).reshape(-1, 3)
         out = Listing(path, self.digits, model.deck.lenuni, cells=cells, end="END")
-        strt = [model.deck.strt[k].exact(n) if not model.deck.strt[k].is_constant else model.deck.strt[k].exact(0)
-                for k in range(model.shape[0]) for n in range(model.area.size)]
+        strt = [
+            model.deck.strt[k].exact(n) if not model.deck.strt[k].is_constant else model.deck.strt[k].exact(0)
+            for k in range(model.shape[0])
+            for n in range(model.area.size)
+        ]
         low = np.array([min(max(math.floor(v * 10**9), -MOST_UNITS), MOST_UNITS) for v in strt], dtype=np.int64)
         high = np.array([min(max(math.ceil(v * 10**9), -MOST_UNITS), MOST_UNITS) for v in strt], dtype=np.int64)
         self.strt = (low.copy(), high.copy())
@@ -102,7 +113,9 @@ class Bounds:
         low, high = np.zeros(self.count, np.int64), np.zeros(self.count, np.int64)
         for cell in np.flatnonzero(step.is_constant):
             low[cell], high[cell] = self.constant(step, int(cell), given)
-        self.holders = [np.where(step.is_constant, mine, old) * UNIT for mine, old in ((low, old_low), (high, old_high))]
+        self.holders = [
+            np.where(step.is_constant, mine, old) * UNIT for mine, old in ((low, old_low), (high, old_high))
+        ]
         if step.n:
             h = self.solve(step, start[step.cells], 0)
             low[step.cells] = self.rounded(step, h, 0)
@@ -135,9 +148,18 @@ class Bounds:
         drain = np.maximum(h[step.drn_at] - step.drn_level, 0)
         evap = np.maximum(np.minimum(h[step.evt_at], step.evt_surf) - step.evt_ext, 0)
         total = step.links @ h - step.link_sum * h + step.sum(step.at, step.c * d) + step.sum(step.flow_at, step.flow)
-        total += step.sum(step.riv_at, step.riv_c * river) - step.sum(step.drn_at, step.drn_c * drain) - step.sum(step.evt_at, step.evt_c * evap)
+        total += (
+            step.sum(step.riv_at, step.riv_c * river)
+            - step.sum(step.drn_at, step.drn_c * drain)
+            - step.sum(step.evt_at, step.evt_c * evap)
+        )
         above_bottom = step.riv_c * (h[step.riv_at] > step.riv_bottom)
-        slope = step.link_sum + step.sum(step.at, step.c) + step.sum(step.riv_at, above_bottom) + step.sum(step.drn_at, step.drn_c * (drain > 0))
+        slope = (
+            step.link_sum
+            + step.sum(step.at, step.c)
+            + step.sum(step.riv_at, above_bottom)
+            + step.sum(step.drn_at, step.drn_c * (drain > 0))
+        )
         slope += step.sum(step.evt_at, step.evt_c * ((h[step.evt_at] < step.evt_surf) & (evap > 0)))
         apart = self.apart(step, h) + step.sum(step.at, np.abs(d)) + step.sum(step.riv_at, np.abs(river))
         apart = apart + step.sum(step.drn_at, drain) + step.sum(step.evt_at, evap)
@@ -166,8 +188,11 @@ class Bounds:
                 break
             share = max(share / 2, 0.05) if worst > 0.7 * before else min(share * 1.5, 1.0)
             before = worst
-            matrix = diagonal.multiply(np.maximum(slope, np.maximum(step.conductance * 1e-12, 1e-300))[:, None]).tocsc() - step.links.tocsc()
-            change = scipy.sparse.linalg.splu(matrix.tocsc(), permc_spec="MMD_AT_PLUS_A", diag_pivot_thresh=0.0, options={"SymmetricMode": True}).solve(rest)
+            matrix = (
+                diagonal.multiply(np.maximum(slope, np.maximum(step.conductance * 1e-12, 1e-300))[:, None]).tocsc()
+                - step.links.tocsc()
+            )
+            change = solved(matrix, rest, self.model.shape[0])
             h = np.clip(h + share * np.nan_to_num(change), -3.9e9, 3.9e9)
         return self.repaired(step, h, side)
 
@@ -199,20 +224,32 @@ class Bounds:
             units[wrong] = np.clip(units[wrong] - sign * np.maximum(np.ceil(move / UNIT), 1), -MOST_UNITS, MOST_UNITS)
         return units.astype(np.int64)
 
-    def budget(self, step: Step, low: np.ndarray, high: np.ndarray) -> dict[str, list[int]]:
-        """The terms' pairs in units of 10^-(digits + 9), with slack for doubles and rounded conductances."""
+    def budget(self, step: Step, low: np.ndarray, high: np.ndarray, is_inward: bool = False) -> dict[str, list[int]]:
+        """The terms' pairs in units of 10^-(digits + 9), with slack for doubles and rounded conductances.
+        `is_inward`: pairs that lie within those of the exact equations, with slack for doubles alone."""
         l, u = low[step.cells] * UNIT, high[step.cells] * UNIT
+        self.size = max(float(np.abs(v).max(initial=0)) for v in (l, u, *self.holders, step.head, step.riv_bottom))
         sums = np.zeros((8, 4))
 
         def add(term: np.ndarray, lo: np.ndarray, hi: np.ndarray, c=0.0, apart=0.0) -> None:
             room = 1e-9 * (np.abs(lo) + np.abs(hi)) + 1e-9 + self.slack * apart + 3 * c * UNIT
+            if is_inward:
+                room = -(1e-12 * (np.abs(lo) + np.abs(hi)) + 16 * np.finfo(float).eps * c * (1 + self.size))
             lo, hi = lo - room, hi + room
-            for column, values in enumerate((np.maximum(0, lo), np.maximum(0, hi), np.maximum(0, -hi), np.maximum(0, -lo))):
+            for column, values in enumerate(
+                (np.maximum(0, lo), np.maximum(0, hi), np.maximum(0, -hi), np.maximum(0, -lo))
+            ):
                 sums[:, column] += np.bincount(term, values, 8)
 
         outer = [np.where(step.holder >= 0, self.holders[side][step.holder], step.head) for side in (0, 1)]
         lo, hi = outer[0] - u[step.at], outer[1] - l[step.at]
-        add(step.term, np.minimum(step.c * lo, step.c * hi), np.maximum(step.c * lo, step.c * hi), step.c, np.abs(lo) + np.abs(hi))
+        add(
+            step.term,
+            np.minimum(step.c * lo, step.c * hi),
+            np.maximum(step.c * lo, step.c * hi),
+            step.c,
+            np.abs(lo) + np.abs(hi),
+        )
         add(step.flow_term, step.flow, step.flow)
         like = lambda name, at: np.full(len(at), TERMS[name])
         lo, hi = (step.riv_stage - np.maximum(v[step.riv_at], step.riv_bottom) for v in (u, l))
@@ -221,7 +258,7 @@ class Bounds:
         add(like("DRAINS", lo), -step.drn_c * lo, -step.drn_c * hi, step.drn_c, lo)
         lo, hi = (np.maximum(np.minimum(v[step.evt_at], step.evt_surf) - step.evt_ext, 0) for v in (u, l))
         add(like("ET", lo), -step.evt_c * lo, -step.evt_c * hi, step.evt_c, step.evt_surf - step.evt_ext)
-        names = list(TERMS)[:8 if "EVT" in self.model.deck.areal else 7]
+        names = list(TERMS)[: 8 if "EVT" in self.model.deck.areal else 7]
         ten = 10 ** (self.digits + 9)
         units = lambda v, up: (math.ceil if up else math.floor)(exact_of(v) * ten)
         return {name: [units(v, n % 2) for n, v in enumerate(sums[TERMS[name]])] for name in names}

@@ -2,19 +2,44 @@
 from __future__ import annotations
 
 import argparse
+import os
+import signal
 import sys
+import threading
 from pathlib import Path
 
+from . import __version__
 from .text import Problem
 
-EPILOG = """Nothing in heads-tools is proved. The program is found by the environment variable HEADS, else in this checkout, else on the PATH.
-Statuses: those of heads where it ran; 2 for bad input; 1 where the answer is no (inside, version). Windows: run it in WSL (Debian or Ubuntu)."""
+EPILOG = """\
+Nothing in heads-tools is proved. The program is found by the environment variable HEADS, else in this checkout,
+else on the PATH.
+Statuses: those of heads where it ran; 2 for bad input; 1 where the answer is no (inside, version). Windows: run it
+in WSL (Debian or Ubuntu)."""
 
 
-LOOK = """Tables, maps, sections, hydrographs, budget and a page. Each net budget term (in less out) has two pairs of bounds: the one
-of its listed in and out, and that narrowed to what the other terms leave, minus the sum of their bounds. Every exact solution's
-net term lies within both, by the theorem net_terms_lie_in_the_others (crates/exact_budgets), where the listing ends with END
-and was written by `heads run` or certified by `heads check`."""
+LOOK = """\
+Tables, maps, sections, hydrographs, budget and a page. Each net budget term (in less out) has two pairs of bounds:
+the one of its listed in and out, and that narrowed to what the other terms leave, minus the sum of their bounds.
+Every exact solution's net term lies within both, by the theorem net_terms_lie_in_the_others (crates/exact_budgets),
+where the listing ends with END and was written by `heads run` or certified by `heads check`."""
+
+
+MF2005 = """\
+Runs the model as MODFLOW-2005 is called: the name file as the one word. It writes the head file where the output
+control saves heads (single precision, the middles of the pairs), the list file with budgets, the listing
+NAME.heads, and the words 'Normal termination of simulation'. In FloPy: exe_name="/path/to/tools/mf2005". No
+cell-by-cell flows are written. Written from the documented call and files of MODFLOW-2005."""
+
+
+def add_place(sub: argparse.ArgumentParser, is_needed: bool) -> None:
+    sub.add_argument("--name", type=Path, metavar="M.NAM", required=is_needed, help="the model: its grid and times")
+    sub.add_argument(
+        "--at",
+        metavar="X0,Y0[,ANGLE[,EPSG]]",
+        default="0,0",
+        help="the grid's lower left corner, degrees against the clock, a code of EPSG",
+    )
 
 
 def cell(text: str) -> tuple[int, int, int]:
@@ -25,8 +50,13 @@ def cell(text: str) -> tuple[int, int, int]:
 
 
 def parser() -> argparse.ArgumentParser:
-    top = argparse.ArgumentParser(prog="heads-tools", description="Runs, explains, feeds and shows `heads`.", epilog=EPILOG,
-                                  formatter_class=argparse.RawDescriptionHelpFormatter)
+    top = argparse.ArgumentParser(
+        prog="heads-tools",
+        description="Runs, explains, feeds and shows `heads`.",
+        epilog=EPILOG,
+        formatter_class=argparse.RawDescriptionHelpFormatter,
+    )
+    top.add_argument("--version", action="version", version=f"heads-tools {__version__}")
     commands = top.add_subparsers(dest="command", metavar="COMMAND", required=True)
 
     def add(name: str, text: str, *words: tuple) -> argparse.ArgumentParser:
@@ -36,65 +66,221 @@ def parser() -> argparse.ArgumentParser:
         return sub
 
     nam, listing = ("nam", "the model's name file"), ("listing", "a listing of heads")
-    s = add("run", "run the model in its folder into NAME.heads, with progress; all further options go to heads run", nam)
+    s = add(
+        "run", "run the model in its folder into NAME.heads, with progress; all further options go to heads run", nam
+    )
     s.add_argument("--out", type=Path, help="the listing's file, NAME.heads beside the name file where left out")
     s = add("explain", "what the last line of an output means, and what to change", ("output", "an output of heads"))
     s.add_argument("folder", nargs="?", type=Path, help="the model's folder, the output's own where left out")
     s.add_argument("--digits", type=int, help="the digits of the run, where the output doesn't tell them")
-    s = add("inside", "is the model inside? All reasons at once, the digits it needs, and where MODFLOW reads it otherwise", nam)
+    s = add(
+        "inside",
+        "is the model inside? All reasons at once, the digits it needs, and where MODFLOW reads it otherwise",
+        nam,
+    )
     s.add_argument("--most", type=int, default=12, help="the reasons of a kind to show (12)")
-    add("plain", "rewrite the deck in the spelling that heads reads, with notes", nam, ("folder", "the folder to write into"))
+    add(
+        "plain",
+        "rewrite the deck in the spelling that heads reads, with notes",
+        nam,
+        ("folder", "the folder to write into"),
+    )
     add("model", "what was read: sizes, ranges of arrays, entries, steps", nam)
-    s = add("look", "tables, maps, sections, hydrographs, budget and a page", listing, ("folder", "the folder to write into"))
+    s = add(
+        "look",
+        "tables, maps, sections, hydrographs, budget and a page",
+        listing,
+        ("folder", "the folder to write into"),
+    )
     s.description = LOOK
-    s.add_argument("--name", type=Path, metavar="M.NAM", help="the model: true widths, elevations, times, units")
-    s.add_argument("--cell", type=cell, action="append", default=[], metavar="K,I,J", help="a hydrograph of this cell; may stand again")
+    s.add_argument(
+        "--name",
+        type=Path,
+        metavar="M.NAM",
+        help="the model: true widths, elevations, times, units; and the listing is checked against it by heads check",
+    )
+    s.add_argument(
+        "--cell",
+        type=cell,
+        action="append",
+        default=[],
+        metavar="K,I,J",
+        help="a hydrograph of this cell; may stand again",
+    )
     s.add_argument("--given", type=Path, metavar="RUN.HDS", help="heads of MODFLOW (hds or CSV): how far they are off")
+    s.add_argument(
+        "--minus", type=Path, metavar="BASE.HEADS", help="another listing: the difference of the heads, with bounds"
+    )
+    s.add_argument(
+        "--zones", type=Path, metavar="M.ZON", help="the zone file of the run: a map of the zones with their net flows"
+    )
     s.add_argument("--every", action="store_true", help="maps of every step, and not of the last alone")
-    s = add("compare", "how far given heads are from every exact solution", listing, ("heads", "heads of MODFLOW: hds or CSV"))
+    s.add_argument("--svg", action="store_true", help="each picture as SVG, too")
+    s = add(
+        "compare",
+        "how far given heads are from every exact solution",
+        listing,
+        ("heads", "heads of MODFLOW: hds or CSV"),
+    )
     s.add_argument("--map", type=Path, metavar="FOLDER", help="draw maps into this folder")
-    s.add_argument("--name", type=Path, metavar="M.NAM", help="the model, for the maps")
-    s = add("certify", "certified bounds from any solver's heads: margins by a sparse solve, then heads check", nam,
-            ("heads", "heads to begin with: hds or CSV"))
+    s.add_argument(
+        "--csv", type=Path, metavar="FILE", help="a table of the steps: least, most, cells outside, the worst cell"
+    )
+    s.add_argument(
+        "--name",
+        type=Path,
+        metavar="M.NAM",
+        help="the model, for the maps, and for heads check, which says whether the pairs are bounds",
+    )
+    s = add(
+        "drawdown",
+        "what a plan does: the differences of two listings with bounds, as tables, map, curves and sentences",
+        ("plan", "the plan's listing"),
+        ("base", "the listing without the plan"),
+        ("folder", "the folder to write into"),
+    )
+    s.add_argument(
+        "--name",
+        type=Path,
+        metavar="PLAN.NAM",
+        help="the plan's model: its listing is checked; true widths, times, units",
+    )
+    s.add_argument("--base-name", type=Path, metavar="BASE.NAM", help="the base's model: its listing is checked")
+    s.add_argument(
+        "--cell", type=cell, action="append", default=[], metavar="K,I,J", help="a curve of this cell; may stand again"
+    )
+    s = add(
+        "plans",
+        "one page that compares all listings of a batch with the first of them",
+        ("list", "the batch's list"),
+        ("folder", "the folder to write into"),
+    )
+    s.add_argument("--base", metavar="NAME", help="the model of the list to compare with, the first where left out")
+    s.add_argument(
+        "--cell",
+        type=cell,
+        action="append",
+        default=[],
+        metavar="K,I,J",
+        help="the drawdown at this cell; may stand again",
+    )
+    s = add(
+        "certify",
+        "certified bounds from any solver's heads: margins by a sparse solve, then heads check",
+        nam,
+        ("heads", "heads to begin with: hds or CSV"),
+    )
     s.add_argument("--digits", type=int, default=12)
     s.add_argument("--out", type=Path, help="the listing's file, NAME.certified.heads where left out")
-    s.add_argument("--theta", type=float, help="the margin, in roundings of a head; 1.05 and more are tried where left out")
+    s.add_argument(
+        "--theta", type=float, help="the margin, in roundings of a head; 0.5 and more are tried where left out"
+    )
+    s = add("check", "certify a listing by heads check, or piece by piece", nam, ("listing", "the listing"))
+    s.add_argument(
+        "--parts",
+        type=int,
+        metavar="N",
+        help="in N slabs of rows or more, for models of more cells than the program takes",
+    )
+    s.add_argument("--jobs", type=int, default=0, help="parts at a time (the processors)")
     s = add("hds", "a head file for FloPy, ModelMuse, Model Viewer", listing, ("out", "the head file to write"))
     s.add_argument("--name", type=Path, metavar="M.NAM", help="the model: its whole grid and its times")
     side = s.add_mutually_exclusive_group()
     for name in ("lower", "upper", "middle"):
         side.add_argument(f"--{name}", dest="side", action="store_const", const=name)
     s.add_argument("--single", action="store_true", help="single precision (double where left out)")
-    add("exhibit", "for a report or a court: deck, listing, verdicts, hashes, versions, pictures; further options go to heads run",
-        nam, ("folder", "the folder to write into"))
-    s = add("batch", "run many models and collect their ends; further options go to heads", ("list", "a file with one name file a line"))
+    s = add(
+        "export",
+        "NetCDF, GeoTIFF, VTK and CSV of a listing, each if its package is here",
+        listing,
+        ("folder", "the folder to write into"),
+    )
+    add_place(s, True)
+    s.add_argument("--as", dest="formats", default="nc,tif,vtu,csv", metavar="LIST", help="of nc, tif, vtu, csv (all)")
+    s = add(
+        "observe",
+        "heads at points, by a table name,x,y,layer,time,measured or a HOB file: lower, upper, measured",
+        listing,
+        ("points", "the table or the HOB file"),
+    )
+    add_place(s, True)
+    s.add_argument("--out", type=Path, help="the table's file, standard output where left out")
+    s = commands.add_parser(
+        "mf2005", help="run as MODFLOW-2005 is called by FloPy and ModelMuse: head file and list file"
+    )
+    s.description = MF2005
+    s.add_argument("words", nargs="*", metavar="WORD", help="the name file; further words go to heads run")
+    add(
+        "exhibit",
+        "for a report or a court: deck, listing, verdicts, hashes, versions, pictures; further options go to heads run",
+        nam,
+        ("folder", "the folder to write into"),
+    )
+    s = add(
+        "batch",
+        "run many models and collect their ends; further options go to heads",
+        ("list", "a file with one name file a line"),
+    )
     where = s.add_mutually_exclusive_group()
     where.add_argument("--slurm", action="store_true", help="as an array job of Slurm")
     where.add_argument("--parallel", action="store_true", help="by GNU parallel")
     s.add_argument("--jobs", type=int, default=0, help="models at a time (the processors)")
-    s.add_argument("--write-only", action="store_true", help="with --slurm or --parallel: write the files, and run nothing")
+    s.add_argument(
+        "--write-only", action="store_true", help="with --slurm or --parallel: write the files, and run nothing"
+    )
     add("version", "the program, its sources and kit, and whether its hash is the recorded one")
     return top
 
 
-PASSING = {"run", "exhibit", "batch"}
+def stop(*_: object) -> None:
+    """A signal to end is taken as one from the keyboard, so that the program that was called ends too."""
+    raise KeyboardInterrupt
+
+
+def silence() -> None:
+    """Sends what standard output still holds nowhere: it can't be written."""
+    os.dup2(os.open(os.devnull, os.O_WRONLY), sys.stdout.fileno())
+
+
+PASSING = {"run", "exhibit", "batch", "mf2005"}
+
+
+def complete(top: argparse.ArgumentParser) -> None:
+    """Completion in the shell, where python3-argcomplete is installed: eval "$(register-python-argcomplete
+    heads-tools)"."""
+    try:
+        import argcomplete
+    except ImportError:
+        return
+    argcomplete.autocomplete(top)
 
 
 def main(words: list[str] | None = None) -> int:
     """Does what the words say; the status."""
     top = parser()
+    complete(top)
     args, rest = top.parse_known_args(words)
     if rest and args.command not in PASSING:
         top.error(f"unknown words: {' '.join(rest)}")
     from . import commands
+
+    if threading.current_thread() is threading.main_thread():
+        signal.signal(signal.SIGTERM, stop)
     try:
-        return getattr(commands, "do_" + args.command)(args, rest)
+        status = getattr(commands, "do_" + args.command)(args, rest)
+        sys.stdout.flush()
+        return status
     except Problem as error:
         print(f"heads-tools: {error}", file=sys.stderr)
         return 2
     except BrokenPipeError:
         sys.stderr.close()
         return 141
+    except OSError as error:
+        print(f"heads-tools: {error.filename or 'standard output'}: {error.strerror}", file=sys.stderr)
+        if error.filename is None:
+            silence()
+        return 2
     except KeyboardInterrupt:
         print("heads-tools: stopped", file=sys.stderr)
         return 130

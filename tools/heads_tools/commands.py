@@ -2,9 +2,16 @@
 from __future__ import annotations
 
 import argparse
+import sys
 from pathlib import Path
+from typing import TYPE_CHECKING
 
 from .text import Problem, counted
+
+if TYPE_CHECKING:
+    from .listing import Listing
+    from .model import Model
+    from .verdict import Verdict
 
 MOST_DIGITS = 18
 
@@ -19,8 +26,8 @@ def say(lines: list[str]) -> None:
     print("\n".join(lines))
 
 
-def steps_of(nam: Path) -> int | None:
-    """The count of a model's time steps, where its DIS can be read."""
+def size_of(nam: Path) -> tuple[int | None, int]:
+    """The count of a model's time steps, where its DIS can be read, and that of its cells."""
     from .packages import Reader
 
     reader = Reader(nam)
@@ -28,18 +35,23 @@ def steps_of(nam: Path) -> int | None:
         reader.read_names()
         reader.read_dis()
     except (Problem, IndexError, ValueError, KeyError):
-        return None
-    return sum(p.nstp for p in reader.deck.periods) or None
+        return None, 0
+    return sum(p.nstp for p in reader.deck.periods) or None, reader.deck.cells
 
 
 def do_run(args: argparse.Namespace, options: list[str]) -> int:
     from .explain import explain
+    from .follow import MOST_WATCHED
+    from .inside import careful
     from .program import digits_of, run, summary
 
     nam = existing(args.nam)
+    for warning in careful(nam):
+        print(f"CAREFUL: {warning}", file=sys.stderr)
     out = (args.out or nam.with_suffix(".heads")).resolve()
-    digits, tried, steps = digits_of(options), [], steps_of(nam)
-    ended = run(nam, options, out, steps)
+    digits, tried, (steps, cells) = digits_of(options), [], size_of(nam)
+    is_followed = steps is not None and cells * steps <= MOST_WATCHED
+    ended = run(nam, options, out, steps, is_followed=is_followed)
     while ended.status == 3 and ended.last.split()[1:2] in (["22"], ["21"]) and "--digits" not in " ".join(options):
         tried.append(digits)
         fewer = ended.last.split()[1] == "22"
@@ -47,9 +59,25 @@ def do_run(args: argparse.Namespace, options: list[str]) -> int:
         if not 0 <= digits <= MOST_DIGITS or digits in tried:
             break
         print(f"{ended.last}: {'too few' if not fewer else 'too many'} digits; once more with --digits {digits}")
-        ended = run(nam, [*options, "--digits", str(digits)], out, steps)
+        ended = run(nam, [*options, "--digits", str(digits)], out, steps, is_followed=is_followed)
     meaning = explain(ended.last, nam.parent, digits, ended.steps > 0)
-    say(meaning.lines + ([summary(out), f"listing {out} ({ended.seconds:.1f} s" + (f", --digits {digits})" if tried else ")")] if meaning.is_good else []))
+    if meaning.is_good:
+        say(
+            [
+                *meaning.lines,
+                summary(out),
+                f"listing {out} ({ended.seconds:.1f} s" + (f", --digits {digits})" if tried else ")"),
+            ]
+        )
+    else:
+        say(
+            meaning.lines
+            + (
+                [f"{out} is that of an earlier run and was left; this run's output is {ended.output.name}"]
+                if ended.output != out
+                else []
+            )
+        )
     return ended.status
 
 
@@ -70,13 +98,15 @@ def do_inside(args: argparse.Namespace, _: list[str]) -> int:
 
 
 def do_plain(args: argparse.Namespace, _: list[str]) -> int:
-    from .plain import notes, plain
+    from .plain import plain
 
-    report = plain(existing(args.nam), args.folder)
-    lines = notes(report)
+    written = plain(existing(args.nam), args.folder)
+    lines = written.notes()
     say([f"  {line}" for line in lines[:20]] + ([f"  and {len(lines) - 20} more"] if len(lines) > 20 else []))
     say([f"written: {args.folder / args.nam.name}; each change stands in {args.folder / 'plain.txt'}"])
-    return 0
+    if written.refused:
+        say(["the program refuses it all the same:", *("  " + line for line in written.refused)])
+    return 1 if written.refused else 0
 
 
 def do_model(args: argparse.Namespace, _: list[str]) -> int:
@@ -91,34 +121,67 @@ def do_look(args: argparse.Namespace, _: list[str]) -> int:
     from .listing import read_listing
     from .look import look
     from .model import read_model
+    from .zones import read_zones
 
+    if args.zones and not args.name:
+        raise Problem("--zones needs the model, too: --name M.NAM")
     listing = read_listing(existing(args.listing))
     model = read_model(existing(args.name)) if args.name else None
-    said = look(listing, args.folder, model, args.cell, existing(args.given) if args.given else None, args.every)
+    verdict = verdict_of(args, listing)
+    given = existing(args.given) if args.given else None
+    zones = read_zones(existing(args.zones), existing(args.name), model.shape) if args.zones and model else None
+    base = read_listing(existing(args.minus)) if args.minus else None
+    said = look(listing, args.folder, model, args.cell, given, args.every, verdict, zones, base, args.svg)
     say(said + [f"open {args.folder / 'index.html'}"])
-    return 0
+    return verdict.status or 0
+
+
+def verdict_of(args: argparse.Namespace, listing: Listing) -> Verdict:
+    """What `heads check` says of the listing, where the model is named."""
+    from .verdict import check_listing, not_checked
+
+    return check_listing(existing(args.name), listing) if args.name else not_checked(listing)
 
 
 def do_compare(args: argparse.Namespace, _: list[str]) -> int:
-    from .compare import compare, sentences
+    from .compare import compare, sentences, write_csv
     from .headfile import read_heads
     from .listing import read_listing
     from .text import LENGTHS
 
     listing = read_listing(existing(args.listing))
-    say(sentences(listing, compare(listing, read_heads(existing(args.heads))), LENGTHS.get(listing.unit, "length units")))
+    verdict = verdict_of(args, listing)
+    differences = compare(listing, read_heads(existing(args.heads)))
+    say([verdict.sentence, *sentences(listing, differences, LENGTHS.get(listing.unit, "length units"))])
+    if args.csv:
+        write_csv(args.csv, listing, differences)
+        say([f"written: {args.csv}"])
     if args.map:
-        from .look import Look
+        from .look import look_at_given
         from .model import read_model
-        from .page import write_page
-        from .tables import write_tables
 
-        args.map.mkdir(parents=True, exist_ok=True)
-        it = Look(listing, args.map, read_model(existing(args.name)) if args.name else None)
-        it.compare(existing(args.heads))
-        write_tables(listing, args.map, it.model.times if it.model else None)
-        write_page(it.page, args.map)
+        look_at_given(
+            listing, args.map, read_model(existing(args.name)) if args.name else None, verdict, existing(args.heads)
+        )
         say([f"open {args.map / 'index.html'}"])
+    return verdict.status or 0
+
+
+def do_drawdown(args: argparse.Namespace, _: list[str]) -> int:
+    from .drawdown import drawdown
+    from .listing import read_listing
+
+    plan, base = (read_listing(existing(path)) for path in (args.plan, args.base))
+    name, base_name = (existing(path) if path else None for path in (args.name, args.base_name))
+    said, status = drawdown(plan, base, args.folder, name, base_name, args.cell)
+    say(said + [f"open {args.folder / 'index.html'}"])
+    return status
+
+
+def do_plans(args: argparse.Namespace, _: list[str]) -> int:
+    from .plans import compare_plans
+
+    say(compare_plans(existing(args.list), args.folder, args.base, args.cell) + [f"open {args.folder / 'index.html'}"])
     return 0
 
 
@@ -128,9 +191,30 @@ def do_certify(args: argparse.Namespace, _: list[str]) -> int:
     if not 0 <= args.digits <= MOST_DIGITS:
         raise Problem("--digits is from 0 to 18")
     nam = existing(args.nam)
-    ended = certify(nam, existing(args.heads), args.digits, (args.out or nam.with_suffix(".certified.heads")).resolve(), args.theta)
+    ended = certify(
+        nam, existing(args.heads), args.digits, (args.out or nam.with_suffix(".certified.heads")).resolve(), args.theta
+    )
     say(ended.lines)
     return ended.status
+
+
+def do_check(args: argparse.Namespace, _: list[str]) -> int:
+    from .listing import read_listing
+
+    nam, path = existing(args.nam), existing(args.listing)
+    if args.parts is None:
+        from .verdict import check_listing
+
+        verdict = check_listing(nam, read_listing(path))
+        say([verdict.sentence])
+        return verdict.status or 0
+    from .parts import check_parts
+
+    if args.parts < 1:
+        raise Problem("--parts is 1 or more")
+    checked = check_parts(nam, path, args.parts, args.jobs)
+    say(checked.lines)
+    return checked.status
 
 
 def do_hds(args: argparse.Namespace, _: list[str]) -> int:
@@ -146,8 +230,54 @@ def do_hds(args: argparse.Namespace, _: list[str]) -> int:
     write_heads(args.out, listing, side, model.shape if model else None, model.times if model else None, args.single)
     how = {"lower": "rounded down", "upper": "rounded up", "middle": "rounded: no bounds"}[side]
     precision = "single" if args.single else "double"
-    say([f"{side} heads of {counted(len(listing.steps), 'step')} in {args.out} ({precision} precision, {how}; -999.99 where there is no flow)"])
+    say(
+        [
+            f"{side} heads of {counted(len(listing.steps), 'step')} in {args.out} ({precision} precision, {how};"
+            " -999.99 where there is no flow)"
+        ]
+    )
     return 0
+
+
+def do_export(args: argparse.Namespace, _: list[str]) -> int:
+    from .exports import FORMATS, export, place_of
+    from .listing import read_listing
+    from .model import read_model
+
+    formats = [f for f in args.formats.split(",") if f]
+    if not formats or not set(formats) <= set(FORMATS):
+        raise Problem(f"--as is a list of {', '.join(FORMATS)}")
+    listing, model = read_listing(existing(args.listing)), read_model(existing(args.name))
+    say(export(fitting(listing, model), args.folder, model, place_of(args.at), formats))
+    return 0
+
+
+def do_observe(args: argparse.Namespace, _: list[str]) -> int:
+    from .exports import place_of
+    from .listing import read_listing
+    from .model import read_model
+    from .observe import observe
+
+    listing, model = read_listing(existing(args.listing)), read_model(existing(args.name))
+    say(observe(fitting(listing, model), model, existing(args.points), place_of(args.at), args.out))
+    return 0
+
+
+def fitting(listing: Listing, model: Model) -> Listing:
+    """A listing with a step, whose cells lie in the model's grid."""
+    if not listing.steps:
+        raise Problem(f"{listing.path} has no whole step")
+    if any(a > b for a, b in zip(listing.shape, model.shape)):
+        raise Problem(
+            f"{listing.path} has cells up to {listing.shape}, and the model's grid is {model.shape}: another model"
+        )
+    return listing
+
+
+def do_mf2005(args: argparse.Namespace, options: list[str]) -> int:
+    from .mf2005 import mf2005
+
+    return mf2005(args.words + options)
 
 
 def do_exhibit(args: argparse.Namespace, options: list[str]) -> int:

@@ -2,12 +2,13 @@
 from __future__ import annotations
 
 from dataclasses import dataclass
+from pathlib import Path
 
 import numpy as np
 
 from .headfile import ANY_STEP, Heads
 from .listing import Listing, Step
-from .text import Problem, counted, short_down, short_up
+from .text import Problem, counted, short_down, short_up, whole_file
 
 
 @dataclass
@@ -34,7 +35,9 @@ def compare(listing: Listing, heads: Heads) -> list[Difference]:
         most = np.maximum(np.abs(h - low), np.abs(h - high)) + slack
         out.append(Difference(step, least.astype(float), most.astype(float)))
     if not out:
-        raise Problem("the given heads have none of the listing's periods and steps (heads are saved by MODFLOW's output control)")
+        raise Problem(
+            "the given heads have none of the listing's periods and steps (heads are saved by MODFLOW's output control)"
+        )
     if all(np.isnan(d.most).all() for d in out):
         raise Problem("the given heads have none of the listing's cells")
     return out
@@ -43,6 +46,22 @@ def compare(listing: Listing, heads: Heads) -> list[Difference]:
 def padded(grid: np.ndarray, least: tuple[int, int, int]) -> np.ndarray:
     """The grid, with nan added where it is smaller than the least shape."""
     return np.pad(grid, [(0, max(0, b - a)) for a, b in zip(grid.shape, least)], constant_values=np.nan)
+
+
+def write_csv(path: Path, listing: Listing, differences: list[Difference]) -> None:
+    """A table of the steps: off by `least` at least (rounded down) and by `most` at most (rounded up), the cells
+    outside their pair, and the worst one."""
+    with whole_file(path) as file:
+        file.write("period,step,least,most,outside,given,layer,row,col\n")
+        for d in differences:
+            here = ~np.isnan(d.most)
+            if here.any():
+                least, most = float(np.nanmax(d.least)), float(np.nanmax(d.most))
+                cell = ",".join(map(str, listing.cells[int(np.nanargmax(d.least if least > 0 else d.most))].tolist()))
+                file.write(
+                    f"{d.step.period},{d.step.step},{least!r},{most!r},"
+                    f"{int((d.least[here] > 0).sum())},{int(here.sum())},{cell}\n"
+                )
 
 
 def sentences(listing: Listing, differences: list[Difference], unit: str) -> list[str]:
@@ -56,12 +75,18 @@ def sentences(listing: Listing, differences: list[Difference], unit: str) -> lis
         cell = " ".join(map(str, listing.cells[worst]))
         outside = int((d.least[here] > 0).sum())
         part = "" if here.all() else f"; heads are given of {int(here.sum())} of the listing's {len(here)} cells alone"
-        out.append(f"period {d.step.period} step {d.step.step}: off by at least {short_down(float(np.nanmax(d.least)))} {unit} and at most "
-                   f"{short_up(float(np.nanmax(d.most)))} {unit}; {outside} of {int(here.sum())} cells lie outside their pair; "
-                   f"the worst is layer row column {cell}{part}")
+        out.append(
+            f"period {d.step.period} step {d.step.step}: off by at least"
+            f" {short_down(float(np.nanmax(d.least)))} {unit} and at most {short_up(float(np.nanmax(d.most)))} {unit};"
+            f" {outside} of {int(here.sum())} cells lie outside their pair; the worst is layer row column {cell}{part}"
+        )
     least, most = (max(float(np.nanmax(getattr(d, name))) for d in differences) for name in ("least", "most"))
     steps = counted(len(differences), "step")
-    out.append(f"in {steps} in all: off by at least {short_down(least)} {unit} somewhere, and by at most {short_up(most)} {unit} everywhere")
+    where = "where heads are given" if any(np.isnan(d.most).any() for d in differences) else "everywhere"
+    out.append(
+        f"in {steps} in all: off by at least {short_down(least)} {unit} somewhere, and by at most"
+        f" {short_up(most)} {unit} {where}"
+    )
     if not listing.is_whole:
         out.append("the listing doesn't end with END: its pairs are no bounds")
     return out

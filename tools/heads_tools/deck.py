@@ -8,8 +8,29 @@ from .sources import Array
 
 KINDS = ("DIS", "BAS6", "LPF", "WEL", "RIV", "DRN", "GHB", "RCH", "CHD", "EVT")
 PASSED = {"LIST", "OC", "PCG", "PCGN", "SIP", "DE4", "GMG", "LMT6", "MULT", "ZONE", "PVAL", "DATA", "DATA(BINARY)"}
-ONLY_PRINTS = {"HOB", "CHOB", "DROB", "GBOB", "RVOB", "HYD", "GAGE", "GLOBAL", "LMG", "NWT", "SMS", "\x1a"}
-COLUMNS = {"WEL": ("Q",), "RIV": ("Stage", "Cond", "Rbot"), "DRN": ("Elevation", "Cond"), "GHB": ("Bhead", "Cond"), "CHD": ("Shead", "Ehead")}
+ONLY_PRINTS = {
+    "HOB",
+    "CHOB",
+    "DROB",
+    "GBOB",
+    "RVOB",
+    "HYD",
+    "GAGE",
+    "GLOBAL",
+    "DATAGLO",
+    "DATAGLO(BINARY)",
+    "LMG",
+    "NWT",
+    "SMS",
+    "\x1a",
+}
+COLUMNS = {
+    "WEL": ("Q",),
+    "RIV": ("Stage", "Cond", "Rbot"),
+    "DRN": ("Elevation", "Cond"),
+    "GHB": ("Bhead", "Cond"),
+    "CHD": ("Shead", "Ehead"),
+}
 SCALED = {"WEL": (0,), "RIV": (1,), "DRN": (1,), "GHB": (1,), "CHD": (0, 1)}
 
 

@@ -2,20 +2,28 @@
 `heads check` decides on what is made with it."""
 from __future__ import annotations
 
-from dataclasses import dataclass
-
 import numpy as np
 import scipy.sparse
 
 from .deck import Entry
 from .model import Model, growth, value
 
-TERMS = {"STORAGE": 0, "CONSTANT HEAD": 1, "WELLS": 2, "DRAINS": 3, "RIVER LEAKAGE": 4, "HEAD DEP BOUNDS": 5, "RECHARGE": 6, "ET": 7}
+TERMS = {
+    "STORAGE": 0,
+    "CONSTANT HEAD": 1,
+    "WELLS": 2,
+    "DRAINS": 3,
+    "RIVER LEAKAGE": 4,
+    "HEAD DEP BOUNDS": 5,
+    "RECHARGE": 6,
+    "ET": 7,
+}
 Given = dict[int, tuple[Entry, bool]]
 
 
 def given_heads(model: Model, period: int, before: Given) -> Given:
-    """The cells that a CHD list has named so far, with the last entry of each; True where this period's list names it."""
+    """The cells that a CHD list has named so far, with the last entry of each; True where this period's list names
+    it."""
     out = {cell: (entry, False) for cell, (entry, _) in before.items()}
     lists = model.deck.lists.get("CHD")
     entries = lists[period] if lists else []
@@ -82,20 +90,46 @@ class Step:
         a, b, c = network.a, network.b, network.c
         both = (place[a] >= 0) & (place[b] >= 0)
         i, j, g = place[a[both]], place[b[both]], c[both]
-        self.links = scipy.sparse.csr_matrix((np.concatenate([g, g]), (np.concatenate([i, j]), np.concatenate([j, i]))), shape=(self.n, self.n))
+        self.links = scipy.sparse.csr_matrix(
+            (np.concatenate([g, g]), (np.concatenate([i, j]), np.concatenate([j, i]))), shape=(self.n, self.n)
+        )
         self.link_sum = np.asarray(self.links.sum(axis=1)).ravel()
-        fixed = [(place[x[k]], np.full(k.sum(), TERMS["CONSTANT HEAD"]), c[k], y[k], np.zeros(k.sum()))
-                 for x, y in ((a, b), (b, a)) for k in [(place[x] >= 0) & self.is_constant[y]]]
+        fixed = [
+            (place[x[k]], np.full(k.sum(), TERMS["CONSTANT HEAD"]), c[k], y[k], np.zeros(k.sum()))
+            for x, y in ((a, b), (b, a))
+            for k in [(place[x] >= 0) & self.is_constant[y]]
+        ]
         per = deck.periods[period]
         if not per.is_steady:
             mult, length = value(per.tsmult), value(per.perlen)
             with np.errstate(over="ignore"):
-                s = m.ss * (1 if m.is_coefficient else m.thick) * m.area * (growth(mult, per.nstp) / (length * mult ** (step - 1)))
+                s = (
+                    m.ss
+                    * (1 if m.is_coefficient else m.thick)
+                    * m.area
+                    * (growth(mult, per.nstp) / (length * mult ** (step - 1)))
+                )
             s = s.ravel()[self.cells]
             some = s > 0
-            fixed.append((np.flatnonzero(some), np.full(some.sum(), TERMS["STORAGE"]), s[some], self.cells[some], np.zeros(some.sum())))
+            fixed.append(
+                (
+                    np.flatnonzero(some),
+                    np.full(some.sum(), TERMS["STORAGE"]),
+                    s[some],
+                    self.cells[some],
+                    np.zeros(some.sum()),
+                )
+            )
         ghb = self.entries("GHB")
-        fixed.append((ghb[0], np.full(len(ghb[0]), TERMS["HEAD DEP BOUNDS"]), ghb[1][:, 1], np.full(len(ghb[0]), -1), ghb[1][:, 0]))
+        fixed.append(
+            (
+                ghb[0],
+                np.full(len(ghb[0]), TERMS["HEAD DEP BOUNDS"]),
+                ghb[1][:, 1],
+                np.full(len(ghb[0]), -1),
+                ghb[1][:, 0],
+            )
+        )
         self.at, self.term, self.c, self.holder, self.head = (np.concatenate(x) for x in zip(*fixed))
         self.at, self.term, self.holder = self.at.astype(int), self.term.astype(int), self.holder.astype(int)
         wells = self.entries("WEL")
@@ -121,26 +155,31 @@ class Step:
 
     def flow_size(self) -> np.ndarray:
         """The magnitudes of constant and deep flows by cell, summed."""
-        return (self.sum(self.flow_at, np.abs(self.flow)) + self.sum(self.riv_at, self.riv_c * np.abs(self.riv_stage - self.riv_bottom))
-                + self.sum(self.evt_at, self.evt_c * (self.evt_surf - self.evt_ext)))
+        return (
+            self.sum(self.flow_at, np.abs(self.flow))
+            + self.sum(self.riv_at, self.riv_c * np.abs(self.riv_stage - self.riv_bottom))
+            + self.sum(self.evt_at, self.evt_c * (self.evt_surf - self.evt_ext))
+        )
 
     def entries(self, kind: str) -> tuple[np.ndarray, np.ndarray]:
-        """The places and numbers of a list's entries in variable cells; a list of a period before where it is reused."""
+        """The places and numbers of a list's entries in variable cells; a list of a period before where it is
+        reused."""
         periods = self.model.deck.lists.get(kind, [])
-        entries = next((e for e in reversed(periods[:self.period + 1]) if e is not None), [])
+        entries = next((e for e in reversed(periods[: self.period + 1]) if e is not None), [])
         width = {"WEL": 1, "RIV": 3, "DRN": 2, "GHB": 2}[kind]
         at = np.array([self.place[self.model.index(e.cell)] for e in entries], dtype=int)
         numbers = np.array([[value(w) for w in e.words] for e in entries]).reshape(len(entries), width)
         return at[at >= 0], numbers[at >= 0]
 
     def areal(self, kind: str) -> tuple[np.ndarray, np.ndarray]:
-        """Recharge (flow) or evapotranspiration (conductance, surface, extinction elevation) at the cells that receive it."""
+        """Recharge (flow) or evapotranspiration (conductance, surface, extinction elevation) at the cells that
+        receive it."""
         m, areal = self.model, self.model.deck.areal.get(kind)
         width = 1 if kind == "RCH" else 3
         if areal is None:
             return np.zeros(0, int), np.zeros((0, width))
         arrays = {}
-        for _, new in areal.periods[:self.period + 1]:
+        for _, new in areal.periods[: self.period + 1]:
             arrays |= new
         layers, active = np.zeros(m.shape[1:], int), m.ibound != 0
         if areal.option == 2:
@@ -154,5 +193,7 @@ class Step:
         else:
             surf, rate, depth = (arrays[n].floats() for n in ("SURF", "EVTR", "EXDP"))
             at = np.where(rate.ravel() > 0, at, -1)
-            table = np.stack([rate * m.area / np.where(depth > 0, depth, 1), surf, surf - depth], axis=-1).reshape(-1, 3)
+            table = np.stack([rate * m.area / np.where(depth > 0, depth, 1), surf, surf - depth], axis=-1).reshape(
+                -1, 3
+            )
         return at[at >= 0], table[at >= 0]

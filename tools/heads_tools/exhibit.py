@@ -1,33 +1,182 @@
-"""exhibit: all that a report or a court needs of one run, in one folder."""
+"""exhibit: all that a report or a court needs of one run, in one folder that stands alone."""
 from __future__ import annotations
 
+import os
+import shlex
 import shutil
 import subprocess
 import sys
+import tempfile
 import time
+from dataclasses import dataclass, field
+from html import escape
 from pathlib import Path
+from string import Template
 
 from . import __version__
+from .deck import KINDS
 from .explain import explain
-from .listing import read_listing
-from .look import look
-from .model import read_model
-from .program import TOP, call, digits_of, run, sha256, version
+from .listing import Listing, read_listing
+from .look import look, title_of
+from .model import Model, read_model
+from .program import TOP, Ended, Version, beside, digits_of, sha256, version
 from .spelling import quoted_words
-from .text import Problem, on_disk, read_text, whole_file, words
+from .text import Problem, decimal_text, on_disk, read_text, whole_file, words
+from .verdict import Verdict, has_zones, program_file
 
-MAY_SAY = ("The finite-difference equations of this deck have exactly one solution (up to the heads of cells without flow). It has, at each cell "
-           "with flow and at the end of each step, a head between the two listed numbers, and each of its budget flows lies between the two listed ones.")
-MAY_NOT_SAY = ["The head in the aquifer lies between these numbers. (The listing speaks of the model's equations and not of the ground.)",
-               "MODFLOW's printed heads lie between these numbers. (`heads-tools compare` says how far they are off.)",
-               "The pictures and rounded tables are proved. (They are made from the listing by tools that aren't.)"]
-MOST_RECHECK_CELLS = 200_000
+EACH_HEAD = ("Each exact solution of this model's finite-difference equations has, at the end of each listed time step and at each listed cell, "
+             "a head between the two listed numbers, and budget flows between the two listed numbers of each term.")
+ONE_HEAD = ("For example: each exact solution of this model's equations has, in layer {}, row {}, column {}, at the end of period {}, step {}, "
+            "a head between {} and {} {}.")
+ZONE_FLOWS = "Each flow between two zones lies between its two listed numbers, too (this rests on the run and on recheck.py; `heads check` reads no zones)."
+NOT_THE_GROUND = "The head in the aquifer lies between these numbers."
+WHY_NOT = "The listing speaks of the equations of these files. It says nothing of the ground, nor of the heads that MODFLOW prints."
+NOTHING = "Nothing may be said of this model's heads from this run."
+MOST_RECHECK_HEADS = 200_000
+
+
+@dataclass
+class Exhibit:
+    """What an exhibit says. `commands`: what was run and what can be run again, each as it stands in the exhibit's own folder;
+    `facts`: name and text."""
+
+    title: str
+    verdict: str = NOTHING
+    may: list[str] = field(default_factory=list)
+    commands: list[str] = field(default_factory=list)
+    facts: list[tuple[str, str]] = field(default_factory=list)
+
+    def text(self) -> str:
+        """EXHIBIT.txt."""
+        lines = [f"Exhibit: {self.title}", self.verdict, ""]
+        lines += ["What may be said:", *(f"  {line}" for line in self.may or [NOTHING]), ""]
+        lines += ["What may not be said:", f"  {NOT_THE_GROUND}", f"  ({WHY_NOT})", ""]
+        lines += ["To test it, in this folder:", *(f"    {line}" for line in self.commands), ""]
+        lines += ["What was run:", *(f"  {name:<10}{text}" for name, text in self.facts)]
+        return "\n".join(lines) + "\n"
+
+    def page(self) -> str:
+        """judge.html."""
+        frame = Template(Path(__file__).with_name("judge.html").read_text(encoding="utf-8"))
+        quote = lambda line, kind: f'<blockquote class="{kind}">{escape(line)}</blockquote>'
+        return frame.substitute(
+            title=escape(self.title), verdict=escape(self.verdict), may="\n".join(quote(line, "may") for line in self.may or [NOTHING]),
+            may_not=quote(NOT_THE_GROUND, "not") + f"\n<p>{escape(WHY_NOT)}</p>", commands=escape("\n".join(self.commands)),
+            facts="".join(f"<dt>{escape(name)}</dt><dd>{escape(text)}</dd>" for name, text in self.facts))
+
+
+def exhibit(nam: Path, folder: Path, options: list[str]) -> int:
+    """Makes the exhibit of a model in a folder, which is whole or isn't there; the run's status, or that of the check."""
+    if folder.exists() and (not folder.is_dir() or any(folder.iterdir())):
+        raise Problem(f"{folder} isn't an empty folder: an exhibit begins with one, or with none")
+    binary, known = program_file(), version()
+    folder.parent.mkdir(parents=True, exist_ok=True)
+    made = Path(tempfile.mkdtemp(prefix=f".{folder.name}.", dir=folder.parent))
+    try:
+        copy_deck(nam, made / "deck", options)
+        copy_program(binary, made)
+        status, told = fill(made, nam.name, options, known)
+        with whole_file(made / "EXHIBIT.txt") as file:
+            file.write(told.text())
+        with whole_file(made / "judge.html") as file:
+            file.write(told.page())
+        write_sums(made)
+        made.chmod(0o755)
+        if folder.exists():
+            folder.rmdir()
+        os.rename(made, folder)
+    except BaseException:
+        shutil.rmtree(made, ignore_errors=True)
+        raise
+    print(told.text() + f"\nwritten: {folder}. Note the sha256 of its SHA256SUMS elsewhere: {sha256(folder / 'SHA256SUMS')}")
+    return status
+
+
+def fill(folder: Path, name: str, options: list[str], known: Version) -> tuple[int, Exhibit]:
+    """Runs, checks, rechecks and draws in the exhibit's folder."""
+    listing = Path(name).stem + ".heads"
+    deck = f"cd deck && ../heads run {shlex.join([name, *options])}"
+    ended = shell(folder, f"({deck}) > {shlex.quote(listing)}")
+    ended.last = last_line(folder / listing)
+    meaning = explain(ended.last, folder / "deck", digits_of(options), is_part(folder / listing))
+    told = Exhibit(title_of(folder / "deck" / name), f"The run ended with status {ended.status}: {ended.last}")
+    told.facts.append(("run", f"({deck}) > {listing}: status {ended.status}, last line {ended.last}"))
+    status = ended.status
+    if meaning.is_good:
+        status = add_verdicts(told, folder, name, listing, options, known)
+        told.commands.append(f"({deck}) | cmp - {shlex.quote(listing)} && echo SAME")
+    else:
+        told.facts += [("meaning", line.strip()) for line in meaning.lines]
+    told.commands.insert(0, "sha256sum -c SHA256SUMS")
+    told.facts += program_facts(known)
+    return status, told
+
+
+def add_verdicts(told: Exhibit, folder: Path, name: str, listing: str, options: list[str], known: Version) -> int:
+    """What `heads check` and recheck.py say, and what may be said after it; the status of the check."""
+    read, model = read_listing(folder / listing), read_model(folder / "deck" / name)
+    plain = f"{Path(listing).stem}.without_zones.heads" if has_zones(read) else listing
+    if has_zones(read):
+        told.commands.append(f"grep -v '^ZONE ' {shlex.quote(listing)} > {shlex.quote(plain)}")
+        shell(folder, told.commands[-1])
+    told.commands.append(f"(cd deck && ../heads check {shlex.join([name, '../' + plain])} --digits {read.digits})")
+    checked = shell(folder, told.commands[-1])
+    told.facts.append(("check", f"{checked.last} (status {checked.status})"))
+    add_recheck(told, folder, shlex.join([name, "../" + listing, *zone_file(options)]), sum(len(step.low) for step in read.steps))
+    verdict = Verdict(checked.status, checked.last, listing, has_zones(read))
+    told.verdict = verdict.sentence
+    if verdict.is_certified and known.is_recorded is not False:
+        told.may = what_may_be_said(read, model)
+        if known.is_recorded is None:
+            told.verdict += " No record of this program's bytes stands beside it: whether it is the proved one has to be shown."
+    look(read, folder / "look", model, verdict=verdict)
+    return checked.status
+
+
+def what_may_be_said(listing: Listing, model: Model) -> list[str]:
+    step = listing.steps[-1]
+    low = step.low.astype(float)
+    at = int((abs(low - low.mean()) * (step.width() > 0)).argmax())
+    pair = [decimal_text(int(v[at]), 9) for v in (step.low, step.high)]
+    one = ONE_HEAD.format(*listing.cells[at].tolist(), step.period, step.step, *pair, model.length)
+    return [EACH_HEAD, one] + ([ZONE_FLOWS] if has_zones(listing) else [])
+
+
+def add_recheck(told: Exhibit, folder: Path, arguments: str, heads: int) -> None:
+    command = f"(cd deck && python3 ../recheck.py {arguments})"
+    if not (folder / "recheck.py").is_file():
+        told.facts.append(("recheck", "recheck.py isn't here: not done"))
+        return
+    told.commands.append(command)
+    if heads > MOST_RECHECK_HEADS:
+        told.facts.append(("recheck", f"not done here: {heads} heads take long in fractions"))
+        return
+    done = shell(folder, command.replace("python3", shlex.quote(sys.executable), 1))
+    told.facts.append(("recheck", f"{done.last} (status {done.status})"))
+
+
+def shell(folder: Path, command: str) -> Ended:
+    """Runs a line as it stands in a folder: its status and the last line that it printed."""
+    print(f"running {command}", file=sys.stderr)
+    began = time.monotonic()
+    done = subprocess.run(["sh", "-c", command], cwd=folder, stdout=subprocess.PIPE, text=True, errors="replace")
+    return Ended(done.returncode, (done.stdout.strip().split("\n") or [""])[-1], time.monotonic() - began)
+
+
+def last_line(path: Path) -> str:
+    return (read_text(path).rstrip("\n").rsplit("\n", 1) or [""])[-1].strip()
+
+
+def is_part(path: Path) -> bool:
+    return "\nSTEP " in read_text(path)
+
+
+def zone_file(options: list[str]) -> list[str]:
+    return [options[n + 1] for n, word in enumerate(options[:-1]) if word == "--zones"] + [w[8:] for w in options if w.startswith("--zones=")]
 
 
 def deck_files(nam: Path) -> list[str]:
     """The name file, the files that it names for packages that are read, and the files that arrays open."""
-    from .deck import KINDS
-
     out = [nam.name]
     for line in read_text(nam).split("\n"):
         w = words(line)
@@ -40,68 +189,46 @@ def deck_files(nam: Path) -> list[str]:
     return sorted(set(out))
 
 
-def exhibit(nam: Path, folder: Path, options: list[str]) -> int:
-    """Copies the deck, runs it, checks the listing by the program and by recheck, draws it, and writes EXHIBIT.txt."""
-    if folder.exists() and any(folder.iterdir()):
-        raise Problem(f"{folder} isn't empty: an exhibit begins with an empty folder")
-    deck = folder / "deck"
-    deck.mkdir(parents=True, exist_ok=True)
-    zones = [options[n + 1] for n, word in enumerate(options[:-1]) if word == "--zones"]
-    for name in deck_files(nam) + zones:
-        source, target = on_disk(nam.parent, name), on_disk(deck, name)
+def copy_deck(nam: Path, deck: Path, options: list[str]) -> None:
+    deck.mkdir()
+    for name in deck_files(nam) + zone_file(options):
         if ".." in name or name.startswith(("/", "\\")):
             raise Problem(f"{name} lies outside the model's folder: an exhibit holds its whole deck")
+        source, target = on_disk(nam.parent, name), on_disk(deck, name)
         if source.is_file():
             target.parent.mkdir(parents=True, exist_ok=True)
             shutil.copyfile(source, target)
-    for script in ("recheck.py",):
-        if (TOP / "tools" / script).is_file():
-            shutil.copyfile(TOP / "tools" / script, folder / script)
-    listing = folder / f"{nam.stem}.heads"
-    ended = run(deck / nam.name, options, listing)
-    meaning = explain(ended.last, deck, digits_of(options), ended.steps > 0)
-    lines = ["Exhibit of certified bounds of a groundwater model", f"made {time.strftime('%Y-%m-%d %H:%M:%S UTC', time.gmtime())}", "",
-             f"command   heads run {' '.join([nam.name, *options])}   (in the folder deck)", f"ended     status {ended.status}, last line {ended.last}"]
-    status = ended.status
-    if meaning.is_good:
-        status, more = verdicts(deck / nam.name, listing, digits_of(options), folder)
-        lines += more + ["", *look(read_listing(listing), folder / "look", read_model(deck / nam.name))]
-    else:
-        lines += meaning.lines
-    known = version()
-    lines += ["", "program", *("  " + line for line in known.lines), f"  heads-tools {__version__}, Python {sys.version.split()[0]} (not proved)", ""]
-    if meaning.is_good and status == 0 and known.is_recorded is not False:
-        condition = "" if known.is_recorded else ", if the program is a proved one (no record of its bytes stands beside it)"
-        lines += [f"What may be said{condition}:", f"  {MAY_SAY}", "What may not be said:", *(f"  - {t}" for t in MAY_NOT_SAY)]
-    else:
-        lines += ["Nothing may be said of this model's heads from this run."]
-    files = [p for p in sorted(folder.rglob("*")) if p.is_file() and p.name != "EXHIBIT.txt"]
-    lines += ["", "sha256 of each file", *(f"  {sha256(p)}  {p.relative_to(folder)}" for p in files)]
-    with whole_file(folder / "EXHIBIT.txt") as file:
-        file.write("\n".join(lines) + "\n")
-    print("\n".join(lines))
-    return status
 
 
-def verdicts(nam: Path, listing: Path, digits: int, folder: Path) -> tuple[int, list[str]]:
-    """The status and the lines of `heads check` and of recheck. A listing with zone flows is checked without them."""
-    checked, text = listing, read_text(listing)
-    note = ""
-    if "\nZONE " in text:
-        checked = listing.with_suffix(".without_zones.heads")
-        with whole_file(checked) as file:
-            file.write("".join(line + "\n" for line in text.split("\n")[:-1] if not line.startswith("ZONE ")))
-        note = " (ZONE lines left out: check knows none)"
-    ended = call(["check", nam.name, str(checked.resolve()), "--digits", str(digits)], nam.parent)
-    out = [f"check     heads check {nam.name} {checked.name} --digits {digits}: {ended.last}{note}"]
-    script = folder / "recheck.py"
-    heads = sum(len(s.low) for s in read_listing(checked).steps)
-    if not script.is_file():
-        out.append("recheck   tools/recheck.py isn't here: not done")
-    elif heads > MOST_RECHECK_CELLS:
-        out.append(f"recheck   not done here: {heads} heads take long in fractions; `python3 recheck.py deck/{nam.name} {checked.name}`")
-    else:
-        done = subprocess.run([sys.executable, script.resolve(), nam.name, checked.resolve()], cwd=nam.parent, capture_output=True, text=True)
-        said = (done.stdout.strip() or done.stderr.strip()).split("\n")
-        out.append(f"recheck   python3 recheck.py {nam.name} {checked.name}: {said[-1]}")
-    return ended.status, out
+def copy_program(binary: Path, folder: Path) -> None:
+    """The program, the record of its sources, and recheck.py."""
+    shutil.copyfile(binary, folder / "heads")
+    (folder / "heads").chmod(0o755)
+    record = binary.with_name(binary.name + ".txt")
+    if record.is_file():
+        shutil.copyfile(record, folder / "heads.txt")
+    script = beside("recheck.py")
+    if script:
+        shutil.copyfile(script, folder / "recheck.py")
+
+
+def program_facts(known: Version) -> list[tuple[str, str]]:
+    facts = [("program", line.strip()) for line in known.lines]
+    return facts + commit_facts() + [("tools", f"heads-tools {__version__}, Python {sys.version.split()[0]} (not proved)"),
+                                     ("made", time.strftime("%Y-%m-%d %H:%M:%S UTC by this machine's clock", time.gmtime()))]
+
+
+def commit_facts() -> list[tuple[str, str]]:
+    """The commit of the checkout, where this is one, and whether its files have changed since."""
+    git = lambda *args: subprocess.run(["git", "-C", str(TOP), *args], capture_output=True, text=True).stdout.strip()
+    if not (TOP / ".git").exists() or not shutil.which("git"):
+        return [("commit", "not known: heads-tools wasn't run from a checkout")]
+    changed = git("status", "--porcelain", "--untracked-files=no")
+    return [("commit", git("rev-parse", "HEAD") + (" (files of the checkout were changed since)" if changed else ""))]
+
+
+def write_sums(folder: Path) -> None:
+    """SHA256SUMS of all other files, as `sha256sum -c` reads it."""
+    files = sorted(path for path in folder.rglob("*") if path.is_file())
+    with whole_file(folder / "SHA256SUMS") as file:
+        file.writelines(f"{sha256(path)}  {path.relative_to(folder)}\n" for path in files)

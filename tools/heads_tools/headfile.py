@@ -24,7 +24,7 @@ def read_heads(path: str | Path, shape: tuple[int, int, int] | None = None) -> H
     raw = path.read_bytes()
     for marks in (0, 4):
         for real, size in (("f", 4), ("d", 8)):
-            if raw[marks + 8 + 2 * size:marks + 24 + 2 * size].strip().upper() == b"HEAD":
+            if raw[marks + 8 + 2 * size : marks + 24 + 2 * size].strip().upper() == b"HEAD":
                 return _binary(path, raw, marks, real, size, shape)
     if all(32 <= b < 127 or b in b"\t\n\r" for b in raw[:400]) and raw:
         return _table(path, raw.decode("latin-1"), shape)
@@ -51,7 +51,9 @@ def _binary(path: Path, raw: bytes, marks: int, real: str, size: int, shape: tup
         out[key] = np.full(shape or (max(by_layer), *first.shape), np.nan)
         for layer, values in by_layer.items():
             if not 1 <= layer <= len(out[key]) or values.shape != out[key].shape[1:]:
-                raise Problem(f"{path}: layer {layer} of {values.shape[0]} rows and {values.shape[1]} columns is of another grid")
+                raise Problem(
+                    f"{path}: layer {layer} of {values.shape[0]} rows and {values.shape[1]} columns is of another grid"
+                )
             out[key][layer - 1] = values
     return out
 
@@ -67,7 +69,9 @@ def _table(path: Path, text: str, shape: tuple[int, int, int] | None) -> Heads:
             if min(k, i, j) < 1 or not math.isfinite(head):
                 raise ValueError
         except (ValueError, IndexError):
-            raise Problem(f"{path}, line {n}: a line is [period,step,]layer,row,col,head, and this one `{','.join(row)[:60]}`") from None
+            raise Problem(
+                f"{path}, line {n}: a line is [period,step,]layer,row,col,head, and this one `{','.join(row)[:60]}`"
+            ) from None
         rows.setdefault(key, []).append((k, i, j, head))
     out = {}
     for key, entries in rows.items():
@@ -81,8 +85,15 @@ def _table(path: Path, text: str, shape: tuple[int, int, int] | None) -> Heads:
     return out
 
 
-def write_heads(path: str | Path, listing: Listing, side: str = "middle", shape: tuple[int, int, int] | None = None,
-                times: dict[tuple[int, int], tuple[float, float]] | None = None, is_single: bool = False, no_flow: float = -999.99) -> None:
+def write_heads(
+    path: str | Path,
+    listing: Listing,
+    side: str = "middle",
+    shape: tuple[int, int, int] | None = None,
+    times: dict[tuple[int, int], tuple[float, float]] | None = None,
+    is_single: bool = False,
+    no_flow: float = -999.99,
+) -> None:
     """Writes a head file that FloPy, ModelMuse and Model Viewer read. `side`: lower (rounded down), upper (rounded up)
     or middle (rounded). `times`: for each step the time within its period and in all."""
     shape = shape or listing.shape
@@ -93,8 +104,22 @@ def write_heads(path: str | Path, listing: Listing, side: str = "middle", shape:
             out = np.where(np.isnan(grid), no_flow, grid).astype(dtype)
             if is_single and side != "middle":
                 wrong = out > grid if side == "lower" else out < grid
-                out = np.where(wrong, np.nextafter(out, np.float32(-np.inf if side == "lower" else np.inf)), out).astype(dtype)
+                out = np.where(
+                    wrong, np.nextafter(out, np.float32(-np.inf if side == "lower" else np.inf)), out
+                ).astype(dtype)
             within, total = (times or {}).get((step.period, step.step), (float(n + 1), float(n + 1)))
             for layer in range(shape[0]):
-                file.write(struct.pack(f"<2i2{real}16s3i", step.step, step.period, within, total, b"            HEAD", shape[2], shape[1], layer + 1))
+                file.write(
+                    struct.pack(
+                        f"<2i2{real}16s3i",
+                        step.step,
+                        step.period,
+                        within,
+                        total,
+                        b"            HEAD",
+                        shape[2],
+                        shape[1],
+                        layer + 1,
+                    )
+                )
                 file.write(out[layer].tobytes())

@@ -15,7 +15,7 @@ FIFTHS = 5**9
 NO_LISTING = ("REFUSED", "READFAULT", "MEMORY", "USAGE:", "CERTIFIED", "NOT")
 
 
-@dataclass
+@dataclass(repr=False)
 class Step:
     """One time step. `low`, `high`: heads in 10^-9 length units, shape (cells,); `terms`: name to the whole
     numbers in_low, in_high, out_low, out_high of 10^-(digits + 9) length units cubed by time unit; `zones`: the
@@ -28,13 +28,17 @@ class Step:
     terms: dict[str, list[int]] = field(default_factory=dict)
     zones: list[tuple[int, int, int, int]] = field(default_factory=list)
 
+    def __repr__(self) -> str:
+        return f"<period {self.period} step {self.step}: {counted(len(self.low), 'cell')}>"
+
     def width(self) -> np.ndarray:
         return self.high - self.low
 
 
-@dataclass
+@dataclass(repr=False)
 class Listing:
-    """A listing. `cells`: layer, row and column of each cell with flow, from 1, shape (cells, 3); `end`: its last line."""
+    """A listing. `cells`: layer, row and column of each cell with flow, from 1, shape (cells, 3); `end`: its last
+    line."""
 
     path: Path
     digits: int
@@ -42,6 +46,10 @@ class Listing:
     steps: list[Step] = field(default_factory=list)
     cells: np.ndarray = field(default_factory=lambda: np.zeros((0, 3), int))
     end: str = ""
+
+    def __repr__(self) -> str:
+        size = f"{counted(len(self.steps), 'step')} of {counted(len(self.cells), 'cell')}"
+        return f"<{self.path.name}: {size}, {self.digits} digits, ends with {self.end or 'a part of a step'}>"
 
     @property
     def is_whole(self) -> bool:
@@ -90,13 +98,18 @@ class Listing:
         if not len(self.cells):
             return f"{counted(len(self.steps), 'step')} without a cell with flow"
         width, step, cell = self.widest()
-        return (f"{counted(len(self.steps), 'step')} of {counted(len(self.cells), 'cell')}; widest pair {decimal_text(width, 9)} "
-                f"(period {step.period} step {step.step}, layer row column {' '.join(map(str, cell))})")
+        return (
+            f"{counted(len(self.steps), 'step')} of {counted(len(self.cells), 'cell')}; widest pair"
+            f" {decimal_text(width, 9)} (period {step.period} step {step.step}, layer row column"
+            f" {' '.join(map(str, cell))})"
+        )
 
 
 def head_floor(units: np.ndarray) -> np.ndarray:
     """The heads of whole numbers of 10^-9 as doubles, rounded down; exact where a double can hold the head."""
-    near = np.where(np.abs(units) < 2**53, units / UNITS_IN_ONE, units // UNITS_IN_ONE + units % UNITS_IN_ONE / UNITS_IN_ONE)
+    near = np.where(
+        np.abs(units) < 2**53, units / UNITS_IN_ONE, units // UNITS_IN_ONE + units % UNITS_IN_ONE / UNITS_IN_ONE
+    )
     return np.where(units % FIFTHS == 0, units // FIFTHS / 512, np.nextafter(near, -np.inf))
 
 
@@ -108,7 +121,12 @@ def read_listing(path: str | Path) -> Listing:
         raise Problem(f"{path} is empty: the write failed, or the run was stopped")
     if first[0] in NO_LISTING:
         raise Problem(f"{path} has no listing, it ended with: {lines[0][:100]}")
-    if len(first) != 6 or first[0] != "HEADS" or first[2] != "DIGITS" or not (first[3] + first[5].lstrip("-")).isdigit():
+    if (
+        len(first) != 6
+        or first[0] != "HEADS"
+        or first[2] != "DIGITS"
+        or not (first[3] + first[5].lstrip("-")).isdigit()
+    ):
         raise Problem(f"{path}, line 1: no listing of `heads` begins with {lines[0][:60]!r}")
     listing = Listing(Path(path), int(first[3]), int(first[5]))
     starts = [n for n, line in enumerate(lines) if line.startswith("STEP ")]
@@ -138,7 +156,7 @@ def _read_step(lines: list[str], begin: int, end: int, places: int) -> tuple[Ste
     last = begin + 1
     while last < end and lines[last].startswith("HEAD "):
         last += 1
-    text = " ".join(lines[begin + 1:last]).replace("HEAD ", "").replace(".", "")
+    text = " ".join(lines[begin + 1 : last]).replace("HEAD ", "").replace(".", "")
     table = np.array(text.split(), dtype=np.int64).reshape(last - begin - 1, 5)
     step = Step(int(period), int(number), table[:, 3].copy(), table[:, 4].copy())
     for line in lines[last:end]:

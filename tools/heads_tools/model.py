@@ -11,7 +11,7 @@ from .packages import read_deck
 from .text import LENGTHS, TIMES, Problem
 
 
-@dataclass
+@dataclass(repr=False)
 class Model:
     """`thick`, `bed`: thickness of layers and of the beds below them (0 where there is none); `vk`: vertical
     conductivity, VKA or HK / VKA; `ss`: specific storage, or the coefficient where `is_coefficient`."""
@@ -32,6 +32,10 @@ class Model:
     vkcb: np.ndarray
     is_coefficient: bool
     times: dict[tuple[int, int], tuple[float, float]] = field(default_factory=dict)
+
+    def __repr__(self) -> str:
+        nlay, nrow, ncol = self.shape
+        return f"<model {self.deck.path.name}: {nlay} x {nrow} x {ncol} cells, {len(self.times)} time steps>"
 
     @property
     def shape(self) -> tuple[int, int, int]:
@@ -85,15 +89,33 @@ def model_of(deck: Deck) -> Model:
     for k, array in deck.bed_bottom.items():
         bed_bottom[k] = array.floats()
     above = np.concatenate([top[None], bed_bottom[:-1]])
-    layer = lambda name, default: np.array([p[name].floats() if name in p else default(k) for k, p in enumerate(deck.properties)]).reshape(shape)
+    layer = lambda name, default: np.array(
+        [p[name].floats() if name in p else default(k) for k, p in enumerate(deck.properties)]
+    ).reshape(shape)
     chani, layvka = ([float(x) for x in deck.layer_words[at]] for at in (2, 3))
     flat = lambda v: np.full(shape[1:], v)
     hk, vka = layer("HK", None), layer("VKA", None)
-    vk = np.array([v if layvka[k] == 0 else np.divide(hk[k], v, out=np.zeros_like(v), where=v != 0) for k, v in enumerate(vka)])
+    vk = np.array(
+        [v if layvka[k] == 0 else np.divide(hk[k], v, out=np.zeros_like(v), where=v != 0) for k, v in enumerate(vka)]
+    )
     options = deck.options.get("LPF", "").upper().replace(",", " ").split()[3:]
-    model = Model(deck, deck.delr.floats()[0], deck.delc.floats()[0], top, bottom, above - bottom, bottom - bed_bottom,
-                  stack(deck.ibound).astype(np.int64), stack(deck.strt), hk, layer("HANI", lambda k: flat(chani[k])), vk,
-                  layer("SS", lambda k: flat(0.0)), layer("VKCB", lambda k: flat(0.0)), "STORAGECOEFFICIENT" in options)
+    model = Model(
+        deck,
+        deck.delr.floats()[0],
+        deck.delc.floats()[0],
+        top,
+        bottom,
+        above - bottom,
+        bottom - bed_bottom,
+        stack(deck.ibound).astype(np.int64),
+        stack(deck.strt),
+        hk,
+        layer("HANI", lambda k: flat(chani[k])),
+        vk,
+        layer("SS", lambda k: flat(0.0)),
+        layer("VKCB", lambda k: flat(0.0)),
+        "STORAGECOEFFICIENT" in options,
+    )
     model.times = times_of(deck)
     return model
 

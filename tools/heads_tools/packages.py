@@ -1,4 +1,5 @@
-"""Reads a deck in any spelling of the MODFLOW family, with all that is remarkable in it and not the first fault alone."""
+"""Reads a deck in any spelling of the MODFLOW family, with all that is remarkable in it and not the first fault
+alone."""
 from __future__ import annotations
 
 import re
@@ -7,15 +8,17 @@ from pathlib import Path, PureWindowsPath
 from .advice import OTHER_PACKAGES, UNKNOWN_PACKAGE
 from .deck import COLUMNS, KINDS, ONLY_PRINTS, PASSED, SCALED, Areal, Deck, Entry, Period
 from .sources import Array, Report, Source, binary_words, find_file, read_binary
-from .spelling import fortran, number, product, quoted_words
+from .spelling import fortran, number, product, quoted_words, record_words
 from .text import Problem
 
 EVT_ARRAYS = ("SURF", "EVTR", "EXDP")
 
 
-def read_deck(nam: str | Path) -> tuple[Deck, Report]:
-    """Reads all files of a name file. What can't be read stands under the report's refusals."""
-    reader = Reader(Path(nam))
+def read_deck(nam: str | Path, as_modflow: bool = False, any_size: bool = False) -> tuple[Deck, Report]:
+    """Reads all files of a name file. What can't be read stands under the report's refusals. A blank line where
+    counts or flags are due is passed over, as `heads` does, or read `as_modflow`, which takes it as zeros.
+    `any_size`: more cells than the program takes are no refusal."""
+    reader = Reader(Path(nam), as_modflow, any_size)
     reader.read_names()
     for kind in KINDS:
         if kind in reader.deck.files:
@@ -35,11 +38,34 @@ def plain_name(name: str) -> str:
     return re.sub(r"[^\x21-\x7e]", "_", PureWindowsPath(name).name)
 
 
+def number_like(word: str) -> bool:
+    return bool(re.fullmatch(r"[+-]?[0-9.]+([EeDd][+-]?\d+)?", word))
+
+
+def layer_word_refused(name: str, row: list[str], by_start: bool) -> str:
+    """Why a word of a layer is refused."""
+    layers = " ".join(str(k + 1) for k, x in enumerate(row) if float(x))
+    if name == "LAYAVG":
+        return f"LAYAVG of layer {layers} isn't 0: only the harmonic mean is read"
+    if name == "LAYWET":
+        return f"LAYWET of layer {layers} isn't 0: no wetting in confined layers"
+    if by_start and all(float(x) <= 0 for x in row):
+        return (
+            f"LAYTYP of layer {layers} is below 0 with THICKSTRT: such a layer is confined, as thick as STRT less its"
+            " bottom. Write LAYTYP 0, and STRT as its top in DIS"
+        )
+    return (
+        f"LAYTYP of layer {layers} isn't 0: a convertible layer is another model, whose transmissivity changes with the"
+        " head. To make it confined is your decision, not a spelling"
+    )
+
+
 class Reader:
     """The reading of one deck."""
 
-    def __init__(self, nam: Path):
-        self.report, self.deck, self.folder = Report(), Deck(nam), nam.parent
+    def __init__(self, nam: Path, as_modflow: bool = False, any_size: bool = False):
+        self.any_size = any_size
+        self.report, self.deck, self.folder, self.as_modflow = Report(), Deck(nam), nam.parent, as_modflow
         self.sources: dict[str, Source] = {}
         self.binary_at: dict[str, int] = {}
         self.at: Source | None = None
@@ -47,6 +73,8 @@ class Reader:
     def refuse_text(self, kind: str, text: str) -> None:
         file = self.deck.files.get(kind, kind)
         here = self.at
+        if here is not None and here.due:
+            self.report.due.setdefault(here.name, here.due)
         if here is not None and text.startswith(here.name):
             self.report.add("refusals", here.name, here.at, re.sub(r"^[^:]*, line \d+: |^\S+ ", "", text, count=1))
         else:
@@ -103,7 +131,9 @@ class Reader:
         if "'" in line or '"' in line:
             self.need("quotes taken out")
         if plain_name(w[2]) != w[2]:
-            (self.need if re.search(r"[^\x21-\x7e]|:", w[2]) else self.change)(f"`{w[2]}` written as {plain_name(w[2])}")
+            (self.need if re.search(r"[^\x21-\x7e]|:", w[2]) else self.change)(
+                f"`{w[2]}` written as {plain_name(w[2])}"
+            )
         deck.name_lines.append(f"{kind} {w[1]} {plain_name(w[2])}")
 
     def open(self, name: str) -> Source:
@@ -131,18 +161,61 @@ class Reader:
         return self.sources[name]
 
     def fields(self, source: Source, line: str, count: int) -> list[str]:
-        """The first words of a line: parted by blanks, or by columns of 10 in a deck without FREE. Missing ones are 0."""
-        w = quoted_words(line) if self.deck.is_free else [line[k:k + 10].replace(" ", "") or "0" for k in range(0, 10 * count, 10)]
+        """The first words of a line: parted by blanks, or by columns of 10 in a deck without FREE. Missing ones are
+        0."""
+        w = (
+            quoted_words(line)
+            if self.deck.is_free
+            else [line[k : k + 10].replace(" ", "") or "0" for k in range(0, 10 * count, 10)]
+        )
         if not self.deck.is_free:
             self.report.add("needed", source.name, 0, "columns of fixed width written free")
         return w[:count] + ["0"] * (count - len(w))
 
+    def counts(self, source: Source, count: int, what: str) -> list[str]:
+        """The counts or flags that begin a stress period, or zeros for a blank line where it is read as MODFLOW
+        does."""
+        source.due = what
+        if not self.as_modflow:
+            return self.fields(
+                source,
+                source.line(
+                    on_blank=f"a blank line where {what} is due: MODFLOW-2005 reads zeros, `heads` takes the next line"
+                ),
+                count,
+            )
+        line = source.line(is_blank_taken=True)
+        if not line.strip(" \t,\x1a"):
+            zeros = " ".join(["0"] * count)
+            self.report.add(
+                "needed",
+                source.name,
+                source.at,
+                (
+                    f"a blank line where {what} is due written as `{zeros}`, "
+                    "which MODFLOW-2005 reads there; `heads` skips it"
+                ),
+                is_first=True,
+            )
+            return ["0"] * count
+        return self.fields(source, line, count)
+
     # Arrays.
 
-    def array(self, rows: int, cols: int, source: Source | None = None) -> Array:
-        source = source or self.at
+    def array(self, rows: int, cols: int, what: str, is_whole: bool = False) -> Array:
+        """The next array of the file, `what` for people; `is_whole`: of whole numbers."""
+        self.at.due = what
+        out = self._array(rows, cols)
+        if is_whole:
+            wrong = next((w for w in out.words if not re.fullmatch(r"[+-]?\d+", w)), None)
+            if wrong is not None:
+                self.refuse(f"{what} has `{wrong}`, where a whole number is due (MODFLOW-2005 stops here, too)")
+        return out
+
+    def _array(self, rows: int, cols: int) -> Array:
+        source = self.at
         line = source.line()
-        w = quoted_words(line)
+        w = record_words(line)
         kind, shape = w[0].upper(), (rows, cols)
         if "'" in line or '"' in line:
             self.need("quotes taken out of an array's record")
@@ -160,8 +233,10 @@ class Reader:
             return self._values(source, self.unit(w[1]), w[2], w[3], shape, kind)
         locat, factor, text = line[:10].strip(), line[10:20].strip() or "0", line[20:40].strip() or "(FREE)"
         if not re.fullmatch(r"[+-]?\d+", locat):
-            raise Problem(f"{source.name}, line {source.at}: an array begins with CONSTANT, INTERNAL, OPEN/CLOSE or EXTERNAL, "
-                          f"and here stands `{line.strip()[:40]}`. Or the array before has more values than its grid")
+            raise Problem(
+                f"{source.name}, line {source.at}: an array begins with CONSTANT, INTERNAL, OPEN/CLOSE or EXTERNAL, "
+                f"and here stands `{line.strip()[:40]}`. Or the array before has more values than its grid"
+            )
         self.need("an array's record in fixed columns written with a keyword")
         if int(locat) == 0:
             return Array([source.number(factor)], "1", shape)
@@ -171,21 +246,28 @@ class Reader:
 
     def _values(self, source: Source, data: Source, factor: str, text: str, shape: tuple[int, int], kind: str) -> Array:
         factor, count = source.number(factor), shape[1]
+        data.due = source.due
+        is_free = fortran(text) is None
         if kind == "OPEN/CLOSE":
             self.change(f"array of {data.name} put in place")
         if kind == "EXTERNAL":
             self.need(f"EXTERNAL: array of {data.name} put in place")
         if text.upper() != "(FREE)":
             self.need(f"format {text} written as (FREE)")
-        is_free = fortran(text) is None
-        out = [w for _ in range(shape[0]) for w in (data.free_values(count) if is_free else data.fixed_values(count, text))]
+        out = [
+            w for _ in range(shape[0]) for w in (data.free_values(count) if is_free else data.fixed_values(count, text))
+        ]
         return Array(out, factor, shape)
 
     def _binary(self, source: Source, name: str, factor: str, shape: tuple[int, int], is_rest: bool) -> Array:
         path, _ = find_file(self.folder, name)
-        values, self.binary_at[name] = read_binary(path, shape[0] * shape[1], 0 if is_rest else self.binary_at.get(name, 0), is_rest)
+        values, self.binary_at[name] = read_binary(
+            path, shape[0] * shape[1], 0 if is_rest else self.binary_at.get(name, 0), is_rest
+        )
         digits = "9" if values.dtype.itemsize == 4 else "17"
-        self.need(f"binary array of {path.name} written as text of up to {digits} digits, the shortest that names each value")
+        self.need(
+            f"binary array of {path.name} written as text of up to {digits} digits, the shortest that names each value"
+        )
         return Array([number(w).text for w in binary_words(values)], source.number(factor), shape)
 
     # The packages that every deck has.
@@ -197,27 +279,38 @@ class Reader:
             raise Problem("a comment has to begin in the first column (MODFLOW wants it so, too)")
         w = quoted_words(line)
         nlay, nrow, ncol, nper, deck.itmuni, deck.lenuni = (s.integer(x, "a count") for x in w[:6])
-        over = [text for is_bad, text in (
-            (not 1 <= nlay <= 64, "NLAY from 1 to 64"), (not (1 <= nrow <= 1024 and 1 <= ncol <= 1024), "NROW and NCOL from 1 to 1,024"),
-            (nlay * nrow * ncol > 65536, f"at most 65,536 cells in all (these are {nlay * nrow * ncol:,})"),
-            (not 1 <= nper <= 1000, "NPER from 1 to 1,000")) if is_bad]
-        if over:
+        over = [
+            text
+            for is_bad, text in (
+                (not 1 <= nlay <= 64, "NLAY from 1 to 64"),
+                (not (1 <= nrow <= 1024 and 1 <= ncol <= 1024), "NROW and NCOL from 1 to 1,024"),
+                (nlay * nrow * ncol > 65536, f"at most 65,536 cells in all (these are {nlay * nrow * ncol:,})"),
+                (not 1 <= nper <= 1000, "NPER from 1 to 1,000"),
+            )
+            if is_bad
+        ]
+        if over and not self.any_size:
             self.refuse("`heads` takes " + "; ".join(over))
         deck.nlay, deck.nrow, deck.ncol = nlay, nrow, ncol
         deck.laycbd = [s.integer(x, "LAYCBD") for x in s.free_values(nlay)]
         if deck.laycbd[-1]:
             self.refuse("LAYCBD of the last layer isn't 0: there is no layer below its bed")
-        deck.delr, deck.delc, deck.top = self.array(1, ncol), self.array(1, nrow), self.array(nrow, ncol)
+        deck.delr, deck.delc, deck.top = (
+            self.array(1, ncol, "DELR"),
+            self.array(1, nrow, "DELC"),
+            self.array(nrow, ncol, "the top of layer 1"),
+        )
         for k in range(nlay):
-            deck.bottom.append(self.array(nrow, ncol))
+            deck.bottom.append(self.array(nrow, ncol, f"the bottom of layer {k + 1}"))
             if deck.laycbd[k]:
-                deck.bed_bottom[k] = self.array(nrow, ncol)
-        periods = [self._period(s) for _ in range(nper)]
+                deck.bed_bottom[k] = self.array(nrow, ncol, f"the bottom of the bed below layer {k + 1}")
+        periods = [self._period(s, p + 1) for p in range(nper)]
         deck.periods = periods
         if sum(p.nstp for p in periods) > 100_000:
             self.refuse("more than 100,000 time steps")
 
-    def _period(self, s: Source) -> Period:
+    def _period(self, s: Source, number: int) -> Period:
+        s.due = f"PERLEN NSTP TSMULT of period {number}"
         w = quoted_words(s.line())
         if len(w) < 4 or w[3].upper() not in ("SS", "TR"):
             raise Problem("a period's line is PERLEN NSTP TSMULT and SS or TR")
@@ -226,7 +319,9 @@ class Reader:
         if perlen < 0 or (perlen == 0 and not period.is_steady) or mult <= 0:
             self.refuse("PERLEN is above 0 in a transient period, TSMULT above 0")
         if not period.is_steady and mult != 1 and not (0.001 <= mult <= 1000 and period.nstp <= 1000):
-            self.refuse("TSMULT lies from 0.001 to 1000, with at most 1,000 steps, where it isn't 1 in a transient period")
+            self.refuse(
+                "TSMULT lies from 0.001 to 1000, with at most 1,000 steps, where it isn't 1 in a transient period"
+            )
         return period
 
     def read_bas6(self) -> None:
@@ -236,14 +331,19 @@ class Reader:
         deck.is_free = "FREE" in options
         deck.options["BAS6"] = line if deck.is_free and "CHTOCH" not in options else "FREE"
         if not deck.is_free:
-            self.need(f"option line `{line.strip()}` written as FREE: the deck is in columns of fixed width")
+            said = f"the option line `{line.strip()}`" if line.strip() else "the empty option line"
+            self.need(f"{said} written as FREE: the deck is in columns of fixed width")
         if "CHTOCH" in options:
             self.need("CHTOCH dropped: it only adds flows between constant cells to MODFLOW's budget")
         if "XSECTION" in options:
-            raise Problem("XSECTION (MODFLOW takes the word behind a # too) changes how arrays are read: load and save the model by FloPy")
-        deck.ibound = [self.array(deck.nrow, deck.ncol) for _ in range(deck.nlay)]
-        self.marker(s, quoted_words(s.line())[0], "HNOFLO")
-        deck.strt = [self.array(deck.nrow, deck.ncol) for _ in range(deck.nlay)]
+            raise Problem(
+                "XSECTION (MODFLOW takes the word behind a # too) changes how arrays are read: load and save the model"
+                " by FloPy"
+            )
+        deck.ibound = [self.array(deck.nrow, deck.ncol, f"IBOUND of layer {k + 1}", True) for k in range(deck.nlay)]
+        s.due = "HNOFLO"
+        deck.options["HNOFLO"] = self.marker(s, quoted_words(s.line(on_blank=""))[0], "HNOFLO")
+        deck.strt = [self.array(deck.nrow, deck.ncol, f"STRT of layer {k + 1}") for k in range(deck.nlay)]
 
     def marker(self, s: Source, word: str, name: str) -> str:
         """A marker of cells as `heads` reads it: any number does."""
@@ -265,56 +365,80 @@ class Reader:
         if "UPW" in deck.options:
             deck.options["LPF"] = f"{w[0]} {hdry} 0"
         elif "STORAGECOEFFICIENT" in (line.partition("#")[2]).upper():
-            self.warn("STORAGECOEFFICIENT stands behind a #, and counts all the same: MODFLOW-2005 looks at the whole line, and so does `heads`")
+            self.warn(
+                "STORAGECOEFFICIENT stands behind a #, and counts all the same: MODFLOW-2005 looks at the whole line,"
+                " and so does `heads`"
+            )
         rows = deck.layer_words = [[] for _ in range(5)]
+        by_start = "THICKSTRT" in (w.upper() for w in quoted_words(line)[3:])
         for at, name in enumerate(("LAYTYP", "LAYAVG", "CHANI", "LAYVKA", "LAYWET")):
+            s.due = name
             rows[at] = s.free_values(deck.nlay)
+            if name != "CHANI" and (wrong := [x for x in rows[at] if not re.fullmatch(r"[+-]?\d+", x)]):
+                self.refuse(f"{name} is `{wrong[0]}`, where a whole number is due (MODFLOW-2005 stops here, too)")
             if at in (0, 1, 4) and any(float(x) for x in rows[at]):
-                layers = " ".join(str(k + 1) for k, x in enumerate(rows[at]) if float(x))
-                self.refuse({"LAYTYP": f"LAYTYP of layer {layers} isn't 0: a convertible layer is another model, whose transmissivity changes with the head. "
-                             "To make it confined is your decision, not a spelling",
-                   "LAYAVG": f"LAYAVG of layer {layers} isn't 0: only the harmonic mean is read",
-                             "LAYWET": f"LAYWET of layer {layers} isn't 0: no wetting in confined layers"}[name])
+                self.refuse(layer_word_refused(name, rows[at], by_start))
         if any(float(x) for x in rows[4]):
             s.line()
-        deck.properties = [self._layer(k) for k in range(deck.nlay)]
+        deck.properties = [self._layer(k, by_start) for k in range(deck.nlay)]
 
-    def _layer(self, k: int) -> dict[str, Array]:
+    def _layer(self, k: int, by_start: bool) -> dict[str, Array]:
+        """The arrays of a layer. `by_start`: LAYTYP below 0 is a confined layer as thick as its starting head says."""
         deck, rows = self.deck, self.deck.layer_words
         names = ["HK"] + ["HANI"] * (float(rows[2][k]) <= 0) + ["VKA"]
-        is_convertible = float(rows[0][k]) != 0
+        laytyp = float(rows[0][k])
+        is_convertible = laytyp > 0 or (laytyp < 0 and not by_start)
         names += (["SS"] + ["SY"] * is_convertible) * deck.is_transient
         names += ["VKCB"] * (deck.laycbd[k] != 0) + ["WETDRY"] * (is_convertible and float(rows[4][k]) != 0)
-        return {name: self.array(deck.nrow, deck.ncol) for name in names}
+        after = lambda n: f" (after {' '.join(names[:n])})" if n else ""
+        return {
+            name: self.array(deck.nrow, deck.ncol, f"{name} of layer {k + 1}{after(n)}") for n, name in enumerate(names)
+        }
 
     # Stress packages.
 
     def read_list(self, kind: str) -> None:
         s, deck = self.start(kind), self.deck
-        line = s.line()
-        first = quoted_words(line)[0].upper()
-        if first == "PARAMETER":
-            raise Problem("PARAMETER: load the model in FloPy and write it again, which writes the values")
+        line = self._without_parameters(s)
         most = s.integer(self.fields(s, line, 1)[0], "the maximum count")
         deck.options[kind] = line if deck.is_free else " ".join(self.fields(s, line, 2))
+        if kind == "WEL" and s.at < len(s.lines) and s.lines[s.at].strip().upper().startswith("SPECIFY"):
+            s.line()
+            self.need("SPECIFY dropped: this option of MODFLOW-NWT acts in convertible layers alone")
         deck.lists[kind] = []
         for period in range(len(deck.periods)):
-            w = self.fields(s, s.line(), 2)
+            w = self.counts(s, 2, f"ITMP of period {period + 1}")
             count = s.integer(w[0], "ITMP")
             if re.fullmatch(r"\d+", w[1]) and int(w[1]) > 0:
                 raise Problem("parameters (NP above 0): load the model in FloPy and write it again")
             if count < 0 and period == 0:
                 self.refuse("ITMP below 0 says `as in the last period`, and there is none before")
             if count > most:
-                self.warn(f"{count} entries where the file's maximum is {most}: MODFLOW-2005 stops, `heads` doesn't compare")
+                entries = "entry" if count == 1 else "entries"
+                self.warn(
+                    f"{count} {entries} where the file's maximum is {most}: MODFLOW-2005 stops, `heads` doesn't compare"
+                )
             if count > 65536:
                 raise Problem("more than 65,536 entries")
+            s.due = f"the list of period {period + 1}"
             deck.lists[kind].append(self.entries(kind, count) if count >= 0 else None)
 
+    def _without_parameters(self, s: Source) -> str:
+        """The line of the maximum count or of the option, after a line PARAMETER that declares none."""
+        line = s.line()
+        w = quoted_words(line)
+        if w[0].upper() != "PARAMETER":
+            return line
+        if any(x != "0" for x in w[1:3]):
+            raise Problem("PARAMETER: load the model in FloPy and write it again, which writes the values")
+        self.need("PARAMETER 0 dropped: it declares none")
+        return s.line()
+
     def entries(self, kind: str, count: int) -> list[Entry]:
-        source, factor, columns, out = self.at, "", len(COLUMNS[kind]), []
+        source, factor, columns, out, due = self.at, "", len(COLUMNS[kind]), [], self.at.due
         while len(out) < count:
-            line = source.line()
+            source.due = f"{due}, entry {len(out) + 1} of {count}"
+            line = source.line(on_blank="a blank line in a list: `heads` skips it, MODFLOW-2005 stops there")
             w = quoted_words(line)
             first = w[0].upper()
             if first in ("OPEN/CLOSE", "EXTERNAL") and not out:
@@ -333,11 +457,29 @@ class Reader:
         deck = self.deck
         w = self.fields(source, line, 3 + columns)
         if deck.is_free and len(quoted_words(line)) < 3 + columns:
-            self.report.add("needed", source.name, source.at, "missing numbers of an entry written as 0, as MODFLOW-2005 reads them")
+            self.report.add(
+                "needed", source.name, source.at, "missing numbers of an entry written as 0, as MODFLOW-2005 reads them"
+            )
         cell = tuple(source.integer(x, "a layer, row or column") for x in w[:3])
         if not all(1 <= x <= n for x, n in zip(cell, (deck.nlay, deck.nrow, deck.ncol))):
-            self.report.add("refusals", source.name, source.at, f"layer, row, column {cell} lie outside the grid of {deck.nlay}, {deck.nrow}, {deck.ncol}")
+            self.report.add(
+                "refusals",
+                source.name,
+                source.at,
+                f"layer, row, column {cell} lie outside the grid of {deck.nlay}, {deck.nrow}, {deck.ncol}",
+            )
         values = [source.number(x) for x in w[3:]]
+        rest = quoted_words(line)[3 + columns :] if deck.is_free else []
+        if rest and re.search(r"\d,\d", line) and number_like(rest[0]) and "AUX" not in deck.options[kind].upper():
+            self.report.add(
+                "warnings",
+                source.name,
+                source.at,
+                (
+                    f"`{line.strip()[:60]}` has {len(rest)} more than the {3 + columns} numbers of an entry: "
+                    "a decimal comma? `heads` and MODFLOW-2005 take a comma as a blank"
+                ),
+            )
         if factor:
             values = [product(x, factor).text if n in SCALED[kind] else x for n, x in enumerate(values)]
         if kind in ("RIV", "DRN", "GHB") and float(values[1].replace("D", "E").replace("d", "e")) < 0:
@@ -352,9 +494,7 @@ class Reader:
 
     def _areal(self, kind: str, names: tuple[str, ...], layers: str) -> None:
         s, deck = self.start(kind), self.deck
-        line = s.line()
-        if quoted_words(line)[0].upper() == "PARAMETER":
-            raise Problem("PARAMETER: load the model in FloPy and write it again, which writes the values")
+        line = self._without_parameters(s)
         option = s.integer(self.fields(s, line, 1)[0], "the option")
         if option not in (1, 2, 3):
             raise Problem(f"the option is {option}; 1, 2 or 3 are read")
@@ -362,10 +502,19 @@ class Reader:
         areal = deck.areal[kind] = Areal(option)
         names += (layers,) * (option == 2)
         for period in range(len(deck.periods)):
-            flags = [s.integer(x, "a flag") for x in self.fields(s, s.line(), len(names))]
+            flags = [
+                s.integer(x, "a flag") for x in self.counts(s, len(names), f"the line of flags of period {period + 1}")
+            ]
             if period == 0 and min(flags) < 0:
                 self.refuse("a flag below 0 says `as in the last period`, and there is none before")
-            arrays = {name: self.array(deck.nrow, deck.ncol) for name, flag in zip(names, flags) if flag >= 0}
+            arrays = {
+                name: self.array(deck.nrow, deck.ncol, f"{name} of period {period + 1}", name == layers)
+                for name, flag in zip(names, flags)
+                if flag >= 0
+            }
             areal.periods.append((flags, arrays))
             if layers in arrays and (arrays[layers].floats() == 0).any():
-                self.warn(f"{layers} is 0 in a column: `heads` reads `no layer`; MODFLOW-2005 stops there, or passes over it in newer versions")
+                self.warn(
+                    f"{layers} is 0 in a column: `heads` reads `no layer`; MODFLOW-2005 stops there, or passes over it"
+                    " in newer versions"
+                )

@@ -1,50 +1,66 @@
-"""The page of a listing: one file of HTML beside its pictures, which opens from disk."""
+"""The page of a listing: one file of HTML beside its pictures, which opens from disk. Its frame is page.html."""
 from __future__ import annotations
 
 from dataclasses import dataclass, field
 from html import escape
 from pathlib import Path
+from string import Template
 
 from .text import whole_file
 
-STYLE = """body{font:15px/1.45 system-ui,sans-serif;max-width:1150px;margin:1.5em auto;padding:0 1em;color:#222}
-h1{font-size:1.4em}h2{font-size:1.1em;margin-top:1.6em;border-bottom:1px solid #ccc}
-img{max-width:100%}figure{margin:0.6em 0}figcaption{color:#555;font-size:0.9em}
-table{border-collapse:collapse;font-variant-numeric:tabular-nums}td,th{padding:0.15em 0.8em;border-bottom:1px solid #e3e3e3;text-align:right}
-td:first-child,th:first-child{text-align:left}.note{color:#555;font-size:0.9em}"""
-NOTE = ("The pairs in heads.csv and budget.csv are those of the listing, which `heads` wrote and its proof speaks of. "
-        "Pictures, rounded numbers and this page are made by heads-tools, which isn't proved; it rounds lower numbers down and upper ones up. "
-        "The pairs enclose every exact solution of the deck's equations; they say nothing of the aquifer itself.")
+FRAME = Path(__file__).with_name("page.html")
+NOTE = ("Pictures, rounded numbers and this page are made by heads-tools, which isn't proved; it rounds lower numbers down and upper ones up. "
+        "Certified pairs enclose every exact solution of the deck's equations; they say nothing of the aquifer itself.")
 
 
 @dataclass
 class Page:
-    """What a page shows, in order of rooms (headings)."""
+    """What a page shows: a verdict under its title (good, bad or neither), facts, sentences, and parts in order of rooms (headings)."""
 
     title: str
     sentences: list[str] = field(default_factory=list)
     rooms: dict[str, list[str]] = field(default_factory=dict)
+    note: str = ""
+    verdict: str = ""
+    is_good: bool | None = None
+    facts: list[tuple[str, str]] = field(default_factory=list)
+    has_svg: bool = False
 
     def say(self, text: str) -> None:
         self.sentences.append(text)
 
-    def picture(self, room: str, name: str, caption: str) -> None:
+    def picture(self, room: str, name: str, caption: str, fold: str = "") -> None:
+        """A picture, folded under the line `fold` where there is one."""
         svg = name.rsplit(".", 1)[0] + ".svg"
-        about = f'{escape(caption)} (<a href="{escape(svg)}">SVG</a>)'
-        picture = f'<figure><img src="{escape(name)}" alt="{escape(caption)}"><figcaption>{about}</figcaption></figure>'
-        self.rooms.setdefault(room, []).append(picture)
+        about = escape(caption) + (f' (<a href="{escape(svg)}">SVG</a>)' if self.has_svg else "")
+        figure = f'<figure><img src="{escape(name)}" alt="{escape(caption)}" loading="lazy"><figcaption>{about}</figcaption></figure>'
+        self.add(room, f"<details><summary>{escape(fold)}</summary>{figure}</details>" if fold else figure)
 
-    def table(self, room: str, head: list[str], rows: list[list[str]]) -> None:
+    def table(self, room: str, head: list[str], rows: list[list[str]], fold: str = "") -> None:
+        """A table, which scrolls by itself where the window is narrow."""
         line = lambda cells, tag: "<tr>" + "".join(f"<{tag}>{escape(c)}</{tag}>" for c in cells) + "</tr>"
-        self.rooms.setdefault(room, []).append("<table>" + line(head, "th") + "".join(line(r, "td") for r in rows) + "</table>")
+        table = '<div class="wide"><table>' + line(head, "th") + "".join(line(r, "td") for r in rows) + "</table></div>"
+        self.add(room, f"<details><summary>{escape(fold)}</summary>{table}</details>" if fold else table)
+
+    def text(self, room: str, text: str) -> None:
+        self.add(room, f"<p>{escape(text)}</p>")
+
+    def add(self, room: str, part: str) -> None:
+        self.rooms.setdefault(room, []).append(part)
 
 
 def write_page(page: Page, folder: Path) -> None:
     """Writes index.html."""
+    rooms = {room: parts for room, parts in page.rooms.items() if parts}
+    ids = {room: f"part{n}" for n, room in enumerate(rooms, 1)}
+    links = [f'<a href="#{ids[room]}">{escape(room)}</a>' for room in rooms] + ['<a href="#files">Files</a>']
+    kind = {True: "yes", False: "no", None: ""}[page.is_good]
+    facts = "".join(f"<tr><td>{escape(name)}</td><td>{escape(text)}</td></tr>" for name, text in page.facts)
     said = "".join(f"<li>{escape(s)}</li>" for s in page.sentences)
-    rooms = "".join(f"<h2>{escape(room)}</h2>" + "".join(parts) for room, parts in page.rooms.items())
+    files = ", ".join(f'<a href="{escape(path.name)}">{escape(path.name)}</a>' for path in sorted(folder.glob("*.csv")))
     with whole_file(folder / "index.html") as file:
-        file.write(f'<!doctype html><html lang="en"><meta charset="utf-8"><title>{escape(page.title)}</title><style>{STYLE}</style>'
-                   f"<h1>{escape(page.title)}</h1><ul>{said}</ul>{rooms}<h2>Files</h2><p>"
-                   f"<a href=\"heads.csv\">heads.csv</a>, <a href=\"budget.csv\">budget.csv</a>"
-                   f'{", <a href=zones.csv>zones.csv</a>" if (folder / "zones.csv").exists() else ""}</p><p class="note">{escape(NOTE)}</p></html>\n')
+        file.write(Template(FRAME.read_text(encoding="utf-8")).substitute(
+            title=escape(page.title), verdict=f'<p class="verdict {kind}">{escape(page.verdict)}</p>' if page.verdict else "", contents=" ".join(links),
+            facts=f'<table class="facts">{facts}</table>' if facts else "", said=f"<ul>{said}</ul>" if said else "",
+            rooms="\n".join(f'<h2 id="{ids[room]}">{escape(room)}</h2>\n' + "\n".join(parts) for room, parts in rooms.items()),
+            files=files or "none", note=escape(f"{page.note} {NOTE}".strip())))

@@ -1,37 +1,61 @@
-"""plain: writes a deck in the spelling that `heads` reads. Each number keeps its value, but where a note says `rounded`."""
+"""plain: writes a deck in the spelling that `heads` reads. Each number keeps its value, but where a note says
+`rounded`."""
 from __future__ import annotations
 
+from dataclasses import dataclass
 from pathlib import Path
 
 from .deck import KINDS, Deck, Entry
+from .explain import explain
 from .packages import EVT_ARRAYS, plain_name, read_deck
+from .program import read_alone
 from .sources import Report
 from .text import Problem, whole_file
 
-MOST_SHOWN = 6
+
+@dataclass
+class Written:
+    """A deck that was written: the report of its reading, and what the program says of it where it refuses it."""
+
+    report: Report
+    refused: list[str]
+
+    def notes(self) -> list[str]:
+        """Each change in a line, and why the program refuses the deck all the same."""
+        changes = [str(r) for r in self.report.needed + self.report.changes]
+        warnings = [f"CAREFUL: {r}" for r in self.report.warnings]
+        nothing = [] if self.refused else ["nothing but layout was changed"]
+        return (
+            (changes or nothing)
+            + warnings
+            + ["REFUSED ALL THE SAME: " + "\n  ".join(self.refused)] * bool(self.refused)
+        )
 
 
-def plain(nam: Path, folder: Path) -> Report:
-    """Writes the deck into a folder, with a file of notes; the report of its reading. Writes nothing where there is a
-    thing that it can't say exactly."""
-    deck, report = read_deck(nam)
-    wrong = report.refusals + report.blocking
+def plain(nam: Path, folder: Path) -> Written:
+    """Writes the deck into a folder, with a file of notes, and has the program read what was written. Writes nothing
+    where there is a thing that it can't say exactly."""
+    deck, report = read_deck(nam, as_modflow=True)
+    wrong = report.blocking + report.refusals
     if wrong:
         more = f" (and {len(wrong) - 1} more: `heads-tools inside`)" if len(wrong) > 1 else ""
         raise Problem(f"{wrong[0]}{more}")
     if folder.resolve() == nam.resolve().parent:
         raise Problem("the plain deck goes into another folder than the deck's own")
     write_deck(deck, folder)
+    written = Written(report, refused(folder / deck.path.name))
     with whole_file(folder / "plain.txt") as file:
-        file.write("\n".join(notes(report)) + "\n")
-    return report
+        file.write("\n".join(written.notes()) + "\n")
+    return written
 
 
-def notes(report: Report) -> list[str]:
-    """Each change in a line."""
-    changes = [str(r) for r in report.needed + report.changes]
-    warnings = [f"CAREFUL: {r}" for r in report.warnings]
-    return (changes or ["nothing but layout was changed"]) + warnings
+def refused(nam: Path) -> list[str]:
+    """What the program says to a deck that it refuses; nothing where it reads it, or isn't there to ask."""
+    try:
+        last = read_alone(nam.resolve())
+    except Problem:
+        return []
+    return explain(last, nam.parent).lines if last is not None else []
 
 
 def write_deck(deck: Deck, folder: Path) -> None:
@@ -54,7 +78,10 @@ def package_lines(deck: Deck, kind: str) -> list[str]:
 
 
 def dis_lines(deck: Deck) -> list[str]:
-    out = [f"{deck.nlay} {deck.nrow} {deck.ncol} {len(deck.periods)} {deck.itmuni} {deck.lenuni}", " ".join(map(str, deck.laycbd))]
+    out = [
+        f"{deck.nlay} {deck.nrow} {deck.ncol} {len(deck.periods)} {deck.itmuni} {deck.lenuni}",
+        " ".join(map(str, deck.laycbd)),
+    ]
     for array in (deck.delr, deck.delc, deck.top):
         out += array.lines()
     for k, bottom in enumerate(deck.bottom):
@@ -94,7 +121,9 @@ def entry_line(entry: Entry) -> str:
 
 def areal_lines(deck: Deck, kind: str) -> list[str]:
     areal = deck.areal[kind]
-    names = (("RECH",) if kind == "RCH" else EVT_ARRAYS) + (("IRCH" if kind == "RCH" else "IEVT",) if areal.option == 2 else ())
+    names = (("RECH",) if kind == "RCH" else EVT_ARRAYS) + (
+        ("IRCH" if kind == "RCH" else "IEVT",) if areal.option == 2 else ()
+    )
     out = [deck.options[kind]]
     for flags, arrays in areal.periods:
         out.append(" ".join(map(str, flags)))

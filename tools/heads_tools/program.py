@@ -1,6 +1,7 @@
 """The program `heads`: where it is, what it says of itself, and runs of it."""
 from __future__ import annotations
 
+import functools
 import hashlib
 import os
 import shutil
@@ -11,24 +12,51 @@ from contextlib import nullcontext
 from dataclasses import dataclass
 from pathlib import Path
 
+from .follow import Progress
 from .listing import read_listing
-from .text import Problem, decimal_text, whole_file
+from .text import Problem, whole_file
 
 TOP = Path(__file__).resolve().parents[2]
+BIN = Path(__file__).resolve().parent / "bin"
 DEFAULT_DIGITS = 12
 
 
+def beside(name: str) -> Path | None:
+    """A file of the checkout's tools/, else of the wheel: recheck.py, solution.py."""
+    return next((path for path in (TOP / "tools" / name, BIN / name) if path.is_file()), None)
+
+
+def main() -> None:
+    """The command `heads` of a wheel: the program that it carries."""
+    path = str(program())
+    os.execv(path, [path, *sys.argv[1:]])
+
+
 def program() -> Path:
-    """The program: the environment's HEADS, else the kept one or the script of this checkout, else `heads` on the path."""
+    """The program: the environment's HEADS, else the script of this checkout, else that of the wheel, else `heads` on
+    the path."""
     if os.environ.get("HEADS"):
         path = Path(os.environ["HEADS"]).resolve()
         if not os.access(path, os.X_OK) or path.is_dir():
             raise Problem(f"HEADS names {path}, which is no program")
         return path
-    for path in (TOP / "heads", Path(shutil.which("heads") or "")):
+    for path in (TOP / "heads", BIN / "heads", Path(shutil.which("heads") or "")):
         if path.is_file() and os.access(path, os.X_OK):
             return path.resolve()
     raise Problem("where is `heads`? Set HEADS=/path/to/heads, or put it on the PATH")
+
+
+@functools.lru_cache
+def direct(found: Path) -> Path:
+    kept, check = TOP / "dist" / "heads", TOP / "scripts" / "check_dist"
+    is_script = found == TOP / "heads" and kept.is_file() and check.is_file()
+    return kept if is_script and subprocess.run([check], capture_output=True).returncode == 0 else found
+
+
+def direct_program() -> Path:
+    """The program for many calls: the kept one where the checkout's script would run it, as one call of
+    scripts/check_dist says; the script itself hashes its sources at each call."""
+    return direct(program())
 
 
 def sha256(path: Path) -> str:
@@ -46,7 +74,9 @@ class Version:
 def version() -> Version:
     found = program()
     binary = TOP / "dist" / "heads" if found == TOP / "heads" and (TOP / "dist" / "heads").is_file() else found
-    lines = [f"program {found}"] + ([f"        which runs {binary} where that was built from the checkout's sources"] if binary != found else [])
+    lines = [f"program {found}"] + (
+        [f"        which runs {binary} where that was built from the checkout's sources"] if binary != found else []
+    )
     lines.append(f"sha256  {sha256(binary)}")
     record = binary.with_name(binary.name + ".txt")
     if not record.is_file():
@@ -59,25 +89,33 @@ def version() -> Version:
     if binary == TOP / "dist" / "heads" and script.is_file():
         now = subprocess.run([script], capture_output=True, text=True).stdout.strip()
         is_current = now == noted.get("sources")
-        lines.append("the checkout's sources are those it was built from" if is_current else "the checkout's sources have changed since it was built")
+        lines.append(
+            "the checkout's sources are those it was built from"
+            if is_current
+            else "the checkout's sources have changed since it was built"
+        )
     return Version(lines, is_same)
 
 
 @dataclass
 class Ended:
-    """How a run ended: its status, its last line, seconds by the clock, the steps that it wrote."""
+    """How a run ended: its status, its last line, seconds by the clock, the steps that it wrote, the file that it
+    wrote."""
 
     status: int
     last: str
     seconds: float
     steps: int = 0
+    output: Path | None = None
 
 
 def call(words: list[str], folder: Path, seconds: float | None = None) -> Ended:
     """Runs the program in a folder and takes its last line alone."""
     began = time.monotonic()
     try:
-        done = subprocess.run([program(), *words], cwd=folder, capture_output=True, text=True, errors="replace", timeout=seconds)
+        done = subprocess.run(
+            [program(), *words], cwd=folder, capture_output=True, text=True, errors="replace", timeout=seconds
+        )
     except subprocess.TimeoutExpired:
         return Ended(-1, "", time.monotonic() - began)
     lines = done.stdout.rstrip("\n").rsplit("\n", 1)
@@ -85,49 +123,60 @@ def call(words: list[str], folder: Path, seconds: float | None = None) -> Ended:
 
 
 def read_alone(nam: Path) -> str | None:
-    """None where the program reads the deck as a model, else its last line. Nothing is solved: a name file is no listing."""
+    """None where the program reads the deck as a model, else its last line. Nothing is solved: a name file is no
+    listing."""
     ended = call(["check", nam.name, nam.name], nam.parent)
     return None if ended.last.startswith("REFUSED 20 ") else ended.last
 
 
-class Progress:
-    """One line on standard error that tells how far a run is: the step, the widest pair so far, the time."""
-
-    def __init__(self, name: str, steps: int | None):
-        self.name, self.steps, self.began, self.told = name, steps, time.monotonic(), 0.0
-        self.count, self.widest, self.is_live = 0, 0, sys.stderr.isatty()
-
-    def head(self, line: bytes) -> None:
-        words = line.split()
-        if len(words) == 6:
-            self.widest = max(self.widest, int(words[5].replace(b".", b"")) - int(words[4].replace(b".", b"")))
-
-    def step(self) -> None:
-        self.count += 1
-        now = time.monotonic()
-        if now - self.told > (0.2 if self.is_live else 10) or self.count == self.steps:
-            self.told = now
-            self.tell()
-
-    def tell(self) -> None:
-        of = f" of {self.steps}" if self.steps else ""
-        text = f"{self.name}: step {self.count}{of}, widest pair so far {decimal_text(self.widest, 9)}, {time.monotonic() - self.began:.1f} s"
-        print(("\r" if self.is_live else "") + text, end="" if self.is_live else "\n", file=sys.stderr, flush=True)
-
-    def end(self) -> None:
-        if self.is_live and self.count:
-            self.tell()
-            print(file=sys.stderr)
+def has_steps(path: Path) -> bool:
+    """Whether a file is a listing with a step, or its beginning: one that is worth keeping."""
+    if not path.is_file():
+        return False
+    with open(path, "rb") as file:
+        return file.readline().startswith(b"HEADS ") and file.readline().startswith(b"STEP ")
 
 
-def run(nam: Path, options: list[str], target: Path, steps: int | None = None, is_told: bool = True) -> Ended:
-    """Runs `heads run` in the model's folder into a file, which gets its name once the run ended. What --watch tells
-    goes into a file beside it."""
+def end_of(target: Path) -> Path:
+    """The file beside a listing for an output without a step, where the listing of an earlier run is kept."""
+    return target.with_name(target.name + ".end")
+
+
+def settle_output(new: Path, target: Path) -> Path:
+    """Gives a new output the listing's name; but a listing with a step stays where the new output has none, which then
+    has the name with `.end`. The file that holds the output."""
+    place = end_of(target) if has_steps(target) and not has_steps(new) else target
+    os.replace(new, place)
+    if place == target:
+        end_of(target).unlink(missing_ok=True)
+    return place
+
+
+def run(
+    nam: Path,
+    options: list[str],
+    target: Path,
+    steps: int | None = None,
+    is_told: bool = True,
+    is_followed: bool = False,
+) -> Ended:
+    """Runs `heads run` in the model's folder into a file, which gets its name once the run ended (settle_output). What
+    --watch tells goes into a file beside it; a run that `is_followed` is watched for what to say of a slow step."""
     progress = Progress(nam.name, steps)
     began, last, count = time.monotonic(), b"", 0
     is_watched = any(o.startswith("--watch") for o in options)
-    with whole_file(target, binary=True) as file, (open(target.with_suffix(".watch"), "wb") if is_watched else nullcontext()) as side:
-        process = subprocess.Popen([program(), "run", nam.name, *options], cwd=nam.parent, stdout=subprocess.PIPE, stderr=side)
+    new = target.with_name(f".{target.name}.new")
+    with (
+        whole_file(new, binary=True) as file,
+        open(target.with_suffix(".watch"), "wb") if is_watched else nullcontext() as side,
+    ):
+        is_followed = is_followed and is_told and not is_watched
+        words = [program(), "run", nam.name, *options, *(["--watch", "1"] if is_followed else [])]
+        process = subprocess.Popen(
+            words, cwd=nam.parent, stdout=subprocess.PIPE, stderr=subprocess.PIPE if is_followed else side
+        )
+        if process.stderr is not None:
+            progress.follow(process.stderr)
         try:
             is_open = False
             for line in process.stdout:
@@ -147,13 +196,17 @@ def run(nam: Path, options: list[str], target: Path, steps: int | None = None, i
         status = process.wait()
     if is_told:
         progress.end()
-    return Ended(status, last.decode("latin-1").strip(), time.monotonic() - began, count)
+    return Ended(status, last.decode("latin-1").strip(), time.monotonic() - began, count, settle_output(new, target))
 
 
 def digits_of(options: list[str]) -> int:
     """The digits that the options of a run ask for."""
     for n, word in enumerate(options):
-        text = word.partition("=")[2] if word.startswith("--digits=") else options[n + 1] if word == "--digits" and n + 1 < len(options) else ""
+        text = (
+            word.partition("=")[2]
+            if word.startswith("--digits=")
+            else options[n + 1] if word == "--digits" and n + 1 < len(options) else ""
+        )
         if text:
             return int(text) if text.isdigit() and int(text) <= 18 else DEFAULT_DIGITS
     return DEFAULT_DIGITS

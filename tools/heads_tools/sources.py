@@ -1,6 +1,8 @@
-"""Files of a deck in any spelling of the MODFLOW family: their lines, arrays and lists, and what is remarkable in them."""
+"""Files of a deck in any spelling of the MODFLOW family: their lines, arrays and lists, and what is remarkable in
+them."""
 from __future__ import annotations
 
+import re
 from dataclasses import dataclass, field
 from pathlib import Path, PureWindowsPath
 
@@ -8,6 +10,9 @@ import numpy as np
 
 from .spelling import exact, fortran, number, quoted_words
 from .text import Problem, on_disk, read_text
+
+
+COMMENT = "comments stand only before the first item of a file (MODFLOW-2005 stops here, too): take the line out"
 
 
 @dataclass(frozen=True)
@@ -25,8 +30,9 @@ class Remark:
 @dataclass
 class Report:
     """What was seen while a deck was read. `refusals`: not inside, and no other spelling helps. `needed`: changes
-    without which `heads` refuses the deck. `changes`: changes of layout alone. `warnings`: where MODFLOW-2005 reads
-    the same file otherwise; `blocking` those of them that `plain` can't write."""
+    without which `heads` refuses the deck or reads another model. `changes`: changes of layout alone. `warnings`:
+    where MODFLOW-2005 reads the same file otherwise; `blocking` those of them that `plain` can't write. `due`: for a
+    file that couldn't be read to its end, what was being read."""
 
     refusals: list[Remark] = field(default_factory=list)
     needed: list[Remark] = field(default_factory=list)
@@ -35,11 +41,13 @@ class Report:
     blocking: list[Remark] = field(default_factory=list)
     precise: int = 0
     first_precise: str = ""
+    due: dict[str, str] = field(default_factory=dict)
 
-    def add(self, kind: str, file: str, line: int, text: str) -> None:
+    def add(self, kind: str, file: str, line: int, text: str, is_first: bool = False) -> None:
+        """Adds a remark once; `is_first`: before all others, since it changes the model."""
         remark, where = Remark(file, line, text), getattr(self, kind)
         if remark not in where:
-            where.append(remark)
+            where.insert(0 if is_first else len(where), remark)
 
 
 @dataclass
@@ -72,7 +80,7 @@ class Array:
         if self.is_constant:
             return [f"CONSTANT {self.words[0]}"]
         cols = self.shape[1]
-        rows = (self.words[n:n + cols] for n in range(0, len(self.words), cols))
+        rows = (self.words[n : n + cols] for n in range(0, len(self.words), cols))
         return [f"INTERNAL {self.factor} (FREE) -1", *(" ".join(row) for row in rows)]
 
 
@@ -81,18 +89,25 @@ def find_file(folder: Path, name: str) -> tuple[Path, str]:
     for path in (on_disk(folder, name), folder / PureWindowsPath(name).name):
         if path.is_file():
             return path, "" if path == on_disk(folder, name) else f"`{name}` found as {path.name}"
-        near = [f for f in (sorted(path.parent.iterdir()) if path.parent.is_dir() else []) if f.name.lower() == path.name.lower()]
+        near = [
+            f
+            for f in (sorted(path.parent.iterdir()) if path.parent.is_dir() else [])
+            if f.name.lower() == path.name.lower()
+        ]
         if near:
             return near[0], f"`{name}` found as {near[0].name}"
     raise Problem(f"there is no file {name} in {folder}")
 
 
+BLANK = "a blank line where an item is due: `heads` skips it, MODFLOW-2005 may read it as zeros"
+
+
 class Source:
-    """The lines of a file, taken one after another."""
+    """The lines of a file, taken one after another. `due`: what is being read, for the sentence of an early end."""
 
     def __init__(self, path: Path, name: str, report: Report):
         text = read_text(path)
-        self.name, self.report, self.at = name, report, 0
+        self.name, self.report, self.at, self.due = name, report, 0, ""
         if text.startswith("\u00ef\u00bb\u00bf"):
             text = text[3:]
             report.add("needed", name, 1, "byte order mark dropped")
@@ -103,26 +118,31 @@ class Source:
     def comments(self, is_blank_taken: bool = False) -> list[str]:
         """The comment lines from here on. A blank line ends them where it may be the first item."""
         begin = self.at
-        while self.at < len(self.lines) and (self.lines[self.at].startswith("#") or not (is_blank_taken or self.lines[self.at].strip(" \t,"))):
+        while self.at < len(self.lines) and (
+            self.lines[self.at].startswith("#") or not (is_blank_taken or self.lines[self.at].strip(" \t,"))
+        ):
             self.at += 1
-        return [line for line in self.lines[begin:self.at] if line.startswith("#")]
+        return [line for line in self.lines[begin : self.at] if line.startswith("#")]
 
-    def line(self, is_blank_taken: bool = False) -> str:
-        """The next line with a word, or the next one whatever it is."""
+    def line(self, is_blank_taken: bool = False, on_blank: str = BLANK) -> str:
+        """The next line with a word, or the next one whatever it is. `on_blank`: what there is to say of a blank one
+        that is passed over."""
         while self.at < len(self.lines):
             self.at += 1
             line = self.lines[self.at - 1]
             if is_blank_taken or line.strip(" \t,\x1a"):
                 return line
-            self.report.add("warnings", self.name, self.at, "a blank line where an item is due: `heads` skips it, MODFLOW-2005 may read it as zeros")
-        raise Problem(f"{self.name} ends after line {len(self.lines)} where more is due: too few rows, layers, periods or entries for the counts in DIS?")
+            if on_blank:
+                self.report.add("warnings", self.name, self.at, on_blank)
+        what = f": {self.due}" if self.due else ": too few rows, layers, periods or entries for the counts in DIS?"
+        raise Problem(f"{self.name} ends after line {len(self.lines)} where more is due{what}")
 
     def number(self, word: str) -> str:
         """A number's word as `heads` reads it, with remarks."""
         try:
             seen = number(word)
         except Problem as error:
-            raise Problem(f"{self.name}, line {self.at}: {error}") from None
+            raise Problem(f"{self.name}, line {self.at}: {COMMENT if word.startswith('#') else error}") from None
         if seen.change:
             self.report.add("needed", self.name, self.at, seen.change)
         if seen.digits > 7:
@@ -134,16 +154,22 @@ class Source:
         try:
             return int(word)
         except ValueError:
-            raise Problem(f"{self.name}, line {self.at}: {what} is `{word}`, where a whole number is due") from None
+            said = COMMENT if word.startswith("#") else f"{what} is `{word}`, where a whole number is due"
+            raise Problem(f"{self.name}, line {self.at}: {said}") from None
 
     def free_values(self, count: int) -> list[str]:
         """The words of a free list, which begins on a new line."""
         out: list[str] = []
         while len(out) < count:
-            line = self.line()
+            line = self.line(on_blank="")
             self._look_for_nulls(line)
             for word in quoted_words(line) if "'" in line or '"' in line else line.replace(",", " ").split():
                 times, star, value = word.partition("*")
+                if star and not value:
+                    raise Problem(
+                        f"{self.name}, line {self.at}: `{word}` repeats no value: MODFLOW-2005 keeps there what it had."
+                        " Write the value"
+                    )
                 if star and (not times.isdigit() or int(times) < 1):
                     raise Problem(f"{self.name}, line {self.at}: `{word}` is no repeated number")
                 if len(out) >= count:
@@ -153,9 +179,16 @@ class Source:
 
     def _look_for_nulls(self, line: str) -> None:
         squeezed = line.replace(" ", "").replace("\t", "")
-        if ",," in squeezed or squeezed.startswith(",") or "/" in squeezed or "*," in squeezed:
-            self.report.add("blocking", self.name, self.at, "a value is left out (`,,` or `/`): MODFLOW-2005 keeps there what it had, "
-                            "`heads` takes the next value: two different models. Write the value")
+        if ",," in squeezed or squeezed.startswith(",") or "/" in squeezed or re.search(r"\d\*([\s,]|$)", line):
+            self.report.add(
+                "blocking",
+                self.name,
+                self.at,
+                (
+                    "a value is left out (`,,` or `/`): MODFLOW-2005 keeps there what it had, "
+                    "`heads` takes the next value: two different models. Write the value"
+                ),
+            )
 
     def fixed_values(self, count: int, text: str) -> list[str]:
         """The words of a list in columns of fixed width."""
@@ -175,7 +208,7 @@ def read_binary(path: Path, count: int, at: int, is_rest: bool) -> tuple[np.ndar
         for marks in (0, 4):
             for header in (0, 36 + 2 * size):
                 total = (header + 2 * marks if header else 0) + count * size + 2 * marks
-                name = raw[marks + 8 + 2 * size:marks + 24 + 2 * size]
+                name = raw[marks + 8 + 2 * size : marks + 24 + 2 * size]
                 named = not header or name.isascii() and name.strip().isalpha()
                 marked = not marks or raw[:4] == (header or count * size).to_bytes(4, "little")
                 if named and marked and (total == len(raw) if is_rest else header and total <= len(raw)):

@@ -29,6 +29,12 @@ def quoted_words(line: str) -> list[str]:
     return [a or b or c for a, b, c in re.findall(r"'([^']*)'|\"([^\"]*)\"|([^\s,'\"]+)", line)]
 
 
+def record_words(line: str) -> list[str]:
+    """The words of an array's record, in which a format in parentheses is one word, its commas included."""
+    shielded = re.sub(r"\([^()]*(\([^()]*\)[^()]*)*\)", lambda m: re.sub(r"\s", "", m[0]).replace(",", "\x00"), line)
+    return [w.replace("\x00", ",") for w in quoted_words(shielded)]
+
+
 @functools.lru_cache(maxsize=1 << 18)
 def number(word: str) -> Number:
     """The number of a word, written so that `heads` reads the same value (rounded only past 18 digits)."""
@@ -77,7 +83,7 @@ class Fields(NamedTuple):
 
     def of(self, line: str, at: int) -> str:
         """The word of a field, with its point and exponent where the format says them. Blank is 0."""
-        word = line[at * self.width:(at + 1) * self.width].replace(" ", "").strip()
+        word = line[at * self.width : (at + 1) * self.width].replace(" ", "").strip()
         if not word:
             return "0"
         has_exponent = bool(re.search("[EeDd]", word)) or bool(NO_LETTER.search(word))

@@ -30,7 +30,16 @@ def budget_of(step: Step) -> Budget:
     total = tuple(sum(r[n] for r in rows) for n in range(1, 5))
     lows, highs = {r[0]: r[1] - r[4] for r in rows}, {r[0]: r[2] - r[3] for r in rows}
     all_low, all_high = sum(lows.values()), sum(highs.values())
-    nets = [(name, lows[name], highs[name], max(lows[name], -(all_high - highs[name])), min(highs[name], -(all_low - lows[name]))) for name in lows]
+    nets = [
+        (
+            name,
+            lows[name],
+            highs[name],
+            max(lows[name], -(all_high - highs[name])),
+            min(highs[name], -(all_low - lows[name])),
+        )
+        for name in lows
+    ]
     mean = sum(total) / 4
     discrepancy = ((total[0] - total[3]) / mean * 100, (total[1] - total[2]) / mean * 100) if mean else None
     return Budget(rows + [("TOTAL", *total)], nets, discrepancy)
@@ -47,16 +56,24 @@ def write_tables(listing: Listing, folder: Path, times: dict[tuple[int, int], tu
             for (k, i, j), low, high in zip(listing.cells.tolist(), step.low.tolist(), step.high.tolist()):
                 file.write(f"{head},{k},{i},{j},{decimal_text(low, 9)},{decimal_text(high, 9)}\n")
     with whole_file(folder / "budget.csv") as file:
-        file.write("period,step,term,in_lower,in_upper,out_lower,out_upper,net_lower,net_upper,narrowed_lower,narrowed_upper\n")
+        file.write(
+            "period,step,term,in_lower,in_upper,out_lower,out_upper,net_lower,net_upper,narrowed_lower,narrowed_upper\n"
+        )
         for step in listing.steps:
             budget = budget_of(step)
             nets = {n[0]: n[1:] for n in budget.nets}
             for name, *flows in budget.rows:
                 net = nets.get(name, (flows[0] - flows[3], flows[1] - flows[2], 0, 0))
-                file.write(f"{step.period},{step.step},{name}," + ",".join(decimal_text(v, places) for v in (*flows, *net)) + "\n")
+                file.write(
+                    f"{step.period},{step.step},{name},"
+                    + ",".join(decimal_text(v, places) for v in (*flows, *net))
+                    + "\n"
+                )
     if any(s.zones for s in listing.steps):
         with whole_file(folder / "zones.csv") as file:
             file.write("period,step,from,to,lower,upper\n")
             for step in listing.steps:
                 for a, b, low, high in step.zones:
-                    file.write(f"{step.period},{step.step},{a},{b},{decimal_text(low, places)},{decimal_text(high, places)}\n")
+                    file.write(
+                        f"{step.period},{step.step},{a},{b},{decimal_text(low, places)},{decimal_text(high, places)}\n"
+                    )

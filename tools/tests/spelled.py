@@ -5,13 +5,22 @@ Each spelling is a function that changes the files of the deck; `SPELLINGS` name
 import struct
 
 PLAIN = {
-    "m.nam": "LIST 2 m.list\nDIS 11 m.dis\nBAS6 13 m.bas\nLPF 15 m.lpf\n"
-             "WEL 20 m.wel\nRIV 21 m.riv\nDRN 22 m.drn\nGHB 23 m.ghb\nCHD 24 m.chd\nRCH 25 m.rch\nEVT 26 m.evt\nOC 14 m.oc\nPCG 27 m.pcg\n",
-    "m.dis": "2 4 5 2 4 2\n0 0\nCONSTANT 100\nCONSTANT 50\nCONSTANT 30\nCONSTANT 15\nCONSTANT 0\n1 1 1 SS\n10 3 1.5 TR\n",
-    "m.bas": "FREE\nINTERNAL 1 (FREE) -1\n-1 1 1 1 1\n-1 1 1 1 1\n-1 1 1 0 1\n-1 1 1 1 1\nCONSTANT 1\n-999.99\nCONSTANT 20\nCONSTANT 20\n",
-    "m.lpf": "53 -1E+30 0\n0 0\n0 0\n1 1\n0 0\n0 0\n"
-             "INTERNAL 1 (FREE) -1\n1 2 3 4 5\n6 7 8 9 10\n1.5 2.5 3.5 4.5 5.5\n10 9 8 7 6\n"
-             "CONSTANT 0.5\nCONSTANT 0.00001\nCONSTANT 4\nCONSTANT 0.4\nCONSTANT 0.00002\n",
+    "m.nam": (
+        "LIST 2 m.list\nDIS 11 m.dis\nBAS6 13 m.bas\nLPF 15 m.lpf\nWEL 20 m.wel\nRIV 21 m.riv\nDRN 22 m.drn\nGHB 23"
+        " m.ghb\nCHD 24 m.chd\nRCH 25 m.rch\nEVT 26 m.evt\nOC 14 m.oc\nPCG 27 m.pcg\n"
+    ),
+    "m.dis": (
+        "2 4 5 2 4 2\n0 0\nCONSTANT 100\nCONSTANT 50\nCONSTANT 30\nCONSTANT 15\nCONSTANT 0\n1 1 1 SS\n10 3 1.5 TR\n"
+    ),
+    "m.bas": (
+        "FREE\nINTERNAL 1 (FREE) -1\n-1 1 1 1 1\n-1 1 1 1 1\n-1 1 1 0 1\n-1 1 1 1 1\nCONSTANT 1\n-999.99\nCONSTANT"
+        " 20\nCONSTANT 20\n"
+    ),
+    "m.lpf": (
+        "53 -1E+30 0\n0 0\n0 0\n1 1\n0 0\n0 0\n"
+        "INTERNAL 1 (FREE) -1\n1 2 3 4 5\n6 7 8 9 10\n1.5 2.5 3.5 4.5 5.5\n10 9 8 7 6\n"
+        "CONSTANT 0.5\nCONSTANT 0.00001\nCONSTANT 4\nCONSTANT 0.4\nCONSTANT 0.00002\n"
+    ),
     "m.wel": "1 53\n1 0\n2 2 3 -50\n-1 0\n",
     "m.riv": "1 53\n1 0\n1 2 4 19.5 20 18\n-1 0\n",
     "m.drn": "1 53\n1 0\n1 4 5 19 10\n-1 0\n",
@@ -27,6 +36,7 @@ def swap(name, old, new):
         text = files[name]
         assert old in text, (name, old)
         return {name: text.replace(old, new, 1)}
+
     return change
 
 
@@ -36,6 +46,7 @@ def both(*changes):
         for one in changes:
             out |= one(out)
         return {k: v for k, v in out.items() if files.get(k) != v}
+
     return change
 
 
@@ -72,16 +83,78 @@ def fixed_deck(files):
     """The deck without FREE, as MODFLOW-96 wrote it: columns of 10, records LOCAT CNSTNT FMTIN."""
     constant = lambda v: f"{0:>10}{v:>10}\n"
     return {
-        "m.bas": "\n" + f"{13:>10}{1:>10}{'(5I3)':<20}{-1:>10}\n" + IBOUND_FIXED + constant(1) + "   -999.99\n" + constant("20.") + constant("20."),
+        "m.bas": (
+            "\n"
+            + f"{13:>10}{1:>10}{'(5I3)':<20}{-1:>10}\n"
+            + IBOUND_FIXED
+            + constant(1)
+            + "   -999.99\n"
+            + constant("20.")
+            + constant("20.")
+        ),
         "m.lpf": files["m.lpf"].replace(HK_FREE, f"{15:>10}{'1.':>10}{'(5F8.2)':<20}{-1:>10}\n" + HK_FIXED),
-        "m.wel": fixed([1, 53], 10) + "\n" + fixed([1, 0], 10) + "\n" + fixed([2, 2, 3, "-50."], 10) + "\n" + fixed([-1, 0], 10) + "\n",
-        "m.riv": fixed([1, 53], 10) + "\n" + fixed([1, 0], 10) + "\n" + fixed([1, 2, 4, "19.5", "20.", "18."], 10) + "\n" + fixed([-1, 0], 10) + "\n",
-        "m.drn": fixed([1, 53], 10) + "\n" + fixed([1, 0], 10) + "\n" + fixed([1, 4, 5, "19.", "10."], 10) + "\n" + fixed([-1, 0], 10) + "\n",
-        "m.ghb": fixed([1, 53], 10) + "\n" + fixed([1, 0], 10) + "\n" + fixed([2, 4, 1, "18.", "5."], 10) + "\n" + fixed([-1, 0], 10) + "\n",
-        "m.chd": fixed([1, 53], 10) + "\n" + fixed([0, 0], 10) + "\n" + fixed([1, 0], 10) + "\n" + fixed([2, 1, 5, "20.", "21."], 10) + "\n",
+        "m.wel": (
+            fixed([1, 53], 10)
+            + "\n"
+            + fixed([1, 0], 10)
+            + "\n"
+            + fixed([2, 2, 3, "-50."], 10)
+            + "\n"
+            + fixed([-1, 0], 10)
+            + "\n"
+        ),
+        "m.riv": (
+            fixed([1, 53], 10)
+            + "\n"
+            + fixed([1, 0], 10)
+            + "\n"
+            + fixed([1, 2, 4, "19.5", "20.", "18."], 10)
+            + "\n"
+            + fixed([-1, 0], 10)
+            + "\n"
+        ),
+        "m.drn": (
+            fixed([1, 53], 10)
+            + "\n"
+            + fixed([1, 0], 10)
+            + "\n"
+            + fixed([1, 4, 5, "19.", "10."], 10)
+            + "\n"
+            + fixed([-1, 0], 10)
+            + "\n"
+        ),
+        "m.ghb": (
+            fixed([1, 53], 10)
+            + "\n"
+            + fixed([1, 0], 10)
+            + "\n"
+            + fixed([2, 4, 1, "18.", "5."], 10)
+            + "\n"
+            + fixed([-1, 0], 10)
+            + "\n"
+        ),
+        "m.chd": (
+            fixed([1, 53], 10)
+            + "\n"
+            + fixed([0, 0], 10)
+            + "\n"
+            + fixed([1, 0], 10)
+            + "\n"
+            + fixed([2, 1, 5, "20.", "21."], 10)
+            + "\n"
+        ),
         "m.rch": fixed([3, 53], 10) + "\n" + fixed([0], 10) + "\n" + constant(".001") + fixed([-1], 10) + "\n",
-        "m.evt": fixed([3, 53], 10) + "\n" + fixed([0, 0, 0], 10) + "\n" + constant("25.") + constant(".0005") + constant("10.")
-        + fixed([-1, -1, -1], 10) + "\n",
+        "m.evt": (
+            fixed([3, 53], 10)
+            + "\n"
+            + fixed([0, 0, 0], 10)
+            + "\n"
+            + constant("25.")
+            + constant(".0005")
+            + constant("10.")
+            + fixed([-1, -1, -1], 10)
+            + "\n"
+        ),
     }
 
 
@@ -90,61 +163,160 @@ def crlf(files):
 
 
 def upw(files):
-    return {"m.nam": files["m.nam"].replace("LPF 15 m.lpf", "UPW 15 m.upw").replace("PCG 27 m.pcg", "NWT 27 m.nwt"),
-            "m.upw": files["m.lpf"].replace("53 -1E+30 0\n", "53 -1E+30 0 1\n")}
+    return {
+        "m.nam": files["m.nam"].replace("LPF 15 m.lpf", "UPW 15 m.upw").replace("PCG 27 m.pcg", "NWT 27 m.nwt"),
+        "m.upw": files["m.lpf"].replace("53 -1E+30 0\n", "53 -1E+30 0 1\n"),
+    }
 
 
 SPELLINGS = {
     "as it is": (lambda f: {}, "as it is"),
-    "flopy": (both(swap("m.nam", "LIST 2", "# Name file for MODFLOW-2005, generated by Flopy version 3.3.5.\n#xll:0.0; yll:0.0\nLIST               2"),
-                   swap("m.dis", "2 4 5 2 4 2\n0 0\n", "# DIS package\n         2         4         5         2         4         2\n  0  0\n"),
-                   swap("m.dis", "CONSTANT 100\n", "CONSTANT    1.000000E+02                           #delr\n")), "as it is"),
-    "modelmuse": (both(swap("m.dis", "2 4 5 2 4 2", "# Discretization File created by ModelMuse\n 2 4 5 2 4 2  # NLAY, NROW, NCOL, NPER, ITMUNI, LENUNI"),
-                       swap("m.bas", "FREE\n", "FREE # OPTIONS\n"), swap("m.lpf", HK_FREE, "INTERNAL 1 (FREE) 12 # HK\n" + HK_ROWS)), "as it is"),
+    "flopy": (
+        both(
+            swap(
+                "m.nam",
+                "LIST 2",
+                (
+                    "# Name file for MODFLOW-2005, generated by Flopy version 3.3.5.\n#xll:0.0; yll:0.0\nLIST          "
+                    "     2"
+                ),
+            ),
+            swap(
+                "m.dis",
+                "2 4 5 2 4 2\n0 0\n",
+                "# DIS package\n         2         4         5         2         4         2\n  0  0\n",
+            ),
+            swap("m.dis", "CONSTANT 100\n", "CONSTANT    1.000000E+02                           #delr\n"),
+        ),
+        "as it is",
+    ),
+    "modelmuse": (
+        both(
+            swap(
+                "m.dis",
+                "2 4 5 2 4 2",
+                "# Discretization File created by ModelMuse\n 2 4 5 2 4 2  # NLAY, NROW, NCOL, NPER, ITMUNI, LENUNI",
+            ),
+            swap("m.bas", "FREE\n", "FREE # OPTIONS\n"),
+            swap("m.lpf", HK_FREE, "INTERNAL 1 (FREE) 12 # HK\n" + HK_ROWS),
+        ),
+        "as it is",
+    ),
     "windows line ends": (crlf, "as it is"),
-    "lower case": (both(swap("m.lpf", "INTERNAL", "internal"), swap("m.dis", "SS", "ss"), swap("m.bas", "FREE\n", "free\n")), "as it is"),
-    "auxiliary columns": (both(swap("m.wel", "1 53\n1 0\n2 2 3 -50\n", "1 53 AUX IFACE NOPRINT\n1 0 # period 1\n2 2 3 -50 0\n")), "as it is"),
+    "lower case": (
+        both(swap("m.lpf", "INTERNAL", "internal"), swap("m.dis", "SS", "ss"), swap("m.bas", "FREE\n", "free\n")),
+        "as it is",
+    ),
+    "auxiliary columns": (
+        both(swap("m.wel", "1 53\n1 0\n2 2 3 -50\n", "1 53 AUX IFACE NOPRINT\n1 0 # period 1\n2 2 3 -50 0\n")),
+        "as it is",
+    ),
     "open/close array": (hk("OPEN/CLOSE hk.txt 1 (FREE) -1\n", hk_txt=HK_ROWS), "as it is"),
-    "open/close in a folder": (lambda f: swap("m.lpf", HK_FREE, "OPEN/CLOSE ref\\hk.txt 1 (FREE) -1\n")(f) | {"ref/hk.txt": HK_ROWS}, "as it is"),
-    "factor": (swap("m.lpf", HK_FREE, "INTERNAL 0.1 (FREE) -1\n10 20 30 40 50\n60 70 80 90 100\n15 25 35 45 55\n100 90 80 70 60\n"), "as it is"),
+    "open/close in a folder": (
+        lambda f: swap("m.lpf", HK_FREE, "OPEN/CLOSE ref\\hk.txt 1 (FREE) -1\n")(f) | {"ref/hk.txt": HK_ROWS},
+        "as it is",
+    ),
+    "factor": (
+        swap(
+            "m.lpf",
+            HK_FREE,
+            "INTERNAL 0.1 (FREE) -1\n10 20 30 40 50\n60 70 80 90 100\n15 25 35 45 55\n100 90 80 70 60\n",
+        ),
+        "as it is",
+    ),
     "repeats": (swap("m.bas", "-1 1 1 1 1\n-1 1 1 1 1\n", "-1 4*1\n-1, 4*1\n"), "as it is"),
     "values run on": (swap("m.lpf", "6 7 8 9 10\n", "6 7\n8 9\n10\n"), "as it is"),
     "d exponents": (swap("m.lpf", "CONSTANT 0.00001\n", "CONSTANT 1.D-5\n"), "as it is"),
-    "data files named": (swap("m.nam", "OC 14", "DATA(BINARY) 53 m.cbc REPLACE\nDATA(BINARY) 51 m.hds REPLACE\nOC 14"), "as it is"),
+    "data files named": (
+        swap("m.nam", "OC 14", "DATA(BINARY) 53 m.cbc REPLACE\nDATA(BINARY) 51 m.hds REPLACE\nOC 14"),
+        "as it is",
+    ),
     "comment lines before a package": (swap("m.wel", "1 53\n", "# wells\n#\n1 53\n"), "as it is"),
-    "storage coefficient": (both(swap("m.lpf", "53 -1E+30 0\n", "53 -1E+30 0 STORAGECOEFFICIENT\n"),
-                                 swap("m.lpf", "CONSTANT 0.00001\n", "CONSTANT 0.00015\n"),
-                                 swap("m.lpf", "CONSTANT 0.00002\n", "CONSTANT 0.0003\n")), "as it is"),
-    "layvka 1": (both(swap("m.lpf", "1 1\n0 0\n0 0\nINTERNAL", "1 1\n0 1\n0 0\nINTERNAL"),
-                      swap("m.lpf", "CONSTANT 4\nCONSTANT 0.4\n", "CONSTANT 4\nCONSTANT 10\n")), "as it is"),
-    "external array": (both(hk("EXTERNAL 31 1 (FREE) -1\n", hk_txt=HK_ROWS), swap("m.nam", "OC 14", "DATA 31 hk.txt\nOC 14")), "plain"),
-    "external unit read twice": (both(swap("m.lpf", HK_FREE, "EXTERNAL 31 1 (FREE) -1\n"),
-                                      swap("m.lpf", "CONSTANT 4\n", "EXTERNAL 31 1 (FREE) -1\n"), more(hk_txt=HK_ROWS + "4 4 4 4 4\n" * 4),
-                                      swap("m.nam", "OC 14", "DATA 31 hk.txt\nOC 14")), "plain"),
+    "storage coefficient": (
+        both(
+            swap("m.lpf", "53 -1E+30 0\n", "53 -1E+30 0 STORAGECOEFFICIENT\n"),
+            swap("m.lpf", "CONSTANT 0.00001\n", "CONSTANT 0.00015\n"),
+            swap("m.lpf", "CONSTANT 0.00002\n", "CONSTANT 0.0003\n"),
+        ),
+        "as it is",
+    ),
+    "layvka 1": (
+        both(
+            swap("m.lpf", "1 1\n0 0\n0 0\nINTERNAL", "1 1\n0 1\n0 0\nINTERNAL"),
+            swap("m.lpf", "CONSTANT 4\nCONSTANT 0.4\n", "CONSTANT 4\nCONSTANT 10\n"),
+        ),
+        "as it is",
+    ),
+    "external array": (
+        both(hk("EXTERNAL 31 1 (FREE) -1\n", hk_txt=HK_ROWS), swap("m.nam", "OC 14", "DATA 31 hk.txt\nOC 14")),
+        "plain",
+    ),
+    "external unit read twice": (
+        both(
+            swap("m.lpf", HK_FREE, "EXTERNAL 31 1 (FREE) -1\n"),
+            swap("m.lpf", "CONSTANT 4\n", "EXTERNAL 31 1 (FREE) -1\n"),
+            more(hk_txt=HK_ROWS + "4 4 4 4 4\n" * 4),
+            swap("m.nam", "OC 14", "DATA 31 hk.txt\nOC 14"),
+        ),
+        "plain",
+    ),
     "fixed format": (hk("INTERNAL 1 (5F8.2) -1\n" + HK_FIXED), "plain"),
-    "format without points": (hk("INTERNAL 1 (5F6.1) -1\n" + "\n".join(fixed([round(10 * v) for v in r], 6) for r in HK) + "\n"), "plain"),
-    "format of exponents": (hk("INTERNAL 1 (1P5E12.4) -1\n" + "\n".join(fixed([f"{float(v):.4E}" for v in r], 12) for r in HK) + "\n"), "plain"),
-    "general format": (hk("INTERNAL 1 (5G10.3) -1\n" + "\n".join(fixed([f"{float(v):.2f}" for v in r], 10) for r in HK) + "\n"), "plain"),
-    "blanks are zeros": (both(swap("m.bas", IBOUND, "INTERNAL 1 (5I3) -1\n" + IBOUND_FIXED.replace("  0", "   "))), "plain"),
-    "values that touch": (hk("INTERNAL 1 (5F4.1) -1\n"
-                             + "\n".join(fixed([f"{float(v):.1f}" for v in r], 4) for r in HK).replace(" 10.0", " 10.0") + "\n"), "plain"),
+    "format without points": (
+        hk("INTERNAL 1 (5F6.1) -1\n" + "\n".join(fixed([round(10 * v) for v in r], 6) for r in HK) + "\n"),
+        "plain",
+    ),
+    "format of exponents": (
+        hk("INTERNAL 1 (1P5E12.4) -1\n" + "\n".join(fixed([f"{float(v):.4E}" for v in r], 12) for r in HK) + "\n"),
+        "plain",
+    ),
+    "general format": (
+        hk("INTERNAL 1 (5G10.3) -1\n" + "\n".join(fixed([f"{float(v):.2f}" for v in r], 10) for r in HK) + "\n"),
+        "plain",
+    ),
+    "blanks are zeros": (
+        both(swap("m.bas", IBOUND, "INTERNAL 1 (5I3) -1\n" + IBOUND_FIXED.replace("  0", "   "))),
+        "plain",
+    ),
+    "values that touch": (
+        hk(
+            "INTERNAL 1 (5F4.1) -1\n"
+            + "\n".join(fixed([f"{float(v):.1f}" for v in r], 4) for r in HK).replace(" 10.0", " 10.0")
+            + "\n"
+        ),
+        "plain",
+    ),
     "quoted format": (hk("INTERNAL 1 '(FREE)' -1\n" + HK_ROWS), "plain"),
     "record in fixed columns": (hk(f"{15:>10}{'1.0':>10}{'(5F8.2)':<20}{-1:>10}\n" + HK_FIXED), "plain"),
     "record of a constant": (swap("m.lpf", "CONSTANT 4\n", f"{0:>10}{'4.0':>10}\n"), "plain"),
     "modflow 96 columns": (fixed_deck, "plain"),
     "binary singles": (lambda f: hk("OPEN/CLOSE hk.bin 1 (BINARY) -1\n")(f) | {"hk.bin": binary("f")[0]}, "plain"),
-    "binary doubles with header": (lambda f: hk("OPEN/CLOSE hk.bin 1 (BINARY) -1\n")(f) | {"hk.bin": binary("d")[1] + binary("d")[0]}, "plain"),
-    "external binary": (lambda f: both(hk("EXTERNAL 31 1 (BINARY) -1\n"), swap("m.nam", "OC 14", "DATA(BINARY) 31 hk.bin\nOC 14"))(f)
-                        | {"hk.bin": binary("f")[1] + binary("f")[0]}, "plain"),
+    "binary doubles with header": (
+        lambda f: hk("OPEN/CLOSE hk.bin 1 (BINARY) -1\n")(f) | {"hk.bin": binary("d")[1] + binary("d")[0]},
+        "plain",
+    ),
+    "external binary": (
+        lambda f: both(hk("EXTERNAL 31 1 (BINARY) -1\n"), swap("m.nam", "OC 14", "DATA(BINARY) 31 hk.bin\nOC 14"))(f)
+        | {"hk.bin": binary("f")[1] + binary("f")[0]},
+        "plain",
+    ),
     "list in a file": (swap("m.wel", "2 2 3 -50\n", "OPEN/CLOSE wel_0.txt\n"), "plain"),
-    "list of a unit": (both(swap("m.riv", "1 2 4 19.5 20 18\n", "EXTERNAL 32\n"), swap("m.nam", "OC 14", "DATA 32 riv.txt\nOC 14"),
-                            more(riv_txt="1 2 4 19.5 20 18\n")), "plain"),
+    "list of a unit": (
+        both(
+            swap("m.riv", "1 2 4 19.5 20 18\n", "EXTERNAL 32\n"),
+            swap("m.nam", "OC 14", "DATA 32 riv.txt\nOC 14"),
+            more(riv_txt="1 2 4 19.5 20 18\n"),
+        ),
+        "plain",
+    ),
     "sfac": (swap("m.riv", "1 2 4 19.5 20 18\n", "SFAC 0.1\n1 2 4 19.5 200 18\n"), "plain"),
     "sfac of heads": (swap("m.chd", "2 1 5 20 21\n", "SFAC 2\n2 1 5 10 10.5\n"), "plain"),
     "quoted name": (swap("m.nam", "m.wel", "'m.wel'"), "plain"),
     "other letters on disk": (lambda f: {"m.nam": f["m.nam"].replace("m.wel", "M.WEL")}, "plain"),
     "path of another machine": (lambda f: {"m.nam": f["m.nam"].replace("m.wel", "C:\\models\\m.wel")}, "plain"),
-    "name with a blank": (lambda f: {"m.nam": f["m.nam"].replace("m.wel", "'my wells.wel'"), "my wells.wel": f["m.wel"]}, "plain"),
+    "name with a blank": (
+        lambda f: {"m.nam": f["m.nam"].replace("m.wel", "'my wells.wel'"), "my wells.wel": f["m.wel"]},
+        "plain",
+    ),
     "observations": (swap("m.nam", "OC 14", "HOB 40 m.hob\nDROB 41 m.drob\nOC 14"), "plain"),
     "end mark of old editors": (lambda f: {"m.nam": f["m.nam"] + "\x1a\n"}, "plain"),
     "upstream weighting": (upw, "plain"),
@@ -157,7 +329,10 @@ SPELLINGS = {
     "parameters": (swap("m.lpf", "53 -1E+30 0\n", "53 -1E+30 2\n"), "parameters"),
     "well parameters": (swap("m.wel", "1 53\n", "PARAMETER 1 1\n1 53\n"), "PARAMETER"),
     "streams": (swap("m.nam", "OC 14", "SFR 40 m.sfr\nOC 14"), "stages that SFR found"),
-    "modflow 6": (lambda f: {"m.nam": "BEGIN options\nEND options\nBEGIN packages\n  DIS6 m.dis dis\nEND packages\n"}, "MODFLOW 6"),
+    "modflow 6": (
+        lambda f: {"m.nam": "BEGIN options\nEND options\nBEGIN packages\n  DIS6 m.dis dis\nEND packages\n"},
+        "MODFLOW 6",
+    ),
     "cross section": (swap("m.bas", "FREE\n", "FREE XSECTION\n"), "XSECTION"),
     "cell outside": (swap("m.wel", "2 2 3 -50\n", "2 2 6 -50\n"), "outside the grid"),
     "value left out": (swap("m.lpf", "6 7 8 9 10\n", "6 7,,9 10\n"), "left out"),

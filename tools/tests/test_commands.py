@@ -4,7 +4,7 @@ import re
 from pathlib import Path
 
 import pytest
-from conftest import TOOLS, TOP, heads
+from conftest import heads, TOOLS, TOP
 
 EXAMPLES = ["three_cells", "drained_field", "tide", "river_valley"]
 
@@ -36,7 +36,7 @@ def test_look_draws_and_tables_hold_the_listing(name, ran, tool, tmp_path):
     page = (tmp_path / "look" / "index.html").read_text()
     for picture in re.findall(r'src="([^"]+)"', page):
         assert (tmp_path / "look" / picture).read_bytes().startswith(b"\x89PNG")
-        assert (tmp_path / "look" / picture).with_suffix(".svg").is_file()
+    assert not list((tmp_path / "look").glob("*.svg"))
     lines = [l.split()[1:] for l in listing.read_text().split("\n") if l.startswith("HEAD ")]
     rows = list(csv.DictReader((tmp_path / "look" / "heads.csv").open()))
     assert [[r["layer"], r["row"], r["col"], r["lower"], r["upper"]] for r in rows] == lines
@@ -53,7 +53,7 @@ def test_certify_from_the_middle_heads(name, ran, tool, tmp_path):
     status, out, err = tool("certify", nam, tmp_path / "m.hds")
     assert status == 0 and out.startswith("CERTIFIED") and "beside `heads run`" in out, out + err
     status, out, err = tool("compare", listing, tmp_path / "m.hds")
-    assert status == 0 and "0 of" in out.split("\n")[0]
+    assert status == 0 and "0 of" in out.split("\n")[1]
 
 
 @pytest.mark.program
@@ -68,7 +68,9 @@ def test_compare_says_how_far_given_heads_are_off(ran, tool, tmp_path):
     nam, listing = ran("three_cells")
     (tmp_path / "given.csv").write_text("layer,row,col,head\n1,1,2,15.25\n")
     status, out, err = tool("compare", listing, tmp_path / "given.csv")
-    assert status == 0 and "at least 0.249" in out and "at most 0.251" in out and "1 of the listing's 3 cells" in out, out
+    assert (
+        status == 0 and "at least 0.249" in out and "at most 0.251" in out and "1 of the listing's 3 cells" in out
+    ), out
     (tmp_path / "wide.csv").write_text("layer,row,col,head\n9,9,9,3\n")
     assert tool("compare", listing, tmp_path / "wide.csv")[0] == 2
 
@@ -83,22 +85,12 @@ def test_runs_again_with_the_digits_that_fit(example, tool):
 
 
 @pytest.mark.program
-@pytest.mark.parametrize("name, status, part", [("no_answer", 3, "Nothing holds the heads"), ("refused", 2, "HOB only prints or compares")])
+@pytest.mark.parametrize(
+    "name, status, part", [("no_answer", 3, "Nothing holds the heads"), ("refused", 2, "HOB only prints or compares")]
+)
 def test_run_explains_how_it_ended(name, status, part, example, tool):
     got, out, err = tool("run", example(name))
     assert got == status and part in out and "END" not in out
-
-
-@pytest.mark.program
-def test_exhibit_holds_all_that_it_speaks_of(example, tool, tmp_path):
-    status, out, err = tool("exhibit", example("tide"), tmp_path / "exhibit")
-    text = (tmp_path / "exhibit" / "EXHIBIT.txt").read_text()
-    assert status == 0 and "CERTIFIED" in text and ": HOLDS" in text and "What may not be said" in text, text
-    for line in re.findall(r"^  ([0-9a-f]{64})  (.+)$", text, re.M):
-        import hashlib
-
-        assert hashlib.sha256((tmp_path / "exhibit" / line[1]).read_bytes()).hexdigest() == line[0]
-    assert tool("exhibit", example("three_cells"), tmp_path / "exhibit")[0] == 2
 
 
 @pytest.mark.program
@@ -113,7 +105,7 @@ def test_batch_collects_the_ends(example, tool, tmp_path):
     status, out, err = tool("batch", tmp_path / "list.txt", "--slurm", "--write-only")
     assert status == 0 and "#SBATCH --array=1-3" in (tmp_path / "list.slurm").read_text()
     status, out, err = tool("batch", tmp_path / "list.txt", "--parallel", "--write-only")
-    assert status == 0 and "parallel --jobs" in (tmp_path / "list.parallel.sh").read_text()
+    assert status == 0 and "parallel --joblog" in (tmp_path / "list.parallel.sh").read_text()
 
 
 @pytest.mark.program
@@ -134,19 +126,47 @@ def test_a_batch_of_the_program_is_parted_by_model(tmp_path):
     from heads_tools.batch import Job, split_batch
 
     jobs = [Job(n, tmp_path / n) for n in ("a.nam", "b.nam", "c.nam")]
-    split_batch("MODEL a.nam\nHEADS 2 DIGITS 12 UNIT 2\nEND\nMODEL b.nam\nREFUSED 1 MissingFile x 0\nMODEL c.nam\nHEADS 2 DIGITS 12 UNIT 2\nEND\nEND\n", jobs)
-    assert [j.listing.read_text() for j in jobs] == ["HEADS 2 DIGITS 12 UNIT 2\nEND\n", "REFUSED 1 MissingFile x 0\n", "HEADS 2 DIGITS 12 UNIT 2\nEND\n"]
+    split_batch(
+        (
+            "MODEL a.nam\nHEADS 2 DIGITS 12 UNIT 2\nEND\nMODEL b.nam\nREFUSED 1 MissingFile x 0\nMODEL c.nam\nHEADS 2"
+            " DIGITS 12 UNIT 2\nEND\nEND\n"
+        ),
+        jobs,
+    )
+    assert [j.listing.read_text() for j in jobs] == [
+        "HEADS 2 DIGITS 12 UNIT 2\nEND\n",
+        "REFUSED 1 MissingFile x 0\n",
+        "HEADS 2 DIGITS 12 UNIT 2\nEND\n",
+    ]
 
 
 def test_model_tells_what_was_read(example, tool):
     status, out, err = tool("model", example("three_aquifers"))
-    assert status == 0 and "3 layers, 15 rows, 15 columns: 675 cells" in out and "VKCB 0.001" in out and "WEL: [1: 1 entries" in out
+    assert (
+        status == 0
+        and "3 layers, 15 rows, 15 columns: 675 cells" in out
+        and "VKCB 0.001" in out
+        and "WEL: [1: 1 entry;" in out
+    )
 
 
-@pytest.mark.parametrize("words", [
-    ["look", "nothing.heads", "out"], ["run", "nothing.nam"], ["inside", "."], ["compare", "nothing", "nothing"], ["explain", "nothing"],
-    ["plain", "nothing.nam", "out"], ["hds", "nothing", "x.hds"], ["model", "nothing.nam"], ["batch", "nothing.txt"],
-    ["certify", "nothing.nam", "x"], ["exhibit", "nothing.nam", "out"], ["grow"]])
+@pytest.mark.parametrize(
+    "words",
+    [
+        ["look", "nothing.heads", "out"],
+        ["run", "nothing.nam"],
+        ["inside", "."],
+        ["compare", "nothing", "nothing"],
+        ["explain", "nothing"],
+        ["plain", "nothing.nam", "out"],
+        ["hds", "nothing", "x.hds"],
+        ["model", "nothing.nam"],
+        ["batch", "nothing.txt"],
+        ["certify", "nothing.nam", "x"],
+        ["exhibit", "nothing.nam", "out"],
+        ["grow"],
+    ],
+)
 def test_bad_input_gets_a_sentence(words, tool, tmp_path, monkeypatch):
     monkeypatch.chdir(tmp_path)
     status, out, err = tool(*words)
@@ -169,9 +189,22 @@ def test_explain_has_a_sentence_for_each_code(code, tmp_path, tool):
     assert status == (2 if code <= 20 else 3) and len(out) > 60 and "  -> " in out
 
 
-@pytest.mark.parametrize("last, status", [
-    ("END", 0), ("CERTIFIED", 0), ("USAGE: heads run NAME", 1), ("UNFINISHED 1 2", 4), ("READFAULT", 5), ("", 6), ("HEAD 1 1 1 0.0", 6), ("MEMORY", 7),
-    ("NOT CERTIFIED 1 1 1 1 2 LOW", 8), ("NOT CERTIFIED 1 1 IN RIVER LEAKAGE", 8), ("NOBOUND 23 FlowTooLarge 1 1 ZONE 1 2", 3)])
+@pytest.mark.parametrize(
+    "last, status",
+    [
+        ("END", 0),
+        ("CERTIFIED", 0),
+        ("USAGE: heads run NAME", 1),
+        ("UNFINISHED 1 2", 4),
+        ("READFAULT", 5),
+        ("", 6),
+        ("HEAD 1 1 1 0.0", 6),
+        ("MEMORY", 7),
+        ("NOT CERTIFIED 1 1 1 1 2 LOW", 8),
+        ("NOT CERTIFIED 1 1 IN RIVER LEAKAGE", 8),
+        ("NOBOUND 23 FlowTooLarge 1 1 ZONE 1 2", 3),
+    ],
+)
 def test_explain_has_a_sentence_for_each_status(last, status, tmp_path, tool):
     (tmp_path / "out").write_text(last + "\n" if last else "")
     got, out, err = tool("explain", tmp_path / "out")
@@ -195,7 +228,10 @@ def test_zone_flows_are_shown(tmp_path, tool):
     text = (Path(__file__).parent / "test_listing.py").read_text().split('"""')[3].lstrip("\n")
     (tmp_path / "m.heads").write_text(text)
     status, out, err = tool("look", tmp_path / "m.heads", tmp_path / "look")
-    assert status == 0 and (tmp_path / "look" / "zones.csv").read_text().split("\n")[1] == "1,1,1,2,-0.250000000000,0.000000000001", err
+    assert (
+        status == 0
+        and (tmp_path / "look" / "zones.csv").read_text().split("\n")[1] == "1,1,1,2,-0.250000000000,0.000000000001"
+    ), err
 
 
 @pytest.mark.program
@@ -209,3 +245,48 @@ def test_the_script_runs_from_anywhere(tmp_path):
 
     done = subprocess.run([TOOLS / "heads-tools", "--help"], cwd=tmp_path, capture_output=True, text=True)
     assert done.returncode == 0 and "certify" in done.stdout
+
+
+def test_a_slow_step_tells_its_phase_and_how_many_cells_move(capfd, monkeypatch):
+    import io
+
+    from heads_tools.follow import Progress
+
+    progress = Progress("m.nam", 3)
+    views = (
+        b"WATCH 1 2\nHEAD 1 1 2 0.0 9.0\nHEAD 1 1 3 0.0 9.0\nWATCH 1 2\nHEAD 1 1 2 0.0 9.0\nHEAD 1 1 3 1.0 9.0\nanother"
+        b" line\n"
+    )
+    progress.step()
+    progress.read(io.BytesIO(views))
+    progress.tell_step()
+    err = capfd.readouterr().err
+    assert (
+        "another line" in err and "step 2 of 3 (period 1 step 2): phase 2, 1 of 2 cells still move, 0 s so far" in err
+    ), err
+
+
+@pytest.mark.program
+def test_a_run_that_is_followed_writes_the_same_listing(example):
+    from heads_tools.program import run
+
+    nam = example("tide")
+    ended = run(nam, [], nam.with_suffix(".heads"), 48, is_followed=True)
+    assert ended.status == 0 and nam.with_suffix(".heads").read_text() == heads(["run", nam.name], nam.parent).stdout
+
+
+def test_each_command_stands_in_the_man_page_and_in_the_readme():
+    from heads_tools.cli import parser
+
+    commands = next(a for a in parser()._actions if hasattr(a, "choices") and a.choices).choices
+    page, readme = (TOP / "docs" / "heads-tools.1").read_text(), (TOOLS / "README.md").read_text()
+    for name in commands:
+        assert (
+            f"heads\\-tools {name} " in page.replace(f'"heads-tools {name}"', f"heads\\-tools {name} ")
+            and f"`{name}" in readme
+        ), name
+
+
+def test_the_version_is_told(tool):
+    status, out, err = tool("--version")
+    assert status == 0 and out == "heads-tools 0.1.0\n" and "version: 0.1.0" in (TOP / "CITATION.cff").read_text()

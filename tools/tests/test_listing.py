@@ -49,11 +49,22 @@ def test_arrays_are_rounded_outward_by_less_than_a_unit(listing):
     assert lower[0, 0, 0, 0] == upper[0, 0, 0, 0] == 10.0
 
 
-@pytest.mark.parametrize("text, part", [
-    ("", "is empty"), ("REFUSED 1 MissingFile a.dis 0\n", "no listing"), ("GRASS\n", "line 1"),
-    (TEXT.replace("HEAD 1 1 2 -0.000000007 0.100000000", "HEAD 1 1 2 -0.000000007"), "line 4"),
-    (TEXT.replace("HEAD 1 1 1 10.000000000 10.000000000\nHEAD 1 1 2 3", "HEAD 1 2 1 10.000000000 10.000000000\nHEAD 1 1 2 3"), "other cells"),
-])
+@pytest.mark.parametrize(
+    "text, part",
+    [
+        ("", "is empty"),
+        ("REFUSED 1 MissingFile a.dis 0\n", "no listing"),
+        ("GRASS\n", "line 1"),
+        (TEXT.replace("HEAD 1 1 2 -0.000000007 0.100000000", "HEAD 1 1 2 -0.000000007"), "line 4"),
+        (
+            TEXT.replace(
+                "HEAD 1 1 1 10.000000000 10.000000000\nHEAD 1 1 2 3",
+                "HEAD 1 2 1 10.000000000 10.000000000\nHEAD 1 1 2 3",
+            ),
+            "other cells",
+        ),
+    ],
+)
 def test_what_is_no_listing_gets_a_sentence(text, part, tmp_path):
     (tmp_path / "x").write_text(text)
     with pytest.raises(Problem, match=part):
@@ -61,7 +72,7 @@ def test_what_is_no_listing_gets_a_sentence(text, part, tmp_path):
 
 
 def test_a_listing_that_was_cut_is_read_as_far_as_its_steps_are_whole(tmp_path):
-    (tmp_path / "x").write_text(TEXT[:TEXT.index("HEAD 2 1 2 1.0")])
+    (tmp_path / "x").write_text(TEXT[: TEXT.index("HEAD 2 1 2 1.0")])
     listing = read_listing(tmp_path / "x")
     assert len(listing.steps) == 1 and not listing.is_whole
 
@@ -73,7 +84,11 @@ def test_a_head_file_comes_back(listing, side, is_single, tmp_path):
     heads = read_heads(tmp_path / "m.hds")
     assert set(heads) == {(1, 1), (1, 2)}
     for n, grid in enumerate(heads.values()):
-        grid = np.where(grid == -999.99, np.nan, grid) if not is_single else np.where(np.abs(grid + 999.99) < 1e-3, np.nan, grid)
+        grid = (
+            np.where(grid == -999.99, np.nan, grid)
+            if not is_single
+            else np.where(np.abs(grid + 999.99) < 1e-3, np.nan, grid)
+        )
         known = ~np.isnan(listing.lower()[n])
         assert (known == ~np.isnan(grid)).all()
         if side != "upper":
@@ -87,7 +102,7 @@ def test_record_marks_and_tables_are_read(listing, tmp_path):
     raw, out, at = (tmp_path / "m.hds").read_bytes(), b"", 0
     while at < len(raw):
         for size in (52, 2 * 8):
-            out += size.to_bytes(4, "little") + raw[at:at + size] + size.to_bytes(4, "little")
+            out += size.to_bytes(4, "little") + raw[at : at + size] + size.to_bytes(4, "little")
             at += size
     (tmp_path / "marked.hds").write_bytes(out)
     plain, marked = read_heads(tmp_path / "m.hds"), read_heads(tmp_path / "marked.hds")

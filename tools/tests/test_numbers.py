@@ -11,8 +11,17 @@ from heads_tools.listing import Step
 from heads_tools.text import Problem, decimal_text, down, short_down, short_up, signed_down, signed_up, up
 
 
-@pytest.mark.parametrize("word, value", [
-    ("1", 1), ("-.5", Decimal("-0.5")), ("1.D2", 100), ("1.0+02", 100), ("2.5-3", Decimal("0.0025")), ("1e-20", Decimal("1e-20"))])
+@pytest.mark.parametrize(
+    "word, value",
+    [
+        ("1", 1),
+        ("-.5", Decimal("-0.5")),
+        ("1.D2", 100),
+        ("1.0+02", 100),
+        ("2.5-3", Decimal("0.0025")),
+        ("1e-20", Decimal("1e-20")),
+    ],
+)
 def test_spellings_of_numbers(word, value):
     assert exact(word) == value
 
@@ -33,9 +42,15 @@ def test_products_are_exact():
     assert Decimal(product("0.1", "3e5").text) == 30000
 
 
-@pytest.mark.parametrize("text, line, values", [
-    ("(3F4.1)", " 1.5  202.25", ["1.5", "2", "2.25"]), ("(2I3)", " -1  4", ["-1", "4"]), ("(1P2E9.2)", " 1.50E+01     2.5", ["15", "0.25"]),
-    ("(3F4.0)", "  1", ["1", "0", "0"])])
+@pytest.mark.parametrize(
+    "text, line, values",
+    [
+        ("(3F4.1)", " 1.5  202.25", ["1.5", "2", "2.25"]),
+        ("(2I3)", " -1  4", ["-1", "4"]),
+        ("(1P2E9.2)", " 1.50E+01     2.5", ["15", "0.25"]),
+        ("(3F4.0)", "  1", ["1", "0", "0"]),
+    ],
+)
 def test_fields_of_fixed_width(text, line, values):
     fields = fortran(text)
     assert [Fraction(exact(fields.of(line, n))) for n in range(len(values))] == [Fraction(v) for v in values]
@@ -60,9 +75,14 @@ def test_net_terms_are_narrowed_by_their_sum():
 def test_a_net_term_is_what_the_others_leave():
     """Period 1 step 3 of examples/pumping_test: storage is 500 less what the constant heads give, to its last place."""
     unit = 10**21
-    flows = {"STORAGE": "498.160914334119820125330 498.166227168947438997716", "CONSTANT HEAD": "1.836335428399504856912 1.836521538799862064100"}
+    flows = {
+        "STORAGE": "498.160914334119820125330 498.166227168947438997716",
+        "CONSTANT HEAD": "1.836335428399504856912 1.836521538799862064100",
+    }
     terms = {name: [*(int(Fraction(w) * unit) for w in words.split()), 0, 0] for name, words in flows.items()}
-    nets = {n[0]: n[3:] for n in budget_of(Step(1, 3, None, None, terms | {"WELLS": [0, 0, 500 * unit, 500 * unit]})).nets}
+    nets = {
+        n[0]: n[3:] for n in budget_of(Step(1, 3, None, None, terms | {"WELLS": [0, 0, 500 * unit, 500 * unit]})).nets
+    }
     assert nets["STORAGE"] == (500 * unit - 1836521538799862064100, 500 * unit - 1836335428399504856912)
     assert nets["CONSTANT HEAD"] == (1836335428399504856912, 1836521538799862064100)
     assert nets["WELLS"] == (-500 * unit, -500 * unit)

@@ -3,16 +3,15 @@ import random
 import re
 import subprocess
 import sys
-from pathlib import Path
 
 import pytest
-from conftest import TOOLS, TOP, heads
+from conftest import TOOLS, heads
 
 SCRIPT = TOOLS / "recheck.py"
 
 
-def recheck(nam, listing):
-    done = subprocess.run([sys.executable, SCRIPT, nam.name, listing.name], cwd=nam.parent, capture_output=True, text=True)
+def recheck(nam, listing, *more):
+    done = subprocess.run([sys.executable, SCRIPT, nam.name, listing.name, *more], cwd=nam.parent, capture_output=True, text=True)
     assert "Traceback" not in done.stderr, done.stderr
     return done.returncode, done.stdout.strip()
 
@@ -26,7 +25,9 @@ def moved(line, lower, upper):
 
 def test_it_stays_short_and_alone():
     text = SCRIPT.read_text()
-    assert text.count("\n") < 300 and set(re.findall(r"^(?:import|from) (\w+)", text, re.M)) == {"heapq", "re", "sys", "fractions"}
+    imported = set(re.findall(r"^(?:import|from) (\w+)", text, re.M))
+    assert text.count("\n") < 630 and max(map(len, text.split("\n"))) <= 120
+    assert imported == {"__future__", "fractions", "heapq", "re", "sys", "typing"}
 
 
 @pytest.mark.program
@@ -62,3 +63,49 @@ def test_it_refuses_another_form(spoil, example):
     status, said = recheck(nam, nam.parent / "m.heads")
     assert status == 1 and "line" in said
     assert "BadListing" in heads(["check", nam.name, "m.heads"], nam.parent).stdout
+
+
+@pytest.fixture
+def zoned(example):
+    """The model of river_valley and its listing with three zones."""
+    nam = example("river_valley")
+    listing = nam.parent / "m.heads"
+    listing.write_text(heads(["run", nam.name, "--zones", "m.zon"], nam.parent).stdout)
+    return nam, listing
+
+
+@pytest.mark.program
+def test_it_holds_flows_between_zones(zoned):
+    assert recheck(*zoned, "m.zon") == (0, "HOLDS")
+
+
+@pytest.mark.program
+@pytest.mark.parametrize("change, part", [
+    (lambda line: line.replace("1559.999", "1559.9999", 1), "ZONE 1 2: the pair doesn't hold the flow"),
+    (lambda line: re.sub(r"(\S+)$", "1560.000000000000000000000", line), "ZONE 1 2: the pair doesn't hold the flow"),
+    (lambda line: line.replace("ZONE 1 2", "ZONE 1 3"), "isn't of the form due (ZONE 1 2"), (lambda line: None, "isn't of the form due (ZONE 1 2")])
+def test_it_names_zone_lines_that_are_spoilt(change, part, zoned):
+    nam, listing = zoned
+    lines = listing.read_text().split("\n")
+    at = next(n for n, line in enumerate(lines) if line.startswith("ZONE 1 2"))
+    changed = change(lines[at])
+    if changed and len(changed.split()[3]) != len(lines[at].split()[3]):
+        changed = changed.replace(changed.split()[3], changed.split()[3][:len(lines[at].split()[3])])
+    lines[at:at + 1] = [changed] if changed else []
+    listing.write_text("\n".join(lines))
+    status, said = recheck(nam, listing, "m.zon")
+    assert status == 1 and part in said
+
+
+@pytest.mark.program
+def test_it_asks_for_the_zone_file_where_the_listing_has_zones(zoned):
+    status, said = recheck(*zoned)
+    assert status == 1 and "name the zone file" in said
+
+
+def test_other_words_have_a_status_of_their_own(tmp_path):
+    for script in (SCRIPT, TOOLS / "solution.py"):
+        done = subprocess.run([sys.executable, script, "m.nam"], cwd=tmp_path, capture_output=True, text=True)
+        assert done.returncode == 3 and done.stderr.startswith("usage: ") and not done.stdout
+        done = subprocess.run([sys.executable, script, "m.nam", "m.heads"], cwd=tmp_path, capture_output=True, text=True)
+        assert done.returncode == 2 and "can't be read" in done.stdout

@@ -18,7 +18,9 @@ def same_model(a, b):
     for kind, periods in a.deck.lists.items():
         for ours, theirs in zip(periods, b.deck.lists[kind]):
             assert (ours is None) == (theirs is None)
-            assert [(e.cell, [float(w) for w in e.words]) for e in ours or []] == [(e.cell, [float(w) for w in e.words]) for e in theirs or []]
+            assert [(e.cell, [float(w) for w in e.words]) for e in ours or []] == [
+                (e.cell, [float(w) for w in e.words]) for e in theirs or []
+            ]
 
 
 def test_there_are_as_many_spellings_as_promised():
@@ -29,7 +31,9 @@ def test_there_are_as_many_spellings_as_promised():
 def test_the_model_is_the_same_in_each_spelling(name, tmp_path):
     from heads_tools.model import read_model
 
-    same_model(read_model(spelled.write(tmp_path / "plain", "as it is")), read_model(spelled.write(tmp_path / "other", name)))
+    same_model(
+        read_model(spelled.write(tmp_path / "plain", "as it is")), read_model(spelled.write(tmp_path / "other", name))
+    )
 
 
 @pytest.mark.parametrize("name", INSIDE)
@@ -72,7 +76,9 @@ def test_explain_has_a_sentence_for_each_end(name, tmp_path, tool):
     (tmp_path / "m.heads").write_text(done.stdout)
     status, out, err = tool("explain", tmp_path / "m.heads")
     assert status == done.returncode
-    assert (done.returncode == 0) == (WANTED[name] == "as it is" or name == "value left out" and done.returncode == 0), out
+    assert (done.returncode == 0) == (
+        WANTED[name] == "as it is" or name == "value left out" and done.returncode == 0
+    ), out
     if done.returncode:
         assert "  -> " in out and "Traceback" not in err, out
 

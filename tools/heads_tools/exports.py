@@ -1,0 +1,267 @@
+"""A listing where people work on: xarray, pandas, NetCDF, GeoTIFF, VTK. Lower heads are rounded down to doubles, upper
+ones up. Each format asks for its package only when it is used."""
+from __future__ import annotations
+
+import importlib
+import math
+from dataclasses import dataclass
+from fractions import Fraction
+from pathlib import Path
+from typing import TYPE_CHECKING, Any
+
+import numpy as np
+
+from .listing import Listing, Step
+from .model import Model
+from .tables import budget_of
+from .text import LENGTHS, Problem
+
+if TYPE_CHECKING:
+    import pandas
+    import xarray
+
+PACKAGES = {
+    "xarray": "python3-xarray python3-netcdf4",
+    "netCDF4": "python3-netcdf4",
+    "pandas": "python3-pandas",
+    "rasterio": "python3-rasterio",
+    "meshio": "python3-meshio",
+}
+COMMENT = (
+    "every exact solution lies between lower and upper where `heads check` certified the listing; rounded outward to"
+    " doubles"
+)
+
+
+@dataclass(frozen=True)
+class Place:
+    """Where the grid lies, as FloPy's xoff, yoff, angrot and epsg: the corner of the last row and the first column, and
+    the degrees by which the grid is turned round it against the clock."""
+
+    x: float = 0.0
+    y: float = 0.0
+    angle: float = 0.0
+    epsg: int | None = None
+
+    def world(self, x: np.ndarray, y: np.ndarray) -> tuple[np.ndarray, np.ndarray]:
+        """Coordinates on the map of points of the grid."""
+        c, s = math.cos(math.radians(self.angle)), math.sin(math.radians(self.angle))
+        return self.x + c * x - s * y, self.y + s * x + c * y
+
+    def grid(self, x: float, y: float) -> tuple[float, float]:
+        """The grid's own coordinates of a point of the map."""
+        c, s = math.cos(math.radians(self.angle)), math.sin(math.radians(self.angle))
+        return c * (x - self.x) + s * (y - self.y), -s * (x - self.x) + c * (y - self.y)
+
+
+def place_of(text: str) -> Place:
+    """The place of X0,Y0[,ANGLE[,EPSG]]."""
+    parts = text.split(",")
+    try:
+        if not 2 <= len(parts) <= 4:
+            raise ValueError
+        return Place(*map(float, parts[:3]), **({"epsg": int(parts[3])} if len(parts) == 4 else {}))
+    except ValueError:
+        raise Problem(
+            f"`{text}`: a place is X0,Y0[,ANGLE[,EPSG]], the grid's lower left corner, degrees against the clock, a"
+            " code of EPSG"
+        ) from None
+
+
+def package(name: str) -> Any:
+    """A package that may be missing."""
+    try:
+        return importlib.import_module(name)
+    except ImportError:
+        raise Problem(
+            f"this needs the Python package {name}: apt-get install {PACKAGES[name]}, or pip install {name}"
+        ) from None
+
+
+def outward(units: int, places: int, side: int) -> float:
+    """The double beside units * 10^-places: the nearest one that isn't above it (side -1) or below it (side 1)."""
+    near = int(units) / 10**places
+    exact = Fraction(int(units), 10**places)
+    return float(np.nextafter(near, side * np.inf)) if side * (Fraction(near) - exact) < 0 else near
+
+
+def middles(model: Model) -> tuple[np.ndarray, np.ndarray]:
+    """The middles of columns from the west and of rows from the south."""
+    return np.cumsum(model.delr) - model.delr / 2, model.delc.sum() - np.cumsum(model.delc) + model.delc / 2
+
+
+def time_of(model: Model | None, step: Step) -> float:
+    return model.times.get((step.period, step.step), (0.0, math.nan))[1] if model else math.nan
+
+
+def to_xarray(listing: Listing, model: Model | None = None, place: Place = Place()) -> xarray.Dataset:
+    """Lower and upper heads by time (step without a model), layer, y and x; a grid that is turned has rows and
+    columns, and the coordinates of their middles."""
+    xarray = package("xarray")
+    shape = model.shape if model else listing.shape
+    rows, cols, axes = np.arange(1, shape[1] + 1), np.arange(1, shape[2] + 1), ("row", "col")
+    coords: dict[str, Any] = {"layer": np.arange(1, shape[0] + 1), "row": rows, "col": cols}
+    if model:
+        x, y = middles(model)
+        if place.angle:
+            wx, wy = place.world(*np.meshgrid(x, y))
+            coords |= {
+                "x": (("row", "col"), wx, {"units": model.length}),
+                "y": (("row", "col"), wy, {"units": model.length}),
+            }
+        else:
+            axes = ("y", "x")
+            coords = {
+                "layer": coords["layer"],
+                "y": ("y", place.y + y, {"units": model.length}),
+                "x": ("x", place.x + x, {"units": model.length}),
+            }
+    first = "time" if model else "step"
+    if model:
+        coords["time"] = (
+            "time",
+            [time_of(model, s) for s in listing.steps],
+            {"long_name": "time since the start", "model_unit": model.time},
+        )
+    coords |= {
+        "period": (first, [s.period for s in listing.steps]),
+        "step_of_period": (first, [s.step for s in listing.steps]),
+    }
+    dims = (first, "layer", *axes)
+    about = {"units": LENGTHS.get(listing.unit, "length units"), "comment": COMMENT}
+    data = {"lower": (dims, listing.lower(shape), about), "upper": (dims, listing.upper(shape), about)}
+    attrs = {
+        "source": f"heads, {listing.path.name}, {listing.digits} digits, ends with {listing.end or 'a part of a step'}"
+    }
+    return xarray.Dataset(data, coords, attrs | ({"crs": f"EPSG:{place.epsg}"} if place.epsg else {}))
+
+
+def heads_frame(listing: Listing, model: Model | None = None, place: Place = Place()) -> pandas.DataFrame:
+    """A row for each step and cell: period, step, time, layer, row, col, x, y (with a model), lower, upper."""
+    pandas = package("pandas")
+    lower, upper = (
+        np.concatenate([grid[tuple((listing.cells - 1).T)] for grid in side])
+        for side in (listing.lower(), listing.upper())
+    )
+    n, steps = len(listing.cells), listing.steps
+    columns: dict[str, Any] = {
+        "period": np.repeat([s.period for s in steps], n),
+        "step": np.repeat([s.step for s in steps], n),
+    }
+    if model:
+        columns["time"] = np.repeat([time_of(model, s) for s in steps], n)
+    columns |= {name: np.tile(listing.cells[:, at], len(steps)) for at, name in enumerate(("layer", "row", "col"))}
+    if model:
+        x, y = middles(model)
+        wx, wy = place.world(x[listing.cells[:, 2] - 1], y[listing.cells[:, 1] - 1])
+        columns |= {"x": np.tile(wx, len(steps)), "y": np.tile(wy, len(steps))}
+    return pandas.DataFrame(columns | {"lower": lower, "upper": upper})
+
+
+def terms_frame(listing: Listing, model: Model | None = None) -> pandas.DataFrame:
+    """A row for each step and budget term, rates: in, out and net (narrowed to what the other terms leave), outward."""
+    pandas = package("pandas")
+    names = [
+        "period",
+        "step",
+        "time",
+        "term",
+        "in_lower",
+        "in_upper",
+        "out_lower",
+        "out_upper",
+        "net_lower",
+        "net_upper",
+    ]
+    rows = []
+    for step in listing.steps:
+        budget = budget_of(step)
+        nets = {name: pair for name, _, _, *pair in budget.nets}
+        for name, *flows in budget.rows[:-1]:
+            values = [outward(v, listing.flow_places, 1 if n % 2 else -1) for n, v in enumerate([*flows, *nets[name]])]
+            rows.append((step.period, step.step, time_of(model, step), name, *values))
+    return pandas.DataFrame(rows, columns=names).set_index(["period", "step", "term"])
+
+
+def to_netcdf(path: Path, listing: Listing, model: Model | None = None, place: Place = Place()) -> None:
+    package("netCDF4")
+    to_xarray(listing, model, place).to_netcdf(path)
+
+
+def to_geotiff(path: Path, listing: Listing, model: Model, place: Place = Place(), at: int = -1) -> None:
+    """A picture element for each cell of a grid of equal widths; for each layer a band of lower and one of upper
+    heads of a step, the last one where it isn't named."""
+    rasterio = package("rasterio")
+    from rasterio.transform import Affine
+
+    for name, widths in (("DELR", model.delr), ("DELC", model.delc)):
+        if widths.max() - widths.min() > 1e-9 * widths.max():
+            raise Problem(f"a GeoTIFF has cells of one width, and {name} differs: take NetCDF or VTK")
+    x, y = place.world(np.array(0.0), np.array(model.delc.sum()))
+    transform = (
+        Affine.translation(float(x), float(y))
+        * Affine.rotation(place.angle)
+        * Affine.scale(model.delr[0], -model.delc[0])
+    )
+    lower, upper = listing.lower(model.shape)[at], listing.upper(model.shape)[at]
+    nlay, nrow, ncol = model.shape
+    options = {
+        "driver": "GTiff",
+        "width": ncol,
+        "height": nrow,
+        "count": 2 * nlay,
+        "dtype": "float64",
+        "nodata": math.nan,
+        "compress": "deflate",
+    }
+    with rasterio.open(
+        path, "w", transform=transform, crs=f"EPSG:{place.epsg}" if place.epsg else None, **options
+    ) as file:
+        for k in range(nlay):
+            for band, (name, values) in enumerate((("lower", lower), ("upper", upper)), 2 * k + 1):
+                file.write(values[k], band)
+                file.set_band_description(band, f"layer {k + 1} {name} head")
+
+
+def to_vtk(path: Path, listing: Listing, model: Model, place: Place = Place(), at: int = -1) -> None:
+    """A hexahedron for each cell with flow, with its lower and upper head of a step, the last one where it isn't
+    named."""
+    meshio = package("meshio")
+    x = np.concatenate([[0], np.cumsum(model.delr)])
+    y = model.delc.sum() - np.concatenate([[0], np.cumsum(model.delc)])
+    k, i, j = (listing.cells - 1).T
+    bottom = model.bottom[k, i, j]
+    levels = bottom, bottom + model.thick[k, i, j]
+    corners = [(*place.world(x[j + dx], y[i + dy]), z) for z in levels for dx, dy in ((0, 1), (1, 1), (1, 0), (0, 0))]
+    points = np.array([np.broadcast_arrays(*corner) for corner in corners]).transpose(2, 0, 1).reshape(-1, 3)
+    lower, upper = listing.lower(model.shape)[at], listing.upper(model.shape)[at]
+    data = {"lower": [lower[k, i, j]], "upper": [upper[k, i, j]], "layer": [k + 1]}
+    meshio.Mesh(points, [("hexahedron", np.arange(len(points)).reshape(-1, 8))], cell_data=data).write(path)
+
+
+FORMATS = ("nc", "tif", "vtu", "csv")
+
+
+def export(listing: Listing, folder: Path, model: Model, place: Place, formats: list[str]) -> list[str]:
+    """Writes the formats into a folder; a sentence on each. One whose package is missing, or that can't hold the
+    grid, is an error only where it was asked for alone."""
+    folder.mkdir(parents=True, exist_ok=True)
+    write = {
+        "nc": lambda p: to_netcdf(p, listing, model, place),
+        "tif": lambda p: to_geotiff(p, listing, model, place),
+        "vtu": lambda p: to_vtk(p, listing, model, place),
+        "csv": lambda p: heads_frame(listing, model, place).to_csv(p, index=False),
+    }
+    said = []
+    for name in formats:
+        path = folder / f"heads.{name}"
+        try:
+            write[name](path)
+            said.append(
+                f"written: {path}" + (" (the last step)" if name in ("tif", "vtu") and len(listing.steps) > 1 else "")
+            )
+        except Problem as error:
+            if len(formats) == 1:
+                raise
+            said.append(f"not written: {path}: {error}")
+    return said

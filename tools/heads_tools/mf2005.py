@@ -1,0 +1,224 @@
+"""mf2005: runs `heads` as MODFLOW-2005 is called, for FloPy, ModelMuse and scripts: the name file as the one word,
+head file at the unit of the name file, a list file with the budget, and the words 'Normal termination of simulation'.
+Written from the documented call and files; the heads are the middles of the pairs, which lie beside the head file in
+NAME.heads."""
+from __future__ import annotations
+
+import re
+import sys
+import tempfile
+from dataclasses import dataclass, field
+from pathlib import Path
+
+from .cli import main as run_command
+from .explain import explain
+from .headfile import write_heads
+from .listing import TERMS, Listing, Step, read_listing
+from .model import Model, read_model
+from .plain import plain
+from .program import DEFAULT_DIGITS, Ended, run
+from .spelling import quoted_words
+from .text import Problem, on_disk, read_text, whole_file
+
+SECONDS = {1: 1.0, 2: 60.0, 3: 3600.0, 4: 86400.0, 5: 31557600.0}
+NORMAL = "Normal termination of simulation"
+
+
+@dataclass
+class Output:
+    """What the name file and the output control ask for: the list file, the head file, the steps whose heads are
+    saved."""
+
+    list_file: Path | None = None
+    head_file: Path | None = None
+    saved: set[tuple[int, int]] = field(default_factory=set)
+
+
+def name_file(words: list[str]) -> Path:
+    """The name file of the call: its first word, with or without the ending .nam."""
+    if not words:
+        raise Problem("the name file is the one word: mf2005 m.nam")
+    path = Path(words[0])
+    found = next((p for p in (path, path.with_name(path.name + ".nam")) if p.is_file()), None)
+    if found is None:
+        raise Problem(f"there is no file {path}")
+    return found.resolve()
+
+
+def output_of(nam: Path, model: Model) -> Output:
+    out, units, control = Output(), {}, None
+    for line in read_text(nam).splitlines():
+        w = quoted_words(line)
+        if line.startswith("#") or len(w) < 3:
+            continue
+        units[w[1]] = on_disk(nam.parent, w[2])
+        if w[0].upper() == "LIST":
+            out.list_file = units[w[1]]
+        if w[0].upper() == "OC":
+            control = units[w[1]]
+    if control is not None and control.is_file():
+        unit, out.saved = saved_heads(read_text(control).splitlines(), model)
+        out.head_file = units.get(unit)
+    return out
+
+
+def saved_heads(lines: list[str], model: Model) -> tuple[str, set[tuple[int, int]]]:
+    """The unit of saved heads and the steps that an output control saves, by words or by numbers."""
+    lines = [line for line in lines if not line.startswith("#") and line.strip()]
+    first = quoted_words(lines[0]) if lines else []
+    if first and re.fullmatch(r"[+-]?\d+", first[0]):
+        return saved_by_numbers(lines, model)
+    unit, saved, at = "", set(), None
+    for line in lines:
+        w = [x.upper() for x in quoted_words(line)]
+        if w[:3] == ["HEAD", "SAVE", "UNIT"] and len(w) > 3:
+            unit = w[3]
+        elif w[0] == "PERIOD" and len(w) > 3:
+            at = (int(w[1]), int(w[3]))
+        elif w[:2] == ["SAVE", "HEAD"] and at:
+            saved.add(at)
+    return unit, saved
+
+
+def saved_by_numbers(lines: list[str], model: Model) -> tuple[str, set[tuple[int, int]]]:
+    unit, saved, rows = quoted_words(lines[0])[2], set(), iter(lines[1:])
+    is_saved = False
+    for key in model.times:
+        w = quoted_words(next(rows, "-1 0 0 0"))
+        layers = {0: 1}.get(int(w[0]), 0 if int(w[0]) < 0 else model.shape[0])
+        flags = [quoted_words(next(rows, "0 0 0 0")) for _ in range(layers)]
+        if layers:
+            is_saved = any(int(f[2]) for f in flags if len(f) > 2)
+        if is_saved:
+            saved.add(key)
+    return unit, saved
+
+
+def simulate(nam: Path, options: list[str]) -> tuple[Ended, Path, Model]:
+    """Runs the deck, or the plain one where the program refuses the deck as it stands; how it ended, the listing, the
+    model."""
+    target = nam.with_suffix(".heads")
+    ended = run(nam, options, target, is_told=False)
+    if ended.status != 2:
+        return ended, target, read_model(nam) if ended.status == 0 else None
+    with tempfile.TemporaryDirectory() as folder:
+        try:
+            if plain(nam, Path(folder)).refused:
+                return ended, target, None
+        except Problem:
+            return ended, target, None
+        again = run(Path(folder) / nam.name, options, target, is_told=False)
+        return again, target, read_model(Path(folder) / nam.name) if again.status == 0 else None
+
+
+def mf2005(words: list[str]) -> int:
+    """The call; its status, 0 with the words of a normal end."""
+    nam = name_file([w for w in words if not w.startswith("/")])
+    options = [w for w in words[1:] if not w.startswith("/")]
+    print(f"\n heads as MODFLOW-2005 is called\n Using NAME file: {nam.name}\n", flush=True)
+    ended, target, model = simulate(nam, options)
+    if ended.status != 0 or model is None:
+        print("\n".join(explain(ended.last, nam.parent, DEFAULT_DIGITS, ended.steps > 0).lines))
+        print(" The run didn't end well: no head file was written")
+        return ended.status or 6
+    listing, out = read_listing(target), output_of(nam, model)
+    if out.head_file is not None and out.saved:
+        chosen = Listing(
+            listing.path,
+            listing.digits,
+            listing.unit,
+            [s for s in listing.steps if (s.period, s.step) in out.saved],
+            listing.cells,
+            listing.end,
+        )
+        write_heads(out.head_file, chosen, "middle", model.shape, model.times, is_single=True, no_flow=no_flow(nam))
+    if out.list_file is not None:
+        write_list(out.list_file, nam, listing, model)
+    for step in listing.steps:
+        print(f" Solving:  Stress period: {step.period:5d}    Time step: {step.step:5d}    Ground-Water Flow Eqn.")
+    print(f"\n  {NORMAL}")
+    return 0
+
+
+def main() -> int:
+    """The command heads-mf2005."""
+    return run_command(["mf2005", *sys.argv[1:]])
+
+
+def no_flow(nam: Path) -> float:
+    """HNOFLO of the deck, -999.99 where it can't be told."""
+    from .packages import read_deck
+
+    try:
+        return float(read_deck(nam)[0].options.get("HNOFLO", "-999.99").replace("D", "E").replace("d", "e"))
+    except ValueError:
+        return -999.99
+
+
+def write_list(path: Path, nam: Path, listing: Listing, model: Model) -> None:
+    """A list file with a budget and a time summary for each step, in the form that FloPy's reader of budgets takes."""
+    volumes = {name: [0.0, 0.0] for name in TERMS}
+    with whole_file(path) as file:
+        file.write(
+            "                                  heads\n      BOUNDS OF THE EQUATIONS OF MODFLOW-2005; LISTING"
+            f" {listing.path.name}, NAME FILE {nam.name}\n HEADS AND FLOWS HERE ARE THE MIDDLES OF THE LISTED PAIRS,"
+            " WITHOUT BOUNDS\n\n"
+        )
+        begin = 0.0
+        for step in listing.steps:
+            within, total = model.times[step.period, step.step]
+            rates = rates_of(step, listing)
+            for name, (into, out) in rates.items():
+                volumes[name][0] += into * (total - begin)
+                volumes[name][1] += out * (total - begin)
+            file.write(budget_text(step, {n: v for n, v in volumes.items() if n in rates}, rates))
+            file.write(time_text(step, (total - begin, within, total), SECONDS.get(model.deck.itmuni, 1.0)))
+            begin = total
+        file.write("\n Run end: heads\n")
+
+
+def rates_of(step: Step, listing: Listing) -> dict[str, tuple[float, float]]:
+    """The middles of each term's in and out."""
+    unit = 2 * 10**listing.flow_places
+    return {name: ((t[0] + t[1]) / unit, (t[2] + t[3]) / unit) for name, t in step.terms.items()}
+
+
+def number_text(value: float) -> str:
+    return f"{value:17.4f}" if value == 0 or 0.1 <= abs(value) < 1e11 else f"{value:17.4E}"
+
+
+def budget_text(step: Step, volumes: dict[str, list[float]], rates: dict[str, tuple[float, float]]) -> str:
+    title = f"VOLUMETRIC BUDGET FOR ENTIRE MODEL AT END OF TIME STEP {step.step:4d}, STRESS PERIOD {step.period:4d}"
+    line = lambda name, a, b: f"{name:>20} ={number_text(a)}     {name:>16} ={number_text(b)}\n"
+    out = [
+        f"\n  {title}\n  {'-' * len(title)}\n\n     CUMULATIVE VOLUMES      L**3       RATES FOR THIS TIME STEP     "
+        " L**3/T\n     ------------------                 ------------------------\n"
+    ]
+    totals = []
+    for side, word in ((0, "IN"), (1, "OUT")):
+        out.append(
+            f"\n{word + ':':>14}                                     {word + ':':>4}\n{'---':>14}                      "
+            f"               {'---':>4}\n"
+        )
+        out += [line(name, volumes[name][side], rates[name][side]) for name in rates]
+        totals.append((sum(v[side] for v in volumes.values()), sum(r[side] for r in rates.values())))
+        out.append("\n" + line(f"TOTAL {word}", *totals[-1]))
+    less = tuple(a - b for a, b in zip(*totals))
+    share = tuple(100 * d / ((a + b) / 2) if a + b else 0.0 for d, a, b in zip(less, *totals))
+    percent = f"{'PERCENT DISCREPANCY':>20} ={share[0]:15.2f}     {'PERCENT DISCREPANCY':>16} ={share[1]:15.2f}\n"
+    return "".join(out) + "\n" + line("IN - OUT", *less) + "\n" + percent + "\n"
+
+
+def time_text(step: Step, times: tuple[float, float, float], seconds: float) -> str:
+    names = ("  TIME STEP LENGTH", "STRESS PERIOD TIME", "        TOTAL TIME")
+    parts = (1.0, 60.0, 3600.0, 86400.0, 31557600.0)
+    out = [
+        f"\n         TIME SUMMARY AT END OF TIME STEP {step.step:4d} IN STRESS PERIOD {step.period:4d}\n"
+        "                    SECONDS     MINUTES      HOURS       DAYS        YEARS\n"
+        "                    -----------------------------------------------------------\n"
+    ]
+    out += [
+        f"{name} " + " ".join(f"{time * seconds / part:11.5G}" for part in parts) + "\n"
+        for name, time in zip(names, times)
+    ]
+    return "".join(out) + "\n"

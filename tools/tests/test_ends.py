@@ -1,0 +1,165 @@
+"""`inside` and `plain` end as the program does, `run` says where MODFLOW-2005 reads a deck otherwise, and each sentence
+of `explain` fits its line."""
+import pytest
+import spelled
+from conftest import heads
+from spelled import PLAIN
+
+IBOUND_ROW = "-1 1 1 0 1\n"
+REFUSED = {
+    "ibound with points": ("m.bas", IBOUND_ROW, "-1. 1. 1. 0. 1.\n", "where a whole number is due"),
+    "laytyp with points": ("m.lpf", "0 0\n0 0\n1 1\n", "0. 0.\n0 0\n1 1\n", "LAYTYP is `0.`"),
+    "no conductivity": ("m.lpf", "6 7 8 9 10\n", "6 7 0 9 10\n", "the cell 1 2 3 (layer row column): HK isn't above 0"),
+    "given head twice": ("m.chd", "0 0\n1 0\n2 1 5 20 21\n", "0 0\n2 0\n2 1 5 20 21\n2 1 5 20 21\n", "stands twice"),
+    "comment in an array": (
+        "m.lpf",
+        "6 7 8 9 10\n",
+        "# row 2\n6 7 8 9 10\n",
+        "comments stand only before the first item",
+    ),
+    "repeat without a value": ("m.lpf", "6 7 8 9 10\n", "6 7 8 9 1* \n", "repeats no value"),
+    "format of two fields": (
+        "m.lpf",
+        "INTERNAL 1 (FREE) -1\n",
+        "INTERNAL 1 (2F8.2,3F10.2) -1\n",
+        "the format (2F8.2,3F10.2) isn't of one repeated field",
+    ),
+    "file ends early": ("m.lpf", "CONSTANT 0.4\nCONSTANT 0.00002\n", "CONSTANT 0.4\n", "SS of layer 2 (after HK VKA)"),
+    "as thick as the head": (
+        "m.lpf",
+        "53 -1E+30 0\n0 0\n",
+        "53 -1E+30 0 THICKSTRT\n-1 0\n",
+        "Write LAYTYP 0, and STRT as its top",
+    ),
+}
+TAKEN = {
+    "no parameter": ("m.wel", "1 53\n1 0\n", "PARAMETER 0 0\n1 53\n1 0\n", "PARAMETER 0 dropped"),
+    "ramp of wells": ("m.wel", "1 53\n1 0\n", "1 53\nSPECIFY 0.05 55\n1 0\n", "SPECIFY dropped"),
+    "output of modflow 2000": ("m.nam", "OC 14", "DATAGLO(BINARY) 60 m.cbb\nOC 14", "dropped"),
+}
+
+
+def deck(folder, file, old, new):
+    folder.mkdir(exist_ok=True)
+    for name, text in PLAIN.items():
+        if name == file:
+            assert old in text
+            text = text.replace(old, new, 1)
+        (folder / name).write_text(text)
+    return folder / "m.nam"
+
+
+def end_of(nam):
+    done = heads(["run", nam.name], nam.parent)
+    (nam.parent / "out").write_text(done.stdout)
+    return done
+
+
+@pytest.mark.program
+@pytest.mark.parametrize("name", REFUSED)
+def test_what_the_program_refuses_is_not_inside(name, tmp_path, tool):
+    *change, part = REFUSED[name]
+    nam = deck(tmp_path / "deck", *change)
+    assert end_of(nam).returncode == 2
+    status, out, err = tool("inside", nam)
+    assert status == 1 and out.startswith("NOT INSIDE") and part in out, out + err
+    status, out, err = tool("plain", nam, tmp_path / "plain")
+    assert status in (1, 2) and "nothing but layout" not in out
+    assert (
+        status == 2
+        or end_of(tmp_path / "plain" / "m.nam").returncode == 2
+        and "REFUSED ALL THE SAME" in (tmp_path / "plain" / "plain.txt").read_text()
+    )
+
+
+@pytest.mark.program
+@pytest.mark.parametrize("name", TAKEN)
+def test_what_changes_nothing_is_dropped(name, tmp_path, tool):
+    *change, part = TAKEN[name]
+    nam = deck(tmp_path / "deck", *change)
+    status, out, err = tool("plain", nam, tmp_path / "plain")
+    assert status == 0 and part in out, out + err
+    assert end_of(tmp_path / "plain" / "m.nam").stdout == end_of(deck(tmp_path / "base", "m.nam", "", "")).stdout
+
+
+@pytest.mark.program
+def test_a_blank_line_of_counts_is_written_as_modflow_reads_it(tmp_path, tool):
+    """MODFLOW reads 0 entries for period 1, and the well in period 2; `heads` takes the next line, the well in both."""
+    nam = deck(tmp_path / "deck", "m.wel", "1 53\n1 0\n2 2 3 -50\n-1 0\n", "1 53\n\n1 0\n2 2 3 -50\n-1 0\n")
+    status, out, err = tool("inside", nam)
+    assert status == 0 and out.startswith("INSIDE AFTER") and "written as `0 0`" in out, out
+    status, out, err = tool("run", nam)
+    assert status == 0 and "CAREFUL: m.wel, line 2: a blank line where ITMP of period 1 is due" in err, err
+    assert tool("plain", nam, tmp_path / "plain")[0] == 0
+    wanted = deck(tmp_path / "wanted", "m.wel", "1 53\n1 0\n2 2 3 -50\n-1 0\n", "1 53\n0 0\n1 0\n2 2 3 -50\n")
+    assert end_of(tmp_path / "plain" / "m.nam").stdout == end_of(wanted).stdout != end_of(nam).stdout
+
+
+@pytest.mark.program
+@pytest.mark.parametrize(
+    "change, part",
+    [
+        (("m.chd", "2 1 5 20 21\n", "1 3 4 20 21\n"), "m.chd, line 4: CHD in a cell without flow"),
+        (("m.ghb", "2 4 1 18 5\n", "2 4 1 18,5 5,0\n"), "a decimal comma?"),
+        (("m.lpf", "6 7 8 9 10\n", "6 7,,8 9 10\n"), "a value is left out"),
+        (("m.wel", "1 53\n1 0\n", "0 53\n1 0\n"), "1 entry where the file's maximum is 0"),
+    ],
+)
+def test_a_run_says_where_modflow_reads_otherwise(change, part, tmp_path, tool):
+    nam = deck(tmp_path / "deck", *change)
+    status, out, err = tool("run", nam)
+    assert f"CAREFUL: {change[0]}" in err and part in err, err
+    assert status == heads(["run", nam.name], nam.parent).returncode
+
+
+@pytest.mark.program
+def test_a_plain_deck_runs_without_a_warning(tmp_path, tool):
+    status, out, err = tool("run", spelled.write(tmp_path, "as it is"))
+    assert status == 0 and "CAREFUL" not in err
+
+
+@pytest.mark.program
+@pytest.mark.parametrize(
+    "change, part",
+    [
+        (("m.lpf", "6 7 8 9 10\n", "# row 2\n6 7 8 9 10\n"), "Comments stand only before the first item"),
+        (("m.wel", "1 53\n1 0\n", "1 53\nSPECIFY 0.05 55\n1 0\n"), "acts in convertible layers alone"),
+        (("m.dis", "10 3 1.5 TR", "10 3.0 1.5 TR"), "`3.0` is a count"),
+        (("m.bas", IBOUND_ROW, "-1. 1 1 0 1\n"), "write `-1.` without a point"),
+        (
+            ("m.chd", "0 0\n1 0\n2 1 5 20 21\n", "0 0\n2 0\n2 1 5 20 21\n2 1 5 20 21\n"),
+            "-> A cell stands in a list once",
+        ),
+        (
+            ("m.lpf", "CONSTANT 0.4\nCONSTANT 0.00002\n", "CONSTANT 0.4\n"),
+            "This was due there: SS of layer 2 (after HK VKA)",
+        ),
+        (("m.nam", "WEL 20 m.wel", "WEL 20 my wells.wel"), "goes on after this word"),
+        (("m.nam", "OC 14", "DATAGLO(BINARY) 60 m.cbb\nOC 14"), "only prints or compares"),
+    ],
+)
+def test_explain_fits_the_line(change, part, tmp_path, tool):
+    nam = deck(tmp_path / "deck", *change)
+    end_of(nam)
+    status, out, err = tool("explain", nam.parent / "out")
+    assert status == 2 and part in out, out
+
+
+def test_explain_tells_each_model_of_a_batch(tmp_path, tool):
+    (tmp_path / "out").write_text(
+        "MODEL a.nam\nHEADS 2 DIGITS 12 UNIT 2\nEND\nMODEL b.nam\nREFUSED 1 MissingFile x 0\nEND\n"
+    )
+    status, out, err = tool("explain", tmp_path / "out")
+    assert status == 2 and "a.nam: The run ended well" in out and "b.nam: MissingFile in x" in out, out
+
+
+def test_a_full_disk_gets_a_sentence(tmp_path):
+    import subprocess
+    import sys
+
+    from conftest import TOOLS, TOP
+
+    words = [sys.executable, "-m", "heads_tools", "model", TOP / "examples" / "three_cells" / "a.nam"]
+    with open("/dev/full", "w") as full:
+        done = subprocess.run(words, stdout=full, stderr=subprocess.PIPE, text=True, env={"PYTHONPATH": str(TOOLS)})
+    assert done.returncode == 2 and done.stderr == "heads-tools: standard output: No space left on device\n"

@@ -1,0 +1,229 @@
+"""Listings in other programs' forms, calls in Python, heads at points, and the call of MODFLOW-2005."""
+import csv
+import importlib.util
+import subprocess
+import sys
+import zipfile
+from fractions import Fraction
+
+import numpy as np
+import pytest
+from conftest import TOOLS, TOP
+
+import heads_tools
+from heads_tools import Place, Problem, read_heads, read_listing, read_model
+from heads_tools.exports import outward, place_of
+
+pytestmark = pytest.mark.program
+
+
+def needs(*names):
+    lacking = [n for n in names if importlib.util.find_spec(n) is None]
+    return pytest.mark.skipif(bool(lacking), reason=f"without {' '.join(lacking)}")
+
+
+@pytest.fixture
+def tide(example):
+    nam = example("tide")
+    answer = heads_tools.run(nam)
+    assert answer.is_good and repr(answer) == "<run: status 0, The run ended well (END).>"
+    return nam, read_model(nam), answer.listing
+
+
+@pytest.fixture
+def valley(example):
+    nam = example("river_valley")
+    return nam, read_model(nam), heads_tools.run(nam).listing
+
+
+def test_a_listing_is_shown_in_one_line(tide):
+    assert repr(tide[2]) == "<m.heads: 48 steps of 60 cells, 12 digits, ends with END>"
+    assert repr(tide[2].steps[0]) == "<period 1 step 1: 60 cells>"
+
+
+def test_calls_keep_their_names_beside_the_modules(tide, tmp_path):
+    import heads_tools.inside
+    import heads_tools.plain  # noqa: F401
+
+    assert heads_tools.inside(tide[0]).is_good and heads_tools.plain(tide[0], tmp_path / "plain").is_good
+    answer = heads_tools.certify(tide[0], write_middle(tide, tmp_path), digits=9)
+    assert answer.is_good and answer.listing.is_whole
+    assert heads_tools.compare(tide[2], tmp_path / "m.hds", csv=tmp_path / "off.csv").is_good
+    rows = list(csv.DictReader((tmp_path / "off.csv").open()))
+    assert len(rows) == 48 and all(r["outside"] == "0" and r["given"] == "60" for r in rows)
+    with pytest.raises(Problem, match="doesn't know --nothing"):
+        heads_tools.inside(tide[0], nothing=1)
+    with pytest.raises(Problem):
+        heads_tools.run(tmp_path / "none.nam")
+
+
+def write_middle(deck, tmp_path):
+    heads_tools.write_heads(tmp_path / "m.hds", deck[2], "middle", deck[1].shape, deck[1].times)
+    return tmp_path / "m.hds"
+
+
+@pytest.mark.parametrize("units, places", [(1, 1), (-1, 1), (5, 1), (123456789012345678901, 21), (-7, 9), (0, 9)])
+def test_flows_are_rounded_outward(units, places):
+    assert Fraction(outward(units, places, -1)) <= Fraction(units, 10**places) <= Fraction(outward(units, places, 1))
+
+
+@needs("pandas")
+def test_frames_hold_the_listing(valley):
+    nam, model, listing = valley
+    frame = heads_tools.heads_frame(listing, model, Place(1000, 2000, 90))
+    assert len(frame) == len(listing.cells) and (frame.lower <= frame.upper).all()
+    first = frame.iloc[0]
+    assert (first.x, first.y) == pytest.approx((1000 - model.delc.sum() + model.delc[0] / 2, 2000 + model.delr[0] / 2))
+    terms = heads_tools.terms_frame(listing, model)
+    flows = listing.steps[0].terms["RIVER LEAKAGE"]
+    row = terms.loc[1, 1, "RIVER LEAKAGE"]
+    assert Fraction(row.in_lower) <= Fraction(flows[0], 10**21) and Fraction(flows[3], 10**21) <= Fraction(
+        row.out_upper
+    )
+
+
+@needs("xarray", "netCDF4")
+@pytest.mark.parametrize("angle", [0, 30])
+def test_netcdf_comes_back(angle, tide, tmp_path):
+    import xarray
+
+    nam, model, listing = tide
+    heads_tools.to_netcdf(tmp_path / "m.nc", listing, model, Place(5, 7, angle, 28992))
+    with xarray.open_dataset(tmp_path / "m.nc") as data:
+        assert np.array_equal(data.lower.values, listing.lower(model.shape), equal_nan=True)
+        assert data.attrs["crs"] == "EPSG:28992" and data.lower.shape[0] == 48
+        assert data.x.ndim == (2 if angle else 1)
+
+
+@needs("rasterio")
+def test_geotiff_has_each_head_at_its_place(valley, tmp_path):
+    import rasterio
+
+    nam, model, listing = valley
+    place = Place(100, 200, 30, 28992)
+    heads_tools.to_geotiff(tmp_path / "m.tif", listing, model, place)
+    with rasterio.open(tmp_path / "m.tif") as file:
+        assert file.count == 2 and np.array_equal(file.read(1), listing.lower(model.shape)[-1, 0], equal_nan=True)
+        middle = place.world(np.array(model.delr[0] * 16.5), np.array(model.delc.sum() - model.delc[0] * 7.5))
+        assert list(file.sample([middle]))[0][0] == listing.lower()[-1, 0, 7, 16]
+    model.delr[0] *= 2
+    with pytest.raises(Problem, match="DELR differs"):
+        heads_tools.to_geotiff(tmp_path / "m.tif", listing, model)
+
+
+@needs("meshio")
+def test_vtk_has_a_hexahedron_for_each_cell(valley, tmp_path):
+    import meshio
+
+    nam, model, listing = valley
+    heads_tools.to_vtk(tmp_path / "m.vtu", listing, model, Place(100, 200))
+    mesh = meshio.read(tmp_path / "m.vtu")
+    assert (
+        len(mesh.cells[0].data) == len(listing.cells)
+        and mesh.cell_data["lower"][0][0] == listing.lower()[-1].ravel()[0]
+    )
+    x, y, z = mesh.points.T
+    assert (x.min(), x.max(), y.min()) == (100, 100 + model.delr.sum(), 200) and z.max() == model.top.max()
+
+
+def test_export_says_what_it_could_not_write(valley, tool, tmp_path):
+    nam, model, listing = valley
+    status, out, err = tool("export", listing.path, tmp_path / "out", "--name", nam, "--at", "100,200,15,28992")
+    assert status == 0 and out.count("written: ") == 4
+    assert tool("export", listing.path, tmp_path / "out", "--name", nam, "--at", "here")[0] == 2
+    assert tool("export", listing.path, tmp_path / "out", "--name", nam, "--as", "shp")[0] == 2
+
+
+def test_places_are_read_and_turned():
+    assert place_of("1,2,3,4") == Place(1, 2, 3, 4) and place_of("1,2") == Place(1, 2)
+    turned = Place(10, 20, 37)
+    assert turned.grid(*turned.world(3.0, 4.0)) == pytest.approx((3, 4))
+
+
+def test_points_by_coordinates_have_their_cells_pairs(valley, tool, tmp_path):
+    nam, model, listing = valley
+    x, y = Place(100, 200, 30).world(model.delr[0] * 16.5, model.delc.sum() - model.delc[0] * 7.5)
+    (tmp_path / "points.csv").write_text(f"name,x,y,layer,measured\nwell,{x},{y},1,7.2\n")
+    status, out, err = tool("observe", listing.path, tmp_path / "points.csv", "--name", nam, "--at", "100,200,30")
+    assert status == 0 and out.split("\n")[1].startswith("well,1,8,17,1,7.138119734,7.138119992,7.2,0.0618"), out + err
+    (tmp_path / "points.csv").write_text("name,x,y\nfar,1e9,0\n")
+    status, out, err = tool("observe", listing.path, tmp_path / "points.csv", "--name", nam)
+    assert status == 2 and "lies outside the grid" in err
+
+
+def test_hob_files_are_read(tide, tool, tmp_path):
+    nam, model, listing = tide
+    period = model.deck.periods[0]
+    length = float(period.perlen)
+    (tmp_path / "m.hob").write_text(
+        f"# heads\n3 0 0 0 -888\n1.0\nA 1 1 20 1 {length} 0 0 5.5\nB 1 1 20 -2 0 0 0 0\n1\nB1 1 {length} 0 0\n"
+        + f"B2 1 {length / 2} 1.25 0\n"
+    )
+    status, out, err = tool("observe", listing.path, tmp_path / "m.hob", "--name", nam)
+    rows = list(csv.DictReader(out.splitlines()))
+    assert status == 0 and [r["name"] for r in rows] == ["A", "B1", "B2"], out + err
+    at = max(n for n, s in enumerate(listing.steps) if s.period == 1)
+    assert (
+        rows[0]["lower"] == f"{listing.steps[at].low[listing.at((1, 1, 20))] / 1e9:.9f}"
+        and rows[0]["measured"] == "5.5"
+    )
+
+
+def test_called_as_modflow_it_writes_head_and_list_files(example):
+    nam = example("tide")
+    text = nam.read_text()
+    nam.write_text(text + "LIST 2 m.list\nOC 60 m.oc\nDATA(BINARY) 61 m.hds\n")
+    (nam.parent / "m.oc").write_text("HEAD SAVE UNIT 61\nPERIOD 1 STEP 1\nSAVE HEAD\nPERIOD 1 STEP 2\nPRINT HEAD\n")
+    done = subprocess.run([TOOLS / "mf2005", nam.name], cwd=nam.parent, capture_output=True, text=True)
+    assert done.returncode == 0 and "normal termination" in done.stdout.lower(), done.stdout + done.stderr
+    heads, listing = read_heads(nam.parent / "m.hds"), read_listing(nam.parent / "m.heads")
+    assert list(heads) == [(1, 1)]
+    lower, upper = listing.lower()[0], listing.upper()[0]
+    known = ~np.isnan(lower)
+    assert np.allclose(heads[1, 1][known], ((lower + upper) / 2)[known], rtol=1e-6)
+    said = (nam.parent / "m.list").read_text()
+    assert (
+        said.count("VOLUMETRIC BUDGET FOR ENTIRE MODEL AT END OF TIME STEP") == len(listing.steps)
+        and "PERCENT DISCREPANCY" in said
+    )
+    (nam.parent / "m.oc").write_text("0 0 61 0\n" + "0 0 0 0\n0 0 1 0\n" * len(listing.steps))
+    assert subprocess.run([TOOLS / "mf2005", nam.stem], cwd=nam.parent, capture_output=True).returncode == 0
+    assert len(read_heads(nam.parent / "m.hds")) == len(listing.steps)
+
+
+def test_called_as_modflow_it_reads_other_spellings_and_ends_badly_where_it_must(tmp_path, example):
+    import spelled
+
+    nam = spelled.write(tmp_path / "deck", "modflow 96 columns")
+    done = subprocess.run([TOOLS / "mf2005", nam.name], cwd=nam.parent, capture_output=True, text=True)
+    assert done.returncode == 0 and "normal termination" in done.stdout.lower(), done.stdout + done.stderr
+    nam = example("no_answer")
+    done = subprocess.run([TOOLS / "mf2005", nam.name], cwd=nam.parent, capture_output=True, text=True)
+    assert (
+        done.returncode == 3
+        and "normal termination" not in done.stdout.lower()
+        and "Nothing holds the heads" in done.stdout
+    )
+
+
+def test_the_wheel_carries_the_program(tmp_path):
+    if (
+        subprocess.run([sys.executable, "-c", "import setuptools, wheel"], capture_output=True).returncode
+        or not (TOP / "dist" / "heads").is_file()
+    ):
+        pytest.skip("without setuptools and wheel, or without dist/heads")
+    done = subprocess.run(
+        [TOOLS / "wheel", tmp_path],
+        capture_output=True,
+        text=True,
+        env={"PATH": "/usr/bin:/bin", "PYTHON": sys.executable},
+    )
+    assert done.returncode == 0, done.stderr
+    wheel = next(tmp_path.glob("*.whl"))
+    with zipfile.ZipFile(wheel) as file:
+        assert file.read("heads_tools/bin/heads") == (TOP / "dist" / "heads").read_bytes()
+        assert file.getinfo("heads_tools/bin/heads").external_attr >> 16 & 0o111
+        assert "heads_tools/bin/recheck.py" in file.namelist()
+        assert set(p.name for p in (TOOLS / "heads_tools").iterdir() if p.is_file()) <= {
+            n.split("/")[-1] for n in file.namelist()
+        }

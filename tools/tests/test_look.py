@@ -1,0 +1,72 @@
+"""Pages of a listing: what they show, the flows into zones, and the difference of two listings."""
+import re
+
+import numpy as np
+import pytest
+from conftest import heads
+
+from heads_tools.drawdown import difference
+from heads_tools.listing import Step, read_listing
+from heads_tools.zones import net_flows
+
+
+def listed(nam, *options):
+    path = nam.with_suffix(".heads")
+    path.write_text(heads(["run", nam.name, *options], nam.parent).stdout)
+    return path
+
+
+def page(tool, tmp_path, *words):
+    status, out, err = tool("look", *words)
+    assert status == 0, out + err
+    return (tmp_path / "look" / "index.html").read_text()
+
+
+@pytest.mark.program
+def test_a_page_has_the_models_title_contents_and_a_narrow_form(example, tool, tmp_path):
+    nam = example("tide")
+    text = page(tool, tmp_path, listed(nam), tmp_path / "look", "--name", nam)
+    title = re.search("(?m)^# *(.+)", nam.read_text()).group(1).strip().replace("'", "&#x27;")
+    assert f"<h1>{title}</h1>" in text and '<meta name="viewport"' in text
+    for room in ("Heads", "Cells over time", "Budget", "Files"):
+        place = re.search(rf'<a href="#(\w+)">{room}</a>', text).group(1)
+        assert f'<h2 id="{place}">{room}</h2>' in text
+    assert (tmp_path / "look" / "hydrographs.png").is_file() and (tmp_path / "look" / "terms.png").is_file()
+
+
+@pytest.mark.program
+def test_layers_are_in_one_figure_and_folded_one_by_one(example, tool, tmp_path):
+    nam = example("three_aquifers")
+    text = page(tool, tmp_path, listed(nam), tmp_path / "look", "--name", nam, "--svg")
+    assert "layers_p1_s1.png" in text and text.count("<details><summary>Layer") == 2
+    for picture in re.findall(r'src="([^"]+)"', text):
+        assert (tmp_path / "look" / picture).with_suffix(".svg").is_file()
+
+
+@pytest.mark.program
+def test_zones_are_drawn_with_their_net_flows(example, tool, tmp_path):
+    nam = example("river_valley")
+    listing = listed(nam, "--zones", "m.zon")
+    text = page(tool, tmp_path, listing, tmp_path / "look", "--name", nam, "--zones", nam.parent / "m.zon")
+    assert "zones_layer1.png" in text and "net flow into it" in text
+    status, out, err = tool("look", listing, tmp_path / "other", "--zones", nam.parent / "m.zon")
+    assert status == 2 and "--name" in err
+
+
+@pytest.mark.program
+def test_the_difference_of_two_listings_has_bounds(example, tool, tmp_path):
+    nam = example("river_valley")
+    with_wells = read_listing(listed(nam))
+    wel = nam.parent / "m.wel"
+    plan = nam.with_suffix(".heads").rename(tmp_path / "plan.heads")
+    wel.write_text(re.sub(r"(?m)-\d+(\.\d*)?$", "0", wel.read_text()))
+    base = listed(nam)
+    text = page(tool, tmp_path, plan, tmp_path / "look", "--minus", base)
+    assert "the plan lowers the head at layer 1 row" in text and "minus_layer1.png" in text
+    change, = difference(with_wells, read_listing(base))
+    assert (change.low <= change.high).all() and (change.high < 0).any()
+
+
+def test_net_flows_of_zones_are_sums_of_their_bounds():
+    step = Step(1, 1, np.zeros(0), np.zeros(0), zones=[(1, 2, 5, 7), (1, 3, -2, -1), (2, 3, 0, 4)])
+    assert net_flows(step) == {1: (-6, -3), 2: (1, 7), 3: (-2, 3)}

@@ -1,0 +1,66 @@
+"""Pages and tables are called certified only where `heads check` said so."""
+import re
+
+import pytest
+from conftest import heads
+
+
+@pytest.fixture
+def listed(example):
+    """The listing of three_cells as the program wrote it, or changed; in a folder whose name has a blank."""
+
+    def write(change=lambda text: text):
+        nam = example("three_cells")
+        path = nam.parent / "a folder" / "m.heads"
+        path.parent.mkdir()
+        path.write_text(change(heads(["run", nam.name], nam.parent).stdout))
+        return nam, path
+
+    return write
+
+
+def page_of(folder):
+    return (folder / "index.html").read_text()
+
+
+@pytest.mark.program
+def test_a_certified_listing_is_called_so(listed, tool, tmp_path):
+    nam, path = listed()
+    status, out, err = tool("look", path, tmp_path / "look", "--name", nam)
+    assert status == 0 and "heads check: CERTIFIED" in out, err
+    assert "Certified heads of m.heads" in page_of(tmp_path / "look")
+
+
+@pytest.mark.program
+def test_without_the_model_nothing_is_called_certified(listed, tool, tmp_path):
+    status, out, err = tool("look", listed()[1], tmp_path / "look")
+    page = page_of(tmp_path / "look")
+    assert status == 0 and "Heads listed in m.heads (not checked)" in page and "Not checked" in out
+    assert "Certified heads of" not in page and "heads check: CERTIFIED" not in page
+
+
+@pytest.mark.program
+@pytest.mark.parametrize("change, status, last", [
+    (lambda text: text.replace("15.000000000 15.000000000", "115.000000000 115.000000000"), 8, "NOT CERTIFIED 1 1 1 1 2 LOW"),
+    (lambda text: text.replace("END\n", ""), 2, "BadListing")])
+def test_a_spoilt_listing_is_not_called_certified(change, status, last, listed, tool, tmp_path):
+    nam, path = listed(change)
+    got, out, err = tool("look", path, tmp_path / "look", "--name", nam)
+    page = page_of(tmp_path / "look")
+    assert got == status and last in out and "NOT CERTIFIED" in page, out + err
+    assert "Certified heads of" not in page and "certified when this page was made" not in page
+    (tmp_path / "given.csv").write_text("layer,row,col,head\n1,1,2,15\n")
+    got, out, err = tool("compare", path, tmp_path / "given.csv", "--name", nam)
+    assert got == status and "no certified bounds" in out
+
+
+@pytest.mark.program
+def test_zone_flows_are_not_called_checked(example, tool, tmp_path):
+    nam = example("river_valley")
+    listing = nam.parent / "m.heads"
+    listing.write_text(heads(["run", nam.name, "--zones", "m.zon"], nam.parent).stdout)
+    assert re.search("^ZONE 1 2 ", listing.read_text(), re.M)
+    (tmp_path / "given.csv").write_text("layer,row,col,head\n1,1,2,15\n")
+    status, out, err = tool("compare", listing, tmp_path / "given.csv", "--name", nam)
+    assert status == 0 and "CERTIFIED" in out and "flows between zones weren't checked" in out
+    assert "where heads are given" in out.strip().split("\n")[-1]
