@@ -10,7 +10,6 @@ pub enum Question<'a> {
     Share(u32, u32),
     Example(u64, u64),
     Steps(&'a str, u32),
-    Check(&'a str, &'a str, u32),
     Make(u32, u32),
     Words(&'a str),
 }
@@ -23,12 +22,6 @@ fn zones(rest: &str) -> Option<Question<'_>> {
 fn steps(rest: &str) -> Option<Question<'_>> {
     let (name, digits) = rest.split_once(' ')?;
     Some(Question::Steps(name, digits.parse::<u32>().ok()?))
-}
-
-fn check(rest: &str) -> Option<Question<'_>> {
-    let (name, more) = rest.split_once(' ')?;
-    let (listing, digits) = more.split_once(' ')?;
-    Some(Question::Check(name, listing, digits.parse::<u32>().ok()?))
 }
 
 fn make(rest: &str) -> Option<Question<'_>> {
@@ -58,7 +51,6 @@ impl<'a> Question<'a> {
             "@share" => share(rest),
             "@example" => example(rest),
             "@steps" => steps(rest),
-            "@check" => check(rest),
             "@make" => make(rest),
             "@words" => Some(Question::Words(rest)),
             _ => None,

@@ -5,7 +5,6 @@ pub enum Command<'a> {
     Deck,
     PutFault(u64, u64),
     SideFault(u64, u64),
-    Keep(&'a str),
     Ask(Question<'a>),
 }
 
@@ -13,7 +12,6 @@ pub enum Command<'a> {
 #[derive(Clone, Copy)]
 pub enum Question<'a> {
     Run(&'a str),
-    Ends(&'a str),
     Watch(u32, &'a str),
     Await(&'a str, &'a str),
     Lack(u64, &'a str),
@@ -56,7 +54,6 @@ impl<'a> Question<'a> {
     fn of(word: &str, rest: &'a str) -> Option<Question<'a>> {
         match word {
             "@run" => Some(Question::Run(rest)),
-            "@ends" => Some(Question::Ends(rest)),
             "@watch" => watch(rest),
             "@await" => awaiting(rest),
             "@lack" => lack(rest),
@@ -81,7 +78,6 @@ impl<'a> Command<'a> {
                 let (call, kept) = put_fault(rest)?;
                 Some(Command::SideFault(call, kept))
             }
-            "@keep" => Some(Command::Keep(rest)),
             _ => Some(Command::Ask(Question::of(word, rest)?)),
         }
     }
