@@ -2,8 +2,8 @@
 //! model, made models, and what words ask for.
 //!
 //! `@deck -` begins a deck without files. A line `@file NAME` begins a file, whose lines follow it, and replaces an
-//! earlier file of that name; `@repeat N LINE` is N such lines. `@read_fault N` makes the folder's read of this number
-//! fail. A line `@ ..` says what is shown, and is printed, as each question is.
+//! earlier file of that name. `@read_fault N` makes the folder's read of this number fail. A line `@ ..` says what is
+//! shown, and is printed, as each question is.
 //!
 //! `@read NAME` reads the model of a name file, and prints its lists. `@write NAME` writes that model, and prints its files,
 //! which are the deck's from now on. `@zones NAME FILE` reads the zones of its cells.

@@ -1,9 +1,9 @@
 //! Reads decks from standard input, and runs the program's commands over their files.
 //!
 //! `@deck -` begins a deck without files. A line `@file NAME` begins a file, whose lines follow it, and replaces an
-//! earlier file of that name; `@repeat N LINE` is N such lines. `@read_fault N` makes the folder's read of this number
-//! fail, and `@put_fault N KEPT` a put of the next run, which keeps KEPT bytes; `@side_fault N KEPT` a put to its side.
-//! A line `@ ..` says what is shown, and is printed, as each question is.
+//! earlier file of that name. `@read_fault N` makes the folder's read of this number fail, and `@put_fault N KEPT` a put of
+//! the next run, which keeps KEPT bytes; `@side_fault N KEPT` a put to its side. A line `@ ..` says what is shown, and is
+//! printed, as each question is.
 //!
 //! `@run WORDS` runs the program with these words, and prints its status and all that it put. `@meet WORDS` runs with a gate
 //! at which two workers wait for each other, and `@shake_hands N WORDS` with a gate and a sink that wait for each other,
