@@ -1,7 +1,7 @@
 """The lines that make the files of a folder, as the stored runs and the programs of tests have them.
 
-`@deck -` begins a folder without files. `@file NAME` begins a file, whose lines follow it, and replaces an earlier one of
-that name; `@repeat N LINE` is N such lines. Any other line that begins with `@` ends the file.
+`@deck -` begins a folder without files. `@file NAME` begins a file, whose lines follow it, and replaces an earlier one
+of that name; `@repeat N LINE` is N such lines. Any other line that begins with `@` ends the file.
 """
 
 
