@@ -105,16 +105,16 @@ pub fn print_zones(
     }
 }
 
-fn whole(digits: u64) -> Dec {
+fn whole(number: u32) -> Dec {
     Dec {
         neg: false,
-        digits,
+        digits: u64::from(number),
         exp: 0,
     }
 }
 
 /// Prints the model of the builder's example.
-pub fn print_example(rt: &impl Print, alloc: Global, hk: u64, rate: u64) -> io::Result<()> {
+pub fn print_example(rt: &impl Print, alloc: Global, hk: u32, rate: u32) -> io::Result<()> {
     let model = example(alloc, whole(hk), whole(rate))?;
     print_lists(rt, &model)
 }

@@ -14,9 +14,9 @@ pub enum Question<'a> {
     Run(&'a str),
     Watch(u32, &'a str),
     Await(&'a str, &'a str),
-    Lack(u64, &'a str),
+    Lack(u32, &'a str),
     Meet(&'a str),
-    ShakeHands(u64, &'a str),
+    ShakeHands(u32, &'a str),
 }
 
 fn put_fault(rest: &str) -> Option<(u64, u64)> {
@@ -24,9 +24,15 @@ fn put_fault(rest: &str) -> Option<(u64, u64)> {
     Some((call.parse::<u64>().ok()?, kept.parse::<u64>().ok()?))
 }
 
+// A number, and words.
+fn number_and_words(rest: &str) -> Option<(u32, &str)> {
+    let (number, words) = rest.split_once(' ')?;
+    Some((number.parse::<u32>().ok()?, words))
+}
+
 fn watch(rest: &str) -> Option<Question<'_>> {
-    let (views, words) = rest.split_once(' ')?;
-    Some(Question::Watch(views.parse::<u32>().ok()?, words))
+    let (views, words) = number_and_words(rest)?;
+    Some(Question::Watch(views, words))
 }
 
 fn awaiting(rest: &str) -> Option<Question<'_>> {
@@ -34,19 +40,13 @@ fn awaiting(rest: &str) -> Option<Question<'_>> {
     Some(Question::Await(head, words))
 }
 
-// The number of a put, and words.
-fn put_and_words(rest: &str) -> Option<(u64, &str)> {
-    let (put, words) = rest.split_once(' ')?;
-    Some((put.parse::<u64>().ok()?, words))
-}
-
 fn lack(rest: &str) -> Option<Question<'_>> {
-    let (put, words) = put_and_words(rest)?;
+    let (put, words) = number_and_words(rest)?;
     Some(Question::Lack(put, words))
 }
 
 fn shake_hands(rest: &str) -> Option<Question<'_>> {
-    let (put, words) = put_and_words(rest)?;
+    let (put, words) = number_and_words(rest)?;
     Some(Question::ShakeHands(put, words))
 }
 

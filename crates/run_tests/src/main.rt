@@ -50,9 +50,15 @@ fn ask<R: Print + Threads + Wait + Sync>(
         Question::Run(words) => print_run(rt, alloc, bench, words),
         Question::Watch(views, words) => print_watch(rt, alloc, bench, views, words),
         Question::Await(head, words) => print_awaiting(rt, alloc, folder, head, words),
-        Question::Lack(put, words) => print_lacking(rt, alloc, bench, put, words),
+        Question::Lack(put, words) => print_lacking(rt, alloc, bench, u64::from(put), words),
         Question::Meet(words) => print_meeting(rt, alloc, folder, words),
-        Question::ShakeHands(lacking, words) => print_handshake(rt, alloc, folder, lacking, words),
+        Question::ShakeHands(put, words) => print_handshake(
+            rt,
+            alloc,
+            folder,
+            u64::from(put),
+            words,
+        ),
     }
 }
 
