@@ -1,23 +1,21 @@
 //! Reads decks from standard input, and answers questions about them: models and zones, written decks, the steps of a
-//! model, checks of listings, made models, and what words ask for.
+//! model, made models, and what words ask for.
 //!
 //! `@deck -` begins a deck without files. A line `@file NAME` begins a file, whose lines follow it, and replaces an
-//! earlier file of that name; `@repeat N LINE` is N such lines. `@read_fault N` makes the folder's read of this number
-//! fail. A line `@ ..` says what is shown, and is printed, as each question is.
+//! earlier file of that name. `@read_fault N` makes the folder's read of this number fail. A line `@ ..` says what is
+//! shown, and is printed, as each question is.
 //!
-//! `@read NAME` reads the model of a name file, and prints its lists, or why it is refused. `@write NAME` writes that model,
-//! and prints its files, which are the deck's from now on. `@zones NAME FILE` reads the zones of its cells.
+//! `@read NAME` reads the model of a name file, and prints its lists. `@write NAME` writes that model, and prints its files,
+//! which are the deck's from now on. `@zones NAME FILE` reads the zones of its cells.
 //! `@periods NAME` prints its time steps, and for each stress period the kinds of its cells, by the
 //! heads given so far and by reading the CHD lists for each cell. `@share ENTRIES PERIODS` shares a list of ENTRIES entries
 //! PERIODS times, and prints the sum of the lengths. `@example HK RATE` prints the lists of the builder's example, whose
 //! well has this rate. `@steps NAME DIGITS` prints the steps of a model one after the other, each from the heads of the one
-//! before it: the sites, the problem, and the heads that settle it. `@check NAME LISTING DIGITS` checks a listing
-//! of it, and prints the last line. `@make SEED SIZE` prints the files of a made model.
+//! before it: the sites, the problem, and the heads that settle it. `@make SEED SIZE` prints the files of a made model.
 //!
 //! `@words WORD|WORD|..` prints what the words of a command line ask for; without a word after it there are none.
 #![tactic(auto)]
 
-mod checks;
 mod kinds;
 mod lists;
 mod made;
@@ -27,11 +25,9 @@ mod questions;
 mod shared;
 mod steps;
 mod stresses;
-mod verdicts;
 mod words;
 mod written;
 
-use checks::print_check;
 use kinds::print_periods;
 use made::print_made;
 use models::{print_example, print_model, print_zones};
@@ -55,9 +51,6 @@ fn ask(rt: &impl Print, alloc: Global, deck: &mut Deck, question: Question<'_>) 
         Question::Share(entries, periods) => print_shared(rt, alloc, entries, periods),
         Question::Example(hk, rate) => print_example(rt, alloc, hk, rate),
         Question::Steps(name, digits) => print_steps(rt, alloc, folder, name, digits),
-        Question::Check(name, listing, digits) => print_check(
-            rt, alloc, folder, name, listing, digits,
-        ),
         Question::Make(seed, size) => print_made(rt, alloc, seed, size),
         Question::Words(line) => print_order(rt, alloc, line),
     }

@@ -1,4 +1,4 @@
-// The result of a reader: the model's lists, one in a line, or why it is refused.
+// The result of a reader: the model's lists, one in a line.
 ghost use Rattle.std.specs.Prelude.{IfOk};
 ghost use Rattle.model_types.specs.Valid.{IsModel};
 
@@ -7,7 +7,7 @@ use crate::stresses::print_stresses;
 use decimal_input::dec::Dec;
 use model_reader::read_named_model;
 use model_types::FlowModel;
-use outside::{InputFault, MemFolder, Refusal, good_name};
+use outside::{InputFault, MemFolder, good_name};
 use problem_builder::example::example;
 use std::alloc::Global;
 use std::io;
@@ -35,19 +35,6 @@ fn zones_of(
 ) -> Result<Vec<i64>, InputFault> {
     let model = read_model(alloc, folder, name)?;
     read_zones(alloc, &model, zones, folder)
-}
-
-fn print_refusal(rt: &impl Print, refusal: &Refusal) -> io::Result<()> {
-    let code = refusal.code.word();
-    let file = refusal.file.as_str();
-    let line = refusal.line;
-    print!(rt; "{code} {file} {line}")?;
-    if let Some(place) = refusal.at {
-        for number in place {
-            print!(rt; " {number}")?;
-        }
-    }
-    println!(rt; "")
 }
 
 fn print_properties(rt: &impl Print, model: &FlowModel) -> io::Result<()> {
@@ -83,12 +70,11 @@ fn print_lists(rt: &impl Print, model: &FlowModel) -> io::Result<()> {
     print_option(rt, "NEVTOP", model.nevtop)
 }
 
-/// Prints why there is no model.
+/// Prints that a read failed, or that there is no model by another cause.
 pub fn print_fault(rt: &impl Print, fault: &InputFault) -> io::Result<()> {
     match fault {
-        InputFault::Refused(refusal) => print_refusal(rt, refusal),
         InputFault::ReadFault => println!(rt; "ReadFault"),
-        InputFault::Memory => println!(rt; "Memory"),
+        _ => println!(rt; "no model"),
     }
 }
 
@@ -119,16 +105,16 @@ pub fn print_zones(
     }
 }
 
-fn whole(digits: u64) -> Dec {
+fn whole(number: u32) -> Dec {
     Dec {
         neg: false,
-        digits,
+        digits: u64::from(number),
         exp: 0,
     }
 }
 
 /// Prints the model of the builder's example.
-pub fn print_example(rt: &impl Print, alloc: Global, hk: u64, rate: u64) -> io::Result<()> {
+pub fn print_example(rt: &impl Print, alloc: Global, hk: u32, rate: u32) -> io::Result<()> {
     let model = example(alloc, whole(hk), whole(rate))?;
     print_lists(rt, &model)
 }

@@ -8,9 +8,8 @@ pub enum Question<'a> {
     Zones(&'a str, &'a str),
     Periods(&'a str),
     Share(u32, u32),
-    Example(u64, u64),
+    Example(u32, u32),
     Steps(&'a str, u32),
-    Check(&'a str, &'a str, u32),
     Make(u32, u32),
     Words(&'a str),
 }
@@ -25,25 +24,25 @@ fn steps(rest: &str) -> Option<Question<'_>> {
     Some(Question::Steps(name, digits.parse::<u32>().ok()?))
 }
 
-fn check(rest: &str) -> Option<Question<'_>> {
-    let (name, more) = rest.split_once(' ')?;
-    let (listing, digits) = more.split_once(' ')?;
-    Some(Question::Check(name, listing, digits.parse::<u32>().ok()?))
+// Two numbers.
+fn numbers(rest: &str) -> Option<(u32, u32)> {
+    let (first, second) = rest.split_once(' ')?;
+    Some((first.parse::<u32>().ok()?, second.parse::<u32>().ok()?))
 }
 
 fn make(rest: &str) -> Option<Question<'_>> {
-    let (seed, size) = rest.split_once(' ')?;
-    Some(Question::Make(seed.parse::<u32>().ok()?, size.parse::<u32>().ok()?))
+    let (seed, size) = numbers(rest)?;
+    Some(Question::Make(seed, size))
 }
 
 fn share(rest: &str) -> Option<Question<'_>> {
-    let (entries, periods) = rest.split_once(' ')?;
-    Some(Question::Share(entries.parse::<u32>().ok()?, periods.parse::<u32>().ok()?))
+    let (entries, periods) = numbers(rest)?;
+    Some(Question::Share(entries, periods))
 }
 
 fn example(rest: &str) -> Option<Question<'_>> {
-    let (hk, rate) = rest.split_once(' ')?;
-    Some(Question::Example(hk.parse::<u64>().ok()?, rate.parse::<u64>().ok()?))
+    let (hk, rate) = numbers(rest)?;
+    Some(Question::Example(hk, rate))
 }
 
 impl<'a> Question<'a> {
@@ -58,7 +57,6 @@ impl<'a> Question<'a> {
             "@share" => share(rest),
             "@example" => example(rest),
             "@steps" => steps(rest),
-            "@check" => check(rest),
             "@make" => make(rest),
             "@words" => Some(Question::Words(rest)),
             _ => None,

@@ -7,7 +7,7 @@ ghost use Rattle.problem_builder.specs.GridHeads.{AreGridHeads};
 use crate::models::read_model;
 use crate::problem::print_cell;
 use model_types::{FlowModel, Listed, TimeStep, times};
-use outside::{InputFault, MemFolder};
+use outside::MemFolder;
 use problem_builder::{BuildFault, PeriodTables, Site, Tables, build, sites_with, start_heads};
 use settle_driver::PlainSettler;
 use std::alloc::Global;
@@ -133,10 +133,6 @@ pub fn print_steps(
 ) -> io::Result<()> {
     match read_model(alloc, folder, name) {
         Ok(model) => print_all(rt, alloc, &model, digits.min(18)),
-        Err(InputFault::Refused(refusal)) => {
-            let code = refusal.code.word();
-            println!(rt; "{code}")
-        }
         Err(_) => println!(rt; "no model"),
     }
 }

@@ -48,11 +48,6 @@ impl Bench {
         }
     }
 
-    /// Makes a file of what the last run put.
-    pub fn keep(&mut self, name: &str) -> Result<(), AllocError> {
-        self.deck.folder.add(name, self.put.as_slice())
-    }
-
     /// Runs the words over the files as the program does, and returns the number that it ends with.
     pub fn run<R: Threads + Wait + Sync>(
         &mut self,

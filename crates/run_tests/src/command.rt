@@ -5,7 +5,6 @@ pub enum Command<'a> {
     Deck,
     PutFault(u64, u64),
     SideFault(u64, u64),
-    Keep(&'a str),
     Ask(Question<'a>),
 }
 
@@ -13,12 +12,11 @@ pub enum Command<'a> {
 #[derive(Clone, Copy)]
 pub enum Question<'a> {
     Run(&'a str),
-    Ends(&'a str),
     Watch(u32, &'a str),
     Await(&'a str, &'a str),
-    Lack(u64, &'a str),
+    Lack(u32, &'a str),
     Meet(&'a str),
-    ShakeHands(u64, &'a str),
+    ShakeHands(u32, &'a str),
 }
 
 fn put_fault(rest: &str) -> Option<(u64, u64)> {
@@ -26,9 +24,15 @@ fn put_fault(rest: &str) -> Option<(u64, u64)> {
     Some((call.parse::<u64>().ok()?, kept.parse::<u64>().ok()?))
 }
 
+// A number, and words.
+fn number_and_words(rest: &str) -> Option<(u32, &str)> {
+    let (number, words) = rest.split_once(' ')?;
+    Some((number.parse::<u32>().ok()?, words))
+}
+
 fn watch(rest: &str) -> Option<Question<'_>> {
-    let (views, words) = rest.split_once(' ')?;
-    Some(Question::Watch(views.parse::<u32>().ok()?, words))
+    let (views, words) = number_and_words(rest)?;
+    Some(Question::Watch(views, words))
 }
 
 fn awaiting(rest: &str) -> Option<Question<'_>> {
@@ -36,19 +40,13 @@ fn awaiting(rest: &str) -> Option<Question<'_>> {
     Some(Question::Await(head, words))
 }
 
-// The number of a put, and words.
-fn put_and_words(rest: &str) -> Option<(u64, &str)> {
-    let (put, words) = rest.split_once(' ')?;
-    Some((put.parse::<u64>().ok()?, words))
-}
-
 fn lack(rest: &str) -> Option<Question<'_>> {
-    let (put, words) = put_and_words(rest)?;
+    let (put, words) = number_and_words(rest)?;
     Some(Question::Lack(put, words))
 }
 
 fn shake_hands(rest: &str) -> Option<Question<'_>> {
-    let (put, words) = put_and_words(rest)?;
+    let (put, words) = number_and_words(rest)?;
     Some(Question::ShakeHands(put, words))
 }
 
@@ -56,7 +54,6 @@ impl<'a> Question<'a> {
     fn of(word: &str, rest: &'a str) -> Option<Question<'a>> {
         match word {
             "@run" => Some(Question::Run(rest)),
-            "@ends" => Some(Question::Ends(rest)),
             "@watch" => watch(rest),
             "@await" => awaiting(rest),
             "@lack" => lack(rest),
@@ -81,7 +78,6 @@ impl<'a> Command<'a> {
                 let (call, kept) = put_fault(rest)?;
                 Some(Command::SideFault(call, kept))
             }
-            "@keep" => Some(Command::Keep(rest)),
             _ => Some(Command::Ask(Question::of(word, rest)?)),
         }
     }

@@ -1,14 +1,13 @@
 //! Reads decks from standard input, and runs the program's commands over their files.
 //!
 //! `@deck -` begins a deck without files. A line `@file NAME` begins a file, whose lines follow it, and replaces an
-//! earlier file of that name; `@repeat N LINE` is N such lines. `@read_fault N` makes the folder's read of this number
-//! fail, and `@put_fault N KEPT` a put of the next run, which keeps KEPT bytes; `@side_fault N KEPT` a put to its side.
-//! `@keep NAME` makes a file of what the last run put. A line `@ ..` says what is shown, and is printed, as each question
-//! is.
+//! earlier file of that name. `@read_fault N` makes the folder's read of this number fail, and `@put_fault N KEPT` a put of
+//! the next run, which keeps KEPT bytes; `@side_fault N KEPT` a put to its side. A line `@ ..` says what is shown, and is
+//! printed, as each question is.
 //!
-//! `@run WORDS` runs the program with these words, and prints its status and all that it put; `@ends WORDS` prints its
-//! first and its last line. `@meet WORDS` runs with a gate at which two workers wait for each other, and
-//! `@shake_hands N WORDS` with a gate and a sink that wait for each other, whose put of number N lacks memory (0: none).
+//! `@run WORDS` runs the program with these words, and prints its status and all that it put. `@meet WORDS` runs with a gate
+//! at which two workers wait for each other, and `@shake_hands N WORDS` with a gate and a sink that wait for each other,
+//! whose put of number N lacks memory (0: none).
 //!
 //! `@watch N WORDS` prints what `@run` does, but of the side, for each step, by how many its views exceed a multiple of N,
 //! how many heads each has, how many of these are wider than in the view before, and how many are not around the listed
@@ -30,7 +29,7 @@ mod watching;
 use awaiting::print_awaiting;
 use bench::Bench;
 use command::{Command, Question};
-use runs::{print_ends, print_run};
+use runs::print_run;
 use std::alloc::Global;
 use std::io;
 use std::sync::Wait;
@@ -49,12 +48,17 @@ fn ask<R: Print + Threads + Wait + Sync>(
     let folder = &mut bench.deck.folder;
     match question {
         Question::Run(words) => print_run(rt, alloc, bench, words),
-        Question::Ends(words) => print_ends(rt, alloc, bench, words),
         Question::Watch(views, words) => print_watch(rt, alloc, bench, views, words),
         Question::Await(head, words) => print_awaiting(rt, alloc, folder, head, words),
-        Question::Lack(put, words) => print_lacking(rt, alloc, bench, put, words),
+        Question::Lack(put, words) => print_lacking(rt, alloc, bench, u64::from(put), words),
         Question::Meet(words) => print_meeting(rt, alloc, folder, words),
-        Question::ShakeHands(lacking, words) => print_handshake(rt, alloc, folder, lacking, words),
+        Question::ShakeHands(put, words) => print_handshake(
+            rt,
+            alloc,
+            folder,
+            u64::from(put),
+            words,
+        ),
     }
 }
 
@@ -72,7 +76,6 @@ fn step<R: Print + Threads + Wait + Sync>(
         }
         Some(Command::PutFault(call, kept)) => Ok(bench.out.fail_at(call, kept)?),
         Some(Command::SideFault(call, kept)) => Ok(bench.side.fail_at(call, kept)?),
-        Some(Command::Keep(name)) => Ok(bench.keep(name)?),
         Some(Command::Ask(question)) => {
             println!(rt; "{line}")?;
             ask(rt, alloc, bench, question)

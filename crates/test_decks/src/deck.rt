@@ -33,14 +33,6 @@ impl Deck {
         self.text.push_str("\n")
     }
 
-    /// Adds this line `count` times.
-    pub fn push_lines(&mut self, count: u32, line: &str) -> Result<(), AllocError> {
-        for _ in 0..count {
-            self.push_line(line)?;
-        }
-        Ok(())
-    }
-
     /// Ends the file, and begins one of this name, which replaces an earlier one.
     pub fn begin_file(&mut self, alloc: Global, name: &str) -> Result<(), AllocError>
         ensures begun { OnOk result (string_bytes self.new.name ≡ name.now) }

@@ -9,13 +9,7 @@ enum DeckLine<'a> {
     Title,
     Deck,
     File(&'a str),
-    Repeat(u32, &'a str),
     ReadFault(u64),
-}
-
-fn repeat(rest: &str) -> Option<DeckLine<'_>> {
-    let (count, line) = rest.split_once(' ')?;
-    Some(DeckLine::Repeat(count.parse::<u32>().ok()?, line))
 }
 
 impl<'a> DeckLine<'a> {
@@ -26,7 +20,6 @@ impl<'a> DeckLine<'a> {
             "@" => Some(DeckLine::Title),
             "@deck" => Some(DeckLine::Deck),
             "@file" => Some(DeckLine::File(rest)),
-            "@repeat" => repeat(rest),
             "@read_fault" => Some(DeckLine::ReadFault(rest.parse::<u64>().ok()?)),
             _ => None,
         }
@@ -34,8 +27,8 @@ impl<'a> DeckLine<'a> {
 }
 
 /// Takes a line of a deck. `@deck -` begins a deck without files. A line `@file NAME` begins a file, whose lines follow
-/// it, and replaces an earlier file of that name; `@repeat N LINE` is N such lines. `@read_fault N` makes the folder's
-/// read of this number fail. A line `@ ..` is printed.
+/// it, and replaces an earlier file of that name. `@read_fault N` makes the folder's read of this number fail. A line
+/// `@ ..` is printed.
 pub fn take_line(rt: &impl Print, alloc: Global, deck: &mut Deck, line: &str) -> io::Result<()> {
     match DeckLine::of(line) {
         None => Ok(deck.push_line(line)?),
@@ -45,7 +38,6 @@ pub fn take_line(rt: &impl Print, alloc: Global, deck: &mut Deck, line: &str) ->
             Ok(())
         }
         Some(DeckLine::File(name)) => Ok(deck.begin_file(alloc, name)?),
-        Some(DeckLine::Repeat(count, line)) => Ok(deck.push_lines(count, line)?),
         Some(DeckLine::ReadFault(call)) => Ok(deck.folder.fail_at(call)?),
     }
 }
