@@ -67,8 +67,9 @@ Period = NamedTuple("Period", [("length", Fraction), ("steps", int), ("multiplie
 # RCH or EVT in a period: its arrays by row, and the layer of each cell where the option asks for it.
 Areal = NamedTuple("Areal", [("option", int), ("arrays", List[Heads]), ("layers", Optional[Heads])])
 # A step of a listing: heads by cell, the pairs of the terms (IN, then OUT), and those of pairs of zones.
-Listed = NamedTuple("Listed", [("lower", Heads), ("upper", Heads), ("terms", List[List[Pair]]),
-                               ("zones", Dict[Tuple[int, int], Pair])])
+Listed = NamedTuple(
+    "Listed", [("lower", Heads), ("upper", Heads), ("terms", List[List[Pair]]), ("zones", Dict[Tuple[int, int], Pair])]
+)
 
 
 class Fault(Exception):
@@ -210,7 +211,7 @@ class Model:
                 periods.append(periods[-1] if periods else [])
                 continue
             lines = [text.line() for _ in range(count)]
-            periods.append([(self.number_of(line), [number(word) for word in line[3:3 + width]]) for line in lines])
+            periods.append([(self.number_of(line), [number(word) for word in line[3 : 3 + width]]) for line in lines])
         return periods
 
     def read_areal(self, text: Text, count: int) -> list[Areal]:
@@ -579,7 +580,7 @@ def check_listing(model: Model, listing: Listing, zones: list[int]) -> None:
                 raise Fault(f"period {period + 1} step {number_of_step} {fault}") from None
             low, high = listed.lower, listed.upper
     listing.take("END")
-    if listing.lines[listing.at:] not in ([""], []):
+    if listing.lines[listing.at :] not in ([""], []):
         raise Fault(f"line {listing.at + 1} of the listing: something stands after END")
 
 

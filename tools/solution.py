@@ -65,7 +65,7 @@ def solve_linear(rows: dict[int, Row], right: Row) -> Row:
         pivot = a[c].get(c, 0)
         if pivot <= 0:
             raise Fault("the equations have no single solution in these ranges")
-        for b in order[k + 1:]:
+        for b in order[k + 1 :]:
             factor = a[b].pop(c, 0)
             columns = a[b].keys() | (a[c].keys() - {c} if factor else set())
             a[b] = {d: (pivot * a[b].get(d, 0) - factor * a[c].get(d, 0)) // last for d in columns}
@@ -119,12 +119,16 @@ def find(model: Model, listing: Listing, most: int) -> int:
             for cell in [*step.cells, *step.constant]:
                 low, high = listed.lower[cell], listed.upper[cell]
                 if not low <= heads[cell] <= high:
-                    print(f"OUTSIDE: period {period + 1} step {number}, {model.place(cell)}: {float(heads[cell])} "
-                          f"isn't between {float(low)} and {float(high)}")
+                    print(
+                        f"OUTSIDE: period {period + 1} step {number}, {model.place(cell)}: {float(heads[cell])} "
+                        f"isn't between {float(low)} and {float(high)}"
+                    )
                     return OUTSIDE
             old, longest, count = heads, max(longest, digits_of(heads)), count + 1
-    print(f"FOUND: the solution of {count} step{'s' * (count != 1)} lies between the listed heads; "
-          f"digits of its longest denominator: {longest}")
+    print(
+        f"FOUND: the solution of {count} step{'s' * (count != 1)} lies between the listed heads; "
+        f"digits of its longest denominator: {longest}"
+    )
     return FOUND
 
 

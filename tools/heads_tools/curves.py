@@ -18,7 +18,8 @@ WIDE, TALL = 7.4, 3.0
 @dataclass
 class Cut:
     """A section along a row or a column: edges of its cells in the plan's axis; heads, tops and bottoms of shape (layers, cells);
-    `marks`: kind, layer from 1, cell along the cut from 0, and elevations (stage, bottom, drain) of the entries that it meets."""
+    `marks`: kind, layer from 1, cell along the cut from 0, and elevations (stage, bottom, drain) of the entries that it meets.
+    """
 
     title: str
     edges: np.ndarray
@@ -45,20 +46,35 @@ def head_section(album: Album, name: str, plan: Plan, cut: Cut) -> None:
         plain(axes)
         x, head, top, bottom = cut.middles, cut.lower[0], cut.top[0], cut.bottom[0]
         low, high = limits(cut)
-        ground = axes.fill_between(x, bottom, top, color="0.92", step="mid", label=f"aquifer, {np.min(bottom):.4g} to {np.max(top):.4g} {plan.unit}")
-        line, = axes.plot(x, head, color="C0", lw=1.6, label="head")
+        ground = axes.fill_between(
+            x,
+            bottom,
+            top,
+            color="0.92",
+            step="mid",
+            label=f"aquifer, {np.min(bottom):.4g} to {np.max(top):.4g} {plan.unit}",
+        )
+        (line,) = axes.plot(x, head, color="C0", lw=1.6, label="head")
         handles: list = [line, ground]
         for kind in MARKS:
             spots = [(x[at], level) for k, _, at, levels in cut.marks if k == kind for level in levels[:1]]
             if kind == "WEL":
                 spots = [(x[at], head[at]) for k, _, at, _ in cut.marks if k == kind]
             if spots:
-                axes.plot(*zip(*spots), MARKS[kind][0], color=MARKS[kind][1], ms=5, mec="white", mew=0.4, ls="", zorder=4)
+                axes.plot(
+                    *zip(*spots), MARKS[kind][0], color=MARKS[kind][1], ms=5, mec="white", mew=0.4, ls="", zorder=4
+                )
                 handles.append(mark(kind))
         beds = [(x[at], levels[1]) for k, _, at, levels in cut.marks if k == "RIV" and len(levels) > 1]
         if beds:
             handles += axes.plot(*zip(*beds), "_", color=MARKS["RIV"][1], ms=8, mew=1.5, label="river bottom")
-        axes.set(xlim=(cut.edges.min(), cut.edges.max()), ylim=(low, high), ylabel=f"elevation, {plan.unit}", xlabel=f"distance, {plan.axis}", title=cut.title)
+        axes.set(
+            xlim=(cut.edges.min(), cut.edges.max()),
+            ylim=(low, high),
+            ylabel=f"elevation, {plan.unit}",
+            xlabel=f"distance, {plan.axis}",
+            title=cut.title,
+        )
         legend_below(axes, handles, 0.55, 6)
 
 
@@ -77,27 +93,50 @@ def cell_section(album: Album, name: str, plan: Plan, cut: Cut, norm: Normalize)
     """A section of many layers: cells between their tops and bottoms in the colour of their head, with contours."""
     with album.figure(name, WIDE + 1.9, TALL + 1.35) as figure:
         axes = box(figure, 0.85, 0.95, WIDE, TALL)
-        corner = lambda k, j: [(cut.edges[j], cut.bottom[k, j]), (cut.edges[j + 1], cut.bottom[k, j]),
-                               (cut.edges[j + 1], cut.top[k, j]), (cut.edges[j], cut.top[k, j])]
+        corner = lambda k, j: [
+            (cut.edges[j], cut.bottom[k, j]),
+            (cut.edges[j + 1], cut.bottom[k, j]),
+            (cut.edges[j + 1], cut.top[k, j]),
+            (cut.edges[j], cut.top[k, j]),
+        ]
         shapes = [corner(k, j) for k, j in np.ndindex(cut.lower.shape)]
-        cells = PolyCollection(shapes, array=np.ma.masked_invalid(cut.lower.ravel()), cmap=HEADS_MAP, norm=norm,
-                               edgecolors="0.6", linewidths=0.2 if cut.lower.shape[1] <= 40 else 0)
+        cells = PolyCollection(
+            shapes,
+            array=np.ma.masked_invalid(cut.lower.ravel()),
+            cmap=HEADS_MAP,
+            norm=norm,
+            edgecolors="0.6",
+            linewidths=0.2 if cut.lower.shape[1] <= 40 else 0,
+        )
         cells.cmap.set_bad(NO_FLOW)
         cells.set_rasterized(len(shapes) > 3000)
         axes.add_collection(cells)
         lines_of_head(axes, cut)
         handles = []
         for kind in MARKS:
-            spots = [(cut.middles[at], (cut.top[k - 1, at] + cut.bottom[k - 1, at]) / 2) for q, k, at, _ in cut.marks if q == kind]
+            spots = [
+                (cut.middles[at], (cut.top[k - 1, at] + cut.bottom[k - 1, at]) / 2)
+                for q, k, at, _ in cut.marks
+                if q == kind
+            ]
             if spots:
-                axes.plot(*zip(*spots), MARKS[kind][0], color=MARKS[kind][1], ms=5, mec="white", mew=0.4, ls="", zorder=4)
+                axes.plot(
+                    *zip(*spots), MARKS[kind][0], color=MARKS[kind][1], ms=5, mec="white", mew=0.4, ls="", zorder=4
+                )
                 handles.append(mark(kind))
         if np.isnan(cut.lower).any():
             handles.append(patch(NO_FLOW, "no flow"))
-        axes.set(xlim=(cut.edges.min(), cut.edges.max()), ylim=(float(np.min(cut.bottom)), float(np.max(cut.top))),
-                 ylabel=f"elevation, {plan.unit}", xlabel=f"distance, {plan.axis}", title=cut.title)
+        axes.set(
+            xlim=(cut.edges.min(), cut.edges.max()),
+            ylim=(float(np.min(cut.bottom)), float(np.max(cut.top))),
+            ylabel=f"elevation, {plan.unit}",
+            xlabel=f"distance, {plan.axis}",
+            title=cut.title,
+        )
         legend_below(axes, handles, 0.55, 6)
-        figure.colorbar(cells, cax=box(figure, 0.85 + WIDE + 0.12, 0.95, 0.13, TALL)).set_label(f"lower head, {plan.unit}")
+        figure.colorbar(cells, cax=box(figure, 0.85 + WIDE + 0.12, 0.95, 0.13, TALL)).set_label(
+            f"lower head, {plan.unit}"
+        )
 
 
 def lines_of_head(axes: Axes, cut: Cut) -> None:
@@ -107,12 +146,22 @@ def lines_of_head(axes: Axes, cut: Cut) -> None:
         return
     levels = [v for v in MaxNLocator(9).tick_values(here.min(), here.max()) if here.min() < v < here.max()]
     along = np.broadcast_to(cut.middles, cut.lower.shape)
-    lines = axes.contour(along, (cut.top + cut.bottom) / 2, np.ma.masked_invalid(cut.lower), levels=levels, colors="k", linewidths=0.5)
+    lines = axes.contour(
+        along, (cut.top + cut.bottom) / 2, np.ma.masked_invalid(cut.lower), levels=levels, colors="k", linewidths=0.5
+    )
     for label in axes.clabel(lines, fontsize=7, fmt="%g", zorder=5):
         label.set_path_effects(HALO)
 
 
-def bands(album: Album, name: str, x: np.ndarray, curves: list[tuple[str, np.ndarray, np.ndarray]], xlabel: str, ylabel: str, title: str) -> None:
+def bands(
+    album: Album,
+    name: str,
+    x: np.ndarray,
+    curves: list[tuple[str, np.ndarray, np.ndarray]],
+    xlabel: str,
+    ylabel: str,
+    title: str,
+) -> None:
     """Bands between lower and upper values over time or distance."""
     columns = max(1, min(len(curves), 96 // (8 + max(len(name) for name, *_ in curves))))
     rows = -(-len(curves) // columns)
@@ -128,7 +177,9 @@ def bands(album: Album, name: str, x: np.ndarray, curves: list[tuple[str, np.nda
         legend_below(axes, handles, 0.55, columns)
 
 
-def budget_bars(album: Album, name: str, rows: list[tuple[str, float, float, float, float]], unit: str, title: str) -> None:
+def budget_bars(
+    album: Album, name: str, rows: list[tuple[str, float, float, float, float]], unit: str, title: str
+) -> None:
     """Bars of what comes in and goes out by term: the lower flows solid, up to the upper ones pale."""
     tall = 0.34 * len(rows)
     with album.figure(name, WIDE + 0.4, tall + 1.0) as figure:

@@ -24,10 +24,14 @@ from .spelling import quoted_words
 from .text import Problem, decimal_text, on_disk, read_text, whole_file, words
 from .verdict import Verdict, has_zones, program_file
 
-EACH_HEAD = ("Each exact solution of this model's finite-difference equations has, at the end of each listed time step and at each listed cell, "
-             "a head between the two listed numbers, and budget flows between the two listed numbers of each term.")
-ONE_HEAD = ("For example: each exact solution of this model's equations has, in layer {}, row {}, column {}, at the end of period {}, step {}, "
-            "a head between {} and {} {}.")
+EACH_HEAD = (
+    "Each exact solution of this model's finite-difference equations has, at the end of each listed time step and at each listed cell, "
+    "a head between the two listed numbers, and budget flows between the two listed numbers of each term."
+)
+ONE_HEAD = (
+    "For example: each exact solution of this model's equations has, in layer {}, row {}, column {}, at the end of period {}, step {}, "
+    "a head between {} and {} {}."
+)
 ZONE_FLOWS = "Each flow between two zones lies between its two listed numbers, too (this rests on the run and on recheck.py; `heads check` reads no zones)."
 NOT_THE_GROUND = "The head in the aquifer lies between these numbers."
 WHY_NOT = "The listing speaks of the equations of these files. It says nothing of the ground, nor of the heads that MODFLOW prints."
@@ -60,9 +64,13 @@ class Exhibit:
         frame = Template(Path(__file__).with_name("judge.html").read_text(encoding="utf-8"))
         quote = lambda line, kind: f'<blockquote class="{kind}">{escape(line)}</blockquote>'
         return frame.substitute(
-            title=escape(self.title), verdict=escape(self.verdict), may="\n".join(quote(line, "may") for line in self.may or [NOTHING]),
-            may_not=quote(NOT_THE_GROUND, "not") + f"\n<p>{escape(WHY_NOT)}</p>", commands=escape("\n".join(self.commands)),
-            facts="".join(f"<dt>{escape(name)}</dt><dd>{escape(text)}</dd>" for name, text in self.facts))
+            title=escape(self.title),
+            verdict=escape(self.verdict),
+            may="\n".join(quote(line, "may") for line in self.may or [NOTHING]),
+            may_not=quote(NOT_THE_GROUND, "not") + f"\n<p>{escape(WHY_NOT)}</p>",
+            commands=escape("\n".join(self.commands)),
+            facts="".join(f"<dt>{escape(name)}</dt><dd>{escape(text)}</dd>" for name, text in self.facts),
+        )
 
 
 def exhibit(nam: Path, folder: Path, options: list[str]) -> int:
@@ -88,7 +96,10 @@ def exhibit(nam: Path, folder: Path, options: list[str]) -> int:
     except BaseException:
         shutil.rmtree(made, ignore_errors=True)
         raise
-    print(told.text() + f"\nwritten: {folder}. Note the sha256 of its SHA256SUMS elsewhere: {sha256(folder / 'SHA256SUMS')}")
+    print(
+        told.text()
+        + f"\nwritten: {folder}. Note the sha256 of its SHA256SUMS elsewhere: {sha256(folder / 'SHA256SUMS')}"
+    )
     return status
 
 
@@ -122,13 +133,20 @@ def add_verdicts(told: Exhibit, folder: Path, name: str, listing: str, options: 
     told.commands.append(f"(cd deck && ../heads check {shlex.join([name, '../' + plain])} --digits {read.digits})")
     checked = shell(folder, told.commands[-1])
     told.facts.append(("check", f"{checked.last} (status {checked.status})"))
-    add_recheck(told, folder, shlex.join([name, "../" + listing, *zone_file(options)]), sum(len(step.low) for step in read.steps))
+    add_recheck(
+        told,
+        folder,
+        shlex.join([name, "../" + listing, *zone_file(options)]),
+        sum(len(step.low) for step in read.steps),
+    )
     verdict = Verdict(checked.status, checked.last, listing, has_zones(read))
     told.verdict = verdict.sentence
     if verdict.is_certified and known.is_recorded is not False:
         told.may = what_may_be_said(read, model)
         if known.is_recorded is None:
-            told.verdict += " No record of this program's bytes stands beside it: whether it is the proved one has to be shown."
+            told.verdict += (
+                " No record of this program's bytes stands beside it: whether it is the proved one has to be shown."
+            )
     look(read, folder / "look", model, verdict=verdict)
     return checked.status
 
@@ -172,7 +190,9 @@ def is_part(path: Path) -> bool:
 
 
 def zone_file(options: list[str]) -> list[str]:
-    return [options[n + 1] for n, word in enumerate(options[:-1]) if word == "--zones"] + [w[8:] for w in options if w.startswith("--zones=")]
+    return [options[n + 1] for n, word in enumerate(options[:-1]) if word == "--zones"] + [
+        w[8:] for w in options if w.startswith("--zones=")
+    ]
 
 
 def deck_files(nam: Path) -> list[str]:
@@ -185,7 +205,11 @@ def deck_files(nam: Path) -> list[str]:
     for name in list(out[1:]):
         path = on_disk(nam.parent, name)
         lines = read_text(path).split("\n") if path.is_file() else []
-        out += [quoted_words(line)[1] for line in lines if line.strip().upper().startswith("OPEN/CLOSE") and len(quoted_words(line)) > 1]
+        out += [
+            quoted_words(line)[1]
+            for line in lines
+            if line.strip().upper().startswith("OPEN/CLOSE") and len(quoted_words(line)) > 1
+        ]
     return sorted(set(out))
 
 
@@ -214,8 +238,14 @@ def copy_program(binary: Path, folder: Path) -> None:
 
 def program_facts(known: Version) -> list[tuple[str, str]]:
     facts = [("program", line.strip()) for line in known.lines]
-    return facts + commit_facts() + [("tools", f"heads-tools {__version__}, Python {sys.version.split()[0]} (not proved)"),
-                                     ("made", time.strftime("%Y-%m-%d %H:%M:%S UTC by this machine's clock", time.gmtime()))]
+    return (
+        facts
+        + commit_facts()
+        + [
+            ("tools", f"heads-tools {__version__}, Python {sys.version.split()[0]} (not proved)"),
+            ("made", time.strftime("%Y-%m-%d %H:%M:%S UTC by this machine's clock", time.gmtime())),
+        ]
+    )
 
 
 def commit_facts() -> list[tuple[str, str]]:

@@ -20,7 +20,7 @@ from .progress import bar
 from .tables import budget_of, write_tables
 from .text import LENGTHS, Problem, decimal_text, down, read_text, signed_down, signed_up, up
 from .verdict import Verdict, not_checked, program_name
-from .zones import net_flows, zone_map
+from .zones import ZoneMap, net_flows, zone_map
 
 MOST_STEPS = 400
 MOST_PANELS = 40
@@ -38,7 +38,14 @@ def title_of(nam: Path) -> str:
 class Look:
     """The pictures of one listing, in one folder. `jobs`: what is still to be drawn, in order of the page."""
 
-    def __init__(self, listing: Listing, folder: Path, model: Model | None = None, verdict: Verdict | None = None, has_svg: bool = False):
+    def __init__(
+        self,
+        listing: Listing,
+        folder: Path,
+        model: Model | None = None,
+        verdict: Verdict | None = None,
+        has_svg: bool = False,
+    ):
         if not listing.steps:
             raise Problem(f"{listing.path} has no whole step: it ends with {listing.end or 'a part of a step'}")
         if not len(listing.cells):
@@ -46,14 +53,21 @@ class Look:
         self.listing, self.folder, self.model = listing, folder, model
         self.shape = model.shape if model else listing.shape
         if any(a > b for a, b in zip(listing.shape, self.shape)):
-            raise Problem(f"{listing.path} has cells up to {listing.shape}, and the model's grid is {self.shape}: another model")
+            raise Problem(
+                f"{listing.path} has cells up to {listing.shape}, and the model's grid is {self.shape}: another model"
+            )
         self.unit = model.length if model else LENGTHS.get(listing.unit, "length units")
         self.time = model.time if model else "time unit"
         self.elements = elements(model) if model else {}
         self.plan = self.make_plan()
         self.verdict = verdict or not_checked(listing)
         said = f"{self.verdict.title}. {self.verdict.sentence}" if model else self.verdict.sentence
-        self.page = Page(title_of(model.deck.path) if model else self.verdict.title, note=self.verdict.note, verdict=said, has_svg=has_svg)
+        self.page = Page(
+            title_of(model.deck.path) if model else self.verdict.title,
+            note=self.verdict.note,
+            verdict=said,
+            has_svg=has_svg,
+        )
         self.page.is_good = True if self.verdict.is_certified else None if self.verdict.status is None else False
         self.page.rooms = {room: [] for room in ROOMS}
         self.album = Album(folder, has_svg)
@@ -88,7 +102,9 @@ class Look:
     def scales(self, steps: list[Step]):
         """One scale of heads and one of widths for all layers and steps of the page."""
         low = head_scale(np.array([v for s in steps for v in (s.low.min(), s.low.max())]) / 1e9)
-        widths = np.concatenate([[w[w > 0].min(initial=np.iinfo(np.int64).max), w.max()] for w in (s.width() for s in steps)])
+        widths = np.concatenate(
+            [[w[w > 0].min(initial=np.iinfo(np.int64).max), w.max()] for w in (s.width() for s in steps)]
+        )
         return low, width_scale(widths[widths < np.iinfo(np.int64).max] / 1e9)
 
     def add_steps(self, steps: list[Step]) -> None:
@@ -104,13 +120,19 @@ class Look:
         here = sorted({int(k) for k in self.listing.cells[:, 0]})
         first = self.place[0] if self.place[0] in here else here[0]
         order = sorted(here, key=lambda k: k != first)
-        self.jobs += [partial(self.draw_layer, step, k, scales, step is not steps[-1] or k != first) for step in reversed(steps) for k in order]
+        self.jobs += [
+            partial(self.draw_layer, step, k, scales, step is not steps[-1] or k != first)
+            for step in reversed(steps)
+            for k in order
+        ]
 
     def draw_layer(self, step: Step, layer: int, scales, is_folded: bool) -> None:
         lower, width = (self.grid(v)[layer - 1] for v in (step.low, step.width()))
         name = f"map_layer{layer}_p{step.period}_s{step.step}"
         title = f"Layer {layer}, {self.when(step)}"
-        maps.head_map(self.album, name, self.plan, lower, width, layer, title, scales, self.place[1:] if self.model else None)
+        maps.head_map(
+            self.album, name, self.plan, lower, width, layer, title, scales, self.place[1:] if self.model else None
+        )
         widest = up(int(round(float(np.nanmax(width)) * 1e9)), 9, 9)
         caption = f"{title}: lower heads. The upper ones differ by at most {widest} {self.unit} in this layer: less than any colour shows"
         self.page.picture(LAYERS, f"{name}.png", caption, title if is_folded else "")
@@ -119,26 +141,45 @@ class Look:
         lower, width = self.grid(step.low), self.grid(step.width())
         panels = [k for k in range(self.shape[0]) if np.isfinite(lower[k]).any()]
         name = f"layers_p{step.period}_s{step.step}"
-        maps.small_maps(self.album, name, self.plan, [(f"layer {k + 1}", lower[k]) for k in panels], f"lower head, {self.unit}", maps.HEADS_MAP, scales[0])
+        maps.small_maps(
+            self.album,
+            name,
+            self.plan,
+            [(f"layer {k + 1}", lower[k]) for k in panels],
+            f"lower head, {self.unit}",
+            maps.HEADS_MAP,
+            scales[0],
+        )
         self.page.picture(LAYERS, f"{name}.png", f"All layers, {self.when(step)}: lower heads, in one scale")
-        maps.small_maps(self.album, f"{name}_widths", self.plan, [(f"layer {k + 1}", np.where(width[k] > 0, width[k], np.nan)) for k in panels],
-                        f"upper less lower, {self.unit}", maps.WIDTH_MAP, scales[1])
-        self.page.picture(LAYERS, f"{name}_widths.png", "All layers: widths of the pairs", "Widths of the pairs, all layers")
+        maps.small_maps(
+            self.album,
+            f"{name}_widths",
+            self.plan,
+            [(f"layer {k + 1}", np.where(width[k] > 0, width[k], np.nan)) for k in panels],
+            f"upper less lower, {self.unit}",
+            maps.WIDTH_MAP,
+            scales[1],
+        )
+        self.page.picture(
+            LAYERS, f"{name}_widths.png", "All layers: widths of the pairs", "Widths of the pairs, all layers"
+        )
 
     def draw_films(self, steps: list[Step], scales) -> None:
         """The layer of the place that moves most, step after step."""
         layer = self.place[0]
-        shown = steps[::-(-len(steps) // MOST_PANELS)]
+        shown = steps[:: -(-len(steps) // MOST_PANELS)]
         panels = [(f"{s.period}, {s.step}", self.grid(s.low)[layer - 1]) for s in shown]
         maps.small_maps(self.album, "steps", self.plan, panels, f"lower head, {self.unit}", maps.HEADS_MAP, scales[0])
-        self.page.picture(LAYERS, "steps.png", f"Layer {layer}, period and step above each map: lower heads, in one scale")
+        self.page.picture(
+            LAYERS, "steps.png", f"Layer {layer}, period and step above each map: lower heads, in one scale"
+        )
 
     def draw_profile(self, step: Step) -> None:
         """A model of one row or column: heads along it, layer by layer."""
         lower, upper = self.grid(step.low), self.grid(step.high)
         along = self.plan.middles[0] if self.shape[1] == 1 else self.plan.middles[1]
         layers = [k for k in range(self.shape[0]) if np.isfinite(lower[k]).any()]
-        chosen = layers[::max(1, len(layers) // 8)]
+        chosen = layers[:: max(1, len(layers) // 8)]
         lines = [(f"layer {k + 1}", lower[k].ravel(), upper[k].ravel()) for k in chosen]
         name, title = f"profile_p{step.period}_s{step.step}", f"Heads along the model, {self.when(step)}"
         curves.bands(self.album, name, along, lines, f"distance, {self.plan.axis}", f"head, {self.unit}", title)
@@ -162,16 +203,38 @@ class Look:
         if self.model is None:
             return
         if ncol > 1 and (nlay > 1 or nrow > 1):
-            self.jobs.append(partial(self.draw_section, step, f"section_row{row}", f"Section along row {row}, from west to east", np.s_[:, row - 1], 1, row))
+            self.jobs.append(
+                partial(
+                    self.draw_section,
+                    step,
+                    f"section_row{row}",
+                    f"Section along row {row}, from west to east",
+                    np.s_[:, row - 1],
+                    1,
+                    row,
+                )
+            )
         if nrow > 1 and (nlay > 1 or ncol > 1):
             title = f"Section along column {col}, from south to north"
-            self.jobs.append(partial(self.draw_section, step, f"section_column{col}", title, np.s_[:, :, col - 1], 2, col))
+            self.jobs.append(
+                partial(self.draw_section, step, f"section_column{col}", title, np.s_[:, :, col - 1], 2, col)
+            )
 
     def draw_section(self, step: Step, name: str, title: str, where: tuple, axis: int, number: int) -> None:
         other = 3 - axis
-        met = [(kind, cell[0], cell[other] - 1, levels) for kind, found in self.elements.items() for cell, levels in found if cell[axis] == number]
+        met = [
+            (kind, cell[0], cell[other] - 1, levels)
+            for kind, found in self.elements.items()
+            for cell, levels in found
+            if cell[axis] == number
+        ]
         edges = self.plan.x if axis == 1 else self.plan.y
-        cut = curves.Cut(f"{title}; {self.when(step)}", edges, *(v[where] for v in (self.grid(step.low), self.plan.top, self.plan.bottom)), met)
+        cut = curves.Cut(
+            f"{title}; {self.when(step)}",
+            edges,
+            *(v[where] for v in (self.grid(step.low), self.plan.top, self.plan.bottom)),
+            met,
+        )
         if self.shape[0] == 1:
             curves.head_section(self.album, name, self.plan, cut)
         else:
@@ -205,7 +268,10 @@ class Look:
         steps = self.listing.steps
         if cells:
             last = steps[-1]
-            rows = [[" ".join(map(str, c)), *(decimal_text(v[self.listing.at(c)], 9) for v in (last.low, last.high))] for c in cells]
+            rows = [
+                [" ".join(map(str, c)), *(decimal_text(v[self.listing.at(c)], 9) for v in (last.low, last.high))]
+                for c in cells
+            ]
             self.page.table(HYDROGRAPHS, ["layer row column, last step", "lower", "upper"], rows)
         if len(steps) > 1:
             self.jobs.append(partial(self.draw_hydrographs, cells or self.curve_cells()))
@@ -215,10 +281,22 @@ class Look:
         lines = []
         for cell in cells:
             at = self.listing.at(cell)
-            name = "layer {} row {} column {}".format(*cell) + (" (well)" if any(cell == c for c, _ in self.elements.get("WEL", [])) else "")
-            lines.append((name, *(np.array([v[at] for v in values]) / 1e9 for values in zip(*((s.low, s.high) for s in self.listing.steps)))))
+            name = "layer {} row {} column {}".format(*cell) + (
+                " (well)" if any(cell == c for c, _ in self.elements.get("WEL", [])) else ""
+            )
+            lines.append(
+                (
+                    name,
+                    *(
+                        np.array([v[at] for v in values]) / 1e9
+                        for values in zip(*((s.low, s.high) for s in self.listing.steps))
+                    ),
+                )
+            )
         curves.bands(self.album, "hydrographs", x, lines, label, f"head, {self.unit}", "Hydrographs")
-        self.page.picture(HYDROGRAPHS, "hydrographs.png", f"Bands between lower and upper heads. {self.widest_of(self.listing.steps)}")
+        self.page.picture(
+            HYDROGRAPHS, "hydrographs.png", f"Bands between lower and upper heads. {self.widest_of(self.listing.steps)}"
+        )
 
     # Budget and zones.
 
@@ -231,22 +309,47 @@ class Look:
         budget = budget_of(step)
         drawn = [(r[0], *(v / 10**places for v in r[1:])) for r in budget.rows if any(r[1:])]
         if drawn:
-            self.jobs.append(partial(curves.budget_bars, self.album, "budget", drawn, self.rate, f"Budget, {self.when(step)}"))
-            self.page.picture(BUDGET, "budget.png", f"Terms of {self.when(step)}: solid up to the lower flow, pale up to the upper one")
-        rows = [[r[0], down(r[1], places), up(r[2], places), down(r[3], places), up(r[4], places)] for r in budget.rows if any(r[1:]) or r[0] == "TOTAL"]
-        self.page.text(BUDGET, f"Rates in {self.rate}, {self.when(step)}; lower numbers are rounded down, upper ones up.")
+            self.jobs.append(
+                partial(curves.budget_bars, self.album, "budget", drawn, self.rate, f"Budget, {self.when(step)}")
+            )
+            self.page.picture(
+                BUDGET,
+                "budget.png",
+                f"Terms of {self.when(step)}: solid up to the lower flow, pale up to the upper one",
+            )
+        rows = [
+            [r[0], down(r[1], places), up(r[2], places), down(r[3], places), up(r[4], places)]
+            for r in budget.rows
+            if any(r[1:]) or r[0] == "TOTAL"
+        ]
+        self.page.text(
+            BUDGET, f"Rates in {self.rate}, {self.when(step)}; lower numbers are rounded down, upper ones up."
+        )
         self.page.table(BUDGET, ["term", "in, lower", "upper", "out, lower", "upper"], rows)
-        nets = [[n[0], down(n[1], places), up(n[2], places), down(n[3], places), up(n[4], places)] for n in budget.nets if any(n[1:])]
+        nets = [
+            [n[0], down(n[1], places), up(n[2], places), down(n[3], places), up(n[4], places)]
+            for n in budget.nets
+            if any(n[1:])
+        ]
         if nets:
-            self.page.table(BUDGET, ["term", "net, lower", "upper", "narrowed, lower", "upper"], nets,
-                            "Net flows (in less out), and narrowed: exact net flows sum to 0 (net_terms_lie_in_the_others)")
+            self.page.table(
+                BUDGET,
+                ["term", "net, lower", "upper", "narrowed, lower", "upper"],
+                nets,
+                "Net flows (in less out), and narrowed: exact net flows sum to 0 (net_terms_lie_in_the_others)",
+            )
         if budget.is_empty:
-            self.page.say(f"No exact solution has such a budget: {self.when(step)} has a term whose bounds and those of the other terms "
-                          "share no number. No listing that `heads run` wrote or `heads check` certified is like this.")
+            self.page.say(
+                f"No exact solution has such a budget: {self.when(step)} has a term whose bounds and those of the other terms "
+                "share no number. No listing that `heads run` wrote or `heads check` certified is like this."
+            )
         if budget.discrepancy:
             low, high = signed_down(budget.discrepancy[0]), signed_up(budget.discrepancy[1])
-            self.page.text(BUDGET, "The percent discrepancy of the budget is 0 in each exact solution. "
-                           f"That of these bounds lies from {low} to {high}: it says how wide they are, not how wrong.")
+            self.page.text(
+                BUDGET,
+                "The percent discrepancy of the budget is 0 in each exact solution. "
+                f"That of these bounds lies from {low} to {high}: it says how wide they are, not how wrong.",
+            )
         if len(self.listing.steps) > 1:
             self.jobs.append(self.draw_terms)
 
@@ -255,11 +358,18 @@ class Look:
         x, label = self.times()
         nets = [{n[0]: n[1:3] for n in budget_of(s).nets} for s in self.listing.steps]
         unit = 10.0**-self.listing.flow_places
-        lines = [(name.lower(), *(np.array([float(n.get(name, (0, 0))[side]) * unit for n in nets]) for side in (0, 1)))
-                 for name in nets[-1] if any(any(n.get(name, ())) for n in nets)]
+        lines = [
+            (name.lower(), *(np.array([float(n.get(name, (0, 0))[side]) * unit for n in nets]) for side in (0, 1)))
+            for name in nets[-1]
+            if any(any(n.get(name, ())) for n in nets)
+        ]
         if lines:
-            curves.bands(self.album, "terms", x, lines, label, f"in less out, {self.rate}", "Terms of the budget over time")
-            self.page.picture(BUDGET, "terms.png", "Net flow of each term: above 0 it brings water, below 0 it takes water")
+            curves.bands(
+                self.album, "terms", x, lines, label, f"in less out, {self.rate}", "Terms of the budget over time"
+            )
+            self.page.picture(
+                BUDGET, "terms.png", "Net flow of each term: above 0 it brings water, below 0 it takes water"
+            )
 
     def add_zones(self, zones: np.ndarray | None) -> None:
         step, places = self.listing.steps[-1], self.listing.flow_places
@@ -272,10 +382,26 @@ class Look:
                 active = np.isfinite(self.listing.grid(step.low * 1.0, self.shape)[k])
                 if (zones[k][active] > 0).any():
                     name, title = f"zones_layer{k + 1}", f"Zones of layer {k + 1}, {self.when(step)}"
-                    self.jobs.append(partial(zone_map, self.album, name, self.plan, zones[k], active, step, places, title, self.rate))
-                    self.page.picture(ZONES, f"{name}.png", f"{title}, with the net flow into each zone from all other zones", title if k else "")
+                    self.jobs.append(
+                        partial(
+                            zone_map,
+                            self.album,
+                            name,
+                            self.plan,
+                            ZoneMap(k + 1, zones[k], active, step, places, self.rate, title),
+                        )
+                    )
+                    self.page.picture(
+                        ZONES,
+                        f"{name}.png",
+                        f"{title}, with the net flow into each zone from all other zones",
+                        title if k else "",
+                    )
         nets = [[str(z), down(low, places), up(high, places)] for z, (low, high) in sorted(net_flows(step).items())]
-        self.page.text(ZONES, f"Flows in {self.rate}, {self.when(step)}. A flow below 0 goes the other way. All steps stand in zones.csv.")
+        self.page.text(
+            ZONES,
+            f"Flows in {self.rate}, {self.when(step)}. A flow below 0 goes the other way. All steps stand in zones.csv.",
+        )
         self.page.table(ZONES, ["zone", "net flow into it, lower", "upper"], nets)
         flows = [[str(a), str(b), down(lo, places), up(hi, places)] for a, b, lo, hi in step.zones]
         self.page.table(ZONES, ["out of zone", "into zone", "flow, lower", "upper"], flows)
@@ -288,41 +414,73 @@ class Look:
         steps = len([d for d in differences if not np.isnan(d.most).all()])
         for text in told[steps:]:
             self.page.say(f"{given.name}: {text}")
-        self.page.table(GIVEN, ["step by step"], [[text] for text in told[:steps]], f"{given.name}, step by step" if steps > 3 else "")
+        self.page.table(
+            GIVEN,
+            ["step by step"],
+            [[text] for text in told[:steps]],
+            f"{given.name}, step by step" if steps > 3 else "",
+        )
         last = differences[-1]
         most = self.listing.grid(last.most, self.shape)
         if min(self.shape[1:]) > 1:
-            self.jobs += [partial(self.draw_given, given.name, most[k], k + 1, self.when(last.step)) for k in range(self.shape[0]) if np.isfinite(most[k]).any()]
+            self.jobs += [
+                partial(self.draw_given, given.name, most[k], k + 1, self.when(last.step))
+                for k in range(self.shape[0])
+                if np.isfinite(most[k]).any()
+            ]
 
     def draw_given(self, name: str, most: np.ndarray, layer: int, when: str) -> None:
         title = f"Layer {layer}, {when}: {name} is off by at most"
         maps.one_map(self.album, f"off_layer{layer}", self.plan, most, layer, title, self.unit, False)
-        self.page.picture(GIVEN, f"off_layer{layer}.png", f"{name}, layer {layer}: off from every exact solution by at most this much", title if layer > 1 else "")
+        self.page.picture(
+            GIVEN,
+            f"off_layer{layer}.png",
+            f"{name}, layer {layer}: off from every exact solution by at most this much",
+            title if layer > 1 else "",
+        )
 
     def add_minus(self, base: Listing) -> None:
         changes = difference(self.listing, base)
         for text in Drawdown(self.listing, base, changes, self.unit, self.model).sentences([]):
             self.page.text(MINUS, text)
-        self.page.text(MINUS, f"The plan is {self.listing.path.name}, the other run {base.path.name}, which wasn't checked: "
-                       "the differences hold only if its pairs are bounds (`heads-tools drawdown` checks both).")
+        self.page.text(
+            MINUS,
+            f"The plan is {self.listing.path.name}, the other run {base.path.name}, which wasn't checked: "
+            "the differences hold only if its pairs are bounds (`heads-tools drawdown` checks both).",
+        )
         last = changes[-1]
         middle = self.grid((last.low + last.high) / 2)
         widest = decimal_text(int((last.high - last.low).max()), 9)
         if min(self.shape[1:]) > 1:
-            self.jobs += [partial(self.draw_minus, base.path.name, middle[k], k + 1, widest, self.when(last))
-                          for k in range(self.shape[0]) if np.isfinite(middle[k]).any()]
+            self.jobs += [
+                partial(self.draw_minus, base.path.name, middle[k], k + 1, widest, self.when(last))
+                for k in range(self.shape[0])
+                if np.isfinite(middle[k]).any()
+            ]
 
     def draw_minus(self, base: str, middle: np.ndarray, layer: int, widest: str, when: str) -> None:
         title = f"Layer {layer}, {when}: heads less those of {base}"
-        maps.one_map(self.album, f"minus_layer{layer}", self.plan, middle, layer, title, f"difference, {self.unit}", True)
-        self.page.picture(MINUS, f"minus_layer{layer}.png", f"{title}. Below 0 (red) the head is lower than in {base}. "
-                          f"The middles of the bounds are drawn, which are at most {widest} {self.unit} apart", title if layer > 1 else "")
+        maps.one_map(
+            self.album, f"minus_layer{layer}", self.plan, middle, layer, title, f"difference, {self.unit}", True
+        )
+        self.page.picture(
+            MINUS,
+            f"minus_layer{layer}.png",
+            f"{title}. Below 0 (red) the head is lower than in {base}. "
+            f"The middles of the bounds are drawn, which are at most {widest} {self.unit} apart",
+            title if layer > 1 else "",
+        )
 
     def tell_facts(self) -> None:
         listing = self.listing
         facts = [("Listing", f"{listing.path.name}, --digits {listing.digits}: {listing.summary()} in {self.unit}")]
         if self.model:
-            facts.append(("Model", f"{self.model.deck.path.name}: {' x '.join(map(str, self.shape))} cells (layers, rows, columns)"))
+            facts.append(
+                (
+                    "Model",
+                    f"{self.model.deck.path.name}: {' x '.join(map(str, self.shape))} cells (layers, rows, columns)",
+                )
+            )
         if self.verdict.status is not None:
             facts.append(("Checked by", program_name()))
         facts.append(("Made by", f"heads-tools {__version__}, {time.strftime('%Y-%m-%d %H:%M UTC', time.gmtime())}"))
@@ -339,8 +497,18 @@ def elements(model: Model) -> dict[str, list[tuple[Cell, list[float]]]]:
     return out
 
 
-def look(listing: Listing, folder: Path, model: Model | None = None, cells: list[Cell] = (), given: Path | None = None, is_every: bool = False,
-         verdict: Verdict | None = None, zones: np.ndarray | None = None, base: Listing | None = None, has_svg: bool = False) -> list[str]:
+def look(
+    listing: Listing,
+    folder: Path,
+    model: Model | None = None,
+    cells: list[Cell] = (),
+    given: Path | None = None,
+    is_every: bool = False,
+    verdict: Verdict | None = None,
+    zones: np.ndarray | None = None,
+    base: Listing | None = None,
+    has_svg: bool = False,
+) -> list[str]:
     """Writes tables, pictures and the page of a listing into a folder; what there is to say about it."""
     for cell in cells:
         listing.at(cell)
@@ -349,7 +517,9 @@ def look(listing: Listing, folder: Path, model: Model | None = None, cells: list
     it = Look(listing, folder, model, verdict, has_svg)
     make_folder(folder)
     if not listing.is_whole:
-        it.page.say(f"NOT A WHOLE RUN: the listing ends with `{listing.end or 'a part of a step'}`. Its pairs are bounds only where a run ends with END.")
+        it.page.say(
+            f"NOT A WHOLE RUN: the listing ends with `{listing.end or 'a part of a step'}`. Its pairs are bounds only where a run ends with END."
+        )
     last = listing.steps[-1]
     it.add_steps(listing.steps if is_every else [last])
     it.add_sections(last, *(cells[0][1:] if cells else it.place[1:]))

@@ -22,7 +22,9 @@ HALO = [withStroke(linewidth=2.2, foreground="white")]
 def draw(axes: Axes, plan: Plan, values: np.ndarray, cmap: str | ListedColormap, norm: Normalize):
     """Values of a layer as coloured cells, grey where there are none."""
     axes.set_facecolor(NO_FLOW)
-    mesh = axes.pcolormesh(plan.x, plan.y, np.ma.masked_invalid(values), cmap=cmap, norm=norm, rasterized=True, linewidth=0)
+    mesh = axes.pcolormesh(
+        plan.x, plan.y, np.ma.masked_invalid(values), cmap=cmap, norm=norm, rasterized=True, linewidth=0
+    )
     axes.set(xlim=(plan.x[0], plan.x[-1]), ylim=(plan.y[-1], plan.y[0]))
     if plan.is_true:
         axes.set_aspect("equal", anchor="SW")
@@ -41,7 +43,11 @@ def contours(axes: Axes, plan: Plan, values: np.ndarray, norm: Normalize) -> Non
         levels = [v for v in MaxNLocator(8).tick_values(low, high) if low < v < high]
     lines = axes.contour(*plan.middles, np.ma.masked_invalid(values), levels=levels, colors="k", linewidths=0.5)
     least = 0.12 * max(plan.x[-1], plan.y[0])
-    long = [level for level, parts in zip(lines.levels, lines.allsegs) if any(np.ptp(part, axis=0).max() > least for part in parts if len(part))]
+    long = [
+        level
+        for level, parts in zip(lines.levels, lines.allsegs)
+        if any(np.ptp(part, axis=0).max() > least for part in parts if len(part))
+    ]
     if long and sum(map(len, lines.allsegs)) <= MOST_LINES:
         every = -(-sum(len(parts) for level, parts in zip(lines.levels, lines.allsegs) if level in long) // MOST_LABELS)
         for label in axes.clabel(lines, long[::every], fontsize=7, fmt="%g", zorder=5):
@@ -57,17 +63,38 @@ def marks(axes: Axes, plan: Plan, layer: int, inches: float) -> list[Line2D]:
         spots = plan.spots(kind, layer)
         if spots:
             least = 5.0 if kind == "WEL" else size
-            axes.plot([x[j - 1] for _, j in spots], [y[i - 1] for i, _ in spots], shape, color=colour, ms=max(size, least), mec="white", mew=0.4, ls="", zorder=3)
+            axes.plot(
+                [x[j - 1] for _, j in spots],
+                [y[i - 1] for i, _ in spots],
+                shape,
+                color=colour,
+                ms=max(size, least),
+                mec="white",
+                mew=0.4,
+                ls="",
+                zorder=3,
+            )
             handles.append(mark(kind))
     return handles
 
 
-def head_map(album: Album, name: str, plan: Plan, lower: np.ndarray, width: np.ndarray, layer: int, title: str,
-             scales: tuple[Normalize, Normalize], cut: tuple[int, int] | None) -> None:
+def head_map(
+    album: Album,
+    name: str,
+    plan: Plan,
+    lower: np.ndarray,
+    width: np.ndarray,
+    layer: int,
+    title: str,
+    scales: tuple[Normalize, Normalize],
+    cut: tuple[int, int] | None,
+) -> None:
     """A large map of the lower heads of a layer, and a thumbnail of the widths. `cut`: row and column of the sections, dotted."""
     tall, thumb_tall = MAP_WIDTH * plan.ratio, THUMB_WIDTH * plan.ratio
     left, below, above = 0.75, 0.85, 0.4
-    with album.figure(name, left + MAP_WIDTH + 1.1 + THUMB_WIDTH + 0.15, below + max(tall, thumb_tall + 0.7) + above) as figure:
+    with album.figure(
+        name, left + MAP_WIDTH + 1.1 + THUMB_WIDTH + 0.15, below + max(tall, thumb_tall + 0.7) + above
+    ) as figure:
         base = below + max(tall, thumb_tall + 0.7) - tall
         axes = box(figure, left, base, MAP_WIDTH, tall)
         mesh = draw(axes, plan, lower, HEADS_MAP, scales[0])
@@ -87,7 +114,9 @@ def head_map(album: Album, name: str, plan: Plan, lower: np.ndarray, width: np.n
         thumbnail(figure, plan, width, scales[1], left + MAP_WIDTH + 1.1, base + tall - thumb_tall, thumb_tall)
 
 
-def thumbnail(figure: Figure, plan: Plan, width: np.ndarray, norm: Normalize, left: float, bottom: float, tall: float) -> None:
+def thumbnail(
+    figure: Figure, plan: Plan, width: np.ndarray, norm: Normalize, left: float, bottom: float, tall: float
+) -> None:
     """A small map of widths: white where the head is known, so that the width is 0. Its scale stands in words below it."""
     axes = box(figure, left, bottom, THUMB_WIDTH, tall)
     axes.set(xticks=[], yticks=[])
@@ -95,11 +124,15 @@ def thumbnail(figure: Figure, plan: Plan, width: np.ndarray, norm: Normalize, le
     draw(axes, plan, np.where(width > 0, width, np.nan), WIDTH_MAP, norm)
     if (width == 0).any():
         draw(axes, plan, np.where(width == 0, 0.0, np.nan), ListedColormap([KNOWN]), Normalize(0, 1))
-    words = ["darker: wider,", f"up to {norm.vmax:.2g} {plan.unit}"] + (["white: known head"] if (width == 0).any() else [])
+    words = ["darker: wider,", f"up to {norm.vmax:.2g} {plan.unit}"] + (
+        ["white: known head"] if (width == 0).any() else []
+    )
     axes.text(0, -0.03, "\n".join(words), transform=axes.transAxes, va="top", fontsize=7.5)
 
 
-def small_maps(album: Album, name: str, plan: Plan, panels: list[tuple[str, np.ndarray]], label: str, cmap: str, norm: Normalize) -> None:
+def small_maps(
+    album: Album, name: str, plan: Plan, panels: list[tuple[str, np.ndarray]], label: str, cmap: str, norm: Normalize
+) -> None:
     """Many layers or steps in one figure and one scale."""
     across = min(len(panels), 5 if plan.ratio < 1.4 else 8)
     down = math.ceil(len(panels) / across)
@@ -120,7 +153,9 @@ def small_maps(album: Album, name: str, plan: Plan, panels: list[tuple[str, np.n
         bar.ax.tick_params(labelsize=7)
 
 
-def one_map(album: Album, name: str, plan: Plan, values: np.ndarray, layer: int, title: str, label: str, is_change: bool) -> None:
+def one_map(
+    album: Album, name: str, plan: Plan, values: np.ndarray, layer: int, title: str, label: str, is_change: bool
+) -> None:
     """A map of how far given heads are off, or of a change, which is white where it is 0."""
     tall = MAP_WIDTH * plan.ratio
     with album.figure(name, MAP_WIDTH + 1.8, tall + 1.45) as figure:

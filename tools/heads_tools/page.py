@@ -9,8 +9,10 @@ from string import Template
 from .text import whole_file
 
 FRAME = Path(__file__).with_name("page.html")
-NOTE = ("Pictures, rounded numbers and this page are made by heads-tools, which isn't proved; it rounds lower numbers down and upper ones up. "
-        "Certified pairs enclose every exact solution of the deck's equations; they say nothing of the aquifer itself.")
+NOTE = (
+    "Pictures, rounded numbers and this page are made by heads-tools, which isn't proved; it rounds lower numbers down and upper ones up. "
+    "Certified pairs enclose every exact solution of the deck's equations; they say nothing of the aquifer itself."
+)
 
 
 @dataclass
@@ -59,8 +61,17 @@ def write_page(page: Page, folder: Path) -> None:
     said = "".join(f"<li>{escape(s)}</li>" for s in page.sentences)
     files = ", ".join(f'<a href="{escape(path.name)}">{escape(path.name)}</a>' for path in sorted(folder.glob("*.csv")))
     with whole_file(folder / "index.html") as file:
-        file.write(Template(FRAME.read_text(encoding="utf-8")).substitute(
-            title=escape(page.title), verdict=f'<p class="verdict {kind}">{escape(page.verdict)}</p>' if page.verdict else "", contents=" ".join(links),
-            facts=f'<table class="facts">{facts}</table>' if facts else "", said=f"<ul>{said}</ul>" if said else "",
-            rooms="\n".join(f'<h2 id="{ids[room]}">{escape(room)}</h2>\n' + "\n".join(parts) for room, parts in rooms.items()),
-            files=files or "none", note=escape(f"{page.note} {NOTE}".strip())))
+        file.write(
+            Template(FRAME.read_text(encoding="utf-8")).substitute(
+                title=escape(page.title),
+                verdict=f'<p class="verdict {kind}">{escape(page.verdict)}</p>' if page.verdict else "",
+                contents=" ".join(links),
+                facts=f'<table class="facts">{facts}</table>' if facts else "",
+                said=f"<ul>{said}</ul>" if said else "",
+                rooms="\n".join(
+                    f'<h2 id="{ids[room]}">{escape(room)}</h2>\n' + "\n".join(parts) for room, parts in rooms.items()
+                ),
+                files=files or "none",
+                note=escape(f"{page.note} {NOTE}".strip()),
+            )
+        )

@@ -19,8 +19,13 @@ Cell = tuple[int, int, int]
 STYLE = Path(__file__).with_name("heads.mplstyle")
 NO_FLOW = "0.86"
 KNOWN = "white"
-MARKS = {"WEL": ("v", "crimson", "well"), "RIV": ("s", "royalblue", "river"), "DRN": ("s", "seagreen", "drain"),
-         "GHB": ("D", "darkorange", "general head"), "CHD": ("s", "purple", "given head")}
+MARKS = {
+    "WEL": ("v", "crimson", "well"),
+    "RIV": ("s", "royalblue", "river"),
+    "DRN": ("s", "seagreen", "drain"),
+    "GHB": ("D", "darkorange", "general head"),
+    "CHD": ("s", "purple", "given head"),
+}
 
 
 @dataclass
@@ -59,7 +64,13 @@ class Plan:
 
 def plan_of(delr: np.ndarray, delc: np.ndarray, unit: str, axis: str, **more) -> Plan:
     """The plan of a grid from its widths: row 1 lies in the north."""
-    return Plan(np.concatenate([[0], np.cumsum(delr)]), np.sum(delc) - np.concatenate([[0], np.cumsum(delc)]), unit, axis, **more)
+    return Plan(
+        np.concatenate([[0], np.cumsum(delr)]),
+        np.sum(delc) - np.concatenate([[0], np.cumsum(delc)]),
+        unit,
+        axis,
+        **more,
+    )
 
 
 @dataclass
@@ -75,7 +86,9 @@ class Album:
         with matplotlib.style.context(STYLE):
             made = Figure(figsize=(width, height))
             yield made
-            made.savefig(self.folder / f"{name}.png", metadata={"Software": "heads-tools"}, pil_kwargs={"compress_level": 4})
+            made.savefig(
+                self.folder / f"{name}.png", metadata={"Software": "heads-tools"}, pil_kwargs={"compress_level": 4}
+            )
             if self.has_svg:
                 made.savefig(self.folder / f"{name}.svg", metadata={"Date": None})
 
@@ -107,7 +120,14 @@ def legend_below(axes: Axes, handles: list, drop: float, columns: int = 4) -> No
     """A legend under the axes, `drop` inches below them."""
     if handles:
         height = axes.get_position().height * axes.figure.get_size_inches()[1]
-        axes.legend(handles=handles, loc="upper left", bbox_to_anchor=(0, -drop / height), ncol=columns, borderaxespad=0, handletextpad=0.5)
+        axes.legend(
+            handles=handles,
+            loc="upper left",
+            bbox_to_anchor=(0, -drop / height),
+            ncol=columns,
+            borderaxespad=0,
+            handletextpad=0.5,
+        )
 
 
 def mark(kind: str) -> Line2D:

@@ -100,7 +100,9 @@ def copy_without_zones(source: Path, target: Path) -> None:
 def program_file() -> Path:
     """The program itself, not a script that starts it."""
     found = program()
-    choices = [TOP / "dist" / "heads", TOP / "crates" / "heads" / "out" / "heads"] if found == TOP / "heads" else [found]
+    choices = (
+        [TOP / "dist" / "heads", TOP / "crates" / "heads" / "out" / "heads"] if found == TOP / "heads" else [found]
+    )
     for path in choices:
         if path.is_file() and path.read_bytes()[:2] != b"#!":
             return path

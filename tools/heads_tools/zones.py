@@ -1,13 +1,15 @@
 """Zones of a listing: their numbers by cell, the net flow of each, and a map of both."""
 from __future__ import annotations
 
+from dataclasses import dataclass
 from pathlib import Path
 
 import numpy as np
+from matplotlib.axes import Axes
 from matplotlib.colors import ListedColormap, Normalize
 
 from .listing import Step
-from .maps import HALO, MAP_WIDTH, draw
+from .maps import HALO, MAP_WIDTH, draw, marks
 from .packages import Reader
 from .pictures import NO_FLOW, Album, Plan, box, legend_below, patch
 from .sources import Source
@@ -45,34 +47,67 @@ def middle(plan: Plan, here: np.ndarray) -> tuple[float, float]:
     return float(x[cols[near]]), float(y[rows[near]])
 
 
-def zone_map(album: Album, name: str, plan: Plan, zones: np.ndarray, active: np.ndarray, step: Step, places: int, title: str, unit: str) -> None:
+@dataclass
+class ZoneMap:
+    """What a map of zones shows: the zones of a layer, shape (rows, cols), where it has flow, and the flows of a step with
+    their decimals and their unit."""
+
+    layer: int
+    zones: np.ndarray
+    active: np.ndarray
+    step: Step
+    places: int
+    unit: str
+    title: str
+
+
+def zone_map(album: Album, name: str, plan: Plan, it: ZoneMap) -> None:
     """The zones of a layer with the net flow into each, and arrows the way that water flows between two zones."""
-    numbers = [z for z in np.unique(zones[active]).tolist() if z]
+    numbers = [z for z in np.unique(it.zones[it.active]).tolist() if z]
     tall = MAP_WIDTH * plan.ratio
-    nets = net_flows(step)
-    is_part = bool((zones[active] == 0).any() or not active.all())
-    below = 1.1 if is_part else 0.85
-    with album.figure(name, MAP_WIDTH + 1.1, tall + below + 0.4) as figure:
-        axes = box(figure, 0.75, below, MAP_WIDTH, tall)
-        order = {z: n for n, z in enumerate(numbers)}
-        index = np.array([[order.get(z, np.nan) if on else np.nan for z, on in zip(*row)] for row in zip(zones, active)], dtype=float)
-        draw(axes, plan, index, ListedColormap([COLOURS[n % len(COLOURS)] for n in range(max(1, len(numbers)))]), Normalize(-0.5, len(numbers) - 0.5))
-        spots = {z: middle(plan, (zones == z) & active) for z in numbers}
-        for z, (x, y) in spots.items():
-            low, high = (v / 10**places for v in nets.get(z, (0, 0)))
-            axes.text(x, y, f"zone {z}\nnet {(low + high) / 2:+.4g}", ha="center", va="center", fontsize=8, path_effects=HALO, zorder=5)
-        pairs = [f for f in step.zones if f[0] in spots and f[1] in spots and not f[2] <= 0 <= f[3]]
-        for a, b, low, high in sorted(pairs, key=lambda f: -abs(f[2] + f[3]))[:MOST_ARROWS]:
-            arrow(axes, spots[a if low > 0 else b], spots[b if low > 0 else a], abs(low + high) / 2 / 10**places)
-        axes.set(xlabel=plan.axis, ylabel=plan.axis, title=title)
-        if is_part:
-            legend_below(axes, [patch(NO_FLOW, "no zone, or no flow")], 0.5)
-        figure.text(0.75 / figure.get_size_inches()[0], 0.12 / figure.get_size_inches()[1], f"flows in {unit}, rounded; bounds stand in the table", fontsize=7.5)
+    with album.figure(name, MAP_WIDTH + 1.1, tall + 1.5) as figure:
+        axes = box(figure, 0.75, 1.1, MAP_WIDTH, tall)
+        colours = ListedColormap([COLOURS[n % len(COLOURS)] for n in range(max(1, len(numbers)))])
+        places = np.searchsorted(numbers, it.zones).astype(float)
+        places[~(it.active & (it.zones > 0))] = np.nan
+        draw(axes, plan, places, colours, Normalize(-0.5, len(numbers) - 0.5))
+        handles = marks(axes, plan, it.layer, MAP_WIDTH)
+        write_flows(axes, {z: middle(plan, (it.zones == z) & it.active) for z in numbers}, it)
+        if np.isnan(places).any():
+            handles.append(patch(NO_FLOW, "no zone, or no flow"))
+        axes.set(xlabel=plan.axis, ylabel=plan.axis, title=it.title)
+        legend_below(axes, handles, 0.5, 6)
+        across, up = figure.get_size_inches()
+        figure.text(
+            0.75 / across, 0.12 / up, f"flows in {it.unit}, rounded; their bounds stand in the listing", fontsize=7.5
+        )
 
 
-def arrow(axes, tail: tuple[float, float], head: tuple[float, float], flow: float) -> None:
+def write_flows(axes: Axes, spots: dict[int, tuple[float, float]], it: ZoneMap) -> None:
+    """The net flow at the spot of each zone, and arrows between the spots for the largest flows."""
+    nets = net_flows(it.step)
+    for z, (x, y) in spots.items():
+        net = sum(nets.get(z, (0, 0))) / 2 / 10**it.places
+        text = f"zone {z}\nnet {net:+.4g}"
+        axes.text(x, y, text, ha="center", va="center", fontsize=8, path_effects=HALO, zorder=5)
+    pairs = [f for f in it.step.zones if f[0] in spots and f[1] in spots and not f[2] <= 0 <= f[3]]
+    for a, b, low, high in sorted(pairs, key=lambda f: -abs(f[2] + f[3]))[:MOST_ARROWS]:
+        tail, head = (a, b) if low > 0 else (b, a)
+        arrow(axes, spots[tail], spots[head], abs(low + high) / 2 / 10**it.places)
+
+
+def arrow(axes: Axes, tail: tuple[float, float], head: tuple[float, float], flow: float) -> None:
     """An arrow between the middles of two zones with its flow beside it."""
     (x, y), (u, v) = tail, head
     at = lambda t: (x + t * (u - x), y + t * (v - y))
     axes.annotate("", at(0.68), at(0.32), arrowprops={"arrowstyle": "-|>", "color": "0.15", "lw": 1.4}, zorder=4)
-    axes.annotate(f"{flow:.4g}", at(0.5), (0, 7), textcoords="offset points", ha="center", fontsize=7.5, path_effects=HALO, zorder=6)
+    axes.annotate(
+        f"{flow:.4g}",
+        at(0.5),
+        (0, 7),
+        textcoords="offset points",
+        ha="center",
+        fontsize=7.5,
+        path_effects=HALO,
+        zorder=6,
+    )

@@ -18,7 +18,9 @@ def answers(folder):
 
 
 @pytest.mark.program
-@pytest.mark.parametrize("name, options, count", [("tide", [], 4), ("river_valley", ["--zones", "m.zon", "--digits", "9"], 5)])
+@pytest.mark.parametrize(
+    "name, options, count", [("tide", [], 4), ("river_valley", ["--zones", "m.zon", "--digits", "9"], 5)]
+)
 def test_the_printed_commands_run_as_they_stand(name, options, count, example, tool, tmp_path):
     folder = tmp_path / "an exhibit"
     status, out, err = tool("exhibit", example(name), folder, *options)
@@ -46,7 +48,9 @@ def test_the_judges_page_has_the_sentence_that_may_be_said_and_the_one_that_may_
     tool("exhibit", example("three_cells"), tmp_path / "exhibit")
     for file in ("judge.html", "EXHIBIT.txt"):
         text = (tmp_path / "exhibit" / file).read_text()
-        may, may_not = text.index("Each exact solution of this model"), text.index("The head in the aquifer lies between")
+        may, may_not = text.index("Each exact solution of this model"), text.index(
+            "The head in the aquifer lies between"
+        )
         assert text.index("What may be said") < may < text.index("What may not be said") < may_not
 
 

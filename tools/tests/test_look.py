@@ -63,7 +63,7 @@ def test_the_difference_of_two_listings_has_bounds(example, tool, tmp_path):
     base = listed(nam)
     text = page(tool, tmp_path, plan, tmp_path / "look", "--minus", base)
     assert "the plan lowers the head at layer 1 row" in text and "minus_layer1.png" in text
-    change, = difference(with_wells, read_listing(base))
+    (change,) = difference(with_wells, read_listing(base))
     assert (change.low <= change.high).all() and (change.high < 0).any()
 
 

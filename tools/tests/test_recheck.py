@@ -11,7 +11,9 @@ SCRIPT = TOOLS / "recheck.py"
 
 
 def recheck(nam, listing, *more):
-    done = subprocess.run([sys.executable, SCRIPT, nam.name, listing.name, *more], cwd=nam.parent, capture_output=True, text=True)
+    done = subprocess.run(
+        [sys.executable, SCRIPT, nam.name, listing.name, *more], cwd=nam.parent, capture_output=True, text=True
+    )
     assert "Traceback" not in done.stderr, done.stderr
     return done.returncode, done.stdout.strip()
 
@@ -44,7 +46,7 @@ def test_it_names_the_place_that_the_program_names(seed, example):
     nam, choose = example("drained_field"), random.Random(seed)
     lines = heads(["run", nam.name], nam.parent).stdout.split("\n")
     at = choose.choice([n for n, line in enumerate(lines) if line.startswith("HEAD ")])
-    lines[at] = moved(lines[at], *choose.choice([(1000, 0), (0, -1000), (10**8, 10**8), (-10**8, -10**8)]))
+    lines[at] = moved(lines[at], *choose.choice([(1000, 0), (0, -1000), (10**8, 10**8), (-(10**8), -(10**8))]))
     (nam.parent / "m.heads").write_text("\n".join(lines))
     status, said = recheck(nam, nam.parent / "m.heads")
     verdict = heads(["check", nam.name, "m.heads"], nam.parent).stdout.strip()
@@ -53,9 +55,16 @@ def test_it_names_the_place_that_the_program_names(seed, example):
 
 
 @pytest.mark.program
-@pytest.mark.parametrize("spoil", [
-    lambda l: l[:-2], lambda l: l[:3] + l[4:], lambda l: l[:4] + [l[4][:-1]] + l[5:],
-    lambda l: [l[0].replace("12", "11")] + l[1:], lambda l: l[:-1] + ["END", ""]])
+@pytest.mark.parametrize(
+    "spoil",
+    [
+        lambda l: l[:-2],
+        lambda l: l[:3] + l[4:],
+        lambda l: l[:4] + [l[4][:-1]] + l[5:],
+        lambda l: [l[0].replace("12", "11")] + l[1:],
+        lambda l: l[:-1] + ["END", ""],
+    ],
+)
 def test_it_refuses_another_form(spoil, example):
     nam = example("three_cells")
     lines = heads(["run", nam.name], nam.parent).stdout.split("\n")
@@ -80,18 +89,26 @@ def test_it_holds_flows_between_zones(zoned):
 
 
 @pytest.mark.program
-@pytest.mark.parametrize("change, part", [
-    (lambda line: line.replace("1559.999", "1559.9999", 1), "ZONE 1 2: the pair doesn't hold the flow"),
-    (lambda line: re.sub(r"(\S+)$", "1560.000000000000000000000", line), "ZONE 1 2: the pair doesn't hold the flow"),
-    (lambda line: line.replace("ZONE 1 2", "ZONE 1 3"), "isn't of the form due (ZONE 1 2"), (lambda line: None, "isn't of the form due (ZONE 1 2")])
+@pytest.mark.parametrize(
+    "change, part",
+    [
+        (lambda line: line.replace("1559.999", "1559.9999", 1), "ZONE 1 2: the pair doesn't hold the flow"),
+        (
+            lambda line: re.sub(r"(\S+)$", "1560.000000000000000000000", line),
+            "ZONE 1 2: the pair doesn't hold the flow",
+        ),
+        (lambda line: line.replace("ZONE 1 2", "ZONE 1 3"), "isn't of the form due (ZONE 1 2"),
+        (lambda line: None, "isn't of the form due (ZONE 1 2"),
+    ],
+)
 def test_it_names_zone_lines_that_are_spoilt(change, part, zoned):
     nam, listing = zoned
     lines = listing.read_text().split("\n")
     at = next(n for n, line in enumerate(lines) if line.startswith("ZONE 1 2"))
     changed = change(lines[at])
     if changed and len(changed.split()[3]) != len(lines[at].split()[3]):
-        changed = changed.replace(changed.split()[3], changed.split()[3][:len(lines[at].split()[3])])
-    lines[at:at + 1] = [changed] if changed else []
+        changed = changed.replace(changed.split()[3], changed.split()[3][: len(lines[at].split()[3])])
+    lines[at : at + 1] = [changed] if changed else []
     listing.write_text("\n".join(lines))
     status, said = recheck(nam, listing, "m.zon")
     assert status == 1 and part in said
@@ -107,5 +124,7 @@ def test_other_words_have_a_status_of_their_own(tmp_path):
     for script in (SCRIPT, TOOLS / "solution.py"):
         done = subprocess.run([sys.executable, script, "m.nam"], cwd=tmp_path, capture_output=True, text=True)
         assert done.returncode == 3 and done.stderr.startswith("usage: ") and not done.stdout
-        done = subprocess.run([sys.executable, script, "m.nam", "m.heads"], cwd=tmp_path, capture_output=True, text=True)
+        done = subprocess.run(
+            [sys.executable, script, "m.nam", "m.heads"], cwd=tmp_path, capture_output=True, text=True
+        )
         assert done.returncode == 2 and "can't be read" in done.stdout

@@ -7,7 +7,12 @@ from conftest import TOOLS, heads
 
 
 def solution(nam, listing, *words):
-    done = subprocess.run([sys.executable, TOOLS / "solution.py", nam.name, listing.name, *words], cwd=nam.parent, capture_output=True, text=True)
+    done = subprocess.run(
+        [sys.executable, TOOLS / "solution.py", nam.name, listing.name, *words],
+        cwd=nam.parent,
+        capture_output=True,
+        text=True,
+    )
     assert "Traceback" not in done.stderr, done.stderr
     return done.returncode, done.stdout.strip()
 
@@ -18,7 +23,10 @@ def test_three_cells_have_the_mean_of_their_neighbours(example):
     listing = nam.parent / "m.heads"
     listing.write_text(heads(["run", nam.name], nam.parent).stdout)
     status, text = solution(nam, listing)
-    assert (status, text) == (0, "FOUND: the solution of 1 step lies between the listed heads; digits of its longest denominator: 1")
+    assert (status, text) == (
+        0,
+        "FOUND: the solution of 1 step lies between the listed heads; digits of its longest denominator: 1",
+    )
 
 
 @pytest.mark.program

@@ -40,9 +40,17 @@ def test_without_the_model_nothing_is_called_certified(listed, tool, tmp_path):
 
 
 @pytest.mark.program
-@pytest.mark.parametrize("change, status, last", [
-    (lambda text: text.replace("15.000000000 15.000000000", "115.000000000 115.000000000"), 8, "NOT CERTIFIED 1 1 1 1 2 LOW"),
-    (lambda text: text.replace("END\n", ""), 2, "BadListing")])
+@pytest.mark.parametrize(
+    "change, status, last",
+    [
+        (
+            lambda text: text.replace("15.000000000 15.000000000", "115.000000000 115.000000000"),
+            8,
+            "NOT CERTIFIED 1 1 1 1 2 LOW",
+        ),
+        (lambda text: text.replace("END\n", ""), 2, "BadListing"),
+    ],
+)
 def test_a_spoilt_listing_is_not_called_certified(change, status, last, listed, tool, tmp_path):
     nam, path = listed(change)
     got, out, err = tool("look", path, tmp_path / "look", "--name", nam)
