@@ -25,6 +25,8 @@
 //!
 //! `budgets` begins two budgets, and `IN LISTED LISTED COMPUTED COMPUTED TERM` (or `OUT`) gives a term of both; `covers`
 //! asks whether the listed one covers the computed one. `system COUNT` solves a system whose solution is known.
+//! `network MOST COUNT GROUND .. FLOW .. [NODE NODE WEIGHT] ..` finds the heads of COUNT nodes by elimination, if that takes at most MOST
+//! operations, and `fit COUNT GROUND .. FLOW .. [NODE NODE WEIGHT] ..` says whether the pattern of nodes without links fits these.
 //!
 //! `batch COUNT WORKERS CALLS` runs jobs whose ends are the squares of their numbers, with the passes of a gate; this
 //! many first calls have no memory. `meeting` runs two jobs that wait for each other, and `book` fills a book of ends.
@@ -36,6 +38,7 @@ mod balances;
 mod batches;
 mod between;
 mod covering;
+mod eliminations;
 mod entries;
 mod events;
 mod exchanges;

@@ -3,6 +3,7 @@ use crate::balances::{print_balances, print_rivers};
 use crate::batches::{print_batch, print_book, print_meeting};
 use crate::between::ask_between;
 use crate::covering::print_cover;
+use crate::eliminations::{print_fit, print_network};
 use crate::given::{Given, Stage};
 use crate::numbers::number;
 use crate::systems::print_system;
@@ -40,6 +41,8 @@ pub enum Question {
     Seats,
     Covers,
     System,
+    Network,
+    Fit,
     Batch,
     Book,
     Meeting,
@@ -74,6 +77,8 @@ impl Question {
             "seats" => Some(Question::Seats),
             "covers" => Some(Question::Covers),
             "system" => Some(Question::System),
+            "network" => Some(Question::Network),
+            "fit" => Some(Question::Fit),
             "batch" => Some(Question::Batch),
             "book" => Some(Question::Book),
             "meeting" => Some(Question::Meeting),
@@ -115,6 +120,8 @@ pub fn ask<R: Print + Threads + Wait + Sync>(
     match question {
         Question::Covers => return print_cover(rt, &given.budgets),
         Question::System => return print_system(rt, alloc, number(numbers, 0)),
+        Question::Network => return print_network(rt, alloc, numbers),
+        Question::Fit => return print_fit(rt, alloc, numbers),
         Question::Batch => return print_batch(rt, alloc, numbers),
         Question::Book => return print_book(rt, alloc),
         Question::Meeting => return print_meeting(rt, alloc),

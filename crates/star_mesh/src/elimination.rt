@@ -1,0 +1,193 @@
+// Elimination, column by column, of weights and grounds.
+use crate::lists::{NONE, add, label_at, range, range_mut, value};
+use crate::pattern::Pattern;
+use multigrid::Matrix;
+use multigrid::numbers::{label, put, width};
+use std::alloc::{AllocError, Global};
+
+/// A part of 1 is this number.
+pub const WHOLE: u64 = 1 << 62;
+
+// A weight times a part.
+fn share(weight: u64, part: u64) -> u64 {
+    let product = (weight as u128 * part as u128) >> 62;
+    u64::try_from(product).unwrap_or(u64::MAX)
+}
+
+/// The quotient of weights by one diagonal.
+#[derive(Clone, Copy)]
+struct Divisor {
+    // 2^(62 + bits) over the diagonal, which is below 2^bits.
+    reciprocal: u64,
+    bits: u32,
+}
+
+impl Divisor {
+    fn new(diagonal: u64) -> Divisor {
+        let bits = 64_u32.saturating_sub(diagonal.leading_zeros());
+        let power = 1_u128.wrapping_shl(bits.saturating_add(62));
+        let quotient = power.checked_div(diagonal as u128).unwrap_or(0);
+        Divisor {
+            reciprocal: u64::try_from(quotient).unwrap_or(u64::MAX),
+            bits,
+        }
+    }
+
+    // The part that a weight is of the diagonal.
+    fn part(&self, weight: u64) -> u64 {
+        let product = weight as u128 * self.reciprocal as u128;
+        let part = product.wrapping_shr(self.bits);
+        u64::try_from(part).unwrap_or(WHOLE).min(WHOLE)
+    }
+}
+
+// Weights are raised by this number of bits, so that the greatest diagonal is below 2^61.
+fn scale_of(matrix: &Matrix) -> u32 {
+    let mut greatest = 0_i64;
+    for row in &matrix.rows {
+        greatest = greatest.max(row.pivot.weight());
+    }
+    61_u32.saturating_sub(width(greatest as i128))
+}
+
+/// A factor in the making.
+#[derive(Drop)]
+pub struct Elimination<'a> {
+    pattern: &'a Pattern,
+    /// Weights are those of the matrix times 2^scale.
+    pub scale: u32,
+    /// Of each entry: the part that its row has in the column's unknown.
+    pub parts: Vec<u64>,
+    /// Of each column: the sum of its ground and its weights as it is eliminated.
+    pub diagonals: Vec<u64>,
+    grounds: Vec<u64>,
+    // The weights between the open column and each row.
+    weights: Vec<u64>,
+    // Of each row: the first of the columns whose next entry is in it. Of each column: the one after it there, and its next entry.
+    firsts: Vec<u32>,
+    nexts: Vec<u32>,
+    entries: Vec<usize>,
+}
+
+impl Elimination<'_> {
+    // Opens a column: its ground, and the weights of its unknown's couplings with later ones.
+    fn open(&mut self, matrix: &Matrix, column: usize) {
+        let scale = self.scale;
+        let row = matrix.row(self.pattern.unknown(column));
+        let mut ground = row.pivot.weight();
+        for coupling in matrix.couplings(&row) {
+            ground = ground.saturating_sub(coupling.weight);
+            let place = self.pattern.place(coupling.other) as usize;
+            if place > column {
+                let weight = coupling.weight.max(0).unsigned_abs();
+                add(
+                    self.weights.as_mut_slice(),
+                    place,
+                    weight.wrapping_shl(scale),
+                );
+            }
+        }
+        let ground = ground.max(0).unsigned_abs().wrapping_shl(scale);
+        add(self.grounds.as_mut_slice(), column, ground);
+    }
+
+    // Adds the weights that an earlier column's elimination puts between the open one, which has this entry of it, and later rows.
+    fn add_mesh(&mut self, column: usize, entry: usize, end: usize) {
+        let part = value(self.parts.as_slice(), entry, 0);
+        let weight = share(value(self.diagonals.as_slice(), column, 0), part);
+        let later = entry.saturating_add(1);
+        let rows = self.pattern.rows_between(later, end);
+        let parts = range(self.parts.as_slice(), later, end);
+        for (row, part) in rows.iter().zip(parts) {
+            add(
+                self.weights.as_mut_slice(),
+                *row as usize,
+                share(weight, *part),
+            );
+        }
+    }
+
+    // Puts a column into the list of the row of its next entry, if it has one.
+    fn enlist(&mut self, column: usize, entry: usize, end: usize) {
+        if entry < end {
+            let row = self.pattern.row(entry);
+            put(self.entries.as_mut_slice(), column, entry);
+            put(
+                self.nexts.as_mut_slice(),
+                column,
+                label_at(self.firsts.as_slice(), row),
+            );
+            put(self.firsts.as_mut_slice(), row, label(column));
+        }
+    }
+
+    // Adds what the elimination of all earlier columns puts into the open one.
+    fn add_earlier(&mut self, column: usize) {
+        let mut earlier = label_at(self.firsts.as_slice(), column);
+        for _ in 0..column {
+            if earlier == NONE {
+                break;
+            }
+            let index = earlier as usize;
+            let next = label_at(self.nexts.as_slice(), index);
+            let entry = value(self.entries.as_slice(), index, 0);
+            let (_, end) = self.pattern.entries_of(index);
+            self.add_mesh(index, entry, end);
+            self.enlist(index, entry.saturating_add(1), end);
+            earlier = next;
+        }
+    }
+
+    // The diagonal of the open column.
+    fn diagonal(&self, column: usize) -> u64 {
+        let mut sum = value(self.grounds.as_slice(), column, 0);
+        for row in self.pattern.rows(column) {
+            sum = sum.saturating_add(value(self.weights.as_slice(), *row as usize, 0));
+        }
+        sum.max(1)
+    }
+
+    // Closes the open column: weights become parts, and its ground is shared among its rows by them.
+    fn close(&mut self, column: usize) {
+        let diagonal = self.diagonal(column);
+        let divisor = Divisor::new(diagonal);
+        let ground = value(self.grounds.as_slice(), column, 0);
+        let (first, end) = self.pattern.entries_of(column);
+        let rows = self.pattern.rows(column);
+        let parts = range_mut(self.parts.as_mut_slice(), first, end);
+        for (row, part) in rows.iter().zip(parts) {
+            let row = *row as usize;
+            *part = divisor.part(value(self.weights.as_slice(), row, 0));
+            put(self.weights.as_mut_slice(), row, 0);
+            add(self.grounds.as_mut_slice(), row, share(ground, *part));
+        }
+        put(self.diagonals.as_mut_slice(), column, diagonal);
+        self.enlist(column, first, end);
+    }
+}
+
+/// Eliminates all unknowns of a matrix that the pattern fits.
+pub fn eliminate<'a>(
+    alloc: Global,
+    pattern: &'a Pattern,
+    matrix: &Matrix,
+) -> Result<Elimination<'a>, AllocError> {
+    let count = pattern.len();
+    let mut elimination = Elimination {
+        pattern,
+        scale: scale_of(matrix),
+        parts: vec![in alloc; 0; pattern.entries()]?,
+        diagonals: vec![in alloc; 0; count]?,
+        grounds: vec![in alloc; 0; count]?,
+        weights: vec![in alloc; 0; count]?,
+        firsts: vec![in alloc; NONE; count]?,
+        nexts: vec![in alloc; NONE; count]?,
+        entries: vec![in alloc; 0; count]?,
+    };
+    for column in 0..count {
+        elimination.open(matrix, column);
+        elimination.add_earlier(column);
+        elimination.close(column);
+    }
+    Ok(elimination)
+}

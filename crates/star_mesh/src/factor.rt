@@ -1,0 +1,125 @@
+// A system with its factor.
+use crate::elimination::{Elimination, eliminate};
+use crate::pattern::Pattern;
+use crate::substitution::{substitute_back, substitute_forward};
+use multigrid::numbers::{at, cut, long_at, put, shifted};
+use multigrid::{Matrix, inflow};
+use std::alloc::{AllocError, Global};
+
+// Solutions of the residual that a solution leaves.
+const REFINEMENTS: u32 = 3;
+
+/// A matrix with its factor by a pattern, and the vectors of a solution.
+#[derive(Drop)]
+pub struct Factor {
+    matrix: Matrix,
+    // Weights of the factor are raised by this number of bits.
+    scale: u32,
+    parts: Vec<u64>,
+    diagonals: Vec<u64>,
+    residual: Vec<i128>,
+    solution: Vec<i64>,
+    correction: Vec<i64>,
+    // Right side and unknowns in the order of elimination.
+    flows: Vec<i128>,
+    unknowns: Vec<i64>,
+}
+
+impl Factor {
+    /// The factor of a matrix that a pattern fits: it is symmetric, and no row's couplings outweigh its diagonal, which is below 2^61.
+    pub fn new(alloc: Global, pattern: &Pattern, matrix: Matrix) -> Result<Factor, AllocError> {
+        let count = matrix.len();
+        let Elimination {
+            scale,
+            parts,
+            diagonals,
+            ..
+        } = eliminate(alloc, pattern, &matrix)?;
+        Ok(Factor {
+            matrix,
+            scale,
+            parts,
+            diagonals,
+            residual: vec![in alloc; 0; count]?,
+            solution: vec![in alloc; 0; count]?,
+            correction: vec![in alloc; 0; count]?,
+            flows: vec![in alloc; 0; count]?,
+            unknowns: vec![in alloc; 0; count]?,
+        })
+    }
+
+    /// The right side of the system, which `solve` uses up: it leaves the residual there.
+    pub fn right_side(&mut self) -> &mut [i128] {
+        self.residual.as_mut_slice()
+    }
+
+    // Solves for the residual.
+    fn correct(&mut self, pattern: &Pattern) {
+        for place in 0..pattern.len() {
+            let flow = long_at(self.residual.as_slice(), pattern.unknown(place));
+            put(
+                self.flows.as_mut_slice(),
+                place,
+                shifted(flow, self.scale as i64),
+            );
+        }
+        substitute_forward(pattern, self.parts.as_slice(), self.flows.as_mut_slice());
+        substitute_back(
+            pattern,
+            self.parts.as_slice(),
+            self.diagonals.as_slice(),
+            self.flows.as_slice(),
+            self.unknowns.as_mut_slice(),
+        );
+        for (place, unknown) in self.unknowns.iter().enumerate() {
+            put(
+                self.correction.as_mut_slice(),
+                pattern.unknown(place),
+                *unknown,
+            );
+        }
+    }
+
+    // Adds the correction to the solution, and takes its image from the residual.
+    fn advance(&mut self) {
+        for i in 0..self.matrix.len() {
+            let own = at(self.correction.as_slice(), i);
+            let solution = at(self.solution.as_slice(), i) as i128;
+            put(
+                self.solution.as_mut_slice(),
+                i,
+                cut(solution.wrapping_add(own as i128)),
+            );
+            let row = self.matrix.row(i);
+            let inflow = inflow(self.matrix.couplings(&row), self.correction.as_slice());
+            let residual = long_at(self.residual.as_slice(), i)
+                .wrapping_add(inflow)
+                .wrapping_sub(row.pivot.times(own));
+            put(self.residual.as_mut_slice(), i, residual);
+        }
+    }
+
+    // Whether each residual is below 2^bits of its diagonal.
+    fn is_solved(&self, bits: u32) -> bool {
+        let most = 1_u128.wrapping_shl(bits);
+        self.matrix
+            .rows
+            .iter()
+            .zip(self.residual.as_slice())
+            .all(|(row, residual)| row.pivot.size(*residual) < most)
+    }
+
+    /// An approximate solution of the system: until each row's residual is below 2^bits of its diagonal, or has been solved for
+    /// three times. The pattern is that of the factor.
+    pub fn solve(&mut self, pattern: &Pattern, bits: u32) -> &[i64] {
+        self.solution.as_mut_slice().fill(0);
+        for _ in 0..=REFINEMENTS {
+            self.correct(pattern);
+            self.advance();
+            if self.is_solved(bits) {
+                break;
+            }
+        }
+        self.solution.as_slice()
+    }
+}
