@@ -1,0 +1,8 @@
+pub mod Threes
+pub mod Unlike
+pub mod Links
+pub mod Fits
+pub mod SmallSums
+pub mod Shapes
+pub mod OneHull
+pub mod Itself

@@ -1,0 +1,17 @@
+// Laws of hulls. Each is the contract of an empty function.
+ghost use Rattle.problem_hull.specs.Laws.{AlikeHaveAHull, HullIsOne, HullOfOne};
+
+/// Two problems have a hull exactly where they are alike.
+pub fn alike_have_a_hull()
+    ensures { AlikeHaveAHull }
+{}
+
+/// They have no other.
+pub fn hull_is_one()
+    ensures { HullIsOne }
+{}
+
+/// The hull of a problem and itself is that problem.
+pub fn hull_of_one()
+    ensures { HullOfOne }
+{}
