@@ -1,5 +1,5 @@
 -- The hull of two problems is a problem, if the sums of its cells fit.
-use Rattle.std.proofs.Common.{◌≡◌, ◌<◌, ◌≤◌, ◌^◌, ◌≤ℤ◌, ℕ, ℤ, arith, List, length, min, max, sym, subst, get_or, All, Contains}
+use Rattle.std.proofs.Common.{◌≡◌, ◌<◌, ◌≤◌, ◌^◌, ◌≤ℤ◌, ℕ, ℤ, arith, List, length, sym, subst, get_or, All, Contains}
 use Rattle.std.specs.Int.{int_min, int_max}
 use Rattle.std.proofs.lemmas.Int.{ints, clamps}
 use Rattle.step_problem.specs.declared.entry.Link.{Link}
@@ -8,15 +8,15 @@ use Rattle.step_problem.specs.declared.entry.River.{River}
 use Rattle.step_problem.specs.declared.entry.Drain.{Drain}
 use Rattle.step_problem.specs.declared.entry.Evap.{Evap}
 use Rattle.step_problem.specs.Entries.{Entries, entries_at, no_entries, link_at}
-use Rattle.step_problem.specs.Conditions.{IsWithin, IsHead, LinkFits, FixedFits, RiverFits, DrainFits, EvapFits, CellFits, LinksFit, IsProblem, conductance_of, flow_of}
+use Rattle.step_problem.specs.Conditions.{IsHead, LinkFits, FixedFits, RiverFits, DrainFits, EvapFits, CellFits, LinksFit, IsProblem, conductance_of, flow_of}
 use Rattle.problem_hull.specs.Hulls.{IsHullPair, IsHullSize, IsFixedHull, IsRiverHull, IsDrainHull, IsEvapHull, IsCellHull, IsHull}
 use Rattle.problem_hull.proofs.Threes.{three_lengths, three_within, three_all}
-use Rattle.problem_hull.proofs.Links.{links_are, links_at, ids_at}
+use Rattle.problem_hull.proofs.Links.{links_at, ids_at}
 
-lower_head : (a b c d lo hi : ℤ) → IsHullPair a b c d lo hi → IsHead a → IsHead c → IsHead lo
+pub lower_head : (a b c d lo hi : ℤ) → IsHullPair a b c d lo hi → IsHead a → IsHead c → IsHead lo
 lower_head a b c d lo hi h f g = record { above = omega (arith, ints, clamps, h.low, f.above, g.above); below = omega (arith, ints, clamps, h.low, f.below, g.below) }
 
-upper_head : (a b c d lo hi : ℤ) → IsHullPair a b c d lo hi → IsHead b → IsHead d → IsHead hi
+pub upper_head : (a b c d lo hi : ℤ) → IsHullPair a b c d lo hi → IsHead b → IsHead d → IsHead hi
 upper_head a b c d lo hi h f g = record { above = omega (arith, ints, clamps, h.high, f.above, g.above); below = omega (arith, ints, clamps, h.high, f.below, g.below) }
 
 ordered : (a b c d lo hi : ℕ) → IsHullSize a b c d lo hi → a ≤ b → lo ≤ hi

@@ -1,6 +1,5 @@
 -- The hull of a problem and itself is that problem.
-use Rattle.std.proofs.Common.{◌≡◌, [], ◌∷◌, refl, arith, ℕ, ℤ, List, min, max}
-use Rattle.std.specs.Int.{int_min, int_max}
+use Rattle.std.proofs.Common.{[], ◌∷◌, refl, arith, ℕ, ℤ, List}
 use Rattle.std.proofs.lemmas.Int.{ints, clamps}
 use Rattle.step_problem.specs.Entries.{Entries}
 use Rattle.problem_hull.specs.Threes.{AllThree}

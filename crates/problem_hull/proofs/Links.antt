@@ -1,5 +1,5 @@
 -- A hull keeps the links and the cell numbers of both problems.
-use Rattle.std.proofs.Common.{◌≡◌, [], ◌∷◌, ℕ, zero, suc, List, refl}
+use Rattle.std.proofs.Common.{◌≡◌, ◌∷◌, ℕ, zero, suc, List, refl}
 use Rattle.step_problem.specs.declared.entry.Link.{Link}
 use Rattle.step_problem.specs.Entries.{Entries, entries_at}
 use Rattle.problem_hull.specs.Threes.{AllThree}

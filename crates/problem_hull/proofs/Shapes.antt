@@ -1,5 +1,5 @@
 -- Two problems have a hull exactly where they are alike.
-use Rattle.std.proofs.Common.{◌≡◌, ◌↔◌, [], ◌∷◌, refl, sym, ap, arith, ℕ, ℤ, pos, List, map, length, min, max}
+use Rattle.std.proofs.Common.{◌≡◌, ◌↔◌, [], ◌∷◌, refl, ap, pos, List, map, min, max}
 use Rattle.std.specs.Int.{int_min, int_max}
 use Rattle.step_problem.specs.declared.entry.Link.{Link}
 use Rattle.step_problem.specs.declared.entry.Flow.{Flow}
@@ -11,7 +11,7 @@ use Rattle.step_problem.specs.Entries.{Entries}
 use Rattle.problem_hull.specs.Threes.{AllThree}
 use Rattle.problem_hull.specs.Threes.AllThree.{none, next}
 use Rattle.problem_hull.specs.Shapes.{link_shape, flow_shape, fixed_shape, river_shape, drain_shape, evap_shape, cell_shape, AreAlike}
-use Rattle.problem_hull.specs.Hulls.{IsHullPair, IsHullSize, IsLinkHull, IsFlowHull, IsFixedHull, IsRiverHull, IsDrainHull, IsEvapHull, IsCellHull, IsHull}
+use Rattle.problem_hull.specs.Hulls.{IsLinkHull, IsFlowHull, IsFixedHull, IsRiverHull, IsDrainHull, IsEvapHull, IsCellHull, IsHull}
 
 -- lists that have the same shapes have hulls, if items of the same shape have
 module _ {X : Type 0} (f : X → X) (R : X → X → X → Type 0) where

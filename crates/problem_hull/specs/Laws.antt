@@ -1,6 +1,5 @@
 -- Which problems have a hull, and that they have one alone.
 use Rattle.std.specs.Prelude.{◌≡◌, ◌↔◌, List}
-use Rattle.step_problem.specs.Conditions.{IsProblem}
 use Rattle.step_problem.specs.Entries.{Entries}
 use Rattle.problem_hull.specs.Shapes.{AreAlike}
 use Rattle.problem_hull.specs.Hulls.{IsHull}

@@ -1,10 +1,8 @@
-use Rattle.std.proofs.Common.{◌≡◌, ◌+◌, ◌<◌, [], IfErr, arith, length, List, refl, sym, subst, take}
+use Rattle.std.proofs.Common.{◌≡◌, ◌+◌, ◌<◌, [], arith, length, List, sym, subst, take}
 use Rattle.std.proofs.lemmas.Result.{err_from_is_err_and}
-use Rattle.step_problem.specs.Entries.{Entries, entries_at, no_entries}
+use Rattle.step_problem.specs.Entries.{Entries, no_entries}
 use Rattle.problem_hull.specs.Threes.AllThree.{none}
-use Rattle.problem_hull.specs.Shapes.{AreAlike, cell_shape}
 use Rattle.problem_hull.specs.Hulls.{IsCellHull, IsHull}
-use Rattle.problem_hull.specs.Refusals.{IsUnlike}
 use Rattle.problem_hull.proofs.Threes.{three_more}
 use Rattle.problem_hull.proofs.Unlike.{unlike_cells}
 use Rattle.problem_hull.proofs.cells.cell_hulls.Goals as goal

@@ -1,6 +1,4 @@
-use Rattle.std.proofs.Common.{List, All, ap, subst}
-use Rattle.step_problem.specs.declared.entry.River.{River}
-use Rattle.step_problem.specs.declared.entry.Evap.{Evap}
+use Rattle.std.proofs.Common.{All, ap, subst}
 use Rattle.step_problem.specs.Conditions.{RiverFits, EvapFits}
 use Rattle.step_problem.specs.Entries.{Entries}
 use Rattle.problem_hull.proofs.SmallSums.{entries_named, first_here}

@@ -1,0 +1,8 @@
+pub mod ThreeLists
+pub mod HullBounds
+pub mod HullsEnclose
+pub mod Monotone
+pub mod GivenHeadsBetween
+pub mod SourcesBetween
+pub mod StepsBetween
+pub mod SameFrames

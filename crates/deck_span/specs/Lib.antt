@@ -1,0 +1,5 @@
+pub mod Numbers
+pub mod Steps
+pub mod Models
+pub mod Histories
+pub mod Laws
