@@ -1,13 +1,13 @@
 -- A given head lies between those of the other two decks at each step.
-use Rattle.std.proofs.Common.{◌≡◌, ℕ, zero, suc, ◌+◌, ◌*◌, ◌-◌, ◌≤◌, ◌<◌, ◌⊎◌, inl, inr, arith, refl, sym, ap, ◌∙◌, subst, Bool, true, false, cond, Option, Some, None, ℤ, pos, neg_ℤ, ◌+ℤ◌, ◌*ℤ◌, ◌≤ℤ◌}
+use Rattle.std.proofs.Common.{◌≡◌, ℕ, zero, suc, ◌+◌, ◌*◌, ◌-◌, ◌≤◌, ◌⊎◌, inl, inr, arith, sym, ap, ◌∙◌, subst, Bool, true, false, cond, ℤ, pos, neg_ℤ, ◌+ℤ◌, ◌*ℤ◌, ◌≤ℤ◌}
 use Rattle.std.specs.Prelude.{◌==◌, ◌||◌}
 use Rattle.std.proofs.lemmas.Int.{ints}
-use Rattle.decimal_input.specs.Canonical.{number, size}
+use Rattle.decimal_input.specs.Canonical.{number}
 use Rattle.decimal_input.specs.Ratios.{Ratio, den as size_den, AtMost as IsRatioAtMost, plus as size_plus, over as size_over, ratio as size_ratio}
 use Rattle.decimal_input.specs.Fractions.{Fraction, den, AtMost, signed, negated, plus, times}
-use Rattle.decimal_input.proofs.Signs.{mul_mono_right, swap}
+use Rattle.decimal_input.proofs.Signs.{mul_mono_right}
 use Rattle.decimal_input.proofs.Differences.{diffs, as_diff, same_diff}
-use Rattle.decimal_input.proofs.Orders.{AtMost-refl, AtMost-trans, num_plus, den_plus, num_over, den_over}
+use Rattle.decimal_input.proofs.Orders.{AtMost-refl, AtMost-trans, num_plus, den_plus}
 use Rattle.model_types.specs.declared.period.Period.{Period}
 use Rattle.model_types.specs.declared.entry.Given.{Given}
 use Rattle.model_types.specs.Conductances.{one}
@@ -37,11 +37,14 @@ ends_keep : (a b c d : ℤ) (x y z t w u : ℕ) → (a *ℤ pos z) ≤ℤ (c *�
     ((a *ℤ pos (w * (y * x)) +ℤ b *ℤ pos (u * (x * x))) *ℤ pos (z * ((t * z) * (w + u)))) ≤ℤ
     ((c *ℤ pos (w * (t * z)) +ℤ d *ℤ pos (u * (z * z))) *ℤ pos (x * ((y * x) * (w + u))))
 ends_keep a b c d x y z t w u h k =
-    rw (sum_times (a *ℤ pos (w * (y * x))) (b *ℤ pos (u * (x * x))) (pos (z * ((t * z) * (w + u)))), sum_times (c *ℤ pos (w * (t * z))) (d *ℤ pos (u * (z * z))) (pos (x * ((y * x) * (w + u)))),
-    regroup a (w * (y * x)) (z * ((t * z) * (w + u))) z (w * y * x * t * z * (w + u)) (omega arith),
-    regroup c (w * (t * z)) (x * ((y * x) * (w + u))) x (w * y * x * t * z * (w + u)) (omega arith),
-    regroup b (u * (x * x)) (z * ((t * z) * (w + u))) t (u * x * x * z * z * (w + u)) (omega arith),
-    regroup d (u * (z * z)) (x * ((y * x) * (w + u))) y (u * x * x * z * z * (w + u)) (omega arith))
+    rw (
+      sum_times (a *ℤ pos (w * (y * x))) (b *ℤ pos (u * (x * x))) (pos (z * ((t * z) * (w + u)))),
+      sum_times (c *ℤ pos (w * (t * z))) (d *ℤ pos (u * (z * z))) (pos (x * ((y * x) * (w + u)))),
+      regroup a (w * (y * x)) (z * ((t * z) * (w + u))) z (w * y * x * t * z * (w + u)) (omega arith),
+      regroup c (w * (t * z)) (x * ((y * x) * (w + u))) x (w * y * x * t * z * (w + u)) (omega arith),
+      regroup b (u * (x * x)) (z * ((t * z) * (w + u))) t (u * x * x * z * z * (w + u)) (omega arith),
+      regroup d (u * (z * z)) (x * ((y * x) * (w + u))) y (u * x * x * z * z * (w + u)) (omega arith),
+    )
     (added _ _ _ _ (mul_mono_right (w * y * x * t * z * (w + u)) _ _ h) (mul_mono_right (u * x * x * z * z * (w + u)) _ _ k))
 
 middle_den : (a b c : ℕ) → suc ((b * a + b + a) * c + (b * a + b + a) + c) ≡ (suc b * suc a) * suc c
@@ -85,6 +88,7 @@ module _ (F : Ratio) (part : F.num ≤ size_den F) where
     where
       each : (a b : Given) → IsGivenAtMost a b → AtMost (between_heads a F) (between_heads b F)
       each a b k = keeps (number a.shead) (number a.ehead) (number b.shead) (number b.ehead) k.start k.end
+
       by : ((IsGivenAtMost x y × IsGivenAtMost y z) ⊎ (IsGivenAtMost z y × IsGivenAtMost y x)) →
           ((AtMost (between_heads x F) (between_heads y F) × AtMost (between_heads y F) (between_heads z F)) ⊎ (AtMost (between_heads z F) (between_heads y F) × AtMost (between_heads y F) (between_heads x F)))
       by (inl o) = inl (each x y o.0, each y z o.1)

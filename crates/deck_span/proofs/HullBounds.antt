@@ -1,5 +1,5 @@
 -- A number between two enclosed ones lies between the outer bounds.
-use Rattle.std.proofs.Common.{◌≡◌, ℕ, suc, ◌*◌, ◌^◌, ◌≤◌, ◌<◌, ◌⊎◌, inl, inr, arith, ap, sym, ℤ, pos, ◌*ℤ◌, ◌≤ℤ◌, min, max}
+use Rattle.std.proofs.Common.{ℕ, ◌*◌, ◌^◌, ◌≤◌, ◌<◌, ◌⊎◌, inl, inr, arith, ℤ, pos, ◌*ℤ◌, ◌≤ℤ◌, min, max}
 use Rattle.std.specs.Int.{int_min, int_max}
 use Rattle.std.proofs.Math.Nat.{mul-le-mul_right, le_of_mul-le-mul_right}
 use Rattle.std.proofs.lemmas.Int.{ints, clamps}
@@ -53,8 +53,10 @@ hull_of_numbers a b c d lo hi s f g h is p q m =
   where
     up : (x y : ℤ) (u : Fraction) → EnclosesSigned x y s u → AtMost u g → (x *ℤ pos (den g)) ≤ℤ (g.num *ℤ pos (10 ^ s))
     up x y u e o = low_cross_signed x u.num g.num (den u) (den g) (10 ^ s) (omega arith) e.lower o.at_most
+
     down : (x y : ℤ) (u : Fraction) → EnclosesSigned x y s u → AtMost g u → (g.num *ℤ pos (10 ^ s)) ≤ℤ (y *ℤ pos (den g))
     down x y u e o = high_cross_signed y u.num g.num (den u) (den g) (10 ^ s) (omega arith) e.upper o.at_most
+
     by_order : ((AtMost f g × AtMost g h) ⊎ (AtMost h g × AtMost g f)) → EnclosesSigned (int_min a c) (int_max b d) s g
     by_order (inl o) = record {
       lower = lower_down _ _ (den g) _ (min_left a c) (up a b f p o.0);
@@ -89,8 +91,10 @@ hull_of_sizes a b c d lo hi s f g h is p q m =
   where
     up : (x y : ℕ) (u : Ratio) → Encloses x y s u → IsRatioAtMost u g → x * size_den g ≤ g.num * 10 ^ s
     up x y u e o = low_cross x u.num (size_den u) g.num (size_den g) (10 ^ s) (omega arith) e.lower o.cross
+
     down : (x y : ℕ) (u : Ratio) → Encloses x y s u → IsRatioAtMost g u → g.num * 10 ^ s ≤ y * size_den g
     down x y u e o = high_cross y u.num (size_den u) g.num (size_den g) (10 ^ s) (omega arith) e.upper o.cross
+
     by_order : ((IsRatioAtMost f g × IsRatioAtMost g h) ⊎ (IsRatioAtMost h g × IsRatioAtMost g f)) → Encloses (min a c) (max b d) s g
     by_order (inl o) = record {
       lower = nat_low _ _ (size_den g) _ (nat_min_left a c) (up a b f p o.0);

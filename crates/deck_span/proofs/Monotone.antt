@@ -1,10 +1,9 @@
 -- Numbers that are made from numbers between two others.
-use Rattle.std.proofs.Common.{◌≡◌, ℕ, zero, suc, ◌+◌, ◌*◌, ◌-◌, ◌≤◌, ◌<◌, ◌⊎◌, inl, inr, arith, refl, sym, ap, ◌∙◌, ℤ, pos, neg_ℤ, ◌+ℤ◌, ◌*ℤ◌, ◌≤ℤ◌}
-use Rattle.std.proofs.Math.Nat.{mul-le-mul_right}
+use Rattle.std.proofs.Common.{◌≡◌, ℕ, suc, ◌+◌, ◌*◌, ◌<◌, ◌⊎◌, inl, inr, arith, refl, ℤ, pos, ◌+ℤ◌, ◌*ℤ◌, ◌≤ℤ◌}
 use Rattle.std.proofs.lemmas.Int.{ints}
-use Rattle.decimal_input.specs.Ratios.{Ratio, den as size_den, AtMost as IsRatioAtMost, times as size_times, over as size_over}
-use Rattle.decimal_input.specs.Fractions.{Fraction, den, AtMost, signed, negated, plus, times}
-use Rattle.decimal_input.proofs.Signs.{mul_mono_right, swap}
+use Rattle.decimal_input.specs.Ratios.{Ratio, AtMost as IsRatioAtMost, times as size_times, over as size_over}
+use Rattle.decimal_input.specs.Fractions.{Fraction, den, AtMost, signed, plus, times}
+use Rattle.decimal_input.proofs.Signs.{mul_mono_right}
 use Rattle.decimal_input.proofs.Differences.{diffs, as_diff, same_diff}
 use Rattle.decimal_input.proofs.Orders.{AtMost-refl, times-AtMost, over-AtMost}
 use Rattle.deck_span.specs.Numbers.{IsFractionBetween, IsRatioBetween}
@@ -72,10 +71,13 @@ plus_keeps k f g h = record {
   where
     left_side : (a c : ℤ) (d e x : ℕ) → (a *ℤ pos x +ℤ c *ℤ pos d) *ℤ pos (e * x) ≡ (a *ℤ pos e) *ℤ pos (x * x) +ℤ c *ℤ pos (d * e * x)
     left_side a c d e x = rw (product e x, product x x, triple d e x) (sum_left a c (pos d) (pos e) (pos x))
+
     right_side : (b c : ℤ) (d e x : ℕ) → (b *ℤ pos x +ℤ c *ℤ pos e) *ℤ pos (d * x) ≡ (b *ℤ pos d) *ℤ pos (x * x) +ℤ c *ℤ pos (d * e * x)
     right_side b c d e x = rw (product d x, product x x, triple d e x) (sum_right b c (pos d) (pos e) (pos x))
+
     added : (a b c : ℤ) → a ≤ℤ b → (a +ℤ c) ≤ℤ (b +ℤ c)
     added a b c h = omega (arith, ints)
+
     summed : (a b c : ℤ) (d e x : ℕ) → (a *ℤ pos e) ≤ℤ (b *ℤ pos d) → ((a *ℤ pos x +ℤ c *ℤ pos d) *ℤ pos (e * x)) ≤ℤ ((b *ℤ pos x +ℤ c *ℤ pos e) *ℤ pos (d * x))
     summed a b c d e x h = rw (left_side a c d e x, right_side b c d e x) (added _ _ _ (mul_mono_right (x * x) _ _ h))
 

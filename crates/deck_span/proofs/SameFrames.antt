@@ -1,13 +1,12 @@
 -- What a model between two others has in common with them.
-use Rattle.std.proofs.Common.{◌≡◌, ℕ, zero, suc, ◌+◌, ◌-◌, ◌≤◌, ◌<◌, refl, sym, ap, ◌∙◌, subst, Bool, List, length, map}
+use Rattle.std.proofs.Common.{◌≡◌, ℕ, ◌≤◌, ap, subst, List, length, map}
 use Rattle.std.specs.List.{flat_map, range_with_len}
 use Rattle.decimal_input.specs.declared.dec.Dec.{Dec}
 use Rattle.model_types.specs.declared.model.FlowModel.{FlowModel}
 use Rattle.model_types.specs.declared.period.Period.{Period}
-use Rattle.model_types.specs.declared.time_steps.TimeStep.{TimeStep}
 use Rattle.model_types.specs.Cells.{cell_count}
 use Rattle.model_types.specs.Layers.{is_active}
-use Rattle.model_types.specs.Times.{period_at, steps_of, times}
+use Rattle.model_types.specs.Times.{period_at, times}
 use Rattle.model_types.specs.Kinds.{is_variable, index_of}
 use Rattle.model_types.specs.Heads.{start_head, constant_head}
 use Rattle.problem_hull.specs.Threes.{AllThree}
@@ -17,16 +16,17 @@ use Rattle.deck_span.specs.Models.{IsPeriodBetween, IsBetween}
 use Rattle.decimal_input.specs.Fractions.{Fraction}
 use Rattle.problem_hull.proofs.Threes.{three_at, three_lengths}
 use Rattle.deck_span.proofs.SourcesBetween.{framed, no_dec, at_period, variable_is, cells_are}
-use Rattle.deck_span.proofs.StepsBetween.{framed_is, constant_between, started}
+use Rattle.deck_span.proofs.StepsBetween.{framed_is, constant_between}
 
 module _ (f : FlowModel) (s₁ s₂ s₃ : List Dec) (ps qs rs : List Period) (periods : AllThree IsPeriodBetween ps qs rs) where
   framed_times : (times (framed f s₂ qs) ≡ times (framed f s₁ ps)) × (times (framed f s₃ rs) ≡ times (framed f s₁ ps))
   unfolding times
   framed_times =
       let lens = three_lengths IsPeriodBetween ps qs rs periods in
-      let here = at_period f s₁ s₂ s₃ ps qs rs periods in
-      ((λ i. flat_map (λ p. map (λ n. record { period = p; step = n }) (range_with_len 1 ((here p).same i).nstp)) (range_with_len 1 (lens.0 i))),
-      (λ i. flat_map (λ p. map (λ n. record { period = p; step = n }) (range_with_len 1 ((here p).alike i).nstp)) (range_with_len 1 (lens.1 i))))
+      let here = at_period f s₁ s₂ s₃ ps qs rs periods in (
+        (λ i. flat_map (λ p. map (λ n. record { period = p; step = n }) (range_with_len 1 ((here p).same i).nstp)) (range_with_len 1 (lens.0 i))),
+        (λ i. flat_map (λ p. map (λ n. record { period = p; step = n }) (range_with_len 1 ((here p).alike i).nstp)) (range_with_len 1 (lens.1 i))),
+      )
 
 module _ (a m b : FlowModel) (h : IsBetween a m b) where
   abbrev M : FlowModel

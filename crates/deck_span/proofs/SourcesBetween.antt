@@ -1,34 +1,26 @@
 -- What flows into a cell of three models of one frame lies between, source by source.
-use Rattle.std.proofs.Common.{◌≡◌, ℕ, zero, suc, ◌+◌, ◌*◌, ◌-◌, ◌≤◌, ◌<◌, ◌⊎◌, inl, inr, arith, refl, sym, ap, ◌∙◌, subst, Bool, true, false, cond, Option, Some, None, List, [], ◌∷◌, ◌++◌, length, map, take, reverse, pos, ℤ}
-use Rattle.std.specs.Prelude.{slice_index_or, is_some, not, ◌&&◌, ◌==◌, int_lt}
-use Rattle.std.specs.Option.{option_to_list}
-use Rattle.std.specs.List.{filter, filter_map, flat_map, find, range_with_len}
+use Rattle.std.proofs.Common.{◌≡◌, ℕ, ◌-◌, refl, ap, ◌∙◌, Bool, true, false, cond, Some, None, List, map, take, reverse, pos, ℤ}
+use Rattle.std.specs.Prelude.{not, ◌&&◌, ◌==◌, int_lt}
+use Rattle.std.specs.List.{filter, filter_map, range_with_len}
 use Rattle.decimal_input.specs.declared.dec.Dec.{Dec}
 use Rattle.decimal_input.specs.Canonical.{number, size}
-use Rattle.decimal_input.specs.Ratios.{Ratio}
-use Rattle.decimal_input.specs.Fractions.{Fraction}
 use Rattle.model_types.specs.declared.grid.CellId.{CellId}
 use Rattle.model_types.specs.declared.model.FlowModel.{FlowModel}
 use Rattle.model_types.specs.declared.period.Period.{Period}
 use Rattle.model_types.specs.declared.entry.Given.{Given}
 use Rattle.model_types.specs.declared.entry.Entry.{Entry}
-use Rattle.model_types.specs.declared.entry.Entry.TheVariants.{Well, River, Drain, General}
-use Rattle.model_types.specs.declared.face.Axis.{Axis}
-use Rattle.model_types.specs.declared.face.Axis.TheVariants.{Row, Column, Vertical}
 use Rattle.model_types.specs.declared.face.Face.{Face}
-use Rattle.model_types.specs.Cells.{cell_count, place_in_layer}
-use Rattle.model_types.specs.Layers.{no_number, dec_at, int_at, is_active, area}
-use Rattle.model_types.specs.Conductances.{conductance, row_conductance, column_conductance, vertical_conductance, vertical_half}
+use Rattle.model_types.specs.Cells.{place_in_layer}
+use Rattle.model_types.specs.Layers.{no_number, dec_at, int_at, is_active}
 use Rattle.model_types.specs.Faces.{faces, through}
-use Rattle.model_types.specs.Times.{no_period, period_at, entries, passed}
-use Rattle.model_types.specs.Storage.{storage}
-use Rattle.model_types.specs.Kinds.{given_in, last_given, is_variable, is_constant, variable_below, variable_cells, index_of}
+use Rattle.model_types.specs.Times.{no_period, period_at, entries}
+use Rattle.model_types.specs.Kinds.{given_in, last_given, is_variable, variable_below}
 use Rattle.model_types.specs.Receivers.{is_chosen, EvapSource, recharge_at, evap_source, evap_at}
 use Rattle.model_types.specs.Sources.{FixedSource, FlowSource, RiverSource, DrainSource, cell_of, as_well, as_river, as_drain, as_general, entries_of, local_entries, variable_faces, constant_faces, storage_at, flow_sources, fixed_sources, river_sources, drain_sources, evap_sources}
 use Rattle.model_types.specs.Sources.FixedSource.{ToConstant, ToGeneral, FromStorage}
 use Rattle.model_types.specs.Sources.FlowSource.{Pumped, Received}
 use Rattle.problem_hull.specs.Threes.{AllThree}
-use Rattle.problem_hull.specs.Threes.AllThree.{none, next}
+use Rattle.problem_hull.specs.Threes.AllThree.{none}
 use Rattle.deck_span.specs.Numbers.{IsDecBetween, IsSizeBetween}
 use Rattle.deck_span.specs.Models.{IsEntryBetween, IsGivenBetween, IsRateBetween, IsPeriodBetween}
 use Rattle.deck_span.specs.Models.IsEntryBetween.{wells, rivers, drains, generals}
@@ -177,9 +169,10 @@ module _ (f : FlowModel) (s₁ s₂ s₃ : List Dec) (ps qs rs : List Period) (p
   faces_are p c = (ap (λ t. filter_map (through t) (faces f.grid c)) (tests p).0, ap (λ t. filter_map (through t) (faces f.grid c)) (tests p).1)
 
   pub fixed_faces_are : (p c : ℕ) → (constant_faces M p c ≡ constant_faces A p c) × (constant_faces B p c ≡ constant_faces A p c)
-  fixed_faces_are p c =
-      (ap (λ (t : ℕ → Bool). filter_map (through (λ k. is_active f k && not (t k))) (faces f.grid c)) (tests p).0,
-      ap (λ (t : ℕ → Bool). filter_map (through (λ k. is_active f k && not (t k))) (faces f.grid c)) (tests p).1)
+  fixed_faces_are p c = (
+    ap (λ (t : ℕ → Bool). filter_map (through (λ k. is_active f k && not (t k))) (faces f.grid c)) (tests p).0,
+    ap (λ (t : ℕ → Bool). filter_map (through (λ k. is_active f k && not (t k))) (faces f.grid c)) (tests p).1,
+  )
 
   -- sources
 

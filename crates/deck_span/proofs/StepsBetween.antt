@@ -1,14 +1,12 @@
 -- Each exact step of a model between two others lies between theirs.
-use Rattle.std.proofs.Common.{◌≡◌, ℕ, zero, suc, ◌+◌, ◌*◌, ◌-◌, ◌^◌, ◌≤◌, ◌<◌, inl, inr, refl, sym, ap, ◌∙◌, subst, arith, Bool, true, false, cond, Option, Some, None, List, [], ◌∷◌, ◌++◌, length, map, take, get_or, All}
-use Rattle.std.specs.Prelude.{slice_index_or, ◌&&◌, int_lt, not, pos}
-use Rattle.std.specs.Option.{option_to_list}
+use Rattle.std.proofs.Common.{◌≡◌, ℕ, zero, suc, ◌*◌, ◌-◌, ◌^◌, ◌≤◌, ◌<◌, inl, inr, refl, sym, ap, ◌∙◌, subst, arith, Bool, true, false, Option, List, [], ◌∷◌, length, map, All}
+use Rattle.std.specs.Prelude.{◌&&◌, int_lt, not, pos}
 use Rattle.decimal_input.specs.declared.dec.Dec.{Dec}
 use Rattle.decimal_input.specs.Canonical.{number, size}
-use Rattle.decimal_input.specs.Ratios.{Ratio, ratio, over, times as size_times}
-use Rattle.decimal_input.specs.Decimals.{scaled, up}
+use Rattle.decimal_input.specs.Ratios.{Ratio, over, times as size_times}
+use Rattle.decimal_input.specs.Decimals.{up}
 use Rattle.decimal_input.specs.Fractions.{Fraction, signed, negated, plus, times}
-use Rattle.cell_balance.specs.Steps.{ExactFlow, ExactLink, ExactFixed, ExactRiver, ExactDrain, ExactEvap, ExactCell}
-use Rattle.step_problem.specs.declared.entry.FixedKind.{FixedKind}
+use Rattle.cell_balance.specs.Steps.{ExactEvap}
 use Rattle.model_types.specs.declared.model.FlowModel.{FlowModel}
 use Rattle.model_types.specs.declared.period.Period.{Period}
 use Rattle.model_types.specs.declared.entry.Given.{Given}
@@ -16,19 +14,17 @@ use Rattle.model_types.specs.declared.face.Axis.{Axis}
 use Rattle.model_types.specs.declared.face.Axis.TheVariants.{Row, Column, Vertical}
 use Rattle.model_types.specs.declared.face.Face.{Face}
 use Rattle.model_types.specs.Cells.{cell_count}
-use Rattle.model_types.specs.Layers.{no_number, is_active, area, dec_at, int_at}
+use Rattle.model_types.specs.Layers.{no_number, is_active, area, int_at}
 use Rattle.model_types.specs.Conductances.{conductance, row_conductance, column_conductance, vertical_conductance, vertical_half}
 use Rattle.model_types.specs.Times.{period_at, passed}
 use Rattle.model_types.specs.Storage.{storage}
-use Rattle.model_types.specs.Kinds.{given_in, last_given, is_variable, variable_below, variable_cells, index_of}
+use Rattle.model_types.specs.Kinds.{is_variable, variable_below, variable_cells}
 use Rattle.model_types.specs.Heads.{start_head, kept_head, head_or_kept, constant_head, between_heads}
-use Rattle.model_types.specs.Receivers.{EvapSource, recharge_flow, evap_conductance, extinction}
-use Rattle.model_types.specs.Sources.{FixedSource, FlowSource, RiverSource, DrainSource, variable_faces, flow_sources, fixed_sources, river_sources, drain_sources, evap_sources}
-use Rattle.model_types.specs.Sources.FixedSource.{ToConstant, ToGeneral, FromStorage}
-use Rattle.model_types.specs.Sources.FlowSource.{Pumped, Received}
+use Rattle.model_types.specs.Receivers.{EvapSource}
+use Rattle.model_types.specs.Sources.{FixedSource, FlowSource, RiverSource, DrainSource, variable_faces, evap_sources}
 use Rattle.model_types.specs.Numbers.{IsPositive}
 use Rattle.model_types.specs.Valid.{IsModel, IsEvapValid}
-use Rattle.model_types.proofs.Ranks.{rank, passing, is_at}
+use Rattle.model_types.proofs.Ranks.{passing, is_at}
 use Rattle.flow_equations.specs.ExactStep.{exact_river, exact_drain, exact_link, exact_fixed, exact_flow, exact_evap, exact_cell, exact_step}
 use Rattle.problem_hull.specs.Threes.{AllThree}
 use Rattle.std.proofs.lemmas.List.Elements.{All-head, All-tail}
@@ -38,15 +34,15 @@ use Rattle.std.proofs.lemmas.Bool.{false≢true}
 use Rattle.std.proofs.lemmas.Bool.Decides.{nat_tests}
 use Rattle.decimal_input.proofs.Powers.{num_scaled, ten_pos}
 use Rattle.problem_hull.specs.Threes.AllThree.{none, next}
-use Rattle.deck_span.specs.Numbers.{IsFractionBetween, IsRatioBetween, IsDecBetween, IsSizeBetween}
+use Rattle.deck_span.specs.Numbers.{IsFractionBetween, IsRatioBetween, IsDecBetween}
 use Rattle.deck_span.specs.Steps.{IsFlowBetween, IsFixedBetween, IsRiverBetween, IsDrainBetween, IsEvapBetween, IsCellBetween, IsStepBetween}
 use Rattle.deck_span.specs.Models.{IsGivenBetween, IsPeriodBetween, IsBetween, frame, period_frame}
 use Rattle.problem_hull.proofs.Threes.{three_at}
-use Rattle.deck_span.proofs.ThreeLists.{OptionThree, three_map, three_images}
+use Rattle.deck_span.proofs.ThreeLists.{OptionThree, three_map}
 use Rattle.deck_span.proofs.ThreeLists.OptionThree.{nothing, something}
 use Rattle.deck_span.proofs.Monotone.{number_itself, size_itself, number_image, size_image, times_keeps, plus_keeps, rate_keeps}
 use Rattle.deck_span.proofs.GivenHeadsBetween.{heads_between, part_of}
-use Rattle.deck_span.proofs.SourcesBetween.{IsFlowSourceBetween, IsFixedSourceBetween, IsRiverSourceBetween, IsDrainSourceBetween, IsEvapSourceBetween, framed, no_dec, given_three, last_three, at_period, tests, cells_are, faces_are, three_flows, three_fixed, three_rivers, three_drains, three_evaps}
+use Rattle.deck_span.proofs.SourcesBetween.{IsFlowSourceBetween, IsFixedSourceBetween, IsRiverSourceBetween, IsDrainSourceBetween, IsEvapSourceBetween, framed, no_dec, given_three, last_three, at_period, cells_are, faces_are, three_flows, three_fixed, three_rivers, three_drains, three_evaps}
 use Rattle.deck_span.proofs.SourcesBetween.IsFlowSourceBetween.{pumped, received}
 use Rattle.deck_span.proofs.SourcesBetween.IsFixedSourceBetween.{constant, general, stored}
 
@@ -106,7 +102,7 @@ module _ (f : FlowModel) (s₁ s₂ s₃ : List Dec) (ps qs rs : List Period) (s
   started c = three_at IsDecBetween s₁ s₂ s₃ c no_number no_number no_number starts no_dec
 
   ended : (x y z : Given) → IsGivenBetween x y z → IsFractionBetween (number x.ehead) (number y.ehead) (number z.ehead)
-  ended x y z h = record { lies = elim h.heads [ | inl k ↦ inl (k.0.end, k.1.end) | inr k ↦ inr (k.0.end, k.1.end) ] }
+  ended x y z h = record { lies = elim h.heads [ inl k ↦ inl (k.0.end, k.1.end) | inr k ↦ inr (k.0.end, k.1.end) ] }
 
   kept : (c : ℕ) (o q r : Option Given) → OptionThree IsGivenBetween o q r → IsFractionBetween (kept_head A o c) (kept_head M q c) (kept_head B r c)
   kept c o q r nothing = started c
@@ -214,8 +210,8 @@ framed_steps f s₁ s₂ s₃ ps qs rs p n old starts periods few valid =
     rw ((cells_are f s₁ s₂ s₃ ps qs rs periods p (cell_count f.grid)).0, (cells_are f s₁ s₂ s₃ ps qs rs periods p (cell_count f.grid)).1)
     (images_of (λ c. (c < cell_count f.grid) × (is_variable (framed f s₁ ps) p c ≡ true)) IsCellBetween _ _ _
     (λ c h. cell f s₁ s₂ s₃ ps qs rs starts periods p n few old c
-        (sources_between IsEvapSourceBetween IsEvapBetween _ _ _ (evap f s₁ s₂ s₃ ps qs rs starts periods p n few old c) _ _ _ (three_evaps f s₁ s₂ s₃ ps qs rs periods p c)
-        (valid.evaps p c h.0 (variable_active (framed f s₁ ps) p c h.1))))
+    (sources_between IsEvapSourceBetween IsEvapBetween _ _ _ (evap f s₁ s₂ s₃ ps qs rs starts periods p n few old c) _ _ _ (three_evaps f s₁ s₂ s₃ ps qs rs periods p c)
+    (valid.evaps p c h.0 (variable_active (framed f s₁ ps) p c h.1))))
     (variable_cells (framed f s₁ ps) p) (each_variable (framed f s₁ ps) p (cell_count f.grid)))
 
 pub framed_is : (a m : FlowModel) → frame m ≡ frame a → framed a m.strt m.periods ≡ m

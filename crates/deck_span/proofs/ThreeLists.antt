@@ -1,10 +1,9 @@
 -- Three lists that are related place by place.
-use Rattle.std.proofs.Common.{◌≡◌, ℕ, zero, suc, ◌+◌, ◌<◌, get_or, arith, Bool, true, false, cond, Option, Some, None, List, [], ◌∷◌, ◌++◌, length, map, take, reverse, refl, sym, ap, ◌∙◌, subst}
-use Rattle.std.specs.Prelude.{slice_index_or, is_some, IfSome}
+use Rattle.std.proofs.Common.{◌≡◌, ℕ, zero, suc, Bool, true, false, cond, Option, Some, None, List, [], ◌∷◌, ◌++◌, map, take, reverse, refl}
+use Rattle.std.specs.Prelude.{is_some}
 use Rattle.std.specs.Option.{option_to_list}
 use Rattle.std.specs.List.{filter, filter_map, cons_option, flat_map, find}
-use Rattle.std.proofs.lemmas.List.{reverse-append, take_more}
-use Rattle.std.proofs.Math.Seq.{take-length}
+use Rattle.std.proofs.lemmas.List.{reverse-append}
 use Rattle.problem_hull.proofs.Threes.{three_append}
 use Rattle.problem_hull.specs.Threes.{AllThree}
 use Rattle.problem_hull.specs.Threes.AllThree.{none, next}
