@@ -45,7 +45,7 @@ module _ (a b : FlowModel) (s : ℕ) (models : AreModels a b) where
   goes_on [] these between old xs before grid olds steps = tt
   goes_on (c ∷ cs) these between old [] before grid olds steps = absurd steps
   goes_on (c ∷ cs) these between old (x ∷ xs) before grid olds (step, steps) =
-      let start = record { models = models; time = these c.at (first_in c.at (map time_of cs)); heads = grid } in
+      let start : AreBefore a b c.at old = record { models = models; time = these c.at (first_in c.at (map time_of cs)); heads = grid } in
       let here = All-head (λ c. IsBetween a c.model b) c cs between in (
         has_vector a b s c.at old x start step c.model here before olds,
         (λ d X some solves. goes_on cs (λ u k. these u (next_in c.at (map time_of cs) u k)) (All-tail (λ c. IsBetween a c.model b) c cs between) x.heads xs (heads_of d X)
@@ -61,7 +61,7 @@ module _ (a b : FlowModel) (s : ℕ) (models : AreModels a b) where
   are_one (c ∷ cs) these between old (x ∷ xs) before other grid olds same steps d e [] Ys some_d some_e first second = absurd first
   are_one (c ∷ cs) these between old (x ∷ xs) before other grid olds same steps d e (X ∷ Xs) [] some_d some_e first second = absurd second
   are_one (c ∷ cs) these between old (x ∷ xs) before other grid olds same (step, steps) d e (X ∷ Xs) (Y ∷ Ys) some_d some_e (first, firsts) (second, seconds) =
-      let start = record { models = models; time = these c.at (first_in c.at (map time_of cs)); heads = grid } in
+      let start : AreBefore a b c.at old = record { models = models; time = these c.at (first_in c.at (map time_of cs)); heads = grid } in
       let chosen = All-head (λ c. IsBetween a c.model b) c cs between in
       let here = heads_same a b s c.at old x start step c.model chosen before olds other same d e X Y some_d some_e first second in (
         here,

@@ -17,7 +17,7 @@ use Rattle.deck_span.specs.Histories.{SolvesBetweenFrom, SolvesBetween}
 use Rattle.deck_span.proofs.HullBounds.{hull_of_numbers}
 use Rattle.deck_span.proofs.SameFrames.{starts_between}
 use Rattle.span_steps.specs.HullSteps.{AreHullSteps}
-use Rattle.span_steps.specs.Within.{AreModels, EncloseStarts, LieWithin}
+use Rattle.span_steps.specs.Within.{AreModels, AreBefore, EncloseStarts, LieWithin}
 use Rattle.span_steps.proofs.Times.{first_in, next_in}
 use Rattle.span_steps.proofs.HullRange.{heads_in_range}
 use Rattle.span_steps.proofs.Moves.{lies_encloses, move_within}
@@ -43,7 +43,7 @@ module _ (a b : FlowModel) (s : ℕ) (models : AreModels a b) where
   all_within (at ∷ ats) these old [] before d Xs grid olds some steps h = absurd steps
   all_within (at ∷ ats) these old (x ∷ xs) before d [] grid olds some steps h = absurd h
   all_within (at ∷ ats) these old (x ∷ xs) before d (X ∷ Xs) grid olds some steps h =
-      let start = record { models = models; time = these at (first_in at ats); heads = grid } in
+      let start : AreBefore a b at old = record { models = models; time = these at (first_in at ats); heads = grid } in
       let here = move_within a b s at old x start steps.0 before d X olds some h.0 in
       (here, all_within ats (λ u k. these u (next_in at ats u k)) x.heads xs (heads_of d X) d Xs (heads_in_range a b s at old x start steps.0 h.0.model h.0.between) (lies_encloses a x.heads d X some here) some steps.1 h.1)
 
