@@ -6,3 +6,5 @@ pub mod GivenHeadsBetween
 pub mod SourcesBetween
 pub mod StepsBetween
 pub mod SameFrames
+pub mod AlikeBetween
+pub mod BetweenAlike

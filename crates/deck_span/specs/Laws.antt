@@ -1,4 +1,4 @@
--- Which exact steps lie between two others, and what the hull of two problems encloses.
+-- Which models and exact steps lie between two others, and what the hull of two problems encloses.
 use Rattle.std.specs.Prelude.{ℕ, ◌≤◌, List}
 use Rattle.decimal_input.specs.Fractions.{Fraction}
 use Rattle.step_problem.specs.Entries.{Entries}
@@ -11,6 +11,7 @@ use Rattle.flow_equations.specs.ExactStep.{exact_step}
 use Rattle.problem_hull.specs.Hulls.{IsHull}
 use Rattle.deck_span.specs.Steps.{IsStepBetween}
 use Rattle.deck_span.specs.Models.{IsBetween}
+use Rattle.deck_span.specs.Alike.{AreAlike}
 
 -- Where p encloses the exact step a, and q the exact step b, their hull encloses each exact step between a and b.
 abbrev pub HullsEnclose : Type 0
@@ -23,3 +24,11 @@ abbrev pub StepsLieBetween : Type 0
 StepsLieBetween =
     (a m b : FlowModel) (p n : ℕ) (old : ℕ → Fraction) → IsModel a → n ≤ (period_at a p).nstp → IsBetween a m b →
     IsStepBetween (exact_step a p n old) (exact_step m p n old) (exact_step b p n old)
+
+-- Each of two models that are alike lies between the two.
+abbrev pub AlikeLieBetween : Type 0
+AlikeLieBetween = (a b : FlowModel) → AreAlike a b → IsBetween a a b × IsBetween a b b
+
+-- Where some model lies between two models, the two are alike.
+abbrev pub BetweenAreAlike : Type 0
+BetweenAreAlike = (a m b : FlowModel) → IsBetween a m b → AreAlike a b

@@ -1,5 +1,15 @@
-// Which exact steps lie between two others, and what the hull of two problems encloses.
-ghost use Rattle.deck_span.specs.Laws.{HullsEnclose, StepsLieBetween};
+// Which models and exact steps lie between two others, and what the hull of two problems encloses.
+ghost use Rattle.deck_span.specs.Laws.{AlikeLieBetween, BetweenAreAlike, HullsEnclose, StepsLieBetween};
+
+/// Each of two models that are alike lies between the two.
+pub fn alike_lie_between()
+    ensures { AlikeLieBetween }
+{}
+
+/// Where some model lies between two models, the two are alike.
+pub fn between_are_alike()
+    ensures { BetweenAreAlike }
+{}
 
 /// The hull of two problems encloses each exact step between those that the problems enclose.
 pub fn hulls_enclose()
