@@ -1,7 +1,7 @@
 -- Each choice of models between two others has a history, and one alone, by induction on the choices.
-use Rattle.std.proofs.Common.{◌≡◌, ◌<◌, [], ◌∷◌, ℕ, refl, sym, subst, ℤ, List, All, Contains, map}
+use Rattle.std.proofs.Common.{◌<◌, [], ◌∷◌, ℕ, refl, sym, subst, ℤ, List, All, Contains, map}
 use Rattle.std.proofs.lemmas.List.Elements.{All-head, All-tail}
-use Rattle.decimal_input.specs.Fractions.{Fraction, Same}
+use Rattle.decimal_input.specs.Fractions.{Fraction}
 use Rattle.decimal_input.proofs.Fractional.{Same-sym}
 use Rattle.model_types.specs.Heads.{start_head}
 use Rattle.model_types.specs.Times.{times}

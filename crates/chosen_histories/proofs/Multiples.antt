@@ -53,6 +53,6 @@ history_exists (c ∷ cs) before going =
       (
         solves_same c.model c.at before before (λ z. record { same = refl }) d (d * k) X (multiplied k X) some_d (some_product d k some_d some_k) (λ z. turn (X z) d k) solves,
         subst (λ (n : ℕ). SolvesChoicesFrom n new cs (map (multiplied d) Xs)) (commuted k d)
-        (multiples_solve cs (heads_of d X) new (λ z. share_same d k (X z) some_d some_k) k d some_k some_d Xs rest),
+            (multiples_solve cs (heads_of d X) new (λ z. share_same d k (X z) some_d some_k) k d some_k some_d Xs rest),
       ),
     )

@@ -1,5 +1,5 @@
 -- A hull step: the step of each model between has a solution, from exact heads within the old ones, and one alone.
-use Rattle.std.proofs.Common.{◌≡◌, ◌<◌, ◌∙◌, ℕ, true, false, inl, inr, refl, sym, subst, arith, ℤ, List, length, All}
+use Rattle.std.proofs.Common.{◌≡◌, ◌<◌, ◌∙◌, ℕ, true, inl, inr, refl, sym, subst, arith, ℤ, List, length, All}
 use Rattle.std.proofs.lemmas.Bool.{cases_Bool}
 use Rattle.decimal_input.specs.Fractions.{Fraction, Same}
 use Rattle.decimal_input.proofs.Fractional.{Same-sym, Same-trans}
@@ -28,7 +28,7 @@ use Rattle.exact_histories.proofs.Ceilings.{held_above}
 use Rattle.exact_histories.proofs.GridVectors.{HasVector, vector_exists}
 use Rattle.exact_histories.proofs.SameTimes.{balances_same}
 use Rattle.deck_span.specs.Models.{IsBetween}
-use Rattle.deck_span.proofs.SameFrames.{counts_are, active_are, variable_are}
+use Rattle.deck_span.proofs.SameFrames.{counts_are, active_are}
 use Rattle.span_steps.specs.HullSteps.{IsHullStep}
 use Rattle.span_steps.specs.Within.{AreBefore}
 use Rattle.span_steps.proofs.HullProblems.{problem_encloses}
@@ -43,7 +43,7 @@ module _ (a b : FlowModel) (s : ℕ) (at : TimeStep) (old : List Bound) (x : Sol
     has_vector =
         let bars = is.posed.bars in
         let (d, X, some, solves) = solution_exists x.problem is.posed.problem.fits (held_all x.problem (head_at is.barrier.floor) bars.floors) (held_above x.problem (head_at is.barrier.ceiling) bars.ceilings) s (exact_step m at.period at.step before)
-            (problem_encloses a b s at old x.problem start is.posed.problem m before h olds) in
+        (problem_encloses a b s at old x.problem start is.posed.problem m before h olds) in
         vector_exists m at before d X (has_size a m b h start.models.first.grid.size) some solves
 
     has_at_most_one : HasAtMostOne (exact_step m at.period at.step before)

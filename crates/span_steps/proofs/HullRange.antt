@@ -1,16 +1,15 @@
 -- The heads of a hull step are heads of all cells, in range.
-use Rattle.std.proofs.Common.{◌≡◌, ◌<◌, ◌∙◌, ℕ, inl, inr, true, false, List, length, get_or, sym, subst, arith}
+use Rattle.std.proofs.Common.{◌≡◌, ◌<◌, ◌∙◌, ℕ, inl, inr, true, false, List, length, sym, subst, arith}
 use Rattle.std.proofs.lemmas.Bool.{cases_Bool}
 use Rattle.std.proofs.lemmas.Int.{ints}
 use Rattle.std.proofs.lemmas.List.{get_or_default}
 use Rattle.model_types.specs.Cells.{cell_count}
-use Rattle.model_types.specs.Kinds.{is_variable, is_constant, index_of, variable_below}
+use Rattle.model_types.specs.Kinds.{is_variable, index_of, variable_below}
 use Rattle.model_types.specs.Layers.{is_active}
-use Rattle.model_types.specs.Times.{times}
 use Rattle.model_types.specs.declared.model.FlowModel.{FlowModel}
 use Rattle.model_types.specs.declared.time_steps.TimeStep.{TimeStep}
 use Rattle.step_problem.specs.Conditions.{IsHead}
-use Rattle.step_problem.specs.Heads.{no_bound, lower_at, upper_at}
+use Rattle.step_problem.specs.Heads.{no_bound}
 use Rattle.step_problem.specs.declared.heads.Bound.{Bound}
 use Rattle.cell_balance.proofs.Zips.{AllZip-length}
 use Rattle.problem_builder.specs.Cells.{IsCellOf}

@@ -5,8 +5,7 @@ use Rattle.decimal_input.specs.Fractions.{Fraction}
 use Rattle.decimal_input.proofs.Enclosing.{whole_signed}
 use Rattle.model_types.specs.Cells.{cell_count}
 use Rattle.model_types.specs.Heads.{constant_head}
-use Rattle.model_types.specs.Kinds.{is_variable, is_constant, index_of}
-use Rattle.model_types.specs.Layers.{is_active}
+use Rattle.model_types.specs.Kinds.{is_variable, index_of}
 use Rattle.model_types.specs.declared.model.FlowModel.{FlowModel}
 use Rattle.model_types.specs.declared.time_steps.TimeStep.{TimeStep}
 use Rattle.step_problem.specs.Heads.{head_at, lower_at, upper_at}
