@@ -15,9 +15,10 @@ pub enum Stage {
     NoProblem,
 }
 
-/// A problem, bounds of its heads, moves on them, and budgets.
+/// Another problem, a problem, bounds of its heads, moves on them, and budgets.
 #[derive(Drop)]
 pub struct Given {
+    pub other: Stage,
     pub stage: Stage,
     pub bounds: Vec<Bound>,
     pub moves: Vec<Move>,
@@ -35,6 +36,7 @@ fn made(cells: Vec<Cell>) -> Stage {
 impl Given {
     pub fn new(alloc: Global) -> Given {
         Given {
+            other: Stage::NoProblem,
             stage: Stage::Cells(Vec::new(alloc)),
             bounds: Vec::new(alloc),
             moves: Vec::new(alloc),
@@ -91,6 +93,7 @@ impl Given {
     ) -> Result<bool, AllocError> {
         match word {
             "problem" => *self = Given::new(alloc),
+            "other" => self.keep_other(alloc),
             "example" => self.stage = Stage::Made(example(alloc)?),
             "heads" => self.take_heads(alloc, numbers)?,
             "moves" => self.moves = Vec::new(alloc),
@@ -104,6 +107,12 @@ impl Given {
             }
         }
         Ok(true)
+    }
+
+    // Keeps the problem so far as the other one.
+    fn keep_other(&mut self, alloc: Global) {
+        self.finish();
+        self.other = std::mem::replace(&mut self.stage, Stage::Cells(Vec::new(alloc)));
     }
 
     /// Makes the problem of the cells so far, if they make one.

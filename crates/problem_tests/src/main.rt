@@ -18,6 +18,9 @@
 //! views to a sink whose put of number LIMIT fails. `heads LOW HIGH ..` are bounds of the cells, of which
 //! `check`, `budget` and `near TRIALS SWEEPS` (from the bounds, then by one round) are asked.
 //!
+//! `other` keeps the problem so far, and `hull` puts the hull of it and of the problem after it in that problem's place,
+//! and prints its entries as lines.
+//!
 //! `moves` begins moves of two actors, `first` and `second`, on shared heads that begin at the barrier: `look ACTOR INDEX
 //! SIDE`, `raise ACTOR INDEX`, `sink ACTOR INDEX`, `claim ACTOR`, `watch ACTOR`, `seen ACTOR` (what it has seen last),
 //! `turn ACTOR TICKET`, `work ACTOR WORKER TURNS` and `own ACTOR WORKER WORKERS`. `events` makes them as events and prints
@@ -43,6 +46,7 @@ mod entries;
 mod events;
 mod exchanges;
 mod given;
+mod hulls;
 mod moves;
 mod numbers;
 mod onlooker;

@@ -5,6 +5,7 @@ use crate::between::ask_between;
 use crate::covering::print_cover;
 use crate::eliminations::{print_fit, print_network};
 use crate::given::{Given, Stage};
+use crate::hulls::take_hull;
 use crate::numbers::number;
 use crate::systems::print_system;
 use crate::zoning::print_zone_flows;
@@ -17,6 +18,7 @@ use step_problem::Problem;
 #[derive(Clone, Copy)]
 pub enum Question {
     Fits,
+    Hull,
     Balances,
     Raised,
     Sunk,
@@ -53,6 +55,7 @@ impl Question {
     pub fn of(word: &str) -> Option<Question> {
         match word {
             "fits" => Some(Question::Fits),
+            "hull" => Some(Question::Hull),
             "balances" => Some(Question::Balances),
             "raised" => Some(Question::Raised),
             "sunk" => Some(Question::Sunk),
@@ -125,6 +128,10 @@ pub fn ask<R: Print + Threads + Wait + Sync>(
         Question::Batch => return print_batch(rt, alloc, numbers),
         Question::Book => return print_book(rt, alloc),
         Question::Meeting => return print_meeting(rt, alloc),
+        Question::Hull => {
+            given.finish();
+            return take_hull(rt, alloc, given);
+        }
         _ => given.finish(),
     }
     match &given.stage {

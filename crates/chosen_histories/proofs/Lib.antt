@@ -1,0 +1,4 @@
+pub mod Multiples
+pub mod OneTurn
+pub mod ChosenHistories
+pub mod ChosenBetween

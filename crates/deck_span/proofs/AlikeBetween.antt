@@ -1,0 +1,148 @@
+-- Each of two models that are alike lies between the two.
+use Rattle.std.proofs.Common.{◌≡◌, ◌≤ℤ◌, ◌*ℤ◌, ◌*◌, ◌⊎◌, [], ◌∷◌, ℤ, pos, negsuc, refl, subst, inl, inr, arith, List, map, length}
+use Rattle.std.specs.Prelude.{◌==◌}
+use Rattle.std.specs.List.{AllZip}
+use Rattle.std.proofs.lemmas.Bool.{cases_lt}
+use Rattle.std.proofs.lemmas.Int.{ints}
+use Rattle.decimal_input.specs.declared.dec.Dec.{Dec}
+use Rattle.decimal_input.specs.Canonical.{number, size}
+use Rattle.decimal_input.specs.Ratios.{Ratio, den as ratio_den, AtMost as IsRatioAtMost}
+use Rattle.decimal_input.specs.Fractions.{Fraction, den, AtMost}
+use Rattle.model_types.specs.declared.entry.Entry.{Entry}
+use Rattle.model_types.specs.declared.entry.Entry.TheVariants.{Well, River, Drain, General}
+use Rattle.model_types.specs.declared.entry.Given.{Given}
+use Rattle.model_types.specs.declared.grid.CellId.{CellId}
+use Rattle.model_types.specs.declared.model.FlowModel.{FlowModel}
+use Rattle.model_types.specs.declared.period.Period.{Period}
+use Rattle.problem_hull.specs.Threes.{AllThree}
+use Rattle.problem_hull.specs.Threes.AllThree.{none, next}
+use Rattle.deck_span.specs.Numbers.{IsFractionBetween, IsRatioBetween, IsDecBetween, IsSizeBetween}
+use Rattle.deck_span.specs.Models.{IsEntryBetween, IsGivenAtMost, IsGivenBetween, IsRateBetween, IsPeriodBetween, IsBetween}
+use Rattle.deck_span.specs.Models.IsEntryBetween.{wells, rivers, drains, generals}
+use Rattle.deck_span.specs.Alike.{entry_frame, AreGivenAlike, ArePeriodsAlike, AreAlike}
+
+-- Of two numbers one is at most the other.
+
+total : (x y : ℤ) → (x ≤ℤ y) ⊎ (y ≤ℤ x)
+total (pos m) (pos n) = elim (cases_lt m n) [ inl h ↦ inl (omega (arith, ints, h)) | inr h ↦ inr (omega (arith, ints, h)) ]
+total (pos m) (negsuc n) = inr (omega (arith, ints))
+total (negsuc m) (pos n) = inl (omega (arith, ints))
+total (negsuc m) (negsuc n) = elim (cases_lt n m) [ inl h ↦ inl (omega (arith, ints, h)) | inr h ↦ inr (omega (arith, ints, h)) ]
+
+itself : (f : Fraction) → AtMost f f
+itself f = record { at_most = omega (arith, ints) }
+
+ratio_itself : (f : Ratio) → IsRatioAtMost f f
+ratio_itself f = record { cross = omega arith }
+
+-- both ends lie between
+abbrev Both : {X : Type 0} → (X → X → X → Type 0) → X → X → Type 0
+Both R x y = R x x y × R x y y
+
+fractions : (f g : Fraction) → Both IsFractionBetween f g
+fractions f g = elim (total (f.num *ℤ pos (den g)) (g.num *ℤ pos (den f))) [
+  | inl h ↦ (record { lies = inl (itself f, record { at_most = h }) }, record { lies = inl (record { at_most = h }, itself g) })
+  | inr h ↦ (record { lies = inr (record { at_most = h }, itself f) }, record { lies = inr (itself g, record { at_most = h }) })
+]
+
+ratios : (f g : Ratio) → Both IsRatioBetween f g
+ratios f g = elim (cases_lt (f.num * ratio_den g) (g.num * ratio_den f)) [
+  | inl h ↦ (record { lies = inl (ratio_itself f, record { cross = omega (arith, h) }) }, record { lies = inl (record { cross = omega (arith, h) }, ratio_itself g) })
+  | inr h ↦ (record { lies = inr (record { cross = omega (arith, h) }, ratio_itself f) }, record { lies = inr (ratio_itself g, record { cross = omega (arith, h) }) })
+]
+
+decs : (x y : Dec) → Both IsDecBetween x y
+decs x y = fractions (number x) (number y)
+
+sizes : (x y : Dec) → Both IsSizeBetween x y
+sizes x y = ratios (size x) (size y)
+
+-- what holds of each two items at a place holds of the lists
+
+module _ {X : Type 0} (R : X → X → X → Type 0) where
+  by_frame : {Y : Type 0} (f : X → Y) → ((x y : X) → f y ≡ f x → Both R x y) → (xs ys : List X) → map f ys ≡ map f xs → AllThree R xs xs ys × AllThree R xs ys ys
+  by_frame f each [] [] e = (none, none)
+  by_frame f each [] (y ∷ ys) e = absurd (cc)
+  by_frame f each (x ∷ xs) [] e = absurd (cc)
+  by_frame f each (x ∷ xs) (y ∷ ys) e =
+      let here : f y ≡ f x = cc in
+      let rest : map f ys ≡ map f xs = cc in
+      let (first, second) = each x y here in
+      let (firsts, seconds) = by_frame f each xs ys rest in
+      (next first firsts, next second seconds)
+
+  by_length : ((x y : X) → Both R x y) → (xs ys : List X) → length ys ≡ length xs → AllThree R xs xs ys × AllThree R xs ys ys
+  by_length each [] [] e = (none, none)
+  by_length each [] (y ∷ ys) e = absurd (omega (arith, e))
+  by_length each (x ∷ xs) [] e = absurd (omega (arith, e))
+  by_length each (x ∷ xs) (y ∷ ys) e =
+      let (first, second) = each x y in
+      let (firsts, seconds) = by_length each xs ys (omega (arith, e)) in
+      (next first firsts, next second seconds)
+
+  by_items : (S : X → X → Type 0) → ((x y : X) → S x y → Both R x y) → (xs ys : List X) → AllZip S xs ys → AllThree R xs xs ys × AllThree R xs ys ys
+  by_items S each [] [] h = (none, none)
+  by_items S each [] (y ∷ ys) h = absurd h
+  by_items S each (x ∷ xs) [] h = absurd h
+  by_items S each (x ∷ xs) (y ∷ ys) (h, hs) =
+      let (first, second) = each x y h in
+      let (firsts, seconds) = by_items S each xs ys hs in
+      (next first firsts, next second seconds)
+
+entries : (x y : Entry) → entry_frame y ≡ entry_frame x → Both IsEntryBetween x y
+entries (Well c q₁) (Well d q₂) e =
+    let same : c ≡ d = cc in
+    subst (λ (k : CellId). Both IsEntryBetween (Well c q₁) (Well k q₂)) same (wells (decs q₁ q₂).0, wells (decs q₁ q₂).1)
+entries (Well c q₁) (River d s₂ k₂ r₂) e = absurd (cc)
+entries (Well c q₁) (Drain d s₂ k₂) e = absurd (cc)
+entries (Well c q₁) (General d s₂ k₂) e = absurd (cc)
+entries (River c s₁ k₁ r₁) (Well d q₂) e = absurd (cc)
+entries (River c s₁ k₁ r₁) (River d s₂ k₂ r₂) e =
+    let same : c ≡ d = cc in
+    subst (λ (k : CellId). Both IsEntryBetween (River c s₁ k₁ r₁) (River k s₂ k₂ r₂)) same (rivers (decs s₁ s₂).0 (sizes k₁ k₂).0 (decs r₁ r₂).0, rivers (decs s₁ s₂).1 (sizes k₁ k₂).1 (decs r₁ r₂).1)
+entries (River c s₁ k₁ r₁) (Drain d s₂ k₂) e = absurd (cc)
+entries (River c s₁ k₁ r₁) (General d s₂ k₂) e = absurd (cc)
+entries (Drain c s₁ k₁) (Well d q₂) e = absurd (cc)
+entries (Drain c s₁ k₁) (River d s₂ k₂ r₂) e = absurd (cc)
+entries (Drain c s₁ k₁) (Drain d s₂ k₂) e =
+    let same : c ≡ d = cc in
+    subst (λ (k : CellId). Both IsEntryBetween (Drain c s₁ k₁) (Drain k s₂ k₂)) same (drains (decs s₁ s₂).0 (sizes k₁ k₂).0, drains (decs s₁ s₂).1 (sizes k₁ k₂).1)
+entries (Drain c s₁ k₁) (General d s₂ k₂) e = absurd (cc)
+entries (General c s₁ k₁) (Well d q₂) e = absurd (cc)
+entries (General c s₁ k₁) (River d s₂ k₂ r₂) e = absurd (cc)
+entries (General c s₁ k₁) (Drain d s₂ k₂) e = absurd (cc)
+entries (General c s₁ k₁) (General d s₂ k₂) e =
+    let same : c ≡ d = cc in
+    subst (λ (k : CellId). Both IsEntryBetween (General c s₁ k₁) (General k s₂ k₂)) same (generals (decs s₁ s₂).0 (sizes k₁ k₂).0, generals (decs s₁ s₂).1 (sizes k₁ k₂).1)
+
+at_most_itself : (x : Given) → IsGivenAtMost x x
+at_most_itself x = record { start = itself (number x.shead); end = itself (number x.ehead) }
+
+given_heads : (x y : Given) → AreGivenAlike x y → Both IsGivenBetween x y
+given_heads x y h = elim h.heads [
+  | inl k ↦ (record { cell = refl; alike = h.cell; heads = inl (at_most_itself x, k) }, record { cell = h.cell; alike = h.cell; heads = inl (k, at_most_itself y) })
+  | inr k ↦ (record { cell = refl; alike = h.cell; heads = inr (k, at_most_itself x) }, record { cell = h.cell; alike = h.cell; heads = inr (at_most_itself y, k) })
+]
+
+rates : (x y : Dec) → (y.digits == 0) ≡ (x.digits == 0) → Both IsRateBetween x y
+rates x y e = (record { rate = (sizes x y).0; idle = refl; alike = e }, record { rate = (sizes x y).1; idle = e; alike = e })
+
+periods_between : (p q : Period) → ArePeriodsAlike p q → Both IsPeriodBetween p q
+periods_between p q h =
+    let wells = by_frame IsEntryBetween entry_frame entries p.wells q.wells h.wells in
+    let rivers = by_frame IsEntryBetween entry_frame entries p.rivers q.rivers h.rivers in
+    let drains = by_frame IsEntryBetween entry_frame entries p.drains q.drains h.drains in
+    let generals = by_frame IsEntryBetween entry_frame entries p.generals q.generals h.generals in
+    let given = by_items IsGivenBetween AreGivenAlike given_heads p.given q.given h.given in
+    let recharge = by_length IsDecBetween decs p.recharge q.recharge h.recharge in
+    let surf = by_length IsDecBetween decs p.surf q.surf h.surf in
+    let evtr = by_frame IsRateBetween (λ (x : Dec). x.digits == 0) rates p.evtr q.evtr h.evtr in (
+      record { same = refl; alike = h.same; wells = wells.0; rivers = rivers.0; drains = drains.0; generals = generals.0; given = given.0; recharge = recharge.0; surf = surf.0; evtr = evtr.0 },
+      record { same = h.same; alike = h.same; wells = wells.1; rivers = rivers.1; drains = drains.1; generals = generals.1; given = given.1; recharge = recharge.1; surf = surf.1; evtr = evtr.1 },
+    )
+
+pub alike_between : (a b : FlowModel) → AreAlike a b → IsBetween a a b × IsBetween a b b
+alike_between a b h =
+    let strt = by_length IsDecBetween decs a.strt b.strt h.strt in
+    let periods = by_items IsPeriodBetween ArePeriodsAlike periods_between a.periods b.periods h.periods in
+    (record { same = refl; alike = h.same; strt = strt.0; periods = periods.0 }, record { same = h.same; alike = h.same; strt = strt.1; periods = periods.1 })

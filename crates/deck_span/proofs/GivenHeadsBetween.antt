@@ -1,0 +1,130 @@
+-- A given head lies between those of the other two decks at each step.
+use Rattle.std.proofs.Common.{◌≡◌, ℕ, zero, suc, ◌+◌, ◌*◌, ◌-◌, ◌≤◌, ◌⊎◌, inl, inr, arith, sym, ap, ◌∙◌, subst, Bool, true, false, cond, ℤ, pos, neg_ℤ, ◌+ℤ◌, ◌*ℤ◌, ◌≤ℤ◌}
+use Rattle.std.specs.Prelude.{◌==◌, ◌||◌}
+use Rattle.std.proofs.lemmas.Int.{ints}
+use Rattle.decimal_input.specs.Canonical.{number}
+use Rattle.decimal_input.specs.Ratios.{Ratio, den as size_den, AtMost as IsRatioAtMost, plus as size_plus, over as size_over, ratio as size_ratio}
+use Rattle.decimal_input.specs.Fractions.{Fraction, den, AtMost, signed, negated, plus, times}
+use Rattle.decimal_input.proofs.Signs.{mul_mono_right}
+use Rattle.decimal_input.proofs.Differences.{diffs, as_diff, same_diff}
+use Rattle.decimal_input.proofs.Orders.{AtMost-refl, AtMost-trans, num_plus, den_plus}
+use Rattle.model_types.specs.declared.period.Period.{Period}
+use Rattle.model_types.specs.declared.entry.Given.{Given}
+use Rattle.model_types.specs.Conductances.{one}
+use Rattle.model_types.specs.Times.{power, geometric, multiplier, passed}
+use Rattle.model_types.specs.Heads.{between_heads}
+use Rattle.deck_span.specs.Numbers.{IsFractionBetween}
+use Rattle.deck_span.specs.Models.{IsGivenAtMost, IsGivenBetween}
+
+-- the head over the denominators of its ends: a / x at the start, b / y at the end, u of w + u passed
+top_is : (a b x y w u : ℤ) → a *ℤ ((y *ℤ x) *ℤ (w +ℤ u)) +ℤ ((b *ℤ x +ℤ neg_ℤ a *ℤ y) *ℤ u) *ℤ x ≡ a *ℤ (w *ℤ (y *ℤ x)) +ℤ b *ℤ (u *ℤ (x *ℤ x))
+top_is a b x y w u = rw (as_diff a, as_diff b, as_diff x, as_diff y, as_diff w, as_diff u) (simp diffs (same_diff _ _ _ _ (omega arith)))
+
+three_factors : (a b c : ℤ) → (a *ℤ b) *ℤ c ≡ a *ℤ (b *ℤ c)
+three_factors a b c = rw (as_diff a, as_diff b, as_diff c) (simp diffs (same_diff _ _ _ _ (omega arith)))
+
+regroup : (a : ℤ) (n m k l : ℕ) → n * m ≡ k * l → (a *ℤ pos n) *ℤ pos m ≡ (a *ℤ pos k) *ℤ pos l
+regroup a n m k l e = three_factors a (pos n) (pos m) ∙ ap (λ (z : ℕ). a *ℤ pos z) e ∙ sym (three_factors a (pos k) (pos l))
+
+sum_times : (p q k : ℤ) → (p +ℤ q) *ℤ k ≡ p *ℤ k +ℤ q *ℤ k
+sum_times p q k = rw (as_diff p, as_diff q, as_diff k) (simp diffs (same_diff _ _ _ _ (omega arith)))
+
+added : (a b c d : ℤ) → a ≤ℤ c → b ≤ℤ d → (a +ℤ b) ≤ℤ (c +ℤ d)
+added a b c d h k = omega (arith, ints)
+
+-- both ends at most the others', so the head is
+ends_keep : (a b c d : ℤ) (x y z t w u : ℕ) → (a *ℤ pos z) ≤ℤ (c *ℤ pos x) → (b *ℤ pos t) ≤ℤ (d *ℤ pos y) →
+    ((a *ℤ pos (w * (y * x)) +ℤ b *ℤ pos (u * (x * x))) *ℤ pos (z * ((t * z) * (w + u)))) ≤ℤ
+    ((c *ℤ pos (w * (t * z)) +ℤ d *ℤ pos (u * (z * z))) *ℤ pos (x * ((y * x) * (w + u))))
+ends_keep a b c d x y z t w u h k =
+    rw (
+      sum_times (a *ℤ pos (w * (y * x))) (b *ℤ pos (u * (x * x))) (pos (z * ((t * z) * (w + u)))),
+      sum_times (c *ℤ pos (w * (t * z))) (d *ℤ pos (u * (z * z))) (pos (x * ((y * x) * (w + u)))),
+      regroup a (w * (y * x)) (z * ((t * z) * (w + u))) z (w * y * x * t * z * (w + u)) (omega arith),
+      regroup c (w * (t * z)) (x * ((y * x) * (w + u))) x (w * y * x * t * z * (w + u)) (omega arith),
+      regroup b (u * (x * x)) (z * ((t * z) * (w + u))) t (u * x * x * z * z * (w + u)) (omega arith),
+      regroup d (u * (z * z)) (x * ((y * x) * (w + u))) y (u * x * x * z * z * (w + u)) (omega arith),
+    )
+    (added _ _ _ _ (mul_mono_right (w * y * x * t * z * (w + u)) _ _ h) (mul_mono_right (u * x * x * z * z * (w + u)) _ _ k))
+
+middle_den : (a b c : ℕ) → suc ((b * a + b + a) * c + (b * a + b + a) + c) ≡ (suc b * suc a) * suc c
+middle_den a b c = omega arith
+
+whole_den : (a k : ℕ) → suc (a * k + a + k) ≡ suc a * suc k
+whole_den a k = omega arith
+
+module _ (F : Ratio) (part : F.num ≤ size_den F) where
+  abbrev w : ℕ
+  w = size_den F - F.num
+
+  abbrev at : Fraction → Fraction → Fraction
+  at s e = plus s (times (plus e (negated s)) (signed F))
+
+  whole : size_den F ≡ w + F.num
+  whole = omega (arith, part)
+
+  middle : (s e : Fraction) → suc ((e.less * s.less + e.less + s.less) * F.less + (e.less * s.less + e.less + s.less) + F.less) ≡ (den e * den s) * (w + F.num)
+  middle s e = middle_den s.less e.less F.less ∙ ap (λ (z : ℕ). (den e * den s) * z) whole
+
+  den_at : (s e : Fraction) → den (at s e) ≡ den s * ((den e * den s) * (w + F.num))
+  den_at s e = whole_den s.less _ ∙ ap (λ (z : ℕ). den s * z) (middle s e)
+
+  num_at : (s e : Fraction) → (at s e).num ≡ s.num *ℤ pos (w * (den e * den s)) +ℤ e.num *ℤ pos (F.num * (den s * den s))
+  num_at s e =
+      ap (λ (z : ℕ). s.num *ℤ pos z +ℤ ((e.num *ℤ pos (den s) +ℤ neg_ℤ s.num *ℤ pos (den e)) *ℤ pos F.num) *ℤ pos (den s)) (middle s e)
+      ∙ top_is s.num e.num (pos (den s)) (pos (den e)) (pos w) (pos F.num)
+
+  keeps : (s e z t : Fraction) → AtMost s z → AtMost e t → AtMost (at s e) (at z t)
+  keeps s e z t h k = record {
+    at_most = subst (λ (q : ℤ). (q *ℤ pos (den (at z t))) ≤ℤ ((at z t).num *ℤ pos (den (at s e)))) (sym (num_at s e))
+        (subst (λ (q : ℤ). ((s.num *ℤ pos (w * (den e * den s)) +ℤ e.num *ℤ pos (F.num * (den s * den s))) *ℤ pos (den (at z t))) ≤ℤ (q *ℤ pos (den (at s e)))) (sym (num_at z t))
+        (subst (λ (q : ℕ). ((s.num *ℤ pos (w * (den e * den s)) +ℤ e.num *ℤ pos (F.num * (den s * den s))) *ℤ pos q) ≤ℤ ((z.num *ℤ pos (w * (den t * den z)) +ℤ t.num *ℤ pos (F.num * (den z * den z))) *ℤ pos (den (at s e)))) (sym (den_at z t))
+        (subst (λ (q : ℕ). ((s.num *ℤ pos (w * (den e * den s)) +ℤ e.num *ℤ pos (F.num * (den s * den s))) *ℤ pos (den z * ((den t * den z) * (w + F.num)))) ≤ℤ ((z.num *ℤ pos (w * (den t * den z)) +ℤ t.num *ℤ pos (F.num * (den z * den z))) *ℤ pos q)) (sym (den_at s e))
+        (ends_keep s.num e.num z.num t.num (den s) (den e) (den z) (den t) w F.num h.at_most k.at_most))));
+  }
+
+  pub heads_between : (x y z : Given) → IsGivenBetween x y z → IsFractionBetween (between_heads x F) (between_heads y F) (between_heads z F)
+  heads_between x y z h = record { lies = by h.heads }
+    where
+      each : (a b : Given) → IsGivenAtMost a b → AtMost (between_heads a F) (between_heads b F)
+      each a b k = keeps (number a.shead) (number a.ehead) (number b.shead) (number b.ehead) k.start k.end
+
+      by : ((IsGivenAtMost x y × IsGivenAtMost y z) ⊎ (IsGivenAtMost z y × IsGivenAtMost y x)) →
+          ((AtMost (between_heads x F) (between_heads y F) × AtMost (between_heads y F) (between_heads z F)) ⊎ (AtMost (between_heads z F) (between_heads y F) × AtMost (between_heads y F) (between_heads x F)))
+      by (inl o) = inl (each x y o.0, each y z o.1)
+      by (inr o) = inr (each z y o.0, each y x o.1)
+
+-- the part of a period that has passed is at most 1
+
+more : (g h : Ratio) → IsRatioAtMost g (size_plus g h)
+more g h = record { cross = rw (num_plus g h, den_plus g h) (by g.num (size_den g) h.num (size_den h)) }
+  where
+    by : (a d b e : ℕ) → a * (d * e) ≤ (a * e + b * d) * d
+    by a d b e = omega arith
+
+grows : (t : Ratio) (n k : ℕ) → IsRatioAtMost (geometric t n) (geometric t (k + n))
+unfolding geometric
+grows t n zero = subst (λ (j : ℕ). IsRatioAtMost (geometric t n) (geometric t j)) (let e : n ≡ zero + n = omega arith in e) (AtMost-refl (geometric t n))
+grows t n (suc k) = subst (λ (j : ℕ). IsRatioAtMost (geometric t n) (geometric t j)) (let e : suc (k + n) ≡ suc k + n = omega arith in e) (AtMost-trans (grows t n k) (more (geometric t (k + n)) (power t (k + n))))
+
+grown : (t : Ratio) (n m : ℕ) → n ≤ m → IsRatioAtMost (geometric t n) (geometric t m)
+grown t n m h = subst (λ (j : ℕ). IsRatioAtMost (geometric t n) (geometric t j)) (let e : (m - n) + n ≡ m = omega (arith, h) in e) (grows t n (m - n))
+
+share : (g h : Ratio) → IsRatioAtMost g h → (size_over g h).num ≤ size_den (size_over g h)
+unfolding size_over size_ratio
+share g h k = by g.num (size_den g) h.num (size_den h) k.cross
+  where
+    by : (a d b e : ℕ) → a * e ≤ b * d → a * e ≤ suc (d * b - 1)
+    by a d b e h = omega (arith, h)
+
+one_whole : one.num ≤ size_den one
+unfolding size_ratio
+one_whole = omega arith
+
+pub part_of : (p : Period) (n : ℕ) → n ≤ p.nstp → (passed p n).num ≤ size_den (passed p n)
+unfolding passed
+part_of p n h = by (n == p.nstp || p.perlen.digits == 0)
+  where
+    by : (b : Bool) → (cond b one (size_over (geometric (multiplier p) n) (geometric (multiplier p) p.nstp))).num ≤ size_den (cond b one (size_over (geometric (multiplier p) n) (geometric (multiplier p) p.nstp)))
+    by true = one_whole
+    by false = share (geometric (multiplier p) n) (geometric (multiplier p) p.nstp) (grown (multiplier p) n p.nstp h)

@@ -1,0 +1,105 @@
+-- The hull of two problems encloses each exact step between those that they enclose.
+use Rattle.std.proofs.Common.{◌≡◌, ℕ, zero, suc, ◌+◌, refl, sym, subst, ap, ◌∙◌, List, length}
+use Rattle.std.specs.List.{AllZip}
+use Rattle.step_problem.specs.declared.entry.Flow.{Flow}
+use Rattle.step_problem.specs.declared.entry.Fixed.{Fixed}
+use Rattle.step_problem.specs.declared.entry.River.{River}
+use Rattle.step_problem.specs.declared.entry.Drain.{Drain}
+use Rattle.step_problem.specs.declared.entry.Evap.{Evap}
+use Rattle.step_problem.specs.declared.entry.Link.{Link}
+use Rattle.step_problem.specs.Entries.{Entries}
+use Rattle.cell_balance.specs.Steps.{ExactFlow, ExactLink, ExactFixed, ExactRiver, ExactDrain, ExactEvap, ExactCell, cell_at}
+use Rattle.cell_balance.specs.Links.{HasEqualEnds, HasLinkBack}
+use Rattle.cell_balance.specs.Enclosures.{FlowEncloses, LinkEncloses, FixedEncloses, RiverEncloses, DrainEncloses, EvapEncloses, CellEncloses, EnclosesStep}
+use Rattle.problem_hull.specs.Threes.{AllThree}
+use Rattle.problem_hull.specs.Threes.AllThree.{none, next}
+use Rattle.deck_span.specs.Steps.{IsFlowBetween, IsFixedBetween, IsRiverBetween, IsDrainBetween, IsEvapBetween, IsCellBetween, IsStepBetween}
+use Rattle.problem_hull.specs.Hulls.{IsFlowHull, IsFixedHull, IsRiverHull, IsDrainHull, IsEvapHull, IsCellHull, IsHull}
+use Rattle.problem_hull.proofs.Links.{links_are}
+use Rattle.deck_span.proofs.HullBounds.{hull_of_numbers, hull_of_sizes}
+
+-- what holds of five items at each place holds of the lists
+pub five : {P Q R A M B : Type 0} (H : P → Q → R → Type 0) (C : A → M → B → Type 0) (E : P → A → Type 0) (F : Q → B → Type 0) (G : R → M → Type 0) →
+    ((p : P) (q : Q) (r : R) (a : A) (m : M) (b : B) → H p q r → C a m b → E p a → F q b → G r m) →
+    (ps : List P) (qs : List Q) (rs : List R) (as_ : List A) (ms : List M) (bs : List B) →
+    AllThree H ps qs rs → AllThree C as_ ms bs → AllZip E ps as_ → AllZip F qs bs → AllZip G rs ms
+five H C E F G each ps qs rs as_ ms bs none none e f = tt
+five H C E F G each ps qs rs as_ ms bs none (next m ms_) e f = absurd e
+five H C E F G each ps qs rs as_ ms bs (next h hs) none e f = absurd e
+five H C E F G each ps qs rs as_ ms bs (next {x = p} {y = q} {z = r} h hs) (next {x = a} {y = m} {z = b} c cs) e f =
+    (each p q r a m b h c e.0 f.0, five H C E F G each _ _ _ _ _ _ hs cs e.1 f.1)
+
+module _ (s : ℕ) where
+  flow : (p q r : Flow) (a m b : ExactFlow) → IsFlowHull p q r → IsFlowBetween a m b → FlowEncloses s p a → FlowEncloses s q b → FlowEncloses s r m
+  flow p q r a m b h c e f = record {
+    kind = h.kind ∙ e.kind ∙ sym c.kind;
+    flow = hull_of_numbers _ _ _ _ _ _ (s + 9) a.flow m.flow b.flow h.flow e.flow f.flow c.flow;
+  }
+
+  fixed : (p q r : Fixed) (a m b : ExactFixed) → IsFixedHull p q r → IsFixedBetween a m b → FixedEncloses s p a → FixedEncloses s q b → FixedEncloses s r m
+  fixed p q r a m b h c e f = record {
+    kind = h.kind ∙ e.kind ∙ sym c.kind;
+    source = h.source ∙ e.source ∙ sym c.source;
+    conductance = hull_of_sizes _ _ _ _ _ _ s a.conductance m.conductance b.conductance h.conductance e.conductance f.conductance c.conductance;
+    head = hull_of_numbers _ _ _ _ _ _ 9 a.head m.head b.head h.head e.head f.head c.head;
+  }
+
+  river : (p q r : River) (a m b : ExactRiver) → IsRiverHull p q r → IsRiverBetween a m b → RiverEncloses s p a → RiverEncloses s q b → RiverEncloses s r m
+  river p q r a m b h c e f = record {
+    conductance = hull_of_sizes _ _ _ _ _ _ s a.conductance m.conductance b.conductance h.conductance e.conductance f.conductance c.conductance;
+    stage = hull_of_numbers _ _ _ _ _ _ 9 a.stage m.stage b.stage h.stage e.stage f.stage c.stage;
+    bottom = hull_of_numbers _ _ _ _ _ _ 9 a.bottom m.bottom b.bottom h.bottom e.bottom f.bottom c.bottom;
+  }
+
+  drain : (p q r : Drain) (a m b : ExactDrain) → IsDrainHull p q r → IsDrainBetween a m b → DrainEncloses s p a → DrainEncloses s q b → DrainEncloses s r m
+  drain p q r a m b h c e f = record {
+    conductance = hull_of_sizes _ _ _ _ _ _ s a.conductance m.conductance b.conductance h.conductance e.conductance f.conductance c.conductance;
+    elevation = hull_of_numbers _ _ _ _ _ _ 9 a.elevation m.elevation b.elevation h.elevation e.elevation f.elevation c.elevation;
+  }
+
+  evap : (p q r : Evap) (a m b : ExactEvap) → IsEvapHull p q r → IsEvapBetween a m b → EvapEncloses s p a → EvapEncloses s q b → EvapEncloses s r m
+  evap p q r a m b h c e f = record {
+    conductance = hull_of_sizes _ _ _ _ _ _ s a.conductance m.conductance b.conductance h.conductance e.conductance f.conductance c.conductance;
+    surface = hull_of_numbers _ _ _ _ _ _ 9 a.surface m.surface b.surface h.surface e.surface f.surface c.surface;
+    extinction = hull_of_numbers _ _ _ _ _ _ 9 a.extinction m.extinction b.extinction h.extinction e.extinction f.extinction c.extinction;
+  }
+
+  cell : (p q r : Entries) (a m b : ExactCell) → IsCellHull p q r → IsCellBetween a m b → CellEncloses s p a → CellEncloses s q b → CellEncloses s r m
+  cell p q r a m b h c e f = record {
+    id = h.id ∙ e.id ∙ sym c.id;
+    flows = five IsFlowHull IsFlowBetween (FlowEncloses s) (FlowEncloses s) (FlowEncloses s) flow _ _ _ _ _ _ h.flows c.flows e.flows f.flows;
+    links = subst (λ (x : List ExactLink). AllZip (LinkEncloses s) r.links x) (sym c.links) (subst (λ (x : List Link). AllZip (LinkEncloses s) x a.links) (sym (links_are p.links q.links r.links h.links).0) e.links);
+    fixed = five IsFixedHull IsFixedBetween (FixedEncloses s) (FixedEncloses s) (FixedEncloses s) fixed _ _ _ _ _ _ h.fixed c.fixed e.fixed f.fixed;
+    rivers = five IsRiverHull IsRiverBetween (RiverEncloses s) (RiverEncloses s) (RiverEncloses s) river _ _ _ _ _ _ h.rivers c.rivers e.rivers f.rivers;
+    drains = five IsDrainHull IsDrainBetween (DrainEncloses s) (DrainEncloses s) (DrainEncloses s) drain _ _ _ _ _ _ h.drains c.drains e.drains f.drains;
+    evaps = five IsEvapHull IsEvapBetween (EvapEncloses s) (EvapEncloses s) (EvapEncloses s) evap _ _ _ _ _ _ h.evaps c.evaps e.evaps f.evaps;
+  }
+
+-- the links at each place are those of the first step
+links_at : (a m b : List ExactCell) (c : ℕ) → IsStepBetween a m b → (cell_at m c).links ≡ (cell_at a c).links
+links_at a m b c none = refl
+links_at a m b zero (next h hs) = h.links
+links_at a m b (suc c) (next h hs) = links_at _ _ _ c hs
+
+lengths : (a m b : List ExactCell) → IsStepBetween a m b → length m ≡ length a
+lengths a m b none = refl
+lengths a m b (next h hs) = ap suc (lengths _ _ _ hs)
+
+-- a link back depends on the links of the cell at its other end alone
+back : (a m b : List ExactCell) (c : ℕ) (x : ExactLink) → IsStepBetween a m b → HasLinkBack a c x → HasLinkBack m c x
+back a m b c x h k = record {
+  back = k.back;
+  is_there = rw (links_at a m b x.cell h) k.is_there;
+  leads_back = k.leads_back;
+  same = k.same;
+}
+
+equal_ends : (a m b : List ExactCell) → IsStepBetween a m b → HasEqualEnds a → HasEqualEnds m
+equal_ends a m b h k c w =
+    rw (links_at a m b c h) (λ i d v. back a m b c _ h (k c (rw (← lengths a m b h) w) i d v))
+
+pub hull_encloses : (s : ℕ) (p q r : List Entries) (a m b : List ExactCell) → IsHull p q r → EnclosesStep s p a → EnclosesStep s q b → IsStepBetween a m b → EnclosesStep s r m
+hull_encloses s p q r a m b h e f c = record {
+  cells = five IsCellHull IsCellBetween (CellEncloses s) (CellEncloses s) (CellEncloses s) (cell s) p q r a m b h c e.cells f.cells;
+  ends = equal_ends a m b c e.ends;
+}

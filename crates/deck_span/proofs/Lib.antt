@@ -1,0 +1,10 @@
+pub mod ThreeLists
+pub mod HullBounds
+pub mod HullsEnclose
+pub mod Monotone
+pub mod GivenHeadsBetween
+pub mod SourcesBetween
+pub mod StepsBetween
+pub mod SameFrames
+pub mod AlikeBetween
+pub mod BetweenAlike

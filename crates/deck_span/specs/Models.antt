@@ -1,0 +1,69 @@
+-- When a model lies between two others: the three differ in numbers of their stresses and in STRT alone, and each of
+-- these lies between the two others' number at its place. Which number may differ:
+-- WEL: the rate. RIV: stage, conductance, bottom. DRN: elevation, conductance. GHB: head, conductance. RCH: the flux.
+-- EVT: surface and rate, and a rate is 0 in all three or in none. CHD: both heads, in one order. BAS6: STRT.
+use Rattle.std.specs.Prelude.{◌≡◌, ◌⊎◌, ◌==◌, []}
+use Rattle.decimal_input.specs.declared.dec.Dec.{Dec}
+use Rattle.decimal_input.specs.Canonical.{number}
+use Rattle.decimal_input.specs.Fractions.{AtMost}
+use Rattle.model_types.specs.declared.grid.CellId.{CellId}
+use Rattle.model_types.specs.declared.model.FlowModel.{FlowModel}
+use Rattle.model_types.specs.declared.period.Period.{Period}
+use Rattle.model_types.specs.declared.entry.Given.{Given}
+use Rattle.model_types.specs.declared.entry.Entry.{Entry}
+use Rattle.model_types.specs.declared.entry.Entry.TheVariants.{Well, River, Drain, General}
+use Rattle.problem_hull.specs.Threes.{AllThree}
+use Rattle.deck_span.specs.Numbers.{IsDecBetween, IsSizeBetween}
+
+-- entries of WEL, RIV, DRN and GHB: the same package and cell, and each number between
+pub data IsEntryBetween : Entry → Entry → Entry → Type 0 where
+  wells : {cell : CellId} {q₁ q₂ q₃ : Dec} → IsDecBetween q₁ q₂ q₃ → IsEntryBetween (Well cell q₁) (Well cell q₂) (Well cell q₃)
+  rivers : {cell : CellId} {s₁ s₂ s₃ k₁ k₂ k₃ r₁ r₂ r₃ : Dec} → IsDecBetween s₁ s₂ s₃ → IsSizeBetween k₁ k₂ k₃ → IsDecBetween r₁ r₂ r₃ →
+      IsEntryBetween (River cell s₁ k₁ r₁) (River cell s₂ k₂ r₂) (River cell s₃ k₃ r₃)
+  drains : {cell : CellId} {e₁ e₂ e₃ k₁ k₂ k₃ : Dec} → IsDecBetween e₁ e₂ e₃ → IsSizeBetween k₁ k₂ k₃ →
+      IsEntryBetween (Drain cell e₁ k₁) (Drain cell e₂ k₂) (Drain cell e₃ k₃)
+  generals : {cell : CellId} {h₁ h₂ h₃ k₁ k₂ k₃ : Dec} → IsDecBetween h₁ h₂ h₃ → IsSizeBetween k₁ k₂ k₃ →
+      IsEntryBetween (General cell h₁ k₁) (General cell h₂ k₂) (General cell h₃ k₃)
+
+-- Entries of CHD: both heads of one are at most those of the other. A head within a period is a mean of both.
+pub record IsGivenAtMost (a b : Given) : Type 0 where
+  pub start : AtMost (number a.shead) (number b.shead)
+  pub end : AtMost (number a.ehead) (number b.ehead)
+
+pub record IsGivenBetween (a m b : Given) : Type 0 where
+  pub cell : m.cell ≡ a.cell
+  pub alike : b.cell ≡ a.cell
+  pub heads : (IsGivenAtMost a m × IsGivenAtMost m b) ⊎ (IsGivenAtMost b m × IsGivenAtMost m a)
+
+-- rates of EVT: a cell whose rate is 0 has no evapotranspiration
+pub record IsRateBetween (a m b : Dec) : Type 0 where
+  pub rate : IsSizeBetween a m b
+  pub idle : (m.digits == 0) ≡ (a.digits == 0)
+  pub alike : (b.digits == 0) ≡ (a.digits == 0)
+
+-- a period without the numbers that may differ: its length and steps, and IRCH, IEVT and EXDP, stay
+abbrev pub period_frame : Period → Period
+period_frame p = record p { wells = []; rivers = []; drains = []; generals = []; given = []; recharge = []; surf = []; evtr = [] }
+
+-- a model without them: its grid, IBOUND, options, HK, HANI, VKA, VKCB and SS stay
+abbrev pub frame : FlowModel → FlowModel
+frame m = record m { strt = []; periods = [] }
+
+pub record IsPeriodBetween (a m b : Period) : Type 0 where
+  pub same : period_frame m ≡ period_frame a
+  pub alike : period_frame b ≡ period_frame a
+  pub wells : AllThree IsEntryBetween a.wells m.wells b.wells
+  pub rivers : AllThree IsEntryBetween a.rivers m.rivers b.rivers
+  pub drains : AllThree IsEntryBetween a.drains m.drains b.drains
+  pub generals : AllThree IsEntryBetween a.generals m.generals b.generals
+  pub given : AllThree IsGivenBetween a.given m.given b.given
+  pub recharge : AllThree IsDecBetween a.recharge m.recharge b.recharge
+  pub surf : AllThree IsDecBetween a.surf m.surf b.surf
+  pub evtr : AllThree IsRateBetween a.evtr m.evtr b.evtr
+
+-- the model m lies between the models a and b
+pub record IsBetween (a m b : FlowModel) : Type 0 where
+  pub same : frame m ≡ frame a
+  pub alike : frame b ≡ frame a
+  pub strt : AllThree IsDecBetween a.strt m.strt b.strt
+  pub periods : AllThree IsPeriodBetween a.periods m.periods b.periods

@@ -1,0 +1,22 @@
+// Which models and exact steps lie between two others, and what the hull of two problems encloses.
+ghost use Rattle.deck_span.specs.Laws.{AlikeLieBetween, BetweenAreAlike, HullsEnclose, StepsLieBetween};
+
+/// Each of two models that are alike lies between the two.
+pub fn alike_lie_between()
+    ensures { AlikeLieBetween }
+{}
+
+/// Where some model lies between two models, the two are alike.
+pub fn between_are_alike()
+    ensures { BetweenAreAlike }
+{}
+
+/// The hull of two problems encloses each exact step between those that the problems enclose.
+pub fn hulls_enclose()
+    ensures { HullsEnclose }
+{}
+
+/// Each exact step of a model between two others lies between theirs.
+pub fn steps_lie_between()
+    ensures { StepsLieBetween }
+{}

@@ -1,0 +1,9 @@
+pub mod Threes
+pub mod Unlike
+pub mod Links
+pub mod Fits
+pub mod SmallSums
+pub mod Shapes
+pub mod OneHull
+pub mod Refusals
+pub mod Itself

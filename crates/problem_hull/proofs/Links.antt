@@ -1,0 +1,21 @@
+-- A hull keeps the links and the cell numbers of both problems.
+use Rattle.std.proofs.Common.{◌≡◌, ◌∷◌, ℕ, zero, suc, List, refl}
+use Rattle.step_problem.specs.declared.entry.Link.{Link}
+use Rattle.step_problem.specs.Entries.{Entries, entries_at}
+use Rattle.problem_hull.specs.Threes.{AllThree}
+use Rattle.problem_hull.specs.Threes.AllThree.{none, next}
+use Rattle.problem_hull.specs.Hulls.{IsLinkHull, IsHull}
+
+pub links_are : (a b r : List Link) → AllThree IsLinkHull a b r → (r ≡ a) × (b ≡ a)
+links_are a b r none = (refl, refl)
+links_are a b r (next h hs) = let (e, d) = links_are _ _ _ hs in ((λ i. h.kept i ∷ e i), (λ i. h.alike i ∷ d i))
+
+pub links_at : (p q r : List Entries) (c : ℕ) → IsHull p q r → (entries_at r c).links ≡ (entries_at p c).links
+links_at p q r c none = refl
+links_at p q r zero (next h hs) = (links_are _ _ _ h.links).0
+links_at p q r (suc c) (next h hs) = links_at _ _ _ c hs
+
+pub ids_at : (p q r : List Entries) (c : ℕ) → IsHull p q r → (entries_at r c).id ≡ (entries_at p c).id
+ids_at p q r c none = refl
+ids_at p q r zero (next h hs) = h.id
+ids_at p q r (suc c) (next h hs) = ids_at _ _ _ c hs

@@ -1,0 +1,7 @@
+use Rattle.std.proofs.Common.{◌≡◌, ◌<◌, ℕ, None}
+use Rattle.step_problem.specs.Entries.{entries_at}
+use Rattle.problem_hull.specs.Refusals.{sum_refusal}
+use Rattle.problem_hull.proofs.sums.first_too_large.Given as goal
+
+abbrev pub invariant-loop-cell : goal.invariant-loop-cell
+invariant-loop-cell l = (c : ℕ) → c < l.cell-index → sum_refusal (entries_at l.cells c) ≡ None

@@ -1,0 +1,27 @@
+// Laws of hulls. Each is the contract of an empty function.
+ghost use Rattle.problem_hull.specs.Laws.{AlikeHaveAHull, HullIsOne, HullOfOne, HullExcludesRefusal, RefusalIsOne};
+
+/// Two problems have a hull exactly where they are alike.
+pub fn alike_have_a_hull()
+    ensures { AlikeHaveAHull }
+{}
+
+/// They have no other.
+pub fn hull_is_one()
+    ensures { HullIsOne }
+{}
+
+/// The hull of a problem and itself is that problem.
+pub fn hull_of_one()
+    ensures { HullOfOne }
+{}
+
+/// Two problems whose hull is a problem have no refusal.
+pub fn hull_excludes_refusal()
+    ensures { HullExcludesRefusal }
+{}
+
+/// Two problems have at most one refusal.
+pub fn refusal_is_one()
+    ensures { RefusalIsOne }
+{}

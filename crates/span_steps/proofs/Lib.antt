@@ -1,0 +1,5 @@
+pub mod Times
+pub mod HullProblems
+pub mod HullRange
+pub mod Moves
+pub mod Histories

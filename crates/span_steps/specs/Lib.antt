@@ -1,0 +1,4 @@
+pub mod HullSteps
+pub mod HullHeads
+pub mod Within
+pub mod Laws
