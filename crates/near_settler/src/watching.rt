@@ -34,8 +34,9 @@ impl<'a, R: Threads + Sync, G: Gate + Sync, S: Guesser> NearSettler<'a, R, G, S>
     {
         match self.guessing.settle(alloc, p, b) {
             Ok(bounds) => Ok(bounds),
-            Err(SettleFault::Unfinished(_)) => WatchSettler::new(self.rt, plan, self.gate, views)
-                .settle_from(alloc, p, b, words, viewer),
+            Err(SettleFault::Unfinished(_)) => WatchSettler::new(
+                self.rt, plan, self.gate, views,
+            ).settle_from(alloc, p, b, words, viewer),
             Err(SettleFault::Memory) => Err(SettleFault::Memory),
         }
     }

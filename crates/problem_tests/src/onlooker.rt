@@ -15,10 +15,8 @@ pub struct Onlooker {
 
 // Whether heads lie around other ones, cell by cell.
 fn lie_around(outer: &[Bound], inner: &[Bound]) -> bool {
-    outer
-        .iter()
-        .zip(inner.iter())
-        .all(|(outer, inner)| outer.low <= inner.low && inner.high <= outer.high)
+    outer.iter().zip(inner.iter()).all(|(outer, inner)| outer.low <= inner.low
+        && inner.high <= outer.high)
 }
 
 fn tighten(tightest: &mut [Bound], heads: &[Bound]) {
