@@ -1,28 +1,14 @@
 // A settler that starts no thread.
-ghost use Rattle.std.specs.Prelude.{◌≡◌};
-ghost use Rattle.step_problem.specs.Heads.{IsBarrier};
+ghost use Rattle.std.specs.Prelude.{◌≡◌, IfSome};
+ghost use Rattle.step_problem.specs.Heads.{AreOnTheWay, IsBarrier};
 ghost use Rattle.step_problem.specs.Settling.{Settles};
 
-use crate::first::has_few_cells;
+use crate::first::{first_sweeps, has_few_cells};
 use crate::guesser::{Guesser, NearGuesser};
 use crate::guessing::Guessing;
 use settle_driver::PlainSettler;
 use std::alloc::Global;
 use step_problem::{Barrier, Bound, Problem, SettleFault, Settler};
-
-// The sweeps before a guess, where cells are few and where they are many.
-const SWEEPS_OF_FEW: u32 = 4_096;
-
-const SWEEPS_OF_MANY: u32 = 4;
-
-// How many sweeps come before a guess.
-fn first_sweeps(cells: usize) -> u32 {
-    if has_few_cells(cells) {
-        SWEEPS_OF_FEW
-    } else {
-        SWEEPS_OF_MANY
-    }
-}
 
 /// Settles as a `PlainSettler` with this many sweeps does, on the calling thread. A guess after the first sweeps only
 /// saves time, as does what is kept from one step to the next.
@@ -41,12 +27,23 @@ impl AloneSettler<NearGuesser> {
     }
 }
 
-// By plain sweeps, at most so many.
-fn sweep(alloc: Global, p: &Problem, b: &Barrier, rounds: u32) -> Result<Vec<Bound>, SettleFault>
-    requires { IsBarrier p.now b.now }
+// By at most `rounds` plain sweeps, from the words that earlier ones have reached, or from the barrier.
+fn sweep(
+    alloc: Global,
+    p: &Problem,
+    b: &Barrier,
+    rounds: u32,
+    reached: Option<Vec<Bound>>,
+) -> Result<Vec<Bound>, SettleFault>
+    requires barrier { IsBarrier p.now b.now }
+    requires reached { IfSome reached (λ words. AreOnTheWay p.now b.now words.items) }
     ensures { Settles p.now b.now rounds result }
 {
-    PlainSettler::new(rounds).settle(alloc, p, b)
+    let mut settler = PlainSettler::new(rounds);
+    match reached {
+        None => settler.settle(alloc, p, b),
+        Some(words) => settler.settle_from(p, b, words),
+    }
 }
 
 impl<S: Guesser> AloneSettler<S> {
@@ -60,24 +57,26 @@ impl<S: Guesser> AloneSettler<S> {
         }
     }
 
-    // By a guess, and by all the sweeps where it is not certified.
+    // By a guess, and where it is not certified by all the sweeps.
     fn settle_onward(
         &self,
         alloc: Global,
         p: &Problem,
         b: &Barrier,
+        reached: Option<Vec<Bound>>,
     ) -> Result<Vec<Bound>, SettleFault>
-        requires { IsBarrier p.now b.now }
+        requires barrier { IsBarrier p.now b.now }
+        requires reached { IfSome reached (λ words. AreOnTheWay p.now b.now words.items) }
         ensures { Settles p.now b.now self.now.rounds result }
     {
         match self.guessing.settle(alloc, p, b) {
             Ok(bounds) => Ok(bounds),
-            Err(SettleFault::Unfinished(_)) => sweep(alloc, p, b, self.rounds),
+            Err(SettleFault::Unfinished(_)) => sweep(alloc, p, b, self.rounds, reached),
             Err(SettleFault::Memory) => Err(SettleFault::Memory),
         }
     }
 
-    // By `first` sweeps, then by a guess.
+    // By `first` sweeps, then by a guess, and then by all the sweeps, which go on from the words that the first ones reached.
     fn settle_first(
         &self,
         alloc: Global,
@@ -88,9 +87,9 @@ impl<S: Guesser> AloneSettler<S> {
         requires { IsBarrier p.now b.now }
         ensures { Settles p.now b.now self.now.rounds result }
     {
-        match sweep(alloc, p, b, first) {
+        match sweep(alloc, p, b, first, None) {
             Ok(bounds) => Ok(bounds),
-            Err(SettleFault::Unfinished(_)) => self.settle_onward(alloc, p, b),
+            Err(SettleFault::Unfinished(open)) => self.settle_onward(alloc, p, b, Some(open.words)),
             Err(SettleFault::Memory) => Err(SettleFault::Memory),
         }
     }
@@ -113,10 +112,10 @@ impl<S: Guesser> Settler for AloneSettler<S> {
         let cells = p.len();
         let first = first_sweeps(cells);
         if self.rounds <= first {
-            return sweep(alloc, p, b, self.rounds);
+            return sweep(alloc, p, b, self.rounds, None);
         }
         if !has_few_cells(cells) && self.guessing.has_guessed() {
-            return self.settle_onward(alloc, p, b);
+            return self.settle_onward(alloc, p, b, None);
         }
         self.settle_first(alloc, p, b, first)
     }

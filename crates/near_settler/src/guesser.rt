@@ -43,7 +43,7 @@ pub struct BesideGuesser<'a, R: Threads> {
 }
 
 impl<'a, R: Threads> BesideGuesser<'a, R> {
-    /// A guesser of so many workers, with the handle that it borrows.
+    /// A guesser for a run of this many workers, with the handle that it borrows.
     pub fn new(rt: &'a R, workers: u32) -> BesideGuesser<'a, R> {
         BesideGuesser { rt, workers }
     }

@@ -1,10 +1,10 @@
 // The settler of a run.
-ghost use Rattle.std.specs.Prelude.{◌≡◌, ◌≤◌};
-ghost use Rattle.step_problem.specs.Heads.{IsBarrier};
+ghost use Rattle.std.specs.Prelude.{◌≡◌, IfSome};
+ghost use Rattle.step_problem.specs.Heads.{AreOnTheWay, IsBarrier};
 ghost use Rattle.step_problem.specs.Settling.{Settles};
 ghost use Rattle.settle_driver.specs.Phases.{IsPlan};
 
-use crate::first::{first_phases, first_plan, has_few_cells};
+use crate::first::{first_phases, first_plan, has_few_cells, plan_for};
 use crate::guesser::{BesideGuesser, Guesser};
 use crate::guessing::Guessing;
 use outside::Gate;
@@ -48,75 +48,85 @@ impl<'a, R: Threads + Sync, G: Gate + Sync, S: Guesser> NearSettler<'a, R, G, S>
         }
     }
 
-    // By plain phases, at most so many.
+    // By the phases of a plan, from the words that earlier ones have reached, or from the barrier.
     fn settle_plainly(
         &self,
         alloc: Global,
         p: &Problem,
         b: &Barrier,
-        rounds: u32,
+        plan: Plan,
+        reached: Option<Vec<Bound>>,
     ) -> Result<Vec<Bound>, SettleFault>
         requires barrier { IsBarrier p.now b.now }
-        requires rounds { 1 ≤ rounds }
-        ensures { Settles p.now b.now rounds result }
+        requires plan { IsPlan plan }
+        requires reached { IfSome reached (λ words. AreOnTheWay p.now b.now words.items) }
+        ensures { Settles p.now b.now plan.rounds result }
     {
-        let plan = Plan {
-            rounds,
-            ..self.plan
-        };
-        ThreadSettler::new(self.rt, plan, self.gate).settle(alloc, p, b)
+        let settler = ThreadSettler::new(self.rt, plan, self.gate);
+        match reached {
+            None => settler.settle(alloc, p, b),
+            Some(words) => settler.settle_from(alloc, p, b, words),
+        }
     }
 
-    // By a guess, and by all the plain phases where it is not certified.
+    // By a guess, and where it is not certified by the phases of a plan.
     fn settle_onward(
         &self,
         alloc: Global,
         p: &Problem,
         b: &Barrier,
+        plan: Plan,
+        reached: Option<Vec<Bound>>,
     ) -> Result<Vec<Bound>, SettleFault>
-        requires { IsBarrier p.now b.now }
-        ensures { Settles p.now b.now self.now.plan.rounds result }
+        requires barrier { IsBarrier p.now b.now }
+        requires plan { IsPlan plan }
+        requires reached { IfSome reached (λ words. AreOnTheWay p.now b.now words.items) }
+        ensures { Settles p.now b.now plan.rounds result }
     {
         match self.guessing.settle(alloc, p, b) {
             Ok(bounds) => Ok(bounds),
-            Err(SettleFault::Unfinished(_)) => self.settle_plainly(alloc, p, b, self.plan.rounds),
+            Err(SettleFault::Unfinished(_)) => self.settle_plainly(alloc, p, b, plan, reached),
             Err(SettleFault::Memory) => Err(SettleFault::Memory),
         }
     }
 
-    // By the phases of a plan, then by a guess.
+    // By the first phases of a plan, then by a guess, and then by all its phases, which go on from the words that the first ones reached.
     fn settle_first(
         &self,
         alloc: Global,
         p: &Problem,
         b: &Barrier,
-        first: Plan,
+        plan: Plan,
     ) -> Result<Vec<Bound>, SettleFault>
         requires barrier { IsBarrier p.now b.now }
-        requires first { IsPlan first }
-        ensures { Settles p.now b.now self.now.plan.rounds result }
+        requires plan { IsPlan plan }
+        ensures { Settles p.now b.now plan.rounds result }
     {
-        match ThreadSettler::new(self.rt, first, self.gate).settle(alloc, p, b) {
+        let first = first_plan(plan, p.len());
+        match self.settle_plainly(alloc, p, b, first, None) {
             Ok(bounds) => Ok(bounds),
-            Err(SettleFault::Unfinished(_)) => self.settle_onward(alloc, p, b),
+            Err(SettleFault::Unfinished(open)) => {
+                self.settle_onward(alloc, p, b, plan, Some(open.words))
+            }
             Err(SettleFault::Memory) => Err(SettleFault::Memory),
         }
     }
 
     /// The one settled pair, or Unfinished only where the plan's number of plain rounds does not settle. A problem of
     /// few cells begins with plain phases, another one with one short phase, but after a problem that a guess settled it has none.
-    /// Then heads are guessed and tried, and then all the plain phases follow.
+    /// Then heads are guessed and tried, and then all the plain phases follow. There is at most one worker for each 64 cells.
     pub fn settle(&self, alloc: Global, p: &Problem, b: &Barrier) -> Result<Vec<Bound>, SettleFault>
         requires { IsBarrier p.now b.now }
         ensures { Settles p.now b.now self.now.plan.rounds result }
     {
         let cells = p.len();
-        if self.plan.rounds <= first_phases(cells) {
-            return self.settle_plainly(alloc, p, b, self.plan.rounds);
+        let plan = plan_for(self.plan, cells);
+        if plan.rounds <= first_phases(cells) {
+            return self.settle_plainly(alloc, p, b, plan, None);
         }
         if !has_few_cells(cells) && self.guessing.has_guessed() {
-            return self.settle_onward(alloc, p, b);
+            return self.settle_onward(alloc, p, b, plan, None);
         }
-        self.settle_first(alloc, p, b, first_plan(self.plan, cells))
+        self.settle_first(alloc, p, b, plan)
     }
 }

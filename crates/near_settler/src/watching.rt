@@ -1,11 +1,11 @@
 // The settler of a run, while a viewer watches.
-ghost use Rattle.std.specs.Prelude.{◌≡◌, ◌≤◌, true};
-ghost use Rattle.step_problem.specs.Heads.{IsBarrier};
+ghost use Rattle.std.specs.Prelude.{true};
+ghost use Rattle.step_problem.specs.Heads.{AreOnTheWay, IsBarrier};
 ghost use Rattle.step_problem.specs.Settling.{Settles};
 ghost use Rattle.settle_driver.specs.Phases.{IsPlan};
 ghost use Rattle.settle_driver.specs.Views.{AddsPhases, had_memory};
 
-use crate::first::{first_phases, first_plan};
+use crate::first::{first_phases, first_plan, plan_for};
 use crate::guesser::Guesser;
 use crate::settling::NearSettler;
 use outside::Gate;
@@ -15,68 +15,53 @@ use std::thread::Threads;
 use step_problem::{Barrier, Bound, Problem, SettleFault};
 
 impl<'a, R: Threads + Sync, G: Gate + Sync, S: Guesser> NearSettler<'a, R, G, S> {
-    // By plain phases, at most so many, each with so many views.
-    fn watch_plainly<V: Viewer + Send>(
-        &self,
-        alloc: Global,
-        p: &Problem,
-        b: &Barrier,
-        rounds: u32,
-        views: u32,
-        viewer: &mut V,
-    ) -> Result<Vec<Bound>, SettleFault>
-        requires barrier { IsBarrier p.now b.now }
-        requires rounds { 1 ≤ rounds }
-        ensures settles { Settles p.now b.now rounds result }
-        ensures viewed { AddsPhases V.viewed V.stopped p.now b.now views (had_memory result) viewer.old viewer.new }
-    {
-        let plan = Plan {
-            rounds,
-            ..self.plan
-        };
-        WatchSettler::new(self.rt, plan, self.gate, views).settle(alloc, p, b, viewer)
-    }
-
-    // By a guess, which is not shown, and by all the plain phases where it is not certified.
+    // By a guess, which is not shown, and where it is not certified by the phases of a plan, from the words that earlier ones have reached.
     fn watch_onward<V: Viewer + Send>(
         &self,
         alloc: Global,
         p: &Problem,
         b: &Barrier,
+        plan: Plan,
+        words: Vec<Bound>,
         views: u32,
         viewer: &mut V,
     ) -> Result<Vec<Bound>, SettleFault>
-        requires { IsBarrier p.now b.now }
-        ensures settles { Settles p.now b.now self.now.plan.rounds result }
+        requires barrier { IsBarrier p.now b.now }
+        requires plan { IsPlan plan }
+        requires way { AreOnTheWay p.now b.now words.items }
+        ensures settles { Settles p.now b.now plan.rounds result }
         ensures viewed { (start : V) → AddsPhases V.viewed V.stopped p.now b.now views true start viewer.old → AddsPhases V.viewed V.stopped p.now b.now views (had_memory result) start viewer.new }
     {
         match self.guessing.settle(alloc, p, b) {
             Ok(bounds) => Ok(bounds),
-            Err(SettleFault::Unfinished(_)) => {
-                self.watch_plainly(alloc, p, b, self.plan.rounds, views, viewer)
-            }
+            Err(SettleFault::Unfinished(_)) => WatchSettler::new(
+                self.rt, plan, self.gate, views,
+            ).settle_from(alloc, p, b, words, viewer),
             Err(SettleFault::Memory) => Err(SettleFault::Memory),
         }
     }
 
-    // By `first` plain phases of a plan, each with its views, then by a guess.
+    // By the first phases of a plan, then by a guess, and then by all its phases, which go on from the words that the first ones reached.
     fn watch_first<V: Viewer + Send>(
         &self,
         alloc: Global,
         p: &Problem,
         b: &Barrier,
-        first: Plan,
+        plan: Plan,
         views: u32,
         viewer: &mut V,
     ) -> Result<Vec<Bound>, SettleFault>
         requires barrier { IsBarrier p.now b.now }
-        requires first { IsPlan first }
-        ensures settles { Settles p.now b.now self.now.plan.rounds result }
+        requires plan { IsPlan plan }
+        ensures settles { Settles p.now b.now plan.rounds result }
         ensures viewed { AddsPhases V.viewed V.stopped p.now b.now views (had_memory result) viewer.old viewer.new }
     {
+        let first = first_plan(plan, p.len());
         match WatchSettler::new(self.rt, first, self.gate, views).settle(alloc, p, b, viewer) {
             Ok(bounds) => Ok(bounds),
-            Err(SettleFault::Unfinished(_)) => self.watch_onward(alloc, p, b, views, viewer),
+            Err(SettleFault::Unfinished(open)) => {
+                self.watch_onward(alloc, p, b, plan, open.words, views, viewer)
+            }
             Err(SettleFault::Memory) => Err(SettleFault::Memory),
         }
     }
@@ -92,15 +77,15 @@ impl<'a, R: Threads + Sync, G: Gate + Sync, S: Guesser> NearSettler<'a, R, G, S>
         views: u32,
         viewer: &mut V,
     ) -> Result<Vec<Bound>, SettleFault>
-        requires { IsBarrier p.now b.now }
+        requires barrier { IsBarrier p.now b.now }
         ensures settles { Settles p.now b.now self.now.plan.rounds result }
         ensures viewed { AddsPhases V.viewed V.stopped p.now b.now views (had_memory result) viewer.old viewer.new }
     {
         let cells = p.len();
-        if self.plan.rounds <= first_phases(cells) {
-            return self.watch_plainly(alloc, p, b, self.plan.rounds, views, viewer);
+        let plan = plan_for(self.plan, cells);
+        if plan.rounds <= first_phases(cells) {
+            return WatchSettler::new(self.rt, plan, self.gate, views).settle(alloc, p, b, viewer);
         }
-        let first = first_plan(self.plan, cells);
-        self.watch_first(alloc, p, b, first, views, viewer)
+        self.watch_first(alloc, p, b, plan, views, viewer)
     }
 }

@@ -14,8 +14,8 @@
 //! (these with the passes of a gate), and `listed SWEEPS INDEX ..`. `spoilt WORKERS TURNS ROUNDS` settles as a run does and on
 //! one thread, where the bounds of `heads` are the guess; `twice WORKERS TURNS ROUNDS` settles two steps of the same problem,
 //! with the passes of the gate and the guesses at each. `watched WORKERS TURNS ROUNDS VIEWS LIMIT` settles
-//! by workers with VIEWS views in each phase, which stop at number LIMIT; `watched_run` as a run does; `pieces` puts the
-//! views to a sink whose put of number LIMIT fails. `heads LOW HIGH ..` are bounds of the cells, of which
+//! by workers with VIEWS views in each phase, which stop at number LIMIT; `watched_run` as a run does, and `spoilt_views` with
+//! the bounds of `heads` as the guess; `pieces` puts the views to a sink whose put of number LIMIT fails. `heads LOW HIGH ..` are bounds of the cells, of which
 //! `check`, `budget` and `near TRIALS SWEEPS` (from the bounds, then by one round) are asked.
 //!
 //! `other` keeps the problem so far, and `hull` puts the hull of it and of the problem after it in that problem's place,

@@ -5,11 +5,18 @@ use settle_driver::Viewer;
 use std::alloc::{AllocError, Global};
 use step_problem::{Barrier, Bound, Problem};
 
-/// Sees so many views at most, and keeps at each cell the tightest heads that it saw.
+/// Sees a limited number of views, and keeps at each cell the tightest heads that it saw, and whether a view had wider ones.
 #[derive(Drop)]
 pub struct Onlooker {
     pub left: u32,
+    pub saw_wider: bool,
     tightest: Vec<Bound>,
+}
+
+// Whether heads lie around other ones, cell by cell.
+fn lie_around(outer: &[Bound], inner: &[Bound]) -> bool {
+    outer.iter().zip(inner.iter()).all(|(outer, inner)| outer.low <= inner.low
+        && inner.high <= outer.high)
 }
 
 fn tighten(tightest: &mut [Bound], heads: &[Bound]) {
@@ -32,6 +39,7 @@ impl Viewer for Onlooker {
             return false;
         }
         self.left -= 1;
+        self.saw_wider |= !lie_around(self.tightest.as_slice(), heads);
         tighten(self.tightest.as_mut_slice(), heads);
         self.left != 0
     }
@@ -46,12 +54,15 @@ impl Onlooker {
                 high: i64::MAX,
             })?;
         }
-        Ok(Onlooker { left, tightest })
+        Ok(Onlooker {
+            left,
+            saw_wider: false,
+            tightest,
+        })
     }
 
     /// Whether all heads that it saw lie around these bounds.
     pub fn saw_around(&self, bounds: &[Bound]) -> bool {
-        self.tightest.iter().zip(bounds.iter()).all(|(seen, bound)| seen.low <= bound.low
-            && bound.high <= seen.high)
+        lie_around(self.tightest.as_slice(), bounds)
     }
 }

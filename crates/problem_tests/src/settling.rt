@@ -7,7 +7,7 @@ use crate::numbers::number;
 use crate::passes::Passes;
 use crate::pieces::print_pieces;
 use crate::question::Question;
-use crate::spoilt::print_from_spoilt;
+use crate::spoilt::{print_from_spoilt, print_spoilt_views};
 use crate::twice::print_twice;
 use crate::watched::{Views, print_watched};
 use near_settler::NearSettler;
@@ -123,6 +123,9 @@ pub fn print_settled<R: Print + Threads + Sync>(
                     print_watched(rt, alloc, p, b, question, plan, views)
                 }
                 Question::Spoilt => print_from_spoilt(rt, alloc, p, b, plan, bounds),
+                Question::SpoiltViews => {
+                    print_spoilt_views(rt, alloc, p, b, plan, bounds, views)
+                }
                 Question::Twice => print_twice(rt, alloc, p, b, plan),
                 Question::Pieces => print_pieces(rt, alloc, p, b, plan, views),
                 _ => print_by_workers(rt, alloc, p, b, question, plan),

@@ -2,7 +2,10 @@
 ghost use Rattle.step_problem.specs.Heads.{IsBarrier};
 ghost use Rattle.settle_driver.specs.Phases.{IsPlan};
 
+use crate::onlooker::Onlooker;
+use crate::question::Question;
 use crate::settling::print_answer;
+use crate::watched::{Views, print_seen};
 use head_guess::{Guess, Kept};
 use near_settler::{AloneSettler, Guesser, NearSettler};
 use outside::FreeGate;
@@ -62,4 +65,29 @@ pub fn print_from_spoilt<R: Print + Threads + Sync>(
     print_answer(rt, &alone.settle(alloc, p, b))?;
     let count = guesses.get();
     println!(rt; "guesses {count}")
+}
+
+/// Settles a problem as a run does that is watched, where these bounds are the guess. Prints the heads and the number of views.
+pub fn print_spoilt_views<R: Print + Threads + Sync>(
+    rt: &R,
+    alloc: Global,
+    p: &Problem,
+    b: &Barrier,
+    plan: Plan,
+    bounds: &[Bound],
+    views: Views,
+) -> io::Result<()>
+    requires barrier { IsBarrier p.now b.now }
+    requires plan { IsPlan plan }
+{
+    let guesses = Cell::new(0);
+    let spoilt = Spoilt {
+        bounds,
+        guesses: &guesses,
+    };
+    let near = NearSettler::with_guesser(rt, plan, &FreeGate, spoilt);
+    let mut onlooker = Onlooker::new(alloc, p.len(), views.limit)?;
+    let answer = near.settle_watched(alloc, p, b, views.each_phase, &mut onlooker);
+    print_answer(rt, &answer)?;
+    print_seen(rt, Question::SpoiltViews, views, &onlooker, &answer)
 }

@@ -13,7 +13,7 @@ use std::io;
 use std::thread::Threads;
 use step_problem::{Barrier, Bound, Problem, SettleFault};
 
-/// What watched settling is asked for: so many views in each phase, and so many views or puts until one fails.
+/// What watched settling is asked for: the number of views in each phase, and of views or puts up to the one that fails.
 #[derive(Clone, Copy)]
 pub struct Views {
     pub each_phase: u32,
@@ -28,8 +28,8 @@ fn words_of(answer: &Result<Vec<Bound>, SettleFault>) -> &[Bound] {
     }
 }
 
-// The views that were seen. Where workers settled a problem the number of their phases is free.
-fn print_seen(
+/// The views that were seen. Where workers settled a problem the number of their phases is free.
+pub fn print_seen(
     rt: &impl Print,
     question: Question,
     views: Views,
@@ -38,6 +38,9 @@ fn print_seen(
 ) -> io::Result<()> {
     if !onlooker.saw_around(words_of(answer)) {
         println!(rt; "views that are too tight")?;
+    }
+    if onlooker.saw_wider {
+        println!(rt; "views that are wider than one before")?;
     }
     let count = views.limit.saturating_sub(onlooker.left);
     let free = answer.is_ok() && onlooker.left != 0 && matches!(question, Question::Watched);

@@ -2,8 +2,8 @@
 use outside::Gate;
 use std::sync::atomic::{AtomicU64, Ordering};
 
-// The turns of each worker in a phase over two cells.
-const TURNS: u32 = 64;
+// The turns of each of two workers in a short phase over 128 cells.
+const TURNS: u32 = 192;
 
 const SPINS: u32 = 1_000_000_000;
 
@@ -48,7 +48,7 @@ impl MeetingGate {
             .saturating_add(self.strays.load(Ordering::SeqCst))
     }
 
-    /// Whether both workers passed equally often, in whole phases, and at least in one.
+    /// Whether both workers passed equally often, in whole short phases, and at least in one.
     pub fn passes_are_whole_phases(&self) -> bool {
         let one = self.passes_of_one.load(Ordering::SeqCst);
         let two = self.passes_of_two.load(Ordering::SeqCst);

@@ -1,5 +1,7 @@
 // A settler that sweeps on one thread.
 ghost use Rattle.std.specs.Prelude.{◌≡◌};
+ghost use Rattle.step_problem.specs.Heads.{AreOnTheWay, IsBarrier};
+ghost use Rattle.step_problem.specs.Settling.{Settles};
 ghost use Rattle.cell_relax.specs.Words.{AreWords};
 ghost use Rattle.settle_driver.specs.Sweeps.{StayOnTheWay, SettleWithin};
 
@@ -36,6 +38,27 @@ fn swept(p: &Problem, mut words: Vec<Bound>, rounds: u32) -> Vec<Bound>
     words
 }
 
+impl PlainSettler {
+    /// What `settle` gives, from words that an earlier settling has reached.
+    pub fn settle_from(
+        &self,
+        p: &Problem,
+        b: &Barrier,
+        words: Vec<Bound>,
+    ) -> Result<Vec<Bound>, SettleFault>
+        requires barrier { IsBarrier p.now b.now }
+        requires way { AreOnTheWay p.now b.now words.items }
+        ensures { Settles p.now b.now self.now.rounds result }
+    {
+        p.recall_conditions();
+        let words = swept(p, words, self.rounds);
+        match first_open(p, words.as_slice()) {
+            None => Ok(words),
+            Some((cell, side)) => Err(SettleFault::Unfinished(Open { cell, side, words })),
+        }
+    }
+}
+
 impl Settler for PlainSettler {
     ghost rounds = { λ s. s.rounds };
 
@@ -50,15 +73,9 @@ impl Settler for PlainSettler {
         p: &Problem,
         b: &Barrier,
     ) -> Result<Vec<Bound>, SettleFault> {
-        p.recall_conditions();
-        let start = match edge_words(alloc, p, b) {
-            Ok(start) => start,
-            Err(AllocError) => return Err(SettleFault::Memory),
-        };
-        let words = swept(p, start, self.rounds);
-        match first_open(p, words.as_slice()) {
-            None => Ok(words),
-            Some((cell, side)) => Err(SettleFault::Unfinished(Open { cell, side, words })),
+        match edge_words(alloc, p, b) {
+            Ok(words) => self.settle_from(p, b, words),
+            Err(AllocError) => Err(SettleFault::Memory),
         }
     }
 }

@@ -1,11 +1,11 @@
 // Settlers by workers in threads.
 ghost use Rattle.std.specs.Prelude.{◌≡◌, ◌≤◌};
-ghost use Rattle.step_problem.specs.Heads.{IsBarrier};
+ghost use Rattle.step_problem.specs.Heads.{AreOnTheWay, IsBarrier};
 ghost use Rattle.step_problem.specs.Settling.{Settles};
 ghost use Rattle.settle_driver.specs.Phases.{IsPlan};
 
 use crate::plan::Plan;
-use crate::threads::settle;
+use crate::threads::{settle, settle_from};
 use outside::Gate;
 use std::alloc::Global;
 use std::thread::Threads;
@@ -33,6 +33,21 @@ impl<'a, R: Threads + Sync, G: Gate + Sync> ThreadSettler<'a, R, G> {
         ensures { Settles p.now b.now self.now.plan.rounds result }
     {
         settle(self.rt, alloc, p, b, self.plan, self.gate)
+    }
+
+    /// What `settle` gives, from words that an earlier settling has reached.
+    pub fn settle_from(
+        &self,
+        alloc: Global,
+        p: &Problem,
+        b: &Barrier,
+        words: Vec<Bound>,
+    ) -> Result<Vec<Bound>, SettleFault>
+        requires barrier { IsBarrier p.now b.now }
+        requires way { AreOnTheWay p.now b.now words.items }
+        ensures { Settles p.now b.now self.now.plan.rounds result }
+    {
+        settle_from(self.rt, alloc, p, b, words, self.plan, self.gate)
     }
 }
 

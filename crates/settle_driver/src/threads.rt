@@ -1,6 +1,6 @@
 // Phases of workers in threads, until no cell can move.
 ghost use Rattle.std.specs.Prelude.{◌≡◌, ◌<◌, ◌≤◌, length, Ok, Err};
-ghost use Rattle.step_problem.specs.Heads.{IsBarrier};
+ghost use Rattle.step_problem.specs.Heads.{AreOnTheWay, IsBarrier};
 ghost use Rattle.step_problem.specs.Settling.{Settles};
 ghost use Rattle.settle_driver.specs.Phases.{IsPlan};
 
@@ -13,25 +13,23 @@ use std::alloc::{AllocError, Global};
 use std::thread::Threads;
 use step_problem::{Barrier, Bound, Open, Problem, SettleFault};
 
-// Phases from the barrier's own words, at most as many as the plan's rounds.
+// Phases from these words, at most as many as the plan's rounds.
 fn settle_cells<R: Threads + Sync, G: Gate + Sync>(
     rt: &R,
     alloc: Global,
     p: &Problem,
     b: &Barrier,
+    mut words: Vec<Bound>,
     plan: Plan,
     gate: &G,
 ) -> Result<Vec<Bound>, SettleFault>
     requires barrier { IsBarrier p.now b.now }
+    requires way { AreOnTheWay p.now b.now words.items }
     requires some_cell { 0 < length p.now }
     requires plan { IsPlan plan }
     ensures { Settles p.now b.now plan.rounds result }
 {
     p.recall_conditions();
-    let mut words = match edge_words(alloc, p, b) {
-        Ok(start) => start,
-        Err(AllocError) => return Err(SettleFault::Memory),
-    };
     let mut open = None;
     for _round in 0..plan.rounds {
         match phase(rt, alloc, p, b, &words, plan, gate) {
@@ -63,8 +61,29 @@ pub fn settle<R: Threads + Sync, G: Gate + Sync>(
     requires plan { IsPlan plan }
     ensures { Settles p.now b.now plan.rounds result }
 {
+    match edge_words(alloc, p, b) {
+        Ok(words) => settle_from(rt, alloc, p, b, words, plan, gate),
+        Err(AllocError) => Err(SettleFault::Memory),
+    }
+}
+
+/// Settles a problem as `settle` does, but goes on from words that an earlier settling has reached.
+pub(crate) fn settle_from<R: Threads + Sync, G: Gate + Sync>(
+    rt: &R,
+    alloc: Global,
+    p: &Problem,
+    b: &Barrier,
+    words: Vec<Bound>,
+    plan: Plan,
+    gate: &G,
+) -> Result<Vec<Bound>, SettleFault>
+    requires barrier { IsBarrier p.now b.now }
+    requires way { AreOnTheWay p.now b.now words.items }
+    requires plan { IsPlan plan }
+    ensures { Settles p.now b.now plan.rounds result }
+{
     if p.is_empty() {
         return Ok(Vec::new(alloc));
     }
-    settle_cells(rt, alloc, p, b, plan, gate)
+    settle_cells(rt, alloc, p, b, words, plan, gate)
 }

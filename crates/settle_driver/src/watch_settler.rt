@@ -1,13 +1,13 @@
 // Settling by workers in threads, while a viewer watches.
 ghost use Rattle.std.specs.Prelude.{◌≡◌};
-ghost use Rattle.step_problem.specs.Heads.{IsBarrier};
+ghost use Rattle.step_problem.specs.Heads.{AreOnTheWay, IsBarrier};
 ghost use Rattle.step_problem.specs.Settling.{Settles};
 ghost use Rattle.settle_driver.specs.Phases.{IsPlan};
 ghost use Rattle.settle_driver.specs.Views.{AddsPhases, had_memory};
 
 use crate::plan::Plan;
 use crate::viewer::Viewer;
-use crate::watched::settle_watched;
+use crate::watched::{settle_watched, settle_watched_from};
 use outside::Gate;
 use std::alloc::Global;
 use std::thread::Threads;
@@ -51,6 +51,25 @@ impl<'a, R: Threads + Sync, G: Gate + Sync> WatchSettler<'a, R, G> {
     {
         settle_watched(
             self.rt, alloc, p, b, self.plan, self.gate, self.views, viewer,
+        )
+    }
+
+    /// What `settle` gives and shows, from words that an earlier settling has reached.
+    pub fn settle_from<V: Viewer + Send>(
+        &self,
+        alloc: Global,
+        p: &Problem,
+        b: &Barrier,
+        words: Vec<Bound>,
+        viewer: &mut V,
+    ) -> Result<Vec<Bound>, SettleFault>
+        requires barrier { IsBarrier p.now b.now }
+        requires way { AreOnTheWay p.now b.now words.items }
+        ensures settles { Settles p.now b.now self.now.plan.rounds result }
+        ensures viewed { AddsPhases V.viewed V.stopped p.now b.now self.now.views (had_memory result) viewer.old viewer.new }
+    {
+        settle_watched_from(
+            self.rt, alloc, p, b, words, self.plan, self.gate, self.views, viewer,
         )
     }
 }

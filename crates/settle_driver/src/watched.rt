@@ -109,28 +109,26 @@ fn watched_phase<R: Threads + Sync, G: Gate + Sync, V: Viewer + Send>(
     table.close(seat)
 }
 
-// Phases from the barrier's own words, at most as many as the plan's rounds.
+// Phases from these words, at most as many as the plan's rounds.
 fn settle_cells_watched<R: Threads + Sync, G: Gate + Sync, V: Viewer + Send>(
     rt: &R,
     alloc: Global,
     p: &Problem,
     b: &Barrier,
+    mut words: Vec<Bound>,
     plan: Plan,
     gate: &G,
     views: u32,
     viewer: &mut V,
 ) -> Result<Vec<Bound>, SettleFault>
     requires barrier { IsBarrier p.now b.now }
+    requires way { AreOnTheWay p.now b.now words.items }
     requires some_cell { 0 < length p.now }
     requires plan { IsPlan plan }
     ensures settles { Settles p.now b.now plan.rounds result }
     ensures viewed { AddsPhases V.viewed V.stopped p.now b.now views (had_memory result) viewer.old viewer.new }
 {
     p.recall_conditions();
-    let mut words = match edge_words(alloc, p, b) {
-        Ok(start) => start,
-        Err(AllocError) => return Err(SettleFault::Memory),
-    };
     let mut open = None;
     for _round in 0..plan.rounds {
         match watched_phase(rt, alloc, p, b, &words, plan, gate, views, viewer) {
@@ -166,8 +164,32 @@ pub fn settle_watched<R: Threads + Sync, G: Gate + Sync, V: Viewer + Send>(
     ensures settles { Settles p.now b.now plan.rounds result }
     ensures viewed { AddsPhases V.viewed V.stopped p.now b.now views (had_memory result) viewer.old viewer.new }
 {
+    match edge_words(alloc, p, b) {
+        Ok(words) => settle_watched_from(rt, alloc, p, b, words, plan, gate, views, viewer),
+        Err(AllocError) => Err(SettleFault::Memory),
+    }
+}
+
+/// Settles a problem as `settle_watched` does, but goes on from words that an earlier settling has reached.
+pub(crate) fn settle_watched_from<R: Threads + Sync, G: Gate + Sync, V: Viewer + Send>(
+    rt: &R,
+    alloc: Global,
+    p: &Problem,
+    b: &Barrier,
+    words: Vec<Bound>,
+    plan: Plan,
+    gate: &G,
+    views: u32,
+    viewer: &mut V,
+) -> Result<Vec<Bound>, SettleFault>
+    requires barrier { IsBarrier p.now b.now }
+    requires way { AreOnTheWay p.now b.now words.items }
+    requires plan { IsPlan plan }
+    ensures settles { Settles p.now b.now plan.rounds result }
+    ensures viewed { AddsPhases V.viewed V.stopped p.now b.now views (had_memory result) viewer.old viewer.new }
+{
     if p.is_empty() {
         return Ok(Vec::new(alloc));
     }
-    settle_cells_watched(rt, alloc, p, b, plan, gate, views, viewer)
+    settle_cells_watched(rt, alloc, p, b, words, plan, gate, views, viewer)
 }

@@ -10,21 +10,21 @@ use Rattle.settle_driver.proofs.threads.settle_cells.Goals as goal
 
 pub first_open-open-requires : goal.first_open-open-requires
 first_open-open-requires g c =
-    let way = c.in-Ok-phase.ensures.way in
+    let way = c.in-Ok.ensures.way in
     record { words = subst (AreWords c.args.p.now) (sym c.as_slice.ensures.value) (record { whole = way.whole; low = way.low.heads; high = way.high.heads }) }
 
 pub returns-then-is_none : goal.returns-then-is_none
 returns-then-is_none g c =
     let p = c.args.p.now in
-    let next : List Bound = c.in-Ok-phase.next.items in
+    let next : List Bound = c.in-Ok.next.items in
     let tested = subst (λ (x : List Bound). MatchOption c.first_open-open.result (AreBothSettled p x) (λ o. IsFirstOpen p x o.0 o.1)) c.as_slice.ensures.value c.first_open-open.ensures in
-    settled_on_the_way p c.args.b.now c.recall_conditions.ensures.fits next c.in-Ok-phase.ensures.way (where_none c.first_open-open.result _ _ (c.is_none.ensures ∙ ap not c.if-is_none.true) tested)
+    settled_on_the_way p c.args.b.now c.recall_conditions.ensures.fits next c.in-Ok.ensures.way (where_none c.first_open-open.result _ _ (c.is_none.ensures ∙ ap not c.if-is_none.true) tested)
 
 pub loop-round-preserved : goal.loop-round-preserved
 loop-round-preserved g c =
     let p = c.args.p.now in
-    let next : List Bound = c.in-Ok-phase.next.items in record {
-      phased = phased_again p c.args.b.now c.recall_conditions.ensures.fits c.loop-round.words.items next c.loop-round._round c.loop-round.invariant.phased c.in-Ok-phase.ensures.way c.in-Ok-phase.ensures.past;
+    let next : List Bound = c.in-Ok.next.items in record {
+      phased = phased_again p c.args.b.now c.recall_conditions.ensures.fits c.loop-round.words.items next c.loop-round._round c.loop-round.invariant.phased c.in-Ok.ensures.way c.in-Ok.ensures.past;
       tested = λ some. subst (λ (x : List Bound). MatchOption c.first_open-open.result (AreBothSettled p x) (λ o. IsFirstOpen p x o.0 o.1)) c.as_slice.ensures.value c.first_open-open.ensures;
     }
 

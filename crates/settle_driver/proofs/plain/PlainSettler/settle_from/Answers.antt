@@ -3,20 +3,20 @@ use Rattle.std.proofs.Common.{refl, List, subst}
 use Rattle.step_problem.specs.Settling.{IsFirstOpen}
 use Rattle.settle_driver.specs.Sweeps.{AreBothSettled}
 use Rattle.settle_driver.proofs.Answering.{sweeps_are_settled, sweeps_are_unfinished}
-use Rattle.settle_driver.proofs.plain.PlainSettlerSettler.settle.Goals as goal
+use Rattle.settle_driver.proofs.plain.PlainSettler.settle_from.Goals as goal
 
-pub returns-in-None-clause-settles : goal.returns-in-None-clause-settles
-returns-in-None-clause-settles c =
+pub returns-in-None : goal.returns-in-None
+returns-in-None c =
     let p = c.args.p.now in
     let b = c.args.b.now in
     let s = c.swept-words.ensures in
     let settled = subst (AreBothSettled p) c.as_slice.ensures.value c.in-None.ensures in
-    sweeps_are_settled p b c.recall_conditions.ensures.fits c.requires.barrier c.in-Ok.start.items c.swept-words.result.items c.in-Ok.ensures.way s.way s.words settled
+    sweeps_are_settled p b c.recall_conditions.ensures.fits c.requires.barrier c.args.words.items c.swept-words.result.items c.requires.way s.way s.words settled
 
-pub returns-in-Some-clause-settles : goal.returns-in-Some-clause-settles
-returns-in-Some-clause-settles c =
+pub returns-in-Some : goal.returns-in-Some
+returns-in-Some c =
     let p = c.args.p.now in
     let b = c.args.b.now in
     let s = c.swept-words.ensures in
     let first = subst (λ (x : List Bound). IsFirstOpen p x c.in-Some.cell c.in-Some.side) c.as_slice.ensures.value c.in-Some.ensures in
-    sweeps_are_unfinished p b c.recall_conditions.ensures.fits c.requires.barrier c.in-Ok.start.items c.swept-words.result.items c.args.self.now.rounds _ c.in-Ok.ensures.way s.way s.words s.reached refl first
+    sweeps_are_unfinished p b c.recall_conditions.ensures.fits c.requires.barrier c.args.words.items c.swept-words.result.items c.args.self.now.rounds _ c.requires.way s.way s.words s.reached refl first
