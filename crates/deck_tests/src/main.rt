@@ -18,6 +18,7 @@
 #![tactic(auto)]
 
 mod checks;
+mod example;
 mod kinds;
 mod lists;
 mod made;

@@ -2,13 +2,12 @@
 ghost use Rattle.std.specs.Prelude.{IfOk};
 ghost use Rattle.model_types.specs.Valid.{IsModel};
 
+use crate::example::{example, whole};
 use crate::lists::{print_grid, print_integers, print_numbers, print_period};
 use crate::stresses::print_stresses;
-use decimal_input::dec::Dec;
 use model_reader::read_named_model;
 use model_types::FlowModel;
 use outside::{InputFault, MemFolder, Refusal, good_name};
-use problem_builder::example::example;
 use std::alloc::Global;
 use std::io;
 use zone_file::read_zones;
@@ -116,14 +115,6 @@ pub fn print_zones(
     match zones_of(alloc, folder, name, zones) {
         Ok(zones) => print_integers(rt, "ZONES", zones.as_slice()),
         Err(fault) => print_fault(rt, &fault),
-    }
-}
-
-fn whole(digits: u64) -> Dec {
-    Dec {
-        neg: false,
-        digits,
-        exp: 0,
     }
 }
 
