@@ -13,10 +13,13 @@ word id = record (new_rule id) { required = true }
 abbrev pub option : Text → Rule
 option id = record (new_rule id) { long = Some id }
 
+-- the command with the options of a settling: [--digits S] [--workers W] [--rounds P]
+abbrev pub settling : App → App
+settling a = with_rule (with_rule (with_rule a (option (codes "digits"))) (option (codes "workers"))) (option (codes "rounds"))
+
 -- run NAME [--digits S] [--workers W] [--rounds P] [--zones Z] [--watch N]
 abbrev pub run_app : App
-run_app = with_rule (with_rule (with_rule (with_rule (with_rule (with_rule (new_app (codes "run"))
-    (word (codes "name"))) (option (codes "digits"))) (option (codes "workers"))) (option (codes "rounds"))) (option (codes "zones"))) (option (codes "watch"))
+run_app = with_rule (with_rule (settling (with_rule (new_app (codes "run")) (word (codes "name")))) (option (codes "zones"))) (option (codes "watch"))
 
 -- check NAME LISTING [--digits S]
 abbrev pub check_app : App
@@ -28,9 +31,7 @@ make_app = with_rule (with_rule (new_app (codes "make")) (word (codes "seed"))) 
 
 -- batch LIST [--digits S] [--workers W] [--rounds P]
 abbrev pub batch_app : App
-batch_app =
-    with_rule (with_rule (with_rule (with_rule (new_app (codes "batch")) (word (codes "list")))
-    (option (codes "digits"))) (option (codes "workers"))) (option (codes "rounds"))
+batch_app = settling (with_rule (new_app (codes "batch")) (word (codes "list")))
 
 -- the same command, which needs a subcommand
 abbrev pub needing : App → App

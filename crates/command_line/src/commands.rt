@@ -1,6 +1,6 @@
 ghost use Rattle.std.specs.Prelude.{◌≡◌, IfOk, false, true};
 ghost use Rattle.clap.specs.Words.{app_of, with_rule, with_subcommand};
-ghost use Rattle.command_line.specs.Commands.{IsLocal, needing, run_app, check_app, make_app, batch_app, heads_app, word, option};
+ghost use Rattle.command_line.specs.Commands.{IsLocal, needing, run_app, check_app, make_app, batch_app, heads_app, word, option, settling};
 
 use clap::{Arg, Command};
 use std::alloc::{AllocError, Global};
@@ -29,13 +29,21 @@ fn with_option<'a>(
     command.arg(Arg::new(alloc, id).long(id))
 }
 
+// The command with the options of a settling.
+fn with_settling<'a>(alloc: Global, command: Command<'a>) -> Result<Command<'a>, AllocError>
+    requires { IsLocal command }
+    ensures { IfOk result (λ c. (app_of c ≡ settling (app_of command.entry)) × IsLocal c) }
+{
+    let command = with_option(alloc, command, "digits")?;
+    let command = with_option(alloc, command, "workers")?;
+    with_option(alloc, command, "rounds")
+}
+
 fn run_command<'a>(alloc: Global) -> Result<Command<'a>, AllocError>
     ensures { IfOk result (λ c. (app_of c ≡ run_app) × IsLocal c) }
 {
     let command = with_word(alloc, Command::new(alloc, "run"), "name")?;
-    let command = with_option(alloc, command, "digits")?;
-    let command = with_option(alloc, command, "workers")?;
-    let command = with_option(alloc, command, "rounds")?;
+    let command = with_settling(alloc, command)?;
     let command = with_option(alloc, command, "zones")?;
     with_option(alloc, command, "watch")
 }
@@ -59,9 +67,7 @@ fn batch_command<'a>(alloc: Global) -> Result<Command<'a>, AllocError>
     ensures { IfOk result (λ c. (app_of c ≡ batch_app) × IsLocal c) }
 {
     let command = with_word(alloc, Command::new(alloc, "batch"), "list")?;
-    let command = with_option(alloc, command, "digits")?;
-    let command = with_option(alloc, command, "workers")?;
-    with_option(alloc, command, "rounds")
+    with_settling(alloc, command)
 }
 
 // The command with one more subcommand.

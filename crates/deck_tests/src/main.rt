@@ -16,6 +16,7 @@
 //! `@words WORD|WORD|..` prints what the words of a command line ask for; without a word after it there are none.
 #![tactic(auto)]
 
+mod example;
 mod kinds;
 mod lists;
 mod made;

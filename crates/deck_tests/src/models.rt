@@ -2,13 +2,12 @@
 ghost use Rattle.std.specs.Prelude.{IfOk};
 ghost use Rattle.model_types.specs.Valid.{IsModel};
 
+use crate::example::{example, whole};
 use crate::lists::{print_grid, print_integers, print_numbers, print_period};
 use crate::stresses::print_stresses;
-use decimal_input::dec::Dec;
 use model_reader::read_named_model;
 use model_types::FlowModel;
 use outside::{InputFault, MemFolder, good_name};
-use problem_builder::example::example;
 use std::alloc::Global;
 use std::io;
 use zone_file::read_zones;
@@ -105,16 +104,8 @@ pub fn print_zones(
     }
 }
 
-fn whole(number: u32) -> Dec {
-    Dec {
-        neg: false,
-        digits: u64::from(number),
-        exp: 0,
-    }
-}
-
 /// Prints the model of the builder's example.
 pub fn print_example(rt: &impl Print, alloc: Global, hk: u32, rate: u32) -> io::Result<()> {
-    let model = example(alloc, whole(hk), whole(rate))?;
+    let model = example(alloc, whole(u64::from(hk)), whole(u64::from(rate)))?;
     print_lists(rt, &model)
 }

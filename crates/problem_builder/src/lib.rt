@@ -9,7 +9,6 @@ pub mod chosen;
 pub mod depth;
 pub mod entries;
 pub mod evaporation;
-pub mod example;
 pub mod faces;
 pub mod fault;
 pub mod given;

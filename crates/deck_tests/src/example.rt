@@ -8,7 +8,7 @@ use std::alloc::{AllocError, Global};
 
 const FIRST: CellId = CellId(0);
 
-fn whole(digits: u64) -> Dec
+pub fn whole(digits: u64) -> Dec
     ensures { result ≡ whole digits }
 {
     Dec {

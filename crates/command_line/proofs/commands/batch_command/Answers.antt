@@ -1,0 +1,10 @@
+use Rattle.std.proofs.Common.{◌∙◌, ap, codes}
+use Rattle.clap.specs.Words.{with_rule}
+use Rattle.command_line.specs.Commands.{settling, word}
+use Rattle.command_line.proofs.Chains.{if_ok-made_of}
+use Rattle.command_line.proofs.commands.batch_command.Goals as goal
+
+pub returns : goal.returns
+returns c =
+    let named = c.in_ok-command.ensures.0 ∙ ap (λ a. with_rule a (word (codes "list"))) c.new.ensures.app in
+    if_ok-made_of settling _ _ c.with_settling.result named c.with_settling.ensures

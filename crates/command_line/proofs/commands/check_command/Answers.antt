@@ -1,0 +1,11 @@
+use Rattle.std.proofs.Common.{◌∙◌, ap, codes}
+use Rattle.clap.specs.Words.{with_rule}
+use Rattle.command_line.specs.Commands.{option, word}
+use Rattle.command_line.proofs.Chains.{if_ok-made_of}
+use Rattle.command_line.proofs.commands.check_command.Goals as goal
+
+pub returns : goal.returns
+returns c =
+    let named = c.in_ok-command.ensures.0 ∙ ap (λ a. with_rule a (word (codes "name"))) c.new.ensures.app in
+    let listed = c.in_ok-command-2.ensures.0 ∙ ap (λ a. with_rule a (word (codes "listing"))) named in
+    if_ok-made_of (λ a. with_rule a (option (codes "digits"))) _ _ c.with_option.result listed c.with_option.ensures

@@ -1,0 +1,10 @@
+use Rattle.std.proofs.Common.{◌∙◌, ap, codes}
+use Rattle.clap.specs.Words.{with_rule}
+use Rattle.command_line.specs.Commands.{word}
+use Rattle.command_line.proofs.Chains.{if_ok-made_of}
+use Rattle.command_line.proofs.commands.make_command.Goals as goal
+
+pub returns : goal.returns
+returns c =
+    let seeded = c.in_ok-command.ensures.0 ∙ ap (λ a. with_rule a (word (codes "seed"))) c.new.ensures.app in
+    if_ok-made_of (λ a. with_rule a (word (codes "size"))) _ _ c.with_word-2.result seeded c.with_word-2.ensures

@@ -1,0 +1,12 @@
+use Rattle.std.proofs.Common.{◌∙◌, ap, codes}
+use Rattle.clap.specs.Words.{with_rule}
+use Rattle.command_line.specs.Commands.{option, settling, word}
+use Rattle.command_line.proofs.Chains.{if_ok-made_of}
+use Rattle.command_line.proofs.commands.run_command.Goals as goal
+
+pub returns : goal.returns
+returns c =
+    let named = c.in_ok-command.ensures.0 ∙ ap (λ a. with_rule a (word (codes "name"))) c.new.ensures.app in
+    let settled = c.in_ok-command-2.ensures.0 ∙ ap settling named in
+    let zoned = c.in_ok-command-3.ensures.0 ∙ ap (λ a. with_rule a (option (codes "zones"))) settled in
+    if_ok-made_of (λ a. with_rule a (option (codes "watch"))) _ _ c.with_option-2.result zoned c.with_option-2.ensures
