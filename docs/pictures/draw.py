@@ -3,8 +3,8 @@
 
     docs/pictures/draw.py [NAME ..]      (river_valley, bounds, house, excess, zones)
 
-It needs numpy, scipy and matplotlib, and for `river_valley`, `bounds` and `zones` the program: that of the environment's HEADS, else
-dist/heads.
+It needs numpy, scipy and matplotlib, and for `river_valley`, `bounds` and `zones` the program: that of the
+environment's HEADS, else dist/heads.
 """
 from __future__ import annotations
 

@@ -17,8 +17,8 @@ WIDE, TALL = 7.4, 3.0
 
 @dataclass
 class Cut:
-    """A section along a row or a column: edges of its cells in the plan's axis; heads, tops and bottoms of shape (layers, cells);
-    `marks`: kind, layer from 1, cell along the cut from 0, and elevations (stage, bottom, drain) of the entries that it meets.
+    """A section along a row or a column: edges of its cells in the plan's axis; heads, tops and bottoms, shape (layers,
+    cells); `marks`: kind, layer from 1, cell along the cut from 0, elevations (stage, bottom, drain) of its entries.
     """
 
     title: str
@@ -79,7 +79,7 @@ def head_section(album: Album, name: str, plan: Plan, cut: Cut) -> None:
 
 
 def limits(cut: Cut) -> tuple[float, float]:
-    """The elevations that a section of one layer shows: those of heads and stages, and of top and bottom where they are near."""
+    """The elevations that a section of one layer shows: heads and stages, and top and bottom where they are near."""
     levels = np.array([v for *_, levels in cut.marks for v in levels] + cut.lower[np.isfinite(cut.lower)].tolist())
     low, high = float(levels.min()), float(levels.max())
     span = max(high - low, 1e-3 * max(abs(high), 1e-6))

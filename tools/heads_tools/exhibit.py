@@ -25,24 +25,31 @@ from .text import Problem, decimal_text, on_disk, read_text, whole_file, words
 from .verdict import Verdict, has_zones, program_file
 
 EACH_HEAD = (
-    "Each exact solution of this model's finite-difference equations has, at the end of each listed time step and at each listed cell, "
-    "a head between the two listed numbers, and budget flows between the two listed numbers of each term."
+    "Each exact solution of this model's finite-difference equations has, at the end of each listed time step "
+    "and at each listed cell, a head between the two listed numbers, "
+    "and budget flows between the two listed numbers of each term."
 )
 ONE_HEAD = (
-    "For example: each exact solution of this model's equations has, in layer {}, row {}, column {}, at the end of period {}, step {}, "
-    "a head between {} and {} {}."
+    "For example: each exact solution of this model's equations has, in layer {}, row {}, column {}, "
+    "at the end of period {}, step {}, a head between {} and {} {}."
 )
-ZONE_FLOWS = "Each flow between two zones lies between its two listed numbers, too (this rests on the run and on recheck.py; `heads check` reads no zones)."
+ZONE_FLOWS = (
+    "Each flow between two zones lies between its two listed numbers, too "
+    "(this rests on the run and on recheck.py; `heads check` reads no zones)."
+)
 NOT_THE_GROUND = "The head in the aquifer lies between these numbers."
-WHY_NOT = "The listing speaks of the equations of these files. It says nothing of the ground, nor of the heads that MODFLOW prints."
+WHY_NOT = (
+    "The listing speaks of the equations of these files. "
+    "It says nothing of the ground, nor of the heads that MODFLOW prints."
+)
 NOTHING = "Nothing may be said of this model's heads from this run."
 MOST_RECHECK_HEADS = 200_000
 
 
 @dataclass
 class Exhibit:
-    """What an exhibit says. `commands`: what was run and what can be run again, each as it stands in the exhibit's own folder;
-    `facts`: name and text."""
+    """What an exhibit says. `commands`: what was run and can be run again, each as it stands in the exhibit's own
+    folder; `facts`: name and text."""
 
     title: str
     verdict: str = NOTHING
@@ -74,7 +81,7 @@ class Exhibit:
 
 
 def exhibit(nam: Path, folder: Path, options: list[str]) -> int:
-    """Makes the exhibit of a model in a folder, which is whole or isn't there; the run's status, or that of the check."""
+    """Makes the exhibit of a model in a folder, whole or not at all; the run's status, or that of the check."""
     if folder.exists() and (not folder.is_dir() or any(folder.iterdir())):
         raise Problem(f"{folder} isn't an empty folder: an exhibit begins with one, or with none")
     binary, known = program_file(), version()

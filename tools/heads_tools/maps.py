@@ -32,7 +32,7 @@ def draw(axes: Axes, plan: Plan, values: np.ndarray, cmap: str | ListedColormap,
 
 
 def contours(axes: Axes, plan: Plan, values: np.ndarray, norm: Normalize) -> None:
-    """Contours at the round numbers of the page's scale, or of the layer's own range where few of those fall into it."""
+    """Contours at the round numbers of the page's scale, or of the layer's range where few of those fall into it."""
     if min(values.shape) < 2 or not np.isfinite(values).any():
         return
     low, high = float(np.nanmin(values)), float(np.nanmax(values))
@@ -89,7 +89,7 @@ def head_map(
     scales: tuple[Normalize, Normalize],
     cut: tuple[int, int] | None,
 ) -> None:
-    """A large map of the lower heads of a layer, and a thumbnail of the widths. `cut`: row and column of the sections, dotted."""
+    """A large map of the lower heads of a layer and a thumbnail of the widths. `cut`: row, column of the sections."""
     tall, thumb_tall = MAP_WIDTH * plan.ratio, THUMB_WIDTH * plan.ratio
     left, below, above = 0.75, 0.85, 0.4
     with album.figure(
@@ -117,7 +117,7 @@ def head_map(
 def thumbnail(
     figure: Figure, plan: Plan, width: np.ndarray, norm: Normalize, left: float, bottom: float, tall: float
 ) -> None:
-    """A small map of widths: white where the head is known, so that the width is 0. Its scale stands in words below it."""
+    """A small map of widths: white where the head is known, so that the width is 0. Its scale is told below it."""
     axes = box(figure, left, bottom, THUMB_WIDTH, tall)
     axes.set(xticks=[], yticks=[])
     axes.set_title("upper less lower", fontsize=8)

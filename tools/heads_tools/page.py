@@ -10,14 +10,15 @@ from .text import whole_file
 
 FRAME = Path(__file__).with_name("page.html")
 NOTE = (
-    "Pictures, rounded numbers and this page are made by heads-tools, which isn't proved; it rounds lower numbers down and upper ones up. "
+    "Pictures, rounded numbers and this page are made by heads-tools, which isn't proved; "
+    "it rounds lower numbers down and upper ones up. "
     "Certified pairs enclose every exact solution of the deck's equations; they say nothing of the aquifer itself."
 )
 
 
 @dataclass
 class Page:
-    """What a page shows: a verdict under its title (good, bad or neither), facts, sentences, and parts in order of rooms (headings)."""
+    """What a page shows: a verdict under its title (good, bad or neither), facts, sentences, parts by rooms."""
 
     title: str
     sentences: list[str] = field(default_factory=list)
@@ -35,7 +36,8 @@ class Page:
         """A picture, folded under the line `fold` where there is one."""
         svg = name.rsplit(".", 1)[0] + ".svg"
         about = escape(caption) + (f' (<a href="{escape(svg)}">SVG</a>)' if self.has_svg else "")
-        figure = f'<figure><img src="{escape(name)}" alt="{escape(caption)}" loading="lazy"><figcaption>{about}</figcaption></figure>'
+        picture = f'<img src="{escape(name)}" alt="{escape(caption)}" loading="lazy">'
+        figure = f"<figure>{picture}<figcaption>{about}</figcaption></figure>"
         self.add(room, f"<details><summary>{escape(fold)}</summary>{figure}</details>" if fold else figure)
 
     def table(self, room: str, head: list[str], rows: list[list[str]], fold: str = "") -> None:

@@ -30,8 +30,8 @@ MARKS = {
 
 @dataclass
 class Plan:
-    """The grid as it is drawn: edges of columns from the west and of rows from the south, in `axis`; the unit of heads; entries by kind
-    (layer, row, column); elevations of layers, shape (layers, rows, cols), None where they aren't known."""
+    """The grid as it is drawn: edges of columns from the west and of rows from the south, in `axis`; the unit of heads;
+    entries by kind (layer, row, column); elevations of layers, shape (layers, rows, cols), None where not known."""
 
     x: np.ndarray
     y: np.ndarray
@@ -108,7 +108,7 @@ def head_scale(values: np.ndarray) -> Normalize:
 
 
 def width_scale(values: np.ndarray, least: float = 0.0) -> Normalize:
-    """The colour scale of values that aren't negative: in powers of ten where those above `least` differ a hundredfold."""
+    """The colour scale of values that aren't negative: powers of ten where those above `least` differ a hundredfold."""
     here = values[np.isfinite(values) & (values > 0)]
     if not here.size:
         return Normalize(0, 1)

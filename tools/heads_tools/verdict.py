@@ -42,7 +42,10 @@ class Verdict:
         """The verdict, for the line under the title."""
         if self.is_certified:
             zones = " It reads no lines ZONE: the flows between zones weren't checked." if self.has_zones else ""
-            return f"heads check: CERTIFIED. Every exact solution of the model's equations lies between the listed numbers.{zones}"
+            return (
+                "heads check: CERTIFIED. "
+                f"Every exact solution of the model's equations lies between the listed numbers.{zones}"
+            )
         if self.status is None:
             return f"Not checked ({self.last}): these numbers are bounds only if `heads check` certifies them."
         return f"heads check: {self.last}. These numbers are no certified bounds of this model."
@@ -51,7 +54,10 @@ class Verdict:
     def note(self) -> str:
         """The same for the foot of a page."""
         if self.is_certified:
-            return "The pairs in heads.csv and budget.csv are those of the listing, which `heads check` certified when this page was made."
+            return (
+                "The pairs in heads.csv and budget.csv are those of the listing, "
+                "which `heads check` certified when this page was made."
+            )
         return "The pairs in heads.csv and budget.csv are those of the listing. Nothing here says that they are bounds."
 
 

@@ -49,7 +49,7 @@ def middle(plan: Plan, here: np.ndarray) -> tuple[float, float]:
 
 @dataclass
 class ZoneMap:
-    """What a map of zones shows: the zones of a layer, shape (rows, cols), where it has flow, and the flows of a step with
+    """What a map of zones shows: the zones of a layer, shape (rows, cols), where it has flow, and a step's flows with
     their decimals and their unit."""
 
     layer: int

@@ -1,0 +1,58 @@
+"""The sections of a listing's page."""
+from __future__ import annotations
+
+from functools import partial
+
+import numpy as np
+
+from . import curves
+from .listing import Step
+from .look_maps import Maps
+from .looking import SECTIONS
+
+
+class Sections(Maps):
+    """Sections along a row and a column, in the scale of the maps."""
+
+    def add_sections(self, step: Step, row: int, col: int) -> None:
+        nlay, nrow, ncol = self.shape
+        if self.model is None:
+            return
+        if ncol > 1 and (nlay > 1 or nrow > 1):
+            self.jobs.append(
+                partial(
+                    self.draw_section,
+                    step,
+                    f"section_row{row}",
+                    f"Section along row {row}, from west to east",
+                    np.s_[:, row - 1],
+                    1,
+                    row,
+                )
+            )
+        if nrow > 1 and (nlay > 1 or ncol > 1):
+            title = f"Section along column {col}, from south to north"
+            self.jobs.append(
+                partial(self.draw_section, step, f"section_column{col}", title, np.s_[:, :, col - 1], 2, col)
+            )
+
+    def draw_section(self, step: Step, name: str, title: str, where: tuple, axis: int, number: int) -> None:
+        other = 3 - axis
+        met = [
+            (kind, cell[0], cell[other] - 1, levels)
+            for kind, found in self.elements.items()
+            for cell, levels in found
+            if cell[axis] == number
+        ]
+        edges = self.plan.x if axis == 1 else self.plan.y
+        cut = curves.Cut(
+            f"{title}; {self.when(step)}",
+            edges,
+            *(v[where] for v in (self.grid(step.low), self.plan.top, self.plan.bottom)),
+            met,
+        )
+        if self.shape[0] == 1:
+            curves.head_section(self.album, name, self.plan, cut)
+        else:
+            curves.cell_section(self.album, name, self.plan, cut, self.scales([step])[0])
+        self.page.picture(SECTIONS, f"{name}.png", f"{title}: lower heads. {self.widest_of([step])}")

@@ -1,0 +1,129 @@
+"""What all parts of a listing's page share: listing, model, plan, verdict, and what is still to be drawn."""
+from __future__ import annotations
+
+import time
+from pathlib import Path
+from typing import Callable
+
+import numpy as np
+
+from . import __version__
+from .listing import Listing, Step
+from .model import Model, value
+from .page import Page
+from .pictures import Album, Cell, plan_of
+from .progress import bar
+from .text import LENGTHS, Problem, decimal_text, read_text
+from .verdict import Verdict, not_checked, program_name
+
+ROOMS = "Heads", "Sections", "Cells over time", "Budget", "Zones", "Given heads", "Difference"
+HEADS, SECTIONS, HYDROGRAPHS, BUDGET, ZONES, GIVEN, MINUS = ROOMS
+
+
+def title_of(nam: Path) -> str:
+    """The model's own title: the first comment of its name file, else the file's name."""
+    lines = (line[1:].strip() for line in read_text(nam).split("\n") if line.startswith("#"))
+    return next((line for line in lines if line), nam.name)
+
+
+class Looking:
+    """A listing, its page in a folder, and what is still to be drawn on it (`jobs`), in order of the page."""
+
+    def __init__(
+        self,
+        listing: Listing,
+        folder: Path,
+        model: Model | None = None,
+        verdict: Verdict | None = None,
+        has_svg: bool = False,
+    ):
+        if not listing.steps:
+            raise Problem(f"{listing.path} has no whole step: it ends with {listing.end or 'a part of a step'}")
+        if not len(listing.cells):
+            raise Problem(f"{listing.path} has no cell with flow: there is nothing to draw")
+        self.listing, self.folder, self.model = listing, folder, model
+        self.shape = model.shape if model else listing.shape
+        if any(a > b for a, b in zip(listing.shape, self.shape)):
+            raise Problem(
+                f"{listing.path} has cells up to {listing.shape}, and the model's grid is {self.shape}: another model"
+            )
+        self.unit = model.length if model else LENGTHS.get(listing.unit, "length units")
+        self.time = model.time if model else "time unit"
+        self.elements = elements(model) if model else {}
+        self.plan = self.make_plan()
+        self.verdict = verdict or not_checked(listing)
+        said = f"{self.verdict.title}. {self.verdict.sentence}" if model else self.verdict.sentence
+        self.page = Page(
+            title_of(model.deck.path) if model else self.verdict.title,
+            note=self.verdict.note,
+            verdict=said,
+            has_svg=has_svg,
+        )
+        self.page.is_good = True if self.verdict.is_certified else None if self.verdict.status is None else False
+        self.page.rooms = {room: [] for room in ROOMS}
+        self.album = Album(folder, has_svg)
+        self.jobs: list[Callable[[], None]] = []
+
+    def make_plan(self):
+        nlay, nrow, ncol = self.shape
+        if self.model is None:
+            return plan_of(np.ones(ncol), np.ones(nrow), self.unit, "columns, rows")
+        model = self.model
+        entries = {kind: [cell for cell, _ in found] for kind, found in self.elements.items()}
+        entries["CHD"] = entries.get("CHD", []) + [tuple(c) for c in (np.argwhere(model.ibound < 0) + 1).tolist()]
+        top = np.concatenate([model.top[None], (model.bottom - model.bed)[:-1]])
+        return plan_of(model.delr, model.delc, self.unit, self.unit, entries=entries, top=top, bottom=model.bottom)
+
+    def when(self, step) -> str:
+        times = self.model.times if self.model else {}
+        end = f", {times[step.period, step.step][1]:.6g} {self.time}" if (step.period, step.step) in times else ""
+        return f"period {step.period} step {step.step}{end}"
+
+    def grid(self, values: np.ndarray) -> np.ndarray:
+        return self.listing.grid(values / 1e9, self.shape)
+
+    def draw(self) -> None:
+        """Does what is still to be drawn."""
+        for job in bar(self.jobs, "pictures", "picture"):
+            job()
+        self.jobs.clear()
+
+    def widest_of(self, steps: list[Step]) -> str:
+        return f"The pairs are at most {decimal_text(max(int(s.width().max()) for s in steps), 9)} {self.unit} wide"
+
+    @property
+    def place(self) -> Cell:
+        """The cell whose head is farthest from the mean in the last step, of those whose head isn't known."""
+        last = self.listing.steps[-1]
+        low, is_open = last.low.astype(float), last.width() > 0
+        k, i, j = self.listing.cells[int((np.abs(low - low.mean()) * (is_open | ~is_open.any())).argmax())].tolist()
+        return k, i, j
+
+    @property
+    def rate(self) -> str:
+        return f"{self.unit}³ per {self.time}"
+
+    def tell_facts(self) -> None:
+        listing = self.listing
+        facts = [("Listing", f"{listing.path.name}, --digits {listing.digits}: {listing.summary()} in {self.unit}")]
+        if self.model:
+            facts.append(
+                (
+                    "Model",
+                    f"{self.model.deck.path.name}: {' x '.join(map(str, self.shape))} cells (layers, rows, columns)",
+                )
+            )
+        if self.verdict.status is not None:
+            facts.append(("Checked by", program_name()))
+        facts.append(("Made by", f"heads-tools {__version__}, {time.strftime('%Y-%m-%d %H:%M UTC', time.gmtime())}"))
+        self.page.facts = facts
+
+
+def elements(model: Model) -> dict[str, list[tuple[Cell, list[float]]]]:
+    """The entries of each list in the last period that has new ones: cell and elevations (stage, bottom, drain)."""
+    columns = {"WEL": (), "RIV": (0, 2), "DRN": (0,), "GHB": (0,), "CHD": (1,)}
+    out = {}
+    for kind, places in columns.items():
+        entries = next((p for p in reversed(model.deck.lists.get(kind, [])) if p is not None), [])
+        out[kind] = [(e.cell, [value(e.words[n]) for n in places]) for e in entries]
+    return out
