@@ -49,8 +49,8 @@ def middle(plan: Plan, here: np.ndarray) -> tuple[float, float]:
 
 @dataclass
 class ZoneMap:
-    """What a map of zones shows: the zones of a layer, shape (rows, cols), where it has flow, and a step's flows with their
-    decimals and their unit."""
+    """What a map of zones shows: the zones of a layer, shape (rows, cols), where it has flow, and a step's flows with
+    their decimals and their unit."""
 
     layer: int
     zones: np.ndarray
