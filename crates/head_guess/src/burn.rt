@@ -117,13 +117,8 @@ impl Fire {
         if self.is_burnt(cell) {
             return sum;
         }
-        let row = side.links.row(cell);
-        let own = at(heads, cell);
-        if row.is_straight {
-            sum.wrapping_add(side.straight_fall(&row, own, heads) as i128)
-        } else {
-            side.balance(cell, own, heads)
-        }
+        let fall = side.fall(&side.links.row(cell), at(heads, cell), heads);
+        sum.wrapping_add(fall as i128)
     }
 }
 

@@ -2,12 +2,11 @@
 use crate::burn::unit_pass;
 use crate::gallop::gallop;
 use crate::one_side::OneSide;
-use crate::slopes::slope_at;
 use crate::solver::Solver;
 use crate::state::State;
 use crate::ways::way_between;
 use multigrid::Budget;
-use multigrid::numbers::{at, greatest, long_at};
+use multigrid::numbers::{at, greatest};
 use std::alloc::{AllocError, Global};
 
 const MOST_PASSES: u32 = 1_000_000;
@@ -39,7 +38,7 @@ fn slopes_where_fallen(
     let mut slopes = Vec::with_capacity(alloc, heads.len())?;
     for cell in 0..heads.len() {
         slopes.push(if at(heads, cell) < at(before, cell) {
-            slope_at(side, cell, long_at(state.balances.as_slice(), cell), heads)
+            side.slope(cell, heads)
         } else {
             0
         })?;

@@ -16,6 +16,7 @@ mod newton;
 mod nodes;
 mod one_side;
 mod raise;
+mod ramp;
 mod search;
 mod slopes;
 mod solver;

@@ -19,10 +19,10 @@ pub struct Row {
     end_edge: u32,
     first_known: u32,
     end_known: u32,
+    first_ramp: u32,
+    end_ramp: u32,
     pub least: i64,
     pub greatest: i64,
-    /// Whether the balance is linear but for rounding: the cell has only links and known heads.
-    pub is_straight: bool,
 }
 
 const NO_ROW: Row = Row {
@@ -30,9 +30,10 @@ const NO_ROW: Row = Row {
     end_edge: 0,
     first_known: 0,
     end_known: 0,
+    first_ramp: 0,
+    end_ramp: 0,
     least: 1,
     greatest: 1,
-    is_straight: true,
 };
 
 /// The rows of all cells, with their edges.
@@ -41,8 +42,7 @@ pub struct Links {
     rows: Vec<Row>,
     edges: Vec<Edge>,
     knowns: u32,
-    /// Whether all balances bend to one side alone: no cell has evaporation.
-    pub bend_one_way: bool,
+    ramps: u32,
 }
 
 /// A conductance as a number with a sign.
@@ -56,15 +56,36 @@ impl Row {
         all.get(self.first_known as usize..self.end_known as usize)
             .unwrap_or(&[])
     }
+
+    /// The row's part of a list of the ramps of all cells.
+    pub fn ramps<'a, T>(&self, all: &'a [T]) -> &'a [T] {
+        all.get(self.first_ramp as usize..self.end_ramp as usize)
+            .unwrap_or(&[])
+    }
+
+    /// Whether the balance is linear but for rounding: the cell has only links and known heads.
+    pub fn is_straight(&self) -> bool {
+        self.first_ramp == self.end_ramp
+    }
+}
+
+// The number of a cell's rivers, drains and evaporations.
+fn ramps_of(cell: &Cell) -> u32 {
+    let count = cell
+        .rivers
+        .len()
+        .saturating_add(cell.drains.len())
+        .saturating_add(cell.evaps.len());
+    label(count)
 }
 
 impl Links {
     fn add_cell(&mut self, cell: &Cell) -> Result<(), AllocError> {
         let first_edge = label(self.edges.len());
         let first_known = self.knowns;
+        let first_ramp = self.ramps;
         let mut least = 0_i64;
         let mut greatest = 0_i64;
-        self.bend_one_way = self.bend_one_way && cell.evaps.is_empty();
         for link in &cell.links {
             let edge = Edge {
                 other: link.cell,
@@ -80,14 +101,16 @@ impl Links {
             greatest = greatest.saturating_add(conductance(fixed.hi));
             self.knowns = self.knowns.saturating_add(1);
         }
+        self.ramps = self.ramps.saturating_add(ramps_of(cell));
         self.rows.push(Row {
             first_edge,
             end_edge: label(self.edges.len()),
             first_known,
             end_known: self.knowns,
+            first_ramp,
+            end_ramp: self.ramps,
             least: least.max(1),
             greatest: greatest.max(1),
-            is_straight: cell.rivers.is_empty() && cell.drains.is_empty() && cell.evaps.is_empty(),
         })?;
         Ok(())
     }
@@ -98,7 +121,7 @@ impl Links {
             rows: Vec::with_capacity(alloc, p.len())?,
             edges: Vec::new(alloc),
             knowns: 0,
-            bend_one_way: true,
+            ramps: 0,
         };
         for cell in 0..p.len() {
             links.add_cell(p.cell(cell))?;
@@ -121,7 +144,7 @@ impl Links {
 
     /// Whether all balances but a few are straight.
     pub fn are_nearly_straight(&self) -> bool {
-        let bent = self.rows.iter().filter(|row| !row.is_straight).count();
+        let bent = self.rows.iter().filter(|row| !row.is_straight()).count();
         bent <= self.rows.len() / 16
     }
 }

@@ -2,7 +2,7 @@
 use crate::flows::product;
 use crate::linear::Linear;
 use crate::one_side::OneSide;
-use crate::slopes::{slope_at, slope_between};
+use crate::ramp::Bends;
 use multigrid::Budget;
 use multigrid::numbers::{at, cut, put, shifted, width};
 use std::alloc::{AllocError, Global};
@@ -18,11 +18,20 @@ const LONG: i128 = 1 << 20;
 // A round is the last one if it moves no head by more than these units: few cells pass a bend.
 const NEAR: i128 = 256;
 
+// The longest move leaves at most this part of it, if its system was solved.
+const BITS_OF_SLACK: u32 = 12;
+
+// Where balances bend both ways Newton's method need not end. So evaporations stay at their full rate by the heads at which the balances were
+// last 0, and all others go on above their surface: then all balances bend one way, and after a first round heads move one way, until the
+// balances are 0 again. Heads rise each time, so that more and more evaporations are at their full rate, until none comes to it.
 #[derive(Drop)]
 struct Newton {
     heads: Vec<i64>,
-    // The heads one round before.
-    before: Vec<i64>,
+    // The heads by which evaporations are at their full rate.
+    tops: Vec<i64>,
+    // How far the heads may be off. A ramp counts unless the head is further below its foot: without its last river or drain a system has no
+    // solution.
+    slack: i64,
     balances: Vec<i128>,
     slopes: Vec<i64>,
 }
@@ -31,36 +40,36 @@ impl Newton {
     fn new(alloc: Global, heads: Vec<i64>) -> Result<Newton, AllocError> {
         let count = heads.len();
         Ok(Newton {
-            before: heads.clone()?,
+            tops: heads.clone()?,
             heads,
+            slack: 0,
             balances: vec![in alloc; 0; count]?,
             slopes: vec![in alloc; 0; count]?,
         })
     }
 
-    // The slope of the next round at a cell. Where all balances bend to one side alone, heads do not oscillate: after the first round they
-    // move one way. Else it is, where the balance bends, the greater of the slope at the head and the slope from the head before, and is
-    // lowered only half way in each round.
-    fn slope(&self, side: &OneSide, cell: usize, balance: i128) -> i64 {
-        let heads = self.heads.as_slice();
-        let here = slope_at(side, cell, balance, heads);
-        if side.links.bend_one_way || side.links.row(cell).is_straight {
-            return here;
-        }
-        let before = at(self.before.as_slice(), cell);
-        let slope = here.max(slope_between(side, cell, balance, heads, before));
-        let used = at(self.slopes.as_slice(), cell);
-        slope.max((slope >> 1).wrapping_add(used >> 1))
-    }
-
     fn linearize(&mut self, side: &OneSide) {
         for cell in 0..self.heads.len() {
             let heads = self.heads.as_slice();
-            let balance = side.balance(cell, at(heads, cell), heads);
-            let slope = self.slope(side, cell, balance);
+            let bends = Bends {
+                foot: side.higher(at(heads, cell), self.slack),
+                top: at(self.tops.as_slice(), cell),
+            };
+            let (balance, slope) = side.piece(cell, heads, bends);
             put(self.balances.as_mut_slice(), cell, balance);
             put(self.slopes.as_mut_slice(), cell, slope);
         }
+    }
+
+    // Evaporations are at their full rate by the heads as they are now. Returns whether that changes any.
+    fn set_tops(&mut self, side: &OneSide) -> bool {
+        let mut has_changed = false;
+        for (cell, head) in self.heads.iter().enumerate() {
+            let top = at(self.tops.as_slice(), cell);
+            has_changed = has_changed || side.is_top_between(cell, top, *head);
+            put(self.tops.as_mut_slice(), cell, *head);
+        }
+        has_changed
     }
 
     // The longest of the moves that would each cancel one balance alone.
@@ -84,7 +93,6 @@ impl Newton {
             let way = shifted(unknown, 0_i64.saturating_sub(places));
             longest = longest.max(way.saturating_abs());
             let head = at(self.heads.as_slice(), cell);
-            put(self.before.as_mut_slice(), cell, head);
             let moved = side.above_floor(cell, (head as i128).saturating_add(way));
             put(self.heads.as_mut_slice(), cell, moved);
         }
@@ -103,8 +111,13 @@ impl Newton {
         let places = 20_i64.saturating_sub(width(alone as i128) as i64);
         let unknowns = linear.correction(self.balances.as_slice(), places, budget);
         let longest = self.advance(side, unknowns, places);
-        let is_short = alone < SHORT && longest < LONG;
-        (longest, is_short && linear.is_solved(places))
+        let is_solved = linear.is_solved(places);
+        self.slack = cut(if is_solved {
+            longest.wrapping_shr(BITS_OF_SLACK)
+        } else {
+            longest
+        });
+        (longest, alone < SHORT && longest < LONG && is_solved)
     }
 }
 
@@ -134,12 +147,15 @@ pub fn find_balanced(
             break;
         }
         let (longest, is_last) = newton.step(side, alone, &mut linear, budget);
-        if longest <= NEAR || budget.is_spent() {
+        if budget.is_spent() {
             break;
         }
         newton.linearize(side);
-        if is_last && linear.serves(newton.slopes.as_slice()) {
-            break;
+        if longest <= NEAR || is_last && linear.serves(newton.slopes.as_slice()) {
+            if !newton.set_tops(side) {
+                break;
+            }
+            newton.linearize(side);
         }
         linear = Linear::of(alloc, side, &newton.slopes, Some(linear), budget)?;
     }

@@ -119,7 +119,7 @@ impl Nodes {
 
     // By how many units a cell rises.
     fn units(&self, side: &OneSide, cell: usize, row: &Row, node: &Node) -> i64 {
-        let units = if row.is_straight {
+        let units = if row.is_straight() {
             self.straight_units(side, row, node)
         } else {
             let around = self.around(side.links.edges(row));
@@ -149,28 +149,6 @@ impl Nodes {
         taken
     }
 
-    // The balance of a cell after its rise, where its links took so much.
-    fn risen_balance(
-        &self,
-        side: &OneSide,
-        cell: usize,
-        row: &Row,
-        node: &Node,
-        units: i64,
-        taken: i128,
-    ) -> i128 {
-        if !row.is_straight {
-            let around = self.around(side.links.edges(row));
-            return side.balance_amid(cell, node.head.wrapping_add(units), &around);
-        }
-        let mut balance = node.balance.wrapping_sub(taken);
-        for known in side.knowns(row) {
-            let above = node.head.wrapping_sub(known.head);
-            balance = balance.wrapping_sub(loss(known.lo, known.hi, above, units));
-        }
-        balance
-    }
-
     /// Raises a cell, at most to its cap, and marks the cells that may rise after that. Returns whether it moved.
     pub fn turn(&mut self, side: &OneSide, cell: usize, marks: &mut Marks) -> bool {
         let node = self.node(cell);
@@ -184,7 +162,10 @@ impl Nodes {
         }
         let taken = self.spread(side.links.edges(&row), node.head, units, marks);
         let risen = Node {
-            balance: self.risen_balance(side, cell, &row, &node, units, taken),
+            balance: node
+                .balance
+                .wrapping_sub(taken)
+                .wrapping_sub(side.fall_beside_links(&row, node.head, units)),
             head: node.head.wrapping_add(units),
             ..node
         };

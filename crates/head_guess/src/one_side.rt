@@ -3,14 +3,15 @@ ghost use Rattle.std.specs.Prelude.{◌≡◌, ◌<◌, All, length, take};
 ghost use Rattle.step_problem.specs.Entries.{entries_at};
 ghost use Rattle.step_problem.specs.Conditions.{IsHead};
 
-use crate::flows::{inflow, unit_loss};
+use crate::flows::inflow;
 use crate::known::{Known, inflow_of, known_head};
-use crate::links::{Edge, Links, Row};
+use crate::links::{Links, Row};
+use crate::ramp::{Ramp, add_ramps};
 use cell_relax::{raise_to, sink_to};
 use multigrid::numbers::{at, long_at};
 use std::alloc::{AllocError, Global};
 use step_problem::problem::HEAD_LIMIT;
-use step_problem::{Problem, Side, high_at, low_at};
+use step_problem::{Problem, Side};
 
 const LIMIT: i128 = HEAD_LIMIT as i128;
 
@@ -19,10 +20,11 @@ const LIMIT: i128 = HEAD_LIMIT as i128;
 #[derive(Drop)]
 pub struct OneSide<'a> {
     problem: &'a Problem,
-    side: Side,
+    pub side: Side,
     pub links: &'a Links,
     pub floor: Vec<i64>,
     knowns: Vec<Known>,
+    ramps: Vec<Ramp>,
     // The constant flows into each cell.
     inflows: Vec<i128>,
 }
@@ -63,12 +65,14 @@ impl OneSide<'_> {
         floor: Vec<i64>,
     ) -> Result<OneSide<'a>, AllocError> {
         let mut knowns = Vec::new(alloc);
+        let mut ramps = Vec::new(alloc);
         let mut inflows = Vec::with_capacity(alloc, problem.len())?;
         for index in 0..problem.len() {
             let cell = problem.cell(index);
             for fixed in &cell.fixed {
                 knowns.push(known_head(side, fixed))?;
             }
+            add_ramps(&mut ramps, side, cell)?;
             inflows.push(inflow_of(side, cell))?;
         }
         Ok(OneSide {
@@ -77,6 +81,7 @@ impl OneSide<'_> {
             links,
             floor,
             knowns,
+            ramps,
             inflows,
         })
     }
@@ -90,8 +95,13 @@ impl OneSide<'_> {
         row.knowns(self.knowns.as_slice())
     }
 
-    // A straight balance.
-    fn straight_balance(&self, cell: usize, row: &Row, own: i64, heads: &[i64]) -> i128 {
+    /// A cell's rivers, drains and evaporations.
+    pub fn ramps(&self, row: &Row) -> &[Ramp] {
+        row.ramps(self.ramps.as_slice())
+    }
+
+    /// The balance of a cell without its ramps.
+    pub fn straight_balance(&self, cell: usize, row: &Row, own: i64, heads: &[i64]) -> i128 {
         let mut sum = long_at(self.inflows.as_slice(), cell);
         for edge in self.links.edges(row) {
             let rise = at(heads, edge.other as usize).wrapping_sub(own);
@@ -104,40 +114,13 @@ impl OneSide<'_> {
         sum
     }
 
-    /// The balance of a cell with any entries, where `around` are the heads of its links' other ends.
-    pub fn balance_amid(&self, cell: usize, own: i64, around: &[i64; 6]) -> i128 {
-        if self.problem.len() <= cell {
-            return 0;
-        }
-        let mut values = [0; 6];
-        let count = ends(self.problem, self.side, cell, around, &mut values);
-        let own = turned(self.side, own);
-        match self.side {
-            Side::Low => low_at(self.problem, cell, own, &values[..count]),
-            Side::High => 0_i128.saturating_sub(high_at(self.problem, cell, own, &values[..count])),
-        }
-    }
-
     /// The balance of a cell at a head of its own: the lower one, or the upper one with the opposite sign. It falls
     /// in the cell's own head, and the cell may rise where it is not negative.
     pub fn balance(&self, cell: usize, own: i64, heads: &[i64]) -> i128 {
         let row = self.links.row(cell);
-        if row.is_straight {
-            return self.straight_balance(cell, &row, own, heads);
-        }
-        self.balance_amid(cell, own, &around(self.links.edges(&row), heads))
-    }
-
-    /// How far a straight balance falls when its cell's head rises by a unit from `own`.
-    pub fn straight_fall(&self, row: &Row, own: i64, heads: &[i64]) -> i64 {
-        let mut sum = 0_i64;
-        for edge in self.links.edges(row) {
-            let above = own.wrapping_sub(at(heads, edge.other as usize));
-            sum = sum.saturating_add(unit_loss(edge.lo, edge.hi, above));
-        }
-        for known in self.knowns(row) {
-            let above = own.wrapping_sub(known.head);
-            sum = sum.saturating_add(unit_loss(known.lo, known.hi, above));
+        let mut sum = self.straight_balance(cell, &row, own, heads);
+        for ramp in self.ramps(&row) {
+            sum = sum.wrapping_add(ramp.flow(own));
         }
         sum
     }
@@ -161,13 +144,4 @@ impl OneSide<'_> {
         let head = head.clamp(-LIMIT, LIMIT) as i64;
         head.max(at(self.floor.as_slice(), cell))
     }
-}
-
-// The heads at the other ends of edges.
-fn around(edges: &[Edge], heads: &[i64]) -> [i64; 6] {
-    let mut around = [0; 6];
-    for (place, edge) in around.iter_mut().zip(edges) {
-        *place = at(heads, edge.other as usize);
-    }
-    around
 }

@@ -1,42 +1,94 @@
-// Slopes of a cell's balance in its own head.
+// Slopes of the cells' balances in their own heads.
+use crate::flows::{loss, unit_loss};
+use crate::links::Row;
 use crate::one_side::OneSide;
-use multigrid::numbers::{at, cut};
+use crate::ramp::Bends;
+use multigrid::numbers::at;
 use std::alloc::{AllocError, Global};
+use step_problem::Side;
 
-/// The greater slope of a balance, to either side of the cell's head.
-pub fn slope_at(side: &OneSide, cell: usize, balance: i128, heads: &[i64]) -> i64 {
-    let own = at(heads, cell);
-    let row = side.links.row(cell);
-    if row.is_straight {
-        let left = side.straight_fall(&row, own.saturating_sub(1), heads);
-        return left.max(side.straight_fall(&row, own, heads)).max(1);
+impl OneSide<'_> {
+    // How far a balance without its ramps falls when its cell's head rises by a unit from `own`.
+    fn straight_fall(&self, row: &Row, own: i64, heads: &[i64]) -> i64 {
+        let mut sum = 0_i64;
+        for edge in self.links.edges(row) {
+            let above = own.wrapping_sub(at(heads, edge.other as usize));
+            sum = sum.saturating_add(unit_loss(edge.lo, edge.hi, above));
+        }
+        for known in self.knowns(row) {
+            let above = own.wrapping_sub(known.head);
+            sum = sum.saturating_add(unit_loss(known.lo, known.hi, above));
+        }
+        sum
     }
-    let below = side.balance(cell, own.saturating_sub(1), heads);
-    let above = side.balance(cell, own.saturating_add(1), heads);
-    let left = below.saturating_sub(balance);
-    let right = balance.saturating_sub(above);
-    cut(left.max(right)).max(1)
-}
 
-/// The slope of a balance between the cell's head and its head one round before.
-pub fn slope_between(
-    side: &OneSide,
-    cell: usize,
-    balance: i128,
-    heads: &[i64],
-    before: i64,
-) -> i64 {
-    let way = (before as i128).wrapping_sub(at(heads, cell) as i128);
-    let fall = balance.saturating_sub(side.balance(cell, before, heads));
-    cut(fall.checked_div(way).unwrap_or(0)).max(0)
+    /// How far a balance falls when its cell's head rises by a unit from `own`.
+    pub fn fall(&self, row: &Row, own: i64, heads: &[i64]) -> i64 {
+        let mut sum = self.straight_fall(row, own, heads);
+        for ramp in self.ramps(row) {
+            sum = sum.saturating_add(ramp.fall(own));
+        }
+        sum
+    }
+
+    /// How far a balance falls when its cell's head rises by `units` from `own`, but for what its links take.
+    pub fn fall_beside_links(&self, row: &Row, own: i64, units: i64) -> i128 {
+        let mut sum = 0_i128;
+        for known in self.knowns(row) {
+            let above = own.wrapping_sub(known.head);
+            sum = sum.wrapping_add(loss(known.lo, known.hi, above, units));
+        }
+        let end = own.wrapping_add(units);
+        for ramp in self.ramps(row) {
+            let fall = ramp.flow(own).wrapping_sub(ramp.flow(end));
+            sum = sum.wrapping_add(fall);
+        }
+        sum
+    }
+
+    /// The greater slope of a balance, to either side of the cell's head.
+    pub fn slope(&self, cell: usize, heads: &[i64]) -> i64 {
+        let row = self.links.row(cell);
+        let own = at(heads, cell);
+        let left = self.fall(&row, own.saturating_sub(1), heads);
+        left.max(self.fall(&row, own, heads)).max(1)
+    }
+
+    /// A head as much higher, before it was turned.
+    pub fn higher(&self, head: i64, units: i64) -> i64 {
+        match self.side {
+            Side::Low => head.saturating_add(units),
+            Side::High => head.saturating_sub(units),
+        }
+    }
+
+    /// The balance of a cell and its slope, where its ramps are flat by these bends alone.
+    pub fn piece(&self, cell: usize, heads: &[i64], bends: Bends) -> (i128, i64) {
+        let row = self.links.row(cell);
+        let own = at(heads, cell);
+        let mut balance = self.straight_balance(cell, &row, own, heads);
+        let left = self.straight_fall(&row, own.saturating_sub(1), heads);
+        let mut slope = left.max(self.straight_fall(&row, own, heads));
+        for ramp in self.ramps(&row) {
+            let (flow, fall) = ramp.piece(self.side, own, bends);
+            balance = balance.wrapping_add(flow);
+            slope = slope.saturating_add(fall);
+        }
+        (balance, slope.max(1))
+    }
+
+    /// Whether one of two heads of a cell is above the top of a ramp, and the other is not.
+    pub fn is_top_between(&self, cell: usize, one: i64, other: i64) -> bool {
+        self.ramps(&self.links.row(cell)).iter().any(|ramp| ramp.is_topped(self.side, one)
+            != ramp.is_topped(self.side, other))
+    }
 }
 
 /// The slope at each cell.
 pub fn slopes_at(alloc: Global, side: &OneSide, heads: &[i64]) -> Result<Vec<i64>, AllocError> {
     let mut slopes = Vec::with_capacity(alloc, heads.len())?;
     for cell in 0..heads.len() {
-        let balance = side.balance(cell, at(heads, cell), heads);
-        slopes.push(slope_at(side, cell, balance, heads))?;
+        slopes.push(side.slope(cell, heads))?;
     }
     Ok(slopes)
 }

@@ -80,13 +80,16 @@ impl Kept {
     }
 }
 
-// The old head of a cell with storage, else its ceiling: at the ceiling rivers and drains have their effect.
+// The old head of a cell with storage, else the least surface of its evaporations, else its ceiling: there rivers, drains and evaporations
+// have their effect.
 fn first_head(p: &Problem, b: &Barrier, cell: usize) -> i64 {
     let ceiling = at(b.ceiling.as_slice(), cell);
     if p.len() <= cell {
         return ceiling;
     }
-    old_head(p.cell(cell)).unwrap_or(ceiling)
+    let cell = p.cell(cell);
+    let surfaces = cell.evaps.iter().map(|evap| evap.surf_lo);
+    old_head(cell).unwrap_or(surfaces.fold(ceiling, |least, surface| least.min(surface)))
 }
 
 // Heads as far from the first ones as these are from those before them.

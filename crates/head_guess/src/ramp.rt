@@ -1,0 +1,139 @@
+// Rivers, drains and evaporations of a turned side. Each is a ramp: a branch to a head, whose flow no longer changes where the cell's head
+// is below the ramp's foot or above its top.
+use crate::flows::{inflow, unit_loss};
+use crate::links::conductance;
+use std::alloc::AllocError;
+use step_problem::{Cell, Drain, Evap, River, Side};
+
+/// The bounds of the conductance, the head at which the flow is 0, and the heads at the foot and at the top.
+#[derive(Clone, Copy)]
+pub struct Ramp {
+    lo: i64,
+    hi: i64,
+    zero: i64,
+    foot: i64,
+    top: i64,
+}
+
+/// The heads by which a ramp is taken as flat: below its foot by the one, above its top by the other.
+#[derive(Clone, Copy)]
+pub struct Bends {
+    pub foot: i64,
+    pub top: i64,
+}
+
+// Rivers and drains have no top.
+const NO_TOP: i64 = i64::MAX;
+
+// Between the bottom of a river and any head above it, the flow is that of a branch to the stage.
+fn river_ramp(side: Side, river: &River) -> Ramp {
+    let (stage, bottom) = match side {
+        Side::Low => (river.stage_lo, river.bottom_hi),
+        Side::High => (river.stage_hi, river.bottom_lo),
+    };
+    Ramp {
+        lo: conductance(river.lo),
+        hi: conductance(river.hi),
+        zero: stage,
+        foot: bottom,
+        top: NO_TOP,
+    }
+}
+
+// What flows out only, from an elevation on.
+fn outlet_ramp(conductance: i64, elevation: i64, top: i64) -> Ramp {
+    Ramp {
+        lo: conductance,
+        hi: conductance,
+        zero: elevation,
+        foot: elevation,
+        top,
+    }
+}
+
+fn drain_ramp(side: Side, drain: &Drain) -> Ramp {
+    match side {
+        Side::Low => outlet_ramp(conductance(drain.hi), drain.elev_lo, NO_TOP),
+        Side::High => outlet_ramp(conductance(drain.lo), drain.elev_hi, NO_TOP),
+    }
+}
+
+fn evap_ramp(side: Side, evap: &Evap) -> Ramp {
+    match side {
+        Side::Low => outlet_ramp(conductance(evap.hi), evap.ext_lo, evap.surf_hi),
+        Side::High => outlet_ramp(conductance(evap.lo), evap.ext_hi, evap.surf_lo),
+    }
+}
+
+/// Adds the ramps of a cell, turned.
+pub fn add_ramps(ramps: &mut Vec<Ramp>, side: Side, cell: &Cell) -> Result<(), AllocError> {
+    for river in &cell.rivers {
+        ramps.push(river_ramp(side, river).turned(side))?;
+    }
+    for drain in &cell.drains {
+        ramps.push(drain_ramp(side, drain).turned(side))?;
+    }
+    for evap in &cell.evaps {
+        ramps.push(evap_ramp(side, evap).turned(side))?;
+    }
+    Ok(())
+}
+
+// Whether one turned head stands above another as heads do that are not turned.
+fn is_above(side: Side, head: i64, other: i64) -> bool {
+    match side {
+        Side::Low => head > other,
+        Side::High => head < other,
+    }
+}
+
+impl Ramp {
+    fn turned(self, side: Side) -> Ramp {
+        match side {
+            Side::Low => self,
+            Side::High => Ramp {
+                zero: 0_i64.saturating_sub(self.zero),
+                foot: 0_i64.saturating_sub(self.foot),
+                top: 0_i64.saturating_sub(self.top),
+                ..self
+            },
+        }
+    }
+
+    /// The flow into the cell at its head.
+    pub fn flow(&self, own: i64) -> i128 {
+        let least = self.foot.min(self.top);
+        let greatest = self.foot.max(self.top);
+        let reach = own.max(least).min(greatest);
+        inflow(self.lo, self.hi, self.zero.wrapping_sub(reach))
+    }
+
+    // What the flow falls by on the ramp when the cell's head rises by a unit.
+    fn slope(&self, own: i64) -> i64 {
+        unit_loss(self.lo, self.hi, own.wrapping_sub(self.zero))
+    }
+
+    /// How far the flow falls when the cell's head rises by a unit.
+    pub fn fall(&self, own: i64) -> i64 {
+        let is_flat = own < self.foot.min(self.top) || own >= self.foot.max(self.top);
+        if is_flat { 0 } else { self.slope(own) }
+    }
+
+    /// Whether a head is above the top.
+    pub fn is_topped(&self, side: Side, head: i64) -> bool {
+        is_above(side, head, self.top)
+    }
+
+    /// The flow into the cell and its slope, where the ramp is flat by these bends alone: else it goes on beyond its foot and its top.
+    pub fn piece(&self, side: Side, own: i64, bends: Bends) -> (i128, i64) {
+        let end = if self.is_topped(side, bends.top) {
+            self.top
+        } else if is_above(side, self.foot, bends.foot) {
+            self.foot
+        } else {
+            let flow = inflow(self.lo, self.hi, self.zero.wrapping_sub(own));
+            return (flow, self.slope(own));
+        };
+        (inflow(self.lo, self.hi, self.zero.wrapping_sub(end)), 0)
+    }
+}
