@@ -1,6 +1,6 @@
 // A deck, and what runs over its files put.
 use engine::serve;
-use outside::{FreeGate, MemSink};
+use outside::{FreeGate, Gate, MemSink};
 use std::alloc::{AllocError, Global};
 use std::io;
 use std::process::ExitCode;
@@ -55,6 +55,17 @@ impl Bench {
         alloc: Global,
         words: &str,
     ) -> io::Result<u8> {
+        self.run_at(rt, alloc, words, &FreeGate)
+    }
+
+    /// The same, with workers that pass this gate.
+    pub fn run_at<R: Threads + Wait + Sync, G: Gate + Sync>(
+        &mut self,
+        rt: &R,
+        alloc: Global,
+        words: &str,
+        gate: &G,
+    ) -> io::Result<u8> {
         let words = words_of(alloc, words)?;
         let code = serve(
             rt,
@@ -63,7 +74,7 @@ impl Bench {
             &mut self.deck.folder,
             &mut self.out,
             &mut self.side,
-            &FreeGate,
+            gate,
         );
         self.put = Vec::from_slice(alloc, self.out.bytes())?;
         self.shown = Vec::from_slice(alloc, self.side.bytes())?;

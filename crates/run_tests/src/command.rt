@@ -17,6 +17,7 @@ pub enum Question<'a> {
     Lack(u32, &'a str),
     Meet(&'a str),
     ShakeHands(u32, &'a str),
+    Passes(u32, &'a str),
 }
 
 fn put_fault(rest: &str) -> Option<(u64, u64)> {
@@ -50,6 +51,11 @@ fn shake_hands(rest: &str) -> Option<Question<'_>> {
     Some(Question::ShakeHands(put, words))
 }
 
+fn passes(rest: &str) -> Option<Question<'_>> {
+    let (most, words) = number_and_words(rest)?;
+    Some(Question::Passes(most, words))
+}
+
 impl<'a> Question<'a> {
     fn of(word: &str, rest: &'a str) -> Option<Question<'a>> {
         match word {
@@ -59,6 +65,7 @@ impl<'a> Question<'a> {
             "@lack" => lack(rest),
             "@meet" => Some(Question::Meet(rest)),
             "@shake_hands" => shake_hands(rest),
+            "@passes" => passes(rest),
             _ => None,
         }
     }

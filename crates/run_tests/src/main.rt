@@ -12,6 +12,7 @@
 //! `@watch N WORDS` prints what `@run` does, but of the side, for each step, by how many its views exceed a multiple of N,
 //! how many heads each has, how many of these are wider than in the view before, and how many are not around the listed
 //! ones.
+//! `@passes N WORDS` prints what `@run` does, and whether the workers passed a gate at most N times.
 //! `@await HEAD WORDS` runs with a gate at which the watching seat waits for two turns of a worker, and prints on which side
 //! of HEAD the heads of its first view lie. `@lack N WORDS` runs with a side whose put of number N lacks memory.
 #![tactic(auto)]
@@ -21,6 +22,7 @@ mod bench;
 mod command;
 mod handshake;
 mod meeting;
+mod passes;
 mod runs;
 mod views;
 mod waiting;
@@ -29,6 +31,7 @@ mod watching;
 use awaiting::print_awaiting;
 use bench::Bench;
 use command::{Command, Question};
+use passes::print_passes;
 use runs::print_run;
 use std::alloc::Global;
 use std::io;
@@ -59,6 +62,7 @@ fn ask<R: Print + Threads + Wait + Sync>(
             u64::from(put),
             words,
         ),
+        Question::Passes(most, words) => print_passes(rt, alloc, bench, u64::from(most), words),
     }
 }
 

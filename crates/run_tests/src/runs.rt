@@ -14,6 +14,11 @@ pub fn print_run<R: Print + Threads + Wait + Sync>(
     words: &str,
 ) -> io::Result<()> {
     let status = bench.run(rt, alloc, words)?;
+    print_put(rt, bench, status)
+}
+
+/// The status of the last run, and what it put.
+pub fn print_put(rt: &impl Print, bench: &Bench, status: u8) -> io::Result<()> {
     println!(rt; "status {status}")?;
     print_text(rt, bench.put())?;
     print_text(rt, bench.shown())
