@@ -39,7 +39,7 @@ module _ (a b : FlowModel) (s : ℕ) (at : TimeStep) (old : List Bound) (x : Sol
   variable_range c lt v =
       let posed = is.posed.problem in
       let inside : index_of a at.period c < length x.problem =
-          omega (arith, (three_lengths IsCellHull posed.first posed.second x.problem posed.hull).1, AllZip-length (IsCellOf a posed.is_first.widths s at old) posed.first (variable_below a at.period (cell_count a.grid)) posed.is_first.cells.each, index_below a at.period c v lt) in
+      omega (arith, (three_lengths IsCellHull posed.first posed.second x.problem posed.hull).1, AllZip-length (IsCellOf a posed.is_first.widths s at old) posed.first (variable_below a at.period (cell_count a.grid)) posed.is_first.cells.each, index_below a at.period c v lt) in
       subst AreHeads (sym (is.heads.variable c lt v)) (is.settled.pair.low.heads (index_of a at.period c) inside, is.settled.pair.high.heads (index_of a at.period c) inside)
 
   module _ (m : FlowModel) (h : IsBetween a m b) where
