@@ -6,8 +6,12 @@ from dataclasses import dataclass
 from pathlib import Path
 
 from .advice import NO_BOUNDS, ONLY_PRINT, OTHER_PACKAGES, OUT_OF_RANGE, REFUSALS, REMEDIES, UNKNOWN_PACKAGE
+from .deck import COLUMNS
+from .sources import odd_bytes
+from .spelling import NUMBER
 from .text import Problem, on_disk, read_text, words
 
+WHOLE = ("IBOUND", "LAYTYP", "LAYAVG", "LAYVKA", "LAYWET")
 STATUSES = {
     "USAGE:": (
         1,
@@ -55,6 +59,7 @@ class Spot:
     text: str
     kind: str
     lines: list[str]
+    due: str = ""
 
     @property
     def first(self) -> str:
@@ -167,9 +172,9 @@ def refusal(code: int, word: str, file: str, line: str, cell: list[str], folder:
     out = [f"{word} in {file}{at}: {REFUSALS[code].format(file=file)}"]
     if spot.text.strip():
         out.append(f"     {spot.text.strip()[:110]}")
+    spot.due = due_of(folder, file) if code in (8, 9, 13) else ""
     remedy = advice(code, spot, folder)
-    due = due_of(folder, file) if code in (8, 9, 13) else ""
-    return out + ([f"     This was due there: {due}."] if due else []) + ([f"  -> {remedy}"] if remedy else [])
+    return out + ([f"     This was due there: {spot.due}."] if spot.due else []) + [f"  -> {remedy}"] * bool(remedy)
 
 
 def due_of(folder: Path, file: str) -> str:
@@ -211,7 +216,7 @@ def kind_of(folder: Path, file: str) -> str:
 def advice(code: int, spot: Spot, folder: Path) -> str:
     """What to change for a refusal."""
     special = {
-        1: missing,
+        1: lambda s, f: missing(s.file, f),
         3: lambda s, f: "Rename the file, without blanks (`heads-tools plain` does).",
         6: package,
         9: bad_number,
@@ -224,8 +229,8 @@ def advice(code: int, spot: Spot, folder: Path) -> str:
     return special[code](spot, folder) if code in special else REMEDIES.get(code, "")
 
 
-def missing(spot: Spot, folder: Path) -> str:
-    name = spot.file
+def missing(name: str, folder: Path) -> str:
+    """Why a file that a deck in a folder names may not be there."""
     if re.match(r"[A-Za-z]:", name):
         return (
             f"{name} is a path of a Windows machine. Write the bare name into the name file and run in the model's"
@@ -280,6 +285,9 @@ def bad_number(spot: Spot, folder: Path) -> str:
         return (
             "The file begins with a byte order mark of a Windows editor: save it as ASCII (`heads-tools plain` does)."
         )
+    odd = odd_bytes("\n".join(spot.lines)) if spot.line == 1 else odd_bytes(spot.text)
+    if odd:
+        return odd[0].upper() + odd[1:] + "."
     if spot.text.lstrip().startswith("#"):
         return (
             "Comments stand only before the first item of a file, and begin in the first column (MODFLOW stops here,"
@@ -295,7 +303,16 @@ def bad_number(spot: Spot, folder: Path) -> str:
             "Parameters aren't read: load the model in FloPy and write it again, which writes their values"
             " (`heads-tools plain` drops `PARAMETER 0`)."
         )
+    if is_short_entry(spot):
+        names = COLUMNS[spot.kind]
+        return (
+            f"An entry of {spot.kind} is layer, row, column, {', '.join(names)}, and this line has"
+            f" {len(words(spot.text))} of the {3 + len(names)} numbers (`heads-tools plain` writes the zeros that MODFLOW"
+            " reads for those that are missing)."
+        )
     for place, word in enumerate(words(spot.text)):
+        if word == "/":
+            return "`/` ends the array: MODFLOW keeps what it had for the values that are missing. Write the values."
         if word.endswith("*") and word[:-1].isdigit():
             return f"`{word}` repeats no value: MODFLOW keeps there what it had. Write the value."
         if word.lower().lstrip("+-") in ("nan", "inf", "infinity"):
@@ -311,18 +328,11 @@ def bad_number(spot: Spot, folder: Path) -> str:
                 f"`{word}`: exponents go from -40 to 40. As HNOFLO or HDRY it is only a marker: "
                 "any other number will do (`heads-tools plain` writes -999.99)."
             )
-        is_count = spot.item == 1 or (
-            spot.kind == "DIS"
-            and place == 1
-            and spot.text.split()[-1:]
-            and words(spot.text)[-1].upper() in ("SS", "TR")
-        )
-        if re.fullmatch(r"[+-]?\d+\.\d*", word) and is_count and spot.kind not in ("BAS6", ""):
-            return f"`{word}` is a count: write it without a point (MODFLOW refuses it, too)."
-        if re.fullmatch(r"[+-]?\d+\.\d*", word) and spot.kind in ("BAS6", "LPF"):
+        if re.fullmatch(r"[+-]?\d+\.\d*", word) and is_count(spot, place):
+            return f"`{word}` is a count or a cell's number: write it without a point (MODFLOW refuses it, too)."
+        if re.fullmatch(r"[+-]?\d+\.\d*", word) and spot.due.startswith(WHOLE):
             return (
-                f"Where whole numbers are due (IBOUND, LAYTYP, LAYAVG, LAYVKA, LAYWET) write `{word}` without a point"
-                " (MODFLOW refuses it, too)."
+                f"{spot.due} has whole numbers: write `{word}` without a point (MODFLOW refuses it, too)."
             )
     if spot.first == "NOPRINT":
         return "Options stand after the count, on the same line."
@@ -337,6 +347,27 @@ def bad_number(spot: Spot, folder: Path) -> str:
     )
 
 
+def is_count(spot: Spot, place: int) -> bool:
+    """Whether the word at this place of a line (from 0) has to be a whole number without a point."""
+    if spot.due.startswith("PERLEN"):
+        return place == 1
+    if ", entry " in spot.due:
+        return place < 3
+    begins = spot.item == 1 and spot.kind not in ("BAS6", "")
+    return begins or spot.due.startswith(("ITMP", "the line of flags"))
+
+
+def is_short_entry(spot: Spot) -> bool:
+    """Whether a line of a list has a cell, and fewer numbers than its package's entries have."""
+    found = words(spot.text)
+    return (
+        spot.kind in COLUMNS
+        and spot.item > 2
+        and 3 <= len(found) < 3 + len(COLUMNS[spot.kind])
+        and all(NUMBER.fullmatch(word) for word in found)
+    )
+
+
 def many_digits(spot: Spot, folder: Path) -> str:
     return (
         'numpy.savetxt writes 19 digits unless told: use fmt="%.15e". `heads-tools plain` rounds to 18 and says where.'
@@ -348,7 +379,7 @@ def profile(spot: Spot, folder: Path) -> str:
     if spot.kind == "BAS6" and spot.first not in ("CONSTANT", "INTERNAL", "EXTERNAL", "OPEN/CLOSE"):
         if "XSECTION" in all_words:
             return (
-                "BAS6's option XSECTION isn't read (MODFLOW takes the word behind a # too): load and save the model by"
+                "BAS6's option XSECTION isn't read (MODFLOW reads the word after a # too): load and save the model by"
                 " FloPy."
             )
         if "CHTOCH" in all_words:

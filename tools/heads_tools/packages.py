@@ -7,10 +7,12 @@ from pathlib import Path, PureWindowsPath
 
 from .advice import OTHER_PACKAGES, UNKNOWN_PACKAGE
 from .deck import COLUMNS, KINDS, ONLY_PRINTS, PASSED, SCALED, Areal, Deck, Entry, Period
+from .explain import missing
 from .sources import Array, Report, Source, binary_words, find_file, read_binary
 from .spelling import fortran, number, product, quoted_words, record_words
-from .text import Problem
+from .text import Problem, words
 
+MOST_LETTERS = 200
 EVT_ARRAYS = ("SURF", "EVTR", "EXDP")
 
 
@@ -30,6 +32,7 @@ def read_deck(nam: str | Path, as_modflow: bool = False, any_size: bool = False)
                 reader.refuse_text(kind, f"can't be read: {error}")
             if kind == "DIS" and not reader.deck.periods:
                 break
+    reader.look_for_free_lists()
     return reader.deck, reader.report
 
 
@@ -68,6 +71,7 @@ class Reader:
         self.report, self.deck, self.folder, self.as_modflow = Report(), Deck(nam), nam.parent, as_modflow
         self.sources: dict[str, Source] = {}
         self.binary_at: dict[str, int] = {}
+        self.option_line = 0
         self.at: Source | None = None
 
     def refuse_text(self, kind: str, text: str) -> None:
@@ -91,6 +95,19 @@ class Reader:
 
     def warn(self, text: str) -> None:
         self.report.add("warnings", self.at.name, self.at.at, text)
+
+    def look_for_free_lists(self) -> None:
+        """Where lists of a deck without FREE don't fit its columns: says first that FREE may have been left out."""
+        deck, lists = self.deck, {self.deck.files[kind] for kind in COLUMNS if kind in self.deck.files}
+        if not deck.is_free and any(r.file in lists for r in self.report.refusals):
+            self.report.add(
+                "refusals",
+                deck.files["BAS6"],
+                self.option_line,
+                "the option line has no FREE, so lists are read by columns of ten, as MODFLOW-2005 does, and some don't"
+                " fit them. If they are free, write FREE into this line",
+                is_first=True,
+            )
 
     # The name file.
 
@@ -137,7 +154,10 @@ class Reader:
         deck.name_lines.append(f"{kind} {w[1]} {plain_name(w[2])}")
 
     def open(self, name: str) -> Source:
-        path, how = find_file(self.folder, name)
+        try:
+            path, how = find_file(self.folder, name)
+        except Problem:
+            raise Problem(f"there is no file {name}. {missing(name, self.folder)}") from None
         source = Source(path, name, self.report)
         if how:
             self.report.add("needed", self.deck.path.name, 0, how)
@@ -163,12 +183,13 @@ class Reader:
     def fields(self, source: Source, line: str, count: int) -> list[str]:
         """The first words of a line: parted by blanks, or by columns of 10 in a deck without FREE. Missing ones are
         0."""
-        w = (
-            quoted_words(line)
-            if self.deck.is_free
-            else [line[k : k + 10].replace(" ", "") or "0" for k in range(0, 10 * count, 10)]
-        )
-        if not self.deck.is_free:
+        if self.deck.is_free:
+            w = quoted_words(line)
+            if len(line) > MOST_LETTERS and w[:count] != quoted_words(line[:MOST_LETTERS])[:count]:
+                text = f"MODFLOW-2005 cuts the line at {MOST_LETTERS} letters, `heads` reads all of it"
+                self.report.add("warnings", source.name, source.at, text)
+        else:
+            w = [line[k : k + 10].replace(" ", "") or "0" for k in range(0, 10 * count, 10)]
             self.report.add("needed", source.name, 0, "columns of fixed width written free")
         return w[:count] + ["0"] * (count - len(w))
 
@@ -204,13 +225,22 @@ class Reader:
 
     def array(self, rows: int, cols: int, what: str, is_whole: bool = False) -> Array:
         """The next array of the file, `what` for people; `is_whole`: of whole numbers."""
-        self.at.due = what
+        source, begin = self.at, self.at.at
+        source.due = what
         out = self._array(rows, cols)
-        if is_whole:
-            wrong = next((w for w in out.words if not re.fullmatch(r"[+-]?\d+", w)), None)
-            if wrong is not None:
-                self.refuse(f"{what} has `{wrong}`, where a whole number is due (MODFLOW-2005 stops here, too)")
+        wrong = next((w for w in out.words if not re.fullmatch(r"[+-]?\d+", w)), None) if is_whole else None
+        if wrong is not None:
+            lines = range(begin + 1, source.at + 1)
+            line = next((n for n in lines if wrong in words(source.lines[n - 1])), begin + 1)
+            self.refuse_count(what, wrong, line)
         return out
+
+    def refuse_count(self, what: str, word: str, line: int) -> None:
+        """Refuses a word where whole numbers are due."""
+        source = self.at
+        self.report.due.setdefault(source.name, what)
+        text = f"{what} has `{word}`, where a whole number is due (MODFLOW-2005 stops here, too)"
+        self.report.add("refusals", source.name, line, text)
 
     def _array(self, rows: int, cols: int) -> Array:
         source = self.at
@@ -326,7 +356,7 @@ class Reader:
 
     def read_bas6(self) -> None:
         s, deck = self.start("BAS6"), self.deck
-        line = s.line(is_blank_taken=True)
+        line, self.option_line = s.line(is_blank_taken=True), s.at
         options = line.upper().replace(",", " ").split()
         deck.is_free = "FREE" in options
         deck.options["BAS6"] = line if deck.is_free and "CHTOCH" not in options else "FREE"
@@ -337,7 +367,7 @@ class Reader:
             self.need("CHTOCH dropped: it only adds flows between constant cells to MODFLOW's budget")
         if "XSECTION" in options:
             raise Problem(
-                "XSECTION (MODFLOW takes the word behind a # too) changes how arrays are read: load and save the model"
+                "XSECTION (MODFLOW reads the word after a # too) changes how arrays are read: load and save the model"
                 " by FloPy"
             )
         deck.ibound = [self.array(deck.nrow, deck.ncol, f"IBOUND of layer {k + 1}", True) for k in range(deck.nlay)]
@@ -366,7 +396,7 @@ class Reader:
             deck.options["LPF"] = f"{w[0]} {hdry} 0"
         elif "STORAGECOEFFICIENT" in (line.partition("#")[2]).upper():
             self.warn(
-                "STORAGECOEFFICIENT stands behind a #, and counts all the same: MODFLOW-2005 looks at the whole line,"
+                "STORAGECOEFFICIENT stands after a #, and counts all the same: MODFLOW-2005 looks at the whole line,"
                 " and so does `heads`"
             )
         rows = deck.layer_words = [[] for _ in range(5)]
@@ -375,7 +405,7 @@ class Reader:
             s.due = name
             rows[at] = s.free_values(deck.nlay)
             if name != "CHANI" and (wrong := [x for x in rows[at] if not re.fullmatch(r"[+-]?\d+", x)]):
-                self.refuse(f"{name} is `{wrong[0]}`, where a whole number is due (MODFLOW-2005 stops here, too)")
+                self.refuse_count(name, wrong[0], s.at)
             if at in (0, 1, 4) and any(float(x) for x in rows[at]):
                 self.refuse(layer_word_refused(name, rows[at], by_start))
         if any(float(x) for x in rows[4]):

@@ -12,6 +12,8 @@ from .spelling import exact, fortran, number, quoted_words
 from .text import Problem, on_disk, read_text
 
 
+KEPT = "MODFLOW-2005 keeps there what it had. Write the values"
+ARRAY_RECORDS = ("CONSTANT", "INTERNAL", "EXTERNAL", "OPEN/CLOSE")
 COMMENT = "comments stand only before the first item of a file (MODFLOW-2005 stops here, too): take the line out"
 
 
@@ -84,6 +86,25 @@ class Array:
         return [f"INTERNAL {self.factor} (FREE) -1", *(" ".join(row) for row in rows)]
 
 
+def odd_bytes(text: str) -> str:
+    """What is wrong with a text that isn't plain ASCII, or nothing."""
+    if text.startswith(("\u00ff\u00fe", "\u00fe\u00ff")):
+        return "the file is in UTF-16, as Windows' editors can save: save it as ASCII"
+    if "\0" in text:
+        return "it has a byte 0, which is no letter: save the file as ASCII"
+    if "\u00e2\u0088\u0092" in text or "\u00e2\u0080\u0093" in text:
+        return "it has a minus sign or a dash of a word processor: write `-`"
+    if "\u00a0" in text:
+        return "it has a blank of a word processor (byte A0), which isn't read as a blank: write a blank"
+    return ""
+
+
+def repeats(word: str) -> int:
+    """How many values a word of a free list stands for."""
+    times, star, _ = word.partition("*")
+    return int(times) if star and times.isdigit() else 1
+
+
 def find_file(folder: Path, name: str) -> tuple[Path, str]:
     """The file that a name means, and what had to be done to find it (other letters, the last part of a path)."""
     for path in (on_disk(folder, name), folder / PureWindowsPath(name).name):
@@ -107,10 +128,17 @@ class Source:
 
     def __init__(self, path: Path, name: str, report: Report):
         text = read_text(path)
-        self.name, self.report, self.at, self.due = name, report, 0, ""
+        self.name, self.report, self.at, self.due, self.has_tab = name, report, 0, "", False
         if text.startswith("\u00ef\u00bb\u00bf"):
             text = text[3:]
             report.add("needed", name, 1, "byte order mark dropped")
+        if "\r" in text and "\n" not in text:
+            report.add("refusals", name, 1, "its lines end with CR alone, as on old Macintoshes: save it with LF")
+        if odd_bytes(text) == odd_bytes("\u00a0"):
+            found = (n for n, line in enumerate(text.split("\n"), 1) if "\u00a0" in line.partition("#")[0])
+            if line := next(found, 0):
+                report.add("needed", name, line, "a blank of a word processor (byte A0) written as a blank")
+            text = re.sub("\u00c2?\u00a0", " ", text)
         self.lines = [line.rstrip("\r") for line in text.split("\n")]
         if self.lines and not self.lines[-1]:
             self.lines.pop()
@@ -142,7 +170,7 @@ class Source:
         try:
             seen = number(word)
         except Problem as error:
-            raise Problem(f"{self.name}, line {self.at}: {COMMENT if word.startswith('#') else error}") from None
+            raise Problem(f"{self.name}, line {self.at}: {self._no_number(word, str(error))}") from None
         if seen.change:
             self.report.add("needed", self.name, self.at, seen.change)
         if seen.digits > 7:
@@ -150,11 +178,23 @@ class Source:
             self.report.first_precise = self.report.first_precise or f"{self.name}, line {self.at}: {word}"
         return seen.text
 
+    def _no_number(self, word: str, said: str) -> str:
+        """Why a word is no number, in a sentence."""
+        if word.startswith("#"):
+            return COMMENT
+        if odd_bytes(word):
+            return f"`{word}` is no number: {odd_bytes(word)}"
+        if word.upper() in ARRAY_RECORDS:
+            return f"{word} begins the next array, so this one ({self.due}) has too few values: count those of its rows"
+        return said
+
     def integer(self, word: str, what: str) -> int:
         try:
             return int(word)
         except ValueError:
-            said = COMMENT if word.startswith("#") else f"{what} is `{word}`, where a whole number is due"
+            said = f"{what} is `{word}`, where a whole number is due"
+            odd = odd_bytes(word)
+            said = COMMENT if word.startswith("#") else f"{said}: {odd}" if odd else said
             raise Problem(f"{self.name}, line {self.at}: {said}") from None
 
     def free_values(self, count: int) -> list[str]:
@@ -162,39 +202,40 @@ class Source:
         out: list[str] = []
         while len(out) < count:
             line = self.line(on_blank="")
-            self._look_for_nulls(line)
+            self._look_for_nulls(line, count - len(out))
             for word in quoted_words(line) if "'" in line or '"' in line else line.replace(",", " ").split():
-                times, star, value = word.partition("*")
-                if star and not value:
-                    raise Problem(
-                        f"{self.name}, line {self.at}: `{word}` repeats no value: MODFLOW-2005 keeps there what it had."
-                        " Write the value"
-                    )
-                if star and (not times.isdigit() or int(times) < 1):
-                    raise Problem(f"{self.name}, line {self.at}: `{word}` is no repeated number")
                 if len(out) >= count:
                     break
+                times, star, value = word.partition("*")
+                if "/" in word or (star and not value):
+                    raise Problem(f"{self.name}, line {self.at}: `{word}` leaves values out: {KEPT}")
+                if star and (not times.isdigit() or int(times) < 1):
+                    raise Problem(f"{self.name}, line {self.at}: `{word}` is no repeated number")
                 out += [self.number(value)] * min(int(times), count) if star else [self.number(word)]
         return out[:count]
 
-    def _look_for_nulls(self, line: str) -> None:
-        squeezed = line.replace(" ", "").replace("\t", "")
-        if ",," in squeezed or squeezed.startswith(",") or "/" in squeezed or re.search(r"\d\*([\s,]|$)", line):
-            self.report.add(
-                "blocking",
-                self.name,
-                self.at,
-                (
-                    "a value is left out (`,,` or `/`): MODFLOW-2005 keeps there what it had, "
-                    "`heads` takes the next value: two different models. Write the value"
-                ),
-            )
+    def _look_for_nulls(self, line: str, count: int) -> None:
+        """Warns where one of the line's first `count` values is left out between two commas."""
+        items = [item.strip() for item in line.split(",")]
+        taken = 0
+        for item in items[:-1] if not items[-1] else items:
+            if taken >= count:
+                return
+            if not item:
+                text = f"a value is left out (`,,`): `heads` takes the next one, and {KEPT}"
+                self.report.add("blocking", self.name, self.at, text)
+                return
+            taken += sum(repeats(word) for word in item.split())
 
     def fixed_values(self, count: int, text: str) -> list[str]:
         """The words of a list in columns of fixed width."""
         fields, out = fortran(text), []
         while len(out) < count:
             line = self.line(is_blank_taken=True)
+            if "\t" in line and not self.has_tab:
+                self.has_tab = True
+                text = "a tab in columns of fixed width, here one letter: MODFLOW-2005 may count it otherwise"
+                self.report.add("warnings", self.name, self.at, text)
             out += [self.number(fields.of(line, n)) for n in range(min(fields.count, count - len(out)))]
         return out
 

@@ -6,9 +6,11 @@ from conftest import heads
 from spelled import PLAIN
 
 IBOUND_ROW = "-1 1 1 0 1\n"
+HK = "INTERNAL 1 (FREE) -1\n1 2 3 4 5\n6 7 8 9 10\n1.5 2.5 3.5 4.5 5.5\n10 9 8 7 6\n"
+HK_TABBED = "INTERNAL 1 (5F4.1) -1\n" + ("1.0\t" * 5 + "\n") * 4
 REFUSED = {
     "ibound with points": ("m.bas", IBOUND_ROW, "-1. 1. 1. 0. 1.\n", "where a whole number is due"),
-    "laytyp with points": ("m.lpf", "0 0\n0 0\n1 1\n", "0. 0.\n0 0\n1 1\n", "LAYTYP is `0.`"),
+    "laytyp with points": ("m.lpf", "0 0\n0 0\n1 1\n", "0. 0.\n0 0\n1 1\n", "LAYTYP has `0.`"),
     "no conductivity": ("m.lpf", "6 7 8 9 10\n", "6 7 0 9 10\n", "the cell 1 2 3 (layer row column): HK isn't above 0"),
     "given head twice": ("m.chd", "0 0\n1 0\n2 1 5 20 21\n", "0 0\n2 0\n2 1 5 20 21\n2 1 5 20 21\n", "stands twice"),
     "comment in an array": (
@@ -17,7 +19,7 @@ REFUSED = {
         "# row 2\n6 7 8 9 10\n",
         "comments stand only before the first item",
     ),
-    "repeat without a value": ("m.lpf", "6 7 8 9 10\n", "6 7 8 9 1* \n", "repeats no value"),
+    "repeat without a value": ("m.lpf", "6 7 8 9 10\n", "6 7 8 9 1* \n", "`1*` leaves values out"),
     "format of two fields": (
         "m.lpf",
         "INTERNAL 1 (FREE) -1\n",
@@ -25,6 +27,13 @@ REFUSED = {
         "the format (2F8.2,3F10.2) isn't of one repeated field",
     ),
     "file ends early": ("m.lpf", "CONSTANT 0.4\nCONSTANT 0.00002\n", "CONSTANT 0.4\n", "SS of layer 2 (after HK VKA)"),
+    "values left out by a slash": ("m.lpf", "6 7 8 9 10\n", "6 7 8 9 /\n", "`/` leaves values out"),
+    "row too short": ("m.lpf", "10 9 8 7 6\n", "10 9 8 7\n", "CONSTANT begins the next array, so this one (HK of layer 1)"),
+    "free lists without the word": ("m.bas", "FREE\n", "# FREE\nSTOPERROR 1.0\n", "write FREE into this line"),
+    "name with a blank": ("m.nam", "WEL 20 m.wel", "WEL 20 my wells.wel", "a blank ends a name"),
+    "minus of a word processor": ("m.wel", "-50", "\u221250", "a minus sign or a dash of a word processor"),
+    "byte 0": ("m.wel", "2 2 3 -50", "2 2 \0 3 -50", "it has a byte 0"),
+    "lines of old macintoshes": ("m.wel", "1 53\n1 0\n2 2 3 -50\n-1 0\n", "1 53\r1 0\r2 2 3 -50\r-1 0\r", "CR alone"),
     "as thick as the head": (
         "m.lpf",
         "53 -1E+30 0\n0 0\n",
@@ -35,6 +44,7 @@ REFUSED = {
 TAKEN = {
     "no parameter": ("m.wel", "1 53\n1 0\n", "PARAMETER 0 0\n1 53\n1 0\n", "PARAMETER 0 dropped"),
     "ramp of wells": ("m.wel", "1 53\n1 0\n", "1 53\nSPECIFY 0.05 55\n1 0\n", "SPECIFY dropped"),
+    "blank of a word processor": ("m.wel", "2 2 3 -50", "2 2 3\u00a0-50", "(byte A0) written as a blank"),
     "output of modflow 2000": ("m.nam", "OC 14", "DATAGLO(BINARY) 60 m.cbb\nOC 14", "dropped"),
 }
 
@@ -103,6 +113,9 @@ def test_a_blank_line_of_counts_is_written_as_modflow_reads_it(tmp_path, tool):
         (("m.ghb", "2 4 1 18 5\n", "2 4 1 18,5 5,0\n"), "a decimal comma?"),
         (("m.lpf", "6 7 8 9 10\n", "6 7,,8 9 10\n"), "a value is left out"),
         (("m.wel", "1 53\n1 0\n", "0 53\n1 0\n"), "1 entry where the file's maximum is 0"),
+        (("m.wel", "2 2 3 -50\n", " " * 196 + "2 2 3 -50\n"), "MODFLOW-2005 cuts the line at 200 letters"),
+        (("m.wel", "2 2 3 -50\n-1 0\n", "\n2 2 3 -50\n-1 0\n"), "a blank line in a list"),
+        (("m.lpf", HK, HK_TABBED), "a tab in columns of fixed width"),
     ],
 )
 def test_a_run_says_where_modflow_reads_otherwise(change, part, tmp_path, tool):
@@ -134,6 +147,12 @@ def test_a_plain_deck_runs_without_a_warning(tmp_path, tool):
             ("m.lpf", "CONSTANT 0.4\nCONSTANT 0.00002\n", "CONSTANT 0.4\n"),
             "This was due there: SS of layer 2 (after HK VKA)",
         ),
+        (("m.lpf", "6 7 8 9 10\n", "6. 7. 8. 9. /\n"), "`/` ends the array"),
+        (("m.lpf", "6 7 8 9 10\n", "6. 7. 8. 9. 1*\n"), "`1*` repeats no value"),
+        (("m.drn", "1 4 5 19 10\n", "1 4 5 19\n"), "Elevation, Cond, and this line has 4 of the 5 numbers"),
+        (("m.wel", "1 53\n1 0\n", "1 53\n1. 0\n"), "`1.` is a count or a cell's number"),
+        (("m.wel", "2 2 3 -50\n", "2. 2 3 -50\n"), "`2.` is a count or a cell's number"),
+        (("m.wel", "2 2 3 -50\n", "2 2 3 \u221250\n"), "a minus sign or a dash of a word processor"),
         (("m.nam", "WEL 20 m.wel", "WEL 20 my wells.wel"), "goes on after this word"),
         (("m.nam", "OC 14", "DATAGLO(BINARY) 60 m.cbb\nOC 14"), "only prints or compares"),
     ],
