@@ -74,7 +74,7 @@ def batch(path: Path, options: list[str], way: str, at_once: int, is_written_onl
 
 
 def stamp(path: Path) -> tuple[int, int] | None:
-    """What tells a file of this batch from one that was there before: its inode and the time it was written."""
+    """A file's inode and the time it was written: a file of this batch has others than one that was there before."""
     if not path.is_file():
         return None
     at = path.stat()

@@ -10,6 +10,7 @@ from __future__ import annotations
 import math
 import os
 import sys
+import time
 from dataclasses import dataclass
 from pathlib import Path
 
@@ -21,10 +22,11 @@ from .equations import TERMS, Given, Network, Step, given_heads
 from .headfile import ANY_STEP, Heads, read_heads
 from .listing import Listing, read_listing
 from .listing import Step as Listed
-from .model import Model, growth, read_model, value
+from .model import Model, read_model
 from .program import call
 from .solvers import solved
 from .text import decimal_text, whole_file
+from .whole import constant_head, pair_of, pair_of_heads
 
 UNIT = 1e-9
 MOST_UNITS = 4 * 10**18
@@ -40,24 +42,22 @@ class Certified:
 
 def certify(nam: Path, heads: Path, digits: int, out: Path, theta: float | None = None) -> Certified:
     """Writes the listing and checks it, with wider margins where the check refuses."""
-    from .explain import explain
-
-    model = read_model(nam)
+    model = read_model(nam, any_size=True)
     given = read_heads(heads, model.shape)
     tried = out.with_name(out.name + ".tried")
     for margin in (theta,) if theta else THETAS:
         listing = Bounds(model, digits, margin).listing(given, tried)
         write_listing(listing, model)
-        ended = call(["check", nam.name, str(tried), "--digits", str(digits)], nam.parent)
-        if ended.status != 8:
+        checked = check(nam, tried, model, digits)
+        if checked.status != 8:
             break
-        print(f"margins of {margin} roundings don't hold: {ended.last}", file=sys.stderr)
-    meaning = explain(ended.last, nam.parent, digits)
-    if not meaning.is_good:
-        return Certified(ended.status, [*meaning.lines, f"{tried} is no certificate"])
+        print(f"margins of {margin} roundings don't hold: {checked.first}", file=sys.stderr)
+    if checked.status:
+        return Certified(checked.status, [*checked.lines, f"{tried} is no certificate"])
     os.replace(tried, out)
     lines = [
-        f"CERTIFIED: {out} (margins of {margin} roundings; the check took {ended.seconds:.2f} s)",
+        f"{checked.first} {out} (margins of {margin} roundings; the check took {checked.seconds:.2f} s)",
+        *checked.lines[1:],
         listing.summary(),
     ]
     beside = nam.with_suffix(".heads")
@@ -72,6 +72,32 @@ def certify(nam: Path, heads: Path, digits: int, out: Path, theta: float | None 
     )
 
 
+@dataclass
+class Check:
+    """What a check said: its status, its first words, lines for people, seconds by the clock."""
+
+    status: int
+    first: str
+    lines: list[str]
+    seconds: float
+
+
+def check(nam: Path, tried: Path, model: Model, digits: int) -> Check:
+    """The program's check of a listing; of a model that is larger than the program takes, that of its parts."""
+    from .explain import explain
+    from .parts import check_model
+    from .pieces import is_large
+
+    if is_large(model.shape):
+        began = time.monotonic()
+        parts = check_model(model, tried, 1)
+        first = parts.lines[min(1, len(parts.lines) - 1)].strip() if parts.status else "CERTIFIED BY PARTS:"
+        return Check(parts.status, first, parts.lines, time.monotonic() - began)
+    ended = call(["check", nam.name, str(tried), "--digits", str(digits)], nam.parent)
+    meaning = explain(ended.last, nam.parent, digits)
+    return Check(ended.status, "CERTIFIED:" if meaning.is_good else ended.last, meaning.lines, ended.seconds)
+
+
 class Bounds:
     """Lower and upper heads of all steps of a model."""
 
@@ -83,16 +109,8 @@ class Bounds:
 
     def listing(self, heads: Heads, path: Path) -> Listing:
         model, active = self.model, np.flatnonzero(self.model.ibound.ravel())
-        cells = np.array([model.cell(c) for c in active]).reshape(-1, 3)
-        out = Listing(path, self.digits, model.deck.lenuni, cells=cells, end="END")
-        strt = [
-            model.deck.strt[k].exact(n) if not model.deck.strt[k].is_constant else model.deck.strt[k].exact(0)
-            for k in range(model.shape[0])
-            for n in range(model.area.size)
-        ]
-        low = np.array([min(max(math.floor(v * 10**9), -MOST_UNITS), MOST_UNITS) for v in strt], dtype=np.int64)
-        high = np.array([min(max(math.ceil(v * 10**9), -MOST_UNITS), MOST_UNITS) for v in strt], dtype=np.int64)
-        self.strt = (low.copy(), high.copy())
+        out = Listing(path, self.digits, model.deck.lenuni, cells=np.argwhere(model.ibound != 0) + 1, end="END")
+        low, high = self.strt = pair_of_heads(model.deck.strt)
         start, given = model.strt.ravel().copy(), {}
         for p, period in enumerate(model.deck.periods):
             given = given_heads(model, p, given)
@@ -125,20 +143,10 @@ class Bounds:
         return low, high, start
 
     def constant(self, step: Step, cell: int, given: Given) -> tuple[int, int]:
-        """The pair of a constant cell: exact but within a step of a changing head, where it has a slack."""
+        """The head of a constant cell, rounded down and up."""
         if cell not in given:
             return int(self.strt[0][cell]), int(self.strt[1][cell])
-        from .spelling import exact
-
-        entry, is_now = given[cell]
-        a, e = (exact(w) for w in entry.words)
-        per = self.model.deck.periods[step.period]
-        if not is_now or a == e or step.number == per.nstp or value(per.perlen) == 0:
-            return math.floor(e * 10**9), math.ceil(e * 10**9)
-        mult = 1.0 if per.is_steady else value(per.tsmult)
-        v = float(a) + float(e - a) * growth(mult, step.number) / growth(mult, per.nstp)
-        slack = 3 + int((abs(float(a)) + abs(float(e))) * 1e-5)
-        return math.floor(v * 1e9) - slack, math.ceil(v * 1e9) + slack
+        return pair_of(constant_head(self.model, step.period + 1, step.number, *given[cell]), 9)
 
     def balance(self, step: Step, h: np.ndarray, side: int) -> tuple[np.ndarray, np.ndarray, np.ndarray]:
         """The balance of each variable cell at heads h with the side's outer heads, the magnitude of its slope in the
@@ -224,17 +232,13 @@ class Bounds:
             units[wrong] = np.clip(units[wrong] - sign * np.maximum(np.ceil(move / UNIT), 1), -MOST_UNITS, MOST_UNITS)
         return units.astype(np.int64)
 
-    def budget(self, step: Step, low: np.ndarray, high: np.ndarray, is_inward: bool = False) -> dict[str, list[int]]:
-        """The terms' pairs in units of 10^-(digits + 9), with slack for doubles and rounded conductances.
-        `is_inward`: pairs that lie within those of the exact equations, with slack for doubles alone."""
+    def budget(self, step: Step, low: np.ndarray, high: np.ndarray) -> dict[str, list[int]]:
+        """The terms' pairs in units of 10^-(digits + 9), with slack for doubles and rounded conductances."""
         l, u = low[step.cells] * UNIT, high[step.cells] * UNIT
-        self.size = max(float(np.abs(v).max(initial=0)) for v in (l, u, *self.holders, step.head, step.riv_bottom))
         sums = np.zeros((8, 4))
 
         def add(term: np.ndarray, lo: np.ndarray, hi: np.ndarray, c=0.0, apart=0.0) -> None:
             room = 1e-9 * (np.abs(lo) + np.abs(hi)) + 1e-9 + self.slack * apart + 3 * c * UNIT
-            if is_inward:
-                room = -(1e-12 * (np.abs(lo) + np.abs(hi)) + 16 * np.finfo(float).eps * c * (1 + self.size))
             lo, hi = lo - room, hi + room
             for column, values in enumerate(
                 (np.maximum(0, lo), np.maximum(0, hi), np.maximum(0, -hi), np.maximum(0, -lo))

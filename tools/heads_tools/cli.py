@@ -72,7 +72,7 @@ def parser() -> argparse.ArgumentParser:
     s.add_argument("--out", type=Path, help="the listing's file, NAME.heads beside the name file where left out")
     s = add("explain", "what the last line of an output means, and what to change", ("output", "an output of heads"))
     s.add_argument("folder", nargs="?", type=Path, help="the model's folder, the output's own where left out")
-    s.add_argument("--digits", type=int, help="the digits of the run, where the output doesn't tell them")
+    s.add_argument("--digits", type=int, help="the digits of the run, where they aren't in the output")
     s = add(
         "inside",
         "is the model inside? All reasons at once, the digits it needs, and where MODFLOW reads it otherwise",
@@ -182,7 +182,13 @@ def parser() -> argparse.ArgumentParser:
         metavar="N",
         help="in N slabs of rows or more, for models of more cells than the program takes",
     )
-    s.add_argument("--jobs", type=int, default=0, help="parts at a time (the processors)")
+    s.add_argument("--jobs", type=int, default=0, help="checks at a time (the processors)")
+    how = s.add_mutually_exclusive_group()
+    how.add_argument("--parallel", action="store_true", help="the parts by GNU parallel")
+    how.add_argument("--slurm", action="store_true", help="the parts by a Slurm array job")
+    s.add_argument("--folder", type=Path, help="the folder of the parts' decks (LISTING.parts)")
+    s.add_argument("--write-only", action="store_true", help="write the parts' decks and the job, and leave it at that")
+    s.add_argument("--collect", action="store_true", help="read the verdicts of decks that --write-only wrote")
     s = add("hds", "a head file for FloPy, ModelMuse, Model Viewer", listing, ("out", "the head file to write"))
     s.add_argument("--name", type=Path, metavar="M.NAM", help="the model: its whole grid and its times")
     side = s.add_mutually_exclusive_group()

@@ -208,11 +208,15 @@ def do_check(args: argparse.Namespace, _: list[str]) -> int:
         verdict = check_listing(nam, read_listing(path))
         say([verdict.sentence])
         return verdict.status or 0
-    from .parts import check_parts
+    from .parts import Way, check_parts
 
     if args.parts < 1:
         raise Problem("--parts is 1 or more")
-    checked = check_parts(nam, path, args.parts, args.jobs)
+    engine = "slurm" if args.slurm else "parallel" if args.parallel else "here"
+    if engine == "here" and (args.write_only or args.collect or args.folder):
+        raise Problem("--folder, --write-only and --collect go with --parallel or --slurm")
+    way = Way(engine, args.jobs, args.folder, args.write_only, args.collect)
+    checked = check_parts(nam, path, args.parts, way)
     say(checked.lines)
     return checked.status
 

@@ -307,8 +307,8 @@ def bad_number(spot: Spot, folder: Path) -> str:
         names = COLUMNS[spot.kind]
         return (
             f"An entry of {spot.kind} is layer, row, column, {', '.join(names)}, and this line has"
-            f" {len(words(spot.text))} of the {3 + len(names)} numbers (`heads-tools plain` writes the zeros that MODFLOW"
-            " reads for those that are missing)."
+            f" {len(words(spot.text))} of the {3 + len(names)} numbers (MODFLOW reads 0 for those that are missing, and"
+            " `heads-tools plain` writes it)."
         )
     for place, word in enumerate(words(spot.text)):
         if word == "/":

@@ -13,7 +13,7 @@ MOST_WATCHED = 2_000_000
 
 
 class Progress:
-    """One line on standard error that tells how far a run is: the step, the widest pair so far, the time; and of a step
+    """One line on standard error, how far a run is: the step, the widest pair so far, the time; and of a step
     that takes over ten seconds the phase, how many cells still move and its time so far."""
 
     def __init__(self, name: str, steps: int | None):
@@ -54,7 +54,7 @@ class Progress:
         )
 
     def follow(self, stream: IO[bytes]) -> None:
-        """Reads the views of --watch 1 from a run's standard error, and tells of a slow step until the run ends."""
+        """Reads the views of --watch 1 from a run's standard error, and shows a slow step until the run ends."""
         self.threads = [
             threading.Thread(target=target, args=args, daemon=True)
             for target, args in ((self.read, (stream,)), (self.tick, ()))

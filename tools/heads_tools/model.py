@@ -63,9 +63,10 @@ class Model:
         return (k + 1, rest // self.shape[2] + 1, rest % self.shape[2] + 1)
 
 
-def read_model(nam: str | Path) -> Model:
-    """The model of a deck. A deck with a refusal has none."""
-    deck, report = read_deck(Path(nam))
+def read_model(nam: str | Path, any_size: bool = False) -> Model:
+    """The model of a deck. A deck with a refusal has none; more cells than the program takes are one, unless
+    `any_size`."""
+    deck, report = read_deck(Path(nam), any_size=any_size)
     if report.refusals:
         raise Problem(f"{report.refusals[0]} (`heads-tools inside` says all)")
     return model_of(deck)

@@ -161,7 +161,7 @@ def run(
     is_followed: bool = False,
 ) -> Ended:
     """Runs `heads run` in the model's folder into a file, which gets its name once the run ended (settle_output). What
-    --watch tells goes into a file beside it; a run that `is_followed` is watched for what to say of a slow step."""
+    --watch writes goes into a file beside it; a run that `is_followed` is watched for what to say of a slow step."""
     progress = Progress(nam.name, steps)
     began, last, count = time.monotonic(), b"", 0
     is_watched = any(o.startswith("--watch") for o in options)

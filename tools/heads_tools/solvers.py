@@ -1,6 +1,6 @@
 """Solves the sparse, symmetric systems of certify: directly where few operations do, else by conjugate gradients with
-an algebraic multigrid preconditioner (PETSc's hypre, where it is installed), the diagonal, or an incomplete
-factoring."""
+an algebraic multigrid preconditioner (PETSc's hypre, where it is installed, else that of multigrid.py), the diagonal,
+or an incomplete factoring."""
 from __future__ import annotations
 
 import functools
@@ -11,6 +11,8 @@ from typing import Any
 import numpy as np
 import scipy.sparse
 import scipy.sparse.linalg
+
+from .multigrid import multigrid
 
 DIRECT_FLAT, DIRECT_DEEP = 300_000, 12_000
 TOLERANCE, MOST_ROUNDS, MOST_SCALED = 1e-9, 600, 3000
@@ -23,7 +25,7 @@ def solved(matrix: Matrix, rest: np.ndarray, layers: int) -> np.ndarray:
     much."""
     if matrix.shape[0] <= (DIRECT_FLAT if layers < 3 else DIRECT_DEEP):
         return direct(matrix, rest)
-    for solve in (by_hypre, by_scaling, by_incomplete):
+    for solve in (by_hypre, by_multigrid, by_scaling, by_incomplete):
         found = solve(matrix, rest)
         if found is not None:
             return found
@@ -74,6 +76,11 @@ def by_hypre(matrix: Matrix, rest: np.ndarray) -> np.ndarray | None:
     return found
 
 
+def by_multigrid(matrix: Matrix, rest: np.ndarray) -> np.ndarray | None:
+    """Conjugate gradients with the repository's own multigrid: few rounds, whatever the size of the grid."""
+    return conjugate(matrix.tocsr(), rest, multigrid(matrix.tocsr()), MOST_ROUNDS)
+
+
 def by_scaling(matrix: Matrix, rest: np.ndarray) -> np.ndarray | None:
     """Conjugate gradients with the diagonal as preconditioner: many cheap rounds."""
     diagonal = matrix.diagonal()
@@ -95,8 +102,7 @@ def conjugate(matrix: scipy.sparse.csr_matrix, rest: np.ndarray, preconditioner:
     """The solution, where the rounds reach it."""
     x = np.zeros(len(rest))
     left, goal = rest.copy(), TOLERANCE * float(np.linalg.norm(rest))
-    way = z = preconditioner.matvec(left)
-    product = float(left @ z)
+    way = preconditioner.matvec(left)
     for _ in range(most):
         if np.linalg.norm(left) <= goal:
             return x
@@ -104,9 +110,10 @@ def conjugate(matrix: scipy.sparse.csr_matrix, rest: np.ndarray, preconditioner:
         curve = float(way @ moved)
         if not curve > 0:
             return None
-        x += product / curve * way
-        left -= product / curve * moved
+        share = float(left @ way) / curve
+        x += share * way
+        left -= share * moved
+        # A preconditioner with rounds of its own varies: only to this direction is the next one made conjugate.
         z = preconditioner.matvec(left)
-        product, before = float(left @ z), product
-        way = z + product / before * way
+        way = z - float(z @ moved) / curve * way
     return None

@@ -28,7 +28,7 @@ REFUSED = {
     ),
     "file ends early": ("m.lpf", "CONSTANT 0.4\nCONSTANT 0.00002\n", "CONSTANT 0.4\n", "SS of layer 2 (after HK VKA)"),
     "values left out by a slash": ("m.lpf", "6 7 8 9 10\n", "6 7 8 9 /\n", "`/` leaves values out"),
-    "row too short": ("m.lpf", "10 9 8 7 6\n", "10 9 8 7\n", "CONSTANT begins the next array, so this one (HK of layer 1)"),
+    "row too short": ("m.lpf", "10 9 8 7 6\n", "10 9 8 7\n", "CONSTANT begins the next array, so this one (HK of"),
     "free lists without the word": ("m.bas", "FREE\n", "# FREE\nSTOPERROR 1.0\n", "write FREE into this line"),
     "name with a blank": ("m.nam", "WEL 20 m.wel", "WEL 20 my wells.wel", "a blank ends a name"),
     "minus of a word processor": ("m.wel", "-50", "\u221250", "a minus sign or a dash of a word processor"),
