@@ -23,6 +23,7 @@ from .headfile import ANY_STEP, Heads, read_heads
 from .listing import Listing, read_listing
 from .listing import Step as Listed
 from .model import Model, read_model
+from .pieces import is_large
 from .program import call
 from .solvers import solved
 from .text import decimal_text, whole_file
@@ -65,7 +66,7 @@ def certify(nam: Path, heads: Path, digits: int, out: Path, theta: float | None 
         ran = read_listing(beside)
         if ran.is_whole:
             lines.append(f"beside `heads run` ({beside.name}): its widest pair is {decimal_text(ran.widest()[0], 9)}")
-    else:
+    elif not is_large(model.shape):
         lines.append(f"`heads-tools run {nam.name}` gives the run's own pairs to compare with")
     return Certified(
         0, lines + [f"{heads.name}: {s}" for s in sentences(listing, compare(listing, given), model.length)]
@@ -86,7 +87,6 @@ def check(nam: Path, tried: Path, model: Model, digits: int) -> Check:
     """The program's check of a listing; of a model that is larger than the program takes, that of its parts."""
     from .explain import explain
     from .parts import check_model
-    from .pieces import is_large
 
     if is_large(model.shape):
         began = time.monotonic()

@@ -53,12 +53,12 @@ class Progress:
             flush=True,
         )
 
-    def follow(self, stream: IO[bytes]) -> None:
-        """Reads the views of --watch 1 from a run's standard error, and shows a slow step until the run ends."""
-        self.threads = [
-            threading.Thread(target=target, args=args, daemon=True)
-            for target, args in ((self.read, (stream,)), (self.tick, ()))
-        ]
+    def follow(self, stream: IO[bytes] | None) -> None:
+        """Shows a slow step until the run ends, with what the views of --watch 1 on a run's standard error say, where
+        it is watched."""
+        self.threads = [threading.Thread(target=self.tick, daemon=True)]
+        if stream is not None:
+            self.threads.append(threading.Thread(target=self.read, args=(stream,), daemon=True))
         for thread in self.threads:
             thread.start()
 

@@ -175,7 +175,7 @@ def run(
         process = subprocess.Popen(
             words, cwd=nam.parent, stdout=subprocess.PIPE, stderr=subprocess.PIPE if is_followed else side
         )
-        if process.stderr is not None:
+        if is_told:
             progress.follow(process.stderr)
         try:
             is_open = False

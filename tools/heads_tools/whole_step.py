@@ -1,7 +1,7 @@
 """The equations of a time step in whole numbers: balances, groups that are held, and the budget.
 
-Numbers are those of whole.py. A flow into a cell falls as the cell's own head rises, so between two heads it is least at
-the upper and most at the lower one. `side` is 0 for the least, 1 for the most."""
+Numbers are those of whole.py. A flow into a cell falls as the cell's own head rises, so between two heads it is least
+at the upper and most at the lower one. `side` is 0 for the least, 1 for the most."""
 from __future__ import annotations
 
 from fractions import Fraction

@@ -247,7 +247,7 @@ def test_the_script_runs_from_anywhere(tmp_path):
     assert done.returncode == 0 and "certify" in done.stdout
 
 
-def test_a_slow_step_tells_its_phase_and_how_many_cells_move(capfd, monkeypatch):
+def test_a_slow_step_shows_its_phase_and_how_many_cells_move(capfd, monkeypatch):
     import io
 
     from heads_tools.follow import Progress

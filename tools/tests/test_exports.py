@@ -11,7 +11,7 @@ import pytest
 from conftest import TOOLS, TOP
 
 import heads_tools
-from heads_tools import Place, Problem, read_heads, read_listing, read_model
+from heads_tools import Place, Problem, read_model
 from heads_tools.exports import outward, place_of
 
 pytestmark = pytest.mark.program
@@ -166,43 +166,6 @@ def test_hob_files_are_read(tide, tool, tmp_path):
     assert (
         rows[0]["lower"] == f"{listing.steps[at].low[listing.at((1, 1, 20))] / 1e9:.9f}"
         and rows[0]["measured"] == "5.5"
-    )
-
-
-def test_called_as_modflow_it_writes_head_and_list_files(example):
-    nam = example("tide")
-    text = nam.read_text()
-    nam.write_text(text + "LIST 2 m.list\nOC 60 m.oc\nDATA(BINARY) 61 m.hds\n")
-    (nam.parent / "m.oc").write_text("HEAD SAVE UNIT 61\nPERIOD 1 STEP 1\nSAVE HEAD\nPERIOD 1 STEP 2\nPRINT HEAD\n")
-    done = subprocess.run([TOOLS / "mf2005", nam.name], cwd=nam.parent, capture_output=True, text=True)
-    assert done.returncode == 0 and "normal termination" in done.stdout.lower(), done.stdout + done.stderr
-    heads, listing = read_heads(nam.parent / "m.hds"), read_listing(nam.parent / "m.heads")
-    assert list(heads) == [(1, 1)]
-    lower, upper = listing.lower()[0], listing.upper()[0]
-    known = ~np.isnan(lower)
-    assert np.allclose(heads[1, 1][known], ((lower + upper) / 2)[known], rtol=1e-6)
-    said = (nam.parent / "m.list").read_text()
-    assert (
-        said.count("VOLUMETRIC BUDGET FOR ENTIRE MODEL AT END OF TIME STEP") == len(listing.steps)
-        and "PERCENT DISCREPANCY" in said
-    )
-    (nam.parent / "m.oc").write_text("0 0 61 0\n" + "0 0 0 0\n0 0 1 0\n" * len(listing.steps))
-    assert subprocess.run([TOOLS / "mf2005", nam.stem], cwd=nam.parent, capture_output=True).returncode == 0
-    assert len(read_heads(nam.parent / "m.hds")) == len(listing.steps)
-
-
-def test_called_as_modflow_it_reads_other_spellings_and_ends_badly_where_it_must(tmp_path, example):
-    import spelled
-
-    nam = spelled.write(tmp_path / "deck", "modflow 96 columns")
-    done = subprocess.run([TOOLS / "mf2005", nam.name], cwd=nam.parent, capture_output=True, text=True)
-    assert done.returncode == 0 and "normal termination" in done.stdout.lower(), done.stdout + done.stderr
-    nam = example("no_answer")
-    done = subprocess.run([TOOLS / "mf2005", nam.name], cwd=nam.parent, capture_output=True, text=True)
-    assert (
-        done.returncode == 3
-        and "normal termination" not in done.stdout.lower()
-        and "Nothing holds the heads" in done.stdout
     )
 
 

@@ -1,9 +1,8 @@
-"""scripts/progress: what it prints of a stream of views."""
+"""scripts/progress: what it prints of a stream of views. heads-tools run: what it shows of a slow step."""
 import subprocess
 import sys
 
 import pytest
-
 from conftest import TOP
 
 PROGRESS = TOP / "scripts" / "progress"
@@ -52,7 +51,10 @@ def test_a_file_that_is_not_there(tmp_path):
     assert (status, shown) == (2, []) and "m.side" in said and "Traceback" not in said
 
 
-@pytest.mark.parametrize("kept", [1, len("WATCH 1 1"), len("WATCH 1 1\n"), 30, len("WATCH 1 1\n" + SECOND[1] + "\n"), -1])
+CUTS = [1, len("WATCH 1 1"), len("WATCH 1 1\n"), 30, len("WATCH 1 1\n" + SECOND[1] + "\n"), -1]
+
+
+@pytest.mark.parametrize("kept", CUTS)
 def test_a_view_that_is_cut_short_is_not_shown(kept):
     status, shown, said = show(text(FIRST) + text(SECOND)[:kept])
     assert (status, shown, said) == (1, [FIRST_LINE], "progress: the last view is cut short\n")
@@ -71,3 +73,32 @@ def test_the_stream_is_read_to_its_end_where_nobody_reads_the_lines():
     shown.stdin.write(stream)
     shown.stdin.close()
     assert shown.stderr.read() == "" and shown.wait() == 0
+
+
+SLOW_PROGRAM = """#!/bin/bash
+case " $* " in *" --watch 1 "*) printf 'WATCH 1 1\\nHEAD 1 1 2 0.0 9.0\\nHEAD 1 1 3 0.0 9.0\\n' >&2
+printf 'WATCH 1 1\\nHEAD 1 1 2 1.0 9.0\\nHEAD 1 1 3 0.0 9.0\\nWATCH 1 1\\n' >&2;; esac
+sleep 0.6
+printf 'HEADS 2 DIGITS 12 UNIT 2\\nSTEP 1 1\\nEND\\n'
+"""
+
+
+@pytest.mark.parametrize(
+    "most, shown",
+    [
+        (2_000_000, "a.nam: step 1 of 1 (period 1 step 1): phase 2, 1 of 2 cells still move, 0 s so far\n"),
+        (0, "a.nam: step 1 of 1: 0 s so far\n"),
+    ],
+)
+def test_a_slow_step_shows_its_phase_and_its_time(most, shown, example, tool, tmp_path, monkeypatch):
+    """A stand-in for the program, whose one step takes long. Of a model that is too large to be watched: the time."""
+    from heads_tools import follow
+
+    program = tmp_path / "heads"
+    program.write_text(SLOW_PROGRAM)
+    program.chmod(0o755)
+    monkeypatch.setenv("HEADS", str(program))
+    monkeypatch.setattr(follow, "SLOW", 0.2)
+    monkeypatch.setattr(follow, "MOST_WATCHED", most)
+    status, out, err = tool("run", example("three_cells"))
+    assert status == 0 and shown in err, err
