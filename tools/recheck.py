@@ -7,13 +7,14 @@ Status 0: HOLDS. 1: a place can't be confirmed. 2: the deck or the listing can't
 
 It reads the deck by itself, makes the manual's equations without any rounding, and says HOLDS, or the first place
 that it can't confirm. HOLDS says: each history of heads that solves the equations lies, step by step and cell by
-cell, between the listed heads, and each budget flow in its pair; and each flow between zones,
-where a zone file is named.
+cell, between the listed heads, and each budget flow in its pair; and each flow between zones, where a zone file is
+named.
 
 What is tested of a step. l and u are its listed heads, a history's old heads lie between those of the step before.
   (1) The head of each constant cell lies in its pair.
-  (2) At each variable cell: its balance at the heads l, with the lower old heads, is 0 or more, or l is at most the
-      cell's floor; its balance at u, with the upper old heads, is 0 or less, or u is at least its ceiling.
+  (2) At each variable cell: its balance (what flows in, less what flows out) at the heads l, with the lower old
+      heads, is 0 or more, or l is at most the cell's floor; its balance at u, with the upper old heads, is 0 or less,
+      or u is at least its ceiling.
   (3) Each group of linked variable cells has a known head (of a constant cell, a general head, storage), or its deep
       flows sum to more than 0. Deep flows of a cell: wells, recharge, rivers at their bottoms, less all
       evapotranspiration.
@@ -29,13 +30,13 @@ without one whose deep flows sum to more than 0 not all cells lie below B, since
 path is one to the farthest cell. Ceiling: from above likewise; rivers and drains hold too, and q is the sum of what
 cells get from wells and recharge.
 
-Why that is enough. Let l - x be greatest, e > 0, at some cells. There l > x >= floor, so the balance at l is 0 or
-more. It is at most that at x, which is 0: each neighbour's l - x is at most e, the lower old head at most the old
-one, and each other flow falls as the cell's own head rises. So it is 0, all neighbours have e too, and so has the
-group; and no flow changes from x to x + e. A known head's flow would. Else rivers and drains lie above x + e,
-evapotranspiration stands at nothing or at its all, and the flows of the group, which sum to 0, are its deep flows at
-least, which sum to more than 0. So l <= x everywhere, and x <= u likewise. Then (4) holds the flows, since each falls
-with its cell's head; (5) holds those between zones; and the next step follows.
+Why that is enough. Take a solution x, and let l - x be greatest, e > 0, at some cells. There l > x >= floor, so the
+balance at l is 0 or more. It is at most that at x, which is 0: each neighbour's l - x is at most e, the lower old
+head at most the old one, and each other flow falls as the cell's own head rises. So it is 0, all neighbours have e
+too, and so has the group; and no flow changes from x to x + e. A known head's flow would. Else rivers and drains lie
+above x + e, evapotranspiration stands at nothing or at its all, and the flows of the group, which sum to 0, are its
+deep flows at least, which sum to more than 0. So l <= x everywhere, and x <= u likewise. Then (4) holds the flows,
+since each falls with its cell's head; (5) holds those between zones; and the next step follows.
 """
 from __future__ import annotations
 
@@ -48,32 +49,42 @@ from typing import Dict, Iterator, List, NamedTuple, Optional, Tuple
 HOLDS, NOT_CONFIRMED, NOT_READ, USAGE = 0, 1, 2, 3
 TERMS = ["STORAGE", "CONSTANT HEAD", "WELLS", "DRAINS", "RIVER LEAKAGE", "HEAD DEP BOUNDS", "RECHARGE", "ET"]
 STORAGE, CONSTANT_HEAD, WELLS, DRAINS, RIVER_LEAKAGE, HEAD_DEP_BOUNDS, RECHARGE, ET = range(8)
-MOST_HEAD, MOST_FLOW, MOST_ZONE = 4 * 10**18, 2**126 - 1, 999
-ZERO = Fraction(0)
+LIST_NUMBERS = {"WEL": 1, "RIV": 3, "DRN": 2, "GHB": 2, "CHD": 2}
+AREAL_ARRAYS = {"RCH": 1, "EVT": 3}
+MOST_ZONE = 999
+ZERO, ONE = Fraction(0), Fraction(1)
 
-Heads = List[Fraction]
+Values = List[Fraction]
 Pair = Tuple[Fraction, Fraction]
+Entries = List[Tuple[int, Values]]
 Barrier = Dict[int, Optional[Fraction]]
-
-# A branch to a known head: its term, its conductance, the head; None stands for the cell's old head.
-KnownHead = NamedTuple("KnownHead", [("term", int), ("conductance", Fraction), ("head", Optional[Fraction])])
-River = NamedTuple("River", [("conductance", Fraction), ("stage", Fraction), ("bottom", Fraction)])
-Drain = NamedTuple("Drain", [("conductance", Fraction), ("elevation", Fraction)])
-# Flow out of a cell: in proportion to its head above `extinction`, and no more than at `surface`.
-Evap = NamedTuple("Evap", [("conductance", Fraction), ("surface", Fraction), ("extinction", Fraction)])
-# A cell of CHD: its heads at the start and the end of a period. In later periods without it the last head stays.
-GivenHead = NamedTuple("GivenHead", [("start", Fraction), ("end", Fraction), ("is_now", bool)])
-Period = NamedTuple("Period", [("length", Fraction), ("steps", int), ("multiplier", Fraction), ("is_steady", bool)])
-# RCH or EVT in a period: its arrays by row, and the layer of each cell where the option asks for it.
-Areal = NamedTuple("Areal", [("option", int), ("arrays", List[Heads]), ("layers", Optional[Heads])])
-# A step of a listing: heads by cell, the pairs of the terms (IN, then OUT), and those of pairs of zones.
-Listed = NamedTuple(
-    "Listed", [("lower", Heads), ("upper", Heads), ("terms", List[List[Pair]]), ("zones", Dict[Tuple[int, int], Pair])]
-)
+Faces = Dict[Tuple[int, int], List[Tuple[int, int, Fraction]]]
+# PERLEN of a stress period; the parts of it at which its steps begin and end, from 0 to 1; whether it is steady.
+Period = NamedTuple("Period", [("length", Fraction), ("ends", Values), ("is_steady", bool)])
 
 
 class Fault(Exception):
     """A place that can't be confirmed."""
+
+
+class Branch(NamedTuple):
+    """The flow conductance x (level - head) into a cell. No level: it is the cell's old head. A head below `low`
+    counts as `low`, one above `high` as `high`: a river's `low` is its bottom, a drain's its elevation; of
+    evapotranspiration `low` is the extinction elevation, and `high` the surface. A rate Q, of a well or recharge, is
+    1 x (Q - 0): both bounds are 0."""
+
+    term: int
+    conductance: Fraction
+    level: Optional[Fraction]
+    low: Optional[Fraction] = None
+    high: Optional[Fraction] = None
+
+    def flow(self, head: Fraction, old: Fraction) -> Fraction:
+        if self.low is not None:
+            head = max(head, self.low)
+        if self.high is not None:
+            head = min(head, self.high)
+        return self.conductance * ((old if self.level is None else self.level) - head)
 
 
 def words(line: str) -> list[str]:
@@ -89,9 +100,14 @@ def text_of(name: str) -> str:
         return file.read()
 
 
-def growth(multiplier: Fraction, count: int) -> Fraction:
-    """1 + T + .. + T^(count - 1), T being TSMULT."""
-    return sum((multiplier**k for k in range(count)), ZERO)
+def period_of(perlen: str, nstp: str, tsmult: str, kind: str) -> Period:
+    """Each step of a transient period is TSMULT times as long as the one before; those of a steady one are alike."""
+    is_steady = kind.upper() == "SS"
+    multiplier = Fraction(1) if is_steady else number(tsmult)
+    ends = [ZERO]
+    for step in range(int(nstp)):
+        ends.append(ends[-1] + multiplier**step)
+    return Period(number(perlen), [end / ends[-1] for end in ends], is_steady)
 
 
 class Text:
@@ -107,18 +123,17 @@ class Text:
     def line(self) -> list[str]:
         return next(self.rest)
 
-    def values(self, count: int) -> Heads:
+    def values(self, count: int) -> Values:
         """Numbers in free form, over as many lines as they need; N*X is N times X. The rest of a line is not read."""
-        out: Heads = []
+        out: Values = []
         while len(out) < count:
             for word in self.line():
-                if len(out) >= count:
-                    break
-                times, star, value = word.partition("*")
-                out += [number(value)] * int(times) if star else [number(word)]
+                if len(out) < count:
+                    times, star, value = word.partition("*")
+                    out += [number(value)] * int(times) if star else [number(word)]
         return out[:count]
 
-    def array(self, rows: int, cols: int) -> Heads:
+    def array(self, rows: int, cols: int) -> Values:
         """An array: CONSTANT value; INTERNAL factor format, and the rows; OPEN/CLOSE file factor format."""
         control = self.line()
         kind = control[0].upper()
@@ -130,14 +145,12 @@ class Text:
             source, factor = Text(control[1], has_comments=False), number(control[2])
         else:
             raise ValueError(f"an array begins with {control[0]}")
-        values: Heads = []
-        for _ in range(rows):
-            values += source.values(cols)
-        return [value * (factor or 1) for value in values]  # a factor of 0 is none
+        values = [value for _ in range(rows) for value in source.values(cols)]
+        return values if factor == 0 else [value * factor for value in values]
 
 
 class Model:
-    """A deck. Cells are numbered from 0 along rows, then by row, then by layer."""
+    """A deck. Cells are numbered from 0 along rows, then by row, then by layer; `near`: a cell's branches to others."""
 
     def __init__(self, name: str):
         lines = [words(line) for line in text_of(name).split("\n") if not line.startswith("#")]
@@ -145,288 +158,271 @@ class Model:
         self.read_grid(Text(files["DIS"]))
         self.read_basic(Text(files["BAS6"]))
         self.read_layers(Text(files["LPF"]))
-        widths = {"WEL": 1, "RIV": 3, "DRN": 2, "GHB": 2, "CHD": 2}
-        self.lists = {kind: self.read_list(Text(files[kind]), widths[kind]) for kind in widths if kind in files}
-        counts = {"RCH": 1, "EVT": 3}
-        self.areal = {kind: self.read_areal(Text(files[kind]), counts[kind]) for kind in counts if kind in files}
+        self.stresses: dict[str, list[Entries]] = {}
+        for package, count in LIST_NUMBERS.items():
+            if package in files:
+                self.stresses[package] = self.read_list(Text(files[package]), count)
+        for package, count in AREAL_ARRAYS.items():
+            if package in files:
+                self.stresses[package] = self.read_areal(Text(files[package]), count)
         self.near: list[list[tuple[int, Fraction]]] = [[] for _ in self.ibound]
         for cell, kind in enumerate(self.ibound):
             if kind != 0:
                 self.join(cell)
 
+    def map(self, text: Text) -> Values:
+        return text.array(self.nrow, self.ncol)
+
     def read_grid(self, text: Text) -> None:
-        self.nlay, self.nrow, self.ncol, self.nper, _, self.unit = (int(word) for word in text.line()[:6])
+        self.nlay, self.nrow, self.ncol, nper, _, self.unit = (int(word) for word in text.line()[:6])
         self.sheet = self.nrow * self.ncol
         self.has_bed = [value != 0 for value in text.values(self.nlay)]
         self.delr, self.delc = text.array(1, self.ncol), text.array(1, self.nrow)
         self.area = [across * down for down in self.delc for across in self.delr]
-        self.thick: Heads = []
-        self.bed: Heads = []
-        above = text.array(self.nrow, self.ncol)
+        self.thick: Values = []
+        self.bed: Values = []
+        above = self.map(text)
         for layer in range(self.nlay):
-            bottom = text.array(self.nrow, self.ncol)
-            bed_bottom = text.array(self.nrow, self.ncol) if self.has_bed[layer] else bottom
+            bottom = self.map(text)
+            bed_bottom = self.map(text) if self.has_bed[layer] else bottom
             self.thick += [a - b for a, b in zip(above, bottom)]
             self.bed += [a - b for a, b in zip(bottom, bed_bottom)]
             above = bed_bottom
-        self.periods: list[Period] = []
-        for _ in range(self.nper):
-            line = text.line()
-            self.periods.append(Period(number(line[0]), int(line[1]), number(line[2]), line[3].upper() == "SS"))
+        self.periods = [period_of(*text.line()[:4]) for _ in range(nper)]
 
     def read_basic(self, text: Text) -> None:
         text.line()  # the options
-        self.ibound = [int(value) for _ in range(self.nlay) for value in text.array(self.nrow, self.ncol)]
+        self.ibound = [int(value) for _ in range(self.nlay) for value in self.map(text)]
         text.line()  # HNOFLO
-        self.strt = [value for _ in range(self.nlay) for value in text.array(self.nrow, self.ncol)]
+        self.strt = [value for _ in range(self.nlay) for value in self.map(text)]
 
     def read_layers(self, text: Text) -> None:
         """LPF: for each layer HK, HANI, VKA, SS where a period is transient, VKCB where a bed lies below."""
-        options = [word.upper() for word in text.line()[3:]]
-        self.is_coefficient = "STORAGECOEFFICIENT" in options
+        self.is_coefficient = "STORAGECOEFFICIENT" in [word.upper() for word in text.line()[3:]]
         _laytyp, _layavg, chani, layvka, _laywet = [text.values(self.nlay) for _ in range(5)]
-        is_transient = not all(period.is_steady for period in self.periods)
+        is_steady = all(period.is_steady for period in self.periods)
         none = [ZERO] * self.sheet
-        self.hk: Heads = []
-        self.hani: Heads = []
-        self.vk: Heads = []
-        self.ss: Heads = []
-        self.vkcb: Heads = []
+        self.hk: Values = []
+        self.hani: Values = []
+        self.vk: Values = []
+        self.ss: Values = []
+        self.vkcb: Values = []
         for layer in range(self.nlay):
-            hk = text.array(self.nrow, self.ncol)
+            hk = self.map(text)
             self.hk += hk
-            self.hani += [chani[layer]] * self.sheet if chani[layer] > 0 else text.array(self.nrow, self.ncol)
-            vka = text.array(self.nrow, self.ncol)
+            self.hani += [chani[layer]] * self.sheet if chani[layer] > 0 else self.map(text)
+            vka = self.map(text)
             self.vk += vka if layvka[layer] == 0 else [h / v if v else ZERO for h, v in zip(hk, vka)]
-            self.ss += text.array(self.nrow, self.ncol) if is_transient else none
-            self.vkcb += text.array(self.nrow, self.ncol) if self.has_bed[layer] else none
+            self.ss += none if is_steady else self.map(text)
+            self.vkcb += self.map(text) if self.has_bed[layer] else none
 
-    def read_list(self, text: Text, width: int) -> list[list[tuple[int, Heads]]]:
-        """The entries of each period: cell and numbers. A count below 0 takes those of the period before."""
+    def read_list(self, text: Text, count: int) -> list[Entries]:
+        """The entries of each period: cell and numbers. A negative count of entries: those of the period before."""
         text.line()  # the maximum count
-        periods: list[list[tuple[int, Heads]]] = []
-        for _ in range(self.nper):
-            count = int(text.line()[0])
-            if count < 0:
-                periods.append(periods[-1] if periods else [])
-                continue
-            lines = [text.line() for _ in range(count)]
-            periods.append([(self.number_of(line), [number(word) for word in line[3 : 3 + width]]) for line in lines])
+        periods: list[Entries] = []
+        for _ in self.periods:
+            entries = int(text.line()[0])
+            lines = [text.line() for _ in range(entries)]
+            new = [(self.cell(*line[:3]), [number(word) for word in line[3 : 3 + count]]) for line in lines]
+            periods.append(periods[-1] if entries < 0 else new)
         return periods
 
-    def read_areal(self, text: Text, count: int) -> list[Areal]:
-        """The arrays of each period. A flag below 0 keeps the array of the period before."""
+    def read_areal(self, text: Text, count: int) -> list[Entries]:
+        """As entries of each period: the cell that receives, and the arrays' numbers. A flag below 0 keeps an array."""
         option = int(text.line()[0])
-        arrays: list[Heads] = [[] for _ in range(count + 1)]
+        arrays: list[Values] = [[] for _ in range(count + 1)]
         periods = []
-        for _ in range(self.nper):
+        for _ in self.periods:
             flags = text.line()
             for at in range(count + 1 if option == 2 else count):
                 if int(flags[at]) >= 0:
-                    arrays[at] = text.array(self.nrow, self.ncol)
-            periods.append(Areal(option, arrays[:count], arrays[count] if option == 2 else None))
+                    arrays[at] = self.map(text)
+            cells = [self.receiver(option, arrays[count], spot) for spot in range(self.sheet)]
+            periods.append([(cell, [array[spot] for array in arrays[:count]]) for spot, cell in enumerate(cells)])
         return periods
 
-    def number_of(self, line: list[str]) -> int:
-        layer, row, col = (int(word) - 1 for word in line[:3])
-        return (layer * self.nrow + row) * self.ncol + col
+    def receiver(self, option: int, layers: Values, spot: int) -> int:
+        """The cell below a spot of the map that recharge or evapotranspiration goes to, or -1."""
+        if option == 1:
+            return spot
+        if option == 2:
+            return (int(layers[spot]) - 1) * self.sheet + spot
+        return next((cell for cell in range(spot, len(self.ibound), self.sheet) if self.ibound[cell] != 0), -1)
+
+    def cell(self, layer: str, row: str, col: str) -> int:
+        return ((int(layer) - 1) * self.nrow + int(row) - 1) * self.ncol + int(col) - 1
 
     def place(self, cell: int) -> str:
         """Layer, row and column of a cell, from 1."""
         return f"{cell // self.sheet + 1} {cell % self.sheet // self.ncol + 1} {cell % self.ncol + 1}"
 
-    def receiver(self, areal: Areal, spot: int) -> int:
-        """The cell below a spot of the map that recharge or evapotranspiration goes to, or -1."""
-        if areal.option == 1:
-            return spot
-        if areal.layers is not None:
-            return (int(areal.layers[spot]) - 1) * self.sheet + spot
-        return next((cell for cell in range(spot, len(self.ibound), self.sheet) if self.ibound[cell] != 0), -1)
-
     def join(self, a: int) -> None:
         """The branches from a cell to the next ones along its row, its column and below: harmonic means."""
         row, col = divmod(a % self.sheet, self.ncol)
-        if col + 1 < self.ncol and self.ibound[a + 1]:
-            self.add_branch(a, a + 1, 1 / (self.half_row(a) + self.half_row(a + 1)))
-        if row + 1 < self.nrow and self.ibound[a + self.ncol]:
-            self.add_branch(a, a + self.ncol, 1 / (self.half_column(a) + self.half_column(a + self.ncol)))
-        below = a + self.sheet
+        right, front, below = a + 1, a + self.ncol, a + self.sheet
+        found: list[tuple[int, Fraction]] = []
+        t = self.hk[a] * self.thick[a]
+        if col + 1 < self.ncol and self.ibound[right]:
+            next_t = self.hk[right] * self.thick[right]
+            resistance = self.delr[col] / t + self.delr[col + 1] / next_t
+            found.append((right, 2 * self.delc[row] / resistance))
+        if row + 1 < self.nrow and self.ibound[front]:
+            next_t = self.hk[front] * self.hani[front] * self.thick[front]
+            resistance = self.delc[row] / (t * self.hani[a]) + self.delc[row + 1] / next_t
+            found.append((front, 2 * self.delr[col] / resistance))
         if below < len(self.ibound) and self.ibound[below]:
             bed = self.bed[a] / self.vkcb[a] if self.bed[a] else ZERO
             resistance = self.thick[a] / 2 / self.vk[a] + bed + self.thick[below] / 2 / self.vk[below]
-            self.add_branch(a, below, self.area[a % self.sheet] / resistance)
+            found.append((below, self.area[a % self.sheet] / resistance))
+        for b, conductance in found:
+            self.near[a].append((b, conductance))
+            self.near[b].append((a, conductance))
 
-    def add_branch(self, a: int, b: int, conductance: Fraction) -> None:
-        self.near[a].append((b, conductance))
-        self.near[b].append((a, conductance))
+    def read_zones(self, name: str) -> list[int]:
+        """The zone of each cell, 0 for none."""
+        text = Text(name, has_comments=False)
+        zones = [int(value) for _ in range(self.nlay) for value in self.map(text)]
+        if min(zones) < 0 or max(zones) > MOST_ZONE:
+            raise ValueError(f"a zone of {name} isn't from 0 to {MOST_ZONE}")
+        return zones
 
-    def half_row(self, cell: int) -> Fraction:
-        """The resistance along the row from the middle of a cell to its side."""
-        row, col = divmod(cell % self.sheet, self.ncol)
-        return self.delr[col] / (2 * self.delc[row] * self.hk[cell] * self.thick[cell])
-
-    def half_column(self, cell: int) -> Fraction:
-        row, col = divmod(cell % self.sheet, self.ncol)
-        return self.delc[row] / (2 * self.delr[col] * self.hk[cell] * self.hani[cell] * self.thick[cell])
-
-
-def given_heads(model: Model, period: int, before: dict[int, GivenHead]) -> dict[int, GivenHead]:
-    """The cells of CHD in a period: those that it names, and those of earlier periods, which keep their last head."""
-    out = {cell: head._replace(is_now=False) for cell, head in before.items()}
-    if "CHD" in model.lists:
-        for cell, (start, end) in model.lists["CHD"][period]:
-            out[cell] = GivenHead(start, end, True)
-    return out
+    def given_heads(self, period: int, before: dict[int, Pair]) -> dict[int, Pair]:
+        """The heads of CHD's cells at the start and the end of a period. One that it doesn't name keeps its last."""
+        out = {cell: (end, end) for cell, (_, end) in before.items()}
+        if "CHD" in self.stresses:
+            out.update((cell, (start, end)) for cell, (start, end) in self.stresses["CHD"][period])
+        return out
 
 
 class Step:
-    """The exact equations of a time step: the heads of its constant cells, and what flows at each variable cell."""
+    """The equations of a time step: the heads of its constant cells; of each variable cell its links to others, and
+    the branches of all its other flows."""
 
-    def __init__(self, model: Model, period: int, step: int, given: dict[int, GivenHead]):
+    def __init__(self, model: Model, period: int, step: int, given: dict[int, Pair]):
         self.model = model
         self.constant = self.constant_heads(model.periods[period], step, given)
         self.cells = [cell for cell, kind in enumerate(model.ibound) if kind > 0 and cell not in self.constant]
-        self.known: dict[int, list[KnownHead]] = {cell: [] for cell in self.cells}
-        self.flat: dict[int, list[tuple[int, Fraction]]] = {cell: [] for cell in self.cells}
-        self.rivers: dict[int, list[River]] = {cell: [] for cell in self.cells}
-        self.drains: dict[int, list[Drain]] = {cell: [] for cell in self.cells}
-        self.evaps: dict[int, list[Evap]] = {cell: [] for cell in self.cells}
-        self.links = {cell: [link for link in model.near[cell] if link[0] in self.known] for cell in self.cells}
+        self.branches: dict[int, list[Branch]] = {cell: [] for cell in self.cells}
+        self.links: dict[int, list[tuple[int, Fraction]]] = {cell: [] for cell in self.cells}
         self.barriers: dict[int, Barrier] = {}
         for cell in self.cells:
-            for b, conductance in model.near[cell]:
-                if b in self.constant:
-                    self.known[cell].append(KnownHead(CONSTANT_HEAD, conductance, self.constant[b]))
+            for other, conductance in model.near[cell]:
+                if other in self.constant:
+                    self.branches[cell].append(Branch(CONSTANT_HEAD, conductance, self.constant[other]))
+                else:
+                    self.links[cell].append((other, conductance))
         self.add_storage(model.periods[period], step)
-        self.add_lists(period)
-        self.add_areal(period)
+        for kind, periods in model.stresses.items():
+            for cell, values in periods[period]:
+                if cell in self.branches:
+                    self.branches[cell] += self.stress(kind, values, model.area[cell % model.sheet])
 
-    def constant_heads(self, period: Period, step: int, given: dict[int, GivenHead]) -> dict[int, Fraction]:
-        """A given head goes evenly from its start to its end over a period. Steps of a steady one have one length."""
-        multiplier = Fraction(1) if period.is_steady else period.multiplier
-        part = Fraction(1)
-        if step != period.steps and period.length != 0:
-            part = growth(multiplier, step) / growth(multiplier, period.steps)
-        out = {}
-        for cell, kind in enumerate(self.model.ibound):
-            if kind != 0 and cell in given:
-                head = given[cell]
-                out[cell] = head.start + (head.end - head.start) * part if head.is_now else head.end
-            elif kind < 0:
-                out[cell] = self.model.strt[cell]
-        return out
+    def constant_heads(self, period: Period, step: int, given: dict[int, Pair]) -> dict[int, Fraction]:
+        """A given head goes evenly from its start to its end over a period."""
+        part = period.ends[step] if period.length > 0 else ONE
+        out = {cell: self.model.strt[cell] for cell, kind in enumerate(self.model.ibound) if kind < 0}
+        for cell, (start, end) in given.items():
+            if self.model.ibound[cell] != 0:
+                out[cell] = start + (end - start) * part
+        return dict(sorted(out.items()))
 
     def add_storage(self, period: Period, step: int) -> None:
-        if period.is_steady:
-            return
-        length = period.length * period.multiplier ** (step - 1) / growth(period.multiplier, period.steps)
-        for cell in self.cells:
-            if self.model.ss[cell] != 0:
-                height = Fraction(1) if self.model.is_coefficient else self.model.thick[cell]
-                storage = self.model.ss[cell] * height * self.model.area[cell % self.model.sheet]
-                self.known[cell].append(KnownHead(STORAGE, storage / length, None))
+        """Storage is a branch to the old head, of SS x thickness x area / the step's length."""
+        length = period.length * (period.ends[step] - period.ends[step - 1])
+        for cell in [] if period.is_steady else self.cells:
+            height = ONE if self.model.is_coefficient else self.model.thick[cell]
+            capacity = self.model.ss[cell] * height * self.model.area[cell % self.model.sheet]
+            self.branches[cell].append(Branch(STORAGE, capacity / length, None))
 
-    def add_lists(self, period: int) -> None:
-        for kind, periods in self.model.lists.items():
-            for cell, values in periods[period]:
-                if cell not in self.known:
-                    continue
-                if kind == "WEL":
-                    self.flat[cell].append((WELLS, values[0]))
-                elif kind == "GHB" and values[1] != 0:
-                    self.known[cell].append(KnownHead(HEAD_DEP_BOUNDS, values[1], values[0]))
-                elif kind == "RIV" and values[1] != 0:
-                    self.rivers[cell].append(River(values[1], values[0], values[2]))
-                elif kind == "DRN" and values[1] != 0:
-                    self.drains[cell].append(Drain(values[1], values[0]))
+    def stress(self, kind: str, values: Values, area: Fraction) -> list[Branch]:
+        """The branch of an entry's numbers: Q; Stage, Cond, Rbot; Elevation, Cond; Bhead, Cond; RECH; SURF, EVTR,
+        EXDP."""
+        if kind == "WEL":
+            return [Branch(WELLS, ONE, values[0], ZERO, ZERO)]
+        if kind == "RCH":
+            return [Branch(RECHARGE, ONE, values[0] * area, ZERO, ZERO)]
+        if kind == "GHB":
+            return [Branch(HEAD_DEP_BOUNDS, values[1], values[0])]
+        if kind == "RIV":
+            return [Branch(RIVER_LEAKAGE, values[1], values[0], low=values[2])]
+        if kind == "DRN":
+            return [Branch(DRAINS, values[1], values[0], low=values[0])]
+        if kind == "EVT" and values[1] > 0:
+            surface, rate, depth = values
+            return [Branch(ET, rate * area / depth, surface - depth, low=surface - depth, high=surface)]
+        return []
 
-    def add_areal(self, period: int) -> None:
-        for kind, periods in self.model.areal.items():
-            areal = periods[period]
-            for spot, area in enumerate(self.model.area):
-                cell = self.model.receiver(areal, spot)
-                if cell not in self.known:
-                    continue
-                if kind == "RCH":
-                    self.flat[cell].append((RECHARGE, areal.arrays[0][spot] * area))
-                elif areal.arrays[1][spot] > 0:
-                    surface, rate, depth = (array[spot] for array in areal.arrays)
-                    self.evaps[cell].append(Evap(rate * area / depth, surface, surface - depth))
-
-    def flows(self, cell: int, head: Fraction, old: Heads) -> Iterator[tuple[int, Fraction]]:
-        """Term and flow into a cell at this head, for all but its links to variable cells."""
-        for known in self.known[cell]:
-            yield known.term, known.conductance * ((old[cell] if known.head is None else known.head) - head)
-        yield from self.flat[cell]
-        for river in self.rivers[cell]:
-            yield RIVER_LEAKAGE, river.conductance * (river.stage - max(head, river.bottom))
-        for drain in self.drains[cell]:
-            yield DRAINS, -drain.conductance * max(head - drain.elevation, ZERO)
-        for evap in self.evaps[cell]:
-            yield ET, -evap.conductance * max(min(head, evap.surface) - evap.extinction, ZERO)
-
-    def balance(self, cell: int, heads: Heads, old: Heads) -> Fraction:
-        links = sum((g * (heads[b] - heads[cell]) for b, g in self.links[cell]), ZERO)
-        return links + sum((flow for _, flow in self.flows(cell, heads[cell], old)), ZERO)
-
-    def deep(self, cell: int) -> Fraction:
-        """The flow into a cell far below all its entries."""
-        flow = sum((q for _, q in self.flat[cell]), ZERO)
-        flow += sum((river.conductance * (river.stage - river.bottom) for river in self.rivers[cell]), ZERO)
-        return flow - sum((evap.conductance * (evap.surface - evap.extinction) for evap in self.evaps[cell]), ZERO)
+    def balance(self, cell: int, heads: Values, old: Values) -> Fraction:
+        links = sum((conductance * (heads[other] - heads[cell]) for other, conductance in self.links[cell]), ZERO)
+        return links + sum((branch.flow(heads[cell], old[cell]) for branch in self.branches[cell]), ZERO)
 
     def groups(self) -> Iterator[list[int]]:
         """The variable cells, by groups that links hold together."""
         left = set(self.cells)
         for first in self.cells:
-            if first not in left:
-                continue
-            left.discard(first)
-            group = [first]
-            for cell in group:
-                for b, _ in self.links[cell]:
-                    if b in left:
-                        left.discard(b)
-                        group.append(b)
-            yield group
+            if first in left:
+                left.remove(first)
+                group = [first]
+                for cell in group:
+                    fresh = [other for other, _ in self.links[cell] if other in left]
+                    left.difference_update(fresh)
+                    group += fresh
+                yield group
 
-    def barrier(self, old: Heads, sign: int) -> Barrier:
+    def has_known_head(self, cells: list[int]) -> bool:
+        return any(branch.low is None and branch.conductance > 0 for cell in cells for branch in self.branches[cell])
+
+    def deep(self, cell: int) -> Fraction:
+        """Wells, recharge, rivers at their bottoms, less all evapotranspiration."""
+        flow = ZERO
+        for branch in self.branches[cell]:
+            if branch.low is not None:
+                flow += branch.flow(branch.low if branch.high is None else branch.high, ZERO)
+        return flow
+
+    def barrier(self, old: Values, sign: int) -> Barrier:
         """Floors (sign 1) or ceilings (sign -1) of all cells; None where nothing holds a cell's group."""
         if sign not in self.barriers:
             self.barriers[sign] = self.make_barrier(old, sign)
         return self.barriers[sign]
 
-    def make_barrier(self, old: Heads, sign: int) -> Barrier:
+    def make_barrier(self, old: Values, sign: int) -> Barrier:
         """Base less q times the length of a shortest path of 1 / C, as the head of this page says."""
-        levels: Heads = []
-        for cell in self.cells:
-            levels += [old[cell] if known.head is None else known.head for known in self.known[cell]]
-            levels += [drain.elevation for drain in self.drains[cell]]
-            for river in self.rivers[cell]:
-                levels += [river.bottom] if sign > 0 else [river.stage, river.bottom]
+        holders, levels = self.holders(old, sign)
         base = sign * min((sign * level for level in levels), default=ZERO)
-        flat = {cell: sum((q for _, q in self.flat[cell]), ZERO) for cell in self.cells}
-        if sign > 0:
-            flat = {cell: self.deep(cell) for cell in self.cells}
-        q = sum((max(-sign * flow, ZERO) for flow in flat.values()), ZERO)
+        flows = {cell: self.deep(cell) for cell in self.cells}
+        if sign < 0:
+            flows = {cell: self.rate(cell) for cell in self.cells}
+        q = sum((max(-sign * flow, ZERO) for flow in flows.values()), ZERO)
         out: Barrier = {}
         for group in self.groups():
-            starts = {cell: 1 / max(held) for cell in group if (held := self.holds(cell, sign))}
-            if not starts and not (sign > 0 and sum(flat[cell] for cell in group) > 0):
-                out.update((cell, None) for cell in group)
-                continue
+            starts = {cell: 1 / max(holders[cell]) for cell in group if holders[cell]}
+            is_carried = sign > 0 and sum(flows[cell] for cell in group) > 0
             far = self.shortest(starts or {group[0]: ZERO})
             more = ZERO if starts else max(far.values())
-            out.update((cell, base - sign * q * (far[cell] + more)) for cell in group)
+            for cell in group:
+                out[cell] = base - sign * q * (far[cell] + more) if starts or is_carried else None
         return out
 
-    def holds(self, cell: int, sign: int) -> list[Fraction]:
-        """The conductances that hold a cell: of known heads; from above also of rivers and drains."""
-        held = [known.conductance for known in self.known[cell]]
-        if sign < 0:
-            held += [river.conductance for river in self.rivers[cell]]
-            held += [drain.conductance for drain in self.drains[cell]]
-        return held
+    def rate(self, cell: int) -> Fraction:
+        """Wells and recharge."""
+        rates = (branch for branch in self.branches[cell] if branch.term in (WELLS, RECHARGE))
+        return sum((branch.flow(ZERO, ZERO) for branch in rates), ZERO)
+
+    def holders(self, old: Values, sign: int) -> tuple[dict[int, Values], Values]:
+        """The conductances that hold each cell, and the heads that the base is made of: known heads, river bottoms and
+        drain elevations. From above rivers and drains hold, too, and the stages are of the base."""
+        held: dict[int, Values] = {cell: [] for cell in self.cells}
+        levels: Values = []
+        for cell in self.cells:
+            for branch in self.branches[cell]:
+                if branch.conductance > 0 and branch.high is None:
+                    if branch.low is not None:
+                        levels.append(branch.low)
+                    if branch.low is None or sign < 0:
+                        levels.append(old[cell] if branch.level is None else branch.level)
+                        held[cell].append(branch.conductance)
+        return held, levels
 
     def shortest(self, starts: dict[int, Fraction]) -> dict[int, Fraction]:
         """The least sum of 1 / C along links from the starts to each cell of their groups (Dijkstra)."""
@@ -436,13 +432,24 @@ class Step:
             length, cell = heapq.heappop(heap)
             if cell not in done:
                 done[cell] = length
-                for b, g in self.links[cell]:
-                    heapq.heappush(heap, (length + 1 / g, b))
+                for other, conductance in self.links[cell]:
+                    heapq.heappush(heap, (length + 1 / conductance, other))
         return done
+
+    def faces(self, zones: list[int]) -> Faces:
+        """For each two zones, the smaller first: the branches between them that have a variable cell."""
+        out: Faces = {}
+        for x in self.cells:
+            for y, conductance in self.model.near[x]:
+                is_counted = y in self.branches and y < x
+                if not is_counted and 0 not in (zones[x], zones[y]) and zones[x] != zones[y]:
+                    a, b = (x, y) if zones[x] < zones[y] else (y, x)
+                    out.setdefault((zones[a], zones[b]), []).append((a, b, conductance))
+        return dict(sorted(out.items()))
 
 
 class Listing:
-    """A listing, line by line."""
+    """A listing, read step by step: its heads by cell, the pairs of its terms (IN, then OUT), those of its zones."""
 
     def __init__(self, name: str, model: Model):
         self.lines, self.at, self.model = text_of(name).split("\n"), 0, model
@@ -451,6 +458,7 @@ class Listing:
             first = next(line for line in self.lines if line.startswith("IN "))
             digits = len(words(first)[1].partition(".")[2]) - 9
         self.places = int(digits) + 9
+        self.names = TERMS if "EVT" in model.stresses else TERMS[:ET]
 
     def take(self, form: str) -> tuple[str, ...]:
         """The parts of the next line, which has to be of this form."""
@@ -462,132 +470,95 @@ class Listing:
             raise Fault(f"line {self.at} of the listing isn't of the form due ({form[:40]}){zone}")
         return found.groups()
 
-    def pair(self, before: str, places: int, most: int, after: str = "") -> Pair:
+    def pair(self, before: str, places: int, after: str = "") -> Pair:
         form = rf"(-?(?:0|[1-9]\d*)\.\d{{{places}}})"
-        found = self.take(f"{before} {form} {form}{after}")
-        units = [int(word.replace(".", "")) for word in found]
-        for unit, word in zip(units, found):
-            if abs(unit) > most or (unit == 0 and word.startswith("-")):
-                raise Fault(f"line {self.at} of the listing has a number past its limits, or a minus before 0")
-        return Fraction(units[0], 10**places), Fraction(units[1], 10**places)
+        low, high = self.take(f"{before} {form} {form}{after}")
+        return Fraction(low), Fraction(high)
 
-    def step(self, period: int, step: int, zone_pairs: list[tuple[int, int]]) -> Listed:
+    def read_step(self, period: int, step: int, faces: Faces) -> None:
         self.take(f"STEP {period} {step}")
         heads = [(ZERO, ZERO)] * len(self.model.ibound)
         for cell, kind in enumerate(self.model.ibound):
             if kind != 0:
-                heads[cell] = self.pair(f"HEAD {self.model.place(cell)}", 9, MOST_HEAD)
-        names = TERMS if "EVT" in self.model.areal else TERMS[:ET]
-        terms = [[self.pair(side, self.places, MOST_FLOW, f" {name}") for name in names] for side in ("IN", "OUT")]
-        zones = {(a, b): self.pair(f"ZONE {a} {b}", self.places, MOST_FLOW) for a, b in zone_pairs}
-        return Listed([low for low, _ in heads], [high for _, high in heads], terms, zones)
+                heads[cell] = self.pair(f"HEAD {self.model.place(cell)}", 9)
+        self.lower, self.upper = [low for low, _ in heads], [high for _, high in heads]
+        self.terms = [[self.pair(side, self.places, f" {name}") for name in self.names] for side in ("IN", "OUT")]
+        self.zones = {(a, b): self.pair(f"ZONE {a} {b}", self.places) for a, b in faces}
 
 
-def read_zones(name: str, model: Model) -> list[int]:
-    """The zone of each cell, 0 for none."""
-    text = Text(name, has_comments=False)
-    zones = [int(value) for _ in range(model.nlay) for value in text.array(model.nrow, model.ncol)]
-    if min(zones) < 0 or max(zones) > MOST_ZONE:
-        raise ValueError(f"a zone of {name} isn't from 0 to {MOST_ZONE}")
-    return zones
-
-
-def zone_flows(model: Model, step: Step, zones: list[int], listed: Listed) -> dict[tuple[int, int], Pair]:
-    """For each two zones that share a face with a variable cell: the least and the greatest flow between them."""
-    out: dict[tuple[int, int], Pair] = {}
-    for x in step.cells:
-        for y, g in model.near[x]:
-            is_counted = y < x and y in step.known
-            if is_counted or 0 in (zones[x], zones[y]) or zones[x] == zones[y]:
-                continue
-            a, b = (x, y) if zones[x] < zones[y] else (y, x)
-            (low_a, high_a), (low_b, high_b) = (bounds_of(step, listed, cell) for cell in (a, b))
-            low, high = out.get((zones[a], zones[b]), (ZERO, ZERO))
-            out[zones[a], zones[b]] = (low + g * (low_a - high_b), high + g * (high_a - low_b))
-    return dict(sorted(out.items()))
-
-
-def bounds_of(step: Step, listed: Listed, cell: int) -> Pair:
-    """What a cell's head lies between: its listed pair, or its constant head."""
-    if cell in step.constant:
-        return step.constant[cell], step.constant[cell]
-    return listed.lower[cell], listed.upper[cell]
-
-
-def check_step(model: Model, step: Step, listed: Listed, low: Heads, high: Heads) -> None:
-    """A Fault at the first place that isn't confirmed: constants, cells, groups, terms. Old heads: from low to high."""
+def check_heads(step: Step, listing: Listing, low: Values, high: Values) -> None:
+    """A Fault at the first cell that isn't confirmed. Old heads go from `low` to `high`."""
+    place = step.model.place
     for cell, head in step.constant.items():
-        if not listed.lower[cell] <= head <= listed.upper[cell]:
-            side = "LOW" if head < listed.lower[cell] else "HIGH"
-            raise Fault(f"{model.place(cell)} {side}: the constant head {float(head)} isn't in its pair")
+        if head < listing.lower[cell] or head > listing.upper[cell]:
+            side = "LOW" if head < listing.lower[cell] else "HIGH"
+            raise Fault(f"{place(cell)} {side}: the constant head {float(head)} isn't in its pair")
     for cell in step.cells:
-        check_cell(model, step, cell, listed.lower, low, 1, "LOW")
-        check_cell(model, step, cell, listed.upper, high, -1, "HIGH")
+        check_cell(step, cell, listing.lower, low, 1, "LOW")
+        check_cell(step, cell, listing.upper, high, -1, "HIGH")
     for group in step.groups():
-        if not any(step.known[cell] for cell in group) and sum(map(step.deep, group)) <= 0:
-            raise Fault(f"{model.place(group[0])}: nothing holds the group of this cell")
-    check_terms(step, listed, low, high)
+        if not step.has_known_head(group) and sum(map(step.deep, group)) <= 0:
+            raise Fault(f"{place(group[0])}: nothing holds the group of this cell")
 
 
-def check_cell(model: Model, step: Step, cell: int, heads: Heads, old: Heads, sign: int, side: str) -> None:
+def check_cell(step: Step, cell: int, heads: Values, old: Values, sign: int, side: str) -> None:
     """Its balance is 0 or more at the lower heads and 0 or less at the upper ones, or the barrier is met."""
     balance = step.balance(cell, heads, old)
-    if sign * balance >= 0:
-        return
-    limit = step.barrier(old, sign)[cell]
-    if limit is None or sign * heads[cell] > sign * limit:
-        raise Fault(f"{model.place(cell)} {side}: the balance has the wrong sign, by {float(abs(balance)):.3g}")
+    if sign * balance < 0:
+        limit = step.barrier(old, sign)[cell]
+        if limit is None or sign * heads[cell] > sign * limit:
+            name = step.model.place(cell)
+            raise Fault(f"{name} {side}: the balance has the wrong sign, by {float(abs(balance)):.3g}")
 
 
-def check_terms(step: Step, listed: Listed, low: Heads, high: Heads) -> None:
+def check_terms(step: Step, listing: Listing, low: Values, high: Values) -> None:
     """Each flow into a cell is least at its upper head and the lower old head."""
-    least = [[ZERO] * len(TERMS) for _ in range(2)]
-    most = [[ZERO] * len(TERMS) for _ in range(2)]
+    least, most = ([[ZERO] * len(TERMS) for _ in ("IN", "OUT")] for _ in range(2))
     for cell in step.cells:
-        smallest = step.flows(cell, listed.upper[cell], low)
-        greatest = step.flows(cell, listed.lower[cell], high)
-        for (term, lo), (_, hi) in zip(smallest, greatest):
-            least[0][term] += max(lo, ZERO)
-            most[0][term] += max(hi, ZERO)
-            least[1][term] += max(-hi, ZERO)
-            most[1][term] += max(-lo, ZERO)
+        for branch in step.branches[cell]:
+            lo = branch.flow(listing.upper[cell], low[cell])
+            hi = branch.flow(listing.lower[cell], high[cell])
+            least[0][branch.term] += max(lo, ZERO)
+            most[0][branch.term] += max(hi, ZERO)
+            least[1][branch.term] += max(-hi, ZERO)
+            most[1][branch.term] += max(-lo, ZERO)
     for side, name in enumerate(("IN", "OUT")):
-        for term, (lower, upper) in enumerate(listed.terms[side]):
+        for term, (lower, upper) in enumerate(listing.terms[side]):
             if lower > least[side][term] or upper < most[side][term]:
                 raise Fault(f"{name} {TERMS[term]}: the pair doesn't hold the flows")
 
 
-def check_zones(model: Model, step: Step, zones: list[int], listed: Listed) -> None:
-    for (a, b), (low, high) in zone_flows(model, step, zones, listed).items():
-        lower, upper = listed.zones[a, b]
-        if lower > low or upper < high:
+def check_zones(step: Step, listing: Listing, faces: Faces) -> None:
+    """The head of a constant cell is that of the equations, whatever its pair."""
+    lower = {cell: step.constant.get(cell, head) for cell, head in enumerate(listing.lower)}
+    upper = {cell: step.constant.get(cell, head) for cell, head in enumerate(listing.upper)}
+    for (a, b), (low, high) in listing.zones.items():
+        least = sum((conductance * (lower[x] - upper[y]) for x, y, conductance in faces[a, b]), ZERO)
+        most = sum((conductance * (upper[x] - lower[y]) for x, y, conductance in faces[a, b]), ZERO)
+        if low > least or high < most:
             raise Fault(f"ZONE {a} {b}: the pair doesn't hold the flow")
 
 
 def check_listing(model: Model, listing: Listing, zones: list[int]) -> None:
     """A Fault at the first place of the listing that isn't confirmed."""
     low, high = model.strt, model.strt
-    given: dict[int, GivenHead] = {}
+    given: dict[int, Pair] = {}
     for period, times in enumerate(model.periods):
-        given = given_heads(model, period, given)
-        for number_of_step in range(1, times.steps + 1):
-            step = Step(model, period, number_of_step, given)
-            listed = listing.step(period + 1, number_of_step, zone_pairs(model, step, zones))
+        given = model.given_heads(period, given)
+        for count in range(1, len(times.ends)):
+            step = Step(model, period, count, given)
+            faces = step.faces(zones)
+            listing.read_step(period + 1, count, faces)
             try:
-                check_step(model, step, listed, low, high)
-                check_zones(model, step, zones, listed)
+                check_heads(step, listing, low, high)
+                check_terms(step, listing, low, high)
+                check_zones(step, listing, faces)
             except Fault as fault:
-                raise Fault(f"period {period + 1} step {number_of_step} {fault}") from None
-            low, high = listed.lower, listed.upper
+                raise Fault(f"period {period + 1} step {count} {fault}") from None
+            low, high = listing.lower, listing.upper
     listing.take("END")
     if listing.lines[listing.at :] not in ([""], []):
         raise Fault(f"line {listing.at + 1} of the listing: something stands after END")
-
-
-def zone_pairs(model: Model, step: Step, zones: list[int]) -> list[tuple[int, int]]:
-    """The pairs of zones that have a line in this step."""
-    nothing = Listed([ZERO] * len(zones), [ZERO] * len(zones), [], {})
-    return list(zone_flows(model, step, zones, nothing))
 
 
 def main(arguments: list[str]) -> int:
@@ -596,7 +567,7 @@ def main(arguments: list[str]) -> int:
         return USAGE
     try:
         model = Model(arguments[0])
-        zones = read_zones(arguments[2], model) if len(arguments) == 3 else [0] * len(model.ibound)
+        zones = model.read_zones(arguments[2]) if len(arguments) == 3 else [0] * len(model.ibound)
         check_listing(model, Listing(arguments[1], model), zones)
     except Fault as fault:
         print(f"NOT CONFIRMED: {fault}")

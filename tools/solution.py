@@ -18,7 +18,7 @@ import sys
 from fractions import Fraction
 from math import lcm
 
-from recheck import USAGE, ZERO, Fault, GivenHead, Heads, Listing, Model, Step, given_heads
+from recheck import USAGE, ZERO, Fault, Listing, Model, Pair, Step, Values
 
 FOUND, OUTSIDE, NOT_TRIED = 0, 1, 2
 MOST_CELLS, MOST_ROUNDS = 200, 100
@@ -26,29 +26,18 @@ MOST_CELLS, MOST_ROUNDS = 200, 100
 Row = dict[int, Fraction]
 
 
-def linear_row(step: Step, cell: int, head: Fraction, old: Heads) -> tuple[Fraction, Fraction]:
+def linear_row(step: Step, cell: int, head: Fraction, old: Values) -> tuple[Fraction, Fraction]:
     """A cell's balance where its head lies in the range of `head`: how it falls with the head, and what it is at 0."""
     slope = sum((g for _, g in step.links[cell]), ZERO)
-    flow = sum((q for _, q in step.flat[cell]), ZERO)
-    for known in step.known[cell]:
-        slope += known.conductance
-        flow += known.conductance * (old[cell] if known.head is None else known.head)
-    for river in step.rivers[cell]:
-        if head > river.bottom:
-            slope += river.conductance
-            flow += river.conductance * river.stage
+    flow = ZERO
+    for branch in step.branches[cell]:
+        is_below = branch.low is not None and head <= branch.low
+        is_above = branch.high is not None and head >= branch.high
+        if is_below or is_above:
+            flow += branch.flow(head, old[cell])
         else:
-            flow += river.conductance * (river.stage - river.bottom)
-    for drain in step.drains[cell]:
-        if head > drain.elevation:
-            slope += drain.conductance
-            flow += drain.conductance * drain.elevation
-    for evap in step.evaps[cell]:
-        if head >= evap.surface:
-            flow -= evap.conductance * (evap.surface - evap.extinction)
-        elif head > evap.extinction:
-            slope += evap.conductance
-            flow += evap.conductance * evap.extinction
+            slope += branch.conductance
+            flow += branch.conductance * (old[cell] if branch.level is None else branch.level)
     return slope, flow
 
 
@@ -77,7 +66,7 @@ def solve_linear(rows: dict[int, Row], right: Row) -> Row:
     return {c: Fraction(x[c], last * under) for c in order}
 
 
-def solve_step(step: Step, guess: Heads, old: Heads) -> Heads:
+def solve_step(step: Step, guess: Values, old: Values) -> Values:
     """The heads that make all balances 0."""
     heads = list(guess)
     for _ in range(MOST_ROUNDS):
@@ -95,7 +84,7 @@ def solve_step(step: Step, guess: Heads, old: Heads) -> Heads:
     raise Fault(f"no solution was found in {MOST_ROUNDS} rounds")
 
 
-def digits_of(heads: Heads) -> int:
+def digits_of(heads: Values) -> int:
     """The digits of the longest denominator."""
     return max((len(str(head.denominator)) for head in heads), default=1)
 
@@ -103,21 +92,21 @@ def digits_of(heads: Heads) -> int:
 def find(model: Model, listing: Listing, most: int) -> int:
     """Solves the steps one after another, and prints what was found."""
     old, longest, count = list(model.strt), 1, 0
-    given: dict[int, GivenHead] = {}
+    given: dict[int, Pair] = {}
     for period, times in enumerate(model.periods):
-        given = given_heads(model, period, given)
-        for number in range(1, times.steps + 1):
-            listed = listing.step(period + 1, number, [])
+        given = model.given_heads(period, given)
+        for number in range(1, len(times.ends)):
+            listing.read_step(period + 1, number, {})
             step = Step(model, period, number, given)
             if len(step.cells) > most:
                 print(f"NOT TRIED: {len(step.cells)} variable cells are more than {most}")
                 return NOT_TRIED
-            middle = [(low + high) / 2 for low, high in zip(listed.lower, listed.upper)]
+            middle = [(low + high) / 2 for low, high in zip(listing.lower, listing.upper)]
             heads = solve_step(step, middle, old)
             for cell, head in step.constant.items():
                 heads[cell] = head
             for cell in [*step.cells, *step.constant]:
-                low, high = listed.lower[cell], listed.upper[cell]
+                low, high = listing.lower[cell], listing.upper[cell]
                 if not low <= heads[cell] <= high:
                     print(
                         f"OUTSIDE: period {period + 1} step {number}, {model.place(cell)}: {float(heads[cell])} "

@@ -125,7 +125,7 @@ def test_whole_numbers_lie_round_the_fractions_of_recheck(name, ran, monkeypatch
         step, listed = slabs.step, listing.steps[at]
         if at > 2:
             break
-        given = recheck.given_heads(exact, listed.period - 1, given) if listed.step == 1 else given
+        given = exact.given_heads(listed.period - 1, given) if listed.step == 1 else given
         theirs = recheck.Step(exact, listed.period - 1, listed.step, given)
         now = [units.ravel() for units in slabs.now]
         in_units = [[Fraction(int(v), 10**9) for v in side] for side in now]
@@ -135,18 +135,17 @@ def test_whole_numbers_lie_round_the_fractions_of_recheck(name, ran, monkeypatch
             for cell in theirs.cells:
                 balance = theirs.balance(cell, in_units[side], past[side]) * one
                 around = [g * (in_units[side][b] - in_units[side][cell]) for b, g in exact.near[cell]]
-                around += [flow for _, flow in theirs.flows(cell, in_units[side][cell], past[side])]
+                around += [b.flow(in_units[side][cell], past[side][cell]) for b in theirs.branches[cell]]
                 assert low[cell] <= balance <= high[cell], (name, cell)
                 assert high[cell] - low[cell] <= sum(map(abs, around)) * one / 10**6 + 20, (name, cell)
         budget = step.budget(now[0], now[1], tuple(side.ravel() for side in slabs.old))
         sums = {term: [0, 0, 0, 0] for term in recheck.TERMS}
         for cell in theirs.cells:
-            flows = zip(
-                theirs.flows(cell, in_units[1][cell], past[0]), theirs.flows(cell, in_units[0][cell], past[1])
-            )
-            for (term, least), (_, most) in flows:
+            for branch in theirs.branches[cell]:
+                least = branch.flow(in_units[1][cell], past[0][cell])
+                most = branch.flow(in_units[0][cell], past[1][cell])
                 for n, value in enumerate((least, most, -most, -least)):
-                    sums[recheck.TERMS[term]][n] += max(value, 0) * one
+                    sums[recheck.TERMS[branch.term]][n] += max(value, 0) * one
         for term, pair in budget.items():
             assert all(pair[n] <= sums[term][n] and sums[term][n + 1] <= pair[n + 1] for n in (0, 2)), term
         assert step.loose_cells() == []
