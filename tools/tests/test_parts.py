@@ -22,8 +22,15 @@ WHOLE = ["three_cells", "river_valley", "drained_field", "three_aquifers", "tide
 
 @pytest.fixture
 def ran(example):
-    def run(name):
+    """Runs an example, or its last period's first steps alone; its name file, its listing and the listing's text."""
+
+    def run(name, steps=None):
         nam = example(name)
+        if steps:
+            dis = next(nam.parent.glob("*.dis"))
+            lines = dis.read_text().rstrip().split("\n")
+            perlen, _, *rest = lines[-1].split()
+            dis.write_text("\n".join([*lines[:-1], " ".join([perlen, str(steps), *rest])]) + "\n")
         text = heads(["run", nam.name], nam.parent).stdout
         (nam.parent / "m.heads").write_text(text)
         return nam, nam.parent / "m.heads", text
@@ -32,18 +39,18 @@ def ran(example):
 
 
 @pytest.mark.parametrize(
-    "name, count, checks",
+    "name, steps, count, checks",
     [
-        ("river_valley", 4, "1 step in 4 parts, 8 checks"),
-        ("drained_field", 3, "1 step in 3 parts, 6 checks"),
-        ("three_aquifers", 3, "1 step in 3 parts, 6 checks"),
-        ("tide", 1, "48 steps in 1 part, 96 checks"),
+        ("river_valley", None, 4, "1 step in 4 parts, 8 checks"),
+        ("drained_field", None, 3, "1 step in 3 parts, 6 checks"),
+        ("three_aquifers", None, 3, "1 step in 3 parts, 6 checks"),
+        ("tide", None, 1, "48 steps in 1 part, 96 checks"),
         # Steps that grow have lengths that are no short decimals, so two decks for each part and side.
-        ("pumping_test", 1, "20 steps in 1 part, 80 checks"),
+        ("pumping_test", 4, 2, "4 steps in 2 parts, 32 checks"),
     ],
 )
-def test_a_run_is_certified_by_parts(name, count, checks, ran, tool):
-    nam, listing, text = ran(name)
+def test_a_run_is_certified_by_parts(name, steps, count, checks, ran, tool):
+    nam, listing, text = ran(name, steps)
     status, out, err = tool("check", nam, listing, "--parts", count, "--jobs", 2)
     assert status == 0 and out.startswith(f"CERTIFIED BY PARTS: {checks}, each CERTIFIED by heads check"), out + err
     assert "Not proved, but computed here in whole numbers" in out
@@ -76,12 +83,12 @@ def moved(line, low, high):
 
 
 def test_a_head_of_a_growing_step_that_is_moved_is_found(ran, tool):
-    nam, listing, text = ran("pumping_test")
-    begin = text.index("STEP 1 7\n")
+    nam, listing, text = ran("pumping_test", 3)
+    begin = text.index("STEP 1 3\n")
     at = re.search(r"HEAD 1 3 4 .*", text[begin:])
     listing.write_text(text[:begin] + text[begin:].replace(at[0], moved(at[0], 1000, 0), 1))
     status, out, err = tool("check", nam, listing, "--parts", 1)
-    assert status == 8 and re.search(r"period 1 step 7, rows .* low side: not certified at 1 3 4 LOW", out), out + err
+    assert status == 8 and re.search(r"period 1 step 3, rows .* low side: not certified at 1 3 4 LOW", out), out + err
 
 
 def test_a_pair_beside_a_constant_head_is_found(ran, tool):
