@@ -2,8 +2,10 @@
 import sys
 from types import ModuleType
 
+from .drawdown import changes_of  # before the call drawdown, whose name the module would take
 from .calls import Answer, certify, compare, drawdown, inside, look, plain, run
-from .exports import Place, heads_frame, terms_frame, to_geotiff, to_netcdf, to_vtk, to_xarray
+from .exports import Place, heads_frame, terms_frame, to_netcdf, to_xarray
+from .files import to_geotiff, to_vtk
 from .headfile import read_heads, write_heads
 from .listing import Listing, Step, read_listing
 from .model import Model, read_model
@@ -19,6 +21,7 @@ __all__ = [
     "Problem",
     "Step",
     "certify",
+    "changes_of",
     "compare",
     "drawdown",
     "heads_frame",

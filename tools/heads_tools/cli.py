@@ -32,6 +32,15 @@ NAME.heads, and the words 'Normal termination of simulation'. In FloPy: exe_name
 cell-by-cell flows are written. Written from the documented call and files of MODFLOW-2005."""
 
 
+OBSERVE = """\
+Lower and upper head at points, beside what was measured there. A point of a table is at the head of its cell, or
+with --between on the surface through the middles of the cells next to it, as an observation of a HOB file with
+offsets ROFF and COFF: bilinear between four cells with flow, the plane through three, straight between two. In
+several layers (MLAY, PR) the head is the sum of their shares. In a transient step it lies on the straight line from
+the step's begin to its end, in a steady one it is that at its end. All weights are exact, and the result is rounded
+outward: if the listed pairs are bounds, the head that is so made of any exact solution lies between lower and upper."""
+
+
 def add_place(sub: argparse.ArgumentParser, is_needed: bool) -> None:
     sub.add_argument("--name", type=Path, metavar="M.NAM", required=is_needed, help="the model: its grid and times")
     sub.add_argument(
@@ -203,6 +212,10 @@ def parser() -> argparse.ArgumentParser:
     )
     add_place(s, True)
     s.add_argument("--as", dest="formats", default="nc,tif,vtu,csv", metavar="LIST", help="of nc, tif, vtu, csv (all)")
+    s.add_argument("--last", action="store_true", help="GeoTIFF and VTK of the last step alone, and not of every step")
+    s.add_argument(
+        "--minus", type=Path, metavar="BASE.HEADS", help="another listing: export the change of the heads, with bounds"
+    )
     s = add(
         "observe",
         "heads at points, by a table name,x,y,layer,time,measured or a HOB file: lower, upper, measured",
@@ -210,6 +223,8 @@ def parser() -> argparse.ArgumentParser:
         ("points", "the table or the HOB file"),
     )
     add_place(s, True)
+    s.description = OBSERVE
+    s.add_argument("--between", action="store_true", help="points of a table lie between the middles of cells, too")
     s.add_argument("--out", type=Path, help="the table's file, standard output where left out")
     s = commands.add_parser(
         "mf2005", help="run as MODFLOW-2005 is called by FloPy and ModelMuse: head file and list file"

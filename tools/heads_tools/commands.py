@@ -244,7 +244,9 @@ def do_hds(args: argparse.Namespace, _: list[str]) -> int:
 
 
 def do_export(args: argparse.Namespace, _: list[str]) -> int:
-    from .exports import FORMATS, export, place_of
+    from .drawdown import changes_of
+    from .exports import place_of
+    from .files import FORMATS, export
     from .listing import read_listing
     from .model import read_model
 
@@ -252,7 +254,10 @@ def do_export(args: argparse.Namespace, _: list[str]) -> int:
     if not formats or not set(formats) <= set(FORMATS):
         raise Problem(f"--as is a list of {', '.join(FORMATS)}")
     listing, model = read_listing(existing(args.listing)), read_model(existing(args.name))
-    say(export(fitting(listing, model), args.folder, model, place_of(args.at), formats))
+    listing = fitting(listing, model)
+    if args.minus:
+        listing = changes_of(listing, read_listing(existing(args.minus)))
+    say(export(listing, args.folder, model, place_of(args.at), formats, args.last))
     return 0
 
 
@@ -263,7 +268,11 @@ def do_observe(args: argparse.Namespace, _: list[str]) -> int:
     from .observe import observe
 
     listing, model = read_listing(existing(args.listing)), read_model(existing(args.name))
-    say(observe(fitting(listing, model), model, existing(args.points), place_of(args.at), args.out))
+    points, place = existing(args.points), place_of(args.at)
+    lines, lacking = observe(fitting(listing, model), model, points, place, args.out, args.between)
+    for sentence in lacking:
+        print(sentence, file=sys.stderr)
+    say(lines)
     return 0
 
 

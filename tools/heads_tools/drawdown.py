@@ -60,6 +60,13 @@ def difference(listing: Listing, base: Listing) -> list[Change]:
     ]
 
 
+def changes_of(listing: Listing, base: Listing) -> Listing:
+    """The changes of heads, listing less base, as a listing, for exports."""
+    steps = [Step(c.period, c.step, c.low, c.high) for c in difference(listing, base)]
+    end = listing.end if listing.end != "END" else base.end
+    return Listing(listing.path, listing.digits, listing.unit, steps, listing.cells, end, True)
+
+
 def nets(step: Step, scale: int) -> dict[str, Pair]:
     """The net terms, narrowed to what the other terms leave."""
     return {name: (low * scale, high * scale) for name, _, _, low, high in budget_of(step).nets}

@@ -1,5 +1,5 @@
-"""A listing where people work on: xarray, pandas, NetCDF, GeoTIFF, VTK. Lower heads are rounded down to doubles, upper
-ones up. Each format asks for its package only when it is used."""
+"""A listing where people work on: xarray, NetCDF, pandas. Lower heads are rounded down to doubles, upper ones up. Each
+format asks for its package only when it is used."""
 from __future__ import annotations
 
 import importlib
@@ -30,6 +30,10 @@ PACKAGES = {
 COMMENT = (
     "every exact solution lies between lower and upper where `heads check` certified the listing; rounded outward to"
     " doubles"
+)
+CHANGE = (
+    "lower and upper bound of the head of one run less that of another where `heads check` certified both listings;"
+    " rounded outward to doubles"
 )
 
 
@@ -128,7 +132,7 @@ def to_xarray(listing: Listing, model: Model | None = None, place: Place = Place
         "step_of_period": (first, [s.step for s in listing.steps]),
     }
     dims = (first, "layer", *axes)
-    about = {"units": LENGTHS.get(listing.unit, "length units"), "comment": COMMENT}
+    about = {"units": LENGTHS.get(listing.unit, "length units"), "comment": CHANGE if listing.is_change else COMMENT}
     data = {"lower": (dims, listing.lower(shape), about), "upper": (dims, listing.upper(shape), about)}
     attrs = {
         "source": f"heads, {listing.path.name}, {listing.digits} digits, ends with {listing.end or 'a part of a step'}"
@@ -186,82 +190,3 @@ def terms_frame(listing: Listing, model: Model | None = None) -> pandas.DataFram
 def to_netcdf(path: Path, listing: Listing, model: Model | None = None, place: Place = Place()) -> None:
     package("netCDF4")
     to_xarray(listing, model, place).to_netcdf(path)
-
-
-def to_geotiff(path: Path, listing: Listing, model: Model, place: Place = Place(), at: int = -1) -> None:
-    """A picture element for each cell of a grid of equal widths; for each layer a band of lower and one of upper
-    heads of a step, the last one where it isn't named."""
-    rasterio = package("rasterio")
-    from rasterio.transform import Affine
-
-    for name, widths in (("DELR", model.delr), ("DELC", model.delc)):
-        if widths.max() - widths.min() > 1e-9 * widths.max():
-            raise Problem(f"a GeoTIFF has cells of one width, and {name} differs: take NetCDF or VTK")
-    x, y = place.world(np.array(0.0), np.array(model.delc.sum()))
-    transform = (
-        Affine.translation(float(x), float(y))
-        * Affine.rotation(place.angle)
-        * Affine.scale(model.delr[0], -model.delc[0])
-    )
-    lower, upper = listing.lower(model.shape)[at], listing.upper(model.shape)[at]
-    nlay, nrow, ncol = model.shape
-    options = {
-        "driver": "GTiff",
-        "width": ncol,
-        "height": nrow,
-        "count": 2 * nlay,
-        "dtype": "float64",
-        "nodata": math.nan,
-        "compress": "deflate",
-    }
-    with rasterio.open(
-        path, "w", transform=transform, crs=f"EPSG:{place.epsg}" if place.epsg else None, **options
-    ) as file:
-        for k in range(nlay):
-            for band, (name, values) in enumerate((("lower", lower), ("upper", upper)), 2 * k + 1):
-                file.write(values[k], band)
-                file.set_band_description(band, f"layer {k + 1} {name} head")
-
-
-def to_vtk(path: Path, listing: Listing, model: Model, place: Place = Place(), at: int = -1) -> None:
-    """A hexahedron for each cell with flow, with its lower and upper head of a step, the last one where it isn't
-    named."""
-    meshio = package("meshio")
-    x = np.concatenate([[0], np.cumsum(model.delr)])
-    y = model.delc.sum() - np.concatenate([[0], np.cumsum(model.delc)])
-    k, i, j = (listing.cells - 1).T
-    bottom = model.bottom[k, i, j]
-    levels = bottom, bottom + model.thick[k, i, j]
-    corners = [(*place.world(x[j + dx], y[i + dy]), z) for z in levels for dx, dy in ((0, 1), (1, 1), (1, 0), (0, 0))]
-    points = np.array([np.broadcast_arrays(*corner) for corner in corners]).transpose(2, 0, 1).reshape(-1, 3)
-    lower, upper = listing.lower(model.shape)[at], listing.upper(model.shape)[at]
-    data = {"lower": [lower[k, i, j]], "upper": [upper[k, i, j]], "layer": [k + 1]}
-    meshio.Mesh(points, [("hexahedron", np.arange(len(points)).reshape(-1, 8))], cell_data=data).write(path)
-
-
-FORMATS = ("nc", "tif", "vtu", "csv")
-
-
-def export(listing: Listing, folder: Path, model: Model, place: Place, formats: list[str]) -> list[str]:
-    """Writes the formats into a folder; a sentence on each. One whose package is missing, or that can't hold the
-    grid, is an error only where it was asked for alone."""
-    folder.mkdir(parents=True, exist_ok=True)
-    write = {
-        "nc": lambda p: to_netcdf(p, listing, model, place),
-        "tif": lambda p: to_geotiff(p, listing, model, place),
-        "vtu": lambda p: to_vtk(p, listing, model, place),
-        "csv": lambda p: heads_frame(listing, model, place).to_csv(p, index=False),
-    }
-    said = []
-    for name in formats:
-        path = folder / f"heads.{name}"
-        try:
-            write[name](path)
-            said.append(
-                f"written: {path}" + (" (the last step)" if name in ("tif", "vtu") and len(listing.steps) > 1 else "")
-            )
-        except Problem as error:
-            if len(formats) == 1:
-                raise
-            said.append(f"not written: {path}: {error}")
-    return said

@@ -38,7 +38,7 @@ class Step:
 @dataclass(repr=False)
 class Listing:
     """A listing. `cells`: layer, row and column of each cell with flow, from 1, shape (cells, 3); `end`: its last
-    line."""
+    line; `is_change`: its heads are those of one run less those of another (`changes_of` in drawdown.py)."""
 
     path: Path
     digits: int
@@ -46,6 +46,7 @@ class Listing:
     steps: list[Step] = field(default_factory=list)
     cells: np.ndarray = field(default_factory=lambda: np.zeros((0, 3), int))
     end: str = ""
+    is_change: bool = False
 
     def __repr__(self) -> str:
         size = f"{counted(len(self.steps), 'step')} of {counted(len(self.cells), 'cell')}"

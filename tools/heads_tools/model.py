@@ -2,6 +2,7 @@
 from __future__ import annotations
 
 from dataclasses import dataclass, field
+from fractions import Fraction
 from pathlib import Path
 
 import numpy as np
@@ -81,6 +82,10 @@ def value(word: str) -> float:
     return float(word.replace("D", "E").replace("d", "e"))
 
 
+def exact_value(word: str) -> Fraction:
+    return Fraction(word.strip().replace("D", "E").replace("d", "e"))
+
+
 def model_of(deck: Deck) -> Model:
     """The model of a deck that was read whole."""
     shape = (deck.nlay, deck.nrow, deck.ncol)
@@ -129,5 +134,20 @@ def times_of(deck: Deck) -> dict[tuple[int, int], tuple[float, float]]:
         for step in range(1, period.nstp + 1):
             within = length if step == period.nstp else length * growth(mult, step) / growth(mult, period.nstp)
             out[p, step] = (within, begin + within)
+        begin += length
+    return out
+
+
+def exact_ends(deck: Deck) -> dict[tuple[int, int], Fraction]:
+    """The time since the model's begin at the end of each period and step, exactly."""
+    out, begin = {}, Fraction(0)
+    for p, period in enumerate(deck.periods, 1):
+        length, mult, count = exact_value(period.perlen), exact_value(period.tsmult), period.nstp
+        a, b = mult.numerator, mult.denominator
+        for step in range(1, count + 1):
+            share = Fraction(step, count)
+            if mult != 1:
+                share = Fraction((a**step - b**step) * b ** (count - step), a**count - b**count)
+            out[p, step] = begin + length * share
         begin += length
     return out

@@ -1,164 +1,119 @@
-"""Heads at observation points, by coordinates or a HOB file: lower and upper head beside the measured one."""
+"""Heads at observation points: lower and upper head beside the measured one, rounded outward to 10^-9.
+
+The head of a point is a sum of the heads of cells with exact weights (between.py), and within a transient step it lies
+on the straight line from the step's begin to its end. If every exact solution lies between the listed heads, then its
+head at the point, made in the same way, lies between lower and upper. Nothing is claimed of the ground between the
+middles of the cells."""
 from __future__ import annotations
 
 import csv
+import io
 import math
 from dataclasses import dataclass
+from fractions import Fraction
+from functools import cached_property
 from pathlib import Path
 
-import numpy as np
-
 from .exports import Place
-from .listing import Listing
-from .model import Model
-from .spelling import quoted_words
-from .text import Problem, decimal_text, read_text, whole_file
+from .listing import UNITS_IN_ONE, Listing, Step
+from .model import Model, exact_ends
+from .points import Point, Points
+from .text import Problem, decimal_text, whole_file
 
-Cell = tuple[int, int, int]
+HEADER = "name layer row col time lower upper measured measured_less_upper measured_less_lower cells".split()
+NEARLY = Fraction(1, 10**9)
+Range = tuple[Fraction, Fraction]
 
 
 @dataclass
-class Point:
-    """An observation: its cell, the time since the start (None: every step), what was measured (None: nothing)."""
+class Observer:
+    """A listing and its model, whose heads are looked at between cells and between the ends of steps."""
 
-    name: str
-    cell: Cell
-    time: float | None
-    measured: float | None
+    listing: Listing
+    model: Model
 
+    @cached_property
+    def ends(self) -> list[Fraction]:
+        """The time at the end of each step of the listing, exactly."""
+        known = exact_ends(self.model.deck)
+        return [known[s.period, s.step] for s in self.listing.steps]
 
-def read_points(path: Path, model: Model, place: Place) -> list[Point]:
-    """The points of a table with a header (name, x, y or row, col; layer, time, measured may lack) or of a HOB file."""
-    lines = [line for line in read_text(path).splitlines() if line.strip() and not line.startswith("#")]
-    if not lines:
-        raise Problem(f"{path} has no line")
-    header = [w.strip().lower() for w in lines[0].split(",")]
-    if {"x", "y"} <= set(header) or {"row", "col"} <= set(header):
-        return [
-            table_point(path, n, row, model, place)
-            for n, row in enumerate(csv.DictReader([",".join(header), *lines[1:]]), 2)
-        ]
-    return hob_points(path, lines, model)
-
-
-def table_point(path: Path, n: int, row: dict, model: Model, place: Place) -> Point:
-    number = lambda name: float(row[name]) if (row.get(name) or "").strip() else None
-    try:
-        layer = int(number("layer") or 1)
-        if row.get("x"):
-            i, j = cell_at(model, place, float(row["x"]), float(row["y"]))
-        else:
-            i, j = int(row["row"]), int(row["col"])
-        return Point((row.get("name") or f"point {n - 1}").strip(), (layer, i, j), number("time"), number("measured"))
-    except (ValueError, TypeError, KeyError):
-        raise Problem(
-            f"{path}, line {n}: a line is name,x,y or name,row,col, with layer, time and measured where they are known"
-        ) from None
-    except Problem as error:
-        raise Problem(f"{path}, line {n}: {error}") from None
-
-
-def cell_at(model: Model, place: Place, x: float, y: float) -> tuple[int, int]:
-    """The row and the column of a point of the map."""
-    gx, gy = place.grid(x, y)
-    east, south = np.cumsum(model.delr), np.cumsum(model.delc)
-    down = float(south[-1]) - gy
-    if not (0 <= gx <= east[-1] and 0 <= down <= south[-1]):
-        raise Problem(f"x {x:g}, y {y:g} lies outside the grid (is --at right?)")
-    return min(int(np.searchsorted(south, down, "right")) + 1, len(south)), min(
-        int(np.searchsorted(east, gx, "right")) + 1, len(east)
-    )
-
-
-def hob_points(path: Path, lines: list[str], model: Model) -> list[Point]:
-    """The observations of a HOB file: those of one layer, at the head of their cell (ROFF and COFF aren't
-    interpolated)."""
-    try:
-        count, multiplier = int(quoted_words(lines[0])[0]), float(quoted_words(lines[1])[0])
-        begins = [0.0, *np.cumsum([float(p.perlen) for p in model.deck.periods])]
-        points, at = [], 2
-        while len(points) < count:
-            w = quoted_words(lines[at])
-            name, cell, reference, offset = w[0], tuple(map(int, w[1:4])), int(w[4]), float(w[5])
-            at += 1
-            if cell[0] < 0:
-                raise Problem(f"{path}: {name} lies in several layers, which isn't read")
-            if reference >= 0:
-                points.append(Point(name, cell, begins[reference - 1] + offset * multiplier, float(w[8])))
-                continue
-            at += 1
-            for line in lines[at : at - reference]:
-                v = quoted_words(line)
-                points.append(Point(v[0], cell, begins[int(v[1]) - 1] + float(v[2]) * multiplier, float(v[3])))
-            at -= reference
-        return points
-    except (ValueError, IndexError):
-        raise Problem(f"{path} is neither a table with x, y (or row, col) nor a HOB file that can be read") from None
-
-
-def head_at(listing: Listing, model: Model, point: Point, n: int) -> tuple[int, int]:
-    """The pair of a point in 10^-9: at the end of step n, or between two ends by the time, which encloses the
-    straight line between exact heads."""
-    at = listing.at(point.cell)
-    step = listing.steps[n]
-    low, high = int(step.low[at]), int(step.high[at])
-    end = model.times[step.period, step.step][1]
-    if point.time is None or point.time >= end or n == 0:
-        return low, high
-    before = listing.steps[n - 1]
-    begin = model.times[before.period, before.step][1]
-    share = (point.time - begin) / (end - begin)
-    old_low, old_high = int(before.low[at]), int(before.high[at])
-    slack = 2 + (abs(high) + abs(low) + abs(old_low) + abs(old_high)) * 4e-16
-    return math.floor(old_low + share * (low - old_low) - slack), math.ceil(
-        old_high + share * (high - old_high) + slack
-    )
-
-
-def rows_of(listing: Listing, model: Model, points: list[Point]) -> list[list[str]]:
-    """A row for each point: name, layer, row, col, time, lower, upper, measured, and measured less upper and less
-    lower."""
-    ends = [model.times[s.period, s.step][1] for s in listing.steps]
-    out = []
-    for p in points:
-        if p.time is not None and p.time > ends[-1] * (1 + 1e-12):
-            raise Problem(f"{p.name}: time {p.time:g} lies after the listing's last step, {ends[-1]:g}")
-        for n in (
-            range(len(ends))
-            if p.time is None
-            else [min(int(np.searchsorted(ends, p.time * (1 - 1e-12))), len(ends) - 1)]
-        ):
-            low, high = head_at(listing, model, p, n)
-            measured = ["", "", ""]
-            if p.measured is not None:
-                measured = [f"{p.measured:.12g}", f"{p.measured - high / 1e9:.6g}", f"{p.measured - low / 1e9:.6g}"]
-            time = ends[n] if p.time is None else p.time
-            out.append(
-                [p.name, *map(str, p.cell), f"{time:.12g}", decimal_text(low, 9), decimal_text(high, 9), *measured]
+    def step_of(self, point: Point) -> int:
+        """The place of the step in which a point's time lies. A time that is an end but for its last digits is that
+        end."""
+        assert point.time is not None
+        if point.time > self.ends[-1] * (1 + NEARLY):
+            raise Problem(
+                f"{point.name}: time {float(point.time):g} lies after the listing's last step, {float(self.ends[-1]):g}"
             )
-    return out
+        return next((n for n, end in enumerate(self.ends) if point.time <= end * (1 + NEARLY)), len(self.ends) - 1)
+
+    def at_end(self, point: Point, step: Step) -> Range:
+        """The head at the end of a step: each weight takes the bound that is on its side."""
+        low = high = Fraction(0)
+        for cell, weight in point.weights.items():
+            at = self.listing.at(cell)
+            bounds = int(step.low[at]) * weight, int(step.high[at]) * weight
+            low, high = low + min(bounds), high + max(bounds)
+        return low, high
+
+    def at_start(self, point: Point) -> Range:
+        """The starting head STRT."""
+        strt = self.model.deck.strt
+        head = sum(
+            Fraction(strt[k - 1].exact((i - 1) * self.model.deck.ncol + j - 1)) * weight
+            for (k, i, j), weight in point.weights.items()
+        )
+        return Fraction(head * UNITS_IN_ONE), Fraction(head * UNITS_IN_ONE)
+
+    def head(self, point: Point, n: int) -> tuple[int, int]:
+        """The pair of a point in step n, in 10^-9: at the point's time where the step is transient, else at its end."""
+        step = self.listing.steps[n]
+        low, high = self.at_end(point, step)
+        end, is_steady = self.ends[n], self.model.deck.periods[step.period - 1].is_steady
+        if point.time is not None and point.time < end * (1 - NEARLY) and not is_steady:
+            begin = self.ends[n - 1] if n else Fraction(0)
+            old = self.at_end(point, self.listing.steps[n - 1]) if n else self.at_start(point)
+            share = (max(point.time, begin) - begin) / (end - begin)
+            low, high = ((1 - share) * a + share * b for a, b in zip(old, (low, high)))
+        return math.floor(low), math.ceil(high)
+
+    def rows(self, point: Point) -> list[list[str]]:
+        """The rows of a point's table: one for its time, else one for each step."""
+        steps = range(len(self.ends)) if point.time is None else [self.step_of(point)]
+        return [self.row(point, n) for n in steps]
+
+    def row(self, point: Point, n: int) -> list[str]:
+        time = self.ends[n] if point.time is None else point.time
+        head, measured = ["", ""], ["" if point.measured is None else f"{float(point.measured):.12g}", "", ""]
+        if point.weights:
+            low, high = self.head(point, n)
+            head = [decimal_text(low, 9), decimal_text(high, 9)]
+            if point.measured is not None:
+                units = point.measured * UNITS_IN_ONE
+                measured[1:] = decimal_text(math.floor(units - high), 9), decimal_text(math.ceil(units - low), 9)
+        count = str(len(point.weights)) if point.weights else "0"
+        return [point.name, *map(str, point.cell), f"{float(time):.12g}", *head, *measured, count]
 
 
-HEADER = [
-    "name",
-    "layer",
-    "row",
-    "col",
-    "time",
-    "lower",
-    "upper",
-    "measured",
-    "measured_less_upper",
-    "measured_less_lower",
-]
-
-
-def observe(listing: Listing, model: Model, path: Path, place: Place, out: Path | None) -> list[str]:
-    """The table of the points of a file, written where `out` names a file; its lines."""
-    rows = [HEADER, *rows_of(listing, model, read_points(path, model, place))]
-    lines = [",".join(f'"{w}"' if "," in w else w for w in row) for row in rows]
-    if out:
-        with whole_file(out) as file:
-            file.write("\n".join(lines) + "\n")
-        return [f"written: {out} ({len(rows) - 1} lines)"]
-    return lines
+def observe(
+    listing: Listing,
+    model: Model,
+    path: Path,
+    place: Place = Place(),
+    out: Path | None = None,
+    is_between: bool = False,
+) -> tuple[list[str], list[str]]:
+    """The table of the points of a file, written where `out` names a file: its lines, and a sentence on each point
+    that has no head."""
+    points = Points(path, listing, model, place, is_between).read()
+    observer = Observer(listing, model)
+    table = io.StringIO()
+    rows = [HEADER, *(row for point in points for row in observer.rows(point))]
+    csv.writer(table, lineterminator="\n").writerows(rows)
+    lacking = list(dict.fromkeys(f"{p.name} has no head: {p.why}" for p in points if p.why))
+    if not out:
+        return table.getvalue().rstrip("\n").split("\n"), lacking
+    with whole_file(out) as file:
+        file.write(table.getvalue())
+    return [f"written: {out} ({len(rows) - 1} lines)"], lacking

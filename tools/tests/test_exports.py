@@ -126,6 +126,50 @@ def test_vtk_has_a_hexahedron_for_each_cell(valley, tmp_path):
     assert (x.min(), x.max(), y.min()) == (100, 100 + model.delr.sum(), 200) and z.max() == model.top.max()
 
 
+@needs("rasterio", "meshio")
+def test_every_step_is_exported(tide, tool, tmp_path):
+    """The tide has periods 1 to 12 of 4 steps: names in order of time, each file with its own heads and time."""
+    import meshio
+    import rasterio
+
+    nam, model, listing = tide
+    words = "export", listing.path, tmp_path / "out", "--name", nam, "--at", "5,7,30,28992", "--as", "tif,vtu"
+    status, out, err = tool(*words)
+    steps = [f"heads_p{p:02}_s{s}" for p in range(1, 13) for s in range(1, 5)]
+    assert status == 0 and "48 steps" in out, out + err
+    assert sorted(f.stem for f in (tmp_path / "out").glob("*.tif")) == steps
+    assert sorted(f.stem for f in (tmp_path / "out").glob("*.vtu")) == steps
+    with rasterio.open(tmp_path / "out" / "heads_p02_s3.tif") as file:
+        assert np.array_equal(file.read(2), listing.upper(model.shape)[6, 0], equal_nan=True)
+        assert file.tags()["period"] == "2" and float(file.tags()["time"]) == model.times[2, 3][1]
+        assert file.crs.to_epsg() == 28992
+    mesh = meshio.read(tmp_path / "out" / "heads_p02_s3.vtu")
+    assert np.array_equal(mesh.cell_data["lower"][0], listing.lower()[6].ravel())
+    series = (tmp_path / "out" / "heads.pvd").read_text()
+    assert series.count("<DataSet") == 48 and f'timestep="{model.times[2, 3][1]!r}" file="heads_p02_s3.vtu"' in series
+    assert tool(*words, "--last")[0] == 0 and (tmp_path / "out" / "heads.tif").is_file()
+
+
+@needs("xarray", "netCDF4", "rasterio", "meshio", "pandas")
+def test_the_change_of_two_runs_is_exported_with_bounds(example, tool, tmp_path):
+    import xarray
+
+    nam = example("pumping_plans")
+    plan, base = (heads_tools.run(nam.parent / name).listing for name in ("two_wells.nam", "no_well.nam"))
+    words = "export", plan.path, tmp_path, "--name", nam.parent / "two_wells.nam", "--minus", base.path
+    status, out, err = tool(*words)
+    assert status == 0 and out.count("written: ") == 4, out + err
+    k, i, j = (plan.cells - 1).T
+    with xarray.open_dataset(tmp_path / "change.nc") as data:
+        lower, upper = (data[name].values[0, k, i, j] for name in ("lower", "upper"))
+        assert "less that of another" in data.lower.attrs["comment"]
+    for n in range(len(plan.cells)):
+        low = Fraction(int(plan.steps[0].low[n] - base.steps[0].high[n]), 10**9)
+        high = Fraction(int(plan.steps[0].high[n] - base.steps[0].low[n]), 10**9)
+        assert Fraction(lower[n]) <= low <= high <= Fraction(upper[n])
+        assert float(upper[n] - lower[n]) == pytest.approx(float(high - low), abs=1e-14)
+
+
 def test_export_says_what_it_could_not_write(valley, tool, tmp_path):
     nam, model, listing = valley
     status, out, err = tool("export", listing.path, tmp_path / "out", "--name", nam, "--at", "100,200,15,28992")

@@ -1,0 +1,137 @@
+"""A listing as files of other programs: GeoTIFF and VTK of each step, NetCDF, CSV."""
+from __future__ import annotations
+
+import math
+from pathlib import Path
+from typing import Any, Callable
+from xml.sax.saxutils import quoteattr
+
+import numpy as np
+
+from .exports import CHANGE, COMMENT, Place, heads_frame, package, time_of, to_netcdf
+from .listing import Listing
+from .model import Model
+from .text import Problem, whole_file
+
+FORMATS = ("nc", "tif", "vtu", "csv")
+BY_STEPS = ("tif", "vtu")
+
+
+def to_geotiff(path: Path, listing: Listing, model: Model, place: Place = Place(), at: int = -1) -> None:
+    """A picture element for each cell of a grid of equal widths; for each layer a band of lower and one of upper
+    heads of a step, the last one where it isn't named."""
+    rasterio = package("rasterio")
+    from rasterio.transform import Affine
+
+    for name, widths in (("DELR", model.delr), ("DELC", model.delc)):
+        if widths.max() - widths.min() > 1e-9 * widths.max():
+            raise Problem(f"a GeoTIFF has cells of one width, and {name} differs: take NetCDF or VTK")
+    x, y = place.world(np.array(0.0), np.array(model.delc.sum()))
+    corner, turn = Affine.translation(float(x), float(y)), Affine.rotation(place.angle)
+    nlay, nrow, ncol = model.shape
+    options: dict[str, Any] = {"width": ncol, "height": nrow, "count": 2 * nlay, "dtype": "float64"}
+    options |= {"transform": corner * turn * Affine.scale(model.delr[0], -model.delc[0]), "nodata": math.nan}
+    options |= {"driver": "GTiff", "compress": "deflate", "crs": f"EPSG:{place.epsg}" if place.epsg else None}
+    lower, upper = step_of(listing, model, at)
+    step = listing.steps[at]
+    with rasterio.open(path, "w", **options) as file:
+        file.update_tags(period=step.period, step=step.step, time=time_of(model, step), comment=comment_of(listing))
+        for k in range(nlay):
+            for band, (name, values) in enumerate((("lower", lower), ("upper", upper)), 2 * k + 1):
+                file.write(values[k], band)
+                file.set_band_description(band, f"layer {k + 1} {name} {'change' if listing.is_change else 'head'}")
+
+
+def comment_of(listing: Listing) -> str:
+    return CHANGE if listing.is_change else COMMENT
+
+
+def step_of(listing: Listing, model: Model, at: int) -> tuple[np.ndarray, np.ndarray]:
+    """Lower and upper heads of one step, shape (layers, rows, cols), rounded outward."""
+    one = Listing(listing.path, listing.digits, listing.unit, [listing.steps[at]], listing.cells)
+    return one.lower(model.shape)[0], one.upper(model.shape)[0]
+
+
+def to_vtk(path: Path, listing: Listing, model: Model, place: Place = Place(), at: int = -1) -> None:
+    """A hexahedron for each cell with flow, with its lower and upper head of a step, the last one where it isn't
+    named."""
+    meshio = package("meshio")
+    k, i, j = (listing.cells - 1).T
+    points = corners(listing, model, place)
+    lower, upper = step_of(listing, model, at)
+    data = {"lower": [lower[k, i, j]], "upper": [upper[k, i, j]], "layer": [k + 1]}
+    meshio.Mesh(points, [("hexahedron", np.arange(len(points)).reshape(-1, 8))], cell_data=data).write(path)
+
+
+def corners(listing: Listing, model: Model, place: Place) -> np.ndarray:
+    """The eight corners of each cell with flow on the map, shape (8 * cells, 3), the lower four first."""
+    x = np.concatenate([[0], np.cumsum(model.delr)])
+    y = model.delc.sum() - np.concatenate([[0], np.cumsum(model.delc)])
+    k, i, j = (listing.cells - 1).T
+    bottom = model.bottom[k, i, j]
+    levels = bottom, bottom + model.thick[k, i, j]
+    found = [(*place.world(x[j + dx], y[i + dy]), z) for z in levels for dx, dy in ((0, 1), (1, 1), (1, 0), (0, 0))]
+    return np.array([np.broadcast_arrays(*corner) for corner in found]).transpose(2, 0, 1).reshape(-1, 3)
+
+
+def write_series(path: Path, files: list[tuple[Path, float]]) -> None:
+    """ParaView's list of the files of all steps with their times."""
+    lines = [f'<DataSet timestep="{time!r}" file={quoteattr(file.name)}/>' for file, time in files]
+    with whole_file(path) as out:
+        head = '<?xml version="1.0"?>\n<VTKFile type="Collection" version="0.1">\n<Collection>\n'
+        out.write(head + "\n".join(lines) + "\n</Collection>\n</VTKFile>\n")
+
+
+def name_of(stem: str, kind: str, listing: Listing, at: int, is_alone: bool) -> str:
+    """The name of a step's file. Numbers have as many digits as the greatest, so that names are in order of time."""
+    if is_alone:
+        return f"{stem}.{kind}"
+    p, s = (len(str(max(getattr(step, name) for step in listing.steps))) for name in ("period", "step"))
+    return f"{stem}_p{listing.steps[at].period:0{p}}_s{listing.steps[at].step:0{s}}.{kind}"
+
+
+def export(
+    listing: Listing, folder: Path, model: Model, place: Place, formats: list[str], is_last: bool = False
+) -> list[str]:
+    """Writes the formats into a folder, GeoTIFF and VTK for each step or the last one alone; a sentence on each. A
+    format whose package is missing, or that can't hold the grid, is an error only where it was asked for alone."""
+    folder.mkdir(parents=True, exist_ok=True)
+    stem = "change" if listing.is_change else "heads"
+    whole: dict[str, Callable[[Path], None]] = {
+        "nc": lambda p: to_netcdf(p, listing, model, place),
+        "csv": lambda p: heads_frame(listing, model, place).to_csv(p, index=False),
+    }
+    said = []
+    for kind in formats:
+        try:
+            if kind in BY_STEPS:
+                said.append(export_steps(listing, folder, model, place, (stem, kind), is_last))
+            else:
+                whole[kind](folder / f"{stem}.{kind}")
+                said.append(f"written: {folder / stem}.{kind}")
+        except Problem as error:
+            if len(formats) == 1:
+                raise
+            said.append(f"not written: {folder / stem}.{kind}: {error}")
+    return said
+
+
+def export_steps(
+    listing: Listing, folder: Path, model: Model, place: Place, name: tuple[str, str], is_last: bool
+) -> str:
+    """Writes the files of one kind, one for each step; a sentence on them."""
+    stem, kind = name
+    write = {"tif": to_geotiff, "vtu": to_vtk}[kind]
+    chosen = [len(listing.steps) - 1] if is_last else list(range(len(listing.steps)))
+    files = []
+    for at in chosen:
+        path = folder / name_of(stem, kind, listing, at, len(chosen) == 1)
+        write(path, listing, model, place, at)
+        files.append((path, time_of(model, listing.steps[at])))
+    if len(files) == 1:
+        return f"written: {files[0][0]}" + (" (the last step)" if len(listing.steps) > 1 else "")
+    series = folder / f"{stem}.pvd"
+    if kind == "vtu":
+        write_series(series, files)
+    more = f", and {series.name} for ParaView, with their times" if kind == "vtu" else ""
+    return f"written: {files[0][0]} to {files[-1][0].name}, {len(files)} steps{more}"
