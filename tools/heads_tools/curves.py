@@ -9,10 +9,11 @@ from matplotlib.collections import PolyCollection
 from matplotlib.colors import Normalize
 from matplotlib.ticker import MaxNLocator
 
-from .maps import HALO, HEADS_MAP
-from .pictures import MARKS, NO_FLOW, Album, Plan, box, legend_below, mark, patch
+from .maps import HEADS_MAP, apart
+from .pictures import MARKS, NO_FLOW, WIDTH, Album, Plan, box, legend_below, mark, patch
 
-WIDE, TALL = 7.4, 3.0
+LEFT, WIDE, TALL = 0.8, 5.2, 2.6
+BESIDE_BAR = 4.4
 
 
 @dataclass
@@ -41,17 +42,17 @@ def plain(axes: Axes) -> None:
 
 def head_section(album: Album, name: str, plan: Plan, cut: Cut) -> None:
     """A section of one layer: the head over the distance, with top, bottom, stages and wells."""
-    with album.figure(name, WIDE + 1.1, TALL + 1.35) as figure:
-        axes = box(figure, 0.85, 0.95, WIDE, TALL)
+    with album.figure(name, WIDTH, TALL + 1.45) as figure:
+        axes = box(figure, LEFT, 1.1, WIDE, TALL)
         plain(axes)
         x, head, top, bottom = cut.middles, cut.lower[0], cut.top[0], cut.bottom[0]
         low, high = limits(cut)
         ground = axes.fill_between(
-            x,
-            bottom,
-            top,
+            cut.edges,
+            np.append(bottom, bottom[-1]),
+            np.append(top, top[-1]),
             color="0.92",
-            step="mid",
+            step="post",
             label=f"aquifer, {np.min(bottom):.4g} to {np.max(top):.4g} {plan.unit}",
         )
         (line,) = axes.plot(x, head, color="C0", lw=1.6, label="head")
@@ -75,7 +76,7 @@ def head_section(album: Album, name: str, plan: Plan, cut: Cut) -> None:
             xlabel=f"distance, {plan.axis}",
             title=cut.title,
         )
-        legend_below(axes, handles, 0.55, 6)
+        legend_below(axes, handles, 0.55, 4)
 
 
 def limits(cut: Cut) -> tuple[float, float]:
@@ -91,8 +92,8 @@ def limits(cut: Cut) -> tuple[float, float]:
 
 def cell_section(album: Album, name: str, plan: Plan, cut: Cut, norm: Normalize) -> None:
     """A section of many layers: cells between their tops and bottoms in the colour of their head, with contours."""
-    with album.figure(name, WIDE + 1.9, TALL + 1.35) as figure:
-        axes = box(figure, 0.85, 0.95, WIDE, TALL)
+    with album.figure(name, WIDTH, TALL + 1.3) as figure:
+        axes = box(figure, LEFT, 0.95, BESIDE_BAR, TALL)
         corner = lambda k, j: [
             (cut.edges[j], cut.bottom[k, j]),
             (cut.edges[j + 1], cut.bottom[k, j]),
@@ -133,8 +134,8 @@ def cell_section(album: Album, name: str, plan: Plan, cut: Cut, norm: Normalize)
             xlabel=f"distance, {plan.axis}",
             title=cut.title,
         )
-        legend_below(axes, handles, 0.55, 6)
-        figure.colorbar(cells, cax=box(figure, 0.85 + WIDE + 0.12, 0.95, 0.13, TALL)).set_label(
+        legend_below(axes, handles, 0.55, 4)
+        figure.colorbar(cells, cax=box(figure, LEFT + BESIDE_BAR + 0.1, 0.95, 0.13, TALL)).set_label(
             f"lower head, {plan.unit}"
         )
 
@@ -144,13 +145,19 @@ def lines_of_head(axes: Axes, cut: Cut) -> None:
     here = cut.lower[np.isfinite(cut.lower)]
     if min(cut.lower.shape) < 2 or not here.size or np.ptp(here) <= 1e-9 * max(abs(here.max()), 1):
         return
-    levels = [v for v in MaxNLocator(9).tick_values(here.min(), here.max()) if here.min() < v < here.max()]
+    levels = [v for v in MaxNLocator(8).tick_values(here.min(), here.max()) if here.min() < v < here.max()]
     along = np.broadcast_to(cut.middles, cut.lower.shape)
     lines = axes.contour(
         along, (cut.top + cut.bottom) / 2, np.ma.masked_invalid(cut.lower), levels=levels, colors="k", linewidths=0.5
     )
-    for label in axes.clabel(lines, fontsize=7, fmt="%g", zorder=5):
-        label.set_path_effects(HALO)
+    least = 0.2 * np.ptp(cut.edges)
+    long = [
+        level
+        for level, parts in zip(lines.levels, lines.allsegs)
+        if any(np.ptp(part[:, 0]) > least for part in parts if len(part))
+    ]
+    if long:
+        apart(axes, axes.clabel(lines, long, fontsize=8, fmt="%g", zorder=5))
 
 
 def bands(
@@ -161,12 +168,13 @@ def bands(
     xlabel: str,
     ylabel: str,
     title: str,
+    is_down: bool = False,
 ) -> None:
-    """Bands between lower and upper values over time or distance."""
-    columns = max(1, min(len(curves), 96 // (8 + max(len(name) for name, *_ in curves))))
+    """Bands between lower and upper values over time or distance; `is_down`: greater values lie lower."""
+    columns = max(1, min(len(curves), 70 // (8 + max(len(name) for name, *_ in curves))))
     rows = -(-len(curves) // columns)
-    with album.figure(name, WIDE + 1.1, TALL + 1.15 + 0.17 * rows) as figure:
-        axes = box(figure, 0.85, 0.75 + 0.17 * rows, WIDE, TALL)
+    with album.figure(name, WIDTH, TALL + 1.1 + 0.19 * rows) as figure:
+        axes = box(figure, LEFT, 0.7 + 0.19 * rows, WIDE, TALL)
         plain(axes)
         handles = []
         for n, (label, low, high) in enumerate(curves):
@@ -174,6 +182,8 @@ def bands(
             axes.plot(x, high, color=f"C{n % 10}", lw=0.8)
             handles += axes.plot(x, low, color=f"C{n % 10}", marker="o" if len(x) < 40 else "", ms=2.5, label=label)
         axes.set(xlabel=xlabel, ylabel=ylabel, title=title)
+        if is_down:
+            axes.invert_yaxis()
         legend_below(axes, handles, 0.55, columns)
 
 
@@ -182,8 +192,8 @@ def budget_bars(
 ) -> None:
     """Bars of what comes in and goes out by term: the lower flows solid, up to the upper ones pale."""
     tall = 0.34 * len(rows)
-    with album.figure(name, WIDE + 0.4, tall + 1.0) as figure:
-        axes = box(figure, 1.5, 0.55, WIDE - 1.25, tall)
+    with album.figure(name, WIDTH, tall + 1.0) as figure:
+        axes = box(figure, 1.4, 0.6, WIDTH - 1.6, tall)
         plain(axes)
         for n, (_, in_low, in_high, out_low, out_high) in enumerate(rows):
             for sign, low, high, colour in ((1, in_low, in_high, "steelblue"), (-1, out_low, out_high, "indianred")):

@@ -9,7 +9,7 @@ from . import curves
 from .look_time import OverTime
 from .looking import BUDGET, ZONES
 from .tables import budget_of
-from .text import Problem, down, signed_down, signed_up, up
+from .text import Problem, down, signed_down, signed_up, up, without_exponent
 from .zones import ZoneMap, net_flows, zone_map
 
 
@@ -56,7 +56,8 @@ class Flows(OverTime):
                 "share no number. No listing that `heads run` wrote or `heads check` certified is like this."
             )
         if budget.discrepancy:
-            low, high = signed_down(budget.discrepancy[0]), signed_up(budget.discrepancy[1])
+            least, most = budget.discrepancy
+            low, high = without_exponent(signed_down(least)), without_exponent(signed_up(most))
             self.page.text(
                 BUDGET,
                 "The percent discrepancy of the budget is 0 in each exact solution. "

@@ -41,7 +41,7 @@ class Others(Looking):
 
     def draw_given(self, name: str, most: np.ndarray, layer: int, when: str) -> None:
         title = f"Layer {layer}, {when}: {name} is off by at most"
-        maps.one_map(self.album, f"off_layer{layer}", self.plan, most, layer, title, self.unit, False)
+        maps.one_map(self.album, f"off_layer{layer}", self.plan, most, layer, title, self.unit, maps.ERROR_MAP)
         self.page.picture(
             GIVEN,
             f"off_layer{layer}.png",
@@ -71,7 +71,7 @@ class Others(Looking):
     def draw_minus(self, base: str, middle: np.ndarray, layer: int, widest: str, when: str) -> None:
         title = f"Layer {layer}, {when}: heads less those of {base}"
         maps.one_map(
-            self.album, f"minus_layer{layer}", self.plan, middle, layer, title, f"difference, {self.unit}", True
+            self.album, f"minus_layer{layer}", self.plan, middle, layer, title, f"difference, {self.unit}", maps.CHANGE_MAP
         )
         self.page.picture(
             MINUS,

@@ -11,7 +11,7 @@ from . import __version__
 from .listing import Listing, Step
 from .model import Model, value
 from .page import Page
-from .pictures import Album, Cell, plan_of
+from .pictures import Album, Cell, Plan, plan_of
 from .progress import bar
 from .text import LENGTHS, Problem, decimal_text, read_text
 from .verdict import Verdict, not_checked, program_name
@@ -50,7 +50,7 @@ class Looking:
         self.unit = model.length if model else LENGTHS.get(listing.unit, "length units")
         self.time = model.time if model else "time unit"
         self.elements = elements(model) if model else {}
-        self.plan = self.make_plan()
+        self.plan = plan_for(model, self.shape, self.unit)
         self.verdict = verdict or not_checked(listing)
         said = f"{self.verdict.title}. {self.verdict.sentence}" if model else self.verdict.sentence
         self.page = Page(
@@ -63,16 +63,6 @@ class Looking:
         self.page.rooms = {room: [] for room in ROOMS}
         self.album = Album(folder, has_svg)
         self.jobs: list[Callable[[], None]] = []
-
-    def make_plan(self):
-        nlay, nrow, ncol = self.shape
-        if self.model is None:
-            return plan_of(np.ones(ncol), np.ones(nrow), self.unit, "columns, rows")
-        model = self.model
-        entries = {kind: [cell for cell, _ in found] for kind, found in self.elements.items()}
-        entries["CHD"] = entries.get("CHD", []) + [tuple(c) for c in (np.argwhere(model.ibound < 0) + 1).tolist()]
-        top = np.concatenate([model.top[None], (model.bottom - model.bed)[:-1]])
-        return plan_of(model.delr, model.delc, self.unit, self.unit, entries=entries, top=top, bottom=model.bottom)
 
     def when(self, step) -> str:
         times = self.model.times if self.model else {}
@@ -105,7 +95,7 @@ class Looking:
 
     def tell_facts(self) -> None:
         listing = self.listing
-        facts = [("Listing", f"{listing.path.name}, --digits {listing.digits}: {listing.summary()} in {self.unit}")]
+        facts = [("Listing", f"{listing.path.name}, --digits {listing.digits}: {listing.summary()} in\u00a0{self.unit}")]
         if self.model:
             facts.append(
                 (
@@ -127,3 +117,13 @@ def elements(model: Model) -> dict[str, list[tuple[Cell, list[float]]]]:
         entries = next((p for p in reversed(model.deck.lists.get(kind, [])) if p is not None), [])
         out[kind] = [(e.cell, [value(e.words[n]) for n in places]) for e in entries]
     return out
+
+
+def plan_for(model: Model | None, shape: tuple[int, int, int], unit: str) -> Plan:
+    """The plan of a model with its entries, or one of equal widths where the model isn't known."""
+    if model is None:
+        return plan_of(np.ones(shape[2]), np.ones(shape[1]), unit, "columns, rows")
+    entries = {kind: [cell for cell, _ in found] for kind, found in elements(model).items()}
+    entries["CHD"] = entries.get("CHD", []) + [tuple(c) for c in (np.argwhere(model.ibound < 0) + 1).tolist()]
+    top = np.concatenate([model.top[None], (model.bottom - model.bed)[:-1]])
+    return plan_of(model.delr, model.delc, unit, unit, entries=entries, top=top, bottom=model.bottom)

@@ -8,13 +8,28 @@ from matplotlib.axes import Axes
 from matplotlib.colors import ListedColormap, Normalize, TwoSlopeNorm
 from matplotlib.figure import Figure
 from matplotlib.lines import Line2D
+from matplotlib.patches import Rectangle
 from matplotlib.patheffects import withStroke
+from matplotlib.text import Text
 from matplotlib.ticker import MaxNLocator
 
-from .pictures import KNOWN, MARKS, NO_FLOW, Album, Plan, box, head_scale, legend_below, mark, patch, width_scale
+from .pictures import (
+    KNOWN,
+    MARKS,
+    NO_FLOW,
+    WIDTH,
+    Album,
+    Plan,
+    box,
+    head_scale,
+    legend_below,
+    mark,
+    patch,
+    width_scale,
+)
 
-HEADS_MAP, WIDTH_MAP, ERROR_MAP, CHANGE_MAP = "viridis", "magma_r", "cividis_r", "RdBu"
-MAP_WIDTH, THUMB_WIDTH = 5.6, 1.75
+HEADS_MAP, WIDTH_MAP, ERROR_MAP, CHANGE_MAP, FALL_MAP = "viridis", "magma_r", "cividis_r", "RdBu", "RdBu_r"
+LEFT, MAP_WIDTH, THUMB_WIDTH = 0.75, 4.5, 1.5
 MOST_LINES, MOST_LABELS = 60, 14
 HALO = [withStroke(linewidth=2.2, foreground="white")]
 
@@ -50,8 +65,18 @@ def contours(axes: Axes, plan: Plan, values: np.ndarray, norm: Normalize) -> Non
     ]
     if long and sum(map(len, lines.allsegs)) <= MOST_LINES:
         every = -(-sum(len(parts) for level, parts in zip(lines.levels, lines.allsegs) if level in long) // MOST_LABELS)
-        for label in axes.clabel(lines, long[::every], fontsize=7, fmt="%g", zorder=5):
-            label.set_path_effects(HALO)
+        apart(axes, axes.clabel(lines, long[::every], fontsize=8, fmt="%g", zorder=5))
+
+
+def apart(axes: Axes, labels: list[Text]) -> None:
+    """Hides each label of a contour that lies nearer than 0.3 inches to one that is shown."""
+    shown: list[np.ndarray] = []
+    for label in labels:
+        spot = axes.transData.transform(label.get_position()) / axes.figure.dpi
+        label.set_path_effects(HALO)
+        label.set_visible(all(np.hypot(*(spot - other)) > 0.3 for other in shown))
+        if label.get_visible():
+            shown.append(spot)
 
 
 def marks(axes: Axes, plan: Plan, layer: int, inches: float) -> list[Line2D]:
@@ -89,14 +114,12 @@ def head_map(
     scales: tuple[Normalize, Normalize],
     cut: tuple[int, int] | None,
 ) -> None:
-    """A large map of the lower heads of a layer and a thumbnail of the widths. `cut`: row, column of the sections."""
+    """A large map of the lower heads of a layer, and below it a small one of the widths. `cut`: row, column of the
+    sections."""
     tall, thumb_tall = MAP_WIDTH * plan.ratio, THUMB_WIDTH * plan.ratio
-    left, below, above = 0.75, 0.85, 0.4
-    with album.figure(
-        name, left + MAP_WIDTH + 1.1 + THUMB_WIDTH + 0.15, below + max(tall, thumb_tall + 0.7) + above
-    ) as figure:
-        base = below + max(tall, thumb_tall + 0.7) - tall
-        axes = box(figure, left, base, MAP_WIDTH, tall)
+    base = 0.15 + max(thumb_tall, 0.55) + 0.3 + 0.85
+    with album.figure(name, WIDTH, base + tall + 0.35) as figure:
+        axes = box(figure, LEFT, base, MAP_WIDTH, tall)
         mesh = draw(axes, plan, lower, HEADS_MAP, scales[0])
         contours(axes, plan, lower, scales[0])
         handles = marks(axes, plan, layer, MAP_WIDTH)
@@ -108,65 +131,81 @@ def head_map(
             axes.axvline(x[cut[1] - 1], color="k", lw=0.7, ls=":")
             handles.append(Line2D([], [], color="k", lw=0.7, ls=":", label="sections"))
         axes.set(xlabel=plan.axis, ylabel=plan.axis, title=title)
-        legend_below(axes, handles, 0.5, 6)
-        bar = figure.colorbar(mesh, cax=box(figure, left + MAP_WIDTH + 0.12, base, 0.13, tall))
+        legend_below(axes, handles, 0.5, 4)
+        bar = figure.colorbar(mesh, cax=box(figure, LEFT + MAP_WIDTH + 0.1, base, 0.13, tall))
         bar.set_label(f"lower head, {plan.unit}")
-        thumbnail(figure, plan, width, scales[1], left + MAP_WIDTH + 1.1, base + tall - thumb_tall, thumb_tall)
+        thumbnail(figure, plan, width, scales[1], (LEFT, 0.15, thumb_tall))
 
 
 def thumbnail(
-    figure: Figure, plan: Plan, width: np.ndarray, norm: Normalize, left: float, bottom: float, tall: float
+    figure: Figure, plan: Plan, width: np.ndarray, norm: Normalize, place: tuple[float, float, float]
 ) -> None:
-    """A small map of widths: white where the head is known, so that the width is 0. Its scale is told below it."""
-    axes = box(figure, left, bottom, THUMB_WIDTH, tall)
+    """A small map of widths: white where the head is known, so that the width is 0. Its scale is told beside it.
+    `place`: left, bottom and height in inches."""
+    axes = box(figure, place[0], place[1], THUMB_WIDTH, place[2])
     axes.set(xticks=[], yticks=[])
-    axes.set_title("upper less lower", fontsize=8)
     draw(axes, plan, np.where(width > 0, width, np.nan), WIDTH_MAP, norm)
     if (width == 0).any():
         draw(axes, plan, np.where(width == 0, 0.0, np.nan), ListedColormap([KNOWN]), Normalize(0, 1))
-    words = ["darker: wider,", f"up to {norm.vmax:.2g} {plan.unit}"] + (
-        ["white: known head"] if (width == 0).any() else []
-    )
-    axes.text(0, -0.03, "\n".join(words), transform=axes.transAxes, va="top", fontsize=7.5)
+    words = ["upper less lower head", f"darker: wider, up to {norm.vmax:.2g} {plan.unit}"]
+    words += ["white: known head"] if (width == 0).any() else []
+    axes.text(1.06, 1, "\n".join(words), transform=axes.transAxes, va="top", fontsize=9)
 
 
 def small_maps(
     album: Album, name: str, plan: Plan, panels: list[tuple[str, np.ndarray]], label: str, cmap: str, norm: Normalize
 ) -> None:
-    """Many layers or steps in one figure and one scale."""
-    across = min(len(panels), 5 if plan.ratio < 1.4 else 8)
-    down = math.ceil(len(panels) / across)
-    wide = min(3.0, (8.4 - 0.12 * (across - 1)) / across)
+    """Many layers or steps in one figure and one scale, all in one pair of axes, whose unit is an inch."""
+    across = min(len(panels), 4 if plan.ratio < 1.4 else 6)
+    wide = min(2.4, (WIDTH - 1.05 - 0.1 * (across - 1)) / across)
     tall = wide * plan.ratio
-    total = across * wide + 0.12 * (across - 1)
-    with album.figure(name, total + 1.0, down * (tall + 0.27) + 0.15) as figure:
-        height = figure.get_size_inches()[1]
+    room = max(math.ceil(len(panels) / across) * (tall + 0.27), 1.0)
+    with album.figure(name, WIDTH, room + 0.2) as figure:
+        axes = box(figure, 0, 0, WIDTH, room + 0.2)
+        axes.set(xlim=(0, WIDTH), ylim=(0, room + 0.2))
+        axes.set_axis_off()
         mesh = None
         for n, (title, values) in enumerate(panels):
             i, j = divmod(n, across)
-            axes = box(figure, 0.05 + j * (wide + 0.12), height - (i + 1) * (tall + 0.27), wide, tall)
-            mesh = draw(axes, plan, values, cmap, norm)
-            axes.set(xticks=[], yticks=[])
-            axes.set_title(title, fontsize=8, pad=2)
-        bar = figure.colorbar(mesh, cax=box(figure, total + 0.2, height - tall - 0.27, 0.12, tall))
-        bar.set_label(label, fontsize=8)
-        bar.ax.tick_params(labelsize=7)
+            left, bottom = 0.05 + j * (wide + 0.1), room + 0.2 - (i + 1) * (tall + 0.27)
+            x, y = left + plan.x / plan.x[-1] * wide, bottom + plan.y / plan.y[0] * tall
+            axes.add_patch(Rectangle((left, bottom), wide, tall, facecolor=NO_FLOW, edgecolor="k", linewidth=0.6))
+            mesh = axes.pcolormesh(x, y, np.ma.masked_invalid(values), cmap=cmap, norm=norm, rasterized=True)
+            axes.text(left, bottom + tall + 0.04, title, fontsize=9)
+        long = min(room - 0.27, 3.0)
+        place = across * (wide + 0.1) + 0.1, room + 0.2 - long - 0.27
+        bar = figure.colorbar(mesh, cax=box(figure, *place, 0.12, long))
+        bar.set_label(label, fontsize=9)
+        bar.ax.tick_params(labelsize=8)
+
+
+def change_scale(most: float) -> Normalize:
+    """The scale of changes from -most to most, whose middle is white."""
+    return TwoSlopeNorm(0.0, -most, most)
 
 
 def one_map(
-    album: Album, name: str, plan: Plan, values: np.ndarray, layer: int, title: str, label: str, is_change: bool
+    album: Album,
+    name: str,
+    plan: Plan,
+    values: np.ndarray,
+    layer: int,
+    title: str,
+    label: str,
+    colours: str,
+    most: float | None = None,
 ) -> None:
-    """A map of how far given heads are off, or of a change, which is white where it is 0."""
+    """A map of how far given heads are off, or of a change, whose colours are white where it is 0. `most`: the end of
+    the scale of changes, the greatest one where left out."""
     tall = MAP_WIDTH * plan.ratio
-    with album.figure(name, MAP_WIDTH + 1.8, tall + 1.45) as figure:
-        axes = box(figure, 0.75, 1.05, MAP_WIDTH, tall)
-        if is_change:
-            most = float(np.nanmax(np.abs(values))) or 1.0
-            mesh = draw(axes, plan, values, CHANGE_MAP, TwoSlopeNorm(0.0, -most, most))
-            contours(axes, plan, values, head_scale(values))
+    with album.figure(name, WIDTH, tall + 1.3) as figure:
+        axes = box(figure, LEFT, 0.9, MAP_WIDTH, tall)
+        if colours == ERROR_MAP:
+            mesh = draw(axes, plan, np.where(values > 0, values, np.nan), colours, width_scale(values, 1e-9))
         else:
-            mesh = draw(axes, plan, np.where(values > 0, values, np.nan), ERROR_MAP, width_scale(values, 1e-9))
+            mesh = draw(axes, plan, values, colours, change_scale(most or float(np.nanmax(np.abs(values))) or 1.0))
+            contours(axes, plan, values, head_scale(values))
         handles = marks(axes, plan, layer, MAP_WIDTH) + ([patch(NO_FLOW, "none")] if np.isnan(values).any() else [])
         axes.set(xlabel=plan.axis, ylabel=plan.axis, title=title)
-        legend_below(axes, handles, 0.5, 6)
-        figure.colorbar(mesh, cax=box(figure, 0.75 + MAP_WIDTH + 0.12, 1.05, 0.13, tall)).set_label(label)
+        legend_below(axes, handles, 0.5, 4)
+        figure.colorbar(mesh, cax=box(figure, LEFT + MAP_WIDTH + 0.1, 0.9, 0.13, tall)).set_label(label)

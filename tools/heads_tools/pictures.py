@@ -17,6 +17,7 @@ from matplotlib.patches import Patch
 Cell = tuple[int, int, int]
 
 STYLE = Path(__file__).with_name("heads.mplstyle")
+WIDTH = 6.2
 NO_FLOW = "0.86"
 KNOWN = "white"
 MARKS = {

@@ -5,6 +5,7 @@ import os
 import re
 import tempfile
 from contextlib import contextmanager
+from decimal import Decimal
 from pathlib import Path
 from typing import IO, Iterator
 
@@ -101,6 +102,11 @@ def signed_down(value: float) -> str:
 def signed_up(value: float) -> str:
     """A number with three digits, rounded up."""
     return short_up(value) if value >= 0 else "-" + short_down(-value)
+
+
+def without_exponent(text: str) -> str:
+    """A number's text with all its zeros: 0.00000586 for 5.86e-06."""
+    return f"{Decimal(text):f}"
 
 
 def _short(value: float, side: int) -> str:

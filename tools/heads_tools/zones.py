@@ -9,14 +9,15 @@ from matplotlib.axes import Axes
 from matplotlib.colors import ListedColormap, Normalize
 
 from .listing import Step
-from .maps import HALO, MAP_WIDTH, draw, marks
+from .maps import HALO, LEFT, draw, marks
 from .packages import Reader
-from .pictures import NO_FLOW, Album, Plan, box, legend_below, patch
+from .pictures import NO_FLOW, WIDTH, Album, Plan, box, legend_below, patch
 from .sources import Source
 from .text import Problem
 
 COLOURS = ["#c6dbef", "#fdd0a2", "#c7e9c0", "#dadaeb", "#fcbba1", "#fff3b0", "#d0d1e6", "#e5d8bd"]
 MOST_ARROWS = 30
+PLATE = {"boxstyle": "round,pad=0.2", "fc": "white", "ec": "none", "alpha": 0.8}
 
 
 def read_zones(path: Path, nam: Path, shape: tuple[int, int, int]) -> np.ndarray:
@@ -64,22 +65,23 @@ class ZoneMap:
 def zone_map(album: Album, name: str, plan: Plan, it: ZoneMap) -> None:
     """The zones of a layer with the net flow into each, and arrows the way that water flows between two zones."""
     numbers = [z for z in np.unique(it.zones[it.active]).tolist() if z]
-    tall = MAP_WIDTH * plan.ratio
-    with album.figure(name, MAP_WIDTH + 1.1, tall + 1.5) as figure:
-        axes = box(figure, 0.75, 1.1, MAP_WIDTH, tall)
+    wide = WIDTH - LEFT - 0.25
+    tall = wide * plan.ratio
+    with album.figure(name, WIDTH, tall + 1.5) as figure:
+        axes = box(figure, LEFT, 1.1, wide, tall)
         colours = ListedColormap([COLOURS[n % len(COLOURS)] for n in range(max(1, len(numbers)))])
         places = np.searchsorted(numbers, it.zones).astype(float)
         places[~(it.active & (it.zones > 0))] = np.nan
         draw(axes, plan, places, colours, Normalize(-0.5, len(numbers) - 0.5))
-        handles = marks(axes, plan, it.layer, MAP_WIDTH)
+        handles = marks(axes, plan, it.layer, wide)
         write_flows(axes, {z: middle(plan, (it.zones == z) & it.active) for z in numbers}, it)
         if np.isnan(places).any():
             handles.append(patch(NO_FLOW, "no zone, or no flow"))
         axes.set(xlabel=plan.axis, ylabel=plan.axis, title=it.title)
-        legend_below(axes, handles, 0.5, 6)
+        legend_below(axes, handles, 0.5, 4)
         across, up = figure.get_size_inches()
         figure.text(
-            0.75 / across, 0.12 / up, f"flows in {it.unit}, rounded; their bounds stand in the listing", fontsize=7.5
+            LEFT / across, 0.12 / up, f"flows in {it.unit}, rounded; their bounds stand in the listing", fontsize=9
         )
 
 
@@ -89,7 +91,7 @@ def write_flows(axes: Axes, spots: dict[int, tuple[float, float]], it: ZoneMap) 
     for z, (x, y) in spots.items():
         net = sum(nets.get(z, (0, 0))) / 2 / 10**it.places
         text = f"zone {z}\nnet {net:+.4g}"
-        axes.text(x, y, text, ha="center", va="center", fontsize=8, path_effects=HALO, zorder=5)
+        axes.text(x, y, text, ha="center", va="center", fontsize=9, bbox=PLATE, zorder=5)
     pairs = [f for f in it.step.zones if f[0] in spots and f[1] in spots and not f[2] <= 0 <= f[3]]
     for a, b, low, high in sorted(pairs, key=lambda f: -abs(f[2] + f[3]))[:MOST_ARROWS]:
         tail, head = (a, b) if low > 0 else (b, a)
@@ -107,7 +109,7 @@ def arrow(axes: Axes, tail: tuple[float, float], head: tuple[float, float], flow
         (0, 7),
         textcoords="offset points",
         ha="center",
-        fontsize=7.5,
+        fontsize=9,
         path_effects=HALO,
         zorder=6,
     )
