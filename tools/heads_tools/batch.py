@@ -11,6 +11,7 @@ import tempfile
 from concurrent.futures import ThreadPoolExecutor
 from dataclasses import dataclass
 from pathlib import Path
+from typing import Iterable
 
 from .explain import explain
 from .listing import read_listing
@@ -18,6 +19,8 @@ from .program import digits_of, direct_program, end_of, has_steps, program, run,
 from .text import Problem, counted, decimal_text, read_text, whole_file, words
 
 MOST_JOBS = 1000
+# What `heads batch` holds: of each cell's model, and of its line in the text of each step (measured).
+MODEL_BYTES, TEXT_BYTES = 160, 40
 
 
 @dataclass
@@ -64,7 +67,7 @@ def batch(path: Path, options: list[str], way: str, at_once: int, is_written_onl
         run_slurm(path, jobs, options, at_once, is_written_only)
     elif way == "parallel":
         run_parallel(path, jobs, options, at_once, is_written_only)
-    elif not run_by_program(jobs, options, at_once or os.cpu_count() or 1):
+    elif not (fits_memory(jobs) and run_by_program(jobs, options, at_once or os.cpu_count() or 1)):
         with ThreadPoolExecutor(at_once or os.cpu_count() or 1) as pool:
             for done, job in enumerate(
                 pool.map(lambda job: run(job.nam, options, job.listing, is_told=False) and job, jobs), 1
@@ -121,6 +124,27 @@ def collect(jobs: list[Job], before: list[list[tuple[int, int] | None]], options
     return first
 
 
+def memory() -> int:
+    """The machine's memory in bytes."""
+    return os.sysconf("SC_PAGE_SIZE") * os.sysconf("SC_PHYS_PAGES")
+
+
+def fits_memory(jobs: list[Job]) -> bool:
+    """Whether all models and all texts that `heads batch` holds at once take at most half of the memory, in each
+    folder. A model whose grid can't be read has no text."""
+    from .commands import size_of
+
+    held: dict[Path, int] = {}
+    for job in jobs:
+        steps, cells = size_of(job.nam)
+        held[job.nam.parent] = held.get(job.nam.parent, 0) + cells * (MODEL_BYTES + TEXT_BYTES * (steps or 0))
+    most = max(held.values())
+    if most * 2 > memory():
+        said = f"`heads batch` would hold {most / 1e9:.2g} GB, more than half of the memory"
+        print(f"{said}: each model has a run of its own", file=sys.stderr)
+    return most * 2 <= memory()
+
+
 def run_by_program(jobs: list[Job], options: list[str], at_once: int) -> bool:
     """Runs `heads batch` once in each folder, since names are looked up from where the program runs; False where the
     program doesn't have the command."""
@@ -130,37 +154,49 @@ def run_by_program(jobs: list[Job], options: list[str], at_once: int) -> bool:
             names.write("".join(f"{j.nam.name}\n" for j in here))
             names.flush()
             workers = [] if "--workers" in options else ["--workers", str(min(at_once, 64))]
-            done = subprocess.run(
-                [program(), "batch", Path(names.name).name, *options, *workers], cwd=folder, capture_output=True
-            )
-        text = done.stdout.decode("latin-1")
-        if text.startswith("USAGE:"):
-            return False
-        split_batch(text, here)
+            words = [str(program()), "batch", Path(names.name).name, *options, *workers]
+            with tempfile.TemporaryFile("w+", dir=folder, encoding="latin-1") as text:
+                subprocess.run(words, cwd=folder, stdout=text, stderr=subprocess.DEVNULL)
+                text.seek(0)
+                if text.read(6) == "USAGE:":
+                    return False
+                text.seek(0)
+                split_batch(text, here)
     return True
 
 
-def split_batch(text: str, jobs: list[Job]) -> None:
-    """Writes each model's own text out of a batch's."""
-    parts: list[list[str]] = []
-    lines = text.rstrip("\n").split("\n")
-    if lines and lines[-1] == "END":
-        lines.pop()
-    names = iter([j.nam.name for j in jobs])
-    due = next(names, None)
-    for line in lines:
-        if due is not None and line == f"MODEL {due}":
-            parts.append([])
-            due = next(names, None)
-        elif parts:
-            parts[-1].append(line)
-    if len(parts) < len(jobs):
-        raise Problem(f"the batch ended with: {lines[-1][:100] if lines else ''}")
-    for job, part in zip(jobs, parts):
-        new = job.listing.with_name(f".{job.listing.name}.new")
-        with whole_file(new) as file:
-            file.write("".join(line + "\n" for line in part))
-        settle_output(new, job.listing)
+def split_batch(lines: Iterable[str], jobs: list[Job]) -> None:
+    """Writes each model's own text out of a batch's lines, of which one at a time is held. The last line END is the
+    batch's own."""
+    at, last, out = 0, "", None
+    try:
+        for line in lines:
+            if at < len(jobs) and line == f"MODEL {jobs[at].nam.name}\n":
+                if out:
+                    out.write(last)
+                    out.close()
+                out, last, at = new_text(jobs[at]).open("w", encoding="latin-1"), "", at + 1
+                continue
+            if out:
+                out.write(last)
+            last = line
+        if out:
+            out.write("" if last == "END\n" else last)
+            out.close()
+        if at < len(jobs):
+            raise Problem(f"the batch ended with: {last.strip()[:100]}")
+        for job in jobs:
+            settle_output(new_text(job), job.listing)
+    finally:
+        if out:
+            out.close()
+        for job in jobs:
+            new_text(job).unlink(missing_ok=True)
+
+
+def new_text(job: Job) -> Path:
+    """The file of a model's text until the batch's whole text was parted."""
+    return job.listing.with_name(f".{job.listing.name}.new")
 
 
 SHELL_JOB = """cd "$(dirname "$NAM")" || exit 6

@@ -109,6 +109,26 @@ def test_batch_collects_the_ends(example, tool, tmp_path):
 
 
 @pytest.mark.program
+@pytest.mark.parametrize("held, has_batch", [(3 * (160 + 40) + 600 * (160 + 40), True), (60300, False)])
+def test_a_batch_that_would_take_half_the_memory_is_run_model_by_model(
+    held, has_batch, example, tool, tmp_path, monkeypatch
+):
+    """The larger of the two folders has a model of 600 cells and one step, the other one of 3 cells."""
+    import heads_tools.batch
+
+    called = []
+    by_program = heads_tools.batch.run_by_program
+    monkeypatch.setattr(heads_tools.batch, "memory", lambda: 2 * held)
+    monkeypatch.setattr(heads_tools.batch, "run_by_program", lambda *words: called.append(1) or by_program(*words))
+    for name in ("three_cells", "river_valley"):
+        example(name)
+    (tmp_path / "list.txt").write_text("three_cells/a.nam\nriver_valley/m.nam\n")
+    status, out, err = tool("batch", tmp_path / "list.txt")
+    assert status == 0 and out.count(": END, 1 step") == 2 and bool(called) == has_batch
+    assert ("would hold 0.00012 GB" in err) == (not has_batch)
+
+
+@pytest.mark.program
 def test_a_listing_from_before_is_not_taken_for_a_run(ran, tool, tmp_path, monkeypatch):
     nam, listing = ran("three_cells")
     sbatch = tmp_path / "bin" / "sbatch"
@@ -130,7 +150,7 @@ def test_a_batch_of_the_program_is_parted_by_model(tmp_path):
         (
             "MODEL a.nam\nHEADS 2 DIGITS 12 UNIT 2\nEND\nMODEL b.nam\nREFUSED 1 MissingFile x 0\nMODEL c.nam\nHEADS 2"
             " DIGITS 12 UNIT 2\nEND\nEND\n"
-        ),
+        ).splitlines(keepends=True),
         jobs,
     )
     assert [j.listing.read_text() for j in jobs] == [
