@@ -1,5 +1,6 @@
 """Pages of a listing: what they show, the flows into zones, and the difference of two listings."""
 import re
+import struct
 
 import numpy as np
 import pytest
@@ -41,6 +42,45 @@ def test_layers_are_in_one_figure_and_folded_one_by_one(example, tool, tmp_path)
     assert "layers_p1_s1.png" in text and text.count("<details><summary>Layer") == 2
     for picture in re.findall(r'src="([^"]+)"', text):
         assert (tmp_path / "look" / picture).with_suffix(".svg").is_file()
+
+
+def widths_of(folder):
+    """The width in pixels of each PNG, from its header."""
+    return {struct.unpack(">I", p.read_bytes()[16:20])[0] for p in folder.glob("*.png")}
+
+
+@pytest.mark.program
+def test_all_pictures_are_as_wide_as_can_be_read_on_a_phone(example, tool, tmp_path):
+    """6.2 inches of 10-point letters: some 8 pixels high where a picture is 360 pixels wide."""
+    for name, options in (("three_aquifers", ()), ("river_valley", ("--zones", "m.zon")), ("tide", ())):
+        nam = example(name)
+        more = ("--zones", nam.parent / "m.zon") if options else ()
+        page(tool, tmp_path, listed(nam, *options), tmp_path / "look", "--name", nam, *more)
+        assert widths_of(tmp_path / "look") == {756}
+    nam = example("pumping_plans")
+    for plan in ("two_wells", "no_well"):
+        listed(nam.parent / f"{plan}.nam")
+    words = (nam.parent / "two_wells.heads", nam.parent / "no_well.heads", tmp_path / "fall")
+    assert tool("drawdown", *words)[0] == 0 and widths_of(tmp_path / "fall") == {756}
+
+
+@pytest.mark.program
+def test_the_discrepancy_is_written_without_an_exponent(example, tool, tmp_path):
+    nam = example("river_valley")
+    text = page(tool, tmp_path, listed(nam), tmp_path / "look", "--name", nam)
+    assert re.search(r"lies from -0\.0+\d+ to 0\.0+\d+:", text)
+
+
+def test_labels_of_contours_keep_apart():
+    from matplotlib.figure import Figure
+
+    from heads_tools.maps import apart
+
+    axes = Figure(figsize=(4, 4)).add_axes((0, 0, 1, 1))
+    axes.set(xlim=(0, 4), ylim=(0, 4))
+    labels = [axes.text(x, 1, "1.25") for x in (1, 1.1, 1.29, 1.31, 3)]
+    apart(axes, labels)
+    assert [label.get_visible() for label in labels] == [True, False, False, True, True]
 
 
 @pytest.mark.program
