@@ -270,10 +270,10 @@ def do_observe(args: argparse.Namespace, _: list[str]) -> int:
     listing, model = read_listing(existing(args.listing)), read_model(existing(args.name))
     points, place = existing(args.points), place_of(args.at)
     lines, lacking = observe(fitting(listing, model), model, points, place, args.out, args.between)
-    for sentence in lacking:
-        print(sentence, file=sys.stderr)
+    verdict = verdict_of(args, listing)
+    print("\n".join([verdict.sentence, *lacking]), file=sys.stderr)
     say(lines)
-    return 0
+    return verdict.status or 0
 
 
 def fitting(listing: Listing, model: Model) -> Listing:

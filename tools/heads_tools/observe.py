@@ -42,6 +42,8 @@ class Observer:
         """The place of the step in which a point's time lies. A time that is an end but for its last digits is that
         end."""
         assert point.time is not None
+        if point.time < 0:
+            raise Problem(f"{point.name}: time {float(point.time):g} lies before the start")
         if point.time > self.ends[-1] * (1 + NEARLY):
             raise Problem(
                 f"{point.name}: time {float(point.time):g} lies after the listing's last step, {float(self.ends[-1]):g}"
@@ -53,8 +55,8 @@ class Observer:
         low = high = Fraction(0)
         for cell, weight in point.weights.items():
             at = self.listing.at(cell)
-            bounds = int(step.low[at]) * weight, int(step.high[at]) * weight
-            low, high = low + min(bounds), high + max(bounds)
+            bounds = (int(step.low[at]), int(step.high[at]))[:: 1 if weight > 0 else -1]
+            low, high = low + bounds[0] * weight, high + bounds[1] * weight
         return low, high
 
     def at_start(self, point: Point) -> Range:

@@ -114,7 +114,7 @@ def test_a_hob_file_between_cells_and_in_several_layers(example, tool, tmp_path)
     """Any heads between the listed ones have, so interpolated, a head between lower and upper."""
     deck = nam, model, listing = run(example("three_aquifers"))
     status, rows, err = observed(tool, deck, HOB, tmp_path)
-    assert status == 0 and not err
+    assert status == 0 and "CERTIFIED" in err and "has no head" not in err
     assert [(r["name"], r["cells"]) for r in rows] == [
         ("MIDDLE", "1"), ("BETWEEN", "4"), ("MIXED", "8"), ("TWICE1", "4"), ("TWICE2", "4")
     ]
@@ -140,6 +140,7 @@ def test_a_hob_file_between_cells_and_in_several_layers(example, tool, tmp_path)
         ("8 8 1 0.0 0.0 0.0 9.5", "8 8 1 0.0 0.0", "line 4"),
         ("8 8 1 0.0 0.0 0.0 9.5", "8 8 1 0.0 0.0 x 9.5", "line 4"),
         ("8 8 1 0.0 0.0 0.0 9.5", "8 8 1 7.0 0.0 0.0 9.5", "after the listing's last step"),
+        ("8 8 1 0.0 0.0 0.0 9.5", "8 8 1 -7.0 0.0 0.0 9.5", "before the start"),
     ],
 )
 def test_what_is_wrong_with_a_hob_file_is_said(old, new, said, example, tool, tmp_path):
@@ -186,3 +187,13 @@ def test_points_of_a_map_lie_between_cells_where_asked(example, tool, tmp_path):
     assert float(rows[0]["lower"]) == pytest.approx(float(expected), abs=2e-9) and rows[0]["cells"] == "4"
     _, rows, _ = observed(tool, deck, text, tmp_path, "--at", "100,200,30")
     assert Fraction(rows[0]["lower"]) == low(8, 17) and rows[0]["cells"] == "1"
+
+
+@pytest.mark.program
+def test_a_listing_that_was_changed_is_not_passed_over(example, tool, tmp_path):
+    """One lower head is raised by 0.001: the table is there, the status and a sentence say that it isn't certified."""
+    deck = nam, model, listing = run(example("river_valley"))
+    text = listing.path.read_text()
+    listing.path.write_text(text.replace("HEAD 1 8 17 7.138", "HEAD 1 8 17 7.139", 1))
+    status, rows, err = observed(tool, deck, "name,row,col\nwell,8,17\n", tmp_path)
+    assert status == 8 and "NOT CERTIFIED" in err and rows[0]["lower"] == "7.139119734"
