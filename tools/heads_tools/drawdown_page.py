@@ -115,15 +115,15 @@ def draw_plans(plans: list[Plan], base: str, folder: Path, cells: list[Cell]) ->
     for plan in drawn:
         last, listing = plan.it.changes[-1], plan.it.plan
         for n in dict.fromkeys([plan.it.deepest(last), *(listing.at(c) for c in cells)]):
-            bounds = decimal_text(-int(last.high[n]), 9), decimal_text(-int(last.low[n]), 9)
-            rows.append([plan.name, " ".join(map(str, listing.cells[n].tolist())), *bounds])
+            bounds = f"{decimal_text(-int(last.high[n]), 9)} to {decimal_text(-int(last.low[n]), 9)}"
+            rows.append([plan.name, " ".join(map(str, listing.cells[n].tolist())), bounds])
         for name, (low, high) in last.nets.items():
             if low or high:
-                terms.append([plan.name, name, down(low, last.places), up(high, last.places)])
+                terms.append([plan.name, name, f"{down(low, last.places)} to {up(high, last.places)}"])
     page.text("Drawdown", f"At the end of the last step, in {unit}; first the cell where it is deepest.")
-    page.table("Drawdown", ["plan", "layer row column", "from", "to"], rows)
+    page.table("Drawdown", ["plan", "layer row column", "drawdown, lower to upper"], rows)
     page.text("Budget", f"Change of the net flow into the cells at the end of the last step, in {rate}.")
-    page.table("Budget", ["plan", "term", "from", "to"], terms)
+    page.table("Budget", ["plan", "term", "change, lower to upper"], terms)
     draw_small_maps(drawn, Album(folder), page)
     write_page(page, folder)
 

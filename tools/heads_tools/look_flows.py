@@ -13,6 +13,11 @@ from .text import Problem, down, signed_down, signed_up, up, without_exponent
 from .zones import ZoneMap, net_flows, zone_map
 
 
+def span(low: int, high: int, places: int) -> str:
+    """Both bounds in one cell of a table, where a narrow window breaks the line."""
+    return f"{down(low, places)} to {up(high, places)}"
+
+
 class Flows(OverTime):
     """The budget of the last step, its terms over time, and the flows between zones."""
 
@@ -30,23 +35,23 @@ class Flows(OverTime):
                 f"Terms of {self.when(step)}: solid up to the lower flow, pale up to the upper one",
             )
         rows = [
-            [r[0], down(r[1], places), up(r[2], places), down(r[3], places), up(r[4], places)]
+            [r[0], span(r[1], r[2], places), span(r[3], r[4], places)]
             for r in budget.rows
             if any(r[1:]) or r[0] == "TOTAL"
         ]
         self.page.text(
             BUDGET, f"Rates in {self.rate}, {self.when(step)}; lower numbers are rounded down, upper ones up."
         )
-        self.page.table(BUDGET, ["term", "in, lower", "upper", "out, lower", "upper"], rows)
+        self.page.table(BUDGET, ["term", "in, lower to upper", "out, lower to upper"], rows)
         nets = [
-            [n[0], down(n[1], places), up(n[2], places), down(n[3], places), up(n[4], places)]
+            [n[0], span(n[1], n[2], places), span(n[3], n[4], places)]
             for n in budget.nets
             if any(n[1:])
         ]
         if nets:
             self.page.table(
                 BUDGET,
-                ["term", "net, lower", "upper", "narrowed, lower", "upper"],
+                ["term", "net, lower to upper", "narrowed, lower to upper"],
                 nets,
                 "Net flows (in less out), and narrowed: exact net flows sum to 0 (net_terms_lie_in_the_others)",
             )
