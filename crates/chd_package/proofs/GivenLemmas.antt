@@ -28,5 +28,5 @@ given_sound cells cell x good h inside = let p = heads x good h in record { cell
 given_list : (cells : ℕ) (xs : List Given) → IsList given_heads (IsGivenValid cells) xs → IsGivenList cells xs
 given_list cells xs h = record { few = h.few; entries = h.entries; once = λ i j d lt within same. h.once refl i j d lt within (ap (λ cell. cell.0) same) }
 
-pub given_lists : (cells : ℕ) (ps : List Period) → All (λ p. IsList given_heads (IsGivenValid cells) p.given) ps → All (λ p. IsGivenList cells p.given) ps
-given_lists cells ps h = All-weaker (λ p. IsList given_heads (IsGivenValid cells) p.given) (λ p. IsGivenList cells p.given) (λ p. given_list cells p.given) ps h
+pub given_lists : (cells : ℕ) (ps : List Period) → All (λ p. IsList given_heads (IsGivenValid cells) p.stresses.given) ps → All (λ p. IsGivenList cells p.stresses.given) ps
+given_lists cells ps h = All-weaker (λ p. IsList given_heads (IsGivenValid cells) p.stresses.given) (λ p. IsGivenList cells p.stresses.given) (λ p. given_list cells p.stresses.given) ps h

@@ -51,6 +51,6 @@ given_heads =
       place = λ x. x.cell.0;
       once = true;
       suits = suits_heads;
-      list = λ period. period.given;
-      put = λ period list. record period { given = list };
+      list = λ period. period.stresses.given;
+      put = λ period list. record period { stresses = record period.stresses { given = list } };
     }

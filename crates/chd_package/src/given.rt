@@ -6,7 +6,7 @@ ghost use Rattle.chd_package.specs.GivenHeads.{given_heads, is_level, is_growing
 
 use crate::heads::{Heads, heads_fault, heads_of};
 use list_package::Columns;
-use model_types::{CellId, Given, Period, Shared};
+use model_types::{CellId, Given, Period, Shared, Stresses};
 use number_limits::is_one;
 use outside::{Code, TextFault};
 use record_lines::Words;
@@ -15,10 +15,11 @@ use std::alloc::Global;
 fn with_heads(period: Period, list: Shared<Given>) -> Period
     ensures { result ≡ given_heads.put period list }
 {
-    Period {
+    let stresses = Stresses {
         given: list,
-        ..period
-    }
+        ..period.stresses
+    };
+    Period { stresses, ..period }
 }
 
 fn is_level(entry: &Given) -> bool

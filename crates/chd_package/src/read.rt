@@ -31,7 +31,7 @@ pub fn read_chd(
 ) -> Result<FlowModel, TextFault>
     requires size { HasSize model.grid }
     ensures model { HasText (λ m. m) result (package_of given_heads file.now bytes.now model) }
-    ensures lists { IfOk result (λ m. All (λ p. IsGivenList (cell_count model.grid) p.given) m.periods) }
+    ensures lists { IfOk result (λ m. All (λ p. IsGivenList (cell_count model.grid) p.stresses.given) m.periods) }
     ensures others { IfOk result (SameBut given_heads model) }
     ensures valid { IsModel model → IfOk result IsModel }
 {

@@ -12,7 +12,7 @@ ghost use Rattle.evt_package.specs.Forms.{AreArrays, AreLast, without};
 
 use crate::arrays::{Arrays, Last, arrays_at};
 use crate::columns::columns_tested;
-use model_types::{Grid, Period};
+use model_types::{Grid, Period, Stresses};
 use outside::{Folder, InputFault, TextFault};
 use record_lines::Lines;
 use std::alloc::Global;
@@ -20,13 +20,14 @@ use std::alloc::Global;
 fn with_arrays(period: Period, arrays: Arrays) -> Period
     ensures { result ≡ with_arrays period arrays }
 {
-    Period {
+    let stresses = Stresses {
         surf: arrays.surf,
         evtr: arrays.evtr,
         exdp: arrays.exdp,
         ievt: arrays.ievt,
-        ..period
-    }
+        ..period.stresses
+    };
+    Period { stresses, ..period }
 }
 
 /// A period whose columns are tested.
@@ -40,8 +41,8 @@ fn tested_period(
     period: Period,
 ) -> Result<Period, TextFault>
     requires size { HasSize grid.now }
-    requires surfaces { IsReals grid.now period.surf }
-    requires depths { IsReals grid.now period.exdp }
+    requires surfaces { IsReals grid.now period.stresses.surf }
+    requires depths { IsReals grid.now period.stresses.exdp }
     ensures period { HasText (λ p. p) result (tested_period file.now grid.now ibound.now option.now period) }
     ensures same { IfOk result (λ p. p ≡ period) }
     ensures passed { IfOk result (λ p. columns_tested file.now grid.now ibound.now option.now p ≡ Ok tt) }

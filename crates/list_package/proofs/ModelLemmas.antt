@@ -6,12 +6,13 @@ use Rattle.std.proofs.lemmas.List.Sums.{sum-map}
 use Rattle.decimal_input.specs.declared.dec.Dec.{Dec}
 use Rattle.model_types.specs.declared.model.FlowModel.{FlowModel}
 use Rattle.model_types.specs.declared.period.Period.{Period}
+use Rattle.model_types.specs.declared.period.Stresses.{Stresses}
 use Rattle.model_types.specs.Cells.{cell_count, layer_size, place_in_layer}
 use Rattle.model_types.specs.Layers.{dec_at, is_active, has_bed}
 use Rattle.model_types.specs.Receivers.{EvapSource, is_chosen}
 use Rattle.model_types.specs.Sources.{evap_sources}
 use Rattle.model_types.specs.Times.{no_period, period_at}
-use Rattle.model_types.specs.Valid.{IsModel, IsPeriod, IsTimed, IsGrowing, IsCellValid, IsBedChecked, IsEvapValid, number_one}
+use Rattle.model_types.specs.Valid.{AreStresses, IsModel, IsPeriod, IsTimed, IsGrowing, IsCellValid, IsBedChecked, IsEvapValid, number_one}
 
 pub same_count : {A : Type 0} (f : Period → A) (ps qs : List Period) → map f ps ≡ map f qs → length ps ≡ length qs
 same_count f [] [] e = refl
@@ -48,25 +49,23 @@ same_sum f g ps qs e = sym (sum-map (λ p. g (f p)) ps) ∙ ap sum (same_view f 
 pub each_period : {A : Type 0} (f : Period → A) (P Q G : Period → Type 0) → ((p q : Period) → f p ≡ f q → Q q → G p → P p) → (ps qs : List Period) → map f ps ≡ map f qs → All Q qs → All G ps → All P ps
 each_period f P Q G step ps qs e h g = λ k d lt. step (get_or ps k d) (get_or qs k d) (same_at f ps qs k d e) (h k d (subst (λ n. k < n) (same_count f ps qs e) lt)) (g k d lt)
 
-pub timed : (p q : Period) → p.perlen ≡ q.perlen → p.nstp ≡ q.nstp → p.tsmult ≡ q.tsmult → p.steady ≡ q.steady → IsTimed q → IsTimed p
-timed p q a b c d t = record {
-  nstp = rw b t.nstp;
-  perlen = rw a t.perlen;
-  lasts = λ s. rw a (t.lasts (sym d ∙ s));
-  tsmult = rw c t.tsmult;
-  growth = λ s. grow (t.growth (sym d ∙ s));
-}
+-- other stresses leave a period's times
+timed : (p : Period) (s : Stresses) → IsTimed p → IsTimed (record p { stresses = s })
+timed p s t = record { nstp = t.nstp; perlen = t.perlen; lasts = t.lasts; tsmult = t.tsmult; growth = λ transient. grow (t.growth transient) }
   where
-    grow : (q.tsmult ≡ number_one) ⊎ IsGrowing q → (p.tsmult ≡ number_one) ⊎ IsGrowing p
-    grow (inl e) = inl (c ∙ e)
-    grow (inr g) = inr (record { few = rw b g.few; least = rw c g.least; most = rw c g.most })
+    grow : (p.tsmult ≡ number_one) ⊎ IsGrowing p → (p.tsmult ≡ number_one) ⊎ IsGrowing (record p { stresses = s })
+    grow (inl e) = inl e
+    grow (inr g) = inr (record { few = g.few; least = g.least; most = g.most })
+
+pub with_stresses : (m n : FlowModel) (p q : Period) (s : Stresses) → p ≡ record q { stresses = s } → IsPeriod m q → AreStresses n.grid n.nrchop n.nevtop s → IsPeriod n p
+with_stresses m n p q s is h are = subst (IsPeriod n) (sym is) (record { times = timed q s h.times; stresses = are })
 
 -- the numbers and kinds of steps, and the arrays of evapotranspiration
 abbrev pub steps : Period → ℕ × Bool
 steps p = (p.nstp, p.steady)
 
 abbrev pub evap_arrays : Period → (List ℤ × List Dec) × (List Dec × List Dec)
-evap_arrays p = ((p.ievt, p.evtr), (p.surf, p.exdp))
+evap_arrays p = ((p.stresses.ievt, p.stresses.evtr), (p.stresses.surf, p.stresses.exdp))
 
 abbrev pub sources_by : FlowModel → ℕ → (List ℤ × List Dec) × (List Dec × List Dec) → List EvapSource
 sources_by m c x = option_to_list (cond (is_chosen m m.nevtop x.0.0 c && not ((dec_at x.0.1 (place_in_layer m.grid c)).digits == 0)) (Some (record { rate = dec_at x.0.1 (place_in_layer m.grid c); surface = dec_at x.1.0 (place_in_layer m.grid c); depth = dec_at x.1.1 (place_in_layer m.grid c) })) None)
@@ -112,4 +111,4 @@ pub with_lists : (m : FlowModel) (ps : List Period) → IsModel m → map steps 
 with_lists m ps h same arrays periods = replaced m m.nrchop m.nevtop ps h same h.nrchop h.nevtop (All-weaker (IsPeriod m) (IsPeriod (record m { periods = ps })) again ps periods) (same_evaps m m.nrchop ps h arrays)
   where
     again : (p : Period) → IsPeriod m p → IsPeriod (record m { periods = ps }) p
-    again p v = record { times = v.times; wells = v.wells; rivers = v.rivers; drains = v.drains; generals = v.generals; given = v.given; recharge = λ f. (let a = v.recharge f in record { whole = a.whole; decimals = a.decimals }); irch = v.irch; surf = λ f. (let a = v.surf f in record { whole = a.whole; decimals = a.decimals }); evtr = λ f. (let a = v.evtr f in record { whole = a.whole; decimals = a.decimals }); exdp = λ f. (let a = v.exdp f in record { whole = a.whole; decimals = a.decimals }); ievt = v.ievt }
+    again p v = record { times = v.times; stresses = v.stresses }

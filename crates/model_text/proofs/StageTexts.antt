@@ -93,7 +93,7 @@ option_is_some (negsuc n) h = absurd (cc)
 
 -- RCH: the next stage has the recharge.
 abbrev pub with_recharge : (Period → Period) → Period → Period
-with_recharge stage p = record (stage p) { recharge = p.recharge; irch = p.irch }
+with_recharge stage p = record (stage p) { stresses = record (stage p).stresses { recharge = p.stresses.recharge; irch = p.stresses.irch } }
 
 module _ (m : FlowModel) (size : HasSize m.grid) (files : List File) (name : List ℕ) (stage : Period → Period) where
   recharge_put : (ps : List Period) → recharged (map stage ps) ps ≡ map (with_recharge stage) ps
@@ -118,7 +118,7 @@ module _ (m : FlowModel) (size : HasSize m.grid) (files : List File) (name : Lis
 
 -- EVT: the next stage has the evapotranspiration.
 abbrev pub with_evaporation : (Period → Period) → Period → Period
-with_evaporation stage p = record (stage p) { surf = p.surf; evtr = p.evtr; exdp = p.exdp; ievt = p.ievt }
+with_evaporation stage p = record (stage p) { stresses = record (stage p).stresses { surf = p.stresses.surf; evtr = p.stresses.evtr; exdp = p.stresses.exdp; ievt = p.stresses.ievt } }
 
 module _ (m : FlowModel) (size : HasSize m.grid) (files : List File) (name : List ℕ) (stage : Period → Period) where
   evaporation_put : (ps : List Period) → evaporated (map stage ps) ps ≡ map (with_evaporation stage) ps

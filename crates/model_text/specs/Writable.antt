@@ -19,14 +19,14 @@ HasLists kind AreNumbers m = All (λ p. IsListOf kind AreNumbers (cell_count m.g
 
 -- a period without recharge, and one without evapotranspiration
 pub record IsDry (p : Period) : Type 0 where
-  pub recharge : p.recharge ≡ []
-  pub irch : p.irch ≡ []
+  pub recharge : p.stresses.recharge ≡ []
+  pub irch : p.stresses.irch ≡ []
 
 pub record IsStill (p : Period) : Type 0 where
-  pub surf : p.surf ≡ []
-  pub evtr : p.evtr ≡ []
-  pub exdp : p.exdp ≡ []
-  pub ievt : p.ievt ≡ []
+  pub surf : p.stresses.surf ≡ []
+  pub evtr : p.stresses.evtr ≡ []
+  pub exdp : p.stresses.exdp ≡ []
+  pub ievt : p.stresses.ievt ≡ []
 
 -- a model without recharge, and one without evapotranspiration
 pub record HasNoRecharge (m : FlowModel) : Type 0 where

@@ -12,7 +12,7 @@ ghost use Rattle.rch_package.specs.Recharge.{arrays_at, period_at, periods_of, w
 use crate::flags::flags_of;
 use array_reader::next_line;
 use decimal_input::dec::Dec;
-use model_types::{Grid, Period, Shared};
+use model_types::{Grid, Period, Shared, Stresses};
 use outside::{Folder, InputFault};
 use period_arrays::{array_of, update_layers, update_reals};
 use record_lines::{Lines, Words};
@@ -35,11 +35,12 @@ pub struct Arrays {
 fn with_arrays(period: Period, arrays: Arrays) -> Period
     ensures { result ≡ with_arrays period arrays }
 {
-    Period {
+    let stresses = Stresses {
         recharge: arrays.recharge,
         irch: arrays.irch,
-        ..period
-    }
+        ..period.stresses
+    };
+    Period { stresses, ..period }
 }
 
 /// The arrays of the next period, which are then in force.

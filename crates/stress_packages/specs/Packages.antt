@@ -18,8 +18,8 @@ wells = record {
   place = cell_of;
   once = false;
   suits = λ period list. true;
-  list = λ period. period.wells;
-  put = λ period list. record period { wells = list };
+  list = λ period. period.stresses.wells;
+  put = λ period list. record period { stresses = record period.stresses { wells = list } };
 }
 
 abbrev pub rivers : Kind Reach Entry
@@ -30,8 +30,8 @@ rivers = record {
   place = cell_of;
   once = false;
   suits = λ period list. true;
-  list = λ period. period.rivers;
-  put = λ period list. record period { rivers = list };
+  list = λ period. period.stresses.rivers;
+  put = λ period list. record period { stresses = record period.stresses { rivers = list } };
 }
 
 abbrev pub drains : Kind DrainNumbers Entry
@@ -42,8 +42,8 @@ drains = record {
   place = cell_of;
   once = false;
   suits = λ period list. true;
-  list = λ period. period.drains;
-  put = λ period list. record period { drains = list };
+  list = λ period. period.stresses.drains;
+  put = λ period list. record period { stresses = record period.stresses { drains = list } };
 }
 
 abbrev pub generals : Kind GeneralNumbers Entry
@@ -54,6 +54,6 @@ generals = record {
   place = cell_of;
   once = false;
   suits = λ period list. true;
-  list = λ period. period.generals;
-  put = λ period list. record period { generals = list };
+  list = λ period. period.stresses.generals;
+  put = λ period list. record period { stresses = record period.stresses { generals = list } };
 }

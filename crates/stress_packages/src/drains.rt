@@ -8,7 +8,7 @@ ghost use Rattle.stress_packages.specs.Packages.{drains};
 use array_reader::number;
 use decimal_input::dec::Dec;
 use list_package::Columns;
-use model_types::{CellId, Entry, Period, Shared};
+use model_types::{CellId, Entry, Period, Shared, Stresses};
 use number_limits::is_head;
 use outside::{Code, TextFault};
 use record_lines::Words;
@@ -52,10 +52,11 @@ fn drain_fault(numbers: &DrainNumbers) -> Option<Code>
 fn with_drains(period: Period, list: Shared<Entry>) -> Period
     ensures { result ≡ drains.put period list }
 {
-    Period {
+    let stresses = Stresses {
         drains: list,
-        ..period
-    }
+        ..period.stresses
+    };
+    Period { stresses, ..period }
 }
 
 impl Columns for DrainNumbers {

@@ -8,7 +8,7 @@ ghost use Rattle.stress_packages.specs.Packages.{generals};
 use array_reader::number;
 use decimal_input::dec::Dec;
 use list_package::Columns;
-use model_types::{CellId, Entry, Period, Shared};
+use model_types::{CellId, Entry, Period, Shared, Stresses};
 use number_limits::is_head;
 use outside::{Code, TextFault};
 use record_lines::Words;
@@ -52,10 +52,11 @@ fn general_fault(numbers: &GeneralNumbers) -> Option<Code>
 fn with_generals(period: Period, list: Shared<Entry>) -> Period
     ensures { result ≡ generals.put period list }
 {
-    Period {
+    let stresses = Stresses {
         generals: list,
-        ..period
-    }
+        ..period.stresses
+    };
+    Period { stresses, ..period }
 }
 
 impl Columns for GeneralNumbers {

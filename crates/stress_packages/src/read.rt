@@ -35,7 +35,7 @@ pub fn read_wel(
 ) -> Result<FlowModel, TextFault>
     requires size { HasSize model.grid }
     ensures model { HasText (λ m. m) result (package_of wells file.now bytes.now model) }
-    ensures lists { IfOk result (λ m. All (λ p. IsEntryList (cell_count model.grid) p.wells) m.periods) }
+    ensures lists { IfOk result (λ m. All (λ p. IsEntryList (cell_count model.grid) p.stresses.wells) m.periods) }
     ensures others { IfOk result (SameBut wells model) }
     ensures valid { IsModel model → IfOk result IsModel }
 {
@@ -57,7 +57,7 @@ pub fn read_riv(
 ) -> Result<FlowModel, TextFault>
     requires size { HasSize model.grid }
     ensures model { HasText (λ m. m) result (package_of rivers file.now bytes.now model) }
-    ensures lists { IfOk result (λ m. All (λ p. IsEntryList (cell_count model.grid) p.rivers) m.periods) }
+    ensures lists { IfOk result (λ m. All (λ p. IsEntryList (cell_count model.grid) p.stresses.rivers) m.periods) }
     ensures others { IfOk result (SameBut rivers model) }
     ensures valid { IsModel model → IfOk result IsModel }
 {
@@ -79,7 +79,7 @@ pub fn read_drn(
 ) -> Result<FlowModel, TextFault>
     requires size { HasSize model.grid }
     ensures model { HasText (λ m. m) result (package_of drains file.now bytes.now model) }
-    ensures lists { IfOk result (λ m. All (λ p. IsEntryList (cell_count model.grid) p.drains) m.periods) }
+    ensures lists { IfOk result (λ m. All (λ p. IsEntryList (cell_count model.grid) p.stresses.drains) m.periods) }
     ensures others { IfOk result (SameBut drains model) }
     ensures valid { IsModel model → IfOk result IsModel }
 {
@@ -101,7 +101,7 @@ pub fn read_ghb(
 ) -> Result<FlowModel, TextFault>
     requires size { HasSize model.grid }
     ensures model { HasText (λ m. m) result (package_of generals file.now bytes.now model) }
-    ensures lists { IfOk result (λ m. All (λ p. IsEntryList (cell_count model.grid) p.generals) m.periods) }
+    ensures lists { IfOk result (λ m. All (λ p. IsEntryList (cell_count model.grid) p.stresses.generals) m.periods) }
     ensures others { IfOk result (SameBut generals model) }
     ensures valid { IsModel model → IfOk result IsModel }
 {

@@ -8,7 +8,7 @@ ghost use Rattle.stress_packages.specs.Packages.{rivers};
 use array_reader::number;
 use decimal_input::dec::Dec;
 use list_package::Columns;
-use model_types::{CellId, Entry, Period, Shared};
+use model_types::{CellId, Entry, Period, Shared, Stresses};
 use number_limits::is_head;
 use outside::{Code, TextFault};
 use record_lines::Words;
@@ -56,10 +56,11 @@ fn reach_fault(reach: &Reach) -> Option<Code>
 fn with_rivers(period: Period, list: Shared<Entry>) -> Period
     ensures { result ≡ rivers.put period list }
 {
-    Period {
+    let stresses = Stresses {
         rivers: list,
-        ..period
-    }
+        ..period.stresses
+    };
+    Period { stresses, ..period }
 }
 
 impl Columns for Reach {

@@ -8,7 +8,7 @@ ghost use Rattle.stress_packages.specs.Packages.{wells};
 use array_reader::number;
 use decimal_input::dec::Dec;
 use list_package::Columns;
-use model_types::{CellId, Entry, Period, Shared};
+use model_types::{CellId, Entry, Period, Shared, Stresses};
 use outside::{Code, TextFault};
 use record_lines::Words;
 use std::alloc::Global;
@@ -31,10 +31,11 @@ fn rate_of(alloc: Global, words: &mut Words, file: &str, line: u32) -> Result<Ra
 fn with_wells(period: Period, list: Shared<Entry>) -> Period
     ensures { result ≡ wells.put period list }
 {
-    Period {
+    let stresses = Stresses {
         wells: list,
-        ..period
-    }
+        ..period.stresses
+    };
+    Period { stresses, ..period }
 }
 
 impl Columns for Rate {
