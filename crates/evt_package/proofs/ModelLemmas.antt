@@ -20,7 +20,7 @@ use Rattle.model_types.specs.Times.{no_period, period_at}
 use Rattle.model_types.specs.Valid.{IsEvapValid, IsModel, IsPeriod}
 use Rattle.model_types.proofs.Numbering.{size_some}
 use Rattle.number_limits.proofs.Canonical.{dec_at_is}
-use Rattle.list_package.proofs.ModelLemmas.{each_period, evap_arrays, replaced, same_view, sources_by, steps, with_stresses}
+use Rattle.list_package.proofs.ModelLemmas.{each_period, evaporation_of, replaced, same_view, sources_by, steps, with_stresses}
 use Rattle.evt_package.specs.Columns.{cell_tested, chosen, column_step, column_tested, columns_tested, source}
 use Rattle.evt_package.specs.Faults.{evap_fault}
 use Rattle.evt_package.specs.Forms.{HasEvaporation, IsEvaporating, SameBut, without}
@@ -46,7 +46,7 @@ no_fault file m x c size has lt active chosen =
     let tested : cell_tested file m.grid c (evap_fault (source x (place_in_layer m.grid c))) ≡ Ok tt = rw active at there in
     passed_is file m.grid c _ tested
 
-of_period : (file : List ℕ) (m : FlowModel) (x : Period) (c : ℕ) → HasSize m.grid → HasEvaporation file m x → c < cell_count m.grid → is_active m c ≡ true → All IsEvapValid (sources_by m c (evap_arrays x))
+of_period : (file : List ℕ) (m : FlowModel) (x : Period) (c : ℕ) → HasSize m.grid → HasEvaporation file m x → c < cell_count m.grid → is_active m c ≡ true → All IsEvapValid (sources_by m c (evaporation_of x))
 of_period file m x c size has lt active = by_case (is_chosen m m.nevtop x.stresses.ievt c) refl ((dec_at x.stresses.evtr (place_in_layer m.grid c)).digits == 0) refl
   where
     by_case : (a : Bool) → is_chosen m m.nevtop x.stresses.ievt c ≡ a → (b : Bool) → ((dec_at x.stresses.evtr (place_in_layer m.grid c)).digits == 0) ≡ b → All IsEvapValid (option_to_list (cond (a && not b) (Some (source x (place_in_layer m.grid c))) None))
@@ -56,7 +56,7 @@ of_period file m x c size has lt active = by_case (is_chosen m m.nevtop x.stress
         (source_sound (source x (place_in_layer m.grid c)) (dec_at_is x.stresses.evtr (place_in_layer m.grid c) has.evtr.decimals) (dec_at_is x.stresses.surf (place_in_layer m.grid c) has.surf.decimals) (dec_at_is x.stresses.exdp (place_in_layer m.grid c) has.exdp.decimals) (no_fault file m x c size has lt active p) q)
         (All-nil IsEvapValid)
 
-of_none : (m : FlowModel) (c : ℕ) → All IsEvapValid (sources_by m c (evap_arrays no_period))
+of_none : (m : FlowModel) (c : ℕ) → All IsEvapValid (sources_by m c (evaporation_of no_period))
 of_none m c = by_case (is_chosen m m.nevtop [] c)
   where
     by_case : (a : Bool) → All IsEvapValid (option_to_list (cond (a && not true) (Some (source no_period (place_in_layer m.grid c))) None))
@@ -68,13 +68,13 @@ evaps file m size has p c lt active = by_case (cases_lt (p - 1) (length m.period
   where
     by_case : (p - 1 < length m.periods) ⊎ (length m.periods ≤ p - 1) → All IsEvapValid (evap_sources m p c)
     by_case (inl within) = of_period file m (period_at m p) c size (has (p - 1) no_period within) lt active
-    by_case (inr past) = subst (λ x. All IsEvapValid (sources_by m c (evap_arrays x))) (sym (get_or_past m.periods (p - 1) no_period past)) (of_none m c)
+    by_case (inr past) = subst (λ x. All IsEvapValid (sources_by m c (evaporation_of x))) (sym (get_or_past m.periods (p - 1) no_period past)) (of_none m c)
 
 from_one : (e : ℤ) → (pos 1 ≤ℤ e) × (e ≤ℤ pos 3) → (pos 0 ≤ℤ e) × (e ≤ℤ pos 3)
 from_one e h = let low = h.0 in (omega (arith, ints, low), h.1)
 
 evaporating : (file : List ℕ) (m : FlowModel) (e : ℤ) (ps : List Period) → map without ps ≡ map without m.periods → IsEvaporating file (record m { nevtop = e; periods = ps }) → IsModel m → IsModel (record m { nevtop = e; periods = ps })
-evaporating file m e ps same has h = replaced m m.nrchop e ps h (same_view without steps ps m.periods same) h.nrchop (from_one e has.option)
+evaporating file m e ps same has h = replaced m m.nrchop e ps h (same_view without steps steps (λ p. refl) ps m.periods same) h.nrchop (from_one e has.option)
     (each_period without (IsPeriod (record m { nevtop = e; periods = ps })) (IsPeriod m) (HasEvaporation file (record m { nevtop = e; periods = ps })) (period file m e ps) ps m.periods same h.periods has.periods)
     (evaps file (record m { nevtop = e; periods = ps }) h.grid.size has.periods)
 

@@ -75,7 +75,13 @@ fn column_tested(
     requires column { column < layer_size grid.now }
     ensures { HasText (λ _. tt) result (column_step file.now grid.now ibound.now option.now period.now column tt) }
 {
-    match chosen(grid, ibound, option, period.stresses.ievt.as_slice(), column) {
+    match chosen(
+        grid,
+        ibound,
+        option,
+        period.stresses.ievt.as_slice(),
+        column,
+    ) {
         Some(cell) => {
             let fault = cell_fault(ibound, period, column, cell);
             cell_tested(alloc, file, grid, cell, fault)

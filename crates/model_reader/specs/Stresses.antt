@@ -7,10 +7,10 @@ use Rattle.record_lines.specs.Reading.{◌>>=◌}
 use Rattle.name_file.specs.Pairs.{Pairs, file_of}
 use Rattle.name_file.specs.declared.package.Package.TheVariants.{Wel, Riv, Drn, Ghb, Rch, Chd, Evt}
 use Rattle.model_types.specs.declared.model.FlowModel.{FlowModel}
+use Rattle.list_package.specs.GivenHeads.{given_heads}
 use Rattle.list_package.specs.Kinds.{Kind}
 use Rattle.list_package.specs.Lists.{package_of}
 use Rattle.stress_packages.specs.Packages.{wells, rivers, drains, generals}
-use Rattle.chd_package.specs.GivenHeads.{given_heads}
 use Rattle.rch_package.specs.Recharge.{rch_of}
 use Rattle.evt_package.specs.Evaporation.{evt_of}
 
@@ -25,7 +25,7 @@ file_in read files name m = do
   bytes ← file_at files name
   read name bytes m
 
-abbrev pub list_in : {C E : Type 0} → Kind C E → List File → List ℕ → FlowModel → Result FlowModel Refusal
+abbrev pub list_in : {E : Type 0} → Kind E → List File → List ℕ → FlowModel → Result FlowModel Refusal
 list_in kind = file_in (package_of kind)
 
 unfoldable pub rch_in : List File → List ℕ → FlowModel → Result FlowModel Refusal

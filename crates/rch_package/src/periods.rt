@@ -32,14 +32,20 @@ pub struct Arrays {
     pub irch: Shared<i64>,
 }
 
+fn stresses_with(stresses: Stresses, arrays: Arrays) -> Stresses
+    ensures { result ≡ record stresses { recharge = arrays.recharge; irch = arrays.irch } }
+{
+    Stresses {
+        recharge: arrays.recharge,
+        irch: arrays.irch,
+        ..stresses
+    }
+}
+
 fn with_arrays(period: Period, arrays: Arrays) -> Period
     ensures { result ≡ with_arrays period arrays }
 {
-    let stresses = Stresses {
-        recharge: arrays.recharge,
-        irch: arrays.irch,
-        ..period.stresses
-    };
+    let stresses = stresses_with(period.stresses, arrays);
     Period { stresses, ..period }
 }
 
@@ -122,8 +128,13 @@ fn period_at<F: Folder>(
     ensures arrays { IfOk result (AreArrays layered grid.now) }
     ensures others { IfOk result (λ p. without p ≡ without period) }
 {
-    let arrays = arrays_at(alloc, lines, layered, file, folder, grid, last)?;
-    Ok(with_arrays(period, arrays))
+    match arrays_at(alloc, lines, layered, file, folder, grid, last) {
+        Ok(arrays) => Ok(with_arrays(period, arrays)),
+        Err(fault) => {
+            drop(period);
+            Err(fault)
+        }
+    }
 }
 
 /// The periods with their arrays, where `last` are the arrays in force.

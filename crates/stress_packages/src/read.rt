@@ -11,12 +11,8 @@ ghost use Rattle.list_package.specs.Forms.{SameBut};
 ghost use Rattle.list_package.specs.Lists.{package_of};
 ghost use Rattle.stress_packages.specs.Packages.{wells, rivers, drains, generals};
 
-use crate::drains::DrainNumbers;
-use crate::generals::GeneralNumbers;
-use crate::rivers::Reach;
-use crate::wells::Rate;
-use list_package::read_package;
-use model_types::FlowModel;
+use list_package::{ListKind, read_package};
+use model_types::{Entry, FlowModel};
 use outside::TextFault;
 use std::alloc::Global;
 
@@ -26,7 +22,7 @@ use std::alloc::Global;
 /// TooManyEntries past 65536 entries in a list, NothingToReuse where the first list is to be reused, OutOfProfile for
 /// parameters or another file's entries; of an entry CellOutside, HeadTooLarge or BadProperty.
 /// (TM 6-A16, WEL)
-#[tactic(auto, using(crate::proofs::EntryLemmas::entry_lists))]
+#[tactic(auto, using(list_package::proofs::EntryLaws::entry_lists))]
 pub fn read_wel(
     alloc: Global,
     file: &str,
@@ -39,7 +35,7 @@ pub fn read_wel(
     ensures others { IfOk result (SameBut wells model) }
     ensures valid { IsModel model → IfOk result IsModel }
 {
-    read_package::<Rate>(alloc, file, bytes, model)
+    read_package::<Entry>(alloc, ListKind::Wells, file, bytes, model)
 }
 
 /// The model with its lists of river reaches, from a file of the package RIV.
@@ -48,7 +44,7 @@ pub fn read_wel(
 /// TooManyEntries past 65536 entries in a list, NothingToReuse where the first list is to be reused, OutOfProfile for
 /// parameters or another file's entries; of an entry CellOutside, HeadTooLarge or BadProperty.
 /// (TM 6-A16, RIV)
-#[tactic(auto, using(crate::proofs::EntryLemmas::entry_lists))]
+#[tactic(auto, using(list_package::proofs::EntryLaws::entry_lists))]
 pub fn read_riv(
     alloc: Global,
     file: &str,
@@ -61,7 +57,7 @@ pub fn read_riv(
     ensures others { IfOk result (SameBut rivers model) }
     ensures valid { IsModel model → IfOk result IsModel }
 {
-    read_package::<Reach>(alloc, file, bytes, model)
+    read_package::<Entry>(alloc, ListKind::Rivers, file, bytes, model)
 }
 
 /// The model with its lists of drains, from a file of the package DRN.
@@ -70,7 +66,7 @@ pub fn read_riv(
 /// TooManyEntries past 65536 entries in a list, NothingToReuse where the first list is to be reused, OutOfProfile for
 /// parameters or another file's entries; of an entry CellOutside, HeadTooLarge or BadProperty.
 /// (TM 6-A16, DRN)
-#[tactic(auto, using(crate::proofs::EntryLemmas::entry_lists))]
+#[tactic(auto, using(list_package::proofs::EntryLaws::entry_lists))]
 pub fn read_drn(
     alloc: Global,
     file: &str,
@@ -83,7 +79,7 @@ pub fn read_drn(
     ensures others { IfOk result (SameBut drains model) }
     ensures valid { IsModel model → IfOk result IsModel }
 {
-    read_package::<DrainNumbers>(alloc, file, bytes, model)
+    read_package::<Entry>(alloc, ListKind::Drains, file, bytes, model)
 }
 
 /// The model with its lists of general heads, from a file of the package GHB.
@@ -92,7 +88,7 @@ pub fn read_drn(
 /// TooManyEntries past 65536 entries in a list, NothingToReuse where the first list is to be reused, OutOfProfile for
 /// parameters or another file's entries; of an entry CellOutside, HeadTooLarge or BadProperty.
 /// (TM 6-A16, GHB)
-#[tactic(auto, using(crate::proofs::EntryLemmas::entry_lists))]
+#[tactic(auto, using(list_package::proofs::EntryLaws::entry_lists))]
 pub fn read_ghb(
     alloc: Global,
     file: &str,
@@ -105,5 +101,5 @@ pub fn read_ghb(
     ensures others { IfOk result (SameBut generals model) }
     ensures valid { IsModel model → IfOk result IsModel }
 {
-    read_package::<GeneralNumbers>(alloc, file, bytes, model)
+    read_package::<Entry>(alloc, ListKind::Generals, file, bytes, model)
 }
