@@ -5,6 +5,7 @@ use Rattle.outside.specs.Inputs.{file_at}
 use Rattle.outside.specs.declared.refusals.Refusal.{Refusal}
 use Rattle.record_lines.specs.Reading.{◌>>=◌}
 use Rattle.name_file.specs.Pairs.{Pairs, file_of}
+use Rattle.name_file.specs.declared.package.Package.{Package}
 use Rattle.name_file.specs.declared.package.Package.TheVariants.{Wel, Riv, Drn, Ghb, Rch, Chd, Evt}
 use Rattle.model_types.specs.declared.model.FlowModel.{FlowModel}
 use Rattle.list_package.specs.GivenHeads.{given_heads}
@@ -37,6 +38,15 @@ unfoldable pub evt_in : List File → List ℕ → FlowModel → Result FlowMode
 evt_in files evt m = do
   bytes ← file_at files evt
   evt_of files evt bytes m
+
+-- the reading of a package of lists
+abbrev pub lists_of : Package → List ℕ → List ℕ → FlowModel → Result FlowModel Refusal
+lists_of Wel file bytes m = package_of wells file bytes m
+lists_of Riv file bytes m = package_of rivers file bytes m
+lists_of Drn file bytes m = package_of drains file bytes m
+lists_of Ghb file bytes m = package_of generals file bytes m
+lists_of Chd file bytes m = package_of given_heads file bytes m
+lists_of other file bytes m = Ok m
 
 -- WEL, RIV, DRN, GHB
 unfoldable pub with_entries : List File → Pairs → FlowModel → Result FlowModel Refusal

@@ -4,26 +4,48 @@
 ghost use Rattle.std.specs.Prelude.{◌≡◌, IfOk, List};
 ghost use Rattle.outside.specs.Files.{File};
 ghost use Rattle.outside.specs.Folders.{ReadsOn};
-ghost use Rattle.record_lines.specs.Reading.{Has};
+ghost use Rattle.record_lines.specs.Reading.{Has, HasText};
 ghost use Rattle.name_file.specs.Asking.{NamesMay};
 ghost use Rattle.name_file.specs.Pairs.{file_of};
 ghost use Rattle.model_types.specs.Valid.{IsModel};
-ghost use Rattle.model_reader.specs.Stresses.{where_named, list_in};
+ghost use Rattle.model_reader.specs.Stresses.{where_named, file_in, lists_of};
 
 use crate::opened::opened;
-use list_package::{ListEntry, read_package};
+use chd_package::read_chd;
 use model_types::FlowModel;
 use name_file::{Names, Package};
-use outside::{Folder, InputFault};
+use outside::{Folder, InputFault, TextFault};
 use std::alloc::Global;
+use stress_packages::{read_drn, read_ghb, read_riv, read_wel};
+
+/// The model with the lists of a file of a package; as it is, if the package has no lists.
+fn lists_of(
+    alloc: Global,
+    asked: Package,
+    file: &str,
+    bytes: &[u8],
+    model: FlowModel,
+) -> Result<FlowModel, TextFault>
+    requires valid { IsModel model }
+    ensures model { HasText (λ m. m) result (lists_of asked file.now bytes.now model) }
+    ensures form { IfOk result IsModel }
+{
+    match asked {
+        Package::Wel => read_wel(alloc, file, bytes, model),
+        Package::Riv => read_riv(alloc, file, bytes, model),
+        Package::Drn => read_drn(alloc, file, bytes, model),
+        Package::Ghb => read_ghb(alloc, file, bytes, model),
+        Package::Chd => read_chd(alloc, file, bytes, model),
+        _ => Ok(model),
+    }
+}
 
 /// The model with the lists of a package.
 #[tactic(auto, unfolding(crate::specs::Stresses::file_in))]
-pub fn list_in<E: ListEntry, F: Folder>(
+pub fn list_in<F: Folder>(
     alloc: Global,
     names: &Names,
     asked: Package,
-    lists: E::Lists,
     folder: &mut F,
     model: FlowModel,
 ) -> Result<FlowModel, InputFault>
@@ -31,14 +53,14 @@ pub fn list_in<E: ListEntry, F: Folder>(
     requires names { NamesMay (F.may folder.old) names.now }
     ensures folder { ReadsOn F.Folder folder.old folder.new result }
     ensures model { (files : List File) → F.agrees folder.new files →
-        Has (λ m. m) result (where_named (file_of asked names.now) (list_in (E.kind lists) files) model) }
+        Has (λ m. m) result (where_named (file_of asked names.now) (file_in (lists_of asked) files) model) }
     ensures form { IfOk result IsModel }
 {
     match names.file_of(asked) {
         None => Ok(model),
         Some(name) => {
             let (bytes, model) = opened(alloc, folder, name, model)?;
-            Ok(read_package::<E>(alloc, lists, name, &bytes, model)?)
+            Ok(lists_of(alloc, asked, name, &bytes, model)?)
         }
     }
 }

@@ -9,8 +9,7 @@ ghost use Rattle.model_reader.specs.Stresses.{with_entries, with_stresses};
 
 use crate::arrays::{evt_in, rch_in};
 use crate::lists::list_in;
-use list_package::{ListKind, SpecifiedHeads};
-use model_types::{Entry, FlowModel, Given};
+use model_types::FlowModel;
 use name_file::{Names, Package};
 use outside::{Folder, InputFault};
 use std::alloc::Global;
@@ -29,38 +28,10 @@ fn with_entries<F: Folder>(
     ensures model { (files : List File) → F.agrees folder.new files → Has (λ m. m) result (with_entries files names.now model) }
     ensures form { IfOk result IsModel }
 {
-    let with_wells = list_in::<Entry, F>(
-        alloc,
-        names,
-        Package::Wel,
-        ListKind::Wells,
-        folder,
-        model,
-    )?;
-    let with_rivers = list_in::<Entry, F>(
-        alloc,
-        names,
-        Package::Riv,
-        ListKind::Rivers,
-        folder,
-        with_wells,
-    )?;
-    let with_drains = list_in::<Entry, F>(
-        alloc,
-        names,
-        Package::Drn,
-        ListKind::Drains,
-        folder,
-        with_rivers,
-    )?;
-    list_in::<Entry, F>(
-        alloc,
-        names,
-        Package::Ghb,
-        ListKind::Generals,
-        folder,
-        with_drains,
-    )
+    let with_wells = list_in(alloc, names, Package::Wel, folder, model)?;
+    let with_rivers = list_in(alloc, names, Package::Riv, folder, with_wells)?;
+    let with_drains = list_in(alloc, names, Package::Drn, folder, with_rivers)?;
+    list_in(alloc, names, Package::Ghb, folder, with_drains)
 }
 
 /// The model with its stresses, where their files are named: those of entries, then recharge, given heads and
@@ -80,13 +51,6 @@ pub fn with_stresses<F: Folder>(
 {
     let with_generals = with_entries(alloc, names, folder, model)?;
     let with_recharge = rch_in(alloc, names, folder, with_generals)?;
-    let with_given = list_in::<Given, F>(
-        alloc,
-        names,
-        Package::Chd,
-        SpecifiedHeads,
-        folder,
-        with_recharge,
-    )?;
+    let with_given = list_in(alloc, names, Package::Chd, folder, with_recharge)?;
     evt_in(alloc, names, folder, with_given)
 }
