@@ -53,7 +53,7 @@ flags_read file line layered last =
 
 -- a period with the evapotranspiration of another one
 abbrev with_those : Period → Period → Period
-with_those before p = record before { surf = p.surf; evtr = p.evtr; exdp = p.exdp; ievt = p.ievt }
+with_those before p = record before { stresses = record before.stresses { surf = p.stresses.surf; evtr = p.stresses.evtr; exdp = p.stresses.exdp; ievt = p.stresses.ievt } }
 
 same_rest : (r : Result (Unit {0}) Refusal) (f k : Unit {0} → Result (Unit {0}) Refusal) → ((s : Unit {0}) → f s ≡ k s) → (r >>= f) ≡ (r >>= k)
 same_rest (Ok s) f k h = h s
@@ -69,8 +69,8 @@ module _ (file : List ℕ) (g : Grid) (ibound : List ℤ) (option : ℤ) (before
   unfolding counted
   same_steps zero i s = refl
   same_steps (suc count) i s =
-      rw (same_column i (chosen g ibound option p.ievt i))
-      (same_rest (column_tested file g ibound p i (chosen g ibound option p.ievt i))
+      rw (same_column i (chosen g ibound option p.stresses.ievt i))
+      (same_rest (column_tested file g ibound p i (chosen g ibound option p.stresses.ievt i))
       (counted (column_step file g ibound option (with_those before p)) (i + 1) count) (counted (column_step file g ibound option p) (i + 1) count) (same_steps count (i + 1)))
 
   columns_pass : columns_tested file g ibound option p ≡ Ok tt → columns_tested file g ibound option (with_those before p) ≡ Ok tt
@@ -85,10 +85,10 @@ number_after_four n a b c d = rw (number_after-append n a (b ++ (c ++ d)), numbe
 
 -- a period whose evapotranspiration can be written
 record IsWritable (file : List ℕ) (m : FlowModel) (p : Period) : Type 0 where
-  surf : IsReals m.grid p.surf
-  evtr : IsReals m.grid p.evtr
-  exdp : IsReals m.grid p.exdp
-  ievt : IsLayers m.grid m.nevtop p.ievt
+  surf : IsReals m.grid p.stresses.surf
+  evtr : IsReals m.grid p.stresses.evtr
+  exdp : IsReals m.grid p.stresses.exdp
+  ievt : IsLayers m.grid m.nevtop p.stresses.ievt
   passed : columns_tested file m.grid m.ibound m.nevtop p ≡ Ok tt
 
 all_writable : (file : List ℕ) (m : FlowModel) → IsEvaporating m → All (λ p. IsWritable file m p) m.periods
@@ -96,23 +96,23 @@ all_writable file m h = λ k d lt. record { surf = h.surf k d lt; evtr = h.evtr 
 
 module _ (files : List File) (file : List ℕ) (m : FlowModel) (size : HasSize m.grid) (h : IsEvaporating m) where
   abbrev now : Period → Last
-  now p = record { surfaces = Some p.surf; rates = Some p.evtr; depths = Some p.exdp; layers = layers_now m.nevtop p.ievt }
+  now p = record { surfaces = Some p.stresses.surf; rates = Some p.stresses.evtr; depths = Some p.stresses.exdp; layers = layers_now m.nevtop p.stresses.ievt }
 
   -- there is an array of layers only under option 2
   abbrev HasNone : Last → Type 0
   HasNone last = is_int m.nevtop 2 ≡ false → last.layers ≡ None
 
   abbrev surfaces_of : Period → List Line
-  surfaces_of p = real_array m.grid.rows m.grid.cols p.surf
+  surfaces_of p = real_array m.grid.rows m.grid.cols p.stresses.surf
 
   abbrev rates_of : Period → List Line
-  rates_of p = real_array m.grid.rows m.grid.cols p.evtr
+  rates_of p = real_array m.grid.rows m.grid.cols p.stresses.evtr
 
   abbrev depths_of : Period → List Line
-  depths_of p = real_array m.grid.rows m.grid.cols p.exdp
+  depths_of p = real_array m.grid.rows m.grid.cols p.stresses.exdp
 
   abbrev layers_of : Period → List Line
-  layers_of p = layers_lines m.grid m.nevtop p.ievt
+  layers_of p = layers_lines m.grid m.nevtop p.stresses.ievt
 
   arrays_are_read : (p : Period) → IsWritable file m p → (last : Last) → HasNone last → (n : ℕ) (others : List Line)
       → arrays_of files file m.grid (record { surface = true; rate = true; depth = true; layer = is_int m.nevtop 2 })
@@ -124,10 +124,10 @@ module _ (files : List File) (file : List ℕ) (m : FlowModel) (size : HasSize m
       let third = number_after second (rates_of p) in
       let fourth = number_after third (depths_of p) in
       rw (
-        reals_read files file m.grid size p.surf good.surf last.surfaces n (rates_of p ++ (depths_of p ++ (layers_of p ++ others))),
-        reals_read files file m.grid size p.evtr good.evtr last.rates second (depths_of p ++ (layers_of p ++ others)),
-        reals_read files file m.grid size p.exdp good.exdp last.depths third (layers_of p ++ others),
-        layers_read files file m.grid size m.nevtop p.ievt good.ievt last.layers none fourth others,
+        reals_read files file m.grid size p.stresses.surf good.surf last.surfaces n (rates_of p ++ (depths_of p ++ (layers_of p ++ others))),
+        reals_read files file m.grid size p.stresses.evtr good.evtr last.rates second (depths_of p ++ (layers_of p ++ others)),
+        reals_read files file m.grid size p.stresses.exdp good.exdp last.depths third (layers_of p ++ others),
+        layers_read files file m.grid size m.nevtop p.stresses.ievt good.ievt last.layers none fourth others,
       ) refl
 
   period_reads : (before p : Period) → IsWritable file m p → (last : Last) → HasNone last → (n : ℕ) (others : List Line)
@@ -140,7 +140,7 @@ module _ (files : List File) (file : List ℕ) (m : FlowModel) (size : HasSize m
         flags_read file n (is_int m.nevtop 2) last,
         after_four (surfaces_of p) (rates_of p) (depths_of p) (layers_of p) others,
         arrays_are_read p good last none (next_number n) others,
-        layers_in_force m.grid m.nevtop p.ievt good.ievt,
+        layers_in_force m.grid m.nevtop p.stresses.ievt good.ievt,
         columns_pass file m.grid m.ibound m.nevtop before p good.passed,
         number_after_four (next_number n) (surfaces_of p) (rates_of p) (depths_of p) (layers_of p),
       ) refl
@@ -161,7 +161,7 @@ module _ (files : List File) (file : List ℕ) (m : FlowModel) (size : HasSize m
       rw (
         append_assoc (evt_items m p) tail others,
         period_reads b p (All-head (λ q. IsWritable file m q) p ps good) last none n (tail ++ others),
-        each_reads before ps (omega arith) (All-tail (λ q. IsWritable file m q) p ps good) (now p) (no_layers_now m.nevtop p.ievt) (number_after n (evt_items m p)) others,
+        each_reads before ps (omega arith) (All-tail (λ q. IsWritable file m q) p ps good) (now p) (no_layers_now m.nevtop p.stresses.ievt) (number_after n (evt_items m p)) others,
         number_after-append n (evt_items m p) tail,
       ) refl
 
@@ -171,9 +171,9 @@ module _ (files : List File) (file : List ℕ) (m : FlowModel) (size : HasSize m
   items_are_lines (p ∷ ps) good =
       let first = All-head (λ q. IsWritable file m q) p ps good in
       let reals = reals_are_lines m.grid in
-      let layers = layers_are_lines m.grid m.nevtop p.ievt size first.ievt in
+      let layers = layers_are_lines m.grid m.nevtop p.stresses.ievt size first.ievt in
       let rest = items_are_lines ps (All-tail (λ q. IsWritable file m q) p ps good) in
-      one_line flags_are_line (joined (joined (reals p.surf size first.surf) (joined (reals p.evtr size first.evtr) (joined (reals p.exdp size first.exdp) layers))) rest)
+      one_line flags_are_line (joined (joined (reals p.stresses.surf size first.surf) (joined (reals p.stresses.evtr size first.evtr) (joined (reals p.stresses.exdp size first.exdp) layers))) rest)
 
   head_is_line : IsLine (evt_item_2 m)
   unfolding evt_item_2

@@ -43,21 +43,21 @@ flags_read file line layered last = rw (flag_reads file line (is_some last.rates
 
 module _ (files : List File) (file : List ℕ) (m : FlowModel) (size : HasSize m.grid) (h : IsRecharged m) where
   abbrev now : Period → Last
-  now p = record { rates = Some p.recharge; layers = layers_now m.nrchop p.irch }
+  now p = record { rates = Some p.stresses.recharge; layers = layers_now m.nrchop p.stresses.irch }
 
   -- there is an array of layers only under option 2
   abbrev HasNone : Last → Type 0
   HasNone last = is_int m.nrchop 2 ≡ false → last.layers ≡ None
 
   abbrev rates_of : Period → List Line
-  rates_of p = real_array m.grid.rows m.grid.cols p.recharge
+  rates_of p = real_array m.grid.rows m.grid.cols p.stresses.recharge
 
   abbrev layers_of : Period → List Line
-  layers_of p = layers_lines m.grid m.nrchop p.irch
+  layers_of p = layers_lines m.grid m.nrchop p.stresses.irch
 
-  period_reads : (before p : Period) → IsReals m.grid p.recharge → IsLayers m.grid m.nrchop p.irch → (last : Last) → HasNone last → (n : ℕ) (others : List Line)
+  period_reads : (before p : Period) → IsReals m.grid p.stresses.recharge → IsLayers m.grid m.nrchop p.stresses.irch → (last : Last) → HasNone last → (n : ℕ) (others : List Line)
       → period_at (is_int m.nrchop 2) files file m.grid before (last, unread n (rch_items m p ++ others))
-      ≡ Ok (record before { recharge = p.recharge; irch = p.irch }, (now p, unread (number_after n (rch_items m p)) others))
+      ≡ Ok (record before { stresses = record before.stresses { recharge = p.stresses.recharge; irch = p.stresses.irch } }, (now p, unread (number_after n (rch_items m p)) others))
   unfolding period_at arrays_at rch_items number_after
   period_reads before p reals layers last none n others =
       let k = number_after (next_number n) (rates_of p) in
@@ -66,10 +66,10 @@ module _ (files : List File) (file : List ℕ) (m : FlowModel) (size : HasSize m
         line_words flags flags_are_line.words,
         flags_read file n (is_int m.nrchop 2) last,
         append_assoc (rates_of p) (layers_of p) others,
-        reals_read files file m.grid size p.recharge reals last.rates (next_number n) (layers_of p ++ others),
-        layers_read files file m.grid size m.nrchop p.irch layers last.layers none k others,
+        reals_read files file m.grid size p.stresses.recharge reals last.rates (next_number n) (layers_of p ++ others),
+        layers_read files file m.grid size m.nrchop p.stresses.irch layers last.layers none k others,
         number_after-append (next_number n) (rates_of p) (layers_of p),
-        layers_in_force m.grid m.nrchop p.irch layers,
+        layers_in_force m.grid m.nrchop p.stresses.irch layers,
       ) refl
 
   abbrev last_after : Last → List Period → Last
@@ -77,10 +77,10 @@ module _ (files : List File) (file : List ℕ) (m : FlowModel) (size : HasSize m
   last_after last (p ∷ ps) = last_after (now p) ps
 
   abbrev AllReals : List Period → Type 0
-  AllReals ps = All (λ p. IsReals m.grid p.recharge) ps
+  AllReals ps = All (λ p. IsReals m.grid p.stresses.recharge) ps
 
   abbrev AllLayers : List Period → Type 0
-  AllLayers ps = All (λ p. IsLayers m.grid m.nrchop p.irch) ps
+  AllLayers ps = All (λ p. IsLayers m.grid m.nrchop p.stresses.irch) ps
 
   each_reads : (before ps : List Period) → length before ≡ length ps → AllReals ps → AllLayers ps → (last : Last) → HasNone last → (n : ℕ) (others : List Line)
       → for_each (period_at (is_int m.nrchop 2) files file m.grid) before (last, unread n (flat_map (rch_items m) ps ++ others))
@@ -91,14 +91,14 @@ module _ (files : List File) (file : List ℕ) (m : FlowModel) (size : HasSize m
   each_reads (b ∷ before) [] e reals layers last none n others = absurd (omega arith)
   each_reads (b ∷ before) (p ∷ ps) e reals layers last none n others =
       let tail = flat_map (rch_items m) ps in
-      let first = All-head (λ q. IsReals m.grid q.recharge) p ps reals in
-      let chosen = All-head (λ q. IsLayers m.grid m.nrchop q.irch) p ps layers in
-      let more_reals = All-tail (λ q. IsReals m.grid q.recharge) p ps reals in
-      let more_layers = All-tail (λ q. IsLayers m.grid m.nrchop q.irch) p ps layers in
+      let first = All-head (λ q. IsReals m.grid q.stresses.recharge) p ps reals in
+      let chosen = All-head (λ q. IsLayers m.grid m.nrchop q.stresses.irch) p ps layers in
+      let more_reals = All-tail (λ q. IsReals m.grid q.stresses.recharge) p ps reals in
+      let more_layers = All-tail (λ q. IsLayers m.grid m.nrchop q.stresses.irch) p ps layers in
       rw (
         append_assoc (rch_items m p) tail others,
         period_reads b p first chosen last none n (tail ++ others),
-        each_reads before ps (omega arith) more_reals more_layers (now p) (no_layers_now m.nrchop p.irch) (number_after n (rch_items m p)) others,
+        each_reads before ps (omega arith) more_reals more_layers (now p) (no_layers_now m.nrchop p.stresses.irch) (number_after n (rch_items m p)) others,
         number_after-append n (rch_items m p) tail,
       ) refl
 
@@ -106,10 +106,10 @@ module _ (files : List File) (file : List ℕ) (m : FlowModel) (size : HasSize m
   unfolding rch_items
   items_are_lines [] reals layers = no_lines
   items_are_lines (p ∷ ps) reals layers =
-      let first = All-head (λ q. IsReals m.grid q.recharge) p ps reals in
-      let chosen = All-head (λ q. IsLayers m.grid m.nrchop q.irch) p ps layers in
-      let rest = items_are_lines ps (All-tail (λ q. IsReals m.grid q.recharge) p ps reals) (All-tail (λ q. IsLayers m.grid m.nrchop q.irch) p ps layers) in
-      one_line flags_are_line (joined (joined (reals_are_lines m.grid p.recharge size first) (layers_are_lines m.grid m.nrchop p.irch size chosen)) rest)
+      let first = All-head (λ q. IsReals m.grid q.stresses.recharge) p ps reals in
+      let chosen = All-head (λ q. IsLayers m.grid m.nrchop q.stresses.irch) p ps layers in
+      let rest = items_are_lines ps (All-tail (λ q. IsReals m.grid q.stresses.recharge) p ps reals) (All-tail (λ q. IsLayers m.grid m.nrchop q.stresses.irch) p ps layers) in
+      one_line flags_are_line (joined (joined (reals_are_lines m.grid p.stresses.recharge size first) (layers_are_lines m.grid m.nrchop p.stresses.irch size chosen)) rest)
 
   head_is_line : IsLine (rch_item_2 m)
   unfolding rch_item_2

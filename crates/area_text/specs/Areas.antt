@@ -16,8 +16,8 @@ module _ (m : FlowModel) where
   -- RCH items 5, 6 and 8: INRECH INIRCH; RECH(NCOL,NROW) - U2DREL; where NRCHOP is 2, IRCH(NCOL,NROW) - U2DINT
   unfoldable pub rch_items : Period → List Line
   rch_items p =
-      (codes "1" ∷ codes "1" ∷ []) ∷ (real_array m.grid.rows m.grid.cols p.recharge
-      ++ (if is_int m.nrchop 2 then integer_array m.grid.rows m.grid.cols p.irch else []))
+      (codes "1" ∷ codes "1" ∷ []) ∷ (real_array m.grid.rows m.grid.cols p.stresses.recharge
+      ++ (if is_int m.nrchop 2 then integer_array m.grid.rows m.grid.cols p.stresses.irch else []))
 
   unfoldable pub rch_lines : List Line
   rch_lines = rch_item_2 ∷ flat_map rch_items m.periods
@@ -29,9 +29,9 @@ module _ (m : FlowModel) where
   -- EVT items 5, 6, 7, 9 and 10: INSURF INEVTR INEXDP INIEVT; SURF, EVTR and EXDP, each (NCOL,NROW) - U2DREL; where NEVTOP is 2, IEVT(NCOL,NROW) - U2DINT
   unfoldable pub evt_items : Period → List Line
   evt_items p =
-      (codes "1" ∷ codes "1" ∷ codes "1" ∷ codes "1" ∷ []) ∷ (real_array m.grid.rows m.grid.cols p.surf
-      ++ (real_array m.grid.rows m.grid.cols p.evtr ++ (real_array m.grid.rows m.grid.cols p.exdp
-      ++ (if is_int m.nevtop 2 then integer_array m.grid.rows m.grid.cols p.ievt else []))))
+      (codes "1" ∷ codes "1" ∷ codes "1" ∷ codes "1" ∷ []) ∷ (real_array m.grid.rows m.grid.cols p.stresses.surf
+      ++ (real_array m.grid.rows m.grid.cols p.stresses.evtr ++ (real_array m.grid.rows m.grid.cols p.stresses.exdp
+      ++ (if is_int m.nevtop 2 then integer_array m.grid.rows m.grid.cols p.stresses.ievt else []))))
 
   unfoldable pub evt_lines : List Line
   evt_lines = evt_item_2 ∷ flat_map evt_items m.periods

@@ -22,25 +22,25 @@ pub record IsLayers (g : Grid) (option : ℤ) (xs : List ℤ) : Type 0 where
 -- RCH: NRCHOP from 1 to 3
 pub record IsRecharged (m : FlowModel) : Type 0 where
   pub option : is_option m.nrchop ≡ true
-  pub recharge : All (λ p. IsReals m.grid p.recharge) m.periods
-  pub irch : All (λ p. IsLayers m.grid m.nrchop p.irch) m.periods
+  pub recharge : All (λ p. IsReals m.grid p.stresses.recharge) m.periods
+  pub irch : All (λ p. IsLayers m.grid m.nrchop p.stresses.irch) m.periods
 
 -- EVT: NEVTOP from 1 to 3, and each column passes its test
 pub record IsEvaporating (m : FlowModel) : Type 0 where
   pub option : is_option m.nevtop ≡ true
-  pub surf : All (λ p. IsReals m.grid p.surf) m.periods
-  pub evtr : All (λ p. IsReals m.grid p.evtr) m.periods
-  pub exdp : All (λ p. IsReals m.grid p.exdp) m.periods
-  pub ievt : All (λ p. IsLayers m.grid m.nevtop p.ievt) m.periods
+  pub surf : All (λ p. IsReals m.grid p.stresses.surf) m.periods
+  pub evtr : All (λ p. IsReals m.grid p.stresses.evtr) m.periods
+  pub exdp : All (λ p. IsReals m.grid p.stresses.exdp) m.periods
+  pub ievt : All (λ p. IsLayers m.grid m.nevtop p.stresses.ievt) m.periods
   pub passed : (file : List ℕ) → All (λ p. columns_tested file m.grid m.ibound m.nevtop p ≡ Ok tt) m.periods
 
 -- the periods with recharge as these other ones, and with evapotranspiration
 abbrev pub recharged : List Period → List Period → List Period
 recharged [] qs = []
 recharged (p ∷ ps) [] = []
-recharged (p ∷ ps) (q ∷ qs) = record p { recharge = q.recharge; irch = q.irch } ∷ recharged ps qs
+recharged (p ∷ ps) (q ∷ qs) = record p { stresses = record p.stresses { recharge = q.stresses.recharge; irch = q.stresses.irch } } ∷ recharged ps qs
 
 abbrev pub evaporated : List Period → List Period → List Period
 evaporated [] qs = []
 evaporated (p ∷ ps) [] = []
-evaporated (p ∷ ps) (q ∷ qs) = record p { surf = q.surf; evtr = q.evtr; exdp = q.exdp; ievt = q.ievt } ∷ evaporated ps qs
+evaporated (p ∷ ps) (q ∷ qs) = record p { stresses = record p.stresses { surf = q.stresses.surf; evtr = q.stresses.evtr; exdp = q.stresses.exdp; ievt = q.stresses.ievt } } ∷ evaporated ps qs

@@ -6,11 +6,10 @@ ghost use Rattle.model_types.specs.Grids.{HasSize};
 ghost use Rattle.model_types.specs.Valid.{IsGivenList, IsModel};
 ghost use Rattle.list_package.specs.Forms.{SameBut};
 ghost use Rattle.list_package.specs.Lists.{package_of};
-ghost use Rattle.chd_package.specs.GivenHeads.{given_heads};
+ghost use Rattle.list_package.specs.GivenHeads.{given_heads};
 
-use crate::heads::Heads;
-use list_package::read_package;
-use model_types::FlowModel;
+use list_package::{SpecifiedHeads, read_package};
+use model_types::{FlowModel, Given};
 use outside::TextFault;
 use std::alloc::Global;
 
@@ -22,7 +21,7 @@ use std::alloc::Global;
 /// where the first list is to be reused, OutOfProfile for parameters, another file's entries, or a head that changes in
 /// a steady period of growing steps; of an entry CellOutside, HeadTooLarge, or BadProperty where the list has named the
 /// cell before. (TM 6-A16, CHD)
-#[tactic(auto, using(crate::proofs::GivenLemmas::given_lists))]
+#[tactic(auto, using(list_package::proofs::GivenLaws::given_lists))]
 pub fn read_chd(
     alloc: Global,
     file: &str,
@@ -31,9 +30,9 @@ pub fn read_chd(
 ) -> Result<FlowModel, TextFault>
     requires size { HasSize model.grid }
     ensures model { HasText (λ m. m) result (package_of given_heads file.now bytes.now model) }
-    ensures lists { IfOk result (λ m. All (λ p. IsGivenList (cell_count model.grid) p.given) m.periods) }
+    ensures lists { IfOk result (λ m. All (λ p. IsGivenList (cell_count model.grid) p.stresses.given) m.periods) }
     ensures others { IfOk result (SameBut given_heads model) }
     ensures valid { IsModel model → IfOk result IsModel }
 {
-    read_package::<Heads>(alloc, file, bytes, model)
+    read_package::<Given>(alloc, SpecifiedHeads, file, bytes, model)
 }

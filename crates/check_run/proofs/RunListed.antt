@@ -46,7 +46,7 @@ not_chosen m option layers c e = ap (λ z. is_chosen m z layers c) e
 
 no_source : (m : FlowModel) (p c : ℕ) → has_evt m ≡ false → evap_sources m p c ≡ []
 no_source m p c e =
-    let none : is_chosen m m.nevtop (period_at m p).ievt c ≡ false = not_chosen m m.nevtop (period_at m p).ievt c (zero_of m.nevtop e) in
+    let none : is_chosen m m.nevtop (period_at m p).stresses.ievt c ≡ false = not_chosen m m.nevtop (period_at m p).stresses.ievt c (zero_of m.nevtop e) in
     rw none refl
 
 empty_zip : {A B : Type 0} (R : A → B → Type 0) (xs : List A) (ys : List B) → AllZip R xs ys → ys ≡ [] → xs ≡ []

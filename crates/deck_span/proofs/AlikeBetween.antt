@@ -129,14 +129,14 @@ rates x y e = (record { rate = (sizes x y).0; idle = refl; alike = e }, record {
 
 periods_between : (p q : Period) → ArePeriodsAlike p q → Both IsPeriodBetween p q
 periods_between p q h =
-    let wells = by_frame IsEntryBetween entry_frame entries p.wells q.wells h.wells in
-    let rivers = by_frame IsEntryBetween entry_frame entries p.rivers q.rivers h.rivers in
-    let drains = by_frame IsEntryBetween entry_frame entries p.drains q.drains h.drains in
-    let generals = by_frame IsEntryBetween entry_frame entries p.generals q.generals h.generals in
-    let given = by_items IsGivenBetween AreGivenAlike given_heads p.given q.given h.given in
-    let recharge = by_length IsDecBetween decs p.recharge q.recharge h.recharge in
-    let surf = by_length IsDecBetween decs p.surf q.surf h.surf in
-    let evtr = by_frame IsRateBetween (λ (x : Dec). x.digits == 0) rates p.evtr q.evtr h.evtr in (
+    let wells = by_frame IsEntryBetween entry_frame entries p.stresses.wells q.stresses.wells h.wells in
+    let rivers = by_frame IsEntryBetween entry_frame entries p.stresses.rivers q.stresses.rivers h.rivers in
+    let drains = by_frame IsEntryBetween entry_frame entries p.stresses.drains q.stresses.drains h.drains in
+    let generals = by_frame IsEntryBetween entry_frame entries p.stresses.generals q.stresses.generals h.generals in
+    let given = by_items IsGivenBetween AreGivenAlike given_heads p.stresses.given q.stresses.given h.given in
+    let recharge = by_length IsDecBetween decs p.stresses.recharge q.stresses.recharge h.recharge in
+    let surf = by_length IsDecBetween decs p.stresses.surf q.stresses.surf h.surf in
+    let evtr = by_frame IsRateBetween (λ (x : Dec). x.digits == 0) rates p.stresses.evtr q.stresses.evtr h.evtr in (
       record { same = refl; alike = h.same; wells = wells.0; rivers = rivers.0; drains = drains.0; generals = generals.0; given = given.0; recharge = recharge.0; surf = surf.0; evtr = evtr.0 },
       record { same = h.same; alike = h.same; wells = wells.1; rivers = rivers.1; drains = drains.1; generals = generals.1; given = given.1; recharge = recharge.1; surf = surf.1; evtr = evtr.1 },
     )

@@ -78,7 +78,7 @@ given_three c xs ys zs h = three_find IsGivenBetween (λ x. x.cell.0 == c) (λ x
 
 pub last_three : (c k : ℕ) (ps qs rs : List Period) → AllThree IsPeriodBetween ps qs rs → OptionThree IsGivenBetween (last_given (take k ps) c) (last_given (take k qs) c) (last_given (take k rs) c)
 last_three c k ps qs rs h =
-    given_three c _ _ _ (three_flat_map IsPeriodBetween IsGivenBetween (λ p. p.given) (λ p. p.given) (λ p. p.given) (λ x y z b. b.given) (take k ps) (take k qs) (take k rs) (three_take IsPeriodBetween k ps qs rs h))
+    given_three c _ _ _ (three_flat_map IsPeriodBetween IsGivenBetween (λ p. p.stresses.given) (λ p. p.stresses.given) (λ p. p.stresses.given) (λ x y z b. b.given) (take k ps) (take k qs) (take k rs) (three_take IsPeriodBetween k ps qs rs h))
 
 -- entries of lists
 
@@ -179,8 +179,8 @@ module _ (f : FlowModel) (s₁ s₂ s₃ : List Dec) (ps qs rs : List Period) (p
   local : (p c : ℕ) → AllThree IsEntryBetween (local_entries A p c) (local_entries M p c) (local_entries B p c)
   local p c = three_entries c _ _ _ (period_entries _ _ _ (at_period p))
 
-  chosen : (p c : ℕ) → (is_chosen f f.nrchop (period_at M p).irch c ≡ is_chosen f f.nrchop (period_at A p).irch c) × (is_chosen f f.nrchop (period_at B p).irch c ≡ is_chosen f f.nrchop (period_at A p).irch c)
-  chosen p c = (ap (λ (x : Period). is_chosen f f.nrchop x.irch c) (at_period p).same, ap (λ (x : Period). is_chosen f f.nrchop x.irch c) (at_period p).alike)
+  chosen : (p c : ℕ) → (is_chosen f f.nrchop (period_at M p).stresses.irch c ≡ is_chosen f f.nrchop (period_at A p).stresses.irch c) × (is_chosen f f.nrchop (period_at B p).stresses.irch c ≡ is_chosen f f.nrchop (period_at A p).stresses.irch c)
+  chosen p c = (ap (λ (x : Period). is_chosen f f.nrchop x.stresses.irch c) (at_period p).same, ap (λ (x : Period). is_chosen f f.nrchop x.stresses.irch c) (at_period p).alike)
 
   recharge : (p c : ℕ) → OptionThree IsDecBetween (recharge_at A p c) (recharge_at M p c) (recharge_at B p c)
   recharge p c = under IsDecBetween _ _ _ _ _ _ (chosen p c).0 (chosen p c).1 (λ e. three_at IsDecBetween _ _ _ (place_in_layer f.grid c) no_number no_number no_number (at_period p).recharge no_dec)
@@ -219,13 +219,13 @@ module _ (f : FlowModel) (s₁ s₂ s₃ : List Dec) (ps qs rs : List Period) (p
   evap_three p c =
       let h = at_period p in
       under IsEvapSourceBetween _ _ _ _ _ _
-      (evaporating _ _ _ _ c (ap (λ (x : Period). x.ievt) h.same) (rates p c).idle)
-      (evaporating _ _ _ _ c (ap (λ (x : Period). x.ievt) h.alike) (rates p c).alike)
+      (evaporating _ _ _ _ c (ap (λ (x : Period). x.stresses.ievt) h.same) (rates p c).idle)
+      (evaporating _ _ _ _ c (ap (λ (x : Period). x.stresses.ievt) h.alike) (rates p c).alike)
       (λ e. record {
         rate = (rates p c).rate;
         surface = three_at IsDecBetween _ _ _ (place_in_layer f.grid c) no_number no_number no_number h.surf no_dec;
-        depth = ap (λ (x : Period). dec_at x.exdp (place_in_layer f.grid c)) h.same;
-        ends = ap (λ (x : Period). dec_at x.exdp (place_in_layer f.grid c)) h.alike;
+        depth = ap (λ (x : Period). dec_at x.stresses.exdp (place_in_layer f.grid c)) h.same;
+        ends = ap (λ (x : Period). dec_at x.stresses.exdp (place_in_layer f.grid c)) h.alike;
       })
 
   pub three_evaps : (p c : ℕ) → AllThree IsEvapSourceBetween (evap_sources A p c) (evap_sources M p c) (evap_sources B p c)

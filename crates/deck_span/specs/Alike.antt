@@ -25,14 +25,14 @@ pub record AreGivenAlike (a b : Given) : Type 0 where
 -- the same places.
 pub record ArePeriodsAlike (a b : Period) : Type 0 where
   pub same : period_frame b ≡ period_frame a
-  pub wells : map entry_frame b.wells ≡ map entry_frame a.wells
-  pub rivers : map entry_frame b.rivers ≡ map entry_frame a.rivers
-  pub drains : map entry_frame b.drains ≡ map entry_frame a.drains
-  pub generals : map entry_frame b.generals ≡ map entry_frame a.generals
-  pub given : AllZip AreGivenAlike a.given b.given
-  pub recharge : length b.recharge ≡ length a.recharge
-  pub surf : length b.surf ≡ length a.surf
-  pub evtr : map (λ x. x.digits == 0) b.evtr ≡ map (λ x. x.digits == 0) a.evtr
+  pub wells : map entry_frame b.stresses.wells ≡ map entry_frame a.stresses.wells
+  pub rivers : map entry_frame b.stresses.rivers ≡ map entry_frame a.stresses.rivers
+  pub drains : map entry_frame b.stresses.drains ≡ map entry_frame a.stresses.drains
+  pub generals : map entry_frame b.stresses.generals ≡ map entry_frame a.stresses.generals
+  pub given : AllZip AreGivenAlike a.stresses.given b.stresses.given
+  pub recharge : length b.stresses.recharge ≡ length a.stresses.recharge
+  pub surf : length b.stresses.surf ≡ length a.stresses.surf
+  pub evtr : map (λ x. x.digits == 0) b.stresses.evtr ≡ map (λ x. x.digits == 0) a.stresses.evtr
 
 -- two models
 pub record AreAlike (a b : FlowModel) : Type 0 where

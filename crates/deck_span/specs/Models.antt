@@ -9,6 +9,7 @@ use Rattle.decimal_input.specs.Fractions.{AtMost}
 use Rattle.model_types.specs.declared.grid.CellId.{CellId}
 use Rattle.model_types.specs.declared.model.FlowModel.{FlowModel}
 use Rattle.model_types.specs.declared.period.Period.{Period}
+use Rattle.model_types.specs.Times.{no_stresses}
 use Rattle.model_types.specs.declared.entry.Given.{Given}
 use Rattle.model_types.specs.declared.entry.Entry.{Entry}
 use Rattle.model_types.specs.declared.entry.Entry.TheVariants.{Well, River, Drain, General}
@@ -43,7 +44,7 @@ pub record IsRateBetween (a m b : Dec) : Type 0 where
 
 -- a period without the numbers that may differ: its length and steps, and IRCH, IEVT and EXDP, stay
 abbrev pub period_frame : Period → Period
-period_frame p = record p { wells = []; rivers = []; drains = []; generals = []; given = []; recharge = []; surf = []; evtr = [] }
+period_frame p = record p { stresses = record no_stresses { irch = p.stresses.irch; exdp = p.stresses.exdp; ievt = p.stresses.ievt } }
 
 -- a model without them: its grid, IBOUND, options, HK, HANI, VKA, VKCB and SS stay
 abbrev pub frame : FlowModel → FlowModel
@@ -52,14 +53,14 @@ frame m = record m { strt = []; periods = [] }
 pub record IsPeriodBetween (a m b : Period) : Type 0 where
   pub same : period_frame m ≡ period_frame a
   pub alike : period_frame b ≡ period_frame a
-  pub wells : AllThree IsEntryBetween a.wells m.wells b.wells
-  pub rivers : AllThree IsEntryBetween a.rivers m.rivers b.rivers
-  pub drains : AllThree IsEntryBetween a.drains m.drains b.drains
-  pub generals : AllThree IsEntryBetween a.generals m.generals b.generals
-  pub given : AllThree IsGivenBetween a.given m.given b.given
-  pub recharge : AllThree IsDecBetween a.recharge m.recharge b.recharge
-  pub surf : AllThree IsDecBetween a.surf m.surf b.surf
-  pub evtr : AllThree IsRateBetween a.evtr m.evtr b.evtr
+  pub wells : AllThree IsEntryBetween a.stresses.wells m.stresses.wells b.stresses.wells
+  pub rivers : AllThree IsEntryBetween a.stresses.rivers m.stresses.rivers b.stresses.rivers
+  pub drains : AllThree IsEntryBetween a.stresses.drains m.stresses.drains b.stresses.drains
+  pub generals : AllThree IsEntryBetween a.stresses.generals m.stresses.generals b.stresses.generals
+  pub given : AllThree IsGivenBetween a.stresses.given m.stresses.given b.stresses.given
+  pub recharge : AllThree IsDecBetween a.stresses.recharge m.stresses.recharge b.stresses.recharge
+  pub surf : AllThree IsDecBetween a.stresses.surf m.stresses.surf b.stresses.surf
+  pub evtr : AllThree IsRateBetween a.stresses.evtr m.stresses.evtr b.stresses.evtr
 
 -- the model m lies between the models a and b
 pub record IsBetween (a m b : FlowModel) : Type 0 where

@@ -1,9 +1,10 @@
 // The model of the builder's example, made in code.
 ghost use Rattle.std.specs.Prelude.{◌≡◌, ◌∷◌, [], pos, neg_ℤ, false, IfOk};
+ghost use Rattle.model_types.specs.Times.{no_stresses};
 ghost use Rattle.problem_builder.specs.Example.{whole, thousandths, first_cell, example_grid, example_period, example_model, twice};
 
 use decimal_input::dec::Dec;
-use model_types::{CellId, Entry, FlowModel, Given, Grid, Listed, Period, Shared};
+use model_types::{CellId, Entry, FlowModel, Grid, Listed, Period, Shared, Stresses};
 use std::alloc::{AllocError, Global};
 
 const FIRST: CellId = CellId(0);
@@ -71,7 +72,7 @@ fn one(alloc: Global, entry: Entry) -> Result<Shared<Entry>, AllocError>
     Shared::new(alloc, list)
 }
 
-/// The lists of the example's period that have entries.
+/// The entries of the example's period: a well, a river, a drain and a general head.
 #[derive(Drop)]
 struct Lists {
     wells: Shared<Entry>,
@@ -81,10 +82,10 @@ struct Lists {
 }
 
 fn make_lists(alloc: Global, q: Dec) -> Result<Lists, AllocError>
-    ensures wells { IfOk result (λ l. l.wells ≡ (example_period q).wells) }
-    ensures rivers { IfOk result (λ l. l.rivers ≡ (example_period q).rivers) }
-    ensures drains { IfOk result (λ l. l.drains ≡ (example_period q).drains) }
-    ensures generals { IfOk result (λ l. l.generals ≡ (example_period q).generals) }
+    ensures wells { IfOk result (λ l. l.wells ≡ (example_period q).stresses.wells) }
+    ensures rivers { IfOk result (λ l. l.rivers ≡ (example_period q).stresses.rivers) }
+    ensures drains { IfOk result (λ l. l.drains ≡ (example_period q).stresses.drains) }
+    ensures generals { IfOk result (λ l. l.generals ≡ (example_period q).stresses.generals) }
 {
     let river = Entry::River {
         cell: FIRST,
@@ -133,43 +134,22 @@ fn make_arrays(alloc: Global) -> Result<Arrays, AllocError>
     })
 }
 
-/// The lists of the example's period that are empty.
-#[derive(Drop)]
-struct Empty {
-    given: Shared<Given>,
-    irch: Shared<i64>,
-    ievt: Shared<i64>,
-}
-
-fn make_empty(alloc: Global) -> Result<Empty, AllocError>
-    ensures given { IfOk result (λ e. e.given ≡ []) }
-    ensures irch { IfOk result (λ e. e.irch ≡ []) }
-    ensures ievt { IfOk result (λ e. e.ievt ≡ []) }
-{
-    Ok(Empty {
-        given: Shared::new(alloc, Vec::new(alloc))?,
-        irch: Shared::new(alloc, Vec::new(alloc))?,
-        ievt: Shared::new(alloc, Vec::new(alloc))?,
-    })
-}
-
-fn period_of(lists: Lists, arrays: Arrays, empty: Empty) -> Period
+fn period_of(lists: Lists, arrays: Arrays) -> Period
     ensures { result ≡ record {
       perlen = whole 1;
       nstp = 1;
       tsmult = whole 1;
       steady = false;
-      wells = lists.wells;
-      rivers = lists.rivers;
-      drains = lists.drains;
-      generals = lists.generals;
-      given = empty.given;
-      recharge = arrays.recharge;
-      irch = empty.irch;
-      surf = arrays.surf;
-      evtr = arrays.evtr;
-      exdp = arrays.exdp;
-      ievt = empty.ievt;
+      stresses = record no_stresses {
+        wells = lists.wells;
+        rivers = lists.rivers;
+        drains = lists.drains;
+        generals = lists.generals;
+        recharge = arrays.recharge;
+        surf = arrays.surf;
+        evtr = arrays.evtr;
+        exdp = arrays.exdp;
+      };
     } }
 {
     Period {
@@ -177,17 +157,17 @@ fn period_of(lists: Lists, arrays: Arrays, empty: Empty) -> Period
         nstp: 1,
         tsmult: whole(1),
         steady: false,
-        wells: lists.wells,
-        rivers: lists.rivers,
-        drains: lists.drains,
-        generals: lists.generals,
-        given: empty.given,
-        recharge: arrays.recharge,
-        irch: empty.irch,
-        surf: arrays.surf,
-        evtr: arrays.evtr,
-        exdp: arrays.exdp,
-        ievt: empty.ievt,
+        stresses: Stresses {
+            wells: lists.wells,
+            rivers: lists.rivers,
+            drains: lists.drains,
+            generals: lists.generals,
+            recharge: arrays.recharge,
+            surf: arrays.surf,
+            evtr: arrays.evtr,
+            exdp: arrays.exdp,
+            ..Stresses::none()
+        },
     }
 }
 
@@ -196,8 +176,7 @@ fn make_periods(alloc: Global, q: Dec) -> Result<Vec<Period>, AllocError>
 {
     let lists = make_lists(alloc, q)?;
     let arrays = make_arrays(alloc)?;
-    let empty = make_empty(alloc)?;
-    Ok(vec![in alloc; period_of(lists, arrays, empty)]?)
+    Ok(vec![in alloc; period_of(lists, arrays)]?)
 }
 
 /// The properties of the example's cells.

@@ -37,7 +37,7 @@ fn goes_on(given: &mut GivenHeads, model: &FlowModel) -> bool
     let Some(next) = model.periods.as_slice().get(given.period as usize) else {
         return false;
     };
-    if !names_within(next.given.as_slice(), model.grid.cell_count()) {
+    if !names_within(next.stresses.given.as_slice(), model.grid.cell_count()) {
         return false;
     }
     given.advance(model);

@@ -58,7 +58,7 @@ fn print_lists(rt: &impl Print, model: &FlowModel) -> io::Result<()> {
     print_grid(rt, &model.grid)?;
     for period in model.periods.as_slice() {
         print_period(rt, period)?;
-        print_stresses(rt, period)?;
+        print_stresses(rt, &period.stresses)?;
     }
     let lenuni = model.lenuni;
     println!(rt; "LENUNI {lenuni}")?;

@@ -1,7 +1,7 @@
 // The stresses of a period, each list in one line where it isn't empty.
 use crate::lists::{print_integers, print_number, print_numbers};
 use decimal_input::dec::Dec;
-use model_types::{Entry, Given, Period};
+use model_types::{Entry, Given, Stresses};
 use std::io;
 
 fn print_entry(rt: &impl Print, entry: Entry) -> io::Result<()> {
@@ -69,16 +69,16 @@ fn print_layers(rt: &impl Print, name: &str, values: &[i64]) -> io::Result<()> {
     print_integers(rt, name, values)
 }
 
-pub fn print_stresses(rt: &impl Print, period: &Period) -> io::Result<()> {
-    print_entries(rt, "WELLS", period.wells.as_slice())?;
-    print_entries(rt, "RIVERS", period.rivers.as_slice())?;
-    print_entries(rt, "DRAINS", period.drains.as_slice())?;
-    print_entries(rt, "GENERALS", period.generals.as_slice())?;
-    print_given(rt, period.given.as_slice())?;
-    print_array(rt, "RECHARGE", period.recharge.as_slice())?;
-    print_layers(rt, "IRCH", period.irch.as_slice())?;
-    print_array(rt, "SURF", period.surf.as_slice())?;
-    print_array(rt, "EVTR", period.evtr.as_slice())?;
-    print_array(rt, "EXDP", period.exdp.as_slice())?;
-    print_layers(rt, "IEVT", period.ievt.as_slice())
+pub fn print_stresses(rt: &impl Print, stresses: &Stresses) -> io::Result<()> {
+    print_entries(rt, "WELLS", stresses.wells.as_slice())?;
+    print_entries(rt, "RIVERS", stresses.rivers.as_slice())?;
+    print_entries(rt, "DRAINS", stresses.drains.as_slice())?;
+    print_entries(rt, "GENERALS", stresses.generals.as_slice())?;
+    print_given(rt, stresses.given.as_slice())?;
+    print_array(rt, "RECHARGE", stresses.recharge.as_slice())?;
+    print_layers(rt, "IRCH", stresses.irch.as_slice())?;
+    print_array(rt, "SURF", stresses.surf.as_slice())?;
+    print_array(rt, "EVTR", stresses.evtr.as_slice())?;
+    print_array(rt, "EXDP", stresses.exdp.as_slice())?;
+    print_layers(rt, "IEVT", stresses.ievt.as_slice())
 }

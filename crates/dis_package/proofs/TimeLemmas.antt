@@ -10,26 +10,26 @@ use Rattle.number_limits.specs.Signs.{is_one, is_positive}
 use Rattle.number_limits.proofs.MagnitudeLemmas.{at_least_thousandth, at_most_thousand}
 use Rattle.number_limits.proofs.SignLemmas.{positive_of, one_of}
 use Rattle.dis_package.specs.Forms.{IsTime, IsNewPeriod}
-use Rattle.dis_package.specs.Times.{bare, is_growth, is_time}
+use Rattle.dis_package.specs.Times.{period_of, is_growth, is_time}
 use Rattle.dis_package.specs.declared.time.Time.{Time}
 
-growing : (t : Time) → (nat_le t.nstp 1000 && (is_at_least 3 (size t.tsmult) && is_at_most 1000 (size t.tsmult))) ≡ true → IsGrowing (bare t)
+growing : (t : Time) → (nat_le t.nstp 1000 && (is_at_least 3 (size t.tsmult) && is_at_most 1000 (size t.tsmult))) ≡ true → IsGrowing (period_of t)
 growing t e =
     let p = and_parts (nat_le t.nstp 1000) (is_at_least 3 (size t.tsmult) && is_at_most 1000 (size t.tsmult)) e in
     let q = and_parts (is_at_least 3 (size t.tsmult)) (is_at_most 1000 (size t.tsmult)) p.1 in
     record { few = leb-true t.nstp 1000 p.0; least = at_least_thousandth (size t.tsmult) q.0; most = at_most_thousand (size t.tsmult) q.1 }
 
-grown : (t : Time) → is_growth t ≡ true → (t.tsmult ≡ number_one) ⊎ IsGrowing (bare t)
+grown : (t : Time) → is_growth t ≡ true → (t.tsmult ≡ number_one) ⊎ IsGrowing (period_of t)
 grown t e = by_case (is_one t.tsmult) refl e
   where
-    by_case : (b : Bool) → is_one t.tsmult ≡ b → (b || (nat_le t.nstp 1000 && (is_at_least 3 (size t.tsmult) && is_at_most 1000 (size t.tsmult)))) ≡ true → (t.tsmult ≡ number_one) ⊎ IsGrowing (bare t)
+    by_case : (b : Bool) → is_one t.tsmult ≡ b → (b || (nat_le t.nstp 1000 && (is_at_least 3 (size t.tsmult) && is_at_most 1000 (size t.tsmult)))) ≡ true → (t.tsmult ≡ number_one) ⊎ IsGrowing (period_of t)
     by_case true is so = inl (one_of t.tsmult is)
     by_case false is so = inr (growing t so)
 
-timed : (t : Time) → IsTime t → is_time t ≡ true → IsTimed (bare t)
+timed : (t : Time) → IsTime t → is_time t ≡ true → IsTimed (period_of t)
 timed t form e = by_case t.steady refl e
   where
-    by_case : (b : Bool) → t.steady ≡ b → (if b then not t.perlen.neg && is_positive t.tsmult else (is_positive t.perlen && is_positive t.tsmult) && is_growth t) ≡ true → IsTimed (bare t)
+    by_case : (b : Bool) → t.steady ≡ b → (if b then not t.perlen.neg && is_positive t.tsmult else (is_positive t.perlen && is_positive t.tsmult) && is_growth t) ≡ true → IsTimed (period_of t)
     by_case true is so =
         let p = and_parts (not t.perlen.neg) (is_positive t.tsmult) so in
         record {
@@ -51,5 +51,5 @@ timed t form e = by_case t.steady refl e
           growth = λ f. grown t p.1;
         }
 
-pub new_of : (p : Period) (t : Time) → p ≡ bare t → IsTime t → is_time t ≡ true → IsNewPeriod p
+pub new_of : (p : Period) (t : Time) → p ≡ period_of t → IsTime t → is_time t ≡ true → IsNewPeriod p
 new_of p t is form e = subst IsNewPeriod (sym is) (record { times = timed t form e; new = refl })

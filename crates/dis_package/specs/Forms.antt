@@ -4,6 +4,7 @@ use Rattle.decimal_input.specs.Canonical.{IsDec}
 use Rattle.model_types.specs.declared.model.FlowModel.{FlowModel}
 use Rattle.model_types.specs.declared.period.Period.{Period}
 use Rattle.model_types.specs.Grids.{IsGrid}
+use Rattle.model_types.specs.Times.{no_stresses}
 use Rattle.model_types.specs.Valid.{IsTimed}
 use Rattle.dis_package.specs.Discretization.{begun}
 use Rattle.dis_package.specs.declared.frame.Frame.{Frame}
@@ -29,20 +30,7 @@ pub record IsTime (t : Time) : Type 0 where
 
 -- a period without its stresses
 abbrev pub without_stresses : Period → Period
-without_stresses p =
-    record p {
-      wells = [];
-      rivers = [];
-      drains = [];
-      generals = [];
-      given = [];
-      recharge = [];
-      irch = [];
-      surf = [];
-      evtr = [];
-      exdp = [];
-      ievt = [];
-    }
+without_stresses p = record p { stresses = no_stresses }
 
 -- a period whose times are in limits, and which has no stresses yet
 pub record IsNewPeriod (p : Period) : Type 0 where

@@ -11,6 +11,7 @@ use Rattle.record_lines.specs.Reading.{◌>>=◌, repeated}
 use Rattle.array_reader.specs.Items.{number_at}
 use Rattle.array_reader.specs.Numbers.{number}
 use Rattle.model_types.specs.declared.period.Period.{Period}
+use Rattle.model_types.specs.Times.{no_stresses}
 use Rattle.number_limits.specs.Magnitudes.{is_at_most, is_at_least}
 use Rattle.number_limits.specs.Signs.{is_positive, is_one}
 use Rattle.dis_package.specs.Frames.{count_at}
@@ -42,32 +43,16 @@ time_of file line words = do
   steady ← known (kind_of tsmult.1) (refusal BadGrid file line)
   Ok (record { perlen = perlen.0; nstp = nstp.0; tsmult = tsmult.0; steady = steady })
 
--- a period without stresses
-abbrev pub bare : Time → Period
-bare t = record {
-  perlen = t.perlen;
-  nstp = t.nstp;
-  tsmult = t.tsmult;
-  steady = t.steady;
-  wells = [];
-  rivers = [];
-  drains = [];
-  generals = [];
-  given = [];
-  recharge = [];
-  irch = [];
-  surf = [];
-  evtr = [];
-  exdp = [];
-  ievt = [];
-}
+-- a period of these times, without stresses
+abbrev pub period_of : Time → Period
+period_of t = record { perlen = t.perlen; nstp = t.nstp; tsmult = t.tsmult; steady = t.steady; stresses = no_stresses }
 
 -- a period after periods with this many steps; with its own they are at most 100000
 unfoldable pub period_at : List ℕ → (ℕ × Left) → Result (Period × (ℕ × Left)) Refusal
 period_at file s = do
   line ← line_at file s.1
   time ← time_of file line.0.number (words line.0.bytes)
-  if is_time time && nat_le (s.0 + time.nstp) 100000 then Ok (bare time, (s.0 + time.nstp, line.1)) else Err (refusal BadGrid file line.0.number)
+  if is_time time && nat_le (s.0 + time.nstp) 100000 then Ok (period_of time, (s.0 + time.nstp, line.1)) else Err (refusal BadGrid file line.0.number)
 
 unfoldable pub periods_of : List ℕ → ℕ → Left → Result (List Period) Refusal
 periods_of file count left = repeated count (period_at file) (0, left) >>= λ x. Ok x.0

@@ -1,86 +1,27 @@
 // The stress periods.
 ghost use Rattle.std.specs.Prelude.{◌≡◌, ◌+◌, ◌≤◌, IfOk, length, All, sum_by, []};
 ghost use Rattle.record_lines.specs.Reading.{GivesText, HasText, repeated};
-ghost use Rattle.dis_package.specs.Times.{bare, period_at, periods_of};
+ghost use Rattle.dis_package.specs.Times.{period_at, period_of, periods_of};
 ghost use Rattle.dis_package.specs.Forms.{IsNewPeriod};
 
 use crate::time::{Time, is_time, time_of};
 use array_reader::next_line;
-use decimal_input::dec::Dec;
-use model_types::{Entry, Given, Period, Shared};
+use model_types::{Period, Stresses};
 use outside::{Code, TextFault, refused};
 use record_lines::{Lines, Words};
-use std::alloc::{AllocError, Global};
+use std::alloc::Global;
 
-/// Lists of entries without entries.
-#[derive(Drop)]
-struct EmptyLists {
-    wells: Shared<Entry>,
-    rivers: Shared<Entry>,
-    drains: Shared<Entry>,
-    generals: Shared<Entry>,
-    given: Shared<Given>,
-}
-
-fn empty_lists(alloc: Global) -> Result<EmptyLists, AllocError>
-    ensures { IfOk result (λ l. l ≡ record { wells = []; rivers = []; drains = []; generals = []; given = [] }) }
+/// A period of these times, without stresses.
+fn period_of(time: &Time) -> Period
+    ensures { result ≡ period_of time.now }
 {
-    Ok(EmptyLists {
-        wells: Shared::new(alloc, Vec::new(alloc))?,
-        rivers: Shared::new(alloc, Vec::new(alloc))?,
-        drains: Shared::new(alloc, Vec::new(alloc))?,
-        generals: Shared::new(alloc, Vec::new(alloc))?,
-        given: Shared::new(alloc, Vec::new(alloc))?,
-    })
-}
-
-/// Arrays of recharge and evapotranspiration without values.
-#[derive(Drop)]
-struct EmptyArrays {
-    recharge: Shared<Dec>,
-    irch: Shared<i64>,
-    surf: Shared<Dec>,
-    evtr: Shared<Dec>,
-    exdp: Shared<Dec>,
-    ievt: Shared<i64>,
-}
-
-fn empty_arrays(alloc: Global) -> Result<EmptyArrays, AllocError>
-    ensures { IfOk result (λ a. a ≡ record { recharge = []; irch = []; surf = []; evtr = []; exdp = []; ievt = [] }) }
-{
-    Ok(EmptyArrays {
-        recharge: Shared::new(alloc, Vec::new(alloc))?,
-        irch: Shared::new(alloc, Vec::new(alloc))?,
-        surf: Shared::new(alloc, Vec::new(alloc))?,
-        evtr: Shared::new(alloc, Vec::new(alloc))?,
-        exdp: Shared::new(alloc, Vec::new(alloc))?,
-        ievt: Shared::new(alloc, Vec::new(alloc))?,
-    })
-}
-
-/// A period without stresses.
-fn bare(alloc: Global, time: &Time) -> Result<Period, AllocError>
-    ensures { IfOk result (λ p. p ≡ bare time.now) }
-{
-    let lists = empty_lists(alloc)?;
-    let arrays = empty_arrays(alloc)?;
-    Ok(Period {
+    Period {
         perlen: time.perlen,
         nstp: time.nstp,
         tsmult: time.tsmult,
         steady: time.steady,
-        wells: lists.wells,
-        rivers: lists.rivers,
-        drains: lists.drains,
-        generals: lists.generals,
-        given: lists.given,
-        recharge: arrays.recharge,
-        irch: arrays.irch,
-        surf: arrays.surf,
-        evtr: arrays.evtr,
-        exdp: arrays.exdp,
-        ievt: arrays.ievt,
-    })
+        stresses: Stresses::none(),
+    }
 }
 
 /// The next period; `steps` is the number of steps of the periods before it.
@@ -104,9 +45,8 @@ fn period_at(
     if !is_time(&time) || more > 100_000 {
         return Err(refused(alloc, Code::BadGrid, file, line.number));
     }
-    let period = bare(alloc, &time)?;
     *steps = more;
-    Ok(period)
+    Ok(period_of(&time))
 }
 
 fn list_of(

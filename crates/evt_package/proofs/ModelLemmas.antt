@@ -20,7 +20,7 @@ use Rattle.model_types.specs.Times.{no_period, period_at}
 use Rattle.model_types.specs.Valid.{IsEvapValid, IsModel, IsPeriod}
 use Rattle.model_types.proofs.Numbering.{size_some}
 use Rattle.number_limits.proofs.Canonical.{dec_at_is}
-use Rattle.list_package.proofs.ModelLemmas.{each_period, evap_arrays, replaced, same_view, sources_by, steps, timed}
+use Rattle.list_package.proofs.ModelLemmas.{each_period, evaporation_of, replaced, same_view, sources_by, steps, with_stresses}
 use Rattle.evt_package.specs.Columns.{cell_tested, chosen, column_step, column_tested, columns_tested, source}
 use Rattle.evt_package.specs.Faults.{evap_fault}
 use Rattle.evt_package.specs.Forms.{HasEvaporation, IsEvaporating, SameBut, without}
@@ -29,47 +29,34 @@ use Rattle.evt_package.proofs.EvapLemmas.{each_step, source_sound}
 
 period : (file : List ℕ) (m : FlowModel) (e : ℤ) (ps : List Period) (p q : Period) → without p ≡ without q → IsPeriod m q → HasEvaporation file (record m { nevtop = e; periods = ps }) p → IsPeriod (record m { nevtop = e; periods = ps }) p
 period file m e ps p q same h has =
-    let new : IsPeriod (record m { nevtop = e; periods = ps }) (record q { surf = p.surf; evtr = p.evtr; exdp = p.exdp; ievt = p.ievt }) = record {
-      times = timed (record q { surf = p.surf; evtr = p.evtr; exdp = p.exdp; ievt = p.ievt }) q refl refl refl refl h.times;
-      wells = h.wells;
-      rivers = h.rivers;
-      drains = h.drains;
-      generals = h.generals;
-      given = h.given;
-      recharge = λ f. (let a = h.recharge f in record { whole = a.whole; decimals = a.decimals });
-      irch = h.irch;
-      surf = λ f. has.surf;
-      evtr = λ f. has.evtr;
-      exdp = λ f. has.exdp;
-      ievt = has.ievt;
-    } in
-    let is : p ≡ record q { surf = p.surf; evtr = p.evtr; exdp = p.exdp; ievt = p.ievt } = ap {A = Period} (λ x. record x { surf = p.surf; evtr = p.evtr; exdp = p.exdp; ievt = p.ievt }) same in
-    subst (IsPeriod (record m { nevtop = e; periods = ps })) (sym is) new
+    with_stresses m (record m { nevtop = e; periods = ps }) p q (record q.stresses { surf = p.stresses.surf; evtr = p.stresses.evtr; exdp = p.stresses.exdp; ievt = p.stresses.ievt })
+    (ap {A = Period} (λ x. record x { stresses = record x.stresses { surf = p.stresses.surf; evtr = p.stresses.evtr; exdp = p.stresses.exdp; ievt = p.stresses.ievt } }) same) h
+    (record { wells = h.stresses.wells; rivers = h.stresses.rivers; drains = h.stresses.drains; generals = h.stresses.generals; given = h.stresses.given; recharge = h.stresses.recharge; irch = h.stresses.irch; surf = λ f. has.surf; evtr = λ f. has.evtr; exdp = λ f. has.exdp; ievt = has.ievt })
 
 passed_is : (file : List ℕ) (grid : Grid) (c : ℕ) (o : Option Code) → cell_tested file grid c o ≡ Ok tt → o ≡ None
 passed_is file grid c None h = refl
 passed_is file grid c (Some code) h = absurd cc
 
-no_fault : (file : List ℕ) (m : FlowModel) (x : Period) (c : ℕ) → HasSize m.grid → HasEvaporation file m x → c < cell_count m.grid → is_active m c ≡ true → is_chosen m m.nevtop x.ievt c ≡ true → evap_fault (source x (place_in_layer m.grid c)) ≡ None
+no_fault : (file : List ℕ) (m : FlowModel) (x : Period) (c : ℕ) → HasSize m.grid → HasEvaporation file m x → c < cell_count m.grid → is_active m c ≡ true → is_chosen m m.nevtop x.stresses.ievt c ≡ true → evap_fault (source x (place_in_layer m.grid c)) ≡ None
 unfolding columns_tested
 no_fault file m x c size has lt active chosen =
     let low : place_in_layer m.grid c < layer_size m.grid = mod_below c (layer_size m.grid) (size_some m.grid size) in
     let step = each_step (column_step file m.grid m.ibound m.nevtop x) (layer_size m.grid) 0 has.passed (place_in_layer m.grid c) (omega arith) (omega (arith, low)) in
-    let there : column_tested file m.grid m.ibound x (place_in_layer m.grid c) (Some c) ≡ Ok tt = rw (chosen_is m m.nevtop x.ievt c size lt active chosen) at step in
+    let there : column_tested file m.grid m.ibound x (place_in_layer m.grid c) (Some c) ≡ Ok tt = rw (chosen_is m m.nevtop x.stresses.ievt c size lt active chosen) at step in
     let tested : cell_tested file m.grid c (evap_fault (source x (place_in_layer m.grid c))) ≡ Ok tt = rw active at there in
     passed_is file m.grid c _ tested
 
-of_period : (file : List ℕ) (m : FlowModel) (x : Period) (c : ℕ) → HasSize m.grid → HasEvaporation file m x → c < cell_count m.grid → is_active m c ≡ true → All IsEvapValid (sources_by m c (evap_arrays x))
-of_period file m x c size has lt active = by_case (is_chosen m m.nevtop x.ievt c) refl ((dec_at x.evtr (place_in_layer m.grid c)).digits == 0) refl
+of_period : (file : List ℕ) (m : FlowModel) (x : Period) (c : ℕ) → HasSize m.grid → HasEvaporation file m x → c < cell_count m.grid → is_active m c ≡ true → All IsEvapValid (sources_by m c (evaporation_of x))
+of_period file m x c size has lt active = by_case (is_chosen m m.nevtop x.stresses.ievt c) refl ((dec_at x.stresses.evtr (place_in_layer m.grid c)).digits == 0) refl
   where
-    by_case : (a : Bool) → is_chosen m m.nevtop x.ievt c ≡ a → (b : Bool) → ((dec_at x.evtr (place_in_layer m.grid c)).digits == 0) ≡ b → All IsEvapValid (option_to_list (cond (a && not b) (Some (source x (place_in_layer m.grid c))) None))
+    by_case : (a : Bool) → is_chosen m m.nevtop x.stresses.ievt c ≡ a → (b : Bool) → ((dec_at x.stresses.evtr (place_in_layer m.grid c)).digits == 0) ≡ b → All IsEvapValid (option_to_list (cond (a && not b) (Some (source x (place_in_layer m.grid c))) None))
     by_case false p b q = All-nil IsEvapValid
     by_case true p true q = All-nil IsEvapValid
     by_case true p false q = All-cons IsEvapValid (source x (place_in_layer m.grid c)) []
-        (source_sound (source x (place_in_layer m.grid c)) (dec_at_is x.evtr (place_in_layer m.grid c) has.evtr.decimals) (dec_at_is x.surf (place_in_layer m.grid c) has.surf.decimals) (dec_at_is x.exdp (place_in_layer m.grid c) has.exdp.decimals) (no_fault file m x c size has lt active p) q)
+        (source_sound (source x (place_in_layer m.grid c)) (dec_at_is x.stresses.evtr (place_in_layer m.grid c) has.evtr.decimals) (dec_at_is x.stresses.surf (place_in_layer m.grid c) has.surf.decimals) (dec_at_is x.stresses.exdp (place_in_layer m.grid c) has.exdp.decimals) (no_fault file m x c size has lt active p) q)
         (All-nil IsEvapValid)
 
-of_none : (m : FlowModel) (c : ℕ) → All IsEvapValid (sources_by m c (evap_arrays no_period))
+of_none : (m : FlowModel) (c : ℕ) → All IsEvapValid (sources_by m c (evaporation_of no_period))
 of_none m c = by_case (is_chosen m m.nevtop [] c)
   where
     by_case : (a : Bool) → All IsEvapValid (option_to_list (cond (a && not true) (Some (source no_period (place_in_layer m.grid c))) None))
@@ -81,13 +68,13 @@ evaps file m size has p c lt active = by_case (cases_lt (p - 1) (length m.period
   where
     by_case : (p - 1 < length m.periods) ⊎ (length m.periods ≤ p - 1) → All IsEvapValid (evap_sources m p c)
     by_case (inl within) = of_period file m (period_at m p) c size (has (p - 1) no_period within) lt active
-    by_case (inr past) = subst (λ x. All IsEvapValid (sources_by m c (evap_arrays x))) (sym (get_or_past m.periods (p - 1) no_period past)) (of_none m c)
+    by_case (inr past) = subst (λ x. All IsEvapValid (sources_by m c (evaporation_of x))) (sym (get_or_past m.periods (p - 1) no_period past)) (of_none m c)
 
 from_one : (e : ℤ) → (pos 1 ≤ℤ e) × (e ≤ℤ pos 3) → (pos 0 ≤ℤ e) × (e ≤ℤ pos 3)
 from_one e h = let low = h.0 in (omega (arith, ints, low), h.1)
 
 evaporating : (file : List ℕ) (m : FlowModel) (e : ℤ) (ps : List Period) → map without ps ≡ map without m.periods → IsEvaporating file (record m { nevtop = e; periods = ps }) → IsModel m → IsModel (record m { nevtop = e; periods = ps })
-evaporating file m e ps same has h = replaced m m.nrchop e ps h (same_view without steps ps m.periods same) h.nrchop (from_one e has.option)
+evaporating file m e ps same has h = replaced m m.nrchop e ps h (same_view without steps steps (λ p. refl) ps m.periods same) h.nrchop (from_one e has.option)
     (each_period without (IsPeriod (record m { nevtop = e; periods = ps })) (IsPeriod m) (HasEvaporation file (record m { nevtop = e; periods = ps })) (period file m e ps) ps m.periods same h.periods has.periods)
     (evaps file (record m { nevtop = e; periods = ps }) h.grid.size has.periods)
 

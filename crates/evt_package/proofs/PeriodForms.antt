@@ -44,10 +44,10 @@ arrays_read files file grid option layered last left line flags after a same b d
 
 pub are_arrays : (file : List ℕ) (grid : Grid) (ibound : List ℤ) (option : ℤ) (period p : Period) (a : Arrays) → p ≡ with_arrays period a → IsReals grid a.surf → IsReals grid a.evtr → IsReals grid a.exdp → (is_int option 2 ≡ true → IsWhole grid a.ievt) → columns_tested file grid ibound option p ≡ Ok tt → AreArrays file grid ibound option p
 are_arrays file grid ibound option period p a is surfaces rates depths layers passed = record {
-  surfaces = subst (λ x. IsReals grid x.surf) (sym is) surfaces;
-  rates = subst (λ x. IsReals grid x.evtr) (sym is) rates;
-  depths = subst (λ x. IsReals grid x.exdp) (sym is) depths;
-  layers = λ two. subst (λ x. IsWhole grid x.ievt) (sym is) (layers two);
+  surfaces = subst (λ x. IsReals grid x.stresses.surf) (sym is) surfaces;
+  rates = subst (λ x. IsReals grid x.stresses.evtr) (sym is) rates;
+  depths = subst (λ x. IsReals grid x.stresses.exdp) (sym is) depths;
+  layers = λ two. subst (λ x. IsWhole grid x.stresses.ievt) (sym is) (layers two);
   passed = passed;
 }
 

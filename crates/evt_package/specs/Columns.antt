@@ -33,7 +33,7 @@ chosen grid ibound option layers i =
 
 -- a period's numbers at column i
 abbrev pub source : Period → ℕ → EvapSource
-source p i = record { rate = dec_at p.evtr i; surface = dec_at p.surf i; depth = dec_at p.exdp i }
+source p i = record { rate = dec_at p.stresses.evtr i; surface = dec_at p.stresses.surf i; depth = dec_at p.stresses.exdp i }
 
 abbrev pub cell_tested : List ℕ → Grid → ℕ → Option Code → Result (Unit {0}) Refusal
 cell_tested file grid c None = Ok tt
@@ -45,7 +45,7 @@ column_tested file grid ibound p i None = Ok tt
 column_tested file grid ibound p i (Some c) = cell_tested file grid c (if is_nonzero (int_at ibound c) then evap_fault (source p i) else None)
 
 abbrev pub column_step : List ℕ → Grid → List ℤ → ℤ → Period → ℕ → Unit {0} → Result (Unit {0}) Refusal
-column_step file grid ibound option p i s = column_tested file grid ibound p i (chosen grid ibound option p.ievt i)
+column_step file grid ibound option p i s = column_tested file grid ibound p i (chosen grid ibound option p.stresses.ievt i)
 
 -- the first column that fails is refused
 unfoldable pub columns_tested : List ℕ → Grid → List ℤ → ℤ → Period → Result (Unit {0}) Refusal

@@ -57,7 +57,7 @@ arrays_at files file grid option s = do
 
 -- a period with its arrays
 abbrev pub with_arrays : Period → Arrays → Period
-with_arrays p arrays = record p { surf = arrays.surf; evtr = arrays.evtr; exdp = arrays.exdp; ievt = arrays.ievt }
+with_arrays p arrays = record p { stresses = record p.stresses { surf = arrays.surf; evtr = arrays.evtr; exdp = arrays.exdp; ievt = arrays.ievt } }
 
 -- a period whose columns are tested
 unfoldable pub tested_period : List ℕ → Grid → List ℤ → ℤ → Period → Result Period Refusal

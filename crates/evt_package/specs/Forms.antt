@@ -27,21 +27,21 @@ pub record HasLast (grid : Grid) (flags : Flags) (before after : Last) : Type 0 
 
 -- a period's arrays, whose columns passed their tests; there are layers only under option 2
 pub record AreArrays (file : List ℕ) (grid : Grid) (ibound : List ℤ) (option : ℤ) (p : Period) : Type 0 where
-  pub surfaces : IsReals grid p.surf
-  pub rates : IsReals grid p.evtr
-  pub depths : IsReals grid p.exdp
-  pub layers : is_int option 2 ≡ true → IsWhole grid p.ievt
+  pub surfaces : IsReals grid p.stresses.surf
+  pub rates : IsReals grid p.stresses.evtr
+  pub depths : IsReals grid p.stresses.exdp
+  pub layers : is_int option 2 ≡ true → IsWhole grid p.stresses.ievt
   pub passed : columns_tested file grid ibound option p ≡ Ok tt
 
 abbrev pub without : Period → Period
-without p = record p { surf = []; evtr = []; exdp = []; ievt = [] }
+without p = record p { stresses = record p.stresses { surf = []; evtr = []; exdp = []; ievt = [] } }
 
 -- a period of a model that has evapotranspiration
 pub record HasEvaporation (file : List ℕ) (m : FlowModel) (p : Period) : Type 0 where
-  pub surf : IsLayerArray m p.surf
-  pub evtr : IsLayerArray m p.evtr
-  pub exdp : IsLayerArray m p.exdp
-  pub ievt : is_int m.nevtop 2 ≡ true → length p.ievt ≡ layer_size m.grid
+  pub surf : IsLayerArray m.grid p.stresses.surf
+  pub evtr : IsLayerArray m.grid p.stresses.evtr
+  pub exdp : IsLayerArray m.grid p.stresses.exdp
+  pub ievt : is_int m.nevtop 2 ≡ true → length p.stresses.ievt ≡ layer_size m.grid
   pub passed : columns_tested file m.grid m.ibound m.nevtop p ≡ Ok tt
 
 -- a model with evapotranspiration, by an option from 1 to 3

@@ -36,21 +36,21 @@ fn cell_tested(
 
 #[tactic(auto, using(number_limits::proofs::Canonical::dec_at_is))]
 fn column_fault(period: &Period, column: u32) -> Option<Code>
-    requires surfaces { All IsDec period.now.surf }
-    requires depths { All IsDec period.now.exdp }
+    requires surfaces { All IsDec period.now.stresses.surf }
+    requires depths { All IsDec period.now.stresses.exdp }
     ensures { result ≡ evap_fault (source period.now column) }
 {
     evap_fault(
-        dec_at(period.evtr.as_slice(), column),
-        dec_at(period.surf.as_slice(), column),
-        dec_at(period.exdp.as_slice(), column),
+        dec_at(period.stresses.evtr.as_slice(), column),
+        dec_at(period.stresses.surf.as_slice(), column),
+        dec_at(period.stresses.exdp.as_slice(), column),
     )
 }
 
 /// The fault of the cell that a column chooses, if that is active.
 fn cell_fault(ibound: &[i64], period: &Period, column: u32, cell: u32) -> Option<Code>
-    requires surfaces { All IsDec period.now.surf }
-    requires depths { All IsDec period.now.exdp }
+    requires surfaces { All IsDec period.now.stresses.surf }
+    requires depths { All IsDec period.now.stresses.exdp }
     ensures { result ≡ if is_nonzero (int_at ibound.now cell) then evap_fault (source period.now column) else None }
 {
     if int_at(ibound, cell) != 0 {
@@ -70,12 +70,18 @@ fn column_tested(
     column: u32,
 ) -> Result<(), TextFault>
     requires size { HasSize grid.now }
-    requires surfaces { IsReals grid.now period.now.surf }
-    requires depths { IsReals grid.now period.now.exdp }
+    requires surfaces { IsReals grid.now period.now.stresses.surf }
+    requires depths { IsReals grid.now period.now.stresses.exdp }
     requires column { column < layer_size grid.now }
     ensures { HasText (λ _. tt) result (column_step file.now grid.now ibound.now option.now period.now column tt) }
 {
-    match chosen(grid, ibound, option, period.ievt.as_slice(), column) {
+    match chosen(
+        grid,
+        ibound,
+        option,
+        period.stresses.ievt.as_slice(),
+        column,
+    ) {
         Some(cell) => {
             let fault = cell_fault(ibound, period, column, cell);
             cell_tested(alloc, file, grid, cell, fault)
@@ -95,8 +101,8 @@ pub fn columns_tested(
     period: &Period,
 ) -> Result<(), TextFault>
     requires size { HasSize grid.now }
-    requires surfaces { IsReals grid.now period.now.surf }
-    requires depths { IsReals grid.now period.now.exdp }
+    requires surfaces { IsReals grid.now period.now.stresses.surf }
+    requires depths { IsReals grid.now period.now.stresses.exdp }
     ensures { HasText (λ _. tt) result (columns_tested file.now grid.now ibound.now option.now period.now) }
 {
     let columns = grid.layer_size();

@@ -12,21 +12,28 @@ ghost use Rattle.evt_package.specs.Forms.{AreArrays, AreLast, without};
 
 use crate::arrays::{Arrays, Last, arrays_at};
 use crate::columns::columns_tested;
-use model_types::{Grid, Period};
+use model_types::{Grid, Period, Stresses};
 use outside::{Folder, InputFault, TextFault};
 use record_lines::Lines;
 use std::alloc::Global;
 
-fn with_arrays(period: Period, arrays: Arrays) -> Period
-    ensures { result ≡ with_arrays period arrays }
+fn stresses_with(stresses: Stresses, arrays: Arrays) -> Stresses
+    ensures { result ≡ record stresses { surf = arrays.surf; evtr = arrays.evtr; exdp = arrays.exdp; ievt = arrays.ievt } }
 {
-    Period {
+    Stresses {
         surf: arrays.surf,
         evtr: arrays.evtr,
         exdp: arrays.exdp,
         ievt: arrays.ievt,
-        ..period
+        ..stresses
     }
+}
+
+fn with_arrays(period: Period, arrays: Arrays) -> Period
+    ensures { result ≡ with_arrays period arrays }
+{
+    let stresses = stresses_with(period.stresses, arrays);
+    Period { stresses, ..period }
 }
 
 /// A period whose columns are tested.
@@ -40,14 +47,19 @@ fn tested_period(
     period: Period,
 ) -> Result<Period, TextFault>
     requires size { HasSize grid.now }
-    requires surfaces { IsReals grid.now period.surf }
-    requires depths { IsReals grid.now period.exdp }
+    requires surfaces { IsReals grid.now period.stresses.surf }
+    requires depths { IsReals grid.now period.stresses.exdp }
     ensures period { HasText (λ p. p) result (tested_period file.now grid.now ibound.now option.now period) }
     ensures same { IfOk result (λ p. p ≡ period) }
     ensures passed { IfOk result (λ p. columns_tested file.now grid.now ibound.now option.now p ≡ Ok tt) }
 {
-    columns_tested(alloc, file, grid, ibound, option, &period)?;
-    Ok(period)
+    match columns_tested(alloc, file, grid, ibound, option, &period) {
+        Ok(()) => Ok(period),
+        Err(fault) => {
+            drop(period);
+            Err(fault)
+        }
+    }
 }
 
 /// The next period with its arrays, which are then in force. Its columns are tested.
@@ -75,10 +87,16 @@ fn period_at<F: Folder>(
     ensures arrays { IfOk result (AreArrays file.now grid.now ibound.now option.now) }
     ensures others { IfOk result (λ p. without p ≡ without period) }
 {
-    let arrays = arrays_at(alloc, lines, file, folder, grid, option, last)?;
-    let period = with_arrays(period, arrays);
-    let tested = tested_period(alloc, file, grid, ibound, option, period)?;
-    Ok(tested)
+    match arrays_at(alloc, lines, file, folder, grid, option, last) {
+        Ok(arrays) => {
+            let whole = with_arrays(period, arrays);
+            Ok(tested_period(alloc, file, grid, ibound, option, whole)?)
+        }
+        Err(fault) => {
+            drop(period);
+            Err(fault)
+        }
+    }
 }
 
 /// The periods with their arrays, where `last` are the arrays in force.

@@ -113,7 +113,7 @@ passed_half p h equal two =
             f' : (b y n : ℕ) → n ≡ 2 → b * 1 ≡ n * y → b ≡ 2 * y
             f' b y n two f = let g : n * y ≡ 2 * y = ap (λ k. k * y) two in omega (arith, f, g)
 
-module _ (m : FlowModel) (p c : ℕ) (x : Given) (given : given_in (period_at m p).given c ≡ Some x) where
+module _ (m : FlowModel) (p c : ℕ) (x : Given) (given : given_in (period_at m p).stresses.given c ≡ Some x) where
   named : (n : ℕ) → constant_head m p n c ≡ between_heads x (passed (period_at m p) n)
   unfolding constant_head
   named n = ap (λ o. head_or_kept m p n o c) given
@@ -158,10 +158,10 @@ given_before us vs c e = ap (find (λ y. y.cell.0 == c)) (reverse-append us vs) 
 
 module _ (ps : List Period) (c : ℕ) where
   abbrev list_at : ℕ → List Given
-  list_at k = (get_or ps k no_period).given
+  list_at k = (get_or ps k no_period).stresses.given
 
-  lists_more : (k : ℕ) → k < length ps → flat_map (λ q. q.given) (take (suc k) ps) ≡ flat_map (λ q. q.given) (take k ps) ++ list_at k
-  lists_more k lt = (let on : suc k ≡ k + 1 = omega arith in ap (λ n. flat_map (λ q. q.given) (take n ps)) on) ∙ ap (flat_map (λ q. q.given)) (take_more ps k no_period lt) ∙ flat_map-append (λ q. q.given) (take k ps) (get_or ps k no_period ∷ []) ∙ ap (λ zs. flat_map (λ q. q.given) (take k ps) ++ zs) (append-nil (list_at k))
+  lists_more : (k : ℕ) → k < length ps → flat_map (λ q. q.stresses.given) (take (suc k) ps) ≡ flat_map (λ q. q.stresses.given) (take k ps) ++ list_at k
+  lists_more k lt = (let on : suc k ≡ k + 1 = omega arith in ap (λ n. flat_map (λ q. q.stresses.given) (take n ps)) on) ∙ ap (flat_map (λ q. q.stresses.given)) (take_more ps k no_period lt) ∙ flat_map-append (λ q. q.stresses.given) (take k ps) (get_or ps k no_period ∷ []) ∙ ap (λ zs. flat_map (λ q. q.stresses.given) (take k ps) ++ zs) (append-nil (list_at k))
 
   -- the last list that names the cell is that of period p, counted from 0 here, as long as no later one does
   lasting : (p k : ℕ) (x : Given) → given_in (list_at p) c ≡ Some x → p < length ps → p ≤ k → ((r : ℕ) → p < r → r ≤ k → given_in (list_at r) c ≡ None) → last_given (take (suc k) ps) c ≡ Some x
@@ -176,7 +176,7 @@ module _ (ps : List Period) (c : ℕ) where
     | inr after ↦ (let here : p ≡ suc k = omega (arith, le, after) in ap (λ xs. given_in xs c) (lists_more (suc k) (omega (arith, here, within))) ∙ given_last _ (list_at (suc k)) c x (subst (λ j. given_in (list_at j) c ≡ Some x) here e))
   ]
 
-kept_after : (m : FlowModel) (p c : ℕ) (x : Given) → given_in (period_at m p).given c ≡ Some x → (q n : ℕ) → 1 ≤ p → p ≤ length m.periods → p < q → ((r : ℕ) → p < r → r ≤ q → given_in (period_at m r).given c ≡ None) → Same (constant_head m q n c) (number x.ehead)
+kept_after : (m : FlowModel) (p c : ℕ) (x : Given) → given_in (period_at m p).stresses.given c ≡ Some x → (q n : ℕ) → 1 ≤ p → p ≤ length m.periods → p < q → ((r : ℕ) → p < r → r ≤ q → given_in (period_at m r).stresses.given c ≡ None) → Same (constant_head m q n c) (number x.ehead)
 unfolding constant_head
 kept_after m p c x e q n first within later none =
     let last : last_given (take (suc (q - 2)) m.periods) c ≡ Some x = lasting m.periods c (p - 1) (q - 2) x e (omega (arith, first, within)) (omega (arith, later)) (λ r lt le. subst (λ (j : ℕ). given_in (get_or m.periods j no_period).given c ≡ None) (omega (arith, lt)) (none (suc r) (omega (arith, lt, first)) (omega (arith, le, later, first)))) in
@@ -184,5 +184,5 @@ kept_after m p c x e q n first within later none =
     let is : constant_head m q n c ≡ number x.ehead = ap (λ o. head_or_kept m q n o c) (none q later (omega arith)) ∙ ap (λ o. kept_head m o c) (ap (λ k. last_given (take k m.periods) c) (sym before) ∙ last) in
     subst (λ (f : Fraction). Same f (number x.ehead)) (sym is) (record { same = refl })
 
-pub given_heads_of : (m : FlowModel) (p c : ℕ) (x : Given) → given_in (period_at m p).given c ≡ Some x → HasGivenHead m p c x
+pub given_heads_of : (m : FlowModel) (p c : ℕ) (x : Given) → given_in (period_at m p).stresses.given c ≡ Some x → HasGivenHead m p c x
 given_heads_of m p c x e = record { last = at_last m p c x e; half = at_half m p c x e; kept = kept_after m p c x e }

@@ -35,10 +35,10 @@ use Rattle.flow_equations.proofs.TurnedFlows.{over_first, own_share, product_pos
 
 module _ (m : FlowModel) (p n : ℕ) (old : ℕ → Fraction) (c : ℕ) where
   abbrev rate : Dec
-  rate = dec_at (period_at m p).recharge (place_in_layer m.grid c)
+  rate = dec_at (period_at m p).stresses.recharge (place_in_layer m.grid c)
 
   abbrev chosen : Bool
-  chosen = is_chosen m m.nrchop (period_at m p).irch c
+  chosen = is_chosen m m.nrchop (period_at m p).stresses.irch c
 
   abbrev flows : Option Dec → List ExactFlow
   flows r = map (exact_flow m p n old c) (map Received (option_to_list r) ++ filter_map as_well (local_entries m p c))

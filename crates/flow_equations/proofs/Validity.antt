@@ -17,7 +17,9 @@ use Rattle.model_types.specs.declared.entry.Entry.TheVariants.{Well}
 use Rattle.model_types.specs.Layers.{no_number, dec_at, top_at, bottom_at}
 use Rattle.model_types.specs.Numbers.{IsPositive, IsNotNegative, IsHeadNumber, IsThick}
 use Rattle.model_types.specs.Grids.{IsGrid}
-use Rattle.model_types.specs.Valid.{IsModel, IsPeriod, IsTimed, IsCellValid, IsEntryList, IsEntryValid, IsGivenList}
+use Rattle.model_types.specs.Valid.{AreStresses, IsModel, IsPeriod, IsTimed, IsCellValid, IsEntryList, IsEntryValid}
+use Rattle.model_types.specs.Times.{no_stresses}
+use Rattle.model_types.proofs.NoStresses.{no_stresses_fit}
 use Rattle.flow_equations.specs.Worked.{decimal, below_zero, cell, row_of_cells, period_with, row_model, three_cells, idle_wells, one_cell, two_cells}
 
 is_dec : (neg : Bool) (digits e : ℕ) → digits < 10 ^ 18 → 0 < digits → 0 < digits % 10 → e ≤ 40 → IsDec (record { neg = neg; digits = digits; exp = pos e })
@@ -114,11 +116,8 @@ module _ (ibound : List ℤ) (strt ss : List Dec) (steady : Bool) (lasting : Dec
       ss = dec_meets IsNotNegative ss c stores (record { decimal = zero_dec; sign = refl });
     }
 
-    no_entries : IsEntryList (1 * (1 * n)) []
-    no_entries = record { few = omega arith; entries = All-nil (IsEntryValid (1 * (1 * n))) }
-
-    no_givens : IsGivenList (1 * (1 * n)) []
-    no_givens = record { few = omega arith; entries = All-nil _; once = (λ i j d less lt. absurd (omega (arith, lt))) }
+    none : AreStresses (row_of_cells n) (pos 0) (pos 0) no_stresses
+    none = no_stresses_fit (row_of_cells n) (pos 0) (pos 0) refl refl
 
     module _ (counts : length ibound ≡ n) (heads : length strt ≡ n) (storing : (steady ≡ true) ⊎ (length ss ≡ n)) (timed : IsTimed period) (many : steps ≤ 100000) (pumped : IsEntryList (1 * (1 * n)) wells) where
       whole : (xs : List Dec) → length xs ≡ n → length xs ≡ 1 * (1 * n)
@@ -127,17 +126,19 @@ module _ (ibound : List ℤ) (strt ss : List Dec) (steady : Bool) (lasting : Dec
       period_valid : IsPeriod model period
       period_valid = record {
         times = timed;
-        wells = pumped;
-        rivers = no_entries;
-        drains = no_entries;
-        generals = no_entries;
-        given = no_givens;
-        recharge = (λ e. absurd (false≢true (sym e)));
-        irch = (λ e. absurd (false≢true e));
-        surf = (λ e. absurd (false≢true (sym e)));
-        evtr = (λ e. absurd (false≢true (sym e)));
-        exdp = (λ e. absurd (false≢true (sym e)));
-        ievt = (λ e. absurd (false≢true e));
+        stresses = record {
+          wells = pumped;
+          rivers = none.rivers;
+          drains = none.drains;
+          generals = none.generals;
+          given = none.given;
+          recharge = none.recharge;
+          irch = none.irch;
+          surf = none.surf;
+          evtr = none.evtr;
+          exdp = none.exdp;
+          ievt = none.ievt;
+        };
       }
 
       stored : All (λ p. p.steady ≡ true) (period ∷ []) ⊎ (length ss ≡ 1 * (1 * n))

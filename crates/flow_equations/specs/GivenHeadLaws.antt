@@ -17,8 +17,8 @@ pub record HasGivenHead (m : FlowModel) (p c : ℕ) (x : Given) : Type 0 where
   pub half : Lasts (period_at m p) → HasEqualSteps (period_at m p) → (period_at m p).nstp ≡ 2 →
       Same (plus (constant_head m p 1 c) (constant_head m p 1 c)) (plus (number x.shead) (number x.ehead))
   -- and it keeps Ehead in later periods, as long as no list names the cell again
-  pub kept : (q n : ℕ) → 1 ≤ p → p ≤ length m.periods → p < q → ((r : ℕ) → p < r → r ≤ q → given_in (period_at m r).given c ≡ None) →
+  pub kept : (q n : ℕ) → 1 ≤ p → p ≤ length m.periods → p < q → ((r : ℕ) → p < r → r ≤ q → given_in (period_at m r).stresses.given c ≡ None) →
       Same (constant_head m q n c) (number x.ehead)
 
 abbrev pub HasGivenHeads : FlowModel → Type 0
-HasGivenHeads m = (p c : ℕ) (x : Given) → given_in (period_at m p).given c ≡ Some x → HasGivenHead m p c x
+HasGivenHeads m = (p c : ℕ) (x : Given) → given_in (period_at m p).stresses.given c ≡ Some x → HasGivenHead m p c x

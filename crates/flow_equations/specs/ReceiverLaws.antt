@@ -25,13 +25,13 @@ pub record ChoosesOneCell (m : FlowModel) (layers : List ℤ) : Type 0 where
 
 -- the recharge of a cell in a period: RECH * DELR * DELC
 abbrev pub recharge_of : FlowModel → ℕ → ℕ → Fraction
-recharge_of m p c = product (number (dec_at (period_at m p).recharge (place_in_layer m.grid c))) (signed (area m c))
+recharge_of m p c = product (number (dec_at (period_at m p).stresses.recharge (place_in_layer m.grid c))) (signed (area m c))
 
 -- The cell that the option chooses receives its rate times its area, and no other cell receives recharge.
 pub record ReceivesRecharge (m : FlowModel) (p n : ℕ) (old : ℕ → Fraction) (c : ℕ) : Type 0 where
-  pub chosen : is_chosen m m.nrchop (period_at m p).irch c ≡ true →
+  pub chosen : is_chosen m m.nrchop (period_at m p).stresses.irch c ≡ true →
       Contains (exact_cell m p n old c).flows (record { kind = Recharge; flow = recharge_of m p c })
-  pub other : is_chosen m m.nrchop (period_at m p).irch c ≡ false → All (λ x. x.kind ≡ Wells) (exact_cell m p n old c).flows
+  pub other : is_chosen m m.nrchop (period_at m p).stresses.irch c ≡ false → All (λ x. x.kind ≡ Wells) (exact_cell m p n old c).flows
 
 -- Evapotranspiration takes EVTR * DELR * DELC where the head is at SURF or above, and nothing where it is at SURF - EXDP or below.
 pub record Evaporates (m : FlowModel) (c : ℕ) (v : Fraction) (x : EvapSource) (e : ExactEvap) : Type 0 where

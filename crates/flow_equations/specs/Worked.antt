@@ -9,6 +9,7 @@ use Rattle.model_types.specs.declared.period.Period.{Period}
 use Rattle.model_types.specs.declared.entry.Entry.{Entry}
 use Rattle.model_types.specs.declared.entry.Entry.TheVariants.{Well}
 use Rattle.model_types.specs.Layers.{no_number}
+use Rattle.model_types.specs.Times.{no_stresses}
 
 -- a whole number, and its negative, in canonical form: digits without a trailing zero
 abbrev pub decimal : ℕ → ℕ → Dec
@@ -38,23 +39,7 @@ row_of_cells n =
 -- a period of length `length` in `steps` steps with these wells
 abbrev pub period_with : Bool → Dec → ℕ → List Entry → Period
 period_with steady length steps wells =
-    record {
-      perlen = length;
-      nstp = steps;
-      tsmult = decimal 1 0;
-      steady = steady;
-      wells = wells;
-      rivers = [];
-      drains = [];
-      generals = [];
-      given = [];
-      recharge = [];
-      irch = [];
-      surf = [];
-      evtr = [];
-      exdp = [];
-      ievt = [];
-    }
+    record { perlen = length; nstp = steps; tsmult = decimal 1 0; steady = steady; stresses = record no_stresses { wells = wells } }
 
 -- a row of cells with these IBOUND, STRT, specific storages and period
 abbrev pub row_model : List ℤ → List Dec → List Dec → Period → ℕ → FlowModel

@@ -1,3 +1,6 @@
+pub mod ColumnLemmas
+pub mod EntryLaws
+pub mod GivenLaws
 pub mod MarkLemmas
 pub mod PeriodLemmas
 pub mod ModelLemmas

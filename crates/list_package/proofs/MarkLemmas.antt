@@ -10,19 +10,19 @@ use Rattle.list_package.specs.Forms.{AreMarked, Differ, IsNewlyMarked}
 use Rattle.list_package.specs.Kinds.{Kind}
 
 -- a list that begins
-pub none_marked : {C E : Type 0} (kind : Kind C E) (grid : Grid) (marks : List Bool) → marks ≡ no_marks kind grid → kind.once ≡ true → AreMarked kind (cell_count grid) marks []
+pub none_marked : {E : Type 0} (kind : Kind E) (grid : Grid) (marks : List Bool) → marks ≡ no_marks kind grid → kind.once ≡ true → AreMarked kind (cell_count grid) marks []
 none_marked kind grid marks e once = record {
   count = ap length e ∙ length-replicate (cond kind.once (cell_count grid) 0) false ∙ ap (λ b. cond b (cell_count grid) 0) once;
   marked = All-nil (λ x. get_or marks (kind.place x) false ≡ true);
   once = λ i j d lt within. absurd (omega arith);
 }
 
-still_marked : {C E : Type 0} (kind : Kind C E) (cells : ℕ) (before after : List Bool) (x y : E) → length before ≡ cells → IsNewlyMarked kind cells before after x → get_or before (kind.place y) false ≡ true → get_or after (kind.place y) false ≡ true
+still_marked : {E : Type 0} (kind : Kind E) (cells : ℕ) (before after : List Bool) (x y : E) → length before ≡ cells → IsNewlyMarked kind cells before after x → get_or before (kind.place y) false ≡ true → get_or after (kind.place y) false ≡ true
 still_marked kind cells before after x y count h e =
     rw h.marked (get_or-set_other before (kind.place x) (kind.place y) true false (λ same. (let clash : true ≡ false = sym e ∙ ap (λ k. get_or before k false) same ∙ h.new in cc)) ∙ e)
 
 -- one more entry
-pub one_more_marked : {C E : Type 0} (kind : Kind C E) (cells : ℕ) (before after : List Bool) (xs : List E) (x : E) → AreMarked kind cells before xs → IsNewlyMarked kind cells before after x → AreMarked kind cells after (xs ++ x ∷ [])
+pub one_more_marked : {E : Type 0} (kind : Kind E) (cells : ℕ) (before after : List Bool) (xs : List E) (x : E) → AreMarked kind cells before xs → IsNewlyMarked kind cells before after x → AreMarked kind cells after (xs ++ x ∷ [])
 one_more_marked kind cells before after xs x so h = record {
   count = ap length h.marked ∙ length-set before (kind.place x) true ∙ so.count;
   marked = All-push (λ y. get_or after (kind.place y) false ≡ true) xs x

@@ -1,17 +1,21 @@
 -- A model in limits stays so where its periods have other stresses in limits.
-use Rattle.std.proofs.Common.{◌≡◌, ◌⊎◌, inl, inr, ℕ, zero, suc, ◌-◌, ◌<◌, ◌≤◌, ℤ, pos, ◌≤ℤ◌, Bool, true, false, not, cond, ◌&&◌, ◌==◌, List, [], ◌∷◌, map, All, Some, None, length, get_or, sum, sum_by, refl, sym, ap, ◌∙◌, subst}
+use Rattle.std.proofs.Common.{◌≡◌, ◌⊎◌, inl, inr, ℕ, zero, suc, ◌-◌, ◌<◌, ◌≤◌, ℤ, pos, ◌≤ℤ◌, Bool, true, false, not, cond, ◌&&◌, ◌==◌, List, [], ◌∷◌, map, All, Some, None, IfOk, Result, Ok, Err, length, get_or, sum, sum_by, refl, sym, ap, ◌∙◌, subst}
 use Rattle.std.specs.Option.{option_to_list}
 use Rattle.std.proofs.lemmas.List.Elements.{All-weaker}
 use Rattle.std.proofs.lemmas.List.Sums.{sum-map}
-use Rattle.decimal_input.specs.declared.dec.Dec.{Dec}
+use Rattle.outside.specs.declared.refusals.TextFault.{TextFault}
+use Rattle.model_types.specs.declared.grid.Grid.{Grid}
 use Rattle.model_types.specs.declared.model.FlowModel.{FlowModel}
 use Rattle.model_types.specs.declared.period.Period.{Period}
+use Rattle.model_types.specs.declared.period.Stresses.{Stresses}
 use Rattle.model_types.specs.Cells.{cell_count, layer_size, place_in_layer}
 use Rattle.model_types.specs.Layers.{dec_at, is_active, has_bed}
 use Rattle.model_types.specs.Receivers.{EvapSource, is_chosen}
 use Rattle.model_types.specs.Sources.{evap_sources}
 use Rattle.model_types.specs.Times.{no_period, period_at}
-use Rattle.model_types.specs.Valid.{IsModel, IsPeriod, IsTimed, IsGrowing, IsCellValid, IsBedChecked, IsEvapValid, number_one}
+use Rattle.model_types.specs.Valid.{AreStresses, IsModel, IsPeriod, IsTimed, IsGrowing, IsCellValid, IsBedChecked, IsEvapValid, number_one}
+use Rattle.list_package.specs.Forms.{EvapArrays, evap_arrays, IsList, KeepsLimits, SameBut}
+use Rattle.list_package.specs.Kinds.{Kind, with_list, without}
 
 pub same_count : {A : Type 0} (f : Period → A) (ps qs : List Period) → map f ps ≡ map f qs → length ps ≡ length qs
 same_count f [] [] e = refl
@@ -33,42 +37,40 @@ same_at f (p ∷ ps) (q ∷ qs) (suc k) d e =
     same_at f ps qs k d tail
 
 -- what is seen of periods through what is the same is the same
-pub same_view : {A B : Type 0} (f : Period → A) (g : A → B) (ps qs : List Period) → map f ps ≡ map f qs → map (λ p. g (f p)) ps ≡ map (λ p. g (f p)) qs
-same_view f g [] [] e = refl
-same_view f g [] (q ∷ qs) e = absurd cc
-same_view f g (p ∷ ps) [] e = absurd cc
-same_view f g (p ∷ ps) (q ∷ qs) e =
+pub same_view : {A B : Type 0} (f : Period → A) (g : A → B) (h : Period → B) → ((p : Period) → g (f p) ≡ h p) → (ps qs : List Period) → map f ps ≡ map f qs → map h ps ≡ map h qs
+same_view f g h seen [] [] e = refl
+same_view f g h seen [] (q ∷ qs) e = absurd cc
+same_view f g h seen (p ∷ ps) [] e = absurd cc
+same_view f g h seen (p ∷ ps) (q ∷ qs) e =
     let here : f p ≡ f q = cc in
     let tail : map f ps ≡ map f qs = cc in
-    rw (here, same_view f g ps qs tail) refl
+    rw (sym (seen p) ∙ ap g here ∙ seen q, same_view f g h seen ps qs tail) refl
 
 same_sum : {A : Type 0} (f : Period → A) (g : A → ℕ) (ps qs : List Period) → map f ps ≡ map f qs → sum_by (λ p. g (f p)) ps ≡ sum_by (λ p. g (f p)) qs
-same_sum f g ps qs e = sym (sum-map (λ p. g (f p)) ps) ∙ ap sum (same_view f g ps qs e) ∙ sum-map (λ p. g (f p)) qs
+same_sum f g ps qs e = sym (sum-map (λ p. g (f p)) ps) ∙ ap sum (same_view f g (λ p. g (f p)) (λ p. refl) ps qs e) ∙ sum-map (λ p. g (f p)) qs
 
 pub each_period : {A : Type 0} (f : Period → A) (P Q G : Period → Type 0) → ((p q : Period) → f p ≡ f q → Q q → G p → P p) → (ps qs : List Period) → map f ps ≡ map f qs → All Q qs → All G ps → All P ps
 each_period f P Q G step ps qs e h g = λ k d lt. step (get_or ps k d) (get_or qs k d) (same_at f ps qs k d e) (h k d (subst (λ n. k < n) (same_count f ps qs e) lt)) (g k d lt)
 
-pub timed : (p q : Period) → p.perlen ≡ q.perlen → p.nstp ≡ q.nstp → p.tsmult ≡ q.tsmult → p.steady ≡ q.steady → IsTimed q → IsTimed p
-timed p q a b c d t = record {
-  nstp = rw b t.nstp;
-  perlen = rw a t.perlen;
-  lasts = λ s. rw a (t.lasts (sym d ∙ s));
-  tsmult = rw c t.tsmult;
-  growth = λ s. grow (t.growth (sym d ∙ s));
-}
+-- other stresses leave a period's times
+timed : (p : Period) (s : Stresses) → IsTimed p → IsTimed (record p { stresses = s })
+timed p s t = record { nstp = t.nstp; perlen = t.perlen; lasts = t.lasts; tsmult = t.tsmult; growth = λ transient. grow (t.growth transient) }
   where
-    grow : (q.tsmult ≡ number_one) ⊎ IsGrowing q → (p.tsmult ≡ number_one) ⊎ IsGrowing p
-    grow (inl e) = inl (c ∙ e)
-    grow (inr g) = inr (record { few = rw b g.few; least = rw c g.least; most = rw c g.most })
+    grow : (p.tsmult ≡ number_one) ⊎ IsGrowing p → (p.tsmult ≡ number_one) ⊎ IsGrowing (record p { stresses = s })
+    grow (inl e) = inl e
+    grow (inr g) = inr (record { few = g.few; least = g.least; most = g.most })
 
--- the numbers and kinds of steps, and the arrays of evapotranspiration
+pub with_stresses : (m n : FlowModel) (p q : Period) (s : Stresses) → p ≡ record q { stresses = s } → IsPeriod m q → AreStresses n.grid n.nrchop n.nevtop s → IsPeriod n p
+with_stresses m n p q s is h are = subst (IsPeriod n) (sym is) (record { times = timed q s h.times; stresses = are })
+
+-- the numbers and kinds of steps
 abbrev pub steps : Period → ℕ × Bool
 steps p = (p.nstp, p.steady)
 
-abbrev pub evap_arrays : Period → (List ℤ × List Dec) × (List Dec × List Dec)
-evap_arrays p = ((p.ievt, p.evtr), (p.surf, p.exdp))
+abbrev pub evaporation_of : Period → EvapArrays
+evaporation_of p = evap_arrays p.stresses
 
-abbrev pub sources_by : FlowModel → ℕ → (List ℤ × List Dec) × (List Dec × List Dec) → List EvapSource
+abbrev pub sources_by : FlowModel → ℕ → EvapArrays → List EvapSource
 sources_by m c x = option_to_list (cond (is_chosen m m.nevtop x.0.0 c && not ((dec_at x.0.1 (place_in_layer m.grid c)).digits == 0)) (Some (record { rate = dec_at x.0.1 (place_in_layer m.grid c); surface = dec_at x.1.0 (place_in_layer m.grid c); depth = dec_at x.1.1 (place_in_layer m.grid c) })) None)
 
 pub replaced : (m : FlowModel) (r e : ℤ) (ps : List Period) → IsModel m → map steps ps ≡ map steps m.periods → (pos 0 ≤ℤ r) × (r ≤ℤ pos 3) → (pos 0 ≤ℤ e) × (e ≤ℤ pos 3)
@@ -105,11 +107,33 @@ replaced m r e ps h same recharged evaporates periods evaps = record {
     bed_of c (inr v) = inr (record { thick = v.thick; vkcb = v.vkcb })
 
 -- other stresses, and the same evapotranspiration
-pub same_evaps : (m : FlowModel) (r : ℤ) (ps : List Period) → IsModel m → map evap_arrays ps ≡ map evap_arrays m.periods → (p c : ℕ) → c < cell_count m.grid → is_active m c ≡ true → All IsEvapValid (evap_sources (record m { nrchop = r; periods = ps }) p c)
-same_evaps m r ps h same p c lt active = subst (All IsEvapValid) (ap (sources_by m c) (sym (same_at evap_arrays ps m.periods (p - 1) no_period same))) (h.evaps p c lt active)
+pub same_evaps : (m : FlowModel) (r : ℤ) (ps : List Period) → IsModel m → map evaporation_of ps ≡ map evaporation_of m.periods → (p c : ℕ) → c < cell_count m.grid → is_active m c ≡ true → All IsEvapValid (evap_sources (record m { nrchop = r; periods = ps }) p c)
+same_evaps m r ps h same p c lt active = subst (All IsEvapValid) (ap (sources_by m c) (sym (same_at evaporation_of ps m.periods (p - 1) no_period same))) (h.evaps p c lt active)
 
-pub with_lists : (m : FlowModel) (ps : List Period) → IsModel m → map steps ps ≡ map steps m.periods → map evap_arrays ps ≡ map evap_arrays m.periods → All (IsPeriod m) ps → IsModel (record m { periods = ps })
+pub with_lists : (m : FlowModel) (ps : List Period) → IsModel m → map steps ps ≡ map steps m.periods → map evaporation_of ps ≡ map evaporation_of m.periods → All (IsPeriod m) ps → IsModel (record m { periods = ps })
 with_lists m ps h same arrays periods = replaced m m.nrchop m.nevtop ps h same h.nrchop h.nevtop (All-weaker (IsPeriod m) (IsPeriod (record m { periods = ps })) again ps periods) (same_evaps m m.nrchop ps h arrays)
   where
     again : (p : Period) → IsPeriod m p → IsPeriod (record m { periods = ps }) p
-    again p v = record { times = v.times; wells = v.wells; rivers = v.rivers; drains = v.drains; generals = v.generals; given = v.given; recharge = λ f. (let a = v.recharge f in record { whole = a.whole; decimals = a.decimals }); irch = v.irch; surf = λ f. (let a = v.surf f in record { whole = a.whole; decimals = a.decimals }); evtr = λ f. (let a = v.evtr f in record { whole = a.whole; decimals = a.decimals }); exdp = λ f. (let a = v.exdp f in record { whole = a.whole; decimals = a.decimals }); ievt = v.ievt }
+    again p v = record { times = v.times; stresses = v.stresses }
+
+-- A package of lists, by the laws of its trait: a model in limits stays so with its lists.
+module _ {E : Type 0} (kind : Kind E) (Valid : ℕ → E → Type 0) (laws : KeepsLimits kind Valid) where
+  put_back : (p q : Period) → without kind p ≡ without kind q → p ≡ with_list kind q (kind.list p.stresses)
+  put_back p q same =
+      let xs = kind.list p.stresses in
+      let twice : (r : Period) → with_list kind (without kind r) xs ≡ with_list kind r xs = λ r. ap (λ s. record r { stresses = s }) (laws.replaces r.stresses [] xs) in
+      ap (λ s. record p { stresses = s }) (sym (laws.unchanged p.stresses)) ∙ sym (twice p) ∙ ap (λ r. with_list kind r xs) same ∙ twice q
+
+  period_stays : (m : FlowModel) (p q : Period) → without kind p ≡ without kind q → IsPeriod m q → IsList kind (Valid (cell_count m.grid)) (kind.list p.stresses) → IsPeriod m p
+  period_stays m p q same h list =
+      with_stresses m m p q (kind.put q.stresses (kind.list p.stresses)) (put_back p q same) h (laws.fits m.grid m.nrchop m.nevtop q.stresses (kind.list p.stresses) list h.stresses)
+
+  model_stays : (m n : FlowModel) → SameBut kind m n → All (λ p. IsList kind (Valid (cell_count m.grid)) (kind.list p.stresses)) n.periods → IsModel m → IsModel n
+  model_stays m n same lists h = subst IsModel (sym same.model) (with_lists m n.periods h
+      (same_view (without kind) steps steps (λ p. refl) n.periods m.periods same.periods)
+      (same_view (without kind) evaporation_of evaporation_of (λ p. laws.evaporation p.stresses []) n.periods m.periods same.periods)
+      (each_period (without kind) (IsPeriod m) (IsPeriod m) (λ p. IsList kind (Valid (cell_count m.grid)) (kind.list p.stresses)) (period_stays m) n.periods m.periods same.periods h.periods lists))
+
+  pub still_valid : (m : FlowModel) (r : Result FlowModel TextFault) → IfOk r (λ n. All (λ p. IsList kind (Valid (cell_count m.grid)) (kind.list p.stresses)) n.periods) → IfOk r (SameBut kind m) → IsModel m → IfOk r IsModel
+  still_valid m (Ok n) lists same h = model_stays m n same lists h
+  still_valid m (Err fault) lists same h = tt

@@ -1,5 +1,5 @@
 -- An entry of a list: Layer Row Column, and the numbers of its package (TM 6-A16, WEL, RIV, DRN, GHB, CHD).
-use Rattle.std.specs.Prelude.{ℕ, ◌-◌, ℤ, Bool, true, false, ◌||◌, List, Option, Some, None, Result, Ok, Err}
+use Rattle.std.specs.Prelude.{ℕ, ◌-◌, ℤ, Bool, true, false, ◌||◌, List, length, Option, Some, None, Result, Ok, Err}
 use Rattle.std.specs.Prelude.{if◌then◌else◌, cond, codes, replicate, slice_index_or, slice_set}
 use Rattle.outside.specs.Refusals.{refusal}
 use Rattle.outside.specs.declared.codes.Code.{Code}
@@ -10,12 +10,12 @@ use Rattle.outside.specs.Words.{words}
 use Rattle.record_lines.specs.Layout.{Left}
 use Rattle.record_lines.specs.Reading.{◌>>=◌, repeated}
 use Rattle.array_reader.specs.Items.{number_at}
-use Rattle.array_reader.specs.Numbers.{integer}
+use Rattle.array_reader.specs.Numbers.{integer, number}
 use Rattle.model_types.specs.declared.grid.Grid.{Grid}
 use Rattle.model_types.specs.declared.grid.CellId.{CellId}
 use Rattle.model_types.specs.Cells.{cell_count, cell_number}
 use Rattle.number_limits.specs.Signs.{within}
-use Rattle.list_package.specs.Kinds.{Kind}
+use Rattle.list_package.specs.Kinds.{Kind, first_fault}
 
 abbrev pub inside : Option ℕ → Refusal → Result ℕ Refusal
 inside None r = Err r
@@ -35,34 +35,34 @@ passed (Some code) file line = Err (refusal code file line)
 
 -- The entry that the words of a line make, with its cell. All words are read; then the cell is tested, then the
 -- numbers. Last, in a list that may name a cell at most once, the cell must not be marked.
-unfoldable pub entry_of : {C E : Type 0} → Kind C E → List ℕ → ℕ → Grid → List Bool → List (List ℕ) → Result (E × CellId) Refusal
+unfoldable pub entry_of : {E : Type 0} → Kind E → List ℕ → ℕ → Grid → List Bool → List (List ℕ) → Result (E × CellId) Refusal
 entry_of kind file line grid marks words = do
   layer ← number_at integer file line words
   row ← number_at integer file line layer.1
   col ← number_at integer file line row.1
-  columns ← kind.reading file line col.1
+  numbers ← repeated (length kind.columns) (number_at number file line) col.1
   cell ← cell_at file line grid layer.0 row.0 col.0
-  tested ← passed (kind.fault columns) file line
-  if slice_index_or marks cell.0 false then Err (refusal BadProperty file line) else Ok (kind.entry cell columns, cell)
+  tested ← passed (first_fault kind.columns numbers.0) file line
+  if slice_index_or marks cell.0 false then Err (refusal BadProperty file line) else Ok (kind.entry cell numbers.0, cell)
 
 -- a line in place of entries that this program doesn't read
 abbrev pub is_left_out : List (List ℕ) → Bool
 is_left_out words = begins_with (codes "OPEN/CLOSE") words || (begins_with (codes "EXTERNAL") words || begins_with (codes "SFAC") words)
 
 -- one entry of a list, whose cell is marked
-unfoldable pub entry_at : {C E : Type 0} → Kind C E → List ℕ → Grid → (List Bool × Left) → Result (E × (List Bool × Left)) Refusal
+unfoldable pub entry_at : {E : Type 0} → Kind E → List ℕ → Grid → (List Bool × Left) → Result (E × (List Bool × Left)) Refusal
 entry_at kind file grid s = do
   line ← line_at file s.1
   if is_left_out (words line.0.bytes) then Err (refusal OutOfProfile file line.0.number)
       else (entry_of kind file line.0.number grid s.0 (words line.0.bytes) >>= λ e. Ok (e.0, (slice_set s.0 e.1.0 true, line.1)))
 
 -- the marks of a new list: one for each cell where a list may name a cell at most once
-abbrev pub no_marks : {C E : Type 0} → Kind C E → Grid → List Bool
+abbrev pub no_marks : {E : Type 0} → Kind E → Grid → List Bool
 no_marks kind grid = replicate (cond kind.once (cell_count grid) 0) false
 
 abbrev pub without_marks : {X : Type 0} → Result (X × (List Bool × Left)) Refusal → Result (X × Left) Refusal
 without_marks read = read >>= λ x. Ok (x.0, x.1.1)
 
 -- a list of this many entries
-unfoldable pub new_list : {C E : Type 0} → Kind C E → List ℕ → Grid → ℕ → Left → Result (List E × Left) Refusal
+unfoldable pub new_list : {E : Type 0} → Kind E → List ℕ → Grid → ℕ → Left → Result (List E × Left) Refusal
 new_list kind file grid n left = without_marks (repeated n (entry_at kind file grid) (no_marks kind grid, left))

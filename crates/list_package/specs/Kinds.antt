@@ -1,27 +1,49 @@
--- The trait of a list package: how its entries are read and tested, and where they go.
-use Rattle.std.specs.Prelude.{ℕ, Bool, List, [], Option, Result}
+-- The trait of a list package: the numbers of its entries, and where its lists go.
+use Rattle.std.specs.Prelude.{ℕ, Bool, List, [], ◌∷◌, Option, Some, None, if◌then◌else◌}
+use Rattle.decimal_input.specs.declared.dec.Dec.{Dec}
 use Rattle.outside.specs.declared.codes.Code.{Code}
-use Rattle.outside.specs.declared.refusals.Refusal.{Refusal}
+use Rattle.outside.specs.declared.codes.Code.TheVariants.{HeadTooLarge, BadProperty}
 use Rattle.model_types.specs.declared.grid.CellId.{CellId}
 use Rattle.model_types.specs.declared.period.Period.{Period}
+use Rattle.model_types.specs.declared.period.Stresses.{Stresses}
+use Rattle.number_limits.specs.Magnitudes.{is_head}
+use Rattle.list_package.specs.declared.columns.Column.{Column}
+use Rattle.list_package.specs.declared.columns.Column.TheVariants.{Rate, Head, Conductance}
 
--- C has the numbers of an entry after Layer Row Column, E is the entry
-pub record Kind (C E : Type 0) : Type 0 where
-  -- the numbers, by the words of a line of a file
-  pub reading : List ℕ → ℕ → List (List ℕ) → Result C Refusal
-  -- the first test that they fail
-  pub fault : C → Option Code
+-- a head is tested for its magnitude, and a conductance must not be below 0
+abbrev pub column_fault : Column → Dec → Option Code
+column_fault Rate x = None
+column_fault Head x = if is_head x then None else Some HeadTooLarge
+column_fault Conductance x = if x.neg then Some BadProperty else None
+
+abbrev pub or_later : Option Code → Option Code → Option Code
+or_later None later = later
+or_later (Some code) later = Some code
+
+-- the first test that numbers of these columns fail
+abbrev pub first_fault : List Column → List Dec → Option Code
+first_fault [] xs = None
+first_fault (c ∷ cs) [] = None
+first_fault (c ∷ cs) (x ∷ xs) = or_later (column_fault c x) (first_fault cs xs)
+
+-- E is the entry
+pub record Kind (E : Type 0) : Type 0 where
+  -- the numbers of an entry after Layer Row Column
+  pub columns : List Column
   -- the entry of a cell with these numbers, and an entry's cell
-  pub entry : CellId → C → E
+  pub entry : CellId → List Dec → E
   pub place : E → ℕ
   -- whether a list may name a cell at most once
   pub once : Bool
   -- whether a period may have this list
   pub suits : Period → List E → Bool
-  -- a period's list, and the period with this list
-  pub list : Period → List E
-  pub put : Period → List E → Period
+  -- a period's list, and its stresses with this list
+  pub list : Stresses → List E
+  pub put : Stresses → List E → Stresses
 
--- a period without its list of this kind
-abbrev pub without : {C E : Type 0} → Kind C E → Period → Period
-without kind p = kind.put p []
+-- a period with this list, and without its list of this kind
+abbrev pub with_list : {E : Type 0} → Kind E → Period → List E → Period
+with_list kind p xs = record p { stresses = kind.put p.stresses xs }
+
+abbrev pub without : {E : Type 0} → Kind E → Period → Period
+without kind p = with_list kind p []

@@ -1,4 +1,6 @@
 pub mod Kinds
+pub mod EntryKinds
+pub mod GivenHeads
 pub mod Entries
 pub mod Headers
 pub mod Seen

@@ -8,7 +8,8 @@ ghost use Rattle.model_types.specs.Grids.{HasSize};
 ghost use Rattle.list_package.specs.Entries.{cell_at, entry_of, entry_at, is_left_out, no_marks, new_list};
 ghost use Rattle.list_package.specs.Forms.{Differ, IsList, IsNewlyMarked};
 
-use crate::kind::Columns;
+use crate::columns::{first_fault, numbers_of};
+use crate::kind::ListEntry;
 use crate::marks::Marks;
 use array_reader::{integer, next_line};
 use model_types::{CellId, Grid, cell_of};
@@ -44,33 +45,35 @@ fn cell_at(
 
 /// The entry that the words of a line make, with its cell.
 #[tactic(auto, unfolding(crate::specs::Entries::entry_of))]
-fn entry_of<C: Columns>(
+fn entry_of<E: ListEntry>(
     alloc: Global,
+    lists: E::Lists,
     words: &mut Words,
     file: &str,
     line: u32,
     grid: &Grid,
     marks: &Marks,
-) -> Result<(C::Entry, CellId), TextFault>
+) -> Result<(E, CellId), TextFault>
     requires size { HasSize grid.now }
-    ensures entry { HasText (λ e. e) result (entry_of C.kind file.now line grid.now marks.now words.old) }
-    ensures valid { IfOk result (λ e. C.Valid (cell_count grid.now) e.0) }
-    ensures place { IfOk result (λ e. C.kind.place e.0 ≡ e.1.0) }
+    ensures entry { HasText (λ e. e) result (entry_of (E.kind lists) file.now line grid.now marks.now words.old) }
+    ensures valid { IfOk result (λ e. E.Valid (cell_count grid.now) e.0) }
+    ensures place { IfOk result (λ e. (E.kind lists).place e.0 ≡ e.1.0) }
     ensures inside { IfOk result (λ e. e.1.0 < cell_count grid.now) }
     ensures new { IfOk result (λ e. slice_index_or marks.now e.1.0 false ≡ false) }
 {
     let layer = integer(alloc, words, file, line)?;
     let row = integer(alloc, words, file, line)?;
     let col = integer(alloc, words, file, line)?;
-    let columns = C::read(alloc, words, file, line)?;
+    let columns = E::columns(lists);
+    let numbers = numbers_of(alloc, words, file, line, columns)?;
     let cell = cell_at(alloc, file, line, grid, layer, row, col)?;
-    if let Some(code) = columns.fault() {
+    if let Some(code) = first_fault(columns, &numbers) {
         return Err(refused(alloc, code, file, line));
     }
     if marks.is_marked(cell.0) {
         return Err(refused(alloc, Code::BadProperty, file, line));
     }
-    Ok((columns.entry(cell), cell))
+    Ok((E::entry(lists, cell, &numbers), cell))
 }
 
 fn is_left_out(line: &Line) -> bool
@@ -81,75 +84,82 @@ fn is_left_out(line: &Line) -> bool
 
 /// The next entry of a list. Its cell is marked.
 #[tactic(auto, unfolding(crate::specs::Entries::entry_at))]
-fn entry_at<C: Columns>(
+fn entry_at<E: ListEntry>(
     alloc: Global,
+    lists: E::Lists,
     lines: &mut Lines,
     file: &str,
     grid: &Grid,
     marks: &mut Marks,
-) -> Result<C::Entry, TextFault>
+) -> Result<E, TextFault>
     requires size { HasSize grid.now }
-    ensures entry { GivesText (λ e. e) result (marks.new, lines.new) (entry_at C.kind file.now grid.now (marks.old, lines.old)) }
-    ensures valid { IfOk result (C.Valid (cell_count grid.now)) }
-    ensures marked { IfOk result (IsNewlyMarked C.kind (cell_count grid.now) marks.old marks.new) }
+    ensures entry { GivesText (λ e. e) result (marks.new, lines.new) (entry_at (E.kind lists) file.now grid.now (marks.old, lines.old)) }
+    ensures valid { IfOk result (E.Valid (cell_count grid.now)) }
+    ensures marked { IfOk result (IsNewlyMarked (E.kind lists) (cell_count grid.now) marks.old marks.new) }
 {
     let line = next_line(alloc, lines, file)?;
     if is_left_out(&line) {
         return Err(refused(alloc, Code::OutOfProfile, file, line.number));
     }
     let mut words = Words::of(&line);
-    let (entry, cell) = entry_of::<C>(alloc, &mut words, file, line.number, grid, marks)?;
+    let (entry, cell) = entry_of::<E>(alloc, lists, &mut words, file, line.number, grid, marks)?;
     marks.mark(cell.0);
     Ok(entry)
 }
 
 /// Reads `count` entries.
-fn entries<C: Columns>(
+fn entries<E: ListEntry>(
     alloc: Global,
+    lists: E::Lists,
     lines: &mut Lines,
     file: &str,
     grid: &Grid,
     count: u32,
     marks: &mut Marks,
-) -> Result<Vec<C::Entry>, TextFault>
+) -> Result<Vec<E>, TextFault>
     requires size { HasSize grid.now }
-    requires marks { marks.old ≡ no_marks C.kind grid.now }
-    ensures entries { GivesText (λ v. v.items) result (marks.new, lines.new) (repeated count (entry_at C.kind file.now grid.now) (marks.old, lines.old)) }
+    requires marks { marks.old ≡ no_marks (E.kind lists) grid.now }
+    ensures entries { GivesText (λ v. v.items) result (marks.new, lines.new) (repeated count (entry_at (E.kind lists) file.now grid.now) (marks.old, lines.old)) }
     ensures count { IfOk result (λ v. length v.items ≡ count) }
-    ensures valid { IfOk result (λ v. All (C.Valid (cell_count grid.now)) v.items) }
-    ensures once { IfOk result (λ v. C.kind.once ≡ true → AllPairs (Differ C.kind) v.items) }
+    ensures valid { IfOk result (λ v. All (E.Valid (cell_count grid.now)) v.items) }
+    ensures once { IfOk result (λ v. (E.kind lists).once ≡ true → AllPairs (Differ (E.kind lists)) v.items) }
 {
     let mut list = Vec::new(alloc);
     for _ in 0..count {
-        let entry = entry_at::<C>(alloc, lines, file, grid, marks)?;
+        let entry = entry_at::<E>(alloc, lists, lines, file, grid, marks)?;
         list.push(entry)?;
     }
     Ok(list)
 }
 
-fn no_marks<C: Columns>(alloc: Global, grid: &Grid) -> Result<Marks, TextFault>
+fn no_marks<E: ListEntry>(alloc: Global, lists: E::Lists, grid: &Grid) -> Result<Marks, TextFault>
     requires size { HasSize grid.now }
-    ensures { HasText (λ m. m) result (Ok (no_marks C.kind grid.now)) }
+    ensures { HasText (λ m. m) result (Ok (no_marks (E.kind lists) grid.now)) }
 {
-    let count = if C::is_once() { grid.cell_count() } else { 0 };
+    let count = if E::is_once(lists) {
+        grid.cell_count()
+    } else {
+        0
+    };
     Ok(Marks::new(alloc, count as usize)?)
 }
 
 /// Reads a list of `count` entries, each cell at most once if the package requires that.
 #[tactic(auto, unfolding(crate::specs::Entries::new_list))]
-pub fn new_list<C: Columns>(
+pub fn new_list<E: ListEntry>(
     alloc: Global,
+    lists: E::Lists,
     lines: &mut Lines,
     file: &str,
     grid: &Grid,
     count: u32,
-) -> Result<Vec<C::Entry>, TextFault>
+) -> Result<Vec<E>, TextFault>
     requires size { HasSize grid.now }
     requires few { count ≤ 65536 }
-    ensures list { GivesText (λ v. v.items) result lines.new (new_list C.kind file.now grid.now count lines.old) }
-    ensures form { IfOk result (λ v. IsList C.kind (C.Valid (cell_count grid.now)) v.items) }
+    ensures list { GivesText (λ v. v.items) result lines.new (new_list (E.kind lists) file.now grid.now count lines.old) }
+    ensures form { IfOk result (λ v. IsList (E.kind lists) (E.Valid (cell_count grid.now)) v.items) }
 {
-    let mut marks = no_marks::<C>(alloc, grid)?;
-    let list = entries::<C>(alloc, lines, file, grid, count, &mut marks)?;
+    let mut marks = no_marks::<E>(alloc, lists, grid)?;
+    let list = entries::<E>(alloc, lists, lines, file, grid, count, &mut marks)?;
     Ok(list)
 }

@@ -1,60 +1,48 @@
-// The trait of a list package.
-ghost use Rattle.std.specs.Prelude.{◌≡◌, ◌<◌, ℕ, None, List, [], IfOk};
-ghost use Rattle.outside.specs.declared.codes.Code.{Code};
-ghost use Rattle.record_lines.specs.Reading.{HasText};
-ghost use Rattle.model_types.specs.declared.grid.CellId.{CellId};
-ghost use Rattle.model_types.specs.declared.period.Period.{Period};
-ghost use Rattle.list_package.specs.Kinds.{Kind, without};
+// The trait of an entry of lists.
+ghost use Rattle.std.specs.Prelude.{◌≡◌, ◌<◌, ℕ, []};
+ghost use Rattle.std.specs.List.{AllZip};
+ghost use Rattle.list_package.specs.Forms.{IsColumn, KeepsLimits};
+ghost use Rattle.list_package.specs.Kinds.{Kind};
 
-use model_types::{CellId, Period, Shared};
-use outside::{Code, TextFault};
-use record_lines::Words;
-use std::alloc::Global;
+use crate::columns::Column;
+use decimal_input::dec::Dec;
+use model_types::{CellId, Period, Shared, Stresses};
 
-/// The numbers of an entry after Layer Row Column, and the rules of a package of such entries.
-pub trait Columns: Copy {
-    type Entry: Copy + Drop;
+/// An entry of lists, of one package or of several that differ in their numbers.
+pub trait ListEntry: Copy + Drop {
+    /// Which lists they are, where several packages have such entries.
+    type Lists: Copy;
 
-    ghost kind: { Kind Self Self.Entry };
-
-    // What the numbers keep, such as canonical forms.
-    ghost Good: { Self → Type 0 };
+    ghost kind: { Self.Lists → Kind Self };
 
     // An entry in limits, in a grid of this many cells.
-    ghost Valid: { ℕ → Self.Entry → Type 0 };
+    ghost Valid: { ℕ → Self → Type 0 };
 
-    /// The numbers by the next words of a line.
-    fn read(alloc: Global, words: &mut Words, file: &str, line: u32) -> Result<Self, TextFault>
-        ensures columns { HasText (λ x. x) result (kind.reading file.now line words.old) }
-        ensures good { IfOk result Good };
-
-    /// The first test that the numbers fail.
-    fn fault(&self) -> Option<Code>
-        requires good { Good self.now }
-        ensures { result ≡ kind.fault self.now };
+    /// The numbers of an entry after Layer Row Column.
+    fn columns(lists: Self::Lists) -> &'static [Column]
+        ensures { result.now ≡ (kind lists).columns };
 
     /// The entry of a cell. It is in limits if the numbers passed their tests, in a grid that has the cell.
-    fn entry(self, cell: CellId) -> Self::Entry
-        ensures entry { result ≡ kind.entry cell self }
-        ensures valid { (cells : ℕ) → Good self → kind.fault self ≡ None → cell.0 < cells → Valid cells result };
+    fn entry(lists: Self::Lists, cell: CellId, numbers: &[Dec]) -> Self
+        ensures entry { result ≡ (kind lists).entry cell numbers.now }
+        ensures place { (kind lists).place result ≡ cell.0 }
+        ensures valid { (cells : ℕ) → AllZip IsColumn (kind lists).columns numbers.now → cell.0 < cells → Valid cells result };
 
     /// Whether a list may name a cell at most once.
-    fn is_once() -> bool
-        ensures { result ≡ kind.once };
+    fn is_once(lists: Self::Lists) -> bool
+        ensures { result ≡ (kind lists).once };
 
     /// Whether a period may have this list.
-    fn suits(period: &Period, list: &[Self::Entry]) -> bool
-        ensures { result ≡ kind.suits period.now list.now };
+    fn suits(lists: Self::Lists, period: &Period, list: &[Self]) -> bool
+        ensures { result ≡ (kind lists).suits period.now list.now };
 
-    /// The period with this list.
-    fn put(period: Period, list: Shared<Self::Entry>) -> Period
-        ensures { result ≡ kind.put period list };
+    /// The stresses with this list, in place of their earlier one.
+    fn put(lists: Self::Lists, stresses: Stresses, list: Shared<Self>) -> Stresses
+        ensures put { result ≡ (kind lists).put stresses list }
+        ensures list { (kind lists).list result ≡ list }
+        ensures others { (kind lists).put result [] ≡ (kind lists).put stresses [] };
 
-    // An entry has its cell.
-    ghost placed: { (cell : CellId) (x : Self) → kind.place (kind.entry cell x) ≡ cell.0 };
-
-    // A period has the list that was put into it, in place of its earlier one.
-    ghost kept: { (p : Period) (list : List Self.Entry) → kind.list (kind.put p list) ≡ list };
-
-    ghost replaced: { (p : Period) (list : List Self.Entry) → kind.put (kind.put p list) [] ≡ kind.put p [] };
+    /// A law: stresses in limits stay so with a list in limits.
+    fn lists_keep_limits(lists: Self::Lists)
+        ensures { KeepsLimits (kind lists) Valid };
 }

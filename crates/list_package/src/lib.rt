@@ -2,14 +2,20 @@
 //! for all of them.
 #![tactic(auto)]
 
+mod columns;
+mod entries;
 mod entry;
+mod given;
 mod header;
 mod kind;
 mod lists;
 mod marks;
 mod model;
 
+pub use columns::Column;
+pub use entries::ListKind;
+pub use given::SpecifiedHeads;
 pub use header::{Count, item_line};
-pub use kind::Columns;
+pub use kind::ListEntry;
 pub use marks::Marks;
 pub use model::read_package;

@@ -4,13 +4,13 @@ ghost use Rattle.record_lines.specs.Reading.{GivesText, HasText, for_each};
 ghost use Rattle.model_types.specs.Cells.{cell_count};
 ghost use Rattle.model_types.specs.Grids.{HasSize};
 ghost use Rattle.list_package.specs.Forms.{IsList};
-ghost use Rattle.list_package.specs.Kinds.{without};
+ghost use Rattle.list_package.specs.Kinds.{with_list, without};
 ghost use Rattle.list_package.specs.Lists.{list_at, list_of, period_at, periods_of};
 ghost use Rattle.list_package.specs.Seen.{count_seen, IsFew};
 
 use crate::entry::new_list;
 use crate::header::{Count, header_of};
-use crate::kind::Columns;
+use crate::kind::ListEntry;
 use array_reader::next_line;
 use model_types::{Grid, Period, Shared};
 use outside::{Code, TextFault, refused};
@@ -18,23 +18,24 @@ use record_lines::{Lines, Words};
 use std::alloc::Global;
 
 /// The list that follows, or the last one again.
-fn list_of<C: Columns>(
+fn list_of<E: ListEntry>(
     alloc: Global,
+    lists: E::Lists,
     lines: &mut Lines,
     file: &str,
     grid: &Grid,
     count: Count,
-    last: &Option<Shared<C::Entry>>,
-) -> Result<Shared<C::Entry>, TextFault>
+    last: &Option<Shared<E>>,
+) -> Result<Shared<E>, TextFault>
     requires size { HasSize grid.now }
     requires few { IsFew count }
-    requires last { IfSome last.now (IsList C.kind (C.Valid (cell_count grid.now))) }
-    ensures list { GivesText (λ l. l) result lines.new (list_of C.kind file.now grid.now (count_seen count) last.now lines.old) }
-    ensures form { IfOk result (IsList C.kind (C.Valid (cell_count grid.now))) }
+    requires last { IfSome last.now (IsList (E.kind lists) (E.Valid (cell_count grid.now))) }
+    ensures list { GivesText (λ l. l) result lines.new (list_of (E.kind lists) file.now grid.now (count_seen count) last.now lines.old) }
+    ensures form { IfOk result (IsList (E.kind lists) (E.Valid (cell_count grid.now))) }
 {
     match count {
         Count::Entries(count) => {
-            let list = new_list::<C>(alloc, lines, file, grid, count)?;
+            let list = new_list::<E>(alloc, lists, lines, file, grid, count)?;
             Ok(Shared::new(alloc, list)?)
         }
         Count::Again => match last {
@@ -46,25 +47,26 @@ fn list_of<C: Columns>(
 
 /// The next period's list, which becomes the last one.
 #[tactic(auto, unfolding(crate::specs::Lists::list_at))]
-fn list_at<C: Columns>(
+fn list_at<E: ListEntry>(
     alloc: Global,
+    lists: E::Lists,
     lines: &mut Lines,
     file: &str,
     grid: &Grid,
     period: &Period,
-    last: &mut Option<Shared<C::Entry>>,
-) -> Result<Shared<C::Entry>, TextFault>
+    last: &mut Option<Shared<E>>,
+) -> Result<Shared<E>, TextFault>
     requires size { HasSize grid.now }
-    requires last { IfSome last.old (IsList C.kind (C.Valid (cell_count grid.now))) }
-    ensures list { GivesText (λ l. l) result (last.new, lines.new) (list_at C.kind file.now grid.now period.now (last.old, lines.old)) }
-    ensures last { IfOk result (λ _. IfSome last.new (IsList C.kind (C.Valid (cell_count grid.now)))) }
-    ensures form { IfOk result (IsList C.kind (C.Valid (cell_count grid.now))) }
+    requires last { IfSome last.old (IsList (E.kind lists) (E.Valid (cell_count grid.now))) }
+    ensures list { GivesText (λ l. l) result (last.new, lines.new) (list_at (E.kind lists) file.now grid.now period.now (last.old, lines.old)) }
+    ensures last { IfOk result (λ _. IfSome last.new (IsList (E.kind lists) (E.Valid (cell_count grid.now)))) }
+    ensures form { IfOk result (IsList (E.kind lists) (E.Valid (cell_count grid.now))) }
 {
     let line = next_line(alloc, lines, file)?;
     let mut words = Words::of(&line);
     let count = header_of(alloc, &mut words, file, line.number, last.is_some())?;
-    let list = list_of::<C>(alloc, lines, file, grid, count, last)?;
-    if !C::suits(period, list.as_slice()) {
+    let list = list_of::<E>(alloc, lists, lines, file, grid, count, last)?;
+    if !E::suits(lists, period, list.as_slice()) {
         return Err(refused(alloc, Code::OutOfProfile, file, line.number));
     }
     let kept = list.again()?;
@@ -72,46 +74,62 @@ fn list_at<C: Columns>(
     Ok(list)
 }
 
+fn with_list<E: ListEntry>(lists: E::Lists, period: Period, list: Shared<E>) -> Period
+    ensures period { result ≡ with_list (E.kind lists) period list }
+    ensures list { (E.kind lists).list result.stresses ≡ list }
+    ensures others { without (E.kind lists) result ≡ without (E.kind lists) period }
+{
+    let stresses = E::put(lists, period.stresses, list);
+    Period { stresses, ..period }
+}
+
 /// The next period with its list, which becomes the last one.
 #[tactic(auto, unfolding(crate::specs::Lists::period_at))]
-fn period_at<C: Columns>(
+fn period_at<E: ListEntry>(
     alloc: Global,
+    lists: E::Lists,
     lines: &mut Lines,
     file: &str,
     grid: &Grid,
     period: Period,
-    last: &mut Option<Shared<C::Entry>>,
+    last: &mut Option<Shared<E>>,
 ) -> Result<Period, TextFault>
     requires size { HasSize grid.now }
-    requires last { IfSome last.old (IsList C.kind (C.Valid (cell_count grid.now))) }
-    ensures period { GivesText (λ p. p) result (last.new, lines.new) (period_at C.kind file.now grid.now period (last.old, lines.old)) }
-    ensures last { IfOk result (λ _. IfSome last.new (IsList C.kind (C.Valid (cell_count grid.now)))) }
-    ensures list { IfOk result (λ p. IsList C.kind (C.Valid (cell_count grid.now)) (C.kind.list p)) }
-    ensures others { IfOk result (λ p. without C.kind p ≡ without C.kind period) }
+    requires last { IfSome last.old (IsList (E.kind lists) (E.Valid (cell_count grid.now))) }
+    ensures period { GivesText (λ p. p) result (last.new, lines.new) (period_at (E.kind lists) file.now grid.now period (last.old, lines.old)) }
+    ensures last { IfOk result (λ _. IfSome last.new (IsList (E.kind lists) (E.Valid (cell_count grid.now)))) }
+    ensures list { IfOk result (λ p. IsList (E.kind lists) (E.Valid (cell_count grid.now)) ((E.kind lists).list p.stresses)) }
+    ensures others { IfOk result (λ p. without (E.kind lists) p ≡ without (E.kind lists) period) }
 {
-    let list = list_at::<C>(alloc, lines, file, grid, &period, last)?;
-    Ok(C::put(period, list))
+    match list_at::<E>(alloc, lists, lines, file, grid, &period, last) {
+        Ok(list) => Ok(with_list(lists, period, list)),
+        Err(fault) => {
+            drop(period);
+            Err(fault)
+        }
+    }
 }
 
 /// The periods with their lists, where `last` is the list of the period before.
-fn with_lists<C: Columns>(
+fn with_lists<E: ListEntry>(
     alloc: Global,
+    lists: E::Lists,
     lines: &mut Lines,
     file: &str,
     grid: &Grid,
     periods: Vec<Period>,
-    last: &mut Option<Shared<C::Entry>>,
+    last: &mut Option<Shared<E>>,
 ) -> Result<Vec<Period>, TextFault>
     requires size { HasSize grid.now }
-    requires last { IfSome last.old (IsList C.kind (C.Valid (cell_count grid.now))) }
+    requires last { IfSome last.old (IsList (E.kind lists) (E.Valid (cell_count grid.now))) }
     ensures periods { GivesText (λ v. v.items) result (last.new, lines.new)
-        (for_each (period_at C.kind file.now grid.now) periods.items (last.old, lines.old)) }
-    ensures lists { IfOk result (λ v. All (λ p. IsList C.kind (C.Valid (cell_count grid.now)) (C.kind.list p)) v.items) }
-    ensures others { IfOk result (λ v. map (without C.kind) v.items ≡ map (without C.kind) periods.items) }
+        (for_each (period_at (E.kind lists) file.now grid.now) periods.items (last.old, lines.old)) }
+    ensures lists { IfOk result (λ v. All (λ p. IsList (E.kind lists) (E.Valid (cell_count grid.now)) ((E.kind lists).list p.stresses)) v.items) }
+    ensures others { IfOk result (λ v. map (without (E.kind lists)) v.items ≡ map (without (E.kind lists)) periods.items) }
 {
     let mut whole = Vec::new(alloc);
     for period in periods {
-        let period = period_at::<C>(alloc, lines, file, grid, period, last)?;
+        let period = period_at::<E>(alloc, lists, lines, file, grid, period, last)?;
         whole.push(period)?;
     }
     Ok(whole)
@@ -119,19 +137,20 @@ fn with_lists<C: Columns>(
 
 /// The periods with their lists.
 #[tactic(auto, unfolding(crate::specs::Lists::periods_of))]
-pub fn periods_of<C: Columns>(
+pub fn periods_of<E: ListEntry>(
     alloc: Global,
+    lists: E::Lists,
     lines: &mut Lines,
     file: &str,
     grid: &Grid,
     periods: Vec<Period>,
 ) -> Result<Vec<Period>, TextFault>
     requires size { HasSize grid.now }
-    ensures periods { HasText (λ v. v.items) result (periods_of C.kind file.now grid.now periods.items lines.old) }
-    ensures lists { IfOk result (λ v. All (λ p. IsList C.kind (C.Valid (cell_count grid.now)) (C.kind.list p)) v.items) }
-    ensures others { IfOk result (λ v. map (without C.kind) v.items ≡ map (without C.kind) periods.items) }
+    ensures periods { HasText (λ v. v.items) result (periods_of (E.kind lists) file.now grid.now periods.items lines.old) }
+    ensures lists { IfOk result (λ v. All (λ p. IsList (E.kind lists) (E.Valid (cell_count grid.now)) ((E.kind lists).list p.stresses)) v.items) }
+    ensures others { IfOk result (λ v. map (without (E.kind lists)) v.items ≡ map (without (E.kind lists)) periods.items) }
 {
     let mut last = None;
-    let periods = with_lists::<C>(alloc, lines, file, grid, periods, &mut last)?;
+    let periods = with_lists::<E>(alloc, lists, lines, file, grid, periods, &mut last)?;
     Ok(periods)
 }

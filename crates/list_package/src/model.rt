@@ -3,12 +3,13 @@ ghost use Rattle.std.specs.Prelude.{◌≡◌, IfOk, All, map};
 ghost use Rattle.record_lines.specs.Reading.{HasText};
 ghost use Rattle.model_types.specs.Cells.{cell_count};
 ghost use Rattle.model_types.specs.Grids.{HasSize};
+ghost use Rattle.model_types.specs.Valid.{IsModel};
 ghost use Rattle.list_package.specs.Forms.{IsList, SameBut};
 ghost use Rattle.list_package.specs.Kinds.{without};
 ghost use Rattle.list_package.specs.Lists.{lists_of, package_of};
 
 use crate::header::item_line;
-use crate::kind::Columns;
+use crate::kind::ListEntry;
 use crate::lists::periods_of;
 use array_reader::integer;
 use model_types::{FlowModel, Grid, Listed, Period};
@@ -18,23 +19,45 @@ use std::alloc::Global;
 
 /// The periods with the lists of a package's file.
 #[tactic(auto, unfolding(crate::specs::Lists::lists_of))]
-fn lists_of<C: Columns>(
+fn lists_of<E: ListEntry>(
     alloc: Global,
+    lists: E::Lists,
     file: &str,
     bytes: &[u8],
     grid: &Grid,
     periods: Vec<Period>,
 ) -> Result<Vec<Period>, TextFault>
     requires size { HasSize grid.now }
-    ensures periods { HasText (λ v. v.items) result (lists_of C.kind file.now bytes.now grid.now periods.items) }
-    ensures lists { IfOk result (λ v. All (λ p. IsList C.kind (C.Valid (cell_count grid.now)) (C.kind.list p)) v.items) }
-    ensures others { IfOk result (λ v. map (without C.kind) v.items ≡ map (without C.kind) periods.items) }
+    ensures periods { HasText (λ v. v.items) result (lists_of (E.kind lists) file.now bytes.now grid.now periods.items) }
+    ensures lists { IfOk result (λ v. All (λ p. IsList (E.kind lists) (E.Valid (cell_count grid.now)) ((E.kind lists).list p.stresses)) v.items) }
+    ensures others { IfOk result (λ v. map (without (E.kind lists)) v.items ≡ map (without (E.kind lists)) periods.items) }
 {
     let mut lines = Lines::new(bytes);
     lines.skip_comments();
     let line = item_line(alloc, &mut lines, file)?;
     integer(alloc, &mut Words::of(&line), file, line.number)?;
-    periods_of::<C>(alloc, &mut lines, file, grid, periods)
+    periods_of::<E>(alloc, lists, &mut lines, file, grid, periods)
+}
+
+#[tactic(auto, unfolding(crate::specs::Lists::package_of))]
+fn package_of<E: ListEntry>(
+    alloc: Global,
+    lists: E::Lists,
+    file: &str,
+    bytes: &[u8],
+    model: FlowModel,
+) -> Result<FlowModel, TextFault>
+    requires size { HasSize model.grid }
+    ensures model { HasText (λ m. m) result (package_of (E.kind lists) file.now bytes.now model) }
+    ensures lists { IfOk result (λ m. All (λ p. IsList (E.kind lists) (E.Valid (cell_count model.grid)) ((E.kind lists).list p.stresses)) m.periods) }
+    ensures others { IfOk result (SameBut (E.kind lists) model) }
+{
+    let periods = model.periods.into_vec();
+    let periods = lists_of::<E>(alloc, lists, file, bytes, &model.grid, periods)?;
+    Ok(FlowModel {
+        periods: Listed::new(periods),
+        ..model
+    })
 }
 
 /// The model with the lists of a package's file in its periods. `file` is the file's name, for refusals. A list that
@@ -42,22 +65,19 @@ fn lists_of<C: Columns>(
 ///
 /// # Errors
 /// The first item that is wrong is refused on its line.
-#[tactic(auto, unfolding(crate::specs::Lists::package_of))]
-pub fn read_package<C: Columns>(
+pub fn read_package<E: ListEntry>(
     alloc: Global,
+    lists: E::Lists,
     file: &str,
     bytes: &[u8],
     model: FlowModel,
 ) -> Result<FlowModel, TextFault>
     requires size { HasSize model.grid }
-    ensures model { HasText (λ m. m) result (package_of C.kind file.now bytes.now model) }
-    ensures lists { IfOk result (λ m. All (λ p. IsList C.kind (C.Valid (cell_count model.grid)) (C.kind.list p)) m.periods) }
-    ensures others { IfOk result (SameBut C.kind model) }
+    ensures model { HasText (λ m. m) result (package_of (E.kind lists) file.now bytes.now model) }
+    ensures lists { IfOk result (λ m. All (λ p. IsList (E.kind lists) (E.Valid (cell_count model.grid)) ((E.kind lists).list p.stresses)) m.periods) }
+    ensures others { IfOk result (SameBut (E.kind lists) model) }
+    ensures valid { IsModel model → IfOk result IsModel }
 {
-    let periods = model.periods.into_vec();
-    let periods = lists_of::<C>(alloc, file, bytes, &model.grid, periods)?;
-    Ok(FlowModel {
-        periods: Listed::new(periods),
-        ..model
-    })
+    E::lists_keep_limits(lists);
+    package_of::<E>(alloc, lists, file, bytes, model)
 }

@@ -3,7 +3,7 @@ ghost use Rattle.std.specs.Prelude.{◌≡◌, ◌≤◌, IfOk, length};
 ghost use Rattle.model_types.specs.Grids.{HasSize};
 
 use decimal_input::dec::Dec;
-use model_types::{FlowModel, Grid, Listed, Period, Shared};
+use model_types::{FlowModel, Grid, Listed, Period, Stresses};
 use std::alloc::{AllocError, Global};
 
 const ONE: Dec = Dec {
@@ -16,29 +16,15 @@ fn none<T>(alloc: Global) -> Listed<T> {
     Listed::new(Vec::new(alloc))
 }
 
-fn unused<T: Drop>(alloc: Global) -> Result<Shared<T>, AllocError> {
-    Shared::new(alloc, Vec::new(alloc))
-}
-
 // One steady step without stresses.
-fn period(alloc: Global) -> Result<Period, AllocError> {
-    Ok(Period {
+fn period() -> Period {
+    Period {
         perlen: ONE,
         nstp: 1,
         tsmult: ONE,
         steady: true,
-        wells: unused(alloc)?,
-        rivers: unused(alloc)?,
-        drains: unused(alloc)?,
-        generals: unused(alloc)?,
-        given: unused(alloc)?,
-        recharge: unused(alloc)?,
-        irch: unused(alloc)?,
-        surf: unused(alloc)?,
-        evtr: unused(alloc)?,
-        exdp: unused(alloc)?,
-        ievt: unused(alloc)?,
-    })
+        stresses: Stresses::none(),
+    }
 }
 
 fn row(alloc: Global, cols: u32) -> Grid
@@ -71,7 +57,7 @@ pub fn model(
 {
     let cols = ibound.len().clamp(1, 1024) as u32;
     let ibound = Vec::from_slice(alloc, ibound)?;
-    let periods = vec![in alloc; period(alloc)?]?;
+    let periods = vec![in alloc; period()]?;
     Ok(FlowModel {
         grid: row(alloc, cols),
         lenuni,

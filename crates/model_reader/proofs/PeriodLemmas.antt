@@ -5,50 +5,19 @@ use Rattle.std.proofs.lemmas.Bool.{or_parts}
 use Rattle.std.proofs.lemmas.List.Elements.{All-nil, All-cons, All-weaker}
 use Rattle.model_types.specs.declared.model.FlowModel.{FlowModel}
 use Rattle.model_types.specs.declared.period.Period.{Period}
-use Rattle.model_types.specs.Cells.{cell_count}
-use Rattle.model_types.specs.Receivers.{is_int, is_chosen, evap_source}
+use Rattle.model_types.specs.Receivers.{is_chosen, evap_source}
 use Rattle.model_types.specs.Sources.{evap_sources}
 use Rattle.model_types.specs.Times.{period_at}
-use Rattle.model_types.specs.Valid.{IsTimed, IsPeriod, IsEntryList, IsEntryValid, IsGivenList, IsGivenValid, IsEvapValid}
+use Rattle.model_types.specs.Valid.{IsTimed, IsPeriod, IsEvapValid}
+use Rattle.model_types.proofs.NoStresses.{no_stresses_fit}
 use Rattle.dis_package.specs.Forms.{IsNewPeriod, without_stresses}
 use Rattle.lpf_package.specs.Flow.{is_transient}
 
-no_entries : (cells : ℕ) → IsEntryList cells []
-no_entries cells = record { few = omega arith; entries = All-nil (IsEntryValid cells) }
-
-none_given : (cells : ℕ) → IsGivenList cells []
-none_given cells = record { few = omega arith; entries = All-nil (IsGivenValid cells); once = grind arith }
-
-lacks : (z : ℤ) → z ≡ pos 0 → is_int z 0 ≡ false → ⊥
-lacks z e f =
-    let is : is_int z 0 ≡ true = rw e refl in
-    let clash : true ≡ false = sym is ∙ f in
-    cc
-
-not_two : (z : ℤ) → z ≡ pos 0 → is_int z 2 ≡ true → ⊥
-not_two z e f =
-    let is : is_int z 2 ≡ false = rw e refl in
-    let clash : false ≡ true = sym is ∙ f in
-    cc
-
-bare_period : (m : FlowModel) → m.nrchop ≡ pos 0 → m.nevtop ≡ pos 0 → (p : Period) → IsTimed (without_stresses p) → IsPeriod m (without_stresses p)
-bare_period m r e p times = record {
-  times = times;
-  wells = no_entries (cell_count m.grid);
-  rivers = no_entries (cell_count m.grid);
-  drains = no_entries (cell_count m.grid);
-  generals = no_entries (cell_count m.grid);
-  given = none_given (cell_count m.grid);
-  recharge = λ f. absurd (lacks m.nrchop r f);
-  irch = λ f. absurd (not_two m.nrchop r f);
-  surf = λ f. absurd (lacks m.nevtop e f);
-  evtr = λ f. absurd (lacks m.nevtop e f);
-  exdp = λ f. absurd (lacks m.nevtop e f);
-  ievt = λ f. absurd (not_two m.nevtop e f);
-}
+without_stresses_fits : (m : FlowModel) → m.nrchop ≡ pos 0 → m.nevtop ≡ pos 0 → (p : Period) → IsTimed (without_stresses p) → IsPeriod m (without_stresses p)
+without_stresses_fits m r e p times = record { times = times; stresses = no_stresses_fit m.grid m.nrchop m.nevtop r e }
 
 new_period : (m : FlowModel) → m.nrchop ≡ pos 0 → m.nevtop ≡ pos 0 → (p : Period) → IsNewPeriod p → IsPeriod m p
-new_period m r e p h = subst (IsPeriod m) (sym h.new) (bare_period m r e p (subst IsTimed h.new h.times))
+new_period m r e p h = subst (IsPeriod m) (sym h.new) (without_stresses_fits m r e p (subst IsTimed h.new h.times))
 
 pub all_periods : (m : FlowModel) → m.nrchop ≡ pos 0 → m.nevtop ≡ pos 0 → All IsNewPeriod m.periods → All (IsPeriod m) m.periods
 all_periods m r e h = All-weaker IsNewPeriod (IsPeriod m) (new_period m r e) m.periods h
@@ -58,7 +27,7 @@ none_chosen m z layers c e = rw e refl
 
 pub no_evaps : (m : FlowModel) (p c : ℕ) → m.nevtop ≡ pos 0 → All IsEvapValid (evap_sources m p c)
 no_evaps m p c e =
-    let none : evap_sources m p c ≡ [] = ap (λ b. option_to_list (cond (b && not ((evap_source m p c).rate.digits == 0)) (Some (evap_source m p c)) None)) (none_chosen m m.nevtop (period_at m p).ievt c e) in
+    let none : evap_sources m p c ≡ [] = ap (λ b. option_to_list (cond (b && not ((evap_source m p c).rate.digits == 0)) (Some (evap_source m p c)) None)) (none_chosen m m.nevtop (period_at m p).stresses.ievt c e) in
     subst (All IsEvapValid) (sym none) (All-nil IsEvapValid)
 
 pub all_steady : (ps : List Period) → is_transient ps ≡ false → All (λ p. p.steady ≡ true) ps

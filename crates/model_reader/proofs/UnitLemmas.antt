@@ -31,7 +31,7 @@ use Rattle.cell_checks.specs.declared.passing.Check.TheVariants.{Properties}
 use Rattle.list_package.specs.Kinds.{Kind}
 use Rattle.list_package.specs.Lists.{lists_of, package_of}
 use Rattle.stress_packages.specs.Packages.{wells, rivers, drains, generals}
-use Rattle.chd_package.specs.GivenHeads.{given_heads}
+use Rattle.list_package.specs.GivenHeads.{given_heads}
 use Rattle.rch_package.specs.Recharge.{rch_of, recharge_of, with_recharge}
 use Rattle.evt_package.specs.Evaporation.{evaporation_of, evt_of, with_evaporation}
 use Rattle.model_reader.specs.Model.{basics_tested, bas_in, dis_in, lpf_in, model_of, reads}
@@ -143,7 +143,7 @@ lpf_keeps files file bytes m n h short =
     let contents = goes (contents_of files file bytes m.grid (is_transient m.periods)) _ n h in
     ends HasShortUnit (with_contents m contents.item) n contents.then_ short
 
-package_keeps : {C E : Type 0} (kind : Kind C E) (file bytes : List ℕ) → Keeps (package_of kind file bytes)
+package_keeps : {E : Type 0} (kind : Kind E) (file bytes : List ℕ) → Keeps (package_of kind file bytes)
 unfolding package_of
 package_keeps kind file bytes m n h short =
     let periods = goes (lists_of kind file bytes m.grid m.periods) _ n h in
@@ -161,7 +161,7 @@ evt_keeps files file bytes m n h short =
     let evaporation = goes (evaporation_of files file bytes m.grid m.ibound m.periods) _ n h in
     ends HasShortUnit (with_evaporation m evaporation.item) n evaporation.then_ short
 
-list_in_keeps : {C E : Type 0} (kind : Kind C E) (files : List File) (file : List ℕ) → Keeps (list_in kind files file)
+list_in_keeps : {E : Type 0} (kind : Kind E) (files : List File) (file : List ℕ) → Keeps (list_in kind files file)
 unfolding file_in
 list_in_keeps kind files file m n h short = let bytes = goes (file_at files file) _ n h in package_keeps kind file bytes.item m n bytes.then_ short
 

@@ -5,12 +5,13 @@ use Rattle.outside.specs.Inputs.{file_at}
 use Rattle.outside.specs.declared.refusals.Refusal.{Refusal}
 use Rattle.record_lines.specs.Reading.{◌>>=◌}
 use Rattle.name_file.specs.Pairs.{Pairs, file_of}
+use Rattle.name_file.specs.declared.package.Package.{Package}
 use Rattle.name_file.specs.declared.package.Package.TheVariants.{Wel, Riv, Drn, Ghb, Rch, Chd, Evt}
 use Rattle.model_types.specs.declared.model.FlowModel.{FlowModel}
+use Rattle.list_package.specs.GivenHeads.{given_heads}
 use Rattle.list_package.specs.Kinds.{Kind}
 use Rattle.list_package.specs.Lists.{package_of}
 use Rattle.stress_packages.specs.Packages.{wells, rivers, drains, generals}
-use Rattle.chd_package.specs.GivenHeads.{given_heads}
 use Rattle.rch_package.specs.Recharge.{rch_of}
 use Rattle.evt_package.specs.Evaporation.{evt_of}
 
@@ -25,7 +26,7 @@ file_in read files name m = do
   bytes ← file_at files name
   read name bytes m
 
-abbrev pub list_in : {C E : Type 0} → Kind C E → List File → List ℕ → FlowModel → Result FlowModel Refusal
+abbrev pub list_in : {E : Type 0} → Kind E → List File → List ℕ → FlowModel → Result FlowModel Refusal
 list_in kind = file_in (package_of kind)
 
 unfoldable pub rch_in : List File → List ℕ → FlowModel → Result FlowModel Refusal
@@ -37,6 +38,15 @@ unfoldable pub evt_in : List File → List ℕ → FlowModel → Result FlowMode
 evt_in files evt m = do
   bytes ← file_at files evt
   evt_of files evt bytes m
+
+-- the reading of a package of lists
+abbrev pub lists_of : Package → List ℕ → List ℕ → FlowModel → Result FlowModel Refusal
+lists_of Wel file bytes m = package_of wells file bytes m
+lists_of Riv file bytes m = package_of rivers file bytes m
+lists_of Drn file bytes m = package_of drains file bytes m
+lists_of Ghb file bytes m = package_of generals file bytes m
+lists_of Chd file bytes m = package_of given_heads file bytes m
+lists_of other file bytes m = Ok m
 
 -- WEL, RIV, DRN, GHB
 unfoldable pub with_entries : List File → Pairs → FlowModel → Result FlowModel Refusal

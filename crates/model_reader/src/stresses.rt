@@ -8,7 +8,7 @@ ghost use Rattle.model_types.specs.Valid.{IsModel};
 ghost use Rattle.model_reader.specs.Stresses.{with_entries, with_stresses};
 
 use crate::arrays::{evt_in, rch_in};
-use crate::lists::{Drains, Generals, GivenHeads, Rivers, Wells, list_in};
+use crate::lists::list_in;
 use model_types::FlowModel;
 use name_file::{Names, Package};
 use outside::{Folder, InputFault};
@@ -28,10 +28,10 @@ fn with_entries<F: Folder>(
     ensures model { (files : List File) → F.agrees folder.new files → Has (λ m. m) result (with_entries files names.now model) }
     ensures form { IfOk result IsModel }
 {
-    let with_wells = list_in::<Wells, F>(alloc, names, Package::Wel, folder, model)?;
-    let with_rivers = list_in::<Rivers, F>(alloc, names, Package::Riv, folder, with_wells)?;
-    let with_drains = list_in::<Drains, F>(alloc, names, Package::Drn, folder, with_rivers)?;
-    list_in::<Generals, F>(alloc, names, Package::Ghb, folder, with_drains)
+    let with_wells = list_in(alloc, names, Package::Wel, folder, model)?;
+    let with_rivers = list_in(alloc, names, Package::Riv, folder, with_wells)?;
+    let with_drains = list_in(alloc, names, Package::Drn, folder, with_rivers)?;
+    list_in(alloc, names, Package::Ghb, folder, with_drains)
 }
 
 /// The model with its stresses, where their files are named: those of entries, then recharge, given heads and
@@ -51,6 +51,6 @@ pub fn with_stresses<F: Folder>(
 {
     let with_generals = with_entries(alloc, names, folder, model)?;
     let with_recharge = rch_in(alloc, names, folder, with_generals)?;
-    let with_given = list_in::<GivenHeads, F>(alloc, names, Package::Chd, folder, with_recharge)?;
+    let with_given = list_in(alloc, names, Package::Chd, folder, with_recharge)?;
     evt_in(alloc, names, folder, with_given)
 }

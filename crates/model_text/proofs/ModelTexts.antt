@@ -16,9 +16,8 @@ use Rattle.bas_package.specs.Basics.{with_basics}
 use Rattle.cell_checks.specs.Checks.{checked}
 use Rattle.cell_checks.specs.Faults.{fault_at}
 use Rattle.cell_checks.specs.declared.passing.Check.TheVariants.{Thickness, StartHead, Properties}
-use Rattle.stress_packages.specs.Columns.{IsRate, IsReach, IsDrain, IsGeneral}
 use Rattle.stress_packages.specs.Packages.{wells, rivers, drains, generals}
-use Rattle.chd_package.specs.GivenHeads.{AreHeads, given_heads}
+use Rattle.list_package.specs.GivenHeads.{given_heads}
 use Rattle.model_reader.specs.Names.{names_in, needed}
 use Rattle.model_reader.specs.Stresses.{where_named, list_in, rch_in, evt_in, with_entries, with_stresses}
 use Rattle.model_reader.specs.Model.{dis_in, basics_tested, bas_in, lpf_in, model_of, reads}
@@ -118,23 +117,23 @@ module _ (m : FlowModel) (w : IsWritable m) (names : Package → List ℕ) (file
       rw (there Lpf refl, read, properties_kept m (names Lpf), w.passed Properties (names Lpf)) refl
 
   wells_there : where_named (file_of Wel pairs) (list_in wells files) (staged m (pos 0) (pos 0) without_stresses) ≡ Ok (staged m (pos 0) (pos 0) with_wells)
-  wells_there = list_stage wells IsRate cell_of numbers_of list_packages.wel m size w.wel files (names Wel) (pos 0) (pos 0) without_stresses (λ p xs. refl) (λ p. refl) (file_of Wel pairs) (named Wel) (there Wel)
+  wells_there = list_stage wells cell_of numbers_of list_packages.wel m size w.wel files (names Wel) (pos 0) (pos 0) without_stresses (λ p xs. refl) (λ p. refl) (file_of Wel pairs) (named Wel) (there Wel)
 
   rivers_there : where_named (file_of Riv pairs) (list_in rivers files) (staged m (pos 0) (pos 0) with_wells) ≡ Ok (staged m (pos 0) (pos 0) with_rivers)
-  rivers_there = list_stage rivers IsReach cell_of numbers_of list_packages.riv m size w.riv files (names Riv) (pos 0) (pos 0) with_wells (λ p xs. refl) (λ p. refl) (file_of Riv pairs) (named Riv) (there Riv)
+  rivers_there = list_stage rivers cell_of numbers_of list_packages.riv m size w.riv files (names Riv) (pos 0) (pos 0) with_wells (λ p xs. refl) (λ p. refl) (file_of Riv pairs) (named Riv) (there Riv)
 
   drains_there : where_named (file_of Drn pairs) (list_in drains files) (staged m (pos 0) (pos 0) with_rivers) ≡ Ok (staged m (pos 0) (pos 0) with_drains)
-  drains_there = list_stage drains IsDrain cell_of numbers_of list_packages.drn m size w.drn files (names Drn) (pos 0) (pos 0) with_rivers (λ p xs. refl) (λ p. refl) (file_of Drn pairs) (named Drn) (there Drn)
+  drains_there = list_stage drains cell_of numbers_of list_packages.drn m size w.drn files (names Drn) (pos 0) (pos 0) with_rivers (λ p xs. refl) (λ p. refl) (file_of Drn pairs) (named Drn) (there Drn)
 
   generals_there : where_named (file_of Ghb pairs) (list_in generals files) (staged m (pos 0) (pos 0) with_drains) ≡ Ok (staged m (pos 0) (pos 0) with_generals)
-  generals_there = list_stage generals IsGeneral cell_of numbers_of list_packages.ghb m size w.ghb files (names Ghb) (pos 0) (pos 0) with_drains (λ p xs. refl) (λ p. refl) (file_of Ghb pairs) (named Ghb) (there Ghb)
+  generals_there = list_stage generals cell_of numbers_of list_packages.ghb m size w.ghb files (names Ghb) (pos 0) (pos 0) with_drains (λ p xs. refl) (λ p. refl) (file_of Ghb pairs) (named Ghb) (there Ghb)
 
   rain_there : where_named (file_of Rch pairs) (rch_in files) (staged m (pos 0) (pos 0) with_generals) ≡ Ok (staged m m.nrchop (pos 0) with_rain)
   rain_there = recharge_stage m size files (names Rch) with_generals (file_of Rch pairs) w.rch dry (named Rch) (there Rch)
 
   given_there : where_named (file_of Chd pairs) (list_in given_heads files) (staged m m.nrchop (pos 0) with_rain) ≡ Ok (staged m m.nrchop (pos 0) with_given)
   given_there =
-      list_stage given_heads AreHeads (λ x. x.cell.0) heads_of list_packages.chd m size w.chd files (names Chd) m.nrchop (pos 0) with_rain (λ p xs. refl) (λ p. refl) (file_of Chd pairs) (named Chd) (there Chd)
+      list_stage given_heads (λ x. x.cell.0) heads_of list_packages.chd m size w.chd files (names Chd) m.nrchop (pos 0) with_rain (λ p xs. refl) (λ p. refl) (file_of Chd pairs) (named Chd) (there Chd)
 
   all_there : where_named (file_of Evt pairs) (evt_in files) (staged m m.nrchop (pos 0) with_given) ≡ Ok (staged m m.nrchop m.nevtop with_all)
   all_there = evaporation_stage m size files (names Evt) with_given (file_of Evt pairs) w.evt still (named Evt) (there Evt)

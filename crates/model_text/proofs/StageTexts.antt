@@ -13,7 +13,7 @@ use Rattle.model_types.specs.declared.period.Period.{Period}
 use Rattle.model_types.specs.Cells.{cell_count}
 use Rattle.model_types.specs.Grids.{HasSize}
 use Rattle.model_types.specs.Receivers.{is_int}
-use Rattle.list_package.specs.Kinds.{Kind}
+use Rattle.list_package.specs.Kinds.{Kind, with_list as put}
 use Rattle.list_package.specs.Lists.{package_of}
 use Rattle.period_arrays.specs.Flags.{is_option}
 use Rattle.model_reader.specs.Stresses.{where_named, file_in, list_in, rch_in, evt_in}
@@ -40,49 +40,49 @@ same_stage f g P same [] h = refl
 same_stage f g P same (p ∷ ps) h = rw (same p (All-head P p ps h)) (ap (λ (qs : List Period). f p ∷ qs) (same_stage f g P same ps (All-tail P p ps h)))
 
 -- A list package: the next stage has its lists.
-module _ {C E : Type 0} (kind : Kind C E) (stage : Period → Period) where
+module _ {E : Type 0} (kind : Kind E) (stage : Period → Period) where
   abbrev pub with_list : Period → Period
-  with_list p = kind.put (stage p) (kind.list p)
+  with_list p = put kind (stage p) (kind.list p.stresses)
 
   abbrev lists_of : List Period → List (List E)
-  lists_of ps = map (λ p. kind.list p) ps
+  lists_of ps = map (λ p. kind.list p.stresses) ps
 
   lists_put : (ps : List Period) → with_lists kind (map stage ps) (lists_of ps) ≡ map with_list ps
   lists_put [] = refl
   lists_put (p ∷ ps) = ap (λ (qs : List Period). with_list p ∷ qs) (lists_put ps)
 
-  none_put : ((p : Period) → kind.put (stage p) [] ≡ stage p) → (ps : List Period) → is_listed (λ p. kind.list p) ps ≡ false → map with_list ps ≡ map stage ps
+  none_put : ((p : Period) → put kind (stage p) [] ≡ stage p) → (ps : List Period) → is_listed (λ p. kind.list p.stresses) ps ≡ false → map with_list ps ≡ map stage ps
   none_put empty [] none = refl
   none_put empty (p ∷ ps) none =
-      let parts = or_parts (nat_lt 0 (length (kind.list p))) (is_listed (λ q. kind.list q) ps) none in
-      let bare : kind.list p ≡ [] = is_empty (kind.list p) parts.0 in
-      let first : with_list p ≡ stage p = ap (λ (xs : List E). kind.put (stage p) xs) bare ∙ empty p in
+      let parts = or_parts (nat_lt 0 (length (kind.list p.stresses))) (is_listed (λ q. kind.list q.stresses) ps) none in
+      let bare : kind.list p.stresses ≡ [] = is_empty (kind.list p.stresses) parts.0 in
+      let first : with_list p ≡ stage p = ap (λ (xs : List E). put kind (stage p) xs) bare ∙ empty p in
       rw first (ap (λ (qs : List Period). stage p ∷ qs) (none_put empty ps parts.1))
 
-  all_lists : (AreNumbers : C → Type 0) (cells : ℕ) → ((p : Period) (xs : List E) → kind.suits (stage p) xs ≡ kind.suits p xs) → (ps : List Period)
-      → All (λ p. IsListOf kind AreNumbers cells p (kind.list p)) ps → AllZip (λ p xs. IsListOf kind AreNumbers cells p xs) (map stage ps) (lists_of ps)
-  all_lists AreNumbers cells same [] h = tt
-  all_lists AreNumbers cells same (p ∷ ps) h =
-      let first : IsListOf kind AreNumbers cells p (kind.list p) = All-head (λ q. IsListOf kind AreNumbers cells q (kind.list q)) p ps h in
-      let rest = All-tail (λ q. IsListOf kind AreNumbers cells q (kind.list q)) p ps h in
-      (record { few = first.few; entries = first.entries; once = first.once; suits = same p (kind.list p) ∙ first.suits }, all_lists AreNumbers cells same ps rest)
+  all_lists : (cells : ℕ) → ((p : Period) (xs : List E) → kind.suits (stage p) xs ≡ kind.suits p xs) → (ps : List Period)
+      → All (λ p. IsListOf kind cells p (kind.list p.stresses)) ps → AllZip (λ p xs. IsListOf kind cells p xs) (map stage ps) (lists_of ps)
+  all_lists cells same [] h = tt
+  all_lists cells same (p ∷ ps) h =
+      let first : IsListOf kind cells p (kind.list p.stresses) = All-head (λ q. IsListOf kind cells q (kind.list q.stresses)) p ps h in
+      let rest = All-tail (λ q. IsListOf kind cells q (kind.list q.stresses)) p ps h in
+      (record { few = first.few; entries = first.entries; once = first.once; suits = same p (kind.list p.stresses) ∙ first.suits }, all_lists cells same ps rest)
 
-module _ {C E : Type 0} (kind : Kind C E) (AreNumbers : C → Type 0) (cell : E → ℕ) (numbers : E → List Dec) (reads : ListsReadAsWritten kind AreNumbers cell numbers)
-    (m : FlowModel) (size : HasSize m.grid) (lists : HasLists kind AreNumbers m) (files : List File) (name : List ℕ) (nrchop nevtop : ℤ) (stage : Period → Period)
-    (suits : (p : Period) (xs : List E) → kind.suits (stage p) xs ≡ kind.suits p xs) (empty : (p : Period) → kind.put (stage p) [] ≡ stage p) where
-  list_there : file_at files name ≡ Ok (text (list_lines m.grid cell numbers (map (λ p. kind.list p) m.periods)))
+module _ {E : Type 0} (kind : Kind E) (cell : E → ℕ) (numbers : E → List Dec) (reads : ListsReadAsWritten kind cell numbers)
+    (m : FlowModel) (size : HasSize m.grid) (lists : HasLists kind m) (files : List File) (name : List ℕ) (nrchop nevtop : ℤ) (stage : Period → Period)
+    (suits : (p : Period) (xs : List E) → kind.suits (stage p) xs ≡ kind.suits p xs) (empty : (p : Period) → put kind (stage p) [] ≡ stage p) where
+  list_there : file_at files name ≡ Ok (text (list_lines m.grid cell numbers (map (λ p. kind.list p.stresses) m.periods)))
       → list_in kind files name (staged m nrchop nevtop stage) ≡ Ok (staged m nrchop nevtop (with_list kind stage))
   unfolding file_in package_of
   list_there there =
-      let good = all_lists kind stage AreNumbers (cell_count m.grid) suits m.periods lists in
-      rw (there, reads name m.grid (map stage m.periods) (map (λ p. kind.list p) m.periods) size good, lists_put kind stage m.periods) refl
+      let good = all_lists kind stage (cell_count m.grid) suits m.periods lists in
+      rw (there, reads name m.grid (map stage m.periods) (map (λ p. kind.list p.stresses) m.periods) size good, lists_put kind stage m.periods) refl
 
-  pub list_stage : (named : Option (List ℕ)) → named ≡ (if is_listed (λ p. kind.list p) m.periods then Some name else None)
-      → (is_listed (λ p. kind.list p) m.periods ≡ true → file_at files name ≡ Ok (text (list_lines m.grid cell numbers (map (λ p. kind.list p) m.periods))))
+  pub list_stage : (named : Option (List ℕ)) → named ≡ (if is_listed (λ p. kind.list p.stresses) m.periods then Some name else None)
+      → (is_listed (λ p. kind.list p.stresses) m.periods ≡ true → file_at files name ≡ Ok (text (list_lines m.grid cell numbers (map (λ p. kind.list p.stresses) m.periods))))
       → where_named named (list_in kind files) (staged m nrchop nevtop stage) ≡ Ok (staged m nrchop nevtop (with_list kind stage))
-  list_stage named asked there = by_case (is_listed (λ p. kind.list p) m.periods) refl
+  list_stage named asked there = by_case (is_listed (λ p. kind.list p.stresses) m.periods) refl
     where
-      by_case : (b : Bool) → is_listed (λ p. kind.list p) m.periods ≡ b → where_named named (list_in kind files) (staged m nrchop nevtop stage) ≡ Ok (staged m nrchop nevtop (with_list kind stage))
+      by_case : (b : Bool) → is_listed (λ p. kind.list p.stresses) m.periods ≡ b → where_named named (list_in kind files) (staged m nrchop nevtop stage) ≡ Ok (staged m nrchop nevtop (with_list kind stage))
       by_case true e = let is : named ≡ Some name = rw e at asked in rw is (list_there (there e))
       by_case false e = let is : named ≡ None = rw e at asked in rw (is, none_put kind stage empty m.periods e) refl
 
@@ -93,7 +93,7 @@ option_is_some (negsuc n) h = absurd (cc)
 
 -- RCH: the next stage has the recharge.
 abbrev pub with_recharge : (Period → Period) → Period → Period
-with_recharge stage p = record (stage p) { recharge = p.recharge; irch = p.irch }
+with_recharge stage p = record (stage p) { stresses = record (stage p).stresses { recharge = p.stresses.recharge; irch = p.stresses.irch } }
 
 module _ (m : FlowModel) (size : HasSize m.grid) (files : List File) (name : List ℕ) (stage : Period → Period) where
   recharge_put : (ps : List Period) → recharged (map stage ps) ps ≡ map (with_recharge stage) ps
@@ -118,7 +118,7 @@ module _ (m : FlowModel) (size : HasSize m.grid) (files : List File) (name : Lis
 
 -- EVT: the next stage has the evapotranspiration.
 abbrev pub with_evaporation : (Period → Period) → Period → Period
-with_evaporation stage p = record (stage p) { surf = p.surf; evtr = p.evtr; exdp = p.exdp; ievt = p.ievt }
+with_evaporation stage p = record (stage p) { stresses = record (stage p).stresses { surf = p.stresses.surf; evtr = p.stresses.evtr; exdp = p.stresses.exdp; ievt = p.stresses.ievt } }
 
 module _ (m : FlowModel) (size : HasSize m.grid) (files : List File) (name : List ℕ) (stage : Period → Period) where
   evaporation_put : (ps : List Period) → evaporated (map stage ps) ps ≡ map (with_evaporation stage) ps

@@ -5,28 +5,27 @@ use Rattle.model_types.specs.declared.period.Period.{Period}
 use Rattle.model_types.specs.Cells.{cell_count}
 use Rattle.cell_checks.specs.Checks.{checked}
 use Rattle.cell_checks.specs.declared.passing.Check.{Check}
+use Rattle.list_package.specs.GivenHeads.{given_heads}
 use Rattle.list_package.specs.Kinds.{Kind}
-use Rattle.stress_packages.specs.Columns.{IsRate, IsReach, IsDrain, IsGeneral}
 use Rattle.stress_packages.specs.Packages.{wells, rivers, drains, generals}
-use Rattle.chd_package.specs.GivenHeads.{AreHeads, given_heads}
 use Rattle.package_text.specs.Readable.{IsDiscretized, IsBasic, HasFlow}
 use Rattle.stress_text.specs.Entries.{IsListOf}
 use Rattle.area_text.specs.Readable.{IsRecharged, IsEvaporating}
 
 -- each stress period has a list of this package that its file can say
-abbrev pub HasLists : {C E : Type 0} → Kind C E → (C → Type 0) → FlowModel → Type 0
-HasLists kind AreNumbers m = All (λ p. IsListOf kind AreNumbers (cell_count m.grid) p (kind.list p)) m.periods
+abbrev pub HasLists : {E : Type 0} → Kind E → FlowModel → Type 0
+HasLists kind m = All (λ p. IsListOf kind (cell_count m.grid) p (kind.list p.stresses)) m.periods
 
 -- a period without recharge, and one without evapotranspiration
 pub record IsDry (p : Period) : Type 0 where
-  pub recharge : p.recharge ≡ []
-  pub irch : p.irch ≡ []
+  pub recharge : p.stresses.recharge ≡ []
+  pub irch : p.stresses.irch ≡ []
 
 pub record IsStill (p : Period) : Type 0 where
-  pub surf : p.surf ≡ []
-  pub evtr : p.evtr ≡ []
-  pub exdp : p.exdp ≡ []
-  pub ievt : p.ievt ≡ []
+  pub surf : p.stresses.surf ≡ []
+  pub evtr : p.stresses.evtr ≡ []
+  pub exdp : p.stresses.exdp ≡ []
+  pub ievt : p.stresses.ievt ≡ []
 
 -- a model without recharge, and one without evapotranspiration
 pub record HasNoRecharge (m : FlowModel) : Type 0 where
@@ -43,10 +42,10 @@ pub record IsWritable (m : FlowModel) : Type 0 where
   pub basic : IsBasic m
   pub flow : HasFlow m
   pub passed : (check : Check) (file : List ℕ) → checked m file check ≡ Ok tt
-  pub wel : HasLists wells IsRate m
-  pub riv : HasLists rivers IsReach m
-  pub drn : HasLists drains IsDrain m
-  pub ghb : HasLists generals IsGeneral m
+  pub wel : HasLists wells m
+  pub riv : HasLists rivers m
+  pub drn : HasLists drains m
+  pub ghb : HasLists generals m
   pub rch : IsRecharged m ⊎ HasNoRecharge m
-  pub chd : HasLists given_heads AreHeads m
+  pub chd : HasLists given_heads m
   pub evt : IsEvaporating m ⊎ HasNoEvaporation m

@@ -25,12 +25,12 @@ module _ (m : FlowModel) where
   has Dis = true
   has Bas = true
   has Lpf = true
-  has Wel = is_listed (λ p. p.wells) m.periods
-  has Riv = is_listed (λ p. p.rivers) m.periods
-  has Drn = is_listed (λ p. p.drains) m.periods
-  has Ghb = is_listed (λ p. p.generals) m.periods
+  has Wel = is_listed (λ p. p.stresses.wells) m.periods
+  has Riv = is_listed (λ p. p.stresses.rivers) m.periods
+  has Drn = is_listed (λ p. p.stresses.drains) m.periods
+  has Ghb = is_listed (λ p. p.stresses.generals) m.periods
   has Rch = not (is_int m.nrchop 0)
-  has Chd = is_listed (λ p. p.given) m.periods
+  has Chd = is_listed (λ p. p.stresses.given) m.periods
   has Evt = not (is_int m.nevtop 0)
 
   -- the lines of a package's file

@@ -41,7 +41,7 @@ table_at n k xs d lt = get_or-map-range_with_len (given_in xs) 0 n k k d lt (ome
 
 -- the table of a model's period
 abbrev pub lists_before : FlowModel → ℕ → List Given
-lists_before m p = flat_map (λ q. q.given) (take p m.periods)
+lists_before m p = flat_map (λ q. q.stresses.given) (take p m.periods)
 
 pub last_is : (m : FlowModel) (g : GivenHeads) (p : ℕ) → g ≡ given_heads m p → g.last ≡ table (cell_count m.grid) (lists_before m p)
 unfolding given_heads
@@ -55,17 +55,17 @@ pub length_is : (n : ℕ) (xs : List Given) (ys : List (Option Given)) → ys �
 length_is n xs ys e = ap length e ∙ length-map-range_with_len (given_in xs) 0 n
 
 -- the list that the next period has
-pub period_list : (m : FlowModel) (p : ℕ) (qs : List Period) (q : Period) (xs : List Given) → p < length m.periods → qs ≡ m.periods → q ≡ get_or qs p q → xs ≡ (get_or qs p q).given → xs ≡ (period_at m (p + 1)).given
+pub period_list : (m : FlowModel) (p : ℕ) (qs : List Period) (q : Period) (xs : List Given) → p < length m.periods → qs ≡ m.periods → q ≡ get_or qs p q → xs ≡ (get_or qs p q).stresses.given → xs ≡ (period_at m (p + 1)).stresses.given
 period_list m p qs q xs lt e is list =
     let at : q ≡ get_or m.periods p q = is ∙ ap (λ ys. get_or ys p q) e in
     let found : q ≡ get_or m.periods p no_period = get_or_read m.periods p q lt at no_period in
-    list ∙ ap (λ x. x.given) (sym is ∙ found ∙ ap (λ k. get_or m.periods k no_period) (omega arith))
+    list ∙ ap (λ x. x.stresses.given) (sym is ∙ found ∙ ap (λ k. get_or m.periods k no_period) (omega arith))
 
-pub lists_more : (m : FlowModel) (p : ℕ) → p < length m.periods → lists_before m p ++ (period_at m (p + 1)).given ≡ lists_before m (p + 1)
+pub lists_more : (m : FlowModel) (p : ℕ) → p < length m.periods → lists_before m p ++ (period_at m (p + 1)).stresses.given ≡ lists_before m (p + 1)
 lists_more m p lt =
     let more : take (p + 1) m.periods ≡ take p m.periods ++ get_or m.periods p no_period ∷ [] = take_more m.periods p no_period lt in
     let at : period_at m (p + 1) ≡ get_or m.periods p no_period = ap (λ k. get_or m.periods k no_period) (omega arith) in
-    ap (λ (q : Period). lists_before m p ++ q.given) at ∙ flat_map_more (λ (q : Period). q.given) [] (take p m.periods) (get_or m.periods p no_period) ∙ ap (flat_map (λ (q : Period). q.given)) (sym more)
+    ap (λ (q : Period). lists_before m p ++ q.stresses.given) at ∙ flat_map_more (λ (q : Period). q.stresses.given) [] (take p m.periods) (get_or m.periods p no_period) ∙ ap (flat_map (λ (q : Period). q.stresses.given)) (sym more)
 
 abbrev pub no_given : Given
 no_given = record { cell = record { 0 = 0 }; shead = no_number; ehead = no_number }

@@ -39,16 +39,16 @@ unfolding given_in
 named_any xs c = some_any (λ x. x.cell.0 == c) (reverse xs) ∙ any_turned (λ x. x.cell.0 == c) xs
 
 -- periods name a cell where the list of one of them does
-pub periods_any : (ps : List Period) (c : ℕ) → is_some (last_given ps c) ≡ list_any (λ p. is_some (given_in p.given c)) ps
+pub periods_any : (ps : List Period) (c : ℕ) → is_some (last_given ps c) ≡ list_any (λ p. is_some (given_in p.stresses.given c)) ps
 periods_any [] c = named_any [] c
 periods_any (p ∷ ps) c =
-    named_any (p.given ++ flat_map (λ q. q.given) ps) c
-    ∙ list_any-append (λ x. x.cell.0 == c) p.given (flat_map (λ q. q.given) ps)
-    ∙ (λ i. sym (named_any p.given c) i || (sym (named_any (flat_map (λ q. q.given) ps) c) ∙ periods_any ps c) i)
+    named_any (p.stresses.given ++ flat_map (λ q. q.stresses.given) ps) c
+    ∙ list_any-append (λ x. x.cell.0 == c) p.stresses.given (flat_map (λ q. q.stresses.given) ps)
+    ∙ (λ i. sym (named_any p.stresses.given c) i || (sym (named_any (flat_map (λ q. q.stresses.given) ps) c) ∙ periods_any ps c) i)
 
-named_lists : (ps : List Period) (c : ℕ) → list_any (λ p. is_some (given_in p.given c)) ps ≡ list_any (λ p. list_any (λ x. x.cell.0 == c) p.given) ps
+named_lists : (ps : List Period) (c : ℕ) → list_any (λ p. is_some (given_in p.stresses.given c)) ps ≡ list_any (λ p. list_any (λ x. x.cell.0 == c) p.stresses.given) ps
 named_lists [] c = refl
-named_lists (p ∷ ps) c = λ i. named_any p.given c i || named_lists ps c i
+named_lists (p ∷ ps) c = λ i. named_any p.stresses.given c i || named_lists ps c i
 
 take_fewer : {X : Type 0} (n : ℕ) (xs : List X) → take (min (length xs) n) xs ≡ take n xs
 take_fewer n xs = elim (cases_lt (length xs) n) [
@@ -57,7 +57,7 @@ take_fewer n xs = elim (cases_lt (length xs) n) [
 ]
 
 -- what the walk over the lists up to period p finds
-pub given_among : (ps qs : List Period) (p n c : ℕ) (b : Bool) → qs ≡ ps → n ≡ min (length qs) p → b ≡ list_any (λ q. list_any (λ x. x.cell.0 == c) q.given) (take n qs) → b ≡ is_some (last_given (take p ps) c)
+pub given_among : (ps qs : List Period) (p n c : ℕ) (b : Bool) → qs ≡ ps → n ≡ min (length qs) p → b ≡ list_any (λ q. list_any (λ x. x.cell.0 == c) q.stresses.given) (take n qs) → b ≡ is_some (last_given (take p ps) c)
 given_among ps qs p n c b e count found =
     let same : take n qs ≡ take p ps = ap (λ k. take k qs) count ∙ take_fewer p qs ∙ ap (take p) e in
-    found ∙ ap (list_any (λ q. list_any (λ x. x.cell.0 == c) q.given)) same ∙ sym (periods_any (take p ps) c ∙ named_lists (take p ps) c)
+    found ∙ ap (list_any (λ q. list_any (λ x. x.cell.0 == c) q.stresses.given)) same ∙ sym (periods_any (take p ps) c ∙ named_lists (take p ps) c)

@@ -7,3 +7,4 @@ mod LastGiven
 mod NeighbourFaces
 mod GivenTables
 mod StepLists
+pub mod NoStresses

@@ -31,4 +31,4 @@ module _ (m : FlowModel) (p n : ℕ) where
   head_or_kept None c = kept_head m (last_given (take (p - 1) m.periods) c) c
 
   unfoldable pub constant_head : ℕ → Fraction
-  constant_head c = head_or_kept (given_in (period_at m p).given c) c
+  constant_head c = head_or_kept (given_in (period_at m p).stresses.given c) c

@@ -18,7 +18,7 @@ given_in xs c = find (λ x. x.cell.0 == c) (reverse xs)
 
 -- the last entry of these periods' CHD lists, in their order, that names a cell
 abbrev pub last_given : List Period → ℕ → Option Given
-last_given ps c = given_in (flat_map (λ p. p.given) ps) c
+last_given ps c = given_in (flat_map (λ p. p.stresses.given) ps) c
 
 module _ (m : FlowModel) (p : ℕ) where
   -- whether a CHD list of a period up to p names the cell

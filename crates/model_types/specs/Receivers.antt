@@ -36,20 +36,20 @@ pub record EvapSource : Type 0 where
 module _ (m : FlowModel) (p : ℕ) where
   -- the rate RECH of recharge at the cell that NRCHOP chooses
   abbrev pub recharge_at : ℕ → Option Dec
-  recharge_at c = cond (is_chosen m m.nrchop (period_at m p).irch c) (Some (dec_at (period_at m p).recharge (place_in_layer m.grid c))) None
+  recharge_at c = cond (is_chosen m m.nrchop (period_at m p).stresses.irch c) (Some (dec_at (period_at m p).stresses.recharge (place_in_layer m.grid c))) None
 
   -- EVTR, SURF and EXDP at the place of a cell
   abbrev pub evap_source : ℕ → EvapSource
   evap_source c =
       record {
-        rate = dec_at (period_at m p).evtr (place_in_layer m.grid c);
-        surface = dec_at (period_at m p).surf (place_in_layer m.grid c);
-        depth = dec_at (period_at m p).exdp (place_in_layer m.grid c);
+        rate = dec_at (period_at m p).stresses.evtr (place_in_layer m.grid c);
+        surface = dec_at (period_at m p).stresses.surf (place_in_layer m.grid c);
+        depth = dec_at (period_at m p).stresses.exdp (place_in_layer m.grid c);
       }
 
   -- whether the cell evaporates: NEVTOP chooses it, and EVTR isn't 0
   abbrev pub evaporates : ℕ → Bool
-  evaporates c = is_chosen m m.nevtop (period_at m p).ievt c && not ((evap_source c).rate.digits == 0)
+  evaporates c = is_chosen m m.nevtop (period_at m p).stresses.ievt c && not ((evap_source c).rate.digits == 0)
 
   abbrev pub evap_at : ℕ → Option EvapSource
   evap_at c = cond (evaporates c) (Some (evap_source c)) None

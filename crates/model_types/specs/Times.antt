@@ -7,17 +7,15 @@ use Rattle.decimal_input.specs.Ratios.{Ratio, ratio, plus, times as product, ove
 use Rattle.model_types.specs.declared.entry.Entry.{Entry}
 use Rattle.model_types.specs.declared.model.FlowModel.{FlowModel}
 use Rattle.model_types.specs.declared.period.Period.{Period}
+use Rattle.model_types.specs.declared.period.Stresses.{Stresses}
 use Rattle.model_types.specs.declared.time_steps.TimeStep.{TimeStep}
 use Rattle.model_types.specs.Layers.{no_number}
 use Rattle.model_types.specs.Conductances.{one}
 
-abbrev pub no_period : Period
-no_period =
+-- a period's stresses where no package has any
+abbrev pub no_stresses : Stresses
+no_stresses =
     record {
-      perlen = no_number;
-      nstp = 0;
-      tsmult = no_number;
-      steady = true;
       wells = [];
       rivers = [];
       drains = [];
@@ -31,13 +29,16 @@ no_period =
       ievt = [];
     }
 
+abbrev pub no_period : Period
+no_period = record { perlen = no_number; nstp = 0; tsmult = no_number; steady = true; stresses = no_stresses }
+
 -- stress period p of a model, from 1
 abbrev pub period_at : FlowModel → ℕ → Period
 period_at m p = slice_index_or m.periods (p - 1) no_period
 
 -- all entries of WEL, RIV, DRN and GHB of a period
 abbrev pub entries : Period → List Entry
-entries p = p.wells ++ (p.rivers ++ (p.drains ++ p.generals))
+entries p = p.stresses.wells ++ (p.stresses.rivers ++ (p.stresses.drains ++ p.stresses.generals))
 
 -- t ^ n
 unfoldable pub power : Ratio → ℕ → Ratio

@@ -6,8 +6,10 @@ use Rattle.decimal_input.specs.declared.dec.Dec.{Dec}
 use Rattle.decimal_input.specs.Canonical.{IsDec, number, size}
 use Rattle.decimal_input.specs.Ratios.{ratio, AtMost}
 use Rattle.decimal_input.specs.Wholes.{IsSignedFloor, IsSignedCeiling}
+use Rattle.model_types.specs.declared.grid.Grid.{Grid}
 use Rattle.model_types.specs.declared.model.FlowModel.{FlowModel}
 use Rattle.model_types.specs.declared.period.Period.{Period}
+use Rattle.model_types.specs.declared.period.Stresses.{Stresses}
 use Rattle.model_types.specs.declared.entry.Given.{Given}
 use Rattle.model_types.specs.declared.entry.Entry.{Entry}
 use Rattle.model_types.specs.declared.entry.Entry.TheVariants.{Well, River, Drain, General}
@@ -59,8 +61,8 @@ pub record IsGivenList (cells : ℕ) (xs : List Given) : Type 0 where
   pub once : AllPairs (λ x y. x.cell ≡ y.cell → ⊥) xs
 
 -- an array of one layer
-pub record IsLayerArray (m : FlowModel) (xs : List Dec) : Type 0 where
-  pub whole : length xs ≡ layer_size m.grid
+pub record IsLayerArray (grid : Grid) (xs : List Dec) : Type 0 where
+  pub whole : length xs ≡ layer_size grid
   pub decimals : All IsDec xs
 
 -- an evapotranspiration whose rate isn't 0: its depth is above 0, and its surface and its extinction elevation are
@@ -89,19 +91,23 @@ pub record IsTimed (p : Period) : Type 0 where
   pub tsmult : IsPositive p.tsmult
   pub growth : p.steady ≡ false → (p.tsmult ≡ number_one) ⊎ IsGrowing p
 
+-- the stresses of a period of a model with this grid, NRCHOP and NEVTOP
+pub record AreStresses (grid : Grid) (nrchop nevtop : ℤ) (s : Stresses) : Type 0 where
+  pub wells : IsEntryList (cell_count grid) s.wells
+  pub rivers : IsEntryList (cell_count grid) s.rivers
+  pub drains : IsEntryList (cell_count grid) s.drains
+  pub generals : IsEntryList (cell_count grid) s.generals
+  pub given : IsGivenList (cell_count grid) s.given
+  pub recharge : is_int nrchop 0 ≡ false → IsLayerArray grid s.recharge
+  pub irch : is_int nrchop 2 ≡ true → length s.irch ≡ layer_size grid
+  pub surf : is_int nevtop 0 ≡ false → IsLayerArray grid s.surf
+  pub evtr : is_int nevtop 0 ≡ false → IsLayerArray grid s.evtr
+  pub exdp : is_int nevtop 0 ≡ false → IsLayerArray grid s.exdp
+  pub ievt : is_int nevtop 2 ≡ true → length s.ievt ≡ layer_size grid
+
 pub record IsPeriod (m : FlowModel) (p : Period) : Type 0 where
   pub times : IsTimed p
-  pub wells : IsEntryList (cell_count m.grid) p.wells
-  pub rivers : IsEntryList (cell_count m.grid) p.rivers
-  pub drains : IsEntryList (cell_count m.grid) p.drains
-  pub generals : IsEntryList (cell_count m.grid) p.generals
-  pub given : IsGivenList (cell_count m.grid) p.given
-  pub recharge : is_int m.nrchop 0 ≡ false → IsLayerArray m p.recharge
-  pub irch : is_int m.nrchop 2 ≡ true → length p.irch ≡ layer_size m.grid
-  pub surf : is_int m.nevtop 0 ≡ false → IsLayerArray m p.surf
-  pub evtr : is_int m.nevtop 0 ≡ false → IsLayerArray m p.evtr
-  pub exdp : is_int m.nevtop 0 ≡ false → IsLayerArray m p.exdp
-  pub ievt : is_int m.nevtop 2 ≡ true → length p.ievt ≡ layer_size m.grid
+  pub stresses : AreStresses m.grid m.nrchop m.nevtop p.stresses
 
 -- how a bed between two active cells is tested: where its two elevations differ
 abbrev pub IsBedChecked : FlowModel → ℕ → Type 0

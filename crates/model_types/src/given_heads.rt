@@ -39,11 +39,12 @@ impl GivenHeads {
         requires before { self.old ≡ given_heads model.now self.old.period }
         requires period { self.old.period < length model.now.periods }
         requires few { length model.now.periods ≤ 1000 }
-        requires cells { All (λ x. x.cell.0 < cell_count model.now.grid) (period_at model.now (self.old.period + 1)).given }
+        requires cells { All (λ x. x.cell.0 < cell_count model.now.grid) (period_at model.now (self.old.period + 1)).stresses.given }
         ensures period { self.new.period ≡ self.old.period + 1 }
         ensures given { self.new ≡ given_heads model.now self.new.period }
     {
         let list = model.periods.as_slice()[self.period as usize]
+            .stresses
             .given
             .as_slice();
         for x in list {

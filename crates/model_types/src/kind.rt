@@ -49,10 +49,10 @@ fn is_given(model: &FlowModel, period: u32, cell: u32) -> bool
 }
 
 fn any_names(periods: &[Period], cell: u32) -> bool
-    ensures { result ≡ list_any (λ p. list_any (λ x. x.cell.0 == cell) p.given) periods.now }
+    ensures { result ≡ list_any (λ p. list_any (λ x. x.cell.0 == cell) p.stresses.given) periods.now }
 {
     for p in periods {
-        if names(p.given.as_slice(), cell) {
+        if names(p.stresses.given.as_slice(), cell) {
             return true;
         }
     }

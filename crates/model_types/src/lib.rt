@@ -24,7 +24,7 @@ pub use grid::{CellId, Grid};
 pub use kind::{Kind, kind_at};
 pub use listed::Listed;
 pub use model::FlowModel;
-pub use period::Period;
+pub use period::{Period, Stresses};
 pub use places::{cell_of, place_of};
 pub use shared::Shared;
 pub use time_steps::{TimeStep, times};

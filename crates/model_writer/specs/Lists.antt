@@ -14,10 +14,10 @@ abbrev pub entries_in : Package → Period → List Entry
 entries_in Dis p = []
 entries_in Bas p = []
 entries_in Lpf p = []
-entries_in Wel p = p.wells
-entries_in Riv p = p.rivers
-entries_in Drn p = p.drains
-entries_in Ghb p = p.generals
+entries_in Wel p = p.stresses.wells
+entries_in Riv p = p.stresses.rivers
+entries_in Drn p = p.stresses.drains
+entries_in Ghb p = p.stresses.generals
 entries_in Rch p = []
 entries_in Chd p = []
 entries_in Evt p = []

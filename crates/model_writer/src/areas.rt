@@ -51,8 +51,8 @@ fn push_recharge(bytes: &mut Vec<u8>, model: &FlowModel, period: &Period) -> Res
 {
     let grid = &model.grid;
     bytes.extend_from_slice(b"1 1\n")?;
-    push_array(bytes, grid.rows, grid.cols, period.recharge.as_slice())?;
-    push_layers_if_two(bytes, model.nrchop, grid, period.irch.as_slice())
+    push_array(bytes, grid.rows, grid.cols, period.stresses.recharge.as_slice())?;
+    push_layers_if_two(bytes, model.nrchop, grid, period.stresses.irch.as_slice())
 }
 
 #[tactic(auto, using(crate::proofs::Items::items, crate::proofs::Texts::texts))]
@@ -84,10 +84,10 @@ fn push_evaporation(
 {
     let grid = &model.grid;
     bytes.extend_from_slice(b"1 1 1 1\n")?;
-    push_array(bytes, grid.rows, grid.cols, period.surf.as_slice())?;
-    push_array(bytes, grid.rows, grid.cols, period.evtr.as_slice())?;
-    push_array(bytes, grid.rows, grid.cols, period.exdp.as_slice())?;
-    push_layers_if_two(bytes, model.nevtop, grid, period.ievt.as_slice())
+    push_array(bytes, grid.rows, grid.cols, period.stresses.surf.as_slice())?;
+    push_array(bytes, grid.rows, grid.cols, period.stresses.evtr.as_slice())?;
+    push_array(bytes, grid.rows, grid.cols, period.stresses.exdp.as_slice())?;
+    push_layers_if_two(bytes, model.nevtop, grid, period.stresses.ievt.as_slice())
 }
 
 #[tactic(auto, using(crate::proofs::Items::items, crate::proofs::Texts::texts))]

@@ -72,10 +72,10 @@ impl ListEntry for Entry {
 
     fn list_in(kind: Package, period: &Period) -> &[Entry] {
         match kind {
-            Package::Wel => period.wells.as_slice(),
-            Package::Riv => period.rivers.as_slice(),
-            Package::Drn => period.drains.as_slice(),
-            Package::Ghb => period.generals.as_slice(),
+            Package::Wel => period.stresses.wells.as_slice(),
+            Package::Riv => period.stresses.rivers.as_slice(),
+            Package::Drn => period.stresses.drains.as_slice(),
+            Package::Ghb => period.stresses.generals.as_slice(),
             _ => &[],
         }
     }
@@ -86,7 +86,7 @@ impl ListEntry for Given {
 
     ghost numbers = { heads_of };
 
-    ghost list = { λ kind p. p.given };
+    ghost list = { λ kind p. p.stresses.given };
 
     fn cell(&self) -> CellId {
         self.cell
@@ -97,6 +97,6 @@ impl ListEntry for Given {
     }
 
     fn list_in(_kind: Package, period: &Period) -> &[Given] {
-        period.given.as_slice()
+        period.stresses.given.as_slice()
     }
 }

@@ -69,22 +69,22 @@ module _ (m : FlowModel) (at : TimeStep) (valid : IsModel m) (time : IsTimeOf m 
 
   pub heads : (c : ℕ) (lo hi : ℤ) → c < cell_count m.grid → is_constant m at.period c ≡ true → IsConstantPair m at c lo hi → EnclosesSigned lo hi 9 (constant_head m at.period at.step c)
   unfolding IsConstantPair constant_head
-  heads c lo hi lt k h = given_or_kept (given_in (period_at m at.period).given c) c lo hi h
+  heads c lo hi lt k h = given_or_kept (given_in (period_at m at.period).stresses.given c) c lo hi h
 
   kept_range : (o : Option Given) (c : ℕ) (lo hi : ℤ) → last_given (take (at.period - 1) m.periods) c ≡ o → c < cell_count m.grid → is_active m c ≡ true → IsKeptPair m c o lo hi → IsHead lo × IsHead hi
   kept_range None c lo hi e lt a k = head_pair_range (dec_at m.strt c) lo hi (valid.cells c lt a).strt k
   kept_range (Some x) c lo hi e lt a k = head_pair_range x.ehead lo hi (last_valid m (at.period - 1) c x valid e).ehead k
 
-  either_range : (o : Option Given) (c : ℕ) (lo hi : ℤ) → given_in (period_at m at.period).given c ≡ o → c < cell_count m.grid → is_active m c ≡ true → IsGivenOrKept m at c o lo hi → IsHead lo × IsHead hi
+  either_range : (o : Option Given) (c : ℕ) (lo hi : ℤ) → given_in (period_at m at.period).stresses.given c ≡ o → c < cell_count m.grid → is_active m c ≡ true → IsGivenOrKept m at c o lo hi → IsHead lo × IsHead hi
   either_range None c lo hi e lt a k = kept_range (last_given (take (at.period - 1) m.periods) c) c lo hi refl lt a k
   either_range (Some x) c lo hi e lt a (f, g, part, pair) =
       let q = part_encloses (period_at m at.period) at.step f g time.step.0 time.step.1 (multiplier_positive (period_at m at.period) time.valid.times) part in
-      let h = given_valid (cell_count m.grid) (period_at m at.period).given c x time.valid.given.entries e in
+      let h = given_valid (cell_count m.grid) (period_at m at.period).stresses.given c x time.valid.stresses.given.entries e in
       given_range x.shead x.ehead f g lo hi h.shead h.ehead q.low_range q.high_range pair
 
   pub head_range : (c : ℕ) (lo hi : ℤ) → c < cell_count m.grid → is_constant m at.period c ≡ true → IsConstantPair m at c lo hi → IsHead lo × IsHead hi
   unfolding IsConstantPair
-  head_range c lo hi lt k h = either_range (given_in (period_at m at.period).given c) c lo hi refl lt (constant_active m at.period c k) h
+  head_range c lo hi lt k h = either_range (given_in (period_at m at.period).stresses.given c) c lo hi refl lt (constant_active m at.period c k) h
 
 module _ (m : FlowModel) (w : Thicknesses) (s : ℕ) (at : TimeStep) (valid : IsModel m) (r : AreThicknesses m w) (time : IsTimeOf m at) where
   faces : (axis : Axis) (a lo hi : ℕ) → a + stride m.grid axis < cell_count m.grid → is_active m a ≡ true → is_active m (a + stride m.grid axis) ≡ true →

@@ -100,23 +100,25 @@ module _ (k q : Dec) (hk : IsPositive k) (hq : IsDec q) where
   period : IsPeriod (example_model k q) (example_period q)
   period = record {
     times = record { nstp = (omega arith, omega arith); perlen = not_negative; lasts = (λ e. digit_positive 1 (omega arith) (omega arith)); tsmult = digit_positive 1 (omega arith) (omega arith); growth = (λ e. inl refl) };
-    wells = record { few = omega arith; entries = one (IsEntryValid 2) _ (omega arith, hq) };
-    rivers = record { few = omega arith; entries = one (IsEntryValid 2) _ (omega arith, digit_head 4 (omega arith) (omega arith), not_negative, digit_head 2 (omega arith) (omega arith)) };
-    drains = record { few = omega arith; entries = one (IsEntryValid 2) _ (omega arith, digit_head 3 (omega arith) (omega arith), not_negative) };
-    generals = record { few = omega arith; entries = one (IsEntryValid 2) _ (omega arith, digit_head 6 (omega arith) (omega arith), not_negative) };
-    given = record { few = omega arith; entries = none _; once = (λ i j d lt less. absurd (omega (arith, less))) };
-    recharge = (λ e. record { whole = refl; decimals = two IsDec (thousandths 1) (small 1 (omega arith) (omega arith)).decimal });
-    irch = (λ e. absurd (false≢true e));
-    surf = (λ e. record { whole = refl; decimals = two IsDec (whole 7) (digit 7 (omega arith) (omega arith)) });
-    evtr = (λ e. record { whole = refl; decimals = two IsDec (thousandths 2) (small 2 (omega arith) (omega arith)).decimal });
-    exdp = (λ e. record { whole = refl; decimals = two IsDec (whole 2) (digit 2 (omega arith) (omega arith)) });
-    ievt = (λ e. absurd (false≢true e));
+    stresses = record {
+      wells = record { few = omega arith; entries = one (IsEntryValid 2) _ (omega arith, hq) };
+      rivers = record { few = omega arith; entries = one (IsEntryValid 2) _ (omega arith, digit_head 4 (omega arith) (omega arith), not_negative, digit_head 2 (omega arith) (omega arith)) };
+      drains = record { few = omega arith; entries = one (IsEntryValid 2) _ (omega arith, digit_head 3 (omega arith) (omega arith), not_negative) };
+      generals = record { few = omega arith; entries = one (IsEntryValid 2) _ (omega arith, digit_head 6 (omega arith) (omega arith), not_negative) };
+      given = record { few = omega arith; entries = none _; once = (λ i j d lt less. absurd (omega (arith, less))) };
+      recharge = (λ e. record { whole = refl; decimals = two IsDec (thousandths 1) (small 1 (omega arith) (omega arith)).decimal });
+      irch = (λ e. absurd (false≢true e));
+      surf = (λ e. record { whole = refl; decimals = two IsDec (whole 7) (digit 7 (omega arith) (omega arith)) });
+      evtr = (λ e. record { whole = refl; decimals = two IsDec (thousandths 2) (small 2 (omega arith) (omega arith)).decimal });
+      exdp = (λ e. record { whole = refl; decimals = two IsDec (whole 2) (digit 2 (omega arith) (omega arith)) });
+      ievt = (λ e. absurd (false≢true e));
+    };
   }
 
   -- the evapotranspiration of a cell in a period
   abbrev evap_in : Period → ℕ → List EvapSource
-  evap_in x c = option_to_list (cond (is_chosen (example_model k q) (pos 3) x.ievt c && not ((dec_at x.evtr (place_in_layer example_grid c)).digits == 0))
-      (Some (record { rate = dec_at x.evtr (place_in_layer example_grid c); surface = dec_at x.surf (place_in_layer example_grid c); depth = dec_at x.exdp (place_in_layer example_grid c) })) None)
+  evap_in x c = option_to_list (cond (is_chosen (example_model k q) (pos 3) x.stresses.ievt c && not ((dec_at x.stresses.evtr (place_in_layer example_grid c)).digits == 0))
+      (Some (record { rate = dec_at x.stresses.evtr (place_in_layer example_grid c); surface = dec_at x.stresses.surf (place_in_layer example_grid c); depth = dec_at x.stresses.exdp (place_in_layer example_grid c) })) None)
 
   in_the_period : (c : ℕ) → c < 2 → All IsEvapValid (evap_in (example_period q) c)
   in_the_period zero lt = one IsEvapValid _ evap

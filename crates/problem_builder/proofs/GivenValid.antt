@@ -38,9 +38,9 @@ pub given_valid : (n : ℕ) (xs : List Given) (c : ℕ) (x : Given) → All (IsG
 unfolding given_in
 given_valid n xs c x h e = In-All (IsGivenValid n) xs x h (turned-In xs x (find-In (λ y. y.cell.0 == c) (reverse xs) x e))
 
-flat_valid : (m : FlowModel) (ps : List Period) → ((p : Period) → In ps p → IsPeriod m p) → All (IsGivenValid (cell_count m.grid)) (flat_map (λ p. p.given) ps)
+flat_valid : (m : FlowModel) (ps : List Period) → ((p : Period) → In ps p → IsPeriod m p) → All (IsGivenValid (cell_count m.grid)) (flat_map (λ p. p.stresses.given) ps)
 flat_valid m [] h = All-nil (IsGivenValid (cell_count m.grid))
-flat_valid m (p ∷ ps) h = All-append (IsGivenValid (cell_count m.grid)) p.given (flat_map (λ q. q.given) ps) (h p (inl refl)).given.entries (flat_valid m ps (λ q i. h q (inr i)))
+flat_valid m (p ∷ ps) h = All-append (IsGivenValid (cell_count m.grid)) p.stresses.given (flat_map (λ q. q.stresses.given) ps) (h p (inl refl)).stresses.given.entries (flat_valid m ps (λ q i. h q (inr i)))
 
 taken-In : {X : Type 0} (k : ℕ) (xs : List X) (x : X) → In (take k xs) x → In xs x
 taken-In zero xs x i = absurd i
@@ -50,7 +50,7 @@ taken-In (suc k) (y ∷ ys) x (inr i) = inr (taken-In k ys x i)
 
 pub last_valid : (m : FlowModel) (k c : ℕ) (x : Given) → IsModel m → last_given (take k m.periods) c ≡ Some x → IsGivenValid (cell_count m.grid) x
 last_valid m k c x valid e =
-    given_valid (cell_count m.grid) (flat_map (λ p. p.given) (take k m.periods)) c x (flat_valid m (take k m.periods) (λ p i. In-All (IsPeriod m) m.periods p valid.periods (taken-In k m.periods p i))) e
+    given_valid (cell_count m.grid) (flat_map (λ p. p.stresses.given) (take k m.periods)) c x (flat_valid m (take k m.periods) (λ p i. In-All (IsPeriod m) m.periods p valid.periods (taken-In k m.periods p i))) e
 
 pub last_head : (m : FlowModel) (k c : ℕ) (o : Option Given) → IsModel m → o ≡ last_given (take k m.periods) c → IfSome o (λ x. IsHeadNumber x.ehead)
 last_head m k c None valid e = tt

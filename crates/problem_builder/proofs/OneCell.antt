@@ -57,7 +57,7 @@ one_either m at c (Some x) lo hi l h (f, g, part, pair) (k, n, part', pair') =
 
 pub one_constant_pair : (m : FlowModel) (at : TimeStep) (c : ℕ) (lo hi l h : ℤ) → IsConstantPair m at c lo hi → IsConstantPair m at c l h → BothSigned lo hi l h
 unfolding IsConstantPair
-one_constant_pair m at c lo hi l h p q = one_either m at c (given_in (period_at m at.period).given c) lo hi l h p q
+one_constant_pair m at c lo hi l h p q = one_either m at c (given_in (period_at m at.period).stresses.given c) lo hi l h p q
 
 -- a bed without thickness is left out
 bare : (n : ℕ) (x y z v : Term) → (0 < n → z ≡ v) → resistance_sum (n == 0) x z y ≡ resistance_sum (n == 0) x v y

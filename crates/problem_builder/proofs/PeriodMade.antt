@@ -19,7 +19,7 @@ pub record ArePeriodParts (m : FlowModel) (s before p : ℕ) (t : PeriodTables) 
   pub steady : t.steady ≡ (period_at m p).steady
   pub kinds : Filled (IsKind m p) NoFlow (cell_count m.grid) t.kinds
   pub index : Filled (IsIndex m p) 0 (cell_count m.grid) t.index
-  pub given : Filled (IsNamed (period_at m p).given) None (cell_count m.grid) t.given
+  pub given : Filled (IsNamed (period_at m p).stresses.given) None (cell_count m.grid) t.given
   pub kept : Filled (IsKept m before) no_bound (cell_count m.grid) t.kept
   pub locals : length t.local ≡ cell_count m.grid
   pub local : (c : ℕ) → local_in t.local c ≡ local_entries m p c

@@ -18,8 +18,8 @@ period_read m p x xs r e h = h ∙ any_default xs (p - 1) x no_period (omega (ar
 pub period_valid : (m : FlowModel) (p : ℕ) → IsModel m → (1 ≤ p) × (p ≤ length m.periods) → IsPeriod m (period_at m p)
 period_valid m p valid r = valid.periods (p - 1) no_period (omega (arith, r.0, r.1))
 
-pub given_cells : (m : FlowModel) (p : ℕ) → IsModel m → (1 ≤ p) × (p ≤ length m.periods) → All (λ x. x.cell.0 < cell_count m.grid) (period_at m p).given
-given_cells m p valid r i d lt = ((period_valid m p valid r).given.entries i d lt).cell
+pub given_cells : (m : FlowModel) (p : ℕ) → IsModel m → (1 ≤ p) × (p ≤ length m.periods) → All (λ x. x.cell.0 < cell_count m.grid) (period_at m p).stresses.given
+given_cells m p valid r i d lt = ((period_valid m p valid r).stresses.given.entries i d lt).cell
 
 entry_within : (n : ℕ) (x : Entry) → IsEntryValid n x → cell_of x < n
 entry_within n (Well cell q) h = h.0

@@ -33,8 +33,9 @@ wider n (General cell head k) le h = (omega (arith, le, h.0), h.1, h.2)
 pub all_entries : (m : FlowModel) (p : ℕ) → IsPeriod m (period_at m p) → All (IsEntryValid (cell_count m.grid)) (entries (period_at m p))
 all_entries m p q =
     let P = IsEntryValid (cell_count m.grid) in
-    let t = period_at m p in
-    All-append P t.wells (t.rivers ++ (t.drains ++ t.generals)) q.wells.entries (All-append P t.rivers (t.drains ++ t.generals) q.rivers.entries (All-append P t.drains t.generals q.drains.entries q.generals.entries))
+    let t = (period_at m p).stresses in
+    let h = q.stresses in
+    All-append P t.wells (t.rivers ++ (t.drains ++ t.generals)) h.wells.entries (All-append P t.rivers (t.drains ++ t.generals) h.rivers.entries (All-append P t.drains t.generals h.drains.entries h.generals.entries))
 
 pub local_valid : (m : FlowModel) (p c : ℕ) → IsModel m → IsPeriod m (period_at m p) → All (IsEntryValid 65536) (local_entries m p c)
 unfolding entries_of

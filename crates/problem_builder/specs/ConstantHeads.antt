@@ -20,4 +20,4 @@ IsGivenOrKept m at c None lo hi = IsKeptPair m c (last_given (take (at.period - 
 IsGivenOrKept m at c (Some x) lo hi = (f : ℕ) × (g : ℕ) × IsPart (period_at m at.period) at.step f g × IsGivenPair x.shead x.ehead f g lo hi
 
 unfoldable pub IsConstantPair : FlowModel → TimeStep → ℕ → ℤ → ℤ → Type 0
-IsConstantPair m at c lo hi = IsGivenOrKept m at c (given_in (period_at m at.period).given c) lo hi
+IsConstantPair m at c lo hi = IsGivenOrKept m at c (given_in (period_at m at.period).stresses.given c) lo hi

@@ -14,7 +14,7 @@ use Rattle.model_types.specs.declared.period.Period.{Period}
 use Rattle.model_types.specs.declared.time_steps.TimeStep.{TimeStep}
 use Rattle.model_types.specs.Heads.{start_head}
 use Rattle.model_types.specs.Numbers.{IsPositive}
-use Rattle.model_types.specs.Times.{times}
+use Rattle.model_types.specs.Times.{no_stresses, times}
 use Rattle.model_types.specs.Valid.{IsModel}
 use Rattle.problem_builder.specs.GridHeads.{AreGridHeads, HeadsEnclose}
 
@@ -57,17 +57,17 @@ example_period q = record {
   nstp = 1;
   tsmult = whole 1;
   steady = false;
-  wells = Well first_cell q ∷ [];
-  rivers = River first_cell (whole 4) (whole 1) (whole 2) ∷ [];
-  drains = Drain first_cell (whole 3) (whole 1) ∷ [];
-  generals = General first_cell (whole 6) (whole 1) ∷ [];
-  given = [];
-  recharge = twice (thousandths 1);
-  irch = [];
-  surf = twice (whole 7);
-  evtr = twice (thousandths 2);
-  exdp = twice (whole 2);
-  ievt = [];
+  stresses =
+      record no_stresses {
+        wells = Well first_cell q ∷ [];
+        rivers = River first_cell (whole 4) (whole 1) (whole 2) ∷ [];
+        drains = Drain first_cell (whole 3) (whole 1) ∷ [];
+        generals = General first_cell (whole 6) (whole 1) ∷ [];
+        recharge = twice (thousandths 1);
+        surf = twice (whole 7);
+        evtr = twice (thousandths 2);
+        exdp = twice (whole 2);
+      };
 }
 
 -- recharge and evapotranspiration are those of the highest active cell

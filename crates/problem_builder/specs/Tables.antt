@@ -99,7 +99,7 @@ pub record ArePeriodTables (m : FlowModel) (s p : ℕ) (t : PeriodTables) : Type
   pub indices : length t.index ≡ cell_count m.grid
   pub index : (c : ℕ) → c < cell_count m.grid → slice_index_or t.index c 0 ≡ index_of m p c
   pub givens : length t.given ≡ cell_count m.grid
-  pub given : (c : ℕ) → c < cell_count m.grid → item_in t.given c ≡ given_in (period_at m p).given c
+  pub given : (c : ℕ) → c < cell_count m.grid → item_in t.given c ≡ given_in (period_at m p).stresses.given c
   pub kepts : length t.kept ≡ cell_count m.grid
   pub kept : (c : ℕ) → c < cell_count m.grid → is_constant m p c ≡ true →
       IsKeptPair m c (last_given (take (p - 1) m.periods) c) (bound_in t.kept c).low (bound_in t.kept c).high

@@ -69,9 +69,9 @@ fn evap_at(model: &FlowModel, number: u32, cell: u32, s: u32) -> Evap
 {
     let period = stress_period(model, number);
     let place = cell % model.grid.layer_size();
-    let rate = dec_at(period.evtr.as_slice(), place);
-    let surface = dec_at(period.surf.as_slice(), place);
-    let depth = dec_at(period.exdp.as_slice(), place);
+    let rate = dec_at(period.stresses.evtr.as_slice(), place);
+    let surface = dec_at(period.stresses.surf.as_slice(), place);
+    let depth = dec_at(period.stresses.exdp.as_slice(), place);
     evap_pair(model, rate, surface, depth, cell, s)
 }
 
@@ -83,8 +83,8 @@ fn evaporates(model: &FlowModel, number: u32, highest: bool, cell: u32) -> bool
     ensures { result ≡ evaporates model.now number cell }
 {
     let period = stress_period(model, number);
-    let chosen = is_chosen(model, model.nevtop, period.ievt.as_slice(), highest, cell);
-    let rate = dec_at(period.evtr.as_slice(), cell % model.grid.layer_size());
+    let chosen = is_chosen(model, model.nevtop, period.stresses.ievt.as_slice(), highest, cell);
+    let rate = dec_at(period.stresses.evtr.as_slice(), cell % model.grid.layer_size());
     chosen && rate.digits != 0
 }
 

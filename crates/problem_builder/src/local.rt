@@ -76,10 +76,10 @@ impl Local {
         ensures are { IfOk result (λ l. (c : ℕ) → local_in l c ≡ entries_of c (entries period.now)) }
     {
         let none = Local::empty(alloc, count)?;
-        let wells = none.with(period.wells.as_slice())?;
-        let rivers = wells.with(period.rivers.as_slice())?;
-        let drains = rivers.with(period.drains.as_slice())?;
-        let all = drains.with(period.generals.as_slice())?;
+        let wells = none.with(period.stresses.wells.as_slice())?;
+        let rivers = wells.with(period.stresses.rivers.as_slice())?;
+        let drains = rivers.with(period.stresses.drains.as_slice())?;
+        let all = drains.with(period.stresses.generals.as_slice())?;
         Ok(all)
     }
 

@@ -65,7 +65,7 @@ impl PeriodTables {
         let evaps = evaps(alloc, model, covered.as_slice(), number, s)?;
         let period = stress_period(model, number);
         let count = model.grid.cell_count();
-        let given = named(alloc, period.given.as_slice(), count)?;
+        let given = named(alloc, period.stresses.given.as_slice(), count)?;
         let local = Local::of_period(alloc, period, count)?;
         Ok(PeriodTables {
             period: number,

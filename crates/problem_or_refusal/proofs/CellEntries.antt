@@ -114,9 +114,9 @@ module _ (m : FlowModel) (w : Thicknesses) (s : ℕ) (at : TimeStep) (old : List
 
   -- the rate of recharge is a number of the input
   rate_is : (rate : Dec) → recharge_at m at.period c ≡ Some rate → IsDec rate
-  rate_is rate e = by_choice (is_chosen m m.nrchop (period_at m at.period).irch c) refl e
+  rate_is rate e = by_choice (is_chosen m m.nrchop (period_at m at.period).stresses.irch c) refl e
     where
-      by_choice : (b : Bool) → is_chosen m m.nrchop (period_at m at.period).irch c ≡ b → cond b (Some (dec_at (period_at m at.period).recharge (place_in_layer m.grid c))) None ≡ Some rate → IsDec rate
+      by_choice : (b : Bool) → is_chosen m m.nrchop (period_at m at.period).stresses.irch c ≡ b → cond b (Some (dec_at (period_at m at.period).stresses.recharge (place_in_layer m.grid c))) None ≡ Some rate → IsDec rate
       by_choice true chosen h = subst IsDec (some_same h) (rate_valid m at.period c time.valid chosen)
       by_choice false chosen h = absurd (none-some rate h)
 

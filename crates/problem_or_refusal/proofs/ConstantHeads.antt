@@ -50,4 +50,4 @@ either_pair m at c timed (Some x) =
 
 pub constant_pair : (m : FlowModel) (at : TimeStep) (c : ℕ) → IsTimed (period_at m at.period) → (lo : ℤ) × (hi : ℤ) × IsConstantPair m at c lo hi
 unfolding IsConstantPair
-constant_pair m at c timed = either_pair m at c timed (given_in (period_at m at.period).given c)
+constant_pair m at c timed = either_pair m at c timed (given_in (period_at m at.period).stresses.given c)

@@ -5,35 +5,22 @@ use Rattle.outside.specs.declared.refusals.InputFault.{InputFault}
 use Rattle.model_types.specs.declared.model.FlowModel.{FlowModel}
 use Rattle.model_types.specs.declared.period.Period.{Period}
 use Rattle.model_types.specs.Valid.{IsModel, IsPeriod}
-use Rattle.list_package.proofs.ModelLemmas.{each_period, evap_arrays, replaced, same_evaps, same_view, steps, timed}
+use Rattle.list_package.proofs.ModelLemmas.{each_period, evaporation_of, replaced, same_evaps, same_view, steps, with_stresses}
 use Rattle.rch_package.specs.Forms.{HasRecharge, IsRecharged, SameBut, without}
 
 period : (m : FlowModel) (r : ℤ) (ps : List Period) (p q : Period) → without p ≡ without q → IsPeriod m q → HasRecharge (record m { nrchop = r; periods = ps }) p → IsPeriod (record m { nrchop = r; periods = ps }) p
 period m r ps p q same h has =
-    let new : IsPeriod (record m { nrchop = r; periods = ps }) (record q { recharge = p.recharge; irch = p.irch }) = record {
-      times = timed (record q { recharge = p.recharge; irch = p.irch }) q refl refl refl refl h.times;
-      wells = h.wells;
-      rivers = h.rivers;
-      drains = h.drains;
-      generals = h.generals;
-      given = h.given;
-      recharge = λ f. has.recharge;
-      irch = has.irch;
-      surf = λ f. (let a = h.surf f in record { whole = a.whole; decimals = a.decimals });
-      evtr = λ f. (let a = h.evtr f in record { whole = a.whole; decimals = a.decimals });
-      exdp = λ f. (let a = h.exdp f in record { whole = a.whole; decimals = a.decimals });
-      ievt = h.ievt;
-    } in
-    let is : p ≡ record q { recharge = p.recharge; irch = p.irch } = ap {A = Period} (λ x. record x { recharge = p.recharge; irch = p.irch }) same in
-    subst (IsPeriod (record m { nrchop = r; periods = ps })) (sym is) new
+    with_stresses m (record m { nrchop = r; periods = ps }) p q (record q.stresses { recharge = p.stresses.recharge; irch = p.stresses.irch })
+    (ap {A = Period} (λ x. record x { stresses = record x.stresses { recharge = p.stresses.recharge; irch = p.stresses.irch } }) same) h
+    (record { wells = h.stresses.wells; rivers = h.stresses.rivers; drains = h.stresses.drains; generals = h.stresses.generals; given = h.stresses.given; recharge = λ f. has.recharge; irch = has.irch; surf = h.stresses.surf; evtr = h.stresses.evtr; exdp = h.stresses.exdp; ievt = h.stresses.ievt })
 
 from_one : (r : ℤ) → (pos 1 ≤ℤ r) × (r ≤ℤ pos 3) → (pos 0 ≤ℤ r) × (r ≤ℤ pos 3)
 from_one r h = let low = h.0 in (omega (arith, ints, low), h.1)
 
 recharged : (m : FlowModel) (r : ℤ) (ps : List Period) → map without ps ≡ map without m.periods → IsRecharged (record m { nrchop = r; periods = ps }) → IsModel m → IsModel (record m { nrchop = r; periods = ps })
-recharged m r ps same has h = replaced m r m.nevtop ps h (same_view without steps ps m.periods same) (from_one r has.option) h.nevtop
+recharged m r ps same has h = replaced m r m.nevtop ps h (same_view without steps steps (λ p. refl) ps m.periods same) (from_one r has.option) h.nevtop
     (each_period without (IsPeriod (record m { nrchop = r; periods = ps })) (IsPeriod m) (HasRecharge (record m { nrchop = r; periods = ps })) (period m r ps) ps m.periods same h.periods has.periods)
-    (same_evaps m r ps h (same_view without evap_arrays ps m.periods same))
+    (same_evaps m r ps h (same_view without evaporation_of evaporation_of (λ p. refl) ps m.periods same))
 
 recharged_model : (m n : FlowModel) → SameBut m n → IsRecharged n → IsModel m → IsModel n
 recharged_model m n same has h = subst IsModel (sym same.model) (recharged m n.nrchop n.periods same.periods (subst IsRecharged same.model has) h)

@@ -17,16 +17,16 @@ pub record AreLast (grid : Grid) (last : Last) : Type 0 where
 
 -- a period's arrays; there are layers only under option 2
 pub record AreArrays (layered : Bool) (grid : Grid) (p : Period) : Type 0 where
-  pub rates : IsReals grid p.recharge
-  pub layers : layered ≡ true → IsWhole grid p.irch
+  pub rates : IsReals grid p.stresses.recharge
+  pub layers : layered ≡ true → IsWhole grid p.stresses.irch
 
 abbrev pub without : Period → Period
-without p = record p { recharge = []; irch = [] }
+without p = record p { stresses = record p.stresses { recharge = []; irch = [] } }
 
 -- a period of a model that has recharge
 pub record HasRecharge (m : FlowModel) (p : Period) : Type 0 where
-  pub recharge : IsLayerArray m p.recharge
-  pub irch : is_int m.nrchop 2 ≡ true → length p.irch ≡ layer_size m.grid
+  pub recharge : IsLayerArray m.grid p.stresses.recharge
+  pub irch : is_int m.nrchop 2 ≡ true → length p.stresses.irch ≡ layer_size m.grid
 
 -- a model with recharge, by an option from 1 to 3
 pub record IsRecharged (m : FlowModel) : Type 0 where

@@ -40,7 +40,7 @@ arrays_at layered files file grid s = do
 
 -- a period with its arrays
 abbrev pub with_arrays : Period → Arrays → Period
-with_arrays period arrays = record period { recharge = arrays.recharge; irch = arrays.irch }
+with_arrays period arrays = record period { stresses = record period.stresses { recharge = arrays.recharge; irch = arrays.irch } }
 
 unfoldable pub period_at : Bool → List File → List ℕ → Grid → Period → (Last × Left) → Result (Period × (Last × Left)) Refusal
 period_at layered files file grid period s = do

@@ -12,7 +12,7 @@ ghost use Rattle.rch_package.specs.Recharge.{arrays_at, period_at, periods_of, w
 use crate::flags::flags_of;
 use array_reader::next_line;
 use decimal_input::dec::Dec;
-use model_types::{Grid, Period, Shared};
+use model_types::{Grid, Period, Shared, Stresses};
 use outside::{Folder, InputFault};
 use period_arrays::{array_of, update_layers, update_reals};
 use record_lines::{Lines, Words};
@@ -32,14 +32,21 @@ pub struct Arrays {
     pub irch: Shared<i64>,
 }
 
+fn stresses_with(stresses: Stresses, arrays: Arrays) -> Stresses
+    ensures { result ≡ record stresses { recharge = arrays.recharge; irch = arrays.irch } }
+{
+    Stresses {
+        recharge: arrays.recharge,
+        irch: arrays.irch,
+        ..stresses
+    }
+}
+
 fn with_arrays(period: Period, arrays: Arrays) -> Period
     ensures { result ≡ with_arrays period arrays }
 {
-    Period {
-        recharge: arrays.recharge,
-        irch: arrays.irch,
-        ..period
-    }
+    let stresses = stresses_with(period.stresses, arrays);
+    Period { stresses, ..period }
 }
 
 /// The arrays of the next period, which are then in force.
@@ -121,8 +128,13 @@ fn period_at<F: Folder>(
     ensures arrays { IfOk result (AreArrays layered grid.now) }
     ensures others { IfOk result (λ p. without p ≡ without period) }
 {
-    let arrays = arrays_at(alloc, lines, layered, file, folder, grid, last)?;
-    Ok(with_arrays(period, arrays))
+    match arrays_at(alloc, lines, layered, file, folder, grid, last) {
+        Ok(arrays) => Ok(with_arrays(period, arrays)),
+        Err(fault) => {
+            drop(period);
+            Err(fault)
+        }
+    }
 }
 
 /// The periods with their arrays, where `last` are the arrays in force.

@@ -11,12 +11,8 @@ ghost use Rattle.list_package.specs.Forms.{SameBut};
 ghost use Rattle.list_package.specs.Lists.{package_of};
 ghost use Rattle.stress_packages.specs.Packages.{wells, rivers, drains, generals};
 
-use crate::drains::DrainNumbers;
-use crate::generals::GeneralNumbers;
-use crate::rivers::Reach;
-use crate::wells::Rate;
-use list_package::read_package;
-use model_types::FlowModel;
+use list_package::{ListKind, read_package};
+use model_types::{Entry, FlowModel};
 use outside::TextFault;
 use std::alloc::Global;
 
@@ -26,7 +22,7 @@ use std::alloc::Global;
 /// TooManyEntries past 65536 entries in a list, NothingToReuse where the first list is to be reused, OutOfProfile for
 /// parameters or another file's entries; of an entry CellOutside, HeadTooLarge or BadProperty.
 /// (TM 6-A16, WEL)
-#[tactic(auto, using(crate::proofs::EntryLemmas::entry_lists))]
+#[tactic(auto, using(list_package::proofs::EntryLaws::entry_lists))]
 pub fn read_wel(
     alloc: Global,
     file: &str,
@@ -35,11 +31,11 @@ pub fn read_wel(
 ) -> Result<FlowModel, TextFault>
     requires size { HasSize model.grid }
     ensures model { HasText (λ m. m) result (package_of wells file.now bytes.now model) }
-    ensures lists { IfOk result (λ m. All (λ p. IsEntryList (cell_count model.grid) p.wells) m.periods) }
+    ensures lists { IfOk result (λ m. All (λ p. IsEntryList (cell_count model.grid) p.stresses.wells) m.periods) }
     ensures others { IfOk result (SameBut wells model) }
     ensures valid { IsModel model → IfOk result IsModel }
 {
-    read_package::<Rate>(alloc, file, bytes, model)
+    read_package::<Entry>(alloc, ListKind::Wells, file, bytes, model)
 }
 
 /// The model with its lists of river reaches, from a file of the package RIV.
@@ -48,7 +44,7 @@ pub fn read_wel(
 /// TooManyEntries past 65536 entries in a list, NothingToReuse where the first list is to be reused, OutOfProfile for
 /// parameters or another file's entries; of an entry CellOutside, HeadTooLarge or BadProperty.
 /// (TM 6-A16, RIV)
-#[tactic(auto, using(crate::proofs::EntryLemmas::entry_lists))]
+#[tactic(auto, using(list_package::proofs::EntryLaws::entry_lists))]
 pub fn read_riv(
     alloc: Global,
     file: &str,
@@ -57,11 +53,11 @@ pub fn read_riv(
 ) -> Result<FlowModel, TextFault>
     requires size { HasSize model.grid }
     ensures model { HasText (λ m. m) result (package_of rivers file.now bytes.now model) }
-    ensures lists { IfOk result (λ m. All (λ p. IsEntryList (cell_count model.grid) p.rivers) m.periods) }
+    ensures lists { IfOk result (λ m. All (λ p. IsEntryList (cell_count model.grid) p.stresses.rivers) m.periods) }
     ensures others { IfOk result (SameBut rivers model) }
     ensures valid { IsModel model → IfOk result IsModel }
 {
-    read_package::<Reach>(alloc, file, bytes, model)
+    read_package::<Entry>(alloc, ListKind::Rivers, file, bytes, model)
 }
 
 /// The model with its lists of drains, from a file of the package DRN.
@@ -70,7 +66,7 @@ pub fn read_riv(
 /// TooManyEntries past 65536 entries in a list, NothingToReuse where the first list is to be reused, OutOfProfile for
 /// parameters or another file's entries; of an entry CellOutside, HeadTooLarge or BadProperty.
 /// (TM 6-A16, DRN)
-#[tactic(auto, using(crate::proofs::EntryLemmas::entry_lists))]
+#[tactic(auto, using(list_package::proofs::EntryLaws::entry_lists))]
 pub fn read_drn(
     alloc: Global,
     file: &str,
@@ -79,11 +75,11 @@ pub fn read_drn(
 ) -> Result<FlowModel, TextFault>
     requires size { HasSize model.grid }
     ensures model { HasText (λ m. m) result (package_of drains file.now bytes.now model) }
-    ensures lists { IfOk result (λ m. All (λ p. IsEntryList (cell_count model.grid) p.drains) m.periods) }
+    ensures lists { IfOk result (λ m. All (λ p. IsEntryList (cell_count model.grid) p.stresses.drains) m.periods) }
     ensures others { IfOk result (SameBut drains model) }
     ensures valid { IsModel model → IfOk result IsModel }
 {
-    read_package::<DrainNumbers>(alloc, file, bytes, model)
+    read_package::<Entry>(alloc, ListKind::Drains, file, bytes, model)
 }
 
 /// The model with its lists of general heads, from a file of the package GHB.
@@ -92,7 +88,7 @@ pub fn read_drn(
 /// TooManyEntries past 65536 entries in a list, NothingToReuse where the first list is to be reused, OutOfProfile for
 /// parameters or another file's entries; of an entry CellOutside, HeadTooLarge or BadProperty.
 /// (TM 6-A16, GHB)
-#[tactic(auto, using(crate::proofs::EntryLemmas::entry_lists))]
+#[tactic(auto, using(list_package::proofs::EntryLaws::entry_lists))]
 pub fn read_ghb(
     alloc: Global,
     file: &str,
@@ -101,9 +97,9 @@ pub fn read_ghb(
 ) -> Result<FlowModel, TextFault>
     requires size { HasSize model.grid }
     ensures model { HasText (λ m. m) result (package_of generals file.now bytes.now model) }
-    ensures lists { IfOk result (λ m. All (λ p. IsEntryList (cell_count model.grid) p.generals) m.periods) }
+    ensures lists { IfOk result (λ m. All (λ p. IsEntryList (cell_count model.grid) p.stresses.generals) m.periods) }
     ensures others { IfOk result (SameBut generals model) }
     ensures valid { IsModel model → IfOk result IsModel }
 {
-    read_package::<GeneralNumbers>(alloc, file, bytes, model)
+    read_package::<Entry>(alloc, ListKind::Generals, file, bytes, model)
 }

@@ -49,9 +49,9 @@ greatest a (n ∷ ns) limit h all =
     let first : n ≤ limit = all 0 0 (omega arith) in
     greatest (max a n) ns limit (omega arith) (λ k d lt. all (suc k) d (omega arith))
 
-module _ {C E : Type 0} (kind : Kind C E) (AreNumbers : C → Type 0) (cell : E → ℕ) (numbers : E → List Dec) (w : WritesNumbers kind AreNumbers cell numbers) (file : List ℕ) (g : Grid) (h : HasSize g) where
+module _ {E : Type 0} (kind : Kind E) (cell : E → ℕ) (numbers : E → List Dec) (w : WritesNumbers kind cell numbers) (file : List ℕ) (g : Grid) (h : HasSize g) where
   abbrev IsGood : Period → List E → Type 0
-  IsGood p xs = IsListOf kind AreNumbers (cell_count g) p xs
+  IsGood p xs = IsListOf kind (cell_count g) p xs
 
   abbrev lines_of : List E → List Line
   lines_of xs = period_list g cell numbers xs
@@ -59,17 +59,17 @@ module _ {C E : Type 0} (kind : Kind C E) (AreNumbers : C → Type 0) (cell : E 
   period_is_lines : (p : Period) (xs : List E) → IsGood p xs → AreLines (lines_of xs)
   unfolding period_list list_item_5
   period_is_lines p xs good =
-      let line = entry_line kind AreNumbers cell numbers w g h in
+      let line = entry_line kind cell numbers w g h in
       one_line (counts_are_line (length xs) (omega (arith, good.few)))
-      (record { all = All-map (λ l. IsLine l) line xs (All-weaker (λ x. IsEntry kind AreNumbers (cell_count g) x) (λ x. IsLine (line x)) (entry_is_line kind AreNumbers cell numbers w g h) xs good.entries) })
+      (record { all = All-map (λ l. IsLine l) line xs (All-weaker (λ x. IsEntry kind (cell_count g) x) (λ x. IsLine (line x)) (entry_is_line kind cell numbers w g h) xs good.entries) })
 
   period_list_reads : (p : Period) (xs : List E) → IsGood p xs → (last : Option (List E)) (n : ℕ) (others : List Line)
       → list_at kind file g p (last, unread n (lines_of xs ++ others)) ≡ Ok (xs, (Some xs, unread (number_after n (lines_of xs)) others))
   unfolding list_at period_list list_item_5 number_after
   period_list_reads p xs good last n others =
-      let line = entry_line kind AreNumbers cell numbers w g h in
+      let line = entry_line kind cell numbers w g h in
       let head = decimal (length xs) ∷ codes "0" ∷ [] in
-      let read = list_reads kind AreNumbers cell numbers w g h file (next_number n) others xs good.entries (all_free kind g xs good.once) in
+      let read = list_reads kind cell numbers w g h file (next_number n) others xs good.entries (all_free kind g xs good.once) in
       rw (
         next_line file n head (map line xs ++ others),
         line_words head (counts_are_line (length xs) (omega (arith, good.few))).words,

@@ -9,7 +9,7 @@ use Rattle.list_package.specs.Entries.{no_marks}
 use Rattle.list_package.specs.Forms.{Differ}
 use Rattle.list_package.specs.Kinds.{Kind}
 
-module _ {C E : Type 0} (kind : Kind C E) where
+module _ {E : Type 0} (kind : Kind E) where
   abbrev pub marks_after : List Bool → List E → List Bool
   marks_after marks [] = marks
   marks_after marks (x ∷ xs) = marks_after (set marks (kind.place x) true) xs

@@ -7,25 +7,24 @@ use Rattle.model_types.specs.declared.period.Period.{Period}
 use Rattle.model_types.specs.Cells.{cell_count}
 use Rattle.model_types.specs.Grids.{HasSize}
 use Rattle.model_types.specs.Sources.{cell_of}
+use Rattle.list_package.specs.GivenHeads.{given_heads}
 use Rattle.list_package.specs.Kinds.{Kind}
 use Rattle.list_package.specs.Lists.{lists_of}
-use Rattle.stress_packages.specs.Columns.{IsRate, IsReach, IsDrain, IsGeneral}
 use Rattle.stress_packages.specs.Packages.{wells, rivers, drains, generals}
-use Rattle.chd_package.specs.GivenHeads.{AreHeads, given_heads}
 use Rattle.array_text.specs.Lines.{text}
 use Rattle.stress_text.specs.Lists.{numbers_of, heads_of, list_lines}
 use Rattle.stress_text.specs.Entries.{IsListOf, with_lists}
 
 -- a file of lists for these periods gives them these lists
-abbrev pub ListsReadAsWritten : {C E : Type 0} → Kind C E → (C → Type 0) → (E → ℕ) → (E → List Dec) → Type 0
-ListsReadAsWritten {C} {E} kind AreNumbers cell numbers =
-    (file : List ℕ) (g : Grid) (ps : List Period) (lists : List (List E)) → HasSize g → AllZip (IsListOf kind AreNumbers (cell_count g)) ps lists →
+abbrev pub ListsReadAsWritten : {E : Type 0} → Kind E → (E → ℕ) → (E → List Dec) → Type 0
+ListsReadAsWritten {E} kind cell numbers =
+    (file : List ℕ) (g : Grid) (ps : List Period) (lists : List (List E)) → HasSize g → AllZip (IsListOf kind (cell_count g)) ps lists →
     lists_of kind file (text (list_lines g cell numbers lists)) g ps ≡ Ok (with_lists kind ps lists)
 
 -- WEL, RIV, DRN, GHB and CHD
 pub record ListPackagesReadAsWritten : Type 0 where
-  pub wel : ListsReadAsWritten wells IsRate cell_of numbers_of
-  pub riv : ListsReadAsWritten rivers IsReach cell_of numbers_of
-  pub drn : ListsReadAsWritten drains IsDrain cell_of numbers_of
-  pub ghb : ListsReadAsWritten generals IsGeneral cell_of numbers_of
-  pub chd : ListsReadAsWritten given_heads AreHeads (λ x. x.cell.0) heads_of
+  pub wel : ListsReadAsWritten wells cell_of numbers_of
+  pub riv : ListsReadAsWritten rivers cell_of numbers_of
+  pub drn : ListsReadAsWritten drains cell_of numbers_of
+  pub ghb : ListsReadAsWritten generals cell_of numbers_of
+  pub chd : ListsReadAsWritten given_heads (λ x. x.cell.0) heads_of

@@ -44,16 +44,16 @@ list_lines g cell numbers lists = list_item_2 lists ∷ flat_map (period_list g 
 
 module _ (m : FlowModel) where
   abbrev pub wel_lines : List Line
-  wel_lines = list_lines m.grid cell_of numbers_of (map (λ p. p.wells) m.periods)
+  wel_lines = list_lines m.grid cell_of numbers_of (map (λ p. p.stresses.wells) m.periods)
 
   abbrev pub riv_lines : List Line
-  riv_lines = list_lines m.grid cell_of numbers_of (map (λ p. p.rivers) m.periods)
+  riv_lines = list_lines m.grid cell_of numbers_of (map (λ p. p.stresses.rivers) m.periods)
 
   abbrev pub drn_lines : List Line
-  drn_lines = list_lines m.grid cell_of numbers_of (map (λ p. p.drains) m.periods)
+  drn_lines = list_lines m.grid cell_of numbers_of (map (λ p. p.stresses.drains) m.periods)
 
   abbrev pub ghb_lines : List Line
-  ghb_lines = list_lines m.grid cell_of numbers_of (map (λ p. p.generals) m.periods)
+  ghb_lines = list_lines m.grid cell_of numbers_of (map (λ p. p.stresses.generals) m.periods)
 
   abbrev pub chd_lines : List Line
-  chd_lines = list_lines m.grid (λ x. x.cell.0) heads_of (map (λ p. p.given) m.periods)
+  chd_lines = list_lines m.grid (λ x. x.cell.0) heads_of (map (λ p. p.stresses.given) m.periods)

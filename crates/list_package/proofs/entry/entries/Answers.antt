@@ -15,8 +15,8 @@ pub loop-preserved : goal.loop-preserved
 loop-preserved g c = (
   rw c.in_ok-push.ensures.items (goes_on _ c.loop.list.items c.args.count c.loop.counter _ _ c.in_ok-entry.entry _ c.loop-test.true c.in_ok-entry.ensures.entry c.loop.invariant.0),
   grind arith,
-  all_pushed (g.C.Columns.Valid (cell_count c.args.grid.now)) c.loop.list.items _ c.in_ok-entry.entry c.in_ok-push.ensures.items c.loop.invariant.2 c.in_ok-entry.ensures.valid,
-  (λ once. rw c.in_ok-push.ensures.items (one_more_marked g.C.Columns.kind (cell_count c.args.grid.now) c.loop.marks _ c.loop.list.items c.in_ok-entry.entry (c.loop.invariant.3 once) c.in_ok-entry.ensures.marked)),
+  all_pushed (g.E.ListEntry.Valid (cell_count c.args.grid.now)) c.loop.list.items _ c.in_ok-entry.entry c.in_ok-push.ensures.items c.loop.invariant.2 c.in_ok-entry.ensures.valid,
+  (λ once. rw c.in_ok-push.ensures.items (one_more_marked (g.E.ListEntry.kind c.args.lists) (cell_count c.args.grid.now) c.loop.marks _ c.loop.list.items c.in_ok-entry.entry (c.loop.invariant.3 once) c.in_ok-entry.ensures.marked)),
 )
 
 pub returns-clause-entries : goal.returns-clause-entries

@@ -8,7 +8,7 @@ use Rattle.list_package.proofs.entry.entries.Given as goal
 
 abbrev pub invariant-loop : goal.invariant-loop
 invariant-loop g l =
-    (with_front l.list.items (repeated (l.count - l.counter) (entry_at g.C.Columns.kind l.file l.grid) (l.marks, l.lines)) ≡ repeated l.count (entry_at g.C.Columns.kind l.file l.grid) (l.fn.marks, l.fn.lines))
+    (with_front l.list.items (repeated (l.count - l.counter) (entry_at (g.E.ListEntry.kind l.lists) l.file l.grid) (l.marks, l.lines)) ≡ repeated l.count (entry_at (g.E.ListEntry.kind l.lists) l.file l.grid) (l.fn.marks, l.fn.lines))
     × (length l.list.items ≡ l.counter)
-    × All (g.C.Columns.Valid (cell_count l.grid)) l.list.items
-    × (g.C.Columns.kind.once ≡ true → AreMarked g.C.Columns.kind (cell_count l.grid) l.marks l.list.items)
+    × All (g.E.ListEntry.Valid (cell_count l.grid)) l.list.items
+    × ((g.E.ListEntry.kind l.lists).once ≡ true → AreMarked (g.E.ListEntry.kind l.lists) (cell_count l.grid) l.marks l.list.items)

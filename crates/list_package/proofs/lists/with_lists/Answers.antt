@@ -20,12 +20,12 @@ loop-period-preserved g c = (
   tt,
   rw c.in_ok-push.ensures.items (each_goes_on _ c.loop-period.whole.items (into_iter_items c.loop-period.period-iterator) (into_iter_items c.next.new.self) c.in-Some.period _ _ c.in_ok-period.period _ c.in-Some.ensures.steps.0 c.in_ok-period.ensures.period c.loop-period.invariant.2),
   c.in_ok-period.ensures.last,
-  all_pushed (λ p. IsList g.C.Columns.kind (g.C.Columns.Valid (cell_count c.args.grid.now)) (g.C.Columns.kind.list p)) c.loop-period.whole.items _ c.in_ok-period.period c.in_ok-push.ensures.items c.loop-period.invariant.4 c.in_ok-period.ensures.list,
-  rw c.in_ok-push.ensures.items (one_more_same (without g.C.Columns.kind) c.loop-period.whole.items (into_iter_items c.loop-period.period-iterator) (into_iter_items c.next.new.self) _ c.in-Some.period c.in_ok-period.period c.in-Some.ensures.steps.0 c.in_ok-period.ensures.others c.loop-period.invariant.5),
+  all_pushed (λ p. IsList (g.E.ListEntry.kind c.args.lists) (g.E.ListEntry.Valid (cell_count c.args.grid.now)) ((g.E.ListEntry.kind c.args.lists).list p.stresses)) c.loop-period.whole.items _ c.in_ok-period.period c.in_ok-push.ensures.items c.loop-period.invariant.4 c.in_ok-period.ensures.list,
+  rw c.in_ok-push.ensures.items (one_more_same (without (g.E.ListEntry.kind c.args.lists)) c.loop-period.whole.items (into_iter_items c.loop-period.period-iterator) (into_iter_items c.next.new.self) _ c.in-Some.period c.in_ok-period.period c.in-Some.ensures.steps.0 c.in_ok-period.ensures.others c.loop-period.invariant.5),
 )
 
 pub returns-clause-periods : goal.returns-clause-periods
 returns-clause-periods g c = each_done _ c.loop-period.whole.items (into_iter_items c.loop-period.period-iterator) _ _ (no_items (into_iter_items c.loop-period.period-iterator) (sym c.loop-period.period-iterator.rest.ok.0 ∙ c.in-None.ensures.steps.0)) c.loop-period.invariant.2
 
 pub returns-clause-others : goal.returns-clause-others
-returns-clause-others g c = all_same (without g.C.Columns.kind) c.loop-period.whole.items (into_iter_items c.loop-period.period-iterator) _ (no_items (into_iter_items c.loop-period.period-iterator) (sym c.loop-period.period-iterator.rest.ok.0 ∙ c.in-None.ensures.steps.0)) c.loop-period.invariant.5
+returns-clause-others g c = all_same (without (g.E.ListEntry.kind c.args.lists)) c.loop-period.whole.items (into_iter_items c.loop-period.period-iterator) _ (no_items (into_iter_items c.loop-period.period-iterator) (sym c.loop-period.period-iterator.rest.ok.0 ∙ c.in-None.ensures.steps.0)) c.loop-period.invariant.5

@@ -11,16 +11,16 @@ use Rattle.problem_builder.proofs.heads.head_at.Goals as goal
 pub between-requires-clause-start : goal.between-requires-clause-start
 between-requires-clause-start c =
     let m = c.args.model.now in
-    let list = (period_at m c.args.at.period).given in
+    let list = (period_at m c.args.at.period).stresses.given in
     let e = sym (c.requires.period.1.given c.args.cell c.requires.cell) ∙ sym c.in-Some.ensures in
-    (given_valid (cell_count m.grid) list c.args.cell c.in-Some.x c.requires.time.valid.given.entries e).shead
+    (given_valid (cell_count m.grid) list c.args.cell c.in-Some.x c.requires.time.valid.stresses.given.entries e).shead
 
 pub between-requires-clause-end : goal.between-requires-clause-end
 between-requires-clause-end c =
     let m = c.args.model.now in
-    let list = (period_at m c.args.at.period).given in
+    let list = (period_at m c.args.at.period).stresses.given in
     let e = sym (c.requires.period.1.given c.args.cell c.requires.cell) ∙ sym c.in-Some.ensures in
-    (given_valid (cell_count m.grid) list c.args.cell c.in-Some.x c.requires.time.valid.given.entries e).ehead
+    (given_valid (cell_count m.grid) list c.args.cell c.in-Some.x c.requires.time.valid.stresses.given.entries e).ehead
 
 pub returns-in-Some : goal.returns-in-Some
 unfolding IsConstantPair

@@ -8,4 +8,4 @@ use Rattle.model_types.proofs.given_heads.GivenHeads.advance.Given as goal
 abbrev pub invariant-loop-x : goal.invariant-loop-x
 invariant-loop-x l =
     (l.self.period ≡ l.fn.self.period)
-    × (l.self.last ≡ table (cell_count l.model.grid) (flat_map (λ p. p.given) (take l.fn.self.period l.model.periods) ++ take l.x-index l.list))
+    × (l.self.last ≡ table (cell_count l.model.grid) (flat_map (λ p. p.stresses.given) (take l.fn.self.period l.model.periods) ++ take l.x-index l.list))

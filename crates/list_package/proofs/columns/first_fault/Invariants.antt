@@ -1,0 +1,7 @@
+use Rattle.std.proofs.Common.{◌≡◌, drop}
+use Rattle.std.specs.List.{AllZip}
+use Rattle.list_package.specs.Kinds.{first_fault}
+use Rattle.list_package.proofs.columns.first_fault.Given as goal
+
+abbrev pub invariant-loop-k : goal.invariant-loop-k
+invariant-loop-k l = first_fault (drop l.k l.columns) (drop l.k l.numbers) ≡ first_fault l.columns l.numbers

@@ -1,0 +1,13 @@
+use Rattle.std.proofs.Common.{◌≡◌, ◌-◌, All, length}
+use Rattle.decimal_input.specs.Canonical.{IsDec}
+use Rattle.record_lines.specs.Reading.{repeated}
+use Rattle.record_lines.proofs.Loops.{with_front}
+use Rattle.array_reader.specs.Items.{number_at}
+use Rattle.array_reader.specs.Numbers.{number}
+use Rattle.list_package.proofs.columns.numbers_of.Given as goal
+
+abbrev pub invariant-loop : goal.invariant-loop
+invariant-loop l =
+    (with_front l.numbers.items (repeated (l.count - l.counter) (number_at number l.file l.line) l.words) ≡ repeated l.count (number_at number l.file l.line) l.fn.words)
+    × (length l.numbers.items ≡ l.counter)
+    × All IsDec l.numbers.items

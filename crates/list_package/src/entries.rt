@@ -1,0 +1,94 @@
+// The lists of wells, rivers, drains and general heads.
+ghost use Rattle.std.specs.Prelude.{◌≡◌, []};
+ghost use Rattle.model_types.specs.Valid.{IsEntryValid};
+ghost use Rattle.list_package.specs.EntryKinds.{kind_of};
+
+use crate::columns::Column;
+use crate::kind::ListEntry;
+use decimal_input::dec::Dec;
+use model_types::layers::dec_at;
+use model_types::{CellId, Entry, Period, Shared, Stresses};
+
+/// A package of lists of entries: WEL, RIV, DRN or GHB.
+#[derive(Clone, Copy)]
+pub enum ListKind {
+    Wells,
+    Rivers,
+    Drains,
+    Generals,
+}
+
+impl ListEntry for Entry {
+    type Lists = ListKind;
+
+    ghost kind = { kind_of };
+
+    ghost Valid = { IsEntryValid };
+
+    fn columns(lists: ListKind) -> &'static [Column] {
+        match lists {
+            ListKind::Wells => &[Column::Rate],
+            ListKind::Rivers => &[Column::Head, Column::Conductance, Column::Head],
+            ListKind::Drains | ListKind::Generals => &[Column::Head, Column::Conductance],
+        }
+    }
+
+    fn entry(lists: ListKind, cell: CellId, numbers: &[Dec]) -> Entry {
+        let first = dec_at(numbers, 0);
+        let second = dec_at(numbers, 1);
+        match lists {
+            ListKind::Wells => Entry::Well { cell, q: first },
+            ListKind::Rivers => Entry::River {
+                cell,
+                stage: first,
+                cond: second,
+                bottom: dec_at(numbers, 2),
+            },
+            ListKind::Drains => Entry::Drain {
+                cell,
+                elevation: first,
+                cond: second,
+            },
+            ListKind::Generals => Entry::General {
+                cell,
+                head: first,
+                cond: second,
+            },
+        }
+    }
+
+    fn is_once(lists: ListKind) -> bool {
+        false
+    }
+
+    fn suits(lists: ListKind, period: &Period, list: &[Entry]) -> bool {
+        true
+    }
+
+    fn put(lists: ListKind, stresses: Stresses, list: Shared<Entry>) -> Stresses
+        ensures put { result ≡ (kind_of lists).put stresses list }
+        ensures list { (kind_of lists).list result ≡ list }
+        ensures others { (kind_of lists).put result [] ≡ (kind_of lists).put stresses [] }
+    {
+        match lists {
+            ListKind::Wells => Stresses {
+                wells: list,
+                ..stresses
+            },
+            ListKind::Rivers => Stresses {
+                rivers: list,
+                ..stresses
+            },
+            ListKind::Drains => Stresses {
+                drains: list,
+                ..stresses
+            },
+            ListKind::Generals => Stresses {
+                generals: list,
+                ..stresses
+            },
+        }
+    }
+
+    fn lists_keep_limits(lists: ListKind) {}
+}

@@ -1,0 +1,91 @@
+// The lists of given heads.
+ghost use Rattle.std.specs.Prelude.{◌≡◌, ◌↔◌, IsTrue, All, []};
+ghost use Rattle.std.specs.List.{list_all};
+ghost use Rattle.model_types.specs.Valid.{IsGivenValid};
+ghost use Rattle.list_package.specs.GivenHeads.{given_heads, is_level, is_growing, suits_heads};
+
+use crate::columns::Column;
+use crate::kind::ListEntry;
+use decimal_input::dec::Dec;
+use model_types::layers::dec_at;
+use model_types::{CellId, Given, Period, Shared, Stresses};
+use number_limits::is_one;
+
+/// The package CHD.
+#[derive(Clone, Copy)]
+pub struct SpecifiedHeads;
+
+fn is_level(entry: &Given) -> bool
+    ensures { result ≡ is_level entry.now }
+{
+    entry.shead == entry.ehead
+}
+
+fn each_level(list: &[Given]) -> bool
+    ensures { IsTrue result ↔ All (λ x. IsTrue (is_level x)) list.now }
+{
+    list.iter().all(is_level)
+}
+
+fn all_level(list: &[Given]) -> bool
+    ensures { result ≡ list_all is_level list.now }
+{
+    each_level(list)
+}
+
+fn is_growing(period: &Period) -> bool
+    ensures { result ≡ is_growing period.now }
+{
+    period.steady && period.nstp > 1 && !is_one(period.tsmult)
+}
+
+fn suits_heads(period: &Period, list: &[Given]) -> bool
+    ensures { result ≡ suits_heads period.now list.now }
+{
+    if is_growing(period) {
+        all_level(list)
+    } else {
+        true
+    }
+}
+
+impl ListEntry for Given {
+    type Lists = SpecifiedHeads;
+
+    ghost kind = { λ lists. given_heads };
+
+    ghost Valid = { IsGivenValid };
+
+    fn columns(lists: SpecifiedHeads) -> &'static [Column] {
+        &[Column::Head, Column::Head]
+    }
+
+    fn entry(lists: SpecifiedHeads, cell: CellId, numbers: &[Dec]) -> Given {
+        Given {
+            cell,
+            shead: dec_at(numbers, 0),
+            ehead: dec_at(numbers, 1),
+        }
+    }
+
+    fn is_once(lists: SpecifiedHeads) -> bool {
+        true
+    }
+
+    fn suits(lists: SpecifiedHeads, period: &Period, list: &[Given]) -> bool {
+        suits_heads(period, list)
+    }
+
+    fn put(lists: SpecifiedHeads, stresses: Stresses, list: Shared<Given>) -> Stresses
+        ensures put { result ≡ given_heads.put stresses list }
+        ensures list { given_heads.list result ≡ list }
+        ensures others { given_heads.put result [] ≡ given_heads.put stresses [] }
+    {
+        Stresses {
+            given: list,
+            ..stresses
+        }
+    }
+
+    fn lists_keep_limits(lists: SpecifiedHeads) {}
+}

@@ -1,5 +1,0 @@
-use Rattle.stress_packages.proofs.ModelLemmas.{wells_valid}
-use Rattle.stress_packages.proofs.read.read_wel.Goals as goal
-
-pub returns-clause-valid : goal.returns-clause-valid
-returns-clause-valid c = λ valid. wells_valid c.args.model c.read_package.result c.read_package.ensures.lists c.read_package.ensures.others valid
