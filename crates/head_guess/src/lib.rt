@@ -3,7 +3,9 @@
 
 mod beside;
 mod burn;
+mod changes;
 mod descend;
+mod eliminable;
 mod flows;
 mod gallop;
 mod guess;
@@ -11,17 +13,23 @@ mod half;
 mod known;
 mod linear;
 mod links;
+mod lower;
 mod marks;
+mod method;
 mod newton;
 mod nodes;
 mod one_side;
 mod raise;
 mod ramp;
+mod room;
 mod search;
+mod share_cycles;
+mod shares;
 mod slopes;
 mod solver;
 mod state;
 mod steps;
+mod system;
 mod ways;
 
 pub use beside::guess_beside;
