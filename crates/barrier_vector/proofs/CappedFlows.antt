@@ -1,4 +1,4 @@
--- Paths for a flow that stops at 2 ^ 126. Where the flow is greater, each drop leaves the range of heads, stopped or not: so paths that are cut off there stay the same.
+-- Paths for a flow that is capped at 2 ^ 126. Where the flow is greater, each drop leaves the range of heads, capped or not: so paths that are cut off there stay the same.
 use Rattle.std.proofs.Common.{◌≡◌, ℕ, zero, suc, ◌+◌, ◌<◌, ◌≤◌, ◌^◌, inl, inr, refl, ◌∙◌, ap, arith, List, min, Contains, le-div_iff_mul-le}
 use Rattle.std.proofs.lemmas.Bool.{cases_lt}
 use Rattle.std.proofs.lemmas.List.Elements.{All-contains}
@@ -12,10 +12,9 @@ use Rattle.step_problem.specs.declared.heads.Side.{Side}
 use Rattle.step_problem.specs.declared.heads.Side.TheVariants.{Low, High}
 use Rattle.step_problem.specs.Entries.{Entries, entries_at}
 use Rattle.step_problem.specs.Conditions.{IsProblem, CellFits, LinkFits, FixedFits, RiverFits, DrainFits}
-use Rattle.barrier_vector.specs.Bounds.{greatest, AnchorRoot}
-use Rattle.barrier_vector.specs.Lacks.{stopped}
+use Rattle.barrier_vector.specs.Bounds.{greatest, anchor_on, AnchorRoot}
+use Rattle.barrier_vector.specs.Lacks.{capped_flow}
 use Rattle.barrier_vector.specs.Paths.{ceil_over, LeadsToRoot, IsLevel, IsParent, SumsTo, IsPath}
-use Rattle.barrier_vector.specs.Roots.{anchor_on}
 use Rattle.barrier_vector.specs.Searches.{path_limit}
 use Rattle.barrier_vector.proofs.Backs.{has_links, conducts}
 use Rattle.barrier_vector.proofs.Rooting.{greatest_has}
@@ -55,50 +54,50 @@ module _ (c : Entries) (fits : CellFits c) where
 drop_far : (q lo : ℕ) → 2 ^ 126 ≤ q → 0 < lo → lo < 2 ^ 60 → path_limit ≤ ceil_over q lo
 drop_far q lo great some small = (le-div_iff_mul-le some).1 (omega arith)
 
-cut_drop : (q lo : ℕ) → 0 < lo → lo < 2 ^ 60 → min (ceil_over (stopped q) lo) path_limit ≡ min (ceil_over q lo) path_limit
+cut_drop : (q lo : ℕ) → 0 < lo → lo < 2 ^ 60 → min (ceil_over (capped_flow q) lo) path_limit ≡ min (ceil_over q lo) path_limit
 cut_drop q lo some small =
     elim (cases_lt q (2 ^ 126)) [
-      | inl less ↦ let is : stopped q ≡ q = omega (arith, less) in ap (λ (n : ℕ). min (ceil_over n lo) path_limit) is
-      | inr great ↦ let a = drop_far q lo great some small in let b = drop_far (stopped q) lo (omega (arith, great)) some small in omega (arith, a, b)
+      | inl less ↦ let is : capped_flow q ≡ q = omega (arith, less) in ap (λ (n : ℕ). min (ceil_over n lo) path_limit) is
+      | inr great ↦ let a = drop_far q lo great some small in let b = drop_far (capped_flow q) lo (omega (arith, great)) some small in omega (arith, a, b)
     ]
 
 cut_sum : (a b r t limit : ℕ) → min a limit ≡ min b limit → min r limit ≡ min t limit → min (a + r) limit ≡ min (b + t) limit
 cut_sum a b r t limit e f = omega (arith, e, f)
 
--- Paths to roots by the stopped flow are paths to the same roots by the whole flow, of the same length up to the limit.
+-- Paths to roots by the capped flow are paths to the same roots by the whole flow, of the same length up to the limit.
 module _ (p : List Entries) (ok : IsProblem p) (q : ℕ) (R S : ℕ → ℕ → Type 0)
     (to : (c d : ℕ) → R c d → (e : ℕ) × S c e × (min d path_limit ≡ min e path_limit)) (from : (c d : ℕ) → S c d → (e : ℕ) × R c e)
   where
-    leads_whole : (k c : ℕ) → LeadsToRoot p (stopped q) R k c → LeadsToRoot p q S k c
+    leads_whole : (k c : ℕ) → LeadsToRoot p (capped_flow q) R k c → LeadsToRoot p q S k c
     leads_whole k c l = let (e, is, cut) = to l.root l.drop l.is_root in record { root = l.root; drop = e; is_root = is; reaches = l.reaches }
 
-    leads_stopped : (k c : ℕ) → LeadsToRoot p q S k c → LeadsToRoot p (stopped q) R k c
-    leads_stopped k c l = let (e, is) = from l.root l.drop l.is_root in record { root = l.root; drop = e; is_root = is; reaches = l.reaches }
+    leads_capped : (k c : ℕ) → LeadsToRoot p q S k c → LeadsToRoot p (capped_flow q) R k c
+    leads_capped k c l = let (e, is) = from l.root l.drop l.is_root in record { root = l.root; drop = e; is_root = is; reaches = l.reaches }
 
-    level_whole : (c k : ℕ) → IsLevel p (stopped q) R c k → IsLevel p q S c k
-    level_whole c k l = record { leads = leads_whole k c l.leads; least = λ j m. l.least j (leads_stopped j c m) }
+    level_whole : (c k : ℕ) → IsLevel p (capped_flow q) R c k → IsLevel p q S c k
+    level_whole c k l = record { leads = leads_whole k c l.leads; least = λ j m. l.least j (leads_capped j c m) }
 
-    level_stopped : (c k : ℕ) → IsLevel p q S c k → IsLevel p (stopped q) R c k
-    level_stopped c k l = record { leads = leads_stopped k c l.leads; least = λ j m. l.least j (leads_whole j c m) }
+    level_capped : (c k : ℕ) → IsLevel p q S c k → IsLevel p (capped_flow q) R c k
+    level_capped c k l = record { leads = leads_capped k c l.leads; least = λ j m. l.least j (leads_whole j c m) }
 
-    parent_whole : (k c : ℕ) (x : Link) → IsParent p (stopped q) R k c x → IsParent p q S k c x
-    parent_whole k c x t = record { has = t.has; level = level_whole x.cell k t.level; least = λ z has l. t.least z has (level_stopped z.cell k l) }
+    parent_whole : (k c : ℕ) (x : Link) → IsParent p (capped_flow q) R k c x → IsParent p q S k c x
+    parent_whole k c x t = record { has = t.has; level = level_whole x.cell k t.level; least = λ z has l. t.least z has (level_capped z.cell k l) }
 
-    sums_whole : (k c s : ℕ) → SumsTo p (stopped q) R k c s → (t : ℕ) × SumsTo p q S k c t × (min s path_limit ≡ min t path_limit)
+    sums_whole : (k c s : ℕ) → SumsTo p (capped_flow q) R k c s → (t : ℕ) × SumsTo p q S k c t × (min s path_limit ≡ min t path_limit)
     sums_whole zero c s r = to c s r
     sums_whole (suc k) c s (x, parent, rest, sum, is) =
         let (t, whole, cut) = sums_whole k x.cell rest sum in
         let small = link_small (entries_at p c) (ok.cells c (has_links p c x parent.has)) x parent.has in (
           ceil_over q x.lo + t,
           (x, parent_whole k c x parent, t, whole, refl),
-          ap (λ (n : ℕ). min n path_limit) is ∙ cut_sum (ceil_over (stopped q) x.lo) (ceil_over q x.lo) rest t path_limit (cut_drop q x.lo (conducts p ok c x parent.has) small) cut,
+          ap (λ (n : ℕ). min n path_limit) is ∙ cut_sum (ceil_over (capped_flow q) x.lo) (ceil_over q x.lo) rest t path_limit (cut_drop q x.lo (conducts p ok c x parent.has) small) cut,
         )
 
-    pub whole_path : (c s : ℕ) → IsPath p (stopped q) R c s → (t : ℕ) × IsPath p q S c t × (min s path_limit ≡ min t path_limit)
+    pub whole_path : (c s : ℕ) → IsPath p (capped_flow q) R c s → (t : ℕ) × IsPath p q S c t × (min s path_limit ≡ min t path_limit)
     whole_path c s path = let (t, sums, cut) = sums_whole path.level c s path.sums in (t, record { level = path.level; is_level = level_whole c path.level path.is_level; sums = sums }, cut)
 
 -- and so for the anchors of a side
-pub whole_anchor_path : (side : Side) (p : List Entries) → IsProblem p → (q c s : ℕ) → IsPath p (stopped q) (AnchorRoot (anchor_on side) p (stopped q)) c s → (t : ℕ) × IsPath p q (AnchorRoot (anchor_on side) p q) c t × (min s path_limit ≡ min t path_limit)
-whole_anchor_path side p ok q = whole_path p ok q (AnchorRoot (anchor_on side) p (stopped q)) (AnchorRoot (anchor_on side) p q)
+pub whole_anchor_path : (side : Side) (p : List Entries) → IsProblem p → (q c s : ℕ) → IsPath p (capped_flow q) (AnchorRoot side p (capped_flow q)) c s → (t : ℕ) × IsPath p q (AnchorRoot side p q) c t × (min s path_limit ≡ min t path_limit)
+whole_anchor_path side p ok q = whole_path p ok q (AnchorRoot side p (capped_flow q)) (AnchorRoot side p q)
     (λ c d (h, some, is). (ceil_over q (anchor_on side (entries_at p c)), (h, some, refl), ap (λ (n : ℕ). min n path_limit) is ∙ cut_drop q (anchor_on side (entries_at p c)) some (anchor_small (entries_at p c) (ok.cells c h) side)))
-    (λ c d (h, some, is). (ceil_over (stopped q) (anchor_on side (entries_at p c)), (h, some, refl)))
+    (λ c d (h, some, is). (ceil_over (capped_flow q) (anchor_on side (entries_at p c)), (h, some, refl)))
