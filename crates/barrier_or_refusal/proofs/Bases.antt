@@ -1,12 +1,10 @@
 -- A problem has a base on each side: the outermost of its marks, or 0.
-use Rattle.std.proofs.Common.{◌≡◌, ℕ, zero, suc, ◌+◌, ◌⊎◌, inl, inr, refl, subst, arith, List, [], ◌∷◌, length, Option, None, Some, ℤ, pos}
-use Rattle.std.proofs.lemmas.Int.{ints}
+use Rattle.std.proofs.Common.{◌≡◌, ℕ, zero, suc, ◌⊎◌, inl, inr, refl, subst, add-one, List, [], ◌∷◌, length, Option, None, Some, ℤ, pos}
+use Rattle.std.specs.Option.{unwrap_or}
 use Rattle.step_problem.specs.declared.heads.Side.{Side}
-use Rattle.step_problem.specs.declared.heads.Side.TheVariants.{Low, High}
 use Rattle.step_problem.specs.Entries.{Entries, entries_at}
-use Rattle.barrier_vector.specs.Bases.{IsLowBase, IsHighBase}
-use Rattle.barrier_vector.specs.Marks.{fixed_mark, river_mark, drain_mark, outer_of, IsOutermost, IsMarkIn, IsCellMark, IsMarkBelow}
-use Rattle.barrier_vector.proofs.Marking.{outer_joins, no_marks, no_cells, cells_more, low_base_is, high_base_is, outermost_as, one_mark}
+use Rattle.barrier_vector.specs.Marks.{fixed_mark, river_mark, drain_mark, outer_of, IsOutermost, IsMarkIn, IsCellMark, IsMarkBelow, IsBase}
+use Rattle.barrier_vector.proofs.Marking.{outer_joins, no_marks, no_cells, cells_more, outermost_as, one_mark}
 use Rattle.barrier_or_refusal.proofs.Decided.{of_all, first_entry, later_entry}
 
 marks : {X : Type 0} (side : Side) (mark : X → Option ℤ) (xs : List X) → (o : Option ℤ) × IsOutermost side (IsMarkIn mark xs) o
@@ -34,25 +32,7 @@ marks_below side p zero = (None, no_cells side p)
 marks_below side p (suc n) =
     let (best, so_far) = marks_below side p n in
     let (o, here) = cell_marks side (entries_at p n) in
-    (outer_of side best o, subst (λ (k : ℕ). IsOutermost side (IsMarkBelow side p k) (outer_of side best o)) (one_more n) (cells_more side p n best o (outer_of side best o) refl so_far here))
-  where
-    one_more : (k : ℕ) → k + 1 ≡ suc k
-    one_more k = omega arith
+    (outer_of side best o, subst (λ (k : ℕ). IsOutermost side (IsMarkBelow side p k) (outer_of side best o)) (add-one n) (cells_more side p n best o (outer_of side best o) refl so_far here))
 
-abbrev or_zero : Option ℤ → ℤ
-or_zero None = pos 0
-or_zero (Some b) = b
-
-where_some : (o : Option ℤ) (v : ℤ) → o ≡ Some v → or_zero o ≡ v
-where_some None v e = absurd cc
-where_some (Some b) v e = cc
-
-where_none : (o : Option ℤ) → o ≡ None → or_zero o ≡ pos 0
-where_none None e = refl
-where_none (Some b) e = absurd cc
-
-pub low_base : (p : List Entries) → (b : ℤ) × IsLowBase p b
-low_base p = let (o, is) = marks_below Low p (length p) in (or_zero o, low_base_is p o (or_zero o) is (where_some o) (where_none o))
-
-pub high_base : (p : List Entries) → (b : ℤ) × IsHighBase p b
-high_base p = let (o, is) = marks_below High p (length p) in (or_zero o, high_base_is p o (or_zero o) is (where_some o) (where_none o))
+pub base : (side : Side) (p : List Entries) → (b : ℤ) × IsBase side p b
+base side p = let (o, is) = marks_below side p (length p) in (unwrap_or o (pos 0), (o, is, refl))

@@ -1,52 +1,42 @@
--- The base of either side is a head; paths that are cut off, and bounds that are.
-use Rattle.std.proofs.Common.{◌≡◌, ℕ, ◌+◌, ◌<◌, ◌≤◌, inl, inr, refl, sym, ◌∙◌, ap, subst, arith, List, [], ◌∷◌, ◌++◌, length, min, Option, None, Some, slice_index, ℤ, pos, ◌+ℤ◌}
+-- The base of either side is a head; cut paths; lists of bounds.
+use Rattle.std.proofs.Common.{◌≡◌, ℕ, ◌+◌, ◌<◌, ◌≤◌, inl, inr, sym, ◌∙◌, ap, subst, arith, List, [], ◌∷◌, ◌++◌, length, min, Option, None, Some, slice_index, ℤ, pos}
+use Rattle.std.specs.Int.{int_max}
 use Rattle.std.proofs.lemmas.Bool.{cases_lt}
 use Rattle.std.proofs.lemmas.Int.{ints, clamps}
 use Rattle.std.proofs.lemmas.List.Elements.{All-contains}
+use Rattle.step_problem.specs.declared.heads.Side.{Side}
+use Rattle.step_problem.specs.declared.heads.Side.TheVariants.{Low, High}
 use Rattle.step_problem.specs.Entries.{Entries, entries_at}
-use Rattle.step_problem.specs.Conditions.{IsProblem, IsHead, FixedFits, RiverFits, DrainFits}
-use Rattle.barrier_vector.specs.Bases.{IsLowMark, IsHighMark, IsLowBase, IsHighBase}
-use Rattle.step_problem.specs.declared.heads.Side.TheVariants.{High}
-use Rattle.barrier_vector.specs.Lacks.{surplus, stopped}
-use Rattle.barrier_vector.specs.Paths.{ceil_over}
-use Rattle.barrier_vector.specs.Bounds.{high_anchor, AnchorRoot, IsHighPath}
-use Rattle.barrier_vector.specs.Refusals.{HasNoCeiling}
+use Rattle.step_problem.specs.Conditions.{IsProblem, IsHead, CellFits, FixedFits, RiverFits, DrainFits}
+use Rattle.barrier_vector.specs.Marks.{IsCellMark, IsBase}
 use Rattle.barrier_vector.specs.Spreads.{mark_at}
-use Rattle.barrier_vector.specs.Searches.{path_limit, ListRoot, IsSearched}
+use Rattle.barrier_vector.specs.Searches.{path_limit}
 use Rattle.barrier_vector.specs.Labels.{AreLabels, IsGreatestOf}
-use Rattle.barrier_vector.specs.Roots.{AreRoots, IsAscent, ceiling_cut, IsCeilingOrNone, bound_at}
+use Rattle.barrier_vector.specs.Roots.{bound_at}
 use Rattle.barrier_vector.proofs.Backs.{reaches_within, turn_way}
+use Rattle.barrier_vector.proofs.Marking.{some_is}
 use Rattle.barrier_vector.proofs.Starting.{push_before, push_last}
-use Rattle.barrier_vector.proofs.Rooting.{path_as}
-use Rattle.barrier_vector.proofs.StoppedFlows.{whole_anchor_path}
 
 zero_head : IsHead (pos 0)
 zero_head = record { above = omega (arith, ints); below = omega (arith, ints) }
 
-pub low_base_head : (p : List Entries) → IsProblem p → (b : ℤ) → IsLowBase p b → IsHead b
-low_base_head p ok b y =
-    elim y.reached [
-      | inr (none, is) ↦ subst IsHead (sym is) zero_head
-      | inl (c, h, mark) ↦ low c h mark
-    ]
+-- a mark of a cell is a head
+mark_head : (side : Side) (c : Entries) → CellFits c → (v : ℤ) → IsCellMark side c v → IsHead v
+mark_head Low c fits v (inl (x, has, e)) = subst IsHead (sym (some_is x.hi x.head_lo v e).1) (All-contains FixedFits c.fixed x fits.fixed has).head_lo
+mark_head Low c fits v (inr (inl (x, has, e))) = subst IsHead (sym (some_is x.hi x.bottom_lo v e).1) (All-contains RiverFits c.rivers x fits.rivers has).bottom_lo
+mark_head Low c fits v (inr (inr (x, has, e))) = subst IsHead (sym (some_is x.hi x.elev_lo v e).1) (All-contains DrainFits c.drains x fits.drains has).elev_lo
+mark_head High c fits v (inl (x, has, e)) = subst IsHead (sym (some_is x.hi x.head_hi v e).1) (All-contains FixedFits c.fixed x fits.fixed has).head_hi
+mark_head High c fits v (inr (inl (x, has, e))) =
+    let river = All-contains RiverFits c.rivers x fits.rivers has in
+    subst IsHead (sym (some_is x.hi (int_max x.stage_hi x.bottom_hi) v e).1) (greater_head x.stage_hi x.bottom_hi river.stage_hi river.bottom_hi)
   where
-    low : (c : ℕ) → c < length p → IsLowMark (entries_at p c) b → IsHead b
-    low c h (inl (x, has, some, is)) = subst IsHead (sym is) (All-contains FixedFits (entries_at p c).fixed x ((ok.cells c h).fixed) has).head_lo
-    low c h (inr (inl (x, has, some, is))) = subst IsHead (sym is) (All-contains RiverFits (entries_at p c).rivers x ((ok.cells c h).rivers) has).bottom_lo
-    low c h (inr (inr (x, has, some, is))) = subst IsHead (sym is) (All-contains DrainFits (entries_at p c).drains x ((ok.cells c h).drains) has).elev_lo
+    greater_head : (a b : ℤ) → IsHead a → IsHead b → IsHead (int_max a b)
+    greater_head a b h k = record { above = omega (arith, ints, clamps, h.above); below = omega (arith, ints, clamps, h.below, k.below) }
+mark_head High c fits v (inr (inr (x, has, e))) = subst IsHead (sym (some_is x.hi x.elev_hi v e).1) (All-contains DrainFits c.drains x fits.drains has).elev_hi
 
-pub high_base_head : (p : List Entries) → IsProblem p → (b : ℤ) → IsHighBase p b → IsHead b
-high_base_head p ok b y =
-    elim y.reached [
-      | inr (none, is) ↦ subst IsHead (sym is) zero_head
-      | inl (c, h, mark) ↦ high c h mark
-    ]
-  where
-    high : (c : ℕ) → c < length p → IsHighMark (entries_at p c) b → IsHead b
-    high c h (inl (x, has, some, is)) = subst IsHead (sym is) (All-contains FixedFits (entries_at p c).fixed x ((ok.cells c h).fixed) has).head_hi
-    high c h (inr (inl (x, has, some, inl is))) = subst IsHead (sym is) (All-contains RiverFits (entries_at p c).rivers x ((ok.cells c h).rivers) has).stage_hi
-    high c h (inr (inl (x, has, some, inr is))) = subst IsHead (sym is) (All-contains RiverFits (entries_at p c).rivers x ((ok.cells c h).rivers) has).bottom_hi
-    high c h (inr (inr (x, has, some, is))) = subst IsHead (sym is) (All-contains DrainFits (entries_at p c).drains x ((ok.cells c h).drains) has).elev_hi
+pub base_head : (side : Side) (p : List Entries) → IsProblem p → (b : ℤ) → IsBase side p b → IsHead b
+base_head side p ok b (None, is, e) = subst IsHead (sym e) zero_head
+base_head side p ok b (Some w, is, e) = subst IsHead (sym e) (mark_head side (entries_at p is.0.0) (ok.cells is.0.0 is.0.1) w is.0.2)
 
 -- a label is a cell of the problem
 pub label_within : (p : List Entries) → IsProblem p → (labels : List (Option ℕ)) → AreLabels p labels (length p) → (c m : ℕ) → c < length p → mark_at labels c ≡ Some m → m < length p
@@ -67,34 +57,3 @@ bounds_more p Is xs xs' o i pushed whole here so_far c h =
           let at : i ≡ c = omega (arith, past, h) in
           subst (λ (z : ℕ). Is z (bound_at xs' z)) at (subst (Is i) (sym (ap (λ (z : List (Option ℤ)). bound_at z i) pushed ∙ ap (bound_at (xs ++ o ∷ [])) (sym whole) ∙ push_last xs o None)) here)
     ]
-
-module _ (p : List Entries) (ok : IsProblem p) where
-  pub high_paths : (own levels : List (Option ℕ)) (paths : List ℕ) → length own ≡ length p → AreRoots (AnchorRoot high_anchor p (stopped (surplus p))) own → IsSearched p (stopped (surplus p)) own levels paths → (c k : ℕ) → mark_at levels c ≡ Some k → (s : ℕ) × IsHighPath p c s × (slice_index paths c ≡ min s path_limit)
-  high_paths own levels paths whole roots found c k e =
-      let (s, path, cut) = found.some c k e in
-      let (t, full, same) = whole_anchor_path High p ok (surplus p) c s (path_as p (stopped (surplus p)) (ListRoot own) (AnchorRoot high_anchor p (stopped (surplus p))) roots.only (λ a d r. roots.each a d (subst (λ (n : ℕ). a < n) (sym whole) r.0) r) c s path) in
-      (t, full, cut ∙ same)
-
-  pub no_high_anchor : (own levels : List (Option ℕ)) (paths : List ℕ) → length own ≡ length p → AreRoots (AnchorRoot high_anchor p (stopped (surplus p))) own → IsSearched p (stopped (surplus p)) own levels paths → (c : ℕ) → c < length p → mark_at levels c ≡ None → HasNoCeiling p c
-  no_high_anchor own levels paths whole roots found c h e j a way =
-      elim (cases_lt 0 (high_anchor (entries_at p a))) [
-        | inr none ↦ omega (arith, none)
-        | inl some ↦
-            let a_in = reaches_within p ok j c a h way in
-            absurd (found.none c h e j (record { root = a; drop = ceil_over (stopped (surplus p)) (high_anchor (entries_at p a)); is_root = roots.each a _ (subst (λ (n : ℕ). a < n) (sym whole) a_in) (a_in, some, refl); reaches = way }))
-      ]
-
-pub ascent_made : (p : List Entries) → IsProblem p → (base : ℤ) (own levels : List (Option ℕ)) (paths : List ℕ) → IsHighBase p base → length own ≡ length p → AreRoots (AnchorRoot high_anchor p (stopped (surplus p))) own → IsSearched p (stopped (surplus p)) own levels paths → IsAscent p base levels paths
-ascent_made p ok base own levels paths is whole roots found = record {
-  is_base = is;
-  anchored = high_paths p ok own levels paths whole roots found;
-  unanchored = no_high_anchor p ok own levels paths whole roots found;
-  levels_whole = found.levels_whole;
-  paths_whole = found.paths_whole;
-}
-
-pub ceiling_some : (p : List Entries) (base : ℤ) (levels : List (Option ℕ)) (paths : List ℕ) → IsAscent p base levels paths → IsHead base → (c k : ℕ) (v : ℤ) → mark_at levels c ≡ Some k → v ≡ ceiling_cut (base +ℤ pos (slice_index paths c)) → IsCeilingOrNone p c (Some v)
-ceiling_some p base levels paths y head c k v e is = let (s, path, cut) = y.anchored c k e in (base +ℤ pos s, (base, y.is_base, s, path, refl), is ∙ capped (slice_index paths c) s head cut)
-  where
-    capped : (x s : ℕ) → IsHead base → x ≡ min s path_limit → ceiling_cut (base +ℤ pos x) ≡ ceiling_cut (base +ℤ pos s)
-    capped x s h p = omega (arith, ints, clamps, h.below, h.above, p)

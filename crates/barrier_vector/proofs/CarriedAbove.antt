@@ -3,13 +3,14 @@ use Rattle.std.proofs.Common.{◌≡◌, ℕ, zero, suc, ◌<◌, ◌⊎◌, inl
 use Rattle.std.specs.List.{AllZip}
 use Rattle.std.proofs.lemmas.Bool.{cases_lt, false≢true}
 use Rattle.std.proofs.lemmas.Int.{by_lt_z}
+use Rattle.step_problem.specs.declared.heads.Side.TheVariants.{Low}
 use Rattle.step_problem.specs.Entries.{Entries}
 use Rattle.cell_balance.specs.Components.{IsCarried}
 use Rattle.cell_balance.proofs.Cancel.{IsMutual}
 use Rattle.cell_balance.proofs.Spread.{carried_not_dry}
 use Rattle.cell_balance.proofs.Whole.{WholeCell, whole_at, whole_balance}
 use Rattle.cell_balance.proofs.Within.{CellWithin}
-use Rattle.barrier_vector.specs.Bases.{IsLowMark, IsSomewhere}
+use Rattle.barrier_vector.specs.Marks.{IsMarkBelow}
 use Rattle.barrier_vector.proofs.FloorsLinks.{base_dry}
 use Rattle.barrier_vector.proofs.FloorsSteps.{weak}
 
@@ -36,7 +37,7 @@ all_or_some (suc n) inside Y t =
 module _ (m n : ℕ) (some_m : 0 < m) (some_n : 0 < n) (p : List Entries) (w : List WholeCell) (Y : ℕ → ℤ)
     (within : AllZip (CellWithin m n (length p)) p w) (both : IsMutual w)
     (solves : (c : ℕ) → c < length w → whole_balance (whole_at w c) (Y c) Y ≡ pos 0)
-    (b : ℤ) (base : (v : ℤ) → IsSomewhere IsLowMark p v → b ≤ℤ v)
+    (b : ℤ) (base : (v : ℤ) → IsMarkBelow Low p (length p) v → b ≤ℤ v)
   where
     pub somewhere_above : (c : ℕ) (carried : IsCarried p c) → (k : ℕ) × (k < length p) × (carried.inside k ≡ true) × ((b *ℤ pos n) ≤ℤ Y k)
     somewhere_above c carried =

@@ -6,27 +6,28 @@ use Rattle.step_problem.specs.Entries.{Entries, entries_at}
 use Rattle.step_problem.specs.Conditions.{IsProblem, IsHead}
 use Rattle.cell_balance.specs.Components.{IsComponent, sum_inside, deep_low}
 use Rattle.cell_balance.proofs.Sums.{sum-same}
-use Rattle.barrier_vector.specs.Bases.{IsLowBase}
-use Rattle.barrier_vector.specs.Lacks.{lack, stopped}
+use Rattle.step_problem.specs.declared.heads.Side.TheVariants.{Low}
+use Rattle.barrier_vector.specs.Marks.{IsBase}
+use Rattle.barrier_vector.specs.Lacks.{lack, capped_flow}
 use Rattle.barrier_vector.specs.Bounds.{LeastRoot, IsInnerPath, IsLongest, IsUnanchored}
 use Rattle.barrier_vector.specs.Spreads.{mark_at}
 use Rattle.barrier_vector.specs.Searches.{path_limit, ListRoot, IsSearched}
 use Rattle.barrier_vector.specs.Labels.{AreLabels, is_label, labelled, number_at, sum_at, IsGreatestOf}
 use Rattle.barrier_vector.specs.declared.gathered.FlowSum.{FlowSum}
-use Rattle.barrier_vector.specs.Roots.{SelfRoot, AreRoots, AreComponents, floor_cut, IsFloorOrNone}
+use Rattle.barrier_vector.specs.Roots.{SelfRoot, AreRoots, AreComponents, cut_on, IsBoundOrNone}
 use Rattle.barrier_vector.proofs.Backs.{reaches_within, turn_way, join_ways}
 use Rattle.barrier_vector.proofs.Levels.{marked_or_not, marked_within}
 use Rattle.barrier_vector.proofs.Labelling.{along}
 use Rattle.barrier_vector.proofs.Gathering.{label_true, label_is}
 use Rattle.barrier_vector.proofs.Rooting.{path_as}
-use Rattle.barrier_vector.proofs.StoppedFlows.{whole_path}
+use Rattle.barrier_vector.proofs.CappedFlows.{whole_path}
 use Rattle.barrier_vector.proofs.Uniques.{inner_one}
 use Rattle.barrier_vector.proofs.Basing.{label_within}
 use Rattle.barrier_vector.proofs.Surveying.{same_tests}
 
 module _ (p : List Entries) (ok : IsProblem p) where
   -- every cell leads to the least cell of its component
-  pub inner_paths_of : (labels own levels : List (Option ℕ)) (paths : List ℕ) → AreLabels p labels (length p) → length own ≡ length labels → AreRoots (SelfRoot labels) own → IsSearched p (stopped (lack p)) own levels paths → (c : ℕ) → c < length p → (s : ℕ) × IsInnerPath p c s × (slice_index paths c ≡ min s path_limit)
+  pub inner_paths_of : (labels own levels : List (Option ℕ)) (paths : List ℕ) → AreLabels p labels (length p) → length own ≡ length labels → AreRoots (SelfRoot labels) own → IsSearched p (capped_flow (lack p)) own levels paths → (c : ℕ) → c < length p → (s : ℕ) × IsInnerPath p c s × (slice_index paths c ≡ min s path_limit)
   inner_paths_of labels own levels paths l whole roots found c h =
       elim (marked_or_not (mark_at levels c)) [
         | inl none ↦
@@ -37,7 +38,7 @@ module _ (p : List Entries) (ok : IsProblem p) where
             absurd (found.none c h none i (record { root = m; drop = 0; is_root = roots.each m 0 (subst (λ (n : ℕ). m < n) (sym whole) (marked_within labels m m self)) (self, refl); reaches = back_way }))
         | inr (k, e) ↦
             let (s, path, cut) = found.some c k e in
-            let (t, full, same) = whole_path p ok (lack p) (LeastRoot p) (LeastRoot p) (λ a d r. (d, r, refl)) (λ a d r. (d, r)) c s (path_as p (stopped (lack p)) (ListRoot own) (LeastRoot p) least_is is_least c s path) in
+            let (t, full, same) = whole_path p ok (lack p) (LeastRoot p) (LeastRoot p) (λ a d r. (d, r, refl)) (λ a d r. (d, r)) c s (path_as p (capped_flow (lack p)) (ListRoot own) (LeastRoot p) least_is is_least c s path) in
             (t, full, cut ∙ same)
       ]
     where
@@ -57,7 +58,7 @@ module _ (p : List Entries) (ok : IsProblem p) where
   pub sums_as_deep : (labels : List (Option ℕ)) (deep : List ℤ) (sums : List FlowSum) → length labels ≡ length p → ((c : ℕ) → c < length p → number_at deep c ≡ deep_low (entries_at p c)) → ((m : ℕ) → sum_at sums m ≡ sum_inside (length labels) (labelled labels m) (number_at deep)) → (m : ℕ) → sum_at sums m ≡ sum_inside (length p) (labelled labels m) (λ k. deep_low (entries_at p k))
   sums_as_deep labels deep sums whole values h m = h m ∙ ap (λ (n : ℕ). sum_inside n (labelled labels m) (number_at deep)) whole ∙ sum-same (length p) _ _ (λ k k_in. ap (λ (z : ℤ). cond (labelled labels m k) z (pos 0)) (values k k_in))
 
-capped_sum : (b : ℤ) (x y s t : ℕ) → IsHead b → x ≡ min s path_limit → y ≡ min t path_limit → floor_cut (b -ℤ pos (x + y)) ≡ floor_cut (b -ℤ pos (s + t))
+capped_sum : (b : ℤ) (x y s t : ℕ) → IsHead b → x ≡ min s path_limit → y ≡ min t path_limit → cut_on Low (b -ℤ pos (x + y)) ≡ cut_on Low (b -ℤ pos (s + t))
 capped_sum b x y s t h p q = omega (arith, ints, clamps, h.below, h.above, p, q)
 
 module _ (p : List Entries) (ok : IsProblem p) (labels : List (Option ℕ)) (inner : List ℕ) (sums : List FlowSum) (longest : List ℕ) (y : AreComponents p labels inner sums longest) where
@@ -132,17 +133,17 @@ module _ (p : List Entries) (ok : IsProblem p) (labels : List (Option ℕ)) (inn
             | inr (l, l_in, l_on, is) ↦ let (r, r_path, r_cut) = y.inner_paths l l_in in let le = top l r l_in l_on r_path in omega (arith, at_least, s_cut, same, is, r_cut, le)
           ]
 
-  pub floor_carried : (base : ℤ) → IsLowBase p base → IsHead base → (c m : ℕ) (v : ℤ) → c < length p → IsUnanchored p c → mark_at labels c ≡ Some m → pos 0 <ℤ sum_at sums m → v ≡ floor_cut (base -ℤ pos (slice_index inner c + slice_index longest m)) → IsFloorOrNone p c (Some v)
+  pub floor_carried : (base : ℤ) → IsBase Low p base → IsHead base → (c m : ℕ) (v : ℤ) → c < length p → IsUnanchored Low p c → mark_at labels c ≡ Some m → pos 0 <ℤ sum_at sums m → v ≡ cut_on Low (base -ℤ pos (slice_index inner c + slice_index longest m)) → IsBoundOrNone Low p c (Some v)
   floor_carried base is_base head c m v h none e carries is =
       let (s, path, cut) = y.inner_paths c h in
       let (t, top, top_cut) = longest_is c m h e in
-      (base -ℤ pos (s + t), (base, is_base, inr (none, record { inside = labelled labels m; component = component_of c m e; carries = subst (λ (z : ℤ). pos 0 <ℤ z) (y.component_sums m) carries }, s, path, t, top, refl)), is ∙ capped_sum base (slice_index inner c) (slice_index longest m) s t head cut top_cut)
+      (base -ℤ pos (s + t), inr (base, is_base, none, record { inside = labelled labels m; component = component_of c m e; carries = subst (λ (z : ℤ). pos 0 <ℤ z) (y.component_sums m) carries }, s, path, t, top, refl), is ∙ capped_sum base (slice_index inner c) (slice_index longest m) s t head cut top_cut)
 
-  pub floor_none : (c m : ℕ) → c < length p → IsUnanchored p c → mark_at labels c ≡ Some m → sum_at sums m ≤ℤ pos 0 → IsFloorOrNone p c None
+  pub floor_none : (c m : ℕ) → c < length p → IsUnanchored Low p c → mark_at labels c ≡ Some m → sum_at sums m ≤ℤ pos 0 → IsBoundOrNone Low p c None
   floor_none c m h none e empty = (none, λ carried. let same = sum_is c m h e carried.inside carried.component in let k = carried.carries in omega (arith, ints, same, k, empty))
 
 -- the components, from what the code made
-pub components_made : (p : List Entries) → IsProblem p → (labels least levels : List (Option ℕ)) (inner : List ℕ) (deep : List ℤ) (sums : List FlowSum) (longest : List ℕ) → AreLabels p labels (length p) → length least ≡ length labels → AreRoots (SelfRoot labels) least → IsSearched p (stopped (lack p)) least levels inner → ((c : ℕ) → c < length p → number_at deep c ≡ deep_low (entries_at p c)) → length sums ≡ length labels → ((m : ℕ) → sum_at sums m ≡ sum_inside (length labels) (labelled labels m) (number_at deep)) → length longest ≡ length labels → ((m : ℕ) → IsGreatestOf labels inner m (length labels) (slice_index longest m)) → AreComponents p labels inner sums longest
+pub components_made : (p : List Entries) → IsProblem p → (labels least levels : List (Option ℕ)) (inner : List ℕ) (deep : List ℤ) (sums : List FlowSum) (longest : List ℕ) → AreLabels p labels (length p) → length least ≡ length labels → AreRoots (SelfRoot labels) least → IsSearched p (capped_flow (lack p)) least levels inner → ((c : ℕ) → c < length p → number_at deep c ≡ deep_low (entries_at p c)) → length sums ≡ length labels → ((m : ℕ) → sum_at sums m ≡ sum_inside (length labels) (labelled labels m) (number_at deep)) → length longest ≡ length labels → ((m : ℕ) → IsGreatestOf labels inner m (length labels) (slice_index longest m)) → AreComponents p labels inner sums longest
 components_made p ok labels least levels inner deep sums longest l least_whole least_roots found values sums_whole sum_is tops_whole tops = record {
   labelling = l;
   inner_paths = inner_paths_of p ok labels least levels inner l least_whole least_roots found;

@@ -6,26 +6,28 @@ use Rattle.std.proofs.lemmas.Int.{ints}
 use Rattle.step_problem.specs.declared.entry.Fixed.{Fixed}
 use Rattle.step_problem.specs.declared.entry.River.{River}
 use Rattle.step_problem.specs.declared.entry.Drain.{Drain}
+use Rattle.step_problem.specs.declared.heads.Side.TheVariants.{High}
 use Rattle.step_problem.specs.Entries.{Entries, entries_at}
 use Rattle.step_problem.specs.Conditions.{IsProblem}
 use Rattle.cell_balance.proofs.Totals.{add_mul}
 use Rattle.cell_balance.proofs.Cancel.{IsMutual}
 use Rattle.cell_balance.proofs.Whole.{WholeCell, whole_at, whole_balance}
 use Rattle.cell_balance.proofs.Within.{CellWithin}
-use Rattle.barrier_vector.specs.Bases.{IsHighMark, IsSomewhere}
+use Rattle.barrier_vector.specs.Marks.{IsMarkBelow}
 use Rattle.barrier_vector.specs.Lacks.{surplus}
 use Rattle.barrier_vector.specs.Paths.{ceil_over, SumsTo}
-use Rattle.barrier_vector.specs.Bounds.{greatest, high_anchor, AnchorRoot, IsCeiling}
+use Rattle.barrier_vector.specs.Bounds.{greatest, anchor_on, AnchorRoot, IsCeiling}
 use Rattle.barrier_vector.specs.Laws.{CeilingsEnclose}
 use Rattle.barrier_vector.proofs.Backs.{leads_within, conducts}
 use Rattle.barrier_vector.proofs.FloorsWhole.{whole_head, whole_solution, high_back}
 use Rattle.barrier_vector.proofs.FloorsSteps.{ceil_enough, joined_high}
 use Rattle.barrier_vector.proofs.CeilingsLinks.{rises_over, rises_at_fixed, rises_at_river, rises_at_drain}
+use Rattle.barrier_vector.proofs.Marking.{base_outside}
 use Rattle.barrier_vector.proofs.Rooting.{greatest_has}
 
 -- an anchor of the high side is a fixed link, a river or a drain
-data_anchor : (c : Entries) → 0 < high_anchor c → ((x : Fixed) × Contains c.fixed x × (x.lo ≡ high_anchor c)) ⊎ (((x : River) × Contains c.rivers x × (x.lo ≡ high_anchor c)) ⊎ ((x : Drain) × Contains c.drains x × (x.lo ≡ high_anchor c)))
-data_anchor c some =
+pub anchor_above : (c : Entries) → 0 < anchor_on High c → ((x : Fixed) × Contains c.fixed x × (x.lo ≡ anchor_on High c)) ⊎ (((x : River) × Contains c.rivers x × (x.lo ≡ anchor_on High c)) ⊎ ((x : Drain) × Contains c.drains x × (x.lo ≡ anchor_on High c)))
+anchor_above c some =
     which (greatest (λ (x : Fixed). x.lo) c.fixed) (greatest (λ (x : River). x.lo) c.rivers) (greatest (λ (x : Drain). x.lo) c.drains) some
     (λ s e. let (x, has, is) = greatest_has (λ (x : Fixed). x.lo) c.fixed s in (x, has, omega (arith, is, e)))
     (λ s e. let (x, has, is) = greatest_has (λ (x : River). x.lo) c.rivers s in (x, has, omega (arith, is, e)))
@@ -44,12 +46,12 @@ data_anchor c some =
 module _ (m n : ℕ) (some_m : 0 < m) (some_n : 0 < n) (p : List Entries) (w : List WholeCell) (Y : ℕ → ℤ)
     (within : AllZip (CellWithin m n (length p)) p w) (both : IsMutual w)
     (solves : (c : ℕ) → c < length w → whole_balance (whole_at w c) (Y c) Y ≡ pos 0)
-    (ok : IsProblem p) (b : ℤ) (base : (v : ℤ) → IsSomewhere IsHighMark p v → v ≤ℤ b)
+    (ok : IsProblem p) (b : ℤ) (base : (v : ℤ) → IsMarkBelow High p (length p) v → v ≤ℤ b)
   where
-    rises_at : (d c : ℕ) → AnchorRoot high_anchor p (surplus p) c d → Y c ≤ℤ ((b *ℤ pos n) +ℤ pos (d * n))
+    rises_at : (d c : ℕ) → AnchorRoot High p (surplus p) c d → Y c ≤ℤ ((b *ℤ pos n) +ℤ pos (d * n))
     rises_at d c (i, some, is) =
-        let enough : surplus p ≤ d * high_anchor (entries_at p c) = rw is (ceil_enough (surplus p) (high_anchor (entries_at p c)) some) in
-        elim (data_anchor (entries_at p c) some) [
+        let enough : surplus p ≤ d * anchor_on High (entries_at p c) = rw is (ceil_enough (surplus p) (anchor_on High (entries_at p c)) some) in
+        elim (anchor_above (entries_at p c) some) [
           | inl (x, has, lo) ↦ rises_at_fixed m n some_m some_n p w Y within both solves b base d c i x has (omega (arith, some, lo)) (rw lo enough)
           | inr (inl (x, has, lo)) ↦ rises_at_river m n some_m some_n p w Y within both solves b base d c i x has (omega (arith, some, lo)) (rw lo enough)
           | inr (inr (x, has, lo)) ↦ rises_at_drain m n some_m some_n p w Y within both solves b base d c i x has (omega (arith, some, lo)) (rw lo enough)
@@ -58,7 +60,7 @@ module _ (m n : ℕ) (some_m : 0 < m) (some_n : 0 < n) (p : List Entries) (w : L
     above : (k : ℕ) → (b *ℤ pos n) ≤ℤ ((b *ℤ pos n) +ℤ pos k)
     above k = omega (arith, ints)
 
-    rises_along : (k c s : ℕ) → c < length p → SumsTo p (surplus p) (AnchorRoot high_anchor p (surplus p)) k c s → Y c ≤ℤ ((b *ℤ pos n) +ℤ pos (s * n))
+    rises_along : (k c s : ℕ) → c < length p → SumsTo p (surplus p) (AnchorRoot High p (surplus p)) k c s → Y c ≤ℤ ((b *ℤ pos n) +ℤ pos (s * n))
     rises_along zero c s i root = rises_at s c root
     rises_along (suc k) c s i (x, parent, rest, sums, is) =
         let far = rises_along k x.cell rest (leads_within p ok c x parent.has) sums in
@@ -68,7 +70,7 @@ module _ (m n : ℕ) (some_m : 0 < m) (some_n : 0 < n) (p : List Entries) (w : L
 -- the ceiling of a cell
 pub whole_ceiling : (m n : ℕ) → 0 < m → 0 < n → (p : List Entries) (w : List WholeCell) (Y : ℕ → ℤ) → AllZip (CellWithin m n (length p)) p w → IsMutual w → ((c : ℕ) → c < length w → whole_balance (whole_at w c) (Y c) Y ≡ pos 0) → IsProblem p → (c : ℕ) (f : ℤ) → c < length p → IsCeiling p c f → Y c ≤ℤ (f *ℤ pos n)
 whole_ceiling m n some_m some_n p w Y within both solves ok c f i (b, base, s, path, is) =
-    scaled (rises_along m n some_m some_n p w Y within both solves ok b base.first path.level c s i path.sums)
+    scaled (rises_along m n some_m some_n p w Y within both solves ok b (base_outside High p b base) path.level c s i path.sums)
   where
     scaled : Y c ≤ℤ ((b *ℤ pos n) +ℤ pos (s * n)) → Y c ≤ℤ (f *ℤ pos n)
     scaled h = rw (is, add_mul b (pos s) (pos n)) (omega (arith, ints, h))

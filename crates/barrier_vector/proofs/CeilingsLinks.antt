@@ -9,6 +9,7 @@ use Rattle.step_problem.specs.declared.entry.Link.{Link}
 use Rattle.step_problem.specs.declared.entry.Fixed.{Fixed}
 use Rattle.step_problem.specs.declared.entry.River.{River}
 use Rattle.step_problem.specs.declared.entry.Drain.{Drain}
+use Rattle.step_problem.specs.declared.heads.Side.TheVariants.{High}
 use Rattle.step_problem.specs.Entries.{Entries, entries_at}
 use Rattle.step_problem.specs.Flows.{total}
 use Rattle.step_problem.proofs.Ring.{mul_nonneg}
@@ -22,7 +23,7 @@ use Rattle.cell_balance.proofs.Mutual.{no_whole_link}
 use Rattle.cell_balance.proofs.Spread.{cell_within}
 use Rattle.cell_balance.proofs.Whole.{WholeCell, WholeRiver, WholeDrain, whole_at, whole_balance, whole_fixed, whole_river, whole_drain}
 use Rattle.cell_balance.proofs.Within.{CellWithin, FlowWithin, LinkWithin, FixedWithin, RiverWithin, DrainWithin}
-use Rattle.barrier_vector.specs.Bases.{IsHighMark, IsSomewhere}
+use Rattle.barrier_vector.specs.Marks.{IsMarkBelow}
 use Rattle.barrier_vector.specs.Lacks.{surplus, positive_part, high_flow}
 use Rattle.barrier_vector.proofs.FloorsSums.{limited_sum, AllZip-has, term-le-total}
 use Rattle.barrier_vector.proofs.FloorsDry.{IsWet, cell_wet, IsWet-higher}
@@ -51,7 +52,7 @@ exceeding (negsuc a) f k h = omega (arith, ints)
 module _ (m n : ℕ) (some_m : 0 < m) (some_n : 0 < n) (p : List Entries) (w : List WholeCell) (Y : ℕ → ℤ)
     (within : AllZip (CellWithin m n (length p)) p w) (both : IsMutual w)
     (solves : (c : ℕ) → c < length w → whole_balance (whole_at w c) (Y c) Y ≡ pos 0)
-    (b : ℤ) (base : (v : ℤ) → IsSomewhere IsHighMark p v → v ≤ℤ b)
+    (b : ℤ) (base : (v : ℤ) → IsMarkBelow High p (length p) v → v ≤ℤ b)
   where
     same_length : length p ≡ length w
     same_length = AllZip-length (CellWithin m n (length p)) p w within

@@ -4,6 +4,7 @@ use Rattle.std.specs.List.{AllZip}
 use Rattle.std.proofs.Math.Nat.{mul-le-mul_right}
 use Rattle.std.proofs.lemmas.Int.{ints}
 use Rattle.step_problem.specs.declared.entry.Link.{Link}
+use Rattle.step_problem.specs.declared.heads.Side.TheVariants.{Low}
 use Rattle.step_problem.specs.Entries.{Entries, entries_at}
 use Rattle.step_problem.specs.Conditions.{IsProblem}
 use Rattle.cell_balance.specs.Components.{IsCarried}
@@ -11,9 +12,9 @@ use Rattle.cell_balance.proofs.Totals.{sub_mul, same_z}
 use Rattle.cell_balance.proofs.Cancel.{IsMutual}
 use Rattle.cell_balance.proofs.Whole.{WholeCell, whole_at, whole_balance}
 use Rattle.cell_balance.proofs.Within.{CellWithin}
-use Rattle.barrier_vector.specs.Bases.{IsLowMark, IsSomewhere}
+use Rattle.barrier_vector.specs.Marks.{IsMarkBelow}
 use Rattle.barrier_vector.specs.Lacks.{lack}
-use Rattle.barrier_vector.specs.Bounds.{low_anchor, LeastRoot, IsLowPath, IsInnerPath, IsLongest, IsFloor}
+use Rattle.barrier_vector.specs.Bounds.{anchor_on, LeastRoot, IsAnchorPath, IsInnerPath, IsLongest, IsFloor}
 use Rattle.barrier_vector.specs.Laws.{FloorsEnclose}
 use Rattle.barrier_vector.proofs.Backs.{join_ways, turn_way}
 use Rattle.barrier_vector.proofs.FloorsWhole.{whole_head, whole_solution, low_back}
@@ -22,23 +23,24 @@ use Rattle.barrier_vector.proofs.FloorsLinks.{falls_over, falls_at}
 use Rattle.barrier_vector.proofs.FloorsPaths.{falls_along, falls_to_root}
 use Rattle.barrier_vector.proofs.CarriedAbove.{somewhere_above}
 use Rattle.barrier_vector.proofs.CarriedRoots.{same_root, inner_path}
+use Rattle.barrier_vector.proofs.Marking.{base_outside}
 use Rattle.barrier_vector.proofs.Rooting.{greatest_has}
 
 module _ (m n : ℕ) (some_m : 0 < m) (some_n : 0 < n) (p : List Entries) (w : List WholeCell) (Y : ℕ → ℤ)
     (within : AllZip (CellWithin m n (length p)) p w) (both : IsMutual w)
     (solves : (c : ℕ) → c < length w → whole_balance (whole_at w c) (Y c) Y ≡ pos 0)
-    (ok : IsProblem p) (b : ℤ) (base : (v : ℤ) → IsSomewhere IsLowMark p v → b ≤ℤ v)
+    (ok : IsProblem p) (b : ℤ) (base : (v : ℤ) → IsMarkBelow Low p (length p) v → b ≤ℤ v)
   where
     over : (t : ℤ) → t ≤ℤ (b *ℤ pos n) → (drop c : ℕ) → c < length p → (x : Link) → Contains (entries_at p c).links x → lack p ≤ drop * x.lo → t ≤ℤ Y x.cell → (t -ℤ pos (drop * n)) ≤ℤ Y c
     over = falls_over m n some_m some_n p w Y within both solves b base
 
     -- a cell with a path to an anchor
-    anchored_floor : (c s : ℕ) → c < length p → IsLowPath p c s → ((b *ℤ pos n) -ℤ pos (s * n)) ≤ℤ Y c
+    anchored_floor : (c s : ℕ) → c < length p → IsAnchorPath Low p c s → ((b *ℤ pos n) -ℤ pos (s * n)) ≤ℤ Y c
     anchored_floor c s i path =
         falls_along p ok n (lack p) Y (b *ℤ pos n) over _ (b *ℤ pos n) (same_z _) path.level c s i path.sums
         (λ r d j (r_in, some, is) way.
         let (x, has, lo) = greatest_has (λ x. x.lo) (entries_at p r).fixed some in
-        let enough = ceil_enough (lack p) (low_anchor (entries_at p r)) some in
+        let enough = ceil_enough (lack p) (anchor_on Low (entries_at p r)) some in
         falls_at m n some_m some_n p w Y within both solves b base d r r_in x has (omega (arith, some, lo)) (rw (is, lo) enough))
 
     -- a cell of a carried component: up to a cell at the base, down to the least cell, and on to the cell
@@ -77,14 +79,14 @@ module _ (m n : ℕ) (some_m : 0 < m) (some_n : 0 < n) (p : List Entries) (w : L
 
 -- the floor of a cell
 pub whole_floor : (m n : ℕ) → 0 < m → 0 < n → (p : List Entries) (w : List WholeCell) (Y : ℕ → ℤ) → AllZip (CellWithin m n (length p)) p w → IsMutual w → ((c : ℕ) → c < length w → whole_balance (whole_at w c) (Y c) Y ≡ pos 0) → IsProblem p → (c : ℕ) (f : ℤ) → c < length p → IsFloor p c f → (f *ℤ pos n) ≤ℤ Y c
-whole_floor m n some_m some_n p w Y within both solves ok c f i (b, base, kind) =
+whole_floor m n some_m some_n p w Y within both solves ok c f i kind =
     elim kind [
-      | inl (s, path, is) ↦ scaled s is (anchored_floor m n some_m some_n p w Y within both solves ok b base.first c s i path)
-      | inr (free, carried, s, path, t, longest, is) ↦ scaled (s + t) is (carried_floor m n some_m some_n p w Y within both solves ok b base.first c s t i carried path longest)
+      | inl (b, base, s, path, is) ↦ scaled b s is (anchored_floor m n some_m some_n p w Y within both solves ok b (base_outside Low p b base) c s i path)
+      | inr (b, base, free, carried, s, path, t, longest, is) ↦ scaled b (s + t) is (carried_floor m n some_m some_n p w Y within both solves ok b (base_outside Low p b base) c s t i carried path longest)
     ]
   where
-    scaled : (k : ℕ) → f ≡ b -ℤ pos k → ((b *ℤ pos n) -ℤ pos (k * n)) ≤ℤ Y c → (f *ℤ pos n) ≤ℤ Y c
-    scaled k is h = rw (is, sub_mul b (pos k) (pos n)) (omega (arith, ints, h))
+    scaled : (b : ℤ) (k : ℕ) → f ≡ b -ℤ pos k → ((b *ℤ pos n) -ℤ pos (k * n)) ≤ℤ Y c → (f *ℤ pos n) ≤ℤ Y c
+    scaled b k is h = rw (is, sub_mul b (pos k) (pos n)) (omega (arith, ints, h))
 
 pub floors_enclose : FloorsEnclose
 floors_enclose p s e d X given c f i floor =

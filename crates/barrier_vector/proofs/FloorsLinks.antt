@@ -8,6 +8,7 @@ use Rattle.std.proofs.lemmas.List.Elements.{All-contains}
 use Rattle.std.proofs.lemmas.Int.{ints, by_lt_z}
 use Rattle.step_problem.specs.declared.entry.Link.{Link}
 use Rattle.step_problem.specs.declared.entry.Fixed.{Fixed}
+use Rattle.step_problem.specs.declared.heads.Side.TheVariants.{Low}
 use Rattle.step_problem.specs.Entries.{Entries, entries_at}
 use Rattle.step_problem.specs.Flows.{total}
 use Rattle.step_problem.proofs.Ring.{mul_nonneg}
@@ -23,7 +24,7 @@ use Rattle.cell_balance.proofs.Mutual.{no_whole_link}
 use Rattle.cell_balance.proofs.Spread.{cell_within}
 use Rattle.cell_balance.proofs.Whole.{WholeCell, WholeFixed, whole_at, whole_balance, whole_deep, whole_fixed}
 use Rattle.cell_balance.proofs.Within.{CellWithin, LinkWithin, FixedWithin, IsDry}
-use Rattle.barrier_vector.specs.Bases.{IsLowMark, IsSomewhere}
+use Rattle.barrier_vector.specs.Marks.{IsMarkBelow}
 use Rattle.barrier_vector.specs.Lacks.{lack, negative_part}
 use Rattle.barrier_vector.proofs.FloorsSums.{limited_sum, AllZip-has, term-le-total}
 use Rattle.barrier_vector.proofs.FloorsDry.{cell_dry, IsDry-lower}
@@ -47,7 +48,7 @@ lacking (negsuc a) f k h = omega (arith, ints)
 module _ (m n : ℕ) (some_m : 0 < m) (some_n : 0 < n) (p : List Entries) (w : List WholeCell) (Y : ℕ → ℤ)
     (within : AllZip (CellWithin m n (length p)) p w) (both : IsMutual w)
     (solves : (c : ℕ) → c < length w → whole_balance (whole_at w c) (Y c) Y ≡ pos 0)
-    (b : ℤ) (base : (v : ℤ) → IsSomewhere IsLowMark p v → b ≤ℤ v)
+    (b : ℤ) (base : (v : ℤ) → IsMarkBelow Low p (length p) v → b ≤ℤ v)
   where
     same_length : length p ≡ length w
     same_length = AllZip-length (CellWithin m n (length p)) p w within

@@ -25,10 +25,9 @@ pub mod Giving
 pub mod Rooting
 pub mod Uniques
 pub mod OneAnswer
-pub mod StoppedFlows
+pub mod CappedFlows
 pub mod Surveying
 pub mod Carrying
 pub mod Outlining
 pub mod Basing
 pub mod Sides
-pub mod HighSides

@@ -1,6 +1,7 @@
 -- The outermost mark: of several marks, of a list, of a cell, of a problem.
 use Rattle.std.proofs.Common.{◌≡◌, ℕ, zero, suc, ◌+◌, ◌<◌, ◌⊎◌, inl, inr, refl, sym, ◌∙◌, ap, subst, arith, List, [], ◌∷◌, ◌++◌, length, take, get_or, Contains, Option, None, Some, ℤ, pos, ◌≤ℤ◌, ◌<ℤ◌}
 use Rattle.std.specs.Int.{int_max, int_min}
+use Rattle.std.specs.Option.{unwrap_or}
 use Rattle.std.proofs.lemmas.Bool.{cases_lt}
 use Rattle.std.proofs.lemmas.Int.{ints, clamps, by_lt_z}
 use Rattle.std.proofs.lemmas.List.{take_more}
@@ -11,8 +12,7 @@ use Rattle.step_problem.specs.declared.entry.Fixed.{Fixed}
 use Rattle.step_problem.specs.declared.entry.River.{River}
 use Rattle.step_problem.specs.declared.entry.Drain.{Drain}
 use Rattle.step_problem.specs.Entries.{Entries, entries_at}
-use Rattle.barrier_vector.specs.Bases.{IsLowMark, IsHighMark, IsLowBase, IsHighBase}
-use Rattle.barrier_vector.specs.Marks.{if_some, fixed_mark, river_mark, drain_mark, outer_of, IsOutermost, IsMarkIn, IsCellMark, IsMarkBelow}
+use Rattle.barrier_vector.specs.Marks.{if_some, fixed_mark, river_mark, drain_mark, outer_of, IsInside, IsOutermost, IsMarkIn, IsCellMark, IsMarkBelow, IsBase}
 
 pub some_at : (hi : ℕ) (v : ℤ) → 0 < hi → if_some hi v ≡ Some v
 some_at zero v h = absurd (omega arith)
@@ -22,7 +22,7 @@ pub none_at_zero : (hi : ℕ) (v : ℤ) → hi ≡ 0 → if_some hi v ≡ None
 none_at_zero zero v e = refl
 none_at_zero (suc n) v e = absurd (omega arith)
 
-some_is : (hi : ℕ) (a v : ℤ) → if_some hi a ≡ Some v → (0 < hi) × (v ≡ a)
+pub some_is : (hi : ℕ) (a v : ℤ) → if_some hi a ≡ Some v → (0 < hi) × (v ≡ a)
 some_is zero a v e = absurd cc
 some_is (suc n) a v e = (omega arith, cc)
 
@@ -102,49 +102,27 @@ cells_more side p i best o new joined so_far here =
     back : (v : ℤ) → IsMarkBelow side p (i + 1) v → IsMarkBelow side p i v ⊎ IsCellMark side (entries_at p i) v
     back v (c, h, m) = elim (cases_lt c i) [ inl less ↦ inl (c, less, m) | inr past ↦ let at : c ≡ i = omega arith in inr (subst (λ (z : ℕ). IsCellMark side (entries_at p z) v) at m) ]
 
-low_is : (c : Entries) (v : ℤ) → IsCellMark Low c v → IsLowMark c v
-low_is c v (inl (x, has, e)) = let (h, is) = some_is x.hi x.head_lo v e in inl (x, has, h, is)
-low_is c v (inr (inl (x, has, e))) = let (h, is) = some_is x.hi x.bottom_lo v e in inr (inl (x, has, h, is))
-low_is c v (inr (inr (x, has, e))) = let (h, is) = some_is x.hi x.elev_lo v e in inr (inr (x, has, h, is))
-
-is_low : (c : Entries) (v : ℤ) → IsLowMark c v → IsCellMark Low c v
-is_low c v (inl (x, has, h, is)) = inl (x, has, some_at x.hi x.head_lo h ∙ ap Some (sym is))
-is_low c v (inr (inl (x, has, h, is))) = inr (inl (x, has, some_at x.hi x.bottom_lo h ∙ ap Some (sym is)))
-is_low c v (inr (inr (x, has, h, is))) = inr (inr (x, has, some_at x.hi x.elev_lo h ∙ ap Some (sym is)))
-
-high_is : (c : Entries) (v : ℤ) → IsCellMark High c v → IsHighMark c v
-high_is c v (inl (x, has, e)) = let (h, is) = some_is x.hi x.head_hi v e in inl (x, has, h, is)
-high_is c v (inr (inl (x, has, e))) = let (h, is) = some_is x.hi (int_max x.stage_hi x.bottom_hi) v e in inr (inl (x, has, h, one x.stage_hi x.bottom_hi is))
-  where
-    one : (s b : ℤ) → v ≡ int_max s b → (v ≡ s) ⊎ (v ≡ b)
-    one s b is = by_lt_z s b (λ l. inr (omega (arith, ints, clamps))) (λ l. inl (omega (arith, ints, clamps)))
-high_is c v (inr (inr (x, has, e))) = let (h, is) = some_is x.hi x.elev_hi v e in inr (inr (x, has, h, is))
-
--- a high mark lies no higher than one that was looked at
-is_high : (c : Entries) (v : ℤ) → IsHighMark c v → (w : ℤ) × IsCellMark High c w × (v ≤ℤ w)
-is_high c v (inl (x, has, h, is)) = (x.head_hi, inl (x, has, some_at x.hi x.head_hi h), omega (arith, ints, is))
-is_high c v (inr (inl (x, has, h, is))) = (int_max x.stage_hi x.bottom_hi, inr (inl (x, has, some_at x.hi (int_max x.stage_hi x.bottom_hi) h)), within x.stage_hi x.bottom_hi is)
-  where
-    within : (s b : ℤ) → (v ≡ s) ⊎ (v ≡ b) → v ≤ℤ int_max s b
-    within s b (inl e) = omega (arith, ints, clamps)
-    within s b (inr e) = omega (arith, ints, clamps)
-is_high c v (inr (inr (x, has, h, is))) = (x.elev_hi, inr (inr (x, has, some_at x.hi x.elev_hi h)), omega (arith, ints, is))
-
-pub low_base_is : (p : List Entries) (o : Option ℤ) (b : ℤ) → IsOutermost Low (IsMarkBelow Low p (length p)) o → ((v : ℤ) → o ≡ Some v → b ≡ v) → (o ≡ None → b ≡ pos 0) → IsLowBase p b
-low_base_is p None b h some none = record { reached = inr (λ v m. h v (m.0, m.1, is_low (entries_at p m.0) v m.2), none refl); first = λ v m. absurd (h v (m.0, m.1, is_low (entries_at p m.0) v m.2)) }
-low_base_is p (Some w) b h some none =
-    let is = some w refl in
-    rw is (record { reached = inl (h.0.0, h.0.1, low_is (entries_at p h.0.0) w h.0.2); first = λ v m. h.1 v (m.0, m.1, is_low (entries_at p m.0) v m.2) })
-
-pub high_base_is : (p : List Entries) (o : Option ℤ) (b : ℤ) → IsOutermost High (IsMarkBelow High p (length p)) o → ((v : ℤ) → o ≡ Some v → b ≡ v) → (o ≡ None → b ≡ pos 0) → IsHighBase p b
-high_base_is p None b h some none = record { reached = inr (λ v m. let (w, at, le) = is_high (entries_at p m.0) v m.2 in h w (m.0, m.1, at), none refl); first = λ v m. let (w, at, le) = is_high (entries_at p m.0) v m.2 in absurd (h w (m.0, m.1, at)) }
-high_base_is p (Some u) b h some none =
-    let is = some u refl in
-    rw is (record { reached = inl (h.0.0, h.0.1, high_is (entries_at p h.0.0) u h.0.2); first = λ v m. let (w, at, le) = is_high (entries_at p m.0) v m.2 in let k = h.1 w (m.0, m.1, at) in omega (arith, ints, le, k) })
-
 pub cell_joined : (side : Side) (c : Entries) (fixed : List Fixed) (rivers : List River) (drains : List Drain) (a b d inner o : Option ℤ) → fixed ≡ c.fixed → rivers ≡ c.rivers → drains ≡ c.drains → inner ≡ outer_of side b d → o ≡ outer_of side a inner → IsOutermost side (IsMarkIn (fixed_mark side) fixed) a → IsOutermost side (IsMarkIn (river_mark side) rivers) b → IsOutermost side (IsMarkIn (drain_mark side) drains) d → IsOutermost side (IsCellMark side c) o
 cell_joined side c fixed rivers drains a b d inner o e1 e2 e3 e4 e5 h k l =
     let h' = rw e1 at h in
     let k' = rw e2 at k in
     let l' = rw e3 at l in
     rw (e5, e4) (outer_joins side (IsMarkIn (fixed_mark side) c.fixed) (λ v. IsMarkIn (river_mark side) c.rivers v ⊎ IsMarkIn (drain_mark side) c.drains v) a (outer_of side b d) h' (outer_joins side (IsMarkIn (river_mark side) c.rivers) (IsMarkIn (drain_mark side) c.drains) b d k' l'))
+
+-- the base of a side is one, and no mark lies outside it
+inside_anti : (side : Side) (a b : ℤ) → IsInside side a b → IsInside side b a → a ≡ b
+inside_anti Low a b h k = omega (arith, ints, h, k)
+inside_anti High a b h k = omega (arith, ints, h, k)
+
+outermost_one : (side : Side) (P : ℤ → Type 0) (o u : Option ℤ) → IsOutermost side P o → IsOutermost side P u → o ≡ u
+outermost_one side P None None h k = refl
+outermost_one side P None (Some b) h k = absurd (h b k.0)
+outermost_one side P (Some a) None h k = absurd (k a h.0)
+outermost_one side P (Some a) (Some b) h k = ap Some (inside_anti side a b (h.1 b k.0) (k.1 a h.0))
+
+pub base_one : (side : Side) (p : List Entries) (a b : ℤ) → IsBase side p a → IsBase side p b → a ≡ b
+base_one side p a b (o, is, e) (u, is', f) = e ∙ ap (λ (x : Option ℤ). unwrap_or x (pos 0)) (outermost_one side (IsMarkBelow side p (length p)) o u is is') ∙ sym f
+
+pub base_outside : (side : Side) (p : List Entries) (b : ℤ) → IsBase side p b → (v : ℤ) → IsMarkBelow side p (length p) v → IsInside side b v
+base_outside side p b (None, is, e) v mark = absurd (is v mark)
+base_outside side p b (Some w, is, e) v mark = subst (λ (x : ℤ). IsInside side x v) (sym e) (is.1 v mark)

@@ -5,17 +5,15 @@ use Rattle.std.proofs.lemmas.Bool.{cases_lt}
 use Rattle.std.proofs.Math.Seq.{take-length}
 use Rattle.std.proofs.lemmas.List.Sums.{sum_by_more}
 use Rattle.step_problem.specs.declared.heads.Side.{Side}
-use Rattle.step_problem.specs.declared.heads.Side.TheVariants.{Low, High}
 use Rattle.step_problem.specs.Entries.{Entries, entries_at, no_entries}
-use Rattle.barrier_vector.specs.Bases.{IsLowBase, IsHighBase}
-use Rattle.barrier_vector.specs.Bounds.{AnchorRoot}
-use Rattle.barrier_vector.specs.Lacks.{need_on, stopped}
-use Rattle.barrier_vector.specs.Marks.{outer_of, IsOutermost, IsCellMark}
+use Rattle.barrier_vector.specs.Bounds.{anchor_on, AnchorRoot}
+use Rattle.barrier_vector.specs.Lacks.{need_on, need as need_of_all, capped_flow}
+use Rattle.barrier_vector.specs.Marks.{outer_of, IsOutermost, IsCellMark, IsBase}
 use Rattle.barrier_vector.specs.Paths.{ceil_over}
-use Rattle.barrier_vector.specs.Roots.{anchor_on, ListAnchor, AreRoots}
+use Rattle.barrier_vector.specs.Roots.{ListAnchor, AreRoots}
 use Rattle.barrier_vector.specs.Outlines.{IsOutline}
 use Rattle.barrier_vector.proofs.Starting.{push_before, push_last}
-use Rattle.barrier_vector.proofs.Marking.{no_cells, cells_more, low_base_is, high_base_is}
+use Rattle.barrier_vector.proofs.Marking.{no_cells, cells_more}
 
 pub outline_none : (side : Side) (p : List Entries) (anchors : List ℕ) → anchors ≡ [] → IsOutline side p 0 None 0 anchors
 outline_none side p anchors e = rw e (record {
@@ -26,7 +24,7 @@ outline_none side p anchors e = rw e (record {
 })
 
 -- one cell more
-pub outline_more : (side : Side) (p : List Entries) (i : ℕ) (e : Entries) (mark o mark' : Option ℤ) (need n need' : ℕ) (anchors anchors' : List ℕ) (a : ℕ) → i < length p → e ≡ entries_at p i → mark' ≡ outer_of side mark o → IsOutermost side (IsCellMark side e) o → need' ≡ stopped (need + n) → n ≡ need_on side e → anchors' ≡ anchors ++ a ∷ [] → a ≡ anchor_on side e → IsOutline side p i mark need anchors → IsOutline side p (i + 1) mark' need' anchors'
+pub outline_more : (side : Side) (p : List Entries) (i : ℕ) (e : Entries) (mark o mark' : Option ℤ) (need n need' : ℕ) (anchors anchors' : List ℕ) (a : ℕ) → i < length p → e ≡ entries_at p i → mark' ≡ outer_of side mark o → IsOutermost side (IsCellMark side e) o → need' ≡ capped_flow (need + n) → n ≡ need_on side e → anchors' ≡ anchors ++ a ∷ [] → a ≡ anchor_on side e → IsOutline side p i mark need anchors → IsOutline side p (i + 1) mark' need' anchors'
 outline_more side p i e mark o mark' need n need' anchors anchors' a h here joined outermost added need_is pushed anchor_is y = record {
   outermost = cells_more side p i mark o mark' joined y.outermost (subst (λ (z : Entries). IsOutermost side (IsCellMark side z) o) here outermost);
   sum = let more = sum_by_more (need_on side) p i no_entries h in let same = need_is ∙ ap (need_on side) here in sums _ _ _ more same y.sum;
@@ -38,21 +36,18 @@ outline_more side p i e mark o mark' need n need' anchors anchors' a h here join
       ];
 }
   where
-    sums : (s t m : ℕ) → t ≡ s + m → n ≡ m → need ≡ stopped s → need' ≡ stopped t
+    sums : (s t m : ℕ) → t ≡ s + m → n ≡ m → need ≡ capped_flow s → need' ≡ capped_flow t
     sums s t m more same was = omega (arith, added)
 
-pub low_base_of : (p : List Entries) (mark : Option ℤ) (need : ℕ) (anchors : List ℕ) (b : ℤ) → IsOutline Low p (length p) mark need anchors → b ≡ unwrap_or mark (pos 0) → IsLowBase p b
-low_base_of p mark need anchors b y e = low_base_is p mark b y.outermost (λ v is. e ∙ ap (λ (o : Option ℤ). unwrap_or o (pos 0)) is) (λ is. e ∙ ap (λ (o : Option ℤ). unwrap_or o (pos 0)) is)
+pub base_of : (side : Side) (p : List Entries) (mark : Option ℤ) (need : ℕ) (anchors : List ℕ) (b : ℤ) → IsOutline side p (length p) mark need anchors → b ≡ unwrap_or mark (pos 0) → IsBase side p b
+base_of side p mark need anchors b y e = (mark, y.outermost, e)
 
-pub high_base_of : (p : List Entries) (mark : Option ℤ) (need : ℕ) (anchors : List ℕ) (b : ℤ) → IsOutline High p (length p) mark need anchors → b ≡ unwrap_or mark (pos 0) → IsHighBase p b
-high_base_of p mark need anchors b y e = high_base_is p mark b y.outermost (λ v is. e ∙ ap (λ (o : Option ℤ). unwrap_or o (pos 0)) is) (λ is. e ∙ ap (λ (o : Option ℤ). unwrap_or o (pos 0)) is)
-
--- the lack or the surplus
-pub need_whole : (side : Side) (p : List Entries) (mark : Option ℤ) (need : ℕ) (anchors : List ℕ) → IsOutline side p (length p) mark need anchors → need ≡ stopped (sum_by (need_on side) p)
-need_whole side p mark need anchors y = y.sum ∙ ap (λ (z : List Entries). stopped (sum_by (need_on side) z)) (take-length p)
+-- the need of the side
+pub need_whole : (side : Side) (p : List Entries) (mark : Option ℤ) (need : ℕ) (anchors : List ℕ) → IsOutline side p (length p) mark need anchors → need ≡ capped_flow (need_of_all side p)
+need_whole side p mark need anchors y = y.sum ∙ ap (λ (z : List Entries). capped_flow (sum_by (need_on side) z)) (take-length p)
 
 -- roots by the list of greatest anchors are the anchored cells
-pub roots_on : (side : Side) (p : List Entries) (mark : Option ℤ) (need q : ℕ) (anchors own : List ℕ) (roots : List (Option ℕ)) → IsOutline side p (length p) mark need anchors → own ≡ anchors → need ≡ q → AreRoots (ListAnchor own need) roots → AreRoots (AnchorRoot (anchor_on side) p q) roots
+pub roots_on : (side : Side) (p : List Entries) (mark : Option ℤ) (need q : ℕ) (anchors own : List ℕ) (roots : List (Option ℕ)) → IsOutline side p (length p) mark need anchors → own ≡ anchors → need ≡ q → AreRoots (ListAnchor own need) roots → AreRoots (AnchorRoot side p q) roots
 roots_on side p mark need q anchors own roots y e f r =
     let r' : AreRoots (ListAnchor anchors q) roots = rw (e, f) at r in
     record {

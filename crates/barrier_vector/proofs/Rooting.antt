@@ -2,12 +2,14 @@
 use Rattle.std.proofs.Common.{◌≡◌, ℕ, zero, suc, ◌+◌, ◌<◌, ◌≤◌, inl, inr, refl, sym, ◌∙◌, ap, subst, arith, List, [], ◌∷◌, ◌++◌, length, max, drop, get_or, length-append, Contains, Option, None, Some}
 use Rattle.std.proofs.lemmas.Bool.{cases_lt}
 use Rattle.std.proofs.lemmas.List.{at_drop_more}
+use Rattle.step_problem.specs.declared.heads.Side.{Side}
+use Rattle.step_problem.specs.declared.heads.Side.TheVariants.{Low, High}
 use Rattle.step_problem.specs.declared.entry.Link.{Link}
 use Rattle.step_problem.specs.declared.entry.Fixed.{Fixed}
 use Rattle.step_problem.specs.Entries.{Entries, entries_at}
 use Rattle.cell_balance.specs.Components.{IsAnchored}
 use Rattle.barrier_vector.specs.Paths.{LeadsToRoot, IsLevel, IsParent, SumsTo, IsPath}
-use Rattle.barrier_vector.specs.Bounds.{greatest, low_anchor}
+use Rattle.barrier_vector.specs.Bounds.{greatest, anchor_on}
 use Rattle.barrier_vector.specs.Spreads.{mark_at}
 use Rattle.barrier_vector.specs.Searches.{IsSearched}
 use Rattle.barrier_vector.specs.Roots.{AreRoots}
@@ -81,12 +83,14 @@ module _ (p : List Entries) (q : ℕ) (R S : ℕ → ℕ → Type 0) (to : (c d 
   pub path_as : (c s : ℕ) → IsPath p q R c s → IsPath p q S c s
   path_as c s t = record { level = t.level; is_level = level_as c t.level t.is_level; sums = sums_as t.level c s t.sums }
 
--- searches of one description from another, and what anchors a cell
-pub anchored_by : (p : List Entries) (c : ℕ) → 0 < low_anchor (entries_at p c) → IsAnchored p c
+-- what anchors a cell on the low side
+pub anchored_by : (p : List Entries) (c : ℕ) → 0 < anchor_on Low (entries_at p c) → IsAnchored p c
 anchored_by p c h = let (x, has, is) = greatest_has (λ (x : Fixed). x.lo) (entries_at p c).fixed h in (x, has, omega (arith, h, is))
 
-pub anchors : (p : List Entries) (c : ℕ) → IsAnchored p c → 0 < low_anchor (entries_at p c)
-anchors p c (x, has, h) = let le = at_most_greatest (λ (x : Fixed). x.lo) (entries_at p c).fixed x has in omega (arith, h, le)
+-- a fixed link that certainly conducts anchors its cell on both sides
+pub anchors : (side : Side) (p : List Entries) (c : ℕ) → IsAnchored p c → 0 < anchor_on side (entries_at p c)
+anchors Low p c (x, has, h) = let le = at_most_greatest (λ (x : Fixed). x.lo) (entries_at p c).fixed x has in omega (arith, h, le)
+anchors High p c (x, has, h) = let le = at_most_greatest (λ (x : Fixed). x.lo) (entries_at p c).fixed x has in omega (arith, h, le)
 
 -- a search over equal roots and flows
 pub searched_as : (p : List Entries) (q r : ℕ) (own o : List (Option ℕ)) (levels : List (Option ℕ)) (paths : List ℕ) → q ≡ r → o ≡ own → IsSearched p q o levels paths → IsSearched p r own levels paths

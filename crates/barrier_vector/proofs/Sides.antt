@@ -1,105 +1,138 @@
 -- One side of a barrier, or its refusal, from the bounds of the cells.
-use Rattle.std.proofs.Common.{◌≡◌, ℕ, ◌<◌, ◌⊎◌, inl, inr, refl, sym, ◌∙◌, ap, subst, arith, List, length, Option, None, Some, ℤ, pos, neg_ℤ, ◌≤ℤ◌}
+use Rattle.std.proofs.Common.{◌≡◌, ℕ, ◌<◌, ◌⊎◌, inl, inr, refl, sym, ◌∙◌, subst, arith, List, length, Option, None, Some, ℤ, pos, neg_ℤ}
 use Rattle.std.proofs.lemmas.Int.{ints, clamps, by_lt_z}
-use Rattle.step_problem.specs.declared.heads.Side.TheVariants.{Low}
+use Rattle.step_problem.specs.declared.heads.Side.{Side}
+use Rattle.step_problem.specs.declared.heads.Side.TheVariants.{Low, High}
 use Rattle.step_problem.specs.declared.place.NoBound.{NoBound}
+use Rattle.step_problem.specs.StepRefusals.{number_of}
 use Rattle.step_problem.specs.Entries.{Entries}
 use Rattle.step_problem.specs.Conditions.{IsProblem, IsHead, head_limit}
 use Rattle.step_problem.specs.Heads.{head_at}
-use Rattle.barrier_vector.specs.Bounds.{IsFloor}
-use Rattle.barrier_vector.specs.Refusals.{HasNoFloor, SinksTooLow, Nowhere, Names, IsRefusedBelow}
-use Rattle.barrier_vector.specs.Roots.{floor_cut, bound_at, IsFloorOrNone, AreBounds}
-use Rattle.barrier_vector.specs.declared.refusal.Test.TheVariants.{Missing, TooLow}
-use Rattle.barrier_vector.specs.Tests.{Fails, IsFirstFailing, AreHeadsOf, IsLowSide}
-use Rattle.barrier_vector.proofs.Uniques.{path_anchors, floor_one}
+use Rattle.barrier_vector.specs.Marks.{IsInside, IsBase}
+use Rattle.barrier_vector.specs.Bounds.{IsUnanchored, IsBoundOn}
+use Rattle.barrier_vector.specs.Refusals.{HasNoBound, IsOutOfRange, LeavesRange, no_barrier_on, range_on, Nowhere, Names, IsRefusedOn, IsRefused}
+use Rattle.barrier_vector.specs.Held.{HasStorage, IsNotForLackOfAnchors}
+use Rattle.barrier_vector.specs.Roots.{cut_on, bound_at, IsBoundOrNone, AreBounds}
+use Rattle.barrier_vector.specs.declared.BarrierFault.{BarrierFault}
+use Rattle.barrier_vector.specs.declared.BarrierFault.TheVariants.{NoBound as AFault, Memory}
+use Rattle.barrier_vector.specs.declared.refusal.Test.TheVariants.{Missing, OutOfRange}
+use Rattle.barrier_vector.specs.Tests.{Fails, IsFirstFailing, AreHeadsOf, IsWholeSide, IsFaultOn}
+use Rattle.barrier_vector.proofs.Basing.{base_head}
+use Rattle.barrier_vector.proofs.Rooting.{anchors}
+use Rattle.barrier_vector.proofs.Uniques.{bound_one, has_a_bound}
 
-pub some_or_none : (o : Option ℤ) → (o ≡ None) ⊎ ((v : ℤ) × (o ≡ Some v))
+some_or_none : (o : Option ℤ) → (o ≡ None) ⊎ ((v : ℤ) × (o ≡ Some v))
 some_or_none None = inl refl
 some_or_none (Some v) = inr (v, refl)
 
-pub not_both : (o : Option ℤ) (v : ℤ) → o ≡ None → o ≡ Some v → ⊥
-not_both o v e f = cc
+-- a bound out of the range of heads is so when it is cut off, and is the bound itself when it is not
+pub head_in_range : (side : Side) (v : ℤ) → IsHead v → IsOutOfRange side v → ⊥
+head_in_range Low v h out = omega (arith, ints, h.above, out)
+head_in_range High v h out = omega (arith, ints, h.below, out)
 
-pub same_value : (o : Option ℤ) (v w : ℤ) → o ≡ Some v → o ≡ Some w → v ≡ w
-same_value o v w e f = cc
+cut_leaves : (side : Side) (v f : ℤ) → v ≡ cut_on side f → IsOutOfRange side f → IsOutOfRange side v
+cut_leaves Low v f cut out = omega (arith, ints, clamps, cut, out)
+cut_leaves High v f cut out = omega (arith, ints, clamps, cut, out)
+
+leaves_uncut : (side : Side) (v f : ℤ) → v ≡ cut_on side f → IsOutOfRange side v → IsOutOfRange side f
+leaves_uncut Low v f cut out = omega (arith, ints, clamps, cut, out)
+leaves_uncut High v f cut out = omega (arith, ints, clamps, cut, out)
+
+head_uncut : (side : Side) (v f : ℤ) → v ≡ cut_on side f → IsHead f → v ≡ f
+head_uncut Low v f cut h = omega (arith, ints, clamps, cut, h.above)
+head_uncut High v f cut h = omega (arith, ints, clamps, cut, h.below)
+
+-- a bound lies outside its base, which is a head
+pub bound_outside : (side : Side) (p : List Entries) (c : ℕ) (f : ℤ) → IsBoundOn side p c f → (b : ℤ) × IsBase side p b × IsInside side f b
+bound_outside Low p c f (inl (b, b_is, s, path, is)) = (b, b_is, omega (arith, ints, is))
+bound_outside Low p c f (inr (b, b_is, free, carried, s, path, t, top, is)) = (b, b_is, omega (arith, ints, is))
+bound_outside High p c f (b, b_is, s, path, is) = (b, b_is, omega (arith, ints, is))
+
+stays_head : (side : Side) (f b : ℤ) → IsInside side f b → IsHead b → (IsOutOfRange side f → ⊥) → IsHead f
+stays_head Low f b out head stays = by_lt_z f (neg_ℤ (pos head_limit)) (λ low. absurd (stays low)) (λ le. record { above = le; below = omega (arith, ints, out, head.below) })
+stays_head High f b out head stays = by_lt_z (pos head_limit) f (λ high. absurd (stays high)) (λ le. record { above = omega (arith, ints, out, head.above); below = le })
+
+pub bound_is_head : (side : Side) (p : List Entries) → IsProblem p → (c : ℕ) (f : ℤ) → IsBoundOn side p c f → (IsOutOfRange side f → ⊥) → IsHead f
+bound_is_head side p ok c f is stays = let (b, b_is, out) = bound_outside side p c f is in stays_head side f b out (base_head side p ok b b_is) stays
 
 -- what a cell's bound says of it
-module _ (p : List Entries) (ok : IsProblem p) (xs : List (Option ℤ)) (b : AreBounds p (IsFloorOrNone p) xs) where
-  floor_at : (c : ℕ) → c < length p → (v : ℤ) → bound_at xs c ≡ Some v → (f : ℤ) × IsFloor p c f × (v ≡ floor_cut f)
-  floor_at c h v e = subst (IsFloorOrNone p c) e (b.each c h)
+module _ (side : Side) (p : List Entries) (ok : IsProblem p) (xs : List (Option ℤ)) (b : AreBounds p (IsBoundOrNone side p) xs) where
+  bound_here : (c : ℕ) → c < length p → (v : ℤ) → bound_at xs c ≡ Some v → (f : ℤ) × IsBoundOn side p c f × (v ≡ cut_on side f)
+  bound_here c h v e = subst (IsBoundOrNone side p c) e (b.each c h)
 
-  no_floor_at : (c : ℕ) → c < length p → bound_at xs c ≡ None → HasNoFloor p c
-  no_floor_at c h e = subst (IsFloorOrNone p c) e (b.each c h)
+  no_bound_here : (c : ℕ) → c < length p → bound_at xs c ≡ None → HasNoBound side p c
+  no_bound_here c h e = subst (IsBoundOrNone side p c) e (b.each c h)
 
-  has_some : (c : ℕ) → c < length p → HasNoFloor p c → bound_at xs c ≡ None
-  has_some c h (none, not_carried) =
+  has_none : (c : ℕ) → c < length p → HasNoBound side p c → bound_at xs c ≡ None
+  has_none c h none =
       elim (some_or_none (bound_at xs c)) [
         | inl e ↦ e
-        | inr (v, e) ↦ let (f, (base, base_is, which), cut) = floor_at c h v e in elim which [ inl (s, path, is) ↦ absurd (path_anchors p c s path none) | inr other ↦ absurd (not_carried other.1) ]
+        | inr (v, e) ↦ let (f, is, cut) = bound_here c h v e in absurd (has_a_bound side p c f is none)
       ]
 
-  sinks : (c : ℕ) → c < length p → SinksTooLow p c → Fails TooLow (bound_at xs c)
-  sinks c h (f, is, low) =
+  leaves : (c : ℕ) → c < length p → LeavesRange side p c → Fails (OutOfRange side) (bound_at xs c)
+  leaves c h (f, is, out) =
       elim (some_or_none (bound_at xs c)) [
-        | inl e ↦ absurd (none_floor (no_floor_at c h e) is)
-        | inr (v, e) ↦ let (g, g_is, cut) = floor_at c h v e in let same = floor_one p ok c f g is g_is in (v, e, omega (arith, ints, clamps, same, cut, low))
+        | inl e ↦ absurd (has_a_bound side p c f is (no_bound_here c h e))
+        | inr (v, e) ↦ let (g, g_is, cut) = bound_here c h v e in (v, e, cut_leaves side v g cut (subst (IsOutOfRange side) (bound_one side p ok c f g is g_is) out))
       ]
-    where
-      none_floor : HasNoFloor p c → IsFloor p c f → ⊥
-      none_floor (none, not_carried) (base, base_is, inl (s, path, is)) = path_anchors p c s path none
-      none_floor (none, not_carried) (base, base_is, inr other) = not_carried other.1
 
-  sinks_back : (c : ℕ) → c < length p → Fails TooLow (bound_at xs c) → SinksTooLow p c
-  sinks_back c h (v, e, low) = let (f, is, cut) = floor_at c h v e in (f, is, omega (arith, ints, clamps, cut, low))
+  leaves_back : (c : ℕ) → c < length p → Fails (OutOfRange side) (bound_at xs c) → LeavesRange side p c
+  leaves_back c h (v, e, out) = let (f, is, cut) = bound_here c h v e in (f, is, leaves_uncut side v f cut out)
 
-  pub refused_24 : (n : NoBound) (c : ℕ) → IsFirstFailing Missing xs (Some c) → Names p n 24 c Low → IsRefusedBelow p n
-  refused_24 n c (within, none, least) named =
+  pub refused_without : (n : NoBound) (c : ℕ) → IsFirstFailing Missing xs (Some c) → Names p n (number_of (no_barrier_on side)) c side → IsRefusedOn side p n
+  refused_without n c (within, none, least) named =
       let h : c < length p = omega (arith, within, b.whole) in
-      (c, inl (named, record { within = h; has = no_floor_at c h none; least = λ d less fails. least d less (has_some d (omega (arith, less, h)) fails) }))
+      (c, inl (named, record { within = h; has = no_bound_here c h none; least = λ d less fails. least d less (has_none d (omega (arith, less, h)) fails) }))
 
-  nowhere_missing : IsFirstFailing Missing xs None → Nowhere p (HasNoFloor p)
-  nowhere_missing all c h fails = all c (omega (arith, h, b.whole)) (has_some c h fails)
+  nowhere_without : IsFirstFailing Missing xs None → Nowhere p (HasNoBound side p)
+  nowhere_without all c h fails = all c (omega (arith, h, b.whole)) (has_none c h fails)
 
-  pub refused_26 : (n : NoBound) (c : ℕ) → IsFirstFailing Missing xs None → IsFirstFailing TooLow xs (Some c) → Names p n 26 c Low → IsRefusedBelow p n
-  refused_26 n c all (within, low, least) named =
+  pub refused_out_of_range : (n : NoBound) (c : ℕ) → IsFirstFailing Missing xs None → IsFirstFailing (OutOfRange side) xs (Some c) → Names p n (number_of (range_on side)) c side → IsRefusedOn side p n
+  refused_out_of_range n c all (within, out, least) named =
       let h : c < length p = omega (arith, within, b.whole) in
-      (c, inr (named, nowhere_missing all, record { within = h; has = sinks_back c h low; least = λ d less fails. least d less (sinks d (omega (arith, less, h)) fails) }))
+      (c, inr (named, nowhere_without all, record { within = h; has = leaves_back c h out; least = λ d less fails. least d less (leaves d (omega (arith, less, h)) fails) }))
 
-  pub low_is_side : (hs : List ℤ) → IsFirstFailing Missing xs None → IsFirstFailing TooLow xs None → AreHeadsOf xs hs → (top : (c : ℕ) (f : ℤ) → c < length p → IsFloor p c f → f ≤ℤ pos head_limit) → IsLowSide p hs
-  low_is_side hs all in_range (whole, heads) top = record {
+  pub side_is_whole : (hs : List ℤ) → IsFirstFailing Missing xs None → IsFirstFailing (OutOfRange side) xs None → AreHeadsOf xs hs → IsWholeSide side p hs
+  side_is_whole hs all in_range (whole, heads) = record {
     whole = whole ∙ b.whole;
-    is = λ c h. let (f, is, same) = one c h in subst (IsFloor p c) (sym same) is;
-    head = λ c h. let (f, is, same) = one c h in let (v, e, cut, low) = range c h f is in in_head (head_at hs c) f (top c f h is) same low;
-    held = nowhere_missing all;
-    in_range = λ c h fails. in_range c (omega (arith, h, b.whole)) (sinks c h fails);
+    is = λ c h. (bound_head c h).0;
+    head = λ c h. (bound_head c h).1;
+    held = nowhere_without all;
+    in_range = λ c h fails. in_range c (omega (arith, h, b.whole)) (leaves c h fails);
   }
     where
       some : (c : ℕ) → c < length p → (v : ℤ) × (bound_at xs c ≡ Some v)
       some c h = elim (some_or_none (bound_at xs c)) [ inl e ↦ absurd (all c (omega (arith, h, b.whole)) e) | inr found ↦ found ]
 
-      not_low : (c : ℕ) → c < length p → (v : ℤ) → bound_at xs c ≡ Some v → neg_ℤ (pos head_limit) ≤ℤ v
-      not_low c h v e = by_lt_z v (neg_ℤ (pos head_limit)) (λ l. absurd (in_range c (omega (arith, h, b.whole)) (v, e, l))) (λ l. l)
-
-      one : (c : ℕ) → c < length p → (f : ℤ) × IsFloor p c f × (head_at hs c ≡ f)
-      one c h =
+      bound_head : (c : ℕ) → c < length p → IsBoundOn side p c (head_at hs c) × IsHead (head_at hs c)
+      bound_head c h =
           let (v, e) = some c h in
-          let (f, is, cut) = floor_at c h v e in
-          let low = not_low c h v e in
-          (f, is, heads c v (omega (arith, h, b.whole)) e ∙ uncut v f cut low)
-        where
-          uncut : (v f : ℤ) → v ≡ floor_cut f → neg_ℤ (pos head_limit) ≤ℤ v → v ≡ f
-          uncut v f cut low = omega (arith, ints, clamps, cut, low)
+          let (f, is, cut) = bound_here c h v e in
+          let head = bound_is_head side p ok c f is (λ out. in_range c (omega (arith, h, b.whole)) (v, e, cut_leaves side v f cut out)) in
+          let at = heads c v (omega (arith, h, b.whole)) e ∙ head_uncut side v f cut head in
+          (subst (IsBoundOn side p c) (sym at) is, subst IsHead (sym at) head)
 
-      range : (c : ℕ) → c < length p → (f : ℤ) → IsFloor p c f → (v : ℤ) × (bound_at xs c ≡ Some v) × (v ≡ floor_cut f) × (neg_ℤ (pos head_limit) ≤ℤ f)
-      range c h f is =
-          let (v, e) = some c h in
-          let (g, g_is, cut) = floor_at c h v e in
-          let same = floor_one p ok c f g is g_is in
-          let low = not_low c h v e in
-          (v, e, cut ∙ ap floor_cut (sym same), at_least v f g same cut low)
-        where
-          at_least : (v f g : ℤ) → f ≡ g → v ≡ floor_cut g → neg_ℤ (pos head_limit) ≤ℤ v → neg_ℤ (pos head_limit) ≤ℤ f
-          at_least v f g same cut low = omega (arith, ints, clamps, same, cut, low)
+-- where each cell has storage, each is anchored on both sides
+stored_anchor : (side : Side) (p : List Entries) → HasStorage p → (c : ℕ) → c < length p → IsUnanchored side p c → ⊥
+stored_anchor side p stored c h free = let (x, has, kind, some) = stored c h in let none = free 0 c refl in let anchored = anchors side p c (x, has, some) in omega (arith, none, anchored)
 
-      in_head : (z f : ℤ) → f ≤ℤ pos head_limit → z ≡ f → neg_ℤ (pos head_limit) ≤ℤ f → IsHead z
-      in_head z f t same low = record { above = omega (arith, ints, same, low); below = omega (arith, ints, same, t) }
+stored_bound : (side : Side) (p : List Entries) → HasStorage p → (c : ℕ) → c < length p → HasNoBound side p c → ⊥
+stored_bound Low p stored c h none = stored_anchor Low p stored c h none.0
+stored_bound High p stored c h none = stored_anchor High p stored c h none
+
+range_number : (side : Side) (n : ℕ) → n ≡ number_of (range_on side) → (n ≡ 24 → ⊥) × (n ≡ 25 → ⊥)
+range_number Low n code = ((λ e. omega (arith, code, e)), (λ e. omega (arith, code, e)))
+range_number High n code = ((λ e. omega (arith, code, e)), (λ e. omega (arith, code, e)))
+
+refused_side : (side : Side) (p : List Entries) → HasStorage p → (n : NoBound) → IsRefusedOn side p n → (n.code ≡ 24 → ⊥) × (n.code ≡ 25 → ⊥)
+refused_side side p stored n (c, inl (named, least)) = absurd (stored_bound side p stored c least.within least.has)
+refused_side side p stored n (c, inr y) = range_number side n.code y.0.code
+
+pub stored_refusal : (p : List Entries) → HasStorage p → (n : NoBound) → IsRefused p n → (n.code ≡ 24 → ⊥) × (n.code ≡ 25 → ⊥)
+stored_refusal p stored n (inl low) = refused_side Low p stored n low
+stored_refusal p stored n (inr (nowhere, in_range, high)) = refused_side High p stored n high
+
+pub stored_fault : (side : Side) (p : List Entries) → HasStorage p → (e : BarrierFault) → IsFaultOn side p e → IsNotForLackOfAnchors e
+stored_fault side p stored (AFault n) f = refused_side side p stored n f
+stored_fault side p stored Memory f = tt

@@ -1,17 +1,18 @@
--- Levels, parents, paths, bases, floors and ceilings are each one number.
-use Rattle.std.proofs.Common.{◌≡◌, ℕ, zero, suc, ◌+◌, inl, inr, sym, ◌∙◌, ap, subst, arith, List, Contains, ℤ, pos, ◌+ℤ◌, ◌-ℤ◌}
+-- Levels, parents, paths, floors and ceilings are each one number.
+use Rattle.std.proofs.Common.{◌≡◌, ℕ, zero, suc, ◌+◌, inl, inr, sym, ◌∙◌, ap, subst, arith, List, Contains, ℤ, pos, ◌-ℤ◌}
 use Rattle.std.proofs.lemmas.Bool.{cases_lt}
-use Rattle.std.proofs.lemmas.Int.{ints}
+use Rattle.step_problem.specs.declared.heads.Side.{Side}
+use Rattle.step_problem.specs.declared.heads.Side.TheVariants.{Low, High}
 use Rattle.step_problem.specs.declared.entry.Link.{Link}
 use Rattle.step_problem.specs.Entries.{Entries, entries_at, link_at}
 use Rattle.step_problem.specs.Conditions.{IsProblem}
-use Rattle.barrier_vector.specs.Bases.{IsLowBase, IsHighBase}
-use Rattle.barrier_vector.specs.Lacks.{lack, surplus}
+use Rattle.barrier_vector.specs.Lacks.{need}
 use Rattle.barrier_vector.specs.Paths.{ceil_over, IsLevel, SumsTo, IsPath}
-use Rattle.barrier_vector.specs.Bounds.{low_anchor, high_anchor, AnchorRoot, LeastRoot, IsLowPath, IsHighPath, IsInnerPath, IsLongest, IsUnanchored, IsFloor, IsCeiling}
+use Rattle.barrier_vector.specs.Bounds.{AnchorRoot, LeastRoot, IsAnchorPath, IsInnerPath, IsLongest, IsUnanchored, moved_out, IsAnchoredBound, IsCarriedFloor, IsBoundOn}
+use Rattle.barrier_vector.specs.Refusals.{HasNoBound}
 use Rattle.barrier_vector.proofs.Backs.{has_links}
 use Rattle.barrier_vector.proofs.Levels.{link_place}
-use Rattle.barrier_vector.proofs.Rooting.{anchored_by}
+use Rattle.barrier_vector.proofs.Marking.{base_one}
 
 -- links of a cell that lead to one cell are one link
 one_link : (p : List Entries) → IsProblem p → (c : ℕ) (x z : Link) → Contains (entries_at p c).links x → Contains (entries_at p c).links z → x.cell ≡ z.cell → x ≡ z
@@ -44,53 +45,38 @@ module _ (p : List Entries) (ok : IsProblem p) (q : ℕ) (R : ℕ → ℕ → Ty
   pub path_one : (c s t : ℕ) → IsPath p q R c s → IsPath p q R c t → s ≡ t
   path_one c s t a b = sums_one a.level c s t a.sums (subst (λ (k : ℕ). SumsTo p q R k c t) (level_one c b.level a.level b.is_level a.is_level) b.sums)
 
-pub low_one : (p : List Entries) → IsProblem p → (c s t : ℕ) → IsLowPath p c s → IsLowPath p c t → s ≡ t
-low_one p ok = path_one p ok (lack p) (AnchorRoot low_anchor p (lack p)) (λ c d e a b. a.2 ∙ sym b.2)
-
-pub high_one : (p : List Entries) → IsProblem p → (c s t : ℕ) → IsHighPath p c s → IsHighPath p c t → s ≡ t
-high_one p ok = path_one p ok (surplus p) (AnchorRoot high_anchor p (surplus p)) (λ c d e a b. a.2 ∙ sym b.2)
+anchor_path_one : (side : Side) (p : List Entries) → IsProblem p → (c s t : ℕ) → IsAnchorPath side p c s → IsAnchorPath side p c t → s ≡ t
+anchor_path_one side p ok = path_one p ok (need side p) (AnchorRoot side p (need side p)) (λ c d e a b. a.2 ∙ sym b.2)
 
 pub inner_one : (p : List Entries) → IsProblem p → (c s t : ℕ) → IsInnerPath p c s → IsInnerPath p c t → s ≡ t
-inner_one p ok = path_one p ok (lack p) (LeastRoot p) (λ c d e a b. a.2 ∙ sym b.2)
+inner_one p ok = path_one p ok (need Low p) (LeastRoot p) (λ c d e a b. a.2 ∙ sym b.2)
 
 longest_one : (p : List Entries) (c s t : ℕ) → IsLongest p c s → IsLongest p c t → s ≡ t
 longest_one p c s t a b = let x = a.longest b.links b.cell t b.reached b.is_path in let y = b.longest a.links a.cell s a.reached a.is_path in omega (arith, x, y)
 
-low_base_one : (p : List Entries) (a b : ℤ) → IsLowBase p a → IsLowBase p b → a ≡ b
-low_base_one p a b x y =
-    elim x.reached [
-      | inl has ↦ elim y.reached [
-        | inl has' ↦ let h = x.first b has' in let k = y.first a has in omega (arith, ints, h, k)
-        | inr (none, _) ↦ absurd (none a has)
-      ]
-      | inr (none, is) ↦ elim y.reached [
-        | inl has' ↦ absurd (none b has')
-        | inr (_, is') ↦ is ∙ sym is'
-      ]
-    ]
-
-high_base_one : (p : List Entries) (a b : ℤ) → IsHighBase p a → IsHighBase p b → a ≡ b
-high_base_one p a b x y =
-    elim x.reached [
-      | inl has ↦ elim y.reached [
-        | inl has' ↦ let h = x.first b has' in let k = y.first a has in omega (arith, ints, h, k)
-        | inr (none, _) ↦ absurd (none a has)
-      ]
-      | inr (none, is) ↦ elim y.reached [
-        | inl has' ↦ absurd (none b has')
-        | inr (_, is') ↦ is ∙ sym is'
-      ]
-    ]
-
 -- a cell with a path to an anchor is anchored
-pub path_anchors : (p : List Entries) (c s : ℕ) → IsLowPath p c s → IsUnanchored p c → ⊥
-path_anchors p c s path none = let l = path.is_level.leads in none path.level (l.root, l.reaches, anchored_by p l.root l.is_root.1)
+path_anchors : (side : Side) (p : List Entries) (c s : ℕ) → IsAnchorPath side p c s → IsUnanchored side p c → ⊥
+path_anchors side p c s path free = let l = path.is_level.leads in let none = free path.level l.root l.reaches in let some = l.is_root.1 in omega (arith, none, some)
 
-pub floor_one : (p : List Entries) → IsProblem p → (c : ℕ) (f g : ℤ) → IsFloor p c f → IsFloor p c g → f ≡ g
-floor_one p ok c f g (a, a_is, inl (s, path, is)) (b, b_is, inl (t, path', is')) = is ∙ ap (λ (n : ℕ). a -ℤ pos n) (low_one p ok c s t path path') ∙ ap (λ (z : ℤ). z -ℤ pos t) (low_base_one p a b a_is b_is) ∙ sym is'
-floor_one p ok c f g (a, a_is, inl (s, path, is)) (b, b_is, inr other) = absurd (path_anchors p c s path other.0)
-floor_one p ok c f g (a, a_is, inr other) (b, b_is, inl (t, path', is')) = absurd (path_anchors p c t path' other.0)
-floor_one p ok c f g (a, a_is, inr (_, _, s, path, t, top, is)) (b, b_is, inr (_, _, s', path', t', top', is')) = is ∙ ap (λ (n : ℕ). a -ℤ pos (n + t)) (inner_one p ok c s s' path path') ∙ ap (λ (n : ℕ). a -ℤ pos (s' + n)) (longest_one p c t t' top top') ∙ ap (λ (z : ℤ). z -ℤ pos (s' + t')) (low_base_one p a b a_is b_is) ∙ sym is'
+anchored_one : (side : Side) (p : List Entries) → IsProblem p → (c : ℕ) (f g : ℤ) → IsAnchoredBound side p c f → IsAnchoredBound side p c g → f ≡ g
+anchored_one side p ok c f g (a, a_is, s, path, is) (b, b_is, t, path', is') = is ∙ ap (moved_out side a) (anchor_path_one side p ok c s t path path') ∙ ap (λ (z : ℤ). moved_out side z t) (base_one side p a b a_is b_is) ∙ sym is'
 
-pub ceiling_one : (p : List Entries) → IsProblem p → (c : ℕ) (f g : ℤ) → IsCeiling p c f → IsCeiling p c g → f ≡ g
-ceiling_one p ok c f g (a, a_is, s, path, is) (b, b_is, t, path', is') = is ∙ ap (λ (n : ℕ). a +ℤ pos n) (high_one p ok c s t path path') ∙ ap (λ (z : ℤ). z +ℤ pos t) (high_base_one p a b a_is b_is) ∙ sym is'
+carried_one : (p : List Entries) → IsProblem p → (c : ℕ) (f g : ℤ) → IsCarriedFloor p c f → IsCarriedFloor p c g → f ≡ g
+carried_one p ok c f g (a, a_is, _, _, s, path, t, top, is) (b, b_is, _, _, s', path', t', top', is') = is ∙ ap (λ (n : ℕ). a -ℤ pos (n + t)) (inner_one p ok c s s' path path') ∙ ap (λ (n : ℕ). a -ℤ pos (s' + n)) (longest_one p c t t' top top') ∙ ap (λ (z : ℤ). z -ℤ pos (s' + t')) (base_one Low p a b a_is b_is) ∙ sym is'
+
+not_both : (p : List Entries) (c : ℕ) (f g : ℤ) → IsAnchoredBound Low p c f → IsCarriedFloor p c g → ⊥
+not_both p c f g (a, a_is, s, path, is) y = path_anchors Low p c s path y.2
+
+-- the bound of a cell is one
+pub bound_one : (side : Side) (p : List Entries) → IsProblem p → (c : ℕ) (f g : ℤ) → IsBoundOn side p c f → IsBoundOn side p c g → f ≡ g
+bound_one Low p ok c f g (inl x) (inl y) = anchored_one Low p ok c f g x y
+bound_one Low p ok c f g (inl x) (inr y) = absurd (not_both p c f g x y)
+bound_one Low p ok c f g (inr x) (inl y) = absurd (not_both p c g f y x)
+bound_one Low p ok c f g (inr x) (inr y) = carried_one p ok c f g x y
+bound_one High p ok c f g x y = anchored_one High p ok c f g x y
+
+-- a cell with a bound has no cause against one
+pub has_a_bound : (side : Side) (p : List Entries) (c : ℕ) (f : ℤ) → IsBoundOn side p c f → HasNoBound side p c → ⊥
+has_a_bound Low p c f (inl (b, b_is, s, path, is)) none = path_anchors Low p c s path none.0
+has_a_bound Low p c f (inr y) none = none.1 y.3
+has_a_bound High p c f (b, b_is, s, path, is) none = path_anchors High p c s path none

@@ -13,6 +13,6 @@ abbrev pub HasStorage : List Entries → Type 0
 HasStorage p = (c : ℕ) → c < length p → (x : Fixed) × Contains (entries_at p c).fixed x × (x.kind ≡ Storage) × (0 < x.lo)
 
 -- the fault is neither NoBarrierLow nor NoBarrierHigh
-abbrev pub IsNoWantOfAnchors : BarrierFault → Type 0
-IsNoWantOfAnchors (IsNoBound n) = (n.code ≡ number_of NoBarrierLow → ⊥) × (n.code ≡ number_of NoBarrierHigh → ⊥)
-IsNoWantOfAnchors Memory = Unit {0}
+abbrev pub IsNotForLackOfAnchors : BarrierFault → Type 0
+IsNotForLackOfAnchors (IsNoBound n) = (n.code ≡ number_of NoBarrierLow → ⊥) × (n.code ≡ number_of NoBarrierHigh → ⊥)
+IsNotForLackOfAnchors Memory = Unit {0}

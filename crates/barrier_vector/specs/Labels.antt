@@ -1,5 +1,6 @@
 -- The components of a problem, each cell labelled with the least cell of its component, and sums over them.
-use Rattle.std.specs.Prelude.{◌≡◌, ℕ, ◌<◌, ◌≤◌, ◌⊎◌, ◌^◌, List, length, Contains, Option, None, Some, Bool, false, nat_eq, slice_index, slice_index_or, ℤ, pos, ◌+ℤ◌, ◌*ℤ◌}
+use Rattle.std.specs.Prelude.{◌≡◌, ℕ, ◌<◌, ◌≤◌, ◌⊎◌, ◌^◌, List, length, Contains, Option, None, Some, Bool, false, nat_eq}
+use Rattle.std.specs.Prelude.{slice_index, slice_index_or, ℤ, pos, ◌+ℤ◌, ◌*ℤ◌}
 use Rattle.step_problem.specs.declared.entry.Link.{Link}
 use Rattle.step_problem.specs.Entries.{Entries, entries_at}
 use Rattle.cell_balance.specs.Components.{Reaches}

@@ -15,23 +15,25 @@ abbrev pub positive_part : ℤ → ℕ
 positive_part (pos n) = n
 positive_part (negsuc n) = 0
 
--- the sum over all cells of the negative parts of their least deep flows
-abbrev pub lack : List Entries → ℕ
-lack p = sum_by (λ c. negative_part (deep_low c)) p
-
 -- the greatest sum of a cell's constant flows
 abbrev pub high_flow : Entries → ℤ
 high_flow c = total (λ x. x.hi) c.flows
 
--- the sum over all cells of the positive parts of their greatest constant flows
-abbrev pub surplus : List Entries → ℕ
-surplus p = sum_by (λ c. positive_part (high_flow c)) p
-
--- a flow that stops at 2 ^ 126. Over any conductance so great a flow drops farther than heads can lie apart.
-abbrev pub stopped : ℕ → ℕ
-stopped q = min q (2 ^ 126)
-
--- what a cell adds to the lack on the low side, and to the surplus on the high side
+-- what a cell adds to the need of a side: the negative part of its least deep flow, or the positive part of its greatest constant flow
 abbrev pub need_on : Side → Entries → ℕ
 need_on Low c = negative_part (deep_low c)
 need_on High c = positive_part (high_flow c)
+
+-- the need of a side: the lack of flow of all cells, or their surplus
+abbrev pub need : Side → List Entries → ℕ
+need side p = sum_by (need_on side) p
+
+abbrev pub lack : List Entries → ℕ
+lack = need Low
+
+abbrev pub surplus : List Entries → ℕ
+surplus = need High
+
+-- a flow, at most 2 ^ 126. Over any conductance of a problem, which is below 2 ^ 60, so great a flow drops farther than heads can lie apart.
+abbrev pub capped_flow : ℕ → ℕ
+capped_flow q = min q (2 ^ 126)

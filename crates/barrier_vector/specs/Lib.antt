@@ -1,4 +1,3 @@
-pub mod Bases
 pub mod Lacks
 pub mod Paths
 pub mod Bounds

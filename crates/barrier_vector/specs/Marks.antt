@@ -1,6 +1,7 @@
--- The mark of each entry on a side, and the outermost of several.
-use Rattle.std.specs.Prelude.{◌≡◌, ℕ, zero, suc, ◌<◌, ◌⊎◌, List, Contains, Option, None, Some, ℤ, ◌≤ℤ◌}
+-- The base of each side: the outermost of the known heads, stages, bottoms and elevations of a problem that may conduct.
+use Rattle.std.specs.Prelude.{◌≡◌, ℕ, zero, suc, ◌<◌, ◌⊎◌, List, length, Contains, Option, None, Some, ℤ, pos, ◌≤ℤ◌}
 use Rattle.std.specs.Int.{int_max, int_min}
+use Rattle.std.specs.Option.{unwrap_or}
 use Rattle.step_problem.specs.declared.heads.Side.{Side}
 use Rattle.step_problem.specs.declared.heads.Side.TheVariants.{Low, High}
 use Rattle.step_problem.specs.declared.entry.Fixed.{Fixed}
@@ -13,14 +14,17 @@ abbrev pub if_some : ℕ → ℤ → Option ℤ
 if_some zero v = None
 if_some (suc n) v = Some v
 
+-- the mark of a known head: its lower bound on the low side, its upper bound on the high side
 abbrev pub fixed_mark : Side → Fixed → Option ℤ
 fixed_mark Low x = if_some x.hi x.head_lo
 fixed_mark High x = if_some x.hi x.head_hi
 
+-- the mark of a river: the lower bound of its bottom, or the greater of the upper bounds of its stage and its bottom
 abbrev pub river_mark : Side → River → Option ℤ
 river_mark Low x = if_some x.hi x.bottom_lo
 river_mark High x = if_some x.hi (int_max x.stage_hi x.bottom_hi)
 
+-- the mark of a drain: its elevation
 abbrev pub drain_mark : Side → Drain → Option ℤ
 drain_mark Low x = if_some x.hi x.elev_lo
 drain_mark High x = if_some x.hi x.elev_hi
@@ -53,3 +57,7 @@ IsCellMark side c v = IsMarkIn (fixed_mark side) c.fixed v ⊎ (IsMarkIn (river_
 -- one of the first n cells has the mark v
 abbrev pub IsMarkBelow : Side → List Entries → ℕ → ℤ → Type 0
 IsMarkBelow side p n v = (c : ℕ) × (c < n) × IsCellMark side (entries_at p c) v
+
+-- the base of a side: the outermost mark of the problem, 0 if it has none
+abbrev pub IsBase : Side → List Entries → ℤ → Type 0
+IsBase side p b = (o : Option ℤ) × IsOutermost side (IsMarkBelow side p (length p)) o × (b ≡ unwrap_or o (pos 0))

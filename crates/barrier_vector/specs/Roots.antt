@@ -6,19 +6,14 @@ use Rattle.step_problem.specs.declared.heads.Side.TheVariants.{Low, High}
 use Rattle.step_problem.specs.Entries.{Entries, entries_at}
 use Rattle.step_problem.specs.Conditions.{head_limit}
 use Rattle.cell_balance.specs.Components.{sum_inside, deep_low}
-use Rattle.barrier_vector.specs.Bases.{IsLowBase, IsHighBase}
-use Rattle.barrier_vector.specs.Bounds.{low_anchor, high_anchor, IsLowPath, IsHighPath, IsInnerPath, IsUnanchored, IsFloor, IsCeiling}
+use Rattle.barrier_vector.specs.Marks.{IsBase}
+use Rattle.barrier_vector.specs.Bounds.{IsAnchorPath, IsInnerPath, IsUnanchored, IsAnchoredBound, IsBoundOn}
 use Rattle.barrier_vector.specs.Paths.{ceil_over}
-use Rattle.barrier_vector.specs.Refusals.{HasNoFloor, HasNoCeiling}
+use Rattle.barrier_vector.specs.Refusals.{HasNoBound}
 use Rattle.barrier_vector.specs.Spreads.{mark_at}
 use Rattle.barrier_vector.specs.Searches.{path_limit}
 use Rattle.barrier_vector.specs.Labels.{AreLabels, labelled, sum_at, IsGreatestOf}
 use Rattle.barrier_vector.specs.declared.gathered.FlowSum.{FlowSum}
-
--- the greatest lower conductance of a cell's anchors on a side
-abbrev pub anchor_on : Side → Entries → ℕ
-anchor_on Low = low_anchor
-anchor_on High = high_anchor
 
 -- by a list of greatest anchors, a cell with one above 0 is a root, with the drop of that anchor
 abbrev pub ListAnchor : List ℕ → ℕ → ℕ → ℕ → Type 0
@@ -33,11 +28,11 @@ pub record AreRoots (Root : ℕ → ℕ → Type 0) (own : List (Option ℕ)) : 
   pub only : (c d : ℕ) → mark_at own c ≡ Some d → Root c d
   pub each : (c d : ℕ) → c < length own → Root c d → mark_at own c ≡ Some d
 
--- the data of the floors of the cells that lead to an anchor: the base, and each cell's level and path
-pub record IsDescent (p : List Entries) (base : ℤ) (levels : List (Option ℕ)) (paths : List ℕ) : Type 0 where
-  pub is_base : IsLowBase p base
-  pub anchored : (c k : ℕ) → mark_at levels c ≡ Some k → (s : ℕ) × IsLowPath p c s × (slice_index paths c ≡ min s path_limit)
-  pub unanchored : (c : ℕ) → c < length p → mark_at levels c ≡ None → IsUnanchored p c
+-- what a search finds on a side: the base, each cell's level, and its path to the anchors
+pub record AreAnchorPaths (side : Side) (p : List Entries) (base : ℤ) (levels : List (Option ℕ)) (paths : List ℕ) : Type 0 where
+  pub is_base : IsBase side p base
+  pub anchored : (c k : ℕ) → mark_at levels c ≡ Some k → (s : ℕ) × IsAnchorPath side p c s × (slice_index paths c ≡ min s path_limit)
+  pub unanchored : (c : ℕ) → c < length p → mark_at levels c ≡ None → IsUnanchored side p c
   pub levels_whole : length levels ≡ length p
   pub paths_whole : length paths ≡ length p
 
@@ -51,37 +46,23 @@ pub record AreComponents (p : List Entries) (labels : List (Option ℕ)) (inner 
   pub sums_whole : length sums ≡ length p
   pub tops_whole : length longest ≡ length p
 
--- the data of the ceilings
-pub record IsAscent (p : List Entries) (base : ℤ) (levels : List (Option ℕ)) (paths : List ℕ) : Type 0 where
-  pub is_base : IsHighBase p base
-  pub anchored : (c k : ℕ) → mark_at levels c ≡ Some k → (s : ℕ) × IsHighPath p c s × (slice_index paths c ≡ min s path_limit)
-  pub unanchored : (c : ℕ) → c < length p → mark_at levels c ≡ None → HasNoCeiling p c
-  pub levels_whole : length levels ≡ length p
-  pub paths_whole : length paths ≡ length p
-
--- a floor; one too low for a head is cut off just below all heads
-abbrev pub floor_cut : ℤ → ℤ
-floor_cut f = int_max f (neg_ℤ (pos (head_limit + 1)))
-
-abbrev pub ceiling_cut : ℤ → ℤ
-ceiling_cut f = int_min f (pos (head_limit + 1))
+-- a bound; one that is out of the range of heads is cut off just outside it
+abbrev pub cut_on : Side → ℤ → ℤ
+cut_on Low f = int_max f (neg_ℤ (pos (head_limit + 1)))
+cut_on High f = int_min f (pos (head_limit + 1))
 
 abbrev pub bound_at : List (Option ℤ) → ℕ → Option ℤ
 bound_at xs c = slice_index_or xs c None
 
--- the floor of cell c, cut off; None where no anchor holds its component
-abbrev pub IsAnchoredFloor : List Entries → ℕ → Option ℤ → Type 0
-IsAnchoredFloor p c None = IsUnanchored p c
-IsAnchoredFloor p c (Some v) = (f : ℤ) × IsFloor p c f × (v ≡ floor_cut f)
+-- the bound of cell c, cut off; None where no anchor of the side holds its component
+abbrev pub IsAnchoredOrNone : Side → List Entries → ℕ → Option ℤ → Type 0
+IsAnchoredOrNone side p c None = IsUnanchored side p c
+IsAnchoredOrNone side p c (Some v) = (f : ℤ) × IsAnchoredBound side p c f × (v ≡ cut_on side f)
 
--- the floor of cell c, cut off; None where it has no floor
-abbrev pub IsFloorOrNone : List Entries → ℕ → Option ℤ → Type 0
-IsFloorOrNone p c None = HasNoFloor p c
-IsFloorOrNone p c (Some v) = (f : ℤ) × IsFloor p c f × (v ≡ floor_cut f)
-
-abbrev pub IsCeilingOrNone : List Entries → ℕ → Option ℤ → Type 0
-IsCeilingOrNone p c None = HasNoCeiling p c
-IsCeilingOrNone p c (Some v) = (f : ℤ) × IsCeiling p c f × (v ≡ ceiling_cut f)
+-- the bound of cell c, cut off; None where it has none
+abbrev pub IsBoundOrNone : Side → List Entries → ℕ → Option ℤ → Type 0
+IsBoundOrNone side p c None = HasNoBound side p c
+IsBoundOrNone side p c (Some v) = (f : ℤ) × IsBoundOn side p c f × (v ≡ cut_on side f)
 
 -- one for each cell
 pub record AreBounds (p : List Entries) (Is : ℕ → Option ℤ → Type 0) (xs : List (Option ℤ)) : Type 0 where

@@ -1,18 +1,19 @@
 // The floors of the cells that lead to no anchor: each component of such cells is carried by its deep flows, or it has no floor.
 ghost use Rattle.std.specs.Prelude.{◌≡◌, ◌<◌, length, IfOk};
-ghost use Rattle.barrier_vector.specs.Bases.{IsLowBase};
+ghost use Rattle.step_problem.specs.declared.heads.Side.TheVariants.{Low};
+ghost use Rattle.barrier_vector.specs.Marks.{IsBase};
 ghost use Rattle.barrier_vector.specs.Bounds.{IsUnanchored};
-ghost use Rattle.barrier_vector.specs.Lacks.{lack, stopped};
-ghost use Rattle.barrier_vector.specs.Roots.{AreComponents, IsAnchoredFloor, IsFloorOrNone, AreBounds};
+ghost use Rattle.barrier_vector.specs.Lacks.{lack, capped_flow};
+ghost use Rattle.barrier_vector.specs.Roots.{AreComponents, IsAnchoredOrNone, IsBoundOrNone, AreBounds};
 
+use crate::bounds::move_out;
 use crate::flows::deep_flows;
 use crate::gathered::{FlowSum, greatest_of_components, sum_components};
 use crate::labels::label_components;
-use crate::low::lowered;
 use crate::roots::self_roots;
 use crate::search::search;
 use std::alloc::{AllocError, Global};
-use step_problem::Problem;
+use step_problem::{Problem, Side};
 
 // The label of each cell's component and its path to the component's least cell; by label the sum of deep flows and the longest of these paths.
 #[derive(Drop)]
@@ -24,7 +25,7 @@ struct Components {
 }
 
 fn find_components(alloc: Global, p: &Problem, q: u128) -> Result<Components, AllocError>
-    requires lack { q ≡ stopped (lack p.now) }
+    requires lack { q ≡ capped_flow (lack p.now) }
     ensures { IfOk result (λ s. AreComponents p.now s.labels.items s.inner.items s.sums.items s.longest.items) }
 {
     p.recall_conditions();
@@ -52,16 +53,16 @@ fn carried_floor(
     c: usize,
 ) -> Option<i64>
     requires cell { c < length p.now }
-    requires base { IsLowBase p.now base }
+    requires base { IsBase Low p.now base }
     requires components { AreComponents p.now labels.now inner.now sums.now longest.now }
-    requires unanchored { IsUnanchored p.now c }
-    ensures { IsFloorOrNone p.now c result }
+    requires unanchored { IsUnanchored Low p.now c }
+    ensures { IsBoundOrNone Low p.now c result }
 {
     p.recall_conditions();
     match labels[c] {
         Some(m) => {
             if sums[m as usize].is_positive() {
-                return Some(lowered(base, inner[c], longest[m as usize]));
+                return Some(move_out(Side::Low, base, inner[c] + longest[m as usize]));
             }
             None
         }
@@ -78,10 +79,10 @@ fn floor_of(
     c: usize,
 ) -> Option<i64>
     requires cell { c < length p.now }
-    requires base { IsLowBase p.now base }
-    requires anchored { IsAnchoredFloor p.now c anchored }
+    requires base { IsBase Low p.now base }
+    requires anchored { IsAnchoredOrNone Low p.now c anchored }
     requires components { AreComponents p.now found.now.labels.items found.now.inner.items found.now.sums.items found.now.longest.items }
-    ensures { IsFloorOrNone p.now c result }
+    ensures { IsBoundOrNone Low p.now c result }
 {
     match anchored {
         Some(floor) => Some(floor),
@@ -105,10 +106,10 @@ pub(crate) fn with_carried_floors(
     q: u128,
     anchored: &[Option<i64>],
 ) -> Result<Vec<Option<i64>>, AllocError>
-    requires base { IsLowBase p.now base }
-    requires lack { q ≡ stopped (lack p.now) }
-    requires anchored { AreBounds p.now (IsAnchoredFloor p.now) anchored.now }
-    ensures { IfOk result (λ floors. AreBounds p.now (IsFloorOrNone p.now) floors.items) }
+    requires base { IsBase Low p.now base }
+    requires lack { q ≡ capped_flow (lack p.now) }
+    requires anchored { AreBounds p.now (IsAnchoredOrNone Low p.now) anchored.now }
+    ensures { IfOk result (λ floors. AreBounds p.now (IsBoundOrNone Low p.now) floors.items) }
 {
     let found = find_components(alloc, p, q)?;
     let mut floors = Vec::with_capacity(alloc, p.len())?;

@@ -7,15 +7,14 @@ ghost use Rattle.cell_balance.specs.Components.{IsHeldBelow};
 ghost use Rattle.cell_balance.specs.SolutionBounds.{EnclosesSolutions};
 ghost use Rattle.barrier_vector.specs.Bounds.{IsFloor, IsCeiling};
 ghost use Rattle.barrier_vector.specs.Refusals.{IsFault};
-ghost use Rattle.barrier_vector.specs.Held.{HasStorage, IsNoWantOfAnchors};
+ghost use Rattle.barrier_vector.specs.Held.{HasStorage, IsNotForLackOfAnchors};
 
+mod bounds;
 mod carried;
 mod flows;
 mod gathered;
-mod high;
 mod labels;
 pub mod laws;
-mod low;
 mod marks;
 mod outline;
 mod refusal;
@@ -24,9 +23,9 @@ mod search;
 mod spread;
 
 use outline::outline_sides;
-use refusal::{high_side, low_side};
+use refusal::whole_side;
 use std::alloc::Global;
-use step_problem::{Barrier, NoBound, Problem};
+use step_problem::{Barrier, NoBound, Problem, Side};
 
 /// Why a problem has no barrier: a refusal of 24 to 27 at the least cell that has it, or lack of memory.
 #[derive(Drop)]
@@ -46,18 +45,18 @@ pub fn barrier(alloc: Global, p: &Problem) -> Result<Barrier, BarrierFault>
     ensures barrier { IfOk result (λ b. IsBarrier p.now b) }
     ensures held { IfOk result (λ b. IsHeldBelow p.now) }
     ensures encloses { IfOk result (λ b. EnclosesSolutions p.now (head_at b.floor) (head_at b.ceiling)) }
-    ensures stored { HasStorage p.now → IfErr result (λ e. IsNoWantOfAnchors e) }
+    ensures stored { HasStorage p.now → IfErr result (λ e. IsNotForLackOfAnchors e) }
 {
     p.recall_conditions();
     let outlines = match outline_sides(alloc, p) {
         Ok(outlines) => outlines,
         Err(_) => return Err(BarrierFault::Memory),
     };
-    let floor = match low_side(alloc, p, &outlines.low) {
+    let floor = match whole_side(alloc, p, Side::Low, &outlines.low) {
         Ok(floor) => floor,
         Err(fault) => return Err(fault),
     };
-    match high_side(alloc, p, &outlines.high) {
+    match whole_side(alloc, p, Side::High, &outlines.high) {
         Ok(ceiling) => Ok(Barrier { floor, ceiling }),
         Err(fault) => Err(fault),
     }

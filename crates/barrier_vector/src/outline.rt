@@ -4,7 +4,7 @@ ghost use Rattle.std.specs.Option.{unwrap_or};
 ghost use Rattle.step_problem.specs.declared.heads.Side.{Side};
 ghost use Rattle.step_problem.specs.declared.heads.Side.TheVariants.{Low, High};
 ghost use Rattle.step_problem.specs.Entries.{Entries};
-ghost use Rattle.barrier_vector.specs.Lacks.{stopped};
+ghost use Rattle.barrier_vector.specs.Lacks.{capped_flow};
 ghost use Rattle.barrier_vector.specs.Outlines.{IsOutline};
 
 use crate::flows::need_of;
@@ -16,16 +16,16 @@ use step_problem::{Problem, Side};
 // 2^126
 const MOST_NEED: u128 = 85_070_591_730_234_615_865_843_651_857_942_052_864;
 
-// The sum of two flows, stopped at 2^126.
-fn stopped_sum(need: u128, more: u128) -> u128
+// The sum of two flows, at most 2^126.
+fn capped_sum(need: u128, more: u128) -> u128
     requires need { need ≤ 2 ^ 126 }
     requires more { more ≤ 2 ^ 109 }
-    ensures { result ≡ stopped (need + more) }
+    ensures { result ≡ capped_flow (need + more) }
 {
     (need + more).min(MOST_NEED)
 }
 
-/// One side of the cells: the outermost mark, the lack or the surplus of flow, stopped at 2^126, and the greatest anchor of each cell.
+/// One side of the cells: the outermost mark, the lack or the surplus of flow, at most 2^126, and the greatest anchor of each cell.
 #[derive(Drop)]
 pub(crate) struct Outline {
     pub mark: Option<i64>,
@@ -53,7 +53,7 @@ impl Outline {
         p.recall_conditions();
         let cell = p.cell(c);
         self.mark = outer(side, self.mark, cell_mark(side, cell));
-        self.need = stopped_sum(self.need, need_of(side, cell));
+        self.need = capped_sum(self.need, need_of(side, cell));
         self.anchors.push(greatest_anchor(side, cell))?;
         Ok(())
     }

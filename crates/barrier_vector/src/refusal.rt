@@ -1,17 +1,15 @@
-// The two sides of a barrier, or the first refusal of each.
+// A side of a barrier, or its first refusal.
 ghost use Rattle.std.specs.Prelude.{◌≡◌, ℕ, ◌<◌, ◌↔◌, length, MatchOption, None, IfOk, IfErr, IsTrue};
 ghost use Rattle.step_problem.specs.declared.heads.Side.{Side};
-ghost use Rattle.step_problem.specs.declared.heads.Side.TheVariants.{Low, High};
 ghost use Rattle.step_problem.specs.StepRefusals.{number_of};
-ghost use Rattle.barrier_vector.specs.declared.refusal.Test.TheVariants.{Missing, TooLow, TooHigh};
-ghost use Rattle.barrier_vector.specs.Refusals.{Names, IsRefusedBelow, IsRefusedAbove};
-ghost use Rattle.barrier_vector.specs.Roots.{IsFloorOrNone, IsCeilingOrNone, AreBounds};
+ghost use Rattle.barrier_vector.specs.declared.refusal.Test.TheVariants.{Missing, OutOfRange};
+ghost use Rattle.barrier_vector.specs.Refusals.{IsOutOfRange, no_barrier_on, range_on, Names, IsRefusedOn};
+ghost use Rattle.barrier_vector.specs.Roots.{IsBoundOrNone, AreBounds};
 ghost use Rattle.barrier_vector.specs.Outlines.{IsOutline};
-ghost use Rattle.barrier_vector.specs.Tests.{Fails, IsFirstFailing, AreHeadsOf, IsLowSide, IsHighSide, IsLowFault, IsHighFault};
+ghost use Rattle.barrier_vector.specs.Tests.{Fails, IsFirstFailing, AreHeadsOf, IsWholeSide, IsFaultOn};
 
 use crate::BarrierFault;
-use crate::high::ceilings;
-use crate::low::floors;
+use crate::bounds::bounds_on;
 use crate::outline::Outline;
 use std::alloc::{AllocError, Global};
 use step_problem::problem::HEAD_LIMIT;
@@ -21,8 +19,16 @@ use step_problem::{NoBound, Place, Problem, Side, StepRefusal};
 #[derive(Clone, Copy)]
 pub(crate) enum Test {
     Missing,
-    TooLow,
-    TooHigh,
+    OutOfRange(Side),
+}
+
+fn is_out_of_range(side: Side, head: i64) -> bool
+    ensures { IsTrue result ↔ IsOutOfRange side head }
+{
+    match side {
+        Side::Low => head < -HEAD_LIMIT,
+        Side::High => head > HEAD_LIMIT,
+    }
 }
 
 fn fails(test: Test, bound: Option<i64>) -> bool
@@ -31,13 +37,11 @@ fn fails(test: Test, bound: Option<i64>) -> bool
     match bound {
         None => match test {
             Test::Missing => true,
-            Test::TooLow => false,
-            Test::TooHigh => false,
+            Test::OutOfRange(_) => false,
         },
         Some(head) => match test {
             Test::Missing => false,
-            Test::TooLow => head < -HEAD_LIMIT,
-            Test::TooHigh => head > HEAD_LIMIT,
+            Test::OutOfRange(side) => is_out_of_range(side, head),
         },
     }
 }
@@ -75,71 +79,55 @@ fn refusal(p: &Problem, cause: StepRefusal, c: usize, side: Side) -> NoBound
     }
 }
 
-fn low_refusal(p: &Problem, bounds: &[Option<i64>]) -> Option<NoBound>
-    requires { AreBounds p.now (IsFloorOrNone p.now) bounds.now }
-    ensures { MatchOption result (IsFirstFailing Missing bounds.now None × IsFirstFailing TooLow bounds.now None) (IsRefusedBelow p.now) }
+// The refusal of a side where a cell has no bound.
+fn no_barrier(side: Side) -> StepRefusal
+    ensures { result ≡ no_barrier_on side }
+{
+    match side {
+        Side::Low => StepRefusal::NoBarrierLow,
+        Side::High => StepRefusal::NoBarrierHigh,
+    }
+}
+
+// The refusal of a side where a bound is out of the range of heads.
+fn range(side: Side) -> StepRefusal
+    ensures { result ≡ range_on side }
+{
+    match side {
+        Side::Low => StepRefusal::RangeLow,
+        Side::High => StepRefusal::RangeHigh,
+    }
+}
+
+fn side_refusal(p: &Problem, side: Side, bounds: &[Option<i64>]) -> Option<NoBound>
+    requires { AreBounds p.now (IsBoundOrNone side p.now) bounds.now }
+    ensures { MatchOption result (IsFirstFailing Missing bounds.now None × IsFirstFailing (OutOfRange side) bounds.now None) (IsRefusedOn side p.now) }
 {
     p.recall_conditions();
     match first_failing(Test::Missing, bounds) {
-        Some(c) => Some(refusal(p, StepRefusal::NoBarrierLow, c, Side::Low)),
-        None => match first_failing(Test::TooLow, bounds) {
-            Some(c) => Some(refusal(p, StepRefusal::RangeLow, c, Side::Low)),
+        Some(c) => Some(refusal(p, no_barrier(side), c, side)),
+        None => match first_failing(Test::OutOfRange(side), bounds) {
+            Some(c) => Some(refusal(p, range(side), c, side)),
             None => None,
         },
     }
 }
 
-fn high_refusal(p: &Problem, bounds: &[Option<i64>]) -> Option<NoBound>
-    requires { AreBounds p.now (IsCeilingOrNone p.now) bounds.now }
-    ensures { MatchOption result (IsFirstFailing Missing bounds.now None × IsFirstFailing TooHigh bounds.now None) (IsRefusedAbove p.now) }
-{
-    p.recall_conditions();
-    match first_failing(Test::Missing, bounds) {
-        Some(c) => Some(refusal(p, StepRefusal::NoBarrierHigh, c, Side::High)),
-        None => match first_failing(Test::TooHigh, bounds) {
-            Some(c) => Some(refusal(p, StepRefusal::RangeHigh, c, Side::High)),
-            None => None,
-        },
-    }
-}
-
-/// The floor of each cell, or the first refusal of the low side.
-pub(crate) fn low_side(
+/// The bound of each cell on a side, or the side's first refusal.
+pub(crate) fn whole_side(
     alloc: Global,
     p: &Problem,
+    side: Side,
     outline: &Outline,
 ) -> Result<Vec<i64>, BarrierFault>
-    requires { IsOutline Low p.now (length p.now) outline.now.mark outline.now.need outline.now.anchors.items }
-    ensures side { IfOk result (λ heads. IsLowSide p.now heads.items) }
-    ensures fault { IfErr result (IsLowFault p.now) }
+    requires { IsOutline side p.now (length p.now) outline.now.mark outline.now.need outline.now.anchors.items }
+    ensures side { IfOk result (λ heads. IsWholeSide side p.now heads.items) }
+    ensures fault { IfErr result (IsFaultOn side p.now) }
 {
     p.recall_conditions();
-    match floors(alloc, p, outline) {
+    match bounds_on(alloc, p, side, outline) {
         Err(_) => Err(BarrierFault::Memory),
-        Ok(bounds) => match low_refusal(p, &bounds) {
-            Some(refused) => Err(BarrierFault::NoBound(refused)),
-            None => match heads_of(alloc, &bounds) {
-                Ok(heads) => Ok(heads),
-                Err(_) => Err(BarrierFault::Memory),
-            },
-        },
-    }
-}
-
-/// The ceiling of each cell, or the first refusal of the high side.
-pub(crate) fn high_side(
-    alloc: Global,
-    p: &Problem,
-    outline: &Outline,
-) -> Result<Vec<i64>, BarrierFault>
-    requires { IsOutline High p.now (length p.now) outline.now.mark outline.now.need outline.now.anchors.items }
-    ensures side { IfOk result (λ heads. IsHighSide p.now heads.items) }
-    ensures fault { IfErr result (IsHighFault p.now) }
-{
-    p.recall_conditions();
-    match ceilings(alloc, p, outline) {
-        Err(_) => Err(BarrierFault::Memory),
-        Ok(bounds) => match high_refusal(p, &bounds) {
+        Ok(bounds) => match side_refusal(p, side, &bounds) {
             Some(refused) => Err(BarrierFault::NoBound(refused)),
             None => match heads_of(alloc, &bounds) {
                 Ok(heads) => Ok(heads),

@@ -1,51 +1,50 @@
 // The roots of the searches: anchored cells, and the least cells of components.
 ghost use Rattle.std.specs.Prelude.{◌≡◌, ℕ, ◌<◌, ◌≤◌, ◌^◌, length, IfOk, Some, max};
 ghost use Rattle.barrier_vector.specs.Paths.{ceil_over};
-ghost use Rattle.barrier_vector.specs.Bounds.{greatest};
-ghost use Rattle.barrier_vector.specs.Roots.{anchor_on, ListAnchor, SelfRoot, AreRoots};
+ghost use Rattle.barrier_vector.specs.Bounds.{anchor_on, greatest};
+ghost use Rattle.barrier_vector.specs.Roots.{ListAnchor, SelfRoot, AreRoots};
 
 use crate::search::drop_over;
 use std::alloc::{AllocError, Global};
 use step_problem::{Cell, Drain, Fixed, River, Side};
 
 trait Anchor {
-    ghost lower: { Self → ℕ };
+    ghost least: { Self → ℕ };
 
-    // The lower conductance.
-    fn lower(&self) -> u64
-        ensures { result ≡ lower self.now };
+    fn lower_conductance(&self) -> u64
+        ensures { result ≡ least self.now };
 }
 
 impl Anchor for Fixed {
-    ghost lower = { λ x. x.lo };
+    ghost least = { λ x. x.lo };
 
-    fn lower(&self) -> u64 {
+    fn lower_conductance(&self) -> u64 {
         self.lo
     }
 }
 
 impl Anchor for River {
-    ghost lower = { λ x. x.lo };
+    ghost least = { λ x. x.lo };
 
-    fn lower(&self) -> u64 {
+    fn lower_conductance(&self) -> u64 {
         self.lo
     }
 }
 
 impl Anchor for Drain {
-    ghost lower = { λ x. x.lo };
+    ghost least = { λ x. x.lo };
 
-    fn lower(&self) -> u64 {
+    fn lower_conductance(&self) -> u64 {
         self.lo
     }
 }
 
 fn greatest_lower<E: Anchor>(entries: &[E]) -> u64
-    ensures { result ≡ greatest E.lower entries.now }
+    ensures { result ≡ greatest E.least entries.now }
 {
     let mut best = 0;
     for x in entries {
-        best = x.lower().max(best);
+        best = x.lower_conductance().max(best);
     }
     best
 }

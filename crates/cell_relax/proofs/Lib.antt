@@ -1,4 +1,4 @@
-pub mod Raising
-pub mod Sinking
+pub mod Sides
+pub mod Relaxing
 pub mod Orders
 pub mod Reading

@@ -1,22 +1,18 @@
--- Raise and sink values keep the order of heads.
-use Rattle.std.proofs.Common.{inl, inr, arith, subst, sym, ℤ, ◌≤ℤ◌}
-use Rattle.std.proofs.lemmas.Int.{ints}
+-- Relaxed heads keep the order of heads.
+use Rattle.std.proofs.Common.{inl, inr, subst, sym, ℤ, ◌≤ℤ◌}
+use Rattle.step_problem.specs.declared.heads.Side.TheVariants.{Low, High}
 use Rattle.step_problem.specs.Entries.{entries_at}
+use Rattle.step_problem.proofs.BothSides.{le_trans}
 use Rattle.step_problem.proofs.Falls.{lower_rises, upper_rises}
-use Rattle.cell_relax.specs.Laws.{RaisesKeepOrder, SinksKeepOrder}
+use Rattle.cell_relax.specs.Laws.{RelaxedKeepOrder}
 
-le_trans : (a b c : ℤ) → a ≤ℤ b → b ≤ℤ c → a ≤ℤ c
-le_trans a b c p q = omega (arith, ints)
-
-pub raises_keep_order : RaisesKeepOrder
-raises_keep_order p c h k r s above from to =
+pub relaxed_keep_order : RelaxedKeepOrder
+relaxed_keep_order Low p c h k r s above from to =
     elim from.reached [
       | inl e ↦ subst (λ (x : ℤ). x ≤ℤ s) (sym e) (le_trans _ _ _ above.own to.no_looser)
       | inr (head, can) ↦ to.furthest r head (le_trans _ _ _ can (lower_rises (entries_at p c) r h k above.others))
     ]
-
-pub sinks_keep_order : SinksKeepOrder
-sinks_keep_order p c h k r s above from to =
+relaxed_keep_order High p c h k r s above from to =
     elim to.reached [
       | inl e ↦ subst (λ (x : ℤ). r ≤ℤ x) (sym e) (le_trans _ _ _ from.no_looser above.own)
       | inr (head, can) ↦ from.furthest s head (le_trans _ _ _ (upper_rises (entries_at p c) s h k above.others) can)

@@ -1,9 +1,8 @@
-// Laws of raise and sink values. Each is the contract of an empty function.
-ghost use Rattle.cell_relax.specs.Laws.{RaisesKeepOrder, SinksKeepOrder};
+// A law of raise and sink values. It is the contract of an empty function.
+ghost use Rattle.cell_relax.specs.Laws.{RelaxedKeepOrder};
 
 /// If no head is lower, at the cell and at the other ends of its links, then neither the raise value nor the
 /// sink value is lower.
 pub fn values_keep_order()
-    ensures raise { RaisesKeepOrder }
-    ensures sink { SinksKeepOrder }
+    ensures { RelaxedKeepOrder }
 {}

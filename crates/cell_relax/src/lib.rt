@@ -3,13 +3,11 @@
 
 pub mod laws;
 mod middle;
-pub mod raise;
 pub mod range;
-pub mod sink;
+pub mod relax;
 mod trend;
 pub mod words;
 
-pub use raise::raise_to;
 pub use range::are_words;
-pub use sink::sink_to;
+pub use relax::{raise_to, relax_to, sink_to};
 pub use words::{raise_in, read_values, sink_in};

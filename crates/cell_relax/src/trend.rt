@@ -56,8 +56,8 @@ impl Trend {
         i64::try_from(units).unwrap_or(1)
     }
 
-    /// The next trial of a search upwards: a number strictly between two that are not neighbours.
-    pub fn next_above(self, reached: i64, beyond: i64) -> i64
+    /// The next trial: a number strictly between two that are not neighbours.
+    pub fn next(self, reached: i64, beyond: i64) -> i64
         requires reached { IsWithin reached (head_limit + 1) }
         requires beyond { IsWithin beyond (head_limit + 1) }
         requires apart { (reached +ℤ pos 1) <ℤ beyond }
@@ -73,16 +73,5 @@ impl Trend {
         } else {
             reached + 1
         }
-    }
-
-    /// The same for a search downwards.
-    pub fn next_below(self, reached: i64, beyond: i64) -> i64
-        requires reached { IsWithin reached (head_limit + 1) }
-        requires beyond { IsWithin beyond (head_limit + 1) }
-        requires apart { (beyond +ℤ pos 1) <ℤ reached }
-        ensures above { beyond <ℤ result }
-        ensures below { result <ℤ reached }
-    {
-        -self.next_above(-reached, -beyond)
     }
 }

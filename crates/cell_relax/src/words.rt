@@ -5,8 +5,7 @@ ghost use Rattle.step_problem.specs.Conditions.{IsHead};
 ghost use Rattle.step_problem.specs.Heads.{lower_at, upper_at, IsRaise, IsSink};
 ghost use Rattle.cell_relax.specs.Words.{head_of, heads_on, AreWords};
 
-use crate::raise::raise_to;
-use crate::sink::sink_to;
+use crate::relax::{raise_to, sink_to};
 use step_problem::{Bound, Problem, Side};
 
 fn head_on(side: Side, word: Bound) -> i64

@@ -1,15 +1,13 @@
 -- A step whose cells have storage has a floor and a ceiling.
-use Rattle.std.proofs.Common.{◌≡◌, ◌≢◌, ℕ, zero, suc, ◌<◌, ◌≤◌, Bool, true, false, cond, List, [], ◌∷◌, length, Contains, Result, Ok, Err, Option, Some, None, inl, inr, refl, sym, ap, subst, arith, ℤ, if◌then◌else◌}
-use Rattle.step_problem.specs.declared.entry.Fixed.{Fixed}
+use Rattle.std.proofs.Common.{◌≡◌, ◌≢◌, ℕ, Bool, true, false, cond, List, [], length, Result, Ok, Err, Option, Some, None, inl, inr, sym, ap, subst, arith, ℤ, if◌then◌else◌}
 use Rattle.step_problem.specs.declared.place.Dir.{Dir}
 use Rattle.step_problem.specs.declared.place.Dir.TheVariants.{In, Out}
 use Rattle.step_problem.specs.declared.place.NoBound.{NoBound}
 use Rattle.step_problem.specs.declared.place.Term.{Term}
-use Rattle.step_problem.specs.Entries.{Entries, entries_at}
+use Rattle.step_problem.specs.Entries.{Entries}
 use Rattle.step_problem.specs.Heads.{lower_at, upper_at}
-use Rattle.cell_balance.specs.Components.{IsAnchored}
-use Rattle.barrier_vector.specs.Bounds.{greatest}
-use Rattle.barrier_vector.specs.Refusals.{HasNoFloor, HasNoCeiling, IsRefused}
+use Rattle.barrier_vector.specs.Refusals.{IsRefused}
+use Rattle.barrier_vector.proofs.Sides.{stored_refusal}
 use Rattle.budget_bounds.specs.Terms.{◌>>=◌, all_terms, budget_of, is_small, term_of, term_pair, terms_of, too_large}
 use Rattle.problem_builder.specs.Refusals.{fault_of}
 use Rattle.step_chain.specs.declared.solved.Solved.{Solved}
@@ -24,29 +22,8 @@ IsOther code = (code ≢ 24) × (code ≢ 25)
 other_code : (a b : ℕ) → a ≡ b → IsOther b → IsOther a
 other_code a b e h = subst IsOther (sym e) h
 
-stored_is_anchored : (p : List Entries) (c : ℕ) → IsStored p → c < length p → IsAnchored p c
-stored_is_anchored p c stored within = let s = stored c within in (s.0, s.1, omega (arith, s.3))
-
-has_floor : (p : List Entries) (c : ℕ) → IsStored p → c < length p → HasNoFloor p c → ⊥
-has_floor p c stored within none = none.0 0 (c, refl, stored_is_anchored p c stored within)
-
-greatest_at : (xs : List Fixed) (x : Fixed) → Contains xs x → x.lo ≤ greatest (λ y. y.lo) xs
-greatest_at [] x (k, within, is) = absurd (omega (arith, within))
-greatest_at (y ∷ ys) x (zero, within, is) = rw (sym is) (omega arith)
-greatest_at (y ∷ ys) x (suc k, within, is) = let more = greatest_at ys x (k, omega (arith, within), is) in omega (arith, more)
-
-has_ceiling : (p : List Entries) (c : ℕ) → IsStored p → c < length p → HasNoCeiling p c → ⊥
-has_ceiling p c stored within none =
-    let s = stored c within in
-    let zero_there = none 0 c refl in
-    let some = greatest_at (entries_at p c).fixed s.0 s.1 in
-    omega (arith, zero_there, some, s.3)
-
 barrier_code : (p : List Entries) (n : NoBound) → IsStored p → IsRefused p n → IsOther n.code
-barrier_code p n stored (inl (c, inl (names, least))) = absurd (has_floor p c stored least.within least.has)
-barrier_code p n stored (inl (c, inr (names, nowhere, least))) = other_code n.code 26 names.code (omega arith, omega arith)
-barrier_code p n stored (inr (nowhere, also, (c, inl (names, least)))) = absurd (has_ceiling p c stored least.within least.has)
-barrier_code p n stored (inr (nowhere, also, (c, inr (names, none, least)))) = other_code n.code 27 names.code (omega arith, omega arith)
+barrier_code p n stored refused = stored_refusal p (λ c within. let s = stored c within in (s.0, s.1, s.2, omega (arith, s.3))) n refused
 
 the_code : Option ℕ → ℕ
 the_code (Some m) = m

@@ -1,28 +1,31 @@
-use Rattle.std.proofs.Common.{length, rules, slice_index, FitsSigned}
+use Rattle.std.proofs.Common.{◌≤◌, arith, length, rules, slice_index, slice_index_or, FitsSigned}
 use Rattle.std.specs.Int.{w64}
 use Rattle.std.proofs.lemmas.Int.{to_z-of_z}
+use Rattle.step_problem.specs.declared.heads.Side.TheVariants.{Low}
+use Rattle.barrier_vector.specs.Searches.{path_limit}
 use Rattle.barrier_vector.proofs.Spreading.{no_both}
-use Rattle.barrier_vector.proofs.Basing.{low_base_head, capped_within, greatest_within}
+use Rattle.barrier_vector.proofs.Basing.{base_head, capped_within, greatest_within}
 use Rattle.barrier_vector.proofs.Carrying.{floor_carried, floor_none}
 use Rattle.barrier_vector.proofs.Gathering.{not_positive}
 use Rattle.barrier_vector.proofs.carried.carried_floor.Goals as goal
 
-pub lowered-requires-clause-base : goal.lowered-requires-clause-base
-lowered-requires-clause-base c = let base_fits : FitsSigned w64 c.args.base = c.ranges.base in simp to_z-of_z (low_base_head c.args.p.now c.recall_conditions.ensures.fits c.args.base c.requires.base)
+pub overflow_add-inner : goal.overflow_add-inner
+overflow_add-inner c =
+    let (s, path, cut) = c.requires.components.inner_paths c.args.c c.requires.cell in
+    let own : slice_index_or c.args.inner.now c.args.c 0 ≤ path_limit = capped_within _ s cut in
+    let top : slice_index_or c.args.longest.now c.in-Some.m 0 ≤ path_limit = greatest_within c.args.labels.now c.args.inner.now c.in-Some.m (length c.args.p.now) _ (λ k h. let (s, path, cut) = c.requires.components.inner_paths k h in capped_within (slice_index c.args.inner.now k) s cut) (c.requires.components.tops c.in-Some.m) in
+    omega (arith, own, top)
 
-pub lowered-requires-clause-path : goal.lowered-requires-clause-path
-lowered-requires-clause-path c = let (s, path, cut) = c.requires.components.inner_paths c.args.c c.requires.cell in capped_within _ s cut
-
-pub lowered-requires-clause-more : goal.lowered-requires-clause-more
-lowered-requires-clause-more c = greatest_within c.args.labels.now c.args.inner.now c.in-Some.m (length c.args.p.now) _ (λ k h. let (s, path, cut) = c.requires.components.inner_paths k h in capped_within (slice_index c.args.inner.now k) s cut) (c.requires.components.tops c.in-Some.m)
+pub move_out-requires : goal.move_out-requires
+move_out-requires c = let base_fits : FitsSigned w64 c.args.base = c.ranges.base in simp to_z-of_z (base_head Low c.args.p.now c.recall_conditions.ensures.fits c.args.base c.requires.base)
 
 pub returns-then-is_positive : goal.returns-then-is_positive
 returns-then-is_positive c =
-    let fits : FitsSigned w64 c.lowered.result = search rules in
-    let head = low_base_head c.args.p.now c.recall_conditions.ensures.fits c.args.base c.requires.base in
+    let fits : FitsSigned w64 c.move_out.result = search rules in
+    let head = base_head Low c.args.p.now c.recall_conditions.ensures.fits c.args.base c.requires.base in
     let base_fits : FitsSigned w64 c.args.base = c.ranges.base in
     let positive = c.is_positive.ensures.0 c.if-is_positive.true in
-    simp to_z-of_z (floor_carried c.args.p.now c.recall_conditions.ensures.fits c.args.labels.now c.args.inner.now c.args.sums.now c.args.longest.now c.requires.components c.args.base c.requires.base head c.args.c c.in-Some.m c.lowered.result c.requires.cell c.requires.unanchored c.in-Some.is positive (simp to_z-of_z at c.lowered.ensures))
+    simp to_z-of_z (floor_carried c.args.p.now c.recall_conditions.ensures.fits c.args.labels.now c.args.inner.now c.args.sums.now c.args.longest.now c.requires.components c.args.base c.requires.base head c.args.c c.in-Some.m c.move_out.result c.requires.cell c.requires.unanchored c.in-Some.is positive (simp to_z-of_z at c.move_out.ensures))
 
 pub returns-else-is_positive : goal.returns-else-is_positive
 returns-else-is_positive c =

@@ -1,6 +1,6 @@
 use Rattle.std.proofs.Common.{◌≡◌, length, subst, List, ℕ, ℤ, Option, slice_index}
 use Rattle.cell_balance.specs.Components.{sum_inside}
-use Rattle.barrier_vector.specs.Lacks.{lack, stopped}
+use Rattle.barrier_vector.specs.Lacks.{lack, capped_flow}
 use Rattle.barrier_vector.specs.Labels.{labelled, number_at, sum_at, IsGreatestOf}
 use Rattle.barrier_vector.specs.Roots.{AreRoots, SelfRoot}
 use Rattle.barrier_vector.proofs.Rooting.{searched_as}
@@ -21,7 +21,7 @@ returns c =
     c.in_ok-labels.ensures
     (subst (λ (z : List (Option ℕ)). length c.in_ok-least.least.items ≡ length z) c.deref.ensures.value c.in_ok-least.ensures.whole)
     (subst (λ (z : List (Option ℕ)). AreRoots (SelfRoot z) c.in_ok-least.least.items) c.deref.ensures.value c.in_ok-least.ensures.roots)
-    (searched_as c.args.p.now c.args.q (stopped (lack c.args.p.now)) c.in_ok-least.least.items c.deref-2.result.now c.in_ok-inner.inner.levels.items c.in_ok-inner.inner.paths.items c.requires.lack c.deref-2.ensures.value c.in_ok-inner.ensures)
+    (searched_as c.args.p.now c.args.q (capped_flow (lack c.args.p.now)) c.in_ok-least.least.items c.deref-2.result.now c.in_ok-inner.inner.levels.items c.in_ok-inner.inner.paths.items c.requires.lack c.deref-2.ensures.value c.in_ok-inner.ensures)
     c.in_ok-deep.ensures.values
     (subst (λ (z : List (Option ℕ)). length c.in_ok-sums.sums.items ≡ length z) c.deref-3.ensures.value c.in_ok-sums.ensures.whole)
     (λ m. subst (λ (z : List (Option ℕ)). sum_at c.in_ok-sums.sums.items m ≡ sum_inside (length z) (labelled z m) (number_at c.in_ok-deep.deep.items)) c.deref-3.ensures.value (subst (λ (z : List ℤ). sum_at c.in_ok-sums.sums.items m ≡ sum_inside (length c.deref-3.result.now) (labelled c.deref-3.result.now m) (number_at z)) c.deref-4.ensures.value (c.in_ok-sums.ensures.sums m)))

@@ -1,9 +1,10 @@
 use Rattle.std.proofs.Common.{◌≡◌, ℕ, ◌<◌, length}
-use Rattle.barrier_vector.specs.Roots.{IsFloorOrNone, bound_at}
+use Rattle.step_problem.specs.declared.heads.Side.TheVariants.{Low}
+use Rattle.barrier_vector.specs.Roots.{IsBoundOrNone, bound_at}
 use Rattle.barrier_vector.proofs.carried.with_carried_floors.Given as goal
 
 abbrev pub invariant-loop-c : goal.invariant-loop-c
 invariant-loop-c l = record {
   whole : length l.floors.items ≡ l.c;
-  each : (c : ℕ) → c < l.c → IsFloorOrNone l.p c (bound_at l.floors.items c);
+  each : (c : ℕ) → c < l.c → IsBoundOrNone Low l.p c (bound_at l.floors.items c);
 }

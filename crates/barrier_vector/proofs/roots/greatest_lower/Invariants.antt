@@ -3,4 +3,4 @@ use Rattle.barrier_vector.specs.Bounds.{greatest}
 use Rattle.barrier_vector.proofs.roots.greatest_lower.Given as goal
 
 abbrev pub invariant-loop-x : goal.invariant-loop-x
-invariant-loop-x g l = max l.best (greatest g.E.Anchor.lower (drop l.x-index l.entries)) ≡ greatest g.E.Anchor.lower l.entries
+invariant-loop-x g l = max l.best (greatest g.E.Anchor.least (drop l.x-index l.entries)) ≡ greatest g.E.Anchor.least l.entries

@@ -1,0 +1,33 @@
+use Rattle.std.proofs.Common.{◌+◌, ap, ◌∙◌, sym, subst, length, length-append, List, Option, ℤ, ℕ, ◌∷◌, [], FitsSigned}
+use Rattle.std.specs.Int.{w64}
+use Rattle.std.proofs.lemmas.Int.{to_z-of_z}
+use Rattle.barrier_vector.specs.Lacks.{need, capped_flow}
+use Rattle.barrier_vector.specs.Roots.{IsAnchoredOrNone, AreAnchorPaths}
+use Rattle.barrier_vector.proofs.Rooting.{searched_as}
+use Rattle.barrier_vector.proofs.Basing.{bounds_more}
+use Rattle.barrier_vector.proofs.Surveying.{paths_made}
+use Rattle.barrier_vector.proofs.Outlining.{need_whole, roots_whole, roots_on}
+use Rattle.barrier_vector.proofs.bounds.anchored_bounds.Goals as goal
+
+pub anchored_bound-requires-clause-paths : goal.anchored_bound-requires-clause-paths
+anchored_bound-requires-clause-paths c =
+    let base_fits : FitsSigned w64 c.args.base = c.ranges.base in
+    let side = c.args.side in
+    let p = c.args.p.now in
+    let o = c.args.outline.now in
+    let q = need_whole side p o.mark o.need o.anchors.items c.requires.outline in
+    let roots = c.in_ok-roots.roots.items in
+    let levels = c.in_ok-anchored.anchored.levels.items in
+    let paths = c.in_ok-anchored.anchored.paths.items in
+    let made = paths_made side p c.recall_conditions.ensures.fits roots levels paths
+    (roots_whole side p o.mark o.need o.anchors.items c.deref.result.now roots c.requires.outline c.deref.ensures.value c.in_ok-roots.ensures.whole)
+    (roots_on side p o.mark o.need (capped_flow (need side p)) o.anchors.items c.deref.result.now roots c.requires.outline c.deref.ensures.value q c.in_ok-roots.ensures.roots)
+    (searched_as p o.need (capped_flow (need side p)) roots c.deref-2.result.now levels paths q c.deref-2.ensures.value c.in_ok-anchored.ensures)
+    c.args.base c.requires.base in
+    simp to_z-of_z (subst (λ (z : List (Option ℕ)). AreAnchorPaths side p c.args.base z c.deref-in-loop-c-2.result.now) (sym c.deref-in-loop-c.ensures.value) (subst (λ (z : List ℕ). AreAnchorPaths side p c.args.base levels z) (sym c.deref-in-loop-c-2.ensures.value) made))
+
+pub loop-c-preserved : goal.loop-c-preserved
+loop-c-preserved c = record {
+  whole = ap (λ (z : List (Option ℤ)). length z) c.in_ok-push.ensures.items ∙ length-append c.loop-c.bounds.items (c.anchored_bound.result ∷ []) ∙ ap (λ (n : ℕ). n + 1) c.loop-c.invariant.whole;
+  each = bounds_more c.args.p.now (IsAnchoredOrNone c.args.side c.args.p.now) c.loop-c.bounds.items c.push.new.self.items c.anchored_bound.result c.loop-c.c c.in_ok-push.ensures.items c.loop-c.invariant.whole c.anchored_bound.ensures c.loop-c.invariant.each;
+}

@@ -1,0 +1,85 @@
+-- The search for a relaxed head.
+use Rattle.std.proofs.Common.{◌≡◌, ℕ, ◌⊎◌, inl, inr, refl, arith, sym, ◌∙◌, subst, List, ℤ, pos, ◌-ℤ◌, ◌≤ℤ◌, ◌<ℤ◌}
+use Rattle.std.proofs.lemmas.Int.{ints, by_lt_z}
+use Rattle.step_problem.specs.declared.heads.Side.{Side}
+use Rattle.step_problem.specs.declared.heads.Side.TheVariants.{Low, High}
+use Rattle.step_problem.specs.Entries.{Entries, entries_at, ends_in}
+use Rattle.step_problem.specs.BothSides.{balance}
+use Rattle.step_problem.specs.Conditions.{IsHead}
+use Rattle.step_problem.proofs.Falls.{lower_falls, upper_falls}
+use Rattle.cell_relax.specs.Sides.{IsAsTight, LetsMove, Moves, IsRelaxedOn, turned_on}
+
+turned_back : (side : Side) (v : ℤ) → turned_on side (turned_on side v) ≡ v
+turned_back Low v = refl
+turned_back High v = omega (arith, ints)
+
+tight_turned : (side : Side) (x y : ℤ) → turned_on side x ≤ℤ y → IsAsTight side x (turned_on side y)
+tight_turned Low x y h = h
+tight_turned High x y h = omega (arith, ints, h)
+
+pub head_turned : (side : Side) (v : ℤ) → IsHead v → IsHead (turned_on side v)
+head_turned Low v h = h
+head_turned High v h = record { above = omega (arith, ints, h.below); below = omega (arith, ints, h.above) }
+
+-- a cell that may go somewhere may stop before
+falls_on : (side : Side) (c : Entries) (h : ℕ → ℤ) (v w : ℤ) → v ≤ℤ w → LetsMove side (balance side c (turned_on side w) h) → LetsMove side (balance side c (turned_on side v) h)
+falls_on Low c h v w le moves = let falls = lower_falls c h v w le in omega (arith, ints, falls, moves)
+falls_on High c h v w le moves = let falls = upper_falls c h (turned_on High w) (turned_on High v) (omega (arith, ints, le)) in omega (arith, ints, falls, moves)
+
+-- turned upwards: a head to which the cell may go, or its own, and one further to which it may not
+pub record Relaxing (side : Side) (p : List Entries) (c : ℕ) (own : ℤ) (values : List ℤ) (reached beyond : ℤ) : Type 0 where
+  pub head : IsHead reached
+  pub no_looser : turned_on side own ≤ℤ reached
+  pub apart : reached <ℤ beyond
+  pub limit : beyond ≤ℤ pos 4000000000000000001
+  pub may : (h : ℕ → ℤ) → ends_in h (entries_at p c).links ≡ values → (turned_on side reached ≡ own) ⊎ Moves side p c (turned_on side reached) h
+  pub may_not : (h : ℕ → ℤ) → ends_in h (entries_at p c).links ≡ values → (v : ℤ) → IsHead v → Moves side p c (turned_on side v) h → v <ℤ beyond
+
+-- b is the balance of cell c at its head v
+abbrev pub IsBalanceAt : Side → List Entries → ℕ → List ℤ → ℤ → ℤ → Type 0
+IsBalanceAt side p c values v b = (h : ℕ → ℤ) → ends_in h (entries_at p c).links ≡ values → b ≡ balance side (entries_at p c) v h
+
+module _ (side : Side) (p : List Entries) (c : ℕ) (own : ℤ) (values : List ℤ) where
+  pub relax_start : (reached : ℤ) → reached ≡ turned_on side own → IsHead own → Relaxing side p c own values reached (pos 4000000000000000001)
+  relax_start reached is head =
+      let turned = subst IsHead (sym is) (head_turned side own head) in record {
+        head = turned;
+        no_looser = omega (arith, ints, is);
+        apart = omega (arith, ints, turned.below);
+        limit = omega (arith, ints);
+        may = λ h e. inl (subst (λ (x : ℤ). turned_on side x ≡ own) (sym is) (turned_back side own));
+        may_not = λ h e v in_range moves. omega (arith, ints, in_range.below);
+      }
+
+  pub relax_reaches : (reached beyond middle at b : ℤ) → Relaxing side p c own values reached beyond → reached <ℤ middle → middle <ℤ beyond → at ≡ turned_on side middle → IsBalanceAt side p c values at b → LetsMove side b → Relaxing side p c own values middle beyond
+  relax_reaches reached beyond middle at b s above below turned is lets = record {
+    head = record { above = omega (arith, ints, above, s.head.above); below = omega (arith, ints, below, s.limit) };
+    no_looser = omega (arith, ints, above, s.no_looser);
+    apart = below;
+    limit = s.limit;
+    may = λ h e. inr (subst (λ (x : ℤ). Moves side p c x h) turned (subst (LetsMove side) (is h e) lets));
+    may_not = s.may_not;
+  }
+
+  pub relax_bounds : (reached beyond middle at b : ℤ) → Relaxing side p c own values reached beyond → reached <ℤ middle → middle <ℤ beyond → at ≡ turned_on side middle → IsBalanceAt side p c values at b → (LetsMove side b → ⊥) → Relaxing side p c own values reached middle
+  relax_bounds reached beyond middle at b s above below turned is stops = record {
+    head = s.head;
+    no_looser = s.no_looser;
+    apart = above;
+    limit = omega (arith, ints, below, s.limit);
+    may = s.may;
+    may_not = λ h e v in_range moves. by_lt_z v middle (λ less. less)
+        (λ le. absurd (stops (subst (LetsMove side) (sym (is h e)) (subst (λ (x : ℤ). Moves side p c x h) (sym turned) (falls_on side (entries_at p c) h middle v le moves)))));
+  }
+
+  pub relax_end : (reached beyond : ℤ) → Relaxing side p c own values reached beyond → (beyond -ℤ reached) ≤ℤ pos 1 → (l : ℕ → ℤ) → l c ≡ own → ends_in l (entries_at p c).links ≡ values → IsRelaxedOn side p l c (turned_on side reached)
+  relax_end reached beyond s near l here ends = record {
+    no_looser = subst (λ (x : ℤ). IsAsTight side x (turned_on side reached)) (sym here) (tight_turned side own reached s.no_looser);
+    furthest = λ v in_range moves.
+        let less = s.may_not l ends (turned_on side v) (head_turned side v in_range) (subst (λ (x : ℤ). Moves side p c x l) (sym (turned_back side v)) moves) in
+        tight_turned side v reached (omega (arith, ints, less, near));
+    reached = elim (s.may l ends) [
+      | inl e ↦ inl (e ∙ sym here)
+      | inr moves ↦ inr (head_turned side reached s.head, moves)
+    ];
+  }

@@ -1,0 +1,40 @@
+-- The order of tightness and the moves of either side.
+use Rattle.std.specs.Prelude.{ℕ, ◌<◌, List, length, ℤ, pos, neg_ℤ, ◌≤ℤ◌}
+use Rattle.step_problem.specs.declared.heads.Side.{Side}
+use Rattle.step_problem.specs.declared.heads.Side.TheVariants.{Low, High}
+use Rattle.step_problem.specs.Entries.{Entries, entries_at}
+use Rattle.step_problem.specs.BothSides.{balance}
+use Rattle.step_problem.specs.declared.heads.Bound.{Bound}
+use Rattle.step_problem.specs.Sides.{IsRelaxed}
+use Rattle.cell_relax.specs.Words.{heads_on}
+
+-- the head y is as tight as x: lower heads rise, upper heads sink
+abbrev pub IsAsTight : Side → ℤ → ℤ → Type 0
+IsAsTight Low x y = x ≤ℤ y
+IsAsTight High x y = y ≤ℤ x
+
+-- at this balance a cell may go further: not negative on the low side, not positive on the high side
+abbrev pub LetsMove : Side → ℤ → Type 0
+LetsMove Low b = pos 0 ≤ℤ b
+LetsMove High b = b ≤ℤ pos 0
+
+-- cell c may go as far as v
+abbrev pub Moves : Side → List Entries → ℕ → ℤ → (ℕ → ℤ) → Type 0
+Moves side p c v h = LetsMove side (balance side (entries_at p c) v h)
+
+-- r is the raise value of cell c on the low side, its sink value on the high side
+abbrev pub IsRelaxedOn : Side → List Entries → (ℕ → ℤ) → ℕ → ℤ → Type 0
+IsRelaxedOn side p l c r = IsRelaxed (IsAsTight side) (Moves side p) (length p) l c r
+
+-- a head, turned on the high side, so that each side moves upwards
+abbrev pub turned_on : Side → ℤ → ℤ
+turned_on Low v = v
+turned_on High v = neg_ℤ v
+
+-- no head of the new bounds is less tight than the old one
+abbrev pub AreNoLooser : List Entries → List Bound → List Bound → Type 0
+AreNoLooser p old new = (side : Side) (c : ℕ) → c < length p → IsAsTight side (heads_on side old c) (heads_on side new c)
+
+abbrev pub other : Side → Side
+other Low = High
+other High = Low
