@@ -5,5 +5,6 @@ pub mod Leads
 pub mod Numbering
 mod LastGiven
 mod NeighbourFaces
+pub mod Growth
 mod GivenTables
 mod StepLists
