@@ -5,6 +5,7 @@ use Rattle.std.specs.Fmt.{decimal, signed_decimal}
 use Rattle.std.proofs.lemmas.List.{length-append}
 use Rattle.std.proofs.lemmas.List.Elements.{All-nil, All-cons, All-append, All-weaker}
 use Rattle.std.proofs.lemmas.Bool.Decides.{nat_tests}
+use Rattle.std.proofs.lemmas.Bool.{and_parts}
 use Rattle.decimal_input.specs.declared.dec.Dec.{Dec}
 use Rattle.decimal_input.specs.Grammar.{is_digit}
 use Rattle.outside.specs.Words.{is_separator}
@@ -31,31 +32,27 @@ is_plain_word w = nat_lt 0 (length w) && list_all is_word_byte w
 abbrev pub is_plain_line : Line → Bool
 is_plain_line line = nat_lt 0 (length line) && list_all is_plain_word line
 
-both : (a b : Bool) → (a && b) ≡ true → (a ≡ true) × (b ≡ true)
-both true b h = (refl, h)
-both false b h = absurd (cc)
-
 all_pass : {X : Type 0} (p : X → Bool) (P : X → Type 0) → ((x : X) → p x ≡ true → P x) → (xs : List X) → list_all p xs ≡ true → All P xs
 all_pass p P f [] h = All-nil P
-all_pass p P f (x ∷ xs) h = let k = both (p x) (list_all p xs) h in All-cons P x xs (f x k.0) (all_pass p P f xs k.1)
+all_pass p P f (x ∷ xs) h = let k = and_parts (p x) (list_all p xs) h in All-cons P x xs (f x k.0) (all_pass p P f xs k.1)
 
 byte_by_test : (b : ℕ) → is_word_byte b ≡ true → IsWordByte b
 byte_by_test b h =
-    let first = both (nat_le 33 b) _ h in
-    let second = both (nat_le b 126) _ first.1 in
-    let third = both (not (b == 44)) _ second.1 in
+    let first = and_parts (nat_le 33 b) _ h in
+    let second = and_parts (nat_le b 126) _ first.1 in
+    let third = and_parts (not (b == 44)) _ second.1 in
     let no_comma : b ≡ 44 → ⊥ = λ e. grind (arith, nat_tests, third.0) in
     let no_star : b ≡ 42 → ⊥ = λ e. grind (arith, nat_tests, third.1) in
     record { printable = (grind (arith, nat_tests, first.0), grind (arith, nat_tests, second.0)); no_comma = no_comma; no_star = no_star }
 
 pub word_by_test : (w : List ℕ) → is_plain_word w ≡ true → IsWord w
 word_by_test w h =
-    let k = both (nat_lt 0 (length w)) (list_all is_word_byte w) h in
+    let k = and_parts (nat_lt 0 (length w)) (list_all is_word_byte w) h in
     record { some = grind (arith, nat_tests, k.0); bytes = all_pass is_word_byte (λ b. IsWordByte b) byte_by_test w k.1 }
 
 pub line_by_test : (line : Line) → is_plain_line line ≡ true → IsLine line
 line_by_test line h =
-    let k = both (nat_lt 0 (length line)) (list_all is_plain_word line) h in
+    let k = and_parts (nat_lt 0 (length line)) (list_all is_plain_word line) h in
     record { some = grind (arith, nat_tests, k.0); words = all_pass is_plain_word (λ w. IsWord w) word_by_test line k.1 }
 
 digit_byte : (b : ℕ) → is_digit b ≡ true → IsWordByte b

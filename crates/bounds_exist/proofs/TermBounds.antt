@@ -1,5 +1,5 @@
 -- Each formula of decimals whose divisors are above 0 has both bounds.
-use Rattle.std.proofs.Common.{ℕ, zero, suc, ◌+◌, ◌*◌, ◌≤◌, ◌<◌, ◌^◌, inl, inr, refl, sym, subst, arith}
+use Rattle.std.proofs.Common.{ℕ, zero, suc, ◌+◌, ◌*◌, ◌≤◌, ◌<◌, ◌^◌, inl, inr, refl, sym, subst, arith, mul-pos}
 use Rattle.decimal_input.specs.Decimals.{up}
 use Rattle.decimal_input.specs.Ratios.{Ratio, den, plus, times, over, AtMost}
 use Rattle.decimal_input.proofs.Orders.{Same-back, num_plus, num_times, num_over}
@@ -13,14 +13,11 @@ use Rattle.conductance_bounds.proofs.Enclosing.{positive_value}
 use Rattle.bounds_exist.specs.Bounded.{HasPositiveBounds, IsBounded}
 use Rattle.bounds_exist.proofs.Roundings.{down_of, up_of, down_positive}
 
-positive_product : (a b : ℕ) → 0 < a → 0 < b → 0 < a * b
-positive_product a b h k = grind arith
-
 more_positive : (f g : Ratio) → AtMost f g → 0 < f.num → 0 < g.num
 more_positive f g le some = step f.num (den g) g.num (den f) some (omega arith) le.cross
   where
     step : (a y b x : ℕ) → 0 < a → 0 < y → a * y ≤ b * x → 0 < b
-    step a y zero x h k le = absurd (omega (arith, positive_product a y h k, le))
+    step a y zero x h k le = absurd (omega (arith, mul-pos h k, le))
     step a y (suc b) x h k le = omega arith
 
 decimal_positive : (r : Sd) → 0 < (value r).num → 0 < r.m
@@ -41,19 +38,19 @@ plus_positive : (a b : Sd) → (0 < a.m) → 0 < (plus (value a) (value b)).num
 plus_positive a b h = rw num_plus (first (value a).num (den (value b)) (value b).num (den (value a)) (positive_value a h) (omega arith))
   where
     first : (x y z w : ℕ) → 0 < x → 0 < y → 0 < x * y + z * w
-    first x y z w h k = omega (arith, positive_product x y h k)
+    first x y z w h k = omega (arith, mul-pos h k)
 
 plus_positive_too : (a b : Sd) → (0 < b.m) → 0 < (plus (value a) (value b)).num
 plus_positive_too a b h = rw num_plus (second (value a).num (den (value b)) (value b).num (den (value a)) (positive_value b h) (omega arith))
   where
     second : (x y z w : ℕ) → 0 < z → 0 < w → 0 < x * y + z * w
-    second x y z w h k = omega (arith, positive_product z w h k)
+    second x y z w h k = omega (arith, mul-pos h k)
 
 times_positive : (a b : Sd) → 0 < a.m → 0 < b.m → 0 < (times (value a) (value b)).num
-times_positive a b h k = rw num_times (positive_product (value a).num (value b).num (positive_value a h) (positive_value b k))
+times_positive a b h k = rw num_times (mul-pos (positive_value a h) (positive_value b k))
 
 over_positive : (a b : Sd) → 0 < a.m → 0 < (over (value a) (value b)).num
-over_positive a b h = rw num_over (positive_product (value a).num (den (value b)) (positive_value a h) (omega arith))
+over_positive a b h = rw num_over (mul-pos (positive_value a h) (omega arith))
 
 bound_positive : (t : Term) → HasPositiveBounds t → (side : Side) (r : Sd) → IsBound t side r → 0 < r.m
 bound_positive (Number f) some side r is = decimal_positive r (more_positive f (value r) (Same-back is.1) some)

@@ -1,5 +1,5 @@
 -- The fractions of a step have a common denominator.
-use Rattle.std.proofs.Common.{◌≡◌, ℕ, suc, ◌*◌, ◌<◌, refl, ap, sym, ◌∙◌, ◌≤◌, arith, ℤ, pos, ◌*ℤ◌, List, [], ◌∷◌, All}
+use Rattle.std.proofs.Common.{◌≡◌, ℕ, suc, ◌*◌, ◌<◌, refl, ap, sym, ◌∙◌, ◌≤◌, arith, ℤ, pos, ◌*ℤ◌, List, [], ◌∷◌, All, mul-pos}
 use Rattle.std.proofs.lemmas.List.Elements.{All-nil, All-cons, All-weaker}
 use Rattle.std.proofs.Math.Nat.{mul-le-mul}
 use Rattle.decimal_input.specs.Ratios.{Ratio, den as ratio_den}
@@ -23,9 +23,6 @@ Goes-trans a b c (q, e) (r, f) = (q * r, f ∙ ap (λ (z : ℕ). z * r) e ∙ as
   where
     assoc : (a q r : ℕ) → a * q * r ≡ a * (q * r)
     assoc a q r = omega arith
-
-pub some_product : (a b : ℕ) → 0 < a → 0 < b → 0 < a * b
-some_product a b h k = let p : 1 * 1 ≤ a * b = mul-le-mul h k in omega arith
 
 -- a conductance and a head over multiples of a denominator that theirs goes into
 pub share_over : (d a : ℕ) (r : Ratio) → Goes (ratio_den r) d → (n : ℕ) × IsShare (d * a) r n
@@ -98,20 +95,20 @@ common_of : {X : Type 0} (f : X → ℕ) → ((x : X) → 0 < f x) → (xs : Lis
 common_of f some [] = (1, omega arith, All-nil (λ x. Goes (f x) 1))
 common_of f some (x ∷ xs) =
     let (d, some_d, all) = common_of f some xs in
-    (f x * d, some_product (f x) d (some x) some_d, All-cons (λ y. Goes (f y) (f x * d)) x xs (Goes-first (f x) d) (AllGo-more f d (f x * d) xs (Goes-second (f x) d) all))
+    (f x * d, mul-pos (some x) some_d, All-cons (λ y. Goes (f y) (f x * d)) x xs (Goes-first (f x) d) (AllGo-more f d (f x * d) xs (Goes-second (f x) d) all))
 
 some_two : (a b : ℕ) → 0 < suc a * suc b
-some_two a b = some_product (suc a) (suc b) (omega arith) (omega arith)
+some_two a b = mul-pos (omega arith) (omega arith)
 
 pub some_three : (a b c : ℕ) → 0 < suc a * (suc b * suc c)
-some_three a b c = some_product (suc a) (suc b * suc c) (omega arith) (some_two b c)
+some_three a b c = mul-pos (omega arith) (some_two b c)
 
 -- the product of six numbers
 abbrev six : ℕ → ℕ → ℕ → ℕ → ℕ → ℕ → ℕ
 six a b c d e f = a * (b * (c * (d * (e * f))))
 
 some_six : (a b c d e f : ℕ) → 0 < a → 0 < b → 0 < c → 0 < d → 0 < e → 0 < f → 0 < six a b c d e f
-some_six a b c d e f ha hb hc hd he hf = some_product a _ ha (some_product b _ hb (some_product c _ hc (some_product d _ hd (some_product e f he hf))))
+some_six a b c d e f ha hb hc hd he hf = mul-pos ha (mul-pos hb (mul-pos hc (mul-pos hd (mul-pos he hf))))
 
 go_six : (a b c d e f : ℕ) → Goes a (six a b c d e f) × Goes b (six a b c d e f) × Goes c (six a b c d e f) × Goes d (six a b c d e f) × Goes e (six a b c d e f) × Goes f (six a b c d e f)
 go_six a b c d e f = ((b * (c * (d * (e * f))), refl), (a * (c * (d * (e * f))), omega arith), (a * b * (d * (e * f)), omega arith), (a * b * c * (e * f), omega arith), (a * b * c * d * f, omega arith), (a * b * c * d * e, omega arith))
@@ -144,4 +141,4 @@ step_common [] = (1, omega arith, All-nil (IsCommon 1))
 step_common (c ∷ cs) =
     let (a, some_a, own) = cell_common c in
     let (b, some_b, others) = step_common cs in
-    (a * b, some_product a b some_a some_b, All-cons (IsCommon (a * b)) c cs (IsCommon-more a (a * b) c (Goes-first a b) own) (All-weaker (IsCommon b) (IsCommon (a * b)) (λ x k. IsCommon-more b (a * b) x (Goes-second a b) k) cs others))
+    (a * b, mul-pos some_a some_b, All-cons (IsCommon (a * b)) c cs (IsCommon-more a (a * b) c (Goes-first a b) own) (All-weaker (IsCommon b) (IsCommon (a * b)) (λ x k. IsCommon-more b (a * b) x (Goes-second a b) k) cs others))

@@ -1,5 +1,5 @@
 -- The comparison: from fractions to whole numbers and back.
-use Rattle.std.proofs.Common.{◌≡◌, ℕ, suc, ◌-◌, ◌*◌, ◌^◌, ◌<◌, ◌≤◌, sym, ap, ◌∙◌, subst, arith, ℤ, pos, ◌*ℤ◌, ◌≤ℤ◌, List, length}
+use Rattle.std.proofs.Common.{◌≡◌, ℕ, suc, ◌-◌, ◌*◌, ◌^◌, ◌<◌, ◌≤◌, sym, ap, ◌∙◌, subst, arith, ℤ, pos, ◌*ℤ◌, ◌≤ℤ◌, List, length, mul-pos}
 use Rattle.std.specs.List.{AllZip}
 use Rattle.std.proofs.Math.Nat.{mul-le-mul}
 use Rattle.decimal_input.specs.Fractions.{IsOver}
@@ -13,7 +13,7 @@ use Rattle.cell_balance.specs.Laws.{Compares}
 use Rattle.cell_balance.proofs.Zips.{AllZip-at, AllZip-length}
 use Rattle.cell_balance.proofs.Scaling.{zero_over}
 use Rattle.cell_balance.proofs.Over.{CellOver, balance_over}
-use Rattle.cell_balance.proofs.Denominators.{step_common, some_product}
+use Rattle.cell_balance.proofs.Denominators.{step_common}
 use Rattle.cell_balance.proofs.Wholes.{whole_step}
 use Rattle.cell_balance.proofs.Enclosed.{step_within}
 use Rattle.cell_balance.proofs.Mutual.{mutual_whole}
@@ -48,8 +48,8 @@ compares p b l u s e d X given =
     let both = mutual_whole (n * 10 ^ s) (n * d * 10 ^ 9) e w (linked s p e given.problem given.encloses) over in
     let solved = whole_solves (n * 10 ^ s) (n * d * 10 ^ 9) e w d X (heads n) over given.solves (λ c. heads_over n c) in
     record {
-      low = λ c i. down n some_n _ _ (compare_low n (n * d) some_n (some_product n d some_n given.some) p w (heads n) within both solved given.held l (head_at b.floor) given.certificate.low (λ k j. up n _ _ (given.barrier.low k j)) c i);
-      high = λ c i. down' n some_n _ _ (compare_high n (n * d) some_n (some_product n d some_n given.some) p w (heads n) within both solved given.held u (head_at b.ceiling) given.certificate.high (λ k j. up' n _ _ (given.barrier.high k j)) c i);
+      low = λ c i. down n some_n _ _ (compare_low n (n * d) some_n (mul-pos some_n given.some) p w (heads n) within both solved given.held l (head_at b.floor) given.certificate.low (λ k j. up n _ _ (given.barrier.low k j)) c i);
+      high = λ c i. down' n some_n _ _ (compare_high n (n * d) some_n (mul-pos some_n given.some) p w (heads n) within both solved given.held u (head_at b.ceiling) given.certificate.high (λ k j. up' n _ _ (given.barrier.high k j)) c i);
     }
   where
     heads : ℕ → ℕ → ℤ

@@ -1,5 +1,5 @@
 -- Sums of enclosed fractions, and their parts, are enclosed.
-use Rattle.std.proofs.Common.{◌≡◌, ℕ, zero, suc, ◌+◌, ◌*◌, ◌^◌, ◌<◌, refl, arith, List, [], ◌∷◌, Bool, true, false, map, ℤ, pos, neg_ℤ, ◌+ℤ◌, ◌*ℤ◌, ◌≤ℤ◌}
+use Rattle.std.proofs.Common.{◌≡◌, ℕ, zero, suc, ◌+◌, ◌*◌, ◌^◌, ◌<◌, refl, arith, List, [], ◌∷◌, Bool, true, false, map, ℤ, pos, neg_ℤ, ◌+ℤ◌, ◌*ℤ◌, ◌≤ℤ◌, mul-pos}
 use Rattle.std.specs.List.{filter, AllZip}
 use Rattle.std.specs.Int.{int_max}
 use Rattle.std.proofs.lemmas.Int.{ints}
@@ -16,8 +16,10 @@ use Rattle.cell_balance.proofs.Products.{max_above, max_below}
 use Rattle.cell_balance.proofs.Scaling.{IsOver-plus, IsOver-greater, IsOver-negated, IsOver-none}
 use Rattle.cell_balance.proofs.Enclosed.{between_over}
 use Rattle.cell_balance.proofs.EntryScaled.{enclosed_over}
-use Rattle.cell_balance.proofs.Denominators.{Goes, fraction_over, some_product}
+use Rattle.cell_balance.proofs.Denominators.{Goes, fraction_over}
 use Rattle.decimal_input.proofs.Signs.{turned}
+use Rattle.decimal_input.proofs.Integers.{le-add}
+use Rattle.decimal_input.proofs.Enclosing.{negated_enclosed}
 
 first : (a b : ℕ) → Goes a (a * b)
 first a b = (b, refl)
@@ -28,9 +30,6 @@ second a b = (a, omega arith)
 same : (a : ℕ) → Goes a a
 same a = (1, omega arith)
 
-added : (a b c d : ℤ) → a ≤ℤ c → b ≤ℤ d → (a +ℤ b) ≤ℤ (c +ℤ d)
-added a b c d h k = omega (arith, ints)
-
 pub plus_encloses : (a b c d : ℤ) (k : ℕ) (f g : Fraction) → EnclosesSigned a b k f → EnclosesSigned c d k g → EnclosesSigned (a +ℤ c) (b +ℤ d) k (plus f g)
 plus_encloses a b c d k f g p q =
     let n = den f * den g in
@@ -38,8 +37,8 @@ plus_encloses a b c d k f g p q =
     let (z, over_g) = fraction_over n (10 ^ k) g (second (den f) (den g)) in
     let in_f = between_over a b k n f y p over_f in
     let in_g = between_over c d k n g z q over_g in
-    enclosed_over (a +ℤ c) (b +ℤ d) k n (plus f g) (y +ℤ z) (some_product (den f) (den g) (omega arith) (omega arith)) (IsOver-plus (n * 10 ^ k) f g y z over_f over_g)
-    (rw add_mul (added _ _ _ _ in_f.lower in_g.lower)) (rw add_mul (added _ _ _ _ in_f.upper in_g.upper))
+    enclosed_over (a +ℤ c) (b +ℤ d) k n (plus f g) (y +ℤ z) (mul-pos (omega arith) (omega arith)) (IsOver-plus (n * 10 ^ k) f g y z over_f over_g)
+    (rw add_mul (le-add _ _ _ _ in_f.lower in_g.lower)) (rw add_mul (le-add _ _ _ _ in_f.upper in_g.upper))
 
 nothing_less : (n : ℕ) → (pos 0 *ℤ pos n) ≤ℤ pos 0
 nothing_less n = omega (arith, ints)
@@ -58,20 +57,12 @@ greater_encloses a b k f p =
     enclosed_over _ _ k n (greater f (whole (pos 0))) (int_max z (pos 0)) (omega arith) (IsOver-greater (n * 10 ^ k) f (whole (pos 0)) z (pos 0) over (IsOver-none (n * 10 ^ k)))
     (max_below n a (pos 0) z (pos 0) inside.lower (nothing_less n)) (max_above n b (pos 0) z (pos 0) inside.upper (nothing_more n))
 
-pub negated_encloses : (a b : ℤ) (k : ℕ) (f : Fraction) → EnclosesSigned a b k f → EnclosesSigned (neg_ℤ b) (neg_ℤ a) k (negated f)
-negated_encloses a b k f p =
-    let n = den f in
-    let (z, over) = fraction_over n (10 ^ k) f (same (den f)) in
-    let inside = between_over a b k n f z p over in
-    enclosed_over _ _ k n (negated f) (neg_ℤ z) (omega arith) (IsOver-negated (n * 10 ^ k) f z over)
-    (rw neg_mul (turned _ _ inside.upper)) (rw neg_mul (turned _ _ inside.lower))
-
 -- what of an enclosed flow goes in is its positive part, and what goes out that of the negated flow
 pub in_encloses : (a b : ℤ) (k : ℕ) (f : Fraction) → EnclosesSigned a b k f → EnclosesSigned (int_max a (pos 0)) (int_max b (pos 0)) k (greater f (whole (pos 0)))
 in_encloses = greater_encloses
 
 pub out_encloses : (a b : ℤ) (k : ℕ) (f : Fraction) → EnclosesSigned a b k f → EnclosesSigned (int_max (neg_ℤ b) (pos 0)) (int_max (neg_ℤ a) (pos 0)) k (greater (negated f) (whole (pos 0)))
-out_encloses a b k f h = greater_encloses (neg_ℤ b) (neg_ℤ a) k (negated f) (negated_encloses a b k f h)
+out_encloses a b k f h = greater_encloses (neg_ℤ b) (neg_ℤ a) k (negated f) (negated_enclosed a b k f h)
 
 -- over lists that are related place by place
 pub total_encloses : {X Y : Type 0} (R : X → Y → Type 0) (lo hi : X → ℤ) (k : ℕ) (f : Y → Fraction) → ((x : X) (y : Y) → R x y → EnclosesSigned (lo x) (hi x) k (f y)) → (xs : List X) (ys : List Y) → AllZip R xs ys → EnclosesSigned (total lo xs) (total hi xs) k (fraction_total f ys)

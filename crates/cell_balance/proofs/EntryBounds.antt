@@ -1,5 +1,5 @@
 -- The bounds of single flows enclose them, from their whole numbers.
-use Rattle.std.proofs.Common.{ℕ, suc, ◌+◌, ◌*◌, ◌^◌, ◌<◌, refl, sym, subst, arith, ℤ, pos, ◌+ℤ◌, ◌-ℤ◌, ◌*ℤ◌, ◌≤ℤ◌}
+use Rattle.std.proofs.Common.{ℕ, suc, ◌+◌, ◌*◌, ◌^◌, ◌<◌, refl, sym, subst, arith, ℤ, pos, ◌+ℤ◌, ◌-ℤ◌, ◌*ℤ◌, ◌≤ℤ◌, mul-pos}
 use Rattle.std.proofs.lemmas.Int.{ints}
 use Rattle.decimal_input.specs.Fractions.{Fraction, den, IsOver}
 use Rattle.decimal_input.specs.Enclosures.{EnclosesSigned, IsBetweenSigned}
@@ -23,13 +23,13 @@ use Rattle.cell_balance.proofs.HighEntries.{fixed_gap as fixed_gap_high}
 use Rattle.cell_balance.proofs.Enclosed.{between_share, between_over, flow_denominator, fixed_within, river_within, drain_within, evap_within}
 use Rattle.cell_balance.proofs.EntryScaled.{enclosed_over}
 use Rattle.cell_balance.proofs.EntryFlows.{difference_over}
-use Rattle.cell_balance.proofs.Denominators.{Goes, fraction_over, share_over, left_goes, right_goes, link_den, fixed_den, river_den, drain_den, evap_den, some_three, some_product}
+use Rattle.cell_balance.proofs.Denominators.{Goes, fraction_over, share_over, left_goes, right_goes, link_den, fixed_den, river_den, drain_den, evap_den, some_three}
 use Rattle.cell_balance.proofs.Over.{fixed_over, river_over, drain_over, evap_over}
 use Rattle.cell_balance.proofs.Wholes.{fixed, river, drain, evap}
 
 -- an entry's flow in whole numbers over d and d, with its head
 enclosed : (s d : ℕ) (f : Fraction) (z lo hi : ℤ) → 0 < d → IsOver (d * 10 ^ s * (d * 10 ^ 9)) f z → (lo *ℤ pos (d * d)) ≤ℤ z → z ≤ℤ (hi *ℤ pos (d * d)) → EnclosesSigned lo hi (s + 9) f
-enclosed s d f z lo hi some over low high = enclosed_over lo hi (s + 9) (d * d) f z (some_product d d some some) (subst (λ (k : ℕ). IsOver k f z) (flow_denominator s d d) over) low high
+enclosed s d f z lo hi some over low high = enclosed_over lo hi (s + 9) (d * d) f z (mul-pos some some) (subst (λ (k : ℕ). IsOver k f z) (flow_denominator s d d) over) low high
 
 less_slack : (a b c : ℤ) → (a +ℤ b) ≤ℤ c → pos 0 ≤ℤ b → a ≤ℤ c
 less_slack a b c h k = omega (arith, ints)
@@ -91,13 +91,13 @@ second : (a b : ℕ) → Goes b (a * b)
 second a b = (a, omega arith)
 
 some_two : (a b : ℕ) → 0 < suc a * suc b
-some_two a b = some_product (suc a) (suc b) (omega arith) (omega arith)
+some_two a b = mul-pos (omega arith) (omega arith)
 
 pub bounds_hold : BoundsHold
 bounds_hold s v l u own = record {
   links = λ p x h L U e other. link_holds s v l u own (den v * (den (h x.cell) * link_den x)) (some_three v.less (h x.cell).less x.conductance.less) (first (den v) _) p x h L U (left_goes (den (h x.cell)) (link_den x) _ (second (den v) _)) (right_goes (den (h x.cell)) (link_den x) _ (second (den v) _)) e other;
-  fixed = λ p x e. fixed_holds s v l u own (den v * fixed_den x) (some_product (den v) (fixed_den x) (omega arith) (some_two x.conductance.less x.head.less)) (first (den v) _) p x (second (den v) _) e;
-  rivers = λ p x e. river_holds s v l u own (den v * river_den x) (some_product (den v) (river_den x) (omega arith) (some_three x.conductance.less x.stage.less x.bottom.less)) (first (den v) _) p x (second (den v) _) e;
-  drains = λ p x e. drain_holds s v l u own (den v * drain_den x) (some_product (den v) (drain_den x) (omega arith) (some_two x.conductance.less x.elevation.less)) (first (den v) _) p x (second (den v) _) e;
-  evaps = λ p x e. evap_holds s v l u own (den v * evap_den x) (some_product (den v) (evap_den x) (omega arith) (some_three x.conductance.less x.surface.less x.extinction.less)) (first (den v) _) p x (second (den v) _) e;
+  fixed = λ p x e. fixed_holds s v l u own (den v * fixed_den x) (mul-pos (omega arith) (some_two x.conductance.less x.head.less)) (first (den v) _) p x (second (den v) _) e;
+  rivers = λ p x e. river_holds s v l u own (den v * river_den x) (mul-pos (omega arith) (some_three x.conductance.less x.stage.less x.bottom.less)) (first (den v) _) p x (second (den v) _) e;
+  drains = λ p x e. drain_holds s v l u own (den v * drain_den x) (mul-pos (omega arith) (some_two x.conductance.less x.elevation.less)) (first (den v) _) p x (second (den v) _) e;
+  evaps = λ p x e. evap_holds s v l u own (den v * evap_den x) (mul-pos (omega arith) (some_three x.conductance.less x.surface.less x.extinction.less)) (first (den v) _) p x (second (den v) _) e;
 }

@@ -1,5 +1,5 @@
 -- What the manual says of single flows, from their whole numbers.
-use Rattle.std.proofs.Common.{◌≡◌, ℕ, zero, suc, ◌*◌, ◌<◌, ◌≤◌, refl, sym, ap, ◌∙◌, subst, arith, ℤ, pos, negsuc, neg_ℤ, ◌-ℤ◌, ◌*ℤ◌, ◌≤ℤ◌, ◌<ℤ◌}
+use Rattle.std.proofs.Common.{◌≡◌, ℕ, zero, suc, ◌*◌, ◌<◌, ◌≤◌, refl, sym, ap, ◌∙◌, subst, arith, ℤ, pos, negsuc, neg_ℤ, ◌-ℤ◌, ◌*ℤ◌, ◌≤ℤ◌, ◌<ℤ◌, mul-pos}
 use Rattle.std.specs.Int.{int_max, int_min}
 use Rattle.std.proofs.Math.Nat.{mul-le-mul_right, mul-le-mul}
 use Rattle.std.proofs.Math.IntN.{*ℤ-zero}
@@ -16,7 +16,7 @@ use Rattle.cell_balance.specs.EntryLaws.{over_difference, FixedLaws, RiverLaws, 
 use Rattle.cell_balance.proofs.Scaling.{IsOver-times, IsOver-minus, IsOver-negated, IsOver-none, IsOver-signed, IsOver-greater, over_zero}
 use Rattle.cell_balance.proofs.Order.{over_le, le_over}
 use Rattle.cell_balance.proofs.EntryScaled.{same_over, negative_over, negative_below, positive_above, below_over}
-use Rattle.cell_balance.proofs.Denominators.{Goes, fraction_over, fixed_den, river_den, drain_den, evap_den, some_product}
+use Rattle.cell_balance.proofs.Denominators.{Goes, fraction_over, fixed_den, river_den, drain_den, evap_den}
 use Rattle.cell_balance.proofs.Over.{FixedOver, RiverOver, DrainOver, EvapOver, fixed_over, river_over, drain_over, evap_over}
 use Rattle.cell_balance.proofs.Wholes.{fixed, river, drain, evap}
 use Rattle.cell_balance.proofs.Dry.{evap_within_full}
@@ -41,7 +41,7 @@ difference_over k m c r f g a b s p q = IsOver-times k m (signed r) (minus f g) 
 
 module _ (k m : ℕ) (some_k : 0 < k) (some_m : 0 < m) (v : Fraction) (y : ℤ) (own : IsOver m v y) where
   some : 0 < k * m
-  some = some_product k m some_k some_m
+  some = mul-pos some_k some_m
 
   fixed_laws : (x : ExactFixed) (w : WholeFixed) → FixedOver k m x w → FixedLaws v x
   fixed_laws x w r = record {
@@ -109,25 +109,25 @@ pub flows_are_right : FlowsAreRight
 flows_are_right = record {
   fixed = λ v x.
       let d = den v * fixed_den x in
-      let some = some_product (den v) (fixed_den x) (omega arith) (some_product (ratio_den x.conductance) (den x.head) (omega arith) (omega arith)) in
+      let some : 0 < d = mul-pos (omega arith) (mul-pos (omega arith) (omega arith)) in
       let (w, r) = fixed d 1 1 x (second (den v) (fixed_den x)) in
       let (y, own) = fraction_over d 1 v (fixed_den x, refl) in
       fixed_laws (d * 1) (d * 1) (omega (arith, some)) (omega (arith, some)) v y own x w r;
   rivers = λ v x.
       let d = den v * river_den x in
-      let some = some_product (den v) (river_den x) (omega arith) (some_three x.conductance.less x.stage.less x.bottom.less) in
+      let some : 0 < d = mul-pos (omega arith) (some_three x.conductance.less x.stage.less x.bottom.less) in
       let (w, r) = river d 1 1 x (second (den v) (river_den x)) in
       let (y, own) = fraction_over d 1 v (river_den x, refl) in
       river_laws (d * 1) (d * 1) (omega (arith, some)) (omega (arith, some)) v y own x w r;
   drains = λ v x.
       let d = den v * drain_den x in
-      let some = some_product (den v) (drain_den x) (omega arith) (some_product (ratio_den x.conductance) (den x.elevation) (omega arith) (omega arith)) in
+      let some : 0 < d = mul-pos (omega arith) (mul-pos (omega arith) (omega arith)) in
       let (w, r) = drain d 1 1 x (second (den v) (drain_den x)) in
       let (y, own) = fraction_over d 1 v (drain_den x, refl) in
       drain_laws (d * 1) (d * 1) (omega (arith, some)) (omega (arith, some)) v y own x w r;
   evaps = λ v x.
       let d = den v * evap_den x in
-      let some = some_product (den v) (evap_den x) (omega arith) (some_three x.conductance.less x.surface.less x.extinction.less) in
+      let some : 0 < d = mul-pos (omega arith) (some_three x.conductance.less x.surface.less x.extinction.less) in
       let (w, r) = evap d 1 1 x (second (den v) (evap_den x)) in
       let (y, own) = fraction_over d 1 v (evap_den x, refl) in
       evap_laws (d * 1) (d * 1) (omega (arith, some)) (omega (arith, some)) v y own x w r;
@@ -137,4 +137,4 @@ flows_are_right = record {
     second a b = (a, omega arith)
 
     some_three : (a b c : ℕ) → 0 < suc a * (suc b * suc c)
-    some_three a b c = some_product (suc a) (suc b * suc c) (omega arith) (some_product (suc b) (suc c) (omega arith) (omega arith))
+    some_three a b c = mul-pos (omega arith) (mul-pos (omega arith) (omega arith))

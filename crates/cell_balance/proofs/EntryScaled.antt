@@ -5,20 +5,15 @@ use Rattle.std.proofs.Math.IntN.{zero-*ℤ}
 use Rattle.decimal_input.specs.Fractions.{Fraction, den, Same, IsOver}
 use Rattle.decimal_input.specs.Enclosures.{EnclosesSigned}
 use Rattle.decimal_input.proofs.Signs.{cancel_right, mul_mono_right, swap}
+use Rattle.decimal_input.proofs.Integers.{le-antisym, le-of}
 use Rattle.step_problem.proofs.Ring.{mul_assoc}
 use Rattle.cell_balance.specs.EntryLaws.{IsBelow}
 use Rattle.cell_balance.proofs.Order.{le_over}
 
-le_both : (a b : ℤ) → a ≤ℤ b → b ≤ℤ a → a ≡ b
-le_both a b h k = omega (arith, ints)
-
-le_of_same : (a b : ℤ) → a ≡ b → a ≤ℤ b
-le_of_same a b e = omega (arith, ints)
-
 -- equal whole numbers over one denominator are one fraction
 pub same_over : (d : ℕ) (f g : Fraction) (a b : ℤ) → 0 < d → IsOver d f a → IsOver d g b → a ≡ b → Same f g
 same_over d f g a b some p q e = record {
-  same = le_both _ _ (le_over d f g a b some p q (le_of_same a b e)).at_most (le_over d g f b a some q p (le_of_same b a (sym e))).at_most;
+  same = le-antisym _ _ (le_over d f g a b some p q (le-of a b e)).at_most (le_over d g f b a some q p (le-of b a (sym e))).at_most;
 }
 
 -- the sign of a fraction

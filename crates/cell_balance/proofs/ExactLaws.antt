@@ -1,5 +1,5 @@
 -- The laws of exact balances, from their whole numbers.
-use Rattle.std.proofs.Common.{◌≡◌, ℕ, zero, suc, ◌*◌, ◌<◌, ◌⊎◌, inl, inr, refl, ap, subst, arith, ℤ, pos, ◌+ℤ◌, ◌-ℤ◌, ◌*ℤ◌, ◌≤ℤ◌, List, length, All, Bool, true}
+use Rattle.std.proofs.Common.{◌≡◌, ℕ, zero, suc, ◌*◌, ◌<◌, ◌⊎◌, inl, inr, refl, ap, subst, arith, ℤ, pos, ◌+ℤ◌, ◌-ℤ◌, ◌*ℤ◌, ◌≤ℤ◌, List, length, All, Bool, true, mul-pos}
 use Rattle.std.specs.List.{AllZip}
 use Rattle.std.proofs.lemmas.Bool.{cases_eq}
 use Rattle.std.proofs.lemmas.Int.{ints}
@@ -16,7 +16,7 @@ use Rattle.cell_balance.proofs.Zips.{AllZip-at, AllZip-length, All-zip}
 use Rattle.cell_balance.proofs.Scaling.{IsOver-plus, IsOver-times, IsOver-minus, IsOver-none, IsOver-signed, IsOver-greater, IsOver-total, over_zero}
 use Rattle.cell_balance.proofs.Order.{over_le, le_over, IsOver-inside}
 use Rattle.cell_balance.proofs.Over.{FlowOver, LinkOver, FixedOver, RiverOver, DrainOver, EvapOver, CellOver, link_over, balance_over}
-use Rattle.cell_balance.proofs.Denominators.{cell_common, step_common, some_product}
+use Rattle.cell_balance.proofs.Denominators.{cell_common, step_common}
 use Rattle.cell_balance.proofs.Wholes.{whole_cell, whole_step}
 use Rattle.cell_balance.proofs.Mutual.{mutual_whole}
 use Rattle.cell_balance.proofs.Cancel.{closed_cancel}
@@ -39,7 +39,7 @@ balance_falls c d v w X some le =
     let (n, some_n, common) = cell_common c in
     let (u, over) = whole_cell n 1 d c common in
     let heads = λ (k : ℕ). heads_over n d some (X k) in
-    le_over (n * 1 * (n * d)) _ _ _ _ (some_product (n * 1) (n * d) (omega arith) (some_product n d some_n some))
+    le_over (n * 1 * (n * d)) _ _ _ _ (mul-pos (omega arith) (mul-pos some_n some))
     (balance_over (n * 1) (n * d) (share d w) (w *ℤ pos n) (heads_over n d some w) (λ k. share d (X k)) (λ k. X k *ℤ pos n) heads c u over)
     (balance_over (n * 1) (n * d) (share d v) (v *ℤ pos n) (heads_over n d some v) (λ k. share d (X k)) (λ k. X k *ℤ pos n) heads c u over)
     (whole_falls u (v *ℤ pos n) (w *ℤ pos n) (λ k. X k *ℤ pos n) (mul_mono_right n v w le))
@@ -48,7 +48,7 @@ pub balance_rises : BalanceRises
 balance_rises c d v X Z some each =
     let (n, some_n, common) = cell_common c in
     let (u, over) = whole_cell n 1 d c common in
-    le_over (n * 1 * (n * d)) _ _ _ _ (some_product (n * 1) (n * d) (omega arith) (some_product n d some_n some))
+    le_over (n * 1 * (n * d)) _ _ _ _ (mul-pos (omega arith) (mul-pos some_n some))
     (balance_over (n * 1) (n * d) (share d v) (v *ℤ pos n) (heads_over n d some v) (λ k. share d (X k)) (λ k. X k *ℤ pos n) (λ k. heads_over n d some (X k)) c u over)
     (balance_over (n * 1) (n * d) (share d v) (v *ℤ pos n) (heads_over n d some v) (λ k. share d (Z k)) (λ k. Z k *ℤ pos n) (λ k. heads_over n d some (Z k)) c u over)
     (whole_rises u (v *ℤ pos n) (λ k. X k *ℤ pos n) (λ k. Z k *ℤ pos n)
@@ -110,7 +110,7 @@ links_cancel e inside d X linked closed some =
     let none = closed_cancel w inside Y both (closed_whole (n * 1) (n * d) e w over inside closed) in
     let sum = IsOver-inside (n * 1 * (n * d)) (length e) inside (λ c. fraction_total (link_flow (λ k. share d (X k)) (share d (X c))) (cell_at e c).links) (λ c. total (whole_link Y (Y c)) (whole_at w c).links)
     (λ c i. IsOver-total (LinkOver (n * 1) (n * d)) (n * 1 * (n * d)) _ _ (link_over (n * 1) (n * d) (share d (X c)) (Y c) (heads c) (λ k. share d (X k)) Y heads) (cell_at e c).links (whole_at w c).links (cell_over (n * 1) (n * d) e w over c i).links) in
-    over_zero (n * 1 * (n * d)) _ (some_product (n * 1) (n * d) (omega arith) (some_product n d some_n some))
+    over_zero (n * 1 * (n * d)) _ (mul-pos (omega arith) (mul-pos some_n some))
     (subst (λ (z : ℤ). IsOver (n * 1 * (n * d)) (total_inside (length e) inside (λ c. fraction_total (link_flow (λ k. share d (X k)) (share d (X c))) (cell_at e c).links)) z) (rw (same_length (n * 1) (n * d) e w over) none) sum)
 
 pub exact_dry_law : DryLaw
@@ -122,7 +122,7 @@ exact_dry_law e inside d X linked closed some below =
     let both = mutual_whole (n * 1) (n * d) e w linked over in
     let same = same_length (n * 1) (n * d) e w over in
     let law = dry_law w Y both inside Y (λ c i t. let here : c < length e = omega (arith, same, i) in (least (Y c), dry_over (n * 1) (n * d) e w over (share d (X c)) (Y c) (cell_at e c) (whole_at w c) (heads c) (cell_over (n * 1) (n * d) e w over c here) (below c here t))) (closed_whole (n * 1) (n * d) e w over inside closed) in
-    le_over (n * 1 * (n * d)) _ _ _ _ (some_product (n * 1) (n * d) (omega arith) (some_product n d some_n some))
+    le_over (n * 1 * (n * d)) _ _ _ _ (mul-pos (omega arith) (mul-pos some_n some))
     (IsOver-inside (n * 1 * (n * d)) (length e) inside (λ c. deep_flow (cell_at e c)) (λ c. whole_deep (whole_at w c)) (λ c i. deep_over (n * 1) (n * d) e w over (cell_at e c) (whole_at w c) (cell_over (n * 1) (n * d) e w over c i)))
     (IsOver-inside (n * 1 * (n * d)) (length e) inside (λ c. balance (cell_at e c) (share d (X c)) (λ k. share d (X k))) (λ c. whole_balance (whole_at w c) (Y c) Y) (λ c i. balance_over (n * 1) (n * d) (share d (X c)) (Y c) (heads c) (λ k. share d (X k)) Y heads (cell_at e c) (whole_at w c) (cell_over (n * 1) (n * d) e w over c i)))
     (rw same law)

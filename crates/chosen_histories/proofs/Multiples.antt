@@ -1,10 +1,9 @@
 -- A history of chosen models stays one over each multiple of its denominator; so choices that can be solved in turn
 -- have a history over one denominator.
-use Rattle.std.proofs.Common.{◌≡◌, ◌*◌, ◌-◌, ◌<◌, ◌∙◌, ◌*ℤ◌, [], ◌∷◌, ℕ, suc, refl, sym, ap, subst, arith, ℤ, pos, List, map}
+use Rattle.std.proofs.Common.{◌≡◌, ◌*◌, ◌-◌, ◌<◌, ◌∙◌, ◌*ℤ◌, [], ◌∷◌, ℕ, suc, refl, sym, ap, subst, arith, ℤ, pos, List, map, mul_comm, mul-pos}
 use Rattle.decimal_input.specs.Fractions.{Fraction, Same}
 use Rattle.step_problem.proofs.Ring.{mul_assoc}
 use Rattle.cell_balance.specs.Solutions.{share}
-use Rattle.cell_balance.proofs.Denominators.{some_product}
 use Rattle.flow_equations.specs.Histories.{heads_of, SolvesAt}
 use Rattle.exact_histories.proofs.GridVectors.{HasVector}
 use Rattle.exact_histories.proofs.SameTimes.{solves_same}
@@ -14,14 +13,11 @@ use Rattle.chosen_histories.specs.Choices.{Choice, SolvesChoicesFrom}
 abbrev multiplied : ℕ → (ℕ → ℤ) → ℕ → ℤ
 multiplied k X c = X c *ℤ pos k
 
-commuted : (a b : ℕ) → a * b ≡ b * a
-commuted a b = omega arith
-
 turn : (x : ℤ) (d k : ℕ) → x *ℤ pos (d * k) ≡ (x *ℤ pos k) *ℤ pos d
-turn x d k = ap (λ (z : ℕ). x *ℤ pos z) (commuted d k) ∙ sym (mul_assoc x (pos k) (pos d))
+turn x d k = ap (λ (z : ℕ). x *ℤ pos z) (mul_comm d k) ∙ sym (mul_assoc x (pos k) (pos d))
 
 share_same : (d k : ℕ) (x : ℤ) → 0 < d → 0 < k → Same (share d x) (share (d * k) (x *ℤ pos k))
-share_same d k x some_d some_k = record { same = ap (λ (z : ℕ). x *ℤ pos z) (back (d * k) (some_product d k some_d some_k)) ∙ turn x d k ∙ ap (λ (z : ℕ). (x *ℤ pos k) *ℤ pos z) (sym (back d some_d)) }
+share_same d k x some_d some_k = record { same = ap (λ (z : ℕ). x *ℤ pos z) (back (d * k) (mul-pos some_d some_k)) ∙ turn x d k ∙ ap (λ (z : ℕ). (x *ℤ pos k) *ℤ pos z) (sym (back d some_d)) }
   where
     back : (d : ℕ) → 0 < d → suc (d - 1) ≡ d
     back d h = omega arith
@@ -32,7 +28,7 @@ multiples_solve [] before new same d k some_d some_k [] h = tt
 multiples_solve [] before new same d k some_d some_k (X ∷ Xs) h = absurd h
 multiples_solve (c ∷ cs) before new same d k some_d some_k [] h = absurd h
 multiples_solve (c ∷ cs) before new same d k some_d some_k (X ∷ Xs) (h, hs) = (
-  solves_same c.model c.at before new same d (d * k) X (multiplied k X) some_d (some_product d k some_d some_k) (λ z. turn (X z) d k) h,
+  solves_same c.model c.at before new same d (d * k) X (multiplied k X) some_d (mul-pos some_d some_k) (λ z. turn (X z) d k) h,
   multiples_solve cs (heads_of d X) (heads_of (d * k) (multiplied k X)) (λ z. share_same d k (X z) some_d some_k) d k some_d some_k Xs hs,
 )
 
@@ -49,10 +45,10 @@ history_exists (c ∷ cs) before going =
     let new = heads_of (d * k) (multiplied k X) in (
       d * k,
       multiplied k X ∷ map (multiplied d) Xs,
-      some_product d k some_d some_k,
+      mul-pos some_d some_k,
       (
-        solves_same c.model c.at before before (λ z. record { same = refl }) d (d * k) X (multiplied k X) some_d (some_product d k some_d some_k) (λ z. turn (X z) d k) solves,
-        subst (λ (n : ℕ). SolvesChoicesFrom n new cs (map (multiplied d) Xs)) (commuted k d)
+        solves_same c.model c.at before before (λ z. record { same = refl }) d (d * k) X (multiplied k X) some_d (mul-pos some_d some_k) (λ z. turn (X z) d k) solves,
+        subst (λ (n : ℕ). SolvesChoicesFrom n new cs (map (multiplied d) Xs)) (mul_comm k d)
             (multiples_solve cs (heads_of d X) new (λ z. share_same d k (X z) some_d some_k) k d some_k some_d Xs rest),
       ),
     )

@@ -3,16 +3,13 @@ use Rattle.std.proofs.Common.{◌≡◌, ℕ, ◌≤◌, Bool, true, false, cond
 use Rattle.std.specs.Prelude.{◌&&◌, if◌then◌else◌, decimal, nat_le, option_and_then}
 use Rattle.std.specs.Str.{bytes_eq}
 use Rattle.std.specs.Str.Parse.{digits_value}
-use Rattle.std.proofs.lemmas.Bool.{leb-true}
+use Rattle.std.proofs.lemmas.Bool.{leb-true, and_parts}
 use Rattle.clap.specs.Words.{Text, Row, Kinds, fault_of, subcommand_of, first_of}
 use Rattle.command_line.specs.Commands.{heads_app}
 use Rattle.command_line.specs.Numbers.{is_number, number_in, number_or}
 use Rattle.command_line.specs.Wants.{Wanted, Checks, batch_in, check_in, command_in, digits_in, make_in, rounds_in, run_in, wanted_if, wanted_of, watch_in, workers_in}
 
 -- a number that was taken is one of its range
-both : (a b : Bool) → (a && b) ≡ true → (a ≡ true) × (b ≡ true)
-both true b e = (refl, e)
-both false b e = absurd (let bad : false ≡ true = e in cc)
 
 taken : (test : Bool) (v n : ℕ) → (if test then Some v else None) ≡ Some n → (test ≡ true) × (v ≡ n)
 taken true v n e = (refl, cc)
@@ -23,7 +20,7 @@ few None n e = let same : 12 ≡ n = (taken true 12 n e).1 in omega (arith, same
 few (Some text) n e =
     let v = digits_value 10 text in
     let (test, same) = taken (is_number 0 18 text v) v n e in
-    let top : v ≤ 18 = leb-true v 18 (both (bytes_eq text (decimal v) && nat_le 0 v) (nat_le v 18) test).1 in
+    let top : v ≤ 18 = leb-true v 18 (and_parts (bytes_eq text (decimal v) && nat_le 0 v) (nat_le v 18) test).1 in
     omega (arith, same, top)
 
 -- a check has at most 18

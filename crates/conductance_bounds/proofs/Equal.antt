@@ -19,7 +19,7 @@ use Rattle.conductance_bounds.specs.Terms.Term.{Number}
 use Rattle.conductance_bounds.specs.Terms.{Side, IsBound, IsRounded}
 use Rattle.conductance_bounds.specs.Terms.Side.{Lower, Upper}
 use Rattle.conductance_bounds.specs.Growth.{sum_term, power_term}
-use Rattle.conductance_bounds.proofs.Harmonic.{Same-self, times-Same, plus-Same}
+use Rattle.decimal_input.proofs.SameNumbers.{Same-self, times-Same, plus-Same}
 use Rattle.conductance_bounds.proofs.Unity.{unity_is}
 
 -- what is a decimal is rounded to itself

@@ -20,7 +20,7 @@ use Rattle.conductance_bounds.specs.Terms.Term.{Number}
 use Rattle.conductance_bounds.specs.ModelLaws.{AreSpanned}
 use Rattle.conductance_bounds.specs.Pairs.{IsPair}
 use Rattle.conductance_bounds.specs.Formulas.{face_term, column_k_term}
-use Rattle.conductance_bounds.proofs.Harmonic.{times-positive}
+use Rattle.decimal_input.proofs.SameNumbers.{times-positive}
 use Rattle.conductance_bounds.proofs.LayerBounds.{IsLayerHalf, IsBedded, layers_enclose, is_some}
 use Rattle.conductance_bounds.proofs.Manual.{row_pair_encloses}
 use Rattle.conductance_bounds.proofs.Positive.{size_positive}

@@ -22,7 +22,7 @@ use Rattle.conductance_bounds.specs.Terms.Term.{Number, Within, Sum, Quotient}
 use Rattle.conductance_bounds.specs.Branches.{area_formula, vertical_k_term, vertical_k, vertical_term, resistance_sum, vertical_of, vertical_exact}
 use Rattle.conductance_bounds.specs.Calls.{IsVertHalf, IsBed}
 use Rattle.conductance_bounds.specs.Pairs.{IsPair, IsWholePair}
-use Rattle.conductance_bounds.proofs.Harmonic.{over-positive}
+use Rattle.decimal_input.proofs.SameNumbers.{over-positive}
 use Rattle.conductance_bounds.proofs.Manual.{vertical_encloses, bed_encloses}
 use Rattle.conductance_bounds.proofs.Positive.{size_positive, positive_between}
 

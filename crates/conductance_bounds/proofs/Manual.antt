@@ -10,7 +10,8 @@ use Rattle.conductance_bounds.specs.Terms.Term.{Number, Within, Sum, Product, Qu
 use Rattle.conductance_bounds.specs.Pairs.{IsPair}
 use Rattle.conductance_bounds.specs.Branches.{twice, row_term}
 use Rattle.conductance_bounds.proofs.Enclosing.{pair_encloses, Encloses-same}
-use Rattle.conductance_bounds.proofs.Harmonic.{plus-Same, over-Same, half-Same, divisor_positive, plus-positive, over-positive}
+use Rattle.decimal_input.proofs.SameNumbers.{plus-Same, over-Same, plus-positive, over-positive}
+use Rattle.conductance_bounds.proofs.Harmonic.{half-Same, divisor_positive}
 
 half_positive : (d w k t : Ratio) → 0 < d.num → 0 < (half d w k t).num
 unfolding half

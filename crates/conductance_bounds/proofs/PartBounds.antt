@@ -24,8 +24,9 @@ use Rattle.conductance_bounds.specs.Terms.Term.{Quotient}
 use Rattle.conductance_bounds.specs.Growth.{sum_term, IsMultiplier}
 use Rattle.conductance_bounds.specs.Parts.{IsPart, IsGrowingPart, IsPassed, part_term}
 use Rattle.conductance_bounds.proofs.Enclosing.{bound_on, below_units, above_units}
-use Rattle.conductance_bounds.proofs.Harmonic.{over-Same}
-use Rattle.conductance_bounds.proofs.Horner.{sum_is, sum_holds, power_positive}
+use Rattle.decimal_input.proofs.SameNumbers.{over-Same}
+use Rattle.conductance_bounds.proofs.Horner.{sum_is, sum_holds}
+use Rattle.model_types.proofs.Growth.{power-positive}
 
 abbrev unit : ℕ
 unit = 10 ^ 18
@@ -49,7 +50,7 @@ times_suc_positive a l p = grind arith
 
 positive_next : (t : Ratio) (n : ℕ) → 0 < t.num → 0 < (geometric t (suc n)).num
 unfolding geometric ratio
-positive_next t n h = rw num_plus (omega (arith, times_suc_positive (power t n).num (geometric t n).less (power_positive t n h)))
+positive_next t n h = rw num_plus (omega (arith, times_suc_positive (power t n).num (geometric t n).less (power-positive t n h)))
 
 nonzero : (m x k l : ℕ) → 0 < k → m * x ≡ k * suc l → 0 < m
 nonzero zero x k l h e = absurd (omega (arith, times_suc_positive k l h, e))

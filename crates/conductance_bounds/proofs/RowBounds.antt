@@ -14,7 +14,7 @@ use Rattle.conductance_bounds.specs.Terms.Term.{Number}
 use Rattle.conductance_bounds.specs.Branches.{row_of, row_exact, column_k, column_of, column_exact}
 use Rattle.conductance_bounds.specs.Calls.{IsHalf, IsColHalf}
 use Rattle.conductance_bounds.specs.Pairs.{IsWholePair}
-use Rattle.conductance_bounds.proofs.Harmonic.{times-positive}
+use Rattle.decimal_input.proofs.SameNumbers.{times-positive}
 use Rattle.conductance_bounds.proofs.Manual.{row_pair_encloses}
 use Rattle.conductance_bounds.proofs.Positive.{size_positive, positive_between}
 

@@ -18,15 +18,16 @@ use Rattle.conductance_bounds.specs.Branches.{area_formula, storativity_term, st
 use Rattle.conductance_bounds.specs.Calls.{LiesWithin}
 use Rattle.conductance_bounds.specs.Pairs.{IsPair, IsWholePair}
 use Rattle.conductance_bounds.proofs.Enclosing.{pair_encloses, Encloses-same}
-use Rattle.conductance_bounds.proofs.Harmonic.{Same-self, times-Same, over-Same, times-positive}
-use Rattle.conductance_bounds.proofs.Horner.{power_is, power_positive, power_holds, sum_is, sum_holds}
+use Rattle.decimal_input.proofs.SameNumbers.{Same-self, times-Same, over-Same, times-positive}
+use Rattle.conductance_bounds.proofs.Horner.{power_is, power_holds, sum_is, sum_holds}
+use Rattle.model_types.proofs.Growth.{power-positive}
 use Rattle.conductance_bounds.proofs.Positive.{size_positive}
 use Rattle.conductance_bounds.proofs.Recharged.{assoc}
 
 -- of a storativity x, lengths r and d, a multiplier t and a period of length l
 module _ (x : Term) (r d t l : Ratio) (steps n : ℕ) where
   divisor : 0 < l.num → 0 < t.num → 0 < (times l (exact (power_term t (n - 1)))).num
-  divisor length growth = subst (λ k. 0 < (times l k).num) (sym (power_is t (n - 1))) (times-positive l (power t (n - 1)) length (power_positive t (n - 1) growth))
+  divisor length growth = subst (λ k. 0 < (times l k).num) (sym (power_is t (n - 1))) (times-positive l (power t (n - 1)) length (power-positive t (n - 1) growth))
 
   dividends : 1 ≤ steps → Same (times (times (exact x) (times r d)) (exact (sum_term t (steps - 1)))) (times (times (times (exact x) r) d) (geometric t steps))
   dividends some = times-Same (assoc (exact x) r d) (subst (λ k. Same (exact (sum_term t (steps - 1))) (geometric t k)) (let e : suc (steps - 1) ≡ steps = omega arith in e) (sum_is t (steps - 1)))

@@ -8,6 +8,7 @@ pub mod Enclosing
 pub mod FloorLaws
 pub mod Fractional
 pub mod Fronts
+pub mod Integers
 pub mod Named
 pub mod OneNumber
 pub mod Orders
@@ -15,6 +16,7 @@ pub mod Parts
 pub mod Past
 pub mod Powers
 pub mod Products
+pub mod SameNumbers
 pub mod Short
 pub mod SignedFloors
 pub mod Signs

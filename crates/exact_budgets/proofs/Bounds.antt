@@ -5,6 +5,7 @@ use Rattle.std.proofs.lemmas.Int.{ints}
 use Rattle.decimal_input.specs.Fractions.{Fraction, den, negated, fraction_total, Same}
 use Rattle.decimal_input.specs.Enclosures.{EnclosesSigned}
 use Rattle.decimal_input.proofs.Fractional.{cross_trans_signed}
+use Rattle.decimal_input.proofs.Enclosing.{negated_enclosed}
 use Rattle.step_problem.specs.Flows.{total}
 use Rattle.step_problem.specs.declared.place.Dir.TheVariants.{In, Out}
 use Rattle.step_problem.specs.declared.place.Term.{Term}
@@ -12,7 +13,7 @@ use Rattle.step_problem.specs.declared.place.Term.TheVariants.{Storage, Constant
 use Rattle.cell_balance.specs.Steps.{ExactCell}
 use Rattle.cell_balance.proofs.Scaling.{IsOver-negated}
 use Rattle.cell_balance.proofs.EntryScaled.{same_over}
-use Rattle.cell_balance.proofs.Enclosing.{plus_encloses, none_encloses, negated_encloses}
+use Rattle.cell_balance.proofs.Enclosing.{plus_encloses, none_encloses}
 use Rattle.budget_bounds.specs.declared.pair.Budget.{Budget}
 use Rattle.budget_bounds.specs.Singles.{is_term}
 use Rattle.budget_bounds.specs.Terms.{all_terms, bounds_in}
@@ -73,13 +74,13 @@ as_differences k a b c d f h = rw (sub_is a b, sub_is c d) h
 
 module _ (s : ℕ) (e : List ExactCell) (h : ℕ → Fraction) (b : Budget) (o : TermsOver e h) (encloses : BudgetEncloses s e h b) where
   listed : (t : Term) → EnclosesSigned (net_lower b t) (net_upper b t) (s + 9) (net_flow e h t)
-  listed t = as_differences (s + 9) (bounds_in b In t).lo (bounds_in b Out t).hi (bounds_in b In t).hi (bounds_in b Out t).lo (net_flow e h t) (plus_encloses (bounds_in b In t).lo (bounds_in b In t).hi (neg_ℤ (bounds_in b Out t).hi) (neg_ℤ (bounds_in b Out t).lo) (s + 9) (exact_term e h In t) (negated (exact_term e h Out t)) (encloses In t) (negated_encloses (bounds_in b Out t).lo (bounds_in b Out t).hi (s + 9) (exact_term e h Out t) (encloses Out t)))
+  listed t = as_differences (s + 9) (bounds_in b In t).lo (bounds_in b Out t).hi (bounds_in b In t).hi (bounds_in b Out t).lo (net_flow e h t) (plus_encloses (bounds_in b In t).lo (bounds_in b In t).hi (neg_ℤ (bounds_in b Out t).hi) (neg_ℤ (bounds_in b Out t).lo) (s + 9) (exact_term e h In t) (negated (exact_term e h Out t)) (encloses In t) (negated_enclosed (bounds_in b Out t).lo (bounds_in b Out t).hi (s + 9) (exact_term e h Out t) (encloses Out t)))
 
   in_the_others : (t : Term) → EnclosesSigned (lower_by_others b t) (upper_by_others b t) (s + 9) (net_flow e h t)
   in_the_others t =
       same_encloses (lower_by_others b t) (upper_by_others b t) (s + 9) (negated (fraction_total (net_flow e h) (others t))) (net_flow e h t)
       (same_over o.D _ _ _ _ o.some (IsOver-negated o.D _ _ (over_terms o.D (net_flow e h) (λ x. o.into x -ℤ o.out x) (net_over e h o) (others t))) (net_over e h o t) (sym (left_over (λ x. o.into x -ℤ o.out x) o.none t)))
-      (negated_encloses (total (net_lower b) (others t)) (total (net_upper b) (others t)) (s + 9) (fraction_total (net_flow e h) (others t)) (terms_enclose (net_lower b) (net_upper b) (s + 9) (net_flow e h) listed (others t)))
+      (negated_enclosed (total (net_lower b) (others t)) (total (net_upper b) (others t)) (s + 9) (fraction_total (net_flow e h) (others t)) (terms_enclose (net_lower b) (net_upper b) (s + 9) (net_flow e h) listed (others t)))
 
   pub net_terms_lie : NetTermsLie s e h b
   net_terms_lie = record { listed = listed; in_the_others = in_the_others }

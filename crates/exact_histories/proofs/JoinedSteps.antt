@@ -1,5 +1,5 @@
 -- Times that can be solved in turn have a history over one denominator: a history stays one over each multiple of its denominator.
-use Rattle.std.proofs.Common.{◌≡◌, ◌*◌, ◌-◌, ◌<◌, ◌∙◌, ◌*ℤ◌, [], ◌∷◌, ℕ, suc, refl, sym, ap, subst, arith, ℤ, pos, List, map}
+use Rattle.std.proofs.Common.{◌≡◌, ◌*◌, ◌-◌, ◌<◌, ◌∙◌, ◌*ℤ◌, [], ◌∷◌, ℕ, suc, refl, sym, ap, subst, arith, ℤ, pos, List, map, mul-pos}
 use Rattle.decimal_input.specs.Fractions.{Fraction, Same}
 use Rattle.model_types.specs.declared.model.FlowModel.{FlowModel}
 use Rattle.model_types.specs.declared.time_steps.TimeStep.{TimeStep}
@@ -8,7 +8,6 @@ use Rattle.cell_balance.specs.Solutions.{share}
 use Rattle.flow_equations.specs.Histories.{heads_of, SolvesAt, SolvesFrom}
 use Rattle.exact_histories.proofs.GridVectors.{HasVector}
 use Rattle.exact_histories.proofs.SameTimes.{solves_same}
-use Rattle.cell_balance.proofs.Denominators.{some_product}
 
 -- these times can be solved in turn: the first one, and from each of its solutions the others
 abbrev pub GoOn : FlowModel → List TimeStep → (ℕ → Fraction) → Type 0
@@ -20,7 +19,7 @@ abbrev multiplied : ℕ → (ℕ → ℤ) → ℕ → ℤ
 multiplied k X c = X c *ℤ pos k
 
 share_same : (d k : ℕ) (x : ℤ) → 0 < d → 0 < k → Same (share d x) (share (d * k) (x *ℤ pos k))
-share_same d k x some_d some_k = record { same = ap (λ (z : ℕ). x *ℤ pos z) (back (d * k) (some_product d k some_d some_k)) ∙ ring x d k ∙ ap (λ (z : ℕ). (x *ℤ pos k) *ℤ pos z) (sym (back d some_d)) }
+share_same d k x some_d some_k = record { same = ap (λ (z : ℕ). x *ℤ pos z) (back (d * k) (mul-pos some_d some_k)) ∙ ring x d k ∙ ap (λ (z : ℕ). (x *ℤ pos k) *ℤ pos z) (sym (back d some_d)) }
   where
     back : (d : ℕ) → 0 < d → suc (d - 1) ≡ d
     back d h = omega arith
@@ -46,13 +45,13 @@ flexible_exists m (at ∷ steps) before going =
     let (k, Xs, some_k, rest) = flexible_exists m steps (heads_of d X) (going.1 d X some_d solves) in (
       d * k,
       multiplied k X ∷ map (multiplied d) Xs,
-      some_product d k some_d some_k,
+      mul-pos some_d some_k,
       (λ new same j some_j.
-          let some_all = some_product (d * k) j (some_product d k some_d some_k) some_j in (
+          let some_all = mul-pos (mul-pos some_d some_k) some_j in (
             solves_same m at before new same d (d * k * j) X (multiplied j (multiplied k X)) some_d some_all (λ c. turn (X c) d k j) solves,
             subst (λ (z : ℕ). SolvesFrom m z (heads_of (d * k * j) (multiplied j (multiplied k X))) steps (map (multiplied j) (map (multiplied d) Xs))) (order d k j)
                 (subst (λ (l : List (ℕ → ℤ)). SolvesFrom m (k * (d * j)) (heads_of (d * k * j) (multiplied j (multiplied k X))) steps l) (map-multiplied_twice d j Xs)
-                (rest (heads_of (d * k * j) (multiplied j (multiplied k X))) (λ c. written (X c) d k j some_d some_k some_j) (d * j) (some_product d j some_d some_j))),
+                (rest (heads_of (d * k * j) (multiplied j (multiplied k X))) (λ c. written (X c) d k j some_d some_k some_j) (d * j) (mul-pos some_d some_j))),
           )),
     )
   where
@@ -71,10 +70,10 @@ flexible_exists m (at ∷ steps) before going =
     written : (x : ℤ) (d k j : ℕ) → 0 < d → 0 < k → 0 < j → Same (share d x) (share (d * k * j) ((x *ℤ pos k) *ℤ pos j))
     written x d k j hd hk hj =
         subst (λ (z : ℤ). Same (share d x) (share (d * k * j) z)) (sym (mul_assoc x (pos k) (pos j)))
-        (subst (λ (z : ℕ). Same (share d x) (share z (x *ℤ pos (k * j)))) (twice d k j) (share_same d (k * j) x hd (some_product k j hk hj)))
+        (subst (λ (z : ℕ). Same (share d x) (share z (x *ℤ pos (k * j)))) (twice d k j) (share_same d (k * j) x hd (mul-pos hk hj)))
 
 -- times that can be solved in turn have a history over one denominator
 pub history_of_steps : (m : FlowModel) (steps : List TimeStep) (before : ℕ → Fraction) → GoOn m steps before → (d : ℕ) × (Xs : List (ℕ → ℤ)) × (0 < d) × SolvesFrom m d before steps Xs
 history_of_steps m steps before going =
     let (d, Xs, some, all) = flexible_exists m steps before going in
-    (d * 1, map (multiplied 1) Xs, some_product d 1 some (omega arith), all before (λ c. record { same = refl }) 1 (omega arith))
+    (d * 1, map (multiplied 1) Xs, mul-pos some (omega arith), all before (λ c. record { same = refl }) 1 (omega arith))

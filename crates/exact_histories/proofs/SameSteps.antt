@@ -1,12 +1,12 @@
 -- The same heads, however their fractions are written, solve the same step, however its known heads are written.
-use Rattle.std.proofs.Common.{◌≡◌, ◌*◌, ◌<◌, ◌∙◌, ◌*ℤ◌, [], ◌∷◌, refl, ℕ, sym, ap, subst, arith, ℤ, pos, List, length}
+use Rattle.std.proofs.Common.{◌≡◌, ◌*◌, ◌<◌, ◌∙◌, ◌*ℤ◌, [], ◌∷◌, refl, ℕ, sym, ap, subst, arith, ℤ, pos, List, length, mul-pos}
 use Rattle.std.specs.List.{AllZip}
 use Rattle.decimal_input.specs.Fractions.{Fraction, den, Same, IsOver}
 use Rattle.step_problem.proofs.Ring.{mul_assoc}
 use Rattle.cell_balance.specs.Balance.{balance}
 use Rattle.cell_balance.specs.Solutions.{share, SolvesStep}
 use Rattle.cell_balance.specs.Steps.{ExactFixed, ExactCell, cell_at, no_cell}
-use Rattle.cell_balance.proofs.Denominators.{step_common, some_product}
+use Rattle.cell_balance.proofs.Denominators.{step_common}
 use Rattle.cell_balance.proofs.Encloses.{share_is, whole_solves}
 use Rattle.cell_balance.proofs.Over.{FlowOver, LinkOver, FixedOver, RiverOver, DrainOver, EvapOver, CellOver, balance_over}
 use Rattle.cell_balance.proofs.Scaling.{over_zero}
@@ -81,7 +81,7 @@ same_heads_solve e f agrees d k X Y some_d some_k same solves c i =
     let over' = step_over (n * 1) m e f w agrees over in
     let here : c < length w = omega (arith, i, AllZip-length (CellOver (n * 1) m) f w over') in
     let zero = whole_solves (n * 1) m e w d X (λ z. X z *ℤ pos (k * n)) over solves (heads n) c here in
-    over_zero (n * 1 * m) _ (some_product (n * 1) m (omega (arith, some_n)) (some_product n (d * k) some_n (some_product d k some_d some_k)))
+    over_zero (n * 1 * m) _ (mul-pos (omega (arith, some_n)) (mul-pos some_n (mul-pos some_d some_k)))
     (subst (λ (z : ℤ). IsOver (n * 1 * m) (balance (cell_at f c) (share k (Y c)) (λ z. share k (Y z))) z) zero
     (balance_over (n * 1) m (share k (Y c)) (X c *ℤ pos (k * n)) (others n c) (λ z. share k (Y z)) (λ z. X z *ℤ pos (k * n)) (others n) (cell_at f c) (whole_at w c) (AllZip-at (CellOver (n * 1) m) f w c no_cell no_whole over' i)))
   where

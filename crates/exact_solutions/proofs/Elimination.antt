@@ -1,5 +1,5 @@
 -- A linear step whose matrix is inverse-positive has a solution: the last cell is eliminated without fractions.
-use Rattle.std.proofs.Common.{◌*ℤ◌, ◌*◌, ◌+ℤ◌, ◌-ℤ◌, ◌<ℤ◌, ◌<◌, ◌∙◌, ◌≡◌, ◌≤ℤ◌, ap, arith, inl, inr, neg_ℤ, negsuc, pos, refl, subst, suc, zero, ℕ, ℤ}
+use Rattle.std.proofs.Common.{◌*ℤ◌, ◌*◌, ◌+ℤ◌, ◌-ℤ◌, ◌<ℤ◌, ◌<◌, ◌∙◌, ◌≡◌, ◌≤ℤ◌, ap, arith, inl, inr, neg_ℤ, negsuc, pos, refl, subst, suc, zero, ℕ, ℤ, mul-pos}
 use Rattle.std.proofs.Math.IntN.{*ℤ-zero, zero-*ℤ}
 use Rattle.std.proofs.lemmas.Bool.{cases_eq}
 use Rattle.std.proofs.lemmas.Int.{by_lt_z, ints}
@@ -7,7 +7,6 @@ use Rattle.step_problem.proofs.Ring.{as_diff, diffs, mul_nonneg, same_diff}
 use Rattle.cell_balance.specs.Components.{sum_below}
 use Rattle.cell_balance.proofs.Products.{cancel_le}
 use Rattle.exact_solutions.proofs.LastCell.{with_last, with_last-at, with_last-below, sum_below-with_last, sum_below-combined}
-use Rattle.cell_balance.proofs.Denominators.{some_product}
 
 -- An inverse-positive matrix: where D i * X i is at least the sum of a i j * X j in each row, no X i is below 0. (Textbook; cell i has the total conductance D i, and conducts a i j to cell j.)
 abbrev pub IsInversePositive : ℕ → (ℕ → ℕ → ℤ) → (ℕ → ℤ) → Type 0
@@ -100,7 +99,7 @@ reduced_inverse_positive n a D s some same mono X draws i h =
 
 -- the solution of what is left gives one of the whole
 solution_extended : (n : ℕ) (a : ℕ → ℕ → ℤ) (D q : ℕ → ℤ) (s : ℕ) → 0 < s → D n -ℤ a n n ≡ pos s → (d : ℕ) (X : ℕ → ℤ) → IsLinearSolution n (reduced_a n a s) (λ i. pos s *ℤ D i) (reduced_q n a q s) d X → IsLinearSolution (suc n) a D q (d * s) (with_last n (pos s) (sent_to_last n a X +ℤ pos d *ℤ q n) X)
-solution_extended n a D q s some same d X left = record { some = some_product d s left.some some; solves = rows }
+solution_extended n a D q s some same d X left = record { some = mul-pos left.some some; solves = rows }
   where
     rows : (k : ℕ) → k < suc n → D k *ℤ with_last n (pos s) (sent_to_last n a X +ℤ pos d *ℤ q n) X k ≡ sum_below (suc n) (λ j. a k j *ℤ with_last n (pos s) (sent_to_last n a X +ℤ pos d *ℤ q n) X j) +ℤ pos (d * s) *ℤ q k
     rows k kh =

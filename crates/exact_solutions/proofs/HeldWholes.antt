@@ -1,5 +1,5 @@
 -- What holds the components of a problem holds the closed sets of the whole numbers of each step that it encloses.
-use Rattle.std.proofs.Common.{◌*ℤ◌, ◌*◌, ◌+ℤ◌, ◌-ℤ◌, ◌<ℤ◌, ◌<◌, ◌≡◌, ◌≤ℤ◌, All, Bool, List, arith, cond, false, get_or, inl, inr, length, pos, refl, subst, suc, sym, true, zero, ℕ, ℤ}
+use Rattle.std.proofs.Common.{◌*ℤ◌, ◌*◌, ◌+ℤ◌, ◌-ℤ◌, ◌<ℤ◌, ◌<◌, ◌≡◌, ◌≤ℤ◌, All, Bool, List, arith, cond, false, get_or, inl, inr, length, pos, refl, subst, suc, sym, true, zero, ℕ, ℤ, mul-pos}
 use Rattle.std.specs.List.{AllZip}
 use Rattle.std.proofs.Math.IntN.{zero-*ℤ}
 use Rattle.std.proofs.lemmas.Int.{ints}
@@ -21,7 +21,6 @@ use Rattle.exact_solutions.proofs.Ramps.{extent, open_conductance, open_conducta
 use Rattle.exact_solutions.proofs.WholeRamps.{ramps_from, a_of, b_of, q_of, ramps_at_cell}
 use Rattle.exact_solutions.proofs.Conducting.{All-back, weight_nonneg, links_lead_to_weight, weight_is_of_links, none_conduct, total_positive, no_known_conductance, no_known_flow, total_nothing}
 use Rattle.decimal_input.proofs.Signs.{mul_mono_right}
-use Rattle.cell_balance.proofs.Denominators.{some_product}
 
 -- a cell without a conductance to a known head has its deep flow
 deep-loose : (w : List WholeCell) (i : ℕ) → b_of w i ≡ 0 → deep (length w) (a_of w) (b_of w) (q_of w) (ramps_from 0 w) i ≡ whole_deep (whole_at w i)
@@ -97,7 +96,7 @@ module _ (m n : ℕ) (some_m : 0 < m) (some_n : 0 < n) (p : List Entries) (w : L
         sums T some none =
             let less = sum_at_most (length p) (λ k. cond (T k) (deep_low (entries_at p k)) (pos 0) *ℤ pos (m * n)) (λ k. cond (T k) (deep (length w) (a_of w) (b_of w) (q_of w) (ramps_from 0 w) k) (pos 0)) (λ k k_in. cell k k_in (T k) refl) in
             let less' = rw (← sum-times (length p) (λ k. cond (T k) (deep_low (entries_at p k)) (pos 0)) (pos (m * n))) at less in
-            subst (λ (z : ℕ). pos 0 <ℤ sum_inside z T (deep (length w) (a_of w) (b_of w) (q_of w) (ramps_from 0 w))) same_length (above _ _ (positive _ (m * n) (some_product m n some_m some_n) some) less')
+            subst (λ (z : ℕ). pos 0 <ℤ sum_inside z T (deep (length w) (a_of w) (b_of w) (q_of w) (ramps_from 0 w))) same_length (above _ _ (positive _ (m * n) (mul-pos some_m some_n) some) less')
           where
             cell : (k : ℕ) → k < length p → (s : Bool) → T k ≡ s → (cond s (deep_low (entries_at p k)) (pos 0) *ℤ pos (m * n)) ≤ℤ cond s (deep (length w) (a_of w) (b_of w) (q_of w) (ramps_from 0 w) k) (pos 0)
             cell k k_in true e = rw (deep-loose w k (none k k_in e)) (deep_less m n (length p) (entries_at p k) (whole_at w k) (cell_within k k_in))

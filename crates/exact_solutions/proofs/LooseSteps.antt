@@ -1,5 +1,5 @@
 -- Steps with cells that nothing holds: heads one lower over these cells are another solution, where their deep flows sum to at most 0 or no river or drain of them conducts.
-use Rattle.std.proofs.Common.{◌≡◌, ◌*◌, ◌<◌, ◌∙◌, ◌+ℤ◌, ◌-ℤ◌, ◌*ℤ◌, ◌≤ℤ◌, [], ◌∷◌, ℕ, zero, suc, refl, sym, ap, arith, ℤ, pos, neg_ℤ, List, length, All, Bool, true, false, cond}
+use Rattle.std.proofs.Common.{◌≡◌, ◌*◌, ◌<◌, ◌∙◌, ◌+ℤ◌, ◌-ℤ◌, ◌*ℤ◌, ◌≤ℤ◌, [], ◌∷◌, ℕ, zero, suc, refl, sym, ap, arith, ℤ, pos, neg_ℤ, List, length, All, Bool, true, false, cond, mul-pos}
 use Rattle.std.specs.Int.{int_max}
 use Rattle.std.specs.List.{AllZip}
 use Rattle.std.proofs.Math.IntN.{zero-*ℤ}
@@ -8,6 +8,7 @@ use Rattle.std.proofs.lemmas.List.Elements.{All-head, All-tail}
 use Rattle.decimal_input.specs.Enclosures.{IsShare}
 use Rattle.decimal_input.specs.Fractions.{Same, whole, signed, IsOver}
 use Rattle.decimal_input.specs.Ratios.{Ratio}
+use Rattle.decimal_input.proofs.Integers.{le-trans}
 use Rattle.step_problem.specs.Flows.{total}
 use Rattle.step_problem.proofs.Falls.{total_mono}
 use Rattle.step_problem.proofs.Ring.{mul_assoc, mul_mono}
@@ -18,7 +19,7 @@ use Rattle.cell_balance.specs.Links.{AreLinked}
 use Rattle.cell_balance.specs.Solutions.{share, SolvesStep}
 use Rattle.cell_balance.specs.Steps.{ExactRiver, ExactEvap, ExactCell, cell_at, no_cell}
 use Rattle.cell_balance.proofs.Cancel.{IsMutual, closed_cancel}
-use Rattle.cell_balance.proofs.Denominators.{step_common, some_product}
+use Rattle.cell_balance.proofs.Denominators.{step_common}
 use Rattle.cell_balance.proofs.Encloses.{whole_solves}
 use Rattle.cell_balance.proofs.ExactLaws.{heads_over}
 use Rattle.cell_balance.proofs.Falling.{whole_falls}
@@ -179,11 +180,9 @@ module _ (e : List ExactCell) (inside : ℕ → Bool) (linked : AreLinked e) (lo
       pub drained_stays : (c : ℕ) → c < length e → inside c ≡ true → whole_balance (without_links (whole_at w c)) (Y c -ℤ pos 1) Y ≡ whole_balance (without_links (whole_at w c)) (Y c) Y
       drained_stays c i t =
           le_anti _ _
-          (through _ _ _ (flows_at_most_deep (whole_at w c) (Y c -ℤ pos 1) Y (no_fixed c i t) (no_evaps c i t)) (deep_reached c (omega (arith, i, same_length)) t))
+          (le-trans _ _ _ (flows_at_most_deep (whole_at w c) (Y c -ℤ pos 1) Y (no_fixed c i t) (no_evaps c i t)) (deep_reached c (omega (arith, i, same_length)) t))
           (whole_falls (without_links (whole_at w c)) (Y c -ℤ pos 1) (Y c) Y (lower (Y c)))
         where
-          through : (a b c : ℤ) → a ≤ℤ b → b ≤ℤ c → a ≤ℤ c
-          through a b c h k = omega (arith, ints)
 
           lower : (y : ℤ) → (y -ℤ pos 1) ≤ℤ y
           lower y = omega (arith, ints)
@@ -198,7 +197,7 @@ lowered_solution : (e : List ExactCell) (inside : ℕ → Bool) → AreLinked e 
     AnotherSolution e d X
 lowered_solution e inside linked loose n d X some_n some_d w over zeros stays =
     let (c, here, t) = loose.member in
-    let some = some_product n d some_n some_d in (
+    let some = mul-pos some_n some_d in (
       n * d,
       lowered inside (λ k. X k *ℤ pos n),
       some,

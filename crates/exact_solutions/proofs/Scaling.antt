@@ -1,5 +1,5 @@
 -- A step over another denominator: net flows scale, and so heads over two denominators compare, and two solutions are the same heads.
-use Rattle.std.proofs.Common.{[], ◌*ℤ◌, ◌*◌, ◌+ℤ◌, ◌-ℤ◌, ◌<◌, ◌∙◌, ◌∷◌, ◌≡◌, ◌≤ℤ◌, Bool, List, None, Option, Some, arith, cond, false, nat_eq, neg_ℤ, pos, refl, subst, sym, true, ℕ, ℤ}
+use Rattle.std.proofs.Common.{[], ◌*ℤ◌, ◌*◌, ◌+ℤ◌, ◌-ℤ◌, ◌<◌, ◌∙◌, ◌∷◌, ◌≡◌, ◌≤ℤ◌, Bool, List, None, Option, Some, arith, cond, false, nat_eq, neg_ℤ, pos, refl, subst, sym, true, ℕ, ℤ, mul-pos}
 use Rattle.std.specs.Int.{int_min}
 use Rattle.std.proofs.Math.IntN.{zero-*ℤ}
 use Rattle.step_problem.specs.Flows.{total}
@@ -12,7 +12,6 @@ use Rattle.exact_solutions.proofs.Ramps.{Ramp, rise, ramp_flow, link_flow, AreMu
 use Rattle.exact_solutions.proofs.Comparison.{comparison}
 use Rattle.decimal_input.proofs.Signs.{mul_mono_right}
 use Rattle.step_problem.proofs.BothSides.{le_anti}
-use Rattle.cell_balance.proofs.Denominators.{some_product}
 
 -- heads, feet and tops times k
 rise_scaled : (t : ℤ) (top : Option ℤ) (d k : ℕ) (x : ℤ) → rise t top (d * k) (x *ℤ pos k) ≡ rise t top d x *ℤ pos k
@@ -50,7 +49,7 @@ module _ (n : ℕ) (a : ℕ → ℕ → ℤ) where
   -- the comparison of heads over two denominators
   pub comparison_over : (b : ℕ → ℕ) (q : ℕ → ℤ) (rs : List Ramp) → AreMutual n a → IsHeldFromBelow n a b q rs → (d e : ℕ) (X Y : ℕ → ℤ) → 0 < d → 0 < e → ((i : ℕ) → i < n → net_flow n a b q rs d X i ≤ℤ pos 0) → ((i : ℕ) → i < n → pos 0 ≤ℤ net_flow n a b q rs e Y i) → (i : ℕ) → i < n → (Y i *ℤ pos d) ≤ℤ (X i *ℤ pos e)
   comparison_over b q rs both held d e X Y some_d some_e loses gains i h =
-      comparison n a b q rs both held (d * e) (λ j. X j *ℤ pos e) (λ j. Y j *ℤ pos d) (some_product d e some_d some_e)
+      comparison n a b q rs both held (d * e) (λ j. X j *ℤ pos e) (λ j. Y j *ℤ pos d) (mul-pos some_d some_e)
       (λ k j. rw (net_flow-scaled b q rs d e X k) (less e _ (loses k j)))
       (λ k j. subst (λ (z : ℕ). pos 0 ≤ℤ net_flow n a b q rs z (λ j. Y j *ℤ pos d) k) (turn e d) (rw (net_flow-scaled b q rs e d Y k) (more d _ (gains k j))))
       i h

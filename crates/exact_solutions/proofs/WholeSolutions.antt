@@ -1,5 +1,5 @@
 -- Heads solve an exact step just where they solve its whole numbers.
-use Rattle.std.proofs.Common.{[], ◌*ℤ◌, ◌*◌, ◌-◌, ◌<◌, ◌∙◌, ◌∷◌, ◌≡◌, List, ap, arith, length, map, pos, refl, subst, suc, sym, zero, ℕ, ℤ}
+use Rattle.std.proofs.Common.{[], ◌*ℤ◌, ◌*◌, ◌-◌, ◌<◌, ◌∙◌, ◌∷◌, ◌≡◌, List, ap, arith, length, map, pos, refl, subst, suc, sym, zero, ℕ, ℤ, mul-pos}
 use Rattle.std.specs.List.{AllZip}
 use Rattle.decimal_input.specs.Fractions.{Fraction, IsOver, den}
 use Rattle.step_problem.proofs.Ring.{mul_assoc}
@@ -16,7 +16,6 @@ use Rattle.exact_solutions.proofs.Ramps.{IsSolution}
 use Rattle.exact_solutions.proofs.WholeRamps.{ramps_from, a_of, b_of, q_of}
 use Rattle.exact_solutions.proofs.WholeBalances.{scaled, scaled_balance}
 use Rattle.decimal_input.proofs.Signs.{swap}
-use Rattle.cell_balance.proofs.Denominators.{some_product}
 
 AllZip-map : {X Y Z : Type 0} (R : X → Y → Type 0) (S : X → Z → Type 0) (f : Y → Z) → ((x : X) (y : Y) → R x y → S x (f y)) → (xs : List X) (ys : List Y) → AllZip R xs ys → AllZip S xs (map f ys)
 AllZip-map R S f each [] [] h = tt
@@ -69,13 +68,13 @@ share_is_over d z some = record { is = ap (λ (k : ℕ). z *ℤ pos k) (back d s
 pub whole_balances_solve : (k d : ℕ) (e : List ExactCell) (w : List WholeCell) (X : ℕ → ℤ) → 0 < k → 0 < d → AllZip (CellOver k d) e w → ((c : ℕ) → c < length w → whole_balance (whole_at w c) (X c) X ≡ pos 0) → SolvesStep e d X
 whole_balances_solve k d e w X some_k some_d over balanced c i =
     let sum = balance_over k d (share d (X c)) (X c) (share_is_over d (X c) some_d) (λ z. share d (X z)) X (λ z. share_is_over d (X z) some_d) (cell_at e c) (whole_at w c) (AllZip-at (CellOver k d) e w c no_cell no_whole over i) in
-    over_zero (k * d) _ (some_product k d some_k some_d)
+    over_zero (k * d) _ (mul-pos some_k some_d)
     (subst (λ (z : ℤ). IsOver (k * d) (balance (cell_at e c) (share d (X c)) (λ z. share d (X z))) z) (balanced c (omega (arith, i, AllZip-length (CellOver k d) e w over))) sum)
 
 module _ (k m : ℕ) (some_k : 0 < k) (some_m : 0 < m) (e : List ExactCell) (w : List WholeCell) (over : AllZip (CellOver k m) e w) (both : IsMutual w) where
   -- heads over d that solve the whole numbers, over m * d solve the step
   pub solves_step : (d : ℕ) (X : ℕ → ℤ) → IsSolution (length w) (a_of w) (b_of w) (q_of w) (ramps_from 0 w) d X → SolvesStep e (m * d) X
-  solves_step d X is = whole_balances_solve k (m * d) e (map (scaled d) w) X some_k (some_product m d some_m is.some) (step_scaled k m d e w over) (λ c i. at c (omega (arith, i, map_length d w)))
+  solves_step d X is = whole_balances_solve k (m * d) e (map (scaled d) w) X some_k (mul-pos some_m is.some) (step_scaled k m d e w over) (λ c i. at c (omega (arith, i, map_length d w)))
     where
       at : (c : ℕ) → c < length w → whole_balance (whole_at (map (scaled d) w) c) (X c) X ≡ pos 0
       at c i = subst (λ (u : WholeCell). whole_balance u (X c) X ≡ pos 0) (sym (map_at d w c)) (scaled_balance w d X c (both.range c i) ∙ is.solves c i)

@@ -2,7 +2,7 @@
 use Rattle.std.proofs.Common.{◌≡◌, ℕ, zero, suc, ◌+◌, ◌*◌, ◌<◌, ◌⊎◌, inl, inr, Bool, true, false, not, ◌&&◌, ◌||◌, List, [], ◌∷◌, refl, sym, ap, ◌∙◌, arith, ℤ, pos, negsuc}
 use Rattle.std.specs.Prelude.{◌==◌}
 use Rattle.std.specs.List.{range_with_len, list_any}
-use Rattle.std.proofs.lemmas.Bool.{eqb-true, cases_lt, false≢true}
+use Rattle.std.proofs.lemmas.Bool.{eqb-true, cases_lt, false≢true, and_parts, not-true}
 use Rattle.std.proofs.lemmas.Nat.{div-add-mod'}
 use Rattle.std.proofs.lemmas.List.Folds.{list_any-append}
 use Rattle.model_types.specs.declared.model.FlowModel.{FlowModel}
@@ -12,17 +12,9 @@ use Rattle.model_types.specs.Receivers.{is_int, is_chosen, is_highest}
 use Rattle.model_types.proofs.Ranks.{range_more}
 use Rattle.flow_equations.specs.ReceiverLaws.{ChoosesOneCell}
 
-and_both : (x y : Bool) → (x && y) ≡ true → (x ≡ true) × (y ≡ true)
-and_both true y e = (refl, e)
-and_both false y e = absurd (false≢true e)
-
 or_either : (x y : Bool) → (x || y) ≡ true → (x ≡ true) ⊎ (y ≡ true)
 or_either true y e = inl refl
 or_either false y e = inr e
-
-not_false : (x : Bool) → not x ≡ true → x ≡ false
-not_false true e = absurd (false≢true e)
-not_false false e = refl
 
 int_is : (z : ℤ) (k : ℕ) → is_int z k ≡ true → z ≡ pos k
 int_is (pos n) k e = ap pos (eqb-true n k e)
@@ -37,10 +29,10 @@ data Chosen (m : FlowModel) (option : ℤ) (layers : List ℤ) (c : ℕ) : Type 
 chosen_by : (m : FlowModel) (option : ℤ) (layers : List ℤ) (c : ℕ) → is_chosen m option layers c ≡ true → Chosen m option layers c
 chosen_by m option layers c e = elim (or_either _ _ e) [
   | inl first ↦ elim (or_either _ _ first) [
-    | inl top ↦ (let (o, l) = and_both _ _ top in ByTop (int_is option 1 o) (eqb-true (layer_of m.grid c) 0 l))
-    | inr name ↦ (let (o, l) = and_both _ _ name in ByName (int_is option 2 o) (int_is _ _ l))
+    | inl top ↦ (let (o, l) = and_parts _ _ top in ByTop (int_is option 1 o) (eqb-true (layer_of m.grid c) 0 l))
+    | inr name ↦ (let (o, l) = and_parts _ _ name in ByName (int_is option 2 o) (int_is _ _ l))
   ]
-  | inr high ↦ (let (before, h) = and_both _ _ high in let (o, a) = and_both _ _ before in ByHeight (int_is option 3 o) a h)
+  | inr high ↦ (let (before, h) = and_parts _ _ high in let (o, a) = and_parts _ _ before in ByHeight (int_is option 3 o) a h)
 ]
 
 -- a test that holds at k below n
@@ -64,7 +56,7 @@ module _ (m : FlowModel) (layers : List ℤ) (a b : ℕ) (place : place_in_layer
   not_above active highest lt =
       let here : is_active m (layer_of m.grid a * layer_size m.grid + place_in_layer m.grid b) ≡ true = ap (is_active m) ((λ i. layer_of m.grid a * layer_size m.grid + sym place i) ∙ div-add-mod' a (layer_size m.grid)) ∙ active in
       let some = any_at (λ k. is_active m (k * layer_size m.grid + place_in_layer m.grid b)) (layer_of m.grid b) (layer_of m.grid a) lt here in
-      false≢true (sym (not_false _ highest) ∙ some)
+      false≢true (sym (not-true _ highest) ∙ some)
 
 apart : (o : ℤ) (j k : ℕ) → (j ≡ k → ⊥) → o ≡ pos j → o ≡ pos k → ⊥
 apart o j k n p q = n (pos_is (sym p ∙ q))

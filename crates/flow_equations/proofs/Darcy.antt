@@ -1,41 +1,28 @@
 -- Conductances by the textbook.
-use Rattle.std.proofs.Common.{◌≡◌, ℕ, zero, suc, ◌+◌, ◌*◌, ◌<◌, ◌≤◌, refl, sym, ap, ◌∙◌, subst, arith}
+use Rattle.std.proofs.Common.{◌≡◌, ℕ, zero, suc, ◌+◌, ◌*◌, ◌<◌, ◌≤◌, refl, sym, ap, ◌∙◌, subst, arith, mul_comm, mul-pos}
 use Rattle.std.proofs.Math.Nat.{mul-le-mul_left}
 use Rattle.decimal_input.specs.Canonical.{size}
 use Rattle.decimal_input.specs.Ratios.{Ratio, den, ratio, plus, times, over, Same, AtMost}
 use Rattle.decimal_input.proofs.Orders.{Same-trans}
+use Rattle.decimal_input.proofs.SameNumbers.{Same-of, plus-comm}
 use Rattle.model_types.specs.declared.model.FlowModel.{FlowModel}
 use Rattle.model_types.specs.Layers.{delr_at, delc_at, hk_at, hani_at, thickness, dec_at}
 use Rattle.model_types.specs.Conductances.{one, half, in_a_row, row_conductance, column_conductance}
 use Rattle.flow_equations.specs.BranchLaws.{IsSameFromBothEnds, AreAlike, AreAlikeInAColumn, IsBetweenHalves}
 use Rattle.flow_equations.proofs.Values.{itself, value_one, value_two, value_times, value_plus, value_over, same_by, cross_by, at_most_by, size_positive}
-use Rattle.flow_equations.proofs.TurnedFlows.{product_positive}
 
 -- two resistances in either order
-sums : (a x b y : ℕ) → a * y + b * x ≡ b * x + a * y
-sums a x b y = omega arith
-
-products : (a b : ℕ) → a * b ≡ b * a
-products a b = omega arith
-
-plus_turned : (f g : Ratio) → plus f g ≡ plus g f
-unfolding plus
-plus_turned f g = λ i. ratio (sums f.num (den f) g.num (den g) i) (products (den f) (den g) i)
-
 in_turn : (r q : Ratio) → in_a_row r q ≡ in_a_row q r
 unfolding in_a_row
-in_turn r q = ap (over one) (plus_turned r q)
-
-as_same : {f g : Ratio} → f ≡ g → Same f g
-as_same {f} e = subst (Same f) e (record { cross = refl })
+in_turn r q = ap (over one) (plus-comm r q)
 
 pub from_both_ends : (m : FlowModel) → IsSameFromBothEnds m
 unfolding row_conductance column_conductance
 from_both_ends m = record {
   row = (λ a b e. let width = ap (λ i. size (dec_at m.grid.delc i)) e in
-      as_same (in_turn _ _ ∙ (λ i. in_a_row (half (size (delr_at m b)) (width i) (size (hk_at m b)) (thickness m b)) (half (size (delr_at m a)) (width i) (size (hk_at m a)) (thickness m a)))));
+      Same-of (in_turn _ _ ∙ (λ i. in_a_row (half (size (delr_at m b)) (width i) (size (hk_at m b)) (thickness m b)) (half (size (delr_at m a)) (width i) (size (hk_at m a)) (thickness m a)))));
   column = (λ a b e. let width = ap (λ j. size (dec_at m.grid.delr j)) e in
-      as_same (in_turn _ _ ∙ (λ i. in_a_row (half (size (delc_at m b)) (width i) (times (size (hk_at m b)) (size (hani_at m b))) (thickness m b)) (half (size (delc_at m a)) (width i) (times (size (hk_at m a)) (size (hani_at m a))) (thickness m a)))));
+      Same-of (in_turn _ _ ∙ (λ i. in_a_row (half (size (delc_at m b)) (width i) (times (size (hk_at m b)) (size (hani_at m b))) (thickness m b)) (half (size (delc_at m a)) (width i) (times (size (hk_at m a)) (size (hani_at m a))) (thickness m a)))));
 }
 
 -- d / (2 w k t), twice in a row, is one over d / (w k t)
@@ -48,12 +35,12 @@ pub darcy_of : (d w k t : Ratio) → 0 < d.num → 0 < w.num → 0 < k.num → 0
 unfolding in_a_row half
 darcy_of d w k t hd hw hk ht =
     let divisor = value_times (value_times (value_times value_two (itself w)) (itself k)) (itself t) in
-    let some : 0 < ((2 * w.num) * k.num) * t.num = product_positive ((2 * w.num) * k.num) t.num (product_positive (2 * w.num) k.num (omega (arith, hw)) hk) ht in
+    let some : 0 < ((2 * w.num) * k.num) * t.num = mul-pos (mul-pos (omega (arith, hw)) hk) ht in
     let resistance = value_over some (itself d) divisor in
-    let above : 0 < d.num * (((1 * den w) * den k) * den t) = product_positive d.num (((1 * den w) * den k) * den t) hd (product_positive ((1 * den w) * den k) (den t) (product_positive (1 * den w) (den k) (omega arith) (omega arith)) (omega arith)) in
-    let below : 0 < den d * (((2 * w.num) * k.num) * t.num) = product_positive (den d) (((2 * w.num) * k.num) * t.num) (omega arith) some in
+    let above : 0 < d.num * (((1 * den w) * den k) * den t) = mul-pos hd (mul-pos (mul-pos (omega arith) (omega arith)) (omega arith)) in
+    let below : 0 < den d * (((2 * w.num) * k.num) * t.num) = mul-pos (omega arith) some in
     let sum = value_plus resistance resistance in
-    same_by (value_over (let r = product_positive (d.num * (((1 * den w) * den k) * den t)) (den d * (((2 * w.num) * k.num) * t.num)) above below in omega (arith, r)) value_one sum)
+    same_by (value_over (let r = mul-pos above below in omega (arith, r)) value_one sum)
     (value_over hd (value_times (value_times (itself k) (itself t)) (itself w)) (itself d))
     (equal_halves d.num (den d) w.num (den w) k.num (den k) t.num (den t))
 
@@ -62,7 +49,7 @@ unfolding row_conductance
 meets_darcy m a b h =
     let same : row_conductance m a b ≡ in_a_row (half (size (delr_at m a)) (size (delc_at m a)) (size (hk_at m a)) (thickness m a)) (half (size (delr_at m a)) (size (delc_at m a)) (size (hk_at m a)) (thickness m a)) =
     λ i. in_a_row (half (size (delr_at m a)) (size (delc_at m a)) (size (hk_at m a)) (thickness m a)) (half (size (sym h.delr i)) (size (delc_at m a)) (size (sym h.hk i)) (sym h.thickness_of i)) in
-    Same-trans (as_same same) (darcy_of (size (delr_at m a)) (size (delc_at m a)) (size (hk_at m a)) (thickness m a) (size_positive _ h.positive.0) (size_positive _ h.positive.1) (size_positive _ h.positive.2) h.positive.3)
+    Same-trans (Same-of same) (darcy_of (size (delr_at m a)) (size (delc_at m a)) (size (hk_at m a)) (thickness m a) (size_positive _ h.positive.0) (size_positive _ h.positive.1) (size_positive _ h.positive.2) h.positive.3)
 
 pub meets_darcy_along_columns : (m : FlowModel) (a b : ℕ) → AreAlikeInAColumn m a b → Same (column_conductance m a b) (over (times (times (times (size (hk_at m a)) (size (hani_at m a))) (thickness m a)) (size (delr_at m a))) (size (delc_at m a)))
 unfolding column_conductance
@@ -75,8 +62,8 @@ meets_darcy_along_columns m a b h =
     λ i. in_a_row (half d w k t) (half (size (sym h.delc i)) w (times (size (sym h.hk i)) (size (sym h.hani i))) (sym h.thickness_of i)) in
     let hk = size_positive _ h.positive.0 in
     let hani = size_positive _ h.positive.1 in
-    let product : 0 < k.num = let r = product_positive _ _ hk hani in omega (arith, (value_times (itself (size (hk_at m a))) (itself (size (hani_at m a)))).num, r) in
-    Same-trans (as_same same) (darcy_of d w k t (size_positive _ h.widths.0) (size_positive _ h.widths.1) product h.positive.2)
+    let product : 0 < k.num = let r = mul-pos hk hani in omega (arith, (value_times (itself (size (hk_at m a))) (itself (size (hani_at m a)))).num, r) in
+    Same-trans (Same-of same) (darcy_of d w k t (size_positive _ h.widths.0) (size_positive _ h.widths.1) product h.positive.2)
 
 -- k t w / d where k and t are 1 and w is d
 units : (k z t u w y d x : ℕ) → k * 1 ≡ 1 * z → t * 1 ≡ 1 * u → d * y ≡ w * x → (((k * t) * w) * x) * 1 ≡ 1 * (((z * u) * y) * d)
@@ -96,7 +83,7 @@ unit_branch m a b h square k t =
     (same_by value value_one (units _ _ _ _ _ _ _ _ (cross_by (itself (size (hk_at m a))) value_one k) (cross_by (itself (thickness m a)) value_one t) square.cross))
 
 above_zero : (a x b y : ℕ) → 0 < a → 0 < y → a * y ≤ b * x → 0 < b
-above_zero a x zero y h k le = let p = product_positive a y h k in absurd (omega (arith, p, le))
+above_zero a x zero y h k le = let p = mul-pos h k in absurd (omega (arith, p, le))
 above_zero a x (suc b) y h k le = omega arith
 
 -- between the halves
@@ -118,7 +105,7 @@ pub between_halves : (r q : Ratio) → 0 < r.num → AtMost r q → IsBetweenHal
 unfolding in_a_row
 between_halves r q some le =
     let second : 0 < q.num = above_zero r.num (den r) q.num (den q) some (omega arith) le.cross in
-    let sum : 0 < r.num * den q + q.num * den r = let p = product_positive r.num (den q) some (omega arith) in omega (arith, p) in
+    let sum : 0 < r.num * den q + q.num * den r = let p : 0 < r.num * den q = mul-pos some (omega arith) in omega (arith, p) in
     let whole = value_times value_two (value_over sum value_one (value_plus (itself r) (itself q))) in
     record {
       least = at_most_by (value_over second value_one (itself q)) whole (lesser_half r.num (den r) q.num (den q) le.cross);

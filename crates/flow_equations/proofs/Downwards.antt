@@ -1,5 +1,5 @@
 -- Vertical conductances through one material, and the vertical conductivity of a cell.
-use Rattle.std.proofs.Common.{◌≡◌, ℕ, ◌+◌, ◌*◌, ◌<◌, ◌⊎◌, inl, inr, cond, ap, arith}
+use Rattle.std.proofs.Common.{◌≡◌, ℕ, ◌+◌, ◌*◌, ◌<◌, ◌⊎◌, inl, inr, cond, ap, arith, mul-pos}
 use Rattle.decimal_input.specs.Canonical.{size}
 use Rattle.decimal_input.specs.Ratios.{Ratio, den, plus, times, over, Same}
 use Rattle.decimal_input.proofs.Orders.{Same-trans, num_over}
@@ -8,15 +8,12 @@ use Rattle.model_types.specs.Layers.{area, thickness, bed_thickness, hk_at, vka_
 use Rattle.model_types.specs.Conductances.{two, vertical_half, vertical_conductance}
 use Rattle.flow_equations.specs.VerticalLaws.{distance, IsOneMaterial, HasVerticalConductivity}
 use Rattle.flow_equations.proofs.Values.{itself, value_two, value_times, value_plus, value_over, same_by, size_positive}
-use Rattle.flow_equations.proofs.StepSums.{plus-Same, over-Same, Same-self, as_same}
+use Rattle.decimal_input.proofs.SameNumbers.{plus-Same, over-Same, Same-self, Same-of}
 
 -- what is the same as a number above 0 is above 0
 above_zero : (k n d m : ℕ) → 0 < k → 0 < d → n * m ≡ k * d → 0 < n
-above_zero k n d m some under e = let r : 0 < k * d = product_above k d some under in none_or_some n m e r
+above_zero k n d m some under e = let r : 0 < k * d = mul-pos some under in none_or_some n m e r
   where
-    product_above : (a b : ℕ) → 0 < a → 0 < b → 0 < a * b
-    product_above a b p q = grind arith
-
     none_or_some : (n m : ℕ) → n * m ≡ k * d → 0 < k * d → 0 < n
     none_or_some n m e r = grind arith
 
@@ -34,10 +31,7 @@ turn_over a x d y k z = omega arith
 turned_over : (k A D : Ratio) → 0 < k.num → 0 < D.num → Same (over A (over D k)) (over (times k A) D)
 turned_over k A D some room =
     let inner = value_over some (itself D) (itself k) in
-    same_by (value_over (positive D.num (den k) room (omega arith)) (itself A) inner) (value_over room (value_times (itself k) (itself A)) (itself D)) (turn_over A.num (den A) D.num (den D) k.num (den k))
-  where
-    positive : (a b : ℕ) → 0 < a → 0 < b → 0 < a * b
-    positive a b p q = grind arith
+    same_by (value_over (mul-pos room (omega arith)) (itself A) inner) (value_over room (value_times (itself k) (itself A)) (itself D)) (turn_over A.num (den A) D.num (den D) k.num (den k))
 
 nothing_over : (f g h : Ratio) → f.num ≡ 0 → Same (over f g) (over f h)
 nothing_over f g h e = record { cross = rw (num_over, num_over, e) (omega arith) }
@@ -68,11 +62,8 @@ module _ (m : FlowModel) (k : Ratio) (a b : ℕ) (h : IsOneMaterial m k a b) whe
       omega (arith, whole.num, some (thickness m a).num (den (bed_thickness m a)) (den (thickness m b) * 2) ((bed_thickness m a).num * (den (thickness m a) * 2)) (((thickness m b).num * 1) * ((den (thickness m a) * 2) * den (bed_thickness m a))) h.thick (omega arith) (omega arith))
     where
       some : (t x y r s : ℕ) → 0 < t → 0 < x → 0 < y → 0 < ((t * 1) * x + r) * y + s
-      some t x y r s p q w = let e : 0 < (t * 1) * x = product t x p q in let f : 0 < ((t * 1) * x + r) * y = product_of ((t * 1) * x + r) y (omega (arith, e)) w in omega (arith, f)
+      some t x y r s p q w = let e : 0 < (t * 1) * x = product t x p q in let f : 0 < ((t * 1) * x + r) * y = mul-pos (omega (arith, e)) w in omega (arith, f)
         where
-          product_of : (a b : ℕ) → 0 < a → 0 < b → 0 < a * b
-          product_of a b p q = grind arith
-
           product : (a b : ℕ) → 0 < a → 0 < b → 0 < (a * 1) * b
           product a b p q = grind arith
 
@@ -80,21 +71,19 @@ module _ (m : FlowModel) (k : Ratio) (a b : ℕ) (h : IsOneMaterial m k a b) whe
   unfolding vertical_conductance area
   meets_darcy_downwards =
       let sum = resistance in
-      let above : 0 < (over (distance m a b) k).num = omega (arith, (value_over h.positive (itself (distance m a b)) (itself k)).num, product (distance m a b).num (den k) room (omega arith)) in
+      let across : 0 < (distance m a b).num * den k = mul-pos room (omega arith) in
+      let above : 0 < (over (distance m a b) k).num = omega (arith, (value_over h.positive (itself (distance m a b)) (itself k)).num, across) in
       Same-trans (over-Same (above_zero (over (distance m a b) k).num _ (den (plus (plus (vertical_half m a) (over (bed_thickness m a) (size (vkcb_at m a)))) (vertical_half m b))) (den (over (distance m a b) k)) above (omega arith) sum.cross) above (Same-self (area m a)) sum) (turned_over k (area m a) (distance m a b) h.positive room)
-    where
-      product : (a b : ℕ) → 0 < a → 0 < b → 0 < a * b
-      product a b p q = grind arith
 
 quotient_times : (n x d y : ℕ) → ((n * y) * d) * x ≡ n * ((x * d) * y)
 quotient_times n x d y = omega arith
 
 pub vertical_conductivity_of : (m : FlowModel) (c : ℕ) → HasVerticalConductivity m c
 vertical_conductivity_of m c = record {
-  given = (λ e. as_same (ap (λ b. cond b (over (size (hk_at m c)) (size (vka_at m c))) (size (vka_at m c))) e));
+  given = (λ e. Same-of (ap (λ b. cond b (over (size (hk_at m c)) (size (vka_at m c))) (size (vka_at m c))) e));
   ratio = (λ e h.
       let hk = size (hk_at m c) in
       let vka = size (vka_at m c) in
       let same = ap (λ b. times (cond b (over hk vka) vka) vka) e in
-      Same-trans (as_same same) (same_by (value_times (value_over (size_positive (vka_at m c) h) (itself hk) (itself vka)) (itself vka)) (itself hk) (quotient_times hk.num (den hk) vka.num (den vka))));
+      Same-trans (Same-of same) (same_by (value_times (value_over (size_positive (vka_at m c) h) (itself hk) (itself vka)) (itself vka)) (itself hk) (quotient_times hk.num (den hk) vka.num (den vka))));
 }

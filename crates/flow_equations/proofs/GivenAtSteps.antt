@@ -1,5 +1,5 @@
 -- Given heads at the last step, half-way, and in later periods.
-use Rattle.std.proofs.Common.{◌≡◌, ℕ, zero, suc, ◌+◌, ◌*◌, ◌-◌, ◌<◌, ◌≤◌, inl, inr, Bool, true, false, cond, ◌||◌, Some, None, List, [], ◌∷◌, ◌++◌, length, take, get_or, refl, sym, ap, ◌∙◌, subst, arith, ℤ, pos, neg_ℤ, ◌+ℤ◌, ◌*ℤ◌}
+use Rattle.std.proofs.Common.{◌≡◌, ℕ, zero, suc, ◌+◌, ◌*◌, ◌-◌, ◌<◌, ◌≤◌, inl, inr, Bool, true, false, cond, ◌||◌, Some, None, List, [], ◌∷◌, ◌++◌, length, take, get_or, refl, sym, ap, ◌∙◌, subst, arith, ℤ, pos, neg_ℤ, ◌+ℤ◌, ◌*ℤ◌, mul-pos}
 use Rattle.std.specs.Prelude.{reverse, ◌==◌}
 use Rattle.std.specs.List.{find, flat_map}
 use Rattle.std.proofs.lemmas.Bool.{ne_eqb, cases_lt}
@@ -26,7 +26,7 @@ use Rattle.flow_equations.specs.TimeLaws.{Lasts, HasEqualSteps}
 use Rattle.flow_equations.specs.GivenHeadLaws.{HasGivenHead}
 use Rattle.flow_equations.proofs.Values.{value_one, itself, value_over, cross_by}
 use Rattle.flow_equations.proofs.StepSums.{geometric_one, value_ratio}
-use Rattle.flow_equations.proofs.TurnedFlows.{over_first, over_second, product_positive}
+use Rattle.flow_equations.proofs.TurnedFlows.{over_first, over_second}
 
 -- Shead + (Ehead - Shead) * f, where f is n over k
 module _ (x : Given) (f : Ratio) (k n : ℕ) (some : 0 < k) (share : IsShare k f n) where
@@ -53,7 +53,7 @@ module _ (x : Given) (f : Ratio) (k n : ℕ) (some : 0 < k) (share : IsShare k f
       (IsOver-times m k (plus e (negated s)) (signed f) (b +ℤ neg_ℤ a) (pos n) (IsOver-plus m e (negated s) b (neg_ℤ a) (over_second s e) (IsOver-negated m s a (over_first s e))) (IsOver-signed k f n share))
 
   some_over : 0 < m * k
-  some_over = product_positive m k (product_positive (den s) (den e) (omega arith) (omega arith)) some
+  some_over = mul-pos (mul-pos (omega arith) (omega arith)) some
 
   -- the whole of the way
   at_end : n ≡ k → Same (between_heads x f) e

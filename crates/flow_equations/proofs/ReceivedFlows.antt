@@ -1,5 +1,5 @@
 -- The recharge of a cell, and what evapotranspiration takes at the two ends of its range.
-use Rattle.std.proofs.Common.{◌≡◌, ℕ, ◌*◌, ◌<◌, inl, Bool, false, cond, Option, Some, None, List, ◌++◌, map, refl, sym, ap, ◌∙◌, subst, arith, ℤ, pos, neg_ℤ, ◌+ℤ◌, ◌-ℤ◌, ◌*ℤ◌}
+use Rattle.std.proofs.Common.{◌≡◌, ℕ, ◌*◌, ◌<◌, inl, Bool, false, cond, Option, Some, None, List, ◌++◌, map, refl, sym, ap, ◌∙◌, subst, arith, ℤ, pos, neg_ℤ, ◌+ℤ◌, ◌-ℤ◌, ◌*ℤ◌, mul-pos}
 use Rattle.std.specs.Prelude.{All, Contains}
 use Rattle.std.specs.Int.{int_max}
 use Rattle.std.specs.Option.{option_to_list}
@@ -31,7 +31,7 @@ use Rattle.model_types.proofs.Members.{All-In, map-In, filter_map-In, Contains-I
 use Rattle.flow_equations.specs.ExactStep.{exact_flow, exact_evap}
 use Rattle.flow_equations.specs.ReceiverLaws.{recharge_of, ReceivesRecharge, Evaporates}
 use Rattle.flow_equations.proofs.Values.{IsValue, itself, value_over, size_positive}
-use Rattle.flow_equations.proofs.TurnedFlows.{over_first, own_share, product_positive}
+use Rattle.flow_equations.proofs.TurnedFlows.{over_first, own_share}
 
 module _ (m : FlowModel) (p n : ℕ) (old : ℕ → Fraction) (c : ℕ) where
   abbrev rate : Dec
@@ -134,7 +134,7 @@ module _ (m : FlowModel) (c : ℕ) (x : EvapSource) (h : IsPositive x.depth) whe
       turn r d n s z = omega arith
 
   some : 0 < ratio_den C * D
-  some = product_positive (ratio_den C) D (omega arith) (product_positive (den s) (ratio_den deep) (omega arith) (omega arith))
+  some = mul-pos (omega arith) (mul-pos (omega arith) (omega arith))
 
   greatest_rate : Same (negated full) (negated (signed rates))
   greatest_rate = same_over (ratio_den C * D) _ _ _ _ some (IsOver-negated (ratio_den C * D) full _ full_over) (IsOver-negated (ratio_den C * D) (signed rates) _ rates_over) refl

@@ -1,26 +1,21 @@
 -- Time steps of a transient period: they grow by TSMULT from the manual's first one, and sum to the period.
-use Rattle.std.proofs.Common.{◌≡◌, ℕ, zero, suc, ◌+◌, ◌*◌, ◌-◌, ◌<◌, ◌≤◌, Bool, true, false, cond, ◌||◌, List, [], ◌∷◌, ◌++◌, refl, sym, ap, ◌∙◌, subst, arith}
+use Rattle.std.proofs.Common.{◌≡◌, ℕ, zero, suc, ◌+◌, ◌*◌, ◌-◌, ◌<◌, ◌≤◌, Bool, true, false, cond, ◌||◌, List, [], ◌∷◌, ◌++◌, refl, sym, ap, ◌∙◌, subst, arith, mul-pos}
 use Rattle.std.specs.Prelude.{◌==◌}
 use Rattle.std.specs.List.{range_with_len}
 use Rattle.std.proofs.lemmas.Bool.{eqb-true, ne_eqb}
 use Rattle.decimal_input.specs.Canonical.{size}
 use Rattle.decimal_input.specs.Ratios.{Ratio, den, ratio, plus, times, over, Same}
 use Rattle.decimal_input.proofs.Orders.{Same-trans}
+use Rattle.decimal_input.proofs.SameNumbers.{Same-self, Same-of, plus-Same, times-Same, over-Same}
 use Rattle.model_types.specs.declared.model.FlowModel.{FlowModel}
 use Rattle.model_types.specs.declared.period.Period.{Period}
 use Rattle.model_types.specs.Conductances.{one}
 use Rattle.model_types.specs.Times.{power, geometric, step_length, multiplier, passed}
 use Rattle.model_types.specs.Storage.{storage, storage_capacity}
 use Rattle.model_types.proofs.Ranks.{range_more}
+use Rattle.model_types.proofs.Growth.{power-positive, horner}
 use Rattle.flow_equations.specs.TimeLaws.{ratio_total, Lasts, HasManualSteps}
 use Rattle.flow_equations.proofs.Values.{IsValue, itself, value_one, value_times, value_plus, value_over, same_by, size_positive}
-use Rattle.flow_equations.proofs.TurnedFlows.{product_positive}
-
-pub Same-self : (f : Ratio) → Same f f
-Same-self f = record { cross = refl }
-
-pub as_same : {f g : Ratio} → f ≡ g → Same f g
-as_same {f} e = subst (Same f) e (record { cross = refl })
 
 same_in_both_orders : {f g : Ratio} → Same f g → (f.num * den g ≤ g.num * den f) × (g.num * den f ≤ f.num * den g)
 same_in_both_orders s = (omega (arith, s.cross), omega (arith, s.cross))
@@ -29,60 +24,13 @@ pub value_ratio : (n : ℕ) → IsValue (ratio n 1) n 1
 unfolding ratio
 value_ratio n = record { num = refl; bottom = refl }
 
--- sums, products and quotients of the same numbers
-sums_meet : (a x b y c z d w : ℕ) → a * y ≡ b * x → c * w ≡ d * z → (a * z + c * x) * (y * w) ≡ (b * w + d * y) * (x * z)
-sums_meet a x b y c z d w e f =
-    let left : (a * z + c * x) * (y * w) ≡ (a * y) * (z * w) + (c * w) * (x * y) = omega arith in
-    let right : (b * w + d * y) * (x * z) ≡ (b * x) * (z * w) + (d * z) * (x * y) = omega arith in
-    left ∙ (λ i. e i * (z * w) + f i * (x * y)) ∙ sym right
-
-pub plus-Same : {f g h k : Ratio} → Same f g → Same h k → Same (plus f h) (plus g k)
-plus-Same {f} {g} {h} {k} p q = same_by (value_plus (itself f) (itself h)) (value_plus (itself g) (itself k)) (sums_meet f.num (den f) g.num (den g) h.num (den h) k.num (den k) p.cross q.cross)
-
-products_meet : (a x b y c z d w : ℕ) → a * y ≡ b * x → c * w ≡ d * z → (a * c) * (y * w) ≡ (b * d) * (x * z)
-products_meet a x b y c z d w e f =
-    let left : (a * c) * (y * w) ≡ (a * y) * (c * w) = omega arith in
-    let right : (b * d) * (x * z) ≡ (b * x) * (d * z) = omega arith in
-    left ∙ (λ i. e i * f i) ∙ sym right
-
-pub times-Same : {f g h k : Ratio} → Same f g → Same h k → Same (times f h) (times g k)
-times-Same {f} {g} {h} {k} p q = same_by (value_times (itself f) (itself h)) (value_times (itself g) (itself k)) (products_meet f.num (den f) g.num (den g) h.num (den h) k.num (den k) p.cross q.cross)
-
-pub over-Same : {f g h k : Ratio} → 0 < h.num → 0 < k.num → Same f g → Same h k → Same (over f h) (over g k)
-over-Same {f} {g} {h} {k} hp kp p q = same_by (value_over hp (itself f) (itself h)) (value_over kp (itself g) (itself k)) (quotients_meet f.num (den f) g.num (den g) h.num (den h) k.num (den k) p.cross q.cross)
-  where
-    quotients_meet : (a x b y c z d w : ℕ) → a * y ≡ b * x → c * w ≡ d * z → (a * z) * (y * d) ≡ (b * w) * (x * c)
-    quotients_meet a x b y c z d w e f =
-        let left : (a * z) * (y * d) ≡ (a * y) * (d * z) = omega arith in
-        let right : (b * w) * (x * c) ≡ (b * x) * (c * w) = omega arith in
-        left ∙ (λ i. e i * sym f i) ∙ sym right
-
 -- powers and sums of powers
-power_positive : (t : Ratio) (n : ℕ) → 0 < t.num → 0 < (power t n).num
-unfolding power
-power_positive t zero h = omega (arith, value_one.num)
-power_positive t (suc n) h = let r = product_positive (power t n).num t.num (power_positive t n h) h in omega (arith, (value_times (itself (power t n)) (itself t)).num, r)
-
 geometric_positive : (t : Ratio) (n : ℕ) → 0 < t.num → 1 ≤ n → 0 < (geometric t n).num
 unfolding geometric
 geometric_positive t zero h some = absurd (omega arith)
 geometric_positive t (suc n) h some =
-    let p = product_positive (power t n).num (den (geometric t n)) (power_positive t n h) (omega arith) in
+    let p : 0 < (power t n).num * den (geometric t n) = mul-pos (power-positive t n h) (omega arith) in
     omega (arith, (value_plus (itself (geometric t n)) (itself (power t n))).num, p)
-
--- G(n) + t ^ n is G(n) t + 1
-grouped : (g x t y p z : ℕ) → ((((g * t) * 1 + 1 * (x * y)) * (z * y)) + (p * t) * ((x * y) * 1)) * (((x * z) * y) * 1) ≡ (((g * z + p * x) * t) * 1 + 1 * ((x * z) * y)) * (((x * y) * 1) * (z * y))
-grouped g x t y p z = omega arith
-
-regroup : (g t p : Ratio) → Same (plus (plus (times g t) one) (times p t)) (plus (times (plus g p) t) one)
-regroup g t p =
-    same_by (value_plus (value_plus (value_times (itself g) (itself t)) value_one) (value_times (itself p) (itself t))) (value_plus (value_times (value_plus (itself g) (itself p)) (itself t)) value_one)
-    (grouped g.num (den g) t.num (den t) p.num (den p))
-
-horner : (t : Ratio) (n : ℕ) → Same (plus (geometric t n) (power t n)) (plus (times (geometric t n) t) one)
-unfolding geometric power
-horner t zero = same_by (value_plus (value_ratio 0) value_one) (value_plus (value_times (value_ratio 0) (itself t)) value_one) (omega arith)
-horner t (suc n) = Same-trans (plus-Same (horner t n) (Same-self (times (power t n) t))) (regroup (geometric t n) t (power t n))
 
 three_sums : (a x b y c z : ℕ) → (a * (y * z) + (b * z + c * y) * x) * ((x * y) * z) ≡ ((a * y + b * x) * z + c * (x * y)) * (x * (y * z))
 three_sums a x b y c z = omega arith
@@ -125,7 +73,7 @@ module _ (P g : Ratio) (some : 0 < g.num) where
   as_part q = same_by (value_over some (value_times (itself P) (itself q)) (itself g)) (value_times (value_over some (itself q) (itself g)) (itself P)) (omega arith)
 
   capacity_over : (c w : Ratio) → 0 < P.num → 0 < w.num → Same (times (over (times c g) (times P w)) (over (times P w) g)) c
-  capacity_over c w h k = same_by (value_times (value_over (product_positive P.num w.num h k) (value_times (itself c) (itself g)) (value_times (itself P) (itself w))) (value_over some (value_times (itself P) (itself w)) (itself g))) (itself c) (omega arith)
+  capacity_over c w h k = same_by (value_times (value_over (mul-pos h k) (value_times (itself c) (itself g)) (value_times (itself P) (itself w))) (value_over some (value_times (itself P) (itself w)) (itself g))) (itself c) (omega arith)
 
 cancel : (n : ℕ) → 1 + n - 1 ≡ n
 cancel n = omega arith
@@ -177,7 +125,7 @@ module _ (p : Period) (h : Lasts p) where
   grows : (n : ℕ) → 1 ≤ n → Same (step_length p (n + 1)) (times T (step_length p n))
   grows n some =
       let next = step_is (n + 1) (suc (n - 1)) (omega arith) ∙ ap (λ q. over (times P q) (G p.nstp)) (next_power (n - 1)) in
-      Same-trans (as_same next) (Same-trans (grown P (G p.nstp) whole_sum T (power T (n - 1))) (as_same (ap (times T) (sym (step_is n (n - 1) refl)))))
+      Same-trans (Same-of next) (Same-trans (grown P (G p.nstp) whole_sum T (power T (n - 1))) (Same-of (ap (times T) (sym (step_is n (n - 1) refl)))))
 
   first_step : step_length p 1 ≡ over (times P one) (G p.nstp)
   first_step = step_is 1 0 refl ∙ ap (λ q. over (times P q) (G p.nstp)) no_power
@@ -185,26 +133,27 @@ module _ (p : Period) (h : Lasts p) where
   first : Same (plus (times (step_length p 1) (power T p.nstp)) P) (plus (times P T) (step_length p 1))
   first =
       let w = power T p.nstp in
-      let meet = over-Same whole_sum whole_sum (times-Same (Same-self P) (horner T p.nstp)) (Same-self (G p.nstp)) in
-      Same-trans (as_same (ap (λ s. plus (times s w) P) first_step))
+      let more = subst (λ s. Same s (plus (times (G p.nstp) T) one)) (next_sum p.nstp) (horner T p.nstp) in
+      let meet = over-Same whole_sum whole_sum (times-Same (Same-self P) more) (Same-self (G p.nstp)) in
+      Same-trans (Same-of (ap (λ s. plus (times s w) P) first_step))
       (Same-trans (first_left P (G p.nstp) whole_sum w)
       (Same-trans meet
-      (Same-trans (first_right P (G p.nstp) whole_sum T) (as_same (ap (plus (times P T)) (sym first_step))))))
+      (Same-trans (first_right P (G p.nstp) whole_sum T) (Same-of (ap (plus (times P T)) (sym first_step))))))
 
   equal : Same T one → (n : ℕ) → Same (step_length p n) (over P (ratio p.nstp 1))
   equal e n =
       let some : 0 < (ratio p.nstp 1).num = omega (arith, (value_ratio p.nstp).num, h.nstp) in
       let time : Same (times P (power T (n - 1))) P = Same-trans (times-Same (Same-self P) (power_one T (n - 1) e)) (same_by (value_times (itself P) value_one) (itself P) (omega arith)) in
-      Same-trans (as_same (step_is n (n - 1) refl)) (over-Same whole_sum some time (geometric_one T p.nstp e))
+      Same-trans (Same-of (step_is n (n - 1) refl)) (over-Same whole_sum some time (geometric_one T p.nstp e))
 
   -- the time that has passed after n steps
   elapsed : (n : ℕ) → Same (ratio_total (step_length p) (range_with_len 1 n)) (over (times P (G n)) (G p.nstp))
-  elapsed zero = Same-trans (nothing_yet P (G p.nstp) whole_sum) (as_same (ap (λ q. over (times P q) (G p.nstp)) (sym no_sum)))
+  elapsed zero = Same-trans (nothing_yet P (G p.nstp) whole_sum) (Same-of (ap (λ q. over (times P q) (G p.nstp)) (sym no_sum)))
   elapsed (suc n) =
-      Same-trans (as_same (ap (ratio_total (step_length p)) (range_more 1 n)))
+      Same-trans (Same-of (ap (ratio_total (step_length p)) (range_more 1 n)))
       (Same-trans (total_more (step_length p) (range_with_len 1 n) (1 + n))
-      (Same-trans (plus-Same (elapsed n) (as_same (step_is (1 + n) n (cancel n))))
-      (Same-trans (one_more P (G p.nstp) whole_sum (G n) (power T n)) (as_same (ap (λ q. over (times P q) (G p.nstp)) (sym (next_sum n)))))))
+      (Same-trans (plus-Same (elapsed n) (Same-of (step_is (1 + n) n (cancel n))))
+      (Same-trans (one_more P (G p.nstp) whole_sum (G n) (power T n)) (Same-of (ap (λ q. over (times P q) (G p.nstp)) (sym (next_sum n)))))))
 
   whole : Same (ratio_total (step_length p) (range_with_len 1 p.nstp)) P
   whole = Same-trans (elapsed p.nstp) (all_of_it P (G p.nstp) whole_sum)
@@ -217,14 +166,14 @@ module _ (p : Period) (h : Lasts p) where
   part_is n true e =
       let here : n ≡ p.nstp = eqb-true n p.nstp e in
       let all : passed p n ≡ one = ap (λ c. cond (c || p.perlen.digits == 0) one (over (geometric (multiplier p) n) (geometric (multiplier p) p.nstp))) e in
-      Same-trans (as_same (ap (λ k. over (times P (G k)) (G p.nstp)) here))
+      Same-trans (Same-of (ap (λ k. over (times P (G k)) (G p.nstp)) here))
       (Same-trans (all_of_it P (G p.nstp) whole_sum)
-      (Same-trans (same_by (itself P) (value_times value_one (itself P)) (omega arith)) (as_same (ap (λ f. times f P) (sym all)))))
+      (Same-trans (same_by (itself P) (value_times value_one (itself P)) (omega arith)) (Same-of (ap (λ f. times f P) (sym all)))))
   part_is n false e =
       let transient : multiplier p ≡ T = ap (λ s. cond s one T) h.transient in
       let some : passed p n ≡ over (G n) (G p.nstp) =
       (λ i. cond (e i || lasts i) one (over (geometric (transient i) n) (geometric (transient i) p.nstp))) in
-      Same-trans (as_part P (G p.nstp) whole_sum (G n)) (as_same (ap (λ f. times f P) (sym some)))
+      Same-trans (as_part P (G p.nstp) whole_sum (G n)) (Same-of (ap (λ f. times f P) (sym some)))
 
   pub manual_steps : HasManualSteps p
   manual_steps = record {
@@ -237,4 +186,4 @@ module _ (p : Period) (h : Lasts p) where
 
   pub stores : (m : FlowModel) (n c : ℕ) → Same (times (storage m p n c) (step_length p n)) (storage_capacity m c)
   unfolding storage step_length
-  stores m n c = capacity_over P (G p.nstp) whole_sum (storage_capacity m c) (power T (n - 1)) (size_positive p.perlen h.perlen) (power_positive T (n - 1) (size_positive p.tsmult h.tsmult))
+  stores m n c = capacity_over P (G p.nstp) whole_sum (storage_capacity m c) (power T (n - 1)) (size_positive p.perlen h.perlen) (power-positive T (n - 1) (size_positive p.tsmult h.tsmult))

@@ -1,5 +1,5 @@
 -- Flows over branches change their sign with the heads.
-use Rattle.std.proofs.Common.{◌≡◌, ℕ, ◌*◌, ◌<◌, sym, arith, ℤ, pos, neg_ℤ, ◌-ℤ◌, ◌*ℤ◌}
+use Rattle.std.proofs.Common.{◌≡◌, ℕ, ◌*◌, ◌<◌, sym, arith, ℤ, pos, neg_ℤ, ◌-ℤ◌, ◌*ℤ◌, mul-pos}
 use Rattle.std.proofs.lemmas.Int.{ints}
 use Rattle.decimal_input.specs.Ratios.{Ratio, den as ratio_den}
 use Rattle.decimal_input.specs.Fractions.{Fraction, den, signed, negated, times, Same, IsOver}
@@ -25,9 +25,6 @@ over_second f g = record { is = sym (mul_assoc g.num (pos (den f)) (pos (den g))
 pub own_share : (r : Ratio) → IsShare (ratio_den r) r r.num
 own_share r = record { is = omega arith }
 
-pub product_positive : (a b : ℕ) → 0 < a → 0 < b → 0 < a * b
-product_positive a b p q = grind arith
-
 -- C * (f - g) over one denominator
 flow_over : (r : Ratio) (m : ℕ) (f g : Fraction) (a b : ℤ) → IsOver m f a → IsOver m g b → IsOver (ratio_den r * m) (times (signed r) (minus f g)) (pos r.num *ℤ (a -ℤ b))
 flow_over r m f g a b p q = IsOver-times (ratio_den r) m (signed r) (minus f g) (pos r.num) (a -ℤ b) (IsOver-signed (ratio_den r) r r.num (own_share r)) (IsOver-minus m f g a b p q)
@@ -43,7 +40,7 @@ module _ (r : Ratio) (f g : Fraction) where
   b = g.num *ℤ pos (den f)
 
   some : 0 < ratio_den r * m
-  some = product_positive (ratio_den r) m (omega arith) (product_positive (den f) (den g) (omega arith) (omega arith))
+  some = mul-pos (omega arith) (mul-pos (omega arith) (omega arith))
 
   abbrev flow : Fraction
   flow = times (signed r) (minus f g)

@@ -5,6 +5,7 @@ pub mod Leads
 pub mod Numbering
 mod LastGiven
 mod NeighbourFaces
+pub mod Growth
 mod GivenTables
 mod StepLists
 pub mod NoStresses

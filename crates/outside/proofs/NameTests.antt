@@ -2,11 +2,8 @@
 use Rattle.std.proofs.Common.{◌≡◌, ℕ, zero, suc, ◌<◌, Bool, true, false, ◌&&◌, List, [], ◌∷◌, length, get_or, nat_le, arith, refl, All}
 use Rattle.std.specs.List.{list_all}
 use Rattle.std.proofs.lemmas.Bool.Decides.{nat_tests}
+use Rattle.std.proofs.lemmas.Bool.{and_parts}
 use Rattle.outside.specs.Names.{IsGoodName, IsNameByte, is_good_name}
-
-both : (a b : Bool) → (a && b) ≡ true → (a ≡ true) × (b ≡ true)
-both true b e = (refl, e)
-both false b e = cc
 
 bytes_taken : (bs : List ℕ) → All IsNameByte bs → list_all (λ b. nat_le 33 b && nat_le b 126) bs ≡ true
 bytes_taken [] h = refl
@@ -20,9 +17,9 @@ bytes_taken (b ∷ bs) h =
 byte_at : (bs : List ℕ) → list_all (λ b. nat_le 33 b && nat_le b 126) bs ≡ true → (k d : ℕ) → k < length bs → IsNameByte (get_or bs k d)
 byte_at [] e k d within = absurd (omega arith)
 byte_at (b ∷ bs) e zero d within =
-    let p = both (nat_le 33 b) (nat_le b 126) (both (nat_le 33 b && nat_le b 126) _ e).0 in
+    let p = and_parts (nat_le 33 b) (nat_le b 126) (and_parts (nat_le 33 b && nat_le b 126) _ e).0 in
     (grind (arith, nat_tests), grind (arith, nat_tests))
-byte_at (b ∷ bs) e (suc k) d within = byte_at bs (both (nat_le 33 b && nat_le b 126) _ e).1 k d (omega arith)
+byte_at (b ∷ bs) e (suc k) d within = byte_at bs (and_parts (nat_le 33 b && nat_le b 126) _ e).1 k d (omega arith)
 
 pub is_taken : (bs : List ℕ) → IsGoodName bs → is_good_name bs ≡ true
 unfolding is_good_name
@@ -34,6 +31,6 @@ is_taken bs h =
 pub is_good : (bs : List ℕ) → is_good_name bs ≡ true → IsGoodName bs
 unfolding is_good_name
 is_good bs e =
-    let lengths = both (nat_le 1 (length bs) && nat_le (length bs) 255) _ e in
-    let p = both (nat_le 1 (length bs)) (nat_le (length bs) 255) lengths.0 in
+    let lengths = and_parts (nat_le 1 (length bs) && nat_le (length bs) 255) _ e in
+    let p = and_parts (nat_le 1 (length bs)) (nat_le (length bs) 255) lengths.0 in
     (grind (arith, nat_tests), grind (arith, nat_tests), λ k d within. byte_at bs lengths.1 k d within)

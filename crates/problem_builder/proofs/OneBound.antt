@@ -28,7 +28,7 @@ use Rattle.problem_builder.specs.InputBounds.{IsCond, IsWellPair, IsHeadPair}
 use Rattle.problem_builder.specs.RechargeBounds.{IsRechargePair}
 use Rattle.model_types.specs.declared.model.FlowModel.{FlowModel}
 use Rattle.conductance_bounds.specs.Formulas.{recharge_term}
-use Rattle.scaled_decimal.proofs.Sums.{Same-both}
+use Rattle.decimal_input.proofs.SameNumbers.{Same-both}
 
 same_decimal : (r q : Sd) → IsSd r → IsSd q → Same (value r) (value q) → r ≡ q
 same_decimal r q h k s = let (m, e) = one_decimal r q h k s in λ i. record { m = m i; e = e i }

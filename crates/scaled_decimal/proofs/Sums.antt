@@ -3,21 +3,12 @@ use Rattle.std.proofs.Math.Nat.{mul-le-mul_right}
 use Rattle.decimal_input.specs.Ratios.{Ratio, den, ratio, plus, AtMost, Below, Same}
 use Rattle.decimal_input.specs.Decimals.{scaled, up}
 use Rattle.decimal_input.proofs.Orders.{AtMost-trans, AtMost-refl, Below-AtMost, AtMost-Below, Same-AtMost, Same-back, Same-trans, plus-AtMost, num_plus, den_plus}
+use Rattle.decimal_input.proofs.SameNumbers.{Same-both, plus-comm}
 use Rattle.decimal_input.proofs.Powers.{ten_pos, num_scaled, den_scaled}
 use Rattle.scaled_decimal.specs.Cuts.{IsFrom, IsUpTo}
 use Rattle.scaled_decimal.proofs.Nearest.{uncarried}
 use Rattle.decimal_input.proofs.Cross.{lt_right}
 use Rattle.scaled_decimal.proofs.Products.{scaled-Below}
-
-pub Same-both : {f g : Ratio} → AtMost f g → AtMost g f → Same f g
-Same-both p q = record { cross = omega (arith, p.cross, q.cross) }
-
-pub plus-comm : (f g : Ratio) → plus f g ≡ plus g f
-unfolding plus
-plus-comm f g =
-    let top : f.num * den g + g.num * den f ≡ g.num * den f + f.num * den g = omega arith in
-    let bottom : den f * den g ≡ den g * den f = omega arith in
-    ap (λ (n : ℕ). ratio n (den f * den g)) top ∙ ap (λ (d : ℕ). ratio (g.num * den f + f.num * den g) d) bottom
 
 cross_plus_below : (a x b y c z d w : ℕ) → 0 < x * y → a * y ≤ b * x → c * w < d * z → (a * z + c * x) * (y * w) < (b * w + d * y) * (x * z)
 cross_plus_below a x b y c z d w h p q = omega (arith, mul-le-mul_right (z * w) p, lt_right (x * y) (c * w) (d * z) h q)
