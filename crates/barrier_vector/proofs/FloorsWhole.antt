@@ -1,5 +1,5 @@
 -- A solution of an exact step that a problem encloses, in whole numbers.
-use Rattle.std.proofs.Common.{◌≡◌, ℕ, ◌*◌, ◌^◌, ◌<◌, sym, ◌∙◌, subst, arith, ℤ, pos, ◌*ℤ◌, ◌≤ℤ◌, List, length}
+use Rattle.std.proofs.Common.{◌≡◌, ℕ, ◌*◌, ◌^◌, ◌<◌, sym, ◌∙◌, subst, arith, ℤ, pos, ◌*ℤ◌, ◌≤ℤ◌, List, length, mul-pos}
 use Rattle.std.specs.List.{AllZip}
 use Rattle.decimal_input.specs.Fractions.{IsOver}
 use Rattle.decimal_input.proofs.Signs.{cancel_right, swap}
@@ -8,7 +8,7 @@ use Rattle.step_problem.proofs.Ring.{mul_assoc}
 use Rattle.cell_balance.specs.Steps.{ExactCell}
 use Rattle.cell_balance.specs.Solutions.{share}
 use Rattle.cell_balance.proofs.Over.{CellOver}
-use Rattle.cell_balance.proofs.Denominators.{step_common, some_product}
+use Rattle.cell_balance.proofs.Denominators.{step_common}
 use Rattle.cell_balance.proofs.Wholes.{whole_step}
 use Rattle.cell_balance.proofs.Enclosed.{step_within}
 use Rattle.cell_balance.proofs.Mutual.{mutual_whole}
@@ -39,7 +39,7 @@ whole_solution p s e d X given =
       w,
       record {
         some = some_n;
-        some_heads = some_product n d some_n given.some;
+        some_heads = mul-pos some_n given.some;
         within = step_within s n (n * d) (length p) p e w given.encloses.cells over (links_good p given.problem);
         both = mutual_whole (n * 10 ^ s) (n * d * 10 ^ 9) e w (linked s p e given.problem given.encloses) over;
         solves = whole_solves (n * 10 ^ s) (n * d * 10 ^ 9) e w d X (whole_head n X) over given.solves (λ c. heads_over n c);
