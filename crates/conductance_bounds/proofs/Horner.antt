@@ -4,6 +4,7 @@ use Rattle.decimal_input.specs.Ratios.{Ratio, den, ratio, plus, times, Same}
 use Rattle.decimal_input.proofs.Orders.{Same-trans, Same-sym, num_times, den_times, num_plus, den_plus}
 use Rattle.model_types.specs.Conductances.{one}
 use Rattle.model_types.specs.Times.{power, geometric}
+use Rattle.model_types.proofs.Growth.{horner}
 use Rattle.conductance_bounds.specs.Terms.{exact, Holds}
 use Rattle.conductance_bounds.specs.Growth.{sum_term, power_term}
 use Rattle.decimal_input.proofs.SameNumbers.{Same-self, plus-Same, times-Same, times-positive}
