@@ -51,7 +51,8 @@ fn left_of(side: Side, balance: i128) -> i128 {
     }
 }
 
-/// The relaxed head of a cell on a side: its raise value or its sink value.
+/// The relaxed head of a cell on a side: its raise value or its sink value. It is inlined, so that each side has a loop of its own.
+#[inline(always)]
 pub fn relax_to(p: &Problem, side: Side, cell: usize, own: i64, values: &[i64]) -> i64
     requires index { cell < length p.now }
     requires own { IsHead own }

@@ -1,10 +1,7 @@
-pub mod SideLaws
 pub mod WordReads
 pub mod Unmoved
-pub mod LookingLow
-pub mod LookingHigh
-pub mod Raising
-pub mod Sinking
+pub mod Looking
+pub mod Exchanging
 pub mod Claiming
 pub mod Tightest
 pub mod Seeing

@@ -1,45 +1,39 @@
 -- Seats that loosen nothing.
-use Rattle.std.proofs.Common.{◌≡◌, ℕ, ◌+◌, ◌<◌, List, length, get_or, set, ℤ, ◌≤ℤ◌, sym, ap, ◌∙◌, subst, arith, get_or-set_same, get_or-set_other}
+use Rattle.std.proofs.Common.{◌≡◌, ℕ, ◌+◌, ◌<◌, List, length, get_or, set, ℤ, sym, ap, ◌∙◌, subst, arith, get_or-set_same, get_or-set_other}
 use Rattle.std.proofs.lemmas.Int.{ints}
 use mathlib.Core.Logic.{dite}
 use native.Mathlib.Decide.{ℕ_discrete}
 use Rattle.step_problem.specs.Entries.{Entries}
 use Rattle.step_problem.specs.declared.heads.Bound.{Bound}
-use Rattle.step_problem.specs.Heads.{lower_at, upper_at, no_bound}
+use Rattle.step_problem.specs.declared.heads.Side.{Side}
+use Rattle.step_problem.specs.declared.heads.Side.TheVariants.{Low, High}
+use Rattle.step_problem.specs.Heads.{no_bound}
+use Rattle.cell_relax.specs.Sides.{IsAsTight, AreNoLooser, other}
+use Rattle.cell_relax.specs.Words.{heads_on}
+use Rattle.cell_relax.proofs.Sides.{each_side}
 use Rattle.head_table.specs.declared.table.HeadSeat.{HeadSeat}
-use Rattle.head_table.specs.BySide.{AreNoLooser}
-use Rattle.head_table.specs.Seats.{low_seen, high_seen, seen_of, SameHigh, SameLow, SameLowBut, SameHighBut}
+use Rattle.head_table.specs.Seats.{seen_on, seen_of, SameOn, SameOnBut}
 
-pub loads_no_looser : (cells : List Entries) (a b : HeadSeat) (c : ℕ) (r : ℤ) → low_seen b c ≡ r → low_seen a c ≤ℤ r → SameLowBut c a b → SameHigh a b → AreNoLooser cells (seen_of a) (seen_of b)
-loads_no_looser cells a b c r here later others high = record {
-  low = λ d h. dite (ℕ_discrete d c)
-      (λ e. subst (λ (k : ℕ). low_seen a k ≤ℤ low_seen b k) (sym e) (subst (λ (z : ℤ). low_seen a c ≤ℤ z) (sym here) later))
-      (λ ne. subst (λ (z : ℤ). low_seen a d ≤ℤ z) (sym (others d ne)) (omega (arith, ints)));
-  high = λ d h. subst (λ (z : ℤ). z ≤ℤ high_seen a d) (sym (high d)) (omega (arith, ints));
-}
+pub tight_refl : (side : Side) (x : ℤ) → IsAsTight side x x
+tight_refl Low x = omega (arith, ints)
+tight_refl High x = omega (arith, ints)
+
+tight_trans : (side : Side) (x y z : ℤ) → IsAsTight side x y → IsAsTight side y z → IsAsTight side x z
+tight_trans Low x y z p q = omega (arith, ints)
+tight_trans High x y z p q = omega (arith, ints)
+
+pub moves_no_looser : (side : Side) (cells : List Entries) (a b : HeadSeat) (c : ℕ) (r : ℤ) → seen_on side b c ≡ r → IsAsTight side (seen_on side a c) r → SameOnBut side c a b → SameOn (other side) a b → AreNoLooser cells (seen_of a) (seen_of b)
+moves_no_looser side cells a b c r here later others opposite = each_side side (λ t. (d : ℕ) → d < length cells → IsAsTight t (seen_on t a d) (seen_on t b d))
+    (λ d h. dite (ℕ_discrete d c)
+    (λ e. subst (λ (k : ℕ). IsAsTight side (seen_on side a k) (seen_on side b k)) (sym e) (subst (IsAsTight side (seen_on side a c)) (sym here) later))
+    (λ ne. subst (IsAsTight side (seen_on side a d)) (sym (others d ne)) (tight_refl side _)))
+    (λ d h. subst (IsAsTight (other side) (seen_on (other side) a d)) (sym (opposite d)) (tight_refl (other side) _))
 
 pub same_no_looser : (cells : List Entries) (a b : HeadSeat) → seen_of b ≡ seen_of a → AreNoLooser cells (seen_of a) (seen_of b)
-same_no_looser cells a b e = record {
-  low = λ d h. subst (λ (z : ℤ). low_seen a d ≤ℤ z) (ap (λ (l : List Bound). lower_at l d) (sym e)) (omega (arith, ints));
-  high = λ d h. subst (λ (z : ℤ). z ≤ℤ high_seen a d) (ap (λ (l : List Bound). upper_at l d) (sym e)) (omega (arith, ints));
-}
+same_no_looser cells a b e side d h = subst (IsAsTight side (seen_on side a d)) (ap (λ (l : List Bound). heads_on side l d) (sym e)) (tight_refl side _)
 
 pub no_looser_trans : (cells : List Entries) (a b c : List Bound) → AreNoLooser cells a b → AreNoLooser cells b c → AreNoLooser cells a c
-no_looser_trans cells a b c p q = record {
-  low = λ d h. low_trans (lower_at a d) (lower_at b d) (lower_at c d) (p.low d h) (q.low d h);
-  high = λ d h. low_trans (upper_at c d) (upper_at b d) (upper_at a d) (q.high d h) (p.high d h);
-}
-  where
-    low_trans : (x y z : ℤ) → x ≤ℤ y → y ≤ℤ z → x ≤ℤ z
-    low_trans x y z e g = omega (arith, ints)
-
-pub loads_high_no_looser : (cells : List Entries) (a b : HeadSeat) (c : ℕ) (r : ℤ) → high_seen b c ≡ r → r ≤ℤ high_seen a c → SameHighBut c a b → SameLow a b → AreNoLooser cells (seen_of a) (seen_of b)
-loads_high_no_looser cells a b c r here later others low = record {
-  low = λ d h. subst (λ (z : ℤ). low_seen a d ≤ℤ z) (sym (low d)) (omega (arith, ints));
-  high = λ d h. dite (ℕ_discrete d c)
-      (λ e. subst (λ (k : ℕ). high_seen b k ≤ℤ high_seen a k) (sym e) (subst (λ (z : ℤ). z ≤ℤ high_seen a c) (sym here) later))
-      (λ ne. subst (λ (z : ℤ). z ≤ℤ high_seen a d) (sym (others d ne)) (omega (arith, ints)));
-}
+no_looser_trans cells a b c p q side d h = tight_trans side _ _ _ (p side d h) (q side d h)
 
 -- one more bound was written
 pub shows_step : (at : Bound → ℤ) (seen seen' : ℕ → ℤ) (bs : List Bound) (i : ℕ) (x : Bound) → i < length bs → at x ≡ seen' i → ((d : ℕ) → (d ≡ i → ⊥) → seen' d ≡ seen d)

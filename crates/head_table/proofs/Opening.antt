@@ -6,31 +6,38 @@ use Rattle.atomic_table.specs.Table.{opening}
 use Rattle.step_problem.specs.declared.heads.Bound.{Bound}
 use Rattle.step_problem.specs.Entries.{Entries}
 use Rattle.step_problem.specs.Conditions.{IsProblem}
-use Rattle.step_problem.specs.Heads.{Edges, AreOnTheWay, lower_at, upper_at, head_at}
+use Rattle.step_problem.specs.declared.heads.Side.{Side}
+use Rattle.step_problem.specs.declared.heads.Side.TheVariants.{Low, High}
+use Rattle.step_problem.specs.Heads.{Edges, AreOnTheWay}
+use Rattle.step_problem.proofs.Sides.{same_on_the_way}
+use Rattle.step_problem.proofs.SidesTurns.{same_seen, seen_itself}
+use Rattle.cell_relax.specs.Words.{heads_on}
+use Rattle.cell_relax.proofs.Sides.{is_side}
 use Rattle.head_table.specs.declared.known.Known.{Known}
-use Rattle.head_table.specs.Words.{lower_words, upper_words}
+use Rattle.head_table.specs.Words.{words_on}
+use Rattle.head_table.specs.BySide.{edge_on, OnTheWay}
 use Rattle.head_table.specs.Rule.{IsKnown, IsTableKept, starting}
-use Rattle.head_table.proofs.SideLaws.{low_same, high_same, low_fits_same, high_fits_same, low_fits_itself, high_fits_itself}
 
 only_one : (cells : List Entries) (edges : Edges) (raw : List ℕ) (u : Known) → IsKnown cells edges raw u → (j : ℕ) (v : Known) → get_elem? (u ∷ []) j ≡ some v → v.live ≡ true → IsKnown cells edges raw v
 only_one cells edges raw u k zero v e l = subst (IsKnown cells edges raw) (some-injective u v e) k
 only_one cells edges raw u k (suc j) v e l = absurd (some-ne-none v (sym e))
 
+-- words on the way from a barrier are so on each side
+way_on : (side : Side) (cells : List Entries) (edges : Edges) (words : List Bound) → AreOnTheWay cells edges words → OnTheWay side cells (edge_on side edges) (heads_on side words)
+way_on Low cells edges words k = k.low
+way_on High cells edges words k = k.high
+
 pub opens : (cells : List Entries) (edges : Edges) → IsProblem cells → (words : List Bound) (raw : List ℕ) → length raw ≡ 2 * length words + 1
-    → ((c : ℕ) → c < length words → lower_words raw c ≡ lower_at words c) → ((c : ℕ) → c < length words → upper_words raw c ≡ upper_at words c)
-    → AreOnTheWay cells edges words → IsTableKept cells edges (opening raw [] (starting words cells edges))
-opens cells edges ok words raw wide low high k = let n = k.whole in
-    let low' : (c : ℕ) → c < length cells → lower_words raw c ≡ lower_at words c = λ c h. low c (omega arith) in
-    let high' : (c : ℕ) → c < length cells → upper_words raw c ≡ upper_at words c = λ c h. high c (omega arith) in
+    → ((side : Side) (c : ℕ) → c < length words → words_on side raw c ≡ heads_on side words c) → AreOnTheWay cells edges words → IsTableKept cells edges (opening raw [] (starting words cells edges))
+opens cells edges ok words raw wide same k = let n = k.whole in
+    let same' : (side : Side) (c : ℕ) → c < length cells → words_on side raw c ≡ heads_on side words c = λ side c h. same side c (omega arith) in
     let one : IsKnown cells edges raw (starting words cells edges) = record {
       problem_is = refl;
       barrier_is = refl;
       whole = k.whole;
-      low = low_fits_same cells ok (lower_at words) (lower_words raw) (lower_at words) (lower_at words) low' (λ c h. refl) (low_fits_itself cells ok (head_at edges.floor) (lower_at words) k.low);
-      high = high_fits_same cells ok (upper_at words) (upper_words raw) (upper_at words) (upper_at words) high' (λ c h. refl) (high_fits_itself cells ok (head_at edges.ceiling) (upper_at words) k.high);
+      heads = λ side. same_seen (is_side side cells ok) (heads_on side words) (words_on side raw) (heads_on side words) (heads_on side words) (same' side) (λ c h. refl) (seen_itself (is_side side cells ok) (edge_on side edges) (heads_on side words) (way_on side cells edges words k));
     } in record {
       wide = omega arith;
-      low = low_same cells ok (head_at edges.floor) (lower_at words) (lower_words raw) low' k.low;
-      high = high_same cells ok (head_at edges.ceiling) (upper_at words) (upper_words raw) high' k.high;
+      way = λ side. same_on_the_way (is_side side cells ok) (edge_on side edges) (heads_on side words) (words_on side raw) (same' side) (way_on side cells edges words k);
       each_seat = only_one cells edges raw (starting words cells edges) one;
     }

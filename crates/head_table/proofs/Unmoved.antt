@@ -29,7 +29,6 @@ module _ (cells : List Entries) (edges : Edges) where
   pub unmoved : (s : KnownState) (k : Rule s) (i id : ℕ) (me : KnownMe) (w : Known) → IsKnown cells edges s.words w → Rule (stepped s i (get_or s.words i 0) id me.1 w keeps)
   unmoved s k i id me w mine = subst (λ (ws : List ℕ). Rule record { words = ws; homes = s.homes; views = set s.views id w }) (sym (set-get_or s.words i 0)) record {
     wide = k.wide;
-    low = k.low;
-    high = k.high;
+    way = k.way;
     each_seat = views_stay (IsKnown cells edges s.words) s.views id w (λ _. mine) k.each_seat;
   }

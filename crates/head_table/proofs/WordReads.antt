@@ -1,21 +1,82 @@
--- What the words of a table read after one of them is set.
-use Rattle.std.proofs.Common.{◌≡◌, ℕ, ◌+◌, ◌*◌, ◌<◌, List, length, set, ap, arith, get_or-set_other, get_or-set_same}
-use Rattle.head_table.specs.Words.{head_of_word, lower_words, upper_words}
+-- What the words of a table, and bounds, read on each side after one of them is set.
+use Rattle.std.proofs.Common.{◌≡◌, ℕ, ◌+◌, ◌*◌, ◌<◌, ◌≤◌, ◌⊎◌, inl, inr, List, length, set, ℤ, ap, arith, length-set, get_or-set_other, get_or-set_same}
+use Rattle.std.proofs.lemmas.Int.{ints, clamps}
+use native.Mathlib.Decide.{dec_le}
+use Rattle.step_problem.specs.declared.heads.Bound.{Bound}
+use Rattle.step_problem.specs.declared.heads.Side.{Side}
+use Rattle.step_problem.specs.declared.heads.Side.TheVariants.{Low, High}
+use Rattle.cell_relax.specs.Sides.{IsAsTight, other}
+use Rattle.cell_relax.specs.Words.{heads_on}
+use Rattle.relax_core.specs.Core.{with_head}
+use Rattle.relax_core.proofs.Words.{low_here, low_else, low_stays, high_here, high_else, high_stays}
+use Rattle.head_table.specs.Seats.{tighter_of}
+use Rattle.head_table.specs.Words.{head_of_word, word_of, words_on, tighter_word}
 
-pub low_word_here : (ws : List ℕ) (c x : ℕ) → 2 * c + 1 < length ws → lower_words (set ws (2 * c + 1) x) c ≡ head_of_word x
-low_word_here ws c x l = ap head_of_word (get_or-set_same ws (2 * c + 1) x 0 l)
+-- each word is of one cell and one side
+pub one_cell : (side : Side) (c d : ℕ) → word_of side c ≡ word_of side d → c ≡ d
+one_cell Low c d e = omega (arith, e)
+one_cell High c d e = omega (arith, e)
 
-pub low_word_else : (ws : List ℕ) (c x d : ℕ) → (d ≡ c → ⊥) → lower_words (set ws (2 * c + 1) x) d ≡ lower_words ws d
-low_word_else ws c x d ne = ap head_of_word (get_or-set_other ws (2 * c + 1) (2 * d + 1) x 0 (λ e. ne (omega arith)))
+apart : (side : Side) (c d : ℕ) → word_of (other side) d ≡ word_of side c → ⊥
+apart Low c d e = omega (arith, e)
+apart High c d e = omega (arith, e)
 
-pub high_word_stays : (ws : List ℕ) (c x : ℕ) → upper_words (set ws (2 * c + 1) x) ≡ upper_words ws
-high_word_stays ws c x = λ i d. ap head_of_word (get_or-set_other ws (2 * c + 1) (2 * d + 2) x 0 (λ e. omega arith)) i
+not_first : (side : Side) (c : ℕ) → word_of side c ≡ 0 → ⊥
+not_first Low c e = omega (arith, e)
+not_first High c e = omega (arith, e)
 
-pub high_word_here : (ws : List ℕ) (c x : ℕ) → 2 * c + 2 < length ws → upper_words (set ws (2 * c + 2) x) c ≡ head_of_word x
-high_word_here ws c x l = ap head_of_word (get_or-set_same ws (2 * c + 2) x 0 l)
+pub word_within : (side : Side) (c n : ℕ) → c < n → word_of side c < 2 * n + 1
+word_within Low c n h = omega (arith, h)
+word_within High c n h = omega (arith, h)
 
-pub high_word_else : (ws : List ℕ) (c x d : ℕ) → (d ≡ c → ⊥) → upper_words (set ws (2 * c + 2) x) d ≡ upper_words ws d
-high_word_else ws c x d ne = ap head_of_word (get_or-set_other ws (2 * c + 2) (2 * d + 2) x 0 (λ e. ne (omega arith)))
+pub word_here : (side : Side) (ws : List ℕ) (c x : ℕ) → word_of side c < length ws → words_on side (set ws (word_of side c) x) c ≡ head_of_word x
+word_here side ws c x l = ap head_of_word (get_or-set_same ws (word_of side c) x 0 l)
 
-pub low_word_stays : (ws : List ℕ) (c x : ℕ) → lower_words (set ws (2 * c + 2) x) ≡ lower_words ws
-low_word_stays ws c x = λ i d. ap head_of_word (get_or-set_other ws (2 * c + 2) (2 * d + 1) x 0 (λ e. omega arith)) i
+pub word_else : (side : Side) (ws : List ℕ) (c x d : ℕ) → (d ≡ c → ⊥) → words_on side (set ws (word_of side c) x) d ≡ words_on side ws d
+word_else side ws c x d ne = ap head_of_word (get_or-set_other ws (word_of side c) (word_of side d) x 0 (λ e. ne (one_cell side d c e)))
+
+pub other_words : (side : Side) (ws : List ℕ) (c x : ℕ) → words_on (other side) (set ws (word_of side c) x) ≡ words_on (other side) ws
+other_words side ws c x = λ i d. ap head_of_word (get_or-set_other ws (word_of side c) (word_of (other side) d) x 0 (λ e. apart side c d e)) i
+
+-- the counter is no cell's word
+pub counted_words : (side : Side) (ws : List ℕ) (x : ℕ) → words_on side (set ws 0 x) ≡ words_on side ws
+counted_words side ws x = λ i d. ap head_of_word (get_or-set_other ws 0 (word_of side d) x 0 (λ e. not_first side d e)) i
+
+-- bounds of which one head is set
+pub seen_length : (side : Side) (bs : List Bound) (c : ℕ) (h : ℤ) → length (with_head side bs c h) ≡ length bs
+seen_length Low bs c h = length-set bs c _
+seen_length High bs c h = length-set bs c _
+
+pub seen_here : (side : Side) (bs : List Bound) (c : ℕ) (h : ℤ) → c < length bs → heads_on side (with_head side bs c h) c ≡ h
+seen_here Low = low_here
+seen_here High = high_here
+
+pub seen_else : (side : Side) (bs : List Bound) (c : ℕ) (h : ℤ) (d : ℕ) → (d ≡ c → ⊥) → heads_on side (with_head side bs c h) d ≡ heads_on side bs d
+seen_else Low = low_else
+seen_else High = high_else
+
+pub other_seen : (side : Side) (bs : List Bound) (c : ℕ) (h : ℤ) → c < length bs → (d : ℕ) → heads_on (other side) (with_head side bs c h) d ≡ heads_on (other side) bs d
+other_seen Low = high_stays
+other_seen High = low_stays
+
+-- the head of the tighter word
+pub tighter_is : (side : Side) (x k : ℕ) → head_of_word (tighter_word side x k) ≡ tighter_of side (head_of_word x) (head_of_word k)
+tighter_is Low x k = omega (arith, ints, clamps)
+tighter_is High x k = omega (arith, ints, clamps)
+
+pub tighter_old : (side : Side) (x k : ℕ) → IsAsTight side (head_of_word x) (head_of_word (tighter_word side x k))
+tighter_old Low x k = omega (arith, ints)
+tighter_old High x k = omega (arith, ints)
+
+pub tighter_new : (side : Side) (x k : ℕ) → IsAsTight side (head_of_word k) (head_of_word (tighter_word side x k))
+tighter_new Low x k = omega (arith, ints)
+tighter_new High x k = omega (arith, ints)
+
+pub tighter_one : (side : Side) (x k : ℕ) → (head_of_word (tighter_word side x k) ≡ head_of_word x) ⊎ (head_of_word (tighter_word side x k) ≡ head_of_word k)
+tighter_one side x k = one side (dec_le x k)
+  where
+    one : (s : Side) → Dec (x ≤ k) → (head_of_word (tighter_word s x k) ≡ head_of_word x) ⊎ (head_of_word (tighter_word s x k) ≡ head_of_word k)
+    one Low (yes l) = inr (ap head_of_word (omega arith))
+    one Low (no g) = inl (ap head_of_word (omega arith))
+    one High (yes l) = inl (ap head_of_word (omega arith))
+    one High (no g) = inr (ap head_of_word (omega arith))

@@ -1,11 +1,13 @@
 -- What each step of a seat ensures: the word that it found, and what the seat has then seen.
-use Rattle.std.specs.Prelude.{◌≡◌, ℕ, ◌+◌, ◌*◌, max, min, length, ℤ, ◌≤ℤ◌}
+use Rattle.std.specs.Prelude.{◌≡◌, ℕ, length, ℤ}
 use Rattle.atomic_table.specs.Table.{Me, Step}
+use Rattle.step_problem.specs.declared.heads.Side.{Side}
 use Rattle.step_problem.specs.Conditions.{IsHead}
-use Rattle.step_problem.specs.Heads.{head_at, lower_at, upper_at}
+use Rattle.cell_relax.specs.Sides.{IsAsTight, other}
+use Rattle.cell_relax.specs.Words.{heads_on}
 use Rattle.head_table.specs.declared.known.Known.{Known}
-use Rattle.head_table.specs.Words.{head_of_word}
-use Rattle.head_table.specs.BySide.{IsUnderSettled, IsOverSettled}
+use Rattle.head_table.specs.Words.{head_of_word, word_of, tighter_word}
+use Rattle.head_table.specs.BySide.{edge_on, IsNoTighterThanSettled}
 
 abbrev Sat : Type 0
 Sat = Me (Unit {0}) Known
@@ -18,44 +20,25 @@ pub record Stays (m m' : Sat) : Type 0 where
   pub whole : length m'.0.seen ≡ length m.0.seen
   pub slots : m'.1 ≡ m.1
 
--- the lower head of cell c that was seen is now h, and all else is as it was
-pub record SeesLow (m : Sat) (c : ℕ) (h : ℤ) (m' : Sat) : Type 0 where
+-- the head of cell c that was seen on a side is now h, and all else is as it was
+pub record SeesHead (side : Side) (m : Sat) (c : ℕ) (h : ℤ) (m' : Sat) : Type 0 where
   pub stays : Stays m m'
-  pub here : lower_at m'.0.seen c ≡ h
-  pub others : (d : ℕ) → (d ≡ c → ⊥) → lower_at m'.0.seen d ≡ lower_at m.0.seen d
-  pub high : (d : ℕ) → upper_at m'.0.seen d ≡ upper_at m.0.seen d
+  pub here : heads_on side m'.0.seen c ≡ h
+  pub others : (d : ℕ) → (d ≡ c → ⊥) → heads_on side m'.0.seen d ≡ heads_on side m.0.seen d
+  pub opposite : (d : ℕ) → heads_on (other side) m'.0.seen d ≡ heads_on (other side) m.0.seen d
 
--- a load of a lower word: it is at least what was seen, and not above any settled heads; the seat has then seen it
-abbrev pub looked_low : Step (Unit {0}) → Sat → ℕ → Sat → Type 0
-looked_low st m r m' =
-    (c : ℕ) → st.word ≡ 2 * c + 1 → IsHead (head_of_word r) × (lower_at m.0.seen c ≤ℤ head_of_word r)
-    × SeesLow m c (head_of_word r) m' × IsUnderSettled m.0.problem (head_at m.0.barrier.floor) c (head_of_word r)
+-- a load of a word on a side: it is as tight as what was seen, and no tighter than any settled heads; the seat has then seen it
+abbrev pub load_play : Side → Step (Unit {0}) → Sat → ℕ → Sat → Type 0
+load_play side st m r m' =
+    (c : ℕ) → st.word ≡ word_of side c → IsHead (head_of_word r) × IsAsTight side (heads_on side m.0.seen c) (head_of_word r)
+    × SeesHead side m c (head_of_word r) m' × IsNoTighterThanSettled side m.0.problem (edge_on side m.0.barrier) c (head_of_word r)
 
--- a raise: the greater of the word found and the operand is then seen
-abbrev pub raised : Step (Unit {0}) → Sat → ℕ → Sat → Type 0
-raised st m r m' =
-    (c : ℕ) → st.word ≡ 2 * c + 1 → IsHead (head_of_word r) × IsHead (head_of_word (max r st.first))
-    × (lower_at m.0.seen c ≤ℤ head_of_word r) × SeesLow m c (head_of_word (max r st.first)) m'
-
--- the upper head of cell c that was seen is now h, and all else is as it was
-pub record SeesHigh (m : Sat) (c : ℕ) (h : ℤ) (m' : Sat) : Type 0 where
-  pub stays : Stays m m'
-  pub here : upper_at m'.0.seen c ≡ h
-  pub others : (d : ℕ) → (d ≡ c → ⊥) → upper_at m'.0.seen d ≡ upper_at m.0.seen d
-  pub low : (d : ℕ) → lower_at m'.0.seen d ≡ lower_at m.0.seen d
-
--- a load of an upper word, mirrored
-abbrev pub looked_high : Step (Unit {0}) → Sat → ℕ → Sat → Type 0
-looked_high st m r m' =
-    (c : ℕ) → st.word ≡ 2 * c + 2 → IsHead (head_of_word r) × (head_of_word r ≤ℤ upper_at m.0.seen c)
-    × SeesHigh m c (head_of_word r) m' × IsOverSettled m.0.problem (head_at m.0.barrier.ceiling) c (head_of_word r)
-
--- a sink: the lesser of the word found and the operand is then seen
-abbrev pub sunk : Step (Unit {0}) → Sat → ℕ → Sat → Type 0
-sunk st m r m' =
-    (c : ℕ) → st.word ≡ 2 * c + 2 → IsHead (head_of_word r) × IsHead (head_of_word (min r st.first))
-    × (head_of_word r ≤ℤ upper_at m.0.seen c) × SeesHigh m c (head_of_word (min r st.first)) m'
+-- a raise or a sink: the tighter of the word found and the operand is then seen
+abbrev pub exchange_play : Side → Step (Unit {0}) → Sat → ℕ → Sat → Type 0
+exchange_play side st m r m' =
+    (c : ℕ) → st.word ≡ word_of side c → IsHead (head_of_word r) × IsHead (head_of_word (tighter_word side r st.first))
+    × IsAsTight side (heads_on side m.0.seen c) (head_of_word r) × SeesHead side m c (head_of_word (tighter_word side r st.first)) m'
 
 -- a claim changes nothing that was seen
-abbrev pub claimed : Step (Unit {0}) → Sat → ℕ → Sat → Type 0
-claimed st m r m' = m' ≡ m
+abbrev pub claim_play : Step (Unit {0}) → Sat → ℕ → Sat → Type 0
+claim_play st m r m' = m' ≡ m

@@ -2,8 +2,11 @@
 use Rattle.std.specs.Prelude.{◌≡◌, ℕ, ◌<◌, List, length, ℤ}
 use Rattle.std.specs.Int.{int_max, int_min}
 use Rattle.step_problem.specs.declared.heads.Bound.{Bound}
+use Rattle.step_problem.specs.declared.heads.Side.{Side}
+use Rattle.step_problem.specs.declared.heads.Side.TheVariants.{Low, High}
 use Rattle.step_problem.specs.Entries.{Entries}
-use Rattle.step_problem.specs.Heads.{Edges, lower_at, upper_at}
+use Rattle.step_problem.specs.Heads.{Edges}
+use Rattle.cell_relax.specs.Words.{heads_on}
 use Rattle.head_table.specs.declared.table.HeadTable.{HeadTable}
 use Rattle.head_table.specs.declared.table.HeadSeat.{HeadSeat}
 
@@ -11,15 +14,12 @@ use Rattle.head_table.specs.declared.table.HeadSeat.{HeadSeat}
 abbrev pub barrier_of : HeadTable → Edges
 barrier_of t = t.table.shared.key.barrier.value
 
--- the bounds that a seat has seen, and their heads by cell
+-- the bounds that a seat has seen, and their heads on a side by cell
 abbrev pub seen_of : HeadSeat → List Bound
 seen_of s = s.seat.me.0.seen
 
-abbrev pub low_seen : HeadSeat → ℕ → ℤ
-low_seen s c = lower_at s.seat.me.0.seen c
-
-abbrev pub high_seen : HeadSeat → ℕ → ℤ
-high_seen s c = upper_at s.seat.me.0.seen c
+abbrev pub seen_on : Side → HeadSeat → ℕ → ℤ
+seen_on side s = heads_on side s.seat.me.0.seen
 
 -- the seat is one of the table's
 pub record IsSeatOf (t : HeadTable) (s : HeadSeat) : Type 0 where
@@ -27,25 +27,22 @@ pub record IsSeatOf (t : HeadTable) (s : HeadSeat) : Type 0 where
   pub problem : s.seat.me.0.problem ≡ t.problem.now
   pub barrier : s.seat.me.0.barrier ≡ t.table.shared.key.barrier.value
 
--- the lower heads seen are the same, at each cell or at each but c; and the upper ones
-abbrev pub SameLow : HeadSeat → HeadSeat → Type 0
-SameLow a b = (d : ℕ) → low_seen b d ≡ low_seen a d
+-- the heads seen on a side are the same, at each cell or at each but c
+abbrev pub SameOn : Side → HeadSeat → HeadSeat → Type 0
+SameOn side a b = (d : ℕ) → seen_on side b d ≡ seen_on side a d
 
-abbrev pub SameLowBut : ℕ → HeadSeat → HeadSeat → Type 0
-SameLowBut c a b = (d : ℕ) → (d ≡ c → ⊥) → low_seen b d ≡ low_seen a d
+abbrev pub SameOnBut : Side → ℕ → HeadSeat → HeadSeat → Type 0
+SameOnBut side c a b = (d : ℕ) → (d ≡ c → ⊥) → seen_on side b d ≡ seen_on side a d
 
-abbrev pub SameHigh : HeadSeat → HeadSeat → Type 0
-SameHigh a b = (d : ℕ) → high_seen b d ≡ high_seen a d
-
-abbrev pub SameHighBut : ℕ → HeadSeat → HeadSeat → Type 0
-SameHighBut c a b = (d : ℕ) → (d ≡ c → ⊥) → high_seen b d ≡ high_seen a d
+-- the tighter of two heads
+abbrev pub tighter_of : Side → ℤ → ℤ → ℤ
+tighter_of Low = int_max
+tighter_of High = int_min
 
 -- at each cell the seat c has seen the tighter of what a and b had seen
-pub record HasTighter (p : List Entries) (a b c : HeadSeat) : Type 0 where
-  pub low : (d : ℕ) → d < length p → low_seen c d ≡ int_max (low_seen a d) (low_seen b d)
-  pub high : (d : ℕ) → d < length p → high_seen c d ≡ int_min (high_seen a d) (high_seen b d)
+abbrev pub HasTighter : List Entries → HeadSeat → HeadSeat → HeadSeat → Type 0
+HasTighter p a b c = (side : Side) (d : ℕ) → d < length p → seen_on side c d ≡ tighter_of side (seen_on side a d) (seen_on side b d)
 
 -- the bounds show what the seat has seen
-pub record ShowsSeen (p : List Entries) (s : HeadSeat) (bounds : List Bound) : Type 0 where
-  pub low : (c : ℕ) → c < length p → lower_at bounds c ≡ low_seen s c
-  pub high : (c : ℕ) → c < length p → upper_at bounds c ≡ high_seen s c
+abbrev pub ShowsSeen : List Entries → HeadSeat → List Bound → Type 0
+ShowsSeen p s bounds = (side : Side) (c : ℕ) → c < length p → heads_on side bounds c ≡ seen_on side s c

@@ -2,12 +2,14 @@
 ghost use Rattle.std.specs.Prelude.{◌≡◌, ℕ, ◌+◌, ◌*◌, ◌<◌, ◌≤◌, length, IfOk, vec_len};
 ghost use Rattle.std.specs.Mem.Slots.{slots_items, slots_len, IsFull};
 ghost use Rattle.step_problem.specs.Conditions.{IsHead};
-ghost use Rattle.step_problem.specs.Heads.{AreOnTheWay, lower_at, upper_at};
-ghost use Rattle.head_table.specs.Words.{lower_words, upper_words};
-ghost use Rattle.head_table.specs.BySide.{AreNoLooser};
+ghost use Rattle.step_problem.specs.declared.heads.Side.{Side};
+ghost use Rattle.step_problem.specs.Heads.{AreOnTheWay};
+ghost use Rattle.cell_relax.specs.Sides.{AreNoLooser};
+ghost use Rattle.cell_relax.specs.Words.{heads_on};
+ghost use Rattle.head_table.specs.Words.{words_on};
 ghost use Rattle.head_table.specs.Seats.{IsSeatOf, barrier_of, seen_of};
 
-use crate::coding::{coded, decoded};
+use crate::coding::{head_from_word, word_of_head};
 use crate::known::Facts;
 use crate::table::{HeadSeat, HeadTable};
 use atomic_table::{Closed, Table};
@@ -17,16 +19,15 @@ use step_problem::{Barrier, Bound, Problem};
 
 // The counter, and two words for each cell.
 fn raw_words(alloc: Global, words: &[Bound]) -> Result<Vec<u64>, AllocError>
-    requires { (c : ℕ) → c < length words.now → IsHead (lower_at words.now c) × IsHead (upper_at words.now c) }
+    requires { (side : Side) (c : ℕ) → c < length words.now → IsHead (heads_on side words.now c) }
     ensures len { IfOk result (λ v. vec_len v ≡ 2 * length words.now + 1) }
-    ensures low { IfOk result (λ v. (c : ℕ) → c < length words.now → lower_words v.items c ≡ lower_at words.now c) }
-    ensures high { IfOk result (λ v. (c : ℕ) → c < length words.now → upper_words v.items c ≡ upper_at words.now c) }
+    ensures heads { IfOk result (λ v. (side : Side) (c : ℕ) → c < length words.now → words_on side v.items c ≡ heads_on side words.now c) }
 {
     let mut raw = Vec::new(alloc);
     raw.push(0)?;
     for word in words {
-        raw.push(coded(word.low))?;
-        raw.push(coded(word.high))?;
+        raw.push(word_of_head(word.low))?;
+        raw.push(word_of_head(word.high))?;
     }
     Ok(raw)
 }
@@ -72,15 +73,14 @@ fn read_all(
     cells: usize,
 ) -> Result<Vec<Bound>, AllocError>
     requires words { IsFull closed.now.words × (slots_len closed.now.words ≡ 2 * cells + 1) × (cells ≤ 65536) }
-    requires range { (c : ℕ) → c < cells → IsHead (lower_words (slots_items closed.now.words) c) × IsHead (upper_words (slots_items closed.now.words) c) }
+    requires range { (side : Side) (c : ℕ) → c < cells → IsHead (words_on side (slots_items closed.now.words) c) }
     ensures len { IfOk result (λ v. vec_len v ≡ cells) }
-    ensures low { IfOk result (λ v. (c : ℕ) → c < cells → lower_at v.items c ≡ lower_words (slots_items closed.now.words) c) }
-    ensures high { IfOk result (λ v. (c : ℕ) → c < cells → upper_at v.items c ≡ upper_words (slots_items closed.now.words) c) }
+    ensures heads { IfOk result (λ v. (side : Side) (c : ℕ) → c < cells → heads_on side v.items c ≡ words_on side (slots_items closed.now.words) c) }
 {
     let mut bounds = Vec::with_capacity(alloc, cells)?;
     for cell in 0..cells {
-        let low = decoded(closed.word(2 * cell + 1));
-        let high = decoded(closed.word(2 * cell + 2));
+        let low = head_from_word(closed.word(2 * cell + 1));
+        let high = head_from_word(closed.word(2 * cell + 2));
         bounds.push(Bound { low, high })?;
     }
     Ok(bounds)

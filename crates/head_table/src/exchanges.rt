@@ -2,9 +2,10 @@
 ghost use Rattle.std.specs.Prelude.{◌≡◌, ◌<◌, length, ◌≤ℤ◌};
 ghost use Rattle.std.specs.Int.{int_max, int_min};
 ghost use Rattle.step_problem.specs.Heads.{IsRaise, IsSink};
-ghost use Rattle.head_table.specs.Seats.{IsSeatOf, SameHigh, SameHighBut, SameLow, SameLowBut, high_seen, low_seen, seen_of};
+ghost use Rattle.step_problem.specs.declared.heads.Side.TheVariants.{Low, High};
+ghost use Rattle.head_table.specs.Seats.{IsSeatOf, SameOn, SameOnBut, seen_of, seen_on};
 
-use crate::coding::{coded, decoded};
+use crate::coding::{head_from_word, word_of_head};
 use crate::known::{Claim, Raise, Sink};
 use crate::table::{HeadSeat, HeadTable};
 
@@ -14,20 +15,20 @@ impl<'a> HeadTable<'a> {
     pub fn raise(&self, seat: &mut HeadSeat, cell: usize, to: i64) -> i64
         requires seat { IsSeatOf self.now seat.old }
         requires cell { cell < length self.now.problem.now }
-        requires to { IsRaise self.now.problem.now (low_seen seat.old) cell to }
+        requires to { IsRaise self.now.problem.now (seen_on Low seat.old) cell to }
         ensures seat { IsSeatOf self.now seat.new }
-        ensures before { low_seen seat.old cell ≤ℤ result }
-        ensures seen { low_seen seat.new cell ≡ int_max result to }
-        ensures others { SameLowBut cell seat.old seat.new }
-        ensures high { SameHigh seat.old seat.new }
+        ensures before { seen_on Low seat.old cell ≤ℤ result }
+        ensures seen { seen_on Low seat.new cell ≡ int_max result to }
+        ensures others { SameOnBut Low cell seat.old seat.new }
+        ensures high { SameOn High seat.old seat.new }
     {
         self.problem.recall_conditions();
-        let word = coded(to);
+        let word = word_of_head(to);
         let found = self
             .table
             .shared
             .fetch_max::<Raise>(&mut seat.seat, 2 * cell + 1, word);
-        decoded(found)
+        head_from_word(found)
     }
 
     /// Sinks the upper word of a cell to `to`, its sink value from what the seat has seen, unless it is
@@ -35,20 +36,20 @@ impl<'a> HeadTable<'a> {
     pub fn sink(&self, seat: &mut HeadSeat, cell: usize, to: i64) -> i64
         requires seat { IsSeatOf self.now seat.old }
         requires cell { cell < length self.now.problem.now }
-        requires to { IsSink self.now.problem.now (high_seen seat.old) cell to }
+        requires to { IsSink self.now.problem.now (seen_on High seat.old) cell to }
         ensures seat { IsSeatOf self.now seat.new }
-        ensures before { result ≤ℤ high_seen seat.old cell }
-        ensures seen { high_seen seat.new cell ≡ int_min result to }
-        ensures others { SameHighBut cell seat.old seat.new }
-        ensures low { SameLow seat.old seat.new }
+        ensures before { result ≤ℤ seen_on High seat.old cell }
+        ensures seen { seen_on High seat.new cell ≡ int_min result to }
+        ensures others { SameOnBut High cell seat.old seat.new }
+        ensures low { SameOn Low seat.old seat.new }
     {
         self.problem.recall_conditions();
-        let word = coded(to);
+        let word = word_of_head(to);
         let found = self
             .table
             .shared
             .fetch_min::<Sink>(&mut seat.seat, 2 * cell + 2, word);
-        decoded(found)
+        head_from_word(found)
     }
 
     /// Claims a ticket: the number of earlier claims, until the counter wraps.

@@ -35,41 +35,45 @@ impl TableRule<(), Known, Facts> for Heads {
 pub(crate) struct LookLow;
 
 impl Play<(), Known> for LookLow {
-    ghost use Rattle.head_table.specs.Plays.{looked_low};
+    ghost use Rattle.step_problem.specs.declared.heads.Side.TheVariants.{Low};
+    ghost use Rattle.head_table.specs.Plays.{load_play};
 
-    ghost then = { looked_low };
+    ghost then = { load_play Low };
 }
 
 pub(crate) struct LookHigh;
 
 impl Play<(), Known> for LookHigh {
-    ghost use Rattle.head_table.specs.Plays.{looked_high};
+    ghost use Rattle.step_problem.specs.declared.heads.Side.TheVariants.{High};
+    ghost use Rattle.head_table.specs.Plays.{load_play};
 
-    ghost then = { looked_high };
+    ghost then = { load_play High };
 }
 
 pub(crate) struct Raise;
 
 impl Play<(), Known> for Raise {
-    ghost use Rattle.head_table.specs.Plays.{raised};
+    ghost use Rattle.step_problem.specs.declared.heads.Side.TheVariants.{Low};
+    ghost use Rattle.head_table.specs.Plays.{exchange_play};
 
-    ghost then = { raised };
+    ghost then = { exchange_play Low };
 }
 
 pub(crate) struct Sink;
 
 impl Play<(), Known> for Sink {
-    ghost use Rattle.head_table.specs.Plays.{sunk};
+    ghost use Rattle.step_problem.specs.declared.heads.Side.TheVariants.{High};
+    ghost use Rattle.head_table.specs.Plays.{exchange_play};
 
-    ghost then = { sunk };
+    ghost then = { exchange_play High };
 }
 
 pub(crate) struct Claim;
 
 impl Play<(), Known> for Claim {
-    ghost use Rattle.head_table.specs.Plays.{claimed};
+    ghost use Rattle.head_table.specs.Plays.{claim_play};
 
-    ghost then = { claimed };
+    ghost then = { claim_play };
 }
 
 // A new seat has seen what the old one has.
@@ -85,9 +89,9 @@ impl Split<Known> for Same {
 pub(crate) struct Both;
 
 impl Join<Known> for Both {
-    ghost use Rattle.head_table.specs.Rule.{joined, spent};
+    ghost use Rattle.head_table.specs.Rule.{join_views, spent_view};
 
-    ghost both = { joined };
+    ghost both = { join_views };
 
-    ghost spent = { spent };
+    ghost spent = { spent_view };
 }

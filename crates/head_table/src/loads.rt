@@ -1,10 +1,11 @@
 // Loads of single words. Each is one atomic load.
 ghost use Rattle.std.specs.Prelude.{◌≡◌, ◌<◌, length, ◌≤ℤ◌};
-ghost use Rattle.step_problem.specs.Heads.{head_at};
-ghost use Rattle.head_table.specs.BySide.{AreHeld, AreNoLooser, IsOverSettled, IsUnderSettled};
-ghost use Rattle.head_table.specs.Seats.{IsSeatOf, SameHigh, SameHighBut, SameLow, SameLowBut, ShowsSeen, barrier_of, high_seen, low_seen, seen_of};
+ghost use Rattle.step_problem.specs.declared.heads.Side.TheVariants.{Low, High};
+ghost use Rattle.cell_relax.specs.Sides.{AreNoLooser};
+ghost use Rattle.head_table.specs.BySide.{AreHeld, IsNoTighterThanSettled, edge_on};
+ghost use Rattle.head_table.specs.Seats.{IsSeatOf, SameOn, SameOnBut, ShowsSeen, barrier_of, seen_of, seen_on};
 
-use crate::coding::decoded;
+use crate::coding::head_from_word;
 use crate::known::{LookHigh, LookLow};
 use crate::table::{HeadSeat, HeadTable};
 use step_problem::{Bound, Problem};
@@ -23,18 +24,18 @@ impl<'a> HeadTable<'a> {
         requires seat { IsSeatOf self.now seat.old }
         requires cell { cell < length self.now.problem.now }
         ensures seat { IsSeatOf self.now seat.new }
-        ensures seen { low_seen seat.new cell ≡ result }
-        ensures later { low_seen seat.old cell ≤ℤ result }
-        ensures held { IsUnderSettled self.now.problem.now (head_at (barrier_of self.now).floor) cell result }
-        ensures others { SameLowBut cell seat.old seat.new }
-        ensures high { SameHigh seat.old seat.new }
+        ensures seen { seen_on Low seat.new cell ≡ result }
+        ensures later { seen_on Low seat.old cell ≤ℤ result }
+        ensures held { IsNoTighterThanSettled Low self.now.problem.now (edge_on Low (barrier_of self.now)) cell result }
+        ensures others { SameOnBut Low cell seat.old seat.new }
+        ensures high { SameOn High seat.old seat.new }
     {
         self.problem.recall_conditions();
         let found = self
             .table
             .shared
             .load::<LookLow>(&mut seat.seat, 2 * cell + 1);
-        decoded(found)
+        head_from_word(found)
     }
 
     /// Loads the upper head of a cell. It is at most what the seat had seen there, and not below that of
@@ -43,18 +44,18 @@ impl<'a> HeadTable<'a> {
         requires seat { IsSeatOf self.now seat.old }
         requires cell { cell < length self.now.problem.now }
         ensures seat { IsSeatOf self.now seat.new }
-        ensures seen { high_seen seat.new cell ≡ result }
-        ensures later { result ≤ℤ high_seen seat.old cell }
-        ensures held { IsOverSettled self.now.problem.now (head_at (barrier_of self.now).ceiling) cell result }
-        ensures others { SameHighBut cell seat.old seat.new }
-        ensures low { SameLow seat.old seat.new }
+        ensures seen { seen_on High seat.new cell ≡ result }
+        ensures later { result ≤ℤ seen_on High seat.old cell }
+        ensures held { IsNoTighterThanSettled High self.now.problem.now (edge_on High (barrier_of self.now)) cell result }
+        ensures others { SameOnBut High cell seat.old seat.new }
+        ensures low { SameOn Low seat.old seat.new }
     {
         self.problem.recall_conditions();
         let found = self
             .table
             .shared
             .load::<LookHigh>(&mut seat.seat, 2 * cell + 2);
-        decoded(found)
+        head_from_word(found)
     }
 
     /// Loads each word once, into a slice of one bound for each cell. The result is no looser than what the

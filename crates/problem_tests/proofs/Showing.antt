@@ -1,31 +1,21 @@
 -- A head that a seat has now seen is written among the bounds that are shown.
-use Rattle.std.proofs.Common.{◌≡◌, ℕ, ◌<◌, List, length, get_or, set, ℤ, sym, ap, ◌∙◌, subst, get_or-set_same, get_or-set_other}
+use Rattle.std.proofs.Common.{◌≡◌, ℕ, ◌<◌, List, length, ℤ, sym, ◌∙◌, subst}
 use mathlib.Core.Logic.{dite}
 use native.Mathlib.Decide.{ℕ_discrete}
 use Rattle.step_problem.specs.Entries.{Entries}
 use Rattle.step_problem.specs.declared.heads.Bound.{Bound}
-use Rattle.step_problem.specs.Heads.{lower_at, upper_at, no_bound}
+use Rattle.step_problem.specs.declared.heads.Side.{Side}
+use Rattle.cell_relax.specs.Sides.{other}
+use Rattle.cell_relax.specs.Words.{heads_on}
+use Rattle.cell_relax.proofs.Sides.{each_side}
+use Rattle.relax_core.specs.Core.{with_head}
 use Rattle.head_table.specs.declared.table.HeadSeat.{HeadSeat}
-use Rattle.head_table.specs.Seats.{low_seen, high_seen, SameHigh, SameHighBut, SameLow, SameLowBut, ShowsSeen}
+use Rattle.head_table.specs.Seats.{seen_on, SameOn, SameOnBut, ShowsSeen}
+use Rattle.head_table.proofs.WordReads.{seen_here, seen_else, other_seen}
 
-pub shows_low : (p : List Entries) (s t : HeadSeat) (bs : List Bound) (i : ℕ) (z : ℤ) → i < length bs → i < length p → low_seen t i ≡ z → SameLowBut i s t → SameHigh s t → ShowsSeen p s bs
-    → ShowsSeen p t (set bs i (record { low = z; high = (get_or bs i no_bound).high }))
-shows_low p s t bs i z inside cell here others high shown = let x : Bound = record { low = z; high = (get_or bs i no_bound).high } in record {
-  low = λ c h. dite (ℕ_discrete c i)
-      (λ e. subst (λ (k : ℕ). lower_at (set bs i x) k ≡ low_seen t k) (sym e) (ap (λ (y : Bound). y.low) (get_or-set_same bs i x no_bound inside) ∙ sym here))
-      (λ ne. ap (λ (y : Bound). y.low) (get_or-set_other bs i c x no_bound ne) ∙ (shown.low c h ∙ sym (others c ne)));
-  high = λ c h. dite (ℕ_discrete c i)
-      (λ e. subst (λ (k : ℕ). upper_at (set bs i x) k ≡ high_seen t k) (sym e) (ap (λ (y : Bound). y.high) (get_or-set_same bs i x no_bound inside) ∙ (shown.high i cell ∙ sym (high i))))
-      (λ ne. ap (λ (y : Bound). y.high) (get_or-set_other bs i c x no_bound ne) ∙ (shown.high c h ∙ sym (high c)));
-}
-
-pub shows_high : (p : List Entries) (s t : HeadSeat) (bs : List Bound) (i : ℕ) (z : ℤ) → i < length bs → i < length p → high_seen t i ≡ z → SameHighBut i s t → SameLow s t → ShowsSeen p s bs
-    → ShowsSeen p t (set bs i (record { low = (get_or bs i no_bound).low; high = z }))
-shows_high p s t bs i z inside cell here others low shown = let x : Bound = record { low = (get_or bs i no_bound).low; high = z } in record {
-  low = λ c h. dite (ℕ_discrete c i)
-      (λ e. subst (λ (k : ℕ). lower_at (set bs i x) k ≡ low_seen t k) (sym e) (ap (λ (y : Bound). y.low) (get_or-set_same bs i x no_bound inside) ∙ (shown.low i cell ∙ sym (low i))))
-      (λ ne. ap (λ (y : Bound). y.low) (get_or-set_other bs i c x no_bound ne) ∙ (shown.low c h ∙ sym (low c)));
-  high = λ c h. dite (ℕ_discrete c i)
-      (λ e. subst (λ (k : ℕ). upper_at (set bs i x) k ≡ high_seen t k) (sym e) (ap (λ (y : Bound). y.high) (get_or-set_same bs i x no_bound inside) ∙ sym here))
-      (λ ne. ap (λ (y : Bound). y.high) (get_or-set_other bs i c x no_bound ne) ∙ (shown.high c h ∙ sym (others c ne)));
-}
+pub shows_head : (side : Side) (p : List Entries) (s t : HeadSeat) (bs : List Bound) (i : ℕ) (z : ℤ) → i < length bs → seen_on side t i ≡ z → SameOnBut side i s t → SameOn (other side) s t → ShowsSeen p s bs → ShowsSeen p t (with_head side bs i z)
+shows_head side p s t bs i z inside here others opposite shown = each_side side (λ r. (c : ℕ) → c < length p → heads_on r (with_head side bs i z) c ≡ seen_on r t c)
+    (λ c h. dite (ℕ_discrete c i)
+    (λ e. subst (λ (k : ℕ). heads_on side (with_head side bs i z) k ≡ seen_on side t k) (sym e) (seen_here side bs i z inside ∙ sym here))
+    (λ ne. seen_else side bs i z c ne ∙ (shown side c h ∙ sym (others c ne))))
+    (λ c h. other_seen side bs i z inside c ∙ (shown (other side) c h ∙ sym (opposite c)))

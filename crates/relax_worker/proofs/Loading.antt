@@ -1,14 +1,15 @@
 -- The heads of links are loaded one by one.
-use Rattle.std.proofs.Common.{◌≡◌, ℕ, zero, suc, ◌+◌, ◌<◌, List, [], ◌∷◌, length, take, slice_set, ℤ, ◌≤ℤ◌, refl, sym, ◌∙◌, arith}
+use Rattle.std.proofs.Common.{◌≡◌, ℕ, zero, suc, ◌+◌, ◌<◌, List, [], ◌∷◌, length, take, slice_set, ℤ, refl, sym, ◌∙◌, arith}
 use Rattle.std.proofs.lemmas.Int.{ints, clamps}
-use Rattle.std.specs.Int.{int_max, int_min}
 use Rattle.step_problem.specs.declared.entry.Link.{Link}
 use Rattle.step_problem.specs.Entries.{Entries, link_at, ends_in}
 use Rattle.cell_relax.proofs.Reading.{read_more}
 use Rattle.head_table.specs.declared.table.HeadSeat.{HeadSeat}
-use Rattle.head_table.specs.BySide.{AreNoLooser}
-use Rattle.head_table.specs.Seats.{low_seen, high_seen, seen_of, SameHigh, SameLow, SameHighBut, SameLowBut}
-use Rattle.head_table.proofs.Looser.{loads_no_looser, loads_high_no_looser}
+use Rattle.step_problem.specs.declared.heads.Side.{Side}
+use Rattle.step_problem.specs.declared.heads.Side.TheVariants.{Low, High}
+use Rattle.cell_relax.specs.Sides.{AreNoLooser, IsAsTight, other}
+use Rattle.head_table.specs.Seats.{seen_on, seen_of, SameOn, SameOnBut, tighter_of}
+use Rattle.head_table.proofs.Looser.{moves_no_looser}
 
 -- heads that are equal at the first ends are so in their list
 ends_same : (h k : ℕ → ℤ) (links : List Link) (i : ℕ) → ((j : ℕ) → j < i → j < length links → k (link_at links j).cell ≡ h (link_at links j).cell) → ends_in k (take i links) ≡ ends_in h (take i links)
@@ -22,14 +23,10 @@ pub load_more : (values : List ℤ) (links : List Link) (h k : ℕ → ℤ) (i :
 load_more values links h k i z room here apart else before is =
     read_more values links k i z room here (before ∙ sym (ends_same h k links i (λ j a b. else (link_at links j).cell (apart j i a here)))) is
 
-pub raise_no_looser : (cells : List Entries) (a b : HeadSeat) (c : ℕ) (found to : ℤ) → low_seen a c ≤ℤ found → low_seen b c ≡ int_max found to → SameLowBut c a b → SameHigh a b → AreNoLooser cells (seen_of a) (seen_of b)
-raise_no_looser cells a b c found to before is others high = loads_no_looser cells a b c (int_max found to) is (omega (arith, ints, clamps)) others high
-
-pub sink_no_looser : (cells : List Entries) (a b : HeadSeat) (c : ℕ) (found to : ℤ) → found ≤ℤ high_seen a c → high_seen b c ≡ int_min found to → SameHighBut c a b → SameLow a b → AreNoLooser cells (seen_of a) (seen_of b)
-sink_no_looser cells a b c found to before is others low = loads_high_no_looser cells a b c (int_min found to) is (omega (arith, ints, clamps)) others low
-
-pub greater_is_past : (found to x : ℤ) → x ≡ int_max found to → to ≤ℤ x
-greater_is_past found to x e = omega (arith, ints, clamps)
-
-pub lesser_is_past : (found to x : ℤ) → x ≡ int_min found to → x ≤ℤ to
-lesser_is_past found to x e = omega (arith, ints, clamps)
+-- an exchange for the tighter of the word found and the relaxed head loosens nothing
+pub tighter_no_looser : (side : Side) (cells : List Entries) (a b : HeadSeat) (c : ℕ) (found to : ℤ) → IsAsTight side (seen_on side a c) found → seen_on side b c ≡ tighter_of side found to → SameOnBut side c a b → SameOn (other side) a b → AreNoLooser cells (seen_of a) (seen_of b)
+tighter_no_looser side cells a b c found to before is others opposite = moves_no_looser side cells a b c (tighter_of side found to) is (tight side (seen_on side a c) before) others opposite
+  where
+    tight : (s : Side) (x : ℤ) → IsAsTight s x found → IsAsTight s x (tighter_of s found to)
+    tight Low x h = omega (arith, ints, clamps, h)
+    tight High x h = omega (arith, ints, clamps, h)

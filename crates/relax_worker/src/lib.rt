@@ -1,7 +1,7 @@
 //! Workers that raise and sink the heads of a shared table, one cell at a time.
 #![tactic(auto)]
 
-mod links;
+mod sides;
 mod turns;
 mod workers;
 

@@ -1,7 +1,9 @@
 // A worker's turns.
 ghost use Rattle.std.specs.Prelude.{◌≡◌, ℕ, ◌-◌, ◌%◌, ◌<◌, ◌≤◌, length};
-ghost use Rattle.head_table.specs.BySide.{AreNoLooser, IsRaised, IsSunk};
-ghost use Rattle.head_table.specs.Seats.{IsSeatOf, high_seen, low_seen, seen_of};
+ghost use Rattle.step_problem.specs.declared.heads.Side.{Side};
+ghost use Rattle.cell_relax.specs.Sides.{AreNoLooser};
+ghost use Rattle.head_table.specs.BySide.{HasMoved};
+ghost use Rattle.head_table.specs.Seats.{IsSeatOf, seen_of, seen_on};
 
 use crate::turns::turn;
 use head_table::{HeadSeat, HeadTable};
@@ -38,10 +40,8 @@ pub fn own_turns(table: &HeadTable, seat: &mut HeadSeat, worker: u32, workers: u
     requires some_cell { 0 < length table.now.problem.now }
     requires worker { (1 ≤ worker) × (worker ≤ workers) × (workers ≤ 64) }
     ensures seat { IsSeatOf table.now seat.new }
-    ensures raised { (c : ℕ) → c < length table.now.problem.now → c % workers ≡ worker - 1 →
-        IsRaised table.now.problem.now (low_seen seat.old) c (low_seen seat.new c) }
-    ensures sunk { (c : ℕ) → c < length table.now.problem.now → c % workers ≡ worker - 1 →
-        IsSunk table.now.problem.now (high_seen seat.old) c (high_seen seat.new c) }
+    ensures moved { (side : Side) (c : ℕ) → c < length table.now.problem.now → c % workers ≡ worker - 1 →
+        HasMoved side table.now.problem.now (seen_on side seat.old) c (seen_on side seat.new c) }
     ensures no_looser { AreNoLooser table.now.problem.now (seen_of seat.old) (seen_of seat.new) }
 {
     for cell in 0..table.problem().len() {

@@ -1,5 +1,5 @@
 -- Seats that are joined, and what a phase gains.
-use Rattle.std.proofs.Common.{◌≡◌, ℕ, zero, suc, ◌%◌, ◌<◌, List, ◌∷◌, ◌++◌, length, get_or, All, ℤ, ◌≤ℤ◌, sym, refl, subst, arith, length-append, Result, Ok, Err, IfOk}
+use Rattle.std.proofs.Common.{◌≡◌, ℕ, zero, suc, ◌%◌, ◌<◌, List, ◌∷◌, ◌++◌, length, get_or, All, ℤ, sym, refl, subst, arith, length-append}
 use Rattle.std.proofs.lemmas.Int.{ints, clamps}
 use Rattle.std.proofs.Math.ListN.{get_or-append}
 use native.Mathlib.Nat.{mod-lt}
@@ -7,27 +7,32 @@ use Rattle.step_problem.specs.declared.heads.Bound.{Bound}
 use Rattle.step_problem.specs.Entries.{Entries}
 use Rattle.step_problem.specs.Conditions.{IsProblem}
 use Rattle.step_problem.specs.Sides.{IsPast}
-use Rattle.step_problem.specs.Heads.{lower_at, upper_at}
+use Rattle.step_problem.specs.declared.heads.Side.{Side}
+use Rattle.step_problem.specs.declared.heads.Side.TheVariants.{Low, High}
 use Rattle.step_problem.proofs.Sides.{IsSide, as_tight_refl, passes_more}
-use Rattle.step_problem.proofs.BothSides.{low_side, high_side}
+use Rattle.cell_relax.specs.Sides.{AreNoLooser, IsAsTight}
+use Rattle.cell_relax.specs.Words.{heads_on}
+use Rattle.cell_relax.proofs.Sides.{is_side}
 use Rattle.head_table.specs.declared.table.HeadTable.{HeadTable}
 use Rattle.head_table.specs.declared.table.HeadSeat.{HeadSeat}
-use Rattle.head_table.specs.BySide.{AreNoLooser, IsRaised, IsSunk}
-use Rattle.head_table.specs.Seats.{HasTighter, seen_of, low_seen, high_seen}
+use Rattle.head_table.specs.BySide.{HasMoved}
+use Rattle.head_table.specs.Seats.{HasTighter, seen_of, seen_on, tighter_of}
 use Rattle.settle_driver.specs.Phases.{HasSeen, HasWorked}
 use Rattle.settle_driver.specs.Sweeps.{IsPastCell}
 
+tighter_first : (side : Side) (x y : ℤ) → IsAsTight side x (tighter_of side x y)
+tighter_first Low x y = omega (arith, ints, clamps)
+tighter_first High x y = omega (arith, ints, clamps)
+
+tighter_second : (side : Side) (x y : ℤ) → IsAsTight side y (tighter_of side x y)
+tighter_second Low x y = omega (arith, ints, clamps)
+tighter_second High x y = omega (arith, ints, clamps)
+
 pub tighter_left : (p : List Entries) (a b c : HeadSeat) → HasTighter p a b c → AreNoLooser p (seen_of a) (seen_of c)
-tighter_left p a b c t = record {
-  low = λ d h. subst (λ (z : ℤ). low_seen a d ≤ℤ z) (sym (t.low d h)) (omega (arith, ints, clamps));
-  high = λ d h. subst (λ (z : ℤ). z ≤ℤ high_seen a d) (sym (t.high d h)) (omega (arith, ints, clamps));
-}
+tighter_left p a b c t side d h = subst (IsAsTight side (seen_on side a d)) (sym (t side d h)) (tighter_first side (seen_on side a d) (seen_on side b d))
 
 pub tighter_right : (p : List Entries) (a b c : HeadSeat) → HasTighter p a b c → AreNoLooser p (seen_of b) (seen_of c)
-tighter_right p a b c t = record {
-  low = λ d h. subst (λ (z : ℤ). low_seen b d ≤ℤ z) (sym (t.low d h)) (omega (arith, ints, clamps));
-  high = λ d h. subst (λ (z : ℤ). z ≤ℤ high_seen b d) (sym (t.high d h)) (omega (arith, ints, clamps));
-}
+tighter_right p a b c t side d h = subst (IsAsTight side (seen_on side b d)) (sym (t side d h)) (tighter_second side (seen_on side a d) (seen_on side b d))
 
 pub all_cons : {X : Type 0} (P : X → Type 0) (x : X) (xs : List X) → P x → All P xs → All P (x ∷ xs)
 all_cons P x xs p ps zero d h = p
@@ -53,13 +58,8 @@ phase_gains p ok t same words bounds dealt seats last some_one n seen each joine
     let was : seen_of a ≡ words = (seen i last l).seen_is in
     let worked = each i last l in
     let here = subst (λ (ps : List Entries). c < length ps) (sym same) h in
-    let raised : IsRaised p (low_seen a) c (low_seen b c) = subst (λ (ps : List Entries). IsRaised ps (low_seen a) c (low_seen b c)) same (worked.raised c here refl) in
-    let sunk : IsSunk p (high_seen a) c (high_seen b c) = subst (λ (ps : List Entries). IsSunk ps (high_seen a) c (high_seen b c)) same (worked.sunk c here refl) in
-    let into = joined i last (omega arith) in record {
-      low = still_past (low_side p ok) (lower_at words) c (low_seen b c) (low_seen last c) (lower_at bounds c) h (into.low c h) (tight.low c h) (subst (λ (bs : List Bound). IsRaised p (lower_at bs) c (low_seen b c)) was raised);
-      high = still_past (high_side p ok) (upper_at words) c (high_seen b c) (high_seen last c) (upper_at bounds c) h (into.high c h) (tight.high c h) (subst (λ (bs : List Bound). IsSunk p (upper_at bs) c (high_seen b c)) was sunk);
-    }
-
-pub ok_under : {A E : Type 0} (P Q : A → Type 0) (r : Result A E) → ((a : A) → P a → Q a) → IfOk r P → IfOk r Q
-ok_under P Q (Ok a) f p = f a p
-ok_under P Q (Err e) f p = tt
+    let into = joined i last (omega arith) in
+    let past : (side : Side) → HasMoved side p (heads_on side words) c (heads_on side bounds c) = λ side.
+    still_past (is_side side p ok) (heads_on side words) c (seen_on side b c) (seen_on side last c) (heads_on side bounds c) h (into side c h) (tight side c h)
+    (subst (λ (bs : List Bound). HasMoved side p (heads_on side bs) c (seen_on side b c)) was (subst (λ (ps : List Entries). HasMoved side ps (seen_on side a) c (seen_on side b c)) same (worked.moved side c here refl))) in
+    record { low = past Low; high = past High }

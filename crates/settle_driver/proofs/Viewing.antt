@@ -6,6 +6,7 @@ use Rattle.std.specs.declared.alloc.Global.{Global}
 use Rattle.step_problem.specs.declared.heads.Bound.{Bound}
 use Rattle.step_problem.specs.declared.heads.SettleFault.{SettleFault}
 use Rattle.step_problem.specs.declared.heads.SettleFault.TheVariants.{Unfinished, Memory}
+use Rattle.step_problem.specs.declared.heads.Side.TheVariants.{Low, High}
 use Rattle.step_problem.specs.Entries.{Entries}
 use Rattle.step_problem.specs.Conditions.{IsHead}
 use Rattle.step_problem.specs.Heads.{Edges}
@@ -157,11 +158,11 @@ seen_encloses t s heads whole seat shows held =
     let inside : (c : ℕ) → c < length t.problem.now → c < length s.seat.me.0.problem = λ c h. subst (λ (q : List Entries). c < length q) (sym seat.problem) h in record {
       words = record {
         whole = whole;
-        low = λ c h. subst IsHead (sym (shows.low c h)) (sound.low c (inside c h));
-        high = λ c h. subst IsHead (sym (shows.high c h)) (sound.high c (inside c h));
+        low = λ c h. subst IsHead (sym (shows Low c h)) (sound.heads Low c (inside c h));
+        high = λ c h. subst IsHead (sym (shows High c h)) (sound.heads High c (inside c h));
       };
-      low = λ l u pair c h. held.low c h l pair.low.heads pair.low.settled pair.low.past_barrier;
-      high = λ l u pair c h. held.high c h u pair.high.heads pair.high.settled pair.high.past_barrier;
+      low = λ l u pair c h. held Low c h l pair.low.heads pair.low.settled pair.low.past_barrier;
+      high = λ l u pair c h. held High c h u pair.high.heads pair.high.settled pair.high.past_barrier;
     }
 
 pub look_encloses : (p : List Entries) (b : Edges) (t : HeadTable) (s : HeadSeat) (heads : List Bound) → t.problem.now ≡ p → barrier_of t ≡ b → length heads ≡ length p → IsSeatOf t s → ShowsSeen t.problem.now s heads → AreHeld t.problem.now (barrier_of t) heads → EnclosesPair p b heads

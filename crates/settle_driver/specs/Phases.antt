@@ -3,8 +3,10 @@ use Rattle.std.specs.Prelude.{◌≡◌, ℕ, ◌%◌, ◌+◌, ◌*◌, ◌<◌
 use Rattle.step_problem.specs.declared.heads.Bound.{Bound}
 use Rattle.head_table.specs.declared.table.HeadTable.{HeadTable}
 use Rattle.head_table.specs.declared.table.HeadSeat.{HeadSeat}
-use Rattle.head_table.specs.BySide.{AreNoLooser, IsRaised, IsSunk}
-use Rattle.head_table.specs.Seats.{IsSeatOf, low_seen, high_seen, seen_of}
+use Rattle.step_problem.specs.declared.heads.Side.{Side}
+use Rattle.cell_relax.specs.Sides.{AreNoLooser}
+use Rattle.head_table.specs.BySide.{HasMoved}
+use Rattle.head_table.specs.Seats.{IsSeatOf, seen_on, seen_of}
 use Rattle.settle_driver.specs.declared.plan.Plan.{Plan}
 
 -- workers from 1 to 64, at most 1024 turns for each cell, and at least one round
@@ -27,6 +29,5 @@ pub record HasSeen (t : HeadTable) (seen : List Bound) (s : HeadSeat) : Type 0 w
 -- the seat of worker number i after its turns: at each cell of its own it has seen the raise and the sink value
 pub record HasWorked (t : HeadTable) (i workers : ℕ) (a b : HeadSeat) : Type 0 where
   pub seat : IsSeatOf t b
-  pub raised : (c : ℕ) → c < length t.problem.now → c % workers ≡ i → IsRaised t.problem.now (low_seen a) c (low_seen b c)
-  pub sunk : (c : ℕ) → c < length t.problem.now → c % workers ≡ i → IsSunk t.problem.now (high_seen a) c (high_seen b c)
+  pub moved : (side : Side) (c : ℕ) → c < length t.problem.now → c % workers ≡ i → HasMoved side t.problem.now (seen_on side a) c (seen_on side b c)
   pub no_looser : AreNoLooser t.problem.now (seen_of a) (seen_of b)

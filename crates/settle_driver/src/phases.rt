@@ -2,7 +2,7 @@
 ghost use Rattle.std.specs.Prelude.{◌≡◌, ℕ, ◌+◌, ◌%◌, ◌<◌, ◌≤◌, length, slice_index_or, IfOk, All, vec_len};
 ghost use Rattle.step_problem.specs.Heads.{AreOnTheWay};
 ghost use Rattle.head_table.specs.declared.table.HeadSeat.{HeadSeat};
-ghost use Rattle.head_table.specs.BySide.{AreNoLooser};
+ghost use Rattle.cell_relax.specs.Sides.{AreNoLooser};
 ghost use Rattle.head_table.specs.Seats.{IsSeatOf, seen_of};
 ghost use Rattle.settle_driver.specs.Phases.{HasSeen, HasWorked, IsPlan};
 ghost use Rattle.settle_driver.specs.Sweeps.{IsPastCell};

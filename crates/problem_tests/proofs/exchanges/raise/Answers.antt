@@ -2,13 +2,14 @@ use Rattle.std.proofs.Common.{◌≡◌, ◌<◌, List, length, ℤ, FitsSigned,
 use Rattle.std.specs.Int.{int_max, w64}
 use Rattle.std.proofs.lemmas.Int.{to_z-of_z}
 use mir.Val.{to_z, of_z}
+use Rattle.step_problem.specs.declared.heads.Side.TheVariants.{Low}
 use Rattle.step_problem.specs.Entries.{Entries}
 use Rattle.step_problem.specs.Conditions.{IsProblem}
 use Rattle.step_problem.specs.Heads.{lower_at, IsRaise}
 use Rattle.step_problem.proofs.BothSides.{low_side}
-use Rattle.head_table.specs.Seats.{low_seen}
+use Rattle.head_table.specs.Seats.{seen_on}
 use Rattle.problem_tests.proofs.Shown.{same_relaxed}
-use Rattle.problem_tests.proofs.Showing.{shows_low}
+use Rattle.problem_tests.proofs.Showing.{shows_head}
 use Rattle.problem_tests.proofs.exchanges.raise.Goals as goal
 
 pub raise-found-requires-clause-to : goal.raise-found-requires-clause-to
@@ -18,7 +19,7 @@ raise-found-requires-clause-to c =
     let to = c.raise_in-to.result in
     let fits : FitsSigned w64 to = search rules in
     let value = subst (λ (ps : List Entries). IsRaise ps (lower_at c.args.shown.now) c.args.cell to) c.problem-problem.ensures c.raise_in-to.ensures.raise in
-    simp to_z-of_z (same_relaxed (low_side p ok) (low_seen c.args.seat.now) (lower_at c.args.shown.now) c.args.cell to c.requires.cell c.requires.shown.shown.low value)
+    simp to_z-of_z (same_relaxed (low_side p ok) (seen_on Low c.args.seat.now) (lower_at c.args.shown.now) c.args.cell to c.requires.cell (c.requires.shown.shown Low) value)
 
 pub returns : goal.returns
 returns c =
@@ -30,9 +31,9 @@ returns c =
     let q = c.raise-found.ensures in
     let before = c.requires.shown in
     let inside : c.args.cell < length c.args.shown.now = omega (arith, c.requires.cell, before.whole) in
-    let here : low_seen c.raise-found.new.seat c.args.cell ≡ to_z w64 (of_z w64 greater) = q.seen ∙ (ap (λ (z : ℤ). int_max z to) (sym (to_z-of_z w64 found fits)) ∙ (sym c.max.ensures.value ∙ sym (to_z-of_z w64 greater fits'))) in
+    let here : seen_on Low c.raise-found.new.seat c.args.cell ≡ to_z w64 (of_z w64 greater) = q.seen ∙ (ap (λ (z : ℤ). int_max z to) (sym (to_z-of_z w64 found fits)) ∙ (sym c.max.ensures.value ∙ sym (to_z-of_z w64 greater fits'))) in
     record {
       seat = q.seat;
       whole = search rules;
-      shown = shows_low _ c.args.seat.now c.raise-found.new.seat c.args.shown.now c.args.cell _ inside c.requires.cell here q.others q.high before.shown;
+      shown = shows_head Low _ c.args.seat.now c.raise-found.new.seat c.args.shown.now c.args.cell _ inside here q.others q.high before.shown;
     }

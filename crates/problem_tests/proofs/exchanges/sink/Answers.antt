@@ -2,13 +2,14 @@ use Rattle.std.proofs.Common.{◌≡◌, ◌<◌, List, length, ℤ, FitsSigned,
 use Rattle.std.specs.Int.{int_min, w64}
 use Rattle.std.proofs.lemmas.Int.{to_z-of_z}
 use mir.Val.{to_z, of_z}
+use Rattle.step_problem.specs.declared.heads.Side.TheVariants.{High}
 use Rattle.step_problem.specs.Entries.{Entries}
 use Rattle.step_problem.specs.Conditions.{IsProblem}
 use Rattle.step_problem.specs.Heads.{upper_at, IsSink}
 use Rattle.step_problem.proofs.BothSides.{high_side}
-use Rattle.head_table.specs.Seats.{high_seen}
+use Rattle.head_table.specs.Seats.{seen_on}
 use Rattle.problem_tests.proofs.Shown.{same_relaxed}
-use Rattle.problem_tests.proofs.Showing.{shows_high}
+use Rattle.problem_tests.proofs.Showing.{shows_head}
 use Rattle.problem_tests.proofs.exchanges.sink.Goals as goal
 
 pub sink-found-requires-clause-to : goal.sink-found-requires-clause-to
@@ -18,7 +19,7 @@ sink-found-requires-clause-to c =
     let to = c.sink_in-to.result in
     let fits : FitsSigned w64 to = search rules in
     let value = subst (λ (ps : List Entries). IsSink ps (upper_at c.args.shown.now) c.args.cell to) c.problem-problem.ensures c.sink_in-to.ensures.sink in
-    simp to_z-of_z (same_relaxed (high_side p ok) (high_seen c.args.seat.now) (upper_at c.args.shown.now) c.args.cell to c.requires.cell c.requires.shown.shown.high value)
+    simp to_z-of_z (same_relaxed (high_side p ok) (seen_on High c.args.seat.now) (upper_at c.args.shown.now) c.args.cell to c.requires.cell (c.requires.shown.shown High) value)
 
 pub returns : goal.returns
 returns c =
@@ -30,9 +31,9 @@ returns c =
     let q = c.sink-found.ensures in
     let before = c.requires.shown in
     let inside : c.args.cell < length c.args.shown.now = omega (arith, c.requires.cell, before.whole) in
-    let here : high_seen c.sink-found.new.seat c.args.cell ≡ to_z w64 (of_z w64 lesser) = q.seen ∙ (ap (λ (z : ℤ). int_min z to) (sym (to_z-of_z w64 found fits)) ∙ (sym c.min.ensures.value ∙ sym (to_z-of_z w64 lesser fits'))) in
+    let here : seen_on High c.sink-found.new.seat c.args.cell ≡ to_z w64 (of_z w64 lesser) = q.seen ∙ (ap (λ (z : ℤ). int_min z to) (sym (to_z-of_z w64 found fits)) ∙ (sym c.min.ensures.value ∙ sym (to_z-of_z w64 lesser fits'))) in
     record {
       seat = q.seat;
       whole = search rules;
-      shown = shows_high _ c.args.seat.now c.sink-found.new.seat c.args.shown.now c.args.cell _ inside c.requires.cell here q.others q.low before.shown;
+      shown = shows_head High _ c.args.seat.now c.sink-found.new.seat c.args.shown.now c.args.cell _ inside here q.others q.low before.shown;
     }

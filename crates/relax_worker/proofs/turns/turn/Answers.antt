@@ -1,22 +1,24 @@
 use Rattle.std.proofs.Common.{ℕ, ◌%◌, length, ℤ, sym, ap, ◌∙◌, subst}
-use Rattle.head_table.specs.BySide.{IsRaised, IsSunk}
-use Rattle.head_table.specs.Seats.{low_seen, high_seen, seen_of}
+use Rattle.step_problem.specs.declared.heads.Side.{Side}
+use Rattle.step_problem.specs.declared.heads.Side.TheVariants.{Low, High}
+use Rattle.head_table.specs.BySide.{HasMoved}
+use Rattle.head_table.specs.Seats.{seen_on, seen_of}
 use Rattle.head_table.proofs.Looser.{no_looser_trans}
 use Rattle.relax_worker.proofs.turns.turn.Goals as goal
 
-pub returns-clause-raised : goal.returns-clause-raised
-returns-clause-raised c =
+-- the raise stays when the cell is sunk, and the sink begins with what was seen before the raise
+pub returns-clause-moved : goal.returns-clause-moved
+returns-clause-moved c =
     let p = c.args.table.now.problem.now in
+    let at = c.args.ticket % c.len.result in
+    let before = c.args.seat.now in
+    let after = c.relax_cell-2.new.seat in
     let here = ap (λ (n : ℕ). c.args.ticket % n) (c.len.ensures.count ∙ ap length c.problem.ensures) in
-    subst (λ (n : ℕ). IsRaised p (low_seen c.args.seat.now) n (low_seen c.sink_cell.new.seat n)) here
-    (subst (λ (x : ℤ). IsRaised p (low_seen c.args.seat.now) (c.args.ticket % c.len.result) x) (sym (c.sink_cell.ensures.low _)) c.raise_cell.ensures.gain)
-
-pub returns-clause-sunk : goal.returns-clause-sunk
-returns-clause-sunk c =
-    let p = c.args.table.now.problem.now in
-    let here = ap (λ (n : ℕ). c.args.ticket % n) (c.len.ensures.count ∙ ap length c.problem.ensures) in
-    subst (λ (n : ℕ). IsSunk p (high_seen c.args.seat.now) n (high_seen c.sink_cell.new.seat n)) here
-    (subst (λ (u : ℕ → ℤ). IsSunk p u (c.args.ticket % c.len.result) (high_seen c.sink_cell.new.seat (c.args.ticket % c.len.result))) (λ i d. c.raise_cell.ensures.high d i) c.sink_cell.ensures.gain)
+    let moved : (side : Side) → HasMoved side p (seen_on side before) at (seen_on side after at) = elim [
+      | Low ↦ subst (λ (x : ℤ). HasMoved Low p (seen_on Low before) at x) (sym (c.relax_cell-2.ensures.opposite _)) c.relax_cell.ensures.gain
+      | High ↦ subst (λ (u : ℕ → ℤ). HasMoved High p u at (seen_on High after at)) (λ i d. c.relax_cell.ensures.opposite d i) c.relax_cell-2.ensures.gain
+    ] in
+    λ side. subst (λ (n : ℕ). HasMoved side p (seen_on side before) n (seen_on side after n)) here (moved side)
 
 pub returns-clause-no_looser : goal.returns-clause-no_looser
-returns-clause-no_looser c = no_looser_trans c.args.table.now.problem.now (seen_of c.args.seat.now) (seen_of c.raise_cell.new.seat) (seen_of c.sink_cell.new.seat) c.raise_cell.ensures.no_looser c.sink_cell.ensures.no_looser
+returns-clause-no_looser c = no_looser_trans c.args.table.now.problem.now (seen_of c.args.seat.now) (seen_of c.relax_cell.new.seat) (seen_of c.relax_cell-2.new.seat) c.relax_cell.ensures.no_looser c.relax_cell-2.ensures.no_looser

@@ -1,10 +1,12 @@
 use Rattle.std.proofs.Common.{◌≡◌, ℕ, ◌+◌, ◌-◌, ◌%◌, ◌<◌, length, refl, sym, ap, ◌∙◌, subst, arith}
 use native.Mathlib.Nat.{mod-eq_of_lt}
+use Rattle.step_problem.specs.declared.heads.Side.{Side}
 use Rattle.step_problem.specs.Conditions.{IsProblem}
-use Rattle.step_problem.proofs.BothSides.{low_side, high_side}
+use Rattle.cell_relax.specs.Sides.{AreNoLooser}
+use Rattle.cell_relax.proofs.Sides.{is_side}
 use Rattle.head_table.specs.declared.table.HeadSeat.{HeadSeat}
-use Rattle.head_table.specs.BySide.{AreNoLooser, IsRaised, IsSunk}
-use Rattle.head_table.specs.Seats.{IsSeatOf, low_seen, high_seen, seen_of}
+use Rattle.head_table.specs.BySide.{HasMoved}
+use Rattle.head_table.specs.Seats.{IsSeatOf, seen_on, seen_of}
 use Rattle.head_table.proofs.Looser.{same_no_looser, no_looser_trans}
 use Rattle.relax_worker.proofs.Gaining.{own_step}
 use Rattle.relax_worker.proofs.workers.own_turns.Goals as goal
@@ -23,8 +25,7 @@ loop-cell-preserved c =
     let own : ℕ → Type 0 = λ k. k % c.args.workers ≡ c.args.worker - 1 in
     let P : HeadSeat → Type 0 = λ s. record {
       seat : IsSeatOf t s;
-      raised : (k : ℕ) → k < i + 1 → k % c.args.workers ≡ c.args.worker - 1 → IsRaised p (low_seen a) k (low_seen s k);
-      sunk : (k : ℕ) → k < i + 1 → k % c.args.workers ≡ c.args.worker - 1 → IsSunk p (high_seen a) k (high_seen s k);
+      moved : (side : Side) (k : ℕ) → k < i + 1 → k % c.args.workers ≡ c.args.worker - 1 → HasMoved side p (seen_on side a) k (seen_on side s k);
       no_looser : AreNoLooser p (seen_of a) (seen_of s);
     } in
     let h : i < length p = let l = c.loop-cell-test.true in omega arith in
@@ -33,14 +34,12 @@ loop-cell-preserved c =
       | then-cell-workers w ↦ let turn = w.turn.ensures in let d = w.turn.new.seat in
           subst P (sym w.seat-is) record {
             seat = turn.seat;
-            raised = own_step (low_side p ok) (low_seen a) (low_seen b) (low_seen d) own i h inv.no_looser.low turn.no_looser.low (λ _. subst (λ (k : ℕ). IsRaised p (low_seen b) k (low_seen d k)) whole turn.raised) inv.raised;
-            sunk = own_step (high_side p ok) (high_seen a) (high_seen b) (high_seen d) own i h inv.no_looser.high turn.no_looser.high (λ _. subst (λ (k : ℕ). IsSunk p (high_seen b) k (high_seen d k)) whole turn.sunk) inv.sunk;
+            moved = λ side. own_step (is_side side p ok) (seen_on side a) (seen_on side b) (seen_on side d) own i h (inv.no_looser side) (turn.no_looser side) (λ _. subst (λ (k : ℕ). HasMoved side p (seen_on side b) k (seen_on side d k)) whole (turn.moved side)) (inv.moved side);
             no_looser = no_looser_trans p (seen_of a) (seen_of b) (seen_of d) inv.no_looser turn.no_looser;
           }
       | else-cell-workers w ↦ subst P (sym w.seat-is) record {
         seat = inv.seat;
-        raised = own_step (low_side p ok) (low_seen a) (low_seen b) (low_seen b) own i h inv.no_looser.low stay.low (λ o. absurd (w.if-cell-workers.false o)) inv.raised;
-        sunk = own_step (high_side p ok) (high_seen a) (high_seen b) (high_seen b) own i h inv.no_looser.high stay.high (λ o. absurd (w.if-cell-workers.false o)) inv.sunk;
+        moved = λ side. own_step (is_side side p ok) (seen_on side a) (seen_on side b) (seen_on side b) own i h (inv.no_looser side) (stay side) (λ o. absurd (w.if-cell-workers.false o)) (inv.moved side);
         no_looser = inv.no_looser;
       }
     ]

@@ -1,4 +1,4 @@
-use Rattle.head_table.specs.BySide.{AreNoLooser}
+use Rattle.cell_relax.specs.Sides.{AreNoLooser}
 use Rattle.head_table.specs.Seats.{IsSeatOf, seen_of}
 use Rattle.relax_worker.proofs.workers.work.Given as goal
 

@@ -1,7 +1,7 @@
 use Rattle.std.proofs.Common.{List, [], ◌∷◌, ◌++◌, All, ap, ◌∙◌, subst, append_assoc}
 use Rattle.std.proofs.lemmas.List.Elements.{All-weaker}
 use Rattle.head_table.specs.declared.table.HeadSeat.{HeadSeat}
-use Rattle.head_table.specs.BySide.{AreNoLooser}
+use Rattle.cell_relax.specs.Sides.{AreNoLooser}
 use Rattle.head_table.specs.Seats.{IsSeatOf, seen_of}
 use Rattle.head_table.proofs.Looser.{no_looser_trans}
 use Rattle.settle_driver.proofs.Gathering.{tighter_left, tighter_right, all_cons, all_front}

@@ -1,6 +1,6 @@
 use Rattle.std.proofs.Common.{◌≡◌, ◌++◌, List, All}
 use Rattle.head_table.specs.declared.table.HeadSeat.{HeadSeat}
-use Rattle.head_table.specs.BySide.{AreNoLooser}
+use Rattle.cell_relax.specs.Sides.{AreNoLooser}
 use Rattle.head_table.specs.Seats.{IsSeatOf, seen_of}
 use Rattle.settle_driver.proofs.phases.gather.Given as goal
 

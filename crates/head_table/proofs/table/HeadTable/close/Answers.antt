@@ -1,15 +1,24 @@
-use Rattle.std.proofs.Common.{List, subst, arith}
+use Rattle.std.proofs.Common.{List, subst, arith, IfOk}
+use Rattle.step_problem.specs.Heads.{AreOnTheWay}
+use Rattle.cell_relax.specs.Sides.{AreNoLooser}
 use Rattle.std.specs.Mem.Slots.{slots_items}
 use Rattle.step_problem.specs.Entries.{Entries}
 use Rattle.head_table.specs.Seats.{barrier_of}
-use Rattle.head_table.proofs.Closing.{AtEnd, ends, closes, ok_of_three}
+use Rattle.head_table.proofs.Closing.{AtEnd, ends, closes, ok_of_two, ok_under}
 use Rattle.head_table.proofs.table.HeadTable.close.Goals as goal
 
-at_end : (c : goal.After-free) → AtEnd c.args.self.problem.now (barrier_of c.args.self) (slots_items c.close_with-closed.result.words) c.args.seat.seat.me.0
-at_end c = let t = c.args.self in subst (λ (cells : List Entries). AtEnd cells (barrier_of t) (slots_items c.close_with-closed.result.words) c.args.seat.seat.me.0) t.same
-    (ends _ _ _ _ _ _ c.args.seat.live c.close_with-closed.ensures.values.2)
+pub read_all-bounds-requires-clause-range : goal.read_all-bounds-requires-clause-range
+read_all-bounds-requires-clause-range c = let t = c.args.self in let n = c.len-cells.ensures.count in
+    let end = subst (λ (cells : List Entries). AtEnd cells (barrier_of t) (slots_items c.close_with-closed.result.words) c.args.seat.seat.me.0) t.same (ends _ _ _ _ _ _ c.args.seat.live c.close_with-closed.ensures.values.2) in
+    λ side k h. (end.way side).heads k (omega (arith, h, n))
+
+closed : (c : goal.After-free) → IfOk c.read_all-bounds.result (λ v. AreOnTheWay c.args.self.problem.now (barrier_of c.args.self) v.items × AreNoLooser c.args.self.problem.now c.args.seat.seat.me.0.seen v.items)
+closed c = let t = c.args.self in let n = c.len-cells.ensures.count in let e = c.read_all-bounds.ensures in
+    let end = subst (λ (cells : List Entries). AtEnd cells (barrier_of t) (slots_items c.close_with-closed.result.words) c.args.seat.seat.me.0) t.same (ends _ _ _ _ _ _ c.args.seat.live c.close_with-closed.ensures.values.2) in
+    ok_of_two _ _ _ c.read_all-bounds.result e.len e.heads (λ v a b. closes t.problem.now (barrier_of t) c.len-cells.ensures.fits _ c.args.seat.seat.me.0 end v.items (omega (arith, v.ok)) (λ side k h. b side k (omega arith)))
 
 pub returns-clause-kept : goal.returns-clause-kept
-returns-clause-kept c = let t = c.args.self in let n = c.len-cells.ensures.count in let e = c.read_all-bounds.ensures in
-    ok_of_three _ _ _ _ c.read_all-bounds.result e.len e.low e.high (λ v a b d. (closes t.problem.now (barrier_of t) c.len-cells.ensures.fits _ c.args.seat.seat.me.0 (at_end c) v.items (omega (arith, v.ok))
-    (λ k h. b k (omega arith)) (λ k h. d k (omega arith))).0)
+returns-clause-kept c = ok_under _ _ c.read_all-bounds.result (λ v both. both.0) (closed c)
+
+pub returns-clause-tight : goal.returns-clause-tight
+returns-clause-tight c = ok_under _ _ c.read_all-bounds.result (λ v both. both.1) (closed c)

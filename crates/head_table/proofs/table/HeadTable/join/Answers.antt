@@ -1,10 +1,9 @@
 use Rattle.std.proofs.Common.{rules, ◌∙◌, length, sym, subst, ap, arith}
-use Rattle.step_problem.specs.Heads.{lower_at}
 use Rattle.atomic_table.specs.Table.{Me}
-use Rattle.step_problem.specs.Heads.{upper_at}
+use Rattle.cell_relax.specs.Words.{heads_on}
 use Rattle.head_table.specs.declared.known.Known.{Known}
 use Rattle.head_table.specs.Rule.{IsSound}
-use Rattle.head_table.proofs.Joining.{joins, sound_joined, low_joined, high_joined}
+use Rattle.head_table.proofs.Joining.{joins, sound_joined, joined_at}
 use Rattle.head_table.proofs.table.HeadTable.join.Goals as goal
 
 pub join_seat-requires : goal.join_seat-requires
@@ -19,7 +18,5 @@ invariant_of-seat c = let m = c.join_seat.ensures.2 in let a = c.args.seat.now i
 
 pub returns-clause-tighter : goal.returns-clause-tighter
 returns-clause-tighter c = let m = c.join_seat.ensures.2 in let a = c.args.seat.now in let b = c.args.other in let p = c.args.self.now.problem.now in
-    let n = a.sound.whole ∙ ap length c.requires.seat.problem in let k = b.sound.whole ∙ ap length c.requires.other.problem in record {
-      low = λ d h. ap (λ (x : Me (Unit {0}) Known). lower_at x.0.seen d) m ∙ low_joined a.seat.me.0 b.seat.me.0 (length p) n k d h;
-      high = λ d h. ap (λ (x : Me (Unit {0}) Known). upper_at x.0.seen d) m ∙ high_joined a.seat.me.0 b.seat.me.0 (length p) n k d h;
-    }
+    let n = a.sound.whole ∙ ap length c.requires.seat.problem in let k = b.sound.whole ∙ ap length c.requires.other.problem in
+    λ side d h. ap (λ (x : Me (Unit {0}) Known). heads_on side x.0.seen d) m ∙ joined_at side a.seat.me.0 b.seat.me.0 (length p) n k d h

@@ -1,24 +1,37 @@
-use Rattle.std.proofs.Common.{rules, ℕ, ◌<◌, length, ℤ, sym, ◌∙◌, subst, arith}
+use Rattle.std.proofs.Common.{rules, ℕ, ◌≡◌, ◌<◌, length, ℤ, sym, ◌∙◌, subst, arith}
 use Rattle.std.proofs.lemmas.Int.{to_z-of_z}
 use mir.Syntax.{w64}
 use mir.Val.{SFits, to_z, of_z}
 use Rattle.step_problem.specs.declared.heads.Bound.{Bound}
-use Rattle.step_problem.specs.Heads.{head_at}
-use Rattle.head_table.specs.BySide.{IsUnderSettled, IsOverSettled}
-use Rattle.head_table.specs.Seats.{barrier_of, low_seen, high_seen, seen_of}
-use Rattle.head_table.proofs.Looser.{loads_no_looser, loads_high_no_looser, no_looser_trans, shows_step, holds_step}
+use Rattle.step_problem.specs.declared.heads.Side.{Side}
+use Rattle.step_problem.specs.declared.heads.Side.TheVariants.{Low, High}
+use Rattle.cell_relax.specs.Words.{head_of}
+use Rattle.head_table.specs.BySide.{edge_on, IsNoTighterThanSettled}
+use Rattle.head_table.specs.Seats.{barrier_of, seen_on, seen_of}
+use Rattle.head_table.proofs.Looser.{moves_no_looser, no_looser_trans, shows_step, holds_step}
 use Rattle.head_table.proofs.table.HeadTable.watch.Goals as goal
 
 pub loop-cell-preserved : goal.loop-cell-preserved
 loop-cell-preserved c = let i = c.loop-cell.cell in let inv = c.loop-cell.invariant in let p = c.load_low-low.ensures in let q = c.load_high-high.ensures in
     let l : ℤ = c.load_low-low.result in let h : ℤ = c.load_high-high.result in let f : SFits w64 l = search rules in let g : SFits w64 h = search rules in
-    let x : Bound = record { low = to_z w64 (of_z w64 l); high = to_z w64 (of_z w64 h) } in let test = c.loop-cell-test.true in let inside : i < length c.loop-cell.bounds = omega (arith, c.loop-cell.auto.bounds) in
-    let t = c.args.self.now in let under = (λ (k : ℕ) (z : ℤ). IsUnderSettled t.problem.now (head_at (barrier_of t).floor) k z) in let over = (λ (k : ℕ) (z : ℤ). IsOverSettled t.problem.now (head_at (barrier_of t).ceiling) k z) in
-    let a = c.loop-cell.seat in let m = c.load_low-low.new.seat in let b = c.load_high-high.new.seat in record {
+    let x : Bound = record { low = to_z w64 (of_z w64 l); high = to_z w64 (of_z w64 h) } in let inside : i < length c.loop-cell.bounds = omega (arith, c.loop-cell.auto.bounds, c.loop-cell-test.true) in
+    let t = c.args.self.now in let bs = c.loop-cell.bounds in
+    let settled = (λ (side : Side) (k : ℕ) (z : ℤ). IsNoTighterThanSettled side t.problem.now (edge_on side (barrier_of t)) k z) in
+    let a = c.loop-cell.seat in let m = c.load_low-low.new.seat in let b = c.load_high-high.new.seat in
+    let here : (side : Side) → head_of side x ≡ seen_on side b i = elim [
+      | Low ↦ to_z-of_z w64 l f ∙ (sym p.seen ∙ sym (q.low i))
+      | High ↦ to_z-of_z w64 h g ∙ sym q.seen
+    ] in
+    let others : (side : Side) (d : ℕ) → (d ≡ i → ⊥) → seen_on side b d ≡ seen_on side a d = elim [
+      | Low ↦ λ d ne. q.low d ∙ p.others d ne
+      | High ↦ λ d ne. q.others d ne ∙ p.high d
+    ] in
+    let under : (side : Side) → settled side i (head_of side x) = elim [
+      | Low ↦ subst (settled Low i) (sym (to_z-of_z w64 l f)) p.held
+      | High ↦ subst (settled High i) (sym (to_z-of_z w64 h g)) q.held
+    ] in record {
       seat = q.seat;
-      low = shows_step (λ (y : Bound). y.low) (low_seen a) (low_seen b) c.loop-cell.bounds i x inside (to_z-of_z w64 l f ∙ (sym p.seen ∙ sym (q.low i))) (λ d ne. q.low d ∙ p.others d ne) inv.low;
-      high = shows_step (λ (y : Bound). y.high) (high_seen a) (high_seen b) c.loop-cell.bounds i x inside (to_z-of_z w64 h g ∙ sym q.seen) (λ d ne. q.others d ne ∙ p.high d) inv.high;
-      held_low = holds_step under (λ (y : Bound). y.low) c.loop-cell.bounds i x inside (subst (λ (z : ℤ). under i z) (sym (to_z-of_z w64 l f)) p.held) inv.held_low;
-      held_high = holds_step over (λ (y : Bound). y.high) c.loop-cell.bounds i x inside (subst (λ (z : ℤ). over i z) (sym (to_z-of_z w64 h g)) q.held) inv.held_high;
-      no_looser = no_looser_trans _ _ (seen_of a) (seen_of b) inv.no_looser (no_looser_trans _ (seen_of a) (seen_of m) (seen_of b) (loads_no_looser _ a m _ _ p.seen p.later p.others p.high) (loads_high_no_looser _ m b _ _ q.seen q.later q.others q.low));
+      shown = λ side. shows_step (head_of side) (seen_on side a) (seen_on side b) bs i x inside (here side) (others side) (inv.shown side);
+      held = λ side. holds_step (settled side) (head_of side) bs i x inside (under side) (inv.held side);
+      no_looser = no_looser_trans _ _ (seen_of a) (seen_of b) inv.no_looser (no_looser_trans _ (seen_of a) (seen_of m) (seen_of b) (moves_no_looser Low _ a m _ _ p.seen p.later p.others p.high) (moves_no_looser High _ m b _ _ q.seen q.later q.others q.low));
     }

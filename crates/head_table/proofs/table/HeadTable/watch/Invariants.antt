@@ -1,15 +1,15 @@
 use Rattle.std.proofs.Common.{◌≡◌, ℕ, ◌<◌}
-use Rattle.step_problem.specs.Heads.{head_at, lower_at, upper_at}
-use Rattle.head_table.specs.Seats.{IsSeatOf, barrier_of, low_seen, high_seen, seen_of}
-use Rattle.head_table.specs.BySide.{AreNoLooser, IsUnderSettled, IsOverSettled}
+use Rattle.step_problem.specs.declared.heads.Side.{Side}
+use Rattle.cell_relax.specs.Sides.{AreNoLooser}
+use Rattle.cell_relax.specs.Words.{heads_on}
+use Rattle.head_table.specs.Seats.{IsSeatOf, barrier_of, seen_on, seen_of}
+use Rattle.head_table.specs.BySide.{edge_on, IsNoTighterThanSettled}
 use Rattle.head_table.proofs.table.HeadTable.watch.Given as goal
 
 abbrev pub invariant-loop-cell : goal.invariant-loop-cell
 invariant-loop-cell l = record {
   seat : IsSeatOf l.self l.seat;
-  low : (c : ℕ) → c < l.cell → lower_at l.bounds c ≡ low_seen l.seat c;
-  high : (c : ℕ) → c < l.cell → upper_at l.bounds c ≡ high_seen l.seat c;
-  held_low : (c : ℕ) → c < l.cell → IsUnderSettled l.self.problem.now (head_at (barrier_of l.self).floor) c (lower_at l.bounds c);
-  held_high : (c : ℕ) → c < l.cell → IsOverSettled l.self.problem.now (head_at (barrier_of l.self).ceiling) c (upper_at l.bounds c);
+  shown : (side : Side) (c : ℕ) → c < l.cell → heads_on side l.bounds c ≡ seen_on side l.seat c;
+  held : (side : Side) (c : ℕ) → c < l.cell → IsNoTighterThanSettled side l.self.problem.now (edge_on side (barrier_of l.self)) c (heads_on side l.bounds c);
   no_looser : AreNoLooser l.self.problem.now (seen_of l.initial.seat) (seen_of l.seat);
 }

@@ -2,10 +2,10 @@ use Rattle.std.proofs.Common.{◌<◌, ◌∙◌, length, length-set, FitsSigned
 use Rattle.std.specs.Int.{w64}
 use Rattle.std.proofs.lemmas.Int.{to_z-of_z}
 use Rattle.step_problem.specs.Entries.{no_link, link_at}
-use Rattle.head_table.specs.Seats.{high_seen, seen_of}
-use Rattle.head_table.proofs.Looser.{loads_high_no_looser, no_looser_trans}
+use Rattle.head_table.specs.Seats.{seen_on, seen_of}
+use Rattle.head_table.proofs.Looser.{moves_no_looser, no_looser_trans}
 use Rattle.relax_worker.proofs.Loading.{load_more}
-use Rattle.relax_worker.proofs.links.load_links_high.Goals as goal
+use Rattle.relax_worker.proofs.sides.load_links.Goals as goal
 
 pub loop-i-preserved : goal.loop-i-preserved
 loop-i-preserved c =
@@ -13,18 +13,18 @@ loop-i-preserved c =
     let p = c.args.table.now.problem.now in
     let links = c.args.links.now in
     let before = c.loop-i.seat in
-    let after = c.load_high.new.seat in
-    let load = c.load_high.ensures in
+    let after = c.load.new.seat in
+    let load = c.load.ensures in
     let inv = c.loop-i.invariant in
     let here : i < length links = c.loop-i-test.true in
     let room : i < length c.loop-i.values = omega (arith, inv.whole, here) in
-    let fits : FitsSigned w64 c.load_high.result = search rules in
+    let fits : FitsSigned w64 c.load.result = search rules in
     simp to_z-of_z
     (record {
       seat = load.seat;
       whole = length-set _ _ _ ∙ inv.whole;
-      values = load_more c.loop-i.values links (high_seen before) (high_seen after) i c.load_high.result room here c.requires.apart load.others inv.values (sym load.seen);
+      values = load_more c.loop-i.values links (seen_on c.args.side before) (seen_on c.args.side after) i c.load.result room here c.requires.apart load.others inv.values (sym load.seen);
       others = λ d apart. load.others d (λ e. apart i no_link here (sym e)) ∙ inv.others d apart;
-      no_looser = no_looser_trans p (seen_of c.args.seat.now) (seen_of before) (seen_of after) inv.no_looser (loads_high_no_looser p before after (link_at links i).cell _ load.seen load.later load.others load.low);
-      low = λ d. load.low d ∙ inv.low d;
+      no_looser = no_looser_trans p (seen_of c.args.seat.now) (seen_of before) (seen_of after) inv.no_looser (moves_no_looser c.args.side p before after (link_at links i).cell _ load.seen load.later load.others load.opposite);
+      opposite = λ d. load.opposite d ∙ inv.opposite d;
     })
