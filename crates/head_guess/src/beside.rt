@@ -4,11 +4,12 @@ ghost use Rattle.cell_relax.specs.Words.{AreWords};
 
 use crate::guess::{Guess, guess_of, side_of};
 use crate::half::{HalfGuess, Start, find_room, half_guess, near_balanced};
-use crate::linear::share_room;
 use crate::links::Links;
 use crate::one_side::OneSide;
+use crate::room::share_room;
 use crate::search::FIRST_SHARE;
 use crate::steps::{Kept, LastStep, high_start, low_start};
+use star_mesh::Pattern;
 use std::alloc::{AllocError, Global};
 use std::thread::{Threads, join};
 use step_problem::{Barrier, Problem, Side};
@@ -84,6 +85,29 @@ fn both_halves<R: Threads>(
     Ok((low?, high?))
 }
 
+// The guess of both sides in two threads.
+fn guess_at_once<R: Threads>(
+    rt: &R,
+    alloc: Global,
+    p: &Problem,
+    b: &Barrier,
+    links: &Links,
+    pattern: Option<&Pattern>,
+    kept: &mut Kept,
+) -> Result<Guess, AllocError>
+    ensures { IfOk result (λ g. AreWords p.now (Guess.bounds g).items) }
+{
+    let last = kept.take_last(p);
+    let sides = Sides {
+        low: side_of(alloc, p, Side::Low, links, pattern, b.floor.as_slice())?,
+        high: side_of(alloc, p, Side::High, links, pattern, b.ceiling.as_slice())?,
+    };
+    let heads = low_start(alloc, p, b, &last)?;
+    let near = near_heads(rt, alloc, &sides, heads, kept, last.is_none())?;
+    let (low, high) = both_halves(rt, alloc, &sides, near, &last, kept)?;
+    guess_of(alloc, p, low, high, last, &mut kept.last)
+}
+
 /// A guess as `guess_heads` makes it, with both sides in two threads: a few rounds of Newton's method for the lower side lead near the
 /// balanced heads of both.
 pub fn guess_beside<R: Threads>(
@@ -96,13 +120,9 @@ pub fn guess_beside<R: Threads>(
     ensures { IfOk result (λ g. AreWords p.now (Guess.bounds g).items) }
 {
     let links = Links::of(alloc, p)?;
-    let last = kept.take_last(p);
-    let sides = Sides {
-        low: side_of(alloc, p, Side::Low, &links, b.floor.as_slice())?,
-        high: side_of(alloc, p, Side::High, &links, b.ceiling.as_slice())?,
-    };
-    let heads = low_start(alloc, p, b, &last)?;
-    let near = near_heads(rt, alloc, &sides, heads, kept, last.is_none())?;
-    let (low, high) = both_halves(rt, alloc, &sides, near, &last, kept)?;
-    guess_of(alloc, p, low, high, last, &mut kept.last)
+    let eliminable = kept.find_eliminable(alloc, &links)?;
+    let pattern = eliminable.pattern();
+    let guess = guess_at_once(rt, alloc, p, b, &links, pattern, kept)?;
+    kept.eliminable = eliminable;
+    Ok(guess)
 }

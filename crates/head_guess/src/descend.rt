@@ -55,8 +55,8 @@ fn find_shape(
     budget: &mut Budget,
 ) -> Result<Vec<i64>, AllocError> {
     let slopes = slopes_where_fallen(alloc, side, before, state)?;
-    let mut solver = Solver::new(alloc, side, slopes, budget)?;
-    let mut shape = solver.room(alloc, ROUNDS, 14, budget)?;
+    let mut solver = Solver::by_cycles(alloc, side, slopes, budget)?;
+    let mut shape = solver.room(alloc, side, ROUNDS, 14, budget)?;
     let most = greatest(shape.as_slice());
     for room in shape.iter_mut() {
         let units = (SHAPE_UNITS as i128 * *room as i128).checked_div(most as i128);

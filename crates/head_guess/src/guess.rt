@@ -8,6 +8,7 @@ use crate::one_side::{OneSide, turned};
 use crate::search::FIRST_SHARE;
 use crate::steps::{Kept, LastStep, before_of, high_start, low_start};
 use multigrid::numbers::at;
+use star_mesh::Pattern;
 use std::alloc::{AllocError, Global};
 use step_problem::{Barrier, Bound, Problem, Side};
 
@@ -52,10 +53,11 @@ pub fn side_of<'a>(
     p: &'a Problem,
     side: Side,
     links: &'a Links,
+    pattern: Option<&'a Pattern>,
     edge: &[i64],
 ) -> Result<OneSide<'a>, AllocError> {
     let floor = all_turned(alloc, side, edge)?;
-    OneSide::new(alloc, p, side, links, floor)
+    OneSide::new(alloc, p, side, links, pattern, floor)
 }
 
 /// The guess of both sides, which is kept for the next step.
@@ -85,6 +87,35 @@ pub fn guess_of(
     Ok(Guess { bounds, order })
 }
 
+// The guess of both sides, one after the other.
+fn guess_in_turn(
+    alloc: Global,
+    p: &Problem,
+    b: &Barrier,
+    links: &Links,
+    pattern: Option<&Pattern>,
+    kept: &mut Kept,
+) -> Result<Guess, AllocError>
+    ensures { IfOk result (λ g. AreWords p.now (Guess.bounds g).items) }
+{
+    let last = kept.take_last(p);
+    let side = side_of(alloc, p, Side::Low, links, pattern, b.floor.as_slice())?;
+    let start = Start {
+        heads: low_start(alloc, p, b, &last)?,
+        share: FIRST_SHARE,
+        last: last.as_ref().map(|last| &last.low),
+    };
+    let low = half_guess(alloc, &side, start, &mut kept.linear)?;
+    let side = side_of(alloc, p, Side::High, links, pattern, b.ceiling.as_slice())?;
+    let start = Start {
+        heads: high_start(alloc, low.ended.balanced.as_slice(), &last)?,
+        share: low.ended.share,
+        last: last.as_ref().map(|last| &last.high),
+    };
+    let high = half_guess(alloc, &side, start, &mut kept.linear)?;
+    guess_of(alloc, p, low, high, last, &mut kept.last)
+}
+
 /// A guess of the settled pair of a problem and a barrier. It begins with what the guess of the last step has kept, which may be that of any
 /// problem.
 pub fn guess_heads(
@@ -96,20 +127,8 @@ pub fn guess_heads(
     ensures { IfOk result (λ g. AreWords p.now (Guess.bounds g).items) }
 {
     let links = Links::of(alloc, p)?;
-    let last = kept.take_last(p);
-    let side = side_of(alloc, p, Side::Low, &links, b.floor.as_slice())?;
-    let start = Start {
-        heads: low_start(alloc, p, b, &last)?,
-        share: FIRST_SHARE,
-        last: last.as_ref().map(|last| &last.low),
-    };
-    let low = half_guess(alloc, &side, start, &mut kept.linear)?;
-    let side = side_of(alloc, p, Side::High, &links, b.ceiling.as_slice())?;
-    let start = Start {
-        heads: high_start(alloc, low.ended.balanced.as_slice(), &last)?,
-        share: low.ended.share,
-        last: last.as_ref().map(|last| &last.high),
-    };
-    let high = half_guess(alloc, &side, start, &mut kept.linear)?;
-    guess_of(alloc, p, low, high, last, &mut kept.last)
+    let eliminable = kept.find_eliminable(alloc, &links)?;
+    let guess = guess_in_turn(alloc, p, b, &links, eliminable.pattern(), kept)?;
+    kept.eliminable = eliminable;
+    Ok(guess)
 }

@@ -1,9 +1,10 @@
 // The guess of one side.
 use crate::descend::descend;
-use crate::linear::{Linear, room_of};
+use crate::linear::Linear;
 use crate::newton::{Until, find_balanced};
 use crate::one_side::OneSide;
 use crate::raise::raise_within;
+use crate::room::room_of;
 use crate::search::{Balanced, settled_below};
 use crate::slopes::slopes_at;
 use crate::state::State;
@@ -172,7 +173,7 @@ pub fn find_room(
     let mut budget = Budget::new(VISITS_OF_NEWTON, side.len());
     let slopes = slopes_at(alloc, side, heads)?;
     let mut linear = Linear::of(alloc, side, &slopes, kept.take(), &mut budget)?;
-    linear.find_room(alloc, &mut budget)?;
+    linear.find_room(alloc, side, &mut budget)?;
     *kept = Some(linear);
     Ok(())
 }
@@ -191,6 +192,6 @@ pub fn half_guess(
             return Ok(half);
         }
     }
-    let room = room_of(alloc, kept, &mut budget)?;
+    let room = room_of(alloc, side, kept, &mut budget)?;
     half_by_search(alloc, side, Balanced { heads, room }, start.share)
 }

@@ -4,6 +4,7 @@
 mod beside;
 mod burn;
 mod descend;
+mod eliminable;
 mod flows;
 mod gallop;
 mod guess;
@@ -12,16 +13,19 @@ mod known;
 mod linear;
 mod links;
 mod marks;
+mod method;
 mod newton;
 mod nodes;
 mod one_side;
 mod raise;
 mod ramp;
+mod room;
 mod search;
 mod slopes;
 mod solver;
 mod state;
 mod steps;
+mod system;
 mod ways;
 
 pub use beside::guess_beside;

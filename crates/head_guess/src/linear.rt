@@ -1,28 +1,25 @@
 // The linear system of a round of Newton's method. It is kept while its slopes serve, from one side to the other too.
+use crate::method::Cycled;
 use crate::one_side::OneSide;
 use crate::solver::Solver;
 use multigrid::Budget;
 use multigrid::numbers::{greatest, width};
 use std::alloc::{AllocError, Global};
 
-// Rounds of conjugate gradients for a correction, and for the room.
+// Rounds of conjugate gradients for a correction.
 const ROUNDS: u32 = 30;
-
-const ROUNDS_OF_ROOM: u32 = 60;
-
-// The room is found to 2^-10 of itself.
-const BITS_OF_ROOM: u32 = 10;
 
 // The bits to which residuals are solved, at least and at most.
 const LEAST_BITS: u32 = 4;
 
 const MOST_BITS: u32 = 18;
 
-/// A solver, and its room once that is found.
+/// A solver, its room once that is found, and how its solutions by cycles went.
 #[derive(Drop)]
 pub struct Linear {
-    solver: Solver,
-    room: Option<Vec<i64>>,
+    pub solver: Solver,
+    pub room: Option<Vec<i64>>,
+    pub cycled: Cycled,
 }
 
 impl Linear {
@@ -30,15 +27,28 @@ impl Linear {
         alloc: Global,
         side: &OneSide,
         slopes: &Vec<i64>,
+        cycled: Cycled,
         budget: &mut Budget,
     ) -> Result<Linear, AllocError> {
+        let slopes = slopes.clone()?;
+        let solver = if cycled.is_worse_than_elimination(side.pattern) {
+            Solver::by_elimination(alloc, side, slopes, budget)?
+        } else {
+            Solver::by_cycles(alloc, side, slopes, budget)?
+        };
         Ok(Linear {
-            solver: Solver::new(alloc, side, slopes.clone()?, budget)?,
+            solver,
             room: None,
+            cycled: cycled.of_next(),
         })
     }
 
-    /// The system of these slopes: the kept one, if that serves.
+    // Whether elimination of the same system would have paid.
+    fn is_dear(&self, side: &OneSide) -> bool {
+        self.solver.is_by_cycles() && self.cycled.is_worse_than_elimination(side.pattern)
+    }
+
+    /// The system of these slopes: the kept one, if that serves and is not dear.
     pub fn of(
         alloc: Global,
         side: &OneSide,
@@ -47,8 +57,9 @@ impl Linear {
         budget: &mut Budget,
     ) -> Result<Linear, AllocError> {
         match kept {
-            Some(kept) if kept.serves(slopes.as_slice()) => Ok(kept),
-            _ => Linear::new(alloc, side, slopes, budget),
+            Some(kept) if kept.serves(slopes.as_slice()) && !kept.is_dear(side) => Ok(kept),
+            Some(kept) => Linear::new(alloc, side, slopes, kept.cycled, budget),
+            None => Linear::new(alloc, side, slopes, Cycled::NONE, budget),
         }
     }
 
@@ -71,65 +82,26 @@ impl Linear {
     }
 
     /// The correction of these balances, in units of 2^-places.
-    pub fn correction(&mut self, balances: &[i128], places: i64, budget: &mut Budget) -> &[i64] {
+    pub fn correction(
+        &mut self,
+        side: &OneSide,
+        balances: &[i128],
+        places: i64,
+        budget: &mut Budget,
+    ) -> &[i64] {
         let bits = self.bits(places);
+        let left = budget.left();
         self.solver.set_right_side(balances, places);
-        self.solver.solve(ROUNDS, bits, budget)
+        let unknowns = self.solver.solve(side, ROUNDS, bits, budget);
+        self.cycled.add(left.saturating_sub(budget.left()));
+        unknowns
     }
 
-    /// Takes the room of another system, if that serves this one.
-    fn take_room(&mut self, other: &Linear) -> Result<(), AllocError> {
-        if let (None, Some(room)) = (&self.room, &other.room) {
-            if other.serves(self.solver.slopes()) {
-                self.room = Some(room.clone()?);
-            }
-        }
-        Ok(())
-    }
-
-    /// The room at each cell.
-    pub fn room(&mut self, alloc: Global, budget: &mut Budget) -> Result<Vec<i64>, AllocError> {
-        self.find_room(alloc, budget)?;
-        match &self.room {
-            Some(room) => room.clone(),
-            None => Ok(Vec::new(alloc)),
-        }
-    }
-
-    /// Whether the last correction, in units of 2^-places, was solved to its bits.
-    pub fn is_solved(&mut self, places: i64) -> bool {
+    /// Whether the last correction, in units of 2^-places, was solved to its bits. If not, the system is known to be hard.
+    pub fn check(&mut self, places: i64) -> bool {
         let bits = self.bits(places);
-        self.solver.is_solved(bits)
-    }
-
-    /// Finds the room, which is kept.
-    pub fn find_room(&mut self, alloc: Global, budget: &mut Budget) -> Result<(), AllocError> {
-        if self.room.is_none() {
-            let room = self
-                .solver
-                .room(alloc, ROUNDS_OF_ROOM, BITS_OF_ROOM, budget)?;
-            self.room = Some(room);
-        }
-        Ok(())
-    }
-}
-
-/// Gives the room of one kept system to another one that it serves.
-pub fn share_room(to: &mut Option<Linear>, from: &Option<Linear>) -> Result<(), AllocError> {
-    match (to, from) {
-        (Some(to), Some(from)) => to.take_room(from),
-        _ => Ok(()),
-    }
-}
-
-/// The room at each cell of a kept system; no room where none is kept.
-pub fn room_of(
-    alloc: Global,
-    kept: &mut Option<Linear>,
-    budget: &mut Budget,
-) -> Result<Vec<i64>, AllocError> {
-    match kept {
-        Some(linear) => linear.room(alloc, budget),
-        None => Ok(Vec::new(alloc)),
+        let is_solved = self.solver.is_solved(bits);
+        self.cycled.is_hard = self.cycled.is_hard || !is_solved;
+        is_solved
     }
 }

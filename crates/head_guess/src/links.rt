@@ -129,6 +129,11 @@ impl Links {
         Ok(links)
     }
 
+    /// The number of cells.
+    pub fn len(&self) -> usize {
+        self.rows.len()
+    }
+
     /// The row of a cell; an empty one past the last cell.
     pub fn row(&self, cell: usize) -> Row {
         self.rows.get(cell).copied().unwrap_or(NO_ROW)

@@ -109,9 +109,9 @@ impl Newton {
         budget: &mut Budget,
     ) -> (i128, bool) {
         let places = 20_i64.saturating_sub(width(alone as i128) as i64);
-        let unknowns = linear.correction(self.balances.as_slice(), places, budget);
+        let unknowns = linear.correction(side, self.balances.as_slice(), places, budget);
         let longest = self.advance(side, unknowns, places);
-        let is_solved = linear.is_solved(places);
+        let is_solved = linear.check(places);
         self.slack = cut(if is_solved {
             longest.wrapping_shr(BITS_OF_SLACK)
         } else {

@@ -9,6 +9,7 @@ use crate::links::{Links, Row};
 use crate::ramp::{Ramp, add_ramps};
 use cell_relax::{raise_to, sink_to};
 use multigrid::numbers::{at, long_at};
+use star_mesh::Pattern;
 use std::alloc::{AllocError, Global};
 use step_problem::problem::HEAD_LIMIT;
 use step_problem::{Problem, Side};
@@ -22,6 +23,8 @@ pub struct OneSide<'a> {
     problem: &'a Problem,
     pub side: Side,
     pub links: &'a Links,
+    /// The pattern of the links, if elimination pays.
+    pub pattern: Option<&'a Pattern>,
     pub floor: Vec<i64>,
     knowns: Vec<Known>,
     ramps: Vec<Ramp>,
@@ -62,6 +65,7 @@ impl OneSide<'_> {
         problem: &'a Problem,
         side: Side,
         links: &'a Links,
+        pattern: Option<&'a Pattern>,
         floor: Vec<i64>,
     ) -> Result<OneSide<'a>, AllocError> {
         let mut knowns = Vec::new(alloc);
@@ -79,6 +83,7 @@ impl OneSide<'_> {
             problem,
             side,
             links,
+            pattern,
             floor,
             knowns,
             ramps,

@@ -1,81 +1,24 @@
-// The linear system of a problem: links between cells, and on the diagonal the slopes of the cells' balances.
+// A linear system with a method to solve it.
+use crate::method::{Method, visits_of_factor};
 use crate::one_side::OneSide;
-use multigrid::numbers::{at, cut, shifted};
-use multigrid::{Budget, Levels, Matrix};
+use crate::system::{matrix_of, scale_of, slack_of};
+use multigrid::numbers::shifted;
+use multigrid::{Budget, Levels};
+use star_mesh::Factor;
 use std::alloc::{AllocError, Global};
 
 // Making the levels takes about this many visits at each cell.
 const VISITS_OF_LEVELS: u64 = 20;
 
-/// The system of slopes, with its levels. A cell whose slope is 0 is fixed: its unknown is 0.
+/// The system of slopes, with its method. A cell whose slope is 0 is fixed: its unknown is 0.
 #[derive(Drop)]
 pub struct Solver {
-    levels: Levels,
+    method: Method,
     slopes: Vec<i64>,
     // How far each slope may be off.
     slack: Vec<u64>,
     // Weights are conductances over 2^scale, so that the sum of all of them fits.
     scale: u32,
-}
-
-// The bits of the sum of all slopes beyond 61.
-fn scale_of(slopes: &[i64]) -> u32 {
-    let mut sum = 0_u128;
-    for slope in slopes {
-        sum = sum.saturating_add(slope.unsigned_abs() as u128);
-    }
-    67_u32.saturating_sub(sum.leading_zeros())
-}
-
-// The row of a cell.
-fn add_cell(
-    matrix: &mut Matrix,
-    side: &OneSide,
-    slopes: &[i64],
-    scale: u32,
-    cell: usize,
-) -> Result<(), AllocError> {
-    let slope = at(slopes, cell);
-    if slope == 0 {
-        return matrix.close_row(1);
-    }
-    let mut sum = 0_i64;
-    let row = side.links.row(cell);
-    for edge in side.links.edges(&row) {
-        let weight = edge.lo.wrapping_shr(scale);
-        sum = sum.saturating_add(weight);
-        if weight > 0 && at(slopes, edge.other as usize) > 0 {
-            matrix.couple(edge.other, weight)?;
-        }
-    }
-    matrix.close_row(slope.wrapping_shr(scale).max(sum))
-}
-
-fn matrix_of(
-    alloc: Global,
-    side: &OneSide,
-    slopes: &[i64],
-    scale: u32,
-) -> Result<Matrix, AllocError> {
-    let mut matrix = Matrix::new(alloc);
-    for cell in 0..side.len() {
-        add_cell(&mut matrix, side, slopes, scale, cell)?;
-    }
-    Ok(matrix)
-}
-
-// How far each slope may be off: a few units, and 2^-20 of what it exceeds the cell's links by.
-fn slack_of(alloc: Global, side: &OneSide, slopes: &[i64]) -> Result<Vec<u64>, AllocError> {
-    let mut slack = Vec::with_capacity(alloc, slopes.len())?;
-    for (cell, slope) in slopes.iter().enumerate() {
-        let row = side.links.row(cell);
-        let mut excess = *slope;
-        for edge in side.links.edges(&row) {
-            excess = excess.saturating_sub(edge.lo);
-        }
-        slack.push(16_u64.saturating_add(excess.max(0).unsigned_abs() >> 20))?;
-    }
-    Ok(slack)
 }
 
 // Whether a residual is at most 2^bits of a slope, or twice that.
@@ -84,8 +27,43 @@ fn is_small(rest: i128, slope: i64, bits: u32) -> bool {
     rest.unsigned_abs() <= most.unsigned_abs()
 }
 
+// The factor of a system, if the problem's links have a pattern.
+fn factor_of(
+    alloc: Global,
+    side: &OneSide,
+    slopes: &[i64],
+    budget: &mut Budget,
+) -> Result<Option<Factor>, AllocError> {
+    let Some(pattern) = side.pattern else {
+        return Ok(None);
+    };
+    let matrix = matrix_of(alloc, side, slopes, 0)?;
+    if !pattern.fits(&matrix) {
+        return Ok(None);
+    }
+    budget.spend(visits_of_factor(pattern));
+    Ok(Some(Factor::new(alloc, pattern, matrix)?))
+}
+
 impl Solver {
-    pub fn new(
+    fn with_method(
+        alloc: Global,
+        side: &OneSide,
+        slopes: Vec<i64>,
+        method: Method,
+        scale: u32,
+    ) -> Result<Solver, AllocError> {
+        let slack = slack_of(alloc, side, slopes.as_slice())?;
+        Ok(Solver {
+            method,
+            slopes,
+            slack,
+            scale,
+        })
+    }
+
+    /// A solver by multigrid cycles.
+    pub fn by_cycles(
         alloc: Global,
         side: &OneSide,
         slopes: Vec<i64>,
@@ -94,14 +72,30 @@ impl Solver {
         let scale = scale_of(slopes.as_slice());
         let matrix = matrix_of(alloc, side, slopes.as_slice(), scale)?;
         budget.spend(VISITS_OF_LEVELS.saturating_mul(side.len() as u64));
-        let levels = Levels::new(alloc, matrix)?;
-        let slack = slack_of(alloc, side, slopes.as_slice())?;
-        Ok(Solver {
-            levels,
-            slopes,
-            slack,
-            scale,
-        })
+        let method = Method::Cycles(Levels::new(alloc, matrix)?);
+        Solver::with_method(alloc, side, slopes, method, scale)
+    }
+
+    /// A solver by elimination; by multigrid cycles where the problem's links have no pattern.
+    pub fn by_elimination(
+        alloc: Global,
+        side: &OneSide,
+        slopes: Vec<i64>,
+        budget: &mut Budget,
+    ) -> Result<Solver, AllocError> {
+        match factor_of(alloc, side, slopes.as_slice(), budget)? {
+            Some(factor) => {
+                Solver::with_method(alloc, side, slopes, Method::Elimination(factor), 0)
+            }
+            None => Solver::by_cycles(alloc, side, slopes, budget),
+        }
+    }
+
+    pub fn is_by_cycles(&self) -> bool {
+        match &self.method {
+            Method::Cycles(_) => true,
+            Method::Elimination(_) => false,
+        }
     }
 
     pub fn slopes(&self) -> &[i64] {
@@ -123,7 +117,7 @@ impl Solver {
     /// Sets the right side, numbers of the problem's unit times 2^places.
     pub fn set_right_side(&mut self, numbers: &[i128], places: i64) {
         let scale = self.scale;
-        for (right, number) in self.levels.right_side().iter_mut().zip(numbers) {
+        for (right, number) in self.method.right_side().iter_mut().zip(numbers) {
             *right = shifted(*number, places).wrapping_shr(scale);
         }
     }
@@ -131,7 +125,7 @@ impl Solver {
     fn set_right_side_to_slopes(&mut self) {
         let scale = self.scale;
         for (right, slope) in self
-            .levels
+            .method
             .right_side()
             .iter_mut()
             .zip(self.slopes.as_slice())
@@ -141,14 +135,14 @@ impl Solver {
     }
 
     /// Solves, and returns the unknowns times the right side's power of two.
-    pub fn solve(&mut self, rounds: u32, bits: u32, budget: &mut Budget) -> &[i64] {
-        self.levels.solve(rounds, bits, budget)
+    pub fn solve(&mut self, side: &OneSide, rounds: u32, bits: u32, budget: &mut Budget) -> &[i64] {
+        self.method.solve(side.pattern, rounds, bits, budget)
     }
 
     /// Whether the last solution leaves no more than 2^bits of each slope, or twice that.
     pub fn is_solved(&mut self, bits: u32) -> bool {
         let scale = self.scale;
-        self.levels
+        self.method
             .right_side()
             .iter()
             .zip(self.slopes.as_slice())
@@ -160,13 +154,14 @@ impl Solver {
     pub fn room(
         &mut self,
         alloc: Global,
+        side: &OneSide,
         rounds: u32,
         bits: u32,
         budget: &mut Budget,
     ) -> Result<Vec<i64>, AllocError> {
         self.set_right_side_to_slopes();
         let mut room = Vec::new(alloc);
-        for unknown in self.solve(rounds, bits, budget) {
+        for unknown in self.solve(side, rounds, bits, budget) {
             room.push((*unknown >> 10).max(0))?;
         }
         Ok(room)

@@ -1,9 +1,12 @@
 // What the guess of a step keeps for that of the next one.
+use crate::eliminable::Eliminable;
 use crate::half::Ended;
 use crate::linear::Linear;
+use crate::links::Links;
 use crate::one_side::turned;
 use multigrid::numbers::{at, cut};
 use std::alloc::{AllocError, Global};
+use std::mem::replace;
 use step_problem::{Barrier, Cell, FixedKind, Problem, Side};
 
 /// Where both sides ended in a step, and the balanced heads of the step before it, if those are known.
@@ -37,6 +40,7 @@ pub struct Kept {
     // That of the upper side, where sides are guessed beside each other.
     pub(crate) beside: Option<Linear>,
     pub(crate) last: Option<LastStep>,
+    pub(crate) eliminable: Eliminable,
 }
 
 // The old head of a cell with storage.
@@ -65,7 +69,17 @@ impl Kept {
             linear: None,
             beside: None,
             last: None,
+            eliminable: Eliminable::Unknown,
         }
+    }
+
+    // Takes out what is known of the elimination of these links, once that is known.
+    pub(crate) fn find_eliminable(
+        &mut self,
+        alloc: Global,
+        links: &Links,
+    ) -> Result<Eliminable, AllocError> {
+        replace(&mut self.eliminable, Eliminable::Unknown).known(alloc, links)
     }
 
     // Takes the last step out, if both sides settled there. None where this step has no storage, since steady heads may be far from
