@@ -1,6 +1,7 @@
 // The guess of one side.
 use crate::descend::descend;
 use crate::linear::Linear;
+use crate::lower::lowered;
 use crate::newton::{Until, find_balanced};
 use crate::one_side::OneSide;
 use crate::raise::raise_within;
@@ -70,14 +71,15 @@ fn half_by_search(
             order: Vec::new(alloc),
         });
     };
-    let mut state = settled.state;
-    let order = descend(alloc, side, &mut state, settled.is_low, &mut budget)?;
+    let share = settled.share;
+    let heads = balanced.heads.as_slice();
+    let (state, order) = lowered(alloc, side, heads, settled, &mut budget)?;
     Ok(HalfGuess {
         ended: Ended {
             heads: state.heads,
             balanced: balanced.heads,
             is_settled: true,
-            share: settled.share,
+            share,
         },
         order,
     })

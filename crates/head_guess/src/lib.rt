@@ -3,6 +3,7 @@
 
 mod beside;
 mod burn;
+mod changes;
 mod descend;
 mod eliminable;
 mod flows;
@@ -12,6 +13,7 @@ mod half;
 mod known;
 mod linear;
 mod links;
+mod lower;
 mod marks;
 mod method;
 mod newton;
@@ -21,6 +23,8 @@ mod raise;
 mod ramp;
 mod room;
 mod search;
+mod share_cycles;
+mod shares;
 mod slopes;
 mod solver;
 mod state;

@@ -5,6 +5,9 @@ use star_mesh::{Factor, Pattern};
 // Operations of elimination that take as long as a visit.
 const OPERATIONS: u64 = 8;
 
+// Entries of a factor of which a solution takes as long as a visit.
+const ENTRIES: u64 = 3;
+
 // Elimination always pays with at most this number of operations for each cell, as in a layer of 128 x 128.
 const FEW_OPERATIONS: u64 = 800;
 
@@ -18,6 +21,11 @@ pub enum Method {
 /// The visits that making a factor takes.
 pub fn visits_of_factor(pattern: &Pattern) -> u64 {
     pattern.operations() / OPERATIONS
+}
+
+/// The visits that a solution by a factor takes.
+pub fn visits_of_solution(pattern: &Pattern) -> u64 {
+    pattern.entries() as u64 / ENTRIES
 }
 
 /// How cycles went: the visits that they took for the solutions of a system, and whether they have left it, or one before it, unsolved.
@@ -74,7 +82,7 @@ impl Method {
         match (self, pattern) {
             (Method::Cycles(levels), _) => levels.solve(rounds, bits, budget),
             (Method::Elimination(factor), Some(pattern)) => {
-                budget.spend(pattern.entries() as u64 / OPERATIONS);
+                budget.spend(visits_of_solution(pattern));
                 factor.solve(pattern, bits)
             }
             (Method::Elimination(_), None) => &[],

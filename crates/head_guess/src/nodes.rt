@@ -15,6 +15,8 @@ struct Node {
     head: i64,
     cap: i64,
     least: i64,
+    // The number of times that it may still rise.
+    rises: u32,
 }
 
 const NO_NODE: Node = Node {
@@ -22,11 +24,19 @@ const NO_NODE: Node = Node {
     head: 0,
     cap: 0,
     least: i64::MAX,
+    rises: 0,
 };
 
 impl Node {
     fn can_rise(&self) -> bool {
         self.balance >= self.least as i128 && self.head < self.cap
+    }
+
+    // The node after a rise. It stays where it is if that was its last one.
+    fn once_risen(self) -> Node {
+        let rises = self.rises.saturating_sub(1);
+        let cap = if rises == 0 { self.head } else { self.cap };
+        Node { rises, cap, ..self }
     }
 }
 
@@ -51,6 +61,7 @@ impl Nodes {
         side: &OneSide,
         state: &State,
         caps: Option<&[i64]>,
+        rises: u32,
     ) -> Result<Nodes, AllocError> {
         let mut nodes = Vec::with_capacity(alloc, state.heads.len())?;
         for (cell, head) in state.heads.iter().enumerate() {
@@ -59,6 +70,7 @@ impl Nodes {
                 head: *head,
                 cap: caps.map_or(HEAD_LIMIT, |caps| at(caps, cell)),
                 least: side.links.row(cell).least,
+                rises,
             })?;
         }
         Ok(Nodes { nodes })
@@ -70,6 +82,15 @@ impl Nodes {
             put(state.heads.as_mut_slice(), cell, node.head);
             put(state.balances.as_mut_slice(), cell, node.balance);
         }
+    }
+
+    /// Whether each cell has risen as often as it may.
+    pub fn are_spent(&self, alloc: Global) -> Result<Vec<bool>, AllocError> {
+        let mut are_spent = Vec::with_capacity(alloc, self.nodes.len())?;
+        for node in &self.nodes {
+            are_spent.push(node.rises == 0)?;
+        }
+        Ok(are_spent)
     }
 
     /// Marks the cells that may rise.
@@ -168,7 +189,8 @@ impl Nodes {
                 .wrapping_sub(side.fall_beside_links(&row, node.head, units)),
             head: node.head.wrapping_add(units),
             ..node
-        };
+        }
+        .once_risen();
         put(self.nodes.as_mut_slice(), cell, risen);
         if risen.can_rise() {
             marks.set(cell);

@@ -84,7 +84,7 @@ pub fn raise_within(
     turns: u64,
     budget: &mut Budget,
 ) -> Result<Raised, AllocError> {
-    let mut nodes = Nodes::new(alloc, side, state, caps)?;
+    let mut nodes = Nodes::new(alloc, side, state, caps, u32::MAX)?;
     let mut marks = Marks::new(alloc, state.heads.len())?;
     nodes.mark(&mut marks);
     let mut part = budget.split(turns);
@@ -96,4 +96,20 @@ pub fn raise_within(
         settled,
         turns: given.saturating_sub(part.left()),
     })
+}
+
+/// Raises heads, each at most as often, until nothing moves. Returns which have risen as often.
+pub fn raise_counted(
+    alloc: Global,
+    side: &OneSide,
+    state: &mut State,
+    rises: u32,
+    budget: &mut Budget,
+) -> Result<Vec<bool>, AllocError> {
+    let mut nodes = Nodes::new(alloc, side, state, None, rises)?;
+    let mut marks = Marks::new(alloc, state.heads.len())?;
+    nodes.mark(&mut marks);
+    raise(side, &mut nodes, &mut marks, budget);
+    nodes.leave(state);
+    nodes.are_spent(alloc)
 }

@@ -20,6 +20,14 @@ impl State {
         Ok(State { heads, balances })
     }
 
+    /// The same once more.
+    pub fn copy(&self) -> Result<State, AllocError> {
+        Ok(State {
+            heads: self.heads.clone()?,
+            balances: self.balances.clone()?,
+        })
+    }
+
     // Whether a cell and the cells that it is linked with have the same heads here as there.
     fn is_same_around(&self, side: &OneSide, cell: usize, heads: &[i64]) -> bool {
         let own = self.heads.as_slice();

@@ -1,0 +1,116 @@
+// How the shares of all cells change.
+use multigrid::numbers::{at, put};
+use std::alloc::{AllocError, Global};
+
+/// The next change of each cell's share, in units of 2^-PLACES. A step grows while its share goes on in one direction, and is halved where it
+/// turns. It is at most the longest one, which falls from round to round.
+#[derive(Drop)]
+pub struct Changes {
+    steps: Vec<i64>,
+    changes: Vec<i64>,
+    longest: i64,
+}
+
+// The shortest step beside the longest, and the shortest of all in which shares only fall.
+const BITS_OF_STEPS: u32 = 8;
+
+const BITS_OF_FALLS: u32 = 4;
+
+const SHORTEST_FALL: i64 = 64;
+
+// A step grows by this number of percent of it, and one down alone.
+const GROWTH: i64 = 115;
+
+const GROWTH_OF_FALLS: i64 = 150;
+
+// What is left of the longest step after a round, in units of 2^-10.
+const LEFT: i64 = 955;
+
+fn longer(step: i64, percent: i64) -> i64 {
+    step.saturating_mul(percent) / 100
+}
+
+impl Changes {
+    pub const PLACES: i64 = 30;
+
+    /// The longest step of all.
+    pub const LONGEST: i64 = 1 << 26;
+
+    /// Each share becomes this one, in units of 2^-20.
+    pub fn new(alloc: Global, cells: usize, share: i64) -> Result<Changes, AllocError> {
+        Ok(Changes {
+            steps: vec![in alloc; 0; cells]?,
+            changes: vec![in alloc; share.saturating_mul(1 << 10); cells]?,
+            longest: 0,
+        })
+    }
+
+    /// The flows out of all cells that the changes make.
+    pub fn flows(&self, alloc: Global, slopes: &[i64]) -> Result<Vec<i128>, AllocError> {
+        let mut flows = Vec::with_capacity(alloc, slopes.len())?;
+        for (slope, change) in slopes.iter().zip(self.changes.as_slice()) {
+            flows.push((*slope as i128).wrapping_mul(*change as i128))?;
+        }
+        Ok(flows)
+    }
+
+    /// All steps are as long.
+    pub fn begin(&mut self, longest: i64) {
+        self.longest = longest;
+        self.steps.as_mut_slice().fill(longest);
+        self.changes.as_mut_slice().fill(0);
+    }
+
+    /// Takes the shares down where cells are too low, and up elsewhere.
+    pub fn turn(&mut self, are_low: &[bool]) {
+        let shortest = (self.longest >> BITS_OF_STEPS).max(1);
+        for (cell, is_low) in are_low.iter().enumerate() {
+            let last = at(self.changes.as_slice(), cell);
+            let step = at(self.steps.as_slice(), cell);
+            let turns = last != 0 && (last < 0) != *is_low;
+            let step = if turns {
+                step / 2
+            } else {
+                longer(step, GROWTH)
+            };
+            let step = step.max(shortest).min(self.longest);
+            put(self.steps.as_mut_slice(), cell, step);
+            let change = if *is_low {
+                0_i64.saturating_sub(step)
+            } else {
+                step
+            };
+            put(self.changes.as_mut_slice(), cell, change);
+        }
+        self.longest = (self.longest.saturating_mul(LEFT) >> 10).max(1);
+    }
+
+    /// All steps are short ones down.
+    pub fn begin_falls(&mut self) {
+        let step = (self.longest >> BITS_OF_FALLS).max(SHORTEST_FALL);
+        self.steps.as_mut_slice().fill(step);
+    }
+
+    /// Takes the shares down where cells are too low, each time further. Returns whether there are any.
+    pub fn fall(&mut self, are_low: &[bool]) -> bool {
+        let mut falls = false;
+        for (cell, is_low) in are_low.iter().enumerate() {
+            let step = if *is_low {
+                at(self.steps.as_slice(), cell)
+            } else {
+                0
+            };
+            put(
+                self.changes.as_mut_slice(),
+                cell,
+                0_i64.saturating_sub(step),
+            );
+            if *is_low {
+                falls = true;
+                let next = longer(step, GROWTH_OF_FALLS).saturating_add(1);
+                put(self.steps.as_mut_slice(), cell, next.min(Changes::LONGEST));
+            }
+        }
+        falls
+    }
+}

@@ -1,0 +1,36 @@
+// From the settled heads of a search down to the first settled ones.
+use crate::descend::descend;
+use crate::one_side::OneSide;
+use crate::search::Settled;
+use crate::share_cycles::{settled_by_shares, visits_of_cycle};
+use crate::state::State;
+use multigrid::Budget;
+use std::alloc::{AllocError, Global};
+
+// A descent is long if it takes more visits than this number of cycles of shares. Most of those that take fewer end soon.
+const CYCLES: u64 = 2;
+
+/// The first settled heads, and the order in which cells rose again. Where the descent from the settled heads of a search is long, it begins
+/// again from heads with a share for each cell.
+pub fn lowered(
+    alloc: Global,
+    side: &OneSide,
+    balanced: &[i64],
+    settled: Settled,
+    budget: &mut Budget,
+) -> Result<(State, Vec<u32>), AllocError> {
+    let cycle = side.pattern.map_or(u64::MAX, visits_of_cycle);
+    let mut short = budget.split(cycle.saturating_mul(CYCLES));
+    let mut state = settled.state;
+    let order = descend(alloc, side, &mut state, settled.is_low, &mut short)?;
+    let is_long = short.is_spent() && !budget.is_spent();
+    budget.join(short);
+    if !is_long {
+        return Ok((state, order));
+    }
+    if let Some(lower) = settled_by_shares(alloc, side, balanced, settled.share, budget)? {
+        state = lower;
+    }
+    let order = descend(alloc, side, &mut state, false, budget)?;
+    Ok((state, order))
+}
