@@ -7,8 +7,11 @@ use crate::state::State;
 use multigrid::Budget;
 use std::alloc::{AllocError, Global};
 
-/// The first settled heads, and the order in which cells rose again. Where a descent from the settled heads of a search takes longer than a
-/// cycle of shares, it begins again from heads with a share for each cell.
+// A descent is long if it takes more visits than this number of cycles of shares. Most of those that take fewer end soon.
+const CYCLES: u64 = 2;
+
+/// The first settled heads, and the order in which cells rose again. Where the descent from the settled heads of a search is long, it begins
+/// again from heads with a share for each cell.
 pub fn lowered(
     alloc: Global,
     side: &OneSide,
@@ -17,7 +20,7 @@ pub fn lowered(
     budget: &mut Budget,
 ) -> Result<(State, Vec<u32>), AllocError> {
     let cycle = side.pattern.map_or(u64::MAX, visits_of_cycle);
-    let mut short = budget.split(cycle);
+    let mut short = budget.split(cycle.saturating_mul(CYCLES));
     let mut state = settled.state;
     let order = descend(alloc, side, &mut state, settled.is_low, &mut short)?;
     let is_long = short.is_spent() && !budget.is_spent();
