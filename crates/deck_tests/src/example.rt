@@ -162,11 +162,13 @@ fn period_of(lists: Lists, arrays: Arrays) -> Period
             rivers: lists.rivers,
             drains: lists.drains,
             generals: lists.generals,
+            given: Shared::empty(),
             recharge: arrays.recharge,
+            irch: Shared::empty(),
             surf: arrays.surf,
             evtr: arrays.evtr,
             exdp: arrays.exdp,
-            ..Stresses::none()
+            ievt: Shared::empty(),
         },
     }
 }
