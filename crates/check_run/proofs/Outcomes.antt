@@ -1,5 +1,5 @@
 -- What the check of a posed step says, by what its calls gave.
-use Rattle.std.proofs.Common.{◌≡◌, ℕ, ◌∙◌, List, Ok, Err, map, subst, sym, refl}
+use Rattle.std.proofs.Common.{◌≡◌, ℕ, ◌∙◌, List, Contains, Ok, Err, map, subst, sym, refl}
 use Rattle.step_problem.specs.declared.heads.Bound.{Bound}
 use Rattle.step_problem.specs.declared.heads.Side.{Side}
 use Rattle.step_problem.specs.declared.place.Place.TheVariants as places
@@ -13,6 +13,9 @@ use Rattle.cell_balance.specs.SolutionBounds.{EnclosesSolutions}
 use Rattle.certificate_check.specs.Certificates.{IsFirstFailing}
 use Rattle.model_types.specs.declared.model.FlowModel.{FlowModel}
 use Rattle.model_types.specs.declared.time_steps.TimeStep.{TimeStep}
+use Rattle.model_types.specs.Times.{times}
+use Rattle.model_types.specs.Valid.{IsModel}
+use Rattle.problem_builder.specs.Laws.{ConstantPairEncloses}
 use Rattle.step_chain.specs.GridHeads.{bound_at}
 use Rattle.listing_run.specs.Bounding.{BoundsMoves}
 use Rattle.check_run.specs.declared.fault.CheckFault.{CheckFault}
@@ -59,8 +62,8 @@ module _ (m : FlowModel) (s : ℕ) (at : TimeStep) (old : List Bound) (x : Posed
           let B : List Bound → Type 0 = λ v. budget_of x.problem (lower_at v) (upper_at v) ≡ Ok h.budget in
           record { problem = x.problem; barrier = x.barrier; heads = hold; budget = h.budget; is = subst B same h.is; covers = h.covers }
 
-    pub step_moves : CoverEncloses → HeadsAreWithin → EnclosesSolutions x.problem (lower_at lent) (upper_at lent) → IsCovered x.problem lent listed → BoundsMoves (checked_task m s) at old (step_of at (record { heads = heads; budget = listed }))
-    step_moves cover within solutions h =
+    pub step_moves : IsModel m → Contains (times m) at → ConstantPairEncloses → CoverEncloses → HeadsAreWithin → EnclosesSolutions x.problem (lower_at lent) (upper_at lent) → IsCovered x.problem lent listed → BoundsMoves (checked_task m s) at old (step_of at (record { heads = heads; budget = listed }))
+    step_moves model time pair_encloses cover within solutions h =
         let S : List Bound → Type 0 = λ v. EnclosesSolutions x.problem (lower_at v) (upper_at v) in
         let E : List Bound → Type 0 = λ v. EnclosesBudgets x.problem (lower_at v) (upper_at v) h.budget in
-        listed_moves m s at old x.problem x.sites heads posed.sites posed.pairs posed.encloses reach (subst S same solutions) cover within listed h.budget h.covers (subst E same h.encloses)
+        listed_moves m s at old x.problem x.constant_heads heads model time posed.constant pair_encloses posed.encloses reach (subst S same solutions) cover within listed h.budget h.covers (subst E same h.encloses)

@@ -1,8 +1,7 @@
 -- A listed step that passes bounds every solution.
-use Rattle.std.proofs.Common.{◌≡◌, ℕ, ◌<◌, ◌^◌, inl, inr, true, List, length, subst, arith, ℤ, pos, ◌*ℤ◌, ◌≤ℤ◌}
+use Rattle.std.proofs.Common.{◌≡◌, ℕ, ◌<◌, ◌^◌, inl, inr, true, List, length, Contains, subst, arith, ℤ, pos, ◌*ℤ◌, ◌≤ℤ◌}
 use Rattle.std.proofs.lemmas.Bool.{cases_Bool}
 use Rattle.std.proofs.lemmas.Int.{ints}
-use Rattle.decimal_input.specs.Enclosures.{EnclosesSigned}
 use Rattle.decimal_input.specs.Fractions.{Fraction}
 use Rattle.decimal_input.proofs.Enclosing.{whole_signed}
 use Rattle.step_problem.specs.declared.heads.Bound.{Bound}
@@ -23,13 +22,14 @@ use Rattle.model_types.specs.declared.time_steps.TimeStep.{TimeStep}
 use Rattle.model_types.specs.Cells.{cell_count}
 use Rattle.model_types.specs.Heads.{constant_head}
 use Rattle.model_types.specs.Kinds.{is_variable, is_constant, index_of}
-use Rattle.problem_builder.specs.declared.site.Site.{Site}
-use Rattle.problem_builder.specs.declared.site.Site.TheVariants.{Given}
+use Rattle.model_types.specs.Times.{times}
+use Rattle.model_types.specs.Valid.{IsModel}
+use Rattle.problem_builder.specs.ConstantHeads.{AreConstantHeads}
 use Rattle.problem_builder.specs.GridHeads.{IsActive, HeadsEnclose}
-use Rattle.problem_builder.specs.Sites.{site_at, IsSite, AreSites}
+use Rattle.problem_builder.specs.Laws.{ConstantPairEncloses}
 use Rattle.step_chain.specs.Enclosing.{IsMove, LiesWithin}
 use Rattle.step_chain.specs.GridHeads.{bound_at}
-use Rattle.step_chain.proofs.Assembled.{active_constant, constant_site, index_below, count_is, number_is}
+use Rattle.step_chain.proofs.Assembled.{active_constant, index_below, count_is, number_is}
 use Rattle.listing_run.specs.Bounding.{BoundsMoves}
 use Rattle.check_run.specs.Reaching.{ConstantsReach, IsConstantCell, variable_bounds}
 use Rattle.check_run.specs.Verdicts.{checked_task, step_of}
@@ -48,9 +48,8 @@ wider narrow wide d x low high h =
     let u = mul_mono_right d narrow.high wide.high high in
     record { low = omega (arith, ints, l, h.low); high = omega (arith, ints, u, h.high) }
 
-module _ (m : FlowModel) (s : ℕ) (at : TimeStep) (old : List Bound) (p : List Entries) (sites : List Site) (heads : List Bound)
-    (are : AreSites m at sites)
-    (pairs : (c : ℕ) (pair : Bound) → site_at sites c ≡ Given pair → EnclosesSigned pair.low pair.high 9 (constant_head m at.period at.step c))
+module _ (m : FlowModel) (s : ℕ) (at : TimeStep) (old : List Bound) (p : List Entries) (constant_heads heads : List Bound)
+    (model : IsModel m) (time : Contains (times m) at) (are : AreConstantHeads m at constant_heads) (pair_encloses : ConstantPairEncloses)
     (encloses : (before : ℕ → Fraction) → HeadsEnclose m old before → EnclosesStep s p (exact_step m at.period at.step before))
     (constants : ConstantsReach m at heads)
     (solutions : EnclosesSolutions p (lower_at (variable_bounds m at heads)) (upper_at (variable_bounds m at heads))) where
@@ -71,10 +70,9 @@ module _ (m : FlowModel) (s : ℕ) (at : TimeStep) (old : List Bound) (p : List 
 
     constant_holds : (c : ℕ) → c < cell_count m.grid → is_constant m at.period c ≡ true → Holds (bound_at heads c) d (X c)
     constant_holds c lt e =
-        let (pair, is) = constant_site m at sites are c lt e in
-        let b = whole_signed pair.low pair.high 9 d (constant_head m at.period at.step c) (X c) (pairs c pair is) (move.solves.constant c lt e) in
-        let H : Site → Type 0 = IsSite m at c in
-        let held = (subst H is (are.each c lt)).1 in
+        let pair = bound_at constant_heads c in
+        let held = (are.each c lt).constant e in
+        let b = whole_signed pair.low pair.high 9 d (constant_head m at.period at.step c) (X c) (pair_encloses m at c pair.low pair.high model time lt e held) (move.solves.constant c lt e) in
         let cell : IsConstantCell m at c = record { within = lt; constant = e } in
         wider pair (bound_at heads c) d (X c) (constants c cell Low pair held) (constants c cell High pair held) (record { low = b.lower; high = b.upper })
 

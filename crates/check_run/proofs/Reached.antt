@@ -1,66 +1,59 @@
--- The constant cells of a time, by the sites of its cells.
-use Rattle.std.proofs.Common.{◌≡◌, ℕ, ◌<◌, Bool, true, false, cond, List, length, Contains, refl, ap, ◌∙◌, subst, arith, ℤ}
+-- The constant cells of a time whose listed bounds are as wide as their pairs.
+use Rattle.std.proofs.Common.{◌≡◌, ℕ, ◌+◌, ◌<◌, ◌≤◌, inl, inr, true, cond, List, Contains, sym, ap, ◌∙◌, subst, arith}
+use Rattle.std.proofs.lemmas.Bool.{cases_order}
 use Rattle.step_problem.specs.declared.heads.Bound.{Bound}
 use Rattle.step_problem.specs.declared.heads.Side.{Side}
-use Rattle.step_problem.specs.declared.heads.Side.TheVariants.{Low}
-use Rattle.model_types.specs.declared.kind.Kind.TheVariants as kind
+use Rattle.step_problem.specs.declared.heads.Side.TheVariants.{Low, High}
+use Rattle.model_types.specs.declared.kind.Kind.TheVariants.{NoFlow, Constant, Variable}
 use Rattle.model_types.specs.declared.model.FlowModel.{FlowModel}
 use Rattle.model_types.specs.declared.time_steps.TimeStep.{TimeStep}
 use Rattle.model_types.specs.Cells.{cell_count}
-use Rattle.model_types.specs.Kinds.{is_variable, is_constant}
+use Rattle.model_types.specs.Kinds.{is_constant, kind_of}
 use Rattle.model_types.specs.Times.{times}
 use Rattle.model_types.specs.Valid.{IsModel}
-use Rattle.problem_builder.specs.declared.site.Site.{Site}
-use Rattle.problem_builder.specs.declared.site.Site.TheVariants.{NoFlow, Given, Variable}
+use Rattle.problem_builder.specs.ConstantHeads.{AreConstantHeads}
 use Rattle.problem_builder.specs.Laws.{ConstantPairIsOne}
-use Rattle.problem_builder.specs.Sites.{site_at, IsSite, AreSites}
+use Rattle.problem_builder.proofs.KindsOf.{constant_kind}
 use Rattle.step_chain.specs.GridHeads.{bound_at}
-use Rattle.step_chain.proofs.Assembled.{constant_site}
-use Rattle.check_run.specs.Parts.{IsFirstUnreached, SiteReached}
-use Rattle.check_run.specs.Reaching.{ConstantsReach, IsConstantCell, IsFirstShort, ReachesAt, ReachesOn}
+use Rattle.step_chain.proofs.Assembled.{constant_not_variable}
 use Rattle.step_chain.proofs.OneStep.{same_bound}
+use Rattle.check_run.specs.Reaching.{ConstantsReach, IsConstantCell, IsFirstShort, ReachesAt, ReachesOn}
 
--- a site that isn't reached is that of a constant head
-is_given : (site : Site) (listed : Bound) (side : Side) → (SiteReached site listed side → ⊥) → (pair : Bound) × (site ≡ Given pair)
-is_given NoFlow listed side short = absurd (short (λ pair e. absurd (let bad : NoFlow ≡ Given pair = e in cc)))
-is_given (Given pair) listed side short = (pair, refl)
-is_given Variable listed side short = absurd (short (λ pair e. absurd (let bad : Variable ≡ Given pair = e in cc)))
+kind_constant : (m : FlowModel) (p c : ℕ) → is_constant m p c ≡ true → kind_of m p c ≡ Constant
+kind_constant m p c e = ap (λ v. cond v Variable (cond (is_constant m p c) Constant NoFlow)) (constant_not_variable m p c e) ∙ ap (λ k. cond k Constant NoFlow) e
 
-constant_by : (variable constant : Bool) → cond variable kind.Variable (cond constant kind.Constant kind.NoFlow) ≡ kind.Constant → constant ≡ true
-constant_by true constant e = absurd (let bad : kind.Variable ≡ kind.Constant = e in cc)
-constant_by false true e = refl
-constant_by false false e = absurd (let bad : kind.NoFlow ≡ kind.Constant = e in cc)
+module _ (m : FlowModel) (at : TimeStep) (constant_heads heads : List Bound) (are : AreConstantHeads m at constant_heads)
+    (one : ConstantPairIsOne) (model : IsModel m) (time : Contains (times m) at) where
+  reaches : (c : ℕ) (side : Side) → IsConstantCell m at c → ReachesOn side (bound_at heads c) (bound_at constant_heads c) → ReachesAt m at heads c side
+  reaches c side cell h = λ pair is.
+      let held = (are.each c cell.within).constant cell.constant in
+      let same = one m at c _ _ pair.low pair.high model time cell.within cell.constant held is in
+      let P : Bound → Type 0 = ReachesOn side (bound_at heads c) in
+      subst P (same_bound (bound_at constant_heads c) pair same) h
 
-module _ (m : FlowModel) (at : TimeStep) (sites : List Site) (heads : List Bound) (are : AreSites m at sites) where
-  pair_of : (c : ℕ) (pair : Bound) → c < cell_count m.grid → site_at sites c ≡ Given pair → IsSite m at c (Given pair)
-  pair_of c pair lt e = let P : Site → Type 0 = IsSite m at c in subst P e (are.each c lt)
+  -- the constant cells below n are as wide as their pairs
+  abbrev pub AreReached : ℕ → Type 0
+  AreReached n = (c : ℕ) → c < n → IsConstantCell m at c → (side : Side) → ReachesAt m at heads c side
 
-  constant_cell : (c : ℕ) (side : Side) → c < length sites → (SiteReached (site_at sites c) (bound_at heads c) side → ⊥) → IsConstantCell m at c
-  constant_cell c side lt short =
-      let (pair, e) = is_given (site_at sites c) (bound_at heads c) side short in
-      let within : c < cell_count m.grid = omega (arith, lt, are.count) in
-      record { within = within; constant = constant_by (is_variable m at.period c) (is_constant m at.period c) (pair_of c pair within e).0 }
+  pub reached_next : (n : ℕ) → (kind_of m at.period n ≡ Constant → (side : Side) → ReachesOn side (bound_at heads n) (bound_at constant_heads n)) → AreReached n → AreReached (n + 1)
+  reached_next n here before c lt cell side = elim (cases_order c n) [
+    | inl same ↦ (let P : ℕ → Type 0 = λ k. ReachesAt m at heads k side in
+        let this : IsConstantCell m at n = subst (IsConstantCell m at) same cell in
+        subst P (sym same) (reaches n side this (here (kind_constant m at.period n this.constant) side)))
+    | inr (inl less) ↦ before c less cell side
+    | inr (inr more) ↦ absurd (omega (arith, lt, more))
+  ]
 
-  site_reached : (c : ℕ) (side : Side) → c < cell_count m.grid → ReachesAt m at heads c side → SiteReached (site_at sites c) (bound_at heads c) side
-  site_reached c side lt h = λ pair e. h pair (pair_of c pair lt e).1
+  pub all_reached : (n : ℕ) → cell_count m.grid ≤ n → AreReached n → ConstantsReach m at heads
+  all_reached n past before c cell side = before c (omega (arith, cell.within, past)) cell side
 
-  module _ (one : ConstantPairIsOne) (model : IsModel m) (time : Contains (times m) at) where
-    reaches : (c : ℕ) (side : Side) → IsConstantCell m at c → SiteReached (site_at sites c) (bound_at heads c) side → ReachesAt m at heads c side
-    reaches c side cell h = λ pair is.
-        let (given, e) = constant_site m at sites are c cell.within cell.constant in
-        let same = one m at c given.low given.high pair.low pair.high model time cell.within cell.constant (pair_of c given cell.within e).1 is in
-        let P : Bound → Type 0 = ReachesOn side (bound_at heads c) in
-        subst P (same_bound given pair same) (h given e)
-
-    pub constants_reach : ((c : ℕ) → c < length sites → (side : Side) → SiteReached (site_at sites c) (bound_at heads c) side) → ConstantsReach m at heads
-    constants_reach h = λ c cell side. reaches c side cell (h c (omega (arith, cell.within, are.count)) side)
-
-    pub first_short : (c : ℕ) (side : Side) → IsFirstUnreached sites heads c side → IsFirstShort m at heads c side
-    first_short c side f =
-        let cell = constant_cell c side f.within f.short in
-        record {
-          cell = cell;
-          short = λ h. f.short (site_reached c side cell.within h);
-          least = λ d lt other_cell other. reaches d other other_cell (f.least d lt other);
-          low_first = λ e. reaches c Low cell (f.low_first e);
-        }
+  pub first_short : (n : ℕ) (side : Side) → n < cell_count m.grid → kind_of m at.period n ≡ Constant → (ReachesOn side (bound_at heads n) (bound_at constant_heads n) → ⊥) →
+      (side ≡ High → ReachesOn Low (bound_at heads n) (bound_at constant_heads n)) → AreReached n → IsFirstShort m at heads n side
+  first_short n side lt kind short low before =
+      let cell : IsConstantCell m at n = record { within = lt; constant = constant_kind m at.period n kind } in
+      record {
+        cell = cell;
+        short = λ h. short (h (bound_at constant_heads n) ((are.each n lt).constant cell.constant));
+        least = before;
+        low_first = λ e. reaches n Low cell (low e);
+      }

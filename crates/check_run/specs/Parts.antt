@@ -1,10 +1,7 @@
 -- Facts that the calls of a check pass to each other.
-use Rattle.std.specs.Prelude.{◌≡◌, ℕ, zero, suc, ◌<◌, List, map, length, Ok, Err}
-use Rattle.decimal_input.specs.Enclosures.{EnclosesSigned}
+use Rattle.std.specs.Prelude.{◌≡◌, ℕ, zero, suc, List, map, Ok, Err}
 use Rattle.decimal_input.specs.Fractions.{Fraction}
 use Rattle.step_problem.specs.declared.heads.Bound.{Bound}
-use Rattle.step_problem.specs.declared.heads.Side.{Side}
-use Rattle.step_problem.specs.declared.heads.Side.TheVariants.{Low, High}
 use Rattle.step_problem.specs.declared.place.Dir.{Dir}
 use Rattle.step_problem.specs.declared.place.Place.TheVariants as places
 use Rattle.step_problem.specs.declared.place.Term.{Term}
@@ -22,15 +19,11 @@ use Rattle.cell_balance.specs.SolutionBounds.{EnclosesSolutions}
 use Rattle.flow_equations.specs.ExactStep.{exact_step}
 use Rattle.model_types.specs.declared.model.FlowModel.{FlowModel}
 use Rattle.model_types.specs.declared.time_steps.TimeStep.{TimeStep}
-use Rattle.model_types.specs.Heads.{constant_head}
 use Rattle.model_types.specs.Kinds.{variable_cells}
 use Rattle.problem_builder.specs.declared.fault.BuildFault.{BuildFault}
 use Rattle.problem_builder.specs.declared.fault.BuildFault.TheVariants as build
-use Rattle.problem_builder.specs.declared.site.Site.{Site}
-use Rattle.problem_builder.specs.declared.site.Site.TheVariants.{Given}
+use Rattle.problem_builder.specs.ConstantHeads.{AreConstantHeads}
 use Rattle.problem_builder.specs.GridHeads.{HeadsEnclose}
-use Rattle.problem_builder.specs.Sites.{site_at, AreSites}
-use Rattle.step_chain.specs.GridHeads.{bound_at}
 use Rattle.step_chain.specs.Steps.{IsPosed, HasNoHeads}
 use Rattle.listing_io.specs.declared.listing.ListedStep.{ListedStep}
 use Rattle.listing_io.specs.Listed.{step_in}
@@ -39,7 +32,6 @@ use Rattle.check_run.specs.declared.fault.CheckFault.TheVariants as fault
 use Rattle.check_run.specs.declared.posed.Posed.{Posed}
 use Rattle.check_run.specs.declared.verdict.ListingVerdict.{ListingVerdict}
 use Rattle.check_run.specs.declared.verdict.ListingVerdict.TheVariants as verdict
-use Rattle.check_run.specs.Reaching.{ReachesOn}
 use Rattle.check_run.specs.Steps.{FailsAt, IsRefused}
 
 -- a fault of a step by that of its builder, or its barrier
@@ -63,26 +55,14 @@ IsUnposed m s at old (fault.Fails place) = ⊥
 IsUnposed m s at old (fault.Refused n) = HasNoHeads m s at old n
 IsUnposed m s at old fault.Memory = Unit {0}
 
--- The sites, the problem and the barrier of a step, and how they enclose solutions.
+-- The constant heads, the problem and the barrier of a step, and how they enclose solutions.
 pub record ArePosed (m : FlowModel) (s : ℕ) (at : TimeStep) (old : List Bound) (x : Posed) : Type 0 where
   pub posed : IsPosed m s at old x.problem x.barrier
   pub held : IsHeldBelow x.problem
   pub solutions : EnclosesSolutions x.problem (head_at x.barrier.floor) (head_at x.barrier.ceiling)
   pub cells : map (λ e. e.id) x.problem ≡ variable_cells m at.period
   pub encloses : (before : ℕ → Fraction) → HeadsEnclose m old before → EnclosesStep s x.problem (exact_step m at.period at.step before)
-  pub sites : AreSites m at x.sites
-  pub pairs : (c : ℕ) (pair : Bound) → site_at x.sites c ≡ Given pair → EnclosesSigned pair.low pair.high 9 (constant_head m at.period at.step c)
-
--- On that side the listed bound is as wide as the pair of the site, if its head is constant.
-abbrev pub SiteReached : Site → Bound → Side → Type 0
-SiteReached site listed side = (pair : Bound) → site ≡ Given pair → ReachesOn side listed pair
-
--- the first cell and side where it isn't
-pub record IsFirstUnreached (sites : List Site) (heads : List Bound) (c : ℕ) (side : Side) : Type 0 where
-  pub within : c < length sites
-  pub short : SiteReached (site_at sites c) (bound_at heads c) side → ⊥
-  pub least : (d : ℕ) → d < c → (other : Side) → SiteReached (site_at sites d) (bound_at heads d) other
-  pub low_first : side ≡ High → SiteReached (site_at sites c) (bound_at heads c) Low
+  pub constant : AreConstantHeads m at x.constant_heads
 
 -- the heads before a step of a listing, by its index
 abbrev pub heads_before : List Bound → List ListedStep → ℕ → List Bound

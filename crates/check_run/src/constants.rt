@@ -1,13 +1,18 @@
 // Whether the listed heads of constant cells are as wide as their pairs.
-ghost use Rattle.std.specs.Prelude.{◌≡◌, ◌<◌, ◌≤◌, ℕ, length, MatchOption};
+ghost use Rattle.std.specs.Prelude.{◌≡◌, ◌<◌, ℕ, length, Contains, MatchOption};
 ghost use Rattle.step_problem.specs.declared.heads.Side.{Side};
 ghost use Rattle.step_problem.specs.declared.heads.Side.TheVariants.{Low};
-ghost use Rattle.problem_builder.specs.Sites.{site_at};
-ghost use Rattle.step_chain.specs.GridHeads.{bound_at};
-ghost use Rattle.check_run.specs.Parts.{IsFirstUnreached, SiteReached};
-ghost use Rattle.check_run.specs.Reaching.{ReachesOn};
+ghost use Rattle.model_types.specs.declared.kind.Kind.TheVariants.{Constant};
+ghost use Rattle.model_types.specs.Cells.{cell_count};
+ghost use Rattle.model_types.specs.Times.{times};
+ghost use Rattle.model_types.specs.Valid.{IsModel};
+ghost use Rattle.problem_builder.specs.ConstantHeads.{AreConstantHeads};
+ghost use Rattle.problem_builder.specs.Tables.{ArePeriodTables};
+ghost use Rattle.check_run.specs.Reaching.{ConstantsReach, IsFirstShort, ReachesOn};
 
-use problem_builder::Site;
+use model_types::{FlowModel, Kind, TimeStep};
+use problem_builder::PeriodTables;
+use problem_builder::laws::constant_pairs;
 use step_problem::{Bound, Side};
 
 // The side on which a listed bound is narrower than a pair, the lower one first.
@@ -25,30 +30,49 @@ fn short_side(listed: Bound, pair: Bound) -> Option<Side>
     }
 }
 
-// The side on which a listed bound is narrower than the pair of a site, the lower one first.
-fn unreached_side(site: Site, listed: Bound) -> Option<Side>
+// The side on which the listed bound of a cell of this kind is narrower than the pair of its constant head, the lower
+// one first.
+fn unreached_side(kind: Kind, listed: Bound, pair: Bound) -> Option<Side>
     ensures { MatchOption result
-        ((side : Side) → SiteReached site listed side)
-        (λ side. (SiteReached site listed side → ⊥) × (side ≡ Side.High → SiteReached site listed Low)) }
+        (kind ≡ Constant → (side : Side) → ReachesOn side listed pair)
+        (λ side. (kind ≡ Constant) × (ReachesOn side listed pair → ⊥) × (side ≡ Side.High → ReachesOn Low listed pair)) }
 {
-    match site {
-        Site::Given(pair) => short_side(listed, pair),
-        Site::NoFlow => None,
-        Site::Variable => None,
+    match kind {
+        Kind::Constant => short_side(listed, pair),
+        Kind::NoFlow => None,
+        Kind::Variable => None,
     }
 }
 
-/// The first cell with a constant head whose listed bound is narrower than its pair, by its number, and its side.
-pub(crate) fn first_unreached(sites: &[Site], heads: &[Bound]) -> Option<(u32, Side)>
-    requires whole { length heads.now ≡ length sites.now }
-    requires few { length sites.now ≤ 65536 }
+/// The first cell with a constant head whose listed bound is narrower than its pair, by its number, and its side;
+/// `constant_heads` are the constant heads of the time, and `heads` the listed heads of all cells.
+pub(crate) fn first_unreached(
+    model: &FlowModel,
+    period: &PeriodTables,
+    at: TimeStep,
+    constant_heads: &[Bound],
+    heads: &[Bound],
+) -> Option<(u32, Side)>
+    requires model { IsModel model.now }
+    requires time { Contains (times model.now) at }
+    requires period { (s : ℕ) × ArePeriodTables model.now s at.period period.now }
+    requires constant { AreConstantHeads model.now at constant_heads.now }
+    requires whole { length heads.now ≡ cell_count model.now.grid }
     ensures { MatchOption result
-        ((c : ℕ) → c < length sites.now → (side : Side) → SiteReached (site_at sites.now c) (bound_at heads.now c) side)
-        (λ f. IsFirstUnreached sites.now heads.now f.0 f.1) }
+        (ConstantsReach model.now at heads.now)
+        (λ f. IsFirstShort model.now at heads.now f.0 f.1) }
 {
-    for c in 0..sites.len() {
-        if let Some(side) = unreached_side(sites[c], heads[c]) {
-            return Some((c as u32, side));
+    let _at = at;
+    constant_pairs();
+    let count = model.grid.cell_count();
+    for cell in 0..count {
+        let place = cell as usize;
+        if let Some(side) = unreached_side(
+            period.kind_at(cell),
+            heads[place],
+            constant_heads[place],
+        ) {
+            return Some((cell, side));
         }
     }
     None

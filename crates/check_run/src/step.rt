@@ -52,7 +52,8 @@ pub(crate) fn check_listed(
     heads_within();
     cover_encloses();
     let posed = pose(alloc, model, tables, at, old)?;
-    if let Some((cell, side)) = first_unreached(posed.sites.as_slice(), heads) {
+    let constant_heads = posed.constant_heads.as_slice();
+    if let Some((cell, side)) = first_unreached(model, &tables.period, at, constant_heads, heads) {
         return Err(CheckFault::Fails(Place::Cell(cell, side)));
     }
     let bounds = bounds_of(alloc, &posed.problem, heads)?;

@@ -6,9 +6,9 @@ ghost use Rattle.problem_builder.specs.GridHeads.{AreGridHeads};
 
 use crate::models::read_model;
 use crate::problem::print_cell;
-use model_types::{FlowModel, Listed, TimeStep, times};
+use model_types::{FlowModel, Kind, Listed, TimeStep, times};
 use outside::MemFolder;
-use problem_builder::{BuildFault, PeriodTables, Site, Tables, build, sites_with, start_heads};
+use problem_builder::{BuildFault, PeriodTables, StepTables, Tables, build, start_heads};
 use settle_driver::PlainSettler;
 use std::alloc::Global;
 use std::io;
@@ -26,14 +26,15 @@ fn print_bounds(rt: &impl Print, word: &str, bounds: &[Bound]) -> io::Result<()>
     println!(rt; "")
 }
 
-fn print_sites(rt: &impl Print, sites: &[Site]) -> io::Result<()> {
+// What each cell is at a time, with its constant head.
+fn print_sites(rt: &impl Print, kinds: &[Kind], constant_heads: &[Bound]) -> io::Result<()> {
     print!(rt; "sites")?;
-    for site in sites {
-        match site {
-            Site::NoFlow => print!(rt; " no-flow")?,
-            Site::Variable => print!(rt; " variable")?,
-            Site::Given(pair) => {
-                let (low, high) = (pair.low, pair.high);
+    for (kind, head) in kinds.iter().zip(constant_heads.iter()) {
+        match kind {
+            Kind::NoFlow => print!(rt; " no-flow")?,
+            Kind::Variable => print!(rt; " variable")?,
+            Kind::Constant => {
+                let (low, high) = (head.low, head.high);
                 print!(rt; " {low},{high}")?;
             }
         }
@@ -92,7 +93,12 @@ fn print_step(
     println!(rt; "step {period} {number}")?;
     let tables = Tables::new(alloc, model, s)?;
     let period_tables = PeriodTables::at(alloc, model, &tables, period)?;
-    print_sites(rt, sites_with(alloc, model, &period_tables, at)?.as_slice())?;
+    let step_tables = StepTables::new(alloc, model, &period_tables, at)?;
+    print_sites(
+        rt,
+        period_tables.kinds.as_slice(),
+        step_tables.heads.as_slice(),
+    )?;
     print_built(rt, &build(alloc, model, at, old, s))?;
     match next_step(alloc, model, at, old, s, &mut PlainSettler::new(ROUNDS)) {
         Ok(solved) => {

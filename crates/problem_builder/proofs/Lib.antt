@@ -25,7 +25,7 @@ pub mod BoundsOf
 pub mod Named
 pub mod Filling
 pub mod Starts
-pub mod OneSite
+pub mod OneHeads
 pub mod NamedHeads
 pub mod Indexing
 pub mod CellTables
@@ -40,5 +40,4 @@ pub mod PeriodMade
 pub mod StorageParts
 pub mod EvenSteps
 pub mod KindsOf
-pub mod SitesMade
 pub mod ExampleMet

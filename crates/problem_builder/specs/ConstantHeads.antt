@@ -1,12 +1,16 @@
 -- The head of a constant-head cell at a time, as a whole pair in units of 10^-9.
-use Rattle.std.specs.Prelude.{ℕ, ◌-◌, ℤ, Option, Some, None, take}
+use Rattle.std.specs.Prelude.{◌≡◌, ℕ, ◌-◌, ℤ, true, false, List, Option, Some, None, take}
+use Rattle.step_problem.specs.declared.heads.Bound.{Bound}
+use Rattle.step_problem.specs.Heads.{no_bound}
 use Rattle.model_types.specs.declared.model.FlowModel.{FlowModel}
 use Rattle.model_types.specs.declared.entry.Given.{Given}
 use Rattle.model_types.specs.declared.time_steps.TimeStep.{TimeStep}
+use Rattle.model_types.specs.Cells.{cell_count}
 use Rattle.model_types.specs.Layers.{dec_at}
 use Rattle.model_types.specs.Times.{period_at}
-use Rattle.model_types.specs.Kinds.{given_in, last_given}
+use Rattle.model_types.specs.Kinds.{is_constant, given_in, last_given}
 use Rattle.conductance_bounds.specs.Parts.{IsPart, IsGivenPair}
+use Rattle.problem_builder.specs.Filled.{Filled}
 use Rattle.problem_builder.specs.InputBounds.{IsHeadPair}
 
 -- the head that a constant cell keeps: the Ehead of the last list that named it, or STRT
@@ -21,3 +25,12 @@ IsGivenOrKept m at c (Some x) lo hi = (f : ℕ) × (g : ℕ) × IsPart (period_a
 
 unfoldable pub IsConstantPair : FlowModel → TimeStep → ℕ → ℤ → ℤ → Type 0
 IsConstantPair m at c lo hi = IsGivenOrKept m at c (given_in (period_at m at.period).stresses.given c) lo hi
+
+-- the pair of cell c's head if that is constant, zeros in any other cell
+pub record HasConstantHead (m : FlowModel) (at : TimeStep) (c : ℕ) (x : Bound) : Type 0 where
+  pub constant : is_constant m at.period c ≡ true → IsConstantPair m at c x.low x.high
+  pub other : is_constant m at.period c ≡ false → x ≡ no_bound
+
+-- for each cell of the grid
+abbrev pub AreConstantHeads : FlowModel → TimeStep → List Bound → Type 0
+AreConstantHeads m at heads = Filled (HasConstantHead m at) no_bound (cell_count m.grid) heads

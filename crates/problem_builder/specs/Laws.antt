@@ -1,5 +1,6 @@
 -- Problems and refusals are unique, and problems meet their conditions: for valid models and their times.
 use Rattle.std.specs.Prelude.{◌≡◌, ℕ, ◌<◌, true, ℤ, List, Contains}
+use Rattle.decimal_input.specs.Enclosures.{EnclosesSigned}
 use Rattle.step_problem.specs.declared.heads.Bound.{Bound}
 use Rattle.step_problem.specs.declared.place.NoBound.{NoBound}
 use Rattle.step_problem.specs.Entries.{Entries}
@@ -7,14 +8,13 @@ use Rattle.step_problem.specs.Conditions.{IsProblem, IsHead}
 use Rattle.model_types.specs.declared.model.FlowModel.{FlowModel}
 use Rattle.model_types.specs.declared.time_steps.TimeStep.{TimeStep}
 use Rattle.model_types.specs.Cells.{cell_count}
+use Rattle.model_types.specs.Heads.{constant_head}
 use Rattle.model_types.specs.Kinds.{is_constant}
 use Rattle.model_types.specs.Times.{times}
 use Rattle.model_types.specs.Valid.{IsModel}
-use Rattle.problem_builder.specs.declared.site.Site.{Site}
-use Rattle.problem_builder.specs.ConstantHeads.{IsConstantPair}
+use Rattle.problem_builder.specs.ConstantHeads.{IsConstantPair, AreConstantHeads}
 use Rattle.problem_builder.specs.GridHeads.{AreGridHeads}
 use Rattle.problem_builder.specs.Problems.{IsProblemOf, HasNoProblem}
-use Rattle.problem_builder.specs.Sites.{AreSites}
 use Rattle.problem_builder.specs.StartHeads.{AreStartHeads}
 
 -- a model, a time and the heads before it have at most one problem
@@ -41,14 +41,16 @@ ProblemFits =
     (m : FlowModel) (s : ℕ) (at : TimeStep) (old : List Bound) (p : List Entries) → IsModel m →
     Contains (times m) at → AreGridHeads m old → IsProblemOf m s at old p → IsProblem p
 
--- the sites of a time are one list, and so are the bounds of STRT
-abbrev pub SitesAreOne : Type 0
-SitesAreOne = (m : FlowModel) (at : TimeStep) (a b : List Site) → IsModel m → Contains (times m) at → AreSites m at a → AreSites m at b → a ≡ b
+-- the constant heads of a time are one list, and so are the bounds of STRT
+abbrev pub ConstantHeadsAreOne : Type 0
+ConstantHeadsAreOne =
+    (m : FlowModel) (at : TimeStep) (a b : List Bound) → IsModel m → Contains (times m) at →
+    AreConstantHeads m at a → AreConstantHeads m at b → a ≡ b
 
 abbrev pub StartHeadsAreOne : Type 0
 StartHeadsAreOne = (m : FlowModel) (a b : List Bound) → IsModel m → AreStartHeads m a → AreStartHeads m b → a ≡ b
 
--- a constant-head cell has one pair at a time, and heads in range
+-- a constant-head cell has one pair at a time, which encloses its head, and heads in range
 abbrev pub ConstantPairIsOne : Type 0
 ConstantPairIsOne =
     (m : FlowModel) (at : TimeStep) (c : ℕ) (lo hi low high : ℤ) → IsModel m → Contains (times m) at →
@@ -59,6 +61,12 @@ abbrev pub ConstantPairFits : Type 0
 ConstantPairFits =
     (m : FlowModel) (at : TimeStep) (c : ℕ) (lo hi : ℤ) → IsModel m → Contains (times m) at → c < cell_count m.grid →
     is_constant m at.period c ≡ true → IsConstantPair m at c lo hi → IsHead lo × IsHead hi
+
+abbrev pub ConstantPairEncloses : Type 0
+ConstantPairEncloses =
+    (m : FlowModel) (at : TimeStep) (c : ℕ) (lo hi : ℤ) → IsModel m → Contains (times m) at → c < cell_count m.grid →
+    is_constant m at.period c ≡ true → IsConstantPair m at c lo hi →
+    EnclosesSigned lo hi 9 (constant_head m at.period at.step c)
 
 -- the bounds of STRT are heads of all cells, in range
 abbrev pub StartHeadsFit : Type 0

@@ -1,13 +1,12 @@
 pub mod InputBounds
 pub mod Thicknesses
+pub mod Filled
 pub mod ConstantHeads
 pub mod RechargeBounds
 pub mod Cells
 pub mod Refusals
 pub mod Problems
 pub mod GridHeads
-pub mod Sites
-pub mod Filled
 pub mod StartHeads
 pub mod Stored
 pub mod Laws

@@ -1,12 +1,11 @@
 -- The contents of the tables of a time step, cell by cell.
 use Rattle.std.specs.Prelude.{◌≡◌, ℕ, ◌≤◌, ◌^◌, true, false, Option, Some, None}
 use Rattle.decimal_input.specs.Canonical.{size}
-use Rattle.step_problem.specs.declared.heads.Bound.{Bound}
 use Rattle.model_types.specs.declared.model.FlowModel.{FlowModel}
 use Rattle.model_types.specs.declared.period.Period.{Period}
 use Rattle.model_types.specs.declared.time_steps.TimeStep.{TimeStep}
 use Rattle.model_types.specs.Times.{period_at}
-use Rattle.model_types.specs.Kinds.{is_variable, is_constant}
+use Rattle.model_types.specs.Kinds.{is_variable}
 use Rattle.model_types.specs.Valid.{number_one}
 use Rattle.conductance_bounds.specs.declared.factors.Factors.{Factors}
 use Rattle.conductance_bounds.specs.declared.pair.Pair.{Pair}
@@ -16,7 +15,6 @@ use Rattle.conductance_bounds.specs.Formulas.{storage_term}
 use Rattle.conductance_bounds.specs.Growth.{IsUsable, IsGrown}
 use Rattle.conductance_bounds.specs.Pairs.{IsCapped}
 use Rattle.conductance_bounds.specs.Parts.{IsPart}
-use Rattle.problem_builder.specs.ConstantHeads.{IsConstantPair}
 
 -- the factors of a step of a transient period
 pub record AreStepFactors (m : FlowModel) (at : TimeStep) (f : Factors) : Type 0 where
@@ -53,7 +51,3 @@ HasEvenStorage m thick s p c x = (n : ℕ) → HasStorage m thick s (record { pe
 pub record IsPartOf (m : FlowModel) (at : TimeStep) (part : Part) : Type 0 where
   pub is : IsPart (period_at m at.period) at.step part.lo part.hi
   pub range : (part.lo ≤ 10 ^ 18) × (part.hi ≤ 10 ^ 18)
-
--- the bounds of a constant-head cell's head
-abbrev pub HasHead : FlowModel → TimeStep → ℕ → Bound → Type 0
-HasHead m at c x = is_constant m at.period c ≡ true → IsConstantPair m at c x.low x.high

@@ -27,7 +27,7 @@ use Rattle.problem_builder.specs.declared.tables.Tables.{Tables}
 use Rattle.problem_builder.specs.declared.period.PeriodTables.{PeriodTables}
 use Rattle.problem_builder.specs.declared.step.StepTables.{StepTables}
 use Rattle.problem_builder.specs.Thicknesses.{Thicknesses, AreThicknesses}
-use Rattle.problem_builder.specs.ConstantHeads.{IsConstantPair, IsKeptPair}
+use Rattle.problem_builder.specs.ConstantHeads.{IsKeptPair, AreConstantHeads}
 use Rattle.problem_builder.specs.RechargeBounds.{IsRechargePair}
 use Rattle.problem_builder.specs.Cells.{IsEvap}
 use Rattle.problem_builder.specs.Filled.{Filled}
@@ -121,8 +121,7 @@ AreEvenStorages m thick s p (Some xs) = Filled (HasEvenStorage m thick s p) no_p
 
 pub record AreStepTables (m : FlowModel) (at : TimeStep) (t : StepTables) : Type 0 where
   pub factors : AreFactorsOf m at t.factors
-  pub heads : length t.heads ≡ cell_count m.grid
-  pub head : (c : ℕ) → c < cell_count m.grid → is_constant m at.period c ≡ true → IsConstantPair m at c (bound_in t.heads c).low (bound_in t.heads c).high
+  pub heads : AreConstantHeads m at t.heads
 
 -- The data from which a step's cells are made.
 pub record Inputs : Type 0 where

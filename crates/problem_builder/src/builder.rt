@@ -11,13 +11,13 @@ ghost use Rattle.problem_builder.specs.GridHeads.{AreGridHeads, HeadsEnclose, Is
 ghost use Rattle.problem_builder.specs.Problems.{AreCells, IsProblemOf, IsBuildFault};
 ghost use Rattle.problem_builder.specs.Stored.{HasOldHeads};
 ghost use Rattle.problem_builder.specs.Made.{IsVariableCell, IsCheckedCell, IsCellFault, IsFirstFault};
-ghost use Rattle.problem_builder.specs.Tables.{AreInputs, AreTables, ArePeriodTables, AreEvenStorages, span_in, widths_of};
+ghost use Rattle.problem_builder.specs.Tables.{AreInputs, AreTables, ArePeriodTables, AreStepTables, AreEvenStorages, span_in, widths_of};
 
 use crate::cell::cell;
 use crate::fault::{BuildFault, fault};
 use crate::input::StepInput;
 use crate::period::PeriodTables;
-use crate::step_tables::step_tables;
+use crate::step::StepTables;
 use crate::tables::Tables;
 use model_types::{FlowModel, TimeStep};
 use std::alloc::Global;
@@ -76,12 +76,13 @@ fn problem_of(alloc: Global, input: &StepInput) -> Result<Problem, BuildFault>
 }
 
 /// The problem of a time step from the heads before it, one bound for each cell of the grid, or its first refusal.
-/// The tables are those of the run and of the time's stress period.
+/// The tables are those of the run, of the time's stress period and of the time.
 pub fn build_with(
     alloc: Global,
     model: &FlowModel,
     tables: &Tables,
     period: &PeriodTables,
+    step: &StepTables,
     at: TimeStep,
     old: &[Bound],
 ) -> Result<Problem, BuildFault>
@@ -92,6 +93,7 @@ pub fn build_with(
     requires tables { AreTables model.now tables.now.digits tables.now }
     requires period { ArePeriodTables model.now tables.now.digits at.period period.now }
     requires storage { AreEvenStorages model.now (span_in tables.now.thick) tables.now.digits at.period period.now.storage }
+    requires step { AreStepTables model.now at step.now }
     ensures problem { IfOk result (λ p. IsProblemOf model.now tables.now.digits at old.now p) }
     ensures refusal { IfErr result (IsBuildFault model.now tables.now.digits at old.now) }
     ensures cells { IfOk result (λ p. map (λ e. e.id) p ≡ variable_cells model.now at.period) }
@@ -101,12 +103,11 @@ pub fn build_with(
         EnclosesStep tables.now.digits p (exact_step model.now at.period at.step before)) }
     ensures stored { IfOk result (λ p. (period_at model.now at.period).steady ≡ false → HasOldHeads p) }
 {
-    let step = step_tables(alloc, model, period, at)?;
     let input = StepInput {
         model,
         tables,
         period,
-        step: &step,
+        step,
         at,
         old,
     };
@@ -137,5 +138,6 @@ pub fn build(
 {
     let tables = Tables::new(alloc, model, s)?;
     let period = PeriodTables::at(alloc, model, &tables, at.period)?;
-    build_with(alloc, model, &tables, &period, at, old)
+    let step = StepTables::new(alloc, model, &period, at)?;
+    build_with(alloc, model, &tables, &period, &step, at, old)
 }

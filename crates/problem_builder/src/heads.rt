@@ -1,15 +1,13 @@
 // The heads of constant-head cells at a time.
 ghost use Rattle.std.specs.Prelude.{◌≡◌, ℕ, ◌<◌, ◌≤◌, ◌^◌, true, IfOk, IfSome};
-ghost use Rattle.step_problem.specs.Heads.{no_bound};
 ghost use Rattle.conductance_bounds.specs.Parts.{IsGivenPair};
 ghost use Rattle.model_types.specs.Cells.{cell_count};
 ghost use Rattle.model_types.specs.Kinds.{is_constant};
 ghost use Rattle.model_types.specs.Numbers.{IsHeadNumber};
 ghost use Rattle.model_types.specs.Valid.{IsModel};
-ghost use Rattle.problem_builder.specs.ConstantHeads.{IsConstantPair};
-ghost use Rattle.problem_builder.specs.Filled.{Filled};
+ghost use Rattle.problem_builder.specs.ConstantHeads.{IsConstantPair, HasConstantHead, AreConstantHeads};
 ghost use Rattle.problem_builder.specs.Moments.{IsTimeOf};
-ghost use Rattle.problem_builder.specs.StepTables.{IsPartOf, HasHead};
+ghost use Rattle.problem_builder.specs.StepTables.{IsPartOf};
 ghost use Rattle.problem_builder.specs.Tables.{ArePeriodTables};
 
 use crate::period::PeriodTables;
@@ -22,7 +20,7 @@ use std::alloc::{AllocError, Global};
 use step_problem::Bound;
 
 // The part of the period that has passed at a time.
-fn part_of(model: &FlowModel, at: TimeStep) -> Part
+fn part_passed(model: &FlowModel, at: TimeStep) -> Part
     requires model { IsModel model.now }
     requires time { IsTimeOf model.now at }
     ensures { IsPartOf model.now at result }
@@ -31,7 +29,7 @@ fn part_of(model: &FlowModel, at: TimeStep) -> Part
 }
 
 // The bounds of a head between two heads.
-fn between(shead: Dec, ehead: Dec, part: Part) -> Bound
+fn given_bounds(shead: Dec, ehead: Dec, part: Part) -> Bound
     requires start { IsHeadNumber shead }
     requires end { IsHeadNumber ehead }
     requires part { (part.lo ≤ 10 ^ 18) × (part.hi ≤ 10 ^ 18) }
@@ -56,18 +54,19 @@ fn head_at(model: &FlowModel, period: &PeriodTables, at: TimeStep, part: Part, c
 {
     let _model = model;
     match period.given_at(cell) {
-        Some(x) => between(x.shead, x.ehead, part),
+        Some(x) => given_bounds(x.shead, x.ehead, part),
         None => period.kept_at(cell),
     }
 }
 
+// The bounds of a cell's head if that is constant, and zeros in any other cell.
 fn head_of(model: &FlowModel, period: &PeriodTables, at: TimeStep, part: Part, cell: u32) -> Bound
     requires model { IsModel model.now }
     requires time { IsTimeOf model.now at }
     requires period { (s : ℕ) × ArePeriodTables model.now s at.period period.now }
     requires part { IsPartOf model.now at part }
     requires cell { cell < cell_count model.now.grid }
-    ensures { HasHead model.now at cell result }
+    ensures { HasConstantHead model.now at cell result }
 {
     match period.kind_at(cell) {
         Kind::Constant => head_at(model, period, at, part, cell),
@@ -76,8 +75,8 @@ fn head_of(model: &FlowModel, period: &PeriodTables, at: TimeStep, part: Part, c
     }
 }
 
-/// For each cell the bounds of its head, if it is a constant-head cell.
-pub fn heads(
+/// For each cell the bounds of its head if that is constant, and zeros in any other cell.
+pub fn constant_heads(
     alloc: Global,
     model: &FlowModel,
     period: &PeriodTables,
@@ -86,9 +85,9 @@ pub fn heads(
     requires model { IsModel model.now }
     requires time { IsTimeOf model.now at }
     requires period { (s : ℕ) × ArePeriodTables model.now s at.period period.now }
-    ensures { IfOk result (λ v. Filled (HasHead model.now at) no_bound (cell_count model.now.grid) v.items) }
+    ensures { IfOk result (λ v. AreConstantHeads model.now at v.items) }
 {
-    let part = part_of(model, at);
+    let part = part_passed(model, at);
     let mut bounds = Vec::new(alloc);
     let count = model.grid.cell_count();
     for cell in 0..count {

@@ -1,7 +1,7 @@
 // Problems and refusals are unique, and problems meet their conditions. Each law is the contract of an empty function.
 ghost use Rattle.problem_builder.specs.Laws.{ProblemIsOne, ProblemExcludesRefusal, RefusalIsOne, ProblemFits};
-ghost use Rattle.problem_builder.specs.Laws.{SitesAreOne, StartHeadsAreOne, ConstantPairIsOne, ConstantPairFits};
-ghost use Rattle.problem_builder.specs.Laws.{StartHeadsFit};
+ghost use Rattle.problem_builder.specs.Laws.{ConstantHeadsAreOne, StartHeadsAreOne, StartHeadsFit};
+ghost use Rattle.problem_builder.specs.Laws.{ConstantPairIsOne, ConstantPairFits, ConstantPairEncloses};
 ghost use Rattle.problem_builder.specs.Example.{ExampleIsBuildable};
 
 /// A model, a time and the heads before it have at most one problem.
@@ -24,9 +24,9 @@ pub fn problems_fit()
     ensures { ProblemFits }
 {}
 
-/// A time has one list of sites.
-pub fn one_list_of_sites()
-    ensures { SitesAreOne }
+/// A time has one list of constant heads.
+pub fn one_list_of_constant_heads()
+    ensures { ConstantHeadsAreOne }
 {}
 
 /// A model has one list of bounds of STRT.
@@ -34,10 +34,11 @@ pub fn one_list_of_start_heads()
     ensures { StartHeadsAreOne }
 {}
 
-/// A constant-head cell has one pair at a time, of heads in range.
+/// A constant-head cell has one pair at a time, of heads in range, and it encloses the exact head.
 pub fn constant_pairs()
     ensures one { ConstantPairIsOne }
     ensures fit { ConstantPairFits }
+    ensures encloses { ConstantPairEncloses }
 {}
 
 /// The bounds of STRT are heads in range.

@@ -108,6 +108,14 @@ impl PeriodTables {
         self.kinds.as_slice()[cell as usize]
     }
 
+    /// The index of a variable cell among the variable cells.
+    pub fn index_at(&self, cell: u32) -> u32
+        requires { cell < length self.now.index }
+        ensures { result ≡ slice_index_or self.now.index cell 0 }
+    {
+        self.index.as_slice()[cell as usize]
+    }
+
     /// The entry of the period's CHD list that names a cell.
     pub fn given_at(&self, cell: u32) -> Option<Given>
         requires { cell < length self.now.given }

@@ -1,89 +1,62 @@
--- The heads of all cells, filled in place.
-use Rattle.std.proofs.Common.{◌≡◌, ℕ, suc, ◌+◌, ◌<◌, ◌≤◌, inl, inr, Bool, true, false, List, length, map, set, refl, sym, ap, ◌∙◌, subst, arith}
-use Rattle.std.proofs.lemmas.Bool.{cases_order}
-use Rattle.std.proofs.lemmas.List.{get_or-map, length-map, length-set, get_or-set_same, get_or-set_other}
+-- The heads of all cells, filled in place: those of the variable cells among the constant heads of a time.
+use Rattle.std.proofs.Common.{◌≡◌, ℕ, ◌+◌, ◌<◌, ◌≤◌, inl, inr, true, false, cond, List, length, set, sym, ap, ◌∙◌, subst, arith}
+use Rattle.std.proofs.lemmas.Bool.{cases_order, true≢false}
+use Rattle.std.proofs.lemmas.List.{length-set, get_or-set_same, get_or-set_other}
 use Rattle.step_problem.specs.declared.heads.Bound.{Bound}
 use Rattle.step_problem.specs.Heads.{no_bound}
-use Rattle.model_types.proofs.Ranks.{rank_passes, rank_fails, rank_few}
-use Rattle.problem_builder.specs.declared.site.Site.{Site}
-use Rattle.problem_builder.specs.declared.site.Site.TheVariants.{NoFlow, Given, Variable}
-use Rattle.problem_builder.specs.Sites.{site_at}
-use Rattle.step_chain.specs.GridHeads.{bound_at}
-use Rattle.step_chain.specs.Filling.{known, is_free, variable_before, filled, AreFilled}
+use Rattle.model_types.specs.declared.kind.Kind.TheVariants.{NoFlow, Constant, Variable}
+use Rattle.model_types.specs.declared.model.FlowModel.{FlowModel}
+use Rattle.model_types.specs.declared.time_steps.TimeStep.{TimeStep}
+use Rattle.model_types.specs.Cells.{cell_count}
+use Rattle.model_types.specs.Kinds.{is_variable, is_constant, kind_of, index_of}
+use Rattle.problem_builder.specs.ConstantHeads.{HasConstantHead, AreConstantHeads}
+use Rattle.step_chain.specs.GridHeads.{bound_at, AreHeadsOf}
+use Rattle.step_chain.proofs.Assembled.{constant_not_variable, idle_not_variable, idle_not_constant}
 
-abbrev free_at : List Site → ℕ → Bool
-free_at sites k = is_free (site_at sites k)
+pub kind_variable : (m : FlowModel) (p c : ℕ) → is_variable m p c ≡ true → kind_of m p c ≡ Variable
+kind_variable m p c e = ap (λ v. cond v Variable (cond (is_constant m p c) Constant NoFlow)) e
 
-pub before_few : (sites : List Site) (c : ℕ) → variable_before sites c ≤ c
-before_few sites c = rank_few (free_at sites) c
+-- the variable cells among the first n have their bounds, all other cells their constant heads
+pub record IsPartly (m : FlowModel) (at : TimeStep) (bounds heads : List Bound) (n : ℕ) : Type 0 where
+  pub whole : length heads ≡ cell_count m.grid
+  pub variable : (c : ℕ) → c < n → is_variable m at.period c ≡ true → bound_at heads c ≡ bound_at bounds (index_of m at.period c)
+  pub other : (c : ℕ) → c < cell_count m.grid → is_variable m at.period c ≡ false → HasConstantHead m at c (bound_at heads c)
 
-pub before_next : (sites : List Site) (c : ℕ) → is_free (site_at sites c) ≡ true → variable_before sites (c + 1) ≡ variable_before sites c + 1
-before_next sites c e =
-    let k : suc c ≡ c + 1 = omega arith in
-    ap (variable_before sites) (sym k) ∙ rank_passes (free_at sites) c e ∙ (let n : suc (variable_before sites c) ≡ variable_before sites c + 1 = omega arith in n)
+module _ (m : FlowModel) (at : TimeStep) (bounds heads : List Bound) where
+  pub partly_at_first : AreConstantHeads m at heads → IsPartly m at bounds heads 0
+  partly_at_first h = record { whole = h.count; variable = λ c lt v. absurd (omega (arith, lt)); other = λ c lt v. h.each c lt }
 
-pub before_same : (sites : List Site) (c : ℕ) → is_free (site_at sites c) ≡ false → variable_before sites (c + 1) ≡ variable_before sites c
-before_same sites c e =
-    let k : suc c ≡ c + 1 = omega arith in
-    ap (variable_before sites) (sym k) ∙ rank_fails (free_at sites) c e
-
-known_filled : (bounds : List Bound) (site : Site) (k : ℕ) → is_free site ≡ false → known site ≡ filled bounds site k
-known_filled bounds NoFlow k e = refl
-known_filled bounds (Given pair) k e = refl
-known_filled bounds Variable k e = absurd (let bad : true ≡ false = e in cc)
-
-pub not_free : (site : Site) → (site ≡ Variable → ⊥) → is_free site ≡ false
-not_free NoFlow h = refl
-not_free (Given pair) h = refl
-not_free Variable h = absurd (h refl)
-
--- the first c cells are filled, the others have what is known of them
-pub record IsPartly (sites : List Site) (bounds heads : List Bound) (c index : ℕ) : Type 0 where
-  pub whole : length heads ≡ length sites
-  pub index_is : index ≡ variable_before sites c
-  pub filled_so_far : (k : ℕ) → k < c → bound_at heads k ≡ filled bounds (site_at sites k) (variable_before sites k)
-  pub rest : (k : ℕ) → c ≤ k → k < length sites → bound_at heads k ≡ known (site_at sites k)
-
-module _ (sites : List Site) (bounds heads : List Bound) where
-  pub partly_at_first : heads ≡ map known sites → IsPartly sites bounds heads 0 0
-  partly_at_first is = record {
-    whole = ap length is ∙ length-map sites known;
-    index_is = refl;
-    filled_so_far = λ k lt. absurd (omega (arith, lt));
-    rest = λ k le lt. ap (λ hs. bound_at hs k) is ∙ get_or-map known sites k NoFlow no_bound lt;
-  }
-
-  pub partly_other : (c index : ℕ) → c < length sites → is_free (site_at sites c) ≡ false → IsPartly sites bounds heads c index → IsPartly sites bounds heads (c + 1) index
-  partly_other c index inside e h = record {
+  pub partly_other : (n : ℕ) → (is_variable m at.period n ≡ true → ⊥) → IsPartly m at bounds heads n → IsPartly m at bounds heads (n + 1)
+  partly_other n not_variable h = record {
     whole = h.whole;
-    index_is = h.index_is ∙ sym (before_same sites c e);
-    filled_so_far = λ k lt. elim (cases_order k c) [
-      | inl same ↦ (let P : ℕ → Type 0 = λ k. bound_at heads k ≡ filled bounds (site_at sites k) (variable_before sites k) in
-          subst P (sym same) (h.rest c (omega arith) inside ∙ known_filled bounds (site_at sites c) (variable_before sites c) e))
-      | inr (inl less) ↦ h.filled_so_far k less
+    variable = λ c lt v. elim (cases_order c n) [
+      | inl same ↦ (let P : ℕ → Type 0 = λ k. is_variable m at.period k ≡ true in absurd (not_variable (subst P same v)))
+      | inr (inl less) ↦ h.variable c less v
       | inr (inr more) ↦ absurd (omega (arith, lt, more))
     ];
-    rest = λ k le lt. h.rest k (omega (arith, le)) lt;
+    other = h.other;
   }
 
-  pub partly_variable : (c index : ℕ) (b : Bound) → c < length sites → site_at sites c ≡ Variable → b ≡ bound_at bounds index → IsPartly sites bounds heads c index → IsPartly sites bounds (set heads c b) (c + 1) (index + 1)
-  partly_variable c index b inside e is h =
-      let here : is_free (site_at sites c) ≡ true = ap is_free e in
-      let at_c : bound_at (set heads c b) c ≡ filled bounds (site_at sites c) (variable_before sites c) =
-      get_or-set_same heads c b no_bound (omega (arith, inside, h.whole)) ∙ is ∙ ap (bound_at bounds) h.index_is ∙ sym (ap (λ site. filled bounds site (variable_before sites c)) e) in
-      record {
-        whole = length-set heads c b ∙ h.whole;
-        index_is = ap (λ n. n + 1) h.index_is ∙ sym (before_next sites c here);
-        filled_so_far = λ k lt. elim (cases_order k c) [
-          | inl same ↦ (let P : ℕ → Type 0 = λ k. bound_at (set heads c b) k ≡ filled bounds (site_at sites k) (variable_before sites k) in subst P (sym same) at_c)
-          | inr (inl less) ↦ get_or-set_other heads c k b no_bound (λ same. omega (arith, same, less)) ∙ h.filled_so_far k less
-          | inr (inr more) ↦ absurd (omega (arith, lt, more))
-        ];
-        rest = λ k le lt. get_or-set_other heads c k b no_bound (λ same. omega (arith, same, le)) ∙ h.rest k (omega (arith, le)) lt;
-      }
+  pub partly_variable : (n : ℕ) (b : Bound) → n < cell_count m.grid → is_variable m at.period n ≡ true → b ≡ bound_at bounds (index_of m at.period n) →
+      IsPartly m at bounds heads n → IsPartly m at bounds (set heads n b) (n + 1)
+  partly_variable n b inside here is h = record {
+    whole = length-set heads n b ∙ h.whole;
+    variable = λ c lt v. elim (cases_order c n) [
+      | inl same ↦ (let P : ℕ → Type 0 = λ k. bound_at (set heads n b) k ≡ bound_at bounds (index_of m at.period k) in
+          subst P (sym same) (get_or-set_same heads n b no_bound (omega (arith, inside, h.whole)) ∙ is))
+      | inr (inl less) ↦ get_or-set_other heads n c b no_bound (λ same. omega (arith, same, less)) ∙ h.variable c less v
+      | inr (inr more) ↦ absurd (omega (arith, lt, more))
+    ];
+    other = λ c lt v.
+        let H : Bound → Type 0 = HasConstantHead m at c in
+        let P : ℕ → Type 0 = λ k. is_variable m at.period k ≡ false in
+        subst H (sym (get_or-set_other heads n c b no_bound (λ same. true≢false (sym here ∙ subst P same v)))) (h.other c lt v);
+  }
 
-  pub all_filled : (c index : ℕ) → length sites ≤ c → IsPartly sites bounds heads c index → AreFilled sites bounds heads
-  all_filled c index past h = record { whole = h.whole; each = λ k lt. h.filled_so_far k (omega (arith, lt, past)) }
-
-pub index_small : (sites : List Site) (bounds heads : List Bound) (c index : ℕ) → IsPartly sites bounds heads c index → index ≤ c
-index_small sites bounds heads c index h = omega (arith, h.index_is, before_few sites c)
+  pub all_filled : (n : ℕ) → cell_count m.grid ≤ n → IsPartly m at bounds heads n → AreHeadsOf m at bounds heads
+  all_filled n past h = record {
+    whole = h.whole;
+    variable = λ c lt v. h.variable c (omega (arith, lt, past)) v;
+    constant = λ c lt k. (h.other c lt (constant_not_variable m at.period c k)).constant k;
+    no_flow = λ c lt idle. (h.other c lt (idle_not_variable m at.period c idle)).other (idle_not_constant m at.period c idle);
+  }

@@ -1,8 +1,7 @@
 -- From a step's settled pair to the enclosure of every solution.
-use Rattle.std.proofs.Common.{◌≡◌, ℕ, ◌<◌, ◌^◌, inl, inr, true, List, length, sym, subst, arith, ℤ, pos, ◌*ℤ◌, ◌≤ℤ◌}
+use Rattle.std.proofs.Common.{◌≡◌, ℕ, ◌<◌, ◌^◌, inl, inr, true, List, length, Contains, sym, subst, arith, ℤ, pos, ◌*ℤ◌, ◌≤ℤ◌}
 use Rattle.std.proofs.lemmas.Bool.{cases_Bool}
 use Rattle.decimal_input.specs.Fractions.{Fraction}
-use Rattle.decimal_input.specs.Enclosures.{EnclosesSigned}
 use Rattle.decimal_input.proofs.Enclosing.{whole_signed}
 use Rattle.step_problem.specs.declared.heads.Bound.{Bound}
 use Rattle.step_problem.specs.Entries.{Entries}
@@ -18,16 +17,15 @@ use Rattle.model_types.specs.declared.time_steps.TimeStep.{TimeStep}
 use Rattle.model_types.specs.Cells.{cell_count}
 use Rattle.model_types.specs.Kinds.{is_variable, is_constant, index_of}
 use Rattle.model_types.specs.Heads.{constant_head}
+use Rattle.model_types.specs.Times.{times}
+use Rattle.model_types.specs.Valid.{IsModel}
 use Rattle.flow_equations.specs.ExactStep.{exact_step}
 use Rattle.flow_equations.specs.Histories.{variable_heads}
-use Rattle.problem_builder.specs.declared.site.Site.{Site}
-use Rattle.problem_builder.specs.declared.site.Site.TheVariants.{Given}
 use Rattle.problem_builder.specs.GridHeads.{IsActive, HeadsEnclose}
-use Rattle.problem_builder.specs.Sites.{site_at, AreSites}
+use Rattle.problem_builder.specs.Laws.{ConstantPairEncloses}
 use Rattle.step_chain.specs.GridHeads.{bound_at, AreHeadsOf}
-use Rattle.step_chain.specs.Filling.{AreFilled}
 use Rattle.step_chain.specs.Enclosing.{IsMove, EnclosesMove, EnclosesMoves}
-use Rattle.step_chain.proofs.Assembled.{active_constant, constant_site, constant_filled, filled_heads, index_below, count_is, number_is}
+use Rattle.step_chain.proofs.Assembled.{active_constant, index_below, count_is, number_is}
 
 pub settled_words : (p : List Entries) (b : Edges) (bounds : List Bound) → AreSettled p b bounds → AreWords p bounds
 settled_words p b bounds h = record { whole = h.whole; low = h.pair.low.heads; high = h.pair.high.heads }
@@ -37,14 +35,10 @@ record Holds (b : Bound) (d : ℕ) (x : ℤ) : Type 0 where
   low : (b.low *ℤ pos d) ≤ℤ (x *ℤ pos (10 ^ 9))
   high : (x *ℤ pos (10 ^ 9)) ≤ℤ (b.high *ℤ pos d)
 
-module _ (m : FlowModel) (s : ℕ) (at : TimeStep) (old : List Bound) (p : List Entries) (sites : List Site) (bounds heads : List Bound)
-    (are : AreSites m at sites) (fills : AreFilled sites bounds heads)
-    (pairs : (c : ℕ) (pair : Bound) → site_at sites c ≡ Given pair → EnclosesSigned pair.low pair.high 9 (constant_head m at.period at.step c))
+module _ (m : FlowModel) (s : ℕ) (at : TimeStep) (old : List Bound) (p : List Entries) (bounds heads : List Bound)
+    (model : IsModel m) (time : Contains (times m) at) (are : AreHeadsOf m at bounds heads) (pair_encloses : ConstantPairEncloses)
     (encloses : (before : ℕ → Fraction) → HeadsEnclose m old before → EnclosesStep s p (exact_step m at.period at.step before))
     (solutions : EnclosesSolutions p (lower_at bounds) (upper_at bounds)) where
-  heads_are : AreHeadsOf m at bounds heads
-  heads_are = filled_heads m at sites are bounds heads fills
-
   module _ (before : ℕ → Fraction) (d : ℕ) (X : ℕ → ℤ) (move : IsMove m at old before d X) where
     step : EnclosesStep s p (exact_step m at.period at.step before)
     step = encloses before move.within
@@ -58,14 +52,14 @@ module _ (m : FlowModel) (s : ℕ) (at : TimeStep) (old : List Bound) (p : List 
         let inside : k < length p = omega (arith, AllZip-length (CellEncloses s) p (exact_step m at.period at.step before) step.cells, count_is m at.period at.step before, index_below m at.period c v lt) in
         let P : ℕ → Type 0 = λ i. Holds (bound_at bounds k) d (X i) in
         let Q : Bound → Type 0 = λ b. Holds b d (X c) in
-        subst Q (sym (heads_are.variable c lt v)) (subst P (number_is m at.period at.step c before v lt) (record { low = between.low k inside; high = between.high k inside }))
+        subst Q (sym (are.variable c lt v)) (subst P (number_is m at.period at.step c before v lt) (record { low = between.low k inside; high = between.high k inside }))
 
     constant_holds : (c : ℕ) → c < cell_count m.grid → is_constant m at.period c ≡ true → Holds (bound_at heads c) d (X c)
     constant_holds c lt e =
-        let (pair, is) = constant_site m at sites are c lt e in
-        let b = whole_signed pair.low pair.high 9 d (constant_head m at.period at.step c) (X c) (pairs c pair is) (move.solves.constant c lt e) in
-        let Q : Bound → Type 0 = λ b. Holds b d (X c) in
-        subst Q (sym (constant_filled m at sites are bounds heads fills c pair lt is)) (record { low = b.lower; high = b.upper })
+        let low = lower_at heads c in
+        let high = upper_at heads c in
+        let b = whole_signed low high 9 d (constant_head m at.period at.step c) (X c) (pair_encloses m at c low high model time lt e (are.constant c lt e)) (move.solves.constant c lt e) in
+        record { low = b.lower; high = b.upper }
 
     active_holds : (c : ℕ) → IsActive m c → Holds (bound_at heads c) d (X c)
     active_holds c a = elim (cases_Bool (is_variable m at.period c)) [

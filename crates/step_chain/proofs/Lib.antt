@@ -1,5 +1,5 @@
-pub mod Filled
 pub mod Assembled
+pub mod Filled
 pub mod Following
 pub mod OneStep
 pub mod Failing

@@ -4,5 +4,4 @@ pub mod Enclosing
 pub mod Faults
 pub mod Leads
 pub mod Keeps
-pub mod Filling
 pub mod Laws

@@ -1,56 +1,46 @@
 // The heads of all cells of the grid.
-ghost use Rattle.std.specs.Prelude.{◌≡◌, ◌<◌, ℕ, IfOk, length, map};
-ghost use Rattle.step_chain.specs.Filling.{known, AreFilled};
-ghost use Rattle.step_chain.specs.GridHeads.{bound_at};
+ghost use Rattle.std.specs.Prelude.{◌≡◌, ℕ};
+ghost use Rattle.model_types.specs.Grids.{HasSize};
+ghost use Rattle.problem_builder.specs.ConstantHeads.{AreConstantHeads};
+ghost use Rattle.problem_builder.specs.Tables.{ArePeriodTables};
+ghost use Rattle.step_chain.specs.GridHeads.{bound_at, AreHeadsOf};
 
-use problem_builder::Site;
-use std::alloc::{AllocError, Global};
+use model_types::{FlowModel, Kind, Listed, TimeStep};
+use problem_builder::PeriodTables;
 use step_problem::Bound;
 
 const NONE: Bound = Bound { low: 0, high: 0 };
 
-// The head of a cell that is known before the step is settled.
-fn known(site: Site) -> Bound
-    ensures { result ≡ known site }
-{
-    match site {
-        Site::NoFlow => NONE,
-        Site::Given(pair) => pair,
-        Site::Variable => NONE,
-    }
-}
-
-/// The pairs of the constant heads, and zeros for all other cells.
-pub fn known_heads(alloc: Global, sites: &[Site]) -> Result<Vec<Bound>, AllocError>
-    ensures { IfOk result (λ v. v.items ≡ map known sites.now) }
-{
-    let mut heads = Vec::new(alloc);
-    for site in sites {
-        heads.push(known(*site))?;
-    }
-    Ok(heads)
-}
-
 // The bound of an index, zeros past the end.
-fn bound_at(bounds: &[Bound], index: usize) -> Bound
+fn bound_at(bounds: &[Bound], index: u32) -> Bound
     ensures { result ≡ bound_at bounds.now index }
 {
-    match bounds.get(index) {
+    match bounds.get(index as usize) {
         Some(bound) => *bound,
         None => NONE,
     }
 }
 
-/// Gives each variable cell the bound of its index. It takes no memory.
-pub fn fill_in(heads: &mut [Bound], sites: &[Site], bounds: &[Bound])
-    requires { heads.old ≡ map known sites.now }
-    ensures { AreFilled sites.now bounds.now heads.new }
+/// The heads of all cells, from the constant heads of a time and the bounds of its variable cells. It takes no memory.
+pub fn fill_in(
+    model: &FlowModel,
+    period: &PeriodTables,
+    at: TimeStep,
+    constant_heads: Listed<Bound>,
+    bounds: &[Bound],
+) -> Listed<Bound>
+    requires size { HasSize model.now.grid }
+    requires period { (s : ℕ) × ArePeriodTables model.now s at.period period.now }
+    requires constant { AreConstantHeads model.now at constant_heads }
+    ensures { AreHeadsOf model.now at bounds.now result }
 {
-    let mut index = 0;
-    for c in 0..sites.len() {
-        if let Site::Variable = sites[c] {
-            heads[c] = bound_at(bounds, index);
-            index += 1;
+    let _at = at;
+    let mut heads = constant_heads;
+    let count = model.grid.cell_count();
+    for cell in 0..count {
+        if let Kind::Variable = period.kind_at(cell) {
+            heads.set(cell as usize, bound_at(bounds, period.index_at(cell)));
         }
     }
+    heads
 }

@@ -10,14 +10,15 @@ ghost use Rattle.step_chain.specs.Faults.{FailsBy};
 ghost use Rattle.step_chain.specs.Leads.{LeadsBy, LeadsOrRests};
 ghost use Rattle.step_chain.specs.Enclosing.{EnclosesMoves};
 
-use crate::heads::{fill_in, known_heads};
+use crate::heads::fill_in;
 use crate::kept::RunTables;
 use crate::laws::heads_fit;
 use crate::solved::{Solved, StepFault};
 use barrier_vector::barrier;
 use certificate_check::laws::settled_pair_encloses;
 use model_types::{FlowModel, Listed, TimeStep};
-use problem_builder::{build_with, sites_with};
+use problem_builder::laws::constant_pairs;
+use problem_builder::{StepTables, build_with};
 use std::alloc::Global;
 use step_problem::{Bound, Settler};
 
@@ -55,19 +56,19 @@ pub fn next_step_with<S: Settler>(
         (λ _. LeadsOrRests S.leads model.now (digits_of tables.old) at old.now settler.old settler.new) }
 {
     tables.go_to(alloc, model, at.period)?;
-    let sites = sites_with(alloc, model, &tables.period, at)?;
-    let mut heads = known_heads(alloc, &sites)?;
-    let problem = build_with(alloc, model, &tables.tables, &tables.period, at, old)?;
+    let step = StepTables::new(alloc, model, &tables.period, at)?;
+    let problem = build_with(alloc, model, &tables.tables, &tables.period, &step, at, old)?;
     let barrier = barrier(alloc, &problem)?;
-    let bounds = settler.settle(alloc, &problem, &barrier)?;
-    fill_in(&mut heads, &sites, &bounds);
+    let bounds = Listed::new(settler.settle(alloc, &problem, &barrier)?);
+    let heads = fill_in(model, &tables.period, at, step.heads, bounds.as_slice());
     settled_pair_encloses();
+    constant_pairs();
     heads_fit();
     problem.recall_conditions();
     Ok(Solved {
         problem,
-        bounds: Listed::new(bounds),
-        heads: Listed::new(heads),
+        bounds,
+        heads,
     })
 }
 

@@ -1,12 +1,6 @@
-use Rattle.std.proofs.Common.{◌≡◌, ℕ, List, subst, sym}
+use Rattle.std.proofs.Common.{ℕ, subst}
 use Rattle.std.proofs.lemmas.Result.{err_from_is_err_and}
-use Rattle.decimal_input.specs.Enclosures.{EnclosesSigned}
-use Rattle.step_problem.specs.declared.heads.Bound.{Bound}
-use Rattle.model_types.specs.Heads.{constant_head}
-use Rattle.problem_builder.specs.declared.site.Site.{Site}
-use Rattle.problem_builder.specs.declared.site.Site.TheVariants.{Given}
 use Rattle.problem_builder.specs.Problems.{IsProblemOf}
-use Rattle.problem_builder.specs.Sites.{site_at, AreSites}
 use Rattle.problem_builder.proofs.TimesOf.{time_of}
 use Rattle.step_chain.specs.Keeps.{digits_of}
 use Rattle.check_run.proofs.Unposed.{barrier_unposed}
@@ -27,8 +21,6 @@ returns-in_err-barrier-clause-fault c =
 pub returns-clause-posed : goal.returns-clause-posed
 returns-clause-posed c =
     let P : ℕ → Type 0 = λ s. IsProblemOf c.args.model.now s c.args.at c.args.old.now c.in_ok-problem.problem in
-    let S : List Site → Type 0 = AreSites c.args.model.now c.args.at in
-    let E : List Site → Type 0 = λ v. (k : ℕ) (pair : Bound) → site_at v k ≡ Given pair → EnclosesSigned pair.low pair.high 9 (constant_head c.args.model.now c.args.at.period c.args.at.step k) in
     record {
       posed = record {
         problem = subst P c.go_to.ensures.digits c.in_ok-problem.ensures.problem;
@@ -38,6 +30,5 @@ returns-clause-posed c =
       solutions = c.in_ok-barrier.ensures.encloses;
       cells = c.in_ok-problem.ensures.cells;
       encloses = rw c.go_to.ensures.digits at c.in_ok-problem.ensures.encloses;
-      sites = subst S (sym c.new.ensures) c.in_ok-sites.ensures.sites;
-      pairs = subst E (sym c.new.ensures) c.in_ok-sites.ensures.encloses;
+      constant = c.in_ok-step.ensures.heads;
     }

@@ -1,26 +1,17 @@
-use Rattle.std.proofs.Common.{◌∙◌, ℕ, ◌<◌, List, length, subst, sym, arith}
+use Rattle.std.proofs.Common.{◌∙◌, List, subst, sym, arith}
 use Rattle.std.proofs.lemmas.Result.{err_from_is_err_and}
 use Rattle.step_problem.specs.declared.heads.Bound.{Bound}
-use Rattle.step_problem.specs.declared.heads.Side.{Side}
 use Rattle.cell_relax.specs.Words.{AreWords}
-use Rattle.problem_builder.specs.declared.site.Site.{Site}
-use Rattle.problem_builder.specs.Sites.{site_at}
-use Rattle.step_chain.specs.GridHeads.{bound_at}
 use Rattle.step_chain.specs.Keeps.{digits_of}
-use Rattle.check_run.specs.Parts.{IsCovered, IsFirstUnreached, IsUncovered, SiteReached}
+use Rattle.check_run.specs.Parts.{IsCovered, IsUncovered}
 use Rattle.check_run.proofs.Checking.{err_follows, ok_follows}
 use Rattle.check_run.proofs.Listed.{are_words, id_within}
 use Rattle.check_run.proofs.Outcomes.{constant_fails, step_moves, step_passes, term_fails, variable_fails}
-use Rattle.check_run.proofs.Reached.{constants_reach, first_short}
 use Rattle.check_run.proofs.step.check_listed.Goals as goal
 
 pub returns-in-Some-clause-fault : goal.returns-in-Some-clause-fault
 returns-in-Some-clause-fault c =
-    let x = c.in_ok-posed.posed in
-    let posed = c.in_ok-posed.ensures.posed in
-    let P : List Site → Type 0 = λ v. IsFirstUnreached v c.args.heads.now c.in-Some.cell c.in-Some.side in
-    constant_fails c.args.model.now (digits_of c.args.tables.now) c.args.at c.args.old.now x posed c.args.heads.now c.args.listed.now c.in-Some.cell c.in-Some.side
-    (first_short c.args.model.now c.args.at x.sites c.args.heads.now posed.sites c.constant_pairs.ensures.one c.requires.model c.requires.time c.in-Some.cell c.in-Some.side (subst P c.as_slice.ensures c.in-Some.ensures))
+    constant_fails c.args.model.now (digits_of c.args.tables.now) c.args.at c.args.old.now c.in_ok-posed.posed c.in_ok-posed.ensures.posed c.args.heads.now c.args.listed.now c.in-Some.cell c.in-Some.side c.in-Some.ensures
 
 pub bounds_of-requires : goal.bounds_of-requires
 bounds_of-requires c = λ k lt. omega (arith, id_within c.args.model.now c.args.at c.args.heads.now c.in_ok-posed.posed.problem c.in_ok-posed.ensures.posed.cells k lt, c.requires.heads.whole)
@@ -29,53 +20,45 @@ pub certified-requires-clause-bounds : goal.certified-requires-clause-bounds
 certified-requires-clause-bounds c =
     let x = c.in_ok-posed.posed in
     let W : List Bound → Type 0 = AreWords x.problem in
-    subst W (sym (c.as_slice-2.ensures.value ∙ c.in_ok-bounds.ensures)) (are_words c.args.model.now c.args.at c.args.heads.now x.problem c.in_ok-posed.ensures.posed.cells c.requires.heads)
+    subst W (sym (c.as_slice.ensures.value ∙ c.in_ok-bounds.ensures)) (are_words c.args.model.now c.args.at c.args.heads.now x.problem c.in_ok-posed.ensures.posed.cells c.requires.heads)
 
 pub returns-in_err-certified-clause-fault : goal.returns-in_err-certified-clause-fault
 returns-in_err-certified-clause-fault c =
     let p = err_from_is_err_and c.from_residual-in_err-certified.result c.from_residual-in_err-certified.ensures.1 in
     let x = c.in_ok-posed.posed in
     let posed = c.in_ok-posed.ensures.posed in
-    let R : List Site → Type 0 = λ v. (k : ℕ) → k < length v → (side : Side) → SiteReached (site_at v k) (bound_at c.args.heads.now k) side in
-    let reach = constants_reach c.args.model.now c.args.at x.sites c.args.heads.now posed.sites c.constant_pairs.ensures.one c.requires.model c.requires.time (subst R c.as_slice.ensures c.in_default.ensures) in
-    rw (p.1, p.2) (variable_fails c.args.model.now (digits_of c.args.tables.now) c.args.at c.args.old.now x posed c.args.heads.now c.args.listed.now reach c.in_ok-bounds.bounds.items c.as_slice-2.result.now c.as_slice-2.ensures.value c.in_ok-bounds.ensures c.in_err-certified.field-0.0 c.in_err-certified.ensures.fails)
+    rw (p.1, p.2) (variable_fails c.args.model.now (digits_of c.args.tables.now) c.args.at c.args.old.now x posed c.args.heads.now c.args.listed.now c.in_default.ensures c.in_ok-bounds.bounds.items c.as_slice.result.now c.as_slice.ensures.value c.in_ok-bounds.ensures c.in_err-certified.field-0.0 c.in_err-certified.ensures.fails)
 
 pub covered-requires : goal.covered-requires
 covered-requires c =
     let x = c.in_ok-posed.posed in
     let W : List Bound → Type 0 = AreWords x.problem in
-    record { bounds = subst W (sym (c.as_slice-3.ensures.value ∙ c.in_ok-bounds.ensures)) (are_words c.args.model.now c.args.at c.args.heads.now x.problem c.in_ok-posed.ensures.posed.cells c.requires.heads) }
+    record { bounds = subst W (sym (c.as_slice-2.ensures.value ∙ c.in_ok-bounds.ensures)) (are_words c.args.model.now c.args.at c.args.heads.now x.problem c.in_ok-posed.ensures.posed.cells c.requires.heads) }
 
 pub returns-clause-passes : goal.returns-clause-passes
 returns-clause-passes c =
     let x = c.in_ok-posed.posed in
     let posed = c.in_ok-posed.ensures.posed in
-    let R : List Site → Type 0 = λ v. (k : ℕ) → k < length v → (side : Side) → SiteReached (site_at v k) (bound_at c.args.heads.now k) side in
-    let reach = constants_reach c.args.model.now c.args.at x.sites c.args.heads.now posed.sites c.constant_pairs.ensures.one c.requires.model c.requires.time (subst R c.as_slice.ensures c.in_default.ensures) in
     let C : List Bound → Type 0 = λ v. IsCovered x.problem v c.args.listed.now in
     ok_follows _ _ c.covered.result
-    (λ u h. step_passes c.args.model.now (digits_of c.args.tables.now) c.args.at c.args.old.now x posed c.args.heads.now c.args.listed.now reach c.in_ok-bounds.bounds.items c.as_slice-2.result.now c.as_slice-2.ensures.value c.in_ok-bounds.ensures c.in_ok-certified.ensures.certificate (subst C (c.as_slice-3.ensures.value ∙ sym c.as_slice-2.ensures.value) h))
+    (λ u h. step_passes c.args.model.now (digits_of c.args.tables.now) c.args.at c.args.old.now x posed c.args.heads.now c.args.listed.now c.in_default.ensures c.in_ok-bounds.bounds.items c.as_slice.result.now c.as_slice.ensures.value c.in_ok-bounds.ensures c.in_ok-certified.ensures.certificate (subst C (c.as_slice-2.ensures.value ∙ sym c.as_slice.ensures.value) h))
     c.covered.ensures.covers
 
 pub returns-clause-fault : goal.returns-clause-fault
 returns-clause-fault c =
     let x = c.in_ok-posed.posed in
     let posed = c.in_ok-posed.ensures.posed in
-    let R : List Site → Type 0 = λ v. (k : ℕ) → k < length v → (side : Side) → SiteReached (site_at v k) (bound_at c.args.heads.now k) side in
-    let reach = constants_reach c.args.model.now c.args.at x.sites c.args.heads.now posed.sites c.constant_pairs.ensures.one c.requires.model c.requires.time (subst R c.as_slice.ensures c.in_default.ensures) in
     err_follows _ _ c.covered.result
     (λ e h.
     let U : List Bound → Type 0 = λ v. IsUncovered x.problem v c.args.listed.now e in
-    term_fails c.args.model.now (digits_of c.args.tables.now) c.args.at c.args.old.now x posed c.args.heads.now c.args.listed.now reach c.in_ok-bounds.bounds.items c.as_slice-2.result.now c.as_slice-2.ensures.value c.in_ok-bounds.ensures c.in_ok-certified.ensures.certificate e (subst U (c.as_slice-3.ensures.value ∙ sym c.as_slice-2.ensures.value) h))
+    term_fails c.args.model.now (digits_of c.args.tables.now) c.args.at c.args.old.now x posed c.args.heads.now c.args.listed.now c.in_default.ensures c.in_ok-bounds.bounds.items c.as_slice.result.now c.as_slice.ensures.value c.in_ok-bounds.ensures c.in_ok-certified.ensures.certificate e (subst U (c.as_slice-2.ensures.value ∙ sym c.as_slice.ensures.value) h))
     c.covered.ensures.fails
 
 pub returns-clause-encloses : goal.returns-clause-encloses
 returns-clause-encloses c =
     let x = c.in_ok-posed.posed in
     let posed = c.in_ok-posed.ensures.posed in
-    let R : List Site → Type 0 = λ v. (k : ℕ) → k < length v → (side : Side) → SiteReached (site_at v k) (bound_at c.args.heads.now k) side in
-    let reach = constants_reach c.args.model.now c.args.at x.sites c.args.heads.now posed.sites c.constant_pairs.ensures.one c.requires.model c.requires.time (subst R c.as_slice.ensures c.in_default.ensures) in
     let C : List Bound → Type 0 = λ v. IsCovered x.problem v c.args.listed.now in
     ok_follows _ _ c.covered.result
-    (λ u h. step_moves c.args.model.now (digits_of c.args.tables.now) c.args.at c.args.old.now x posed c.args.heads.now c.args.listed.now reach c.in_ok-bounds.bounds.items c.as_slice-2.result.now c.as_slice-2.ensures.value c.in_ok-bounds.ensures c.cover_encloses.ensures c.heads_within.ensures (c.in_ok-certified.ensures.encloses posed.held posed.solutions) (subst C (c.as_slice-3.ensures.value ∙ sym c.as_slice-2.ensures.value) h))
+    (λ u h. step_moves c.args.model.now (digits_of c.args.tables.now) c.args.at c.args.old.now x posed c.args.heads.now c.args.listed.now c.in_default.ensures c.in_ok-bounds.bounds.items c.as_slice.result.now c.as_slice.ensures.value c.in_ok-bounds.ensures c.requires.model c.requires.time c.constant_pairs.ensures.encloses c.cover_encloses.ensures c.heads_within.ensures (c.in_ok-certified.ensures.encloses posed.held posed.solutions) (subst C (c.as_slice-2.ensures.value ∙ sym c.as_slice.ensures.value) h))
     c.covered.ensures.covers

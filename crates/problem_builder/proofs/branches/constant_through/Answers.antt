@@ -24,5 +24,5 @@ returns-in-Some c =
       kind = refl;
       source = refl;
       conductance = subst (λ (q : Pair). IsCapped (face_term i.model (span_in i.tables.thick) (span_in i.tables.bed) f.axis f.first) i.tables.digits q.lo q.hi) (sym c.face_pair-pair.ensures) (h.2 (constant_active i.model i.at.period f.end v));
-      head = subst (λ (q : Bound). IsConstantPair i.model i.at f.end q.low q.high) (sym c.given_head-head.ensures) (c.requires.input.step.head f.end h.1 v);
+      head = subst (λ (q : Bound). IsConstantPair i.model i.at f.end q.low q.high) (sym c.given_head-head.ensures) ((c.requires.input.step.heads.each f.end h.1).constant v);
     }))

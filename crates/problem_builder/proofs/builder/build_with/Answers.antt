@@ -2,9 +2,6 @@ use Rattle.problem_builder.proofs.TimesOf.{time_of}
 use Rattle.problem_builder.proofs.ValidEntries.{local_valid}
 use Rattle.problem_builder.proofs.builder.build_with.Goals as goal
 
-pub step_tables-requires-clause-time : goal.step_tables-requires-clause-time
-step_tables-requires-clause-time c = time_of c.args.model.now c.args.at c.requires.model c.requires.time
-
 pub problem_of-requires : goal.problem_of-requires
 problem_of-requires c =
     let m = c.args.model.now in
@@ -18,6 +15,6 @@ problem_of-requires c =
       tables = c.requires.tables;
       period = c.requires.period;
       storage = c.requires.storage;
-      step = c.in_ok-step.ensures;
+      step = c.requires.step;
       old = c.requires.old;
     }

@@ -8,15 +8,15 @@ use Rattle.problem_builder.specs.ConstantHeads.{IsKeptPair, IsGivenOrKept, IsCon
 use Rattle.problem_builder.proofs.GivenValid.{given_valid}
 use Rattle.problem_builder.proofs.heads.head_at.Goals as goal
 
-pub between-requires-clause-start : goal.between-requires-clause-start
-between-requires-clause-start c =
+pub given_bounds-requires-clause-start : goal.given_bounds-requires-clause-start
+given_bounds-requires-clause-start c =
     let m = c.args.model.now in
     let list = (period_at m c.args.at.period).stresses.given in
     let e = sym (c.requires.period.1.given c.args.cell c.requires.cell) ∙ sym c.in-Some.ensures in
     (given_valid (cell_count m.grid) list c.args.cell c.in-Some.x c.requires.time.valid.stresses.given.entries e).shead
 
-pub between-requires-clause-end : goal.between-requires-clause-end
-between-requires-clause-end c =
+pub given_bounds-requires-clause-end : goal.given_bounds-requires-clause-end
+given_bounds-requires-clause-end c =
     let m = c.args.model.now in
     let list = (period_at m c.args.at.period).stresses.given in
     let e = sym (c.requires.period.1.given c.args.cell c.requires.cell) ∙ sym c.in-Some.ensures in
@@ -27,7 +27,7 @@ unfolding IsConstantPair
 returns-in-Some c =
     let m = c.args.model.now in
     let e = sym (c.requires.period.1.given c.args.cell c.requires.cell) ∙ sym c.in-Some.ensures in
-    subst (λ (o : Option Given). IsGivenOrKept m c.args.at c.args.cell o c.between.result.low c.between.result.high) (sym e) (c.args.part.lo, c.args.part.hi, c.requires.part.is, c.between.ensures)
+    subst (λ (o : Option Given). IsGivenOrKept m c.args.at c.args.cell o c.given_bounds.result.low c.given_bounds.result.high) (sym e) (c.args.part.lo, c.args.part.hi, c.requires.part.is, c.given_bounds.ensures)
 
 pub returns-in-None : goal.returns-in-None
 unfolding IsConstantPair

@@ -1,14 +1,28 @@
-use Rattle.std.proofs.Common.{arith}
-use Rattle.problem_builder.specs.Sites.{site_at}
-use Rattle.step_chain.proofs.Filled.{not_free, partly_other, partly_variable, index_small}
+use Rattle.std.proofs.Common.{◌<◌, sym, ap, ◌∙◌, arith}
+use Rattle.model_types.specs.Cells.{cell_count}
+use Rattle.problem_builder.proofs.KindsOf.{variable_kind}
+use Rattle.step_chain.specs.GridHeads.{bound_at}
+use Rattle.step_chain.proofs.Filled.{kind_variable, partly_at_first, partly_other, partly_variable, all_filled}
 use Rattle.step_chain.proofs.heads.fill_in.Goals as goal
 use Rattle.step_chain.proofs.heads.fill_in.Goals.{in-Variable, in_default}
 
-pub overflow_add-index : goal.overflow_add-index
-overflow_add-index c = omega (arith, index_small c.args.sites.now c.args.bounds.now c.loop-c.heads c.loop-c.c c.loop-c.index c.loop-c.invariant, c.loop-c-test.true, c.loop-c.auto.c-end)
+pub loop-cell-init : goal.loop-cell-init
+loop-cell-init c = partly_at_first c.args.model.now c.args.at c.args.bounds.now c.args.constant_heads c.requires.constant
 
-pub loop-c-preserved : goal.loop-c-preserved
-loop-c-preserved c = elim c.match-sites-c.branch [
-  | in-Variable w ↦ rw (w.heads-is, w.index-is) (partly_variable c.args.sites.now c.args.bounds.now c.loop-c.heads c.loop-c.c c.loop-c.index w.bound_at.result c.loop-c-test.true w.in-Variable.is w.bound_at.ensures c.loop-c.invariant)
-  | in_default w ↦ rw (w.heads-is, w.index-is) (partly_other c.args.sites.now c.args.bounds.now c.loop-c.heads c.loop-c.c c.loop-c.index c.loop-c-test.true (not_free (site_at c.args.sites.now c.loop-c.c) w.in_default.not-Variable) c.loop-c.invariant)
-]
+pub set-requires : goal.set-requires
+set-requires c = record { place = omega (arith, c.loop-cell.invariant.whole, c.loop-cell-test.true, c.cell_count-count.ensures.count) }
+
+pub loop-cell-preserved : goal.loop-cell-preserved
+loop-cell-preserved c =
+    let m = c.args.model.now in
+    let cell = c.loop-cell.cell in
+    let within : cell < cell_count m.grid = omega (arith, c.loop-cell-test.true, c.cell_count-count.ensures.count) in
+    let kind = c.kind_at.ensures ∙ c.requires.period.1.kind cell within in
+    elim c.match-kind_at.branch [
+      | in-Variable w ↦ rw (w.heads-is, w.set.ensures) (partly_variable m c.args.at c.args.bounds.now c.loop-cell.heads cell w.bound_at.result within (variable_kind m c.args.at.period cell (sym kind ∙ w.in-Variable.is))
+          (w.bound_at.ensures ∙ ap (bound_at c.args.bounds.now) (w.index_at.ensures ∙ c.requires.period.1.index cell within)) c.loop-cell.invariant)
+      | in_default w ↦ rw w.heads-is (partly_other m c.args.at c.args.bounds.now c.loop-cell.heads cell (λ v. w.in_default.not-Variable (kind ∙ kind_variable m c.args.at.period cell v)) c.loop-cell.invariant)
+    ]
+
+pub returns : goal.returns
+returns c = all_filled c.args.model.now c.args.at c.args.bounds.now c.loop-cell.heads c.loop-cell.cell (omega (arith, c.loop-cell-test.false, c.cell_count-count.ensures.count)) c.loop-cell.invariant

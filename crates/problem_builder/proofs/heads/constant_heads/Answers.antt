@@ -1,0 +1,10 @@
+use Rattle.step_problem.specs.Heads.{no_bound}
+use Rattle.problem_builder.specs.ConstantHeads.{HasConstantHead}
+use Rattle.problem_builder.proofs.Filling.{none_filled, next_filled}
+use Rattle.problem_builder.proofs.heads.constant_heads.Goals as goal
+
+pub loop-cell-init : goal.loop-cell-init
+loop-cell-init c = none_filled (HasConstantHead c.args.model.now c.args.at) no_bound _ c.new-bounds.ensures.items
+
+pub loop-cell-preserved : goal.loop-cell-preserved
+loop-cell-preserved c = next_filled (HasConstantHead c.args.model.now c.args.at) no_bound c.loop-cell.cell c.loop-cell.bounds.items _ _ c.in_ok-push.ensures.items c.head_of.ensures c.loop-cell.invariant

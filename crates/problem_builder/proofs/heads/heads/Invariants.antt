@@ -1,7 +1,0 @@
-use Rattle.step_problem.specs.Heads.{no_bound}
-use Rattle.problem_builder.specs.Filled.{Filled}
-use Rattle.problem_builder.specs.StepTables.{HasHead}
-use Rattle.problem_builder.proofs.heads.heads.Given as goal
-
-abbrev pub invariant-loop-cell : goal.invariant-loop-cell
-invariant-loop-cell l = Filled (HasHead l.model l.at) no_bound l.cell l.bounds.items

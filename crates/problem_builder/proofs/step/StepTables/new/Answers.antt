@@ -1,0 +1,20 @@
+use Rattle.step_problem.specs.Heads.{no_bound}
+use Rattle.model_types.specs.Cells.{cell_count}
+use Rattle.problem_builder.specs.ConstantHeads.{HasConstantHead}
+use Rattle.problem_builder.proofs.PeriodMade.{filled_as}
+use Rattle.problem_builder.proofs.TimesOf.{time_of}
+use Rattle.problem_builder.proofs.step.StepTables.new.Goals as goal
+
+pub constant_heads-requires-clause-time : goal.constant_heads-requires-clause-time
+constant_heads-requires-clause-time c = time_of c.args.model.now c.args.at c.requires.model c.requires.time
+
+pub factors_of-requires-clause-time : goal.factors_of-requires-clause-time
+factors_of-requires-clause-time c = time_of c.args.model.now c.args.at c.requires.model c.requires.time
+
+pub returns : goal.returns
+returns c =
+    let m = c.args.model.now in
+    record {
+      factors = c.factors_of.ensures;
+      heads = filled_as (HasConstantHead m c.args.at) no_bound (cell_count m.grid) _ _ c.new.ensures c.in_ok-heads.ensures;
+    }
