@@ -179,7 +179,7 @@ module _ (ps : List Period) (c : ℕ) where
 kept_after : (m : FlowModel) (p c : ℕ) (x : Given) → given_in (period_at m p).stresses.given c ≡ Some x → (q n : ℕ) → 1 ≤ p → p ≤ length m.periods → p < q → ((r : ℕ) → p < r → r ≤ q → given_in (period_at m r).stresses.given c ≡ None) → Same (constant_head m q n c) (number x.ehead)
 unfolding constant_head
 kept_after m p c x e q n first within later none =
-    let last : last_given (take (suc (q - 2)) m.periods) c ≡ Some x = lasting m.periods c (p - 1) (q - 2) x e (omega (arith, first, within)) (omega (arith, later)) (λ r lt le. subst (λ (j : ℕ). given_in (get_or m.periods j no_period).given c ≡ None) (omega (arith, lt)) (none (suc r) (omega (arith, lt, first)) (omega (arith, le, later, first)))) in
+    let last : last_given (take (suc (q - 2)) m.periods) c ≡ Some x = lasting m.periods c (p - 1) (q - 2) x e (omega (arith, first, within)) (omega (arith, later)) (λ r lt le. subst (λ (j : ℕ). given_in (get_or m.periods j no_period).stresses.given c ≡ None) (omega (arith, lt)) (none (suc r) (omega (arith, lt, first)) (omega (arith, le, later, first)))) in
     let before : suc (q - 2) ≡ q - 1 = omega (arith, later, first) in
     let is : constant_head m q n c ≡ number x.ehead = ap (λ o. head_or_kept m q n o c) (none q later (omega arith)) ∙ ap (λ o. kept_head m o c) (ap (λ k. last_given (take k m.periods) c) (sym before) ∙ last) in
     subst (λ (f : Fraction). Same f (number x.ehead)) (sym is) (record { same = refl })
