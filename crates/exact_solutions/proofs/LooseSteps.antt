@@ -183,7 +183,6 @@ module _ (e : List ExactCell) (inside : ℕ → Bool) (linked : AreLinked e) (lo
           (le-trans _ _ _ (flows_at_most_deep (whole_at w c) (Y c -ℤ pos 1) Y (no_fixed c i t) (no_evaps c i t)) (deep_reached c (omega (arith, i, same_length)) t))
           (whole_falls (without_links (whole_at w c)) (Y c -ℤ pos 1) (Y c) Y (lower (Y c)))
         where
-
           lower : (y : ℤ) → (y -ℤ pos 1) ≤ℤ y
           lower y = omega (arith, ints)
 

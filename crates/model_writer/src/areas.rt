@@ -51,7 +51,12 @@ fn push_recharge(bytes: &mut Vec<u8>, model: &FlowModel, period: &Period) -> Res
 {
     let grid = &model.grid;
     bytes.extend_from_slice(b"1 1\n")?;
-    push_array(bytes, grid.rows, grid.cols, period.stresses.recharge.as_slice())?;
+    push_array(
+        bytes,
+        grid.rows,
+        grid.cols,
+        period.stresses.recharge.as_slice(),
+    )?;
     push_layers_if_two(bytes, model.nrchop, grid, period.stresses.irch.as_slice())
 }
 

@@ -83,8 +83,17 @@ fn evaporates(model: &FlowModel, number: u32, highest: bool, cell: u32) -> bool
     ensures { result ≡ evaporates model.now number cell }
 {
     let period = stress_period(model, number);
-    let chosen = is_chosen(model, model.nevtop, period.stresses.ievt.as_slice(), highest, cell);
-    let rate = dec_at(period.stresses.evtr.as_slice(), cell % model.grid.layer_size());
+    let chosen = is_chosen(
+        model,
+        model.nevtop,
+        period.stresses.ievt.as_slice(),
+        highest,
+        cell,
+    );
+    let rate = dec_at(
+        period.stresses.evtr.as_slice(),
+        cell % model.grid.layer_size(),
+    );
     chosen && rate.digits != 0
 }
 

@@ -40,8 +40,17 @@ fn rate_of(model: &FlowModel, number: u32, highest: bool, cell: u32) -> Option<D
     ensures decimal { IfSome result IsDec }
 {
     let period = stress_period(model, number);
-    if is_chosen(model, model.nrchop, period.stresses.irch.as_slice(), highest, cell) {
-        Some(dec_at(period.stresses.recharge.as_slice(), cell % model.grid.layer_size()))
+    if is_chosen(
+        model,
+        model.nrchop,
+        period.stresses.irch.as_slice(),
+        highest,
+        cell,
+    ) {
+        Some(dec_at(
+            period.stresses.recharge.as_slice(),
+            cell % model.grid.layer_size(),
+        ))
     } else {
         None
     }
