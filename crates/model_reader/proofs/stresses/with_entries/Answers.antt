@@ -5,6 +5,12 @@ use Rattle.model_reader.proofs.Chains.{both_read, goes_on, stops_here}
 use Rattle.name_file.proofs.Forward.{names_still}
 use Rattle.model_reader.proofs.stresses.with_entries.Goals as goal
 
+pub returns-in_err-with_wells-clause-model : goal.returns-in_err-with_wells-clause-model
+unfolding with_entries
+returns-in_err-with_wells-clause-model g c = λ files agree.
+    let p = err_from_is_err_and c.from_residual.result c.from_residual.ensures.1 in
+    rw (p.1, p.2) (stops_here c.in_err-with_wells.field-0.0 _ _ (c.in_err-with_wells.ensures.model files agree))
+
 pub returns-in_err-with_rivers-clause-model : goal.returns-in_err-with_rivers-clause-model
 unfolding with_entries
 returns-in_err-with_rivers-clause-model g c = λ files agree.
