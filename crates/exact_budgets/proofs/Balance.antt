@@ -1,5 +1,5 @@
 -- The budget of a solution is balanced: over all cells the flows over links cancel, and each cell's balance is zero.
-use Rattle.std.proofs.Common.{◌≡◌, ℕ, zero, suc, ◌*◌, ◌<◌, refl, sym, ap, ◌∙◌, subst, arith, ℤ, pos, ◌+ℤ◌, ◌-ℤ◌, ◌*ℤ◌, List, [], ◌∷◌, length, All, true}
+use Rattle.std.proofs.Common.{◌≡◌, ℕ, zero, suc, ◌*◌, ◌<◌, refl, sym, ap, ◌∙◌, subst, arith, ℤ, pos, ◌+ℤ◌, ◌-ℤ◌, ◌*ℤ◌, List, [], ◌∷◌, length, All, true, mul-pos}
 use Rattle.std.specs.List.{AllZip}
 use Rattle.std.proofs.lemmas.Int.{ints}
 use Rattle.std.proofs.lemmas.List.Elements.{All-from_get_or}
@@ -15,7 +15,7 @@ use Rattle.cell_balance.specs.Solutions.{share, SolvesStep}
 use Rattle.cell_balance.proofs.Zips.{AllZip-at, AllZip-length}
 use Rattle.cell_balance.proofs.Scaling.{IsOver-plus, IsOver-minus, IsOver-none, IsOver-total, zero_over, over_zero}
 use Rattle.cell_balance.proofs.Over.{LinkOver, CellOver, link_over}
-use Rattle.cell_balance.proofs.Denominators.{step_common, some_product}
+use Rattle.cell_balance.proofs.Denominators.{step_common}
 use Rattle.cell_balance.proofs.Wholes.{whole_step}
 use Rattle.cell_balance.proofs.Whole.{WholeCell, whole_at, no_whole, whole_link}
 use Rattle.cell_balance.proofs.Encloses.{whole_solves}
@@ -147,7 +147,7 @@ module _ (e : List ExactCell) (d : ℕ) (X : ℕ → ℤ) (linked : AreLinked e)
   terms_over =
       let (n, some_n, common) = step_common e in
       let (w, over) = whole_step n 1 d e common in
-      whole_terms (n * 1) (n * d) w over (λ c. X c *ℤ pos n) (λ c. heads_over n d some (X c)) (some_product (n * 1) (n * d) (omega arith) (some_product n d some_n some))
+      whole_terms (n * 1) (n * d) w over (λ c. X c *ℤ pos n) (λ c. heads_over n d some (X c)) (mul-pos {n * 1} {n * d} (omega arith) (mul-pos some_n some))
 
 pub net_over : (e : List ExactCell) (h : ℕ → Fraction) (o : TermsOver e h) (t : Term) → IsOver o.D (net_flow e h t) (o.into t -ℤ o.out t)
 net_over e h o t = IsOver-minus o.D _ _ _ _ (o.are_in t) (o.are_out t)
