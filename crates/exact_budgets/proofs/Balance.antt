@@ -147,7 +147,7 @@ module _ (e : List ExactCell) (d : ℕ) (X : ℕ → ℤ) (linked : AreLinked e)
   terms_over =
       let (n, some_n, common) = step_common e in
       let (w, over) = whole_step n 1 d e common in
-      whole_terms (n * 1) (n * d) w over (λ c. X c *ℤ pos n) (λ c. heads_over n d some (X c)) (mul-pos {n * 1} {n * d} (omega arith) (mul-pos some_n some))
+      whole_terms (n * 1) (n * d) w over (λ c. X c *ℤ pos n) (λ c. heads_over n d some (X c)) (mul-pos {m = n * 1} {n = n * d} (omega arith) (mul-pos some_n some))
 
 pub net_over : (e : List ExactCell) (h : ℕ → Fraction) (o : TermsOver e h) (t : Term) → IsOver o.D (net_flow e h t) (o.into t -ℤ o.out t)
 net_over e h o t = IsOver-minus o.D _ _ _ _ (o.are_in t) (o.are_out t)
