@@ -5,12 +5,16 @@ use native.Mathlib.Decide.{ℕ_discrete}
 use Rattle.step_problem.specs.Entries.{Entries}
 use Rattle.step_problem.specs.declared.heads.Bound.{Bound}
 use Rattle.step_problem.specs.declared.heads.Side.{Side}
+use Rattle.step_problem.specs.declared.heads.Side.TheVariants.{Low, High}
+use Rattle.step_problem.specs.Conditions.{IsHead}
 use Rattle.cell_relax.specs.Sides.{other}
-use Rattle.cell_relax.specs.Words.{heads_on}
+use Rattle.cell_relax.specs.Words.{heads_on, AreWords}
 use Rattle.cell_relax.proofs.Sides.{each_side}
 use Rattle.relax_core.specs.Core.{with_head}
 use Rattle.head_table.specs.declared.table.HeadSeat.{HeadSeat}
+use Rattle.head_table.specs.declared.table.HeadTable.{HeadTable}
 use Rattle.head_table.specs.Seats.{seen_on, SameOn, SameOnBut, ShowsSeen}
+use Rattle.problem_tests.specs.Actors.{IsShown}
 use Rattle.head_table.proofs.WordReads.{seen_here, seen_else, other_seen}
 
 pub shows_head : (side : Side) (p : List Entries) (s t : HeadSeat) (bs : List Bound) (i : ℕ) (z : ℤ) → i < length bs → seen_on side t i ≡ z → SameOnBut side i s t → SameOn (other side) s t → ShowsSeen p s bs → ShowsSeen p t (with_head side bs i z)
@@ -19,3 +23,10 @@ shows_head side p s t bs i z inside here others opposite shown = each_side side 
     (λ e. subst (λ (k : ℕ). heads_on side (with_head side bs i z) k ≡ seen_on side t k) (sym e) (seen_here side bs i z inside ∙ sym here))
     (λ ne. seen_else side bs i z c ne ∙ (shown side c h ∙ sym (others c ne))))
     (λ c h. other_seen side bs i z inside c ∙ (shown (other side) c h ∙ sym (opposite c)))
+
+-- bounds that show what a seat has seen are in range
+pub shown_words : (t : HeadTable) (s : HeadSeat) (bounds : List Bound) → IsShown t s bounds → AreWords t.problem.now bounds
+shown_words t s bounds shown = record { whole = shown.whole; low = in_range Low; high = in_range High }
+  where
+    in_range : (side : Side) (c : ℕ) → c < length t.problem.now → IsHead (heads_on side bounds c)
+    in_range side c h = subst IsHead (sym (shown.shown side c h)) (s.sound.heads side c (subst (λ (p : List Entries). c < length p) (sym shown.seat.problem) h))

@@ -7,10 +7,14 @@ use Rattle.step_problem.specs.Entries.{Entries}
 use Rattle.step_problem.specs.Conditions.{IsProblem}
 use Rattle.step_problem.specs.Heads.{lower_at, IsRaise}
 use Rattle.step_problem.proofs.BothSides.{low_side}
+use Rattle.cell_relax.specs.Words.{AreWords}
 use Rattle.head_table.specs.Seats.{seen_on}
 use Rattle.problem_tests.proofs.Shown.{same_relaxed}
-use Rattle.problem_tests.proofs.Showing.{shows_head}
+use Rattle.problem_tests.proofs.Showing.{shows_head, shown_words}
 use Rattle.problem_tests.proofs.exchanges.raise.Goals as goal
+
+pub raise_in-to-requires-clause-words : goal.raise_in-to-requires-clause-words
+raise_in-to-requires-clause-words c = subst (λ (ps : List Entries). AreWords ps c.args.shown.now) (sym c.problem-problem.ensures) (shown_words c.args.table.now c.args.seat.now c.args.shown.now c.requires.shown)
 
 pub raise-found-requires-clause-to : goal.raise-found-requires-clause-to
 raise-found-requires-clause-to c =

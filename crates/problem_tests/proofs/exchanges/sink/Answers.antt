@@ -7,10 +7,14 @@ use Rattle.step_problem.specs.Entries.{Entries}
 use Rattle.step_problem.specs.Conditions.{IsProblem}
 use Rattle.step_problem.specs.Heads.{upper_at, IsSink}
 use Rattle.step_problem.proofs.BothSides.{high_side}
+use Rattle.cell_relax.specs.Words.{AreWords}
 use Rattle.head_table.specs.Seats.{seen_on}
 use Rattle.problem_tests.proofs.Shown.{same_relaxed}
-use Rattle.problem_tests.proofs.Showing.{shows_head}
+use Rattle.problem_tests.proofs.Showing.{shows_head, shown_words}
 use Rattle.problem_tests.proofs.exchanges.sink.Goals as goal
+
+pub sink_in-to-requires-clause-words : goal.sink_in-to-requires-clause-words
+sink_in-to-requires-clause-words c = subst (λ (ps : List Entries). AreWords ps c.args.shown.now) (sym c.problem-problem.ensures) (shown_words c.args.table.now c.args.seat.now c.args.shown.now c.requires.shown)
 
 pub sink-found-requires-clause-to : goal.sink-found-requires-clause-to
 sink-found-requires-clause-to c =
