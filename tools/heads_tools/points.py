@@ -111,7 +111,7 @@ def along(widths: np.ndarray, distance: float) -> tuple[int, Fraction]:
 
 class Hob:
     """The lines of a HOB file, one after another. In each form of observation what was measured is a head, also with
-    ITT 2, which tells MODFLOW to compare changes."""
+    ITT 2, by which MODFLOW compares changes."""
 
     def __init__(self, points: Points, lines: list[tuple[int, str]]):
         self.points, self.lines, self.at = points, lines, 0
