@@ -15,10 +15,11 @@ use Rattle.model_types.specs.Cells.{layer_size}
 use Rattle.model_types.specs.Grids.{HasSize}
 use Rattle.model_types.specs.Layers.{int_at}
 use Rattle.model_types.specs.Receivers.{is_int}
-use Rattle.period_arrays.specs.Flags.{flag_at, is_option, option_at}
+use Rattle.array_reader.specs.Arrays.{real_layer}
+use Rattle.period_arrays.specs.Areas.{array_or}
+use Rattle.period_arrays.specs.Flags.{flag_at, flag_if, is_option, option_at}
 use Rattle.period_arrays.specs.Forms.{IsReals, IsWhole}
 use Rattle.period_arrays.specs.Layers.{is_layer, layer_step, layers_tested, layers_at}
-use Rattle.period_arrays.specs.Updates.{updated_reals, updated_layers, or_empty}
 use Rattle.array_text.specs.Words.{IsShort, IsWord, integer_word}
 use Rattle.array_text.specs.Lines.{Line, IsLine, number_after, unread}
 use Rattle.array_text.specs.Arrays.{real_array, integer_array}
@@ -71,22 +72,13 @@ pub option_is_line : (z : ℤ) → is_option z ≡ true → IsLine (integer_word
 option_is_line z h =
     record { some = omega arith; words = All-from_recursion (λ w. IsWord w) (integer_word z ∷ codes "0" ∷ []) (integer_is_word z (option_is_short z h), (word_by_test (codes "0") refl, tt)) }
 
--- the layers in force, which a period has under option 2
-abbrev pub layers_now : ℤ → List ℤ → Option (List ℤ)
-layers_now option xs = if is_int option 2 then Some xs else None
-
 abbrev pub layers_lines : Grid → ℤ → List ℤ → List Line
 layers_lines g option xs = if is_int option 2 then integer_array g.rows g.cols xs else []
 
-pub layers_in_force : (g : Grid) (option : ℤ) (xs : List ℤ) → IsLayers g option xs → or_empty (layers_now option xs) ≡ xs
-layers_in_force g option xs h = by_case (is_int option 2) h.none
-  where
-    by_case : (b : Bool) → (b ≡ false → xs ≡ []) → or_empty (if b then Some xs else None) ≡ xs
-    by_case true none = refl
-    by_case false none = sym (none refl)
-
-pub no_layers_now : (option : ℤ) (xs : List ℤ) → is_int option 2 ≡ false → layers_now option xs ≡ None
-no_layers_now option xs h = rw h refl
+-- a flag that the file has only where it has the array
+pub flag_if_reads : (file : List ℕ) (line : ℕ) (present listed : Bool) → flag_if present file line listed (codes "1" ∷ []) ≡ Ok (present, if present then [] else codes "1" ∷ [])
+flag_if_reads file line true listed = flag_reads file line listed []
+flag_if_reads file line false listed = refl
 
 pub layers_are_lines : (g : Grid) (option : ℤ) (xs : List ℤ) → HasSize g → IsLayers g option xs → AreLines (layers_lines g option xs)
 layers_are_lines g option xs size h = by_case (is_int option 2) h.whole
@@ -99,10 +91,9 @@ pub reals_are_lines : (g : Grid) (xs : List Dec) → HasSize g → IsReals g xs 
 reals_are_lines g xs size h = record { all = are_lines.layers g.rows g.cols xs size.cols.0 h.0 h.1 }
 
 module _ (files : List File) (file : List ℕ) (g : Grid) (size : HasSize g) where
-  pub reals_read : (xs : List Dec) → IsReals g xs → (last : Option (List Dec)) (n : ℕ) (others : List Line)
-      → updated_reals files file g true last (unread n (real_array g.rows g.cols xs ++ others)) ≡ Ok (Some xs, unread (number_after n (real_array g.rows g.cols xs)) others)
-  unfolding updated_reals
-  reals_read xs h last n others = rw ((arrays.layers files file g.rows g.cols xs size.cols.0 h.0 h.1).reads n others) refl
+  pub reals_read : (xs : List Dec) → IsReals g xs → (last : List Dec) (n : ℕ) (others : List Line)
+      → array_or (real_layer files file g.rows g.cols) true last (unread n (real_array g.rows g.cols xs ++ others)) ≡ Ok (xs, unread (number_after n (real_array g.rows g.cols xs)) others)
+  reals_read xs h last n others = (arrays.layers files file g.rows g.cols xs size.cols.0 h.0 h.1).reads n others
 
   tests_pass : (xs : List ℤ) → ((i : ℕ) → i < layer_size g → is_layer g (int_at xs i) ≡ true) → (count i : ℕ) → i + count ≡ layer_size g → counted (layer_step file g xs) i count tt ≡ Ok tt
   unfolding counted
@@ -122,14 +113,15 @@ module _ (files : List File) (file : List ℕ) (g : Grid) (size : HasSize g) whe
   unfolding layers_at
   layers_anew xs whole short good n others = rw ((arrays.integer_layers files file g.rows g.cols xs size.cols.0 whole short).reads n others, layers_pass xs good) refl
 
-  layers_by : (b : Bool) (xs : List ℤ) → (b ≡ true → IsWhole g xs) → All (λ z. IsShort z) xs → (b ≡ true → (i : ℕ) → i < layer_size g → is_layer g (int_at xs i) ≡ true)
-      → (last : Option (List ℤ)) → (b ≡ false → last ≡ None) → (n : ℕ) (others : List Line)
-      → updated_layers files file g b last (unread n ((if b then integer_array g.rows g.cols xs else []) ++ others))
-      ≡ Ok (if b then Some xs else None, unread (number_after n (if b then integer_array g.rows g.cols xs else [])) others)
-  unfolding updated_layers number_after
-  layers_by true xs whole short good last none n others = rw (layers_anew xs (whole refl) short (good refl) n others) refl
-  layers_by false xs whole short good last none n others = rw (none refl) refl
+  layers_by : (b : Bool) (xs : List ℤ) → (b ≡ false → xs ≡ []) → (b ≡ true → IsWhole g xs) → All (λ z. IsShort z) xs → (b ≡ true → (i : ℕ) → i < layer_size g → is_layer g (int_at xs i) ≡ true)
+      → (last : List ℤ) → (b ≡ false → last ≡ []) → (n : ℕ) (others : List Line)
+      → array_or (layers_at files file g) b last (unread n ((if b then integer_array g.rows g.cols xs else []) ++ others))
+      ≡ Ok (xs, unread (number_after n (if b then integer_array g.rows g.cols xs else [])) others)
+  unfolding number_after
+  layers_by true xs empty whole short good last none n others = layers_anew xs (whole refl) short (good refl) n others
+  layers_by false xs empty whole short good last none n others = rw (none refl, empty refl) refl
 
-  pub layers_read : (option : ℤ) (xs : List ℤ) → IsLayers g option xs → (last : Option (List ℤ)) → (is_int option 2 ≡ false → last ≡ None) → (n : ℕ) (others : List Line)
-      → updated_layers files file g (is_int option 2) last (unread n (layers_lines g option xs ++ others)) ≡ Ok (layers_now option xs, unread (number_after n (layers_lines g option xs)) others)
-  layers_read option xs h last none n others = layers_by (is_int option 2) xs h.whole h.short h.layers last none n others
+  -- an array of layers, which a period has under option 2
+  pub layers_read : (option : ℤ) (xs : List ℤ) → IsLayers g option xs → (last : List ℤ) → (is_int option 2 ≡ false → last ≡ []) → (n : ℕ) (others : List Line)
+      → array_or (layers_at files file g) (is_int option 2) last (unread n (layers_lines g option xs ++ others)) ≡ Ok (xs, unread (number_after n (layers_lines g option xs)) others)
+  layers_read option xs h last none n others = layers_by (is_int option 2) xs h.none h.whole h.short h.layers last none n others

@@ -15,10 +15,13 @@ use Rattle.model_types.specs.Cells.{layer_size}
 use Rattle.model_types.specs.Grids.{HasSize}
 use Rattle.model_types.specs.Receivers.{is_int}
 use Rattle.list_package.specs.Headers.{item_line}
+use Rattle.period_arrays.specs.Areas.{area_at, arrays_of, nothing_yet}
+use Rattle.period_arrays.specs.Flags.{flags_of}
 use Rattle.period_arrays.specs.Forms.{IsReals}
+use Rattle.period_arrays.specs.declared.area.Area.{Area}
+use Rattle.period_arrays.specs.declared.area.InForce.{InForce}
 use Rattle.evt_package.specs.Columns.{chosen, column_tested, column_step, columns_tested}
-use Rattle.evt_package.specs.Evaporation.{layer_flag, flags_of, arrays_of, arrays_at, tested_period, period_at, periods_of, option_line, evaporation_of, evt_of}
-use Rattle.evt_package.specs.declared.arrays.Last.{Last}
+use Rattle.evt_package.specs.Evaporation.{contents, tested_period, period_at, periods_of, option_line, evaporation_of, evt_of}
 use Rattle.array_text.specs.Words.{integer_word}
 use Rattle.array_text.specs.Lines.{Line, IsLine, line_text, text, number_after, unread}
 use Rattle.array_text.specs.Arrays.{real_array}
@@ -29,7 +32,7 @@ use Rattle.package_text.proofs.CountTexts.{zero_item}
 use Rattle.package_text.proofs.DisTexts.{AreLines, no_lines, one_line, joined, file_begins, line_is_item}
 use Rattle.area_text.specs.Areas.{evt_item_2, evt_items, evt_lines}
 use Rattle.area_text.specs.Readable.{IsLayers, IsEvaporating, evaporated}
-use Rattle.area_text.proofs.AreaTexts.{flag_reads, option_reads, option_is_short, option_is_item, option_is_line, layers_now, layers_lines, layers_in_force, no_layers_now, layers_are_lines, reals_are_lines, reals_read, layers_read}
+use Rattle.area_text.proofs.AreaTexts.{flag_reads, flag_if_reads, option_reads, option_is_short, option_is_item, option_is_line, layers_lines, layers_are_lines, reals_are_lines, reals_read, layers_read}
 
 abbrev flags : Line
 flags = codes "1" ∷ codes "1" ∷ codes "1" ∷ codes "1" ∷ []
@@ -37,18 +40,14 @@ flags = codes "1" ∷ codes "1" ∷ codes "1" ∷ codes "1" ∷ []
 flags_are_line : IsLine flags
 flags_are_line = line_by_test flags refl
 
-layer_flag_reads : (file : List ℕ) (line : ℕ) (layered listed : Bool) → layer_flag layered file line listed (codes "1" ∷ []) ≡ Ok (layered, if layered then [] else codes "1" ∷ [])
-layer_flag_reads file line true listed = flag_reads file line listed []
-layer_flag_reads file line false listed = refl
-
-flags_read : (file : List ℕ) (line : ℕ) (layered : Bool) (last : Last) → flags_of layered file line last flags ≡ Ok (record { surface = true; rate = true; depth = true; layer = layered })
+flags_read : (file : List ℕ) (line : ℕ) (option : ℤ) (listed : Bool) → flags_of (contents option) file line listed flags ≡ Ok (record { surface = true; rate = true; depth = true; layer = is_int option 2 })
 unfolding flags_of
-flags_read file line layered last =
+flags_read file line option listed =
     rw (
-      flag_reads file line (is_some last.surfaces) (codes "1" ∷ codes "1" ∷ codes "1" ∷ []),
-      flag_reads file line (is_some last.rates) (codes "1" ∷ codes "1" ∷ []),
-      flag_reads file line (is_some last.depths) (codes "1" ∷ []),
-      layer_flag_reads file line layered (is_some last.layers),
+      flag_reads file line listed (codes "1" ∷ codes "1" ∷ codes "1" ∷ []),
+      flag_reads file line listed (codes "1" ∷ codes "1" ∷ []),
+      flag_reads file line listed (codes "1" ∷ []),
+      flag_if_reads file line (is_int option 2) listed,
     ) refl
 
 -- a period with the evapotranspiration of another one
@@ -95,12 +94,15 @@ all_writable : (file : List ℕ) (m : FlowModel) → IsEvaporating m → All (λ
 all_writable file m h = λ k d lt. record { surf = h.surf k d lt; evtr = h.evtr k d lt; exdp = h.exdp k d lt; ievt = h.ievt k d lt; passed = h.passed file k d lt }
 
 module _ (files : List File) (file : List ℕ) (m : FlowModel) (size : HasSize m.grid) (h : IsEvaporating m) where
-  abbrev now : Period → Last
-  now p = record { surfaces = Some p.stresses.surf; rates = Some p.stresses.evtr; depths = Some p.stresses.exdp; layers = layers_now m.nevtop p.stresses.ievt }
+  abbrev area_of : Period → Area
+  area_of p = record { surfaces = p.stresses.surf; rates = p.stresses.evtr; depths = p.stresses.exdp; layers = p.stresses.ievt }
+
+  abbrev now : Period → InForce
+  now p = record { listed = true; area = area_of p }
 
   -- there is an array of layers only under option 2
-  abbrev HasNone : Last → Type 0
-  HasNone last = is_int m.nevtop 2 ≡ false → last.layers ≡ None
+  abbrev HasNone : InForce → Type 0
+  HasNone last = is_int m.nevtop 2 ≡ false → last.area.layers ≡ []
 
   abbrev surfaces_of : Period → List Line
   surfaces_of p = real_array m.grid.rows m.grid.cols p.stresses.surf
@@ -114,42 +116,41 @@ module _ (files : List File) (file : List ℕ) (m : FlowModel) (size : HasSize m
   abbrev layers_of : Period → List Line
   layers_of p = layers_lines m.grid m.nevtop p.stresses.ievt
 
-  arrays_are_read : (p : Period) → IsWritable file m p → (last : Last) → HasNone last → (n : ℕ) (others : List Line)
+  arrays_are_read : (p : Period) → IsWritable file m p → (last : InForce) → HasNone last → (n : ℕ) (others : List Line)
       → arrays_of files file m.grid (record { surface = true; rate = true; depth = true; layer = is_int m.nevtop 2 })
-      (last, unread n (surfaces_of p ++ (rates_of p ++ (depths_of p ++ (layers_of p ++ others)))))
-      ≡ Ok (now p, unread (number_after (number_after (number_after (number_after n (surfaces_of p)) (rates_of p)) (depths_of p)) (layers_of p)) others)
+      last.area (unread n (surfaces_of p ++ (rates_of p ++ (depths_of p ++ (layers_of p ++ others)))))
+      ≡ Ok (area_of p, unread (number_after (number_after (number_after (number_after n (surfaces_of p)) (rates_of p)) (depths_of p)) (layers_of p)) others)
   unfolding arrays_of
   arrays_are_read p good last none n others =
       let second = number_after n (surfaces_of p) in
       let third = number_after second (rates_of p) in
       let fourth = number_after third (depths_of p) in
       rw (
-        reals_read files file m.grid size p.stresses.surf good.surf last.surfaces n (rates_of p ++ (depths_of p ++ (layers_of p ++ others))),
-        reals_read files file m.grid size p.stresses.evtr good.evtr last.rates second (depths_of p ++ (layers_of p ++ others)),
-        reals_read files file m.grid size p.stresses.exdp good.exdp last.depths third (layers_of p ++ others),
-        layers_read files file m.grid size m.nevtop p.stresses.ievt good.ievt last.layers none fourth others,
+        reals_read files file m.grid size p.stresses.surf good.surf last.area.surfaces n (rates_of p ++ (depths_of p ++ (layers_of p ++ others))),
+        reals_read files file m.grid size p.stresses.evtr good.evtr last.area.rates second (depths_of p ++ (layers_of p ++ others)),
+        reals_read files file m.grid size p.stresses.exdp good.exdp last.area.depths third (layers_of p ++ others),
+        layers_read files file m.grid size m.nevtop p.stresses.ievt good.ievt last.area.layers none fourth others,
       ) refl
 
-  period_reads : (before p : Period) → IsWritable file m p → (last : Last) → HasNone last → (n : ℕ) (others : List Line)
+  period_reads : (before p : Period) → IsWritable file m p → (last : InForce) → HasNone last → (n : ℕ) (others : List Line)
       → period_at files file m.grid m.ibound m.nevtop before (last, unread n (evt_items m p ++ others)) ≡ Ok (with_those before p, (now p, unread (number_after n (evt_items m p)) others))
-  unfolding period_at arrays_at tested_period evt_items number_after
+  unfolding period_at area_at tested_period evt_items number_after
   period_reads before p good last none n others =
       rw (
         next_line file n flags ((surfaces_of p ++ (rates_of p ++ (depths_of p ++ layers_of p))) ++ others),
         line_words flags flags_are_line.words,
-        flags_read file n (is_int m.nevtop 2) last,
+        flags_read file n m.nevtop last.listed,
         after_four (surfaces_of p) (rates_of p) (depths_of p) (layers_of p) others,
         arrays_are_read p good last none (next_number n) others,
-        layers_in_force m.grid m.nevtop p.stresses.ievt good.ievt,
         columns_pass file m.grid m.ibound m.nevtop before p good.passed,
         number_after_four (next_number n) (surfaces_of p) (rates_of p) (depths_of p) (layers_of p),
       ) refl
 
-  abbrev last_after : Last → List Period → Last
+  abbrev last_after : InForce → List Period → InForce
   last_after last [] = last
   last_after last (p ∷ ps) = last_after (now p) ps
 
-  each_reads : (before ps : List Period) → length before ≡ length ps → All (λ p. IsWritable file m p) ps → (last : Last) → HasNone last → (n : ℕ) (others : List Line)
+  each_reads : (before ps : List Period) → length before ≡ length ps → All (λ p. IsWritable file m p) ps → (last : InForce) → HasNone last → (n : ℕ) (others : List Line)
       → for_each (period_at files file m.grid m.ibound m.nevtop) before (last, unread n (flat_map (evt_items m) ps ++ others))
       ≡ Ok (evaporated before ps, (last_after last ps, unread (number_after n (flat_map (evt_items m) ps)) others))
   unfolding for_each number_after
@@ -161,7 +162,7 @@ module _ (files : List File) (file : List ℕ) (m : FlowModel) (size : HasSize m
       rw (
         append_assoc (evt_items m p) tail others,
         period_reads b p (All-head (λ q. IsWritable file m q) p ps good) last none n (tail ++ others),
-        each_reads before ps (omega arith) (All-tail (λ q. IsWritable file m q) p ps good) (now p) (no_layers_now m.nevtop p.stresses.ievt) (number_after n (evt_items m p)) others,
+        each_reads before ps (omega arith) (All-tail (λ q. IsWritable file m q) p ps good) (now p) (All-head (λ q. IsWritable file m q) p ps good).ievt.none (number_after n (evt_items m p)) others,
         number_after-append n (evt_items m p) tail,
       ) refl
 
@@ -208,7 +209,7 @@ module _ (files : List File) (file : List ℕ) (m : FlowModel) (size : HasSize m
       let whole : AreLines (evt_item_2 m ∷ tail) = one_line head_is_line (items_are_lines m.periods good) in
       let start = file_begins (evt_item_2 m) tail whole.all head_is_item in
       let end : tail ++ [] ≡ tail = append-nil tail in
-      let each = rw end at (each_reads before m.periods e good (record { surfaces = None; rates = None; depths = None; layers = None }) (λ f. refl) (next_number 1) []) in
+      let each = rw end at (each_reads before m.periods e good nothing_yet (λ f. refl) (next_number 1) []) in
       rw (start, head_reads 1 tail, each) refl
 
   pub evt_reads : (before : FlowModel) → before.grid ≡ m.grid → before.ibound ≡ m.ibound → length before.periods ≡ length m.periods

@@ -1,5 +1,5 @@
 -- What is known of evapotranspiration that was read, whatever the folder returned.
-use Rattle.std.specs.Prelude.{◌≡◌, ℕ, ℤ, ◌≤ℤ◌, pos, true, false, List, [], Ok, All, map, length, is_some, IfSome, IsSomeAnd}
+use Rattle.std.specs.Prelude.{◌≡◌, ℕ, ℤ, ◌≤ℤ◌, pos, true, List, [], Ok, All, map, length}
 use Rattle.model_types.specs.declared.grid.Grid.{Grid}
 use Rattle.model_types.specs.declared.model.FlowModel.{FlowModel}
 use Rattle.model_types.specs.declared.period.Period.{Period}
@@ -8,22 +8,6 @@ use Rattle.model_types.specs.Receivers.{is_int}
 use Rattle.model_types.specs.Valid.{IsLayerArray}
 use Rattle.period_arrays.specs.Forms.{IsReals, IsWhole}
 use Rattle.evt_package.specs.Columns.{columns_tested}
-use Rattle.evt_package.specs.declared.flags.Flags.{Flags}
-use Rattle.evt_package.specs.declared.arrays.Last.{Last}
-
--- arrays of one layer
-pub record AreLast (grid : Grid) (last : Last) : Type 0 where
-  pub surfaces : IfSome last.surfaces (IsReals grid)
-  pub rates : IfSome last.rates (IsReals grid)
-  pub depths : IfSome last.depths (IsReals grid)
-  pub layers : IfSome last.layers (IsWhole grid)
-
--- after a period was read by these flags: there is each array that was read anew or existed before
-pub record HasLast (grid : Grid) (flags : Flags) (before after : Last) : Type 0 where
-  pub surfaces : (flags.surface ≡ false → is_some before.surfaces ≡ true) → IsSomeAnd after.surfaces (IsReals grid)
-  pub rates : (flags.rate ≡ false → is_some before.rates ≡ true) → IsSomeAnd after.rates (IsReals grid)
-  pub depths : (flags.depth ≡ false → is_some before.depths ≡ true) → IsSomeAnd after.depths (IsReals grid)
-  pub layers : (flags.layer ≡ false → is_some before.layers ≡ true) → IsSomeAnd after.layers (IsWhole grid)
 
 -- a period's arrays, whose columns passed their tests; there are layers only under option 2
 pub record AreArrays (file : List ℕ) (grid : Grid) (ibound : List ℤ) (option : ℤ) (p : Period) : Type 0 where

@@ -5,34 +5,34 @@ ghost use Rattle.outside.specs.Folders.{ReadsOn};
 ghost use Rattle.record_lines.specs.Asking.{LinesMay};
 ghost use Rattle.record_lines.specs.Reading.{Gives, Has, HasText, for_each};
 ghost use Rattle.model_types.specs.Grids.{HasSize};
-ghost use Rattle.period_arrays.specs.Forms.{IsReals};
+ghost use Rattle.period_arrays.specs.Forms.{IsInForce, IsReals};
 ghost use Rattle.evt_package.specs.Columns.{columns_tested};
-ghost use Rattle.evt_package.specs.Evaporation.{period_at, periods_of, tested_period, with_arrays};
-ghost use Rattle.evt_package.specs.Forms.{AreArrays, AreLast, without};
+ghost use Rattle.evt_package.specs.Evaporation.{contents, period_at, periods_of, tested_period, with_area};
+ghost use Rattle.evt_package.specs.Forms.{AreArrays, without};
 
-use crate::arrays::{Arrays, Last, arrays_at};
 use crate::columns::columns_tested;
 use model_types::{Grid, Period, Stresses};
 use outside::{Folder, InputFault, TextFault};
+use period_arrays::{Area, Contents, InForce, area_at};
 use record_lines::Lines;
 use std::alloc::Global;
 
-fn stresses_with(stresses: Stresses, arrays: Arrays) -> Stresses
-    ensures { result ≡ record stresses { surf = arrays.surf; evtr = arrays.evtr; exdp = arrays.exdp; ievt = arrays.ievt } }
+fn stresses_with(stresses: Stresses, area: Area) -> Stresses
+    ensures { result ≡ record stresses { surf = area.surfaces; evtr = area.rates; exdp = area.depths; ievt = area.layers } }
 {
     Stresses {
-        surf: arrays.surf,
-        evtr: arrays.evtr,
-        exdp: arrays.exdp,
-        ievt: arrays.ievt,
+        surf: area.surfaces,
+        evtr: area.rates,
+        exdp: area.depths,
+        ievt: area.layers,
         ..stresses
     }
 }
 
-fn with_arrays(period: Period, arrays: Arrays) -> Period
-    ensures { result ≡ with_arrays period arrays }
+fn with_area(period: Period, area: Area) -> Period
+    ensures { result ≡ with_area period area }
 {
-    let stresses = stresses_with(period.stresses, arrays);
+    let stresses = stresses_with(period.stresses, area);
     Period { stresses, ..period }
 }
 
@@ -73,23 +73,27 @@ fn period_at<F: Folder>(
     ibound: &[i64],
     option: &i64,
     period: Period,
-    last: &mut Last,
+    before: &mut InForce,
 ) -> Result<Period, InputFault>
     requires size { HasSize grid.now }
-    requires last { AreLast grid.now last.old }
+    requires before { IsInForce (contents option.now) grid.now before.old }
     requires lines { LinesMay (F.may folder.old) lines.old }
     ensures folder { ReadsOn F.Folder folder.old folder.new result }
     ensures lines { IfOk result (λ _. LinesMay (F.may folder.new) lines.new) }
     ensures period { (files : List File) → F.agrees folder.new files →
-        Gives (λ p. p) result (last.new, lines.new)
-        (period_at files file.now grid.now ibound.now option.now period (last.old, lines.old)) }
-    ensures last { IfOk result (λ _. AreLast grid.now last.new) }
+        Gives (λ p. p) result (before.new, lines.new)
+        (period_at files file.now grid.now ibound.now option.now period (before.old, lines.old)) }
+    ensures before { IfOk result (λ _. IsInForce (contents option.now) grid.now before.new) }
     ensures arrays { IfOk result (AreArrays file.now grid.now ibound.now option.now) }
     ensures others { IfOk result (λ p. without p ≡ without period) }
 {
-    match arrays_at(alloc, lines, file, folder, grid, option, last) {
-        Ok(arrays) => {
-            let whole = with_arrays(period, arrays);
+    let contents = Contents {
+        evaporates: true,
+        layered: *option == 2,
+    };
+    match area_at(alloc, lines, file, folder, grid, contents, before) {
+        Ok(area) => {
+            let whole = with_area(period, area);
             Ok(tested_period(alloc, file, grid, ibound, option, whole)?)
         }
         Err(fault) => {
@@ -99,7 +103,7 @@ fn period_at<F: Folder>(
     }
 }
 
-/// The periods with their arrays, where `last` are the arrays in force.
+/// The periods with their arrays, after those `before`.
 fn with_evaporation<F: Folder>(
     alloc: Global,
     lines: &mut Lines,
@@ -109,23 +113,23 @@ fn with_evaporation<F: Folder>(
     ibound: &[i64],
     option: &i64,
     periods: Vec<Period>,
-    last: &mut Last,
+    before: &mut InForce,
 ) -> Result<Vec<Period>, InputFault>
     requires size { HasSize grid.now }
-    requires last { AreLast grid.now last.old }
+    requires before { IsInForce (contents option.now) grid.now before.old }
     requires lines { LinesMay (F.may folder.old) lines.old }
     ensures folder { ReadsOn F.Folder folder.old folder.new result }
     ensures lines { IfOk result (λ _. LinesMay (F.may folder.new) lines.new) }
     ensures periods { (files : List File) → F.agrees folder.new files →
-        Gives (λ v. v.items) result (last.new, lines.new)
-        (for_each (period_at files file.now grid.now ibound.now option.now) periods.items (last.old, lines.old)) }
+        Gives (λ v. v.items) result (before.new, lines.new)
+        (for_each (period_at files file.now grid.now ibound.now option.now) periods.items (before.old, lines.old)) }
     ensures arrays { IfOk result (λ v. All (AreArrays file.now grid.now ibound.now option.now) v.items) }
     ensures others { IfOk result (λ v. map without v.items ≡ map without periods.items) }
 {
     let mut whole = Vec::new(alloc);
     for period in periods {
         let period = period_at(
-            alloc, lines, file, folder, grid, ibound, option, period, last,
+            alloc, lines, file, folder, grid, ibound, option, period, before,
         )?;
         whole.push(period)?;
     }
@@ -153,14 +157,17 @@ pub fn periods_of<F: Folder>(
     ensures arrays { IfOk result (λ v. All (AreArrays file.now grid.now ibound.now option.now) v.items) }
     ensures others { IfOk result (λ v. map without v.items ≡ map without periods.items) }
 {
-    let mut last = Last {
-        surfaces: None,
-        rates: None,
-        depths: None,
-        layers: None,
-    };
+    let mut before = InForce::nothing_yet();
     let periods = with_evaporation(
-        alloc, lines, file, folder, grid, ibound, option, periods, &mut last,
+        alloc,
+        lines,
+        file,
+        folder,
+        grid,
+        ibound,
+        option,
+        periods,
+        &mut before,
     )?;
     Ok(periods)
 }

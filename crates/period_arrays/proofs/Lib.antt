@@ -1,2 +1,2 @@
 pub mod PlaceLemmas
-pub mod UpdateLemmas
+pub mod AreaLemmas

@@ -1,4 +1,4 @@
 pub mod Flags
 pub mod Layers
-pub mod Updates
+pub mod Areas
 pub mod Forms

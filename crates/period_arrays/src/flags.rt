@@ -1,12 +1,31 @@
 // Words of the lines before arrays.
 ghost use Rattle.std.specs.Prelude.{◌≡◌, ◌≤ℤ◌, pos, true, false, IfOk};
-ghost use Rattle.record_lines.specs.Reading.{GivesText};
-ghost use Rattle.period_arrays.specs.Flags.{flag_at, option_at};
+ghost use Rattle.record_lines.specs.Reading.{GivesText, HasText};
+ghost use Rattle.period_arrays.specs.Flags.{flag_at, flag_if, flags_of, option_at};
+ghost use Rattle.period_arrays.specs.Forms.{AreFlags};
 
 use array_reader::integer;
 use outside::{Code, TextFault, refused};
 use record_lines::Words;
 use std::alloc::Global;
+
+/// Which arrays a package's file has for each period, beside its rates.
+#[derive(Clone, Copy)]
+pub struct Contents {
+    /// Surfaces and extinction depths.
+    pub evaporates: bool,
+    /// Layers.
+    pub layered: bool,
+}
+
+/// Which arrays of a period are read anew. The others are those of the period before.
+#[derive(Clone, Copy)]
+pub struct Flags {
+    pub surface: bool,
+    pub rate: bool,
+    pub depth: bool,
+    pub layer: bool,
+}
 
 /// The option that chooses a cell in each column of layers, from 1 to 3; any other is OutOfProfile.
 #[tactic(auto, unfolding(crate::specs::Flags::option_at))]
@@ -38,4 +57,48 @@ pub fn flag_at(
         return Err(refused(alloc, Code::NothingToReuse, file, line));
     }
     Ok(flag >= 0)
+}
+
+/// A flag that a file has only where it has the array.
+fn flag_if(
+    alloc: Global,
+    words: &mut Words,
+    present: bool,
+    file: &str,
+    line: u32,
+    listed: bool,
+) -> Result<bool, TextFault>
+    ensures flag { GivesText (λ b. b) result words.new (flag_if present file.now line listed words.old) }
+    ensures reuse { IfOk result (λ anew. present ≡ true → anew ≡ false → listed ≡ true) }
+{
+    if present {
+        flag_at(alloc, words, file, line, listed)
+    } else {
+        Ok(false)
+    }
+}
+
+/// The flags of a period by the words of its line; `listed` says whether there was a period before.
+#[tactic(auto, unfolding(crate::specs::Flags::flags_of))]
+pub fn flags_of(
+    alloc: Global,
+    words: &mut Words,
+    contents: Contents,
+    file: &str,
+    line: u32,
+    listed: bool,
+) -> Result<Flags, TextFault>
+    ensures flags { HasText (λ f. f) result (flags_of contents file.now line listed words.old) }
+    ensures reuse { IfOk result (AreFlags contents listed) }
+{
+    let surface = flag_if(alloc, words, contents.evaporates, file, line, listed)?;
+    let rate = flag_at(alloc, words, file, line, listed)?;
+    let depth = flag_if(alloc, words, contents.evaporates, file, line, listed)?;
+    let layer = flag_if(alloc, words, contents.layered, file, line, listed)?;
+    Ok(Flags {
+        surface,
+        rate,
+        depth,
+        layer,
+    })
 }

@@ -1,11 +1,11 @@
 //! Packages whose files have arrays of one layer for each stress period, each read anew or reused.
 #![tactic(auto)]
 
+mod area;
 mod flags;
 mod layers;
 mod refused;
-mod update;
 
-pub use flags::{flag_at, option_at};
+pub use area::{Area, InForce, area_at};
+pub use flags::{Contents, Flags, option_at};
 pub use refused::cell_refused;
-pub use update::{array_of, update_layers, update_reals};

@@ -1,5 +1,5 @@
 -- What is known of recharge that was read, whatever the folder returned.
-use Rattle.std.specs.Prelude.{◌≡◌, ℕ, ◌≤ℤ◌, pos, Bool, true, false, List, [], All, map, length, IfSome}
+use Rattle.std.specs.Prelude.{◌≡◌, ℕ, ◌≤ℤ◌, pos, Bool, true, false, List, [], All, map, length}
 use Rattle.model_types.specs.declared.grid.Grid.{Grid}
 use Rattle.model_types.specs.declared.model.FlowModel.{FlowModel}
 use Rattle.model_types.specs.declared.period.Period.{Period}
@@ -7,13 +7,6 @@ use Rattle.model_types.specs.Cells.{layer_size}
 use Rattle.model_types.specs.Receivers.{is_int}
 use Rattle.model_types.specs.Valid.{IsLayerArray}
 use Rattle.period_arrays.specs.Forms.{IsReals, IsWhole}
-use Rattle.rch_package.specs.declared.flags.Flags.{Flags}
-use Rattle.rch_package.specs.declared.periods.Last.{Last}
-
--- arrays of one layer
-pub record AreLast (grid : Grid) (last : Last) : Type 0 where
-  pub rates : IfSome last.rates (IsReals grid)
-  pub layers : IfSome last.layers (IsWhole grid)
 
 -- a period's arrays; there are layers only under option 2
 pub record AreArrays (layered : Bool) (grid : Grid) (p : Period) : Type 0 where

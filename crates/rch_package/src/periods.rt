@@ -5,103 +5,31 @@ ghost use Rattle.outside.specs.Folders.{ReadsOn};
 ghost use Rattle.record_lines.specs.Asking.{LinesMay};
 ghost use Rattle.record_lines.specs.Reading.{Gives, Has, for_each};
 ghost use Rattle.model_types.specs.Grids.{HasSize};
-ghost use Rattle.period_arrays.specs.Forms.{IsReals, IsWhole};
-ghost use Rattle.rch_package.specs.Forms.{AreArrays, AreLast, without};
-ghost use Rattle.rch_package.specs.Recharge.{arrays_at, period_at, periods_of, with_arrays};
+ghost use Rattle.period_arrays.specs.Forms.{IsInForce};
+ghost use Rattle.rch_package.specs.Forms.{AreArrays, without};
+ghost use Rattle.rch_package.specs.Recharge.{contents, period_at, periods_of, with_area};
 
-use crate::flags::flags_of;
-use array_reader::next_line;
-use decimal_input::dec::Dec;
-use model_types::{Grid, Period, Shared, Stresses};
+use model_types::{Grid, Period, Stresses};
 use outside::{Folder, InputFault};
-use period_arrays::{array_of, update_layers, update_reals};
-use record_lines::{Lines, Words};
+use period_arrays::{Area, Contents, InForce, area_at};
+use record_lines::Lines;
 use std::alloc::Global;
 
-/// The arrays in force: the last rates and layers that were read.
-#[derive(Drop)]
-pub struct Last {
-    pub rates: Option<Shared<Dec>>,
-    pub layers: Option<Shared<i64>>,
-}
-
-/// The arrays of a period: a rate for each column of layers and, where the file names them, the layers.
-#[derive(Drop)]
-pub struct Arrays {
-    pub recharge: Shared<Dec>,
-    pub irch: Shared<i64>,
-}
-
-fn stresses_with(stresses: Stresses, arrays: Arrays) -> Stresses
-    ensures { result ≡ record stresses { recharge = arrays.recharge; irch = arrays.irch } }
+fn stresses_with(stresses: Stresses, area: Area) -> Stresses
+    ensures { result ≡ record stresses { recharge = area.rates; irch = area.layers } }
 {
     Stresses {
-        recharge: arrays.recharge,
-        irch: arrays.irch,
+        recharge: area.rates,
+        irch: area.layers,
         ..stresses
     }
 }
 
-fn with_arrays(period: Period, arrays: Arrays) -> Period
-    ensures { result ≡ with_arrays period arrays }
+fn with_area(period: Period, area: Area) -> Period
+    ensures { result ≡ with_area period area }
 {
-    let stresses = stresses_with(period.stresses, arrays);
+    let stresses = stresses_with(period.stresses, area);
     Period { stresses, ..period }
-}
-
-/// The arrays of the next period, which are then in force.
-#[tactic(auto, unfolding(crate::specs::Recharge::arrays_at), using(period_arrays::proofs::UpdateLemmas::stands))]
-fn arrays_at<F: Folder>(
-    alloc: Global,
-    lines: &mut Lines,
-    layered: bool,
-    file: &str,
-    folder: &mut F,
-    grid: &Grid,
-    last: &mut Last,
-) -> Result<Arrays, InputFault>
-    requires size { HasSize grid.now }
-    requires last { AreLast grid.now last.old }
-    requires lines { LinesMay (F.may folder.old) lines.old }
-    ensures folder { ReadsOn F.Folder folder.old folder.new result }
-    ensures lines { IfOk result (λ _. LinesMay (F.may folder.new) lines.new) }
-    ensures arrays { (files : List File) → F.agrees folder.new files →
-        Gives (λ a. a) result (last.new, lines.new)
-        (arrays_at layered files file.now grid.now (last.old, lines.old)) }
-    ensures last { IfOk result (λ _. AreLast grid.now last.new) }
-    ensures rates { IfOk result (λ a. IsReals grid.now a.recharge) }
-    ensures layers { IfOk result (λ a. layered ≡ true → IsWhole grid.now a.irch) }
-{
-    let line = next_line(alloc, lines, file)?;
-    let flags = flags_of(
-        alloc,
-        &mut Words::of(&line),
-        layered,
-        file,
-        line.number,
-        last,
-    )?;
-    update_reals(
-        alloc,
-        lines,
-        file,
-        folder,
-        grid,
-        flags.rate,
-        &mut last.rates,
-    )?;
-    update_layers(
-        alloc,
-        lines,
-        file,
-        folder,
-        grid,
-        flags.layer,
-        &mut last.layers,
-    )?;
-    let recharge = array_of(alloc, &last.rates)?;
-    let irch = array_of(alloc, &last.layers)?;
-    Ok(Arrays { recharge, irch })
 }
 
 /// The next period with its arrays, which are then in force.
@@ -114,22 +42,26 @@ fn period_at<F: Folder>(
     folder: &mut F,
     grid: &Grid,
     period: Period,
-    last: &mut Last,
+    before: &mut InForce,
 ) -> Result<Period, InputFault>
     requires size { HasSize grid.now }
-    requires last { AreLast grid.now last.old }
+    requires before { IsInForce (contents layered) grid.now before.old }
     requires lines { LinesMay (F.may folder.old) lines.old }
     ensures folder { ReadsOn F.Folder folder.old folder.new result }
     ensures lines { IfOk result (λ _. LinesMay (F.may folder.new) lines.new) }
     ensures period { (files : List File) → F.agrees folder.new files →
-        Gives (λ p. p) result (last.new, lines.new)
-        (period_at layered files file.now grid.now period (last.old, lines.old)) }
-    ensures last { IfOk result (λ _. AreLast grid.now last.new) }
+        Gives (λ p. p) result (before.new, lines.new)
+        (period_at layered files file.now grid.now period (before.old, lines.old)) }
+    ensures before { IfOk result (λ _. IsInForce (contents layered) grid.now before.new) }
     ensures arrays { IfOk result (AreArrays layered grid.now) }
     ensures others { IfOk result (λ p. without p ≡ without period) }
 {
-    match arrays_at(alloc, lines, layered, file, folder, grid, last) {
-        Ok(arrays) => Ok(with_arrays(period, arrays)),
+    let contents = Contents {
+        evaporates: false,
+        layered,
+    };
+    match area_at(alloc, lines, file, folder, grid, contents, before) {
+        Ok(area) => Ok(with_area(period, area)),
         Err(fault) => {
             drop(period);
             Err(fault)
@@ -137,7 +69,7 @@ fn period_at<F: Folder>(
     }
 }
 
-/// The periods with their arrays, where `last` are the arrays in force.
+/// The periods with their arrays, after those `before`.
 fn with_recharge<F: Folder>(
     alloc: Global,
     lines: &mut Lines,
@@ -146,22 +78,22 @@ fn with_recharge<F: Folder>(
     folder: &mut F,
     grid: &Grid,
     periods: Vec<Period>,
-    last: &mut Last,
+    before: &mut InForce,
 ) -> Result<Vec<Period>, InputFault>
     requires size { HasSize grid.now }
-    requires last { AreLast grid.now last.old }
+    requires before { IsInForce (contents layered) grid.now before.old }
     requires lines { LinesMay (F.may folder.old) lines.old }
     ensures folder { ReadsOn F.Folder folder.old folder.new result }
     ensures lines { IfOk result (λ _. LinesMay (F.may folder.new) lines.new) }
     ensures periods { (files : List File) → F.agrees folder.new files →
-        Gives (λ v. v.items) result (last.new, lines.new)
-        (for_each (period_at layered files file.now grid.now) periods.items (last.old, lines.old)) }
+        Gives (λ v. v.items) result (before.new, lines.new)
+        (for_each (period_at layered files file.now grid.now) periods.items (before.old, lines.old)) }
     ensures arrays { IfOk result (λ v. All (AreArrays layered grid.now) v.items) }
     ensures others { IfOk result (λ v. map without v.items ≡ map without periods.items) }
 {
     let mut whole = Vec::new(alloc);
     for period in periods {
-        let period = period_at(alloc, lines, layered, file, folder, grid, period, last)?;
+        let period = period_at(alloc, lines, layered, file, folder, grid, period, before)?;
         whole.push(period)?;
     }
     Ok(whole)
@@ -187,12 +119,16 @@ pub fn periods_of<F: Folder>(
     ensures arrays { IfOk result (λ v. All (AreArrays layered grid.now) v.items) }
     ensures others { IfOk result (λ v. map without v.items ≡ map without periods.items) }
 {
-    let mut last = Last {
-        rates: None,
-        layers: None,
-    };
+    let mut before = InForce::nothing_yet();
     let periods = with_recharge(
-        alloc, lines, layered, file, folder, grid, periods, &mut last,
+        alloc,
+        lines,
+        layered,
+        file,
+        folder,
+        grid,
+        periods,
+        &mut before,
     )?;
     Ok(periods)
 }

@@ -5,17 +5,18 @@ use Rattle.std.specs.Vec.Iter.{into_iter_items}
 use Rattle.record_lines.specs.Asking.{LinesMay}
 use Rattle.record_lines.specs.Reading.{for_each}
 use Rattle.record_lines.proofs.Loops.{with_front}
-use Rattle.evt_package.specs.Forms.{AreArrays, AreLast, without}
-use Rattle.evt_package.specs.Evaporation.{period_at}
+use Rattle.period_arrays.specs.Forms.{IsInForce}
+use Rattle.evt_package.specs.Forms.{AreArrays, without}
+use Rattle.evt_package.specs.Evaporation.{contents, period_at}
 use Rattle.evt_package.proofs.periods.with_evaporation.Given as goal
 
 abbrev pub invariant-loop-period : goal.invariant-loop-period
 invariant-loop-period g l =
     (goal.iterator-loop-period g).can_next l.period-iterator × (goal.iterator-loop-period g).is_finite l.period-iterator
-    × ((files : List File) → g.F.Folder.agrees l.folder files → with_front l.whole.items (for_each (period_at files l.file l.grid l.ibound l.option) (into_iter_items l.period-iterator) (l.last, l.lines))
-    ≡ for_each (period_at files l.file l.grid l.ibound l.option) l.fn.periods.items (l.fn.last, l.fn.lines))
+    × ((files : List File) → g.F.Folder.agrees l.folder files → with_front l.whole.items (for_each (period_at files l.file l.grid l.ibound l.option) (into_iter_items l.period-iterator) (l.before, l.lines))
+    ≡ for_each (period_at files l.file l.grid l.ibound l.option) l.fn.periods.items (l.fn.before, l.fn.lines))
     × ((files : List File) → g.F.Folder.agrees l.folder files → g.F.Folder.agrees l.fn.folder files) × (g.F.Folder.faults l.folder ≡ g.F.Folder.faults l.fn.folder)
-    × AreLast l.grid l.last
+    × IsInForce (contents l.option) l.grid l.before
     × All (AreArrays l.file l.grid l.ibound l.option) l.whole.items
     × (map without l.whole.items ++ map without (into_iter_items l.period-iterator) ≡ map without l.fn.periods.items)
     × ((name : List ℕ) → g.F.Folder.may l.fn.folder name → g.F.Folder.may l.folder name) × LinesMay (g.F.Folder.may l.folder) l.lines

@@ -20,7 +20,7 @@ loop-period-preserved g c = (
       rw c.in_ok-push.ensures.items (each_goes_on _ c.loop-period.whole.items (into_iter_items c.loop-period.period-iterator) (into_iter_items c.next.new.self) c.in-Some.period _ _ c.in_ok-period.period _ c.in-Some.ensures.steps.0 (c.in_ok-period.ensures.period files agree) (c.loop-period.invariant.2 files (c.in_ok-period.ensures.folder.since files agree)))),
   (λ files agree. c.loop-period.invariant.3 files (c.in_ok-period.ensures.folder.since files agree)),
   c.in_ok-period.ensures.folder.counts ∙ c.loop-period.invariant.4,
-  c.in_ok-period.ensures.last,
+  c.in_ok-period.ensures.before,
   all_pushed (AreArrays c.args.layered c.args.grid.now) c.loop-period.whole.items _ c.in_ok-period.period c.in_ok-push.ensures.items c.loop-period.invariant.6 c.in_ok-period.ensures.arrays,
   rw c.in_ok-push.ensures.items (one_more_same without c.loop-period.whole.items (into_iter_items c.loop-period.period-iterator) (into_iter_items c.next.new.self) _ c.in-Some.period c.in_ok-period.period c.in-Some.ensures.steps.0 c.in_ok-period.ensures.others c.loop-period.invariant.7),
   (λ name h. c.in_ok-period.ensures.folder.still name (c.loop-period.invariant.8 name h)),

@@ -1,0 +1,223 @@
+// The arrays of recharge or evapotranspiration that are in force.
+ghost use Rattle.std.specs.Prelude.{◌≡◌, IfOk, true, false, List};
+ghost use Rattle.outside.specs.Files.{File};
+ghost use Rattle.outside.specs.Folders.{ReadsOn};
+ghost use Rattle.record_lines.specs.Asking.{LinesMay};
+ghost use Rattle.record_lines.specs.Reading.{Gives};
+ghost use Rattle.array_reader.specs.Arrays.{real_layer};
+ghost use Rattle.model_types.specs.Grids.{HasSize};
+ghost use Rattle.period_arrays.specs.Areas.{area_at, array_or, arrays_of, no_area, nothing_yet};
+ghost use Rattle.period_arrays.specs.Forms.{AreFlags, IsArea, IsInForce, IsReals, IsWhole};
+ghost use Rattle.period_arrays.specs.Layers.{layers_at};
+
+use crate::flags::{Contents, Flags, flags_of};
+use crate::layers::layers_tested;
+use array_reader::{next_line, read_int_layer, read_layer};
+use decimal_input::dec::Dec;
+use model_types::{Grid, Shared};
+use outside::{Folder, InputFault};
+use record_lines::{Lines, Words};
+use std::alloc::{AllocError, Global};
+
+/// The arrays of a period: a rate for each column of layers; of evapotranspiration a surface and an extinction depth;
+/// and where the file names them, the layers. The others are empty.
+#[derive(Drop)]
+pub struct Area {
+    pub surfaces: Shared<Dec>,
+    pub rates: Shared<Dec>,
+    pub depths: Shared<Dec>,
+    pub layers: Shared<i64>,
+}
+
+impl Area {
+    /// Another handle to the same arrays.
+    fn again(&self) -> Result<Area, AllocError>
+        ensures { IfOk result (λ a. a ≡ self.now) }
+    {
+        let surfaces = self.surfaces.again()?;
+        let rates = self.rates.again()?;
+        let depths = self.depths.again()?;
+        let layers = self.layers.again()?;
+        Ok(Area {
+            surfaces,
+            rates,
+            depths,
+            layers,
+        })
+    }
+}
+
+/// The arrays of the period before, and whether there is one.
+#[derive(Drop)]
+pub struct InForce {
+    pub listed: bool,
+    pub area: Area,
+}
+
+impl InForce {
+    /// Before the first period.
+    pub fn nothing_yet() -> InForce
+        ensures { result ≡ nothing_yet }
+    {
+        InForce {
+            listed: false,
+            area: Area {
+                surfaces: Shared::empty(),
+                rates: Shared::empty(),
+                depths: Shared::empty(),
+                layers: Shared::empty(),
+            },
+        }
+    }
+}
+
+/// An array of numbers that is read anew, or that of the period before.
+fn reals_or<F: Folder>(
+    alloc: Global,
+    lines: &mut Lines,
+    file: &str,
+    folder: &mut F,
+    grid: &Grid,
+    anew: bool,
+    before: &Shared<Dec>,
+) -> Result<Shared<Dec>, InputFault>
+    requires lines { LinesMay (F.may folder.old) lines.old }
+    ensures folder { ReadsOn F.Folder folder.old folder.new result }
+    ensures lines { IfOk result (λ _. LinesMay (F.may folder.new) lines.new) }
+    ensures array { (files : List File) → F.agrees folder.new files →
+        Gives (λ xs. xs) result lines.new (array_or (real_layer files file.now grid.now.rows grid.now.cols) anew before.now lines.old) }
+    ensures form { IfOk result (λ xs. (anew ≡ false → IsReals grid.now before.now) → IsReals grid.now xs) }
+{
+    if anew {
+        let values = read_layer(alloc, lines, file, folder, grid.rows, grid.cols)?;
+        Ok(Shared::new(alloc, values)?)
+    } else {
+        Ok(before.again()?)
+    }
+}
+
+/// An array of layers, each tested.
+#[tactic(auto, unfolding(crate::specs::Layers::layers_at))]
+fn layers_at<F: Folder>(
+    alloc: Global,
+    lines: &mut Lines,
+    file: &str,
+    folder: &mut F,
+    grid: &Grid,
+) -> Result<Vec<i64>, InputFault>
+    requires size { HasSize grid.now }
+    requires lines { LinesMay (F.may folder.old) lines.old }
+    ensures folder { ReadsOn F.Folder folder.old folder.new result }
+    ensures lines { IfOk result (λ _. LinesMay (F.may folder.new) lines.new) }
+    ensures array { (files : List File) → F.agrees folder.new files → Gives (λ v. v.items) result lines.new (layers_at files file.now grid.now lines.old) }
+    ensures form { IfOk result (λ v. IsWhole grid.now v.items) }
+{
+    let values = read_int_layer(alloc, lines, file, folder, grid.rows, grid.cols)?;
+    layers_tested(alloc, file, grid, &values)?;
+    Ok(values)
+}
+
+/// An array of layers that is read anew, or that of the period before.
+fn layers_or<F: Folder>(
+    alloc: Global,
+    lines: &mut Lines,
+    file: &str,
+    folder: &mut F,
+    grid: &Grid,
+    anew: bool,
+    before: &Shared<i64>,
+) -> Result<Shared<i64>, InputFault>
+    requires size { HasSize grid.now }
+    requires lines { LinesMay (F.may folder.old) lines.old }
+    ensures folder { ReadsOn F.Folder folder.old folder.new result }
+    ensures lines { IfOk result (λ _. LinesMay (F.may folder.new) lines.new) }
+    ensures array { (files : List File) → F.agrees folder.new files →
+        Gives (λ xs. xs) result lines.new (array_or (layers_at files file.now grid.now) anew before.now lines.old) }
+    ensures form { IfOk result (λ xs. (anew ≡ false → IsWhole grid.now before.now) → IsWhole grid.now xs) }
+{
+    if anew {
+        let values = layers_at(alloc, lines, file, folder, grid)?;
+        Ok(Shared::new(alloc, values)?)
+    } else {
+        Ok(before.again()?)
+    }
+}
+
+/// The arrays of a period by its flags.
+#[tactic(auto, unfolding(crate::specs::Areas::arrays_of))]
+fn arrays_of<F: Folder>(
+    alloc: Global,
+    lines: &mut Lines,
+    file: &str,
+    folder: &mut F,
+    grid: &Grid,
+    contents: Contents,
+    flags: Flags,
+    before: &InForce,
+) -> Result<Area, InputFault>
+    requires size { HasSize grid.now }
+    requires flags { AreFlags contents before.now.listed flags }
+    requires before { IsInForce contents grid.now before.now }
+    requires lines { LinesMay (F.may folder.old) lines.old }
+    ensures folder { ReadsOn F.Folder folder.old folder.new result }
+    ensures lines { IfOk result (λ _. LinesMay (F.may folder.new) lines.new) }
+    ensures area { (files : List File) → F.agrees folder.new files →
+        Gives (λ a. a) result lines.new (arrays_of files file.now grid.now flags before.now.area lines.old) }
+    ensures form { IfOk result (IsArea contents grid.now) }
+{
+    let last = &before.area;
+    let surfaces = reals_or(
+        alloc,
+        lines,
+        file,
+        folder,
+        grid,
+        flags.surface,
+        &last.surfaces,
+    )?;
+    let rates = reals_or(alloc, lines, file, folder, grid, flags.rate, &last.rates)?;
+    let depths = reals_or(alloc, lines, file, folder, grid, flags.depth, &last.depths)?;
+    let layers = layers_or(alloc, lines, file, folder, grid, flags.layer, &last.layers)?;
+    Ok(Area {
+        surfaces,
+        rates,
+        depths,
+        layers,
+    })
+}
+
+/// The arrays of the next period, which are then in force.
+#[tactic(auto, unfolding(crate::specs::Areas::area_at))]
+pub fn area_at<F: Folder>(
+    alloc: Global,
+    lines: &mut Lines,
+    file: &str,
+    folder: &mut F,
+    grid: &Grid,
+    contents: Contents,
+    before: &mut InForce,
+) -> Result<Area, InputFault>
+    requires size { HasSize grid.now }
+    requires before { IsInForce contents grid.now before.old }
+    requires lines { LinesMay (F.may folder.old) lines.old }
+    ensures folder { ReadsOn F.Folder folder.old folder.new result }
+    ensures lines { IfOk result (λ _. LinesMay (F.may folder.new) lines.new) }
+    ensures area { (files : List File) → F.agrees folder.new files →
+        Gives (λ a. a) result (before.new, lines.new) (area_at contents files file.now grid.now (before.old, lines.old)) }
+    ensures before { IfOk result (λ _. IsInForce contents grid.now before.new) }
+    ensures form { IfOk result (IsArea contents grid.now) }
+{
+    let line = next_line(alloc, lines, file)?;
+    let flags = flags_of(
+        alloc,
+        &mut Words::of(&line),
+        contents,
+        file,
+        line.number,
+        before.listed,
+    )?;
+    let area = arrays_of(alloc, lines, file, folder, grid, contents, flags, before)?;
+    before.area = area.again()?;
+    before.listed = true;
+    Ok(area)
+}
