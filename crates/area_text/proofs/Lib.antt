@@ -1,3 +1,2 @@
 pub mod AreaTexts
-pub mod RchTexts
-pub mod EvtTexts
+pub mod FileTexts

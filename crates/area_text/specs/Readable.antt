@@ -8,8 +8,10 @@ use Rattle.model_types.specs.Layers.{int_at}
 use Rattle.model_types.specs.Receivers.{is_int}
 use Rattle.period_arrays.specs.Flags.{is_option}
 use Rattle.period_arrays.specs.Forms.{IsReals, IsWhole}
+use Rattle.period_arrays.specs.Kinds.{ArrayKind, with_area}
 use Rattle.period_arrays.specs.Layers.{is_layer}
 use Rattle.evt_package.specs.Columns.{columns_tested}
+use Rattle.evt_package.specs.Evaporation.{area_in}
 use Rattle.array_text.specs.Words.{IsShort}
 
 -- IRCH or IEVT: layers of the grid, or 0, under option 2; else nothing
@@ -32,15 +34,10 @@ pub record IsEvaporating (m : FlowModel) : Type 0 where
   pub evtr : All (λ p. IsReals m.grid p.stresses.evtr) m.periods
   pub exdp : All (λ p. IsReals m.grid p.stresses.exdp) m.periods
   pub ievt : All (λ p. IsLayers m.grid m.nevtop p.stresses.ievt) m.periods
-  pub passed : (file : List ℕ) → All (λ p. columns_tested file m.grid m.ibound m.nevtop p ≡ Ok tt) m.periods
+  pub passed : (file : List ℕ) → All (λ p. columns_tested file m.grid m.ibound m.nevtop (area_in p.stresses) ≡ Ok tt) m.periods
 
--- the periods with recharge as these other ones, and with evapotranspiration
-abbrev pub recharged : List Period → List Period → List Period
-recharged [] qs = []
-recharged (p ∷ ps) [] = []
-recharged (p ∷ ps) (q ∷ qs) = record p { stresses = record p.stresses { recharge = q.stresses.recharge; irch = q.stresses.irch } } ∷ recharged ps qs
-
-abbrev pub evaporated : List Period → List Period → List Period
-evaporated [] qs = []
-evaporated (p ∷ ps) [] = []
-evaporated (p ∷ ps) (q ∷ qs) = record p { stresses = record p.stresses { surf = q.stresses.surf; evtr = q.stresses.evtr; exdp = q.stresses.exdp; ievt = q.stresses.ievt } } ∷ evaporated ps qs
+-- the periods with the arrays of these other ones
+abbrev pub with_areas : ArrayKind → List Period → List Period → List Period
+with_areas kind [] qs = []
+with_areas kind (p ∷ ps) [] = []
+with_areas kind (p ∷ ps) (q ∷ qs) = with_area kind p (kind.area q.stresses) ∷ with_areas kind ps qs

@@ -15,16 +15,16 @@ use Rattle.model_types.specs.Layers.{int_at, is_active, is_nonzero}
 use Rattle.model_types.specs.Receivers.{is_chosen, is_highest, is_int}
 use Rattle.model_types.proofs.Numbering.{layer_below}
 use Rattle.number_limits.specs.Signs.{within}
-use Rattle.evt_package.specs.Columns.{chosen, highest, in_layer}
+use Rattle.evt_package.specs.Columns.{chosen_cell, highest_active, in_layer}
 
 -- the first active layer t is found
 found_at : (g : Grid) (ibound : List ℤ) (i n k t : ℕ) → k ≤ t → t < k + n → is_nonzero (int_at ibound (t * layer_size g + i)) ≡ true
-    → ((j : ℕ) → j < t → is_nonzero (int_at ibound (j * layer_size g + i)) ≡ false) → highest g ibound i k n ≡ Some (t * layer_size g + i)
-unfolding highest
+    → ((j : ℕ) → j < t → is_nonzero (int_at ibound (j * layer_size g + i)) ≡ false) → highest_active g ibound i k n ≡ Some (t * layer_size g + i)
+unfolding highest_active
 found_at g ibound i zero k t low high active above = absurd (omega (arith, low, high))
 found_at g ibound i (suc n) k t low high active above = by_case (leb_tells (k + 1) t) (λ past. found_at g ibound i n (k + 1) t past (omega (arith, high)) active above)
   where
-    by_case : ((nat_le (k + 1) t ≡ true) × (k + 1 ≤ t)) ⊎ ((nat_le (k + 1) t ≡ false) × (t < k + 1)) → (k + 1 ≤ t → highest g ibound i (k + 1) n ≡ Some (t * layer_size g + i)) → (if is_nonzero (int_at ibound (k * layer_size g + i)) then Some (k * layer_size g + i) else highest g ibound i (k + 1) n) ≡ Some (t * layer_size g + i)
+    by_case : ((nat_le (k + 1) t ≡ true) × (k + 1 ≤ t)) ⊎ ((nat_le (k + 1) t ≡ false) × (t < k + 1)) → (k + 1 ≤ t → highest_active g ibound i (k + 1) n ≡ Some (t * layer_size g + i)) → (if is_nonzero (int_at ibound (k * layer_size g + i)) then Some (k * layer_size g + i) else highest_active g ibound i (k + 1) n) ≡ Some (t * layer_size g + i)
     by_case (inl a) later =
         let no : is_nonzero (int_at ibound (k * layer_size g + i)) ≡ false = above k (omega (arith, a.1)) in
         rw no (later a.1)
@@ -65,7 +65,7 @@ named g i k z e lt =
     let before : suc k - 1 ≡ k = omega arith in
     rw (e, some, few, before) refl
 
-pub chosen_is : (m : FlowModel) (option : ℤ) (layers : List ℤ) (c : ℕ) → HasSize m.grid → c < cell_count m.grid → is_active m c ≡ true → is_chosen m option layers c ≡ true → chosen m.grid m.ibound option layers (place_in_layer m.grid c) ≡ Some c
+pub chosen_is : (m : FlowModel) (option : ℤ) (layers : List ℤ) (c : ℕ) → HasSize m.grid → c < cell_count m.grid → is_active m c ≡ true → is_chosen m option layers c ≡ true → chosen_cell m.grid m.ibound option layers (place_in_layer m.grid c) ≡ Some c
 chosen_is m option layers c size lt active h = by_option (is_int option 1) (is_int option 2) (is_int option 3) refl refl refl h
   where
     below : layer_of m.grid c < m.grid.layers
@@ -78,7 +78,7 @@ chosen_is m option layers c size lt active h = by_option (is_int option 1) (is_i
 
     by_option : (a b d : Bool) → is_int option 1 ≡ a → is_int option 2 ≡ b → is_int option 3 ≡ d
         → ((a && (layer_of m.grid c == 0)) || (b && is_int (int_at layers (place_in_layer m.grid c)) (suc (layer_of m.grid c))) || (d && is_active m c && is_highest m c)) ≡ true
-        → (if a then Some (place_in_layer m.grid c) else (if b then in_layer m.grid (place_in_layer m.grid c) (within (int_at layers (place_in_layer m.grid c)) m.grid.layers) else highest m.grid m.ibound (place_in_layer m.grid c) 0 m.grid.layers)) ≡ Some c
+        → (if a then Some (place_in_layer m.grid c) else (if b then in_layer m.grid (place_in_layer m.grid c) (within (int_at layers (place_in_layer m.grid c)) m.grid.layers) else highest_active m.grid m.ibound (place_in_layer m.grid c) 0 m.grid.layers)) ≡ Some c
     by_option true b d e f g so = first_layer m.grid c (eqb-true (layer_of m.grid c) 0 (in_first (parts (layer_of m.grid c == 0) (b && is_int (int_at layers (place_in_layer m.grid c)) (suc (layer_of m.grid c))) (d && is_active m c && is_highest m c) so)))
       where
         one_option : (z : ℤ) (k n : ℕ) → is_int z k ≡ true → is_int z n ≡ true → k ≡ n

@@ -4,7 +4,7 @@ use Rattle.std.proofs.Math.Nat.{mul-le-mul_right}
 use Rattle.model_types.specs.declared.grid.Grid.{Grid}
 use Rattle.model_types.specs.Cells.{layer_size, cell_count}
 use Rattle.model_types.specs.Layers.{int_at, is_nonzero}
-use Rattle.evt_package.specs.Columns.{highest}
+use Rattle.evt_package.specs.Columns.{highest_active}
 
 pub in_grid : (g : Grid) (k i : ℕ) → k < g.layers → i < layer_size g → k * layer_size g + i < cell_count g
 in_grid g k i kl il =
@@ -12,23 +12,23 @@ in_grid g k i kl il =
     omega (arith, il, more)
 
 -- the next cell isn't active
-pub goes_down : (g : Grid) (ibound : List ℤ) (i k n : ℕ) (total : Option ℕ) → k < n → is_nonzero (int_at ibound (k * layer_size g + i)) ≡ false → highest g ibound i k (n - k) ≡ total → highest g ibound i (k + 1) (n - (k + 1)) ≡ total
-unfolding highest
+pub goes_down : (g : Grid) (ibound : List ℤ) (i k n : ℕ) (total : Option ℕ) → k < n → is_nonzero (int_at ibound (k * layer_size g + i)) ≡ false → highest_active g ibound i k (n - k) ≡ total → highest_active g ibound i (k + 1) (n - (k + 1)) ≡ total
+unfolding highest_active
 goes_down g ibound i k n total lt e so_far =
     let m : n - k ≡ suc (n - (k + 1)) = omega (arith, lt) in
-    let one : highest g ibound i k (n - k) ≡ highest g ibound i (k + 1) (n - (k + 1)) = rw (m, e) refl in
+    let one : highest_active g ibound i k (n - k) ≡ highest_active g ibound i (k + 1) (n - (k + 1)) = rw (m, e) refl in
     sym one ∙ so_far
 
-pub is_found : (g : Grid) (ibound : List ℤ) (i k n : ℕ) (total : Option ℕ) → k < n → is_nonzero (int_at ibound (k * layer_size g + i)) ≡ true → highest g ibound i k (n - k) ≡ total → Some (k * layer_size g + i) ≡ total
-unfolding highest
+pub is_found : (g : Grid) (ibound : List ℤ) (i k n : ℕ) (total : Option ℕ) → k < n → is_nonzero (int_at ibound (k * layer_size g + i)) ≡ true → highest_active g ibound i k (n - k) ≡ total → Some (k * layer_size g + i) ≡ total
+unfolding highest_active
 is_found g ibound i k n total lt e so_far =
     let m : n - k ≡ suc (n - (k + 1)) = omega (arith, lt) in
-    let one : highest g ibound i k (n - k) ≡ Some (k * layer_size g + i) = rw (m, e) refl in
+    let one : highest_active g ibound i k (n - k) ≡ Some (k * layer_size g + i) = rw (m, e) refl in
     sym one ∙ so_far
 
-pub is_none : (g : Grid) (ibound : List ℤ) (i k n : ℕ) (total : Option ℕ) → n ≤ k → highest g ibound i k (n - k) ≡ total → None ≡ total
-unfolding highest
+pub is_none : (g : Grid) (ibound : List ℤ) (i k n : ℕ) (total : Option ℕ) → n ≤ k → highest_active g ibound i k (n - k) ≡ total → None ≡ total
+unfolding highest_active
 is_none g ibound i k n total le so_far =
     let m : n - k ≡ 0 = omega (arith, le) in
-    let one : highest g ibound i k (n - k) ≡ None = rw m refl in
+    let one : highest_active g ibound i k (n - k) ≡ None = rw m refl in
     sym one ∙ so_far

@@ -1,6 +1,5 @@
 pub mod ColumnLemmas
-pub mod PeriodForms
+pub mod ArrayLemmas
 pub mod ChosenLemmas
 pub mod EvapLemmas
 pub mod ModelLemmas
-pub mod Forward

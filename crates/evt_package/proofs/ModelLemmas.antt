@@ -21,13 +21,15 @@ use Rattle.model_types.specs.Valid.{IsEvapValid, IsModel, IsPeriod}
 use Rattle.model_types.proofs.Numbering.{size_some}
 use Rattle.number_limits.proofs.Canonical.{dec_at_is}
 use Rattle.list_package.proofs.ModelLemmas.{each_period, evaporation_of, replaced, same_view, sources_by, steps, with_stresses}
-use Rattle.evt_package.specs.Columns.{cell_tested, chosen, column_step, column_tested, columns_tested, source}
+use Rattle.period_arrays.specs.Kinds.{without}
+use Rattle.evt_package.specs.Columns.{cell_tested, column_step, column_tested, columns_tested, source}
 use Rattle.evt_package.specs.Faults.{evap_fault}
-use Rattle.evt_package.specs.Forms.{HasEvaporation, IsEvaporating, SameBut, without}
+use Rattle.evt_package.specs.Evaporation.{area_in, evaporation_arrays}
+use Rattle.evt_package.specs.Forms.{HasEvaporation, IsEvaporating, SameBut}
 use Rattle.evt_package.proofs.ChosenLemmas.{chosen_is}
 use Rattle.evt_package.proofs.EvapLemmas.{each_step, source_sound}
 
-period : (file : List ℕ) (m : FlowModel) (e : ℤ) (ps : List Period) (p q : Period) → without p ≡ without q → IsPeriod m q → HasEvaporation file (record m { nevtop = e; periods = ps }) p → IsPeriod (record m { nevtop = e; periods = ps }) p
+period : (file : List ℕ) (m : FlowModel) (e : ℤ) (ps : List Period) (p q : Period) → without evaporation_arrays p ≡ without evaporation_arrays q → IsPeriod m q → HasEvaporation file (record m { nevtop = e; periods = ps }) p → IsPeriod (record m { nevtop = e; periods = ps }) p
 period file m e ps p q same h has =
     with_stresses m (record m { nevtop = e; periods = ps }) p q (record q.stresses { surf = p.stresses.surf; evtr = p.stresses.evtr; exdp = p.stresses.exdp; ievt = p.stresses.ievt })
     (ap {A = Period} (λ x. record x { stresses = record x.stresses { surf = p.stresses.surf; evtr = p.stresses.evtr; exdp = p.stresses.exdp; ievt = p.stresses.ievt } }) same) h
@@ -37,29 +39,29 @@ passed_is : (file : List ℕ) (grid : Grid) (c : ℕ) (o : Option Code) → cell
 passed_is file grid c None h = refl
 passed_is file grid c (Some code) h = absurd cc
 
-no_fault : (file : List ℕ) (m : FlowModel) (x : Period) (c : ℕ) → HasSize m.grid → HasEvaporation file m x → c < cell_count m.grid → is_active m c ≡ true → is_chosen m m.nevtop x.stresses.ievt c ≡ true → evap_fault (source x (place_in_layer m.grid c)) ≡ None
+no_fault : (file : List ℕ) (m : FlowModel) (x : Period) (c : ℕ) → HasSize m.grid → HasEvaporation file m x → c < cell_count m.grid → is_active m c ≡ true → is_chosen m m.nevtop x.stresses.ievt c ≡ true → evap_fault (source (area_in x.stresses) (place_in_layer m.grid c)) ≡ None
 unfolding columns_tested
 no_fault file m x c size has lt active chosen =
     let low : place_in_layer m.grid c < layer_size m.grid = mod_below c (layer_size m.grid) (size_some m.grid size) in
-    let step = each_step (column_step file m.grid m.ibound m.nevtop x) (layer_size m.grid) 0 has.passed (place_in_layer m.grid c) (omega arith) (omega (arith, low)) in
-    let there : column_tested file m.grid m.ibound x (place_in_layer m.grid c) (Some c) ≡ Ok tt = rw (chosen_is m m.nevtop x.stresses.ievt c size lt active chosen) at step in
-    let tested : cell_tested file m.grid c (evap_fault (source x (place_in_layer m.grid c))) ≡ Ok tt = rw active at there in
+    let step = each_step (column_step file m.grid m.ibound m.nevtop (area_in x.stresses)) (layer_size m.grid) 0 has.passed (place_in_layer m.grid c) (omega arith) (omega (arith, low)) in
+    let there : column_tested file m.grid m.ibound (area_in x.stresses) (place_in_layer m.grid c) (Some c) ≡ Ok tt = rw (chosen_is m m.nevtop x.stresses.ievt c size lt active chosen) at step in
+    let tested : cell_tested file m.grid c (evap_fault (source (area_in x.stresses) (place_in_layer m.grid c))) ≡ Ok tt = rw active at there in
     passed_is file m.grid c _ tested
 
 of_period : (file : List ℕ) (m : FlowModel) (x : Period) (c : ℕ) → HasSize m.grid → HasEvaporation file m x → c < cell_count m.grid → is_active m c ≡ true → All IsEvapValid (sources_by m c (evaporation_of x))
 of_period file m x c size has lt active = by_case (is_chosen m m.nevtop x.stresses.ievt c) refl ((dec_at x.stresses.evtr (place_in_layer m.grid c)).digits == 0) refl
   where
-    by_case : (a : Bool) → is_chosen m m.nevtop x.stresses.ievt c ≡ a → (b : Bool) → ((dec_at x.stresses.evtr (place_in_layer m.grid c)).digits == 0) ≡ b → All IsEvapValid (option_to_list (cond (a && not b) (Some (source x (place_in_layer m.grid c))) None))
+    by_case : (a : Bool) → is_chosen m m.nevtop x.stresses.ievt c ≡ a → (b : Bool) → ((dec_at x.stresses.evtr (place_in_layer m.grid c)).digits == 0) ≡ b → All IsEvapValid (option_to_list (cond (a && not b) (Some (source (area_in x.stresses) (place_in_layer m.grid c))) None))
     by_case false p b q = All-nil IsEvapValid
     by_case true p true q = All-nil IsEvapValid
-    by_case true p false q = All-cons IsEvapValid (source x (place_in_layer m.grid c)) []
-        (source_sound (source x (place_in_layer m.grid c)) (dec_at_is x.stresses.evtr (place_in_layer m.grid c) has.evtr.decimals) (dec_at_is x.stresses.surf (place_in_layer m.grid c) has.surf.decimals) (dec_at_is x.stresses.exdp (place_in_layer m.grid c) has.exdp.decimals) (no_fault file m x c size has lt active p) q)
+    by_case true p false q = All-cons IsEvapValid (source (area_in x.stresses) (place_in_layer m.grid c)) []
+        (source_sound (source (area_in x.stresses) (place_in_layer m.grid c)) (dec_at_is x.stresses.evtr (place_in_layer m.grid c) has.evtr.decimals) (dec_at_is x.stresses.surf (place_in_layer m.grid c) has.surf.decimals) (dec_at_is x.stresses.exdp (place_in_layer m.grid c) has.exdp.decimals) (no_fault file m x c size has lt active p) q)
         (All-nil IsEvapValid)
 
 of_none : (m : FlowModel) (c : ℕ) → All IsEvapValid (sources_by m c (evaporation_of no_period))
 of_none m c = by_case (is_chosen m m.nevtop [] c)
   where
-    by_case : (a : Bool) → All IsEvapValid (option_to_list (cond (a && not true) (Some (source no_period (place_in_layer m.grid c))) None))
+    by_case : (a : Bool) → All IsEvapValid (option_to_list (cond (a && not true) (Some (source (area_in no_period.stresses) (place_in_layer m.grid c))) None))
     by_case true = All-nil IsEvapValid
     by_case false = All-nil IsEvapValid
 
@@ -73,9 +75,9 @@ evaps file m size has p c lt active = by_case (cases_lt (p - 1) (length m.period
 from_one : (e : ℤ) → (pos 1 ≤ℤ e) × (e ≤ℤ pos 3) → (pos 0 ≤ℤ e) × (e ≤ℤ pos 3)
 from_one e h = let low = h.0 in (omega (arith, ints, low), h.1)
 
-evaporating : (file : List ℕ) (m : FlowModel) (e : ℤ) (ps : List Period) → map without ps ≡ map without m.periods → IsEvaporating file (record m { nevtop = e; periods = ps }) → IsModel m → IsModel (record m { nevtop = e; periods = ps })
-evaporating file m e ps same has h = replaced m m.nrchop e ps h (same_view without steps steps (λ p. refl) ps m.periods same) h.nrchop (from_one e has.option)
-    (each_period without (IsPeriod (record m { nevtop = e; periods = ps })) (IsPeriod m) (HasEvaporation file (record m { nevtop = e; periods = ps })) (period file m e ps) ps m.periods same h.periods has.periods)
+evaporating : (file : List ℕ) (m : FlowModel) (e : ℤ) (ps : List Period) → map (without evaporation_arrays) ps ≡ map (without evaporation_arrays) m.periods → IsEvaporating file (record m { nevtop = e; periods = ps }) → IsModel m → IsModel (record m { nevtop = e; periods = ps })
+evaporating file m e ps same has h = replaced m m.nrchop e ps h (same_view (without evaporation_arrays) steps steps (λ p. refl) ps m.periods same) h.nrchop (from_one e has.option)
+    (each_period (without evaporation_arrays) (IsPeriod (record m { nevtop = e; periods = ps })) (IsPeriod m) (HasEvaporation file (record m { nevtop = e; periods = ps })) (period file m e ps) ps m.periods same h.periods has.periods)
     (evaps file (record m { nevtop = e; periods = ps }) h.grid.size has.periods)
 
 evaporating_model : (file : List ℕ) (m n : FlowModel) → SameBut m n → IsEvaporating file n → IsModel m → IsModel n

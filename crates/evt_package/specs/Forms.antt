@@ -1,24 +1,24 @@
 -- What is known of evapotranspiration that was read, whatever the folder returned.
-use Rattle.std.specs.Prelude.{◌≡◌, ℕ, ℤ, ◌≤ℤ◌, pos, true, List, [], Ok, All, map, length}
+use Rattle.std.specs.Prelude.{◌≡◌, ℕ, ℤ, ◌≤ℤ◌, pos, true, List, Ok, All, map, length}
 use Rattle.model_types.specs.declared.grid.Grid.{Grid}
 use Rattle.model_types.specs.declared.model.FlowModel.{FlowModel}
 use Rattle.model_types.specs.declared.period.Period.{Period}
+use Rattle.model_types.specs.declared.period.Stresses.{Stresses}
 use Rattle.model_types.specs.Cells.{layer_size}
 use Rattle.model_types.specs.Receivers.{is_int}
 use Rattle.model_types.specs.Valid.{IsLayerArray}
 use Rattle.period_arrays.specs.Forms.{IsReals, IsWhole}
+use Rattle.period_arrays.specs.Kinds.{without}
 use Rattle.evt_package.specs.Columns.{columns_tested}
+use Rattle.evt_package.specs.Evaporation.{area_in, evaporation_arrays}
 
 -- a period's arrays, whose columns passed their tests; there are layers only under option 2
-pub record AreArrays (file : List ℕ) (grid : Grid) (ibound : List ℤ) (option : ℤ) (p : Period) : Type 0 where
-  pub surfaces : IsReals grid p.stresses.surf
-  pub rates : IsReals grid p.stresses.evtr
-  pub depths : IsReals grid p.stresses.exdp
-  pub layers : is_int option 2 ≡ true → IsWhole grid p.stresses.ievt
-  pub passed : columns_tested file grid ibound option p ≡ Ok tt
-
-abbrev pub without : Period → Period
-without p = record p { stresses = record p.stresses { surf = []; evtr = []; exdp = []; ievt = [] } }
+pub record AreArrays (file : List ℕ) (grid : Grid) (ibound : List ℤ) (option : ℤ) (s : Stresses) : Type 0 where
+  pub surfaces : IsReals grid s.surf
+  pub rates : IsReals grid s.evtr
+  pub depths : IsReals grid s.exdp
+  pub layers : is_int option 2 ≡ true → IsWhole grid s.ievt
+  pub passed : columns_tested file grid ibound option (area_in s) ≡ Ok tt
 
 -- a period of a model that has evapotranspiration
 pub record HasEvaporation (file : List ℕ) (m : FlowModel) (p : Period) : Type 0 where
@@ -26,7 +26,7 @@ pub record HasEvaporation (file : List ℕ) (m : FlowModel) (p : Period) : Type 
   pub evtr : IsLayerArray m.grid p.stresses.evtr
   pub exdp : IsLayerArray m.grid p.stresses.exdp
   pub ievt : is_int m.nevtop 2 ≡ true → length p.stresses.ievt ≡ layer_size m.grid
-  pub passed : columns_tested file m.grid m.ibound m.nevtop p ≡ Ok tt
+  pub passed : columns_tested file m.grid m.ibound m.nevtop (area_in p.stresses) ≡ Ok tt
 
 -- a model with evapotranspiration, by an option from 1 to 3
 pub record IsEvaporating (file : List ℕ) (m : FlowModel) : Type 0 where
@@ -36,4 +36,4 @@ pub record IsEvaporating (file : List ℕ) (m : FlowModel) : Type 0 where
 -- another model differs only in its evapotranspiration
 pub record SameBut (m n : FlowModel) : Type 0 where
   pub model : n ≡ record m { nevtop = n.nevtop; periods = n.periods }
-  pub periods : map without n.periods ≡ map without m.periods
+  pub periods : map (without evaporation_arrays) n.periods ≡ map (without evaporation_arrays) m.periods

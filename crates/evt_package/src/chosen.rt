@@ -3,7 +3,7 @@ ghost use Rattle.std.specs.Prelude.{◌≡◌, ◌+◌, ◌*◌, ◌<◌, ◌≤
 ghost use Rattle.model_types.specs.Cells.{cell_count, layer_size};
 ghost use Rattle.model_types.specs.Grids.{HasSize};
 ghost use Rattle.number_limits.specs.Signs.{within};
-ghost use Rattle.evt_package.specs.Columns.{chosen, highest, in_layer};
+ghost use Rattle.evt_package.specs.Columns.{chosen_cell, highest_active, in_layer};
 
 use model_types::Grid;
 use model_types::layers::int_at;
@@ -23,10 +23,10 @@ fn cell_in(grid: &Grid, layer: u32, column: u32) -> u32
 
 /// The highest active cell of a column.
 #[tactic(auto, using(crate::proofs::ColumnLemmas::goes_down, crate::proofs::ColumnLemmas::is_found, crate::proofs::ColumnLemmas::is_none))]
-fn highest(grid: &Grid, ibound: &[i64], column: u32) -> Option<u32>
+fn highest_active(grid: &Grid, ibound: &[i64], column: u32) -> Option<u32>
     requires size { HasSize grid.now }
     requires column { column < layer_size grid.now }
-    ensures cell { result ≡ highest grid.now ibound.now column 0 grid.now.layers }
+    ensures cell { result ≡ highest_active grid.now ibound.now column 0 grid.now.layers }
     ensures inside { IfSome result (λ c. c < cell_count grid.now) }
 {
     for layer in 0..grid.layers {
@@ -52,10 +52,16 @@ fn in_layer(grid: &Grid, column: u32, layer: i64) -> Option<u32>
 
 /// The cell of a column that the option chooses; None where there is none.
 #[tactic(auto, using(period_arrays::proofs::PlaceLemmas::in_grid))]
-pub fn chosen(grid: &Grid, ibound: &[i64], option: &i64, layers: &[i64], column: u32) -> Option<u32>
+pub fn chosen_cell(
+    grid: &Grid,
+    ibound: &[i64],
+    option: &i64,
+    layers: &[i64],
+    column: u32,
+) -> Option<u32>
     requires size { HasSize grid.now }
     requires column { column < layer_size grid.now }
-    ensures cell { result ≡ chosen grid.now ibound.now option.now layers.now column }
+    ensures cell { result ≡ chosen_cell grid.now ibound.now option.now layers.now column }
     ensures inside { IfSome result (λ c. c < cell_count grid.now) }
 {
     if *option == 1 {
@@ -63,6 +69,6 @@ pub fn chosen(grid: &Grid, ibound: &[i64], option: &i64, layers: &[i64], column:
     } else if *option == 2 {
         in_layer(grid, column, int_at(layers, column))
     } else {
-        highest(grid, ibound, column)
+        highest_active(grid, ibound, column)
     }
 }

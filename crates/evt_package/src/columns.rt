@@ -9,12 +9,12 @@ ghost use Rattle.period_arrays.specs.Forms.{IsReals};
 ghost use Rattle.evt_package.specs.Columns.{cell_tested, column_step, columns_tested, source};
 ghost use Rattle.evt_package.specs.Faults.{evap_fault};
 
-use crate::chosen::chosen;
+use crate::chosen::chosen_cell;
 use crate::fault::evap_fault;
+use model_types::Grid;
 use model_types::layers::{dec_at, int_at};
-use model_types::{Grid, Period};
 use outside::{Code, TextFault};
-use period_arrays::cell_refused;
+use period_arrays::{Area, cell_refused};
 use std::alloc::Global;
 
 fn cell_tested(
@@ -35,26 +35,26 @@ fn cell_tested(
 }
 
 #[tactic(auto, using(number_limits::proofs::Canonical::dec_at_is))]
-fn column_fault(period: &Period, column: u32) -> Option<Code>
-    requires surfaces { All IsDec period.now.stresses.surf }
-    requires depths { All IsDec period.now.stresses.exdp }
-    ensures { result ≡ evap_fault (source period.now column) }
+fn column_fault(area: &Area, column: u32) -> Option<Code>
+    requires surfaces { All IsDec area.now.surfaces }
+    requires depths { All IsDec area.now.depths }
+    ensures { result ≡ evap_fault (source area.now column) }
 {
     evap_fault(
-        dec_at(period.stresses.evtr.as_slice(), column),
-        dec_at(period.stresses.surf.as_slice(), column),
-        dec_at(period.stresses.exdp.as_slice(), column),
+        dec_at(area.rates.as_slice(), column),
+        dec_at(area.surfaces.as_slice(), column),
+        dec_at(area.depths.as_slice(), column),
     )
 }
 
 /// The fault of the cell that a column chooses, if that is active.
-fn cell_fault(ibound: &[i64], period: &Period, column: u32, cell: u32) -> Option<Code>
-    requires surfaces { All IsDec period.now.stresses.surf }
-    requires depths { All IsDec period.now.stresses.exdp }
-    ensures { result ≡ if is_nonzero (int_at ibound.now cell) then evap_fault (source period.now column) else None }
+fn cell_fault(ibound: &[i64], area: &Area, column: u32, cell: u32) -> Option<Code>
+    requires surfaces { All IsDec area.now.surfaces }
+    requires depths { All IsDec area.now.depths }
+    ensures { result ≡ if is_nonzero (int_at ibound.now cell) then evap_fault (source area.now column) else None }
 {
     if int_at(ibound, cell) != 0 {
-        column_fault(period, column)
+        column_fault(area, column)
     } else {
         None
     }
@@ -66,24 +66,18 @@ fn column_tested(
     grid: &Grid,
     ibound: &[i64],
     option: &i64,
-    period: &Period,
+    area: &Area,
     column: u32,
 ) -> Result<(), TextFault>
     requires size { HasSize grid.now }
-    requires surfaces { IsReals grid.now period.now.stresses.surf }
-    requires depths { IsReals grid.now period.now.stresses.exdp }
+    requires surfaces { IsReals grid.now area.now.surfaces }
+    requires depths { IsReals grid.now area.now.depths }
     requires column { column < layer_size grid.now }
-    ensures { HasText (λ _. tt) result (column_step file.now grid.now ibound.now option.now period.now column tt) }
+    ensures { HasText (λ _. tt) result (column_step file.now grid.now ibound.now option.now area.now column tt) }
 {
-    match chosen(
-        grid,
-        ibound,
-        option,
-        period.stresses.ievt.as_slice(),
-        column,
-    ) {
+    match chosen_cell(grid, ibound, option, area.layers.as_slice(), column) {
         Some(cell) => {
-            let fault = cell_fault(ibound, period, column, cell);
+            let fault = cell_fault(ibound, area, column, cell);
             cell_tested(alloc, file, grid, cell, fault)
         }
         None => Ok(()),
@@ -98,16 +92,16 @@ pub fn columns_tested(
     grid: &Grid,
     ibound: &[i64],
     option: &i64,
-    period: &Period,
+    area: &Area,
 ) -> Result<(), TextFault>
     requires size { HasSize grid.now }
-    requires surfaces { IsReals grid.now period.now.stresses.surf }
-    requires depths { IsReals grid.now period.now.stresses.exdp }
-    ensures { HasText (λ _. tt) result (columns_tested file.now grid.now ibound.now option.now period.now) }
+    requires surfaces { IsReals grid.now area.now.surfaces }
+    requires depths { IsReals grid.now area.now.depths }
+    ensures { HasText (λ _. tt) result (columns_tested file.now grid.now ibound.now option.now area.now) }
 {
     let columns = grid.layer_size();
     for column in 0..columns {
-        column_tested(alloc, file, grid, ibound, option, period, column)?;
+        column_tested(alloc, file, grid, ibound, option, area, column)?;
     }
     Ok(())
 }

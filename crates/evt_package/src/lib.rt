@@ -5,8 +5,7 @@
 mod chosen;
 mod columns;
 mod fault;
-mod periods;
 mod read;
 mod units;
 
-pub use read::{Evaporation, read_evt};
+pub use read::read_evt;

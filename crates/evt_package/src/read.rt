@@ -1,76 +1,57 @@
 // A model with its evapotranspiration.
-ghost use Rattle.std.specs.Prelude.{◌≡◌, ◌≤ℤ◌, pos, All, IfOk, List, map};
+ghost use Rattle.std.specs.Prelude.{IfOk, List};
 ghost use Rattle.outside.specs.Asking.{TextMay};
 ghost use Rattle.outside.specs.Files.{File};
 ghost use Rattle.outside.specs.Folders.{ReadsOn};
-ghost use Rattle.record_lines.specs.Reading.{GivesText, Has};
+ghost use Rattle.record_lines.specs.Reading.{Has};
 ghost use Rattle.model_types.specs.Grids.{HasSize};
 ghost use Rattle.model_types.specs.Valid.{IsModel};
-ghost use Rattle.evt_package.specs.Evaporation.{evaporation_of, evt_of, option_line};
-ghost use Rattle.evt_package.specs.Forms.{AreArrays, IsEvaporating, SameBut, without};
+ghost use Rattle.evt_package.specs.Evaporation.{evaporation_arrays, evt_of};
+ghost use Rattle.evt_package.specs.Forms.{AreArrays, IsEvaporating, SameBut};
 
-use crate::periods::periods_of;
-use array_reader::integer;
-use list_package::item_line;
-use model_types::{FlowModel, Grid, Listed, Period};
+use crate::columns::columns_tested;
+use model_types::{FlowModel, Grid, Stresses};
 use outside::{Folder, InputFault, TextFault};
-use period_arrays::option_at;
-use record_lines::{Lines, Words};
+use period_arrays::{Area, ArrayPackage, read_arrays};
 use std::alloc::Global;
 
-/// The contents of a file of the package: NEVTOP, and the periods with their arrays.
-#[derive(Drop)]
-pub struct Evaporation {
-    pub nevtop: i64,
-    pub periods: Listed<Period>,
-}
+/// The package EVT.
+pub struct Evapotranspiration;
 
-/// NEVTOP and IEVTCB.
-#[tactic(auto, unfolding(crate::specs::Evaporation::option_line))]
-fn option_line(alloc: Global, lines: &mut Lines, file: &str) -> Result<i64, TextFault>
-    ensures option { GivesText (λ z. z) result lines.new (option_line file.now lines.old) }
-    ensures range { IfOk result (λ z. (pos 1 ≤ℤ z) × (z ≤ℤ pos 3)) }
-{
-    let line = item_line(alloc, lines, file)?;
-    let mut words = Words::of(&line);
-    let option = option_at(alloc, &mut words, file, line.number)?;
-    integer(alloc, &mut words, file, line.number)?;
-    Ok(option)
-}
+impl ArrayPackage for Evapotranspiration {
+    ghost kind = { evaporation_arrays };
 
-#[tactic(auto, unfolding(crate::specs::Evaporation::evaporation_of))]
-fn evaporation_of<F: Folder>(
-    alloc: Global,
-    file: &str,
-    bytes: &[u8],
-    folder: &mut F,
-    grid: &Grid,
-    ibound: &[i64],
-    periods: Vec<Period>,
-) -> Result<Evaporation, InputFault>
-    requires size { HasSize grid.now }
-    requires text { TextMay (F.may folder.old) bytes.now }
-    ensures folder { ReadsOn F.Folder folder.old folder.new result }
-    ensures evaporation { (files : List File) → F.agrees folder.new files →
-        Has (λ e. e) result (evaporation_of files file.now bytes.now grid.now ibound.now periods.items) }
-    ensures option { IfOk result (λ e. (pos 1 ≤ℤ e.nevtop) × (e.nevtop ≤ℤ pos 3)) }
-    ensures arrays { IfOk result (λ e. All (AreArrays file.now grid.now ibound.now e.nevtop) e.periods) }
-    ensures others { IfOk result (λ e. map without e.periods ≡ map without periods.items) }
-{
-    let mut lines = Lines::new(bytes);
-    lines.skip_comments();
-    let nevtop = option_line(alloc, &mut lines, file)?;
-    let periods = periods_of(
-        alloc, &mut lines, file, folder, grid, ibound, &nevtop, periods,
-    )?;
-    Ok(Evaporation {
-        nevtop,
-        periods: Listed::new(periods),
-    })
+    ghost HasArrays = { AreArrays };
+
+    fn evaporates() -> bool {
+        true
+    }
+
+    fn test(
+        alloc: Global,
+        file: &str,
+        grid: &Grid,
+        ibound: &[i64],
+        option: &i64,
+        area: &Area,
+    ) -> Result<(), TextFault> {
+        columns_tested(alloc, file, grid, ibound, option, area)
+    }
+
+    #[tactic(auto, using(crate::proofs::ArrayLemmas::are_arrays))]
+    fn put(stresses: Stresses, area: Area) -> Stresses {
+        Stresses {
+            surf: area.surfaces,
+            evtr: area.rates,
+            exdp: area.depths,
+            ievt: area.layers,
+            ..stresses
+        }
+    }
 }
 
 /// The model with the arrays of its periods.
-#[tactic(auto, unfolding(crate::specs::Evaporation::evt_of), using(crate::proofs::PeriodForms::is_evaporating))]
+#[tactic(auto, unfolding(crate::specs::Evaporation::evt_of), using(crate::proofs::ArrayLemmas::is_evaporating))]
 fn with_evaporation<F: Folder>(
     alloc: Global,
     file: &str,
@@ -86,7 +67,7 @@ fn with_evaporation<F: Folder>(
     ensures others { IfOk result (SameBut model) }
 {
     let periods = model.periods.into_vec();
-    let evaporation = evaporation_of(
+    let evaporation = read_arrays::<Evapotranspiration, F>(
         alloc,
         file,
         bytes,
@@ -96,7 +77,7 @@ fn with_evaporation<F: Folder>(
         periods,
     )?;
     Ok(FlowModel {
-        nevtop: evaporation.nevtop,
+        nevtop: evaporation.option,
         periods: evaporation.periods,
         ..model
     })

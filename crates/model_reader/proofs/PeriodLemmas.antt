@@ -1,5 +1,5 @@
 -- Periods without stresses.
-use Rattle.std.proofs.Common.{◌≡◌, ℕ, ℤ, pos, Bool, true, false, not, cond, ◌&&◌, ◌==◌, List, [], ◌∷◌, Some, None, All, refl, sym, ◌∙◌, ap, subst, arith}
+use Rattle.std.proofs.Common.{◌≡◌, ℕ, ℤ, pos, Bool, true, false, not, cond, ◌&&◌, ◌==◌, List, [], ◌∷◌, Some, None, All, refl, sym, ap, subst}
 use Rattle.std.specs.Option.{option_to_list}
 use Rattle.std.proofs.lemmas.Bool.{or_parts}
 use Rattle.std.proofs.lemmas.List.Elements.{All-nil, All-cons, All-weaker}

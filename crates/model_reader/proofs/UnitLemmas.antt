@@ -32,8 +32,9 @@ use Rattle.list_package.specs.Kinds.{Kind}
 use Rattle.list_package.specs.Lists.{lists_of, package_of}
 use Rattle.stress_packages.specs.Packages.{wells, rivers, drains, generals}
 use Rattle.list_package.specs.GivenHeads.{given_heads}
-use Rattle.rch_package.specs.Recharge.{rch_of, recharge_of, with_recharge}
-use Rattle.evt_package.specs.Evaporation.{evaporation_of, evt_of, with_evaporation}
+use Rattle.period_arrays.specs.Packages.{arrays_in}
+use Rattle.rch_package.specs.Recharge.{rch_of, recharge_arrays, with_recharge}
+use Rattle.evt_package.specs.Evaporation.{evaporation_arrays, evt_of, with_evaporation}
 use Rattle.model_reader.specs.Model.{basics_tested, bas_in, dis_in, lpf_in, model_of, reads}
 use Rattle.model_reader.specs.Names.{names_in, needed}
 use Rattle.model_reader.specs.Stresses.{evt_in, file_in, list_in, rch_in, where_named, with_entries, with_stresses}
@@ -152,13 +153,13 @@ package_keeps kind file bytes m n h short =
 rch_keeps : (files : List File) (file bytes : List ℕ) → Keeps (rch_of files file bytes)
 unfolding rch_of
 rch_keeps files file bytes m n h short =
-    let recharge = goes (recharge_of files file bytes m.grid m.periods) _ n h in
+    let recharge = goes (arrays_in recharge_arrays files file bytes m.grid m.ibound m.periods) _ n h in
     ends HasShortUnit (with_recharge m recharge.item) n recharge.then_ short
 
 evt_keeps : (files : List File) (file bytes : List ℕ) → Keeps (evt_of files file bytes)
 unfolding evt_of
 evt_keeps files file bytes m n h short =
-    let evaporation = goes (evaporation_of files file bytes m.grid m.ibound m.periods) _ n h in
+    let evaporation = goes (arrays_in evaporation_arrays files file bytes m.grid m.ibound m.periods) _ n h in
     ends HasShortUnit (with_evaporation m evaporation.item) n evaporation.then_ short
 
 list_in_keeps : {E : Type 0} (kind : Kind E) (files : List File) (file : List ℕ) → Keeps (list_in kind files file)

@@ -16,15 +16,17 @@ use Rattle.model_types.specs.Receivers.{is_int}
 use Rattle.list_package.specs.Kinds.{Kind, with_list as put}
 use Rattle.list_package.specs.Lists.{package_of}
 use Rattle.period_arrays.specs.Flags.{is_option}
+use Rattle.period_arrays.specs.Kinds.{ArrayKind, with_area}
+use Rattle.rch_package.specs.Recharge.{recharge_arrays}
+use Rattle.evt_package.specs.Evaporation.{evaporation_arrays}
 use Rattle.model_reader.specs.Stresses.{where_named, file_in, list_in, rch_in, evt_in}
 use Rattle.array_text.specs.Lines.{text}
 use Rattle.stress_text.specs.Lists.{list_lines}
 use Rattle.stress_text.specs.Entries.{IsListOf, with_lists}
 use Rattle.stress_text.specs.Laws.{ListsReadAsWritten}
 use Rattle.area_text.specs.Areas.{rch_lines, evt_lines}
-use Rattle.area_text.specs.Readable.{IsRecharged, IsEvaporating, recharged, evaporated}
-use Rattle.area_text.proofs.RchTexts.{rch_reads}
-use Rattle.area_text.proofs.EvtTexts.{evt_reads}
+use Rattle.area_text.specs.Readable.{IsRecharged, IsEvaporating, with_areas}
+use Rattle.area_text.proofs.FileTexts.{evt_reads, rch_reads}
 use Rattle.model_text.specs.Written.{is_listed}
 use Rattle.model_text.specs.Writable.{HasLists, IsDry, IsStill, HasNoRecharge, HasNoEvaporation}
 
@@ -91,18 +93,22 @@ option_is_some (pos zero) h = absurd (cc)
 option_is_some (pos (suc n)) h = grind (arith, nat_tests)
 option_is_some (negsuc n) h = absurd (cc)
 
+-- The next stage has the arrays of this kind.
+abbrev with_arrays : ArrayKind → (Period → Period) → Period → Period
+with_arrays kind stage p = with_area kind (stage p) (kind.area p.stresses)
+
+arrays_put : (kind : ArrayKind) (stage : Period → Period) (ps : List Period) → with_areas kind (map stage ps) ps ≡ map (with_arrays kind stage) ps
+arrays_put kind stage [] = refl
+arrays_put kind stage (p ∷ ps) = ap (λ (qs : List Period). with_arrays kind stage p ∷ qs) (arrays_put kind stage ps)
+
 -- RCH: the next stage has the recharge.
 abbrev pub with_recharge : (Period → Period) → Period → Period
-with_recharge stage p = record (stage p) { stresses = record (stage p).stresses { recharge = p.stresses.recharge; irch = p.stresses.irch } }
+with_recharge stage = with_arrays recharge_arrays stage
 
 module _ (m : FlowModel) (size : HasSize m.grid) (files : List File) (name : List ℕ) (stage : Period → Period) where
-  recharge_put : (ps : List Period) → recharged (map stage ps) ps ≡ map (with_recharge stage) ps
-  recharge_put [] = refl
-  recharge_put (p ∷ ps) = ap (λ (qs : List Period). with_recharge stage p ∷ qs) (recharge_put ps)
-
   recharge_there : IsRecharged m → file_at files name ≡ Ok (text (rch_lines m)) → rch_in files name (staged m (pos 0) (pos 0) stage) ≡ Ok (staged m m.nrchop (pos 0) (with_recharge stage))
   unfolding rch_in
-  recharge_there w there = rw (there, rch_reads files name m size w (staged m (pos 0) (pos 0) stage) refl (length-map m.periods stage), recharge_put m.periods) refl
+  recharge_there w there = rw (there, rch_reads files name m size w (staged m (pos 0) (pos 0) stage) refl (length-map m.periods stage), arrays_put recharge_arrays stage m.periods) refl
 
   pub recharge_stage : (named : Option (List ℕ)) → IsRecharged m ⊎ HasNoRecharge m → ((p : Period) → IsDry p → with_recharge stage p ≡ stage p)
       → named ≡ (if not (is_int m.nrchop 0) then Some name else None) → (not (is_int m.nrchop 0) ≡ true → file_at files name ≡ Ok (text (rch_lines m)))
@@ -118,16 +124,12 @@ module _ (m : FlowModel) (size : HasSize m.grid) (files : List File) (name : Lis
 
 -- EVT: the next stage has the evapotranspiration.
 abbrev pub with_evaporation : (Period → Period) → Period → Period
-with_evaporation stage p = record (stage p) { stresses = record (stage p).stresses { surf = p.stresses.surf; evtr = p.stresses.evtr; exdp = p.stresses.exdp; ievt = p.stresses.ievt } }
+with_evaporation stage = with_arrays evaporation_arrays stage
 
 module _ (m : FlowModel) (size : HasSize m.grid) (files : List File) (name : List ℕ) (stage : Period → Period) where
-  evaporation_put : (ps : List Period) → evaporated (map stage ps) ps ≡ map (with_evaporation stage) ps
-  evaporation_put [] = refl
-  evaporation_put (p ∷ ps) = ap (λ (qs : List Period). with_evaporation stage p ∷ qs) (evaporation_put ps)
-
   evaporation_there : IsEvaporating m → file_at files name ≡ Ok (text (evt_lines m)) → evt_in files name (staged m m.nrchop (pos 0) stage) ≡ Ok (staged m m.nrchop m.nevtop (with_evaporation stage))
   unfolding evt_in
-  evaporation_there w there = rw (there, evt_reads files name m size w (staged m m.nrchop (pos 0) stage) refl refl (length-map m.periods stage), evaporation_put m.periods) refl
+  evaporation_there w there = rw (there, evt_reads files name m size w (staged m m.nrchop (pos 0) stage) refl refl (length-map m.periods stage), arrays_put evaporation_arrays stage m.periods) refl
 
   pub evaporation_stage : (named : Option (List ℕ)) → IsEvaporating m ⊎ HasNoEvaporation m → ((p : Period) → IsStill p → with_evaporation stage p ≡ stage p)
       → named ≡ (if not (is_int m.nevtop 0) then Some name else None) → (not (is_int m.nevtop 0) ≡ true → file_at files name ≡ Ok (text (evt_lines m)))

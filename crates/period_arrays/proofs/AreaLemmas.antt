@@ -1,5 +1,5 @@
 -- A period's arrays by its flags.
-use Rattle.std.proofs.Common.{◌≡◌, ℤ, true, false, List}
+use Rattle.std.proofs.Common.{◌≡◌, ℤ, false, List}
 use Rattle.decimal_input.specs.declared.dec.Dec.{Dec}
 use Rattle.model_types.specs.declared.grid.Grid.{Grid}
 use Rattle.period_arrays.specs.Forms.{AreFlags, IsArea, IsInForce, IsReals, IsWhole}

@@ -2,3 +2,5 @@ pub mod Flags
 pub mod Layers
 pub mod Areas
 pub mod Forms
+pub mod Kinds
+pub mod Packages

@@ -1,11 +1,16 @@
-//! Packages whose files have arrays of one layer for each stress period, each read anew or reused.
+//! Packages whose files have arrays of one layer for each stress period, each read anew or reused: the trait of such a
+//! package, and one reader for all of them.
 #![tactic(auto)]
 
 mod area;
 mod flags;
 mod layers;
+mod package;
+mod periods;
+mod read;
 mod refused;
 
-pub use area::{Area, InForce, area_at};
-pub use flags::{Contents, Flags, option_at};
+pub use area::Area;
+pub use package::ArrayPackage;
+pub use read::{ArrayFile, read_arrays};
 pub use refused::cell_refused;

@@ -1,5 +1,5 @@
 // A model with its recharge.
-ghost use Rattle.std.specs.Prelude.{◌≡◌, ◌≤ℤ◌, pos, All, IfOk, List, map};
+ghost use Rattle.std.specs.Prelude.{IfOk, List};
 ghost use Rattle.outside.specs.Asking.{TextMay};
 ghost use Rattle.outside.specs.Files.{File};
 ghost use Rattle.outside.specs.Folders.{ReadsOn};
@@ -7,50 +7,45 @@ ghost use Rattle.record_lines.specs.Reading.{Has};
 ghost use Rattle.model_types.specs.Grids.{HasSize};
 ghost use Rattle.model_types.specs.Receivers.{is_int};
 ghost use Rattle.model_types.specs.Valid.{IsModel};
-ghost use Rattle.rch_package.specs.Forms.{AreArrays, IsRecharged, SameBut, without};
-ghost use Rattle.rch_package.specs.Recharge.{rch_of, recharge_of};
+ghost use Rattle.rch_package.specs.Forms.{AreArrays, IsRecharged, SameBut};
+ghost use Rattle.rch_package.specs.Recharge.{rch_of, recharge_arrays};
 
-use crate::periods::periods_of;
-use list_package::item_line;
-use model_types::{FlowModel, Grid, Listed, Period};
-use outside::{Folder, InputFault};
-use period_arrays::option_at;
-use record_lines::{Lines, Words};
+use model_types::{FlowModel, Grid, Stresses};
+use outside::{Folder, InputFault, TextFault};
+use period_arrays::{Area, ArrayPackage, read_arrays};
 use std::alloc::Global;
 
-/// The contents of a file of the package: NRCHOP, and the periods with their arrays.
-#[derive(Drop)]
-pub struct Recharge {
-    pub nrchop: i64,
-    pub periods: Listed<Period>,
-}
+/// The package RCH.
+pub struct Recharge;
 
-#[tactic(auto, unfolding(crate::specs::Recharge::recharge_of))]
-fn recharge_of<F: Folder>(
-    alloc: Global,
-    file: &str,
-    bytes: &[u8],
-    folder: &mut F,
-    grid: &Grid,
-    periods: Vec<Period>,
-) -> Result<Recharge, InputFault>
-    requires size { HasSize grid.now }
-    requires text { TextMay (F.may folder.old) bytes.now }
-    ensures folder { ReadsOn F.Folder folder.old folder.new result }
-    ensures recharge { (files : List File) → F.agrees folder.new files → Has (λ r. r) result (recharge_of files file.now bytes.now grid.now periods.items) }
-    ensures option { IfOk result (λ r. (pos 1 ≤ℤ r.nrchop) × (r.nrchop ≤ℤ pos 3)) }
-    ensures arrays { IfOk result (λ r. All (AreArrays (is_int r.nrchop 2) grid.now) r.periods) }
-    ensures others { IfOk result (λ r. map without r.periods ≡ map without periods.items) }
-{
-    let mut lines = Lines::new(bytes);
-    lines.skip_comments();
-    let line = item_line(alloc, &mut lines, file)?;
-    let nrchop = option_at(alloc, &mut Words::of(&line), file, line.number)?;
-    let periods = periods_of(alloc, &mut lines, nrchop == 2, file, folder, grid, periods)?;
-    Ok(Recharge {
-        nrchop,
-        periods: Listed::new(periods),
-    })
+impl ArrayPackage for Recharge {
+    ghost kind = { recharge_arrays };
+
+    ghost HasArrays = { λ file grid ibound option s. AreArrays (is_int option 2) grid s };
+
+    fn evaporates() -> bool {
+        false
+    }
+
+    fn test(
+        alloc: Global,
+        file: &str,
+        grid: &Grid,
+        ibound: &[i64],
+        option: &i64,
+        area: &Area,
+    ) -> Result<(), TextFault> {
+        Ok(())
+    }
+
+    #[tactic(auto, using(crate::proofs::ArrayLemmas::are_arrays))]
+    fn put(stresses: Stresses, area: Area) -> Stresses {
+        Stresses {
+            recharge: area.rates,
+            irch: area.layers,
+            ..stresses
+        }
+    }
 }
 
 /// The model with the arrays of its periods.
@@ -70,9 +65,17 @@ fn with_recharge<F: Folder>(
     ensures others { IfOk result (SameBut model) }
 {
     let periods = model.periods.into_vec();
-    let recharge = recharge_of(alloc, file, bytes, folder, &model.grid, periods)?;
+    let recharge = read_arrays::<Recharge, F>(
+        alloc,
+        file,
+        bytes,
+        folder,
+        &model.grid,
+        model.ibound.as_slice(),
+        periods,
+    )?;
     Ok(FlowModel {
-        nrchop: recharge.nrchop,
+        nrchop: recharge.option,
         periods: recharge.periods,
         ..model
     })

@@ -1,4 +1,4 @@
-use Rattle.area_text.proofs.EvtTexts.{evt_reads}
+use Rattle.area_text.proofs.FileTexts.{evt_reads}
 use Rattle.area_text.proofs.laws.evt_reads_as_written.Goals as goal
 
 pub returns : goal.returns

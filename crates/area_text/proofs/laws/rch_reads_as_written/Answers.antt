@@ -1,4 +1,4 @@
-use Rattle.area_text.proofs.RchTexts.{rch_reads}
+use Rattle.area_text.proofs.FileTexts.{rch_reads}
 use Rattle.area_text.proofs.laws.rch_reads_as_written.Goals as goal
 
 pub returns : goal.returns

@@ -4,8 +4,8 @@ use Rattle.std.proofs.lemmas.Result.{err_from_is_err_and}
 use Rattle.record_lines.proofs.Each.{no_items, each_goes_on, each_stops, each_done}
 use Rattle.array_reader.proofs.ListLemmas.{all_pushed}
 use Rattle.list_package.proofs.PeriodLemmas.{one_more_same, all_same}
-use Rattle.rch_package.specs.Forms.{AreArrays, without}
-use Rattle.rch_package.proofs.periods.with_recharge.Goals as goal
+use Rattle.period_arrays.specs.Kinds.{without}
+use Rattle.period_arrays.proofs.periods.with_areas.Goals as goal
 
 pub returns-in_err-period-clause-periods : goal.returns-in_err-period-clause-periods
 returns-in_err-period-clause-periods g c = λ files agree.
@@ -21,8 +21,8 @@ loop-period-preserved g c = (
   (λ files agree. c.loop-period.invariant.3 files (c.in_ok-period.ensures.folder.since files agree)),
   c.in_ok-period.ensures.folder.counts ∙ c.loop-period.invariant.4,
   c.in_ok-period.ensures.before,
-  all_pushed (AreArrays c.args.layered c.args.grid.now) c.loop-period.whole.items _ c.in_ok-period.period c.in_ok-push.ensures.items c.loop-period.invariant.6 c.in_ok-period.ensures.arrays,
-  rw c.in_ok-push.ensures.items (one_more_same without c.loop-period.whole.items (into_iter_items c.loop-period.period-iterator) (into_iter_items c.next.new.self) _ c.in-Some.period c.in_ok-period.period c.in-Some.ensures.steps.0 c.in_ok-period.ensures.others c.loop-period.invariant.7),
+  all_pushed (λ p. g.P.ArrayPackage.HasArrays c.args.file.now c.args.grid.now c.args.ibound.now c.args.option.now p.stresses) c.loop-period.whole.items _ c.in_ok-period.period c.in_ok-push.ensures.items c.loop-period.invariant.6 c.in_ok-period.ensures.arrays,
+  rw c.in_ok-push.ensures.items (one_more_same (without g.P.ArrayPackage.kind) c.loop-period.whole.items (into_iter_items c.loop-period.period-iterator) (into_iter_items c.next.new.self) _ c.in-Some.period c.in_ok-period.period c.in-Some.ensures.steps.0 c.in_ok-period.ensures.others c.loop-period.invariant.7),
   (λ name h. c.in_ok-period.ensures.folder.still name (c.loop-period.invariant.8 name h)),
   c.in_ok-period.ensures.lines,
 )
@@ -31,4 +31,4 @@ pub returns-clause-periods : goal.returns-clause-periods
 returns-clause-periods g c = λ files agree. each_done _ c.loop-period.whole.items (into_iter_items c.loop-period.period-iterator) _ _ (no_items (into_iter_items c.loop-period.period-iterator) (sym c.loop-period.period-iterator.rest.ok.0 ∙ c.in-None.ensures.steps.0)) (c.loop-period.invariant.2 files agree)
 
 pub returns-clause-others : goal.returns-clause-others
-returns-clause-others g c = all_same without c.loop-period.whole.items (into_iter_items c.loop-period.period-iterator) _ (no_items (into_iter_items c.loop-period.period-iterator) (sym c.loop-period.period-iterator.rest.ok.0 ∙ c.in-None.ensures.steps.0)) c.loop-period.invariant.7
+returns-clause-others g c = all_same (without g.P.ArrayPackage.kind) c.loop-period.whole.items (into_iter_items c.loop-period.period-iterator) _ (no_items (into_iter_items c.loop-period.period-iterator) (sym c.loop-period.period-iterator.rest.ok.0 ∙ c.in-None.ensures.steps.0)) c.loop-period.invariant.7

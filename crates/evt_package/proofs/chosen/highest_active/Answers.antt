@@ -1,7 +1,7 @@
 use Rattle.std.proofs.Common.{◌≡◌, true, rules}
 use Rattle.model_types.specs.Layers.{int_at, is_nonzero}
 use Rattle.evt_package.proofs.ColumnLemmas.{is_found}
-use Rattle.evt_package.proofs.chosen.highest.Goals as goal
+use Rattle.evt_package.proofs.chosen.highest_active.Goals as goal
 
 pub returns-then-int_at-ne0-clause-cell : goal.returns-then-int_at-ne0-clause-cell
 returns-then-int_at-ne0-clause-cell c =

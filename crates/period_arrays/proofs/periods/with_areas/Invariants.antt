@@ -1,0 +1,22 @@
+use Rattle.std.proofs.Common.{◌≡◌, ℕ, ◌++◌, map, All}
+use Rattle.std.specs.Prelude.{List}
+use Rattle.outside.specs.Files.{File}
+use Rattle.std.specs.Vec.Iter.{into_iter_items}
+use Rattle.record_lines.specs.Asking.{LinesMay}
+use Rattle.record_lines.specs.Reading.{for_each}
+use Rattle.record_lines.proofs.Loops.{with_front}
+use Rattle.period_arrays.specs.Forms.{IsInForce}
+use Rattle.period_arrays.specs.Kinds.{contents, without}
+use Rattle.period_arrays.specs.Packages.{period_at}
+use Rattle.period_arrays.proofs.periods.with_areas.Given as goal
+
+abbrev pub invariant-loop-period : goal.invariant-loop-period
+invariant-loop-period g l =
+    (goal.iterator-loop-period g).can_next l.period-iterator × (goal.iterator-loop-period g).is_finite l.period-iterator
+    × ((files : List File) → g.F.Folder.agrees l.folder files → with_front l.whole.items (for_each (period_at g.P.ArrayPackage.kind files l.file l.grid l.ibound l.option) (into_iter_items l.period-iterator) (l.before, l.lines))
+    ≡ for_each (period_at g.P.ArrayPackage.kind files l.file l.grid l.ibound l.option) l.fn.periods.items (l.fn.before, l.fn.lines))
+    × ((files : List File) → g.F.Folder.agrees l.folder files → g.F.Folder.agrees l.fn.folder files) × (g.F.Folder.faults l.folder ≡ g.F.Folder.faults l.fn.folder)
+    × IsInForce (contents g.P.ArrayPackage.kind l.option) l.grid l.before
+    × All (λ p. g.P.ArrayPackage.HasArrays l.file l.grid l.ibound l.option p.stresses) l.whole.items
+    × (map (without g.P.ArrayPackage.kind) l.whole.items ++ map (without g.P.ArrayPackage.kind) (into_iter_items l.period-iterator) ≡ map (without g.P.ArrayPackage.kind) l.fn.periods.items)
+    × ((name : List ℕ) → g.F.Folder.may l.fn.folder name → g.F.Folder.may l.folder name) × LinesMay (g.F.Folder.may l.folder) l.lines

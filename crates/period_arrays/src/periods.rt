@@ -1,0 +1,194 @@
+// The periods with their arrays.
+ghost use Rattle.std.specs.Prelude.{◌≡◌, ℕ, ℤ, Ok, IfOk, All, map, List};
+ghost use Rattle.outside.specs.Files.{File};
+ghost use Rattle.outside.specs.Folders.{ReadsOn};
+ghost use Rattle.record_lines.specs.Asking.{LinesMay};
+ghost use Rattle.record_lines.specs.Reading.{Gives, Has, HasText, for_each};
+ghost use Rattle.model_types.specs.declared.grid.Grid as grids;
+ghost use Rattle.model_types.specs.Grids.{HasSize};
+ghost use Rattle.period_arrays.specs.Forms.{IsArea, IsInForce};
+ghost use Rattle.period_arrays.specs.Kinds.{contents, with_area, without};
+ghost use Rattle.period_arrays.specs.Packages.{period_at, periods_of, tested_area};
+
+use crate::area::{Area, InForce, area_at};
+use crate::flags::Contents;
+use crate::package::ArrayPackage;
+use model_types::{Grid, Period};
+use outside::{Folder, InputFault, TextFault};
+use record_lines::Lines;
+use std::alloc::Global;
+
+/// What a file has beside its rates.
+fn contents_of<P: ArrayPackage>(option: &i64) -> Contents
+    ensures { result ≡ contents P.kind option.now }
+{
+    Contents {
+        evaporates: P::evaporates(),
+        layered: *option == 2,
+    }
+}
+
+/// The arrays, if they pass the package's test.
+fn passing_area<P: ArrayPackage>(
+    alloc: Global,
+    file: &str,
+    grid: &Grid,
+    ibound: &[i64],
+    option: &i64,
+    area: Area,
+) -> Result<Area, TextFault>
+    requires size { HasSize grid.now }
+    requires area { IsArea (contents P.kind option.now) grid.now area }
+    ensures passed { HasText (λ _. tt) result (P.kind.test file.now grid.now ibound.now option.now area) }
+    ensures same { IfOk result (λ a. a ≡ area) }
+{
+    match P::test(alloc, file, grid, ibound, option, &area) {
+        Ok(()) => Ok(area),
+        Err(fault) => {
+            drop(area);
+            Err(fault)
+        }
+    }
+}
+
+/// The arrays of the next period, which are then in force. They are tested.
+#[tactic(auto, unfolding(crate::specs::Packages::tested_area))]
+fn tested_area<P: ArrayPackage, F: Folder>(
+    alloc: Global,
+    lines: &mut Lines,
+    file: &str,
+    folder: &mut F,
+    grid: &Grid,
+    ibound: &[i64],
+    option: &i64,
+    before: &mut InForce,
+) -> Result<Area, InputFault>
+    requires size { HasSize grid.now }
+    requires before { IsInForce (contents P.kind option.now) grid.now before.old }
+    requires lines { LinesMay (F.may folder.old) lines.old }
+    ensures folder { ReadsOn F.Folder folder.old folder.new result }
+    ensures lines { IfOk result (λ _. LinesMay (F.may folder.new) lines.new) }
+    ensures area { (files : List File) → F.agrees folder.new files →
+        Gives (λ a. a) result (before.new, lines.new)
+        (tested_area P.kind files file.now grid.now ibound.now option.now (before.old, lines.old)) }
+    ensures before { IfOk result (λ _. IsInForce (contents P.kind option.now) grid.now before.new) }
+    ensures form { IfOk result (IsArea (contents P.kind option.now) grid.now) }
+    ensures passed { IfOk result (λ a. P.kind.test file.now grid.now ibound.now option.now a ≡ Ok tt) }
+{
+    let contents = contents_of::<P>(option);
+    let area = area_at(alloc, lines, file, folder, grid, contents, before)?;
+    Ok(passing_area::<P>(alloc, file, grid, ibound, option, area)?)
+}
+
+fn with_area<P: ArrayPackage>(period: Period, area: Area) -> Period
+    ensures period { result ≡ with_area P.kind period area }
+    ensures arrays { (file : List ℕ) (grid : grids.Grid) (ibound : List ℤ) (option : ℤ) → IsArea (contents P.kind option) grid area →
+        P.kind.test file grid ibound option area ≡ Ok tt → P.HasArrays file grid ibound option result.stresses }
+    ensures others { without P.kind result ≡ without P.kind period }
+{
+    let stresses = P::put(period.stresses, area);
+    Period { stresses, ..period }
+}
+
+/// The next period with its arrays, which are then in force.
+#[tactic(auto, unfolding(crate::specs::Packages::period_at))]
+fn period_at<P: ArrayPackage, F: Folder>(
+    alloc: Global,
+    lines: &mut Lines,
+    file: &str,
+    folder: &mut F,
+    grid: &Grid,
+    ibound: &[i64],
+    option: &i64,
+    period: Period,
+    before: &mut InForce,
+) -> Result<Period, InputFault>
+    requires size { HasSize grid.now }
+    requires before { IsInForce (contents P.kind option.now) grid.now before.old }
+    requires lines { LinesMay (F.may folder.old) lines.old }
+    ensures folder { ReadsOn F.Folder folder.old folder.new result }
+    ensures lines { IfOk result (λ _. LinesMay (F.may folder.new) lines.new) }
+    ensures period { (files : List File) → F.agrees folder.new files →
+        Gives (λ p. p) result (before.new, lines.new)
+        (period_at P.kind files file.now grid.now ibound.now option.now period (before.old, lines.old)) }
+    ensures before { IfOk result (λ _. IsInForce (contents P.kind option.now) grid.now before.new) }
+    ensures arrays { IfOk result (λ p. P.HasArrays file.now grid.now ibound.now option.now p.stresses) }
+    ensures others { IfOk result (λ p. without P.kind p ≡ without P.kind period) }
+{
+    match tested_area::<P, F>(alloc, lines, file, folder, grid, ibound, option, before) {
+        Ok(area) => Ok(with_area::<P>(period, area)),
+        Err(fault) => {
+            drop(period);
+            Err(fault)
+        }
+    }
+}
+
+/// The periods with their arrays, after those `before`.
+fn with_areas<P: ArrayPackage, F: Folder>(
+    alloc: Global,
+    lines: &mut Lines,
+    file: &str,
+    folder: &mut F,
+    grid: &Grid,
+    ibound: &[i64],
+    option: &i64,
+    periods: Vec<Period>,
+    before: &mut InForce,
+) -> Result<Vec<Period>, InputFault>
+    requires size { HasSize grid.now }
+    requires before { IsInForce (contents P.kind option.now) grid.now before.old }
+    requires lines { LinesMay (F.may folder.old) lines.old }
+    ensures folder { ReadsOn F.Folder folder.old folder.new result }
+    ensures lines { IfOk result (λ _. LinesMay (F.may folder.new) lines.new) }
+    ensures periods { (files : List File) → F.agrees folder.new files →
+        Gives (λ v. v.items) result (before.new, lines.new)
+        (for_each (period_at P.kind files file.now grid.now ibound.now option.now) periods.items (before.old, lines.old)) }
+    ensures arrays { IfOk result (λ v. All (λ p. P.HasArrays file.now grid.now ibound.now option.now p.stresses) v.items) }
+    ensures others { IfOk result (λ v. map (without P.kind) v.items ≡ map (without P.kind) periods.items) }
+{
+    let mut whole = Vec::new(alloc);
+    for period in periods {
+        let period = period_at::<P, F>(
+            alloc, lines, file, folder, grid, ibound, option, period, before,
+        )?;
+        whole.push(period)?;
+    }
+    Ok(whole)
+}
+
+/// The periods with their arrays.
+#[tactic(auto, unfolding(crate::specs::Packages::periods_of))]
+pub fn periods_of<P: ArrayPackage, F: Folder>(
+    alloc: Global,
+    lines: &mut Lines,
+    file: &str,
+    folder: &mut F,
+    grid: &Grid,
+    ibound: &[i64],
+    option: &i64,
+    periods: Vec<Period>,
+) -> Result<Vec<Period>, InputFault>
+    requires size { HasSize grid.now }
+    requires lines { LinesMay (F.may folder.old) lines.old }
+    ensures folder { ReadsOn F.Folder folder.old folder.new result }
+    ensures lines { IfOk result (λ _. LinesMay (F.may folder.new) lines.new) }
+    ensures periods { (files : List File) → F.agrees folder.new files →
+        Has (λ v. v.items) result (periods_of P.kind files file.now grid.now ibound.now option.now periods.items lines.old) }
+    ensures arrays { IfOk result (λ v. All (λ p. P.HasArrays file.now grid.now ibound.now option.now p.stresses) v.items) }
+    ensures others { IfOk result (λ v. map (without P.kind) v.items ≡ map (without P.kind) periods.items) }
+{
+    let mut before = InForce::nothing_yet();
+    let periods = with_areas::<P, F>(
+        alloc,
+        lines,
+        file,
+        folder,
+        grid,
+        ibound,
+        option,
+        periods,
+        &mut before,
+    )?;
+    Ok(periods)
+}

@@ -1,0 +1,94 @@
+// The file of a package of arrays.
+ghost use Rattle.std.specs.Prelude.{◌≡◌, ◌≤ℤ◌, pos, All, IfOk, List, map};
+ghost use Rattle.outside.specs.Asking.{TextMay};
+ghost use Rattle.outside.specs.Files.{File};
+ghost use Rattle.outside.specs.Folders.{ReadsOn};
+ghost use Rattle.record_lines.specs.Reading.{GivesText, Has, HasText};
+ghost use Rattle.model_types.specs.Grids.{HasSize};
+ghost use Rattle.period_arrays.specs.Kinds.{without};
+ghost use Rattle.period_arrays.specs.Packages.{arrays_in, option_line, unit_if};
+
+use crate::flags::option_at;
+use crate::package::ArrayPackage;
+use crate::periods::periods_of;
+use array_reader::integer;
+use list_package::item_line;
+use model_types::{Grid, Listed, Period};
+use outside::{Folder, InputFault, TextFault};
+use record_lines::{Lines, Words};
+use std::alloc::Global;
+
+/// The contents of a package's file: its option, and the periods with their arrays.
+#[derive(Drop)]
+pub struct ArrayFile {
+    pub option: i64,
+    pub periods: Listed<Period>,
+}
+
+fn unit_if(
+    alloc: Global,
+    words: &mut Words,
+    present: bool,
+    file: &str,
+    line: u32,
+) -> Result<(), TextFault>
+    ensures { HasText (λ _. tt) result (unit_if present file.now line words.old) }
+{
+    if present {
+        integer(alloc, words, file, line)?;
+    }
+    Ok(())
+}
+
+/// The option, and after it a unit where the package has one.
+#[tactic(auto, unfolding(crate::specs::Packages::option_line))]
+fn option_line<P: ArrayPackage>(
+    alloc: Global,
+    lines: &mut Lines,
+    file: &str,
+) -> Result<i64, TextFault>
+    ensures option { GivesText (λ z. z) result lines.new (option_line P.kind file.now lines.old) }
+    ensures range { IfOk result (λ z. (pos 1 ≤ℤ z) × (z ≤ℤ pos 3)) }
+{
+    let line = item_line(alloc, lines, file)?;
+    let mut words = Words::of(&line);
+    let option = option_at(alloc, &mut words, file, line.number)?;
+    unit_if(alloc, &mut words, P::evaporates(), file, line.number)?;
+    Ok(option)
+}
+
+/// The option of a package's file, and the periods with their arrays. `file` is the file's name, for refusals, and
+/// `folder` has the files that its arrays name. An array that a period reuses is shared, so it is in memory once.
+///
+/// # Errors
+/// The first item that is wrong is refused. A read fault comes only from the folder.
+#[tactic(auto, unfolding(crate::specs::Packages::arrays_in))]
+pub fn read_arrays<P: ArrayPackage, F: Folder>(
+    alloc: Global,
+    file: &str,
+    bytes: &[u8],
+    folder: &mut F,
+    grid: &Grid,
+    ibound: &[i64],
+    periods: Vec<Period>,
+) -> Result<ArrayFile, InputFault>
+    requires size { HasSize grid.now }
+    requires text { TextMay (F.may folder.old) bytes.now }
+    ensures folder { ReadsOn F.Folder folder.old folder.new result }
+    ensures arrays_read { (files : List File) → F.agrees folder.new files →
+        Has (λ a. a) result (arrays_in P.kind files file.now bytes.now grid.now ibound.now periods.items) }
+    ensures option { IfOk result (λ a. (pos 1 ≤ℤ a.option) × (a.option ≤ℤ pos 3)) }
+    ensures arrays { IfOk result (λ a. All (λ p. P.HasArrays file.now grid.now ibound.now a.option p.stresses) a.periods) }
+    ensures others { IfOk result (λ a. map (without P.kind) a.periods ≡ map (without P.kind) periods.items) }
+{
+    let mut lines = Lines::new(bytes);
+    lines.skip_comments();
+    let option = option_line::<P>(alloc, &mut lines, file)?;
+    let periods = periods_of::<P, F>(
+        alloc, &mut lines, file, folder, grid, ibound, &option, periods,
+    )?;
+    Ok(ArrayFile {
+        option,
+        periods: Listed::new(periods),
+    })
+}
