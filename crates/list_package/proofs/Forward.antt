@@ -1,5 +1,5 @@
 -- The first line of items leaves lines that it was given.
-use Rattle.std.proofs.Common.{◌≡◌, ℕ, List, Result, Ok, Err, All}
+use Rattle.std.proofs.Common.{◌≡◌, ℕ, List, Ok, Err, All}
 use Rattle.std.specs.Prelude.{IfOk, codes}
 use Rattle.outside.specs.Words.{words}
 use Rattle.outside.specs.Refusals.{refusal}

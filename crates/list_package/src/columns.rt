@@ -26,25 +26,27 @@ pub enum Column {
     Conductance,
 }
 
-/// The next words of a line as one number for each column.
-pub fn numbers_of(
+/// Puts the next words of a line into `numbers`, one number for each column, in place of what was there. So the
+/// entries of a list are read with one piece of memory.
+pub fn read_numbers(
     alloc: Global,
     words: &mut Words,
     file: &str,
     line: u32,
     columns: &[Column],
-) -> Result<Vec<Dec>, TextFault>
-    ensures numbers { GivesText (λ v. v.items) result words.new (repeated (length columns.now) (number_at spec.number file.now line) words.old) }
-    ensures count { IfOk result (λ v. length v.items ≡ length columns.now) }
-    ensures decimals { IfOk result (λ v. All IsDec v.items) }
+    numbers: &mut Vec<Dec>,
+) -> Result<(), TextFault>
+    ensures numbers { GivesText (λ _. numbers.new.items) result words.new (repeated (length columns.now) (number_at spec.number file.now line) words.old) }
+    ensures count { IfOk result (λ _. length numbers.new.items ≡ length columns.now) }
+    ensures decimals { IfOk result (λ _. All IsDec numbers.new.items) }
 {
     let count = columns.len();
-    let mut numbers = Vec::new(alloc);
+    numbers.clear();
     for _ in 0..count {
         let x = number(alloc, words, file, line)?;
         numbers.push(x)?;
     }
-    Ok(numbers)
+    Ok(())
 }
 
 fn column_fault(column: Column, x: Dec) -> Option<Code>

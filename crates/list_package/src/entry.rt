@@ -8,10 +8,11 @@ ghost use Rattle.model_types.specs.Grids.{HasSize};
 ghost use Rattle.list_package.specs.Entries.{cell_at, entry_of, entry_at, is_left_out, no_marks, new_list};
 ghost use Rattle.list_package.specs.Forms.{Differ, IsList, IsNewlyMarked};
 
-use crate::columns::{first_fault, numbers_of};
+use crate::columns::{first_fault, read_numbers};
 use crate::kind::ListEntry;
 use crate::marks::Marks;
 use array_reader::{integer, next_line};
+use decimal_input::dec::Dec;
 use model_types::{CellId, Grid, cell_of};
 use number_limits::within;
 use outside::{Code, TextFault, refused};
@@ -43,7 +44,7 @@ fn cell_at(
     Ok(cell_of(grid, k, i, j))
 }
 
-/// The entry that the words of a line make, with its cell.
+/// The entry that the words of a line make, with its cell. Its numbers are put into `numbers`.
 #[tactic(auto, unfolding(crate::specs::Entries::entry_of))]
 fn entry_of<E: ListEntry>(
     alloc: Global,
@@ -53,6 +54,7 @@ fn entry_of<E: ListEntry>(
     line: u32,
     grid: &Grid,
     marks: &Marks,
+    numbers: &mut Vec<Dec>,
 ) -> Result<(E, CellId), TextFault>
     requires size { HasSize grid.now }
     ensures entry { HasText (λ e. e) result (entry_of (E.kind lists) file.now line grid.now marks.now words.old) }
@@ -65,15 +67,15 @@ fn entry_of<E: ListEntry>(
     let row = integer(alloc, words, file, line)?;
     let col = integer(alloc, words, file, line)?;
     let columns = E::columns(lists);
-    let numbers = numbers_of(alloc, words, file, line, columns)?;
+    read_numbers(alloc, words, file, line, columns, numbers)?;
     let cell = cell_at(alloc, file, line, grid, layer, row, col)?;
-    if let Some(code) = first_fault(columns, &numbers) {
+    if let Some(code) = first_fault(columns, numbers) {
         return Err(refused(alloc, code, file, line));
     }
     if marks.is_marked(cell.0) {
         return Err(refused(alloc, Code::BadProperty, file, line));
     }
-    Ok((E::entry(lists, cell, &numbers), cell))
+    Ok((E::entry(lists, cell, numbers), cell))
 }
 
 fn is_left_out(line: &Line) -> bool
@@ -91,6 +93,7 @@ fn entry_at<E: ListEntry>(
     file: &str,
     grid: &Grid,
     marks: &mut Marks,
+    numbers: &mut Vec<Dec>,
 ) -> Result<E, TextFault>
     requires size { HasSize grid.now }
     ensures entry { GivesText (λ e. e) result (marks.new, lines.new) (entry_at (E.kind lists) file.now grid.now (marks.old, lines.old)) }
@@ -102,7 +105,16 @@ fn entry_at<E: ListEntry>(
         return Err(refused(alloc, Code::OutOfProfile, file, line.number));
     }
     let mut words = Words::of(&line);
-    let (entry, cell) = entry_of::<E>(alloc, lists, &mut words, file, line.number, grid, marks)?;
+    let (entry, cell) = entry_of::<E>(
+        alloc,
+        lists,
+        &mut words,
+        file,
+        line.number,
+        grid,
+        marks,
+        numbers,
+    )?;
     marks.mark(cell.0);
     Ok(entry)
 }
@@ -125,8 +137,9 @@ fn entries<E: ListEntry>(
     ensures once { IfOk result (λ v. (E.kind lists).once ≡ true → AllPairs (Differ (E.kind lists)) v.items) }
 {
     let mut list = Vec::new(alloc);
+    let mut numbers = Vec::new(alloc);
     for _ in 0..count {
-        let entry = entry_at::<E>(alloc, lists, lines, file, grid, marks)?;
+        let entry = entry_at::<E>(alloc, lists, lines, file, grid, marks, &mut numbers)?;
         list.push(entry)?;
     }
     Ok(list)

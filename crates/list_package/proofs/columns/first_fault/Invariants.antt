@@ -1,5 +1,4 @@
 use Rattle.std.proofs.Common.{◌≡◌, drop}
-use Rattle.std.specs.List.{AllZip}
 use Rattle.list_package.specs.Kinds.{first_fault}
 use Rattle.list_package.proofs.columns.first_fault.Given as goal
 

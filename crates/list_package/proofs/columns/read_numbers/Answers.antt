@@ -3,7 +3,7 @@ use Rattle.std.proofs.lemmas.Result.{err_from_is_err_and}
 use Rattle.decimal_input.specs.Canonical.{IsDec}
 use Rattle.record_lines.proofs.Loops.{goes_on, ends_text, is_done}
 use Rattle.array_reader.proofs.ListLemmas.{all_pushed}
-use Rattle.list_package.proofs.columns.numbers_of.Goals as goal
+use Rattle.list_package.proofs.columns.read_numbers.Goals as goal
 
 pub returns-in_err-x-clause-numbers : goal.returns-in_err-x-clause-numbers
 returns-in_err-x-clause-numbers c =

@@ -4,7 +4,7 @@ use Rattle.record_lines.specs.Reading.{repeated}
 use Rattle.record_lines.proofs.Loops.{with_front}
 use Rattle.array_reader.specs.Items.{number_at}
 use Rattle.array_reader.specs.Numbers.{number}
-use Rattle.list_package.proofs.columns.numbers_of.Given as goal
+use Rattle.list_package.proofs.columns.read_numbers.Given as goal
 
 abbrev pub invariant-loop : goal.invariant-loop
 invariant-loop l =
