@@ -1,5 +1,5 @@
 -- Half of a cell: equal formulas of its resistance.
-use Rattle.std.proofs.Common.{◌≡◌, ℕ, ◌+◌, ◌*◌, ◌<◌, arith, refl}
+use Rattle.std.proofs.Common.{◌≡◌, ℕ, ◌+◌, ◌*◌, ◌<◌, arith}
 use Rattle.decimal_input.specs.Ratios.{Ratio, den, ratio, plus, times, over, Same}
 use Rattle.decimal_input.proofs.Orders.{num_times, den_times, num_plus, den_plus}
 use Rattle.decimal_input.proofs.SameNumbers.{Same-self, over-Same, times-positive, plus-positive}

@@ -1,5 +1,5 @@
 -- Heads of the input, as whole units, are in range.
-use Rattle.std.proofs.Common.{ℕ, ◌^◌, ◌≤◌, ◌⊎◌, inl, inr, arith, ℤ, pos, negsuc, neg_ℤ, ◌+ℤ◌, ◌*ℤ◌, ◌≤ℤ◌}
+use Rattle.std.proofs.Common.{ℕ, ◌^◌, ◌≤◌, arith, ℤ, pos, negsuc, neg_ℤ, ◌+ℤ◌, ◌*ℤ◌, ◌≤ℤ◌}
 use Rattle.std.specs.Prelude.{unsigned_abs, FitsSigned}
 use Rattle.std.specs.Int.{w64, w128}
 use Rattle.std.proofs.lemmas.Int.{ints, by_lt_z}
@@ -42,13 +42,18 @@ ceiling_in_range f z h k = record {
       (λ le. le);
 }
 
-small_head : (z : ℤ) → IsHeadUnits z → 2 ^ 126 ≤ unsigned_abs z → ⊥
-small_head (pos n) h k = omega (arith, ints, h.below)
-small_head (negsuc n) h k = omega (arith, ints, h.above)
+small_word : (z : ℤ) → FitsSigned w64 z → 2 ^ 126 ≤ unsigned_abs z → ⊥
+small_word (pos n) h k = omega (arith, ints)
+small_word (negsuc n) h k = omega (arith, ints)
 
-pub no_past : (f : Fraction) → InRange f → IsFloorPast f 9 ⊎ IsCeilingPast f 9 → ⊥
-no_past f h (inl k) = small_head k.floor (floor_in_range f k.floor h k.is) k.past
-no_past f h (inr k) = small_head k.ceiling (ceiling_in_range f k.ceiling h k.is) k.past
+pub no_floor_past : (f : Fraction) → ((z : ℤ) → IsSignedFloor z f 9 → FitsSigned w64 z) → IsFloorPast f 9 → ⊥
+no_floor_past f fits k = small_word k.floor (fits k.floor k.is) k.past
+
+pub no_ceiling_past : (f : Fraction) → ((z : ℤ) → IsSignedCeiling z f 9 → FitsSigned w64 z) → IsCeilingPast f 9 → ⊥
+no_ceiling_past f fits k = small_word k.ceiling (fits k.ceiling k.is) k.past
+
+pub fits_wider : (z : ℤ) → FitsSigned w64 z → FitsSigned w128 z
+fits_wider z h = omega (arith, ints, h)
 
 pub fits_64 : (z : ℤ) → IsHeadUnits z → FitsSigned w64 z
 fits_64 z h = omega (arith, ints, h.above, h.below)

@@ -25,7 +25,7 @@ fn share(head: i64, part: u64) -> i128
 }
 
 /// A number in units of 10 ^ -27 as one in units of 10 ^ -9, rounded down.
-pub(crate) fn floor_of(x: i128) -> i64
+pub(crate) fn head_floor(x: i128) -> i64
     requires range { IsWithin x (4 * 10 ^ 36) }
     ensures floor { IsFloorOf x result }
     ensures range { IsHeadUnits result }
@@ -34,10 +34,10 @@ pub(crate) fn floor_of(x: i128) -> i64
 }
 
 /// A number in units of 10 ^ -27 as one in units of 10 ^ -9, rounded up.
-pub(crate) fn ceiling_of(x: i128) -> i64
+pub(crate) fn head_ceiling(x: i128) -> i64
     requires range { IsWithin x (4 * 10 ^ 36) }
     ensures ceiling { IsCeilingOf x result }
     ensures range { IsHeadUnits result }
 {
-    -floor_of(-x)
+    -head_floor(-x)
 }

@@ -1,6 +1,7 @@
 // A head given at the start and at the end of a stress period.
-ghost use Rattle.std.specs.Prelude.{◌≡◌, ◌≤◌, ◌^◌};
-ghost use Rattle.decimal_input.specs.Canonical.{number};
+ghost use Rattle.std.specs.Prelude.{◌≡◌, ◌≤◌, ◌^◌, ℤ, FitsSigned};
+ghost use Rattle.std.specs.Int.{w64};
+ghost use Rattle.decimal_input.specs.Canonical.{IsDec, number};
 ghost use Rattle.decimal_input.specs.Enclosures.{EnclosesSigned};
 ghost use Rattle.decimal_input.specs.Ratios.{Ratio};
 ghost use Rattle.decimal_input.specs.Wholes.{IsSignedFloor, IsSignedCeiling};
@@ -9,7 +10,7 @@ ghost use Rattle.model_types.specs.Numbers.{IsHeadNumber};
 ghost use Rattle.model_types.specs.Heads.{between_heads};
 ghost use Rattle.conductance_bounds.specs.Parts.{IsPassed, IsHeadUnits, IsGivenPair};
 
-use crate::blend::{blend, ceiling_of, floor_of};
+use crate::blend::{blend, head_ceiling, head_floor};
 use crate::part::Part;
 use decimal_input::dec::Dec;
 use decimal_input::units::{ceil_at, floor_at};
@@ -32,15 +33,13 @@ pub fn given_head(shead: Dec, ehead: Dec, part: Part) -> HeadPair
         EnclosesSigned result.lo result.hi 9 (between_heads x f) }
     ensures range { IsHeadUnits result.lo × IsHeadUnits result.hi }
 {
-    let start = head_floor(shead);
-    let end = head_floor(ehead);
-    let low = blend(start, end, part.lo).min(blend(start, end, part.hi));
-    let start = head_ceiling(shead);
-    let end = head_ceiling(ehead);
-    let high = blend(start, end, part.lo).max(blend(start, end, part.hi));
+    let start = head_bounds(shead);
+    let end = head_bounds(ehead);
+    let low = blend(start.lo, end.lo, part.lo).min(blend(start.lo, end.lo, part.hi));
+    let high = blend(start.hi, end.hi, part.lo).max(blend(start.hi, end.hi, part.hi));
     HeadPair {
-        lo: floor_of(low),
-        hi: ceiling_of(high),
+        lo: head_floor(low),
+        hi: head_ceiling(high),
     }
 }
 
@@ -51,29 +50,40 @@ pub fn head_bounds(head: Dec) -> HeadPair
     ensures ceiling { IsSignedCeiling result.hi (number head) 9 }
     ensures range { IsHeadUnits result.lo × IsHeadUnits result.hi }
 {
+    whole_bounds(head)
+}
+
+/// The floor and the ceiling of a number in units of 10 ^ -9, where they fit 64 bits.
+pub fn whole_bounds(x: Dec) -> HeadPair
+    requires decimal { IsDec x }
+    requires low { (z : ℤ) → IsSignedFloor z (number x) 9 → FitsSigned w64 z }
+    requires high { (z : ℤ) → IsSignedCeiling z (number x) 9 → FitsSigned w64 z }
+    ensures floor { IsSignedFloor result.lo (number x) 9 }
+    ensures ceiling { IsSignedCeiling result.hi (number x) 9 }
+{
     HeadPair {
-        lo: head_floor(head),
-        hi: head_ceiling(head),
+        lo: floor_64(x),
+        hi: ceiling_64(x),
     }
 }
 
-fn head_floor(head: Dec) -> i64
-    requires head { IsHeadNumber head }
-    ensures floor { IsSignedFloor result (number head) 9 }
-    ensures range { IsHeadUnits result }
+fn floor_64(x: Dec) -> i64
+    requires decimal { IsDec x }
+    requires low { (z : ℤ) → IsSignedFloor z (number x) 9 → FitsSigned w64 z }
+    ensures { IsSignedFloor result (number x) 9 }
 {
-    match floor_at(head, 9) {
+    match floor_at(x, 9) {
         Some(low) => low as i64,
         None => unreachable!(),
     }
 }
 
-fn head_ceiling(head: Dec) -> i64
-    requires head { IsHeadNumber head }
-    ensures ceiling { IsSignedCeiling result (number head) 9 }
-    ensures range { IsHeadUnits result }
+fn ceiling_64(x: Dec) -> i64
+    requires decimal { IsDec x }
+    requires high { (z : ℤ) → IsSignedCeiling z (number x) 9 → FitsSigned w64 z }
+    ensures { IsSignedCeiling result (number x) 9 }
 {
-    match ceil_at(head, 9) {
+    match ceil_at(x, 9) {
         Some(high) => high as i64,
         None => unreachable!(),
     }

@@ -19,7 +19,7 @@ pub mod vertical;
 
 pub use evaporation::evap_branch;
 pub use factors::{Factors, step_factors};
-pub use head::{HeadPair, given_head, head_bounds};
+pub use head::{HeadPair, given_head, head_bounds, whole_bounds};
 pub use horizontal::{ColHalf, Half, col_branch, row_branch};
 pub use pair::{FlowPair, Pair};
 pub use part::{Part, time_part};

@@ -1,12 +1,12 @@
 -- Extinction depths and elevations are in range.
-use Rattle.std.proofs.Common.{◌^◌, refl, arith, ℤ, pos, ◌-ℤ◌, ◌≤ℤ◌, negsuc, ◌≤◌, unsigned_abs}
+use Rattle.std.proofs.Common.{◌^◌, refl, arith, ℤ, pos, ◌-ℤ◌, ◌≤ℤ◌}
 use Rattle.std.specs.Prelude.{FitsSigned}
-use Rattle.std.specs.Int.{w64, w128}
+use Rattle.std.specs.Int.{w64}
 use Rattle.std.proofs.lemmas.Int.{ints}
 use Rattle.decimal_input.specs.declared.dec.Dec.{Dec}
 use Rattle.decimal_input.specs.Canonical.{number}
 use Rattle.decimal_input.specs.Fractions.{den}
-use Rattle.decimal_input.specs.Wholes.{IsSignedFloor, IsSignedCeiling, IsFloorPast, IsCeilingPast}
+use Rattle.decimal_input.specs.Wholes.{IsSignedFloor, IsSignedCeiling}
 use Rattle.decimal_input.proofs.FloorLaws.{one_floor, one_ceiling}
 use Rattle.decimal_input.proofs.Signs.{cancel_right, mul_mono_right}
 use Rattle.step_problem.specs.Conditions.{IsHead}
@@ -57,16 +57,3 @@ extinctions x a b d e v surface depth =
 
 pub units_64 : (z : ℤ) → IsDepthUnits z → FitsSigned w64 z
 units_64 z h = omega (arith, ints, h.above, h.below)
-
-pub units_128 : (z : ℤ) → IsDepthUnits z → FitsSigned w128 z
-units_128 z h = omega (arith, ints, h.above, h.below)
-
-small_units : (z : ℤ) → IsDepthUnits z → 2 ^ 126 ≤ unsigned_abs z → ⊥
-small_units (pos n) h k = omega (arith, ints, h.below, k)
-small_units (negsuc n) h k = omega (arith, ints, h.above)
-
-pub no_floor_past : (d : Dec) → IsDepth d → IsFloorPast (number d) 9 → ⊥
-no_floor_past d h k = small_units k.floor (floor_units d k.floor h k.is) k.past
-
-pub no_ceiling_past : (d : Dec) → IsDepth d → IsCeilingPast (number d) 9 → ⊥
-no_ceiling_past d h k = small_units k.ceiling (ceiling_units d k.ceiling h k.is) k.past

@@ -1,6 +1,5 @@
 -- Elevations of a valid model are numbers of the input, and a bed is one where its elevations differ.
-use Rattle.std.proofs.Common.{◌≡◌, ℕ, zero, suc, ◌+◌, ◌-◌, ◌<◌, ◌≤◌, inl, inr, Bool, true, false, cond, List, [], ◌∷◌, length, get_or, refl, sym, ap, ◌∙◌, subst, arith, All, ℤ, pos, ◌*ℤ◌, ◌-ℤ◌}
-use Rattle.std.specs.Prelude.{unsigned_abs}
+use Rattle.std.proofs.Common.{◌≡◌, ℕ, zero, suc, ◌+◌, ◌-◌, ◌<◌, ◌≤◌, inl, inr, Bool, true, false, cond, List, [], ◌∷◌, length, get_or, refl, sym, ap, ◌∙◌, subst, arith, All, pos, ◌*ℤ◌}
 use Rattle.std.proofs.lemmas.Int.{ints}
 use Rattle.std.proofs.lemmas.Bool.{cases_lt}
 use Rattle.decimal_input.specs.declared.dec.Dec.{Dec}
@@ -9,7 +8,7 @@ use Rattle.decimal_input.specs.Fractions.{Fraction}
 use Rattle.decimal_input.proofs.OneNumber.{one_number}
 use Rattle.model_types.specs.declared.model.FlowModel.{FlowModel}
 use Rattle.model_types.specs.Cells.{cell_count, layer_size}
-use Rattle.model_types.specs.Layers.{no_number, dec_at, gap, is_active, has_bed, top_at, bottom_at, lowest, bed_thickness}
+use Rattle.model_types.specs.Layers.{no_number, dec_at, is_active, has_bed, top_at, bottom_at, lowest, bed_thickness}
 use Rattle.model_types.specs.Valid.{IsModel, IsBedValid}
 use Rattle.std.specs.Prelude.{nat_lt}
 use Rattle.conductance_bounds.proofs.FaceBounds.{no_gap}

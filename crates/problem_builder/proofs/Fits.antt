@@ -1,5 +1,5 @@
 -- Rivers and evapotranspirations of a cell: bounds in order, heads in range.
-use Rattle.std.proofs.Common.{◌≡◌, ℕ, ◌*◌, ◌<◌, ◌≤◌, ◌^◌, inl, inr, Bool, Some, refl, sym, subst, arith, All, ℤ, pos, ◌+ℤ◌, ◌≤ℤ◌}
+use Rattle.std.proofs.Common.{◌≡◌, ℕ, ◌≤◌, ◌^◌, inl, inr, Bool, Some, refl, sym, subst, arith, All, ℤ, pos, ◌+ℤ◌, ◌≤ℤ◌}
 use Rattle.std.proofs.lemmas.Int.{ints, by_lt_z}
 use Rattle.std.proofs.lemmas.Option.{none-some}
 use Rattle.decimal_input.specs.Fractions.{Fraction, den}
@@ -8,8 +8,6 @@ use Rattle.decimal_input.proofs.Signs.{cancel_right, mul_mono_right}
 use Rattle.decimal_input.specs.declared.dec.Dec.{Dec}
 use Rattle.decimal_input.specs.Canonical.{number, size}
 use Rattle.decimal_input.proofs.Orders.{AtMost-refl, AtMost-trans}
-use Rattle.decimal_input.proofs.Powers.{ten_pos, num_scaled}
-use Rattle.decimal_input.specs.Decimals.{up}
 use Rattle.decimal_input.specs.Wholes.{IsSignedFloor, IsSignedCeiling}
 use Rattle.decimal_input.proofs.FloorLaws.{one_floor, one_ceiling, floor_ceiling_enclose}
 use Rattle.step_problem.specs.declared.entry.River.{River}
@@ -38,6 +36,7 @@ use Rattle.problem_builder.proofs.ActiveCells.{variable_active}
 use Rattle.problem_builder.proofs.HeadRange.{floor_in_range, ceiling_in_range}
 use Rattle.problem_builder.proofs.Zipped.{zip_all}
 use Rattle.problem_builder.proofs.Members.{some_same}
+use Rattle.problem_builder.proofs.ValidEntries.{local_valid}
 use Rattle.flow_equations.proofs.Values.{size_positive}
 
 pub cond_ordered : (s : ℕ) (d : Dec) (lo hi : ℕ) → IsCond s d lo hi → lo ≤ hi
@@ -102,7 +101,7 @@ module _ (i : Inputs) (c : ℕ) (e : Entries) (are : AreInputs i) (v : IsVariabl
   pub rivers_fit : All RiverFits e.rivers
   rivers_fit = zip_all RiverFits (IsRiver i.tables.digits) e.rivers (river_sources i.model i.at.period c)
       (λ x r j k. let (y, l, q) = filter_map-In as_river (local_entries i.model i.at.period c) r j in
-      let w = river_valid y r q (In-All (IsEntryValid 65536) (local_entries i.model i.at.period c) y (are.entries c) l) in
+      let w = river_valid y r q (In-All (IsEntryValid 65536) (local_entries i.model i.at.period c) y (local_valid i.model i.at.period c are.model are.time.valid) l) in
       river_fits i.tables.digits x r w.0 w.1 k) is.rivers
 
   pub evaps_fit : All EvapFits e.evaps

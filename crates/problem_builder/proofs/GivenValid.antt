@@ -1,5 +1,5 @@
 -- The entries of CHD lists are valid.
-use Rattle.std.proofs.Common.{◌≡◌, ℕ, zero, suc, ◌⊎◌, inl, inr, Bool, true, false, cond, Option, Some, None, List, [], ◌∷◌, ◌++◌, take, refl, sym, subst, All}
+use Rattle.std.proofs.Common.{◌≡◌, ℕ, zero, suc, inl, inr, Bool, true, false, cond, Option, Some, None, List, [], ◌∷◌, take, refl, sym, subst, All}
 use Rattle.std.specs.Prelude.{reverse, ◌==◌, IfSome}
 use Rattle.model_types.specs.Numbers.{IsHeadNumber}
 use Rattle.std.specs.List.{find, flat_map}

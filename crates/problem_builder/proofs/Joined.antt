@@ -1,7 +1,7 @@
 -- Lists of a cell's entries, put together from their kinds.
 use Rattle.std.proofs.Common.{◌≡◌, ℕ, Option, List, [], ◌∷◌, ◌++◌, map, sym, ap, ◌∙◌, subst}
 use Rattle.std.specs.Option.{option_to_list}
-use Rattle.std.specs.List.{AllZip, filter_map}
+use Rattle.std.specs.List.{AllZip}
 use Rattle.decimal_input.specs.declared.dec.Dec.{Dec}
 use Rattle.step_problem.specs.declared.heads.Bound.{Bound}
 use Rattle.step_problem.specs.declared.entry.Flow.{Flow}
@@ -14,7 +14,7 @@ use Rattle.model_types.specs.Sources.FixedSource.{ToConstant, ToGeneral, FromSto
 use Rattle.model_types.specs.Sources.FlowSource.{Pumped, Received}
 use Rattle.problem_builder.specs.Thicknesses.{Thicknesses}
 use Rattle.problem_builder.specs.Cells.{IsConstant, IsFixed, IsFlow, IsReceived}
-use Rattle.problem_builder.specs.Made.{IsGeneralSource, IsWellSource}
+use Rattle.problem_builder.specs.LocalBounds.{IsGeneralSource, IsWellSource}
 use Rattle.problem_builder.specs.Tables.{BothOrNone}
 use Rattle.problem_builder.proofs.Pushed.{AllZip-join, AllZip-option}
 
@@ -68,7 +68,3 @@ pushed empty first o e h = h ∙ ap (λ xs. xs ++ option_to_list o) e
 
 pub extended : {X : Type 0} (old new more seen : List X) → seen ≡ more → new ≡ old ++ seen → new ≡ old ++ more
 extended old new more seen e h = h ∙ ap (λ xs. old ++ xs) e
-
--- the entries of a cell, as one call names them and another
-pub moved : {X Y Z : Type 0} (R : ℕ → X → Y → Type 0) (h : Z → Option Y) (xs : List X) {s d : ℕ} {ys zs : List Z} → s ≡ d → ys ≡ zs → AllZip (R s) xs (filter_map h ys) → AllZip (R d) xs (filter_map h zs)
-moved R h xs {s} {d} {ys} {zs} e f k = subst (λ q. AllZip (R q) xs (filter_map h zs)) e (subst (λ q. AllZip (R s) xs (filter_map h q)) f k)

@@ -1,6 +1,6 @@
 pub mod Pushed
 pub mod Zipped
-pub mod Buckets
+pub mod Appended
 pub mod HeadRange
 pub mod ActiveCells
 pub mod FacePairs

@@ -8,7 +8,7 @@ use Rattle.std.proofs.Math.Nat.{mul-le-mul_right}
 use Rattle.decimal_input.specs.declared.dec.Dec.{Dec}
 use Rattle.decimal_input.specs.Canonical.{number, size}
 use Rattle.decimal_input.specs.Decimals.{scaled}
-use Rattle.decimal_input.specs.Ratios.{Ratio, den, plus, times, over, AtMost, Same}
+use Rattle.decimal_input.specs.Ratios.{Ratio, den, plus, times, over, Same}
 use Rattle.decimal_input.specs.Fractions.{Fraction}
 use Rattle.decimal_input.specs.Wholes.{IsFloor, IsCeiling, Passes, IsSignedFloor, IsSignedCeiling}
 use Rattle.decimal_input.proofs.FloorLaws.{one_floor, one_ceiling}

@@ -10,7 +10,8 @@ use Rattle.model_types.specs.Times.{period_at}
 use Rattle.problem_builder.specs.declared.period.PeriodTables.{PeriodTables}
 use Rattle.problem_builder.specs.Filled.{Filled}
 use Rattle.problem_builder.specs.PeriodTables.{IsKind, IsIndex, IsNamed, IsKept, IsRecharged, IsEvaporated}
-use Rattle.problem_builder.specs.Tables.{local_in, ArePeriodTables}
+use Rattle.problem_builder.specs.LocalBounds.{AreLocalBounds, local_in}
+use Rattle.problem_builder.specs.Tables.{ArePeriodTables}
 use Rattle.problem_builder.proofs.ActiveCells.{variable_active, constant_active}
 
 -- the parts of the tables of period p, where `before` periods have passed
@@ -22,7 +23,7 @@ pub record ArePeriodParts (m : FlowModel) (s before p : ℕ) (t : PeriodTables) 
   pub given : Filled (IsNamed (period_at m p).stresses.given) None (cell_count m.grid) t.given
   pub kept : Filled (IsKept m before) no_bound (cell_count m.grid) t.kept
   pub locals : length t.local ≡ cell_count m.grid
-  pub local : (c : ℕ) → local_in t.local c ≡ local_entries m p c
+  pub local : (c : ℕ) → AreLocalBounds s c (local_in t.local c) (local_entries m p c)
   pub recharge : Filled (IsRecharged m s p) None (cell_count m.grid) t.recharge
   pub evaps : Filled (IsEvaporated m s p) None (cell_count m.grid) t.evaps
 

@@ -1,5 +1,7 @@
 -- Stress periods by their numbers.
 use Rattle.std.proofs.Common.{◌≡◌, ℕ, ◌-◌, ◌<◌, ◌≤◌, List, length, get_or, sym, ap, ◌∙◌, subst, arith, All}
+use Rattle.std.proofs.lemmas.List.{get_or_default}
+use Rattle.std.proofs.lemmas.List.Elements.{All-weaker}
 use Rattle.model_types.specs.declared.model.FlowModel.{FlowModel}
 use Rattle.model_types.specs.declared.period.Period.{Period}
 use Rattle.model_types.specs.Cells.{cell_count}
@@ -8,12 +10,12 @@ use Rattle.model_types.specs.declared.entry.Entry.TheVariants.{Well, River, Drai
 use Rattle.model_types.specs.Sources.{cell_of}
 use Rattle.model_types.specs.Times.{period_at, no_period, entries}
 use Rattle.model_types.specs.Valid.{IsModel, IsPeriod, IsEntryValid}
-use Rattle.problem_builder.proofs.Buckets.{any_default}
-use Rattle.problem_builder.proofs.ValidEntries.{all_entries}
+use Rattle.problem_builder.specs.LocalBounds.{IsEntryIn}
+use Rattle.problem_builder.proofs.ValidEntries.{all_entries, wider}
 
 -- a period that is read by its number
 pub period_read : (m : FlowModel) (p : ℕ) (x : Period) (xs : List Period) → (1 ≤ p) × (p ≤ length m.periods) → xs ≡ m.periods → x ≡ get_or xs (p - 1) x → x ≡ period_at m p
-period_read m p x xs r e h = h ∙ any_default xs (p - 1) x no_period (omega (arith, r.0, r.1, ap length e)) ∙ ap (λ ys. get_or ys (p - 1) no_period) e
+period_read m p x xs r e h = h ∙ get_or_default xs (p - 1) x no_period (omega (arith, r.0, r.1, ap length e)) ∙ ap (λ ys. get_or ys (p - 1) no_period) e
 
 pub period_valid : (m : FlowModel) (p : ℕ) → IsModel m → (1 ≤ p) × (p ≤ length m.periods) → IsPeriod m (period_at m p)
 period_valid m p valid r = valid.periods (p - 1) no_period (omega (arith, r.0, r.1))
@@ -28,7 +30,9 @@ entry_within n (Drain cell elevation k) h = h.0
 entry_within n (General cell head k) h = h.0
 
 -- the entries of a period lie in the grid
-pub entries_within : (m : FlowModel) (p count : ℕ) (x : Period) → IsModel m → (1 ≤ p) × (p ≤ length m.periods) → x ≡ period_at m p → count ≡ cell_count m.grid → All (λ e. cell_of e < count) (entries x)
-entries_within m p count x valid r e f =
-    let P : Period → Type 0 = λ q. All (λ y. cell_of y < count) (entries q) in
-    subst P (sym e) (λ i d lt. subst (λ n. cell_of (get_or (entries (period_at m p)) i d) < n) (sym f) (entry_within (cell_count m.grid) (get_or (entries (period_at m p)) i d) (all_entries m p (period_valid m p valid r) i d lt)))
+pub entries_in : (m : FlowModel) (p count : ℕ) (x : Period) → IsModel m → (1 ≤ p) × (p ≤ length m.periods) → x ≡ period_at m p → count ≡ cell_count m.grid → All (IsEntryIn count) (entries x)
+entries_in m p count x valid r e f =
+    let n = cell_count m.grid in
+    let P : Period → Type 0 = λ q. All (IsEntryIn count) (entries q) in
+    let N : ℕ → Type 0 = λ k. All (IsEntryIn k) (entries (period_at m p)) in
+    subst P (sym e) (subst N (sym f) (All-weaker (IsEntryValid n) (IsEntryIn n) (λ y h. (entry_within n y h, wider n y valid.grid.size.cells h)) (entries (period_at m p)) (all_entries m p (period_valid m p valid r))))

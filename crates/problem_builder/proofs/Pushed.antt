@@ -16,8 +16,8 @@ as_list (Some y) = refl
 one_item : {X Y : Type 0} (h : X → Option Y) (x : X) → filter_map h (x ∷ []) ≡ option_to_list (h x)
 one_item h x = as_list (h x)
 
-pub filter_map_next : {X Y : Type 0} (h : X → Option Y) (xs : List X) (i : ℕ) (d : X) → i < length xs → filter_map h (take (i + 1) xs) ≡ filter_map h (take i xs) ++ option_to_list (h (get_or xs i d))
-filter_map_next h xs i d lt = ap (filter_map h) (take_more xs i d lt) ∙ filter_map-append h (take i xs) (get_or xs i d ∷ []) ∙ ap (λ ys. filter_map h (take i xs) ++ ys) (one_item h (get_or xs i d))
+filter_map_push : {X Y : Type 0} (h : X → Option Y) (xs : List X) (x : X) → filter_map h (xs ++ x ∷ []) ≡ filter_map h xs ++ option_to_list (h x)
+filter_map_push h xs x = filter_map-append h xs (x ∷ []) ∙ ap (λ ys. filter_map h xs ++ ys) (one_item h x)
 
 pub AllZip-join : {X Y : Type 0} (R : X → Y → Type 0) (xs : List X) (ys : List Y) (us : List X) (vs : List Y) → AllZip R xs ys → AllZip R us vs → AllZip R (xs ++ us) (ys ++ vs)
 AllZip-join R [] [] us vs h k = k
@@ -31,11 +31,16 @@ AllZip-option R None (Some y) h = absurd h
 AllZip-option R (Some x) None h = absurd h
 AllZip-option R (Some x) (Some y) h = (h, tt)
 
+-- a list with what one more item of the other list is, if it is one
+pub zip_push : {X Y Z : Type 0} (R : Y → Z → Type 0) (h : X → Option Z) (xs : List X) (x : X) (front new : List Y) (o : Option Y) →
+    new ≡ front ++ option_to_list o → BothOrNone R o (h x) → AllZip R front (filter_map h xs) → AllZip R new (filter_map h (xs ++ x ∷ []))
+zip_push R h xs x front new o e both so_far =
+    rw (e, filter_map_push h xs x) (AllZip-join R front (filter_map h xs) (option_to_list o) (option_to_list (h x)) so_far (AllZip-option R o (h x) both))
+
 -- the step of a loop that pushes what an item of the list is, if it is one
 pub zip_next : {X Y Z : Type 0} (R : Y → Z → Type 0) (h : X → Option Z) (xs : List X) (i : ℕ) (d : X) (front new : List Y) (o : Option Y) → i < length xs →
     new ≡ front ++ option_to_list o → BothOrNone R o (h (get_or xs i d)) → AllZip R front (filter_map h (take i xs)) → AllZip R new (filter_map h (take (i + 1) xs))
-zip_next R h xs i d front new o lt e both so_far =
-    rw (e, filter_map_next h xs i d lt) (AllZip-join R front (filter_map h (take i xs)) (option_to_list o) (option_to_list (h (get_or xs i d))) so_far (AllZip-option R o (h (get_or xs i d)) both))
+zip_next R h xs i d front new o lt e both so_far = rw (take_more xs i d lt) (zip_push R h (take i xs) (get_or xs i d) front new o e both so_far)
 
 -- what is made of a face that passes a test
 pub both_through : {X : Type 0} (R : X → Face → Type 0) (test : ℕ → Bool) (o : Option Face) (f : Face) (x : X) → o ≡ Some f → test f.end ≡ true → R x f → BothOrNone R (Some x) (through test o)

@@ -16,7 +16,7 @@ use Rattle.std.proofs.lemmas.Int.{ints}
 use Rattle.model_types.specs.Valid.{IsModel}
 use Rattle.problem_builder.proofs.CellEnclosed.{head_encloses}
 use Rattle.problem_builder.proofs.Fits.{head_pair_range}
-use Rattle.problem_builder.proofs.Buckets.{any_default}
+use Rattle.std.proofs.lemmas.List.{get_or_default}
 use Rattle.problem_builder.proofs.Filling.{one_filled}
 use Rattle.problem_builder.proofs.OneBound.{one_head_pair}
 
@@ -25,7 +25,7 @@ module _ (m : FlowModel) (bounds : List Bound) (h : Filled (IsStartInRange m) no
   starts_are = record { count = h.count; each = (λ c lt. (h.each c lt).start) }
 
   pub starts_range : AreGridHeads m bounds
-  starts_range = record { whole = h.count; range = (λ c d lt. subst (λ (b : Bound). IsHead b.low × IsHead b.high) (any_default bounds c no_bound d lt) (h.each c (omega (arith, lt, h.count))).range) }
+  starts_range = record { whole = h.count; range = (λ c d lt. subst (λ (b : Bound). IsHead b.low × IsHead b.high) (get_or_default bounds c no_bound d lt) (h.each c (omega (arith, lt, h.count))).range) }
 
   pub starts_enclose : HeadsEnclose m bounds (start_head m)
   starts_enclose c active = head_encloses (dec_at m.strt c) _ _ ((h.each c active.within).start.active active.active)

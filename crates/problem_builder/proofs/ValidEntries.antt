@@ -1,7 +1,6 @@
 -- The entries of a cell are those of valid lists.
-use Rattle.std.proofs.Common.{◌≡◌, ℕ, ◌≤◌, ◌⊎◌, inl, inr, Bool, true, false, cond, List, [], ◌∷◌, ◌++◌, arith, All}
-use Rattle.std.specs.List.{filter}
-use Rattle.std.proofs.lemmas.List.Elements.{All-append}
+use Rattle.std.proofs.Common.{ℕ, ◌≤◌, ◌++◌, arith, All}
+use Rattle.std.proofs.lemmas.List.Elements.{All-append, All-filter, All-weaker}
 use Rattle.std.specs.Prelude.{◌==◌}
 use Rattle.model_types.specs.declared.entry.Entry.{Entry}
 use Rattle.model_types.specs.declared.entry.Entry.TheVariants.{Well, River, Drain, General}
@@ -10,21 +9,8 @@ use Rattle.model_types.specs.Cells.{cell_count}
 use Rattle.model_types.specs.Sources.{cell_of, entries_of, local_entries}
 use Rattle.model_types.specs.Times.{period_at, entries}
 use Rattle.model_types.specs.Valid.{IsModel, IsPeriod, IsEntryValid}
-use Rattle.model_types.proofs.Members.{In, All-In, In-All}
 
-cond-In : {X : Type 0} (b : Bool) (y : X) (ys : List X) (x : X) → In (cond b (y ∷ ys) ys) x → (y ≡ x) ⊎ In ys x
-cond-In true y ys x (inl e) = inl e
-cond-In true y ys x (inr i) = inr i
-cond-In false y ys x i = inr i
-
-filter-In : {X : Type 0} (test : X → Bool) (xs : List X) (x : X) → In (filter test xs) x → In xs x
-filter-In test [] x i = absurd i
-filter-In test (y ∷ ys) x i = elim (cond-In (test y) y (filter test ys) x i) [
-  | inl e ↦ inl e
-  | inr j ↦ inr (filter-In test ys x j)
-]
-
-wider : (n : ℕ) (x : Entry) → n ≤ 65536 → IsEntryValid n x → IsEntryValid 65536 x
+pub wider : (n : ℕ) (x : Entry) → n ≤ 65536 → IsEntryValid n x → IsEntryValid 65536 x
 wider n (Well cell q) le h = (omega (arith, le, h.0), h.1)
 wider n (River cell stage k bottom) le h = (omega (arith, le, h.0), h.1, h.2, h.3)
 wider n (Drain cell elevation k) le h = (omega (arith, le, h.0), h.1, h.2)
@@ -39,5 +25,6 @@ all_entries m p q =
 
 pub local_valid : (m : FlowModel) (p c : ℕ) → IsModel m → IsPeriod m (period_at m p) → All (IsEntryValid 65536) (local_entries m p c)
 unfolding entries_of
-local_valid m p c valid q = All-In (IsEntryValid 65536) (filter (λ x. cell_of x == c) (entries (period_at m p)))
-    (λ x i. wider (cell_count m.grid) x valid.grid.size.cells (In-All (IsEntryValid (cell_count m.grid)) (entries (period_at m p)) x (all_entries m p q) (filter-In (λ x. cell_of x == c) (entries (period_at m p)) x i)))
+local_valid m p c valid q =
+    let n = cell_count m.grid in
+    All-filter (λ x. cell_of x == c) (IsEntryValid 65536) (entries (period_at m p)) (All-weaker (IsEntryValid n) (IsEntryValid 65536) (λ x h. wider n x valid.grid.size.cells h) (entries (period_at m p)) (all_entries m p q))

@@ -4,6 +4,7 @@ pub mod Filled
 pub mod ConstantHeads
 pub mod RechargeBounds
 pub mod Cells
+pub mod LocalBounds
 pub mod Refusals
 pub mod Problems
 pub mod GridHeads

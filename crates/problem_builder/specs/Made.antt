@@ -1,8 +1,6 @@
 -- Facts that the functions of the builder pass to each other on the way to a cell.
 use Rattle.std.specs.Prelude.{◌≡◌, ℕ, ◌<◌, true, List, Option, None, IfSome}
 use Rattle.step_problem.specs.declared.place.NoBound.{NoBound}
-use Rattle.step_problem.specs.declared.entry.Flow.{Flow}
-use Rattle.step_problem.specs.declared.entry.Fixed.{Fixed}
 use Rattle.step_problem.specs.Entries.{Entries}
 use Rattle.model_types.specs.declared.face.Face.{Face}
 use Rattle.model_types.specs.declared.model.FlowModel.{FlowModel}
@@ -14,25 +12,12 @@ use Rattle.model_types.specs.Cells.{cell_count}
 use Rattle.model_types.specs.Layers.{is_active}
 use Rattle.conductance_bounds.specs.Pairs.{IsCapped}
 use Rattle.conductance_bounds.specs.Formulas.{face_term}
-use Rattle.model_types.specs.Sources.{FixedSource, FlowSource}
-use Rattle.model_types.specs.Sources.FixedSource.{ToConstant, ToGeneral, FromStorage}
-use Rattle.model_types.specs.Sources.FlowSource.{Pumped, Received}
 use Rattle.problem_builder.specs.declared.fault.BuildFault.{BuildFault}
 use Rattle.problem_builder.specs.declared.fault.BuildFault.TheVariants.{NoBound as Refused, Memory}
-use Rattle.problem_builder.specs.Cells.{IsWell, IsGeneral, IsCellOf}
+use Rattle.problem_builder.specs.Cells.{IsCellOf}
 use Rattle.problem_builder.specs.Refusals.{fault_of}
 use Rattle.problem_builder.specs.Problems.{AreCells, IsRefused}
 use Rattle.problem_builder.specs.Tables.{Inputs, widths_of, pair_at}
-
--- a well or a general head as a source
-abbrev pub IsWellSource : ℕ → Flow → FlowSource → Type 0
-IsWellSource s x (Pumped q) = IsWell s x q
-IsWellSource s x (Received rate) = ⊥
-
-abbrev pub IsGeneralSource : ℕ → ℕ → Fixed → FixedSource → Type 0
-IsGeneralSource s c x (ToGeneral head k) = IsGeneral s c x head k
-IsGeneralSource s c x (ToConstant f) = ⊥
-IsGeneralSource s c x FromStorage = ⊥
 
 -- a cell of the grid that is variable
 pub record IsVariableCell (i : Inputs) (c : ℕ) : Type 0 where

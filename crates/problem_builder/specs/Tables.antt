@@ -1,9 +1,8 @@
 -- The contents of the builder's tables.
-use Rattle.std.specs.Prelude.{◌≡◌, ℕ, ◌+◌, ◌<◌, ◌≤◌, true, pos, List, [], All, length, slice_index_or, Option, Some, None, take, ◌-◌}
+use Rattle.std.specs.Prelude.{◌≡◌, ℕ, ◌+◌, ◌<◌, ◌≤◌, true, pos, List, length, slice_index_or, Option, Some, None, take, ◌-◌}
 use Rattle.step_problem.specs.declared.heads.Bound.{Bound}
 use Rattle.step_problem.specs.Heads.{no_bound}
 use Rattle.scaled_decimal.specs.declared.decimal.Sd.{Sd}
-use Rattle.model_types.specs.declared.entry.Entry.{Entry}
 use Rattle.model_types.specs.declared.face.Axis.{Axis}
 use Rattle.model_types.specs.declared.face.Axis.TheVariants.{Row, Column, Vertical}
 use Rattle.model_types.specs.declared.kind.Kind.TheVariants.{NoFlow}
@@ -17,7 +16,7 @@ use Rattle.model_types.specs.Times.{period_at}
 use Rattle.model_types.specs.Kinds.{is_variable, is_constant, kind_of, index_of, given_in, last_given}
 use Rattle.model_types.specs.Receivers.{recharge_at, evap_at}
 use Rattle.model_types.specs.Sources.{local_entries}
-use Rattle.model_types.specs.Valid.{IsModel, IsEntryValid}
+use Rattle.model_types.specs.Valid.{IsModel}
 use Rattle.conductance_bounds.specs.declared.span.Span.{Span}
 use Rattle.conductance_bounds.specs.declared.pair.Pair.{Pair}
 use Rattle.conductance_bounds.specs.Pairs.{IsCapped}
@@ -32,6 +31,7 @@ use Rattle.problem_builder.specs.RechargeBounds.{IsRechargePair}
 use Rattle.problem_builder.specs.Cells.{IsEvap}
 use Rattle.problem_builder.specs.Filled.{Filled}
 use Rattle.problem_builder.specs.GridHeads.{AreGridHeads}
+use Rattle.problem_builder.specs.LocalBounds.{AreLocalBounds, local_in}
 use Rattle.problem_builder.specs.Moments.{IsTimeOf}
 use Rattle.problem_builder.specs.StepTables.{AreFactorsOf, HasEvenSteps, HasEvenStorage}
 
@@ -86,10 +86,7 @@ pub record AreTables (m : FlowModel) (s : ℕ) (t : Tables) : Type 0 where
       is_active m (a + stride m.grid axis) ≡ true →
       IsCapped (face_term m (span_in t.thick) (span_in t.bed) axis a) s (pair_at t axis a).lo (pair_at t axis a).hi
 
--- The tables of a stress period: kinds and indices, given and kept heads, the entries of each cell, recharge and evapotranspiration.
-
-abbrev pub local_in : List (List Entry) → ℕ → List Entry
-local_in xs c = slice_index_or xs c []
+-- The tables of a stress period: kinds and indices, given and kept heads, the bounds of the entries of each cell, of its recharge and of its evapotranspiration.
 
 pub record ArePeriodTables (m : FlowModel) (s p : ℕ) (t : PeriodTables) : Type 0 where
   pub period : t.period ≡ p
@@ -104,7 +101,7 @@ pub record ArePeriodTables (m : FlowModel) (s p : ℕ) (t : PeriodTables) : Type
   pub kept : (c : ℕ) → c < cell_count m.grid → is_constant m p c ≡ true →
       IsKeptPair m c (last_given (take (p - 1) m.periods) c) (bound_in t.kept c).low (bound_in t.kept c).high
   pub locals : length t.local ≡ cell_count m.grid
-  pub local : (c : ℕ) → local_in t.local c ≡ local_entries m p c
+  pub local : (c : ℕ) → AreLocalBounds s c (local_in t.local c) (local_entries m p c)
   pub recharges : length t.recharge ≡ cell_count m.grid
   pub recharge : (c : ℕ) → c < cell_count m.grid → is_variable m p c ≡ true →
       BothOrNone (λ x rate. IsRechargePair m s c rate x.lo x.hi) (item_in t.recharge c) (recharge_at m p c)
@@ -137,7 +134,6 @@ pub record AreInputs (i : Inputs) : Type 0 where
   pub time : IsTimeOf i.model i.at
   pub size : HasSize i.model.grid
   pub digits : i.tables.digits ≤ 18
-  pub entries : (c : ℕ) → All (IsEntryValid 65536) (local_entries i.model i.at.period c)
   pub tables : AreTables i.model i.tables.digits i.tables
   pub period : ArePeriodTables i.model i.tables.digits i.at.period i.period
   pub storage : AreEvenStorages i.model (span_in i.tables.thick) i.tables.digits i.at.period i.period.storage

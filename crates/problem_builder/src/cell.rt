@@ -8,7 +8,6 @@ ghost use Rattle.problem_builder.specs.Made.{IsVariableCell};
 ghost use Rattle.problem_builder.specs.Tables.{AreInputs, BothOrNone, widths_of};
 
 use crate::branches::{constants, links};
-use crate::entries::{drains, generals, rivers, wells};
 use crate::input::StepInput;
 use crate::known::constant_flow;
 use crate::pushing::push_some;
@@ -26,12 +25,11 @@ fn fixed(alloc: Global, input: &StepInput, cell: u32) -> Result<Vec<Fixed>, Allo
     let stored = stored(input, cell);
     let constants = constants(alloc, input, cell)?;
     let entries = input.entries(cell);
-    let generals = generals(alloc, entries, cell, input.digits())?;
-    let count = usize::from(stored.is_some()) + constants.len() + generals.len();
+    let count = usize::from(stored.is_some()) + constants.len() + entries.generals.len();
     let mut fixed = Vec::with_capacity(alloc, count)?;
     push_some(&mut fixed, stored)?;
     fixed.extend_from_slice(&constants)?;
-    fixed.extend_from_slice(&generals)?;
+    fixed.extend_from_slice(&entries.generals)?;
     Ok(fixed)
 }
 
@@ -54,10 +52,12 @@ fn flows(alloc: Global, input: &StepInput, cell: u32) -> Result<Vec<Flow>, Alloc
 {
     let received = received(input, cell);
     let entries = input.entries(cell);
-    let wells = wells(alloc, entries, input.digits())?;
-    let mut flows = Vec::with_capacity(alloc, usize::from(received.is_some()) + wells.len())?;
+    let mut flows = Vec::with_capacity(
+        alloc,
+        usize::from(received.is_some()) + entries.wells.len(),
+    )?;
     push_some(&mut flows, received)?;
-    flows.extend_from_slice(&wells)?;
+    flows.extend_from_slice(&entries.wells)?;
     Ok(flows)
 }
 
@@ -78,14 +78,13 @@ pub fn cell(alloc: Global, input: &StepInput, number: u32) -> Result<Cell, Alloc
     ensures { IfOk result (λ e. IsCellOf input.now.model (widths_of input.now.tables) input.now.tables.digits input.now.at input.now.old e number) }
 {
     let entries = input.entries(number);
-    let s = input.digits();
     Ok(Cell {
         id: number,
         flows: flows(alloc, input, number)?,
         links: links(alloc, input, number)?,
         fixed: fixed(alloc, input, number)?,
-        rivers: rivers(alloc, entries, s)?,
-        drains: drains(alloc, entries, s)?,
+        rivers: Vec::from_slice(alloc, &entries.rivers)?,
+        drains: Vec::from_slice(alloc, &entries.drains)?,
         evaps: evaps(alloc, input, number)?,
     })
 }

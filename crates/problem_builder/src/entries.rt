@@ -1,17 +1,70 @@
-// The entries of a cell, kind by kind.
-ghost use Rattle.std.specs.Prelude.{◌≡◌, ◌<◌, ◌≤◌, ℕ, All, IfOk, IfSome};
-ghost use Rattle.std.specs.List.{AllZip, filter_map};
+// The entries of a cell by their bounds, kind by kind.
+ghost use Rattle.std.specs.Prelude.{◌≡◌, ◌≤◌, ◌∷◌, ◌++◌, [], List, IfOk};
+ghost use Rattle.model_types.specs.declared.entry.Entry.{Entry as DeclaredEntry};
 ghost use Rattle.model_types.specs.Valid.{IsEntryValid};
 ghost use Rattle.model_types.specs.Sources.{as_well, as_river, as_drain, as_general};
 ghost use Rattle.problem_builder.specs.Cells.{IsRiver, IsDrain};
-ghost use Rattle.problem_builder.specs.Made.{IsWellSource, IsGeneralSource};
+ghost use Rattle.problem_builder.specs.LocalBounds.{AreLocalBounds, IsWellSource, IsGeneralSource, no_bounds};
 ghost use Rattle.problem_builder.specs.Tables.{BothOrNone};
 
+use crate::known::{constant_flow, known_head};
 use crate::pushing::push_some;
 use crate::rounded::{cond_pair, head_pair, well_pair};
 use model_types::Entry;
 use std::alloc::{AllocError, Global};
+use std::marker::Model;
 use step_problem::{Drain, Fixed, FixedKind, Flow, FlowKind, River};
+
+/// The bounds of a cell's entries of WEL, RIV, DRN and GHB, by kind, in the order of the lists.
+#[derive(Drop)]
+pub struct LocalEntries {
+    pub wells: Vec<Flow>,
+    pub rivers: Vec<River>,
+    pub drains: Vec<Drain>,
+    pub generals: Vec<Fixed>,
+}
+
+impl Model for LocalEntries {
+    ghost use Rattle.problem_builder.specs.LocalBounds.{LocalBounds};
+
+    ghost Value = { LocalBounds };
+
+    ghost view = { λ x. record {
+      wells = x.wells.items;
+      rivers = x.rivers.items;
+      drains = x.drains.items;
+      generals = x.generals.items;
+    } };
+}
+
+impl LocalEntries {
+    /// No entries.
+    pub fn none(alloc: Global) -> LocalEntries
+        ensures { result ≡ no_bounds }
+    {
+        LocalEntries {
+            wells: Vec::new(alloc),
+            rivers: Vec::new(alloc),
+            drains: Vec::new(alloc),
+            generals: Vec::new(alloc),
+        }
+    }
+
+    /// Appends the bounds of an entry of the cell, with s digits of conductances.
+    pub fn add(&mut self, entry: &Entry, cell: u32, s: u32) -> Result<(), AllocError>
+        requires entry { IsEntryValid 65536 entry.now }
+        requires places { s ≤ 18 }
+        ensures { IfOk result
+            (λ _. (entries : List DeclaredEntry) → AreLocalBounds s cell self.old entries →
+            AreLocalBounds s cell self.new (entries ++ entry.now ∷ [])) }
+    {
+        push_some(&mut self.wells, well(entry, s))?;
+        push_some(&mut self.rivers, river(entry, s))?;
+        push_some(&mut self.drains, drain(entry, s))?;
+        push_some(&mut self.generals, general(entry, cell, s))?;
+        Ok(())
+    }
+}
 
 fn river(entry: &Entry, s: u32) -> Option<River>
     requires entry { IsEntryValid 65536 entry.now }
@@ -40,18 +93,6 @@ fn river(entry: &Entry, s: u32) -> Option<River>
     }
 }
 
-/// The rivers among these entries.
-pub fn rivers(alloc: Global, entries: &[Entry], s: u32) -> Result<Vec<River>, AllocError>
-    requires entries { All (IsEntryValid 65536) entries.now }
-    ensures { IfOk result (λ v. AllZip (IsRiver s) v.items (filter_map as_river entries.now)) }
-{
-    let mut rivers = Vec::new(alloc);
-    for entry in entries {
-        push_some(&mut rivers, river(entry, s))?;
-    }
-    Ok(rivers)
-}
-
 fn drain(entry: &Entry, s: u32) -> Option<Drain>
     requires entry { IsEntryValid 65536 entry.now }
     ensures { BothOrNone (IsDrain s) result (as_drain entry.now) }
@@ -75,18 +116,6 @@ fn drain(entry: &Entry, s: u32) -> Option<Drain>
     }
 }
 
-/// The drains among these entries.
-pub fn drains(alloc: Global, entries: &[Entry], s: u32) -> Result<Vec<Drain>, AllocError>
-    requires entries { All (IsEntryValid 65536) entries.now }
-    ensures { IfOk result (λ v. AllZip (IsDrain s) v.items (filter_map as_drain entries.now)) }
-{
-    let mut drains = Vec::new(alloc);
-    for entry in entries {
-        push_some(&mut drains, drain(entry, s))?;
-    }
-    Ok(drains)
-}
-
 fn general(entry: &Entry, cell: u32, s: u32) -> Option<Fixed>
     requires entry { IsEntryValid 65536 entry.now }
     ensures { BothOrNone (IsGeneralSource s cell) result (as_general entry.now) }
@@ -94,35 +123,10 @@ fn general(entry: &Entry, cell: u32, s: u32) -> Option<Fixed>
     match entry {
         Entry::General { head, cond, .. } => {
             let pair = cond_pair(*cond, s);
-            let head = head_pair(*head);
-            Some(Fixed {
-                kind: FixedKind::General,
-                source: cell,
-                lo: pair.lo,
-                hi: pair.hi,
-                head_lo: head.low,
-                head_hi: head.high,
-            })
+            Some(known_head(FixedKind::General, cell, pair, head_pair(*head)))
         }
         _ => None,
     }
-}
-
-/// The general heads among these entries of a cell.
-pub fn generals(
-    alloc: Global,
-    entries: &[Entry],
-    cell: u32,
-    s: u32,
-) -> Result<Vec<Fixed>, AllocError>
-    requires entries { All (IsEntryValid 65536) entries.now }
-    ensures { IfOk result (λ v. AllZip (IsGeneralSource s cell) v.items (filter_map as_general entries.now)) }
-{
-    let mut fixed = Vec::new(alloc);
-    for entry in entries {
-        push_some(&mut fixed, general(entry, cell, s))?;
-    }
-    Ok(fixed)
 }
 
 fn well(entry: &Entry, s: u32) -> Option<Flow>
@@ -131,27 +135,7 @@ fn well(entry: &Entry, s: u32) -> Option<Flow>
     ensures { BothOrNone (IsWellSource s) result (as_well entry.now) }
 {
     match entry {
-        Entry::Well { q, .. } => {
-            let pair = well_pair(*q, s);
-            Some(Flow {
-                kind: FlowKind::Wells,
-                lo: pair.lo,
-                hi: pair.hi,
-            })
-        }
+        Entry::Well { q, .. } => Some(constant_flow(FlowKind::Wells, well_pair(*q, s))),
         _ => None,
     }
-}
-
-/// The wells among these entries.
-pub fn wells(alloc: Global, entries: &[Entry], s: u32) -> Result<Vec<Flow>, AllocError>
-    requires entries { All (IsEntryValid 65536) entries.now }
-    requires places { s ≤ 18 }
-    ensures { IfOk result (λ v. AllZip (IsWellSource s) v.items (filter_map as_well entries.now)) }
-{
-    let mut flows = Vec::new(alloc);
-    for entry in entries {
-        push_some(&mut flows, well(entry, s))?;
-    }
-    Ok(flows)
 }

@@ -14,9 +14,8 @@ ghost use Rattle.problem_builder.specs.PeriodTables.{IsCovered, IsEvaporated};
 
 use crate::capped::capped;
 use crate::chosen::{is_chosen, is_uncovered};
-use crate::depth::depth_pair;
 use crate::periods::stress_period;
-use crate::rounded::head_pair;
+use crate::rounded::{depth_pair, head_pair};
 use conductance_bounds::{Pair, evap_branch};
 use decimal_input::dec::Dec;
 use model_types::FlowModel;

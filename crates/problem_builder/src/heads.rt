@@ -12,7 +12,7 @@ ghost use Rattle.problem_builder.specs.Tables.{ArePeriodTables};
 
 use crate::period::PeriodTables;
 use crate::periods::stress_period;
-use crate::rounded::NO_BOUND;
+use crate::rounded::{NO_BOUND, bound_of};
 use conductance_bounds::{Part, given_head, time_part};
 use decimal_input::dec::Dec;
 use model_types::{FlowModel, Kind, TimeStep};
@@ -35,11 +35,7 @@ fn given_bounds(shead: Dec, ehead: Dec, part: Part) -> Bound
     requires part { (part.lo ≤ 10 ^ 18) × (part.hi ≤ 10 ^ 18) }
     ensures { IsGivenPair shead ehead part.lo part.hi result.low result.high }
 {
-    let pair = given_head(shead, ehead, part);
-    Bound {
-        low: pair.lo,
-        high: pair.hi,
-    }
+    bound_of(given_head(shead, ehead, part))
 }
 
 // The bounds of the head of a constant-head cell, where `part` of the period has passed.

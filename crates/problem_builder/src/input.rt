@@ -1,17 +1,17 @@
 // The data from which a step's cells are made.
-ghost use Rattle.std.specs.Prelude.{◌≡◌, ◌<◌, ◌≤◌, All};
+ghost use Rattle.std.specs.Prelude.{◌≡◌, ◌<◌};
 ghost use Rattle.model_types.specs.Cells.{cell_count};
 ghost use Rattle.model_types.specs.Kinds.{kind_of, is_variable, is_constant, index_of};
-ghost use Rattle.model_types.specs.Sources.{local_entries};
 ghost use Rattle.model_types.specs.Times.{period_at};
-ghost use Rattle.model_types.specs.Valid.{IsEntryValid};
+ghost use Rattle.problem_builder.specs.LocalBounds.{local_in};
 ghost use Rattle.problem_builder.specs.Tables.{AreInputs, bound_in, item_in};
 
+use crate::entries::LocalEntries;
 use crate::period::PeriodTables;
 use crate::step::StepTables;
 use crate::tables::Tables;
 use conductance_bounds::FlowPair;
-use model_types::{Entry, FlowModel, Kind, TimeStep};
+use model_types::{FlowModel, Kind, TimeStep};
 use std::marker::Model;
 use step_problem::{Bound, Evap};
 
@@ -42,15 +42,6 @@ impl<'a> Model for StepInput<'a> {
 }
 
 impl<'a> StepInput<'a> {
-    /// The number of digits.
-    pub fn digits(&self) -> u32
-        requires { AreInputs self.now }
-        ensures digits { result ≡ self.now.tables.digits }
-        ensures few { result ≤ 18 }
-    {
-        self.tables.digits
-    }
-
     /// Whether the period is steady.
     pub fn is_steady(&self) -> bool
         requires { AreInputs self.now }
@@ -95,12 +86,11 @@ impl<'a> StepInput<'a> {
         self.period.evaps.as_slice()[cell as usize]
     }
 
-    /// A cell's entries of WEL, RIV, DRN and GHB.
-    pub fn entries(&self, cell: u32) -> &[Entry]
+    /// The bounds of a cell's entries of WEL, RIV, DRN and GHB.
+    pub fn entries(&self, cell: u32) -> &LocalEntries
         requires input { AreInputs self.now }
         requires cell { cell < cell_count self.now.model.grid }
-        ensures entries { result.now ≡ local_entries self.now.model self.now.at.period cell }
-        ensures valid { All (IsEntryValid 65536) result.now }
+        ensures { result.now ≡ local_in self.now.period.local cell }
     {
         self.period.local.at(cell)
     }

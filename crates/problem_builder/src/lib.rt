@@ -6,7 +6,6 @@ pub mod builder;
 pub mod capped;
 pub mod cell;
 pub mod chosen;
-pub mod depth;
 pub mod entries;
 pub mod evaporation;
 pub mod faces;

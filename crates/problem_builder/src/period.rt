@@ -20,8 +20,8 @@ use std::alloc::{AllocError, Global};
 use step_problem::{Bound, Evap};
 
 /// The data that depend on the stress period alone, by cell: its kind, its index if it is variable, what the period's
-/// CHD list gives, the head that a constant-head cell keeps, its entries, the recharge that it receives, in units of
-/// 10^-(s+9), and its evapotranspiration; and where all steps are equally long, its storage.
+/// CHD list gives, the head that a constant-head cell keeps, the bounds of its entries, of the recharge that it
+/// receives, in units of 10^-(s+9), and of its evapotranspiration; and where all steps are equally long, its storage.
 #[derive(Drop)]
 pub struct PeriodTables {
     pub period: u32,
@@ -66,7 +66,7 @@ impl PeriodTables {
         let period = stress_period(model, number);
         let count = model.grid.cell_count();
         let given = named(alloc, period.stresses.given.as_slice(), count)?;
-        let local = Local::of_period(alloc, period, count)?;
+        let local = Local::of_period(alloc, period, count, s)?;
         Ok(PeriodTables {
             period: number,
             steady: period.steady,

@@ -3,9 +3,10 @@ ghost use Rattle.std.specs.Prelude.{◌≡◌, ◌<◌, ◌≤◌, ◌^◌};
 ghost use Rattle.decimal_input.specs.Canonical.{IsDec};
 ghost use Rattle.step_problem.specs.Conditions.{IsHead};
 ghost use Rattle.model_types.specs.Numbers.{IsNotNegative, IsHeadNumber};
+ghost use Rattle.problem_builder.specs.Depths.{IsDepth};
 ghost use Rattle.problem_builder.specs.InputBounds.{IsCond, IsWellPair, IsHeadPair};
 
-use conductance_bounds::{FlowPair, Pair, head_bounds};
+use conductance_bounds::{FlowPair, HeadPair, Pair, head_bounds, whole_bounds};
 use decimal_input::dec::Dec;
 use decimal_input::units::{ceil_at, floor_at};
 use decimal_input::whole::{whole_dn, whole_up};
@@ -57,7 +58,21 @@ pub fn head_pair(head: Dec) -> Bound
     ensures is { IsHeadPair head result.low result.high }
     ensures range { IsHead result.low × IsHead result.high }
 {
-    let pair = head_bounds(head);
+    bound_of(head_bounds(head))
+}
+
+/// The bounds of an extinction depth.
+pub fn depth_pair(depth: Dec) -> Bound
+    requires depth { IsDepth depth }
+    ensures { IsHeadPair depth result.low result.high }
+{
+    bound_of(whole_bounds(depth))
+}
+
+/// A pair of heads as a bound.
+pub fn bound_of(pair: HeadPair) -> Bound
+    ensures { result ≡ record { low = pair.lo; high = pair.hi } }
+{
     Bound {
         low: pair.lo,
         high: pair.hi,

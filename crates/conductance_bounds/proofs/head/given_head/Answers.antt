@@ -7,8 +7,8 @@ use Rattle.conductance_bounds.proofs.GivenHeads.{head_encloses}
 use Rattle.conductance_bounds.proofs.HeadRange.{fits_64}
 use Rattle.conductance_bounds.proofs.head.given_head.Goals as goal
 
-pub floor_of-requires : goal.floor_of-requires
-floor_of-requires c =
+pub head_floor-requires : goal.head_floor-requires
+head_floor-requires c =
     let f : FitsSigned w128 c.blend.result = fits_within _ (4 * 10 ^ 36) (omega arith) c.blend.ensures.range in
     let g : FitsSigned w128 c.blend-2.result = fits_within _ (4 * 10 ^ 36) (omega arith) c.blend-2.ensures.range in
     let e : c.min-low.result ≡ int_min c.blend.result c.blend-2.result = simp to_z-of_z at c.min-low.ensures.value in
@@ -16,8 +16,8 @@ floor_of-requires c =
     let h : FitsSigned w128 c.min-low.result = fits_within _ (4 * 10 ^ 36) (omega arith) w in
     record { range = simp to_z-of_z w }
 
-pub ceiling_of-requires : goal.ceiling_of-requires
-ceiling_of-requires c =
+pub head_ceiling-requires : goal.head_ceiling-requires
+head_ceiling-requires c =
     let f : FitsSigned w128 c.blend-3.result = fits_within _ (4 * 10 ^ 36) (omega arith) c.blend-3.ensures.range in
     let g : FitsSigned w128 c.blend-4.result = fits_within _ (4 * 10 ^ 36) (omega arith) c.blend-4.ensures.range in
     let e : c.max-high.result ≡ int_max c.blend-3.result c.blend-4.result = simp to_z-of_z at c.max-high.ensures.value in
@@ -27,10 +27,10 @@ ceiling_of-requires c =
 
 pub returns-clause-rounded : goal.returns-clause-rounded
 returns-clause-rounded c =
-    let a : FitsSigned w64 c.head_floor-start.result = fits_64 _ c.head_floor-start.ensures.range in
-    let b : FitsSigned w64 c.head_floor-end.result = fits_64 _ c.head_floor-end.ensures.range in
-    let a' : FitsSigned w64 c.head_ceiling-start.result = fits_64 _ c.head_ceiling-start.ensures.range in
-    let b' : FitsSigned w64 c.head_ceiling-end.result = fits_64 _ c.head_ceiling-end.ensures.range in
+    let a : FitsSigned w64 c.head_bounds-start.result.lo = fits_64 _ c.head_bounds-start.ensures.range.0 in
+    let b : FitsSigned w64 c.head_bounds-end.result.lo = fits_64 _ c.head_bounds-end.ensures.range.0 in
+    let a' : FitsSigned w64 c.head_bounds-start.result.hi = fits_64 _ c.head_bounds-start.ensures.range.1 in
+    let b' : FitsSigned w64 c.head_bounds-end.result.hi = fits_64 _ c.head_bounds-end.ensures.range.1 in
     let f : FitsSigned w128 c.blend.result = fits_within _ (4 * 10 ^ 36) (omega arith) c.blend.ensures.range in
     let g : FitsSigned w128 c.blend-2.result = fits_within _ (4 * 10 ^ 36) (omega arith) c.blend-2.ensures.range in
     let f' : FitsSigned w128 c.blend-3.result = fits_within _ (4 * 10 ^ 36) (omega arith) c.blend-3.ensures.range in
@@ -39,23 +39,23 @@ returns-clause-rounded c =
     let e' : c.max-high.result ≡ int_max c.blend-3.result c.blend-4.result = simp to_z-of_z at c.max-high.ensures.value in
     let h : FitsSigned w128 c.min-low.result = fits_within _ (4 * 10 ^ 36) (omega arith) (min_within c.blend.result c.blend-2.result c.min-low.result (4 * 10 ^ 36) e c.blend.ensures.range c.blend-2.ensures.range) in
     let h' : FitsSigned w128 c.max-high.result = fits_within _ (4 * 10 ^ 36) (omega arith) (max_within c.blend-3.result c.blend-4.result c.max-high.result (4 * 10 ^ 36) e' c.blend-3.ensures.range c.blend-4.ensures.range) in
-    let p : c.blend.result ≡ blend c.head_floor-start.result c.head_floor-end.result c.args.part.lo = simp to_z-of_z at c.blend.ensures.value in
-    let q : c.blend-2.result ≡ blend c.head_floor-start.result c.head_floor-end.result c.args.part.hi = simp to_z-of_z at c.blend-2.ensures.value in
-    let p' : c.blend-3.result ≡ blend c.head_ceiling-start.result c.head_ceiling-end.result c.args.part.lo = simp to_z-of_z at c.blend-3.ensures.value in
-    let q' : c.blend-4.result ≡ blend c.head_ceiling-start.result c.head_ceiling-end.result c.args.part.hi = simp to_z-of_z at c.blend-4.ensures.value in
-    let low : IsFloorOf c.min-low.result c.floor_of.result = simp to_z-of_z at c.floor_of.ensures.floor in
-    let high : IsCeilingOf c.max-high.result c.ceiling_of.result = simp to_z-of_z at c.ceiling_of.ensures.ceiling in
-    let k : FitsSigned w64 c.floor_of.result = fits_64 _ c.floor_of.ensures.range in
-    let k' : FitsSigned w64 c.ceiling_of.result = fits_64 _ c.ceiling_of.ensures.range in
-    let pair : IsGivenPair c.args.shead c.args.ehead c.args.part.lo c.args.part.hi c.floor_of.result c.ceiling_of.result = record {
-      start_lo = c.head_floor-start.result;
-      start_hi = c.head_ceiling-start.result;
-      end_lo = c.head_floor-end.result;
-      end_hi = c.head_ceiling-end.result;
-      starts = (c.head_floor-start.ensures.floor, c.head_ceiling-start.ensures.ceiling);
-      ends = (c.head_floor-end.ensures.floor, c.head_ceiling-end.ensures.ceiling);
-      floor = lesser _ _ c.blend.result c.blend-2.result c.min-low.result c.floor_of.result c.args.part.lo c.args.part.hi p q e low;
-      ceiling = greater _ _ c.blend-3.result c.blend-4.result c.max-high.result c.ceiling_of.result c.args.part.lo c.args.part.hi p' q' e' high;
+    let p : c.blend.result ≡ blend c.head_bounds-start.result.lo c.head_bounds-end.result.lo c.args.part.lo = simp to_z-of_z at c.blend.ensures.value in
+    let q : c.blend-2.result ≡ blend c.head_bounds-start.result.lo c.head_bounds-end.result.lo c.args.part.hi = simp to_z-of_z at c.blend-2.ensures.value in
+    let p' : c.blend-3.result ≡ blend c.head_bounds-start.result.hi c.head_bounds-end.result.hi c.args.part.lo = simp to_z-of_z at c.blend-3.ensures.value in
+    let q' : c.blend-4.result ≡ blend c.head_bounds-start.result.hi c.head_bounds-end.result.hi c.args.part.hi = simp to_z-of_z at c.blend-4.ensures.value in
+    let low : IsFloorOf c.min-low.result c.head_floor.result = simp to_z-of_z at c.head_floor.ensures.floor in
+    let high : IsCeilingOf c.max-high.result c.head_ceiling.result = simp to_z-of_z at c.head_ceiling.ensures.ceiling in
+    let k : FitsSigned w64 c.head_floor.result = fits_64 _ c.head_floor.ensures.range in
+    let k' : FitsSigned w64 c.head_ceiling.result = fits_64 _ c.head_ceiling.ensures.range in
+    let pair : IsGivenPair c.args.shead c.args.ehead c.args.part.lo c.args.part.hi c.head_floor.result c.head_ceiling.result = record {
+      start_lo = c.head_bounds-start.result.lo;
+      start_hi = c.head_bounds-start.result.hi;
+      end_lo = c.head_bounds-end.result.lo;
+      end_hi = c.head_bounds-end.result.hi;
+      starts = (c.head_bounds-start.ensures.floor, c.head_bounds-start.ensures.ceiling);
+      ends = (c.head_bounds-end.ensures.floor, c.head_bounds-end.ensures.ceiling);
+      floor = lesser _ _ c.blend.result c.blend-2.result c.min-low.result c.head_floor.result c.args.part.lo c.args.part.hi p q e low;
+      ceiling = greater _ _ c.blend-3.result c.blend-4.result c.max-high.result c.head_ceiling.result c.args.part.lo c.args.part.hi p' q' e' high;
     } in
     simp to_z-of_z pair
 

@@ -1,5 +1,4 @@
 use Rattle.problem_builder.proofs.TimesOf.{time_of}
-use Rattle.problem_builder.proofs.ValidEntries.{local_valid}
 use Rattle.problem_builder.proofs.builder.build_with.Goals as goal
 
 pub problem_of-requires : goal.problem_of-requires
@@ -11,7 +10,6 @@ problem_of-requires c =
       time = time;
       size = c.requires.model.grid.size;
       digits = c.requires.digits;
-      entries = (λ d. local_valid m c.args.at.period d c.requires.model time.valid);
       tables = c.requires.tables;
       period = c.requires.period;
       storage = c.requires.storage;

@@ -1,17 +1,25 @@
-use Rattle.std.proofs.Common.{refl}
-use Rattle.model_types.specs.Sources.{as_river, as_drain}
+use Rattle.std.proofs.Common.{refl, sym, subst, ◌∙◌, List}
+use Rattle.std.specs.List.{AllZip}
+use Rattle.step_problem.specs.declared.entry.River.{River}
+use Rattle.step_problem.specs.declared.entry.Drain.{Drain}
+use Rattle.model_types.specs.Sources.{local_entries, river_sources, drain_sources}
 use Rattle.problem_builder.specs.Cells.{IsRiver, IsDrain}
-use Rattle.problem_builder.proofs.Joined.{moved}
+use Rattle.problem_builder.specs.LocalBounds.{LocalBounds, AreLocalBounds}
 use Rattle.problem_builder.proofs.cell.cell.Goals as goal
 
 pub returns : goal.returns
 returns c =
+    let i = c.args.input.now in
+    let s = i.tables.digits in
+    let p = i.at.period in
+    let n = c.args.number in
+    let are = subst (λ (x : LocalBounds). AreLocalBounds s n x (local_entries i.model p n)) (sym (c.entries.view_is ∙ c.entries-entries.ensures)) (c.requires.input.period.local n) in
     record {
       id = refl;
       flows = c.in_ok-flows.ensures;
       links = c.in_ok-links.ensures;
       fixed = c.in_ok-fixed.ensures;
-      rivers = moved IsRiver as_river c.in_ok-rivers.field-0.items c.digits-s.ensures.digits c.entries-entries.ensures.entries c.in_ok-rivers.ensures;
-      drains = moved IsDrain as_drain c.in_ok-drains.field-0.items c.digits-s.ensures.digits c.entries-entries.ensures.entries c.in_ok-drains.ensures;
+      rivers = subst (λ (xs : List River). AllZip (IsRiver s) xs (river_sources i.model p n)) (sym (c.in_ok-from_slice.ensures.items ∙ c.deref.ensures.value)) are.rivers;
+      drains = subst (λ (xs : List Drain). AllZip (IsDrain s) xs (drain_sources i.model p n)) (sym (c.in_ok-from_slice-2.ensures.items ∙ c.deref-2.ensures.value)) are.drains;
       evaps = c.in_ok-evaps.ensures;
     }

@@ -1,12 +1,15 @@
-use Rattle.std.proofs.Common.{◌∙◌, ◌++◌, ◌∷◌, [], ap}
-use Rattle.problem_builder.specs.Tables.{local_in}
-use Rattle.problem_builder.proofs.Buckets.{set_here, set_other, inside, read_here}
+use Rattle.std.proofs.Common.{◌∷◌, [], ◌<◌, List, length, set, ap, subst, arith}
+use Rattle.std.proofs.lemmas.List.{get_or_read}
+use Rattle.problem_builder.specs.LocalBounds.{AreAppended, LocalBounds, no_bounds}
+use Rattle.problem_builder.proofs.Appended.{appended_one}
 use Rattle.problem_builder.proofs.local.Local.add.Goals as goal
 
-pub returns-clause-here : goal.returns-clause-here
-returns-clause-here c =
-    set_here (λ v. v.items) c.self.inside.cells.items c.args.cell c.push.new.self (inside (λ v. v.items) c.self.inside.cells.items c.args.self.now c.args.cell c.self.view_is c.requires.cell)
-    ∙ c.in_ok-push.ensures.items ∙ ap (λ xs. xs ++ c.args.entry ∷ []) (read_here (λ v. v.items) c.self.inside.cells.items c.args.self.now c.args.cell c.index_mut.result.now c.self.view_is c.requires.cell c.index_mut.ensures.value)
-
-pub returns-clause-others : goal.returns-clause-others
-returns-clause-others c = λ d ne. set_other (λ v. v.items) c.self.inside.cells.items c.args.cell d c.push.new.self ne ∙ ap (λ l. local_in l d) c.self.view_is
+pub returns-clause-appended : goal.returns-clause-appended
+returns-clause-appended c =
+    let s = c.args.s in
+    let cell = c.cell_of-cell.result in
+    let cells = c.self.inside.cells.items in
+    let e = c.args.entry.now in
+    let lt : cell < length cells = omega (arith, c.requires.entry.0, ap length c.self.view_is) in
+    subst (λ (old : List LocalBounds). AreAppended s old (set cells cell c.add.new.self) (e ∷ [])) c.self.view_is
+    (appended_one s cells cell c.index_mut.result.now c.add.new.self e lt c.cell_of-cell.ensures (get_or_read cells cell c.index_mut.result.now lt c.index_mut.ensures.value no_bounds) c.in_ok-add.ensures)

@@ -1,5 +1,6 @@
-use Rattle.std.proofs.Common.{◌≡◌, [], map, replicate}
+use Rattle.std.proofs.Common.{◌≡◌, replicate}
+use Rattle.problem_builder.specs.LocalBounds.{no_bounds}
 use Rattle.problem_builder.proofs.local.Local.empty.Given as goal
 
 abbrev pub invariant-loop-cell : goal.invariant-loop-cell
-invariant-loop-cell l = map (λ v. v.items) l.cells.items ≡ replicate l._cell []
+invariant-loop-cell l = l.cells.items ≡ replicate l._cell no_bounds

@@ -5,15 +5,16 @@ use Rattle.model_types.specs.declared.period.Period.{Period}
 use Rattle.model_types.specs.Cells.{cell_count}
 use Rattle.model_types.specs.Sources.{entries_of}
 use Rattle.model_types.specs.Times.{entries}
+use Rattle.problem_builder.specs.LocalBounds.{AreLocalBounds, local_in}
 use Rattle.problem_builder.specs.PeriodTables.{IsKind, IsIndex, IsKept, IsRecharged, IsEvaporated}
 use Rattle.problem_builder.specs.Tables.{AreEvenStorages, span_in}
 use Rattle.problem_builder.proofs.CellTables.{kinds_filled}
 use Rattle.problem_builder.proofs.PeriodMade.{period_made, filled_as, named_as}
-use Rattle.problem_builder.proofs.PeriodsOf.{entries_within}
+use Rattle.problem_builder.proofs.PeriodsOf.{entries_in}
 use Rattle.problem_builder.proofs.period.PeriodTables.new.Goals as goal
 
-pub of_period-requires : goal.of_period-requires
-of_period-requires c = record { cells = entries_within c.args.model.now c.in_ok-next.next.period c.cell_count-count.result _ c.requires.model (omega (arith, c.in_ok-next.ensures.period), omega (arith, c.in_ok-next.ensures.period, c.requires.period)) c.stress_period-period.ensures c.cell_count-count.ensures.count }
+pub of_period-requires-clause-entries : goal.of_period-requires-clause-entries
+of_period-requires-clause-entries c = entries_in c.args.model.now c.in_ok-next.next.period c.cell_count-count.result _ c.requires.model (omega (arith, c.in_ok-next.ensures.period), omega (arith, c.in_ok-next.ensures.period, c.requires.period)) c.stress_period-period.ensures c.cell_count-count.ensures.count
 
 pub even_storages-requires-clause-kinds : goal.even_storages-requires-clause-kinds
 even_storages-requires-clause-kinds c =
@@ -42,7 +43,7 @@ returns-clause-tables c =
       given = named_as _ _ _ _ _ (c.as_slice-4.ensures ∙ ap (λ (x : Period). x.stresses.given) per) count c.in_ok-given.ensures;
       kept = filled_as (IsKept m c.args.given.now.period) no_bound n _ _ c.new-3.ensures c.in_ok-kept.ensures;
       locals = c.in_ok-local.ensures.len ∙ count;
-      local = (λ d. c.in_ok-local.ensures.are d ∙ ap (λ (x : Period). entries_of d (entries x)) per);
+      local = (λ d. subst (λ (x : Period). AreLocalBounds s d (local_in c.in_ok-local.local d) (entries_of d (entries x))) per (c.in_ok-local.ensures.are d));
       recharge = filled_as (IsRecharged m s p) None n _ _ c.new-4.ensures c.in_ok-recharge.ensures;
       evaps = filled_as (IsEvaporated m s p) None n _ _ c.new-5.ensures c.in_ok-evaps.ensures;
     })

@@ -1,0 +1,21 @@
+use Rattle.std.proofs.Common.{FitsSigned}
+use Rattle.std.specs.Int.{w64, w128}
+use Rattle.std.proofs.lemmas.Int.{to_z-of_z}
+use Rattle.decimal_input.specs.Canonical.{number}
+use Rattle.conductance_bounds.proofs.HeadRange.{fits_wider, no_ceiling_past}
+use Rattle.conductance_bounds.proofs.head.ceiling_64.Goals as goal
+
+pub overflow_cast-result : goal.overflow_cast-result
+overflow_cast-result c =
+    let g : FitsSigned w64 c.in-Some.high = c.requires.high _ c.in-Some.ensures.ceiling in
+    let f : FitsSigned w128 c.in-Some.high = fits_wider _ g in
+    simp to_z-of_z g
+
+pub unreachable-requires : goal.unreachable-requires
+unreachable-requires c = no_ceiling_past (number c.args.x) c.requires.high c.in-None.ensures.past
+
+pub returns : goal.returns
+returns c =
+    let g : FitsSigned w64 c.in-Some.high = c.requires.high _ c.in-Some.ensures.ceiling in
+    let f : FitsSigned w128 c.in-Some.high = fits_wider _ g in
+    simp to_z-of_z c.in-Some.ensures.ceiling

@@ -1,0 +1,76 @@
+-- The bounds of the entries of lists, appended cell by cell.
+use Rattle.std.proofs.Common.{◌≡◌, ℕ, ◌+◌, ◌<◌, inl, inr, Bool, true, false, cond, List, [], ◌∷◌, ◌++◌, length, get_or, set, take, refl, sym, ap, ◌∙◌, subst, All}
+use Rattle.std.specs.Prelude.{◌==◌}
+use Rattle.std.proofs.lemmas.List.{get_or-set_same, get_or-set_other, append-nil, append_assoc, take_more, take_at, drop_at}
+use Rattle.std.proofs.lemmas.List.Elements.{All-take, All-drop, filter-append}
+use Rattle.std.proofs.lemmas.Bool.{cases_eq, eq-eqb, ne_eqb}
+use Rattle.model_types.specs.declared.entry.Entry.{Entry}
+use Rattle.model_types.specs.Sources.{cell_of, entries_of}
+use Rattle.problem_builder.specs.LocalBounds.{LocalBounds, AreLocalBounds, AreAppended, IsEntryIn, local_in, no_bounds}
+
+no_entries : (c : ℕ) → [] ≡ entries_of c []
+unfolding entries_of
+no_entries c = refl
+
+entries_join : (c : ℕ) (xs ys : List Entry) → entries_of c xs ++ entries_of c ys ≡ entries_of c (xs ++ ys)
+unfolding entries_of
+entries_join c xs ys = sym (filter-append (λ x. cell_of x == c) xs ys)
+
+one_entry : (c : ℕ) (e : Entry) (b : Bool) → (cell_of e == c) ≡ b → cond b (e ∷ []) [] ≡ entries_of c (e ∷ [])
+unfolding entries_of
+one_entry c e b is = ap (λ t. cond t (e ∷ []) []) (sym is)
+
+pub appended_none : (s : ℕ) (old : List LocalBounds) → AreAppended s old old []
+appended_none s old = λ c es h. subst (AreLocalBounds s c (local_in old c)) (sym (append-nil es) ∙ ap (λ zs. es ++ zs) (no_entries c)) h
+
+pub appended_both : (s : ℕ) (old between new : List LocalBounds) (xs ys : List Entry) → AreAppended s old between xs → AreAppended s between new ys → AreAppended s old new (xs ++ ys)
+appended_both s old between new xs ys f g = λ c es h.
+    subst (AreLocalBounds s c (local_in new c)) (append_assoc es (entries_of c xs) (entries_of c ys) ∙ ap (λ zs. es ++ zs) (entries_join c xs ys)) (g c (es ++ entries_of c xs) (f c es h))
+
+-- an entry more of a list
+pub appended_next : (s : ℕ) (old between new : List LocalBounds) (xs : List Entry) (i : ℕ) (d : Entry) → i < length xs →
+    AreAppended s old between (take i xs) → AreAppended s between new (get_or xs i d ∷ []) → AreAppended s old new (take (i + 1) xs)
+appended_next s old between new xs i d lt f g = subst (AreAppended s old new) (sym (take_more xs i d lt)) (appended_both s old between new (take i xs) (get_or xs i d ∷ []) f g)
+
+-- an entry of cell k, whose bounds x become y
+module _ (s : ℕ) (old : List LocalBounds) (k : ℕ) (x y : LocalBounds) (e : Entry) (lt : k < length old) (cell : k ≡ cell_of e) (read : x ≡ local_in old k) where
+  here : ((es : List Entry) → AreLocalBounds s k x es → AreLocalBounds s k y (es ++ e ∷ [])) → (es : List Entry) → AreLocalBounds s k (local_in old k) es → AreLocalBounds s k (local_in (set old k y) k) (es ++ entries_of k (e ∷ []))
+  here next es h =
+      subst (λ z. AreLocalBounds s k z (es ++ entries_of k (e ∷ []))) (sym (get_or-set_same old k y no_bounds lt))
+      (subst (λ zs. AreLocalBounds s k y (es ++ zs)) (one_entry k e true (eq-eqb (cell_of e) k (sym cell))) (next es (subst (λ z. AreLocalBounds s k z es) (sym read) h)))
+
+  others : (c : ℕ) → (c ≡ k → ⊥) → (es : List Entry) → AreLocalBounds s c (local_in old c) es → AreLocalBounds s c (local_in (set old k y) c) (es ++ entries_of c (e ∷ []))
+  others c ne es h =
+      subst (λ z. AreLocalBounds s c z (es ++ entries_of c (e ∷ []))) (sym (get_or-set_other old k c y no_bounds ne))
+      (subst (AreLocalBounds s c (local_in old c)) (sym (append-nil es) ∙ ap (λ zs. es ++ zs) (one_entry c e false (ne_eqb (cell_of e) c (λ r. ne (sym r ∙ sym cell))))) h)
+
+  pub appended_one : ((es : List Entry) → AreLocalBounds s k x es → AreLocalBounds s k y (es ++ e ∷ [])) → AreAppended s old (set old k y) (e ∷ [])
+  appended_one next = λ c es h. elim (cases_eq c k) [
+    | inl q ↦ (let P : ℕ → Type 0 = λ d. AreLocalBounds s d (local_in old d) es → AreLocalBounds s d (local_in (set old k y) d) (es ++ entries_of d (e ∷ [])) in
+        subst P (sym q) (here next es) h)
+    | inr ne ↦ others c ne es h
+  ]
+
+all_front : {X : Type 0} (P : X → Type 0) (xs ys : List X) → All P (xs ++ ys) → All P xs
+all_front P xs ys h = subst (All P) (take_at xs ys (length xs) refl) (All-take P (length xs) (xs ++ ys) h)
+
+all_rest : {X : Type 0} (P : X → Type 0) (xs ys : List X) → All P (xs ++ ys) → All P ys
+all_rest P xs ys h = subst (All P) (drop_at xs ys (length xs) refl) (All-drop P (length xs) (xs ++ ys) h)
+
+-- the entries of each of the four lists lie in the grid
+pub record AreFourIn (n : ℕ) (w r d g : List Entry) : Type 0 where
+  pub wells : All (IsEntryIn n) w
+  pub rivers : All (IsEntryIn n) r
+  pub drains : All (IsEntryIn n) d
+  pub generals : All (IsEntryIn n) g
+
+pub four_in : (n : ℕ) (w r d g : List Entry) → All (IsEntryIn n) (w ++ (r ++ (d ++ g))) → AreFourIn n w r d g
+four_in n w r d g h =
+    let P : Entry → Type 0 = IsEntryIn n in
+    let a = all_rest P w (r ++ (d ++ g)) h in
+    let b = all_rest P r (d ++ g) a in
+    record { wells = all_front P w (r ++ (d ++ g)) h; rivers = all_front P r (d ++ g) a; drains = all_front P d g b; generals = all_rest P d g b }
+
+-- as one call names the list and the number, and another
+pub renamed : (n k : ℕ) (xs ys : List Entry) → k ≡ n → ys ≡ xs → All (IsEntryIn n) xs → All (IsEntryIn k) ys
+renamed n k xs ys e f h = subst (λ q. All (IsEntryIn q) ys) (sym e) (subst (All (IsEntryIn n)) (sym f) h)
