@@ -1,5 +1,5 @@
 -- What a file of the basic package gives.
-use Rattle.std.proofs.Common.{◌≡◌, ℕ, ◌*◌, ℤ, List, length, All, Ok, refl}
+use Rattle.std.proofs.Common.{◌≡◌, ℕ, ℤ, List, length, All, Ok, refl}
 use Rattle.decimal_input.specs.declared.dec.Dec.{Dec}
 use Rattle.decimal_input.specs.Canonical.{IsDec}
 use Rattle.outside.specs.Files.{File}

@@ -16,7 +16,7 @@ use Rattle.dis_package.specs.Times.{periods_of}
 use Rattle.array_forms.proofs.Readings.{goes, ends}
 use Rattle.array_text.specs.Words.{IsShort}
 use Rattle.package_text.specs.Readable.{IsOfBeds, IsDiscretized}
-use Rattle.model_forms.proofs.FrameForms.{AreBeds, head_is}
+use Rattle.model_forms.proofs.FrameForms.{head_is}
 use Rattle.model_forms.proofs.GridForms.{grid_is}
 use Rattle.model_forms.proofs.TimeForms.{periods_are}
 

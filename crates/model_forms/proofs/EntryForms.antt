@@ -1,6 +1,5 @@
 -- What is read of the entries of a list.
-use Rattle.std.proofs.Common.{◌≡◌, ℕ, zero, suc, ◌+◌, ◌-◌, ◌<◌, ◌≤◌, ℤ, Bool, true, false, cond, List, [], ◌∷◌, length, get_or, set, replicate, All, Option, Some, None, Result, Ok, Err, refl, sym, ap, subst, ◌∙◌, arith}
-use Rattle.std.specs.Prelude.{if◌then◌else◌}
+use Rattle.std.proofs.Common.{◌≡◌, ℕ, zero, suc, ◌-◌, ◌<◌, ◌≤◌, ℤ, Bool, true, false, cond, List, [], ◌∷◌, length, get_or, set, All, Option, Some, None, Ok, refl, sym, ap, ◌∙◌, arith}
 use Rattle.std.specs.List.{AllPairs}
 use Rattle.std.proofs.lemmas.List.{get_or-set_same, get_or-set_other, length-set, length-replicate}
 use Rattle.std.proofs.lemmas.List.Elements.{All-nil, All-cons}
@@ -31,7 +30,7 @@ use Rattle.array_forms.proofs.NumberForms.{number_is}
 use Rattle.array_forms.proofs.Readings.{clash, goes, ends, repeated_are}
 use Rattle.stress_text.specs.Entries.{IsEntry}
 use Rattle.model_forms.proofs.FrameForms.{within_is}
-use Rattle.model_forms.proofs.Parts.{if_true, if_false}
+use Rattle.model_forms.proofs.Parts.{if_false}
 
 inside_is : (o : Option ℕ) (r : Refusal) (n : ℕ) → inside o r ≡ Ok n → o ≡ Some n
 inside_is None r n h = absurd (clash r n (inside None r) refl h)

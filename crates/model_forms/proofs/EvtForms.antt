@@ -1,5 +1,5 @@
 -- What a file of the evapotranspiration package gives.
-use Rattle.std.proofs.Common.{◌≡◌, ℕ, ℤ, pos, Bool, true, false, List, [], map, All, Option, Some, None, IfSome, is_some, Result, Ok, Err, refl, ap, subst, ◌∙◌}
+use Rattle.std.proofs.Common.{◌≡◌, ℕ, ℤ, pos, Bool, true, false, List, map, All, Option, None, IfSome, is_some, Ok, refl, subst, ◌∙◌}
 use Rattle.outside.specs.Files.{File}
 use Rattle.outside.specs.Words.{words}
 use Rattle.outside.specs.declared.refusals.Refusal.{Refusal}
@@ -20,19 +20,19 @@ use Rattle.list_package.proofs.ModelLemmas.{steps}
 use Rattle.stress_packages.specs.Packages.{wells, rivers, drains, generals}
 use Rattle.period_arrays.specs.Flags.{is_option, option_at, flag_at}
 use Rattle.period_arrays.specs.Forms.{IsReals}
-use Rattle.period_arrays.specs.Updates.{updated_reals, updated_layers, or_empty}
+use Rattle.period_arrays.specs.Updates.{updated_reals, updated_layers}
 use Rattle.period_arrays.proofs.UpdateLemmas.{stands}
 use Rattle.evt_package.specs.Columns.{columns_tested}
-use Rattle.evt_package.specs.Evaporation.{layer_flag, flags_of, arrays_of, standing, arrays_at, with_arrays, tested_period, period_at, periods_of, option_line, evaporation_of, with_evaporation, evt_of}
+use Rattle.evt_package.specs.Evaporation.{layer_flag, flags_of, arrays_of, standing, arrays_at, with_arrays, tested_period, period_at, periods_of, option_line, evaporation_of, evt_of}
 use Rattle.evt_package.specs.declared.flags.Flags.{Flags}
 use Rattle.evt_package.specs.declared.arrays.Arrays.{Arrays}
 use Rattle.evt_package.specs.declared.arrays.Last.{Last}
 use Rattle.evt_package.specs.declared.read.Evaporation.{Evaporation}
 use Rattle.array_forms.proofs.Readings.{goes, ends}
 use Rattle.area_text.specs.Readable.{IsLayers}
-use Rattle.model_forms.proofs.AreaForms.{flag_is, option_is, IsUpdated, AreOfGrid, reals_are, layers_updated, IsLayerFlag, IsLayerState, no_layers_yet, next_state, layers_now}
+use Rattle.model_forms.proofs.AreaForms.{flag_is, option_is, reals_are, layers_updated, IsLayerFlag, IsLayerState, no_layers_yet, next_state, layers_now}
 use Rattle.model_forms.proofs.CheckForms.{columns_again}
-use Rattle.model_forms.proofs.PeriodForms.{HasRecharge, HasEvaporation, IsKnown, IsStage, each_are, timed, list_again, no_option}
+use Rattle.model_forms.proofs.PeriodForms.{IsKnown, IsStage, each_are, timed, list_again, no_option}
 
 record AreFlags (layered : Bool) (last : Last) (f : Flags) : Type 0 where
   pub surface : f.surface ≡ false → is_some last.surfaces ≡ true

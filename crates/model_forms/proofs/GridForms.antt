@@ -1,5 +1,5 @@
 -- What is read of widths and elevations.
-use Rattle.std.proofs.Common.{◌≡◌, ℕ, ◌+◌, ◌*◌, ◌-◌, ◌<◌, ◌≤◌, Bool, true, false, List, [], ◌++◌, length, replicate, take, drop, All, Result, Ok, Err, refl, sym, subst, arith, ℤ, pos}
+use Rattle.std.proofs.Common.{◌≡◌, ℕ, ◌+◌, ◌*◌, Bool, true, false, List, [], ◌++◌, length, replicate, All, Ok, refl, arith, ℤ}
 use Rattle.std.specs.List.{list_all}
 use Rattle.std.proofs.lemmas.List.{length-replicate}
 use Rattle.std.proofs.lemmas.List.Elements.{All-nil, All-append, All-replicate}
@@ -31,7 +31,6 @@ use Rattle.array_forms.proofs.Readings.{goes, ends}
 use Rattle.package_text.specs.Readable.{IsOfBeds}
 use Rattle.model_forms.proofs.FrameForms.{AreBeds}
 use Rattle.model_forms.proofs.Parts.{if_true, all_counted, one_more, AreLayers, no_layers, one_more_layer}
-
 
 module _ (files : List File) (file : List ℕ) where
   pub layer_is : (rows cols : ℕ) (left : Left) (x : List Dec × Left) → real_layer files file rows cols left ≡ Ok x → (length x.0 ≡ rows * cols) × All IsDec x.0

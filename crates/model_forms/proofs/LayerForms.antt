@@ -1,5 +1,5 @@
 -- What is read of the properties of layers.
-use Rattle.std.proofs.Common.{◌≡◌, ℕ, ◌+◌, ◌*◌, ◌<◌, Bool, true, false, not, cond, List, [], ◌++◌, length, replicate, All, Result, Ok, Err, refl, arith}
+use Rattle.std.proofs.Common.{◌≡◌, ℕ, ◌+◌, ◌*◌, Bool, true, false, not, cond, List, [], length, replicate, All, Ok, refl, arith}
 use Rattle.std.specs.Prelude.{if◌then◌else◌}
 use Rattle.std.proofs.lemmas.List.Elements.{All-nil, All-append}
 use Rattle.decimal_input.specs.declared.dec.Dec.{Dec}
@@ -10,7 +10,7 @@ use Rattle.record_lines.specs.Layout.{Left}
 use Rattle.array_reader.specs.Arrays.{real_layer}
 use Rattle.model_types.specs.declared.grid.Grid.{Grid}
 use Rattle.model_types.specs.Cells.{layer_size}
-use Rattle.model_types.specs.Layers.{dec_at, int_at, is_nonzero, no_number}
+use Rattle.model_types.specs.Layers.{no_number}
 use Rattle.number_limits.specs.Signs.{is_positive}
 use Rattle.number_limits.proofs.Canonical.{no_number_is, dec_at_is}
 use Rattle.package_items.specs.Items.{layer_or}

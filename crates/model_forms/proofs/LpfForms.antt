@@ -1,6 +1,5 @@
 -- What a file of the layer-property flow package gives can be written.
-use Rattle.std.proofs.Common.{◌≡◌, ℕ, ◌*◌, ℤ, Bool, true, false, cond, List, length, All, Result, Ok, refl, arith}
-use Rattle.decimal_input.specs.declared.dec.Dec.{Dec}
+use Rattle.std.proofs.Common.{◌≡◌, ℕ, ◌*◌, Bool, true, false, cond, List, length, All, Ok, refl, arith}
 use Rattle.decimal_input.specs.Canonical.{IsDec}
 use Rattle.outside.specs.Files.{File}
 use Rattle.outside.specs.declared.refusals.Refusal.{Refusal}

@@ -1,5 +1,5 @@
 -- A model that is read is writable.
-use Rattle.std.proofs.Common.{◌≡◌, ◌⊎◌, inl, inr, ℕ, ◌≤◌, ◌*◌, ℤ, pos, Bool, true, false, not, ◌||◌, cond, List, [], ◌∷◌, map, length, sum, sum_by, All, Result, Ok, refl, sym, ap, subst, ◌∙◌}
+use Rattle.std.proofs.Common.{◌≡◌, ◌⊎◌, inl, inr, ℕ, ◌≤◌, ℤ, pos, Bool, not, ◌||◌, cond, List, [], ◌∷◌, map, length, sum, sum_by, All, Ok, refl, sym, ap, subst, ◌∙◌}
 use Rattle.std.specs.List.{list_any}
 use Rattle.std.proofs.lemmas.List.Elements.{All-weaker}
 use Rattle.std.proofs.lemmas.List.Sums.{sum-map}
@@ -16,33 +16,27 @@ use Rattle.model_types.specs.declared.period.Period.{Period}
 use Rattle.model_types.specs.Cells.{cell_count}
 use Rattle.model_types.specs.Grids.{IsGrid, HasSize}
 use Rattle.model_types.specs.Valid.{IsTimed}
-use Rattle.dis_package.specs.Discretization.{dis_of}
 use Rattle.dis_package.specs.Forms.{IsNewPeriod}
-use Rattle.bas_package.specs.Basics.{with_basics, bas_of}
+use Rattle.bas_package.specs.Basics.{bas_of}
 use Rattle.lpf_package.specs.Flow.{is_transient, with_properties, lpf_of, SameBut}
 use Rattle.lpf_package.specs.declared.layer.Properties.{Properties}
 use Rattle.cell_checks.specs.Checks.{checked}
 use Rattle.cell_checks.specs.Faults.{fault_at}
 use Rattle.cell_checks.specs.declared.passing.Check.{Check}
 use Rattle.cell_checks.specs.declared.passing.Check.TheVariants.{Thickness, StartHead, Properties as PropertyCheck}
-use Rattle.list_package.specs.GivenHeads.{given_heads}
 use Rattle.list_package.proofs.ModelLemmas.{steps, same_count, same_view}
-use Rattle.stress_packages.specs.Packages.{wells, rivers, drains, generals}
-use Rattle.period_arrays.specs.Flags.{is_option}
 use Rattle.model_reader.specs.Names.{names_in, needed}
-use Rattle.model_reader.specs.Stresses.{with_stresses}
 use Rattle.model_reader.specs.Model.{dis_in, basics_tested, bas_in, lpf_in, model_of, reads}
 use Rattle.array_forms.proofs.Readings.{goes, ends}
 use Rattle.array_text.specs.Words.{IsShort}
-use Rattle.package_text.specs.Readable.{IsOfBeds, IsDiscretized, IsBasic, HasFlow}
-use Rattle.stress_text.specs.Entries.{IsListOf}
+use Rattle.package_text.specs.Readable.{IsOfBeds, IsDiscretized, HasFlow}
 use Rattle.area_text.specs.Readable.{IsRecharged, IsEvaporating}
 use Rattle.model_text.specs.Writable.{IsDry, IsStill, HasNoRecharge, HasNoEvaporation, IsWritable}
 use Rattle.model_forms.proofs.BasForms.{HasBasics, bas_is}
 use Rattle.model_forms.proofs.CheckForms.{checked_again}
 use Rattle.model_forms.proofs.DisForms.{IsStarted, dis_is}
 use Rattle.model_forms.proofs.LpfForms.{lpf_is}
-use Rattle.model_forms.proofs.PeriodForms.{IsKnown, IsStage}
+use Rattle.model_forms.proofs.PeriodForms.{IsKnown}
 use Rattle.model_forms.proofs.StageForms.{IsOption, IsStressed, first_stage, stresses_are}
 
 -- another model with this grid, LENUNI, and as many periods of as many steps

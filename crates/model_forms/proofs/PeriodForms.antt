@@ -1,5 +1,5 @@
 -- What is known of the stress periods of a model while its packages of stresses are read.
-use Rattle.std.proofs.Common.{◌≡◌, ◌⊎◌, inl, inr, ℕ, ℤ, pos, Bool, true, false, List, [], ◌∷◌, map, All, Result, Ok, Err, refl, sym, subst, ◌∙◌}
+use Rattle.std.proofs.Common.{◌≡◌, ◌⊎◌, inl, inr, ℕ, ℤ, pos, true, false, List, [], ◌∷◌, map, All, Result, Ok, refl, ◌∙◌}
 use Rattle.std.proofs.lemmas.List.Elements.{All-nil, All-cons, All-head, All-tail}
 use Rattle.outside.specs.declared.refusals.Refusal.{Refusal}
 use Rattle.record_lines.specs.Reading.{for_each}

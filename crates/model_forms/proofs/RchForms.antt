@@ -1,5 +1,5 @@
 -- What a file of the recharge package gives.
-use Rattle.std.proofs.Common.{◌≡◌, ℕ, ℤ, pos, Bool, true, false, List, [], map, All, Option, Some, None, IfSome, is_some, Result, Ok, Err, refl, ap, subst, ◌∙◌}
+use Rattle.std.proofs.Common.{◌≡◌, ℕ, ℤ, pos, Bool, true, false, List, map, All, Option, None, IfSome, is_some, Ok, refl, subst, ◌∙◌}
 use Rattle.outside.specs.Files.{File}
 use Rattle.outside.specs.Words.{words}
 use Rattle.outside.specs.declared.refusals.Refusal.{Refusal}
@@ -20,15 +20,15 @@ use Rattle.period_arrays.specs.Flags.{is_option, option_at, flag_at}
 use Rattle.period_arrays.specs.Forms.{IsReals}
 use Rattle.period_arrays.specs.Updates.{updated_reals, updated_layers, or_empty}
 use Rattle.period_arrays.proofs.UpdateLemmas.{stands}
-use Rattle.rch_package.specs.Recharge.{layer_flag, flags_of, arrays_at, with_arrays, period_at, periods_of, recharge_of, with_recharge, rch_of}
+use Rattle.rch_package.specs.Recharge.{layer_flag, flags_of, arrays_at, with_arrays, period_at, periods_of, recharge_of, rch_of}
 use Rattle.rch_package.specs.declared.flags.Flags.{Flags}
 use Rattle.rch_package.specs.declared.periods.Arrays.{Arrays}
 use Rattle.rch_package.specs.declared.periods.Last.{Last}
 use Rattle.rch_package.specs.declared.read.Recharge.{Recharge}
 use Rattle.array_forms.proofs.Readings.{goes, ends}
 use Rattle.area_text.specs.Readable.{IsLayers}
-use Rattle.model_forms.proofs.AreaForms.{flag_is, option_is, IsUpdated, AreOfGrid, reals_are, layers_updated, IsLayerFlag, IsLayerState, no_layers_yet, next_state, layers_now}
-use Rattle.model_forms.proofs.PeriodForms.{HasRecharge, IsKnown, IsStage, each_are, timed, list_again, no_option}
+use Rattle.model_forms.proofs.AreaForms.{flag_is, option_is, reals_are, layers_updated, IsLayerFlag, IsLayerState, no_layers_yet, next_state, layers_now}
+use Rattle.model_forms.proofs.PeriodForms.{IsKnown, IsStage, each_are, timed, list_again, no_option}
 
 record AreFlags (layered : Bool) (last : Last) (f : Flags) : Type 0 where
   pub rate : f.rate ≡ false → is_some last.rates ≡ true

@@ -1,7 +1,6 @@
 -- The packages of stresses are read one after the other, each where the name file names it.
-use Rattle.std.proofs.Common.{◌≡◌, ◌⊎◌, inl, inr, ℕ, ℤ, pos, Bool, true, false, List, [], length, All, Option, Some, None, Result, Ok, Err, refl, sym, subst, arith}
+use Rattle.std.proofs.Common.{◌≡◌, ◌⊎◌, inl, inr, ℕ, ℤ, pos, Bool, true, false, List, [], All, Option, Some, None, Ok, refl, sym, subst, arith}
 use Rattle.std.specs.Prelude.{if◌then◌else◌}
-use Rattle.std.specs.List.{list_all}
 use Rattle.std.proofs.lemmas.List.Elements.{All-nil, All-weaker}
 use Rattle.decimal_input.specs.declared.dec.Dec.{Dec}
 use Rattle.outside.specs.Files.{File}
@@ -25,8 +24,8 @@ use Rattle.model_reader.specs.Stresses.{where_named, file_in, list_in, rch_in, e
 use Rattle.array_forms.proofs.Readings.{goes, ends}
 use Rattle.stress_text.specs.Entries.{IsEntry, IsListOf}
 use Rattle.model_forms.proofs.ListForms.{package_is}
-use Rattle.model_forms.proofs.RchForms.{IsRained, rch_is}
-use Rattle.model_forms.proofs.EvtForms.{IsDried, evt_is}
+use Rattle.model_forms.proofs.RchForms.{rch_is}
+use Rattle.model_forms.proofs.EvtForms.{evt_is}
 use Rattle.model_forms.proofs.PeriodForms.{IsKnown, IsStage, no_option, with_wells, with_rivers, with_drains, with_generals, with_given}
 
 -- RCH or EVT is there by an option, or it isn't there

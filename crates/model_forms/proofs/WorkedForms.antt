@@ -1,16 +1,15 @@
 -- Three cells in a row are a writable model.
-use Rattle.std.proofs.Common.{◌≡◌, ℕ, zero, suc, ◌+◌, ◌*◌, ◌%◌, ◌^◌, ◌<◌, ◌≤◌, ◌==◌, inl, inr, Bool, true, false, not, ◌&&◌, ℤ, pos, negsuc, List, [], ◌∷◌, length, replicate, codes, All, Option, Some, None, Result, Ok, refl, sym, ap, subst, ◌∙◌, arith}
+use Rattle.std.proofs.Common.{◌≡◌, ℕ, zero, suc, ◌%◌, ◌^◌, ◌<◌, ◌≤◌, ◌==◌, inr, true, false, not, pos, negsuc, List, [], ◌∷◌, length, replicate, All, Some, None, Ok, refl, sym, ap, ◌∙◌, arith}
+use Rattle.std.specs.Fmt.{decimal as numeral}
+use Rattle.std.proofs.lemmas.Fmt.{decimal_digit}
 use Rattle.std.specs.List.{list_all}
-use Rattle.std.proofs.lemmas.Bool.{and_parts, not-true, leb-true}
+use Rattle.std.proofs.lemmas.Bool.{and_parts, not-true}
 use Rattle.std.proofs.lemmas.Bool.Decides.{nat_tests}
 use Rattle.std.proofs.lemmas.Int.{ints}
-use Rattle.std.proofs.lemmas.List.{length-replicate}
 use Rattle.std.proofs.lemmas.List.Elements.{All-nil, All-cons, All-replicate, All-from_recursion}
-use Rattle.decimal_input.specs.declared.dec.Dec.{Dec}
 use Rattle.decimal_input.specs.Canonical.{IsDec}
 use Rattle.decimal_input.specs.Decimals.{scaled}
 use Rattle.decimal_input.specs.Ratios.{ratio}
-use Rattle.outside.specs.Files.{File}
 use Rattle.outside.specs.Inputs.{file_limit}
 use Rattle.record_lines.specs.Reading.{counted}
 use Rattle.name_file.specs.Kinds.{package_of}
@@ -42,7 +41,7 @@ use Rattle.package_text.specs.Basics.{bas_lines, bas_item_1, bas_item_2, bas_ite
 use Rattle.package_text.specs.Flow.{lpf_lines, lpf_item_1, lpf_zeros, lpf_item_4, lpf_item_5, lpf_arrays}
 use Rattle.package_text.specs.Readable.{IsOfBeds, IsDiscretized, IsBasic, HasFlow}
 use Rattle.stress_text.specs.Entries.{IsEntry, IsListOf}
-use Rattle.model_text.specs.Names.{packages, file_type, name_item, IsFileName, AreNames}
+use Rattle.model_text.specs.Names.{file_type, name_item, AreNames}
 use Rattle.model_text.specs.Written.{written}
 use Rattle.model_text.specs.Writable.{IsDry, IsStill, IsWritable}
 use Rattle.model_text.proofs.ModelTexts.{model_reads}
@@ -192,7 +191,13 @@ names = record {
 
 small : All (λ f. length f.bytes ≤ file_limit) deck
 unfolding written name_item text line_text dis_lines dis_item_1 dis_item_2 dis_item_3 dis_item_4 dis_item_5 dis_item_6 dis_item_7 bas_lines bas_item_1 bas_item_2 bas_item_3 bas_item_4 lpf_lines lpf_item_1 lpf_zeros lpf_item_4 lpf_item_5 lpf_arrays real_array integer_array row_line row_lines number_word integer_word
-small = All-from_recursion (λ f. length f.bytes ≤ file_limit) deck (leb-true _ file_limit refl, (leb-true _ file_limit refl, (leb-true _ file_limit refl, (leb-true _ file_limit refl, tt))))
+small =
+    let zero_digit : numeral 0 ≡ 48 ∷ [] = decimal_digit 0 (omega arith) in
+    let one_digit : numeral 1 ≡ 49 ∷ [] = decimal_digit 1 (omega arith) in
+    let two_digit : numeral 2 ≡ 50 ∷ [] = decimal_digit 2 (omega arith) in
+    let three_digit : numeral 3 ≡ 51 ∷ [] = decimal_digit 3 (omega arith) in
+    All-from_recursion (λ f. length f.bytes ≤ file_limit) deck
+    (omega arith, (simp (zero_digit, one_digit, two_digit, three_digit) (omega arith), (simp (zero_digit, one_digit, two_digit) (omega arith), (simp (zero_digit, one_digit) (omega arith), tt))))
 
 pub cells : ThreeCells
 cells = record { writable = writable; names = names; read = model_reads three_cells writable file_type name_of_deck names small }
