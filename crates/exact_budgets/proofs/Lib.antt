@@ -4,3 +4,5 @@ pub mod Balance
 pub mod Bounds
 pub mod History
 pub mod WorkedCell
+pub mod Sums
+pub mod LoneCells
