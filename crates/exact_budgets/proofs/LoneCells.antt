@@ -14,16 +14,16 @@ use Rattle.cell_balance.specs.Steps.{ExactLink, ExactFixed, ExactCell, cell_at, 
 use Rattle.cell_balance.specs.Balance.{minus, link_flow, fixed_flow}
 use Rattle.zone_flows.specs.Exact.{ExactFace, exact_from, exact_link, exact_by_kind, exact_fixed, exact_cell, exact_faces, is_exact_between, exact_flow}
 use Rattle.zone_flows.specs.Faces.{is_lower_zone}
-use Rattle.exact_budgets.specs.LoneCell.{is_constant, own_zone, IsAlone, links_to, constants_in, inflow_from, LoneCellsHaveTheirFlows}
+use Rattle.exact_budgets.specs.LoneCell.{is_constant, own_zone, IsAlone, links_to, constants_in, inflow_from}
 use Rattle.exact_budgets.proofs.Sums.{total-append, total-negated, negated_sum, turned}
 
 module _ {X A : Type 0} (p : A → Bool) (f : X → List A) where
-  filter-flat_map : (xs : List X) → filter p (flat_map f xs) ≡ flat_map (λ x. filter p (f x)) xs
+  pub filter-flat_map : (xs : List X) → filter p (flat_map f xs) ≡ flat_map (λ x. filter p (f x)) xs
   filter-flat_map [] = refl
   filter-flat_map (x ∷ xs) = filter-append p (f x) (flat_map f xs) ∙ ap (λ (ys : List A). filter p (f x) ++ ys) (filter-flat_map xs)
 
 module _ {X A : Type 0} (f : X → List A) where
-  none_of : (xs : List X) → All (λ x. f x ≡ []) xs → flat_map f xs ≡ []
+  pub none_of : (xs : List X) → All (λ x. f x ≡ []) xs → flat_map f xs ≡ []
   none_of [] h = refl
   none_of (x ∷ xs) h = rw (All-head (λ y. f y ≡ []) x xs h, none_of xs (All-tail (λ y. f y ≡ []) x xs h)) refl
 
@@ -42,7 +42,7 @@ module _ {X A : Type 0} (f : X → List A) where
 
   module _ (test : X → Bool) (g : X → A) where
     -- where each element that passes gives one, and no other gives any
-    ones : (xs : List X) → All (λ x. f x ≡ cond (test x) (g x ∷ []) []) xs → flat_map f xs ≡ map g (filter test xs)
+    pub ones : (xs : List X) → All (λ x. f x ≡ cond (test x) (g x ∷ []) []) xs → flat_map f xs ≡ map g (filter test xs)
     ones [] h = refl
     ones (x ∷ xs) h =
         let first = All-head (λ y. f y ≡ cond (test y) (g y ∷ []) []) x xs h in
@@ -53,7 +53,7 @@ module _ {X A : Type 0} (f : X → List A) where
         by_case true = refl
         by_case false = refl
 
-differs : (a x : ℕ) → (x ≡ a → ⊥) → (x == a) ≡ false
+pub differs : (a x : ℕ) → (x ≡ a → ⊥) → (x == a) ≡ false
 differs a x h = by_case (x == a) refl
   where
     by_case : (b : Bool) → (x == a) ≡ b → b ≡ false
@@ -71,7 +71,7 @@ module _ (zones : List ℕ) (h : ℕ → Fraction) (a b : ℕ) (some : 0 < a) (l
   face x y c = record { from = zone x; to = zone y; flow = times (signed c) (minus (h x) (h y)) }
 
   -- no face from another zone
-  from_elsewhere : (x y : ℕ) (c : Ratio) → (zone x ≡ a → ⊥) → filter between (exact_from zones h x y c) ≡ []
+  pub from_elsewhere : (x y : ℕ) (c : Ratio) → (zone x ≡ a → ⊥) → filter between (exact_from zones h x y c) ≡ []
   unfolding exact_from
   from_elsewhere x y c other = by_case (is_lower_zone (zone x) (zone y))
     where
@@ -86,7 +86,7 @@ module _ (zones : List ℕ) (h : ℕ → Fraction) (a b : ℕ) (some : 0 < a) (l
   is_lower = grind (arith, nat_tests)
 
   -- the face from the zone, where the other cell is in zone b
-  from_here : (x y : ℕ) (c : Ratio) → zone x ≡ a → filter between (exact_from zones h x y c) ≡ cond (zone y == b) (face x y c ∷ []) []
+  pub from_here : (x y : ℕ) (c : Ratio) → zone x ≡ a → filter between (exact_from zones h x y c) ≡ cond (zone y == b) (face x y c ∷ []) []
   unfolding exact_from
   from_here x y c here = by_case (zone y == b) refl
     where
@@ -156,7 +156,7 @@ module _ (zones : List ℕ) (h : ℕ → Fraction) (a b : ℕ) (some : 0 < a) (l
         (λ j d lt. fixed_here (get_or c.fixed j d).kind c.id (get_or c.fixed j d).source (get_or c.fixed j d).conductance own (apart j d lt)) in
         filter-append between (flat_map (exact_link zones h e c) c.links) (flat_map (exact_fixed zones h c) c.fixed) ∙ rw (links, fixed) refl
 
-total-same : {X : Type 0} (test : X → Bool) (f g : X → Fraction) (xs : List X) → All (λ x. test x ≡ true → f x ≡ g x) xs → fraction_total f (filter test xs) ≡ fraction_total g (filter test xs)
+pub total-same : {X : Type 0} (test : X → Bool) (f g : X → Fraction) (xs : List X) → All (λ x. test x ≡ true → f x ≡ g x) xs → fraction_total f (filter test xs) ≡ fraction_total g (filter test xs)
 total-same test f g [] h = refl
 total-same test f g (x ∷ xs) h = by_case (total-same test f g xs (All-tail (λ y. test y ≡ true → f y ≡ g y) x xs h)) (test x) refl
   where
@@ -165,7 +165,7 @@ total-same test f g (x ∷ xs) h = by_case (total-same test f g xs (All-tail (λ
     by_case rest true e = rw (All-head (λ y. test y ≡ true → f y ≡ g y) x xs h e, rest) refl
     by_case rest false e = rest
 
-constant_is : (kind : FixedKind) → is_constant kind ≡ true → kind ≡ Constant
+pub constant_is : (kind : FixedKind) → is_constant kind ≡ true → kind ≡ Constant
 constant_is Storage e = absurd (let clash : false ≡ true = e in cc)
 constant_is Constant e = refl
 constant_is General e = absurd (let clash : false ≡ true = e in cc)
@@ -222,6 +222,3 @@ module _ (zones : List ℕ) (e : List ExactCell) (k b : ℕ) (h : ℕ → Fracti
 
   pub lone_flows : Same (exact_flow a b (exact_faces zones h e)) (negated (inflow_from zones e k h b))
   lone_flows = record { same = (λ i. (flows i).num *ℤ pos (den (negated (inflow_from zones e k h b)))) ∙ (λ i. (negated (inflow_from zones e k h b)).num *ℤ pos (den (sym flows i))) }
-
-pub lone_cells : LoneCellsHaveTheirFlows
-lone_cells zones e k b h alone some lower heads = lone_flows zones e k b h alone some lower heads

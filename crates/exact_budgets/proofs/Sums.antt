@@ -7,7 +7,7 @@ use Rattle.decimal_input.proofs.Differences.{diffs, as_diff, same_diff}
 use Rattle.step_problem.proofs.Leasts.{neg_mul, mul_neg}
 use Rattle.cell_balance.specs.Balance.{minus}
 
-one_fraction : (f g : Fraction) → f.num ≡ g.num → f.less ≡ g.less → f ≡ g
+pub one_fraction : (f g : Fraction) → f.num ≡ g.num → f.less ≡ g.less → f ≡ g
 one_fraction f g e d =
     let same : record { num = f.num; less = f.less } ≡ record { num = g.num; less = g.less } = rw (e, d) refl in
     same
@@ -18,7 +18,7 @@ regrouped x y z a b c = rw (as_diff x, as_diff y, as_diff z, as_diff a, as_diff 
 both_dens : (m n : ℕ) → suc (m * n + m + n) ≡ suc m * suc n
 both_dens m n = omega arith
 
-plus_assoc : (f g h : Fraction) → plus (plus f g) h ≡ plus f (plus g h)
+pub plus_assoc : (f g h : Fraction) → plus (plus f g) h ≡ plus f (plus g h)
 plus_assoc f g h = one_fraction (plus (plus f g) h) (plus f (plus g h)) nums (omega arith)
   where
     left : pos (suc (f.less * g.less + f.less + g.less)) ≡ pos (den f) *ℤ pos (den g)
@@ -36,7 +36,7 @@ plus_assoc f g h = one_fraction (plus (plus f g) h) (plus f (plus g h)) nums (om
 no_more : (x : ℤ) (d : ℕ) → x ≡ pos 0 *ℤ pos d +ℤ x *ℤ pos 1
 no_more x d = omega (arith, ints)
 
-plus_none : (f : Fraction) → f ≡ plus (whole (pos 0)) f
+pub plus_none : (f : Fraction) → f ≡ plus (whole (pos 0)) f
 plus_none f = one_fraction f (plus (whole (pos 0)) f) (no_more f.num (den f)) (omega arith)
 
 pub total-append : {X : Type 0} (f : X → Fraction) (xs ys : List X) → fraction_total f (xs ++ ys) ≡ plus (fraction_total f xs) (fraction_total f ys)

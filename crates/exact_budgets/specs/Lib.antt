@@ -3,3 +3,4 @@ pub mod Histories
 pub mod Laws
 pub mod Worked
 pub mod LoneCell
+pub mod WorkedZones
