@@ -4,3 +4,9 @@ pub mod Balance
 pub mod Bounds
 pub mod History
 pub mod WorkedCell
+pub mod Sums
+pub mod IndexedSums
+pub mod SingleLinks
+pub mod LoneCells
+pub mod LowerZones
+pub mod WorkedZone

@@ -1,6 +1,8 @@
 // What the budgets of exact solutions are.
 ghost use Rattle.exact_budgets.specs.Laws.{SolutionsBalance, NetTermsLieInTheOthers, StepsHaveTheirTimes, CertifiedHaveTheirTimes};
+ghost use Rattle.exact_budgets.specs.LoneCell.{LoneCellsHaveTheirFlows};
 ghost use Rattle.exact_budgets.specs.Worked.{PumpedCell};
+ghost use Rattle.exact_budgets.specs.WorkedZones.{MiddleCell};
 
 /// In the budget of each solution of a step TOTAL IN is TOTAL OUT, and the net terms sum to 0.
 pub fn in_is_out()
@@ -18,7 +20,17 @@ pub fn steps_have_their_times()
     ensures certified { CertifiedHaveTheirTimes }
 {}
 
+/// The zone flows of a cell that is alone in its zone are the flows over its links and to constant heads.
+pub fn lone_cells_have_their_flows()
+    ensures { LoneCellsHaveTheirFlows }
+{}
+
 /// A well takes 5 out of storage, which is listed from 4 to 6: by the well it is 5.
 pub fn pumped_cell()
     ensures { PumpedCell }
+{}
+
+/// Three cells in a row, each in a zone of its own, with heads of 10, 15 and 20: 5 flows back from each to the one before.
+pub fn middle_cell()
+    ensures { MiddleCell }
 {}

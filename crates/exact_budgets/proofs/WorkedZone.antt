@@ -1,0 +1,21 @@
+-- The middle cell of three, each in a zone of its own: everything is computed.
+use Rattle.std.proofs.Common.{◌≡◌, ℕ, zero, suc, ◌<◌, [], ◌∷◌, length, All, refl, arith}
+use Rattle.std.specs.Prelude.{slice_index}
+use Rattle.std.proofs.lemmas.List.Elements.{All-from_recursion}
+use Rattle.step_problem.specs.declared.entry.FixedKind.TheVariants.{Constant}
+use Rattle.cell_balance.specs.Steps.{ExactFixed, cell_at}
+use Rattle.zone_flows.specs.Exact.{exact_from, exact_cell, exact_faces}
+use Rattle.exact_budgets.specs.LoneCell.{IsAlone}
+use Rattle.exact_budgets.specs.WorkedZones.{constant_head, middle_step, own_zones, MiddleCell}
+
+sources : (j : ℕ) → j < length middle_step → All (λ (x : ExactFixed). x.kind ≡ Constant → slice_index own_zones x.source ≡ 2 → ⊥) (cell_at middle_step j).fixed
+sources zero lt = All-from_recursion (λ (x : ExactFixed). x.kind ≡ Constant → slice_index own_zones x.source ≡ 2 → ⊥) (constant_head 0 10 ∷ constant_head 2 20 ∷ [])
+    ((λ c e. omega (arith, e)), ((λ c e. omega (arith, e)), tt))
+sources (suc j) lt = absurd (omega (arith, lt))
+
+alone : IsAlone own_zones middle_step 0
+alone = record { inside = omega arith; others = λ j lt e. omega (arith, lt); sources = sources }
+
+pub middle_cell : MiddleCell
+unfolding exact_faces exact_cell exact_from
+middle_cell = record { alone = alone; from_first = record { same = refl }; to_last = record { same = refl }; inflow_from_first = record { same = refl }; inflow_from_last = record { same = refl } }

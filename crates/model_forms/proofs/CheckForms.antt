@@ -1,0 +1,46 @@
+-- A test of cells or of columns that is passed with one file's name in its refusals is passed with any other.
+use Rattle.std.proofs.Common.{◌≡◌, ℕ, zero, suc, ◌+◌, ℤ, List, Option, Some, None, Result, Ok, refl}
+use Rattle.std.specs.Prelude.{if◌then◌else◌}
+use Rattle.outside.specs.declared.codes.Code.{Code}
+use Rattle.outside.specs.declared.refusals.Refusal.{Refusal}
+use Rattle.record_lines.specs.Reading.{counted}
+use Rattle.model_types.specs.declared.grid.Grid.{Grid}
+use Rattle.model_types.specs.declared.model.FlowModel.{FlowModel}
+use Rattle.model_types.specs.declared.period.Period.{Period}
+use Rattle.model_types.specs.Cells.{cell_count, layer_size}
+use Rattle.model_types.specs.Layers.{int_at, is_nonzero}
+use Rattle.cell_checks.specs.Checks.{at_cell, cell_step, checked}
+use Rattle.cell_checks.specs.Faults.{fault_at}
+use Rattle.cell_checks.specs.declared.passing.Check.{Check}
+use Rattle.evt_package.specs.Columns.{cell_tested, chosen, column_tested, column_step, columns_tested, source}
+use Rattle.evt_package.specs.Faults.{evap_fault}
+use Rattle.array_forms.proofs.Readings.{goes}
+
+-- where each step that is passed is passed otherwise too
+passed_again : (step other : ℕ → Unit {0} → Result (Unit {0}) Refusal) → ((i : ℕ) → step i tt ≡ Ok tt → other i tt ≡ Ok tt) → (n i : ℕ) → counted step i n tt ≡ Ok tt → counted other i n tt ≡ Ok tt
+unfolding counted
+passed_again step other again zero i h = refl
+passed_again step other again (suc n) i h =
+    let a = goes (step i tt) (counted step (i + 1) n) tt h in
+    rw (again i a.first) (passed_again step other again n (i + 1) a.then_)
+
+cell_again : (g : Grid) (file other : List ℕ) (c : ℕ) (o : Option Code) → at_cell g file c o ≡ Ok tt → at_cell g other c o ≡ Ok tt
+cell_again g file other c None h = refl
+cell_again g file other c (Some code) h = absurd cc
+
+pub checked_again : (m : FlowModel) (file other : List ℕ) (check : Check) → checked m file check ≡ Ok tt → checked m other check ≡ Ok tt
+unfolding checked
+checked_again m file other check h = passed_again (cell_step m file check) (cell_step m other check) (λ c k. cell_again m.grid file other c (fault_at check m c) k) (cell_count m.grid) 0 h
+
+tested_again : (file other : List ℕ) (g : Grid) (c : ℕ) (o : Option Code) → cell_tested file g c o ≡ Ok tt → cell_tested other g c o ≡ Ok tt
+tested_again file other g c None h = refl
+tested_again file other g c (Some code) h = absurd cc
+
+column_again : (file other : List ℕ) (g : Grid) (ibound : List ℤ) (p : Period) (i : ℕ) (o : Option ℕ) → column_tested file g ibound p i o ≡ Ok tt → column_tested other g ibound p i o ≡ Ok tt
+column_again file other g ibound p i None h = refl
+column_again file other g ibound p i (Some c) h = tested_again file other g c (if is_nonzero (int_at ibound c) then evap_fault (source p i) else None) h
+
+pub columns_again : (file other : List ℕ) (g : Grid) (ibound : List ℤ) (option : ℤ) (p : Period) → columns_tested file g ibound option p ≡ Ok tt → columns_tested other g ibound option p ≡ Ok tt
+unfolding columns_tested
+columns_again file other g ibound option p h =
+    passed_again (column_step file g ibound option p) (column_step other g ibound option p) (λ i k. column_again file other g ibound p i (chosen g ibound option p.stresses.ievt i) k) (layer_size g) 0 h

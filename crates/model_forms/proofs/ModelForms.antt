@@ -1,0 +1,247 @@
+-- A model that is read is writable.
+use Rattle.std.proofs.Common.{◌≡◌, ◌⊎◌, inl, inr, ℕ, ◌≤◌, ℤ, pos, Bool, not, ◌||◌, cond, List, [], ◌∷◌, map, length, sum, sum_by, All, Ok, refl, sym, ap, subst, ◌∙◌}
+use Rattle.std.specs.List.{list_any}
+use Rattle.std.proofs.lemmas.List.Elements.{All-weaker}
+use Rattle.std.proofs.lemmas.List.Sums.{sum-map}
+use Rattle.decimal_input.specs.declared.dec.Dec.{Dec}
+use Rattle.decimal_input.specs.Canonical.{IsDec}
+use Rattle.outside.specs.Files.{File}
+use Rattle.outside.specs.Inputs.{file_at}
+use Rattle.outside.specs.declared.refusals.Refusal.{Refusal}
+use Rattle.name_file.specs.Pairs.{Pairs}
+use Rattle.name_file.specs.declared.package.Package.TheVariants.{Dis, Bas, Lpf}
+use Rattle.model_types.specs.declared.grid.Grid.{Grid}
+use Rattle.model_types.specs.declared.model.FlowModel.{FlowModel}
+use Rattle.model_types.specs.declared.period.Period.{Period}
+use Rattle.model_types.specs.Cells.{cell_count}
+use Rattle.model_types.specs.Grids.{IsGrid, HasSize}
+use Rattle.model_types.specs.Valid.{IsTimed}
+use Rattle.dis_package.specs.Forms.{IsNewPeriod}
+use Rattle.bas_package.specs.Basics.{bas_of}
+use Rattle.lpf_package.specs.Flow.{is_transient, with_properties, lpf_of, SameBut}
+use Rattle.lpf_package.specs.declared.layer.Properties.{Properties}
+use Rattle.cell_checks.specs.Checks.{checked}
+use Rattle.cell_checks.specs.Faults.{fault_at}
+use Rattle.cell_checks.specs.declared.passing.Check.{Check}
+use Rattle.cell_checks.specs.declared.passing.Check.TheVariants.{Thickness, StartHead, Properties as PropertyCheck}
+use Rattle.list_package.proofs.ModelLemmas.{steps, same_count, same_view}
+use Rattle.model_reader.specs.Names.{names_in, needed}
+use Rattle.model_reader.specs.Model.{dis_in, basics_tested, bas_in, lpf_in, model_of, reads}
+use Rattle.array_forms.proofs.Readings.{goes, ends}
+use Rattle.array_text.specs.Words.{IsShort}
+use Rattle.package_text.specs.Readable.{IsOfBeds, IsDiscretized, HasFlow}
+use Rattle.area_text.specs.Readable.{IsRecharged, IsEvaporating}
+use Rattle.model_text.specs.Writable.{IsDry, IsStill, HasNoRecharge, HasNoEvaporation, IsWritable}
+use Rattle.model_forms.proofs.BasForms.{HasBasics, bas_is}
+use Rattle.model_forms.proofs.CheckForms.{checked_again}
+use Rattle.model_forms.proofs.DisForms.{IsStarted, dis_is}
+use Rattle.model_forms.proofs.LpfForms.{lpf_is}
+use Rattle.model_forms.proofs.PeriodForms.{IsKnown}
+use Rattle.model_forms.proofs.StageForms.{IsOption, IsStressed, first_stage, stresses_are}
+
+-- another model with this grid, LENUNI, and as many periods of as many steps
+discretized_again : (m n : FlowModel) → n.grid ≡ m.grid → n.lenuni ≡ m.lenuni → length n.periods ≡ length m.periods → sum_by (λ p. p.nstp) n.periods ≡ sum_by (λ p. p.nstp) m.periods → All IsTimed n.periods
+    → IsDiscretized m → IsDiscretized n
+discretized_again m n grid lenuni many sum times d = record {
+  grid = subst (λ (g : Grid). IsGrid g) (sym grid) d.grid;
+  laycbd = subst (λ (g : Grid). All IsShort g.laycbd) (sym grid) d.laycbd;
+  bed_bottom = subst (λ (g : Grid). IsOfBeds g g.bed_bottom) (sym grid) d.bed_bottom;
+  lenuni = subst (λ (z : ℤ). IsShort z) (sym lenuni) d.lenuni;
+  some = subst (λ (n : ℕ). 1 ≤ n) (sym many) d.some;
+  few = subst (λ (n : ℕ). n ≤ 1000) (sym many) d.few;
+  steps = subst (λ (n : ℕ). n ≤ 100000) (sym sum) d.steps;
+  times = times;
+}
+
+-- what is known of a model after LPF
+record IsFlow (m : FlowModel) : Type 0 where
+  pub discretized : IsDiscretized m
+  pub ibound : length m.ibound ≡ cell_count m.grid
+  pub strt : (length m.strt ≡ cell_count m.grid) × All IsDec m.strt
+  pub flow : HasFlow m
+  pub passed : (check : Check) (file : List ℕ) → checked m file check ≡ Ok tt
+  pub new : All IsNewPeriod m.periods
+  pub options : (m.nrchop ≡ pos 0) × (m.nevtop ≡ pos 0)
+
+thickness_kept : (m : FlowModel) (c : Bool) (layvka : List ℤ) (p : Properties) (file : List ℕ) → checked (with_properties m c layvka p) file Thickness ≡ checked m file Thickness
+unfolding checked fault_at
+thickness_kept m c layvka p file = refl
+
+heads_kept : (m : FlowModel) (c : Bool) (layvka : List ℤ) (p : Properties) (file : List ℕ) → checked (with_properties m c layvka p) file StartHead ≡ checked m file StartHead
+unfolding checked fault_at
+heads_kept m c layvka p file = refl
+
+all_passed : (basic flow : FlowModel) (dis bas lpf : List ℕ) → SameBut basic flow → checked basic dis Thickness ≡ Ok tt → checked basic bas StartHead ≡ Ok tt → checked flow lpf PropertyCheck ≡ Ok tt
+    → (check : Check) (file : List ℕ) → checked flow file check ≡ Ok tt
+all_passed basic flow dis bas lpf same thick heads good Thickness file =
+    let p : Properties = record { hk = flow.hk; hani = flow.hani; vka = flow.vka; ss = flow.ss; vkcb = flow.vkcb } in
+    let there : checked flow dis Thickness ≡ Ok tt = ap (λ (m : FlowModel). checked m dis Thickness) same ∙ thickness_kept basic flow.coefficient flow.layvka p dis ∙ thick in
+    checked_again flow dis file Thickness there
+all_passed basic flow dis bas lpf same thick heads good StartHead file =
+    let p : Properties = record { hk = flow.hk; hani = flow.hani; vka = flow.vka; ss = flow.ss; vkcb = flow.vkcb } in
+    let there : checked flow bas StartHead ≡ Ok tt = ap (λ (m : FlowModel). checked m bas StartHead) same ∙ heads_kept basic flow.coefficient flow.layvka p bas ∙ heads in
+    checked_again flow bas file StartHead there
+all_passed basic flow dis bas lpf same thick heads good PropertyCheck file = checked_again flow lpf file PropertyCheck good
+
+flow_is : (b basic flow : FlowModel) (dis bas lpf : List ℕ) → IsStarted b → HasBasics b basic → HasFlow flow → SameBut basic flow
+    → checked basic dis Thickness ≡ Ok tt → checked basic bas StartHead ≡ Ok tt → checked flow lpf PropertyCheck ≡ Ok tt → IsFlow flow
+flow_is b basic flow dis bas lpf started basics has same thick heads good =
+    let grid : flow.grid ≡ b.grid = ap (λ (m : FlowModel). m.grid) same ∙ ap (λ (m : FlowModel). m.grid) basics.only in
+    let lenuni : flow.lenuni ≡ b.lenuni = ap (λ (m : FlowModel). m.lenuni) same ∙ ap (λ (m : FlowModel). m.lenuni) basics.only in
+    let periods : flow.periods ≡ b.periods = ap (λ (m : FlowModel). m.periods) same ∙ ap (λ (m : FlowModel). m.periods) basics.only in
+    let nrchop : flow.nrchop ≡ b.nrchop = ap (λ (m : FlowModel). m.nrchop) same ∙ ap (λ (m : FlowModel). m.nrchop) basics.only in
+    let nevtop : flow.nevtop ≡ b.nevtop = ap (λ (m : FlowModel). m.nevtop) same ∙ ap (λ (m : FlowModel). m.nevtop) basics.only in
+    let ibound : flow.ibound ≡ basic.ibound = ap (λ (m : FlowModel). m.ibound) same in
+    let strt : flow.strt ≡ basic.strt = ap (λ (m : FlowModel). m.strt) same in
+    let cells : cell_count b.grid ≡ cell_count flow.grid = ap (λ (g : Grid). cell_count g) (sym grid) in
+    let times : All IsTimed flow.periods = subst (λ (ps : List Period). All IsTimed ps) (sym periods) started.discretized.times in
+    record {
+      discretized = discretized_again b flow grid lenuni (ap (λ (ps : List Period). length ps) periods) (ap (λ (ps : List Period). sum_by (λ p. p.nstp) ps) periods) times started.discretized;
+      ibound = ap (λ (zs : List ℤ). length zs) ibound ∙ basics.ibound ∙ cells;
+      strt = (ap (λ (ds : List Dec). length ds) strt ∙ basics.strt.0 ∙ cells, subst (λ (ds : List Dec). All IsDec ds) (sym strt) basics.strt.1);
+      flow = has;
+      passed = all_passed basic flow dis bas lpf same thick heads good;
+      new = subst (λ (ps : List Period). All IsNewPeriod ps) (sym periods) started.new;
+      options = (nrchop ∙ ap (λ (m : FlowModel). m.nrchop) started.only, nevtop ∙ ap (λ (m : FlowModel). m.nevtop) started.only);
+    }
+
+-- a model with the stresses of a stage
+abbrev staged : FlowModel → ℤ → ℤ → List Period → FlowModel
+staged core nrchop nevtop ps = record core { nrchop = nrchop; nevtop = nevtop; periods = ps }
+
+checks_kept : (core : FlowModel) (nrchop nevtop : ℤ) (ps : List Period) (check : Check) (file : List ℕ) → checked (staged core nrchop nevtop ps) file check ≡ checked core file check
+unfolding checked fault_at
+checks_kept core nrchop nevtop ps Thickness file = refl
+checks_kept core nrchop nevtop ps StartHead file = refl
+checks_kept core nrchop nevtop ps PropertyCheck file = refl
+
+same_sum : (ps qs : List Period) → map steps ps ≡ map steps qs → sum_by (λ p. p.nstp) ps ≡ sum_by (λ p. p.nstp) qs
+same_sum ps qs e = sym (sum-map (λ p. p.nstp) ps) ∙ ap sum (same_view steps (λ x. x.0) (λ p. p.nstp) (λ p. refl) ps qs e) ∙ sum-map (λ p. p.nstp) qs
+
+any_unsteady : (ps : List Period) → is_transient ps ≡ list_any (λ b. not b) (map (λ p. p.steady) ps)
+any_unsteady [] = refl
+any_unsteady (p ∷ ps) = ap (λ (b : Bool). not p.steady || b) (any_unsteady ps)
+
+same_transient : (ps qs : List Period) → map steps ps ≡ map steps qs → is_transient ps ≡ is_transient qs
+same_transient ps qs e = any_unsteady ps ∙ ap (λ (bs : List Bool). list_any (λ b. not b) bs) (same_view steps (λ x. x.1) (λ p. p.steady) (λ p. refl) ps qs e) ∙ sym (any_unsteady qs)
+
+flow_again : (core : FlowModel) (nrchop nevtop : ℤ) (ps : List Period) → map steps ps ≡ map steps core.periods → HasFlow core → HasFlow (staged core nrchop nevtop ps)
+flow_again core nrchop nevtop ps same h = record {
+  layvka = h.layvka;
+  hk = h.hk;
+  hani = h.hani;
+  vka = h.vka;
+  ss = (h.ss.0 ∙ ap (λ (b : Bool). cond b (cell_count core.grid) 0) (sym (same_transient ps core.periods same)), h.ss.1);
+  vkcb = h.vkcb;
+  beds = h.beds;
+}
+
+module _ (core : FlowModel) (nrchop nevtop : ℤ) (ps : List Period) (f : IsFlow core) (short : All IsShort core.ibound)
+    (options : IsOption nrchop × IsOption nevtop) (same : map steps ps ≡ map steps core.periods) (each : All (IsKnown core.grid core.ibound nrchop nevtop) ps) where
+  abbrev Known : Period → Type 0
+  Known p = IsKnown core.grid core.ibound nrchop nevtop p
+
+  abbrev m : FlowModel
+  m = staged core nrchop nevtop ps
+
+  -- what is known of each period
+  each_is : (P : Period → Type 0) → ((p : Period) → Known p → P p) → All P ps
+  each_is P known = All-weaker Known P known ps each
+
+  rain_is : IsOption nrchop → IsRecharged m ⊎ HasNoRecharge m
+  rain_is (inl e) = inr (record { option = e; none = each_is IsDry (λ p k. k.dry e) })
+  rain_is (inr e) = inl (record {
+    option = e;
+    recharge = λ k d lt. ((each k d lt).rain e).recharge;
+    irch = λ k d lt. ((each k d lt).rain e).irch;
+  })
+
+  air_is : IsOption nevtop → IsEvaporating m ⊎ HasNoEvaporation m
+  air_is (inl e) = inr (record { option = e; none = each_is IsStill (λ p k. k.still e) })
+  air_is (inr e) = inl (record {
+    option = e;
+    surf = λ k d lt. ((each k d lt).air e).surf;
+    evtr = λ k d lt. ((each k d lt).air e).evtr;
+    exdp = λ k d lt. ((each k d lt).air e).exdp;
+    ievt = λ k d lt. ((each k d lt).air e).ievt;
+    passed = λ file k d lt. ((each k d lt).air e).passed file;
+  })
+
+  writable : IsWritable m
+  writable = record {
+    discretization = discretized_again core m refl refl (same_count steps ps core.periods same) (same_sum ps core.periods same) (each_is IsTimed (λ p k. k.times)) f.discretized;
+    basic = record { ibound = (f.ibound, short); strt = f.strt };
+    flow = flow_again core nrchop nevtop ps same f.flow;
+    passed = λ check file. checks_kept core nrchop nevtop ps check file ∙ f.passed check file;
+    wel = λ k d lt. (each k d lt).wel;
+    riv = λ k d lt. (each k d lt).riv;
+    drn = λ k d lt. (each k d lt).drn;
+    ghb = λ k d lt. (each k d lt).ghb;
+    rch = rain_is options.0;
+    chd = λ k d lt. (each k d lt).chd;
+    evt = air_is options.1;
+  }
+
+stressed_writable : (core n : FlowModel) → IsFlow core → IsStressed core n → All IsShort n.ibound → IsWritable n
+stressed_writable core n f s short =
+    let ibound : n.ibound ≡ core.ibound = ap (λ (m : FlowModel). m.ibound) s.stage.is in
+    let there : All IsShort core.ibound = subst (λ (zs : List ℤ). All IsShort zs) ibound short in
+    subst (λ (m : FlowModel). IsWritable m) (sym s.stage.is) (writable core s.nrchop s.nevtop n.periods f there s.options s.stage.same s.stage.each)
+
+-- a model with IBOUND and STRT that passed the tests of thickness and of starting heads
+record IsTested (dis bas : List ℕ) (begun basic : FlowModel) : Type 0 where
+  pub basics : HasBasics begun basic
+  pub thick : checked basic dis Thickness ≡ Ok tt
+  pub heads : checked basic bas StartHead ≡ Ok tt
+
+module _ (files : List File) where
+  begun_is : (dis : List ℕ) (m : FlowModel) → dis_in files dis ≡ Ok m → IsStarted m
+  unfolding dis_in
+  begun_is dis m h =
+      let bytes = goes (file_at files dis) _ m h in
+      dis_is files dis bytes.item m bytes.then_
+
+  both_tested : (dis bas : List ℕ) (basic : FlowModel) (u : Unit {0}) → basics_tested dis bas basic ≡ Ok u → (checked basic dis Thickness ≡ Ok tt) × (checked basic bas StartHead ≡ Ok tt)
+  unfolding basics_tested
+  both_tested dis bas basic u h =
+      let thick = goes (checked basic dis Thickness) _ u h in
+      (thick.first, thick.then_)
+
+  basic_is : (dis bas : List ℕ) (begun basic : FlowModel) → bas_in files dis bas begun ≡ Ok basic → IsTested dis bas begun basic
+  unfolding bas_in
+  basic_is dis bas begun basic h =
+      let bytes = goes (file_at files bas) _ basic h in
+      let read = goes (bas_of files bas bytes.item begun) _ basic bytes.then_ in
+      let tested = goes (basics_tested dis bas read.item) _ basic read.then_ in
+      let both = both_tested dis bas read.item tested.item tested.first in
+      let is : IsTested dis bas begun read.item = record { basics = bas_is files bas bytes.item begun read.item read.first; thick = both.0; heads = both.1 } in
+      ends {E = Refusal} (λ (y : FlowModel). IsTested dis bas begun y) read.item basic tested.then_ is
+
+  lpf_read : (lpf : List ℕ) (basic flow : FlowModel) → lpf_in files lpf basic ≡ Ok flow → HasFlow flow × SameBut basic flow × (checked flow lpf PropertyCheck ≡ Ok tt)
+  unfolding lpf_in
+  lpf_read lpf basic flow h =
+      let bytes = goes (file_at files lpf) _ flow h in
+      let read = goes (lpf_of files lpf bytes.item basic) _ flow bytes.then_ in
+      let good = goes (checked read.item lpf PropertyCheck) _ flow read.then_ in
+      let is = lpf_is files lpf bytes.item basic read.item read.first in
+      ends {E = Refusal} (λ (y : FlowModel). HasFlow y × SameBut basic y × (checked y lpf PropertyCheck ≡ Ok tt)) read.item flow good.then_ (is.0, is.1, good.first)
+
+  model_is : (names : Pairs) (m : FlowModel) → model_of files names ≡ Ok m → All IsShort m.ibound → IsWritable m
+  unfolding model_of
+  model_is names m h short =
+      let begun = goes (dis_in files (needed Dis names)) _ m h in
+      let basic = goes (bas_in files (needed Dis names) (needed Bas names) begun.item) _ m begun.then_ in
+      let flow = goes (lpf_in files (needed Lpf names) basic.item) _ m basic.then_ in
+      let a = begun_is (needed Dis names) begun.item begun.first in
+      let b = basic_is (needed Dis names) (needed Bas names) begun.item basic.item basic.first in
+      let d = lpf_read (needed Lpf names) basic.item flow.item flow.first in
+      let f = flow_is begun.item basic.item flow.item (needed Dis names) (needed Bas names) (needed Lpf names) a b.basics d.0 d.1 b.thick b.heads d.2 in
+      let stage = first_stage flow.item f.options.0 f.options.1 f.new in
+      let size : HasSize flow.item.grid = f.discretized.grid.size in
+      stressed_writable flow.item m f (stresses_are flow.item size files names m stage flow.then_) short
+
+  pub read_writable : (name : List ℕ) (m : FlowModel) → reads files name ≡ Ok m → All IsShort m.ibound → IsWritable m
+  unfolding reads
+  read_writable name m h short =
+      let names = goes (names_in files name) _ m h in
+      model_is names.item m names.then_ short

@@ -1,0 +1,203 @@
+-- Three cells in a row are a writable model.
+use Rattle.std.proofs.Common.{◌≡◌, ℕ, zero, suc, ◌%◌, ◌^◌, ◌<◌, ◌≤◌, ◌==◌, inr, true, false, not, pos, negsuc, List, [], ◌∷◌, length, replicate, All, Some, None, Ok, refl, sym, ap, ◌∙◌, arith}
+use Rattle.std.specs.Fmt.{decimal as numeral}
+use Rattle.std.proofs.lemmas.Fmt.{decimal_digit}
+use Rattle.std.specs.List.{list_all}
+use Rattle.std.proofs.lemmas.Bool.{and_parts, not-true}
+use Rattle.std.proofs.lemmas.Bool.Decides.{nat_tests}
+use Rattle.std.proofs.lemmas.Int.{ints}
+use Rattle.std.proofs.lemmas.List.Elements.{All-nil, All-cons, All-replicate, All-from_recursion}
+use Rattle.decimal_input.specs.Canonical.{IsDec}
+use Rattle.decimal_input.specs.Decimals.{scaled}
+use Rattle.decimal_input.specs.Ratios.{ratio}
+use Rattle.outside.specs.Inputs.{file_limit}
+use Rattle.record_lines.specs.Reading.{counted}
+use Rattle.name_file.specs.Kinds.{package_of}
+use Rattle.name_file.specs.declared.package.Package.{Package}
+use Rattle.name_file.specs.declared.package.Package.TheVariants.{Dis, Bas, Lpf, Wel, Riv, Drn, Ghb, Rch, Chd, Evt}
+use Rattle.model_types.specs.declared.period.Period.{Period}
+use Rattle.model_types.specs.Layers.{no_number}
+use Rattle.model_types.specs.Grids.{IsGrid}
+use Rattle.model_types.specs.Numbers.{IsPositive}
+use Rattle.model_types.specs.Valid.{IsTimed}
+use Rattle.number_limits.specs.Magnitudes.{is_at_most}
+use Rattle.number_limits.specs.Room.{floor_of, ceiling_of, is_thick}
+use Rattle.number_limits.proofs.Canonical.{no_number_is}
+use Rattle.cell_checks.specs.Checks.{checked}
+use Rattle.cell_checks.specs.Faults.{fault_at}
+use Rattle.cell_checks.specs.declared.passing.Check.{Check}
+use Rattle.cell_checks.specs.declared.passing.Check.TheVariants.{Thickness, StartHead, Properties}
+use Rattle.list_package.specs.GivenHeads.{given_heads}
+use Rattle.list_package.specs.Kinds.{Kind}
+use Rattle.stress_packages.specs.Packages.{wells, rivers, drains, generals}
+use Rattle.flow_equations.specs.Worked.{decimal, period_with, three_cells}
+use Rattle.array_text.specs.Words.{IsShort}
+use Rattle.array_text.specs.Words.{number_word, integer_word}
+use Rattle.array_text.specs.Lines.{line_text, text}
+use Rattle.array_text.specs.Arrays.{row_line, row_lines, real_array, integer_array}
+use Rattle.array_text.proofs.WordTexts.{word_by_test}
+use Rattle.package_text.specs.Discretization.{dis_lines, dis_item_1, dis_item_2, dis_item_3, dis_item_4, dis_item_5, dis_item_6, dis_item_7}
+use Rattle.package_text.specs.Basics.{bas_lines, bas_item_1, bas_item_2, bas_item_3, bas_item_4}
+use Rattle.package_text.specs.Flow.{lpf_lines, lpf_item_1, lpf_zeros, lpf_item_4, lpf_item_5, lpf_arrays}
+use Rattle.package_text.specs.Readable.{IsOfBeds, IsDiscretized, IsBasic, HasFlow}
+use Rattle.stress_text.specs.Entries.{IsEntry, IsListOf}
+use Rattle.model_text.specs.Names.{file_type, name_item, AreNames}
+use Rattle.model_text.specs.Written.{written}
+use Rattle.model_text.specs.Writable.{IsDry, IsStill, IsWritable}
+use Rattle.model_text.proofs.ModelTexts.{model_reads}
+use Rattle.model_text.proofs.PackageTexts.{type_is_word, type_reads}
+use Rattle.model_forms.specs.Worked.{name_of_deck, deck, ThreeCells}
+use Rattle.model_forms.proofs.Parts.{some_same}
+
+abbrev steady_period : Period
+steady_period = period_with true (decimal 1 0) 1 []
+
+whole_dec : (digits e : ℕ) → digits < 10 ^ 18 → 0 < digits → 0 < digits % 10 → e ≤ 40 → IsDec (decimal digits e)
+whole_dec digits e few some last small = record { few = few; form = inr (some, last); above = omega (arith, ints); below = omega (arith, ints, small) }
+
+ones : All IsDec (replicate 3 (decimal 1 0))
+ones = All-replicate IsDec 3 (decimal 1 0) (whole_dec 1 0 (omega arith) (omega arith) (omega arith) (omega arith))
+
+zeros : All IsDec (replicate 3 no_number)
+zeros = All-replicate IsDec 3 no_number no_number_is
+
+of_beds : IsOfBeds three_cells.grid (replicate 3 no_number)
+of_beds zero lt none = refl
+of_beds (suc k) lt none = absurd (omega (arith, lt))
+
+zero_short : IsShort (pos 0)
+zero_short = record { few = omega arith }
+
+layers_short : All IsShort (pos 0 ∷ [])
+layers_short = All-cons (λ z. IsShort z) (pos 0) [] zero_short (All-nil (λ z. IsShort z))
+
+one_dec : IsDec (decimal 1 0)
+one_dec = whole_dec 1 0 (omega arith) (omega arith) (omega arith) (omega arith)
+
+one_positive : IsPositive (decimal 1 0)
+one_positive = record { decimal = one_dec; sign = refl; positive = omega arith }
+
+grid : IsGrid three_cells.grid
+grid = record {
+  size = record { layers = (omega arith, omega arith); rows = (omega arith, omega arith); cols = (omega arith, omega arith); cells = omega arith };
+  delr = (refl, All-replicate IsPositive 3 (decimal 1 0) one_positive);
+  delc = (refl, All-cons IsPositive (decimal 1 0) [] one_positive (All-nil IsPositive));
+  top = (refl, ones);
+  bottom = (refl, zeros);
+  laycbd = refl;
+  no_last_bed = refl;
+  bed_bottom = (refl, zeros);
+}
+
+timed : IsTimed steady_period
+timed = record {
+  nstp = (omega arith, omega arith);
+  perlen = record { decimal = one_dec; sign = refl };
+  lasts = λ e. absurd (let clash : true ≡ false = e in cc);
+  tsmult = one_positive;
+  growth = λ e. absurd (let clash : true ≡ false = e in cc);
+}
+
+one_period : (P : Period → Type 0) → P steady_period → All P three_cells.periods
+one_period P h = All-cons P steady_period [] h (All-nil P)
+
+discretized : IsDiscretized three_cells
+discretized = record {
+  grid = grid;
+  laycbd = layers_short;
+  bed_bottom = of_beds;
+  lenuni = record { few = omega arith };
+  some = omega arith;
+  few = omega arith;
+  steps = omega arith;
+  times = one_period IsTimed timed;
+}
+
+basic : IsBasic three_cells
+basic = record {
+  ibound = (refl, All-from_recursion (λ z. IsShort z) (negsuc 0 ∷ pos 1 ∷ negsuc 0 ∷ []) (record { few = omega arith }, (record { few = omega arith }, (record { few = omega arith }, tt))));
+  strt = (refl, All-from_recursion IsDec (decimal 1 1 ∷ no_number ∷ decimal 2 1 ∷ []) (whole_dec 1 1 (omega arith) (omega arith) (omega arith) (omega arith), (no_number_is, (whole_dec 2 1 (omega arith) (omega arith) (omega arith) (omega arith), tt))));
+}
+
+flow : HasFlow three_cells
+flow = record {
+  layvka = (refl, layers_short);
+  hk = (refl, ones);
+  hani = (refl, ones);
+  vka = (refl, ones);
+  ss = (refl, All-nil IsDec);
+  vkcb = (refl, zeros);
+  beds = of_beds;
+}
+
+passed : (check : Check) (file : List ℕ) → checked three_cells file check ≡ Ok tt
+unfolding checked fault_at counted is_thick floor_of ceiling_of is_at_most scaled ratio
+passed Thickness file = refl
+passed StartHead file = refl
+passed Properties file = refl
+
+no_entries : {E : Type 0} (kind : Kind E) → kind.suits steady_period [] ≡ true → IsListOf kind 3 steady_period []
+no_entries kind suits = record { few = omega arith; entries = All-nil (IsEntry kind 3); once = λ e i j d lt low. absurd (omega (arith, low)); suits = suits }
+
+writable : IsWritable three_cells
+writable = record {
+  discretization = discretized;
+  basic = basic;
+  flow = flow;
+  passed = passed;
+  wel = one_period (λ p. IsListOf wells 3 p p.stresses.wells) (no_entries wells refl);
+  riv = one_period (λ p. IsListOf rivers 3 p p.stresses.rivers) (no_entries rivers refl);
+  drn = one_period (λ p. IsListOf drains 3 p p.stresses.drains) (no_entries drains refl);
+  ghb = one_period (λ p. IsListOf generals 3 p p.stresses.generals) (no_entries generals refl);
+  rch = inr (record { option = refl; none = one_period IsDry (record { recharge = refl; irch = refl }) });
+  chd = one_period (λ p. IsListOf given_heads 3 p p.stresses.given) (no_entries given_heads refl);
+  evt = inr (record { option = refl; none = one_period IsStill (record { surf = refl; evtr = refl; exdp = refl; ievt = refl }) });
+}
+
+-- a name without a backslash
+all_plain : (w : List ℕ) → list_all (λ b. not (b == 92)) w ≡ true → All (λ b. b ≡ 92 → ⊥) w
+all_plain [] h = All-nil (λ b. b ≡ 92 → ⊥)
+all_plain (x ∷ w) h =
+    let p = and_parts (not (x == 92)) (list_all (λ b. not (b == 92)) w) h in
+    let other : x ≡ 92 → ⊥ = λ e. apart x (not-true (x == 92) p.0) e in
+    All-cons (λ b. b ≡ 92 → ⊥) x w other (all_plain w p.1)
+  where
+    apart : (x : ℕ) → (x == 92) ≡ false → x ≡ 92 → ⊥
+    apart x e same = grind (arith, nat_tests)
+
+good_type : (k : Package) → (length (file_type k) ≤ 255) × (list_all (λ b. not (b == 92)) (file_type k) ≡ true)
+good_type Dis = (omega arith, refl)
+good_type Bas = (omega arith, refl)
+good_type Lpf = (omega arith, refl)
+good_type Wel = (omega arith, refl)
+good_type Riv = (omega arith, refl)
+good_type Drn = (omega arith, refl)
+good_type Ghb = (omega arith, refl)
+good_type Rch = (omega arith, refl)
+good_type Chd = (omega arith, refl)
+good_type Evt = (omega arith, refl)
+
+no_type : package_of name_of_deck ≡ None
+unfolding package_of
+no_type = refl
+
+names : AreNames file_type name_of_deck
+names = record {
+  each = λ k. record { word = type_is_word k; few = (good_type k).0; plain = all_plain (file_type k) (good_type k).1 };
+  first = record { word = word_by_test name_of_deck refl; few = omega arith; plain = all_plain name_of_deck refl };
+  distinct = λ a b e. some_same a b (sym (type_reads a) ∙ ap (λ (w : List ℕ). package_of w) e ∙ type_reads b);
+  apart = λ k e. (let clash : Some k ≡ None = sym (type_reads k) ∙ ap (λ (w : List ℕ). package_of w) e ∙ no_type in cc);
+}
+
+small : All (λ f. length f.bytes ≤ file_limit) deck
+unfolding written name_item text line_text dis_lines dis_item_1 dis_item_2 dis_item_3 dis_item_4 dis_item_5 dis_item_6 dis_item_7 bas_lines bas_item_1 bas_item_2 bas_item_3 bas_item_4 lpf_lines lpf_item_1 lpf_zeros lpf_item_4 lpf_item_5 lpf_arrays real_array integer_array row_line row_lines number_word integer_word
+small =
+    let zero_digit : numeral 0 ≡ 48 ∷ [] = decimal_digit 0 (omega arith) in
+    let one_digit : numeral 1 ≡ 49 ∷ [] = decimal_digit 1 (omega arith) in
+    let two_digit : numeral 2 ≡ 50 ∷ [] = decimal_digit 2 (omega arith) in
+    let three_digit : numeral 3 ≡ 51 ∷ [] = decimal_digit 3 (omega arith) in
+    All-from_recursion (λ f. length f.bytes ≤ file_limit) deck
+    (omega arith, (simp (zero_digit, one_digit, two_digit, three_digit) (omega arith), (simp (zero_digit, one_digit, two_digit) (omega arith), (simp (zero_digit, one_digit) (omega arith), tt))))
+
+pub cells : ThreeCells
+cells = record { writable = writable; names = names; read = model_reads three_cells writable file_type name_of_deck names small }

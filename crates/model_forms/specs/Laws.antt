@@ -1,0 +1,21 @@
+-- Statements of laws: a model that is read can be written.
+use Rattle.std.specs.Prelude.{◌≡◌, ℕ, ◌≤◌, List, All, length, Ok}
+use Rattle.outside.specs.Files.{File}
+use Rattle.outside.specs.Inputs.{file_limit}
+use Rattle.name_file.specs.declared.package.Package.{Package}
+use Rattle.model_types.specs.declared.model.FlowModel.{FlowModel}
+use Rattle.model_reader.specs.Model.{reads}
+use Rattle.array_text.specs.Words.{IsShort}
+use Rattle.model_text.specs.Names.{AreNames}
+use Rattle.model_text.specs.Written.{written}
+use Rattle.model_text.specs.Writable.{IsWritable}
+
+-- A model that is read is writable. Each other integer of a file is a word of at most 18 digits; an IBOUND is a word times a multiplier.
+abbrev pub ModelsReadAreWritable : Type 0
+ModelsReadAreWritable = (files : List File) (name : List ℕ) (m : FlowModel) → reads files name ≡ Ok m → All IsShort m.ibound → IsWritable m
+
+-- So is read as itself what is written of a model that was read, under names of files that may be, where no file is too long.
+abbrev pub ModelsReadAreReadAsWritten : Type 0
+ModelsReadAreReadAsWritten = (files : List File) (name : List ℕ) (m : FlowModel) → reads files name ≡ Ok m → All IsShort m.ibound →
+    (names : Package → List ℕ) (anew : List ℕ) → AreNames names anew → All (λ f. length f.bytes ≤ file_limit) (written m names anew) →
+    reads (written m names anew) anew ≡ Ok m

@@ -1,0 +1,18 @@
+// What is read of a model can be written. Each law is the contract of an empty function.
+ghost use Rattle.model_forms.specs.Laws.{ModelsReadAreWritable, ModelsReadAreReadAsWritten};
+ghost use Rattle.model_forms.specs.Worked.{ThreeCells};
+
+/// A model that is read is writable, where each IBOUND has at most 18 digits.
+pub fn models_read_are_writable()
+    ensures { ModelsReadAreWritable }
+{}
+
+/// Written anew, such a model is read as itself.
+pub fn models_read_are_read_as_written()
+    ensures { ModelsReadAreReadAsWritten }
+{}
+
+/// A worked model is writable, and files of a deck are read as it.
+pub fn three_cells()
+    ensures { ThreeCells }
+{}
