@@ -11,7 +11,8 @@ use Rattle.model_types.specs.Times.{times}
 use Rattle.listing_run.specs.declared.task.Task.{Task}
 use Rattle.listing_run.specs.declared.step.Step.{Step}
 use Rattle.listing_run.specs.Bounding.{BoundAll, Bounds, EnclosesHistories}
-use Rattle.listing_run.specs.Steps.{AllSteps, IsStep, Steps, Whole}
+use Rattle.listing_run.specs.declared.listing_end.ListingEnd.TheVariants.{Whole}
+use Rattle.listing_run.specs.Steps.{AllSteps, IsStep, Steps}
 use Rattle.check_run.specs.Runs.{as_listed}
 use Rattle.check_run.specs.Verdicts.{ListingEncloses, checked_task, step_of, steps_of}
 

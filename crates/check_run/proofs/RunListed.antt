@@ -29,7 +29,8 @@ use Rattle.listing_io.specs.Listed.{AreCellBounds, AreListed, IsCellBound, IsLis
 use Rattle.listing_io.specs.Listing.{has_evt}
 use Rattle.listing_run.specs.declared.task.Task.{Task}
 use Rattle.listing_run.specs.declared.step.Step.{Step}
-use Rattle.listing_run.specs.Steps.{AllSteps, IsStep, Steps, Whole, budget_at}
+use Rattle.listing_run.specs.declared.listing_end.ListingEnd.TheVariants.{Whole}
+use Rattle.listing_run.specs.Steps.{AllSteps, IsStep, Steps, budget_at}
 use Rattle.listing_run.proofs.Unique.{IsRest, first_in, rest_more, rest_whole}
 use Rattle.check_run.specs.Runs.{as_listed}
 use Rattle.check_run.proofs.RunTerms.{as_many, budget_are, flows_are, no_et}

@@ -27,7 +27,8 @@ use Rattle.step_chain.specs.Laws.{IsBefore, HeadsFit}
 use Rattle.step_chain.specs.Steps.{IsSettledStep}
 use Rattle.listing_run.specs.declared.task.Task.{Task}
 use Rattle.listing_run.specs.declared.step.Step.{Step}
-use Rattle.listing_run.specs.Steps.{IsStep, Steps, Whole, budget_at}
+use Rattle.listing_run.specs.declared.listing_end.ListingEnd.TheVariants.{Whole}
+use Rattle.listing_run.specs.Steps.{IsStep, Steps, budget_at}
 use Rattle.listing_run.proofs.Unique.{IsRest, first_in, rest_more, rest_whole}
 use Rattle.check_run.specs.declared.verdict.ListingVerdict.TheVariants.{Certified}
 use Rattle.check_run.specs.Reaching.{ConstantsReach, ReachesOn, variable_bounds}

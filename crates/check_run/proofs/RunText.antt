@@ -19,7 +19,8 @@ use Rattle.run_puts.specs.Lines.{end_line}
 use Rattle.listing_run.specs.declared.task.Task.{Task}
 use Rattle.listing_run.specs.declared.step.Step.{Step}
 use Rattle.listing_run.specs.Listing.{listing, text_of}
-use Rattle.listing_run.specs.Steps.{AllSteps, IsStep, Steps, Whole}
+use Rattle.listing_run.specs.declared.listing_end.ListingEnd.TheVariants.{Whole}
+use Rattle.listing_run.specs.Steps.{AllSteps, IsStep, Steps}
 use Rattle.listing_run.specs.Zones.{AreFlowsAt}
 use Rattle.check_run.specs.Runs.{IsReadable, RunIsReadAgain, as_listed}
 use Rattle.check_run.proofs.RunListed.{are_listed}

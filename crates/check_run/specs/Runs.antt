@@ -8,7 +8,8 @@ use Rattle.run_puts.specs.Lines.{end_line}
 use Rattle.listing_run.specs.declared.task.Task.{Task}
 use Rattle.listing_run.specs.declared.step.Step.{Step}
 use Rattle.listing_run.specs.Listing.{listing}
-use Rattle.listing_run.specs.Steps.{Whole, AllSteps}
+use Rattle.listing_run.specs.declared.listing_end.ListingEnd.TheVariants.{Whole}
+use Rattle.listing_run.specs.Steps.{AllSteps}
 use Rattle.check_run.specs.declared.verdict.ListingVerdict.TheVariants.{Certified}
 use Rattle.check_run.specs.Verdicts.{IsVerdict}
 

@@ -17,7 +17,8 @@ use Rattle.check_run.specs.declared.verdict.ListingVerdict.TheVariants.{Certifie
 use Rattle.check_run.specs.Verdicts.{Checks, steps_of}
 use Rattle.listing_run.specs.declared.task.Task.{Task}
 use Rattle.listing_run.specs.declared.step.Step.{Step}
-use Rattle.listing_run.specs.Steps.{Whole, Steps}
+use Rattle.listing_run.specs.declared.listing_end.ListingEnd.TheVariants.{Whole}
+use Rattle.listing_run.specs.Steps.{Steps}
 use Rattle.listing_run.specs.Bounding.{Bounds, BoundAll}
 use Rattle.exact_budgets.specs.Histories.{NetTermsLieAt, AllNetTermsLie}
 use Rattle.exact_budgets.specs.Laws.{NetTermsLieInTheOthers, StepsHaveTheirTimes, CertifiedHaveTheirTimes}

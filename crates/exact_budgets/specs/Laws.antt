@@ -10,7 +10,8 @@ use Rattle.cell_balance.specs.Solutions.{SolvesStep}
 use Rattle.flow_equations.specs.Histories.{heads_of, Solves}
 use Rattle.listing_run.specs.declared.task.Task.{Task}
 use Rattle.listing_run.specs.declared.step.Step.{Step}
-use Rattle.listing_run.specs.Steps.{Whole, AllSteps}
+use Rattle.listing_run.specs.declared.listing_end.ListingEnd.TheVariants.{Whole}
+use Rattle.listing_run.specs.Steps.{AllSteps}
 use Rattle.listing_run.specs.Bounding.{EnclosesHistories}
 use Rattle.listing_io.specs.declared.listing.ListedStep.{ListedStep}
 use Rattle.check_run.specs.declared.verdict.ListingVerdict.TheVariants.{Certified}

@@ -14,7 +14,8 @@ use Rattle.problem_builder.specs.GridHeads.{AreGridHeads, HeadsEnclose}
 use Rattle.problem_builder.specs.StartHeads.{AreStartHeads}
 use Rattle.problem_builder.proofs.CellEnclosed.{head_encloses}
 use Rattle.problem_builder.proofs.Starts.{starts_fit}
-use Rattle.listing_run.specs.Steps.{IsStep, Whole, Steps}
+use Rattle.listing_run.specs.declared.listing_end.ListingEnd.TheVariants.{Whole}
+use Rattle.listing_run.specs.Steps.{IsStep, Steps}
 use Rattle.listing_run.specs.declared.step.Step.{Step}
 use Rattle.listing_run.specs.declared.task.Task.{Task}
 use Rattle.exact_histories.specs.Histories.{AreSameHeads}

@@ -4,7 +4,8 @@ use Rattle.model_types.specs.Valid.{IsModel}
 use Rattle.flow_equations.specs.Histories.{Solves}
 use Rattle.listing_run.specs.declared.task.Task.{Task}
 use Rattle.listing_run.specs.declared.step.Step.{Step}
-use Rattle.listing_run.specs.Steps.{Whole, AllSteps}
+use Rattle.listing_run.specs.declared.listing_end.ListingEnd.TheVariants.{Whole}
+use Rattle.listing_run.specs.Steps.{AllSteps}
 use Rattle.exact_histories.specs.Histories.{HasHistory, AreSame}
 
 -- Where all time steps of a task have heads, its model has a history.

@@ -1,8 +1,9 @@
 pub mod Zoned
 pub mod Moves
 pub mod Lines
-pub mod Settled
 pub mod UnderWay
+pub mod Pieces
+pub mod Settled
 pub mod Stopping
 pub mod Unique
-pub mod RestOfTimes
+pub mod Wholes

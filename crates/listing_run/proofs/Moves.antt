@@ -1,5 +1,5 @@
 -- A step of a listing, by the clauses of the calls that gave its parts.
-use Rattle.std.proofs.Common.{◌≡◌, ℕ, length, List, ℤ, Ok, Err, Result, subst, sym, refl}
+use Rattle.std.proofs.Common.{◌≡◌, ℕ, length, List, ◌∷◌, ℤ, Ok, Err, Result, subst, sym, refl}
 use Rattle.step_problem.specs.declared.heads.Bound.{Bound}
 use Rattle.step_problem.specs.declared.place.NoBound.{NoBound}
 use Rattle.step_problem.specs.declared.place.ZoneFlow.{ZoneFlow}
@@ -18,12 +18,13 @@ use Rattle.step_chain.specs.Steps.{IsSettledStep}
 use Rattle.step_chain.specs.Enclosing.{EnclosesMoves}
 use Rattle.listing_run.specs.declared.task.Task.{Task}
 use Rattle.problem_builder.specs.GridHeads.{IsActive, IsNamed}
-use Rattle.listing_run.specs.declared.step.ListFault.{ListFault}
-use Rattle.listing_run.specs.declared.step.ListFault.TheVariants as fault
+use Rattle.listing_run.specs.declared.listing_end.ListingEnd.TheVariants as ends
+use Rattle.listing_run.specs.declared.stop.Stop.{Stop}
+use Rattle.listing_run.specs.declared.stop.Stop.TheVariants as stops
 use Rattle.listing_run.specs.Zones.{AreFlowsAt, FlowsEncloseAt}
 use Rattle.listing_run.specs.Steps.{IsStep, HasNoBound, no_heads, no_budget, no_zones, budget_at}
 use Rattle.listing_run.specs.Bounding.{BoundsMoves}
-use Rattle.listing_run.specs.Ends.{FailsBy, FlowsFailBy, of_step}
+use Rattle.listing_run.specs.Ends.{FlowsStopBy, StopsAt, stop_of}
 use Rattle.listing_run.proofs.Zoned.{within_enclosed, heads_named, flows_enclose}
 
 -- the budget by bounds that a slice lent
@@ -33,15 +34,15 @@ budget_by x lent r same is =
     sym (subst P same is)
 
 module _ (k : Task) (s : ℕ) (at : TimeStep) (old : List Bound) (digits : s ≡ k.digits) where
-  step_fails_by : (rounds : ℕ) (f : StepFault) → rounds ≡ k.rounds → StepFailsBy k.model k.digits at old rounds f → FailsBy k at old (of_step f)
-  step_fails_by rounds (chain.NoBound n) same h = no_heads h
-  step_fails_by rounds (chain.Unfinished o) same h =
+  step_stops_by : (rounds : ℕ) (f : StepFault) → rounds ≡ k.rounds → StepFailsBy k.model k.digits at old rounds f → (rest : List TimeStep) → StopsAt k old (at ∷ rest) (stop_of at f)
+  step_stops_by rounds (chain.NoBound n) same h rest = (refl, no_heads h)
+  step_stops_by rounds (chain.Unfinished o) same h rest =
       let P : ℕ → Type 0 = λ r. RoundsSettleBoth h.problem h.barrier r → ⊥ in
-      record { problem = h.problem; barrier = h.barrier; posed = h.posed; open_rounds = subst P same h.unfinished.cause }
-  step_fails_by rounds chain.Memory same h = tt
+      (refl, record { problem = h.problem; barrier = h.barrier; posed = h.posed; open_rounds = subst P same h.unfinished.cause })
+  step_stops_by rounds chain.Memory same h rest = tt
 
-  pub step_fails : (rounds : ℕ) (f : StepFault) → rounds ≡ k.rounds → StepFailsBy k.model s at old rounds f → FailsBy k at old (of_step f)
-  step_fails rounds f same h = let P : ℕ → Type 0 = λ n. StepFailsBy k.model n at old rounds f in step_fails_by rounds f same (subst P digits h)
+  pub step_stops : (rounds : ℕ) (f : StepFault) → rounds ≡ k.rounds → StepFailsBy k.model s at old rounds f → (rest : List TimeStep) → StopsAt k old (at ∷ rest) (stop_of at f)
+  step_stops rounds f same h = let P : ℕ → Type 0 = λ n. StepFailsBy k.model n at old rounds f in step_stops_by rounds f same (subst P digits h)
 
   module _ (x : Solved) (settled : IsSettledStep k.model s at old x) (lent : List Bound) (same : lent ≡ x.bounds) where
     by_digits : IsSettledStep k.model k.digits at old x
@@ -50,11 +51,12 @@ module _ (k : Task) (s : ℕ) (at : TimeStep) (old : List Bound) (digits : s ≡
     pub budget_refused : (n : NoBound) → Err n ≡ budget_of x.problem (lower_at lent) (upper_at lent) → HasNoBound k at old n
     budget_refused n is = no_budget x by_digits (budget_by x lent (Err n) same is)
 
-    -- a fault of the flows between zones comes after the budget
-    pub flows_refused : (b : Budget) → Ok b ≡ budget_of x.problem (lower_at lent) (upper_at lent) → (f : ListFault) → FlowsFailBy k.zones x f → FailsBy k at old f
-    flows_refused b is (fault.NoBound n) h = no_zones x b by_digits (budget_by x lent (Ok b) same is) h
-    flows_refused b is fault.Unfinished h = absurd h
-    flows_refused b is fault.Memory h = tt
+    -- a refusal of the flows between zones comes after the budget
+    pub flows_stop : (b : Budget) → Ok b ≡ budget_of x.problem (lower_at lent) (upper_at lent) → (stop : Stop) → FlowsStopBy k.zones x at stop → (rest : List TimeStep) → StopsAt k old (at ∷ rest) stop
+    flows_stop b is stops.Memory h rest = tt
+    flows_stop b is (stops.End (ends.NoBound t n)) h rest = (h.0, no_zones x b by_digits (budget_by x lent (Ok b) same is) h.1)
+    flows_stop b is (stops.End ends.Whole) h rest = absurd h
+    flows_stop b is (stops.End (ends.Unfinished t)) h rest = absurd h
 
     pub step_is : (b : Budget) (flows : List ZoneFlow) → AreFlowsAt k.zones x flows → Ok b ≡ budget_of x.problem (lower_at lent) (upper_at lent) → IsStep k at old (record { at = at; heads = x.heads; budget = b; zones = flows })
     step_is b flows are is = record { solved = x; settled = by_digits; time = refl; heads = refl; budget = budget_by x lent (Ok b) same is; zones = are }

@@ -1,7 +1,6 @@
 -- What a step does to its settler, by the clause of the call that solved it.
-use Rattle.std.specs.Prelude.{MatchResult}
-use Rattle.std.proofs.lemmas.List.{drop_more, drop_all}
-use Rattle.std.proofs.Common.{◌≡◌, ◌∙◌, ℕ, ◌<◌, List, length, Bool, true, false, inl, inr, sym, subst, ℤ, pos, ◌*ℤ◌, ◌≤ℤ◌, refl, arith, Option, None, [], ◌∷◌, drop, get_or, ◌+◌, ◌≤◌, Result, Ok, Err}
+use Rattle.std.specs.Prelude.{IfErr, IfOk}
+use Rattle.std.proofs.Common.{◌≡◌, ◌∙◌, ℕ, List, Bool, true, false, inl, inr, sym, subst, refl, Option, None, [], ◌∷◌, Result, Ok, Err}
 use Rattle.outside.specs.declared.traits.SinkError.{SinkError}
 use Rattle.step_problem.specs.declared.heads.Bound.{Bound}
 use Rattle.step_problem.specs.Conditions.{IsProblem}
@@ -12,15 +11,16 @@ use Rattle.barrier_vector.specs.Barriers.{BarrierIsOne, IsBarrierOf}
 use Rattle.model_types.specs.declared.time_steps.TimeStep.{TimeStep}
 use Rattle.model_types.specs.Times.{times}
 use Rattle.problem_builder.specs.StartHeads.{AreStartHeads}
+use Rattle.run_puts.specs.Lines.{Text}
 use Rattle.step_chain.specs.declared.solved.Solved.{Solved}
 use Rattle.step_chain.specs.Enclosing.{EnclosesMoves}
 use Rattle.step_chain.specs.Leads.{LeadsBy, LeadsOrRests}
 use Rattle.step_chain.specs.Steps.{IsPosed, IsSettledStep}
+use Rattle.listing_run.specs.declared.steps.Steps.{Steps}
 use Rattle.listing_run.specs.declared.task.Task.{Task}
-use Rattle.listing_run.specs.declared.step.Step.{Step}
-use Rattle.listing_run.specs.Ends.{IsWritten}
 use Rattle.listing_run.specs.Settlers.{AllSettledBy, AreSettledBy, IsSettledBy, PairEncloses, Reaches, RestsOrSettles, more}
-use Rattle.listing_run.specs.Steps.{IsStep}
+use Rattle.listing_run.specs.Ends.{IsAtFirst, IsNextText, IsWalk, times_left}
+use Rattle.listing_run.proofs.UnderWay.{all_left, first_same}
 use Rattle.decimal_input.proofs.Signs.{mul_mono_right}
 
 module _ (k : Task) (s : ℕ) (at : TimeStep) (old : List Bound) (digits : s ≡ k.digits) (one : BarrierIsOne) where
@@ -55,37 +55,41 @@ rests_or_settles leads k s at old before after (inr (p, is, l)) = inr (p, l.barr
 
 module _ {S : Type 0} (begins : S → ℕ → ℕ → S → Type 0) (leads : S → List Entries → Edges → Bool → S → Type 0) (stop : S → Option SinkError) where
   -- one step more, whatever its result
-  pub reaches_more : {X E : Type 0} (k : Task) (at : TimeStep) (old : List Bound) (first before begun after : S) (r : Result X E) → Reaches begins leads stop first before → stop before ≡ None → begins before at.period at.step begun → MatchResult r (λ _. IsSettledBy leads k at old begun after) (λ _. RestsOrSettles leads begun after) → Reaches begins leads stop first after
-  reaches_more k at old first before begun after (Ok x) h none b l = more before begun after at.period at.step h none b (inr (l.problem, l.barrier, true, l.led))
-  reaches_more k at old first before begun after (Err e) h none b l = more before begun after at.period at.step h none b l
+  pub reaches_more : {X E : Type 0} (bytes : X → Text) (k : Task) (s t : Steps) (at : TimeStep) (first before begun after : S) (r : Result X E) → Reaches begins leads stop first before → stop before ≡ None → begins before at.period at.step begun →
+      IfOk r (λ x. IsNextText leads k s t begun after (bytes x)) → IfErr r (λ _. RestsOrSettles leads begun after) → Reaches begins leads stop first after
+  reaches_more bytes k s t at first before begun after (Ok x) h none b n l = more before begun after at.period at.step h none b (inr (n.next.led.problem, n.next.led.barrier, true, n.next.led.led))
+  reaches_more bytes k s t at first before begun after (Err fault) h none b n l = more before begun after at.period at.step h none b l
 
   module _ (k : Task) where
     -- the steps so far: what settles the rest, from the heads of the last one on, settles all
-    pub record AreSettledSoFar (first : S) (old : List Bound) (rest : List TimeStep) (now : S) : Type 0 where
+    pub record AreSettledSoFar (first : S) (s : Steps) (now : S) : Type 0 where
       pub start : List Bound
       pub is_start : AreStartHeads k.model start
-      pub goes_on : (end : S) → AreSettledBy begins leads stop k old rest now end → AreSettledBy begins leads stop k start (times k.model) first end
+      pub goes_on : (end : S) → AreSettledBy begins leads stop k s.heads (times_left s) now end → AreSettledBy begins leads stop k start (times k.model) first end
 
-    pub settled_at_first : (start : List Bound) (s : S) → AreStartHeads k.model start → AreSettledSoFar s start (times k.model) s
-    settled_at_first start s is = record { start = start; is_start = is; goes_on = λ end h. h }
+    pub none_settled : (s : Steps) (first : S) → IsWalk k s → IsAtFirst k s → AreSettledSoFar first s first
+    none_settled s first w f = record {
+      start = s.heads;
+      is_start = f.start;
+      goes_on = λ end h. let P : List TimeStep → Type 0 = λ ts. AreSettledBy begins leads stop k s.heads ts first end in subst P (all_left k s w f) h;
+    }
 
-    pub settled_more : (first before begun after : S) (old : List Bound) (i : ℕ) (d : TimeStep) (items : List TimeStep) (heads : List Bound) (text : List ℕ) → items ≡ times k.model → i < length items →
-        AreSettledSoFar first old (drop i (times k.model)) before → begins before (get_or items i d).period (get_or items i d).step begun → IsSettledBy leads k (get_or items i d) old begun after → stop after ≡ None → IsWritten k (get_or items i d) old heads text → AreSettledSoFar first heads (drop (i + 1) (times k.model)) after
-    settled_more first before begun after old i d items heads text is below so b done none w =
-        let D : List TimeStep → Type 0 = λ ts. drop i ts ≡ get_or items i d ∷ drop (i + 1) ts in
-        let front : drop i (times k.model) ≡ get_or items i d ∷ drop (i + 1) (times k.model) = subst D is (drop_more items i d below) in
+    pub one_more_settled : (first before begun after : S) (s t : Steps) (at : TimeStep) (rest : List TimeStep) (text : Text) → times_left s ≡ at ∷ rest → AreSettledSoFar first s before → begins before at.period at.step begun → IsNextText leads k s t begun after text → stop after ≡ None → AreSettledSoFar first t after
+    one_more_settled first before begun after s t at rest text e so b text_is none =
+        let n = text_is.next in
+        let v = text_is.value in
+        let B : TimeStep → Type 0 = λ a. begins before a.period a.step begun in
+        let told : B n.at = subst B (first_same at n.at rest (times_left t) (sym e ∙ n.time)) b in
         record {
           start = so.start;
           is_start = so.is_start;
           goes_on = λ end h.
-              let R : List TimeStep → Type 0 = λ ts. AreSettledBy begins leads stop k old ts before end in
-              let H : List Bound → Type 0 = λ hs. AreSettledBy begins leads stop k hs (drop (i + 1) (times k.model)) after end in
-              so.goes_on end (subst R (sym front) (w.value, begun, after, w.is, b, done, none, subst H w.same h));
+              let R : List TimeStep → Type 0 = λ ts. AreSettledBy begins leads stop k s.heads ts before end in
+              let H : List Bound → Type 0 = λ hs. AreSettledBy begins leads stop k hs (times_left t) after end in
+              so.goes_on end (subst R (sym n.time) (v, begun, after, n.is, told, n.led, none, subst H n.heads h));
         }
 
-    pub all_settled : (first now : S) (old : List Bound) (i : ℕ) (items : List TimeStep) → items ≡ times k.model → length items ≤ i → AreSettledSoFar first old (drop i (times k.model)) now → AllSettledBy begins leads stop k first now
-    all_settled first now old i items is above so =
-        let D : List TimeStep → Type 0 = λ ts. drop i ts ≡ [] in
-        let none : drop i (times k.model) ≡ [] = subst D is (drop_all i items above) in
-        let R : List TimeStep → Type 0 = λ ts. AreSettledBy begins leads stop k old ts now now in
+    pub all_settled : (first now : S) (s : Steps) → times_left s ≡ [] → AreSettledSoFar first s now → AllSettledBy begins leads stop k first now
+    all_settled first now s none so =
+        let R : List TimeStep → Type 0 = λ ts. AreSettledBy begins leads stop k s.heads ts now now in
         record { start = so.start; is_start = so.is_start; settled = so.goes_on now (subst R (sym none) refl) }

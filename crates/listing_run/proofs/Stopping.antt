@@ -4,21 +4,23 @@ use Rattle.std.proofs.lemmas.List.{append-nil, map-append}
 use Rattle.outside.specs.Puts.{Put, taken}
 use Rattle.outside.specs.declared.traits.SinkError.{SinkError}
 use Rattle.outside.specs.declared.traits.SinkError.TheVariants as error
-use Rattle.step_problem.specs.declared.heads.Bound.{Bound}
 use Rattle.model_types.specs.declared.time_steps.TimeStep.{TimeStep}
 use Rattle.run_puts.specs.Lines.{Text}
-use Rattle.run_puts.specs.Ends.{IsEnd, IsLast, IsPut, IsWanting}
+use Rattle.run_puts.specs.Ends.{IsEnd, IsPut, IsWanting}
 use Rattle.run_puts.specs.Runs.{IsRun, whole}
 use Rattle.run_puts.specs.Tails.{memory_put, status_after, wanting}
 use Rattle.run_puts.specs.declared.status.Status.{Status}
 use Rattle.run_puts.specs.declared.status.Status.TheVariants as status
-use Rattle.run_puts.proofs.Pieces.{IsLate, lacks_after, late_not_ok, tail_late, weaker}
+use Rattle.run_puts.proofs.Pieces.{IsLate, late_not_ok, tail_late, weaker}
+use Rattle.listing_run.specs.declared.listing_end.ListingEnd.{ListingEnd}
+use Rattle.listing_run.specs.declared.listing_end.ListingEnd.TheVariants as ends
+use Rattle.listing_run.specs.declared.steps.Steps.{Steps}
 use Rattle.listing_run.specs.declared.task.Task.{Task}
-use Rattle.listing_run.specs.declared.step.ListFault.{ListFault}
-use Rattle.listing_run.specs.declared.step.ListFault.TheVariants as why
-use Rattle.listing_run.specs.Ends.{IsStepEnd, IsStopEnd}
-use Rattle.listing_run.specs.Listing.{IsCutListing, IsListing, IsListingBeside, begun, left, listed}
-use Rattle.listing_run.proofs.UnderWay.{IsUnderWay, cut_listing}
+use Rattle.listing_run.specs.Ends.{IsStopEnd, times_left}
+use Rattle.listing_run.specs.Listing.{IsCutListing, IsListing, IsListingBeside, begun, last_line, left, listed, status_of}
+use Rattle.listing_run.specs.Steps.{EndsAt}
+use Rattle.listing_run.proofs.Pieces.{IsUnderWay, ends_wanting}
+use Rattle.listing_run.proofs.UnderWay.{cut_listing}
 
 -- a run that ended so didn't end Ok
 pub put_not_ok : (pending : Text) (end : Status) (tail : List Put) → IsPut pending (Some end) tail → end ≡ status.Ok → ⊥
@@ -29,15 +31,19 @@ wanting_not_ok end tail (answer, s, t) =
     let P : Status → Type 0 = IsLate in
     late_not_ok end (subst P (sym s) (tail_late [] (status_after answer) (memory_put answer ∷ []) (wanting [] answer)))
 
-end_not_ok : (line : Text) (meant end : Status) (tail : List Put) → (meant ≡ status.Ok → ⊥) → IsEnd line meant end tail → end ≡ status.Ok → ⊥
-end_not_ok line meant end tail not (inl (inl (same, t))) e = not (sym same ∙ e)
-end_not_ok line meant end tail not (inl (inr t)) e = late_not_ok end (tail_late (line ∷ []) end tail t) e
-end_not_ok line meant end tail not (inr w) e = wanting_not_ok end tail w e
+-- a listing that ended at a step didn't end Ok
+pub line_not_ok : (line : Text) (meant end : Status) (tail : List Put) → (meant ≡ status.Ok → ⊥) → IsEnd line meant end tail → end ≡ status.Ok → ⊥
+line_not_ok line meant end tail not (inl (inl (same, t))) e = not (sym same ∙ e)
+line_not_ok line meant end tail not (inl (inr t)) e = late_not_ok end (tail_late (line ∷ []) end tail t) e
+line_not_ok line meant end tail not (inr w) e = wanting_not_ok end tail w e
 
-pub step_end_not_ok : (k : Task) (at : TimeStep) (f : ListFault) (end : Status) (tail : List Put) → IsStepEnd k at f end tail → end ≡ status.Ok → ⊥
-step_end_not_ok k at (why.NoBound n) end tail h = end_not_ok _ (status.NoBound at.period at.step n) end tail (λ e. let bad : status.NoBound at.period at.step n ≡ status.Ok = e in cc) h
-step_end_not_ok k at why.Unfinished end tail h = end_not_ok _ (status.Unfinished at.period at.step) end tail (λ e. let bad : status.Unfinished at.period at.step ≡ status.Ok = e in cc) h
-step_end_not_ok k at why.Memory end tail h = wanting_not_ok end tail h
+broken_not_ok : (k : Task) (s : Steps) (at : TimeStep) (rest : List TimeStep) (last : ListingEnd) → times_left s ≡ at ∷ rest → EndsAt k last s.heads (times_left s) → status_of last ≡ status.Ok → ⊥
+broken_not_ok k s at rest ends.Whole e h ok = let P : List TimeStep → Type 0 = λ ts. EndsAt k ends.Whole s.heads ts in subst P e h
+broken_not_ok k s at rest (ends.NoBound t n) e h ok = let bad : status.NoBound t.period t.step n ≡ status.Ok = ok in cc
+broken_not_ok k s at rest (ends.Unfinished t) e h ok = let bad : status.Unfinished t.period t.step ≡ status.Ok = ok in cc
+
+pub end_not_ok : (k : Task) (s : Steps) (at : TimeStep) (rest : List TimeStep) (last : ListingEnd) (end : Status) (tail : List Put) → times_left s ≡ at ∷ rest → EndsAt k last s.heads (times_left s) → IsEnd (last_line k.model.grid last) (status_of last) end tail → end ≡ status.Ok → ⊥
+end_not_ok k s at rest last end tail e h = line_not_ok (last_line k.model.grid last) (status_of last) end tail (broken_not_ok k s at rest last e h)
 
 pub stop_end_not_ok : (fault : SinkError) (end : Status) (tail : List Put) → IsStopEnd fault end tail → end ≡ status.Ok → ⊥
 stop_end_not_ok error.Write end tail (same, t) e = let bad : status.WriteFault ≡ status.Ok = sym same ∙ e in cc
@@ -47,18 +53,17 @@ module _ (failed : Type 0) (k : Task) where
   pub beside : (end : Status) (puts : List Put) → IsRun (IsListing k) (IsCutListing k) end puts → IsRun (IsListingBeside failed k) (IsCutListing k) end puts
   beside end puts h = weaker (IsListing k) (IsListingBeside failed k) (IsCutListing k) (λ meant pieces d. listed meant pieces d) end puts h
 
-  pub ends_stopped : (fault : SinkError) (old : List Bound) (rest : List TimeStep) (pending : Text) (puts tail last : List Put) (end : Status) → IsUnderWay k old rest pending puts → tail ≡ taken pending ∷ [] → (fault ≡ error.Write → failed) → IsStopEnd fault end last →
-      IsRun (IsListingBeside failed k) (IsCutListing k) end (puts ++ tail ++ last)
-  ends_stopped error.Write old rest pending puts tail last end u e why (same, none) =
+  pub ends_stopped : (fault : SinkError) (s : Steps) (pending : Text) (puts tail rest : List Put) (end : Status) → IsUnderWay k s pending puts → tail ≡ taken pending ∷ [] → (fault ≡ error.Write → failed) → IsStopEnd fault end rest →
+      IsRun (IsListingBeside failed k) (IsCutListing k) end (puts ++ tail ++ rest)
+  ends_stopped error.Write s pending puts tail rest end u e why (same, none) =
       let i = u.here in
       let both : puts ++ tail ≡ map taken (i.before ++ (pending ∷ [])) = rw (e, i.written) (sym (map-append taken i.before (pending ∷ []))) in
       let all : puts ++ tail ≡ map taken (begun k u.values) = both ∙ ap (map taken) (sym i.all) in
       let Q : List Put → Type 0 = λ ps. IsRun (IsListingBeside failed k) (IsCutListing k) status.WriteFault ps in
-      let ran : Q (puts ++ tail) = subst Q (sym all) (whole status.WriteFault (begun k u.values) (left (begun k u.values) (why refl) (cut_listing k old rest pending puts u))) in
+      let cut = cut_listing k s.heads (times_left s) u.values u.solved in
+      let ran : Q (puts ++ tail) = subst Q (sym all) (whole status.WriteFault (begun k u.values) (left (begun k u.values) (why refl) cut)) in
       rw (same, none) (subst Q (sym (append-nil (puts ++ tail))) ran)
-  ends_stopped error.Memory old rest pending puts tail last end u e why h =
-      let i = u.here in
-      lacks_after (IsListingBeside failed k) (IsCutListing k) (begun k u.values) pending puts tail last end (record { before = i.before; all = i.all; written = i.written }) (cut_listing k old rest pending puts u) e h
+  ends_stopped error.Memory s pending puts tail rest end u e why h = beside end (puts ++ tail ++ rest) (ends_wanting k s pending puts tail end u rest e h)
 
 -- a write failed beside by another account
 beside_taken : (failed other : Type 0) (k : Task) → (failed → other) → (end : Status) (pieces : List Text) → IsListingBeside failed k end pieces → IsListingBeside other k end pieces

@@ -12,11 +12,12 @@ use Rattle.step_chain.specs.declared.solved.Solved.{Solved}
 use Rattle.step_chain.specs.Steps.{IsSettledStep}
 use Rattle.step_chain.specs.Laws.{IsBefore, StepIsOne, StepExcludesRefusal, RefusalIsOne as StepRefusalIsOne, HeadsFit}
 use Rattle.step_problem.specs.declared.place.ZoneFlow.{ZoneFlow}
+use Rattle.listing_run.specs.declared.listing_end.ListingEnd.TheVariants as ends
 use Rattle.listing_run.specs.declared.task.Task.{Task}
 use Rattle.listing_run.specs.declared.step.Step.{Step}
 use Rattle.zone_flows.specs.Laws.{FlowsAreOne, FlowsExcludeRefusal, RefusalIsOne as ZoneRefusalIsOne}
 use Rattle.listing_run.specs.Zones.{AreFlowsAt, HasLargeFlow, faces_at}
-use Rattle.listing_run.specs.Steps.{IsStep, budget_at, HasNoBound, no_heads, no_budget, no_zones, Steps, Whole, WithoutBound, Open, AllSettle}
+use Rattle.listing_run.specs.Steps.{IsStep, budget_at, HasNoBound, no_heads, no_budget, no_zones, Steps, AllSettle}
 use Rattle.listing_run.specs.Laws.{ListingIsOne, ListingExcludesRefusal, SettledListingIsClosed, RefusalIsOne}
 
 abbrev the_ok : {X E : Type 0} → X → Result X E → X
@@ -151,7 +152,7 @@ module _ (laws : Laws) (k : Task) (model : IsModel k.model) where
   same_step : (old : List Bound) (at : TimeStep) (rest : List TimeStep) (v w : Step) → IsRest (times k.model) (at ∷ rest) → AreGridHeads k.model old → IsStep k at old v → IsStep k at old w → v ≡ w
   same_step old at rest v w r heads x y = one_step at old (r.each at (first_in at rest)) heads v w x y
 
-  listing_one : (old : List Bound) (rest : List TimeStep) (values others : List Step) → IsRest (times k.model) rest → AreGridHeads k.model old → Steps k old rest values Whole → Steps k old rest others Whole → others ≡ values
+  listing_one : (old : List Bound) (rest : List TimeStep) (values others : List Step) → IsRest (times k.model) rest → AreGridHeads k.model old → Steps k old rest values ends.Whole → Steps k old rest others ends.Whole → others ≡ values
   listing_one old [] [] [] r heads h w = refl
   listing_one old [] (v ∷ values) others r heads h w = absurd h
   listing_one old [] [] (o ∷ others) r heads h w = absurd w
@@ -159,30 +160,30 @@ module _ (laws : Laws) (k : Task) (model : IsModel k.model) where
   listing_one old (at ∷ rest) (v ∷ values) [] r heads h w = absurd w
   listing_one old (at ∷ rest) (v ∷ values) (o ∷ others) r heads (is, h) (other, w) =
       let e = same_step old at rest v o r heads is other in
-      let P : Step → Type 0 = λ v. Steps k v.heads rest values Whole in
+      let P : Step → Type 0 = λ v. Steps k v.heads rest values ends.Whole in
       ap (λ vs. o ∷ vs) (listing_one o.heads rest values others (rest_more (times k.model) at rest r) (next_heads old at rest o r heads other) (subst P e h) w) ∙ ap (λ x. x ∷ values) (sym e)
 
-  always_bound : (t : TimeStep) (n : NoBound) (old : List Bound) (rest : List TimeStep) (values others : List Step) → IsRest (times k.model) rest → AreGridHeads k.model old → Steps k old rest values Whole → Steps k old rest others (WithoutBound t n) → ⊥
+  always_bound : (t : TimeStep) (n : NoBound) (old : List Bound) (rest : List TimeStep) (values others : List Step) → IsRest (times k.model) rest → AreGridHeads k.model old → Steps k old rest values ends.Whole → Steps k old rest others (ends.NoBound t n) → ⊥
   always_bound t n old [] values [] r heads h w = w
   always_bound t n old [] values (o ∷ others) r heads h w = w
   always_bound t n old (at ∷ rest) [] others r heads h w = h
   always_bound t n old (at ∷ rest) (v ∷ values) [] r heads (is, h) (same, bare) = has_bound at old (r.each at (first_in at rest)) heads v n is bare
   always_bound t n old (at ∷ rest) (v ∷ values) (o ∷ others) r heads (is, h) (other, w) =
-      let P : Step → Type 0 = λ v. Steps k v.heads rest values Whole in
+      let P : Step → Type 0 = λ v. Steps k v.heads rest values ends.Whole in
       always_bound t n o.heads rest values others (rest_more (times k.model) at rest r) (next_heads old at rest o r heads other) (subst P (same_step old at rest v o r heads is other) h) w
 
-  always_settled : (t : TimeStep) (old : List Bound) (rest : List TimeStep) (values others : List Step) → IsRest (times k.model) rest → AreGridHeads k.model old → Steps k old rest values Whole → AllSettle k old rest values → Steps k old rest others (Open t) → ⊥
+  always_settled : (t : TimeStep) (old : List Bound) (rest : List TimeStep) (values others : List Step) → IsRest (times k.model) rest → AreGridHeads k.model old → Steps k old rest values ends.Whole → AllSettle k old rest values → Steps k old rest others (ends.Unfinished t) → ⊥
   always_settled t old [] values [] r heads h s w = w
   always_settled t old [] values (o ∷ others) r heads h s w = w
   always_settled t old (at ∷ rest) [] others r heads h s w = h
   always_settled t old (at ∷ rest) (v ∷ values) [] r heads (is, h) (now, s) (same, bare) = bare.open_rounds (now bare.problem bare.barrier bare.posed)
   always_settled t old (at ∷ rest) (v ∷ values) (o ∷ others) r heads (is, h) (now, s) (other, w) =
       let e = same_step old at rest v o r heads is other in
-      let P : Step → Type 0 = λ v. Steps k v.heads rest values Whole in
+      let P : Step → Type 0 = λ v. Steps k v.heads rest values ends.Whole in
       let Q : Step → Type 0 = λ v. AllSettle k v.heads rest values in
       always_settled t o.heads rest values others (rest_more (times k.model) at rest r) (next_heads old at rest o r heads other) (subst P e h) (subst Q e s) w
 
-  refusal_at_one : (s t : TimeStep) (a b : NoBound) (old : List Bound) (rest : List TimeStep) (values others : List Step) → IsRest (times k.model) rest → AreGridHeads k.model old → Steps k old rest values (WithoutBound s a) → Steps k old rest others (WithoutBound t b) → (s ≡ t) × (a ≡ b) × (values ≡ others)
+  refusal_at_one : (s t : TimeStep) (a b : NoBound) (old : List Bound) (rest : List TimeStep) (values others : List Step) → IsRest (times k.model) rest → AreGridHeads k.model old → Steps k old rest values (ends.NoBound s a) → Steps k old rest others (ends.NoBound t b) → (s ≡ t) × (a ≡ b) × (values ≡ others)
   refusal_at_one s t a b old [] [] others r heads h w = absurd h
   refusal_at_one s t a b old [] (v ∷ values) others r heads h w = absurd h
   refusal_at_one s t a b old (at ∷ rest) [] [] r heads (same, bare) (also, other) = (same ∙ sym also, one_refusal at old (r.each at (first_in at rest)) heads a b bare other, refl)
@@ -190,7 +191,7 @@ module _ (laws : Laws) (k : Task) (model : IsModel k.model) where
   refusal_at_one s t a b old (at ∷ rest) (v ∷ values) [] r heads (is, h) (same, bare) = absurd (has_bound at old (r.each at (first_in at rest)) heads v b is bare)
   refusal_at_one s t a b old (at ∷ rest) (v ∷ values) (o ∷ others) r heads (is, h) (other, w) =
       let e = same_step old at rest v o r heads is other in
-      let P : Step → Type 0 = λ v. Steps k v.heads rest values (WithoutBound s a) in
+      let P : Step → Type 0 = λ v. Steps k v.heads rest values (ends.NoBound s a) in
       let more = refusal_at_one s t a b o.heads rest values others (rest_more (times k.model) at rest r) (next_heads old at rest o r heads other) (subst P e h) w in
       (more.0, more.1, ap (λ x. x ∷ values) e ∙ ap (λ vs. o ∷ vs) more.2)
 
@@ -198,20 +199,20 @@ module _ (laws : Laws) (k : Task) (model : IsModel k.model) where
 module _ (laws : Laws) where
   pub one_listing : ListingIsOne
   one_listing k values others model h w =
-      let P : List Bound → Type 0 = λ start. Steps k start (times k.model) others Whole in
+      let P : List Bound → Type 0 = λ start. Steps k start (times k.model) others ends.Whole in
       listing_one laws k model h.start (times k.model) values others (rest_whole (times k.model)) (laws.start_fits k.model h.start model h.is_start) h.steps (subst P (laws.start_one k.model w.start h.start model w.is_start h.is_start) w.steps)
 
   pub excludes_refusal : ListingExcludesRefusal
   excludes_refusal k values others at n model h w =
-      let P : List Bound → Type 0 = λ start. Steps k start (times k.model) others (WithoutBound at n) in
+      let P : List Bound → Type 0 = λ start. Steps k start (times k.model) others (ends.NoBound at n) in
       always_bound laws k model at n h.start (times k.model) values others (rest_whole (times k.model)) (laws.start_fits k.model h.start model h.is_start) h.steps (subst P (laws.start_one k.model w.start h.start model w.is_start h.is_start) w.steps)
 
   pub closed_listing : SettledListingIsClosed
   closed_listing k values others at model h settled w =
-      let P : List Bound → Type 0 = λ start. Steps k start (times k.model) others (Open at) in
+      let P : List Bound → Type 0 = λ start. Steps k start (times k.model) others (ends.Unfinished at) in
       always_settled laws k model at h.start (times k.model) values others (rest_whole (times k.model)) (laws.start_fits k.model h.start model h.is_start) h.steps settled (subst P (laws.start_one k.model w.start h.start model w.is_start h.is_start) w.steps)
 
   pub refusals_one : RefusalIsOne
   refusals_one k values others s t a b model h w =
-      let P : List Bound → Type 0 = λ start. Steps k start (times k.model) others (WithoutBound t b) in
+      let P : List Bound → Type 0 = λ start. Steps k start (times k.model) others (ends.NoBound t b) in
       refusal_at_one laws k model s t a b h.start (times k.model) values others (rest_whole (times k.model)) (laws.start_fits k.model h.start model h.is_start) h.steps (subst P (laws.start_one k.model w.start h.start model w.is_start h.is_start) w.steps)

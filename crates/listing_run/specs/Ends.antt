@@ -1,30 +1,38 @@
--- Facts that the calls of a run over the steps pass to each other.
-use Rattle.std.specs.Prelude.{◌≡◌, ℕ, List, [], ◌≤◌, Option}
+-- Facts that the calls of a walk over the steps pass to each other.
+use Rattle.std.specs.Prelude.{Bool, List, Option, [], drop, length, ℕ, ◌+◌, ◌<◌, ◌∷◌, ◌≡◌, ◌≤◌}
 use Rattle.outside.specs.Puts.{Put}
-use Rattle.outside.specs.declared.traits.SinkError.{SinkError}
 use Rattle.outside.specs.declared.traits.SinkError.TheVariants as error
+use Rattle.outside.specs.declared.traits.SinkError.{SinkError}
+use Rattle.step_problem.specs.Entries.{Entries}
+use Rattle.step_problem.specs.Heads.{Edges}
 use Rattle.step_problem.specs.declared.heads.Bound.{Bound}
-use Rattle.model_types.specs.declared.time_steps.TimeStep.{TimeStep}
+use Rattle.model_types.specs.Heads.{start_head}
+use Rattle.model_types.specs.Times.{times}
 use Rattle.model_types.specs.Valid.{IsModel}
-use Rattle.problem_builder.specs.GridHeads.{AreGridHeads}
+use Rattle.model_types.specs.declared.time_steps.TimeStep.{TimeStep}
+use Rattle.problem_builder.specs.GridHeads.{AreGridHeads, HeadsEnclose}
+use Rattle.problem_builder.specs.StartHeads.{AreStartHeads}
+use Rattle.step_chain.specs.Keeps.{AreRunTables, digits_of}
 use Rattle.step_chain.specs.declared.kept.RunTables.{RunTables}
 use Rattle.step_chain.specs.declared.solved.Solved.{Solved}
-use Rattle.step_chain.specs.declared.solved.StepFault.{StepFault}
 use Rattle.step_chain.specs.declared.solved.StepFault.TheVariants as chain
-use Rattle.step_chain.specs.Keeps.{AreRunTables, digits_of}
-use Rattle.listing_io.specs.LastLines.{no_bound_line, unfinished_line}
+use Rattle.step_chain.specs.declared.solved.StepFault.{StepFault}
+use Rattle.run_puts.specs.Ends.{IsWanting}
 use Rattle.run_puts.specs.Lines.{Text}
-use Rattle.run_puts.specs.Ends.{IsEnd, IsWanting}
-use Rattle.run_puts.specs.declared.status.Status.{Status}
 use Rattle.run_puts.specs.declared.status.Status.TheVariants as status
-use Rattle.listing_run.specs.declared.task.Task.{Task}
-use Rattle.listing_run.specs.declared.step.Step.{Step}
-use Rattle.listing_run.specs.declared.step.ListFault.{ListFault}
-use Rattle.listing_run.specs.declared.step.ListFault.TheVariants as fault
-use Rattle.listing_run.specs.Zones.{AreZones, HasLargeFlow}
-use Rattle.listing_run.specs.Steps.{IsStep, HasNoBound, IsOpen}
+use Rattle.run_puts.specs.declared.status.Status.{Status}
 use Rattle.listing_run.specs.Bounding.{BoundsMoves}
 use Rattle.listing_run.specs.Listing.{text_of}
+use Rattle.listing_run.specs.Settlers.{IsSettledBy}
+use Rattle.listing_run.specs.Steps.{EndsAt, IsStep}
+use Rattle.listing_run.specs.Zones.{AreZones, HasLargeFlow}
+use Rattle.listing_run.specs.declared.listing_end.ListingEnd.TheVariants as ends
+use Rattle.listing_run.specs.declared.step.Step.{Step}
+use Rattle.listing_run.specs.declared.steps.StepFlows.{StepFlows}
+use Rattle.listing_run.specs.declared.steps.Steps.{Steps}
+use Rattle.listing_run.specs.declared.stop.Stop.TheVariants as stop
+use Rattle.listing_run.specs.declared.stop.Stop.{Stop}
+use Rattle.listing_run.specs.declared.task.Task.{Task}
 
 -- the conditions on a task: a valid model, at most 18 digits, and a zone for each cell if there is a zone file
 pub record IsTask (k : Task) : Type 0 where
@@ -37,37 +45,62 @@ pub record AreTablesOf (k : Task) (t : RunTables) : Type 0 where
   pub digits : digits_of t ≡ k.digits
   pub tables : AreRunTables k.model t
 
--- the cause of a step's fault; lack of memory is possible at any time
-abbrev pub FailsBy : Task → TimeStep → List Bound → ListFault → Type 0
-FailsBy k at old (fault.NoBound n) = HasNoBound k at old n
-FailsBy k at old fault.Unfinished = IsOpen k at old
-FailsBy k at old fault.Memory = Unit {0}
+-- past these heads, with these times left, a walk stops so: the listing ends here; lack of memory is possible at any time
+abbrev pub StopsAt : Task → List Bound → List TimeStep → Stop → Type 0
+StopsAt k old times (stop.End last) = EndsAt k last old times
+StopsAt k old times stop.Memory = Unit {0}
 
-abbrev pub of_step : StepFault → ListFault
-of_step (chain.NoBound n) = fault.NoBound n
-of_step (chain.Unfinished o) = fault.Unfinished
-of_step chain.Memory = fault.Memory
+-- the stop at the step of a time, from the fault of solving it
+abbrev pub stop_of : TimeStep → StepFault → Stop
+stop_of at (chain.NoBound n) = stop.End (ends.NoBound at n)
+stop_of at (chain.Unfinished o) = stop.End (ends.Unfinished at)
+stop_of at chain.Memory = stop.Memory
 
--- the cause of a fault of the flows between zones
-abbrev pub FlowsFailBy : Option (List ℕ) → Solved → ListFault → Type 0
-FlowsFailBy zones x (fault.NoBound n) = HasLargeFlow zones x n
-FlowsFailBy zones x fault.Unfinished = ⊥
-FlowsFailBy zones x fault.Memory = Unit {0}
+-- why there are no flows between zones at a solved step of this time
+abbrev pub FlowsStopBy : Option (List ℕ) → Solved → TimeStep → Stop → Type 0
+FlowsStopBy zones x at (stop.End (ends.NoBound t n)) = (t ≡ at) × HasLargeFlow zones x n
+FlowsStopBy zones x at stop.Memory = Unit {0}
+FlowsStopBy zones x at other = ⊥
 
--- a step's heads and its text
-pub record IsWritten (k : Task) (at : TimeStep) (old heads : List Bound) (text : Text) : Type 0 where
-  pub value : Step
-  pub is : IsStep k at old value
-  pub same : heads ≡ value.heads
-  pub written : text ≡ text_of k value
-  pub grid : AreGridHeads k.model heads
-  pub encloses : BoundsMoves k at old value
+-- the times of the steps that are not done
+abbrev pub times_left : Steps → List TimeStep
+times_left s = drop s.done s.times
 
--- the puts of an end at a step with this fault
-abbrev pub IsStepEnd : Task → TimeStep → ListFault → Status → List Put → Type 0
-IsStepEnd k at (fault.NoBound n) end tail = IsEnd (no_bound_line k.model.grid at n) (status.NoBound at.period at.step n) end tail
-IsStepEnd k at fault.Unfinished end tail = IsEnd (unfinished_line at) (status.Unfinished at.period at.step) end tail
-IsStepEnd k at fault.Memory end tail = IsWanting end tail
+-- the conditions on a walk
+pub record IsWalk (k : Task) (s : Steps) : Type 0 where
+  pub tables : AreTablesOf k s.tables
+  pub times : s.times ≡ times k.model
+  pub few : length s.times ≤ 100000
+  pub heads : AreGridHeads k.model s.heads
+
+-- a walk before the first step
+pub record IsAtFirst (k : Task) (s : Steps) : Type 0 where
+  pub start : AreStartHeads k.model s.heads
+  pub encloses : HeadsEnclose k.model s.heads (start_head k.model)
+  pub done : s.done ≡ 0
+
+-- a step by its flows and its heads
+abbrev pub with_heads : StepFlows → List Bound → Step
+with_heads f heads = record { at = f.at; heads = heads; budget = f.budget; zones = f.zones }
+
+module _ {S : Type 0} (leads : S → List Entries → Edges → Bool → S → Type 0) (k : Task) (s t : Steps) (before after : S) where
+  -- from the walk s to t the step v was solved, and the settler settled it
+  pub record IsNext (v : Step) : Type 0 where
+    pub at : TimeStep
+    pub time : times_left s ≡ at ∷ times_left t
+    pub is : IsStep k at s.heads v
+    pub heads : t.heads ≡ v.heads
+    pub encloses : BoundsMoves k at s.heads v
+    pub led : IsSettledBy leads k at s.heads before after
+    pub grid : AreGridHeads k.model t.heads
+    pub few : s.done < 100000
+    pub done : t.done ≡ s.done + 1
+
+  -- so a step with this text was
+  pub record IsNextText (text : Text) : Type 0 where
+    pub value : Step
+    pub next : IsNext value
+    pub written : text ≡ text_of k value
 
 -- the puts of an end because the settler had to stop: none after a failed write
 abbrev pub IsStopEnd : SinkError → Status → List Put → Type 0

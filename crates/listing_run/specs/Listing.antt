@@ -1,14 +1,18 @@
 -- The pieces of a listing.
 use Rattle.std.specs.Prelude.{◌≡◌, ℕ, List, [], ◌∷◌, ◌++◌, map}
+use Rattle.std.specs.List.{concat}
+use Rattle.model_types.specs.declared.grid.Grid.{Grid}
 use Rattle.model_types.specs.declared.time_steps.TimeStep.{TimeStep}
 use Rattle.listing_io.specs.Listing.{first_text, step_text}
 use Rattle.listing_io.specs.LastLines.{no_bound_line, unfinished_line}
 use Rattle.run_puts.specs.Lines.{Text, end_line}
 use Rattle.run_puts.specs.declared.status.Status.{Status}
 use Rattle.run_puts.specs.declared.status.Status.TheVariants as status
+use Rattle.listing_run.specs.declared.listing_end.ListingEnd.{ListingEnd}
+use Rattle.listing_run.specs.declared.listing_end.ListingEnd.TheVariants as ends
 use Rattle.listing_run.specs.declared.task.Task.{Task}
 use Rattle.listing_run.specs.declared.step.Step.{Step}
-use Rattle.listing_run.specs.Steps.{End, Whole, Cut, WithoutBound, Open, AllSteps}
+use Rattle.listing_run.specs.Steps.{AllSteps, FirstSteps}
 use Rattle.listing_run.specs.Bounding.{EnclosesHistories}
 
 abbrev pub text_of : Task → Step → Text
@@ -21,34 +25,40 @@ begun k values = first_text k.model k.digits ∷ map (text_of k) values
 abbrev pub listing : Task → List Step → Text → List Text
 listing k values last = begun k values ++ (last ∷ [])
 
--- A whole listing: the steps of the model, which enclose every history, and END.
-pub record IsWhole (k : Task) (pieces : List Text) : Type 0 where
-  pub values : List Step
-  pub steps : AllSteps k values Whole
-  pub encloses : EnclosesHistories k values
-  pub are : pieces ≡ listing k values end_line
+-- the status of a run whose listing ends so, and its last line
+abbrev pub status_of : ListingEnd → Status
+status_of ends.Whole = status.Ok
+status_of (ends.NoBound at n) = status.NoBound at.period at.step n
+status_of (ends.Unfinished at) = status.Unfinished at.period at.step
 
--- a listing that ends at a step, with this line
-pub record IsBroken (k : Task) (end : End) (line : Text) (pieces : List Text) : Type 0 where
+abbrev pub last_line : Grid → ListingEnd → Text
+last_line g ends.Whole = end_line
+last_line g (ends.NoBound at n) = no_bound_line g at n
+last_line g (ends.Unfinished at) = unfinished_line at
+
+-- The pieces of a listing that ends with this status: the model's steps up to an end, and its last line. A whole listing
+-- encloses every history.
+pub record IsListing (k : Task) (end : Status) (pieces : List Text) : Type 0 where
+  pub last : ListingEnd
+  pub status : end ≡ status_of last
   pub values : List Step
-  pub steps : AllSteps k values end
-  pub are : pieces ≡ listing k values line
+  pub steps : AllSteps k values last
+  pub encloses : last ≡ ends.Whole → EnclosesHistories k values
+  pub are : pieces ≡ listing k values (last_line k.model.grid last)
+
+-- a listing of the task that ends with this status was added to a text
+pub record IsPushed (k : Task) (end : Status) (old new : Text) : Type 0 where
+  pub pieces : List Text
+  pub listed : IsListing k end pieces
+  pub text : new ≡ old ++ concat pieces
 
 abbrev pub time : ℕ → ℕ → TimeStep
 time period step = record { period = period; step = step }
 
--- The pieces of a listing that ends with this status, and the cause of that status.
-abbrev pub IsListing : Task → Status → List Text → Type 0
-IsListing k status.Ok pieces = IsWhole k pieces
-IsListing k (status.NoBound period step fault) pieces =
-    IsBroken k (WithoutBound (time period step) fault) (no_bound_line k.model.grid (time period step) fault) pieces
-IsListing k (status.Unfinished period step) pieces = IsBroken k (Open (time period step)) (unfinished_line (time period step)) pieces
-IsListing k other pieces = ⊥
-
--- the pieces of a listing that is cut off
+-- the pieces of a listing that is cut off after some steps
 pub record IsCutListing (k : Task) (pieces : List Text) : Type 0 where
   pub values : List Step
-  pub steps : AllSteps k values Cut
+  pub steps : FirstSteps k (λ heads times. Unit {0}) values
   pub are : pieces ≡ begun k values
 
 -- the pieces of a listing that ends so; or, where a write beside it failed, the first ones of a listing

@@ -1,6 +1,6 @@
 -- What a run does to the settler of its steps, of the states S. It gives the settler the time of each step:
 -- `begins old period step new`. Then it settles the step's problem: `leads old p b ended new`. It asks why it has to stop: `stop`.
-use Rattle.std.specs.Prelude.{◌≡◌, ◌⊎◌, ℕ, ◌<◌, List, [], ◌∷◌, length, Bool, true, ℤ, Option, None}
+use Rattle.std.specs.Prelude.{◌≡◌, ◌⊎◌, ℕ, List, [], ◌∷◌, length, Bool, true, ℤ, Option, None}
 use Rattle.decimal_input.specs.Fractions.{Fraction}
 use Rattle.outside.specs.declared.traits.SinkError.{SinkError}
 use Rattle.step_problem.specs.declared.heads.Bound.{Bound}

@@ -11,6 +11,8 @@ use Rattle.model_types.specs.Times.{times}
 use Rattle.problem_builder.specs.StartHeads.{AreStartHeads}
 use Rattle.step_chain.specs.declared.solved.Solved.{Solved}
 use Rattle.step_chain.specs.Steps.{IsPosed, IsSettledStep, HasNoHeads, SettlesIn}
+use Rattle.listing_run.specs.declared.listing_end.ListingEnd.{ListingEnd}
+use Rattle.listing_run.specs.declared.listing_end.ListingEnd.TheVariants as ends
 use Rattle.listing_run.specs.declared.task.Task.{Task}
 use Rattle.listing_run.specs.declared.step.Step.{Step}
 use Rattle.listing_run.specs.Zones.{AreFlowsAt, HasLargeFlow}
@@ -46,30 +48,33 @@ module _ (k : Task) (at : TimeStep) (old : List Bound) where
     pub posed : IsPosed k.model k.digits at old problem barrier
     pub open_rounds : RoundsSettleBoth problem barrier k.rounds → ⊥
 
--- how a run over the steps ends: all are done, it is cut off, a step has this refusal, or the rounds don't settle a step
-pub data End : Type 0 where
-  Whole : End
-  Cut : End
-  WithoutBound : TimeStep → NoBound → End
-  Open : TimeStep → End
+-- Past these heads, with these times left, a listing ends so: no time is left; the step of the first one has this refusal;
+-- or the rounds don't settle it.
+abbrev pub EndsAt : Task → ListingEnd → List Bound → List TimeStep → Type 0
+EndsAt k ends.Whole old [] = Unit {0}
+EndsAt k (ends.NoBound t n) old (at ∷ times) = (t ≡ at) × HasNoBound k at old n
+EndsAt k (ends.Unfinished t) old (at ∷ times) = (t ≡ at) × IsOpen k at old
+EndsAt k other old times = ⊥
 
--- From the heads `old` on, the steps of these times have these values, up to this end. A run may be cut off anywhere.
-abbrev pub Steps : Task → List Bound → List TimeStep → List Step → End → Type 0
-Steps k old steps [] Cut = Unit {0}
-Steps k old [] [] Whole = Unit {0}
-Steps k old (at ∷ steps) (v ∷ values) end = IsStep k at old v × Steps k v.heads steps values end
-Steps k old (at ∷ steps) [] (WithoutBound t n) = (t ≡ at) × HasNoBound k at old n
-Steps k old (at ∷ steps) [] (Open t) = (t ≡ at) × IsOpen k at old
-Steps k old (at ∷ steps) [] Whole = ⊥
-Steps k old [] [] (WithoutBound t n) = ⊥
-Steps k old [] [] (Open t) = ⊥
-Steps k old [] (v ∷ values) end = ⊥
+-- From the heads `old` on, the steps of these times have these values, and `Then` holds of the heads and the times after them.
+abbrev pub StepsThen : Task → (List Bound → List TimeStep → Type 0) → List Bound → List TimeStep → List Step → Type 0
+StepsThen k Then old times [] = Then old times
+StepsThen k Then old (at ∷ times) (v ∷ values) = IsStep k at old v × StepsThen k Then v.heads times values
+StepsThen k Then old [] (v ∷ values) = ⊥
 
--- all steps of the model, from STRT on
-pub record AllSteps (k : Task) (values : List Step) (end : End) : Type 0 where
+-- up to this end
+abbrev pub Steps : Task → List Bound → List TimeStep → List Step → ListingEnd → Type 0
+Steps k old times values last = StepsThen k (EndsAt k last) old times values
+
+-- the steps of the model, from STRT on
+pub record FirstSteps (k : Task) (Then : List Bound → List TimeStep → Type 0) (values : List Step) : Type 0 where
   pub start : List Bound
   pub is_start : AreStartHeads k.model start
-  pub steps : Steps k start (times k.model) values end
+  pub steps : StepsThen k Then start (times k.model) values
+
+-- all steps of the model, up to this end
+abbrev pub AllSteps : Task → List Step → ListingEnd → Type 0
+AllSteps k values last = FirstSteps k (EndsAt k last) values
 
 -- the task's rounds settle each of these steps
 abbrev pub AllSettle : Task → List Bound → List TimeStep → List Step → Type 0

@@ -1,102 +1,65 @@
 // Putting the steps, each while the next one is solved.
-ghost use Rattle.std.specs.Prelude.{◌≡◌, List, ◌++◌, Contains, IfOk, IfErr, MatchResult, None, Some};
+ghost use Rattle.std.specs.Prelude.{◌≡◌, List, ◌++◌, IfOk, IfErr, None, Some};
 ghost use Rattle.outside.specs.Puts.{Put};
 ghost use Rattle.outside.specs.declared.traits.SinkError.TheVariants.{Write};
-ghost use Rattle.model_types.specs.Times.{times};
-ghost use Rattle.problem_builder.specs.GridHeads.{AreGridHeads};
-ghost use Rattle.run_puts.specs.Ends.{IsPut};
+ghost use Rattle.run_puts.specs.Ends.{IsEnd, IsPut};
 ghost use Rattle.run_puts.specs.Runs.{IsRun};
-ghost use Rattle.listing_run.specs.Listing.{IsListingBeside, IsCutListing};
-ghost use Rattle.listing_run.specs.Settlers.{AllSettledBy, IsSettledBy, Reaches, RestsOrSettles};
-ghost use Rattle.listing_run.specs.Ends.{IsTask, AreTablesOf, FailsBy, IsWritten, IsStepEnd, IsStopEnd};
+ghost use Rattle.listing_run.specs.Listing.{IsListingBeside, IsCutListing, last_line, status_of};
+ghost use Rattle.listing_run.specs.Settlers.{AllSettledBy, Reaches, RestsOrSettles};
+ghost use Rattle.listing_run.specs.Ends.{IsNextText, IsStopEnd, IsTask, IsWalk, StopsAt, times_left};
 
-use crate::begin::{Begun, begin};
-use crate::solving::{Written, solve_text};
-use crate::step::ListFault;
+use crate::listing_end::ListingEnd;
+use crate::steps::Steps;
+use crate::stop::Stop;
 use crate::task::Task;
-use listing_io::{write_no_bound, write_unfinished};
+use listing_io::write_first;
 use model_types::TimeStep;
 use outside::{Sink, SinkError};
-use run_puts::{Status, put_last, put_line, put_memory, put_piece};
+use run_puts::{Status, put_line, put_memory, put_piece};
 use settle_driver::StepSettler;
 use std::alloc::Global;
 use std::thread::{Threads, join_mut};
-use step_chain::RunTables;
-use step_problem::{Bound, Settler};
+use step_problem::Settler;
 
 // Puts a piece while the next step is solved.
 fn put_while_solving<R: Threads + Sync, K: Sink + Send, S: Settler>(
     rt: &R,
     alloc: Global,
     task: &Task,
-    tables: &mut RunTables,
+    steps: &mut Steps,
     settler: &mut S,
     out: &mut K,
     piece: &[u8],
-    at: TimeStep,
-    old: &[Bound],
-) -> (Option<Status>, Result<Written, ListFault>)
+) -> (Option<Status>, Result<Vec<u8>, Stop>)
     requires ready { S.ready settler.old }
     requires rounds { S.rounds settler.old ≡ task.now.rounds }
     requires task { IsTask task.now }
-    requires tables { AreTablesOf task.now tables.old }
-    requires time { Contains (times task.now.model) at }
-    requires old { AreGridHeads task.now.model old.now }
+    requires walk { IsWalk task.now steps.old }
     ensures puts { (start : _) (puts : List Put) → K.leads start puts out.old →
         (tail : List Put) × K.leads start (puts ++ tail) out.new × IsPut piece.now result.0 tail }
     ensures ready { S.ready settler.new }
     ensures rounds { S.rounds settler.new ≡ S.rounds settler.old }
-    ensures tables { AreTablesOf task.now tables.new }
-    ensures written { IfOk result.1 (λ w. IsWritten task.now at old.now w.heads.items w.text.items) }
-    ensures fault { IfErr result.1 (FailsBy task.now at old.now) }
-    ensures led { MatchResult result.1 (λ _. IsSettledBy S.leads task.now at old.now settler.old settler.new)
-        (λ _. RestsOrSettles S.leads settler.old settler.new) }
+    ensures walk { IsWalk task.now steps.new }
+    ensures next { IfOk result.1 (λ text. IsNextText S.leads task.now steps.old steps.new settler.old settler.new text.items) }
+    ensures stop { IfErr result.1 (StopsAt task.now steps.old.heads (times_left steps.old)) }
+    ensures led { IfErr result.1 (λ _. RestsOrSettles S.leads settler.old settler.new) }
 {
     join_mut(
         rt,
         &mut || put_piece(out, piece),
-        &mut || solve_text(alloc, task, tables, at, old, settler),
+        &mut || steps.next_text(alloc, task, settler),
     )
 }
 
-// Ends at a step with this fault.
-fn end_at<K: Sink>(
-    alloc: Global,
-    task: &Task,
-    at: TimeStep,
-    fault: ListFault,
-    out: &mut K,
-) -> Status
+// Puts the last line of a listing that ends so.
+fn put_end<K: Sink>(alloc: Global, task: &Task, end: ListingEnd, out: &mut K) -> Status
     requires { IsTask task.now }
     ensures { (start : _) (puts : List Put) → K.leads start puts out.old →
-        (tail : List Put) × K.leads start (puts ++ tail) out.new × IsStepEnd task.now at fault result tail }
+        (tail : List Put) × K.leads start (puts ++ tail) out.new
+        × IsEnd (last_line task.now.model.grid end) (status_of end) result tail }
 {
-    match fault {
-        ListFault::Memory => put_memory(out),
-        ListFault::NoBound(refusal) => {
-            let line = write_no_bound(alloc, &task.model.grid, at, refusal);
-            put_line(
-                out,
-                line,
-                Status::NoBound {
-                    period: at.period,
-                    step: at.step,
-                    fault: refusal,
-                },
-            )
-        }
-        ListFault::Unfinished => {
-            let line = write_unfinished(alloc, at);
-            put_line(
-                out,
-                line,
-                Status::Unfinished {
-                    period: at.period,
-                    step: at.step,
-                },
-            )
-        }
-    }
+    let line = end.line(alloc, &task.model.grid);
+    put_line(out, line, end.status())
 }
 
 // Ends a run whose settler has to stop.
@@ -110,75 +73,14 @@ fn end_stopped<K: Sink>(error: SinkError, out: &mut K) -> Status
     }
 }
 
-// Tells a settler the time of a step.
-fn tell<S: StepSettler>(settler: &mut S, at: TimeStep)
+// Tells a settler the time of the step that begins.
+fn begin_step<S: StepSettler>(settler: &mut S, at: TimeStep)
     requires ready { S.ready settler.old }
     ensures begins { S.begins settler.old at.period at.step settler.new }
     ensures rounds { S.rounds settler.new ≡ S.rounds settler.old }
     ensures ready { S.ready settler.new }
 {
     settler.begin(at.period, at.step);
-}
-
-// Puts the first line, each step while the next one is solved, and the last line.
-fn put_with_tables<R: Threads + Sync, K: Sink + Send, S: StepSettler>(
-    rt: &R,
-    alloc: Global,
-    task: &Task,
-    tables: &mut RunTables,
-    settler: &mut S,
-    out: &mut K,
-) -> Status
-    requires ready { S.ready settler.old }
-    requires rounds { S.rounds settler.old ≡ task.now.rounds }
-    requires goes_on { S.stop settler.old ≡ None }
-    requires task { IsTask task.now }
-    requires tables { AreTablesOf task.now tables.old }
-    ensures puts { (start : _) (puts : List Put) → K.leads start puts out.old →
-        (more : List Put) × K.leads start (puts ++ more) out.new
-        × IsRun (IsListingBeside (S.stop settler.new ≡ Some Write) task.now) (IsCutListing task.now) result more
-        × (result ≡ Status.Ok → AllSettledBy S.begins S.leads S.stop task.now settler.old settler.new) }
-    ensures reaches { Reaches S.begins S.leads S.stop settler.old settler.new }
-{
-    let Ok(begun) = begin(alloc, task) else {
-        return put_memory(out);
-    };
-    let Begun {
-        times,
-        mut old,
-        mut pending,
-    } = begun;
-    for at in times.as_slice() {
-        tell(settler, *at);
-        let (put, next) = put_while_solving(
-            rt,
-            alloc,
-            task,
-            tables,
-            settler,
-            out,
-            pending.as_slice(),
-            *at,
-            old.as_slice(),
-        );
-        if let Some(status) = put {
-            return status;
-        }
-        if let Some(error) = settler.stop() {
-            return end_stopped(error, out);
-        }
-        match next {
-            Ok(written) => {
-                old = written.heads;
-                pending = written.text;
-            }
-            Err(fault) => return end_at(alloc, task, *at, fault, out),
-        }
-    }
-    if let Some(status) = put_piece(out, pending.as_slice()) {
-        return status;
-    }
-    put_last(out, b"END\n", Status::Ok)
 }
 
 /// Puts the listing of a task: the first line, each step while the next one is solved, and the last line. The settler is
@@ -201,8 +103,37 @@ pub fn put_steps<R: Threads + Sync, K: Sink + Send, S: StepSettler>(
         × (result ≡ Status.Ok → AllSettledBy S.begins S.leads S.stop task.now settler.old settler.new) }
     ensures reaches { Reaches S.begins S.leads S.stop settler.old settler.new }
 {
-    match RunTables::new(alloc, &task.model, task.digits) {
-        Ok(mut tables) => put_with_tables(rt, alloc, task, &mut tables, settler, out),
-        Err(_) => put_memory(out),
+    let Ok(mut steps) = Steps::new(alloc, task) else {
+        return put_memory(out);
+    };
+    let Ok(mut pending) = write_first(alloc, &task.model, task.digits) else {
+        return put_memory(out);
+    };
+    while let Some(at) = steps.time() {
+        begin_step(settler, at);
+        let (put, next) = put_while_solving(
+            rt,
+            alloc,
+            task,
+            &mut steps,
+            settler,
+            out,
+            pending.as_slice(),
+        );
+        if let Some(status) = put {
+            return status;
+        }
+        if let Some(error) = settler.stop() {
+            return end_stopped(error, out);
+        }
+        match next {
+            Ok(text) => pending = text,
+            Err(Stop::End(end)) => return put_end(alloc, task, end, out),
+            Err(Stop::Memory) => return put_memory(out),
+        }
     }
+    if let Some(status) = put_piece(out, pending.as_slice()) {
+        return status;
+    }
+    put_end(alloc, task, ListingEnd::Whole, out)
 }

@@ -1,33 +1,35 @@
-// Solving a step and writing its text.
-ghost use Rattle.std.specs.Prelude.{◌≡◌, Contains, IfOk, IfErr, MatchResult};
+// Solving a step.
+ghost use Rattle.std.specs.Prelude.{◌≡◌, ◌∷◌, List, Contains, IfOk, IfErr, MatchResult};
+ghost use Rattle.model_types.specs.declared.time_steps.TimeStep.{TimeStep};
 ghost use Rattle.model_types.specs.Times.{times};
 ghost use Rattle.problem_builder.specs.GridHeads.{AreGridHeads};
 ghost use Rattle.listing_run.specs.Steps.{IsStep};
 ghost use Rattle.listing_run.specs.Bounding.{BoundsMoves};
-ghost use Rattle.listing_run.specs.Ends.{IsTask, AreTablesOf, FailsBy, IsWritten};
+ghost use Rattle.listing_run.specs.Ends.{IsTask, AreTablesOf, StopsAt};
 ghost use Rattle.listing_run.specs.Settlers.{IsSettledBy, RestsOrSettles};
 
-use crate::step::{ListFault, Step};
+use crate::listing_end::ListingEnd;
+use crate::step::Step;
+use crate::stop::{Stop, stop_at};
 use crate::task::Task;
 use crate::zoning::flows_between;
 use barrier_vector::laws::one_barrier;
 use budget_bounds::budget;
 use budget_bounds::laws::heads_within;
-use listing_io::write_step;
 use model_types::{Listed, TimeStep};
 use std::alloc::Global;
 use step_chain::{RunTables, next_step_with};
 use step_problem::{Bound, Settler};
 
 /// The step of a time, from the heads of all cells before it.
-pub fn solve<S: Settler>(
+pub(crate) fn solve<S: Settler>(
     alloc: Global,
     task: &Task,
     tables: &mut RunTables,
     at: TimeStep,
     old: &[Bound],
     settler: &mut S,
-) -> Result<Step, ListFault>
+) -> Result<Step, Stop>
     requires ready { S.ready settler.old }
     requires rounds { S.rounds settler.old ≡ task.now.rounds }
     requires task { IsTask task.now }
@@ -38,20 +40,23 @@ pub fn solve<S: Settler>(
     ensures rounds { S.rounds settler.new ≡ S.rounds settler.old }
     ensures tables { AreTablesOf task.now tables.new }
     ensures step { IfOk result (IsStep task.now at old.now) }
-    ensures fault { IfErr result (FailsBy task.now at old.now) }
+    ensures stop { IfErr result (λ stop. (rest : List TimeStep) → StopsAt task.now old.now (at ∷ rest) stop) }
     ensures led { MatchResult result (λ _. IsSettledBy S.leads task.now at old.now settler.old settler.new)
         (λ _. RestsOrSettles S.leads settler.old settler.new) }
     ensures heads { IfOk result (λ v. AreGridHeads task.now.model v.heads) }
     // Every solution from exact heads within the old ones lies within the step's heads, budget and flows between zones.
     ensures encloses { IfOk result (BoundsMoves task.now at old.now) }
 {
-    let solved = next_step_with(alloc, &task.model, tables, at, old, settler)?;
+    let solved = match next_step_with(alloc, &task.model, tables, at, old, settler) {
+        Ok(solved) => solved,
+        Err(fault) => return Err(stop_at(at, fault)),
+    };
     heads_within();
     one_barrier();
     solved.problem.recall_conditions();
     match budget(&solved.problem, solved.bounds.as_slice()) {
         Ok(budget) => {
-            let zones = flows_between(alloc, task, &solved)?;
+            let zones = flows_between(alloc, task, at, &solved)?;
             Ok(Step {
                 at,
                 heads: solved.heads,
@@ -59,55 +64,6 @@ pub fn solve<S: Settler>(
                 zones: Listed::new(zones),
             })
         }
-        Err(refusal) => Err(ListFault::NoBound(refusal)),
-    }
-}
-
-/// A step's heads and its text.
-#[derive(Drop)]
-pub struct Written {
-    pub heads: Vec<Bound>,
-    pub text: Vec<u8>,
-}
-
-/// The same step, as its heads and its text.
-pub fn solve_text<S: Settler>(
-    alloc: Global,
-    task: &Task,
-    tables: &mut RunTables,
-    at: TimeStep,
-    old: &[Bound],
-    settler: &mut S,
-) -> Result<Written, ListFault>
-    requires ready { S.ready settler.old }
-    requires rounds { S.rounds settler.old ≡ task.now.rounds }
-    requires task { IsTask task.now }
-    requires tables { AreTablesOf task.now tables.old }
-    requires time { Contains (times task.now.model) at }
-    requires old { AreGridHeads task.now.model old.now }
-    ensures ready { S.ready settler.new }
-    ensures rounds { S.rounds settler.new ≡ S.rounds settler.old }
-    ensures tables { AreTablesOf task.now tables.new }
-    ensures written { IfOk result (λ w. IsWritten task.now at old.now w.heads.items w.text.items) }
-    ensures fault { IfErr result (FailsBy task.now at old.now) }
-    ensures led { MatchResult result (λ _. IsSettledBy S.leads task.now at old.now settler.old settler.new)
-        (λ _. RestsOrSettles S.leads settler.old settler.new) }
-{
-    let step = solve(alloc, task, tables, at, old, settler)?;
-    let text = write_step(
-        alloc,
-        &task.model,
-        task.digits,
-        step.at,
-        step.heads.as_slice(),
-        &step.budget,
-        step.zones.as_slice(),
-    );
-    match text {
-        Ok(text) => Ok(Written {
-            heads: step.heads.into_vec(),
-            text,
-        }),
-        Err(_) => Err(ListFault::Memory),
+        Err(refusal) => Err(Stop::End(ListingEnd::NoBound(at, refusal))),
     }
 }

@@ -5,12 +5,7 @@ use Rattle.std.specs.List.{fold}
 use Rattle.step_problem.specs.declared.heads.Bound.{Bound}
 use Rattle.step_problem.specs.Conditions.{IsWithin, head_limit}
 use Rattle.model_types.specs.declared.model.FlowModel.{FlowModel}
-use Rattle.model_types.specs.declared.time_steps.TimeStep.{TimeStep}
-use Rattle.listing_run.specs.declared.step.ListFault.{ListFault}
-use Rattle.listing_run.specs.declared.step.ListFault.TheVariants as fault
 use Rattle.listing_summary.specs.declared.summary.Summary.{Summary}
-use Rattle.listing_summary.specs.declared.stop.Stop.{Stop}
-use Rattle.listing_summary.specs.declared.stop.Stop.TheVariants as stop
 use Rattle.listing_summary.specs.Summaries.{printed, width}
 
 -- nothing is counted yet
@@ -37,9 +32,3 @@ pub record Fits (s : Summary) : Type 0 where
   pub widest : IsWithin s.widest (2 * head_limit)
   pub low : IsWithin s.low_sum (s.heads * head_limit)
   pub high : IsWithin s.high_sum (s.heads * head_limit)
-
--- why there is no summary, by the fault of a step
-abbrev pub stop_of : TimeStep → ListFault → Stop
-stop_of at (fault.NoBound n) = stop.NoBound at n
-stop_of at fault.Unfinished = stop.Unfinished at
-stop_of at fault.Memory = stop.Memory

@@ -37,7 +37,7 @@ fn width(bound: Bound) -> i128
     i128::from(bound.high) - i128::from(bound.low)
 }
 
-fn greater(a: i128, b: i128) -> i128
+fn max_of(a: i128, b: i128) -> i128
     ensures { result ≡ int_max a b }
 {
     a.max(b)
@@ -66,7 +66,7 @@ impl Summary {
         ensures { self.new ≡ counted self.old bound }
     {
         self.heads += 1;
-        self.widest = greater(width(bound), self.widest);
+        self.widest = max_of(width(bound), self.widest);
         self.low_sum = plus(self.low_sum, bound.low);
         self.high_sum = plus(self.high_sum, bound.high);
     }

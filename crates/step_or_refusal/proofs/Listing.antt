@@ -20,7 +20,8 @@ use Rattle.zone_flows.proofs.Fitting.{faces_fit}
 use Rattle.zone_flows.proofs.Meaning.{are_flows, is_first}
 use Rattle.listing_run.specs.declared.step.Step.{Step}
 use Rattle.listing_run.specs.declared.task.Task.{Task}
-use Rattle.listing_run.specs.Steps.{budget_at, IsStep, HasNoBound, no_heads, no_budget, no_zones, Steps, Whole, WithoutBound}
+use Rattle.listing_run.specs.declared.listing_end.ListingEnd.TheVariants as ends
+use Rattle.listing_run.specs.Steps.{budget_at, IsStep, HasNoBound, no_heads, no_budget, no_zones, Steps}
 use Rattle.listing_run.specs.Zones.{AreZones, AreFlowsAt, HasLargeFlow, faces_at}
 use Rattle.listing_run.proofs.Unique.{IsRest, rest_whole, rest_more, first_in}
 use Rattle.step_or_refusal.specs.Laws.{StepOrRefusal, ListingOrRefusal}
@@ -53,7 +54,7 @@ module _ (step : StepOrRefusal) (fits : HeadsFit) (k : Task) (valid : IsModel k.
       ]
 
   listing_from : (rest : List TimeStep) → IsRest (times k.model) rest → (old : List Bound) → AreGridHeads k.model old →
-      ((values : List Step) × Steps k old rest values Whole) ⊎ ((values : List Step) × (at : TimeStep) × (n : NoBound) × Steps k old rest values (WithoutBound at n))
+      ((values : List Step) × Steps k old rest values ends.Whole) ⊎ ((values : List Step) × (at : TimeStep) × (n : NoBound) × Steps k old rest values (ends.NoBound at n))
   listing_from [] among old heads = inl ([], tt)
   listing_from (at ∷ rest) among old heads =
       let before : IsBefore k.model at old = record { model = valid; time = among.each at (first_in at rest); heads = heads } in

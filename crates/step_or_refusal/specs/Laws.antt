@@ -11,7 +11,7 @@ use Rattle.step_chain.specs.Steps.{IsSettledStep, HasNoHeads}
 use Rattle.listing_run.specs.declared.step.Step.{Step}
 use Rattle.listing_run.specs.declared.task.Task.{Task}
 use Rattle.listing_run.specs.Steps.{AllSteps}
-use Rattle.listing_run.specs.Steps.End.{Whole, WithoutBound}
+use Rattle.listing_run.specs.declared.listing_end.ListingEnd.TheVariants as ends
 use Rattle.listing_run.specs.Zones.{AreZones}
 
 -- A time of a valid model, from heads of all its cells, has a settled step or a refusal.
@@ -24,5 +24,5 @@ StepOrRefusal =
 abbrev pub ListingOrRefusal : Type 0
 ListingOrRefusal =
     (k : Task) → IsModel k.model → AreZones k.model k.zones →
-    ((values : List Step) × AllSteps k values Whole)
-    ⊎ ((values : List Step) × (at : TimeStep) × (n : NoBound) × AllSteps k values (WithoutBound at n))
+    ((values : List Step) × AllSteps k values ends.Whole)
+    ⊎ ((values : List Step) × (at : TimeStep) × (n : NoBound) × AllSteps k values (ends.NoBound at n))

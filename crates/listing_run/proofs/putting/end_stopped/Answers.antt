@@ -1,4 +1,4 @@
-use Rattle.std.proofs.Common.{List, [], ◌++◌, refl, subst, sym}
+use Rattle.std.proofs.Common.{List, [], refl, subst, sym}
 use Rattle.std.proofs.lemmas.List.{append-nil}
 use Rattle.outside.specs.Puts.{Put}
 use Rattle.outside.specs.declared.traits.SinkError.{SinkError}

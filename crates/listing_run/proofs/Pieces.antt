@@ -1,0 +1,107 @@
+-- The pieces of a listing so far, put or added to a text, and how it ends.
+use Rattle.std.proofs.Common.{◌≡◌, ◌∙◌, List, [], ◌∷◌, ◌++◌, Bool, IfOk, Result, Ok, Err, Some, ap, refl, subst, sym}
+use Rattle.std.proofs.lemmas.List.{map-append, append_assoc, append-nil}
+use Rattle.std.specs.List.{concat}
+use Rattle.outside.specs.Puts.{Put, taken}
+use Rattle.step_problem.specs.Entries.{Entries}
+use Rattle.step_problem.specs.Heads.{Edges}
+use Rattle.listing_io.specs.Listing.{first_text}
+use Rattle.run_puts.specs.Lines.{Text}
+use Rattle.run_puts.specs.Runs.{IsRun}
+use Rattle.run_puts.specs.Ends.{IsEnd, IsPut, IsWanting}
+use Rattle.run_puts.specs.declared.status.Status.{Status}
+use Rattle.run_puts.proofs.Pieces.{IsAt, at_more, ends_or_lacks, lacks_after, stops_at}
+use Rattle.listing_run.specs.declared.listing_end.ListingEnd.{ListingEnd}
+use Rattle.listing_run.specs.declared.step.Step.{Step}
+use Rattle.listing_run.specs.declared.steps.Steps.{Steps}
+use Rattle.listing_run.specs.declared.task.Task.{Task}
+use Rattle.listing_run.specs.Listing.{IsCutListing, IsListing, IsPushed, begun, last_line, listing, status_of, text_of}
+use Rattle.listing_run.specs.Steps.{EndsAt}
+use Rattle.listing_run.specs.Ends.{IsAtFirst, IsNextText, IsWalk, times_left}
+use Rattle.listing_run.proofs.UnderWay.{IsSolved, cut_listing, encloses_if_whole, ended, is_listing, none_solved, one_more_solved}
+
+-- the pieces of one step more
+pub begun_more : (k : Task) (values : List Step) (v : Step) → begun k values ++ (text_of k v ∷ []) ≡ begun k (values ++ (v ∷ []))
+begun_more k values v = ap (λ ts. first_text k.model k.digits ∷ ts) (sym (map-append (text_of k) values (v ∷ [])))
+
+module _ (k : Task) where
+  -- all pieces of the steps so far are put, but the one at hand
+  pub record IsUnderWay (s : Steps) (pending : Text) (puts : List Put) : Type 0 where
+    pub values : List Step
+    pub here : IsAt (IsListing k) (IsCutListing k) (begun k values) pending puts
+    pub solved : IsSolved k s.heads (times_left s) values
+
+  pub under_way_at_first : (s : Steps) (first : Text) → first ≡ first_text k.model k.digits → IsWalk k s → IsAtFirst k s → IsUnderWay s first []
+  under_way_at_first s first same w f = record { values = []; here = record { before = []; all = ap (λ t. t ∷ []) (sym same); written = refl }; solved = none_solved k s w f }
+
+  pub under_way_more : {S : Type 0} (leads : S → List Entries → Edges → Bool → S → Type 0) (s t : Steps) (before after : S) (pending text : Text) (puts tail : List Put) → IsUnderWay s pending puts → tail ≡ taken pending ∷ [] → IsNextText leads k s t before after text → IsUnderWay t text (puts ++ tail)
+  under_way_more leads s t before after pending text puts tail u e n =
+      let P : List Text → Type 0 = λ ts. IsAt (IsListing k) (IsCutListing k) ts text (puts ++ tail) in
+      record {
+        values = u.values ++ (n.value ∷ []);
+        here = subst P (ap (λ x. begun k u.values ++ (x ∷ [])) n.written ∙ begun_more k u.values n.value) (at_more (IsListing k) (IsCutListing k) (begun k u.values) pending text puts tail u.here e);
+        solved = one_more_solved k leads s t before after n.value u.values u.solved n.next;
+      }
+
+  abbrev IsRunOf : Status → List Put → Type 0
+  IsRunOf end puts = IsRun (IsListing k) (IsCutListing k) end puts
+
+  module _ (s : Steps) (pending : Text) (puts tail : List Put) (end : Status) (u : IsUnderWay s pending puts) where
+    cut_here : IsCutListing k (begun k u.values)
+    cut_here = cut_listing k s.heads (times_left s) u.values u.solved
+
+    pub ends_at_piece : IsPut pending (Some end) tail → IsRunOf end (puts ++ tail)
+    ends_at_piece h = stops_at (IsListing k) (IsCutListing k) (begun k u.values) pending puts tail end u.here cut_here h
+
+    pub ends_wanting : (rest : List Put) → tail ≡ taken pending ∷ [] → IsWanting end rest → IsRunOf end (puts ++ tail ++ rest)
+    ends_wanting rest e h = lacks_after (IsListing k) (IsCutListing k) (begun k u.values) pending puts tail rest end u.here cut_here e h
+
+    pub ends_with_line : (rest : List Put) (last : ListingEnd) → tail ≡ taken pending ∷ [] → EndsAt k last s.heads (times_left s) → IsEnd (last_line k.model.grid last) (status_of last) end rest → IsRunOf end (puts ++ tail ++ rest)
+    ends_with_line rest last e here h = ends_or_lacks (IsListing k) (IsCutListing k) (begun k u.values) pending (last_line k.model.grid last) (status_of last) end puts tail rest u.here cut_here e (is_listing k s.heads (times_left s) u.values last u.solved here) h
+
+concat_append : (a b : List Text) → concat (a ++ b) ≡ concat a ++ concat b
+concat_append [] b = refl
+concat_append (x ∷ a) b = ap (λ t. x ++ t) (concat_append a b) ∙ sym (append_assoc x (concat a) (concat b))
+
+concat_one : (before : List Text) (line : Text) → concat (before ++ (line ∷ [])) ≡ concat before ++ line
+concat_one before line = concat_append before (line ∷ []) ∙ ap (λ t. concat before ++ t) (append-nil line)
+
+pub if_ok_both : {X E : Type 0} {P Q R : X → Type 0} (r : Result X E) → ((x : X) → P x → Q x → R x) → IfOk r P → IfOk r Q → IfOk r R
+if_ok_both (Ok x) takes p q = takes x p q
+if_ok_both (Err e) takes p q = tt
+
+module _ (k : Task) (start : Text) where
+  -- the steps so far are solved, and their text was added
+  pub record IsText (s : Steps) (text : Text) : Type 0 where
+    pub values : List Step
+    pub solved : IsSolved k s.heads (times_left s) values
+    pub written : text ≡ start ++ concat (begun k values)
+
+  pub text_at_first : (s : Steps) (first text : Text) → first ≡ first_text k.model k.digits → text ≡ start ++ first → IsWalk k s → IsAtFirst k s → IsText s text
+  text_at_first s first text same is w f = record { values = []; solved = none_solved k s w f; written = is ∙ ap (λ t. start ++ t) (same ∙ sym (append-nil (first_text k.model k.digits))) }
+
+  -- a line was added
+  with_line : (values : List Step) (text line new : Text) → text ≡ start ++ concat (begun k values) → new ≡ text ++ line → new ≡ start ++ concat (listing k values line)
+  with_line values text line new was is =
+      is ∙ (ap (λ t. t ++ line) was ∙ (append_assoc start (concat (begun k values)) line ∙ ap (λ t. start ++ t) (sym (concat_one (begun k values) line))))
+
+  pub text_more : {S : Type 0} (leads : S → List Entries → Edges → Bool → S → Type 0) (s t : Steps) (before after : S) (text step new : Text) → IsNextText leads k s t before after step → new ≡ text ++ step → IsText s text → IsText t new
+  text_more leads s t before after text step new n is so = record {
+    values = so.values ++ (n.value ∷ []);
+    solved = one_more_solved k leads s t before after n.value so.values so.solved n.next;
+    written = with_line so.values text (text_of k n.value) new so.written (is ∙ ap (λ x. text ++ x) n.written) ∙ ap (λ ts. start ++ concat ts) (begun_more k so.values n.value);
+  }
+
+  pub text_ended : (s : Steps) (last : ListingEnd) (end : Status) (text new : Text) → EndsAt k last s.heads (times_left s) → end ≡ status_of last → new ≡ text ++ last_line k.model.grid last → IsText s text → IsPushed k end start new
+  text_ended s last end text new here meant is so = record {
+    pieces = listing k so.values (last_line k.model.grid last);
+    listed = record {
+      last = last;
+      status = meant;
+      values = so.values;
+      steps = ended k s.heads (times_left s) so.values last so.solved here;
+      encloses = encloses_if_whole k s.heads (times_left s) so.values last so.solved here;
+      are = refl;
+    };
+    text = with_line so.values text (last_line k.model.grid last) new so.written is;
+  }

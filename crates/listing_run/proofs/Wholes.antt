@@ -1,0 +1,29 @@
+-- A listing whose status is Ok is whole.
+use Rattle.std.proofs.Common.{◌≡◌, List, refl, subst}
+use Rattle.run_puts.specs.Lines.{Text, end_line}
+use Rattle.run_puts.specs.declared.status.Status.TheVariants as status
+use Rattle.listing_run.specs.declared.listing_end.ListingEnd.{ListingEnd}
+use Rattle.listing_run.specs.declared.listing_end.ListingEnd.TheVariants as ends
+use Rattle.listing_run.specs.declared.step.Step.{Step}
+use Rattle.listing_run.specs.declared.task.Task.{Task}
+use Rattle.listing_run.specs.Bounding.{EnclosesHistories}
+use Rattle.listing_run.specs.Listing.{IsListing, last_line, listing, status_of}
+use Rattle.listing_run.specs.Steps.{AllSteps}
+
+pub record IsWhole (k : Task) (pieces : List Text) : Type 0 where
+  pub values : List Step
+  pub steps : AllSteps k values ends.Whole
+  pub encloses : EnclosesHistories k values
+  pub are : pieces ≡ listing k values end_line
+
+pub is_whole : (last : ListingEnd) → status.Ok ≡ status_of last → last ≡ ends.Whole
+is_whole ends.Whole e = refl
+is_whole (ends.NoBound at n) e = absurd (let bad : status.Ok ≡ status.NoBound at.period at.step n = e in cc)
+is_whole (ends.Unfinished at) e = absurd (let bad : status.Ok ≡ status.Unfinished at.period at.step = e in cc)
+
+pub whole_listing : (k : Task) (pieces : List Text) → IsListing k status.Ok pieces → IsWhole k pieces
+whole_listing k pieces l =
+    let whole = is_whole l.last l.status in
+    let S : ListingEnd → Type 0 = λ last. AllSteps k l.values last in
+    let P : ListingEnd → Type 0 = λ last. pieces ≡ listing k l.values (last_line k.model.grid last) in
+    record { values = l.values; steps = subst S whole l.steps; encloses = l.encloses whole; are = subst P whole l.are }

@@ -1,0 +1,140 @@
+// A walk over the steps of a task.
+ghost use Rattle.std.specs.Prelude.{◌≡◌, ◌+◌, ◌<◌, ◌∷◌, [], drop, get_or, length, IfOk, IfErr, IfSome, MatchOption};
+ghost use Rattle.listing_run.specs.Ends.{IsAtFirst, IsNext, IsNextText, IsTask, IsWalk, StopsAt, times_left, with_heads};
+ghost use Rattle.listing_run.specs.Settlers.{RestsOrSettles};
+
+use crate::listing_end::ListingEnd;
+use crate::solving::solve;
+use crate::stop::Stop;
+use crate::task::Task;
+use budget_bounds::Budget;
+use listing_io::write_step;
+use model_types::{Listed, TimeStep, times};
+use problem_builder::start_heads;
+use std::alloc::{AllocError, Global};
+use step_chain::RunTables;
+use step_problem::{Bound, Settler, ZoneFlow};
+
+/// A walk over the steps of a task: the tables that the steps share, the times, the number of steps that are done, and
+/// the heads of all cells after them, which are STRT before the first step.
+#[derive(Drop)]
+pub struct Steps {
+    tables: RunTables,
+    times: Listed<TimeStep>,
+    done: usize,
+    heads: Listed<Bound>,
+}
+
+/// A step but for its heads, which the walk has: its time, its budget, and its flows between zones.
+#[derive(Drop)]
+pub struct StepFlows {
+    pub at: TimeStep,
+    pub budget: Budget,
+    pub zones: Listed<ZoneFlow>,
+}
+
+impl Steps {
+    /// A walk before the first step of a task.
+    pub fn new(alloc: Global, task: &Task) -> Result<Steps, AllocError>
+        requires { IsTask task.now }
+        ensures walk { IfOk result (IsWalk task.now) }
+        ensures first { IfOk result (IsAtFirst task.now) }
+    {
+        let model = &task.model;
+        Ok(Steps {
+            tables: RunTables::new(alloc, model, task.digits)?,
+            times: Listed::new(times(alloc, model)?),
+            done: 0,
+            heads: Listed::new(start_heads(alloc, model)?),
+        })
+    }
+
+    /// The time of the next step. There is none after the last one.
+    pub fn time(&self) -> Option<TimeStep>
+        ensures left { MatchOption result (times_left self.now ≡ [])
+            (λ at. times_left self.now ≡ at ∷ drop (self.now.done + 1) self.now.times) }
+        ensures place { IfSome result (λ at. (self.now.done < length self.now.times) × (get_or self.now.times self.now.done at ≡ at)) }
+    {
+        self.times.as_slice().get(self.done).copied()
+    }
+
+    /// The heads of all cells after the last step that was solved.
+    pub fn heads(&self) -> &[Bound]
+        ensures { result.now ≡ self.now.heads }
+    {
+        self.heads.as_slice()
+    }
+
+    /// Solves the next step.
+    pub fn next<S: Settler>(
+        &mut self,
+        alloc: Global,
+        task: &Task,
+        settler: &mut S,
+    ) -> Result<StepFlows, Stop>
+        requires ready { S.ready settler.old }
+        requires rounds { S.rounds settler.old ≡ task.now.rounds }
+        requires task { IsTask task.now }
+        requires walk { IsWalk task.now self.old }
+        ensures ready { S.ready settler.new }
+        ensures rounds { S.rounds settler.new ≡ S.rounds settler.old }
+        ensures walk { IsWalk task.now self.new }
+        ensures next { IfOk result (λ flows. IsNext S.leads task.now self.old self.new settler.old settler.new (with_heads flows self.new.heads)) }
+        ensures stop { IfErr result (StopsAt task.now self.old.heads (times_left self.old)) }
+        ensures led { IfErr result (λ _. RestsOrSettles S.leads settler.old settler.new) }
+    {
+        let Some(at) = self.time() else {
+            return Err(Stop::End(ListingEnd::Whole));
+        };
+        match solve(
+            alloc,
+            task,
+            &mut self.tables,
+            at,
+            self.heads.as_slice(),
+            settler,
+        ) {
+            Ok(step) => {
+                self.heads = step.heads;
+                self.done += 1;
+                Ok(StepFlows {
+                    at: step.at,
+                    budget: step.budget,
+                    zones: step.zones,
+                })
+            }
+            Err(stop) => Err(stop),
+        }
+    }
+
+    /// Solves the next step, as its text.
+    pub fn next_text<S: Settler>(
+        &mut self,
+        alloc: Global,
+        task: &Task,
+        settler: &mut S,
+    ) -> Result<Vec<u8>, Stop>
+        requires ready { S.ready settler.old }
+        requires rounds { S.rounds settler.old ≡ task.now.rounds }
+        requires task { IsTask task.now }
+        requires walk { IsWalk task.now self.old }
+        ensures ready { S.ready settler.new }
+        ensures rounds { S.rounds settler.new ≡ S.rounds settler.old }
+        ensures walk { IsWalk task.now self.new }
+        ensures next { IfOk result (λ text. IsNextText S.leads task.now self.old self.new settler.old settler.new text.items) }
+        ensures stop { IfErr result (StopsAt task.now self.old.heads (times_left self.old)) }
+        ensures led { IfErr result (λ _. RestsOrSettles S.leads settler.old settler.new) }
+    {
+        let flows = self.next(alloc, task, settler)?;
+        let text = write_step(
+            alloc,
+            &task.model,
+            task.digits,
+            flows.at,
+            self.heads.as_slice(),
+            &flows.budget,
+            flows.zones.as_slice(),
+        )?;
+        Ok(text)
+    }
+}

@@ -1,0 +1,55 @@
+// The listing of a task as one text, made on one thread.
+ghost use Rattle.std.specs.Prelude.{◌≡◌, ◌++◌, IfOk};
+ghost use Rattle.listing_run.specs.Ends.{IsTask};
+ghost use Rattle.listing_run.specs.Listing.{IsPushed, last_line, status_of};
+
+use crate::listing_end::ListingEnd;
+use crate::steps::Steps;
+use crate::stop::Stop;
+use crate::task::Task;
+use listing_io::write_first;
+use run_puts::Status;
+use std::alloc::{AllocError, Global};
+use step_problem::Settler;
+
+// Adds the last line of a listing that ends so, and returns its status.
+fn push_end(
+    alloc: Global,
+    text: &mut Vec<u8>,
+    task: &Task,
+    end: ListingEnd,
+) -> Result<Status, AllocError>
+    requires { IsTask task.now }
+    ensures text { IfOk result (λ _. text.new.items ≡ text.old.items ++ last_line task.now.model.grid end) }
+    ensures status { IfOk result (λ status. status ≡ status_of end) }
+{
+    let line = end.line(alloc, &task.model.grid)?;
+    text.extend_from_slice(line.as_slice())?;
+    Ok(end.status())
+}
+
+/// Adds the listing of a task to a text, and returns the status that it has: Ok for a whole listing, NoBound or
+/// Unfinished where it ends at a step. No thread is started. The error is out of memory, and then the text is one that
+/// was begun.
+pub fn push_listing<S: Settler>(
+    alloc: Global,
+    text: &mut Vec<u8>,
+    task: &Task,
+    settler: &mut S,
+) -> Result<Status, AllocError>
+    requires ready { S.ready settler.old }
+    requires rounds { S.rounds settler.old ≡ task.now.rounds }
+    requires task { IsTask task.now }
+    ensures { IfOk result (λ end. IsPushed task.now end text.old.items text.new.items) }
+{
+    let mut steps = Steps::new(alloc, task)?;
+    let first = write_first(alloc, &task.model, task.digits)?;
+    text.extend_from_slice(first.as_slice())?;
+    loop {
+        match steps.next_text(alloc, task, settler) {
+            Ok(step) => text.extend_from_slice(step.as_slice())?,
+            Err(Stop::End(end)) => return push_end(alloc, text, task, end),
+            Err(Stop::Memory) => return Err(AllocError),
+        }
+    }
+}
