@@ -1,15 +1,13 @@
 -- The public clauses of a batch, from all that it comes to.
-use Rattle.std.proofs.Common.{◌≡◌, ℕ, List, [], ◌∷◌, ◌++◌, Option, Some, None, IfSome, IfOk, Result, Ok, Err, map, subst, sym, ◌∙◌, ap, refl, inl, inr, ◌⊎◌}
+use Rattle.std.proofs.Common.{◌≡◌, ℕ, List, [], ◌∷◌, ◌++◌, Some, IfOk, Result, Ok, Err, map, subst, sym, ◌∙◌, ap, refl, inl, inr, ◌⊎◌}
 use Rattle.std.specs.Prelude.{All}
 use Rattle.std.proofs.lemmas.List.Elements.{All-head, All-tail}
 use Rattle.std.specs.List.{AllZip, concat}
-use Rattle.std.specs.Io.KnownBytes.{Appends}
 use Rattle.outside.specs.Files.{File}
 use Rattle.outside.specs.Counts.{Rose}
 use Rattle.outside.specs.Puts.{Put, Seen, PutsMake, taken}
 use Rattle.outside.specs.declared.refusals.Refusal.{Refusal}
 use Rattle.model_types.specs.declared.model.FlowModel.{FlowModel}
-use Rattle.model_types.specs.Times.{times}
 use Rattle.model_types.specs.Valid.{IsModel}
 use Rattle.model_reader.specs.Model.{reads}
 use Rattle.run_puts.specs.Lines.{Text, end_line}
@@ -20,31 +18,25 @@ use Rattle.run_puts.specs.declared.status.Status.TheVariants as status
 use Rattle.run_puts.proofs.Pieces.{IsLate, tail_late, late_not_read}
 use Rattle.run_puts.proofs.Makes.{all_written, write_rose}
 use Rattle.listing_run.specs.declared.task.Task.{Task}
-use Rattle.listing_run.specs.declared.step.Step.{Step}
-use Rattle.listing_run.specs.Steps.{Whole, AllSteps, AllSettle}
-use Rattle.listing_run.specs.Listing.{listing, IsListing, IsWhole}
+use Rattle.listing_run.specs.Listing.{IsListing}
+use Rattle.listing_run.proofs.Wholes.{IsWhole, whole_listing}
 use Rattle.exact_histories.proofs.WholeRuns.{history_exists, history_is_one}
 use Rattle.batch_puts.specs.declared.job_end.JobEnd.{JobEnd}
-use Rattle.batch_puts.specs.Ended.{IsEnded, first_not_ok, or_else, texts}
-use Rattle.batch_puts.specs.Batches.{IsBatch}
+use Rattle.batch_puts.specs.Ended.{first_not_ok, or_else, texts}
 use Rattle.batch_puts.proofs.Batches.{batch_settles, batches_agree}
 use Rattle.engine.specs.declared.job.Job.{Job}
 use Rattle.engine.specs.Batched.{Batched, HasEnded, HasNoList, IsJobListing}
-use Rattle.engine.specs.Batches.{AskedBatch, BatchCase, BatchDefines, IsBatchCase, IsJobEnd, IsRunText, Jobs, NoList, batch_asked, batch_case, batch_case_of, job_case, job_of, job_task, model_line, names_read, task_read}
-use Rattle.engine.specs.BatchRuns.{AreValid, BatchAnswers, BatchComes, BatchDecided, BatchDue, HasBatch, HasJob, IsBatchRun, IsValidJob, defined, unread}
-use Rattle.engine.specs.Cases.{Case, Listing, Refuses}
-use Rattle.engine.specs.Defined.{Defines}
+use Rattle.engine.specs.Batches.{AskedBatch, BatchCase, BatchDefines, IsJobEnd, IsRunText, Jobs, NoList, batch_asked, batch_case, job_case, job_of, job_task, model_line, names_read, task_read}
+use Rattle.engine.specs.BatchRuns.{AreValid, BatchAnswers, BatchComes, BatchDecided, BatchDue, HasJob, IsBatchRun, IsValidJob, defined, unread}
 use Rattle.engine.specs.Parts.{IsStopped}
-use Rattle.engine.proofs.Certifying.{not_stopped}
+use Rattle.engine.proofs.Certifying.{IsFault, not_stopped, stopped_by_fault}
 use Rattle.engine.proofs.Ends.{late_stops}
 use Rattle.engine.proofs.Outcomes.{Laws, agree, goes_through, never_stopped, weighed}
 
 -- no job ends with a status that stops a run
 job_not_stopped : (read : Result Task Refusal) (before : Text) (e : JobEnd) → IsRunText (job_case read) before e → IsStopped e.status → ⊥
 job_not_stopped (Ok k) before e h stops = never_stopped k e.status h.pieces stops h.defined
-job_not_stopped (Err refusal) before e h (inl s) = let bad : status.Refused refusal ≡ status.ReadFault = sym h.defined.0 ∙ s in cc
-job_not_stopped (Err refusal) before e h (inr (inl s)) = let bad : status.Refused refusal ≡ status.WriteFault = sym h.defined.0 ∙ s in cc
-job_not_stopped (Err refusal) before e h (inr (inr s)) = let bad : status.Refused refusal ≡ status.Memory = sym h.defined.0 ∙ s in cc
+job_not_stopped (Err refusal) before e h stops = subst IsFault h.defined.0 (stopped_by_fault e.status stops)
 
 first_or_later : (first later : Status) → (or_else first later ≡ first) ⊎ (or_else first later ≡ later)
 first_or_later status.Ok later = inr refl
@@ -69,9 +61,7 @@ jobs_not_stopped (job ∷ jobs) [] h stops = absurd h
 jobs_not_stopped (job ∷ jobs) (e ∷ ends) (x, h) stops = neither_stopped e.status (first_not_ok ends) (or_else e.status (first_not_ok ends)) (first_or_later e.status (first_not_ok ends)) (job_not_stopped job.read (model_line job.name) e x) (jobs_not_stopped jobs ends h) stops
 
 defined_not_stopped : (case : BatchCase) (end : Status) (pieces : List Text) → BatchDefines case end pieces → IsStopped end → ⊥
-defined_not_stopped (NoList refusal) end pieces (is, p) (inl s) = let bad : status.Refused refusal ≡ status.ReadFault = sym is ∙ s in cc
-defined_not_stopped (NoList refusal) end pieces (is, p) (inr (inl s)) = let bad : status.Refused refusal ≡ status.WriteFault = sym is ∙ s in cc
-defined_not_stopped (NoList refusal) end pieces (is, p) (inr (inr s)) = let bad : status.Refused refusal ≡ status.Memory = sym is ∙ s in cc
+defined_not_stopped (NoList refusal) end pieces d stops = subst IsFault d.0 (stopped_by_fault end stops)
 defined_not_stopped (Jobs jobs) end pieces d stops = jobs_not_stopped jobs d.ends d.each (let P : Status → Type 0 = IsStopped in subst P d.ended.status_is stops)
 
 due_read : (read_failed : Type 0) (case : BatchCase) (end : Status) (pieces : List Text) → BatchDue read_failed case end pieces → end ≡ status.ReadFault → read_failed
@@ -107,7 +97,7 @@ module _ (laws : Laws) (b : AskedBatch) (files : List File) where
   -- the text of a job that ended Ok
   job_listing : (name : Text) (e : JobEnd) (r : Result FlowModel Refusal) → reads files name ≡ r → IfOk (task_read b r) (λ k. IsModel k.model) → IsRunText (job_case (task_read b r)) (model_line name) e → e.status ≡ status.Ok → IsJobListing b files name e.text.items
   job_listing name e (Err refusal) is valid h ok = absurd (let bad : status.Refused refusal ≡ status.Ok = sym h.defined.0 ∙ ok in cc)
-  job_listing name e (Ok m) is valid h ok = of_whole (let P : Status → Type 0 = λ s. IsListing (job_task b m) s h.pieces in subst P ok h.defined)
+  job_listing name e (Ok m) is valid h ok = of_whole (whole_listing (job_task b m) h.pieces (let P : Status → Type 0 = λ s. IsListing (job_task b m) s h.pieces in subst P ok h.defined))
     where
       of_whole : IsWhole (job_task b m) h.pieces → IsJobListing b files name e.text.items
       of_whole w = record {

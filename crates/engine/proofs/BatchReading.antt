@@ -1,6 +1,5 @@
 -- The jobs of a batch, name by name, and what the reading of its list gives.
-use Rattle.std.proofs.Common.{◌≡◌, ℕ, ◌+◌, ◌<◌, ◌≤◌, List, [], ◌∷◌, ◌++◌, map, length, take, get_or, Result, Ok, Err, Option, Some, None, IfOk, IfSome, subst, sym, ap, refl, ◌∙◌, arith}
-use Rattle.std.specs.Prelude.{All}
+use Rattle.std.proofs.Common.{◌≡◌, ℕ, ◌+◌, ◌<◌, ◌≤◌, List, [], ◌∷◌, ◌++◌, length, take, get_or, Result, Ok, Err, Option, Some, None, IfOk, IfSome, subst, sym, ap, refl, ◌∙◌}
 use Rattle.std.specs.declared.vec.Vec.{Vec}
 use Rattle.std.specs.declared.alloc.Global.{Global}
 use Rattle.std.proofs.lemmas.List.{map-append, take_more, take_all}
@@ -23,10 +22,10 @@ use Rattle.run_puts.specs.Lines.{Text}
 use Rattle.listing_run.specs.Ends.{IsTask}
 use Rattle.listing_run.specs.declared.task.Task.{Task}
 use Rattle.engine.specs.declared.job.Job.{Job}
-use Rattle.engine.specs.Batches.{AskedBatch, BatchCase, Jobs, NoList, IsBatchCase, IsSomeJob, batch_case, batch_case_of, job_of, job_task, names_at, names_read, task_read}
+use Rattle.engine.specs.Batches.{AskedBatch, IsSomeJob, job_of, names_at, task_read}
 use Rattle.engine.specs.Parts.{IsNamedFault}
 use Rattle.engine.proofs.Readings.{bad_named, good_named}
-use Rattle.engine.specs.BatchReads.{AreJobsRead, AreTasks, HasNames, IsBatchRead, IsFaultOf, IsJobRead, NeverRefused}
+use Rattle.engine.specs.BatchReads.{AreJobsRead, AreTasks, HasNames, IsJobRead}
 
 abbrev made_job : Text → Result Task Refusal → Job
 made_job name read = record { name = name; read = read }

@@ -1,14 +1,13 @@
 -- The public clauses of a run beside which a side sink is led.
-use Rattle.std.proofs.Common.{◌≡◌, ℕ, List, [], ◌∷◌, ◌++◌, map, Result, Ok, Err, Option, Some, None, IfSome, ap, sym, subst, refl, ◌∙◌, inl, inr, ◌⊎◌, option_and_then}
+use Rattle.std.proofs.Common.{◌≡◌, ℕ, List, [], ◌∷◌, ◌++◌, Option, Some, None, IfSome, ap, sym, subst, refl, ◌∙◌, inl, inr, ◌⊎◌, option_and_then}
 use Rattle.outside.specs.Counts.{Rose}
 use Rattle.outside.specs.Files.{File}
 use Rattle.outside.specs.Puts.{Put, PutsMake, Seen}
 use Rattle.outside.specs.declared.refusals.InputFault.{InputFault}
 use Rattle.outside.specs.declared.refusals.InputFault.TheVariants as input
 use Rattle.command_line.specs.Wants.{Batches, Checks, Lists, Makes, Wanted, wanted_of}
-use Rattle.model_types.specs.declared.model.FlowModel.{FlowModel}
 use Rattle.model_types.specs.Valid.{IsModel}
-use Rattle.run_puts.specs.Ends.{IsEnd, IsLast, IsWanting}
+use Rattle.run_puts.specs.Ends.{IsLast}
 use Rattle.run_puts.specs.Lines.{Text, read_fault_line}
 use Rattle.run_puts.specs.Runs.{Begins, IsRun, all_due, cut, early, nothing, whole}
 use Rattle.run_puts.specs.declared.status.Status.{Status}
@@ -21,12 +20,12 @@ use Rattle.engine.specs.declared.asked.Command.{Command as CommandBy}
 use Rattle.engine.specs.Batches.{AskedBatch}
 use Rattle.engine.specs.Commands.{views_of}
 use Rattle.engine.specs.BatchRuns.{BatchComes, BatchDecided}
-use Rattle.engine.specs.Cases.{Asked, AskedCheck, Case, Check, Command, IsCase, Listing, Make, Run, asked_in, built, case_of, task_of}
+use Rattle.engine.specs.Cases.{Asked, AskedCheck, Case, Check, Command, IsCase, Listing, Make, Run, asked_in, built}
 use Rattle.engine.specs.Certified.{Certified}
 use Rattle.engine.specs.Made.{Made}
-use Rattle.engine.specs.OneListing.{OneSummary, OneVerdict}
+use Rattle.engine.specs.OneListing.{OneVerdict}
 use Rattle.engine.specs.Parts.{Answers, AnswersBeside, IsReadingEnd}
-use Rattle.engine.specs.Runs.{Comes, Decided, IsLeft, IsRunOf}
+use Rattle.engine.specs.Runs.{Comes, Decided, IsLeft}
 use Rattle.engine.specs.Watched.{IsWatched, SidePuts, Watched, views_asked, views_in}
 use Rattle.engine.proofs.Outcomes.{Both, Laws, both, certified, complete, decided, made, put_rose, read_rose}
 

@@ -12,23 +12,46 @@ use Rattle.run_puts.specs.Lines.{Text}
 use Rattle.run_puts.specs.declared.status.Status.{Status}
 use Rattle.run_puts.specs.declared.status.Status.TheVariants as status
 use Rattle.run_puts.proofs.Makes.{all_written}
-use Rattle.listing_run.specs.Listing.{time}
 use Rattle.check_run.specs.declared.verdict.ListingVerdict.{ListingVerdict}
 use Rattle.check_run.specs.declared.verdict.ListingVerdict.TheVariants.{Certified as Holds, Fails, Refused as Unbounded}
 use Rattle.check_run.specs.Laws.{VerdictIsOne}
 use Rattle.check_run.specs.Verdicts.{IsVerdict}
 use Rattle.engine.specs.Cases.{Asked, AskedCheck, Case, Command, Run, Make, Check, NoWords, Refuses, Listing, Making, Checking, asked_in, case_asked, case_checked, case_listed, case_of, case_read, case_zoned, listing_read, made_model, named, task_of, zones_read}
 use Rattle.engine.specs.Certified.{Certified}
-use Rattle.engine.specs.Checked.{IsCheck, certified_line}
+use Rattle.engine.specs.Checked.{IsCheck, certified_line, verdict_line, verdict_status}
 use Rattle.engine.specs.Defined.{Defines}
 use Rattle.engine.specs.OneListing.{OneVerdict}
 use Rattle.engine.specs.Parts.{IsStopped, IsValid}
 use Rattle.engine.proofs.Readings.{named_read}
 
+-- a fault outside or lack of memory, which no words and files define
+abbrev pub IsFault : Status → Type 0
+IsFault status.ReadFault = Unit {0}
+IsFault status.WriteFault = Unit {0}
+IsFault status.Memory = Unit {0}
+IsFault other = ⊥
+
+pub stopped_by_fault : (end : Status) → IsStopped end → IsFault end
+stopped_by_fault end (inl e) = subst IsFault (sym e) tt
+stopped_by_fault end (inr (inl e)) = subst IsFault (sym e) tt
+stopped_by_fault end (inr (inr e)) = subst IsFault (sym e) tt
+
 pub not_stopped : IsStopped status.Ok → ⊥
-not_stopped (inl e) = let bad : status.Ok ≡ status.ReadFault = e in cc
-not_stopped (inr (inl e)) = let bad : status.Ok ≡ status.WriteFault = e in cc
-not_stopped (inr (inr e)) = let bad : status.Ok ≡ status.Memory = e in cc
+not_stopped stops = stopped_by_fault status.Ok stops
+
+-- a check whose status is Ok has certified the listing
+is_certified : (v : ListingVerdict) → status.Ok ≡ verdict_status v → v ≡ Holds
+is_certified Holds e = refl
+is_certified (Fails at place) e = absurd (let bad : status.Ok ≡ status.NotCertified at.period at.step place = e in cc)
+is_certified (Unbounded at n) e = absurd (let bad : status.Ok ≡ status.NoBound at.period at.step n = e in cc)
+
+verdict_is_no_fault : (v : ListingVerdict) → IsFault (verdict_status v) → ⊥
+verdict_is_no_fault Holds h = h
+verdict_is_no_fault (Fails at place) h = h
+verdict_is_no_fault (Unbounded at n) h = h
+
+pub check_is_no_fault : (m : FlowModel) (s : ℕ) (steps : List ListedStep) (end : Status) (pieces : List Text) → IsCheck m s steps end pieces → IsFault end → ⊥
+check_is_no_fault m s steps end pieces c h = verdict_is_no_fault c.verdict (subst IsFault c.status h)
 
 module _ (words : List Text) (files : List File) (old new : Seen) (puts : List Put) (pieces : List Text) (asked : AskedCheck) (wanted : asked_in words ≡ Some (Check asked)) (written : puts ≡ map taken pieces) (makes : PutsMake old puts new) where
   abbrev Tells : Type 0
@@ -36,7 +59,11 @@ module _ (words : List Text) (files : List File) (old new : Seen) (puts : List P
 
   tells : (f : FlowModel) (steps : List ListedStep) → IsModel f → named asked.name (reads files) ≡ Ok f → listing_read files asked f ≡ Ok steps → Defines (Checking f asked.digits steps) status.Ok pieces → Tells
   tells f steps model read listed d =
-      let is = named_read asked.name (reads files) f read in (
+      let is = named_read asked.name (reads files) f read in
+      let holds = is_certified d.verdict d.status in
+      let L : ListingVerdict → Type 0 = λ v. pieces ≡ verdict_line f.grid v ∷ [] in
+      let V : ListingVerdict → Type 0 = λ v. IsVerdict f asked.digits steps v in
+      let history = d.history holds in (
         record {
           asked = asked;
           wanted = wanted;
@@ -45,12 +72,12 @@ module _ (words : List Text) (files : List File) (old new : Seen) (puts : List P
           valid = model;
           steps = steps;
           listed = listed;
-          written = all_written (certified_line ∷ []) old new puts (written ∙ ap (map taken) d.are) makes;
-          encloses = d.encloses;
-          solvable = d.history.solvable;
-          one = d.history.one;
+          written = all_written (certified_line ∷ []) old new puts (written ∙ ap (map taken) (subst L holds d.are)) makes;
+          encloses = d.encloses holds;
+          solvable = history.solvable;
+          one = history.one;
         },
-        record { asked = asked; wanted = wanted; model = f; read = is; valid = model; steps = steps; listed = listed; verdict = d.verdict },
+        record { asked = asked; wanted = wanted; model = f; read = is; valid = model; steps = steps; listed = listed; verdict = subst V holds d.is },
       )
 
   of_steps : (f : FlowModel) → named asked.name (reads files) ≡ Ok f → (r : Result (List ListedStep) Refusal) → listing_read files asked f ≡ r → IsValid (case_listed asked f r) status.Ok → Defines (case_listed asked f r) status.Ok pieces → Tells
@@ -97,45 +124,16 @@ module _ (words : List Text) (files : List File) (m : FlowModel) (s : ℕ) (step
   asks_check e = check_by_words (asked_in words) refl e
 
 -- A check has one end.
-
-abbrev status_by : ListingVerdict → Status
-status_by Holds = status.Ok
-status_by (Fails at place) = status.NotCertified at.period at.step place
-status_by (Unbounded at n) = status.NoBound at.period at.step n
-
 module _ (m : FlowModel) (s : ℕ) (steps : List ListedStep) where
-  record IsBy (end : Status) : Type 0 where
-    verdict : ListingVerdict
-    is : IsVerdict m s steps verdict
-    end_is : end ≡ status_by verdict
-
-  end_by : (end : Status) (q : List Text) → IsCheck m s steps end q → IsBy end
-  end_by status.Ok q h = record { verdict = Holds; is = h.verdict; end_is = refl }
-  end_by (status.NotCertified period step place) q h = record { verdict = Fails (time period step) place; is = h.0; end_is = refl }
-  end_by (status.NoBound period step n) q h = record { verdict = Unbounded (time period step) n; is = h.0; end_is = refl }
-  end_by status.Usage q h = absurd h
-  end_by (status.Refused refusal) q h = absurd h
-  end_by (status.Unfinished period step) q h = absurd h
-  end_by status.ReadFault q h = absurd h
-  end_by status.WriteFault q h = absurd h
-  end_by status.Memory q h = absurd h
-
   pub one_end : VerdictIsOne → IsModel m → AreListed m steps → (meant end : Status) (p q : List Text) → IsCheck m s steps meant p → IsCheck m s steps end q → end ≡ meant
-  one_end law model listed meant end p q x y =
-      let a = end_by meant p x in
-      let b = end_by end q y in
-      b.end_is ∙ ap status_by (law m s steps b.verdict a.verdict model listed b.is a.is) ∙ sym a.end_is
+  one_end law model listed meant end p q x y = y.status ∙ ap verdict_status (law m s steps y.verdict x.verdict model listed y.is x.is) ∙ sym x.status
 
   pub never_stopped_check : (end : Status) (q : List Text) → IsStopped end → IsCheck m s steps end q → ⊥
-  never_stopped_check end q (inl e) y = let P : Status → Type 0 = λ t. IsCheck m s steps t q in subst P e y
-  never_stopped_check end q (inr (inl e)) y = let P : Status → Type 0 = λ t. IsCheck m s steps t q in subst P e y
-  never_stopped_check end q (inr (inr e)) y = let P : Status → Type 0 = λ t. IsCheck m s steps t q in subst P e y
+  never_stopped_check end q stops y = check_is_no_fault m s steps end q y (stopped_by_fault end stops)
 
   -- where the verdict is that the listing is certified, no other end comes
   pub certifies : VerdictIsOne → IsVerdict m s steps Holds → (fault : Type 0) (end : Status) → (IsModel m × AreListed m steps) ⊎ IsStopped end → fault ⊎ ((end ≡ status.Memory) ⊎ ((q : List Text) × IsCheck m s steps end q)) → fault ⊎ ((end ≡ status.Ok) ⊎ (end ≡ status.Memory))
   certifies law verdict fault end valid (inl f) = inl f
   certifies law verdict fault end valid (inr (inl e)) = inr (inr e)
-  certifies law verdict fault end (inl (model, listed)) (inr (inr (q, y))) =
-      let b = end_by end q y in
-      inr (inl (b.end_is ∙ ap status_by (law m s steps b.verdict Holds model listed b.is verdict)))
+  certifies law verdict fault end (inl (model, listed)) (inr (inr (q, y))) = inr (inl (y.status ∙ ap verdict_status (law m s steps y.verdict Holds model listed y.is verdict)))
   certifies law verdict fault end (inr stops) (inr (inr (q, y))) = absurd (never_stopped_check end q stops y)

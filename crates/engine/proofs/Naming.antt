@@ -8,7 +8,7 @@ use Rattle.command_line.specs.Wants.{Wanted, Lists, Checks, Makes, Batches, want
 use Rattle.run_puts.specs.Lines.{Text}
 use Rattle.engine.specs.Asking.{files_of, files_if, files_named}
 use Rattle.engine.specs.Batches.{AskedBatch, batch_of, batch_asked}
-use Rattle.engine.specs.Cases.{Asked, AskedCheck, Command, Run, Make, Check, built, asked_in}
+use Rattle.engine.specs.Cases.{Asked, AskedCheck, Run, Check, built, asked_in}
 
 module _ (may : List ℕ → Type 0) where
   abbrev May : List ℕ → Type 0

@@ -1,5 +1,5 @@
 -- The public clauses, from all that a run comes to.
-use Rattle.std.proofs.Common.{◌≡◌, ℕ, List, [], ◌∷◌, ◌++◌, Option, Some, None, IfSome, Result, Ok, Err, map, subst, sym, ◌∙◌, ap, refl, inl, inr, ◌⊎◌, codes}
+use Rattle.std.proofs.Common.{◌≡◌, ℕ, List, [], ◌∷◌, Option, Some, None, IfSome, Result, Ok, Err, map, subst, sym, ◌∙◌, ap, refl, inl, inr, ◌⊎◌, codes}
 use Rattle.std.proofs.lemmas.List.{append-nil}
 use Rattle.std.specs.Io.KnownBytes.{Appends}
 use Rattle.outside.specs.Files.{File}
@@ -23,23 +23,25 @@ use Rattle.run_puts.proofs.Pieces.{IsLate, tail_late, late_not_ok, late_not_read
 use Rattle.run_puts.proofs.Makes.{all_written, write_rose}
 use Rattle.listing_run.specs.declared.task.Task.{Task}
 use Rattle.listing_run.specs.declared.step.Step.{Step}
-use Rattle.listing_run.specs.Steps.{WithoutBound, Open, AllSteps}
-use Rattle.listing_run.specs.Listing.{listing, time, IsListing, IsWhole}
+use Rattle.listing_run.specs.declared.listing_end.ListingEnd.{ListingEnd}
+use Rattle.listing_run.specs.declared.listing_end.ListingEnd.TheVariants as ends
+use Rattle.listing_run.specs.Steps.{AllSteps}
+use Rattle.listing_run.specs.Listing.{listing, status_of, IsListing}
 use Rattle.listing_run.specs.Laws.{ListingIsOne, ListingExcludesRefusal, RefusalIsOne}
-use Rattle.listing_summary.specs.declared.summary.Summary.{Summary}
+use Rattle.listing_run.proofs.Wholes.{IsWhole, is_whole, whole_listing}
+use Rattle.listing_summary.specs.Summaries.{summary_of}
 use Rattle.listing_summary.specs.Texts.{summary_text}
 use Rattle.exact_histories.proofs.WholeRuns.{history_exists, history_is_one}
 use Rattle.check_run.specs.Laws.{VerdictIsOne}
 use Rattle.engine.specs.Cases.{Asked, AskedCheck, Case, Command, Run, Make, Check, NoWords, Refuses, Listing, Making, Checking, IsCase, asked_in, case_asked, case_of, case_read, case_zoned, listing_read, made_model, named, task_of, zones_named, zones_read}
 use Rattle.engine.specs.Certified.{Certified}
-use Rattle.engine.specs.Checked.{IsCheck}
 use Rattle.engine.specs.Defined.{CutOf, Defines, Due, defined, unread}
 use Rattle.engine.specs.Headline.{Headline}
-use Rattle.engine.specs.Made.{IsSummed, Made, made_task}
+use Rattle.engine.specs.Made.{IsSummed, Made, made_task, summed_text}
 use Rattle.engine.specs.OneListing.{OneListing, OneSummary, OneVerdict}
 use Rattle.engine.specs.Runs.{Decided, Comes, HasCertified, HasListing, HasTask, IsRunOf}
 use Rattle.engine.specs.Parts.{Answers, IsStopped, IsValid}
-use Rattle.engine.proofs.Certifying.{asks_check, certifies, checked_case, never_stopped_check, not_stopped, of_check, one_end}
+use Rattle.engine.proofs.Certifying.{IsFault, asks_check, certifies, check_is_no_fault, checked_case, never_stopped_check, not_stopped, of_check, one_end, stopped_by_fault}
 use Rattle.engine.proofs.Readings.{named_read}
 
 -- the laws of listings and of verdicts
@@ -148,19 +150,6 @@ module _ (words : List Text) (files : List File) (seed size : ℕ) (read : Resul
   summed : case_of words files ≡ Making seed size read → Summed words seed size read
   summed e = made_by_words (asked_in words) refl e
 
--- a summary is one of a whole listing, and what else is put of a made model is the last line of a listing
-module _ (seed size : ℕ) (k : Task) where
-  listing_of : (end : Status) (p : List Text) → IsSummed seed size k end p → (q : List Text) × IsListing k end q
-  listing_of status.Ok p (s, h, e) = (listing k h.values end_line, record { values = h.values; steps = h.steps; encloses = h.encloses; are = refl })
-  listing_of (status.NoBound period step fault) p (before, line, h, e) = (before ++ (line ∷ []), h)
-  listing_of (status.Unfinished period step) p (before, line, h, e) = (before ++ (line ∷ []), h)
-  listing_of status.Usage p (before, line, h, e) = (before ++ (line ∷ []), h)
-  listing_of (status.Refused refusal) p (before, line, h, e) = (before ++ (line ∷ []), h)
-  listing_of status.ReadFault p (before, line, h, e) = (before ++ (line ∷ []), h)
-  listing_of status.WriteFault p (before, line, h, e) = (before ++ (line ∷ []), h)
-  listing_of status.Memory p (before, line, h, e) = (before ++ (line ∷ []), h)
-  listing_of (status.NotCertified period step place) p (before, line, h, e) = (before ++ (line ∷ []), h)
-
 -- the headline of a listing, of a made model or of a check, and what is promised beside
 abbrev pub Both : List Text → List File → Seen → Seen → Type 0
 Both words files old new = (Headline words files old.written new.written × OneListing words files old.written new.written) ⊎ ((Made words old.written new.written × OneSummary words old.written new.written) ⊎ (Certified words files old.written new.written × OneVerdict words files))
@@ -206,10 +195,16 @@ module _ (laws : Laws) where
 
   -- of a made model
   of_summed : (words : List Text) (old new : Seen) (puts : List Put) (seed size : ℕ) (m : FlowModel) (pieces : List Text) → Summed words seed size (Ok m) → IsModel m → IsSummed seed size (made_task m) status.Ok pieces → puts ≡ map taken pieces → PutsMake old puts new → Made words old.written new.written × OneSummary words old.written new.written
-  of_summed words old new puts seed size m pieces l model (s, h, e) written makes =
+  of_summed words old new puts seed size m pieces l model x written makes =
+      let k = made_task m in
+      let whole = is_whole x.listed.last x.listed.status in
+      let values = x.listed.values in
+      let S : ListingEnd → Type 0 = λ last. AllSteps k values last in
+      let steps : AllSteps k values ends.Whole = subst S whole x.listed.steps in
+      let T : ListingEnd → Type 0 = λ last. pieces ≡ summed_text seed size m.grid (summary_of m values) last ∷ [] in
+      let is : pieces ≡ summary_text seed size (summary_of m values) ∷ [] = subst T whole x.are in
       let P : List ℕ → Type 0 = λ t. Appends old.written new.written t in
-      let Q : Summary → Type 0 = λ x. Appends old.written new.written (summary_text seed size x) in
-      let all = subst Q h.is (subst P (append-nil (summary_text seed size s)) (all_written (summary_text seed size s ∷ []) old new puts (written ∙ ap (map taken) e) makes)) in
+      let all = subst P (append-nil (summary_text seed size (summary_of m values))) (all_written (summary_text seed size (summary_of m values) ∷ []) old new puts (written ∙ ap (map taken) is) makes) in
       let read = named_read made_name (reads (made_files seed size)) m l.is in (
         record {
           seed = seed;
@@ -218,11 +213,11 @@ module _ (laws : Laws) where
           model = m;
           read = read;
           valid = model;
-          values = h.values;
+          values = values;
           written = all;
-          encloses = h.encloses;
-          solvable = history_exists (made_task m) h.values model h.steps;
-          one = history_is_one (made_task m) h.values model h.steps;
+          encloses = x.listed.encloses whole;
+          solvable = history_exists k values model steps;
+          one = history_is_one k values model steps;
         },
         record {
           seed = seed;
@@ -231,9 +226,9 @@ module _ (laws : Laws) where
           model = m;
           read = read;
           valid = model;
-          values = h.values;
-          steps = h.steps;
-          only = λ others steps. laws.one (made_task m) h.values others model h.steps steps;
+          values = values;
+          steps = steps;
+          only = λ others also. laws.one k values others model steps also;
           written = all;
         },
       )
@@ -246,7 +241,7 @@ module _ (laws : Laws) where
   by_case : (words : List Text) (files : List File) (old new : Seen) (puts : List Put) (end : Status) (case : Case) → case ≡ case_of words files → IsValid case end → end ≡ status.Ok → Delivers case puts → PutsMake old puts new → Both words files old new
   by_case words files old new puts end NoWords is valid e d makes = absurd (let bad : status.Ok ≡ status.Usage = d.defines.0 in cc)
   by_case words files old new puts end (Refuses refusal) is valid e d makes = absurd (let bad : status.Ok ≡ status.Refused refusal = d.defines.0 in cc)
-  by_case words files old new puts end (Listing k) is valid e d makes = inl (of_listing words files old new puts d.pieces k (listed words files k (sym is)) (valid_ok k end valid e) d.defines d.written makes)
+  by_case words files old new puts end (Listing k) is valid e d makes = inl (of_listing words files old new puts d.pieces k (listed words files k (sym is)) (valid_ok k end valid e) (whole_listing k d.pieces d.defines) d.written makes)
   by_case words files old new puts end (Making seed size read) is valid e d makes = inr (inl (summed_ok words old new puts end seed size read (summed words files seed size read (sym is)) valid e d makes))
   by_case words files old new puts end (Checking m s steps) is valid e d makes =
       let a = asks_check words files m s steps (sym is) in
@@ -291,13 +286,25 @@ certified words (Some fs) n m end puts old new a makes e asked wanted =
     of_check words fs old new puts d.pieces asked wanted d.written makes (subst V a.is (subst E e a.valid)) (subst D a.is d.defines)
 certified words None n m end puts old new a makes e asked wanted = tt
 
+-- no case defines the end of a fault outside or of lack of memory
+last_is_no_fault : (last : ListingEnd) → IsFault (status_of last) → ⊥
+last_is_no_fault ends.Whole h = h
+last_is_no_fault (ends.NoBound at n) h = h
+last_is_no_fault (ends.Unfinished at) h = h
+
+listing_is_no_fault : (k : Task) (end : Status) (pieces : List Text) → IsListing k end pieces → IsFault end → ⊥
+listing_is_no_fault k end pieces l h = last_is_no_fault l.last (subst IsFault l.status h)
+
+defines_no_fault : (case : Case) (end : Status) (pieces : List Text) → Defines case end pieces → IsFault end → ⊥
+defines_no_fault NoWords end pieces d h = subst IsFault d.0 h
+defines_no_fault (Refuses refusal) end pieces d h = subst IsFault d.0 h
+defines_no_fault (Listing k) end pieces d h = listing_is_no_fault k end pieces d h
+defines_no_fault (Making seed size (Ok m)) end pieces d h = listing_is_no_fault (made_task m) end d.all d.listed h
+defines_no_fault (Making seed size (Err refusal)) end pieces d h = subst IsFault d.0 h
+defines_no_fault (Checking m s steps) end pieces d h = check_is_no_fault m s steps end pieces d h
+
 due_read : (read_failed : Type 0) (case : Case) (end : Status) (pieces : List Text) → Due read_failed case end pieces → end ≡ status.ReadFault → read_failed
-due_read read_failed NoWords end pieces (defined meant all (is, p)) e = absurd (let bad : status.Usage ≡ status.ReadFault = sym is ∙ e in cc)
-due_read read_failed (Refuses refusal) end pieces (defined meant all (is, p)) e = absurd (let bad : status.Refused refusal ≡ status.ReadFault = sym is ∙ e in cc)
-due_read read_failed (Listing k) end pieces (defined meant all d) e = absurd (let P : Status → Type 0 = λ s. IsListing k s pieces in subst P e d)
-due_read read_failed (Making seed size (Ok m)) end pieces (defined meant all d) e = absurd (let P : Status → Type 0 = λ s. IsListing (made_task m) s (listing_of seed size (made_task m) end pieces d).0 in subst P e (listing_of seed size (made_task m) end pieces d).1)
-due_read read_failed (Making seed size (Err refusal)) end pieces (defined meant all (is, p)) e = absurd (let bad : status.Refused refusal ≡ status.ReadFault = sym is ∙ e in cc)
-due_read read_failed (Checking m s steps) end pieces (defined meant all d) e = absurd (let P : Status → Type 0 = λ t. IsCheck m s steps t pieces in subst P e d)
+due_read read_failed case end pieces (defined meant all d) e = absurd (defines_no_fault case end pieces d (subst IsFault (sym e) tt))
 due_read read_failed case end pieces (unread failed worded) e = failed
 
 pub read_rose : (read_failed : Type 0) (case : Case) (end : Status) (puts : List Put) → IsRunOf read_failed case end puts → end ≡ status.ReadFault → read_failed
@@ -305,64 +312,43 @@ read_rose read_failed case end puts (whole meant pieces due) e = due_read read_f
 read_rose read_failed case end puts (early meant before after tail b t) e = absurd (late_not_read end (tail_late after end tail t) e)
 
 due_write : (read_failed : Type 0) (case : Case) (end : Status) (pieces : List Text) → Due read_failed case end pieces → end ≡ status.WriteFault → ⊥
-due_write read_failed NoWords end pieces (defined meant all (is, p)) e = let bad : status.Usage ≡ status.WriteFault = sym is ∙ e in cc
-due_write read_failed (Refuses refusal) end pieces (defined meant all (is, p)) e = let bad : status.Refused refusal ≡ status.WriteFault = sym is ∙ e in cc
-due_write read_failed (Listing k) end pieces (defined meant all d) e = let P : Status → Type 0 = λ s. IsListing k s pieces in subst P e d
-due_write read_failed (Making seed size (Ok m)) end pieces (defined meant all d) e = let P : Status → Type 0 = λ s. IsListing (made_task m) s (listing_of seed size (made_task m) end pieces d).0 in subst P e (listing_of seed size (made_task m) end pieces d).1
-due_write read_failed (Making seed size (Err refusal)) end pieces (defined meant all (is, p)) e = let bad : status.Refused refusal ≡ status.WriteFault = sym is ∙ e in cc
-due_write read_failed (Checking m s steps) end pieces (defined meant all d) e = let P : Status → Type 0 = λ t. IsCheck m s steps t pieces in subst P e d
+due_write read_failed case end pieces (defined meant all d) e = defines_no_fault case end pieces d (subst IsFault (sym e) tt)
 due_write read_failed case end pieces (unread failed worded) e = let bad : status.ReadFault ≡ status.WriteFault = e in cc
 
 pub put_rose : (read_failed : Type 0) (case : Case) (end : Status) (puts : List Put) (old new : Seen) → IsRunOf read_failed case end puts → end ≡ status.WriteFault → PutsMake old puts new → Rose old.faults new.faults
 put_rose read_failed case = write_rose (Due read_failed case) (CutOf case) (λ pieces due. due_write read_failed case status.WriteFault pieces due refl)
 
-same_refusal : (p q i j : ℕ) (a b : NoBound) → (time p i ≡ time q j) × (a ≡ b) → status.NoBound q j b ≡ status.NoBound p i a
-same_refusal p q i j a b (at, is) =
-    let periods : q ≡ p = sym (ap (λ t. t.period) at) in
-    let steps : j ≡ i = sym (ap (λ t. t.step) at) in
-    rw (periods, steps, sym is) refl
+same_refusal : (s t : TimeStep) (a b : NoBound) → s ≡ t → a ≡ b → status.NoBound t.period t.step b ≡ status.NoBound s.period s.step a
+same_refusal s t a b at is = sym (ap (λ (x : TimeStep). status.NoBound x.period x.step a) at ∙ ap (λ n. status.NoBound t.period t.step n) is)
 
 module _ (laws : Laws) (k : Task) (valid : IsModel k.model) where
+  ends_agree : (meant end : ListingEnd) (values others : List Step) → AllSteps k values meant → AllSteps k others end → Agree (status_of meant) (status_of end)
+  ends_agree ends.Whole ends.Whole values others x y = inr (inl refl)
+  ends_agree ends.Whole (ends.NoBound at n) values others x y = absurd (laws.bound k values others at n valid x y)
+  ends_agree (ends.NoBound at n) ends.Whole values others x y = absurd (laws.bound k others values at n valid y x)
+  ends_agree (ends.NoBound at n) (ends.NoBound t m) values others x y = let one = laws.refusal k values others at t n m valid x y in inr (inl (same_refusal at t n m one.0 one.1))
+  ends_agree (ends.Unfinished at) end values others x y = inl tt
+  ends_agree meant (ends.Unfinished at) values others x y = inr (inr tt)
+
   pub agree : (meant end : Status) (p q : List Text) → IsListing k meant p → IsListing k end q → Agree meant end
-  agree status.Ok status.Ok p q x y = inr (inl refl)
-  agree status.Ok (status.NoBound period step fault) p q x y = absurd (laws.bound k x.values y.values (time period step) fault valid x.steps y.steps)
-  agree (status.NoBound period step fault) status.Ok p q x y = absurd (laws.bound k y.values x.values (time period step) fault valid y.steps x.steps)
-  agree (status.NoBound period step fault) (status.NoBound other also refusal) p q x y =
-      let one = laws.refusal k x.values y.values (time period step) (time other also) fault refusal valid x.steps y.steps in
-      inr (inl (same_refusal period other step also fault refusal (one.0, one.1)))
-  agree (status.Unfinished period step) end p q x y = inl tt
-  agree meant (status.Unfinished period step) p q x y = inr (inr tt)
-  agree status.Usage end p q x y = absurd x
-  agree (status.Refused refusal) end p q x y = absurd x
-  agree status.ReadFault end p q x y = absurd x
-  agree status.WriteFault end p q x y = absurd x
-  agree status.Memory end p q x y = absurd x
-  agree (status.NotCertified period step place) end p q x y = absurd x
-  agree meant status.Usage p q x y = absurd y
-  agree meant (status.Refused refusal) p q x y = absurd y
-  agree meant status.ReadFault p q x y = absurd y
-  agree meant status.WriteFault p q x y = absurd y
-  agree meant status.Memory p q x y = absurd y
-  agree meant (status.NotCertified period step place) p q x y = absurd y
+  agree meant end p q x y =
+      let P : Status → Type 0 = λ s. Agree s end in
+      let Q : Status → Type 0 = λ s. Agree (status_of x.last) s in
+      subst P (sym x.status) (subst Q (sym y.status) (ends_agree x.last y.last x.values y.values x.steps y.steps))
 
 -- where no step has a refusal, and the rounds leave none open, no other end comes
-module _ (k : Task) (no_refusal : (before : List Step) (at : TimeStep) (n : NoBound) → AllSteps k before (WithoutBound at n) → ⊥)
-    (none_open : (before : List Step) (at : TimeStep) → AllSteps k before (Open at) → ⊥) where
+module _ (k : Task) (no_refusal : (before : List Step) (at : TimeStep) (n : NoBound) → AllSteps k before (ends.NoBound at n) → ⊥)
+    (none_open : (before : List Step) (at : TimeStep) → AllSteps k before (ends.Unfinished at) → ⊥) where
+  all_done : (last : ListingEnd) (values : List Step) → AllSteps k values last → status_of last ≡ status.Ok
+  all_done ends.Whole values x = refl
+  all_done (ends.NoBound at n) values x = absurd (no_refusal values at n x)
+  all_done (ends.Unfinished at) values x = absurd (none_open values at x)
+
   pub goes_through : (end : Status) (q : List Text) → IsListing k end q → end ≡ status.Ok
-  goes_through status.Ok q y = refl
-  goes_through (status.NoBound period step fault) q y = absurd (no_refusal y.values (time period step) fault y.steps)
-  goes_through (status.Unfinished period step) q y = absurd (none_open y.values (time period step) y.steps)
-  goes_through status.Usage q y = absurd y
-  goes_through (status.Refused refusal) q y = absurd y
-  goes_through status.ReadFault q y = absurd y
-  goes_through status.WriteFault q y = absurd y
-  goes_through status.Memory q y = absurd y
-  goes_through (status.NotCertified period step place) q y = absurd y
+  goes_through end q y = y.status ∙ all_done y.last y.values y.steps
 
 pub never_stopped : (k : Task) (end : Status) (q : List Text) → IsStopped end → IsListing k end q → ⊥
-never_stopped k end q (inl e) y = let P : Status → Type 0 = λ s. IsListing k s q in subst P e y
-never_stopped k end q (inr (inl e)) y = let P : Status → Type 0 = λ s. IsListing k s q in subst P e y
-never_stopped k end q (inr (inr e)) y = let P : Status → Type 0 = λ s. IsListing k s q in subst P e y
+never_stopped k end q stops y = listing_is_no_fault k end q y (stopped_by_fault end stops)
 
 -- how a run ended: after a fault outside, because memory ran out, or as its case defines
 abbrev Ended : Type 0 → Case → Status → Type 0
@@ -386,11 +372,8 @@ decides laws (Refuses refusal) meant end p q valid (x, a) (y, b) = inr (inl (y �
 decides laws (Listing k) meant end p q (inl valid) x y = agree laws k valid meant end p q x y
 decides laws (Listing k) meant end p q (inr stops) x y = absurd (never_stopped k end q stops y)
 decides laws (Making seed size (Err refusal)) meant end p q valid (x, a) (y, b) = inr (inl (y ∙ sym x))
-decides laws (Making seed size (Ok m)) meant end p q (inl valid) x y =
-    let v = listing_of seed size (made_task m) meant p x in
-    let w = listing_of seed size (made_task m) end q y in
-    agree laws (made_task m) valid meant end v.0 w.0 v.1 w.1
-decides laws (Making seed size (Ok m)) meant end p q (inr stops) x y = let w = listing_of seed size (made_task m) end q y in absurd (never_stopped (made_task m) end w.0 stops w.1)
+decides laws (Making seed size (Ok m)) meant end p q (inl valid) x y = agree laws (made_task m) valid meant end x.all y.all x.listed y.listed
+decides laws (Making seed size (Ok m)) meant end p q (inr stops) x y = absurd (never_stopped (made_task m) end y.all stops y.listed)
 decides laws (Checking m s steps) meant end p q (inl (model, listed)) x y = inr (inl (one_end m s steps laws.verdict model listed meant end p q x y))
 decides laws (Checking m s steps) meant end p q (inr stops) x y = absurd (never_stopped_check m s steps end q stops y)
 
@@ -424,7 +407,7 @@ ends_of k (Listing j) end has =
     subst P has (λ q y. (q, y))
 ends_of k (Making seed size (Ok m)) end has =
     let P : Task → Type 0 = λ t. AreEndsOf t end (Making seed size (Ok m)) in
-    subst P has (λ q y. listing_of seed size (made_task m) end q y)
+    subst P has (λ q y. (y.all, y.listed))
 
 -- of ends that are all Ok, a run's is Ok, unless there was a fault outside or memory ran out before
 comes_by : (fault : Type 0) (case : Case) (end : Status) → ((q : List Text) → Defines case end q → end ≡ status.Ok) → Ended fault case end → fault ⊎ ((end ≡ status.Ok) ⊎ (end ≡ status.Memory))
@@ -442,8 +425,8 @@ module _ (laws : Laws) (words : List Text) (files : List File) (n m : ℕ) (end 
   complete_by : HasListing words files ⊎ HasCertified words files → Fault ⊎ ((end ≡ status.Ok) ⊎ (end ≡ status.Memory))
   complete_by (inl l) =
       let P : Case → Type 0 = λ case. HasTask case l.task in
-      let ends = ends_of l.task a.case end (subst P (sym a.is) l.is) in
-      comes_by Fault a.case end (λ q y. let p = ends q y in goes_through l.task l.no_refusal l.none_open end p.0 p.1) ends_here
+      let listed_end = ends_of l.task a.case end (subst P (sym a.is) l.is) in
+      comes_by Fault a.case end (λ q y. let p = listed_end q y in goes_through l.task l.no_refusal l.none_open end p.0 p.1) ends_here
   complete_by (inr l) =
       let V : Case → Type 0 = λ case. IsValid case end in
       let E : Case → Type 0 = λ case. Ended Fault case end in

@@ -1,5 +1,5 @@
 -- What a viewer that puts to a sink put in a run.
-use Rattle.std.proofs.Common.{◌≡◌, ◌∙◌, ℕ, List, [], Bool, true, Option, None, Some, ap, refl}
+use Rattle.std.proofs.Common.{◌≡◌, ◌∙◌, ℕ, List, [], true, Option, None, Some, ap, refl}
 use Rattle.std.specs.Prelude.{is_some}
 use Rattle.outside.specs.Counts.{Rose}
 use Rattle.outside.specs.Puts.{Put, PutsMake, Seen}
@@ -8,7 +8,7 @@ use Rattle.outside.specs.declared.traits.SinkError.TheVariants.{Write}
 use Rattle.step_problem.specs.declared.heads.Bound.{Bound}
 use Rattle.step_problem.specs.Entries.{Entries}
 use Rattle.step_problem.specs.Heads.{Edges}
-use Rattle.settle_driver.specs.Views.{AddsPhases, EnclosesPair}
+use Rattle.settle_driver.specs.Views.{EnclosesPair}
 use Rattle.view_puts.specs.declared.viewer.SinkViewer.{SinkViewer}
 use Rattle.view_puts.specs.Puts.{LeadOn, ViewPuts, no_lead, no_view}
 use Rattle.listing_run.specs.declared.task.Task.{Task}

@@ -1,5 +1,5 @@
 -- A step whose cells have storage has a floor and a ceiling.
-use Rattle.std.proofs.Common.{◌≡◌, ◌≢◌, ℕ, Bool, true, false, cond, List, [], ◌∷◌, length, Result, Ok, Err, Option, Some, None, inl, inr, sym, ap, subst, arith, ℤ, if◌then◌else◌}
+use Rattle.std.proofs.Common.{◌≡◌, ◌≢◌, ℕ, Bool, true, false, cond, List, [], ◌∷◌, Result, Ok, Err, Option, Some, None, inl, inr, sym, ap, subst, arith, ℤ, if◌then◌else◌}
 use Rattle.step_problem.specs.declared.place.Dir.{Dir}
 use Rattle.step_problem.specs.declared.place.Dir.TheVariants.{In, Out}
 use Rattle.step_problem.specs.declared.place.NoBound.{NoBound}

@@ -1,5 +1,5 @@
 -- The ends of a check, by its readings and its verdict.
-use Rattle.std.proofs.Common.{◌≡◌, ℕ, List, Ok, Err, Result, Option, None, Some, IfOk, inl, refl, sym, ap, subst, ◌∙◌, map, ℤ, unsigned_abs}
+use Rattle.std.proofs.Common.{◌≡◌, ℕ, List, Ok, Err, Result, Option, None, Some, IfOk, refl, sym, ap, subst, ◌∙◌, map, unsigned_abs}
 use Rattle.outside.specs.Counts.{InputCounts}
 use Rattle.outside.specs.Files.{File}
 use Rattle.outside.specs.Puts.{Put}
@@ -11,28 +11,25 @@ use Rattle.model_types.specs.Valid.{IsModel}
 use Rattle.model_reader.specs.Model.{reads}
 use Rattle.listing_io.specs.declared.listing.ListedStep.{ListedStep}
 use Rattle.listing_io.specs.Listed.{AreListed}
-use Rattle.listing_io.specs.LastLines.{no_bound_line, not_certified_line}
+use Rattle.run_puts.specs.Ends.{IsEnd}
 use Rattle.run_puts.specs.Lines.{Text}
 use Rattle.run_puts.specs.Runs.{IsRun, NeverCut}
 use Rattle.run_puts.specs.declared.status.Status.{Status}
-use Rattle.run_puts.specs.declared.status.Status.TheVariants as status
 use Rattle.run_puts.proofs.Pieces.{lone}
 use Rattle.exact_histories.specs.Histories.{HasOneHistory}
 use Rattle.check_run.specs.declared.verdict.ListingVerdict.{ListingVerdict}
-use Rattle.check_run.specs.declared.verdict.ListingVerdict.TheVariants.{Certified, Fails, Refused}
+use Rattle.check_run.specs.declared.verdict.ListingVerdict.TheVariants.{Certified}
 use Rattle.check_run.specs.Verdicts.{IsVerdict, ListingEncloses}
 use Rattle.engine.specs.Cases.{AskedCheck, Command, Check, Refuses, Checking, IsCase, CouldRead, asked_in, case_asked, case_checked, case_listed, listing_read, named, zones_read}
-use Rattle.engine.specs.Checked.{IsCheck, certified_line}
-use Rattle.engine.specs.Parts.{Answers, IsListedAs, IsReadAs, IsReadingEnd, IsVerdictEnd}
+use Rattle.engine.specs.Checked.{IsCheck, verdict_line, verdict_status}
+use Rattle.engine.specs.Parts.{Answers, IsListedAs, IsReadAs, IsReadingEnd}
 use Rattle.listing_run.specs.Zones.{AreZonesOf}
 use Rattle.engine.proofs.Ends.{checked, could_read, ends_without_words, no_steps, of_each, of_model_read, refused, same_steps, same_zones, some_case, unreadable}
 use Rattle.engine.proofs.Readings.{named_read, no_zones}
 
 module _ (m : FlowModel) (s : ℕ) (steps : List ListedStep) where
-  pub puts_verdict : (v : ListingVerdict) (end : Status) (puts : List Put) → IsVerdict m s steps v → (v ≡ Certified → ListingEncloses m s steps) → (v ≡ Certified → HasOneHistory m) → IsVerdictEnd m v end puts → IsRun (IsCheck m s steps) NeverCut end puts
-  puts_verdict Certified end puts is encloses history h = lone (IsCheck m s steps) NeverCut certified_line status.Ok end puts (record { verdict = is; encloses = encloses refl; history = history refl; are = refl }) (inl h)
-  puts_verdict (Fails at place) end puts is encloses history h = lone (IsCheck m s steps) NeverCut (not_certified_line m.grid at place) (status.NotCertified at.period at.step place) end puts (is, refl) h
-  puts_verdict (Refused at n) end puts is encloses history h = lone (IsCheck m s steps) NeverCut (no_bound_line m.grid at n) (status.NoBound at.period at.step n) end puts (is, refl) h
+  pub puts_verdict : (v : ListingVerdict) (end : Status) (puts : List Put) → IsVerdict m s steps v → (v ≡ Certified → ListingEncloses m s steps) → (v ≡ Certified → HasOneHistory m) → IsEnd (verdict_line m.grid v) (verdict_status v) end puts → IsRun (IsCheck m s steps) NeverCut end puts
+  puts_verdict v end puts is encloses history h = lone (IsCheck m s steps) NeverCut (verdict_line m.grid v) (verdict_status v) end puts (record { verdict = v; is = is; encloses = encloses; history = history; status = refl; are = refl }) h
 
 -- the ends of a check
 module _ (words : List Text) (files : Option (List File)) (n m : ℕ) (asked : AskedCheck) (wanted : asked_in words ≡ Some (Check asked)) where

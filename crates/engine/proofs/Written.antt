@@ -17,12 +17,15 @@ use Rattle.listing_io.specs.Reading.{all_lines, listing_at, or_bad_listing}
 use Rattle.run_puts.specs.Lines.{Text, end_line}
 use Rattle.run_puts.specs.declared.status.Status.TheVariants as status
 use Rattle.listing_run.specs.declared.task.Task.{Task}
-use Rattle.listing_run.specs.Listing.{IsWhole, listing}
+use Rattle.listing_run.specs.Listing.{IsListing, listing}
+use Rattle.listing_run.specs.declared.listing_end.ListingEnd.TheVariants as ends
+use Rattle.listing_run.proofs.Wholes.{IsWhole, whole_listing}
+use Rattle.check_run.specs.declared.verdict.ListingVerdict.TheVariants.{Certified as Holds}
 use Rattle.check_run.specs.Runs.{IsReadable, RunIsCertified, RunIsReadAgain, as_listed}
 use Rattle.exact_histories.proofs.WholeRuns.{history_exists, history_is_one}
 use Rattle.check_run.proofs.RunEnclosed.{run_encloses}
 use Rattle.engine.specs.Cases.{AskedCheck, Case, Check, Command, Checking, asked_in, built, case_asked, case_checked, case_listed, case_of, listing_read, steps_in, task_of, zones_read}
-use Rattle.engine.specs.Checked.{IsCertified, certified_line}
+use Rattle.engine.specs.Checked.{IsCheck, certified_line}
 use Rattle.engine.specs.Defined.{Defines}
 use Rattle.engine.specs.Written.{ChecksWritten, OneListingIsCertified, WrittenIsCertified}
 use Rattle.engine.proofs.Readings.{named_read}
@@ -80,21 +83,23 @@ module _ (certified : RunIsCertified) (again : RunIsReadAgain) (k : Task) (piece
   is_certified : Defines (case_of words files) status.Ok (certified_line ∷ [])
   is_certified =
       let P : Case → Type 0 = λ c. Defines c status.Ok (certified_line ∷ []) in
-      let D : ℕ → Type 0 = λ s. IsCertified k.model s steps (certified_line ∷ []) in
+      let D : ℕ → Type 0 = λ s. IsCheck k.model s steps status.Ok (certified_line ∷ []) in
       subst P (sym case_is) (subst D (sym h.digits) (record {
-        verdict = certified k whole.values model whole.steps;
-        encloses = run_encloses k whole.values whole.steps whole.encloses;
-        history = record { solvable = history_exists k whole.values model whole.steps; one = history_is_one k whole.values model whole.steps };
+        verdict = Holds;
+        is = certified k whole.values model whole.steps;
+        encloses = λ e. run_encloses k whole.values whole.steps whole.encloses;
+        history = λ e. record { solvable = history_exists k whole.values model whole.steps; one = history_is_one k whole.values model whole.steps };
+        status = refl;
         are = refl;
       }))
 
 pub written_is_certified : RunIsCertified → RunIsReadAgain → WrittenIsCertified
-written_is_certified certified again k pieces words files model none whole h = is_certified certified again k pieces words files model none whole h
+written_is_certified certified again k pieces words files model none listed h = is_certified certified again k pieces words files model none (whole_listing k pieces listed) h
 
 pub one_listing_is_certified : WrittenIsCertified → OneListingIsCertified
 one_listing_is_certified written words files bytes h none checks others check =
     let k = task_of h.asked h.model h.zones in
     let pieces = listing k h.values end_line in
-    let whole : IsWhole k pieces = record { values = h.values; steps = h.steps; encloses = h.encloses; are = refl } in
+    let whole : IsListing k status.Ok pieces = record { last = ends.Whole; status = refl; values = h.values; steps = h.steps; encloses = λ e. h.encloses; are = refl } in
     let C : List ℕ → Type 0 = λ bs. ChecksWritten checks others k bs in
     written k pieces checks others h.valid none whole (subst C h.written check)

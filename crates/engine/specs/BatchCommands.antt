@@ -1,5 +1,5 @@
 -- A batch that is asked for, in the form of the code.
-use Rattle.std.specs.Prelude.{ℕ, ◌≤◌}
+use Rattle.std.specs.Prelude.{◌≤◌}
 use Rattle.engine.specs.declared.asked_batch.BatchOrder.{BatchOrder}
 use Rattle.engine.specs.Batches.{AskedBatch}
 

@@ -4,14 +4,13 @@ use Rattle.std.specs.declared.vec.Vec.{Vec}
 use Rattle.std.specs.declared.alloc.Global.{Global}
 use Rattle.outside.specs.Files.{File}
 use Rattle.outside.specs.Inputs.{IsReading}
-use Rattle.outside.specs.declared.refusals.Refusal.{Refusal}
 use Rattle.outside.specs.declared.refusals.InputFault.{InputFault}
 use Rattle.outside.specs.declared.refusals.InputFault.TheVariants as input
 use Rattle.model_reader.specs.Model.{reads}
 use Rattle.run_puts.specs.Lines.{Text}
 use Rattle.listing_run.specs.Ends.{IsTask}
 use Rattle.engine.specs.declared.job.Job.{Job}
-use Rattle.engine.specs.Batches.{AskedBatch, BatchCase, Jobs, NoList, IsBatchCase, IsSomeJob, job_of, names_read}
+use Rattle.engine.specs.Batches.{AskedBatch, Jobs, NoList, IsBatchCase, IsSomeJob, job_of, names_read}
 
 -- each task that is to be listed meets the conditions on tasks
 abbrev pub AreTasks : List Job → Type 0

@@ -14,7 +14,8 @@ use Rattle.run_puts.specs.Agreement.{IsUnfinished}
 use Rattle.run_puts.specs.declared.status.Status.{Status}
 use Rattle.run_puts.specs.declared.status.Status.TheVariants as status
 use Rattle.listing_run.specs.declared.step.Step.{Step}
-use Rattle.listing_run.specs.Steps.{AllSteps, Open, WithoutBound}
+use Rattle.listing_run.specs.declared.listing_end.ListingEnd.TheVariants as ends
+use Rattle.listing_run.specs.Steps.{AllSteps}
 use Rattle.engine.specs.declared.job.Job.{Job}
 use Rattle.engine.specs.Batches.{AskedBatch, BatchCase, NoList, Jobs, IsBatchCase, BatchDefines, batch_asked, batch_case_of, job_task, names_read}
 use Rattle.engine.specs.Parts.{AnswersBeside, IsStopped}
@@ -50,8 +51,8 @@ BatchDecided fault b files end =
 pub record HasJob (b : AskedBatch) (files : List File) (name : Text) : Type 0 where
   pub model : FlowModel
   pub read : reads files name ≡ Ok model
-  pub no_refusal : (before : List Step) (at : TimeStep) (n : NoBound) → AllSteps (job_task b model) before (WithoutBound at n) → ⊥
-  pub none_open : (before : List Step) (at : TimeStep) → AllSteps (job_task b model) before (Open at) → ⊥
+  pub no_refusal : (before : List Step) (at : TimeStep) (n : NoBound) → AllSteps (job_task b model) before (ends.NoBound at n) → ⊥
+  pub none_open : (before : List Step) (at : TimeStep) → AllSteps (job_task b model) before (ends.Unfinished at) → ⊥
 
 -- The list has no refusal, and each of its names is such a one.
 pub record HasBatch (b : AskedBatch) (files : List File) : Type 0 where

@@ -13,7 +13,8 @@ use Rattle.run_puts.specs.Lines.{Text, end_line}
 use Rattle.run_puts.specs.declared.status.Status.{Status}
 use Rattle.run_puts.specs.declared.status.Status.TheVariants as status
 use Rattle.listing_run.specs.declared.step.Step.{Step}
-use Rattle.listing_run.specs.Steps.{Whole, AllSteps}
+use Rattle.listing_run.specs.declared.listing_end.ListingEnd.TheVariants.{Whole}
+use Rattle.listing_run.specs.Steps.{AllSteps}
 use Rattle.listing_run.specs.Listing.{listing}
 use Rattle.listing_run.specs.Bounding.{BoundAll}
 use Rattle.exact_histories.specs.Histories.{HasHistory, AreSame}

@@ -1,12 +1,13 @@
 -- How a check ends, and with which line.
 use Rattle.std.specs.Prelude.{◌≡◌, ℕ, List, [], ◌∷◌, codes}
+use Rattle.model_types.specs.declared.grid.Grid.{Grid}
 use Rattle.model_types.specs.declared.model.FlowModel.{FlowModel}
 use Rattle.listing_io.specs.declared.listing.ListedStep.{ListedStep}
 use Rattle.listing_io.specs.LastLines.{no_bound_line, not_certified_line}
 use Rattle.run_puts.specs.Lines.{Text}
 use Rattle.run_puts.specs.declared.status.Status.{Status}
 use Rattle.run_puts.specs.declared.status.Status.TheVariants as status
-use Rattle.listing_run.specs.Listing.{time}
+use Rattle.check_run.specs.declared.verdict.ListingVerdict.{ListingVerdict}
 use Rattle.check_run.specs.declared.verdict.ListingVerdict.TheVariants.{Certified, Fails, Refused}
 use Rattle.exact_histories.specs.Histories.{HasOneHistory}
 use Rattle.check_run.specs.Verdicts.{IsVerdict, ListingEncloses}
@@ -14,19 +15,23 @@ use Rattle.check_run.specs.Verdicts.{IsVerdict, ListingEncloses}
 abbrev pub certified_line : Text
 certified_line = codes "CERTIFIED\n"
 
--- A listing that is certified encloses every history that solves its model, and there is exactly one.
-pub record IsCertified (m : FlowModel) (s : ℕ) (steps : List ListedStep) (pieces : List Text) : Type 0 where
-  pub verdict : IsVerdict m s steps Certified
-  pub encloses : ListingEncloses m s steps
-  pub history : HasOneHistory m
-  pub are : pieces ≡ certified_line ∷ []
+-- the line of a check with this verdict, and its status
+abbrev pub verdict_line : Grid → ListingVerdict → Text
+verdict_line g Certified = certified_line
+verdict_line g (Fails at place) = not_certified_line g at place
+verdict_line g (Refused at n) = no_bound_line g at n
 
--- The check of these steps has this end and this line, by its verdict.
-abbrev pub IsCheck : FlowModel → ℕ → List ListedStep → Status → List Text → Type 0
-IsCheck m s steps status.Ok pieces = IsCertified m s steps pieces
-IsCheck m s steps (status.NotCertified period step place) pieces =
-    IsVerdict m s steps (Fails (time period step) place)
-    × (pieces ≡ not_certified_line m.grid (time period step) place ∷ [])
-IsCheck m s steps (status.NoBound period step n) pieces =
-    IsVerdict m s steps (Refused (time period step) n) × (pieces ≡ no_bound_line m.grid (time period step) n ∷ [])
-IsCheck m s steps other pieces = ⊥
+abbrev pub verdict_status : ListingVerdict → Status
+verdict_status Certified = status.Ok
+verdict_status (Fails at place) = status.NotCertified at.period at.step place
+verdict_status (Refused at n) = status.NoBound at.period at.step n
+
+-- The check of these steps has this end and this line, by its verdict. A listing that is certified encloses every history
+-- that solves its model, and there is exactly one.
+pub record IsCheck (m : FlowModel) (s : ℕ) (steps : List ListedStep) (end : Status) (pieces : List Text) : Type 0 where
+  pub verdict : ListingVerdict
+  pub is : IsVerdict m s steps verdict
+  pub encloses : verdict ≡ Certified → ListingEncloses m s steps
+  pub history : verdict ≡ Certified → HasOneHistory m
+  pub status : end ≡ verdict_status verdict
+  pub are : pieces ≡ verdict_line m.grid verdict ∷ []

@@ -1,7 +1,8 @@
 -- A model that is made from a seed: the end and the pieces of its run.
-use Rattle.std.specs.Prelude.{◌≡◌, ℕ, ℤ, List, [], ◌∷◌, ◌++◌, Ok, Err, Option, Some, None, Result}
+use Rattle.std.specs.Prelude.{◌≡◌, ℕ, ℤ, List, [], ◌∷◌, Ok, Err, Option, Some, None, Result}
 use Rattle.std.specs.Io.KnownBytes.{Appends}
 use Rattle.outside.specs.declared.refusals.Refusal.{Refusal}
+use Rattle.model_types.specs.declared.grid.Grid.{Grid}
 use Rattle.model_types.specs.declared.model.FlowModel.{FlowModel}
 use Rattle.model_types.specs.Heads.{start_head}
 use Rattle.model_types.specs.Valid.{IsModel}
@@ -12,12 +13,13 @@ use Rattle.listing_io.specs.LastLines.{refused_line}
 use Rattle.run_puts.specs.Lines.{Text}
 use Rattle.run_puts.specs.declared.status.Status.{Status}
 use Rattle.run_puts.specs.declared.status.Status.TheVariants as status
+use Rattle.listing_run.specs.declared.listing_end.ListingEnd.{ListingEnd}
+use Rattle.listing_run.specs.declared.listing_end.ListingEnd.TheVariants as ends
 use Rattle.listing_run.specs.declared.task.Task.{Task}
 use Rattle.listing_run.specs.declared.step.Step.{Step}
 use Rattle.listing_run.specs.Bounding.{BoundAll}
-use Rattle.listing_run.specs.Listing.{IsListing}
+use Rattle.listing_run.specs.Listing.{IsListing, last_line}
 use Rattle.listing_summary.specs.declared.summary.Summary.{Summary}
-use Rattle.listing_summary.specs.Ends.{IsSummarized}
 use Rattle.listing_summary.specs.Summaries.{summary_of}
 use Rattle.listing_summary.specs.Texts.{summary_text}
 use Rattle.exact_histories.specs.Histories.{HasHistory, AreSame}
@@ -27,10 +29,16 @@ use Rattle.engine.specs.Cases.{asked_in, task_of, Make}
 abbrev pub made_task : FlowModel → Task
 made_task m = task_of (record { name = made_name; digits = 12; rounds = 1000000; zones = None }) m None
 
--- A whole listing is put as its summary, any other one as its last line.
-abbrev pub IsSummed : ℕ → ℕ → Task → Status → List Text → Type 0
-IsSummed seed size k status.Ok pieces = (s : Summary) × IsSummarized k s × (pieces ≡ summary_text seed size s ∷ [])
-IsSummed seed size k end pieces = (before : List Text) × (line : Text) × IsListing k end (before ++ (line ∷ [])) × (pieces ≡ line ∷ [])
+-- a whole listing is put as its summary, any other one as its last line
+abbrev pub summed_text : ℕ → ℕ → Grid → Summary → ListingEnd → Text
+summed_text seed size g s ends.Whole = summary_text seed size s
+summed_text seed size g s last = last_line g last
+
+-- Of a listing that ends so only this is put.
+pub record IsSummed (seed size : ℕ) (k : Task) (end : Status) (pieces : List Text) : Type 0 where
+  pub all : List Text
+  pub listed : IsListing k end all
+  pub are : pieces ≡ summed_text seed size k.model.grid (summary_of k.model listed.values) listed.last ∷ []
 
 -- a run of the made files, with this result of reading them
 abbrev pub IsMade : ℕ → ℕ → Result FlowModel Refusal → Status → List Text → Type 0

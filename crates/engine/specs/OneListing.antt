@@ -10,7 +10,8 @@ use Rattle.model_reader.specs.Model.{reads}
 use Rattle.listing_io.specs.declared.listing.ListedStep.{ListedStep}
 use Rattle.run_puts.specs.Lines.{Text, end_line}
 use Rattle.listing_run.specs.declared.step.Step.{Step}
-use Rattle.listing_run.specs.Steps.{Whole, AllSteps}
+use Rattle.listing_run.specs.declared.listing_end.ListingEnd.TheVariants.{Whole}
+use Rattle.listing_run.specs.Steps.{AllSteps}
 use Rattle.listing_run.specs.Bounding.{EnclosesHistories}
 use Rattle.listing_run.specs.Listing.{listing}
 use Rattle.listing_summary.specs.Summaries.{summary_of}

@@ -1,5 +1,5 @@
 -- What the parts of a run return and put.
-use Rattle.std.specs.Prelude.{◌≡◌, ◌⊎◌, ℕ, ℤ, List, map, unsigned_abs, Result, Ok, Err, Option, Some, None, IfOk, IfSome, codes}
+use Rattle.std.specs.Prelude.{◌≡◌, ◌⊎◌, ℕ, ℤ, List, map, unsigned_abs, Result, Option, Some, None, IfOk, IfSome, codes}
 use Rattle.outside.specs.Counts.{Rose}
 use Rattle.outside.specs.Files.{File}
 use Rattle.outside.specs.Puts.{Put}
@@ -13,22 +13,14 @@ use Rattle.model_types.specs.Valid.{IsModel}
 use Rattle.model_reader.specs.Model.{reads}
 use Rattle.listing_io.specs.declared.listing.ListedStep.{ListedStep}
 use Rattle.listing_io.specs.Listed.{AreListed}
-use Rattle.listing_io.specs.LastLines.{refused_line, no_bound_line, not_certified_line, unfinished_line}
-use Rattle.listing_run.specs.declared.task.Task.{Task}
+use Rattle.listing_io.specs.LastLines.{refused_line}
 use Rattle.listing_run.specs.Zones.{AreZonesOf}
-use Rattle.listing_summary.specs.declared.stop.Stop.{Stop}
-use Rattle.listing_summary.specs.declared.stop.Stop.TheVariants.{NoBound, Unfinished, Memory}
-use Rattle.listing_summary.specs.declared.summary.Summary.{Summary}
-use Rattle.listing_summary.specs.Texts.{summary_text}
 use Rattle.run_puts.specs.Ends.{IsEnd, IsLast, IsWanting}
 use Rattle.run_puts.specs.Lines.{Text, read_fault_line}
 use Rattle.run_puts.specs.Runs.{IsRun, NeverCut}
 use Rattle.run_puts.specs.declared.status.Status.{Status}
 use Rattle.run_puts.specs.declared.status.Status.TheVariants as status
-use Rattle.check_run.specs.declared.verdict.ListingVerdict.{ListingVerdict}
-use Rattle.check_run.specs.declared.verdict.ListingVerdict.TheVariants.{Certified, Fails, Refused as Unbounded}
 use Rattle.engine.specs.Cases.{AskedCheck, Case, Listing, Making, Checking, IsCase, listing_read, made_model, named, zones_named, zones_read}
-use Rattle.engine.specs.Checked.{certified_line}
 use Rattle.engine.specs.Made.{IsMade}
 use Rattle.engine.specs.Runs.{IsLeft, IsRunOf}
 use Rattle.engine.specs.Watched.{Watched, views_in}
@@ -89,26 +81,12 @@ pub record AnswersBeside (words : List Text) (files : Option (List File)) (befor
   pub answers : Answers words files before after end puts ⊎ ((case : Case) × IsCase words files case × IsLeft failed_beside case end puts)
   pub watched : end ≡ status.Ok → (n : ℕ) → views_in words ≡ Some n → IfSome files (λ fs. Watched words fs n leads)
 
--- The puts of an end with a summary, or without one.
-abbrev pub IsSummaryEnd : ℕ → ℕ → Task → Result Summary Stop → Status → List Put → Type 0
-IsSummaryEnd seed size k (Ok s) end puts = IsEnd (summary_text seed size s) status.Ok end puts
-IsSummaryEnd seed size k (Err (NoBound at n)) end puts = IsEnd (no_bound_line k.model.grid at n) (status.NoBound at.period at.step n) end puts
-IsSummaryEnd seed size k (Err (Unfinished at)) end puts = IsEnd (unfinished_line at) (status.Unfinished at.period at.step) end puts
-IsSummaryEnd seed size k (Err Memory) end puts = IsWanting end puts
-
--- the puts of an end because of this fault of reading made files
-abbrev pub IsUnreadEnd : InputFault → Status → List Put → Type 0
-IsUnreadEnd (input.Refused refusal) end puts = IsEnd (refused_line refusal) (status.Refused refusal) end puts
-IsUnreadEnd input.ReadFault end puts = IsWanting end puts
-IsUnreadEnd input.Memory end puts = IsWanting end puts
+-- a fault of reading made files: they are in memory, so one that is no refusal is lack of memory
+abbrev pub made_fault : InputFault → InputFault
+made_fault input.ReadFault = input.Memory
+made_fault fault = fault
 
 -- all facts of the result of a made model's run
 pub record IsMadeRun (seed size : ℕ) (end : Status) (puts : List Put) : Type 0 where
   pub run : IsRun (IsMade seed size (made_model seed size)) NeverCut end puts
   pub valid : IfOk (made_model seed size) IsModel ⊎ IsStopped end
-
--- the puts of a verdict's line
-abbrev pub IsVerdictEnd : FlowModel → ListingVerdict → Status → List Put → Type 0
-IsVerdictEnd m Certified end puts = IsLast certified_line status.Ok end puts
-IsVerdictEnd m (Fails at place) end puts = IsEnd (not_certified_line m.grid at place) (status.NotCertified at.period at.step place) end puts
-IsVerdictEnd m (Unbounded at n) end puts = IsEnd (no_bound_line m.grid at n) (status.NoBound at.period at.step n) end puts

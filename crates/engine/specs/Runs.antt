@@ -14,7 +14,8 @@ use Rattle.run_puts.specs.declared.status.Status.{Status}
 use Rattle.run_puts.specs.declared.status.Status.TheVariants as status
 use Rattle.listing_run.specs.declared.task.Task.{Task}
 use Rattle.listing_run.specs.declared.step.Step.{Step}
-use Rattle.listing_run.specs.Steps.{WithoutBound, Open, AllSteps}
+use Rattle.listing_run.specs.declared.listing_end.ListingEnd.TheVariants as ends
+use Rattle.listing_run.specs.Steps.{AllSteps}
 use Rattle.check_run.specs.declared.verdict.ListingVerdict.TheVariants.{Certified}
 use Rattle.check_run.specs.Verdicts.{IsVerdict}
 use Rattle.engine.specs.Cases.{Case, Listing, Making, Checking, IsCase, case_of}
@@ -59,8 +60,8 @@ HasTask other task = ⊥
 pub record HasListing (words : List Text) (files : List File) : Type 0 where
   pub task : Task
   pub is : HasTask (case_of words files) task
-  pub no_refusal : (before : List Step) (at : TimeStep) (n : NoBound) → AllSteps task before (WithoutBound at n) → ⊥
-  pub none_open : (before : List Step) (at : TimeStep) → AllSteps task before (Open at) → ⊥
+  pub no_refusal : (before : List Step) (at : TimeStep) (n : NoBound) → AllSteps task before (ends.NoBound at n) → ⊥
+  pub none_open : (before : List Step) (at : TimeStep) → AllSteps task before (ends.Unfinished at) → ⊥
 
 -- The words ask for a check, the files read as a model and a listing of it, and its verdict is that it is certified.
 pub record HasCertified (words : List Text) (files : List File) : Type 0 where

@@ -11,16 +11,17 @@ ghost use Rattle.run_puts.specs.Runs.{IsRun, NeverCut};
 ghost use Rattle.engine.specs.Checked.{IsCheck};
 ghost use Rattle.engine.specs.Cases.{asked_in, Check};
 ghost use Rattle.engine.specs.Commands.{check_of};
-ghost use Rattle.engine.specs.Parts.{Answers, IsListedAs, IsReadAs, IsVerdictEnd};
+ghost use Rattle.engine.specs.Parts.{Answers, IsListedAs, IsReadAs};
 
 use crate::asked::AskedCheck;
 use crate::ending::end_reading;
 use crate::reading::{bad_name, read_named};
-use check_run::{ListingVerdict, check_listing};
-use listing_io::{Listing, read_listing, write_no_bound, write_not_certified};
+use crate::verdict::put_verdict;
+use check_run::check_listing;
+use listing_io::{Listing, read_listing};
 use model_types::FlowModel;
 use outside::{Folder, InputFault, Sink, is_good_name, read_input};
-use run_puts::{Status, put_last, put_line, put_memory};
+use run_puts::{Status, put_memory};
 use std::alloc::Global;
 
 /// The listing of a model that a check names. The name is tested before the file is read.
@@ -45,46 +46,6 @@ pub(crate) fn read_listed<F: Folder>(
     Ok(listing)
 }
 
-// Puts the line of a verdict.
-fn put_verdict<K: Sink>(
-    alloc: Global,
-    model: &FlowModel,
-    verdict: ListingVerdict,
-    out: &mut K,
-) -> Status
-    requires { IsModel model.now }
-    ensures { (start : _) (puts : List Put) → K.leads start puts out.old →
-        (more : List Put) × K.leads start (puts ++ more) out.new × IsVerdictEnd model.now verdict result more }
-{
-    match verdict {
-        ListingVerdict::Certified => put_last(out, b"CERTIFIED\n", Status::Ok),
-        ListingVerdict::Fails(at, place) => {
-            let line = write_not_certified(alloc, &model.grid, at, place);
-            put_line(
-                out,
-                line,
-                Status::NotCertified {
-                    period: at.period,
-                    step: at.step,
-                    place,
-                },
-            )
-        }
-        ListingVerdict::Refused(at, fault) => {
-            let line = write_no_bound(alloc, &model.grid, at, fault);
-            put_line(
-                out,
-                line,
-                Status::NoBound {
-                    period: at.period,
-                    step: at.step,
-                    fault,
-                },
-            )
-        }
-    }
-}
-
 /// Checks a listing of a model, and puts the line of its verdict.
 pub(crate) fn put_check<K: Sink>(
     alloc: Global,
@@ -100,7 +61,7 @@ pub(crate) fn put_check<K: Sink>(
         (more : List Put) × K.leads start (puts ++ more) out.new × IsRun (IsCheck model.now digits listing.now) NeverCut result more }
 {
     match check_listing(alloc, model, listing, digits) {
-        Ok(verdict) => put_verdict(alloc, model, verdict, out),
+        Ok(verdict) => put_verdict(alloc, &model.grid, verdict, out),
         Err(_) => put_memory(out),
     }
 }

@@ -6,8 +6,7 @@ ghost use Rattle.engine.specs.Cases.{Listing, Refuses};
 
 use batch_puts::JobEnd;
 use listing_io::write_refused;
-use listing_run::Task;
-use listing_text::push_listing;
+use listing_run::{Task, push_listing};
 use near_settler::AloneSettler;
 use outside::{Name, Refusal};
 use run_puts::Status;

@@ -17,6 +17,7 @@ mod making;
 mod reading;
 mod running;
 mod serving;
+mod verdict;
 mod view_lines;
 mod viewing;
 

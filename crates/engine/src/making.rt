@@ -1,27 +1,28 @@
 // A model that is made from a seed, and the summary of its listing.
-ghost use Rattle.std.specs.Prelude.{◌≡◌, List, ◌++◌, Ok, IfOk, IfErr};
+ghost use Rattle.std.specs.Prelude.{◌≡◌, List, ◌++◌, Ok, IfOk};
 ghost use Rattle.outside.specs.Puts.{Put};
 ghost use Rattle.step_problem.specs.Heads.{IsBarrier};
 ghost use Rattle.step_problem.specs.Settling.{Settles};
 ghost use Rattle.model_types.specs.Valid.{IsModel};
 ghost use Rattle.listing_run.specs.Ends.{IsTask};
-ghost use Rattle.listing_summary.specs.Ends.{IsSummarized, StopsBy};
+ghost use Rattle.listing_summary.specs.Ends.{IsSummarized};
 ghost use Rattle.engine.specs.Cases.{made_model};
 ghost use Rattle.engine.specs.Commands.{IsMakeable};
-ghost use Rattle.engine.specs.Parts.{IsMadeRun, IsSummaryEnd, IsUnreadEnd};
+ghost use Rattle.engine.specs.Made.{summed_text};
+ghost use Rattle.engine.specs.Parts.{IsMadeRun, made_fault};
 
 use crate::asked::{MADE_DIGITS, MADE_PLAN};
+use crate::ending::end_reading;
 use crate::reading::read_named;
-use listing_io::{write_no_bound, write_refused, write_unfinished};
-use listing_run::Task;
-use listing_summary::{Stop, Summary, summarize, write_summary};
+use listing_run::{ListingEnd, Task};
+use listing_summary::{Summary, summarize, write_summary};
 use model_maker::{NAME, make};
 use model_types::FlowModel;
 use near_settler::NearSettler;
 use outside::{Gate, InputFault, Sink};
-use run_puts::{Status, put_last, put_memory};
+use run_puts::{Status, put_line, put_memory};
 use settle_driver::SettleBy;
-use std::alloc::Global;
+use std::alloc::{AllocError, Global};
 use std::thread::Threads;
 use step_problem::{Barrier, Bound, Problem, SettleFault};
 
@@ -31,11 +32,10 @@ fn summarize_by_workers<R: Threads + Sync, G: Gate + Sync>(
     alloc: Global,
     task: &Task,
     gate: &G,
-) -> Result<Summary, Stop>
+) -> Result<(Summary, ListingEnd), AllocError>
     requires task { IsTask task.now }
     requires rounds { task.now.rounds ≡ 1000000 }
-    ensures summary { IfOk result (IsSummarized task.now) }
-    ensures stop { IfErr result (StopsBy task.now) }
+    ensures { IfOk result (λ (summary, end). IsSummarized task.now summary end) }
 {
     let near = NearSettler::new(rt, MADE_PLAN, gate);
     let near = &near;
@@ -49,56 +49,31 @@ fn summarize_by_workers<R: Threads + Sync, G: Gate + Sync>(
     summarize(alloc, task, &mut settler)
 }
 
-// Ends with a summary, or with the reason why there is none.
-fn end_summary<K: Sink>(
+// The last line of a made model's run: the summary of a whole listing, or the last line of any other one.
+fn summary_line(
     alloc: Global,
     seed: u32,
     size: u32,
     task: &Task,
-    summed: Result<Summary, Stop>,
-    out: &mut K,
-) -> Status
+    summary: &Summary,
+    end: ListingEnd,
+) -> Result<Vec<u8>, AllocError>
     requires { IsTask task.now }
-    ensures { (start : _) (puts : List Put) → K.leads start puts out.old →
-        (more : List Put) × K.leads start (puts ++ more) out.new × IsSummaryEnd seed size task.now summed result more }
+    ensures { IfOk result (λ line. line.items ≡ summed_text seed size task.now.model.grid summary.now end) }
 {
-    let (line, status) = match summed {
-        Ok(summary) => (write_summary(alloc, seed, size, &summary), Status::Ok),
-        Err(Stop::NoBound(at, refusal)) => (
-            write_no_bound(alloc, &task.model.grid, at, refusal),
-            Status::NoBound {
-                period: at.period,
-                step: at.step,
-                fault: refusal,
-            },
-        ),
-        Err(Stop::Unfinished(at)) => (
-            write_unfinished(alloc, at),
-            Status::Unfinished {
-                period: at.period,
-                step: at.step,
-            },
-        ),
-        Err(Stop::Memory) => return put_memory(out),
-    };
-    match line {
-        Ok(line) => put_last(out, line.as_slice(), status),
-        Err(_) => put_memory(out),
+    match end {
+        ListingEnd::Whole => write_summary(alloc, seed, size, summary),
+        ListingEnd::NoBound(_, _) | ListingEnd::Unfinished(_) => end.line(alloc, &task.model.grid),
     }
 }
 
-// Ends a run whose made files have no model. They are in memory, so a fault of reading them means that memory ran out.
-fn end_unread<K: Sink>(alloc: Global, fault: InputFault, out: &mut K) -> Status
-    ensures { (start : _) (puts : List Put) → K.leads start puts out.old →
-        (more : List Put) × K.leads start (puts ++ more) out.new × IsUnreadEnd fault result more }
+// A fault of reading made files. They are in memory, so one that is no refusal is lack of memory.
+fn made_fault(fault: InputFault) -> InputFault
+    ensures { result ≡ made_fault fault }
 {
     match fault {
-        InputFault::Memory => put_memory(out),
-        InputFault::ReadFault => put_memory(out),
-        InputFault::Refused(refusal) => match write_refused(alloc, &refusal) {
-            Ok(line) => put_last(out, line.as_slice(), Status::Refused(refusal)),
-            Err(_) => put_memory(out),
-        },
+        InputFault::ReadFault => InputFault::Memory,
+        fault => fault,
     }
 }
 
@@ -122,8 +97,11 @@ fn put_summary<R: Threads + Sync, K: Sink, G: Gate + Sync>(
         zones: None,
         rounds: MADE_PLAN.rounds,
     };
-    let summed = summarize_by_workers(rt, alloc, &task, gate);
-    end_summary(alloc, seed, size, &task, summed, out)
+    let Ok((summary, end)) = summarize_by_workers(rt, alloc, &task, gate) else {
+        return put_memory(out);
+    };
+    let line = summary_line(alloc, seed, size, &task, &summary, end);
+    put_line(out, line, end.status())
 }
 
 /// Makes the model of a seed and a size, reads its files like those of a folder, and puts the summary of its
@@ -145,6 +123,6 @@ pub(crate) fn put_made<R: Threads + Sync, K: Sink, G: Gate + Sync>(
     };
     match read_named(alloc, &mut folder, NAME) {
         Ok(model) => put_summary(rt, alloc, seed, size, model, out, gate),
-        Err(fault) => end_unread(alloc, fault, out),
+        Err(fault) => end_reading(alloc, made_fault(fault), out),
     }
 }

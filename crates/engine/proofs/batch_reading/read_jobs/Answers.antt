@@ -1,4 +1,4 @@
-use Rattle.std.proofs.Common.{◌∙◌, ℕ, List, arith, length-append, rules, subst, sym}
+use Rattle.std.proofs.Common.{◌∙◌, ℕ, List, arith, length-append, subst, sym}
 use Rattle.engine.specs.BatchCommands.{batch_by}
 use Rattle.engine.proofs.BatchReading.{jobs_read_more, tasks_more}
 use Rattle.engine.proofs.Readings.{of_known}

@@ -1,4 +1,4 @@
-use Rattle.std.proofs.Common.{◌≡◌, ◌∙◌, ap, List, ℕ, map, None, Option, Some, option_map, sym}
+use Rattle.std.proofs.Common.{◌≡◌, ◌∙◌, List, ℕ, map, None, Some, option_map, sym}
 use Rattle.engine.specs.BatchCommands.{batch_by}
 use Rattle.engine.proofs.BatchEnds.{any_batch, any_lacks, any_other}
 use Rattle.engine.specs.Watched.{views_in}

@@ -1,4 +1,4 @@
-use Rattle.run_puts.specs.Runs.{IsRun, NeverCut}
+use Rattle.run_puts.specs.Runs.{NeverCut}
 use Rattle.run_puts.proofs.Pieces.{lacks_at_first}
 use Rattle.batch_puts.specs.Batches.{IsBatch}
 use Rattle.batch_puts.proofs.Batches.{batch_run}

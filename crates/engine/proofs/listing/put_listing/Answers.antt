@@ -1,5 +1,4 @@
-use Rattle.std.proofs.Common.{IfSome, List, ℕ, Option, sym, subst}
-use Rattle.outside.specs.Puts.{Put}
+use Rattle.std.proofs.Common.{IfSome, ℕ, Option, sym, subst}
 use Rattle.listing_run.proofs.Stopping.{beside}
 use Rattle.engine.specs.Watched.{IsWatched, SidePuts}
 use Rattle.engine.proofs.Beside.{quiet}

@@ -1,5 +1,7 @@
-use Rattle.std.proofs.Common.{◌∙◌, ap, refl, Err, Ok, Some}
+use Rattle.std.proofs.Common.{◌∙◌, ap, refl, subst, Err, Ok, Some}
 use Rattle.outside.specs.Memory.{FolderState}
+use Rattle.outside.specs.declared.refusals.InputFault.{InputFault}
+use Rattle.engine.specs.Parts.{IsReadingEnd}
 use Rattle.engine.proofs.Summed.{made_lacking, made_reading, made_unread}
 use Rattle.engine.proofs.making.put_made.Goals as goal
 
@@ -17,7 +19,8 @@ returns-in-Ok-read_named g c = λ start puts h.
 
 pub returns : goal.returns
 returns g c = λ start puts h.
-    let m = c.end_unread.ensures start puts h in
+    let m = c.end_reading.ensures start puts h in
     let files = c.in-Err.ensures.folder.since c.read_named.new.folder.files refl ∙ ap (λ (f : FolderState). f.files) c.in-Ok.ensures in
     let read = made_reading c.args.seed c.args.size c.read_named.new.folder.files (Err c.in-Err.fault) files (c.in-Err.ensures.reads (Some c.read_named.new.folder.files) refl) in
-    (m.0, m.1, made_unread c.args.seed c.args.size c.in-Err.fault c.end_unread.result m.0 read m.2)
+    let E : InputFault → Type 0 = λ f. IsReadingEnd f c.end_reading.result m.0 in
+    (m.0, m.1, made_unread c.args.seed c.args.size c.in-Err.fault c.end_reading.result m.0 read (subst E c.made_fault.ensures m.2))

@@ -1,8 +1,20 @@
-use Rattle.std.proofs.Common.{rules}
-use Rattle.engine.proofs.Summed.{made_summed}
+use Rattle.std.proofs.Common.{subst}
+use Rattle.run_puts.specs.Ends.{IsEnd}
+use Rattle.run_puts.specs.declared.status.Status.{Status}
+use Rattle.listing_run.proofs.Lines.{ends_by}
+use Rattle.engine.specs.Made.{summed_text}
+use Rattle.engine.proofs.Summed.{made_ended, made_lacking}
 use Rattle.engine.proofs.making.put_summary.Goals as goal
+
+pub returns-in_default : goal.returns-in_default
+returns-in_default g c = λ start puts h.
+    let m = c.put_memory.ensures start puts h in
+    (m.0, m.1, λ read. made_lacking c.args.seed c.args.size c.put_memory.result m.0 m.2)
 
 pub returns : goal.returns
 returns g c = λ start puts h.
-    let m = c.end_summary.ensures start puts h in
-    (m.0, m.1, λ read. made_summed c.args.seed c.args.size c.args.model c.summarize_by_workers-summed.result c.end_summary.result m.0 read c.requires (search rules) m.2)
+    let p = c.put_line.ensures start puts h in
+    let line = summed_text c.args.seed c.args.size c.args.model.grid c.in-Ok.summary c.in-Ok.end in
+    let E : Status → Type 0 = λ meant. IsEnd line meant c.put_line.result p.0 in
+    let put = subst E c.status.ensures (ends_by (λ t. t.items) c.summary_line-line.result line c.status.result c.put_line.result p.0 c.summary_line-line.ensures p.2) in
+    (p.0, p.1, λ read. made_ended c.args.seed c.args.size c.args.model c.in-Ok.summary c.in-Ok.end c.put_line.result p.0 read c.requires c.in-Ok.ensures put)

@@ -1,8 +1,4 @@
-use Rattle.std.proofs.Common.{◌≡◌, ◌∙◌, ℕ, ap, inl, inr, refl, subst, sym, Some}
-use Rattle.outside.specs.declared.traits.SinkError.TheVariants.{Write}
-use Rattle.listing_run.specs.Listing.{IsCutListing, IsListingBeside}
-use Rattle.listing_run.specs.Settlers.{AllSettledBy, Reaches}
-use Rattle.run_puts.specs.Runs.{IsRun}
+use Rattle.std.proofs.Common.{◌≡◌, ◌∙◌, ℕ, refl, subst, sym}
 use Rattle.engine.specs.Watched.{Shows}
 use Rattle.engine.proofs.Mapped.{all_settled, reached}
 use Rattle.engine.proofs.viewing.put_shown.Goals as goal

@@ -1,8 +1,6 @@
-use Rattle.std.proofs.Common.{◌≡◌, ◌∙◌, ℕ, List, ap, refl, subst, sym, None, Some}
+use Rattle.std.proofs.Common.{◌≡◌, ◌∙◌, ap, sym, Some}
 use Rattle.outside.specs.Counts.{Rose}
-use Rattle.outside.specs.Puts.{Put}
 use Rattle.listing_run.proofs.Stopping.{beside_by}
-use Rattle.engine.specs.Watched.{IsWatched, SidePuts}
 use Rattle.engine.proofs.SideViews.{puts_of_side, same_sink, side_failed, views_of_all}
 use Rattle.engine.proofs.viewing.put_texts.Goals as goal
 
