@@ -35,7 +35,9 @@ class Cut:
 
 
 def plain(axes: Axes) -> None:
-    """Axes without the frame's upper and right sides."""
+    """Axes without the frame's upper and right sides. A power of ten of the numbers stands on the right: the title is
+    on the left."""
+    axes.yaxis.set_offset_position("right")
     for side in ("top", "right"):
         axes.spines[side].set_visible(False)
 

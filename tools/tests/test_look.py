@@ -7,6 +7,7 @@ import numpy as np
 import pytest
 from conftest import heads
 from matplotlib.backends.backend_agg import FigureCanvasAgg
+from matplotlib.text import Text
 
 from heads_tools.drawdown import difference
 from heads_tools.listing import Step, read_listing
@@ -115,11 +116,17 @@ def test_long_numbers_beside_an_axis_stay_in_the_picture(tmp_path):
             made.append(one)
             yield one
 
-    flows = np.array([-2345678.0, 1234567.0])
-    curve = [("wells", flows, flows)]
-    bands(Kept(tmp_path), "terms", np.array([0.0, 1.0]), curve, "time, d", "flow, m³ per d", "Terms")
-    (axes,) = made[0].axes
-    assert axes.yaxis.get_tightbbox(FigureCanvasAgg(made[0]).get_renderer()).x0 > 0
+    times, flows = np.array([0.0, 1.0]), np.array([-234567.0, 1.0])
+    for name, factor in (("numbers", 1), ("power", 100)):
+        curve = [("wells", factor * flows, factor * flows)]
+        bands(Kept(tmp_path), name, times, curve, "time, d", "in less out, m³ per d", "Terms of the budget over time")
+    for figure in made:
+        (axes,), renderer = figure.axes, FigureCanvasAgg(figure).get_renderer()
+        assert axes.yaxis.get_tightbbox(renderer).x0 > 0
+        title = next(t for t in axes.get_children() if isinstance(t, Text) and t.get_text().startswith("Terms"))
+        power = axes.yaxis.get_offset_text()
+        assert not power.get_text() or power.get_window_extent(renderer).x0 > title.get_window_extent(renderer).x1
+    assert power.get_text()
 
 
 @pytest.mark.program
