@@ -18,7 +18,7 @@ import sys
 from fractions import Fraction
 from math import lcm
 
-from recheck import USAGE, ZERO, Fault, Listing, Model, Pair, Step, Values
+from recheck import USAGE, ZERO, Fault, Listing, Model, Step, Values
 
 FOUND, OUTSIDE, NOT_TRIED = 0, 1, 2
 MOST_CELLS, MOST_ROUNDS = 200, 100
@@ -91,29 +91,25 @@ def digits_of(heads: Values) -> int:
 
 def find(model: Model, listing: Listing, most: int) -> int:
     """Solves the steps one after another, and prints what was found."""
-    old, longest, count = list(model.strt), 1, 0
-    given: dict[int, Pair] = {}
-    for period, times in enumerate(model.periods):
-        given = model.given_heads(period, given)
-        for number in range(1, len(times.ends)):
-            listing.read_step(period + 1, number, {})
-            step = Step(model, period, number, given)
-            if len(step.cells) > most:
-                print(f"NOT TRIED: {len(step.cells)} variable cells are more than {most}")
-                return NOT_TRIED
-            middle = [(low + high) / 2 for low, high in zip(listing.lower, listing.upper)]
-            heads = solve_step(step, middle, old)
-            for cell, head in step.constant.items():
-                heads[cell] = head
-            for cell in [*step.cells, *step.constant]:
-                low, high = listing.lower[cell], listing.upper[cell]
-                if not low <= heads[cell] <= high:
-                    print(
-                        f"OUTSIDE: period {period + 1} step {number}, {model.place(cell)}: {float(heads[cell])} "
-                        f"isn't between {float(low)} and {float(high)}"
-                    )
-                    return OUTSIDE
-            old, longest, count = heads, max(longest, digits_of(heads)), count + 1
+    old, longest = list(model.strt), 1
+    for time in model.times:
+        listing.read_step(time, {})
+        step = Step(model, time)
+        if len(step.cells) > most:
+            print(f"NOT TRIED: {len(step.cells)} variable cells are more than {most}")
+            return NOT_TRIED
+        middle = [(low + high) / 2 for low, high in zip(listing.lower, listing.upper)]
+        heads = solve_step(step, middle, old)
+        for cell, head in step.constant.items():
+            heads[cell] = head
+        for cell in [*step.cells, *step.constant]:
+            low, high = listing.lower[cell], listing.upper[cell]
+            if not low <= heads[cell] <= high:
+                place = f"{step.name}, {step.place[cell]}: {float(heads[cell])}"
+                print(f"OUTSIDE: {place} isn't between {float(low)} and {float(high)}")
+                return OUTSIDE
+        old, longest = heads, max(longest, digits_of(heads))
+    count = len(model.times)
     print(
         f"FOUND: the solution of {count} step{'s' * (count != 1)} lies between the listed heads; "
         f"digits of its longest denominator: {longest}"

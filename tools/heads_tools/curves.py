@@ -35,14 +35,16 @@ class Cut:
 
 
 def plain(axes: Axes) -> None:
-    """Axes without the frame's upper and right sides."""
+    """Axes without the frame's upper and right sides. A power of ten of the numbers stands on the right: the title is
+    on the left."""
+    axes.yaxis.set_offset_position("right")
     for side in ("top", "right"):
         axes.spines[side].set_visible(False)
 
 
 def head_section(album: Album, name: str, plan: Plan, cut: Cut) -> None:
     """A section of one layer: the head over the distance, with top, bottom, stages and wells."""
-    with album.figure(name, WIDTH, TALL + 1.45) as figure:
+    with album.figure(name, WIDTH, TALL + 1.65) as figure:
         axes = box(figure, LEFT, 1.1, WIDE, TALL)
         plain(axes)
         x, head, top, bottom = cut.middles, cut.lower[0], cut.top[0], cut.bottom[0]
@@ -92,7 +94,7 @@ def limits(cut: Cut) -> tuple[float, float]:
 
 def cell_section(album: Album, name: str, plan: Plan, cut: Cut, norm: Normalize) -> None:
     """A section of many layers: cells between their tops and bottoms in the colour of their head, with contours."""
-    with album.figure(name, WIDTH, TALL + 1.3) as figure:
+    with album.figure(name, WIDTH, TALL + 1.5) as figure:
         axes = box(figure, LEFT, 0.95, BESIDE_BAR, TALL)
         corner = lambda k, j: [
             (cut.edges[j], cut.bottom[k, j]),

@@ -23,6 +23,7 @@ from .program import TOP, Ended, Version, beside, digits_of, sha256, version
 from .spelling import quoted_words
 from .text import Problem, decimal_text, on_disk, read_text, whole_file, words
 from .verdict import Verdict, has_zones, program_file
+from .zones import read_zones
 
 EACH_HEAD = (
     "Each exact solution of this model's finite-difference equations has, at the end of each listed time step "
@@ -154,7 +155,9 @@ def add_verdicts(told: Exhibit, folder: Path, name: str, listing: str, options: 
             told.verdict += (
                 " No record of this program's bytes stands beside it: whether it is the proved one has to be shown."
             )
-    look(read, folder / "look", model, verdict=verdict)
+    deck, named = folder / "deck", zone_file(options) if has_zones(read) else []
+    zones = read_zones(on_disk(deck, named[0]), deck / name, model.shape) if named else None
+    look(read, folder / "look", model, verdict=verdict, zones=zones)
     return checked.status
 
 

@@ -46,7 +46,7 @@ class Sections(Maps):
         ]
         edges = self.plan.x if axis == 1 else self.plan.y
         cut = curves.Cut(
-            f"{title}; {self.when(step)}",
+            f"{title}\n{self.when(step)}",
             edges,
             *(v[where] for v in (self.grid(step.low), self.plan.top, self.plan.bottom)),
             met,

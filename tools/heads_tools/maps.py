@@ -69,12 +69,15 @@ def contours(axes: Axes, plan: Plan, values: np.ndarray, norm: Normalize) -> Non
 
 
 def apart(axes: Axes, labels: list[Text]) -> None:
-    """Hides each label of a contour that lies nearer than 0.3 inches to one that is shown."""
+    """Hides each label of a contour that lies nearer than 0.3 inches to one that is shown, or at the edge of the
+    axes."""
     shown: list[np.ndarray] = []
+    edges = axes.bbox.get_points() / axes.figure.dpi
     for label in labels:
         spot = axes.transData.transform(label.get_position()) / axes.figure.dpi
         label.set_path_effects(HALO)
-        label.set_visible(all(np.hypot(*(spot - other)) > 0.3 for other in shown))
+        is_within = np.abs(edges - spot).min() > 0.12
+        label.set_visible(is_within and all(np.hypot(*(spot - other)) > 0.3 for other in shown))
         if label.get_visible():
             shown.append(spot)
 

@@ -9,6 +9,7 @@ from typing import Iterator
 import matplotlib.style
 import numpy as np
 from matplotlib.axes import Axes
+from matplotlib.backends.backend_agg import FigureCanvasAgg
 from matplotlib.colors import LogNorm, Normalize
 from matplotlib.figure import Figure
 from matplotlib.lines import Line2D
@@ -18,6 +19,8 @@ Cell = tuple[int, int, int]
 
 STYLE = Path(__file__).with_name("heads.mplstyle")
 WIDTH = 6.2
+# The least room at the left of a picture, as a part of its width.
+EDGE = 0.012
 NO_FLOW = "0.86"
 KNOWN = "white"
 MARKS = {
@@ -87,11 +90,23 @@ class Album:
         with matplotlib.style.context(STYLE):
             made = Figure(figsize=(width, height))
             yield made
+            make_room(made)
             made.savefig(
                 self.folder / f"{name}.png", metadata={"Software": "heads-tools"}, pil_kwargs={"compress_level": 4}
             )
             if self.has_svg:
                 made.savefig(self.folder / f"{name}.svg", metadata={"Date": None})
+
+
+def make_room(figure: Figure) -> None:
+    """Moves the left side of axes inward where the numbers and the label beside them would leave the picture."""
+    renderer = FigureCanvasAgg(figure).get_renderer()
+    for axes in figure.axes:
+        beside = axes.yaxis.get_tightbbox(renderer) if axes.axison and axes.get_aspect() == "auto" else None
+        lack = EDGE - beside.x0 / figure.bbox.width if beside is not None else 0.0
+        if lack > 0:
+            place = axes.get_position()
+            axes.set_position((place.x0 + lack, place.y0, place.width - lack, place.height))
 
 
 def box(figure: Figure, left: float, bottom: float, width: float, height: float) -> Axes:

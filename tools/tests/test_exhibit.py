@@ -31,6 +31,7 @@ def test_the_printed_commands_run_as_they_stand(name, options, count, example, t
     assert "CERTIFIED" in said and "HOLDS" in said and "SAME" in said and "FAILED" not in said
     for file in ("heads", "heads.txt", "recheck.py", "SHA256SUMS", "judge.html", "look/index.html"):
         assert (folder / file).is_file()
+    assert (folder / "look" / "zones_layer1.png").is_file() == ("--zones" in options)
 
 
 @pytest.mark.program

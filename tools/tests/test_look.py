@@ -1,10 +1,13 @@
 """Pages of a listing: what they show, the flows into zones, and the difference of two listings."""
 import re
 import struct
+from contextlib import contextmanager
 
 import numpy as np
 import pytest
 from conftest import heads
+from matplotlib.backends.backend_agg import FigureCanvasAgg
+from matplotlib.text import Text
 
 from heads_tools.drawdown import difference
 from heads_tools.listing import Step, read_listing
@@ -81,6 +84,49 @@ def test_labels_of_contours_keep_apart():
     labels = [axes.text(x, 1, "1.25") for x in (1, 1.1, 1.29, 1.31, 3)]
     apart(axes, labels)
     assert [label.get_visible() for label in labels] == [True, False, False, True, True]
+
+
+def test_no_label_of_a_contour_lies_on_the_edge_of_a_map():
+    from matplotlib.figure import Figure
+
+    from heads_tools.maps import apart
+
+    axes = Figure(figsize=(4, 4)).add_axes((0, 0, 1, 1))
+    axes.set(xlim=(0, 4), ylim=(0, 4))
+    labels = [axes.text(*at, "10") for at in ((0.05, 1), (2, 3.95), (3.95, 2), (1, 0.05), (2, 2))]
+    apart(axes, labels)
+    assert [label.get_visible() for label in labels] == [False, False, False, False, True]
+
+
+def test_long_numbers_beside_an_axis_stay_in_the_picture(tmp_path):
+    from heads_tools.curves import bands
+    from heads_tools.pictures import Album
+
+    class Kept(Album):
+        """An album that keeps its figure."""
+
+        def figure(self, *words):
+            return kept(super().figure(*words))
+
+    made = []
+
+    @contextmanager
+    def kept(figure):
+        with figure as one:
+            made.append(one)
+            yield one
+
+    times, flows = np.array([0.0, 1.0]), np.array([-234567.0, 1.0])
+    for name, factor in (("numbers", 1), ("power", 100)):
+        curve = [("wells", factor * flows, factor * flows)]
+        bands(Kept(tmp_path), name, times, curve, "time, d", "in less out, m³ per d", "Terms of the budget over time")
+    for figure in made:
+        (axes,), renderer = figure.axes, FigureCanvasAgg(figure).get_renderer()
+        assert axes.yaxis.get_tightbbox(renderer).x0 > 0
+        title = next(t for t in axes.get_children() if isinstance(t, Text) and t.get_text().startswith("Terms"))
+        power = axes.yaxis.get_offset_text()
+        assert not power.get_text() or power.get_window_extent(renderer).x0 > title.get_window_extent(renderer).x1
+    assert power.get_text()
 
 
 @pytest.mark.program

@@ -127,13 +127,12 @@ def test_whole_numbers_lie_round_the_fractions_of_recheck(name, ran, monkeypatch
     nam, path, _ = ran(name)
     monkeypatch.chdir(nam.parent)
     exact, model, listing = recheck.Model(nam.name), read_model(nam), read_listing(path)
-    one, given = 10**listing.flow_places, {}
+    one = 10**listing.flow_places
     for slabs, at in steps_of(model, listing, failed := []):
-        step, listed = slabs.step, listing.steps[at]
+        step = slabs.step
         if at > 2:
             break
-        given = exact.given_heads(listed.period - 1, given) if listed.step == 1 else given
-        theirs = recheck.Step(exact, listed.period - 1, listed.step, given)
+        theirs = recheck.Step(exact, exact.times[at])
         now = [units.ravel() for units in slabs.now]
         in_units = [[Fraction(int(v), 10**9) for v in side] for side in now]
         past = [[Fraction(int(v), 10**9) for v in side.ravel()] for side in slabs.old]
@@ -141,7 +140,7 @@ def test_whole_numbers_lie_round_the_fractions_of_recheck(name, ran, monkeypatch
             low, high = (step.balance(now[side], slabs.old[side].ravel(), s) for s in (0, 1))
             for cell in theirs.cells:
                 balance = theirs.balance(cell, in_units[side], past[side]) * one
-                around = [g * (in_units[side][b] - in_units[side][cell]) for b, g in exact.near[cell]]
+                around = [g * (in_units[side][b] - in_units[side][cell]) for b, g in theirs.links[cell]]
                 around += [b.flow(in_units[side][cell], past[side][cell]) for b in theirs.branches[cell]]
                 assert low[cell] <= balance <= high[cell], (name, cell)
                 assert high[cell] - low[cell] <= sum(map(abs, around)) * one / 10**6 + 20, (name, cell)
@@ -152,7 +151,7 @@ def test_whole_numbers_lie_round_the_fractions_of_recheck(name, ran, monkeypatch
                 least = branch.flow(in_units[1][cell], past[0][cell])
                 most = branch.flow(in_units[0][cell], past[1][cell])
                 for n, value in enumerate((least, most, -most, -least)):
-                    sums[recheck.TERMS[branch.term]][n] += max(value, 0) * one
+                    sums[branch.term][n] += max(value, 0) * one
         for term, pair in budget.items():
             assert all(pair[n] <= sums[term][n] and sums[term][n + 1] <= pair[n + 1] for n in (0, 2)), term
         assert step.loose_cells() == []

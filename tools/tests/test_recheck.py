@@ -28,8 +28,8 @@ def moved(line, lower, upper):
 def test_it_stays_short_and_alone():
     text = SCRIPT.read_text()
     imported = set(re.findall(r"^(?:import|from) (\w+)", text, re.M))
-    assert text.count("\n") < 590 and max(map(len, text.split("\n"))) <= 120
-    assert imported == {"__future__", "fractions", "heapq", "re", "sys", "typing"}
+    assert text.count("\n") <= 450 and max(map(len, text.split("\n"))) <= 120
+    assert imported == {"fractions", "heapq", "itertools", "re", "sys", "typing"}
 
 
 @pytest.mark.program
