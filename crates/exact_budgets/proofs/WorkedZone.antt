@@ -18,4 +18,4 @@ alone = record { inside = omega arith; others = λ j lt e. omega (arith, lt); so
 
 pub middle_cell : MiddleCell
 unfolding exact_faces exact_cell exact_from
-middle_cell = record { alone = alone; from_first = record { same = refl }; to_last = record { same = refl }; inflows = (record { same = refl }, record { same = refl }) }
+middle_cell = record { alone = alone; from_first = record { same = refl }; to_last = record { same = refl }; inflow_from_first = record { same = refl }; inflow_from_last = record { same = refl } }

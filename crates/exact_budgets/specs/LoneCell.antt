@@ -38,12 +38,13 @@ module _ (zones : List ℕ) (e : List ExactCell) (k : ℕ) where
       plus (fraction_total (link_flow (λ c. h (cell_at e c).id) (h (cell_at e k).id)) (links_to b))
       (fraction_total (fixed_flow (h (cell_at e k).id)) (constants_in b))
 
--- The zone flows of a lone cell, where h has the constant heads of its branches: to a higher zone goes what flows into the cell from there, with the other sign; from a
--- lower zone, where the two ends of each link have the same conductance, comes what flows into the cell from there.
+-- The zone flows of a lone cell: to a higher zone goes what flows into the cell from there, with the other sign; from a lower zone comes what flows
+-- into the cell from there, where the two ends of each link have the same conductance.
 pub record HasItsFlows (zones : List ℕ) (e : List ExactCell) (k b : ℕ) (h : ℕ → Fraction) : Type 0 where
   pub higher : own_zone zones e k < b → Same (exact_flow (own_zone zones e k) b (exact_faces zones h e)) (negated (inflow_from zones e k h b))
   pub lower : AreLinked e → b < own_zone zones e k → Same (exact_flow b (own_zone zones e k) (exact_faces zones h e)) (inflow_from zones e k h b)
 
+-- for zones that are zones, and heads h that are the known ones at the cell's constant heads
 abbrev pub LoneCellsHaveTheirFlows : Type 0
 LoneCellsHaveTheirFlows = (zones : List ℕ) (e : List ExactCell) (k b : ℕ) (h : ℕ → Fraction) → IsAlone zones e k → 0 < own_zone zones e k → 0 < b →
     All (λ x. x.kind ≡ Constant → h x.source ≡ x.head) (cell_at e k).fixed → HasItsFlows zones e k b h

@@ -24,4 +24,5 @@ pub record MiddleCell : Type 0 where
   pub alone : IsAlone own_zones middle_step 0
   pub from_first : Same (exact_flow 1 2 (exact_faces own_zones rising middle_step)) (whole (neg_ℤ (pos 5)))
   pub to_last : Same (exact_flow 2 3 (exact_faces own_zones rising middle_step)) (whole (neg_ℤ (pos 5)))
-  pub inflows : Same (inflow_from own_zones middle_step 0 rising 1) (whole (neg_ℤ (pos 5))) × Same (inflow_from own_zones middle_step 0 rising 3) (whole (pos 5))
+  pub inflow_from_first : Same (inflow_from own_zones middle_step 0 rising 1) (whole (neg_ℤ (pos 5)))
+  pub inflow_from_last : Same (inflow_from own_zones middle_step 0 rising 3) (whole (pos 5))
