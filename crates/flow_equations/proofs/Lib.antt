@@ -2,6 +2,7 @@ pub mod Values
 pub mod Links
 mod Darcy
 mod StepSums
+mod StorageTerms
 mod Downwards
 mod Elevations
 mod TurnedFlows

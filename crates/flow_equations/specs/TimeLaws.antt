@@ -1,10 +1,11 @@
 -- Time steps by the manual (TM 6-A16, chapters 2 and 4).
-use Rattle.std.specs.Prelude.{◌≡◌, ℕ, ◌+◌, ◌≤◌, false, List, [], ◌∷◌}
+use Rattle.std.specs.Prelude.{◌≡◌, ℕ, ◌+◌, ◌≤◌, true, false, List, [], ◌∷◌}
 use Rattle.std.specs.List.{range_with_len}
 use Rattle.decimal_input.specs.Canonical.{size}
 use Rattle.decimal_input.specs.Ratios.{Ratio, ratio, plus, times, over, Same}
 use Rattle.model_types.specs.declared.model.FlowModel.{FlowModel}
 use Rattle.model_types.specs.declared.period.Period.{Period}
+use Rattle.model_types.specs.Layers.{dec_at, area, thickness}
 use Rattle.model_types.specs.Numbers.{IsPositive}
 use Rattle.model_types.specs.Conductances.{one}
 use Rattle.model_types.specs.Times.{power, step_length, passed}
@@ -45,3 +46,12 @@ StepsAreTheManuals = (p : Period) → Lasts p → HasManualSteps p
 -- The storage of a step is the storage capacity over the step's length.
 abbrev pub StoresOverTheStep : Type 0
 StoresOverTheStep = (m : FlowModel) (p : Period) (n c : ℕ) → Lasts p → Same (times (storage m p n c) (step_length p n)) (storage_capacity m c)
+
+-- By the option STORAGECOEFFICIENT (TM 6-A16, LPF, item 1) Ss is read as a storage coefficient: a step's storage is Ss * DELR * DELC over its length,
+-- without the thickness. Without the option Ss is the specific storage, and it is Ss * THICK * DELR * DELC over its length.
+pub record StoresByOption (m : FlowModel) (p : Period) (n c : ℕ) : Type 0 where
+  pub coefficient : m.coefficient ≡ true → Same (times (storage m p n c) (step_length p n)) (times (size (dec_at m.ss c)) (area m c))
+  pub specific : m.coefficient ≡ false → Same (times (storage m p n c) (step_length p n)) (times (times (size (dec_at m.ss c)) (thickness m c)) (area m c))
+
+abbrev pub StoresByTheOption : Type 0
+StoresByTheOption = (m : FlowModel) (p : Period) (n c : ℕ) → Lasts p → StoresByOption m p n c

@@ -1,5 +1,5 @@
 // Time steps and storage by the manual.
-ghost use Rattle.flow_equations.specs.TimeLaws.{StepsAreTheManuals, StoresOverTheStep};
+ghost use Rattle.flow_equations.specs.TimeLaws.{StepsAreTheManuals, StoresByTheOption, StoresOverTheStep};
 
 /// Steps grow by TSMULT from the manual's first one, are equal where it is 1, and sum to the period.
 pub fn steps_of_a_period()
@@ -9,4 +9,9 @@ pub fn steps_of_a_period()
 /// The storage of a step is the storage capacity over the step's length.
 pub fn storage_over_a_step()
     ensures { StoresOverTheStep }
+{}
+
+/// With the option STORAGECOEFFICIENT it is Ss times the area over the step's length; without, the thickness is a factor.
+pub fn storage_by_option()
+    ensures { StoresByTheOption }
 {}
