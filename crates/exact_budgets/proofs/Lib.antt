@@ -8,5 +8,7 @@ pub mod Sums
 pub mod IndexedSums
 pub mod SingleLinks
 pub mod LoneCells
+pub mod Passing
+pub mod LowerFaces
 pub mod LowerZones
 pub mod WorkedZone

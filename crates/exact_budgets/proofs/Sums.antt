@@ -15,17 +15,14 @@ one_fraction f g e d =
 regrouped : (x y z a b c : ℤ) → (x *ℤ b +ℤ y *ℤ a) *ℤ c +ℤ z *ℤ (a *ℤ b) ≡ x *ℤ (b *ℤ c) +ℤ (y *ℤ c +ℤ z *ℤ b) *ℤ a
 regrouped x y z a b c = rw (as_diff x, as_diff y, as_diff z, as_diff a, as_diff b, as_diff c) (simp diffs (same_diff _ _ _ _ (omega arith)))
 
-both_dens : (m n : ℕ) → suc (m * n + m + n) ≡ suc m * suc n
-both_dens m n = omega arith
-
 pub plus_assoc : (f g h : Fraction) → plus (plus f g) h ≡ plus f (plus g h)
 plus_assoc f g h = one_fraction (plus (plus f g) h) (plus f (plus g h)) nums (omega arith)
   where
     left : pos (suc (f.less * g.less + f.less + g.less)) ≡ pos (den f) *ℤ pos (den g)
-    left = ap (λ (n : ℕ). pos n) (both_dens f.less g.less)
+    left = ap (λ (n : ℕ). pos n) (let e : suc (f.less * g.less + f.less + g.less) ≡ suc f.less * suc g.less = omega arith in e)
 
     right : pos (suc (g.less * h.less + g.less + h.less)) ≡ pos (den g) *ℤ pos (den h)
-    right = ap (λ (n : ℕ). pos n) (both_dens g.less h.less)
+    right = ap (λ (n : ℕ). pos n) (let e : suc (g.less * h.less + g.less + h.less) ≡ suc g.less * suc h.less = omega arith in e)
 
     nums : (plus (plus f g) h).num ≡ (plus f (plus g h)).num
     nums =

@@ -1,5 +1,5 @@
 -- What is read of the first line and of LAYCBD.
-use Rattle.std.proofs.Common.{◌≡◌, ℕ, ◌-◌, ◌*◌, ◌<◌, ◌≤◌, ◌==◌, nat_lt, nat_le, Bool, true, false, ◌&&◌, List, [], ◌∷◌, ◌++◌, length, All, Option, Some, None, Ok, refl, sym, subst, arith, ℤ, pos, negsuc, unsigned_abs}
+use Rattle.std.proofs.Common.{◌≡◌, ℕ, ◌-◌, ◌*◌, ◌<◌, ◌≤◌, ◌==◌, nat_lt, nat_le, suc, Bool, true, false, ◌&&◌, List, [], ◌∷◌, ◌++◌, length, All, Option, Some, None, Ok, refl, arith, ℤ, pos, negsuc}
 use Rattle.std.specs.Prelude.{if◌then◌else◌}
 use Rattle.std.proofs.lemmas.Bool.{and_parts, leb-true, ltb-true, eqb-true, not-false}
 use Rattle.std.proofs.lemmas.List.{length-append}
@@ -30,7 +30,7 @@ use Rattle.array_forms.proofs.ArrayForms.{item_is}
 use Rattle.array_forms.proofs.ListForms.{value_is}
 use Rattle.array_forms.proofs.NumberForms.{integer_is}
 use Rattle.array_forms.proofs.Readings.{clash, goes, ends, repeated_are}
-use Rattle.model_forms.proofs.Parts.{if_true, if_false, some_same}
+use Rattle.model_forms.proofs.Parts.{if_true, if_false}
 
 inside_is : (o : Option ℕ) (r : Refusal) (n : ℕ) → inside o r ≡ Ok n → o ≡ Some n
 inside_is None r n h = absurd (clash r n (inside None r) refl h)
@@ -43,7 +43,8 @@ within_is (pos k) limit n h = by_case (nat_lt 0 k && nat_le k limit) refl h
     by_case : (b : Bool) → (nat_lt 0 k && nat_le k limit) ≡ b → (if b then Some k else None) ≡ Some n → (1 ≤ n) × (n ≤ limit)
     by_case true e so =
         let p = and_parts (nat_lt 0 k) (nat_le k limit) e in
-        let same : k ≡ n = some_same k n so in
+        let found : Some k ≡ Some n = so in
+        let same : k ≡ n = cc in
         let low : 0 < k = ltb-true 0 k p.0 in
         let high : k ≤ limit = leb-true k limit p.1 in
         (omega arith, omega arith)
@@ -89,12 +90,12 @@ module _ (file : List ℕ) where
       let is : IsFrame made = record { size = size_is line ws s.item s.first; periods = count_is line 1000 s.item.1 n.item n.first } in
       ends {E = Refusal} (λ (y : Frame). IsFrame y × IsShort y.lenuni) made f u.then_ (is, integer_at_is line t.item.1 u.item u.first)
 
-unsigned_zero : (z : ℤ) → unsigned_abs z ≡ 0 → z ≡ pos 0
-unsigned_zero (pos n) e = rw e refl
-unsigned_zero (negsuc n) e = absurd (omega arith)
-
-pub zero_short : IsShort (pos 0)
+zero_short : IsShort (pos 0)
 zero_short = record { few = omega arith }
+
+zero_item : (z : ℤ) → is_nonzero z ≡ false → (z ≡ pos 0) × IsShort z
+zero_item (pos n) e = let none : n ≡ 0 = eqb-true n 0 (not-false (n == 0) e) in rw none (refl, zero_short)
+zero_item (negsuc n) e = let none : suc n ≡ 0 = eqb-true (suc n) 0 (not-false (suc n == 0) e) in absurd (omega arith)
 
 -- LAYCBD: an integer for each layer, none below the last
 pub record AreBeds (layers : ℕ) (laycbd : List ℤ) : Type 0 where
@@ -103,13 +104,12 @@ pub record AreBeds (layers : ℕ) (laycbd : List ℤ) : Type 0 where
   pub last : int_at laycbd (layers - 1) ≡ pos 0
 
 module _ (file : List ℕ) where
-  zero_is : (s : Taking × Left) (x : ℤ × (Taking × Left)) → zero_at file s ≡ Ok x → x.0 ≡ pos 0
+  zero_is : (s : Taking × Left) (x : ℤ × (Taking × Left)) → zero_at file s ≡ Ok x → (x.0 ≡ pos 0) × IsShort x.0
   unfolding zero_at
   zero_is s x h =
       let z = goes (value_at integer file s) _ x h in
       let t = if_false x (is_nonzero z.item.0.0) (refusal OutOfProfile file z.item.0.1) (Ok (z.item.0.0, z.item.1)) z.then_ in
-      let none : z.item.0.0 ≡ pos 0 = unsigned_zero z.item.0.0 (eqb-true (unsigned_abs z.item.0.0) 0 (not-false (unsigned_abs z.item.0.0 == 0) t.0)) in
-      ends {E = Refusal} (λ (y : ℤ × (Taking × Left)). y.0 ≡ pos 0) (z.item.0.0, z.item.1) x t.1 none
+      ends {E = Refusal} (λ (y : ℤ × (Taking × Left)). (y.0 ≡ pos 0) × IsShort y.0) (z.item.0.0, z.item.1) x t.1 (zero_item z.item.0.0 t.0)
 
   beds_are : (layers : ℕ) (left : Left) (x : List ℤ × Left) → 1 ≤ layers → beds_of file layers left ≡ Ok x → AreBeds layers x.0
   unfolding beds_of
@@ -117,14 +117,13 @@ module _ (file : List ℕ) where
       let above = goes (repeated (layers - 1) (value_alone integer file) (beginning, left)) _ x h in
       let last = goes (zero_at file above.item.1) _ x above.then_ in
       let are = repeated_are (value_alone integer file) (λ z. IsShort z) (value_is integer (λ z. IsShort z) integer_is file) (layers - 1) (beginning, left) above.item.1 above.item.0 above.first in
-      let zero : last.item.0 ≡ pos 0 = zero_is above.item.1 last.item last.first in
-      let short : IsShort last.item.0 = subst (λ (z : ℤ). IsShort z) (sym zero) zero_short in
+      let zero = zero_is above.item.1 last.item last.first in
       let many : length above.item.0 ≡ layers - 1 = are.0 in
       let count : length (above.item.0 ++ last.item.0 ∷ []) ≡ layers = omega (arith, length-append above.item.0 (last.item.0 ∷ []), some) in
       let is : AreBeds layers (above.item.0 ++ last.item.0 ∷ []) = record {
         count = count;
-        short = All-push (λ z. IsShort z) above.item.0 last.item.0 are.1 short;
-        last = last_of above.item.0 (above.item.0 ++ last.item.0 ∷ []) last.item.0 layers some many refl zero;
+        short = All-push (λ z. IsShort z) above.item.0 last.item.0 are.1 zero.1;
+        last = last_of above.item.0 (above.item.0 ++ last.item.0 ∷ []) last.item.0 layers some many refl zero.0;
       } in
       ends {E = Refusal} (λ (y : List ℤ × Left). AreBeds layers y.0) (above.item.0 ++ last.item.0 ∷ [], last.item.1.1) x last.then_ is
 

@@ -14,5 +14,6 @@ pub mod AreaForms
 pub mod RchForms
 pub mod EvtForms
 pub mod StageForms
+pub mod CoreForms
 pub mod ModelForms
 pub mod WorkedForms

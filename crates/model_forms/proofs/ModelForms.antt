@@ -1,25 +1,20 @@
 -- A model that is read is writable.
-use Rattle.std.proofs.Common.{◌≡◌, ◌⊎◌, inl, inr, ℕ, ◌≤◌, ℤ, pos, Bool, not, ◌||◌, cond, List, [], ◌∷◌, map, length, sum, sum_by, All, Ok, refl, sym, ap, subst, ◌∙◌}
+use Rattle.std.proofs.Common.{◌≡◌, ◌⊎◌, inl, inr, ℕ, ℤ, Bool, not, ◌||◌, cond, List, [], ◌∷◌, map, sum, sum_by, All, Ok, refl, sym, ap, subst, ◌∙◌}
 use Rattle.std.specs.List.{list_any}
 use Rattle.std.proofs.lemmas.List.Elements.{All-weaker}
 use Rattle.std.proofs.lemmas.List.Sums.{sum-map}
-use Rattle.decimal_input.specs.declared.dec.Dec.{Dec}
-use Rattle.decimal_input.specs.Canonical.{IsDec}
 use Rattle.outside.specs.Files.{File}
 use Rattle.outside.specs.Inputs.{file_at}
 use Rattle.outside.specs.declared.refusals.Refusal.{Refusal}
 use Rattle.name_file.specs.Pairs.{Pairs}
 use Rattle.name_file.specs.declared.package.Package.TheVariants.{Dis, Bas, Lpf}
-use Rattle.model_types.specs.declared.grid.Grid.{Grid}
 use Rattle.model_types.specs.declared.model.FlowModel.{FlowModel}
 use Rattle.model_types.specs.declared.period.Period.{Period}
 use Rattle.model_types.specs.Cells.{cell_count}
-use Rattle.model_types.specs.Grids.{IsGrid, HasSize}
+use Rattle.model_types.specs.Grids.{HasSize}
 use Rattle.model_types.specs.Valid.{IsTimed}
-use Rattle.dis_package.specs.Forms.{IsNewPeriod}
 use Rattle.bas_package.specs.Basics.{bas_of}
-use Rattle.lpf_package.specs.Flow.{is_transient, with_properties, lpf_of, SameBut}
-use Rattle.lpf_package.specs.declared.layer.Properties.{Properties}
+use Rattle.lpf_package.specs.Flow.{is_transient, lpf_of, SameBut}
 use Rattle.cell_checks.specs.Checks.{checked}
 use Rattle.cell_checks.specs.Faults.{fault_at}
 use Rattle.cell_checks.specs.declared.passing.Check.{Check}
@@ -29,81 +24,15 @@ use Rattle.model_reader.specs.Names.{names_in, needed}
 use Rattle.model_reader.specs.Model.{dis_in, basics_tested, bas_in, lpf_in, model_of, reads}
 use Rattle.array_forms.proofs.Readings.{goes, ends}
 use Rattle.array_text.specs.Words.{IsShort}
-use Rattle.package_text.specs.Readable.{IsOfBeds, IsDiscretized, HasFlow}
+use Rattle.package_text.specs.Readable.{HasFlow}
 use Rattle.area_text.specs.Readable.{IsRecharged, IsEvaporating}
 use Rattle.model_text.specs.Writable.{IsDry, IsStill, HasNoRecharge, HasNoEvaporation, IsWritable}
 use Rattle.model_forms.proofs.BasForms.{HasBasics, bas_is}
-use Rattle.model_forms.proofs.CheckForms.{checked_again}
 use Rattle.model_forms.proofs.DisForms.{IsStarted, dis_is}
 use Rattle.model_forms.proofs.LpfForms.{lpf_is}
 use Rattle.model_forms.proofs.PeriodForms.{IsKnown}
 use Rattle.model_forms.proofs.StageForms.{IsOption, IsStressed, first_stage, stresses_are}
-
--- another model with this grid, LENUNI, and as many periods of as many steps
-discretized_again : (m n : FlowModel) → n.grid ≡ m.grid → n.lenuni ≡ m.lenuni → length n.periods ≡ length m.periods → sum_by (λ p. p.nstp) n.periods ≡ sum_by (λ p. p.nstp) m.periods → All IsTimed n.periods
-    → IsDiscretized m → IsDiscretized n
-discretized_again m n grid lenuni many sum times d = record {
-  grid = subst (λ (g : Grid). IsGrid g) (sym grid) d.grid;
-  laycbd = subst (λ (g : Grid). All IsShort g.laycbd) (sym grid) d.laycbd;
-  bed_bottom = subst (λ (g : Grid). IsOfBeds g g.bed_bottom) (sym grid) d.bed_bottom;
-  lenuni = subst (λ (z : ℤ). IsShort z) (sym lenuni) d.lenuni;
-  some = subst (λ (n : ℕ). 1 ≤ n) (sym many) d.some;
-  few = subst (λ (n : ℕ). n ≤ 1000) (sym many) d.few;
-  steps = subst (λ (n : ℕ). n ≤ 100000) (sym sum) d.steps;
-  times = times;
-}
-
--- what is known of a model after LPF
-record IsFlow (m : FlowModel) : Type 0 where
-  pub discretized : IsDiscretized m
-  pub ibound : length m.ibound ≡ cell_count m.grid
-  pub strt : (length m.strt ≡ cell_count m.grid) × All IsDec m.strt
-  pub flow : HasFlow m
-  pub passed : (check : Check) (file : List ℕ) → checked m file check ≡ Ok tt
-  pub new : All IsNewPeriod m.periods
-  pub options : (m.nrchop ≡ pos 0) × (m.nevtop ≡ pos 0)
-
-thickness_kept : (m : FlowModel) (c : Bool) (layvka : List ℤ) (p : Properties) (file : List ℕ) → checked (with_properties m c layvka p) file Thickness ≡ checked m file Thickness
-unfolding checked fault_at
-thickness_kept m c layvka p file = refl
-
-heads_kept : (m : FlowModel) (c : Bool) (layvka : List ℤ) (p : Properties) (file : List ℕ) → checked (with_properties m c layvka p) file StartHead ≡ checked m file StartHead
-unfolding checked fault_at
-heads_kept m c layvka p file = refl
-
-all_passed : (basic flow : FlowModel) (dis bas lpf : List ℕ) → SameBut basic flow → checked basic dis Thickness ≡ Ok tt → checked basic bas StartHead ≡ Ok tt → checked flow lpf PropertyCheck ≡ Ok tt
-    → (check : Check) (file : List ℕ) → checked flow file check ≡ Ok tt
-all_passed basic flow dis bas lpf same thick heads good Thickness file =
-    let p : Properties = record { hk = flow.hk; hani = flow.hani; vka = flow.vka; ss = flow.ss; vkcb = flow.vkcb } in
-    let there : checked flow dis Thickness ≡ Ok tt = ap (λ (m : FlowModel). checked m dis Thickness) same ∙ thickness_kept basic flow.coefficient flow.layvka p dis ∙ thick in
-    checked_again flow dis file Thickness there
-all_passed basic flow dis bas lpf same thick heads good StartHead file =
-    let p : Properties = record { hk = flow.hk; hani = flow.hani; vka = flow.vka; ss = flow.ss; vkcb = flow.vkcb } in
-    let there : checked flow bas StartHead ≡ Ok tt = ap (λ (m : FlowModel). checked m bas StartHead) same ∙ heads_kept basic flow.coefficient flow.layvka p bas ∙ heads in
-    checked_again flow bas file StartHead there
-all_passed basic flow dis bas lpf same thick heads good PropertyCheck file = checked_again flow lpf file PropertyCheck good
-
-flow_is : (b basic flow : FlowModel) (dis bas lpf : List ℕ) → IsStarted b → HasBasics b basic → HasFlow flow → SameBut basic flow
-    → checked basic dis Thickness ≡ Ok tt → checked basic bas StartHead ≡ Ok tt → checked flow lpf PropertyCheck ≡ Ok tt → IsFlow flow
-flow_is b basic flow dis bas lpf started basics has same thick heads good =
-    let grid : flow.grid ≡ b.grid = ap (λ (m : FlowModel). m.grid) same ∙ ap (λ (m : FlowModel). m.grid) basics.only in
-    let lenuni : flow.lenuni ≡ b.lenuni = ap (λ (m : FlowModel). m.lenuni) same ∙ ap (λ (m : FlowModel). m.lenuni) basics.only in
-    let periods : flow.periods ≡ b.periods = ap (λ (m : FlowModel). m.periods) same ∙ ap (λ (m : FlowModel). m.periods) basics.only in
-    let nrchop : flow.nrchop ≡ b.nrchop = ap (λ (m : FlowModel). m.nrchop) same ∙ ap (λ (m : FlowModel). m.nrchop) basics.only in
-    let nevtop : flow.nevtop ≡ b.nevtop = ap (λ (m : FlowModel). m.nevtop) same ∙ ap (λ (m : FlowModel). m.nevtop) basics.only in
-    let ibound : flow.ibound ≡ basic.ibound = ap (λ (m : FlowModel). m.ibound) same in
-    let strt : flow.strt ≡ basic.strt = ap (λ (m : FlowModel). m.strt) same in
-    let cells : cell_count b.grid ≡ cell_count flow.grid = ap (λ (g : Grid). cell_count g) (sym grid) in
-    let times : All IsTimed flow.periods = subst (λ (ps : List Period). All IsTimed ps) (sym periods) started.discretized.times in
-    record {
-      discretized = discretized_again b flow grid lenuni (ap (λ (ps : List Period). length ps) periods) (ap (λ (ps : List Period). sum_by (λ p. p.nstp) ps) periods) times started.discretized;
-      ibound = ap (λ (zs : List ℤ). length zs) ibound ∙ basics.ibound ∙ cells;
-      strt = (ap (λ (ds : List Dec). length ds) strt ∙ basics.strt.0 ∙ cells, subst (λ (ds : List Dec). All IsDec ds) (sym strt) basics.strt.1);
-      flow = has;
-      passed = all_passed basic flow dis bas lpf same thick heads good;
-      new = subst (λ (ps : List Period). All IsNewPeriod ps) (sym periods) started.new;
-      options = (nrchop ∙ ap (λ (m : FlowModel). m.nrchop) started.only, nevtop ∙ ap (λ (m : FlowModel). m.nevtop) started.only);
-    }
+use Rattle.model_forms.proofs.CoreForms.{discretized_again, IsFlow, flow_is}
 
 -- a model with the stresses of a stage
 abbrev staged : FlowModel → ℤ → ℤ → List Period → FlowModel

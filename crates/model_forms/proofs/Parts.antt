@@ -1,5 +1,5 @@
 -- Parts of a reading that gives something: tests that were passed, counted steps, and lists of layers.
-use Rattle.std.proofs.Common.{◌≡◌, ◌⊎◌, inl, inr, ℕ, zero, suc, ◌+◌, ◌-◌, ◌*◌, ◌<◌, ◌≤◌, Bool, true, false, List, [], ◌++◌, length, take, drop, All, Some, Result, Ok, Err, refl, subst, arith}
+use Rattle.std.proofs.Common.{◌≡◌, ◌⊎◌, inl, inr, ℕ, zero, suc, ◌+◌, ◌-◌, ◌*◌, ◌<◌, ◌≤◌, Bool, true, false, List, [], ◌++◌, length, take, drop, All, Result, Ok, Err, refl, subst, arith}
 use Rattle.std.specs.Prelude.{if◌then◌else◌}
 use Rattle.std.proofs.Math.Nat.{mul-le-mul_right}
 use Rattle.std.proofs.lemmas.Bool.{cases_lt}
@@ -17,9 +17,6 @@ if_true {B = B} {E = E} y false e r h = absurd (clash {B = B} {E = E} e y (Err e
 pub if_false : {B E : Type 0} (y : B) (b : Bool) (e : E) (r : Result B E) → (if b then Err e else r) ≡ Ok y → (b ≡ false) × (r ≡ Ok y)
 if_false {B = B} {E = E} y true e r h = absurd (clash {B = B} {E = E} e y (Err e) refl h)
 if_false y false e r h = (refl, h)
-
-pub some_same : {X : Type 0} (x y : X) → Some x ≡ Some y → x ≡ y
-some_same x y h = cc
 
 module _ {S E : Type 0} (step : ℕ → S → Result S E) (I : ℕ → S → Type 0) (each : (i : ℕ) (s t : S) → step i s ≡ Ok t → I i s → I (i + 1) t) where
   pub counted_are : (n i : ℕ) (s t : S) → counted step i n s ≡ Ok t → I i s → I (i + n) t

@@ -70,13 +70,14 @@ module _ {S : Type 0} (read : Period → S → Result (Period × S) Refusal) (I 
       ends {E = Refusal} (λ (y : List Period × S). All Q y.0 × (map steps y.0 ≡ map steps (p ∷ ps))) (a.item.0 ∷ b.item.0, b.item.1) x b.then_
       (All-cons Q a.item.0 b.item.0 one.0 rest.0, cons_same (steps a.item.0) (steps p) (map steps b.item.0) (map steps ps) one.2 rest.1)
 
--- other stresses leave a period's times
-pub timed : (p : Period) (s : Stresses) → IsTimed p → IsTimed (record p { stresses = s })
-timed p s t = record { nstp = t.nstp; perlen = t.perlen; lasts = t.lasts; tsmult = t.tsmult; growth = λ transient. grow (t.growth transient) }
-  where
-    grow : (p.tsmult ≡ number_one) ⊎ IsGrowing p → (p.tsmult ≡ number_one) ⊎ IsGrowing (record p { stresses = s })
-    grow (inl e) = inl e
-    grow (inr g) = inr (record { few = g.few; least = g.least; most = g.most })
+module _ (p : Period) (s : Stresses) where
+  grown : (p.tsmult ≡ number_one) ⊎ IsGrowing p → (p.tsmult ≡ number_one) ⊎ IsGrowing (record p { stresses = s })
+  grown (inl e) = inl e
+  grown (inr g) = inr (record { few = g.few; least = g.least; most = g.most })
+
+  -- other stresses leave a period's times
+  pub timed : IsTimed p → IsTimed (record p { stresses = s })
+  timed t = record { nstp = t.nstp; perlen = t.perlen; lasts = t.lasts; tsmult = t.tsmult; growth = λ transient. grown (t.growth transient) }
 
 -- a list of a period is one of another period that may have it
 pub list_again : {E : Type 0} (kind : Kind E) (cells : ℕ) (p q : Period) (xs : List E) → kind.suits q xs ≡ kind.suits p xs → IsListOf kind cells p xs → IsListOf kind cells q xs

@@ -47,7 +47,6 @@ use Rattle.model_text.specs.Writable.{IsDry, IsStill, IsWritable}
 use Rattle.model_text.proofs.ModelTexts.{model_reads}
 use Rattle.model_text.proofs.PackageTexts.{type_is_word, type_reads}
 use Rattle.model_forms.specs.Worked.{name_of_deck, deck, ThreeCells}
-use Rattle.model_forms.proofs.Parts.{some_same}
 
 abbrev steady_period : Period
 steady_period = period_with true (decimal 1 0) 1 []
@@ -185,7 +184,7 @@ names : AreNames file_type name_of_deck
 names = record {
   each = λ k. record { word = type_is_word k; few = (good_type k).0; plain = all_plain (file_type k) (good_type k).1 };
   first = record { word = word_by_test name_of_deck refl; few = omega arith; plain = all_plain name_of_deck refl };
-  distinct = λ a b e. some_same a b (sym (type_reads a) ∙ ap (λ (w : List ℕ). package_of w) e ∙ type_reads b);
+  distinct = λ a b e. (let same : Some a ≡ Some b = sym (type_reads a) ∙ ap (λ (w : List ℕ). package_of w) e ∙ type_reads b in cc);
   apart = λ k e. (let clash : Some k ≡ None = sym (type_reads k) ∙ ap (λ (w : List ℕ). package_of w) e ∙ no_type in cc);
 }
 
