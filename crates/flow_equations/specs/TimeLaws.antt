@@ -47,13 +47,8 @@ StepsAreTheManuals = (p : Period) → Lasts p → HasManualSteps p
 abbrev pub StoresOverTheStep : Type 0
 StoresOverTheStep = (m : FlowModel) (p : Period) (n c : ℕ) → Lasts p → Same (times (storage m p n c) (step_length p n)) (storage_capacity m c)
 
-<<<<<<< HEAD
--- By the option STORAGECOEFFICIENT (TM 6-A16, LPF, item 1) Ss is read as a storage coefficient: a step's storage is Ss * DELR * DELC over its length, without the
--- thickness. Without the option Ss is the specific storage, and it is Ss * THICK * DELR * DELC over its length.
-=======
 -- By the option STORAGECOEFFICIENT (TM 6-A16, LPF, item 1) Ss is read as a storage coefficient: a step's storage is Ss * DELR * DELC over its length,
 -- without the thickness. Without the option Ss is the specific storage, and it is Ss * THICK * DELR * DELC over its length.
->>>>>>> laws2
 pub record StoresByOption (m : FlowModel) (p : Period) (n c : ℕ) : Type 0 where
   pub coefficient : m.coefficient ≡ true → Same (times (storage m p n c) (step_length p n)) (times (size (dec_at m.ss c)) (area m c))
   pub specific : m.coefficient ≡ false → Same (times (storage m p n c) (step_length p n)) (times (times (size (dec_at m.ss c)) (thickness m c)) (area m c))
