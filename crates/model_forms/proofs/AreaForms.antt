@@ -1,73 +1,48 @@
--- What is read of flags, and of arrays that are read anew or used again.
-use Rattle.std.proofs.Common.{◌≡◌, ℕ, ◌<◌, ◌≤◌, ℤ, pos, negsuc, Bool, true, false, not, ◌&&◌, List, [], length, All, Option, Some, None, IfSome, IsSomeAnd, is_some, Result, Ok, refl, sym, ap, subst, arith}
+-- What is read of the arrays of a stress period.
+use Rattle.std.proofs.Common.{◌≡◌, ℕ, ◌<◌, ◌≤◌, ℤ, pos, negsuc, Bool, true, false, List, [], length, All, Result, Ok, refl, sym, subst, arith}
 use Rattle.std.proofs.lemmas.Bool.{leb-true}
 use Rattle.std.proofs.lemmas.List.{get_or_default}
 use Rattle.decimal_input.specs.declared.dec.Dec.{Dec}
 use Rattle.outside.specs.Files.{File}
-use Rattle.outside.specs.Refusals.{refusal}
-use Rattle.outside.specs.declared.codes.Code.TheVariants.{NothingToReuse, CellOutside, OutOfProfile}
+use Rattle.outside.specs.Words.{words}
+use Rattle.outside.specs.declared.codes.Code.TheVariants.{CellOutside}
 use Rattle.outside.specs.declared.refusals.Refusal.{Refusal}
+use Rattle.record_lines.specs.Items.{line_at}
 use Rattle.record_lines.specs.Layout.{Left}
 use Rattle.array_reader.specs.Arrays.{real_layer, integer_layer}
-use Rattle.array_reader.specs.Items.{number_at}
-use Rattle.array_reader.specs.Numbers.{integer}
 use Rattle.model_types.specs.declared.grid.Grid.{Grid}
 use Rattle.model_types.specs.Cells.{layer_size}
 use Rattle.model_types.specs.Grids.{HasSize}
 use Rattle.model_types.specs.Layers.{int_at}
 use Rattle.model_types.specs.Receivers.{is_int}
-use Rattle.period_arrays.specs.Flags.{is_option, option_at, is_negative, flag_at}
-use Rattle.period_arrays.specs.Forms.{IsReals}
+use Rattle.period_arrays.specs.Areas.{area_at, array_or, arrays_of, nothing_yet}
+use Rattle.period_arrays.specs.Flags.{flags_of}
+use Rattle.period_arrays.specs.Forms.{AreFlags, IsArea, IsReals, IsWhole}
 use Rattle.period_arrays.specs.Layers.{is_layer, refusal_at, layer_step, layers_tested, layers_at}
-use Rattle.period_arrays.specs.Updates.{updated, updated_reals, updated_layers, or_empty}
-use Rattle.period_arrays.proofs.UpdateLemmas.{stands}
+use Rattle.period_arrays.specs.declared.area.Area.{Area}
+use Rattle.period_arrays.specs.declared.area.InForce.{InForce}
+use Rattle.period_arrays.specs.declared.flags.Contents.{Contents}
+use Rattle.period_arrays.specs.declared.flags.Flags.{Flags}
+use Rattle.period_arrays.proofs.AreaLemmas.{is_area}
 use Rattle.evt_package.proofs.EvapLemmas.{each_step}
 use Rattle.array_forms.proofs.ArrayForms.{arrays}
 use Rattle.array_forms.proofs.Readings.{goes, ends}
 use Rattle.array_text.specs.Words.{IsShort}
 use Rattle.area_text.specs.Readable.{IsLayers}
+use Rattle.model_forms.proofs.FlagForms.{flags_are}
 use Rattle.model_forms.proofs.GridForms.{layer_is}
-use Rattle.model_forms.proofs.Parts.{if_true, if_false}
+use Rattle.model_forms.proofs.Parts.{if_true}
 
-reused : (a b : Bool) → (a && not b) ≡ false → not a ≡ false → b ≡ true
-reused true true e f = refl
-reused true false e f = absurd (let clash : true ≡ false = e in cc)
-reused false b e f = absurd (let clash : true ≡ false = f in cc)
+module _ {X : Type 0} (read : Left → Result (List X × Left) Refusal) where
+  -- an array is read anew, or it is the last one
+  array_is : (P : List X → Type 0) → ((left : Left) (x : List X × Left) → read left ≡ Ok x → P x.0) → (anew : Bool) (before : List X) (left : Left) (x : List X × Left) → array_or read anew before left ≡ Ok x
+      → (anew ≡ false → P before) → P x.0
+  array_is P each true before left x h last = each left x h
+  array_is P each false before left x h last = ends {E = Refusal} (λ (y : List X × Left). P y.0) (before, left) x h (last refl)
 
-module _ (file : List ℕ) (line : ℕ) where
-  pub flag_is : (listed : Bool) (ws : List (List ℕ)) (x : Bool × List (List ℕ)) → flag_at file line listed ws ≡ Ok x → x.0 ≡ false → listed ≡ true
-  unfolding flag_at
-  flag_is listed ws x h =
-      let z = goes (number_at integer file line ws) _ x h in
-      let t = if_false x (is_negative z.item.0 && not listed) (refusal NothingToReuse file line) (Ok (not (is_negative z.item.0), z.item.1)) z.then_ in
-      ends {E = Refusal} (λ (y : Bool × List (List ℕ)). y.0 ≡ false → listed ≡ true) (not (is_negative z.item.0), z.item.1) x t.1 (reused (is_negative z.item.0) listed t.0)
-
-  pub option_is : (ws : List (List ℕ)) (x : ℤ × List (List ℕ)) → option_at file line ws ≡ Ok x → is_option x.0 ≡ true
-  unfolding option_at
-  option_is ws x h =
-      let z = goes (number_at integer file line ws) _ x h in
-      let t = if_true x (is_option z.item.0) (refusal OutOfProfile file line) (Ok z.item) z.then_ in
-      ends {E = Refusal} (λ (y : ℤ × List (List ℕ)). is_option y.0 ≡ true) z.item x t.1 t.0
-
--- the array in force is good, if there is one; there is one if one was read or there was one; and else it is the last one
-pub record IsUpdated {X : Type 0} (P : List X → Type 0) (anew : Bool) (last now : Option (List X)) : Type 0 where
-  pub good : IfSome now P
-  pub there : (anew ≡ false → is_some last ≡ true) → IsSomeAnd now P
-  pub kept : anew ≡ false → now ≡ last
-
-module _ {X : Type 0} (read : Left → Result (List X × Left) Refusal) (P : List X → Type 0) (each : (left : Left) (x : List X × Left) → read left ≡ Ok x → P x.0) where
-  updated_is : (anew : Bool) (last : Option (List X)) (left : Left) (x : Option (List X) × Left) → updated read anew last left ≡ Ok x → IfSome last P → IsUpdated P anew last x.0
-  updated_is true last left x h good =
-      let a = goes (read left) _ x h in
-      let xs : P a.item.0 = each left a.item a.first in
-      let is : IsUpdated P true last (Some a.item.0) = record { good = xs; there = λ f. xs; kept = λ e. absurd (let clash : true ≡ false = e in cc) } in
-      ends {E = Refusal} (λ (y : Option (List X) × Left). IsUpdated P true last y.0) (Some a.item.0, a.item.1) x a.then_ is
-  updated_is false None left x h good =
-      let is : IsUpdated P false None None = record { good = good; there = λ f. absurd (let clash : false ≡ true = f refl in cc); kept = λ e. refl } in
-      ends {E = Refusal} (λ (y : Option (List X) × Left). IsUpdated P false None y.0) (None, left) x h is
-  updated_is false (Some xs) left x h good =
-      let is : IsUpdated P false (Some xs) (Some xs) = record { good = good; there = λ f. good; kept = λ e. refl } in
-      ends {E = Refusal} (λ (y : Option (List X) × Left). IsUpdated P false (Some xs) y.0) (Some xs, left) x h is
+  array_kept : (P : List X → Type 0) (anew : Bool) (before : List X) (left : Left) (x : List X × Left) → array_or read anew before left ≡ Ok x → anew ≡ false → P before → P x.0
+  array_kept P true before left x h e last = absurd (let clash : true ≡ false = e in cc)
+  array_kept P false before left x h e last = ends {E = Refusal} (λ (y : List X × Left). P y.0) (before, left) x h last
 
 -- layers of the grid, or 0
 pub record AreOfGrid (g : Grid) (xs : List ℤ) : Type 0 where
@@ -87,7 +62,7 @@ all_short g xs size h = λ k d lt.
     subst (λ (z : ℤ). IsShort z) (get_or_default xs k (pos 0) d lt) (layer_short g (int_at xs k) size (h.inside k low))
 
 -- IRCH or IEVT by an option
-pub by_option : (g : Grid) (option : ℤ) (xs : List ℤ) → HasSize g → (is_int option 2 ≡ true → AreOfGrid g xs) → (is_int option 2 ≡ false → xs ≡ []) → IsLayers g option xs
+by_option : (g : Grid) (option : ℤ) (xs : List ℤ) → HasSize g → (is_int option 2 ≡ true → AreOfGrid g xs) → (is_int option 2 ≡ false → xs ≡ []) → IsLayers g option xs
 by_option g option xs size there none = record {
   none = none;
   whole = λ e. (there e).whole;
@@ -99,10 +74,25 @@ by_option g option xs size there none = record {
     by_case true e = all_short g xs size (there e)
     by_case false e = subst (λ (zs : List ℤ). All IsShort zs) (sym (none e)) (λ k d lt. absurd (omega (arith, lt)))
 
+of_grid : (g : Grid) (option : ℤ) (xs : List ℤ) → IsLayers g option xs → is_int option 2 ≡ true → AreOfGrid g xs
+of_grid g option xs h e = record { whole = h.whole e; inside = h.layers e }
+
+-- arrays of a period by an option
+pub record HasArrays (contents : Contents) (g : Grid) (option : ℤ) (a : Area) : Type 0 where
+  pub arrays : IsArea contents g a
+  pub layers : IsLayers g option a.layers
+
+-- the arrays in force, before the first period none
+pub record IsState (contents : Contents) (g : Grid) (option : ℤ) (s : InForce) : Type 0 where
+  pub has : s.listed ≡ true → HasArrays contents g option s.area
+  pub none : is_int option 2 ≡ false → s.area.layers ≡ []
+
+pub first_state : (contents : Contents) (g : Grid) (option : ℤ) → IsState contents g option nothing_yet
+first_state contents g option = record { has = λ e. absurd (let clash : false ≡ true = e in cc); none = λ e. refl }
+
 module _ (files : List File) (file : List ℕ) (g : Grid) where
-  pub reals_are : (anew : Bool) (last : Option (List Dec)) (left : Left) (x : Option (List Dec) × Left) → updated_reals files file g anew last left ≡ Ok x → IfSome last (IsReals g) → IsUpdated (IsReals g) anew last x.0
-  unfolding updated_reals
-  reals_are anew last left x h good = updated_is (real_layer files file g.rows g.cols) (IsReals g) (λ l y k. layer_is files file g.rows g.cols l y k) anew last left x h good
+  reals_are : (anew : Bool) (before : List Dec) (left : Left) (x : List Dec × Left) → array_or (real_layer files file g.rows g.cols) anew before left ≡ Ok x → (anew ≡ false → IsReals g before) → IsReals g x.0
+  reals_are anew before left x h last = array_is (real_layer files file g.rows g.cols) (IsReals g) (λ l y k. layer_is files file g.rows g.cols l y k) anew before left x h last
 
   tested_are : (xs : List ℤ) (u : Unit {0}) → layers_tested file g xs ≡ Ok u → (i : ℕ) → i < layer_size g → is_layer g (int_at xs i) ≡ true
   unfolding layers_tested
@@ -119,31 +109,49 @@ module _ (files : List File) (file : List ℕ) (g : Grid) where
       let is : AreOfGrid g xs.item.0 = record { whole = many; inside = tested_are xs.item.0 tested.item tested.first } in
       ends {E = Refusal} (λ (y : List ℤ × Left). AreOfGrid g y.0) xs.item x tested.then_ is
 
-  pub layers_updated : (anew : Bool) (last : Option (List ℤ)) (left : Left) (x : Option (List ℤ) × Left) → updated_layers files file g anew last left ≡ Ok x → IfSome last (AreOfGrid g) → IsUpdated (AreOfGrid g) anew last x.0
-  unfolding updated_layers
-  layers_updated anew last left x h good = updated_is (layers_at files file g) (AreOfGrid g) layers_are anew last left x h good
+  layers_now : (size : HasSize g) (option : ℤ) (anew : Bool) (before : List ℤ) (left : Left) (x : List ℤ × Left) → array_or (layers_at files file g) anew before left ≡ Ok x
+      → (is_int option 2 ≡ true → anew ≡ false → AreOfGrid g before) → (is_int option 2 ≡ false → (anew ≡ false) × (before ≡ [])) → IsLayers g option x.0
+  layers_now size option anew before left x h last none =
+      let inside : is_int option 2 ≡ true → AreOfGrid g x.0 = λ e. array_is (layers_at files file g) (AreOfGrid g) layers_are anew before left x h (last e) in
+      let empty : is_int option 2 ≡ false → x.0 ≡ [] = λ e. array_kept (layers_at files file g) (λ zs. zs ≡ []) anew before left x h (none e).0 (none e).1 in
+      by_option g option x.0 size inside empty
 
--- a flag of layers is there only under option 2
-pub record IsLayerFlag (layered : Bool) (last : Option (List ℤ)) (flag : Bool) : Type 0 where
-  pub there : layered ≡ true → flag ≡ false → is_some last ≡ true
-  pub none : layered ≡ false → flag ≡ false
+  whole_now : (anew : Bool) (before : List ℤ) (left : Left) (x : List ℤ × Left) → array_or (layers_at files file g) anew before left ≡ Ok x → (anew ≡ false → IsWhole g before) → IsWhole g x.0
+  whole_now anew before left x h last = array_is (layers_at files file g) (λ zs. IsWhole g zs) (λ l y k. (layers_are l y k).whole) anew before left x h last
 
--- the layers in force: good, and none but under option 2
-pub record IsLayerState (g : Grid) (layered : Bool) (last : Option (List ℤ)) : Type 0 where
-  pub good : IfSome last (AreOfGrid g)
-  pub none : layered ≡ false → last ≡ None
+  module _ (evaporates : Bool) (size : HasSize g) (option : ℤ) where
+    abbrev its : Contents
+    its = record { evaporates = evaporates; layered = is_int option 2 }
 
-pub no_layers_yet : (g : Grid) (layered : Bool) → IsLayerState g layered None
-no_layers_yet g layered = record { good = tt; none = λ e. refl }
+    arrays_are : (f : Flags) (s : InForce) (left : Left) (x : Area × Left) → arrays_of files file g f s.area left ≡ Ok x → AreFlags its s.listed f → (is_int option 2 ≡ false → f.layer ≡ false) → IsState its g option s
+        → HasArrays its g option x.0
+    unfolding arrays_of
+    arrays_are f s left x h are unread so =
+        let before = s.area in
+        let surfaces = goes (array_or (real_layer files file g.rows g.cols) f.surface before.surfaces left) _ x h in
+        let rates = goes (array_or (real_layer files file g.rows g.cols) f.rate before.rates surfaces.item.1) _ x surfaces.then_ in
+        let depths = goes (array_or (real_layer files file g.rows g.cols) f.depth before.depths rates.item.1) _ x rates.then_ in
+        let layers = goes (array_or (layers_at files file g) f.layer before.layers depths.item.1) _ x depths.then_ in
+        let made : Area = record { surfaces = surfaces.item.0; rates = rates.item.0; depths = depths.item.0; layers = layers.item.0 } in
+        let has : HasArrays its g option made = record {
+          arrays = is_area its g s f surfaces.item.0 rates.item.0 depths.item.0 layers.item.0 are (λ e. (so.has e).arrays)
+              (reals_are f.surface before.surfaces left surfaces.item surfaces.first)
+              (reals_are f.rate before.rates surfaces.item.1 rates.item rates.first)
+              (reals_are f.depth before.depths rates.item.1 depths.item depths.first)
+              (whole_now f.layer before.layers depths.item.1 layers.item layers.first);
+          layers = layers_now size option f.layer before.layers depths.item.1 layers.item layers.first
+              (λ e k. of_grid g option before.layers (so.has (are.layer e k)).layers e) (λ e. (unread e, so.none e));
+        } in
+        ends {E = Refusal} (λ (y : Area × Left). HasArrays its g option y.0) (made, layers.item.1) x layers.then_ has
 
-pub next_state : (g : Grid) (layered flag : Bool) (last now : Option (List ℤ)) → IsLayerFlag layered last flag → IsLayerState g layered last → IsUpdated (AreOfGrid g) flag last now → IsLayerState g layered now
-next_state g layered flag last now f s u = record {
-  good = u.good;
-  none = λ e. subst (λ (x : Option (List ℤ)). x ≡ None) (sym (u.kept (f.none e))) (s.none e);
-}
-
-pub layers_now : (g : Grid) (option : ℤ) (flag : Bool) (last now : Option (List ℤ)) → HasSize g → IsLayerFlag (is_int option 2) last flag → IsLayerState g (is_int option 2) last → IsUpdated (AreOfGrid g) flag last now
-    → IsLayers g option (or_empty now)
-layers_now g option flag last now size f s u = by_option g option (or_empty now) size
-    (λ e. stands (AreOfGrid g) now (u.there (f.there e)))
-    (λ e. ap (λ (x : Option (List ℤ)). or_empty x) ((next_state g (is_int option 2) flag last now f s u).none e))
+    pub area_is : (s : InForce × Left) (x : Area × (InForce × Left)) → area_at its files file g s ≡ Ok x → IsState its g option s.0 → HasArrays its g option x.0 × IsState its g option x.1.0
+    unfolding area_at
+    area_is s x h so =
+        let line = goes (line_at file s.1) _ x h in
+        let flags = goes (flags_of its file line.item.0.number s.0.listed (words line.item.0.bytes)) _ x line.then_ in
+        let area = goes (arrays_of files file g flags.item s.0.area line.item.1) _ x flags.then_ in
+        let f = flags_are file line.item.0.number its s.0.listed (words line.item.0.bytes) flags.item flags.first in
+        let has = arrays_are flags.item s.0 line.item.1 area.item area.first f.0 f.1 so in
+        let now : InForce = record { listed = true; area = area.item.0 } in
+        let state : IsState its g option now = record { has = λ e. has; none = has.layers.none } in
+        ends {E = Refusal} (λ (y : Area × (InForce × Left)). HasArrays its g option y.0 × IsState its g option y.1.0) (area.item.0, (now, area.item.1)) x area.then_ (has, state)

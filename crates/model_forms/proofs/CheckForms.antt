@@ -6,13 +6,13 @@ use Rattle.outside.specs.declared.refusals.Refusal.{Refusal}
 use Rattle.record_lines.specs.Reading.{counted}
 use Rattle.model_types.specs.declared.grid.Grid.{Grid}
 use Rattle.model_types.specs.declared.model.FlowModel.{FlowModel}
-use Rattle.model_types.specs.declared.period.Period.{Period}
 use Rattle.model_types.specs.Cells.{cell_count, layer_size}
 use Rattle.model_types.specs.Layers.{int_at, is_nonzero}
 use Rattle.cell_checks.specs.Checks.{at_cell, cell_step, checked}
 use Rattle.cell_checks.specs.Faults.{fault_at}
 use Rattle.cell_checks.specs.declared.passing.Check.{Check}
-use Rattle.evt_package.specs.Columns.{cell_tested, chosen, column_tested, column_step, columns_tested, source}
+use Rattle.period_arrays.specs.declared.area.Area.{Area}
+use Rattle.evt_package.specs.Columns.{cell_tested, chosen_cell, column_tested, column_step, columns_tested, source}
 use Rattle.evt_package.specs.Faults.{evap_fault}
 use Rattle.array_forms.proofs.Readings.{goes}
 
@@ -36,11 +36,11 @@ tested_again : (file other : List ℕ) (g : Grid) (c : ℕ) (o : Option Code) �
 tested_again file other g c None h = refl
 tested_again file other g c (Some code) h = absurd cc
 
-column_again : (file other : List ℕ) (g : Grid) (ibound : List ℤ) (p : Period) (i : ℕ) (o : Option ℕ) → column_tested file g ibound p i o ≡ Ok tt → column_tested other g ibound p i o ≡ Ok tt
-column_again file other g ibound p i None h = refl
-column_again file other g ibound p i (Some c) h = tested_again file other g c (if is_nonzero (int_at ibound c) then evap_fault (source p i) else None) h
+column_again : (file other : List ℕ) (g : Grid) (ibound : List ℤ) (a : Area) (i : ℕ) (o : Option ℕ) → column_tested file g ibound a i o ≡ Ok tt → column_tested other g ibound a i o ≡ Ok tt
+column_again file other g ibound a i None h = refl
+column_again file other g ibound a i (Some c) h = tested_again file other g c (if is_nonzero (int_at ibound c) then evap_fault (source a i) else None) h
 
-pub columns_again : (file other : List ℕ) (g : Grid) (ibound : List ℤ) (option : ℤ) (p : Period) → columns_tested file g ibound option p ≡ Ok tt → columns_tested other g ibound option p ≡ Ok tt
+pub columns_again : (file other : List ℕ) (g : Grid) (ibound : List ℤ) (option : ℤ) (a : Area) → columns_tested file g ibound option a ≡ Ok tt → columns_tested other g ibound option a ≡ Ok tt
 unfolding columns_tested
-columns_again file other g ibound option p h =
-    passed_again (column_step file g ibound option p) (column_step other g ibound option p) (λ i k. column_again file other g ibound p i (chosen g ibound option p.stresses.ievt i) k) (layer_size g) 0 h
+columns_again file other g ibound option a h =
+    passed_again (column_step file g ibound option a) (column_step other g ibound option a) (λ i k. column_again file other g ibound a i (chosen_cell g ibound option a.layers i) k) (layer_size g) 0 h

@@ -10,7 +10,9 @@ pub mod CheckForms
 pub mod EntryForms
 pub mod ListForms
 pub mod PeriodForms
+pub mod FlagForms
 pub mod AreaForms
+pub mod ArrayFileForms
 pub mod RchForms
 pub mod EvtForms
 pub mod StageForms

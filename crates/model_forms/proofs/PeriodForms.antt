@@ -18,6 +18,7 @@ use Rattle.stress_packages.specs.Packages.{wells, rivers, drains, generals}
 use Rattle.period_arrays.specs.Flags.{is_option}
 use Rattle.period_arrays.specs.Forms.{IsReals}
 use Rattle.evt_package.specs.Columns.{columns_tested}
+use Rattle.evt_package.specs.Evaporation.{area_in}
 use Rattle.array_forms.proofs.Readings.{goes, ends}
 use Rattle.stress_text.specs.Entries.{IsListOf}
 use Rattle.area_text.specs.Readable.{IsLayers}
@@ -33,7 +34,7 @@ pub record HasEvaporation (g : Grid) (ibound : List ℤ) (option : ℤ) (p : Per
   pub evtr : IsReals g p.stresses.evtr
   pub exdp : IsReals g p.stresses.exdp
   pub ievt : IsLayers g option p.stresses.ievt
-  pub passed : (file : List ℕ) → columns_tested file g ibound option p ≡ Ok tt
+  pub passed : (file : List ℕ) → columns_tested file g ibound option (area_in p.stresses) ≡ Ok tt
 
 -- a period of a model with this grid, IBOUND, NRCHOP and NEVTOP
 pub record IsKnown (g : Grid) (ibound : List ℤ) (nrchop nevtop : ℤ) (p : Period) : Type 0 where

@@ -1,0 +1,85 @@
+-- What a file of a package of arrays gives.
+use Rattle.std.proofs.Common.{◌≡◌, ℕ, ℤ, true, List, map, All, Ok, refl}
+use Rattle.outside.specs.Files.{File}
+use Rattle.outside.specs.Words.{words}
+use Rattle.outside.specs.declared.refusals.Refusal.{Refusal}
+use Rattle.record_lines.specs.Layout.{Left, left_from, without_comments}
+use Rattle.record_lines.specs.Reading.{for_each}
+use Rattle.model_types.specs.declared.grid.Grid.{Grid}
+use Rattle.model_types.specs.declared.period.Period.{Period}
+use Rattle.model_types.specs.Grids.{HasSize}
+use Rattle.list_package.specs.Headers.{item_line}
+use Rattle.list_package.proofs.ModelLemmas.{steps}
+use Rattle.period_arrays.specs.Areas.{area_at, nothing_yet}
+use Rattle.period_arrays.specs.Flags.{is_option, option_at}
+use Rattle.period_arrays.specs.Kinds.{ArrayKind, contents, with_area}
+use Rattle.period_arrays.specs.Packages.{tested_area, period_at, periods_of, unit_if, option_line, arrays_in}
+use Rattle.period_arrays.specs.declared.area.Area.{Area}
+use Rattle.period_arrays.specs.declared.area.InForce.{InForce}
+use Rattle.period_arrays.specs.declared.read.ArrayFile.{ArrayFile}
+use Rattle.array_forms.proofs.Readings.{goes, ends}
+use Rattle.model_forms.proofs.AreaForms.{HasArrays, IsState, first_state, area_is}
+use Rattle.model_forms.proofs.FlagForms.{option_is}
+use Rattle.model_forms.proofs.PeriodForms.{each_are}
+
+-- an option from 1 to 3, and periods with arrays by it
+pub record AreRead (Q : ℤ → Period → Type 0) (ps : List Period) (a : ArrayFile) : Type 0 where
+  pub active : is_option a.option ≡ true
+  pub each : All (Q a.option) a.periods
+  pub same : map steps a.periods ≡ map steps ps
+
+-- arrays of a period that passed their test
+pub record IsTested (kind : ArrayKind) (file : List ℕ) (g : Grid) (ibound : List ℤ) (option : ℤ) (a : Area) : Type 0 where
+  pub has : HasArrays (contents kind option) g option a
+  pub passed : kind.test file g ibound option a ≡ Ok tt
+
+module _ (kind : ArrayKind) (files : List File) (file : List ℕ) (g : Grid) (size : HasSize g) (ibound : List ℤ) (P : Period → Type 0) (Q : ℤ → Period → Type 0)
+    (put : (option : ℤ) → is_option option ≡ true → (p : Period) (a : Area) → P p → IsTested kind file g ibound option a → Q option (with_area kind p a)) where
+  module _ (option : ℤ) (active : is_option option ≡ true) where
+    abbrev State : InForce × Left → Type 0
+    State s = IsState (contents kind option) g option s.0
+
+    tested_is : (s : InForce × Left) (x : Area × (InForce × Left)) → tested_area kind files file g ibound option s ≡ Ok x → State s → IsTested kind file g ibound option x.0 × State x.1
+    unfolding tested_area
+    tested_is s x h so =
+        let area = goes (area_at (contents kind option) files file g s) _ x h in
+        let test = goes (kind.test file g ibound option area.item.0) _ x area.then_ in
+        let is = area_is files file g kind.evaporates size option s area.item area.first so in
+        let tested : IsTested kind file g ibound option area.item.0 = record { has = is.0; passed = test.first } in
+        ends {E = Refusal} (λ (y : Area × (InForce × Left)). IsTested kind file g ibound option y.0 × State y.1) area.item x test.then_ (tested, is.1)
+
+    period_is : (p : Period) (s : InForce × Left) (x : Period × (InForce × Left)) → period_at kind files file g ibound option p s ≡ Ok x → State s → P p → Q option x.0 × State x.1 × (steps x.0 ≡ steps p)
+    unfolding period_at
+    period_is p s x h so known =
+        let area = goes (tested_area kind files file g ibound option s) _ x h in
+        let is = tested_is s area.item area.first so in
+        ends {E = Refusal} (λ (y : Period × (InForce × Left)). Q option y.0 × State y.1 × (steps y.0 ≡ steps p)) (with_area kind p area.item.0, area.item.1) x area.then_
+        (put option active p area.item.0 known is.0, is.1, refl)
+
+    periods_are : (ps qs : List Period) (left : Left) → periods_of kind files file g ibound option ps left ≡ Ok qs → All P ps → All (Q option) qs × (map steps qs ≡ map steps ps)
+    unfolding periods_of
+    periods_are ps qs left h all =
+        let x = goes (for_each (period_at kind files file g ibound option) ps (nothing_yet, left)) _ qs h in
+        let start : State (nothing_yet, left) = first_state (contents kind option) g option in
+        let are = each_are (period_at kind files file g ibound option) State P (Q option) period_is ps (nothing_yet, left) x.item x.first start all in
+        ends {E = Refusal} (λ (y : List Period). All (Q option) y × (map steps y ≡ map steps ps)) x.item.0 qs x.then_ are
+
+  line_is : (left : Left) (x : ℤ × Left) → option_line kind file left ≡ Ok x → is_option x.0 ≡ true
+  unfolding option_line
+  line_is left x h =
+      let line = goes (item_line file left) _ x h in
+      let option = goes (option_at file line.item.0.number (words line.item.0.bytes)) _ x line.then_ in
+      let unit = goes (unit_if kind.evaporates file line.item.0.number option.item.1) _ x option.then_ in
+      let active = option_is file line.item.0.number (words line.item.0.bytes) option.item option.first in
+      ends {E = Refusal} (λ (y : ℤ × Left). is_option y.0 ≡ true) (option.item.0, line.item.1) x unit.then_ active
+
+  pub arrays_are_read : (bytes : List ℕ) (ps : List Period) (a : ArrayFile) → arrays_in kind files file bytes g ibound ps ≡ Ok a → All P ps → AreRead Q ps a
+  unfolding arrays_in
+  arrays_are_read bytes ps a h all =
+      let option = goes (option_line kind file (without_comments (left_from 1 bytes))) _ a h in
+      let qs = goes (periods_of kind files file g ibound option.item.0 ps option.item.1) _ a option.then_ in
+      let active = line_is (without_comments (left_from 1 bytes)) option.item option.first in
+      let are = periods_are option.item.0 active ps qs.item option.item.1 qs.first all in
+      let made : ArrayFile = record { option = option.item.0; periods = qs.item } in
+      let is : AreRead Q ps made = record { active = active; each = are.0; same = are.1 } in
+      ends {E = Refusal} (λ (y : ArrayFile). AreRead Q ps y) made a qs.then_ is
