@@ -1,9 +1,12 @@
--- The number of a status is 0 at Ok alone.
-use Rattle.std.proofs.Common.{◌≡◌, refl}
+-- What the number of a status says of it.
+use Rattle.std.proofs.Common.{◌≡◌, ap, inl, inr, refl}
 use Rattle.run_puts.specs.Statuses.{code_of}
 use Rattle.run_puts.specs.declared.status.Status.{Status}
 use Rattle.run_puts.specs.declared.status.Status.TheVariants as status
+use Rattle.engine.specs.Parts.{IsStopped}
+use Rattle.engine.specs.Serving.{IsStopNumber}
 
+-- 0 is that of Ok alone
 pub ok_from_zero : (end : Status) → code_of end ≡ 0 → end ≡ status.Ok
 ok_from_zero status.Ok e = refl
 ok_from_zero status.Usage e = cc
@@ -14,3 +17,9 @@ ok_from_zero status.ReadFault e = cc
 ok_from_zero status.WriteFault e = cc
 ok_from_zero status.Memory e = cc
 ok_from_zero (status.NotCertified period step place) e = cc
+
+-- a run that stopped has the number of a stop
+pub stop_number : (end : Status) → IsStopped end → IsStopNumber (code_of end)
+stop_number end (inl read) = inl (ap code_of read)
+stop_number end (inr (inl write)) = inr (inl (ap code_of write))
+stop_number end (inr (inr memory)) = inr (inr (ap code_of memory))

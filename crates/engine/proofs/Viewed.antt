@@ -57,7 +57,7 @@ joined_texts texts text views last =
     one ∙ sym (append_assoc (map taken texts) (map taken (map text views)) last) ∙ ap (λ (ps : List Put). ps ++ last) (sym (map-append taken texts (map text views)))
 
 all_views : (k : Task) (at : TimeStep) (old : List Bound) (p : List Entries) (b : Edges) (text : List Bound → List ℕ) → PairEncloses k.model at old p b → (views : List (List Bound)) → AreAllShown text (EnclosesPair p b) views → All (IsView k at old p b) views
-all_views k at old p b text encloses views h = All-weaker (EnclosesPair p b) (IsView k at old p b) (λ heads shown. record { pair = shown; solutions = encloses heads shown }) views (each views h)
+all_views k at old p b text encloses views h = All-weaker (EnclosesPair p b) (IsView k at old p b) (λ heads shown. record { pair = shown; solutions = encloses heads shown.pair }) views (each views h)
   where
     each : (vs : List (List Bound)) → AreAllShown text (EnclosesPair p b) vs → All (EnclosesPair p b) vs
     each [] h = All-nil (EnclosesPair p b)

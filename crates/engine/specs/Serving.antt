@@ -1,5 +1,5 @@
 -- How a program ends that runs its words and ends with the number of the run's status.
-use Rattle.std.specs.Prelude.{◌≡◌, ◌⊎◌, ℕ, List, IfSome, Option}
+use Rattle.std.specs.Prelude.{◌≡◌, ◌⊎◌, ℕ, List, IfSome, Option, Some}
 use Rattle.outside.specs.Files.{File}
 use Rattle.outside.specs.Puts.{Put, Seen}
 use Rattle.run_puts.specs.Lines.{Text}
@@ -10,7 +10,8 @@ use Rattle.engine.specs.Headline.{Headline}
 use Rattle.engine.specs.Made.{Made}
 use Rattle.engine.specs.OneListing.{OneListing, OneSummary, OneVerdict}
 use Rattle.engine.specs.BatchRuns.{AnyPuts}
-use Rattle.engine.specs.Batched.{Batched}
+use Rattle.engine.specs.Batched.{Batched, HasNoList}
+use Rattle.engine.specs.Batches.{AskedBatch, batch_asked}
 
 -- The headline: of a listing, of a made model whose listing is summed up, of a listing that was checked, or of each listing of a batch.
 abbrev pub AnyHeadline : List Text → List File → Status → Seen → Seen → Type 0
@@ -20,9 +21,14 @@ AnyHeadline words files end old new = (Headline words files old.written new.writ
 abbrev pub AnyOne : List Text → List File → Status → Seen → Seen → Type 0
 AnyOne words files end old new = (OneListing words files old.written new.written ⊎ (OneSummary words old.written new.written ⊎ OneVerdict words files)) ⊎ Batched words files end old.written new.written
 
+-- the numbers of a run that stopped: since a read failed, a write failed, or memory ran out
+abbrev pub IsStopNumber : ℕ → Type 0
+IsStopNumber number = (number ≡ 5) ⊎ ((number ≡ 6) ⊎ (number ≡ 7))
+
 -- A program that ends with this number: it is that of its run's status, whose puts lead from the sink before to the
 -- sink after; and where it is 0, the headline holds of files that agree with the folder, of which there are some, and
--- the listing is the one that they define.
+-- the listing is the one that they define. A batch with any number but 5, 6 and 7 has its list refused, or has put the
+-- text of each of its models.
 pub record Serves (leads : List Put → Type 0) (agrees : List File → Type 0) (words : List Text) (before after : ℕ) (failed_beside : Type 0) (old new : Seen) (number : ℕ) : Type 0 where
   pub end : Status
   pub number_is : number ≡ code_of end
@@ -30,3 +36,5 @@ pub record Serves (leads : List Put → Type 0) (agrees : List File → Type 0) 
   pub some : (files : List File) × agrees files
   pub headline : number ≡ 0 → (files : List File) → agrees files → AnyHeadline words files end old new
   pub one : number ≡ 0 → (files : List File) → agrees files → AnyOne words files end old new
+  pub batch : (IsStopNumber number → ⊥) → (asked : AskedBatch) → batch_asked words ≡ Some asked → (files : List File) → agrees files →
+      HasNoList asked files end ⊎ Batched words files end old.written new.written

@@ -17,7 +17,8 @@ use std::sync::Wait;
 use std::thread::Threads;
 
 /// Does what the words ask, as `run` does, and ends with the number of its status: where that is 0, the headline holds, and
-/// the views of a watched run are those of all its steps.
+/// the views of a watched run are those of all its steps. A batch that ends with 0, 2, 3 or 4 has put the text of each of
+/// its models, or its list is refused.
 pub fn serve<R: Threads + Wait + Sync, F: Folder, K: Sink + Send, W: Sink + Send, G: Gate + Sync>(
     rt: &R,
     alloc: Global,

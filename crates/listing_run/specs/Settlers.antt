@@ -13,7 +13,7 @@ use Rattle.model_types.specs.Times.{times}
 use Rattle.problem_builder.specs.StartHeads.{AreStartHeads}
 use Rattle.flow_equations.specs.ExactStep.{exact_step}
 use Rattle.flow_equations.specs.Histories.{variable_heads}
-use Rattle.settle_driver.specs.Views.{EnclosesPair}
+use Rattle.settle_driver.specs.Views.{HoldsPair}
 use Rattle.step_chain.specs.Steps.{IsPosed}
 use Rattle.step_chain.specs.Enclosing.{IsMove}
 use Rattle.listing_run.specs.declared.task.Task.{Task}
@@ -26,9 +26,9 @@ EnclosesSolutions m at old p heads =
     (before : ℕ → Fraction) (d : ℕ) (X : ℕ → ℤ) → IsMove m at old before d X →
     LiesBetween (length p) d (variable_heads (exact_step m at.period at.step before) X) (lower_at heads) (upper_at heads)
 
--- Between heads that enclose the settled pair of a step's problem lies every solution.
+-- Where the settled pair of a step's problem lies between heads, every solution does.
 abbrev pub PairEncloses : FlowModel → TimeStep → List Bound → List Entries → Edges → Type 0
-PairEncloses m at old p b = (heads : List Bound) → EnclosesPair p b heads → EnclosesSolutions m at old p heads
+PairEncloses m at old p b = (heads : List Bound) → HoldsPair p b heads → EnclosesSolutions m at old p heads
 
 module _ {S : Type 0} (leads : S → List Entries → Edges → Bool → S → Type 0) where
   -- the problem of a step from these old heads was settled, with heads

@@ -1,5 +1,6 @@
 -- Views that follow one another, and what a watching seat has seen.
-use Rattle.std.proofs.Common.{◌≡◌, ℕ, ◌+◌, ◌*◌, ◌<◌, ◌⊎◌, inl, inr, refl, sym, subst, arith, Bool, true, false, List, length, Result, Ok, Err}
+use Rattle.std.proofs.Common.{◌≡◌, ℕ, ◌+◌, ◌*◌, ◌<◌, ◌⊎◌, inl, inr, refl, sym, subst, arith, Bool, true, false, List, length, ℤ, ◌≤ℤ◌, Result, Ok, Err}
+use Rattle.std.proofs.lemmas.Int.{ints}
 use Rattle.std.specs.Result.{is_ok}
 use Rattle.std.specs.declared.vec.Vec.{Vec}
 use Rattle.std.specs.declared.alloc.Global.{Global}
@@ -9,12 +10,13 @@ use Rattle.step_problem.specs.declared.heads.SettleFault.TheVariants.{Unfinished
 use Rattle.step_problem.specs.declared.heads.Side.TheVariants.{Low, High}
 use Rattle.step_problem.specs.Entries.{Entries}
 use Rattle.step_problem.specs.Conditions.{IsHead}
-use Rattle.step_problem.specs.Heads.{Edges}
+use Rattle.step_problem.specs.Heads.{Edges, head_at, lower_at, upper_at}
+use Rattle.cell_relax.specs.Sides.{AreNoLooser}
 use Rattle.head_table.specs.declared.table.HeadTable.{HeadTable}
 use Rattle.head_table.specs.declared.table.HeadSeat.{HeadSeat}
 use Rattle.head_table.specs.BySide.{AreHeld}
-use Rattle.head_table.specs.Seats.{IsSeatOf, ShowsSeen, barrier_of}
-use Rattle.settle_driver.specs.Views.{EnclosesPair, had_memory, AddsViews, AddsTurns, AddsPhases}
+use Rattle.head_table.specs.Seats.{IsSeatOf, ShowsSeen, barrier_of, seen_of}
+use Rattle.settle_driver.specs.Views.{ArePastBarrier, EnclosesPair, had_memory, AddsViews, AddsTurns, AddsPhases}
 
 -- heads are an answer of a settling that had memory
 pub ok_had_memory : (r : Result (Vec Bound Global) SettleFault) → is_ok r ≡ true → had_memory r ≡ true
@@ -151,9 +153,19 @@ module _ {V : Type 0} (viewed : V → List Entries → Edges → ℕ → V → T
     each_phase = λ e some. phases_of_both first.count next.count turns m z next.views.stays (first.each_phase refl some) (next.each_phase e some);
   }
 
+-- what a seat sees later is past the barrier too
+pub still_past_barrier : (p ps : List Entries) (b : Edges) (old new : List Bound) → ps ≡ p → ArePastBarrier p b old → AreNoLooser ps old new → ArePastBarrier p b new
+still_past_barrier p ps b old new same past tighter =
+    let inside : (c : ℕ) → c < length p → c < length ps = λ c h. subst (λ (q : List Entries). c < length q) (sym same) h in
+    record {
+      low = λ c h. let x = past.low c h in let y : lower_at old c ≤ℤ lower_at new c = tighter Low c (inside c h) in omega (arith, ints, x, y);
+      high = λ c h. let x = past.high c h in let y : upper_at new c ≤ℤ upper_at old c = tighter High c (inside c h) in omega (arith, ints, x, y);
+    }
+
 -- What a seat has just seen encloses the settled pair.
-seen_encloses : (t : HeadTable) (s : HeadSeat) (heads : List Bound) → length heads ≡ length t.problem.now → IsSeatOf t s → ShowsSeen t.problem.now s heads → AreHeld t.problem.now (barrier_of t) heads → EnclosesPair t.problem.now (barrier_of t) heads
-seen_encloses t s heads whole seat shows held =
+seen_encloses : (t : HeadTable) (s : HeadSeat) (heads : List Bound) → length heads ≡ length t.problem.now → IsSeatOf t s → ShowsSeen t.problem.now s heads → AreHeld t.problem.now (barrier_of t) heads → ArePastBarrier t.problem.now (barrier_of t) (seen_of s)
+    → EnclosesPair t.problem.now (barrier_of t) heads
+seen_encloses t s heads whole seat shows held past =
     let sound = s.sound in
     let inside : (c : ℕ) → c < length t.problem.now → c < length s.seat.me.0.problem = λ c h. subst (λ (q : List Entries). c < length q) (sym seat.problem) h in record {
       words = record {
@@ -161,11 +173,19 @@ seen_encloses t s heads whole seat shows held =
         low = λ c h. subst IsHead (sym (shows Low c h)) (sound.heads Low c (inside c h));
         high = λ c h. subst IsHead (sym (shows High c h)) (sound.heads High c (inside c h));
       };
-      low = λ l u pair c h. held Low c h l pair.low.heads pair.low.settled pair.low.past_barrier;
-      high = λ l u pair c h. held High c h u pair.high.heads pair.high.settled pair.high.past_barrier;
+      past_barrier = record {
+        low = λ c h. subst (λ (x : ℤ). head_at (barrier_of t).floor c ≤ℤ x) (sym (shows Low c h)) (past.low c h);
+        high = λ c h. subst (λ (x : ℤ). x ≤ℤ head_at (barrier_of t).ceiling c) (sym (shows High c h)) (past.high c h);
+      };
+      pair = record {
+        low = λ l u pair c h. held Low c h l pair.low.heads pair.low.settled pair.low.past_barrier;
+        high = λ l u pair c h. held High c h u pair.high.heads pair.high.settled pair.high.past_barrier;
+      };
     }
 
-pub look_encloses : (p : List Entries) (b : Edges) (t : HeadTable) (s : HeadSeat) (heads : List Bound) → t.problem.now ≡ p → barrier_of t ≡ b → length heads ≡ length p → IsSeatOf t s → ShowsSeen t.problem.now s heads → AreHeld t.problem.now (barrier_of t) heads → EnclosesPair p b heads
-look_encloses p b t s heads same edges whole seat shows held =
+pub look_encloses : (p : List Entries) (b : Edges) (t : HeadTable) (s : HeadSeat) (heads : List Bound) → t.problem.now ≡ p → barrier_of t ≡ b → length heads ≡ length p → IsSeatOf t s → ShowsSeen t.problem.now s heads → AreHeld t.problem.now (barrier_of t) heads → ArePastBarrier p b (seen_of s) → EnclosesPair p b heads
+look_encloses p b t s heads same edges whole seat shows held past =
     let n : length heads ≡ length t.problem.now = subst (λ (q : List Entries). length heads ≡ length q) (sym same) whole in
-    subst (λ (q : List Entries). EnclosesPair q b heads) same (subst (λ (e : Edges). EnclosesPair t.problem.now e heads) edges (seen_encloses t s heads n seat shows held))
+    let by_problem : ArePastBarrier t.problem.now b (seen_of s) = subst (λ (q : List Entries). ArePastBarrier q b (seen_of s)) (sym same) past in
+    let by_both : ArePastBarrier t.problem.now (barrier_of t) (seen_of s) = subst (λ (e : Edges). ArePastBarrier t.problem.now e (seen_of s)) (sym edges) by_problem in
+    subst (λ (q : List Entries). EnclosesPair q b heads) same (subst (λ (e : Edges). EnclosesPair t.problem.now e heads) edges (seen_encloses t s heads n seat shows held by_both))

@@ -6,14 +6,24 @@ use Rattle.step_problem.specs.declared.heads.Bound.{Bound}
 use Rattle.step_problem.specs.declared.heads.SettleFault.{SettleFault}
 use Rattle.step_problem.specs.declared.heads.SettleFault.TheVariants.{Unfinished, Memory}
 use Rattle.step_problem.specs.Entries.{Entries}
-use Rattle.step_problem.specs.Heads.{Edges, IsSettledPair, lower_at, upper_at}
+use Rattle.step_problem.specs.Heads.{Edges, IsSettledPair, head_at, lower_at, upper_at}
 use Rattle.cell_relax.specs.Words.{AreWords}
 
--- one bound for each cell, in range, and the settled pair lies between these heads
-pub record EnclosesPair (p : List Entries) (b : Edges) (heads : List Bound) : Type 0 where
-  pub words : AreWords p heads
+-- the settled pair lies between these heads
+pub record HoldsPair (p : List Entries) (b : Edges) (heads : List Bound) : Type 0 where
   pub low : (l u : ℕ → ℤ) → IsSettledPair p b l u → (c : ℕ) → c < length p → lower_at heads c ≤ℤ l c
   pub high : (l u : ℕ → ℤ) → IsSettledPair p b l u → (c : ℕ) → c < length p → u c ≤ℤ upper_at heads c
+
+-- no lower head is below the floor of the barrier, and no upper head above its ceiling
+pub record ArePastBarrier (p : List Entries) (b : Edges) (heads : List Bound) : Type 0 where
+  pub low : (c : ℕ) → c < length p → head_at b.floor c ≤ℤ lower_at heads c
+  pub high : (c : ℕ) → c < length p → upper_at heads c ≤ℤ head_at b.ceiling c
+
+-- one bound for each cell, in range, nowhere looser than the barrier, and the settled pair lies between these heads
+pub record EnclosesPair (p : List Entries) (b : Edges) (heads : List Bound) : Type 0 where
+  pub words : AreWords p heads
+  pub past_barrier : ArePastBarrier p b heads
+  pub pair : HoldsPair p b heads
 
 -- whether a settling had memory for all its phases: it ended with heads, or with a cell that can still move
 abbrev pub had_memory : Result (Vec Bound Global) SettleFault → Bool

@@ -4,10 +4,10 @@ ghost use Rattle.std.specs.Result.{is_ok};
 ghost use Rattle.step_problem.specs.Heads.{AreOnTheWay, IsBarrier};
 ghost use Rattle.step_problem.specs.Settling.{Settles};
 ghost use Rattle.head_table.specs.declared.table.HeadSeat.{HeadSeat};
-ghost use Rattle.head_table.specs.Seats.{IsSeatOf, barrier_of};
+ghost use Rattle.head_table.specs.Seats.{IsSeatOf, barrier_of, seen_of};
 ghost use Rattle.settle_driver.specs.Phases.{HasWorked, IsPlan};
 ghost use Rattle.settle_driver.specs.Sweeps.{IsPastCell};
-ghost use Rattle.settle_driver.specs.Views.{AddsPhases, AddsTurns, had_memory};
+ghost use Rattle.settle_driver.specs.Views.{AddsPhases, AddsTurns, ArePastBarrier, had_memory};
 
 use crate::open::first_open;
 use crate::phases::{deal, gather, work_at};
@@ -58,6 +58,7 @@ fn worked_watched<R: Threads + Sync, G: Gate + Sync, V: Viewer + Send>(
     requires problem { table.now.problem.now ≡ p.now }
     requires barrier { barrier_of table.now ≡ b.now }
     requires edges { IsBarrier p.now b.now }
+    requires past { ArePastBarrier p.now b.now (seen_of watch.seat) }
     requires whole { length watch.heads.items ≡ length p.now }
     ensures count { vec_len result ≡ vec_len seats }
     ensures each { (i : ℕ) (d : HeadSeat) → i < vec_len seats

@@ -1,8 +1,8 @@
 // The turns of a seat that watches.
 ghost use Rattle.std.specs.Prelude.{◌≡◌, length, true};
 ghost use Rattle.step_problem.specs.Heads.{IsBarrier};
-ghost use Rattle.head_table.specs.Seats.{IsSeatOf, barrier_of};
-ghost use Rattle.settle_driver.specs.Views.{AddsTurns, EnclosesPair};
+ghost use Rattle.head_table.specs.Seats.{IsSeatOf, barrier_of, seen_of};
+ghost use Rattle.settle_driver.specs.Views.{AddsTurns, ArePastBarrier, EnclosesPair};
 
 use crate::viewer::Viewer;
 use head_table::{HeadSeat, HeadTable};
@@ -24,8 +24,10 @@ fn look(table: &HeadTable, seat: &mut HeadSeat, p: &Problem, b: &Barrier, heads:
     requires seat { IsSeatOf table.now seat.old }
     requires problem { table.now.problem.now ≡ p.now }
     requires barrier { barrier_of table.now ≡ b.now }
+    requires past { ArePastBarrier p.now b.now (seen_of seat.old) }
     requires whole { length heads.old ≡ length p.now }
     ensures seat { IsSeatOf table.now seat.new }
+    ensures past { ArePastBarrier p.now b.now (seen_of seat.new) }
     ensures whole { length heads.new ≡ length p.now }
     ensures pair { EnclosesPair p.now b.now heads.new }
 {
@@ -47,6 +49,7 @@ fn watch_turns<G: Gate, V: Viewer>(
     requires problem { table.now.problem.now ≡ p.now }
     requires barrier { barrier_of table.now ≡ b.now }
     requires edges { IsBarrier p.now b.now }
+    requires past { ArePastBarrier p.now b.now (seen_of seat.old) }
     requires whole { length heads.old ≡ length p.now }
     ensures { AddsTurns V.viewed V.stopped p.now b.now turns true viewer.old viewer.new }
 {
@@ -73,6 +76,7 @@ pub(crate) fn watch_phase<G: Gate, V: Viewer>(
     requires problem { table.now.problem.now ≡ p.now }
     requires barrier { barrier_of table.now ≡ b.now }
     requires edges { IsBarrier p.now b.now }
+    requires past { ArePastBarrier p.now b.now (seen_of watch.old.seat) }
     requires whole { length watch.old.heads.items ≡ length p.now }
     ensures { AddsTurns V.viewed V.stopped p.now b.now turns true viewer.old viewer.new }
 {

@@ -1,7 +1,8 @@
-use Rattle.std.proofs.Common.{◌≡◌, sym, ◌∙◌}
+use Rattle.std.proofs.Common.{◌≡◌, ℕ, subst, sym, ◌∙◌}
 use Rattle.std.specs.Process.{exit_status}
 use Rattle.run_puts.specs.Statuses.{code_of}
-use Rattle.engine.proofs.Numbers.{ok_from_zero}
+use Rattle.engine.proofs.Numbers.{ok_from_zero, stop_number}
+use Rattle.engine.specs.Serving.{IsStopNumber}
 use Rattle.engine.proofs.serving.serve.Goals as goal
 
 pub returns-clause-serves : goal.returns-clause-serves
@@ -14,6 +15,7 @@ returns-clause-serves g c =
       some = c.run-status.ensures.told;
       headline = λ zero files agree. c.run-status.ensures.headline (ok_from_zero c.run-status.result (sym is ∙ zero)) files agree;
       one = λ zero files agree. c.run-status.ensures.one (ok_from_zero c.run-status.result (sym is ∙ zero)) files agree;
+      batch = λ goes. c.run-status.ensures.batch (λ stops. goes (let P : ℕ → Type 0 = IsStopNumber in subst P (sym is) (stop_number c.run-status.result stops)));
     }
 
 pub returns-clause-watched : goal.returns-clause-watched
