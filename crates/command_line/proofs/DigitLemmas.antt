@@ -7,7 +7,7 @@ use Rattle.std.proofs.lemmas.Bool.{leb-true, and_parts}
 use Rattle.clap.specs.Words.{Text, Row, Kinds, fault_of, subcommand_of, first_of}
 use Rattle.command_line.specs.Commands.{heads_app}
 use Rattle.command_line.specs.Numbers.{is_number, number_in, number_or}
-use Rattle.command_line.specs.Wants.{Wanted, Checks, batch_in, check_in, command_in, digits_in, make_in, rounds_in, run_in, wanted_if, wanted_of, watch_in, workers_in}
+use Rattle.command_line.specs.Wants.{Wanted, Checks, batch_in, write_in, check_in, command_in, digits_in, make_in, rounds_in, run_in, wanted_if, wanted_of, watch_in, workers_in}
 
 -- a number that was taken is one of its range
 
@@ -52,12 +52,16 @@ batch_fits : (rows : List Row) → Fits (batch_in rows)
 batch_fits rows =
     then_fits (first_of (codes "list") rows) _ (λ list a. then_fits (digits_in rows) _ (λ digits b. then_fits (workers_in rows) _ (λ workers c. then_fits (rounds_in rows) _ (λ rounds d. tt))))
 
+write_fits : (rows : List Row) → Fits (write_in rows)
+write_fits rows = then_fits (first_of (codes "name") rows) _ (λ name a. tt)
+
 command_fits : (name : Text) (rows : List Row) → Fits (command_in name rows)
 command_fits name rows =
     cond_fits (bytes_eq name (codes "run")) (run_in rows) _ (run_fits rows)
     (cond_fits (bytes_eq name (codes "check")) (check_in rows) _ (check_fits rows)
     (cond_fits (bytes_eq name (codes "make")) (make_in rows) _ (make_fits rows)
-    (cond_fits (bytes_eq name (codes "batch")) (batch_in rows) None (batch_fits rows) tt)))
+    (cond_fits (bytes_eq name (codes "batch")) (batch_in rows) _ (batch_fits rows)
+    (cond_fits (bytes_eq name (codes "write")) (write_in rows) None (write_fits rows) tt))))
 
 found_fits : (faults : Kinds) (found : Option (Text × List Row)) → Fits (wanted_if faults found)
 found_fits [] found = then_fits found (λ p. command_in p.0 p.1) (λ p e. command_fits p.0 p.1)

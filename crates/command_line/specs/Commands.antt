@@ -1,4 +1,4 @@
--- The command line, as clap sees it: one command with four subcommands, of which one is needed.
+-- The command line, as clap sees it: one command with five subcommands, of which one is needed.
 use Rattle.std.specs.Prelude.{◌≡◌, Some, true, false, codes}
 use Rattle.clap.specs.declared.builder.command.Command.{Command}
 use Rattle.clap.specs.declared.builder.command.Command.TheViews.{out-Command as fields_of}
@@ -33,15 +33,19 @@ make_app = with_rule (with_rule (new_app (codes "make")) (word (codes "seed"))) 
 abbrev pub batch_app : App
 batch_app = settling (with_rule (new_app (codes "batch")) (word (codes "list")))
 
+-- write NAME
+abbrev pub write_app : App
+write_app = with_rule (new_app (codes "write")) (word (codes "name"))
+
 -- the same command, which needs a subcommand
 abbrev pub needing : App → App
 needing = on_top (λ s. record s { subcommand_required = true })
 
 abbrev pub heads_app : App
 heads_app =
-    needing (with_subcommand (with_subcommand
+    needing (with_subcommand (with_subcommand (with_subcommand
     (with_subcommand (with_subcommand (new_app (codes "heads")) run_app.top) check_app.top) make_app.top)
-    batch_app.top)
+    batch_app.top) write_app.top)
 
 -- no argument belongs to all subcommands
 abbrev pub IsLocal : Command → Type 0

@@ -1,6 +1,6 @@
 -- The ranges of an order's numbers.
 use Rattle.std.specs.Prelude.{ℕ, ◌≤◌, IfSome}
-use Rattle.command_line.specs.Wants.{Wanted, Lists, Checks, Makes, Batches}
+use Rattle.command_line.specs.Wants.{Wanted, Lists, Checks, Makes, Batches, Writes}
 
 -- workers and rounds
 abbrev pub AreSettlersNumbers : ℕ → ℕ → Type 0
@@ -11,3 +11,4 @@ IsInRange (Lists name digits workers rounds zones turns) = (digits ≤ 18) × Ar
 IsInRange (Checks name listing digits) = digits ≤ 18
 IsInRange (Makes seed size) = (seed ≤ 2147483647) × (1 ≤ size) × (size ≤ 64)
 IsInRange (Batches list digits workers rounds) = (digits ≤ 18) × AreSettlersNumbers workers rounds
+IsInRange (Writes name) = Unit {0}

@@ -1,4 +1,4 @@
--- The line that says which words are accepted.
+-- The line where the words aren't accepted. It doesn't name `write NAME`, which is accepted too.
 use Rattle.std.specs.Prelude.{List, ℕ, codes}
 
 abbrev pub usage_line : List ℕ

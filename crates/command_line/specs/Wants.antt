@@ -12,12 +12,14 @@ abbrev ◌>>=◌ : {A B : Type 0} → Option A → (A → Option B) → Option B
 x >>= f = option_and_then f x
 
 -- A listing of a model: its name file, digits, workers, rounds, zone file, turns of the watching seat. A check: name
--- file, listing, digits. A made model: seed, size. A batch of models: list, digits, workers, rounds.
+-- file, listing, digits. A made model: seed, size. A batch of models: list, digits, workers, rounds. A model's deck: its
+-- name file.
 pub data Wanted : Type 0 where
   Lists : Text → ℕ → ℕ → ℕ → Option Text → Option ℕ → Wanted
   Checks : Text → Text → ℕ → Wanted
   Makes : ℕ → ℕ → Wanted
   Batches : Text → ℕ → ℕ → ℕ → Wanted
+  Writes : Text → Wanted
 
 -- the options' values, or their defaults where they are omitted
 abbrev pub digits_in : List Row → Option ℕ
@@ -70,11 +72,17 @@ batch_in rows = do
   rounds ← rounds_in rows
   Some (Batches list digits workers rounds)
 
+abbrev pub write_in : List Row → Option Wanted
+write_in rows = do
+  name ← first_of (codes "name") rows
+  Some (Writes name)
+
 abbrev pub command_in : Text → List Row → Option Wanted
 command_in name rows =
     cond (bytes_eq name (codes "run")) (run_in rows)
     (cond (bytes_eq name (codes "check")) (check_in rows)
-    (cond (bytes_eq name (codes "make")) (make_in rows) (cond (bytes_eq name (codes "batch")) (batch_in rows) None)))
+    (cond (bytes_eq name (codes "make")) (make_in rows)
+    (cond (bytes_eq name (codes "batch")) (batch_in rows) (cond (bytes_eq name (codes "write")) (write_in rows) None))))
 
 -- the command and its values, if clap finds no fault
 abbrev pub wanted_if : Kinds → Option (Text × List Row) → Option Wanted
@@ -91,3 +99,4 @@ wanted (order.Run name digits workers rounds zones watch) = Lists name.now digit
 wanted (order.Check name listing digits) = Checks name.now listing.now digits
 wanted (order.Make seed size) = Makes seed size
 wanted (order.Batch list digits workers rounds) = Batches list.now digits workers rounds
+wanted (order.Write name) = Writes name.now

@@ -1,6 +1,6 @@
 ghost use Rattle.std.specs.Prelude.{◌≡◌, IfOk, false, true};
 ghost use Rattle.clap.specs.Words.{app_of, with_rule, with_subcommand};
-ghost use Rattle.command_line.specs.Commands.{IsLocal, needing, run_app, check_app, make_app, batch_app, heads_app, word, option, settling};
+ghost use Rattle.command_line.specs.Commands.{IsLocal, needing, run_app, check_app, make_app, batch_app, write_app, heads_app, word, option, settling};
 
 use clap::{Arg, Command};
 use std::alloc::{AllocError, Global};
@@ -70,6 +70,12 @@ fn batch_command<'a>(alloc: Global) -> Result<Command<'a>, AllocError>
     with_settling(alloc, command)
 }
 
+fn write_command<'a>(alloc: Global) -> Result<Command<'a>, AllocError>
+    ensures { IfOk result (λ c. (app_of c ≡ write_app) × IsLocal c) }
+{
+    with_word(alloc, Command::new(alloc, "write"), "name")
+}
+
 // The command with one more subcommand.
 fn with_command<'a>(command: Command<'a>, sub: Command<'a>) -> Result<Command<'a>, AllocError>
     requires top { IsLocal command }
@@ -95,5 +101,6 @@ pub(crate) fn heads_command<'a>(alloc: Global) -> Result<Command<'a>, AllocError
     let command = with_command(command, check_command(alloc)?)?;
     let command = with_command(command, make_command(alloc)?)?;
     let command = with_command(command, batch_command(alloc)?)?;
+    let command = with_command(command, write_command(alloc)?)?;
     Ok(with_need(command))
 }

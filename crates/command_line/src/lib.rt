@@ -1,4 +1,4 @@
-//! The words of the command line: what they ask for, for all four commands.
+//! The words of the command line: what they ask for, for all five commands.
 #![tactic(auto)]
 
 mod commands;

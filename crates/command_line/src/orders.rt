@@ -1,7 +1,7 @@
 ghost use Rattle.std.specs.Prelude.{◌≡◌, map, option_map, option_and_then, IfOk, IfSome, IsErrOf, Some, None, Option};
 ghost use Rattle.clap.specs.Words.{rows_of, found_of, first_of, subcommand_rows_of};
 ghost use Rattle.command_line.specs.Ranges.{IsInRange};
-ghost use Rattle.command_line.specs.Wants.{wanted, wanted_of, run_in, check_in, make_in, batch_in, command_in};
+ghost use Rattle.command_line.specs.Wants.{wanted, wanted_of, run_in, check_in, make_in, batch_in, write_in, command_in};
 
 use crate::commands::heads_command;
 use crate::numbers::{
@@ -40,6 +40,10 @@ pub enum Order<'a> {
         digits: u32,
         workers: u32,
         rounds: u32,
+    },
+    /// The deck of a model, written anew.
+    Write {
+        name: &'a str,
     },
 }
 
@@ -151,6 +155,16 @@ fn batch_order<'a>(found: &ArgMatches<'a>) -> Option<Order<'a>>
     })
 }
 
+fn write_order<'a>(found: &ArgMatches<'a>) -> Option<Order<'a>>
+    ensures is { option_map wanted result ≡ write_in (rows_of (found_of found.now)) }
+    ensures in_range { IfSome result (λ o. IsInRange (wanted o)) }
+{
+    let Some(name) = text_of(found, "name") else {
+        return None;
+    };
+    Some(Order::Write { name })
+}
+
 fn command_order<'a>(name: &str, found: &ArgMatches<'a>) -> Option<Order<'a>>
     ensures is { option_map wanted result ≡ command_in name.now (rows_of (found_of found.now)) }
     ensures in_range { IfSome result (λ o. IsInRange (wanted o)) }
@@ -163,6 +177,8 @@ fn command_order<'a>(name: &str, found: &ArgMatches<'a>) -> Option<Order<'a>>
         make_order(found)
     } else if name == "batch" {
         batch_order(found)
+    } else if name == "write" {
+        write_order(found)
     } else {
         None
     }

@@ -12,6 +12,7 @@ use Rattle.engine.specs.Batches.{AskedBatch, batch_asked}
 use Rattle.engine.specs.BatchRuns.{AnyAnswers, AnyComes, AnyDecided, AnyPuts, BatchAnswers, BatchComes, BatchDecided, BatchPuts}
 use Rattle.engine.specs.Cases.{AskedCheck, Case, Check, Command, IsCase, Make, asked_in}
 use Rattle.engine.specs.Certified.{Certified}
+use Rattle.engine.specs.Decks.{OneDeck}
 use Rattle.engine.specs.Headline.{Headline}
 use Rattle.engine.specs.Made.{Made}
 use Rattle.engine.specs.OneListing.{OneListing, OneSummary, OneVerdict}
@@ -78,17 +79,17 @@ module _ (laws : Laws) (words : List Text) (n m : ℕ) (S : Type 0) (L : List Pu
     ok_batched : (b : AskedBatch) → batch_asked words ≡ Some b → BatchAnswers b (Some files) n m end puts → end ≡ status.Ok → Batched words files end old.written new.written
     ok_batched b e a ok = only_batched b ok (batched laws b files words e end old new puts makes n m a (λ stops. not_stopped (let P : Status → Type 0 = IsStopped in subst P ok stops)))
 
-    pub any_headline : AnyAnswers words (Some files) n m S L end puts → end ≡ status.Ok → (Headline words files old.written new.written ⊎ (Made words old.written new.written ⊎ Certified words files old.written new.written)) ⊎ Batched words files end old.written new.written
+    pub any_headline : AnyAnswers words (Some files) n m S L end puts → end ≡ status.Ok → (Headline words files old.written new.written ⊎ (Made words old.written new.written ⊎ (Certified words files old.written new.written ⊎ OneDeck words files old.written new.written))) ⊎ Batched words files end old.written new.written
     any_headline = by_option (batch_asked words) refl
       where
-        by_option : (o : Option AskedBatch) → batch_asked words ≡ o → AnswersBy words (Some files) n m S L end puts o → end ≡ status.Ok → (Headline words files old.written new.written ⊎ (Made words old.written new.written ⊎ Certified words files old.written new.written)) ⊎ Batched words files end old.written new.written
+        by_option : (o : Option AskedBatch) → batch_asked words ≡ o → AnswersBy words (Some files) n m S L end puts o → end ≡ status.Ok → (Headline words files old.written new.written ⊎ (Made words old.written new.written ⊎ (Certified words files old.written new.written ⊎ OneDeck words files old.written new.written))) ⊎ Batched words files end old.written new.written
         by_option None e a ok = inl (first_of (beside_both words (Some files) n m S L end puts old new makes laws a ok))
         by_option (Some b) e a ok = inr (ok_batched b e a ok)
 
-    pub any_one : AnyAnswers words (Some files) n m S L end puts → end ≡ status.Ok → (OneListing words files old.written new.written ⊎ (OneSummary words old.written new.written ⊎ OneVerdict words files)) ⊎ Batched words files end old.written new.written
+    pub any_one : AnyAnswers words (Some files) n m S L end puts → end ≡ status.Ok → (OneListing words files old.written new.written ⊎ (OneSummary words old.written new.written ⊎ (OneVerdict words files ⊎ OneDeck words files old.written new.written))) ⊎ Batched words files end old.written new.written
     any_one = by_option (batch_asked words) refl
       where
-        by_option : (o : Option AskedBatch) → batch_asked words ≡ o → AnswersBy words (Some files) n m S L end puts o → end ≡ status.Ok → (OneListing words files old.written new.written ⊎ (OneSummary words old.written new.written ⊎ OneVerdict words files)) ⊎ Batched words files end old.written new.written
+        by_option : (o : Option AskedBatch) → batch_asked words ≡ o → AnswersBy words (Some files) n m S L end puts o → end ≡ status.Ok → (OneListing words files old.written new.written ⊎ (OneSummary words old.written new.written ⊎ (OneVerdict words files ⊎ OneDeck words files old.written new.written))) ⊎ Batched words files end old.written new.written
         by_option None e a ok = inl (second_of (beside_both words (Some files) n m S L end puts old new makes laws a ok))
         by_option (Some b) e a ok = inr (ok_batched b e a ok)
 

@@ -12,7 +12,7 @@ use Rattle.outside.specs.declared.codes.Code.TheVariants.{BadName}
 use Rattle.outside.specs.declared.refusals.InputFault.{InputFault}
 use Rattle.outside.specs.declared.refusals.InputFault.TheVariants as input
 use Rattle.outside.specs.declared.refusals.Refusal.{Refusal}
-use Rattle.command_line.specs.Wants.{Wanted, Lists, Checks, Makes, Batches, wanted_of}
+use Rattle.command_line.specs.Wants.{Wanted, Lists, Checks, Makes, Batches, Writes, wanted_of}
 use Rattle.model_types.specs.Valid.{IsModel}
 use Rattle.listing_io.specs.LastLines.{refused_line}
 use Rattle.run_puts.specs.Lines.{Text, read_fault_line}
@@ -46,6 +46,7 @@ other_none words b = by_wanted (wanted_of words)
     by_wanted (Some (Batches list digits workers rounds)) e = refl
     by_wanted (Some (Checks name listing digits)) e = absurd (let bad : Path (Option AskedBatch) None (Some b) = e in cc)
     by_wanted (Some (Makes seed size)) e = absurd (let bad : Path (Option AskedBatch) None (Some b) = e in cc)
+    by_wanted (Some (Writes name)) e = absurd (let bad : Path (Option AskedBatch) None (Some b) = e in cc)
     by_wanted (Some (Lists name digits workers rounds zones turns)) e = absurd (let bad : Path (Option AskedBatch) None (Some b) = e in cc)
 
 still_stopped : (case : BatchCase) (end : Status) → IsStopped end → AreValid case end

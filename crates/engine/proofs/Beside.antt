@@ -5,7 +5,7 @@ use Rattle.outside.specs.Files.{File}
 use Rattle.outside.specs.Puts.{Put, PutsMake, Seen}
 use Rattle.outside.specs.declared.refusals.InputFault.{InputFault}
 use Rattle.outside.specs.declared.refusals.InputFault.TheVariants as input
-use Rattle.command_line.specs.Wants.{Batches, Checks, Lists, Makes, Wanted, wanted_of}
+use Rattle.command_line.specs.Wants.{Batches, Checks, Lists, Makes, Wanted, Writes, wanted_of}
 use Rattle.model_types.specs.Valid.{IsModel}
 use Rattle.run_puts.specs.Ends.{IsLast}
 use Rattle.run_puts.specs.Lines.{Text, read_fault_line}
@@ -20,7 +20,7 @@ use Rattle.engine.specs.declared.asked.Command.{Command as CommandBy}
 use Rattle.engine.specs.Batches.{AskedBatch}
 use Rattle.engine.specs.Commands.{views_of}
 use Rattle.engine.specs.BatchRuns.{BatchComes, BatchDecided}
-use Rattle.engine.specs.Cases.{Asked, AskedCheck, Case, Check, Command, IsCase, Listing, Make, Run, asked_in, built}
+use Rattle.engine.specs.Cases.{Asked, AskedCheck, Case, Check, Command, IsCase, Listing, Make, Run, Write, asked_in, built}
 use Rattle.engine.specs.Certified.{Certified}
 use Rattle.engine.specs.Made.{Made}
 use Rattle.engine.specs.OneListing.{OneVerdict}
@@ -42,6 +42,7 @@ views_by words w x y e same v = ap (option_and_then views_asked) e ∙ sym v ∙
 views_of_run : (w : Option Wanted) (n : ℕ) → option_and_then views_asked w ≡ Some n → (asked : Asked) × (option_and_then built w ≡ Some (Run asked))
 views_of_run (Some (Lists name digits workers rounds zones watch)) n e = (record { name = name; digits = digits; rounds = rounds; zones = zones }, refl)
 views_of_run (Some (Makes seed size)) n e = absurd (let bad : Path (Option ℕ) None (Some n) = e in cc)
+views_of_run (Some (Writes name)) n e = absurd (let bad : Path (Option ℕ) None (Some n) = e in cc)
 views_of_run (Some (Checks name listing digits)) n e = absurd (let bad : Path (Option ℕ) None (Some n) = e in cc)
 views_of_run (Some (Batches list digits workers rounds)) n e = absurd (let bad : Path (Option ℕ) None (Some n) = e in cc)
 views_of_run None n e = absurd (let bad : Path (Option ℕ) None (Some n) = e in cc)
@@ -54,6 +55,9 @@ viewless_make words seed size is n e = let r = views_of_run (wanted_of words) n 
 
 pub viewless_check : (words : List Text) (asked : AskedCheck) → asked_in words ≡ Some (Check asked) → (n : ℕ) → views_in words ≡ Some n → ⊥
 viewless_check words asked is n e = let r = views_of_run (wanted_of words) n e in let bad : Path (Option Command) (Some (Check asked)) (Some (Run r.0)) = sym is ∙ r.1 in cc
+
+pub viewless_write : (words : List Text) (name : Text) → asked_in words ≡ Some (Write name) → (n : ℕ) → views_in words ≡ Some n → ⊥
+viewless_write words name is n e = let r = views_of_run (wanted_of words) n e in let bad : Path (Option Command) (Some (Write name)) (Some (Run r.0)) = sym is ∙ r.1 in cc
 
 end_not_ok : (line : Text) (meant end : Status) (tail : List Put) → (meant ≡ status.Ok → ⊥) → IsLast line meant end tail → end ≡ status.Ok → ⊥
 end_not_ok line meant end tail not (inl (same, t)) e = not (sym same ∙ e)

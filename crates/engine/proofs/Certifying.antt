@@ -16,7 +16,7 @@ use Rattle.check_run.specs.declared.verdict.ListingVerdict.{ListingVerdict}
 use Rattle.check_run.specs.declared.verdict.ListingVerdict.TheVariants.{Certified as Holds, Fails, Refused as Unbounded}
 use Rattle.check_run.specs.Laws.{VerdictIsOne}
 use Rattle.check_run.specs.Verdicts.{IsVerdict}
-use Rattle.engine.specs.Cases.{Asked, AskedCheck, Case, Command, Run, Make, Check, NoWords, Refuses, Listing, Making, Checking, asked_in, case_asked, case_checked, case_listed, case_of, case_read, case_zoned, listing_read, made_model, named, task_of, zones_read}
+use Rattle.engine.specs.Cases.{Asked, AskedCheck, Case, Command, Run, Make, Check, Write, NoWords, Refuses, Listing, Making, Checking, Writing, asked_in, case_asked, case_checked, case_listed, case_of, case_read, case_written, case_zoned, listing_read, made_model, named, task_of, zones_read}
 use Rattle.engine.specs.Certified.{Certified}
 use Rattle.engine.specs.Checked.{IsCheck, certified_line, verdict_line, verdict_status}
 use Rattle.engine.specs.Defined.{Defines}
@@ -104,6 +104,11 @@ checked_case P refuses checks asked (Ok f) listed = by_listing (listed f)
     by_listing (Ok steps) = checks f asked.digits steps
     by_listing (Err refusal) = refuses refusal
 
+-- the words of a deck come to a refusal, or to a model whose deck is written
+pub written_case : (P : Case → Type 0) → ((refusal : Refusal) → P (Refuses refusal)) → ((m : FlowModel) → P (Writing m)) → (r : Result FlowModel Refusal) → P (case_written r)
+written_case P refuses writes (Ok m) = writes m
+written_case P refuses writes (Err refusal) = refuses refusal
+
 -- where steps are checked, the words ask for a check
 module _ (words : List Text) (files : List File) (m : FlowModel) (s : ℕ) (steps : List ListedStep) where
   no_check_zoned : (asked : Asked) (f : FlowModel) (z : Result (Option (List ℕ)) Refusal) → case_zoned asked f z ≡ Checking m s steps → ⊥
@@ -119,6 +124,7 @@ module _ (words : List Text) (files : List File) (m : FlowModel) (s : ℕ) (step
   check_by_words (Some (Run asked)) wanted e = absurd (no_check asked (named asked.name (reads files)) e)
   check_by_words (Some (Make seed size)) wanted e = absurd (let bad : Making seed size (made_model seed size) ≡ Checking m s steps = e in cc)
   check_by_words (Some (Check asked)) wanted e = (asked, wanted)
+  check_by_words (Some (Write name)) wanted e = absurd (written_case (λ c. c ≡ Checking m s steps → ⊥) (λ refusal x. let bad : Refuses refusal ≡ Checking m s steps = x in cc) (λ f x. let bad : Writing f ≡ Checking m s steps = x in cc) (named name (reads files)) e)
 
   pub asks_check : case_of words files ≡ Checking m s steps → (asked : AskedCheck) × (asked_in words ≡ Some (Check asked))
   asks_check e = check_by_words (asked_in words) refl e

@@ -26,10 +26,11 @@ use Rattle.run_puts.proofs.Pieces.{IsLate, tail_late, lone, lacks_at_first, weak
 use Rattle.listing_run.specs.declared.task.Task.{Task}
 use Rattle.listing_run.specs.Listing.{IsListing, IsCutListing}
 use Rattle.listing_run.specs.Zones.{AreZonesOf}
-use Rattle.engine.specs.Cases.{Asked, AskedCheck, Case, Command, Run, Make, Check, NoWords, Refuses, Listing, Making, Checking, IsCase, CouldRead, asked_in, built, case_asked, case_checked, case_listed, case_of, case_read, case_zoned, listing_read, made_model, named, task_of, zones_named, zones_read}
+use Rattle.engine.specs.Cases.{Asked, AskedCheck, Case, Command, Run, Make, Check, Write, NoWords, Refuses, Listing, Making, Checking, Writing, IsCase, CouldRead, asked_in, built, case_asked, case_checked, case_listed, case_of, case_read, case_written, case_zoned, listing_read, made_model, named, task_of, zones_named, zones_read}
 use Rattle.engine.specs.Defined.{Due, ReadsFolder, defined, unread, CutOf}
 use Rattle.engine.specs.Made.{IsMade}
 use Rattle.engine.specs.Checked.{IsCheck}
+use Rattle.engine.specs.Decks.{IsDeck}
 use Rattle.engine.specs.Parts.{AreZonesAs, Answers, IsMadeRun, IsReadAs, IsReadingEnd, IsStopped, IsValid}
 use Rattle.engine.proofs.Readings.{named_read, no_zones}
 
@@ -57,6 +58,7 @@ stopped (Refuses refusal) end h = tt
 stopped (Listing k) end h = inr h
 stopped (Making seed size read) end h = inr h
 stopped (Checking m s steps) end h = inr h
+stopped (Writing m) end h = inr h
 
 module _ (words : List Text) (files : Option (List File)) (n m : ℕ) where
   lacking : (case : Case) (end : Status) (puts : List Put) → IsCase words files case → IsWanting end puts → Answers words files n m end puts
@@ -76,6 +78,9 @@ module _ (words : List Text) (files : Option (List File)) (n m : ℕ) where
 
   pub checked : (f : FlowModel) (s : ℕ) (steps : List ListedStep) (end : Status) (puts : List Put) → IsCase words files (Checking f s steps) → IsModel f → AreListed f steps → IsRun (IsCheck f s steps) NeverCut end puts → Answers words files n m end puts
   checked f s steps end puts is model listed h = record { case = Checking f s steps; is = is; run = weaker (IsCheck f s steps) (Due (Rose n m) (Checking f s steps)) NeverCut (λ meant pieces d. defined meant pieces d) end puts h; valid = inl (model, listed) }
+
+  pub decked : (f : FlowModel) (end : Status) (puts : List Put) → IsCase words files (Writing f) → IsModel f → IsRun (IsDeck f) NeverCut end puts → Answers words files n m end puts
+  decked f end puts is model h = record { case = Writing f; is = is; run = weaker (IsDeck f) (Due (Rose n m) (Writing f)) NeverCut (λ meant pieces d. defined meant pieces d) end puts h; valid = inl model }
 
 -- a reading that gave no model, and one that gave no steps
 abbrev pub no_model : Result FlowModel Refusal
@@ -114,12 +119,13 @@ no_words words None e =
     let P : Option Command → Type 0 = λ a. NoWords ≡ case_asked a (λ name. no_model) (same_zones no_zones) (same_steps no_steps) in
     (no_model, no_zones, no_steps, could_read no_model tt, subst P (sym e) refl)
 
--- the words come to some case, whatever is read; for a listing and for a check the folder is read
+-- the words come to some case, whatever is read; for a listing, for a check and for a deck the folder is read
 pub record SomeCase (words : List Text) (files : Option (List File)) : Type 0 where
   pub case : Case
   pub is : IsCase words files case
   pub worded : (asked : Asked) → asked_in words ≡ Some (Run asked) → ReadsFolder case
   pub check_worded : (asked : AskedCheck) → asked_in words ≡ Some (Check asked) → ReadsFolder case
+  pub write_worded : (name : Text) → asked_in words ≡ Some (Write name) → ReadsFolder case
 
 zoned_worded : (asked : Asked) (f : FlowModel) (z : Result (Option (List ℕ)) Refusal) → ReadsFolder (case_zoned asked f z)
 zoned_worded asked f (Ok zones) = tt
@@ -137,6 +143,10 @@ checked_worded : (asked : AskedCheck) (r : Result FlowModel Refusal) (listed : F
 checked_worded asked (Ok f) listed = listed_worded asked f (listed f)
 checked_worded asked (Err refusal) listed = tt
 
+written_worded : (r : Result FlowModel Refusal) → ReadsFolder (case_written r)
+written_worded (Ok f) = tt
+written_worded (Err refusal) = tt
+
 module _ (words : List Text) (read : Text → Result FlowModel Refusal) (zoned : Option Text → FlowModel → Result (Option (List ℕ)) Refusal) (listed : AskedCheck → FlowModel → Result (List ListedStep) Refusal) where
   abbrev ReadsFor : Option Command → Type 0
   ReadsFor a = ReadsFolder (case_asked a read zoned listed)
@@ -147,13 +157,17 @@ module _ (words : List Text) (read : Text → Result FlowModel Refusal) (zoned :
   check_worded_by : (asked : AskedCheck) → asked_in words ≡ Some (Check asked) → ReadsFor (asked_in words)
   check_worded_by asked e = subst ReadsFor (sym e) (checked_worded asked (named asked.name read) (listed asked))
 
+  write_worded_by : (name : Text) → asked_in words ≡ Some (Write name) → ReadsFor (asked_in words)
+  write_worded_by name e = subst ReadsFor (sym e) (written_worded (named name read))
+
 pub some_case : (words : List Text) (files : Option (List File)) → SomeCase words files
-some_case words (Some fs) = record { case = case_of words fs; is = refl; worded = asked_worded words (reads fs) (zones_read fs) (listing_read fs); check_worded = check_worded_by words (reads fs) (zones_read fs) (listing_read fs) }
+some_case words (Some fs) = record { case = case_of words fs; is = refl; worded = asked_worded words (reads fs) (zones_read fs) (listing_read fs); check_worded = check_worded_by words (reads fs) (zones_read fs) (listing_read fs); write_worded = write_worded_by words (reads fs) (zones_read fs) (listing_read fs) }
 some_case words None = record {
   case = case_asked (asked_in words) (λ name. no_model) (same_zones no_zones) (same_steps no_steps);
   is = (no_model, no_zones, no_steps, could_read no_model tt, refl);
   worded = asked_worded words (λ name. no_model) (same_zones no_zones) (same_steps no_steps);
   check_worded = check_worded_by words (λ name. no_model) (same_zones no_zones) (same_steps no_steps);
+  write_worded = write_worded_by words (λ name. no_model) (same_zones no_zones) (same_steps no_steps);
 }
 
 pub ends_without_words : (words : List Text) (files : Option (List File)) (n m : ℕ) (end : Status) (puts : List Put) → IsWanting end puts → Answers words files n m end puts

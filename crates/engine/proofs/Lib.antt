@@ -3,6 +3,8 @@ pub mod Ends
 pub mod Summed
 pub mod Verdicts
 pub mod Certifying
+pub mod Decks
+pub mod Decking
 pub mod Outcomes
 pub mod StoredSteps
 pub mod Written

@@ -4,11 +4,11 @@ use Rattle.std.specs.Prelude.{IfSome}
 use Rattle.std.proofs.lemmas.List.Elements.{All-head, All-tail}
 use Rattle.outside.specs.Asking.{WordsMay}
 use Rattle.outside.specs.Names.{folder_name}
-use Rattle.command_line.specs.Wants.{Wanted, Lists, Checks, Makes, Batches, wanted_of}
+use Rattle.command_line.specs.Wants.{Wanted, Lists, Checks, Makes, Batches, Writes, wanted_of}
 use Rattle.run_puts.specs.Lines.{Text}
 use Rattle.engine.specs.Asking.{files_of, files_if, files_named}
 use Rattle.engine.specs.Batches.{AskedBatch, batch_of, batch_asked}
-use Rattle.engine.specs.Cases.{Asked, AskedCheck, Run, Check, built, asked_in}
+use Rattle.engine.specs.Cases.{Asked, AskedCheck, Run, Check, Write, built, asked_in}
 
 module _ (may : List ℕ → Type 0) where
   abbrev May : List ℕ → Type 0
@@ -30,6 +30,7 @@ module _ (may : List ℕ → Type 0) where
   by_run (Checks name listing digits) a e h = absurd cc
   by_run (Makes seed size) a e h = absurd cc
   by_run (Batches list digits workers rounds) a e h = absurd cc
+  by_run (Writes name) a e h = absurd cc
 
   by_check : (w : Wanted) (a : AskedCheck) → built w ≡ Some (Check a) → WordsMay may (files_of w) → OfCheck a
   by_check (Lists name digits workers rounds zones turns) a e h = absurd cc
@@ -38,11 +39,22 @@ module _ (may : List ℕ → Type 0) where
       subst OfCheck same (All-head May name (listing ∷ []) h, All-head May listing [] (All-tail May name (listing ∷ []) h))
   by_check (Makes seed size) a e h = absurd cc
   by_check (Batches list digits workers rounds) a e h = absurd cc
+  by_check (Writes name) a e h = absurd cc
+
+  by_write : (w : Wanted) (deck : Text) → built w ≡ Some (Write deck) → WordsMay may (files_of w) → May deck
+  by_write (Lists name digits workers rounds zones turns) deck e h = absurd cc
+  by_write (Checks name listing digits) deck e h = absurd cc
+  by_write (Makes seed size) deck e h = absurd cc
+  by_write (Batches list digits workers rounds) deck e h = absurd cc
+  by_write (Writes name) deck e h =
+      let same : name ≡ deck = cc in
+      subst May same (All-head May name [] h)
 
   by_batch : (w : Wanted) (b : AskedBatch) → batch_of w ≡ Some b → WordsMay may (files_of w) → May b.list
   by_batch (Lists name digits workers rounds zones turns) b e h = absurd cc
   by_batch (Checks name listing digits) b e h = absurd cc
   by_batch (Makes seed size) b e h = absurd cc
+  by_batch (Writes name) b e h = absurd cc
   by_batch (Batches list digits workers rounds) b e h =
       let same : record { list = list; digits = digits; rounds = rounds } ≡ b = cc in
       subst (λ (x : AskedBatch). May x.list) same (All-head May list [] h)
@@ -54,6 +66,10 @@ module _ (may : List ℕ → Type 0) where
   if_check : (o : Option Wanted) (a : AskedCheck) → option_and_then built o ≡ Some (Check a) → WordsMay may (files_if o) → OfCheck a
   if_check None a e h = absurd cc
   if_check (Some w) a e h = by_check w a e h
+
+  if_write : (o : Option Wanted) (deck : Text) → option_and_then built o ≡ Some (Write deck) → WordsMay may (files_if o) → May deck
+  if_write None deck e h = absurd cc
+  if_write (Some w) deck e h = by_write w deck e h
 
   if_batch : (o : Option Wanted) (b : AskedBatch) → option_and_then batch_of o ≡ Some b → WordsMay may (files_if o) → May b.list
   if_batch None b e h = absurd cc
@@ -67,6 +83,10 @@ module _ (may : List ℕ → Type 0) where
     -- the name file and the listing of a check
     pub check_named : (a : AskedCheck) → asked_in words ≡ Some (Check a) → OfCheck a
     check_named a e = if_check (wanted_of words) a e h
+
+    -- the name file of a deck
+    pub write_named : (deck : Text) → asked_in words ≡ Some (Write deck) → May deck
+    write_named deck e = if_write (wanted_of words) deck e h
 
     -- the list of a batch
     pub batch_named : (b : AskedBatch) → batch_asked words ≡ Some b → May b.list

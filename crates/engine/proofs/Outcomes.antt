@@ -33,15 +33,17 @@ use Rattle.listing_summary.specs.Summaries.{summary_of}
 use Rattle.listing_summary.specs.Texts.{summary_text}
 use Rattle.exact_histories.proofs.WholeRuns.{history_exists, history_is_one}
 use Rattle.check_run.specs.Laws.{VerdictIsOne}
-use Rattle.engine.specs.Cases.{Asked, AskedCheck, Case, Command, Run, Make, Check, NoWords, Refuses, Listing, Making, Checking, IsCase, asked_in, case_asked, case_of, case_read, case_zoned, listing_read, made_model, named, task_of, zones_named, zones_read}
+use Rattle.engine.specs.Cases.{Asked, AskedCheck, Case, Command, Run, Make, Check, Write, NoWords, Refuses, Listing, Making, Checking, Writing, IsCase, asked_in, case_asked, case_of, case_read, case_zoned, listing_read, made_model, named, task_of, zones_named, zones_read}
 use Rattle.engine.specs.Certified.{Certified}
+use Rattle.engine.specs.Decks.{IsDeck, OneDeck}
 use Rattle.engine.specs.Defined.{CutOf, Defines, Due, defined, unread}
 use Rattle.engine.specs.Headline.{Headline}
 use Rattle.engine.specs.Made.{IsSummed, Made, made_task, summed_text}
 use Rattle.engine.specs.OneListing.{OneListing, OneSummary, OneVerdict}
-use Rattle.engine.specs.Runs.{Decided, Comes, HasCertified, HasListing, HasTask, IsRunOf}
+use Rattle.engine.specs.Runs.{Decided, Comes, HasCertified, HasDeck, HasListing, HasTask, IsRunOf}
 use Rattle.engine.specs.Parts.{Answers, IsStopped, IsValid}
-use Rattle.engine.proofs.Certifying.{IsFault, asks_check, certifies, check_is_no_fault, checked_case, never_stopped_check, not_stopped, of_check, one_end, stopped_by_fault}
+use Rattle.engine.proofs.Certifying.{IsFault, asks_check, certifies, check_is_no_fault, checked_case, never_stopped_check, not_stopped, of_check, one_end, stopped_by_fault, written_case}
+use Rattle.engine.proofs.Decks.{deck_is_no_fault, deck_told, of_written, only_deck}
 use Rattle.engine.proofs.Readings.{named_read}
 
 -- the laws of listings and of verdicts
@@ -84,6 +86,7 @@ task_in other (Refuses refusal) = other
 task_in other (Listing k) = k
 task_in other (Making seed size read) = other
 task_in other (Checking m s steps) = other
+task_in other (Writing m) = other
 
 one_task : (j k : Task) → Listing j ≡ Listing k → j ≡ k
 unfolding task_in
@@ -103,6 +106,7 @@ module _ (words : List Text) (files : List File) (k : Task) where
   by_words (Some (Run asked)) wanted e = by_reading asked wanted (named asked.name (reads files)) refl e
   by_words (Some (Make seed size)) wanted e = absurd (let bad : Making seed size (made_model seed size) ≡ Listing k = e in cc)
   by_words (Some (Check asked)) wanted e = absurd (checked_case (λ c. c ≡ Listing k → ⊥) (λ refusal x. let bad : Refuses refusal ≡ Listing k = x in cc) (λ m s steps x. let bad : Checking m s steps ≡ Listing k = x in cc) asked (named asked.name (reads files)) (listing_read files asked) e)
+  by_words (Some (Write name)) wanted e = absurd (written_case (λ c. c ≡ Listing k → ⊥) (λ refusal x. let bad : Refuses refusal ≡ Listing k = x in cc) (λ m x. let bad : Writing m ≡ Listing k = x in cc) (named name (reads files)) e)
 
   listed : case_of words files ≡ Listing k → Listed words files k
   listed e = by_words (asked_in words) refl e
@@ -146,13 +150,14 @@ module _ (words : List Text) (files : List File) (seed size : ℕ) (read : Resul
   made_by_words (Some (Run asked)) wanted e = made_by_reading asked (named asked.name (reads files)) e
   made_by_words (Some (Make i j)) wanted e = same_words i j wanted (one_making i j seed size (made_model i j) read e)
   made_by_words (Some (Check asked)) wanted e = absurd (checked_case (λ c. c ≡ Making seed size read → ⊥) (λ refusal x. let bad : Refuses refusal ≡ Making seed size read = x in cc) (λ m s steps x. let bad : Checking m s steps ≡ Making seed size read = x in cc) asked (named asked.name (reads files)) (listing_read files asked) e)
+  made_by_words (Some (Write name)) wanted e = absurd (written_case (λ c. c ≡ Making seed size read → ⊥) (λ refusal x. let bad : Refuses refusal ≡ Making seed size read = x in cc) (λ m x. let bad : Writing m ≡ Making seed size read = x in cc) (named name (reads files)) e)
 
   summed : case_of words files ≡ Making seed size read → Summed words seed size read
   summed e = made_by_words (asked_in words) refl e
 
--- the headline of a listing, of a made model or of a check, and what is promised beside
+-- the headline of a listing, of a made model, of a check or of a deck, and what is promised beside
 abbrev pub Both : List Text → List File → Seen → Seen → Type 0
-Both words files old new = (Headline words files old.written new.written × OneListing words files old.written new.written) ⊎ ((Made words old.written new.written × OneSummary words old.written new.written) ⊎ (Certified words files old.written new.written × OneVerdict words files))
+Both words files old new = (Headline words files old.written new.written × OneListing words files old.written new.written) ⊎ ((Made words old.written new.written × OneSummary words old.written new.written) ⊎ ((Certified words files old.written new.written × OneVerdict words files) ⊎ (OneDeck words files old.written new.written × OneDeck words files old.written new.written)))
 
 module _ (laws : Laws) where
   of_listing : (words : List Text) (files : List File) (old new : Seen) (puts : List Put) (pieces : List Text) (k : Task) → Listed words files k → IsModel k.model → IsWhole k pieces → puts ≡ map taken pieces → PutsMake old puts new → Headline words files old.written new.written × OneListing words files old.written new.written
@@ -248,7 +253,11 @@ module _ (laws : Laws) where
       let D : Case → Type 0 = λ case. Defines case status.Ok d.pieces in
       let V : Case → Type 0 = λ case. IsValid case status.Ok in
       let E : Status → Type 0 = λ t. IsValid (Checking m s steps) t in
-      inr (inr (of_check words files old new puts d.pieces a.0 a.1 d.written makes (subst V is (subst E e valid)) (subst D is d.defines)))
+      inr (inr (inl (of_check words files old new puts d.pieces a.0 a.1 d.written makes (subst V is (subst E e valid)) (subst D is d.defines))))
+  by_case words files old new puts end (Writing m) is valid e d makes =
+      let E : Status → Type 0 = λ t. IsValid (Writing m) t in
+      let told = of_written words files old new puts d.pieces m d.written makes (deck_told words files m (sym is)) (subst E e valid) d.defines in
+      inr (inr (inr (told, told)))
 
   pub both : (words : List Text) (files : Option (List File)) (n m : ℕ) (end : Status) (puts : List Put) (old new : Seen) → Answers words files n m end puts → PutsMake old puts new → end ≡ status.Ok → IfSome files (λ fs. Both words fs old new)
   both words (Some fs) n m end puts old new a makes e = by_case words fs old new puts end a.case a.is a.valid e (delivers (Rose n m) a.case end puts a.run e) makes
@@ -266,15 +275,17 @@ module _ (laws : Laws) where
       summed_ok words old new puts end seed size (made_model seed size) (record { wanted = wanted; is = refl }) (subst V same a.valid) e (subst D same (delivers (Rose n m) a.case end puts a.run e)) makes
 
 -- what both say of the enclosure, and what beside
-pub first_of : {A B C D E F : Type 0} → (A × B) ⊎ ((C × D) ⊎ (E × F)) → A ⊎ (C ⊎ E)
+pub first_of : {A B C D E F G H : Type 0} → (A × B) ⊎ ((C × D) ⊎ ((E × F) ⊎ (G × H))) → A ⊎ (C ⊎ (E ⊎ G))
 first_of (inl p) = inl p.0
 first_of (inr (inl p)) = inr (inl p.0)
-first_of (inr (inr p)) = inr (inr p.0)
+first_of (inr (inr (inl p))) = inr (inr (inl p.0))
+first_of (inr (inr (inr p))) = inr (inr (inr p.0))
 
-pub second_of : {A B C D E F : Type 0} → (A × B) ⊎ ((C × D) ⊎ (E × F)) → B ⊎ (D ⊎ F)
+pub second_of : {A B C D E F G H : Type 0} → (A × B) ⊎ ((C × D) ⊎ ((E × F) ⊎ (G × H))) → B ⊎ (D ⊎ (F ⊎ H))
 second_of (inl p) = inl p.1
 second_of (inr (inl p)) = inr (inl p.1)
-second_of (inr (inr p)) = inr (inr p.1)
+second_of (inr (inr (inl p))) = inr (inr (inl p.1))
+second_of (inr (inr (inr p))) = inr (inr (inr p.1))
 
 -- of a check
 pub certified : (words : List Text) (files : Option (List File)) (n m : ℕ) (end : Status) (puts : List Put) (old new : Seen) → Answers words files n m end puts → PutsMake old puts new → end ≡ status.Ok → (asked : AskedCheck) → asked_in words ≡ Some (Check asked) → IfSome files (λ fs. Certified words fs old.written new.written × OneVerdict words fs)
@@ -302,6 +313,7 @@ defines_no_fault (Listing k) end pieces d h = listing_is_no_fault k end pieces d
 defines_no_fault (Making seed size (Ok m)) end pieces d h = listing_is_no_fault (made_task m) end d.all d.listed h
 defines_no_fault (Making seed size (Err refusal)) end pieces d h = subst IsFault d.0 h
 defines_no_fault (Checking m s steps) end pieces d h = check_is_no_fault m s steps end pieces d h
+defines_no_fault (Writing m) end pieces d h = deck_is_no_fault m end pieces d h
 
 due_read : (read_failed : Type 0) (case : Case) (end : Status) (pieces : List Text) → Due read_failed case end pieces → end ≡ status.ReadFault → read_failed
 due_read read_failed case end pieces (defined meant all d) e = absurd (defines_no_fault case end pieces d (subst IsFault (sym e) tt))
@@ -376,6 +388,7 @@ decides laws (Making seed size (Ok m)) meant end p q (inl valid) x y = agree law
 decides laws (Making seed size (Ok m)) meant end p q (inr stops) x y = absurd (never_stopped (made_task m) end y.all stops y.listed)
 decides laws (Checking m s steps) meant end p q (inl (model, listed)) x y = inr (inl (one_end m s steps laws.verdict model listed meant end p q x y))
 decides laws (Checking m s steps) meant end p q (inr stops) x y = absurd (never_stopped_check m s steps end q stops y)
+decides laws (Writing m) meant end p q valid (x, a) (y, b) = inr (inl (y ∙ sym x))
 
 pub weighed : (fault : Type 0) (meant end : Status) → Agree meant end → (fault ⊎ IsUnfinished meant) ⊎ ((end ≡ meant) ⊎ ((end ≡ status.Memory) ⊎ IsUnfinished end))
 weighed fault meant end (inl open_meant) = inl (inr open_meant)
@@ -402,6 +415,7 @@ ends_of k NoWords end has = absurd has
 ends_of k (Refuses refusal) end has = absurd has
 ends_of k (Making seed size (Err refusal)) end has = absurd has
 ends_of k (Checking m s steps) end has = absurd has
+ends_of k (Writing m) end has = absurd has
 ends_of k (Listing j) end has =
     let P : Task → Type 0 = λ t. AreEndsOf t end (Listing j) in
     subst P has (λ q y. (q, y))
@@ -422,15 +436,18 @@ module _ (laws : Laws) (words : List Text) (files : List File) (n m : ℕ) (end 
   ends_here : Ended Fault a.case end
   ends_here = ended n m a.case end puts old new a.run makes
 
-  complete_by : HasListing words files ⊎ HasCertified words files → Fault ⊎ ((end ≡ status.Ok) ⊎ (end ≡ status.Memory))
+  complete_by : HasListing words files ⊎ (HasCertified words files ⊎ HasDeck words files) → Fault ⊎ ((end ≡ status.Ok) ⊎ (end ≡ status.Memory))
   complete_by (inl l) =
       let P : Case → Type 0 = λ case. HasTask case l.task in
       let listed_end = ends_of l.task a.case end (subst P (sym a.is) l.is) in
       comes_by Fault a.case end (λ q y. let p = listed_end q y in goes_through l.task l.no_refusal l.none_open end p.0 p.1) ends_here
-  complete_by (inr l) =
+  complete_by (inr (inl l)) =
       let V : Case → Type 0 = λ case. IsValid case end in
       let E : Case → Type 0 = λ case. Ended Fault case end in
       certifies l.model l.digits l.steps laws.verdict l.verdict Fault end (subst V (a.is ∙ l.is) a.valid) (subst E (a.is ∙ l.is) ends_here)
+  complete_by (inr (inr l)) =
+      let E : Case → Type 0 = λ case. Ended Fault case end in
+      comes_by Fault (Writing l.model) end (only_deck l.model end) (subst E (a.is ∙ l.is) ends_here)
 
 pub complete : (laws : Laws) (words : List Text) (files : Option (List File)) (n m : ℕ) (end : Status) (puts : List Put) (old new : Seen) → Answers words files n m end puts → PutsMake old puts new → IfSome files (λ fs. Comes (Rose n m ⊎ Rose old.faults new.faults) words fs end)
 complete laws words (Some fs) n m end puts old new a makes = complete_by laws words fs n m end puts old new a makes

@@ -10,7 +10,7 @@ use Rattle.model_types.specs.declared.model.FlowModel.{FlowModel}
 use Rattle.model_types.specs.Valid.{IsModel}
 use Rattle.model_reader.specs.Model.{reads}
 use Rattle.model_reader.proofs.UnitLemmas.{unit_is_short}
-use Rattle.command_line.specs.Wants.{Wanted, Lists, Checks, Makes, Batches, wanted_of}
+use Rattle.command_line.specs.Wants.{Wanted, Lists, Checks, Makes, Batches, Writes, wanted_of}
 use Rattle.command_line.proofs.DigitLemmas.{check_digits}
 use Rattle.listing_io.specs.declared.listing.ListedStep.{ListedStep}
 use Rattle.listing_io.specs.Reading.{all_lines, listing_at, or_bad_listing}
@@ -44,6 +44,7 @@ built_check asked (Lists name digits workers rounds zones None) e = cc
 built_check asked (Lists name digits workers rounds zones (Some turns)) e = cc
 built_check asked (Checks name listing digits) e = cc
 built_check asked (Makes seed size) e = cc
+built_check asked (Writes name) e = cc
 built_check asked (Batches list digits workers rounds) e = cc
 
 asked_digits : (words : List Text) (asked : AskedCheck) → asked_in words ≡ Some (Check asked) → asked.digits ≤ 18

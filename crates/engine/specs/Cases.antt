@@ -5,7 +5,7 @@ use Rattle.outside.specs.Inputs.{file_at, file_refusal}
 use Rattle.outside.specs.Names.{is_good_name}
 use Rattle.outside.specs.declared.codes.Code.TheVariants.{BadName}
 use Rattle.outside.specs.declared.refusals.Refusal.{Refusal}
-use Rattle.command_line.specs.Wants.{Wanted, Lists, Checks, Makes, wanted_of}
+use Rattle.command_line.specs.Wants.{Wanted, Lists, Checks, Makes, Writes, wanted_of}
 use Rattle.model_types.specs.declared.model.FlowModel.{FlowModel}
 use Rattle.model_types.specs.Valid.{IsModel}
 use Rattle.model_reader.specs.Model.{reads}
@@ -32,17 +32,20 @@ pub record AskedCheck : Type 0 where
   pub listing : Text
   pub digits : ℕ
 
--- A command: to list a model; to make one from this seed, with this many rows and columns, and sum it up; or to check a listing of a model.
+-- A command: to list a model; to make one from this seed, with this many rows and columns, and sum it up; to check a listing
+-- of a model; or to write the deck of the model of this name file.
 pub data Command : Type 0 where
   Run : Asked → Command
   Make : ℕ → ℕ → Command
   Check : AskedCheck → Command
+  Write : Text → Command
 
 -- The commands that are implemented here. What is put does not depend on the number of workers, nor on views.
 abbrev pub built : Wanted → Option Command
 built (Lists name digits workers rounds zones watch) = Some (Run (record { name = name; digits = digits; rounds = rounds; zones = zones }))
 built (Makes seed size) = Some (Make seed size)
 built (Checks name listing digits) = Some (Check (record { name = name; listing = listing; digits = digits }))
+built (Writes name) = Some (Write name)
 built other = None
 
 -- the command that the words ask for; None where they aren't accepted
@@ -55,20 +58,22 @@ ReadsNothing None = Unit {0}
 ReadsNothing (Some (Run asked)) = ⊥
 ReadsNothing (Some (Make seed size)) = Unit {0}
 ReadsNothing (Some (Check asked)) = ⊥
+ReadsNothing (Some (Write name)) = ⊥
 
 -- what is listed of a model, with the zones of its cells if there is a zone file
 abbrev pub task_of : Asked → FlowModel → Option (List ℕ) → Task
 task_of asked m zones = record { model = m; digits = asked.digits; zones = zones; rounds = asked.rounds }
 
 -- The case of a run: the words aren't accepted; this is the first refusal; this is listed; a model is made from this
--- seed and size, whose files read as this one or have this refusal; or these steps of a listing of a model are
--- checked, with these digits.
+-- seed and size, whose files read as this one or have this refusal; these steps of a listing of a model are checked,
+-- with these digits; or the deck of a model is written.
 pub data Case : Type 0 where
   NoWords : Case
   Refuses : Refusal → Case
   Listing : Task → Case
   Making : ℕ → ℕ → Result FlowModel Refusal → Case
   Checking : FlowModel → ℕ → List ListedStep → Case
+  Writing : FlowModel → Case
 
 -- what a name means, by this reading of the files under it; a bad name is refused before any file
 abbrev pub named : {T : Type 0} → Text → (Text → Result T Refusal) → Result T Refusal
@@ -118,6 +123,10 @@ abbrev pub case_checked : AskedCheck → Result FlowModel Refusal → (FlowModel
 case_checked asked (Ok m) listed = case_listed asked m (listed m)
 case_checked asked (Err refusal) listed = Refuses refusal
 
+abbrev pub case_written : Result FlowModel Refusal → Case
+case_written (Ok m) = Writing m
+case_written (Err refusal) = Refuses refusal
+
 -- the case of a command, by these readings of models, zone files and listings
 abbrev pub case_asked : Option Command → (Text → Result FlowModel Refusal)
     → (Option Text → FlowModel → Result (Option (List ℕ)) Refusal)
@@ -126,6 +135,7 @@ case_asked None read zoned listed = NoWords
 case_asked (Some (Run asked)) read zoned listed = case_read asked (named asked.name read) (zoned asked.zones)
 case_asked (Some (Make seed size)) read zoned listed = Making seed size (made_model seed size)
 case_asked (Some (Check asked)) read zoned listed = case_checked asked (named asked.name read) (listed asked)
+case_asked (Some (Write name)) read zoned listed = case_written (named name read)
 
 -- the case of these words and files
 abbrev pub case_of : List Text → List File → Case

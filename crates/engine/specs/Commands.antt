@@ -5,7 +5,7 @@ use Rattle.engine.specs.declared.asked.Asked.{Asked as AskedBy}
 use Rattle.engine.specs.declared.asked.AskedCheck.{AskedCheck as AskedCheckBy}
 use Rattle.engine.specs.declared.asked.Command.{Command as CommandBy}
 use Rattle.engine.specs.declared.asked.Command.TheVariants as command
-use Rattle.engine.specs.Cases.{Asked, AskedCheck, Command, Run, Make, Check}
+use Rattle.engine.specs.Cases.{Asked, AskedCheck, Command, Run, Make, Check, Write}
 
 -- the listing that is asked for; of how it is settled only the rounds are part of a definition
 abbrev pub asked_of : AskedBy → Asked
@@ -19,6 +19,7 @@ abbrev pub command_of : CommandBy → Command
 command_of (command.Run a) = Run (asked_of a)
 command_of (command.Make seed size) = Make seed size
 command_of (command.Check a) = Check (check_of a)
+command_of (command.Write name) = Write name.now
 
 -- the number of views in each phase
 abbrev pub views_of : CommandBy → Option ℕ
@@ -36,3 +37,4 @@ abbrev pub IsCommand : CommandBy → Type 0
 IsCommand (command.Run a) = IsAsked a
 IsCommand (command.Make seed size) = IsMakeable seed size
 IsCommand (command.Check a) = a.digits ≤ 18
+IsCommand (command.Write name) = Unit {0}

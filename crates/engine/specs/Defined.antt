@@ -6,19 +6,21 @@ use Rattle.run_puts.specs.Lines.{Text, read_fault_line}
 use Rattle.run_puts.specs.declared.status.Status.{Status}
 use Rattle.run_puts.specs.declared.status.Status.TheVariants as status
 use Rattle.listing_run.specs.Listing.{IsListing, IsCutListing}
-use Rattle.engine.specs.Cases.{Case, NoWords, Refuses, Listing, Making, Checking}
+use Rattle.engine.specs.Cases.{Case, NoWords, Refuses, Listing, Making, Checking, Writing}
 use Rattle.engine.specs.Made.{IsMade}
 use Rattle.engine.specs.Checked.{IsCheck}
+use Rattle.engine.specs.Decks.{IsDeck}
 
 -- A run of this case has this end and these pieces: the usage line; the line of the refusal; a listing, whole or up
--- to a step without bounds or one that the rounds don't settle; the pieces of a made model; or the line of a check's
--- verdict.
+-- to a step without bounds or one that the rounds don't settle; the pieces of a made model; the line of a check's
+-- verdict; or the text of a deck.
 abbrev pub Defines : Case → Status → List Text → Type 0
 Defines NoWords end pieces = (end ≡ status.Usage) × (pieces ≡ usage_line ∷ [])
 Defines (Refuses refusal) end pieces = (end ≡ status.Refused refusal) × (pieces ≡ refused_line refusal ∷ [])
 Defines (Listing k) end pieces = IsListing k end pieces
 Defines (Making seed size read) end pieces = IsMade seed size read end pieces
 Defines (Checking m s steps) end pieces = IsCheck m s steps end pieces
+Defines (Writing m) end pieces = IsDeck m end pieces
 
 -- the files of the given folder are read: not without a command, and not to make a model
 abbrev pub ReadsFolder : Case → Type 0

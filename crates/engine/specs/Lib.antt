@@ -4,6 +4,7 @@ pub mod Cases
 pub mod Made
 pub mod OneListing
 pub mod Checked
+pub mod Decks
 pub mod Commands
 pub mod Defined
 pub mod Watched

@@ -20,7 +20,7 @@ use Rattle.run_puts.specs.Lines.{Text, read_fault_line}
 use Rattle.run_puts.specs.Runs.{IsRun, NeverCut}
 use Rattle.run_puts.specs.declared.status.Status.{Status}
 use Rattle.run_puts.specs.declared.status.Status.TheVariants as status
-use Rattle.engine.specs.Cases.{AskedCheck, Case, Listing, Making, Checking, IsCase, listing_read, made_model, named, zones_named, zones_read}
+use Rattle.engine.specs.Cases.{AskedCheck, Case, Listing, Making, Checking, Writing, IsCase, listing_read, made_model, named, zones_named, zones_read}
 use Rattle.engine.specs.Made.{IsMade}
 use Rattle.engine.specs.Runs.{IsLeft, IsRunOf}
 use Rattle.engine.specs.Watched.{Watched, views_in}
@@ -61,11 +61,12 @@ IsListedAs asked m None answer =
 abbrev pub IsStopped : Status → Type 0
 IsStopped end = (end ≡ status.ReadFault) ⊎ ((end ≡ status.WriteFault) ⊎ (end ≡ status.Memory))
 
--- the model of a listing or of made files is valid, and so are the steps that are checked, unless they weren't read whole
+-- the model of a listing, of made files or of a deck is valid, and so are the steps that are checked, unless they weren't read whole
 abbrev pub IsValid : Case → Status → Type 0
 IsValid (Listing k) end = IsModel k.model ⊎ IsStopped end
 IsValid (Making seed size read) end = IfOk read IsModel ⊎ IsStopped end
 IsValid (Checking m s steps) end = (IsModel m × AreListed m steps) ⊎ IsStopped end
+IsValid (Writing m) end = IsModel m ⊎ IsStopped end
 IsValid other end = Unit {0}
 
 -- all facts of a run's result

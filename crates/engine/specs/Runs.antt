@@ -18,7 +18,7 @@ use Rattle.listing_run.specs.declared.listing_end.ListingEnd.TheVariants as ends
 use Rattle.listing_run.specs.Steps.{AllSteps}
 use Rattle.check_run.specs.declared.verdict.ListingVerdict.TheVariants.{Certified}
 use Rattle.check_run.specs.Verdicts.{IsVerdict}
-use Rattle.engine.specs.Cases.{Case, Listing, Making, Checking, IsCase, case_of}
+use Rattle.engine.specs.Cases.{Case, Listing, Making, Checking, Writing, IsCase, case_of}
 use Rattle.engine.specs.Made.{made_task}
 use Rattle.engine.specs.Defined.{Defines, Due, CutOf}
 
@@ -71,6 +71,11 @@ pub record HasCertified (words : List Text) (files : List File) : Type 0 where
   pub is : case_of words files ≡ Checking model digits steps
   pub verdict : IsVerdict model digits steps Certified
 
+-- The words ask for a deck, and the files read as a model.
+pub record HasDeck (words : List Text) (files : List File) : Type 0 where
+  pub model : FlowModel
+  pub is : case_of words files ≡ Writing model
+
 -- Then the run ends Ok, unless a read or a write fails or memory runs out.
 abbrev pub Comes : Type 0 → List Text → List File → Status → Type 0
-Comes fault words files end = HasListing words files ⊎ HasCertified words files → fault ⊎ ((end ≡ status.Ok) ⊎ (end ≡ status.Memory))
+Comes fault words files end = HasListing words files ⊎ (HasCertified words files ⊎ HasDeck words files) → fault ⊎ ((end ≡ status.Ok) ⊎ (end ≡ status.Memory))

@@ -37,6 +37,7 @@ pub(crate) enum Command<'a> {
     Run(Asked<'a>),
     Make { seed: u32, size: u32 },
     Check(AskedCheck<'a>),
+    Write(&'a str),
 }
 
 /// The listing of a made model, with the digits, the workers and the rounds of a run without options.
@@ -84,6 +85,7 @@ pub(crate) fn command_of<'a>(order: Order<'a>) -> Option<Command<'a>>
             listing,
             digits,
         })),
+        Order::Write { name } => Some(Command::Write(name)),
         _ => None,
     }
 }

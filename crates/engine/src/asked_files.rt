@@ -24,12 +24,13 @@ fn files_of<'a>(alloc: Global, order: Order<'a>) -> Result<Vec<&'a str>, AllocEr
         }
         Order::Make { .. } => {}
         Order::Batch { list, .. } => names.push(list)?,
+        Order::Write { name } => names.push(name)?,
     }
     Ok(names)
 }
 
 /// The names of the files that the words name, as a folder may be asked for them: the name file of a run, and its zone
-/// file; the name file and the listing of a check; the list of a batch. None where the words aren't accepted.
+/// file; the name file and the listing of a check; the list of a batch; the name file of a deck. None where the words aren't accepted.
 pub fn files_named<'a>(alloc: Global, words: &'a [&'a str]) -> Result<Vec<&'a str>, AllocError>
     ensures { IfOk result (λ names. map (λ n. n.now) names.items ≡ files_named (map (λ w. w.now) words.entry.now)) }
 {

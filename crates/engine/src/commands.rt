@@ -8,6 +8,7 @@ ghost use Rattle.engine.specs.Batched.{Batched, HasNoList};
 ghost use Rattle.engine.specs.Batches.{AskedBatch, batch_asked};
 ghost use Rattle.engine.specs.Cases.{asked_in, AskedCheck, Check, Make, ReadsNothing};
 ghost use Rattle.engine.specs.Certified.{Certified};
+ghost use Rattle.engine.specs.Decks.{OneDeck};
 ghost use Rattle.engine.specs.Headline.{Headline};
 ghost use Rattle.engine.specs.Made.{Made};
 ghost use Rattle.engine.specs.OneListing.{OneListing, OneSummary, OneVerdict};
@@ -60,20 +61,22 @@ pub fn run<R: Threads + Wait + Sync, F: Folder, K: Sink + Send, W: Sink + Send, 
     // Some files agree with all that the folder has answered.
     ensures told { (files : List File) × F.agrees folder.new files }
 
-    // The headline: of a listing, of the listing that a made model's summary sums up, of one that was checked, or of
-    // each listing of a batch.
+    // The headline: of a listing, of the listing that a made model's summary sums up, of one that was checked, of a deck,
+    // or of each listing of a batch.
     ensures headline { result ≡ Status.Ok → (files : List File) → F.agrees folder.new files →
         (Headline (map (λ w. w.now) words.now) files (K.seen out.old).written (K.seen out.new).written
         ⊎ (Made (map (λ w. w.now) words.now) (K.seen out.old).written (K.seen out.new).written
-        ⊎ Certified (map (λ w. w.now) words.now) files (K.seen out.old).written (K.seen out.new).written))
+        ⊎ (Certified (map (λ w. w.now) words.now) files (K.seen out.old).written (K.seen out.new).written
+        ⊎ OneDeck (map (λ w. w.now) words.now) files (K.seen out.old).written (K.seen out.new).written)))
         ⊎ Batched (map (λ w. w.now) words.now) files result (K.seen out.old).written (K.seen out.new).written }
 
-    // And it is the one listing that the files define, or each step of the one that was checked is certified; of a
-    // batch, `Batched` says it of each listing.
+    // And it is the one listing that the files define, or each step of the one that was checked is certified, or it is the
+    // one deck; of a batch, `Batched` says it of each listing.
     ensures one { result ≡ Status.Ok → (files : List File) → F.agrees folder.new files →
         (OneListing (map (λ w. w.now) words.now) files (K.seen out.old).written (K.seen out.new).written
         ⊎ (OneSummary (map (λ w. w.now) words.now) (K.seen out.old).written (K.seen out.new).written
-        ⊎ OneVerdict (map (λ w. w.now) words.now) files))
+        ⊎ (OneVerdict (map (λ w. w.now) words.now) files
+        ⊎ OneDeck (map (λ w. w.now) words.now) files (K.seen out.old).written (K.seen out.new).written)))
         ⊎ Batched (map (λ w. w.now) words.now) files result (K.seen out.old).written (K.seen out.new).written }
 
     // Of a made model it holds whatever the folder is.

@@ -20,6 +20,7 @@ mod serving;
 mod verdict;
 mod view_lines;
 mod viewing;
+mod writing;
 
 pub use asked_files::files_named;
 pub use commands::run;

@@ -15,6 +15,7 @@ ghost use Rattle.engine.specs.Cases.{asked_in, task_of, AskedCheck, Check, Make,
 ghost use Rattle.engine.specs.Commands.{asked_of, IsAsked};
 ghost use Rattle.engine.specs.Made.{Made};
 ghost use Rattle.engine.specs.Certified.{Certified};
+ghost use Rattle.engine.specs.Decks.{OneDeck};
 ghost use Rattle.engine.specs.OneListing.{OneListing, OneSummary, OneVerdict};
 ghost use Rattle.engine.specs.Parts.{AnswersBeside, IsReadAs};
 ghost use Rattle.engine.specs.Watched.{IsWatched, SidePuts, Watched, views_in};
@@ -25,6 +26,7 @@ use crate::ending::end_reading;
 use crate::listing::put_listing;
 use crate::making::put_made;
 use crate::reading::{read_named, read_zones_of};
+use crate::writing::write;
 use check_run::laws::one_verdict;
 use command_line::{WordsFault, read_order};
 use listing_run::Task;
@@ -41,7 +43,8 @@ const USAGE: &[u8] =
 /// Does what the words ask for. `run NAME` reads the model of that name file from the folder, and the zones of its cells
 /// if the words name a zone file, and puts its listing to `out`, step by step. `make SEED SIZE` makes a model, without the
 /// folder, and puts the summary of its listing. `check NAME LISTING` reads the model and a listing of it, whoever wrote
-/// it, and puts whether it is certified, or else the first place that fails. Workers in threads settle each step, and pass
+/// it, and puts whether it is certified, or else the first place that fails. `write NAME` reads the model and puts its deck
+/// in one spelling. Workers in threads settle each step, and pass
 /// the gate before each turn; a check has none. With `--watch N` one more seat makes N views of the heads in each phase, and
 /// each is put to `side` as one piece, up to the first put that fails; the run then ends, with WriteFault if a write
 /// failed. For a batch, which only `run` does, it puts the usage line.
@@ -78,17 +81,20 @@ pub fn run_one<R: Threads + Sync, F: Folder, K: Sink + Send, W: Sink + Send, G: 
     // Some files agree with all that the folder has answered.
     ensures told { (files : List File) × F.agrees folder.new files }
 
-    // The headline: of a listing, of the listing that a made model's summary sums up, or of one that was checked.
+    // The headline: of a listing, of the listing that a made model's summary sums up, of one that was checked, or of a deck.
     ensures headline { result ≡ Status.Ok → (files : List File) → F.agrees folder.new files →
         Headline (map (λ w. w.now) words.now) files (K.seen out.old).written (K.seen out.new).written
         ⊎ (Made (map (λ w. w.now) words.now) (K.seen out.old).written (K.seen out.new).written
-        ⊎ Certified (map (λ w. w.now) words.now) files (K.seen out.old).written (K.seen out.new).written) }
+        ⊎ (Certified (map (λ w. w.now) words.now) files (K.seen out.old).written (K.seen out.new).written
+        ⊎ OneDeck (map (λ w. w.now) words.now) files (K.seen out.old).written (K.seen out.new).written)) }
 
-    // And it is the one listing that the files define, or each step of the one that was checked is certified.
+    // And it is the one listing that the files define, or each step of the one that was checked is certified, or it is the
+    // one deck of the model that the files read as.
     ensures one { result ≡ Status.Ok → (files : List File) → F.agrees folder.new files →
         OneListing (map (λ w. w.now) words.now) files (K.seen out.old).written (K.seen out.new).written
         ⊎ (OneSummary (map (λ w. w.now) words.now) (K.seen out.old).written (K.seen out.new).written
-        ⊎ OneVerdict (map (λ w. w.now) words.now) files) }
+        ⊎ (OneVerdict (map (λ w. w.now) words.now) files
+        ⊎ OneDeck (map (λ w. w.now) words.now) files (K.seen out.old).written (K.seen out.new).written)) }
 
     // Of a made model it holds whatever the folder is.
     ensures made { result ≡ Status.Ok → (seed size : ℕ) → asked_in (map (λ w. w.now) words.now) ≡ Some (Make seed size) →
@@ -149,6 +155,7 @@ pub(crate) fn answer<R: Threads + Sync, F: Folder, K: Sink + Send, W: Sink + Sen
         Some(Command::Run(asked)) => list(rt, alloc, asked, folder, out, side, gate),
         Some(Command::Make { seed, size }) => put_made(rt, alloc, seed, size, out, gate),
         Some(Command::Check(asked)) => check(alloc, asked, folder, out),
+        Some(Command::Write(name)) => write(alloc, name, folder, out),
     }
 }
 

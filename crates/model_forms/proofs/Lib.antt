@@ -19,3 +19,4 @@ pub mod StageForms
 pub mod CoreForms
 pub mod ModelForms
 pub mod WorkedForms
+pub mod DeckForms

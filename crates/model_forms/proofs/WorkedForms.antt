@@ -46,6 +46,7 @@ use Rattle.model_text.specs.Written.{written}
 use Rattle.model_text.specs.Writable.{IsDry, IsStill, IsWritable}
 use Rattle.model_text.proofs.ModelTexts.{model_reads}
 use Rattle.model_text.proofs.PackageTexts.{type_is_word, type_reads}
+use Rattle.model_text.proofs.DeckNames.{all_plain}
 use Rattle.model_forms.specs.Worked.{name_of_deck, deck, ThreeCells}
 
 abbrev steady_period : Period
@@ -152,17 +153,6 @@ writable = record {
   chd = one_period (λ p. IsListOf given_heads 3 p p.stresses.given) (no_entries given_heads refl);
   evt = inr (record { option = refl; none = one_period IsStill (record { surf = refl; evtr = refl; exdp = refl; ievt = refl }) });
 }
-
--- a name without a backslash
-all_plain : (w : List ℕ) → list_all (λ b. not (b == 92)) w ≡ true → All (λ b. b ≡ 92 → ⊥) w
-all_plain [] h = All-nil (λ b. b ≡ 92 → ⊥)
-all_plain (x ∷ w) h =
-    let p = and_parts (not (x == 92)) (list_all (λ b. not (b == 92)) w) h in
-    let other : x ≡ 92 → ⊥ = λ e. apart x (not-true (x == 92) p.0) e in
-    All-cons (λ b. b ≡ 92 → ⊥) x w other (all_plain w p.1)
-  where
-    apart : (x : ℕ) → (x == 92) ≡ false → x ≡ 92 → ⊥
-    apart x e same = grind (arith, nat_tests)
 
 good_type : (k : Package) → (length (file_type k) ≤ 255) × (list_all (λ b. not (b == 92)) (file_type k) ≡ true)
 good_type Dis = (omega arith, refl)

@@ -9,6 +9,7 @@ use Rattle.array_text.specs.Words.{IsShort}
 use Rattle.model_text.specs.Names.{AreNames}
 use Rattle.model_text.specs.Written.{written}
 use Rattle.model_text.specs.Writable.{IsWritable}
+use Rattle.model_text.specs.Decks.{IsReadAgain}
 
 -- A model that is read is writable. Each other integer of a file is a word of at most 18 digits; an IBOUND is a word times a multiplier.
 abbrev pub ModelsReadAreWritable : Type 0
@@ -19,3 +20,7 @@ abbrev pub ModelsReadAreReadAsWritten : Type 0
 ModelsReadAreReadAsWritten = (files : List File) (name : List ℕ) (m : FlowModel) → reads files name ≡ Ok m → All IsShort m.ibound →
     (names : Package → List ℕ) (anew : List ℕ) → AreNames names anew → All (λ f. length f.bytes ≤ file_limit) (written m names anew) →
     reads (written m names anew) anew ≡ Ok m
+
+-- So of the deck that `heads write` puts, under the names that it gives.
+abbrev pub DecksAreReadAgain : Type 0
+DecksAreReadAgain = (files : List File) (name : List ℕ) (m : FlowModel) → reads files name ≡ Ok m → IsReadAgain m

@@ -1,5 +1,5 @@
 // What is read of a model can be written. Each law is the contract of an empty function.
-ghost use Rattle.model_forms.specs.Laws.{ModelsReadAreWritable, ModelsReadAreReadAsWritten};
+ghost use Rattle.model_forms.specs.Laws.{DecksAreReadAgain, ModelsReadAreWritable, ModelsReadAreReadAsWritten};
 ghost use Rattle.model_forms.specs.Worked.{ThreeCells};
 
 /// A model that is read is writable, where each IBOUND has at most 18 digits.
@@ -10,6 +10,11 @@ pub fn models_read_are_writable()
 /// Written anew, such a model is read as itself.
 pub fn models_read_are_read_as_written()
     ensures { ModelsReadAreReadAsWritten }
+{}
+
+/// So is the deck of such a model, with the names that `heads write` gives its files.
+pub fn decks_are_read_again()
+    ensures { DecksAreReadAgain }
 {}
 
 /// A worked model is writable, and files of a deck are read as it.

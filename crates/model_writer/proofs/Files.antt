@@ -18,7 +18,7 @@ name_left line p x h = ap (λ b. text (map line (cond b (x ∷ []) []))) h ∙ t
 
 pub ruleset one_name = (name_kept, name_left)
 
-filter_more : {X : Type 0} (p : X → Bool) (xs : List X) (i : ℕ) (d : X) → i < length xs → filter p (take (i + 1) xs) ≡ filter p (take i xs) ++ filter p (get_or xs i d ∷ [])
+pub filter_more : {X : Type 0} (p : X → Bool) (xs : List X) (i : ℕ) (d : X) → i < length xs → filter p (take (i + 1) xs) ≡ filter p (take i xs) ++ filter p (get_or xs i d ∷ [])
 filter_more p xs i d lt = ap (filter p) (take_more xs i d lt) ∙ filter-append p (take i xs) (get_or xs i d ∷ [])
 
 pub no_names : {X : Type 0} (line : X → Line) (p : X → Bool) → text (map line (filter p [])) ≡ []

@@ -5,3 +5,4 @@ pub mod Items
 pub mod Fixed
 pub mod Files
 pub mod ListTexts
+pub mod DeckTexts

@@ -5,6 +5,7 @@ mod areas;
 mod arrays;
 mod basics;
 mod deck;
+mod deck_text;
 mod discretization;
 mod entries;
 mod flow;
@@ -15,4 +16,5 @@ mod packages;
 mod words;
 
 pub use deck::write_model;
+pub use deck_text::write_deck;
 pub use names::DeckNames;

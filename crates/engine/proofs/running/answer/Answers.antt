@@ -1,12 +1,12 @@
 use Rattle.std.proofs.Common.{◌≡◌, ◌∙◌, ℕ, List, map, Err, Option, Some, None, ap, sym, subst}
 use Rattle.engine.specs.declared.asked.Command.{Command as CommandBy}
-use Rattle.engine.specs.Cases.{Command, asked_in, Check, Make, ReadsNothing, Run}
+use Rattle.engine.specs.Cases.{Command, asked_in, Check, Make, ReadsNothing, Run, Write}
 use Rattle.engine.specs.Commands.{asked_of, check_of, command_of}
 use Rattle.engine.proofs.Ends.{asked_by, asked_none, ends_usage, ends_made, ends_without_words, no_words}
 use Rattle.listing_run.proofs.Stopping.{wanting_not_ok}
 use Rattle.engine.specs.Watched.{SidePuts, views_in}
-use Rattle.engine.proofs.Beside.{not_ok, quiet, viewless, viewless_check, viewless_make, views_by, without_views}
-use Rattle.engine.proofs.Naming.{check_named, run_named}
+use Rattle.engine.proofs.Beside.{not_ok, quiet, viewless, viewless_check, viewless_make, viewless_write, views_by, without_views}
+use Rattle.engine.proofs.Naming.{check_named, run_named, write_named}
 use Rattle.engine.proofs.running.answer.Goals as goal
 
 -- a command that is a variant's
@@ -52,6 +52,28 @@ returns-in-Some-Check-clause-answers g c = λ start puts h.
     let words : List (List ℕ) = map (λ w. w.now) c.args.words.now in
     let wanted : asked_in words ≡ Some (Check (check_of c.in-Some-Check.asked)) = asked_by words _ (Some (Check (check_of c.in-Some-Check.asked))) c.in-Ok.ensures.order (by_variant _ _ _ c.in-Some-Check.field-0-is c.in-Some-Check.ensures.is) in
     (m.0, m.1, λ files agree. without_views words files (g.F.Folder.faults c.args.folder.now) _ _ _ c.check.result m.0 (m.2 words wanted files agree) (viewless_check words (check_of c.in-Some-Check.asked) wanted))
+
+pub returns-in-Some-Write-clause-answers : goal.returns-in-Some-Write-clause-answers
+returns-in-Some-Write-clause-answers g c = λ start puts h.
+    let m = c.write.ensures.answers start puts h in
+    let words : List (List ℕ) = map (λ w. w.now) c.args.words.now in
+    let wanted : asked_in words ≡ Some (Write c.in-Some-Write.name.now) = asked_by words _ (Some (Write c.in-Some-Write.name.now)) c.in-Ok.ensures.order (by_variant _ _ _ c.in-Some-Write.field-0-is c.in-Some-Write.ensures.is) in
+    (m.0, m.1, λ files agree. without_views words files (g.F.Folder.faults c.args.folder.now) _ _ _ c.write.result m.0 (m.2 words wanted files agree) (viewless_write words c.in-Some-Write.name.now wanted))
+
+pub returns-in-Some-Write-clause-unasked : goal.returns-in-Some-Write-clause-unasked
+returns-in-Some-Write-clause-unasked g c = λ nothing.
+    let words : List (List ℕ) = map (λ w. w.now) c.args.words.now in
+    let wanted : asked_in words ≡ Some (Write c.in-Some-Write.name.now) = asked_by words _ (Some (Write c.in-Some-Write.name.now)) c.in-Ok.ensures.order (by_variant _ _ _ c.in-Some-Write.field-0-is c.in-Some-Write.ensures.is) in
+    let P : Option Command → Type 0 = ReadsNothing in
+    absurd (subst P wanted nothing)
+
+pub returns-in-Some-Write-clause-side : goal.returns-in-Some-Write-clause-side
+returns-in-Some-Write-clause-side g c = quiet g.W.Sink.leads c.args.side.now (views_in (map (λ w. w.now) c.args.words.now)) (((g.met.W.Sink g.world.𝓛 g.world.𝓜 g.world.𝓡 ((λ s x. x), (λ x. x), (λ x. x), λ x. x))).rests c.args.side.now)
+
+pub write-requires : goal.write-requires
+write-requires g c =
+    let words : List (List ℕ) = map (λ w. w.now) c.args.words.now in
+    record { name = write_named (g.F.Folder.may c.args.folder.now) words c.requires.may c.in-Some-Write.name.now (asked_by words _ (Some (Write c.in-Some-Write.name.now)) c.in-Ok.ensures.order (by_variant _ _ _ c.in-Some-Write.field-0-is c.in-Some-Write.ensures.is)) }
 
 pub returns-in-Some-Run-clause-unasked : goal.returns-in-Some-Run-clause-unasked
 returns-in-Some-Run-clause-unasked g c = λ nothing.

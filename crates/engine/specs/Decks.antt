@@ -1,0 +1,30 @@
+-- What is promised of a deck that is written.
+use Rattle.std.specs.Prelude.{◌≡◌, ℕ, List, [], ◌∷◌, Ok, Option, Some}
+use Rattle.std.specs.Io.KnownBytes.{Appends}
+use Rattle.outside.specs.Files.{File}
+use Rattle.model_types.specs.declared.model.FlowModel.{FlowModel}
+use Rattle.model_types.specs.Valid.{IsModel}
+use Rattle.model_reader.specs.Model.{reads}
+use Rattle.model_text.specs.Decks.{deck_text, IsReadAgain}
+use Rattle.run_puts.specs.Lines.{Text}
+use Rattle.run_puts.specs.declared.status.Status.{Status}
+use Rattle.run_puts.specs.declared.status.Status.TheVariants as status
+use Rattle.engine.specs.Cases.{Write, asked_in}
+
+-- The writing of a model's deck ends Ok, and its text is one piece.
+abbrev pub IsDeck : FlowModel → Status → List Text → Type 0
+IsDeck m end pieces = (end ≡ status.Ok) × (pieces ≡ deck_text m ∷ [])
+
+-- A run with these words over these files that ended Ok, where a sink had the bytes `old` before it and `new` after it,
+-- has written the one deck of the model that the files read as; and the files of that deck are read as the same model.
+pub record OneDeck (words : List Text) (files : List File) (old new : Option (List ℕ)) : Type 0 where
+  -- The words ask for a deck, and the files read as a model, which is valid.
+  pub name : Text
+  pub wanted : asked_in words ≡ Some (Write name)
+  pub model : FlowModel
+  pub read : reads files name ≡ Ok model
+  pub valid : IsModel model
+  -- The text of the model's deck was appended, and nothing else.
+  pub written : Appends old new (deck_text model)
+  -- Its files are read as the model, where each IBOUND has at most 18 digits and no file is too long.
+  pub again : IsReadAgain model

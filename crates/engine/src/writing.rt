@@ -1,0 +1,50 @@
+// The deck of a model of the folder.
+ghost use Rattle.std.specs.Prelude.{◌≡◌, List, ◌++◌, IfSome, Option, Some};
+ghost use Rattle.outside.specs.Names.{folder_name};
+ghost use Rattle.outside.specs.Files.{File};
+ghost use Rattle.outside.specs.Puts.{Put};
+ghost use Rattle.model_types.specs.Grids.{HasSize};
+ghost use Rattle.run_puts.specs.Lines.{Text};
+ghost use Rattle.run_puts.specs.Runs.{IsRun, NeverCut};
+ghost use Rattle.engine.specs.Decks.{IsDeck};
+ghost use Rattle.engine.specs.Cases.{asked_in, Write};
+ghost use Rattle.engine.specs.Parts.{Answers};
+
+use crate::ending::end_reading;
+use crate::reading::read_named;
+use model_types::FlowModel;
+use model_writer::write_deck;
+use outside::{Folder, Sink};
+use run_puts::{Status, put_line};
+use std::alloc::Global;
+
+/// Puts the deck of a model as one piece.
+pub(crate) fn put_deck<K: Sink>(alloc: Global, model: &FlowModel, out: &mut K) -> Status
+    requires { HasSize model.now.grid }
+    ensures { (start : _) (puts : List Put) → K.leads start puts out.old →
+        (more : List Put) × K.leads start (puts ++ more) out.new × IsRun (IsDeck model.now) NeverCut result more }
+{
+    let text = write_deck(alloc, model);
+    put_line(out, text, Status::Ok)
+}
+
+/// Reads a model of the folder, and puts its deck.
+pub(crate) fn write<F: Folder, K: Sink>(
+    alloc: Global,
+    name: &str,
+    folder: &mut F,
+    out: &mut K,
+) -> Status
+    requires name { F.may folder.old (folder_name name.now) }
+    ensures since { (files : List File) → F.agrees folder.new files → F.agrees folder.old files }
+    ensures answers { (start : _) (puts : List Put) → K.leads start puts out.old →
+        (more : List Put) × K.leads start (puts ++ more) out.new
+        × ((words : List Text) → asked_in words ≡ Some (Write name.now) → (files : Option (List File)) →
+        IfSome files (F.agrees folder.new) →
+        Answers words files (F.faults folder.old) (F.faults folder.new) result more) }
+{
+    match read_named(alloc, folder, name) {
+        Ok(model) => put_deck(alloc, &model, out),
+        Err(fault) => end_reading(alloc, fault, out),
+    }
+}

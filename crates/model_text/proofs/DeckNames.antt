@@ -1,0 +1,68 @@
+-- The names of the files of a deck are good names.
+use Rattle.std.proofs.Common.{◌≡◌, ℕ, ◌==◌, true, false, not, cond, List, [], ◌∷◌, All, Option, Some, None, refl, sym, ap, ◌∙◌, arith}
+use Rattle.std.specs.List.{list_all}
+use Rattle.std.specs.Str.{bytes_eq}
+use Rattle.std.proofs.lemmas.Bool.{and_parts, not-true}
+use Rattle.std.proofs.lemmas.Bool.Decides.{nat_tests}
+use Rattle.std.proofs.lemmas.List.Elements.{All-nil, All-cons}
+use Rattle.name_file.specs.declared.package.Package.{Package}
+use Rattle.name_file.specs.declared.package.Package.TheVariants.{Dis, Bas, Lpf, Wel, Riv, Drn, Ghb, Rch, Chd, Evt}
+use Rattle.array_text.proofs.WordTexts.{word_by_test}
+use Rattle.model_text.specs.Decks.{deck_name, deck_names}
+use Rattle.model_text.specs.Names.{packages, AreNames, IsFileName}
+
+-- a name without a backslash
+pub all_plain : (w : List ℕ) → list_all (λ b. not (b == 92)) w ≡ true → All (λ b. b ≡ 92 → ⊥) w
+all_plain [] h = All-nil (λ b. b ≡ 92 → ⊥)
+all_plain (x ∷ w) h =
+    let p = and_parts (not (x == 92)) (list_all (λ b. not (b == 92)) w) h in
+    let other : x ≡ 92 → ⊥ = λ e. apart x (not-true (x == 92) p.0) e in
+    All-cons (λ b. b ≡ 92 → ⊥) x w other (all_plain w p.1)
+  where
+    apart : (x : ℕ) → (x == 92) ≡ false → x ≡ 92 → ⊥
+    apart x e same = grind (arith, nat_tests)
+
+good_name : (k : Package) → IsFileName (deck_names k)
+good_name Dis = record { word = word_by_test (deck_names Dis) refl; few = omega arith; plain = all_plain (deck_names Dis) refl }
+good_name Bas = record { word = word_by_test (deck_names Bas) refl; few = omega arith; plain = all_plain (deck_names Bas) refl }
+good_name Lpf = record { word = word_by_test (deck_names Lpf) refl; few = omega arith; plain = all_plain (deck_names Lpf) refl }
+good_name Wel = record { word = word_by_test (deck_names Wel) refl; few = omega arith; plain = all_plain (deck_names Wel) refl }
+good_name Riv = record { word = word_by_test (deck_names Riv) refl; few = omega arith; plain = all_plain (deck_names Riv) refl }
+good_name Drn = record { word = word_by_test (deck_names Drn) refl; few = omega arith; plain = all_plain (deck_names Drn) refl }
+good_name Ghb = record { word = word_by_test (deck_names Ghb) refl; few = omega arith; plain = all_plain (deck_names Ghb) refl }
+good_name Rch = record { word = word_by_test (deck_names Rch) refl; few = omega arith; plain = all_plain (deck_names Rch) refl }
+good_name Chd = record { word = word_by_test (deck_names Chd) refl; few = omega arith; plain = all_plain (deck_names Chd) refl }
+good_name Evt = record { word = word_by_test (deck_names Evt) refl; few = omega arith; plain = all_plain (deck_names Evt) refl }
+
+-- the first of some packages whose file has a name
+first_named : List ℕ → List Package → Option Package
+first_named w [] = None
+first_named w (k ∷ ks) = cond (bytes_eq w (deck_names k)) (Some k) (first_named w ks)
+
+abbrev named_by : List ℕ → Option Package
+named_by w = first_named w packages
+
+named_back : (k : Package) → named_by (deck_names k) ≡ Some k
+unfolding first_named
+named_back Dis = refl
+named_back Bas = refl
+named_back Lpf = refl
+named_back Wel = refl
+named_back Riv = refl
+named_back Drn = refl
+named_back Ghb = refl
+named_back Rch = refl
+named_back Chd = refl
+named_back Evt = refl
+
+none_named : named_by deck_name ≡ None
+unfolding first_named
+none_named = refl
+
+pub good_names : AreNames deck_names deck_name
+good_names = record {
+  each = good_name;
+  first = record { word = word_by_test deck_name refl; few = omega arith; plain = all_plain deck_name refl };
+  distinct = λ a b e. (let same : Some a ≡ Some b = sym (named_back a) ∙ ap (λ (w : List ℕ). named_by w) e ∙ named_back b in cc);
+  apart = λ k e. (let clash : Some k ≡ None = sym (named_back k) ∙ ap (λ (w : List ℕ). named_by w) e ∙ none_named in cc);
+}
