@@ -136,9 +136,9 @@ module _ (words : List Text) (files : Option (List File)) (n m : ℕ) (S : Type 
   pub any_other : None ≡ batch_asked words → AnswersBeside words files n m S L end puts → AnyAnswers words files n m S L end puts
   any_other e h = let P : Option AskedBatch → Type 0 = λ o. MatchOption o (AnswersBeside words files n m S L end puts) (λ b. BatchAnswers b files n m end puts) in subst P e h
 
-  pub any_lacks : IsWanting end puts → AnyAnswers words files n m S L end puts
-  any_lacks h = by_option (batch_asked words)
+  pub any_lacks : L [] → IsWanting end puts → AnyAnswers words files n m S L end puts
+  any_lacks silent h = by_option (batch_asked words)
     where
       by_option : (o : Option AskedBatch) → MatchOption o (AnswersBeside words files n m S L end puts) (λ b. BatchAnswers b files n m end puts)
-      by_option None = not_ok words files n m S L end puts (ends_without_words words files n m end puts h) (wanting_not_ok end puts h)
+      by_option None = not_ok words files n m S L end puts silent (ends_without_words words files n m end puts h) (wanting_not_ok end puts h)
       by_option (Some b) = batch_lacks b files n m end puts h

@@ -26,13 +26,24 @@ use Rattle.engine.specs.Made.{Made}
 use Rattle.engine.specs.OneListing.{OneVerdict}
 use Rattle.engine.specs.Parts.{Answers, AnswersBeside, IsReadingEnd}
 use Rattle.engine.specs.Runs.{Comes, Decided, IsLeft}
-use Rattle.engine.specs.Watched.{IsWatched, SidePuts, Watched, views_asked, views_in}
+use Rattle.engine.specs.Watched.{IsWatched, SidePuts, ViewPutsOf, Watched, views_asked, views_in}
 use Rattle.engine.proofs.Outcomes.{Both, Laws, both, certified, complete, decided, made, put_rose, read_rose}
 
 -- nothing was put to the side
-pub quiet : {W : Type 0} (leads : W → List Put → W → Type 0) (s : W) (views : Option ℕ) → leads s [] s → SidePuts (λ puts. leads s puts s) views
-quiet leads s None h = h
-quiet leads s (Some n) h = ([], [], inl refl, h)
+pub quiet : (leads : List Put → Type 0) (words : List Text) (files : List File) (views : Option ℕ) → leads [] → SidePuts leads words files views
+quiet leads words files None h = h
+quiet leads words files (Some n) h = inl h
+
+quiet_by : (leads : List Put → Type 0) (words : List Text) (files : Option (List File)) (views : Option ℕ) → leads [] → IfSome files (λ fs. SidePuts leads words fs views)
+quiet_by leads words None views h = tt
+quiet_by leads words (Some fs) views h = quiet leads words fs views h
+
+-- the views of a listing
+listing_puts : (leads : List Put → Type 0) (words : List Text) (files : Option (List File)) (k : Task) (views : Option ℕ) → IsCase words files (Listing k) → ViewPutsOf k leads views → IfSome files (λ fs. SidePuts leads words fs views)
+listing_puts leads words None k views is h = tt
+listing_puts leads words (Some fs) k None is h = h
+listing_puts leads words (Some fs) k (Some n) is (inl h) = inl h
+listing_puts leads words (Some fs) k (Some n) is (inr w) = inr (record { task = k; is = sym is; watched = w })
 
 -- the views that a command asks for
 pub views_by : (words : List Text) (w : Wanted) (x y : CommandBy) → wanted_of words ≡ Some w → x ≡ y → views_of x ≡ views_asked w → views_in words ≡ views_of y
@@ -98,11 +109,11 @@ module _ (words : List Text) (files : Option (List File)) (n m : ℕ) (failed : 
   Besides = AnswersBeside words files n m failed leads end puts
 
   -- no views are asked for, or the run didn't end Ok
-  pub without_views : Answers words files n m end puts → ((j : ℕ) → views_in words ≡ Some j → ⊥) → Besides
-  without_views a none = record { answers = inl a; watched = λ e j v. if_never (λ fs. Watched words fs j leads) files (none j v) }
+  pub without_views : leads [] → Answers words files n m end puts → ((j : ℕ) → views_in words ≡ Some j → ⊥) → Besides
+  without_views silent a none = record { answers = inl a; watched = λ e j v. if_never (λ fs. Watched words fs j leads) files (none j v); side = quiet_by leads words files (views_in words) silent }
 
-  pub not_ok : Answers words files n m end puts → (end ≡ status.Ok → ⊥) → Besides
-  not_ok a bad = record { answers = inl a; watched = λ e j v. if_never (λ fs. Watched words fs j leads) files (bad e) }
+  pub not_ok : leads [] → Answers words files n m end puts → (end ≡ status.Ok → ⊥) → Besides
+  not_ok silent a bad = record { answers = inl a; watched = λ e j v. if_never (λ fs. Watched words fs j leads) files (bad e); side = quiet_by leads words files (views_in words) silent }
 
   views_of_case : (k : Task) (o : Option (List File)) → IsCase words o (Listing k) → (j : ℕ) → IsWatched k j leads → IfSome o (λ fs. Watched words fs j leads)
   views_of_case k (Some fs) is j w = record { task = k; is = sym is; watched = w }
@@ -111,10 +122,11 @@ module _ (words : List Text) (files : Option (List File)) (n m : ℕ) (failed : 
   asked_views : (k : Task) (watch : Option ℕ) → views_in words ≡ watch → IfSome watch (λ j. IsWatched k j leads) → (j : ℕ) → views_in words ≡ Some j → IsWatched k j leads
   asked_views k watch same h j e = let P : Option ℕ → Type 0 = λ o. IfSome o (λ i. IsWatched k i leads) in subst P (sym same ∙ e) h
 
-  pub of_listing : (k : Task) (watch : Option ℕ) → views_in words ≡ watch → IsCase words files (Listing k) → IsModel k.model → (IsRun (IsListing k) (IsCutListing k) end puts → Answers words files n m end puts) → IsRun (IsListingBeside failed k) (IsCutListing k) end puts → (end ≡ status.Ok → IfSome watch (λ j. IsWatched k j leads)) → Besides
-  of_listing k watch same is model answers run w = record {
+  pub of_listing : (k : Task) (watch : Option ℕ) → views_in words ≡ watch → IsCase words files (Listing k) → IsModel k.model → (IsRun (IsListing k) (IsCutListing k) end puts → Answers words files n m end puts) → IsRun (IsListingBeside failed k) (IsCutListing k) end puts → (end ≡ status.Ok → IfSome watch (λ j. IsWatched k j leads)) → ViewPutsOf k leads watch → Besides
+  of_listing k watch same is model answers run w views = record {
     answers = left_of words files n m failed k end puts is answers run;
     watched = λ e j v. views_of_case k files is j (asked_views k watch same (w e) j v);
+    side = (let P : Option ℕ → Type 0 = λ o. IfSome files (λ fs. SidePuts leads words fs o) in subst P (sym same) (listing_puts leads words files k watch is views));
   }
 
   left_not_ok : (case : Case) → IsLeft failed case end puts → end ≡ status.Ok → ⊥

@@ -1,5 +1,5 @@
 -- What a viewer that puts to a sink put in a run.
-use Rattle.std.proofs.Common.{◌≡◌, ◌∙◌, ℕ, List, [], true, Option, None, Some, ap, refl}
+use Rattle.std.proofs.Common.{◌≡◌, ◌∙◌, ◌⊎◌, ℕ, List, [], true, Option, None, Some, ap, refl}
 use Rattle.std.specs.Prelude.{is_some}
 use Rattle.outside.specs.Counts.{Rose}
 use Rattle.outside.specs.Puts.{Put, PutsMake, Seen}
@@ -12,10 +12,10 @@ use Rattle.settle_driver.specs.Views.{EnclosesPair}
 use Rattle.view_puts.specs.declared.viewer.SinkViewer.{SinkViewer}
 use Rattle.view_puts.specs.Puts.{LeadOn, ViewPuts, no_lead, no_view}
 use Rattle.listing_run.specs.declared.task.Task.{Task}
-use Rattle.listing_run.specs.Settlers.{AllSettledBy, Reaches}
-use Rattle.engine.specs.Watched.{IsWatched, Shows, SidePuts, lines_of}
-use Rattle.engine.proofs.Mapped.{reached}
-use Rattle.engine.proofs.Viewed.{SideSoFar, is_watched, side_puts, side_rose, side_so_far}
+use Rattle.listing_run.specs.Settlers.{AllSettledBy, ReachesFirst}
+use Rattle.engine.specs.Watched.{IsWatched, Shows, ViewPutsOf, lines_of}
+use Rattle.engine.proofs.Mapped.{reached_first}
+use Rattle.engine.proofs.Viewed.{is_watched, side_puts, side_rose}
 
 module _ {W X : Type 0} (leads : W → List Put → W → Type 0) (text : X → ℕ → ℕ → List Entries → List Bound → List ℕ) where
   abbrev Viewer : Type 0
@@ -48,26 +48,23 @@ module _ {W X : Type 0} (leads : W → List Put → W → Type 0) (text : X → 
   no_view_yet : (s : Viewer) (p : List Entries) (b : Edges) → viewed s p b 0 s
   no_view_yet s p b = (refl, refl, refl, refl, no_view (text s.text.now s.period s.step p) (EnclosesPair p b) (LeadOn leads s.sink.now s.sink.now) s.stop (no_lead leads s.sink.now))
 
+  abbrev ReachesBy : ℕ → Task → Viewer → Viewer → Type 0
+  ReachesBy n k first now = (now ≡ first) ⊎ ReachesFirst begins (Shows viewed stopped n) stop k first now
+
   -- the sink stays the same reference
-  pub same_sink : (n : ℕ) (first now : Viewer) → Reaches begins (Shows viewed stopped n) stop first now → now.sink.ghost_name ≡ first.sink.ghost_name
-  same_sink n first now h =
-      (reached begins (Shows viewed stopped n) stop begins (Shows viewed stopped n) stop (λ s. s) (λ s. s.sink.ghost_name ≡ first.sink.ghost_name)
-      (λ s t i j k b. (ap (λ (v : Viewer). v.sink.ghost_name) b ∙ k, b))
-      (λ s t p b ended k l. ((l.views.more s 0 (no_view_yet s p b)).0 ∙ k, l))
-      (λ s. refl) first now refl h).0
+  pub same_sink : (n : ℕ) (k : Task) (first now : Viewer) → ReachesBy n k first now → now.sink.ghost_name ≡ first.sink.ghost_name
+  same_sink n k first now h =
+      (reached_first begins (Shows viewed stopped n) stop begins (Shows viewed stopped n) stop (λ s. s) (λ s. s.sink.ghost_name ≡ first.sink.ghost_name)
+      (λ s t i j same b. (ap (λ (v : Viewer). v.sink.ghost_name) b ∙ same, b))
+      (λ s t p b ended same l. ((l.views.more s 0 (no_view_yet s p b)).0 ∙ same, l))
+      (λ s. refl) k first now refl h).0
 
-  abbrev SoFar : Viewer → Viewer → Type 0
-  SoFar = SideSoFar leads sink text_of (λ s. s.period) (λ s. s.step) stop begins viewed stopped is_begun is_viewed (λ s h. h) no_view_yet
+  module _ (starts : (s : W) → leads s [] s) (k : Task) (n : ℕ) (first now : Viewer) (fits : text first.text.now ≡ lines_of k.model.grid) (none : first.stop ≡ None) where
+    pub puts_of_side : ReachesBy n k first now → ViewPutsOf k (λ puts. leads first.sink.now puts now.sink.now) (Some n)
+    puts_of_side h = side_puts leads sink text_of (λ s. s.period) (λ s. s.step) stop begins viewed stopped is_begun is_viewed (λ s h. h) no_view_yet starts k n first now fits none h
 
-  so_far : (n : ℕ) (first now : Viewer) → stop first ≡ None → Reaches begins (Shows viewed stopped n) stop first now → SoFar first now
-  so_far n first now none h = side_so_far leads sink text_of (λ s. s.period) (λ s. s.step) stop begins viewed stopped is_begun is_viewed (λ s h. h) no_view_yet n first now none h
+    pub side_failed : (seen : W → Seen) → ((s : W) (puts : List Put) (t : W) → leads s puts t → PutsMake (seen s) puts (seen t)) → ReachesBy n k first now → now.stop ≡ Some Write → Rose (seen first.sink.now).faults (seen now.sink.now).faults
+    side_failed seen tells h wrote = side_rose leads sink text_of (λ s. s.period) (λ s. s.step) stop begins viewed stopped is_begun is_viewed (λ s h. h) no_view_yet starts k n first now fits none seen tells h wrote
 
-  module _ (starts : (s : W) → leads s [] s) (n : ℕ) (first now : Viewer) (none : first.stop ≡ None) (h : Reaches begins (Shows viewed stopped n) stop first now) where
-    pub puts_of_side : SidePuts (λ puts. leads first.sink.now puts now.sink.now) (Some n)
-    puts_of_side = side_puts leads sink text_of (λ s. s.period) (λ s. s.step) stop begins viewed stopped is_begun is_viewed (λ s h. h) no_view_yet starts n first now (so_far n first now none h)
-
-    pub side_failed : (seen : W → Seen) → ((s : W) (puts : List Put) (t : W) → leads s puts t → PutsMake (seen s) puts (seen t)) → now.stop ≡ Some Write → Rose (seen first.sink.now).faults (seen now.sink.now).faults
-    side_failed seen tells wrote = side_rose leads sink text_of (λ s. s.period) (λ s. s.step) stop begins viewed stopped is_begun is_viewed (λ s h. h) no_view_yet starts seen tells first now (so_far n first now none h) wrote
-
-    pub views_of_all : (k : Task) → text first.text.now ≡ lines_of k.model.grid → AllSettledBy begins (Shows viewed stopped n) stop k first now → IsWatched k n (λ puts. leads first.sink.now puts now.sink.now)
-    views_of_all k fits all = is_watched leads sink text_of (λ s. s.period) (λ s. s.step) stop begins viewed stopped is_begun is_viewed (λ s h. h) no_view_yet starts k n first now fits none all
+    pub views_of_all : AllSettledBy begins (Shows viewed stopped n) stop k first now → IsWatched k n (λ puts. leads first.sink.now puts now.sink.now)
+    views_of_all all = is_watched leads sink text_of (λ s. s.period) (λ s. s.step) stop begins viewed stopped is_begun is_viewed (λ s h. h) no_view_yet starts k n first now fits none all

@@ -2,7 +2,7 @@
 use Rattle.std.proofs.Common.{◌≡◌, ◌∙◌, ◌⊎◌, ℕ, ◌+◌, ◌*◌, ◌<◌, List, [], ◌∷◌, ◌++◌, length, map, All, Bool, true, false, Option, Some, None, inl, inr, ap, sym, subst, refl, arith}
 use Rattle.std.specs.Prelude.{is_some}
 use Rattle.std.proofs.lemmas.List.{append_assoc, append-nil, map-append}
-use Rattle.std.proofs.lemmas.List.Elements.{All-cons, All-nil, All-weaker}
+use Rattle.std.proofs.lemmas.List.Elements.{All-append, All-cons, All-nil, All-weaker}
 use Rattle.outside.specs.Counts.{Rose}
 use Rattle.outside.specs.Puts.{Put, PutsMake, Seen, refused, taken}
 use Rattle.outside.specs.declared.traits.SinkError.{SinkError}
@@ -13,7 +13,6 @@ use Rattle.step_problem.specs.Heads.{Edges}
 use Rattle.model_types.specs.declared.time_steps.TimeStep.{TimeStep}
 use Rattle.settle_driver.specs.Views.{AddsPhases, EnclosesPair}
 use Rattle.listing_io.specs.Views.{view_text}
-use Rattle.step_chain.specs.Steps.{IsPosed}
 use Rattle.run_puts.specs.Lines.{Text}
 use Rattle.run_puts.specs.Runs.{cut, early}
 use Rattle.run_puts.specs.Tails.{failed}
@@ -23,38 +22,15 @@ use Rattle.run_puts.proofs.Makes.{write_rose}
 use Rattle.view_puts.specs.Puts.{AreAllShown, IsStopPut, LeadOn, ViewPuts, no_lead}
 use Rattle.view_puts.proofs.Views.{lead_more}
 use Rattle.listing_run.specs.declared.task.Task.{Task}
-use Rattle.listing_run.specs.Settlers.{AllSettledBy, AreSettledBy, PairEncloses, Reaches, RestsOrSettles, more, rests}
-use Rattle.engine.specs.Watched.{AreViews, AreWatched, IsSideEnd, IsView, IsWatched, Shows, SidePuts, lines_of}
-
--- what follows the texts that were taken, by why viewing has stopped
-abbrev EndsBy : Option SinkError → List Put → Type 0
-EndsBy None last = last ≡ []
-EndsBy (Some e) last = ((e ≡ error.Memory) × (last ≡ [])) ⊎ ((text : Text) × (last ≡ refused text e ∷ []))
-
-side_end : (stop : Option SinkError) (last : List Put) → EndsBy stop last → IsSideEnd last
-side_end None last h = inl h
-side_end (Some e) last (inl (m, h)) = inl h
-side_end (Some e) last (inr (text, h)) = inr (text, e, h)
-
--- a viewer that had not stopped, and the put at which it does
-stops_by : (text : List Bound → List ℕ) (Shown : List Bound → Type 0) (before after : Option SinkError) (last : List Put) → before ≡ None → IsStopPut text Shown before after last → EndsBy after last
-stops_by text Shown before after last none h = by_stop after (let P : Option SinkError → Type 0 = λ o. IsStopPut text Shown o after last in subst P none h)
-  where
-    by_stop : (o : Option SinkError) → IsStopPut text Shown None o last → EndsBy o last
-    by_stop None e = e
-    by_stop (Some e) (inl m) = inl m
-    by_stop (Some e) (inr (heads, shown, is)) = inr (text heads, is)
+use Rattle.listing_run.specs.declared.step.Step.{Step}
+use Rattle.listing_run.specs.Steps.{IsStep}
+use Rattle.model_types.specs.Times.{times as times_of}
+use Rattle.listing_run.specs.Settlers.{AllSettledBy, AreSettledBy, IsSettledBy, PairEncloses, Reaches, ReachesFirst, begun, rests, settled}
+use Rattle.engine.specs.Watched.{AreFirstViews, AreViews, AreWatched, ArePutInTurn, IsView, IsWatched, Shows, ViewPutsOf, lines_of}
 
 pieces_of : (text : List Bound → List ℕ) (views : List (List Bound)) → map (λ heads. taken (text heads)) views ≡ map taken (map text views)
 pieces_of text [] = refl
 pieces_of text (v ∷ views) = ap (λ (ps : List Put). taken (text v) ∷ ps) (pieces_of text views)
-
--- texts, and then those of views
-joined_texts : (texts : List Text) (text : List Bound → List ℕ) (views : List (List Bound)) (last : List Put) → (map taken texts ++ []) ++ (map (λ heads. taken (text heads)) views ++ last) ≡ map taken (texts ++ map text views) ++ last
-joined_texts texts text views last =
-    let front : map taken texts ++ [] ≡ map taken texts = append-nil (map taken texts) in
-    let one : (map taken texts ++ []) ++ (map (λ heads. taken (text heads)) views ++ last) ≡ map taken texts ++ (map taken (map text views) ++ last) = rw (front, pieces_of text views) refl in
-    one ∙ sym (append_assoc (map taken texts) (map taken (map text views)) last) ∙ ap (λ (ps : List Put). ps ++ last) (sym (map-append taken texts (map text views)))
 
 all_views : (k : Task) (at : TimeStep) (old : List Bound) (p : List Entries) (b : Edges) (text : List Bound → List ℕ) → PairEncloses k.model at old p b → (views : List (List Bound)) → AreAllShown text (EnclosesPair p b) views → All (IsView k at old p b) views
 all_views k at old p b text encloses views h = All-weaker (EnclosesPair p b) (IsView k at old p b) (λ heads shown. record { pair = shown; solutions = encloses heads shown.pair }) views (each views h)
@@ -74,6 +50,32 @@ write_failed texts text old new makes =
     let Any : List Text → Type 0 = λ pieces. Unit {0} in
     write_rose Never Any (λ pieces f. f) status.WriteFault _ old new (early status.WriteFault texts (text ∷ []) (refused text error.Write ∷ []) (cut texts (text ∷ []) tt) (failed text [])) refl makes
 
+-- these puts end with one whose write failed
+abbrev IsWriteRefused : List Put → Type 0
+IsWriteRefused puts = (before : List Text) × (text : Text) × (puts ≡ map taken before ++ refused text error.Write ∷ [])
+
+-- texts that were taken, before puts
+more_puts : (here before : List Text) (puts last : List Put) → puts ≡ map taken before ++ last → map taken here ++ puts ≡ map taken (here ++ before) ++ last
+more_puts here before puts last e =
+    ap (λ (ps : List Put). map taken here ++ ps) e ∙ sym (append_assoc (map taken here) (map taken before) last) ∙ ap (λ (ps : List Put). ps ++ last) (sym (map-append taken here before))
+
+more_in_turn : (here texts : List Text) (puts : List Put) → ArePutInTurn texts puts → ArePutInTurn (here ++ texts) (map taken here ++ puts)
+more_in_turn here texts puts (inl e) = inl (ap (λ (ps : List Put). map taken here ++ ps) e ∙ sym (map-append taken here texts))
+more_in_turn here texts puts (inr (before, last, error, is, e)) = inr (
+  here ++ before,
+  last,
+  error,
+  ap (λ (ts : List Text). here ++ ts) is ∙ sym (append_assoc here before (last ∷ [])),
+  more_puts here before puts (refused last error ∷ []) e,
+)
+
+more_refused : (here : List Text) (puts : List Put) → IsWriteRefused puts → IsWriteRefused (map taken here ++ puts)
+more_refused here puts (before, text, e) = (here ++ before, text, more_puts here before puts (refused text error.Write ∷ []) e)
+
+no_first_views : (k : Task) (n : ℕ) (old : List Bound) (times : List TimeStep) → AreFirstViews k n old times []
+no_first_views k n old [] = refl
+no_first_views k n old (at ∷ times) = inl refl
+
 -- A viewer of the states V: its sink, the grid of its texts, the time that it was told, and why it has stopped.
 module _ {V W : Type 0} (leads : W → List Put → W → Type 0) (sink : V → W) (text_of : V → ℕ → ℕ → List Entries → List Bound → List ℕ) (period step : V → ℕ) (stop : V → Option SinkError)
     (begins : V → ℕ → ℕ → V → Type 0) (viewed : V → List Entries → Edges → ℕ → V → Type 0) (stopped : V → Type 0)
@@ -81,16 +83,6 @@ module _ {V W : Type 0} (leads : W → List Put → W → Type 0) (sink : V → 
     (is_viewed : (s t : V) (p : List Entries) (b : Edges) (n : ℕ) → viewed s p b n t → (text_of t ≡ text_of s) × ViewPuts (text_of s (period s) (step s) p) (EnclosesPair p b) (LeadOn leads (sink s) (sink t)) n (stop s) (stop t))
     (is_stopped : (s : V) → stopped s → is_some (stop s) ≡ true)
     (no_view : (s : V) (p : List Entries) (b : Edges) → viewed s p b 0 s) where
-  -- a sink so far
-  pub record SideSoFar (first now : V) : Type 0 where
-    pub texts : List Text
-    pub last : List Put
-    pub led : LeadOn leads (sink first) (sink now) (map taken texts ++ last)
-    pub ends : EndsBy (stop now) last
-
-  side_at_first : (s : V) → stop s ≡ None → SideSoFar s s
-  side_at_first s none = record { texts = []; last = []; led = no_lead leads (sink s); ends = (let P : Option SinkError → Type 0 = λ o. EndsBy o [] in subst P (sym none) refl) }
-
   -- the puts of a settling
   record Shown (p : List Entries) (b : Edges) (count : ℕ) (s t : V) : Type 0 where
     pub same_text : text_of t ≡ text_of s
@@ -99,91 +91,138 @@ module _ {V W : Type 0} (leads : W → List Put → W → Type 0) (sink : V → 
   shown : (n : ℕ) (p : List Entries) (b : Edges) (ended : Bool) (s t : V) (h : AddsPhases viewed stopped p b n ended s t) → Shown p b h.count s t
   shown n p b ended s t h = let r = is_viewed s t p b (0 + h.count) (h.views.more s 0 (no_view s p b)) in record { same_text = r.0; puts = r.1 }
 
-  side_settled : (n : ℕ) (first s t : V) (p : List Entries) (b : Edges) (ended : Bool) (so : SideSoFar first s) → stop s ≡ None → AddsPhases viewed stopped p b n ended s t → SideSoFar first t
-  side_settled n first s t p b ended so none h =
-      let v = (shown n p b ended s t h).puts in
-      let text = text_of s (period s) (step s) p in
-      let E : Option SinkError → Type 0 = λ o. EndsBy o so.last in
-      let nothing : so.last ≡ [] = subst E none so.ends in
-      let L : List Put → Type 0 = λ ps. LeadOn leads (sink first) (sink s) (map taken so.texts ++ ps) in
-      let P : List Put → Type 0 = LeadOn leads (sink first) (sink t) in
-      record {
-        texts = so.texts ++ map text v.views;
-        last = v.last;
-        led = subst P (joined_texts so.texts text v.views v.last) (lead_more leads (sink first) (sink s) (sink t) (map taken so.texts ++ []) (map (λ heads. taken (text heads)) v.views ++ v.last) (subst L nothing so.led) v.led);
-        ends = stops_by text (EnclosesPair p b) (stop s) (stop t) v.last none v.stop;
-      }
+  -- the steps from a state on
+  record WatchedFrom (k : Task) (n : ℕ) (old : List Bound) (times : List TimeStep) (s t : V) : Type 0 where
+    pub texts : List Text
+    pub watched : AreWatched k n old times texts
+    pub led : LeadOn leads (sink s) (sink t) (map taken texts)
 
-  side_told : (first s t : V) (i j : ℕ) → SideSoFar first s → begins s i j t → SideSoFar first t
-  side_told first s t i j so b =
-      let u = is_begun s t i j b in
-      let L : W → Type 0 = λ w. LeadOn leads (sink first) w (map taken so.texts ++ so.last) in
-      let E : Option SinkError → Type 0 = λ o. EndsBy o so.last in
-      record { texts = so.texts; last = so.last; led = subst L (sym u.0) so.led; ends = subst E (sym u.4) so.ends }
+  -- the first of the steps from a state on
+  record ViewedFrom (k : Task) (n : ℕ) (old : List Bound) (times : List TimeStep) (s t : V) : Type 0 where
+    pub texts : List Text
+    pub views : AreFirstViews k n old times texts
+    pub puts : List Put
+    pub in_turn : ArePutInTurn texts puts
+    pub led : LeadOn leads (sink s) (sink t) puts
+    pub failed : stop t ≡ Some error.Write → IsWriteRefused puts
 
-  side_more : (n : ℕ) (first s told t : V) (i j : ℕ) → SideSoFar first s → stop s ≡ None → begins s i j told → RestsOrSettles (Shows viewed stopped n) told t → SideSoFar first t
-  side_more n first s told t i j so none b (inl same) = let P : V → Type 0 = λ x. SideSoFar first x in subst P (sym same) (side_told first s told i j so b)
-  side_more n first s told t i j so none b (inr (p, e, ended, h)) = let u = is_begun s told i j b in side_settled n first told t p e ended (side_told first s told i j so b) (u.4 ∙ none) h
+  no_write : (o : Option SinkError) → o ≡ None → o ≡ Some error.Write → ⊥
+  no_write o none wrote = let bad : Path (Option SinkError) None (Some error.Write) = sym none ∙ wrote in cc
 
-  pub side_so_far : (n : ℕ) (first now : V) → stop first ≡ None → Reaches begins (Shows viewed stopped n) stop first now → SideSoFar first now
-  side_so_far n first now none rests = side_at_first first none
-  side_so_far n first now none (more s told t i j h going b r) = side_more n first s told t i j (side_so_far n first s none h) going b r
+  none_viewed : (k : Task) (n : ℕ) (old : List Bound) (times : List TimeStep) (s t : V) → sink t ≡ sink s → stop t ≡ None → ViewedFrom k n old times s t
+  none_viewed k n old times s t same none = record {
+    texts = [];
+    views = no_first_views k n old times;
+    puts = [];
+    in_turn = inl refl;
+    led = (let P : W → Type 0 = λ w. LeadOn leads (sink s) w [] in subst P (sym same) (no_lead leads (sink s)));
+    failed = λ wrote. absurd (no_write (stop t) none wrote);
+  }
 
-  module _ (starts : (s : W) → leads s [] s) where
-    pub side_puts : (n : ℕ) (first now : V) → SideSoFar first now → SidePuts (λ puts. leads (sink first) puts (sink now)) (Some n)
-    side_puts n first now so = (so.texts, so.last, side_end (stop now) so.last so.ends, so.led (sink first) [] (starts (sink first)))
+  module _ (k : Task) (n : ℕ) (at : TimeStep) (old : List Bound) (s told done : V) (fits : text_of s ≡ lines_of k.model.grid) (none : stop s ≡ None) (b : begins s at.period at.step told) (ended : Bool) (by : IsSettledBy (Shows viewed stopped n) k at old ended told done) where
+    abbrev p : List Entries
+    p = by.problem
 
-    pub side_rose : (seen : W → Seen) → ((s : W) (puts : List Put) (t : W) → leads s puts t → PutsMake (seen s) puts (seen t)) → (first now : V) → SideSoFar first now → stop now ≡ Some error.Write → Rose (seen (sink first)).faults (seen (sink now)).faults
-    side_rose seen tells first now so wrote =
-        let E : Option SinkError → Type 0 = λ o. EndsBy o so.last in
-        by_end (subst E wrote so.ends)
-      where
-        by_end : EndsBy (Some error.Write) so.last → Rose (seen (sink first)).faults (seen (sink now)).faults
-        by_end (inl (m, h)) = absurd (let bad : error.Write ≡ error.Memory = m in cc)
-        by_end (inr (text, h)) =
-            let M : List Put → Type 0 = λ ps. PutsMake (seen (sink first)) (map taken so.texts ++ ps) (seen (sink now)) in
-            write_failed so.texts text (seen (sink first)) (seen (sink now)) (subst M h (tells (sink first) (map taken so.texts ++ so.last) (sink now) (so.led (sink first) [] (starts (sink first)))))
+    abbrev e : Edges
+    e = by.barrier
 
-    -- the steps from a state on
-    record WatchedFrom (k : Task) (n : ℕ) (old : List Bound) (times : List TimeStep) (s t : V) : Type 0 where
-      pub texts : List Text
-      pub watched : AreWatched k n old times texts
-      pub led : LeadOn leads (sink s) (sink t) (map taken texts)
+    abbrev text : List Bound → List ℕ
+    text = view_text k.model.grid at p
 
-    module _ (k : Task) (n : ℕ) (at : TimeStep) (old : List Bound) (s told done : V) (fits : text_of s ≡ lines_of k.model.grid) (none : stop s ≡ None) (b : begins s at.period at.step told) (p : List Entries) (e : Edges) (goes : stop done ≡ None) (h : AddsPhases viewed stopped p e n true told done) where
-      abbrev text : List Bound → List ℕ
-      text = view_text k.model.grid at p
+    abbrev View : List Bound → Type 0
+    View = IsView k at old p e
 
-      told_is : (sink told ≡ sink s) × (text_of told ≡ text_of s) × (period told ≡ at.period) × (step told ≡ at.step) × (stop told ≡ stop s)
-      told_is = is_begun s told at.period at.step b
+    told_is : (sink told ≡ sink s) × (text_of told ≡ text_of s) × (period told ≡ at.period) × (step told ≡ at.step) × (stop told ≡ stop s)
+    told_is = is_begun s told at.period at.step b
 
-      views_put : ViewPuts text (EnclosesPair p e) (LeadOn leads (sink told) (sink done)) (0 + h.count) None None
-      views_put =
-          let D : List Put → Type 0 = LeadOn leads (sink told) (sink done) in
-          let v = (shown n p e true told done h).puts in
-          let G : (ℕ → ℕ → List Entries → List Bound → List ℕ) → Type 0 = λ w. ViewPuts (w (period told) (step told) p) (EnclosesPair p e) D (0 + h.count) (stop told) (stop done) in
-          let I : ℕ → Type 0 = λ i. ViewPuts (lines_of k.model.grid i (step told) p) (EnclosesPair p e) D (0 + h.count) (stop told) (stop done) in
-          let J : ℕ → Type 0 = λ j. ViewPuts (lines_of k.model.grid at.period j p) (EnclosesPair p e) D (0 + h.count) (stop told) (stop done) in
-          let A : Option SinkError → Type 0 = λ o. ViewPuts text (EnclosesPair p e) D (0 + h.count) o (stop done) in
-          let Z : Option SinkError → Type 0 = λ o. ViewPuts text (EnclosesPair p e) D (0 + h.count) None o in
-          subst Z goes (subst A (told_is.4 ∙ none) (subst J told_is.3 (subst I told_is.2 (subst G (told_is.1 ∙ fits) v))))
+    -- the views of the step, whether its settling ended with heads or not
+    views_put : ViewPuts text (EnclosesPair p e) (LeadOn leads (sink told) (sink done)) (0 + by.led.count) None (stop done)
+    views_put =
+        let D : List Put → Type 0 = LeadOn leads (sink told) (sink done) in
+        let count : ℕ = 0 + by.led.count in
+        let v = (shown n p e ended told done by.led).puts in
+        let G : (ℕ → ℕ → List Entries → List Bound → List ℕ) → Type 0 = λ w. ViewPuts (w (period told) (step told) p) (EnclosesPair p e) D count (stop told) (stop done) in
+        let I : ℕ → Type 0 = λ i. ViewPuts (lines_of k.model.grid i (step told) p) (EnclosesPair p e) D count (stop told) (stop done) in
+        let J : ℕ → Type 0 = λ j. ViewPuts (lines_of k.model.grid at.period j p) (EnclosesPair p e) D count (stop told) (stop done) in
+        let A : Option SinkError → Type 0 = λ o. ViewPuts text (EnclosesPair p e) D count o (stop done) in
+        subst A (told_is.4 ∙ none) (subst J told_is.3 (subst I told_is.2 (subst G (told_is.1 ∙ fits) v)))
 
+    all_here : All View views_put.views
+    all_here = all_views k at old p e text by.encloses views_put.views views_put.shown
+
+    -- the views that were put: those taken, and where one was refused that too
+    record Here (puts : List Put) : Type 0 where
+      pub heads : List (List Bound)
+      pub enclose : All View heads
+      pub in_turn : ArePutInTurn (map text heads) puts
+
+    abbrev pieces : List Put
+    pieces = map (λ heads. taken (text heads)) views_put.views
+
+    ends_with : (last end : List Put) → last ≡ end → pieces ++ last ≡ map taken (map text views_put.views) ++ end
+    ends_with last end h = rw (h, pieces_of text views_put.views) refl
+
+    all_taken : (last : List Put) → last ≡ [] → Here (pieces ++ last)
+    all_taken last h =
+        let same : pieces ++ last ≡ map taken (map text views_put.views) = rw h (append-nil pieces ∙ pieces_of text views_put.views) in
+        record { heads = views_put.views; enclose = all_here; in_turn = inl same }
+
+    one_refused : (heads : List Bound) (f : SinkError) (last : List Put) → EnclosesPair p e heads → last ≡ refused (text heads) f ∷ [] → Here (pieces ++ last)
+    one_refused heads f last shown h =
+        record {
+          heads = views_put.views ++ heads ∷ [];
+          enclose = All-append View views_put.views (heads ∷ []) all_here (All-cons View heads [] (record { pair = shown; solutions = by.encloses heads shown.pair }) (All-nil View));
+          in_turn = inr (map text views_put.views, text heads, f, map-append text views_put.views (heads ∷ []), ends_with last (refused (text heads) f ∷ []) h);
+        }
+
+    here_put : (o : Option SinkError) (last : List Put) → IsStopPut text (EnclosesPair p e) None o last → Here (pieces ++ last)
+    here_put None last h = all_taken last h
+    here_put (Some f) last (inl (m, h)) = all_taken last h
+    here_put (Some f) last (inr (heads, shown, h)) = one_refused heads f last shown h
+
+    last_failed : (o : Option SinkError) (last : List Put) → IsStopPut text (EnclosesPair p e) None o last → o ≡ Some error.Write → (text : Text) × (last ≡ refused text error.Write ∷ [])
+    last_failed None last h wrote = absurd (let bad : Path (Option SinkError) None (Some error.Write) = wrote in cc)
+    last_failed (Some error.Memory) last h wrote = absurd (let bad : Path (Option SinkError) (Some error.Memory) (Some error.Write) = wrote in cc)
+    last_failed (Some error.Write) last (inl (m, h)) wrote = absurd (let bad : error.Write ≡ error.Memory = m in cc)
+    last_failed (Some error.Write) last (inr (heads, shown, h)) wrote = (text heads, h)
+
+    here_failed : stop done ≡ Some error.Write → IsWriteRefused (pieces ++ views_put.last)
+    here_failed wrote =
+        let r = last_failed (stop done) views_put.last views_put.stop wrote in
+        (map text views_put.views, r.0, ends_with views_put.last (refused r.0 error.Write ∷ []) r.1)
+
+    -- they are views of this step, and no others
+    some_viewed : (times : List TimeStep) → ViewedFrom k n old (at ∷ times) s done
+    some_viewed times =
+        let h = here_put (stop done) views_put.last views_put.stop in
+        let P : W → Type 0 = λ w. LeadOn leads w (sink done) (pieces ++ views_put.last) in
+        record {
+          texts = map text h.heads;
+          views = inr (inl (record { problem = p; barrier = e; posed = by.posed; views = h.heads; enclose = h.enclose; are = refl }));
+          puts = pieces ++ views_put.last;
+          in_turn = h.in_turn;
+          led = subst P told_is.0 views_put.led;
+          failed = here_failed;
+        }
+
+    -- a settling that ended with heads, and had not to stop, has all its views
+    module _ (whole : ended ≡ true) (goes : stop done ≡ None) where
       some_phases : 0 < length p → (phases : ℕ) × (0 < phases) × (length views_put.views ≡ phases * n)
-      some_phases some = by_stop (h.each_phase refl some)
+      some_phases some = by_stop (by.led.each_phase whole some)
         where
-          by_stop : stopped done ⊎ ((phases : ℕ) × (0 < phases) × (h.count ≡ phases * n)) → (phases : ℕ) × (0 < phases) × (length views_put.views ≡ phases * n)
+          by_stop : stopped done ⊎ ((phases : ℕ) × (0 < phases) × (by.led.count ≡ phases * n)) → (phases : ℕ) × (0 < phases) × (length views_put.views ≡ phases * n)
           by_stop (inl over) = let P : Option SinkError → Type 0 = λ o. is_some o ≡ true in absurd (let bad : false ≡ true = subst P goes (is_stopped done over) in cc)
-          by_stop (inr (phases, above, e)) = let c = views_put.count in (phases, above, omega (arith, c, e))
+          by_stop (inr (phases, above, h)) = let c = views_put.count in (phases, above, omega (arith, c, h))
 
-      step_views : IsPosed k.model k.digits at old p e → PairEncloses k.model at old p e → AreViews k n at old (map text views_put.views)
-      step_views posed encloses = record {
+      step_views : AreViews k n at old (map text views_put.views)
+      step_views = record {
         problem = p;
         barrier = e;
-        posed = posed;
+        posed = by.posed;
         views = views_put.views;
-        no_cell = λ none_here. let c = views_put.count in let z = h.no_cell none_here in no_views views_put.views (omega (arith, c, z));
+        no_cell = λ none_here. let c = views_put.count in let z = by.led.no_cell none_here in no_views views_put.views (omega (arith, c, z));
         each = some_phases;
-        enclose = all_views k at old p e text encloses views_put.views views_put.shown;
+        enclose = all_here;
         are = refl;
       }
 
@@ -191,27 +230,66 @@ module _ {V W : Type 0} (leads : W → List Put → W → Type 0) (sink : V → 
       step_led =
           let L : List Put → Type 0 = LeadOn leads (sink told) (sink done) in
           let Q : W → Type 0 = λ w. LeadOn leads w (sink done) (map taken (map text views_put.views)) in
-          let nothing : views_put.last ≡ [] = views_put.stop in
-          let same : map (λ heads. taken (text heads)) views_put.views ++ views_put.last ≡ map taken (map text views_put.views) = rw nothing (append-nil (map (λ heads. taken (text heads)) views_put.views) ∙ pieces_of text views_put.views) in
+          let O : Option SinkError → Type 0 = λ o. IsStopPut text (EnclosesPair p e) None o views_put.last in
+          let nothing : views_put.last ≡ [] = subst O goes views_put.stop in
+          let same : pieces ++ views_put.last ≡ map taken (map text views_put.views) = rw nothing (append-nil pieces ∙ pieces_of text views_put.views) in
           subst Q told_is.0 (subst L same views_put.led)
 
-    watched_from : (k : Task) (n : ℕ) (old : List Bound) (times : List TimeStep) (s t : V) → text_of s ≡ lines_of k.model.grid → stop s ≡ None → AreSettledBy begins (Shows viewed stopped n) stop k old times s t → WatchedFrom k n old times s t
-    watched_from k n old [] s t fits none e = record { texts = []; watched = refl; led = (let P : V → Type 0 = λ x. LeadOn leads (sink s) (sink x) [] in subst P (sym e) (no_lead leads (sink s))) }
-    watched_from k n old (at ∷ times) s t fits none (v, told, done, is, b, by, goes, rest) =
-        let u = is_begun s told at.period at.step b in
-        let r = shown n by.problem by.barrier true told done by.led in
-        let here = step_views k n at old s told done fits none b by.problem by.barrier goes by.led by.posed by.encloses in
-        let views = (views_put k n at old s told done fits none b by.problem by.barrier goes by.led).views in
-        let led = step_led k n at old s told done fits none b by.problem by.barrier goes by.led in
-        let later = watched_from k n v.heads times done t (r.same_text ∙ u.1 ∙ fits) goes rest in
-        let L : List Put → Type 0 = LeadOn leads (sink s) (sink t) in
-        record {
-          texts = map (view_text k.model.grid at by.problem) views ++ later.texts;
-          watched = (v, map (view_text k.model.grid at by.problem) views, later.texts, is, here, refl, later.watched);
-          led = subst L (sym (map-append taken (map (view_text k.model.grid at by.problem) views) later.texts)) (lead_more leads (sink s) (sink done) (sink t) _ _ led later.led);
-        }
+      done_fits : text_of done ≡ lines_of k.model.grid
+      done_fits = (shown n p e ended told done by.led).same_text ∙ told_is.1 ∙ fits
 
-    pub is_watched : (k : Task) (n : ℕ) (s t : V) → text_of s ≡ lines_of k.model.grid → stop s ≡ None → AllSettledBy begins (Shows viewed stopped n) stop k s t → IsWatched k n (λ puts. leads (sink s) puts (sink t))
-    is_watched k n s t fits none h =
+      all_viewed : (times : List TimeStep) (v : Step) (t : V) → IsStep k at old v → ViewedFrom k n v.heads times done t → ViewedFrom k n old (at ∷ times) s t
+      all_viewed times v t is later = record {
+        texts = map text views_put.views ++ later.texts;
+        views = inr (inr (v, map text views_put.views, later.texts, is, step_views, refl, later.views));
+        puts = map taken (map text views_put.views) ++ later.puts;
+        in_turn = more_in_turn (map text views_put.views) later.texts later.puts later.in_turn;
+        led = lead_more leads (sink s) (sink done) (sink t) _ _ step_led later.led;
+        failed = λ wrote. more_refused (map text views_put.views) later.puts (later.failed wrote);
+      }
+
+      all_watched : (times : List TimeStep) (v : Step) (t : V) → IsStep k at old v → WatchedFrom k n v.heads times done t → WatchedFrom k n old (at ∷ times) s t
+      all_watched times v t is later =
+          let L : List Put → Type 0 = LeadOn leads (sink s) (sink t) in
+          record {
+            texts = map text views_put.views ++ later.texts;
+            watched = (v, map text views_put.views, later.texts, is, step_views, refl, later.watched);
+            led = subst L (sym (map-append taken (map text views_put.views) later.texts)) (lead_more leads (sink s) (sink done) (sink t) _ _ step_led later.led);
+          }
+
+  watched_from : (k : Task) (n : ℕ) (old : List Bound) (times : List TimeStep) (s t : V) → text_of s ≡ lines_of k.model.grid → stop s ≡ None → AreSettledBy begins (Shows viewed stopped n) stop k old times s t → WatchedFrom k n old times s t
+  watched_from k n old [] s t fits none e = record { texts = []; watched = refl; led = (let P : V → Type 0 = λ x. LeadOn leads (sink s) (sink x) [] in subst P (sym e) (no_lead leads (sink s))) }
+  watched_from k n old (at ∷ times) s t fits none (v, told, done, is, b, by, goes, rest) =
+      let later = watched_from k n v.heads times done t (done_fits k n at old s told done fits none b true by refl goes) goes rest in
+      all_watched k n at old s told done fits none b true by refl goes times v t is later
+
+  viewed_from : (k : Task) (n : ℕ) (old : List Bound) (times : List TimeStep) (s t : V) → text_of s ≡ lines_of k.model.grid → stop s ≡ None → Reaches begins (Shows viewed stopped n) stop k old times s t → ViewedFrom k n old times s t
+  viewed_from k n old times s t fits none (rests o ts u) = none_viewed k n o ts u u refl none
+  viewed_from k n old times s t fits none (begun o at ts u told v b (inl same)) =
+      let is = is_begun u told at.period at.step b in
+      none_viewed k n o (at ∷ ts) u v (ap sink same ∙ is.0) (ap stop same ∙ is.4 ∙ none)
+  viewed_from k n old times s t fits none (begun o at ts u told v b (inr (ended, by))) = some_viewed k n at o u told v fits none b ended by ts
+  viewed_from k n old times s t fits none (settled o at ts v u told done w is b by goes rest) =
+      let later = viewed_from k n v.heads ts done w (done_fits k n at o u told done fits none b true by refl goes) goes rest in
+      all_viewed k n at o u told done fits none b true by refl goes ts v w is later
+
+  module _ (starts : (s : W) → leads s [] s) (k : Task) (n : ℕ) (s t : V) (fits : text_of s ≡ lines_of k.model.grid) (none : stop s ≡ None) where
+    pub is_watched : AllSettledBy begins (Shows viewed stopped n) stop k s t → IsWatched k n (λ puts. leads (sink s) puts (sink t))
+    is_watched h =
         let w = watched_from k n h.start _ s t fits none h.settled in
         record { start = h.start; is_start = h.is_start; texts = w.texts; watched = w.watched; led = w.led (sink s) [] (starts (sink s)) }
+
+    pub side_puts : (t ≡ s) ⊎ ReachesFirst begins (Shows viewed stopped n) stop k s t → ViewPutsOf k (λ puts. leads (sink s) puts (sink t)) (Some n)
+    side_puts (inl same) = inl (let P : V → Type 0 = λ x. leads (sink s) [] (sink x) in subst P (sym same) (starts (sink s)))
+    side_puts (inr h) =
+        let w = viewed_from k n h.start (times_of k.model) s t fits none h.reaches in
+        inr (record { start = h.start; is_start = h.is_start; texts = w.texts; views = w.views; puts = w.puts; in_turn = w.in_turn; led = w.led (sink s) [] (starts (sink s)) })
+
+    -- where the viewer has stopped since a write failed, one has
+    pub side_rose : (seen : W → Seen) → ((s : W) (puts : List Put) (t : W) → leads s puts t → PutsMake (seen s) puts (seen t)) → (t ≡ s) ⊎ ReachesFirst begins (Shows viewed stopped n) stop k s t → stop t ≡ Some error.Write → Rose (seen (sink s)).faults (seen (sink t)).faults
+    side_rose seen tells (inl same) wrote = absurd (no_write (stop t) (ap stop same ∙ none) wrote)
+    side_rose seen tells (inr h) wrote =
+        let w = viewed_from k n h.start (times_of k.model) s t fits none h.reaches in
+        let r = w.failed wrote in
+        let M : List Put → Type 0 = λ ps. PutsMake (seen (sink s)) ps (seen (sink t)) in
+        write_failed r.0 r.1 (seen (sink s)) (seen (sink t)) (subst M r.2 (tells (sink s) w.puts (sink t) (w.led (sink s) [] (starts (sink s)))))

@@ -23,7 +23,7 @@ use Rattle.run_puts.specs.declared.status.Status.TheVariants as status
 use Rattle.engine.specs.Cases.{AskedCheck, Case, Listing, Making, Checking, Writing, IsCase, listing_read, made_model, named, zones_named, zones_read}
 use Rattle.engine.specs.Made.{IsMade}
 use Rattle.engine.specs.Runs.{IsLeft, IsRunOf}
-use Rattle.engine.specs.Watched.{Watched, views_in}
+use Rattle.engine.specs.Watched.{SidePuts, Watched, views_in}
 
 -- the puts of an end because of this fault of reading
 abbrev pub IsReadingEnd : InputFault → Status → List Put → Type 0
@@ -77,10 +77,11 @@ pub record Answers (words : List Text) (files : Option (List File)) (before afte
   pub valid : IsValid case end
 
 -- Facts of a run's result beside which a side sink is led so: all of the above, or it stopped since a write beside it
--- failed; and the side sink got the views that are asked for.
+-- failed; and the side sink got the views that are asked for: of the first steps, and if the run ended Ok of all.
 pub record AnswersBeside (words : List Text) (files : Option (List File)) (before after : ℕ) (failed_beside : Type 0) (leads : List Put → Type 0) (end : Status) (puts : List Put) : Type 0 where
   pub answers : Answers words files before after end puts ⊎ ((case : Case) × IsCase words files case × IsLeft failed_beside case end puts)
   pub watched : end ≡ status.Ok → (n : ℕ) → views_in words ≡ Some n → IfSome files (λ fs. Watched words fs n leads)
+  pub side : IfSome files (λ fs. SidePuts leads words fs (views_in words))
 
 -- a fault of reading made files: they are in memory, so one that is no refusal is lack of memory
 abbrev pub made_fault : InputFault → InputFault

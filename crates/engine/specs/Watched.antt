@@ -72,14 +72,52 @@ pub record Watched (words : List Text) (files : List File) (each_phase : ℕ) (l
   pub is : case_of words files ≡ Listing task
   pub watched : IsWatched task each_phase leads
 
--- what is put to the side sink after the texts that were taken: nothing, or one text that was refused
-abbrev pub IsSideEnd : List Put → Type 0
-IsSideEnd last = (last ≡ []) ⊎ ((text : Text) × (error : SinkError) × (last ≡ refused text error ∷ []))
+-- These are the texts of views of a step: of all its views, or of the first ones.
+pub record AreStepViews (k : Task) (at : TimeStep) (old : List Bound) (texts : List Text) : Type 0 where
+  pub problem : List Entries
+  pub barrier : Edges
+  pub posed : IsPosed k.model k.digits at old problem barrier
+  pub views : List (List Bound)
+  pub enclose : All (IsView k at old problem barrier) views
+  pub are : texts ≡ map (view_text k.model.grid at problem) views
 
--- What is put to the side sink, whatever the status: nothing without `--watch`; with it texts, each taken whole, and at most one more, which was refused.
-abbrev pub SidePuts : (List Put → Type 0) → Option ℕ → Type 0
-SidePuts leads None = leads []
-SidePuts leads (Some n) = (texts : List Text) × (last : List Put) × IsSideEnd last × leads (map taken texts ++ last)
+-- The first of these steps, each from the heads of the one before it, have views with these texts, in turn: of each step all
+-- its views, but of the last one perhaps only the first views.
+abbrev pub AreFirstViews : Task → ℕ → List Bound → List TimeStep → List Text → Type 0
+AreFirstViews k n old [] texts = texts ≡ []
+AreFirstViews k n old (at ∷ times) texts = (texts ≡ []) ⊎ (AreStepViews k at old texts ⊎
+    ((v : Step) × (here : List Text) × (rest : List Text) × IsStep k at old v × AreViews k n at old here × (texts ≡ here ++ rest) × AreFirstViews k n v.heads times rest))
+
+-- These texts were put in turn, each taken whole, but the last one may have been refused.
+abbrev pub ArePutInTurn : List Text → List Put → Type 0
+ArePutInTurn texts puts = (puts ≡ map taken texts)
+    ⊎ ((before : List Text) × (last : Text) × (error : SinkError) × (texts ≡ before ++ last ∷ []) × (puts ≡ map taken before ++ refused last error ∷ []))
+
+-- The side sink got the texts of the views of the first steps, from STRT on, in turn, up to the first put that failed.
+pub record IsWatchedSoFar (k : Task) (each_phase : ℕ) (leads : List Put → Type 0) : Type 0 where
+  pub start : List Bound
+  pub is_start : AreStartHeads k.model start
+  pub texts : List Text
+  pub views : AreFirstViews k each_phase start (times k.model) texts
+  pub puts : List Put
+  pub in_turn : ArePutInTurn texts puts
+  pub led : leads puts
+
+-- what a listing puts to the side sink, whatever its status, where this number of views is asked for, or none
+abbrev pub ViewPutsOf : Task → (List Put → Type 0) → Option ℕ → Type 0
+ViewPutsOf k leads None = leads []
+ViewPutsOf k leads (Some n) = leads [] ⊎ IsWatchedSoFar k n leads
+
+-- so it is with the listing of these words and files
+pub record WatchedSoFar (words : List Text) (files : List File) (each_phase : ℕ) (leads : List Put → Type 0) : Type 0 where
+  pub task : Task
+  pub is : case_of words files ≡ Listing task
+  pub watched : IsWatchedSoFar task each_phase leads
+
+-- What is put to the side sink, whatever the status: nothing; or, with `--watch`, the views of the first steps.
+abbrev pub SidePuts : (List Put → Type 0) → List Text → List File → Option ℕ → Type 0
+SidePuts leads words files None = leads []
+SidePuts leads words files (Some n) = leads [] ⊎ WatchedSoFar words files n leads
 
 -- what a settling shows to a viewer, with this many views in each phase
 abbrev pub Shows : {V : Type 0} → (V → List Entries → Edges → ℕ → V → Type 0) → (V → Type 0) → ℕ → V → List Entries → Edges → Bool → V → Type 0

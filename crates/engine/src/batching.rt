@@ -98,7 +98,8 @@ pub(crate) fn answer_any<
         × ((files : Option (List File)) → IfSome files (F.agrees folder.new) →
         AnyAnswers (map (λ w. w.now) words.now) files (F.faults folder.old) (F.faults folder.new)
         (Rose (W.seen side.old).faults (W.seen side.new).faults) (λ puts. W.leads side.old puts side.new) result more) }
-    ensures side { SidePuts (λ puts. W.leads side.old puts side.new) (views_in (map (λ w. w.now) words.now)) }
+    ensures side { (files : List File) → F.agrees folder.new files →
+        SidePuts (λ puts. W.leads side.old puts side.new) (map (λ w. w.now) words.now) files (views_in (map (λ w. w.now) words.now)) }
 {
     match asked_batch(alloc, words) {
         Ok(Some(asked)) => put_batch(rt, alloc, asked, folder, out, gate),

@@ -46,8 +46,10 @@ pub fn run<R: Threads + Wait + Sync, F: Folder, K: Sink + Send, W: Sink + Send, 
         AnyPuts (λ puts. K.leads out.old puts out.new) (map (λ w. w.now) words.now) files (F.faults folder.old) (F.faults folder.new)
         (Rose (W.seen side.old).faults (W.seen side.new).faults) result }
 
-    // What is put to `side`: nothing without `--watch`, else texts. If the run ends Ok, they are the views of all steps.
-    ensures side { SidePuts (λ puts. W.leads side.old puts side.new) (views_in (map (λ w. w.now) words.now)) }
+    // What is put to `side`, for every status: nothing without `--watch`, else the views of the first steps, in turn, up to the
+    // first put that failed. If the run ends Ok, they are the views of all steps.
+    ensures side { (files : List File) → F.agrees folder.new files →
+        SidePuts (λ puts. W.leads side.old puts side.new) (map (λ w. w.now) words.now) files (views_in (map (λ w. w.now) words.now)) }
     ensures watched { result ≡ Status.Ok → (n : ℕ) → views_in (map (λ w. w.now) words.now) ≡ Some n → (files : List File) →
         F.agrees folder.new files → Watched (map (λ w. w.now) words.now) files n (λ puts. W.leads side.old puts side.new) }
 

@@ -8,7 +8,7 @@ ghost use Rattle.step_problem.specs.Settling.{Settles};
 ghost use Rattle.settle_driver.specs.Phases.{IsPlan};
 ghost use Rattle.listing_run.specs.Ends.{IsTask};
 ghost use Rattle.listing_run.specs.Listing.{IsListing, IsListingBeside, IsCutListing};
-ghost use Rattle.engine.specs.Watched.{IsWatched, SidePuts};
+ghost use Rattle.engine.specs.Watched.{IsWatched, ViewPutsOf};
 
 use crate::viewing::put_watched;
 use listing_run::{Task, put_steps};
@@ -66,7 +66,7 @@ pub(crate) fn put_listing<R: Threads + Sync, K: Sink + Send, W: Sink + Send, G: 
         (more : List Put) × K.leads start (puts ++ more) out.new
         × IsRun (IsListingBeside (Rose (W.seen side.old).faults (W.seen side.new).faults) task.now) (IsCutListing task.now) result more
         × (result ≡ Status.Ok → IfSome views (λ n. IsWatched task.now n (λ puts. W.leads side.old puts side.new))) }
-    ensures side { SidePuts (λ puts. W.leads side.old puts side.new) views }
+    ensures side { ViewPutsOf task.now (λ puts. W.leads side.old puts side.new) views }
 {
     match views {
         None => put_unwatched(rt, alloc, task, plan, out, gate),

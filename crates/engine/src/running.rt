@@ -18,7 +18,7 @@ ghost use Rattle.engine.specs.Certified.{Certified};
 ghost use Rattle.engine.specs.Decks.{OneDeck};
 ghost use Rattle.engine.specs.OneListing.{OneListing, OneSummary, OneVerdict};
 ghost use Rattle.engine.specs.Parts.{AnswersBeside, IsReadAs};
-ghost use Rattle.engine.specs.Watched.{IsWatched, SidePuts, Watched, views_in};
+ghost use Rattle.engine.specs.Watched.{IsWatched, SidePuts, ViewPutsOf, Watched, views_in};
 
 use crate::asked::{Asked, Command, command_of};
 use crate::checking::check;
@@ -67,8 +67,10 @@ pub fn run_one<R: Threads + Sync, F: Folder, K: Sink + Send, W: Sink + Send, G: 
         Puts (λ puts. K.leads out.old puts out.new) (map (λ w. w.now) words.now) files (F.faults folder.old) (F.faults folder.new)
         (Rose (W.seen side.old).faults (W.seen side.new).faults) result }
 
-    // What is put to `side`: nothing without `--watch`, else texts. If the run ends Ok, they are the views of all steps.
-    ensures side { SidePuts (λ puts. W.leads side.old puts side.new) (views_in (map (λ w. w.now) words.now)) }
+    // What is put to `side`, for every status: nothing without `--watch`, else the views of the first steps, in turn, up to the
+    // first put that failed. If the run ends Ok, they are the views of all steps.
+    ensures side { (files : List File) → F.agrees folder.new files →
+        SidePuts (λ puts. W.leads side.old puts side.new) (map (λ w. w.now) words.now) files (views_in (map (λ w. w.now) words.now)) }
     ensures watched { result ≡ Status.Ok → (n : ℕ) → views_in (map (λ w. w.now) words.now) ≡ Some n → (files : List File) →
         F.agrees folder.new files → Watched (map (λ w. w.now) words.now) files n (λ puts. W.leads side.old puts side.new) }
 
@@ -143,7 +145,6 @@ pub(crate) fn answer<R: Threads + Sync, F: Folder, K: Sink + Send, W: Sink + Sen
         × ((files : Option (List File)) → IfSome files (F.agrees folder.new) →
         AnswersBeside (map (λ w. w.now) words.now) files (F.faults folder.old) (F.faults folder.new)
         (Rose (W.seen side.old).faults (W.seen side.new).faults) (λ puts. W.leads side.old puts side.new) result more) }
-    ensures side { SidePuts (λ puts. W.leads side.old puts side.new) (views_in (map (λ w. w.now) words.now)) }
 {
     let order = match read_order(alloc, words) {
         Ok(order) => order,
@@ -178,7 +179,7 @@ fn put_model<'a, R: Threads + Sync, K: Sink + Send, W: Sink + Send, G: Gate + Sy
         × IsRun (IsListingBeside (Rose (W.seen side.old).faults (W.seen side.new).faults) (task_of (asked_of asked.entry) model zones))
         (IsCutListing (task_of (asked_of asked.entry) model zones)) result more
         × (result ≡ Status.Ok → IfSome asked.entry.watch (λ n. IsWatched (task_of (asked_of asked.entry) model zones) n (λ puts. W.leads side.old puts side.new))) }
-    ensures side { SidePuts (λ puts. W.leads side.old puts side.new) asked.entry.watch }
+    ensures side { ViewPutsOf (task_of (asked_of asked.entry) model zones) (λ puts. W.leads side.old puts side.new) asked.entry.watch }
 {
     let task = Task {
         model,
@@ -211,7 +212,6 @@ fn list_model<'a, R: Threads + Sync, F: Folder, K: Sink + Send, W: Sink + Send, 
         IsReadAs (asked_of asked.entry).name files (Ok model) →
         AnswersBeside words files (F.faults folder.old) (F.faults folder.new)
         (Rose (W.seen side.old).faults (W.seen side.new).faults) (λ puts. W.leads side.old puts side.new) result more) }
-    ensures side { SidePuts (λ puts. W.leads side.old puts side.new) asked.entry.watch }
 {
     match read_zones_of(alloc, &model, asked.zones, folder) {
         Ok(zones) => put_model(rt, alloc, asked, model, zones, out, side, gate),
@@ -239,7 +239,6 @@ fn list<'a, R: Threads + Sync, F: Folder, K: Sink + Send, W: Sink + Send, G: Gat
         (files : Option (List File)) → IfSome files (F.agrees folder.new) →
         AnswersBeside words files (F.faults folder.old) (F.faults folder.new)
         (Rose (W.seen side.old).faults (W.seen side.new).faults) (λ puts. W.leads side.old puts side.new) result more) }
-    ensures side { SidePuts (λ puts. W.leads side.old puts side.new) asked.entry.watch }
 {
     match read_named(alloc, folder, asked.name) {
         Ok(model) => list_model(rt, alloc, asked, model, folder, out, side, gate),

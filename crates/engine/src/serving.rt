@@ -33,7 +33,8 @@ pub fn serve<R: Threads + Wait + Sync, F: Folder, K: Sink + Send, W: Sink + Send
     requires may { WordsMay (F.may folder.old) (files_named (map (λ w. w.now) words.now)) }
     ensures serves { Serves (λ puts. K.leads out.old puts out.new) (F.agrees folder.new) (map (λ w. w.now) words.now) (F.faults folder.old) (F.faults folder.new)
         (Rose (W.seen side.old).faults (W.seen side.new).faults) (K.seen out.old) (K.seen out.new) (exit_status result) }
-    ensures side { SidePuts (λ puts. W.leads side.old puts side.new) (views_in (map (λ w. w.now) words.now)) }
+    ensures side { (files : List File) → F.agrees folder.new files →
+        SidePuts (λ puts. W.leads side.old puts side.new) (map (λ w. w.now) words.now) files (views_in (map (λ w. w.now) words.now)) }
     ensures watched { exit_status result ≡ 0 → (n : ℕ) → views_in (map (λ w. w.now) words.now) ≡ Some n → (files : List File) →
         F.agrees folder.new files → Watched (map (λ w. w.now) words.now) files n (λ puts. W.leads side.old puts side.new) }
 {

@@ -1,5 +1,5 @@
 // A listing by workers in threads, whose heads are viewed while they settle.
-ghost use Rattle.std.specs.Prelude.{◌≡◌, List, ◌++◌, None, Some};
+ghost use Rattle.std.specs.Prelude.{◌≡◌, ◌⊎◌, List, ◌++◌, None, Some};
 ghost use Rattle.outside.specs.Counts.{Rose};
 ghost use Rattle.outside.specs.Puts.{Put};
 ghost use Rattle.outside.specs.declared.traits.SinkError.TheVariants.{Write};
@@ -10,8 +10,8 @@ ghost use Rattle.settle_driver.specs.Phases.{IsPlan};
 ghost use Rattle.settle_driver.specs.Views.{AddsPhases, had_memory};
 ghost use Rattle.listing_run.specs.Ends.{IsTask};
 ghost use Rattle.listing_run.specs.Listing.{IsListingBeside, IsCutListing};
-ghost use Rattle.listing_run.specs.Settlers.{AllSettledBy, Reaches};
-ghost use Rattle.engine.specs.Watched.{IsWatched, Shows, SidePuts, lines_of};
+ghost use Rattle.listing_run.specs.Settlers.{AllSettledBy, ReachesFirst};
+ghost use Rattle.engine.specs.Watched.{IsWatched, Shows, ViewPutsOf, lines_of};
 
 use crate::view_lines::ViewLines;
 use listing_run::{Task, put_steps};
@@ -44,7 +44,8 @@ fn put_shown<R: Threads + Sync, K: Sink + Send, V: StepViewer + Send, G: Gate + 
         (more : List Put) × K.leads start (puts ++ more) out.new
         × IsRun (IsListingBeside (V.stop viewer.new ≡ Some Write) task.now) (IsCutListing task.now) result more
         × (result ≡ Status.Ok → AllSettledBy V.begins (Shows V.viewed V.stopped views) V.stop task.now viewer.old viewer.new) }
-    ensures reaches { Reaches V.begins (Shows V.viewed V.stopped views) V.stop viewer.old viewer.new }
+    ensures reaches { (viewer.new ≡ viewer.old)
+        ⊎ ReachesFirst V.begins (Shows V.viewed V.stopped views) V.stop task.now viewer.old viewer.new }
 {
     let near = NearSettler::new(rt, plan, gate);
     let near = &near;
@@ -81,7 +82,7 @@ fn put_texts<R: Threads + Sync, K: Sink + Send, W: Sink + Send, X: ViewText + Sy
         (more : List Put) × K.leads start (puts ++ more) out.new
         × IsRun (IsListingBeside (Rose (W.seen side.old).faults (W.seen side.new).faults) task.now) (IsCutListing task.now) result more
         × (result ≡ Status.Ok → IsWatched task.now views (λ puts. W.leads side.old puts side.new)) }
-    ensures side { SidePuts (λ puts. W.leads side.old puts side.new) (Some views) }
+    ensures side { ViewPutsOf task.now (λ puts. W.leads side.old puts side.new) (Some views) }
 {
     let mut viewer = SinkViewer::new(alloc, side, text);
     put_shown(rt, alloc, task, plan, views, &mut viewer, out, gate)
@@ -105,7 +106,7 @@ pub(crate) fn put_watched<R: Threads + Sync, K: Sink + Send, W: Sink + Send, G: 
         (more : List Put) × K.leads start (puts ++ more) out.new
         × IsRun (IsListingBeside (Rose (W.seen side.old).faults (W.seen side.new).faults) task.now) (IsCutListing task.now) result more
         × (result ≡ Status.Ok → IsWatched task.now views (λ puts. W.leads side.old puts side.new)) }
-    ensures side { SidePuts (λ puts. W.leads side.old puts side.new) (Some views) }
+    ensures side { ViewPutsOf task.now (λ puts. W.leads side.old puts side.new) (Some views) }
 {
     let text = ViewLines::new(&task.model.grid);
     put_texts(rt, alloc, task, plan, views, &text, out, side, gate)

@@ -1,5 +1,5 @@
 -- Facts that the calls of a walk over the steps pass to each other.
-use Rattle.std.specs.Prelude.{Bool, List, Option, [], drop, length, ℕ, ◌+◌, ◌<◌, ◌∷◌, ◌≡◌, ◌≤◌}
+use Rattle.std.specs.Prelude.{Bool, List, Option, [], drop, length, ℕ, ◌+◌, ◌<◌, ◌∷◌, ◌≡◌, ◌≤◌, true}
 use Rattle.outside.specs.Puts.{Put}
 use Rattle.outside.specs.declared.traits.SinkError.TheVariants as error
 use Rattle.outside.specs.declared.traits.SinkError.{SinkError}
@@ -91,7 +91,7 @@ module _ {S : Type 0} (leads : S → List Entries → Edges → Bool → S → T
     pub is : IsStep k at s.heads v
     pub heads : t.heads ≡ v.heads
     pub encloses : BoundsMoves k at s.heads v
-    pub led : IsSettledBy leads k at s.heads before after
+    pub led : IsSettledBy leads k at s.heads true before after
     pub grid : AreGridHeads k.model t.heads
     pub few : s.done < 100000
     pub done : t.done ≡ s.done + 1

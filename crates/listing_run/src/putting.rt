@@ -1,11 +1,11 @@
 // Putting the steps, each while the next one is solved.
-ghost use Rattle.std.specs.Prelude.{◌≡◌, List, ◌++◌, IfOk, IfErr, None, Some};
+ghost use Rattle.std.specs.Prelude.{◌≡◌, ◌⊎◌, List, ◌++◌, IfOk, IfErr, None, Some};
 ghost use Rattle.outside.specs.Puts.{Put};
 ghost use Rattle.outside.specs.declared.traits.SinkError.TheVariants.{Write};
 ghost use Rattle.run_puts.specs.Ends.{IsEnd, IsPut};
 ghost use Rattle.run_puts.specs.Runs.{IsRun};
 ghost use Rattle.listing_run.specs.Listing.{IsListingBeside, IsCutListing, last_line, status_of};
-ghost use Rattle.listing_run.specs.Settlers.{AllSettledBy, Reaches, RestsOrSettles};
+ghost use Rattle.listing_run.specs.Settlers.{AllSettledBy, ReachesFirst, RestsOrSettlesFirst};
 ghost use Rattle.listing_run.specs.Ends.{IsNextText, IsStopEnd, IsTask, IsWalk, StopsAt, times_left};
 
 use crate::listing_end::ListingEnd;
@@ -42,7 +42,7 @@ fn put_while_solving<R: Threads + Sync, K: Sink + Send, S: Settler>(
     ensures walk { IsWalk task.now steps.new }
     ensures next { IfOk result.1 (λ text. IsNextText S.leads task.now steps.old steps.new settler.old settler.new text.items) }
     ensures stop { IfErr result.1 (StopsAt task.now steps.old.heads (times_left steps.old)) }
-    ensures led { IfErr result.1 (λ _. RestsOrSettles S.leads settler.old settler.new) }
+    ensures led { IfErr result.1 (λ _. RestsOrSettlesFirst S.leads task.now (times_left steps.old) steps.old.heads settler.old settler.new) }
 {
     join_mut(
         rt,
@@ -101,7 +101,9 @@ pub fn put_steps<R: Threads + Sync, K: Sink + Send, S: StepSettler>(
         (more : List Put) × K.leads start (puts ++ more) out.new
         × IsRun (IsListingBeside (S.stop settler.new ≡ Some Write) task.now) (IsCutListing task.now) result more
         × (result ≡ Status.Ok → AllSettledBy S.begins S.leads S.stop task.now settler.old settler.new) }
-    ensures reaches { Reaches S.begins S.leads S.stop settler.old settler.new }
+    // Whatever the status: the settler was told the first times in turn, and each problem was that of its step, from the heads
+    // of the step before it.
+    ensures reaches { (settler.new ≡ settler.old) ⊎ ReachesFirst S.begins S.leads S.stop task.now settler.old settler.new }
 {
     let Ok(mut steps) = Steps::new(alloc, task) else {
         return put_memory(out);

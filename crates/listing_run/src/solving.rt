@@ -1,5 +1,5 @@
 // Solving a step.
-ghost use Rattle.std.specs.Prelude.{◌≡◌, ◌∷◌, List, Contains, IfOk, IfErr, MatchResult};
+ghost use Rattle.std.specs.Prelude.{◌≡◌, ◌∷◌, List, Contains, IfOk, IfErr, MatchResult, true};
 ghost use Rattle.model_types.specs.declared.time_steps.TimeStep.{TimeStep};
 ghost use Rattle.model_types.specs.Times.{times};
 ghost use Rattle.problem_builder.specs.GridHeads.{AreGridHeads};
@@ -13,7 +13,6 @@ use crate::step::Step;
 use crate::stop::{Stop, stop_at};
 use crate::task::Task;
 use crate::zoning::flows_between;
-use barrier_vector::laws::one_barrier;
 use budget_bounds::budget;
 use budget_bounds::laws::heads_within;
 use model_types::{Listed, TimeStep};
@@ -41,8 +40,8 @@ pub(crate) fn solve<S: Settler>(
     ensures tables { AreTablesOf task.now tables.new }
     ensures step { IfOk result (IsStep task.now at old.now) }
     ensures stop { IfErr result (λ stop. (rest : List TimeStep) → StopsAt task.now old.now (at ∷ rest) stop) }
-    ensures led { MatchResult result (λ _. IsSettledBy S.leads task.now at old.now settler.old settler.new)
-        (λ _. RestsOrSettles S.leads settler.old settler.new) }
+    ensures led { MatchResult result (λ _. IsSettledBy S.leads task.now at old.now true settler.old settler.new)
+        (λ _. RestsOrSettles S.leads task.now at old.now settler.old settler.new) }
     ensures heads { IfOk result (λ v. AreGridHeads task.now.model v.heads) }
     // Every solution from exact heads within the old ones lies within the step's heads, budget and flows between zones.
     ensures encloses { IfOk result (BoundsMoves task.now at old.now) }
@@ -52,7 +51,6 @@ pub(crate) fn solve<S: Settler>(
         Err(fault) => return Err(stop_at(at, fault)),
     };
     heads_within();
-    one_barrier();
     solved.problem.recall_conditions();
     match budget(&solved.problem, solved.bounds.as_slice()) {
         Ok(budget) => {

@@ -1,7 +1,7 @@
 // A walk over the steps of a task.
 ghost use Rattle.std.specs.Prelude.{◌≡◌, ◌+◌, ◌<◌, ◌∷◌, [], drop, get_or, length, IfOk, IfErr, IfSome, MatchOption};
 ghost use Rattle.listing_run.specs.Ends.{IsAtFirst, IsNext, IsNextText, IsTask, IsWalk, StopsAt, times_left, with_heads};
-ghost use Rattle.listing_run.specs.Settlers.{RestsOrSettles};
+ghost use Rattle.listing_run.specs.Settlers.{RestsOrSettlesFirst};
 
 use crate::listing_end::ListingEnd;
 use crate::solving::solve;
@@ -81,7 +81,7 @@ impl Steps {
         ensures walk { IsWalk task.now self.new }
         ensures next { IfOk result (λ flows. IsNext S.leads task.now self.old self.new settler.old settler.new (with_heads flows self.new.heads)) }
         ensures stop { IfErr result (StopsAt task.now self.old.heads (times_left self.old)) }
-        ensures led { IfErr result (λ _. RestsOrSettles S.leads settler.old settler.new) }
+        ensures led { IfErr result (λ _. RestsOrSettlesFirst S.leads task.now (times_left self.old) self.old.heads settler.old settler.new) }
     {
         let Some(at) = self.time() else {
             return Err(Stop::End(ListingEnd::Whole));
@@ -123,7 +123,7 @@ impl Steps {
         ensures walk { IsWalk task.now self.new }
         ensures next { IfOk result (λ text. IsNextText S.leads task.now self.old self.new settler.old settler.new text.items) }
         ensures stop { IfErr result (StopsAt task.now self.old.heads (times_left self.old)) }
-        ensures led { IfErr result (λ _. RestsOrSettles S.leads settler.old settler.new) }
+        ensures led { IfErr result (λ _. RestsOrSettlesFirst S.leads task.now (times_left self.old) self.old.heads settler.old settler.new) }
     {
         let flows = self.next(alloc, task, settler)?;
         let text = write_step(

@@ -1,18 +1,26 @@
 -- What the calls of a step gave, put together.
-use Rattle.std.proofs.Common.{ℕ, List}
+use Rattle.std.proofs.Common.{ℕ, Bool, List}
+use Rattle.decimal_input.specs.Fractions.{Fraction}
 use Rattle.step_problem.specs.declared.heads.Bound.{Bound}
 use Rattle.step_problem.specs.Conditions.{IsProblem}
+use Rattle.step_problem.specs.Entries.{Entries}
+use Rattle.step_problem.specs.Laws.{SettledPairExists}
 use Rattle.step_problem.specs.Heads.{Edges, head_at, lower_at, upper_at}
 use Rattle.step_problem.specs.Settling.{AreSettled}
 use Rattle.cell_balance.specs.Components.{IsHeldBelow}
+use Rattle.cell_balance.specs.Enclosures.{EnclosesStep}
 use Rattle.cell_balance.specs.SolutionBounds.{EnclosesSolutions}
 use Rattle.barrier_vector.specs.Barriers.{IsBarrierOf}
 use Rattle.certificate_check.specs.Laws.{SettledPairEncloses}
 use Rattle.model_types.specs.declared.model.FlowModel.{FlowModel}
 use Rattle.model_types.specs.declared.time_steps.TimeStep.{TimeStep}
+use Rattle.flow_equations.specs.ExactStep.{exact_step}
+use Rattle.flow_equations.specs.Histories.{variable_heads}
+use Rattle.problem_builder.specs.GridHeads.{HeadsEnclose}
 use Rattle.problem_builder.specs.Problems.{IsProblemOf}
 use Rattle.step_chain.specs.declared.solved.Solved.{Solved}
 use Rattle.step_chain.specs.GridHeads.{AreHeadsOf}
+use Rattle.step_chain.specs.Leads.{LeadsBy}
 use Rattle.step_chain.specs.Steps.{IsSettledStep}
 
 -- a step's problem, barrier, settled pair and heads
@@ -33,3 +41,21 @@ module _ (m : FlowModel) (s : ℕ) (at : TimeStep) (old : List Bound) (barrier :
 
   pub settled_encloses : SettledPairEncloses → IsProblem x.problem → IsHeldBelow x.problem → EnclosesSolutions x.problem (head_at barrier.floor) (head_at barrier.ceiling) → EnclosesSolutions x.problem (lower_at x.bounds) (upper_at x.bounds)
   settled_encloses law fits held encloses = law x.problem barrier (lower_at x.bounds) (upper_at x.bounds) fits parts.of_problem.fits held parts.settled.pair encloses
+
+-- what a settling did to its settler, and the settled pair, which there is whether or not the settling reached it
+module _ (m : FlowModel) (s : ℕ) (at : TimeStep) (old : List Bound) (p : List Entries) (barrier : Edges) (fits : IsProblem p) (of_problem : IsBarrierOf p barrier) (held : IsHeldBelow p)
+    (within : EnclosesSolutions p (head_at barrier.floor) (head_at barrier.ceiling)) (encloses : (before : ℕ → Fraction) → HeadsEnclose m old before → EnclosesStep s p (exact_step m at.period at.step before))
+    (pair_exists : SettledPairExists) (pair_encloses : SettledPairEncloses) where
+  pub led_by : {S : Type 0} (leads : S → List Entries → Edges → Bool → S → Type 0) (ended : Bool) (before after : S) → leads before p barrier ended after → LeadsBy leads m at old p ended before after
+  led_by leads ended before after led =
+      let (l, u, pair) = pair_exists p barrier fits of_problem.fits in
+      let solutions = pair_encloses p barrier l u fits of_problem.fits held pair within in
+      record {
+        barrier = barrier;
+        is = of_problem;
+        low = l;
+        high = u;
+        pair = pair;
+        encloses = λ heads d X move. solutions s (exact_step m at.period at.step heads) d (variable_heads (exact_step m at.period at.step heads) X) (encloses heads move.within) move.some move.solves.balances;
+        led = led;
+      }

@@ -2,6 +2,7 @@
 use Rattle.std.specs.Prelude.{ℕ, ◌^◌, ◌<◌, List, length, ℤ, pos, ◌*ℤ◌, ◌≤ℤ◌}
 use Rattle.decimal_input.specs.Fractions.{Fraction}
 use Rattle.step_problem.specs.declared.heads.Bound.{Bound}
+use Rattle.step_problem.specs.Entries.{Entries}
 use Rattle.step_problem.specs.Heads.{lower_at, upper_at}
 use Rattle.cell_balance.specs.Enclosures.{EnclosesStep}
 use Rattle.cell_balance.specs.Solutions.{LiesBetween}
@@ -22,6 +23,12 @@ pub record IsMove (m : FlowModel) (at : TimeStep) (old : List Bound) (before : �
   pub within : HeadsEnclose m old before
   pub some : 0 < d
   pub solves : SolvesAt m at before d X
+
+-- Every solution of the exact step, from all exact heads within the old ones, lies between these heads of the variable cells of its problem.
+abbrev pub LieBetween : FlowModel → TimeStep → List Bound → List Entries → (ℕ → ℤ) → (ℕ → ℤ) → Type 0
+LieBetween m at old p l u =
+    (before : ℕ → Fraction) (d : ℕ) (X : ℕ → ℤ) → IsMove m at old before d X →
+    LiesBetween (length p) d (variable_heads (exact_step m at.period at.step before) X) l u
 
 module _ (m : FlowModel) (s : ℕ) (at : TimeStep) where
   -- The problem encloses the exact step, and X lies between the bounds at the variable cells, and between the heads at all active cells.

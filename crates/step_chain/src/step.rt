@@ -20,6 +20,7 @@ use model_types::{FlowModel, Listed, TimeStep};
 use problem_builder::laws::constant_pairs;
 use problem_builder::{StepTables, build_with};
 use std::alloc::Global;
+use step_problem::laws::settled_pair;
 use step_problem::{Bound, Settler};
 
 /// The step at a time, from the heads of all cells before it: its problem is built and settled. `tables` are those
@@ -51,20 +52,22 @@ pub fn next_step_with<S: Settler>(
     ensures named { IfOk result (λ r. (c : ℕ) → IsNamed r.problem c → IsActive model.now c) }
     // From all exact heads within the old ones, every solution of the exact step lies within the new ones.
     ensures encloses { IfOk result (EnclosesMoves model.now (digits_of tables.old) at old.now) }
+    // Whatever the settler did, every solution of the step lies between the settled pair of the problem that it was given.
     ensures leads { MatchResult result
-        (λ r. LeadsBy S.leads r.problem true settler.old settler.new)
+        (λ r. LeadsBy S.leads model.now at old.now r.problem true settler.old settler.new)
         (λ _. LeadsOrRests S.leads model.now (digits_of tables.old) at old.now settler.old settler.new) }
 {
     tables.go_to(alloc, model, at.period)?;
     let step = StepTables::new(alloc, model, &tables.period, at)?;
     let problem = build_with(alloc, model, &tables.tables, &tables.period, &step, at, old)?;
     let barrier = barrier(alloc, &problem)?;
+    settled_pair();
+    settled_pair_encloses();
+    problem.recall_conditions();
     let bounds = Listed::new(settler.settle(alloc, &problem, &barrier)?);
     let heads = fill_in(model, &tables.period, at, step.heads, bounds.as_slice());
-    settled_pair_encloses();
     constant_pairs();
     heads_fit();
-    problem.recall_conditions();
     Ok(Solved {
         problem,
         bounds,
@@ -96,7 +99,7 @@ pub fn next_step<S: Settler>(
     ensures named { IfOk result (λ r. (c : ℕ) → IsNamed r.problem c → IsActive model.now c) }
     ensures encloses { IfOk result (EnclosesMoves model.now s at old.now) }
     ensures leads { MatchResult result
-        (λ r. LeadsBy S.leads r.problem true settler.old settler.new)
+        (λ r. LeadsBy S.leads model.now at old.now r.problem true settler.old settler.new)
         (λ _. LeadsOrRests S.leads model.now s at old.now settler.old settler.new) }
 {
     let mut tables = RunTables::new(alloc, model, s)?;

@@ -1,4 +1,4 @@
-use Rattle.std.proofs.Common.{◌≡◌, ◌∙◌, List, ℕ, map, None, Some, option_map, sym}
+use Rattle.std.proofs.Common.{◌≡◌, ◌∙◌, List, [], ℕ, map, None, Some, option_map, sym}
 use Rattle.engine.specs.BatchCommands.{batch_by}
 use Rattle.engine.proofs.BatchEnds.{any_batch, any_lacks, any_other}
 use Rattle.engine.specs.Watched.{views_in}
@@ -22,7 +22,7 @@ pub returns-in-Err-clause-answers : goal.returns-in-Err-clause-answers
 returns-in-Err-clause-answers g c = λ start puts h.
     let m = c.put_memory.ensures start puts h in
     let words : List (List ℕ) = map (λ w. w.now) c.args.words.now in
-    (m.0, m.1, λ files agree. any_lacks words files (g.F.Folder.faults c.args.folder.now) _ _ _ c.put_memory.result m.0 m.2)
+    (m.0, m.1, λ files agree. any_lacks words files (g.F.Folder.faults c.args.folder.now) _ _ (λ puts. g.W.Sink.leads c.args.side.now puts c.args.side.now) c.put_memory.result m.0 (((g.met.W.Sink g.world.𝓛 g.world.𝓜 g.world.𝓡 ((λ s x. x), (λ x. x), (λ x. x), λ x. x))).rests c.args.side.now) m.2)
 
 pub returns-in-Ok-Some-clause-unasked : goal.returns-in-Ok-Some-clause-unasked
 returns-in-Ok-Some-clause-unasked g c = λ none nothing.
@@ -30,10 +30,19 @@ returns-in-Ok-Some-clause-unasked g c = λ none nothing.
     absurd (let bad : Some (batch_by c.in-Ok-Some.asked) ≡ None = is in cc)
 
 pub returns-in-Ok-Some-clause-side : goal.returns-in-Ok-Some-clause-side
-returns-in-Ok-Some-clause-side g c = quiet g.W.Sink.leads c.args.side.now (views_in (map (λ w. w.now) c.args.words.now)) (((g.met.W.Sink g.world.𝓛 g.world.𝓜 g.world.𝓡 ((λ s x. x), (λ x. x), (λ x. x), λ x. x))).rests c.args.side.now)
+returns-in-Ok-Some-clause-side g c = λ files agree.
+    let words : List (List ℕ) = map (λ w. w.now) c.args.words.now in
+    quiet (λ puts. g.W.Sink.leads c.args.side.now puts c.args.side.now) words files (views_in words) (((g.met.W.Sink g.world.𝓛 g.world.𝓜 g.world.𝓡 ((λ s x. x), (λ x. x), (λ x. x), λ x. x))).rests c.args.side.now)
+
+pub returns-in-Ok-None-clause-side : goal.returns-in-Ok-None-clause-side
+returns-in-Ok-None-clause-side g c = λ files agree.
+    let r = c.answer.ensures.answers c.args.out.now [] (((g.met.K.Sink g.world.𝓛 g.world.𝓜 g.world.𝓡 ((λ s x. x), (λ x. x), (λ x. x), λ x. x))).rests c.args.out.now) in
+    (r.2 (Some files) agree).side
 
 pub returns-in-Err-clause-side : goal.returns-in-Err-clause-side
-returns-in-Err-clause-side g c = quiet g.W.Sink.leads c.args.side.now (views_in (map (λ w. w.now) c.args.words.now)) (((g.met.W.Sink g.world.𝓛 g.world.𝓜 g.world.𝓡 ((λ s x. x), (λ x. x), (λ x. x), λ x. x))).rests c.args.side.now)
+returns-in-Err-clause-side g c = λ files agree.
+    let words : List (List ℕ) = map (λ w. w.now) c.args.words.now in
+    quiet (λ puts. g.W.Sink.leads c.args.side.now puts c.args.side.now) words files (views_in words) (((g.met.W.Sink g.world.𝓛 g.world.𝓜 g.world.𝓡 ((λ s x. x), (λ x. x), (λ x. x), λ x. x))).rests c.args.side.now)
 
 pub put_batch-requires-clause-may : goal.put_batch-requires-clause-may
 put_batch-requires-clause-may g c = λ κs outlives.

@@ -1,7 +1,6 @@
 use Rattle.std.proofs.Common.{IfSome, ℕ, Option, sym, subst}
 use Rattle.listing_run.proofs.Stopping.{beside}
-use Rattle.engine.specs.Watched.{IsWatched, SidePuts}
-use Rattle.engine.proofs.Beside.{quiet}
+use Rattle.engine.specs.Watched.{IsWatched, ViewPutsOf}
 use Rattle.engine.proofs.listing.put_listing.Goals as goal
 
 pub returns-in-None-clause-puts : goal.returns-in-None-clause-puts
@@ -11,7 +10,9 @@ returns-in-None-clause-puts g c = λ start puts h.
     (r.0, r.1, beside _ c.args.task.now c.put_unwatched.result r.0 r.2, λ e. subst P (sym c.in-None.is) tt)
 
 pub returns-in-None-clause-side : goal.returns-in-None-clause-side
-returns-in-None-clause-side g c = quiet g.W.Sink.leads c.args.side.now c.args.views (((g.met.W.Sink g.world.𝓛 g.world.𝓜 g.world.𝓡 ((λ s x. x), (λ x. x), (λ x. x), λ x. x))).rests c.args.side.now)
+returns-in-None-clause-side g c =
+    let P : Option ℕ → Type 0 = λ o. ViewPutsOf c.args.task.now (λ puts. g.W.Sink.leads c.args.side.now puts c.args.side.now) o in
+    subst P (sym c.in-None.is) (((g.met.W.Sink g.world.𝓛 g.world.𝓜 g.world.𝓡 ((λ s x. x), (λ x. x), (λ x. x), λ x. x))).rests c.args.side.now)
 
 pub returns-in-Some-clause-puts : goal.returns-in-Some-clause-puts
 returns-in-Some-clause-puts g c = λ start puts h.
@@ -21,5 +22,5 @@ returns-in-Some-clause-puts g c = λ start puts h.
 
 pub returns-in-Some-clause-side : goal.returns-in-Some-clause-side
 returns-in-Some-clause-side g c =
-    let P : Option ℕ → Type 0 = λ o. SidePuts (λ puts. g.W.Sink.leads c.args.side.now puts c.put_watched.new.side) o in
+    let P : Option ℕ → Type 0 = λ o. ViewPutsOf c.args.task.now (λ puts. g.W.Sink.leads c.args.side.now puts c.put_watched.new.side) o in
     subst P (sym c.in-Some.is) c.put_watched.ensures.side

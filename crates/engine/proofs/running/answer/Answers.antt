@@ -4,8 +4,7 @@ use Rattle.engine.specs.Cases.{Command, asked_in, Check, Make, ReadsNothing, Run
 use Rattle.engine.specs.Commands.{asked_of, check_of, command_of}
 use Rattle.engine.proofs.Ends.{asked_by, asked_none, ends_usage, ends_made, ends_without_words, no_words}
 use Rattle.listing_run.proofs.Stopping.{wanting_not_ok}
-use Rattle.engine.specs.Watched.{SidePuts, views_in}
-use Rattle.engine.proofs.Beside.{not_ok, quiet, viewless, viewless_check, viewless_make, viewless_write, views_by, without_views}
+use Rattle.engine.proofs.Beside.{not_ok, viewless, viewless_check, viewless_make, viewless_write, views_by, without_views}
 use Rattle.engine.proofs.Naming.{check_named, run_named, write_named}
 use Rattle.engine.proofs.running.answer.Goals as goal
 
@@ -18,20 +17,20 @@ returns-in-Err-Usage-clause-answers g c = λ start puts h.
     let m = c.put_last.ensures start puts h in
     let words : List (List ℕ) = map (λ w. w.now) c.args.words.now in
     let none : asked_in words ≡ None = asked_none words (c.in-Err-Usage.ensures.usage (ap Err c.in-Err-Usage.field-0-is)) in
-    (m.0, m.1, λ files agree. without_views words files (g.F.Folder.faults c.args.folder.now) _ _ _ c.put_last.result m.0 (ends_usage words files (g.F.Folder.faults c.args.folder.now) _ c.put_last.result m.0 (no_words words files none) m.2) (viewless words none))
+    (m.0, m.1, λ files agree. without_views words files (g.F.Folder.faults c.args.folder.now) _ _ (λ puts. g.W.Sink.leads c.args.side.now puts c.args.side.now) c.put_last.result m.0 (((g.met.W.Sink g.world.𝓛 g.world.𝓜 g.world.𝓡 ((λ s x. x), (λ x. x), (λ x. x), λ x. x))).rests c.args.side.now) (ends_usage words files (g.F.Folder.faults c.args.folder.now) _ c.put_last.result m.0 (no_words words files none) m.2) (viewless words none))
 
 pub returns-in-Err-Memory-clause-answers : goal.returns-in-Err-Memory-clause-answers
 returns-in-Err-Memory-clause-answers g c = λ start puts h.
     let m = c.put_memory.ensures start puts h in
     let words : List (List ℕ) = map (λ w. w.now) c.args.words.now in
-    (m.0, m.1, λ files agree. not_ok words files (g.F.Folder.faults c.args.folder.now) _ _ _ c.put_memory.result m.0 (ends_without_words words files (g.F.Folder.faults c.args.folder.now) _ c.put_memory.result m.0 m.2) (wanting_not_ok c.put_memory.result m.0 m.2))
+    (m.0, m.1, λ files agree. not_ok words files (g.F.Folder.faults c.args.folder.now) _ _ (λ puts. g.W.Sink.leads c.args.side.now puts c.args.side.now) c.put_memory.result m.0 (((g.met.W.Sink g.world.𝓛 g.world.𝓜 g.world.𝓡 ((λ s x. x), (λ x. x), (λ x. x), λ x. x))).rests c.args.side.now) (ends_without_words words files (g.F.Folder.faults c.args.folder.now) _ c.put_memory.result m.0 m.2) (wanting_not_ok c.put_memory.result m.0 m.2))
 
 pub returns-in-None-clause-answers : goal.returns-in-None-clause-answers
 returns-in-None-clause-answers g c = λ start puts h.
     let m = c.put_last-in-None.ensures start puts h in
     let words : List (List ℕ) = map (λ w. w.now) c.args.words.now in
     let none : asked_in words ≡ None = asked_by words _ None c.in-Ok.ensures.order c.in-None.ensures.is in
-    (m.0, m.1, λ files agree. without_views words files (g.F.Folder.faults c.args.folder.now) _ _ _ c.put_last-in-None.result m.0 (ends_usage words files (g.F.Folder.faults c.args.folder.now) _ c.put_last-in-None.result m.0 (no_words words files none) m.2) (viewless words none))
+    (m.0, m.1, λ files agree. without_views words files (g.F.Folder.faults c.args.folder.now) _ _ (λ puts. g.W.Sink.leads c.args.side.now puts c.args.side.now) c.put_last-in-None.result m.0 (((g.met.W.Sink g.world.𝓛 g.world.𝓜 g.world.𝓡 ((λ s x. x), (λ x. x), (λ x. x), λ x. x))).rests c.args.side.now) (ends_usage words files (g.F.Folder.faults c.args.folder.now) _ c.put_last-in-None.result m.0 (no_words words files none) m.2) (viewless words none))
 
 pub returns-in-Some-Run-clause-answers : goal.returns-in-Some-Run-clause-answers
 returns-in-Some-Run-clause-answers g c = λ start puts h.
@@ -44,21 +43,21 @@ returns-in-Some-Make-clause-answers g c = λ start puts h.
     let m = c.put_made.ensures start puts h in
     let words : List (List ℕ) = map (λ w. w.now) c.args.words.now in
     let wanted : asked_in words ≡ Some (Make c.in-Some-Make.seed c.in-Some-Make.size) = asked_by words _ (Some (Make c.in-Some-Make.seed c.in-Some-Make.size)) c.in-Ok.ensures.order (by_variant _ _ _ c.in-Some-Make.field-0-is c.in-Some-Make.ensures.is) in
-    (m.0, m.1, λ files agree. without_views words files (g.F.Folder.faults c.args.folder.now) _ _ _ c.put_made.result m.0 (ends_made words c.in-Some-Make.seed c.in-Some-Make.size wanted files (g.F.Folder.faults c.args.folder.now) _ c.put_made.result m.0 m.2) (viewless_make words c.in-Some-Make.seed c.in-Some-Make.size wanted))
+    (m.0, m.1, λ files agree. without_views words files (g.F.Folder.faults c.args.folder.now) _ _ (λ puts. g.W.Sink.leads c.args.side.now puts c.args.side.now) c.put_made.result m.0 (((g.met.W.Sink g.world.𝓛 g.world.𝓜 g.world.𝓡 ((λ s x. x), (λ x. x), (λ x. x), λ x. x))).rests c.args.side.now) (ends_made words c.in-Some-Make.seed c.in-Some-Make.size wanted files (g.F.Folder.faults c.args.folder.now) _ c.put_made.result m.0 m.2) (viewless_make words c.in-Some-Make.seed c.in-Some-Make.size wanted))
 
 pub returns-in-Some-Check-clause-answers : goal.returns-in-Some-Check-clause-answers
 returns-in-Some-Check-clause-answers g c = λ start puts h.
     let m = c.check.ensures.answers start puts h in
     let words : List (List ℕ) = map (λ w. w.now) c.args.words.now in
     let wanted : asked_in words ≡ Some (Check (check_of c.in-Some-Check.asked)) = asked_by words _ (Some (Check (check_of c.in-Some-Check.asked))) c.in-Ok.ensures.order (by_variant _ _ _ c.in-Some-Check.field-0-is c.in-Some-Check.ensures.is) in
-    (m.0, m.1, λ files agree. without_views words files (g.F.Folder.faults c.args.folder.now) _ _ _ c.check.result m.0 (m.2 words wanted files agree) (viewless_check words (check_of c.in-Some-Check.asked) wanted))
+    (m.0, m.1, λ files agree. without_views words files (g.F.Folder.faults c.args.folder.now) _ _ (λ puts. g.W.Sink.leads c.args.side.now puts c.args.side.now) c.check.result m.0 (((g.met.W.Sink g.world.𝓛 g.world.𝓜 g.world.𝓡 ((λ s x. x), (λ x. x), (λ x. x), λ x. x))).rests c.args.side.now) (m.2 words wanted files agree) (viewless_check words (check_of c.in-Some-Check.asked) wanted))
 
 pub returns-in-Some-Write-clause-answers : goal.returns-in-Some-Write-clause-answers
 returns-in-Some-Write-clause-answers g c = λ start puts h.
     let m = c.write.ensures.answers start puts h in
     let words : List (List ℕ) = map (λ w. w.now) c.args.words.now in
     let wanted : asked_in words ≡ Some (Write c.in-Some-Write.name.now) = asked_by words _ (Some (Write c.in-Some-Write.name.now)) c.in-Ok.ensures.order (by_variant _ _ _ c.in-Some-Write.field-0-is c.in-Some-Write.ensures.is) in
-    (m.0, m.1, λ files agree. without_views words files (g.F.Folder.faults c.args.folder.now) _ _ _ c.write.result m.0 (m.2 words wanted files agree) (viewless_write words c.in-Some-Write.name.now wanted))
+    (m.0, m.1, λ files agree. without_views words files (g.F.Folder.faults c.args.folder.now) _ _ (λ puts. g.W.Sink.leads c.args.side.now puts c.args.side.now) c.write.result m.0 (((g.met.W.Sink g.world.𝓛 g.world.𝓜 g.world.𝓡 ((λ s x. x), (λ x. x), (λ x. x), λ x. x))).rests c.args.side.now) (m.2 words wanted files agree) (viewless_write words c.in-Some-Write.name.now wanted))
 
 pub returns-in-Some-Write-clause-unasked : goal.returns-in-Some-Write-clause-unasked
 returns-in-Some-Write-clause-unasked g c = λ nothing.
@@ -66,9 +65,6 @@ returns-in-Some-Write-clause-unasked g c = λ nothing.
     let wanted : asked_in words ≡ Some (Write c.in-Some-Write.name.now) = asked_by words _ (Some (Write c.in-Some-Write.name.now)) c.in-Ok.ensures.order (by_variant _ _ _ c.in-Some-Write.field-0-is c.in-Some-Write.ensures.is) in
     let P : Option Command → Type 0 = ReadsNothing in
     absurd (subst P wanted nothing)
-
-pub returns-in-Some-Write-clause-side : goal.returns-in-Some-Write-clause-side
-returns-in-Some-Write-clause-side g c = quiet g.W.Sink.leads c.args.side.now (views_in (map (λ w. w.now) c.args.words.now)) (((g.met.W.Sink g.world.𝓛 g.world.𝓜 g.world.𝓡 ((λ s x. x), (λ x. x), (λ x. x), λ x. x))).rests c.args.side.now)
 
 pub write-requires : goal.write-requires
 write-requires g c =
@@ -88,27 +84,6 @@ returns-in-Some-Check-clause-unasked g c = λ nothing.
     let wanted : asked_in words ≡ Some (Check (check_of c.in-Some-Check.asked)) = asked_by words _ (Some (Check (check_of c.in-Some-Check.asked))) c.in-Ok.ensures.order (by_variant _ _ _ c.in-Some-Check.field-0-is c.in-Some-Check.ensures.is) in
     let P : Option Command → Type 0 = ReadsNothing in
     absurd (subst P wanted nothing)
-
-pub returns-in-Err-Usage-clause-side : goal.returns-in-Err-Usage-clause-side
-returns-in-Err-Usage-clause-side g c = quiet g.W.Sink.leads c.args.side.now (views_in (map (λ w. w.now) c.args.words.now)) (((g.met.W.Sink g.world.𝓛 g.world.𝓜 g.world.𝓡 ((λ s x. x), (λ x. x), (λ x. x), λ x. x))).rests c.args.side.now)
-
-pub returns-in-Err-Memory-clause-side : goal.returns-in-Err-Memory-clause-side
-returns-in-Err-Memory-clause-side g c = quiet g.W.Sink.leads c.args.side.now (views_in (map (λ w. w.now) c.args.words.now)) (((g.met.W.Sink g.world.𝓛 g.world.𝓜 g.world.𝓡 ((λ s x. x), (λ x. x), (λ x. x), λ x. x))).rests c.args.side.now)
-
-pub returns-in-None-clause-side : goal.returns-in-None-clause-side
-returns-in-None-clause-side g c = quiet g.W.Sink.leads c.args.side.now (views_in (map (λ w. w.now) c.args.words.now)) (((g.met.W.Sink g.world.𝓛 g.world.𝓜 g.world.𝓡 ((λ s x. x), (λ x. x), (λ x. x), λ x. x))).rests c.args.side.now)
-
-pub returns-in-Some-Make-clause-side : goal.returns-in-Some-Make-clause-side
-returns-in-Some-Make-clause-side g c = quiet g.W.Sink.leads c.args.side.now (views_in (map (λ w. w.now) c.args.words.now)) (((g.met.W.Sink g.world.𝓛 g.world.𝓜 g.world.𝓡 ((λ s x. x), (λ x. x), (λ x. x), λ x. x))).rests c.args.side.now)
-
-pub returns-in-Some-Check-clause-side : goal.returns-in-Some-Check-clause-side
-returns-in-Some-Check-clause-side g c = quiet g.W.Sink.leads c.args.side.now (views_in (map (λ w. w.now) c.args.words.now)) (((g.met.W.Sink g.world.𝓛 g.world.𝓜 g.world.𝓡 ((λ s x. x), (λ x. x), (λ x. x), λ x. x))).rests c.args.side.now)
-
-pub returns-in-Some-Run-clause-side : goal.returns-in-Some-Run-clause-side
-returns-in-Some-Run-clause-side g c =
-    let words : List (List ℕ) = map (λ w. w.now) c.args.words.now in
-    let P : Option ℕ → Type 0 = λ o. SidePuts (λ puts. g.W.Sink.leads c.args.side.now puts c.list.new.side) o in
-    subst P (sym (views_by words _ _ _ c.in-Ok.ensures.order c.in-Some-Run.field-0-is c.in-Some-Run.ensures.views)) c.list.ensures.side
 
 pub list-requires-clause-name : goal.list-requires-clause-name
 list-requires-clause-name g c = λ κs outlives.

@@ -3,7 +3,7 @@ use Rattle.outside.specs.Counts.{Rose}
 use Rattle.outside.specs.Puts.{Put}
 use Rattle.engine.specs.Commands.{asked_of}
 use Rattle.engine.specs.Parts.{AnswersBeside}
-use Rattle.engine.proofs.Beside.{not_ok, quiet, reading_not_ok}
+use Rattle.engine.proofs.Beside.{not_ok, reading_not_ok}
 use Rattle.engine.proofs.Ends.{ends_reading}
 use Rattle.engine.proofs.Readings.{of_known}
 use Rattle.engine.proofs.Naming.{zones_still}
@@ -24,10 +24,7 @@ returns-in-Ok-clause-answers g c = λ start puts h.
 pub returns-in-Err-clause-answers : goal.returns-in-Err-clause-answers
 returns-in-Err-clause-answers g c = λ start puts h.
     let m = c.end_reading.ensures start puts h in
-    (m.0, m.1, λ words wanted watch files agree. not_ok words files (g.F.Folder.faults c.args.folder.now) _ _ _ c.end_reading.result m.0 (ends_reading words files (g.F.Folder.faults c.args.folder.now) _ (asked_of c.args.asked) wanted c.in-Err.fault c.end_reading.result m.0 (c.in-Err.ensures.reads files agree) c.in-Err.ensures.folder.counts m.2) (reading_not_ok c.in-Err.fault c.end_reading.result m.0 m.2))
-
-pub returns-in-Err-clause-side : goal.returns-in-Err-clause-side
-returns-in-Err-clause-side g c = quiet g.W.Sink.leads c.args.side.now c.args.asked.watch (((g.met.W.Sink g.world.𝓛 g.world.𝓜 g.world.𝓡 ((λ s x. x), (λ x. x), (λ x. x), λ x. x))).rests c.args.side.now)
+    (m.0, m.1, λ words wanted watch files agree. not_ok words files (g.F.Folder.faults c.args.folder.now) _ _ (λ puts. g.W.Sink.leads c.args.side.now puts c.args.side.now) c.end_reading.result m.0 (((g.met.W.Sink g.world.𝓛 g.world.𝓜 g.world.𝓡 ((λ s x. x), (λ x. x), (λ x. x), λ x. x))).rests c.args.side.now) (ends_reading words files (g.F.Folder.faults c.args.folder.now) _ (asked_of c.args.asked) wanted c.in-Err.fault c.end_reading.result m.0 (c.in-Err.ensures.reads files agree) c.in-Err.ensures.folder.counts m.2) (reading_not_ok c.in-Err.fault c.end_reading.result m.0 m.2))
 
 pub list_model-requires-clause-zones : goal.list_model-requires-clause-zones
 list_model-requires-clause-zones g c = λ κs outlives. zones_still _ _ (asked_of c.args.asked).zones c.in-Ok.ensures.folder.still c.requires.zones

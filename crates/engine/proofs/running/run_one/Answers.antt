@@ -69,3 +69,8 @@ pub returns-clause-watched : goal.returns-clause-watched
 returns-clause-watched g c = λ ok n views files agree.
     let r = c.answer.ensures.answers c.args.out.now [] (((g.met.K.Sink g.world.𝓛 g.world.𝓜 g.world.𝓡 ((λ s x. x), (λ x. x), (λ x. x), λ x. x))).rests c.args.out.now) in
     (r.2 (Some files) agree).watched ok n views
+
+pub returns-clause-side : goal.returns-clause-side
+returns-clause-side g c = λ files agree.
+    let r = c.answer.ensures.answers c.args.out.now [] (((g.met.K.Sink g.world.𝓛 g.world.𝓜 g.world.𝓡 ((λ s x. x), (λ x. x), (λ x. x), λ x. x))).rests c.args.out.now) in
+    (r.2 (Some files) agree).side

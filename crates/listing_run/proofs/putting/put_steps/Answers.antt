@@ -1,4 +1,4 @@
-use Rattle.std.proofs.Common.{rules, ◌≡◌, ◌+◌, ◌∷◌, [], ◌++◌, drop, List, Some, None, subst, sym, ◌∙◌, ap}
+use Rattle.std.proofs.Common.{rules, ◌≡◌, ◌+◌, ◌∷◌, [], ◌++◌, drop, List, Some, None, inl, inr, refl, subst, sym, ◌∙◌, ap}
 use Rattle.std.proofs.lemmas.List.{append-nil}
 use Rattle.outside.specs.Puts.{Put, taken}
 use Rattle.outside.specs.declared.traits.SinkError.TheVariants.{Write}
@@ -6,11 +6,10 @@ use Rattle.model_types.specs.declared.time_steps.TimeStep.{TimeStep}
 use Rattle.run_puts.proofs.Pieces.{joined, joined_thrice, put_was, lacks_at_first}
 use Rattle.listing_run.specs.declared.listing_end.ListingEnd.TheVariants.{Whole}
 use Rattle.listing_run.specs.Listing.{IsListingBeside, IsCutListing}
-use Rattle.listing_run.specs.Settlers.{rests}
 use Rattle.listing_run.specs.Steps.{EndsAt}
 use Rattle.listing_run.specs.Ends.{IsNextText, times_left}
 use Rattle.listing_run.proofs.Pieces.{ends_at_piece, ends_wanting, ends_with_line, under_way_at_first, under_way_more}
-use Rattle.listing_run.proofs.Settled.{all_settled, none_settled, one_more_settled, reaches_more}
+use Rattle.listing_run.proofs.Settled.{all_settled, none_settled, one_more_settled, reaches_more, reaches_so_far}
 use Rattle.listing_run.proofs.Stopping.{beside, end_not_ok, ends_stopped, put_not_ok, stop_end_not_ok, wanting_not_ok}
 use Rattle.listing_run.proofs.putting.put_steps.Goals as goal
 
@@ -20,7 +19,7 @@ returns-in_default-clause-puts g c = λ start puts h.
     (m.0, m.1, lacks_at_first (IsListingBeside (g.S.StepSettler.stop c.args.settler.now ≡ Some Write) c.args.task.now) (IsCutListing c.args.task.now) c.put_memory.result m.0 m.2, λ e. absurd (wanting_not_ok c.put_memory.result m.0 m.2 e))
 
 pub returns-in_default-clause-reaches : goal.returns-in_default-clause-reaches
-returns-in_default-clause-reaches g c = rests
+returns-in_default-clause-reaches g c = inl refl
 
 pub returns-in_default-write_first-clause-puts : goal.returns-in_default-write_first-clause-puts
 returns-in_default-write_first-clause-puts g c = λ start puts h.
@@ -28,7 +27,7 @@ returns-in_default-write_first-clause-puts g c = λ start puts h.
     (m.0, m.1, lacks_at_first (IsListingBeside (g.S.StepSettler.stop c.args.settler.now ≡ Some Write) c.args.task.now) (IsCutListing c.args.task.now) c.put_memory-in_default-write_first.result m.0 m.2, λ e. absurd (wanting_not_ok c.put_memory-in_default-write_first.result m.0 m.2 e))
 
 pub returns-in_default-write_first-clause-reaches : goal.returns-in_default-write_first-clause-reaches
-returns-in_default-write_first-clause-reaches g c = rests
+returns-in_default-write_first-clause-reaches g c = inl refl
 
 pub loop-at-init : goal.loop-at-init
 loop-at-init g c = record {
@@ -39,7 +38,6 @@ loop-at-init g c = record {
       let L : List Put → Type 0 = λ s. g.K.Sink.leads start s c.args.out.now in
       ([], subst L (sym (append-nil puts)) h, under_way_at_first c.args.task.now c.in-Ok.steps c.in-Ok-write_first.pending.items c.in-Ok-write_first.ensures c.in-Ok.ensures.walk c.in-Ok.ensures.first);
   goes_on = c.requires.goes_on;
-  reaches = rests;
   settled = none_settled g.S.StepSettler.begins g.S.Settler.leads g.S.StepSettler.stop c.args.task.now c.in-Ok.steps c.args.settler.now c.in-Ok.ensures.walk c.in-Ok.ensures.first;
 }
 
@@ -55,7 +53,7 @@ returns-in-Some-put-clause-puts g c = λ start puts h.
     )
 
 pub returns-in-Some-put-clause-reaches : goal.returns-in-Some-put-clause-reaches
-returns-in-Some-put-clause-reaches g c = reaches_more g.S.StepSettler.begins g.S.Settler.leads g.S.StepSettler.stop (λ t. t.items) c.args.task.now c.loop-at.steps c.put_while_solving-put.new.steps c.in-Some.at c.args.settler.now c.loop-at.settler c.begin_step.new.settler c.put_while_solving-put.new.settler c.put_while_solving-put.result.1 c.loop-at.invariant.reaches c.loop-at.invariant.goes_on c.begin_step.ensures.begins c.put_while_solving-put.ensures.next c.put_while_solving-put.ensures.led
+returns-in-Some-put-clause-reaches g c = inr (reaches_more g.S.StepSettler.begins g.S.Settler.leads g.S.StepSettler.stop c.args.task.now (λ t. t.items) c.loop-at.steps c.put_while_solving-put.new.steps c.in-Some.at (drop (c.loop-at.steps.done + 1) c.loop-at.steps.times) c.args.settler.now c.loop-at.settler c.begin_step.new.settler c.put_while_solving-put.new.settler c.put_while_solving-put.result.1 c.in-Some.ensures.left c.loop-at.invariant.settled c.begin_step.ensures.begins c.put_while_solving-put.ensures.next c.put_while_solving-put.ensures.led)
 
 pub returns-in-Some-stop-clause-puts : goal.returns-in-Some-stop-clause-puts
 returns-in-Some-stop-clause-puts g c = λ start puts h.
@@ -70,7 +68,7 @@ returns-in-Some-stop-clause-puts g c = λ start puts h.
     )
 
 pub returns-in-Some-stop-clause-reaches : goal.returns-in-Some-stop-clause-reaches
-returns-in-Some-stop-clause-reaches g c = reaches_more g.S.StepSettler.begins g.S.Settler.leads g.S.StepSettler.stop (λ t. t.items) c.args.task.now c.loop-at.steps c.put_while_solving-put.new.steps c.in-Some.at c.args.settler.now c.loop-at.settler c.begin_step.new.settler c.put_while_solving-put.new.settler c.put_while_solving-put.result.1 c.loop-at.invariant.reaches c.loop-at.invariant.goes_on c.begin_step.ensures.begins c.put_while_solving-put.ensures.next c.put_while_solving-put.ensures.led
+returns-in-Some-stop-clause-reaches g c = inr (reaches_more g.S.StepSettler.begins g.S.Settler.leads g.S.StepSettler.stop c.args.task.now (λ t. t.items) c.loop-at.steps c.put_while_solving-put.new.steps c.in-Some.at (drop (c.loop-at.steps.done + 1) c.loop-at.steps.times) c.args.settler.now c.loop-at.settler c.begin_step.new.settler c.put_while_solving-put.new.settler c.put_while_solving-put.result.1 c.in-Some.ensures.left c.loop-at.invariant.settled c.begin_step.ensures.begins c.put_while_solving-put.ensures.next c.put_while_solving-put.ensures.led)
 
 pub loop-at-preserved : goal.loop-at-preserved
 loop-at-preserved g c =
@@ -88,7 +86,6 @@ loop-at-preserved g c =
             under_way_more c.args.task.now g.S.Settler.leads c.loop-at.steps c.put_while_solving-put.new.steps c.begin_step.new.settler c.put_while_solving-put.new.settler c.loop-at.pending.items c.in-Ok-next.text.items i.0 p.0 i.2 was next,
           );
       goes_on = sym c.stop.ensures ∙ c.in_default-stop.is;
-      reaches = reaches_more g.S.StepSettler.begins g.S.Settler.leads g.S.StepSettler.stop (λ t. t.items) c.args.task.now c.loop-at.steps c.put_while_solving-put.new.steps c.in-Some.at c.args.settler.now c.loop-at.settler c.begin_step.new.settler c.put_while_solving-put.new.settler c.put_while_solving-put.result.1 c.loop-at.invariant.reaches c.loop-at.invariant.goes_on c.begin_step.ensures.begins c.put_while_solving-put.ensures.next c.put_while_solving-put.ensures.led;
       settled = one_more_settled g.S.StepSettler.begins g.S.Settler.leads g.S.StepSettler.stop c.args.task.now c.args.settler.now c.loop-at.settler c.begin_step.new.settler c.put_while_solving-put.new.settler c.loop-at.steps c.put_while_solving-put.new.steps c.in-Some.at (drop (c.loop-at.steps.done + 1) c.loop-at.steps.times) c.in-Ok-next.text.items c.in-Some.ensures.left c.loop-at.invariant.settled c.begin_step.ensures.begins next (sym c.stop.ensures ∙ c.in_default-stop.is);
     }
 
@@ -106,7 +103,7 @@ returns-in-Err-End-clause-puts g c = λ start puts h.
     )
 
 pub returns-in-Err-End-clause-reaches : goal.returns-in-Err-End-clause-reaches
-returns-in-Err-End-clause-reaches g c = reaches_more g.S.StepSettler.begins g.S.Settler.leads g.S.StepSettler.stop (λ t. t.items) c.args.task.now c.loop-at.steps c.put_while_solving-put.new.steps c.in-Some.at c.args.settler.now c.loop-at.settler c.begin_step.new.settler c.put_while_solving-put.new.settler c.put_while_solving-put.result.1 c.loop-at.invariant.reaches c.loop-at.invariant.goes_on c.begin_step.ensures.begins c.put_while_solving-put.ensures.next c.put_while_solving-put.ensures.led
+returns-in-Err-End-clause-reaches g c = inr (reaches_more g.S.StepSettler.begins g.S.Settler.leads g.S.StepSettler.stop c.args.task.now (λ t. t.items) c.loop-at.steps c.put_while_solving-put.new.steps c.in-Some.at (drop (c.loop-at.steps.done + 1) c.loop-at.steps.times) c.args.settler.now c.loop-at.settler c.begin_step.new.settler c.put_while_solving-put.new.settler c.put_while_solving-put.result.1 c.in-Some.ensures.left c.loop-at.invariant.settled c.begin_step.ensures.begins c.put_while_solving-put.ensures.next c.put_while_solving-put.ensures.led)
 
 pub returns-in-Err-Memory-clause-puts : goal.returns-in-Err-Memory-clause-puts
 returns-in-Err-Memory-clause-puts g c = λ start puts h.
@@ -121,7 +118,7 @@ returns-in-Err-Memory-clause-puts g c = λ start puts h.
     )
 
 pub returns-in-Err-Memory-clause-reaches : goal.returns-in-Err-Memory-clause-reaches
-returns-in-Err-Memory-clause-reaches g c = reaches_more g.S.StepSettler.begins g.S.Settler.leads g.S.StepSettler.stop (λ t. t.items) c.args.task.now c.loop-at.steps c.put_while_solving-put.new.steps c.in-Some.at c.args.settler.now c.loop-at.settler c.begin_step.new.settler c.put_while_solving-put.new.settler c.put_while_solving-put.result.1 c.loop-at.invariant.reaches c.loop-at.invariant.goes_on c.begin_step.ensures.begins c.put_while_solving-put.ensures.next c.put_while_solving-put.ensures.led
+returns-in-Err-Memory-clause-reaches g c = inr (reaches_more g.S.StepSettler.begins g.S.Settler.leads g.S.StepSettler.stop c.args.task.now (λ t. t.items) c.loop-at.steps c.put_while_solving-put.new.steps c.in-Some.at (drop (c.loop-at.steps.done + 1) c.loop-at.steps.times) c.args.settler.now c.loop-at.settler c.begin_step.new.settler c.put_while_solving-put.new.settler c.put_while_solving-put.result.1 c.in-Some.ensures.left c.loop-at.invariant.settled c.begin_step.ensures.begins c.put_while_solving-put.ensures.next c.put_while_solving-put.ensures.led)
 
 pub returns-in-Some-put_piece-clause-puts : goal.returns-in-Some-put_piece-clause-puts
 returns-in-Some-put_piece-clause-puts g c = λ start puts h.
@@ -149,3 +146,9 @@ returns-clause-puts g c = λ start puts h.
       beside _ k c.put_end-2.result (i.0 ++ p.0 ++ m.0) (ends_with_line k s c.loop-at.pending.items i.0 p.0 c.put_end-2.result i.2 m.0 Whole was (subst E (sym none) tt) m.2),
       λ e. all_settled g.S.StepSettler.begins g.S.Settler.leads g.S.StepSettler.stop k c.args.settler.now c.loop-at.settler s none c.loop-at.invariant.settled,
     )
+
+pub returns-in-Some-put_piece-clause-reaches : goal.returns-in-Some-put_piece-clause-reaches
+returns-in-Some-put_piece-clause-reaches g c = inr (reaches_so_far g.S.StepSettler.begins g.S.Settler.leads g.S.StepSettler.stop c.args.task.now c.args.settler.now c.loop-at.settler c.loop-at.steps c.loop-at.invariant.settled)
+
+pub returns-clause-reaches : goal.returns-clause-reaches
+returns-clause-reaches g c = inr (reaches_so_far g.S.StepSettler.begins g.S.Settler.leads g.S.StepSettler.stop c.args.task.now c.args.settler.now c.loop-at.settler c.loop-at.steps c.loop-at.invariant.settled)

@@ -1,6 +1,5 @@
 use Rattle.std.proofs.Common.{◌≡◌, List, ◌++◌, None, length}
 use Rattle.outside.specs.Puts.{Put}
-use Rattle.listing_run.specs.Settlers.{Reaches}
 use Rattle.listing_run.specs.Ends.{IsWalk, times_left}
 use Rattle.listing_run.proofs.Pieces.{IsUnderWay}
 use Rattle.listing_run.proofs.Settled.{AreSettledSoFar}
@@ -13,7 +12,6 @@ invariant-loop-at g l = record {
   walk : IsWalk l.task l.steps;
   puts : (start : _) (puts : List Put) → g.K.Sink.leads start puts l.fn.out → (more : List Put) × g.K.Sink.leads start (puts ++ more) l.out × IsUnderWay l.task l.steps l.pending.items more;
   goes_on : g.S.StepSettler.stop l.settler ≡ None;
-  reaches : Reaches g.S.StepSettler.begins g.S.Settler.leads g.S.StepSettler.stop l.fn.settler l.settler;
   settled : AreSettledSoFar g.S.StepSettler.begins g.S.Settler.leads g.S.StepSettler.stop l.task l.fn.settler l.steps l.settler;
 }
 

@@ -25,16 +25,15 @@ returns-in_err-zones-in-Ok-budget-clause-stop g c =
     rw (p.1, p.2) (flows_stop c.args.task.now _ c.args.at c.args.old.now c.requires.tables.digits c.in-Ok.solved c.in-Ok.ensures.step c.as_slice.result.now c.as_slice.ensures c.in-Ok-budget.budget c.in-Ok-budget.ensures.budget c.in_err-zones-in-Ok-budget.field-0.0 c.in_err-zones-in-Ok-budget.ensures.stop)
 
 pub returns-in-Err-clause-led : goal.returns-in-Err-clause-led
-returns-in-Err-clause-led g c = rests_or_settles g.S.Settler.leads c.args.task.now _ c.args.at c.args.old.now _ _ c.in-Err.ensures.leads
+returns-in-Err-clause-led g c = rests_or_settles c.args.task.now _ c.args.at c.args.old.now c.requires.tables.digits g.S.Settler.leads _ _ c.in-Err.ensures.leads
 
 pub returns-in-Err-budget-clause-led : goal.returns-in-Err-budget-clause-led
-returns-in-Err-budget-clause-led g c = let l = c.in-Ok.ensures.leads in inr (c.in-Ok.solved.problem, l.barrier, true, l.led)
+returns-in-Err-budget-clause-led g c = inr (true, settles c.args.task.now _ c.args.at c.args.old.now c.requires.tables.digits g.S.Settler.leads _ _ true c.in-Ok.solved.problem c.in-Ok.ensures.step.posed.problem c.in-Ok.ensures.leads)
 
 pub returns-in_err-zones-in-Ok-budget-clause-led : goal.returns-in_err-zones-in-Ok-budget-clause-led
 returns-in_err-zones-in-Ok-budget-clause-led g c =
-    let l = c.in-Ok.ensures.leads in
     let p = err_from_is_err_and c.from_residual.result c.from_residual.ensures.1 in
-    rw p.1 (inr (c.in-Ok.solved.problem, l.barrier, true, l.led))
+    rw p.1 (inr (true, settles c.args.task.now _ c.args.at c.args.old.now c.requires.tables.digits g.S.Settler.leads _ _ true c.in-Ok.solved.problem c.in-Ok.ensures.step.posed.problem c.in-Ok.ensures.leads))
 
 pub returns-in_ok-zones-in-Ok-budget-clause-led : goal.returns-in_ok-zones-in-Ok-budget-clause-led
-returns-in_ok-zones-in-Ok-budget-clause-led g c = settles c.args.task.now _ c.args.at c.args.old.now c.requires.tables.digits c.one_barrier.ensures g.S.Settler.leads _ _ c.in-Ok.solved c.recall_conditions.ensures.fits c.in-Ok.ensures.step c.in-Ok.ensures.encloses c.in-Ok.ensures.leads
+returns-in_ok-zones-in-Ok-budget-clause-led g c = settles c.args.task.now _ c.args.at c.args.old.now c.requires.tables.digits g.S.Settler.leads _ _ true c.in-Ok.solved.problem c.in-Ok.ensures.step.posed.problem c.in-Ok.ensures.leads

@@ -1,9 +1,9 @@
-use Rattle.std.proofs.Common.{List, ◌+◌, ◌∷◌, Contains, arith, drop, refl, subst, sym}
+use Rattle.std.proofs.Common.{List, ◌+◌, ◌∷◌, Contains, arith, drop, refl, subst, sym, true}
 use Rattle.step_problem.specs.declared.heads.Bound.{Bound}
 use Rattle.model_types.specs.declared.time_steps.TimeStep.{TimeStep}
 use Rattle.listing_run.specs.Bounding.{BoundsMoves}
 use Rattle.listing_run.specs.Ends.{StopsAt}
-use Rattle.listing_run.specs.Settlers.{IsSettledBy}
+use Rattle.listing_run.specs.Settlers.{IsSettledBy, RestsOrSettles, RestsOrSettlesFirst}
 use Rattle.listing_run.specs.Steps.{IsStep}
 use Rattle.listing_run.proofs.steps.Steps.next.Goals as goal
 
@@ -18,7 +18,7 @@ returns-in-Ok-clause-next g c =
     let at = c.in-Some.at in
     let I : List Bound → Type 0 = λ old. IsStep k at old c.in-Ok.step in
     let B : List Bound → Type 0 = λ old. BoundsMoves k at old c.in-Ok.step in
-    let L : List Bound → Type 0 = λ old. IsSettledBy g.S.Settler.leads k at old c.args.settler.now c.solve.new.settler in
+    let L : List Bound → Type 0 = λ old. IsSettledBy g.S.Settler.leads k at old true c.args.settler.now c.solve.new.settler in
     let within = c.in-Some.ensures.place.0 in
     record {
       at = at;
@@ -37,3 +37,9 @@ returns-in-Err-clause-stop g c =
     let H : List Bound → Type 0 = λ old. StopsAt c.args.task.now old (c.in-Some.at ∷ drop (c.args.self.now.done + 1) c.args.self.now.times) c.in-Err.stop in
     let T : List TimeStep → Type 0 = λ times. StopsAt c.args.task.now c.args.self.now.heads times c.in-Err.stop in
     subst T (sym c.in-Some.ensures.left) (subst H c.as_slice.ensures (c.in-Err.ensures.stop (drop (c.args.self.now.done + 1) c.args.self.now.times)))
+
+pub returns-in-Err-clause-led : goal.returns-in-Err-clause-led
+returns-in-Err-clause-led g c =
+    let H : List Bound → Type 0 = λ old. RestsOrSettles g.S.Settler.leads c.args.task.now c.in-Some.at old c.args.settler.now c.solve.new.settler in
+    let T : List TimeStep → Type 0 = λ times. RestsOrSettlesFirst g.S.Settler.leads c.args.task.now times c.args.self.now.heads c.args.settler.now c.solve.new.settler in
+    subst T (sym c.in-Some.ensures.left) (subst H c.as_slice.ensures c.in-Err.ensures.led)
