@@ -47,6 +47,7 @@ def twice(value):
     return value, value
 
 
+SHEET = ["INTERNAL 1 (FREE) -1"]
 FLOW_5 = twice("5.000000000000000000000")
 THIRD = "3.333333333000000000000", "3.333333334000000000000"
 
@@ -55,6 +56,13 @@ THREE_CELLS = deck()
 THREE_CELLS_STEP = step(1, [twice("10.000000000"), twice("15.000000000"), twice("20.000000000")],
                         {"CONSTANT HEAD": FLOW_5}, {"CONSTANT HEAD": FLOW_5})
 THREE_CELLS_PUTS = [FIRST, THREE_CELLS_STEP, LAST]
+
+# The same deck in one spelling.
+THREE_CELLS_WRITTEN = text(
+    "FILE p.nam", "DIS 11 p.dis", "BAS6 12 p.bas", "LPF 13 p.lpf",
+    "FILE p.dis", "1 1 3 1 0 2", "0", *SHEET, "1E0 1E0 1E0", *SHEET, "1E0", *SHEET, "1E0 1E0 1E0", *SHEET, "0E0 0E0 0E0", "1E0 1 1E0 SS",
+    "FILE p.bas", "FREE", *SHEET, "-1 1 -1", "0", *SHEET, "1E1 0E0 2E1",
+    "FILE p.lpf", "0 0 0", "0", "0", "-1", "0", "0", *[*SHEET, "1E0 1E0 1E0"] * 3, "END")
 
 # The same with zone 1 at the first cell, and zone 2 at the others: 5 units flow from zone 2 to zone 1.
 ZONES = THREE_CELLS | {"z.txt": text("INTERNAL 1 (FREE) -1", "1 2 2")}
@@ -106,6 +114,7 @@ COMMANDS = [
     RUN,
     Command("check a.nam l.txt", reading_order("a.nam", "a.dis", "a.bas", "a.lpf", "l.txt"), [text("CERTIFIED")]),
     Command("make 1 1", {}, [MADE]),
+    Command("write a.nam", reading_order("a.nam", "a.dis", "a.bas", "a.lpf"), [THREE_CELLS_WRITTEN]),
     Command("run a.nam --zones z.txt", reading_order("a.nam", "a.dis", "a.bas", "a.lpf", "z.txt"), ZONES_PUTS),
     Command("batch list.txt", reading_order("list.txt", "a.nam", "a.dis", "a.bas", "a.lpf"), [text("MODEL a.nam") + b"".join(THREE_CELLS_PUTS), LAST]),
     Command("run a.nam --watch 2", reading_order("a.nam", "a.dis", "a.bas", "a.lpf"), THREE_CELLS_PUTS, side=rb"(?:(?:%s){2})+" % VIEW),
