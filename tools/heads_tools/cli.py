@@ -90,7 +90,7 @@ def parser() -> argparse.ArgumentParser:
     s.add_argument("--most", type=int, default=12, help="the reasons of a kind to show (12)")
     add(
         "plain",
-        "rewrite the deck in the spelling that heads reads, with notes",
+        "the deck in the one spelling of heads write, or rewritten so that heads reads it, with notes",
         nam,
         ("folder", "the folder to write into"),
     )

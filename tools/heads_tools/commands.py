@@ -103,7 +103,7 @@ def do_plain(args: argparse.Namespace, _: list[str]) -> int:
     written = plain(existing(args.nam), args.folder)
     lines = written.notes()
     say([f"  {line}" for line in lines[:20]] + ([f"  and {len(lines) - 20} more"] if len(lines) > 20 else []))
-    say([f"written: {args.folder / args.nam.name}; each change stands in {args.folder / 'plain.txt'}"])
+    say([f"written: {written.path}; each change stands in {args.folder / 'plain.txt'}"])
     if written.refused:
         say(["the program refuses it all the same:", *("  " + line for line in written.refused)])
     return 1 if written.refused else 0

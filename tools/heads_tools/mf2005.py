@@ -103,12 +103,13 @@ def simulate(nam: Path, options: list[str]) -> tuple[Ended, Path, Model]:
         return ended, target, read_model(nam) if ended.status == 0 else None
     with tempfile.TemporaryDirectory() as folder:
         try:
-            if plain(nam, Path(folder)).refused:
+            written = plain(nam, Path(folder))
+            if written.refused:
                 return ended, target, None
         except Problem:
             return ended, target, None
-        again = run(Path(folder) / nam.name, options, target, is_told=False)
-        return again, target, read_model(Path(folder) / nam.name) if again.status == 0 else None
+        again = run(written.path, options, target, is_told=False)
+        return again, target, read_model(written.path) if again.status == 0 else None
 
 
 def mf2005(words: list[str]) -> int:

@@ -90,9 +90,6 @@ class Reader:
     def need(self, text: str) -> None:
         self.report.add("needed", self.at.name, self.at.at, text)
 
-    def change(self, text: str) -> None:
-        self.report.add("changes", self.at.name, self.at.at, text)
-
     def warn(self, text: str) -> None:
         self.report.add("warnings", self.at.name, self.at.at, text)
 
@@ -147,10 +144,8 @@ class Reader:
         deck.files[kind], deck.units[w[1]] = w[2], w[2]
         if "'" in line or '"' in line:
             self.need("quotes taken out")
-        if plain_name(w[2]) != w[2]:
-            (self.need if re.search(r"[^\x21-\x7e]|:", w[2]) else self.change)(
-                f"`{w[2]}` written as {plain_name(w[2])}"
-            )
+        if re.search(r"[^\x21-\x7e]|:", w[2]):
+            self.need(f"`{w[2]}` written as {plain_name(w[2])}")
         deck.name_lines.append(f"{kind} {w[1]} {plain_name(w[2])}")
 
     def open(self, name: str) -> Source:
@@ -278,8 +273,6 @@ class Reader:
         factor, count = source.number(factor), shape[1]
         data.due = source.due
         is_free = fortran(text) is None
-        if kind == "OPEN/CLOSE":
-            self.change(f"array of {data.name} put in place")
         if kind == "EXTERNAL":
             self.need(f"EXTERNAL: array of {data.name} put in place")
         if text.upper() != "(FREE)":

@@ -1,5 +1,5 @@
-"""plain: writes a deck in the spelling that `heads` reads. Each number keeps its value, but where a note says
-`rounded`."""
+"""plain: writes a deck in a spelling that `heads` reads: the one of `heads write` where the deck is read as it is, else
+as few changes as it takes. Each number keeps its value, but where a note says `rounded`."""
 from __future__ import annotations
 
 from dataclasses import dataclass
@@ -8,26 +8,34 @@ from pathlib import Path
 from .deck import KINDS, Deck, Entry
 from .explain import explain
 from .packages import EVT_ARRAYS, plain_name, read_deck
-from .program import read_alone
+from .program import one_spelling, read_alone
 from .sources import Report
 from .text import Problem, whole_file
 
 
+NOT_CHANGED = "nothing but layout was changed"
+AS_READ = (
+    "nothing had to be changed: these are the files of `heads write`, the model that the program reads from the deck, in"
+    " one spelling"
+)
+
+
 @dataclass
 class Written:
-    """A deck that was written: the report of its reading, and what the program says of it where it refuses it."""
+    """A deck that was written: its name file, what there is to say where nothing had to be changed, the report of its
+    reading, and what the program says of it where it refuses it."""
 
+    path: Path
+    unchanged: str
     report: Report
     refused: list[str]
 
     def notes(self) -> list[str]:
         """Each change in a line, and why the program refuses the deck all the same."""
-        changes = [str(r) for r in self.report.needed + self.report.changes]
-        warnings = [f"CAREFUL: {r}" for r in self.report.warnings]
-        nothing = [] if self.refused else ["nothing but layout was changed"]
+        unchanged = [] if self.refused else [self.unchanged]
         return (
-            (changes or nothing)
-            + warnings
+            ([str(r) for r in self.report.needed] or unchanged)
+            + [f"CAREFUL: {r}" for r in self.report.warnings]
             + ["REFUSED ALL THE SAME: " + "\n  ".join(self.refused)] * bool(self.refused)
         )
 
@@ -42,8 +50,14 @@ def plain(nam: Path, folder: Path) -> Written:
         raise Problem(f"{wrong[0]}{more}")
     if folder.resolve() == nam.resolve().parent:
         raise Problem("the plain deck goes into another folder than the deck's own")
-    write_deck(deck, folder)
-    written = Written(report, refused(folder / deck.path.name))
+    files = {} if report.needed else one_spelling(nam.resolve())
+    for name, content in files.items():
+        with whole_file(folder / name, binary=True) as file:
+            file.write(content)
+    if not files:
+        write_deck(deck, folder)
+    path = folder / ("p.nam" if files else deck.path.name)
+    written = Written(path, AS_READ if files else NOT_CHANGED, report, refused(path))
     with whole_file(folder / "plain.txt") as file:
         file.write("\n".join(written.notes()) + "\n")
     return written

@@ -4,6 +4,7 @@ from __future__ import annotations
 import functools
 import hashlib
 import os
+import re
 import shutil
 import subprocess
 import sys
@@ -19,6 +20,7 @@ from .text import Problem, whole_file
 TOP = Path(__file__).resolve().parents[2]
 BIN = Path(__file__).resolve().parent / "bin"
 DEFAULT_DIGITS = 12
+MOST_BYTES = 1 << 26
 
 
 def beside(name: str) -> Path | None:
@@ -127,6 +129,25 @@ def read_alone(nam: Path) -> str | None:
     listing."""
     ended = call(["check", nam.name, nam.name], nam.parent)
     return None if ended.last.startswith("REFUSED 20 ") else ended.last
+
+
+def files_of(text: bytes) -> dict[str, bytes]:
+    """The files of a deck by their names, out of what `heads write` put: the name file is p.nam. None where that is no
+    whole deck, or one that can't be read again, since a file is too long or an IBOUND has 19 digits."""
+    _, *parts = re.split(rb"^FILE (p\.[a-z]+)\n", text.removesuffix(b"END\n"), flags=re.M)
+    files = {name.decode(): content for name, content in zip(parts[::2], parts[1::2])}
+    is_whole, is_long = text.endswith(b"\nEND\n"), any(len(content) > MOST_BYTES for content in files.values())
+    return files if is_whole and not is_long and not re.search(rb"\d{19}", text) else {}
+
+
+def one_spelling(nam: Path) -> dict[str, bytes]:
+    """The files of the model's deck as `heads write` puts them; none where the program isn't here, has no such command
+    or refuses the deck."""
+    try:
+        done = subprocess.run([program(), "write", nam.name], cwd=nam.parent, stdout=subprocess.PIPE)
+    except Problem:
+        return {}
+    return files_of(done.stdout)
 
 
 def has_steps(path: Path) -> bool:

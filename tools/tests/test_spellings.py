@@ -16,11 +16,15 @@ def same_model(a, b):
     assert np.allclose(storage(a), storage(b), rtol=1e-12)
     assert set(a.deck.lists) == set(b.deck.lists) and set(a.deck.areal) == set(b.deck.areal)
     for kind, periods in a.deck.lists.items():
-        for ours, theirs in zip(periods, b.deck.lists[kind]):
-            assert (ours is None) == (theirs is None)
-            assert [(e.cell, [float(w) for w in e.words]) for e in ours or []] == [
-                (e.cell, [float(w) for w in e.words]) for e in theirs or []
-            ]
+        assert entries(periods) == entries(b.deck.lists[kind])
+
+
+def entries(periods):
+    """The entries of each period; None stands for those of the period before."""
+    out = []
+    for now in periods:
+        out.append(out[-1] if now is None else [(e.cell, [float(w) for w in e.words]) for e in now])
+    return out
 
 
 def test_there_are_as_many_spellings_as_promised():
@@ -44,9 +48,40 @@ def test_plain_writes_the_same_model(name, tmp_path, tool):
     nam = spelled.write(tmp_path / "other", name)
     status, out, err = tool("plain", nam, tmp_path / "out")
     assert status == 0, err
-    same_model(read_model(spelled.write(tmp_path / "plain", "as it is")), read_model(tmp_path / "out" / "m.nam"))
-    assert not read_deck(tmp_path / "out" / "m.nam")[1].needed
+    (written,) = (tmp_path / "out").glob("*.nam")
+    same_model(read_model(spelled.write(tmp_path / "plain", "as it is")), read_model(written))
+    assert not read_deck(written)[1].needed and f"written: {written}" in out
     assert (tmp_path / "out" / "plain.txt").read_text().strip()
+
+
+@pytest.mark.program
+@pytest.mark.parametrize("name", INSIDE)
+def test_plain_takes_what_heads_writes_where_the_deck_is_read_as_it_is(name, tmp_path, tool):
+    nam = spelled.write(tmp_path / "deck", name)
+    out = tmp_path / "out"
+    status, said, err = tool("plain", nam, out)
+    assert status == 0, err
+    if WANTED[name] == "plain":
+        assert (out / "m.nam").is_file() and not (out / "p.nam").exists()
+        return
+    text = heads(["write", nam.name], nam.parent).stdout
+    files = [line[5:] for line in text.split("\n") if line.startswith("FILE ")]
+    assert text == "".join(f"FILE {file}\n{(out / file).read_text()}" for file in files) + "END\n"
+    assert sorted(file.name for file in out.iterdir()) == sorted([*files, "plain.txt"])
+    assert (out / "plain.txt").read_text().startswith("nothing had to be changed: these are the files of `heads write`")
+    runs = [heads(["run", deck.name], deck.parent) for deck in (nam, out / "p.nam")]
+    assert runs[0].returncode == 0 and runs[0].stdout == runs[1].stdout
+
+
+def test_files_are_cut_out_of_a_whole_deck_that_can_be_read_again(monkeypatch):
+    from heads_tools import program
+
+    text = b"FILE p.nam\nDIS 11 p.dis\nFILE p.dis\n1 1 1\nEND\n"
+    assert program.files_of(text) == {"p.nam": b"DIS 11 p.dis\n", "p.dis": b"1 1 1\n"}
+    assert not any(map(program.files_of, (b"", b"END\n", b"REFUSED 1 MissingFile m.nam 0\n", text[:-4], text[:-1])))
+    assert not program.files_of(text.replace(b"1 1 1", b"1 -9000000000000000000 1"))
+    monkeypatch.setattr(program, "MOST_BYTES", 12)
+    assert not program.files_of(text)
 
 
 @pytest.mark.parametrize("name", ALL)
