@@ -19,7 +19,7 @@ from .explain import explain
 from .listing import Listing, read_listing
 from .look import look, title_of
 from .model import Model, read_model
-from .program import TOP, Ended, Version, beside, digits_of, sha256, version
+from .program import TOP, Ended, Version, beside, digits_of, files_of, sha256, version
 from .spelling import quoted_words
 from .text import Problem, decimal_text, on_disk, read_text, whole_file, words
 from .verdict import Verdict, has_zones, program_file
@@ -42,6 +42,11 @@ NOT_THE_GROUND = "The head in the aquifer lies between these numbers."
 WHY_NOT = (
     "The listing speaks of the equations of these files. "
     "It says nothing of the ground, nor of the heads that MODFLOW prints."
+)
+ONE_SPELLING = (
+    "The folder written has the model that `heads` read from the folder deck, in one plain spelling, as `heads write` "
+    "puts it. It is proved that its files are read as that model: whoever reads them item by item beside MODFLOW's input "
+    "instructions need not believe how `heads` reads the spelling of the deck."
 )
 NOTHING = "Nothing may be said of this model's heads from this run."
 MOST_RECHECK_HEADS = 200_000
@@ -124,6 +129,7 @@ def fill(folder: Path, name: str, options: list[str], known: Version) -> tuple[i
     if meaning.is_good:
         status = add_verdicts(told, folder, name, listing, options, known)
         told.commands.append(f"({deck}) | cmp - {shlex.quote(listing)} && echo SAME")
+        add_written(told, folder, name, listing, options)
     else:
         told.facts += [("meaning", line.strip()) for line in meaning.lines]
     told.commands.insert(0, "sha256sum -c SHA256SUMS")
@@ -159,6 +165,28 @@ def add_verdicts(told: Exhibit, folder: Path, name: str, listing: str, options: 
     zones = read_zones(on_disk(deck, named[0]), deck / name, model.shape) if named else None
     look(read, folder / "look", model, verdict=verdict, zones=zones)
     return checked.status
+
+
+def add_written(told: Exhibit, folder: Path, name: str, listing: str, options: list[str]) -> None:
+    """The deck in one spelling, where the program has the command: as one text, and its files in a folder of their
+    own, whose run has to give the same listing."""
+    write = f"(cd deck && ../heads write {shlex.quote(name)})"
+    shell(folder, f"{write} > written.txt")
+    files = files_of((folder / "written.txt").read_bytes())
+    if not files:
+        (folder / "written.txt").unlink()
+        told.facts.append(("written", "not done: this program doesn't write the deck so that it can be read again"))
+        return
+    (folder / "written").mkdir()
+    for file, content in files.items():
+        (folder / "written" / file).write_bytes(content)
+    for file in zone_file(options):
+        target = on_disk(folder / "written", file)
+        target.parent.mkdir(parents=True, exist_ok=True)
+        shutil.copyfile(on_disk(folder / "deck", file), target)
+    run = f"(cd written && ../heads run {shlex.join(['p.nam', *options])})"
+    told.commands += [f"{write} | cmp - written.txt && echo SAME", f"{run} | cmp - {shlex.quote(listing)} && echo SAME"]
+    told.facts.append(("written", ONE_SPELLING))
 
 
 def what_may_be_said(listing: Listing, model: Model) -> list[str]:

@@ -19,7 +19,7 @@ def answers(folder):
 
 @pytest.mark.program
 @pytest.mark.parametrize(
-    "name, options, count", [("tide", [], 4), ("river_valley", ["--zones", "m.zon", "--digits", "9"], 5)]
+    "name, options, count", [("tide", [], 6), ("river_valley", ["--zones", "m.zon", "--digits", "9"], 7)]
 )
 def test_the_printed_commands_run_as_they_stand(name, options, count, example, tool, tmp_path):
     folder = tmp_path / "an exhibit"
@@ -28,8 +28,9 @@ def test_the_printed_commands_run_as_they_stand(name, options, count, example, t
     told = list(answers(folder))
     assert len(told) == count and all(code == 0 for _, code, _ in told), told
     said = "".join(text for *_, text in told)
-    assert "CERTIFIED" in said and "HOLDS" in said and "SAME" in said and "FAILED" not in said
-    for file in ("heads", "heads.txt", "recheck.py", "SHA256SUMS", "judge.html", "look/index.html"):
+    assert "CERTIFIED" in said and "HOLDS" in said and said.count("SAME") == 3 and "FAILED" not in said
+    assert "The folder written has the model that `heads` read" in (folder / "EXHIBIT.txt").read_text()
+    for file in "heads heads.txt recheck.py SHA256SUMS judge.html look/index.html written.txt written/p.nam".split():
         assert (folder / file).is_file()
     assert (folder / "look" / "zones_layer1.png").is_file() == ("--zones" in options)
 
