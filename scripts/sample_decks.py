@@ -142,6 +142,17 @@ def write_files(folder, files):
             file.write(content)
 
 
+# The name file of what `heads write` puts.
+WRITTEN = "p.nam"
+
+
+def files_of(text):
+    """The files of what `heads write` puts, by their names; None where that has another form."""
+    begin, *parts = re.split(rb"^FILE (.+)\n", text.removesuffix(b"END\n"), flags=re.MULTILINE)
+    files = {name.decode(): content for name, content in zip(parts[::2], parts[1::2])}
+    return files if text.endswith(b"\nEND\n") and not begin and 2 * len(files) == len(parts) else None
+
+
 def built(program, commands):
     """Those of the commands that this program has: it takes the words of one that it hasn't as usage."""
     def is_built(command):
