@@ -1,7 +1,7 @@
 """Random decks of a generator, for the scripts that compare runs of them.
 
-A generator is a command that is given the words `write SEED FOLDER`, and writes a deck's files into the folder, and into
-words.txt there lines of words for the program, parted by the byte 31.
+A generator is a command that is given the words `write SEED FOLDER`, and writes a deck's files into the folder, and
+into words.txt there lines of words for the program, parted by the byte 31.
 """
 import os
 import subprocess

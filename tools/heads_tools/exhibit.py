@@ -45,8 +45,8 @@ WHY_NOT = (
 )
 ONE_SPELLING = (
     "The folder written has the model that `heads` read from the folder deck, in one plain spelling, as `heads write` "
-    "puts it. It is proved that its files are read as that model: whoever reads them item by item beside MODFLOW's input "
-    "instructions need not believe how `heads` reads the spelling of the deck."
+    "puts it. It is proved that its files are read as that model: whoever reads them item by item beside MODFLOW's "
+    "input instructions need not believe how `heads` reads the spelling of the deck."
 )
 NOTHING = "Nothing may be said of this model's heads from this run."
 MOST_RECHECK_HEADS = 200_000

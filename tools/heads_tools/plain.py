@@ -15,8 +15,8 @@ from .text import Problem, whole_file
 
 NOT_CHANGED = "nothing but layout was changed"
 AS_READ = (
-    "nothing had to be changed: these are the files of `heads write`, the model that the program reads from the deck, in"
-    " one spelling"
+    "nothing had to be changed: these are the files of `heads write`, the model that the program reads from the deck,"
+    " in one spelling"
 )
 
 
