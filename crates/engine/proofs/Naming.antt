@@ -3,6 +3,7 @@ use Rattle.std.proofs.Common.{◌≡◌, ℕ, List, [], ◌∷◌, Option, Some,
 use Rattle.std.specs.Prelude.{IfSome}
 use Rattle.std.proofs.lemmas.List.Elements.{All-head, All-tail}
 use Rattle.outside.specs.Asking.{WordsMay}
+use Rattle.outside.specs.Inputs.{file_limit}
 use Rattle.outside.specs.Names.{folder_name}
 use Rattle.command_line.specs.Wants.{Wanted, Lists, Checks, Makes, Batches, Writes, wanted_of}
 use Rattle.run_puts.specs.Lines.{Text}
@@ -10,9 +11,9 @@ use Rattle.engine.specs.Asking.{files_of, files_if, files_named}
 use Rattle.engine.specs.Batches.{AskedBatch, batch_of, batch_asked}
 use Rattle.engine.specs.Cases.{Asked, AskedCheck, Run, Check, Write, built, asked_in}
 
-module _ (may : List ℕ → Type 0) where
+module _ (may : List ℕ → ℕ → Type 0) where
   abbrev May : List ℕ → Type 0
-  May name = may (folder_name name)
+  May name = may (folder_name name) file_limit
 
   abbrev OfRun : Asked → Type 0
   OfRun a = May a.name × IfSome a.zones May
@@ -93,6 +94,6 @@ module _ (may : List ℕ → Type 0) where
     batch_named b e = if_batch (wanted_of words) b e h
 
 -- a zone file that might be asked for may still be
-pub zones_still : (may more : List ℕ → Type 0) (zones : Option Text) → ((name : List ℕ) → may name → more name) → IfSome zones (λ name. may (folder_name name)) → IfSome zones (λ name. more (folder_name name))
+pub zones_still : (may more : List ℕ → ℕ → Type 0) (zones : Option Text) → ((name : List ℕ) (limit : ℕ) → may name limit → more name limit) → IfSome zones (λ name. may (folder_name name) file_limit) → IfSome zones (λ name. more (folder_name name) file_limit)
 zones_still may more None still h = tt
-zones_still may more (Some name) still h = still _ h
+zones_still may more (Some name) still h = still _ _ h

@@ -3,7 +3,7 @@ ghost use Rattle.std.specs.Prelude.{◌≡◌, ◌≤◌, List, ◌++◌, ◌∷
 ghost use Rattle.outside.specs.Asking.{WordsMay};
 ghost use Rattle.outside.specs.Files.{File};
 ghost use Rattle.outside.specs.Folders.{ReadsOn};
-ghost use Rattle.outside.specs.Inputs.{IsReading};
+ghost use Rattle.outside.specs.Inputs.{file_limit, IsReading};
 ghost use Rattle.outside.specs.Names.{IsGoodName, folder_name};
 ghost use Rattle.listing_run.specs.Ends.{IsTask};
 ghost use Rattle.engine.specs.BatchCommands.{batch_by, IsBatchOrder};
@@ -27,7 +27,7 @@ fn read_job<'a, F: Folder>(
 ) -> Result<Job, InputFault>
     requires name { IsGoodName name.now }
     requires asked { IsBatchOrder asked }
-    requires may { F.may folder.old (folder_name name.now) }
+    requires may { F.may folder.old (folder_name name.now) file_limit }
     ensures folder { ReadsOn F.Folder folder.old folder.new result }
     ensures never { NeverRefused result }
     ensures reads { (files : Option (List File)) → IfSome files (F.agrees folder.new) → IfOk result (IsJobRead (batch_by asked.entry) name.now files) }
@@ -83,7 +83,7 @@ fn read_names<'a, F: Folder>(
     folder: &mut F,
     asked: BatchOrder<'a>,
 ) -> Result<Vec<Name>, InputFault>
-    requires { F.may folder.old (folder_name asked.list.now) }
+    requires { F.may folder.old (folder_name asked.list.now) file_limit }
     ensures folder { ReadsOn F.Folder folder.old folder.new result }
     ensures reads { (files : Option (List File)) → IfSome files (F.agrees folder.new) → HasNames (batch_by asked.entry) files result }
     ensures may { IfOk result (λ names. WordsMay (F.may folder.new) names.items) }
@@ -105,7 +105,7 @@ pub(crate) fn read_batch<'a, F: Folder>(
     asked: BatchOrder<'a>,
 ) -> Result<Vec<Job>, InputFault>
     requires asked { IsBatchOrder asked }
-    requires may { F.may folder.old (folder_name asked.list.now) }
+    requires may { F.may folder.old (folder_name asked.list.now) file_limit }
     ensures folder { ReadsOn F.Folder folder.old folder.new result }
     ensures reads { (files : Option (List File)) → IfSome files (F.agrees folder.new) → IsBatchRead (batch_by asked.entry) files result }
     ensures tasks { IfOk result (λ jobs. AreTasks jobs.items) }

@@ -1,6 +1,7 @@
 // A batch of models.
 ghost use Rattle.std.specs.Prelude.{◌≡◌, ◌≤◌, ℕ, List, ◌++◌, length, map, IfSome, None, Option};
 ghost use Rattle.outside.specs.Asking.{WordsMay};
+ghost use Rattle.outside.specs.Inputs.{file_limit};
 ghost use Rattle.outside.specs.Names.{folder_name};
 ghost use Rattle.engine.specs.Asking.{files_named};
 ghost use Rattle.outside.specs.Files.{File};
@@ -60,7 +61,7 @@ fn put_batch<'a, R: Threads + Wait + Sync, F: Folder, K: Sink, G: Gate + Sync>(
     gate: &G,
 ) -> Status
     requires asked { IsBatchOrder asked }
-    requires may { F.may folder.old (folder_name asked.list.now) }
+    requires may { F.may folder.old (folder_name asked.list.now) file_limit }
     ensures since { (files : List File) → F.agrees folder.new files → F.agrees folder.old files }
     ensures answers { (start : _) (puts : List Put) → K.leads start puts out.old →
         (more : List Put) × K.leads start (puts ++ more) out.new

@@ -1,5 +1,6 @@
 // The check of a listing of the folder.
 ghost use Rattle.std.specs.Prelude.{◌≡◌, ◌≤◌, List, ◌++◌, Ok, IfOk, IfSome, Option, Some};
+ghost use Rattle.outside.specs.Inputs.{file_limit};
 ghost use Rattle.outside.specs.Names.{folder_name};
 ghost use Rattle.outside.specs.Files.{File};
 ghost use Rattle.outside.specs.Folders.{ReadsOn};
@@ -33,7 +34,7 @@ pub(crate) fn read_listed<F: Folder>(
 ) -> Result<Listing, InputFault>
     requires model { IsModel model.now }
     requires digits { asked.digits ≤ 18 }
-    requires may { F.may folder.old (folder_name asked.listing.now) }
+    requires may { F.may folder.old (folder_name asked.listing.now) file_limit }
     ensures folder { ReadsOn F.Folder folder.old folder.new result }
     ensures reads { (files : Option (List File)) → IfSome files (F.agrees folder.new) → IsListedAs (check_of asked.entry) model.now files result }
     ensures listed { IfOk result (AreListed model.now) }
@@ -76,7 +77,7 @@ fn check_model<'a, F: Folder, K: Sink>(
 ) -> Status
     requires digits { asked.digits ≤ 18 }
     requires model { IsModel model.now }
-    requires may { F.may folder.old (folder_name asked.listing.now) }
+    requires may { F.may folder.old (folder_name asked.listing.now) file_limit }
     ensures since { (files : List File) → F.agrees folder.new files → F.agrees folder.old files }
     ensures answers { (start : _) (puts : List Put) → K.leads start puts out.old →
         (more : List Put) × K.leads start (puts ++ more) out.new
@@ -98,8 +99,8 @@ pub(crate) fn check<'a, F: Folder, K: Sink>(
     out: &mut K,
 ) -> Status
     requires digits { asked.digits ≤ 18 }
-    requires name { F.may folder.old (folder_name asked.name.now) }
-    requires listing { F.may folder.old (folder_name asked.listing.now) }
+    requires name { F.may folder.old (folder_name asked.name.now) file_limit }
+    requires listing { F.may folder.old (folder_name asked.listing.now) file_limit }
     ensures since { (files : List File) → F.agrees folder.new files → F.agrees folder.old files }
     ensures answers { (start : _) (puts : List Put) → K.leads start puts out.old →
         (more : List Put) × K.leads start (puts ++ more) out.new

@@ -37,7 +37,7 @@ pub fn run<R: Threads + Wait + Sync, F: Folder, K: Sink + Send, W: Sink + Send, 
     gate: &G,
 ) -> Status
     // Each file that the words name may be asked for. The folder is asked for no others but those that words of its files
-    // name, since `read_file` requires that.
+    // name, with the same limit, since `read_file` requires that.
     requires may { WordsMay (F.may folder.old) (files_named (map (λ w. w.now) words.now)) }
 
     // What is put to `out`, for every status, with the status' cause, by the files that agree with all results of the
@@ -113,5 +113,7 @@ pub fn run<R: Threads + Wait + Sync, F: Folder, K: Sink + Send, W: Sink + Send, 
 {
     one_listing();
     one_verdict();
-    answer_any(rt, alloc, words, folder, out, side, gate)
+    let status = answer_any(rt, alloc, words, folder, out, side, gate);
+    folder.some_agree();
+    status
 }

@@ -1,5 +1,6 @@
 // The model of a name, and the zones of its cells.
 ghost use Rattle.std.specs.Prelude.{◌≡◌, IfOk, IfSome, List, Option, option_map};
+ghost use Rattle.outside.specs.Inputs.{file_limit};
 ghost use Rattle.outside.specs.Names.{folder_name};
 ghost use Rattle.outside.specs.Files.{File};
 ghost use Rattle.outside.specs.Folders.{ReadsOn};
@@ -29,7 +30,7 @@ pub(crate) fn read_named<F: Folder>(
     folder: &mut F,
     name: &str,
 ) -> Result<FlowModel, InputFault>
-    requires may { F.may folder.old (folder_name name.now) }
+    requires may { F.may folder.old (folder_name name.now) file_limit }
     ensures folder { ReadsOn F.Folder folder.old folder.new result }
     ensures reads { (files : Option (List File)) → IfSome files (F.agrees folder.new) → IsReadAs name.now files result }
     ensures model { IfOk result IsModel }
@@ -48,7 +49,7 @@ pub(crate) fn read_zones_of<F: Folder>(
     folder: &mut F,
 ) -> Result<Option<Listed<u32>>, InputFault>
     requires model { IsModel model.now }
-    requires may { IfSome (option_map (λ name. name.now) zones) (λ name. F.may folder.old (folder_name name)) }
+    requires may { IfSome (option_map (λ name. name.now) zones) (λ name. F.may folder.old (folder_name name) file_limit) }
     ensures folder { ReadsOn F.Folder folder.old folder.new result }
     ensures zones { (files : Option (List File)) → IfSome files (F.agrees folder.new) →
         AreZonesAs (option_map (λ name. name.now) zones.entry) model.now files result }

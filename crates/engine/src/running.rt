@@ -1,5 +1,6 @@
 ghost use Rattle.std.specs.Prelude.{◌≡◌, ◌⊎◌, ℕ, List, ◌++◌, map, IfSome, Ok, Option, Some};
 ghost use Rattle.outside.specs.Asking.{WordsMay};
+ghost use Rattle.outside.specs.Inputs.{file_limit};
 ghost use Rattle.outside.specs.Names.{folder_name};
 ghost use Rattle.engine.specs.Asking.{files_named};
 ghost use Rattle.outside.specs.Files.{File};
@@ -58,7 +59,7 @@ pub fn run_one<R: Threads + Sync, F: Folder, K: Sink + Send, W: Sink + Send, G: 
     gate: &G,
 ) -> Status
     // Each file that the words name may be asked for. The folder is asked for no others but those that words of its files
-    // name, since `read_file` requires that.
+    // name, with the same limit, since `read_file` requires that.
     requires may { WordsMay (F.may folder.old) (files_named (map (λ w. w.now) words.now)) }
 
     // What is put to `out`, for every status, with the status' cause, by the files that agree with all results of the
@@ -124,7 +125,9 @@ pub fn run_one<R: Threads + Sync, F: Folder, K: Sink + Send, W: Sink + Send, G: 
 {
     one_listing();
     one_verdict();
-    answer(rt, alloc, words, folder, out, side, gate)
+    let status = answer(rt, alloc, words, folder, out, side, gate);
+    folder.some_agree();
+    status
 }
 
 // Does what the words ask for, but a batch.
@@ -203,7 +206,7 @@ fn list_model<'a, R: Threads + Sync, F: Folder, K: Sink + Send, W: Sink + Send, 
 ) -> Status
     requires asked { IsAsked asked }
     requires model { IsModel model }
-    requires zones { IfSome (asked_of asked).zones (λ zones. F.may folder.old (folder_name zones)) }
+    requires zones { IfSome (asked_of asked).zones (λ zones. F.may folder.old (folder_name zones) file_limit) }
     ensures since { (files : List File) → F.agrees folder.new files → F.agrees folder.old files }
     ensures answers { (start : _) (puts : List Put) → K.leads start puts out.old →
         (more : List Put) × K.leads start (puts ++ more) out.new
@@ -230,8 +233,8 @@ fn list<'a, R: Threads + Sync, F: Folder, K: Sink + Send, W: Sink + Send, G: Gat
     gate: &G,
 ) -> Status
     requires asked { IsAsked asked }
-    requires name { F.may folder.old (folder_name asked.name.now) }
-    requires zones { IfSome (asked_of asked).zones (λ zones. F.may folder.old (folder_name zones)) }
+    requires name { F.may folder.old (folder_name asked.name.now) file_limit }
+    requires zones { IfSome (asked_of asked).zones (λ zones. F.may folder.old (folder_name zones) file_limit) }
     ensures since { (files : List File) → F.agrees folder.new files → F.agrees folder.old files }
     ensures answers { (start : _) (puts : List Put) → K.leads start puts out.old →
         (more : List Put) × K.leads start (puts ++ more) out.new

@@ -29,7 +29,7 @@ pub fn serve<R: Threads + Wait + Sync, F: Folder, K: Sink + Send, W: Sink + Send
     gate: &G,
 ) -> ExitCode
     // Each file that the words name may be asked for. The folder is asked for no others but those that words of its files
-    // name, since `read_file` requires that.
+    // name, with the same limit, since `read_file` requires that.
     requires may { WordsMay (F.may folder.old) (files_named (map (λ w. w.now) words.now)) }
     ensures serves { Serves (λ puts. K.leads out.old puts out.new) (F.agrees folder.new) (map (λ w. w.now) words.now) (F.faults folder.old) (F.faults folder.new)
         (Rose (W.seen side.old).faults (W.seen side.new).faults) (K.seen out.old) (K.seen out.new) (exit_status result) }

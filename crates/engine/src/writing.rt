@@ -1,5 +1,6 @@
 // The deck of a model of the folder.
 ghost use Rattle.std.specs.Prelude.{◌≡◌, List, ◌++◌, IfSome, Option, Some};
+ghost use Rattle.outside.specs.Inputs.{file_limit};
 ghost use Rattle.outside.specs.Names.{folder_name};
 ghost use Rattle.outside.specs.Files.{File};
 ghost use Rattle.outside.specs.Puts.{Put};
@@ -35,7 +36,7 @@ pub(crate) fn write<F: Folder, K: Sink>(
     folder: &mut F,
     out: &mut K,
 ) -> Status
-    requires name { F.may folder.old (folder_name name.now) }
+    requires name { F.may folder.old (folder_name name.now) file_limit }
     ensures since { (files : List File) → F.agrees folder.new files → F.agrees folder.old files }
     ensures answers { (start : _) (puts : List Put) → K.leads start puts out.old →
         (more : List Put) × K.leads start (puts ++ more) out.new

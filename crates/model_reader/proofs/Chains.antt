@@ -20,7 +20,7 @@ pub both_read : {S T U : Type 0} {F : FolderOf S} {old mid new : S} {x : T} {res
 both_read {F = F} {new = new} {result = result} first second = record {
   since = λ files agree. first.since files (second.since files agree);
   counts = subst (λ n. InputCounts n (F.faults new) result) first.counts second.counts;
-  still = λ name h. second.still name (first.still name h);
+  still = λ name limit h. second.still name limit (first.still name limit h);
 }
 
 -- what comes of the rest comes of the whole

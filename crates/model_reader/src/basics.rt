@@ -2,6 +2,7 @@
 ghost use Rattle.std.specs.Prelude.{◌≡◌, Ok, All, IfOk, List};
 ghost use Rattle.outside.specs.Files.{File};
 ghost use Rattle.outside.specs.Folders.{ReadsOn};
+ghost use Rattle.outside.specs.Inputs.{file_limit};
 ghost use Rattle.outside.specs.Names.{IsGoodName, folder_name};
 ghost use Rattle.record_lines.specs.Reading.{Has, HasText};
 ghost use Rattle.decimal_input.specs.Canonical.{IsDec};
@@ -26,7 +27,7 @@ use std::alloc::Global;
 #[tactic(auto, unfolding(crate::specs::Model::dis_in))]
 pub fn dis_in<F: Folder>(alloc: Global, folder: &mut F, name: &str) -> Result<FlowModel, InputFault>
     requires name { IsGoodName name.now }
-    requires may { F.may folder.old (folder_name name.now) }
+    requires may { F.may folder.old (folder_name name.now) file_limit }
     ensures folder { ReadsOn F.Folder folder.old folder.new result }
     ensures model { (files : List File) → F.agrees folder.new files → Has (λ m. m) result (dis_in files name.now) }
     ensures form { IfOk result IsBegun }
@@ -81,7 +82,7 @@ pub fn bas_in<F: Folder>(
     model: FlowModel,
 ) -> Result<FlowModel, InputFault>
     requires name { IsGoodName name.now }
-    requires may { F.may folder.old (folder_name name.now) }
+    requires may { F.may folder.old (folder_name name.now) file_limit }
     requires begun { IsBegun model }
     ensures folder { ReadsOn F.Folder folder.old folder.new result }
     ensures model { (files : List File) → F.agrees folder.new files → Has (λ m. m) result (bas_in files dis.now name.now model) }
@@ -102,7 +103,7 @@ pub fn lpf_in<F: Folder>(
     model: FlowModel,
 ) -> Result<FlowModel, InputFault>
     requires name { IsGoodName name.now }
-    requires may { F.may folder.old (folder_name name.now) }
+    requires may { F.may folder.old (folder_name name.now) file_limit }
     requires basic { IsBasic model }
     ensures folder { ReadsOn F.Folder folder.old folder.new result }
     ensures model { (files : List File) → F.agrees folder.new files → Has (λ m. m) result (lpf_in files name.now model) }

@@ -2,6 +2,7 @@
 ghost use Rattle.std.specs.Prelude.{◌≡◌, IfOk, List};
 ghost use Rattle.outside.specs.Files.{File};
 ghost use Rattle.outside.specs.Folders.{ReadsOn};
+ghost use Rattle.outside.specs.Inputs.{file_limit};
 ghost use Rattle.outside.specs.Names.{IsGoodName, folder_name};
 ghost use Rattle.record_lines.specs.Reading.{Has};
 ghost use Rattle.name_file.specs.Asking.{NamesMay};
@@ -54,7 +55,7 @@ pub fn read_named_model<F: Folder>(
     folder: &mut F,
 ) -> Result<FlowModel, InputFault>
     requires name { IsGoodName name.now }
-    requires may { F.may folder.old (folder_name name.now) }
+    requires may { F.may folder.old (folder_name name.now) file_limit }
     ensures folder { ReadsOn F.Folder folder.old folder.new result }
     ensures model { (files : List File) → F.agrees folder.new files → Has (λ m. m) result (reads files name.now) }
     ensures form { IfOk result IsModel }

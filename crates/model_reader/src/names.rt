@@ -2,6 +2,7 @@
 ghost use Rattle.std.specs.Prelude.{◌≡◌, Contains, IfOk, IsTrue, unwrap_or, [], List};
 ghost use Rattle.outside.specs.Files.{File};
 ghost use Rattle.outside.specs.Folders.{ReadsOn};
+ghost use Rattle.outside.specs.Inputs.{file_limit};
 ghost use Rattle.outside.specs.Names.{IsGoodName, folder_name};
 ghost use Rattle.record_lines.specs.Reading.{Has};
 ghost use Rattle.name_file.specs.Asking.{NamesMay};
@@ -24,7 +25,7 @@ pub fn read_name_file<F: Folder>(
     name: &str,
 ) -> Result<Names, InputFault>
     requires name { IsGoodName name.now }
-    requires may { F.may folder.old (folder_name name.now) }
+    requires may { F.may folder.old (folder_name name.now) file_limit }
     ensures folder { ReadsOn F.Folder folder.old folder.new result }
     ensures files { IfOk result (NamesMay (F.may folder.new)) }
     ensures names { (files : List File) → F.agrees folder.new files → Has (λ n. n) result (names_in files name.now) }

@@ -5,3 +5,4 @@ pub mod NameTests
 mod Made
 pub mod Answered
 pub mod Named
+mod Agreeing

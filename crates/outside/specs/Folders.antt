@@ -10,4 +10,4 @@ use Rattle.outside.specs.declared.refusals.InputFault.{InputFault}
 pub record ReadsOn {S T : Type 0} (F : FolderOf S) (old new : S) (result : Result T InputFault) : Type 0 where
   pub since : (files : List File) → F.agrees new files → F.agrees old files
   pub counts : InputCounts (F.faults old) (F.faults new) result
-  pub still : (name : List ℕ) → F.may old name → F.may new name
+  pub still : (name : List ℕ) (limit : ℕ) → F.may old name limit → F.may new name limit

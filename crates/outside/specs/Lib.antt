@@ -1,6 +1,5 @@
 pub mod Files
 pub mod Readings
-pub mod Told
 pub mod Counts
 pub mod Puts
 pub mod Memory

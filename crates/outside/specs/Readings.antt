@@ -1,4 +1,4 @@
--- What a folder of the system has read, and which files agree with it.
+-- What a folder of the system has read, and which files agree with it. It is asked with one limit, its own.
 use Rattle.std.specs.Prelude.{◌≡◌, ℕ, ◌<◌, ◌⊎◌, List, [], ◌∷◌, length, cond, Contains, Option, Some, None, IfSome, IsSomeAnd}
 use Rattle.std.specs.Str.{bytes_eq}
 use Rattle.outside.specs.Files.{File, bytes_under}
@@ -7,15 +7,15 @@ use Rattle.outside.specs.Words.{lines, words}
 use Rattle.outside.specs.declared.traits.Found.{Found}
 use Rattle.outside.specs.declared.traits.Found.TheVariants.{Bytes, Missing, TooLong}
 
--- a reading: the name and the limit that were asked for, and what was found
+-- a reading: the name that was asked for, and what was found
 pub record Read : Type 0 where
   pub name : List ℕ
-  pub limit : ℕ
   pub found : Found
 
--- the words given at the start, the readings, and the faults
+-- the words given at the start, the limit, the readings, and the faults
 pub record ReadState : Type 0 where
   pub given : List (List ℕ)
+  pub limit : ℕ
   pub readings : List Read
   pub faults : ℕ
 
@@ -31,8 +31,8 @@ IsAsFound under limit Missing = under ≡ None
 IsAsFound under limit TooLong = IsSomeAnd under (λ bytes. limit < length bytes)
 
 -- the files under each name that was read are what was found there
-abbrev pub AgreeWith : List Read → List File → Type 0
-AgreeWith readings files = (name : List ℕ) → IfSome (reading_of name readings) (λ r. IsAsFound (bytes_under name files) r.limit r.found)
+abbrev pub AgreeWith : ℕ → List Read → List File → Type 0
+AgreeWith limit readings files = (name : List ℕ) → IfSome (reading_of name readings) (λ r. IsAsFound (bytes_under name files) limit r.found)
 
 -- one of these words is this name, with a slash for each backslash
 abbrev pub AreNaming : List (List ℕ) → List ℕ → Type 0
@@ -50,3 +50,7 @@ IsNamedBy given readings name = AreNaming given name ⊎ ((r : Read) × Contains
 
 abbrev pub IsNamed : ReadState → List ℕ → Type 0
 IsNamed s name = IsNamedBy s.given s.readings name
+
+-- the folder may be asked for a file by such a name, with its limit
+abbrev pub MayAsk : ReadState → List ℕ → ℕ → Type 0
+MayAsk s name limit = IsNamed s name × (limit ≡ s.limit)

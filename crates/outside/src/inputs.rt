@@ -2,7 +2,7 @@ ghost use Rattle.std.specs.Prelude.{◌≡◌, List, IfOk};
 ghost use Rattle.outside.specs.Asking.{TextMay};
 ghost use Rattle.outside.specs.Files.{File};
 ghost use Rattle.outside.specs.Folders.{ReadsOn};
-ghost use Rattle.outside.specs.Inputs.{file_at, file_refusal, IsReading};
+ghost use Rattle.outside.specs.Inputs.{file_at, file_limit, file_refusal, IsReading};
 ghost use Rattle.outside.specs.Names.{IsGoodName, folder_name};
 ghost use Rattle.outside.specs.Refusals.{IsRefusal};
 
@@ -23,7 +23,7 @@ pub fn read_input<F: Folder>(
     name: &str,
 ) -> Result<Vec<u8>, InputFault>
     requires name { IsGoodName name.now }
-    requires may { F.may folder.old (folder_name name.now) }
+    requires may { F.may folder.old (folder_name name.now) file_limit }
     ensures folder { ReadsOn F.Folder folder.old folder.new result }
     ensures words { IfOk result (λ v. TextMay (F.may folder.new) v.items) }
     ensures reads { (files : List File) → F.agrees folder.new files → IsReading (λ v. v.items) (file_at files name.now) result }

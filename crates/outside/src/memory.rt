@@ -38,12 +38,12 @@ impl Folder for MemFolder {
 
     ghost faults = { λ f. f.faults };
 
-    // It may be asked for any file.
-    ghost may = { λ _ _. Unit {0} };
+    // It may be asked for any file, with any limit.
+    ghost may = { λ _ _ _. Unit {0} };
 
     fn read_file(&mut self, alloc: Global, name: &str, limit: u64) -> Result<Found, FolderError>
-        ensures still { (other : List ℕ) → Unit {0} → Unit {0} }
-        ensures words { IfOk result (FoundMay (λ _. Unit {0})) }
+        ensures still { (other : List ℕ) (bound : ℕ) → Unit {0} → Unit {0} }
+        ensures words { IfOk result (FoundMay (λ _ _. Unit {0}) limit) }
         ensures since { (files : List File) → files ≡ self.new.files → files ≡ self.old.files }
         ensures found { IfOk result (λ found. (files : List File) → files ≡ self.new.files → IsFound files name.now limit found) }
         ensures counts { ReadCounts self.old.faults self.new.faults result }
@@ -70,7 +70,7 @@ impl Folder for MemFolder {
         }
     }
 
-    ghost told = { λ f. (f.files, refl) };
+    fn some_agree(&self) {}
 }
 
 impl MemSink {

@@ -19,8 +19,8 @@ fn asked_text<F: Folder>(
     name: &str,
     limit: u64,
 ) -> Result<String, AllocError>
-    requires { All (λ n. F.may folder.old (folder_name n.now)) names.now }
-    ensures { All (λ n. F.may folder.new (folder_name n.now)) names.now }
+    requires { All (λ n. F.may folder.old (folder_name n.now) limit) names.now }
+    ensures { All (λ n. F.may folder.new (folder_name n.now) limit) names.now }
 {
     match given_name(names, name) {
         None => String::from_str(alloc, " not given"),
@@ -37,10 +37,11 @@ fn disk_call<R: Files + Print, F: Folder>(
     alloc: Global,
     folder: &mut F,
     names: &[&str],
+    limit: u64,
     call: &str,
 ) -> io::Result<()>
-    requires { All (λ n. F.may folder.old (folder_name n.now)) names.now }
-    ensures { All (λ n. F.may folder.new (folder_name n.now)) names.now }
+    requires { All (λ n. F.may folder.old (folder_name n.now) limit) names.now }
+    ensures { All (λ n. F.may folder.new (folder_name n.now) limit) names.now }
 {
     let (word, rest) = first_word(call);
     let (name, more) = first_word(rest);
@@ -48,29 +49,31 @@ fn disk_call<R: Files + Print, F: Folder>(
         "write" => fs::write(rt, name, plain_text(alloc, more)?.as_str()),
         "make" => fs::create_dir(rt, name),
         _ => {
-            let text = asked_text(alloc, folder, names, name, number(more))?;
+            let text = asked_text(alloc, folder, names, name, limit)?;
             print!(rt; "{text};")
         }
     }
 }
 
-// Makes files and folders, and prints the answers of a folder that these names were given to.
+// Makes files and folders, and prints the answers of a folder that these names and this limit were given to.
 fn print_calls<R: Files + Print>(
     rt: &R,
     alloc: Global,
     names: &[&str],
+    limit: u64,
     calls: &str,
 ) -> io::Result<()> {
-    let mut folder = RealFolder::new(rt, alloc, names);
+    let mut folder = RealFolder::new(rt, alloc, names, limit);
     print!(rt; "disk")?;
     for call in calls.split("; ") {
-        disk_call(rt, alloc, &mut folder, names, call)?;
+        disk_call(rt, alloc, &mut folder, names, limit, call)?;
     }
     println!(rt; "")
 }
 
-/// Makes files and folders, and prints the folder's answers.
-pub fn print_disk<R: Files + Print>(rt: &R, alloc: Global, calls: &str) -> io::Result<()> {
+/// Makes files and folders, and prints the answers of a folder whose limit is the first word.
+pub fn print_disk<R: Files + Print>(rt: &R, alloc: Global, rest: &str) -> io::Result<()> {
+    let (limit, calls) = first_word(rest);
     let names = [
         "three.txt",
         "four.txt",
@@ -80,7 +83,7 @@ pub fn print_disk<R: Files + Print>(rt: &R, alloc: Global, calls: &str) -> io::R
         "later.txt",
         "long.txt",
     ];
-    print_calls(rt, alloc, &names, calls)
+    print_calls(rt, alloc, &names, number(limit), calls)
 }
 
 // Gives two bytes at each of two reads, between which a signal interrupts one, and then fails.

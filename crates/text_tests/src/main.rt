@@ -21,8 +21,8 @@
 //!   may have this name, and `named NAME` what it becomes.
 //!
 //! `@folder` begins a folder in memory, `@file NAME TEXT` puts a file into it, and `@fail N` makes its call of this
-//! number fail. `@disk` does calls on the real folder, which is made anew in each line: `write NAME TEXT` and `make
-//! NAME` make a file and a folder, and `found NAME LIMIT` asks for a file. `@reader LIMIT` reads from a reader that is
+//! number fail. `@disk LIMIT` does calls on the real folder, which is made anew in each line: `write NAME TEXT` and `make
+//! NAME` make a file and a folder, and `found NAME` asks for a file. `@reader LIMIT` reads from a reader that is
 //! interrupted after two bytes and fails after four. `@sink`, `@disk_sink` and `@full_sink` put pieces, `put PIECE; ..`,
 //! into a sink in memory, whose put of number N fails and keeps some bytes by `fail N KEPT`, into a file, and into a
 //! writer that is interrupted, takes one byte, and then nothing.

@@ -13,4 +13,4 @@ invariant-loop g l =
     ≡ appended l.count (layer_array g.V.Value.kind files l.file l.rows l.cols) l.fn.lines)
     × ((files : List File) → g.F.Folder.agrees l.folder files → g.F.Folder.agrees l.fn.folder files) × (g.F.Folder.faults l.folder ≡ g.F.Folder.faults l.fn.folder)
     × All g.V.Value.Good l.values.items × (length l.values.items ≡ l.counter * (l.rows * l.cols))
-    × ((name : List ℕ) → g.F.Folder.may l.fn.folder name → g.F.Folder.may l.folder name) × LinesMay (g.F.Folder.may l.folder) l.lines
+    × ((name : List ℕ) (limit : ℕ) → g.F.Folder.may l.fn.folder name limit → g.F.Folder.may l.folder name limit) × LinesMay (g.F.Folder.may l.folder) l.lines

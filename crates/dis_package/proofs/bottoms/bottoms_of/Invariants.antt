@@ -14,4 +14,4 @@ invariant-loop-k g l =
     × ((files : List File) → g.F.Folder.agrees l.folder files → g.F.Folder.agrees l.fn.folder files) × (g.F.Folder.faults l.folder ≡ g.F.Folder.faults l.fn.folder)
     × (length l.bottoms.layers ≡ l.k * (l.size.rows * l.size.cols)) × (length l.bottoms.beds ≡ l.k * (l.size.rows * l.size.cols))
     × All IsDec l.bottoms.layers × All IsDec l.bottoms.beds
-    × ((name : List ℕ) → g.F.Folder.may l.fn.folder name → g.F.Folder.may l.folder name) × LinesMay (g.F.Folder.may l.folder) l.lines
+    × ((name : List ℕ) (limit : ℕ) → g.F.Folder.may l.fn.folder name limit → g.F.Folder.may l.folder name limit) × LinesMay (g.F.Folder.may l.folder) l.lines

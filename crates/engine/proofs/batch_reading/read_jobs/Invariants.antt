@@ -10,7 +10,7 @@ invariant-loop-name g l = record {
   since : (files : List File) → g.F.Folder.agrees l.folder files → g.F.Folder.agrees l.fn.folder files;
   counts : g.F.Folder.faults l.folder ≡ g.F.Folder.faults l.fn.folder;
   reads : (files : Option (List File)) → IfSome files (g.F.Folder.agrees l.folder) → AreJobsRead (batch_by l.asked) (take l.name-index l.names) files l.jobs.items;
-  still : (name : List ℕ) → g.F.Folder.may l.fn.folder name → g.F.Folder.may l.folder name;
+  still : (name : List ℕ) (limit : ℕ) → g.F.Folder.may l.fn.folder name limit → g.F.Folder.may l.folder name limit;
   tasks : AreTasks l.jobs.items;
   whole : length l.jobs.items ≡ l.name-index;
 }

@@ -21,4 +21,4 @@ returns-in-Err-clause-answers g c = λ start puts h.
     (m.0, m.1, λ words wanted files agree. ends_unread words files (g.F.Folder.faults c.args.folder.now) _ (check_of c.args.asked) wanted c.in-Err.fault c.end_reading.result m.0 (c.in-Err.ensures.reads files agree) c.in-Err.ensures.folder.counts m.2)
 
 pub check_model-requires-clause-may : goal.check_model-requires-clause-may
-check_model-requires-clause-may g c = c.in-Ok.ensures.folder.still _ c.requires.listing
+check_model-requires-clause-may g c = c.in-Ok.ensures.folder.still _ _ c.requires.listing

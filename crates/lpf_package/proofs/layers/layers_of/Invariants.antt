@@ -13,4 +13,4 @@ invariant-loop-k g l =
     ≡ counted (layer_at files l.file l.grid l.chani l.stores) 0 l.count (record { hk = []; hani = []; vka = []; ss = []; vkcb = [] }, l.fn.lines))
     × ((files : List File) → g.F.Folder.agrees l.folder files → g.F.Folder.agrees l.fn.folder files) × (g.F.Folder.faults l.folder ≡ g.F.Folder.faults l.fn.folder)
     × AreLayers (l.k * (l.grid.rows * l.grid.cols)) (cond l.stores (l.k * (l.grid.rows * l.grid.cols)) 0) l.properties
-    × ((name : List ℕ) → g.F.Folder.may l.fn.folder name → g.F.Folder.may l.folder name) × LinesMay (g.F.Folder.may l.folder) l.lines
+    × ((name : List ℕ) (limit : ℕ) → g.F.Folder.may l.fn.folder name limit → g.F.Folder.may l.folder name limit) × LinesMay (g.F.Folder.may l.folder) l.lines

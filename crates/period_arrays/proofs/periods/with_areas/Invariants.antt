@@ -19,4 +19,4 @@ invariant-loop-period g l =
     × IsInForce (contents g.P.ArrayPackage.kind l.option) l.grid l.before
     × All (λ p. g.P.ArrayPackage.HasArrays l.file l.grid l.ibound l.option p.stresses) l.whole.items
     × (map (without g.P.ArrayPackage.kind) l.whole.items ++ map (without g.P.ArrayPackage.kind) (into_iter_items l.period-iterator) ≡ map (without g.P.ArrayPackage.kind) l.fn.periods.items)
-    × ((name : List ℕ) → g.F.Folder.may l.fn.folder name → g.F.Folder.may l.folder name) × LinesMay (g.F.Folder.may l.folder) l.lines
+    × ((name : List ℕ) (limit : ℕ) → g.F.Folder.may l.fn.folder name limit → g.F.Folder.may l.folder name limit) × LinesMay (g.F.Folder.may l.folder) l.lines

@@ -1,7 +1,7 @@
 use Rattle.std.proofs.Common.{All}
 use Rattle.outside.specs.Names.{folder_name}
-use Rattle.outside.specs.Readings.{IsNamed}
+use Rattle.outside.specs.Readings.{MayAsk}
 use Rattle.text_tests.proofs.disk.print_calls.Given as goal
 
 abbrev pub invariant-loop-call : goal.invariant-loop-call
-invariant-loop-call g l = All (λ n. IsNamed l.folder (folder_name n.now)) l.names
+invariant-loop-call g l = All (λ n. MayAsk l.folder (folder_name n.now) l.limit) l.names

@@ -18,9 +18,9 @@ shown name limit (Bytes v) files = record { name = name; bytes = v.items } ∷ f
 shown name limit Missing files = without name files
 shown name limit TooLong files = record { name = name; bytes = replicate (limit + 1) 0 } ∷ files
 
-abbrev shown_all : List Read → List File
-shown_all [] = []
-shown_all (r ∷ readings) = shown r.name r.limit r.found (shown_all readings)
+abbrev shown_all : ℕ → List Read → List File
+shown_all limit [] = []
+shown_all limit (r ∷ readings) = shown r.name limit r.found (shown_all limit readings)
 
 module _ (n m : List ℕ) (f : File) (files : List File) where
   gone_more : bytes_under n (without n files) ≡ None → (b : Bool) → bytes_eq n f.name ≡ b → bytes_under n (without n (f ∷ files)) ≡ None
@@ -53,17 +53,18 @@ module _ (files : List File) (m n : List ℕ) (limit : ℕ) where
   there Missing e = kept n m files e
   there TooLong e = rw e refl
 
-abbrev Holds : List ℕ → List File → Option Read → Type 0
-Holds name files reading = IfSome reading (λ r. IsAsFound (bytes_under name files) r.limit r.found)
+module _ (limit : ℕ) where
+  abbrev Holds : List ℕ → List File → Option Read → Type 0
+  Holds name files reading = IfSome reading (λ r. IsAsFound (bytes_under name files) limit r.found)
 
-agrees_more : (r : Read) (readings : List Read) (files : List File) (name : List ℕ) → Holds name files (reading_of name readings) → (b : Bool) → bytes_eq name r.name ≡ b → Holds name (shown r.name r.limit r.found files) (reading_of name (r ∷ readings))
-agrees_more r readings files name rest true e = rw e (here files name r.name r.limit r.found e)
-agrees_more r readings files name rest false e = rw (e, there files name r.name r.limit r.found e) rest
+  agrees_more : (r : Read) (readings : List Read) (files : List File) (name : List ℕ) → Holds name files (reading_of name readings) → (b : Bool) → bytes_eq name r.name ≡ b → Holds name (shown r.name limit r.found files) (reading_of name (r ∷ readings))
+  agrees_more r readings files name rest true e = rw e (here files name r.name limit r.found e)
+  agrees_more r readings files name rest false e = rw (e, there files name r.name limit r.found e) rest
 
-agrees : (readings : List Read) → AgreeWith readings (shown_all readings)
-agrees [] name = tt
-agrees (r ∷ readings) name = agrees_more r readings (shown_all readings) name (agrees readings name) (bytes_eq name r.name) refl
+  agrees : (readings : List Read) → AgreeWith limit readings (shown_all limit readings)
+  agrees [] name = tt
+  agrees (r ∷ readings) name = agrees_more r readings (shown_all limit readings) name (agrees readings name) (bytes_eq name r.name) refl
 
--- some files agree with what was read
-pub told : (readings : List Read) → (files : List File) × AgreeWith readings files
-told readings = (shown_all readings, agrees readings)
+  -- some files agree with what was read
+  pub some_agree : (readings : List Read) → (files : List File) × AgreeWith limit readings files
+  some_agree readings = (shown_all limit readings, agrees readings)
