@@ -1,9 +1,11 @@
 -- A check, step by step.
-use Rattle.std.proofs.Common.{All, Contains, ◌≡◌, ℕ, suc, List, [], ◌∷◌, ◌++◌, ◌+◌, ◌<◌, ◌≤◌, subst, sym, ap, refl, arith, ◌∙◌, inl, inr, drop, length, get_or, ℤ, Result, Ok, Err, IfOk}
+use Rattle.std.proofs.Common.{All, Contains, ◌≡◌, ℕ, suc, List, [], ◌∷◌, ◌++◌, ◌+◌, ◌<◌, ◌≤◌, subst, sym, ap, refl, arith, ◌∙◌, inl, inr, drop, length, get_or, ℤ, Result, Ok, Err, IfOk, Option}
+use Rattle.std.specs.List.{AllZip}
 use Rattle.std.specs.Prelude.{IfErr}
 use Rattle.std.proofs.lemmas.List.Elements.{All-head, All-tail, All-contains_itself}
 use Rattle.std.proofs.lemmas.List.{append_assoc, drop_more, drop_all}
 use Rattle.step_problem.specs.declared.heads.Bound.{Bound}
+use Rattle.step_problem.specs.declared.place.ZoneFlow.{ZoneFlow}
 use Rattle.budget_bounds.specs.declared.pair.Budget.{Budget}
 use Rattle.model_types.specs.declared.model.FlowModel.{FlowModel}
 use Rattle.model_types.specs.declared.time_steps.TimeStep.{TimeStep}
@@ -14,8 +16,9 @@ use Rattle.model_types.specs.Valid.{IsModel}
 use Rattle.flow_equations.specs.Histories.{heads_of, Solves, SolvesAt}
 use Rattle.problem_builder.specs.GridHeads.{AreGridHeads, HeadsEnclose}
 use Rattle.problem_builder.specs.StartHeads.{AreStartHeads}
+use Rattle.zone_pairs.specs.Pairs.{pairs_in}
 use Rattle.listing_io.specs.declared.listing.ListedStep.{ListedStep}
-use Rattle.listing_io.specs.Listed.{AreListed, IsListedStep, step_in}
+use Rattle.listing_io.specs.Listed.{AreFlows, AreFlowsAt, AreListed, IsListedStep, step_in}
 use Rattle.listing_run.specs.declared.step.Step.{Step}
 use Rattle.listing_run.specs.Bounding.{BoundAll, BoundsMoves}
 use Rattle.listing_run.proofs.UnderWay.{HasCome, one_move, nothing_more}
@@ -34,56 +37,61 @@ use Rattle.exact_histories.proofs.Turns.{one_more as one_turn_more}
 use Rattle.check_run.proofs.Listed.{grid_of}
 
 -- what holds of the heads before a step and of the step, as they were lent
-pub here : (P : List Bound → ListedStep → Type 0) (old olds heads : List Bound) (budget : Budget) (w : ListedStep) → old ≡ olds → heads ≡ w.heads → budget ≡ w.budget → P old (record { heads = heads; budget = budget }) → P olds w
-here P old olds heads budget w is is_heads is_budget h =
-    let O : List Bound → Type 0 = λ o. P o (record { heads = heads; budget = budget }) in
-    let H : List Bound → Type 0 = λ hs. P olds (record { heads = hs; budget = budget }) in
-    let B : Budget → Type 0 = λ b. P olds (record { heads = w.heads; budget = b }) in
-    subst B is_budget (subst H is_heads (subst O is h))
+pub here : (P : List Bound → ListedStep → Type 0) (old olds heads : List Bound) (budget : Budget) (flows : List ZoneFlow) (w : ListedStep) → old ≡ olds → heads ≡ w.heads → budget ≡ w.budget → flows ≡ w.zones →
+    P old (record { heads = heads; budget = budget; zones = flows }) → P olds w
+here P old olds heads budget flows w is is_heads is_budget are_flows h =
+    let O : List Bound → Type 0 = λ o. P o (record { heads = heads; budget = budget; zones = flows }) in
+    let H : List Bound → Type 0 = λ hs. P olds (record { heads = hs; budget = budget; zones = flows }) in
+    let B : Budget → Type 0 = λ b. P olds (record { heads = w.heads; budget = b; zones = flows }) in
+    let Z : List ZoneFlow → Type 0 = λ z. P olds (record { heads = w.heads; budget = w.budget; zones = z }) in
+    subst Z are_flows (subst B is_budget (subst H is_heads (subst O is h)))
 
-module _ (m : FlowModel) (s : ℕ) (all : List ListedStep) where
+module _ (m : FlowModel) (s : ℕ) (zones : Option (List ℕ)) (all : List ListedStep) where
   -- the check got so far: from the heads of the last step on, what holds of the rest holds of all
   pub record IsSoFar (old : List Bound) (rest : List TimeStep) (steps : List ListedStep) : Type 0 where
     pub grid : AreGridHeads m old
-    pub goes_on : (end : ListingVerdict) → Checks m s old rest steps end → IsVerdict m s all end
+    pub goes_on : (end : ListingVerdict) → Checks m s zones old rest steps end → IsVerdict m s zones all end
     pub values : List Step
     pub same : values ++ steps_of rest steps ≡ steps_of (times m) all
-    pub encloses : (d : ℕ) (Xs : List (ℕ → ℤ)) → Solves m d Xs → HasCome (checked_task m s) old rest values d Xs
-    -- the times left are times of the model; where they can be solved in turn from exact heads within the last ones, all times can; and so for their histories being the same
+    pub encloses : (d : ℕ) (Xs : List (ℕ → ℤ)) → Solves m d Xs → HasCome (checked_task m s zones) old rest values d Xs
+    -- the times left are times of the model, and their steps have their flows between zones; where they can be solved in turn from exact heads within the last ones, all times can; and so for their histories being the same
     pub left : All (Contains (times m)) rest
+    pub flows : AllZip (AreFlowsAt (pairs_in m zones)) rest steps
     pub solvable : ((before : ℕ → Fraction) → HeadsEnclose m old before → GoOn m rest before) → GoOn m (times m) (start_head m)
     pub one : ((before other : ℕ → Fraction) → HeadsEnclose m old before → AreSameHeads m other before → AreOne m rest before other) → AreOne m (times m) (start_head m) (start_head m)
 
-  pub at_first : (start : List Bound) → AreStartHeads m start → AreGridHeads m start → HeadsEnclose m start (start_head m) → IsSoFar start (times m) all
-  at_first start is grid encloses = record {
+  pub at_first : (start : List Bound) → AreStartHeads m start → AreGridHeads m start → HeadsEnclose m start (start_head m) → AreListed m (pairs_in m zones) all → IsSoFar start (times m) all
+  at_first start is grid encloses listed = record {
     grid = grid;
     goes_on = λ end h. record { start = start; is_start = is; checks = h };
     values = [];
     same = refl;
     encloses = λ d Xs h. record { before = start_head m; last = Xs; within = encloses; solves = h.steps; goes_on = λ more w. w };
     left = All-contains_itself (times m);
+    flows = listed.flows;
     solvable = λ others. others (start_head m) encloses;
     one = λ others. others (start_head m) (start_head m) encloses (λ c a. record { same = refl });
   }
 
   -- a solution of a step that bounds them all lies within its heads
-  lands : (at : TimeStep) (old : List Bound) (w : ListedStep) → BoundsMoves (checked_task m s) at old (step_of at w) → (before : ℕ → Fraction) (d : ℕ) (X : ℕ → ℤ) → HeadsEnclose m old before → 0 < d → SolvesAt m at before d X → HeadsEnclose m w.heads (heads_of d X)
+  lands : (at : TimeStep) (old : List Bound) (w : ListedStep) → BoundsMoves (checked_task m s zones) at old (step_of at w) → (before : ℕ → Fraction) (d : ℕ) (X : ℕ → ℤ) → HeadsEnclose m old before → 0 < d → SolvesAt m at before d X → HeadsEnclose m w.heads (heads_of d X)
   lands at old w moves before d X olds some solves = lies_encloses m w.heads d X some (moves before d X (record { within = olds; some = some; solves = solves })).heads
 
-  pub one_more : (old : List Bound) (at : TimeStep) (rest : List TimeStep) (w : ListedStep) (steps : List ListedStep) → IsSoFar old (at ∷ rest) (w ∷ steps) → AreGridHeads m w.heads → IsModel m → Passes m s at old w → BoundsMoves (checked_task m s) at old (step_of at w) → IsSoFar w.heads rest steps
+  pub one_more : (old : List Bound) (at : TimeStep) (rest : List TimeStep) (w : ListedStep) (steps : List ListedStep) → IsSoFar old (at ∷ rest) (w ∷ steps) → AreGridHeads m w.heads → IsModel m → Passes m s zones at old w → BoundsMoves (checked_task m s zones) at old (step_of at w) → IsSoFar w.heads rest steps
   one_more old at rest w steps f grid valid passes moves = record {
     grid = grid;
     goes_on = λ end h. f.goes_on end (inl (passes, h));
     values = f.values ++ (step_of at w ∷ []);
     same = append_assoc f.values (step_of at w ∷ []) (steps_of rest steps) ∙ f.same;
-    encloses = λ d Xs h. let e = f.encloses d Xs h in one_move (checked_task m s) old at rest f.values (step_of at w) w.heads d Xs h.some refl moves e.before e.last e.within e.solves e.goes_on;
+    encloses = λ d Xs h. let e = f.encloses d Xs h in one_move (checked_task m s zones) old at rest f.values (step_of at w) w.heads d Xs h.some refl moves e.before e.last e.within e.solves e.goes_on;
     left = All-tail (Contains (times m)) at rest f.left;
-    solvable = λ others. f.solvable (go_on_more m s at old passes.problem passes.barrier valid (All-head (Contains (times m)) at rest f.left) f.grid passes.heads.posed w.heads (lands at old w moves) rest others);
-    one = λ others. f.one (one_turn_more m s at old passes.problem passes.barrier valid (All-head (Contains (times m)) at rest f.left) f.grid passes.heads.posed w.heads (lands at old w moves) rest others);
+    flows = f.flows.1;
+    solvable = λ others. f.solvable (go_on_more m s at old passes.problem passes.barrier valid (All-head (Contains (times m)) at rest f.left) f.grid passes.terms.heads.posed w.heads (lands at old w moves) rest others);
+    one = λ others. f.one (one_turn_more m s at old passes.problem passes.barrier valid (All-head (Contains (times m)) at rest f.left) f.grid passes.terms.heads.posed w.heads (lands at old w moves) rest others);
   }
 
   -- the step at hand is the first of the rest
-  pub at_step : (old : List Bound) (i : ℕ) (items : List TimeStep) (d : TimeStep) → items ≡ times m → AreListed m all → i < length items → IsSoFar old (drop i (times m)) (drop i all) → IsSoFar old (get_or items i d ∷ drop (i + 1) (times m)) (step_in all i ∷ drop (i + 1) all)
+  pub at_step : (old : List Bound) (i : ℕ) (items : List TimeStep) (d : TimeStep) → items ≡ times m → AreListed m (pairs_in m zones) all → i < length items → IsSoFar old (drop i (times m)) (drop i all) → IsSoFar old (get_or items i d ∷ drop (i + 1) (times m)) (step_in all i ∷ drop (i + 1) all)
   at_step old i items d is listed below f =
       let P : List TimeStep → Type 0 = λ ts. IsSoFar old ts (step_in all i ∷ drop (i + 1) all) in
       let Q : List ListedStep → Type 0 = λ ws. IsSoFar old (drop i (times m)) ws in
@@ -93,7 +101,7 @@ module _ (m : FlowModel) (s : ℕ) (all : List ListedStep) where
       subst S is (subst P (drop_more items i d below) (subst R (sym is) (subst Q (drop_more all i _ inside) f)))
 
   -- past the last step there is none
-  at_end : (old : List Bound) (i : ℕ) (items : List TimeStep) → items ≡ times m → AreListed m all → length items ≤ i → IsSoFar old (drop i (times m)) (drop i all) → IsSoFar old [] []
+  at_end : (old : List Bound) (i : ℕ) (items : List TimeStep) → items ≡ times m → AreListed m (pairs_in m zones) all → length items ≤ i → IsSoFar old (drop i (times m)) (drop i all) → IsSoFar old [] []
   at_end old i items is listed above f =
       let past : length (times m) ≤ i = omega (arith, above, ap length is) in
       let past_all : length all ≤ i = omega (arith, past, listed.whole) in
@@ -101,19 +109,19 @@ module _ (m : FlowModel) (s : ℕ) (all : List ListedStep) where
       let R : List TimeStep → Type 0 = λ ts. IsSoFar old ts [] in
       subst R (drop_all i (times m) past) (subst Q (drop_all i all past_all) f)
 
-  enclosed : (old : List Bound) → IsSoFar old [] [] → ListingEncloses m s all
+  enclosed : (old : List Bound) → IsSoFar old [] [] → ListingEncloses m s zones all
   enclosed old f d Xs h =
       let e = f.encloses d Xs h in
-      let P : List Step → Type 0 = λ vs. BoundAll (checked_task m s) d (start_head m) vs Xs in
-      subst P f.same (e.goes_on [] (nothing_more (checked_task m s) d e.before e.last e.solves))
+      let P : List Step → Type 0 = λ vs. BoundAll (checked_task m s zones) d (start_head m) vs Xs in
+      subst P f.same (e.goes_on [] (nothing_more (checked_task m s zones) d e.before e.last e.solves))
 
-  pub ends_certified : (old : List Bound) (i : ℕ) (items : List TimeStep) → items ≡ times m → AreListed m all → length items ≤ i → IsSoFar old (drop i (times m)) (drop i all) → IsVerdict m s all Certified
+  pub ends_certified : (old : List Bound) (i : ℕ) (items : List TimeStep) → items ≡ times m → AreListed m (pairs_in m zones) all → length items ≤ i → IsSoFar old (drop i (times m)) (drop i all) → IsVerdict m s zones all Certified
   ends_certified old i items is listed above f = (at_end old i items is listed above f).goes_on Certified tt
 
-  pub ends_enclosed : (old : List Bound) (i : ℕ) (items : List TimeStep) → items ≡ times m → AreListed m all → length items ≤ i → IsSoFar old (drop i (times m)) (drop i all) → ListingEncloses m s all
+  pub ends_enclosed : (old : List Bound) (i : ℕ) (items : List TimeStep) → items ≡ times m → AreListed m (pairs_in m zones) all → length items ≤ i → IsSoFar old (drop i (times m)) (drop i all) → ListingEncloses m s zones all
   ends_enclosed old i items is listed above f = enclosed old (at_end old i items is listed above f)
 
-  pub ends_history : (old : List Bound) (i : ℕ) (items : List TimeStep) → items ≡ times m → AreListed m all → length items ≤ i → IsSoFar old (drop i (times m)) (drop i all) → HasOneHistory m
+  pub ends_history : (old : List Bound) (i : ℕ) (items : List TimeStep) → items ≡ times m → AreListed m (pairs_in m zones) all → length items ≤ i → IsSoFar old (drop i (times m)) (drop i all) → HasOneHistory m
   ends_history old i items is listed above f =
       let end = at_end old i items is listed above f in
       let (d, Xs, some, solves) = history_of_steps m (times m) (start_head m) (end.solvable (λ before olds. tt)) in
@@ -122,33 +130,38 @@ module _ (m : FlowModel) (s : ℕ) (all : List ListedStep) where
         one = λ d e history other first second. end.one (λ before other olds same. none_left m before other) d e history other first.some second.some first.steps second.steps;
       }
 
-  stops_by : (at : TimeStep) (old : List Bound) (w : ListedStep) (f : CheckFault) (v : ListingVerdict) → FailsBy m s at old w f → IsVerdictAt at f v → StopsAt m s at old w v
-  stops_by at old w (fault.Fails place) v h is = let P : ListingVerdict → Type 0 = StopsAt m s at old w in subst P (sym is) (refl, h)
-  stops_by at old w (fault.Refused n) v h is = let P : ListingVerdict → Type 0 = StopsAt m s at old w in subst P (sym is) (refl, h)
+  stops_by : (at : TimeStep) (old : List Bound) (w : ListedStep) (f : CheckFault) (v : ListingVerdict) → FailsBy m s zones at old w f → IsVerdictAt at f v → StopsAt m s zones at old w v
+  stops_by at old w (fault.Fails place) v h is = let P : ListingVerdict → Type 0 = StopsAt m s zones at old w in subst P (sym is) (refl, h)
+  stops_by at old w (fault.Refused n) v h is = let P : ListingVerdict → Type 0 = StopsAt m s zones at old w in subst P (sym is) (refl, h)
   stops_by at old w fault.Memory v h is = absurd is
 
-  pub ends_by : (old : List Bound) (at : TimeStep) (rest : List TimeStep) (w : ListedStep) (steps : List ListedStep) (f : CheckFault) (v : ListingVerdict) → IsSoFar old (at ∷ rest) (w ∷ steps) → FailsBy m s at old w f → IsVerdictAt at f v → IsVerdict m s all v
+  pub ends_by : (old : List Bound) (at : TimeStep) (rest : List TimeStep) (w : ListedStep) (steps : List ListedStep) (f : CheckFault) (v : ListingVerdict) → IsSoFar old (at ∷ rest) (w ∷ steps) → FailsBy m s zones at old w f → IsVerdictAt at f v → IsVerdict m s zones all v
   ends_by old at rest w steps f v so_far h is = so_far.goes_on v (inr (stops_by at old w f v h is))
 
   -- One step of the loop, from what was lent to the check of the step.
-  module _ (start : List Bound) (i : ℕ) (items : List TimeStep) (d : TimeStep) (is : items ≡ times m) (listed : AreListed m all) (below : i < length items) (f : IsSoFar (heads_before start all i) (drop i (times m)) (drop i all))
-      (n : ℕ) (digits : n ≡ s) (old heads : List Bound) (budget : Budget) (old_is : old ≡ heads_before start all i) (heads_are : heads ≡ (step_in all i).heads) (budget_is : budget ≡ (step_in all i).budget) where
+  module _ (start : List Bound) (i : ℕ) (items : List TimeStep) (d : TimeStep) (is : items ≡ times m) (listed : AreListed m (pairs_in m zones) all) (below : i < length items) (f : IsSoFar (heads_before start all i) (drop i (times m)) (drop i all))
+      (n : ℕ) (digits : n ≡ s) (old heads : List Bound) (budget : Budget) (flows : List ZoneFlow) (old_is : old ≡ heads_before start all i) (heads_are : heads ≡ (step_in all i).heads) (budget_is : budget ≡ (step_in all i).budget) (flows_are : flows ≡ (step_in all i).zones) where
     pub listed_at : IsListedStep m (step_in all i)
     listed_at = listed.steps i _ (omega (arith, below, ap length is, listed.whole))
 
-    pub stops_here : (fault : CheckFault) (v : ListingVerdict) → FailsBy m n (get_or items i d) old (record { heads = heads; budget = budget }) fault → IsVerdictAt (get_or items i d) fault v → IsVerdict m s all v
-    stops_here fault v h verdict =
-        let D : ℕ → Type 0 = λ k. FailsBy m k (get_or items i d) old (record { heads = heads; budget = budget }) fault in
-        let P : List Bound → ListedStep → Type 0 = λ o w. FailsBy m s (get_or items i d) o w fault in
-        ends_by (heads_before start all i) (get_or items i d) (drop (i + 1) (times m)) (step_in all i) (drop (i + 1) all) fault v (at_step (heads_before start all i) i items d is listed below f)
-        (here P old (heads_before start all i) heads budget (step_in all i) old_is heads_are budget_is (subst D digits h)) verdict
+    pub flows_here : AreFlows (pairs_in m zones (get_or items i d).period) flows
+    flows_here =
+        let F : List ZoneFlow → Type 0 = AreFlows (pairs_in m zones (get_or items i d).period) in
+        subst F (sym flows_are) (at_step (heads_before start all i) i items d is listed below f).flows.0
 
-    pub goes_here : IsModel m → Passes m n (get_or items i d) old (record { heads = heads; budget = budget }) → BoundsMoves (checked_task m n) (get_or items i d) old (step_of (get_or items i d) (record { heads = heads; budget = budget })) →
+    pub stops_here : (fault : CheckFault) (v : ListingVerdict) → FailsBy m n zones (get_or items i d) old (record { heads = heads; budget = budget; zones = flows }) fault → IsVerdictAt (get_or items i d) fault v → IsVerdict m s zones all v
+    stops_here fault v h verdict =
+        let D : ℕ → Type 0 = λ k. FailsBy m k zones (get_or items i d) old (record { heads = heads; budget = budget; zones = flows }) fault in
+        let P : List Bound → ListedStep → Type 0 = λ o w. FailsBy m s zones (get_or items i d) o w fault in
+        ends_by (heads_before start all i) (get_or items i d) (drop (i + 1) (times m)) (step_in all i) (drop (i + 1) all) fault v (at_step (heads_before start all i) i items d is listed below f)
+        (here P old (heads_before start all i) heads budget flows (step_in all i) old_is heads_are budget_is flows_are (subst D digits h)) verdict
+
+    pub goes_here : IsModel m → Passes m n zones (get_or items i d) old (record { heads = heads; budget = budget; zones = flows }) → BoundsMoves (checked_task m n zones) (get_or items i d) old (step_of (get_or items i d) (record { heads = heads; budget = budget; zones = flows })) →
         IsSoFar (heads_before start all (i + 1)) (drop (i + 1) (times m)) (drop (i + 1) all)
     goes_here valid passes moves =
-        let D : ℕ → Type 0 = λ k. Passes m k (get_or items i d) old (record { heads = heads; budget = budget }) × BoundsMoves (checked_task m k) (get_or items i d) old (step_of (get_or items i d) (record { heads = heads; budget = budget })) in
-        let P : List Bound → ListedStep → Type 0 = λ o w. Passes m s (get_or items i d) o w × BoundsMoves (checked_task m s) (get_or items i d) o (step_of (get_or items i d) w) in
-        let h = here P old (heads_before start all i) heads budget (step_in all i) old_is heads_are budget_is (subst D digits (passes, moves)) in
+        let D : ℕ → Type 0 = λ k. Passes m k zones (get_or items i d) old (record { heads = heads; budget = budget; zones = flows }) × BoundsMoves (checked_task m k zones) (get_or items i d) old (step_of (get_or items i d) (record { heads = heads; budget = budget; zones = flows })) in
+        let P : List Bound → ListedStep → Type 0 = λ o w. Passes m s zones (get_or items i d) o w × BoundsMoves (checked_task m s zones) (get_or items i d) o (step_of (get_or items i d) w) in
+        let h = here P old (heads_before start all i) heads budget flows (step_in all i) old_is heads_are budget_is flows_are (subst D digits (passes, moves)) in
         let Q : ℕ → Type 0 = λ k. IsSoFar (heads_before start all k) (drop (i + 1) (times m)) (drop (i + 1) all) in
         let next : suc i ≡ i + 1 = omega arith in
         subst Q next (one_more (heads_before start all i) (get_or items i d) (drop (i + 1) (times m)) (step_in all i) (drop (i + 1) all) (at_step (heads_before start all i) i items d is listed below f) (grid_of m (step_in all i) listed_at) valid h.0 h.1)

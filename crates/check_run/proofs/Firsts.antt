@@ -1,16 +1,24 @@
--- What is first is one: a cell and its side, and a term of a budget.
-use Rattle.std.proofs.Common.{◌≡◌, ℕ, ◌<◌, inl, inr, refl, ap, subst, arith}
+-- What is first is one: a cell and its side, a term of a budget, and a pair of zones.
+use Rattle.std.proofs.Common.{◌≡◌, ◌∙◌, ℕ, ◌<◌, inl, inr, List, [], ◌∷◌, Option, Some, None, refl, sym, ap, subst, arith}
+use Rattle.std.specs.List.{AllZip}
 use Rattle.std.proofs.lemmas.Bool.{cases_order}
 use Rattle.step_problem.specs.declared.heads.Side.{Side}
 use Rattle.step_problem.specs.declared.heads.Side.TheVariants.{Low, High}
 use Rattle.step_problem.specs.declared.place.Dir.{Dir}
 use Rattle.step_problem.specs.declared.place.Dir.TheVariants.{In, Out}
 use Rattle.step_problem.specs.declared.place.Place.TheVariants as places
+use Rattle.step_problem.specs.declared.heads.Bound.{Bound}
+use Rattle.step_problem.specs.declared.place.NoBound.{NoBound}
 use Rattle.step_problem.specs.declared.place.Term.{Term}
+use Rattle.step_problem.specs.declared.place.ZoneFlow.{ZoneFlow}
+use Rattle.step_problem.specs.Entries.{Entries}
 use Rattle.budget_bounds.specs.declared.pair.Budget.{Budget}
 use Rattle.budget_bounds.specs.Covers.{IsFirstUncovered, line_of}
 use Rattle.budget_bounds.proofs.Covering.{same_place}
 use Rattle.budget_bounds.proofs.Ordered.{place_within}
+use Rattle.zone_flows.proofs.Unique.{flows_are_one, flows_exclude_refusal, refusal_is_one}
+use Rattle.listing_run.specs.Zones.{AreFlowsOf, HasLargeFlowOf, faces_of}
+use Rattle.check_run.specs.Flows.{CoversFlow, IsFirstNarrow}
 
 module _ (H : ℕ → Side → Type 0) where
   -- H fails there, and nowhere before
@@ -44,3 +52,32 @@ term_one listed computed d e t u f g = elim (cases_order (line_of d t) (line_of 
   | inr (inl less) ↦ absurd (f.short (g.first d t less))
   | inr (inr more) ↦ absurd (g.short (f.first e u more))
 ]
+
+-- the first listed flow that is too narrow
+pub narrow_one : (listed computed : List ZoneFlow) (a b c d : ℕ) → IsFirstNarrow listed computed a b → IsFirstNarrow listed computed c d → (a ≡ c) × (b ≡ d)
+narrow_one [] computed a b c d f g = absurd f
+narrow_one (v ∷ listed) [] a b c d f g = absurd f
+narrow_one (v ∷ listed) (w ∷ computed) a b c d (inl f) (inl g) = (f.1 ∙ sym g.1, f.2 ∙ sym g.2)
+narrow_one (v ∷ listed) (w ∷ computed) a b c d (inl f) (inr g) = absurd (f.0 g.0)
+narrow_one (v ∷ listed) (w ∷ computed) a b c d (inr f) (inl g) = absurd (g.0 f.0)
+narrow_one (v ∷ listed) (w ∷ computed) a b c d (inr f) (inr g) = narrow_one listed computed a b c d f.1 g.1
+
+pub never_narrow : (listed computed : List ZoneFlow) (a b : ℕ) → IsFirstNarrow listed computed a b → AllZip CoversFlow listed computed → ⊥
+never_narrow [] computed a b f wide = f
+never_narrow (v ∷ listed) [] a b f wide = f
+never_narrow (v ∷ listed) (w ∷ computed) a b (inl f) wide = f.0 wide.0
+never_narrow (v ∷ listed) (w ∷ computed) a b (inr f) wide = never_narrow listed computed a b f.1 wide.1
+
+-- the flows between the zones of a zone file, or the first pair whose flow is too large
+module _ (p : List Entries) (heads : List Bound) where
+  pub same_flows : (o : Option (List ℕ)) (vs ws : List ZoneFlow) → AreFlowsOf p heads o vs → AreFlowsOf p heads o ws → vs ≡ ws
+  same_flows None vs ws a b = a ∙ sym b
+  same_flows (Some zones) vs ws a b = flows_are_one (faces_of p heads zones) ws vs b a
+
+  pub none_large : (o : Option (List ℕ)) (vs : List ZoneFlow) (n : NoBound) → AreFlowsOf p heads o vs → HasLargeFlowOf p heads o n → ⊥
+  none_large None vs n a h = h
+  none_large (Some zones) vs n a h = flows_exclude_refusal (faces_of p heads zones) vs n a h
+
+  pub large_one : (o : Option (List ℕ)) (a b : NoBound) → HasLargeFlowOf p heads o a → HasLargeFlowOf p heads o b → a ≡ b
+  large_one None a b h i = absurd h
+  large_one (Some zones) a b h i = refusal_is_one (faces_of p heads zones) a b h i

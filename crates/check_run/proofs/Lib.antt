@@ -5,6 +5,8 @@ pub mod Unposed
 pub mod Passing
 pub mod Outcomes
 pub mod OneVerdict
+pub mod Narrow
+pub mod FlowPairs
 pub mod Checking
 pub mod RunSteps
 pub mod RunTerms

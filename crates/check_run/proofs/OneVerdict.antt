@@ -1,5 +1,6 @@
 -- A listing has one verdict.
-use Rattle.std.proofs.Common.{◌≡◌, ◌≢◌, ◌∙◌, ℕ, suc, ◌<◌, ◌⊎◌, inl, inr, List, [], ◌∷◌, length, All, Ok, Err, refl, sym, ap, subst, arith}
+use Rattle.std.proofs.Common.{◌≡◌, ◌≢◌, ◌∙◌, ℕ, suc, ◌<◌, ◌⊎◌, inl, inr, List, [], ◌∷◌, length, All, Ok, Err, Option, Some, None, refl, sym, ap, subst, arith}
+use Rattle.std.specs.List.{AllZip}
 use Rattle.step_problem.specs.declared.heads.Bound.{Bound}
 use Rattle.step_problem.specs.declared.heads.Side.{Side}
 use Rattle.step_problem.specs.declared.heads.Side.TheVariants.{Low, High}
@@ -8,6 +9,7 @@ use Rattle.step_problem.specs.declared.place.NoBound.{NoBound}
 use Rattle.step_problem.specs.declared.place.Place.{Place}
 use Rattle.step_problem.specs.declared.place.Place.TheVariants as places
 use Rattle.step_problem.specs.declared.place.Term.{Term}
+use Rattle.step_problem.specs.declared.place.ZoneFlow.{ZoneFlow}
 use Rattle.step_problem.specs.Entries.{Entries, entries_at}
 use Rattle.step_problem.specs.Heads.{Edges, lower_at, upper_at, IsCertificate}
 use Rattle.barrier_vector.specs.Barriers.{IsBarrierOf, BarrierIsOne, BarrierExcludesRefusal}
@@ -25,14 +27,16 @@ use Rattle.step_chain.specs.Laws.{IsBefore, RefusalIsOne}
 use Rattle.step_chain.specs.Steps.{IsPosed, HasNoHeads}
 use Rattle.listing_io.specs.declared.listing.ListedStep.{ListedStep}
 use Rattle.listing_io.specs.Listed.{IsListedStep}
+use Rattle.listing_run.specs.Zones.{AreFlowsOf, HasLargeFlowOf}
 use Rattle.listing_run.proofs.Unique.{one_ok, one_err, ok_not_err, IsRest, first_in, rest_more, rest_whole}
 use Rattle.check_run.specs.declared.verdict.ListingVerdict.{ListingVerdict}
 use Rattle.check_run.specs.declared.verdict.ListingVerdict.TheVariants.{Certified, Fails, Refused}
 use Rattle.check_run.specs.Laws.{VerdictIsOne}
 use Rattle.check_run.specs.Reaching.{ConstantsReach, IsConstantCell, IsFirstShort, ReachesAt}
-use Rattle.check_run.specs.Steps.{bounds, budget_at, Passes, FailsAt, at_constant, at_variable, at_term, IsRefused, no_heads, no_budget}
+use Rattle.check_run.specs.Flows.{CoversFlow, IsFirstNarrow}
+use Rattle.check_run.specs.Steps.{bounds, budget_at, Passes, FailsAt, at_constant, at_variable, at_term, at_zones, IsRefused, no_heads, no_budget, no_flows}
 use Rattle.check_run.specs.Verdicts.{Checks, StopsAt}
-use Rattle.check_run.proofs.Firsts.{IsFirst, first_one, term_one}
+use Rattle.check_run.proofs.Firsts.{IsFirst, first_one, large_one, narrow_one, never_narrow, none_large, same_flows, term_one}
 use Rattle.check_run.proofs.Listed.{grid_of}
 
 -- what the check of one step says
@@ -52,18 +56,24 @@ pub record Laws : Type 0 where
   pub barrier_excludes : BarrierExcludesRefusal
   pub refusal_one : RefusalIsOne
 
-module _ (m : FlowModel) (s : ℕ) (at : TimeStep) (old : List Bound) (w : ListedStep) where
+module _ (m : FlowModel) (s : ℕ) (zones : Option (List ℕ)) (at : TimeStep) (old : List Bound) (w : ListedStep) where
   -- The tests of a step in turn, each by its first failure or what holds of the rest.
 
-  abbrev ByTerms : Budget → Said → Type 0
-  ByTerms budget o = ((dir : Dir) × (t : Term) × IsFirstUncovered w.budget budget dir t × (o ≡ failed (places.Term dir t))) ⊎ (Covers w.budget budget × (o ≡ passed))
+  abbrev ByZones : List ZoneFlow → Said → Type 0
+  ByZones flows o = ((a : ℕ) × (b : ℕ) × IsFirstNarrow w.zones flows a b × (o ≡ failed (places.Zone a b))) ⊎ (AllZip CoversFlow w.zones flows × (o ≡ passed))
+
+  abbrev ByFlows : List Entries → Said → Type 0
+  ByFlows p o = ((n : NoBound) × HasLargeFlowOf p w.heads zones n × (o ≡ refused n)) ⊎ ((flows : List ZoneFlow) × AreFlowsOf p w.heads zones flows × ByZones flows o)
+
+  abbrev ByTerms : List Entries → Budget → Said → Type 0
+  ByTerms p budget o = ((dir : Dir) × (t : Term) × IsFirstUncovered w.budget budget dir t × (o ≡ failed (places.Term dir t))) ⊎ (Covers w.budget budget × ByFlows p o)
 
   abbrev ByBudget : List Entries → Said → Type 0
-  ByBudget p o = ((n : NoBound) × (budget_at m s at old w p ≡ Err n) × (o ≡ refused n)) ⊎ ((budget : Budget) × (budget_at m s at old w p ≡ Ok budget) × ByTerms budget o)
+  ByBudget p o = ((n : NoBound) × (budget_at m s zones at old w p ≡ Err n) × (o ≡ refused n)) ⊎ ((budget : Budget) × (budget_at m s zones at old w p ≡ Ok budget) × ByTerms p budget o)
 
   abbrev ByVariables : List Entries → Edges → Said → Type 0
-  ByVariables p b o = ((k : ℕ) × (side : Side) × IsFirstFailing p b (bounds m s at old w) k side × (o ≡ failed (places.Cell (entries_at p k).id side)))
-      ⊎ (IsCertificate p b (lower_at (bounds m s at old w)) (upper_at (bounds m s at old w)) × ByBudget p o)
+  ByVariables p b o = ((k : ℕ) × (side : Side) × IsFirstFailing p b (bounds m s zones at old w) k side × (o ≡ failed (places.Cell (entries_at p k).id side)))
+      ⊎ (IsCertificate p b (lower_at (bounds m s zones at old w)) (upper_at (bounds m s zones at old w)) × ByBudget p o)
 
   abbrev ByConstants : List Entries → Edges → Said → Type 0
   ByConstants p b o = ((c : ℕ) × (side : Side) × IsFirstShort m at w.heads c side × (o ≡ failed (places.Cell c side))) ⊎ (ConstantsReach m at w.heads × ByVariables p b o)
@@ -73,42 +83,60 @@ module _ (m : FlowModel) (s : ℕ) (at : TimeStep) (old : List Bound) (w : Liste
 
   -- What is defined of a step is said of it.
 
-  passes_said : Passes m s at old w → Says passed
-  passes_said h = inr (h.problem, h.barrier, h.heads.posed, inr (h.heads.constants, inr (h.heads.certificate, inr (h.budget, h.is, inr (h.covers, refl)))))
+  passes_said : Passes m s zones at old w → Says passed
+  passes_said h = let t = h.terms in inr (h.problem, h.barrier, t.heads.posed, inr (t.heads.constants, inr (t.heads.certificate, inr (t.budget, t.is, inr (t.covers, inr (h.flows, h.are, inr (h.wide, refl)))))))
 
-  fails_said : (place : Place) → FailsAt m s at old w place → Says (failed place)
+  fails_said : (place : Place) → FailsAt m s zones at old w place → Says (failed place)
   fails_said place (at_constant p b c side posed f e) = inr (p, b, posed, inl (c, side, f, ap failed e))
   fails_said place (at_variable p b k side posed reach f e) = inr (p, b, posed, inr (reach, inl (k, side, f, ap failed e)))
   fails_said place (at_term p b budget dir t h is f e) = inr (p, b, h.posed, inr (h.constants, inr (h.certificate, inr (budget, is, inl (dir, t, f, ap failed e)))))
+  fails_said place (at_zones p b flows x y t are f e) = inr (p, b, t.heads.posed, inr (t.heads.constants, inr (t.heads.certificate, inr (t.budget, t.is, inr (t.covers, inr (flows, are, inl (x, y, f, ap failed e)))))))
 
-  refused_said : (n : NoBound) → IsRefused m s at old w n → Says (refused n)
+  refused_said : (n : NoBound) → IsRefused m s zones at old w n → Says (refused n)
   refused_said n (no_heads x) = inl (n, x, refl)
   refused_said n (no_budget p b h is) = inr (p, b, h.posed, inr (h.constants, inr (h.certificate, inl (n, is, refl))))
+  refused_said n (no_flows p b t large) = inr (p, b, t.heads.posed, inr (t.heads.constants, inr (t.heads.certificate, inr (t.budget, t.is, inr (t.covers, inl (n, large, refl))))))
 
   -- Each test says one thing.
 
-  terms_one : (budget : Budget) (o q : Said) → ByTerms budget o → ByTerms budget q → o ≡ q
-  terms_one budget o q (inl (d, t, f, e)) (inl (c, u, g, k)) = e ∙ ap failed (term_one w.budget budget d c t u f g) ∙ sym k
-  terms_one budget o q (inl (d, t, f, e)) (inr (covers, k)) = absurd (f.short (covers d t))
-  terms_one budget o q (inr (covers, e)) (inl (d, t, f, k)) = absurd (f.short (covers d t))
-  terms_one budget o q (inr (covers, e)) (inr (also, k)) = e ∙ sym k
+  zones_one : (flows : List ZoneFlow) (o q : Said) → ByZones flows o → ByZones flows q → o ≡ q
+  zones_one flows o q (inl (a, b, f, e)) (inl (c, d, g, k)) =
+      let same = narrow_one w.zones flows a b c d f g in
+      e ∙ ap (λ x. failed (places.Zone x b)) same.0 ∙ ap (λ y. failed (places.Zone c y)) same.1 ∙ sym k
+  zones_one flows o q (inl (a, b, f, e)) (inr (wide, k)) = absurd (never_narrow w.zones flows a b f wide)
+  zones_one flows o q (inr (wide, e)) (inl (a, b, f, k)) = absurd (never_narrow w.zones flows a b f wide)
+  zones_one flows o q (inr (wide, e)) (inr (also, k)) = e ∙ sym k
+
+  flows_one : (p : List Entries) (o q : Said) → ByFlows p o → ByFlows p q → o ≡ q
+  flows_one p o q (inl (n, x, e)) (inl (r, y, k)) = e ∙ ap refused (large_one p w.heads zones n r x y) ∙ sym k
+  flows_one p o q (inl (n, x, e)) (inr (flows, y, h)) = absurd (none_large p w.heads zones flows n y x)
+  flows_one p o q (inr (flows, x, h)) (inl (n, y, k)) = absurd (none_large p w.heads zones flows n x y)
+  flows_one p o q (inr (flows, x, h)) (inr (others, y, k)) =
+      let P : List ZoneFlow → Type 0 = λ vs. ByZones vs o in
+      zones_one others o q (subst P (same_flows p w.heads zones flows others x y) h) k
+
+  terms_one : (p : List Entries) (budget : Budget) (o q : Said) → ByTerms p budget o → ByTerms p budget q → o ≡ q
+  terms_one p budget o q (inl (d, t, f, e)) (inl (c, u, g, k)) = e ∙ ap failed (term_one w.budget budget d c t u f g) ∙ sym k
+  terms_one p budget o q (inl (d, t, f, e)) (inr (covers, k)) = absurd (f.short (covers d t))
+  terms_one p budget o q (inr (covers, e)) (inl (d, t, f, k)) = absurd (f.short (covers d t))
+  terms_one p budget o q (inr (covers, e)) (inr (also, k)) = flows_one p o q e k
 
   budget_one : (p : List Entries) (o q : Said) → ByBudget p o → ByBudget p q → o ≡ q
   budget_one p o q (inl (n, x, e)) (inl (r, y, k)) = e ∙ ap refused (one_err n r (sym x ∙ y)) ∙ sym k
   budget_one p o q (inl (n, x, e)) (inr (b, y, t)) = absurd (ok_not_err b n (sym y ∙ x))
   budget_one p o q (inr (b, x, t)) (inl (n, y, k)) = absurd (ok_not_err b n (sym x ∙ y))
-  budget_one p o q (inr (b, x, t)) (inr (c, y, u)) = let P : Budget → Type 0 = λ z. ByTerms z o in terms_one c o q (subst P (one_ok b c (sym x ∙ y)) t) u
+  budget_one p o q (inr (b, x, t)) (inr (c, y, u)) = let P : Budget → Type 0 = λ z. ByTerms p z o in terms_one p c o q (subst P (one_ok b c (sym x ∙ y)) t) u
 
-  certified_at : (p : List Entries) (b : Edges) (k : ℕ) (side : Side) → k < length p → IsCertificate p b (lower_at (bounds m s at old w)) (upper_at (bounds m s at old w)) → HoldsAt p b (bounds m s at old w) k side
+  certified_at : (p : List Entries) (b : Edges) (k : ℕ) (side : Side) → k < length p → IsCertificate p b (lower_at (bounds m s zones at old w)) (upper_at (bounds m s zones at old w)) → HoldsAt p b (bounds m s zones at old w) k side
   certified_at p b k Low lt h = h.low k lt
   certified_at p b k High lt h = h.high k lt
 
-  first_failing : (p : List Entries) (b : Edges) (k : ℕ) (side : Side) → IsFirstFailing p b (bounds m s at old w) k side → IsFirst (HoldsAt p b (bounds m s at old w)) k side
+  first_failing : (p : List Entries) (b : Edges) (k : ℕ) (side : Side) → IsFirstFailing p b (bounds m s zones at old w) k side → IsFirst (HoldsAt p b (bounds m s zones at old w)) k side
   first_failing p b k side f = record { fails = f.fails; least = f.least; low_first = f.low_first }
 
   variables_one : (p : List Entries) (b : Edges) (o q : Said) → ByVariables p b o → ByVariables p b q → o ≡ q
   variables_one p b o q (inl (k, x, f, e)) (inl (j, y, g, h)) =
-      let (same, also) = first_one (HoldsAt p b (bounds m s at old w)) k j x y (first_failing p b k x f) (first_failing p b j y g) in
+      let (same, also) = first_one (HoldsAt p b (bounds m s zones at old w)) k j x y (first_failing p b k x f) (first_failing p b j y g) in
       e ∙ ap (λ i. failed (places.Cell (entries_at p i).id x)) same ∙ ap (λ z. failed (places.Cell (entries_at p j).id z)) also ∙ sym h
   variables_one p b o q (inl (k, x, f, e)) (inr (holds, h)) = absurd (f.fails (certified_at p b k x f.within holds))
   variables_one p b o q (inr (holds, h)) (inl (k, x, f, e)) = absurd (f.fails (certified_at p b k x f.within holds))
@@ -159,23 +187,23 @@ module _ (m : FlowModel) (s : ℕ) (at : TimeStep) (old : List Bound) (w : Liste
     is : v ≡ told said
     stops : said ≢ passed
 
-  stopped : (v : ListingVerdict) → StopsAt m s at old w v → Stopped v
+  stopped : (v : ListingVerdict) → StopsAt m s zones at old w v → Stopped v
   stopped Certified h = absurd h
   stopped (Fails t place) (same, f) = record { said = failed place; says = fails_said place f; is = ap (λ x. Fails x place) same; stops = λ e. cc }
   stopped (Refused t n) (same, r) = record { said = refused n; says = refused_said n r; is = ap (λ x. Refused x n) same; stops = λ e. cc }
 
   module _ (laws : Laws) (before : IsBefore m at old) where
-    stops_one : (a b : ListingVerdict) → StopsAt m s at old w a → StopsAt m s at old w b → a ≡ b
+    stops_one : (a b : ListingVerdict) → StopsAt m s zones at old w a → StopsAt m s zones at old w b → a ≡ b
     stops_one a b h k =
         let x = stopped a h in
         let y = stopped b k in
         x.is ∙ ap told (said_one laws before x.said y.said x.says y.says) ∙ sym y.is
 
-    passes_excludes : (v : ListingVerdict) → Passes m s at old w → StopsAt m s at old w v → ⊥
+    passes_excludes : (v : ListingVerdict) → Passes m s zones at old w → StopsAt m s zones at old w v → ⊥
     passes_excludes v h k = let x = stopped v k in x.stops (said_one laws before x.said passed x.says (passes_said h))
 
-module _ (laws : Laws) (m : FlowModel) (s : ℕ) (model : IsModel m) where
-  checks_one : (old : List Bound) (rest : List TimeStep) (steps : List ListedStep) (a b : ListingVerdict) → IsRest (times m) rest → AreGridHeads m old → All (IsListedStep m) steps → Checks m s old rest steps a → Checks m s old rest steps b → a ≡ b
+module _ (laws : Laws) (m : FlowModel) (s : ℕ) (zones : Option (List ℕ)) (model : IsModel m) where
+  checks_one : (old : List Bound) (rest : List TimeStep) (steps : List ListedStep) (a b : ListingVerdict) → IsRest (times m) rest → AreGridHeads m old → All (IsListedStep m) steps → Checks m s zones old rest steps a → Checks m s zones old rest steps b → a ≡ b
   checks_one old [] [] Certified Certified r heads l h k = refl
   checks_one old [] [] Certified (Fails t place) r heads l h k = absurd k
   checks_one old [] [] Certified (Refused t n) r heads l h k = absurd k
@@ -185,12 +213,12 @@ module _ (laws : Laws) (m : FlowModel) (s : ℕ) (model : IsModel m) where
   checks_one old (at ∷ rest) [] a b r heads l h k = absurd h
   checks_one old (at ∷ rest) (w ∷ steps) a b r heads l (inl (p, h)) (inl (q, k)) =
       checks_one w.heads rest steps a b (rest_more (times m) at rest r) (grid_of m w (l 0 w (omega arith))) (λ i d lt. l (suc i) d (omega (arith, lt))) h k
-  checks_one old (at ∷ rest) (w ∷ steps) a b r heads l (inl (p, h)) (inr k) = absurd (passes_excludes m s at old w laws (record { model = model; time = r.each at (first_in at rest); heads = heads }) b p k)
-  checks_one old (at ∷ rest) (w ∷ steps) a b r heads l (inr h) (inl (q, k)) = absurd (passes_excludes m s at old w laws (record { model = model; time = r.each at (first_in at rest); heads = heads }) a q h)
-  checks_one old (at ∷ rest) (w ∷ steps) a b r heads l (inr h) (inr k) = stops_one m s at old w laws (record { model = model; time = r.each at (first_in at rest); heads = heads }) a b h k
+  checks_one old (at ∷ rest) (w ∷ steps) a b r heads l (inl (p, h)) (inr k) = absurd (passes_excludes m s zones at old w laws (record { model = model; time = r.each at (first_in at rest); heads = heads }) b p k)
+  checks_one old (at ∷ rest) (w ∷ steps) a b r heads l (inr h) (inl (q, k)) = absurd (passes_excludes m s zones at old w laws (record { model = model; time = r.each at (first_in at rest); heads = heads }) a q h)
+  checks_one old (at ∷ rest) (w ∷ steps) a b r heads l (inr h) (inr k) = stops_one m s zones at old w laws (record { model = model; time = r.each at (first_in at rest); heads = heads }) a b h k
 
 pub verdicts_one : Laws → VerdictIsOne
-verdicts_one laws m s steps a b model listed x y =
-    let P : List Bound → Type 0 = λ start. Checks m s start (times m) steps b in
-    checks_one laws m s model x.start (times m) steps a b (rest_whole (times m)) (laws.start_fits m x.start model x.is_start) listed.steps x.checks
+verdicts_one laws m s zones steps a b model listed x y =
+    let P : List Bound → Type 0 = λ start. Checks m s zones start (times m) steps b in
+    checks_one laws m s zones model x.start (times m) steps a b (rest_whole (times m)) (laws.start_fits m x.start model x.is_start) listed.steps x.checks
     (subst P (laws.start_one m y.start x.start model y.is_start x.is_start) y.checks)

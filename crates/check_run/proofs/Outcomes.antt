@@ -1,8 +1,9 @@
 -- What the check of a posed step says, by what its calls gave.
-use Rattle.std.proofs.Common.{◌≡◌, ℕ, ◌∙◌, List, Contains, Ok, Err, map, subst, sym, refl}
+use Rattle.std.proofs.Common.{◌≡◌, ℕ, ◌∙◌, List, Contains, Ok, Err, Option, map, subst, sym, refl}
 use Rattle.step_problem.specs.declared.heads.Bound.{Bound}
 use Rattle.step_problem.specs.declared.heads.Side.{Side}
 use Rattle.step_problem.specs.declared.place.Place.TheVariants as places
+use Rattle.step_problem.specs.declared.place.ZoneFlow.{ZoneFlow}
 use Rattle.step_problem.specs.Entries.{Entries, entries_at}
 use Rattle.step_problem.specs.Heads.{lower_at, upper_at, IsCertificate}
 use Rattle.budget_bounds.specs.declared.pair.Budget.{Budget}
@@ -21,34 +22,34 @@ use Rattle.listing_run.specs.Bounding.{BoundsMoves}
 use Rattle.check_run.specs.declared.fault.CheckFault.{CheckFault}
 use Rattle.check_run.specs.declared.fault.CheckFault.TheVariants as fault
 use Rattle.check_run.specs.declared.posed.Posed.{Posed}
-use Rattle.check_run.specs.Parts.{ArePosed, FailsBy, IsCovered, IsUncovered}
+use Rattle.check_run.specs.Parts.{AreNarrow, ArePosed, AreWide, FailsBy, IsCovered, IsUncovered}
 use Rattle.check_run.specs.Reaching.{ConstantsReach, IsFirstShort, variable_bounds}
-use Rattle.check_run.specs.Steps.{HeadsHold, Passes, at_constant, at_variable, at_term, no_budget}
+use Rattle.check_run.specs.Steps.{HeadsHold, Passes, TermsHold, at_constant, at_variable, at_term, at_zones, no_budget, no_flows}
 use Rattle.check_run.specs.Verdicts.{checked_task, step_of}
 use Rattle.check_run.proofs.Listed.{bounds_are}
 use Rattle.check_run.proofs.Passing.{listed_moves}
 
-module _ (m : FlowModel) (s : ℕ) (at : TimeStep) (old : List Bound) (x : Posed) (posed : ArePosed m s at old x) (heads : List Bound) (listed : Budget) where
-  pub constant_fails : (c : ℕ) (side : Side) → IsFirstShort m at heads c side → FailsBy m s at old (record { heads = heads; budget = listed }) (fault.Fails (places.Cell c side))
+module _ (m : FlowModel) (s : ℕ) (zones : Option (List ℕ)) (at : TimeStep) (old : List Bound) (x : Posed) (posed : ArePosed m s at old x) (heads : List Bound) (listed : Budget) (flows : List ZoneFlow) where
+  pub constant_fails : (c : ℕ) (side : Side) → IsFirstShort m at heads c side → FailsBy m s zones at old (record { heads = heads; budget = listed; zones = flows }) (fault.Fails (places.Cell c side))
   constant_fails c side f = at_constant x.problem x.barrier c side posed.posed f refl
 
   module _ (reach : ConstantsReach m at heads) (bs lent : List Bound) (lent_is : lent ≡ bs) (are : bs ≡ map (λ (e : Entries). bound_at heads e.id) x.problem) where
     same : lent ≡ variable_bounds m at heads
     same = lent_is ∙ are ∙ bounds_are m at heads x.problem posed.cells
 
-    pub variable_fails : (e : CheckFault) → (k : ℕ) × (side : Side) × IsFirstFailing x.problem x.barrier lent k side × (e ≡ fault.Fails (places.Cell (entries_at x.problem k).id side)) → FailsBy m s at old (record { heads = heads; budget = listed }) e
+    pub variable_fails : (e : CheckFault) → (k : ℕ) × (side : Side) × IsFirstFailing x.problem x.barrier lent k side × (e ≡ fault.Fails (places.Cell (entries_at x.problem k).id side)) → FailsBy m s zones at old (record { heads = heads; budget = listed; zones = flows }) e
     variable_fails e (k, side, f, is) =
         let F : List Bound → Type 0 = λ v. IsFirstFailing x.problem x.barrier v k side in
-        let P : CheckFault → Type 0 = FailsBy m s at old (record { heads = heads; budget = listed }) in
+        let P : CheckFault → Type 0 = FailsBy m s zones at old (record { heads = heads; budget = listed; zones = flows }) in
         subst P (sym is) (at_variable x.problem x.barrier k side posed.posed reach (subst F same f) refl)
 
     module _ (certificate : IsCertificate x.problem x.barrier (lower_at lent) (upper_at lent)) where
-      hold : HeadsHold m s at old (record { heads = heads; budget = listed }) x.problem x.barrier
+      hold : HeadsHold m s zones at old (record { heads = heads; budget = listed; zones = flows }) x.problem x.barrier
       hold =
           let C : List Bound → Type 0 = λ v. IsCertificate x.problem x.barrier (lower_at v) (upper_at v) in
           record { posed = posed.posed; constants = reach; certificate = subst C same certificate }
 
-      pub term_fails : (e : CheckFault) → IsUncovered x.problem lent listed e → FailsBy m s at old (record { heads = heads; budget = listed }) e
+      pub term_fails : (e : CheckFault) → IsUncovered x.problem lent listed e → FailsBy m s zones at old (record { heads = heads; budget = listed; zones = flows }) e
       term_fails (fault.Fails place) (budget, dir, t, is, f, e) =
           let B : List Bound → Type 0 = λ v. budget_of x.problem (lower_at v) (upper_at v) ≡ Ok budget in
           at_term x.problem x.barrier budget dir t hold (subst B same is) f e
@@ -57,13 +58,23 @@ module _ (m : FlowModel) (s : ℕ) (at : TimeStep) (old : List Bound) (x : Posed
           no_budget x.problem x.barrier hold (subst B same is)
       term_fails fault.Memory h = absurd h
 
-      pub step_passes : IsCovered x.problem lent listed → Passes m s at old (record { heads = heads; budget = listed })
-      step_passes h =
-          let B : List Bound → Type 0 = λ v. budget_of x.problem (lower_at v) (upper_at v) ≡ Ok h.budget in
-          record { problem = x.problem; barrier = x.barrier; heads = hold; budget = h.budget; is = subst B same h.is; covers = h.covers }
+      module _ (h : IsCovered x.problem lent listed) where
+        terms_hold : TermsHold m s zones at old (record { heads = heads; budget = listed; zones = flows }) x.problem x.barrier
+        terms_hold =
+            let B : List Bound → Type 0 = λ v. budget_of x.problem (lower_at v) (upper_at v) ≡ Ok h.budget in
+            record { heads = hold; budget = h.budget; is = subst B same h.is; covers = h.covers }
 
-    pub step_moves : IsModel m → Contains (times m) at → ConstantPairEncloses → CoverEncloses → HeadsAreWithin → EnclosesSolutions x.problem (lower_at lent) (upper_at lent) → IsCovered x.problem lent listed → BoundsMoves (checked_task m s) at old (step_of at (record { heads = heads; budget = listed }))
-    step_moves model time pair_encloses cover within solutions h =
+        pub zones_fail : (e : CheckFault) → AreNarrow x.problem heads zones flows e → FailsBy m s zones at old (record { heads = heads; budget = listed; zones = flows }) e
+        zones_fail (fault.Fails place) (computed, from, to, are, first, is) = at_zones x.problem x.barrier computed from to terms_hold are first is
+        zones_fail (fault.Refused n) large = no_flows x.problem x.barrier terms_hold large
+        zones_fail fault.Memory any = tt
+
+        pub step_passes : AreWide x.problem heads zones flows → Passes m s zones at old (record { heads = heads; budget = listed; zones = flows })
+        step_passes wide = record { problem = x.problem; barrier = x.barrier; terms = terms_hold; flows = wide.flows; are = wide.are; wide = wide.wide }
+
+    pub step_moves : IsModel m → Contains (times m) at → ConstantPairEncloses → CoverEncloses → HeadsAreWithin → EnclosesSolutions x.problem (lower_at lent) (upper_at lent) → IsCovered x.problem lent listed → AreWide x.problem heads zones flows →
+        BoundsMoves (checked_task m s zones) at old (step_of at (record { heads = heads; budget = listed; zones = flows }))
+    step_moves model time pair_encloses cover within solutions h wide =
         let S : List Bound → Type 0 = λ v. EnclosesSolutions x.problem (lower_at v) (upper_at v) in
         let E : List Bound → Type 0 = λ v. EnclosesBudgets x.problem (lower_at v) (upper_at v) h.budget in
-        listed_moves m s at old x.problem x.constant_heads heads model time posed.constant pair_encloses posed.encloses reach (subst S same solutions) cover within listed h.budget h.covers (subst E same h.encloses)
+        listed_moves m s at old x.problem x.constant_heads heads model time posed.constant pair_encloses posed.encloses posed.named reach (subst S same solutions) cover within listed h.budget h.covers (subst E same h.encloses) zones flows wide

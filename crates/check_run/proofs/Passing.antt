@@ -1,19 +1,26 @@
 -- A listed step that passes bounds every solution.
-use Rattle.std.proofs.Common.{◌≡◌, ℕ, ◌<◌, ◌^◌, inl, inr, true, List, length, Contains, subst, arith, ℤ, pos, ◌*ℤ◌, ◌≤ℤ◌}
+use Rattle.std.proofs.Common.{◌≡◌, ℕ, ◌+◌, ◌<◌, ◌^◌, inl, inr, true, List, [], ◌∷◌, length, All, Contains, Option, Some, None, sym, ap, ◌∙◌, subst, arith, ℤ, pos, ◌*ℤ◌, ◌≤ℤ◌}
+use Rattle.std.specs.List.{AllByRecursion, AllZip}
+use Rattle.std.specs.Prelude.{IfSome}
+use Rattle.std.proofs.lemmas.List.Elements.{All-from_recursion, recursion_from_All}
 use Rattle.std.proofs.lemmas.Bool.{cases_Bool}
 use Rattle.std.proofs.lemmas.Int.{ints}
-use Rattle.decimal_input.specs.Fractions.{Fraction}
+use Rattle.decimal_input.specs.Fractions.{Fraction, den}
+use Rattle.decimal_input.specs.Enclosures.{EnclosesSigned}
 use Rattle.decimal_input.proofs.Enclosing.{whole_signed}
 use Rattle.step_problem.specs.declared.heads.Bound.{Bound}
 use Rattle.step_problem.specs.declared.heads.Side.TheVariants.{Low, High}
+use Rattle.step_problem.specs.declared.place.ZoneFlow.{ZoneFlow}
 use Rattle.step_problem.specs.Entries.{Entries}
 use Rattle.step_problem.specs.Heads.{lower_at, upper_at}
 use Rattle.budget_bounds.specs.declared.pair.Budget.{Budget}
 use Rattle.budget_bounds.specs.Covers.{CoverEncloses, Covers}
 use Rattle.budget_bounds.specs.Exact.{EnclosesBudgets, HeadsAreWithin}
+use Rattle.cell_balance.specs.Steps.{ExactCell}
 use Rattle.cell_balance.specs.Enclosures.{EnclosesStep, CellEncloses}
 use Rattle.cell_balance.specs.SolutionBounds.{EnclosesSolutions}
 use Rattle.cell_balance.specs.Solutions.{LiesBetween}
+use Rattle.cell_balance.proofs.Totals.{le_trans_z}
 use Rattle.cell_balance.proofs.Zips.{AllZip-length}
 use Rattle.flow_equations.specs.ExactStep.{exact_step}
 use Rattle.flow_equations.specs.Histories.{heads_of, variable_heads}
@@ -25,12 +32,17 @@ use Rattle.model_types.specs.Kinds.{is_variable, is_constant, index_of}
 use Rattle.model_types.specs.Times.{times}
 use Rattle.model_types.specs.Valid.{IsModel}
 use Rattle.problem_builder.specs.ConstantHeads.{AreConstantHeads}
-use Rattle.problem_builder.specs.GridHeads.{IsActive, HeadsEnclose}
+use Rattle.problem_builder.specs.GridHeads.{IsActive, IsNamed, HeadsEnclose}
 use Rattle.problem_builder.specs.Laws.{ConstantPairEncloses}
 use Rattle.step_chain.specs.Enclosing.{IsMove, LiesWithin}
 use Rattle.step_chain.specs.GridHeads.{bound_at}
 use Rattle.step_chain.proofs.Assembled.{active_constant, index_below, count_is, number_is}
+use Rattle.zone_flows.specs.Exact.{EncloseExact, exact_faces, exact_flow}
+use Rattle.zone_pairs.specs.declared.pair.ZonePair.{ZonePair}
 use Rattle.listing_run.specs.Bounding.{BoundsMoves}
+use Rattle.listing_run.proofs.Zoned.{flows_enclose, heads_named, within_enclosed}
+use Rattle.check_run.specs.Flows.{CoversFlow}
+use Rattle.check_run.specs.Parts.{AreWide}
 use Rattle.check_run.specs.Reaching.{ConstantsReach, IsConstantCell, variable_bounds}
 use Rattle.check_run.specs.Verdicts.{checked_task, step_of}
 use Rattle.check_run.proofs.Listed.{variable_listed}
@@ -48,9 +60,37 @@ wider narrow wide d x low high h =
     let u = mul_mono_right d narrow.high wide.high high in
     record { low = omega (arith, ints, l, h.low); high = omega (arith, ints, u, h.high) }
 
+-- a wider flow between the same zones encloses what the narrower one does
+flow_wider : (s : ℕ) (e : List ExactCell) (zones : List ℕ) (h : ℕ → Fraction) (v w : ZoneFlow) → CoversFlow v w →
+    EnclosesSigned w.lo w.hi (s + 9) (exact_flow w.from w.to (exact_faces zones h e)) → EnclosesSigned v.lo v.hi (s + 9) (exact_flow v.from v.to (exact_faces zones h e))
+flow_wider s e zones h v w covers encloses =
+    let F : ZonePair → Type 0 = λ z. EnclosesSigned w.lo w.hi (s + 9) (exact_flow z.from z.to (exact_faces zones h e)) in
+    let same = subst F (sym covers.zones) encloses in
+    let d = den (exact_flow v.from v.to (exact_faces zones h e)) in
+    record {
+      lower = le_trans_z _ _ _ (mul_mono_right d v.lo w.lo covers.lower) same.lower;
+      upper = le_trans_z _ _ _ same.upper (mul_mono_right d w.hi v.hi covers.upper);
+    }
+
+flows_wider : (s : ℕ) (e : List ExactCell) (zones : List ℕ) (h : ℕ → Fraction) (listed flows : List ZoneFlow) → AllZip CoversFlow listed flows →
+    AllByRecursion (λ (v : ZoneFlow). EnclosesSigned v.lo v.hi (s + 9) (exact_flow v.from v.to (exact_faces zones h e))) flows →
+    AllByRecursion (λ (v : ZoneFlow). EnclosesSigned v.lo v.hi (s + 9) (exact_flow v.from v.to (exact_faces zones h e))) listed
+flows_wider s e zones h [] [] covers encloses = tt
+flows_wider s e zones h [] (w ∷ flows) covers encloses = absurd covers
+flows_wider s e zones h (v ∷ listed) [] covers encloses = absurd covers
+flows_wider s e zones h (v ∷ listed) (w ∷ flows) covers encloses = (flow_wider s e zones h v w covers.0 encloses.0, flows_wider s e zones h listed flows covers.1 encloses.1)
+
+wide_enclose : (s : ℕ) (e : List ExactCell) (o : Option (List ℕ)) (h : ℕ → Fraction) (listed flows : List ZoneFlow) → AllZip CoversFlow listed flows →
+    IfSome o (λ zones. EncloseExact s e zones h flows) → IfSome o (λ zones. EncloseExact s e zones h listed)
+wide_enclose s e None h listed flows covers encloses = tt
+wide_enclose s e (Some zones) h listed flows covers encloses =
+    let E : ZoneFlow → Type 0 = λ v. EnclosesSigned v.lo v.hi (s + 9) (exact_flow v.from v.to (exact_faces zones h e)) in
+    All-from_recursion E listed (flows_wider s e zones h listed flows covers (recursion_from_All E flows encloses))
+
 module _ (m : FlowModel) (s : ℕ) (at : TimeStep) (old : List Bound) (p : List Entries) (constant_heads heads : List Bound)
     (model : IsModel m) (time : Contains (times m) at) (are : AreConstantHeads m at constant_heads) (pair_encloses : ConstantPairEncloses)
     (encloses : (before : ℕ → Fraction) → HeadsEnclose m old before → EnclosesStep s p (exact_step m at.period at.step before))
+    (named : (c : ℕ) → IsNamed p c → IsActive m c)
     (constants : ConstantsReach m at heads)
     (solutions : EnclosesSolutions p (lower_at (variable_bounds m at heads)) (upper_at (variable_bounds m at heads))) where
   module _ (before : ℕ → Fraction) (d : ℕ) (X : ℕ → ℤ) (move : IsMove m at old before d X) where
@@ -86,13 +126,14 @@ module _ (m : FlowModel) (s : ℕ) (at : TimeStep) (old : List Bound) (p : List 
     lies = record { low = λ c a. (active_holds c a).low; high = λ c a. (active_holds c a).high }
 
   pub listed_moves : CoverEncloses → HeadsAreWithin → (listed computed : Budget) → Covers listed computed → EnclosesBudgets p (lower_at (variable_bounds m at heads)) (upper_at (variable_bounds m at heads)) computed →
-      BoundsMoves (checked_task m s) at old (step_of at (record { heads = heads; budget = listed }))
-  listed_moves cover within listed computed covers terms before d X move =
+      (zones : Option (List ℕ)) (flows : List ZoneFlow) → AreWide p heads zones flows →
+      BoundsMoves (checked_task m s zones) at old (step_of at (record { heads = heads; budget = listed; zones = flows }))
+  listed_moves cover within listed computed covers terms zones flows wide before d X move =
       let e = exact_step m at.period at.step before in
       let Y : ℕ → ℤ = variable_heads e X in
       let inside = within (length p) d Y (lower_at (variable_bounds m at heads)) (upper_at (variable_bounds m at heads)) move.some (between before d X move) in
       record {
         heads = lies before d X move;
         budget = cover listed computed s e (heads_of d Y) covers (terms s e (heads_of d Y) (step before d X move) inside);
-        zones = tt;
+        zones = wide_enclose s e zones (heads_of d X) flows wide.flows wide.wide (flows_enclose zones p heads wide.flows wide.encloses s e (heads_of d X) (step before d X move) (heads_named m p named heads (heads_of d X) (within_enclosed m heads d X move.some (lies before d X move))));
       }

@@ -1,13 +1,23 @@
 -- The steps of a run are steps that a listing can have.
-use Rattle.std.proofs.Common.{◌≡◌, ℕ, zero, suc, ◌+◌, ◌<◌, false, List, [], ◌∷◌, length, map, All, Ok, refl, sym, ap, subst, arith, ℤ, pos, negsuc}
+use Rattle.std.proofs.Common.{◌≡◌, ℕ, zero, suc, ◌+◌, ◌<◌, false, List, [], ◌∷◌, length, map, All, Ok, refl, sym, ap, subst, arith, ℤ, pos, negsuc, neg_ℤ, ◌+ℤ◌, ◌≤ℤ◌, ◌<ℤ◌, unsigned_abs, nat_abs, ◌^◌, ◌≤◌, Option, Some, None, ◌∙◌}
 use Rattle.std.specs.List.{AllZip}
+use Rattle.std.specs.Prelude.{Contains}
+use Rattle.std.proofs.lemmas.Int.{ints}
+use Rattle.std.proofs.lemmas.List.Elements.{All-weaker}
 use Rattle.std.proofs.lemmas.Bool.Decides.{nat_tests}
 use Rattle.step_problem.specs.declared.heads.Bound.{Bound}
 use Rattle.step_problem.specs.declared.place.Dir.TheVariants.{In, Out}
+use Rattle.step_problem.specs.declared.place.ZoneFlow.{ZoneFlow}
+use Rattle.step_problem.specs.Flows.{total}
 use Rattle.step_problem.specs.Entries.{Entries, entries_at}
 use Rattle.step_problem.specs.Heads.{no_bound, lower_at, upper_at}
 use Rattle.budget_bounds.specs.declared.pair.Budget.{Budget}
-use Rattle.budget_bounds.specs.Terms.{all_terms}
+use Rattle.budget_bounds.specs.declared.pair.TermPair.{TermPair}
+use Rattle.budget_bounds.specs.Terms.{all_terms, term_limit}
+use Rattle.zone_flows.specs.Faces.{Face, flows_between}
+use Rattle.zone_flows.specs.Pairs.{IsZoneFlow}
+use Rattle.zone_pairs.specs.Pairs.{pairs_in}
+use Rattle.zone_pairs.specs.Zones.{AreNumbers}
 use Rattle.model_types.specs.declared.model.FlowModel.{FlowModel}
 use Rattle.model_types.specs.declared.time_steps.TimeStep.{TimeStep}
 use Rattle.model_types.specs.Cells.{cell_count}
@@ -25,14 +35,16 @@ use Rattle.step_chain.specs.declared.solved.Solved.{Solved}
 use Rattle.step_chain.specs.GridHeads.{bound_at}
 use Rattle.step_chain.specs.Laws.{IsBefore, HeadsFit}
 use Rattle.step_chain.specs.Steps.{IsSettledStep}
-use Rattle.listing_io.specs.Listed.{AreCellBounds, AreListed, IsCellBound, IsListedStep}
-use Rattle.listing_io.specs.Listing.{has_evt}
+use Rattle.listing_io.specs.Listed.{AreCellBounds, AreFlows, AreFlowsAt, AreListed, IsCellBound, IsFlowPair, IsListedStep}
+use Rattle.listing_io.specs.Listing.{has_evt, zone_pair}
 use Rattle.listing_run.specs.declared.task.Task.{Task}
 use Rattle.listing_run.specs.declared.step.Step.{Step}
 use Rattle.listing_run.specs.declared.listing_end.ListingEnd.TheVariants.{Whole}
 use Rattle.listing_run.specs.Steps.{AllSteps, IsStep, Steps, budget_at}
+use Rattle.listing_run.specs.Zones.{AreFlowsOf, faces_of}
 use Rattle.listing_run.proofs.Unique.{IsRest, first_in, rest_more, rest_whole}
 use Rattle.check_run.specs.Runs.{as_listed}
+use Rattle.check_run.proofs.FlowPairs.{flows_have_pairs}
 use Rattle.check_run.proofs.RunTerms.{as_many, budget_are, flows_are, no_et}
 
 -- Without EVT no cell evaporates.
@@ -84,8 +96,8 @@ module _ (m : FlowModel) (s : ℕ) (at : TimeStep) (old : List Bound) (x : Solve
       let same : c ≡ 0 + c = omega arith in
       subst P same (record { low = range.0; high = range.1; none = λ e. settled.heads.no_flow c (omega (arith, lt, grid.whole)) e })
 
-  is_listed : (b : Budget) → budget_at x ≡ Ok b → IsListedStep m (record { heads = x.heads; budget = b })
-  is_listed b is =
+  is_listed : (b : Budget) (flows : List ZoneFlow) → budget_at x ≡ Ok b → IsListedStep m (record { heads = x.heads; budget = b; zones = flows })
+  is_listed b flows is =
       let (into, out) = budget_are x.problem (lower_at x.bounds) (upper_at x.bounds) b is in
       let none = λ (e : has_evt m ≡ false). no_evaps m settled.posed.problem.widths s at old e x.problem (variable_below m at.period (cell_count m.grid)) settled.posed.problem.cells.each in
       record {
@@ -103,17 +115,65 @@ module _ (m : FlowModel) (s : ℕ) (at : TimeStep) (old : List Bound) (x : Solve
         };
       }
 
+-- The flows between zones are below 2^126.
+
+above : (z : ℤ) → z ≤ℤ pos (unsigned_abs z)
+above (pos n) = omega (arith, ints)
+above (negsuc n) = omega (arith, ints)
+
+below : (z : ℤ) → pos 0 ≤ℤ (z +ℤ pos (unsigned_abs z))
+below (pos n) = omega (arith, ints)
+below (negsuc n) = omega (arith, ints)
+
+module _ (f : TermPair → ℤ) where
+  abbrev sizes : List TermPair → ℤ
+  sizes xs = total (λ x. pos (unsigned_abs (f x))) xs
+
+  sum_above : (xs : List TermPair) → total f xs ≤ℤ sizes xs
+  sum_above [] = omega (arith, ints)
+  sum_above (x ∷ xs) = let a = above (f x) in let b = sum_above xs in omega (arith, ints, a, b)
+
+  sum_below : (xs : List TermPair) → pos 0 ≤ℤ (total f xs +ℤ sizes xs)
+  sum_below [] = omega (arith, ints)
+  sum_below (x ∷ xs) = let a = below (f x) in let b = sum_below xs in omega (arith, ints, a, b)
+
+between : (z y : ℤ) → z ≤ℤ y → pos 0 ≤ℤ (z +ℤ y) → y <ℤ term_limit → nat_abs z < 2 ^ 126
+between (pos n) y a b c = omega (arith, ints, a, c)
+between (negsuc n) y a b c = omega (arith, ints, b, c)
+
+small_sum : (f : TermPair → ℤ) (xs : List TermPair) (z : ℤ) → z ≡ total f xs → sizes f xs <ℤ term_limit → nat_abs z < 2 ^ 126
+small_sum f xs z e h =
+    let N : ℤ → Type 0 = λ y. nat_abs y < 2 ^ 126 in
+    subst N (sym e) (between (total f xs) (sizes f xs) (sum_above f xs) (sum_below f xs) h)
+
+module _ (fs : List Face) where
+  small_flow : (v : ZoneFlow) → IsZoneFlow fs v → IsFlowPair (zone_pair v)
+  small_flow v h = record {
+    lo = small_sum (λ (x : TermPair). x.lo) (flows_between v.from v.to fs) v.lo h.lo h.small.lo;
+    hi = small_sum (λ (x : TermPair). x.hi) (flows_between v.from v.to fs) v.hi h.hi h.small.hi;
+  }
+
+flows_small : (p : List Entries) (heads : List Bound) (o : Option (List ℕ)) (vs : List ZoneFlow) → AreFlowsOf p heads o vs → All (λ v. IsFlowPair (zone_pair v)) vs
+flows_small p heads None vs are = let P : List ZoneFlow → Type 0 = All (λ v. IsFlowPair (zone_pair v)) in subst P (sym are) (λ i d lt. absurd (omega (arith, lt)))
+flows_small p heads (Some zones) vs are = All-weaker (IsZoneFlow (faces_of p heads zones)) (λ (v : ZoneFlow). IsFlowPair (zone_pair v)) (small_flow (faces_of p heads zones)) vs are.each
+
 -- All steps of a run.
 
-module _ (fits : HeadsFit) (k : Task) (model : IsModel k.model) where
+module _ (fits : HeadsFit) (k : Task) (model : IsModel k.model) (zoned : AreNumbers k.zones) where
   module _ (at : TimeStep) (old : List Bound) (before : IsBefore k.model at old) (v : Step) (is : IsStep k at old v) where
     solved_heads : AreGridHeads k.model is.solved.heads
     solved_heads = fits k.model k.digits at old is.solved before is.settled
 
     step_listed : IsListedStep k.model (as_listed v)
     step_listed =
-        let P : List Bound → Type 0 = λ hs. IsListedStep k.model (record { heads = hs; budget = v.budget }) in
-        subst P (sym is.heads) (is_listed k.model k.digits at old is.solved is.settled solved_heads v.budget is.budget)
+        let P : List Bound → Type 0 = λ hs. IsListedStep k.model (record { heads = hs; budget = v.budget; zones = v.zones }) in
+        subst P (sym is.heads) (is_listed k.model k.digits at old is.solved is.settled solved_heads v.budget v.zones is.budget)
+
+    step_flows : AreFlows (pairs_in k.model k.zones at.period) v.zones
+    step_flows = record {
+      pairs = flows_have_pairs k.model k.digits at old is.solved.problem model.grid.size is.settled.posed.problem is.solved.heads k.zones v.zones zoned is.zones;
+      small = flows_small is.solved.problem is.solved.heads k.zones v.zones is.zones;
+    }
 
     next_heads : AreGridHeads k.model v.heads
     next_heads = subst (AreGridHeads k.model) (sym is.heads) solved_heads
@@ -131,7 +191,15 @@ module _ (fits : HeadsFit) (k : Task) (model : IsModel k.model) where
       each first more zero d lt = first
       each first more (suc i) d lt = more i d (omega (arith, lt))
 
-  pub are_listed : StartHeadsFit → (values : List Step) → AllSteps k values Whole → AreListed k.model (map as_listed values)
+  all_flows : (old : List Bound) (rest : List TimeStep) (values : List Step) → IsRest (times k.model) rest → AreGridHeads k.model old → Steps k old rest values Whole → AllZip (AreFlowsAt (pairs_in k.model k.zones)) rest (map as_listed values)
+  all_flows old [] [] r heads h = tt
+  all_flows old [] (v ∷ values) r heads h = absurd h
+  all_flows old (at ∷ rest) [] r heads h = absurd h
+  all_flows old (at ∷ rest) (v ∷ values) r heads (is, h) =
+      let before : IsBefore k.model at old = record { model = model; time = r.each at (first_in at rest); heads = heads } in
+      (step_flows at old before v is, all_flows v.heads rest values (rest_more (times k.model) at rest r) (next_heads at old before v is) h)
+
+  pub are_listed : StartHeadsFit → (values : List Step) → AllSteps k values Whole → AreListed k.model (pairs_in k.model k.zones) (map as_listed values)
   are_listed start_fits values h =
       let all = all_listed h.start (times k.model) values (rest_whole (times k.model)) (start_fits k.model h.start model h.is_start) h.steps in
-      record { whole = all.0; steps = all.1 }
+      record { whole = all.0; steps = all.1; flows = all_flows h.start (times k.model) values (rest_whole (times k.model)) (start_fits k.model h.start model h.is_start) h.steps }

@@ -1,10 +1,12 @@
 -- The steps of a run pass the check.
-use Rattle.std.proofs.Common.{◌≡◌, ℕ, suc, ◌<◌, inl, List, [], ◌∷◌, length, map, get_or, Ok, refl, sym, ap, ◌∙◌, subst, arith}
+use Rattle.std.proofs.Common.{◌≡◌, ℕ, suc, ◌<◌, inl, List, [], ◌∷◌, length, map, get_or, Ok, refl, sym, ap, ◌∙◌, subst, arith, Option}
+use Rattle.std.specs.List.{AllZip}
 use Rattle.std.proofs.lemmas.Int.{ints}
 use Rattle.std.proofs.lemmas.List.{get_or-map, length-map}
 use Rattle.step_problem.specs.declared.heads.Bound.{Bound}
 use Rattle.step_problem.specs.declared.heads.Side.{Side}
 use Rattle.step_problem.specs.declared.heads.Side.TheVariants.{Low, High}
+use Rattle.step_problem.specs.declared.place.ZoneFlow.{ZoneFlow}
 use Rattle.step_problem.specs.Entries.{Entries}
 use Rattle.step_problem.specs.Heads.{no_bound, lower_at, upper_at, IsCertificate}
 use Rattle.step_problem.specs.Laws.{SettledPairCertifies}
@@ -29,8 +31,10 @@ use Rattle.listing_run.specs.declared.task.Task.{Task}
 use Rattle.listing_run.specs.declared.step.Step.{Step}
 use Rattle.listing_run.specs.declared.listing_end.ListingEnd.TheVariants.{Whole}
 use Rattle.listing_run.specs.Steps.{IsStep, Steps, budget_at}
+use Rattle.listing_run.specs.Zones.{AreFlowsAt}
 use Rattle.listing_run.proofs.Unique.{IsRest, first_in, rest_more, rest_whole}
 use Rattle.check_run.specs.declared.verdict.ListingVerdict.TheVariants.{Certified}
+use Rattle.check_run.specs.Flows.{CoversFlow}
 use Rattle.check_run.specs.Reaching.{ConstantsReach, ReachesOn, variable_bounds}
 use Rattle.check_run.specs.Runs.{RunIsCertified, as_listed}
 use Rattle.check_run.specs.Steps.{Passes}
@@ -41,6 +45,11 @@ use Rattle.step_chain.proofs.OneStep.{same_bounds}
 reaches : (side : Side) (listed pair : Bound) → (listed.low ≡ pair.low) × (listed.high ≡ pair.high) → ReachesOn side listed pair
 reaches Low listed pair same = omega (arith, ints, same.0)
 reaches High listed pair same = omega (arith, ints, same.1)
+
+-- flows are as wide as themselves
+wide_enough : (vs : List ZoneFlow) → AllZip CoversFlow vs vs
+wide_enough [] = tt
+wide_enough (v ∷ vs) = (record { zones = refl; lower = omega (arith, ints); upper = omega (arith, ints) }, wide_enough vs)
 
 -- the laws by which they pass
 pub record Laws : Type 0 where
@@ -86,30 +95,35 @@ module _ (m : FlowModel) (s : ℕ) (at : TimeStep) (old : List Bound) (x : Solve
         laws.certifies x.problem settled.barrier (lower_at x.bounds) (upper_at x.bounds)
         (laws.problem_fits m s at old x.problem before.model before.time before.heads settled.posed.problem) settled.posed.barrier.fits settled.settled.pair
 
-    passes : (b : Budget) → budget_at x ≡ Ok b → Passes m s at old (record { heads = x.heads; budget = b })
-    passes b is =
+    passes : (zones : Option (List ℕ)) (b : Budget) (flows : List ZoneFlow) → budget_at x ≡ Ok b → AreFlowsAt zones x flows → Passes m s zones at old (record { heads = x.heads; budget = b; zones = flows })
+    passes zones b flows is are =
         let C : List Bound → Type 0 = λ v. IsCertificate x.problem settled.barrier (lower_at v) (upper_at v) in
         let B : List Bound → Type 0 = λ v. budget_of x.problem (lower_at v) (upper_at v) ≡ Ok b in
         record {
           problem = x.problem;
           barrier = settled.barrier;
-          heads = record { posed = settled.posed; constants = constants; certificate = subst C (sym listed_are) certificate };
-          budget = b;
-          is = subst B (sym listed_are) is;
-          covers = λ dir t. record { lower = omega (arith, ints); upper = omega (arith, ints) };
+          terms = record {
+            heads = record { posed = settled.posed; constants = constants; certificate = subst C (sym listed_are) certificate };
+            budget = b;
+            is = subst B (sym listed_are) is;
+            covers = λ dir t. record { lower = omega (arith, ints); upper = omega (arith, ints) };
+          };
+          flows = flows;
+          are = are;
+          wide = wide_enough flows;
         }
 
 module _ (laws : Laws) (k : Task) (model : IsModel k.model) where
   module _ (at : TimeStep) (old : List Bound) (before : IsBefore k.model at old) (v : Step) (is : IsStep k at old v) where
-    step_passes : Passes k.model k.digits at old (as_listed v)
+    step_passes : Passes k.model k.digits k.zones at old (as_listed v)
     step_passes =
-        let P : List Bound → Type 0 = λ hs. Passes k.model k.digits at old (record { heads = hs; budget = v.budget }) in
-        subst P (sym is.heads) (passes k.model k.digits at old is.solved is.settled laws before v.budget is.budget)
+        let P : List Bound → Type 0 = λ hs. Passes k.model k.digits k.zones at old (record { heads = hs; budget = v.budget; zones = v.zones }) in
+        subst P (sym is.heads) (passes k.model k.digits at old is.solved is.settled laws before k.zones v.budget v.zones is.budget is.zones)
 
     next_heads : AreGridHeads k.model v.heads
     next_heads = subst (AreGridHeads k.model) (sym is.heads) (laws.heads_fit k.model k.digits at old is.solved before is.settled)
 
-  all_pass : (old : List Bound) (rest : List TimeStep) (values : List Step) → IsRest (times k.model) rest → AreGridHeads k.model old → Steps k old rest values Whole → Checks k.model k.digits old rest (map as_listed values) Certified
+  all_pass : (old : List Bound) (rest : List TimeStep) (values : List Step) → IsRest (times k.model) rest → AreGridHeads k.model old → Steps k old rest values Whole → Checks k.model k.digits k.zones old rest (map as_listed values) Certified
   all_pass old [] [] r heads h = tt
   all_pass old [] (v ∷ values) r heads h = absurd h
   all_pass old (at ∷ rest) [] r heads h = absurd h
@@ -118,7 +132,7 @@ module _ (laws : Laws) (k : Task) (model : IsModel k.model) where
       inl (step_passes at old before v is, all_pass v.heads rest values (rest_more (times k.model) at rest r) (next_heads at old before v is) h)
 
 pub run_certified : Laws → RunIsCertified
-run_certified laws k values model h = record {
+run_certified laws k values model zoned h = record {
   start = h.start;
   is_start = h.is_start;
   checks = all_pass laws k model h.start (times k.model) values (rest_whole (times k.model)) (laws.start_fits k.model h.start model h.is_start) h.steps;

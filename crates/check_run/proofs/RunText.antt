@@ -1,10 +1,9 @@
 -- The text of a run's listing is that of its steps, and is read as these.
-use Rattle.std.proofs.Common.{◌≡◌, ℕ, List, [], ◌∷◌, ◌++◌, map, get_or, Contains, Ok, Option, None, refl, sym, ap, ◌∙◌, subst, arith}
+use Rattle.std.proofs.Common.{◌≡◌, ℕ, List, [], ◌∷◌, ◌++◌, map, get_or, Contains, Ok, refl, sym, ap, ◌∙◌, subst, arith}
 use Rattle.std.specs.List.{concat}
 use Rattle.std.proofs.lemmas.List.{append_assoc, append-nil, get_or_default}
 use Rattle.std.proofs.lemmas.List.Concat.{flat_map-append}
 use Rattle.step_problem.specs.declared.heads.Bound.{Bound}
-use Rattle.step_problem.specs.declared.place.ZoneFlow.{ZoneFlow}
 use Rattle.model_types.specs.declared.model.FlowModel.{FlowModel}
 use Rattle.model_types.specs.declared.time_steps.TimeStep.{TimeStep}
 use Rattle.model_types.specs.Times.{times}
@@ -12,6 +11,8 @@ use Rattle.model_types.specs.Valid.{IsModel}
 use Rattle.problem_builder.specs.Laws.{StartHeadsFit}
 use Rattle.problem_builder.proofs.TimesOf.{time_of}
 use Rattle.step_chain.specs.Laws.{HeadsFit}
+use Rattle.zone_pairs.specs.Pairs.{pairs_in}
+use Rattle.zone_pairs.proofs.Small.{pairs_small}
 use Rattle.listing_io.specs.Laws.{IsTime, IsWritable, ListingsAreReadAgain}
 use Rattle.listing_io.specs.Listing.{all_step_lines, ended, end_line as last_row, first_line, first_text, listing as rows_of, step_lines, step_text, text_of as text}
 use Rattle.listing_io.specs.Reading.{all_lines, listing_at}
@@ -21,22 +22,16 @@ use Rattle.listing_run.specs.declared.step.Step.{Step}
 use Rattle.listing_run.specs.Listing.{listing, text_of}
 use Rattle.listing_run.specs.declared.listing_end.ListingEnd.TheVariants.{Whole}
 use Rattle.listing_run.specs.Steps.{AllSteps, IsStep, Steps}
-use Rattle.listing_run.specs.Zones.{AreFlowsAt}
 use Rattle.check_run.specs.Runs.{IsReadable, RunIsReadAgain, as_listed}
 use Rattle.check_run.proofs.RunListed.{are_listed}
 
-module _ (k : Task) (none : k.zones ≡ None) where
-  -- a step has no flows between zones, since there is no zone file
-  no_flows : (at : TimeStep) (old : List Bound) (v : Step) → IsStep k at old v → v.zones ≡ []
-  no_flows at old v is = let F : Option (List ℕ) → Type 0 = λ o. AreFlowsAt o is.solved v.zones in subst F none is.zones
-
-  -- the lines of a step, at its time and without flows between zones
-  step_rows : (at : TimeStep) (old : List Bound) (v : Step) → IsStep k at old v → text_of k v ≡ text (step_lines k.model k.digits at v.heads v.budget [])
+module _ (k : Task) where
+  -- the lines of a step, at its time
+  step_rows : (at : TimeStep) (old : List Bound) (v : Step) → IsStep k at old v → text_of k v ≡ text (step_lines k.model k.digits at v.heads v.budget v.zones)
   unfolding step_text
   step_rows at old v is =
       let T : TimeStep → List ℕ = λ t. text (step_lines k.model k.digits t v.heads v.budget v.zones) in
-      let Z : List ZoneFlow → List ℕ = λ zs. text (step_lines k.model k.digits at v.heads v.budget zs) in
-      ap T is.time ∙ ap Z (no_flows at old v is)
+      ap T is.time
 
   rows_text : (old : List Bound) (rest : List TimeStep) (values : List Step) → Steps k old rest values Whole → concat (map (text_of k) values ++ (end_line ∷ [])) ≡ text (all_step_lines k.model k.digits rest (map as_listed values) ++ (last_row ∷ []))
   unfolding all_step_lines
@@ -44,7 +39,7 @@ module _ (k : Task) (none : k.zones ≡ None) where
   rows_text old [] (v ∷ values) h = absurd h
   rows_text old (at ∷ rest) [] h = absurd h
   rows_text old (at ∷ rest) (v ∷ values) (is, h) =
-      let here = step_lines k.model k.digits at v.heads v.budget [] in
+      let here = step_lines k.model k.digits at v.heads v.budget v.zones in
       let more = all_step_lines k.model k.digits rest (map as_listed values) in
       ap (λ (t : List ℕ). text_of k v ++ t) (rows_text v.heads rest values h)
       ∙ ap (λ (t : List ℕ). t ++ text (more ++ (last_row ∷ []))) (step_rows at old v is)
@@ -77,5 +72,6 @@ writable k h = record {
 
 pub run_read : HeadsFit → StartHeadsFit → ListingsAreReadAgain → RunIsReadAgain
 run_read fits start_fits again k values readable h =
-    let P : List ℕ → Type 0 = λ bytes. listing_at k.model k.digits (all_lines bytes) ≡ Ok (map as_listed values) in
-    subst P (sym (whole_text k readable.zones values h)) (again k.model k.digits (map as_listed values) (writable k readable) (are_listed fits k readable.model start_fits values h))
+    let pairs = pairs_in k.model k.zones in
+    let P : List ℕ → Type 0 = λ bytes. listing_at k.model k.digits pairs (all_lines bytes) ≡ Ok (map as_listed values) in
+    subst P (sym (whole_text k values h)) (again k.model k.digits pairs (map as_listed values) (writable k readable) (λ p. pairs_small k.model k.zones p readable.zones) (are_listed fits k readable.model readable.zones start_fits values h))

@@ -1,5 +1,5 @@
 -- Why a step isn't posed, and what it is posed of.
-use Rattle.std.proofs.Common.{ℕ, List, inr}
+use Rattle.std.proofs.Common.{ℕ, List, Option, inr}
 use Rattle.step_problem.specs.declared.heads.Bound.{Bound}
 use Rattle.step_problem.specs.Entries.{Entries}
 use Rattle.barrier_vector.specs.declared.BarrierFault.{BarrierFault}
@@ -20,7 +20,7 @@ module _ (m : FlowModel) (s : ℕ) (at : TimeStep) (old : List Bound) where
   barrier_unposed p is barrier.Memory h = tt
 
   -- a step that isn't posed isn't certified
-  pub unposed_fails : (w : ListedStep) (f : CheckFault) → IsUnposed m s at old f → FailsBy m s at old w f
-  unposed_fails w (fault.Fails place) h = absurd h
-  unposed_fails w (fault.Refused n) h = no_heads h
-  unposed_fails w fault.Memory h = tt
+  pub unposed_fails : (zones : Option (List ℕ)) (w : ListedStep) (f : CheckFault) → IsUnposed m s at old f → FailsBy m s zones at old w f
+  unposed_fails zones w (fault.Fails place) h = absurd h
+  unposed_fails zones w (fault.Refused n) h = no_heads h
+  unposed_fails zones w fault.Memory h = tt

@@ -1,4 +1,5 @@
 pub mod Reaching
+pub mod Flows
 pub mod Steps
 pub mod Verdicts
 pub mod Laws

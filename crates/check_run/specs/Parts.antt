@@ -1,10 +1,12 @@
 -- Facts that the calls of a check pass to each other.
-use Rattle.std.specs.Prelude.{◌≡◌, ℕ, zero, suc, List, map, Ok, Err}
+use Rattle.std.specs.Prelude.{◌≡◌, ℕ, zero, suc, List, map, Ok, Err, Option}
+use Rattle.std.specs.List.{AllZip}
 use Rattle.decimal_input.specs.Fractions.{Fraction}
 use Rattle.step_problem.specs.declared.heads.Bound.{Bound}
 use Rattle.step_problem.specs.declared.place.Dir.{Dir}
 use Rattle.step_problem.specs.declared.place.Place.TheVariants as places
 use Rattle.step_problem.specs.declared.place.Term.{Term}
+use Rattle.step_problem.specs.declared.place.ZoneFlow.{ZoneFlow}
 use Rattle.step_problem.specs.Entries.{Entries}
 use Rattle.step_problem.specs.Heads.{head_at, lower_at, upper_at}
 use Rattle.budget_bounds.specs.declared.pair.Budget.{Budget}
@@ -23,8 +25,11 @@ use Rattle.model_types.specs.Kinds.{variable_cells}
 use Rattle.problem_builder.specs.declared.fault.BuildFault.{BuildFault}
 use Rattle.problem_builder.specs.declared.fault.BuildFault.TheVariants as build
 use Rattle.problem_builder.specs.ConstantHeads.{AreConstantHeads}
-use Rattle.problem_builder.specs.GridHeads.{HeadsEnclose}
+use Rattle.problem_builder.specs.GridHeads.{HeadsEnclose, IsActive, IsNamed}
 use Rattle.step_chain.specs.Steps.{IsPosed, HasNoHeads}
+use Rattle.zone_flows.specs.declared.fault.ZoneFault.{ZoneFault}
+use Rattle.zone_flows.specs.declared.fault.ZoneFault.TheVariants as flows
+use Rattle.listing_run.specs.Zones.{AreFlowsOf, FlowsEnclose, HasLargeFlowOf}
 use Rattle.listing_io.specs.declared.listing.ListedStep.{ListedStep}
 use Rattle.listing_io.specs.Listed.{step_in}
 use Rattle.check_run.specs.declared.fault.CheckFault.{CheckFault}
@@ -32,6 +37,7 @@ use Rattle.check_run.specs.declared.fault.CheckFault.TheVariants as fault
 use Rattle.check_run.specs.declared.posed.Posed.{Posed}
 use Rattle.check_run.specs.declared.verdict.ListingVerdict.{ListingVerdict}
 use Rattle.check_run.specs.declared.verdict.ListingVerdict.TheVariants as verdict
+use Rattle.check_run.specs.Flows.{CoversFlow, IsFirstNarrow}
 use Rattle.check_run.specs.Steps.{FailsAt, IsRefused}
 
 -- a fault of a step by that of its builder, or its barrier
@@ -43,11 +49,15 @@ abbrev pub of_barrier : BarrierFault → CheckFault
 of_barrier (barrier.NoBound n) = fault.Refused n
 of_barrier barrier.Memory = fault.Memory
 
+abbrev pub of_flows : ZoneFault → CheckFault
+of_flows (flows.NoBound n) = fault.Refused n
+of_flows flows.Memory = fault.Memory
+
 -- the cause of a step's fault; lack of memory is possible at any time
-abbrev pub FailsBy : FlowModel → ℕ → TimeStep → List Bound → ListedStep → CheckFault → Type 0
-FailsBy m s at old w (fault.Fails place) = FailsAt m s at old w place
-FailsBy m s at old w (fault.Refused n) = IsRefused m s at old w n
-FailsBy m s at old w fault.Memory = Unit {0}
+abbrev pub FailsBy : FlowModel → ℕ → Option (List ℕ) → TimeStep → List Bound → ListedStep → CheckFault → Type 0
+FailsBy m s zones at old w (fault.Fails place) = FailsAt m s zones at old w place
+FailsBy m s zones at old w (fault.Refused n) = IsRefused m s zones at old w n
+FailsBy m s zones at old w fault.Memory = Unit {0}
 
 -- the cause of a fault before the listed heads are checked
 abbrev pub IsUnposed : FlowModel → ℕ → TimeStep → List Bound → CheckFault → Type 0
@@ -60,6 +70,7 @@ pub record ArePosed (m : FlowModel) (s : ℕ) (at : TimeStep) (old : List Bound)
   pub posed : IsPosed m s at old x.problem x.barrier
   pub held : IsHeldBelow x.problem
   pub solutions : EnclosesSolutions x.problem (head_at x.barrier.floor) (head_at x.barrier.ceiling)
+  pub named : (c : ℕ) → IsNamed x.problem c → IsActive m c
   pub cells : map (λ e. e.id) x.problem ≡ variable_cells m at.period
   pub encloses : (before : ℕ → Fraction) → HeadsEnclose m old before → EnclosesStep s x.problem (exact_step m at.period at.step before)
   pub constant : AreConstantHeads m at x.constant_heads
@@ -83,6 +94,21 @@ IsUncovered p bounds listed (fault.Fails place) =
     × IsFirstUncovered listed budget dir t × (place ≡ places.Term dir t)
 IsUncovered p bounds listed (fault.Refused n) = budget_of p (lower_at bounds) (upper_at bounds) ≡ Err n
 IsUncovered p bounds listed fault.Memory = ⊥
+
+-- listed flows between zones are as wide as those of a problem at heads of all cells, which enclose every exact one
+pub record AreWide (p : List Entries) (heads : List Bound) (zones : Option (List ℕ)) (listed : List ZoneFlow) : Type 0 where
+  pub flows : List ZoneFlow
+  pub are : AreFlowsOf p heads zones flows
+  pub wide : AllZip CoversFlow listed flows
+  pub encloses : FlowsEnclose p heads zones flows
+
+-- those have a refusal, or these are the first zones between which the listed flow is too narrow
+abbrev pub AreNarrow : List Entries → List Bound → Option (List ℕ) → List ZoneFlow → CheckFault → Type 0
+AreNarrow p heads zones listed (fault.Fails place) =
+    (flows : List ZoneFlow) × (from : ℕ) × (to : ℕ) × AreFlowsOf p heads zones flows × IsFirstNarrow listed flows from to
+    × (place ≡ places.Zone from to)
+AreNarrow p heads zones listed (fault.Refused n) = HasLargeFlowOf p heads zones n
+AreNarrow p heads zones listed fault.Memory = Unit {0}
 
 -- the verdict from a step's fault at its time
 abbrev pub IsVerdictAt : TimeStep → CheckFault → ListingVerdict → Type 0

@@ -1,5 +1,6 @@
 -- Whether a step of a listing is certified, and the first place where it isn't.
-use Rattle.std.specs.Prelude.{◌≡◌, ℕ, List, Ok, Err, Result}
+use Rattle.std.specs.Prelude.{◌≡◌, ℕ, List, Ok, Err, Option, Result}
+use Rattle.std.specs.List.{AllZip}
 use Rattle.step_problem.specs.declared.heads.Bound.{Bound}
 use Rattle.step_problem.specs.declared.heads.Side.{Side}
 use Rattle.step_problem.specs.declared.place.Dir.{Dir}
@@ -7,6 +8,7 @@ use Rattle.step_problem.specs.declared.place.NoBound.{NoBound}
 use Rattle.step_problem.specs.declared.place.Place.{Place}
 use Rattle.step_problem.specs.declared.place.Place.TheVariants as places
 use Rattle.step_problem.specs.declared.place.Term.{Term}
+use Rattle.step_problem.specs.declared.place.ZoneFlow.{ZoneFlow}
 use Rattle.step_problem.specs.Entries.{Entries, entries_at}
 use Rattle.step_problem.specs.Heads.{Edges, lower_at, upper_at, IsCertificate}
 use Rattle.budget_bounds.specs.declared.pair.Budget.{Budget}
@@ -17,10 +19,13 @@ use Rattle.model_types.specs.declared.model.FlowModel.{FlowModel}
 use Rattle.model_types.specs.declared.time_steps.TimeStep.{TimeStep}
 use Rattle.step_chain.specs.Steps.{IsPosed, HasNoHeads}
 use Rattle.listing_io.specs.declared.listing.ListedStep.{ListedStep}
+use Rattle.listing_run.specs.Zones.{AreFlowsOf, HasLargeFlowOf}
 use Rattle.check_run.specs.Reaching.{variable_bounds, ConstantsReach, IsFirstShort}
+use Rattle.check_run.specs.Flows.{CoversFlow, IsFirstNarrow}
 
--- A listed step w of a model with s digits of conductances, where `old` are the heads of all cells before it.
-module _ (m : FlowModel) (s : ℕ) (at : TimeStep) (old : List Bound) (w : ListedStep) where
+-- A listed step w of a model with s digits of conductances and the zones of a zone file, if there is one, where `old` are
+-- the heads of all cells before it.
+module _ (m : FlowModel) (s : ℕ) (zones : Option (List ℕ)) (at : TimeStep) (old : List Bound) (w : ListedStep) where
   -- the listed bounds of the variable cells
   abbrev pub bounds : List Bound
   bounds = variable_bounds m at w.heads
@@ -36,22 +41,32 @@ module _ (m : FlowModel) (s : ℕ) (at : TimeStep) (old : List Bound) (w : Liste
     pub constants : ConstantsReach m at w.heads
     pub certificate : IsCertificate p b (lower_at bounds) (upper_at bounds)
 
-  -- The step is certified: its heads hold, and its listed terms are as wide as those of the listed heads' budget.
+  -- And its listed terms are as wide as those of the listed heads' budget.
+  pub record TermsHold (p : List Entries) (b : Edges) : Type 0 where
+    pub heads : HeadsHold p b
+    pub budget : Budget
+    pub is : budget_at p ≡ Ok budget
+    pub covers : Covers w.budget budget
+
+  -- The step is certified: its heads and terms hold, and its listed flows between zones are as wide as those at
+  -- the listed heads.
   pub record Passes : Type 0 where
     pub problem : List Entries
     pub barrier : Edges
-    pub heads : HeadsHold problem barrier
-    pub budget : Budget
-    pub is : budget_at problem ≡ Ok budget
-    pub covers : Covers w.budget budget
+    pub terms : TermsHold problem barrier
+    pub flows : List ZoneFlow
+    pub are : AreFlowsOf problem w.heads zones flows
+    pub wide : AllZip CoversFlow w.zones flows
 
-  -- Its first refusal: of the problem or its barrier; or of the budget, where its heads hold.
+  -- Its first refusal: of the problem or its barrier; of the budget, where its heads hold; or of the flows between zones,
+  -- where its terms hold.
   pub data IsRefused (n : NoBound) : Type 0 where
     no_heads : HasNoHeads m s at old n → IsRefused n
     no_budget : (p : List Entries) (b : Edges) → HeadsHold p b → budget_at p ≡ Err n → IsRefused n
+    no_flows : (p : List Entries) (b : Edges) → TermsHold p b → HasLargeFlowOf p w.heads zones n → IsRefused n
 
   -- The first place that fails: a constant cell and its side; where those hold, a variable cell and its side; where
-  -- the heads hold, a term of the budget, all In terms before all Out terms.
+  -- the heads hold, a term of the budget, all In terms before all Out terms; where the terms hold, a pair of zones.
   pub data FailsAt (place : Place) : Type 0 where
     at_constant : (p : List Entries) (b : Edges) (c : ℕ) (side : Side) → IsPosed m s at old p b →
         IsFirstShort m at w.heads c side → place ≡ places.Cell c side → FailsAt place
@@ -60,3 +75,5 @@ module _ (m : FlowModel) (s : ℕ) (at : TimeStep) (old : List Bound) (w : Liste
         place ≡ places.Cell (entries_at p k).id side → FailsAt place
     at_term : (p : List Entries) (b : Edges) (budget : Budget) (dir : Dir) (t : Term) → HeadsHold p b →
         budget_at p ≡ Ok budget → IsFirstUncovered w.budget budget dir t → place ≡ places.Term dir t → FailsAt place
+    at_zones : (p : List Entries) (b : Edges) (flows : List ZoneFlow) (from to : ℕ) → TermsHold p b → AreFlowsOf p w.heads zones flows →
+        IsFirstNarrow w.zones flows from to → place ≡ places.Zone from to → FailsAt place

@@ -1,5 +1,5 @@
 -- The verdict on a listing, and how a certified listing encloses every history.
-use Rattle.std.specs.Prelude.{◌≡◌, ℕ, ◌⊎◌, List, [], ◌∷◌, None}
+use Rattle.std.specs.Prelude.{◌≡◌, ℕ, ◌⊎◌, List, [], ◌∷◌, Option}
 use Rattle.step_problem.specs.declared.heads.Bound.{Bound}
 use Rattle.model_types.specs.declared.model.FlowModel.{FlowModel}
 use Rattle.model_types.specs.declared.time_steps.TimeStep.{TimeStep}
@@ -13,16 +13,16 @@ use Rattle.check_run.specs.declared.verdict.ListingVerdict.{ListingVerdict}
 use Rattle.check_run.specs.declared.verdict.ListingVerdict.TheVariants.{Certified, Fails, Refused}
 use Rattle.check_run.specs.Steps.{Passes, FailsAt, IsRefused}
 
-module _ (m : FlowModel) (s : ℕ) where
+module _ (m : FlowModel) (s : ℕ) (zones : Option (List ℕ)) where
   -- the check ends at this step with this verdict
   abbrev pub StopsAt : TimeStep → List Bound → ListedStep → ListingVerdict → Type 0
   StopsAt at old w Certified = ⊥
-  StopsAt at old w (Fails t place) = (t ≡ at) × FailsAt m s at old w place
-  StopsAt at old w (Refused t n) = (t ≡ at) × IsRefused m s at old w n
+  StopsAt at old w (Fails t place) = (t ≡ at) × FailsAt m s zones at old w place
+  StopsAt at old w (Refused t n) = (t ≡ at) × IsRefused m s zones at old w n
 
   -- From the heads `old` on, the check of these times' steps ends with this verdict. Each step is checked from the listed heads of the one before it.
   abbrev pub Checks : List Bound → List TimeStep → List ListedStep → ListingVerdict → Type 0
-  Checks old (at ∷ rest) (w ∷ steps) end = (Passes m s at old w × Checks w.heads rest steps end) ⊎ StopsAt at old w end
+  Checks old (at ∷ rest) (w ∷ steps) end = (Passes m s zones at old w × Checks w.heads rest steps end) ⊎ StopsAt at old w end
   Checks old [] [] Certified = Unit {0}
   Checks old [] [] (Fails t place) = ⊥
   Checks old [] [] (Refused t n) = ⊥
@@ -37,17 +37,18 @@ module _ (m : FlowModel) (s : ℕ) where
 
   -- the model as a task; the rounds have no effect
   abbrev pub checked_task : Task
-  checked_task = record { model = m; digits = s; zones = None; rounds = 0 }
+  checked_task = record { model = m; digits = s; zones = zones; rounds = 0 }
 
--- a listed step at its time, as a step of a listing without zone flows
+-- a listed step at its time, as a step of a run
 abbrev pub step_of : TimeStep → ListedStep → Step
-step_of at w = record { at = at; heads = w.heads; budget = w.budget; zones = [] }
+step_of at w = record { at = at; heads = w.heads; budget = w.budget; zones = w.zones }
 
 abbrev pub steps_of : List TimeStep → List ListedStep → List Step
 steps_of (at ∷ rest) (w ∷ steps) = step_of at w ∷ steps_of rest steps
 steps_of [] steps = []
 steps_of (at ∷ rest) [] = []
 
--- Every history that solves the model's exact equations lies between the listed heads, with each of its budget flows between the listed terms.
-abbrev pub ListingEncloses : FlowModel → ℕ → List ListedStep → Type 0
-ListingEncloses m s steps = EnclosesHistories (checked_task m s) (steps_of (times m) steps)
+-- Every history that solves the model's exact equations lies between the listed heads, with each of its budget flows
+-- between the listed terms, and each of its flows between two zones of a zone file between its two listed numbers.
+abbrev pub ListingEncloses : FlowModel → ℕ → Option (List ℕ) → List ListedStep → Type 0
+ListingEncloses m s zones steps = EnclosesHistories (checked_task m s zones) (steps_of (times m) steps)

@@ -3,6 +3,7 @@
 
 mod constants;
 mod fault;
+mod flows;
 pub mod laws;
 mod listing;
 mod posed;

@@ -1,6 +1,8 @@
 // The check of a listing.
-ghost use Rattle.std.specs.Prelude.{◌≡◌, ◌≤◌, length, IfOk};
+ghost use Rattle.std.specs.Prelude.{◌≡◌, ◌≤◌, length, option_map, IfOk};
 ghost use Rattle.model_types.specs.Valid.{IsModel};
+ghost use Rattle.zone_pairs.specs.Pairs.{pairs_in};
+ghost use Rattle.zone_pairs.specs.Zones.{AreZones};
 ghost use Rattle.listing_io.specs.Listed.{AreListed};
 ghost use Rattle.exact_histories.specs.Histories.{HasOneHistory};
 ghost use Rattle.step_chain.specs.Keeps.{AreRunTables, digits_of};
@@ -46,15 +48,17 @@ fn check_steps(
     alloc: Global,
     model: &FlowModel,
     tables: &mut RunTables,
+    zones: Option<&[u32]>,
     listing: &Listing,
 ) -> Result<ListingVerdict, AllocError>
     requires model { IsModel model.now }
     requires digits { digits_of tables.old ≤ 18 }
-    requires listing { AreListed model.now listing.now }
+    requires zones { AreZones model.now (option_map (λ z. z.now) zones) }
+    requires listing { AreListed model.now (pairs_in model.now (option_map (λ z. z.now) zones)) listing.now }
     requires tables { AreRunTables model.now tables.old }
-    ensures verdict { IfOk result (IsVerdict model.now (digits_of tables.old) listing.now) }
-    ensures only { IfOk result (λ v. (other : ListingVerdict) → IsVerdict model.now (digits_of tables.old) listing.now other → other ≡ v) }
-    ensures encloses { IfOk result (λ v. v ≡ Certified → ListingEncloses model.now (digits_of tables.old) listing.now) }
+    ensures verdict { IfOk result (IsVerdict model.now (digits_of tables.old) (option_map (λ z. z.now) zones.entry) listing.now) }
+    ensures only { IfOk result (λ v. (other : ListingVerdict) → IsVerdict model.now (digits_of tables.old) (option_map (λ z. z.now) zones.entry) listing.now other → other ≡ v) }
+    ensures encloses { IfOk result (λ v. v ≡ Certified → ListingEncloses model.now (digits_of tables.old) (option_map (λ z. z.now) zones.entry) listing.now) }
     ensures history { IfOk result (λ v. v ≡ Certified → HasOneHistory model.now) }
 {
     one_verdict();
@@ -64,7 +68,8 @@ fn check_steps(
         let old = heads_before(start.as_slice(), listing, index);
         let heads = listing.heads(index);
         let budget = listing.budget(index);
-        match check_listed(alloc, model, tables, *at, old, heads, budget) {
+        let flows = listing.zones(index);
+        match check_listed(alloc, model, tables, *at, old, zones, heads, budget, flows) {
             Ok(()) => {}
             Err(fault) => return verdict_at(*at, fault),
         }
@@ -73,26 +78,29 @@ fn check_steps(
 }
 
 /// Checks a listing of a model with s digits of conductances, step by step, each from the listed heads of the one
-/// before it, the first from STRT. The first step and place that fails is the verdict, or the first refusal.
+/// before it, the first from STRT. `zones` has the zone of each cell, if there is a zone file. The first step and place that
+/// fails is the verdict, or the first refusal.
 pub fn check_listing(
     alloc: Global,
     model: &FlowModel,
     listing: &Listing,
     s: u32,
+    zones: Option<&[u32]>,
 ) -> Result<ListingVerdict, AllocError>
     requires model { IsModel model.now }
     requires digits { s ≤ 18 }
-    requires listing { AreListed model.now listing.now }
+    requires zones { AreZones model.now (option_map (λ z. z.now) zones) }
+    requires listing { AreListed model.now (pairs_in model.now (option_map (λ z. z.now) zones)) listing.now }
     // The listing's one verdict.
-    ensures verdict { IfOk result (IsVerdict model.now s listing.now) }
-    ensures only { IfOk result (λ v. (other : ListingVerdict) → IsVerdict model.now s listing.now other → other ≡ v) }
+    ensures verdict { IfOk result (IsVerdict model.now s (option_map (λ z. z.now) zones.entry) listing.now) }
+    ensures only { IfOk result (λ v. (other : ListingVerdict) → IsVerdict model.now s (option_map (λ z. z.now) zones.entry) listing.now other → other ≡ v) }
     // Where it is certified, every history that solves the model lies within it, whoever wrote it.
-    ensures encloses { IfOk result (λ v. v ≡ Certified → ListingEncloses model.now s listing.now) }
+    ensures encloses { IfOk result (λ v. v ≡ Certified → ListingEncloses model.now s (option_map (λ z. z.now) zones.entry) listing.now) }
     // And there is exactly one such history.
     ensures history { IfOk result (λ v. v ≡ Certified → HasOneHistory model.now) }
 {
     match RunTables::new(alloc, model, s) {
-        Ok(mut tables) => check_steps(alloc, model, &mut tables, listing),
+        Ok(mut tables) => check_steps(alloc, model, &mut tables, zones, listing),
         Err(fault) => Err(fault),
     }
 }

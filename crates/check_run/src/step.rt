@@ -1,8 +1,11 @@
 // The check of one listed step.
-ghost use Rattle.std.specs.Prelude.{◌≡◌, ◌≤◌, Contains, IfOk, IfErr};
+ghost use Rattle.std.specs.Prelude.{◌≡◌, ◌≤◌, Contains, IfOk, IfErr, option_map};
 ghost use Rattle.model_types.specs.Times.{times};
 ghost use Rattle.model_types.specs.Valid.{IsModel};
 ghost use Rattle.problem_builder.specs.GridHeads.{AreGridHeads};
+ghost use Rattle.zone_pairs.specs.Pairs.{pairs_in};
+ghost use Rattle.zone_pairs.specs.Zones.{AreZones};
+ghost use Rattle.listing_io.specs.Listed.{AreFlows};
 ghost use Rattle.step_chain.specs.Keeps.{AreRunTables, digits_of};
 ghost use Rattle.listing_run.specs.Bounding.{BoundsMoves};
 ghost use Rattle.check_run.specs.Parts.{FailsBy};
@@ -11,6 +14,7 @@ ghost use Rattle.check_run.specs.Verdicts.{checked_task, step_of};
 
 use crate::constants::first_unreached;
 use crate::fault::CheckFault;
+use crate::flows::wide;
 use crate::posed::pose;
 use crate::terms::covered;
 use crate::variables::{bounds_of, certified};
@@ -20,9 +24,9 @@ use model_types::{FlowModel, TimeStep};
 use problem_builder::laws::constant_pairs;
 use std::alloc::Global;
 use step_chain::RunTables;
-use step_problem::{Bound, Place};
+use step_problem::{Bound, Place, ZoneFlow};
 
-/// Checks the listed heads and budget of a time from the heads of all cells before it. `tables` are those of the
+/// Checks the listed heads, budget and flows between zones of a time from the heads of all cells before it. `tables` are those of the
 /// run, and move to the step's period.
 pub(crate) fn check_listed(
     alloc: Global,
@@ -30,23 +34,27 @@ pub(crate) fn check_listed(
     tables: &mut RunTables,
     at: TimeStep,
     old: &[Bound],
+    zones: Option<&[u32]>,
     heads: &[Bound],
     listed: &Budget,
+    flows: &[ZoneFlow],
 ) -> Result<(), CheckFault>
     requires model { IsModel model.now }
     requires time { Contains (times model.now) at }
     requires old { AreGridHeads model.now old.now }
     requires heads { AreGridHeads model.now heads.now }
+    requires zones { AreZones model.now (option_map (λ z. z.now) zones) }
+    requires flows { AreFlows (pairs_in model.now (option_map (λ z. z.now) zones) at.period) flows.now }
     requires digits { digits_of tables.old ≤ 18 }
     requires tables { AreRunTables model.now tables.old }
     ensures digits { digits_of tables.new ≡ digits_of tables.old }
     ensures tables { AreRunTables model.now tables.new }
-    ensures passes { IfOk result (λ _. Passes model.now (digits_of tables.old) at old.now (record { heads = heads.now; budget = listed.now })) }
-    ensures fault { IfErr result (FailsBy model.now (digits_of tables.old) at old.now (record { heads = heads.now; budget = listed.now })) }
+    ensures passes { IfOk result (λ _. Passes model.now (digits_of tables.old) (option_map (λ z. z.now) zones.entry) at old.now (record { heads = heads.now; budget = listed.now; zones = flows.now })) }
+    ensures fault { IfErr result (FailsBy model.now (digits_of tables.old) (option_map (λ z. z.now) zones.entry) at old.now (record { heads = heads.now; budget = listed.now; zones = flows.now })) }
     // Every solution from exact heads within the old ones lies within the listed bounds.
     ensures encloses { IfOk result
-        (λ _. BoundsMoves (checked_task model.now (digits_of tables.old)) at old.now
-        (step_of at (record { heads = heads.now; budget = listed.now }))) }
+        (λ _. BoundsMoves (checked_task model.now (digits_of tables.old) (option_map (λ z. z.now) zones.entry)) at old.now
+        (step_of at (record { heads = heads.now; budget = listed.now; zones = flows.now }))) }
 {
     constant_pairs();
     heads_within();
@@ -58,5 +66,6 @@ pub(crate) fn check_listed(
     }
     let bounds = bounds_of(alloc, &posed.problem, heads)?;
     certified(&posed.problem, &posed.barrier, bounds.as_slice())?;
-    covered(&posed.problem, bounds.as_slice(), listed)
+    covered(&posed.problem, bounds.as_slice(), listed)?;
+    wide(alloc, model, zones, &posed.problem, heads, flows)
 }

@@ -25,7 +25,7 @@ few (Some text) n e =
 
 -- a check has at most 18
 abbrev Fits : Option Wanted → Type 0
-Fits (Some (Checks name listing digits)) = digits ≤ 18
+Fits (Some (Checks name listing digits zones)) = digits ≤ 18
 Fits other = Unit {0}
 
 then_fits : {A : Type 0} (x : Option A) (f : A → Option Wanted) → ((a : A) → x ≡ Some a → Fits (f a)) → Fits (option_and_then f x)
@@ -67,5 +67,5 @@ found_fits : (faults : Kinds) (found : Option (Text × List Row)) → Fits (want
 found_fits [] found = then_fits found (λ p. command_in p.0 p.1) (λ p e. command_fits p.0 p.1)
 found_fits (fault ∷ faults) found = tt
 
-pub check_digits : (words : List Text) (name listing : Text) (digits : ℕ) → wanted_of words ≡ Some (Checks name listing digits) → digits ≤ 18
-check_digits words name listing digits e = subst Fits e (found_fits (fault_of heads_app words) (subcommand_of heads_app words))
+pub check_digits : (words : List Text) (name listing : Text) (digits : ℕ) (zones : Option Text) → wanted_of words ≡ Some (Checks name listing digits zones) → digits ≤ 18
+check_digits words name listing digits zones e = subst Fits e (found_fits (fault_of heads_app words) (subcommand_of heads_app words))

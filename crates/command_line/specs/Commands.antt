@@ -21,9 +21,9 @@ settling a = with_rule (with_rule (with_rule a (option (codes "digits"))) (optio
 abbrev pub run_app : App
 run_app = with_rule (with_rule (settling (with_rule (new_app (codes "run")) (word (codes "name")))) (option (codes "zones"))) (option (codes "watch"))
 
--- check NAME LISTING [--digits S]
+-- check NAME LISTING [--digits S] [--zones Z]
 abbrev pub check_app : App
-check_app = with_rule (with_rule (with_rule (new_app (codes "check")) (word (codes "name"))) (word (codes "listing"))) (option (codes "digits"))
+check_app = with_rule (with_rule (with_rule (with_rule (new_app (codes "check")) (word (codes "name"))) (word (codes "listing"))) (option (codes "digits"))) (option (codes "zones"))
 
 -- make SEED SIZE
 abbrev pub make_app : App

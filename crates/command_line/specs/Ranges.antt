@@ -8,7 +8,7 @@ AreSettlersNumbers workers rounds = (1 ≤ workers) × (workers ≤ 64) × (1 �
 
 abbrev pub IsInRange : Wanted → Type 0
 IsInRange (Lists name digits workers rounds zones turns) = (digits ≤ 18) × AreSettlersNumbers workers rounds × IfSome turns (λ n. (1 ≤ n) × (n ≤ 1000))
-IsInRange (Checks name listing digits) = digits ≤ 18
+IsInRange (Checks name listing digits zones) = digits ≤ 18
 IsInRange (Makes seed size) = (seed ≤ 2147483647) × (1 ≤ size) × (size ≤ 64)
 IsInRange (Batches list digits workers rounds) = (digits ≤ 18) × AreSettlersNumbers workers rounds
 IsInRange (Writes name) = Unit {0}

@@ -1,4 +1,4 @@
--- The line where the words aren't accepted. It doesn't name `write NAME`, which is accepted too.
+-- The line where the words aren't accepted. It names neither `write NAME` nor `--zones` of `check`, which are accepted too.
 use Rattle.std.specs.Prelude.{List, ℕ, codes}
 
 abbrev pub usage_line : List ℕ

@@ -12,11 +12,11 @@ abbrev ◌>>=◌ : {A B : Type 0} → Option A → (A → Option B) → Option B
 x >>= f = option_and_then f x
 
 -- A listing of a model: its name file, digits, workers, rounds, zone file, turns of the watching seat. A check: name
--- file, listing, digits. A made model: seed, size. A batch of models: list, digits, workers, rounds. A model's deck: its
+-- file, listing, digits, zone file. A made model: seed, size. A batch of models: list, digits, workers, rounds. A model's deck: its
 -- name file.
 pub data Wanted : Type 0 where
   Lists : Text → ℕ → ℕ → ℕ → Option Text → Option ℕ → Wanted
-  Checks : Text → Text → ℕ → Wanted
+  Checks : Text → Text → ℕ → Option Text → Wanted
   Makes : ℕ → ℕ → Wanted
   Batches : Text → ℕ → ℕ → ℕ → Wanted
   Writes : Text → Wanted
@@ -54,7 +54,7 @@ check_in rows = do
   name ← first_of (codes "name") rows
   listing ← first_of (codes "listing") rows
   digits ← digits_in rows
-  Some (Checks name listing digits)
+  Some (Checks name listing digits (first_of (codes "zones") rows))
 
 abbrev pub make_in : List Row → Option Wanted
 make_in rows = do
@@ -96,7 +96,7 @@ wanted_of words = wanted_if (fault_of heads_app words) (subcommand_of heads_app 
 -- what an order asks for
 abbrev pub wanted : Order → Wanted
 wanted (order.Run name digits workers rounds zones watch) = Lists name.now digits workers rounds (option_map (λ z. z.now) zones) watch
-wanted (order.Check name listing digits) = Checks name.now listing.now digits
+wanted (order.Check name listing digits zones) = Checks name.now listing.now digits (option_map (λ z. z.now) zones)
 wanted (order.Make seed size) = Makes seed size
 wanted (order.Batch list digits workers rounds) = Batches list.now digits workers rounds
 wanted (order.Write name) = Writes name.now

@@ -53,7 +53,8 @@ fn check_command<'a>(alloc: Global) -> Result<Command<'a>, AllocError>
 {
     let command = with_word(alloc, Command::new(alloc, "check"), "name")?;
     let command = with_word(alloc, command, "listing")?;
-    with_option(alloc, command, "digits")
+    let command = with_option(alloc, command, "digits")?;
+    with_option(alloc, command, "zones")
 }
 
 fn make_command<'a>(alloc: Global) -> Result<Command<'a>, AllocError>

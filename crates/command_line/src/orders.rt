@@ -28,6 +28,7 @@ pub enum Order<'a> {
         name: &'a str,
         listing: &'a str,
         digits: u32,
+        zones: Option<&'a str>,
     },
     /// A model that is made, and its summary.
     Make {
@@ -109,6 +110,7 @@ fn check_order<'a>(found: &ArgMatches<'a>) -> Option<Order<'a>>
         name,
         listing,
         digits,
+        zones: text_of(found, "zones"),
     })
 }
 

@@ -54,7 +54,7 @@ views_of_run : (w : Option Wanted) (n : ℕ) → option_and_then views_asked w �
 views_of_run (Some (Lists name digits workers rounds zones watch)) n e = (record { name = name; digits = digits; rounds = rounds; zones = zones }, refl)
 views_of_run (Some (Makes seed size)) n e = absurd (let bad : Path (Option ℕ) None (Some n) = e in cc)
 views_of_run (Some (Writes name)) n e = absurd (let bad : Path (Option ℕ) None (Some n) = e in cc)
-views_of_run (Some (Checks name listing digits)) n e = absurd (let bad : Path (Option ℕ) None (Some n) = e in cc)
+views_of_run (Some (Checks name listing digits zones)) n e = absurd (let bad : Path (Option ℕ) None (Some n) = e in cc)
 views_of_run (Some (Batches list digits workers rounds)) n e = absurd (let bad : Path (Option ℕ) None (Some n) = e in cc)
 views_of_run None n e = absurd (let bad : Path (Option ℕ) None (Some n) = e in cc)
 

@@ -6,8 +6,7 @@ use Rattle.outside.specs.declared.refusals.Refusal.{Refusal}
 use Rattle.model_types.specs.declared.model.FlowModel.{FlowModel}
 use Rattle.model_types.specs.Valid.{IsModel}
 use Rattle.model_reader.specs.Model.{reads}
-use Rattle.listing_io.specs.declared.listing.ListedStep.{ListedStep}
-use Rattle.listing_io.specs.Listed.{AreListed}
+use Rattle.engine.specs.declared.zoned.ZonedListing.{ZonedListing}
 use Rattle.run_puts.specs.Lines.{Text}
 use Rattle.run_puts.specs.declared.status.Status.{Status}
 use Rattle.run_puts.specs.declared.status.Status.TheVariants as status
@@ -16,13 +15,13 @@ use Rattle.check_run.specs.declared.verdict.ListingVerdict.{ListingVerdict}
 use Rattle.check_run.specs.declared.verdict.ListingVerdict.TheVariants.{Certified as Holds, Fails, Refused as Unbounded}
 use Rattle.check_run.specs.Laws.{VerdictIsOne}
 use Rattle.check_run.specs.Verdicts.{IsVerdict}
-use Rattle.engine.specs.Cases.{Asked, AskedCheck, Case, Command, Run, Make, Check, Write, NoWords, Refuses, Listing, Making, Checking, Writing, asked_in, case_asked, case_checked, case_listed, case_of, case_read, case_written, case_zoned, listing_read, made_model, named, task_of, zones_read}
+use Rattle.engine.specs.Cases.{Asked, AskedCheck, Case, Command, Run, Make, Check, Write, NoWords, Refuses, Listing, Making, Checking, Writing, asked_in, case_asked, case_checked, case_listed, case_of, case_read, case_written, case_zoned, listing_read, made_model, named, steps_read, task_of, zones_read}
 use Rattle.engine.specs.Certified.{Certified}
 use Rattle.engine.specs.Checked.{IsCheck, certified_line, verdict_line, verdict_status}
 use Rattle.engine.specs.Defined.{Defines}
 use Rattle.engine.specs.OneListing.{OneVerdict}
-use Rattle.engine.specs.Parts.{IsStopped, IsValid}
-use Rattle.engine.proofs.Readings.{named_read}
+use Rattle.engine.specs.Parts.{IsListed, IsStopped, IsValid}
+use Rattle.engine.proofs.Readings.{named_read, zoned_parts}
 
 -- a fault outside or lack of memory, which no words and files define
 abbrev pub IsFault : Status → Type 0
@@ -50,19 +49,20 @@ verdict_is_no_fault Holds h = h
 verdict_is_no_fault (Fails at place) h = h
 verdict_is_no_fault (Unbounded at n) h = h
 
-pub check_is_no_fault : (m : FlowModel) (s : ℕ) (steps : List ListedStep) (end : Status) (pieces : List Text) → IsCheck m s steps end pieces → IsFault end → ⊥
-check_is_no_fault m s steps end pieces c h = verdict_is_no_fault c.verdict (subst IsFault c.status h)
+pub check_is_no_fault : (m : FlowModel) (s : ℕ) (listing : ZonedListing) (end : Status) (pieces : List Text) → IsCheck m s listing end pieces → IsFault end → ⊥
+check_is_no_fault m s listing end pieces c h = verdict_is_no_fault c.verdict (subst IsFault c.status h)
 
 module _ (words : List Text) (files : List File) (old new : Seen) (puts : List Put) (pieces : List Text) (asked : AskedCheck) (wanted : asked_in words ≡ Some (Check asked)) (written : puts ≡ map taken pieces) (makes : PutsMake old puts new) where
   abbrev Tells : Type 0
   Tells = Certified words files old.written new.written × OneVerdict words files
 
-  tells : (f : FlowModel) (steps : List ListedStep) → IsModel f → named asked.name (reads files) ≡ Ok f → listing_read files asked f ≡ Ok steps → Defines (Checking f asked.digits steps) status.Ok pieces → Tells
-  tells f steps model read listed d =
+  tells : (f : FlowModel) (listing : ZonedListing) → IsModel f → named asked.name (reads files) ≡ Ok f → listing_read files asked f ≡ Ok listing → Defines (Checking f asked.digits listing) status.Ok pieces → Tells
+  tells f listing model read listed d =
+      let parts = zoned_parts (zones_read files asked.zones f) (steps_read files asked f) listing listed in
       let is = named_read asked.name (reads files) f read in
       let holds = is_certified d.verdict d.status in
       let L : ListingVerdict → Type 0 = λ v. pieces ≡ verdict_line f.grid v ∷ [] in
-      let V : ListingVerdict → Type 0 = λ v. IsVerdict f asked.digits steps v in
+      let V : ListingVerdict → Type 0 = λ v. IsVerdict f asked.digits listing.zones listing.steps v in
       let history = d.history holds in (
         record {
           asked = asked;
@@ -70,19 +70,21 @@ module _ (words : List Text) (files : List File) (old new : Seen) (puts : List P
           model = f;
           read = is;
           valid = model;
-          steps = steps;
-          listed = listed;
+          zones = listing.zones;
+          zoned = parts.0;
+          steps = listing.steps;
+          listed = parts.1;
           written = all_written (certified_line ∷ []) old new puts (written ∙ ap (map taken) (subst L holds d.are)) makes;
           encloses = d.encloses holds;
           solvable = history.solvable;
           one = history.one;
         },
-        record { asked = asked; wanted = wanted; model = f; read = is; valid = model; steps = steps; listed = listed; verdict = subst V holds d.is },
+        record { asked = asked; wanted = wanted; model = f; read = is; valid = model; zones = listing.zones; zoned = parts.0; steps = listing.steps; listed = parts.1; verdict = subst V holds d.is },
       )
 
-  of_steps : (f : FlowModel) → named asked.name (reads files) ≡ Ok f → (r : Result (List ListedStep) Refusal) → listing_read files asked f ≡ r → IsValid (case_listed asked f r) status.Ok → Defines (case_listed asked f r) status.Ok pieces → Tells
-  of_steps f read (Ok steps) listed (inl (model, valid)) d = tells f steps model read listed d
-  of_steps f read (Ok steps) listed (inr stops) d = absurd (not_stopped stops)
+  of_steps : (f : FlowModel) → named asked.name (reads files) ≡ Ok f → (r : Result ZonedListing Refusal) → listing_read files asked f ≡ r → IsValid (case_listed asked f r) status.Ok → Defines (case_listed asked f r) status.Ok pieces → Tells
+  of_steps f read (Ok listing) listed (inl (model, valid)) d = tells f listing model read listed d
+  of_steps f read (Ok listing) listed (inr stops) d = absurd (not_stopped stops)
   of_steps f read (Err refusal) listed valid d = absurd (let bad : status.Ok ≡ status.Refused refusal = d.0 in cc)
 
   of_model : (r : Result FlowModel Refusal) → named asked.name (reads files) ≡ r → IsValid (case_checked asked r (listing_read files asked)) status.Ok → Defines (case_checked asked r (listing_read files asked)) status.Ok pieces → Tells
@@ -96,12 +98,12 @@ module _ (words : List Text) (files : List File) (old new : Seen) (puts : List P
       of_model (named asked.name (reads files)) refl (subst V wanted valid) (subst P wanted d)
 
 -- a check comes to a refusal, or to steps that are checked
-pub checked_case : (P : Case → Type 0) → ((refusal : Refusal) → P (Refuses refusal)) → ((m : FlowModel) (s : ℕ) (steps : List ListedStep) → P (Checking m s steps)) → (asked : AskedCheck) (r : Result FlowModel Refusal) (listed : FlowModel → Result (List ListedStep) Refusal) → P (case_checked asked r listed)
+pub checked_case : (P : Case → Type 0) → ((refusal : Refusal) → P (Refuses refusal)) → ((m : FlowModel) (s : ℕ) (listing : ZonedListing) → P (Checking m s listing)) → (asked : AskedCheck) (r : Result FlowModel Refusal) (listed : FlowModel → Result ZonedListing Refusal) → P (case_checked asked r listed)
 checked_case P refuses checks asked (Err refusal) listed = refuses refusal
 checked_case P refuses checks asked (Ok f) listed = by_listing (listed f)
   where
-    by_listing : (l : Result (List ListedStep) Refusal) → P (case_listed asked f l)
-    by_listing (Ok steps) = checks f asked.digits steps
+    by_listing : (l : Result ZonedListing Refusal) → P (case_listed asked f l)
+    by_listing (Ok listing) = checks f asked.digits listing
     by_listing (Err refusal) = refuses refusal
 
 -- the words of a deck come to a refusal, or to a model whose deck is written
@@ -110,36 +112,36 @@ written_case P refuses writes (Ok m) = writes m
 written_case P refuses writes (Err refusal) = refuses refusal
 
 -- where steps are checked, the words ask for a check
-module _ (words : List Text) (files : List File) (m : FlowModel) (s : ℕ) (steps : List ListedStep) where
-  no_check_zoned : (asked : Asked) (f : FlowModel) (z : Result (Option (List ℕ)) Refusal) → case_zoned asked f z ≡ Checking m s steps → ⊥
-  no_check_zoned asked f (Ok zones) e = let bad : Listing (task_of asked f zones) ≡ Checking m s steps = e in cc
-  no_check_zoned asked f (Err refusal) e = let bad : Refuses refusal ≡ Checking m s steps = e in cc
+module _ (words : List Text) (files : List File) (m : FlowModel) (s : ℕ) (listing : ZonedListing) where
+  no_check_zoned : (asked : Asked) (f : FlowModel) (z : Result (Option (List ℕ)) Refusal) → case_zoned asked f z ≡ Checking m s listing → ⊥
+  no_check_zoned asked f (Ok zones) e = let bad : Listing (task_of asked f zones) ≡ Checking m s listing = e in cc
+  no_check_zoned asked f (Err refusal) e = let bad : Refuses refusal ≡ Checking m s listing = e in cc
 
-  no_check : (asked : Asked) (r : Result FlowModel Refusal) → case_read asked r (zones_read files asked.zones) ≡ Checking m s steps → ⊥
+  no_check : (asked : Asked) (r : Result FlowModel Refusal) → case_read asked r (zones_read files asked.zones) ≡ Checking m s listing → ⊥
   no_check asked (Ok f) e = no_check_zoned asked f (zones_read files asked.zones f) e
-  no_check asked (Err refusal) e = let bad : Refuses refusal ≡ Checking m s steps = e in cc
+  no_check asked (Err refusal) e = let bad : Refuses refusal ≡ Checking m s listing = e in cc
 
-  check_by_words : (a : Option Command) → asked_in words ≡ a → case_asked a (reads files) (zones_read files) (listing_read files) ≡ Checking m s steps → (asked : AskedCheck) × (asked_in words ≡ Some (Check asked))
-  check_by_words None wanted e = absurd (let bad : NoWords ≡ Checking m s steps = e in cc)
+  check_by_words : (a : Option Command) → asked_in words ≡ a → case_asked a (reads files) (zones_read files) (listing_read files) ≡ Checking m s listing → (asked : AskedCheck) × (asked_in words ≡ Some (Check asked))
+  check_by_words None wanted e = absurd (let bad : NoWords ≡ Checking m s listing = e in cc)
   check_by_words (Some (Run asked)) wanted e = absurd (no_check asked (named asked.name (reads files)) e)
-  check_by_words (Some (Make seed size)) wanted e = absurd (let bad : Making seed size (made_model seed size) ≡ Checking m s steps = e in cc)
+  check_by_words (Some (Make seed size)) wanted e = absurd (let bad : Making seed size (made_model seed size) ≡ Checking m s listing = e in cc)
   check_by_words (Some (Check asked)) wanted e = (asked, wanted)
-  check_by_words (Some (Write name)) wanted e = absurd (written_case (λ c. c ≡ Checking m s steps → ⊥) (λ refusal x. let bad : Refuses refusal ≡ Checking m s steps = x in cc) (λ f x. let bad : Writing f ≡ Checking m s steps = x in cc) (named name (reads files)) e)
+  check_by_words (Some (Write name)) wanted e = absurd (written_case (λ c. c ≡ Checking m s listing → ⊥) (λ refusal x. let bad : Refuses refusal ≡ Checking m s listing = x in cc) (λ f x. let bad : Writing f ≡ Checking m s listing = x in cc) (named name (reads files)) e)
 
-  pub asks_check : case_of words files ≡ Checking m s steps → (asked : AskedCheck) × (asked_in words ≡ Some (Check asked))
+  pub asks_check : case_of words files ≡ Checking m s listing → (asked : AskedCheck) × (asked_in words ≡ Some (Check asked))
   asks_check e = check_by_words (asked_in words) refl e
 
 -- A check has one end.
-module _ (m : FlowModel) (s : ℕ) (steps : List ListedStep) where
-  pub one_end : VerdictIsOne → IsModel m → AreListed m steps → (meant end : Status) (p q : List Text) → IsCheck m s steps meant p → IsCheck m s steps end q → end ≡ meant
-  one_end law model listed meant end p q x y = y.status ∙ ap verdict_status (law m s steps y.verdict x.verdict model listed y.is x.is) ∙ sym x.status
+module _ (m : FlowModel) (s : ℕ) (listing : ZonedListing) where
+  pub one_end : VerdictIsOne → IsModel m → IsListed m listing → (meant end : Status) (p q : List Text) → IsCheck m s listing meant p → IsCheck m s listing end q → end ≡ meant
+  one_end law model listed meant end p q x y = y.status ∙ ap verdict_status (law m s listing.zones listing.steps y.verdict x.verdict model listed.steps y.is x.is) ∙ sym x.status
 
-  pub never_stopped_check : (end : Status) (q : List Text) → IsStopped end → IsCheck m s steps end q → ⊥
-  never_stopped_check end q stops y = check_is_no_fault m s steps end q y (stopped_by_fault end stops)
+  pub never_stopped_check : (end : Status) (q : List Text) → IsStopped end → IsCheck m s listing end q → ⊥
+  never_stopped_check end q stops y = check_is_no_fault m s listing end q y (stopped_by_fault end stops)
 
   -- where the verdict is that the listing is certified, no other end comes
-  pub certifies : VerdictIsOne → IsVerdict m s steps Holds → (fault : Type 0) (end : Status) → (IsModel m × AreListed m steps) ⊎ IsStopped end → fault ⊎ ((end ≡ status.Memory) ⊎ ((q : List Text) × IsCheck m s steps end q)) → fault ⊎ ((end ≡ status.Ok) ⊎ (end ≡ status.Memory))
+  pub certifies : VerdictIsOne → IsVerdict m s listing.zones listing.steps Holds → (fault : Type 0) (end : Status) → (IsModel m × IsListed m listing) ⊎ IsStopped end → fault ⊎ ((end ≡ status.Memory) ⊎ ((q : List Text) × IsCheck m s listing end q)) → fault ⊎ ((end ≡ status.Ok) ⊎ (end ≡ status.Memory))
   certifies law verdict fault end valid (inl f) = inl f
   certifies law verdict fault end valid (inr (inl e)) = inr (inr e)
-  certifies law verdict fault end (inl (model, listed)) (inr (inr (q, y))) = inr (inl (y.status ∙ ap verdict_status (law m s steps y.verdict Holds model listed y.is verdict)))
+  certifies law verdict fault end (inl (model, listed)) (inr (inr (q, y))) = inr (inl (y.status ∙ ap verdict_status (law m s listing.zones listing.steps y.verdict Holds model listed.steps y.is verdict)))
   certifies law verdict fault end (inr stops) (inr (inr (q, y))) = absurd (never_stopped_check end q stops y)

@@ -9,10 +9,10 @@ use Rattle.outside.specs.declared.refusals.Refusal.{Refusal}
 use Rattle.model_types.specs.declared.model.FlowModel.{FlowModel}
 use Rattle.model_types.specs.Valid.{IsModel}
 use Rattle.model_reader.specs.Model.{reads}
-use Rattle.listing_io.specs.declared.listing.ListedStep.{ListedStep}
 use Rattle.run_puts.specs.Lines.{Text}
 use Rattle.run_puts.specs.Runs.{IsRun, NeverCut}
 use Rattle.run_puts.specs.declared.status.Status.{Status}
+use Rattle.engine.specs.declared.zoned.ZonedListing.{ZonedListing}
 use Rattle.engine.specs.Cases.{AskedCheck, Command, Write, Refuses, Writing, IsCase, asked_in, case_asked, case_written, listing_read, named, zones_read}
 use Rattle.engine.specs.Decks.{IsDeck}
 use Rattle.engine.specs.Parts.{Answers, IsReadAs, IsReadingEnd}
@@ -20,18 +20,18 @@ use Rattle.engine.proofs.Ends.{could_read, decked, ends_without_words, no_steps,
 use Rattle.engine.proofs.Readings.{no_zones}
 
 module _ (words : List Text) (files : Option (List File)) (n m : ℕ) (name : Text) (wanted : asked_in words ≡ Some (Write name)) where
-  deck_case : (read : Text → Result FlowModel Refusal) (zoned : Option Text → FlowModel → Result (Option (List ℕ)) Refusal) (listed : AskedCheck → FlowModel → Result (List ListedStep) Refusal) (r : Result FlowModel Refusal) → named name read ≡ r → case_written r ≡ case_asked (asked_in words) read zoned listed
+  deck_case : (read : Text → Result FlowModel Refusal) (zoned : Option Text → FlowModel → Result (Option (List ℕ)) Refusal) (listed : AskedCheck → FlowModel → Result ZonedListing Refusal) (r : Result FlowModel Refusal) → named name read ≡ r → case_written r ≡ case_asked (asked_in words) read zoned listed
   deck_case read zoned listed r is =
       let P : Option Command → Type 0 = λ a. case_written r ≡ case_asked a read zoned listed in
       subst P (sym wanted) (ap case_written (sym is))
 
   unread_case : (files : Option (List File)) (refusal : Refusal) → IsReadAs name files (Err (input.Refused refusal)) → IsCase words files (Refuses refusal)
   unread_case (Some fs) refusal h = deck_case (reads fs) (zones_read fs) (listing_read fs) (Err refusal) h
-  unread_case None refusal (read, valid, h) = (read, no_zones, no_steps, could_read read valid, deck_case (λ n. read) (same_zones no_zones) (same_steps no_steps) (Err refusal) h)
+  unread_case None refusal (read, valid, h) = (read, no_zones, no_steps, could_read read valid, deck_case (λ n. read) (same_zones no_zones) (same_steps no_zones no_steps) (Err refusal) h)
 
   model_case : (files : Option (List File)) (f : FlowModel) → IsReadAs name files (Ok f) → IsCase words files (Writing f)
   model_case (Some fs) f h = deck_case (reads fs) (zones_read fs) (listing_read fs) (Ok f) h
-  model_case None f (read, valid, h) = (read, no_zones, no_steps, could_read read valid, deck_case (λ n. read) (same_zones no_zones) (same_steps no_steps) (Ok f) h)
+  model_case None f (read, valid, h) = (read, no_zones, no_steps, could_read read valid, deck_case (λ n. read) (same_zones no_zones) (same_steps no_zones no_steps) (Ok f) h)
 
   pub ends_undecked : (fault : InputFault) (end : Status) (puts : List Put) → IsReadAs name files (Err fault) → InputCounts {T = FlowModel} n m (Err fault) → IsReadingEnd fault end puts → Answers words files n m end puts
   ends_undecked (input.Refused refusal) end puts reads counts h = refused words files n m refusal end puts (unread_case files refusal reads) h

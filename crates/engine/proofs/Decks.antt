@@ -14,6 +14,7 @@ use Rattle.run_puts.specs.Lines.{Text}
 use Rattle.run_puts.specs.declared.status.Status.{Status}
 use Rattle.run_puts.specs.declared.status.Status.TheVariants as status
 use Rattle.run_puts.proofs.Makes.{all_written}
+use Rattle.engine.specs.declared.zoned.ZonedListing.{ZonedListing}
 use Rattle.engine.specs.Cases.{Asked, AskedCheck, Case, Command, Run, Make, Check, Write, NoWords, Refuses, Listing, Making, Checking, Writing, asked_in, case_asked, case_checked, case_listed, case_of, case_read, case_written, case_zoned, listing_read, made_model, named, task_of, zones_read}
 use Rattle.engine.specs.Decks.{IsDeck, OneDeck}
 use Rattle.engine.specs.Parts.{IsStopped, IsValid}
@@ -50,7 +51,7 @@ module _ (words : List Text) (files : List File) (m : FlowModel) where
   no_run asked (Ok f) e = no_zoned asked f (zones_read files asked.zones f) e
   no_run asked (Err refusal) e = let bad : Refuses refusal ≡ Writing m = e in cc
 
-  no_listed : (asked : AskedCheck) (f : FlowModel) (l : Result (List _) Refusal) → case_listed asked f l ≡ Writing m → ⊥
+  no_listed : (asked : AskedCheck) (f : FlowModel) (l : Result ZonedListing Refusal) → case_listed asked f l ≡ Writing m → ⊥
   no_listed asked f (Ok steps) e = let bad : Checking f asked.digits steps ≡ Writing m = e in cc
   no_listed asked f (Err refusal) e = let bad : Refuses refusal ≡ Writing m = e in cc
 

@@ -25,13 +25,14 @@ use Rattle.run_puts.specs.declared.status.Status.TheVariants as status
 use Rattle.run_puts.proofs.Pieces.{IsLate, tail_late, lone, lacks_at_first, weaker}
 use Rattle.listing_run.specs.declared.task.Task.{Task}
 use Rattle.listing_run.specs.Listing.{IsListing, IsCutListing}
-use Rattle.listing_run.specs.Zones.{AreZonesOf}
-use Rattle.engine.specs.Cases.{Asked, AskedCheck, Case, Command, Run, Make, Check, Write, NoWords, Refuses, Listing, Making, Checking, Writing, IsCase, CouldRead, asked_in, built, case_asked, case_checked, case_listed, case_of, case_read, case_written, case_zoned, listing_read, made_model, named, task_of, zones_named, zones_read}
+use Rattle.zone_pairs.specs.Zones.{AreZonesOf}
+use Rattle.engine.specs.declared.zoned.ZonedListing.{ZonedListing}
+use Rattle.engine.specs.Cases.{Asked, AskedCheck, Case, Command, Run, Make, Check, Write, NoWords, Refuses, Listing, Making, Checking, Writing, IsCase, CouldList, CouldRead, asked_in, built, case_asked, case_checked, case_listed, case_of, case_read, case_written, case_zoned, listing_read, made_model, named, task_of, zoned_steps, zones_named, zones_read}
 use Rattle.engine.specs.Defined.{Due, ReadsFolder, defined, unread, CutOf}
 use Rattle.engine.specs.Made.{IsMade}
 use Rattle.engine.specs.Checked.{IsCheck}
 use Rattle.engine.specs.Decks.{IsDeck}
-use Rattle.engine.specs.Parts.{AreZonesAs, Answers, IsMadeRun, IsReadAs, IsReadingEnd, IsStopped, IsValid}
+use Rattle.engine.specs.Parts.{AreZonesAs, Answers, IsListed, IsMadeRun, IsReadAs, IsReadingEnd, IsStopped, IsValid}
 use Rattle.engine.proofs.Readings.{named_read, no_zones}
 
 -- what an order asks for, the words ask for
@@ -57,7 +58,7 @@ stopped NoWords end h = tt
 stopped (Refuses refusal) end h = tt
 stopped (Listing k) end h = inr h
 stopped (Making seed size read) end h = inr h
-stopped (Checking m s steps) end h = inr h
+stopped (Checking m s listing) end h = inr h
 stopped (Writing m) end h = inr h
 
 module _ (words : List Text) (files : Option (List File)) (n m : ℕ) where
@@ -76,8 +77,8 @@ module _ (words : List Text) (files : Option (List File)) (n m : ℕ) where
   listed : (k : Task) (end : Status) (puts : List Put) → IsCase words files (Listing k) → IsModel k.model → IsRun (IsListing k) (IsCutListing k) end puts → Answers words files n m end puts
   listed k end puts is model h = record { case = Listing k; is = is; run = weaker (IsListing k) (Due (Rose n m) (Listing k)) (IsCutListing k) (λ meant pieces d. defined meant pieces d) end puts h; valid = inl model }
 
-  pub checked : (f : FlowModel) (s : ℕ) (steps : List ListedStep) (end : Status) (puts : List Put) → IsCase words files (Checking f s steps) → IsModel f → AreListed f steps → IsRun (IsCheck f s steps) NeverCut end puts → Answers words files n m end puts
-  checked f s steps end puts is model listed h = record { case = Checking f s steps; is = is; run = weaker (IsCheck f s steps) (Due (Rose n m) (Checking f s steps)) NeverCut (λ meant pieces d. defined meant pieces d) end puts h; valid = inl (model, listed) }
+  pub checked : (f : FlowModel) (s : ℕ) (listing : ZonedListing) (end : Status) (puts : List Put) → IsCase words files (Checking f s listing) → IsModel f → IsListed f listing → IsRun (IsCheck f s listing) NeverCut end puts → Answers words files n m end puts
+  checked f s listing end puts is model listed h = record { case = Checking f s listing; is = is; run = weaker (IsCheck f s listing) (Due (Rose n m) (Checking f s listing)) NeverCut (λ meant pieces d. defined meant pieces d) end puts h; valid = inl (model, listed) }
 
   pub decked : (f : FlowModel) (end : Status) (puts : List Put) → IsCase words files (Writing f) → IsModel f → IsRun (IsDeck f) NeverCut end puts → Answers words files n m end puts
   decked f end puts is model h = record { case = Writing f; is = is; run = weaker (IsDeck f) (Due (Rose n m) (Writing f)) NeverCut (λ meant pieces d. defined meant pieces d) end puts h; valid = inl model }
@@ -90,8 +91,8 @@ abbrev pub no_steps : Result (List ListedStep) Refusal
 no_steps = Err (file_refusal BadName (codes "-"))
 
 -- what a check reads as its listing where no files are known
-abbrev pub same_steps : Result (List ListedStep) Refusal → AskedCheck → FlowModel → Result (List ListedStep) Refusal
-same_steps listed asked m = named asked.listing (λ name. listed)
+abbrev pub same_steps : Result (List ℤ) Refusal → Result (List ListedStep) Refusal → AskedCheck → FlowModel → Result ZonedListing Refusal
+same_steps zoned listed asked m = zoned_steps (zones_named asked.zones (λ name. zoned)) (λ zones. named asked.listing (λ name. listed))
 
 -- what a run reads as its zones where no files are known
 abbrev pub same_zones : Result (List ℤ) Refusal → Option Text → FlowModel → Result (Option (List ℕ)) Refusal
@@ -106,7 +107,7 @@ pub could_read : (read : Result FlowModel Refusal) → IfOk read IsModel → Cou
 could_read read valid = record {
   model = valid;
   zones = of_each (λ m. IfOk no_zones (λ zones. AreZonesOf m (map unsigned_abs zones))) read (λ m. tt);
-  steps = of_each (λ m. IfOk no_steps (AreListed m)) read (λ m. tt);
+  steps = of_each (λ m. IfOk no_steps (CouldList m no_zones)) read (λ m. tt);
 }
 
 -- this model was read
@@ -116,7 +117,7 @@ of_model_read Q read f is q = subst (λ r. IfOk r Q) (sym is) q
 pub no_words : (words : List Text) (files : Option (List File)) → asked_in words ≡ None → IsCase words files NoWords
 no_words words (Some fs) e = let P : Option Command → Type 0 = λ a. NoWords ≡ case_asked a (reads fs) (zones_read fs) (listing_read fs) in subst P (sym e) refl
 no_words words None e =
-    let P : Option Command → Type 0 = λ a. NoWords ≡ case_asked a (λ name. no_model) (same_zones no_zones) (same_steps no_steps) in
+    let P : Option Command → Type 0 = λ a. NoWords ≡ case_asked a (λ name. no_model) (same_zones no_zones) (same_steps no_zones no_steps) in
     (no_model, no_zones, no_steps, could_read no_model tt, subst P (sym e) refl)
 
 -- the words come to some case, whatever is read; for a listing, for a check and for a deck the folder is read
@@ -135,11 +136,11 @@ read_worded : (asked : Asked) (r : Result FlowModel Refusal) (zoned : FlowModel 
 read_worded asked (Ok f) zoned = zoned_worded asked f (zoned f)
 read_worded asked (Err refusal) zoned = tt
 
-listed_worded : (asked : AskedCheck) (f : FlowModel) (r : Result (List ListedStep) Refusal) → ReadsFolder (case_listed asked f r)
-listed_worded asked f (Ok steps) = tt
+listed_worded : (asked : AskedCheck) (f : FlowModel) (r : Result ZonedListing Refusal) → ReadsFolder (case_listed asked f r)
+listed_worded asked f (Ok listing) = tt
 listed_worded asked f (Err refusal) = tt
 
-checked_worded : (asked : AskedCheck) (r : Result FlowModel Refusal) (listed : FlowModel → Result (List ListedStep) Refusal) → ReadsFolder (case_checked asked r listed)
+checked_worded : (asked : AskedCheck) (r : Result FlowModel Refusal) (listed : FlowModel → Result ZonedListing Refusal) → ReadsFolder (case_checked asked r listed)
 checked_worded asked (Ok f) listed = listed_worded asked f (listed f)
 checked_worded asked (Err refusal) listed = tt
 
@@ -147,7 +148,7 @@ written_worded : (r : Result FlowModel Refusal) → ReadsFolder (case_written r)
 written_worded (Ok f) = tt
 written_worded (Err refusal) = tt
 
-module _ (words : List Text) (read : Text → Result FlowModel Refusal) (zoned : Option Text → FlowModel → Result (Option (List ℕ)) Refusal) (listed : AskedCheck → FlowModel → Result (List ListedStep) Refusal) where
+module _ (words : List Text) (read : Text → Result FlowModel Refusal) (zoned : Option Text → FlowModel → Result (Option (List ℕ)) Refusal) (listed : AskedCheck → FlowModel → Result ZonedListing Refusal) where
   abbrev ReadsFor : Option Command → Type 0
   ReadsFor a = ReadsFolder (case_asked a read zoned listed)
 
@@ -163,17 +164,17 @@ module _ (words : List Text) (read : Text → Result FlowModel Refusal) (zoned :
 pub some_case : (words : List Text) (files : Option (List File)) → SomeCase words files
 some_case words (Some fs) = record { case = case_of words fs; is = refl; worded = asked_worded words (reads fs) (zones_read fs) (listing_read fs); check_worded = check_worded_by words (reads fs) (zones_read fs) (listing_read fs); write_worded = write_worded_by words (reads fs) (zones_read fs) (listing_read fs) }
 some_case words None = record {
-  case = case_asked (asked_in words) (λ name. no_model) (same_zones no_zones) (same_steps no_steps);
+  case = case_asked (asked_in words) (λ name. no_model) (same_zones no_zones) (same_steps no_zones no_steps);
   is = (no_model, no_zones, no_steps, could_read no_model tt, refl);
-  worded = asked_worded words (λ name. no_model) (same_zones no_zones) (same_steps no_steps);
-  check_worded = check_worded_by words (λ name. no_model) (same_zones no_zones) (same_steps no_steps);
-  write_worded = write_worded_by words (λ name. no_model) (same_zones no_zones) (same_steps no_steps);
+  worded = asked_worded words (λ name. no_model) (same_zones no_zones) (same_steps no_zones no_steps);
+  check_worded = check_worded_by words (λ name. no_model) (same_zones no_zones) (same_steps no_zones no_steps);
+  write_worded = write_worded_by words (λ name. no_model) (same_zones no_zones) (same_steps no_zones no_steps);
 }
 
 pub ends_without_words : (words : List Text) (files : Option (List File)) (n m : ℕ) (end : Status) (puts : List Put) → IsWanting end puts → Answers words files n m end puts
 ends_without_words words files n m end puts h = let c = some_case words files in lacking words files n m c.case end puts c.is h
 
-module _ (words : List Text) (asked : Asked) (wanted : asked_in words ≡ Some (Run asked)) (read : Text → Result FlowModel Refusal) (zoned : Option Text → FlowModel → Result (Option (List ℕ)) Refusal) (listed : AskedCheck → FlowModel → Result (List ListedStep) Refusal) where
+module _ (words : List Text) (asked : Asked) (wanted : asked_in words ≡ Some (Run asked)) (read : Text → Result FlowModel Refusal) (zoned : Option Text → FlowModel → Result (Option (List ℕ)) Refusal) (listed : AskedCheck → FlowModel → Result ZonedListing Refusal) where
   case_by : (r : Result FlowModel Refusal) → named asked.name read ≡ r → case_read asked r (zoned asked.zones) ≡ case_asked (asked_in words) read zoned listed
   case_by r is =
       let P : Option Command → Type 0 = λ a. case_read asked r (zoned asked.zones) ≡ case_asked a read zoned listed in
@@ -185,7 +186,7 @@ module _ (words : List Text) (asked : Asked) (wanted : asked_in words ≡ Some (
 module _ (words : List Text) (files : Option (List File)) (n m : ℕ) (asked : Asked) (wanted : asked_in words ≡ Some (Run asked)) where
   refused_case : (files : Option (List File)) (refusal : Refusal) → IsReadAs asked.name files (Err (input.Refused refusal)) → IsCase words files (Refuses refusal)
   refused_case (Some fs) refusal h = case_by words asked wanted (reads fs) (zones_read fs) (listing_read fs) (Err refusal) h
-  refused_case None refusal (read, valid, h) = (read, no_zones, no_steps, could_read read valid, case_by words asked wanted (λ name. read) (same_zones no_zones) (same_steps no_steps) (Err refusal) h)
+  refused_case None refusal (read, valid, h) = (read, no_zones, no_steps, could_read read valid, case_by words asked wanted (λ name. read) (same_zones no_zones) (same_steps no_zones no_steps) (Err refusal) h)
 
   -- a model was read, and then its zones as z
   pub zones_case : (files : Option (List File)) (f : FlowModel) (z : Result (Option (List ℕ)) InputFault) (known : Result (Option (List ℕ)) Refusal) → ((defined : Result (Option (List ℕ)) Refusal) → IsReading (λ x. x) defined z → defined ≡ known) → IsReadAs asked.name files (Ok f) → IsModel f → AreZonesAs asked.zones f files z → IsCase words files (case_zoned asked f known)
@@ -198,9 +199,9 @@ module _ (words : List Text) (files : Option (List File)) (n m : ℕ) (asked : A
         record {
           model = valid;
           zones = of_model_read (λ m. IfOk zoned (λ zs. AreZonesOf m (map unsigned_abs zs))) read f is fits;
-          steps = of_each (λ m. IfOk no_steps (AreListed m)) read (λ m. tt);
+          steps = of_each (λ m. IfOk no_steps (CouldList m zoned)) read (λ m. tt);
         },
-        zoned_by words asked wanted (λ name. read) (same_zones zoned) (same_steps no_steps) f known h (same (same_zones zoned asked.zones f) zones),
+        zoned_by words asked wanted (λ name. read) (same_zones zoned) (same_steps zoned no_steps) f known h (same (same_zones zoned asked.zones f) zones),
       )
 
   pub ends_reading : (fault : InputFault) (end : Status) (puts : List Put) → IsReadAs asked.name files (Err fault) → InputCounts {T = FlowModel} n m (Err fault) → IsReadingEnd fault end puts → Answers words files n m end puts
@@ -222,12 +223,12 @@ module _ (words : List Text) (seed size : ℕ) (wanted : asked_in words ≡ Some
   abbrev made_case : Case
   made_case = Making seed size (made_model seed size)
 
-  made_by : (read : Text → Result FlowModel Refusal) (zoned : Option Text → FlowModel → Result (Option (List ℕ)) Refusal) (listed : AskedCheck → FlowModel → Result (List ListedStep) Refusal) → made_case ≡ case_asked (asked_in words) read zoned listed
+  made_by : (read : Text → Result FlowModel Refusal) (zoned : Option Text → FlowModel → Result (Option (List ℕ)) Refusal) (listed : AskedCheck → FlowModel → Result ZonedListing Refusal) → made_case ≡ case_asked (asked_in words) read zoned listed
   made_by read zoned listed = let P : Option Command → Type 0 = λ a. made_case ≡ case_asked a read zoned listed in subst P (sym wanted) refl
 
   is_made : (files : Option (List File)) → IsCase words files made_case
   is_made (Some fs) = made_by (reads fs) (zones_read fs) (listing_read fs)
-  is_made None = (no_model, no_zones, no_steps, could_read no_model tt, made_by (λ name. no_model) (same_zones no_zones) (same_steps no_steps))
+  is_made None = (no_model, no_zones, no_steps, could_read no_model tt, made_by (λ name. no_model) (same_zones no_zones) (same_steps no_zones no_steps))
 
   pub ends_made : (files : Option (List File)) (n m : ℕ) (end : Status) (puts : List Put) → IsMadeRun seed size end puts → Answers words files n m end puts
   ends_made files n m end puts h = record {

@@ -19,7 +19,7 @@ module _ (may : List ℕ → ℕ → Type 0) where
   OfRun a = May a.name × IfSome a.zones May
 
   abbrev OfCheck : AskedCheck → Type 0
-  OfCheck a = May a.name × May a.listing
+  OfCheck a = May a.name × IfSome a.zones May × May a.listing
 
   by_run : (w : Wanted) (a : Asked) → built w ≡ Some (Run a) → WordsMay may (files_of w) → OfRun a
   by_run (Lists name digits workers rounds None turns) a e h =
@@ -28,23 +28,27 @@ module _ (may : List ℕ → ℕ → Type 0) where
   by_run (Lists name digits workers rounds (Some zones) turns) a e h =
       let same : record { name = name; digits = digits; rounds = rounds; zones = Some zones } ≡ a = cc in
       subst OfRun same (All-head May name (zones ∷ []) h, All-head May zones [] (All-tail May name (zones ∷ []) h))
-  by_run (Checks name listing digits) a e h = absurd cc
+  by_run (Checks name listing digits zones) a e h = absurd cc
   by_run (Makes seed size) a e h = absurd cc
   by_run (Batches list digits workers rounds) a e h = absurd cc
   by_run (Writes name) a e h = absurd cc
 
   by_check : (w : Wanted) (a : AskedCheck) → built w ≡ Some (Check a) → WordsMay may (files_of w) → OfCheck a
   by_check (Lists name digits workers rounds zones turns) a e h = absurd cc
-  by_check (Checks name listing digits) a e h =
-      let same : record { name = name; listing = listing; digits = digits } ≡ a = cc in
-      subst OfCheck same (All-head May name (listing ∷ []) h, All-head May listing [] (All-tail May name (listing ∷ []) h))
+  by_check (Checks name listing digits None) a e h =
+      let same : record { name = name; listing = listing; digits = digits; zones = None } ≡ a = cc in
+      subst OfCheck same (All-head May name (listing ∷ []) h, tt, All-head May listing [] (All-tail May name (listing ∷ []) h))
+  by_check (Checks name listing digits (Some zones)) a e h =
+      let same : record { name = name; listing = listing; digits = digits; zones = Some zones } ≡ a = cc in
+      let more = All-tail May name (zones ∷ listing ∷ []) h in
+      subst OfCheck same (All-head May name (zones ∷ listing ∷ []) h, All-head May zones (listing ∷ []) more, All-head May listing [] (All-tail May zones (listing ∷ []) more))
   by_check (Makes seed size) a e h = absurd cc
   by_check (Batches list digits workers rounds) a e h = absurd cc
   by_check (Writes name) a e h = absurd cc
 
   by_write : (w : Wanted) (deck : Text) → built w ≡ Some (Write deck) → WordsMay may (files_of w) → May deck
   by_write (Lists name digits workers rounds zones turns) deck e h = absurd cc
-  by_write (Checks name listing digits) deck e h = absurd cc
+  by_write (Checks name listing digits zones) deck e h = absurd cc
   by_write (Makes seed size) deck e h = absurd cc
   by_write (Batches list digits workers rounds) deck e h = absurd cc
   by_write (Writes name) deck e h =
@@ -53,7 +57,7 @@ module _ (may : List ℕ → ℕ → Type 0) where
 
   by_batch : (w : Wanted) (b : AskedBatch) → batch_of w ≡ Some b → WordsMay may (files_of w) → May b.list
   by_batch (Lists name digits workers rounds zones turns) b e h = absurd cc
-  by_batch (Checks name listing digits) b e h = absurd cc
+  by_batch (Checks name listing digits zones) b e h = absurd cc
   by_batch (Makes seed size) b e h = absurd cc
   by_batch (Writes name) b e h = absurd cc
   by_batch (Batches list digits workers rounds) b e h =
@@ -81,7 +85,7 @@ module _ (may : List ℕ → ℕ → Type 0) where
     pub run_named : (a : Asked) → asked_in words ≡ Some (Run a) → OfRun a
     run_named a e = if_run (wanted_of words) a e h
 
-    -- the name file and the listing of a check
+    -- the name file and the listing of a check, and its zone file
     pub check_named : (a : AskedCheck) → asked_in words ≡ Some (Check a) → OfCheck a
     check_named a e = if_check (wanted_of words) a e h
 

@@ -33,7 +33,7 @@ use Rattle.listing_summary.specs.Summaries.{summary_of}
 use Rattle.listing_summary.specs.Texts.{summary_text}
 use Rattle.exact_histories.proofs.WholeRuns.{history_exists, history_is_one}
 use Rattle.check_run.specs.Laws.{VerdictIsOne}
-use Rattle.engine.specs.Cases.{Asked, AskedCheck, Case, Command, Run, Make, Check, Write, NoWords, Refuses, Listing, Making, Checking, Writing, IsCase, asked_in, case_asked, case_of, case_read, case_zoned, listing_read, made_model, named, task_of, zones_named, zones_read}
+use Rattle.engine.specs.Cases.{Asked, AskedCheck, Case, Command, Run, Make, Check, Write, NoWords, Refuses, Listing, Making, Checking, Writing, IsCase, asked_in, case_asked, case_of, case_read, case_zoned, listing_read, made_model, named, task_of, zoned_steps, zones_named, zones_read}
 use Rattle.engine.specs.Certified.{Certified}
 use Rattle.engine.specs.Decks.{IsDeck, OneDeck}
 use Rattle.engine.specs.Defined.{CutOf, Defines, Due, defined, unread}
@@ -265,7 +265,7 @@ module _ (laws : Laws) where
 
   made_of : (words : List Text) (files : Option (List File)) (seed size : ℕ) (case : Case) → asked_in words ≡ Some (Make seed size) → IsCase words files case → case ≡ Making seed size (made_model seed size)
   made_of words (Some fs) seed size case wanted is = let P : Option Command → Type 0 = λ a. case ≡ case_asked a (reads fs) (zones_read fs) (listing_read fs) in subst P wanted is
-  made_of words None seed size case wanted (read, zoned, listed, valid, is) = let P : Option Command → Type 0 = λ a. case ≡ case_asked a (λ name. read) (λ zones m. zones_named zones (λ name. zoned)) (λ asked m. named asked.listing (λ name. listed)) in subst P wanted is
+  made_of words None seed size case wanted (read, zoned, listed, valid, is) = let P : Option Command → Type 0 = λ a. case ≡ case_asked a (λ name. read) (λ zones m. zones_named zones (λ name. zoned)) (λ asked m. zoned_steps (zones_named asked.zones (λ name. zoned)) (λ zones. named asked.listing (λ name. listed))) in subst P wanted is
 
   pub made : (words : List Text) (files : Option (List File)) (n m : ℕ) (end : Status) (puts : List Put) (old new : Seen) → Answers words files n m end puts → PutsMake old puts new → end ≡ status.Ok → (seed size : ℕ) → asked_in words ≡ Some (Make seed size) → Made words old.written new.written × OneSummary words old.written new.written
   made words files n m end puts old new a makes e seed size wanted =
@@ -444,7 +444,7 @@ module _ (laws : Laws) (words : List Text) (files : List File) (n m : ℕ) (end 
   complete_by (inr (inl l)) =
       let V : Case → Type 0 = λ case. IsValid case end in
       let E : Case → Type 0 = λ case. Ended Fault case end in
-      certifies l.model l.digits l.steps laws.verdict l.verdict Fault end (subst V (a.is ∙ l.is) a.valid) (subst E (a.is ∙ l.is) ends_here)
+      certifies l.model l.digits l.listing laws.verdict l.verdict Fault end (subst V (a.is ∙ l.is) a.valid) (subst E (a.is ∙ l.is) ends_here)
   complete_by (inr (inr l)) =
       let E : Case → Type 0 = λ case. Ended Fault case end in
       comes_by Fault (Writing l.model) end (only_deck l.model end) (subst E (a.is ∙ l.is) ends_here)

@@ -1,5 +1,5 @@
 -- What a reading gives, by the name and the files of the folder.
-use Rattle.std.proofs.Common.{◌≡◌, ℕ, ◌≤◌, All, Bool, true, false, IfSome, length, List, Option, None, Some, Result, Ok, Err, IfOk, sym, ap, refl, ◌∙◌, codes, if◌then◌else◌, map, subst, ℤ, unsigned_abs}
+use Rattle.std.proofs.Common.{◌≡◌, ◌⊎◌, inl, inr, ℕ, ◌≤◌, All, Bool, true, false, IfSome, length, List, Option, None, Some, Result, Ok, Err, IfOk, sym, ap, refl, ◌∙◌, codes, if◌then◌else◌, map, subst, ℤ, unsigned_abs}
 use Rattle.std.proofs.lemmas.List.{length-map}
 use Rattle.outside.specs.Files.{File}
 use Rattle.outside.specs.Inputs.{IsReading, file_at, file_refusal}
@@ -19,12 +19,14 @@ use Rattle.model_types.specs.Valid.{IsModel}
 use Rattle.model_reader.specs.Model.{reads}
 use Rattle.run_puts.specs.Lines.{Text}
 use Rattle.listing_io.specs.declared.listing.ListedStep.{ListedStep}
+use Rattle.zone_pairs.specs.Pairs.{pairs_in}
 use Rattle.listing_io.specs.Listed.{AreListed}
 use Rattle.listing_io.specs.Reading.{listing_in}
 use Rattle.zone_file.specs.Zones.{zones_of}
-use Rattle.listing_run.specs.Zones.{AreZonesOf}
-use Rattle.engine.specs.Cases.{AskedCheck, named, numbers_of, steps_in}
-use Rattle.engine.specs.Parts.{AreZonesAs, IsListedAs, IsNamedFault, IsReadAs}
+use Rattle.zone_pairs.specs.Zones.{AreZonesOf}
+use Rattle.engine.specs.declared.zoned.ZonedListing.{ZonedListing}
+use Rattle.engine.specs.Cases.{AskedCheck, CouldList, named, numbers_of, steps_in, steps_read, with_zones, zoned_steps, zones_named}
+use Rattle.engine.specs.Parts.{AreStepsAs, AreZonesAs, IsListedAs, IsNamedFault, IsReadAs}
 
 not_good : (name : Text) → (IsGoodName name → ⊥) → is_good_name name ≡ false
 not_good name bad = by_test (is_good_name name) refl
@@ -83,14 +85,14 @@ good_read name None (Err input.Memory) good h valid = (some_refusal, tt, tt)
 abbrev no_steps : Result (List ListedStep) Refusal
 no_steps = Err (file_refusal BadName (codes "-"))
 
-pub bad_listed : (asked : AskedCheck) (m : FlowModel) (files : Option (List File)) (fault : InputFault) → (IsGoodName asked.listing → ⊥) → IsNamedFault fault → IsListedAs asked m files (Err fault)
-bad_listed asked m (Some fs) fault bad is = bad_reading asked.listing (λ name. steps_in asked m (file_at fs name)) fault bad is
-bad_listed asked m None fault bad is = (no_steps, tt, bad_reading asked.listing (λ name. no_steps) fault bad is)
+pub bad_listed : (asked : AskedCheck) (m : FlowModel) (z : Option (List ℕ)) (files : Option (List File)) (fault : InputFault) → (IsGoodName asked.listing → ⊥) → IsNamedFault fault → AreStepsAs asked m z files (Err fault)
+bad_listed asked m z (Some fs) fault bad is = bad_reading asked.listing (λ name. steps_in asked m z (file_at fs name)) fault bad is
+bad_listed asked m z None fault bad is = (no_steps, tt, bad_reading asked.listing (λ name. no_steps) fault bad is)
 
-module _ (asked : AskedCheck) (m : FlowModel) (good : IsGoodName asked.listing) where
+module _ (asked : AskedCheck) (m : FlowModel) (z : Option (List ℕ)) (good : IsGoodName asked.listing) where
   -- the file's reading failed
-  pub unread_file : {T : Type 0} (answer : Result T InputFault) (view : T → List ℕ) (files : Option (List File)) (fault : InputFault) → IfSome files (λ fs. IsReading {T = T} view (file_at fs asked.listing) (Err fault)) → IsListedAs asked m files (Err fault)
-  unread_file answer view (Some fs) (input.Refused refusal) h = good_named asked.listing (λ name. steps_in asked m (file_at fs name)) good ∙ ap (steps_in asked m) h
+  pub unread_file : {T : Type 0} (answer : Result T InputFault) (view : T → List ℕ) (files : Option (List File)) (fault : InputFault) → IfSome files (λ fs. IsReading {T = T} view (file_at fs asked.listing) (Err fault)) → AreStepsAs asked m z files (Err fault)
+  unread_file answer view (Some fs) (input.Refused refusal) h = good_named asked.listing (λ name. steps_in asked m z (file_at fs name)) good ∙ ap (steps_in asked m z) h
   unread_file answer view (Some fs) input.ReadFault h = tt
   unread_file answer view (Some fs) input.Memory h = tt
   unread_file answer view None (input.Refused refusal) h = (Err refusal, tt, good_named asked.listing (λ name. Err refusal) good)
@@ -98,9 +100,9 @@ module _ (asked : AskedCheck) (m : FlowModel) (good : IsGoodName asked.listing) 
   unread_file answer view None input.Memory h = (no_steps, tt, tt)
 
   -- its bytes were read, and then as a listing
-  pub read_bytes : (files : Option (List File)) (bytes : List ℕ) (answer : Result (List ListedStep) InputFault) → IfSome files (λ fs. file_at fs asked.listing ≡ Ok bytes) → IsReading (λ l. l) (listing_in m asked.digits asked.listing bytes) answer → IfOk answer (AreListed m) → IsListedAs asked m files answer
-  read_bytes (Some fs) bytes (Ok steps) h l fits = good_named asked.listing (λ name. steps_in asked m (file_at fs name)) good ∙ ap (steps_in asked m) h ∙ l
-  read_bytes (Some fs) bytes (Err (input.Refused refusal)) h l fits = good_named asked.listing (λ name. steps_in asked m (file_at fs name)) good ∙ ap (steps_in asked m) h ∙ l
+  pub read_bytes : (files : Option (List File)) (bytes : List ℕ) (answer : Result (List ListedStep) InputFault) → IfSome files (λ fs. file_at fs asked.listing ≡ Ok bytes) → IsReading (λ l. l) (listing_in m asked.digits (pairs_in m z) asked.listing bytes) answer → IfOk answer (AreListed m (pairs_in m z)) → AreStepsAs asked m z files answer
+  read_bytes (Some fs) bytes (Ok steps) h l fits = good_named asked.listing (λ name. steps_in asked m z (file_at fs name)) good ∙ ap (steps_in asked m z) h ∙ l
+  read_bytes (Some fs) bytes (Err (input.Refused refusal)) h l fits = good_named asked.listing (λ name. steps_in asked m z (file_at fs name)) good ∙ ap (steps_in asked m z) h ∙ l
   read_bytes (Some fs) bytes (Err input.ReadFault) h l fits = tt
   read_bytes (Some fs) bytes (Err input.Memory) h l fits = tt
   read_bytes None bytes (Ok steps) h l fits = (Ok steps, fits, good_named asked.listing (λ name. Ok steps) good)
@@ -146,3 +148,55 @@ module _ (name : Text) (m : FlowModel) where
   pub zones_lack_memory : (files : Option (List File)) → AreZonesAs (Some name) m files (Err input.Memory)
   zones_lack_memory (Some fs) = tt
   zones_lack_memory None = (no_zones, tt, tt)
+
+same_ok : (x y : Option (List ℕ)) → Path (Result (Option (List ℕ)) Refusal) (Ok x) (Ok y) → x ≡ y
+same_ok x y h = cc
+
+-- A check reads the zones of its zone file, if there is one, and then its listing.
+module _ (asked : AskedCheck) (m : FlowModel) where
+  pub unzoned : (files : Option (List File)) (fault : InputFault) → AreZonesAs asked.zones m files (Err fault) → IsListedAs asked m files (Err fault)
+  unzoned (Some fs) (input.Refused refusal) h = ap (λ (z : Result (Option (List ℕ)) Refusal). zoned_steps z (steps_read fs asked m)) h
+  unzoned (Some fs) input.ReadFault h = tt
+  unzoned (Some fs) input.Memory h = tt
+  unzoned None (input.Refused refusal) (zoned, fits, h) = (zoned, no_steps, fits, tt, ap (λ (z : Result (Option (List ℕ)) Refusal). zoned_steps z (λ zones. named asked.listing (λ name. no_steps))) h)
+  unzoned None input.ReadFault (zoned, fits, h) = (zoned, no_steps, fits, tt, tt)
+  unzoned None input.Memory (zoned, fits, h) = (zoned, no_steps, fits, tt, tt)
+
+  -- the zones of a check, where no files are known
+  zones_are : (o : Option Text) (zoned : Result (List ℤ) Refusal) (z : Option (List ℕ)) → zones_named o (λ name. zoned) ≡ Ok z → (z ≡ None) ⊎ (numbers_of zoned ≡ Ok z)
+  zones_are None zoned z h = inl (sym (same_ok None z h))
+  zones_are (Some name) zoned z h = inr h
+
+  could_list : (zoned : Result (List ℤ) Refusal) (z : Option (List ℕ)) (listed : Result (List ListedStep) Refusal) → zones_named asked.zones (λ name. zoned) ≡ Ok z → IfOk listed (AreListed m (pairs_in m z)) → IfOk listed (CouldList m zoned)
+  could_list zoned z (Ok steps) h fits = record { zones = z; are = zones_are asked.zones zoned z h; listed = fits }
+  could_list zoned z (Err refusal) h fits = tt
+
+  module _ (z : Option (List ℕ)) where
+    pub unlisted : (files : Option (List File)) (fault : InputFault) → AreZonesAs asked.zones m files (Ok z) → AreStepsAs asked m z files (Err fault) → IsListedAs asked m files (Err fault)
+    unlisted (Some fs) (input.Refused refusal) h k = ap (λ (x : Result (Option (List ℕ)) Refusal). zoned_steps x (steps_read fs asked m)) h ∙ ap (with_zones z) k
+    unlisted (Some fs) input.ReadFault h k = tt
+    unlisted (Some fs) input.Memory h k = tt
+    unlisted None (input.Refused refusal) (zoned, fits, h) (listed, lists, k) =
+        (zoned, listed, fits, could_list zoned z listed h lists, ap (λ (x : Result (Option (List ℕ)) Refusal). zoned_steps x (λ zones. named asked.listing (λ name. listed))) h ∙ ap (with_zones z) k)
+    unlisted None input.ReadFault (zoned, fits, h) (listed, lists, k) = (zoned, listed, fits, could_list zoned z listed h lists, tt)
+    unlisted None input.Memory (zoned, fits, h) (listed, lists, k) = (zoned, listed, fits, could_list zoned z listed h lists, tt)
+
+    pub both_read : (files : Option (List File)) (steps : List ListedStep) → AreZonesAs asked.zones m files (Ok z) → AreStepsAs asked m z files (Ok steps) → IsListedAs asked m files (Ok (record { zones = z; steps = steps }))
+    both_read (Some fs) steps h k = ap (λ (x : Result (Option (List ℕ)) Refusal). zoned_steps x (steps_read fs asked m)) h ∙ ap (with_zones z) k
+    both_read None steps (zoned, fits, h) (listed, lists, k) =
+        (zoned, listed, fits, could_list zoned z listed h lists, ap (λ (x : Result (Option (List ℕ)) Refusal). zoned_steps x (λ zones. named asked.listing (λ name. listed))) h ∙ ap (with_zones z) k)
+
+same_listing : (x y : ZonedListing) → Path (Result ZonedListing Refusal) (Ok x) (Ok y) → x ≡ y
+same_listing x y h = cc
+
+-- what a listing and its zones were read from
+pub zoned_parts : (z : Result (Option (List ℕ)) Refusal) (read : Option (List ℕ) → Result (List ListedStep) Refusal) (l : ZonedListing) → zoned_steps z read ≡ Ok l → (z ≡ Ok l.zones) × (read l.zones ≡ Ok l.steps)
+zoned_parts (Err refusal) read l h = absurd (let bad : Path (Result ZonedListing Refusal) (Err refusal) (Ok l) = h in cc)
+zoned_parts (Ok zones) read l h = by_steps (read zones) refl h
+  where
+    by_steps : (r : Result (List ListedStep) Refusal) → read zones ≡ r → with_zones zones r ≡ Ok l → (Path (Result (Option (List ℕ)) Refusal) (Ok zones) (Ok l.zones)) × (read l.zones ≡ Ok l.steps)
+    by_steps (Err refusal) e k = absurd (let bad : Path (Result ZonedListing Refusal) (Err refusal) (Ok l) = k in cc)
+    by_steps (Ok steps) e k =
+        let same : record { zones = zones; steps = steps } ≡ l = same_listing (record { zones = zones; steps = steps }) l k in
+        let P : ZonedListing → Type 0 = λ x. (Path (Result (Option (List ℕ)) Refusal) (Ok zones) (Ok x.zones)) × (read x.zones ≡ Ok x.steps) in
+        subst P same (refl, e)

@@ -1,5 +1,5 @@
 -- What a run wrote is certified.
-use Rattle.std.proofs.Common.{◌≡◌, ℕ, ◌≤◌, Bool, true, false, List, [], ◌∷◌, map, Option, None, Some, Result, Ok, Err, refl, sym, ap, ◌∙◌, subst, arith}
+use Rattle.std.proofs.Common.{◌≡◌, ℕ, ◌≤◌, Bool, true, false, List, [], ◌∷◌, map, Option, None, Some, Result, Ok, Err, refl, sym, ap, ◌∙◌, subst, arith, ℤ, unsigned_abs}
 use Rattle.std.specs.Prelude.{if◌then◌else◌, option_and_then}
 use Rattle.std.specs.List.{concat}
 use Rattle.outside.specs.Files.{File}
@@ -12,6 +12,10 @@ use Rattle.model_reader.specs.Model.{reads}
 use Rattle.model_reader.proofs.UnitLemmas.{unit_is_short}
 use Rattle.command_line.specs.Wants.{Wanted, Lists, Checks, Makes, Batches, Writes, wanted_of}
 use Rattle.command_line.proofs.DigitLemmas.{check_digits}
+use Rattle.zone_pairs.specs.Pairs.{pairs_in}
+use Rattle.zone_pairs.specs.Zones.{AreNumbers}
+use Rattle.zone_file.specs.Zones.{zones_of}
+use Rattle.zone_file.proofs.SmallZones.{numbers_small}
 use Rattle.listing_io.specs.declared.listing.ListedStep.{ListedStep}
 use Rattle.listing_io.specs.Reading.{all_lines, listing_at, or_bad_listing}
 use Rattle.run_puts.specs.Lines.{Text, end_line}
@@ -24,7 +28,8 @@ use Rattle.check_run.specs.declared.verdict.ListingVerdict.TheVariants.{Certifie
 use Rattle.check_run.specs.Runs.{IsReadable, RunIsCertified, RunIsReadAgain, as_listed}
 use Rattle.exact_histories.proofs.WholeRuns.{history_exists, history_is_one}
 use Rattle.check_run.proofs.RunEnclosed.{run_encloses}
-use Rattle.engine.specs.Cases.{AskedCheck, Case, Check, Command, Checking, asked_in, built, case_asked, case_checked, case_listed, case_of, listing_read, steps_in, task_of, zones_read}
+use Rattle.engine.specs.declared.zoned.ZonedListing.{ZonedListing}
+use Rattle.engine.specs.Cases.{AskedCheck, Case, Check, Command, Checking, asked_in, built, case_asked, case_checked, case_listed, case_of, listing_read, numbers_of, steps_in, steps_read, task_of, with_zones, zoned_steps, zones_read}
 use Rattle.engine.specs.Checked.{IsCheck, certified_line}
 use Rattle.engine.specs.Defined.{Defines}
 use Rattle.engine.specs.Written.{ChecksWritten, OneListingIsCertified, WrittenIsCertified}
@@ -33,16 +38,19 @@ use Rattle.engine.proofs.Readings.{named_read}
 clash : {B E : Type 0} (e : E) (y : B) (r : Result B E) → r ≡ Err e → r ≡ Ok y → ⊥
 clash e y r h k = cc
 
+some_ok : (x y : Option (List ℕ)) → Path (Result (Option (List ℕ)) Refusal) (Ok x) (Ok y) → x ≡ y
+some_ok x y h = cc
+
 -- what is made of a file's bytes, where its name is taken
 with_bytes : (good : Bool) (found : Result (List ℕ) Refusal) (made : Result (List ℕ) Refusal → Result (List ListedStep) Refusal) (refusal : Refusal) (bytes : List ℕ) → (if good then found else Err refusal) ≡ Ok bytes → (if good then made found else Err refusal) ≡ made (Ok bytes)
 with_bytes true found made refusal bytes h = ap made h
 with_bytes false found made refusal bytes h = absurd (clash refusal bytes (Err refusal) refl h)
 
 -- a check has at most 18 digits
-built_check : (asked : AskedCheck) (w : Wanted) → built w ≡ Some (Check asked) → w ≡ Checks asked.name asked.listing asked.digits
+built_check : (asked : AskedCheck) (w : Wanted) → built w ≡ Some (Check asked) → w ≡ Checks asked.name asked.listing asked.digits asked.zones
 built_check asked (Lists name digits workers rounds zones None) e = cc
 built_check asked (Lists name digits workers rounds zones (Some turns)) e = cc
-built_check asked (Checks name listing digits) e = cc
+built_check asked (Checks name listing digits zones) e = cc
 built_check asked (Makes seed size) e = cc
 built_check asked (Writes name) e = cc
 built_check asked (Batches list digits workers rounds) e = cc
@@ -52,30 +60,37 @@ asked_digits words asked = by_wanted (wanted_of words) refl
   where
     by_wanted : (w : Option Wanted) → wanted_of words ≡ w → option_and_then built w ≡ Some (Check asked) → asked.digits ≤ 18
     by_wanted None is e = cc
-    by_wanted (Some w) is e = check_digits words asked.name asked.listing asked.digits (is ∙ ap Some (built_check asked w e))
+    by_wanted (Some w) is e = check_digits words asked.name asked.listing asked.digits asked.zones (is ∙ ap Some (built_check asked w e))
 
-module _ (certified : RunIsCertified) (again : RunIsReadAgain) (k : Task) (pieces words : List Text) (files : List File) (model : IsModel k.model) (none : k.zones ≡ None) (whole : IsWhole k pieces) (h : ChecksWritten words files k (concat pieces)) where
+module _ (certified : RunIsCertified) (again : RunIsReadAgain) (k : Task) (pieces words : List Text) (files : List File) (model : IsModel k.model) (zoned : AreNumbers k.zones) (whole : IsWhole k pieces) (h : ChecksWritten words files k (concat pieces)) where
   abbrev steps : List ListedStep
   steps = map as_listed whole.values
+
+  abbrev listing_of : ZonedListing
+  listing_of = record { zones = k.zones; steps = steps }
 
   readable : IsReadable k
   readable = record {
     model = model;
-    zones = none;
+    zones = zoned;
     digits = let few = asked_digits words h.asked h.wanted in let same = h.digits in omega (arith, few, same);
     unit = unit_is_short files h.asked.name k.model (named_read h.asked.name (reads files) k.model h.read);
   }
 
-  steps_read : steps_in h.asked k.model (Ok (concat pieces)) ≡ Ok steps
-  steps_read =
-      let P : List Text → Type 0 = λ t. listing_at k.model k.digits (all_lines (concat t)) ≡ Ok steps in
-      let D : ℕ → Type 0 = λ s. listing_at k.model s (all_lines (concat pieces)) ≡ Ok steps in
+  steps_of_bytes : steps_in h.asked k.model k.zones (Ok (concat pieces)) ≡ Ok steps
+  steps_of_bytes =
+      let pairs = pairs_in k.model k.zones in
+      let P : List Text → Type 0 = λ t. listing_at k.model k.digits pairs (all_lines (concat t)) ≡ Ok steps in
+      let D : ℕ → Type 0 = λ s. listing_at k.model s pairs (all_lines (concat pieces)) ≡ Ok steps in
       ap (or_bad_listing h.asked.listing) (subst D (sym h.digits) (subst P (sym whole.are) (again k whole.values readable whole.steps)))
 
-  read : listing_read files h.asked k.model ≡ Ok steps
-  read = with_bytes (is_good_name h.asked.listing) (file_at files h.asked.listing) (steps_in h.asked k.model) _ (concat pieces) h.listing ∙ steps_read
+  steps_are : steps_read files h.asked k.model k.zones ≡ Ok steps
+  steps_are = with_bytes (is_good_name h.asked.listing) (file_at files h.asked.listing) (steps_in h.asked k.model k.zones) _ (concat pieces) h.listing ∙ steps_of_bytes
 
-  case_is : case_of words files ≡ Checking k.model h.asked.digits steps
+  read : listing_read files h.asked k.model ≡ Ok listing_of
+  read = ap (λ (z : Result (Option (List ℕ)) Refusal). zoned_steps z (steps_read files h.asked k.model)) h.zoned ∙ ap (with_zones k.zones) steps_are
+
+  case_is : case_of words files ≡ Checking k.model h.asked.digits listing_of
   case_is =
       ap (λ (c : Option Command). case_asked c (reads files) (zones_read files) (listing_read files)) h.wanted
       ∙ ap (λ (r : Result FlowModel Refusal). case_checked h.asked r (listing_read files h.asked)) h.read
@@ -84,10 +99,10 @@ module _ (certified : RunIsCertified) (again : RunIsReadAgain) (k : Task) (piece
   is_certified : Defines (case_of words files) status.Ok (certified_line ∷ [])
   is_certified =
       let P : Case → Type 0 = λ c. Defines c status.Ok (certified_line ∷ []) in
-      let D : ℕ → Type 0 = λ s. IsCheck k.model s steps status.Ok (certified_line ∷ []) in
+      let D : ℕ → Type 0 = λ s. IsCheck k.model s listing_of status.Ok (certified_line ∷ []) in
       subst P (sym case_is) (subst D (sym h.digits) (record {
         verdict = Holds;
-        is = certified k whole.values model whole.steps;
+        is = certified k whole.values model zoned whole.steps;
         encloses = λ e. run_encloses k whole.values whole.steps whole.encloses;
         history = λ e. record { solvable = history_exists k whole.values model whole.steps; one = history_is_one k whole.values model whole.steps };
         status = refl;
@@ -95,12 +110,21 @@ module _ (certified : RunIsCertified) (again : RunIsReadAgain) (k : Task) (piece
       }))
 
 pub written_is_certified : RunIsCertified → RunIsReadAgain → WrittenIsCertified
-written_is_certified certified again k pieces words files model none listed h = is_certified certified again k pieces words files model none (whole_listing k pieces listed) h
+written_is_certified certified again k pieces words files model zoned listed h = is_certified certified again k pieces words files model zoned (whole_listing k pieces listed) h
+
+-- zones that were read are at most 999
+read_numbers : (files : List File) (o : Option Text) (m : FlowModel) (zones : Option (List ℕ)) → zones_read files o m ≡ Ok zones → AreNumbers zones
+read_numbers files None m zones h = subst AreNumbers (some_ok None zones h) tt
+read_numbers files (Some name) m zones h = by_zones (zones_of files m.grid name) refl h
+  where
+    by_zones : (r : Result (List ℤ) Refusal) → zones_of files m.grid name ≡ r → numbers_of r ≡ Ok zones → AreNumbers zones
+    by_zones (Ok zs) is e = subst AreNumbers (some_ok (Some (map unsigned_abs zs)) zones e) (numbers_small files m.grid name zs is)
+    by_zones (Err refusal) is e = absurd (clash refusal zones (Err refusal) refl e)
 
 pub one_listing_is_certified : WrittenIsCertified → OneListingIsCertified
-one_listing_is_certified written words files bytes h none checks others check =
+one_listing_is_certified written words files bytes h checks others check =
     let k = task_of h.asked h.model h.zones in
     let pieces = listing k h.values end_line in
     let whole : IsListing k status.Ok pieces = record { last = ends.Whole; status = refl; values = h.values; steps = h.steps; encloses = λ e. h.encloses; are = refl } in
     let C : List ℕ → Type 0 = λ bs. ChecksWritten checks others k bs in
-    written k pieces checks others h.valid none whole (subst C h.written check)
+    written k pieces checks others h.valid (read_numbers files h.asked.zones h.model h.zones h.zoned) whole (subst C h.written check)

@@ -1,5 +1,5 @@
 -- The case of a run: what its words and files define.
-use Rattle.std.specs.Prelude.{◌≡◌, ℕ, ℤ, List, map, Result, Ok, Err, Option, Some, None, IfOk, codes, if◌then◌else◌, option_and_then, unsigned_abs}
+use Rattle.std.specs.Prelude.{◌≡◌, ◌⊎◌, ℕ, ℤ, List, map, Result, Ok, Err, Option, Some, None, IfOk, codes, if◌then◌else◌, option_and_then, unsigned_abs}
 use Rattle.outside.specs.Files.{File}
 use Rattle.outside.specs.Inputs.{file_at, file_refusal}
 use Rattle.outside.specs.Names.{is_good_name}
@@ -11,12 +11,14 @@ use Rattle.model_types.specs.Valid.{IsModel}
 use Rattle.model_reader.specs.Model.{reads}
 use Rattle.zone_file.specs.Zones.{zones_of}
 use Rattle.model_maker.specs.Files.{made_files, made_name}
+use Rattle.zone_pairs.specs.Pairs.{pairs_in}
 use Rattle.listing_io.specs.declared.listing.ListedStep.{ListedStep}
 use Rattle.listing_io.specs.Listed.{AreListed}
 use Rattle.listing_io.specs.Reading.{listing_in}
 use Rattle.run_puts.specs.Lines.{Text}
 use Rattle.listing_run.specs.declared.task.Task.{Task}
-use Rattle.listing_run.specs.Zones.{AreZonesOf}
+use Rattle.zone_pairs.specs.Zones.{AreZonesOf}
+use Rattle.engine.specs.declared.zoned.ZonedListing.{ZonedListing}
 
 -- A listing that the words ask for: the name of its name file, the digits of conductances, the number of plain rounds
 -- in which a step must settle, and the name of a zone file, if there is one.
@@ -26,11 +28,13 @@ pub record Asked : Type 0 where
   pub rounds : ℕ
   pub zones : Option Text
 
--- A check that the words ask for: the name of the name file, that of the listing, and the digits of conductances.
+-- A check that the words ask for: the name of the name file, that of the listing, the digits of conductances, and the name
+-- of a zone file, if there is one.
 pub record AskedCheck : Type 0 where
   pub name : Text
   pub listing : Text
   pub digits : ℕ
+  pub zones : Option Text
 
 -- A command: to list a model; to make one from this seed, with this many rows and columns, and sum it up; to check a listing
 -- of a model; or to write the deck of the model of this name file.
@@ -44,7 +48,7 @@ pub data Command : Type 0 where
 abbrev pub built : Wanted → Option Command
 built (Lists name digits workers rounds zones watch) = Some (Run (record { name = name; digits = digits; rounds = rounds; zones = zones }))
 built (Makes seed size) = Some (Make seed size)
-built (Checks name listing digits) = Some (Check (record { name = name; listing = listing; digits = digits }))
+built (Checks name listing digits zones) = Some (Check (record { name = name; listing = listing; digits = digits; zones = zones }))
 built (Writes name) = Some (Write name)
 built other = None
 
@@ -65,14 +69,14 @@ abbrev pub task_of : Asked → FlowModel → Option (List ℕ) → Task
 task_of asked m zones = record { model = m; digits = asked.digits; zones = zones; rounds = asked.rounds }
 
 -- The case of a run: the words aren't accepted; this is the first refusal; this is listed; a model is made from this
--- seed and size, whose files read as this one or have this refusal; these steps of a listing of a model are checked,
--- with these digits; or the deck of a model is written.
+-- seed and size, whose files read as this one or have this refusal; this listing of a model is checked, with
+-- these digits; or the deck of a model is written.
 pub data Case : Type 0 where
   NoWords : Case
   Refuses : Refusal → Case
   Listing : Task → Case
   Making : ℕ → ℕ → Result FlowModel Refusal → Case
-  Checking : FlowModel → ℕ → List ListedStep → Case
+  Checking : FlowModel → ℕ → ZonedListing → Case
   Writing : FlowModel → Case
 
 -- what a name means, by this reading of the files under it; a bad name is refused before any file
@@ -82,15 +86,6 @@ named name read = if is_good_name name then read name else Err (file_refusal Bad
 -- the model of the files of a made model
 abbrev pub made_model : ℕ → ℕ → Result FlowModel Refusal
 made_model seed size = named made_name (reads (made_files seed size))
-
--- the steps of a file's bytes, as a listing of a model
-abbrev pub steps_in : AskedCheck → FlowModel → Result (List ℕ) Refusal → Result (List ListedStep) Refusal
-steps_in asked m (Ok bytes) = listing_in m asked.digits asked.listing bytes
-steps_in asked m (Err refusal) = Err refusal
-
--- the steps of the listing that a check names; its name is tested once the model is read
-abbrev pub listing_read : List File → AskedCheck → FlowModel → Result (List ListedStep) Refusal
-listing_read files asked m = named asked.listing (λ name. steps_in asked m (file_at files name))
 
 -- the zones that a file gives, as unsigned numbers
 abbrev pub numbers_of : Result (List ℤ) Refusal → Result (Option (List ℕ)) Refusal
@@ -106,6 +101,28 @@ zones_named (Some name) read = numbers_of (read name)
 abbrev pub zones_read : List File → Option Text → FlowModel → Result (Option (List ℕ)) Refusal
 zones_read files zones m = zones_named zones (zones_of files m.grid)
 
+-- the steps of a file's bytes, as a listing of a model with these zones
+abbrev pub steps_in : AskedCheck → FlowModel → Option (List ℕ) → Result (List ℕ) Refusal → Result (List ListedStep) Refusal
+steps_in asked m zones (Ok bytes) = listing_in m asked.digits (pairs_in m zones) asked.listing bytes
+steps_in asked m zones (Err refusal) = Err refusal
+
+-- the steps of the listing that a check names; its name is tested once the model and the zone file are read
+abbrev pub steps_read : List File → AskedCheck → FlowModel → Option (List ℕ) → Result (List ListedStep) Refusal
+steps_read files asked m zones = named asked.listing (λ name. steps_in asked m zones (file_at files name))
+
+-- a listing with its zones; a refusal of the zone file comes before one of the listing
+abbrev pub with_zones : Option (List ℕ) → Result (List ListedStep) Refusal → Result ZonedListing Refusal
+with_zones zones (Ok steps) = Ok (record { zones = zones; steps = steps })
+with_zones zones (Err refusal) = Err refusal
+
+abbrev pub zoned_steps : Result (Option (List ℕ)) Refusal → (Option (List ℕ) → Result (List ListedStep) Refusal) → Result ZonedListing Refusal
+zoned_steps (Ok zones) read = with_zones zones (read zones)
+zoned_steps (Err refusal) read = Err refusal
+
+-- the listing that a check names, with the zones of its zone file, if there is one
+abbrev pub listing_read : List File → AskedCheck → FlowModel → Result ZonedListing Refusal
+listing_read files asked m = zoned_steps (zones_read files asked.zones m) (steps_read files asked m)
+
 -- a refusal of the model comes before one of the zone file
 abbrev pub case_zoned : Asked → FlowModel → Result (Option (List ℕ)) Refusal → Case
 case_zoned asked m (Ok zones) = Listing (task_of asked m zones)
@@ -115,11 +132,11 @@ abbrev pub case_read : Asked → Result FlowModel Refusal → (FlowModel → Res
 case_read asked (Ok m) zoned = case_zoned asked m (zoned m)
 case_read asked (Err refusal) zoned = Refuses refusal
 
-abbrev pub case_listed : AskedCheck → FlowModel → Result (List ListedStep) Refusal → Case
-case_listed asked m (Ok steps) = Checking m asked.digits steps
+abbrev pub case_listed : AskedCheck → FlowModel → Result ZonedListing Refusal → Case
+case_listed asked m (Ok listing) = Checking m asked.digits listing
 case_listed asked m (Err refusal) = Refuses refusal
 
-abbrev pub case_checked : AskedCheck → Result FlowModel Refusal → (FlowModel → Result (List ListedStep) Refusal) → Case
+abbrev pub case_checked : AskedCheck → Result FlowModel Refusal → (FlowModel → Result ZonedListing Refusal) → Case
 case_checked asked (Ok m) listed = case_listed asked m (listed m)
 case_checked asked (Err refusal) listed = Refuses refusal
 
@@ -130,7 +147,7 @@ case_written (Err refusal) = Refuses refusal
 -- the case of a command, by these readings of models, zone files and listings
 abbrev pub case_asked : Option Command → (Text → Result FlowModel Refusal)
     → (Option Text → FlowModel → Result (Option (List ℕ)) Refusal)
-    → (AskedCheck → FlowModel → Result (List ListedStep) Refusal) → Case
+    → (AskedCheck → FlowModel → Result ZonedListing Refusal) → Case
 case_asked None read zoned listed = NoWords
 case_asked (Some (Run asked)) read zoned listed = case_read asked (named asked.name read) (zoned asked.zones)
 case_asked (Some (Make seed size)) read zoned listed = Making seed size (made_model seed size)
@@ -141,12 +158,18 @@ case_asked (Some (Write name)) read zoned listed = case_written (named name read
 abbrev pub case_of : List Text → List File → Case
 case_of words files = case_asked (asked_in words) (reads files) (zones_read files) (listing_read files)
 
+-- a listing that could be read of a model, without zones or with these
+pub record CouldList (m : FlowModel) (zoned : Result (List ℤ) Refusal) (steps : List ListedStep) : Type 0 where
+  pub zones : Option (List ℕ)
+  pub are : (zones ≡ None) ⊎ (numbers_of zoned ≡ Ok zones)
+  pub listed : AreListed m (pairs_in m zones) steps
+
 -- a possible result of reading where no files are known: a valid model, and zones and steps of it, or a refusal
 pub record CouldRead (read : Result FlowModel Refusal) (zoned : Result (List ℤ) Refusal)
     (listed : Result (List ListedStep) Refusal) : Type 0 where
   pub model : IfOk read IsModel
   pub zones : IfOk read (λ m. IfOk zoned (λ zones. AreZonesOf m (map unsigned_abs zones)))
-  pub steps : IfOk read (λ m. IfOk listed (AreListed m))
+  pub steps : IfOk read (λ m. IfOk listed (CouldList m zoned))
 
 -- The case of the words by these files. Where none are known there is some possible result of reading.
 abbrev pub IsCase : List Text → Option (List File) → Case → Type 0
@@ -155,4 +178,4 @@ IsCase words None case =
     (read : Result FlowModel Refusal) × (zoned : Result (List ℤ) Refusal) × (listed : Result (List ListedStep) Refusal)
     × CouldRead read zoned listed
     × (case ≡ case_asked (asked_in words) (λ name. read) (λ zones m. zones_named zones (λ name. zoned))
-    (λ asked m. named asked.listing (λ name. listed)))
+    (λ asked m. zoned_steps (zones_named asked.zones (λ name. zoned)) (λ zones. named asked.listing (λ name. listed))))

@@ -13,26 +13,29 @@ use Rattle.run_puts.specs.Lines.{Text}
 use Rattle.listing_run.specs.Bounding.{BoundAll}
 use Rattle.check_run.specs.Verdicts.{checked_task, steps_of}
 use Rattle.exact_histories.specs.Histories.{HasHistory, AreSame}
-use Rattle.engine.specs.Cases.{AskedCheck, Check, asked_in, listing_read}
+use Rattle.engine.specs.Cases.{AskedCheck, Check, asked_in, steps_read, zones_read}
 use Rattle.engine.specs.Checked.{certified_line}
 
 -- A check with these words over these files that ended Ok, where a sink had the bytes `old` before it and `new` after
 -- it: the files have a listing, whoever wrote it, and every history of heads that solves the manual's exact equations
--- of the files lies, step by step and cell by cell, between its heads, with each of its budget flows between its terms.
--- How it was judged stands in `OneVerdict`.
+-- of the files lies, step by step and cell by cell, between its heads, with each of its budget flows between its terms, and
+-- each of its flows between two zones of a zone file between its two numbers. How it was judged stands in `OneVerdict`.
 pub record Certified (words : List Text) (files : List File) (old new : Option (List ℕ)) : Type 0 where
-  -- The words ask for a check, the files read as a model, which is valid, and the named file as a listing of it.
+  -- The words ask for a check, the files read as a model, which is valid, and as zones of its cells where the words name a
+  -- zone file, and the named file as a listing of it.
   pub asked : AskedCheck
   pub wanted : asked_in words ≡ Some (Check asked)
   pub model : FlowModel
   pub read : reads files asked.name ≡ Ok model
   pub valid : IsModel model
+  pub zones : Option (List ℕ)
+  pub zoned : zones_read files asked.zones model ≡ Ok zones
   pub steps : List ListedStep
-  pub listed : listing_read files asked model ≡ Ok steps
+  pub listed : steps_read files asked model zones ≡ Ok steps
   -- The line CERTIFIED was appended, and nothing else.
   pub written : Appends old new certified_line
   -- Every history over any denominator d that solves the model's exact equations lies within what it lists.
-  pub encloses : (d : ℕ) (history : List (ℕ → ℤ)) → Solves model d history → BoundAll (checked_task model asked.digits) d (start_head model) (steps_of (times model) steps) history
+  pub encloses : (d : ℕ) (history : List (ℕ → ℤ)) → Solves model d history → BoundAll (checked_task model asked.digits zones) d (start_head model) (steps_of (times model) steps) history
   -- And there is one: a history solves them, and any two are the same heads at all active cells, step by step.
   pub solvable : HasHistory model
   pub one : (d e : ℕ) (history other : List (ℕ → ℤ)) → Solves model d history → Solves model e other → AreSame model d e history other

@@ -13,7 +13,7 @@ asked_of a = record { name = a.name.now; digits = a.digits; rounds = a.plan.roun
 
 -- the check that is asked for
 abbrev pub check_of : AskedCheckBy → AskedCheck
-check_of a = record { name = a.name.now; listing = a.listing.now; digits = a.digits }
+check_of a = record { name = a.name.now; listing = a.listing.now; digits = a.digits; zones = option_map (λ name. name.now) a.zones }
 
 abbrev pub command_of : CommandBy → Command
 command_of (command.Run a) = Run (asked_of a)

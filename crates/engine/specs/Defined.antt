@@ -19,7 +19,7 @@ Defines NoWords end pieces = (end ≡ status.Usage) × (pieces ≡ usage_line �
 Defines (Refuses refusal) end pieces = (end ≡ status.Refused refusal) × (pieces ≡ refused_line refusal ∷ [])
 Defines (Listing k) end pieces = IsListing k end pieces
 Defines (Making seed size read) end pieces = IsMade seed size read end pieces
-Defines (Checking m s steps) end pieces = IsCheck m s steps end pieces
+Defines (Checking m s listing) end pieces = IsCheck m s listing end pieces
 Defines (Writing m) end pieces = IsDeck m end pieces
 
 -- the files of the given folder are read: not without a command, and not to make a model

@@ -18,7 +18,7 @@ use Rattle.listing_summary.specs.Summaries.{summary_of}
 use Rattle.listing_summary.specs.Texts.{summary_text}
 use Rattle.check_run.specs.declared.verdict.ListingVerdict.TheVariants.{Certified as Holds}
 use Rattle.check_run.specs.Verdicts.{IsVerdict}
-use Rattle.engine.specs.Cases.{Asked, AskedCheck, Check, Make, Run, asked_in, listing_read, task_of, zones_read}
+use Rattle.engine.specs.Cases.{Asked, AskedCheck, Check, Make, Run, asked_in, steps_read, task_of, zones_read}
 use Rattle.engine.specs.Made.{made_task}
 
 -- A run with these words over these files that ended Ok, where a sink had the bytes `old` before it and `new` after it,
@@ -60,6 +60,8 @@ pub record OneVerdict (words : List Text) (files : List File) : Type 0 where
   pub model : FlowModel
   pub read : reads files asked.name ≡ Ok model
   pub valid : IsModel model
+  pub zones : Option (List ℕ)
+  pub zoned : zones_read files asked.zones model ≡ Ok zones
   pub steps : List ListedStep
-  pub listed : listing_read files asked model ≡ Ok steps
-  pub verdict : IsVerdict model asked.digits steps Holds
+  pub listed : steps_read files asked model zones ≡ Ok steps
+  pub verdict : IsVerdict model asked.digits zones steps Holds

@@ -13,14 +13,16 @@ use Rattle.model_types.specs.Valid.{IsModel}
 use Rattle.model_reader.specs.Model.{reads}
 use Rattle.listing_io.specs.declared.listing.ListedStep.{ListedStep}
 use Rattle.listing_io.specs.Listed.{AreListed}
+use Rattle.zone_pairs.specs.Pairs.{pairs_in}
+use Rattle.engine.specs.declared.zoned.ZonedListing.{ZonedListing}
 use Rattle.listing_io.specs.LastLines.{refused_line}
-use Rattle.listing_run.specs.Zones.{AreZonesOf}
+use Rattle.zone_pairs.specs.Zones.{AreZones, AreZonesOf}
 use Rattle.run_puts.specs.Ends.{IsEnd, IsLast, IsWanting}
 use Rattle.run_puts.specs.Lines.{Text, read_fault_line}
 use Rattle.run_puts.specs.Runs.{IsRun, NeverCut}
 use Rattle.run_puts.specs.declared.status.Status.{Status}
 use Rattle.run_puts.specs.declared.status.Status.TheVariants as status
-use Rattle.engine.specs.Cases.{AskedCheck, Case, Listing, Making, Checking, Writing, IsCase, listing_read, made_model, named, zones_named, zones_read}
+use Rattle.engine.specs.Cases.{AskedCheck, Case, Listing, Making, Checking, Writing, CouldList, IsCase, listing_read, made_model, named, steps_read, zoned_steps, zones_named, zones_read}
 use Rattle.engine.specs.Made.{IsMade}
 use Rattle.engine.specs.Runs.{IsLeft, IsRunOf}
 use Rattle.engine.specs.Watched.{SidePuts, Watched, views_in}
@@ -50,12 +52,27 @@ AreZonesAs zones m None answer =
     (zoned : Result (List ℤ) Refusal) × IfOk zoned (λ zs. AreZonesOf m (map unsigned_abs zs))
     × IsReading (λ z. z) (zones_named zones (λ name. zoned)) answer
 
--- A reading gave the steps that a check names: by these files, or where none are known by some that are steps of the model or have a refusal.
-abbrev pub IsListedAs : AskedCheck → FlowModel → Option (List File) → Result (List ListedStep) InputFault → Type 0
+-- A reading gave the steps that a check names, as a listing with these zones: by these files, or where none are known by some
+-- that are steps of the model or have a refusal.
+abbrev pub AreStepsAs : AskedCheck → FlowModel → Option (List ℕ) → Option (List File) → Result (List ListedStep) InputFault → Type 0
+AreStepsAs asked m zones (Some files) answer = IsReading (λ l. l) (steps_read files asked m zones) answer
+AreStepsAs asked m zones None answer =
+    (listed : Result (List ListedStep) Refusal) × IfOk listed (AreListed m (pairs_in m zones))
+    × IsReading (λ l. l) (named asked.listing (λ name. listed)) answer
+
+-- A reading gave the listing that a check names, with its zones: by these files, or where none are known by some that are
+-- zones and steps of the model or have a refusal.
+abbrev pub IsListedAs : AskedCheck → FlowModel → Option (List File) → Result ZonedListing InputFault → Type 0
 IsListedAs asked m (Some files) answer = IsReading (λ l. l) (listing_read files asked m) answer
 IsListedAs asked m None answer =
-    (listed : Result (List ListedStep) Refusal) × IfOk listed (AreListed m)
-    × IsReading (λ l. l) (named asked.listing (λ n. listed)) answer
+    (zoned : Result (List ℤ) Refusal) × (listed : Result (List ListedStep) Refusal)
+    × IfOk zoned (λ zs. AreZonesOf m (map unsigned_abs zs)) × IfOk listed (CouldList m zoned)
+    × IsReading (λ l. l) (zoned_steps (zones_named asked.zones (λ name. zoned)) (λ zones. named asked.listing (λ name. listed))) answer
+
+-- a listing that was read of a model, and its zones
+pub record IsListed (m : FlowModel) (listing : ZonedListing) : Type 0 where
+  pub zones : AreZones m listing.zones
+  pub steps : AreListed m (pairs_in m listing.zones) listing.steps
 
 -- a run that stopped before it had read everything
 abbrev pub IsStopped : Status → Type 0
@@ -65,7 +82,7 @@ IsStopped end = (end ≡ status.ReadFault) ⊎ ((end ≡ status.WriteFault) ⊎ 
 abbrev pub IsValid : Case → Status → Type 0
 IsValid (Listing k) end = IsModel k.model ⊎ IsStopped end
 IsValid (Making seed size read) end = IfOk read IsModel ⊎ IsStopped end
-IsValid (Checking m s steps) end = (IsModel m × AreListed m steps) ⊎ IsStopped end
+IsValid (Checking m s listing) end = (IsModel m × IsListed m listing) ⊎ IsStopped end
 IsValid (Writing m) end = IsModel m ⊎ IsStopped end
 IsValid other end = Unit {0}
 

@@ -6,7 +6,7 @@ use Rattle.outside.specs.Puts.{Put, taken}
 use Rattle.step_problem.specs.declared.place.NoBound.{NoBound}
 use Rattle.model_types.specs.declared.model.FlowModel.{FlowModel}
 use Rattle.model_types.specs.declared.time_steps.TimeStep.{TimeStep}
-use Rattle.listing_io.specs.declared.listing.ListedStep.{ListedStep}
+use Rattle.engine.specs.declared.zoned.ZonedListing.{ZonedListing}
 use Rattle.run_puts.specs.Agreement.{IsUnfinished}
 use Rattle.run_puts.specs.Lines.{Text}
 use Rattle.run_puts.specs.Runs.{IsRun}
@@ -67,9 +67,9 @@ pub record HasListing (words : List Text) (files : List File) : Type 0 where
 pub record HasCertified (words : List Text) (files : List File) : Type 0 where
   pub model : FlowModel
   pub digits : ℕ
-  pub steps : List ListedStep
-  pub is : case_of words files ≡ Checking model digits steps
-  pub verdict : IsVerdict model digits steps Certified
+  pub listing : ZonedListing
+  pub is : case_of words files ≡ Checking model digits listing
+  pub verdict : IsVerdict model digits listing.zones listing.steps Certified
 
 -- The words ask for a deck, and the files read as a model.
 pub record HasDeck (words : List Text) (files : List File) : Type 0 where

@@ -23,12 +23,14 @@ pub(crate) struct Asked<'a> {
     pub(crate) watch: Option<u32>,
 }
 
-/// A check that is asked for: the name of its name file, that of the listing, and the digits of conductances.
+/// A check that is asked for: the name of its name file, that of the listing, the digits of conductances, and the name of a
+/// zone file, if there is one.
 #[derive(Clone, Copy)]
 pub(crate) struct AskedCheck<'a> {
     pub(crate) name: &'a str,
     pub(crate) listing: &'a str,
     pub(crate) digits: u32,
+    pub(crate) zones: Option<&'a str>,
 }
 
 /// A command that is implemented.
@@ -80,10 +82,12 @@ pub(crate) fn command_of<'a>(order: Order<'a>) -> Option<Command<'a>>
             name,
             listing,
             digits,
+            zones,
         } => Some(Command::Check(AskedCheck {
             name,
             listing,
             digits,
+            zones,
         })),
         Order::Write { name } => Some(Command::Write(name)),
         _ => None,

@@ -18,8 +18,16 @@ fn files_of<'a>(alloc: Global, order: Order<'a>) -> Result<Vec<&'a str>, AllocEr
                 names.push(zones)?;
             }
         }
-        Order::Check { name, listing, .. } => {
+        Order::Check {
+            name,
+            listing,
+            zones,
+            ..
+        } => {
             names.push(name)?;
+            if let Some(zones) = zones {
+                names.push(zones)?;
+            }
             names.push(listing)?;
         }
         Order::Make { .. } => {}
@@ -30,7 +38,7 @@ fn files_of<'a>(alloc: Global, order: Order<'a>) -> Result<Vec<&'a str>, AllocEr
 }
 
 /// The names of the files that the words name, as a folder may be asked for them: the name file of a run, and its zone
-/// file; the name file and the listing of a check; the list of a batch; the name file of a deck. None where the words aren't accepted.
+/// file; the name file and the listing of a check, and its zone file; the list of a batch; the name file of a deck. None where the words aren't accepted.
 pub fn files_named<'a>(alloc: Global, words: &'a [&'a str]) -> Result<Vec<&'a str>, AllocError>
     ensures { IfOk result (λ names. map (λ n. n.now) names.items ≡ files_named (map (λ w. w.now) words.entry.now)) }
 {

@@ -1,73 +1,113 @@
 // The check of a listing of the folder.
-ghost use Rattle.std.specs.Prelude.{◌≡◌, ◌≤◌, List, ◌++◌, Ok, IfOk, IfSome, Option, Some};
+ghost use Rattle.std.specs.Prelude.{◌≡◌, ◌≤◌, List, ◌++◌, Ok, IfOk, IfSome, Option, Some, option_map};
 ghost use Rattle.outside.specs.Inputs.{file_limit};
 ghost use Rattle.outside.specs.Names.{folder_name};
 ghost use Rattle.outside.specs.Files.{File};
 ghost use Rattle.outside.specs.Folders.{ReadsOn};
 ghost use Rattle.outside.specs.Puts.{Put};
 ghost use Rattle.model_types.specs.Valid.{IsModel};
+ghost use Rattle.zone_pairs.specs.Pairs.{pairs_in};
+ghost use Rattle.zone_pairs.specs.Zones.{AreZones};
 ghost use Rattle.listing_io.specs.Listed.{AreListed};
 ghost use Rattle.run_puts.specs.Lines.{Text};
 ghost use Rattle.run_puts.specs.Runs.{IsRun, NeverCut};
 ghost use Rattle.engine.specs.Checked.{IsCheck};
 ghost use Rattle.engine.specs.Cases.{asked_in, Check};
 ghost use Rattle.engine.specs.Commands.{check_of};
-ghost use Rattle.engine.specs.Parts.{Answers, IsListedAs, IsReadAs};
+ghost use Rattle.engine.specs.Parts.{Answers, AreStepsAs, IsListed, IsListedAs, IsReadAs};
 
 use crate::asked::AskedCheck;
 use crate::ending::end_reading;
-use crate::reading::{bad_name, read_named};
+use crate::reading::{bad_name, read_named, read_zones_of};
 use crate::verdict::put_verdict;
+use crate::zoned::ZonedListing;
 use check_run::check_listing;
 use listing_io::{Listing, read_listing};
+use listing_run::zone_slice;
 use model_types::FlowModel;
 use outside::{Folder, InputFault, Sink, is_good_name, read_input};
 use run_puts::{Status, put_memory};
 use std::alloc::Global;
 
-/// The listing of a model that a check names. The name is tested before the file is read.
-pub(crate) fn read_listed<F: Folder>(
+// The listing of a model with these zones that a check names. The name is tested before the file is read.
+fn read_steps<F: Folder>(
     alloc: Global,
     folder: &mut F,
     model: &FlowModel,
     asked: AskedCheck,
+    zones: Option<&[u32]>,
 ) -> Result<Listing, InputFault>
     requires model { IsModel model.now }
+    requires zones { AreZones model.now (option_map (λ z. z.now) zones) }
     requires digits { asked.digits ≤ 18 }
     requires may { F.may folder.old (folder_name asked.listing.now) file_limit }
     ensures folder { ReadsOn F.Folder folder.old folder.new result }
-    ensures reads { (files : Option (List File)) → IfSome files (F.agrees folder.new) → IsListedAs (check_of asked.entry) model.now files result }
-    ensures listed { IfOk result (AreListed model.now) }
+    ensures reads { (files : Option (List File)) → IfSome files (F.agrees folder.new) →
+        AreStepsAs (check_of asked.entry) model.now (option_map (λ z. z.now) zones.entry) files result }
+    ensures listed { IfOk result (AreListed model.now (pairs_in model.now (option_map (λ z. z.now) zones.entry))) }
 {
     if !is_good_name(asked.listing.as_bytes()) {
         return Err(bad_name(alloc));
     }
     let bytes = read_input(alloc, folder, asked.listing)?;
-    let listing = read_listing(alloc, model, asked.listing, bytes.as_slice(), asked.digits)?;
+    let listing = read_listing(
+        alloc,
+        model,
+        asked.listing,
+        bytes.as_slice(),
+        asked.digits,
+        zones,
+    )?;
     Ok(listing)
+}
+
+/// The listing of a model that a check names, with the zones of its zone file, if there is one, which is read first.
+pub(crate) fn read_listed<F: Folder>(
+    alloc: Global,
+    folder: &mut F,
+    model: &FlowModel,
+    asked: AskedCheck,
+) -> Result<ZonedListing, InputFault>
+    requires model { IsModel model.now }
+    requires digits { asked.digits ≤ 18 }
+    requires zones { IfSome (check_of asked).zones (λ zones. F.may folder.old (folder_name zones) file_limit) }
+    requires may { F.may folder.old (folder_name asked.listing.now) file_limit }
+    ensures folder { ReadsOn F.Folder folder.old folder.new result }
+    ensures reads { (files : Option (List File)) → IfSome files (F.agrees folder.new) → IsListedAs (check_of asked.entry) model.now files result }
+    ensures listed { IfOk result (IsListed model.now) }
+{
+    let zones = read_zones_of(alloc, model, asked.zones, folder)?;
+    let steps = read_steps(
+        alloc,
+        folder,
+        model,
+        asked,
+        zone_slice(&zones),
+    )?;
+    Ok(ZonedListing { zones, steps })
 }
 
 /// Checks a listing of a model, and puts the line of its verdict.
 pub(crate) fn put_check<K: Sink>(
     alloc: Global,
     model: &FlowModel,
-    listing: &Listing,
+    listing: &ZonedListing,
     digits: u32,
     out: &mut K,
 ) -> Status
     requires model { IsModel model.now }
     requires digits { digits ≤ 18 }
-    requires listing { AreListed model.now listing.now }
+    requires listing { IsListed model.now listing.now }
     ensures { (start : _) (puts : List Put) → K.leads start puts out.old →
         (more : List Put) × K.leads start (puts ++ more) out.new × IsRun (IsCheck model.now digits listing.now) NeverCut result more }
 {
-    match check_listing(alloc, model, listing, digits) {
+    match check_listing(alloc, model, &listing.steps, digits, zone_slice(&listing.zones)) {
         Ok(verdict) => put_verdict(alloc, &model.grid, verdict, out),
         Err(_) => put_memory(out),
     }
 }
 
-// Reads a listing of a model, and puts the line of its verdict.
+// Reads the zones and a listing of a model, and puts the line of its verdict.
 fn check_model<'a, F: Folder, K: Sink>(
     alloc: Global,
     asked: AskedCheck<'a>,
@@ -77,6 +117,7 @@ fn check_model<'a, F: Folder, K: Sink>(
 ) -> Status
     requires digits { asked.digits ≤ 18 }
     requires model { IsModel model.now }
+    requires zones { IfSome (check_of asked).zones (λ zones. F.may folder.old (folder_name zones) file_limit) }
     requires may { F.may folder.old (folder_name asked.listing.now) file_limit }
     ensures since { (files : List File) → F.agrees folder.new files → F.agrees folder.old files }
     ensures answers { (start : _) (puts : List Put) → K.leads start puts out.old →
@@ -91,7 +132,7 @@ fn check_model<'a, F: Folder, K: Sink>(
     }
 }
 
-/// Reads a model of the folder and a listing of it, and puts the line of its verdict.
+/// Reads a model of the folder, its zones and a listing of it, and puts the line of its verdict.
 pub(crate) fn check<'a, F: Folder, K: Sink>(
     alloc: Global,
     asked: AskedCheck<'a>,
@@ -100,6 +141,7 @@ pub(crate) fn check<'a, F: Folder, K: Sink>(
 ) -> Status
     requires digits { asked.digits ≤ 18 }
     requires name { F.may folder.old (folder_name asked.name.now) file_limit }
+    requires zones { IfSome (check_of asked).zones (λ zones. F.may folder.old (folder_name zones) file_limit) }
     requires listing { F.may folder.old (folder_name asked.listing.now) file_limit }
     ensures since { (files : List File) → F.agrees folder.new files → F.agrees folder.old files }
     ensures answers { (start : _) (puts : List Put) → K.leads start puts out.old →

@@ -21,6 +21,7 @@ mod verdict;
 mod view_lines;
 mod viewing;
 mod writing;
+pub mod zoned;
 
 pub use asked_files::files_named;
 pub use commands::run;

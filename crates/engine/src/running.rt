@@ -9,7 +9,7 @@ ghost use Rattle.outside.specs.Counts.{Rose};
 ghost use Rattle.model_types.specs.Valid.{IsModel};
 ghost use Rattle.run_puts.specs.Runs.{IsRun};
 ghost use Rattle.listing_run.specs.Listing.{IsListingBeside, IsCutListing};
-ghost use Rattle.listing_run.specs.Zones.{AreZones};
+ghost use Rattle.zone_pairs.specs.Zones.{AreZones};
 ghost use Rattle.engine.specs.Headline.{Headline};
 ghost use Rattle.engine.specs.Runs.{Puts, Decided, Comes};
 ghost use Rattle.engine.specs.Cases.{asked_in, task_of, AskedCheck, Check, Make, ReadsNothing, Run};

@@ -1,5 +1,5 @@
 -- The budgets of a history, step by step: by induction on the time steps.
-use Rattle.std.proofs.Common.{◌≡◌, ℕ, ◌<◌, inl, inr, refl, sym, ap, subst, List, [], ◌∷◌, map, ℤ}
+use Rattle.std.proofs.Common.{◌≡◌, ℕ, ◌<◌, inl, inr, refl, sym, ap, subst, List, [], ◌∷◌, map, Option, ℤ}
 use Rattle.decimal_input.specs.Fractions.{Fraction}
 use Rattle.model_types.specs.declared.model.FlowModel.{FlowModel}
 use Rattle.model_types.specs.declared.time_steps.TimeStep.{TimeStep}
@@ -62,11 +62,11 @@ times_of k (at ∷ steps) (v ∷ values) old h = rw (h.0.time, times_of k steps 
 pub steps_have_their_times : StepsHaveTheirTimes
 steps_have_their_times k values all = times_of k (times k.model) values all.start all.steps
 
-certified_times : (m : FlowModel) (s : ℕ) (times : List TimeStep) (steps : List ListedStep) (old : List Bound) → Checks m s old times steps Certified → map (λ v. v.at) (steps_of times steps) ≡ times
-certified_times m s [] steps old h = refl
-certified_times m s (at ∷ rest) [] old h = absurd h
-certified_times m s (at ∷ rest) (w ∷ steps) old (inl h) = ap (λ (ts : List TimeStep). at ∷ ts) (certified_times m s rest steps w.heads h.1)
-certified_times m s (at ∷ rest) (w ∷ steps) old (inr h) = absurd h
+certified_times : (m : FlowModel) (s : ℕ) (zones : Option (List ℕ)) (times : List TimeStep) (steps : List ListedStep) (old : List Bound) → Checks m s zones old times steps Certified → map (λ v. v.at) (steps_of times steps) ≡ times
+certified_times m s zones [] steps old h = refl
+certified_times m s zones (at ∷ rest) [] old h = absurd h
+certified_times m s zones (at ∷ rest) (w ∷ steps) old (inl h) = ap (λ (ts : List TimeStep). at ∷ ts) (certified_times m s zones rest steps w.heads h.1)
+certified_times m s zones (at ∷ rest) (w ∷ steps) old (inr h) = absurd h
 
 pub certified_have_their_times : CertifiedHaveTheirTimes
-certified_have_their_times m s steps verdict = certified_times m s (times m) steps verdict.start verdict.checks
+certified_have_their_times m s zones steps verdict = certified_times m s zones (times m) steps verdict.start verdict.checks

@@ -1,5 +1,5 @@
 -- The volumetric budget of an exact solution.
-use Rattle.std.specs.Prelude.{◌≡◌, ℕ, ◌<◌, List, map, ℤ}
+use Rattle.std.specs.Prelude.{◌≡◌, ℕ, ◌<◌, List, map, Option, ℤ}
 use Rattle.model_types.specs.declared.model.FlowModel.{FlowModel}
 use Rattle.model_types.specs.Heads.{start_head}
 use Rattle.model_types.specs.Times.{times}
@@ -35,5 +35,5 @@ abbrev pub StepsHaveTheirTimes : Type 0
 StepsHaveTheirTimes = (k : Task) (values : List Step) → AllSteps k values Whole → map (λ v. v.at) values ≡ times k.model
 
 abbrev pub CertifiedHaveTheirTimes : Type 0
-CertifiedHaveTheirTimes = (m : FlowModel) (s : ℕ) (steps : List ListedStep) → IsVerdict m s steps Certified →
+CertifiedHaveTheirTimes = (m : FlowModel) (s : ℕ) (zones : Option (List ℕ)) (steps : List ListedStep) → IsVerdict m s zones steps Certified →
     map (λ v. v.at) (steps_of (times m) steps) ≡ times m

@@ -1,7 +1,7 @@
 -- What is written is read again.
-use Rattle.std.proofs.Common.{◌≡◌, ℕ, ◌+◌, ◌≤◌, Bool, true, false, cond, List, [], ◌∷◌, ◌++◌, length, codes, nat_abs, All, refl, sym, ap, ◌∙◌, arith, ℤ, pos, negsuc, Ok, slice_index_or}
+use Rattle.std.proofs.Common.{◌≡◌, ℕ, ◌+◌, ◌≤◌, Bool, true, false, cond, List, [], ◌∷◌, ◌++◌, length, codes, map, nat_abs, All, refl, sym, ap, ◌∙◌, subst, arith, ℤ, pos, negsuc, Ok, slice_index_or}
 use Rattle.std.proofs.lemmas.Int.{ints}
-use Rattle.std.specs.List.{AllByRecursion}
+use Rattle.std.specs.List.{AllByRecursion, AllZip}
 use Rattle.std.proofs.lemmas.List.{append_assoc}
 use Rattle.std.proofs.lemmas.List.Elements.{recursion_from_All}
 use Rattle.std.proofs.lemmas.Slice.Eq.{bytes_eq-Decides}
@@ -12,6 +12,7 @@ use Rattle.step_problem.specs.declared.place.Dir.{Dir}
 use Rattle.step_problem.specs.declared.place.Dir.TheVariants.{In, Out}
 use Rattle.step_problem.specs.declared.place.Term.{Term}
 use Rattle.step_problem.specs.declared.place.Term.TheVariants.{Storage, ConstantHead, Wells, Drains, RiverLeakage, HeadDepBounds, Recharge, Et}
+use Rattle.step_problem.specs.declared.place.ZoneFlow.{ZoneFlow}
 use Rattle.step_problem.specs.Conditions.{IsHead, head_limit}
 use Rattle.step_problem.specs.Heads.{no_bound}
 use Rattle.step_problem.specs.Names.{term_name}
@@ -21,12 +22,14 @@ use Rattle.model_types.specs.declared.model.FlowModel.{FlowModel}
 use Rattle.model_types.specs.declared.time_steps.TimeStep.{TimeStep}
 use Rattle.model_types.specs.Layers.{is_active}
 use Rattle.model_types.specs.Times.{times}
+use Rattle.zone_pairs.specs.declared.pair.ZonePair.{ZonePair}
+use Rattle.zone_pairs.specs.Pairs.{zones_of_flow}
 use Rattle.listing_io.specs.declared.listing.ListedStep.{ListedStep}
 use Rattle.listing_io.specs.Numbers.{digits_behind}
 use Rattle.listing_io.specs.Forms.{Form, IsForm, pair_line}
-use Rattle.listing_io.specs.Listing.{Line, first_line, step_line, head_form, head_front, head_line, head_lines, head_pair, dir_front, term_form, term_line, term_lines, has_evt, step_lines, all_step_lines, end_line, listing}
-use Rattle.listing_io.specs.Reading.{Left, pair_at, text_at, head_if, heads_at, term_at, term_if, terms_at, step_at, first_at, listing_at}
-use Rattle.listing_io.specs.Listed.{AreCellBounds, IsFlowPair, AreTerms, IsListedStep, AreListed}
+use Rattle.listing_io.specs.Listing.{Line, first_line, step_line, head_form, head_front, head_line, head_lines, head_pair, dir_front, term_form, term_line, term_lines, has_evt, flow_form, zone_front, zone_line, zone_pair, step_lines, all_step_lines, end_line, listing}
+use Rattle.listing_io.specs.Reading.{Left, pair_at, text_at, head_if, heads_at, term_at, term_if, terms_at, flow_at, step_with, step_at, first_at, listing_at}
+use Rattle.listing_io.specs.Listed.{AreCellBounds, IsFlowPair, AreFlows, AreFlowsAt, AreTerms, IsListedStep, AreListed}
 use Rattle.listing_io.proofs.Exactly.{line_whole}
 use Rattle.listing_io.proofs.Written.{eight_lines, lines_in, lines_out, grouped}
 
@@ -81,6 +84,27 @@ term_fits s t p few h =
     let lo = h.lo in
     let hi = h.hi in
     record { form = term_is_form s t few; lo = omega (arith, lo); hi = omega (arith, hi) }
+
+-- a flow between two zones has no name after it
+pub flow_fits : (s : ℕ) (p : TermPair) → s ≤ 18 → IsFlowPair p → Fits (flow_form s []) p
+flow_fits s p few h =
+    let lo = h.lo in
+    let hi = h.hi in
+    record { form = record { some = omega arith; few = omega arith; small = omega arith; behind = none_behind }; lo = omega (arith, lo); hi = omega (arith, hi) }
+
+abbrev pub IsSmall : ZoneFlow → Type 0
+IsSmall v = IsFlowPair (zone_pair v)
+
+flow_again : (s : ℕ) (v : ZoneFlow) (rest : List Line) (n : ℕ) → s ≤ 18 → IsSmall v → flow_at s (zones_of_flow v) (left_of (zone_line s v ∷ rest) n) ≡ Ok (v, left_of rest (next_number n))
+unfolding flow_at
+flow_again s v rest n few h = rw (pair_again (zone_front v.from v.to) (flow_form s []) (zone_pair v) rest n (flow_fits s (zone_pair v) few h)) refl
+
+flows_again : (s : ℕ) (vs : List ZoneFlow) (rest : List Line) (n : ℕ) → s ≤ 18 → AllByRecursion IsSmall vs → (k : ℕ) × (for_each (flow_at s) (map zones_of_flow vs) (left_of (map (zone_line s) vs ++ rest) n) ≡ Ok (vs, left_of rest k))
+unfolding for_each
+flows_again s [] rest n few h = (n, refl)
+flows_again s (v ∷ vs) rest n few h =
+    let (k, others) = flows_again s vs rest (next_number n) few h.1 in
+    (k, rw (flow_again s v (map (zone_line s) vs ++ rest) n few h.0, others) refl)
 
 -- the heads of a cell
 cell_again : (front : List ℕ) (b : Bound) (flag : Bool) (rest : List Line) (n : ℕ) → IsHead b.low → IsHead b.high → (flag ≡ false → b ≡ no_bound)
@@ -182,39 +206,43 @@ terms_again m s dir rows pairs rest n parts few h are =
     last_is : (ps : List TermPair) (a b c d e f g x : TermPair) → ps ≡ a ∷ b ∷ c ∷ d ∷ e ∷ f ∷ g ∷ x ∷ [] → slice_index_or ps 7 no_pair ≡ no_pair → x ≡ no_pair
     last_is ps a b c d e f g x are h = ap (λ (qs : List TermPair). slice_index_or qs 7 no_pair) (sym are) ∙ h
 
-pub step_again : (m : FlowModel) (s : ℕ) (at : TimeStep) (x : ListedStep) (rest : List Line) (n : ℕ) → s ≤ 18 → IsListedStep m x → (k : ℕ) × (step_at m s at (left_of (step_lines m s at x.heads x.budget [] ++ rest) n) ≡ Ok (x, left_of rest k))
-unfolding step_at step_lines
-step_again m s at x rest n few h =
+pub step_again : (m : FlowModel) (s : ℕ) (zs : List ZonePair) (at : TimeStep) (x : ListedStep) (rest : List Line) (n : ℕ) → s ≤ 18 → IsListedStep m x → AreFlows zs x.zones → (k : ℕ) × (step_with m s zs at (left_of (step_lines m s at x.heads x.budget x.zones ++ rest) n) ≡ Ok (x, left_of rest k))
+unfolding step_with step_lines
+step_again m s zs at x rest n few h g =
     let heads = head_lines m 0 x.heads in
     let into = term_lines m s In x.budget in
     let out = term_lines m s Out x.budget in
     let i = eight_of x.budget.into h.into.eight in
     let o = eight_of x.budget.out h.out.eight in
-    let (j, heads_read) = heads_again m 0 x.heads (into ++ (out ++ rest)) (next_number n) h.heads in
-    let into_read = terms_again m s In into x.budget.into (out ++ rest) j i few h.into (lines_in m s x.budget.into x.budget.out i.a i.b i.c i.d i.e i.f i.g i.x i.are) in
-    let out_read = terms_again m s Out out x.budget.out rest into_read.number o few h.out (lines_out m s x.budget.into x.budget.out o.a o.b o.c o.d o.e o.f o.g o.x o.are) in
-    (out_read.number, ap (λ (t : List Line). step_at m s at (left_of (step_line at ∷ t) n)) (regroup heads into out rest) ∙ rw (text_again (step_line at) (heads ++ (into ++ (out ++ rest))) n, ← h.whole, heads_read, into_read.is, out_read.is) refl)
+    let flows = map (zone_line s) x.zones in
+    let (j, heads_read) = heads_again m 0 x.heads (into ++ (out ++ (flows ++ rest))) (next_number n) h.heads in
+    let into_read = terms_again m s In into x.budget.into (out ++ (flows ++ rest)) j i few h.into (lines_in m s x.budget.into x.budget.out i.a i.b i.c i.d i.e i.f i.g i.x i.are) in
+    let out_read = terms_again m s Out out x.budget.out (flows ++ rest) into_read.number o few h.out (lines_out m s x.budget.into x.budget.out o.a o.b o.c o.d o.e o.f o.g o.x o.are) in
+    let (k, listed) = flows_again s x.zones rest out_read.number few (recursion_from_All IsSmall x.zones g.small) in
+    let F : List ZonePair → Type 0 = λ ps. for_each (flow_at s) ps (left_of (flows ++ rest) out_read.number) ≡ Ok (x.zones, left_of rest k) in
+    let flows_read : for_each (flow_at s) zs (left_of (flows ++ rest) out_read.number) ≡ Ok (x.zones, left_of rest k) = subst F g.pairs listed in
+    (k, ap (λ (t : List Line). step_with m s zs at (left_of (step_line at ∷ t) n)) (regroup heads into out flows rest) ∙ rw (text_again (step_line at) (heads ++ (into ++ (out ++ (flows ++ rest)))) n, ← h.whole, heads_read, into_read.is, out_read.is, flows_read) refl)
   where
-    regroup : (a b c d : List Line) → (a ++ (b ++ (c ++ []))) ++ d ≡ a ++ (b ++ (c ++ d))
-    regroup a b c d = simp append_assoc
+    regroup : (a b c f d : List Line) → (a ++ (b ++ (c ++ f))) ++ d ≡ a ++ (b ++ (c ++ (f ++ d)))
+    regroup a b c f d = simp append_assoc
 
-pub steps_again : (m : FlowModel) (s : ℕ) (ats : List TimeStep) (xs : List ListedStep) (rest : List Line) (n : ℕ) → s ≤ 18 → length xs ≡ length ats → AllByRecursion (IsListedStep m) xs → (k : ℕ) × (for_each (step_at m s) ats (left_of (all_step_lines m s ats xs ++ rest) n) ≡ Ok (xs, left_of rest k))
+pub steps_again : (m : FlowModel) (s : ℕ) (pairs : ℕ → List ZonePair) (ats : List TimeStep) (xs : List ListedStep) (rest : List Line) (n : ℕ) → s ≤ 18 → length xs ≡ length ats → AllByRecursion (IsListedStep m) xs → AllZip (AreFlowsAt pairs) ats xs → (k : ℕ) × (for_each (step_at m s pairs) ats (left_of (all_step_lines m s ats xs ++ rest) n) ≡ Ok (xs, left_of rest k))
 unfolding for_each all_step_lines
-steps_again m s [] [] rest n few same h = (n, refl)
-steps_again m s [] (x ∷ xs) rest n few same h = absurd (omega (arith, same))
-steps_again m s (at ∷ ats) [] rest n few same h = absurd (omega (arith, same))
-steps_again m s (at ∷ ats) (x ∷ xs) rest n few same h =
-    let (j, one) = step_again m s at x (all_step_lines m s ats xs ++ rest) n few h.0 in
-    let (k, others) = steps_again m s ats xs rest j few (omega (arith, same)) h.1 in
-    (k, rw (grouped (step_lines m s at x.heads x.budget []) (all_step_lines m s ats xs) rest, one, others) refl)
+steps_again m s pairs [] [] rest n few same h g = (n, refl)
+steps_again m s pairs [] (x ∷ xs) rest n few same h g = absurd (omega (arith, same))
+steps_again m s pairs (at ∷ ats) [] rest n few same h g = absurd (omega (arith, same))
+steps_again m s pairs (at ∷ ats) (x ∷ xs) rest n few same h g =
+    let (j, one) = step_again m s (pairs at.period) at x (all_step_lines m s ats xs ++ rest) n few h.0 g.0 in
+    let (k, others) = steps_again m s pairs ats xs rest j few (omega (arith, same)) h.1 g.1 in
+    (k, rw (grouped (step_lines m s at x.heads x.budget x.zones) (all_step_lines m s ats xs) rest, one, others) refl)
 
 first_again : (m : FlowModel) (s : ℕ) (rest : List Line) (n : ℕ) → first_at m s (left_of (first_line m s ∷ rest) n) ≡ Ok (left_of rest (next_number n))
 unfolding first_at
 first_again m s rest n = rw ((bytes_eq-Decides (first_line m s) (first_line m s)).1 refl) refl
 
 -- The lines of a listing are read as its steps.
-pub rows_again : (m : FlowModel) (s : ℕ) (steps : List ListedStep) → s ≤ 18 → AreListed m steps → listing_at m s (left_of (listing m s steps) 1) ≡ Ok steps
+pub rows_again : (m : FlowModel) (s : ℕ) (pairs : ℕ → List ZonePair) (steps : List ListedStep) → s ≤ 18 → AreListed m pairs steps → listing_at m s pairs (left_of (listing m s steps) 1) ≡ Ok steps
 unfolding listing_at listing
-rows_again m s steps few h =
-    let (k, read) = steps_again m s (times m) steps (end_line ∷ []) (next_number 1) few h.whole (recursion_from_All (IsListedStep m) steps h.steps) in
+rows_again m s pairs steps few h =
+    let (k, read) = steps_again m s pairs (times m) steps (end_line ∷ []) (next_number 1) few h.whole (recursion_from_All (IsListedStep m) steps h.steps) h.flows in
     rw (first_again m s (all_step_lines m s (times m) steps ++ (end_line ∷ [])) 1, read, text_again end_line [] k) refl

@@ -1,6 +1,6 @@
 -- No line of a listing has a line feed, so the lines of its text are the listing's.
-use Rattle.std.proofs.Common.{◌≡◌, ℕ, zero, suc, ◌+◌, ◌/◌, ◌%◌, ◌<◌, ◌≤◌, ◌^◌, ◌==◌, Bool, true, false, not, cond, List, [], ◌∷◌, ◌++◌, length, codes, decimal, nat_abs, All, refl, sym, ap, ◌∙◌, arith, ℤ, pos, negsuc}
-use Rattle.std.specs.List.{list_all, AllByRecursion}
+use Rattle.std.proofs.Common.{◌≡◌, ℕ, zero, suc, ◌+◌, ◌/◌, ◌%◌, ◌<◌, ◌≤◌, ◌^◌, ◌==◌, Bool, true, false, not, cond, List, [], ◌∷◌, ◌++◌, length, codes, map, decimal, nat_abs, All, refl, sym, ap, ◌∙◌, subst, arith, ℤ, pos, negsuc}
+use Rattle.std.specs.List.{list_all, AllByRecursion, AllZip}
 use Rattle.std.specs.Fmt.{signed_decimal}
 use Rattle.std.proofs.lemmas.Bool.{and_parts}
 use Rattle.std.proofs.lemmas.List.Elements.{recursion_from_All}
@@ -11,6 +11,7 @@ use Rattle.step_problem.specs.declared.place.Dir.{Dir}
 use Rattle.step_problem.specs.declared.place.Dir.TheVariants.{In, Out}
 use Rattle.step_problem.specs.declared.place.Term.{Term}
 use Rattle.step_problem.specs.declared.place.Term.TheVariants.{Storage, ConstantHead, Wells, Drains, RiverLeakage, HeadDepBounds, Recharge, Et}
+use Rattle.step_problem.specs.declared.place.ZoneFlow.{ZoneFlow}
 use Rattle.step_problem.specs.Names.{term_name}
 use Rattle.budget_bounds.specs.declared.pair.TermPair.{TermPair}
 use Rattle.fixed_text.specs.Fixed.{fixed_text}
@@ -20,16 +21,18 @@ use Rattle.model_types.specs.declared.time_steps.TimeStep.{TimeStep}
 use Rattle.model_types.specs.Cells.{layer_size, place}
 use Rattle.model_types.specs.Layers.{is_active}
 use Rattle.model_types.specs.Times.{times}
+use Rattle.zone_pairs.specs.declared.pair.ZonePair.{ZonePair}
+use Rattle.zone_pairs.specs.Pairs.{zones_of_flow}
 use Rattle.listing_io.specs.declared.listing.ListedStep.{ListedStep}
 use Rattle.listing_io.specs.Forms.{Form, pair_line}
-use Rattle.listing_io.specs.Listing.{Line, ended, text_of, numbers_text, first_line, step_line, head_form, head_front, head_line, head_lines, head_pair, dir_front, term_form, term_line, term_lines, has_evt, step_lines, all_step_lines, end_line, listing}
+use Rattle.listing_io.specs.Listing.{Line, ended, text_of, numbers_text, first_line, step_line, head_form, head_front, head_line, head_lines, head_pair, dir_front, term_form, term_line, term_lines, has_evt, flow_form, zone_front, zone_line, zone_pair, step_lines, all_step_lines, end_line, listing}
 use Rattle.listing_io.specs.Reading.{listing_at}
-use Rattle.listing_io.specs.Listed.{AreCellBounds, IsFlowPair, AreTerms, IsListedStep, AreListed}
-use Rattle.listing_io.specs.Laws.{IsTime, IsWritable, ListingsAreReadAgain}
+use Rattle.listing_io.specs.Listed.{AreCellBounds, IsFlowPair, AreFlows, AreFlowsAt, AreTerms, IsListedStep, AreListed}
+use Rattle.listing_io.specs.Laws.{AreZonePairs, IsTime, IsWritable, ListingsAreReadAgain}
 use Rattle.listing_io.proofs.Blanks.{Without, Without-append, decimal_without, fixed_without}
 use Rattle.listing_io.proofs.Exactly.{fits_wide}
 use Rattle.listing_io.proofs.Written.{eight_lines, lines_in, lines_out}
-use Rattle.listing_io.proofs.Again.{Fits, head_fits, term_fits, Eight, eight_of, left_of, rows_again}
+use Rattle.listing_io.proofs.Again.{Fits, IsSmall, flow_fits, head_fits, term_fits, Eight, eight_of, left_of, rows_again}
 
 abbrev pub NoFeed : List ℕ → Type 0
 NoFeed = Without 10
@@ -161,25 +164,48 @@ title_without at h =
     Without-append 10 (codes "STEP") (numbers_text (at.period ∷ at.step ∷ [])) (by_test (codes "STEP") refl)
     (numbers_without (at.period ∷ at.step ∷ []) (omega (arith, p), (omega (arith, n), tt)))
 
-step_without : (m : FlowModel) (s : ℕ) (at : TimeStep) (x : ListedStep) → IsWritable m s → IsTime at → IsListedStep m x → AllByRecursion NoFeed (step_lines m s at x.heads x.budget [])
+-- the flows between zones
+abbrev IsPair : ZonePair → Type 0
+IsPair z = (z.from ≤ 999) × (z.to ≤ 999)
+
+zone_without : (s : ℕ) (v : ZoneFlow) → s ≤ 18 → IsPair (zones_of_flow v) → IsSmall v → NoFeed (zone_line s v)
+zone_without s v few pair h =
+    let a = pair.0 in
+    let b = pair.1 in
+    pair_without (zone_front v.from v.to) (flow_form s []) (zone_pair v) (flow_fits s (zone_pair v) few h)
+    (Without-append 10 (codes "ZONE" ++ numbers_text (v.from ∷ v.to ∷ [])) (codes " ")
+    (Without-append 10 (codes "ZONE") (numbers_text (v.from ∷ v.to ∷ [])) (by_test (codes "ZONE") refl) (numbers_without (v.from ∷ v.to ∷ []) (omega (arith, a), (omega (arith, b), tt))))
+    (by_test (codes " ") refl))
+    tt
+
+zones_without : (s : ℕ) (vs : List ZoneFlow) → s ≤ 18 → AllByRecursion IsPair (map zones_of_flow vs) → AllByRecursion IsSmall vs → AllByRecursion NoFeed (map (zone_line s) vs)
+zones_without s [] few pairs h = tt
+zones_without s (v ∷ vs) few pairs h = (zone_without s v few pairs.0 h.0, zones_without s vs few pairs.1 h.1)
+
+flows_without : (s : ℕ) (zs : List ZonePair) (vs : List ZoneFlow) → s ≤ 18 → All IsPair zs → AreFlows zs vs → AllByRecursion NoFeed (map (zone_line s) vs)
+flows_without s zs vs few pairs h =
+    let P : List ZonePair → Type 0 = λ ps. AllByRecursion IsPair ps in
+    zones_without s vs few (subst P (sym h.pairs) (recursion_from_All IsPair zs pairs)) (recursion_from_All IsSmall vs h.small)
+
+step_without : (m : FlowModel) (s : ℕ) (zs : List ZonePair) (at : TimeStep) (x : ListedStep) → IsWritable m s → All IsPair zs → IsTime at → IsListedStep m x → AreFlows zs x.zones → AllByRecursion NoFeed (step_lines m s at x.heads x.budget x.zones)
 unfolding step_lines
-step_without m s at x good time h =
+step_without m s zs at x good pairs time h g =
     let i = eight_of x.budget.into h.into.eight in
     let o = eight_of x.budget.out h.out.eight in
     let cells = good.size.cells in
     let whole = h.whole in
     let few : 0 + length x.heads ≤ 65536 = omega (arith, cells, whole) in (
       title_without at time,
-      all_appended NoFeed (head_lines m 0 x.heads) (term_lines m s In x.budget ++ (term_lines m s Out x.budget ++ [])) (heads_without m 0 x.heads few h.heads)
-          (all_appended NoFeed (term_lines m s In x.budget) (term_lines m s Out x.budget ++ []) (terms_without m s In (term_lines m s In x.budget) x.budget.into i good.digits h.into (lines_in m s x.budget.into x.budget.out i.a i.b i.c i.d i.e i.f i.g i.x i.are))
-          (all_appended NoFeed (term_lines m s Out x.budget) [] (terms_without m s Out (term_lines m s Out x.budget) x.budget.out o good.digits h.out (lines_out m s x.budget.into x.budget.out o.a o.b o.c o.d o.e o.f o.g o.x o.are)) tt)),
+      all_appended NoFeed (head_lines m 0 x.heads) (term_lines m s In x.budget ++ (term_lines m s Out x.budget ++ map (zone_line s) x.zones)) (heads_without m 0 x.heads few h.heads)
+          (all_appended NoFeed (term_lines m s In x.budget) (term_lines m s Out x.budget ++ map (zone_line s) x.zones) (terms_without m s In (term_lines m s In x.budget) x.budget.into i good.digits h.into (lines_in m s x.budget.into x.budget.out i.a i.b i.c i.d i.e i.f i.g i.x i.are))
+          (all_appended NoFeed (term_lines m s Out x.budget) (map (zone_line s) x.zones) (terms_without m s Out (term_lines m s Out x.budget) x.budget.out o good.digits h.out (lines_out m s x.budget.into x.budget.out o.a o.b o.c o.d o.e o.f o.g o.x o.are)) (flows_without s zs x.zones good.digits pairs g))),
     )
 
-steps_without : (m : FlowModel) (s : ℕ) (ats : List TimeStep) (xs : List ListedStep) → IsWritable m s → AllByRecursion IsTime ats → AllByRecursion (IsListedStep m) xs → AllByRecursion NoFeed (all_step_lines m s ats xs)
+steps_without : (m : FlowModel) (s : ℕ) (pairs : ℕ → List ZonePair) (ats : List TimeStep) (xs : List ListedStep) → IsWritable m s → AreZonePairs pairs → AllByRecursion IsTime ats → AllByRecursion (IsListedStep m) xs → AllZip (AreFlowsAt pairs) ats xs → AllByRecursion NoFeed (all_step_lines m s ats xs)
 unfolding all_step_lines
-steps_without m s [] xs good time h = tt
-steps_without m s (at ∷ ats) [] good time h = tt
-steps_without m s (at ∷ ats) (x ∷ xs) good time h = all_appended NoFeed (step_lines m s at x.heads x.budget []) (all_step_lines m s ats xs) (step_without m s at x good time.0 h.0) (steps_without m s ats xs good time.1 h.1)
+steps_without m s pairs [] xs good are time h g = tt
+steps_without m s pairs (at ∷ ats) [] good are time h g = tt
+steps_without m s pairs (at ∷ ats) (x ∷ xs) good are time h g = all_appended NoFeed (step_lines m s at x.heads x.budget x.zones) (all_step_lines m s ats xs) (step_without m s (pairs at.period) at x good (are at.period) time.0 h.0 g.0) (steps_without m s pairs ats xs good are time.1 h.1 g.1)
 
 signed_without : (z : ℤ) → nat_abs z < 2 ^ 64 → NoFeed (signed_decimal z)
 signed_without (pos n) h = decimal_without 10 (omega arith) n (omega arith)
@@ -194,11 +220,11 @@ first_without m s good =
     (by_test (codes " UNIT ") refl))
     (signed_without m.lenuni good.unit)
 
-listing_without : (m : FlowModel) (s : ℕ) (steps : List ListedStep) → IsWritable m s → AreListed m steps → AllByRecursion NoFeed (listing m s steps)
+listing_without : (m : FlowModel) (s : ℕ) (pairs : ℕ → List ZonePair) (steps : List ListedStep) → IsWritable m s → AreZonePairs pairs → AreListed m pairs steps → AllByRecursion NoFeed (listing m s steps)
 unfolding listing
-listing_without m s steps good h =
-    (first_without m s good, all_appended NoFeed (all_step_lines m s (times m) steps) (end_line ∷ []) (steps_without m s (times m) steps good (recursion_from_All IsTime (times m) good.times) (recursion_from_All (IsListedStep m) steps h.steps)) (by_test end_line refl, tt))
+listing_without m s pairs steps good are h =
+    (first_without m s good, all_appended NoFeed (all_step_lines m s (times m) steps) (end_line ∷ []) (steps_without m s pairs (times m) steps good are (recursion_from_All IsTime (times m) good.times) (recursion_from_All (IsListedStep m) steps h.steps) h.flows) (by_test end_line refl, tt))
 
 pub listings_are_read_again : ListingsAreReadAgain
-listings_are_read_again m s steps good h =
-    ap (λ (rows : List Line). listing_at m s (left_of rows 1)) (lines_of (listing m s steps) (listing_without m s steps good h)) ∙ rows_again m s steps good.digits h
+listings_are_read_again m s pairs steps good are h =
+    ap (λ (rows : List Line). listing_at m s pairs (left_of rows 1)) (lines_of (listing m s steps) (listing_without m s pairs steps good are h)) ∙ rows_again m s pairs steps good.digits h

@@ -1,7 +1,7 @@
 -- What holds of the steps that are read.
-use Rattle.std.proofs.Common.{◌≡◌, ℕ, zero, suc, ◌+◌, ◌≤◌, Bool, true, false, List, [], ◌∷◌, length, nat_abs, refl, ap, arith, ℤ, pos, negsuc, Ok}
+use Rattle.std.proofs.Common.{◌≡◌, ℕ, zero, suc, ◌+◌, ◌≤◌, Bool, true, false, List, [], ◌∷◌, length, map, nat_abs, refl, ap, ◌∙◌, arith, ℤ, pos, negsuc, Ok}
 use Rattle.std.proofs.lemmas.Int.{ints}
-use Rattle.std.specs.List.{AllByRecursion}
+use Rattle.std.specs.List.{AllByRecursion, AllZip}
 use Rattle.std.proofs.lemmas.List.Elements.{All-from_recursion}
 use Rattle.record_lines.specs.Reading.{for_each}
 use Rattle.step_problem.specs.declared.heads.Bound.{Bound}
@@ -9,6 +9,7 @@ use Rattle.step_problem.specs.declared.place.Dir.{Dir}
 use Rattle.step_problem.specs.declared.place.Dir.TheVariants.{In, Out}
 use Rattle.step_problem.specs.declared.place.Term.{Term}
 use Rattle.step_problem.specs.declared.place.Term.TheVariants.{Storage, ConstantHead, Wells, Drains, RiverLeakage, HeadDepBounds, Recharge, Et}
+use Rattle.step_problem.specs.declared.place.ZoneFlow.{ZoneFlow}
 use Rattle.step_problem.specs.Conditions.{IsHead, head_limit}
 use Rattle.step_problem.specs.Heads.{no_bound}
 use Rattle.budget_bounds.specs.declared.pair.TermPair.{TermPair}
@@ -18,10 +19,12 @@ use Rattle.model_types.specs.declared.time_steps.TimeStep.{TimeStep}
 use Rattle.model_types.specs.Cells.{cell_count}
 use Rattle.model_types.specs.Layers.{is_active}
 use Rattle.model_types.specs.Times.{times}
+use Rattle.zone_pairs.specs.declared.pair.ZonePair.{ZonePair}
+use Rattle.zone_pairs.specs.Pairs.{zones_of_flow}
 use Rattle.listing_io.specs.declared.listing.ListedStep.{ListedStep}
-use Rattle.listing_io.specs.Listing.{step_line, head_form, head_front, dir_front, term_form, has_evt, end_line}
-use Rattle.listing_io.specs.Reading.{Left, pair_at, text_at, bound_of, head_if, heads_at, term_at, term_if, terms_at, step_at, first_at, over_at, listing_at}
-use Rattle.listing_io.specs.Listed.{IsCellBound, AreCellBounds, IsFlowPair, AreTerms, IsListedStep, AreListed}
+use Rattle.listing_io.specs.Listing.{step_line, head_form, head_front, dir_front, term_form, has_evt, flow_form, zone_front, zone_pair, end_line}
+use Rattle.listing_io.specs.Reading.{Left, pair_at, text_at, bound_of, head_if, heads_at, term_at, term_if, terms_at, flow_of, flow_at, step_with, step_at, first_at, over_at, listing_at}
+use Rattle.listing_io.specs.Listed.{IsCellBound, AreCellBounds, IsFlowPair, AreFlows, AreFlowsAt, AreTerms, IsListedStep, AreListed}
 use Rattle.listing_io.proofs.Written.{goes, same_ok, pair_row}
 
 is_head : (z : ℤ) → nat_abs z ≤ head_limit → IsHead z
@@ -108,45 +111,90 @@ terms_kept m s dir left got h =
     moved : (ps qs : List TermPair) → ps ≡ qs → AreTerms m ps → AreTerms m qs
     moved ps qs e h = rw (← e) h
 
-step_kept : (m : FlowModel) (s : ℕ) (at : TimeStep) (left : Left) (got : ListedStep × Left) → step_at m s at left ≡ Ok got → IsListedStep m got.0
-unfolding step_at
-step_kept m s at left got h =
+-- the flows between zones
+record FlowKept (z : ZonePair) (v : ZoneFlow) : Type 0 where
+  pair : zones_of_flow v ≡ z
+  small : IsFlowPair (zone_pair v)
+
+flow_kept : (s : ℕ) (z : ZonePair) (left : Left) (got : ZoneFlow × Left) → flow_at s z left ≡ Ok got → FlowKept z got.0
+unfolding flow_at
+flow_kept s z left got h =
+    let p = goes (pair_at (zone_front z.from z.to) (flow_form s []) left) _ got h in
+    let row = pair_row (zone_front z.from z.to) (flow_form s []) left p.item p.first in
+    let lo = row.lo in
+    let hi = row.hi in
+    let e : (flow_of z p.item.0, p.item.1) ≡ got = same_ok _ got _ refl p.then_ in
+    rw (← e) (record { pair = refl; small = record { lo = omega (arith, lo); hi = omega (arith, hi) } })
+
+record FlowsKept (zs : List ZonePair) (vs : List ZoneFlow) : Type 0 where
+  pairs : map zones_of_flow vs ≡ zs
+  small : AllByRecursion (λ v. IsFlowPair (zone_pair v)) vs
+
+flows_kept : (s : ℕ) (zs : List ZonePair) (left : Left) (got : List ZoneFlow × Left) → for_each (flow_at s) zs left ≡ Ok got → FlowsKept zs got.0
+unfolding for_each
+flows_kept s [] left got h =
+    let e = same_ok ([], left) got (for_each (flow_at s) [] left) refl h in
+    rw (← e) (record { pairs = refl; small = tt })
+flows_kept s (z ∷ zs) left got h =
+    let flow = goes (flow_at s z left) _ got h in
+    let more = goes (for_each (flow_at s) zs flow.item.1) _ got flow.then_ in
+    let one = flow_kept s z left flow.item flow.first in
+    let others = flows_kept s zs flow.item.1 more.item more.first in
+    let e : (flow.item.0 ∷ more.item.0, more.item.1) ≡ got = same_ok _ got _ refl more.then_ in
+    let pairs : map zones_of_flow (flow.item.0 ∷ more.item.0) ≡ z ∷ zs =
+        ap (λ (y : ZonePair). y ∷ map zones_of_flow more.item.0) one.pair ∙ ap (λ (ys : List ZonePair). z ∷ ys) others.pairs in
+    rw (← e) (record { pairs = pairs; small = (one.small, others.small) })
+
+record StepKept (m : FlowModel) (zs : List ZonePair) (x : ListedStep) : Type 0 where
+  step : IsListedStep m x
+  flows : AreFlows zs x.zones
+
+step_kept : (m : FlowModel) (s : ℕ) (zs : List ZonePair) (at : TimeStep) (left : Left) (got : ListedStep × Left) → step_with m s zs at left ≡ Ok got → StepKept m zs got.0
+unfolding step_with
+step_kept m s zs at left got h =
     let title = goes (text_at (step_line at) left) _ got h in
     let heads = goes (heads_at m 0 (cell_count m.grid) title.item) _ got title.then_ in
     let into = goes (terms_at (has_evt m) s In heads.item.1) _ got heads.then_ in
     let out = goes (terms_at (has_evt m) s Out into.item.1) _ got into.then_ in
     let kept = heads_kept m 0 (cell_count m.grid) title.item heads.item heads.first in
-    let e : (record { heads = heads.item.0; budget = record { into = into.item.0; out = out.item.0 } }, out.item.1) ≡ got = same_ok _ got _ refl out.then_ in
+    let flows = goes (for_each (flow_at s) zs out.item.1) _ got out.then_ in
+    let listed = flows_kept s zs out.item.1 flows.item flows.first in
+    let e : (record { heads = heads.item.0; budget = record { into = into.item.0; out = out.item.0 }; zones = flows.item.0 }, flows.item.1) ≡ got = same_ok _ got _ refl flows.then_ in
     rw (← e) (record {
-      whole = kept.whole;
-      heads = kept.bounds;
-      into = terms_kept m s In heads.item.1 into.item into.first;
-      out = terms_kept m s Out into.item.1 out.item out.first;
+      step = record {
+        whole = kept.whole;
+        heads = kept.bounds;
+        into = terms_kept m s In heads.item.1 into.item into.first;
+        out = terms_kept m s Out into.item.1 out.item out.first;
+      };
+      flows = record { pairs = listed.pairs; small = All-from_recursion (λ (v : ZoneFlow). IsFlowPair (zone_pair v)) flows.item.0 listed.small };
     })
 
-record StepsKept (m : FlowModel) (ats : List TimeStep) (xs : List ListedStep) : Type 0 where
+record StepsKept (m : FlowModel) (pairs : ℕ → List ZonePair) (ats : List TimeStep) (xs : List ListedStep) : Type 0 where
   whole : length xs ≡ length ats
   steps : AllByRecursion (IsListedStep m) xs
+  flows : AllZip (AreFlowsAt pairs) ats xs
 
-steps_kept : (m : FlowModel) (s : ℕ) (ats : List TimeStep) (left : Left) (got : List ListedStep × Left) → for_each (step_at m s) ats left ≡ Ok got → StepsKept m ats got.0
+steps_kept : (m : FlowModel) (s : ℕ) (pairs : ℕ → List ZonePair) (ats : List TimeStep) (left : Left) (got : List ListedStep × Left) → for_each (step_at m s pairs) ats left ≡ Ok got → StepsKept m pairs ats got.0
 unfolding for_each
-steps_kept m s [] left got h =
-    let e = same_ok ([], left) got (for_each (step_at m s) [] left) refl h in
-    rw (← e) (record { whole = refl; steps = tt })
-steps_kept m s (at ∷ ats) left got h =
-    let step = goes (step_at m s at left) _ got h in
-    let more = goes (for_each (step_at m s) ats step.item.1) _ got step.then_ in
-    let others = steps_kept m s ats step.item.1 more.item more.first in
+steps_kept m s pairs [] left got h =
+    let e = same_ok ([], left) got (for_each (step_at m s pairs) [] left) refl h in
+    rw (← e) (record { whole = refl; steps = tt; flows = tt })
+steps_kept m s pairs (at ∷ ats) left got h =
+    let step = goes (step_at m s pairs at left) _ got h in
+    let more = goes (for_each (step_at m s pairs) ats step.item.1) _ got step.then_ in
+    let one = step_kept m s (pairs at.period) at left step.item step.first in
+    let others = steps_kept m s pairs ats step.item.1 more.item more.first in
     let e : (step.item.0 ∷ more.item.0, more.item.1) ≡ got = same_ok _ got _ refl more.then_ in
-    rw (← e) (record { whole = ap suc others.whole; steps = (step_kept m s at left step.item step.first, others.steps) })
+    rw (← e) (record { whole = ap suc others.whole; steps = (one.step, others.steps); flows = (one.flows, others.flows) })
 
-pub listed_is : (m : FlowModel) (s : ℕ) (left : Left) (steps : List ListedStep) → listing_at m s left ≡ Ok steps → AreListed m steps
+pub listed_is : (m : FlowModel) (s : ℕ) (pairs : ℕ → List ZonePair) (left : Left) (steps : List ListedStep) → listing_at m s pairs left ≡ Ok steps → AreListed m pairs steps
 unfolding listing_at
-listed_is m s left steps h =
+listed_is m s pairs left steps h =
     let first = goes (first_at m s left) _ steps h in
-    let all = goes (for_each (step_at m s) (times m) first.item) _ steps first.then_ in
+    let all = goes (for_each (step_at m s pairs) (times m) first.item) _ steps first.then_ in
     let end = goes (text_at end_line all.item.1) _ steps all.then_ in
     let over = goes (over_at end.item) _ steps end.then_ in
-    let kept = steps_kept m s (times m) first.item all.item all.first in
+    let kept = steps_kept m s pairs (times m) first.item all.item all.first in
     let e : all.item.0 ≡ steps = same_ok _ steps _ refl over.then_ in
-    rw (← e) (record { whole = kept.whole; steps = All-from_recursion (IsListedStep m) all.item.0 kept.steps })
+    rw (← e) (record { whole = kept.whole; steps = All-from_recursion (IsListedStep m) all.item.0 kept.steps; flows = kept.flows })

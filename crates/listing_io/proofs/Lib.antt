@@ -8,3 +8,5 @@ pub mod Kept
 pub mod Walks
 pub mod Ends
 pub mod Joined
+pub mod Periods
+pub mod Rows

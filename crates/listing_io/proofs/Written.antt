@@ -11,6 +11,7 @@ use Rattle.step_problem.specs.declared.place.Dir.{Dir}
 use Rattle.step_problem.specs.declared.place.Dir.TheVariants.{In, Out}
 use Rattle.step_problem.specs.declared.place.Term.{Term}
 use Rattle.step_problem.specs.declared.place.Term.TheVariants.{Storage, ConstantHead, Wells, Drains, RiverLeakage, HeadDepBounds, Recharge, Et}
+use Rattle.step_problem.specs.declared.place.ZoneFlow.{ZoneFlow}
 use Rattle.step_problem.specs.Heads.{no_bound}
 use Rattle.budget_bounds.specs.declared.pair.TermPair.{TermPair}
 use Rattle.budget_bounds.specs.declared.pair.Budget.{Budget}
@@ -20,10 +21,11 @@ use Rattle.model_types.specs.declared.time_steps.TimeStep.{TimeStep}
 use Rattle.model_types.specs.Cells.{cell_count}
 use Rattle.model_types.specs.Layers.{is_active}
 use Rattle.model_types.specs.Times.{times}
+use Rattle.zone_pairs.specs.declared.pair.ZonePair.{ZonePair}
 use Rattle.listing_io.specs.declared.listing.ListedStep.{ListedStep}
 use Rattle.listing_io.specs.Forms.{Form, pair_in, pair_line}
-use Rattle.listing_io.specs.Listing.{Line, first_line, step_line, head_form, head_front, head_line, head_lines, dir_front, term_form, term_line, term_lines, printed_terms, has_evt, step_lines, all_step_lines, end_line, listing}
-use Rattle.listing_io.specs.Reading.{Left, all_lines, line_at, first_of, or_refused, pair_at, text_at, bound_of, head_if, heads_at, term_at, term_if, terms_at, step_at, first_line_before, first_at, none_of, over_at, listing_at}
+use Rattle.listing_io.specs.Listing.{Line, first_line, step_line, head_form, head_front, head_line, head_lines, dir_front, term_form, term_line, term_lines, printed_terms, has_evt, flow_form, zone_front, zone_line, step_lines, all_step_lines, end_line, listing}
+use Rattle.listing_io.specs.Reading.{Left, all_lines, line_at, first_of, or_refused, pair_at, text_at, bound_of, head_if, heads_at, term_at, term_if, terms_at, flow_of, flow_at, step_with, step_at, first_line_before, first_at, none_of, over_at, listing_at}
 use Rattle.listing_io.specs.Laws.{IsListing, ListingsWereWritten}
 use Rattle.listing_io.proofs.Exactly.{line_sound}
 
@@ -183,40 +185,60 @@ pub lines_out : (m : FlowModel) (s : ℕ) (into out : List TermPair) (a b c d e 
 unfolding term_lines
 lines_out m s into out a b c d e f g x h = eight_out (has_evt m) s into out a b c d e f g x h
 
-pub step_row : (m : FlowModel) (s : ℕ) (at : TimeStep) (left : Left) (got : ListedStep × Left) → step_at m s at left ≡ Ok got → left.lines ≡ step_lines m s at got.0.heads got.0.budget [] ++ got.1.lines
-unfolding step_at step_lines
-step_row m s at left got h =
+-- the lines of flows between zones
+flow_row : (s : ℕ) (z : ZonePair) (left : Left) (got : ZoneFlow × Left) → flow_at s z left ≡ Ok got → left.lines ≡ zone_line s got.0 ∷ got.1.lines
+unfolding flow_at
+flow_row s z left got h =
+    let p = goes (pair_at (zone_front z.from z.to) (flow_form s []) left) _ got h in
+    (pair_row (zone_front z.from z.to) (flow_form s []) left p.item p.first).row
+    ∙ ap (λ (x : ZoneFlow × Left). zone_line s x.0 ∷ x.1.lines) (same_ok (flow_of z p.item.0, p.item.1) got _ refl p.then_)
+
+flows_row : (s : ℕ) (zs : List ZonePair) (left : Left) (got : List ZoneFlow × Left) → for_each (flow_at s) zs left ≡ Ok got → left.lines ≡ map (zone_line s) got.0 ++ got.1.lines
+unfolding for_each
+flows_row s [] left got h = ap (λ (x : List ZoneFlow × Left). map (zone_line s) x.0 ++ x.1.lines) (same_ok ([], left) got (for_each (flow_at s) [] left) refl h)
+flows_row s (z ∷ zs) left got h =
+    let flow = goes (flow_at s z left) _ got h in
+    let more = goes (for_each (flow_at s) zs flow.item.1) _ got flow.then_ in
+    flow_row s z left flow.item flow.first
+    ∙ ap (λ (t : List Line). zone_line s flow.item.0 ∷ t) (flows_row s zs flow.item.1 more.item more.first)
+    ∙ ap (λ (x : List ZoneFlow × Left). map (zone_line s) x.0 ++ x.1.lines) (same_ok (flow.item.0 ∷ more.item.0, more.item.1) got _ refl more.then_)
+
+pub step_row : (m : FlowModel) (s : ℕ) (zs : List ZonePair) (at : TimeStep) (left : Left) (got : ListedStep × Left) → step_with m s zs at left ≡ Ok got → left.lines ≡ step_lines m s at got.0.heads got.0.budget got.0.zones ++ got.1.lines
+unfolding step_with step_lines
+step_row m s zs at left got h =
     let title = goes (text_at (step_line at) left) _ got h in
     let heads = goes (heads_at m 0 (cell_count m.grid) title.item) _ got title.then_ in
     let into = goes (terms_at (has_evt m) s In heads.item.1) _ got heads.then_ in
     let out = goes (terms_at (has_evt m) s Out into.item.1) _ got into.then_ in
     let i = eight_rows (has_evt m) s In heads.item.1 into.item into.first in
     let o = eight_rows (has_evt m) s Out into.item.1 out.item out.first in
+    let flows = goes (for_each (flow_at s) zs out.item.1) _ got out.then_ in
     let budget : Budget = record { into = into.item.0; out = out.item.0 } in
     let into_rows : heads.item.1.lines ≡ term_lines m s In budget ++ into.item.1.lines = i.rows ∙ ap (λ (t : List Line). t ++ into.item.1.lines) (lines_in m s into.item.0 out.item.0 i.a i.b i.c i.d i.e i.f i.g i.x i.pairs) in
     let out_rows : into.item.1.lines ≡ term_lines m s Out budget ++ out.item.1.lines = o.rows ∙ ap (λ (t : List Line). t ++ out.item.1.lines) (lines_out m s into.item.0 out.item.0 o.a o.b o.c o.d o.e o.f o.g o.x o.pairs) in
     let a = head_lines m 0 heads.item.0 in
     let b = term_lines m s In budget in
     let c = term_lines m s Out budget in
+    let f = map (zone_line s) flows.item.0 in
     text_row (step_line at) left title.item title.first
     ∙ ap (λ (t : List Line). step_line at ∷ t)
     (heads_row m 0 (cell_count m.grid) title.item heads.item heads.first
-    ∙ ap (λ (t : List Line). a ++ t) (into_rows ∙ ap (λ (t : List Line). b ++ t) out_rows)
-    ∙ regroup a b c out.item.1.lines)
-    ∙ ap (λ (x : ListedStep × Left). step_lines m s at x.0.heads x.0.budget [] ++ x.1.lines) (same_ok (record { heads = heads.item.0; budget = budget }, out.item.1) got _ refl out.then_)
+    ∙ ap (λ (t : List Line). a ++ t) (into_rows ∙ ap (λ (t : List Line). b ++ t) (out_rows ∙ ap (λ (t : List Line). c ++ t) (flows_row s zs out.item.1 flows.item flows.first)))
+    ∙ regroup a b c f flows.item.1.lines)
+    ∙ ap (λ (x : ListedStep × Left). step_lines m s at x.0.heads x.0.budget x.0.zones ++ x.1.lines) (same_ok (record { heads = heads.item.0; budget = budget; zones = flows.item.0 }, flows.item.1) got _ refl flows.then_)
   where
-    regroup : (a b c d : List Line) → a ++ (b ++ (c ++ d)) ≡ (a ++ (b ++ (c ++ []))) ++ d
-    regroup a b c d = simp append_assoc
+    regroup : (a b c f d : List Line) → a ++ (b ++ (c ++ (f ++ d))) ≡ (a ++ (b ++ (c ++ f))) ++ d
+    regroup a b c f d = simp append_assoc
 
-pub steps_row : (m : FlowModel) (s : ℕ) (ats : List TimeStep) (left : Left) (got : List ListedStep × Left) → for_each (step_at m s) ats left ≡ Ok got → left.lines ≡ all_step_lines m s ats got.0 ++ got.1.lines
+pub steps_row : (m : FlowModel) (s : ℕ) (pairs : ℕ → List ZonePair) (ats : List TimeStep) (left : Left) (got : List ListedStep × Left) → for_each (step_at m s pairs) ats left ≡ Ok got → left.lines ≡ all_step_lines m s ats got.0 ++ got.1.lines
 unfolding for_each all_step_lines
-steps_row m s [] left got h = ap (λ (x : List ListedStep × Left). x.1.lines) (same_ok ([], left) got (for_each (step_at m s) [] left) refl h)
-steps_row m s (at ∷ ats) left got h =
-    let step = goes (step_at m s at left) _ got h in
-    let more = goes (for_each (step_at m s) ats step.item.1) _ got step.then_ in
-    let row = step_lines m s at step.item.0.heads step.item.0.budget [] in
-    step_row m s at left step.item step.first
-    ∙ ap (λ (r : List Line). row ++ r) (steps_row m s ats step.item.1 more.item more.first)
+steps_row m s pairs [] left got h = ap (λ (x : List ListedStep × Left). x.1.lines) (same_ok ([], left) got (for_each (step_at m s pairs) [] left) refl h)
+steps_row m s pairs (at ∷ ats) left got h =
+    let step = goes (step_at m s pairs at left) _ got h in
+    let more = goes (for_each (step_at m s pairs) ats step.item.1) _ got step.then_ in
+    let row = step_lines m s at step.item.0.heads step.item.0.budget step.item.0.zones in
+    step_row m s (pairs at.period) at left step.item step.first
+    ∙ ap (λ (r : List Line). row ++ r) (steps_row m s pairs ats step.item.1 more.item more.first)
     ∙ sym (grouped row (all_step_lines m s ats more.item.0) more.item.1.lines)
     ∙ ap (λ (x : List ListedStep × Left). all_step_lines m s (at ∷ ats) x.0 ++ x.1.lines) (same_ok (step.item.0 ∷ more.item.0, more.item.1) got _ refl more.then_)
 
@@ -256,14 +278,14 @@ whole_listing m s steps row rows (inr e) h = inr (h ∙ ap (λ (r : Line). r ∷
 
 pub listings_were_written : ListingsWereWritten
 unfolding listing_at
-listings_were_written m s text steps h =
+listings_were_written m s pairs text steps h =
     let first = goes (first_at m s (all_lines text)) _ steps h in
-    let all = goes (for_each (step_at m s) (times m) first.item) _ steps first.then_ in
+    let all = goes (for_each (step_at m s pairs) (times m) first.item) _ steps first.then_ in
     let end = goes (text_at end_line all.item.1) _ steps all.then_ in
     let over = goes (over_at end.item) _ steps end.then_ in
     let title = first_is m s (all_lines text) first.item first.first in
     whole_listing m s steps title.row (lines text) title.known
     (title.is
-    ∙ ap (λ (t : List Line). title.row ∷ t) (steps_row m s (times m) first.item all.item all.first
+    ∙ ap (λ (t : List Line). title.row ∷ t) (steps_row m s pairs (times m) first.item all.item all.first
     ∙ ap (λ (t : List Line). all_step_lines m s (times m) all.item.0 ++ t) (text_row end_line all.item.1 end.item end.first ∙ ap (λ (t : List Line). end_line ∷ t) (none_over end.item.number end.item.lines over.item over.first)))
     ∙ ap (λ (x : List ListedStep). title.row ∷ (all_step_lines m s (times m) x ++ (end_line ∷ []))) (same_ok all.item.0 steps _ refl over.then_))

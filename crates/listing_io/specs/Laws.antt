@@ -5,6 +5,7 @@ use Rattle.model_types.specs.declared.model.FlowModel.{FlowModel}
 use Rattle.model_types.specs.declared.time_steps.TimeStep.{TimeStep}
 use Rattle.model_types.specs.Grids.{HasSize}
 use Rattle.model_types.specs.Times.{times}
+use Rattle.zone_pairs.specs.declared.pair.ZonePair.{ZonePair}
 use Rattle.listing_io.specs.declared.listing.ListedStep.{ListedStep}
 use Rattle.listing_io.specs.Listing.{Line, all_step_lines, end_line, listing, text_of}
 use Rattle.listing_io.specs.Reading.{first_line_before, all_lines, listing_at}
@@ -22,11 +23,15 @@ pub record IsWritable (m : FlowModel) (s : ℕ) : Type 0 where
   pub unit : nat_abs m.lenuni < 2 ^ 64
   pub times : All IsTime (times m)
 
--- A written listing is read as the steps written.
+-- zones are at most 999
+abbrev pub AreZonePairs : (ℕ → List ZonePair) → Type 0
+AreZonePairs pairs = (p : ℕ) → All (λ z. (z.from ≤ 999) × (z.to ≤ 999)) (pairs p)
+
+-- A written listing is read as the steps written, where `pairs` has the pairs of zones of each stress period.
 abbrev pub ListingsAreReadAgain : Type 0
 ListingsAreReadAgain =
-    (m : FlowModel) (s : ℕ) (steps : List ListedStep) → IsWritable m s → AreListed m steps →
-    listing_at m s (all_lines (text_of (listing m s steps))) ≡ Ok steps
+    (m : FlowModel) (s : ℕ) (pairs : ℕ → List ZonePair) (steps : List ListedStep) → IsWritable m s → AreZonePairs pairs → AreListed m pairs steps →
+    listing_at m s pairs (all_lines (text_of (listing m s steps))) ≡ Ok steps
 
 -- the lines of a listing of version 2, or of version 1, which has the same further lines
 abbrev pub IsListing : FlowModel → ℕ → List ListedStep → List Line → Type 0
@@ -35,5 +40,5 @@ IsListing m s steps rows = (rows ≡ listing m s steps) ⊎ (rows ≡ first_line
 -- A text that is read is the one written: it has these lines and no others.
 abbrev pub ListingsWereWritten : Type 0
 ListingsWereWritten =
-    (m : FlowModel) (s : ℕ) (text : List ℕ) (steps : List ListedStep) → listing_at m s (all_lines text) ≡ Ok steps →
+    (m : FlowModel) (s : ℕ) (pairs : ℕ → List ZonePair) (text : List ℕ) (steps : List ListedStep) → listing_at m s pairs (all_lines text) ≡ Ok steps →
     IsListing m s steps (lines text)

@@ -96,8 +96,11 @@ term_lines m s dir b = map (λ t. term_line s dir t (bounds_in b dir t)) (printe
 abbrev pub zone_pair : ZoneFlow → TermPair
 zone_pair z = record { lo = z.lo; hi = z.hi }
 
+abbrev pub zone_front : ℕ → ℕ → List ℕ
+zone_front a b = codes "ZONE" ++ numbers_text (a ∷ b ∷ []) ++ codes " "
+
 abbrev pub zone_line : ℕ → ZoneFlow → Line
-zone_line s z = pair_line (codes "ZONE" ++ numbers_text (z.from ∷ z.to ∷ []) ++ codes " ") (flow_form s []) (zone_pair z)
+zone_line s z = pair_line (zone_front z.from z.to) (flow_form s []) (zone_pair z)
 
 -- a whole step; its heads are those of all cells of the grid
 unfoldable pub step_lines : FlowModel → ℕ → TimeStep → List Bound → Budget → List ZoneFlow → List Line
@@ -106,13 +109,13 @@ step_lines m s at heads b zones = step_line at ∷ (head_lines m 0 heads ++ (ter
 abbrev pub end_line : Line
 end_line = codes "END"
 
--- several steps without zone flows, at these times
+-- several steps, at these times
 unfoldable pub all_step_lines : FlowModel → ℕ → List TimeStep → List ListedStep → List Line
 all_step_lines m s [] steps = []
 all_step_lines m s (at ∷ ats) [] = []
-all_step_lines m s (at ∷ ats) (x ∷ xs) = step_lines m s at x.heads x.budget [] ++ all_step_lines m s ats xs
+all_step_lines m s (at ∷ ats) (x ∷ xs) = step_lines m s at x.heads x.budget x.zones ++ all_step_lines m s ats xs
 
--- a whole listing, without zone flows
+-- a whole listing
 unfoldable pub listing : FlowModel → ℕ → List ListedStep → List Line
 listing m s steps = first_line m s ∷ (all_step_lines m s (times m) steps ++ (end_line ∷ []))
 

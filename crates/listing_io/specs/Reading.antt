@@ -11,6 +11,7 @@ use Rattle.step_problem.specs.declared.heads.Bound.{Bound}
 use Rattle.step_problem.specs.declared.place.Dir.{Dir}
 use Rattle.step_problem.specs.declared.place.Dir.TheVariants.{In, Out}
 use Rattle.step_problem.specs.declared.place.Term.{Term}
+use Rattle.step_problem.specs.declared.place.ZoneFlow.{ZoneFlow}
 use Rattle.step_problem.specs.declared.place.Term.TheVariants.{Storage, ConstantHead, Wells, Drains, RiverLeakage, HeadDepBounds, Recharge, Et}
 use Rattle.step_problem.specs.Heads.{no_bound}
 use Rattle.budget_bounds.specs.declared.pair.TermPair.{TermPair}
@@ -20,11 +21,12 @@ use Rattle.model_types.specs.declared.time_steps.TimeStep.{TimeStep}
 use Rattle.model_types.specs.Cells.{cell_count}
 use Rattle.model_types.specs.Layers.{is_active}
 use Rattle.model_types.specs.Times.{times}
+use Rattle.zone_pairs.specs.declared.pair.ZonePair.{ZonePair}
 use Rattle.listing_io.specs.declared.listing.ListedStep.{ListedStep}
 use Rattle.listing_io.specs.declared.fault.Fault.{Fault}
 use Rattle.listing_io.specs.declared.fault.Fault.TheVariants.{BadLine, Memory}
 use Rattle.listing_io.specs.Forms.{Form, pair_in}
-use Rattle.listing_io.specs.Listing.{Line, first_line, step_line, head_form, head_front, dir_front, term_form, has_evt, end_line}
+use Rattle.listing_io.specs.Listing.{Line, first_line, step_line, head_form, head_front, dir_front, term_form, flow_form, zone_front, has_evt, end_line}
 
 -- the lines left, and the number of the first of them
 pub record Left : Type 0 where
@@ -97,14 +99,28 @@ terms_at evt s dir left = do
   et ← term_if evt s dir recharge.1
   Ok (storage.0 ∷ constant.0 ∷ wells.0 ∷ drains.0 ∷ rivers.0 ∷ general.0 ∷ recharge.0 ∷ et.0 ∷ [], et.1)
 
--- a whole step
-unfoldable pub step_at : FlowModel → ℕ → TimeStep → Left → Result (ListedStep × Left) ℕ
-step_at m s at left = do
+-- the flow between two zones
+abbrev pub flow_of : ZonePair → TermPair → ZoneFlow
+flow_of z p = record { from = z.from; to = z.to; lo = p.lo; hi = p.hi }
+
+unfoldable pub flow_at : ℕ → ZonePair → Left → Result (ZoneFlow × Left) ℕ
+flow_at s z left = do
+  p ← pair_at (zone_front z.from z.to) (flow_form s []) left
+  Ok (flow_of z p.0, p.1)
+
+-- a whole step, where flows between these pairs of zones are due
+unfoldable pub step_with : FlowModel → ℕ → List ZonePair → TimeStep → Left → Result (ListedStep × Left) ℕ
+step_with m s pairs at left = do
   after ← text_at (step_line at) left
   heads ← heads_at m 0 (cell_count m.grid) after
   into ← terms_at (has_evt m) s In heads.1
   out ← terms_at (has_evt m) s Out into.1
-  Ok (record { heads = heads.0; budget = record { into = into.0; out = out.0 } }, out.1)
+  flows ← for_each (flow_at s) pairs out.1
+  Ok (record { heads = heads.0; budget = record { into = into.0; out = out.0 }; zones = flows.0 }, flows.1)
+
+-- where `pairs` has the pairs of zones of each stress period, by its number
+abbrev pub step_at : FlowModel → ℕ → (ℕ → List ZonePair) → TimeStep → Left → Result (ListedStep × Left) ℕ
+step_at m s pairs at left = step_with m s (pairs at.period) at left
 
 -- the first line of version 1 has no digits and no unit
 abbrev pub first_line_before : Line
@@ -125,10 +141,10 @@ abbrev pub over_at : Left → Result (Unit {0}) ℕ
 over_at left = none_of left.number left.lines
 
 -- a whole listing: its steps, or the number of the first line of another form than the one due
-unfoldable pub listing_at : FlowModel → ℕ → Left → Result (List ListedStep) ℕ
-listing_at m s left = do
+unfoldable pub listing_at : FlowModel → ℕ → (ℕ → List ZonePair) → Left → Result (List ListedStep) ℕ
+listing_at m s pairs left = do
   after ← first_at m s left
-  steps ← for_each (step_at m s) (times m) after
+  steps ← for_each (step_at m s pairs) (times m) after
   end ← text_at end_line steps.1
   over ← over_at end
   Ok steps.0
@@ -138,8 +154,8 @@ abbrev pub or_bad_listing : List ℕ → Result (List ListedStep) ℕ → Result
 or_bad_listing file (Ok steps) = Ok steps
 or_bad_listing file (Err n) = Err (refusal BadListing file n)
 
-abbrev pub listing_in : FlowModel → ℕ → List ℕ → List ℕ → Result (List ListedStep) Refusal
-listing_in m s file text = or_bad_listing file (listing_at m s (all_lines text))
+abbrev pub listing_in : FlowModel → ℕ → (ℕ → List ZonePair) → List ℕ → List ℕ → Result (List ListedStep) Refusal
+listing_in m s pairs file text = or_bad_listing file (listing_at m s pairs (all_lines text))
 
 -- What a call returned, seen by view, and what it left to be read: what reading gives, unless memory ran out.
 abbrev pub Stops : {Y : Type 0} → Fault → Result Y ℕ → Type 0

@@ -6,14 +6,15 @@ ghost use Rattle.listing_io.specs.Listed.{step_in};
 use budget_bounds::Budget;
 use model_types::Listed;
 use std::marker::Model;
-use step_problem::Bound;
+use step_problem::{Bound, ZoneFlow};
 
 /// A time step of a listing: the heads of all cells of the grid, in units of 10^-9 length units, with zeros where
-/// there is no flow, and the budget in units of 10^-(s+9) flow units.
+/// there is no flow, the budget in units of 10^-(s+9) flow units, and the flows between zones in the same units.
 #[derive(Drop)]
 pub struct ListedStep {
     pub heads: Listed<Bound>,
     pub budget: Budget,
+    pub zones: Listed<ZoneFlow>,
 }
 
 /// The steps of a listing, in order.
@@ -58,5 +59,13 @@ impl Listing {
         ensures { result.now ≡ (step_in self.now index).budget }
     {
         &self.steps.as_slice()[index].budget
+    }
+
+    /// The flows between zones of a step, by its index from 0.
+    pub fn zones(&self, index: usize) -> &[ZoneFlow]
+        requires { index < length self.now }
+        ensures { result.now ≡ (step_in self.now index).zones }
+    {
+        self.steps.as_slice()[index].zones.as_slice()
     }
 }

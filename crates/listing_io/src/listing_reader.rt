@@ -1,8 +1,10 @@
 // The reading of a listing.
-ghost use Rattle.std.specs.Prelude.{◌≡◌, ◌≤◌, length, IfOk};
+ghost use Rattle.std.specs.Prelude.{◌≡◌, ◌≤◌, All, length, option_map, IfOk, IfSome, OnOk};
 ghost use Rattle.model_types.specs.Grids.{HasSize};
 ghost use Rattle.model_types.specs.Times.{times};
 ghost use Rattle.record_lines.specs.Reading.{HasText, for_each};
+ghost use Rattle.zone_pairs.specs.Pairs.{pairs_in};
+ghost use Rattle.zone_pairs.specs.Periods.{ArePairs, CanPair, zones_of};
 ghost use Rattle.listing_io.specs.Listed.{AreListed};
 ghost use Rattle.listing_io.specs.Listing.{end_line, first_line};
 ghost use Rattle.listing_io.specs.Reading.{Gives, Has, Passes, all_lines, first_at, listing_at, listing_in, step_at};
@@ -15,6 +17,7 @@ use crate::step_reader::read_step;
 use model_types::{FlowModel, TimeStep, times};
 use outside::{Code, TextFault, refused};
 use std::alloc::Global;
+use zone_pairs::ZonePairs;
 
 #[tactic(auto, unfolding(crate::specs::Reading::first_at))]
 fn read_first(
@@ -36,21 +39,46 @@ fn read_first(
     }
 }
 
+// The step of a time. `pairs` are those of the model, and move to the step's period.
+fn read_next(
+    alloc: Global,
+    text: &mut Vec<u8>,
+    model: &FlowModel,
+    s: u32,
+    pairs: &mut ZonePairs,
+    at: TimeStep,
+    lines: &mut AllLines,
+) -> Result<ListedStep, Fault>
+    requires size { HasSize model.now.grid }
+    requires digits { s ≤ 18 }
+    requires pairs { ArePairs model.now pairs.old }
+    requires time { at.period ≤ length model.now.periods }
+    ensures pairs { OnOk result (ArePairs model.now pairs.new) }
+    ensures zones { zones_of pairs.new ≡ zones_of pairs.old }
+    ensures step { Gives (λ x. x) result lines.new (step_at model.now s (pairs_in model.now (zones_of pairs.old)) at lines.old) }
+{
+    pairs.go_to(alloc, model, at.period)?;
+    read_step(alloc, text, model, s, pairs.as_slice(), at, lines)
+}
+
 fn read_steps(
     alloc: Global,
     text: &mut Vec<u8>,
     model: &FlowModel,
     s: u32,
+    pairs: &mut ZonePairs,
     times: &[TimeStep],
     lines: &mut AllLines,
 ) -> Result<Vec<ListedStep>, Fault>
     requires size { HasSize model.now.grid }
     requires digits { s ≤ 18 }
-    ensures { Gives (λ v. v.items) result lines.new (for_each (step_at model.now s) times.now lines.old) }
+    requires pairs { ArePairs model.now pairs.old }
+    requires times { All (λ at. at.period ≤ length model.now.periods) times.now }
+    ensures { Gives (λ v. v.items) result lines.new (for_each (step_at model.now s (pairs_in model.now (zones_of pairs.old))) times.now lines.old) }
 {
     let mut steps = Vec::new(alloc);
     for at in times {
-        let step = read_step(alloc, text, model, s, *at, lines)?;
+        let step = read_next(alloc, text, model, s, pairs, *at, lines)?;
         steps.push(step)?;
     }
     Ok(steps)
@@ -61,40 +89,64 @@ fn read_lines(
     alloc: Global,
     model: &FlowModel,
     s: u32,
+    pairs: &mut ZonePairs,
     lines: &mut AllLines,
 ) -> Result<Vec<ListedStep>, Fault>
     requires size { HasSize model.now.grid }
     requires few { length model.now.periods ≤ 1000 }
     requires digits { s ≤ 18 }
-    ensures { Has (λ v. v.items) result (listing_at model.now s lines.old) }
+    requires pairs { ArePairs model.now pairs.old }
+    ensures { Has (λ v. v.items) result (listing_at model.now s (pairs_in model.now (zones_of pairs.old)) lines.old) }
 {
     let mut text = Vec::new(alloc);
     let times = times(alloc, model)?;
     read_first(&mut text, model, s, lines)?;
-    let steps = read_steps(alloc, &mut text, model, s, times.as_slice(), lines)?;
+    let steps = read_steps(alloc, &mut text, model, s, pairs, times.as_slice(), lines)?;
     lines.expect(b"END")?;
     lines.end()?;
     Ok(steps)
 }
 
+// The steps of a listing of a model with these zones.
+fn read_zoned(
+    alloc: Global,
+    model: &FlowModel,
+    s: u32,
+    zones: Option<&[u32]>,
+    lines: &mut AllLines,
+) -> Result<Vec<ListedStep>, Fault>
+    requires size { HasSize model.now.grid }
+    requires few { length model.now.periods ≤ 1000 }
+    requires digits { s ≤ 18 }
+    requires zones { IfSome zones (λ z. CanPair model.now z.now) }
+    ensures { Has (λ v. v.items) result (listing_at model.now s (pairs_in model.now (option_map (λ z. z.now) zones.entry)) lines.old) }
+{
+    let mut pairs = ZonePairs::new(alloc, model, zones)?;
+    read_lines(alloc, model, s, &mut pairs, lines)
+}
+
 /// The listing in a file, for this model and s digits of conductances: its lines are the first line,
-/// of version 2 or of version 1, the lines of its steps without zone flows, END, and no others. Otherwise the first line
-/// of another form is refused as BadListing; a missing line has the number of the last line plus one.
+/// of version 2 or of version 1, the lines of its steps, END, and no others. With a zone file each step has a line ZONE for
+/// each pair of zones that share a face in its stress period, in order, else none; `zones` has the zone of each cell.
+/// Otherwise the first line of another form is refused as BadListing; a missing line has the number of the last line plus
+/// one.
 pub fn read_listing(
     alloc: Global,
     model: &FlowModel,
     file: &str,
     bytes: &[u8],
     s: u32,
+    zones: Option<&[u32]>,
 ) -> Result<Listing, TextFault>
     requires size { HasSize model.now.grid }
     requires few { length model.now.periods ≤ 1000 }
     requires digits { s ≤ 18 }
-    ensures reads { HasText (λ l. l) result (listing_in model.now s file.now bytes.now) }
-    ensures listed { IfOk result (λ l. AreListed model.now l) }
+    requires zones { IfSome zones (λ z. CanPair model.now z.now) }
+    ensures reads { HasText (λ l. l) result (listing_in model.now s (pairs_in model.now (option_map (λ z. z.now) zones.entry)) file.now bytes.now) }
+    ensures listed { IfOk result (λ l. AreListed model.now (pairs_in model.now (option_map (λ z. z.now) zones.entry)) l) }
 {
     let mut lines = AllLines::new(bytes);
-    match read_lines(alloc, model, s, &mut lines) {
+    match read_zoned(alloc, model, s, zones, &mut lines) {
         Ok(steps) => Ok(Listing::new(steps)),
         Err(Fault::BadLine(number)) => Err(refused(alloc, Code::BadListing, file, number)),
         Err(Fault::Memory) => Err(TextFault::Memory),

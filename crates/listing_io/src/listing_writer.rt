@@ -13,7 +13,7 @@ ghost use Rattle.listing_io.specs.Listing.{zone_line, zone_pair};
 
 use crate::pairs::{PairForm, push_pair};
 use crate::places::{
-    dir_front, has_evt, push_head_front, push_step_line, push_two, push_word, term_word,
+    dir_front, has_evt, push_head_front, push_step_line, push_word, push_zone_front, term_word,
 };
 use budget_bounds::{Budget, TermPair};
 use itoa::Buffer;
@@ -200,16 +200,6 @@ fn push_terms(
     Ok(())
 }
 
-// The beginning of the line of a zone flow.
-fn push_zone_front(text: &mut Vec<u8>, zone: ZoneFlow) -> Result<(), AllocError>
-    ensures { IfOk result (λ _. text.new.items ≡ text.old.items ++ (codes "ZONE" ++ numbers_text (zone.from ∷ zone.to ∷ []) ++ codes " ")) }
-{
-    text.extend_from_slice(b"ZONE")?;
-    push_two(text, zone.from, zone.to)?;
-    text.push(b' ')?;
-    Ok(())
-}
-
 fn zone_pair(zone: ZoneFlow) -> TermPair
     ensures { result ≡ zone_pair zone }
 {
@@ -228,7 +218,7 @@ fn push_zone(text: &mut Vec<u8>, s: u32, zone: ZoneFlow) -> Result<(), AllocErro
         limit: FLOW_LIMIT,
         back: b"",
     };
-    push_zone_front(text, zone)?;
+    push_zone_front(text, zone.from, zone.to)?;
     push_pair(text, &form, zone_pair(zone))?;
     text.push(b'\n')?;
     Ok(())

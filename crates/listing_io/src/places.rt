@@ -3,7 +3,7 @@ ghost use Rattle.std.specs.Prelude.{◌≡◌, ◌++◌, [], ◌∷◌, codes, d
 ghost use Rattle.step_problem.specs.Names.{dir_name, side_name, term_name};
 ghost use Rattle.model_types.specs.Cells.{place};
 ghost use Rattle.model_types.specs.Grids.{HasSize};
-ghost use Rattle.listing_io.specs.Listing.{dir_front, has_evt, head_front, numbers_text, step_line};
+ghost use Rattle.listing_io.specs.Listing.{dir_front, has_evt, head_front, numbers_text, step_line, zone_front};
 
 use fixed_text::push_number;
 use model_types::{FlowModel, Grid, TimeStep};
@@ -58,6 +58,16 @@ pub(crate) fn push_head_front(text: &mut Vec<u8>, grid: &Grid, cell: u32) -> Res
 {
     text.extend_from_slice(b"HEAD")?;
     push_place(text, grid, cell)?;
+    text.push(b' ')?;
+    Ok(())
+}
+
+/// Writes the beginning of the line of a flow between two zones.
+pub(crate) fn push_zone_front(text: &mut Vec<u8>, from: u32, to: u32) -> Result<(), AllocError>
+    ensures { IfOk result (λ _. text.new.items ≡ text.old.items ++ zone_front from to) }
+{
+    text.extend_from_slice(b"ZONE")?;
+    push_two(text, from, to)?;
     text.push(b' ')?;
     Ok(())
 }

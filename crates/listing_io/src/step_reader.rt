@@ -4,19 +4,23 @@ ghost use Rattle.step_problem.specs.Conditions.{head_limit};
 ghost use Rattle.model_types.specs.Cells.{cell_count};
 ghost use Rattle.model_types.specs.Grids.{HasSize};
 ghost use Rattle.model_types.specs.Layers.{is_active};
-ghost use Rattle.listing_io.specs.Listing.{has_evt, head_form, head_front, step_line};
-ghost use Rattle.listing_io.specs.Reading.{Gives, Passes, head_if, heads_at, pair_at, step_at, term_at, term_if, terms_at, text_at};
+ghost use Rattle.record_lines.specs.Reading.{for_each};
+ghost use Rattle.listing_io.specs.Listing.{flow_form, has_evt, head_form, head_front, step_line, zone_front};
+ghost use Rattle.listing_io.specs.Reading.{Gives, Passes, flow_at, head_if, heads_at, pair_at, step_with, term_at, term_if, terms_at, text_at};
 
 use crate::fault::Fault;
 use crate::lines::AllLines;
 use crate::listing::ListedStep;
 use crate::listing_writer::{FLOW_LIMIT, HEAD_LIMIT};
 use crate::pairs::{PairForm, pair_in};
-use crate::places::{dir_front, has_evt, push_head_front, push_step_line, term_word};
+use crate::places::{
+    dir_front, has_evt, push_head_front, push_step_line, push_zone_front, term_word,
+};
 use budget_bounds::{Budget, TermPair};
 use model_types::{FlowModel, Grid, Listed, TimeStep};
 use std::alloc::Global;
-use step_problem::{Bound, Dir, Term};
+use step_problem::{Bound, Dir, Term, ZoneFlow};
+use zone_pairs::ZonePair;
 
 /// The two numbers of the next line, which must begin with this text; the text is used up.
 #[tactic(auto, unfolding(crate::specs::Reading::pair_at))]
@@ -162,27 +166,75 @@ fn read_title(text: &mut Vec<u8>, at: TimeStep, lines: &mut AllLines) -> Result<
     lines.expect(text.as_slice())
 }
 
-/// A step, or the first line of another form than the one due.
-#[tactic(auto, unfolding(crate::specs::Reading::step_at))]
+// The flow between two zones.
+#[tactic(auto, unfolding(crate::specs::Reading::flow_at))]
+fn read_flow(
+    text: &mut Vec<u8>,
+    s: u32,
+    pair: ZonePair,
+    lines: &mut AllLines,
+) -> Result<ZoneFlow, Fault>
+    requires { s ≤ 18 }
+    ensures { Gives (λ v. v) result lines.new (flow_at s pair lines.old) }
+{
+    let form = PairForm {
+        places: s + 9,
+        limit: FLOW_LIMIT,
+        back: b"",
+    };
+    text.clear();
+    push_zone_front(text, pair.from, pair.to)?;
+    let flow = read_pair(text, &form, lines)?;
+    Ok(ZoneFlow {
+        from: pair.from,
+        to: pair.to,
+        lo: flow.lo,
+        hi: flow.hi,
+    })
+}
+
+fn read_flows(
+    alloc: Global,
+    text: &mut Vec<u8>,
+    s: u32,
+    pairs: &[ZonePair],
+    lines: &mut AllLines,
+) -> Result<Vec<ZoneFlow>, Fault>
+    requires { s ≤ 18 }
+    ensures { Gives (λ v. v.items) result lines.new (for_each (flow_at s) pairs.now lines.old) }
+{
+    let mut flows = Vec::new(alloc);
+    for pair in pairs {
+        let flow = read_flow(text, s, *pair, lines)?;
+        flows.push(flow)?;
+    }
+    Ok(flows)
+}
+
+/// A step with flows between these pairs of zones, or the first line of another form than the one due.
+#[tactic(auto, unfolding(crate::specs::Reading::step_with))]
 pub(crate) fn read_step(
     alloc: Global,
     text: &mut Vec<u8>,
     model: &FlowModel,
     s: u32,
+    pairs: &[ZonePair],
     at: TimeStep,
     lines: &mut AllLines,
 ) -> Result<ListedStep, Fault>
     requires size { HasSize model.now.grid }
     requires digits { s ≤ 18 }
-    ensures { Gives (λ x. x) result lines.new (step_at model.now s at lines.old) }
+    ensures { Gives (λ x. x) result lines.new (step_with model.now s pairs.now at lines.old) }
 {
     let evt = has_evt(model);
     read_title(text, at, lines)?;
     let heads = read_heads(alloc, text, model, lines)?;
     let into = read_terms(text, evt, s, Dir::In, lines)?;
     let out = read_terms(text, evt, s, Dir::Out, lines)?;
+    let flows = read_flows(alloc, text, s, pairs, lines)?;
     Ok(ListedStep {
         heads: Listed::new(heads),
         budget: Budget { into, out },
+        zones: Listed::new(flows),
     })
 }

@@ -74,5 +74,5 @@ module _ (k : Task) (s : ℕ) (at : TimeStep) (old : List Bound) (digits : s ≡
       record {
         heads = e.heads;
         budget = terms k.digits (exact_step k.model at.period at.step before) (heads_of d Y) e.step (within (length x.problem) d Y (lower_at x.bounds) (upper_at x.bounds) move.some e.variables);
-        zones = flows_enclose k.zones x flows zones k.digits (exact_step k.model at.period at.step before) (heads_of d X) e.step (heads_named k.model x.problem named x.heads (heads_of d X) (within_enclosed k.model x.heads d X move.some e.heads));
+        zones = flows_enclose k.zones x.problem x.heads flows zones k.digits (exact_step k.model at.period at.step before) (heads_of d X) e.step (heads_named k.model x.problem named x.heads (heads_of d X) (within_enclosed k.model x.heads d X move.some e.heads));
       }

@@ -17,10 +17,10 @@ use Rattle.model_types.specs.declared.model.FlowModel.{FlowModel}
 use Rattle.model_types.specs.Cells.{cell_count}
 use Rattle.flow_equations.specs.Histories.{heads_of}
 use Rattle.problem_builder.specs.GridHeads.{HeadsEnclose, IsActive, IsNamed}
-use Rattle.step_chain.specs.declared.solved.Solved.{Solved}
 use Rattle.step_chain.specs.Enclosing.{LiesWithin}
 use Rattle.zone_flows.specs.Exact.{EncloseExact, HeadsLieWithin}
-use Rattle.listing_run.specs.Zones.{AreZones, AreZonesOf, FlowsEncloseAt}
+use Rattle.zone_pairs.specs.Zones.{AreZones, AreZonesOf}
+use Rattle.listing_run.specs.Zones.{FlowsEnclose}
 
 -- a vector that lies within heads is enclosed by them
 pub within_enclosed : (m : FlowModel) (heads : List Bound) (d : ℕ) (X : ℕ → ℤ) → 0 < d → LiesWithin m heads d X → HeadsEnclose m heads (heads_of d X)
@@ -58,8 +58,8 @@ module _ (m : FlowModel) (p : List Entries) (named : (c : ℕ) → IsNamed p c �
     sources = of_sources (λ c. EnclosesSigned (lower_at heads c) (upper_at heads c) 9 (h c)) encloses;
   }
 
--- flows that enclose at a step enclose the exact ones of an exact step that its problem encloses
-pub flows_enclose : (o : Option (List ℕ)) (x : Solved) (flows : List ZoneFlow) → FlowsEncloseAt o x flows →
-    (s : ℕ) (e : List ExactCell) (h : ℕ → Fraction) → EnclosesStep s x.problem e → HeadsLieWithin x.problem (lower_at x.heads) (upper_at x.heads) h → IfSome o (λ zones. EncloseExact s e zones h flows)
-flows_enclose None x flows each s e h encloses within = tt
-flows_enclose (Some zones) x flows each s e h encloses within = each s e h encloses within
+-- flows that enclose in a problem enclose the exact ones of an exact step that the problem encloses
+pub flows_enclose : (o : Option (List ℕ)) (p : List Entries) (heads : List Bound) (flows : List ZoneFlow) → FlowsEnclose p heads o flows →
+    (s : ℕ) (e : List ExactCell) (h : ℕ → Fraction) → EnclosesStep s p e → HeadsLieWithin p (lower_at heads) (upper_at heads) h → IfSome o (λ zones. EncloseExact s e zones h flows)
+flows_enclose None p heads flows each s e h encloses within = tt
+flows_enclose (Some zones) p heads flows each s e h encloses within = each s e h encloses within

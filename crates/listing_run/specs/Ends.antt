@@ -25,7 +25,8 @@ use Rattle.listing_run.specs.Bounding.{BoundsMoves}
 use Rattle.listing_run.specs.Listing.{text_of}
 use Rattle.listing_run.specs.Settlers.{IsSettledBy}
 use Rattle.listing_run.specs.Steps.{EndsAt, IsStep}
-use Rattle.listing_run.specs.Zones.{AreZones, HasLargeFlow}
+use Rattle.zone_pairs.specs.Zones.{AreZones}
+use Rattle.listing_run.specs.Zones.{HasLargeFlow}
 use Rattle.listing_run.specs.declared.listing_end.ListingEnd.TheVariants as ends
 use Rattle.listing_run.specs.declared.step.Step.{Step}
 use Rattle.listing_run.specs.declared.steps.StepFlows.{StepFlows}

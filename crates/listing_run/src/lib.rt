@@ -19,3 +19,4 @@ pub use steps::{StepFlows, Steps};
 pub use stop::Stop;
 pub use task::Task;
 pub use text::push_listing;
+pub use zoning::{flows_of, zone_slice};

@@ -22,7 +22,8 @@ use Rattle.listing_run.specs.declared.step.Step.{Step}
 use Rattle.listing_run.specs.declared.task.Task.{Task}
 use Rattle.listing_run.specs.declared.listing_end.ListingEnd.TheVariants as ends
 use Rattle.listing_run.specs.Steps.{budget_at, IsStep, HasNoBound, no_heads, no_budget, no_zones, Steps}
-use Rattle.listing_run.specs.Zones.{AreZones, AreFlowsAt, HasLargeFlow, faces_at}
+use Rattle.zone_pairs.specs.Zones.{AreZones}
+use Rattle.listing_run.specs.Zones.{AreFlowsAt, HasLargeFlow, faces_at}
 use Rattle.listing_run.proofs.Unique.{IsRest, rest_whole, rest_more, first_in}
 use Rattle.step_or_refusal.specs.Laws.{StepOrRefusal, ListingOrRefusal}
 

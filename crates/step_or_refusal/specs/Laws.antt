@@ -12,7 +12,7 @@ use Rattle.listing_run.specs.declared.step.Step.{Step}
 use Rattle.listing_run.specs.declared.task.Task.{Task}
 use Rattle.listing_run.specs.Steps.{AllSteps}
 use Rattle.listing_run.specs.declared.listing_end.ListingEnd.TheVariants as ends
-use Rattle.listing_run.specs.Zones.{AreZones}
+use Rattle.zone_pairs.specs.Zones.{AreZones}
 
 -- A time of a valid model, from heads of all its cells, has a settled step or a refusal.
 abbrev pub StepOrRefusal : Type 0

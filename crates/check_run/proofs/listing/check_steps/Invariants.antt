@@ -1,4 +1,4 @@
-use Rattle.std.proofs.Common.{◌≡◌, drop}
+use Rattle.std.proofs.Common.{◌≡◌, drop, option_map}
 use Rattle.model_types.specs.Times.{times}
 use Rattle.step_chain.specs.Keeps.{AreRunTables, digits_of}
 use Rattle.check_run.specs.Parts.{heads_before}
@@ -9,5 +9,5 @@ abbrev pub invariant-loop-index : goal.invariant-loop-index
 invariant-loop-index l = record {
   digits : digits_of l.tables ≡ digits_of l.fn.tables;
   tables : AreRunTables l.model l.tables;
-  so_far : IsSoFar l.model (digits_of l.fn.tables) l.listing (heads_before l.start.items l.listing l.index) (drop l.index (times l.model)) (drop l.index l.listing);
+  so_far : IsSoFar l.model (digits_of l.fn.tables) (option_map (λ z. z.now) l.fn.zones) l.listing (heads_before l.start.items l.listing l.index) (drop l.index (times l.model)) (drop l.index l.listing);
 }

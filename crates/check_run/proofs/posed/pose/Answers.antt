@@ -28,6 +28,7 @@ returns-clause-posed c =
       };
       held = c.in_ok-barrier.ensures.held;
       solutions = c.in_ok-barrier.ensures.encloses;
+      named = c.in_ok-problem.ensures.named;
       cells = c.in_ok-problem.ensures.cells;
       encloses = rw c.go_to.ensures.digits at c.in_ok-problem.ensures.encloses;
       constant = c.in_ok-step.ensures.heads;

@@ -8,4 +8,5 @@ pub returns : goal.returns
 returns c =
     let named = c.in_ok-command.ensures.0 ∙ ap (λ a. with_rule a (word (codes "name"))) c.new.ensures.app in
     let listed = c.in_ok-command-2.ensures.0 ∙ ap (λ a. with_rule a (word (codes "listing"))) named in
-    if_ok-made_of (λ a. with_rule a (option (codes "digits"))) _ _ c.with_option.result listed c.with_option.ensures
+    let counted = c.in_ok-command-3.ensures.0 ∙ ap (λ a. with_rule a (option (codes "digits"))) listed in
+    if_ok-made_of (λ a. with_rule a (option (codes "zones"))) _ _ c.with_option-2.result counted c.with_option-2.ensures

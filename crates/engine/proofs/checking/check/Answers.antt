@@ -1,6 +1,7 @@
 use Rattle.std.proofs.Common.{ℕ, subst}
 use Rattle.engine.specs.Commands.{check_of}
 use Rattle.engine.specs.Parts.{Answers}
+use Rattle.engine.proofs.Naming.{zones_still}
 use Rattle.engine.proofs.Readings.{of_known}
 use Rattle.engine.proofs.Verdicts.{ends_unread}
 use Rattle.engine.proofs.checking.check.Goals as goal
@@ -19,6 +20,9 @@ pub returns-in-Err-clause-answers : goal.returns-in-Err-clause-answers
 returns-in-Err-clause-answers g c = λ start puts h.
     let m = c.end_reading.ensures start puts h in
     (m.0, m.1, λ words wanted files agree. ends_unread words files (g.F.Folder.faults c.args.folder.now) _ (check_of c.args.asked) wanted c.in-Err.fault c.end_reading.result m.0 (c.in-Err.ensures.reads files agree) c.in-Err.ensures.folder.counts m.2)
+
+pub check_model-requires-clause-zones : goal.check_model-requires-clause-zones
+check_model-requires-clause-zones g c = zones_still (g.F.Folder.may c.args.folder.now) (g.F.Folder.may c.read_named.new.folder) (check_of c.args.asked).zones c.in-Ok.ensures.folder.still c.requires.zones
 
 pub check_model-requires-clause-may : goal.check_model-requires-clause-may
 check_model-requires-clause-may g c = c.in-Ok.ensures.folder.still _ _ c.requires.listing

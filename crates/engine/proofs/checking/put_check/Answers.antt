@@ -1,13 +1,27 @@
+use Rattle.std.proofs.Common.{◌≡◌, ℕ, List, Option, subst, sym}
+use Rattle.zone_pairs.specs.Pairs.{pairs_in}
+use Rattle.listing_io.specs.Listed.{AreListed}
 use Rattle.run_puts.specs.Runs.{NeverCut}
 use Rattle.run_puts.proofs.Pieces.{lacks_at_first}
+use Rattle.check_run.specs.declared.verdict.ListingVerdict.TheVariants.{Certified}
+use Rattle.check_run.specs.Verdicts.{IsVerdict, ListingEncloses}
 use Rattle.engine.specs.Checked.{IsCheck}
 use Rattle.engine.proofs.Verdicts.{puts_verdict}
 use Rattle.engine.proofs.checking.put_check.Goals as goal
 
+pub check_listing-requires-clause-listing : goal.check_listing-requires-clause-listing
+check_listing-requires-clause-listing g c =
+    let L : Option (List ℕ) → Type 0 = λ z. AreListed c.args.model.now (pairs_in c.args.model.now z) c.args.listing.now.steps in
+    subst L (sym c.zone_slice.ensures) c.requires.listing.steps
+
 pub returns-in-Ok : goal.returns-in-Ok
 returns-in-Ok g c = λ start puts h.
     let p = c.put_verdict.ensures start puts h in
-    (p.0, p.1, puts_verdict c.args.model.now c.args.digits c.args.listing.now c.in-Ok.verdict c.put_verdict.result p.0 c.in-Ok.ensures.verdict c.in-Ok.ensures.encloses c.in-Ok.ensures.history p.2)
+    let V : Option (List ℕ) → Type 0 = λ z. IsVerdict c.args.model.now c.args.digits z c.args.listing.now.steps c.in-Ok.verdict in
+    let E : Option (List ℕ) → Type 0 = λ z. c.in-Ok.verdict ≡ Certified → ListingEncloses c.args.model.now c.args.digits z c.args.listing.now.steps in
+    let verdict = subst V c.zone_slice.ensures c.in-Ok.ensures.verdict in
+    let encloses = subst E c.zone_slice.ensures c.in-Ok.ensures.encloses in
+    (p.0, p.1, puts_verdict c.args.model.now c.args.digits c.args.listing.now c.in-Ok.verdict c.put_verdict.result p.0 verdict encloses c.in-Ok.ensures.history p.2)
 
 pub returns-in-Err : goal.returns-in-Err
 returns-in-Err g c = λ start puts h.

@@ -1,32 +1,38 @@
-use Rattle.std.proofs.Common.{rules, List, ℕ, subst}
+use Rattle.std.proofs.Common.{List, ℕ, Option, Ok, Err, subst}
 use Rattle.std.proofs.lemmas.Result.{err_from_is_err_and}
-use Rattle.record_lines.specs.Reading.{StopsText}
-use Rattle.listing_io.specs.Reading.{listing_in}
+use Rattle.zone_pairs.specs.Pairs.{pairs_in}
+use Rattle.listing_io.specs.Listed.{AreListed}
 use Rattle.engine.specs.Cases.{AskedCheck}
 use Rattle.engine.specs.Commands.{check_of}
-use Rattle.engine.proofs.Readings.{bad_listed, of_known, read_bytes, text_read, unread_file}
+use Rattle.engine.specs.Parts.{AreStepsAs}
+use Rattle.engine.proofs.Readings.{both_read, of_known, unlisted, unzoned}
 use Rattle.engine.proofs.checking.read_listed.Goals as goal
 
-pub returns-then-not-is_good_name-clause-reads : goal.returns-then-not-is_good_name-clause-reads
-returns-then-not-is_good_name-clause-reads g c =
-    let asked : AskedCheck = check_of c.args.asked in
-    λ files agree. bad_listed asked c.args.model.now files c.bad_name.result (search rules) c.bad_name.ensures
-
-pub returns-in_err-bytes-clause-reads : goal.returns-in_err-bytes-clause-reads
-returns-in_err-bytes-clause-reads g c =
+pub returns-in_err-zones-clause-reads : goal.returns-in_err-zones-clause-reads
+returns-in_err-zones-clause-reads g c =
     let asked : AskedCheck = check_of c.args.asked in
     let p = err_from_is_err_and c.from_residual.result c.from_residual.ensures.1 in
-    λ files agree. rw (p.1, p.2) (unread_file asked c.args.model.now (search rules) c.read_input.result (λ v. v.items) files c.in_err-bytes.field-0.0 (of_known files c.in_err-bytes.ensures.reads agree))
+    λ files agree. rw (p.1, p.2) (unzoned asked c.args.model.now files c.in_err-zones.field-0.0 (c.in_err-zones.ensures.zones files agree))
 
-pub returns-in_err-listing-clause-reads : goal.returns-in_err-listing-clause-reads
-returns-in_err-listing-clause-reads g c =
+pub returns-in_err-steps-clause-reads : goal.returns-in_err-steps-clause-reads
+returns-in_err-steps-clause-reads g c =
     let asked : AskedCheck = check_of c.args.asked in
-    let p = err_from_is_err_and c.from_residual-in_err-listing.result c.from_residual-in_err-listing.ensures.1 in
-    let P : List ℕ → Type 0 = λ b. StopsText c.in_err-listing.field-0.0 (listing_in c.args.model.now asked.digits asked.listing b) in
-    let stops = subst P c.as_slice.ensures.value c.in_err-listing.ensures.reads in
-    λ files agree. rw (p.1, p.2) (read_bytes asked c.args.model.now (search rules) files c.in_ok-bytes.bytes.items _ (of_known files c.in_ok-bytes.ensures.reads agree) (text_read (listing_in c.args.model.now asked.digits asked.listing c.in_ok-bytes.bytes.items) c.in_err-listing.field-0.0 stops) tt)
+    let p = err_from_is_err_and c.from_residual-in_err-steps.result c.from_residual-in_err-steps.ensures.1 in
+    λ files agree.
+    let S : Option (List ℕ) → Type 0 = λ z. AreStepsAs asked c.args.model.now z files (Err c.in_err-steps.field-0.0) in
+    rw (p.1, p.2) (unlisted asked c.args.model.now c.in_ok-zones.zones files c.in_err-steps.field-0.0 (c.in_ok-zones.ensures.zones files (of_known files c.read_steps.ensures.folder.since agree)) (subst S c.zone_slice.ensures (c.in_err-steps.ensures.reads files agree)))
 
 pub returns-clause-reads : goal.returns-clause-reads
 returns-clause-reads g c =
     let asked : AskedCheck = check_of c.args.asked in
-    λ files agree. read_bytes asked c.args.model.now (search rules) files c.in_ok-bytes.bytes.items _ (of_known files c.in_ok-bytes.ensures.reads agree) (rw c.as_slice.ensures.value at c.in_ok-listing.ensures.reads) c.in_ok-listing.ensures.listed
+    λ files agree.
+    let S : Option (List ℕ) → Type 0 = λ z. AreStepsAs asked c.args.model.now z files (Ok c.in_ok-steps.steps) in
+    both_read asked c.args.model.now c.in_ok-zones.zones files c.in_ok-steps.steps (c.in_ok-zones.ensures.zones files (of_known files c.read_steps.ensures.folder.since agree)) (subst S c.zone_slice.ensures (c.in_ok-steps.ensures.reads files agree))
+
+pub returns-clause-listed : goal.returns-clause-listed
+returns-clause-listed g c =
+    let L : Option (List ℕ) → Type 0 = λ z. AreListed c.args.model.now (pairs_in c.args.model.now z) c.in_ok-steps.steps in
+    record { zones = c.in_ok-zones.ensures.fit; steps = subst L c.zone_slice.ensures c.in_ok-steps.ensures.listed }
+
+pub read_steps-requires-clause-may : goal.read_steps-requires-clause-may
+read_steps-requires-clause-may g c = c.in_ok-zones.ensures.folder.still _ _ c.requires.may

@@ -100,7 +100,12 @@ check-requires-clause-name g c =
     let words : List (List ℕ) = map (λ w. w.now) c.args.words.now in
     (check_named (g.F.Folder.may c.args.folder.now) words c.requires.may (check_of c.in-Some-Check.asked) (asked_by words _ (Some (Check (check_of c.in-Some-Check.asked))) c.in-Ok.ensures.order (by_variant _ _ _ c.in-Some-Check.field-0-is c.in-Some-Check.ensures.is))).0
 
+pub check-requires-clause-zones : goal.check-requires-clause-zones
+check-requires-clause-zones g c =
+    let words : List (List ℕ) = map (λ w. w.now) c.args.words.now in
+    (check_named (g.F.Folder.may c.args.folder.now) words c.requires.may (check_of c.in-Some-Check.asked) (asked_by words _ (Some (Check (check_of c.in-Some-Check.asked))) c.in-Ok.ensures.order (by_variant _ _ _ c.in-Some-Check.field-0-is c.in-Some-Check.ensures.is))).1
+
 pub check-requires-clause-listing : goal.check-requires-clause-listing
 check-requires-clause-listing g c =
     let words : List (List ℕ) = map (λ w. w.now) c.args.words.now in
-    (check_named (g.F.Folder.may c.args.folder.now) words c.requires.may (check_of c.in-Some-Check.asked) (asked_by words _ (Some (Check (check_of c.in-Some-Check.asked))) c.in-Ok.ensures.order (by_variant _ _ _ c.in-Some-Check.field-0-is c.in-Some-Check.ensures.is))).1
+    (check_named (g.F.Folder.may c.args.folder.now) words c.requires.may (check_of c.in-Some-Check.asked) (asked_by words _ (Some (Check (check_of c.in-Some-Check.asked))) c.in-Ok.ensures.order (by_variant _ _ _ c.in-Some-Check.field-0-is c.in-Some-Check.ensures.is))).2

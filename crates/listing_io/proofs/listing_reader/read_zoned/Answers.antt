@@ -1,0 +1,9 @@
+use Rattle.std.proofs.Common.{ℕ, List, Option, subst}
+use Rattle.zone_pairs.specs.Pairs.{pairs_in}
+use Rattle.listing_io.specs.Reading.{Has, listing_at}
+use Rattle.listing_io.proofs.listing_reader.read_zoned.Goals as goal
+
+pub returns : goal.returns
+returns c =
+    let L : Option (List ℕ) → Type 0 = λ z. Has (λ v. v.items) c.read_lines.result (listing_at c.args.model.now c.args.s (pairs_in c.args.model.now z) c.args.lines.now) in
+    subst L c.in_ok-pairs.ensures.zones c.read_lines.ensures

@@ -1,0 +1,4 @@
+pub mod Keys
+pub mod CellKinds
+pub mod Small
+pub mod Flows

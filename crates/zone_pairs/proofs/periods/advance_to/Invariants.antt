@@ -1,0 +1,6 @@
+use Rattle.std.proofs.Common.{◌≡◌, ◌≤◌}
+use Rattle.model_types.specs.Kinds.{given_heads}
+use Rattle.zone_pairs.proofs.periods.advance_to.Given as goal
+
+abbrev pub invariant-loop : goal.invariant-loop
+invariant-loop l = (l.given ≡ given_heads l.model l.given.period) × (l.given.period ≡ l.counter) × (l.counter ≤ l.fn.period)

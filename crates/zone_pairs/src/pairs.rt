@@ -1,0 +1,71 @@
+// The pairs of zones of a stress period.
+ghost use Rattle.std.specs.Prelude.{◌≡◌, [], IfOk, map};
+ghost use Rattle.model_types.specs.Grids.{HasSize};
+ghost use Rattle.model_types.specs.Kinds.{given_heads};
+ghost use Rattle.zone_pairs.specs.Pairs.{face_keys, pair_of, with_keys, zone_pairs};
+ghost use Rattle.zone_pairs.specs.Zones.{AreZonesOf};
+
+use crate::faces::add_cell;
+use crate::pair::ZonePair;
+use model_types::{FlowModel, GivenHeads, Kind};
+use std::alloc::{AllocError, Global};
+use std::collections::BTreeSet;
+
+fn add_cells(
+    keys: &mut BTreeSet<u32>,
+    model: &FlowModel,
+    given: &GivenHeads,
+    zones: &[u32],
+) -> Result<(), AllocError>
+    requires size { HasSize model.now.grid }
+    requires given { given.now ≡ given_heads model.now given.now.period }
+    requires zones { AreZonesOf model.now zones.now }
+    ensures { IfOk result (λ _. keys.new.keys ≡ with_keys keys.old.keys (face_keys model.now zones.now given.now.period)) }
+{
+    for cell in 0..model.grid.cell_count() {
+        match given.kind(model, cell) {
+            Kind::Variable => add_cell(keys, model, given, zones, cell)?,
+            Kind::Constant => {}
+            Kind::NoFlow => {}
+        }
+    }
+    Ok(())
+}
+
+fn pair_of(key: u32) -> ZonePair
+    ensures { result ≡ pair_of key }
+{
+    ZonePair {
+        from: key / 1000,
+        to: key % 1000,
+    }
+}
+
+// The pairs of these keys, in their order.
+fn pairs_of(alloc: Global, keys: &BTreeSet<u32>) -> Result<Vec<ZonePair>, AllocError>
+    ensures { IfOk result (λ pairs. pairs.items ≡ map pair_of keys.now.keys) }
+{
+    let mut pairs = Vec::new(alloc);
+    for key in keys {
+        pairs.push(pair_of(*key))?;
+    }
+    Ok(pairs)
+}
+
+/// The pairs of zones that share a face in the stress period of these given heads, in order.
+#[tactic(auto, unfolding(crate::specs::Pairs::zone_pairs))]
+pub(crate) fn zone_pairs(
+    alloc: Global,
+    model: &FlowModel,
+    given: &GivenHeads,
+    zones: &[u32],
+) -> Result<Vec<ZonePair>, AllocError>
+    requires size { HasSize model.now.grid }
+    requires given { given.now ≡ given_heads model.now given.now.period }
+    requires zones { AreZonesOf model.now zones.now }
+    ensures { IfOk result (λ pairs. pairs.items ≡ zone_pairs model.now zones.now given.now.period) }
+{
+    let mut keys = BTreeSet::new(alloc);
+    add_cells(&mut keys, model, given, zones)?;
+    pairs_of(alloc, &keys)
+}

@@ -1,0 +1,136 @@
+// The pairs of zones from stress period to stress period.
+ghost use Rattle.std.specs.Prelude.{◌≡◌, ◌≤◌, IfOk, IfSome, OnOk, length, option_map};
+ghost use Rattle.model_types.specs.Kinds.{given_heads};
+ghost use Rattle.model_types.specs.Valid.{IsModel};
+ghost use Rattle.zone_pairs.specs.Pairs.{pairs_in};
+ghost use Rattle.zone_pairs.specs.Periods.{ArePairs, CanPair, IsWalk, listed_pairs, zones_of};
+
+use crate::pair::ZonePair;
+use crate::pairs::zone_pairs;
+use model_types::{FlowModel, GivenHeads, Listed};
+use std::alloc::{AllocError, Global};
+
+/// The zones of a model's cells, the given heads up to a stress period, and the pairs of zones at that period.
+#[derive(Drop)]
+pub struct Walk<'a> {
+    pub zones: &'a [u32],
+    pub given: GivenHeads,
+    pub pairs: Listed<ZonePair>,
+}
+
+/// The pairs of zones of a model that share a face, at a stress period; none without a zone file.
+#[derive(Drop)]
+pub struct ZonePairs<'a> {
+    pub walk: Option<Walk<'a>>,
+}
+
+// Moves to the given heads of this period. It starts anew before an earlier one.
+fn advance_to(
+    given: &mut GivenHeads,
+    alloc: Global,
+    model: &FlowModel,
+    period: u32,
+) -> Result<(), AllocError>
+    requires model { IsModel model.now }
+    requires given { given.old ≡ given_heads model.now given.old.period }
+    requires last { period ≤ length model.now.periods }
+    ensures given { given.new ≡ given_heads model.now given.new.period }
+    ensures there { OnOk result (given.new.period ≡ period) }
+{
+    begin_until(given, alloc, model, period)?;
+    for _ in given.period..period {
+        given.advance(model);
+    }
+    Ok(())
+}
+
+// Starts anew before the first period, if the given heads are those of a later period than this one.
+fn begin_until(
+    given: &mut GivenHeads,
+    alloc: Global,
+    model: &FlowModel,
+    period: u32,
+) -> Result<(), AllocError>
+    requires model { IsModel model.now }
+    requires given { given.old ≡ given_heads model.now given.old.period }
+    ensures given { given.new ≡ given_heads model.now given.new.period }
+    ensures before { OnOk result (given.new.period ≤ period) }
+{
+    if given.period > period {
+        *given = GivenHeads::new(alloc, model)?;
+    }
+    Ok(())
+}
+
+impl<'a> Walk<'a> {
+    fn new(alloc: Global, model: &FlowModel, zones: &'a [u32]) -> Result<Walk<'a>, AllocError>
+        requires { CanPair model.now zones.now }
+        ensures walk { IfOk result (IsWalk model.now) }
+        ensures zones { IfOk result (λ w. w.zones.now ≡ zones.entry.now) }
+    {
+        let given = GivenHeads::new(alloc, model)?;
+        let pairs = zone_pairs(alloc, model, &given, zones)?;
+        Ok(Walk {
+            zones,
+            given,
+            pairs: Listed::new(pairs),
+        })
+    }
+
+    fn go_to(&mut self, alloc: Global, model: &FlowModel, period: u32) -> Result<(), AllocError>
+        requires walk { IsWalk model.now self.old }
+        requires last { period ≤ length model.now.periods }
+        ensures walk { OnOk result (IsWalk model.now self.new) }
+        ensures there { OnOk result (self.new.given.period ≡ period) }
+        ensures zones { self.new.zones.now ≡ self.old.zones.now }
+    {
+        if self.given.period != period {
+            advance_to(&mut self.given, alloc, model, period)?;
+            self.pairs = Listed::new(zone_pairs(alloc, model, &self.given, self.zones)?);
+        }
+        Ok(())
+    }
+}
+
+impl<'a> ZonePairs<'a> {
+    /// The pairs of a model with these zones, before its first period.
+    pub fn new(
+        alloc: Global,
+        model: &FlowModel,
+        zones: Option<&'a [u32]>,
+    ) -> Result<ZonePairs<'a>, AllocError>
+        requires { IfSome zones (λ z. CanPair model.now z.now) }
+        ensures pairs { IfOk result (ArePairs model.now) }
+        ensures zones { IfOk result (λ x. zones_of x ≡ option_map (λ z. z.now) zones.entry) }
+    {
+        let Some(zones) = zones else {
+            return Ok(ZonePairs { walk: None });
+        };
+        let walk = Walk::new(alloc, model, zones)?;
+        Ok(ZonePairs { walk: Some(walk) })
+    }
+
+    /// Moves to a stress period. It continues from the current one, and starts anew before an earlier one.
+    pub fn go_to(&mut self, alloc: Global, model: &FlowModel, period: u32) -> Result<(), AllocError>
+        requires pairs { ArePairs model.now self.old }
+        requires last { period ≤ length model.now.periods }
+        ensures pairs { OnOk result (ArePairs model.now self.new) }
+        ensures there { OnOk result (listed_pairs self.new ≡ pairs_in model.now (zones_of self.new) period) }
+        ensures zones { zones_of self.new ≡ zones_of self.old }
+    {
+        match &mut self.walk {
+            None => Ok(()),
+            Some(walk) => walk.go_to(alloc, model, period),
+        }
+    }
+
+    /// The pairs at the current period.
+    pub fn as_slice(&self) -> &[ZonePair]
+        ensures { result.now ≡ listed_pairs self.now }
+    {
+        match &self.walk {
+            None => &[],
+            Some(walk) => walk.pairs.as_slice(),
+        }
+    }
+}
