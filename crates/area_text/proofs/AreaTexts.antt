@@ -1,35 +1,19 @@
 -- Flags, arrays of one layer, and arrays of layers are read as written.
-use Rattle.std.proofs.Common.{◌≡◌, ℕ, zero, suc, ◌+◌, ◌^◌, ◌<◌, ◌≤◌, Bool, true, false, ◌&&◌, nat_lt, nat_le, if◌then◌else◌, List, [], ◌∷◌, ◌++◌, length, drop, All, Ok, refl, arith, ℤ, pos, negsuc}
-use Rattle.std.specs.Prelude.{codes}
+use Rattle.area_text.proofs.Common.{◌≡◌, ℕ, zero, suc, ◌+◌, ◌^◌, ◌<◌, ◌≤◌, Bool, true, false, ◌&&◌, nat_lt, nat_le, if◌then◌else◌, List, [], ◌∷◌, ◌++◌, length}
+use Rattle.area_text.proofs.Common.{drop, All, Ok, refl, arith, ℤ, pos, negsuc, codes, All-from_recursion, Dec, File, is_comment, counted, Grid, HasSize}
+use Rattle.area_text.proofs.Common.{is_int, real_layer, array_or, flag_at, flag_if, is_option, option_at, IsReals, IsWhole, IsShort, IsWord, integer_word, Line}
+use Rattle.area_text.proofs.Common.{IsLine, number_after, unread, real_array, integer_array, integer_is_word, word_by_test, integer_item, AreLines, no_lines}
+use Rattle.area_text.proofs.Common.{decimal_is_item, IsLayers}
 use Rattle.std.proofs.lemmas.Bool.Decides.{nat_tests}
-use Rattle.std.proofs.lemmas.List.Elements.{All-from_recursion}
-use Rattle.decimal_input.specs.declared.dec.Dec.{Dec}
-use Rattle.outside.specs.Files.{File}
-use Rattle.record_lines.specs.Layout.{is_comment}
-use Rattle.record_lines.specs.Reading.{counted}
 use Rattle.record_lines.specs.Items.{is_word}
 use Rattle.array_reader.specs.Items.{number_at}
 use Rattle.array_reader.specs.Numbers.{integer}
-use Rattle.model_types.specs.declared.grid.Grid.{Grid}
 use Rattle.model_types.specs.Cells.{layer_size}
-use Rattle.model_types.specs.Grids.{HasSize}
 use Rattle.model_types.specs.Layers.{int_at}
-use Rattle.model_types.specs.Receivers.{is_int}
-use Rattle.array_reader.specs.Arrays.{real_layer}
-use Rattle.period_arrays.specs.Areas.{array_or}
-use Rattle.period_arrays.specs.Flags.{flag_at, flag_if, is_option, option_at}
-use Rattle.period_arrays.specs.Forms.{IsReals, IsWhole}
 use Rattle.period_arrays.specs.Layers.{is_layer, layer_step, layers_tested, layers_at}
-use Rattle.array_text.specs.Words.{IsShort, IsWord, integer_word}
-use Rattle.array_text.specs.Lines.{Line, IsLine, number_after, unread}
-use Rattle.array_text.specs.Arrays.{real_array, integer_array}
 use Rattle.array_text.proofs.ArrayTexts.{arrays, are_lines}
 use Rattle.array_text.proofs.DigitTexts.{digits_spell}
-use Rattle.array_text.proofs.WordTexts.{integer_is_word, word_by_test}
-use Rattle.package_text.proofs.CountTexts.{integer_item}
-use Rattle.package_text.proofs.DisTexts.{AreLines, no_lines, decimal_is_item}
 use Rattle.stress_text.proofs.PlaceTexts.{no_keyword}
-use Rattle.area_text.specs.Readable.{IsLayers}
 
 one_item : (file : List ℕ) (line : ℕ) (ws : Line) → number_at integer file line (codes "1" ∷ ws) ≡ Ok (pos 1, ws)
 unfolding number_at integer

@@ -1,39 +1,23 @@
 -- The files of RCH and EVT are read as written.
-use Rattle.std.proofs.Common.{◌≡◌, ℕ, ℤ, Bool, true, false, if◌then◌else◌, List, [], ◌∷◌, ◌++◌, append_assoc, length, All, Ok, refl, arith}
-use Rattle.std.specs.Prelude.{codes}
+use Rattle.area_text.proofs.Common.{◌≡◌, ℕ, ℤ, Bool, true, false, if◌then◌else◌, List, [], ◌∷◌, ◌++◌, append_assoc, length, All, Ok, refl, arith, codes}
+use Rattle.area_text.proofs.Common.{All-head, All-tail, Dec, File, next_number, for_each, Grid, HasSize, is_int, real_layer, area_at, array_or, arrays_of}
+use Rattle.area_text.proofs.Common.{nothing_yet, flags_of, is_option, IsReals, integer_word, Line, IsLine, line_text, text, number_after, unread, real_array}
+use Rattle.area_text.proofs.Common.{line_by_test, zero_item, AreLines, no_lines, one_line, joined, file_begins, line_is_item, IsEvaporating, IsLayers}
+use Rattle.area_text.proofs.Common.{IsRecharged, with_areas}
 use Rattle.std.specs.List.{flat_map}
 use Rattle.std.proofs.lemmas.List.{append-nil}
-use Rattle.std.proofs.lemmas.List.Elements.{All-head, All-tail}
-use Rattle.decimal_input.specs.declared.dec.Dec.{Dec}
-use Rattle.outside.specs.Files.{File}
-use Rattle.record_lines.specs.Layout.{next_number}
-use Rattle.record_lines.specs.Reading.{for_each}
-use Rattle.model_types.specs.declared.grid.Grid.{Grid}
 use Rattle.model_types.specs.declared.model.FlowModel.{FlowModel}
 use Rattle.model_types.specs.declared.period.Period.{Period}
-use Rattle.model_types.specs.Grids.{HasSize}
-use Rattle.model_types.specs.Receivers.{is_int}
-use Rattle.array_reader.specs.Arrays.{real_layer}
 use Rattle.list_package.specs.Headers.{item_line}
-use Rattle.period_arrays.specs.Areas.{area_at, array_or, arrays_of, nothing_yet}
-use Rattle.period_arrays.specs.Flags.{flags_of, is_option}
-use Rattle.period_arrays.specs.Forms.{IsReals}
 use Rattle.period_arrays.specs.Kinds.{ArrayKind, with_area}
 use Rattle.period_arrays.specs.Packages.{arrays_in, option_line, period_at, periods_of, tested_area, unit_if}
 use Rattle.period_arrays.specs.declared.area.Area.{Area}
 use Rattle.period_arrays.specs.declared.area.InForce.{InForce}
 use Rattle.rch_package.specs.Recharge.{recharge_arrays, rch_of}
 use Rattle.evt_package.specs.Evaporation.{area_in, evaporation_arrays, evt_of}
-use Rattle.array_text.specs.Words.{integer_word}
-use Rattle.array_text.specs.Lines.{Line, IsLine, line_text, text, number_after, unread}
-use Rattle.array_text.specs.Arrays.{real_array}
-use Rattle.array_text.proofs.WordTexts.{line_by_test}
 use Rattle.array_text.proofs.LineTexts.{line_words, next_line}
 use Rattle.package_text.proofs.LineCounts.{number_after-append}
-use Rattle.package_text.proofs.CountTexts.{zero_item}
-use Rattle.package_text.proofs.DisTexts.{AreLines, no_lines, one_line, joined, file_begins, line_is_item}
 use Rattle.area_text.specs.Areas.{rch_item_2, rch_items, rch_lines, evt_item_2, evt_items, evt_lines}
-use Rattle.area_text.specs.Readable.{IsEvaporating, IsLayers, IsRecharged, with_areas}
 use Rattle.area_text.proofs.AreaTexts.{flag_reads, flag_if_reads, option_reads, option_is_short, option_is_item, option_is_line, layers_lines, layers_are_lines, reals_are_lines, reals_read, layers_read}
 
 -- each array is read anew

@@ -1,2 +1,3 @@
+mod Common
 pub mod AreaTexts
 pub mod FileTexts

@@ -1,25 +1,17 @@
 -- An array that is read has a value for each place.
-use Rattle.std.proofs.Common.{◌≡◌, ℕ, ◌*◌, ℤ, List, [], ◌∷◌, length, replicate, All, Result, Ok, Err, refl, arith}
-use Rattle.std.proofs.lemmas.List.{length-replicate}
-use Rattle.std.proofs.lemmas.List.Elements.{All-replicate}
-use Rattle.decimal_input.specs.declared.dec.NumFault.{NumFault}
-use Rattle.decimal_input.specs.Canonical.{IsDec}
+use Rattle.array_forms.proofs.Common.{◌≡◌, ℕ, ◌*◌, ℤ, List, [], ◌∷◌, length, replicate, All, Result, Ok, Err, refl, arith, length-replicate, All-replicate}
+use Rattle.array_forms.proofs.Common.{NumFault, IsDec, Refusal, Left, left_from, Kind, real, whole, multiplied, free_rows, ArraysHaveForm}
 use Rattle.outside.specs.Files.{File}
 use Rattle.outside.specs.Inputs.{file_at}
 use Rattle.outside.specs.Refusals.{refusal}
 use Rattle.outside.specs.declared.codes.Code.TheVariants.{BadControl}
-use Rattle.outside.specs.declared.refusals.Refusal.{Refusal}
 use Rattle.outside.specs.Words.{words}
-use Rattle.record_lines.specs.Layout.{Left, left_from}
 use Rattle.record_lines.specs.Items.{line_at, word_at, name_at}
 use Rattle.array_reader.specs.Items.{at_line, number_at}
-use Rattle.array_reader.specs.Kinds.{Kind, real, whole, multiplied}
-use Rattle.array_reader.specs.Lists.{free_rows}
 use Rattle.array_reader.specs.Control.{Control, constant, internal, named, keyword, format_at, constant_at, internal_at, named_at, of_keyword, control_at}
 use Rattle.array_reader.specs.declared.keyword.Keyword.{Keyword}
 use Rattle.array_reader.specs.declared.keyword.Keyword.TheVariants.{Constant, Internal, OpenClose, External, Other}
 use Rattle.array_reader.specs.Arrays.{values_of, array_at, without_line, reals, layer_array, real_layer, integer_layer, layers}
-use Rattle.array_forms.specs.Laws.{ArraysHaveForm}
 use Rattle.array_forms.proofs.Readings.{clash, goes, ends, appended_are}
 use Rattle.array_forms.proofs.NumberForms.{number_is, multiplied_is}
 use Rattle.array_forms.proofs.ListForms.{rows_are}

@@ -1,16 +1,8 @@
 -- A free list that is read has as many values as it asked for, and each is as its word is read.
-use Rattle.std.proofs.Common.{◌≡◌, ℕ, ◌*◌, List, length, All, Result, Ok}
-use Rattle.decimal_input.specs.declared.dec.NumFault.{NumFault}
-use Rattle.decimal_input.specs.Canonical.{IsDec}
-use Rattle.outside.specs.declared.refusals.Refusal.{Refusal}
-use Rattle.record_lines.specs.Layout.{Left}
-use Rattle.record_lines.specs.Reading.{repeated}
+use Rattle.array_forms.proofs.Common.{◌≡◌, ℕ, ◌*◌, List, length, All, Result, Ok, NumFault, IsDec, Refusal, Left, repeated, number, integer, value_at}
+use Rattle.array_forms.proofs.Common.{value_alone, free_list, free_rows, IsShort, ListsHaveForm}
 use Rattle.record_lines.specs.Spread.{Taking, beginning}
-use Rattle.array_reader.specs.Numbers.{number, integer}
-use Rattle.array_reader.specs.Lists.{value_at, value_alone, free_list, free_rows}
 use Rattle.array_reader.proofs.StepLemmas.{value_word}
-use Rattle.array_text.specs.Words.{IsShort}
-use Rattle.array_forms.specs.Laws.{ListsHaveForm}
 use Rattle.array_forms.proofs.Readings.{goes, ends, repeated_are, appended_are}
 use Rattle.array_forms.proofs.NumberForms.{number_is, integer_is}
 

@@ -1,11 +1,12 @@
 -- A number that is read is in canonical form, and an integer has at most 18 digits.
-use Rattle.std.proofs.Common.{◌≡◌, ◌⊎◌, inl, inr, ℕ, zero, suc, ◌+◌, ◌-◌, ◌*◌, ◌%◌, ◌^◌, ◌<◌, ◌≤◌, ◌==◌, Bool, true, false, nat_lt, nat_le, if◌then◌else◌, List, [], ◌∷◌, length, Option, Some, None, Result, Ok, Err, refl, sym, subst, arith, ℤ, pos, negsuc, neg_ℤ, ◌+ℤ◌, ◌≤ℤ◌, ◌<ℤ◌, unsigned_abs}
+use Rattle.array_forms.proofs.Common.{◌≡◌, ◌⊎◌, inl, inr, ℕ, zero, suc, ◌+◌, ◌-◌, ◌*◌, ◌%◌, ◌^◌, ◌<◌, ◌≤◌, ◌==◌, Bool, true, false, nat_lt, nat_le}
+use Rattle.array_forms.proofs.Common.{if◌then◌else◌, List, [], ◌∷◌, length, Option, Some, None, Result, Ok, Err, refl, sym, subst, arith, ℤ, pos, negsuc, neg_ℤ}
+use Rattle.array_forms.proofs.Common.{◌+ℤ◌, ◌≤ℤ◌, ◌<ℤ◌, unsigned_abs, NumFault, IsDec, is_exponent, canonical, spelt_number, number, product, integer, scaled}
+use Rattle.array_forms.proofs.Common.{real, multiplied, IsShort}
 use Rattle.std.proofs.lemmas.Int.{ints}
 use Rattle.std.proofs.lemmas.Bool.Decides.{nat_tests}
 use Rattle.decimal_input.specs.declared.dec.Dec.{Dec}
-use Rattle.decimal_input.specs.declared.dec.NumFault.{NumFault}
 use Rattle.decimal_input.specs.declared.dec.NumFault.TheVariants.{BadNumber}
-use Rattle.decimal_input.specs.Canonical.{IsDec}
 use Rattle.decimal_input.specs.Decimals.{with_sign}
 use Rattle.decimal_input.specs.Grammar.{Spelling, AreDigits, IsInteger, number_from}
 use Rattle.decimal_input.specs.Outcomes.{IsTested, IsCanonical, differ}
@@ -13,10 +14,7 @@ use Rattle.decimal_input.specs.Words.{spelt}
 use Rattle.decimal_input.proofs.Canon.{zero_number}
 use Rattle.decimal_input.proofs.Named.{digit_small}
 use Rattle.decimal_input.proofs.Short.{longer, within}
-use Rattle.array_reader.specs.Numbers.{is_exponent, canonical, spelt_number, number, product, integer}
-use Rattle.array_reader.specs.Kinds.{scaled, real, multiplied}
 use Rattle.array_reader.proofs.NumberLemmas.{canonical_is, integers_are}
-use Rattle.array_text.specs.Words.{IsShort}
 use Rattle.array_forms.proofs.Readings.{clash, goes, ends}
 
 -- a word that is no number

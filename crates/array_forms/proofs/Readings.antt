@@ -1,8 +1,6 @@
 -- A reading that gives something: each of its parts gave something.
-use Rattle.std.proofs.Common.{◌≡◌, ℕ, zero, suc, ◌*◌, List, [], ◌∷◌, ◌++◌, length, All, Result, Ok, Err, refl, subst, arith}
-use Rattle.std.proofs.lemmas.List.{length-append}
-use Rattle.std.proofs.lemmas.List.Elements.{All-nil, All-cons, All-append}
-use Rattle.record_lines.specs.Reading.{◌>>=◌, repeated, appended}
+use Rattle.array_forms.proofs.Common.{◌≡◌, ℕ, zero, suc, ◌*◌, List, [], ◌∷◌, ◌++◌, length, All, Result, Ok, Err, refl, subst, arith, length-append, All-nil}
+use Rattle.array_forms.proofs.Common.{All-cons, All-append, ◌>>=◌, repeated, appended}
 
 pub clash : {B E : Type 0} (e : E) (y : B) (r : Result B E) → r ≡ Err e → r ≡ Ok y → ⊥
 clash e y r h k = cc

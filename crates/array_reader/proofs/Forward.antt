@@ -1,24 +1,15 @@
 -- What arrays and control records take and leave are words and lines that they were given.
-use Rattle.std.proofs.Common.{◌≡◌, ℕ, List, Result, Ok, Err, All, refl}
-use Rattle.std.specs.Prelude.{IfOk}
+use Rattle.array_reader.proofs.Common.{◌≡◌, ℕ, List, Result, Ok, Err, All, refl, IfOk, folder_name, NumFault, LineMay, LinesMay, word_at, line_at, name_at}
+use Rattle.array_reader.proofs.Common.{Left, Numbered, repeated, Taking, beginning, next_value, FreeFault, chain, after, given, repeated_held, appended_held}
+use Rattle.array_reader.proofs.Common.{value_held, word_held, name_held, line_words, leaves, number_at, at_line, in_file, value_at, value_alone, free_list}
+use Rattle.array_reader.proofs.Common.{free_rows}
 use Rattle.outside.specs.Asking.{WordsMay}
 use Rattle.outside.specs.Inputs.{file_limit}
-use Rattle.outside.specs.Names.{folder_name}
 use Rattle.outside.specs.Words.{words}
-use Rattle.decimal_input.specs.declared.dec.NumFault.{NumFault}
-use Rattle.record_lines.specs.Asking.{LineMay, LinesMay}
-use Rattle.record_lines.specs.Items.{word_at, line_at, name_at}
-use Rattle.record_lines.specs.Layout.{Left, Numbered}
-use Rattle.record_lines.specs.Reading.{repeated}
-use Rattle.record_lines.specs.Spread.{Taking, beginning, next_value}
-use Rattle.record_lines.specs.declared.free.FreeFault.{FreeFault}
-use Rattle.record_lines.proofs.Forward.{chain, after, given, repeated_held, appended_held, value_held, word_held, name_held, line_words, leaves}
 use Rattle.array_reader.specs.Asking.{ControlMay}
-use Rattle.array_reader.specs.Items.{number_at, at_line}
 use Rattle.array_reader.specs.Control.{Control, keyword, format_at, constant_at, internal_at, named_at, of_keyword, control_at}
 use Rattle.array_reader.specs.declared.keyword.Keyword.{Keyword}
 use Rattle.array_reader.specs.declared.keyword.Keyword.TheVariants.{Constant, Internal, OpenClose, External, Other}
-use Rattle.array_reader.specs.Lists.{in_file, value_at, value_alone, free_list, free_rows}
 
 module _ {X : Type 0} (P : Numbered → Type 0) (read : List ℕ → Result X NumFault) (file : List ℕ) where
   in_file_held : {A : Type 0} (Q : A → Type 0) (r : Result A FreeFault) → IfOk r Q → IfOk (in_file file r) Q

@@ -1,9 +1,10 @@
 -- The functions of specs/Numbers are what words and products name.
-use Rattle.std.proofs.Common.{◌≡◌, ℕ, zero, suc, ◌<◌, ◌≤◌, ◌+◌, ◌*◌, ◌/◌, ◌%◌, ◌^◌, ◌==◌, Bool, true, false, if◌then◌else◌, List, length, nat_le, nat_lt, Option, Some, None, Result, Ok, Err, ap, ℤ, pos, negsuc, neg_ℤ, ◌+ℤ◌, ◌≤ℤ◌, ◌<ℤ◌, ◌↔◌, inl, inr, refl, sym, ◌∙◌, arith, pow-suc, add-one}
+use Rattle.array_reader.proofs.Common.{◌≡◌, ℕ, zero, suc, ◌<◌, ◌≤◌, ◌+◌, ◌*◌, ◌/◌, ◌%◌, ◌^◌, ◌==◌, Bool, true, false, if◌then◌else◌, List, length, nat_le}
+use Rattle.array_reader.proofs.Common.{nat_lt, Option, Some, None, Result, Ok, Err, ap, ℤ, pos, negsuc, neg_ℤ, ◌+ℤ◌, ◌≤ℤ◌, ◌<ℤ◌, ◌↔◌, inl, inr, refl, sym, ◌∙◌}
+use Rattle.array_reader.proofs.Common.{arith, pow-suc, add-one, NumFault}
 use Rattle.std.proofs.lemmas.Int.{ints}
 use Rattle.std.proofs.lemmas.Bool.Decides.{nat_tests}
 use Rattle.decimal_input.specs.declared.dec.Dec.{Dec}
-use Rattle.decimal_input.specs.declared.dec.NumFault.{NumFault}
 use Rattle.decimal_input.specs.Grammar.{Spelling, IsInteger}
 use Rattle.decimal_input.specs.Outcomes.{IsTrimmed, IsTested, IsCanonical, Names, differ}
 use Rattle.decimal_input.specs.Words.{spelt, integer_of}

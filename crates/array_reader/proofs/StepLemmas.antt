@@ -1,13 +1,7 @@
 -- The value of a free list's last word, and of its repeats.
-use Rattle.std.proofs.Common.{◌≡◌, ℕ, ◌-◌, List, Result, Ok, Err, refl, ap}
-use Rattle.decimal_input.specs.declared.dec.NumFault.{NumFault}
+use Rattle.array_reader.proofs.Common.{◌≡◌, ℕ, ◌-◌, List, Result, Ok, Err, refl, ap, NumFault, Left, ◌>>=◌, Taking, source, taken, next_value, FreeFault}
+use Rattle.array_reader.proofs.Common.{at_line, in_file, value_at, value_alone}
 use Rattle.outside.specs.declared.refusals.Refusal.{Refusal}
-use Rattle.record_lines.specs.Layout.{Left}
-use Rattle.record_lines.specs.Reading.{◌>>=◌}
-use Rattle.record_lines.specs.Spread.{Taking, source, taken, next_value}
-use Rattle.record_lines.specs.declared.free.FreeFault.{FreeFault}
-use Rattle.array_reader.specs.Items.{at_line}
-use Rattle.array_reader.specs.Lists.{in_file, value_at, value_alone}
 
 abbrev got : {X E : Type 0} → X → Result X E → X
 got x (Ok y) = y

@@ -1,16 +1,8 @@
 -- Arrays of numbers and of integers are read as written.
-use Rattle.std.proofs.Common.{◌≡◌, ◌^◌, ◌<◌, true, List, length, All, Ok, refl, arith, ℤ, pos, negsuc, ◌*ℤ◌, unsigned_abs}
-use Rattle.std.specs.Prelude.{codes}
-use Rattle.std.proofs.lemmas.Int.{ints}
-use Rattle.std.proofs.lemmas.List.Elements.{All-weaker}
-use Rattle.std.proofs.lemmas.Bool.Decides.{nat_tests}
-use Rattle.decimal_input.specs.declared.dec.Dec.{Dec}
-use Rattle.decimal_input.specs.Canonical.{IsDec}
-use Rattle.array_reader.specs.Numbers.{number, significant, zeros, canonical, integer, is_short, integer_product}
-use Rattle.array_reader.specs.Kinds.{scaled, integer_scaled, real, whole, multiplied}
-use Rattle.array_reader.specs.Arrays.{reals, layer_array, real_layer, integer_layer}
-use Rattle.array_text.specs.Words.{number_word, integer_word, IsShort}
-use Rattle.array_text.specs.Arrays.{real_array, integer_array}
+use Rattle.array_text.proofs.Common.{◌≡◌, ◌^◌, ◌<◌, true, List, length, All, Ok, refl, arith, ℤ, pos, negsuc, ◌*ℤ◌, unsigned_abs, codes, ints, All-weaker}
+use Rattle.array_text.proofs.Common.{nat_tests, Dec, IsDec, number, significant, zeros, canonical, integer, is_short, integer_product, scaled, integer_scaled}
+use Rattle.array_text.proofs.Common.{real, whole, multiplied, reals, layer_array, real_layer, integer_layer, number_word, integer_word, IsShort, real_array}
+use Rattle.array_text.proofs.Common.{integer_array}
 use Rattle.array_text.specs.Laws.{WritesLines, FreeListsReadAsWritten, ArraysReadAsWritten}
 use Rattle.array_text.proofs.NumberTexts.{short_exponent, number_reads, integer_reads, one, times_one}
 use Rattle.array_text.proofs.WordTexts.{number_is_word, integer_is_word}

@@ -1,12 +1,8 @@
 -- The decimal digits of a number spell it, and so do those of an integer.
-use Rattle.std.proofs.Common.{◌≡◌, ℕ, suc, ◌+◌, ◌-◌, ◌*◌, ◌/◌, ◌%◌, ◌^◌, ◌<◌, ◌≤◌, true, false, inl, inr, List, [], ◌∷◌, ◌++◌, length, refl, sym, ap, ◌∙◌, arith, ℤ, pos, negsuc, neg_ℤ, unsigned_abs}
-use Rattle.std.specs.Fmt.{decimal, signed_decimal}
+use Rattle.array_text.proofs.Common.{◌≡◌, ℕ, suc, ◌+◌, ◌-◌, ◌*◌, ◌/◌, ◌%◌, ◌^◌, ◌<◌, ◌≤◌, true, false, inl, inr, List, [], ◌∷◌, ◌++◌, length, refl, sym, ap}
+use Rattle.array_text.proofs.Common.{◌∙◌, arith, ℤ, pos, negsuc, neg_ℤ, unsigned_abs, decimal, signed_decimal, length_push, All-nil, All-cons, All-push}
+use Rattle.array_text.proofs.Common.{nat_tests, is_digit, number_from, AreDigits, IsInteger, number_append}
 use Rattle.std.proofs.lemmas.Fmt.{decimal_by_steps, length-decimal-le}
-use Rattle.std.proofs.lemmas.List.{length_push}
-use Rattle.std.proofs.lemmas.List.Elements.{All-nil, All-cons, All-push}
-use Rattle.std.proofs.lemmas.Bool.Decides.{nat_tests}
-use Rattle.decimal_input.specs.Grammar.{is_digit, number_from, AreDigits, IsInteger}
-use Rattle.decimal_input.proofs.Spelled.{number_append}
 
 -- at least one digit, which spell n
 pub record AreDigitsOf (n : ℕ) (ds : List ℕ) : Type 0 where

@@ -1,19 +1,10 @@
 -- A line of values is read as a free list of them, and lines of values as rows of them.
-use Rattle.std.proofs.Common.{◌≡◌, ℕ, suc, ◌≤◌, ◌==◌, false, List, [], ◌∷◌, ◌++◌, length, map, nat_lt, All, Some, Result, Ok, refl, ◌∙◌, arith}
-use Rattle.std.specs.List.{position_or_len}
-use Rattle.std.proofs.lemmas.List.{append-nil}
-use Rattle.std.proofs.lemmas.List.Elements.{All-head, All-tail, All-map, All-weaker}
-use Rattle.std.proofs.lemmas.Bool.Decides.{nat_tests}
-use Rattle.decimal_input.specs.declared.dec.NumFault.{NumFault}
-use Rattle.outside.specs.Words.{words}
-use Rattle.record_lines.specs.Layout.{Left, next_number}
-use Rattle.record_lines.specs.Reading.{repeated}
+use Rattle.array_text.proofs.Common.{◌≡◌, ℕ, suc, ◌≤◌, ◌==◌, false, List, [], ◌∷◌, ◌++◌, length, map, nat_lt, All, Some, Result, Ok, refl, ◌∙◌, arith}
+use Rattle.array_text.proofs.Common.{position_or_len, append-nil, All-head, All-tail, All-map, All-weaker, nat_tests, NumFault, words, Left, next_number}
+use Rattle.array_text.proofs.Common.{repeated, value_at, value_alone, free_list, IsWordByte, IsWord, Line, line_text, numbered_lines, number_after, unread}
+use Rattle.array_text.proofs.Common.{Reads, row_line}
 use Rattle.record_lines.specs.Spread.{Taking, beginning, spread, next_word, next_value}
 use Rattle.record_lines.proofs.WordLemmas.{word_found, goes_on}
-use Rattle.array_reader.specs.Lists.{value_at, value_alone, free_list}
-use Rattle.array_text.specs.Words.{IsWordByte, IsWord}
-use Rattle.array_text.specs.Lines.{Line, line_text, numbered_lines, number_after, unread, Reads}
-use Rattle.array_text.specs.Arrays.{row_line}
 use Rattle.array_text.proofs.WordTexts.{no_star}
 use Rattle.array_text.proofs.LineTexts.{line_words}
 

@@ -1,3 +1,4 @@
+mod Common
 pub mod DigitTexts
 pub mod NumberTexts
 pub mod WordTexts

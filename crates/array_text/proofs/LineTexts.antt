@@ -1,15 +1,9 @@
 -- A line has its words, and a text its lines.
-use Rattle.std.proofs.Common.{◌≡◌, ℕ, ◌≤◌, ◌==◌, true, false, List, [], ◌∷◌, ◌++◌, length, nat_lt, All, Ok, refl, ap, ◌∙◌, arith}
-use Rattle.std.specs.List.{join_with_byte}
+use Rattle.array_text.proofs.Common.{◌≡◌, ℕ, ◌≤◌, ◌==◌, true, false, List, [], ◌∷◌, ◌++◌, length, nat_lt, All, Ok, refl, ap, ◌∙◌, arith, join_with_byte}
+use Rattle.array_text.proofs.Common.{All-nil, All-cons, All-append, All-weaker, All-head, All-tail, nat_tests, is_separator, words, lines, has_word, left_from}
+use Rattle.array_text.proofs.Common.{next_number, line_at, IsWordByte, IsWord, Line, IsLine, line_text, text, numbered_lines, number_after, unread}
 use Rattle.std.proofs.lemmas.List.Splits.{slice_split_none, slice_split_at}
-use Rattle.std.proofs.lemmas.List.Elements.{All-nil, All-cons, All-append, All-weaker, All-head, All-tail}
-use Rattle.std.proofs.lemmas.Bool.Decides.{nat_tests}
-use Rattle.outside.specs.Words.{is_separator, words, lines}
-use Rattle.record_lines.specs.Layout.{has_word, left_from, next_number}
-use Rattle.record_lines.specs.Items.{line_at}
 use Rattle.record_lines.proofs.LeftLemmas.{left_word, left_nothing}
-use Rattle.array_text.specs.Words.{IsWordByte, IsWord}
-use Rattle.array_text.specs.Lines.{Line, IsLine, line_text, text, numbered_lines, number_after, unread}
 use Rattle.array_text.proofs.WordTexts.{no_separator, no_feed}
 
 is_some : (w : List ℕ) → IsWord w → nat_lt 0 (length w) ≡ true

@@ -1,16 +1,10 @@
 -- The word of a number is read as that number, also where it is multiplied by 1.
-use Rattle.std.proofs.Common.{◌≡◌, ℕ, ◌*◌, ◌%◌, ◌^◌, ◌<◌, ◌≤◌, ◌⊎◌, Bool, true, false, inl, inr, List, [], ◌∷◌, ◌++◌, length, Ok, refl, sym, ap, ◌∙◌, arith, ℤ, pos, negsuc, neg_ℤ, ◌+ℤ◌, ◌-ℤ◌, ◌≤ℤ◌, unsigned_abs}
-use Rattle.std.specs.Fmt.{decimal, signed_decimal}
-use Rattle.std.proofs.lemmas.List.{append-nil, length-append}
-use Rattle.std.proofs.lemmas.Int.{ints}
-use Rattle.decimal_input.specs.declared.dec.Dec.{Dec}
-use Rattle.decimal_input.specs.Canonical.{IsDec}
-use Rattle.decimal_input.specs.Grammar.{number_from, IsSign, IsExponent, Spells}
+use Rattle.array_text.proofs.Common.{◌≡◌, ℕ, ◌*◌, ◌%◌, ◌^◌, ◌<◌, ◌≤◌, ◌⊎◌, Bool, true, false, inl, inr, List, [], ◌∷◌, ◌++◌, length, Ok, refl, sym, ap, ◌∙◌}
+use Rattle.array_text.proofs.Common.{arith, ℤ, pos, negsuc, neg_ℤ, ◌+ℤ◌, ◌-ℤ◌, ◌≤ℤ◌, unsigned_abs, decimal, signed_decimal, append-nil, length-append, ints}
+use Rattle.array_text.proofs.Common.{Dec, IsDec, number_from, IsSign, IsExponent, Spells, names_read, reads_spelt, number, integer, product, sign, number_word}
+use Rattle.array_text.proofs.Common.{integer_word, IsShort}
 use Rattle.decimal_input.specs.Outcomes.{IsTested, IsCanonical, differ}
-use Rattle.decimal_input.proofs.Spelled.{names_read, reads_spelt}
-use Rattle.array_reader.specs.Numbers.{number, integer, product}
 use Rattle.array_reader.proofs.NumberLemmas.{is_word_number, is_product, integers_are}
-use Rattle.array_text.specs.Words.{sign, number_word, integer_word, IsShort}
 use Rattle.array_text.proofs.DigitTexts.{digits_spell, few_digits, integer_spells, few_bytes}
 
 is_sign : (neg : Bool) → IsSign neg (sign neg)

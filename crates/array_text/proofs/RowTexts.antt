@@ -1,20 +1,11 @@
 -- Lines of values are read as rows of them, and a control record with rows as an array.
-use Rattle.std.proofs.Common.{◌≡◌, ℕ, zero, suc, ◌*◌, ◌≤◌, List, [], ◌∷◌, ◌++◌, length, take, drop, All, Result, Ok, refl, arith}
-use Rattle.std.specs.Prelude.{codes}
-use Rattle.std.proofs.lemmas.List.{length-take-le, length-drop, length-map, take-append-drop, nil_from_length}
-use Rattle.std.proofs.lemmas.List.Elements.{All-nil, All-cons, All-take, All-drop}
-use Rattle.decimal_input.specs.declared.dec.NumFault.{NumFault}
+use Rattle.array_text.proofs.Common.{◌≡◌, ℕ, zero, suc, ◌*◌, ◌≤◌, List, [], ◌∷◌, ◌++◌, length, take, drop, All, Result, Ok, refl, arith, codes, length-take-le}
+use Rattle.array_text.proofs.Common.{length-drop, length-map, take-append-drop, nil_from_length, All-nil, All-cons, All-take, All-drop, NumFault, next_number}
+use Rattle.array_text.proofs.Common.{appended, word_at, Kind, multiplied, free_list, free_rows, array_at, without_line, Line, IsLine, number_after, unread}
+use Rattle.array_text.proofs.Common.{Reads, control_record, row_line, row_lines, array_lines}
 use Rattle.outside.specs.Files.{File}
-use Rattle.record_lines.specs.Layout.{next_number}
-use Rattle.record_lines.specs.Reading.{appended}
-use Rattle.record_lines.specs.Items.{word_at}
 use Rattle.array_reader.specs.Items.{number_at}
-use Rattle.array_reader.specs.Kinds.{Kind, multiplied}
-use Rattle.array_reader.specs.Lists.{free_list, free_rows}
 use Rattle.array_reader.specs.Control.{keyword, format_at, internal, internal_at, control_at}
-use Rattle.array_reader.specs.Arrays.{array_at, without_line}
-use Rattle.array_text.specs.Lines.{Line, IsLine, number_after, unread, Reads}
-use Rattle.array_text.specs.Arrays.{control_record, row_line, row_lines, array_lines}
 use Rattle.array_text.proofs.WordTexts.{line_by_test}
 use Rattle.array_text.proofs.LineTexts.{line_words, next_line}
 use Rattle.array_text.proofs.FreeTexts.{IsWrittenAs, row_is_words, free_list_reads}

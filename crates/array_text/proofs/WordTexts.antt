@@ -1,16 +1,9 @@
 -- What is written of numbers is words, and words have no byte that ends them.
-use Rattle.std.proofs.Common.{◌≡◌, ℕ, suc, ◌^◌, ◌<◌, ◌≤◌, ◌==◌, ◌&&◌, not, Bool, true, false, List, [], ◌∷◌, ◌++◌, length, nat_le, nat_lt, All, refl, arith, ℤ, pos, negsuc, unsigned_abs}
-use Rattle.std.specs.List.{list_all}
-use Rattle.std.specs.Fmt.{decimal, signed_decimal}
-use Rattle.std.proofs.lemmas.List.{length-append}
-use Rattle.std.proofs.lemmas.List.Elements.{All-nil, All-cons, All-append, All-weaker}
-use Rattle.std.proofs.lemmas.Bool.Decides.{nat_tests}
+use Rattle.array_text.proofs.Common.{◌≡◌, ℕ, suc, ◌^◌, ◌<◌, ◌≤◌, ◌==◌, ◌&&◌, not, Bool, true, false, List, [], ◌∷◌, ◌++◌, length, nat_le, nat_lt, All, refl}
+use Rattle.array_text.proofs.Common.{arith, ℤ, pos, negsuc, unsigned_abs, list_all, decimal, signed_decimal, length-append, All-nil, All-cons, All-append}
+use Rattle.array_text.proofs.Common.{All-weaker, nat_tests, Dec, is_digit, is_separator, sign, number_word, integer_word, IsShort, IsWordByte, IsWord, Line}
+use Rattle.array_text.proofs.Common.{IsLine}
 use Rattle.std.proofs.lemmas.Bool.{and_parts}
-use Rattle.decimal_input.specs.declared.dec.Dec.{Dec}
-use Rattle.decimal_input.specs.Grammar.{is_digit}
-use Rattle.outside.specs.Words.{is_separator}
-use Rattle.array_text.specs.Words.{sign, number_word, integer_word, IsShort, IsWordByte, IsWord}
-use Rattle.array_text.specs.Lines.{Line, IsLine}
 use Rattle.array_text.proofs.DigitTexts.{digits_spell}
 
 pub no_separator : (b : ℕ) → IsWordByte b → is_separator b ≡ false

@@ -1,22 +1,15 @@
 -- A problem has a barrier, or a first cause against one at the least cell that has it.
-use Rattle.std.proofs.Common.{◌≡◌, ℕ, ◌<◌, ◌≤◌, ◌⊎◌, inl, inr, refl, sym, subst, arith, List, length, map, ℤ, pos, neg_ℤ}
+use Rattle.barrier_or_refusal.proofs.Common.{◌≡◌, ℕ, ◌<◌, ◌≤◌, ◌⊎◌, inl, inr, refl, sym, subst, arith, List, length, map, ℤ, pos, neg_ℤ, cases_lt, ints}
+use Rattle.barrier_or_refusal.proofs.Common.{by_lt_z, Side, Low, High, IsProblem, head_limit, Entries, entries_at, IsBoundOn, HasNoBound, IsOutOfRange}
+use Rattle.barrier_or_refusal.proofs.Common.{LeavesRange, no_barrier_on, range_on, Nowhere, IsLeastWith, Names, IsRefusedOn, bound_one, has_a_bound}
 use Rattle.std.specs.List.{range_with_len}
-use Rattle.std.proofs.lemmas.Bool.{cases_lt}
-use Rattle.std.proofs.lemmas.Int.{ints, by_lt_z}
 use Rattle.std.proofs.lemmas.List.FromFn.{length-map-range_with_len, get_or-map-range_with_len}
-use Rattle.step_problem.specs.declared.heads.Side.{Side}
-use Rattle.step_problem.specs.declared.heads.Side.TheVariants.{Low, High}
 use Rattle.step_problem.specs.declared.place.NoBound.{NoBound}
 use Rattle.step_problem.specs.declared.place.Place.TheVariants.{Cell}
 use Rattle.step_problem.specs.StepRefusals.{number_of}
-use Rattle.step_problem.specs.Conditions.{IsProblem, head_limit}
-use Rattle.step_problem.specs.Entries.{Entries, entries_at}
 use Rattle.step_problem.specs.Heads.{head_at}
-use Rattle.barrier_vector.specs.Bounds.{IsBoundOn}
-use Rattle.barrier_vector.specs.Refusals.{HasNoBound, IsOutOfRange, LeavesRange, no_barrier_on, range_on, Nowhere, IsLeastWith, Names, IsRefusedOn}
 use Rattle.barrier_vector.specs.Tests.{IsWholeSide}
 use Rattle.barrier_vector.proofs.Sides.{bound_is_head}
-use Rattle.barrier_vector.proofs.Uniques.{bound_one, has_a_bound}
 use Rattle.barrier_or_refusal.specs.Laws.{BarrierOrRefusal}
 use Rattle.barrier_or_refusal.proofs.Bounds.{bound_or_none}
 use Rattle.barrier_or_refusal.proofs.Decided.{Decided, IsFirst, first_or_none}

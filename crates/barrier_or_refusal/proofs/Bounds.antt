@@ -1,15 +1,7 @@
 -- Each cell of a problem has a floor or a cause against one, and a ceiling or a cause against one.
-use Rattle.std.proofs.Common.{ℕ, ◌+◌, ◌<◌, ◌⊎◌, inl, inr, refl, arith, List, length, ℤ, pos, ◌-ℤ◌}
-use Rattle.std.proofs.lemmas.Bool.{cases_lt}
-use Rattle.step_problem.specs.declared.heads.Side.{Side}
-use Rattle.step_problem.specs.declared.heads.Side.TheVariants.{Low, High}
-use Rattle.step_problem.specs.Conditions.{IsProblem}
-use Rattle.step_problem.specs.Entries.{Entries, entries_at}
-use Rattle.barrier_vector.specs.Bounds.{anchor_on, AnchorRoot, IsUnanchored, moved_out, IsAnchoredBound, IsBoundOn}
-use Rattle.barrier_vector.specs.Lacks.{need}
-use Rattle.barrier_vector.specs.Paths.{ceil_over, IsPath}
-use Rattle.barrier_vector.specs.Refusals.{HasNoBound}
-use Rattle.barrier_vector.proofs.Backs.{reaches_within}
+use Rattle.barrier_or_refusal.proofs.Common.{ℕ, ◌+◌, ◌<◌, ◌⊎◌, inl, inr, refl, arith, List, length, ℤ, pos, ◌-ℤ◌, cases_lt, Side, Low, High, IsProblem, Entries}
+use Rattle.barrier_or_refusal.proofs.Common.{entries_at, anchor_on, AnchorRoot, IsUnanchored, moved_out, IsAnchoredBound, IsBoundOn, need, ceil_over, IsPath}
+use Rattle.barrier_or_refusal.proofs.Common.{HasNoBound, reaches_within}
 use Rattle.barrier_or_refusal.proofs.Bases.{base}
 use Rattle.barrier_or_refusal.proofs.Components.{carried_decided, inner_path, longest}
 use Rattle.barrier_or_refusal.proofs.Decided.{Decided, first_or_none}

@@ -1,15 +1,8 @@
 -- What a component of a problem has: a test, its sum of deep flows, a least cell, and a longest path to that cell.
-use Rattle.std.proofs.Common.{◌≡◌, ℕ, zero, suc, ◌<◌, ◌≤◌, ◌⊎◌, inl, inr, refl, ap, subst, arith, List, length, Bool, cond, ℤ, pos, ◌<ℤ◌, ◌≤ℤ◌}
-use Rattle.std.proofs.lemmas.Bool.{cases_lt}
-use Rattle.std.proofs.lemmas.Int.{ints, by_lt_z}
-use Rattle.step_problem.specs.Conditions.{IsProblem}
-use Rattle.step_problem.specs.Entries.{Entries, entries_at}
-use Rattle.cell_balance.specs.Components.{IsComponent, IsCarried, sum_inside, deep_low}
+use Rattle.barrier_or_refusal.proofs.Common.{◌≡◌, ℕ, zero, suc, ◌<◌, ◌≤◌, ◌⊎◌, inl, inr, refl, ap, subst, arith, List, length, Bool, cond, ℤ, pos, ◌<ℤ◌, ◌≤ℤ◌}
+use Rattle.barrier_or_refusal.proofs.Common.{cases_lt, ints, by_lt_z, IsProblem, Entries, entries_at, IsComponent, IsCarried, sum_inside, deep_low, LeastRoot}
+use Rattle.barrier_or_refusal.proofs.Common.{IsInnerPath, IsLongest, lack, reaches_within, inner_one}
 use Rattle.cell_balance.proofs.Sums.{sum-same}
-use Rattle.barrier_vector.specs.Bounds.{LeastRoot, IsInnerPath, IsLongest}
-use Rattle.barrier_vector.specs.Lacks.{lack}
-use Rattle.barrier_vector.proofs.Backs.{reaches_within}
-use Rattle.barrier_vector.proofs.Uniques.{inner_one}
 use Rattle.barrier_or_refusal.proofs.Decided.{Decided, test_of, test_true, true_test, first_or_none}
 use Rattle.barrier_or_refusal.proofs.Ways.{LeadTo, join, leading_decided}
 use Rattle.barrier_or_refusal.proofs.RootPaths.{path}

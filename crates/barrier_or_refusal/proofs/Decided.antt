@@ -1,6 +1,6 @@
 -- Searches that end: the first of finitely many numbers with a property, any or the least entry of a list, or none.
-use Rattle.std.proofs.Common.{◌≡◌, ℕ, zero, suc, ◌<◌, ◌≤◌, ◌⊎◌, inl, inr, refl, subst, arith, List, [], ◌∷◌, Contains, Bool, true, false}
-use Rattle.std.proofs.lemmas.Bool.{cases_lt}
+use Rattle.barrier_or_refusal.proofs.Common.{◌≡◌, ℕ, zero, suc, ◌<◌, ◌≤◌, ◌⊎◌, inl, inr, refl, subst, arith, List, [], ◌∷◌, Contains, Bool, true, false}
+use Rattle.barrier_or_refusal.proofs.Common.{cases_lt}
 
 -- P holds, or it doesn't
 abbrev pub Decided : Type 0 → Type 0

@@ -1,3 +1,4 @@
+mod Common
 pub mod Decided
 pub mod Ways
 pub mod RootPaths

@@ -1,9 +1,6 @@
 -- A cell from which links lead to a root has a level, a parent and a path.
-use Rattle.std.proofs.Common.{ℕ, zero, suc, ◌+◌, inl, inr, refl, sym, subst, arith, List, Contains}
-use Rattle.std.proofs.lemmas.Bool.{cases_lt}
-use Rattle.step_problem.specs.declared.entry.Link.{Link}
-use Rattle.step_problem.specs.Entries.{Entries, entries_at}
-use Rattle.barrier_vector.specs.Paths.{ceil_over, LeadsToRoot, IsLevel, SumsTo, IsPath}
+use Rattle.barrier_or_refusal.proofs.Common.{ℕ, zero, suc, ◌+◌, inl, inr, refl, sym, subst, arith, List, Contains, cases_lt, Link, Entries, entries_at}
+use Rattle.barrier_or_refusal.proofs.Common.{ceil_over, LeadsToRoot, IsLevel, SumsTo, IsPath}
 use Rattle.barrier_or_refusal.proofs.Decided.{Decided, first_or_none, any_of, least_of}
 
 module _ (p : List Entries) (q : ℕ) (Root : ℕ → ℕ → Type 0) (root_or_not : (c : ℕ) → Decided ((d : ℕ) × Root c d)) where

@@ -1,11 +1,6 @@
 -- Whether links lead from one cell of a problem to another is decided: by ways through ever more cells.
-use Rattle.std.proofs.Common.{◌≡◌, ℕ, zero, suc, ◌<◌, ◌⊎◌, inl, inr, refl, subst, arith, List, length, Contains}
-use Rattle.std.proofs.lemmas.Bool.{cases_eq}
-use Rattle.step_problem.specs.declared.entry.Link.{Link}
-use Rattle.step_problem.specs.Conditions.{IsProblem}
-use Rattle.step_problem.specs.Entries.{Entries, entries_at}
-use Rattle.cell_balance.specs.Components.{Reaches}
-use Rattle.barrier_vector.proofs.Backs.{leads_within, join_ways}
+use Rattle.barrier_or_refusal.proofs.Common.{◌≡◌, ℕ, zero, suc, ◌<◌, ◌⊎◌, inl, inr, refl, subst, arith, List, length, Contains, cases_eq, Link, IsProblem}
+use Rattle.barrier_or_refusal.proofs.Common.{Entries, entries_at, Reaches, leads_within, join_ways}
 use Rattle.barrier_or_refusal.proofs.Decided.{Decided, any_of}
 
 -- links lead from cell a to cell b, and cells below k alone lie between them

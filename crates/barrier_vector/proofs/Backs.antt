@@ -1,12 +1,6 @@
 -- Links lead back, so that ways can be turned round and joined.
-use Rattle.std.proofs.Common.{◌≡◌, ℕ, zero, suc, ◌+◌, ◌<◌, inl, inr, refl, sym, subst, arith, List, length, Contains}
-use Rattle.std.proofs.lemmas.Bool.{cases_lt}
-use Rattle.std.proofs.lemmas.List.{get_or_past}
-use Rattle.std.proofs.lemmas.List.Elements.{All-contains}
-use Rattle.step_problem.specs.declared.entry.Link.{Link}
-use Rattle.step_problem.specs.Entries.{Entries, entries_at, no_entries}
-use Rattle.step_problem.specs.Conditions.{IsProblem, LinkFits}
-use Rattle.cell_balance.specs.Components.{Reaches}
+use Rattle.barrier_vector.proofs.Common.{◌≡◌, ℕ, zero, suc, ◌+◌, ◌<◌, inl, inr, refl, sym, subst, arith, List, length, Contains, cases_lt, get_or_past}
+use Rattle.barrier_vector.proofs.Common.{All-contains, Link, Entries, entries_at, no_entries, IsProblem, LinkFits, Reaches}
 
 -- a cell with an entry is a cell of the problem
 pub has_links : (p : List Entries) (c : ℕ) (x : Link) → Contains (entries_at p c).links x → c < length p

@@ -1,18 +1,8 @@
 -- The base of either side is a head; cut paths; lists of bounds.
-use Rattle.std.proofs.Common.{◌≡◌, ℕ, ◌+◌, ◌<◌, ◌≤◌, inl, inr, sym, ◌∙◌, ap, subst, arith, List, [], ◌∷◌, ◌++◌, length, min, Option, None, Some, slice_index, ℤ, pos}
-use Rattle.std.specs.Int.{int_max}
-use Rattle.std.proofs.lemmas.Bool.{cases_lt}
-use Rattle.std.proofs.lemmas.Int.{ints, clamps}
-use Rattle.std.proofs.lemmas.List.Elements.{All-contains}
-use Rattle.step_problem.specs.declared.heads.Side.{Side}
-use Rattle.step_problem.specs.declared.heads.Side.TheVariants.{Low, High}
-use Rattle.step_problem.specs.Entries.{Entries, entries_at}
-use Rattle.step_problem.specs.Conditions.{IsProblem, IsHead, CellFits, FixedFits, RiverFits, DrainFits}
-use Rattle.barrier_vector.specs.Marks.{IsCellMark, IsBase}
-use Rattle.barrier_vector.specs.Spreads.{mark_at}
-use Rattle.barrier_vector.specs.Searches.{path_limit}
-use Rattle.barrier_vector.specs.Labels.{AreLabels, IsGreatestOf}
-use Rattle.barrier_vector.specs.Roots.{bound_at}
+use Rattle.barrier_vector.proofs.Common.{◌≡◌, ℕ, ◌+◌, ◌<◌, ◌≤◌, inl, inr, sym, ◌∙◌, ap, subst, arith, List, [], ◌∷◌, ◌++◌, length, min, Option, None, Some}
+use Rattle.barrier_vector.proofs.Common.{slice_index, ℤ, pos, int_max, cases_lt, ints, clamps, All-contains, Side, Low, High, Entries, entries_at, IsProblem}
+use Rattle.barrier_vector.proofs.Common.{IsHead, CellFits, FixedFits, RiverFits, DrainFits, IsCellMark, IsBase, mark_at, path_limit, AreLabels, IsGreatestOf}
+use Rattle.barrier_vector.proofs.Common.{bound_at}
 use Rattle.barrier_vector.proofs.Backs.{reaches_within, turn_way}
 use Rattle.barrier_vector.proofs.Marking.{some_is}
 use Rattle.barrier_vector.proofs.Starting.{push_before, push_last}

@@ -1,21 +1,9 @@
 -- Paths for a flow that is capped at 2 ^ 126. Where the flow is greater, each drop leaves the range of heads, capped or not: so paths that are cut off there stay the same.
-use Rattle.std.proofs.Common.{◌≡◌, ℕ, zero, suc, ◌+◌, ◌<◌, ◌≤◌, ◌^◌, inl, inr, refl, ◌∙◌, ap, arith, List, min, Contains, le-div_iff_mul-le}
-use Rattle.std.proofs.lemmas.Bool.{cases_lt}
-use Rattle.std.proofs.lemmas.List.Elements.{All-contains}
-use Rattle.std.proofs.lemmas.List.Sums.{get_or-le-sum_by}
+use Rattle.barrier_vector.proofs.Common.{◌≡◌, ℕ, zero, suc, ◌+◌, ◌<◌, ◌≤◌, ◌^◌, inl, inr, refl, ◌∙◌, ap, arith, List, min, Contains, le-div_iff_mul-le}
+use Rattle.barrier_vector.proofs.Common.{cases_lt, All-contains, get_or-le-sum_by, Link, Fixed, River, Drain, Side, Low, High, Entries, entries_at, IsProblem}
+use Rattle.barrier_vector.proofs.Common.{CellFits, LinkFits, FixedFits, RiverFits, DrainFits, greatest, anchor_on, AnchorRoot, capped_flow, ceil_over}
+use Rattle.barrier_vector.proofs.Common.{LeadsToRoot, IsLevel, IsParent, SumsTo, IsPath, path_limit}
 use Rattle.std.specs.Prelude.{sum_by}
-use Rattle.step_problem.specs.declared.entry.Link.{Link}
-use Rattle.step_problem.specs.declared.entry.Fixed.{Fixed}
-use Rattle.step_problem.specs.declared.entry.River.{River}
-use Rattle.step_problem.specs.declared.entry.Drain.{Drain}
-use Rattle.step_problem.specs.declared.heads.Side.{Side}
-use Rattle.step_problem.specs.declared.heads.Side.TheVariants.{Low, High}
-use Rattle.step_problem.specs.Entries.{Entries, entries_at}
-use Rattle.step_problem.specs.Conditions.{IsProblem, CellFits, LinkFits, FixedFits, RiverFits, DrainFits}
-use Rattle.barrier_vector.specs.Bounds.{greatest, anchor_on, AnchorRoot}
-use Rattle.barrier_vector.specs.Lacks.{capped_flow}
-use Rattle.barrier_vector.specs.Paths.{ceil_over, LeadsToRoot, IsLevel, IsParent, SumsTo, IsPath}
-use Rattle.barrier_vector.specs.Searches.{path_limit}
 use Rattle.barrier_vector.proofs.Backs.{has_links, conducts}
 use Rattle.barrier_vector.proofs.Rooting.{greatest_has}
 

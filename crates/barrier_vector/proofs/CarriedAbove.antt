@@ -1,16 +1,7 @@
 -- Some cell of a carried component lies at the base or above.
-use Rattle.std.proofs.Common.{◌≡◌, ℕ, zero, suc, ◌<◌, ◌⊎◌, inl, inr, refl, sym, ap, ◌∙◌, subst, arith, ℤ, pos, ◌*ℤ◌, ◌≤ℤ◌, List, length, Bool, true, false}
-use Rattle.std.specs.List.{AllZip}
-use Rattle.std.proofs.lemmas.Bool.{cases_lt, false≢true}
-use Rattle.std.proofs.lemmas.Int.{by_lt_z}
-use Rattle.step_problem.specs.declared.heads.Side.TheVariants.{Low}
-use Rattle.step_problem.specs.Entries.{Entries}
-use Rattle.cell_balance.specs.Components.{IsCarried}
-use Rattle.cell_balance.proofs.Cancel.{IsMutual}
-use Rattle.cell_balance.proofs.Spread.{carried_not_dry}
-use Rattle.cell_balance.proofs.Whole.{WholeCell, whole_at, whole_balance}
-use Rattle.cell_balance.proofs.Within.{CellWithin}
-use Rattle.barrier_vector.specs.Marks.{IsMarkBelow}
+use Rattle.barrier_vector.proofs.Common.{◌≡◌, ℕ, zero, suc, ◌<◌, ◌⊎◌, inl, inr, refl, sym, ap, ◌∙◌, subst, arith, ℤ, pos, ◌*ℤ◌, ◌≤ℤ◌, List, length, Bool, true}
+use Rattle.barrier_vector.proofs.Common.{false, AllZip, cases_lt, false≢true, by_lt_z, Low, Entries, IsCarried, IsMutual, carried_not_dry, WholeCell, whole_at}
+use Rattle.barrier_vector.proofs.Common.{whole_balance, CellWithin, IsMarkBelow}
 use Rattle.barrier_vector.proofs.FloorsLinks.{base_dry}
 use Rattle.barrier_vector.proofs.FloorsSteps.{weak}
 

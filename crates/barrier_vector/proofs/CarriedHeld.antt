@@ -1,9 +1,5 @@
 -- A problem whose cells all have floors is held below.
-use Rattle.std.proofs.Common.{ℕ, ◌⊎◌, inl, inr, ℤ, List}
-use Rattle.step_problem.specs.Entries.{Entries}
-use Rattle.cell_balance.specs.Components.{Leads, IsCarried}
-use Rattle.barrier_vector.specs.Bounds.{IsFloor}
-use Rattle.barrier_vector.specs.Laws.{FloorsHold}
+use Rattle.barrier_vector.proofs.Common.{ℕ, ◌⊎◌, inl, inr, ℤ, List, Entries, Leads, IsCarried, IsFloor, FloorsHold}
 use Rattle.barrier_vector.proofs.Rooting.{anchored_by}
 
 pub held_cell : (p : List Entries) (c : ℕ) (f : ℤ) → IsFloor p c f → ((j : ℕ) × Leads p j c) ⊎ IsCarried p c

@@ -1,13 +1,6 @@
 -- In a component that has a least cell, each cell has a path to it.
-use Rattle.std.proofs.Common.{◌≡◌, ℕ, zero, suc, ◌+◌, ◌<◌, ◌≤◌, ◌⊎◌, inl, inr, refl, sym, subst, arith, List, [], ◌∷◌, Contains}
-use Rattle.std.proofs.lemmas.Bool.{cases_lt, cases_eq}
-use Rattle.step_problem.specs.declared.entry.Link.{Link}
-use Rattle.step_problem.specs.Entries.{Entries, entries_at}
-use Rattle.step_problem.specs.Conditions.{IsProblem}
-use Rattle.cell_balance.specs.Components.{Reaches}
-use Rattle.barrier_vector.specs.Paths.{ceil_over, LeadsToRoot, IsLevel, SumsTo}
-use Rattle.barrier_vector.specs.Bounds.{LeastRoot, IsInnerPath}
-use Rattle.barrier_vector.specs.Lacks.{lack}
+use Rattle.barrier_vector.proofs.Common.{◌≡◌, ℕ, zero, suc, ◌+◌, ◌<◌, ◌≤◌, ◌⊎◌, inl, inr, refl, sym, subst, arith, List, [], ◌∷◌, Contains, cases_lt, cases_eq}
+use Rattle.barrier_vector.proofs.Common.{Link, Entries, entries_at, IsProblem, Reaches, ceil_over, LeadsToRoot, IsLevel, SumsTo, LeastRoot, IsInnerPath, lack}
 use Rattle.barrier_vector.proofs.Backs.{join_ways, turn_way, back}
 
 -- a list has an element with a property, the least by a measure, or none

@@ -1,20 +1,9 @@
 -- What the floors of carried components are made of, from labels, a search, sums and maxima.
-use Rattle.std.proofs.Common.{◌≡◌, ℕ, zero, suc, ◌+◌, ◌<◌, ◌≤◌, ◌⊎◌, inl, inr, refl, sym, ◌∙◌, ap, subst, arith, List, length, min, Option, None, Some, Bool, true, false, cond, slice_index, ℤ, pos, ◌-ℤ◌, ◌≤ℤ◌, ◌<ℤ◌}
-use Rattle.std.proofs.lemmas.Bool.{cases_lt}
-use Rattle.std.proofs.lemmas.Int.{ints, clamps}
-use Rattle.step_problem.specs.Entries.{Entries, entries_at}
-use Rattle.step_problem.specs.Conditions.{IsProblem, IsHead}
-use Rattle.cell_balance.specs.Components.{IsComponent, sum_inside, deep_low}
-use Rattle.cell_balance.proofs.Sums.{sum-same}
-use Rattle.step_problem.specs.declared.heads.Side.TheVariants.{Low}
-use Rattle.barrier_vector.specs.Marks.{IsBase}
-use Rattle.barrier_vector.specs.Lacks.{lack, capped_flow}
-use Rattle.barrier_vector.specs.Bounds.{LeastRoot, IsInnerPath, IsLongest, IsUnanchored}
-use Rattle.barrier_vector.specs.Spreads.{mark_at}
-use Rattle.barrier_vector.specs.Searches.{path_limit, ListRoot, IsSearched}
-use Rattle.barrier_vector.specs.Labels.{AreLabels, is_label, labelled, number_at, sum_at, IsGreatestOf}
-use Rattle.barrier_vector.specs.declared.gathered.FlowSum.{FlowSum}
-use Rattle.barrier_vector.specs.Roots.{SelfRoot, AreRoots, AreComponents, cut_on, IsBoundOrNone}
+use Rattle.barrier_vector.proofs.Common.{◌≡◌, ℕ, zero, suc, ◌+◌, ◌<◌, ◌≤◌, ◌⊎◌, inl, inr, refl, sym, ◌∙◌, ap, subst, arith, List, length, min, Option, None}
+use Rattle.barrier_vector.proofs.Common.{Some, Bool, true, false, cond, slice_index, ℤ, pos, ◌-ℤ◌, ◌≤ℤ◌, ◌<ℤ◌, cases_lt, ints, clamps, Entries, entries_at}
+use Rattle.barrier_vector.proofs.Common.{IsProblem, IsHead, IsComponent, sum_inside, deep_low, sum-same, Low, IsBase, lack, capped_flow, LeastRoot, IsInnerPath}
+use Rattle.barrier_vector.proofs.Common.{IsLongest, IsUnanchored, mark_at, path_limit, ListRoot, IsSearched, AreLabels, is_label, labelled, number_at, sum_at}
+use Rattle.barrier_vector.proofs.Common.{IsGreatestOf, FlowSum, SelfRoot, AreRoots, AreComponents, cut_on, IsBoundOrNone}
 use Rattle.barrier_vector.proofs.Backs.{reaches_within, turn_way, join_ways}
 use Rattle.barrier_vector.proofs.Levels.{marked_or_not, marked_within}
 use Rattle.barrier_vector.proofs.Labelling.{along}

@@ -1,23 +1,8 @@
 -- No solution lies above a ceiling.
-use Rattle.std.proofs.Common.{◌≡◌, ℕ, zero, suc, ◌*◌, ◌^◌, ◌<◌, ◌≤◌, ◌⊎◌, inl, inr, arith, ℤ, pos, ◌+ℤ◌, ◌*ℤ◌, ◌≤ℤ◌, List, length, max, Contains}
-use Rattle.std.specs.List.{AllZip}
-use Rattle.std.proofs.lemmas.Bool.{cases_lt}
-use Rattle.std.proofs.lemmas.Int.{ints}
-use Rattle.step_problem.specs.declared.entry.Fixed.{Fixed}
-use Rattle.step_problem.specs.declared.entry.River.{River}
-use Rattle.step_problem.specs.declared.entry.Drain.{Drain}
-use Rattle.step_problem.specs.declared.heads.Side.TheVariants.{High}
-use Rattle.step_problem.specs.Entries.{Entries, entries_at}
-use Rattle.step_problem.specs.Conditions.{IsProblem}
-use Rattle.cell_balance.proofs.Totals.{add_mul}
-use Rattle.cell_balance.proofs.Cancel.{IsMutual}
-use Rattle.cell_balance.proofs.Whole.{WholeCell, whole_at, whole_balance}
-use Rattle.cell_balance.proofs.Within.{CellWithin}
-use Rattle.barrier_vector.specs.Marks.{IsMarkBelow}
-use Rattle.barrier_vector.specs.Lacks.{surplus}
-use Rattle.barrier_vector.specs.Paths.{ceil_over, SumsTo}
-use Rattle.barrier_vector.specs.Bounds.{greatest, anchor_on, AnchorRoot, IsCeiling}
-use Rattle.barrier_vector.specs.Laws.{CeilingsEnclose}
+use Rattle.barrier_vector.proofs.Common.{◌≡◌, ℕ, zero, suc, ◌*◌, ◌^◌, ◌<◌, ◌≤◌, ◌⊎◌, inl, inr, arith, ℤ, pos, ◌+ℤ◌, ◌*ℤ◌, ◌≤ℤ◌, List, length, max, Contains}
+use Rattle.barrier_vector.proofs.Common.{AllZip, cases_lt, ints, Fixed, River, Drain, High, Entries, entries_at, IsProblem, add_mul, IsMutual, WholeCell}
+use Rattle.barrier_vector.proofs.Common.{whole_at, whole_balance, CellWithin, IsMarkBelow, surplus, ceil_over, SumsTo, greatest, anchor_on, AnchorRoot}
+use Rattle.barrier_vector.proofs.Common.{IsCeiling, CeilingsEnclose}
 use Rattle.barrier_vector.proofs.Backs.{leads_within, conducts}
 use Rattle.barrier_vector.proofs.FloorsWhole.{whole_head, whole_solution, high_back}
 use Rattle.barrier_vector.proofs.FloorsSteps.{ceil_enough, joined_high}

@@ -1,17 +1,9 @@
 -- What leaves the cells above a head that is not below the base of the high side: each cut link and each entry carries at most what flows into all cells in excess.
-use Rattle.std.proofs.Common.{◌≡◌, ℕ, ◌<◌, ◌⊎◌, inl, inr, refl, ◌∙◌, arith, ℤ, pos, neg_ℤ, ◌+ℤ◌, ◌-ℤ◌, ◌≤ℤ◌, ◌<ℤ◌, List, length, Bool, true, false, cond}
-use Rattle.std.specs.Int.{int_max, int_min}
-use Rattle.std.proofs.lemmas.Int.{ints, clamps}
+use Rattle.barrier_vector.proofs.Common.{◌≡◌, ℕ, ◌<◌, ◌⊎◌, inl, inr, refl, ◌∙◌, arith, ℤ, pos, neg_ℤ, ◌+ℤ◌, ◌-ℤ◌, ◌≤ℤ◌, ◌<ℤ◌, List, length, Bool, true, false}
+use Rattle.barrier_vector.proofs.Common.{cond, int_max, int_min, ints, clamps, lt_z, total, mul_nonneg, mul_neg, sum_inside, total_nonneg, total_neg, sum-same}
+use Rattle.barrier_vector.proofs.Common.{sum-add, sum-neg, sum-zero, term-le-sum, IsMutual, cut_link, cut_links, WholeLink, WholeFixed, WholeRiver, WholeDrain}
+use Rattle.barrier_vector.proofs.Common.{WholeEvap, WholeCell, whole_link, whole_fixed, whole_river, whole_drain, whole_evap, whole_balance, whole_at}
 use Rattle.std.proofs.Math.IntN.{zero-*ℤ}
-use lib.Signed.{lt_z}
-use Rattle.step_problem.specs.Flows.{total}
-use Rattle.step_problem.proofs.Ring.{mul_nonneg}
-use Rattle.step_problem.proofs.Leasts.{mul_neg}
-use Rattle.cell_balance.specs.Components.{sum_inside}
-use Rattle.cell_balance.proofs.Totals.{total_nonneg, total_neg}
-use Rattle.cell_balance.proofs.Sums.{sum-same, sum-add, sum-neg, sum-zero, term-le-sum}
-use Rattle.cell_balance.proofs.Cancel.{IsMutual, cut_link, cut_links}
-use Rattle.cell_balance.proofs.Whole.{WholeLink, WholeFixed, WholeRiver, WholeDrain, WholeEvap, WholeCell, whole_link, whole_fixed, whole_river, whole_drain, whole_evap, whole_balance, whole_at}
 use Rattle.barrier_vector.proofs.FloorsDry.{IsWet}
 use Rattle.barrier_vector.proofs.FloorsEnter.{test_true}
 

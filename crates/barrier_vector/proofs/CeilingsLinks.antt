@@ -1,30 +1,10 @@
 -- One link and one anchor of the high side: a head rises by at most what pays for all cells' excess of flow.
-use Rattle.std.proofs.Common.{◌≡◌, ℕ, ◌*◌, ◌<◌, ◌≤◌, ◌⊎◌, inl, inr, subst, arith, ℤ, pos, negsuc, neg_ℤ, ◌+ℤ◌, ◌-ℤ◌, ◌*ℤ◌, ◌≤ℤ◌, ◌<ℤ◌, List, length, All, Contains, Bool, true, false, cond}
-use Rattle.std.specs.Int.{int_max}
-use Rattle.std.specs.List.{AllZip}
-use Rattle.std.proofs.lemmas.List.{take_all}
-use Rattle.std.proofs.lemmas.List.Elements.{All-contains}
-use Rattle.std.proofs.lemmas.Int.{ints, clamps, by_lt_z}
-use Rattle.step_problem.specs.declared.entry.Link.{Link}
-use Rattle.step_problem.specs.declared.entry.Fixed.{Fixed}
-use Rattle.step_problem.specs.declared.entry.River.{River}
-use Rattle.step_problem.specs.declared.entry.Drain.{Drain}
-use Rattle.step_problem.specs.declared.heads.Side.TheVariants.{High}
-use Rattle.step_problem.specs.Entries.{Entries, entries_at}
-use Rattle.step_problem.specs.Flows.{total}
-use Rattle.step_problem.proofs.Ring.{mul_nonneg}
-use Rattle.step_problem.proofs.Leasts.{mul_neg}
-use Rattle.cell_balance.specs.Components.{sum_below}
-use Rattle.cell_balance.proofs.Totals.{le_trans_z, same_z, total_more, total_neg}
-use Rattle.cell_balance.proofs.Zips.{AllZip-length}
-use Rattle.cell_balance.proofs.Products.{conducting}
-use Rattle.cell_balance.proofs.Cancel.{IsMutual, cut_link}
-use Rattle.cell_balance.proofs.Mutual.{no_whole_link}
-use Rattle.cell_balance.proofs.Spread.{cell_within}
-use Rattle.cell_balance.proofs.Whole.{WholeCell, WholeRiver, WholeDrain, whole_at, whole_balance, whole_fixed, whole_river, whole_drain}
-use Rattle.cell_balance.proofs.Within.{CellWithin, FlowWithin, LinkWithin, FixedWithin, RiverWithin, DrainWithin}
-use Rattle.barrier_vector.specs.Marks.{IsMarkBelow}
-use Rattle.barrier_vector.specs.Lacks.{surplus, positive_part, high_flow}
+use Rattle.barrier_vector.proofs.Common.{◌≡◌, ℕ, ◌*◌, ◌<◌, ◌≤◌, ◌⊎◌, inl, inr, subst, arith, ℤ, pos, negsuc, neg_ℤ, ◌+ℤ◌, ◌-ℤ◌, ◌*ℤ◌, ◌≤ℤ◌, ◌<ℤ◌, List, length}
+use Rattle.barrier_vector.proofs.Common.{All, Contains, Bool, true, false, cond, int_max, AllZip, take_all, All-contains, ints, clamps, by_lt_z, Link, Fixed}
+use Rattle.barrier_vector.proofs.Common.{River, Drain, High, Entries, entries_at, total, mul_nonneg, mul_neg, sum_below, le_trans_z, same_z, total_more}
+use Rattle.barrier_vector.proofs.Common.{total_neg, AllZip-length, conducting, IsMutual, cut_link, no_whole_link, cell_within, WholeCell, WholeRiver}
+use Rattle.barrier_vector.proofs.Common.{WholeDrain, whole_at, whole_balance, whole_fixed, whole_river, whole_drain, CellWithin, FlowWithin, LinkWithin}
+use Rattle.barrier_vector.proofs.Common.{FixedWithin, RiverWithin, DrainWithin, IsMarkBelow, surplus, positive_part, high_flow}
 use Rattle.barrier_vector.proofs.FloorsSums.{limited_sum, AllZip-has, term-le-total}
 use Rattle.barrier_vector.proofs.FloorsDry.{IsWet, cell_wet, IsWet-higher}
 use Rattle.barrier_vector.proofs.FloorsLinks.{no_whole_fixed, test_false}

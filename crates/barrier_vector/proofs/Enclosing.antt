@@ -1,13 +1,7 @@
 -- What a barrier's floors and ceilings give to its caller.
-use Rattle.std.proofs.Common.{ℕ, ◌<◌, ℤ, List, length}
-use Rattle.step_problem.specs.Entries.{Entries}
-use Rattle.step_problem.specs.Conditions.{IsProblem}
-use Rattle.cell_balance.specs.Steps.{ExactCell}
+use Rattle.barrier_vector.proofs.Common.{ℕ, ◌<◌, ℤ, List, length, Entries, IsProblem, ExactCell, SolvesStep, LiesBetween, IsHeldBelow, IsFloor, IsCeiling}
+use Rattle.barrier_vector.proofs.Common.{IsSolution}
 use Rattle.cell_balance.specs.Enclosures.{EnclosesStep}
-use Rattle.cell_balance.specs.Solutions.{SolvesStep, LiesBetween}
-use Rattle.cell_balance.specs.Components.{IsHeldBelow}
-use Rattle.barrier_vector.specs.Bounds.{IsFloor, IsCeiling}
-use Rattle.barrier_vector.specs.Laws.{IsSolution}
 use Rattle.barrier_vector.proofs.Floors.{floors_enclose}
 use Rattle.barrier_vector.proofs.Ceilings.{ceilings_enclose}
 use Rattle.barrier_vector.proofs.CarriedHeld.{held_cell}

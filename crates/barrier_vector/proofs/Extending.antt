@@ -1,12 +1,7 @@
 -- The paths of a frontier's cells, one after another, from those of the level before.
-use Rattle.std.proofs.Common.{◌≡◌, ℕ, ◌+◌, ◌<◌, inl, inr, refl, sym, ◌∙◌, ap, subst, arith, List, length, All, Contains, min, Option, Some, set, slice_index, get_or-set_same, get_or-set_other}
-use Rattle.std.proofs.lemmas.Bool.{cases_eq, cases_lt}
-use Rattle.std.proofs.lemmas.List.{get_or_default}
-use Rattle.std.proofs.lemmas.List.Elements.{Contains-get_or}
-use Rattle.step_problem.specs.Entries.{Entries}
-use Rattle.barrier_vector.specs.Paths.{ceil_over}
-use Rattle.barrier_vector.specs.Spreads.{mark_at}
-use Rattle.barrier_vector.specs.Searches.{path_limit, ContinuesTo}
+use Rattle.barrier_vector.proofs.Common.{◌≡◌, ℕ, ◌+◌, ◌<◌, inl, inr, refl, sym, ◌∙◌, ap, subst, arith, List, length, All, Contains, min, Option, Some, set}
+use Rattle.barrier_vector.proofs.Common.{slice_index, get_or-set_same, get_or-set_other, cases_eq, cases_lt, get_or_default, Contains-get_or, Entries}
+use Rattle.barrier_vector.proofs.Common.{ceil_over, mark_at, path_limit, ContinuesTo}
 
 -- where in a list a number stands
 pub place_of : (xs : List ℕ) (x : ℕ) → Contains xs x → (j : ℕ) × (j < length xs) × (slice_index xs j ≡ x)

@@ -1,21 +1,8 @@
 -- No solution lies below a floor.
-use Rattle.std.proofs.Common.{◌≡◌, ℕ, ◌+◌, ◌*◌, ◌^◌, ◌<◌, ◌≤◌, inl, inr, refl, subst, arith, ℤ, pos, ◌-ℤ◌, ◌*ℤ◌, ◌≤ℤ◌, List, length, Contains}
-use Rattle.std.specs.List.{AllZip}
-use Rattle.std.proofs.Math.Nat.{mul-le-mul_right}
-use Rattle.std.proofs.lemmas.Int.{ints}
-use Rattle.step_problem.specs.declared.entry.Link.{Link}
-use Rattle.step_problem.specs.declared.heads.Side.TheVariants.{Low}
-use Rattle.step_problem.specs.Entries.{Entries, entries_at}
-use Rattle.step_problem.specs.Conditions.{IsProblem}
-use Rattle.cell_balance.specs.Components.{IsCarried}
-use Rattle.cell_balance.proofs.Totals.{sub_mul, same_z}
-use Rattle.cell_balance.proofs.Cancel.{IsMutual}
-use Rattle.cell_balance.proofs.Whole.{WholeCell, whole_at, whole_balance}
-use Rattle.cell_balance.proofs.Within.{CellWithin}
-use Rattle.barrier_vector.specs.Marks.{IsMarkBelow}
-use Rattle.barrier_vector.specs.Lacks.{lack}
-use Rattle.barrier_vector.specs.Bounds.{anchor_on, LeastRoot, IsAnchorPath, IsInnerPath, IsLongest, IsFloor}
-use Rattle.barrier_vector.specs.Laws.{FloorsEnclose}
+use Rattle.barrier_vector.proofs.Common.{◌≡◌, ℕ, ◌+◌, ◌*◌, ◌^◌, ◌<◌, ◌≤◌, inl, inr, refl, subst, arith, ℤ, pos, ◌-ℤ◌, ◌*ℤ◌, ◌≤ℤ◌, List, length, Contains}
+use Rattle.barrier_vector.proofs.Common.{AllZip, mul-le-mul_right, ints, Link, Low, Entries, entries_at, IsProblem, IsCarried, sub_mul, same_z, IsMutual}
+use Rattle.barrier_vector.proofs.Common.{WholeCell, whole_at, whole_balance, CellWithin, IsMarkBelow, lack, anchor_on, LeastRoot, IsAnchorPath, IsInnerPath}
+use Rattle.barrier_vector.proofs.Common.{IsLongest, IsFloor, FloorsEnclose}
 use Rattle.barrier_vector.proofs.Backs.{join_ways, turn_way}
 use Rattle.barrier_vector.proofs.FloorsWhole.{whole_head, whole_solution, low_back}
 use Rattle.barrier_vector.proofs.FloorsSteps.{ceil_enough}

@@ -1,17 +1,8 @@
 -- No head, bottom or elevation that conducts lies below the base of the low side, and none above that of the high side.
-use Rattle.std.proofs.Common.{◌≡◌, ℕ, zero, suc, ◌*◌, ◌<◌, ◌≤◌, ◌⊎◌, inl, inr, arith, ℤ, pos, ◌*ℤ◌, ◌≤ℤ◌, get_or, All}
-use Rattle.std.specs.Int.{int_max}
-use Rattle.std.proofs.lemmas.Int.{ints, clamps}
-use Rattle.std.proofs.lemmas.List.Elements.{Contains-get_or, All-weaker}
-use Rattle.step_problem.specs.declared.heads.Side.TheVariants.{Low, High}
-use Rattle.step_problem.specs.Entries.{Entries}
-use Rattle.cell_balance.proofs.Totals.{le_trans_z}
-use Rattle.cell_balance.proofs.Zips.{All-zip}
-use Rattle.cell_balance.proofs.Whole.{WholeCell}
-use Rattle.cell_balance.proofs.Within.{FixedWithin, RiverWithin, DrainWithin, CellWithin, IsDry}
-use Rattle.barrier_vector.specs.Marks.{IsCellMark}
+use Rattle.barrier_vector.proofs.Common.{◌≡◌, ℕ, zero, suc, ◌*◌, ◌<◌, ◌≤◌, ◌⊎◌, inl, inr, arith, ℤ, pos, ◌*ℤ◌, ◌≤ℤ◌, get_or, All, int_max, ints, clamps}
+use Rattle.barrier_vector.proofs.Common.{Contains-get_or, All-weaker, Low, High, Entries, le_trans_z, All-zip, WholeCell, FixedWithin, RiverWithin, DrainWithin}
+use Rattle.barrier_vector.proofs.Common.{CellWithin, IsDry, IsCellMark, mul_mono_right}
 use Rattle.barrier_vector.proofs.Marking.{some_at}
-use Rattle.decimal_input.proofs.Signs.{mul_mono_right}
 
 -- a cell of which no entry that conducts has its head, stage, bottom or elevation above t
 pub record IsWet (t : ℤ) (w : WholeCell) : Type 0 where

@@ -1,17 +1,8 @@
 -- What enters the cells below a head that is not above the base: each cut link and each fixed link carries at most what all cells lack.
-use Rattle.std.proofs.Common.{◌≡◌, ℕ, ◌<◌, refl, sym, ◌∙◌, arith, ℤ, pos, neg_ℤ, ◌+ℤ◌, ◌-ℤ◌, ◌≤ℤ◌, ◌<ℤ◌, List, length, Bool, true, false, cond}
-use Rattle.std.proofs.lemmas.Int.{ints}
-use lib.Signed.{lt_z}
-use borrow.Author.Differences.{true_is_lt, lt_out}
-use Rattle.step_problem.specs.Flows.{total}
-use Rattle.step_problem.proofs.Ring.{mul_nonneg}
-use Rattle.cell_balance.specs.Components.{sum_inside}
-use Rattle.cell_balance.proofs.Totals.{total_nonneg}
-use Rattle.cell_balance.proofs.Sums.{sum-same, sum-zero, term-le-sum}
-use Rattle.cell_balance.proofs.Cancel.{IsMutual, cut_link}
-use Rattle.cell_balance.proofs.Dry.{dry_fixed, cut_sum}
-use Rattle.cell_balance.proofs.Whole.{WholeLink, WholeCell, whole_link, whole_fixed, whole_balance, whole_deep, whole_at}
-use Rattle.cell_balance.proofs.Within.{IsDry}
+use Rattle.barrier_vector.proofs.Common.{◌≡◌, ℕ, ◌<◌, refl, sym, ◌∙◌, arith, ℤ, pos, neg_ℤ, ◌+ℤ◌, ◌-ℤ◌, ◌≤ℤ◌, ◌<ℤ◌, List, length, Bool, true, false, cond, ints}
+use Rattle.barrier_vector.proofs.Common.{lt_z, true_is_lt, lt_out, total, mul_nonneg, sum_inside, total_nonneg, sum-same, sum-zero, term-le-sum, IsMutual}
+use Rattle.barrier_vector.proofs.Common.{cut_link, dry_fixed, cut_sum, WholeLink, WholeCell, whole_link, whole_fixed, whole_balance, whole_deep, whole_at}
+use Rattle.barrier_vector.proofs.Common.{IsDry}
 
 pub test_true : (a b : ℤ) → a <ℤ b → lt_z a b ≡ true
 test_true a b h = sym (true_is_lt a b (lt_out a b h))

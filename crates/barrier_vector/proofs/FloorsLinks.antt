@@ -1,31 +1,10 @@
 -- One link and one anchor of the low side: a head falls by at most what pays for the flow that all cells lack.
-use Rattle.std.proofs.Common.{◌≡◌, ℕ, ◌*◌, ◌<◌, ◌≤◌, ◌⊎◌, inl, inr, sym, subst, arith, ℤ, pos, negsuc, neg_ℤ, ◌-ℤ◌, ◌*ℤ◌, ◌≤ℤ◌, ◌<ℤ◌, List, length, Contains, Bool, true, false, cond}
-use Rattle.std.specs.List.{AllZip}
-use lib.Signed.{lt_z}
-use borrow.Author.Differences.{false_is_lt, le_out}
-use Rattle.std.proofs.lemmas.List.{take_all}
-use Rattle.std.proofs.lemmas.List.Elements.{All-contains}
-use Rattle.std.proofs.lemmas.Int.{ints, by_lt_z}
-use Rattle.step_problem.specs.declared.entry.Link.{Link}
-use Rattle.step_problem.specs.declared.entry.Fixed.{Fixed}
-use Rattle.step_problem.specs.declared.heads.Side.TheVariants.{Low}
-use Rattle.step_problem.specs.Entries.{Entries, entries_at}
-use Rattle.step_problem.specs.Flows.{total}
-use Rattle.step_problem.proofs.Ring.{mul_nonneg}
-use Rattle.cell_balance.specs.Components.{sum_below, deep_low}
-use Rattle.cell_balance.proofs.Totals.{le_trans_z, same_z}
-use Rattle.cell_balance.proofs.Zips.{AllZip-length}
-use Rattle.cell_balance.proofs.Products.{conducting}
-use Rattle.cell_balance.proofs.Sums.{sum-neg}
+use Rattle.barrier_vector.proofs.Common.{◌≡◌, ℕ, ◌*◌, ◌<◌, ◌≤◌, ◌⊎◌, inl, inr, sym, subst, arith, ℤ, pos, negsuc, neg_ℤ, ◌-ℤ◌, ◌*ℤ◌, ◌≤ℤ◌, ◌<ℤ◌, List, length}
+use Rattle.barrier_vector.proofs.Common.{Contains, Bool, true, false, cond, AllZip, lt_z, false_is_lt, le_out, take_all, All-contains, ints, by_lt_z, Link}
+use Rattle.barrier_vector.proofs.Common.{Fixed, Low, Entries, entries_at, total, mul_nonneg, sum_below, deep_low, le_trans_z, same_z, AllZip-length, conducting}
+use Rattle.barrier_vector.proofs.Common.{sum-neg, dry_fixed, IsMutual, cut_link, no_whole_link, cell_within, WholeCell, WholeFixed, whole_at, whole_balance}
+use Rattle.barrier_vector.proofs.Common.{whole_deep, whole_fixed, CellWithin, LinkWithin, FixedWithin, IsDry, IsMarkBelow, lack, negative_part}
 use Rattle.cell_balance.proofs.Deep.{deep_less}
-use Rattle.cell_balance.proofs.Dry.{dry_fixed}
-use Rattle.cell_balance.proofs.Cancel.{IsMutual, cut_link}
-use Rattle.cell_balance.proofs.Mutual.{no_whole_link}
-use Rattle.cell_balance.proofs.Spread.{cell_within}
-use Rattle.cell_balance.proofs.Whole.{WholeCell, WholeFixed, whole_at, whole_balance, whole_deep, whole_fixed}
-use Rattle.cell_balance.proofs.Within.{CellWithin, LinkWithin, FixedWithin, IsDry}
-use Rattle.barrier_vector.specs.Marks.{IsMarkBelow}
-use Rattle.barrier_vector.specs.Lacks.{lack, negative_part}
 use Rattle.barrier_vector.proofs.FloorsSums.{limited_sum, AllZip-has, term-le-total}
 use Rattle.barrier_vector.proofs.FloorsDry.{cell_dry, IsDry-lower}
 use Rattle.barrier_vector.proofs.FloorsEnter.{lies_below, cut_enters, enters}

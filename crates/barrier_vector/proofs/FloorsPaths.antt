@@ -1,11 +1,6 @@
 -- Along a path heads fall by at most its sum, from its root to its cell and back.
-use Rattle.std.proofs.Common.{◌≡◌, ℕ, zero, suc, ◌+◌, ◌*◌, ◌<◌, ◌≤◌, refl, ap, arith, ℤ, pos, ◌-ℤ◌, ◌≤ℤ◌, List, length, Contains}
-use Rattle.std.proofs.lemmas.Int.{ints}
-use Rattle.step_problem.specs.declared.entry.Link.{Link}
-use Rattle.step_problem.specs.Entries.{Entries, entries_at}
-use Rattle.step_problem.specs.Conditions.{IsProblem}
-use Rattle.cell_balance.specs.Components.{Reaches}
-use Rattle.barrier_vector.specs.Paths.{ceil_over, SumsTo}
+use Rattle.barrier_vector.proofs.Common.{◌≡◌, ℕ, zero, suc, ◌+◌, ◌*◌, ◌<◌, ◌≤◌, refl, ap, arith, ℤ, pos, ◌-ℤ◌, ◌≤ℤ◌, List, length, Contains, ints, Link}
+use Rattle.barrier_vector.proofs.Common.{Entries, entries_at, IsProblem, Reaches, ceil_over, SumsTo}
 use Rattle.barrier_vector.proofs.Backs.{leads_within, conducts, back}
 use Rattle.barrier_vector.proofs.FloorsSteps.{ceil_enough, joined_low}
 

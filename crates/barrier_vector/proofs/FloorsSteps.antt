@@ -1,10 +1,6 @@
 -- How far a head can lie beyond its neighbour's over a branch that carries at most so much.
-use Rattle.std.proofs.Common.{◌≡◌, ℕ, ◌+◌, ◌*◌, ◌<◌, ◌≤◌, ap, arith, ℤ, pos, negsuc, ◌+ℤ◌, ◌-ℤ◌, ◌*ℤ◌, ◌≤ℤ◌, ◌<ℤ◌}
-use Rattle.std.proofs.Math.Nat.{mul-le-mul_right, le_of_mul-le-mul_left}
-use Rattle.std.proofs.lemmas.Int.{ints}
-use Rattle.step_problem.proofs.Ring.{mul_mono}
-use Rattle.barrier_vector.specs.Paths.{ceil_over}
-use Rattle.decimal_input.proofs.Signs.{mul_mono_right}
+use Rattle.barrier_vector.proofs.Common.{◌≡◌, ℕ, ◌+◌, ◌*◌, ◌<◌, ◌≤◌, ap, arith, ℤ, pos, negsuc, ◌+ℤ◌, ◌-ℤ◌, ◌*ℤ◌, ◌≤ℤ◌, ◌<ℤ◌, mul-le-mul_right}
+use Rattle.barrier_vector.proofs.Common.{le_of_mul-le-mul_left, ints, mul_mono, ceil_over, mul_mono_right}
 
 pub ceil_enough : (q lo : ℕ) → 0 < lo → q ≤ ceil_over q lo * lo
 ceil_enough q lo h = omega arith

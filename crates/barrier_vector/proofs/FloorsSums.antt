@@ -1,15 +1,7 @@
 -- Sums over the cells of a problem, whose terms are each limited, and terms of sums.
-use Rattle.std.proofs.Common.{◌≡◌, ℕ, zero, suc, ◌+◌, ◌<◌, ◌≤◌, subst, arith, ℤ, pos, ◌+ℤ◌, ◌*ℤ◌, ◌≤ℤ◌, List, [], ◌∷◌, length, get_or, take, sum_by, All, Contains}
-use Rattle.std.specs.List.{AllZip}
-use Rattle.std.proofs.lemmas.Int.{ints}
-use Rattle.std.proofs.lemmas.List.Sums.{sum_by_more}
-use Rattle.std.proofs.lemmas.List.Elements.{All-head, All-tail, Contains-get_or}
-use Rattle.step_problem.specs.Flows.{total}
-use Rattle.step_problem.specs.Entries.{Entries, entries_at, no_entries}
-use Rattle.step_problem.proofs.Ring.{mul_nonneg}
-use Rattle.cell_balance.specs.Components.{sum_below}
-use Rattle.cell_balance.proofs.Totals.{add_mul, total_nonneg}
-use Rattle.cell_balance.proofs.Zips.{AllZip-at, AllZip-length}
+use Rattle.barrier_vector.proofs.Common.{◌≡◌, ℕ, zero, suc, ◌+◌, ◌<◌, ◌≤◌, subst, arith, ℤ, pos, ◌+ℤ◌, ◌*ℤ◌, ◌≤ℤ◌, List, [], ◌∷◌, length, get_or, take, sum_by}
+use Rattle.barrier_vector.proofs.Common.{All, Contains, AllZip, ints, sum_by_more, All-head, All-tail, Contains-get_or, total, Entries, entries_at, no_entries}
+use Rattle.barrier_vector.proofs.Common.{mul_nonneg, sum_below, add_mul, total_nonneg, AllZip-at, AllZip-length}
 
 pub limited_sum : (g : Entries → ℕ) (p : List Entries) (F : ℕ → ℤ) (k : ℕ) → ((c : ℕ) → c < length p → F c ≤ℤ (pos (g (entries_at p c)) *ℤ pos k)) → (n : ℕ) → n ≤ length p → sum_below n F ≤ℤ (pos (sum_by g (take n p)) *ℤ pos k)
 limited_sum g p F k each zero h = mul_nonneg (pos (sum_by g (take zero p))) (pos k) (omega (arith, ints)) (omega (arith, ints))

@@ -1,23 +1,14 @@
 -- A solution of an exact step that a problem encloses, in whole numbers.
-use Rattle.std.proofs.Common.{◌≡◌, ℕ, ◌*◌, ◌^◌, ◌<◌, sym, ◌∙◌, subst, arith, ℤ, pos, ◌*ℤ◌, ◌≤ℤ◌, List, length, mul-pos}
-use Rattle.std.specs.List.{AllZip}
+use Rattle.barrier_vector.proofs.Common.{◌≡◌, ℕ, ◌*◌, ◌^◌, ◌<◌, sym, ◌∙◌, subst, arith, ℤ, pos, ◌*ℤ◌, ◌≤ℤ◌, List, length, mul-pos, AllZip, cancel_right, swap}
+use Rattle.barrier_vector.proofs.Common.{Entries, mul_assoc, ExactCell, share, mutual_whole, IsMutual, WholeCell, whole_at, whole_balance, CellWithin}
+use Rattle.barrier_vector.proofs.Common.{IsSolution}
 use Rattle.decimal_input.specs.Fractions.{IsOver}
-use Rattle.decimal_input.proofs.Signs.{cancel_right, swap}
-use Rattle.step_problem.specs.Entries.{Entries}
-use Rattle.step_problem.proofs.Ring.{mul_assoc}
-use Rattle.cell_balance.specs.Steps.{ExactCell}
-use Rattle.cell_balance.specs.Solutions.{share}
 use Rattle.cell_balance.proofs.Over.{CellOver}
 use Rattle.cell_balance.proofs.Denominators.{step_common}
 use Rattle.cell_balance.proofs.Wholes.{whole_step}
 use Rattle.cell_balance.proofs.Enclosed.{step_within}
-use Rattle.cell_balance.proofs.Mutual.{mutual_whole}
 use Rattle.cell_balance.proofs.Linked.{linked, links_good}
 use Rattle.cell_balance.proofs.Encloses.{share_is, whole_solves}
-use Rattle.cell_balance.proofs.Cancel.{IsMutual}
-use Rattle.cell_balance.proofs.Whole.{WholeCell, whole_at, whole_balance}
-use Rattle.cell_balance.proofs.Within.{CellWithin}
-use Rattle.barrier_vector.specs.Laws.{IsSolution}
 
 -- the heads X, in units of 10^-9, over n times their denominator
 abbrev pub whole_head : ℕ → (ℕ → ℤ) → ℕ → ℤ

@@ -1,13 +1,8 @@
 -- Sums and maxima by label, one cell after another.
-use Rattle.std.proofs.Common.{◌≡◌, ℕ, zero, suc, ◌+◌, ◌*◌, ◌^◌, ◌<◌, ◌≤◌, ◌⊎◌, inl, inr, refl, sym, ◌∙◌, ap, subst, arith, max, List, Option, None, Some, Bool, true, false, cond, replicate, slice_index, ℤ, pos, negsuc, unsigned_abs, ◌+ℤ◌, ◌*ℤ◌, ◌≤ℤ◌, ◌<ℤ◌, add-one, div-add-mod', mod-lt}
-use Rattle.std.specs.Int.{int_div_euclid, int_rem_euclid}
-use Rattle.std.proofs.lemmas.Bool.{cases_eq, cases_lt, eq-eqb, ne_eqb}
-use Rattle.std.proofs.lemmas.Int.{ints}
-use Rattle.step_problem.specs.Conditions.{IsWithin}
-use Rattle.cell_balance.specs.Components.{sum_inside}
-use Rattle.barrier_vector.specs.Spreads.{mark_at}
-use Rattle.barrier_vector.specs.Labels.{is_label, labelled, number_at, no_flow, flow_sum, sum_at, IsGreatestOf}
-use Rattle.barrier_vector.specs.declared.gathered.FlowSum.{FlowSum}
+use Rattle.barrier_vector.proofs.Common.{◌≡◌, ℕ, zero, suc, ◌+◌, ◌*◌, ◌^◌, ◌<◌, ◌≤◌, ◌⊎◌, inl, inr, refl, sym, ◌∙◌, ap, subst, arith, max, List, Option, None}
+use Rattle.barrier_vector.proofs.Common.{Some, Bool, true, false, cond, replicate, slice_index, ℤ, pos, negsuc, unsigned_abs, ◌+ℤ◌, ◌*ℤ◌, ◌≤ℤ◌, ◌<ℤ◌, add-one}
+use Rattle.barrier_vector.proofs.Common.{div-add-mod', mod-lt, int_div_euclid, int_rem_euclid, cases_eq, cases_lt, eq-eqb, ne_eqb, ints, IsWithin, sum_inside}
+use Rattle.barrier_vector.proofs.Common.{mark_at, is_label, labelled, number_at, no_flow, flow_sum, sum_at, IsGreatestOf, FlowSum}
 
 pub zero_at : (n k : ℕ) → sum_at (replicate n no_flow) k ≡ pos 0
 zero_at zero zero = refl

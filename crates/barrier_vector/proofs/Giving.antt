@@ -1,15 +1,8 @@
 -- Sums of flows within the sums of their sizes.
-use Rattle.std.proofs.Common.{◌≡◌, ℕ, ◌+◌, ◌^◌, ◌<◌, sym, ◌∙◌, ap, arith, List, [], ◌∷◌, ◌++◌, length, get_or, take, sum_by, ℤ, pos, negsuc, ◌+ℤ◌, ◌-ℤ◌, FitsSigned}
-use Rattle.std.specs.Int.{w128}
-use Rattle.std.proofs.lemmas.Int.{ints}
-use Rattle.std.proofs.lemmas.Bool.{cases_lt}
-use Rattle.std.proofs.lemmas.List.Sums.{sum_by_more, sum_by-take-le}
-use Rattle.step_problem.specs.Conditions.{IsWithin, magnitude}
-use Rattle.step_problem.specs.Entries.{Entries, entries_at}
-use Rattle.barrier_vector.specs.Labels.{number_at}
+use Rattle.barrier_vector.proofs.Common.{◌≡◌, ℕ, ◌+◌, ◌^◌, ◌<◌, sym, ◌∙◌, ap, arith, List, [], ◌∷◌, ◌++◌, length, get_or, take, sum_by, ℤ, pos, negsuc, ◌+ℤ◌}
+use Rattle.barrier_vector.proofs.Common.{◌-ℤ◌, FitsSigned, w128, ints, cases_lt, sum_by_more, sum_by-take-le, IsWithin, magnitude, Entries, entries_at}
+use Rattle.barrier_vector.proofs.Common.{number_at, get_or_past, length-append, inl, inr}
 use Rattle.barrier_vector.proofs.Starting.{push_before, push_last}
-use Rattle.std.proofs.lemmas.List.{get_or_past}
-use Rattle.std.proofs.Common.{length-append, inl, inr}
 
 pub within_more : {X : Type 0} (g : X → ℕ) (xs : List X) (i : ℕ) (d x : X) (s t : ℤ) → i < length xs → x ≡ get_or xs i d → IsWithin s (sum_by g (take i xs)) → IsWithin t (g x) → IsWithin (s +ℤ t) (sum_by g (take (i + 1) xs))
 within_more g xs i d x s t h is p q = let same = ap g is in rw (sum_by_more g xs i d h) (add _ _ p (rw same at q))

@@ -1,14 +1,8 @@
 -- Labels of components: one component is filled from its least cell, and one after another.
-use Rattle.std.proofs.Common.{◌≡◌, ℕ, zero, suc, ◌+◌, ◌<◌, ◌≤◌, ◌⊎◌, inl, inr, refl, sym, ◌∙◌, ap, subst, arith, List, [], ◌∷◌, length, Contains, Option, None, Some, All, set, replicate, slice_index, get_or, get_or-set_same, get_or-set_other}
-use Rattle.std.proofs.lemmas.Bool.{cases_eq, cases_lt}
-use Rattle.std.proofs.lemmas.List.{length-set}
-use Rattle.std.proofs.lemmas.List.Elements.{Contains-get_or}
-use Rattle.step_problem.specs.declared.entry.Link.{Link}
-use Rattle.step_problem.specs.Entries.{Entries, entries_at, link_at}
-use Rattle.step_problem.specs.Conditions.{IsProblem}
-use Rattle.cell_balance.specs.Components.{Reaches}
-use Rattle.barrier_vector.specs.Spreads.{mark_at, LinkLeads, FrontLeads, Spreads}
-use Rattle.barrier_vector.specs.Labels.{AreLabels, Fills}
+use Rattle.barrier_vector.proofs.Common.{◌≡◌, ℕ, zero, suc, ◌+◌, ◌<◌, ◌≤◌, ◌⊎◌, inl, inr, refl, sym, ◌∙◌, ap, subst, arith, List, [], ◌∷◌, length, Contains}
+use Rattle.barrier_vector.proofs.Common.{Option, None, Some, All, set, replicate, slice_index, get_or, get_or-set_same, get_or-set_other, cases_eq, cases_lt}
+use Rattle.barrier_vector.proofs.Common.{length-set, Contains-get_or, Link, Entries, entries_at, link_at, IsProblem, Reaches, mark_at, LinkLeads, FrontLeads}
+use Rattle.barrier_vector.proofs.Common.{Spreads, AreLabels, Fills}
 use Rattle.barrier_vector.proofs.Spreading.{no_both}
 use Rattle.barrier_vector.proofs.Extending.{place_of}
 use Rattle.barrier_vector.proofs.Backs.{turn_way, join_ways}

@@ -1,15 +1,9 @@
 -- The search by levels: after k steps just the cells of a level up to k are marked, those of level k are the frontier, and each has its path.
-use Rattle.std.proofs.Common.{◌≡◌, ℕ, zero, suc, ◌+◌, ◌<◌, ◌≤◌, ◌⊎◌, inl, inr, refl, sym, ◌∙◌, ap, subst, arith, List, [], ◌∷◌, length, Contains, min, Option, None, Some, All, take, take_at, ◌++◌, slice_index, get_or}
-use Rattle.std.proofs.lemmas.Bool.{cases_lt}
-use Rattle.std.proofs.lemmas.List.{get_or_default, get_or_past}
-use Rattle.std.proofs.lemmas.List.Elements.{Contains-get_or}
-use Rattle.step_problem.specs.declared.entry.Link.{Link}
-use Rattle.step_problem.specs.Entries.{Entries, entries_at, link_at, no_link}
-use Rattle.step_problem.specs.Conditions.{IsProblem}
-use Rattle.cell_balance.specs.Components.{Reaches}
-use Rattle.barrier_vector.specs.Paths.{ceil_over, LeadsToRoot, IsLevel, IsParent, SumsTo}
-use Rattle.barrier_vector.specs.Spreads.{mark_at, unmarked, LinkLeads, FrontLeads, Spreads}
-use Rattle.barrier_vector.specs.Searches.{path_limit, ListRoot, IsNearest, ContinuesTo, IsSearched, IsStart}
+use Rattle.barrier_vector.proofs.Common.{◌≡◌, ℕ, zero, suc, ◌+◌, ◌<◌, ◌≤◌, ◌⊎◌, inl, inr, refl, sym, ◌∙◌, ap, subst, arith, List, [], ◌∷◌, length, Contains}
+use Rattle.barrier_vector.proofs.Common.{min, Option, None, Some, All, take, take_at, ◌++◌, slice_index, get_or, cases_lt, get_or_default, get_or_past}
+use Rattle.barrier_vector.proofs.Common.{Contains-get_or, Link, Entries, entries_at, link_at, no_link, IsProblem, Reaches, ceil_over, LeadsToRoot, IsLevel}
+use Rattle.barrier_vector.proofs.Common.{IsParent, SumsTo, mark_at, unmarked, LinkLeads, FrontLeads, Spreads, path_limit, ListRoot, IsNearest, ContinuesTo}
+use Rattle.barrier_vector.proofs.Common.{IsSearched, IsStart}
 use Rattle.barrier_vector.proofs.Spreading.{no_both}
 use Rattle.barrier_vector.proofs.Extending.{place_of}
 use Rattle.barrier_vector.proofs.Backs.{back}

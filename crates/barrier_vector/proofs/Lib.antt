@@ -1,3 +1,4 @@
+mod Common
 pub mod FloorsSums
 pub mod FloorsDry
 pub mod FloorsWhole

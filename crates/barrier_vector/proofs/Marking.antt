@@ -1,18 +1,9 @@
 -- The outermost mark: of several marks, of a list, of a cell, of a problem.
-use Rattle.std.proofs.Common.{◌≡◌, ℕ, zero, suc, ◌+◌, ◌<◌, ◌⊎◌, inl, inr, refl, sym, ◌∙◌, ap, subst, arith, List, [], ◌∷◌, ◌++◌, length, take, get_or, Contains, Option, None, Some, ℤ, pos, ◌≤ℤ◌, ◌<ℤ◌}
-use Rattle.std.specs.Int.{int_max, int_min}
-use Rattle.std.specs.Option.{unwrap_or}
-use Rattle.std.proofs.lemmas.Bool.{cases_lt}
-use Rattle.std.proofs.lemmas.Int.{ints, clamps, by_lt_z}
-use Rattle.std.proofs.lemmas.List.{take_more}
-use Rattle.std.proofs.lemmas.List.Elements.{Contains-push, Contains-push_cases, Contains-append_left}
-use Rattle.step_problem.specs.declared.heads.Side.{Side}
-use Rattle.step_problem.specs.declared.heads.Side.TheVariants.{Low, High}
-use Rattle.step_problem.specs.declared.entry.Fixed.{Fixed}
-use Rattle.step_problem.specs.declared.entry.River.{River}
-use Rattle.step_problem.specs.declared.entry.Drain.{Drain}
-use Rattle.step_problem.specs.Entries.{Entries, entries_at}
-use Rattle.barrier_vector.specs.Marks.{if_some, fixed_mark, river_mark, drain_mark, outer_of, IsInside, IsOutermost, IsMarkIn, IsCellMark, IsMarkBelow, IsBase}
+use Rattle.barrier_vector.proofs.Common.{◌≡◌, ℕ, zero, suc, ◌+◌, ◌<◌, ◌⊎◌, inl, inr, refl, sym, ◌∙◌, ap, subst, arith, List, [], ◌∷◌, ◌++◌, length, take}
+use Rattle.barrier_vector.proofs.Common.{get_or, Contains, Option, None, Some, ℤ, pos, ◌≤ℤ◌, ◌<ℤ◌, int_max, int_min, unwrap_or, cases_lt, ints, clamps, by_lt_z}
+use Rattle.barrier_vector.proofs.Common.{take_more, Contains-push, Contains-push_cases, Contains-append_left, Side, Low, High, Fixed, River, Drain, Entries}
+use Rattle.barrier_vector.proofs.Common.{entries_at, if_some, fixed_mark, river_mark, drain_mark, outer_of, IsInside, IsOutermost, IsMarkIn, IsCellMark}
+use Rattle.barrier_vector.proofs.Common.{IsMarkBelow, IsBase}
 
 pub some_at : (hi : ℕ) (v : ℤ) → 0 < hi → if_some hi v ≡ Some v
 some_at zero v h = absurd (omega arith)

@@ -1,17 +1,9 @@
 -- A problem has one barrier or one refusal, and not both.
-use Rattle.std.proofs.Common.{◌≡◌, ℕ, suc, ◌<◌, inl, inr, refl, sym, ◌∙◌, ap, subst, arith, List, [], ◌∷◌, length, ℤ}
-use Rattle.std.proofs.lemmas.Bool.{cases_lt}
-use Rattle.step_problem.specs.declared.heads.Side.{Side}
-use Rattle.step_problem.specs.declared.heads.Side.TheVariants.{Low, High}
-use Rattle.step_problem.specs.declared.place.NoBound.{NoBound}
+use Rattle.barrier_vector.proofs.Common.{◌≡◌, ℕ, suc, ◌<◌, inl, inr, refl, sym, ◌∙◌, ap, subst, arith, List, [], ◌∷◌, length, ℤ, cases_lt, Side, Low, High}
+use Rattle.barrier_vector.proofs.Common.{NoBound, Entries, entries_at, Edges, head_at, IsProblem, IsHead, number_of, IsBoundOn, HasNoBound, IsOutOfRange}
+use Rattle.barrier_vector.proofs.Common.{LeavesRange, no_barrier_on, range_on, Nowhere, IsLeastWith, Names, IsRefusedOn}
 use Rattle.step_problem.specs.declared.place.Place.{Place}
 use Rattle.step_problem.specs.declared.place.Place.TheVariants.{Cell}
-use Rattle.step_problem.specs.Entries.{Entries, entries_at}
-use Rattle.step_problem.specs.Heads.{Edges, head_at}
-use Rattle.step_problem.specs.Conditions.{IsProblem, IsHead}
-use Rattle.step_problem.specs.StepRefusals.{number_of}
-use Rattle.barrier_vector.specs.Bounds.{IsBoundOn}
-use Rattle.barrier_vector.specs.Refusals.{HasNoBound, IsOutOfRange, LeavesRange, no_barrier_on, range_on, Nowhere, IsLeastWith, Names, IsRefusedOn}
 use Rattle.barrier_vector.specs.Barriers.{BarrierIsOne, BarrierExcludesRefusal, RefusalIsOne}
 use Rattle.barrier_vector.proofs.Uniques.{bound_one, has_a_bound}
 use Rattle.barrier_vector.proofs.Sides.{head_in_range}

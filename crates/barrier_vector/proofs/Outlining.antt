@@ -1,17 +1,10 @@
 -- The outline of the first cells: one cell more, and what it is of all cells.
-use Rattle.std.proofs.Common.{◌≡◌, ℕ, ◌+◌, ◌<◌, inl, inr, refl, sym, ◌∙◌, ap, subst, arith, List, [], ◌∷◌, ◌++◌, length, length-append, sum_by, Option, None, slice_index, ℤ, pos}
-use Rattle.std.specs.Option.{unwrap_or}
-use Rattle.std.proofs.lemmas.Bool.{cases_lt}
+use Rattle.barrier_vector.proofs.Common.{◌≡◌, ℕ, ◌+◌, ◌<◌, inl, inr, refl, sym, ◌∙◌, ap, subst, arith, List, [], ◌∷◌, ◌++◌, length, length-append, sum_by}
+use Rattle.barrier_vector.proofs.Common.{Option, None, slice_index, ℤ, pos, unwrap_or, cases_lt, sum_by_more, Side, Entries, entries_at, no_entries, anchor_on}
+use Rattle.barrier_vector.proofs.Common.{AnchorRoot, need_on, capped_flow, outer_of, IsOutermost, IsCellMark, IsBase, ceil_over, ListAnchor, AreRoots}
+use Rattle.barrier_vector.proofs.Common.{IsOutline}
 use Rattle.std.proofs.Math.Seq.{take-length}
-use Rattle.std.proofs.lemmas.List.Sums.{sum_by_more}
-use Rattle.step_problem.specs.declared.heads.Side.{Side}
-use Rattle.step_problem.specs.Entries.{Entries, entries_at, no_entries}
-use Rattle.barrier_vector.specs.Bounds.{anchor_on, AnchorRoot}
-use Rattle.barrier_vector.specs.Lacks.{need_on, need as need_of_all, capped_flow}
-use Rattle.barrier_vector.specs.Marks.{outer_of, IsOutermost, IsCellMark, IsBase}
-use Rattle.barrier_vector.specs.Paths.{ceil_over}
-use Rattle.barrier_vector.specs.Roots.{ListAnchor, AreRoots}
-use Rattle.barrier_vector.specs.Outlines.{IsOutline}
+use Rattle.barrier_vector.specs.Lacks.{need as need_of_all}
 use Rattle.barrier_vector.proofs.Starting.{push_before, push_last}
 use Rattle.barrier_vector.proofs.Marking.{no_cells, cells_more}
 

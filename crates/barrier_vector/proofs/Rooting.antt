@@ -1,18 +1,8 @@
 -- Lists of roots, one cell after another, and searches from one description of the roots to another.
-use Rattle.std.proofs.Common.{◌≡◌, ℕ, zero, suc, ◌+◌, ◌<◌, ◌≤◌, inl, inr, refl, sym, ◌∙◌, ap, subst, arith, List, [], ◌∷◌, ◌++◌, length, max, drop, get_or, length-append, Contains, Option, None, Some}
-use Rattle.std.proofs.lemmas.Bool.{cases_lt}
-use Rattle.std.proofs.lemmas.List.{at_drop_more}
-use Rattle.step_problem.specs.declared.heads.Side.{Side}
-use Rattle.step_problem.specs.declared.heads.Side.TheVariants.{Low, High}
-use Rattle.step_problem.specs.declared.entry.Link.{Link}
-use Rattle.step_problem.specs.declared.entry.Fixed.{Fixed}
-use Rattle.step_problem.specs.Entries.{Entries, entries_at}
-use Rattle.cell_balance.specs.Components.{IsAnchored}
-use Rattle.barrier_vector.specs.Paths.{LeadsToRoot, IsLevel, IsParent, SumsTo, IsPath}
-use Rattle.barrier_vector.specs.Bounds.{greatest, anchor_on}
-use Rattle.barrier_vector.specs.Spreads.{mark_at}
-use Rattle.barrier_vector.specs.Searches.{IsSearched}
-use Rattle.barrier_vector.specs.Roots.{AreRoots}
+use Rattle.barrier_vector.proofs.Common.{◌≡◌, ℕ, zero, suc, ◌+◌, ◌<◌, ◌≤◌, inl, inr, refl, sym, ◌∙◌, ap, subst, arith, List, [], ◌∷◌, ◌++◌, length, max, drop}
+use Rattle.barrier_vector.proofs.Common.{get_or, length-append, Contains, Option, None, Some, cases_lt, at_drop_more, Side, Low, High, Link, Fixed, Entries}
+use Rattle.barrier_vector.proofs.Common.{entries_at, IsAnchored, LeadsToRoot, IsLevel, IsParent, SumsTo, IsPath, greatest, anchor_on, mark_at, IsSearched}
+use Rattle.barrier_vector.proofs.Common.{AreRoots}
 use Rattle.barrier_vector.proofs.Levels.{marked_within}
 use Rattle.barrier_vector.proofs.Starting.{push_before, push_last, pushed}
 

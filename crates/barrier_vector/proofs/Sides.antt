@@ -1,22 +1,12 @@
 -- One side of a barrier, or its refusal, from the bounds of the cells.
-use Rattle.std.proofs.Common.{◌≡◌, ℕ, ◌<◌, ◌⊎◌, inl, inr, refl, sym, ◌∙◌, subst, arith, List, length, Option, None, Some, ℤ, pos, neg_ℤ}
-use Rattle.std.proofs.lemmas.Int.{ints, clamps, by_lt_z}
-use Rattle.step_problem.specs.declared.heads.Side.{Side}
-use Rattle.step_problem.specs.declared.heads.Side.TheVariants.{Low, High}
-use Rattle.step_problem.specs.declared.place.NoBound.{NoBound}
-use Rattle.step_problem.specs.StepRefusals.{number_of}
-use Rattle.step_problem.specs.Entries.{Entries}
-use Rattle.step_problem.specs.Conditions.{IsProblem, IsHead, head_limit}
-use Rattle.step_problem.specs.Heads.{head_at}
-use Rattle.barrier_vector.specs.Marks.{IsInside, IsBase}
-use Rattle.barrier_vector.specs.Bounds.{IsUnanchored, IsBoundOn}
-use Rattle.barrier_vector.specs.Refusals.{HasNoBound, IsOutOfRange, LeavesRange, no_barrier_on, range_on, Nowhere, Names, IsRefusedOn, IsRefused}
+use Rattle.barrier_vector.proofs.Common.{◌≡◌, ℕ, ◌<◌, ◌⊎◌, inl, inr, refl, sym, ◌∙◌, subst, arith, List, length, Option, None, Some, ℤ, pos, neg_ℤ, ints}
+use Rattle.barrier_vector.proofs.Common.{clamps, by_lt_z, Side, Low, High, NoBound, number_of, Entries, IsProblem, IsHead, head_limit, head_at, IsInside}
+use Rattle.barrier_vector.proofs.Common.{IsBase, IsUnanchored, IsBoundOn, HasNoBound, IsOutOfRange, LeavesRange, no_barrier_on, range_on, Nowhere, Names}
+use Rattle.barrier_vector.proofs.Common.{IsRefusedOn, IsRefused, cut_on, bound_at, IsBoundOrNone, AreBounds, Missing, OutOfRange, Fails, IsFirstFailing}
+use Rattle.barrier_vector.proofs.Common.{AreHeadsOf, IsWholeSide, IsFaultOn}
 use Rattle.barrier_vector.specs.Held.{HasStorage, IsNotForLackOfAnchors}
-use Rattle.barrier_vector.specs.Roots.{cut_on, bound_at, IsBoundOrNone, AreBounds}
 use Rattle.barrier_vector.specs.declared.BarrierFault.{BarrierFault}
 use Rattle.barrier_vector.specs.declared.BarrierFault.TheVariants.{NoBound as AFault, Memory}
-use Rattle.barrier_vector.specs.declared.refusal.Test.TheVariants.{Missing, OutOfRange}
-use Rattle.barrier_vector.specs.Tests.{Fails, IsFirstFailing, AreHeadsOf, IsWholeSide, IsFaultOn}
 use Rattle.barrier_vector.proofs.Basing.{base_head}
 use Rattle.barrier_vector.proofs.Rooting.{anchors}
 use Rattle.barrier_vector.proofs.Uniques.{bound_one, has_a_bound}

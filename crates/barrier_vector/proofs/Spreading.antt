@@ -1,12 +1,8 @@
 -- One mark, and one step of a search after another.
-use Rattle.std.proofs.Common.{◌≡◌, ℕ, zero, suc, ◌+◌, ◌<◌, ◌⊎◌, inl, inr, refl, sym, ◌∙◌, ap, subst, arith, List, [], ◌∷◌, ◌++◌, length, length-append, Contains, Option, None, Some, Bool, true, false, not, set, slice_index, get_or-set_same, get_or-set_other}
-use Rattle.std.specs.Option.{is_some}
-use Rattle.std.proofs.lemmas.Bool.{cases_eq, cases_lt}
-use Rattle.std.proofs.lemmas.List.{length-set}
-use Rattle.std.proofs.lemmas.List.Elements.{Contains-push, Contains-push_cases, Contains-append_left}
-use Rattle.step_problem.specs.declared.entry.Link.{Link}
-use Rattle.step_problem.specs.Entries.{Entries, entries_at, link_at}
-use Rattle.barrier_vector.specs.Spreads.{mark_at, unmarked, LinkLeads, FrontLeads, Spreads}
+use Rattle.barrier_vector.proofs.Common.{◌≡◌, ℕ, zero, suc, ◌+◌, ◌<◌, ◌⊎◌, inl, inr, refl, sym, ◌∙◌, ap, subst, arith, List, [], ◌∷◌, ◌++◌, length}
+use Rattle.barrier_vector.proofs.Common.{length-append, Contains, Option, None, Some, Bool, true, false, not, set, slice_index, get_or-set_same}
+use Rattle.barrier_vector.proofs.Common.{get_or-set_other, is_some, cases_eq, cases_lt, length-set, Contains-push, Contains-push_cases, Contains-append_left}
+use Rattle.barrier_vector.proofs.Common.{Link, Entries, entries_at, link_at, mark_at, unmarked, LinkLeads, FrontLeads, Spreads}
 
 pub no_both : (o : Option ℕ) (m : ℕ) → o ≡ None → o ≡ Some m → ⊥
 no_both o m e f = cc

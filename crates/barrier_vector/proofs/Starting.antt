@@ -1,10 +1,7 @@
 -- What a search begins with, one cell after another.
-use Rattle.std.proofs.Common.{◌≡◌, ℕ, zero, suc, ◌+◌, ◌≤◌, ◌<◌, ◌⊎◌, inl, inr, refl, sym, ◌∙◌, ap, subst, arith, List, [], ◌∷◌, ◌++◌, length, length-append, min, Option, None, Some, slice_index, get_or}
-use Rattle.std.proofs.lemmas.Bool.{cases_eq, cases_lt}
-use Rattle.std.proofs.lemmas.List.{get_or_past}
-use Rattle.std.proofs.lemmas.List.Elements.{Contains-push, Contains-push_cases, Contains-append_left}
-use Rattle.barrier_vector.specs.Spreads.{mark_at, unmarked}
-use Rattle.barrier_vector.specs.Searches.{path_limit, IsStart}
+use Rattle.barrier_vector.proofs.Common.{◌≡◌, ℕ, zero, suc, ◌+◌, ◌≤◌, ◌<◌, ◌⊎◌, inl, inr, refl, sym, ◌∙◌, ap, subst, arith, List, [], ◌∷◌, ◌++◌, length}
+use Rattle.barrier_vector.proofs.Common.{length-append, min, Option, None, Some, slice_index, get_or, cases_eq, cases_lt, get_or_past, Contains-push}
+use Rattle.barrier_vector.proofs.Common.{Contains-push_cases, Contains-append_left, mark_at, unmarked, path_limit, IsStart}
 use Rattle.barrier_vector.proofs.Spreading.{no_both}
 use Rattle.barrier_vector.proofs.Levels.{marked_within, marked_or_not}
 

@@ -1,18 +1,9 @@
 -- What the bounds of the cells that lead to an anchor are made of, from a search.
-use Rattle.std.proofs.Common.{◌≡◌, ℕ, ◌<◌, inl, inr, refl, sym, ◌∙◌, subst, arith, List, length, min, All, IsSome, Option, None, Some, Bool, true, false, slice_index, ℤ}
-use Rattle.std.proofs.lemmas.Bool.{cases_lt}
-use Rattle.std.proofs.lemmas.Int.{ints, clamps}
-use Rattle.step_problem.specs.declared.heads.Side.{Side}
-use Rattle.step_problem.specs.declared.heads.Side.TheVariants.{Low, High}
-use Rattle.step_problem.specs.Entries.{Entries, entries_at}
-use Rattle.step_problem.specs.Conditions.{IsProblem, IsHead}
-use Rattle.barrier_vector.specs.Marks.{IsBase}
-use Rattle.barrier_vector.specs.Lacks.{need, capped_flow}
-use Rattle.barrier_vector.specs.Paths.{ceil_over}
-use Rattle.barrier_vector.specs.Bounds.{anchor_on, AnchorRoot, IsAnchorPath, IsUnanchored, moved_out, IsAnchoredBound, IsBoundOn}
-use Rattle.barrier_vector.specs.Spreads.{mark_at}
-use Rattle.barrier_vector.specs.Searches.{path_limit, ListRoot, IsSearched}
-use Rattle.barrier_vector.specs.Roots.{AreRoots, AreAnchorPaths, cut_on, IsAnchoredOrNone, IsBoundOrNone, bound_at, AreBounds}
+use Rattle.barrier_vector.proofs.Common.{◌≡◌, ℕ, ◌<◌, inl, inr, refl, sym, ◌∙◌, subst, arith, List, length, min, All, IsSome, Option, None, Some, Bool, true}
+use Rattle.barrier_vector.proofs.Common.{false, slice_index, ℤ, cases_lt, ints, clamps, Side, Low, High, Entries, entries_at, IsProblem, IsHead, IsBase, need}
+use Rattle.barrier_vector.proofs.Common.{capped_flow, ceil_over, anchor_on, AnchorRoot, IsAnchorPath, IsUnanchored, moved_out, IsAnchoredBound, IsBoundOn}
+use Rattle.barrier_vector.proofs.Common.{mark_at, path_limit, ListRoot, IsSearched, AreRoots, AreAnchorPaths, cut_on, IsAnchoredOrNone, IsBoundOrNone, bound_at}
+use Rattle.barrier_vector.proofs.Common.{AreBounds}
 use Rattle.barrier_vector.proofs.Backs.{reaches_within}
 use Rattle.barrier_vector.proofs.Rooting.{path_as}
 use Rattle.barrier_vector.proofs.CappedFlows.{whole_anchor_path}

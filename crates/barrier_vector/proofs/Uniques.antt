@@ -1,15 +1,7 @@
 -- Levels, parents, paths, floors and ceilings are each one number.
-use Rattle.std.proofs.Common.{◌≡◌, ℕ, zero, suc, ◌+◌, inl, inr, sym, ◌∙◌, ap, subst, arith, List, Contains, ℤ, pos, ◌-ℤ◌}
-use Rattle.std.proofs.lemmas.Bool.{cases_lt}
-use Rattle.step_problem.specs.declared.heads.Side.{Side}
-use Rattle.step_problem.specs.declared.heads.Side.TheVariants.{Low, High}
-use Rattle.step_problem.specs.declared.entry.Link.{Link}
-use Rattle.step_problem.specs.Entries.{Entries, entries_at, link_at}
-use Rattle.step_problem.specs.Conditions.{IsProblem}
-use Rattle.barrier_vector.specs.Lacks.{need}
-use Rattle.barrier_vector.specs.Paths.{ceil_over, IsLevel, SumsTo, IsPath}
-use Rattle.barrier_vector.specs.Bounds.{AnchorRoot, LeastRoot, IsAnchorPath, IsInnerPath, IsLongest, IsUnanchored, moved_out, IsAnchoredBound, IsCarriedFloor, IsBoundOn}
-use Rattle.barrier_vector.specs.Refusals.{HasNoBound}
+use Rattle.barrier_vector.proofs.Common.{◌≡◌, ℕ, zero, suc, ◌+◌, inl, inr, sym, ◌∙◌, ap, subst, arith, List, Contains, ℤ, pos, ◌-ℤ◌, cases_lt, Side, Low, High}
+use Rattle.barrier_vector.proofs.Common.{Link, Entries, entries_at, link_at, IsProblem, need, ceil_over, IsLevel, SumsTo, IsPath, AnchorRoot, LeastRoot}
+use Rattle.barrier_vector.proofs.Common.{IsAnchorPath, IsInnerPath, IsLongest, IsUnanchored, moved_out, IsAnchoredBound, IsCarriedFloor, IsBoundOn, HasNoBound}
 use Rattle.barrier_vector.proofs.Backs.{has_links}
 use Rattle.barrier_vector.proofs.Levels.{link_place}
 use Rattle.barrier_vector.proofs.Marking.{base_one}

@@ -1,9 +1,10 @@
 -- Ends in their places.
-use Rattle.std.proofs.Common.{◌≡◌, ℕ, zero, suc, ◌+◌, ◌-◌, ◌<◌, ◌≤◌, List, [], ◌∷◌, ◌++◌, length, refl, sym, ap, ◌∙◌, subst, append_assoc, get_or, true, false, true≢false, inl, inr, arith}
+use Rattle.batch_book.proofs.Common.{◌≡◌, ℕ, zero, suc, ◌+◌, ◌-◌, ◌<◌, ◌≤◌, List, [], ◌∷◌, ◌++◌, length, refl, sym, ap, ◌∙◌, subst, append_assoc, get_or, true}
+use Rattle.batch_book.proofs.Common.{false, true≢false, inl, inr, arith, IfSome, is_none, slice_get, end_at, first_of, AreOwn, HasEnd, IsPut, IsMissing}
+use Rattle.batch_book.proofs.Common.{AreJobEnds, those_there}
 use Rattle.std.proofs.lemmas.Bool.{cases_eq, cases_lt}
 use Rattle.std.proofs.lemmas.List.{append-nil, get_or_read}
-use Rattle.std.specs.Prelude.{Option, Some, None, IfSome, is_none, slice_get}
-use Rattle.batch_book.specs.Ends.{end_at, first_of, AreOwn, HasEnd, IsPut, IsMissing, AreJobEnds, those_there}
+use Rattle.std.specs.Prelude.{Option, Some, None}
 
 pub past_end : {E : Type 0} (places : List (Option E)) (job : ℕ) → length places ≤ job → end_at places job ≡ None
 past_end [] job h = refl

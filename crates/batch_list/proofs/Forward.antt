@@ -1,17 +1,13 @@
 -- The names of a list are words of it.
-use Rattle.std.proofs.Common.{◌≡◌, ℕ, Bool, true, false, List, [], ◌∷◌, Option, Some, None, Ok, All, if◌then◌else◌}
+use Rattle.batch_list.proofs.Common.{◌≡◌, ℕ, Bool, true, false, List, [], ◌∷◌, Option, Some, None, Ok, All, if◌then◌else◌, cons_option, folder_name, Refusal}
+use Rattle.batch_list.proofs.Common.{Numbered, left_from, is_comment, Entry, first_entry, entry_of, entries, refusals, unless_refused, words_of, names_in}
 use Rattle.std.specs.Prelude.{IfOk, IfSome}
-use Rattle.std.specs.List.{cons_option}
 use Rattle.std.proofs.lemmas.List.Elements.{All-nil, All-cons, All-head, All-tail}
 use Rattle.outside.specs.Asking.{WordsMay, TextMay}
 use Rattle.outside.specs.Inputs.{file_limit}
-use Rattle.outside.specs.Names.{folder_name}
 use Rattle.outside.specs.Words.{words}
-use Rattle.outside.specs.declared.refusals.Refusal.{Refusal}
 use Rattle.record_lines.specs.Asking.{LineMay}
-use Rattle.record_lines.specs.Layout.{Numbered, left_from, is_comment}
 use Rattle.record_lines.proofs.Forward.{given, text_held}
-use Rattle.batch_list.specs.Names.{Entry, first_entry, entry_of, entries, refusals, unless_refused, words_of, names_in}
 
 module _ (may : List ℕ → ℕ → Type 0) where
   first_held : (line : ℕ) (ws : List (List ℕ)) → WordsMay may ws → IfSome (first_entry line ws) (λ e. may (folder_name e.word) file_limit)

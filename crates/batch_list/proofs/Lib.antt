@@ -1,2 +1,3 @@
+mod Common
 mod LineLemmas
 pub mod Forward

@@ -1,17 +1,11 @@
 -- Laws on batches of jobs, whatever is an end of a job.
-use Rattle.std.proofs.Common.{◌≡◌, ℕ, suc, ◌+◌, List, [], ◌∷◌, ◌++◌, map, length, Some, IfSome, subst, sym, ap, refl, ◌∙◌, inl, inr, arith}
+use Rattle.batch_puts.proofs.Common.{◌≡◌, ℕ, suc, ◌+◌, List, [], ◌∷◌, ◌++◌, map, length, Some, IfSome, subst, sym, ap, refl, ◌∙◌, inl, inr, arith, Put, taken}
+use Rattle.batch_puts.proofs.Common.{end_line, IsRun, whole, early, NeverCut, Status, IsLate, tail_late, weaker, JobEnd, or_else, first_not_ok, texts, IsEnded}
 use Rattle.std.specs.Prelude.{slice_get}
 use Rattle.std.specs.List.{AllZip}
-use Rattle.outside.specs.Puts.{Put, taken}
-use Rattle.run_puts.specs.Lines.{end_line}
-use Rattle.run_puts.specs.Runs.{IsRun, whole, early, NeverCut}
 use Rattle.run_puts.specs.Agreement.{Agree, IsUnfinished}
-use Rattle.run_puts.specs.declared.status.Status.{Status}
-use Rattle.run_puts.specs.declared.status.Status.TheVariants as status
-use Rattle.run_puts.proofs.Pieces.{IsLate, tail_late, weaker}
-use Rattle.batch_puts.specs.declared.job_end.JobEnd.{JobEnd}
-use Rattle.batch_puts.specs.Ended.{or_else, first_not_ok, texts, IsEnded}
 use Rattle.batch_puts.specs.Batches.{IsBatch}
+use Rattle.run_puts.specs.declared.status.Status.TheVariants as status
 
 agree_later : (first later also : Status) → Agree later also → Agree (or_else first later) (or_else first also)
 agree_later status.Ok later also h = h

@@ -1,15 +1,10 @@
 -- The puts of a batch, so far and in the end.
-use Rattle.std.proofs.Common.{◌≡◌, ℕ, zero, suc, ◌+◌, ◌<◌, ◌≤◌, List, [], ◌∷◌, ◌++◌, map, length, take, drop, get_or, subst, sym, ap, refl, ◌∙◌, inl, inr, append_assoc, arith}
+use Rattle.batch_puts.proofs.Common.{◌≡◌, ℕ, zero, suc, ◌+◌, ◌<◌, ◌≤◌, List, [], ◌∷◌, ◌++◌, map, length, take, drop, get_or, subst, sym, ap, refl, ◌∙◌, inl}
+use Rattle.batch_puts.proofs.Common.{inr, append_assoc, arith, Put, taken, Text, end_line, IsRun, whole, early, all_due, NeverCut, IsLast, Status, JobEnd}
+use Rattle.batch_puts.proofs.Common.{first_not_ok, texts, IsEnded}
 use Rattle.std.proofs.lemmas.List.{map-append, take_more, get_or-map, length-map}
-use Rattle.outside.specs.Puts.{Put, taken}
-use Rattle.run_puts.specs.Lines.{Text, end_line}
 use Rattle.run_puts.specs.Tails.{IsTail}
-use Rattle.run_puts.specs.Runs.{IsRun, whole, early, all_due, NeverCut}
-use Rattle.run_puts.specs.Ends.{IsLast}
-use Rattle.run_puts.specs.declared.status.Status.{Status}
 use Rattle.run_puts.specs.declared.status.Status.TheVariants as status
-use Rattle.batch_puts.specs.declared.job_end.JobEnd.{JobEnd}
-use Rattle.batch_puts.specs.Ended.{first_not_ok, texts, IsEnded}
 
 -- a list, cut after an entry
 split_after : {X : Type 0} (xs : List X) (i : ℕ) (d : X) → i < length xs → xs ≡ take i xs ++ (get_or xs i d ∷ drop (suc i) xs)

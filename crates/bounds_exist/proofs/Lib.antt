@@ -1,3 +1,4 @@
+mod Common
 pub mod Roundings
 pub mod TermBounds
 pub mod Pairs

@@ -1,16 +1,10 @@
 -- Each formula that has both bounds has both whole bounds.
-use Rattle.std.proofs.Common.{ℕ, ◌+◌, ◌*◌, ◌-◌, ◌/◌, ◌<◌, ◌^◌, inl, inr, refl, arith}
-use Rattle.std.proofs.Math.Nat.{lt-mul-div-succ, div-mul-le_self}
-use Rattle.std.proofs.lemmas.Bool.{cases_lt}
-use Rattle.decimal_input.specs.Ratios.{Ratio, den}
+use Rattle.bounds_exist.proofs.Common.{ℕ, ◌+◌, ◌*◌, ◌-◌, ◌/◌, ◌<◌, ◌^◌, inl, inr, refl, arith, lt-mul-div-succ, div-mul-le_self, cases_lt, Ratio, den, value}
+use Rattle.bounds_exist.proofs.Common.{Term, Lower, Upper, IsBounded}
 use Rattle.decimal_input.specs.Wholes.{IsFloor}
-use Rattle.scaled_decimal.specs.Nearest.{value}
 use Rattle.conductance_bounds.specs.Pairs.{IsPair, IsCapped}
-use Rattle.conductance_bounds.specs.Terms.{Term}
-use Rattle.conductance_bounds.specs.Terms.Side.{Lower, Upper}
 use Rattle.conductance_bounds.proofs.PartBounds.{has_ceiling}
 use Rattle.conductance_bounds.proofs.Whole.{ceiling-passes}
-use Rattle.bounds_exist.specs.Bounded.{IsBounded}
 use Rattle.bounds_exist.specs.Laws.{RoundingsExist, BoundsExist, PairsExist}
 use Rattle.bounds_exist.proofs.Roundings.{down_of, up_of}
 use Rattle.bounds_exist.proofs.TermBounds.{bound_of}

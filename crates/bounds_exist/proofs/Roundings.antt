@@ -1,13 +1,9 @@
 -- Each ratio has a greatest 18-digit decimal not above it, and a least one not below it.
-use Rattle.std.proofs.Common.{◌≡◌, ℕ, zero, suc, ◌+◌, ◌*◌, ◌-◌, ◌/◌, ◌≤◌, ◌<◌, ◌^◌, inl, inr, refl, subst, arith, pos, negsuc, ◌+ℤ◌}
-use Rattle.std.proofs.Math.Nat.{pow-suc, mul-le-mul_right, lt-mul-div-succ, div-mul-le_self}
+use Rattle.bounds_exist.proofs.Common.{◌≡◌, ℕ, zero, suc, ◌+◌, ◌*◌, ◌-◌, ◌/◌, ◌≤◌, ◌<◌, ◌^◌, inl, inr, refl, subst, arith, pos, negsuc, ◌+ℤ◌, pow-suc}
+use Rattle.bounds_exist.proofs.Common.{mul-le-mul_right, lt-mul-div-succ, div-mul-le_self, cases_lt, Ratio, den, AtMost, ten_pos, num_scaled, den_scaled, Sd}
+use Rattle.bounds_exist.proofs.Common.{value, IsDown, IsUp}
 use Rattle.std.proofs.lemmas.Nat.{pow-add}
-use Rattle.std.proofs.lemmas.Bool.{cases_lt}
-use Rattle.decimal_input.specs.Ratios.{Ratio, den, AtMost}
-use Rattle.decimal_input.proofs.Powers.{ten_pos, num_scaled, den_scaled}
-use Rattle.scaled_decimal.specs.declared.decimal.Sd.{Sd}
 use Rattle.scaled_decimal.specs.Cuts.{IsFrom, IsUpTo}
-use Rattle.scaled_decimal.specs.Nearest.{value, IsDown, IsUp}
 use Rattle.scaled_decimal.proofs.Fronts.{up_at_18, up_at_nines}
 use Rattle.scaled_decimal.proofs.Nearest.{cut_down_by}
 use Rattle.scaled_decimal.proofs.Numbers.{at_least_quotient, below_quotient}

@@ -1,16 +1,10 @@
 -- Each formula of decimals whose divisors are above 0 has both bounds.
-use Rattle.std.proofs.Common.{ℕ, zero, suc, ◌+◌, ◌*◌, ◌≤◌, ◌<◌, ◌^◌, inl, inr, refl, sym, subst, arith, mul-pos}
+use Rattle.bounds_exist.proofs.Common.{ℕ, zero, suc, ◌+◌, ◌*◌, ◌≤◌, ◌<◌, ◌^◌, inl, inr, refl, sym, subst, arith, mul-pos, Ratio, den, plus, times, over, AtMost}
+use Rattle.bounds_exist.proofs.Common.{num_scaled, Sd, value, Term, Side, other, end, IsRounded, IsBound, Lower, Upper, HasPositiveBounds, IsBounded}
 use Rattle.decimal_input.specs.Decimals.{up}
-use Rattle.decimal_input.specs.Ratios.{Ratio, den, plus, times, over, AtMost}
 use Rattle.decimal_input.proofs.Orders.{Same-back, num_plus, num_times, num_over}
-use Rattle.decimal_input.proofs.Powers.{num_scaled}
-use Rattle.scaled_decimal.specs.declared.decimal.Sd.{Sd}
-use Rattle.scaled_decimal.specs.Nearest.{value}
-use Rattle.conductance_bounds.specs.Terms.{Term, Side, other, end, IsRounded, IsBound}
 use Rattle.conductance_bounds.specs.Terms.Term.{Number, Within, Sum, Product, Quotient}
-use Rattle.conductance_bounds.specs.Terms.Side.{Lower, Upper}
 use Rattle.conductance_bounds.proofs.Enclosing.{positive_value}
-use Rattle.bounds_exist.specs.Bounded.{HasPositiveBounds, IsBounded}
 use Rattle.bounds_exist.proofs.Roundings.{down_of, up_of, down_positive}
 
 more_positive : (f g : Ratio) → AtMost f g → 0 < f.num → 0 < g.num

@@ -1,16 +1,8 @@
 -- Sums of parts, and sums that stand still at the limit.
-use Rattle.std.proofs.Common.{◌≡◌, ℕ, ◌+◌, ◌<◌, ◌≤◌, Bool, true, false, cond, refl, sym, ap, ◌∙◌, arith, List, [], ◌∷◌, length, get_or, drop, map, add-one, drop-cons, ℤ, pos, neg_ℤ, ◌+ℤ◌, ◌≤ℤ◌}
-use Rattle.std.specs.List.{filter}
-use Rattle.std.specs.Int.{int_min, int_max}
-use Rattle.std.proofs.lemmas.Int.{ints, clamps}
+use Rattle.budget_bounds.proofs.Common.{◌≡◌, ℕ, ◌+◌, ◌<◌, ◌≤◌, Bool, true, false, cond, refl, sym, ap, ◌∙◌, arith, List, [], ◌∷◌, length, get_or, drop, map}
+use Rattle.budget_bounds.proofs.Common.{add-one, drop-cons, ℤ, pos, neg_ℤ, ◌+ℤ◌, ◌≤ℤ◌, filter, int_min, int_max, ints, clamps, Dir, In, Out, sum_below}
+use Rattle.budget_bounds.proofs.Common.{TermPair, part, parts, term_limit, IsSum, capped, plus_pair}
 use Rattle.std.proofs.lemmas.List.{drop_all}
-use Rattle.step_problem.specs.declared.place.Dir.{Dir}
-use Rattle.step_problem.specs.declared.place.Dir.TheVariants.{In, Out}
-use Rattle.cell_balance.specs.Components.{sum_below}
-use Rattle.budget_bounds.specs.declared.pair.TermPair.{TermPair}
-use Rattle.budget_bounds.specs.Singles.{part}
-use Rattle.budget_bounds.specs.Terms.{parts, term_limit}
-use Rattle.budget_bounds.specs.Capped.{IsSum, capped, plus_pair}
 
 pub filter_all : {X : Type 0} (xs : List X) → filter (λ x. true) xs ≡ xs
 filter_all [] = refl

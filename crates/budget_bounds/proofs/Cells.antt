@@ -1,15 +1,10 @@
 -- The single flows of a term, as they stand in the entries of a cell.
-use Rattle.std.proofs.Common.{◌≡◌, refl, true, List, map, ℤ}
-use Rattle.std.specs.List.{filter}
-use Rattle.step_problem.specs.declared.entry.Fixed.{Fixed}
+use Rattle.budget_bounds.proofs.Common.{◌≡◌, refl, true, List, map, ℤ, filter, Fixed, Flow, Term, Storage, ConstantHead, Wells, Drains, RiverLeakage}
+use Rattle.budget_bounds.proofs.Common.{HeadDepBounds, Recharge, Et, Entries, singles, fixed_term, flow_term, is_term, flow_pair, fixed_pair, river_pair}
+use Rattle.budget_bounds.proofs.Common.{drain_pair, evap_pair}
 use Rattle.step_problem.specs.declared.entry.River.{River}
 use Rattle.step_problem.specs.declared.entry.Drain.{Drain}
 use Rattle.step_problem.specs.declared.entry.Evap.{Evap}
-use Rattle.step_problem.specs.declared.entry.Flow.{Flow}
-use Rattle.step_problem.specs.declared.place.Term.{Term}
-use Rattle.step_problem.specs.declared.place.Term.TheVariants.{Storage, ConstantHead, Wells, Drains, RiverLeakage, HeadDepBounds, Recharge, Et}
-use Rattle.step_problem.specs.Entries.{Entries}
-use Rattle.budget_bounds.specs.Singles.{singles, fixed_term, flow_term, is_term, flow_pair, fixed_pair, river_pair, drain_pair, evap_pair}
 use Rattle.budget_bounds.proofs.Caps.{filter_all}
 
 module _ (t : Term) (c : Entries) (l u : ℤ) where

@@ -1,16 +1,8 @@
 -- Bounds that reach as far, term by term.
-use Rattle.std.proofs.Common.{◌≡◌, ℕ, ◌+◌, ◌<◌, inl, inr, sym, ap, ◌∙◌, subst, arith, get_or}
-use Rattle.step_problem.specs.declared.place.Dir.{Dir}
-use Rattle.step_problem.specs.declared.place.Dir.TheVariants.{In, Out}
-use Rattle.step_problem.specs.declared.place.Term.{Term}
+use Rattle.budget_bounds.proofs.Common.{◌≡◌, ℕ, ◌+◌, ◌<◌, inl, inr, sym, ap, ◌∙◌, subst, arith, get_or, Dir, In, Out, Term, Fraction, den, EnclosesSigned}
+use Rattle.budget_bounds.proofs.Common.{TermPair, Budget, place_of, all_terms, bounds_in, CoverEncloses, Covers, IsFirstShort, IsFirstUncovered, Reaches}
+use Rattle.budget_bounds.proofs.Common.{line_of}
 use Rattle.std.proofs.lemmas.Bool.{cases_eq}
-use Rattle.decimal_input.specs.Fractions.{Fraction, den}
-use Rattle.decimal_input.specs.Enclosures.{EnclosesSigned}
-use Rattle.budget_bounds.specs.declared.pair.TermPair.{TermPair}
-use Rattle.budget_bounds.specs.declared.pair.Budget.{Budget}
-use Rattle.budget_bounds.specs.Singles.{place_of}
-use Rattle.budget_bounds.specs.Terms.{all_terms, bounds_in}
-use Rattle.budget_bounds.specs.Covers.{CoverEncloses, Covers, IsFirstShort, IsFirstUncovered, Reaches, line_of}
 use Rattle.budget_bounds.proofs.Ordered.{at_place, place_within}
 use Rattle.decimal_input.proofs.Signs.{mul_mono_right}
 use Rattle.cell_balance.proofs.Totals.{le_trans_z}

@@ -1,28 +1,17 @@
 -- The bounds of each term enclose its exact value.
-use Rattle.std.proofs.Common.{◌≡◌, ℕ, suc, ◌+◌, ◌-◌, ap, subst, arith, List, length, map, ℤ}
-use Rattle.std.specs.List.{AllZip, filter}
+use Rattle.budget_bounds.proofs.Common.{◌≡◌, ℕ, suc, ◌+◌, ◌-◌, ap, subst, arith, List, length, map, ℤ, AllZip, filter, Fraction, fraction_total, EnclosesSigned}
+use Rattle.budget_bounds.proofs.Common.{Fixed, Flow, Dir, In, Out, Term, Storage, ConstantHead, Wells, Drains, RiverLeakage, HeadDepBounds, Recharge, Et}
+use Rattle.budget_bounds.proofs.Common.{Entries, entries_at, no_entries, TermPair, fixed_term, flow_term, is_term, part, singles, flow_pair, fixed_pair}
+use Rattle.budget_bounds.proofs.Common.{river_pair, drain_pair, evap_pair, parts, term_pair, AreWithin, HeadsAreWithin, exact_part, exact_singles, exact_term}
 use Rattle.cell_balance.specs.Deep.{total_below}
-use Rattle.decimal_input.specs.Fractions.{Fraction, fraction_total}
-use Rattle.decimal_input.specs.Enclosures.{EnclosesSigned}
 use Rattle.step_problem.specs.declared.entry.FixedKind.{FixedKind}
 use Rattle.step_problem.specs.declared.entry.FlowKind.{FlowKind}
-use Rattle.step_problem.specs.declared.entry.Fixed.{Fixed}
-use Rattle.step_problem.specs.declared.entry.Flow.{Flow}
-use Rattle.step_problem.specs.declared.place.Dir.{Dir}
-use Rattle.step_problem.specs.declared.place.Dir.TheVariants.{In, Out}
-use Rattle.step_problem.specs.declared.place.Term.{Term}
-use Rattle.step_problem.specs.declared.place.Term.TheVariants.{Storage, ConstantHead, Wells, Drains, RiverLeakage, HeadDepBounds, Recharge, Et}
-use Rattle.step_problem.specs.Entries.{Entries, entries_at, no_entries}
 use Rattle.cell_balance.specs.Steps.{ExactFlow, ExactFixed, ExactCell, cell_at, no_cell}
 use Rattle.cell_balance.specs.Balance.{fixed_flow, river_flow, drain_flow, evap_flow}
 use Rattle.cell_balance.specs.Enclosures.{FlowEncloses, FixedEncloses, RiverEncloses, DrainEncloses, EvapEncloses, CellEncloses, EnclosesStep}
 use Rattle.cell_balance.proofs.EntryBounds.{bounds_hold}
 use Rattle.cell_balance.proofs.Zips.{AllZip-at, AllZip-length}
 use Rattle.cell_balance.proofs.Enclosing.{in_encloses, out_encloses, total_encloses, below_encloses, AllZip-filter, AllZip-map}
-use Rattle.budget_bounds.specs.declared.pair.TermPair.{TermPair}
-use Rattle.budget_bounds.specs.Singles.{fixed_term, flow_term, is_term, part, singles, flow_pair, fixed_pair, river_pair, drain_pair, evap_pair}
-use Rattle.budget_bounds.specs.Terms.{parts, term_pair}
-use Rattle.budget_bounds.specs.Exact.{AreWithin, HeadsAreWithin, exact_part, exact_singles, exact_term}
 
 part_encloses : (dir : Dir) (k : ℕ) (x : TermPair) (f : Fraction) → EnclosesSigned x.lo x.hi k f → EnclosesSigned (part dir x).lo (part dir x).hi k (exact_part dir f)
 part_encloses In k x f h = in_encloses x.lo x.hi k f h

@@ -1,3 +1,4 @@
+mod Common
 pub mod Caps
 pub mod Cells
 pub mod Enclosed

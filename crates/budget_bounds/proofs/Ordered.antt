@@ -1,18 +1,10 @@
 -- The terms of a budget in the order of the listing: what its bounds are, and what they enclose.
-use Rattle.std.proofs.Common.{◌≡◌, ℕ, zero, suc, ◌+◌, ◌<◌, refl, sym, ap, ◌∙◌, subst, arith, Bool, true, false, List, [], ◌∷◌, length, get_or, ℤ}
+use Rattle.budget_bounds.proofs.Common.{◌≡◌, ℕ, zero, suc, ◌+◌, ◌<◌, refl, sym, ap, ◌∙◌, subst, arith, Bool, true, false, List, [], ◌∷◌, length, get_or, ℤ}
+use Rattle.budget_bounds.proofs.Common.{EnclosesSigned, Dir, In, Out, Term, Storage, ConstantHead, Wells, Drains, RiverLeakage, HeadDepBounds, Recharge, Et}
+use Rattle.budget_bounds.proofs.Common.{Entries, TermPair, Budget, place_of, ◌>>=◌, all_terms, bounds_in, budget_of, is_small, no_pair, term_of, term_pair}
+use Rattle.budget_bounds.proofs.Common.{terms_of, too_large, EnclosesBudgets, exact_term}
 use Rattle.std.specs.Prelude.{Result, Ok, Err, if◌then◌else◌, IfOk}
-use Rattle.decimal_input.specs.Enclosures.{EnclosesSigned}
-use Rattle.step_problem.specs.declared.place.Dir.{Dir}
-use Rattle.step_problem.specs.declared.place.Dir.TheVariants.{In, Out}
-use Rattle.step_problem.specs.declared.place.Term.{Term}
-use Rattle.step_problem.specs.declared.place.Term.TheVariants.{Storage, ConstantHead, Wells, Drains, RiverLeakage, HeadDepBounds, Recharge, Et}
 use Rattle.step_problem.specs.declared.place.NoBound.{NoBound}
-use Rattle.step_problem.specs.Entries.{Entries}
-use Rattle.budget_bounds.specs.declared.pair.TermPair.{TermPair}
-use Rattle.budget_bounds.specs.declared.pair.Budget.{Budget}
-use Rattle.budget_bounds.specs.Singles.{place_of}
-use Rattle.budget_bounds.specs.Terms.{◌>>=◌, all_terms, bounds_in, budget_of, is_small, no_pair, term_of, term_pair, terms_of, too_large}
-use Rattle.budget_bounds.specs.Exact.{EnclosesBudgets, exact_term}
 use Rattle.budget_bounds.proofs.Enclosed.{term_enclosed}
 
 -- the term at each place

@@ -1,17 +1,9 @@
 -- Tests of sums that stop at the limit tell what tests of the whole sums do.
-use Rattle.std.proofs.Common.{◌≡◌, ℕ, refl, ap, ◌∙◌, arith, Bool, true, false, List, [], ◌∷◌, ℤ}
-use Rattle.std.specs.Int.{int_min}
+use Rattle.budget_bounds.proofs.Common.{◌≡◌, ℕ, refl, ap, ◌∙◌, arith, Bool, true, false, List, [], ◌∷◌, ℤ, int_min, ints, clamps, Dir, In, Out, Term, Entries}
+use Rattle.budget_bounds.proofs.Common.{TermPair, all_terms, budget_of, term_limit, term_of, term_pair, terms_of, capped, sum_of, tested, tested_terms}
+use Rattle.budget_bounds.proofs.Common.{tested_budget}
 use Rattle.std.specs.Int.Signed.{lt_z}
-use Rattle.std.proofs.lemmas.Int.{ints, clamps}
-use Rattle.step_problem.specs.declared.place.Dir.{Dir}
-use Rattle.step_problem.specs.declared.place.Dir.TheVariants.{In, Out}
-use Rattle.step_problem.specs.declared.place.Term.{Term}
-use Rattle.step_problem.specs.Entries.{Entries}
-use Rattle.budget_bounds.specs.declared.pair.TermPair.{TermPair}
 use Rattle.budget_bounds.specs.declared.walk.TermSums.{TermSums}
-use Rattle.budget_bounds.specs.Terms.{all_terms, budget_of, term_limit, term_of, term_pair, terms_of}
-use Rattle.budget_bounds.specs.Capped.{capped}
-use Rattle.budget_bounds.specs.Tested.{sum_of, tested, tested_terms, tested_budget}
 
 alike : (limit a : ℤ) (s t : Bool) → lt_z (int_min a limit) limit ≡ s → lt_z a limit ≡ t → s ≡ t
 alike limit a true true e f = refl

@@ -1,13 +1,6 @@
 -- The sums of a term over the first cells.
-use Rattle.std.proofs.Common.{◌≡◌, ℕ, ◌+◌, ap, ◌∙◌, List, length, ℤ}
-use Rattle.step_problem.specs.declared.place.Dir.{Dir}
-use Rattle.step_problem.specs.declared.place.Term.{Term}
-use Rattle.step_problem.specs.Entries.{Entries, entries_at}
-use Rattle.cell_balance.specs.Components.{sum_below}
-use Rattle.budget_bounds.specs.declared.pair.TermPair.{TermPair}
-use Rattle.budget_bounds.specs.Singles.{singles}
-use Rattle.budget_bounds.specs.Terms.{parts, term_pair, no_pair}
-use Rattle.budget_bounds.specs.Capped.{capped, plus_pair}
+use Rattle.budget_bounds.proofs.Common.{◌≡◌, ℕ, ◌+◌, ap, ◌∙◌, List, length, ℤ, Dir, Term, Entries, entries_at, sum_below, TermPair, singles, parts, term_pair}
+use Rattle.budget_bounds.proofs.Common.{no_pair, capped, plus_pair}
 use Rattle.budget_bounds.proofs.Caps.{cell_more, no_cells, parts_lo, parts_hi}
 
 module _ (p : List Entries) (l u : ℕ → ℤ) (dir : Dir) (t : Term) where

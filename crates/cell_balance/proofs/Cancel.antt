@@ -1,14 +1,9 @@
 -- Over all cells the flows over links cancel, and over any set only the links that leave it count.
-use Rattle.std.proofs.Common.{◌≡◌, ℕ, ◌<◌, refl, sym, ap, ◌∙◌, arith, ℤ, pos, neg_ℤ, ◌+ℤ◌, ◌-ℤ◌, ◌*ℤ◌, List, [], ◌∷◌, length, All, Bool, true, false, cond, nat_eq}
-use Rattle.std.proofs.lemmas.List.Elements.{All-head, All-tail}
-use Rattle.std.proofs.lemmas.Int.{ints}
-use Rattle.std.proofs.Math.IntN.{zero-*ℤ, *ℤ-zero}
-use Rattle.step_problem.specs.Flows.{total}
-use Rattle.step_problem.proofs.Leasts.{mul_neg}
+use Rattle.cell_balance.proofs.Common.{◌≡◌, ℕ, ◌<◌, refl, sym, ap, ◌∙◌, arith, ℤ, pos, neg_ℤ, ◌+ℤ◌, ◌-ℤ◌, ◌*ℤ◌, List, [], ◌∷◌, length, All, Bool, true, false}
+use Rattle.cell_balance.proofs.Common.{cond, nat_eq, All-head, All-tail, ints, zero-*ℤ, *ℤ-zero, total, mul_neg, sum_below, sum_inside}
 use Rattle.cell_balance.proofs.Totals.{add_mul, total-same}
 use Rattle.cell_balance.proofs.Sums.{sum-same, sum-add, sum-neg, sum-zero, sum-swap, sum-one}
 use Rattle.cell_balance.proofs.Whole.{WholeLink, WholeCell, whole_link, whole_at}
-use Rattle.cell_balance.specs.Components.{sum_below, sum_inside}
 
 -- what the links of a list conduct to the cell k
 abbrev pub weight : List WholeLink → ℕ → ℤ

@@ -1,9 +1,6 @@
 -- The comparison in whole numbers: a certificate over a barrier encloses every solution that the barrier does.
-use Rattle.std.proofs.Common.{◌≡◌, ℕ, ◌<◌, ◌⊎◌, inl, inr, sym, subst, arith, ℤ, pos, ◌-ℤ◌, ◌*ℤ◌, ◌≤ℤ◌, ◌<ℤ◌, List, length}
-use Rattle.std.specs.List.{AllZip}
-use Rattle.std.proofs.lemmas.Int.{ints, by_lt_z}
-use Rattle.step_problem.specs.Entries.{Entries, entries_at}
-use Rattle.step_problem.specs.Balances.{lower_balance, upper_balance}
+use Rattle.cell_balance.proofs.Common.{◌≡◌, ℕ, ◌<◌, ◌⊎◌, inl, inr, sym, subst, arith, ℤ, pos, ◌-ℤ◌, ◌*ℤ◌, ◌≤ℤ◌, ◌<ℤ◌, List, length, AllZip, ints, by_lt_z}
+use Rattle.cell_balance.proofs.Common.{Entries, entries_at, lower_balance, upper_balance, IsHeldBelow, mul_mono_right}
 use Rattle.cell_balance.proofs.Zips.{AllZip-length}
 use Rattle.cell_balance.proofs.Products.{not_zero}
 use Rattle.cell_balance.proofs.Greatest.{max_of}
@@ -14,8 +11,6 @@ use Rattle.cell_balance.proofs.HighCell.{high_cell}
 use Rattle.cell_balance.proofs.Spread.{cell_within, no_anchor, not_carried}
 use Rattle.cell_balance.proofs.Whole.{WholeCell, whole_at, whole_balance}
 use Rattle.cell_balance.proofs.Within.{CellWithin}
-use Rattle.cell_balance.specs.Components.{IsHeldBelow}
-use Rattle.decimal_input.proofs.Signs.{mul_mono_right}
 
 module _ (m n : ℕ) (some_m : 0 < m) (some_n : 0 < n) (p : List Entries) (w : List WholeCell) (Y : ℕ → ℤ)
     (within : AllZip (CellWithin m n (length p)) p w) (both : IsMutual w)

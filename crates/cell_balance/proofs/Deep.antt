@@ -1,17 +1,11 @@
 -- The least deep flow of a cell is at most the exact one.
-use Rattle.std.proofs.Common.{ℕ, ◌*◌, arith, ℤ, pos, negsuc, ◌+ℤ◌, ◌-ℤ◌, ◌*ℤ◌, ◌≤ℤ◌, unsigned_abs}
-use Rattle.std.specs.Int.{int_max}
-use Rattle.std.proofs.lemmas.Int.{ints, clamps}
-use Rattle.step_problem.specs.declared.entry.River.{River}
-use Rattle.step_problem.specs.declared.entry.Evap.{Evap}
-use Rattle.step_problem.specs.Entries.{Entries}
-use Rattle.step_problem.specs.Conditions.{deep_river_low, full_rate}
+use Rattle.cell_balance.proofs.Common.{ℕ, ◌*◌, arith, ℤ, pos, negsuc, ◌+ℤ◌, ◌-ℤ◌, ◌*ℤ◌, ◌≤ℤ◌, unsigned_abs, int_max, ints, clamps, River, Evap, Entries}
+use Rattle.cell_balance.proofs.Common.{deep_river_low, deep_low, mul_mono_right}
+use Rattle.step_problem.specs.Conditions.{full_rate}
 use Rattle.cell_balance.proofs.Totals.{add_mul, sub_mul, le_trans_z, total_less, total_more}
 use Rattle.cell_balance.proofs.Products.{entry_less, entry_more, max_above, sub_less}
 use Rattle.cell_balance.proofs.Whole.{WholeRiver, WholeEvap, WholeCell, whole_deep_river, whole_full, whole_deep}
 use Rattle.cell_balance.proofs.Within.{FlowWithin, RiverWithin, EvapWithin, CellWithin}
-use Rattle.cell_balance.specs.Components.{deep_low}
-use Rattle.decimal_input.proofs.Signs.{mul_mono_right}
 
 deep_river : (m n : ℕ) (p : River) (x : WholeRiver) → RiverWithin m n p x → (deep_river_low p *ℤ pos (m * n)) ≤ℤ whole_deep_river x
 deep_river m n p x r = entry_less p.lo p.hi x.c m n _ _ r.c (rw sub_mul (sub_less _ _ _ _ r.stage.lower r.bottom.upper))

@@ -1,12 +1,8 @@
 -- The fractions of a step have a common denominator.
-use Rattle.std.proofs.Common.{◌≡◌, ℕ, suc, ◌*◌, ◌<◌, refl, ap, sym, ◌∙◌, ◌≤◌, arith, ℤ, pos, ◌*ℤ◌, List, [], ◌∷◌, All, mul-pos}
-use Rattle.std.proofs.lemmas.List.Elements.{All-nil, All-cons, All-weaker}
-use Rattle.std.proofs.Math.Nat.{mul-le-mul}
-use Rattle.decimal_input.specs.Ratios.{Ratio, den as ratio_den}
-use Rattle.decimal_input.specs.Fractions.{Fraction, den, IsOver}
-use Rattle.decimal_input.specs.Enclosures.{IsShare}
-use Rattle.step_problem.proofs.Ring.{mul_assoc}
-use Rattle.cell_balance.specs.Steps.{ExactFlow, ExactLink, ExactFixed, ExactRiver, ExactDrain, ExactEvap, ExactCell}
+use Rattle.cell_balance.proofs.Common.{◌≡◌, ℕ, suc, ◌*◌, ◌<◌, refl, ap, sym, ◌∙◌, ◌≤◌, arith, ℤ, pos, ◌*ℤ◌, List, [], ◌∷◌, All, mul-pos, All-nil, All-cons}
+use Rattle.cell_balance.proofs.Common.{All-weaker, mul-le-mul, Ratio, Fraction, den, IsOver, IsShare, mul_assoc, ExactFlow, ExactLink, ExactFixed, ExactRiver}
+use Rattle.cell_balance.proofs.Common.{ExactDrain, ExactEvap, ExactCell}
+use Rattle.decimal_input.specs.Ratios.{den as ratio_den}
 
 -- d goes into n
 abbrev pub Goes : ℕ → ℕ → Type 0

@@ -1,16 +1,11 @@
 -- Below all bottoms and drains a cell gets at least its deep flow besides what its links and fixed links give; over a closed set links cancel.
-use Rattle.std.proofs.Common.{◌≡◌, ℕ, ◌<◌, ◌⊎◌, inl, inr, refl, sym, ◌∙◌, arith, ℤ, pos, neg_ℤ, ◌+ℤ◌, ◌-ℤ◌, ◌≤ℤ◌, List, length, All, Bool, true, false, cond}
-use Rattle.std.specs.Int.{int_max, int_min}
-use Rattle.std.proofs.lemmas.Int.{ints, clamps}
-use Rattle.std.proofs.Math.IntN.{zero-*ℤ, *ℤ-zero}
-use Rattle.step_problem.specs.Flows.{total}
-use Rattle.step_problem.proofs.Ring.{mul_nonneg, mul_mono}
+use Rattle.cell_balance.proofs.Common.{◌≡◌, ℕ, ◌<◌, ◌⊎◌, inl, inr, refl, sym, ◌∙◌, arith, ℤ, pos, neg_ℤ, ◌+ℤ◌, ◌-ℤ◌, ◌≤ℤ◌, List, length, All, Bool, true, false}
+use Rattle.cell_balance.proofs.Common.{cond, int_max, int_min, ints, clamps, zero-*ℤ, *ℤ-zero, total, mul_nonneg, mul_mono, sum_inside}
 use Rattle.cell_balance.proofs.Totals.{total-same, total_nonneg, total_at_most, total_neg}
 use Rattle.cell_balance.proofs.Sums.{sum-same, sum-add, sum_at_most, sum_nonneg}
 use Rattle.cell_balance.proofs.Cancel.{IsMutual, cut_link, cut_links}
 use Rattle.cell_balance.proofs.Whole.{WholeLink, WholeFixed, WholeRiver, WholeDrain, WholeEvap, WholeCell, whole_link, whole_fixed, whole_river, whole_drain, whole_evap, whole_balance, whole_deep_river, whole_full, whole_deep, whole_at}
 use Rattle.cell_balance.proofs.Within.{IsDry}
-use Rattle.cell_balance.specs.Components.{sum_inside}
 
 dry_river : (y t : ℤ) → y ≤ℤ t → (x : WholeRiver) → (x.c ≡ 0) ⊎ (t ≤ℤ x.bottom) → whole_river y x ≡ whole_deep_river x
 dry_river y t h x (inl e) = rw e (zero-*ℤ (x.stage -ℤ int_max y x.bottom) ∙ sym (zero-*ℤ (x.stage -ℤ x.bottom)))

@@ -1,22 +1,11 @@
 -- Bounds that enclose an exact step enclose its whole numbers: conductances over m * 10^s, heads over n * 10^9.
-use Rattle.std.proofs.Common.{◌≡◌, ℕ, ◌+◌, ◌*◌, ◌^◌, ◌<◌, ◌≤◌, ap, ◌∙◌, subst, arith, ℤ, pos, ◌*ℤ◌, List, All}
-use Rattle.std.specs.List.{AllZip}
-use Rattle.std.proofs.Math.Nat.{mul-le-mul_right, le_of_mul-le-mul_right}
+use Rattle.cell_balance.proofs.Common.{◌≡◌, ℕ, ◌+◌, ◌*◌, ◌^◌, ◌<◌, ◌≤◌, ap, ◌∙◌, subst, arith, ℤ, pos, ◌*ℤ◌, List, All, AllZip, mul-le-mul_right}
+use Rattle.cell_balance.proofs.Common.{le_of_mul-le-mul_right, Ratio, Fraction, den, IsOver, Encloses, EnclosesSigned, IsShare, IsBetweenWhole, IsBetweenSigned}
+use Rattle.cell_balance.proofs.Common.{cancel_right, mul_mono_right, swap, Flow, Link, Fixed, River, Drain, Evap, Entries, mul_assoc, ExactFlow, ExactLink}
+use Rattle.cell_balance.proofs.Common.{ExactFixed, ExactRiver, ExactDrain, ExactEvap, ExactCell, FlowEncloses, LinkEncloses, FixedEncloses, RiverEncloses}
+use Rattle.cell_balance.proofs.Common.{DrainEncloses, EvapEncloses, CellEncloses}
 use Rattle.std.proofs.lemmas.Nat.{pow-add}
-use Rattle.decimal_input.specs.Ratios.{Ratio, den as ratio_den}
-use Rattle.decimal_input.specs.Fractions.{Fraction, den, IsOver}
-use Rattle.decimal_input.specs.Enclosures.{Encloses, EnclosesSigned, IsShare, IsBetweenWhole, IsBetweenSigned}
-use Rattle.decimal_input.proofs.Signs.{cancel_right, mul_mono_right, swap}
-use Rattle.step_problem.specs.declared.entry.Flow.{Flow}
-use Rattle.step_problem.specs.declared.entry.Link.{Link}
-use Rattle.step_problem.specs.declared.entry.Fixed.{Fixed}
-use Rattle.step_problem.specs.declared.entry.River.{River}
-use Rattle.step_problem.specs.declared.entry.Drain.{Drain}
-use Rattle.step_problem.specs.declared.entry.Evap.{Evap}
-use Rattle.step_problem.specs.Entries.{Entries}
-use Rattle.step_problem.proofs.Ring.{mul_assoc}
-use Rattle.cell_balance.specs.Steps.{ExactFlow, ExactLink, ExactFixed, ExactRiver, ExactDrain, ExactEvap, ExactCell}
-use Rattle.cell_balance.specs.Enclosures.{FlowEncloses, LinkEncloses, FixedEncloses, RiverEncloses, DrainEncloses, EvapEncloses, CellEncloses}
+use Rattle.decimal_input.specs.Ratios.{den as ratio_den}
 use Rattle.cell_balance.proofs.Zips.{AllZip-compose}
 use Rattle.cell_balance.proofs.Whole.{WholeLink, WholeFixed, WholeRiver, WholeDrain, WholeEvap, WholeCell}
 use Rattle.cell_balance.proofs.Over.{FlowOver, LinkOver, FixedOver, RiverOver, DrainOver, EvapOver, CellOver}

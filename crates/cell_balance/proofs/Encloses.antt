@@ -1,15 +1,7 @@
 -- The comparison: from fractions to whole numbers and back.
-use Rattle.std.proofs.Common.{◌≡◌, ℕ, suc, ◌-◌, ◌*◌, ◌^◌, ◌<◌, ◌≤◌, sym, ap, ◌∙◌, subst, arith, ℤ, pos, ◌*ℤ◌, ◌≤ℤ◌, List, length, mul-pos}
-use Rattle.std.specs.List.{AllZip}
-use Rattle.std.proofs.Math.Nat.{mul-le-mul}
-use Rattle.decimal_input.specs.Fractions.{IsOver}
-use Rattle.decimal_input.proofs.Signs.{cancel_right, mul_mono_right, swap}
-use Rattle.step_problem.proofs.Ring.{mul_assoc}
-use Rattle.step_problem.specs.Heads.{head_at}
-use Rattle.cell_balance.specs.Steps.{ExactCell, cell_at, no_cell}
-use Rattle.cell_balance.specs.Balance.{balance}
-use Rattle.cell_balance.specs.Solutions.{share, SolvesStep}
-use Rattle.cell_balance.specs.Laws.{Compares}
+use Rattle.cell_balance.proofs.Common.{◌≡◌, ℕ, suc, ◌-◌, ◌*◌, ◌^◌, ◌<◌, ◌≤◌, sym, ap, ◌∙◌, subst, arith, ℤ, pos, ◌*ℤ◌, ◌≤ℤ◌, List, length, mul-pos, AllZip}
+use Rattle.cell_balance.proofs.Common.{mul-le-mul, IsOver, cancel_right, mul_mono_right, swap, mul_assoc, head_at, ExactCell, cell_at, no_cell, balance, share}
+use Rattle.cell_balance.proofs.Common.{SolvesStep, Compares}
 use Rattle.cell_balance.proofs.Zips.{AllZip-at, AllZip-length}
 use Rattle.cell_balance.proofs.Scaling.{zero_over}
 use Rattle.cell_balance.proofs.Over.{CellOver, balance_over}

@@ -1,24 +1,13 @@
 -- Sums of enclosed fractions, and their parts, are enclosed.
-use Rattle.std.proofs.Common.{◌≡◌, ℕ, zero, suc, ◌+◌, ◌*◌, ◌^◌, ◌<◌, refl, arith, List, [], ◌∷◌, Bool, true, false, map, ℤ, pos, neg_ℤ, ◌+ℤ◌, ◌*ℤ◌, ◌≤ℤ◌, mul-pos}
-use Rattle.std.specs.List.{filter, AllZip}
-use Rattle.std.specs.Int.{int_max}
-use Rattle.std.proofs.lemmas.Int.{ints}
-use Rattle.std.proofs.Math.IntN.{zero-*ℤ}
-use Rattle.decimal_input.specs.Fractions.{Fraction, den, whole, negated, plus, fraction_total, IsOver}
-use Rattle.decimal_input.specs.Enclosures.{EnclosesSigned, IsBetweenSigned}
-use Rattle.step_problem.proofs.Leasts.{neg_mul}
-use Rattle.step_problem.specs.Flows.{total}
-use Rattle.cell_balance.specs.Balance.{greater}
-use Rattle.cell_balance.specs.Components.{sum_below}
-use Rattle.cell_balance.specs.Deep.{total_below}
+use Rattle.cell_balance.proofs.Common.{◌≡◌, ℕ, zero, suc, ◌+◌, ◌*◌, ◌^◌, ◌<◌, refl, arith, List, [], ◌∷◌, Bool, true, false, map, ℤ, pos, neg_ℤ, ◌+ℤ◌, ◌*ℤ◌}
+use Rattle.cell_balance.proofs.Common.{◌≤ℤ◌, mul-pos, filter, AllZip, int_max, ints, zero-*ℤ, Fraction, den, whole, negated, plus, fraction_total, IsOver}
+use Rattle.cell_balance.proofs.Common.{EnclosesSigned, IsBetweenSigned, neg_mul, total, greater, sum_below, total_below, turned, le-add}
 use Rattle.cell_balance.proofs.Totals.{add_mul}
 use Rattle.cell_balance.proofs.Products.{max_above, max_below}
 use Rattle.cell_balance.proofs.Scaling.{IsOver-plus, IsOver-greater, IsOver-negated, IsOver-none}
 use Rattle.cell_balance.proofs.Enclosed.{between_over}
 use Rattle.cell_balance.proofs.EntryScaled.{enclosed_over}
 use Rattle.cell_balance.proofs.Denominators.{Goes, fraction_over}
-use Rattle.decimal_input.proofs.Signs.{turned}
-use Rattle.decimal_input.proofs.Integers.{le-add}
 use Rattle.decimal_input.proofs.Enclosing.{negated_enclosed}
 
 first : (a b : ℕ) → Goes a (a * b)

@@ -1,25 +1,13 @@
 -- The bounds of single flows enclose them, from their whole numbers.
-use Rattle.std.proofs.Common.{ℕ, suc, ◌+◌, ◌*◌, ◌^◌, ◌<◌, refl, sym, subst, arith, ℤ, pos, ◌+ℤ◌, ◌-ℤ◌, ◌*ℤ◌, ◌≤ℤ◌, mul-pos}
-use Rattle.std.proofs.lemmas.Int.{ints}
-use Rattle.decimal_input.specs.Fractions.{Fraction, den, IsOver}
-use Rattle.decimal_input.specs.Enclosures.{EnclosesSigned, IsBetweenSigned}
-use Rattle.step_problem.specs.declared.entry.Link.{Link}
-use Rattle.step_problem.specs.declared.entry.Fixed.{Fixed}
-use Rattle.step_problem.specs.declared.entry.River.{River}
-use Rattle.step_problem.specs.declared.entry.Drain.{Drain}
-use Rattle.step_problem.specs.declared.entry.Evap.{Evap}
-use Rattle.step_problem.specs.Balances.{link_low, fixed_low, river_low, drain_low, evap_low, link_high, fixed_high, river_high, drain_high, evap_high}
-use Rattle.step_problem.specs.Flows.{least, most}
-use Rattle.step_problem.proofs.Ring.{mul_nonneg}
-use Rattle.cell_balance.specs.Steps.{ExactLink, ExactFixed, ExactRiver, ExactDrain, ExactEvap}
-use Rattle.cell_balance.specs.Balance.{link_flow, fixed_flow, river_flow, drain_flow, evap_flow}
-use Rattle.cell_balance.specs.Enclosures.{LinkEncloses, FixedEncloses, RiverEncloses, DrainEncloses, EvapEncloses}
-use Rattle.cell_balance.specs.EntryLaws.{BoundsHold}
+use Rattle.cell_balance.proofs.Common.{ℕ, suc, ◌+◌, ◌*◌, ◌^◌, ◌<◌, refl, sym, subst, arith, ℤ, pos, ◌+ℤ◌, ◌-ℤ◌, ◌*ℤ◌, ◌≤ℤ◌, mul-pos, ints, Fraction, den}
+use Rattle.cell_balance.proofs.Common.{IsOver, EnclosesSigned, IsBetweenSigned, Link, Fixed, River, Drain, Evap, link_low, fixed_low, river_low, drain_low}
+use Rattle.cell_balance.proofs.Common.{evap_low, link_high, fixed_high, river_high, drain_high, evap_high, least, most, mul_nonneg, ExactLink, ExactFixed}
+use Rattle.cell_balance.proofs.Common.{ExactRiver, ExactDrain, ExactEvap, link_flow, fixed_flow, river_flow, drain_flow, evap_flow, LinkEncloses, FixedEncloses}
+use Rattle.cell_balance.proofs.Common.{RiverEncloses, DrainEncloses, EvapEncloses, BoundsHold}
 use Rattle.cell_balance.proofs.Totals.{sub_mul}
 use Rattle.cell_balance.proofs.Products.{entry_less, entry_more, sub_less}
 use Rattle.cell_balance.proofs.LowEntries.{fixed_gap, river_less, drain_less, evap_less}
-use Rattle.cell_balance.proofs.HighEntries.{river_more, drain_more, evap_more}
-use Rattle.cell_balance.proofs.HighEntries.{fixed_gap as fixed_gap_high}
+use Rattle.cell_balance.proofs.HighEntries.{river_more, drain_more, evap_more, fixed_gap as fixed_gap_high}
 use Rattle.cell_balance.proofs.Enclosed.{between_share, between_over, flow_denominator, fixed_within, river_within, drain_within, evap_within}
 use Rattle.cell_balance.proofs.EntryScaled.{enclosed_over}
 use Rattle.cell_balance.proofs.EntryFlows.{difference_over}

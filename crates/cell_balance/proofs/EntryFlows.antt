@@ -1,18 +1,9 @@
 -- What the manual says of single flows, from their whole numbers.
-use Rattle.std.proofs.Common.{◌≡◌, ℕ, zero, suc, ◌*◌, ◌<◌, ◌≤◌, refl, sym, ap, ◌∙◌, subst, arith, ℤ, pos, negsuc, neg_ℤ, ◌-ℤ◌, ◌*ℤ◌, ◌≤ℤ◌, ◌<ℤ◌, mul-pos}
-use Rattle.std.specs.Int.{int_max, int_min}
-use Rattle.std.proofs.Math.Nat.{mul-le-mul_right, mul-le-mul}
-use Rattle.std.proofs.Math.IntN.{*ℤ-zero}
-use Rattle.std.proofs.lemmas.Int.{ints, clamps}
-use Rattle.decimal_input.specs.Ratios.{Ratio, den as ratio_den}
-use Rattle.decimal_input.specs.Fractions.{Fraction, den, whole, signed, negated, IsOver}
-use Rattle.decimal_input.specs.Enclosures.{IsShare}
-use Rattle.step_problem.proofs.Ring.{mul_nonneg}
-use Rattle.step_problem.proofs.Leasts.{mul_neg}
-use Rattle.cell_balance.specs.Steps.{ExactFixed, ExactRiver, ExactDrain, ExactEvap}
-use Rattle.cell_balance.specs.Balance.{minus, greater, fixed_flow, river_flow, drain_flow, evap_flow}
-use Rattle.cell_balance.specs.Deep.{full_rate}
-use Rattle.cell_balance.specs.EntryLaws.{over_difference, FixedLaws, RiverLaws, DrainLaws, EvapLaws, FlowsAreRight}
+use Rattle.cell_balance.proofs.Common.{◌≡◌, ℕ, zero, suc, ◌*◌, ◌<◌, ◌≤◌, refl, sym, ap, ◌∙◌, subst, arith, ℤ, pos, negsuc, neg_ℤ, ◌-ℤ◌, ◌*ℤ◌, ◌≤ℤ◌, ◌<ℤ◌}
+use Rattle.cell_balance.proofs.Common.{mul-pos, int_max, int_min, mul-le-mul_right, mul-le-mul, *ℤ-zero, ints, clamps, Ratio, Fraction, den, whole, signed}
+use Rattle.cell_balance.proofs.Common.{negated, IsOver, IsShare, mul_nonneg, mul_neg, ExactFixed, ExactRiver, ExactDrain, ExactEvap, minus, greater, fixed_flow}
+use Rattle.cell_balance.proofs.Common.{river_flow, drain_flow, evap_flow, full_rate, over_difference, FixedLaws, RiverLaws, DrainLaws, EvapLaws, FlowsAreRight}
+use Rattle.decimal_input.specs.Ratios.{den as ratio_den}
 use Rattle.cell_balance.proofs.Scaling.{IsOver-times, IsOver-minus, IsOver-negated, IsOver-none, IsOver-signed, IsOver-greater, over_zero}
 use Rattle.cell_balance.proofs.Order.{over_le, le_over}
 use Rattle.cell_balance.proofs.EntryScaled.{same_over, negative_over, negative_below, positive_above, below_over}

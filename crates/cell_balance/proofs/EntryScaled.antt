@@ -1,13 +1,6 @@
 -- Single flows and their bounds, over one denominator; signs and equality of fractions by their whole numbers.
-use Rattle.std.proofs.Common.{◌≡◌, ℕ, ◌*◌, ◌^◌, ◌<◌, sym, ap, ◌∙◌, arith, ℤ, pos, ◌*ℤ◌, ◌≤ℤ◌, ◌<ℤ◌}
-use Rattle.std.proofs.lemmas.Int.{ints, by_lt_z}
-use Rattle.std.proofs.Math.IntN.{zero-*ℤ}
-use Rattle.decimal_input.specs.Fractions.{Fraction, den, Same, IsOver}
-use Rattle.decimal_input.specs.Enclosures.{EnclosesSigned}
-use Rattle.decimal_input.proofs.Signs.{cancel_right, mul_mono_right, swap}
-use Rattle.decimal_input.proofs.Integers.{le-antisym, le-of}
-use Rattle.step_problem.proofs.Ring.{mul_assoc}
-use Rattle.cell_balance.specs.EntryLaws.{IsBelow}
+use Rattle.cell_balance.proofs.Common.{◌≡◌, ℕ, ◌*◌, ◌^◌, ◌<◌, sym, ap, ◌∙◌, arith, ℤ, pos, ◌*ℤ◌, ◌≤ℤ◌, ◌<ℤ◌, ints, by_lt_z, zero-*ℤ, Fraction, den, Same}
+use Rattle.cell_balance.proofs.Common.{IsOver, EnclosesSigned, cancel_right, mul_mono_right, swap, le-antisym, le-of, mul_assoc, IsBelow}
 use Rattle.cell_balance.proofs.Order.{le_over}
 
 -- equal whole numbers over one denominator are one fraction

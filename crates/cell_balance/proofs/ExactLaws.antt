@@ -1,17 +1,8 @@
 -- The laws of exact balances, from their whole numbers.
-use Rattle.std.proofs.Common.{◌≡◌, ℕ, zero, suc, ◌*◌, ◌<◌, ◌⊎◌, inl, inr, refl, ap, subst, arith, ℤ, pos, ◌+ℤ◌, ◌-ℤ◌, ◌*ℤ◌, ◌≤ℤ◌, List, length, All, Bool, true, mul-pos}
-use Rattle.std.specs.List.{AllZip}
-use Rattle.std.proofs.lemmas.Bool.{cases_eq}
-use Rattle.std.proofs.lemmas.Int.{ints}
-use Rattle.decimal_input.specs.Ratios.{Ratio}
-use Rattle.decimal_input.specs.Fractions.{Fraction, whole, signed, fraction_total, AtMost, IsOver}
-use Rattle.decimal_input.specs.Enclosures.{IsShare}
-use Rattle.step_problem.specs.Flows.{total}
-use Rattle.cell_balance.specs.Steps.{ExactRiver, ExactEvap, ExactCell, cell_at, no_cell}
-use Rattle.cell_balance.specs.Balance.{minus, greater, link_flow, balance}
-use Rattle.cell_balance.specs.Solutions.{share}
-use Rattle.cell_balance.specs.Deep.{total_inside, IsClosed, deep_river, full_rate, deep_flow, LiesBelow}
-use Rattle.cell_balance.specs.Laws.{LinksCancel, BalanceFalls, BalanceRises, DryLaw}
+use Rattle.cell_balance.proofs.Common.{◌≡◌, ℕ, zero, suc, ◌*◌, ◌<◌, ◌⊎◌, inl, inr, refl, ap, subst, arith, ℤ, pos, ◌+ℤ◌, ◌-ℤ◌, ◌*ℤ◌, ◌≤ℤ◌, List, length, All}
+use Rattle.cell_balance.proofs.Common.{Bool, true, mul-pos, AllZip, cases_eq, ints, Ratio, Fraction, whole, signed, fraction_total, AtMost, IsOver, IsShare}
+use Rattle.cell_balance.proofs.Common.{total, ExactRiver, ExactEvap, ExactCell, cell_at, no_cell, minus, greater, link_flow, balance, share, total_inside}
+use Rattle.cell_balance.proofs.Common.{IsClosed, deep_river, full_rate, deep_flow, LiesBelow, LinksCancel, BalanceFalls, BalanceRises, DryLaw, mul_mono_right}
 use Rattle.cell_balance.proofs.Zips.{AllZip-at, AllZip-length, All-zip}
 use Rattle.cell_balance.proofs.Scaling.{IsOver-plus, IsOver-times, IsOver-minus, IsOver-none, IsOver-signed, IsOver-greater, IsOver-total, over_zero}
 use Rattle.cell_balance.proofs.Order.{over_le, le_over, IsOver-inside}
@@ -25,7 +16,6 @@ use Rattle.cell_balance.proofs.Falling.{whole_falls, whole_rises}
 use Rattle.cell_balance.proofs.Encloses.{share_is}
 use Rattle.cell_balance.proofs.Within.{IsDry}
 use Rattle.cell_balance.proofs.Whole.{WholeRiver, WholeEvap, WholeCell, whole_at, no_whole, whole_link, whole_balance, whole_deep_river, whole_full, whole_deep}
-use Rattle.decimal_input.proofs.Signs.{mul_mono_right}
 
 -- numerators over d, over n * d
 pub heads_over : (n d : ℕ) → 0 < d → (z : ℤ) → IsOver (n * d) (share d z) (z *ℤ pos n)

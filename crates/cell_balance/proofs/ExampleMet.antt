@@ -1,15 +1,8 @@
 -- The example meets all that the comparison asks.
-use Rattle.std.proofs.Common.{◌≡◌, ℕ, zero, suc, ◌<◌, ◌⊎◌, inl, inr, refl, sym, arith, pos, neg_ℤ, ◌*ℤ◌, ◌≤ℤ◌, ◌^◌, Bool, true, false, nat_eq}
-use Rattle.std.proofs.lemmas.Bool.{cases_eq, ne_eqb, eq-eqb}
-use Rattle.std.proofs.lemmas.Int.{ints}
-use Rattle.step_problem.specs.Entries.{entries_at}
-use Rattle.step_problem.specs.declared.entry.FixedKind.TheVariants.{Constant}
-use Rattle.step_problem.specs.Balances.{lower_balance, upper_balance}
-use Rattle.step_problem.specs.Heads.{head_at, IsCertificate}
-use Rattle.cell_balance.specs.Solutions.{SolvesStep, LiesBetween}
-use Rattle.cell_balance.specs.Components.{Reaches, Leads, IsComponent, IsCarried, IsHeldBelow}
-use Rattle.cell_balance.specs.Laws.{IsComparable}
-use Rattle.cell_balance.specs.Example.{example_problem, example_step, example_heads, example_barrier, example_lows, example_highs}
+use Rattle.cell_balance.proofs.Common.{◌≡◌, ℕ, zero, suc, ◌<◌, ◌⊎◌, inl, inr, refl, sym, arith, pos, neg_ℤ, ◌*ℤ◌, ◌≤ℤ◌, ◌^◌, Bool, true, false, nat_eq}
+use Rattle.cell_balance.proofs.Common.{cases_eq, ne_eqb, eq-eqb, ints, entries_at, Constant, lower_balance, upper_balance, head_at, IsCertificate, SolvesStep}
+use Rattle.cell_balance.proofs.Common.{LiesBetween, Reaches, Leads, IsComponent, IsCarried, IsHeldBelow, IsComparable, example_problem, example_step}
+use Rattle.cell_balance.proofs.Common.{example_heads, example_barrier, example_lows, example_highs}
 use Rattle.cell_balance.proofs.ExampleProblem.{example_fits, example_encloses}
 
 anchored : (c : ℕ) → c < 2 → Leads example_problem 0 c

@@ -1,16 +1,8 @@
 -- The example's entries keep a problem's conditions, and enclose its exact step.
-use Rattle.std.proofs.Common.{◌≡◌, ℕ, zero, suc, ◌<◌, ◌≤◌, refl, arith, pos, neg_ℤ, [], ◌∷◌, All, Contains}
-use Rattle.std.proofs.lemmas.Int.{ints}
-use Rattle.std.proofs.lemmas.List.Elements.{All-nil, All-cons}
-use Rattle.decimal_input.specs.Enclosures.{Encloses}
-use Rattle.step_problem.specs.declared.entry.Link.{Link}
-use Rattle.step_problem.specs.declared.entry.Fixed.{Fixed}
-use Rattle.step_problem.specs.declared.entry.FixedKind.TheVariants.{Constant, Storage}
-use Rattle.step_problem.specs.Entries.{entries_at}
-use Rattle.step_problem.specs.Conditions.{head_limit, IsHead, LinkFits, FixedFits, RiverFits, DrainFits, EvapFits, CellFits, LinksFit, IsProblem}
-use Rattle.cell_balance.specs.Links.{HasLinkBack, HasEqualEnds}
-use Rattle.cell_balance.specs.Enclosures.{CellEncloses, EnclosesStep}
-use Rattle.cell_balance.specs.Example.{example_problem, example_step, first_entries, second_entries, third_entries, first_cell, second_cell, third_cell, one}
+use Rattle.cell_balance.proofs.Common.{◌≡◌, ℕ, zero, suc, ◌<◌, ◌≤◌, refl, arith, pos, neg_ℤ, [], ◌∷◌, All, Contains, ints, All-nil, All-cons, Encloses, Link}
+use Rattle.cell_balance.proofs.Common.{Fixed, Constant, Storage, entries_at, head_limit, IsHead, LinkFits, FixedFits, RiverFits, DrainFits, EvapFits, CellFits}
+use Rattle.cell_balance.proofs.Common.{LinksFit, IsProblem, HasLinkBack, HasEqualEnds, CellEncloses, EnclosesStep, example_problem, example_step, first_entries}
+use Rattle.cell_balance.proofs.Common.{second_entries, third_entries, first_cell, second_cell, third_cell, one}
 
 single : {X : Type 0} (P : X → Type 0) (x : X) → P x → All P (x ∷ [])
 single P x h = All-cons P x [] h (All-nil P)

@@ -1,8 +1,5 @@
 -- A whole balance falls weakly in its own head and rises weakly in the others.
-use Rattle.std.proofs.Common.{ℕ, arith, ℤ, ◌+ℤ◌, ◌-ℤ◌, ◌≤ℤ◌, All}
-use Rattle.std.proofs.lemmas.Int.{ints, clamps}
-use Rattle.step_problem.specs.Flows.{total}
-use Rattle.step_problem.proofs.Ring.{mul_mono}
+use Rattle.cell_balance.proofs.Common.{ℕ, arith, ℤ, ◌+ℤ◌, ◌-ℤ◌, ◌≤ℤ◌, All, ints, clamps, total, mul_mono}
 use Rattle.step_problem.proofs.Falls.{loss_falls, total_mono}
 use Rattle.cell_balance.proofs.Totals.{total_at_most}
 use Rattle.cell_balance.proofs.Whole.{WholeCell, whole_link, whole_fixed, whole_river, whole_drain, whole_evap, whole_balance}

@@ -1,7 +1,5 @@
 -- The greatest value of a function below a number.
-use Rattle.std.proofs.Common.{◌≡◌, ℕ, suc, zero, ◌<◌, ◌⊎◌, inl, inr, refl, arith, ℤ, pos, ◌≤ℤ◌, ◌<ℤ◌}
-use Rattle.std.proofs.lemmas.Bool.{cases_lt}
-use Rattle.std.proofs.lemmas.Int.{ints, by_lt_z}
+use Rattle.cell_balance.proofs.Common.{◌≡◌, ℕ, suc, zero, ◌<◌, ◌⊎◌, inl, inr, refl, arith, ℤ, pos, ◌≤ℤ◌, ◌<ℤ◌, cases_lt, ints, by_lt_z}
 
 -- the greatest of e below n, or 0
 pub max_of : (e : ℕ → ℤ) (n : ℕ) → (m : ℤ) × (pos 0 ≤ℤ m) × ((k : ℕ) → k < n → e k ≤ℤ m) × ((m ≡ pos 0) ⊎ ((c : ℕ) × (c < n) × (e c ≡ m)))

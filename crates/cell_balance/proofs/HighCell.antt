@@ -1,17 +1,7 @@
 -- On the high side: a cell whose solution exceeds its upper head by the most, and whose upper balance is not positive, is tight.
-use Rattle.std.proofs.Common.{◌≡◌, ℕ, ◌*◌, ◌<◌, ◌⊎◌, inl, inr, ap, ◌∙◌, arith, subst, sym, ℤ, pos, neg_ℤ, ◌+ℤ◌, ◌-ℤ◌, ◌*ℤ◌, ◌≤ℤ◌, ◌<ℤ◌}
-use Rattle.std.specs.Int.{int_max}
-use Rattle.std.proofs.lemmas.Bool.{cases_eq}
-use Rattle.std.proofs.lemmas.Int.{ints, clamps}
-use Rattle.std.proofs.Math.IntN.{zero-*ℤ}
-use Rattle.step_problem.specs.declared.entry.Link.{Link}
-use Rattle.step_problem.specs.declared.entry.Fixed.{Fixed}
-use Rattle.step_problem.specs.declared.entry.River.{River}
-use Rattle.step_problem.specs.declared.entry.Drain.{Drain}
-use Rattle.step_problem.specs.Entries.{Entries}
-use Rattle.step_problem.specs.Balances.{link_high, fixed_high, river_high, drain_high, evap_high, upper_balance}
-use Rattle.step_problem.proofs.Ring.{mul_nonneg}
-use Rattle.step_problem.proofs.Leasts.{most_times, neg_most, neg_mul, mul_neg}
+use Rattle.cell_balance.proofs.Common.{◌≡◌, ℕ, ◌*◌, ◌<◌, ◌⊎◌, inl, inr, ap, ◌∙◌, arith, subst, sym, ℤ, pos, neg_ℤ, ◌+ℤ◌, ◌-ℤ◌, ◌*ℤ◌, ◌≤ℤ◌, ◌<ℤ◌, int_max}
+use Rattle.cell_balance.proofs.Common.{cases_eq, ints, clamps, zero-*ℤ, Link, Fixed, River, Drain, Entries, link_high, fixed_high, river_high, drain_high}
+use Rattle.cell_balance.proofs.Common.{evap_high, upper_balance, mul_nonneg, most_times, neg_most, neg_mul, mul_neg, mul_mono_right}
 use Rattle.cell_balance.proofs.Totals.{add_mul, sub_mul, le_trans_z, total_more, tight_more}
 use Rattle.cell_balance.proofs.Zips.{AllZip-left, AllZip-right}
 use Rattle.cell_balance.proofs.Products.{cancel_le, conducting, max_is}
@@ -19,7 +9,6 @@ use Rattle.cell_balance.proofs.Tight.{IsTight, slack_open, link_closed, fixed_cl
 use Rattle.cell_balance.proofs.HighEntries.{link_gap, fixed_gap, river_more, drain_more, evap_more}
 use Rattle.cell_balance.proofs.Whole.{WholeLink, WholeFixed, WholeRiver, WholeDrain, WholeCell, whole_link, whole_fixed, whole_river, whole_drain, whole_evap, whole_balance}
 use Rattle.cell_balance.proofs.Within.{FlowWithin, LinkWithin, FixedWithin, RiverWithin, DrainWithin, EvapWithin, CellWithin}
-use Rattle.decimal_input.proofs.Signs.{mul_mono_right}
 
 -- a river that gives as much as its bound at the lower head has its bottom above the higher one
 dry_river : (m n : ℕ) (v y : ℤ) → (v *ℤ pos n) <ℤ y → (p : River) (w : WholeRiver) → RiverWithin m n p w → (river_high v p *ℤ pos (m * n)) ≤ℤ whole_river y w → (w.c ≡ 0) ⊎ (y ≤ℤ w.bottom)

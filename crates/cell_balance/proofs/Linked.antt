@@ -1,12 +1,7 @@
 -- An exact step that a problem encloses is linked.
-use Rattle.std.proofs.Common.{◌≡◌, ℕ, ◌<◌, sym, ◌∙◌, arith, List, length, All}
-use Rattle.std.proofs.lemmas.List.Elements.{All-get_or, All-from_get_or}
-use Rattle.step_problem.specs.Entries.{Entries, entries_at, no_entries}
+use Rattle.cell_balance.proofs.Common.{◌≡◌, ℕ, ◌<◌, sym, ◌∙◌, arith, List, length, All, All-get_or, All-from_get_or, Entries, entries_at, no_entries, IsProblem}
+use Rattle.cell_balance.proofs.Common.{LinkFits, ExactCell, cell_at, no_cell, AreLinked, no_link, LinkEncloses, CellEncloses, EnclosesStep}
 use Rattle.step_problem.specs.Entries.{no_link as no_bounds}
-use Rattle.step_problem.specs.Conditions.{IsProblem, LinkFits}
-use Rattle.cell_balance.specs.Steps.{ExactCell, cell_at, no_cell}
-use Rattle.cell_balance.specs.Links.{AreLinked, no_link}
-use Rattle.cell_balance.specs.Enclosures.{LinkEncloses, CellEncloses, EnclosesStep}
 use Rattle.cell_balance.proofs.Enclosed.{LinksGood}
 use Rattle.cell_balance.proofs.Zips.{AllZip-at, AllZip-length, All-zip}
 

@@ -1,16 +1,7 @@
 -- On the low side: a cell whose lower head exceeds its solution by the most, and whose lower balance is not negative, is tight.
-use Rattle.std.proofs.Common.{◌≡◌, ℕ, ◌*◌, ◌<◌, ◌⊎◌, inl, inr, refl, arith, subst, sym, ℤ, pos, neg_ℤ, ◌+ℤ◌, ◌-ℤ◌, ◌*ℤ◌, ◌≤ℤ◌, ◌<ℤ◌}
-use Rattle.std.specs.Int.{int_max}
-use Rattle.std.proofs.lemmas.Bool.{cases_eq}
-use Rattle.std.proofs.lemmas.Int.{ints, clamps}
-use Rattle.step_problem.specs.declared.entry.Link.{Link}
-use Rattle.step_problem.specs.declared.entry.Fixed.{Fixed}
-use Rattle.step_problem.specs.declared.entry.River.{River}
-use Rattle.step_problem.specs.declared.entry.Drain.{Drain}
-use Rattle.step_problem.specs.Entries.{Entries}
-use Rattle.step_problem.specs.Balances.{link_low, fixed_low, river_low, drain_low, evap_low, lower_balance}
-use Rattle.step_problem.proofs.Ring.{mul_nonneg}
-use Rattle.step_problem.proofs.Leasts.{least_times, neg_least, neg_mul, mul_neg}
+use Rattle.cell_balance.proofs.Common.{◌≡◌, ℕ, ◌*◌, ◌<◌, ◌⊎◌, inl, inr, refl, arith, subst, sym, ℤ, pos, neg_ℤ, ◌+ℤ◌, ◌-ℤ◌, ◌*ℤ◌, ◌≤ℤ◌, ◌<ℤ◌, int_max, cases_eq}
+use Rattle.cell_balance.proofs.Common.{ints, clamps, Link, Fixed, River, Drain, Entries, link_low, fixed_low, river_low, drain_low, evap_low, lower_balance}
+use Rattle.cell_balance.proofs.Common.{mul_nonneg, least_times, neg_least, neg_mul, mul_neg, mul_mono_right}
 use Rattle.cell_balance.proofs.Totals.{add_mul, sub_mul, le_trans_z, total_less, tight_less}
 use Rattle.cell_balance.proofs.Zips.{AllZip-left, AllZip-right}
 use Rattle.cell_balance.proofs.Products.{cancel_le, conducting}
@@ -18,7 +9,6 @@ use Rattle.cell_balance.proofs.Tight.{IsTight, slack_open, link_closed, fixed_cl
 use Rattle.cell_balance.proofs.LowEntries.{link_gap, fixed_gap, river_less, drain_less, evap_less}
 use Rattle.cell_balance.proofs.Whole.{WholeLink, WholeFixed, WholeRiver, WholeDrain, WholeCell, whole_link, whole_fixed, whole_river, whole_drain, whole_evap, whole_balance}
 use Rattle.cell_balance.proofs.Within.{FlowWithin, LinkWithin, FixedWithin, RiverWithin, DrainWithin, EvapWithin, CellWithin}
-use Rattle.decimal_input.proofs.Signs.{mul_mono_right}
 
 -- a river that gives no more than its bound at the higher head has its bottom above the lower one
 dry_river : (m n : ℕ) (v y : ℤ) → y <ℤ (v *ℤ pos n) → (p : River) (w : WholeRiver) → RiverWithin m n p w → whole_river y w ≤ℤ (river_low v p *ℤ pos (m * n)) → (w.c ≡ 0) ⊎ (y ≤ℤ w.bottom)

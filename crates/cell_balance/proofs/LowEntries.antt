@@ -1,21 +1,11 @@
 -- On the low side: the least flow of each entry at the head v, scaled, is at most the exact flow at a head y that is not above v.
-use Rattle.std.proofs.Common.{◌≡◌, ℕ, ◌*◌, arith, ℤ, pos, neg_ℤ, ◌+ℤ◌, ◌-ℤ◌, ◌*ℤ◌, ◌≤ℤ◌}
-use Rattle.std.specs.Int.{int_min}
-use Rattle.std.proofs.lemmas.Int.{ints, clamps}
-use Rattle.step_problem.specs.declared.entry.Link.{Link}
-use Rattle.step_problem.specs.declared.entry.Fixed.{Fixed}
-use Rattle.step_problem.specs.declared.entry.River.{River}
-use Rattle.step_problem.specs.declared.entry.Drain.{Drain}
-use Rattle.step_problem.specs.declared.entry.Evap.{Evap}
-use Rattle.step_problem.specs.Balances.{link_low, fixed_low, river_low, drain_low, evap_low}
-use Rattle.step_problem.proofs.Ring.{diffs, as_diff, same_diff, mul_mono}
-use Rattle.step_problem.proofs.Leasts.{least_times, neg_least, neg_mul, mul_neg}
-use Rattle.decimal_input.specs.Enclosures.{IsBetweenWhole}
+use Rattle.cell_balance.proofs.Common.{◌≡◌, ℕ, ◌*◌, arith, ℤ, pos, neg_ℤ, ◌+ℤ◌, ◌-ℤ◌, ◌*ℤ◌, ◌≤ℤ◌, int_min, ints, clamps, Link, Fixed, River, Drain, Evap}
+use Rattle.cell_balance.proofs.Common.{link_low, fixed_low, river_low, drain_low, evap_low, diffs, as_diff, same_diff, mul_mono, least_times, neg_least}
+use Rattle.cell_balance.proofs.Common.{neg_mul, mul_neg, IsBetweenWhole, turned}
 use Rattle.cell_balance.proofs.Totals.{sub_mul, le_trans_z}
 use Rattle.cell_balance.proofs.Products.{entry_less, max_above, min_above, sub_less}
 use Rattle.cell_balance.proofs.Whole.{WholeLink, WholeFixed, WholeRiver, WholeDrain, WholeEvap, whole_link, whole_fixed, whole_river, whole_drain, whole_evap}
 use Rattle.cell_balance.proofs.Within.{LinkWithin, FixedWithin, RiverWithin, DrainWithin, EvapWithin}
-use Rattle.decimal_input.proofs.Signs.{turned}
 
 link_ring : (c a v n own other : ℤ) → c *ℤ ((a -ℤ v) *ℤ n) +ℤ c *ℤ ((v *ℤ n -ℤ own) -ℤ (a *ℤ n -ℤ other)) ≡ c *ℤ (other -ℤ own)
 link_ring c a v n own other = rw (as_diff c, as_diff a, as_diff v, as_diff n, as_diff own, as_diff other) (simp diffs (same_diff _ _ _ _ (omega arith)))

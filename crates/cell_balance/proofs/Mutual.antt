@@ -1,14 +1,8 @@
 -- Where a step's cells are linked, any two cells conduct the same to each other.
-use Rattle.std.proofs.Common.{◌≡◌, ℕ, suc, zero, ◌*◌, ◌<◌, ◌⊎◌, inl, inr, refl, sym, ap, ◌∙◌, subst, arith, ℤ, pos, ◌+ℤ◌, List, [], ◌∷◌, length, get_or, Contains}
-use Rattle.std.specs.List.{AllZip}
-use Rattle.std.proofs.lemmas.Bool.{cases_eq, ne_eqb, eq-eqb}
-use Rattle.std.proofs.lemmas.Int.{ints}
-use Rattle.std.proofs.lemmas.List.Elements.{All-get_or}
-use Rattle.std.proofs.Math.Nat.{le_of_mul-le-mul_right}
-use Rattle.decimal_input.specs.Ratios.{Ratio, Same, den}
-use Rattle.decimal_input.specs.Enclosures.{IsShare}
-use Rattle.cell_balance.specs.Steps.{ExactLink, ExactCell, cell_at, no_cell}
-use Rattle.cell_balance.specs.Links.{HasLinkBack, AreLinked, no_link}
+use Rattle.cell_balance.proofs.Common.{◌≡◌, ℕ, suc, zero, ◌*◌, ◌<◌, ◌⊎◌, inl, inr, refl, sym, ap, ◌∙◌, subst, arith, ℤ, pos, ◌+ℤ◌, List, [], ◌∷◌, length}
+use Rattle.cell_balance.proofs.Common.{get_or, Contains, AllZip, cases_eq, ne_eqb, eq-eqb, ints, All-get_or, le_of_mul-le-mul_right, Ratio, IsShare, ExactLink}
+use Rattle.cell_balance.proofs.Common.{ExactCell, cell_at, no_cell, HasLinkBack, AreLinked, no_link}
+use Rattle.decimal_input.specs.Ratios.{Same, den}
 use Rattle.cell_balance.proofs.Zips.{AllZip-at, AllZip-length, All-zip}
 use Rattle.cell_balance.proofs.Cancel.{weight, IsMutual}
 use Rattle.cell_balance.proofs.Over.{LinkOver, CellOver}

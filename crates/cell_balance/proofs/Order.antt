@@ -1,9 +1,6 @@
 -- The order of fractions is that of their whole numbers over one denominator; sums of fractions over cells.
-use Rattle.std.proofs.Common.{ℕ, suc, zero, ◌*◌, ◌<◌, arith, ℤ, pos, ◌≤ℤ◌, Bool, true, false, cond}
-use Rattle.decimal_input.specs.Fractions.{Fraction, den, whole, AtMost, IsOver}
-use Rattle.decimal_input.proofs.Signs.{cancel_right, mul_mono_right}
-use Rattle.cell_balance.specs.Components.{sum_below, sum_inside}
-use Rattle.cell_balance.specs.Deep.{total_below, total_inside}
+use Rattle.cell_balance.proofs.Common.{ℕ, suc, zero, ◌*◌, ◌<◌, arith, ℤ, pos, ◌≤ℤ◌, Bool, true, false, cond, Fraction, den, whole, AtMost, IsOver, cancel_right}
+use Rattle.cell_balance.proofs.Common.{mul_mono_right, sum_below, sum_inside, total_below, total_inside}
 use Rattle.cell_balance.proofs.Scaling.{IsOver-plus, IsOver-none, crossed, crossed_back}
 
 pub over_le : (d : ℕ) (f g : Fraction) (a b : ℤ) → IsOver d f a → IsOver d g b → AtMost f g → a ≤ℤ b

@@ -1,13 +1,7 @@
 -- An exact step and its whole numbers: conductances over k, heads over m, flows over k * m.
-use Rattle.std.proofs.Common.{◌≡◌, ℕ, ◌*◌, subst, arith, ℤ, pos, ◌+ℤ◌, ◌-ℤ◌, ◌*ℤ◌}
-use Rattle.std.specs.List.{AllZip}
-use Rattle.std.specs.Int.{int_max, int_min}
-use Rattle.std.proofs.lemmas.Int.{ints}
-use Rattle.decimal_input.specs.Fractions.{Fraction, IsOver, whole, signed, times}
-use Rattle.decimal_input.specs.Enclosures.{IsShare}
-use Rattle.step_problem.specs.Flows.{total}
-use Rattle.cell_balance.specs.Steps.{ExactFlow, ExactLink, ExactFixed, ExactRiver, ExactDrain, ExactEvap, ExactCell}
-use Rattle.cell_balance.specs.Balance.{minus, greater, lesser, link_flow, fixed_flow, river_flow, drain_flow, evap_flow, balance}
+use Rattle.cell_balance.proofs.Common.{◌≡◌, ℕ, ◌*◌, subst, arith, ℤ, pos, ◌+ℤ◌, ◌-ℤ◌, ◌*ℤ◌, AllZip, int_max, int_min, ints, Fraction, IsOver, whole, signed}
+use Rattle.cell_balance.proofs.Common.{times, IsShare, total, ExactFlow, ExactLink, ExactFixed, ExactRiver, ExactDrain, ExactEvap, ExactCell, minus, greater}
+use Rattle.cell_balance.proofs.Common.{lesser, link_flow, fixed_flow, river_flow, drain_flow, evap_flow, balance}
 use Rattle.cell_balance.proofs.Scaling.{IsOver-plus, IsOver-times, IsOver-negated, IsOver-minus, IsOver-none, IsOver-signed, IsOver-greater, IsOver-lesser, IsOver-total}
 use Rattle.cell_balance.proofs.Whole.{WholeLink, WholeFixed, WholeRiver, WholeDrain, WholeEvap, WholeCell, whole_link, whole_fixed, whole_river, whole_drain, whole_evap, whole_balance}
 

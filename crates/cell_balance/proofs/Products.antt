@@ -1,15 +1,9 @@
 -- Order laws of products with whole conductances.
-use Rattle.std.proofs.Common.{◌≡◌, ℕ, suc, zero, ◌*◌, ◌<◌, ◌≤◌, ◌⊎◌, inl, inr, refl, arith, ℤ, pos, negsuc, neg_ℤ, ◌+ℤ◌, ◌-ℤ◌, ◌*ℤ◌, ◌≤ℤ◌, ◌<ℤ◌}
-use Rattle.std.specs.Int.{int_max, int_min}
-use Rattle.std.proofs.Math.Nat.{mul-le-mul_right}
-use Rattle.std.proofs.lemmas.Int.{ints, clamps, by_lt_z}
+use Rattle.cell_balance.proofs.Common.{◌≡◌, ℕ, suc, zero, ◌*◌, ◌<◌, ◌≤◌, ◌⊎◌, inl, inr, refl, arith, ℤ, pos, negsuc, neg_ℤ, ◌+ℤ◌, ◌-ℤ◌, ◌*ℤ◌, ◌≤ℤ◌, ◌<ℤ◌}
+use Rattle.cell_balance.proofs.Common.{int_max, int_min, mul-le-mul_right, ints, clamps, by_lt_z, IsBetweenWhole, least, most, mul_mono, mul_add, least_times}
+use Rattle.cell_balance.proofs.Common.{most_times, mul_mono_right}
 use borrow.Author.Differences.{le_out}
-use Rattle.decimal_input.specs.Enclosures.{IsBetweenWhole}
-use Rattle.step_problem.specs.Flows.{least, most}
-use Rattle.step_problem.proofs.Ring.{mul_mono, mul_add}
-use Rattle.step_problem.proofs.Leasts.{least_times, most_times}
 use Rattle.cell_balance.proofs.Totals.{le_trans_z}
-use Rattle.decimal_input.proofs.Signs.{mul_mono_right}
 
 -- a product with a positive number is zero only where the other factor is
 pub zero_factor : (c : ℕ) (a : ℤ) → 0 < c → pos c *ℤ a ≡ pos 0 → a ≡ pos 0

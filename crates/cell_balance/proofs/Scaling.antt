@@ -1,18 +1,8 @@
 -- Arithmetic of fractions goes over to whole numbers over a common denominator.
-use Rattle.std.proofs.Common.{◌≡◌, ℕ, suc, ◌+◌, ◌*◌, ◌<◌, sym, ap, ◌∙◌, arith, ℤ, pos, neg_ℤ, ◌+ℤ◌, ◌-ℤ◌, ◌*ℤ◌, ◌≤ℤ◌, List, [], ◌∷◌}
-use Rattle.std.specs.List.{AllZip}
-use Rattle.std.specs.Int.{int_max, int_min}
-use Rattle.std.proofs.lemmas.Int.{ints, clamps, by_lt_z}
-use Rattle.std.proofs.Math.IntN.{zero-*ℤ}
-use Rattle.decimal_input.specs.Ratios.{Ratio}
-use Rattle.decimal_input.specs.Fractions.{Fraction, den, whole, signed, negated, plus, times, fraction_total, IsOver}
-use Rattle.decimal_input.specs.Enclosures.{IsShare}
-use Rattle.step_problem.proofs.Ring.{diffs, as_diff, same_diff}
-use Rattle.step_problem.proofs.Leasts.{neg_mul}
-use Rattle.step_problem.specs.Flows.{total}
-use Rattle.cell_balance.specs.Balance.{minus, greater, lesser}
+use Rattle.cell_balance.proofs.Common.{◌≡◌, ℕ, suc, ◌+◌, ◌*◌, ◌<◌, sym, ap, ◌∙◌, arith, ℤ, pos, neg_ℤ, ◌+ℤ◌, ◌-ℤ◌, ◌*ℤ◌, ◌≤ℤ◌, List, [], ◌∷◌, AllZip, int_max}
+use Rattle.cell_balance.proofs.Common.{int_min, ints, clamps, by_lt_z, zero-*ℤ, Ratio, Fraction, den, whole, signed, negated, plus, times, fraction_total}
+use Rattle.cell_balance.proofs.Common.{IsOver, IsShare, diffs, as_diff, same_diff, neg_mul, total, minus, greater, lesser, mul_mono_right, swap}
 use Rattle.cell_balance.proofs.Products.{zero_factor}
-use Rattle.decimal_input.proofs.Signs.{mul_mono_right, swap}
 
 pub mul_comm : (a b : ℤ) → a *ℤ b ≡ b *ℤ a
 mul_comm a b = rw (as_diff a, as_diff b) (simp diffs (same_diff _ _ _ _ (omega arith)))

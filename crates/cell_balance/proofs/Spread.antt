@@ -1,12 +1,7 @@
 -- The greatest excess spreads over links; so it reaches no anchored cell, and no carried component.
-use Rattle.std.proofs.Common.{◌≡◌, ℕ, suc, zero, ◌*◌, ◌<◌, ◌≤◌, refl, sym, ◌∙◌, subst, arith, ℤ, pos, ◌*ℤ◌, ◌≤ℤ◌, ◌<ℤ◌, List, length, get_or, All, Contains, Bool, true, false, cond}
-use Rattle.std.specs.List.{AllZip}
-use Rattle.std.proofs.Math.Nat.{mul-le-mul_right}
-use Rattle.std.proofs.Math.IntN.{zero-*ℤ}
-use Rattle.std.proofs.lemmas.Int.{ints}
-use Rattle.std.proofs.lemmas.List.Elements.{All-contains, Contains-get_or}
-use Rattle.step_problem.specs.declared.entry.Link.{Link}
-use Rattle.step_problem.specs.Entries.{Entries, entries_at, no_entries}
+use Rattle.cell_balance.proofs.Common.{◌≡◌, ℕ, suc, zero, ◌*◌, ◌<◌, ◌≤◌, refl, sym, ◌∙◌, subst, arith, ℤ, pos, ◌*ℤ◌, ◌≤ℤ◌, ◌<ℤ◌, List, length, get_or, All}
+use Rattle.cell_balance.proofs.Common.{Contains, Bool, true, false, cond, AllZip, mul-le-mul_right, zero-*ℤ, ints, All-contains, Contains-get_or, Link, Entries}
+use Rattle.cell_balance.proofs.Common.{entries_at, no_entries, deep_low, Reaches, Leads, IsCarried, mul_mono_right}
 use Rattle.cell_balance.proofs.Totals.{same_z}
 use Rattle.cell_balance.proofs.Zips.{AllZip-at, AllZip-length, AllZip-left, All-zip}
 use Rattle.cell_balance.proofs.Sums.{sum-same, sum-zero, sum-times, sum_at_most}
@@ -16,8 +11,6 @@ use Rattle.cell_balance.proofs.Deep.{deep_less}
 use Rattle.cell_balance.proofs.Tight.{IsTight}
 use Rattle.cell_balance.proofs.Whole.{WholeCell, no_whole, whole_at, whole_balance, whole_deep}
 use Rattle.cell_balance.proofs.Within.{LinkWithin, CellWithin, IsDry}
-use Rattle.cell_balance.specs.Components.{deep_low, Reaches, Leads, IsCarried}
-use Rattle.decimal_input.proofs.Signs.{mul_mono_right}
 
 -- one more link at the end of a way
 pub Reaches-more : (p : List Entries) (j a k : ℕ) (x : Link) → Reaches p j a k → Contains (entries_at p k).links x → Reaches p (suc j) a x.cell

@@ -1,9 +1,6 @@
 -- What holds at a cell whose excess over its solution is the greatest, on either side.
-use Rattle.std.proofs.Common.{◌≡◌, ℕ, suc, zero, ◌*◌, ◌<◌, ◌≤◌, refl, arith, ℤ, pos, ◌-ℤ◌, ◌*ℤ◌, ◌≤ℤ◌, ◌<ℤ◌, All}
-use Rattle.std.proofs.Math.Nat.{mul-le-mul_right}
-use Rattle.std.proofs.lemmas.Int.{ints}
-use Rattle.step_problem.specs.Entries.{Entries}
-use Rattle.step_problem.proofs.Ring.{mul_nonneg}
+use Rattle.cell_balance.proofs.Common.{◌≡◌, ℕ, suc, zero, ◌*◌, ◌<◌, ◌≤◌, refl, arith, ℤ, pos, ◌-ℤ◌, ◌*ℤ◌, ◌≤ℤ◌, ◌<ℤ◌, All, mul-le-mul_right, ints, Entries}
+use Rattle.cell_balance.proofs.Common.{mul_nonneg}
 use Rattle.cell_balance.proofs.Whole.{WholeCell}
 use Rattle.cell_balance.proofs.Within.{IsDry}
 use Rattle.cell_balance.proofs.Products.{zero_factor, no_conductance}

@@ -1,11 +1,6 @@
 -- Sums over lists that are related place by place.
-use Rattle.std.proofs.Common.{◌≡◌, refl, arith, ℤ, pos, neg_ℤ, ◌+ℤ◌, ◌-ℤ◌, ◌*ℤ◌, ◌≤ℤ◌, List, [], ◌∷◌, All}
-use Rattle.std.specs.List.{AllZip}
-use Rattle.std.proofs.lemmas.Int.{ints}
-use Rattle.std.proofs.lemmas.List.Elements.{All-head, All-tail}
-use Rattle.std.proofs.Math.IntN.{zero-*ℤ}
-use Rattle.step_problem.proofs.Ring.{diffs, as_diff, same_diff}
-use Rattle.step_problem.specs.Flows.{total}
+use Rattle.cell_balance.proofs.Common.{◌≡◌, refl, arith, ℤ, pos, neg_ℤ, ◌+ℤ◌, ◌-ℤ◌, ◌*ℤ◌, ◌≤ℤ◌, List, [], ◌∷◌, All, AllZip, ints, All-head, All-tail, zero-*ℤ}
+use Rattle.cell_balance.proofs.Common.{diffs, as_diff, same_diff, total}
 
 pub add_mul : (a b k : ℤ) → (a +ℤ b) *ℤ k ≡ a *ℤ k +ℤ b *ℤ k
 add_mul a b k = rw (as_diff a, as_diff b, as_diff k) (simp diffs (same_diff _ _ _ _ (omega arith)))

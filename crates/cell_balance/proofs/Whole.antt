@@ -1,7 +1,6 @@
 -- An exact step in whole numbers: conductances over one denominator, heads over another, flows over the product of the two.
-use Rattle.std.specs.Prelude.{ℕ, List, [], slice_index_or, ℤ, pos, neg_ℤ, ◌+ℤ◌, ◌-ℤ◌, ◌*ℤ◌}
-use Rattle.std.specs.Int.{int_max, int_min}
-use Rattle.step_problem.specs.Flows.{total}
+use Rattle.cell_balance.proofs.Common.{slice_index_or, int_max, int_min, total}
+use Rattle.std.specs.Prelude.{ℕ, List, [], ℤ, pos, neg_ℤ, ◌+ℤ◌, ◌-ℤ◌, ◌*ℤ◌}
 
 pub record WholeLink : Type 0 where
   pub cell : ℕ

@@ -1,9 +1,7 @@
 -- An exact step with a common denominator has whole numbers.
-use Rattle.std.proofs.Common.{◌≡◌, ℕ, ◌*◌, refl, subst, arith, ℤ, List, All}
-use Rattle.std.specs.List.{AllZip}
+use Rattle.cell_balance.proofs.Common.{◌≡◌, ℕ, ◌*◌, refl, subst, arith, ℤ, List, All, AllZip, den, IsOver, ExactFlow, ExactLink, ExactFixed, ExactRiver}
+use Rattle.cell_balance.proofs.Common.{ExactDrain, ExactEvap, ExactCell}
 use Rattle.decimal_input.specs.Ratios.{den as ratio_den}
-use Rattle.decimal_input.specs.Fractions.{den, IsOver}
-use Rattle.cell_balance.specs.Steps.{ExactFlow, ExactLink, ExactFixed, ExactRiver, ExactDrain, ExactEvap, ExactCell}
 use Rattle.cell_balance.proofs.Zips.{AllZip-choose}
 use Rattle.cell_balance.proofs.Whole.{WholeLink, WholeFixed, WholeRiver, WholeDrain, WholeEvap, WholeCell}
 use Rattle.cell_balance.proofs.Over.{FlowOver, LinkOver, FixedOver, RiverOver, DrainOver, EvapOver, CellOver}

@@ -1,14 +1,6 @@
 -- When the bounds of a problem's entries enclose whole numbers: conductances over m, heads over n, flows over m * n.
+use Rattle.cell_balance.proofs.Common.{AllZip, IsBetweenWhole, IsBetweenSigned, Flow, Link, Fixed, River, Drain, Evap, Entries}
 use Rattle.std.specs.Prelude.{◌≡◌, ℕ, ◌*◌, ◌<◌, ◌⊎◌, All, ℤ, ◌≤ℤ◌}
-use Rattle.std.specs.List.{AllZip}
-use Rattle.decimal_input.specs.Enclosures.{IsBetweenWhole, IsBetweenSigned}
-use Rattle.step_problem.specs.declared.entry.Flow.{Flow}
-use Rattle.step_problem.specs.declared.entry.Link.{Link}
-use Rattle.step_problem.specs.declared.entry.Fixed.{Fixed}
-use Rattle.step_problem.specs.declared.entry.River.{River}
-use Rattle.step_problem.specs.declared.entry.Drain.{Drain}
-use Rattle.step_problem.specs.declared.entry.Evap.{Evap}
-use Rattle.step_problem.specs.Entries.{Entries}
 use Rattle.cell_balance.proofs.Whole.{WholeLink, WholeFixed, WholeRiver, WholeDrain, WholeEvap, WholeCell}
 
 module _ (m n : ℕ) where

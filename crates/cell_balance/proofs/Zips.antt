@@ -1,7 +1,6 @@
 -- Lists that are related place by place.
-use Rattle.std.proofs.Common.{◌≡◌, ℕ, suc, zero, ◌<◌, refl, ap, arith, List, [], ◌∷◌, length, get_or, All}
-use Rattle.std.specs.List.{AllZip}
-use Rattle.std.proofs.lemmas.List.Elements.{All-cons, All-head, All-tail, All-nil}
+use Rattle.cell_balance.proofs.Common.{◌≡◌, ℕ, suc, zero, ◌<◌, refl, ap, arith, List, [], ◌∷◌, length, get_or, All, AllZip, All-cons, All-head, All-tail}
+use Rattle.cell_balance.proofs.Common.{All-nil}
 
 -- at one place
 pub AllZip-at : {X Y : Type 0} (R : X → Y → Type 0) (xs : List X) (ys : List Y) (i : ℕ) (d : X) (e : Y) → AllZip R xs ys → i < length xs → R (get_or xs i d) (get_or ys i e)

@@ -1,12 +1,9 @@
 -- Elevations are canonical numbers.
-use Rattle.std.proofs.Common.{◌≡◌, ℕ, ◌-◌, Bool, true, false, cond, nat_lt, List, All}
+use Rattle.cell_checks.proofs.Common.{◌≡◌, ℕ, ◌-◌, Bool, true, false, cond, nat_lt, List, All, FlowModel, layer_size, dec_at, has_bed, bottom_at, lowest}
+use Rattle.cell_checks.proofs.Common.{top_at, dec_at_is}
 use Rattle.decimal_input.specs.declared.dec.Dec.{Dec}
 use Rattle.decimal_input.specs.Canonical.{IsDec}
-use Rattle.model_types.specs.declared.model.FlowModel.{FlowModel}
-use Rattle.model_types.specs.Cells.{layer_size}
 use Rattle.model_types.specs.Grids.{IsGrid}
-use Rattle.model_types.specs.Layers.{dec_at, has_bed, bottom_at, lowest, top_at}
-use Rattle.number_limits.proofs.Canonical.{dec_at_is}
 
 either : (b : Bool) (x y : Dec) → IsDec x → IsDec y → IsDec (cond b x y)
 either true x y p q = p

@@ -1,2 +1,3 @@
+mod Common
 pub mod Canonical
 pub mod PassedCells

@@ -1,14 +1,10 @@
 -- Where all checks passed, no cell has a fault.
-use Rattle.std.proofs.Common.{◌≡◌, ◌⊎◌, inl, inr, ℕ, zero, suc, ◌+◌, ◌≤◌, ◌<◌, Bool, true, false, nat_le, List, Option, Some, None, Result, Ok, Err, refl, arith}
+use Rattle.cell_checks.proofs.Common.{◌≡◌, ◌⊎◌, inl, inr, ℕ, zero, suc, ◌+◌, ◌≤◌, ◌<◌, Bool, true, false, nat_le, List, Option, Some, None, Result, Ok, Err}
+use Rattle.cell_checks.proofs.Common.{refl, arith, ◌>>=◌, counted, cell_count, is_active, FlowModel, at_cell, cell_step, checked}
 use Rattle.std.specs.Prelude.{not, ◌||◌, if◌then◌else◌}
 use Rattle.std.proofs.lemmas.Bool.Decides.{leb_tells}
 use Rattle.outside.specs.declared.codes.Code.{Code}
-use Rattle.record_lines.specs.Reading.{◌>>=◌, counted}
-use Rattle.model_types.specs.Cells.{cell_count}
-use Rattle.model_types.specs.Layers.{is_active}
 use Rattle.model_types.specs.declared.grid.Grid.{Grid}
-use Rattle.model_types.specs.declared.model.FlowModel.{FlowModel}
-use Rattle.cell_checks.specs.Checks.{at_cell, cell_step, checked}
 use Rattle.cell_checks.specs.Faults.{code_of, fault_at, passes}
 use Rattle.cell_checks.specs.declared.passing.Check.{Check}
 

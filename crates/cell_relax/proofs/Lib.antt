@@ -1,3 +1,4 @@
+mod Common
 pub mod Sides
 pub mod Relaxing
 pub mod Orders

@@ -1,9 +1,5 @@
 -- Relaxed heads keep the order of heads.
-use Rattle.std.proofs.Common.{inl, inr, subst, sym, ℤ, ◌≤ℤ◌}
-use Rattle.step_problem.specs.declared.heads.Side.TheVariants.{Low, High}
-use Rattle.step_problem.specs.Entries.{entries_at}
-use Rattle.step_problem.proofs.BothSides.{le_trans}
-use Rattle.step_problem.proofs.Falls.{lower_rises, upper_rises}
+use Rattle.cell_relax.proofs.Common.{inl, inr, subst, sym, ℤ, ◌≤ℤ◌, Low, High, entries_at, le_trans, lower_rises, upper_rises}
 use Rattle.cell_relax.specs.Laws.{RelaxedKeepOrder}
 
 pub relaxed_keep_order : RelaxedKeepOrder

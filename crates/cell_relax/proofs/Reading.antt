@@ -1,10 +1,9 @@
 -- Heads that are read from words are in range.
-use Rattle.std.proofs.Common.{◌≡◌, ℕ, ◌+◌, ◌<◌, ◌∙◌, sym, ap, List, [], ◌∷◌, ◌++◌, length, take, slice_set, All, get_or, ℤ}
+use Rattle.cell_relax.proofs.Common.{◌≡◌, ℕ, ◌+◌, ◌<◌, ◌∙◌, sym, ap, List, [], ◌∷◌, ◌++◌, length, take, slice_set, All, get_or, ℤ, no_link, link_at, ends_in}
+use Rattle.cell_relax.proofs.Common.{IsHead}
 use Rattle.std.proofs.lemmas.List.{take_more, take_more_set, map-append}
 use Rattle.std.proofs.lemmas.List.Elements.{All-map}
 use Rattle.step_problem.specs.declared.entry.Link.{Link}
-use Rattle.step_problem.specs.Entries.{no_link, link_at, ends_in}
-use Rattle.step_problem.specs.Conditions.{IsHead}
 
 pub ends_in_range : (n : ℕ) (h : ℕ → ℤ) → ((c : ℕ) → c < n → IsHead (h c)) → (links : List Link) → All (λ x. x.cell < n) links → All IsHead (ends_in h links)
 ends_in_range n h heads links within = All-map IsHead (λ (x : Link). h x.cell) links (λ k d i. heads (get_or links k d).cell (within k d i))

@@ -1,12 +1,6 @@
 -- Both sides of a problem, by one variable.
-use Rattle.std.proofs.Common.{List, length}
-use Rattle.step_problem.specs.declared.heads.Side.{Side}
-use Rattle.step_problem.specs.declared.heads.Side.TheVariants.{Low, High}
-use Rattle.step_problem.specs.Entries.{Entries}
-use Rattle.step_problem.specs.Conditions.{IsProblem}
+use Rattle.cell_relax.proofs.Common.{List, length, Side, Low, High, Entries, IsProblem, low_side, high_side, IsAsTight, Moves, other}
 use Rattle.step_problem.proofs.Sides.{IsSide}
-use Rattle.step_problem.proofs.BothSides.{low_side, high_side}
-use Rattle.cell_relax.specs.Sides.{IsAsTight, Moves, other}
 
 pub is_side : (side : Side) (p : List Entries) → IsProblem p → IsSide (IsAsTight side) (Moves side p) (length p)
 is_side Low p ok = low_side p ok

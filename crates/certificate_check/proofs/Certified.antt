@@ -1,8 +1,6 @@
 -- A certificate encloses what its barrier encloses.
-use Rattle.std.proofs.Common.{ℕ, ◌<◌, List, length, ℤ}
-use Rattle.step_problem.specs.Entries.{Entries}
+use Rattle.certificate_check.proofs.Common.{ℕ, ◌<◌, List, length, ℤ, Entries, Edges, head_at, IsCertificate}
 use Rattle.step_problem.specs.Conditions.{IsProblem}
-use Rattle.step_problem.specs.Heads.{Edges, head_at, IsCertificate}
 use Rattle.step_problem.proofs.BothSettle.{pair_certifies}
 use Rattle.cell_balance.specs.Steps.{ExactCell}
 use Rattle.cell_balance.specs.Enclosures.{EnclosesStep}

@@ -1,40 +1,18 @@
 -- A check, step by step.
-use Rattle.std.proofs.Common.{All, Contains, ◌≡◌, ℕ, suc, List, [], ◌∷◌, ◌++◌, ◌+◌, ◌<◌, ◌≤◌, subst, sym, ap, refl, arith, ◌∙◌, inl, inr, drop, length, get_or, ℤ, Result, Ok, Err, IfOk, Option}
-use Rattle.std.specs.List.{AllZip}
-use Rattle.std.specs.Prelude.{IfErr}
-use Rattle.std.proofs.lemmas.List.Elements.{All-head, All-tail, All-contains_itself}
-use Rattle.std.proofs.lemmas.List.{append_assoc, drop_more, drop_all}
-use Rattle.step_problem.specs.declared.heads.Bound.{Bound}
-use Rattle.step_problem.specs.declared.place.ZoneFlow.{ZoneFlow}
-use Rattle.budget_bounds.specs.declared.pair.Budget.{Budget}
-use Rattle.model_types.specs.declared.model.FlowModel.{FlowModel}
-use Rattle.model_types.specs.declared.time_steps.TimeStep.{TimeStep}
-use Rattle.model_types.specs.Heads.{start_head}
-use Rattle.model_types.specs.Times.{times}
-use Rattle.decimal_input.specs.Fractions.{Fraction}
-use Rattle.model_types.specs.Valid.{IsModel}
-use Rattle.flow_equations.specs.Histories.{heads_of, Solves, SolvesAt}
-use Rattle.problem_builder.specs.GridHeads.{AreGridHeads, HeadsEnclose}
+use Rattle.check_run.proofs.Common.{All, Contains, ◌≡◌, ℕ, suc, List, [], ◌∷◌, ◌++◌, ◌+◌, ◌<◌, ◌≤◌, subst, sym, ap, refl, arith, ◌∙◌, inl, inr, drop, length}
+use Rattle.check_run.proofs.Common.{get_or, ℤ, Result, Ok, Err, IfOk, Option, AllZip, IfErr, All-head, All-tail, All-contains_itself, append_assoc, drop_more}
+use Rattle.check_run.proofs.Common.{drop_all, Bound, ZoneFlow, Budget, FlowModel, TimeStep, start_head, times, Fraction, IsModel, heads_of, Solves, SolvesAt}
+use Rattle.check_run.proofs.Common.{AreGridHeads, HeadsEnclose, pairs_in, ListedStep, AreFlows, AreFlowsAt, AreListed, IsListedStep, step_in, Step, BoundAll}
+use Rattle.check_run.proofs.Common.{BoundsMoves, CheckFault, ListingVerdict, Certified, Fails, Refused, FailsBy, IsVerdictAt, heads_before, Passes, Checks}
+use Rattle.check_run.proofs.Common.{StopsAt, IsVerdict, ListingEncloses, checked_task, step_of, steps_of}
 use Rattle.problem_builder.specs.StartHeads.{AreStartHeads}
-use Rattle.zone_pairs.specs.Pairs.{pairs_in}
-use Rattle.listing_io.specs.declared.listing.ListedStep.{ListedStep}
-use Rattle.listing_io.specs.Listed.{AreFlows, AreFlowsAt, AreListed, IsListedStep, step_in}
-use Rattle.listing_run.specs.declared.step.Step.{Step}
-use Rattle.listing_run.specs.Bounding.{BoundAll, BoundsMoves}
 use Rattle.listing_run.proofs.UnderWay.{HasCome, one_move, nothing_more}
-use Rattle.check_run.specs.declared.fault.CheckFault.{CheckFault}
-use Rattle.check_run.specs.declared.fault.CheckFault.TheVariants as fault
-use Rattle.check_run.specs.declared.verdict.ListingVerdict.{ListingVerdict}
-use Rattle.check_run.specs.declared.verdict.ListingVerdict.TheVariants.{Certified, Fails, Refused}
-use Rattle.check_run.specs.Parts.{FailsBy, IsVerdictAt, heads_before}
-use Rattle.check_run.specs.Steps.{Passes}
-use Rattle.check_run.specs.Verdicts.{Checks, StopsAt, IsVerdict, ListingEncloses, checked_task, step_of, steps_of}
 use Rattle.exact_histories.specs.Histories.{HasOneHistory, AreSameHeads}
 use Rattle.exact_histories.proofs.JoinedSteps.{GoOn, history_of_steps}
 use Rattle.exact_histories.proofs.SettledSteps.{lies_encloses}
-use Rattle.exact_histories.proofs.Turns.{AreOne, go_on_more, nothing_more as none_left}
-use Rattle.exact_histories.proofs.Turns.{one_more as one_turn_more}
+use Rattle.exact_histories.proofs.Turns.{AreOne, go_on_more, nothing_more as none_left, one_more as one_turn_more}
 use Rattle.check_run.proofs.Listed.{grid_of}
+use Rattle.check_run.specs.declared.fault.CheckFault.TheVariants as fault
 
 -- what holds of the heads before a step and of the step, as they were lent
 pub here : (P : List Bound → ListedStep → Type 0) (old olds heads : List Bound) (budget : Budget) (flows : List ZoneFlow) (w : ListedStep) → old ≡ olds → heads ≡ w.heads → budget ≡ w.budget → flows ≡ w.zones →

@@ -1,24 +1,11 @@
 -- What is first is one: a cell and its side, a term of a budget, and a pair of zones.
-use Rattle.std.proofs.Common.{◌≡◌, ◌∙◌, ℕ, ◌<◌, inl, inr, List, [], ◌∷◌, Option, Some, None, refl, sym, ap, subst, arith}
-use Rattle.std.specs.List.{AllZip}
-use Rattle.std.proofs.lemmas.Bool.{cases_order}
-use Rattle.step_problem.specs.declared.heads.Side.{Side}
-use Rattle.step_problem.specs.declared.heads.Side.TheVariants.{Low, High}
-use Rattle.step_problem.specs.declared.place.Dir.{Dir}
-use Rattle.step_problem.specs.declared.place.Dir.TheVariants.{In, Out}
-use Rattle.step_problem.specs.declared.place.Place.TheVariants as places
-use Rattle.step_problem.specs.declared.heads.Bound.{Bound}
-use Rattle.step_problem.specs.declared.place.NoBound.{NoBound}
-use Rattle.step_problem.specs.declared.place.Term.{Term}
-use Rattle.step_problem.specs.declared.place.ZoneFlow.{ZoneFlow}
-use Rattle.step_problem.specs.Entries.{Entries}
-use Rattle.budget_bounds.specs.declared.pair.Budget.{Budget}
-use Rattle.budget_bounds.specs.Covers.{IsFirstUncovered, line_of}
+use Rattle.check_run.proofs.Common.{◌≡◌, ◌∙◌, ℕ, ◌<◌, inl, inr, List, [], ◌∷◌, Option, Some, None, refl, sym, ap, subst, arith, AllZip, cases_order, Side, Low}
+use Rattle.check_run.proofs.Common.{High, Dir, In, Out, Bound, NoBound, Term, ZoneFlow, Entries, Budget, IsFirstUncovered, line_of, AreFlowsOf, HasLargeFlowOf}
+use Rattle.check_run.proofs.Common.{faces_of, CoversFlow, IsFirstNarrow}
 use Rattle.budget_bounds.proofs.Covering.{same_place}
 use Rattle.budget_bounds.proofs.Ordered.{place_within}
 use Rattle.zone_flows.proofs.Unique.{flows_are_one, flows_exclude_refusal, refusal_is_one}
-use Rattle.listing_run.specs.Zones.{AreFlowsOf, HasLargeFlowOf, faces_of}
-use Rattle.check_run.specs.Flows.{CoversFlow, IsFirstNarrow}
+use Rattle.step_problem.specs.declared.place.Place.TheVariants as places
 
 module _ (H : ℕ → Side → Type 0) where
   -- H fails there, and nowhere before

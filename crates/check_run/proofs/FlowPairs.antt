@@ -1,47 +1,29 @@
 -- The flows between zones of a step's problem have the pairs of zones of the step's period.
-use Rattle.std.proofs.Common.{◌≡◌, ℕ, ◌<◌, Bool, true, false, cond, List, [], ◌∷◌, ◌++◌, length, map, get_or, Option, Some, None, refl, sym, ap, ◌∙◌, subst, arith, inl, inr, ℤ}
-use Rattle.std.specs.List.{AllZip, cons_option, filter_map, flat_map}
+use Rattle.check_run.proofs.Common.{◌≡◌, ℕ, ◌<◌, Bool, true, false, cond, List, [], ◌∷◌, ◌++◌, length, map, get_or, Option, Some, None, refl, sym, ap, ◌∙◌}
+use Rattle.check_run.proofs.Common.{subst, arith, inl, inr, ℤ, AllZip, cons_option, filter_map, flat_map, slice_index, append-nil, get_or-map, length-map}
+use Rattle.check_run.proofs.Common.{map-append, flat_map-append, Bound, ZoneFlow, Entries, entries_at, no_entries, lower_at, upper_at, FlowModel, TimeStep}
+use Rattle.check_run.proofs.Common.{cell_count, is_variable, is_constant, index_of, variable_below, variable_cells, FixedSource, as_general, constant_faces}
+use Rattle.check_run.proofs.Common.{fixed_sources, local_entries, storage_at, variable_faces, period_at, passing, at_rank, below_is, index_is, IsCellOf}
+use Rattle.check_run.proofs.Common.{IsFixed, IsLink, IsProblemOf, Thicknesses, ids_are, index_below, Face, cell_faces, face_between, face_from, faces}
+use Rattle.check_run.proofs.Common.{faces_by_kind, fixed_faces, is_lower_zone, link_faces, cell_keys, face_keys, keys_from, pair_of, pairs_in, to_constant}
+use Rattle.check_run.proofs.Common.{to_variable, with_keys, zone_pairs, zones_of_flow, AreNumbers, AreFlowsOf, faces_of}
 use Rattle.std.specs.Option.{option_to_list}
-use Rattle.std.specs.Prelude.{slice_index}
-use Rattle.std.proofs.lemmas.List.{append-nil, get_or-map, length-map, map-append}
-use Rattle.std.proofs.lemmas.List.Concat.{flat_map-append}
 use Rattle.decimal_input.specs.declared.dec.Dec.{Dec}
 use Rattle.step_problem.specs.declared.entry.Fixed.{Fixed}
 use Rattle.step_problem.specs.declared.entry.FixedKind.{FixedKind}
 use Rattle.step_problem.specs.declared.entry.FixedKind.TheVariants.{Constant}
 use Rattle.step_problem.specs.declared.entry.Link.{Link}
-use Rattle.step_problem.specs.declared.heads.Bound.{Bound}
-use Rattle.step_problem.specs.declared.place.ZoneFlow.{ZoneFlow}
-use Rattle.step_problem.specs.Entries.{Entries, entries_at, no_entries}
-use Rattle.step_problem.specs.Heads.{lower_at, upper_at}
 use Rattle.model_types.specs.declared.entry.Entry.{Entry}
 use Rattle.model_types.specs.declared.entry.Entry.TheVariants.{Well, River, Drain, General}
 use Rattle.model_types.specs.declared.face.Face.{Face as ModelFace}
-use Rattle.model_types.specs.declared.model.FlowModel.{FlowModel}
-use Rattle.model_types.specs.declared.time_steps.TimeStep.{TimeStep}
-use Rattle.model_types.specs.Cells.{cell_count}
 use Rattle.model_types.specs.Faces.{faces as model_faces, through}
 use Rattle.model_types.specs.Grids.{HasSize}
-use Rattle.model_types.specs.Kinds.{is_variable, is_constant, index_of, variable_below, variable_cells}
-use Rattle.model_types.specs.Sources.{FixedSource, as_general, constant_faces, fixed_sources, local_entries, storage_at, variable_faces}
 use Rattle.model_types.specs.Sources.FixedSource.{ToConstant, ToGeneral, FromStorage}
-use Rattle.model_types.specs.Times.{period_at}
 use Rattle.model_types.proofs.Leads.{end_within, passing_are}
 use Rattle.model_types.proofs.Members.{In}
-use Rattle.model_types.proofs.Ranks.{passing, at_rank}
-use Rattle.flow_equations.proofs.Links.{below_is, index_is}
-use Rattle.problem_builder.specs.Cells.{IsCellOf, IsFixed, IsLink}
-use Rattle.problem_builder.specs.Problems.{IsProblemOf}
-use Rattle.problem_builder.specs.Thicknesses.{Thicknesses}
 use Rattle.problem_builder.proofs.Members.{variable-In}
-use Rattle.problem_builder.proofs.StepEnclosed.{ids_are}
-use Rattle.step_chain.proofs.Assembled.{index_below}
-use Rattle.zone_flows.specs.Faces.{Face, cell_faces, face_between, face_from, faces, faces_by_kind, fixed_faces, is_lower_zone, link_faces}
 use Rattle.zone_flows.proofs.Fitting.{faces_fit}
-use Rattle.zone_pairs.specs.Pairs.{cell_keys, face_keys, keys_from, pair_of, pairs_in, to_constant, to_variable, with_keys, zone_pairs, zones_of_flow}
-use Rattle.zone_pairs.specs.Zones.{AreNumbers}
 use Rattle.zone_pairs.proofs.Flows.{face_key, flow_pairs}
-use Rattle.listing_run.specs.Zones.{AreFlowsOf, faces_of}
 
 -- the keys of faces
 abbrev keys_of : List Face → List ℕ

@@ -1,3 +1,4 @@
+mod Common
 pub mod Firsts
 pub mod Reached
 pub mod Listed

@@ -1,23 +1,9 @@
 -- The listed bounds of a problem's cells, and of all cells of the grid.
-use Rattle.std.proofs.Common.{◌≡◌, ℕ, zero, suc, ◌+◌, ◌<◌, true, List, [], ◌∷◌, length, map, get_or, refl, sym, ap, ◌∙◌, subst, arith}
-use Rattle.std.proofs.lemmas.List.{get_or-map, length-map}
-use Rattle.step_problem.specs.declared.heads.Bound.{Bound}
+use Rattle.check_run.proofs.Common.{◌≡◌, ℕ, zero, suc, ◌+◌, ◌<◌, true, List, [], ◌∷◌, length, map, get_or, refl, sym, ap, ◌∙◌, subst, arith, get_or-map}
+use Rattle.check_run.proofs.Common.{length-map, Bound, Entries, entries_at, no_entries, no_bound, AreWords, FlowModel, TimeStep, cell_count, is_variable}
+use Rattle.check_run.proofs.Common.{index_of, variable_cells, passing, at_rank, is_at, below_is, index_is, AreGridHeads, bound_at, index_below, ListedStep}
+use Rattle.check_run.proofs.Common.{AreCellBounds, IsListedStep, variable_bounds}
 use Rattle.step_problem.specs.Conditions.{IsHead}
-use Rattle.step_problem.specs.Entries.{Entries, entries_at, no_entries}
-use Rattle.step_problem.specs.Heads.{no_bound}
-use Rattle.cell_relax.specs.Words.{AreWords}
-use Rattle.model_types.specs.declared.model.FlowModel.{FlowModel}
-use Rattle.model_types.specs.declared.time_steps.TimeStep.{TimeStep}
-use Rattle.model_types.specs.Cells.{cell_count}
-use Rattle.model_types.specs.Kinds.{is_variable, index_of, variable_cells}
-use Rattle.model_types.proofs.Ranks.{passing, at_rank, is_at}
-use Rattle.flow_equations.proofs.Links.{below_is, index_is}
-use Rattle.problem_builder.specs.GridHeads.{AreGridHeads}
-use Rattle.step_chain.specs.GridHeads.{bound_at}
-use Rattle.step_chain.proofs.Assembled.{index_below}
-use Rattle.listing_io.specs.declared.listing.ListedStep.{ListedStep}
-use Rattle.listing_io.specs.Listed.{AreCellBounds, IsListedStep}
-use Rattle.check_run.specs.Reaching.{variable_bounds}
 
 abbrev AreHeads : Bound → Type 0
 AreHeads b = IsHead b.low × IsHead b.high

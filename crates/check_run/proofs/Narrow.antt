@@ -1,11 +1,7 @@
 -- The walk over listed flows between zones and computed ones.
-use Rattle.std.proofs.Common.{◌≡◌, ◌∙◌, ℕ, zero, suc, ◌+◌, ◌<◌, ◌≤◌, inl, inr, List, [], ◌∷◌, length, map, drop, get_or, drop-cons, add-one, refl, sym, ap, subst, arith, pos}
-use Rattle.std.specs.List.{AllZip}
-use Rattle.std.proofs.lemmas.List.{drop_all, get_or-map, length-map}
-use Rattle.step_problem.specs.declared.place.ZoneFlow.{ZoneFlow}
-use Rattle.zone_pairs.specs.declared.pair.ZonePair.{ZonePair}
-use Rattle.zone_pairs.specs.Pairs.{zones_of_flow}
-use Rattle.check_run.specs.Flows.{CoversFlow, IsFirstNarrow}
+use Rattle.check_run.proofs.Common.{◌≡◌, ◌∙◌, ℕ, zero, suc, ◌+◌, ◌<◌, ◌≤◌, inl, inr, List, [], ◌∷◌, length, map, drop, get_or, drop-cons, add-one, refl, sym}
+use Rattle.check_run.proofs.Common.{ap, subst, arith, pos, AllZip, drop_all, get_or-map, length-map, ZoneFlow, ZonePair, zones_of_flow, CoversFlow}
+use Rattle.check_run.proofs.Common.{IsFirstNarrow}
 
 -- what holds of the rest holds of all
 pub record GoesOn (listed computed xs ys : List ZoneFlow) : Type 0 where

@@ -1,43 +1,20 @@
 -- A listing has one verdict.
-use Rattle.std.proofs.Common.{◌≡◌, ◌≢◌, ◌∙◌, ℕ, suc, ◌<◌, ◌⊎◌, inl, inr, List, [], ◌∷◌, length, All, Ok, Err, Option, Some, None, refl, sym, ap, subst, arith}
-use Rattle.std.specs.List.{AllZip}
-use Rattle.step_problem.specs.declared.heads.Bound.{Bound}
-use Rattle.step_problem.specs.declared.heads.Side.{Side}
-use Rattle.step_problem.specs.declared.heads.Side.TheVariants.{Low, High}
-use Rattle.step_problem.specs.declared.place.Dir.{Dir}
-use Rattle.step_problem.specs.declared.place.NoBound.{NoBound}
+use Rattle.check_run.proofs.Common.{◌≡◌, ◌≢◌, ◌∙◌, ℕ, suc, ◌<◌, ◌⊎◌, inl, inr, List, [], ◌∷◌, length, All, Ok, Err, Option, Some, None, refl, sym, ap, subst}
+use Rattle.check_run.proofs.Common.{arith, AllZip, Bound, Side, Low, High, Dir, NoBound, Term, ZoneFlow, Entries, entries_at, Edges, lower_at, upper_at}
+use Rattle.check_run.proofs.Common.{IsCertificate, Budget, Covers, IsFirstUncovered, HoldsAt, IsFirstFailing, FlowModel, TimeStep, times, IsModel, AreGridHeads}
+use Rattle.check_run.proofs.Common.{ProblemIsOne, ProblemFits, ProblemExcludesRefusal, StartHeadsAreOne, StartHeadsFit, IsBefore, RefusalIsOne, IsPosed}
+use Rattle.check_run.proofs.Common.{HasNoHeads, ListedStep, IsListedStep, AreFlowsOf, HasLargeFlowOf, one_ok, one_err, ok_not_err, IsRest, first_in, rest_more}
+use Rattle.check_run.proofs.Common.{rest_whole, ListingVerdict, Certified, Fails, Refused, ConstantsReach, IsConstantCell, IsFirstShort, ReachesAt, CoversFlow}
+use Rattle.check_run.proofs.Common.{IsFirstNarrow, bounds, Passes, FailsAt, at_constant, at_variable, at_term, at_zones, IsRefused, no_heads, no_budget}
+use Rattle.check_run.proofs.Common.{no_flows, Checks, StopsAt}
 use Rattle.step_problem.specs.declared.place.Place.{Place}
-use Rattle.step_problem.specs.declared.place.Place.TheVariants as places
-use Rattle.step_problem.specs.declared.place.Term.{Term}
-use Rattle.step_problem.specs.declared.place.ZoneFlow.{ZoneFlow}
-use Rattle.step_problem.specs.Entries.{Entries, entries_at}
-use Rattle.step_problem.specs.Heads.{Edges, lower_at, upper_at, IsCertificate}
 use Rattle.barrier_vector.specs.Barriers.{IsBarrierOf, BarrierIsOne, BarrierExcludesRefusal}
 use Rattle.barrier_vector.specs.Refusals.{IsRefused as IsBarrierRefused}
-use Rattle.budget_bounds.specs.declared.pair.Budget.{Budget}
-use Rattle.budget_bounds.specs.Covers.{Covers, IsFirstUncovered}
-use Rattle.certificate_check.specs.Certificates.{HoldsAt, IsFirstFailing}
-use Rattle.model_types.specs.declared.model.FlowModel.{FlowModel}
-use Rattle.model_types.specs.declared.time_steps.TimeStep.{TimeStep}
-use Rattle.model_types.specs.Times.{times}
-use Rattle.model_types.specs.Valid.{IsModel}
-use Rattle.problem_builder.specs.GridHeads.{AreGridHeads}
-use Rattle.problem_builder.specs.Laws.{ProblemIsOne, ProblemFits, ProblemExcludesRefusal, StartHeadsAreOne, StartHeadsFit}
-use Rattle.step_chain.specs.Laws.{IsBefore, RefusalIsOne}
-use Rattle.step_chain.specs.Steps.{IsPosed, HasNoHeads}
-use Rattle.listing_io.specs.declared.listing.ListedStep.{ListedStep}
-use Rattle.listing_io.specs.Listed.{IsListedStep}
-use Rattle.listing_run.specs.Zones.{AreFlowsOf, HasLargeFlowOf}
-use Rattle.listing_run.proofs.Unique.{one_ok, one_err, ok_not_err, IsRest, first_in, rest_more, rest_whole}
-use Rattle.check_run.specs.declared.verdict.ListingVerdict.{ListingVerdict}
-use Rattle.check_run.specs.declared.verdict.ListingVerdict.TheVariants.{Certified, Fails, Refused}
 use Rattle.check_run.specs.Laws.{VerdictIsOne}
-use Rattle.check_run.specs.Reaching.{ConstantsReach, IsConstantCell, IsFirstShort, ReachesAt}
-use Rattle.check_run.specs.Flows.{CoversFlow, IsFirstNarrow}
-use Rattle.check_run.specs.Steps.{bounds, budget_at, Passes, FailsAt, at_constant, at_variable, at_term, at_zones, IsRefused, no_heads, no_budget, no_flows}
-use Rattle.check_run.specs.Verdicts.{Checks, StopsAt}
+use Rattle.check_run.specs.Steps.{budget_at}
 use Rattle.check_run.proofs.Firsts.{IsFirst, first_one, large_one, narrow_one, never_narrow, none_large, same_flows, term_one}
 use Rattle.check_run.proofs.Listed.{grid_of}
+use Rattle.step_problem.specs.declared.place.Place.TheVariants as places
 
 -- what the check of one step says
 data Said : Type 0 where

@@ -1,33 +1,14 @@
 -- What the check of a posed step says, by what its calls gave.
-use Rattle.std.proofs.Common.{◌≡◌, ℕ, ◌∙◌, List, Contains, Ok, Err, Option, map, subst, sym, refl}
-use Rattle.step_problem.specs.declared.heads.Bound.{Bound}
-use Rattle.step_problem.specs.declared.heads.Side.{Side}
-use Rattle.step_problem.specs.declared.place.Place.TheVariants as places
-use Rattle.step_problem.specs.declared.place.ZoneFlow.{ZoneFlow}
-use Rattle.step_problem.specs.Entries.{Entries, entries_at}
-use Rattle.step_problem.specs.Heads.{lower_at, upper_at, IsCertificate}
-use Rattle.budget_bounds.specs.declared.pair.Budget.{Budget}
-use Rattle.budget_bounds.specs.Covers.{CoverEncloses}
-use Rattle.budget_bounds.specs.Exact.{EnclosesBudgets, HeadsAreWithin}
-use Rattle.budget_bounds.specs.Terms.{budget_of}
-use Rattle.cell_balance.specs.SolutionBounds.{EnclosesSolutions}
-use Rattle.certificate_check.specs.Certificates.{IsFirstFailing}
-use Rattle.model_types.specs.declared.model.FlowModel.{FlowModel}
-use Rattle.model_types.specs.declared.time_steps.TimeStep.{TimeStep}
-use Rattle.model_types.specs.Times.{times}
-use Rattle.model_types.specs.Valid.{IsModel}
-use Rattle.problem_builder.specs.Laws.{ConstantPairEncloses}
-use Rattle.step_chain.specs.GridHeads.{bound_at}
-use Rattle.listing_run.specs.Bounding.{BoundsMoves}
-use Rattle.check_run.specs.declared.fault.CheckFault.{CheckFault}
-use Rattle.check_run.specs.declared.fault.CheckFault.TheVariants as fault
+use Rattle.check_run.proofs.Common.{◌≡◌, ℕ, ◌∙◌, List, Contains, Ok, Err, Option, map, subst, sym, refl, Bound, Side, ZoneFlow, Entries, entries_at, lower_at}
+use Rattle.check_run.proofs.Common.{upper_at, IsCertificate, Budget, CoverEncloses, EnclosesBudgets, HeadsAreWithin, budget_of, EnclosesSolutions}
+use Rattle.check_run.proofs.Common.{IsFirstFailing, FlowModel, TimeStep, times, IsModel, ConstantPairEncloses, bound_at, BoundsMoves, CheckFault, AreNarrow}
+use Rattle.check_run.proofs.Common.{ArePosed, AreWide, FailsBy, IsCovered, IsUncovered, ConstantsReach, IsFirstShort, variable_bounds, HeadsHold, Passes}
+use Rattle.check_run.proofs.Common.{TermsHold, at_constant, at_variable, at_term, at_zones, no_budget, no_flows, checked_task, step_of}
 use Rattle.check_run.specs.declared.posed.Posed.{Posed}
-use Rattle.check_run.specs.Parts.{AreNarrow, ArePosed, AreWide, FailsBy, IsCovered, IsUncovered}
-use Rattle.check_run.specs.Reaching.{ConstantsReach, IsFirstShort, variable_bounds}
-use Rattle.check_run.specs.Steps.{HeadsHold, Passes, TermsHold, at_constant, at_variable, at_term, at_zones, no_budget, no_flows}
-use Rattle.check_run.specs.Verdicts.{checked_task, step_of}
 use Rattle.check_run.proofs.Listed.{bounds_are}
 use Rattle.check_run.proofs.Passing.{listed_moves}
+use Rattle.step_problem.specs.declared.place.Place.TheVariants as places
+use Rattle.check_run.specs.declared.fault.CheckFault.TheVariants as fault
 
 module _ (m : FlowModel) (s : ℕ) (zones : Option (List ℕ)) (at : TimeStep) (old : List Bound) (x : Posed) (posed : ArePosed m s at old x) (heads : List Bound) (listed : Budget) (flows : List ZoneFlow) where
   pub constant_fails : (c : ℕ) (side : Side) → IsFirstShort m at heads c side → FailsBy m s zones at old (record { heads = heads; budget = listed; zones = flows }) (fault.Fails (places.Cell c side))

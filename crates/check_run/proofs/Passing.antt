@@ -1,50 +1,20 @@
 -- A listed step that passes bounds every solution.
-use Rattle.std.proofs.Common.{◌≡◌, ℕ, ◌+◌, ◌<◌, ◌^◌, inl, inr, true, List, [], ◌∷◌, length, All, Contains, Option, Some, None, sym, ap, ◌∙◌, subst, arith, ℤ, pos, ◌*ℤ◌, ◌≤ℤ◌}
-use Rattle.std.specs.List.{AllByRecursion, AllZip}
-use Rattle.std.specs.Prelude.{IfSome}
-use Rattle.std.proofs.lemmas.List.Elements.{All-from_recursion, recursion_from_All}
-use Rattle.std.proofs.lemmas.Bool.{cases_Bool}
-use Rattle.std.proofs.lemmas.Int.{ints}
-use Rattle.decimal_input.specs.Fractions.{Fraction, den}
+use Rattle.check_run.proofs.Common.{◌≡◌, ℕ, ◌+◌, ◌<◌, ◌^◌, inl, inr, true, List, [], ◌∷◌, length, All, Contains, Option, Some, None, sym, ap, ◌∙◌, subst, arith}
+use Rattle.check_run.proofs.Common.{ℤ, pos, ◌*ℤ◌, ◌≤ℤ◌, AllByRecursion, AllZip, IfSome, All-from_recursion, recursion_from_All, cases_Bool, ints, Fraction, den}
+use Rattle.check_run.proofs.Common.{Bound, Low, High, ZoneFlow, Entries, lower_at, upper_at, Budget, CoverEncloses, Covers, EnclosesBudgets, HeadsAreWithin}
+use Rattle.check_run.proofs.Common.{EnclosesSolutions, exact_step, heads_of, variable_heads, FlowModel, TimeStep, cell_count, constant_head, is_variable}
+use Rattle.check_run.proofs.Common.{is_constant, index_of, times, IsModel, AreConstantHeads, IsActive, IsNamed, HeadsEnclose, ConstantPairEncloses, bound_at}
+use Rattle.check_run.proofs.Common.{active_constant, index_below, count_is, number_is, EncloseExact, exact_faces, exact_flow, ZonePair, BoundsMoves, CoversFlow}
+use Rattle.check_run.proofs.Common.{AreWide, ConstantsReach, IsConstantCell, variable_bounds, checked_task, step_of}
 use Rattle.decimal_input.specs.Enclosures.{EnclosesSigned}
 use Rattle.decimal_input.proofs.Enclosing.{whole_signed}
-use Rattle.step_problem.specs.declared.heads.Bound.{Bound}
-use Rattle.step_problem.specs.declared.heads.Side.TheVariants.{Low, High}
-use Rattle.step_problem.specs.declared.place.ZoneFlow.{ZoneFlow}
-use Rattle.step_problem.specs.Entries.{Entries}
-use Rattle.step_problem.specs.Heads.{lower_at, upper_at}
-use Rattle.budget_bounds.specs.declared.pair.Budget.{Budget}
-use Rattle.budget_bounds.specs.Covers.{CoverEncloses, Covers}
-use Rattle.budget_bounds.specs.Exact.{EnclosesBudgets, HeadsAreWithin}
 use Rattle.cell_balance.specs.Steps.{ExactCell}
 use Rattle.cell_balance.specs.Enclosures.{EnclosesStep, CellEncloses}
-use Rattle.cell_balance.specs.SolutionBounds.{EnclosesSolutions}
 use Rattle.cell_balance.specs.Solutions.{LiesBetween}
 use Rattle.cell_balance.proofs.Totals.{le_trans_z}
 use Rattle.cell_balance.proofs.Zips.{AllZip-length}
-use Rattle.flow_equations.specs.ExactStep.{exact_step}
-use Rattle.flow_equations.specs.Histories.{heads_of, variable_heads}
-use Rattle.model_types.specs.declared.model.FlowModel.{FlowModel}
-use Rattle.model_types.specs.declared.time_steps.TimeStep.{TimeStep}
-use Rattle.model_types.specs.Cells.{cell_count}
-use Rattle.model_types.specs.Heads.{constant_head}
-use Rattle.model_types.specs.Kinds.{is_variable, is_constant, index_of}
-use Rattle.model_types.specs.Times.{times}
-use Rattle.model_types.specs.Valid.{IsModel}
-use Rattle.problem_builder.specs.ConstantHeads.{AreConstantHeads}
-use Rattle.problem_builder.specs.GridHeads.{IsActive, IsNamed, HeadsEnclose}
-use Rattle.problem_builder.specs.Laws.{ConstantPairEncloses}
 use Rattle.step_chain.specs.Enclosing.{IsMove, LiesWithin}
-use Rattle.step_chain.specs.GridHeads.{bound_at}
-use Rattle.step_chain.proofs.Assembled.{active_constant, index_below, count_is, number_is}
-use Rattle.zone_flows.specs.Exact.{EncloseExact, exact_faces, exact_flow}
-use Rattle.zone_pairs.specs.declared.pair.ZonePair.{ZonePair}
-use Rattle.listing_run.specs.Bounding.{BoundsMoves}
 use Rattle.listing_run.proofs.Zoned.{flows_enclose, heads_named, within_enclosed}
-use Rattle.check_run.specs.Flows.{CoversFlow}
-use Rattle.check_run.specs.Parts.{AreWide}
-use Rattle.check_run.specs.Reaching.{ConstantsReach, IsConstantCell, variable_bounds}
-use Rattle.check_run.specs.Verdicts.{checked_task, step_of}
 use Rattle.check_run.proofs.Listed.{variable_listed}
 use Rattle.decimal_input.proofs.Signs.{mul_mono_right}
 

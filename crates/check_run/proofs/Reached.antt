@@ -1,23 +1,9 @@
 -- The constant cells of a time whose listed bounds are as wide as their pairs.
-use Rattle.std.proofs.Common.{◌≡◌, ℕ, ◌+◌, ◌<◌, ◌≤◌, inl, inr, true, cond, List, Contains, sym, ap, ◌∙◌, subst, arith}
-use Rattle.std.proofs.lemmas.Bool.{cases_order}
-use Rattle.step_problem.specs.declared.heads.Bound.{Bound}
-use Rattle.step_problem.specs.declared.heads.Side.{Side}
-use Rattle.step_problem.specs.declared.heads.Side.TheVariants.{Low, High}
+use Rattle.check_run.proofs.Common.{◌≡◌, ℕ, ◌+◌, ◌<◌, ◌≤◌, inl, inr, true, cond, List, Contains, sym, ap, ◌∙◌, subst, arith, cases_order, Bound, Side, Low}
+use Rattle.check_run.proofs.Common.{High, FlowModel, TimeStep, cell_count, is_constant, kind_of, times, IsModel, AreConstantHeads, ConstantPairIsOne, bound_at}
+use Rattle.check_run.proofs.Common.{constant_not_variable, same_bound, ConstantsReach, IsConstantCell, IsFirstShort, ReachesAt, ReachesOn}
 use Rattle.model_types.specs.declared.kind.Kind.TheVariants.{NoFlow, Constant, Variable}
-use Rattle.model_types.specs.declared.model.FlowModel.{FlowModel}
-use Rattle.model_types.specs.declared.time_steps.TimeStep.{TimeStep}
-use Rattle.model_types.specs.Cells.{cell_count}
-use Rattle.model_types.specs.Kinds.{is_constant, kind_of}
-use Rattle.model_types.specs.Times.{times}
-use Rattle.model_types.specs.Valid.{IsModel}
-use Rattle.problem_builder.specs.ConstantHeads.{AreConstantHeads}
-use Rattle.problem_builder.specs.Laws.{ConstantPairIsOne}
 use Rattle.problem_builder.proofs.KindsOf.{constant_kind}
-use Rattle.step_chain.specs.GridHeads.{bound_at}
-use Rattle.step_chain.proofs.Assembled.{constant_not_variable}
-use Rattle.step_chain.proofs.OneStep.{same_bound}
-use Rattle.check_run.specs.Reaching.{ConstantsReach, IsConstantCell, IsFirstShort, ReachesAt, ReachesOn}
 
 kind_constant : (m : FlowModel) (p c : ℕ) → is_constant m p c ≡ true → kind_of m p c ≡ Constant
 kind_constant m p c e = ap (λ v. cond v Variable (cond (is_constant m p c) Constant NoFlow)) (constant_not_variable m p c e) ∙ ap (λ k. cond k Constant NoFlow) e

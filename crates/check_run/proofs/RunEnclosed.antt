@@ -1,22 +1,7 @@
 -- What the steps of a run enclose, their listing encloses.
-use Rattle.std.proofs.Common.{ℕ, List, [], ◌∷◌, map, ℤ, subst}
-use Rattle.std.specs.Prelude.{IfSome}
-use Rattle.decimal_input.specs.Fractions.{Fraction}
-use Rattle.step_problem.specs.declared.heads.Bound.{Bound}
-use Rattle.budget_bounds.specs.Exact.{BudgetEncloses}
-use Rattle.zone_flows.specs.Exact.{EncloseExact}
-use Rattle.flow_equations.specs.ExactStep.{exact_step}
-use Rattle.flow_equations.specs.Histories.{heads_of, variable_heads}
-use Rattle.model_types.specs.declared.time_steps.TimeStep.{TimeStep}
-use Rattle.model_types.specs.Heads.{start_head}
-use Rattle.model_types.specs.Times.{times}
-use Rattle.listing_run.specs.declared.task.Task.{Task}
-use Rattle.listing_run.specs.declared.step.Step.{Step}
-use Rattle.listing_run.specs.Bounding.{BoundAll, Bounds, EnclosesHistories}
-use Rattle.listing_run.specs.declared.listing_end.ListingEnd.TheVariants.{Whole}
-use Rattle.listing_run.specs.Steps.{AllSteps, IsStep, Steps}
-use Rattle.check_run.specs.Runs.{as_listed}
-use Rattle.check_run.specs.Verdicts.{ListingEncloses, checked_task, step_of, steps_of}
+use Rattle.check_run.proofs.Common.{ℕ, List, [], ◌∷◌, map, ℤ, subst, IfSome, Fraction, Bound, BudgetEncloses, EncloseExact, exact_step, heads_of}
+use Rattle.check_run.proofs.Common.{variable_heads, TimeStep, start_head, times, Task, Step, BoundAll, Bounds, EnclosesHistories, Whole, AllSteps, IsStep}
+use Rattle.check_run.proofs.Common.{Steps, as_listed, ListingEncloses, checked_task, step_of, steps_of}
 
 module _ (k : Task) where
   step_bounds : (at : TimeStep) (old : List Bound) (v : Step) (before : ℕ → Fraction) (d : ℕ) (X : ℕ → ℤ) → IsStep k at old v → Bounds k v before d X → Bounds (checked_task k.model k.digits k.zones) (step_of at (as_listed v)) before d X

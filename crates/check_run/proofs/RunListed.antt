@@ -1,49 +1,17 @@
 -- The steps of a run are steps that a listing can have.
-use Rattle.std.proofs.Common.{◌≡◌, ℕ, zero, suc, ◌+◌, ◌<◌, false, List, [], ◌∷◌, length, map, All, Ok, refl, sym, ap, subst, arith, ℤ, pos, negsuc, neg_ℤ, ◌+ℤ◌, ◌≤ℤ◌, ◌<ℤ◌, unsigned_abs, nat_abs, ◌^◌, ◌≤◌, Option, Some, None, ◌∙◌}
-use Rattle.std.specs.List.{AllZip}
+use Rattle.check_run.proofs.Common.{◌≡◌, ℕ, zero, suc, ◌+◌, ◌<◌, false, List, [], ◌∷◌, length, map, All, Ok, refl, sym, ap, subst, arith, ℤ, pos, negsuc, neg_ℤ}
+use Rattle.check_run.proofs.Common.{◌+ℤ◌, ◌≤ℤ◌, ◌<ℤ◌, unsigned_abs, nat_abs, ◌^◌, ◌≤◌, Option, Some, None, ◌∙◌, AllZip, ints, All-weaker, Bound, In, Out}
+use Rattle.check_run.proofs.Common.{ZoneFlow, Entries, entries_at, no_bound, lower_at, upper_at, Budget, TermPair, all_terms, term_limit, Face, flows_between}
+use Rattle.check_run.proofs.Common.{pairs_in, AreNumbers, FlowModel, TimeStep, cell_count, variable_below, evap_sources, period_at, times, IsModel, IsCellOf}
+use Rattle.check_run.proofs.Common.{IsEvap, AreGridHeads, StartHeadsFit, Thicknesses, Solved, bound_at, IsBefore, HeadsFit, IsSettledStep, AreCellBounds}
+use Rattle.check_run.proofs.Common.{AreFlows, AreFlowsAt, AreListed, IsCellBound, IsFlowPair, IsListedStep, has_evt, zone_pair, Task, Step, Whole, AllSteps}
+use Rattle.check_run.proofs.Common.{IsStep, Steps, budget_at, AreFlowsOf, faces_of, IsRest, first_in, rest_more, rest_whole, as_listed}
 use Rattle.std.specs.Prelude.{Contains}
-use Rattle.std.proofs.lemmas.Int.{ints}
-use Rattle.std.proofs.lemmas.List.Elements.{All-weaker}
 use Rattle.std.proofs.lemmas.Bool.Decides.{nat_tests}
-use Rattle.step_problem.specs.declared.heads.Bound.{Bound}
-use Rattle.step_problem.specs.declared.place.Dir.TheVariants.{In, Out}
-use Rattle.step_problem.specs.declared.place.ZoneFlow.{ZoneFlow}
 use Rattle.step_problem.specs.Flows.{total}
-use Rattle.step_problem.specs.Entries.{Entries, entries_at}
-use Rattle.step_problem.specs.Heads.{no_bound, lower_at, upper_at}
-use Rattle.budget_bounds.specs.declared.pair.Budget.{Budget}
-use Rattle.budget_bounds.specs.declared.pair.TermPair.{TermPair}
-use Rattle.budget_bounds.specs.Terms.{all_terms, term_limit}
-use Rattle.zone_flows.specs.Faces.{Face, flows_between}
 use Rattle.zone_flows.specs.Pairs.{IsZoneFlow}
-use Rattle.zone_pairs.specs.Pairs.{pairs_in}
-use Rattle.zone_pairs.specs.Zones.{AreNumbers}
-use Rattle.model_types.specs.declared.model.FlowModel.{FlowModel}
-use Rattle.model_types.specs.declared.time_steps.TimeStep.{TimeStep}
-use Rattle.model_types.specs.Cells.{cell_count}
-use Rattle.model_types.specs.Kinds.{variable_below}
 use Rattle.model_types.specs.Layers.{is_nonzero}
 use Rattle.model_types.specs.Receivers.{is_chosen}
-use Rattle.model_types.specs.Sources.{evap_sources}
-use Rattle.model_types.specs.Times.{period_at, times}
-use Rattle.model_types.specs.Valid.{IsModel}
-use Rattle.problem_builder.specs.Cells.{IsCellOf, IsEvap}
-use Rattle.problem_builder.specs.GridHeads.{AreGridHeads}
-use Rattle.problem_builder.specs.Laws.{StartHeadsFit}
-use Rattle.problem_builder.specs.Thicknesses.{Thicknesses}
-use Rattle.step_chain.specs.declared.solved.Solved.{Solved}
-use Rattle.step_chain.specs.GridHeads.{bound_at}
-use Rattle.step_chain.specs.Laws.{IsBefore, HeadsFit}
-use Rattle.step_chain.specs.Steps.{IsSettledStep}
-use Rattle.listing_io.specs.Listed.{AreCellBounds, AreFlows, AreFlowsAt, AreListed, IsCellBound, IsFlowPair, IsListedStep}
-use Rattle.listing_io.specs.Listing.{has_evt, zone_pair}
-use Rattle.listing_run.specs.declared.task.Task.{Task}
-use Rattle.listing_run.specs.declared.step.Step.{Step}
-use Rattle.listing_run.specs.declared.listing_end.ListingEnd.TheVariants.{Whole}
-use Rattle.listing_run.specs.Steps.{AllSteps, IsStep, Steps, budget_at}
-use Rattle.listing_run.specs.Zones.{AreFlowsOf, faces_of}
-use Rattle.listing_run.proofs.Unique.{IsRest, first_in, rest_more, rest_whole}
-use Rattle.check_run.specs.Runs.{as_listed}
 use Rattle.check_run.proofs.FlowPairs.{flows_have_pairs}
 use Rattle.check_run.proofs.RunTerms.{as_many, budget_are, flows_are, no_et}
 

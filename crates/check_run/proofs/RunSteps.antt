@@ -1,46 +1,13 @@
 -- The steps of a run pass the check.
-use Rattle.std.proofs.Common.{◌≡◌, ℕ, suc, ◌<◌, inl, List, [], ◌∷◌, length, map, get_or, Ok, refl, sym, ap, ◌∙◌, subst, arith, Option}
-use Rattle.std.specs.List.{AllZip}
-use Rattle.std.proofs.lemmas.Int.{ints}
-use Rattle.std.proofs.lemmas.List.{get_or-map, length-map}
-use Rattle.step_problem.specs.declared.heads.Bound.{Bound}
-use Rattle.step_problem.specs.declared.heads.Side.{Side}
-use Rattle.step_problem.specs.declared.heads.Side.TheVariants.{Low, High}
-use Rattle.step_problem.specs.declared.place.ZoneFlow.{ZoneFlow}
-use Rattle.step_problem.specs.Entries.{Entries}
-use Rattle.step_problem.specs.Heads.{no_bound, lower_at, upper_at, IsCertificate}
+use Rattle.check_run.proofs.Common.{◌≡◌, ℕ, suc, ◌<◌, inl, List, [], ◌∷◌, length, map, get_or, Ok, refl, sym, ap, ◌∙◌, subst, arith, Option, AllZip, ints}
+use Rattle.check_run.proofs.Common.{get_or-map, length-map, Bound, Side, Low, High, ZoneFlow, Entries, no_bound, lower_at, upper_at, IsCertificate, Budget}
+use Rattle.check_run.proofs.Common.{budget_of, FlowModel, TimeStep, cell_count, is_variable, variable_cells, times, IsModel, IsAt, is_at, below_is, index_is}
+use Rattle.check_run.proofs.Common.{AreGridHeads, ProblemFits, ConstantPairIsOne, StartHeadsFit, ids_are, Solved, bound_at, IsBefore, HeadsFit, IsSettledStep}
+use Rattle.check_run.proofs.Common.{Task, Step, Whole, IsStep, Steps, budget_at, IsRest, first_in, rest_more, rest_whole, Certified, CoversFlow, ConstantsReach}
+use Rattle.check_run.proofs.Common.{ReachesOn, variable_bounds, RunIsCertified, as_listed, Passes, Checks, same_bounds}
 use Rattle.step_problem.specs.Laws.{SettledPairCertifies}
-use Rattle.budget_bounds.specs.declared.pair.Budget.{Budget}
-use Rattle.budget_bounds.specs.Terms.{budget_of}
-use Rattle.model_types.specs.declared.model.FlowModel.{FlowModel}
-use Rattle.model_types.specs.declared.time_steps.TimeStep.{TimeStep}
-use Rattle.model_types.specs.Cells.{cell_count}
-use Rattle.model_types.specs.Kinds.{is_variable, variable_cells}
-use Rattle.model_types.specs.Times.{times}
-use Rattle.model_types.specs.Valid.{IsModel}
-use Rattle.model_types.proofs.Ranks.{IsAt, is_at}
-use Rattle.flow_equations.proofs.Links.{below_is, index_is}
-use Rattle.problem_builder.specs.GridHeads.{AreGridHeads}
-use Rattle.problem_builder.specs.Laws.{ProblemFits, ConstantPairIsOne, StartHeadsFit}
-use Rattle.problem_builder.proofs.StepEnclosed.{ids_are}
-use Rattle.step_chain.specs.declared.solved.Solved.{Solved}
-use Rattle.step_chain.specs.GridHeads.{bound_at}
-use Rattle.step_chain.specs.Laws.{IsBefore, HeadsFit}
-use Rattle.step_chain.specs.Steps.{IsSettledStep}
-use Rattle.listing_run.specs.declared.task.Task.{Task}
-use Rattle.listing_run.specs.declared.step.Step.{Step}
-use Rattle.listing_run.specs.declared.listing_end.ListingEnd.TheVariants.{Whole}
-use Rattle.listing_run.specs.Steps.{IsStep, Steps, budget_at}
 use Rattle.listing_run.specs.Zones.{AreFlowsAt}
-use Rattle.listing_run.proofs.Unique.{IsRest, first_in, rest_more, rest_whole}
-use Rattle.check_run.specs.declared.verdict.ListingVerdict.TheVariants.{Certified}
-use Rattle.check_run.specs.Flows.{CoversFlow}
-use Rattle.check_run.specs.Reaching.{ConstantsReach, ReachesOn, variable_bounds}
-use Rattle.check_run.specs.Runs.{RunIsCertified, as_listed}
-use Rattle.check_run.specs.Steps.{Passes}
-use Rattle.check_run.specs.Verdicts.{Checks}
 use Rattle.check_run.proofs.Listed.{count_is}
-use Rattle.step_chain.proofs.OneStep.{same_bounds}
 
 reaches : (side : Side) (listed pair : Bound) → (listed.low ≡ pair.low) × (listed.high ≡ pair.high) → ReachesOn side listed pair
 reaches Low listed pair same = omega (arith, ints, same.0)

@@ -1,23 +1,14 @@
 -- The terms of a step's budget are flows that a listing can have.
-use Rattle.std.proofs.Common.{◌≡◌, ℕ, zero, suc, ◌^◌, ◌<◌, Bool, true, false, List, [], ◌∷◌, length, nat_abs, All, get_or, Result, Ok, Err, refl, sym, ap, ◌∙◌, subst, arith, ℤ, pos, negsuc, ◌+ℤ◌, ◌≤ℤ◌}
-use Rattle.std.specs.Prelude.{if◌then◌else◌}
+use Rattle.check_run.proofs.Common.{◌≡◌, ℕ, zero, suc, ◌^◌, ◌<◌, Bool, true, false, List, [], ◌∷◌, length, nat_abs, All, get_or, Result, Ok, Err, refl, sym, ap}
+use Rattle.check_run.proofs.Common.{◌∙◌, subst, arith, ℤ, pos, negsuc, ◌+ℤ◌, ◌≤ℤ◌, if◌then◌else◌, AllZip, ints, Dir, In, Out, NoBound, Term, Entries}
+use Rattle.check_run.proofs.Common.{entries_at, TermPair, Budget, ◌>>=◌, all_terms, budget_of, is_small, no_pair, parts, term_limit, term_of, term_pair}
+use Rattle.check_run.proofs.Common.{terms_of, too_large, IsFlowPair}
 use Rattle.std.specs.Int.Signed.{lt_z}
-use Rattle.std.specs.List.{AllZip}
-use Rattle.std.proofs.lemmas.Int.{ints}
-use Rattle.step_problem.specs.declared.place.Dir.{Dir}
-use Rattle.step_problem.specs.declared.place.Dir.TheVariants.{In, Out}
-use Rattle.step_problem.specs.declared.place.NoBound.{NoBound}
-use Rattle.step_problem.specs.declared.place.Term.{Term}
 use Rattle.step_problem.specs.declared.place.Term.TheVariants.{Storage, Et}
-use Rattle.step_problem.specs.Entries.{Entries, entries_at}
 use Rattle.cell_balance.specs.Components.{sum_below}
-use Rattle.budget_bounds.specs.declared.pair.TermPair.{TermPair}
-use Rattle.budget_bounds.specs.declared.pair.Budget.{Budget}
 use Rattle.budget_bounds.specs.Singles.{singles}
-use Rattle.budget_bounds.specs.Terms.{◌>>=◌, all_terms, budget_of, is_small, no_pair, parts, term_limit, term_of, term_pair, terms_of, too_large}
 use Rattle.budget_bounds.proofs.Caps.{parts_lo, parts_hi}
 use Rattle.problem_builder.proofs.ActiveCells.{and_true}
-use Rattle.listing_io.specs.Listed.{IsFlowPair}
 use Rattle.listing_io.proofs.Written.{same_ok, goes, clash}
 
 -- what goes on was not refused

@@ -1,28 +1,13 @@
 -- The text of a run's listing is that of its steps, and is read as these.
-use Rattle.std.proofs.Common.{◌≡◌, ℕ, List, [], ◌∷◌, ◌++◌, map, get_or, Contains, Ok, refl, sym, ap, ◌∙◌, subst, arith}
-use Rattle.std.specs.List.{concat}
-use Rattle.std.proofs.lemmas.List.{append_assoc, append-nil, get_or_default}
-use Rattle.std.proofs.lemmas.List.Concat.{flat_map-append}
-use Rattle.step_problem.specs.declared.heads.Bound.{Bound}
-use Rattle.model_types.specs.declared.model.FlowModel.{FlowModel}
-use Rattle.model_types.specs.declared.time_steps.TimeStep.{TimeStep}
-use Rattle.model_types.specs.Times.{times}
-use Rattle.model_types.specs.Valid.{IsModel}
-use Rattle.problem_builder.specs.Laws.{StartHeadsFit}
-use Rattle.problem_builder.proofs.TimesOf.{time_of}
-use Rattle.step_chain.specs.Laws.{HeadsFit}
-use Rattle.zone_pairs.specs.Pairs.{pairs_in}
-use Rattle.zone_pairs.proofs.Small.{pairs_small}
+use Rattle.check_run.proofs.Common.{◌≡◌, ℕ, List, [], ◌∷◌, ◌++◌, map, get_or, Contains, Ok, refl, sym, ap, ◌∙◌, subst, arith, concat, append_assoc, append-nil}
+use Rattle.check_run.proofs.Common.{get_or_default, flat_map-append, Bound, FlowModel, TimeStep, times, IsModel, StartHeadsFit, time_of, HeadsFit, pairs_in}
+use Rattle.check_run.proofs.Common.{pairs_small, all_step_lines, ended, first_line, first_text, step_lines, step_text, Task, Step, Whole, AllSteps, IsStep}
+use Rattle.check_run.proofs.Common.{Steps, IsReadable, RunIsReadAgain, as_listed}
 use Rattle.listing_io.specs.Laws.{IsTime, IsWritable, ListingsAreReadAgain}
-use Rattle.listing_io.specs.Listing.{all_step_lines, ended, end_line as last_row, first_line, first_text, listing as rows_of, step_lines, step_text, text_of as text}
+use Rattle.listing_io.specs.Listing.{end_line as last_row, listing as rows_of, text_of as text}
 use Rattle.listing_io.specs.Reading.{all_lines, listing_at}
 use Rattle.run_puts.specs.Lines.{end_line}
-use Rattle.listing_run.specs.declared.task.Task.{Task}
-use Rattle.listing_run.specs.declared.step.Step.{Step}
 use Rattle.listing_run.specs.Listing.{listing, text_of}
-use Rattle.listing_run.specs.declared.listing_end.ListingEnd.TheVariants.{Whole}
-use Rattle.listing_run.specs.Steps.{AllSteps, IsStep, Steps}
-use Rattle.check_run.specs.Runs.{IsReadable, RunIsReadAgain, as_listed}
 use Rattle.check_run.proofs.RunListed.{are_listed}
 
 module _ (k : Task) where

@@ -1,15 +1,7 @@
 -- A history of chosen models between two others is one between them.
-use Rattle.std.proofs.Common.{[], ◌∷◌, ℕ, ℤ, subst, List, All, map}
-use Rattle.std.proofs.lemmas.List.Elements.{All-head, All-tail}
-use Rattle.decimal_input.specs.Fractions.{Fraction}
-use Rattle.model_types.specs.Heads.{start_head}
-use Rattle.model_types.specs.declared.model.FlowModel.{FlowModel}
-use Rattle.model_types.specs.declared.time_steps.TimeStep.{TimeStep}
-use Rattle.flow_equations.specs.Histories.{heads_of}
-use Rattle.deck_span.specs.Models.{IsBetween}
+use Rattle.chosen_histories.proofs.Common.{[], ◌∷◌, ℕ, ℤ, subst, List, All, map, All-head, All-tail, Fraction, start_head, FlowModel, TimeStep, heads_of}
+use Rattle.chosen_histories.proofs.Common.{IsBetween, Choice, SolvesChoicesFrom, ChoicesLieBetween}
 use Rattle.deck_span.specs.Histories.{SolvesBetweenFrom}
-use Rattle.chosen_histories.specs.Choices.{Choice, SolvesChoicesFrom}
-use Rattle.chosen_histories.specs.Laws.{ChoicesLieBetween}
 
 between_from : (a b : FlowModel) (d : ℕ) (cs : List Choice) (before : ℕ → Fraction) (Xs : List (ℕ → ℤ)) → All (λ c. IsBetween a c.model b) cs → SolvesChoicesFrom d before cs Xs → SolvesBetweenFrom a b d before (map (λ (c : Choice). c.at) cs) Xs
 between_from a b d [] before [] between h = tt

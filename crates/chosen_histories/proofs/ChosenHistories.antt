@@ -1,26 +1,13 @@
 -- Each choice of models between two others has a history, and one alone, by induction on the choices.
-use Rattle.std.proofs.Common.{◌<◌, [], ◌∷◌, ℕ, refl, sym, subst, ℤ, List, All, Contains, map}
-use Rattle.std.proofs.lemmas.List.Elements.{All-head, All-tail}
-use Rattle.decimal_input.specs.Fractions.{Fraction}
-use Rattle.decimal_input.proofs.Fractional.{Same-sym}
-use Rattle.model_types.specs.Heads.{start_head}
+use Rattle.chosen_histories.proofs.Common.{◌<◌, [], ◌∷◌, ℕ, refl, sym, subst, ℤ, List, All, Contains, map, All-head, All-tail, Fraction, Same-sym, start_head}
+use Rattle.chosen_histories.proofs.Common.{FlowModel, TimeStep, Bound, heads_of, SolvesAt, AreGridHeads, HeadsEnclose, Solved, AreSameHeads, AreSame, IsBetween}
+use Rattle.chosen_histories.proofs.Common.{IsHullStep, AreHullSteps, AreModels, AreBefore, Choice, SolvesChoicesFrom, ChoicesHaveAHistory}
+use Rattle.chosen_histories.proofs.Common.{ChoicesHaveOneHistory}
 use Rattle.model_types.specs.Times.{times}
-use Rattle.model_types.specs.declared.model.FlowModel.{FlowModel}
-use Rattle.model_types.specs.declared.time_steps.TimeStep.{TimeStep}
-use Rattle.step_problem.specs.declared.heads.Bound.{Bound}
-use Rattle.flow_equations.specs.Histories.{heads_of, SolvesAt}
-use Rattle.problem_builder.specs.GridHeads.{AreGridHeads, HeadsEnclose}
-use Rattle.step_chain.specs.declared.solved.Solved.{Solved}
-use Rattle.exact_histories.specs.Histories.{AreSameHeads, AreSame}
-use Rattle.deck_span.specs.Models.{IsBetween}
-use Rattle.span_steps.specs.HullSteps.{IsHullStep, AreHullSteps}
-use Rattle.span_steps.specs.Within.{AreModels, AreBefore}
 use Rattle.span_steps.proofs.Times.{first_in, next_in}
 use Rattle.span_steps.proofs.HullRange.{heads_in_range}
 use Rattle.span_steps.proofs.Moves.{lies_encloses, move_within}
 use Rattle.span_steps.proofs.Histories.{start_within}
-use Rattle.chosen_histories.specs.Choices.{Choice, SolvesChoicesFrom}
-use Rattle.chosen_histories.specs.Laws.{ChoicesHaveAHistory, ChoicesHaveOneHistory}
 use Rattle.chosen_histories.proofs.Multiples.{GoOn, history_exists}
 use Rattle.chosen_histories.proofs.OneTurn.{has_vector, heads_same}
 

@@ -1,3 +1,4 @@
+mod Common
 pub mod Multiples
 pub mod OneTurn
 pub mod ChosenHistories

@@ -1,13 +1,8 @@
 -- A history of chosen models stays one over each multiple of its denominator; so choices that can be solved in turn
 -- have a history over one denominator.
-use Rattle.std.proofs.Common.{◌≡◌, ◌*◌, ◌-◌, ◌<◌, ◌∙◌, ◌*ℤ◌, [], ◌∷◌, ℕ, suc, refl, sym, ap, subst, arith, ℤ, pos, List, map, mul_comm, mul-pos}
-use Rattle.decimal_input.specs.Fractions.{Fraction, Same}
+use Rattle.chosen_histories.proofs.Common.{◌≡◌, ◌*◌, ◌-◌, ◌<◌, ◌∙◌, ◌*ℤ◌, [], ◌∷◌, ℕ, suc, refl, sym, ap, subst, arith, ℤ, pos, List, map, mul_comm, mul-pos}
+use Rattle.chosen_histories.proofs.Common.{Fraction, Same, share, heads_of, SolvesAt, HasVector, solves_same, Choice, SolvesChoicesFrom}
 use Rattle.step_problem.proofs.Ring.{mul_assoc}
-use Rattle.cell_balance.specs.Solutions.{share}
-use Rattle.flow_equations.specs.Histories.{heads_of, SolvesAt}
-use Rattle.exact_histories.proofs.GridVectors.{HasVector}
-use Rattle.exact_histories.proofs.SameTimes.{solves_same}
-use Rattle.chosen_histories.specs.Choices.{Choice, SolvesChoicesFrom}
 
 -- a vector times k
 abbrev multiplied : ℕ → (ℕ → ℤ) → ℕ → ℤ

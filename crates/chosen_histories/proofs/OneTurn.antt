@@ -1,36 +1,23 @@
 -- A hull step: the step of each model between has a solution, from exact heads within the old ones, and one alone.
-use Rattle.std.proofs.Common.{◌≡◌, ◌<◌, ◌∙◌, ℕ, true, inl, inr, refl, sym, subst, arith, ℤ, List, length, All}
+use Rattle.chosen_histories.proofs.Common.{◌≡◌, ◌<◌, ◌∙◌, ℕ, true, inl, inr, refl, sym, subst, arith, ℤ, List, length, All, Fraction, Same, Same-sym}
+use Rattle.chosen_histories.proofs.Common.{Same-trans, FlowModel, TimeStep, Bound, share, heads_of, variable_heads, SolvesAt, IsActive, HeadsEnclose, Solved}
+use Rattle.chosen_histories.proofs.Common.{AreSameHeads, HasVector, vector_exists, balances_same, IsBetween, IsHullStep, AreBefore}
 use Rattle.std.proofs.lemmas.Bool.{cases_Bool}
-use Rattle.decimal_input.specs.Fractions.{Fraction, Same}
-use Rattle.decimal_input.proofs.Fractional.{Same-sym, Same-trans}
 use Rattle.model_types.specs.Cells.{cell_count}
 use Rattle.model_types.specs.Grids.{HasSize}
 use Rattle.model_types.specs.Kinds.{is_variable, is_constant, index_of, variable_cells}
-use Rattle.model_types.specs.declared.model.FlowModel.{FlowModel}
-use Rattle.model_types.specs.declared.time_steps.TimeStep.{TimeStep}
 use Rattle.model_types.proofs.Members.{All-In}
 use Rattle.step_problem.specs.Heads.{head_at}
-use Rattle.step_problem.specs.declared.heads.Bound.{Bound}
-use Rattle.cell_balance.specs.Solutions.{share}
 use Rattle.exact_solutions.specs.Counts.{HasAtMostOne}
 use Rattle.exact_solutions.proofs.HeldSteps.{solution_exists, solution_is_one}
 use Rattle.exact_solutions.proofs.Shares.{same_share}
 use Rattle.flow_equations.specs.ExactStep.{exact_step}
-use Rattle.flow_equations.specs.Histories.{heads_of, variable_heads, SolvesAt}
-use Rattle.problem_builder.specs.GridHeads.{IsActive, HeadsEnclose}
 use Rattle.problem_builder.proofs.ActiveCells.{variable_active}
 use Rattle.problem_builder.proofs.Members.{variable-In}
 use Rattle.barrier_vector.proofs.Enclosing.{held_all}
-use Rattle.step_chain.specs.declared.solved.Solved.{Solved}
 use Rattle.step_chain.proofs.Assembled.{active_constant, index_below, count_is, number_is}
-use Rattle.exact_histories.specs.Histories.{AreSameHeads}
 use Rattle.exact_histories.proofs.Ceilings.{held_above}
-use Rattle.exact_histories.proofs.GridVectors.{HasVector, vector_exists}
-use Rattle.exact_histories.proofs.SameTimes.{balances_same}
-use Rattle.deck_span.specs.Models.{IsBetween}
 use Rattle.deck_span.proofs.SameFrames.{counts_are, active_are}
-use Rattle.span_steps.specs.HullSteps.{IsHullStep}
-use Rattle.span_steps.specs.Within.{AreBefore}
 use Rattle.span_steps.proofs.HullProblems.{problem_encloses}
 
 has_size : (a m b : FlowModel) → IsBetween a m b → HasSize a.grid → HasSize m.grid

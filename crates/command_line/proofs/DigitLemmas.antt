@@ -1,13 +1,9 @@
 -- The digits that words ask for are at most 18.
-use Rattle.std.proofs.Common.{◌≡◌, ℕ, ◌≤◌, Bool, true, false, cond, List, [], ◌∷◌, Option, Some, None, codes, refl, subst, arith}
+use Rattle.command_line.proofs.Common.{◌≡◌, ℕ, ◌≤◌, Bool, true, false, cond, List, [], ◌∷◌, Option, Some, None, codes, refl, subst, arith, bytes_eq}
+use Rattle.command_line.proofs.Common.{digits_value, leb-true, and_parts, Text, Row, Kinds, fault_of, subcommand_of, first_of, heads_app, is_number, number_in}
+use Rattle.command_line.proofs.Common.{number_or, Wanted, Checks, batch_in, write_in, check_in, command_in, digits_in, make_in, rounds_in, run_in, wanted_if}
+use Rattle.command_line.proofs.Common.{wanted_of, watch_in, workers_in}
 use Rattle.std.specs.Prelude.{◌&&◌, if◌then◌else◌, decimal, nat_le, option_and_then}
-use Rattle.std.specs.Str.{bytes_eq}
-use Rattle.std.specs.Str.Parse.{digits_value}
-use Rattle.std.proofs.lemmas.Bool.{leb-true, and_parts}
-use Rattle.clap.specs.Words.{Text, Row, Kinds, fault_of, subcommand_of, first_of}
-use Rattle.command_line.specs.Commands.{heads_app}
-use Rattle.command_line.specs.Numbers.{is_number, number_in, number_or}
-use Rattle.command_line.specs.Wants.{Wanted, Checks, batch_in, write_in, check_in, command_in, digits_in, make_in, rounds_in, run_in, wanted_if, wanted_of, watch_in, workers_in}
 
 -- a number that was taken is one of its range
 

@@ -1,11 +1,9 @@
 -- The number that a text writes plainly.
-use Rattle.std.proofs.Common.{◌≡◌, ℕ, Bool, true, false, ◌&&◌, ◌≤◌, ◌<◌, ◌^◌, List, Some, None, Ok, Err, Result, decimal, nat_le, refl, sym, ap, subst, ◌∙◌, arith}
-use Rattle.std.specs.Str.{bytes_eq}
-use Rattle.std.specs.Str.Parse.{digits_value, ParsesUnsigned}
+use Rattle.command_line.proofs.Common.{◌≡◌, ℕ, Bool, true, false, ◌≤◌, ◌<◌, ◌^◌, List, Some, None, Ok, Err, Result, decimal, refl, sym, ap, subst, ◌∙◌, arith}
+use Rattle.command_line.proofs.Common.{bytes_eq, digits_value, ParsesUnsigned, leb-true, le-leb, is_number, number_in}
+use Rattle.std.proofs.Common.{◌&&◌, nat_le}
 use Rattle.std.proofs.lemmas.Fmt.{parse-decimal, decimal_is_IsNumeral}
 use Rattle.std.proofs.lemmas.Slice.Eq.{bytes_eq-Decides}
-use Rattle.std.proofs.lemmas.Bool.{leb-true, le-leb}
-use Rattle.command_line.specs.Numbers.{is_number, number_in}
 
 -- where the test holds
 holds : (low high : ℕ) (text : List ℕ) → is_number low high text (digits_value 10 text) ≡ true → number_in low high text ≡ Some (digits_value 10 text)

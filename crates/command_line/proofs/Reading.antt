@@ -1,13 +1,13 @@
 -- From clap's clauses to what the words ask for.
-use Rattle.std.proofs.Common.{◌≡◌, ◌≢◌, List, [], ◌∷◌, true, Option, None, ap, subst, sym, refl, inl, inr, ◌∙◌, option_and_then}
-use Rattle.clap.specs.Words.{App, Text, Kinds, HasKind, IsAmong, kind_of, fault_of, is_simple, is_simple_and_free, HasMatchesOf, subcommand_of, subcommand_rows_of}
+use Rattle.command_line.proofs.Common.{◌≡◌, ◌≢◌, List, [], ◌∷◌, true, Option, None, ap, subst, sym, refl, inl, inr, ◌∙◌, App, Text, Kinds, HasKind, IsAmong}
+use Rattle.command_line.proofs.Common.{kind_of, fault_of, is_simple, is_simple_and_free, HasMatchesOf, subcommand_of, subcommand_rows_of, heads_app, wanted_of}
+use Rattle.command_line.proofs.Common.{wanted_if, command_in}
+use Rattle.std.proofs.Common.{option_and_then}
 use Rattle.clap.specs.declared.error.Error.{Error}
 use Rattle.clap.specs.declared.error.kind.ErrorKind.{ErrorKind}
-use Rattle.clap.specs.declared.error.kind.ErrorKind.TheVariants as kind
 use Rattle.clap.specs.declared.parser.matches.ArgMatches.{ArgMatches}
-use Rattle.command_line.specs.Commands.{heads_app}
-use Rattle.command_line.specs.Wants.{wanted_of, wanted_if, command_in}
 use Rattle.command_line.proofs.Simple.{heads_simple, heads_free}
+use Rattle.clap.specs.declared.error.kind.ErrorKind.TheVariants as kind
 
 among_none : (k : ErrorKind) (kinds : Kinds) (found : Option (Text × List _)) → IsAmong k kinds → wanted_if kinds found ≡ None
 among_none k [] found h = absurd h

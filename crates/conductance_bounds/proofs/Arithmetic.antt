@@ -1,16 +1,8 @@
 -- Arithmetic on spans: operations keep the order, and exponents grow with each by 18 at most.
-use Rattle.std.proofs.Common.{ℕ, zero, suc, ◌+◌, ◌*◌, ◌≤◌, ◌<◌, ◌^◌, arith, ℤ, pos, negsuc, neg_ℤ, ◌+ℤ◌, ◌-ℤ◌}
-use Rattle.std.specs.Prelude.{unsigned_abs}
-use Rattle.std.specs.Int.{int_min, int_max}
-use Rattle.std.proofs.lemmas.Int.{ints, clamps}
-use Rattle.decimal_input.specs.Ratios.{AtMost, plus, times, over}
-use Rattle.decimal_input.specs.Decimals.{up, down}
-use Rattle.decimal_input.proofs.Orders.{AtMost-trans, plus-AtMost, times-AtMost, over-AtMost}
-use Rattle.decimal_input.proofs.Powers.{ten_pos, cross_of}
-use Rattle.scaled_decimal.specs.declared.decimal.Sd.{Sd}
-use Rattle.scaled_decimal.specs.Nearest.{value, IsDown, IsUp, IsNear, IsWithin, HasSize}
-use Rattle.conductance_bounds.specs.declared.span.Span.{Span}
-use Rattle.conductance_bounds.specs.Intervals.{IsOrdered, reach}
+use Rattle.conductance_bounds.proofs.Common.{ℕ, zero, suc, ◌+◌, ◌*◌, ◌≤◌, ◌<◌, ◌^◌, arith, ℤ, pos, negsuc, neg_ℤ, ◌+ℤ◌, ◌-ℤ◌, unsigned_abs, int_min, int_max}
+use Rattle.conductance_bounds.proofs.Common.{ints, clamps, AtMost, plus, times, over, up, down, AtMost-trans, plus-AtMost, times-AtMost, over-AtMost, ten_pos}
+use Rattle.conductance_bounds.proofs.Common.{cross_of, Sd, value, IsDown, IsUp, IsNear, HasSize, Span, IsOrdered, reach}
+use Rattle.scaled_decimal.specs.Nearest.{IsWithin}
 use Rattle.conductance_bounds.proofs.Enclosing.{positive_value}
 
 near_by : (e : ℤ) (n : ℕ) → unsigned_abs e ≤ n → IsNear e n

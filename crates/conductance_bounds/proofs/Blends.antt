@@ -1,10 +1,7 @@
 -- Sizes of the blends of two heads.
-use Rattle.std.proofs.Common.{◌≡◌, ℕ, suc, ◌*◌, ◌≤◌, ◌<◌, ◌^◌, arith, ap, subst, ◌∙◌, ℤ, pos, negsuc, ◌*ℤ◌}
+use Rattle.conductance_bounds.proofs.Common.{◌≡◌, ℕ, suc, ◌*◌, ◌≤◌, ◌<◌, ◌^◌, arith, ap, subst, ◌∙◌, ℤ, pos, negsuc, ◌*ℤ◌, int_min, int_max, w128}
+use Rattle.conductance_bounds.proofs.Common.{mul-le-mul_right, ints, clamps, IsWithin, IsHeadUnits, blend, IsFloorOf, IsCeilingOf}
 use Rattle.std.specs.Prelude.{FitsSigned}
-use Rattle.std.specs.Int.{int_min, int_max, w128}
-use Rattle.std.proofs.Math.Nat.{mul-le-mul_right}
-use Rattle.std.proofs.lemmas.Int.{ints, clamps}
-use Rattle.conductance_bounds.specs.Parts.{IsWithin, IsHeadUnits, blend, IsFloorOf, IsCeilingOf}
 
 pub share_within : (h : ℤ) (part : ℕ) → IsHeadUnits h → IsWithin (h *ℤ pos part) (4000000000000000000 * part)
 share_within (pos n) part h = let k : n * part ≤ 4000000000000000000 * part = mul-le-mul_right part (omega (arith, ints, h.below)) in record { above = omega (arith, ints, k); below = omega (arith, ints, k) }

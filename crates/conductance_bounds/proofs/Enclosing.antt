@@ -1,16 +1,6 @@
-use Rattle.std.proofs.Common.{ℕ, ◌*◌, ◌≤◌, ◌<◌, ◌^◌, arith, subst, sym}
-use Rattle.std.proofs.Math.Nat.{mul-le-mul_right, le_of_mul-le-mul_right}
-use Rattle.decimal_input.specs.Ratios.{Ratio, den, AtMost, Same}
-use Rattle.decimal_input.proofs.Orders.{AtMost-trans, Same-AtMost, Same-back, plus-AtMost, times-AtMost, over-AtMost}
-use Rattle.decimal_input.proofs.Powers.{ten_pos, num_scaled}
-use Rattle.decimal_input.specs.Decimals.{up}
-use Rattle.scaled_decimal.specs.declared.decimal.Sd.{Sd}
-use Rattle.scaled_decimal.specs.Nearest.{value}
-use Rattle.conductance_bounds.specs.Terms.{Term, Side, exact, IsBound, Holds}
-use Rattle.conductance_bounds.specs.Terms.Term.{Number, Within, Sum, Product, Quotient}
-use Rattle.conductance_bounds.specs.Terms.Side.{Lower, Upper}
-use Rattle.decimal_input.specs.Enclosures.{Encloses}
-use Rattle.conductance_bounds.specs.Pairs.{IsPair}
+use Rattle.conductance_bounds.proofs.Common.{ℕ, ◌*◌, ◌≤◌, ◌<◌, ◌^◌, arith, subst, sym, mul-le-mul_right, le_of_mul-le-mul_right, Ratio, den, AtMost, Same}
+use Rattle.conductance_bounds.proofs.Common.{AtMost-trans, Same-AtMost, Same-back, plus-AtMost, times-AtMost, over-AtMost, ten_pos, num_scaled, up, Sd, value}
+use Rattle.conductance_bounds.proofs.Common.{Term, Side, exact, IsBound, Holds, Number, Within, Sum, Product, Quotient, Lower, Upper, Encloses, IsPair}
 
 pub positive_value : (x : Sd) → 0 < x.m → 0 < (value x).num
 positive_value x h = rw num_scaled (positive x.m (10 ^ up x.e) h (ten_pos (up x.e)))

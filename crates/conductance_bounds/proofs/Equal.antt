@@ -1,25 +1,9 @@
 -- Steps of one length: the sums are the whole numbers, and each rounding is exact.
-use Rattle.std.proofs.Common.{◌≡◌, ℕ, zero, suc, ◌*◌, ◌-◌, ◌≤◌, ◌<◌, ◌^◌, inl, inr, arith, subst, sym, ap, ℤ, pos, negsuc, ◌+ℤ◌, ◌-ℤ◌}
-use Rattle.std.proofs.Math.Nat.{pow-suc}
-use Rattle.std.proofs.lemmas.Bool.{cases_lt}
-use Rattle.std.proofs.lemmas.Int.{ints}
-use Rattle.decimal_input.specs.declared.dec.Dec.{Dec}
-use Rattle.decimal_input.specs.Canonical.{size}
-use Rattle.decimal_input.specs.Decimals.{scaled}
-use Rattle.decimal_input.specs.Ratios.{Ratio, ratio, plus, times, Same}
-use Rattle.decimal_input.proofs.Orders.{AtMost-trans, Same-trans, Same-sym, Same-AtMost, Same-back, num_times, den_times, num_plus, den_plus}
-use Rattle.decimal_input.proofs.Powers.{num_scaled, den_scaled, scaled_shift}
-use Rattle.scaled_decimal.specs.declared.decimal.Sd.{Sd}
-use Rattle.scaled_decimal.specs.Nearest.{IsSd, value}
-use Rattle.model_types.specs.Conductances.{one}
-use Rattle.model_types.specs.Valid.{number_one}
-use Rattle.conductance_bounds.specs.declared.span.Span.{Span}
-use Rattle.conductance_bounds.specs.Intervals.{AreBounds}
-use Rattle.conductance_bounds.specs.Terms.Term.{Number}
-use Rattle.conductance_bounds.specs.Terms.{Side, IsBound, IsRounded}
-use Rattle.conductance_bounds.specs.Terms.Side.{Lower, Upper}
-use Rattle.conductance_bounds.specs.Growth.{sum_term, power_term}
-use Rattle.decimal_input.proofs.SameNumbers.{Same-self, times-Same, plus-Same}
+use Rattle.conductance_bounds.proofs.Common.{◌≡◌, ℕ, zero, suc, ◌*◌, ◌-◌, ◌≤◌, ◌<◌, ◌^◌, inl, inr, arith, subst, sym, ap, ℤ, pos, negsuc, ◌+ℤ◌, ◌-ℤ◌, pow-suc}
+use Rattle.conductance_bounds.proofs.Common.{cases_lt, ints, Dec, size, scaled, Ratio, ratio, plus, times, Same, AtMost-trans, Same-trans, Same-sym}
+use Rattle.conductance_bounds.proofs.Common.{Same-AtMost, Same-back, num_times, den_times, num_plus, den_plus, num_scaled, den_scaled, scaled_shift, Sd, IsSd}
+use Rattle.conductance_bounds.proofs.Common.{value, one, number_one, Span, AreBounds, Number, Side, IsBound, IsRounded, Lower, Upper, sum_term, power_term}
+use Rattle.conductance_bounds.proofs.Common.{Same-self, times-Same, plus-Same}
 use Rattle.conductance_bounds.proofs.Unity.{unity_is}
 
 -- what is a decimal is rounded to itself

@@ -1,13 +1,5 @@
 -- The pair of an evapotranspiration contains its conductance.
-use Rattle.std.proofs.Common.{ℕ, Option, Some, None}
-use Rattle.std.specs.Prelude.{IfSome}
-use Rattle.decimal_input.specs.declared.dec.Dec.{Dec}
-use Rattle.decimal_input.specs.Canonical.{size}
-use Rattle.decimal_input.specs.Enclosures.{Encloses}
-use Rattle.model_types.specs.Numbers.{IsPositive}
-use Rattle.conductance_bounds.specs.declared.pair.Pair.{Pair}
-use Rattle.conductance_bounds.specs.Branches.{evap_formula, evap_exact}
-use Rattle.conductance_bounds.specs.Pairs.{IsWholePair}
+use Rattle.conductance_bounds.proofs.Common.{ℕ, Option, Some, None, IfSome, Dec, size, Encloses, IsPositive, Pair, evap_formula, evap_exact, IsWholePair}
 use Rattle.conductance_bounds.proofs.Enclosing.{pair_encloses}
 use Rattle.conductance_bounds.proofs.Positive.{size_positive}
 

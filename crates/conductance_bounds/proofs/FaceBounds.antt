@@ -1,26 +1,13 @@
 -- The pair of a face's formula contains the manual's conductance of the face.
-use Rattle.std.proofs.Common.{◌≡◌, ℕ, zero, suc, ◌+◌, ◌*◌, ◌<◌, inl, inr, true, cond, arith, ap, ◌∙◌, ℤ, pos, ◌-ℤ◌, ◌*ℤ◌}
-use Rattle.std.specs.Prelude.{◌==◌, unsigned_abs}
-use Rattle.std.proofs.lemmas.Bool.{cases_Bool}
-use Rattle.std.proofs.lemmas.Bool.Decides.{nat_tests}
-use Rattle.std.proofs.lemmas.Int.{ints}
-use Rattle.decimal_input.specs.Canonical.{number, size}
-use Rattle.decimal_input.specs.Enclosures.{Encloses}
-use Rattle.decimal_input.specs.Fractions.{Fraction}
+use Rattle.conductance_bounds.proofs.Common.{◌≡◌, ℕ, zero, suc, ◌+◌, ◌*◌, ◌<◌, inl, inr, true, cond, arith, ap, ◌∙◌, ℤ, pos, ◌-ℤ◌, ◌*ℤ◌, ◌==◌, unsigned_abs}
+use Rattle.conductance_bounds.proofs.Common.{cases_Bool, nat_tests, ints, number, size, Encloses, Fraction, FlowModel, cell_count, layer_size, gap, dec_at}
+use Rattle.conductance_bounds.proofs.Common.{is_active, has_bed, bottom_at, lowest, delr_at, delc_at, thickness, bed_thickness, hk_at, vka_at, vkcb_at}
+use Rattle.conductance_bounds.proofs.Common.{is_ratio, row_conductance, column_conductance, vertical_half, vertical_conductance, conductance, IsModel, Span}
+use Rattle.conductance_bounds.proofs.Common.{Number, IsPair, face_term, column_k_term, times-positive}
 use Rattle.model_types.specs.declared.face.Axis.{Axis}
 use Rattle.model_types.specs.declared.face.Axis.TheVariants.{Row, Column, Vertical}
-use Rattle.model_types.specs.declared.model.FlowModel.{FlowModel}
-use Rattle.model_types.specs.Cells.{cell_count, layer_size}
 use Rattle.model_types.specs.Faces.{stride}
-use Rattle.model_types.specs.Layers.{gap, dec_at, is_active, has_bed, bottom_at, lowest, delr_at, delc_at, thickness, bed_thickness, hk_at, vka_at, vkcb_at, is_ratio}
-use Rattle.model_types.specs.Conductances.{row_conductance, column_conductance, vertical_half, vertical_conductance, conductance}
-use Rattle.model_types.specs.Valid.{IsModel}
-use Rattle.conductance_bounds.specs.declared.span.Span.{Span}
-use Rattle.conductance_bounds.specs.Terms.Term.{Number}
 use Rattle.conductance_bounds.specs.ModelLaws.{AreSpanned}
-use Rattle.conductance_bounds.specs.Pairs.{IsPair}
-use Rattle.conductance_bounds.specs.Formulas.{face_term, column_k_term}
-use Rattle.decimal_input.proofs.SameNumbers.{times-positive}
 use Rattle.conductance_bounds.proofs.LayerBounds.{IsLayerHalf, IsBedded, layers_enclose, is_some}
 use Rattle.conductance_bounds.proofs.Manual.{row_pair_encloses}
 use Rattle.conductance_bounds.proofs.Positive.{size_positive}

@@ -1,17 +1,8 @@
 -- The pair of a given head contains it: the head is linear in the part of the period that has passed, so it lies between the heads at the ends of that part's bounds.
-use Rattle.std.proofs.Common.{◌≡◌, ℕ, suc, ◌+◌, ◌*◌, ◌-◌, ◌≤◌, ◌^◌, arith, ap, ◌∙◌, sym, subst, ℤ, pos, negsuc, neg_ℤ, ◌+ℤ◌, ◌-ℤ◌, ◌*ℤ◌, ◌≤ℤ◌}
-use Rattle.std.specs.Int.{int_min, int_max}
-use Rattle.std.proofs.lemmas.Int.{ints, clamps, by_lt_z}
-use Rattle.decimal_input.specs.declared.dec.Dec.{Dec}
-use Rattle.decimal_input.specs.Canonical.{number}
+use Rattle.conductance_bounds.proofs.Common.{◌≡◌, ℕ, suc, ◌+◌, ◌*◌, ◌-◌, ◌≤◌, ◌^◌, arith, ap, ◌∙◌, sym, subst, ℤ, pos, negsuc, neg_ℤ, ◌+ℤ◌, ◌-ℤ◌, ◌*ℤ◌, ◌≤ℤ◌}
+use Rattle.conductance_bounds.proofs.Common.{int_min, int_max, ints, clamps, by_lt_z, Dec, number, Ratio, den, EnclosesSigned, mul_mono_right, cancel_right}
+use Rattle.conductance_bounds.proofs.Common.{swap, diffs, as_diff, same_diff, Given, between_heads, IsPassed, blend, IsGivenPair}
 use Rattle.decimal_input.specs.Fractions.{den as denominator}
-use Rattle.decimal_input.specs.Ratios.{Ratio, den}
-use Rattle.decimal_input.specs.Enclosures.{EnclosesSigned}
-use Rattle.decimal_input.proofs.Signs.{mul_mono_right, cancel_right, swap}
-use Rattle.decimal_input.proofs.Differences.{diffs, as_diff, same_diff}
-use Rattle.model_types.specs.declared.entry.Given.{Given}
-use Rattle.model_types.specs.Heads.{between_heads}
-use Rattle.conductance_bounds.specs.Parts.{IsPassed, blend, IsGivenPair}
 
 nonneg : (a b : ℤ) → pos 0 ≤ℤ a → pos 0 ≤ℤ b → pos 0 ≤ℤ (a *ℤ b)
 nonneg (pos n) (pos k) p q = omega (arith, ints)

@@ -1,9 +1,6 @@
 -- Half of a cell: equal formulas of its resistance.
-use Rattle.std.proofs.Common.{◌≡◌, ℕ, ◌+◌, ◌*◌, ◌<◌, arith}
-use Rattle.decimal_input.specs.Ratios.{Ratio, den, ratio, plus, times, over, Same}
-use Rattle.decimal_input.proofs.Orders.{num_times, den_times, num_plus, den_plus}
-use Rattle.decimal_input.proofs.SameNumbers.{Same-self, over-Same, times-positive, plus-positive}
-use Rattle.model_types.specs.Conductances.{two, half}
+use Rattle.conductance_bounds.proofs.Common.{◌≡◌, ℕ, ◌+◌, ◌*◌, ◌<◌, arith, Ratio, den, ratio, plus, times, over, Same, num_times, den_times, num_plus, den_plus}
+use Rattle.conductance_bounds.proofs.Common.{Same-self, over-Same, times-positive, plus-positive, two, half}
 
 -- 2 * w * k * t, in the two ways to group it
 regrouped : (w x k y t z : ℕ) → ((w * x + w * x) * (k * t)) * (((1 * x) * y) * z) ≡ (((2 * w) * k) * t) * ((x * x) * (y * z))

@@ -1,13 +1,9 @@
 -- Heads of the input, as whole units, are in range.
-use Rattle.std.proofs.Common.{ℕ, ◌^◌, ◌≤◌, arith, ℤ, pos, negsuc, neg_ℤ, ◌+ℤ◌, ◌*ℤ◌, ◌≤ℤ◌}
-use Rattle.std.specs.Prelude.{unsigned_abs, FitsSigned}
-use Rattle.std.specs.Int.{w64, w128}
-use Rattle.std.proofs.lemmas.Int.{ints, by_lt_z}
-use Rattle.decimal_input.specs.Fractions.{Fraction, den}
-use Rattle.decimal_input.specs.Enclosures.{EnclosesSigned}
-use Rattle.decimal_input.specs.Wholes.{IsSignedFloor, IsSignedCeiling, IsFloorPast, IsCeilingPast}
-use Rattle.decimal_input.proofs.Signs.{cancel_right, mul_mono_right}
-use Rattle.conductance_bounds.specs.Parts.{IsHeadUnits}
+use Rattle.conductance_bounds.proofs.Common.{ℕ, ◌^◌, ◌≤◌, arith, ℤ, pos, negsuc, neg_ℤ, ◌+ℤ◌, ◌*ℤ◌, ◌≤ℤ◌, unsigned_abs, w64, w128, ints, by_lt_z, Fraction}
+use Rattle.conductance_bounds.proofs.Common.{EnclosesSigned, IsSignedFloor, IsSignedCeiling, IsFloorPast, IsCeilingPast, cancel_right, mul_mono_right}
+use Rattle.conductance_bounds.proofs.Common.{IsHeadUnits}
+use Rattle.std.specs.Prelude.{FitsSigned}
+use Rattle.decimal_input.specs.Fractions.{den}
 
 abbrev head_limit : ℕ
 head_limit = 4000000000000000000

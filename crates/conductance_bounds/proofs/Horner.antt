@@ -1,13 +1,6 @@
 -- Terms of growing time steps, by Horner's rule.
-use Rattle.std.proofs.Common.{◌≡◌, ℕ, zero, suc, refl, ap}
-use Rattle.decimal_input.specs.Ratios.{Ratio, ratio, plus, times, Same}
-use Rattle.decimal_input.proofs.Orders.{Same-trans, Same-sym, num_plus, den_plus}
-use Rattle.model_types.specs.Conductances.{one}
-use Rattle.model_types.specs.Times.{power, geometric}
-use Rattle.model_types.proofs.Growth.{horner}
-use Rattle.conductance_bounds.specs.Terms.{exact, Holds}
-use Rattle.conductance_bounds.specs.Growth.{sum_term, power_term}
-use Rattle.decimal_input.proofs.SameNumbers.{Same-self, plus-Same, times-Same}
+use Rattle.conductance_bounds.proofs.Common.{◌≡◌, ℕ, zero, suc, refl, ap, Ratio, ratio, plus, times, Same, Same-trans, Same-sym, num_plus, den_plus, one, power}
+use Rattle.conductance_bounds.proofs.Common.{geometric, horner, exact, Holds, sum_term, power_term, Same-self, plus-Same, times-Same}
 
 pub power_is : (t : Ratio) (n : ℕ) → exact (power_term t n) ≡ power t n
 unfolding power_term power

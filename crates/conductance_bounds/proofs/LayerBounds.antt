@@ -1,28 +1,11 @@
 -- The pair of a vertical branch contains the manual's conductance, with a bed or without.
-use Rattle.std.proofs.Common.{◌≡◌, ℕ, zero, suc, ◌*◌, ◌≤◌, ◌<◌, ◌^◌, ◌⊎◌, inl, inr, Bool, true, false, Option, Some, None, arith, refl, subst, sym}
-use Rattle.std.specs.Prelude.{◌==◌, IfSome}
-use Rattle.std.proofs.lemmas.Bool.{true≢false, false≢true}
-use Rattle.std.proofs.lemmas.Bool.Decides.{nat_tests}
-use Rattle.decimal_input.specs.declared.dec.Dec.{Dec}
-use Rattle.decimal_input.specs.Canonical.{size}
-use Rattle.decimal_input.specs.Enclosures.{Encloses}
-use Rattle.decimal_input.specs.Ratios.{Ratio, den, plus, times, over, AtMost}
-use Rattle.decimal_input.proofs.Powers.{num_scaled}
-use Rattle.decimal_input.specs.Decimals.{up}
-use Rattle.scaled_decimal.specs.declared.decimal.Sd.{Sd}
-use Rattle.scaled_decimal.specs.Nearest.{value}
-use Rattle.model_types.specs.Conductances.{two}
+use Rattle.conductance_bounds.proofs.Common.{◌≡◌, ℕ, zero, suc, ◌*◌, ◌≤◌, ◌<◌, ◌^◌, ◌⊎◌, inl, inr, Bool, true, false, Option, Some, None, arith, refl, subst}
+use Rattle.conductance_bounds.proofs.Common.{sym, ◌==◌, IfSome, true≢false, false≢true, nat_tests, Dec, size, Encloses, Ratio, den, plus, times, over, AtMost}
+use Rattle.conductance_bounds.proofs.Common.{num_scaled, up, Sd, value, two, Pair, Span, AreBounds, Term, exact, Holds, IsBetween, Number, Within, Sum}
+use Rattle.conductance_bounds.proofs.Common.{Quotient, area_formula, vertical_k_term, vertical_k, vertical_term, resistance_sum, vertical_of, vertical_exact}
+use Rattle.conductance_bounds.proofs.Common.{IsVertHalf, IsBed, IsPair, IsWholePair, over-positive}
 use Rattle.conductance_bounds.specs.declared.vertical.VertHalf.{VertHalf}
 use Rattle.conductance_bounds.specs.declared.vertical.Bed.{Bed}
-use Rattle.conductance_bounds.specs.declared.pair.Pair.{Pair}
-use Rattle.conductance_bounds.specs.declared.span.Span.{Span}
-use Rattle.conductance_bounds.specs.Intervals.{AreBounds}
-use Rattle.conductance_bounds.specs.Terms.{Term, exact, Holds, IsBetween}
-use Rattle.conductance_bounds.specs.Terms.Term.{Number, Within, Sum, Quotient}
-use Rattle.conductance_bounds.specs.Branches.{area_formula, vertical_k_term, vertical_k, vertical_term, resistance_sum, vertical_of, vertical_exact}
-use Rattle.conductance_bounds.specs.Calls.{IsVertHalf, IsBed}
-use Rattle.conductance_bounds.specs.Pairs.{IsPair, IsWholePair}
-use Rattle.decimal_input.proofs.SameNumbers.{over-positive}
 use Rattle.conductance_bounds.proofs.Manual.{vertical_encloses, bed_encloses}
 use Rattle.conductance_bounds.proofs.Positive.{size_positive, positive_between}
 

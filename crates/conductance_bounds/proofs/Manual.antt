@@ -1,16 +1,8 @@
 -- The formulas of branches contain the manual's conductances: each formula's value is the manual's, and each of its leaves lies between its bounds.
-use Rattle.std.proofs.Common.{◌≡◌, ℕ, ◌+◌, ◌*◌, ◌<◌, arith, refl}
-use Rattle.decimal_input.specs.Enclosures.{Encloses}
-use Rattle.decimal_input.specs.Ratios.{Ratio, den, ratio, plus, times, over, Same}
-use Rattle.decimal_input.proofs.Orders.{Same-trans, Same-sym, num_plus, den_plus, num_over, den_over}
-use Rattle.scaled_decimal.specs.declared.decimal.Sd.{Sd}
-use Rattle.model_types.specs.Conductances.{one, two, half, in_a_row}
-use Rattle.conductance_bounds.specs.Terms.{Term, exact, Holds, IsBetween}
-use Rattle.conductance_bounds.specs.Terms.Term.{Number, Within, Sum, Product, Quotient}
-use Rattle.conductance_bounds.specs.Pairs.{IsPair}
-use Rattle.conductance_bounds.specs.Branches.{twice, row_term}
+use Rattle.conductance_bounds.proofs.Common.{◌≡◌, ℕ, ◌+◌, ◌*◌, ◌<◌, arith, refl, Encloses, Ratio, den, ratio, plus, times, over, Same, Same-trans, Same-sym}
+use Rattle.conductance_bounds.proofs.Common.{num_plus, den_plus, num_over, den_over, Sd, one, two, half, in_a_row, Term, exact, Holds, IsBetween, Number}
+use Rattle.conductance_bounds.proofs.Common.{Within, Sum, Product, Quotient, IsPair, twice, row_term, plus-Same, over-Same, plus-positive, over-positive}
 use Rattle.conductance_bounds.proofs.Enclosing.{pair_encloses, Encloses-same}
-use Rattle.decimal_input.proofs.SameNumbers.{plus-Same, over-Same, plus-positive, over-positive}
 use Rattle.conductance_bounds.proofs.Harmonic.{half-Same, divisor_positive}
 
 half_positive : (d w k t : Ratio) → 0 < d.num → 0 < (half d w k t).num

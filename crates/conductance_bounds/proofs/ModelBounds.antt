@@ -1,27 +1,11 @@
 -- The pairs of a valid model's storages, recharges, evapotranspirations and given heads enclose its exact numbers.
-use Rattle.std.proofs.Common.{◌≡◌, ℕ, ◌-◌, ◌<◌, ◌≤◌, Bool, true, false, cond, Some, None, refl, subst, ℤ}
-use Rattle.decimal_input.specs.declared.dec.Dec.{Dec}
-use Rattle.decimal_input.specs.Canonical.{size}
-use Rattle.decimal_input.specs.Enclosures.{Encloses, EnclosesSigned}
-use Rattle.decimal_input.specs.Ratios.{Ratio, times, over}
-use Rattle.model_types.specs.declared.entry.Given.{Given}
-use Rattle.model_types.specs.declared.model.FlowModel.{FlowModel}
-use Rattle.model_types.specs.declared.period.Period.{Period}
-use Rattle.model_types.specs.Cells.{cell_count}
-use Rattle.model_types.specs.Heads.{between_heads}
-use Rattle.model_types.specs.Layers.{area, dec_at, delr_at, delc_at, is_active, top_at, bottom_at, thickness}
-use Rattle.model_types.specs.Numbers.{IsPositive}
+use Rattle.conductance_bounds.proofs.Common.{◌≡◌, ℕ, ◌-◌, ◌<◌, ◌≤◌, Bool, true, false, cond, Some, None, refl, subst, ℤ, Dec, size, Encloses, EnclosesSigned}
+use Rattle.conductance_bounds.proofs.Common.{Ratio, times, over, Given, FlowModel, Period, cell_count, between_heads, area, dec_at, delr_at, delc_at, is_active}
+use Rattle.conductance_bounds.proofs.Common.{top_at, bottom_at, thickness, IsPositive, geometric, power, passed, IsModel, IsTimed, Span, exact, Holds}
+use Rattle.conductance_bounds.proofs.Common.{IsBetween, IsSpan, IsPair, IsFlow, IsPart, IsGivenPair, storativity_term, thick_term, storage_term, recharge_term}
+use Rattle.conductance_bounds.proofs.Common.{evap_term}
 use Rattle.model_types.specs.Receivers.{EvapSource, recharge_flow, evap_conductance}
 use Rattle.model_types.specs.Storage.{storativity, storage}
-use Rattle.model_types.specs.Times.{geometric, power, passed}
-use Rattle.model_types.specs.Valid.{IsModel, IsTimed}
-use Rattle.conductance_bounds.specs.declared.span.Span.{Span}
-use Rattle.conductance_bounds.specs.Terms.{exact, Holds, IsBetween}
-use Rattle.conductance_bounds.specs.Thicknesses.{IsSpan}
-use Rattle.conductance_bounds.specs.Pairs.{IsPair, IsFlow}
-use Rattle.conductance_bounds.specs.Parts.{IsPart, IsGivenPair}
-use Rattle.conductance_bounds.specs.Branches.{storativity_term}
-use Rattle.conductance_bounds.specs.Formulas.{thick_term, storage_term, recharge_term, evap_term}
 use Rattle.conductance_bounds.proofs.Enclosing.{pair_encloses}
 use Rattle.conductance_bounds.proofs.GivenHeads.{head_encloses}
 use Rattle.conductance_bounds.proofs.PartBounds.{part_encloses, multiplier_positive}

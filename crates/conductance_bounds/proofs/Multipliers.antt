@@ -1,24 +1,8 @@
 -- The steps of the loops over growing time steps.
-use Rattle.std.proofs.Common.{◌≡◌, ℕ, zero, suc, ◌+◌, ◌*◌, ◌≤◌, ◌<◌, ◌^◌, inl, inr, arith, subst, ℤ, pos, negsuc, neg_ℤ, ◌+ℤ◌, ◌≤ℤ◌}
-use Rattle.std.specs.Int.{int_max}
-use Rattle.std.proofs.Math.Nat.{mul-le-mul}
-use Rattle.std.proofs.lemmas.Bool.{cases_lt}
-use Rattle.std.proofs.lemmas.Int.{ints, clamps}
-use Rattle.decimal_input.specs.declared.dec.Dec.{Dec}
-use Rattle.decimal_input.specs.Canonical.{size}
-use Rattle.decimal_input.specs.Decimals.{scaled, up, down}
-use Rattle.decimal_input.specs.Ratios.{Ratio, ratio, AtMost}
-use Rattle.decimal_input.proofs.Orders.{AtMost-trans, Same-AtMost, Same-back}
-use Rattle.decimal_input.proofs.Powers.{ten_pos, power_within, num_scaled, den_scaled}
-use Rattle.scaled_decimal.specs.declared.decimal.Sd.{Sd}
-use Rattle.scaled_decimal.specs.Nearest.{HasSize}
-use Rattle.model_types.specs.Conductances.{one}
-use Rattle.conductance_bounds.specs.declared.span.Span.{Span}
-use Rattle.conductance_bounds.specs.Terms.{IsBound}
-use Rattle.conductance_bounds.specs.Terms.Side.{Lower}
-use Rattle.conductance_bounds.specs.Terms.Term.{Number, Sum, Product}
-use Rattle.conductance_bounds.specs.Growth.{sum_term, power_term, IsSlow}
-use Rattle.conductance_bounds.specs.Intervals.{AreBounds, reach}
+use Rattle.conductance_bounds.proofs.Common.{◌≡◌, ℕ, zero, suc, ◌+◌, ◌*◌, ◌≤◌, ◌<◌, ◌^◌, inl, inr, arith, subst, ℤ, pos, negsuc, neg_ℤ, ◌+ℤ◌, ◌≤ℤ◌, int_max}
+use Rattle.conductance_bounds.proofs.Common.{mul-le-mul, cases_lt, ints, clamps, Dec, size, scaled, up, down, Ratio, ratio, AtMost, AtMost-trans, Same-AtMost}
+use Rattle.conductance_bounds.proofs.Common.{Same-back, ten_pos, power_within, num_scaled, den_scaled, Sd, HasSize, one, Span, IsBound, Lower, Number, Sum}
+use Rattle.conductance_bounds.proofs.Common.{Product, sum_term, power_term, IsSlow, AreBounds, reach}
 use Rattle.conductance_bounds.proofs.Arithmetic.{reach_within}
 
 -- a decimal of at least 0.001 has an exponent of at least -20

@@ -1,32 +1,13 @@
 -- The part of a period that has passed lies between its bounds, and is at most 1.
-use Rattle.std.proofs.Common.{◌≡◌, ℕ, zero, suc, ◌+◌, ◌*◌, ◌-◌, ◌/◌, ◌≤◌, ◌<◌, ◌^◌, inl, inr, Bool, true, false, cond, min, arith, refl, subst, sym, ap}
-use Rattle.std.proofs.Math.Nat.{mul-le-mul_right, le_of_mul-le-mul_right, lt-mul-div-succ, div-mul-le_self, lt_of_mul-lt-mul_right}
-use Rattle.std.proofs.lemmas.Int.{ints}
-use Rattle.std.proofs.lemmas.Bool.{cases_lt}
-use Rattle.decimal_input.specs.Canonical.{size}
-use Rattle.decimal_input.specs.Ratios.{Ratio, den, ratio, plus, over, AtMost, Same}
-use Rattle.decimal_input.proofs.Orders.{AtMost-trans, AtMost-refl, Same-AtMost, Same-back, num_plus, den_plus, num_over, den_over}
-use Rattle.decimal_input.specs.Decimals.{scaled}
-use Rattle.decimal_input.specs.Wholes.{IsCeiling, Passes}
-use Rattle.scaled_decimal.specs.declared.decimal.Sd.{Sd}
-use Rattle.scaled_decimal.specs.Nearest.{value}
-use Rattle.model_types.specs.Numbers.{IsPositive}
-use Rattle.model_types.specs.Valid.{IsTimed, number_one}
-use Rattle.conductance_bounds.specs.declared.span.Span.{Span}
-use Rattle.conductance_bounds.specs.Intervals.{AreBounds}
+use Rattle.conductance_bounds.proofs.Common.{◌≡◌, ℕ, zero, suc, ◌+◌, ◌*◌, ◌-◌, ◌/◌, ◌≤◌, ◌<◌, ◌^◌, inl, inr, Bool, true, false, cond, min, arith, refl, subst}
+use Rattle.conductance_bounds.proofs.Common.{sym, ap, mul-le-mul_right, le_of_mul-le-mul_right, lt-mul-div-succ, div-mul-le_self, lt_of_mul-lt-mul_right, ints}
+use Rattle.conductance_bounds.proofs.Common.{cases_lt, size, Ratio, den, ratio, plus, over, AtMost, Same, AtMost-trans, AtMost-refl, Same-AtMost, Same-back}
+use Rattle.conductance_bounds.proofs.Common.{num_plus, den_plus, num_over, den_over, scaled, IsCeiling, Passes, Sd, value, IsPositive, IsTimed, number_one}
+use Rattle.conductance_bounds.proofs.Common.{Span, AreBounds, Period, one, power, geometric, multiplier, passed, exact, IsBound, Lower, Upper, Quotient}
+use Rattle.conductance_bounds.proofs.Common.{sum_term, IsMultiplier, IsPart, IsGrowingPart, IsPassed, part_term, over-Same, power-positive}
 use Rattle.conductance_bounds.proofs.Positive.{size_positive}
-use Rattle.model_types.specs.declared.period.Period.{Period}
-use Rattle.model_types.specs.Conductances.{one}
-use Rattle.model_types.specs.Times.{power, geometric, multiplier, passed}
-use Rattle.conductance_bounds.specs.Terms.{exact, IsBound}
-use Rattle.conductance_bounds.specs.Terms.Side.{Lower, Upper}
-use Rattle.conductance_bounds.specs.Terms.Term.{Quotient}
-use Rattle.conductance_bounds.specs.Growth.{sum_term, IsMultiplier}
-use Rattle.conductance_bounds.specs.Parts.{IsPart, IsGrowingPart, IsPassed, part_term}
 use Rattle.conductance_bounds.proofs.Enclosing.{bound_on, below_units, above_units}
-use Rattle.decimal_input.proofs.SameNumbers.{over-Same}
 use Rattle.conductance_bounds.proofs.Horner.{sum_is, sum_holds}
-use Rattle.model_types.proofs.Growth.{power-positive}
 
 abbrev unit : ℕ
 unit = 10 ^ 18

@@ -1,14 +1,6 @@
 -- Positive numbers of the input, and of what lies between positive decimals.
-use Rattle.std.proofs.Common.{ℕ, zero, suc, ◌*◌, ◌≤◌, ◌<◌, ◌^◌, arith}
-use Rattle.decimal_input.specs.declared.dec.Dec.{Dec}
-use Rattle.decimal_input.specs.Canonical.{size}
-use Rattle.decimal_input.specs.Decimals.{up}
-use Rattle.decimal_input.specs.Ratios.{Ratio, den}
-use Rattle.decimal_input.proofs.Powers.{num_scaled, ten_pos}
-use Rattle.scaled_decimal.specs.declared.decimal.Sd.{Sd}
-use Rattle.scaled_decimal.specs.Nearest.{value}
-use Rattle.model_types.specs.Numbers.{IsPositive}
-use Rattle.conductance_bounds.specs.Terms.{IsBetween}
+use Rattle.conductance_bounds.proofs.Common.{ℕ, zero, suc, ◌*◌, ◌≤◌, ◌<◌, ◌^◌, arith, Dec, size, up, Ratio, den, num_scaled, ten_pos, Sd, value, IsPositive}
+use Rattle.conductance_bounds.proofs.Common.{IsBetween}
 use Rattle.conductance_bounds.proofs.Enclosing.{positive_value}
 
 pub positive_product : (a b : ℕ) → 0 < a → 0 < b → 0 < a * b

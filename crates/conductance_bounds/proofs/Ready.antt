@@ -1,14 +1,7 @@
 -- The numbers of an active cell of a valid model are ready for its branches.
-use Rattle.std.proofs.Common.{◌≡◌, ℕ, ◌/◌, ◌<◌, true, arith}
+use Rattle.conductance_bounds.proofs.Common.{◌≡◌, ℕ, ◌/◌, ◌<◌, true, arith, size, FlowModel, cell_count, column_of, row_of, no_number, dec_at, delr_at, delc_at}
+use Rattle.conductance_bounds.proofs.Common.{hk_at, hani_at, top_at, bottom_at, is_active, thickness, IsModel, Span, IsBetween, IsSpan}
 use Rattle.std.proofs.lemmas.Nat.{mod_below}
-use Rattle.decimal_input.specs.Canonical.{size}
-use Rattle.model_types.specs.declared.model.FlowModel.{FlowModel}
-use Rattle.model_types.specs.Cells.{cell_count, column_of, row_of}
-use Rattle.model_types.specs.Layers.{no_number, dec_at, delr_at, delc_at, hk_at, hani_at, top_at, bottom_at, is_active, thickness}
-use Rattle.model_types.specs.Valid.{IsModel}
-use Rattle.conductance_bounds.specs.declared.span.Span.{Span}
-use Rattle.conductance_bounds.specs.Terms.{IsBetween}
-use Rattle.conductance_bounds.specs.Thicknesses.{IsSpan}
 use Rattle.conductance_bounds.proofs.Positive.{size_positive}
 use Rattle.conductance_bounds.proofs.SpanBounds.{thick_positive}
 use Rattle.conductance_bounds.proofs.ThickBounds.{thick_between}

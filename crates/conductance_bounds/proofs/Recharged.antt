@@ -1,18 +1,9 @@
 -- The pair of a recharge contains it, whatever its sign.
-use Rattle.std.proofs.Common.{◌≡◌, ℕ, suc, ◌+◌, ◌*◌, ◌≤◌, ◌^◌, Bool, true, false, Option, Some, None, arith, ap, ◌∙◌, sym, subst, ℤ, pos, neg_ℤ, ◌*ℤ◌}
-use Rattle.std.specs.Prelude.{IfSome}
-use Rattle.std.proofs.lemmas.Int.{ints}
-use Rattle.decimal_input.specs.declared.dec.Dec.{Dec}
-use Rattle.decimal_input.specs.Canonical.{size}
-use Rattle.decimal_input.specs.Ratios.{Ratio, den, times, Same}
-use Rattle.decimal_input.specs.Fractions.{Fraction, den as denominator, signed, times as product}
-use Rattle.decimal_input.specs.Decimals.{with_sign}
-use Rattle.decimal_input.specs.Enclosures.{Encloses, EnclosesSigned}
-use Rattle.decimal_input.proofs.Orders.{num_times, den_times, Same-sym}
-use Rattle.decimal_input.proofs.Signs.{neg_times}
+use Rattle.conductance_bounds.proofs.Common.{◌≡◌, ℕ, suc, ◌+◌, ◌*◌, ◌≤◌, ◌^◌, Bool, true, false, Option, Some, None, arith, ap, ◌∙◌, sym, subst, ℤ, pos, neg_ℤ}
+use Rattle.conductance_bounds.proofs.Common.{◌*ℤ◌, IfSome, ints, Dec, size, Ratio, den, times, Same, Fraction, signed, with_sign, Encloses, EnclosesSigned}
+use Rattle.conductance_bounds.proofs.Common.{num_times, den_times, Same-sym, neg_times, recharge_formula, recharge_exact, IsFlow, IsFlowPair, low_end, high_end}
+use Rattle.decimal_input.specs.Fractions.{den as denominator, times as product}
 use Rattle.conductance_bounds.specs.declared.pair.FlowPair.{FlowPair}
-use Rattle.conductance_bounds.specs.Branches.{recharge_formula, recharge_exact}
-use Rattle.conductance_bounds.specs.Pairs.{IsFlow, IsFlowPair, low_end, high_end}
 use Rattle.conductance_bounds.proofs.Enclosing.{pair_encloses, Encloses-same}
 
 -- a number with a sign times an area

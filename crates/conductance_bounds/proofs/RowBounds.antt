@@ -1,20 +1,9 @@
 -- The pairs of row_branch and col_branch contain the manual's conductance.
-use Rattle.std.proofs.Common.{ℕ, Option, Some, None}
-use Rattle.std.specs.Prelude.{IfSome}
-use Rattle.decimal_input.specs.declared.dec.Dec.{Dec}
-use Rattle.decimal_input.specs.Canonical.{size}
-use Rattle.decimal_input.specs.Enclosures.{Encloses}
-use Rattle.decimal_input.specs.Ratios.{Ratio}
-use Rattle.model_types.specs.Numbers.{IsPositive}
+use Rattle.conductance_bounds.proofs.Common.{ℕ, Option, Some, None, IfSome, Dec, size, Encloses, Ratio, IsPositive, Pair, IsBetween, Number, row_exact}
+use Rattle.conductance_bounds.proofs.Common.{column_k, column_exact, IsHalf, IsColHalf, IsWholePair, times-positive}
 use Rattle.conductance_bounds.specs.declared.horizontal.Half.{Half}
 use Rattle.conductance_bounds.specs.declared.horizontal.ColHalf.{ColHalf}
-use Rattle.conductance_bounds.specs.declared.pair.Pair.{Pair}
-use Rattle.conductance_bounds.specs.Terms.{IsBetween}
-use Rattle.conductance_bounds.specs.Terms.Term.{Number}
-use Rattle.conductance_bounds.specs.Branches.{row_of, row_exact, column_k, column_of, column_exact}
-use Rattle.conductance_bounds.specs.Calls.{IsHalf, IsColHalf}
-use Rattle.conductance_bounds.specs.Pairs.{IsWholePair}
-use Rattle.decimal_input.proofs.SameNumbers.{times-positive}
+use Rattle.conductance_bounds.specs.Branches.{row_of, column_of}
 use Rattle.conductance_bounds.proofs.Manual.{row_pair_encloses}
 use Rattle.conductance_bounds.proofs.Positive.{size_positive, positive_between}
 

@@ -1,20 +1,8 @@
 -- The decimals of a thickness contain it.
-use Rattle.std.proofs.Common.{◌≡◌, ℕ, zero, suc, ◌*◌, ◌≤◌, ◌<◌, ◌^◌, arith, ℤ, pos, negsuc, neg_ℤ, ◌-ℤ◌, ◌*ℤ◌, ◌≤ℤ◌, ◌<ℤ◌}
-use Rattle.std.specs.Prelude.{unsigned_abs}
-use Rattle.std.proofs.lemmas.Int.{ints}
-use Rattle.decimal_input.specs.declared.dec.Dec.{Dec}
-use Rattle.decimal_input.specs.Canonical.{number}
-use Rattle.decimal_input.specs.Fractions.{Fraction, den as denominator}
-use Rattle.decimal_input.specs.Ratios.{den}
-use Rattle.decimal_input.proofs.Signs.{mul_mono_right}
-use Rattle.decimal_input.proofs.Differences.{diffs, as_diff, same_diff}
-use Rattle.decimal_input.proofs.Orders.{AtMost-trans}
-use Rattle.decimal_input.proofs.Powers.{num_scaled, den_scaled}
-use Rattle.model_types.specs.Layers.{gap}
-use Rattle.model_types.specs.Numbers.{IsThick}
-use Rattle.conductance_bounds.specs.Terms.{IsBetween}
-use Rattle.conductance_bounds.specs.declared.span.Span.{Span}
-use Rattle.conductance_bounds.specs.Thicknesses.{IsSpan}
+use Rattle.conductance_bounds.proofs.Common.{◌≡◌, ℕ, zero, suc, ◌*◌, ◌≤◌, ◌<◌, ◌^◌, arith, ℤ, pos, negsuc, neg_ℤ, ◌-ℤ◌, ◌*ℤ◌, ◌≤ℤ◌, ◌<ℤ◌, unsigned_abs, ints}
+use Rattle.conductance_bounds.proofs.Common.{Dec, number, Fraction, den, mul_mono_right, diffs, as_diff, same_diff, AtMost-trans, num_scaled, den_scaled, gap}
+use Rattle.conductance_bounds.proofs.Common.{IsThick, IsBetween, Span, IsSpan}
+use Rattle.decimal_input.specs.Fractions.{den as denominator}
 use Rattle.conductance_bounds.proofs.Positive.{positive_product}
 
 ring_left : (a b x y : ℤ) → (a -ℤ b) *ℤ (x *ℤ y) ≡ (a *ℤ x) *ℤ y -ℤ (b *ℤ y) *ℤ x

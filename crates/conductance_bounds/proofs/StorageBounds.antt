@@ -1,26 +1,10 @@
 -- The pair of a storage contains the manual's storage.
-use Rattle.std.proofs.Common.{◌≡◌, ℕ, suc, ◌-◌, ◌≤◌, ◌<◌, Option, Some, None, arith, refl, subst, sym}
-use Rattle.std.specs.Prelude.{IfSome}
-use Rattle.decimal_input.specs.declared.dec.Dec.{Dec}
-use Rattle.decimal_input.specs.Canonical.{size}
-use Rattle.decimal_input.specs.Enclosures.{Encloses}
-use Rattle.decimal_input.specs.Ratios.{Ratio, times, over, Same}
-use Rattle.scaled_decimal.specs.declared.decimal.Sd.{Sd}
-use Rattle.model_types.specs.Numbers.{IsPositive}
-use Rattle.model_types.specs.Times.{power, geometric}
-use Rattle.conductance_bounds.specs.declared.pair.Pair.{Pair}
-use Rattle.conductance_bounds.specs.declared.span.Span.{Span}
-use Rattle.conductance_bounds.specs.Intervals.{AreBounds}
-use Rattle.conductance_bounds.specs.Terms.Term.{Number, Within, Product}
-use Rattle.conductance_bounds.specs.Terms.{Term, exact, Holds}
-use Rattle.conductance_bounds.specs.Growth.{sum_term, power_term}
-use Rattle.conductance_bounds.specs.Branches.{area_formula, storativity_term, storage_formula, thickness_of, storativity_exact, storage_of, storage_exact}
-use Rattle.conductance_bounds.specs.Calls.{LiesWithin}
-use Rattle.conductance_bounds.specs.Pairs.{IsPair, IsWholePair}
+use Rattle.conductance_bounds.proofs.Common.{◌≡◌, ℕ, suc, ◌-◌, ◌≤◌, ◌<◌, Option, Some, None, arith, refl, subst, sym, IfSome, Dec, size, Encloses, Ratio, times}
+use Rattle.conductance_bounds.proofs.Common.{over, Same, Sd, IsPositive, power, geometric, Pair, Span, AreBounds, Number, Within, Product, Term, exact, Holds}
+use Rattle.conductance_bounds.proofs.Common.{sum_term, power_term, area_formula, storativity_term, storage_formula, thickness_of, storativity_exact, storage_of}
+use Rattle.conductance_bounds.proofs.Common.{storage_exact, LiesWithin, IsPair, IsWholePair, Same-self, times-Same, over-Same, times-positive, power-positive}
 use Rattle.conductance_bounds.proofs.Enclosing.{pair_encloses, Encloses-same}
-use Rattle.decimal_input.proofs.SameNumbers.{Same-self, times-Same, over-Same, times-positive}
 use Rattle.conductance_bounds.proofs.Horner.{power_is, power_holds, sum_is, sum_holds}
-use Rattle.model_types.proofs.Growth.{power-positive}
 use Rattle.conductance_bounds.proofs.Positive.{size_positive}
 use Rattle.conductance_bounds.proofs.Recharged.{assoc}
 

@@ -1,22 +1,10 @@
 -- A thickness lies between its two decimals, however the floors and ceilings were found.
-use Rattle.std.proofs.Common.{◌≡◌, ℕ, ◌<◌, ◌≤◌, ◌^◌, arith, refl, subst, ℤ, pos, negsuc, neg_ℤ, ◌+ℤ◌, ◌-ℤ◌, ◌*ℤ◌, ◌≤ℤ◌, ◌<ℤ◌}
-use Rattle.std.specs.Prelude.{unsigned_abs}
-use Rattle.std.proofs.lemmas.Int.{ints, by_lt_z}
-use Rattle.decimal_input.specs.declared.dec.Dec.{Dec}
-use Rattle.decimal_input.specs.Canonical.{number}
-use Rattle.decimal_input.specs.Decimals.{scaled}
-use Rattle.decimal_input.specs.Fractions.{Fraction, den}
-use Rattle.decimal_input.specs.Wholes.{IsSignedFloor, IsSignedCeiling, IsFloorPast, IsCeilingPast}
+use Rattle.conductance_bounds.proofs.Common.{◌≡◌, ℕ, ◌<◌, ◌≤◌, ◌^◌, arith, refl, subst, ℤ, pos, negsuc, neg_ℤ, ◌+ℤ◌, ◌-ℤ◌, ◌*ℤ◌, ◌≤ℤ◌, ◌<ℤ◌, unsigned_abs, ints}
+use Rattle.conductance_bounds.proofs.Common.{by_lt_z, Dec, number, scaled, Fraction, IsSignedFloor, IsSignedCeiling, IsFloorPast, IsCeilingPast, AtMost-trans}
+use Rattle.conductance_bounds.proofs.Common.{scaled-AtMost, mul_mono_right, cancel_right, HasSize, IsDown, IsUp, gap, IsThick, Span, IsBetween, IsSpan}
+use Rattle.conductance_bounds.proofs.Common.{AreThick}
+use Rattle.decimal_input.specs.Fractions.{den}
 use Rattle.decimal_input.proofs.FloorLaws.{one_floor, one_ceiling}
-use Rattle.decimal_input.proofs.Orders.{AtMost-trans}
-use Rattle.decimal_input.proofs.Powers.{scaled-AtMost}
-use Rattle.decimal_input.proofs.Signs.{mul_mono_right, cancel_right}
-use Rattle.scaled_decimal.specs.Nearest.{HasSize, IsDown, IsUp}
-use Rattle.model_types.specs.Layers.{gap}
-use Rattle.model_types.specs.Numbers.{IsThick}
-use Rattle.conductance_bounds.specs.declared.span.Span.{Span}
-use Rattle.conductance_bounds.specs.Terms.{IsBetween}
-use Rattle.conductance_bounds.specs.Thicknesses.{IsSpan, AreThick}
 use Rattle.conductance_bounds.proofs.SpanBounds.{span_between}
 
 -- a floor is the greatest of its kind, a ceiling the least

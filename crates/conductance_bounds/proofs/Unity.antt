@@ -1,9 +1,5 @@
 -- The number 1.
-use Rattle.std.proofs.Common.{◌^◌, negsuc, refl}
-use Rattle.decimal_input.specs.Ratios.{ratio, Same}
-use Rattle.decimal_input.specs.Decimals.{scaled}
-use Rattle.decimal_input.proofs.Powers.{num_scaled, den_scaled}
-use Rattle.model_types.specs.Conductances.{one}
+use Rattle.conductance_bounds.proofs.Common.{◌^◌, negsuc, refl, ratio, Same, scaled, num_scaled, den_scaled, one}
 
 pub unity_is : Same (scaled (10 ^ 17) (negsuc 16)) one
 unfolding ratio

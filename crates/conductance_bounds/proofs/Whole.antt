@@ -1,8 +1,5 @@
-use Rattle.std.proofs.Common.{ℕ, ◌+◌, ◌*◌, ◌≤◌, ◌<◌, ◌^◌, inl, inr, arith}
-use Rattle.std.proofs.lemmas.Bool.{cases_lt}
-use Rattle.std.proofs.Math.Nat.{mul-le-mul_right, le_of_mul-le-mul_right}
-use Rattle.decimal_input.specs.Ratios.{Ratio, den, AtMost}
-use Rattle.decimal_input.specs.Wholes.{IsFloor, IsCeiling, Reaches, Passes}
+use Rattle.conductance_bounds.proofs.Common.{ℕ, ◌+◌, ◌*◌, ◌≤◌, ◌<◌, ◌^◌, inl, inr, arith, cases_lt, mul-le-mul_right, le_of_mul-le-mul_right, Ratio, den}
+use Rattle.conductance_bounds.proofs.Common.{AtMost, IsFloor, IsCeiling, Reaches, Passes}
 use Rattle.decimal_input.proofs.Cross.{le_cancel}
 
 pub Passes-less : (n m : ℕ) (f : Ratio) (s : ℕ) → m ≤ n → Passes n f s → Passes m f s

@@ -1,9 +1,5 @@
-use Rattle.std.proofs.Common.{◌≡◌, ℕ, ◌<◌, ◌^◌, inl, inr, refl, arith, Bool, false, Ok, ℤ, pos, neg_ℤ, ◌+ℤ◌, ◌≤ℤ◌}
-use Rattle.std.proofs.lemmas.Int.{ints}
-use Rattle.decimal_input.specs.declared.coefficient.Coefficient.{Coefficient}
-use Rattle.decimal_input.specs.Coefficients.{IsOf}
-use Rattle.decimal_input.specs.Canonical.{IsDec}
-use Rattle.decimal_input.specs.Outcomes.{IsCanonical}
+use Rattle.decimal_input.proofs.Common.{◌≡◌, ℕ, ◌<◌, ◌^◌, inl, inr, refl, arith, Bool, false, Ok, ℤ, pos, neg_ℤ, ◌+ℤ◌, ◌≤ℤ◌, ints, Coefficient, IsOf, IsDec}
+use Rattle.decimal_input.proofs.Common.{IsCanonical}
 use Rattle.decimal_input.proofs.Digits.{trimmed}
 
 pub accepted : (k : Coefficient) (neg : Bool) (n : ℕ) (e g : ℤ) → k.many ≡ false → (k.digits ≡ 0 → ⊥) → k.digits < 10 ^ 18 → IsOf k n → g ≡ e +ℤ pos k.zeros → neg_ℤ (pos 40) ≤ℤ g → g ≤ℤ pos 40 → IsCanonical neg n e (Ok (record { neg = neg; digits = k.digits; exp = g }))

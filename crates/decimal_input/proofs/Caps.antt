@@ -1,5 +1,4 @@
-use Rattle.std.proofs.Common.{◌≡◌, ℕ, ◌+◌, ◌-◌, ◌*◌, List, [], ◌∷◌, min, arith}
-use Rattle.decimal_input.specs.Grammar.{number_from}
+use Rattle.decimal_input.proofs.Common.{◌≡◌, ℕ, ◌+◌, ◌-◌, ◌*◌, List, [], ◌∷◌, min, arith, number_from}
 
 step : (a b d : ℕ) → min a 10000 ≡ min b 10000 → min (a * 10 + d) 10000 ≡ min (b * 10 + d) 10000
 step a b d h = omega arith

@@ -1,12 +1,8 @@
-use Rattle.std.proofs.Common.{◌≡◌, ℕ, ◌+◌, ◌≤◌, ◌<◌, inl, inr, ◌==◌, ◌&&◌, ◌-ℤ◌, nat_le, List, [], ◌∷◌, ◌++◌, length, Bool, arith, refl, sym, ap, subst, ◌∙◌, ℤ, pos, Option, Some, None}
-use Rattle.std.specs.List.{prefix_len}
-use Rattle.std.proofs.lemmas.List.{take-append-drop, get_or-take}
-use Rattle.std.proofs.lemmas.List.Sums.{prefix_len_passes}
-use Rattle.std.proofs.lemmas.List.Folds.{length-prefix_len}
-use Rattle.std.proofs.lemmas.Bool.{cases_Bool, eqb-true, leb-true, and_parts}
-use Rattle.decimal_input.specs.Decimals.{with_sign}
-use Rattle.decimal_input.specs.Grammar.{is_digit, is_mark, number_from, AreDigits, IsSign, IsPart, IsExponent, Spelling}
-use Rattle.decimal_input.specs.Words.{is_negative, unsigned, digits_of, behind, part_of, behind_part, whole_number, exponent_of, spelling}
+use Rattle.decimal_input.proofs.Common.{◌≡◌, ℕ, ◌+◌, ◌≤◌, ◌<◌, inl, inr, ◌==◌, ◌&&◌, ◌-ℤ◌, nat_le, List, [], ◌∷◌, ◌++◌, length, Bool, arith, refl, sym, ap}
+use Rattle.decimal_input.proofs.Common.{subst, ◌∙◌, ℤ, pos, Option, Some, None, prefix_len, take-append-drop, get_or-take, prefix_len_passes, length-prefix_len}
+use Rattle.decimal_input.proofs.Common.{cases_Bool, eqb-true, leb-true, and_parts, with_sign, is_digit, is_mark, number_from, AreDigits, IsSign, IsPart}
+use Rattle.decimal_input.proofs.Common.{IsExponent, Spelling, is_negative, unsigned, digits_of, behind, part_of, behind_part, whole_number, exponent_of}
+use Rattle.decimal_input.proofs.Common.{spelling}
 
 -- what split the word at its sign
 pub sign_cut : (w : List ℕ) → (s : List ℕ) × IsSign (is_negative w) s × (w ≡ s ++ unsigned w)

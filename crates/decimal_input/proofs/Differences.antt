@@ -1,6 +1,5 @@
-use Rattle.std.proofs.Common.{◌≡◌, ℕ, ◌+◌, ◌*◌, refl, arith, ℤ, pos, negsuc, neg_ℤ, ◌+ℤ◌, ◌-ℤ◌, ◌*ℤ◌}
-use Rattle.std.proofs.lemmas.Int.{ints}
-use borrow.Author.Differences.{up, down, same_in, product_is}
+use Rattle.decimal_input.proofs.Common.{◌≡◌, ℕ, ◌+◌, ◌*◌, refl, arith, ℤ, pos, negsuc, neg_ℤ, ◌+ℤ◌, ◌-ℤ◌, ◌*ℤ◌, ints, same_in, product_is}
+use borrow.Author.Differences.{up, down}
 
 -- the whole number p - q
 pub diff : ℕ → ℕ → ℤ

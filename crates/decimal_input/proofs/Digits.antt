@@ -1,10 +1,6 @@
-use Rattle.std.proofs.Common.{◌≡◌, ℕ, zero, suc, ◌+◌, ◌*◌, ◌-◌, ◌≤◌, ◌<◌, ◌^◌, inl, inr, sym, ap, subst, ◌∙◌, arith, true, false, add-one}
-use Rattle.std.proofs.lemmas.Nat.{pow-add}
-use Rattle.std.proofs.Math.Nat.{mul-le-mul_left, mul-le-mul_right, pow-suc}
+use Rattle.decimal_input.proofs.Common.{◌≡◌, ℕ, zero, suc, ◌+◌, ◌*◌, ◌-◌, ◌≤◌, ◌<◌, ◌^◌, inl, inr, sym, ap, subst, ◌∙◌, arith, true, false, add-one, pow-add}
+use Rattle.decimal_input.proofs.Common.{mul-le-mul_left, mul-le-mul_right, pow-suc, Coefficient, IsOf, IsTrimmed}
 use Rattle.decimal_input.proofs.Powers.{ten_pos}
-use Rattle.decimal_input.specs.declared.coefficient.Coefficient.{Coefficient}
-use Rattle.decimal_input.specs.Coefficients.{IsOf}
-use Rattle.decimal_input.specs.Outcomes.{IsTrimmed}
 
 zero_more : (c d z : ℕ) → IsTrimmed c d z → IsTrimmed (c * 10 + 0) d (z + 1)
 zero_more c d z h = record { whole = rw (add-one, pow-suc 10 z) (omega (arith, h.whole)); last = h.last }

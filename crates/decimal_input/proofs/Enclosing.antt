@@ -1,9 +1,5 @@
-use Rattle.std.proofs.Common.{◌≡◌, ℕ, suc, ◌*◌, ◌≤◌, ◌<◌, ◌^◌, arith, ap, ◌∙◌, ℤ, pos, neg_ℤ, ◌*ℤ◌}
-use Rattle.std.proofs.Math.Nat.{mul-le-mul_right, le_of_mul-le-mul_right}
-use Rattle.std.proofs.lemmas.Int.{ints}
-use Rattle.decimal_input.specs.Ratios.{Ratio, den}
-use Rattle.decimal_input.specs.Fractions.{Fraction, signed, negated, IsOver}
-use Rattle.decimal_input.specs.Enclosures.{Encloses, EnclosesSigned, IsShare, IsBetweenWhole, IsBetweenSigned}
+use Rattle.decimal_input.proofs.Common.{◌≡◌, ℕ, suc, ◌*◌, ◌≤◌, ◌<◌, ◌^◌, arith, ap, ◌∙◌, ℤ, pos, neg_ℤ, ◌*ℤ◌, mul-le-mul_right, le_of_mul-le-mul_right, ints}
+use Rattle.decimal_input.proofs.Common.{Ratio, den, Fraction, signed, negated, IsOver, Encloses, EnclosesSigned, IsShare, IsBetweenWhole, IsBetweenSigned}
 use Rattle.decimal_input.proofs.Signs.{mul_mono_right, swap, cancel_right, neg_times, turned}
 
 cross_low : (lo a x n D p : ℕ) → 0 < x → lo * x ≤ a * p → a * D ≡ n * x → lo * D ≤ n * p

@@ -1,8 +1,6 @@
-use Rattle.std.proofs.Common.{◌≡◌, ℕ, ◌<◌, ◌^◌, arith, ℤ, pos, neg_ℤ, ◌*ℤ◌, ◌+ℤ◌, ◌≤ℤ◌, ◌<ℤ◌}
-use Rattle.std.proofs.lemmas.Int.{ints, by_lt_z}
-use Rattle.decimal_input.specs.Fractions.{Fraction, den, AtMost, Same}
-use Rattle.decimal_input.specs.Wholes.{IsSignedFloor, IsSignedCeiling}
-use Rattle.decimal_input.specs.Enclosures.{EnclosesSigned}
+use Rattle.decimal_input.proofs.Common.{◌≡◌, ℕ, ◌<◌, ◌^◌, arith, ℤ, pos, neg_ℤ, ◌*ℤ◌, ◌+ℤ◌, ◌≤ℤ◌, ◌<ℤ◌, ints, by_lt_z, Fraction, IsSignedFloor, IsSignedCeiling}
+use Rattle.decimal_input.proofs.Common.{EnclosesSigned}
+use Rattle.decimal_input.specs.Fractions.{den, AtMost, Same}
 use Rattle.decimal_input.proofs.Signs.{mul_mono_right, swap, cancel_right}
 use Rattle.decimal_input.proofs.Fractional.{Same-AtMost, Same-sym}
 use Rattle.decimal_input.proofs.Integers.{le-antisym, le-trans, lt-not-le}

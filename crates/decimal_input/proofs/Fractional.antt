@@ -1,6 +1,5 @@
-use Rattle.std.proofs.Common.{◌≡◌, ℕ, ◌<◌, arith, sym, ℤ, pos, ◌*ℤ◌, ◌≤ℤ◌}
-use Rattle.std.proofs.lemmas.Int.{ints}
-use Rattle.decimal_input.specs.Fractions.{Fraction, den, AtMost, Same}
+use Rattle.decimal_input.proofs.Common.{◌≡◌, ℕ, ◌<◌, arith, sym, ℤ, pos, ◌*ℤ◌, ◌≤ℤ◌, ints, Fraction}
+use Rattle.decimal_input.specs.Fractions.{den, AtMost, Same}
 use Rattle.decimal_input.proofs.Signs.{mul_mono_right, swap, cancel_right}
 use Rattle.decimal_input.proofs.Integers.{le-antisym, le-of, le-trans}
 

@@ -1,8 +1,5 @@
-use Rattle.std.proofs.Common.{◌≡◌, ℕ, ◌≤◌, ◌<◌, List, length, take, drop, get_or, true, false, ap, sym, ◌∙◌}
-use Rattle.std.specs.List.{prefix_len}
-use Rattle.std.proofs.lemmas.List.Sums.{prefix_len_is}
-use Rattle.decimal_input.specs.Words.{digits_of, behind}
-use Rattle.decimal_input.specs.Grammar.{is_digit}
+use Rattle.decimal_input.proofs.Common.{◌≡◌, ℕ, ◌≤◌, ◌<◌, List, length, take, drop, get_or, true, false, ap, sym, ◌∙◌, prefix_len, prefix_len_is, digits_of}
+use Rattle.decimal_input.proofs.Common.{behind, is_digit}
 
 -- n digits at the front, and no digit behind them
 pub front_is : (xs : List ℕ) (n : ℕ) → n ≤ length xs → ((k : ℕ) → k < n → is_digit (get_or xs k 0) ≡ true) → (n < length xs → is_digit (get_or xs n 0) ≡ false) → prefix_len is_digit xs ≡ n

@@ -1,20 +1,9 @@
-use Rattle.std.proofs.Common.{nat_le, ◌%◌, ◌≡◌, ℕ, suc, ◌+◌, ◌-◌, ◌*◌, ◌<◌, ◌≤◌, ◌^◌, inl, inr, refl, ap, sym, subst, ◌∙◌, arith, Bool, true, false, List, [], ◌∷◌, length, get_or, min, Option, Some, None, Result, Err, ℤ, pos, neg_ℤ, ◌+ℤ◌, ◌-ℤ◌}
-use Rattle.std.proofs.lemmas.Int.{ints}
-use Rattle.std.proofs.lemmas.Bool.{cases_lt, le-leb}
-use Rattle.std.proofs.lemmas.Bool.Decides.{nat_tests}
-use Rattle.std.proofs.lemmas.Nat.{pow-add}
-use Rattle.std.proofs.Math.Nat.{mul-le-mul_left, mul-le-mul_right, pow-suc}
+use Rattle.decimal_input.proofs.Common.{nat_le, ◌%◌, ◌≡◌, ℕ, suc, ◌+◌, ◌-◌, ◌*◌, ◌<◌, ◌≤◌, ◌^◌, inl, inr, refl, ap, sym, subst, ◌∙◌, arith, Bool, true, false}
+use Rattle.decimal_input.proofs.Common.{List, [], ◌∷◌, length, get_or, min, Option, Some, None, Result, Err, ℤ, pos, neg_ℤ, ◌+ℤ◌, ◌-ℤ◌, ints, cases_lt, le-leb}
+use Rattle.decimal_input.proofs.Common.{nat_tests, pow-add, mul-le-mul_left, mul-le-mul_right, pow-suc, Dec, NumFault, BadNumber, is_negative, unsigned}
+use Rattle.decimal_input.proofs.Common.{digits_of, behind, part_of, behind_part, exponent_of, spelling, spelt, is_digit, number_from, Spelling, with_sign}
+use Rattle.decimal_input.proofs.Common.{IsCap, IsCapped, IsOf, IsTrimmed, IsTested, IsCanonical}
 use Rattle.decimal_input.proofs.Powers.{ten_pos}
-use Rattle.decimal_input.specs.declared.dec.Dec.{Dec}
-use Rattle.decimal_input.specs.declared.dec.NumFault.{NumFault}
-use Rattle.decimal_input.specs.declared.dec.NumFault.TheVariants.{BadNumber}
-use Rattle.decimal_input.specs.Words.{is_negative, unsigned, digits_of, behind, part_of, behind_part, exponent_of, spelling, spelt}
-use Rattle.decimal_input.specs.Grammar.{is_digit, number_from, Spelling}
-use Rattle.decimal_input.specs.Decimals.{with_sign}
-use Rattle.decimal_input.specs.Exponents.{IsCap, IsCapped}
-use Rattle.decimal_input.specs.Coefficients.{IsOf}
-use Rattle.decimal_input.specs.Outcomes.{IsTrimmed}
-use Rattle.decimal_input.specs.Outcomes.{IsTested, IsCanonical}
 
 -- r is the canonical form of a reading, or its refusal
 abbrev pub IsNumber : Option Spelling → Result Dec NumFault → Type 0

@@ -1,11 +1,6 @@
-use Rattle.std.proofs.Common.{◌≡◌, ℕ, ◌+◌, ◌*◌, ◌%◌, ◌<◌, ◌^◌, inl, inr, ◌⊎◌, arith, refl, sym, ap, ◌∙◌, Bool, true, false, ℤ, pos}
-use Rattle.std.proofs.Math.Nat.{mul-le-mul}
-use Rattle.std.proofs.lemmas.Int.{ints}
-use Rattle.decimal_input.specs.declared.dec.Dec.{Dec}
-use Rattle.decimal_input.specs.Ratios.{den}
+use Rattle.decimal_input.proofs.Common.{◌≡◌, ℕ, ◌+◌, ◌*◌, ◌%◌, ◌<◌, ◌^◌, inl, inr, ◌⊎◌, arith, refl, sym, ap, ◌∙◌, Bool, true, false, ℤ, pos, mul-le-mul, ints}
+use Rattle.decimal_input.proofs.Common.{Dec, den, up, down, with_sign, size, number, IsDec}
 use Rattle.decimal_input.specs.Fractions.{Same as SameSigned}
-use Rattle.decimal_input.specs.Decimals.{up, down, with_sign}
-use Rattle.decimal_input.specs.Canonical.{size, number, IsDec}
 use Rattle.decimal_input.proofs.Powers.{ten_pos, cross_of, up_down}
 use Rattle.decimal_input.proofs.SignedFloors.{sign_times}
 use Rattle.decimal_input.proofs.Unique.{trimmed_one}

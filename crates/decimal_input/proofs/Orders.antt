@@ -1,6 +1,4 @@
-use Rattle.std.proofs.Common.{◌≡◌, ℕ, suc, ◌+◌, ◌*◌, ◌≤◌, ◌<◌, arith, refl}
-use Rattle.std.proofs.Math.Nat.{mul-le-mul}
-use Rattle.decimal_input.specs.Ratios.{Ratio, den, ratio, plus, times, over, AtMost, Below, Same}
+use Rattle.decimal_input.proofs.Common.{◌≡◌, ℕ, suc, ◌+◌, ◌*◌, ◌≤◌, ◌<◌, arith, refl, mul-le-mul, Ratio, den, ratio, plus, times, over, AtMost, Below, Same}
 use Rattle.decimal_input.proofs.Cross.{cross_trans, cross_below, cross_at_most, cross_times, cross_plus, cross_same}
 
 pub den_ratio : (n d : ℕ) → 0 < d → den (ratio n d) ≡ d

@@ -1,12 +1,7 @@
-use Rattle.std.proofs.Common.{◌≡◌, ℕ, ◌≤◌, inl, inr, ◌==◌, List, [], ◌∷◌, ◌++◌, length, take, drop, Bool, true, false, arith, refl, ap, ◌∙◌, ℤ, Some}
-use Rattle.std.specs.List.{prefix_len}
+use Rattle.decimal_input.proofs.Common.{◌≡◌, ℕ, ◌≤◌, inl, inr, ◌==◌, List, [], ◌∷◌, ◌++◌, length, take, drop, Bool, true, false, arith, refl, ap, ◌∙◌, ℤ, Some}
+use Rattle.decimal_input.proofs.Common.{prefix_len, prefix_len-append, eq-eqb, le-leb, nat_tests, with_sign, is_digit, is_mark, number_from, AreDigits, IsSign}
+use Rattle.decimal_input.proofs.Common.{IsPart, IsExponent, is_sign, is_negative, unsigned, digits_of, behind, part_of, behind_part, whole_number, exponent_of}
 use Rattle.std.proofs.Math.Seq.{take-append_seam, drop-append_seam}
-use Rattle.std.proofs.lemmas.List.Folds.{prefix_len-append}
-use Rattle.std.proofs.lemmas.Bool.{eq-eqb, le-leb}
-use Rattle.std.proofs.lemmas.Bool.Decides.{nat_tests}
-use Rattle.decimal_input.specs.Decimals.{with_sign}
-use Rattle.decimal_input.specs.Grammar.{is_digit, is_mark, number_from, AreDigits, IsSign, IsPart, IsExponent}
-use Rattle.decimal_input.specs.Words.{is_sign, is_negative, unsigned, digits_of, behind, part_of, behind_part, whole_number, exponent_of}
 use Rattle.decimal_input.proofs.Fronts.{front_is}
 
 pub digits_len : (ds : List ℕ) → AreDigits ds → prefix_len is_digit ds ≡ length ds

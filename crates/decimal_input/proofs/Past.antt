@@ -1,12 +1,6 @@
-use Rattle.std.proofs.Common.{◌≡◌, ℕ, suc, ◌+◌, ◌-◌, ◌*◌, ◌/◌, ◌≤◌, ◌<◌, ◌^◌, arith, true, false, ℤ, pos, neg_ℤ, Option, Some, None, IfNone, refl, subst, inl, inr}
-use Rattle.std.proofs.lemmas.Int.{ints}
-use Rattle.std.proofs.lemmas.Bool.{cases_lt}
-use Rattle.std.proofs.Math.Nat.{lt-mul-div-succ, div-mul-le_self, div-lt_iff_lt-mul}
-use Rattle.decimal_input.specs.declared.dec.Dec.{Dec}
-use Rattle.decimal_input.specs.Ratios.{Ratio}
-use Rattle.decimal_input.specs.Decimals.{scaled}
-use Rattle.decimal_input.specs.Canonical.{size, number}
-use Rattle.decimal_input.specs.Wholes.{IsFloor, IsCeiling, Reaches, Passes, IsFloorPast, IsCeilingPast}
+use Rattle.decimal_input.proofs.Common.{◌≡◌, ℕ, suc, ◌+◌, ◌-◌, ◌*◌, ◌/◌, ◌≤◌, ◌<◌, ◌^◌, arith, true, false, ℤ, pos, neg_ℤ, Option, Some, None, IfNone, refl}
+use Rattle.decimal_input.proofs.Common.{subst, inl, inr, ints, cases_lt, lt-mul-div-succ, div-mul-le_self, div-lt_iff_lt-mul, Dec, Ratio, scaled, size, number}
+use Rattle.decimal_input.proofs.Common.{IsFloor, IsCeiling, Reaches, Passes, IsFloorPast, IsCeilingPast}
 use Rattle.decimal_input.proofs.Cross.{lt_cancel}
 use Rattle.decimal_input.proofs.SignedFloors.{floor_of_floor, floor_of_ceiling, ceiling_of_ceiling, ceiling_of_floor}
 

@@ -1,9 +1,5 @@
-use Rattle.std.proofs.Common.{◌≡◌, ℕ, zero, suc, ◌+◌, ◌*◌, ◌≤◌, ◌<◌, ◌-◌, ◌^◌, arith, ℤ, pos, negsuc, ◌+ℤ◌, ap, subst, refl}
-use Rattle.std.proofs.Math.Nat.{mul-le-mul_left, mul-le-mul_right, pow-suc}
-use Rattle.std.proofs.lemmas.Nat.{pow-add}
-use Rattle.std.proofs.lemmas.Int.{ints}
-use Rattle.decimal_input.specs.Ratios.{ratio, times, AtMost, Same}
-use Rattle.decimal_input.specs.Decimals.{up, down, scaled}
+use Rattle.decimal_input.proofs.Common.{◌≡◌, ℕ, zero, suc, ◌+◌, ◌*◌, ◌≤◌, ◌<◌, ◌-◌, ◌^◌, arith, ℤ, pos, negsuc, ◌+ℤ◌, ap, subst, refl, mul-le-mul_left}
+use Rattle.decimal_input.proofs.Common.{mul-le-mul_right, pow-suc, pow-add, ints, ratio, times, AtMost, Same, up, down, scaled}
 use Rattle.decimal_input.proofs.Orders.{num_times, den_times}
 
 pub ten_pos : (n : ℕ) → 0 < 10 ^ n

@@ -1,15 +1,9 @@
-use Rattle.std.proofs.Common.{◌≡◌, ℕ, suc, ◌+◌, ◌*◌, arith, refl, sym, ap, ◌∙◌, Bool, true, false, not, ℤ, pos, neg_ℤ, ◌*ℤ◌, ◌+ℤ◌, Result, Ok, Err, IfOk, List, length, inl, inr}
+use Rattle.decimal_input.proofs.Common.{◌≡◌, ℕ, suc, ◌+◌, ◌*◌, arith, refl, sym, ap, ◌∙◌, Bool, true, false, not, ℤ, pos, neg_ℤ, ◌*ℤ◌, ◌+ℤ◌, Result, Ok, Err}
+use Rattle.decimal_input.proofs.Common.{IfOk, List, length, inl, inr, ints, cases_lt, Dec, NumFault, Fraction, scaled, with_sign, decimal, number, Spelling}
+use Rattle.decimal_input.proofs.Common.{Spells, IsCanonical, Names, differ}
 use Rattle.std.specs.Bool.{beq}
 use Rattle.std.proofs.Math.IntN.{*ℤ_comm}
-use Rattle.std.proofs.lemmas.Int.{ints}
-use Rattle.std.proofs.lemmas.Bool.{cases_lt}
-use Rattle.decimal_input.specs.declared.dec.Dec.{Dec}
-use Rattle.decimal_input.specs.declared.dec.NumFault.{NumFault}
-use Rattle.decimal_input.specs.Fractions.{Fraction, times as times_signed, Same as SameSigned}
-use Rattle.decimal_input.specs.Decimals.{scaled, with_sign, decimal}
-use Rattle.decimal_input.specs.Canonical.{number}
-use Rattle.decimal_input.specs.Grammar.{Spelling, Spells}
-use Rattle.decimal_input.specs.Outcomes.{IsCanonical, Names, differ}
+use Rattle.decimal_input.specs.Fractions.{times as times_signed, Same as SameSigned}
 use Rattle.decimal_input.proofs.Orders.{num_times, den_times}
 use Rattle.decimal_input.proofs.Powers.{scaled_times}
 use Rattle.decimal_input.proofs.Signs.{neg_times}

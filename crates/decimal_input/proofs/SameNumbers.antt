@@ -1,6 +1,5 @@
 -- Sums, products and quotients of ratios that are the same number.
-use Rattle.std.proofs.Common.{◌≡◌, ℕ, ◌+◌, ◌*◌, ◌<◌, subst, refl, ap, ◌∙◌, arith, mul-pos}
-use Rattle.decimal_input.specs.Ratios.{Ratio, den, ratio, plus, times, over, AtMost, Same}
+use Rattle.decimal_input.proofs.Common.{◌≡◌, ℕ, ◌+◌, ◌*◌, ◌<◌, subst, refl, ap, ◌∙◌, arith, mul-pos, Ratio, den, ratio, plus, times, over, AtMost, Same}
 use Rattle.decimal_input.proofs.Orders.{Same-AtMost, Same-back, plus-AtMost, times-AtMost, over-AtMost, num_times, num_plus, num_over}
 
 pub Same-both : {f g : Ratio} → AtMost f g → AtMost g f → Same f g

@@ -1,5 +1,4 @@
-use Rattle.std.proofs.Common.{ℕ, ◌+◌, ◌*◌, ◌≤◌, ◌<◌, ◌^◌, arith, add-one}
-use Rattle.std.proofs.Math.Nat.{pow-suc}
+use Rattle.decimal_input.proofs.Common.{ℕ, ◌+◌, ◌*◌, ◌≤◌, ◌<◌, ◌^◌, arith, add-one, pow-suc}
 use Rattle.decimal_input.proofs.Powers.{power_within}
 
 -- one more digit

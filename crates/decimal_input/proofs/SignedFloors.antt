@@ -1,10 +1,5 @@
-use Rattle.std.proofs.Common.{◌≡◌, ℕ, zero, suc, ◌+◌, ◌-◌, ◌*◌, ◌≤◌, ◌<◌, ◌^◌, arith, inl, inr, ap, ◌∙◌, Bool, true, false, ℤ, pos, neg_ℤ, ◌+ℤ◌, ◌*ℤ◌, ◌≤ℤ◌, ◌<ℤ◌}
-use Rattle.std.proofs.lemmas.Int.{ints}
-use Rattle.std.proofs.lemmas.Bool.{cases_lt}
-use Rattle.decimal_input.specs.declared.dec.Dec.{Dec}
-use Rattle.decimal_input.specs.Decimals.{with_sign}
-use Rattle.decimal_input.specs.Canonical.{size, number}
-use Rattle.decimal_input.specs.Wholes.{IsFloor, IsCeiling, IsSignedFloor, IsSignedCeiling}
+use Rattle.decimal_input.proofs.Common.{◌≡◌, ℕ, zero, suc, ◌+◌, ◌-◌, ◌*◌, ◌≤◌, ◌<◌, ◌^◌, arith, inl, inr, ap, ◌∙◌, Bool, true, false, ℤ, pos, neg_ℤ, ◌+ℤ◌, ◌*ℤ◌}
+use Rattle.decimal_input.proofs.Common.{◌≤ℤ◌, ◌<ℤ◌, ints, cases_lt, Dec, with_sign, size, number, IsFloor, IsCeiling, IsSignedFloor, IsSignedCeiling}
 use Rattle.decimal_input.proofs.Signs.{add_times, one_times, neg_times}
 
 -- the product of a number with a sign

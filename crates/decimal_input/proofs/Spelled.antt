@@ -1,12 +1,7 @@
-use Rattle.std.proofs.Common.{◌≡◌, ℕ, ◌+◌, ◌-◌, ◌*◌, ◌≤◌, ◌<◌, inl, inr, ◌↔◌, List, [], ◌∷◌, ◌++◌, length, Bool, false, nat_le, arith, refl, sym, ap, subst, ◌∙◌, ℤ, pos, ◌-ℤ◌, Option, Some, None, Result, Err}
-use Rattle.std.proofs.lemmas.Bool.{le-leb, lt-leb, leb-true, cases_Bool}
-use Rattle.decimal_input.specs.declared.dec.Dec.{Dec}
-use Rattle.decimal_input.specs.declared.dec.NumFault.{NumFault}
-use Rattle.decimal_input.specs.declared.dec.NumFault.TheVariants.{BadNumber}
-use Rattle.decimal_input.specs.Grammar.{number_from, AreDigits, IsSign, IsPart, IsInteger, Spelling, Spells}
-use Rattle.decimal_input.specs.Words.{is_negative, unsigned, digits_of, behind, part_of, behind_part, exponent_of, integer_of, spelling, spelt}
-use Rattle.decimal_input.specs.Exponents.{IsCapped}
-use Rattle.decimal_input.specs.Outcomes.{Names}
+use Rattle.decimal_input.proofs.Common.{◌≡◌, ℕ, ◌+◌, ◌-◌, ◌*◌, ◌≤◌, ◌<◌, inl, inr, ◌↔◌, List, [], ◌∷◌, ◌++◌, length, Bool, false, nat_le, arith, refl, sym, ap}
+use Rattle.decimal_input.proofs.Common.{subst, ◌∙◌, ℤ, pos, ◌-ℤ◌, Option, Some, None, Result, Err, le-leb, lt-leb, leb-true, cases_Bool, Dec, NumFault}
+use Rattle.decimal_input.proofs.Common.{BadNumber, number_from, AreDigits, IsSign, IsPart, IsInteger, Spelling, Spells, is_negative, unsigned, digits_of}
+use Rattle.decimal_input.proofs.Common.{behind, part_of, behind_part, exponent_of, integer_of, spelling, spelt, IsCapped, Names}
 use Rattle.decimal_input.proofs.Named.{IsNumber, joined}
 use Rattle.decimal_input.proofs.Parts.{HasNoSign, digit_first, digits_front, behind_front, sign_read, part_read, exponent_read, whole_read}
 use Rattle.decimal_input.proofs.Cuts.{sign_cut, front_digits, front_cut, part_cut, exponent_cut, spelling_cut, whole_cut}

@@ -1,14 +1,6 @@
-use Rattle.std.proofs.Common.{◌≡◌, ℕ, suc, ◌+◌, ◌-◌, ◌*◌, ◌%◌, ◌≤◌, ◌<◌, ◌^◌, inl, inr, arith, refl, sym, ap, subst, ◌∙◌, Bool, List, length, ℤ, pos, neg_ℤ, ◌+ℤ◌, Option, Some, None, Result}
-use Rattle.std.proofs.lemmas.Int.{by_lt_z}
-use Rattle.std.proofs.lemmas.Nat.{pow-add}
-use Rattle.std.proofs.lemmas.Bool.{cases_lt}
-use Rattle.std.proofs.Math.Nat.{mul-le-mul, pow-suc, le_of_mul-le-mul_right}
-use Rattle.decimal_input.specs.declared.dec.Dec.{Dec}
-use Rattle.decimal_input.specs.declared.dec.NumFault.{NumFault}
-use Rattle.decimal_input.specs.Outcomes.{IsTrimmed}
-use Rattle.decimal_input.specs.Grammar.{Spelling, Spells}
-use Rattle.decimal_input.specs.Words.{spelt}
-use Rattle.decimal_input.specs.Outcomes.{IsTested, IsCanonical, Names}
+use Rattle.decimal_input.proofs.Common.{◌≡◌, ℕ, suc, ◌+◌, ◌-◌, ◌*◌, ◌%◌, ◌≤◌, ◌<◌, ◌^◌, inl, inr, arith, refl, sym, ap, subst, ◌∙◌, Bool, List, length, ℤ, pos}
+use Rattle.decimal_input.proofs.Common.{neg_ℤ, ◌+ℤ◌, Option, Some, None, Result, by_lt_z, pow-add, cases_lt, mul-le-mul, pow-suc, le_of_mul-le-mul_right, Dec}
+use Rattle.decimal_input.proofs.Common.{NumFault, IsTrimmed, Spelling, Spells, spelt, IsTested, IsCanonical, Names}
 use Rattle.decimal_input.proofs.Powers.{ten_pos}
 use Rattle.decimal_input.proofs.Spelled.{reads_spelt, spells_read}
 

@@ -1,13 +1,6 @@
-use Rattle.std.proofs.Common.{◌≡◌, ℕ, suc, ◌*◌, ◌^◌, inl, inr, arith, refl, sym, ap, subst, ◌∙◌, Bool, true, false, ℤ, pos, neg_ℤ, ◌*ℤ◌, ◌+ℤ◌, Result, IfOk}
-use Rattle.std.proofs.lemmas.Int.{ints, by_lt_z}
-use Rattle.std.proofs.lemmas.Bool.{cases_lt}
-use Rattle.decimal_input.specs.declared.dec.Dec.{Dec}
-use Rattle.decimal_input.specs.declared.dec.NumFault.{NumFault}
-use Rattle.decimal_input.specs.Ratios.{Ratio, Same}
+use Rattle.decimal_input.proofs.Common.{◌≡◌, ℕ, suc, ◌*◌, ◌^◌, inl, inr, arith, refl, sym, ap, subst, ◌∙◌, Bool, true, false, ℤ, pos, neg_ℤ, ◌*ℤ◌, ◌+ℤ◌, Result}
+use Rattle.decimal_input.proofs.Common.{IfOk, ints, by_lt_z, cases_lt, Dec, NumFault, Ratio, Same, scaled, with_sign, decimal, number, IsCanonical}
 use Rattle.decimal_input.specs.Fractions.{Same as SameSigned}
-use Rattle.decimal_input.specs.Decimals.{scaled, with_sign, decimal}
-use Rattle.decimal_input.specs.Canonical.{number}
-use Rattle.decimal_input.specs.Outcomes.{IsCanonical}
 use Rattle.decimal_input.proofs.Powers.{scaled_shift}
 use Rattle.decimal_input.proofs.SignedFloors.{sign_times}
 use Rattle.decimal_input.proofs.WholeUnits.{num_nothing}

@@ -1,9 +1,6 @@
-use Rattle.std.proofs.Common.{◌≡◌, ℕ, zero, suc, ◌+◌, ◌*◌, ◌-◌, ◌/◌, ◌≤◌, ◌<◌, ◌^◌, ap, arith, ℤ, pos, ◌+ℤ◌, Option, Some, None, MatchOption}
-use Rattle.std.proofs.lemmas.Int.{ints}
-use Rattle.std.proofs.Math.Nat.{mul-le-mul, mul-le-mul_right, lt-mul-div-succ, div-mul-le_self, div-lt_iff_lt-mul}
-use Rattle.decimal_input.specs.Ratios.{Ratio}
-use Rattle.decimal_input.specs.Decimals.{scaled, up, down}
-use Rattle.decimal_input.specs.Wholes.{IsFloor, IsCeiling, Reaches, Passes}
+use Rattle.decimal_input.proofs.Common.{◌≡◌, ℕ, zero, suc, ◌+◌, ◌*◌, ◌-◌, ◌/◌, ◌≤◌, ◌<◌, ◌^◌, ap, arith, ℤ, pos, ◌+ℤ◌, Option, Some, None, MatchOption, ints}
+use Rattle.decimal_input.proofs.Common.{mul-le-mul, mul-le-mul_right, lt-mul-div-succ, div-mul-le_self, div-lt_iff_lt-mul, Ratio, scaled, up, down, IsFloor}
+use Rattle.decimal_input.proofs.Common.{IsCeiling, Reaches, Passes}
 use Rattle.decimal_input.proofs.Cross.{lt_right, lt_cancel, le_cancel}
 use Rattle.decimal_input.proofs.Powers.{ten_pos, ten_more, num_scaled, den_scaled, up_down, pow_three}
 

@@ -1,25 +1,11 @@
 -- Each of two models that are alike lies between the two.
-use Rattle.std.proofs.Common.{◌≡◌, ◌≤ℤ◌, ◌*ℤ◌, ◌*◌, ◌⊎◌, [], ◌∷◌, ℤ, pos, negsuc, refl, subst, inl, inr, arith, List, map, length}
-use Rattle.std.specs.Prelude.{◌==◌}
-use Rattle.std.specs.List.{AllZip}
-use Rattle.std.proofs.lemmas.Bool.{cases_lt}
-use Rattle.std.proofs.lemmas.Int.{ints}
-use Rattle.decimal_input.specs.declared.dec.Dec.{Dec}
-use Rattle.decimal_input.specs.Canonical.{number, size}
-use Rattle.decimal_input.specs.Ratios.{Ratio, den as ratio_den, AtMost as IsRatioAtMost}
-use Rattle.decimal_input.specs.Fractions.{Fraction, den, AtMost}
-use Rattle.model_types.specs.declared.entry.Entry.{Entry}
+use Rattle.deck_span.proofs.Common.{◌≡◌, ◌≤ℤ◌, ◌*ℤ◌, ◌*◌, ◌⊎◌, [], ◌∷◌, ℤ, pos, negsuc, refl, subst, inl, inr, arith, List, map, length, ◌==◌, AllZip, cases_lt}
+use Rattle.deck_span.proofs.Common.{ints, Dec, number, size, Ratio, Fraction, den, AtMost, Entry, Given, CellId, FlowModel, Period, AllThree, none, next}
+use Rattle.deck_span.proofs.Common.{IsFractionBetween, IsRatioBetween, IsDecBetween, IsSizeBetween, IsEntryBetween, IsGivenAtMost, IsGivenBetween}
+use Rattle.deck_span.proofs.Common.{IsRateBetween, IsPeriodBetween, IsBetween, wells, rivers, drains, generals, entry_frame, AreGivenAlike, ArePeriodsAlike}
+use Rattle.deck_span.proofs.Common.{AreAlike}
+use Rattle.decimal_input.specs.Ratios.{den as ratio_den, AtMost as IsRatioAtMost}
 use Rattle.model_types.specs.declared.entry.Entry.TheVariants.{Well, River, Drain, General}
-use Rattle.model_types.specs.declared.entry.Given.{Given}
-use Rattle.model_types.specs.declared.grid.CellId.{CellId}
-use Rattle.model_types.specs.declared.model.FlowModel.{FlowModel}
-use Rattle.model_types.specs.declared.period.Period.{Period}
-use Rattle.problem_hull.specs.Threes.{AllThree}
-use Rattle.problem_hull.specs.Threes.AllThree.{none, next}
-use Rattle.deck_span.specs.Numbers.{IsFractionBetween, IsRatioBetween, IsDecBetween, IsSizeBetween}
-use Rattle.deck_span.specs.Models.{IsEntryBetween, IsGivenAtMost, IsGivenBetween, IsRateBetween, IsPeriodBetween, IsBetween}
-use Rattle.deck_span.specs.Models.IsEntryBetween.{wells, rivers, drains, generals}
-use Rattle.deck_span.specs.Alike.{entry_frame, AreGivenAlike, ArePeriodsAlike, AreAlike}
 
 -- Of two numbers one is at most the other.
 

@@ -1,20 +1,8 @@
 -- Where some model lies between two, the two are alike.
-use Rattle.std.proofs.Common.{◌≡◌, ◌∷◌, inl, inr, refl, List, map}
-use Rattle.std.specs.Prelude.{◌==◌}
-use Rattle.std.specs.List.{AllZip}
-use Rattle.decimal_input.specs.declared.dec.Dec.{Dec}
+use Rattle.deck_span.proofs.Common.{◌≡◌, ◌∷◌, inl, inr, refl, List, map, ◌==◌, AllZip, Dec, Entry, Given, FlowModel, Period, AllThree, none, next}
+use Rattle.deck_span.proofs.Common.{three_lengths, IsDecBetween, IsEntryBetween, IsGivenAtMost, IsGivenBetween, IsRateBetween, IsPeriodBetween, IsBetween}
+use Rattle.deck_span.proofs.Common.{wells, rivers, drains, generals, entry_frame, AreGivenAlike, ArePeriodsAlike, AreAlike}
 use Rattle.decimal_input.proofs.Fractional.{AtMost-trans}
-use Rattle.model_types.specs.declared.entry.Entry.{Entry}
-use Rattle.model_types.specs.declared.entry.Given.{Given}
-use Rattle.model_types.specs.declared.model.FlowModel.{FlowModel}
-use Rattle.model_types.specs.declared.period.Period.{Period}
-use Rattle.problem_hull.specs.Threes.{AllThree}
-use Rattle.problem_hull.specs.Threes.AllThree.{none, next}
-use Rattle.problem_hull.proofs.Threes.{three_lengths}
-use Rattle.deck_span.specs.Numbers.{IsDecBetween}
-use Rattle.deck_span.specs.Models.{IsEntryBetween, IsGivenAtMost, IsGivenBetween, IsRateBetween, IsPeriodBetween, IsBetween}
-use Rattle.deck_span.specs.Models.IsEntryBetween.{wells, rivers, drains, generals}
-use Rattle.deck_span.specs.Alike.{entry_frame, AreGivenAlike, ArePeriodsAlike, AreAlike}
 
 module _ {X : Type 0} (R : X → X → X → Type 0) where
   same_frames : {Y : Type 0} (f : X → Y) → ((x y z : X) → R x y z → f z ≡ f x) → (xs ys zs : List X) → AllThree R xs ys zs → map f zs ≡ map f xs

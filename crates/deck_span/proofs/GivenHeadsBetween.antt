@@ -1,20 +1,11 @@
 -- A given head lies between those of the other two decks at each step.
-use Rattle.std.proofs.Common.{◌≡◌, ℕ, zero, suc, ◌+◌, ◌*◌, ◌-◌, ◌≤◌, ◌⊎◌, inl, inr, arith, sym, ap, ◌∙◌, subst, Bool, true, false, cond, ℤ, pos, neg_ℤ, ◌+ℤ◌, ◌*ℤ◌, ◌≤ℤ◌}
-use Rattle.std.specs.Prelude.{◌==◌, ◌||◌}
-use Rattle.std.proofs.lemmas.Int.{ints}
-use Rattle.decimal_input.specs.Canonical.{number}
-use Rattle.decimal_input.specs.Ratios.{Ratio, den as size_den, AtMost as IsRatioAtMost, plus as size_plus, over as size_over, ratio as size_ratio}
-use Rattle.decimal_input.specs.Fractions.{Fraction, den, AtMost, signed, negated, plus, times}
-use Rattle.decimal_input.proofs.Signs.{mul_mono_right}
-use Rattle.decimal_input.proofs.Differences.{diffs, as_diff, same_diff}
-use Rattle.decimal_input.proofs.Orders.{AtMost-refl, AtMost-trans, num_plus, den_plus}
-use Rattle.model_types.specs.declared.period.Period.{Period}
-use Rattle.model_types.specs.declared.entry.Given.{Given}
-use Rattle.model_types.specs.Conductances.{one}
-use Rattle.model_types.specs.Times.{power, geometric, multiplier, passed}
-use Rattle.model_types.specs.Heads.{between_heads}
-use Rattle.deck_span.specs.Numbers.{IsFractionBetween}
-use Rattle.deck_span.specs.Models.{IsGivenAtMost, IsGivenBetween}
+use Rattle.deck_span.proofs.Common.{◌≡◌, ℕ, zero, suc, ◌+◌, ◌*◌, ◌-◌, ◌≤◌, ◌⊎◌, inl, inr, arith, sym, ap, ◌∙◌, subst, Bool, true, false, cond, ℤ, pos, neg_ℤ}
+use Rattle.deck_span.proofs.Common.{◌+ℤ◌, ◌*ℤ◌, ◌≤ℤ◌, ◌==◌, ◌||◌, ints, number, Ratio, Fraction, den, AtMost, signed, negated, plus, mul_mono_right, diffs}
+use Rattle.deck_span.proofs.Common.{as_diff, same_diff, AtMost-refl, num_plus, den_plus, Period, Given, one, power, geometric, multiplier, passed}
+use Rattle.deck_span.proofs.Common.{between_heads, IsFractionBetween, IsGivenAtMost, IsGivenBetween}
+use Rattle.decimal_input.specs.Ratios.{den as size_den, AtMost as IsRatioAtMost, plus as size_plus, over as size_over, ratio as size_ratio}
+use Rattle.decimal_input.specs.Fractions.{times}
+use Rattle.decimal_input.proofs.Orders.{AtMost-trans}
 
 -- the head over the denominators of its ends: a / x at the start, b / y at the end, u of w + u passed
 top_is : (a b x y w u : ℤ) → a *ℤ ((y *ℤ x) *ℤ (w +ℤ u)) +ℤ ((b *ℤ x +ℤ neg_ℤ a *ℤ y) *ℤ u) *ℤ x ≡ a *ℤ (w *ℤ (y *ℤ x)) +ℤ b *ℤ (u *ℤ (x *ℤ x))

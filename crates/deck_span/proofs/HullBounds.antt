@@ -1,14 +1,10 @@
 -- A number between two enclosed ones lies between the outer bounds.
-use Rattle.std.proofs.Common.{ℕ, ◌*◌, ◌^◌, ◌≤◌, ◌<◌, ◌⊎◌, inl, inr, arith, ℤ, pos, ◌*ℤ◌, ◌≤ℤ◌, min, max}
+use Rattle.deck_span.proofs.Common.{ℕ, ◌*◌, ◌^◌, ◌≤◌, ◌<◌, ◌⊎◌, inl, inr, arith, ℤ, pos, ◌*ℤ◌, ◌≤ℤ◌, min, max, ints, clamps, Ratio, Fraction, den, AtMost}
+use Rattle.deck_span.proofs.Common.{mul_mono_right, swap, cancel_right, IsFractionBetween, IsRatioBetween, IsHullPair, IsHullSize}
 use Rattle.std.specs.Int.{int_min, int_max}
 use Rattle.std.proofs.Math.Nat.{mul-le-mul_right, le_of_mul-le-mul_right}
-use Rattle.std.proofs.lemmas.Int.{ints, clamps}
-use Rattle.decimal_input.specs.Ratios.{Ratio, den as size_den, AtMost as IsRatioAtMost}
-use Rattle.decimal_input.specs.Fractions.{Fraction, den, AtMost}
+use Rattle.decimal_input.specs.Ratios.{den as size_den, AtMost as IsRatioAtMost}
 use Rattle.decimal_input.specs.Enclosures.{Encloses, EnclosesSigned}
-use Rattle.decimal_input.proofs.Signs.{mul_mono_right, swap, cancel_right}
-use Rattle.deck_span.specs.Numbers.{IsFractionBetween, IsRatioBetween}
-use Rattle.problem_hull.specs.Hulls.{IsHullPair, IsHullSize}
 
 -- lo ≤ n / d, n / d ≤ k / e (all over a unit S) give lo ≤ k / e
 low_cross : (lo n d k e S : ℕ) → 0 < d → lo * d ≤ n * S → n * e ≤ k * d → lo * e ≤ k * S

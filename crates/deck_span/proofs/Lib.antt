@@ -1,3 +1,4 @@
+mod Common
 pub mod ThreeLists
 pub mod HullBounds
 pub mod HullsEnclose

@@ -1,12 +1,9 @@
 -- Numbers that are made from numbers between two others.
-use Rattle.std.proofs.Common.{◌≡◌, ℕ, suc, ◌+◌, ◌*◌, ◌<◌, ◌⊎◌, inl, inr, arith, refl, ℤ, pos, ◌+ℤ◌, ◌*ℤ◌, ◌≤ℤ◌}
-use Rattle.std.proofs.lemmas.Int.{ints}
-use Rattle.decimal_input.specs.Ratios.{Ratio, AtMost as IsRatioAtMost, times as size_times, over as size_over}
-use Rattle.decimal_input.specs.Fractions.{Fraction, den, AtMost, signed, plus, times}
-use Rattle.decimal_input.proofs.Signs.{mul_mono_right}
-use Rattle.decimal_input.proofs.Differences.{diffs, as_diff, same_diff}
-use Rattle.decimal_input.proofs.Orders.{AtMost-refl, times-AtMost, over-AtMost}
-use Rattle.deck_span.specs.Numbers.{IsFractionBetween, IsRatioBetween}
+use Rattle.deck_span.proofs.Common.{◌≡◌, ℕ, suc, ◌+◌, ◌*◌, ◌<◌, ◌⊎◌, inl, inr, arith, refl, ℤ, pos, ◌+ℤ◌, ◌*ℤ◌, ◌≤ℤ◌, ints, Ratio, Fraction, den, AtMost}
+use Rattle.deck_span.proofs.Common.{signed, plus, mul_mono_right, diffs, as_diff, same_diff, AtMost-refl, times-AtMost, over-AtMost, IsFractionBetween}
+use Rattle.deck_span.proofs.Common.{IsRatioBetween}
+use Rattle.decimal_input.specs.Ratios.{AtMost as IsRatioAtMost, times as size_times, over as size_over}
+use Rattle.decimal_input.specs.Fractions.{times}
 
 least : (f : Fraction) → AtMost f f
 least f = record { at_most = omega (arith, ints) }

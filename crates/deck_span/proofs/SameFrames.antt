@@ -1,20 +1,8 @@
 -- What a model between two others has in common with them.
-use Rattle.std.proofs.Common.{◌≡◌, ℕ, ◌≤◌, ap, subst, List, length, map}
-use Rattle.std.specs.List.{flat_map, range_with_len}
-use Rattle.decimal_input.specs.declared.dec.Dec.{Dec}
-use Rattle.model_types.specs.declared.model.FlowModel.{FlowModel}
-use Rattle.model_types.specs.declared.period.Period.{Period}
-use Rattle.model_types.specs.Cells.{cell_count}
-use Rattle.model_types.specs.Layers.{is_active}
-use Rattle.model_types.specs.Times.{period_at, times}
-use Rattle.model_types.specs.Kinds.{is_variable, index_of}
-use Rattle.model_types.specs.Heads.{start_head, constant_head}
-use Rattle.problem_hull.specs.Threes.{AllThree}
-use Rattle.deck_span.specs.Numbers.{IsFractionBetween}
-use Rattle.deck_span.specs.Numbers.{IsDecBetween}
-use Rattle.deck_span.specs.Models.{IsPeriodBetween, IsBetween}
-use Rattle.decimal_input.specs.Fractions.{Fraction}
-use Rattle.problem_hull.proofs.Threes.{three_at, three_lengths}
+use Rattle.deck_span.proofs.Common.{◌≡◌, ℕ, ◌≤◌, ap, subst, List, length, map, flat_map, range_with_len, Dec, FlowModel, Period, cell_count, is_active}
+use Rattle.deck_span.proofs.Common.{period_at, is_variable, index_of, start_head, constant_head, AllThree, IsFractionBetween, IsDecBetween, IsPeriodBetween}
+use Rattle.deck_span.proofs.Common.{IsBetween, Fraction, three_at, three_lengths}
+use Rattle.model_types.specs.Times.{times}
 use Rattle.deck_span.proofs.SourcesBetween.{framed, no_dec, at_period, variable_is, cells_are}
 use Rattle.deck_span.proofs.StepsBetween.{framed_is, constant_between}
 

@@ -1,30 +1,14 @@
 -- What flows into a cell of three models of one frame lies between, source by source.
-use Rattle.std.proofs.Common.{◌≡◌, ℕ, ◌-◌, refl, ap, ◌∙◌, Bool, true, false, cond, Some, None, List, map, take, reverse, pos, ℤ}
-use Rattle.std.specs.Prelude.{not, ◌&&◌, ◌==◌, int_lt}
-use Rattle.std.specs.List.{filter, filter_map, range_with_len}
-use Rattle.decimal_input.specs.declared.dec.Dec.{Dec}
-use Rattle.decimal_input.specs.Canonical.{number, size}
-use Rattle.model_types.specs.declared.grid.CellId.{CellId}
-use Rattle.model_types.specs.declared.model.FlowModel.{FlowModel}
-use Rattle.model_types.specs.declared.period.Period.{Period}
-use Rattle.model_types.specs.declared.entry.Given.{Given}
-use Rattle.model_types.specs.declared.entry.Entry.{Entry}
-use Rattle.model_types.specs.declared.face.Face.{Face}
-use Rattle.model_types.specs.Cells.{place_in_layer}
-use Rattle.model_types.specs.Layers.{no_number, dec_at, int_at, is_active}
+use Rattle.deck_span.proofs.Common.{◌≡◌, ℕ, ◌-◌, refl, ap, ◌∙◌, Bool, true, false, cond, Some, None, List, map, take, reverse, pos, ℤ, not, ◌&&◌, ◌==◌, int_lt}
+use Rattle.deck_span.proofs.Common.{filter, filter_map, range_with_len, Dec, number, size, CellId, FlowModel, Period, Given, Entry, Face, place_in_layer}
+use Rattle.deck_span.proofs.Common.{no_number, dec_at, int_at, is_active, no_period, period_at, entries, given_in, last_given, is_variable, variable_below}
+use Rattle.deck_span.proofs.Common.{is_chosen, EvapSource, recharge_at, evap_source, evap_at, FixedSource, FlowSource, RiverSource, DrainSource, cell_of}
+use Rattle.deck_span.proofs.Common.{as_well, as_river, as_drain, as_general, entries_of, local_entries, variable_faces, constant_faces, storage_at}
+use Rattle.deck_span.proofs.Common.{flow_sources, fixed_sources, river_sources, drain_sources, evap_sources, AllThree, none, IsDecBetween, IsSizeBetween}
+use Rattle.deck_span.proofs.Common.{IsEntryBetween, IsGivenBetween, IsRateBetween, IsPeriodBetween, wells, rivers, drains, generals, three_at, three_append}
 use Rattle.model_types.specs.Faces.{faces, through}
-use Rattle.model_types.specs.Times.{no_period, period_at, entries}
-use Rattle.model_types.specs.Kinds.{given_in, last_given, is_variable, variable_below}
-use Rattle.model_types.specs.Receivers.{is_chosen, EvapSource, recharge_at, evap_source, evap_at}
-use Rattle.model_types.specs.Sources.{FixedSource, FlowSource, RiverSource, DrainSource, cell_of, as_well, as_river, as_drain, as_general, entries_of, local_entries, variable_faces, constant_faces, storage_at, flow_sources, fixed_sources, river_sources, drain_sources, evap_sources}
 use Rattle.model_types.specs.Sources.FixedSource.{ToConstant, ToGeneral, FromStorage}
 use Rattle.model_types.specs.Sources.FlowSource.{Pumped, Received}
-use Rattle.problem_hull.specs.Threes.{AllThree}
-use Rattle.problem_hull.specs.Threes.AllThree.{none}
-use Rattle.deck_span.specs.Numbers.{IsDecBetween, IsSizeBetween}
-use Rattle.deck_span.specs.Models.{IsEntryBetween, IsGivenBetween, IsRateBetween, IsPeriodBetween}
-use Rattle.deck_span.specs.Models.IsEntryBetween.{wells, rivers, drains, generals}
-use Rattle.problem_hull.proofs.Threes.{three_at, three_append}
 use Rattle.deck_span.proofs.ThreeLists.{OptionThree, option_list, option_all_or_none, three_map, three_images, three_take, three_flat_map, three_reverse, three_filter, three_find, three_filter_map}
 use Rattle.deck_span.proofs.ThreeLists.OptionThree.{nothing, something}
 use Rattle.deck_span.proofs.Monotone.{number_itself, size_itself}

@@ -1,43 +1,26 @@
 -- Each exact step of a model between two others lies between theirs.
-use Rattle.std.proofs.Common.{◌≡◌, ℕ, zero, suc, ◌*◌, ◌-◌, ◌^◌, ◌≤◌, ◌<◌, inl, inr, refl, sym, ap, ◌∙◌, subst, arith, Bool, true, false, Option, List, [], ◌∷◌, length, map, All}
-use Rattle.std.specs.Prelude.{◌&&◌, int_lt, not, pos}
-use Rattle.decimal_input.specs.declared.dec.Dec.{Dec}
-use Rattle.decimal_input.specs.Canonical.{number, size}
-use Rattle.decimal_input.specs.Ratios.{Ratio, over, times as size_times}
+use Rattle.deck_span.proofs.Common.{◌≡◌, ℕ, zero, suc, ◌*◌, ◌-◌, ◌^◌, ◌≤◌, ◌<◌, inl, inr, refl, sym, ap, ◌∙◌, subst, arith, Bool, true, false, Option, List, []}
+use Rattle.deck_span.proofs.Common.{◌∷◌, length, map, All, ◌&&◌, int_lt, not, Dec, number, size, Ratio, over, Fraction, signed, negated, plus, ExactEvap}
+use Rattle.deck_span.proofs.Common.{FlowModel, Period, Given, Face, cell_count, no_number, is_active, area, int_at, conductance, row_conductance}
+use Rattle.deck_span.proofs.Common.{column_conductance, vertical_conductance, vertical_half, period_at, passed, is_variable, variable_below, variable_cells}
+use Rattle.deck_span.proofs.Common.{start_head, kept_head, head_or_kept, constant_head, between_heads, EvapSource, FixedSource, FlowSource, RiverSource}
+use Rattle.deck_span.proofs.Common.{DrainSource, variable_faces, evap_sources, AllThree, get_or_default, ◌==◌, unsigned_abs, false≢true, none, next}
+use Rattle.deck_span.proofs.Common.{IsFractionBetween, IsRatioBetween, IsDecBetween, IsFlowBetween, IsFixedBetween, IsRiverBetween, IsDrainBetween}
+use Rattle.deck_span.proofs.Common.{IsEvapBetween, IsCellBetween, IsStepBetween, IsGivenBetween, IsPeriodBetween, IsBetween, frame, period_frame, three_at}
+use Rattle.std.specs.Prelude.{pos, negsuc, ℤ}
+use Rattle.decimal_input.specs.Ratios.{times as size_times}
 use Rattle.decimal_input.specs.Decimals.{up}
-use Rattle.decimal_input.specs.Fractions.{Fraction, signed, negated, plus, times}
-use Rattle.cell_balance.specs.Steps.{ExactEvap}
-use Rattle.model_types.specs.declared.model.FlowModel.{FlowModel}
-use Rattle.model_types.specs.declared.period.Period.{Period}
-use Rattle.model_types.specs.declared.entry.Given.{Given}
+use Rattle.decimal_input.specs.Fractions.{times}
 use Rattle.model_types.specs.declared.face.Axis.{Axis}
 use Rattle.model_types.specs.declared.face.Axis.TheVariants.{Row, Column, Vertical}
-use Rattle.model_types.specs.declared.face.Face.{Face}
-use Rattle.model_types.specs.Cells.{cell_count}
-use Rattle.model_types.specs.Layers.{no_number, is_active, area, int_at}
-use Rattle.model_types.specs.Conductances.{conductance, row_conductance, column_conductance, vertical_conductance, vertical_half}
-use Rattle.model_types.specs.Times.{period_at, passed}
 use Rattle.model_types.specs.Storage.{storage}
-use Rattle.model_types.specs.Kinds.{is_variable, variable_below, variable_cells}
-use Rattle.model_types.specs.Heads.{start_head, kept_head, head_or_kept, constant_head, between_heads}
-use Rattle.model_types.specs.Receivers.{EvapSource}
-use Rattle.model_types.specs.Sources.{FixedSource, FlowSource, RiverSource, DrainSource, variable_faces, evap_sources}
 use Rattle.model_types.specs.Numbers.{IsPositive}
 use Rattle.model_types.specs.Valid.{IsModel, IsEvapValid}
 use Rattle.model_types.proofs.Ranks.{passing, is_at}
 use Rattle.flow_equations.specs.ExactStep.{exact_river, exact_drain, exact_link, exact_fixed, exact_flow, exact_evap, exact_cell, exact_step}
-use Rattle.problem_hull.specs.Threes.{AllThree}
 use Rattle.std.proofs.lemmas.List.Elements.{All-head, All-tail}
-use Rattle.std.proofs.lemmas.List.{get_or_default}
-use Rattle.std.specs.Prelude.{◌==◌, negsuc, ℤ, unsigned_abs}
-use Rattle.std.proofs.lemmas.Bool.{false≢true}
 use Rattle.std.proofs.lemmas.Bool.Decides.{nat_tests}
 use Rattle.decimal_input.proofs.Powers.{num_scaled, ten_pos}
-use Rattle.problem_hull.specs.Threes.AllThree.{none, next}
-use Rattle.deck_span.specs.Numbers.{IsFractionBetween, IsRatioBetween, IsDecBetween}
-use Rattle.deck_span.specs.Steps.{IsFlowBetween, IsFixedBetween, IsRiverBetween, IsDrainBetween, IsEvapBetween, IsCellBetween, IsStepBetween}
-use Rattle.deck_span.specs.Models.{IsGivenBetween, IsPeriodBetween, IsBetween, frame, period_frame}
-use Rattle.problem_hull.proofs.Threes.{three_at}
 use Rattle.deck_span.proofs.ThreeLists.{OptionThree, three_map}
 use Rattle.deck_span.proofs.ThreeLists.OptionThree.{nothing, something}
 use Rattle.deck_span.proofs.Monotone.{number_itself, size_itself, number_image, size_image, times_keeps, plus_keeps, rate_keeps}

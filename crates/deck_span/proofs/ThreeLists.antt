@@ -1,12 +1,7 @@
 -- Three lists that are related place by place.
-use Rattle.std.proofs.Common.{◌≡◌, ℕ, zero, suc, Bool, true, false, cond, Option, Some, None, List, [], ◌∷◌, ◌++◌, map, take, reverse, refl}
-use Rattle.std.specs.Prelude.{is_some}
+use Rattle.deck_span.proofs.Common.{◌≡◌, ℕ, zero, suc, Bool, true, false, cond, Option, Some, None, List, [], ◌∷◌, ◌++◌, map, take, reverse, refl, is_some}
+use Rattle.deck_span.proofs.Common.{filter, filter_map, cons_option, flat_map, find, reverse-append, three_append, AllThree, none, next}
 use Rattle.std.specs.Option.{option_to_list}
-use Rattle.std.specs.List.{filter, filter_map, cons_option, flat_map, find}
-use Rattle.std.proofs.lemmas.List.{reverse-append}
-use Rattle.problem_hull.proofs.Threes.{three_append}
-use Rattle.problem_hull.specs.Threes.{AllThree}
-use Rattle.problem_hull.specs.Threes.AllThree.{none, next}
 
 -- optional items: all three, or none
 pub data OptionThree {X Y Z : Type 0} (R : X → Y → Z → Type 0) : Option X → Option Y → Option Z → Type 0 where

@@ -1,22 +1,15 @@
 -- The first line and LAYCBD leave lines that they were given.
-use Rattle.std.proofs.Common.{◌≡◌, ℕ, ◌-◌, ℤ, List, Result, Ok, All}
-use Rattle.std.specs.Prelude.{IfOk}
+use Rattle.dis_package.proofs.Common.{◌≡◌, ℕ, ◌-◌, ℤ, List, Result, Ok, All, IfOk, LineMay, LinesMay, line_at, Left, Numbered, repeated, chain, after}
+use Rattle.dis_package.proofs.Common.{line_held, leaves, repeated_held, head_of, Frame}
 use Rattle.outside.specs.Words.{words}
-use Rattle.record_lines.specs.Asking.{LineMay, LinesMay}
-use Rattle.record_lines.specs.Items.{line_at}
-use Rattle.record_lines.specs.Layout.{Left, Numbered}
-use Rattle.record_lines.specs.Reading.{repeated}
 use Rattle.record_lines.specs.Spread.{beginning}
-use Rattle.record_lines.proofs.Forward.{chain, after, line_held, leaves, repeated_held}
 use Rattle.array_reader.specs.Lists.{value_alone}
 use Rattle.array_reader.specs.Numbers.{integer}
 use Rattle.array_reader.proofs.Forward.{value_alone_held}
 use Rattle.package_items.specs.Items.{zero_at}
 use Rattle.package_items.proofs.Forward.{zero_held}
 use Rattle.dis_package.specs.Beds.{beds_of}
-use Rattle.dis_package.specs.Discretization.{head_of}
 use Rattle.dis_package.specs.Frames.{frame_of}
-use Rattle.dis_package.specs.declared.frame.Frame.{Frame}
 
 module _ (P : Numbered → Type 0) (file : List ℕ) where
   beds_held : (layers : ℕ) (left : Left) → All P left.lines → IfOk (beds_of file layers left) (λ x. All P x.1.lines)

@@ -1,3 +1,4 @@
+mod Common
 pub mod BedLemmas
 pub mod TimeLemmas
 pub mod ModelLemmas

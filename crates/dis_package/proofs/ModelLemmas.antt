@@ -1,18 +1,11 @@
 -- A discretization, one item behind the other.
-use Rattle.std.proofs.Common.{◌≡◌, refl, ℕ, ℤ, List, Ok, Err}
-use Rattle.outside.specs.Files.{File}
+use Rattle.dis_package.proofs.Common.{◌≡◌, refl, ℕ, ℤ, List, Ok, Err, File, Left, left_from, without_comments, Stops, StopsText, Period, grid_of, periods_of}
+use Rattle.dis_package.proofs.Common.{begun, head_of, dis_of, Frame}
 use Rattle.outside.specs.Refusals.{input_fault}
 use Rattle.outside.specs.declared.refusals.TextFault.{TextFault}
 use Rattle.outside.specs.declared.refusals.TextFault.TheVariants.{Refused, Memory}
-use Rattle.record_lines.specs.Layout.{Left, left_from, without_comments}
-use Rattle.record_lines.specs.Reading.{Stops, StopsText}
 use Rattle.model_types.specs.declared.grid.Grid.{Grid}
 use Rattle.model_types.specs.declared.model.FlowModel.{FlowModel}
-use Rattle.model_types.specs.declared.period.Period.{Period}
-use Rattle.dis_package.specs.Grids.{grid_of}
-use Rattle.dis_package.specs.Times.{periods_of}
-use Rattle.dis_package.specs.Discretization.{begun, head_of, dis_of}
-use Rattle.dis_package.specs.declared.frame.Frame.{Frame}
 
 pub dis_read : (files : List File) (file bytes : List ℕ) (left : Left) (head : (Frame × List ℤ) × Left) (grid : Grid × Left) (periods : List Period) (m : FlowModel)
     → left ≡ without_comments (left_from 1 bytes)

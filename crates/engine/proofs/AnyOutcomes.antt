@@ -1,29 +1,14 @@
 -- The public clauses of a run of any command, from all that it comes to.
-use Rattle.std.proofs.Common.{◌≡◌, ℕ, List, Option, Some, None, refl, subst, sym, ◌∙◌, inl, inr, ◌⊎◌}
-use Rattle.std.specs.Prelude.{MatchOption}
-use Rattle.outside.specs.Files.{File}
-use Rattle.outside.specs.Counts.{Rose}
-use Rattle.outside.specs.Puts.{Put, Seen, PutsMake}
-use Rattle.run_puts.specs.Lines.{Text}
-use Rattle.run_puts.specs.declared.status.Status.{Status}
-use Rattle.run_puts.specs.declared.status.Status.TheVariants as status
-use Rattle.engine.specs.Batched.{Batched, HasNoList}
-use Rattle.engine.specs.Batches.{AskedBatch, batch_asked}
-use Rattle.engine.specs.BatchRuns.{AnyAnswers, AnyComes, AnyDecided, AnyPuts, BatchAnswers, BatchComes, BatchDecided, BatchPuts}
-use Rattle.engine.specs.Cases.{AskedCheck, Case, Check, Command, IsCase, Make, asked_in}
-use Rattle.engine.specs.Certified.{Certified}
-use Rattle.engine.specs.Decks.{OneDeck}
-use Rattle.engine.specs.Headline.{Headline}
-use Rattle.engine.specs.Made.{Made}
-use Rattle.engine.specs.OneListing.{OneListing, OneSummary, OneVerdict}
-use Rattle.engine.specs.Parts.{Answers, AnswersBeside, IsStopped}
-use Rattle.engine.specs.Runs.{Comes, Decided, IsLeft, Puts}
-use Rattle.engine.specs.Watched.{Watched, views_in}
+use Rattle.engine.proofs.Common.{◌≡◌, ℕ, List, Option, Some, None, refl, subst, sym, ◌∙◌, inl, inr, ◌⊎◌, MatchOption, File, Rose, Put, Seen, PutsMake, Text}
+use Rattle.engine.proofs.Common.{Status, Batched, HasNoList, AskedBatch, batch_asked, AnyAnswers, AnyComes, AnyDecided, AnyPuts, BatchAnswers, BatchComes}
+use Rattle.engine.proofs.Common.{BatchDecided, BatchPuts, AskedCheck, Case, Check, Command, IsCase, Make, asked_in, Certified, OneDeck, Headline, Made}
+use Rattle.engine.proofs.Common.{OneListing, OneSummary, OneVerdict, Answers, AnswersBeside, IsStopped, Comes, Decided, IsLeft, Puts, Watched, views_in}
 use Rattle.engine.proofs.BatchEnds.{other_none}
 use Rattle.engine.proofs.BatchOutcomes.{batch_complete, batch_decided, batch_put_rose, batch_read_rose, batched}
 use Rattle.engine.proofs.Certifying.{not_stopped}
 use Rattle.engine.proofs.Beside.{beside_both, beside_certified, beside_complete, beside_decided, beside_made, beside_put_rose, beside_read_rose, takes_known, viewless, wider_batch, wider_batch_comes}
 use Rattle.engine.proofs.Outcomes.{Laws, first_of, second_of}
+use Rattle.run_puts.specs.declared.status.Status.TheVariants as status
 
 module _ (words : List Text) (files : Option (List File)) (n m : ℕ) (S : Type 0) (L : List Put → Type 0) (end : Status) (puts : List Put) where
   abbrev AnswersBy : Option AskedBatch → Type 0

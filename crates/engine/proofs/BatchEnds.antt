@@ -1,41 +1,17 @@
 -- The ends of a batch, by its reading and its jobs.
-use Rattle.std.proofs.Common.{◌≡◌, ℕ, zero, suc, ◌<◌, get_or, arith, ◌++◌, List, [], ◌∷◌, Ok, Err, Result, Option, None, Some, IfOk, subst, sym, ap, refl, inl, inr, ◌∙◌, codes, option_and_then}
-use Rattle.std.specs.Prelude.{All, IfSome, MatchOption, length, slice_get}
-use Rattle.std.specs.List.{AllZip}
-use Rattle.std.proofs.lemmas.List.{append-nil}
-use Rattle.std.proofs.lemmas.List.Elements.{All-get_or, All-weaker}
-use Rattle.outside.specs.Files.{File}
-use Rattle.outside.specs.Counts.{Rose, InputCounts}
-use Rattle.outside.specs.Inputs.{file_refusal}
-use Rattle.outside.specs.Puts.{Put}
-use Rattle.outside.specs.declared.codes.Code.TheVariants.{BadName}
-use Rattle.outside.specs.declared.refusals.InputFault.{InputFault}
-use Rattle.outside.specs.declared.refusals.InputFault.TheVariants as input
-use Rattle.outside.specs.declared.refusals.Refusal.{Refusal}
-use Rattle.command_line.specs.Wants.{Wanted, Lists, Checks, Makes, Batches, Writes, wanted_of}
-use Rattle.model_types.specs.Valid.{IsModel}
-use Rattle.listing_io.specs.LastLines.{refused_line}
-use Rattle.run_puts.specs.Lines.{Text, read_fault_line}
-use Rattle.run_puts.specs.Ends.{IsEnd, IsLast, IsWanting}
-use Rattle.run_puts.specs.Runs.{IsRun, NeverCut}
-use Rattle.run_puts.specs.declared.status.Status.{Status}
-use Rattle.run_puts.specs.declared.status.Status.TheVariants as status
-use Rattle.run_puts.proofs.Pieces.{lone, lacks_at_first, weaker}
+use Rattle.engine.proofs.Common.{◌≡◌, ℕ, zero, suc, ◌<◌, get_or, arith, ◌++◌, List, [], ◌∷◌, Ok, Err, Result, Option, None, Some, IfOk, subst, sym, ap, refl}
+use Rattle.engine.proofs.Common.{inl, inr, ◌∙◌, codes, option_and_then, All, MatchOption, slice_get, AllZip, append-nil, All-get_or, All-weaker, File, Rose}
+use Rattle.engine.proofs.Common.{InputCounts, file_refusal, Put, BadName, InputFault, Refusal, Wanted, Lists, Checks, Makes, Batches, Writes, wanted_of}
+use Rattle.engine.proofs.Common.{IsModel, refused_line, Text, read_fault_line, IsEnd, IsLast, IsWanting, IsRun, NeverCut, Status, lone, lacks_at_first, weaker}
+use Rattle.engine.proofs.Common.{JobEnd, ends_of_jobs, IsBatch, IsTask, wanting_not_ok, Task, Job, AskedBatch, BatchCase, Jobs, NoList, IsBatchCase, IsJobEnd}
+use Rattle.engine.proofs.Common.{IsRunText, batch_asked, batch_case_of, batch_of, job_case, model_line, AreTasks, IsFaultOf, AnyAnswers, AreValid, BatchAnswers}
+use Rattle.engine.proofs.Common.{BatchDue, IsValidJob, defined, unread, Refuses, asked_in, built, AnswersBeside, IsReadingEnd, IsStopped}
+use Rattle.std.specs.Prelude.{IfSome, length}
 use Rattle.batch_book.specs.Ends.{AreJobEnds}
-use Rattle.batch_puts.specs.declared.job_end.JobEnd.{JobEnd}
-use Rattle.batch_puts.proofs.Batches.{ends_of_jobs}
-use Rattle.batch_puts.specs.Batches.{IsBatch}
-use Rattle.listing_run.specs.Ends.{IsTask}
-use Rattle.listing_run.proofs.Stopping.{wanting_not_ok}
-use Rattle.listing_run.specs.declared.task.Task.{Task}
-use Rattle.engine.specs.declared.job.Job.{Job}
-use Rattle.engine.specs.Batches.{AskedBatch, BatchCase, Jobs, NoList, IsBatchCase, IsJobEnd, IsRunText, batch_asked, batch_case_of, batch_of, job_case, model_line}
-use Rattle.engine.specs.BatchReads.{AreTasks, IsFaultOf}
-use Rattle.engine.specs.BatchRuns.{AnyAnswers, AreValid, BatchAnswers, BatchDue, IsValidJob, defined, unread}
-use Rattle.engine.specs.Cases.{Refuses, asked_in, built}
-use Rattle.engine.specs.Parts.{AnswersBeside, IsReadingEnd, IsStopped}
 use Rattle.engine.proofs.Beside.{not_ok}
 use Rattle.engine.proofs.Ends.{ends_without_words, read_stops, wanting_stops}
+use Rattle.outside.specs.declared.refusals.InputFault.TheVariants as input
+use Rattle.run_puts.specs.declared.status.Status.TheVariants as status
 
 -- words that ask for a batch ask for no other command
 pub other_none : (words : List Text) (b : AskedBatch) → batch_asked words ≡ Some b → asked_in words ≡ None

@@ -1,37 +1,16 @@
 -- The public clauses of a batch, from all that it comes to.
-use Rattle.std.proofs.Common.{◌≡◌, ℕ, List, [], ◌∷◌, ◌++◌, Some, IfOk, Result, Ok, Err, map, subst, sym, ◌∙◌, ap, refl, inl, inr, ◌⊎◌}
-use Rattle.std.specs.Prelude.{All}
-use Rattle.std.proofs.lemmas.List.Elements.{All-head, All-tail}
-use Rattle.std.specs.List.{AllZip, concat}
-use Rattle.outside.specs.Files.{File}
-use Rattle.outside.specs.Counts.{Rose}
-use Rattle.outside.specs.Puts.{Put, Seen, PutsMake, taken}
-use Rattle.outside.specs.declared.refusals.Refusal.{Refusal}
-use Rattle.model_types.specs.declared.model.FlowModel.{FlowModel}
-use Rattle.model_types.specs.Valid.{IsModel}
-use Rattle.model_reader.specs.Model.{reads}
-use Rattle.run_puts.specs.Lines.{Text, end_line}
-use Rattle.run_puts.specs.Runs.{whole, early, NeverCut}
-use Rattle.run_puts.specs.Agreement.{Agree, IsUnfinished}
-use Rattle.run_puts.specs.declared.status.Status.{Status}
-use Rattle.run_puts.specs.declared.status.Status.TheVariants as status
-use Rattle.run_puts.proofs.Pieces.{IsLate, tail_late, late_not_read}
-use Rattle.run_puts.proofs.Makes.{all_written, write_rose}
-use Rattle.listing_run.specs.declared.task.Task.{Task}
-use Rattle.listing_run.specs.Listing.{IsListing}
-use Rattle.listing_run.proofs.Wholes.{IsWhole, whole_listing}
-use Rattle.exact_histories.proofs.WholeRuns.{history_exists, history_is_one}
-use Rattle.batch_puts.specs.declared.job_end.JobEnd.{JobEnd}
+use Rattle.engine.proofs.Common.{◌≡◌, ℕ, List, [], ◌∷◌, ◌++◌, Some, IfOk, Result, Ok, Err, map, subst, sym, ◌∙◌, ap, refl, inl, inr, ◌⊎◌, All, All-head}
+use Rattle.engine.proofs.Common.{All-tail, AllZip, concat, File, Rose, Put, Seen, PutsMake, taken, Refusal, FlowModel, IsModel, reads, Text, end_line, whole}
+use Rattle.engine.proofs.Common.{early, NeverCut, Agree, IsUnfinished, Status, IsLate, tail_late, late_not_read, all_written, write_rose, Task, IsListing}
+use Rattle.engine.proofs.Common.{IsWhole, whole_listing, history_exists, history_is_one, JobEnd, batch_settles, batches_agree, Job, Batched, HasEnded}
+use Rattle.engine.proofs.Common.{HasNoList, IsJobListing, AskedBatch, BatchCase, BatchDefines, IsJobEnd, IsRunText, Jobs, NoList, batch_asked, batch_case}
+use Rattle.engine.proofs.Common.{job_case, job_of, job_task, model_line, names_read, task_read, AreValid, BatchAnswers, BatchComes, BatchDecided, BatchDue}
+use Rattle.engine.proofs.Common.{HasJob, IsBatchRun, IsValidJob, defined, unread, IsStopped}
 use Rattle.batch_puts.specs.Ended.{first_not_ok, or_else, texts}
-use Rattle.batch_puts.proofs.Batches.{batch_settles, batches_agree}
-use Rattle.engine.specs.declared.job.Job.{Job}
-use Rattle.engine.specs.Batched.{Batched, HasEnded, HasNoList, IsJobListing}
-use Rattle.engine.specs.Batches.{AskedBatch, BatchCase, BatchDefines, IsJobEnd, IsRunText, Jobs, NoList, batch_asked, batch_case, job_case, job_of, job_task, model_line, names_read, task_read}
-use Rattle.engine.specs.BatchRuns.{AreValid, BatchAnswers, BatchComes, BatchDecided, BatchDue, HasJob, IsBatchRun, IsValidJob, defined, unread}
-use Rattle.engine.specs.Parts.{IsStopped}
 use Rattle.engine.proofs.Certifying.{IsFault, not_stopped, stopped_by_fault}
 use Rattle.engine.proofs.Ends.{late_stops}
 use Rattle.engine.proofs.Outcomes.{Laws, agree, goes_through, never_stopped, weighed}
+use Rattle.run_puts.specs.declared.status.Status.TheVariants as status
 
 -- no job ends with a status that stops a run
 job_not_stopped : (read : Result Task Refusal) (before : Text) (e : JobEnd) → IsRunText (job_case read) before e → IsStopped e.status → ⊥

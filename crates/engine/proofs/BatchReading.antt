@@ -1,31 +1,13 @@
 -- The jobs of a batch, name by name, and what the reading of its list gives.
-use Rattle.std.proofs.Common.{◌≡◌, ℕ, ◌+◌, ◌<◌, ◌≤◌, List, [], ◌∷◌, ◌++◌, length, take, get_or, Result, Ok, Err, Option, Some, None, IfOk, IfSome, subst, sym, ap, refl, ◌∙◌}
+use Rattle.engine.proofs.Common.{◌≡◌, ℕ, ◌+◌, ◌<◌, ◌≤◌, List, [], ◌∷◌, ◌++◌, length, take, get_or, Result, Ok, Err, Option, Some, None, IfOk, IfSome, subst}
+use Rattle.engine.proofs.Common.{sym, ap, refl, ◌∙◌, map-append, take_more, take_all, All-push, File, InputFault, Refusal, IsReading, file_at, IsGoodName}
+use Rattle.engine.proofs.Common.{input_fault, TextFault, names_in, StopsText, FlowModel, IsModel, reads, Text, IsTask, Task, Job, AskedBatch, IsSomeJob, job_of}
+use Rattle.engine.proofs.Common.{names_at, task_read, IsNamedFault, AreJobsRead, AreTasks, HasNames, IsJobRead}
 use Rattle.std.specs.declared.vec.Vec.{Vec}
 use Rattle.std.specs.declared.alloc.Global.{Global}
-use Rattle.std.proofs.lemmas.List.{map-append, take_more, take_all}
-use Rattle.std.proofs.lemmas.List.Elements.{All-push}
-use Rattle.outside.specs.Files.{File}
-use Rattle.outside.specs.declared.refusals.InputFault.{InputFault}
-use Rattle.outside.specs.declared.refusals.InputFault.TheVariants as input
-use Rattle.outside.specs.declared.refusals.Refusal.{Refusal}
-use Rattle.outside.specs.Inputs.{IsReading, file_at}
-use Rattle.outside.specs.Names.{IsGoodName}
-use Rattle.outside.specs.Refusals.{input_fault}
-use Rattle.outside.specs.declared.refusals.TextFault.{TextFault}
-use Rattle.outside.specs.declared.refusals.TextFault.TheVariants as texts
-use Rattle.batch_list.specs.Names.{names_in}
-use Rattle.record_lines.specs.Reading.{StopsText}
-use Rattle.model_types.specs.declared.model.FlowModel.{FlowModel}
-use Rattle.model_types.specs.Valid.{IsModel}
-use Rattle.model_reader.specs.Model.{reads}
-use Rattle.run_puts.specs.Lines.{Text}
-use Rattle.listing_run.specs.Ends.{IsTask}
-use Rattle.listing_run.specs.declared.task.Task.{Task}
-use Rattle.engine.specs.declared.job.Job.{Job}
-use Rattle.engine.specs.Batches.{AskedBatch, IsSomeJob, job_of, names_at, task_read}
-use Rattle.engine.specs.Parts.{IsNamedFault}
 use Rattle.engine.proofs.Readings.{bad_named, good_named}
-use Rattle.engine.specs.BatchReads.{AreJobsRead, AreTasks, HasNames, IsJobRead}
+use Rattle.outside.specs.declared.refusals.InputFault.TheVariants as input
+use Rattle.outside.specs.declared.refusals.TextFault.TheVariants as texts
 
 abbrev made_job : Text → Result Task Refusal → Job
 made_job name read = record { name = name; read = read }

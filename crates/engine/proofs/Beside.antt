@@ -1,33 +1,14 @@
 -- The public clauses of a run beside which a side sink is led.
-use Rattle.std.proofs.Common.{◌≡◌, ℕ, List, [], ◌∷◌, ◌++◌, Option, Some, None, IfSome, ap, sym, subst, refl, ◌∙◌, inl, inr, ◌⊎◌, option_and_then}
-use Rattle.outside.specs.Counts.{Rose}
-use Rattle.outside.specs.Files.{File}
-use Rattle.outside.specs.Puts.{Put, PutsMake, Seen}
-use Rattle.outside.specs.declared.refusals.InputFault.{InputFault}
-use Rattle.outside.specs.declared.refusals.InputFault.TheVariants as input
-use Rattle.command_line.specs.Wants.{Batches, Checks, Lists, Makes, Wanted, Writes, wanted_of}
-use Rattle.model_types.specs.Valid.{IsModel}
-use Rattle.run_puts.specs.Ends.{IsLast}
-use Rattle.run_puts.specs.Lines.{Text, read_fault_line}
-use Rattle.run_puts.specs.Runs.{Begins, IsRun, all_due, cut, early, nothing, whole}
-use Rattle.run_puts.specs.declared.status.Status.{Status}
-use Rattle.run_puts.specs.declared.status.Status.TheVariants as status
-use Rattle.run_puts.proofs.Pieces.{late_not_ok, tail_late}
-use Rattle.listing_run.specs.declared.task.Task.{Task}
-use Rattle.listing_run.specs.Listing.{IsCutListing, IsListing, IsListingBeside, left, listed}
-use Rattle.listing_run.proofs.Stopping.{wanting_not_ok}
+use Rattle.engine.proofs.Common.{◌≡◌, ℕ, List, [], ◌∷◌, ◌++◌, Option, Some, None, IfSome, ap, sym, subst, refl, ◌∙◌, inl, inr, ◌⊎◌, option_and_then, Rose, File}
+use Rattle.engine.proofs.Common.{Put, PutsMake, Seen, InputFault, Batches, Checks, Lists, Makes, Wanted, Writes, wanted_of, IsModel, IsLast, Text}
+use Rattle.engine.proofs.Common.{read_fault_line, Begins, IsRun, all_due, cut, early, nothing, whole, Status, late_not_ok, tail_late, Task, IsCutListing}
+use Rattle.engine.proofs.Common.{IsListing, IsListingBeside, left, listed, wanting_not_ok, AskedBatch, views_of, BatchComes, BatchDecided, Asked, AskedCheck}
+use Rattle.engine.proofs.Common.{Case, Check, Command, IsCase, Listing, Make, Run, Write, asked_in, built, Certified, Made, OneVerdict, Answers, AnswersBeside}
+use Rattle.engine.proofs.Common.{IsReadingEnd, Comes, Decided, IsLeft, IsWatched, SidePuts, ViewPutsOf, Watched, views_asked, views_in}
 use Rattle.engine.specs.declared.asked.Command.{Command as CommandBy}
-use Rattle.engine.specs.Batches.{AskedBatch}
-use Rattle.engine.specs.Commands.{views_of}
-use Rattle.engine.specs.BatchRuns.{BatchComes, BatchDecided}
-use Rattle.engine.specs.Cases.{Asked, AskedCheck, Case, Check, Command, IsCase, Listing, Make, Run, Write, asked_in, built}
-use Rattle.engine.specs.Certified.{Certified}
-use Rattle.engine.specs.Made.{Made}
-use Rattle.engine.specs.OneListing.{OneVerdict}
-use Rattle.engine.specs.Parts.{Answers, AnswersBeside, IsReadingEnd}
-use Rattle.engine.specs.Runs.{Comes, Decided, IsLeft}
-use Rattle.engine.specs.Watched.{IsWatched, SidePuts, ViewPutsOf, Watched, views_asked, views_in}
 use Rattle.engine.proofs.Outcomes.{Both, Laws, both, certified, complete, decided, made, put_rose, read_rose}
+use Rattle.outside.specs.declared.refusals.InputFault.TheVariants as input
+use Rattle.run_puts.specs.declared.status.Status.TheVariants as status
 
 -- nothing was put to the side
 pub quiet : (leads : List Put → Type 0) (words : List Text) (files : List File) (views : Option ℕ) → leads [] → SidePuts leads words files views

@@ -1,27 +1,13 @@
 -- What a check that ended Ok says, and that a check has one end.
-use Rattle.std.proofs.Common.{◌≡◌, ◌⊎◌, ℕ, List, [], ◌∷◌, Option, Some, None, Result, Ok, Err, map, subst, sym, ap, refl, inl, inr, ◌∙◌}
-use Rattle.outside.specs.Files.{File}
-use Rattle.outside.specs.Puts.{Put, Seen, PutsMake, taken}
-use Rattle.outside.specs.declared.refusals.Refusal.{Refusal}
-use Rattle.model_types.specs.declared.model.FlowModel.{FlowModel}
-use Rattle.model_types.specs.Valid.{IsModel}
-use Rattle.model_reader.specs.Model.{reads}
-use Rattle.engine.specs.declared.zoned.ZonedListing.{ZonedListing}
-use Rattle.run_puts.specs.Lines.{Text}
-use Rattle.run_puts.specs.declared.status.Status.{Status}
-use Rattle.run_puts.specs.declared.status.Status.TheVariants as status
-use Rattle.run_puts.proofs.Makes.{all_written}
-use Rattle.check_run.specs.declared.verdict.ListingVerdict.{ListingVerdict}
-use Rattle.check_run.specs.declared.verdict.ListingVerdict.TheVariants.{Certified as Holds, Fails, Refused as Unbounded}
-use Rattle.check_run.specs.Laws.{VerdictIsOne}
-use Rattle.check_run.specs.Verdicts.{IsVerdict}
-use Rattle.engine.specs.Cases.{Asked, AskedCheck, Case, Command, Run, Make, Check, Write, NoWords, Refuses, Listing, Making, Checking, Writing, asked_in, case_asked, case_checked, case_listed, case_of, case_read, case_written, case_zoned, listing_read, made_model, named, steps_read, task_of, zones_read}
-use Rattle.engine.specs.Certified.{Certified}
-use Rattle.engine.specs.Checked.{IsCheck, certified_line, verdict_line, verdict_status}
-use Rattle.engine.specs.Defined.{Defines}
-use Rattle.engine.specs.OneListing.{OneVerdict}
-use Rattle.engine.specs.Parts.{IsListed, IsStopped, IsValid}
+use Rattle.engine.proofs.Common.{◌≡◌, ◌⊎◌, ℕ, List, [], ◌∷◌, Option, Some, None, Result, Ok, Err, map, subst, sym, ap, refl, inl, inr, ◌∙◌, File, Put, Seen}
+use Rattle.engine.proofs.Common.{PutsMake, taken, Refusal, FlowModel, IsModel, reads, ZonedListing, Text, Status, all_written, ListingVerdict, Fails}
+use Rattle.engine.proofs.Common.{VerdictIsOne, IsVerdict, Asked, AskedCheck, Case, Command, Run, Make, Check, Write, NoWords, Refuses, Listing, Making}
+use Rattle.engine.proofs.Common.{Checking, Writing, asked_in, case_asked, case_checked, case_listed, case_of, case_read, case_written, case_zoned, listing_read}
+use Rattle.engine.proofs.Common.{made_model, named, steps_read, task_of, zones_read, Certified, IsCheck, certified_line, verdict_line, verdict_status, Defines}
+use Rattle.engine.proofs.Common.{OneVerdict, IsListed, IsStopped, IsValid}
+use Rattle.check_run.specs.declared.verdict.ListingVerdict.TheVariants.{Certified as Holds, Refused as Unbounded}
 use Rattle.engine.proofs.Readings.{named_read, zoned_parts}
+use Rattle.run_puts.specs.declared.status.Status.TheVariants as status
 
 -- a fault outside or lack of memory, which no words and files define
 abbrev pub IsFault : Status → Type 0

@@ -1,23 +1,10 @@
 -- The ends of the writing of a deck, by its reading.
-use Rattle.std.proofs.Common.{◌≡◌, ℕ, List, Ok, Err, Result, Option, None, Some, refl, sym, ap, subst, ◌∙◌}
-use Rattle.outside.specs.Counts.{InputCounts}
-use Rattle.outside.specs.Files.{File}
-use Rattle.outside.specs.Puts.{Put}
-use Rattle.outside.specs.declared.refusals.InputFault.{InputFault}
-use Rattle.outside.specs.declared.refusals.InputFault.TheVariants as input
-use Rattle.outside.specs.declared.refusals.Refusal.{Refusal}
-use Rattle.model_types.specs.declared.model.FlowModel.{FlowModel}
-use Rattle.model_types.specs.Valid.{IsModel}
-use Rattle.model_reader.specs.Model.{reads}
-use Rattle.run_puts.specs.Lines.{Text}
-use Rattle.run_puts.specs.Runs.{IsRun, NeverCut}
-use Rattle.run_puts.specs.declared.status.Status.{Status}
-use Rattle.engine.specs.declared.zoned.ZonedListing.{ZonedListing}
-use Rattle.engine.specs.Cases.{AskedCheck, Command, Write, Refuses, Writing, IsCase, asked_in, case_asked, case_written, listing_read, named, zones_read}
-use Rattle.engine.specs.Decks.{IsDeck}
-use Rattle.engine.specs.Parts.{Answers, IsReadAs, IsReadingEnd}
+use Rattle.engine.proofs.Common.{◌≡◌, ℕ, List, Ok, Err, Result, Option, None, Some, refl, sym, ap, subst, ◌∙◌, InputCounts, File, Put, InputFault, Refusal}
+use Rattle.engine.proofs.Common.{FlowModel, IsModel, reads, Text, IsRun, NeverCut, Status, ZonedListing, AskedCheck, Command, Write, Refuses, Writing, IsCase}
+use Rattle.engine.proofs.Common.{asked_in, case_asked, case_written, listing_read, named, zones_read, IsDeck, Answers, IsReadAs, IsReadingEnd}
 use Rattle.engine.proofs.Ends.{could_read, decked, ends_without_words, no_steps, refused, same_steps, same_zones, some_case, unreadable}
 use Rattle.engine.proofs.Readings.{no_zones}
+use Rattle.outside.specs.declared.refusals.InputFault.TheVariants as input
 
 module _ (words : List Text) (files : Option (List File)) (n m : ℕ) (name : Text) (wanted : asked_in words ≡ Some (Write name)) where
   deck_case : (read : Text → Result FlowModel Refusal) (zoned : Option Text → FlowModel → Result (Option (List ℕ)) Refusal) (listed : AskedCheck → FlowModel → Result ZonedListing Refusal) (r : Result FlowModel Refusal) → named name read ≡ r → case_written r ≡ case_asked (asked_in words) read zoned listed

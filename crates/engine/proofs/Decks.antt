@@ -1,25 +1,13 @@
 -- A deck that is written.
-use Rattle.std.proofs.Common.{◌≡◌, ℕ, List, [], ◌∷◌, Ok, Err, Result, Option, None, Some, map, refl, sym, ap, subst, inl, inr, ◌⊎◌, ◌∙◌}
-use Rattle.std.proofs.lemmas.List.{append-nil}
-use Rattle.std.specs.Io.KnownBytes.{Appends}
-use Rattle.outside.specs.Files.{File}
-use Rattle.outside.specs.Puts.{Put, Seen, PutsMake, taken}
-use Rattle.outside.specs.declared.refusals.Refusal.{Refusal}
-use Rattle.model_types.specs.declared.model.FlowModel.{FlowModel}
-use Rattle.model_types.specs.Valid.{IsModel}
-use Rattle.model_reader.specs.Model.{reads}
-use Rattle.model_text.specs.Decks.{deck_text}
+use Rattle.engine.proofs.Common.{◌≡◌, ℕ, List, [], ◌∷◌, Ok, Err, Result, Option, None, Some, map, refl, sym, ap, subst, inl, inr, ◌⊎◌, ◌∙◌, append-nil, Appends}
+use Rattle.engine.proofs.Common.{File, Put, Seen, PutsMake, taken, Refusal, FlowModel, IsModel, reads, deck_text, Text, Status, all_written, ZonedListing}
+use Rattle.engine.proofs.Common.{Asked, AskedCheck, Case, Command, Run, Make, Check, Write, NoWords, Refuses, Listing, Making, Checking, Writing, asked_in}
+use Rattle.engine.proofs.Common.{case_asked, case_checked, case_listed, case_of, case_read, case_written, case_zoned, listing_read, made_model, named, task_of}
+use Rattle.engine.proofs.Common.{zones_read, IsDeck, OneDeck, IsStopped, IsValid}
 use Rattle.model_forms.proofs.DeckForms.{deck_reads}
-use Rattle.run_puts.specs.Lines.{Text}
-use Rattle.run_puts.specs.declared.status.Status.{Status}
-use Rattle.run_puts.specs.declared.status.Status.TheVariants as status
-use Rattle.run_puts.proofs.Makes.{all_written}
-use Rattle.engine.specs.declared.zoned.ZonedListing.{ZonedListing}
-use Rattle.engine.specs.Cases.{Asked, AskedCheck, Case, Command, Run, Make, Check, Write, NoWords, Refuses, Listing, Making, Checking, Writing, asked_in, case_asked, case_checked, case_listed, case_of, case_read, case_written, case_zoned, listing_read, made_model, named, task_of, zones_read}
-use Rattle.engine.specs.Decks.{IsDeck, OneDeck}
-use Rattle.engine.specs.Parts.{IsStopped, IsValid}
 use Rattle.engine.proofs.Certifying.{IsFault, not_stopped}
 use Rattle.engine.proofs.Readings.{named_read}
+use Rattle.run_puts.specs.declared.status.Status.TheVariants as status
 
 pub deck_is_no_fault : (m : FlowModel) (end : Status) (pieces : List Text) → IsDeck m end pieces → IsFault end → ⊥
 deck_is_no_fault m end pieces d h = subst IsFault d.0 h

@@ -1,39 +1,18 @@
 -- The ends of a run, by its words, its reading and its listing.
-use Rattle.std.proofs.Common.{◌≡◌, ℕ, List, [], ◌∷◌, Ok, Err, Result, Option, None, Some, IfOk, subst, sym, ap, refl, inl, inr, ◌∙◌, codes, option_and_then, map, ℤ, unsigned_abs}
-use Rattle.outside.specs.Files.{File}
-use Rattle.outside.specs.Counts.{Rose, InputCounts}
-use Rattle.outside.specs.Inputs.{IsReading, file_refusal}
-use Rattle.outside.specs.Puts.{Put}
-use Rattle.outside.specs.declared.codes.Code.TheVariants.{BadName}
-use Rattle.outside.specs.declared.refusals.InputFault.{InputFault}
-use Rattle.outside.specs.declared.refusals.InputFault.TheVariants as input
-use Rattle.outside.specs.declared.refusals.Refusal.{Refusal}
+use Rattle.engine.proofs.Common.{◌≡◌, ℕ, List, [], ◌∷◌, Ok, Err, Result, Option, None, Some, IfOk, subst, sym, ap, refl, inl, inr, ◌∙◌, codes, option_and_then}
+use Rattle.engine.proofs.Common.{map, ℤ, unsigned_abs, File, Rose, InputCounts, IsReading, file_refusal, Put, BadName, InputFault, Refusal, Wanted, wanted_of}
+use Rattle.engine.proofs.Common.{FlowModel, IsModel, reads, ListedStep, AreListed, refused_line, Text, read_fault_line, IsEnd, IsLast, IsWanting, wanting}
+use Rattle.engine.proofs.Common.{memory_put, status_after, IsRun, NeverCut, Status, IsLate, tail_late, lone, lacks_at_first, weaker, Task, IsListing}
+use Rattle.engine.proofs.Common.{IsCutListing, AreZonesOf, ZonedListing, Asked, AskedCheck, Case, Command, Run, Make, Check, Write, NoWords, Refuses, Listing}
+use Rattle.engine.proofs.Common.{Making, Checking, Writing, IsCase, CouldList, CouldRead, asked_in, built, case_asked, case_checked, case_listed, case_of}
+use Rattle.engine.proofs.Common.{case_read, case_written, case_zoned, listing_read, made_model, named, task_of, zoned_steps, zones_named, zones_read, Due}
+use Rattle.engine.proofs.Common.{ReadsFolder, CutOf, IsMade, IsCheck, IsDeck, AreZonesAs, Answers, IsListed, IsMadeRun, IsReadAs, IsReadingEnd, IsStopped}
+use Rattle.engine.proofs.Common.{IsValid}
 use Rattle.command_line.specs.Usage.{usage_line}
-use Rattle.command_line.specs.Wants.{Wanted, wanted_of}
-use Rattle.model_types.specs.declared.model.FlowModel.{FlowModel}
-use Rattle.model_types.specs.Valid.{IsModel}
-use Rattle.model_reader.specs.Model.{reads}
-use Rattle.listing_io.specs.declared.listing.ListedStep.{ListedStep}
-use Rattle.listing_io.specs.Listed.{AreListed}
-use Rattle.listing_io.specs.LastLines.{refused_line}
-use Rattle.run_puts.specs.Lines.{Text, read_fault_line}
-use Rattle.run_puts.specs.Ends.{IsEnd, IsLast, IsWanting}
-use Rattle.run_puts.specs.Tails.{wanting, memory_put, status_after}
-use Rattle.run_puts.specs.Runs.{IsRun, NeverCut}
-use Rattle.run_puts.specs.declared.status.Status.{Status}
-use Rattle.run_puts.specs.declared.status.Status.TheVariants as status
-use Rattle.run_puts.proofs.Pieces.{IsLate, tail_late, lone, lacks_at_first, weaker}
-use Rattle.listing_run.specs.declared.task.Task.{Task}
-use Rattle.listing_run.specs.Listing.{IsListing, IsCutListing}
-use Rattle.zone_pairs.specs.Zones.{AreZonesOf}
-use Rattle.engine.specs.declared.zoned.ZonedListing.{ZonedListing}
-use Rattle.engine.specs.Cases.{Asked, AskedCheck, Case, Command, Run, Make, Check, Write, NoWords, Refuses, Listing, Making, Checking, Writing, IsCase, CouldList, CouldRead, asked_in, built, case_asked, case_checked, case_listed, case_of, case_read, case_written, case_zoned, listing_read, made_model, named, task_of, zoned_steps, zones_named, zones_read}
-use Rattle.engine.specs.Defined.{Due, ReadsFolder, defined, unread, CutOf}
-use Rattle.engine.specs.Made.{IsMade}
-use Rattle.engine.specs.Checked.{IsCheck}
-use Rattle.engine.specs.Decks.{IsDeck}
-use Rattle.engine.specs.Parts.{AreZonesAs, Answers, IsListed, IsMadeRun, IsReadAs, IsReadingEnd, IsStopped, IsValid}
+use Rattle.engine.specs.Defined.{defined, unread}
 use Rattle.engine.proofs.Readings.{named_read, no_zones}
+use Rattle.outside.specs.declared.refusals.InputFault.TheVariants as input
+use Rattle.run_puts.specs.declared.status.Status.TheVariants as status
 
 -- what an order asks for, the words ask for
 pub asked_by : (words : List Text) (wanted : Wanted) (asked : Option Command) → wanted_of words ≡ Some wanted → asked ≡ built wanted → asked_in words ≡ asked

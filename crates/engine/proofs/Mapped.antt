@@ -1,13 +1,6 @@
 -- What a settler did that shows heads to a viewer, said of the viewer.
-use Rattle.std.proofs.Common.{◌≡◌, ◌∙◌, ◌⊎◌, ℕ, List, [], ◌∷◌, Bool, true, Option, inl, inr, ap, sym, subst}
-use Rattle.outside.specs.declared.traits.SinkError.{SinkError}
-use Rattle.step_problem.specs.declared.heads.Bound.{Bound}
-use Rattle.step_problem.specs.Entries.{Entries}
-use Rattle.step_problem.specs.Heads.{Edges}
-use Rattle.model_types.specs.declared.time_steps.TimeStep.{TimeStep}
-use Rattle.model_types.specs.Times.{times}
-use Rattle.listing_run.specs.declared.task.Task.{Task}
-use Rattle.listing_run.specs.Settlers.{AllSettledBy, AreSettledBy, IsSettledBy, Reaches, ReachesFirst, RestsOrSettles, begun, rests, settled}
+use Rattle.engine.proofs.Common.{◌≡◌, ◌∙◌, ◌⊎◌, ℕ, List, [], ◌∷◌, Bool, true, Option, inl, inr, ap, sym, subst, SinkError, Bound, Entries, Edges, TimeStep}
+use Rattle.engine.proofs.Common.{times, Task, AllSettledBy, AreSettledBy, IsSettledBy, Reaches, ReachesFirst, RestsOrSettles, begun, rests, settled}
 
 module _ {S V : Type 0} (begins : S → ℕ → ℕ → S → Type 0) (leads : S → List Entries → Edges → Bool → S → Type 0) (stop : S → Option SinkError)
     (begins' : V → ℕ → ℕ → V → Type 0) (leads' : V → List Entries → Edges → Bool → V → Type 0) (stop' : V → Option SinkError)

@@ -1,15 +1,10 @@
 -- The files of a command are those that its words name.
-use Rattle.std.proofs.Common.{◌≡◌, ℕ, List, [], ◌∷◌, Option, Some, None, subst, option_and_then}
+use Rattle.engine.proofs.Common.{◌≡◌, ℕ, List, [], ◌∷◌, Option, Some, None, subst, option_and_then, All-head, All-tail, file_limit, folder_name, Wanted, Lists}
+use Rattle.engine.proofs.Common.{Checks, Makes, Batches, Writes, wanted_of, Text, AskedBatch, batch_of, batch_asked, Asked, AskedCheck, Run, Check, Write}
+use Rattle.engine.proofs.Common.{built, asked_in}
 use Rattle.std.specs.Prelude.{IfSome}
-use Rattle.std.proofs.lemmas.List.Elements.{All-head, All-tail}
 use Rattle.outside.specs.Asking.{WordsMay}
-use Rattle.outside.specs.Inputs.{file_limit}
-use Rattle.outside.specs.Names.{folder_name}
-use Rattle.command_line.specs.Wants.{Wanted, Lists, Checks, Makes, Batches, Writes, wanted_of}
-use Rattle.run_puts.specs.Lines.{Text}
 use Rattle.engine.specs.Asking.{files_of, files_if, files_named}
-use Rattle.engine.specs.Batches.{AskedBatch, batch_of, batch_asked}
-use Rattle.engine.specs.Cases.{Asked, AskedCheck, Run, Check, Write, built, asked_in}
 
 module _ (may : List ℕ → ℕ → Type 0) where
   abbrev May : List ℕ → Type 0

@@ -1,10 +1,6 @@
 -- What the number of a status says of it.
-use Rattle.std.proofs.Common.{◌≡◌, ap, inl, inr, refl}
-use Rattle.run_puts.specs.Statuses.{code_of}
-use Rattle.run_puts.specs.declared.status.Status.{Status}
+use Rattle.engine.proofs.Common.{◌≡◌, ap, inl, inr, refl, code_of, Status, IsStopped, IsStopNumber}
 use Rattle.run_puts.specs.declared.status.Status.TheVariants as status
-use Rattle.engine.specs.Parts.{IsStopped}
-use Rattle.engine.specs.Serving.{IsStopNumber}
 
 -- 0 is that of Ok alone
 pub ok_from_zero : (end : Status) → code_of end ≡ 0 → end ≡ status.Ok

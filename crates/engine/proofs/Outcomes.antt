@@ -1,50 +1,22 @@
 -- The public clauses, from all that a run comes to.
-use Rattle.std.proofs.Common.{◌≡◌, ℕ, List, [], ◌∷◌, Option, Some, None, IfSome, Result, Ok, Err, map, subst, sym, ◌∙◌, ap, refl, inl, inr, ◌⊎◌, codes}
-use Rattle.std.proofs.lemmas.List.{append-nil}
-use Rattle.std.specs.Io.KnownBytes.{Appends}
-use Rattle.outside.specs.Files.{File}
-use Rattle.outside.specs.Counts.{Rose}
-use Rattle.outside.specs.Inputs.{file_refusal}
-use Rattle.outside.specs.Puts.{Put, Seen, PutsMake, taken}
-use Rattle.outside.specs.declared.codes.Code.TheVariants.{BadName}
-use Rattle.outside.specs.declared.refusals.Refusal.{Refusal}
-use Rattle.step_problem.specs.declared.place.NoBound.{NoBound}
-use Rattle.model_types.specs.declared.model.FlowModel.{FlowModel}
-use Rattle.model_types.specs.declared.time_steps.TimeStep.{TimeStep}
-use Rattle.model_types.specs.Valid.{IsModel}
-use Rattle.model_reader.specs.Model.{reads}
-use Rattle.model_maker.specs.Files.{made_files, made_name}
-use Rattle.run_puts.specs.Lines.{Text, end_line}
-use Rattle.run_puts.specs.Runs.{whole, early}
-use Rattle.run_puts.specs.Agreement.{Agree, IsUnfinished}
-use Rattle.run_puts.specs.declared.status.Status.{Status}
-use Rattle.run_puts.specs.declared.status.Status.TheVariants as status
-use Rattle.run_puts.proofs.Pieces.{IsLate, tail_late, late_not_ok, late_not_read}
-use Rattle.run_puts.proofs.Makes.{all_written, write_rose}
-use Rattle.listing_run.specs.declared.task.Task.{Task}
-use Rattle.listing_run.specs.declared.step.Step.{Step}
-use Rattle.listing_run.specs.declared.listing_end.ListingEnd.{ListingEnd}
-use Rattle.listing_run.specs.declared.listing_end.ListingEnd.TheVariants as ends
-use Rattle.listing_run.specs.Steps.{AllSteps}
-use Rattle.listing_run.specs.Listing.{listing, status_of, IsListing}
+use Rattle.engine.proofs.Common.{◌≡◌, ℕ, List, [], ◌∷◌, Option, Some, None, IfSome, Result, Ok, Err, map, subst, sym, ◌∙◌, ap, refl, inl, inr, ◌⊎◌, codes}
+use Rattle.engine.proofs.Common.{append-nil, Appends, File, Rose, file_refusal, Put, Seen, PutsMake, taken, BadName, Refusal, NoBound, FlowModel, TimeStep}
+use Rattle.engine.proofs.Common.{IsModel, reads, made_files, made_name, Text, end_line, whole, early, Agree, IsUnfinished, Status, IsLate, tail_late}
+use Rattle.engine.proofs.Common.{late_not_ok, late_not_read, all_written, write_rose, Task, Step, ListingEnd, AllSteps, listing, status_of, IsListing, IsWhole}
+use Rattle.engine.proofs.Common.{is_whole, whole_listing, history_exists, history_is_one, VerdictIsOne, Asked, AskedCheck, Case, Command, Run, Make, Check}
+use Rattle.engine.proofs.Common.{Write, NoWords, Refuses, Listing, Making, Checking, Writing, IsCase, asked_in, case_asked, case_of, case_read, case_zoned}
+use Rattle.engine.proofs.Common.{listing_read, made_model, named, task_of, zoned_steps, zones_named, zones_read, Certified, IsDeck, OneDeck, CutOf, Defines}
+use Rattle.engine.proofs.Common.{Due, Headline, IsSummed, Made, made_task, summed_text, OneListing, OneSummary, OneVerdict, Decided, Comes, HasCertified}
+use Rattle.engine.proofs.Common.{HasDeck, HasListing, HasTask, IsRunOf, Answers, IsStopped, IsValid}
 use Rattle.listing_run.specs.Laws.{ListingIsOne, ListingExcludesRefusal, RefusalIsOne}
-use Rattle.listing_run.proofs.Wholes.{IsWhole, is_whole, whole_listing}
 use Rattle.listing_summary.specs.Summaries.{summary_of}
 use Rattle.listing_summary.specs.Texts.{summary_text}
-use Rattle.exact_histories.proofs.WholeRuns.{history_exists, history_is_one}
-use Rattle.check_run.specs.Laws.{VerdictIsOne}
-use Rattle.engine.specs.Cases.{Asked, AskedCheck, Case, Command, Run, Make, Check, Write, NoWords, Refuses, Listing, Making, Checking, Writing, IsCase, asked_in, case_asked, case_of, case_read, case_zoned, listing_read, made_model, named, task_of, zoned_steps, zones_named, zones_read}
-use Rattle.engine.specs.Certified.{Certified}
-use Rattle.engine.specs.Decks.{IsDeck, OneDeck}
-use Rattle.engine.specs.Defined.{CutOf, Defines, Due, defined, unread}
-use Rattle.engine.specs.Headline.{Headline}
-use Rattle.engine.specs.Made.{IsSummed, Made, made_task, summed_text}
-use Rattle.engine.specs.OneListing.{OneListing, OneSummary, OneVerdict}
-use Rattle.engine.specs.Runs.{Decided, Comes, HasCertified, HasDeck, HasListing, HasTask, IsRunOf}
-use Rattle.engine.specs.Parts.{Answers, IsStopped, IsValid}
+use Rattle.engine.specs.Defined.{defined, unread}
 use Rattle.engine.proofs.Certifying.{IsFault, asks_check, certifies, check_is_no_fault, checked_case, never_stopped_check, not_stopped, of_check, one_end, stopped_by_fault, written_case}
 use Rattle.engine.proofs.Decks.{deck_is_no_fault, deck_told, of_written, only_deck}
 use Rattle.engine.proofs.Readings.{named_read}
+use Rattle.run_puts.specs.declared.status.Status.TheVariants as status
+use Rattle.listing_run.specs.declared.listing_end.ListingEnd.TheVariants as ends
 
 -- the laws of listings and of verdicts
 pub record Laws : Type 0 where

@@ -1,32 +1,14 @@
 -- What a reading gives, by the name and the files of the folder.
-use Rattle.std.proofs.Common.{◌≡◌, ◌⊎◌, inl, inr, ℕ, ◌≤◌, All, Bool, true, false, IfSome, length, List, Option, None, Some, Result, Ok, Err, IfOk, sym, ap, refl, ◌∙◌, codes, if◌then◌else◌, map, subst, ℤ, unsigned_abs}
-use Rattle.std.proofs.lemmas.List.{length-map}
-use Rattle.outside.specs.Files.{File}
-use Rattle.outside.specs.Inputs.{IsReading, file_at, file_refusal}
-use Rattle.outside.specs.Refusals.{input_fault}
-use Rattle.outside.specs.declared.refusals.TextFault.{TextFault}
-use Rattle.outside.specs.declared.refusals.TextFault.TheVariants as texts
-use Rattle.outside.specs.Names.{IsGoodName, is_good_name}
-use Rattle.outside.specs.declared.codes.Code.TheVariants.{BadName}
-use Rattle.outside.specs.declared.refusals.InputFault.{InputFault}
-use Rattle.outside.specs.declared.refusals.InputFault.TheVariants as input
-use Rattle.outside.specs.declared.refusals.Refusal.{Refusal}
+use Rattle.engine.proofs.Common.{◌≡◌, ◌⊎◌, inl, inr, ℕ, ◌≤◌, Bool, true, false, IfSome, length, List, Option, None, Some, Result, Ok, Err, IfOk, sym, ap, refl}
+use Rattle.engine.proofs.Common.{◌∙◌, codes, if◌then◌else◌, map, subst, ℤ, unsigned_abs, length-map, File, IsReading, file_at, file_refusal, input_fault}
+use Rattle.engine.proofs.Common.{TextFault, IsGoodName, is_good_name, BadName, InputFault, Refusal, Has, Stops, StopsText, FlowModel, IsModel, reads, Text}
+use Rattle.engine.proofs.Common.{ListedStep, pairs_in, AreListed, listing_in, zones_of, AreZonesOf, ZonedListing, AskedCheck, CouldList, named, numbers_of}
+use Rattle.engine.proofs.Common.{steps_in, steps_read, with_zones, zoned_steps, zones_named, AreStepsAs, AreZonesAs, IsListedAs, IsNamedFault, IsReadAs}
+use Rattle.std.proofs.Common.{All}
 use Rattle.outside.proofs.NameTests.{is_taken, is_good}
-use Rattle.record_lines.specs.Reading.{Has, Stops, StopsText}
-use Rattle.model_types.specs.declared.model.FlowModel.{FlowModel}
 use Rattle.model_types.specs.Cells.{cell_count}
-use Rattle.model_types.specs.Valid.{IsModel}
-use Rattle.model_reader.specs.Model.{reads}
-use Rattle.run_puts.specs.Lines.{Text}
-use Rattle.listing_io.specs.declared.listing.ListedStep.{ListedStep}
-use Rattle.zone_pairs.specs.Pairs.{pairs_in}
-use Rattle.listing_io.specs.Listed.{AreListed}
-use Rattle.listing_io.specs.Reading.{listing_in}
-use Rattle.zone_file.specs.Zones.{zones_of}
-use Rattle.zone_pairs.specs.Zones.{AreZonesOf}
-use Rattle.engine.specs.declared.zoned.ZonedListing.{ZonedListing}
-use Rattle.engine.specs.Cases.{AskedCheck, CouldList, named, numbers_of, steps_in, steps_read, with_zones, zoned_steps, zones_named}
-use Rattle.engine.specs.Parts.{AreStepsAs, AreZonesAs, IsListedAs, IsNamedFault, IsReadAs}
+use Rattle.outside.specs.declared.refusals.TextFault.TheVariants as texts
+use Rattle.outside.specs.declared.refusals.InputFault.TheVariants as input
 
 not_good : (name : Text) → (IsGoodName name → ⊥) → is_good_name name ≡ false
 not_good name bad = by_test (is_good_name name) refl

@@ -1,19 +1,9 @@
 -- What a viewer that puts to a sink put in a run.
-use Rattle.std.proofs.Common.{◌≡◌, ◌∙◌, ◌⊎◌, ℕ, List, [], true, Option, None, Some, ap, refl}
-use Rattle.std.specs.Prelude.{is_some}
-use Rattle.outside.specs.Counts.{Rose}
-use Rattle.outside.specs.Puts.{Put, PutsMake, Seen}
-use Rattle.outside.specs.declared.traits.SinkError.{SinkError}
+use Rattle.engine.proofs.Common.{◌≡◌, ◌∙◌, ◌⊎◌, ℕ, List, [], true, Option, None, Some, ap, refl, is_some, Rose, Put, PutsMake, Seen, SinkError, Bound, Entries}
+use Rattle.engine.proofs.Common.{Edges, EnclosesPair, LeadOn, ViewPuts, no_lead, no_view, Task, AllSettledBy, ReachesFirst, IsWatched, Shows, ViewPutsOf}
+use Rattle.engine.proofs.Common.{lines_of}
 use Rattle.outside.specs.declared.traits.SinkError.TheVariants.{Write}
-use Rattle.step_problem.specs.declared.heads.Bound.{Bound}
-use Rattle.step_problem.specs.Entries.{Entries}
-use Rattle.step_problem.specs.Heads.{Edges}
-use Rattle.settle_driver.specs.Views.{EnclosesPair}
 use Rattle.view_puts.specs.declared.viewer.SinkViewer.{SinkViewer}
-use Rattle.view_puts.specs.Puts.{LeadOn, ViewPuts, no_lead, no_view}
-use Rattle.listing_run.specs.declared.task.Task.{Task}
-use Rattle.listing_run.specs.Settlers.{AllSettledBy, ReachesFirst}
-use Rattle.engine.specs.Watched.{IsWatched, Shows, ViewPutsOf, lines_of}
 use Rattle.engine.proofs.Mapped.{reached_first}
 use Rattle.engine.proofs.Viewed.{is_watched, side_puts, side_rose}
 

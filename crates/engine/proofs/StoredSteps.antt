@@ -1,17 +1,14 @@
 -- A step whose cells have storage has a floor and a ceiling.
-use Rattle.std.proofs.Common.{◌≡◌, ◌≢◌, ℕ, Bool, true, false, cond, List, [], ◌∷◌, Result, Ok, Err, Option, Some, None, inl, inr, sym, ap, subst, arith, ℤ, if◌then◌else◌}
+use Rattle.engine.proofs.Common.{◌≡◌, ◌≢◌, ℕ, Bool, true, false, cond, List, [], ◌∷◌, Result, Ok, Err, Option, Some, None, inl, inr, sym, ap, subst, arith, ℤ}
+use Rattle.engine.proofs.Common.{if◌then◌else◌, NoBound, Entries, lower_at, upper_at, no_heads, no_budget, no_zones}
 use Rattle.step_problem.specs.declared.place.Dir.{Dir}
 use Rattle.step_problem.specs.declared.place.Dir.TheVariants.{In, Out}
-use Rattle.step_problem.specs.declared.place.NoBound.{NoBound}
 use Rattle.step_problem.specs.declared.place.Term.{Term}
-use Rattle.step_problem.specs.Entries.{Entries}
-use Rattle.step_problem.specs.Heads.{lower_at, upper_at}
 use Rattle.barrier_vector.specs.Refusals.{IsRefused}
 use Rattle.barrier_vector.proofs.Sides.{stored_refusal}
 use Rattle.budget_bounds.specs.Terms.{◌>>=◌, all_terms, budget_of, is_small, term_of, term_pair, terms_of, too_large}
 use Rattle.problem_builder.specs.Refusals.{fault_of}
 use Rattle.step_chain.specs.declared.solved.Solved.{Solved}
-use Rattle.listing_run.specs.Steps.{no_heads, no_budget, no_zones}
 use Rattle.listing_run.specs.Zones.{HasLargeFlow}
 use Rattle.engine.specs.Storage.{IsStored, StorageHolds}
 

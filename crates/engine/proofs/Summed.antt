@@ -1,29 +1,13 @@
 -- The ends of the run of a made model.
-use Rattle.std.proofs.Common.{◌≡◌, ℕ, List, [], ◌∷◌, Ok, Err, Result, IfOk, Some, ap, subst, sym, refl, inl, inr}
-use Rattle.outside.specs.Files.{File}
-use Rattle.outside.specs.Inputs.{IsReading}
-use Rattle.outside.specs.Puts.{Put}
-use Rattle.outside.specs.declared.refusals.InputFault.{InputFault}
-use Rattle.outside.specs.declared.refusals.InputFault.TheVariants as input
-use Rattle.outside.specs.declared.refusals.Refusal.{Refusal}
-use Rattle.model_types.specs.declared.model.FlowModel.{FlowModel}
-use Rattle.model_types.specs.Valid.{IsModel}
-use Rattle.listing_io.specs.LastLines.{refused_line}
-use Rattle.run_puts.specs.Ends.{IsEnd, IsWanting}
-use Rattle.run_puts.specs.Lines.{Text}
-use Rattle.run_puts.specs.declared.status.Status.{Status}
-use Rattle.run_puts.specs.declared.status.Status.TheVariants as status
-use Rattle.run_puts.proofs.Pieces.{lone, lacks_at_first}
-use Rattle.listing_run.specs.declared.listing_end.ListingEnd.{ListingEnd}
-use Rattle.listing_run.specs.Listing.{last_line, listing, status_of}
+use Rattle.engine.proofs.Common.{◌≡◌, ℕ, List, [], ◌∷◌, Ok, Err, Result, IfOk, Some, ap, subst, sym, refl, inl, inr, File, IsReading, Put, InputFault, Refusal}
+use Rattle.engine.proofs.Common.{FlowModel, IsModel, refused_line, IsEnd, IsWanting, Text, Status, lone, lacks_at_first, ListingEnd, last_line, listing}
+use Rattle.engine.proofs.Common.{status_of, made_files, made_name, reads, made_model, named, IsMade, made_task, summed_text, IsMadeRun, IsReadAs, IsReadingEnd}
+use Rattle.engine.proofs.Common.{made_fault}
 use Rattle.listing_summary.specs.Ends.{IsSummarized}
 use Rattle.listing_summary.specs.declared.summary.Summary.{Summary}
-use Rattle.model_maker.specs.Files.{made_files, made_name}
-use Rattle.model_reader.specs.Model.{reads}
-use Rattle.engine.specs.Cases.{made_model, named}
-use Rattle.engine.specs.Made.{IsMade, made_task, summed_text}
-use Rattle.engine.specs.Parts.{IsMadeRun, IsReadAs, IsReadingEnd, made_fault}
 use Rattle.engine.proofs.Ends.{wanting_stops}
+use Rattle.outside.specs.declared.refusals.InputFault.TheVariants as input
+use Rattle.run_puts.specs.declared.status.Status.TheVariants as status
 
 module _ (seed size : ℕ) where
   abbrev DueHere : Status → List Text → Type 0

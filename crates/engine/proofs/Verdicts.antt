@@ -1,31 +1,14 @@
 -- The ends of a check, by its readings and its verdict.
-use Rattle.std.proofs.Common.{◌≡◌, ℕ, List, Ok, Err, Result, Option, None, Some, IfOk, refl, sym, ap, subst, ◌∙◌, map, unsigned_abs, ℤ}
-use Rattle.outside.specs.Counts.{InputCounts}
-use Rattle.outside.specs.Files.{File}
-use Rattle.outside.specs.Puts.{Put}
-use Rattle.outside.specs.declared.refusals.InputFault.{InputFault}
-use Rattle.outside.specs.declared.refusals.InputFault.TheVariants as input
-use Rattle.outside.specs.declared.refusals.Refusal.{Refusal}
-use Rattle.model_types.specs.declared.model.FlowModel.{FlowModel}
-use Rattle.model_types.specs.Valid.{IsModel}
-use Rattle.model_reader.specs.Model.{reads}
-use Rattle.listing_io.specs.declared.listing.ListedStep.{ListedStep}
-use Rattle.run_puts.specs.Ends.{IsEnd}
-use Rattle.run_puts.specs.Lines.{Text}
-use Rattle.run_puts.specs.Runs.{IsRun, NeverCut}
-use Rattle.run_puts.specs.declared.status.Status.{Status}
-use Rattle.run_puts.proofs.Pieces.{lone}
+use Rattle.engine.proofs.Common.{◌≡◌, ℕ, List, Ok, Err, Result, Option, None, Some, IfOk, refl, sym, ap, subst, ◌∙◌, map, unsigned_abs, ℤ, InputCounts, File}
+use Rattle.engine.proofs.Common.{Put, InputFault, Refusal, FlowModel, IsModel, reads, ListedStep, IsEnd, Text, IsRun, NeverCut, Status, lone, ListingVerdict}
+use Rattle.engine.proofs.Common.{IsVerdict, ListingEncloses, ZonedListing, AskedCheck, Command, Check, Refuses, Checking, IsCase, CouldList, CouldRead}
+use Rattle.engine.proofs.Common.{asked_in, case_asked, case_checked, case_listed, listing_read, named, zones_read, IsCheck, verdict_line, verdict_status}
+use Rattle.engine.proofs.Common.{Answers, IsListed, IsListedAs, IsReadAs, IsReadingEnd, AreZonesOf}
 use Rattle.exact_histories.specs.Histories.{HasOneHistory}
-use Rattle.check_run.specs.declared.verdict.ListingVerdict.{ListingVerdict}
 use Rattle.check_run.specs.declared.verdict.ListingVerdict.TheVariants.{Certified}
-use Rattle.check_run.specs.Verdicts.{IsVerdict, ListingEncloses}
-use Rattle.engine.specs.declared.zoned.ZonedListing.{ZonedListing}
-use Rattle.engine.specs.Cases.{AskedCheck, Command, Check, Refuses, Checking, IsCase, CouldList, CouldRead, asked_in, case_asked, case_checked, case_listed, listing_read, named, zones_read}
-use Rattle.engine.specs.Checked.{IsCheck, verdict_line, verdict_status}
-use Rattle.engine.specs.Parts.{Answers, IsListed, IsListedAs, IsReadAs, IsReadingEnd}
-use Rattle.zone_pairs.specs.Zones.{AreZonesOf}
 use Rattle.engine.proofs.Ends.{checked, could_read, ends_without_words, no_steps, of_each, of_model_read, refused, same_steps, same_zones, some_case, unreadable}
 use Rattle.engine.proofs.Readings.{named_read, no_zones}
+use Rattle.outside.specs.declared.refusals.InputFault.TheVariants as input
 
 module _ (m : FlowModel) (s : ℕ) (listing : ZonedListing) where
   pub puts_verdict : (v : ListingVerdict) (end : Status) (puts : List Put) → IsVerdict m s listing.zones listing.steps v → (v ≡ Certified → ListingEncloses m s listing.zones listing.steps) → (v ≡ Certified → HasOneHistory m) → IsEnd (verdict_line m.grid v) (verdict_status v) end puts → IsRun (IsCheck m s listing) NeverCut end puts

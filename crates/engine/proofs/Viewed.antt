@@ -1,32 +1,16 @@
 -- What a viewer put to its sink, by what it was told and shown.
-use Rattle.std.proofs.Common.{◌≡◌, ◌∙◌, ◌⊎◌, ℕ, ◌+◌, ◌*◌, ◌<◌, List, [], ◌∷◌, ◌++◌, length, map, All, Bool, true, false, Option, Some, None, inl, inr, ap, sym, subst, refl, arith}
-use Rattle.std.specs.Prelude.{is_some}
-use Rattle.std.proofs.lemmas.List.{append_assoc, append-nil, map-append}
-use Rattle.std.proofs.lemmas.List.Elements.{All-append, All-cons, All-nil, All-weaker}
-use Rattle.outside.specs.Counts.{Rose}
-use Rattle.outside.specs.Puts.{Put, PutsMake, Seen, refused, taken}
-use Rattle.outside.specs.declared.traits.SinkError.{SinkError}
-use Rattle.outside.specs.declared.traits.SinkError.TheVariants as error
-use Rattle.step_problem.specs.declared.heads.Bound.{Bound}
-use Rattle.step_problem.specs.Entries.{Entries}
-use Rattle.step_problem.specs.Heads.{Edges}
-use Rattle.model_types.specs.declared.time_steps.TimeStep.{TimeStep}
-use Rattle.settle_driver.specs.Views.{AddsPhases, EnclosesPair}
+use Rattle.engine.proofs.Common.{◌≡◌, ◌∙◌, ◌⊎◌, ℕ, ◌+◌, ◌*◌, ◌<◌, List, [], ◌∷◌, ◌++◌, length, map, Bool, true, false, Option, Some, None, inl, inr, ap, sym}
+use Rattle.engine.proofs.Common.{subst, refl, arith, is_some, append_assoc, append-nil, map-append, All-append, All-cons, All-nil, All-weaker, Rose, Put}
+use Rattle.engine.proofs.Common.{PutsMake, Seen, refused, taken, SinkError, Bound, Entries, Edges, TimeStep, AddsPhases, EnclosesPair, Text, cut, early, failed}
+use Rattle.engine.proofs.Common.{Status, write_rose, AreAllShown, IsStopPut, LeadOn, ViewPuts, no_lead, Task, Step, IsStep, AllSettledBy, AreSettledBy}
+use Rattle.engine.proofs.Common.{IsSettledBy, PairEncloses, Reaches, ReachesFirst, begun, rests, settled, AreFirstViews, AreViews, AreWatched, ArePutInTurn}
+use Rattle.engine.proofs.Common.{IsView, IsWatched, Shows, ViewPutsOf, lines_of}
+use Rattle.std.proofs.Common.{All}
 use Rattle.listing_io.specs.Views.{view_text}
-use Rattle.run_puts.specs.Lines.{Text}
-use Rattle.run_puts.specs.Runs.{cut, early}
-use Rattle.run_puts.specs.Tails.{failed}
-use Rattle.run_puts.specs.declared.status.Status.{Status}
-use Rattle.run_puts.specs.declared.status.Status.TheVariants as status
-use Rattle.run_puts.proofs.Makes.{write_rose}
-use Rattle.view_puts.specs.Puts.{AreAllShown, IsStopPut, LeadOn, ViewPuts, no_lead}
 use Rattle.view_puts.proofs.Views.{lead_more}
-use Rattle.listing_run.specs.declared.task.Task.{Task}
-use Rattle.listing_run.specs.declared.step.Step.{Step}
-use Rattle.listing_run.specs.Steps.{IsStep}
 use Rattle.model_types.specs.Times.{times as times_of}
-use Rattle.listing_run.specs.Settlers.{AllSettledBy, AreSettledBy, IsSettledBy, PairEncloses, Reaches, ReachesFirst, begun, rests, settled}
-use Rattle.engine.specs.Watched.{AreFirstViews, AreViews, AreWatched, ArePutInTurn, IsView, IsWatched, Shows, ViewPutsOf, lines_of}
+use Rattle.outside.specs.declared.traits.SinkError.TheVariants as error
+use Rattle.run_puts.specs.declared.status.Status.TheVariants as status
 
 pieces_of : (text : List Bound → List ℕ) (views : List (List Bound)) → map (λ heads. taken (text heads)) views ≡ map taken (map text views)
 pieces_of text [] = refl

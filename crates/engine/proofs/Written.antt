@@ -1,39 +1,21 @@
 -- What a run wrote is certified.
-use Rattle.std.proofs.Common.{◌≡◌, ℕ, ◌≤◌, Bool, true, false, List, [], ◌∷◌, map, Option, None, Some, Result, Ok, Err, refl, sym, ap, ◌∙◌, subst, arith, ℤ, unsigned_abs}
+use Rattle.engine.proofs.Common.{◌≡◌, ℕ, ◌≤◌, Bool, true, false, List, [], ◌∷◌, map, Option, None, Some, Result, Ok, Err, refl, sym, ap, ◌∙◌, subst, arith, ℤ}
+use Rattle.engine.proofs.Common.{unsigned_abs, concat, File, file_at, is_good_name, Refusal, FlowModel, IsModel, reads, Wanted, Lists, Checks, Makes, Batches}
+use Rattle.engine.proofs.Common.{Writes, wanted_of, pairs_in, AreNumbers, zones_of, ListedStep, all_lines, listing_at, or_bad_listing, Text, end_line, Task}
+use Rattle.engine.proofs.Common.{IsListing, listing, IsWhole, whole_listing, history_exists, history_is_one, ZonedListing, AskedCheck, Case, Check, Command}
+use Rattle.engine.proofs.Common.{Checking, asked_in, built, case_asked, case_checked, case_listed, case_of, listing_read, numbers_of, steps_in, steps_read}
+use Rattle.engine.proofs.Common.{task_of, with_zones, zoned_steps, zones_read, IsCheck, certified_line, Defines}
 use Rattle.std.specs.Prelude.{if◌then◌else◌, option_and_then}
-use Rattle.std.specs.List.{concat}
-use Rattle.outside.specs.Files.{File}
-use Rattle.outside.specs.Inputs.{file_at}
-use Rattle.outside.specs.Names.{is_good_name}
-use Rattle.outside.specs.declared.refusals.Refusal.{Refusal}
-use Rattle.model_types.specs.declared.model.FlowModel.{FlowModel}
-use Rattle.model_types.specs.Valid.{IsModel}
-use Rattle.model_reader.specs.Model.{reads}
 use Rattle.model_reader.proofs.UnitLemmas.{unit_is_short}
-use Rattle.command_line.specs.Wants.{Wanted, Lists, Checks, Makes, Batches, Writes, wanted_of}
 use Rattle.command_line.proofs.DigitLemmas.{check_digits}
-use Rattle.zone_pairs.specs.Pairs.{pairs_in}
-use Rattle.zone_pairs.specs.Zones.{AreNumbers}
-use Rattle.zone_file.specs.Zones.{zones_of}
 use Rattle.zone_file.proofs.SmallZones.{numbers_small}
-use Rattle.listing_io.specs.declared.listing.ListedStep.{ListedStep}
-use Rattle.listing_io.specs.Reading.{all_lines, listing_at, or_bad_listing}
-use Rattle.run_puts.specs.Lines.{Text, end_line}
-use Rattle.run_puts.specs.declared.status.Status.TheVariants as status
-use Rattle.listing_run.specs.declared.task.Task.{Task}
-use Rattle.listing_run.specs.Listing.{IsListing, listing}
-use Rattle.listing_run.specs.declared.listing_end.ListingEnd.TheVariants as ends
-use Rattle.listing_run.proofs.Wholes.{IsWhole, whole_listing}
 use Rattle.check_run.specs.declared.verdict.ListingVerdict.TheVariants.{Certified as Holds}
 use Rattle.check_run.specs.Runs.{IsReadable, RunIsCertified, RunIsReadAgain, as_listed}
-use Rattle.exact_histories.proofs.WholeRuns.{history_exists, history_is_one}
 use Rattle.check_run.proofs.RunEnclosed.{run_encloses}
-use Rattle.engine.specs.declared.zoned.ZonedListing.{ZonedListing}
-use Rattle.engine.specs.Cases.{AskedCheck, Case, Check, Command, Checking, asked_in, built, case_asked, case_checked, case_listed, case_of, listing_read, numbers_of, steps_in, steps_read, task_of, with_zones, zoned_steps, zones_read}
-use Rattle.engine.specs.Checked.{IsCheck, certified_line}
-use Rattle.engine.specs.Defined.{Defines}
 use Rattle.engine.specs.Written.{ChecksWritten, OneListingIsCertified, WrittenIsCertified}
 use Rattle.engine.proofs.Readings.{named_read}
+use Rattle.run_puts.specs.declared.status.Status.TheVariants as status
+use Rattle.listing_run.specs.declared.listing_end.ListingEnd.TheVariants as ends
 
 clash : {B E : Type 0} (e : E) (y : B) (r : Result B E) → r ≡ Err e → r ≡ Ok y → ⊥
 clash e y r h k = cc

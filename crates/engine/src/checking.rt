@@ -77,13 +77,7 @@ pub(crate) fn read_listed<F: Folder>(
     ensures listed { IfOk result (IsListed model.now) }
 {
     let zones = read_zones_of(alloc, model, asked.zones, folder)?;
-    let steps = read_steps(
-        alloc,
-        folder,
-        model,
-        asked,
-        zone_slice(&zones),
-    )?;
+    let steps = read_steps(alloc, folder, model, asked, zone_slice(&zones))?;
     Ok(ZonedListing { zones, steps })
 }
 
@@ -101,7 +95,13 @@ pub(crate) fn put_check<K: Sink>(
     ensures { (start : _) (puts : List Put) → K.leads start puts out.old →
         (more : List Put) × K.leads start (puts ++ more) out.new × IsRun (IsCheck model.now digits listing.now) NeverCut result more }
 {
-    match check_listing(alloc, model, &listing.steps, digits, zone_slice(&listing.zones)) {
+    match check_listing(
+        alloc,
+        model,
+        &listing.steps,
+        digits,
+        zone_slice(&listing.zones),
+    ) {
         Ok(verdict) => put_verdict(alloc, &model.grid, verdict, out),
         Err(_) => put_memory(out),
     }

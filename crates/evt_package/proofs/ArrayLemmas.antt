@@ -1,16 +1,10 @@
 -- Stresses with arrays that passed their test, and a model whose periods have them.
-use Rattle.std.proofs.Common.{◌≡◌, ℕ, ℤ, ◌≤ℤ◌, pos, List, All, Ok, refl}
-use Rattle.std.proofs.lemmas.List.Elements.{All-weaker}
-use Rattle.model_types.specs.declared.grid.Grid.{Grid}
-use Rattle.model_types.specs.declared.model.FlowModel.{FlowModel}
+use Rattle.evt_package.proofs.Common.{◌≡◌, ℕ, ℤ, ◌≤ℤ◌, pos, List, All, Ok, refl, All-weaker, Grid, FlowModel, contents, columns_tested, evaporation_arrays}
+use Rattle.evt_package.proofs.Common.{with_evaporation, AreArrays, HasEvaporation, IsEvaporating}
 use Rattle.model_types.specs.declared.period.Stresses.{Stresses}
 use Rattle.period_arrays.specs.Forms.{IsArea}
-use Rattle.period_arrays.specs.Kinds.{contents}
 use Rattle.period_arrays.specs.declared.area.Area.{Area}
 use Rattle.period_arrays.specs.declared.read.ArrayFile.{ArrayFile}
-use Rattle.evt_package.specs.Columns.{columns_tested}
-use Rattle.evt_package.specs.Evaporation.{evaporation_arrays, with_evaporation}
-use Rattle.evt_package.specs.Forms.{AreArrays, HasEvaporation, IsEvaporating}
 
 pub are_arrays : (file : List ℕ) (grid : Grid) (ibound : List ℤ) (option : ℤ) (before : Stresses) (a : Area) → IsArea (contents evaporation_arrays option) grid a → columns_tested file grid ibound option a ≡ Ok tt → AreArrays file grid ibound option (evaporation_arrays.put before a)
 are_arrays file grid ibound option before a h passed = record { surfaces = h.surfaces refl; rates = h.rates; depths = h.depths refl; layers = h.layers; passed = passed }

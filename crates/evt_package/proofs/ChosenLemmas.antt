@@ -1,21 +1,11 @@
 -- The cell that an option chooses is the one of its column.
-use Rattle.std.proofs.Common.{◌≡◌, ◌⊎◌, inl, inr, ℕ, zero, suc, ◌+◌, ◌-◌, ◌*◌, ◌<◌, ◌≤◌, Bool, true, false, ◌&&◌, ◌||◌, ◌==◌, nat_le, nat_lt, List, ℤ, pos, negsuc, Some, get_or, length, refl, sym, ap, ◌∙◌, zero-add, arith}
+use Rattle.evt_package.proofs.Common.{◌≡◌, ◌⊎◌, inl, inr, ℕ, zero, suc, ◌+◌, ◌-◌, ◌*◌, ◌<◌, ◌≤◌, Bool, true, false, ◌&&◌, ◌||◌, ◌==◌, nat_le, nat_lt, List, ℤ}
+use Rattle.evt_package.proofs.Common.{pos, negsuc, Some, get_or, length, refl, sym, ap, ◌∙◌, zero-add, arith, if◌then◌else◌, and_parts, not-true, eqb-true}
+use Rattle.evt_package.proofs.Common.{le-leb, lt-ltb, leb_tells, div-add-mod', Grid, FlowModel, cell_count, layer_of, layer_size, place_in_layer, HasSize}
+use Rattle.evt_package.proofs.Common.{int_at, is_active, is_nonzero, is_chosen, is_highest, is_int, layer_below, within, chosen_cell, highest_active, in_layer}
 use Rattle.std.specs.List.{list_any, range_with_len}
-use Rattle.std.specs.Prelude.{if◌then◌else◌}
-use Rattle.std.proofs.lemmas.Bool.{and_parts, not-true, eqb-true, le-leb, lt-ltb}
-use Rattle.std.proofs.lemmas.Bool.Decides.{leb_tells}
 use Rattle.std.proofs.lemmas.List.Folds.{list_any_at}
 use Rattle.std.proofs.lemmas.List.FromFn.{get_or-range_with_len, length-range_with_len}
-use Rattle.std.proofs.lemmas.Nat.{div-add-mod'}
-use Rattle.model_types.specs.declared.grid.Grid.{Grid}
-use Rattle.model_types.specs.declared.model.FlowModel.{FlowModel}
-use Rattle.model_types.specs.Cells.{cell_count, layer_of, layer_size, place_in_layer}
-use Rattle.model_types.specs.Grids.{HasSize}
-use Rattle.model_types.specs.Layers.{int_at, is_active, is_nonzero}
-use Rattle.model_types.specs.Receivers.{is_chosen, is_highest, is_int}
-use Rattle.model_types.proofs.Numbering.{layer_below}
-use Rattle.number_limits.specs.Signs.{within}
-use Rattle.evt_package.specs.Columns.{chosen_cell, highest_active, in_layer}
 
 -- the first active layer t is found
 found_at : (g : Grid) (ibound : List ℤ) (i n k t : ℕ) → k ≤ t → t < k + n → is_nonzero (int_at ibound (t * layer_size g + i)) ≡ true

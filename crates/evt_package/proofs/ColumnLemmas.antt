@@ -1,10 +1,7 @@
 -- Cells of a column of layers.
-use Rattle.std.proofs.Common.{◌≡◌, ℕ, suc, ◌+◌, ◌-◌, ◌*◌, ◌<◌, ◌≤◌, true, false, List, ℤ, Option, Some, None, refl, sym, ◌∙◌, arith}
+use Rattle.evt_package.proofs.Common.{◌≡◌, ℕ, suc, ◌+◌, ◌-◌, ◌*◌, ◌<◌, ◌≤◌, true, false, List, ℤ, Option, Some, None, refl, sym, ◌∙◌, arith, Grid, layer_size}
+use Rattle.evt_package.proofs.Common.{cell_count, int_at, is_nonzero, highest_active}
 use Rattle.std.proofs.Math.Nat.{mul-le-mul_right}
-use Rattle.model_types.specs.declared.grid.Grid.{Grid}
-use Rattle.model_types.specs.Cells.{layer_size, cell_count}
-use Rattle.model_types.specs.Layers.{int_at, is_nonzero}
-use Rattle.evt_package.specs.Columns.{highest_active}
 
 pub in_grid : (g : Grid) (k i : ℕ) → k < g.layers → i < layer_size g → k * layer_size g + i < cell_count g
 in_grid g k i kl il =

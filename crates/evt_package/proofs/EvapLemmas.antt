@@ -1,9 +1,7 @@
 -- What evaporates from a model whose columns passed their tests is in limits.
-use Rattle.std.proofs.Common.{◌≡◌, ◌⊎◌, inl, inr, ℕ, zero, suc, ◌+◌, ◌^◌, ◌≤◌, ◌<◌, ℤ, pos, neg_ℤ, ◌+ℤ◌, ◌≤ℤ◌, Bool, true, false, not, ◌&&◌, ◌==◌, nat_le, nat_lt, Option, Some, None, Result, Ok, Err, refl, sym, ap, ◌∙◌, arith}
-use Rattle.std.specs.Prelude.{if◌then◌else◌}
-use Rattle.std.specs.Option.{option_map}
-use Rattle.std.proofs.lemmas.Bool.Decides.{leb_tells}
-use Rattle.std.proofs.lemmas.Int.{ints}
+use Rattle.evt_package.proofs.Common.{◌≡◌, ◌⊎◌, inl, inr, ℕ, zero, suc, ◌+◌, ◌^◌, ◌≤◌, ◌<◌, ℤ, pos, neg_ℤ, ◌+ℤ◌, ◌≤ℤ◌, Bool, true, false, not, ◌&&◌, ◌==◌}
+use Rattle.evt_package.proofs.Common.{nat_le, nat_lt, Option, Some, None, Result, Ok, Err, refl, sym, ap, ◌∙◌, arith, if◌then◌else◌, option_map, leb_tells}
+use Rattle.evt_package.proofs.Common.{ints, ◌>>=◌, counted, EvapSource, IsEvapValid, is_positive, evap_fault, has_extinction, is_reached}
 use Rattle.decimal_input.specs.declared.dec.Dec.{Dec}
 use Rattle.decimal_input.specs.Canonical.{IsDec, size, number}
 use Rattle.decimal_input.specs.Wholes.{IsSignedFloor, IsSignedCeiling}
@@ -11,16 +9,11 @@ use Rattle.decimal_input.proofs.Past.{a_floor, a_ceiling}
 use Rattle.decimal_input.proofs.SignedFloors.{floor_of_floor, floor_of_ceiling, ceiling_of_ceiling, ceiling_of_floor}
 use Rattle.outside.specs.declared.codes.Code.TheVariants.{BadProperty, HeadTooLarge}
 use Rattle.outside.specs.declared.refusals.Refusal.{Refusal}
-use Rattle.record_lines.specs.Reading.{◌>>=◌, counted}
-use Rattle.model_types.specs.Receivers.{EvapSource}
-use Rattle.model_types.specs.Valid.{IsEvapValid}
 use Rattle.number_limits.specs.Magnitudes.{is_head}
 use Rattle.number_limits.specs.Room.{small, floor_of, ceiling_of, floor, ceiling}
-use Rattle.number_limits.specs.Signs.{is_positive}
 use Rattle.number_limits.proofs.FloorLemmas.{floor_is, ceiling_is}
 use Rattle.number_limits.proofs.HeadLemmas.{head_of}
 use Rattle.number_limits.proofs.SignLemmas.{positive_of}
-use Rattle.evt_package.specs.Faults.{evap_fault, has_extinction, is_reached}
 
 -- each of the steps that passed
 pub each_step : (step : ℕ → Unit {0} → Result (Unit {0}) Refusal) (n c : ℕ) → counted step c n tt ≡ Ok tt → (k : ℕ) → c ≤ k → k < c + n → step k tt ≡ Ok tt

@@ -1,3 +1,4 @@
+mod Common
 pub mod ColumnLemmas
 pub mod ArrayLemmas
 pub mod ChosenLemmas

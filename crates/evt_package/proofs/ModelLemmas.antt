@@ -1,31 +1,17 @@
 -- A model in limits stays so with evapotranspiration.
-use Rattle.std.proofs.Common.{◌≡◌, ◌⊎◌, inl, inr, ℕ, ◌-◌, ◌<◌, ◌≤◌, ℤ, pos, ◌≤ℤ◌, Bool, true, false, not, cond, ◌&&◌, ◌==◌, List, [], map, All, Option, Some, None, IfOk, Result, Ok, Err, length, refl, sym, ap, subst, arith}
-use Rattle.std.specs.Option.{option_to_list}
-use Rattle.std.proofs.lemmas.Bool.{cases_lt}
-use Rattle.std.proofs.lemmas.Int.{ints}
+use Rattle.evt_package.proofs.Common.{◌≡◌, ◌⊎◌, inl, inr, ℕ, ◌-◌, ◌<◌, ◌≤◌, ℤ, pos, ◌≤ℤ◌, Bool, true, false, not, cond, ◌&&◌, ◌==◌, List, [], map, All, Option}
+use Rattle.evt_package.proofs.Common.{Some, None, IfOk, Result, Ok, Err, length, refl, sym, ap, subst, arith, option_to_list, cases_lt, ints, All-nil, All-cons}
+use Rattle.evt_package.proofs.Common.{mod_below, Grid, FlowModel, cell_count, layer_size, place_in_layer, HasSize, dec_at, is_active, is_chosen, IsEvapValid}
+use Rattle.evt_package.proofs.Common.{IsModel, IsPeriod, size_some, without, cell_tested, column_step, column_tested, columns_tested, source, evap_fault}
+use Rattle.evt_package.proofs.Common.{area_in, evaporation_arrays, HasEvaporation, IsEvaporating, SameBut}
 use Rattle.std.proofs.lemmas.List.{get_or_past}
-use Rattle.std.proofs.lemmas.List.Elements.{All-nil, All-cons}
-use Rattle.std.proofs.lemmas.Nat.{mod_below}
 use Rattle.outside.specs.declared.codes.Code.{Code}
 use Rattle.outside.specs.declared.refusals.InputFault.{InputFault}
-use Rattle.model_types.specs.declared.grid.Grid.{Grid}
-use Rattle.model_types.specs.declared.model.FlowModel.{FlowModel}
 use Rattle.model_types.specs.declared.period.Period.{Period}
-use Rattle.model_types.specs.Cells.{cell_count, layer_size, place_in_layer}
-use Rattle.model_types.specs.Grids.{HasSize}
-use Rattle.model_types.specs.Layers.{dec_at, is_active}
-use Rattle.model_types.specs.Receivers.{is_chosen}
 use Rattle.model_types.specs.Sources.{evap_sources}
 use Rattle.model_types.specs.Times.{no_period, period_at}
-use Rattle.model_types.specs.Valid.{IsEvapValid, IsModel, IsPeriod}
-use Rattle.model_types.proofs.Numbering.{size_some}
 use Rattle.number_limits.proofs.Canonical.{dec_at_is}
 use Rattle.list_package.proofs.ModelLemmas.{each_period, evaporation_of, replaced, same_view, sources_by, steps, with_stresses}
-use Rattle.period_arrays.specs.Kinds.{without}
-use Rattle.evt_package.specs.Columns.{cell_tested, column_step, column_tested, columns_tested, source}
-use Rattle.evt_package.specs.Faults.{evap_fault}
-use Rattle.evt_package.specs.Evaporation.{area_in, evaporation_arrays}
-use Rattle.evt_package.specs.Forms.{HasEvaporation, IsEvaporating, SameBut}
 use Rattle.evt_package.proofs.ChosenLemmas.{chosen_is}
 use Rattle.evt_package.proofs.EvapLemmas.{each_step, source_sound}
 

@@ -1,31 +1,15 @@
 -- The budget of a solution is balanced: over all cells the flows over links cancel, and each cell's balance is zero.
-use Rattle.std.proofs.Common.{◌≡◌, ℕ, zero, suc, ◌*◌, ◌<◌, refl, sym, ap, ◌∙◌, subst, arith, ℤ, pos, ◌+ℤ◌, ◌-ℤ◌, ◌*ℤ◌, List, [], ◌∷◌, length, All, true, mul-pos}
-use Rattle.std.specs.List.{AllZip}
-use Rattle.std.proofs.lemmas.Int.{ints}
-use Rattle.std.proofs.lemmas.List.Elements.{All-from_get_or}
-use Rattle.decimal_input.specs.Fractions.{Fraction, fraction_total, IsOver}
-use Rattle.step_problem.specs.Flows.{total}
-use Rattle.step_problem.specs.declared.place.Dir.TheVariants.{In, Out}
-use Rattle.step_problem.specs.declared.place.Term.{Term}
-use Rattle.cell_balance.specs.Steps.{ExactCell, cell_at, no_cell}
-use Rattle.cell_balance.specs.Links.{AreLinked, no_link}
-use Rattle.cell_balance.specs.Balance.{link_flow}
+use Rattle.exact_budgets.proofs.Common.{◌≡◌, ℕ, zero, suc, ◌*◌, ◌<◌, refl, sym, ap, ◌∙◌, subst, arith, ℤ, pos, ◌+ℤ◌, ◌-ℤ◌, ◌*ℤ◌, List, [], ◌∷◌, length, All}
+use Rattle.exact_budgets.proofs.Common.{true, mul-pos, AllZip, ints, All-from_get_or, Fraction, fraction_total, IsOver, total, In, Out, Term, ExactCell}
+use Rattle.exact_budgets.proofs.Common.{cell_at, no_cell, AreLinked, no_link, link_flow, share, SolvesStep, IsOver-plus, IsOver-minus, IsOver-none}
+use Rattle.exact_budgets.proofs.Common.{IsOver-total, zero_over, over_zero, LinkOver, CellOver, link_over, WholeCell, whole_at, no_whole, whole_link, same_over}
+use Rattle.exact_budgets.proofs.Common.{all_terms, exact_part, exact_singles, exact_term, heads_of, net_flow, SolutionsBalance}
 use Rattle.cell_balance.specs.Deep.{total_below}
-use Rattle.cell_balance.specs.Solutions.{share, SolvesStep}
 use Rattle.cell_balance.proofs.Zips.{AllZip-at, AllZip-length}
-use Rattle.cell_balance.proofs.Scaling.{IsOver-plus, IsOver-minus, IsOver-none, IsOver-total, zero_over, over_zero}
-use Rattle.cell_balance.proofs.Over.{LinkOver, CellOver, link_over}
 use Rattle.cell_balance.proofs.Denominators.{step_common}
 use Rattle.cell_balance.proofs.Wholes.{whole_step}
-use Rattle.cell_balance.proofs.Whole.{WholeCell, whole_at, no_whole, whole_link}
 use Rattle.cell_balance.proofs.Encloses.{whole_solves}
-use Rattle.cell_balance.proofs.EntryScaled.{same_over}
 use Rattle.cell_balance.proofs.ExactLaws.{heads_over, links_cancel}
-use Rattle.budget_bounds.specs.Terms.{all_terms}
-use Rattle.budget_bounds.specs.Exact.{exact_part, exact_singles, exact_term}
-use Rattle.flow_equations.specs.Histories.{heads_of}
-use Rattle.exact_budgets.specs.NetTerms.{net_flow}
-use Rattle.exact_budgets.specs.Laws.{SolutionsBalance}
 use Rattle.exact_budgets.proofs.Kept.{Parts}
 use Rattle.exact_budgets.proofs.CellNets.{net_of, parts_of, nets_balance}
 

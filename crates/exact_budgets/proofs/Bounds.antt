@@ -1,24 +1,13 @@
 -- A net flow lies between the bounds of its In and Out, and so in minus the sum of the others.
-use Rattle.std.proofs.Common.{◌≡◌, ℕ, ◌+◌, ◌^◌, refl, sym, arith, ℤ, pos, neg_ℤ, ◌+ℤ◌, ◌-ℤ◌, ◌≤ℤ◌, List, [], ◌∷◌, Bool, true, false, not}
-use Rattle.std.specs.List.{filter}
-use Rattle.std.proofs.lemmas.Int.{ints}
-use Rattle.decimal_input.specs.Fractions.{Fraction, den, negated, fraction_total, Same}
+use Rattle.exact_budgets.proofs.Common.{◌≡◌, ℕ, ◌+◌, ◌^◌, refl, sym, arith, ℤ, pos, neg_ℤ, ◌+ℤ◌, ◌-ℤ◌, ◌≤ℤ◌, List, [], ◌∷◌, Bool, true, false, not, filter}
+use Rattle.exact_budgets.proofs.Common.{ints, Fraction, den, negated, fraction_total, Same, total, In, Out, Term, Storage, ConstantHead, Wells, Drains}
+use Rattle.exact_budgets.proofs.Common.{RiverLeakage, HeadDepBounds, Recharge, Et, ExactCell, IsOver-negated, same_over, is_term, all_terms, bounds_in}
+use Rattle.exact_budgets.proofs.Common.{BudgetEncloses, exact_term, net_flow, net_lower, net_upper, others, lower_by_others, upper_by_others, NetTermsLie}
 use Rattle.decimal_input.specs.Enclosures.{EnclosesSigned}
 use Rattle.decimal_input.proofs.Fractional.{cross_trans_signed}
 use Rattle.decimal_input.proofs.Enclosing.{negated_enclosed}
-use Rattle.step_problem.specs.Flows.{total}
-use Rattle.step_problem.specs.declared.place.Dir.TheVariants.{In, Out}
-use Rattle.step_problem.specs.declared.place.Term.{Term}
-use Rattle.step_problem.specs.declared.place.Term.TheVariants.{Storage, ConstantHead, Wells, Drains, RiverLeakage, HeadDepBounds, Recharge, Et}
-use Rattle.cell_balance.specs.Steps.{ExactCell}
-use Rattle.cell_balance.proofs.Scaling.{IsOver-negated}
-use Rattle.cell_balance.proofs.EntryScaled.{same_over}
 use Rattle.cell_balance.proofs.Enclosing.{plus_encloses, none_encloses}
 use Rattle.budget_bounds.specs.declared.pair.Budget.{Budget}
-use Rattle.budget_bounds.specs.Singles.{is_term}
-use Rattle.budget_bounds.specs.Terms.{all_terms, bounds_in}
-use Rattle.budget_bounds.specs.Exact.{BudgetEncloses, exact_term}
-use Rattle.exact_budgets.specs.NetTerms.{net_flow, net_lower, net_upper, others, lower_by_others, upper_by_others, NetTermsLie}
 use Rattle.exact_budgets.proofs.Balance.{TermsOver, over_terms, net_over}
 
 -- bounds of a fraction are bounds of the same number

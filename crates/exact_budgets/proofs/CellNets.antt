@@ -1,23 +1,13 @@
 -- The net flow of each term into a cell, over one denominator. With the flows over its links they sum to its balance.
-use Rattle.std.proofs.Common.{◌≡◌, ℕ, ◌*◌, arith, ℤ, pos, ◌+ℤ◌, Bool, cond, map}
-use Rattle.std.specs.List.{filter}
-use Rattle.std.proofs.lemmas.Int.{ints}
-use Rattle.decimal_input.specs.Fractions.{Fraction, IsOver}
-use Rattle.step_problem.specs.Flows.{total}
-use Rattle.step_problem.specs.declared.entry.FixedKind.{FixedKind}
-use Rattle.step_problem.specs.declared.entry.FixedKind.TheVariants as kinds
+use Rattle.exact_budgets.proofs.Common.{◌≡◌, ℕ, ◌*◌, arith, ℤ, pos, ◌+ℤ◌, Bool, cond, map, filter, ints, Fraction, IsOver, total, FixedKind, Term, Storage}
+use Rattle.exact_budgets.proofs.Common.{ConstantHead, Wells, Drains, RiverLeakage, HeadDepBounds, Recharge, Et, ExactFlow, ExactFixed, ExactCell, fixed_flow}
+use Rattle.exact_budgets.proofs.Common.{river_flow, drain_flow, evap_flow, FlowOver, FixedOver, RiverOver, DrainOver, EvapOver, CellOver, fixed_over}
+use Rattle.exact_budgets.proofs.Common.{river_over, drain_over, evap_over, WholeCell, whole_link, whole_fixed, whole_river, whole_drain, whole_evap}
+use Rattle.exact_budgets.proofs.Common.{whole_balance, fixed_term, flow_term, is_term, all_terms, exact_singles}
 use Rattle.step_problem.specs.declared.entry.FlowKind.{FlowKind}
-use Rattle.step_problem.specs.declared.entry.FlowKind.TheVariants as packages
-use Rattle.step_problem.specs.declared.place.Term.{Term}
-use Rattle.step_problem.specs.declared.place.Term.TheVariants.{Storage, ConstantHead, Wells, Drains, RiverLeakage, HeadDepBounds, Recharge, Et}
-use Rattle.cell_balance.specs.Steps.{ExactFlow, ExactFixed, ExactCell}
-use Rattle.cell_balance.specs.Balance.{fixed_flow, river_flow, drain_flow, evap_flow}
-use Rattle.cell_balance.proofs.Over.{FlowOver, FixedOver, RiverOver, DrainOver, EvapOver, CellOver, fixed_over, river_over, drain_over, evap_over}
-use Rattle.cell_balance.proofs.Whole.{WholeCell, whole_link, whole_fixed, whole_river, whole_drain, whole_evap, whole_balance}
-use Rattle.budget_bounds.specs.Singles.{fixed_term, flow_term, is_term}
-use Rattle.budget_bounds.specs.Terms.{all_terms}
-use Rattle.budget_bounds.specs.Exact.{exact_singles}
 use Rattle.exact_budgets.proofs.Kept.{Parts, kept, all_parts, kept_parts, total_by_three, total_by_two}
+use Rattle.step_problem.specs.declared.entry.FixedKind.TheVariants as kinds
+use Rattle.step_problem.specs.declared.entry.FlowKind.TheVariants as packages
 
 abbrev is_fixed : Term → ExactFixed → Bool
 is_fixed t x = is_term t (fixed_term x.kind)

@@ -1,16 +1,13 @@
 -- The budgets of a history, step by step: by induction on the time steps.
-use Rattle.std.proofs.Common.{◌≡◌, ℕ, ◌<◌, inl, inr, refl, sym, ap, subst, List, [], ◌∷◌, map, Option, ℤ}
-use Rattle.decimal_input.specs.Fractions.{Fraction}
+use Rattle.exact_budgets.proofs.Common.{◌≡◌, ℕ, ◌<◌, inl, inr, refl, sym, ap, subst, List, [], ◌∷◌, map, Option, ℤ, Fraction, ExactCell, AreLinked, heads_of}
+use Rattle.exact_budgets.proofs.Common.{variable_heads, SolvesAt, SolvesFrom, NetTermsLieInTheOthers, StepsHaveTheirTimes, CertifiedHaveTheirTimes}
 use Rattle.model_types.specs.declared.model.FlowModel.{FlowModel}
 use Rattle.model_types.specs.declared.time_steps.TimeStep.{TimeStep}
 use Rattle.model_types.specs.Heads.{start_head}
 use Rattle.model_types.specs.Times.{times}
 use Rattle.model_types.specs.Valid.{IsModel}
 use Rattle.step_problem.specs.declared.heads.Bound.{Bound}
-use Rattle.cell_balance.specs.Steps.{ExactCell}
-use Rattle.cell_balance.specs.Links.{AreLinked}
 use Rattle.flow_equations.specs.ExactStep.{exact_step}
-use Rattle.flow_equations.specs.Histories.{heads_of, variable_heads, SolvesAt, SolvesFrom}
 use Rattle.flow_equations.proofs.Links.{are_linked}
 use Rattle.listing_io.specs.declared.listing.ListedStep.{ListedStep}
 use Rattle.check_run.specs.declared.verdict.ListingVerdict.TheVariants.{Certified}
@@ -21,7 +18,6 @@ use Rattle.listing_run.specs.declared.listing_end.ListingEnd.TheVariants.{Whole}
 use Rattle.listing_run.specs.Steps.{Steps}
 use Rattle.listing_run.specs.Bounding.{Bounds, BoundAll}
 use Rattle.exact_budgets.specs.Histories.{NetTermsLieAt, AllNetTermsLie}
-use Rattle.exact_budgets.specs.Laws.{NetTermsLieInTheOthers, StepsHaveTheirTimes, CertifiedHaveTheirTimes}
 use Rattle.exact_budgets.proofs.Balance.{terms_over, solutions_balance}
 use Rattle.exact_budgets.proofs.Bounds.{net_terms_lie}
 

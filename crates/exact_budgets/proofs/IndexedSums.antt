@@ -1,10 +1,8 @@
 -- Sums over indices: in another order, of terms that are the same numbers, and of which one term alone counts.
-use Rattle.std.proofs.Common.{◌≡◌, ℕ, zero, suc, ◌+◌, ◌*◌, ◌<◌, List, [], ◌∷◌, length, get_or, All, refl, sym, ap, ◌∙◌, arith, ℤ, pos, ◌+ℤ◌, ◌*ℤ◌}
-use Rattle.std.proofs.lemmas.Int.{ints}
-use Rattle.std.proofs.lemmas.List.Elements.{All-head, All-tail}
-use Rattle.decimal_input.specs.Ratios.{Ratio, den as ratio_den, Same as SameRatio}
-use Rattle.decimal_input.specs.Fractions.{Fraction, den, whole, signed, plus, times, fraction_total, Same}
-use Rattle.decimal_input.proofs.Differences.{diffs, as_diff, same_diff}
+use Rattle.exact_budgets.proofs.Common.{◌≡◌, ℕ, zero, suc, ◌+◌, ◌*◌, ◌<◌, List, [], ◌∷◌, length, get_or, All, refl, sym, ap, ◌∙◌, arith, ℤ, pos, ◌+ℤ◌, ◌*ℤ◌}
+use Rattle.exact_budgets.proofs.Common.{ints, All-head, All-tail, Ratio, Fraction, den, whole, signed, plus, times, fraction_total, Same, diffs, as_diff}
+use Rattle.exact_budgets.proofs.Common.{same_diff}
+use Rattle.decimal_input.specs.Ratios.{den as ratio_den, Same as SameRatio}
 use Rattle.exact_budgets.proofs.Sums.{one_fraction, plus_assoc, plus_none}
 
 abbrev pub none : Fraction

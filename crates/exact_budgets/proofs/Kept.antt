@@ -1,13 +1,8 @@
 -- Flows over one denominator, as whole numbers: what of them goes in, and out; of a whole list, and of those that a test keeps.
-use Rattle.std.proofs.Common.{◌≡◌, ℕ, refl, arith, ℤ, pos, neg_ℤ, ◌+ℤ◌, ◌-ℤ◌, List, [], ◌∷◌, map, Bool, true, false, cond}
-use Rattle.std.specs.List.{AllZip, filter}
+use Rattle.exact_budgets.proofs.Common.{◌≡◌, ℕ, refl, arith, ℤ, pos, neg_ℤ, ◌+ℤ◌, ◌-ℤ◌, List, [], ◌∷◌, map, Bool, true, false, cond, AllZip, filter, ints}
+use Rattle.exact_budgets.proofs.Common.{clamps, Fraction, whole, negated, fraction_total, IsOver, total, In, Out, IsOver-plus, IsOver-negated, IsOver-none}
+use Rattle.exact_budgets.proofs.Common.{IsOver-greater, exact_part}
 use Rattle.std.specs.Int.{int_max}
-use Rattle.std.proofs.lemmas.Int.{ints, clamps}
-use Rattle.decimal_input.specs.Fractions.{Fraction, whole, negated, fraction_total, IsOver}
-use Rattle.step_problem.specs.Flows.{total}
-use Rattle.step_problem.specs.declared.place.Dir.TheVariants.{In, Out}
-use Rattle.cell_balance.proofs.Scaling.{IsOver-plus, IsOver-negated, IsOver-none, IsOver-greater}
-use Rattle.budget_bounds.specs.Exact.{exact_part}
 
 -- what of these flows goes in, and out, over D; their sum is z
 pub record Parts (D : ℕ) (flows : List Fraction) (z : ℤ) : Type 0 where

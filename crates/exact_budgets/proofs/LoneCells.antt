@@ -1,20 +1,12 @@
 -- The faces of a lone cell are its links and its branches to constant heads.
-use Rattle.std.proofs.Common.{◌≡◌, ℕ, zero, suc, ◌<◌, ◌==◌, Bool, true, false, cond, ◌&&◌, List, [], ◌∷◌, ◌++◌, length, map, get_or, All, refl, sym, ap, ◌∙◌, subst, arith, pos, ◌*ℤ◌}
-use Rattle.std.specs.Prelude.{slice_index}
-use Rattle.std.specs.List.{filter, flat_map}
-use Rattle.std.proofs.lemmas.Bool.{and_parts, eqb-true}
-use Rattle.std.proofs.lemmas.Bool.Decides.{nat_tests}
-use Rattle.std.proofs.lemmas.List.{append-nil, get_or_default}
-use Rattle.std.proofs.lemmas.List.Elements.{filter-append, All-head, All-tail}
-use Rattle.decimal_input.specs.Ratios.{Ratio}
-use Rattle.decimal_input.specs.Fractions.{Fraction, den, negated, plus, times, signed, fraction_total, Same}
-use Rattle.step_problem.specs.declared.entry.FixedKind.{FixedKind}
-use Rattle.step_problem.specs.declared.entry.FixedKind.TheVariants.{Storage, Constant, General}
-use Rattle.cell_balance.specs.Steps.{ExactLink, ExactFixed, ExactCell, cell_at, no_cell}
-use Rattle.cell_balance.specs.Balance.{minus, link_flow, fixed_flow}
-use Rattle.zone_flows.specs.Exact.{ExactFace, exact_from, exact_link, exact_by_kind, exact_fixed, exact_cell, exact_faces, is_exact_between, exact_flow}
+use Rattle.exact_budgets.proofs.Common.{◌≡◌, ℕ, zero, suc, ◌<◌, ◌==◌, Bool, true, false, cond, ◌&&◌, List, [], ◌∷◌, ◌++◌, length, map, get_or, All, refl, sym}
+use Rattle.exact_budgets.proofs.Common.{ap, ◌∙◌, subst, arith, pos, ◌*ℤ◌, slice_index, filter, flat_map, and_parts, eqb-true, nat_tests, append-nil}
+use Rattle.exact_budgets.proofs.Common.{get_or_default, filter-append, All-head, All-tail, Ratio, Fraction, den, negated, plus, times, signed, fraction_total}
+use Rattle.exact_budgets.proofs.Common.{Same, FixedKind, Constant, General, ExactLink, ExactFixed, ExactCell, cell_at, no_cell, minus, link_flow, fixed_flow}
+use Rattle.exact_budgets.proofs.Common.{ExactFace, exact_from, exact_link, exact_by_kind, exact_fixed, exact_cell, exact_faces, is_exact_between, exact_flow}
+use Rattle.exact_budgets.proofs.Common.{is_constant, own_zone, IsAlone, links_to, constants_in, inflow_from}
+use Rattle.step_problem.specs.declared.entry.FixedKind.TheVariants.{Storage}
 use Rattle.zone_flows.specs.Faces.{is_lower_zone}
-use Rattle.exact_budgets.specs.LoneCell.{is_constant, own_zone, IsAlone, links_to, constants_in, inflow_from}
 use Rattle.exact_budgets.proofs.Sums.{total-append, total-negated, negated_sum, turned}
 
 module _ {X A : Type 0} (p : A → Bool) (f : X → List A) where

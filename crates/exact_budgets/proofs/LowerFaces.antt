@@ -1,17 +1,9 @@
 -- What each cell lists of the flow from a lower zone to that of a lone cell.
-use Rattle.std.proofs.Common.{◌≡◌, ℕ, ◌<◌, ◌==◌, Bool, true, false, cond, ◌&&◌, List, [], ◌∷◌, ◌++◌, map, get_or, All, refl, sym, ap, ◌∙◌}
-use Rattle.std.specs.Prelude.{slice_index}
-use Rattle.std.specs.List.{filter, flat_map}
-use Rattle.std.proofs.lemmas.Bool.{eqb-true}
-use Rattle.std.proofs.lemmas.List.Elements.{filter-append}
-use Rattle.decimal_input.specs.Ratios.{Ratio}
-use Rattle.decimal_input.specs.Fractions.{Fraction, plus, times, signed, fraction_total}
-use Rattle.step_problem.specs.declared.entry.FixedKind.{FixedKind}
-use Rattle.step_problem.specs.declared.entry.FixedKind.TheVariants.{Storage, Constant, General}
-use Rattle.cell_balance.specs.Steps.{ExactLink, ExactFixed, ExactCell, cell_at}
-use Rattle.cell_balance.specs.Balance.{minus}
-use Rattle.zone_flows.specs.Exact.{ExactFace, exact_from, exact_link, exact_by_kind, exact_fixed, exact_cell, is_exact_between}
-use Rattle.exact_budgets.specs.LoneCell.{is_constant}
+use Rattle.exact_budgets.proofs.Common.{◌≡◌, ℕ, ◌<◌, ◌==◌, Bool, true, false, cond, ◌&&◌, List, [], ◌∷◌, ◌++◌, map, get_or, All, refl, sym, ap, ◌∙◌}
+use Rattle.exact_budgets.proofs.Common.{slice_index, filter, flat_map, eqb-true, filter-append, Ratio, Fraction, plus, times, signed, fraction_total, FixedKind}
+use Rattle.exact_budgets.proofs.Common.{Constant, General, ExactLink, ExactFixed, ExactCell, cell_at, minus, ExactFace, exact_from, exact_link, exact_by_kind}
+use Rattle.exact_budgets.proofs.Common.{exact_fixed, exact_cell, is_exact_between, is_constant}
+use Rattle.step_problem.specs.declared.entry.FixedKind.TheVariants.{Storage}
 use Rattle.exact_budgets.proofs.Sums.{total-append}
 use Rattle.exact_budgets.proofs.LoneCells.{filter-flat_map, ones, differs, from_elsewhere, from_here}
 use Rattle.exact_budgets.proofs.Passing.{total-map, is_same, and_false}

@@ -1,16 +1,9 @@
 -- What flows to a lone cell from a lower zone.
-use Rattle.std.proofs.Common.{◌≡◌, ℕ, ◌<◌, ◌==◌, Bool, true, false, cond, ◌&&◌, List, [], length, get_or, All, refl, sym, ap, ◌∙◌, subst, arith}
-use Rattle.std.specs.Prelude.{slice_index}
-use Rattle.std.specs.List.{filter}
-use Rattle.std.proofs.lemmas.Bool.{and_parts, eqb-true}
-use Rattle.std.proofs.lemmas.List.Elements.{filter_agree, filter_passes, All-filter}
-use Rattle.decimal_input.specs.Fractions.{Fraction, plus, times, signed, fraction_total, Same}
-use Rattle.step_problem.specs.declared.entry.FixedKind.TheVariants.{Constant}
-use Rattle.cell_balance.specs.Steps.{ExactLink, ExactCell, cell_at, no_cell}
-use Rattle.cell_balance.specs.Links.{AreLinked}
-use Rattle.cell_balance.specs.Balance.{minus, link_flow, fixed_flow}
-use Rattle.zone_flows.specs.Exact.{ExactFace, exact_cell, exact_faces, is_exact_between, exact_flow}
-use Rattle.exact_budgets.specs.LoneCell.{is_constant, own_zone, IsAlone, links_to, constants_in, inflow_from, LoneCellsHaveTheirFlows}
+use Rattle.exact_budgets.proofs.Common.{◌≡◌, ℕ, ◌<◌, ◌==◌, Bool, true, false, cond, ◌&&◌, List, [], length, get_or, All, refl, sym, ap, ◌∙◌, subst, arith}
+use Rattle.exact_budgets.proofs.Common.{slice_index, filter, and_parts, eqb-true, filter_agree, filter_passes, All-filter, Fraction, plus, times, signed}
+use Rattle.exact_budgets.proofs.Common.{fraction_total, Same, Constant, ExactLink, ExactCell, cell_at, no_cell, AreLinked, minus, link_flow, fixed_flow}
+use Rattle.exact_budgets.proofs.Common.{ExactFace, exact_cell, exact_faces, is_exact_between, exact_flow, is_constant, own_zone, IsAlone, links_to}
+use Rattle.exact_budgets.proofs.Common.{constants_in, inflow_from, LoneCellsHaveTheirFlows}
 use Rattle.exact_budgets.proofs.IndexedSums.{none, none_plus, total_at, by_index, only_one, sum_of_sums, swapped, same_terms, no_terms, same_of, same_totals}
 use Rattle.exact_budgets.proofs.SingleLinks.{both_ends}
 use Rattle.exact_budgets.proofs.LoneCells.{differs, total-same, constant_is, lone_flows}

@@ -1,9 +1,6 @@
 -- Elements of a list that pass a test, and sums over them.
-use Rattle.std.proofs.Common.{◌≡◌, ℕ, ◌==◌, Bool, true, false, cond, ◌&&◌, List, [], ◌∷◌, map, All, refl, sym, arith}
-use Rattle.std.specs.List.{filter}
-use Rattle.std.proofs.lemmas.Bool.Decides.{nat_tests}
-use Rattle.std.proofs.lemmas.List.Elements.{All-head, All-tail}
-use Rattle.decimal_input.specs.Fractions.{Fraction, plus, fraction_total}
+use Rattle.exact_budgets.proofs.Common.{◌≡◌, ℕ, ◌==◌, Bool, true, false, cond, ◌&&◌, List, [], ◌∷◌, map, All, refl, sym, arith, filter, nat_tests, All-head}
+use Rattle.exact_budgets.proofs.Common.{All-tail, Fraction, plus, fraction_total}
 use Rattle.exact_budgets.proofs.Sums.{plus_none}
 use Rattle.exact_budgets.proofs.IndexedSums.{none}
 

@@ -1,14 +1,8 @@
 -- Of links that lead to different cells at most one leads to a cell; and the flows over the two ends of a link are the same.
-use Rattle.std.proofs.Common.{◌≡◌, ◌⊎◌, inl, inr, ℕ, zero, suc, ◌<◌, ◌==◌, Bool, true, false, List, [], ◌∷◌, length, get_or, Contains, refl, sym, ap, subst, ◌∙◌, arith}
-use Rattle.std.specs.List.{filter}
-use Rattle.std.proofs.lemmas.Bool.{eqb-true}
-use Rattle.std.proofs.lemmas.Bool.Decides.{nat_tests}
-use Rattle.std.proofs.lemmas.List.{get_or_default}
-use Rattle.std.proofs.lemmas.List.Elements.{All-contains}
+use Rattle.exact_budgets.proofs.Common.{◌≡◌, ◌⊎◌, inl, inr, ℕ, zero, suc, ◌<◌, ◌==◌, Bool, true, false, List, [], ◌∷◌, length, get_or, Contains, refl, sym, ap}
+use Rattle.exact_budgets.proofs.Common.{subst, ◌∙◌, arith, filter, eqb-true, nat_tests, get_or_default, All-contains, Fraction, signed, times, fraction_total}
+use Rattle.exact_budgets.proofs.Common.{Same, ExactLink, ExactCell, cell_at, HasLinkBack, AreLinked, no_link}
 use Rattle.decimal_input.specs.Ratios.{Same as SameRatio}
-use Rattle.decimal_input.specs.Fractions.{Fraction, signed, times, fraction_total, Same}
-use Rattle.cell_balance.specs.Steps.{ExactLink, ExactCell, cell_at}
-use Rattle.cell_balance.specs.Links.{HasLinkBack, AreLinked, no_link}
 use Rattle.exact_budgets.proofs.IndexedSums.{none, plus_same, same_flow}
 
 abbrev leads_to : ℕ → ExactLink → Bool

@@ -1,11 +1,7 @@
 -- Sums of fractions that share no denominators: the order of the terms doesn't matter, and all signs change at once.
-use Rattle.std.proofs.Common.{◌≡◌, ℕ, suc, ◌+◌, ◌*◌, List, [], ◌∷◌, ◌++◌, map, refl, sym, ap, ◌∙◌, arith, ℤ, pos, neg_ℤ, ◌+ℤ◌, ◌*ℤ◌}
-use Rattle.std.proofs.lemmas.Int.{ints}
-use Rattle.decimal_input.specs.Ratios.{Ratio}
-use Rattle.decimal_input.specs.Fractions.{Fraction, den, whole, signed, negated, plus, times, fraction_total}
-use Rattle.decimal_input.proofs.Differences.{diffs, as_diff, same_diff}
+use Rattle.exact_budgets.proofs.Common.{◌≡◌, ℕ, suc, ◌+◌, ◌*◌, List, [], ◌∷◌, ◌++◌, map, refl, sym, ap, ◌∙◌, arith, ℤ, pos, neg_ℤ, ◌+ℤ◌, ◌*ℤ◌, ints, Ratio}
+use Rattle.exact_budgets.proofs.Common.{Fraction, den, whole, signed, negated, plus, times, fraction_total, diffs, as_diff, same_diff, minus}
 use Rattle.step_problem.proofs.Leasts.{neg_mul, mul_neg}
-use Rattle.cell_balance.specs.Balance.{minus}
 
 pub one_fraction : (f g : Fraction) → f.num ≡ g.num → f.less ≡ g.less → f ≡ g
 one_fraction f g e d =

@@ -1,11 +1,6 @@
 -- The worked step: its solution, and the bounds of its terms.
-use Rattle.std.proofs.Common.{zero, suc, refl, arith}
-use Rattle.std.proofs.lemmas.Int.{ints}
-use Rattle.step_problem.specs.declared.place.Dir.TheVariants.{In, Out}
-use Rattle.step_problem.specs.declared.place.Term.TheVariants.{Storage, ConstantHead, Wells, Drains, RiverLeakage, HeadDepBounds, Recharge, Et}
-use Rattle.cell_balance.specs.Solutions.{SolvesStep}
-use Rattle.budget_bounds.specs.Exact.{BudgetEncloses, exact_term, exact_singles}
-use Rattle.flow_equations.specs.Histories.{heads_of}
+use Rattle.exact_budgets.proofs.Common.{zero, suc, refl, arith, ints, In, Out, Storage, ConstantHead, Wells, Drains, RiverLeakage, HeadDepBounds, Recharge, Et}
+use Rattle.exact_budgets.proofs.Common.{SolvesStep, BudgetEncloses, exact_term, exact_singles, heads_of}
 use Rattle.exact_budgets.specs.Worked.{pumped_step, five, pumped_budget, PumpedCell}
 
 solved : SolvesStep pumped_step 1 five

@@ -1,11 +1,6 @@
 -- The middle cell of three, each in a zone of its own: everything is computed.
-use Rattle.std.proofs.Common.{◌≡◌, ℕ, zero, suc, ◌<◌, [], ◌∷◌, length, All, refl, arith}
-use Rattle.std.specs.Prelude.{slice_index}
-use Rattle.std.proofs.lemmas.List.Elements.{All-from_recursion}
-use Rattle.step_problem.specs.declared.entry.FixedKind.TheVariants.{Constant}
-use Rattle.cell_balance.specs.Steps.{ExactFixed, cell_at}
-use Rattle.zone_flows.specs.Exact.{exact_from, exact_cell, exact_faces}
-use Rattle.exact_budgets.specs.LoneCell.{IsAlone}
+use Rattle.exact_budgets.proofs.Common.{◌≡◌, ℕ, zero, suc, ◌<◌, [], ◌∷◌, length, All, refl, arith, slice_index, All-from_recursion, Constant, ExactFixed}
+use Rattle.exact_budgets.proofs.Common.{cell_at, exact_from, exact_cell, exact_faces, IsAlone}
 use Rattle.exact_budgets.specs.WorkedZones.{constant_head, middle_step, own_zones, MiddleCell}
 
 sources : (j : ℕ) → j < length middle_step → All (λ (x : ExactFixed). x.kind ≡ Constant → slice_index own_zones x.source ≡ 2 → ⊥) (cell_at middle_step j).fixed

@@ -1,11 +1,6 @@
 -- Times that can be solved in turn have a history over one denominator: a history stays one over each multiple of its denominator.
-use Rattle.std.proofs.Common.{◌≡◌, ◌*◌, ◌-◌, ◌<◌, ◌∙◌, ◌*ℤ◌, [], ◌∷◌, ℕ, suc, refl, sym, ap, subst, arith, ℤ, pos, List, map, mul-pos}
-use Rattle.decimal_input.specs.Fractions.{Fraction, Same}
-use Rattle.model_types.specs.declared.model.FlowModel.{FlowModel}
-use Rattle.model_types.specs.declared.time_steps.TimeStep.{TimeStep}
-use Rattle.step_problem.proofs.Ring.{mul_assoc}
-use Rattle.cell_balance.specs.Solutions.{share}
-use Rattle.flow_equations.specs.Histories.{heads_of, SolvesAt, SolvesFrom}
+use Rattle.exact_histories.proofs.Common.{◌≡◌, ◌*◌, ◌-◌, ◌<◌, ◌∙◌, ◌*ℤ◌, [], ◌∷◌, ℕ, suc, refl, sym, ap, subst, arith, ℤ, pos, List, map, mul-pos, Fraction}
+use Rattle.exact_histories.proofs.Common.{Same, FlowModel, TimeStep, mul_assoc, share, heads_of, SolvesAt, SolvesFrom}
 use Rattle.exact_histories.proofs.GridVectors.{HasVector}
 use Rattle.exact_histories.proofs.SameTimes.{solves_same}
 

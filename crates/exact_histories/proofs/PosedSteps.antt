@@ -1,26 +1,12 @@
 -- A step that has a problem with a barrier: from all exact heads within the old ones its equations have a solution, and one alone.
-use Rattle.std.proofs.Common.{ℕ, List, Contains}
-use Rattle.decimal_input.specs.Fractions.{Fraction}
-use Rattle.model_types.specs.Times.{times}
-use Rattle.model_types.specs.Valid.{IsModel}
-use Rattle.model_types.specs.declared.model.FlowModel.{FlowModel}
-use Rattle.model_types.specs.declared.time_steps.TimeStep.{TimeStep}
+use Rattle.exact_histories.proofs.Common.{ℕ, List, Contains, Fraction, times, IsModel, FlowModel, TimeStep, Entries, Edges, head_at, Bound, EnclosesStep}
+use Rattle.exact_histories.proofs.Common.{exact_step, AreGridHeads, HeadsEnclose, bounds_enclose, time_of, held_all, IsPosed}
 use Rattle.step_problem.specs.Conditions.{IsProblem}
-use Rattle.step_problem.specs.Entries.{Entries}
-use Rattle.step_problem.specs.Heads.{Edges, head_at}
-use Rattle.step_problem.specs.declared.heads.Bound.{Bound}
 use Rattle.cell_balance.specs.Components.{IsHeldBelow}
-use Rattle.cell_balance.specs.Enclosures.{EnclosesStep}
 use Rattle.exact_solutions.specs.Counts.{HasAtMostOne}
 use Rattle.exact_solutions.proofs.HeldSteps.{solution_exists, solution_is_one}
-use Rattle.flow_equations.specs.ExactStep.{exact_step}
-use Rattle.problem_builder.specs.GridHeads.{AreGridHeads, HeadsEnclose}
-use Rattle.problem_builder.proofs.BoundsOf.{bounds_enclose}
 use Rattle.problem_builder.proofs.Problems.{is_problem}
 use Rattle.problem_builder.proofs.StepEnclosed.{step_encloses}
-use Rattle.problem_builder.proofs.TimesOf.{time_of}
-use Rattle.barrier_vector.proofs.Enclosing.{held_all}
-use Rattle.step_chain.specs.Steps.{IsPosed}
 use Rattle.exact_histories.proofs.GridVectors.{HasVector, vector_exists}
 use Rattle.exact_histories.proofs.Ceilings.{held_above}
 

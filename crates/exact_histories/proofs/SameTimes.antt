@@ -1,20 +1,10 @@
 -- A time is solved by the same heads, however they and those before it are written.
-use Rattle.std.proofs.Common.{◌≡◌, ◌<◌, ◌∙◌, ◌*ℤ◌, [], ◌∷◌, ℕ, zero, suc, refl, ap, ℤ, pos, List, map, get_or, All}
-use Rattle.std.specs.List.{AllZip}
-use Rattle.std.proofs.lemmas.List.Elements.{All-nil, All-cons, All-head, All-tail}
-use Rattle.decimal_input.specs.Fractions.{Fraction, den, Same, IsOver}
-use Rattle.model_types.specs.Kinds.{variable_cells}
+use Rattle.exact_histories.proofs.Common.{◌≡◌, ◌<◌, ◌∙◌, ◌*ℤ◌, [], ◌∷◌, ℕ, zero, suc, refl, ap, ℤ, pos, List, map, get_or, All, AllZip, All-nil, All-cons}
+use Rattle.exact_histories.proofs.Common.{All-head, All-tail, Fraction, den, Same, IsOver, variable_cells, FlowModel, TimeStep, SolvesStep, cell_at, no_cell}
+use Rattle.exact_histories.proofs.Common.{cancel_same, exact_step, exact_cell, exact_fixed, variable_heads, SolvesAt, swap}
 use Rattle.model_types.specs.Sources.{FixedSource, fixed_sources}
 use Rattle.model_types.specs.Sources.FixedSource.{ToConstant, ToGeneral, FromStorage}
-use Rattle.model_types.specs.declared.model.FlowModel.{FlowModel}
-use Rattle.model_types.specs.declared.time_steps.TimeStep.{TimeStep}
-use Rattle.cell_balance.specs.Solutions.{SolvesStep}
-use Rattle.cell_balance.specs.Steps.{cell_at, no_cell}
-use Rattle.exact_solutions.proofs.Equal.{cancel_same}
-use Rattle.flow_equations.specs.ExactStep.{exact_step, exact_cell, exact_fixed}
-use Rattle.flow_equations.specs.Histories.{variable_heads, SolvesAt}
 use Rattle.exact_histories.proofs.SameSteps.{FixedAgrees, CellAgrees, same_heads_solve}
-use Rattle.decimal_input.proofs.Signs.{swap}
 
 -- heads before a step that are the same numbers give steps that agree
 module _ (m : FlowModel) (p n : ℕ) (old new : ℕ → Fraction) where

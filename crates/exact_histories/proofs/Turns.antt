@@ -1,28 +1,13 @@
 -- One step more: times that can be solved in turn, and whose histories are the same, after a step whose solutions lie within the heads that they start from.
-use Rattle.std.proofs.Common.{◌≡◌, ◌<◌, [], ◌∷◌, length, ℕ, true, inl, inr, refl, subst, arith, ℤ, List, All, Contains}
-use Rattle.std.proofs.lemmas.Bool.{cases_Bool}
-use Rattle.decimal_input.specs.Fractions.{Fraction, Same}
+use Rattle.exact_histories.proofs.Common.{◌≡◌, ◌<◌, [], ◌∷◌, length, ℕ, true, inl, inr, refl, subst, arith, ℤ, List, All, Contains, cases_Bool, Fraction, Same}
+use Rattle.exact_histories.proofs.Common.{cell_count, is_variable, is_constant, index_of, variable_cells, times, IsModel, FlowModel, TimeStep, Entries, Edges}
+use Rattle.exact_histories.proofs.Common.{Bound, share, exact_step, heads_of, variable_heads, SolvesAt, SolvesFrom, AreGridHeads, HeadsEnclose, IsPosed}
+use Rattle.exact_histories.proofs.Common.{active_constant, index_below, count_is, number_is, AreSameHeads, AreSame}
 use Rattle.decimal_input.proofs.Fractional.{Same-sym, Same-trans}
-use Rattle.model_types.specs.Cells.{cell_count}
-use Rattle.model_types.specs.Kinds.{is_variable, is_constant, index_of, variable_cells}
-use Rattle.model_types.specs.Times.{times}
-use Rattle.model_types.specs.Valid.{IsModel}
-use Rattle.model_types.specs.declared.model.FlowModel.{FlowModel}
-use Rattle.model_types.specs.declared.time_steps.TimeStep.{TimeStep}
 use Rattle.model_types.proofs.Members.{All-In}
-use Rattle.step_problem.specs.Entries.{Entries}
-use Rattle.step_problem.specs.Heads.{Edges}
-use Rattle.step_problem.specs.declared.heads.Bound.{Bound}
-use Rattle.cell_balance.specs.Solutions.{share}
 use Rattle.exact_solutions.proofs.Shares.{same_share}
-use Rattle.flow_equations.specs.ExactStep.{exact_step}
-use Rattle.flow_equations.specs.Histories.{heads_of, variable_heads, SolvesAt, SolvesFrom}
-use Rattle.problem_builder.specs.GridHeads.{AreGridHeads, HeadsEnclose}
 use Rattle.problem_builder.proofs.ActiveCells.{variable_active}
 use Rattle.problem_builder.proofs.Members.{variable-In}
-use Rattle.step_chain.specs.Steps.{IsPosed}
-use Rattle.step_chain.proofs.Assembled.{active_constant, index_below, count_is, number_is}
-use Rattle.exact_histories.specs.Histories.{AreSameHeads, AreSame}
 use Rattle.exact_histories.proofs.SameTimes.{balances_same}
 use Rattle.exact_histories.proofs.JoinedSteps.{GoOn}
 use Rattle.exact_histories.proofs.PosedSteps.{has_vector, has_at_most_one}

@@ -1,16 +1,7 @@
 -- The model of a run all of whose steps have heads has a history, and one alone: by induction on the time steps.
-use Rattle.std.proofs.Common.{◌<◌, [], ◌∷◌, ℕ, refl, sym, subst, ℤ, List, All, Contains}
-use Rattle.std.proofs.lemmas.List.Elements.{All-head, All-tail, All-contains_itself}
-use Rattle.decimal_input.specs.Fractions.{Fraction}
-use Rattle.model_types.specs.Heads.{start_head}
-use Rattle.model_types.specs.Layers.{dec_at}
-use Rattle.model_types.specs.Times.{times}
-use Rattle.model_types.specs.Valid.{IsModel}
-use Rattle.model_types.specs.declared.model.FlowModel.{FlowModel}
-use Rattle.model_types.specs.declared.time_steps.TimeStep.{TimeStep}
-use Rattle.step_problem.specs.declared.heads.Bound.{Bound}
-use Rattle.flow_equations.specs.Histories.{heads_of, SolvesAt}
-use Rattle.problem_builder.specs.GridHeads.{AreGridHeads, HeadsEnclose}
+use Rattle.exact_histories.proofs.Common.{◌<◌, [], ◌∷◌, ℕ, refl, sym, subst, ℤ, List, All, Contains, All-head, All-tail, All-contains_itself, Fraction}
+use Rattle.exact_histories.proofs.Common.{start_head, dec_at, times, IsModel, FlowModel, TimeStep, Bound, heads_of, SolvesAt, AreGridHeads, HeadsEnclose}
+use Rattle.exact_histories.proofs.Common.{AreSameHeads}
 use Rattle.problem_builder.specs.StartHeads.{AreStartHeads}
 use Rattle.problem_builder.proofs.CellEnclosed.{head_encloses}
 use Rattle.problem_builder.proofs.Starts.{starts_fit}
@@ -18,7 +9,6 @@ use Rattle.listing_run.specs.declared.listing_end.ListingEnd.TheVariants.{Whole}
 use Rattle.listing_run.specs.Steps.{IsStep, Steps}
 use Rattle.listing_run.specs.declared.step.Step.{Step}
 use Rattle.listing_run.specs.declared.task.Task.{Task}
-use Rattle.exact_histories.specs.Histories.{AreSameHeads}
 use Rattle.exact_histories.specs.RunLaws.{RunsHaveAHistory, RunsHaveOneHistory}
 use Rattle.exact_histories.proofs.JoinedSteps.{GoOn, history_of_steps}
 use Rattle.exact_histories.proofs.SettledSteps.{grid_heads, new_heads}

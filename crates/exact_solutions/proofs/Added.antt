@@ -1,10 +1,6 @@
 -- A step with all heads higher, with one ramp more, or with a conductance and a flow more at one cell.
-use Rattle.std.proofs.Common.{◌*ℤ◌, ◌+ℤ◌, ◌+◌, ◌-ℤ◌, ◌<ℤ◌, ◌<◌, ◌∷◌, ◌≡◌, ◌≤ℤ◌, Bool, List, ap, arith, cond, false, nat_eq, pos, refl, suc, true, ℕ, ℤ}
-use Rattle.std.proofs.lemmas.Bool.{eq-eqb, ne_eqb}
-use Rattle.std.proofs.lemmas.Int.{ints}
-use Rattle.step_problem.specs.Flows.{total}
-use Rattle.step_problem.proofs.Ring.{as_diff, diffs, mul_mono, same_diff}
-use Rattle.cell_balance.proofs.Sums.{sum-same, sum_at_most}
+use Rattle.exact_solutions.proofs.Common.{◌*ℤ◌, ◌+ℤ◌, ◌+◌, ◌-ℤ◌, ◌<ℤ◌, ◌<◌, ◌∷◌, ◌≡◌, ◌≤ℤ◌, Bool, List, ap, arith, cond, false, nat_eq, pos, refl, suc, true, ℕ}
+use Rattle.exact_solutions.proofs.Common.{ℤ, eq-eqb, ne_eqb, ints, total, as_diff, diffs, mul_mono, same_diff, sum-same, sum_at_most}
 use Rattle.exact_solutions.proofs.Ramps.{Ramp, ramp_flow, link_flow, net_flow, deep, IsHeldFromBelow}
 use Rattle.exact_solutions.proofs.RampFlows.{flows_fall}
 

@@ -1,7 +1,5 @@
 -- Flows at one cell alone.
-use Rattle.std.proofs.Common.{◌≡◌, ◌≤ℤ◌, arith, cond, inl, inr, nat_eq, pos, refl, ℕ, ℤ}
-use Rattle.std.proofs.lemmas.Bool.{cases_eq, eq-eqb, ne_eqb}
-use Rattle.std.proofs.lemmas.Int.{ints}
+use Rattle.exact_solutions.proofs.Common.{◌≡◌, ◌≤ℤ◌, arith, cond, inl, inr, nat_eq, pos, refl, ℕ, ℤ, cases_eq, eq-eqb, ne_eqb, ints}
 
 -- at one cell alone
 pub cond_same : (k i : ℕ) (x y : ℤ) → (k ≡ i → x ≡ y) → cond (nat_eq k i) x (pos 0) ≡ cond (nat_eq k i) y (pos 0)

@@ -1,12 +1,7 @@
 -- Over a set of cells that no link leaves the flows over links cancel; so where its deep flows sum above 0, some cell gains water.
-use Rattle.std.proofs.Common.{◌*ℤ◌, ◌+ℤ◌, ◌-ℤ◌, ◌<ℤ◌, ◌<◌, ◌∙◌, ◌≡◌, ◌≤ℤ◌, Bool, ap, arith, cond, false, neg_ℤ, pos, refl, suc, sym, true, zero, ℕ, ℤ}
-use Rattle.std.proofs.Math.IntN.{*ℤ-zero, zero-*ℤ}
-use Rattle.std.proofs.lemmas.Bool.{true≢false}
-use Rattle.std.proofs.lemmas.Int.{by_lt_z, ints}
-use Rattle.step_problem.proofs.Ring.{as_diff, diffs, mul_add, same_diff}
-use Rattle.cell_balance.specs.Components.{sum_below, sum_inside}
-use Rattle.cell_balance.proofs.Products.{cancel_le}
-use Rattle.cell_balance.proofs.Sums.{sum-add, sum-neg, sum-same, sum-swap, sum-zero, sum_at_most}
+use Rattle.exact_solutions.proofs.Common.{◌*ℤ◌, ◌+ℤ◌, ◌-ℤ◌, ◌<ℤ◌, ◌<◌, ◌∙◌, ◌≡◌, ◌≤ℤ◌, Bool, ap, arith, cond, false, neg_ℤ, pos, refl, suc, sym, true, zero, ℕ}
+use Rattle.exact_solutions.proofs.Common.{ℤ, *ℤ-zero, zero-*ℤ, true≢false, by_lt_z, ints, as_diff, diffs, mul_add, same_diff, sum_below, sum_inside, cancel_le}
+use Rattle.exact_solutions.proofs.Common.{sum-add, sum-neg, sum-same, sum-swap, sum-zero, sum_at_most}
 use Rattle.exact_solutions.proofs.Ramps.{link_flow, IsClosed, AreMutual}
 
 -- the flow from j into i, where both are inside

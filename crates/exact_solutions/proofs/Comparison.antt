@@ -1,12 +1,7 @@
 -- Where a step is held from below, heads at which no cell gains water lie nowhere below heads at which no cell loses water.
-use Rattle.std.proofs.Common.{◌*ℤ◌, ◌+ℤ◌, ◌-ℤ◌, ◌<ℤ◌, ◌<◌, ◌≡◌, ◌≤ℤ◌, Bool, List, arith, inl, inr, int_lt, neg_ℤ, pos, refl, suc, true, zero, ℕ, ℤ}
-use Rattle.std.proofs.Math.IntN.{zero-*ℤ}
-use Rattle.std.proofs.lemmas.Int.{by_lt_z, ints}
-use Rattle.step_problem.specs.Flows.{total}
-use Rattle.step_problem.proofs.Ring.{mul_le, mul_mono, mul_sub}
+use Rattle.exact_solutions.proofs.Common.{◌*ℤ◌, ◌+ℤ◌, ◌-ℤ◌, ◌<ℤ◌, ◌<◌, ◌≡◌, ◌≤ℤ◌, Bool, List, arith, inl, inr, int_lt, neg_ℤ, pos, refl, suc, true, zero, ℕ, ℤ}
+use Rattle.exact_solutions.proofs.Common.{zero-*ℤ, by_lt_z, ints, total, mul_le, mul_mono, mul_sub, cancel_le, not_zero, sum_at_most}
 use Rattle.cell_balance.proofs.Greatest.{max_of}
-use Rattle.cell_balance.proofs.Products.{cancel_le, not_zero}
-use Rattle.cell_balance.proofs.Sums.{sum_at_most}
 use Rattle.exact_solutions.proofs.Ramps.{Ramp, ramp_flow, full_rate, link_flow, IsClosed, AreMutual, net_flow, deep, IsHeldFromBelow}
 use Rattle.exact_solutions.proofs.Elimination.{positive_natural}
 use Rattle.exact_solutions.proofs.ClosedSets.{carried_gain}

@@ -1,13 +1,7 @@
 -- Links, known heads and ramps that conduct, from sums that do; and sums that are 0.
-use Rattle.std.proofs.Common.{[], ◌*ℤ◌, ◌+ℤ◌, ◌+◌, ◌<ℤ◌, ◌<◌, ◌∷◌, ◌≡◌, ◌≤ℤ◌, All, Bool, List, arith, cond, false, inl, inr, nat_eq, pos, refl, subst, true, ℕ, ℤ}
-use Rattle.std.specs.List.{AllZip}
-use Rattle.std.proofs.Math.IntN.{zero-*ℤ}
-use Rattle.std.proofs.lemmas.Bool.{cases_eq, eq-eqb, ne_eqb}
-use Rattle.std.proofs.lemmas.Int.{ints}
-use Rattle.std.proofs.lemmas.List.Elements.{All-cons, All-head, All-nil, All-tail}
-use Rattle.step_problem.specs.Flows.{total}
-use Rattle.cell_balance.proofs.Cancel.{weight}
-use Rattle.cell_balance.proofs.Whole.{WholeFixed, WholeLink}
+use Rattle.exact_solutions.proofs.Common.{[], ◌*ℤ◌, ◌+ℤ◌, ◌+◌, ◌<ℤ◌, ◌<◌, ◌∷◌, ◌≡◌, ◌≤ℤ◌, All, Bool, List, arith, cond, false, inl, inr, nat_eq, pos, refl}
+use Rattle.exact_solutions.proofs.Common.{subst, true, ℕ, ℤ, AllZip, zero-*ℤ, cases_eq, eq-eqb, ne_eqb, ints, All-cons, All-head, All-nil, All-tail, total}
+use Rattle.exact_solutions.proofs.Common.{weight, WholeFixed, WholeLink}
 use Rattle.exact_solutions.proofs.WholeRamps.{known_conductance, known_flow}
 
 -- a fact of each right element passes to the left one

@@ -1,8 +1,5 @@
 -- Equal whole numbers are at most each other.
-use Rattle.std.proofs.Common.{◌*ℤ◌, ◌<◌, ◌≡◌, ◌≤ℤ◌, arith, pos, ℕ, ℤ}
-use Rattle.std.proofs.lemmas.Int.{ints}
-use Rattle.decimal_input.proofs.Signs.{cancel_right}
-use Rattle.step_problem.proofs.BothSides.{le_anti}
+use Rattle.exact_solutions.proofs.Common.{◌*ℤ◌, ◌<◌, ◌≡◌, ◌≤ℤ◌, arith, pos, ℕ, ℤ, ints, cancel_right, le_anti}
 
 pub same_at_most : (x y : ℤ) → x ≡ y → x ≤ℤ y
 same_at_most x y e = omega (arith, ints)

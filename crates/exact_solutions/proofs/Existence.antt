@@ -1,8 +1,6 @@
 -- A step with ramps that is held from below and above has a solution: by induction on its ramps.
-use Rattle.std.proofs.Common.{[], ◌*ℤ◌, ◌<ℤ◌, ◌<◌, ◌∙◌, ◌∷◌, ◌≡◌, ◌≤ℤ◌, List, None, Option, Some, arith, inl, inr, neg_ℤ, pos, refl, suc, zero, ℕ, ℤ}
-use Rattle.std.proofs.Math.IntN.{*ℤ-zero, zero-*ℤ}
-use Rattle.std.proofs.lemmas.Bool.{cases_lt}
-use Rattle.std.proofs.lemmas.Int.{by_lt_z, ints}
+use Rattle.exact_solutions.proofs.Common.{[], ◌*ℤ◌, ◌<ℤ◌, ◌<◌, ◌∙◌, ◌∷◌, ◌≡◌, ◌≤ℤ◌, List, None, Option, Some, arith, inl, inr, neg_ℤ, pos, refl, suc, zero, ℕ}
+use Rattle.exact_solutions.proofs.Common.{ℤ, *ℤ-zero, zero-*ℤ, cases_lt, by_lt_z, ints}
 use Rattle.exact_solutions.proofs.Ramps.{Ramp, rise, AreMutual, IsHeldFromBelow, IsHeldFromAbove, HasWholeSolution, HasSinking}
 use Rattle.exact_solutions.proofs.Rises.{rise-no_extent, rise-no_top, rise-between}
 use Rattle.exact_solutions.proofs.Added.{conductance_added, flow_added}

@@ -1,14 +1,9 @@
 -- Each exact step that a problem encloses has a solution where its components are held below and above, and one alone where they are held below.
-use Rattle.std.proofs.Common.{◌*◌, ◌^◌, ◌∙◌, arith, length, pos, mul-pos}
+use Rattle.exact_solutions.proofs.Common.{◌*◌, ◌^◌, ◌∙◌, arith, length, pos, mul-pos, step_common, mutual_whole, whole_step, CellWithin, AllZip-length, swap}
 use Rattle.decimal_input.proofs.Powers.{ten_pos}
 use Rattle.cell_balance.specs.Enclosures.{CellEncloses}
-use Rattle.cell_balance.proofs.Denominators.{step_common}
 use Rattle.cell_balance.proofs.Enclosed.{step_within}
 use Rattle.cell_balance.proofs.Linked.{linked, links_good}
-use Rattle.cell_balance.proofs.Mutual.{mutual_whole}
-use Rattle.cell_balance.proofs.Wholes.{whole_step}
-use Rattle.cell_balance.proofs.Within.{CellWithin}
-use Rattle.cell_balance.proofs.Zips.{AllZip-length}
 use Rattle.exact_solutions.specs.HeldLaws.{HeldHaveASolution, HeldHaveAtMostOne}
 use Rattle.exact_solutions.proofs.Equal.{cancel_same}
 use Rattle.exact_solutions.proofs.Shares.{crossed_same}
@@ -17,7 +12,6 @@ use Rattle.exact_solutions.proofs.Existence.{whole_solution_exists}
 use Rattle.exact_solutions.proofs.WholeRamps.{ramps_from, a_of, b_of, q_of}
 use Rattle.exact_solutions.proofs.HeldWholes.{both_ways, held_below, held_above}
 use Rattle.exact_solutions.proofs.WholeSolutions.{solves_step, solves_whole}
-use Rattle.decimal_input.proofs.Signs.{swap}
 
 pub solution_exists : HeldHaveASolution
 solution_exists p fits held above s e encloses =

@@ -1,26 +1,16 @@
 -- What holds the components of a problem holds the closed sets of the whole numbers of each step that it encloses.
-use Rattle.std.proofs.Common.{◌*ℤ◌, ◌*◌, ◌+ℤ◌, ◌-ℤ◌, ◌<ℤ◌, ◌<◌, ◌≡◌, ◌≤ℤ◌, All, Bool, List, arith, cond, false, get_or, inl, inr, length, pos, refl, subst, suc, sym, true, zero, ℕ, ℤ, mul-pos}
-use Rattle.std.specs.List.{AllZip}
-use Rattle.std.proofs.Math.IntN.{zero-*ℤ}
-use Rattle.std.proofs.lemmas.Int.{ints}
-use Rattle.std.proofs.lemmas.List.Elements.{All-contains, Contains-get_or}
-use Rattle.decimal_input.specs.Enclosures.{IsBetweenWhole}
+use Rattle.exact_solutions.proofs.Common.{◌*ℤ◌, ◌*◌, ◌+ℤ◌, ◌-ℤ◌, ◌<ℤ◌, ◌<◌, ◌≡◌, ◌≤ℤ◌, All, Bool, List, arith, cond, false, get_or, inl, inr, length, pos, refl}
+use Rattle.exact_solutions.proofs.Common.{subst, suc, sym, true, zero, ℕ, ℤ, mul-pos, AllZip, zero-*ℤ, ints, All-contains, Contains-get_or, IsBetweenWhole}
+use Rattle.exact_solutions.proofs.Common.{total, IsHeldBelow, Reaches, deep_low, sum_inside, IsMutual, conducting, sum-times, sum_at_most, WholeCell}
+use Rattle.exact_solutions.proofs.Common.{WholeDrain, WholeEvap, WholeRiver, no_whole, whole_at, whole_deep, whole_deep_river, whole_full, CellWithin}
+use Rattle.exact_solutions.proofs.Common.{DrainWithin, FixedWithin, LinkWithin, RiverWithin, All-zip, AllZip-at, AllZip-length, mul_mono_right}
 use Rattle.step_problem.specs.Entries.{Entries, entries_at, no_entries}
-use Rattle.step_problem.specs.Flows.{total}
-use Rattle.cell_balance.specs.Components.{IsHeldBelow, Reaches, deep_low, sum_inside}
-use Rattle.cell_balance.proofs.Cancel.{IsMutual}
 use Rattle.cell_balance.proofs.Deep.{deep_less}
-use Rattle.cell_balance.proofs.Products.{conducting}
 use Rattle.cell_balance.proofs.Spread.{Reaches-more}
-use Rattle.cell_balance.proofs.Sums.{sum-times, sum_at_most}
-use Rattle.cell_balance.proofs.Whole.{WholeCell, WholeDrain, WholeEvap, WholeRiver, no_whole, whole_at, whole_deep, whole_deep_river, whole_full}
-use Rattle.cell_balance.proofs.Within.{CellWithin, DrainWithin, FixedWithin, LinkWithin, RiverWithin}
-use Rattle.cell_balance.proofs.Zips.{All-zip, AllZip-at, AllZip-length}
 use Rattle.exact_solutions.specs.Held.{IsAnchoredAbove, IsHeldAbove}
 use Rattle.exact_solutions.proofs.Ramps.{extent, open_conductance, open_conductance_at, IsClosed, AreMutual, deep, IsHeldFromBelow, IsHeldFromAbove}
 use Rattle.exact_solutions.proofs.WholeRamps.{ramps_from, a_of, b_of, q_of, ramps_at_cell}
 use Rattle.exact_solutions.proofs.Conducting.{All-back, weight_nonneg, links_lead_to_weight, weight_is_of_links, none_conduct, total_positive, no_known_conductance, no_known_flow, total_nothing}
-use Rattle.decimal_input.proofs.Signs.{mul_mono_right}
 
 -- a cell without a conductance to a known head has its deep flow
 deep-loose : (w : List WholeCell) (i : ℕ) → b_of w i ≡ 0 → deep (length w) (a_of w) (b_of w) (q_of w) (ramps_from 0 w) i ≡ whole_deep (whole_at w i)

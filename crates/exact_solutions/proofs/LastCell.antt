@@ -1,10 +1,6 @@
 -- Heads of n + 1 cells that are the heads of n cells, scaled, and one more; and sums over rows of a matrix at such heads.
-use Rattle.std.proofs.Common.{◌*ℤ◌, ◌+ℤ◌, ◌<◌, ◌≡◌, ap, arith, cond, nat_eq, pos, refl, suc, sym, zero, ℕ, ℤ}
-use Rattle.std.proofs.Math.IntN.{*ℤ-zero}
-use Rattle.std.proofs.lemmas.Bool.{eq-eqb, ne_eqb}
-use Rattle.step_problem.proofs.Ring.{as_diff, diffs, same_diff}
-use Rattle.cell_balance.specs.Components.{sum_below}
-use Rattle.cell_balance.proofs.Sums.{sum-same}
+use Rattle.exact_solutions.proofs.Common.{◌*ℤ◌, ◌+ℤ◌, ◌<◌, ◌≡◌, ap, arith, cond, nat_eq, pos, refl, suc, sym, zero, ℕ, ℤ, *ℤ-zero, eq-eqb, ne_eqb, as_diff}
+use Rattle.exact_solutions.proofs.Common.{diffs, same_diff, sum_below, sum-same}
 
 -- X scaled below n, and N at n
 pub with_last : ℕ → ℤ → ℤ → (ℕ → ℤ) → ℕ → ℤ

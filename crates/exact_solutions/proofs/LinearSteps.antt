@@ -1,11 +1,6 @@
 -- A step without ramps, of whose closed sets each has a conductance to a known head, has a solution; and where some heads let no cell gain water, no held set is without one.
-use Rattle.std.proofs.Common.{[], ◌*ℤ◌, ◌+ℤ◌, ◌-ℤ◌, ◌<◌, ◌≡◌, ◌≤ℤ◌, Bool, arith, pos, refl, suc, true, zero, ℕ, ℤ}
-use Rattle.std.proofs.Math.IntN.{*ℤ-zero, zero-*ℤ}
-use Rattle.std.proofs.lemmas.Int.{ints}
-use Rattle.step_problem.proofs.Ring.{as_diff, diffs, same_diff}
-use Rattle.cell_balance.specs.Components.{sum_below}
-use Rattle.cell_balance.proofs.Sums.{sum_nonneg}
-use Rattle.cell_balance.proofs.Totals.{add_mul}
+use Rattle.exact_solutions.proofs.Common.{[], ◌*ℤ◌, ◌+ℤ◌, ◌-ℤ◌, ◌<◌, ◌≡◌, ◌≤ℤ◌, Bool, arith, pos, refl, suc, true, zero, ℕ, ℤ, *ℤ-zero, zero-*ℤ, ints, as_diff}
+use Rattle.exact_solutions.proofs.Common.{diffs, same_diff, sum_below, sum_nonneg, add_mul}
 use Rattle.exact_solutions.proofs.Ramps.{IsClosed, AreMutual, net_flow, IsHeldFromBelow, IsSolution}
 use Rattle.exact_solutions.proofs.Elimination.{IsInversePositive, inverse_positive_solved}
 use Rattle.exact_solutions.proofs.ClosedSets.{carried_gain}

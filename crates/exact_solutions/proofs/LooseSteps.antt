@@ -1,44 +1,24 @@
 -- Steps with cells that nothing holds: heads one lower over these cells are another solution, where their deep flows sum to at most 0 or no river or drain of them conducts.
-use Rattle.std.proofs.Common.{◌≡◌, ◌*◌, ◌<◌, ◌∙◌, ◌+ℤ◌, ◌-ℤ◌, ◌*ℤ◌, ◌≤ℤ◌, [], ◌∷◌, ℕ, zero, suc, refl, sym, ap, arith, ℤ, pos, neg_ℤ, List, length, All, Bool, true, false, cond, mul-pos}
-use Rattle.std.specs.Int.{int_max}
-use Rattle.std.specs.List.{AllZip}
-use Rattle.std.proofs.Math.IntN.{zero-*ℤ}
-use Rattle.std.proofs.lemmas.Int.{ints, clamps}
-use Rattle.std.proofs.lemmas.List.Elements.{All-head, All-tail}
-use Rattle.decimal_input.specs.Enclosures.{IsShare}
-use Rattle.decimal_input.specs.Fractions.{Same, whole, signed, IsOver}
+use Rattle.exact_solutions.proofs.Common.{◌≡◌, ◌*◌, ◌<◌, ◌∙◌, ◌+ℤ◌, ◌-ℤ◌, ◌*ℤ◌, ◌≤ℤ◌, [], ◌∷◌, ℕ, zero, suc, refl, sym, ap, arith, ℤ, pos, neg_ℤ, List, length}
+use Rattle.exact_solutions.proofs.Common.{All, Bool, true, false, cond, mul-pos, int_max, AllZip, zero-*ℤ, ints, clamps, All-head, All-tail, IsShare, Same}
+use Rattle.exact_solutions.proofs.Common.{whole, signed, IsOver, total, total_mono, mul_assoc, mul_mono, minus, greater, sum_below, sum_inside, deep_river}
+use Rattle.exact_solutions.proofs.Common.{full_rate, deep_flow, AreLinked, share, SolvesStep, ExactRiver, ExactEvap, ExactCell, cell_at, no_cell, IsMutual}
+use Rattle.exact_solutions.proofs.Common.{closed_cancel, step_common, whole_solves, mutual_whole, FlowOver, LinkOver, FixedOver, RiverOver, DrainOver, EvapOver}
+use Rattle.exact_solutions.proofs.Common.{CellOver, IsOver-plus, IsOver-times, IsOver-minus, IsOver-none, IsOver-signed, IsOver-greater, IsOver-total, sum-same}
+use Rattle.exact_solutions.proofs.Common.{sum-add, sum-zero, sub_mul, WholeRiver, WholeDrain, WholeEvap, WholeCell, whole_at, no_whole, whole_link, whole_fixed}
+use Rattle.exact_solutions.proofs.Common.{whole_river, whole_drain, whole_evap, whole_balance, whole_deep_river, whole_full, whole_deep, whole_step, AllZip-at}
+use Rattle.exact_solutions.proofs.Common.{AllZip-length, All-zip, le_anti}
 use Rattle.decimal_input.specs.Ratios.{Ratio}
 use Rattle.decimal_input.proofs.Integers.{le-trans}
-use Rattle.step_problem.specs.Flows.{total}
-use Rattle.step_problem.proofs.Falls.{total_mono}
-use Rattle.step_problem.proofs.Ring.{mul_assoc, mul_mono}
-use Rattle.cell_balance.specs.Balance.{minus, greater}
-use Rattle.cell_balance.specs.Components.{sum_below, sum_inside}
-use Rattle.cell_balance.specs.Deep.{deep_river, full_rate, deep_flow}
-use Rattle.cell_balance.specs.Links.{AreLinked}
-use Rattle.cell_balance.specs.Solutions.{share, SolvesStep}
-use Rattle.cell_balance.specs.Steps.{ExactRiver, ExactEvap, ExactCell, cell_at, no_cell}
-use Rattle.cell_balance.proofs.Cancel.{IsMutual, closed_cancel}
-use Rattle.cell_balance.proofs.Denominators.{step_common}
-use Rattle.cell_balance.proofs.Encloses.{whole_solves}
 use Rattle.cell_balance.proofs.ExactLaws.{heads_over}
 use Rattle.cell_balance.proofs.Falling.{whole_falls}
-use Rattle.cell_balance.proofs.Mutual.{mutual_whole}
 use Rattle.cell_balance.proofs.Order.{over_le, IsOver-inside}
-use Rattle.cell_balance.proofs.Over.{FlowOver, LinkOver, FixedOver, RiverOver, DrainOver, EvapOver, CellOver}
-use Rattle.cell_balance.proofs.Scaling.{IsOver-plus, IsOver-times, IsOver-minus, IsOver-none, IsOver-signed, IsOver-greater, IsOver-total}
-use Rattle.cell_balance.proofs.Sums.{sum-same, sum-add, sum-zero}
-use Rattle.cell_balance.proofs.Totals.{sub_mul}
-use Rattle.cell_balance.proofs.Whole.{WholeRiver, WholeDrain, WholeEvap, WholeCell, whole_at, no_whole, whole_link, whole_fixed, whole_river, whole_drain, whole_evap, whole_balance, whole_deep_river, whole_full, whole_deep}
-use Rattle.cell_balance.proofs.Wholes.{whole_step}
-use Rattle.cell_balance.proofs.Zips.{AllZip-at, AllZip-length, All-zip}
 use Rattle.exact_solutions.specs.Loose.{IsLoose}
 use Rattle.exact_solutions.specs.LooseLaws.{DrainedHaveAnother, AfloatHaveAnother}
 use Rattle.exact_solutions.proofs.Lowered.{without_links, lowered, balance-links, lowered_balances}
 use Rattle.exact_solutions.proofs.Shares.{same_crossed}
 use Rattle.exact_solutions.proofs.TightSums.{sum_below-tight}
 use Rattle.exact_solutions.proofs.WholeSolutions.{whole_balances_solve}
-use Rattle.step_problem.proofs.BothSides.{le_anti}
 
 total-none : {X : Type 0} (P : X → Type 0) (f : X → ℤ) (xs : List X) → ((x : X) → P x → f x ≡ pos 0) → All P xs → total f xs ≡ pos 0
 total-none P f [] each all = refl

@@ -1,17 +1,9 @@
 -- Heads that are one lower over a set of cells that no link leaves: the flows over links stay, so the heads solve the step where all other flows of these cells stay too.
-use Rattle.std.proofs.Common.{◌≡◌, ◌<◌, ◌∙◌, ◌+ℤ◌, ◌-ℤ◌, ◌*ℤ◌, [], ◌∷◌, ℕ, inl, inr, sym, ap, arith, ℤ, pos, List, length, All, Bool, true, false, cond}
-use Rattle.std.specs.List.{AllZip}
-use Rattle.std.proofs.lemmas.Bool.{true≢false, cases_Bool}
-use Rattle.std.proofs.lemmas.Int.{ints}
-use Rattle.std.proofs.lemmas.List.Elements.{All-nil, All-cons, All-head, All-tail, All-contains}
-use Rattle.step_problem.specs.Flows.{total}
-use Rattle.cell_balance.specs.Deep.{IsClosed}
-use Rattle.cell_balance.specs.Links.{HasLinkBack, AreLinked}
-use Rattle.cell_balance.specs.Steps.{ExactLink, ExactCell, cell_at, no_cell}
-use Rattle.cell_balance.proofs.Over.{LinkOver, CellOver}
-use Rattle.cell_balance.proofs.Totals.{total-same}
-use Rattle.cell_balance.proofs.Whole.{WholeLink, WholeCell, whole_at, no_whole, whole_link, whole_fixed, whole_river, whole_drain, whole_evap, whole_balance}
-use Rattle.cell_balance.proofs.Zips.{AllZip-at, AllZip-length, All-zip}
+use Rattle.exact_solutions.proofs.Common.{◌≡◌, ◌<◌, ◌∙◌, ◌+ℤ◌, ◌-ℤ◌, ◌*ℤ◌, [], ◌∷◌, ℕ, inl, inr, sym, ap, arith, ℤ, pos, List, length, All, Bool, true, false}
+use Rattle.exact_solutions.proofs.Common.{cond, AllZip, true≢false, cases_Bool, ints, All-nil, All-cons, All-head, All-tail, All-contains, total, IsClosed}
+use Rattle.exact_solutions.proofs.Common.{HasLinkBack, AreLinked, ExactLink, ExactCell, cell_at, no_cell, LinkOver, CellOver, total-same, WholeLink, WholeCell}
+use Rattle.exact_solutions.proofs.Common.{whole_at, no_whole, whole_link, whole_fixed, whole_river, whole_drain, whole_evap, whole_balance, AllZip-at}
+use Rattle.exact_solutions.proofs.Common.{AllZip-length, All-zip}
 
 -- a cell without its links
 abbrev pub without_links : WholeCell → WholeCell

@@ -1,11 +1,6 @@
 -- One ramp more: solve with it as a conductance to its foot; where that head lies on the ramp it is the solution, else solve without the ramp, or with its full rate.
-use Rattle.std.proofs.Common.{◌*ℤ◌, ◌+ℤ◌, ◌-ℤ◌, ◌<◌, ◌∙◌, ◌∷◌, ◌≡◌, ◌≤ℤ◌, List, Option, Some, ap, arith, cond, nat_eq, neg_ℤ, pos, refl, subst, sym, ℕ, ℤ}
-use Rattle.std.proofs.Math.IntN.{*ℤ-zero}
-use Rattle.std.proofs.lemmas.Int.{ints}
-use Rattle.decimal_input.proofs.Signs.{cancel_right, mul_mono_right, swap}
-use Rattle.step_problem.proofs.Falls.{loss_falls}
-use Rattle.step_problem.proofs.Ring.{as_diff, diffs, mul_mono, same_diff}
-use Rattle.cell_balance.proofs.Totals.{sub_mul}
+use Rattle.exact_solutions.proofs.Common.{◌*ℤ◌, ◌+ℤ◌, ◌-ℤ◌, ◌<◌, ◌∙◌, ◌∷◌, ◌≡◌, ◌≤ℤ◌, List, Option, Some, ap, arith, cond, nat_eq, neg_ℤ, pos, refl, subst, sym}
+use Rattle.exact_solutions.proofs.Common.{ℕ, ℤ, *ℤ-zero, ints, cancel_right, mul_mono_right, swap, loss_falls, as_diff, diffs, mul_mono, same_diff, sub_mul}
 use Rattle.exact_solutions.proofs.Equal.{same_at_most, same_at_least}
 use Rattle.exact_solutions.proofs.Ramps.{Ramp, rise, ramp_flow, AreMutual, net_flow, IsHeldFromBelow, IsSolution, HasWholeSolution, IsSinking, HasSinking}
 use Rattle.exact_solutions.proofs.Rises.{rise_within_extent, rise-below_foot, rise-above_top, extent-between}

@@ -1,11 +1,6 @@
 -- The flows of ramps: they leave the cell, fall as its head rises, and where they are the same at two heads they are within the full rates.
-use Rattle.std.proofs.Common.{[], ◌*ℤ◌, ◌+ℤ◌, ◌-ℤ◌, ◌<ℤ◌, ◌∷◌, ◌≡◌, ◌≤ℤ◌, Bool, List, None, Option, Some, arith, cond, false, nat_eq, neg_ℤ, pos, suc, true, zero, ℕ, ℤ}
-use Rattle.std.specs.Int.{int_max}
-use Rattle.std.proofs.Math.IntN.{*ℤ-zero}
-use Rattle.std.proofs.lemmas.Int.{clamps, ints}
-use Rattle.step_problem.specs.Flows.{total}
-use Rattle.step_problem.proofs.Ring.{as_diff, diffs, mul_mono, same_diff}
-use Rattle.cell_balance.proofs.Products.{cancel_le}
+use Rattle.exact_solutions.proofs.Common.{[], ◌*ℤ◌, ◌+ℤ◌, ◌-ℤ◌, ◌<ℤ◌, ◌∷◌, ◌≡◌, ◌≤ℤ◌, Bool, List, None, Option, Some, arith, cond, false, nat_eq, neg_ℤ, pos}
+use Rattle.exact_solutions.proofs.Common.{suc, true, zero, ℕ, ℤ, int_max, *ℤ-zero, clamps, ints, total, as_diff, diffs, mul_mono, same_diff, cancel_le}
 use Rattle.exact_solutions.proofs.Ramps.{Ramp, rise, extent, ramp_flow, full_rate}
 use Rattle.exact_solutions.proofs.Rises.{rise_grows, rise_within_extent, extent_nonneg, rise_nonneg}
 

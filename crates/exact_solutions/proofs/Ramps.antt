@@ -1,8 +1,6 @@
 -- A step in whole numbers, with ramps in place of its rivers, drains and evapotranspirations. Heads are whole numerators over d; every elevation is a whole number.
-use Rattle.std.proofs.Common.{◌*ℤ◌, ◌+ℤ◌, ◌-ℤ◌, ◌<ℤ◌, ◌<◌, ◌≡◌, ◌≤ℤ◌, Bool, List, None, Option, Some, cond, nat_eq, neg_ℤ, pos, true, ℕ, ℤ}
-use Rattle.std.specs.Int.{int_max, int_min}
-use Rattle.step_problem.specs.Flows.{total}
-use Rattle.cell_balance.specs.Components.{sum_below, sum_inside}
+use Rattle.exact_solutions.proofs.Common.{◌*ℤ◌, ◌+ℤ◌, ◌-ℤ◌, ◌<ℤ◌, ◌<◌, ◌≡◌, ◌≤ℤ◌, Bool, List, None, Option, Some, cond, nat_eq, neg_ℤ, pos, true, ℕ, ℤ, int_max}
+use Rattle.exact_solutions.proofs.Common.{int_min, total, sum_below, sum_inside}
 
 -- what leaves a cell: c * (head - foot) between foot and top, nothing below, no more above; a ramp without a top goes on
 pub record Ramp : Type 0 where

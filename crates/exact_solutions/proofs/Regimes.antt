@@ -1,10 +1,6 @@
 -- A ramp in one regime: as a conductance to its foot, or at its full rate; and a step that is held stays held where its first ramp is left out or put in one regime.
-use Rattle.std.proofs.Common.{◌*ℤ◌, ◌+ℤ◌, ◌-ℤ◌, ◌∙◌, ◌∷◌, ◌≡◌, ◌≤ℤ◌, Bool, List, None, Option, Some, arith, cond, false, nat_eq, neg_ℤ, pos, suc, true, ℕ, ℤ}
-use Rattle.std.proofs.Math.IntN.{zero-*ℤ}
-use Rattle.std.proofs.lemmas.Bool.{ne_eqb}
-use Rattle.std.proofs.lemmas.Int.{ints}
-use Rattle.step_problem.specs.Flows.{total}
-use Rattle.step_problem.proofs.Ring.{as_diff, diffs, same_diff}
+use Rattle.exact_solutions.proofs.Common.{◌*ℤ◌, ◌+ℤ◌, ◌-ℤ◌, ◌∙◌, ◌∷◌, ◌≡◌, ◌≤ℤ◌, Bool, List, None, Option, Some, arith, cond, false, nat_eq, neg_ℤ, pos, suc}
+use Rattle.exact_solutions.proofs.Common.{true, ℕ, ℤ, zero-*ℤ, ne_eqb, ints, total, as_diff, diffs, same_diff}
 use Rattle.exact_solutions.proofs.Ramps.{Ramp, full_rate, open_conductance_at, IsHeldFromBelow, IsHeldFromAbove}
 use Rattle.exact_solutions.proofs.Rises.{extent-between}
 use Rattle.exact_solutions.proofs.RampFlows.{full_rate_nonneg}

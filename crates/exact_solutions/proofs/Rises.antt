@@ -1,10 +1,7 @@
 -- How far a head stands on a ramp: it grows with the head, and what it is below the foot, between foot and top, and above the top.
-use Rattle.std.proofs.Common.{◌*ℤ◌, ◌-ℤ◌, ◌∙◌, ◌≡◌, ◌≤ℤ◌, None, Option, Some, arith, pos, sym, ℕ, ℤ}
-use Rattle.std.specs.Int.{int_max, int_min}
-use Rattle.std.proofs.lemmas.Int.{clamps, ints}
-use Rattle.cell_balance.proofs.Totals.{sub_mul}
+use Rattle.exact_solutions.proofs.Common.{◌*ℤ◌, ◌-ℤ◌, ◌∙◌, ◌≡◌, ◌≤ℤ◌, None, Option, Some, arith, pos, sym, ℕ, ℤ, int_max, int_min, clamps, ints, sub_mul}
+use Rattle.exact_solutions.proofs.Common.{mul_mono_right}
 use Rattle.exact_solutions.proofs.Ramps.{rise, extent}
-use Rattle.decimal_input.proofs.Signs.{mul_mono_right}
 
 pub rise_grows : (t : ℤ) (top : Option ℤ) (d : ℕ) (x y : ℤ) → x ≤ℤ y → rise t top d x ≤ℤ rise t top d y
 rise_grows t None d x y h = step x y (t *ℤ pos d) h

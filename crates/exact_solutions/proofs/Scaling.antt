@@ -1,17 +1,10 @@
 -- A step over another denominator: net flows scale, and so heads over two denominators compare, and two solutions are the same heads.
-use Rattle.std.proofs.Common.{[], ◌*ℤ◌, ◌*◌, ◌+ℤ◌, ◌-ℤ◌, ◌<◌, ◌∙◌, ◌∷◌, ◌≡◌, ◌≤ℤ◌, Bool, List, None, Option, Some, arith, cond, false, nat_eq, neg_ℤ, pos, refl, subst, sym, true, ℕ, ℤ, mul-pos}
-use Rattle.std.specs.Int.{int_min}
-use Rattle.std.proofs.Math.IntN.{zero-*ℤ}
-use Rattle.step_problem.specs.Flows.{total}
-use Rattle.step_problem.proofs.Ring.{as_diff, diffs, mul_assoc, same_diff}
-use Rattle.cell_balance.proofs.Scaling.{max_times, min_times}
-use Rattle.cell_balance.proofs.Sums.{sum-same, sum-times}
-use Rattle.cell_balance.proofs.Totals.{add_mul, sub_mul}
+use Rattle.exact_solutions.proofs.Common.{[], ◌*ℤ◌, ◌*◌, ◌+ℤ◌, ◌-ℤ◌, ◌<◌, ◌∙◌, ◌∷◌, ◌≡◌, ◌≤ℤ◌, Bool, List, None, Option, Some, arith, cond, false, nat_eq}
+use Rattle.exact_solutions.proofs.Common.{neg_ℤ, pos, refl, subst, sym, true, ℕ, ℤ, mul-pos, int_min, zero-*ℤ, total, as_diff, diffs, mul_assoc, same_diff}
+use Rattle.exact_solutions.proofs.Common.{max_times, min_times, sum-same, sum-times, add_mul, sub_mul, mul_mono_right, le_anti}
 use Rattle.exact_solutions.proofs.Equal.{same_at_most, same_at_least}
 use Rattle.exact_solutions.proofs.Ramps.{Ramp, rise, ramp_flow, link_flow, AreMutual, net_flow, IsHeldFromBelow, IsSolution}
 use Rattle.exact_solutions.proofs.Comparison.{comparison}
-use Rattle.decimal_input.proofs.Signs.{mul_mono_right}
-use Rattle.step_problem.proofs.BothSides.{le_anti}
 
 -- heads, feet and tops times k
 rise_scaled : (t : ℤ) (top : Option ℤ) (d k : ℕ) (x : ℤ) → rise t top (d * k) (x *ℤ pos k) ≡ rise t top d x *ℤ pos k

@@ -1,7 +1,5 @@
 -- Heads over two denominators are the same number where they are the same over the product.
-use Rattle.std.proofs.Common.{◌*ℤ◌, ◌-◌, ◌<◌, ◌∙◌, ◌≡◌, ap, arith, pos, suc, sym, ℕ, ℤ}
-use Rattle.decimal_input.specs.Fractions.{Fraction, IsOver, Same, den}
-use Rattle.cell_balance.specs.Solutions.{share}
+use Rattle.exact_solutions.proofs.Common.{◌*ℤ◌, ◌-◌, ◌<◌, ◌∙◌, ◌≡◌, ap, arith, pos, suc, sym, ℕ, ℤ, Fraction, IsOver, Same, den, share}
 
 pub share_den : (d : ℕ) (z : ℤ) → 0 < d → den (share d z) ≡ d
 share_den d z some = back d some

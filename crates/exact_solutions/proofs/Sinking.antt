@@ -1,8 +1,6 @@
 -- Heads at which no cell gains water: raised to a ramp's foot they serve with the ramp as a conductance, and back; so a step that is held from above has some.
-use Rattle.std.proofs.Common.{[], ◌*ℤ◌, ◌+ℤ◌, ◌-ℤ◌, ◌∙◌, ◌∷◌, ◌≡◌, ◌≤ℤ◌, List, None, Option, Some, ap, arith, cond, nat_eq, neg_ℤ, pos, refl, subst, ℕ, ℤ}
-use Rattle.std.specs.Int.{int_max}
-use Rattle.std.proofs.lemmas.Int.{clamps, ints}
-use Rattle.step_problem.proofs.Falls.{loss_falls}
+use Rattle.exact_solutions.proofs.Common.{[], ◌*ℤ◌, ◌+ℤ◌, ◌-ℤ◌, ◌∙◌, ◌∷◌, ◌≡◌, ◌≤ℤ◌, List, None, Option, Some, ap, arith, cond, nat_eq, neg_ℤ, pos, refl, subst}
+use Rattle.exact_solutions.proofs.Common.{ℕ, ℤ, int_max, clamps, ints, loss_falls}
 use Rattle.exact_solutions.proofs.Equal.{same_at_most}
 use Rattle.exact_solutions.proofs.Ramps.{Ramp, ramp_flow, AreMutual, IsHeldFromAbove, HasSinking}
 use Rattle.exact_solutions.proofs.Rises.{rise_within_height, rise-no_top}

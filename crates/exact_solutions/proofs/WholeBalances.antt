@@ -1,16 +1,8 @@
 -- The balance of a cell in whole numbers is its net flow in the step with ramps.
-use Rattle.std.proofs.Common.{[], ◌*ℤ◌, ◌+ℤ◌, ◌-ℤ◌, ◌<◌, ◌∙◌, ◌∷◌, ◌≡◌, All, List, arith, cond, length, map, nat_eq, neg_ℤ, pos, refl, sym, ℕ, ℤ}
-use Rattle.std.specs.Int.{int_max}
-use Rattle.std.proofs.Math.IntN.{*ℤ-zero, zero-*ℤ}
-use Rattle.std.proofs.lemmas.Int.{clamps, ints}
-use Rattle.std.proofs.lemmas.List.Elements.{All-head, All-tail}
-use Rattle.step_problem.specs.Flows.{total}
-use Rattle.step_problem.proofs.Ring.{as_diff, diffs, same_diff}
-use Rattle.cell_balance.specs.Components.{sum_below}
-use Rattle.cell_balance.proofs.Cancel.{weight, by_weight}
-use Rattle.cell_balance.proofs.Sums.{sum-add, sum-one, sum-same, sum-zero}
-use Rattle.cell_balance.proofs.Totals.{add_mul}
-use Rattle.cell_balance.proofs.Whole.{WholeCell, WholeFixed, WholeLink, WholeRiver, whole_at, whole_balance, whole_deep_river, whole_drain, whole_evap, whole_fixed, whole_river}
+use Rattle.exact_solutions.proofs.Common.{[], ◌*ℤ◌, ◌+ℤ◌, ◌-ℤ◌, ◌<◌, ◌∙◌, ◌∷◌, ◌≡◌, All, List, arith, cond, length, map, nat_eq, neg_ℤ, pos, refl, sym, ℕ, ℤ}
+use Rattle.exact_solutions.proofs.Common.{int_max, *ℤ-zero, zero-*ℤ, clamps, ints, All-head, All-tail, total, as_diff, diffs, same_diff, sum_below, weight}
+use Rattle.exact_solutions.proofs.Common.{by_weight, sum-add, sum-one, sum-same, sum-zero, add_mul, WholeCell, WholeFixed, WholeLink, WholeRiver, whole_at}
+use Rattle.exact_solutions.proofs.Common.{whole_balance, whole_deep_river, whole_drain, whole_evap, whole_fixed, whole_river}
 use Rattle.exact_solutions.proofs.Ramps.{Ramp, rise, net_flow}
 use Rattle.exact_solutions.proofs.WholeRamps.{known_conductance, known_flow, river_ramp, drain_ramp, evap_ramp, ramps_from, a_of, b_of, q_of, ramps_at_cell}
 

@@ -1,10 +1,7 @@
 -- The ramps of a step in whole numbers: those of each cell are its rivers, drains and evapotranspirations.
-use Rattle.std.proofs.Common.{[], ◌*ℤ◌, ◌++◌, ◌+ℤ◌, ◌+◌, ◌<◌, ◌∙◌, ◌∷◌, ◌≡◌, List, None, Some, arith, cond, map, nat_eq, pos, refl, subst, suc, sym, zero, ℕ, ℤ}
-use Rattle.std.proofs.lemmas.Bool.{eq-eqb, ne_eqb}
-use Rattle.std.proofs.lemmas.Int.{ints}
-use Rattle.step_problem.specs.Flows.{total}
-use Rattle.cell_balance.proofs.Cancel.{weight}
-use Rattle.cell_balance.proofs.Whole.{WholeCell, WholeDrain, WholeEvap, WholeFixed, WholeRiver, whole_at, whole_deep_river}
+use Rattle.exact_solutions.proofs.Common.{[], ◌*ℤ◌, ◌++◌, ◌+ℤ◌, ◌+◌, ◌<◌, ◌∙◌, ◌∷◌, ◌≡◌, List, None, Some, arith, cond, map, nat_eq, pos, refl, subst, suc, sym}
+use Rattle.exact_solutions.proofs.Common.{zero, ℕ, ℤ, eq-eqb, ne_eqb, ints, total, weight, WholeCell, WholeDrain, WholeEvap, WholeFixed, WholeRiver, whole_at}
+use Rattle.exact_solutions.proofs.Common.{whole_deep_river}
 use Rattle.exact_solutions.proofs.Ramps.{Ramp}
 
 -- a cell's conductance to known heads, and what they and its constant and deep flows give at a head of 0

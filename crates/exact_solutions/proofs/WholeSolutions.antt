@@ -1,21 +1,11 @@
 -- Heads solve an exact step just where they solve its whole numbers.
-use Rattle.std.proofs.Common.{[], ◌*ℤ◌, ◌*◌, ◌-◌, ◌<◌, ◌∙◌, ◌∷◌, ◌≡◌, List, ap, arith, length, map, pos, refl, subst, suc, sym, zero, ℕ, ℤ, mul-pos}
-use Rattle.std.specs.List.{AllZip}
-use Rattle.decimal_input.specs.Fractions.{Fraction, IsOver, den}
-use Rattle.step_problem.proofs.Ring.{mul_assoc}
-use Rattle.cell_balance.specs.Balance.{balance}
-use Rattle.cell_balance.specs.Solutions.{SolvesStep, share}
-use Rattle.cell_balance.specs.Steps.{ExactCell, cell_at, no_cell}
-use Rattle.cell_balance.proofs.Cancel.{IsMutual}
-use Rattle.cell_balance.proofs.Encloses.{share_is, whole_solves}
-use Rattle.cell_balance.proofs.Over.{CellOver, DrainOver, EvapOver, FixedOver, FlowOver, LinkOver, RiverOver, balance_over}
-use Rattle.cell_balance.proofs.Scaling.{over_zero}
-use Rattle.cell_balance.proofs.Whole.{WholeCell, no_whole, whole_at, whole_balance}
-use Rattle.cell_balance.proofs.Zips.{AllZip-at, AllZip-length}
+use Rattle.exact_solutions.proofs.Common.{[], ◌*ℤ◌, ◌*◌, ◌-◌, ◌<◌, ◌∙◌, ◌∷◌, ◌≡◌, List, ap, arith, length, map, pos, refl, subst, suc, sym, zero, ℕ, ℤ, mul-pos}
+use Rattle.exact_solutions.proofs.Common.{AllZip, Fraction, IsOver, den, mul_assoc, balance, SolvesStep, share, ExactCell, cell_at, no_cell, IsMutual, share_is}
+use Rattle.exact_solutions.proofs.Common.{whole_solves, CellOver, DrainOver, EvapOver, FixedOver, FlowOver, LinkOver, RiverOver, balance_over, over_zero}
+use Rattle.exact_solutions.proofs.Common.{WholeCell, no_whole, whole_at, whole_balance, AllZip-at, AllZip-length, swap}
 use Rattle.exact_solutions.proofs.Ramps.{IsSolution}
 use Rattle.exact_solutions.proofs.WholeRamps.{ramps_from, a_of, b_of, q_of}
 use Rattle.exact_solutions.proofs.WholeBalances.{scaled, scaled_balance}
-use Rattle.decimal_input.proofs.Signs.{swap}
 
 AllZip-map : {X Y Z : Type 0} (R : X → Y → Type 0) (S : X → Z → Type 0) (f : Y → Z) → ((x : X) (y : Y) → R x y → S x (f y)) → (xs : List X) (ys : List Y) → AllZip R xs ys → AllZip S xs (map f ys)
 AllZip-map R S f each [] [] h = tt

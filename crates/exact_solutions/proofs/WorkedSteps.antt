@@ -1,21 +1,13 @@
 -- The worked steps: the balance of a cell with a river and a well, and of two linked cells, and the heads at which they are zero.
-use Rattle.std.proofs.Common.{◌≡◌, ◌*◌, ◌<◌, ◌∙◌, ◌+ℤ◌, ◌-ℤ◌, ◌*ℤ◌, ◌≤ℤ◌, [], ◌∷◌, ℕ, zero, suc, refl, sym, ap, arith, ℤ, pos, neg_ℤ, List}
-use Rattle.std.specs.Int.{int_max}
-use Rattle.std.specs.List.{AllZip}
-use Rattle.std.proofs.lemmas.Int.{ints, clamps}
-use Rattle.decimal_input.specs.Fractions.{Same, whole, IsOver}
+use Rattle.exact_solutions.proofs.Common.{◌≡◌, ◌*◌, ◌<◌, ◌∙◌, ◌+ℤ◌, ◌-ℤ◌, ◌*ℤ◌, ◌≤ℤ◌, [], ◌∷◌, ℕ, zero, suc, refl, sym, ap, arith, ℤ, pos, neg_ℤ, List, int_max}
+use Rattle.exact_solutions.proofs.Common.{AllZip, ints, clamps, Same, whole, IsOver, share, SolvesStep, whole_solves, CellOver, add_mul, sub_mul, WholeCell}
+use Rattle.exact_solutions.proofs.Common.{whole_at, whole_balance, mul_mono_right, swap}
 use Rattle.step_problem.proofs.Leasts.{neg_mul}
-use Rattle.cell_balance.specs.Solutions.{share, SolvesStep}
-use Rattle.cell_balance.proofs.Encloses.{whole_solves}
-use Rattle.cell_balance.proofs.Over.{CellOver}
-use Rattle.cell_balance.proofs.Totals.{add_mul, sub_mul}
-use Rattle.cell_balance.proofs.Whole.{WholeCell, whole_at, whole_balance}
 use Rattle.exact_solutions.specs.Counts.{HasNoneOrMany}
 use Rattle.exact_solutions.specs.Worked.{river_and_well, linked_to, two_cells}
 use Rattle.exact_solutions.specs.WorkedLaws.{WellPastDeepFlow, WellWithinDeepFlow, WellOfDeepFlow, TwoLooseCells}
 use Rattle.exact_solutions.proofs.Shares.{crossed_same, same_crossed}
 use Rattle.exact_solutions.proofs.WholeSolutions.{share_is_over, whole_balances_solve}
-use Rattle.decimal_input.proofs.Signs.{mul_mono_right, swap}
 
 -- a whole number over d
 whole_over : (d : ℕ) (z : ℤ) → IsOver d (whole z) (z *ℤ pos d)

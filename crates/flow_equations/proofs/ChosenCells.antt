@@ -1,16 +1,9 @@
 -- The cell of a column of layers that an option chooses.
-use Rattle.std.proofs.Common.{◌≡◌, ℕ, zero, suc, ◌+◌, ◌*◌, ◌<◌, ◌⊎◌, inl, inr, Bool, true, false, not, ◌&&◌, ◌||◌, List, [], ◌∷◌, refl, sym, ap, ◌∙◌, arith, ℤ, pos, negsuc}
-use Rattle.std.specs.Prelude.{◌==◌}
-use Rattle.std.specs.List.{range_with_len, list_any}
-use Rattle.std.proofs.lemmas.Bool.{eqb-true, cases_lt, false≢true, and_parts, not-true}
+use Rattle.flow_equations.proofs.Common.{◌≡◌, ℕ, zero, suc, ◌+◌, ◌*◌, ◌<◌, ◌⊎◌, inl, inr, Bool, true, false, not, ◌&&◌, ◌||◌, List, [], ◌∷◌, refl, sym, ap, ◌∙◌}
+use Rattle.flow_equations.proofs.Common.{arith, ℤ, pos, negsuc, ◌==◌, range_with_len, list_any, eqb-true, cases_lt, false≢true, and_parts, not-true, FlowModel}
+use Rattle.flow_equations.proofs.Common.{layer_size, layer_of, place_in_layer, int_at, is_active, is_int, is_chosen, is_highest, range_more, ChoosesOneCell}
 use Rattle.std.proofs.lemmas.Nat.{div-add-mod'}
 use Rattle.std.proofs.lemmas.List.Folds.{list_any-append}
-use Rattle.model_types.specs.declared.model.FlowModel.{FlowModel}
-use Rattle.model_types.specs.Cells.{layer_size, layer_of, place_in_layer}
-use Rattle.model_types.specs.Layers.{int_at, is_active}
-use Rattle.model_types.specs.Receivers.{is_int, is_chosen, is_highest}
-use Rattle.model_types.proofs.Ranks.{range_more}
-use Rattle.flow_equations.specs.ReceiverLaws.{ChoosesOneCell}
 
 or_either : (x y : Bool) → (x || y) ≡ true → (x ≡ true) ⊎ (y ≡ true)
 or_either true y e = inl refl

@@ -1,14 +1,9 @@
 -- Vertical conductances through one material, and the vertical conductivity of a cell.
-use Rattle.std.proofs.Common.{◌≡◌, ℕ, ◌+◌, ◌*◌, ◌<◌, ◌⊎◌, inl, inr, cond, ap, arith, mul-pos}
-use Rattle.decimal_input.specs.Canonical.{size}
-use Rattle.decimal_input.specs.Ratios.{Ratio, den, plus, times, over, Same}
-use Rattle.decimal_input.proofs.Orders.{Same-trans, num_over}
-use Rattle.model_types.specs.declared.model.FlowModel.{FlowModel}
-use Rattle.model_types.specs.Layers.{area, thickness, bed_thickness, hk_at, vka_at, vkcb_at, vertical_conductivity}
-use Rattle.model_types.specs.Conductances.{two, vertical_half, vertical_conductance}
-use Rattle.flow_equations.specs.VerticalLaws.{distance, IsOneMaterial, HasVerticalConductivity}
+use Rattle.flow_equations.proofs.Common.{◌≡◌, ℕ, ◌+◌, ◌*◌, ◌<◌, ◌⊎◌, inl, inr, cond, ap, arith, mul-pos, size, Ratio, plus, times, over, Same, Same-trans}
+use Rattle.flow_equations.proofs.Common.{num_over, FlowModel, area, thickness, bed_thickness, hk_at, vka_at, vkcb_at, vertical_conductivity, two, vertical_half}
+use Rattle.flow_equations.proofs.Common.{vertical_conductance, distance, IsOneMaterial, HasVerticalConductivity, plus-Same, over-Same, Same-self, Same-of}
+use Rattle.decimal_input.specs.Ratios.{den}
 use Rattle.flow_equations.proofs.Values.{itself, value_two, value_times, value_plus, value_over, same_by, size_positive}
-use Rattle.decimal_input.proofs.SameNumbers.{plus-Same, over-Same, Same-self, Same-of}
 
 -- what is the same as a number above 0 is above 0
 above_zero : (k n d m : ℕ) → 0 < k → 0 < d → n * m ≡ k * d → 0 < n

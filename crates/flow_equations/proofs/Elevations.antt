@@ -1,17 +1,9 @@
 -- The thicknesses of a cell, of the bed below it and of the next cell add up to the space that they fill.
-use Rattle.std.proofs.Common.{◌≡◌, ℕ, ◌+◌, ◌*◌, ◌-◌, false, cond, refl, sym, ap, ◌∙◌, subst, arith, ℤ, pos, ◌-ℤ◌, ◌*ℤ◌, ◌≤ℤ◌}
-use Rattle.std.specs.Prelude.{nat_lt, unsigned_abs}
-use Rattle.std.proofs.lemmas.Int.{ints}
+use Rattle.flow_equations.proofs.Common.{◌≡◌, ℕ, ◌+◌, ◌*◌, ◌-◌, false, cond, refl, sym, ap, ◌∙◌, subst, arith, ℤ, pos, ◌-ℤ◌, ◌*ℤ◌, ◌≤ℤ◌, nat_lt, unsigned_abs}
+use Rattle.flow_equations.proofs.Common.{ints, Dec, number, plus, Same, Fraction, den, AtMost-trans, FlowModel, layer_size, gap, dec_at, thickness}
+use Rattle.flow_equations.proofs.Common.{bed_thickness, top_at, bottom_at, lowest, LayersFillTheSpace}
 use borrow.Author.Differences.{up, down}
-use Rattle.decimal_input.specs.declared.dec.Dec.{Dec}
-use Rattle.decimal_input.specs.Canonical.{number}
-use Rattle.decimal_input.specs.Ratios.{plus, Same}
-use Rattle.decimal_input.specs.Fractions.{Fraction, den, AtMost}
-use Rattle.decimal_input.proofs.Fractional.{AtMost-trans}
-use Rattle.model_types.specs.declared.model.FlowModel.{FlowModel}
-use Rattle.model_types.specs.Cells.{layer_size}
-use Rattle.model_types.specs.Layers.{gap, dec_at, thickness, bed_thickness, top_at, bottom_at, lowest}
-use Rattle.flow_equations.specs.VerticalLaws.{LayersFillTheSpace}
+use Rattle.decimal_input.specs.Fractions.{AtMost}
 use Rattle.flow_equations.proofs.Values.{IsValue, value_plus, same_by}
 
 -- what lies between two whole numbers, with what is below 0 on the other side

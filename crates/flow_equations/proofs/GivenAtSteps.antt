@@ -1,28 +1,14 @@
 -- Given heads at the last step, half-way, and in later periods.
-use Rattle.std.proofs.Common.{◌≡◌, ℕ, zero, suc, ◌+◌, ◌*◌, ◌-◌, ◌<◌, ◌≤◌, inl, inr, Bool, true, false, cond, ◌||◌, Some, None, List, [], ◌∷◌, ◌++◌, length, take, get_or, refl, sym, ap, ◌∙◌, subst, arith, ℤ, pos, neg_ℤ, ◌+ℤ◌, ◌*ℤ◌, mul-pos}
-use Rattle.std.specs.Prelude.{reverse, ◌==◌}
-use Rattle.std.specs.List.{find, flat_map}
-use Rattle.std.proofs.lemmas.Bool.{ne_eqb, cases_lt}
-use Rattle.std.proofs.lemmas.Int.{ints}
-use Rattle.std.proofs.lemmas.List.{reverse-append, take_all, take_more, append-nil}
+use Rattle.flow_equations.proofs.Common.{◌≡◌, ℕ, zero, suc, ◌+◌, ◌*◌, ◌-◌, ◌<◌, ◌≤◌, inl, inr, Bool, true, false, cond, ◌||◌, Some, None, List, [], ◌∷◌, ◌++◌}
+use Rattle.flow_equations.proofs.Common.{length, take, get_or, refl, sym, ap, ◌∙◌, subst, arith, ℤ, pos, neg_ℤ, ◌+ℤ◌, ◌*ℤ◌, mul-pos, reverse, ◌==◌, find}
+use Rattle.flow_equations.proofs.Common.{flat_map, ne_eqb, cases_lt, ints, reverse-append, take_all, take_more, append-nil, number, size, Ratio, ratio, over}
+use Rattle.flow_equations.proofs.Common.{Fraction, den, signed, negated, IsOver, IsShare, diffs, as_diff, same_diff, swap, mul_assoc, IsOver-plus, IsOver-times}
+use Rattle.flow_equations.proofs.Common.{IsOver-negated, IsOver-signed, same_over, FlowModel, Period, one, period_at, no_period, passed, geometric, multiplier}
+use Rattle.flow_equations.proofs.Common.{given_in, last_given, between_heads, head_or_kept, kept_head, constant_head, Lasts, HasEqualSteps}
 use Rattle.std.proofs.lemmas.List.Concat.{flat_map-append}
-use Rattle.decimal_input.specs.Canonical.{number, size}
-use Rattle.decimal_input.specs.Ratios.{Ratio, den as ratio_den, ratio, over, Same as SameRatio}
-use Rattle.decimal_input.specs.Fractions.{Fraction, den, signed, negated, plus, times, IsOver, Same}
-use Rattle.decimal_input.specs.Enclosures.{IsShare}
-use Rattle.decimal_input.proofs.Differences.{diffs, as_diff, same_diff}
-use Rattle.decimal_input.proofs.Signs.{swap}
-use Rattle.step_problem.proofs.Ring.{mul_assoc}
-use Rattle.cell_balance.proofs.Scaling.{IsOver-plus, IsOver-times, IsOver-negated, IsOver-signed}
-use Rattle.cell_balance.proofs.EntryScaled.{same_over}
-use Rattle.model_types.specs.declared.model.FlowModel.{FlowModel}
-use Rattle.model_types.specs.declared.period.Period.{Period}
+use Rattle.decimal_input.specs.Ratios.{den as ratio_den, Same as SameRatio}
+use Rattle.decimal_input.specs.Fractions.{plus, times, Same}
 use Rattle.model_types.specs.declared.entry.Given.{Given}
-use Rattle.model_types.specs.Conductances.{one}
-use Rattle.model_types.specs.Times.{period_at, no_period, passed, geometric, multiplier}
-use Rattle.model_types.specs.Kinds.{given_in, last_given}
-use Rattle.model_types.specs.Heads.{between_heads, head_or_kept, kept_head, constant_head}
-use Rattle.flow_equations.specs.TimeLaws.{Lasts, HasEqualSteps}
 use Rattle.flow_equations.specs.GivenHeadLaws.{HasGivenHead}
 use Rattle.flow_equations.proofs.Values.{value_one, itself, value_over, cross_by}
 use Rattle.flow_equations.proofs.StepSums.{geometric_one, value_ratio}

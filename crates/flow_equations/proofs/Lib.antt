@@ -1,3 +1,4 @@
+mod Common
 pub mod Values
 pub mod Links
 mod Darcy

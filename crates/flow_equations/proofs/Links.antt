@@ -1,19 +1,11 @@
 -- The links of an exact step: other variable cells, each once, and the same conductance at both ends.
-use Rattle.std.proofs.Common.{◌≡◌, ℕ, zero, suc, ◌<◌, inl, inr, Bool, true, List, [], ◌∷◌, length, get_or, map, refl, sym, ap, ◌∙◌, subst, arith}
-use Rattle.decimal_input.specs.Fractions.{Fraction}
-use Rattle.decimal_input.specs.Ratios.{Same}
-use Rattle.cell_balance.specs.Steps.{ExactLink, ExactCell, cell_at, no_cell}
+use Rattle.flow_equations.proofs.Common.{◌≡◌, ℕ, zero, suc, ◌<◌, inl, inr, Bool, true, List, [], ◌∷◌, length, get_or, map, refl, sym, ap, ◌∙◌, subst, arith}
+use Rattle.flow_equations.proofs.Common.{Fraction, Same, ExactLink, ExactCell, cell_at, no_cell, FlowModel, cell_count, is_variable, variable_below}
+use Rattle.flow_equations.proofs.Common.{variable_cells, index_of, variable_faces, HasSize, In, In-map, map-In, Contains-In, All-In, Ordered, Ordered-at}
+use Rattle.flow_equations.proofs.Common.{passing, rank, rank_below, at_rank, is_at, IsAt, exact_step, exact_cell, exact_link}
 use Rattle.cell_balance.specs.Links.{HasLinkBack, AreLinked, no_link}
 use Rattle.model_types.specs.declared.face.Face.{Face}
-use Rattle.model_types.specs.declared.model.FlowModel.{FlowModel}
-use Rattle.model_types.specs.Cells.{cell_count}
-use Rattle.model_types.specs.Kinds.{is_variable, variable_below, variable_cells, index_of}
-use Rattle.model_types.specs.Sources.{variable_faces}
-use Rattle.model_types.specs.Grids.{HasSize}
-use Rattle.model_types.proofs.Members.{In, In-map, map-In, Contains-In, All-In, Ordered, Ordered-at}
 use Rattle.model_types.proofs.Leads.{IsFaceOf, passing_are, passing_have, end_within, face_back, turned, ends_ascend}
-use Rattle.model_types.proofs.Ranks.{passing, rank, rank_below, at_rank, is_at, IsAt}
-use Rattle.flow_equations.specs.ExactStep.{exact_step, exact_cell, exact_link}
 
 pub Ordered-map : {X Y : Type 0} (R : X → X → Type 0) (S : Y → Y → Type 0) (f : X → Y) (xs : List X) → ((x y : X) → In xs x → In xs y → R x y → S (f x) (f y)) → Ordered R xs → Ordered S (map f xs)
 Ordered-map R S f [] h k = tt

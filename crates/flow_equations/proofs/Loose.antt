@@ -1,20 +1,10 @@
 -- Two cells that nothing holds: no flow between equal heads.
-use Rattle.std.proofs.Common.{◌≡◌, ℕ, zero, suc, ◌<◌, true, ℤ, pos, ◌+ℤ◌, ◌*ℤ◌, [], ◌∷◌, refl, ap, ◌∙◌, arith}
-use Rattle.std.proofs.lemmas.Bool.{false≢true}
+use Rattle.flow_equations.proofs.Common.{◌≡◌, ℕ, zero, suc, ◌<◌, true, ℤ, pos, ◌+ℤ◌, ◌*ℤ◌, [], ◌∷◌, refl, ap, ◌∙◌, arith, false≢true, Ratio, neg_times}
+use Rattle.flow_equations.proofs.Common.{Fraction, den, signed, IsOver, given_in, variable_below, is_constant, constant_head, start_head, row_conductance}
+use Rattle.flow_equations.proofs.Common.{entries_of, minus, share, SolvesStep, exact_step, Solves, variable_heads, two_cells}
 use Rattle.std.proofs.Math.IntN.{+ℤ_invr}
-use Rattle.decimal_input.specs.Ratios.{Ratio}
-use Rattle.decimal_input.proofs.Signs.{neg_times}
-use Rattle.decimal_input.specs.Fractions.{Fraction, den, signed, plus, times, IsOver}
+use Rattle.decimal_input.specs.Fractions.{plus, times}
 use Rattle.model_types.specs.Times.{times as all_times}
-use Rattle.model_types.specs.Kinds.{given_in, variable_below, is_constant}
-use Rattle.model_types.specs.Heads.{constant_head, start_head}
-use Rattle.model_types.specs.Conductances.{row_conductance}
-use Rattle.model_types.specs.Sources.{entries_of}
-use Rattle.cell_balance.specs.Balance.{minus}
-use Rattle.cell_balance.specs.Solutions.{share, SolvesStep}
-use Rattle.flow_equations.specs.ExactStep.{exact_step}
-use Rattle.flow_equations.specs.Histories.{Solves, variable_heads}
-use Rattle.flow_equations.specs.Worked.{two_cells}
 
 nothing_times : (n : ℕ) → pos 0 *ℤ pos n ≡ pos 0
 nothing_times n = ap pos (omega arith)

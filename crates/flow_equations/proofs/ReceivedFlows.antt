@@ -1,35 +1,19 @@
 -- The recharge of a cell, and what evapotranspiration takes at the two ends of its range.
-use Rattle.std.proofs.Common.{◌≡◌, ℕ, ◌*◌, ◌<◌, inl, Bool, false, cond, Option, Some, None, List, ◌++◌, map, refl, sym, ap, ◌∙◌, subst, arith, ℤ, pos, neg_ℤ, ◌+ℤ◌, ◌-ℤ◌, ◌*ℤ◌, mul-pos}
-use Rattle.std.specs.Prelude.{All, Contains}
+use Rattle.flow_equations.proofs.Common.{◌≡◌, ℕ, ◌*◌, ◌<◌, inl, Bool, false, cond, Option, Some, None, List, ◌++◌, map, refl, sym, ap, ◌∙◌, subst, arith, ℤ}
+use Rattle.flow_equations.proofs.Common.{pos, neg_ℤ, ◌+ℤ◌, ◌-ℤ◌, ◌*ℤ◌, mul-pos, All, Contains, filter_map, ints, clamps, Dec, number, size, Ratio, times}
+use Rattle.flow_equations.proofs.Common.{Fraction, den, whole, signed, negated, IsOver, with_sign, ExactFlow, minus, greater, IsOver-plus, IsOver-times}
+use Rattle.flow_equations.proofs.Common.{IsOver-minus, IsOver-negated, IsOver-none, IsOver-signed, IsOver-greater, same_over, FlowModel, Entry, Well, River}
+use Rattle.flow_equations.proofs.Common.{Drain, General, place_in_layer, dec_at, area, IsPositive, period_at, EvapSource, is_chosen, evap_conductance}
+use Rattle.flow_equations.proofs.Common.{FlowSource, local_entries, as_well, All-In, map-In, filter_map-In, Contains-In, exact_flow, exact_evap, recharge_of}
+use Rattle.flow_equations.proofs.Common.{ReceivesRecharge, Evaporates}
 use Rattle.std.specs.Int.{int_max}
 use Rattle.std.specs.Option.{option_to_list}
-use Rattle.std.specs.List.{filter_map}
-use Rattle.std.proofs.lemmas.Int.{ints, clamps}
-use Rattle.decimal_input.specs.declared.dec.Dec.{Dec}
-use Rattle.decimal_input.specs.Canonical.{number, size}
-use Rattle.decimal_input.specs.Ratios.{Ratio, den as ratio_den, times}
-use Rattle.decimal_input.specs.Fractions.{Fraction, den, whole, signed, negated, plus, times as product, IsOver, Same}
-use Rattle.decimal_input.specs.Decimals.{with_sign}
+use Rattle.decimal_input.specs.Ratios.{den as ratio_den}
+use Rattle.decimal_input.specs.Fractions.{plus, times as product, Same}
 use Rattle.decimal_input.proofs.Fractional.{Same-trans}
 use Rattle.step_problem.specs.declared.entry.FlowKind.TheVariants.{Wells, Recharge}
-use Rattle.cell_balance.specs.Steps.{ExactFlow}
-use Rattle.cell_balance.specs.Balance.{minus, greater}
-use Rattle.cell_balance.proofs.Scaling.{IsOver-plus, IsOver-times, IsOver-minus, IsOver-negated, IsOver-none, IsOver-signed, IsOver-greater}
-use Rattle.cell_balance.proofs.EntryScaled.{same_over}
 use Rattle.cell_balance.proofs.EntryFlows.{flows_are_right}
-use Rattle.model_types.specs.declared.model.FlowModel.{FlowModel}
-use Rattle.model_types.specs.declared.entry.Entry.{Entry}
-use Rattle.model_types.specs.declared.entry.Entry.TheVariants.{Well, River, Drain, General}
-use Rattle.model_types.specs.Cells.{place_in_layer}
-use Rattle.model_types.specs.Layers.{dec_at, area}
-use Rattle.model_types.specs.Numbers.{IsPositive}
-use Rattle.model_types.specs.Times.{period_at}
-use Rattle.model_types.specs.Receivers.{EvapSource, is_chosen, evap_conductance}
-use Rattle.model_types.specs.Sources.{FlowSource, local_entries, as_well}
 use Rattle.model_types.specs.Sources.FlowSource.{Received}
-use Rattle.model_types.proofs.Members.{All-In, map-In, filter_map-In, Contains-In}
-use Rattle.flow_equations.specs.ExactStep.{exact_flow, exact_evap}
-use Rattle.flow_equations.specs.ReceiverLaws.{recharge_of, ReceivesRecharge, Evaporates}
 use Rattle.flow_equations.proofs.Values.{IsValue, itself, value_over, size_positive}
 use Rattle.flow_equations.proofs.TurnedFlows.{over_first, own_share}
 

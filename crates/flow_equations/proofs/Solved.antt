@@ -1,19 +1,10 @@
 -- The worked models are solved by their histories: everything is computed.
-use Rattle.std.proofs.Common.{◌≡◌, ℕ, zero, suc, ◌<◌, true, ℤ, pos, negsuc, [], ◌∷◌, refl, arith}
-use Rattle.std.proofs.lemmas.Bool.{false≢true}
-use Rattle.decimal_input.specs.Decimals.{scaled}
-use Rattle.decimal_input.specs.Ratios.{ratio, plus, times as product, over}
-use Rattle.decimal_input.specs.Fractions.{IsOver}
-use Rattle.model_types.specs.Times.{times, power, geometric}
-use Rattle.model_types.specs.Storage.{storage}
-use Rattle.model_types.specs.Kinds.{given_in, variable_below, is_constant}
-use Rattle.model_types.specs.Heads.{constant_head, start_head}
-use Rattle.model_types.specs.Conductances.{half, in_a_row, row_conductance}
-use Rattle.model_types.specs.Sources.{entries_of}
-use Rattle.cell_balance.specs.Solutions.{SolvesStep}
-use Rattle.flow_equations.specs.ExactStep.{exact_step}
-use Rattle.flow_equations.specs.Histories.{Solves, heads_of, variable_heads}
-use Rattle.flow_equations.specs.Worked.{three_cells, idle_wells, one_cell}
+use Rattle.flow_equations.proofs.Common.{◌≡◌, ℕ, zero, suc, ◌<◌, true, ℤ, pos, negsuc, [], ◌∷◌, refl, arith, false≢true, scaled, ratio, plus, over, IsOver}
+use Rattle.flow_equations.proofs.Common.{power, geometric, storage, given_in, variable_below, is_constant, constant_head, start_head, half, in_a_row}
+use Rattle.flow_equations.proofs.Common.{row_conductance, entries_of, SolvesStep, exact_step, Solves, heads_of, variable_heads, three_cells, idle_wells}
+use Rattle.flow_equations.proofs.Common.{one_cell}
+use Rattle.decimal_input.specs.Ratios.{times as product}
+use Rattle.model_types.specs.Times.{times}
 use Rattle.flow_equations.specs.WorkedLaws.{vector}
 
 -- heads of 10, 15 and 20

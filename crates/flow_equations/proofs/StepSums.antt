@@ -1,20 +1,10 @@
 -- Time steps of a transient period: they grow by TSMULT from the manual's first one, and sum to the period.
-use Rattle.std.proofs.Common.{◌≡◌, ℕ, zero, suc, ◌+◌, ◌*◌, ◌-◌, ◌<◌, ◌≤◌, Bool, true, false, cond, ◌||◌, List, [], ◌∷◌, ◌++◌, refl, sym, ap, ◌∙◌, subst, arith, mul-pos}
-use Rattle.std.specs.Prelude.{◌==◌}
-use Rattle.std.specs.List.{range_with_len}
-use Rattle.std.proofs.lemmas.Bool.{eqb-true, ne_eqb}
-use Rattle.decimal_input.specs.Canonical.{size}
-use Rattle.decimal_input.specs.Ratios.{Ratio, den, ratio, plus, times, over, Same}
-use Rattle.decimal_input.proofs.Orders.{Same-trans}
-use Rattle.decimal_input.proofs.SameNumbers.{Same-self, Same-of, plus-Same, times-Same, over-Same}
-use Rattle.model_types.specs.declared.model.FlowModel.{FlowModel}
-use Rattle.model_types.specs.declared.period.Period.{Period}
-use Rattle.model_types.specs.Conductances.{one}
-use Rattle.model_types.specs.Times.{power, geometric, step_length, multiplier, passed}
-use Rattle.model_types.specs.Storage.{storage, storage_capacity}
-use Rattle.model_types.proofs.Ranks.{range_more}
+use Rattle.flow_equations.proofs.Common.{◌≡◌, ℕ, zero, suc, ◌+◌, ◌*◌, ◌-◌, ◌<◌, ◌≤◌, Bool, true, false, cond, ◌||◌, List, [], ◌∷◌, ◌++◌, refl, sym, ap, ◌∙◌}
+use Rattle.flow_equations.proofs.Common.{subst, arith, mul-pos, ◌==◌, range_with_len, eqb-true, ne_eqb, size, Ratio, ratio, plus, times, over, Same, Same-trans}
+use Rattle.flow_equations.proofs.Common.{Same-self, Same-of, plus-Same, times-Same, over-Same, FlowModel, Period, one, power, geometric, step_length}
+use Rattle.flow_equations.proofs.Common.{multiplier, passed, storage, storage_capacity, range_more, ratio_total, Lasts, HasManualSteps}
+use Rattle.decimal_input.specs.Ratios.{den}
 use Rattle.model_types.proofs.Growth.{power-positive, horner}
-use Rattle.flow_equations.specs.TimeLaws.{ratio_total, Lasts, HasManualSteps}
 use Rattle.flow_equations.proofs.Values.{IsValue, itself, value_one, value_times, value_plus, value_over, same_by, size_positive}
 
 same_in_both_orders : {f g : Ratio} → Same f g → (f.num * den g ≤ g.num * den f) × (g.num * den f ≤ f.num * den g)

@@ -1,15 +1,6 @@
 -- Storage by the option STORAGECOEFFICIENT.
-use Rattle.std.proofs.Common.{◌≡◌, ℕ, Bool, true, false, cond, ap, arith}
-use Rattle.decimal_input.specs.Canonical.{size}
-use Rattle.decimal_input.specs.Ratios.{Ratio, times, Same}
-use Rattle.decimal_input.proofs.Orders.{Same-trans}
-use Rattle.decimal_input.proofs.SameNumbers.{Same-of}
-use Rattle.model_types.specs.declared.model.FlowModel.{FlowModel}
-use Rattle.model_types.specs.declared.period.Period.{Period}
-use Rattle.model_types.specs.Layers.{dec_at, delr_at, delc_at, area, thickness}
-use Rattle.model_types.specs.Storage.{storage}
-use Rattle.model_types.specs.Times.{step_length}
-use Rattle.flow_equations.specs.TimeLaws.{Lasts, StoresByOption}
+use Rattle.flow_equations.proofs.Common.{◌≡◌, ℕ, Bool, true, false, cond, ap, arith, size, Ratio, times, Same, Same-trans, Same-of, FlowModel, Period, dec_at}
+use Rattle.flow_equations.proofs.Common.{delr_at, delc_at, area, thickness, storage, step_length, Lasts, StoresByOption}
 use Rattle.flow_equations.proofs.StepSums.{stores}
 use Rattle.flow_equations.proofs.Values.{itself, value_times, same_by}
 

@@ -1,15 +1,10 @@
 -- Flows over branches change their sign with the heads.
-use Rattle.std.proofs.Common.{◌≡◌, ℕ, ◌*◌, ◌<◌, sym, arith, ℤ, pos, neg_ℤ, ◌-ℤ◌, ◌*ℤ◌, mul-pos}
-use Rattle.std.proofs.lemmas.Int.{ints}
-use Rattle.decimal_input.specs.Ratios.{Ratio, den as ratio_den}
-use Rattle.decimal_input.specs.Fractions.{Fraction, den, signed, negated, times, Same, IsOver}
-use Rattle.decimal_input.specs.Enclosures.{IsShare}
-use Rattle.decimal_input.proofs.Differences.{diffs, as_diff, same_diff}
+use Rattle.flow_equations.proofs.Common.{◌≡◌, ℕ, ◌*◌, ◌<◌, sym, arith, ℤ, pos, neg_ℤ, ◌-ℤ◌, ◌*ℤ◌, mul-pos, ints, Ratio, Fraction, den, signed, negated, IsOver}
+use Rattle.flow_equations.proofs.Common.{IsShare, diffs, as_diff, same_diff, mul_assoc, minus, IsOver-times, IsOver-minus, IsOver-negated, IsOver-signed}
+use Rattle.flow_equations.proofs.Common.{same_over}
+use Rattle.decimal_input.specs.Ratios.{den as ratio_den}
+use Rattle.decimal_input.specs.Fractions.{times, Same}
 use Rattle.step_problem.proofs.Leasts.{mul_neg}
-use Rattle.step_problem.proofs.Ring.{mul_assoc}
-use Rattle.cell_balance.specs.Balance.{minus}
-use Rattle.cell_balance.proofs.Scaling.{IsOver-times, IsOver-minus, IsOver-negated, IsOver-signed}
-use Rattle.cell_balance.proofs.EntryScaled.{same_over}
 use Rattle.flow_equations.specs.SignLaws.{FlowsChangeSign}
 
 -- two fractions over the product of their denominators

@@ -1,26 +1,14 @@
 -- The worked models meet what readers promise of a model, so that something meets it.
-use Rattle.std.proofs.Common.{◌≡◌, ℕ, suc, ◌*◌, ◌%◌, ◌^◌, ◌<◌, ◌≤◌, ◌⊎◌, inl, inr, Bool, true, false, ℤ, pos, negsuc, List, [], ◌∷◌, length, refl, sym, ◌∙◌, subst, arith, All}
-use Rattle.std.proofs.lemmas.Int.{ints}
-use Rattle.std.specs.Prelude.{replicate, nat_lt}
-use Rattle.std.proofs.lemmas.Bool.{cond-true, le-leb, cases_lt, false≢true}
-use Rattle.std.proofs.lemmas.List.{length-replicate, get_or-replicate}
+use Rattle.flow_equations.proofs.Common.{◌≡◌, ℕ, suc, ◌*◌, ◌%◌, ◌^◌, ◌<◌, ◌≤◌, ◌⊎◌, inl, inr, Bool, true, false, ℤ, pos, negsuc, List, [], ◌∷◌, length, refl}
+use Rattle.flow_equations.proofs.Common.{sym, ◌∙◌, subst, arith, ints, replicate, nat_lt, cond-true, le-leb, cases_lt, false≢true, length-replicate}
+use Rattle.flow_equations.proofs.Common.{get_or-replicate, Dec, IsDec, scaled, ratio, FlowModel, Period, Entry, Well, no_number, dec_at, top_at, bottom_at}
+use Rattle.flow_equations.proofs.Common.{IsPositive, IsNotNegative, IsHeadNumber, IsThick, IsGrid, no_stresses, decimal, below_zero, cell, row_of_cells}
+use Rattle.flow_equations.proofs.Common.{period_with, row_model, three_cells, idle_wells, one_cell, two_cells}
+use Rattle.std.proofs.Common.{All}
 use Rattle.std.proofs.Math.ListN.{get_or-eq_default}
 use Rattle.std.proofs.lemmas.List.Elements.{All-nil, All-cons, All-replicate, All-get_or}
-use Rattle.decimal_input.specs.declared.dec.Dec.{Dec}
-use Rattle.decimal_input.specs.Canonical.{IsDec}
-use Rattle.decimal_input.specs.Decimals.{scaled}
-use Rattle.decimal_input.specs.Ratios.{ratio}
-use Rattle.model_types.specs.declared.model.FlowModel.{FlowModel}
-use Rattle.model_types.specs.declared.period.Period.{Period}
-use Rattle.model_types.specs.declared.entry.Entry.{Entry}
-use Rattle.model_types.specs.declared.entry.Entry.TheVariants.{Well}
-use Rattle.model_types.specs.Layers.{no_number, dec_at, top_at, bottom_at}
-use Rattle.model_types.specs.Numbers.{IsPositive, IsNotNegative, IsHeadNumber, IsThick}
-use Rattle.model_types.specs.Grids.{IsGrid}
 use Rattle.model_types.specs.Valid.{AreStresses, IsModel, IsPeriod, IsTimed, IsCellValid, IsEntryList, IsEntryValid}
-use Rattle.model_types.specs.Times.{no_stresses}
 use Rattle.model_types.proofs.NoStresses.{no_stresses_fit}
-use Rattle.flow_equations.specs.Worked.{decimal, below_zero, cell, row_of_cells, period_with, row_model, three_cells, idle_wells, one_cell, two_cells}
 
 is_dec : (neg : Bool) (digits e : ℕ) → digits < 10 ^ 18 → 0 < digits → 0 < digits % 10 → e ≤ 40 → IsDec (record { neg = neg; digits = digits; exp = pos e })
 is_dec neg digits e few some last small = record { few = few; form = inr (some, last); above = omega (arith, ints); below = omega (arith, ints, small) }

@@ -1,13 +1,8 @@
 -- What the terms of fractions come to, as a numerator and a denominator, so that an equation of two terms is one of products.
-use Rattle.std.proofs.Common.{◌≡◌, ℕ, ◌+◌, ◌*◌, ◌<◌, ◌≤◌, refl, sym, ◌∙◌, arith}
-use Rattle.decimal_input.specs.Ratios.{Ratio, den, ratio, plus, times, over, Same, AtMost}
-use Rattle.decimal_input.proofs.Orders.{num_times, den_times, num_plus, den_plus, num_over, den_over}
-use Rattle.decimal_input.specs.declared.dec.Dec.{Dec}
-use Rattle.decimal_input.specs.Canonical.{size}
-use Rattle.decimal_input.specs.Decimals.{scaled, up}
-use Rattle.std.proofs.Math.Nat.{one-le-pow}
-use Rattle.model_types.specs.Numbers.{IsPositive}
-use Rattle.model_types.specs.Conductances.{one, two}
+use Rattle.flow_equations.proofs.Common.{◌≡◌, ℕ, ◌+◌, ◌*◌, ◌<◌, ◌≤◌, refl, sym, ◌∙◌, arith, Ratio, ratio, plus, times, over, Same, AtMost, num_times, den_times}
+use Rattle.flow_equations.proofs.Common.{num_plus, den_plus, num_over, den_over, Dec, size, scaled, one-le-pow, IsPositive, one, two}
+use Rattle.decimal_input.specs.Ratios.{den}
+use Rattle.decimal_input.specs.Decimals.{up}
 
 -- f is n over d
 pub record IsValue (f : Ratio) (n d : ℕ) : Type 0 where

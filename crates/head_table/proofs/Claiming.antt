@@ -1,19 +1,8 @@
 -- A claim and a split keep the rule.
-use Rattle.std.proofs.Common.{◌≡◌, ℕ, List, get_or, set, ℤ, sym, refl, ◌∙◌, subst, ⊎_elim, length-set}
-use mathlib.Core.Option.{none, some}
-use lib.ListN.{get_elem?}
-use Rattle.atomic_table.specs.Table.{State, Me, step, keeps, Allows, Splits}
-use Rattle.atomic_table.proofs.Lists.{at_snoc, set_again}
-use Rattle.step_problem.specs.Entries.{Entries}
-use Rattle.step_problem.specs.declared.heads.Side.{Side}
-use Rattle.step_problem.specs.Heads.{Edges}
-use Rattle.cell_relax.specs.Words.{heads_on}
-use Rattle.head_table.specs.declared.known.Known.{Known}
-use Rattle.head_table.specs.Words.{words_on}
-use Rattle.head_table.specs.BySide.{edge_on, OnTheWay, WereSeen}
+use Rattle.head_table.proofs.Common.{◌≡◌, ℕ, List, get_or, set, ℤ, sym, refl, ◌∙◌, subst, ⊎_elim, length-set, none, some, get_elem?, State, Me, step, keeps}
+use Rattle.head_table.proofs.Common.{Allows, Splits, at_snoc, set_again, Entries, Side, Edges, heads_on, Known, words_on, edge_on, OnTheWay, WereSeen}
+use Rattle.head_table.proofs.Common.{IsTableKept, claim_play}
 use Rattle.head_table.proofs.WordReads.{counted_words}
-use Rattle.head_table.specs.Rule.{IsTableKept}
-use Rattle.head_table.specs.Plays.{claim_play}
 
 abbrev KnownMe : Type 0
 KnownMe = Me (Unit {0}) Known

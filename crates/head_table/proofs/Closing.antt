@@ -1,20 +1,7 @@
 -- What closed words keep.
-use Rattle.std.proofs.Common.{◌≡◌, ℕ, ◌<◌, List, length, true, sym, subst, Result, Ok, Err, IfOk}
-use Rattle.atomic_table.specs.Table.{Final, Seen}
-use Rattle.step_problem.specs.declared.heads.Bound.{Bound}
-use Rattle.step_problem.specs.declared.heads.Side.{Side}
-use Rattle.step_problem.specs.declared.heads.Side.TheVariants.{Low, High}
-use Rattle.step_problem.specs.Entries.{Entries}
-use Rattle.step_problem.specs.Conditions.{IsProblem}
-use Rattle.step_problem.specs.Heads.{Edges, AreOnTheWay}
-use Rattle.step_problem.proofs.Sides.{same_on_the_way}
-use Rattle.cell_relax.specs.Sides.{IsAsTight, AreNoLooser}
-use Rattle.cell_relax.specs.Words.{heads_on}
-use Rattle.cell_relax.proofs.Sides.{is_side}
-use Rattle.head_table.specs.declared.known.Known.{Known}
-use Rattle.head_table.specs.Words.{words_on}
-use Rattle.head_table.specs.BySide.{edge_on, OnTheWay}
-use Rattle.head_table.specs.Rule.{IsKnown, IsTableKept}
+use Rattle.head_table.proofs.Common.{◌≡◌, ℕ, ◌<◌, List, length, true, sym, subst, Result, Ok, Err, IfOk, Final, Seen, Bound, Side, Low, High, Entries}
+use Rattle.head_table.proofs.Common.{IsProblem, Edges, AreOnTheWay, same_on_the_way, IsAsTight, AreNoLooser, heads_on, is_side, Known, words_on, edge_on}
+use Rattle.head_table.proofs.Common.{OnTheWay, IsKnown, IsTableKept}
 
 -- the words at the end, with the last view of a seat
 pub record AtEnd (cells : List Entries) (edges : Edges) (ws : List ℕ) (v : Known) : Type 0 where

@@ -1,22 +1,9 @@
 -- An exchange of a word for the tighter of itself and a relaxed head keeps the rule.
-use Rattle.std.proofs.Common.{◌≡◌, ℕ, ◌<◌, List, length, get_or, set, ℤ, true, sym, refl, ◌∙◌, subst, arith, length-set}
-use mathlib.Core.Option.{none}
-use Rattle.atomic_table.specs.Table.{State, Me, step, keeps, Allows}
-use Rattle.step_problem.specs.declared.heads.Side.{Side}
-use Rattle.step_problem.specs.Entries.{Entries}
-use Rattle.step_problem.specs.Conditions.{IsHead, IsProblem}
+use Rattle.head_table.proofs.Common.{◌≡◌, ℕ, ◌<◌, List, length, get_or, set, ℤ, true, sym, refl, ◌∙◌, subst, arith, length-set, none, State, Me, step, keeps}
+use Rattle.head_table.proofs.Common.{Allows, Side, Entries, IsHead, IsProblem, Edges, turn_keeps, tighter, still_seen, sees, IsAsTight, IsRelaxedOn, other}
+use Rattle.head_table.proofs.Common.{heads_on, is_side, each_side, with_head, Known, head_of_word, word_of, words_on, tighter_word, edge_on, OnTheWay, WereSeen}
+use Rattle.head_table.proofs.Common.{IsKnown, IsTableKept, SeesHead, exchange_play}
 use Rattle.step_problem.specs.Exchanges.{IsExchange}
-use Rattle.step_problem.specs.Heads.{Edges}
-use Rattle.step_problem.proofs.SidesTurns.{turn_keeps, tighter, still_seen, sees}
-use Rattle.cell_relax.specs.Sides.{IsAsTight, IsRelaxedOn, other}
-use Rattle.cell_relax.specs.Words.{heads_on}
-use Rattle.cell_relax.proofs.Sides.{is_side, each_side}
-use Rattle.relax_core.specs.Core.{with_head}
-use Rattle.head_table.specs.declared.known.Known.{Known}
-use Rattle.head_table.specs.Words.{head_of_word, word_of, words_on, tighter_word}
-use Rattle.head_table.specs.BySide.{edge_on, OnTheWay, WereSeen}
-use Rattle.head_table.specs.Rule.{IsKnown, IsTableKept}
-use Rattle.head_table.specs.Plays.{SeesHead, exchange_play}
 use Rattle.head_table.proofs.WordReads.{one_cell, word_within, word_here, word_else, other_words, seen_length, seen_here, seen_else, other_seen, tighter_old, tighter_new, tighter_one}
 use Rattle.head_table.proofs.Unmoved.{views_stay}
 

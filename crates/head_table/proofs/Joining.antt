@@ -1,17 +1,6 @@
 -- A join keeps the rule.
-use Rattle.std.proofs.Common.{◌≡◌, ℕ, ◌<◌, List, length, set, ℤ, true, sym, ap, ◌∙◌, subst, arith}
-use Rattle.atomic_table.specs.Table.{Joins}
-use Rattle.atomic_table.proofs.Lists.{set_else}
-use Rattle.step_problem.specs.declared.heads.Side.{Side}
-use Rattle.step_problem.specs.Entries.{Entries}
-use Rattle.step_problem.specs.Conditions.{IsHead}
-use Rattle.step_problem.specs.Heads.{Edges}
-use Rattle.cell_relax.specs.Sides.{IsAsTight}
-use Rattle.cell_relax.specs.Words.{heads_on}
-use Rattle.head_table.specs.declared.known.Known.{Known}
-use Rattle.head_table.specs.Words.{words_on}
-use Rattle.head_table.specs.Rule.{IsSound, IsKnown, IsTableKept, join_views, spent_view}
-use Rattle.head_table.specs.Seats.{tighter_of}
+use Rattle.head_table.proofs.Common.{◌≡◌, ℕ, ◌<◌, List, length, set, ℤ, true, sym, ap, ◌∙◌, subst, arith, Joins, set_else, Side, Entries, IsHead, Edges}
+use Rattle.head_table.proofs.Common.{IsAsTight, heads_on, Known, words_on, IsSound, IsKnown, IsTableKept, join_views, spent_view, tighter_of}
 use Rattle.head_table.proofs.Unmoved.{views_stay}
 use Rattle.head_table.proofs.Tightest.{tightest_at, length_tightest, tighter_within, tighter_head}
 

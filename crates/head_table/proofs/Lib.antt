@@ -1,3 +1,4 @@
+mod Common
 pub mod WordReads
 pub mod Unmoved
 pub mod Looking

@@ -1,21 +1,7 @@
 -- A look at a word keeps the rule.
-use Rattle.std.proofs.Common.{◌≡◌, ℕ, ◌<◌, List, length, get_or, true, sym, refl, ◌∙◌, subst, arith}
-use mathlib.Core.Option.{none}
-use Rattle.atomic_table.specs.Table.{State, Me, step, keeps, Allows}
-use Rattle.step_problem.specs.declared.heads.Side.{Side}
-use Rattle.step_problem.specs.Entries.{Entries}
-use Rattle.step_problem.specs.Conditions.{IsHead, IsProblem}
-use Rattle.step_problem.specs.Heads.{Edges}
-use Rattle.step_problem.proofs.SidesTurns.{sees}
-use Rattle.cell_relax.specs.Sides.{IsAsTight, other}
-use Rattle.cell_relax.specs.Words.{heads_on}
-use Rattle.cell_relax.proofs.Sides.{is_side, each_side}
-use Rattle.relax_core.specs.Core.{with_head}
-use Rattle.head_table.specs.declared.known.Known.{Known}
-use Rattle.head_table.specs.Words.{head_of_word, word_of, words_on}
-use Rattle.head_table.specs.BySide.{edge_on, WereSeen, IsNoTighterThanSettled}
-use Rattle.head_table.specs.Rule.{IsTableKept}
-use Rattle.head_table.specs.Plays.{SeesHead, load_play}
+use Rattle.head_table.proofs.Common.{◌≡◌, ℕ, ◌<◌, List, length, get_or, true, sym, refl, ◌∙◌, subst, arith, none, State, Me, step, keeps, Allows, Side, Entries}
+use Rattle.head_table.proofs.Common.{IsHead, IsProblem, Edges, sees, IsAsTight, other, heads_on, is_side, each_side, with_head, Known, head_of_word, word_of}
+use Rattle.head_table.proofs.Common.{words_on, edge_on, WereSeen, IsNoTighterThanSettled, IsTableKept, SeesHead, load_play}
 use Rattle.head_table.proofs.WordReads.{one_cell, seen_length, seen_here, seen_else, other_seen}
 use Rattle.head_table.proofs.Unmoved.{unmoved}
 

@@ -1,18 +1,8 @@
 -- Seats that loosen nothing.
-use Rattle.std.proofs.Common.{◌≡◌, ℕ, ◌+◌, ◌<◌, List, length, get_or, set, ℤ, sym, ap, ◌∙◌, subst, arith, get_or-set_same, get_or-set_other}
-use Rattle.std.proofs.lemmas.Int.{ints}
-use mathlib.Core.Logic.{dite}
-use native.Mathlib.Decide.{ℕ_discrete}
-use Rattle.step_problem.specs.Entries.{Entries}
-use Rattle.step_problem.specs.declared.heads.Bound.{Bound}
-use Rattle.step_problem.specs.declared.heads.Side.{Side}
-use Rattle.step_problem.specs.declared.heads.Side.TheVariants.{Low, High}
-use Rattle.step_problem.specs.Heads.{no_bound}
-use Rattle.cell_relax.specs.Sides.{IsAsTight, AreNoLooser, other}
-use Rattle.cell_relax.specs.Words.{heads_on}
-use Rattle.cell_relax.proofs.Sides.{each_side}
+use Rattle.head_table.proofs.Common.{◌≡◌, ℕ, ◌+◌, ◌<◌, List, length, get_or, set, ℤ, sym, ap, ◌∙◌, subst, arith, get_or-set_same, get_or-set_other, ints, dite}
+use Rattle.head_table.proofs.Common.{ℕ_discrete, Entries, Bound, Side, Low, High, no_bound, IsAsTight, AreNoLooser, other, heads_on, each_side, seen_on}
+use Rattle.head_table.proofs.Common.{seen_of, SameOn, SameOnBut}
 use Rattle.head_table.specs.declared.table.HeadSeat.{HeadSeat}
-use Rattle.head_table.specs.Seats.{seen_on, seen_of, SameOn, SameOnBut}
 
 pub tight_refl : (side : Side) (x : ℤ) → IsAsTight side x x
 tight_refl Low x = omega (arith, ints)

@@ -1,22 +1,7 @@
 -- A new table meets the rule.
-use Rattle.std.proofs.Common.{◌≡◌, ℕ, zero, suc, ◌+◌, ◌*◌, ◌<◌, List, [], ◌∷◌, length, true, sym, refl, subst, arith}
-use mathlib.Core.Option.{some, some-injective, some-ne-none}
-use lib.ListN.{get_elem?}
-use Rattle.atomic_table.specs.Table.{opening}
-use Rattle.step_problem.specs.declared.heads.Bound.{Bound}
-use Rattle.step_problem.specs.Entries.{Entries}
-use Rattle.step_problem.specs.Conditions.{IsProblem}
-use Rattle.step_problem.specs.declared.heads.Side.{Side}
-use Rattle.step_problem.specs.declared.heads.Side.TheVariants.{Low, High}
-use Rattle.step_problem.specs.Heads.{Edges, AreOnTheWay}
-use Rattle.step_problem.proofs.Sides.{same_on_the_way}
-use Rattle.step_problem.proofs.SidesTurns.{same_seen, seen_itself}
-use Rattle.cell_relax.specs.Words.{heads_on}
-use Rattle.cell_relax.proofs.Sides.{is_side}
-use Rattle.head_table.specs.declared.known.Known.{Known}
-use Rattle.head_table.specs.Words.{words_on}
-use Rattle.head_table.specs.BySide.{edge_on, OnTheWay}
-use Rattle.head_table.specs.Rule.{IsKnown, IsTableKept, starting}
+use Rattle.head_table.proofs.Common.{◌≡◌, ℕ, zero, suc, ◌+◌, ◌*◌, ◌<◌, List, [], ◌∷◌, length, true, sym, refl, subst, arith, some, some-injective, some-ne-none}
+use Rattle.head_table.proofs.Common.{get_elem?, opening, Bound, Entries, IsProblem, Side, Low, High, Edges, AreOnTheWay, same_on_the_way, same_seen}
+use Rattle.head_table.proofs.Common.{seen_itself, heads_on, is_side, Known, words_on, edge_on, OnTheWay, IsKnown, IsTableKept, starting}
 
 only_one : (cells : List Entries) (edges : Edges) (raw : List ℕ) (u : Known) → IsKnown cells edges raw u → (j : ℕ) (v : Known) → get_elem? (u ∷ []) j ≡ some v → v.live ≡ true → IsKnown cells edges raw v
 only_one cells edges raw u k zero v e l = subst (IsKnown cells edges raw) (some-injective u v e) k

@@ -1,17 +1,9 @@
 -- The words of a table, made and read.
-use Rattle.std.proofs.Common.{◌≡◌, ℕ, zero, suc, ◌+◌, ◌*◌, ◌<◌, List, [], ◌∷◌, ◌++◌, length, get_or, sym, refl, ap, ◌∙◌, subst, arith, length-append}
+use Rattle.head_table.proofs.Common.{◌≡◌, ℕ, zero, suc, ◌+◌, ◌*◌, ◌<◌, List, [], ◌∷◌, ◌++◌, length, get_or, sym, refl, ap, ◌∙◌, subst, arith, length-append}
+use Rattle.head_table.proofs.Common.{dite, some, some-injective, some-ne-none, get_elem?, ℕ_discrete, Bound, Side, Low, High, no_bound, head_of, heads_on}
+use Rattle.head_table.proofs.Common.{head_of_word, word_of, words_on}
 use Rattle.std.proofs.lemmas.List.{get_or_at}
 use Rattle.std.proofs.Math.ListN.{get_or-append}
-use mathlib.Core.Logic.{dite}
-use mathlib.Core.Option.{some, some-injective, some-ne-none}
-use lib.ListN.{get_elem?}
-use native.Mathlib.Decide.{ℕ_discrete}
-use Rattle.step_problem.specs.declared.heads.Bound.{Bound}
-use Rattle.step_problem.specs.declared.heads.Side.{Side}
-use Rattle.step_problem.specs.declared.heads.Side.TheVariants.{Low, High}
-use Rattle.step_problem.specs.Heads.{no_bound}
-use Rattle.cell_relax.specs.Words.{head_of, heads_on}
-use Rattle.head_table.specs.Words.{head_of_word, word_of, words_on}
 use Rattle.head_table.proofs.WordReads.{word_within}
 
 pub any_default : {A : Type 0} (xs : List A) (i : ℕ) (d e : A) → i < length xs → get_or xs i d ≡ get_or xs i e

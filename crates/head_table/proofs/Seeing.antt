@@ -1,16 +1,6 @@
 -- What a seat has seen after a look or an exchange is sound, and it is a seat of the same table.
-use Rattle.std.proofs.Common.{◌≡◌, ℕ, ◌<◌, length, ℤ, sym, ap, ◌∙◌, subst, arith}
-use mathlib.Core.Logic.{dite}
-use native.Mathlib.Decide.{ℕ_discrete}
-use Rattle.atomic_table.specs.Table.{Me}
-use Rattle.step_problem.specs.declared.heads.Side.{Side}
-use Rattle.step_problem.specs.Conditions.{IsHead}
-use Rattle.cell_relax.specs.Sides.{other}
-use Rattle.cell_relax.specs.Words.{heads_on}
-use Rattle.cell_relax.proofs.Sides.{each_side}
-use Rattle.head_table.specs.declared.known.Known.{Known}
-use Rattle.head_table.specs.Rule.{IsSound}
-use Rattle.head_table.specs.Plays.{SeesHead}
+use Rattle.head_table.proofs.Common.{◌≡◌, ℕ, ◌<◌, length, ℤ, sym, ap, ◌∙◌, subst, arith, dite, ℕ_discrete, Me, Side, IsHead, other, heads_on, each_side, Known}
+use Rattle.head_table.proofs.Common.{IsSound, SeesHead}
 
 abbrev KnownMe : Type 0
 KnownMe = Me (Unit {0}) Known

@@ -1,14 +1,6 @@
 -- The tighter of two lists of bounds.
-use Rattle.std.proofs.Common.{◌≡◌, ℕ, zero, suc, ◌<◌, List, [], ◌∷◌, length, ℤ, refl, ap, arith}
-use Rattle.std.proofs.lemmas.Int.{ints, clamps}
-use Rattle.step_problem.specs.declared.heads.Bound.{Bound}
-use Rattle.step_problem.specs.declared.heads.Side.{Side}
-use Rattle.step_problem.specs.declared.heads.Side.TheVariants.{Low, High}
-use Rattle.step_problem.specs.Conditions.{IsHead}
-use Rattle.cell_relax.specs.Sides.{IsAsTight}
-use Rattle.cell_relax.specs.Words.{heads_on}
-use Rattle.head_table.specs.Rule.{tightest}
-use Rattle.head_table.specs.Seats.{tighter_of}
+use Rattle.head_table.proofs.Common.{◌≡◌, ℕ, zero, suc, ◌<◌, List, [], ◌∷◌, length, ℤ, refl, ap, arith, ints, clamps, Bound, Side, Low, High, IsHead, IsAsTight}
+use Rattle.head_table.proofs.Common.{heads_on, tightest, tighter_of}
 
 pub tightest_at : (side : Side) (xs ys : List Bound) (c : ℕ) → c < length xs → c < length ys → heads_on side (tightest xs ys) c ≡ tighter_of side (heads_on side xs c) (heads_on side ys c)
 tightest_at side [] ys c h l = absurd (omega arith)

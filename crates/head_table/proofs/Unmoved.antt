@@ -1,14 +1,7 @@
 -- What is asked of each live view, after one view has changed; and a step that changes no word.
-use Rattle.std.proofs.Common.{◌≡◌, ℕ, ◌≢◌, List, get_or, set, true, sym, ap, ◌∙◌, subst, ⊎_elim}
-use mathlib.Core.Option.{some}
-use lib.ListN.{get_elem?}
+use Rattle.head_table.proofs.Common.{◌≡◌, ℕ, ◌≢◌, List, get_or, set, true, sym, ap, ◌∙◌, subst, ⊎_elim, some, get_elem?, State, Me, keeps, stepped, at_set}
+use Rattle.head_table.proofs.Common.{Entries, Edges, Known, IsKnown, IsTableKept}
 use lib.Seq.{set-get_or}
-use Rattle.atomic_table.specs.Table.{State, Me, keeps, stepped}
-use Rattle.atomic_table.proofs.Lists.{at_set}
-use Rattle.step_problem.specs.Entries.{Entries}
-use Rattle.step_problem.specs.Heads.{Edges}
-use Rattle.head_table.specs.declared.known.Known.{Known}
-use Rattle.head_table.specs.Rule.{IsKnown, IsTableKept}
 
 abbrev KnownMe : Type 0
 KnownMe = Me (Unit {0}) Known

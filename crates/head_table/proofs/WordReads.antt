@@ -1,16 +1,8 @@
 -- What the words of a table, and bounds, read on each side after one of them is set.
-use Rattle.std.proofs.Common.{◌≡◌, ℕ, ◌+◌, ◌*◌, ◌<◌, ◌≤◌, ◌⊎◌, inl, inr, List, length, set, ℤ, ap, arith, length-set, get_or-set_other, get_or-set_same}
-use Rattle.std.proofs.lemmas.Int.{ints, clamps}
-use native.Mathlib.Decide.{dec_le}
-use Rattle.step_problem.specs.declared.heads.Bound.{Bound}
-use Rattle.step_problem.specs.declared.heads.Side.{Side}
-use Rattle.step_problem.specs.declared.heads.Side.TheVariants.{Low, High}
-use Rattle.cell_relax.specs.Sides.{IsAsTight, other}
-use Rattle.cell_relax.specs.Words.{heads_on}
-use Rattle.relax_core.specs.Core.{with_head}
+use Rattle.head_table.proofs.Common.{◌≡◌, ℕ, ◌+◌, ◌*◌, ◌<◌, ◌≤◌, ◌⊎◌, inl, inr, List, length, set, ℤ, ap, arith, length-set, get_or-set_other, get_or-set_same}
+use Rattle.head_table.proofs.Common.{ints, clamps, dec_le, Bound, Side, Low, High, IsAsTight, other, heads_on, with_head, tighter_of, head_of_word, word_of}
+use Rattle.head_table.proofs.Common.{words_on, tighter_word}
 use Rattle.relax_core.proofs.Words.{low_here, low_else, low_stays, high_here, high_else, high_stays}
-use Rattle.head_table.specs.Seats.{tighter_of}
-use Rattle.head_table.specs.Words.{head_of_word, word_of, words_on, tighter_word}
 
 -- each word is of one cell and one side
 pub one_cell : (side : Side) (c d : ℕ) → word_of side c ≡ word_of side d → c ≡ d

@@ -1,20 +1,13 @@
 -- Numbers that passed the tests of their columns.
-use Rattle.std.proofs.Common.{◌≡◌, ℕ, zero, suc, ◌<◌, ◌≤◌, Bool, true, false, List, [], ◌∷◌, length, get_or, drop, All, Option, Some, None, refl, arith}
-use Rattle.std.specs.Prelude.{if◌then◌else◌}
-use Rattle.std.specs.List.{AllZip}
-use Rattle.std.proofs.lemmas.List.Elements.{All-head, All-tail}
-use Rattle.decimal_input.specs.declared.dec.Dec.{Dec}
-use Rattle.decimal_input.specs.Canonical.{IsDec}
+use Rattle.list_package.proofs.Common.{◌≡◌, ℕ, zero, suc, ◌<◌, ◌≤◌, Bool, true, false, List, [], ◌∷◌, length, get_or, drop, All, Option, Some, None, refl}
+use Rattle.list_package.proofs.Common.{arith, if◌then◌else◌, AllZip, All-head, All-tail, Dec, IsDec, HeadTooLarge, BadProperty, no_number, IsColumn}
+use Rattle.list_package.proofs.Common.{column_fault, first_fault, or_later}
 use Rattle.outside.specs.declared.codes.Code.{Code}
-use Rattle.outside.specs.declared.codes.Code.TheVariants.{HeadTooLarge, BadProperty}
-use Rattle.model_types.specs.Layers.{no_number}
 use Rattle.model_types.specs.Numbers.{IsHeadNumber, IsNotNegative}
 use Rattle.number_limits.specs.Magnitudes.{is_head}
 use Rattle.number_limits.proofs.HeadLemmas.{head_of}
 use Rattle.list_package.specs.declared.columns.Column.{Column}
 use Rattle.list_package.specs.declared.columns.Column.TheVariants.{Rate, Head, Conductance}
-use Rattle.list_package.specs.Forms.{IsColumn}
-use Rattle.list_package.specs.Kinds.{column_fault, first_fault, or_later}
 
 neither : (a b : Option Code) → or_later a b ≡ None → (a ≡ None) × (b ≡ None)
 neither None b e = (refl, e)

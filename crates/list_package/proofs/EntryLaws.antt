@@ -1,19 +1,10 @@
 -- The laws of the packages of wells, rivers, drains and general heads, package by package.
-use Rattle.std.proofs.Common.{◌≡◌, ℕ, ◌<◌, ℤ, List, All, refl, arith}
-use Rattle.std.specs.List.{AllZip}
-use Rattle.std.proofs.lemmas.List.Elements.{All-weaker}
-use Rattle.decimal_input.specs.declared.dec.Dec.{Dec}
+use Rattle.list_package.proofs.Common.{◌≡◌, ℕ, ◌<◌, ℤ, List, All, refl, arith, AllZip, All-weaker, Dec, CellId, Grid, Period, Stresses, cell_count, AreStresses}
+use Rattle.list_package.proofs.Common.{IsEntryList, IsEntryValid, IsColumn, IsList, KeepsLimits, evap_arrays}
 use Rattle.model_types.specs.declared.entry.Entry.{Entry}
-use Rattle.model_types.specs.declared.grid.CellId.{CellId}
-use Rattle.model_types.specs.declared.grid.Grid.{Grid}
-use Rattle.model_types.specs.declared.period.Period.{Period}
-use Rattle.model_types.specs.declared.period.Stresses.{Stresses}
-use Rattle.model_types.specs.Cells.{cell_count}
-use Rattle.model_types.specs.Valid.{AreStresses, IsEntryList, IsEntryValid}
 use Rattle.list_package.specs.declared.entries.ListKind.{ListKind}
 use Rattle.list_package.specs.declared.entries.ListKind.TheVariants.{Wells, Rivers, Drains, Generals}
 use Rattle.list_package.specs.EntryKinds.{columns_of, entry_with, entries_in, kind_of}
-use Rattle.list_package.specs.Forms.{IsColumn, IsList, KeepsLimits, evap_arrays}
 use Rattle.list_package.proofs.ColumnLemmas.{at_column}
 
 replaces : (k : ListKind) (s : Stresses) (xs ys : List Entry) → (kind_of k).put ((kind_of k).put s xs) ys ≡ (kind_of k).put s ys

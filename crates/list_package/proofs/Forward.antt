@@ -1,9 +1,7 @@
 -- The first line of items leaves lines that it was given.
-use Rattle.std.proofs.Common.{◌≡◌, ℕ, List, Ok, Err, All}
-use Rattle.std.specs.Prelude.{IfOk, codes}
+use Rattle.list_package.proofs.Common.{◌≡◌, ℕ, List, Ok, Err, All, IfOk, codes, OutOfProfile}
 use Rattle.outside.specs.Words.{words}
 use Rattle.outside.specs.Refusals.{refusal}
-use Rattle.outside.specs.declared.codes.Code.TheVariants.{OutOfProfile}
 use Rattle.record_lines.specs.Asking.{LineMay, LinesMay}
 use Rattle.record_lines.specs.Items.{begins_with, line_at}
 use Rattle.record_lines.specs.Layout.{Left, Numbered}

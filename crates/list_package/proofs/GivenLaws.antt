@@ -1,17 +1,7 @@
 -- Stresses in limits stay so with a CHD list in limits.
-use Rattle.std.proofs.Common.{ℕ, ◌<◌, ℤ, List, All, refl, ap, arith}
-use Rattle.std.specs.List.{AllZip}
-use Rattle.std.proofs.lemmas.List.Elements.{All-weaker}
-use Rattle.decimal_input.specs.declared.dec.Dec.{Dec}
+use Rattle.list_package.proofs.Common.{ℕ, ◌<◌, ℤ, List, All, refl, ap, arith, AllZip, All-weaker, Dec, CellId, Grid, Period, Stresses, cell_count, AreStresses}
+use Rattle.list_package.proofs.Common.{IsGivenList, IsGivenValid, IsColumn, IsList, KeepsLimits, given_heads}
 use Rattle.model_types.specs.declared.entry.Given.{Given}
-use Rattle.model_types.specs.declared.grid.CellId.{CellId}
-use Rattle.model_types.specs.declared.grid.Grid.{Grid}
-use Rattle.model_types.specs.declared.period.Period.{Period}
-use Rattle.model_types.specs.declared.period.Stresses.{Stresses}
-use Rattle.model_types.specs.Cells.{cell_count}
-use Rattle.model_types.specs.Valid.{AreStresses, IsGivenList, IsGivenValid}
-use Rattle.list_package.specs.Forms.{IsColumn, IsList, KeepsLimits}
-use Rattle.list_package.specs.GivenHeads.{given_heads}
 use Rattle.list_package.proofs.ColumnLemmas.{at_column}
 
 given_list : (cells : ℕ) (xs : List Given) → IsList given_heads (IsGivenValid cells) xs → IsGivenList cells xs

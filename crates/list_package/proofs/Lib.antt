@@ -1,3 +1,4 @@
+mod Common
 pub mod ColumnLemmas
 pub mod EntryLaws
 pub mod GivenLaws

@@ -1,13 +1,8 @@
 -- Marked cells: in a list that may name a cell once only, two entries name two cells.
-use Rattle.std.proofs.Common.{◌≡◌, ℕ, Bool, true, false, cond, List, [], ◌∷◌, ◌++◌, length, get_or, sym, ap, ◌∙◌, arith}
-use Rattle.std.proofs.lemmas.List.{get_or-set_same, get_or-set_other, length-set, length-replicate}
-use Rattle.std.proofs.lemmas.List.Elements.{All-nil, All-push}
+use Rattle.list_package.proofs.Common.{◌≡◌, ℕ, Bool, true, false, cond, List, [], ◌∷◌, ◌++◌, length, get_or, sym, ap, ◌∙◌, arith, get_or-set_same}
+use Rattle.list_package.proofs.Common.{get_or-set_other, length-set, length-replicate, All-nil, All-push, Grid, cell_count, no_marks, AreMarked, Differ}
+use Rattle.list_package.proofs.Common.{IsNewlyMarked, Kind}
 use Rattle.std.proofs.lemmas.List.Quantifiers.{all_pairs_push}
-use Rattle.model_types.specs.declared.grid.Grid.{Grid}
-use Rattle.model_types.specs.Cells.{cell_count}
-use Rattle.list_package.specs.Entries.{no_marks}
-use Rattle.list_package.specs.Forms.{AreMarked, Differ, IsNewlyMarked}
-use Rattle.list_package.specs.Kinds.{Kind}
 
 -- a list that begins
 pub none_marked : {E : Type 0} (kind : Kind E) (grid : Grid) (marks : List Bool) → marks ≡ no_marks kind grid → kind.once ≡ true → AreMarked kind (cell_count grid) marks []

@@ -1,20 +1,16 @@
 -- A model in limits stays so where its periods have other stresses in limits.
-use Rattle.std.proofs.Common.{◌≡◌, ◌⊎◌, inl, inr, ℕ, zero, suc, ◌-◌, ◌<◌, ◌≤◌, ℤ, pos, ◌≤ℤ◌, Bool, true, not, cond, ◌&&◌, ◌==◌, List, [], ◌∷◌, map, All, Some, None, IfOk, Result, Ok, Err, length, get_or, sum, sum_by, refl, sym, ap, ◌∙◌, subst}
+use Rattle.list_package.proofs.Common.{◌≡◌, ◌⊎◌, inl, inr, ℕ, zero, suc, ◌-◌, ◌<◌, ◌≤◌, ℤ, pos, ◌≤ℤ◌, Bool, true, not, cond, ◌&&◌, ◌==◌, List, [], ◌∷◌, map}
+use Rattle.list_package.proofs.Common.{All, Some, None, Result, Ok, Err, length, get_or, sum, sum_by, refl, sym, ap, ◌∙◌, subst, All-weaker, Period, Stresses}
+use Rattle.list_package.proofs.Common.{cell_count, place_in_layer, dec_at, is_active, AreStresses, IsModel, IsPeriod, IsTimed, IsGrowing, IsBedChecked}
+use Rattle.list_package.proofs.Common.{IsEvapValid, number_one, EvapArrays, evap_arrays, IsList, KeepsLimits, SameBut, Kind, with_list, without}
+use Rattle.std.proofs.Common.{IfOk}
 use Rattle.std.specs.Option.{option_to_list}
-use Rattle.std.proofs.lemmas.List.Elements.{All-weaker}
 use Rattle.std.proofs.lemmas.List.Sums.{sum-map}
 use Rattle.outside.specs.declared.refusals.TextFault.{TextFault}
 use Rattle.model_types.specs.declared.model.FlowModel.{FlowModel}
-use Rattle.model_types.specs.declared.period.Period.{Period}
-use Rattle.model_types.specs.declared.period.Stresses.{Stresses}
-use Rattle.model_types.specs.Cells.{cell_count, place_in_layer}
-use Rattle.model_types.specs.Layers.{dec_at, is_active}
 use Rattle.model_types.specs.Receivers.{EvapSource, is_chosen}
 use Rattle.model_types.specs.Sources.{evap_sources}
 use Rattle.model_types.specs.Times.{no_period}
-use Rattle.model_types.specs.Valid.{AreStresses, IsModel, IsPeriod, IsTimed, IsGrowing, IsBedChecked, IsEvapValid, number_one}
-use Rattle.list_package.specs.Forms.{EvapArrays, evap_arrays, IsList, KeepsLimits, SameBut}
-use Rattle.list_package.specs.Kinds.{Kind, with_list, without}
 
 pub same_count : {A : Type 0} (f : Period → A) (ps qs : List Period) → map f ps ≡ map f qs → length ps ≡ length qs
 same_count f [] [] e = refl

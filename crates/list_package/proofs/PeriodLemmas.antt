@@ -1,6 +1,5 @@
 -- Periods that have their lists, and those to come.
-use Rattle.std.proofs.Common.{◌≡◌, List, [], ◌∷◌, ◌++◌, map, sym, ◌∙◌, append_assoc}
-use Rattle.std.proofs.lemmas.List.{append-nil, map-append}
+use Rattle.list_package.proofs.Common.{◌≡◌, List, [], ◌∷◌, ◌++◌, map, sym, ◌∙◌, append_assoc, append-nil, map-append}
 
 -- one more period has its list
 pub one_more_same : {A B : Type 0} (f : A → B) (whole rest others all : List A) (x y : A) → rest ≡ x ∷ others → f y ≡ f x → map f whole ++ map f rest ≡ map f all → map f (whole ++ y ∷ []) ++ map f others ≡ map f all

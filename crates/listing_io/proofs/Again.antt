@@ -1,35 +1,13 @@
 -- What is written is read again.
-use Rattle.std.proofs.Common.{◌≡◌, ℕ, ◌+◌, ◌≤◌, Bool, true, false, cond, List, [], ◌∷◌, ◌++◌, length, codes, map, nat_abs, All, refl, sym, ap, ◌∙◌, subst, arith, ℤ, pos, negsuc, Ok, slice_index_or}
-use Rattle.std.proofs.lemmas.Int.{ints}
-use Rattle.std.specs.List.{AllByRecursion, AllZip}
-use Rattle.std.proofs.lemmas.List.{append_assoc}
-use Rattle.std.proofs.lemmas.List.Elements.{recursion_from_All}
-use Rattle.std.proofs.lemmas.Slice.Eq.{bytes_eq-Decides}
-use Rattle.record_lines.specs.Layout.{next_number}
-use Rattle.record_lines.specs.Reading.{for_each}
-use Rattle.step_problem.specs.declared.heads.Bound.{Bound}
-use Rattle.step_problem.specs.declared.place.Dir.{Dir}
-use Rattle.step_problem.specs.declared.place.Dir.TheVariants.{In, Out}
-use Rattle.step_problem.specs.declared.place.Term.{Term}
-use Rattle.step_problem.specs.declared.place.Term.TheVariants.{Storage, ConstantHead, Wells, Drains, RiverLeakage, HeadDepBounds, Recharge, Et}
-use Rattle.step_problem.specs.declared.place.ZoneFlow.{ZoneFlow}
-use Rattle.step_problem.specs.Conditions.{IsHead, head_limit}
-use Rattle.step_problem.specs.Heads.{no_bound}
-use Rattle.step_problem.specs.Names.{term_name}
-use Rattle.budget_bounds.specs.declared.pair.TermPair.{TermPair}
-use Rattle.budget_bounds.specs.Terms.{no_pair}
-use Rattle.model_types.specs.declared.model.FlowModel.{FlowModel}
-use Rattle.model_types.specs.declared.time_steps.TimeStep.{TimeStep}
-use Rattle.model_types.specs.Layers.{is_active}
-use Rattle.model_types.specs.Times.{times}
-use Rattle.zone_pairs.specs.declared.pair.ZonePair.{ZonePair}
-use Rattle.zone_pairs.specs.Pairs.{zones_of_flow}
-use Rattle.listing_io.specs.declared.listing.ListedStep.{ListedStep}
-use Rattle.listing_io.specs.Numbers.{digits_behind}
-use Rattle.listing_io.specs.Forms.{Form, IsForm, pair_line}
-use Rattle.listing_io.specs.Listing.{Line, first_line, step_line, head_form, head_front, head_line, head_lines, head_pair, dir_front, term_form, term_line, term_lines, has_evt, flow_form, zone_front, zone_line, zone_pair, step_lines, all_step_lines, end_line, listing}
-use Rattle.listing_io.specs.Reading.{Left, pair_at, text_at, head_if, heads_at, term_at, term_if, terms_at, flow_at, step_with, step_at, first_at, listing_at}
-use Rattle.listing_io.specs.Listed.{AreCellBounds, IsFlowPair, AreFlows, AreFlowsAt, AreTerms, IsListedStep, AreListed}
+use Rattle.listing_io.proofs.Common.{◌≡◌, ℕ, ◌+◌, ◌≤◌, Bool, true, false, cond, List, [], ◌∷◌, ◌++◌, length, codes, map, nat_abs, All, refl, sym, ap, ◌∙◌}
+use Rattle.listing_io.proofs.Common.{subst, arith, ℤ, pos, negsuc, Ok, slice_index_or, ints, AllByRecursion, AllZip, append_assoc, recursion_from_All}
+use Rattle.listing_io.proofs.Common.{bytes_eq-Decides, next_number, for_each, Bound, Dir, In, Out, Term, Storage, ConstantHead, Wells, Drains, RiverLeakage}
+use Rattle.listing_io.proofs.Common.{HeadDepBounds, Recharge, Et, ZoneFlow, IsHead, head_limit, no_bound, term_name, TermPair, no_pair, FlowModel, TimeStep}
+use Rattle.listing_io.proofs.Common.{is_active, times, ZonePair, zones_of_flow, ListedStep, digits_behind, Form, IsForm, pair_line, Line, first_line, step_line}
+use Rattle.listing_io.proofs.Common.{head_form, head_front, head_line, head_lines, head_pair, dir_front, term_form, term_line, term_lines, has_evt, flow_form}
+use Rattle.listing_io.proofs.Common.{zone_front, zone_line, zone_pair, step_lines, all_step_lines, end_line, listing, Left, pair_at, text_at, head_if, heads_at}
+use Rattle.listing_io.proofs.Common.{term_at, term_if, terms_at, flow_at, step_with, step_at, first_at, listing_at, AreCellBounds, IsFlowPair, AreFlows}
+use Rattle.listing_io.proofs.Common.{AreFlowsAt, AreTerms, IsListedStep, AreListed}
 use Rattle.listing_io.proofs.Exactly.{line_whole}
 use Rattle.listing_io.proofs.Written.{eight_lines, lines_in, lines_out, grouped}
 

@@ -1,13 +1,7 @@
 -- A number has no blank, so the first blank after one ends it.
-use Rattle.std.proofs.Common.{◌≡◌, ℕ, zero, suc, ◌+◌, ◌-◌, ◌/◌, ◌%◌, ◌^◌, ◌<◌, ◌≤◌, ◌==◌, false, List, [], ◌∷◌, ◌++◌, length, take, drop, replicate, codes, decimal, nat_abs, add-one, refl, ap, ◌∙◌, arith, ℤ, pos, negsuc}
-use Rattle.std.proofs.lemmas.Bool.Decides.{nat_tests}
-use Rattle.std.proofs.lemmas.Fmt.{decimal_is_IsNumeral_wide}
-use Rattle.std.proofs.lemmas.List.{take_at}
-use Rattle.std.specs.Char.{digit_value}
-use Rattle.std.specs.List.{position_or_len}
-use Rattle.std.specs.Str.Parse.{AllDigits}
-use Rattle.fixed_text.specs.Fixed.{fixed_text, padded, sign}
-use Rattle.listing_io.specs.Forms.{first_word, behind_word}
+use Rattle.listing_io.proofs.Common.{◌≡◌, ℕ, zero, suc, ◌+◌, ◌-◌, ◌/◌, ◌%◌, ◌^◌, ◌<◌, ◌≤◌, ◌==◌, false, List, [], ◌∷◌, ◌++◌, length, take, drop, replicate}
+use Rattle.listing_io.proofs.Common.{codes, decimal, nat_abs, add-one, refl, ap, ◌∙◌, arith, ℤ, pos, negsuc, nat_tests, decimal_is_IsNumeral_wide, take_at}
+use Rattle.listing_io.proofs.Common.{digit_value, position_or_len, AllDigits, fixed_text, padded, sign, first_word, behind_word}
 use Rattle.listing_io.proofs.NumberLemmas.{some_power, part_less, quotient_less}
 
 -- no byte is b

@@ -1,13 +1,8 @@
 -- Reading a line gives the numbers of which just this line is written.
-use Rattle.std.proofs.Common.{◌≡◌, ℕ, ◌<◌, ◌≤◌, ◌^◌, Bool, true, false, ◌&&◌, cond, List, [], ◌++◌, length, drop, codes, nat_abs, nat_le, refl, sym, ap, ◌∙◌, arith, Some, None}
-use Rattle.std.proofs.lemmas.Bool.{and_parts, leb-true, le-leb}
-use Rattle.std.proofs.lemmas.List.{drop_at, append-nil}
-use Rattle.std.specs.Str.{bytes_eq}
-use Rattle.std.proofs.lemmas.Slice.Eq.{bytes_eq-Decides}
-use Rattle.fixed_text.specs.Fixed.{fixed_text}
-use Rattle.budget_bounds.specs.declared.pair.TermPair.{TermPair}
-use Rattle.listing_io.specs.Numbers.{digits_behind, value_of}
-use Rattle.listing_io.specs.Forms.{Form, pair_line, is_within, first_word, behind_word, candidate, pair_in, IsPairLine, IsForm, LinesReadExactly}
+use Rattle.listing_io.proofs.Common.{◌≡◌, ℕ, ◌<◌, ◌≤◌, ◌^◌, Bool, true, false, ◌&&◌, cond, List, [], ◌++◌, length, drop, codes, nat_abs, nat_le, refl, sym, ap}
+use Rattle.listing_io.proofs.Common.{◌∙◌, arith, Some, None, and_parts, leb-true, le-leb, drop_at, append-nil, bytes_eq, bytes_eq-Decides, fixed_text, TermPair}
+use Rattle.listing_io.proofs.Common.{digits_behind, value_of, Form, pair_line, is_within, first_word, behind_word, candidate, pair_in, IsPairLine, IsForm}
+use Rattle.listing_io.proofs.Common.{LinesReadExactly}
 use Rattle.listing_io.proofs.NumberLemmas.{value_is}
 use Rattle.listing_io.proofs.Blanks.{first_word_is, behind_word_is, NoBlank-fixed}
 

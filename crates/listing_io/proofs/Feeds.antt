@@ -1,34 +1,14 @@
 -- No line of a listing has a line feed, so the lines of its text are the listing's.
-use Rattle.std.proofs.Common.{◌≡◌, ℕ, zero, suc, ◌+◌, ◌/◌, ◌%◌, ◌<◌, ◌≤◌, ◌^◌, ◌==◌, Bool, true, false, not, cond, List, [], ◌∷◌, ◌++◌, length, codes, map, decimal, nat_abs, All, refl, sym, ap, ◌∙◌, subst, arith, ℤ, pos, negsuc}
-use Rattle.std.specs.List.{list_all, AllByRecursion, AllZip}
+use Rattle.listing_io.proofs.Common.{◌≡◌, ℕ, zero, suc, ◌+◌, ◌/◌, ◌%◌, ◌<◌, ◌≤◌, ◌^◌, ◌==◌, Bool, true, false, not, cond, List, [], ◌∷◌, ◌++◌, length, codes}
+use Rattle.listing_io.proofs.Common.{map, decimal, nat_abs, All, refl, sym, ap, ◌∙◌, subst, arith, ℤ, pos, negsuc, list_all, AllByRecursion, AllZip, and_parts}
+use Rattle.listing_io.proofs.Common.{recursion_from_All, flat_map-cons, lines, Bound, Dir, In, Out, Term, Storage, ConstantHead, Wells, Drains, RiverLeakage}
+use Rattle.listing_io.proofs.Common.{HeadDepBounds, Recharge, Et, ZoneFlow, term_name, TermPair, fixed_text, Grid, FlowModel, TimeStep, layer_size, place}
+use Rattle.listing_io.proofs.Common.{is_active, times, ZonePair, zones_of_flow, ListedStep, Form, pair_line, Line, ended, text_of, numbers_text, first_line}
+use Rattle.listing_io.proofs.Common.{step_line, head_form, head_front, head_line, head_lines, head_pair, dir_front, term_form, term_line, term_lines, has_evt}
+use Rattle.listing_io.proofs.Common.{flow_form, zone_front, zone_line, zone_pair, step_lines, all_step_lines, end_line, listing, listing_at, AreCellBounds}
+use Rattle.listing_io.proofs.Common.{IsFlowPair, AreFlows, AreFlowsAt, AreTerms, IsListedStep, AreListed, AreZonePairs, IsTime, IsWritable}
+use Rattle.listing_io.proofs.Common.{ListingsAreReadAgain}
 use Rattle.std.specs.Fmt.{signed_decimal}
-use Rattle.std.proofs.lemmas.Bool.{and_parts}
-use Rattle.std.proofs.lemmas.List.Elements.{recursion_from_All}
-use Rattle.std.proofs.lemmas.List.Concat.{flat_map-cons}
-use Rattle.outside.specs.Words.{lines}
-use Rattle.step_problem.specs.declared.heads.Bound.{Bound}
-use Rattle.step_problem.specs.declared.place.Dir.{Dir}
-use Rattle.step_problem.specs.declared.place.Dir.TheVariants.{In, Out}
-use Rattle.step_problem.specs.declared.place.Term.{Term}
-use Rattle.step_problem.specs.declared.place.Term.TheVariants.{Storage, ConstantHead, Wells, Drains, RiverLeakage, HeadDepBounds, Recharge, Et}
-use Rattle.step_problem.specs.declared.place.ZoneFlow.{ZoneFlow}
-use Rattle.step_problem.specs.Names.{term_name}
-use Rattle.budget_bounds.specs.declared.pair.TermPair.{TermPair}
-use Rattle.fixed_text.specs.Fixed.{fixed_text}
-use Rattle.model_types.specs.declared.grid.Grid.{Grid}
-use Rattle.model_types.specs.declared.model.FlowModel.{FlowModel}
-use Rattle.model_types.specs.declared.time_steps.TimeStep.{TimeStep}
-use Rattle.model_types.specs.Cells.{layer_size, place}
-use Rattle.model_types.specs.Layers.{is_active}
-use Rattle.model_types.specs.Times.{times}
-use Rattle.zone_pairs.specs.declared.pair.ZonePair.{ZonePair}
-use Rattle.zone_pairs.specs.Pairs.{zones_of_flow}
-use Rattle.listing_io.specs.declared.listing.ListedStep.{ListedStep}
-use Rattle.listing_io.specs.Forms.{Form, pair_line}
-use Rattle.listing_io.specs.Listing.{Line, ended, text_of, numbers_text, first_line, step_line, head_form, head_front, head_line, head_lines, head_pair, dir_front, term_form, term_line, term_lines, has_evt, flow_form, zone_front, zone_line, zone_pair, step_lines, all_step_lines, end_line, listing}
-use Rattle.listing_io.specs.Reading.{listing_at}
-use Rattle.listing_io.specs.Listed.{AreCellBounds, IsFlowPair, AreFlows, AreFlowsAt, AreTerms, IsListedStep, AreListed}
-use Rattle.listing_io.specs.Laws.{AreZonePairs, IsTime, IsWritable, ListingsAreReadAgain}
 use Rattle.listing_io.proofs.Blanks.{Without, Without-append, decimal_without, fixed_without}
 use Rattle.listing_io.proofs.Exactly.{fits_wide}
 use Rattle.listing_io.proofs.Written.{eight_lines, lines_in, lines_out}

@@ -1,8 +1,6 @@
 -- Lines that were written one after another are the text of their list.
-use Rattle.std.proofs.Common.{◌≡◌, ℕ, Bool, true, false, cond, List, [], ◌∷◌, ◌++◌, map, refl, sym, ap, ◌∙◌}
-use Rattle.std.proofs.lemmas.List.{append_assoc, append-nil}
-use Rattle.std.proofs.lemmas.List.Concat.{flat_map-cons, flat_map-append}
-use Rattle.listing_io.specs.Listing.{Line, ended, text_of}
+use Rattle.listing_io.proofs.Common.{◌≡◌, ℕ, Bool, true, false, cond, List, [], ◌∷◌, ◌++◌, map, refl, sym, ap, ◌∙◌, append_assoc, append-nil, flat_map-cons}
+use Rattle.listing_io.proofs.Common.{flat_map-append, Line, ended, text_of}
 
 -- one line more in front
 pub with_line : (t : List ℕ) (row : Line) (rows : List Line) → (t ++ ended row) ++ text_of rows ≡ t ++ text_of (row ∷ rows)

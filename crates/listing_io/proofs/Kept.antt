@@ -1,30 +1,11 @@
 -- What holds of the steps that are read.
-use Rattle.std.proofs.Common.{◌≡◌, ℕ, zero, suc, ◌+◌, ◌≤◌, Bool, true, false, List, [], ◌∷◌, length, map, nat_abs, refl, ap, ◌∙◌, arith, ℤ, pos, negsuc, Ok}
-use Rattle.std.proofs.lemmas.Int.{ints}
-use Rattle.std.specs.List.{AllByRecursion, AllZip}
-use Rattle.std.proofs.lemmas.List.Elements.{All-from_recursion}
-use Rattle.record_lines.specs.Reading.{for_each}
-use Rattle.step_problem.specs.declared.heads.Bound.{Bound}
-use Rattle.step_problem.specs.declared.place.Dir.{Dir}
-use Rattle.step_problem.specs.declared.place.Dir.TheVariants.{In, Out}
-use Rattle.step_problem.specs.declared.place.Term.{Term}
-use Rattle.step_problem.specs.declared.place.Term.TheVariants.{Storage, ConstantHead, Wells, Drains, RiverLeakage, HeadDepBounds, Recharge, Et}
-use Rattle.step_problem.specs.declared.place.ZoneFlow.{ZoneFlow}
-use Rattle.step_problem.specs.Conditions.{IsHead, head_limit}
-use Rattle.step_problem.specs.Heads.{no_bound}
-use Rattle.budget_bounds.specs.declared.pair.TermPair.{TermPair}
-use Rattle.budget_bounds.specs.Terms.{no_pair}
-use Rattle.model_types.specs.declared.model.FlowModel.{FlowModel}
-use Rattle.model_types.specs.declared.time_steps.TimeStep.{TimeStep}
-use Rattle.model_types.specs.Cells.{cell_count}
-use Rattle.model_types.specs.Layers.{is_active}
-use Rattle.model_types.specs.Times.{times}
-use Rattle.zone_pairs.specs.declared.pair.ZonePair.{ZonePair}
-use Rattle.zone_pairs.specs.Pairs.{zones_of_flow}
-use Rattle.listing_io.specs.declared.listing.ListedStep.{ListedStep}
-use Rattle.listing_io.specs.Listing.{step_line, head_form, head_front, dir_front, term_form, has_evt, flow_form, zone_front, zone_pair, end_line}
-use Rattle.listing_io.specs.Reading.{Left, pair_at, text_at, bound_of, head_if, heads_at, term_at, term_if, terms_at, flow_of, flow_at, step_with, step_at, first_at, over_at, listing_at}
-use Rattle.listing_io.specs.Listed.{IsCellBound, AreCellBounds, IsFlowPair, AreFlows, AreFlowsAt, AreTerms, IsListedStep, AreListed}
+use Rattle.listing_io.proofs.Common.{◌≡◌, ℕ, zero, suc, ◌+◌, ◌≤◌, Bool, true, false, List, [], ◌∷◌, length, map, nat_abs, refl, ap, ◌∙◌, arith, ℤ, pos, negsuc}
+use Rattle.listing_io.proofs.Common.{Ok, ints, AllByRecursion, AllZip, All-from_recursion, for_each, Bound, Dir, In, Out, Term, Storage, ConstantHead, Wells}
+use Rattle.listing_io.proofs.Common.{Drains, RiverLeakage, HeadDepBounds, Recharge, Et, ZoneFlow, IsHead, head_limit, no_bound, TermPair, no_pair, FlowModel}
+use Rattle.listing_io.proofs.Common.{TimeStep, cell_count, is_active, times, ZonePair, zones_of_flow, ListedStep, step_line, head_form, head_front, dir_front}
+use Rattle.listing_io.proofs.Common.{term_form, has_evt, flow_form, zone_front, zone_pair, end_line, Left, pair_at, text_at, bound_of, head_if, heads_at}
+use Rattle.listing_io.proofs.Common.{term_at, term_if, terms_at, flow_of, flow_at, step_with, step_at, first_at, over_at, listing_at, IsCellBound}
+use Rattle.listing_io.proofs.Common.{AreCellBounds, IsFlowPair, AreFlows, AreFlowsAt, AreTerms, IsListedStep, AreListed}
 use Rattle.listing_io.proofs.Written.{goes, same_ok, pair_row}
 
 is_head : (z : ℤ) → nat_abs z ≤ head_limit → IsHead z
@@ -142,7 +123,7 @@ flows_kept s (z ∷ zs) left got h =
     let others = flows_kept s zs flow.item.1 more.item more.first in
     let e : (flow.item.0 ∷ more.item.0, more.item.1) ≡ got = same_ok _ got _ refl more.then_ in
     let pairs : map zones_of_flow (flow.item.0 ∷ more.item.0) ≡ z ∷ zs =
-        ap (λ (y : ZonePair). y ∷ map zones_of_flow more.item.0) one.pair ∙ ap (λ (ys : List ZonePair). z ∷ ys) others.pairs in
+    ap (λ (y : ZonePair). y ∷ map zones_of_flow more.item.0) one.pair ∙ ap (λ (ys : List ZonePair). z ∷ ys) others.pairs in
     rw (← e) (record { pairs = pairs; small = (one.small, others.small) })
 
 record StepKept (m : FlowModel) (zs : List ZonePair) (x : ListedStep) : Type 0 where

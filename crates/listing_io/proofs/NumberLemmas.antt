@@ -1,13 +1,9 @@
 -- The digits of a text with a point write its number.
-use Rattle.std.proofs.Common.{◌≡◌, ℕ, zero, suc, ◌+◌, ◌-◌, ◌*◌, ◌/◌, ◌%◌, ◌^◌, ◌<◌, ◌≤◌, ◌==◌, true, false, ◌&&◌, cond, List, [], ◌∷◌, ◌++◌, length, replicate, get_or, drop, drop-cons, codes, decimal, nat_abs, nat_le, refl, sym, ap, ◌∙◌, arith, ℤ, pos, negsuc, add-one, pow-suc}
-use Rattle.std.proofs.lemmas.Bool.Decides.{nat_tests}
-use Rattle.std.proofs.lemmas.Fmt.{decimal_is_IsNumeral_wide, length-decimal-le_wide}
-use Rattle.std.proofs.lemmas.List.{append_assoc, drop_all}
+use Rattle.listing_io.proofs.Common.{◌≡◌, ℕ, zero, suc, ◌+◌, ◌-◌, ◌*◌, ◌/◌, ◌%◌, ◌^◌, ◌<◌, ◌≤◌, ◌==◌, true, false, ◌&&◌, cond, List, [], ◌∷◌, ◌++◌, length}
+use Rattle.listing_io.proofs.Common.{replicate, get_or, drop, drop-cons, codes, decimal, nat_abs, nat_le, refl, sym, ap, ◌∙◌, arith, ℤ, pos, negsuc, add-one}
+use Rattle.listing_io.proofs.Common.{pow-suc, nat_tests, decimal_is_IsNumeral_wide, length-decimal-le_wide, append_assoc, drop_all, digit_value, AllDigits}
+use Rattle.listing_io.proofs.Common.{digits_value_after, fixed_text, padded, with_byte, digits_behind, is_negative, value_of}
 use Rattle.std.proofs.lemmas.Nat.{pow-add}
-use Rattle.std.specs.Char.{digit_value}
-use Rattle.std.specs.Str.Parse.{AllDigits, digits_value_after}
-use Rattle.fixed_text.specs.Fixed.{fixed_text, padded}
-use Rattle.listing_io.specs.Numbers.{with_byte, digits_behind, is_negative, value_of}
 
 pub behind_append : (n : ℕ) (xs ys : List ℕ) → digits_behind n (xs ++ ys) ≡ digits_behind (digits_behind n xs) ys
 unfolding digits_behind

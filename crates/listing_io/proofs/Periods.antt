@@ -1,10 +1,6 @@
 -- The times of a model are steps of its stress periods.
-use Rattle.std.proofs.Common.{◌≡◌, ℕ, zero, suc, ◌+◌, ◌≤◌, All, List, [], ◌∷◌, ◌++◌, length, map, arith}
-use Rattle.std.specs.List.{AllByRecursion, flat_map, range_with_len}
-use Rattle.std.proofs.lemmas.List.Elements.{All-from_recursion}
-use Rattle.model_types.specs.declared.model.FlowModel.{FlowModel}
-use Rattle.model_types.specs.declared.time_steps.TimeStep.{TimeStep}
-use Rattle.model_types.specs.Times.{period_at, steps_of, times}
+use Rattle.listing_io.proofs.Common.{◌≡◌, ℕ, zero, suc, ◌+◌, ◌≤◌, All, List, [], ◌∷◌, ◌++◌, length, map, arith, AllByRecursion, flat_map, range_with_len}
+use Rattle.listing_io.proofs.Common.{All-from_recursion, FlowModel, TimeStep, period_at, steps_of, times}
 
 module _ (m : FlowModel) where
   abbrev IsWithin : TimeStep → Type 0

@@ -1,15 +1,6 @@
 -- The parts of a listing, read in turn.
-use Rattle.std.proofs.Common.{◌≡◌, ℕ, List, Result, Ok, Err, refl, ap, ◌∙◌, subst}
-use Rattle.record_lines.specs.Reading.{for_each}
-use Rattle.model_types.specs.declared.model.FlowModel.{FlowModel}
-use Rattle.model_types.specs.declared.time_steps.TimeStep.{TimeStep}
-use Rattle.model_types.specs.Times.{times}
-use Rattle.zone_pairs.specs.declared.pair.ZonePair.{ZonePair}
-use Rattle.listing_io.specs.declared.fault.Fault.{Fault}
-use Rattle.listing_io.specs.declared.fault.Fault.TheVariants.{BadLine, Memory}
-use Rattle.listing_io.specs.declared.listing.ListedStep.{ListedStep}
-use Rattle.listing_io.specs.Listing.{end_line}
-use Rattle.listing_io.specs.Reading.{Left, Stops, first_at, listing_at, over_at, step_at, text_at}
+use Rattle.listing_io.proofs.Common.{◌≡◌, ℕ, List, Result, Ok, Err, refl, ap, ◌∙◌, subst, for_each, FlowModel, TimeStep, times, ZonePair, Fault, BadLine}
+use Rattle.listing_io.proofs.Common.{Memory, ListedStep, end_line, Left, Stops, first_at, listing_at, over_at, step_at, text_at}
 
 module _ (m : FlowModel) (s : ℕ) (pairs : ℕ → List ZonePair) (left after : Left) (ts : List TimeStep) (same : ts ≡ times m) (first : first_at m s left ≡ Ok after) where
   abbrev Reads : Result (List ListedStep × Left) ℕ → Type 0

@@ -1,19 +1,10 @@
 -- Loops that read or write one thing after another.
-use Rattle.std.proofs.Common.{◌≡◌, ℕ, suc, ◌+◌, ◌-◌, ◌<◌, ◌≤◌, List, [], ◌∷◌, ◌++◌, length, drop, get_or, drop-cons, add-one, cond, map, refl, sym, ap, ◌∙◌, arith, append_assoc, Result, Ok, Err}
-use Rattle.std.proofs.lemmas.List.{append-nil, drop_all}
-use Rattle.std.proofs.lemmas.List.Concat.{flat_map-cons, flat_map-append}
-use Rattle.record_lines.specs.Reading.{for_each}
-use Rattle.record_lines.proofs.Loops.{with_front, regroup}
-use Rattle.step_problem.specs.declared.heads.Bound.{Bound}
+use Rattle.listing_io.proofs.Common.{◌≡◌, ℕ, suc, ◌+◌, ◌-◌, ◌<◌, ◌≤◌, List, [], ◌∷◌, ◌++◌, length, drop, get_or, drop-cons, add-one, cond, map, refl, sym, ap}
+use Rattle.listing_io.proofs.Common.{◌∙◌, arith, Result, Ok, Err, append-nil, drop_all, flat_map-cons, flat_map-append, for_each, with_front, regroup, Bound}
+use Rattle.listing_io.proofs.Common.{Grid, FlowModel, is_active, Fault, BadLine, Memory, Line, ended, text_of, head_front, head_line, head_lines}
+use Rattle.listing_io.proofs.Common.{variable_lines, Left, Stops, head_if, heads_at}
+use Rattle.std.proofs.Common.{append_assoc}
 use Rattle.step_problem.specs.Entries.{Entries, entries_at}
-use Rattle.model_types.specs.declared.grid.Grid.{Grid}
-use Rattle.model_types.specs.declared.model.FlowModel.{FlowModel}
-use Rattle.model_types.specs.Layers.{is_active}
-use Rattle.listing_io.specs.declared.fault.Fault.{Fault}
-use Rattle.listing_io.specs.declared.fault.Fault.TheVariants.{BadLine, Memory}
-use Rattle.listing_io.specs.Listing.{Line, ended, text_of, head_front, head_line, head_lines}
-use Rattle.listing_io.specs.Views.{variable_lines}
-use Rattle.listing_io.specs.Reading.{Left, Stops, head_if, heads_at}
 
 -- the cells whose heads are read
 module _ (m : FlowModel) (front : List Bound) (count i : ℕ) (left : Left) (whole : Result (List Bound × Left) ℕ) where

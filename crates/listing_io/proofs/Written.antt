@@ -1,32 +1,14 @@
 -- What is read was written so.
-use Rattle.std.proofs.Common.{◌≡◌, ◌⊎◌, inl, inr, ℕ, zero, suc, ◌+◌, ◌≤◌, Bool, true, false, ◌||◌, cond, List, [], ◌∷◌, ◌++◌, map, nat_abs, refl, sym, ap, ◌∙◌, Option, Some, None, Result, Ok, Err}
-use Rattle.std.specs.Str.{bytes_eq}
-use Rattle.std.proofs.lemmas.List.{append_assoc}
-use Rattle.std.proofs.lemmas.Slice.Eq.{bytes_eq-Decides}
-use Rattle.outside.specs.Words.{lines}
-use Rattle.record_lines.specs.Layout.{next_number}
-use Rattle.record_lines.specs.Reading.{◌>>=◌, for_each}
-use Rattle.step_problem.specs.declared.heads.Bound.{Bound}
-use Rattle.step_problem.specs.declared.place.Dir.{Dir}
-use Rattle.step_problem.specs.declared.place.Dir.TheVariants.{In, Out}
-use Rattle.step_problem.specs.declared.place.Term.{Term}
-use Rattle.step_problem.specs.declared.place.Term.TheVariants.{Storage, ConstantHead, Wells, Drains, RiverLeakage, HeadDepBounds, Recharge, Et}
-use Rattle.step_problem.specs.declared.place.ZoneFlow.{ZoneFlow}
-use Rattle.step_problem.specs.Heads.{no_bound}
-use Rattle.budget_bounds.specs.declared.pair.TermPair.{TermPair}
+use Rattle.listing_io.proofs.Common.{◌≡◌, ◌⊎◌, inl, inr, ℕ, zero, suc, ◌+◌, ◌≤◌, Bool, true, false, ◌||◌, cond, List, [], ◌∷◌, ◌++◌, map, nat_abs, refl, sym}
+use Rattle.listing_io.proofs.Common.{ap, ◌∙◌, Option, Some, None, Result, Ok, Err, bytes_eq, append_assoc, bytes_eq-Decides, lines, next_number, ◌>>=◌}
+use Rattle.listing_io.proofs.Common.{for_each, Bound, Dir, In, Out, Term, Storage, ConstantHead, Wells, Drains, RiverLeakage, HeadDepBounds, Recharge, Et}
+use Rattle.listing_io.proofs.Common.{ZoneFlow, no_bound, TermPair, no_pair, bounds_in, FlowModel, TimeStep, cell_count, is_active, times, ZonePair, ListedStep}
+use Rattle.listing_io.proofs.Common.{Form, pair_in, pair_line, Line, first_line, step_line, head_form, head_front, head_line, head_lines, dir_front, term_form}
+use Rattle.listing_io.proofs.Common.{term_line, term_lines, printed_terms, has_evt, flow_form, zone_front, zone_line, step_lines, all_step_lines, end_line}
+use Rattle.listing_io.proofs.Common.{listing, Left, all_lines, line_at, first_of, or_refused, pair_at, text_at, bound_of, head_if, heads_at, term_at, term_if}
+use Rattle.listing_io.proofs.Common.{terms_at, flow_of, flow_at, step_with, step_at, first_line_before, first_at, none_of, over_at, listing_at, IsListing}
+use Rattle.listing_io.proofs.Common.{ListingsWereWritten}
 use Rattle.budget_bounds.specs.declared.pair.Budget.{Budget}
-use Rattle.budget_bounds.specs.Terms.{no_pair, bounds_in}
-use Rattle.model_types.specs.declared.model.FlowModel.{FlowModel}
-use Rattle.model_types.specs.declared.time_steps.TimeStep.{TimeStep}
-use Rattle.model_types.specs.Cells.{cell_count}
-use Rattle.model_types.specs.Layers.{is_active}
-use Rattle.model_types.specs.Times.{times}
-use Rattle.zone_pairs.specs.declared.pair.ZonePair.{ZonePair}
-use Rattle.listing_io.specs.declared.listing.ListedStep.{ListedStep}
-use Rattle.listing_io.specs.Forms.{Form, pair_in, pair_line}
-use Rattle.listing_io.specs.Listing.{Line, first_line, step_line, head_form, head_front, head_line, head_lines, dir_front, term_form, term_line, term_lines, printed_terms, has_evt, flow_form, zone_front, zone_line, step_lines, all_step_lines, end_line, listing}
-use Rattle.listing_io.specs.Reading.{Left, all_lines, line_at, first_of, or_refused, pair_at, text_at, bound_of, head_if, heads_at, term_at, term_if, terms_at, flow_of, flow_at, step_with, step_at, first_line_before, first_at, none_of, over_at, listing_at}
-use Rattle.listing_io.specs.Laws.{IsListing, ListingsWereWritten}
 use Rattle.listing_io.proofs.Exactly.{line_sound}
 
 -- a reading that goes on was not refused

@@ -1,3 +1,4 @@
+mod Common
 pub mod Zoned
 pub mod Moves
 pub mod Lines

@@ -1,10 +1,5 @@
 -- The puts of a last line, by what wrote it.
-use Rattle.std.proofs.Common.{◌≡◌, List, Ok, Err, Result, inl, inr, subst}
-use Rattle.std.specs.Prelude.{IfOk, MatchResult}
-use Rattle.outside.specs.Puts.{Put}
-use Rattle.run_puts.specs.Lines.{Text}
-use Rattle.run_puts.specs.Ends.{IsLast, IsWanting, IsEnd}
-use Rattle.run_puts.specs.declared.status.Status.{Status}
+use Rattle.listing_run.proofs.Common.{◌≡◌, List, Ok, Err, Result, inl, inr, subst, IfOk, MatchResult, Put, Text, IsLast, IsWanting, IsEnd, Status}
 
 pub ends_by : {X E : Type 0} (bytes : X → Text) (line : Result X E) (text : Text) (meant end : Status) (tail : List Put) → IfOk line (λ x. bytes x ≡ text) → MatchResult line (λ x. IsLast (bytes x) meant end tail) (λ _. IsWanting end tail) → IsEnd text meant end tail
 ends_by bytes (Ok x) text meant end tail same h = let P : Text → Type 0 = λ t. IsLast t meant end tail in inl (subst P same h)

@@ -1,31 +1,18 @@
 -- A step of a listing, by the clauses of the calls that gave its parts.
-use Rattle.std.proofs.Common.{◌≡◌, ℕ, length, List, ◌∷◌, ℤ, Ok, Err, Result, subst, sym, refl}
-use Rattle.step_problem.specs.declared.heads.Bound.{Bound}
-use Rattle.step_problem.specs.declared.place.NoBound.{NoBound}
-use Rattle.step_problem.specs.declared.place.ZoneFlow.{ZoneFlow}
-use Rattle.step_problem.specs.Heads.{RoundsSettleBoth, lower_at, upper_at}
-use Rattle.budget_bounds.specs.declared.pair.Budget.{Budget}
+use Rattle.listing_run.proofs.Common.{◌≡◌, ℕ, length, List, ◌∷◌, ℤ, Ok, Err, Result, subst, sym, refl, Bound, NoBound, ZoneFlow, RoundsSettleBoth, lower_at}
+use Rattle.listing_run.proofs.Common.{upper_at, Budget, TimeStep, heads_of, variable_heads, Solved, IsSettledStep, EnclosesMoves, Task, IsActive, IsNamed}
+use Rattle.listing_run.proofs.Common.{AreFlowsAt, FlowsEncloseAt, IsStep, HasNoBound, no_heads, no_budget, no_zones, budget_at, BoundsMoves, FlowsStopBy}
+use Rattle.listing_run.proofs.Common.{StopsAt, stop_of}
 use Rattle.budget_bounds.specs.Exact.{EnclosesBudgets, HeadsAreWithin}
 use Rattle.budget_bounds.specs.Terms.{budget_of}
-use Rattle.model_types.specs.declared.time_steps.TimeStep.{TimeStep}
 use Rattle.flow_equations.specs.ExactStep.{exact_step}
-use Rattle.flow_equations.specs.Histories.{heads_of, variable_heads}
-use Rattle.step_chain.specs.declared.solved.Solved.{Solved}
 use Rattle.step_chain.specs.declared.solved.StepFault.{StepFault}
-use Rattle.step_chain.specs.declared.solved.StepFault.TheVariants as chain
 use Rattle.step_chain.specs.Faults.{FailsBy as StepFailsBy}
-use Rattle.step_chain.specs.Steps.{IsSettledStep}
-use Rattle.step_chain.specs.Enclosing.{EnclosesMoves}
-use Rattle.listing_run.specs.declared.task.Task.{Task}
-use Rattle.problem_builder.specs.GridHeads.{IsActive, IsNamed}
-use Rattle.listing_run.specs.declared.listing_end.ListingEnd.TheVariants as ends
 use Rattle.listing_run.specs.declared.stop.Stop.{Stop}
-use Rattle.listing_run.specs.declared.stop.Stop.TheVariants as stops
-use Rattle.listing_run.specs.Zones.{AreFlowsAt, FlowsEncloseAt}
-use Rattle.listing_run.specs.Steps.{IsStep, HasNoBound, no_heads, no_budget, no_zones, budget_at}
-use Rattle.listing_run.specs.Bounding.{BoundsMoves}
-use Rattle.listing_run.specs.Ends.{FlowsStopBy, StopsAt, stop_of}
 use Rattle.listing_run.proofs.Zoned.{within_enclosed, heads_named, flows_enclose}
+use Rattle.step_chain.specs.declared.solved.StepFault.TheVariants as chain
+use Rattle.listing_run.specs.declared.listing_end.ListingEnd.TheVariants as ends
+use Rattle.listing_run.specs.declared.stop.Stop.TheVariants as stops
 
 -- the budget by bounds that a slice lent
 budget_by : (x : Solved) (lent : List Bound) (r : Result Budget NoBound) → lent ≡ x.bounds → r ≡ budget_of x.problem (lower_at lent) (upper_at lent) → budget_at x ≡ r

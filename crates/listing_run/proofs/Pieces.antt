@@ -1,23 +1,11 @@
 -- The pieces of a listing so far, put or added to a text, and how it ends.
-use Rattle.std.proofs.Common.{◌≡◌, ◌∙◌, List, [], ◌∷◌, ◌++◌, Bool, IfOk, Result, Ok, Err, Some, ap, refl, subst, sym}
-use Rattle.std.proofs.lemmas.List.{map-append, append_assoc, append-nil}
+use Rattle.listing_run.proofs.Common.{◌≡◌, ◌∙◌, List, [], ◌∷◌, ◌++◌, Bool, Result, Ok, Err, Some, ap, refl, subst, sym, map-append, append_assoc, append-nil}
+use Rattle.listing_run.proofs.Common.{Put, taken, Entries, Edges, Text, IsRun, IsEnd, IsPut, IsWanting, Status, IsAt, at_more, ends_or_lacks, lacks_after}
+use Rattle.listing_run.proofs.Common.{stops_at, ListingEnd, Step, Steps, Task, IsCutListing, IsListing, IsPushed, begun, last_line, listing, status_of, text_of}
+use Rattle.listing_run.proofs.Common.{EndsAt, IsAtFirst, IsNextText, IsWalk, times_left}
+use Rattle.std.proofs.Common.{IfOk}
 use Rattle.std.specs.List.{concat}
-use Rattle.outside.specs.Puts.{Put, taken}
-use Rattle.step_problem.specs.Entries.{Entries}
-use Rattle.step_problem.specs.Heads.{Edges}
 use Rattle.listing_io.specs.Listing.{first_text}
-use Rattle.run_puts.specs.Lines.{Text}
-use Rattle.run_puts.specs.Runs.{IsRun}
-use Rattle.run_puts.specs.Ends.{IsEnd, IsPut, IsWanting}
-use Rattle.run_puts.specs.declared.status.Status.{Status}
-use Rattle.run_puts.proofs.Pieces.{IsAt, at_more, ends_or_lacks, lacks_after, stops_at}
-use Rattle.listing_run.specs.declared.listing_end.ListingEnd.{ListingEnd}
-use Rattle.listing_run.specs.declared.step.Step.{Step}
-use Rattle.listing_run.specs.declared.steps.Steps.{Steps}
-use Rattle.listing_run.specs.declared.task.Task.{Task}
-use Rattle.listing_run.specs.Listing.{IsCutListing, IsListing, IsPushed, begun, last_line, listing, status_of, text_of}
-use Rattle.listing_run.specs.Steps.{EndsAt}
-use Rattle.listing_run.specs.Ends.{IsAtFirst, IsNextText, IsWalk, times_left}
 use Rattle.listing_run.proofs.UnderWay.{IsSolved, cut_listing, encloses_if_whole, ended, is_listing, none_solved, one_more_solved}
 
 -- the pieces of one step more

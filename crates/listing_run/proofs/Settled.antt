@@ -1,23 +1,12 @@
 -- What a step does to its settler, by the clause of the call that solved it.
-use Rattle.std.specs.Prelude.{IfErr, IfOk}
-use Rattle.std.proofs.Common.{◌≡◌, ◌∙◌, ℕ, List, Bool, true, false, inl, inr, sym, subst, refl, ℤ, Option, None, [], ◌∷◌, Result, Ok, Err}
-use Rattle.outside.specs.declared.traits.SinkError.{SinkError}
-use Rattle.step_problem.specs.declared.heads.Bound.{Bound}
-use Rattle.step_problem.specs.Entries.{Entries}
-use Rattle.step_problem.specs.Heads.{Edges, IsSettledPair, lower_at, upper_at}
+use Rattle.listing_run.proofs.Common.{IfErr, IfOk, ◌≡◌, ◌∙◌, ℕ, List, Bool, true, false, inl, inr, sym, subst, refl, ℤ, Option, None, [], ◌∷◌, Result, Ok, Err}
+use Rattle.listing_run.proofs.Common.{SinkError, Bound, Entries, Edges, IsSettledPair, lower_at, upper_at, TimeStep, times, AreStartHeads, Text, LieBetween}
+use Rattle.listing_run.proofs.Common.{IsPosed, Steps, Task, AllSettledBy, AreSettledBy, IsSettledBy, PairEncloses, Reaches, ReachesFirst, RestsOrSettles}
+use Rattle.listing_run.proofs.Common.{RestsOrSettlesFirst, rests, settled, IsAtFirst, IsNextText, IsWalk, times_left}
 use Rattle.cell_balance.proofs.Totals.{le_trans_z}
-use Rattle.model_types.specs.declared.time_steps.TimeStep.{TimeStep}
-use Rattle.model_types.specs.Times.{times}
 use Rattle.problem_builder.specs.Problems.{IsProblemOf}
-use Rattle.problem_builder.specs.StartHeads.{AreStartHeads}
-use Rattle.run_puts.specs.Lines.{Text}
-use Rattle.step_chain.specs.Enclosing.{LieBetween}
 use Rattle.step_chain.specs.Leads.{LeadsBy, LeadsOrRests}
-use Rattle.step_chain.specs.Steps.{IsPosed}
-use Rattle.listing_run.specs.declared.steps.Steps.{Steps}
-use Rattle.listing_run.specs.declared.task.Task.{Task}
-use Rattle.listing_run.specs.Settlers.{AllSettledBy, AreSettledBy, IsSettledBy, PairEncloses, Reaches, ReachesFirst, RestsOrSettles, RestsOrSettlesFirst, begun, rests, settled}
-use Rattle.listing_run.specs.Ends.{IsAtFirst, IsNextText, IsWalk, times_left}
+use Rattle.listing_run.specs.Settlers.{begun}
 use Rattle.listing_run.proofs.UnderWay.{all_left, first_same}
 use Rattle.decimal_input.proofs.Signs.{mul_mono_right}
 

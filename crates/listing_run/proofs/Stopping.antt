@@ -1,26 +1,13 @@
 -- Runs that end before all steps are listed, and runs beside which a write failed.
-use Rattle.std.proofs.Common.{◌≡◌, ◌∙◌, List, [], ◌∷◌, ◌++◌, map, inl, inr, sym, subst, ap, refl, Some}
-use Rattle.std.proofs.lemmas.List.{append-nil, map-append}
-use Rattle.outside.specs.Puts.{Put, taken}
-use Rattle.outside.specs.declared.traits.SinkError.{SinkError}
-use Rattle.outside.specs.declared.traits.SinkError.TheVariants as error
-use Rattle.model_types.specs.declared.time_steps.TimeStep.{TimeStep}
-use Rattle.run_puts.specs.Lines.{Text}
-use Rattle.run_puts.specs.Ends.{IsEnd, IsPut, IsWanting}
-use Rattle.run_puts.specs.Runs.{IsRun, whole}
+use Rattle.listing_run.proofs.Common.{◌≡◌, ◌∙◌, List, [], ◌∷◌, ◌++◌, map, inl, inr, sym, subst, ap, refl, Some, append-nil, map-append, Put, taken, SinkError}
+use Rattle.listing_run.proofs.Common.{TimeStep, Text, IsEnd, IsPut, IsWanting, IsRun, whole, Status, IsLate, late_not_ok, tail_late, weaker, ListingEnd, Steps}
+use Rattle.listing_run.proofs.Common.{Task, IsStopEnd, times_left, IsCutListing, IsListing, IsListingBeside, begun, last_line, left, listed, status_of, EndsAt}
 use Rattle.run_puts.specs.Tails.{memory_put, status_after, wanting}
-use Rattle.run_puts.specs.declared.status.Status.{Status}
-use Rattle.run_puts.specs.declared.status.Status.TheVariants as status
-use Rattle.run_puts.proofs.Pieces.{IsLate, late_not_ok, tail_late, weaker}
-use Rattle.listing_run.specs.declared.listing_end.ListingEnd.{ListingEnd}
-use Rattle.listing_run.specs.declared.listing_end.ListingEnd.TheVariants as ends
-use Rattle.listing_run.specs.declared.steps.Steps.{Steps}
-use Rattle.listing_run.specs.declared.task.Task.{Task}
-use Rattle.listing_run.specs.Ends.{IsStopEnd, times_left}
-use Rattle.listing_run.specs.Listing.{IsCutListing, IsListing, IsListingBeside, begun, last_line, left, listed, status_of}
-use Rattle.listing_run.specs.Steps.{EndsAt}
 use Rattle.listing_run.proofs.Pieces.{IsUnderWay, ends_wanting}
 use Rattle.listing_run.proofs.UnderWay.{cut_listing}
+use Rattle.outside.specs.declared.traits.SinkError.TheVariants as error
+use Rattle.run_puts.specs.declared.status.Status.TheVariants as status
+use Rattle.listing_run.specs.declared.listing_end.ListingEnd.TheVariants as ends
 
 -- a run that ended so didn't end Ok
 pub put_not_ok : (pending : Text) (end : Status) (tail : List Put) → IsPut pending (Some end) tail → end ≡ status.Ok → ⊥

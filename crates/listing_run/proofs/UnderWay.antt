@@ -1,26 +1,11 @@
 -- The steps so far, from one to the next, and the end of a listing after them.
-use Rattle.std.proofs.Common.{◌≡◌, ◌∙◌, ℕ, List, [], ◌∷◌, ◌++◌, ◌<◌, Bool, ap, drop, get_or, refl, subst, sym, ℤ}
-use Rattle.std.proofs.lemmas.List.{append_assoc, append-nil}
-use Rattle.decimal_input.specs.Fractions.{Fraction}
-use Rattle.step_problem.specs.declared.heads.Bound.{Bound}
-use Rattle.step_problem.specs.Entries.{Entries}
-use Rattle.step_problem.specs.Heads.{Edges}
-use Rattle.model_types.specs.declared.time_steps.TimeStep.{TimeStep}
+use Rattle.listing_run.proofs.Common.{◌≡◌, ◌∙◌, ℕ, List, [], ◌∷◌, ◌++◌, ◌<◌, Bool, ap, drop, get_or, refl, subst, sym, ℤ, append_assoc, append-nil, Fraction}
+use Rattle.listing_run.proofs.Common.{Bound, Entries, Edges, TimeStep, times, SolvesFrom, Solves, heads_of, HeadsEnclose, AreStartHeads, ListingEnd, Task, Step}
+use Rattle.listing_run.proofs.Common.{AllSteps, EndsAt, FirstSteps, IsStep, StepsThen, BoundAll, BoundsMoves, EnclosesHistories, begun, listing, IsListing}
+use Rattle.listing_run.proofs.Common.{IsCutListing, last_line, status_of, Steps, IsAtFirst, IsNext, IsWalk, times_left}
 use Rattle.model_types.specs.Heads.{start_head}
-use Rattle.model_types.specs.Times.{times}
-use Rattle.flow_equations.specs.Histories.{SolvesFrom, Solves, heads_of}
-use Rattle.problem_builder.specs.GridHeads.{HeadsEnclose}
-use Rattle.problem_builder.specs.StartHeads.{AreStartHeads}
-use Rattle.listing_run.specs.declared.listing_end.ListingEnd.{ListingEnd}
-use Rattle.listing_run.specs.declared.listing_end.ListingEnd.TheVariants as ends
-use Rattle.listing_run.specs.declared.task.Task.{Task}
-use Rattle.listing_run.specs.declared.step.Step.{Step}
-use Rattle.listing_run.specs.Steps.{AllSteps, EndsAt, FirstSteps, IsStep, StepsThen}
-use Rattle.listing_run.specs.Bounding.{BoundAll, BoundsMoves, EnclosesHistories}
-use Rattle.listing_run.specs.Listing.{begun, listing, IsListing, IsCutListing, last_line, status_of}
-use Rattle.listing_run.specs.declared.steps.Steps.{Steps}
-use Rattle.listing_run.specs.Ends.{IsAtFirst, IsNext, IsWalk, times_left}
 use Rattle.listing_run.proofs.Zoned.{within_enclosed}
+use Rattle.listing_run.specs.declared.listing_end.ListingEnd.TheVariants as ends
 
 module _ (k : Task) where
   -- where a history is that has solved the steps so far: it lies within the old heads, solves the rest, and where the rest is bound, all of it is

@@ -1,24 +1,14 @@
 -- A model has one listing, and one that is whole has no other end.
-use Rattle.std.proofs.Common.{◌≡◌, ℕ, suc, List, [], ◌∷◌, sym, ap, ◌∙◌, refl, arith, Ok, Err, Result, Contains, subst, Option, Some, None}
-use Rattle.step_problem.specs.declared.heads.Bound.{Bound}
-use Rattle.step_problem.specs.declared.place.NoBound.{NoBound}
-use Rattle.budget_bounds.specs.declared.pair.Budget.{Budget}
-use Rattle.model_types.specs.declared.time_steps.TimeStep.{TimeStep}
-use Rattle.model_types.specs.Times.{times}
+use Rattle.listing_run.proofs.Common.{◌≡◌, ℕ, suc, List, [], ◌∷◌, sym, ap, ◌∙◌, refl, arith, Ok, Err, Result, Contains, subst, Option, Some, None, Bound}
+use Rattle.listing_run.proofs.Common.{NoBound, Budget, TimeStep, times, AreGridHeads, Solved, IsSettledStep, ZoneFlow, Task, Step, AreFlowsAt, HasLargeFlow}
+use Rattle.listing_run.proofs.Common.{faces_at, IsStep, budget_at, HasNoBound, no_heads, no_budget, no_zones, AllSettle}
 use Rattle.model_types.specs.Valid.{IsModel}
-use Rattle.problem_builder.specs.GridHeads.{AreGridHeads}
 use Rattle.problem_builder.specs.Laws.{StartHeadsAreOne, StartHeadsFit}
-use Rattle.step_chain.specs.declared.solved.Solved.{Solved}
-use Rattle.step_chain.specs.Steps.{IsSettledStep}
 use Rattle.step_chain.specs.Laws.{IsBefore, StepIsOne, StepExcludesRefusal, RefusalIsOne as StepRefusalIsOne, HeadsFit}
-use Rattle.step_problem.specs.declared.place.ZoneFlow.{ZoneFlow}
-use Rattle.listing_run.specs.declared.listing_end.ListingEnd.TheVariants as ends
-use Rattle.listing_run.specs.declared.task.Task.{Task}
-use Rattle.listing_run.specs.declared.step.Step.{Step}
 use Rattle.zone_flows.specs.Laws.{FlowsAreOne, FlowsExcludeRefusal, RefusalIsOne as ZoneRefusalIsOne}
-use Rattle.listing_run.specs.Zones.{AreFlowsAt, HasLargeFlow, faces_at}
-use Rattle.listing_run.specs.Steps.{IsStep, budget_at, HasNoBound, no_heads, no_budget, no_zones, Steps, AllSettle}
+use Rattle.listing_run.specs.Steps.{Steps}
 use Rattle.listing_run.specs.Laws.{ListingIsOne, ListingExcludesRefusal, SettledListingIsClosed, RefusalIsOne}
+use Rattle.listing_run.specs.declared.listing_end.ListingEnd.TheVariants as ends
 
 abbrev the_ok : {X E : Type 0} → X → Result X E → X
 the_ok x (Ok y) = y

@@ -1,14 +1,8 @@
 -- A listing whose status is Ok is whole.
-use Rattle.std.proofs.Common.{◌≡◌, List, refl, subst}
-use Rattle.run_puts.specs.Lines.{Text, end_line}
+use Rattle.listing_run.proofs.Common.{◌≡◌, List, refl, subst, Text, end_line, ListingEnd, Step, Task, EnclosesHistories, IsListing, last_line, listing}
+use Rattle.listing_run.proofs.Common.{status_of, AllSteps}
 use Rattle.run_puts.specs.declared.status.Status.TheVariants as status
-use Rattle.listing_run.specs.declared.listing_end.ListingEnd.{ListingEnd}
 use Rattle.listing_run.specs.declared.listing_end.ListingEnd.TheVariants as ends
-use Rattle.listing_run.specs.declared.step.Step.{Step}
-use Rattle.listing_run.specs.declared.task.Task.{Task}
-use Rattle.listing_run.specs.Bounding.{EnclosesHistories}
-use Rattle.listing_run.specs.Listing.{IsListing, last_line, listing, status_of}
-use Rattle.listing_run.specs.Steps.{AllSteps}
 
 pub record IsWhole (k : Task) (pieces : List Text) : Type 0 where
   pub values : List Step

@@ -1,26 +1,18 @@
 -- The flows between the zones of a task, by the clauses of their call.
-use Rattle.std.proofs.Common.{◌≡◌, ℕ, suc, ◌-◌, ◌<◌, ◌^◌, inl, inr, List, length, All, arith, refl, subst, ℤ, pos, ◌*ℤ◌, ◌≤ℤ◌, Option, Some, None}
-use Rattle.std.specs.Prelude.{Contains, IfSome}
+use Rattle.listing_run.proofs.Common.{◌≡◌, ℕ, suc, ◌-◌, ◌<◌, ◌^◌, inl, inr, List, length, All, arith, refl, subst, ℤ, pos, ◌*ℤ◌, ◌≤ℤ◌, Option, Some, None}
+use Rattle.listing_run.proofs.Common.{IfSome, Fraction, Bound, ZoneFlow, Entries, entries_at, lower_at, upper_at, cell_count, heads_of, HeadsEnclose, IsActive}
+use Rattle.listing_run.proofs.Common.{IsNamed, LiesWithin, FlowsEnclose}
+use Rattle.std.specs.Prelude.{Contains}
 use Rattle.std.proofs.lemmas.List.Elements.{All-contains_itself, All-weaker}
-use Rattle.decimal_input.specs.Fractions.{Fraction}
 use Rattle.decimal_input.specs.Enclosures.{EnclosesSigned}
 use Rattle.step_problem.specs.declared.entry.Fixed.{Fixed}
-use Rattle.step_problem.specs.declared.heads.Bound.{Bound}
-use Rattle.step_problem.specs.declared.place.ZoneFlow.{ZoneFlow}
 use Rattle.step_problem.specs.Conditions.{IsHead}
-use Rattle.step_problem.specs.Entries.{Entries, entries_at}
-use Rattle.step_problem.specs.Heads.{lower_at, upper_at}
 use Rattle.cell_balance.specs.Enclosures.{EnclosesStep}
 use Rattle.cell_balance.specs.Steps.{ExactCell}
 use Rattle.budget_bounds.specs.Capped.{AreHeads}
 use Rattle.model_types.specs.declared.model.FlowModel.{FlowModel}
-use Rattle.model_types.specs.Cells.{cell_count}
-use Rattle.flow_equations.specs.Histories.{heads_of}
-use Rattle.problem_builder.specs.GridHeads.{HeadsEnclose, IsActive, IsNamed}
-use Rattle.step_chain.specs.Enclosing.{LiesWithin}
 use Rattle.zone_flows.specs.Exact.{EncloseExact, HeadsLieWithin}
 use Rattle.zone_pairs.specs.Zones.{AreZones, AreZonesOf}
-use Rattle.listing_run.specs.Zones.{FlowsEnclose}
 
 -- a vector that lies within heads is enclosed by them
 pub within_enclosed : (m : FlowModel) (heads : List Bound) (d : ℕ) (X : ℕ → ℤ) → 0 < d → LiesWithin m heads d X → HeadsEnclose m heads (heads_of d X)

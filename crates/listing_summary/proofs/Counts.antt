@@ -1,18 +1,12 @@
 -- What is counted, one line HEAD after another.
-use Rattle.std.proofs.Common.{◌≡◌, ℕ, ◌+◌, ◌<◌, ◌≤◌, ◌^◌, List, [], ◌∷◌, ◌++◌, length, drop, get_or, cond, refl, sym, ap, ◌∙◌, arith, ℤ, ◌+ℤ◌}
+use Rattle.listing_summary.proofs.Common.{◌≡◌, ℕ, ◌+◌, ◌<◌, ◌≤◌, ◌^◌, List, [], ◌∷◌, ◌++◌, length, drop, get_or, cond, refl, sym, ap, ◌∙◌, arith, ℤ, ◌+ℤ◌, fold}
+use Rattle.listing_summary.proofs.Common.{Bound, IsHead, IsWithin, Step, Summary, counted, stepped, nothing, Fits, printed, printed_heads, summary_of, width}
 use Rattle.std.proofs.lemmas.Int.{ints, clamps}
 use Rattle.std.proofs.lemmas.List.{drop_more, drop_all, length-append}
 use Rattle.std.proofs.lemmas.List.Sums.{fold-append, fold_push}
 use Rattle.std.specs.Int.{int_max}
-use Rattle.std.specs.List.{fold}
-use Rattle.step_problem.specs.declared.heads.Bound.{Bound}
-use Rattle.step_problem.specs.Conditions.{IsHead, IsWithin}
 use Rattle.model_types.specs.declared.model.FlowModel.{FlowModel}
 use Rattle.model_types.specs.Layers.{is_active}
-use Rattle.listing_run.specs.declared.step.Step.{Step}
-use Rattle.listing_summary.specs.declared.summary.Summary.{Summary}
-use Rattle.listing_summary.specs.Counting.{counted, stepped, nothing, Fits}
-use Rattle.listing_summary.specs.Summaries.{printed, printed_heads, summary_of, width}
 
 -- the cells that are left
 pub one_cell : (m : FlowModel) (bs : List Bound) (c : ℕ) (d : Bound) (s t whole : Summary) → c < length bs → t ≡ fold counted s (cond (is_active m c) (get_or bs c d ∷ []) []) → fold counted s (printed m c (drop c bs)) ≡ whole → fold counted t (printed m (c + 1) (drop (c + 1) bs)) ≡ whole

@@ -1,2 +1,3 @@
+mod Common
 pub mod Counts
 pub mod Walks

@@ -1,16 +1,11 @@
 -- The steps are counted, from one to the next, up to the listing's end.
-use Rattle.std.proofs.Common.{◌≡◌, ◌∙◌, List, [], ◌∷◌, ◌++◌, Bool}
+use Rattle.listing_summary.proofs.Common.{◌≡◌, ◌∙◌, List, [], ◌∷◌, ◌++◌, Bool, Edges, Step, EndsAt, IsAtFirst, IsNext, IsWalk, times_left, Summary, nothing}
+use Rattle.listing_summary.proofs.Common.{stepped}
 use Rattle.step_problem.specs.Entries.{Entries}
-use Rattle.step_problem.specs.Heads.{Edges}
 use Rattle.listing_run.specs.declared.listing_end.ListingEnd.{ListingEnd}
-use Rattle.listing_run.specs.declared.step.Step.{Step}
 use Rattle.listing_run.specs.declared.steps.Steps.{Steps}
 use Rattle.listing_run.specs.declared.task.Task.{Task}
-use Rattle.listing_run.specs.Steps.{EndsAt}
-use Rattle.listing_run.specs.Ends.{IsAtFirst, IsNext, IsWalk, times_left}
 use Rattle.listing_run.proofs.UnderWay.{IsSolved, encloses_if_whole, ended, none_solved, one_more_solved}
-use Rattle.listing_summary.specs.declared.summary.Summary.{Summary}
-use Rattle.listing_summary.specs.Counting.{nothing, stepped}
 use Rattle.listing_summary.specs.Ends.{IsSummarized}
 use Rattle.listing_summary.proofs.Counts.{all_counted, all_counted_is, one_step}
 

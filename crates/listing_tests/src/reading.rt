@@ -14,7 +14,14 @@ const FILE: &str = "l.txt";
 
 fn read(alloc: Global, desk: &Desk, text: &str) -> Result<Listing, TextFault> {
     let model = desk.model(alloc)?;
-    read_listing(alloc, &model, FILE, text.as_bytes(), desk.digits.min(18), None)
+    read_listing(
+        alloc,
+        &model,
+        FILE,
+        text.as_bytes(),
+        desk.digits.min(18),
+        None,
+    )
 }
 
 // The line of a refusal as a bad listing.

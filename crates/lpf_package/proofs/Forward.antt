@@ -1,14 +1,12 @@
 -- The items before the layers' arrays leave lines that they were given.
-use Rattle.std.proofs.Common.{◌≡◌, ℕ, pos, Bool, List, Result, Ok, Err, All}
-use Rattle.std.specs.Prelude.{IfOk, int_lt, codes}
+use Rattle.lpf_package.proofs.Common.{◌≡◌, ℕ, pos, Bool, List, Result, Ok, Err, All, IfOk, int_lt, codes, LineMay, LinesMay, chain, after, either, line_held}
+use Rattle.lpf_package.proofs.Common.{leaves}
 use Rattle.std.specs.List.{list_any}
 use Rattle.outside.specs.Words.{words}
 use Rattle.outside.specs.Refusals.{refusal}
 use Rattle.outside.specs.declared.codes.Code.TheVariants.{OutOfProfile}
-use Rattle.record_lines.specs.Asking.{LineMay, LinesMay}
 use Rattle.record_lines.specs.Items.{is_word, line_at}
 use Rattle.record_lines.specs.Layout.{Left, Numbered}
-use Rattle.record_lines.proofs.Forward.{chain, after, either, line_held, leaves}
 use Rattle.array_reader.specs.Items.{number_at}
 use Rattle.array_reader.specs.Lists.{free_list}
 use Rattle.array_reader.specs.Numbers.{number, integer}

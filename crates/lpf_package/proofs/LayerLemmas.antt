@@ -1,13 +1,12 @@
 -- Lengths and forms of the layers' arrays.
-use Rattle.std.proofs.Common.{◌≡◌, ℕ, ◌+◌, ◌*◌, Bool, true, false, cond, List, [], ◌++◌, All, ℤ, length, refl, sym, subst, arith}
+use Rattle.lpf_package.proofs.Common.{◌≡◌, ℕ, ◌+◌, ◌*◌, Bool, true, false, cond, List, [], ◌++◌, All, ℤ, length, refl, sym, subst, arith, AreLayers}
+use Rattle.lpf_package.proofs.Common.{HasProperties, joined}
 use Rattle.std.proofs.lemmas.List.{length-append}
 use Rattle.std.proofs.lemmas.List.Elements.{All-append, All-nil}
 use Rattle.decimal_input.specs.declared.dec.Dec.{Dec}
 use Rattle.decimal_input.specs.Canonical.{IsDec}
 use Rattle.model_types.specs.declared.model.FlowModel.{FlowModel}
 use Rattle.lpf_package.specs.Flow.{is_transient, with_properties}
-use Rattle.lpf_package.specs.Forms.{AreLayers, HasProperties}
-use Rattle.lpf_package.specs.Layers.{joined}
 use Rattle.lpf_package.specs.declared.layer.Properties.{Properties}
 
 -- lists of a and b numbers, one behind the other

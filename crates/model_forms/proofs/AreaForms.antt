@@ -1,34 +1,12 @@
 -- What is read of the arrays of a stress period.
-use Rattle.std.proofs.Common.{◌≡◌, ℕ, ◌<◌, ◌≤◌, ℤ, pos, negsuc, Bool, true, false, List, [], length, All, Result, Ok, refl, sym, subst, arith}
-use Rattle.std.proofs.lemmas.Bool.{leb-true}
-use Rattle.std.proofs.lemmas.List.{get_or_default}
-use Rattle.decimal_input.specs.declared.dec.Dec.{Dec}
-use Rattle.outside.specs.Files.{File}
-use Rattle.outside.specs.Words.{words}
-use Rattle.outside.specs.declared.codes.Code.TheVariants.{CellOutside}
-use Rattle.outside.specs.declared.refusals.Refusal.{Refusal}
-use Rattle.record_lines.specs.Items.{line_at}
-use Rattle.record_lines.specs.Layout.{Left}
-use Rattle.array_reader.specs.Arrays.{real_layer, integer_layer}
-use Rattle.model_types.specs.declared.grid.Grid.{Grid}
-use Rattle.model_types.specs.Cells.{layer_size}
-use Rattle.model_types.specs.Grids.{HasSize}
-use Rattle.model_types.specs.Layers.{int_at}
+use Rattle.model_forms.proofs.Common.{◌≡◌, ℕ, ◌<◌, ◌≤◌, ℤ, pos, negsuc, Bool, true, false, List, [], length, All, Result, Ok, refl, sym, subst, arith, leb-true}
+use Rattle.model_forms.proofs.Common.{get_or_default, Dec, File, words, CellOutside, Refusal, line_at, Left, real_layer, integer_layer, Grid, layer_size}
+use Rattle.model_forms.proofs.Common.{HasSize, int_at, area_at, array_or, arrays_of, nothing_yet, flags_of, AreFlags, IsArea, IsReals, IsWhole, Area, InForce}
+use Rattle.model_forms.proofs.Common.{Contents, Flags, arrays, goes, ends, IsShort, IsLayers}
 use Rattle.model_types.specs.Receivers.{is_int}
-use Rattle.period_arrays.specs.Areas.{area_at, array_or, arrays_of, nothing_yet}
-use Rattle.period_arrays.specs.Flags.{flags_of}
-use Rattle.period_arrays.specs.Forms.{AreFlags, IsArea, IsReals, IsWhole}
 use Rattle.period_arrays.specs.Layers.{is_layer, refusal_at, layer_step, layers_tested, layers_at}
-use Rattle.period_arrays.specs.declared.area.Area.{Area}
-use Rattle.period_arrays.specs.declared.area.InForce.{InForce}
-use Rattle.period_arrays.specs.declared.flags.Contents.{Contents}
-use Rattle.period_arrays.specs.declared.flags.Flags.{Flags}
 use Rattle.period_arrays.proofs.AreaLemmas.{is_area}
 use Rattle.evt_package.proofs.EvapLemmas.{each_step}
-use Rattle.array_forms.proofs.ArrayForms.{arrays}
-use Rattle.array_forms.proofs.Readings.{goes, ends}
-use Rattle.array_text.specs.Words.{IsShort}
-use Rattle.area_text.specs.Readable.{IsLayers}
 use Rattle.model_forms.proofs.FlagForms.{flags_are}
 use Rattle.model_forms.proofs.GridForms.{layer_is}
 use Rattle.model_forms.proofs.Parts.{if_true}

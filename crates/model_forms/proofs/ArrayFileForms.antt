@@ -1,23 +1,8 @@
 -- What a file of a package of arrays gives.
-use Rattle.std.proofs.Common.{◌≡◌, ℕ, ℤ, true, List, map, All, Ok, refl}
-use Rattle.outside.specs.Files.{File}
-use Rattle.outside.specs.Words.{words}
-use Rattle.outside.specs.declared.refusals.Refusal.{Refusal}
-use Rattle.record_lines.specs.Layout.{Left, left_from, without_comments}
-use Rattle.record_lines.specs.Reading.{for_each}
-use Rattle.model_types.specs.declared.grid.Grid.{Grid}
-use Rattle.model_types.specs.declared.period.Period.{Period}
-use Rattle.model_types.specs.Grids.{HasSize}
-use Rattle.list_package.specs.Headers.{item_line}
-use Rattle.list_package.proofs.ModelLemmas.{steps}
-use Rattle.period_arrays.specs.Areas.{area_at, nothing_yet}
-use Rattle.period_arrays.specs.Flags.{is_option, option_at}
-use Rattle.period_arrays.specs.Kinds.{ArrayKind, contents, with_area}
-use Rattle.period_arrays.specs.Packages.{tested_area, period_at, periods_of, unit_if, option_line, arrays_in}
-use Rattle.period_arrays.specs.declared.area.Area.{Area}
-use Rattle.period_arrays.specs.declared.area.InForce.{InForce}
-use Rattle.period_arrays.specs.declared.read.ArrayFile.{ArrayFile}
-use Rattle.array_forms.proofs.Readings.{goes, ends}
+use Rattle.model_forms.proofs.Common.{◌≡◌, ℕ, ℤ, true, List, map, All, Ok, refl, File, words, Refusal, Left, left_from, without_comments, for_each, Grid}
+use Rattle.model_forms.proofs.Common.{Period, HasSize, item_line, steps, area_at, nothing_yet, is_option, option_at, ArrayKind, contents, with_area}
+use Rattle.model_forms.proofs.Common.{tested_area, period_at, unit_if, option_line, arrays_in, Area, InForce, ArrayFile, goes, ends}
+use Rattle.period_arrays.specs.Packages.{periods_of}
 use Rattle.model_forms.proofs.AreaForms.{HasArrays, IsState, first_state, area_is}
 use Rattle.model_forms.proofs.FlagForms.{option_is}
 use Rattle.model_forms.proofs.PeriodForms.{each_are}

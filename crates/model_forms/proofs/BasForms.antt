@@ -1,18 +1,7 @@
 -- What a file of the basic package gives.
-use Rattle.std.proofs.Common.{◌≡◌, ℕ, ℤ, List, length, All, Ok, refl}
-use Rattle.decimal_input.specs.declared.dec.Dec.{Dec}
-use Rattle.decimal_input.specs.Canonical.{IsDec}
-use Rattle.outside.specs.Files.{File}
-use Rattle.outside.specs.declared.refusals.Refusal.{Refusal}
-use Rattle.record_lines.specs.Layout.{Left, left_from, without_comments}
-use Rattle.array_reader.specs.Arrays.{layers}
-use Rattle.array_reader.specs.Kinds.{real, whole}
-use Rattle.model_types.specs.declared.grid.Grid.{Grid}
-use Rattle.model_types.specs.declared.model.FlowModel.{FlowModel}
-use Rattle.model_types.specs.Cells.{cell_count}
-use Rattle.bas_package.specs.Basics.{option_line, head_item, basics_of, with_basics, bas_of}
-use Rattle.array_forms.proofs.ArrayForms.{arrays}
-use Rattle.array_forms.proofs.Readings.{goes, ends}
+use Rattle.model_forms.proofs.Common.{◌≡◌, ℕ, ℤ, List, length, All, Ok, refl, Dec, IsDec, File, Refusal, Left, left_from, without_comments, layers, real, whole}
+use Rattle.model_forms.proofs.Common.{Grid, FlowModel, cell_count, head_item, basics_of, with_basics, bas_of, arrays, goes, ends}
+use Rattle.bas_package.specs.Basics.{option_line}
 
 -- a model with IBOUND and STRT for each cell, which is else the one before
 pub record HasBasics (m n : FlowModel) : Type 0 where

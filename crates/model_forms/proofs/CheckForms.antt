@@ -1,20 +1,8 @@
 -- A test of cells or of columns that is passed with one file's name in its refusals is passed with any other.
-use Rattle.std.proofs.Common.{◌≡◌, ℕ, zero, suc, ◌+◌, ℤ, List, Option, Some, None, Result, Ok, refl}
-use Rattle.std.specs.Prelude.{if◌then◌else◌}
-use Rattle.outside.specs.declared.codes.Code.{Code}
-use Rattle.outside.specs.declared.refusals.Refusal.{Refusal}
-use Rattle.record_lines.specs.Reading.{counted}
-use Rattle.model_types.specs.declared.grid.Grid.{Grid}
-use Rattle.model_types.specs.declared.model.FlowModel.{FlowModel}
-use Rattle.model_types.specs.Cells.{cell_count, layer_size}
-use Rattle.model_types.specs.Layers.{int_at, is_nonzero}
-use Rattle.cell_checks.specs.Checks.{at_cell, cell_step, checked}
-use Rattle.cell_checks.specs.Faults.{fault_at}
-use Rattle.cell_checks.specs.declared.passing.Check.{Check}
-use Rattle.period_arrays.specs.declared.area.Area.{Area}
-use Rattle.evt_package.specs.Columns.{cell_tested, chosen_cell, column_tested, column_step, columns_tested, source}
+use Rattle.model_forms.proofs.Common.{◌≡◌, ℕ, zero, suc, ◌+◌, ℤ, List, Option, Some, None, Result, Ok, refl, if◌then◌else◌, Code, Refusal, counted, Grid}
+use Rattle.model_forms.proofs.Common.{FlowModel, cell_count, layer_size, int_at, is_nonzero, at_cell, cell_step, checked, fault_at, Check, Area, cell_tested}
+use Rattle.model_forms.proofs.Common.{chosen_cell, column_tested, column_step, columns_tested, source, goes}
 use Rattle.evt_package.specs.Faults.{evap_fault}
-use Rattle.array_forms.proofs.Readings.{goes}
 
 -- where each step that is passed is passed otherwise too
 passed_again : (step other : ℕ → Unit {0} → Result (Unit {0}) Refusal) → ((i : ℕ) → step i tt ≡ Ok tt → other i tt ≡ Ok tt) → (n i : ℕ) → counted step i n tt ≡ Ok tt → counted other i n tt ≡ Ok tt

@@ -1,22 +1,8 @@
 -- What is known of a model after LPF.
-use Rattle.std.proofs.Common.{◌≡◌, ℕ, ◌≤◌, ℤ, pos, Bool, List, length, sum, sum_by, All, Ok, refl, sym, ap, subst, ◌∙◌}
-use Rattle.decimal_input.specs.declared.dec.Dec.{Dec}
-use Rattle.decimal_input.specs.Canonical.{IsDec}
-use Rattle.model_types.specs.declared.grid.Grid.{Grid}
-use Rattle.model_types.specs.declared.model.FlowModel.{FlowModel}
-use Rattle.model_types.specs.declared.period.Period.{Period}
-use Rattle.model_types.specs.Cells.{cell_count}
-use Rattle.model_types.specs.Grids.{IsGrid}
-use Rattle.model_types.specs.Valid.{IsTimed}
-use Rattle.dis_package.specs.Forms.{IsNewPeriod}
-use Rattle.lpf_package.specs.Flow.{with_properties, SameBut}
-use Rattle.lpf_package.specs.declared.layer.Properties.{Properties}
-use Rattle.cell_checks.specs.Checks.{checked}
-use Rattle.cell_checks.specs.Faults.{fault_at}
-use Rattle.cell_checks.specs.declared.passing.Check.{Check}
-use Rattle.cell_checks.specs.declared.passing.Check.TheVariants.{Thickness, StartHead, Properties as PropertyCheck}
-use Rattle.array_text.specs.Words.{IsShort}
-use Rattle.package_text.specs.Readable.{IsOfBeds, IsDiscretized, HasFlow}
+use Rattle.model_forms.proofs.Common.{◌≡◌, ℕ, ◌≤◌, ℤ, pos, Bool, List, length, sum, sum_by, All, Ok, refl, sym, ap, subst, ◌∙◌, Dec, IsDec, Grid, FlowModel}
+use Rattle.model_forms.proofs.Common.{Period, cell_count, IsGrid, IsTimed, IsNewPeriod, with_properties, SameBut, Properties, checked, fault_at, Check}
+use Rattle.model_forms.proofs.Common.{Thickness, StartHead, IsShort, IsOfBeds, IsDiscretized, HasFlow}
+use Rattle.cell_checks.specs.declared.passing.Check.TheVariants.{Properties as PropertyCheck}
 use Rattle.model_forms.proofs.BasForms.{HasBasics}
 use Rattle.model_forms.proofs.CheckForms.{checked_again}
 use Rattle.model_forms.proofs.DisForms.{IsStarted}

@@ -1,21 +1,7 @@
 -- What a file of the discretization gives can be written.
-use Rattle.std.proofs.Common.{◌≡◌, ℕ, ◌≤◌, ℤ, List, length, sum_by, All, Ok, refl, sym, subst, arith}
-use Rattle.std.proofs.lemmas.List.Elements.{All-weaker}
-use Rattle.outside.specs.Files.{File}
-use Rattle.outside.specs.declared.refusals.Refusal.{Refusal}
-use Rattle.record_lines.specs.Layout.{Left, left_from, without_comments}
-use Rattle.model_types.specs.declared.grid.Grid.{Grid}
-use Rattle.model_types.specs.declared.model.FlowModel.{FlowModel}
-use Rattle.model_types.specs.declared.period.Period.{Period}
-use Rattle.model_types.specs.Grids.{IsGrid}
-use Rattle.model_types.specs.Valid.{IsTimed}
-use Rattle.dis_package.specs.Discretization.{begun, head_of, dis_of}
-use Rattle.dis_package.specs.Forms.{IsNewPeriod}
-use Rattle.dis_package.specs.Grids.{grid_of}
-use Rattle.dis_package.specs.Times.{periods_of}
-use Rattle.array_forms.proofs.Readings.{goes, ends}
-use Rattle.array_text.specs.Words.{IsShort}
-use Rattle.package_text.specs.Readable.{IsOfBeds, IsDiscretized}
+use Rattle.model_forms.proofs.Common.{◌≡◌, ℕ, ◌≤◌, ℤ, List, length, sum_by, All, Ok, refl, sym, subst, arith, All-weaker, File, Refusal, Left, left_from}
+use Rattle.model_forms.proofs.Common.{without_comments, Grid, FlowModel, Period, IsGrid, IsTimed, begun, head_of, dis_of, IsNewPeriod, grid_of, periods_of}
+use Rattle.model_forms.proofs.Common.{goes, ends, IsShort, IsOfBeds, IsDiscretized}
 use Rattle.model_forms.proofs.FrameForms.{head_is}
 use Rattle.model_forms.proofs.GridForms.{grid_is}
 use Rattle.model_forms.proofs.TimeForms.{periods_are}

@@ -1,34 +1,13 @@
 -- What is read of the entries of a list.
-use Rattle.std.proofs.Common.{◌≡◌, ℕ, zero, suc, ◌-◌, ◌<◌, ◌≤◌, ℤ, Bool, true, false, cond, List, [], ◌∷◌, length, get_or, set, All, Option, Some, None, Ok, refl, sym, ap, ◌∙◌, arith}
-use Rattle.std.specs.List.{AllPairs}
-use Rattle.std.proofs.lemmas.List.{get_or-set_same, get_or-set_other, length-set, length-replicate}
-use Rattle.std.proofs.lemmas.List.Elements.{All-nil, All-cons}
+use Rattle.model_forms.proofs.Common.{◌≡◌, ℕ, zero, suc, ◌-◌, ◌<◌, ◌≤◌, ℤ, Bool, true, false, cond, List, [], ◌∷◌, length, get_or, set, All, Option, Some, None}
+use Rattle.model_forms.proofs.Common.{Ok, refl, sym, ap, ◌∙◌, arith, AllPairs, get_or-set_same, get_or-set_other, length-set, length-replicate, All-nil}
+use Rattle.model_forms.proofs.Common.{All-cons, Dec, IsDec, refusal, words, Code, OutOfProfile, CellOutside, BadProperty, Refusal, line_at, Left, ◌>>=◌}
+use Rattle.model_forms.proofs.Common.{repeated, number_at, number, integer, CellId, Grid, cell_count, cell_number, HasSize, within, Kind, first_fault, item_is}
+use Rattle.model_forms.proofs.Common.{number_is, clash, goes, ends, repeated_are, IsEntry}
 use Rattle.std.proofs.lemmas.List.Kept.{AllPairs-cons}
-use Rattle.decimal_input.specs.declared.dec.Dec.{Dec}
-use Rattle.decimal_input.specs.Canonical.{IsDec}
-use Rattle.outside.specs.Refusals.{refusal}
-use Rattle.outside.specs.Words.{words}
-use Rattle.outside.specs.declared.codes.Code.{Code}
-use Rattle.outside.specs.declared.codes.Code.TheVariants.{OutOfProfile, CellOutside, BadProperty}
-use Rattle.outside.specs.declared.refusals.Refusal.{Refusal}
-use Rattle.record_lines.specs.Items.{line_at}
-use Rattle.record_lines.specs.Layout.{Left}
-use Rattle.record_lines.specs.Reading.{◌>>=◌, repeated}
-use Rattle.array_reader.specs.Items.{number_at}
-use Rattle.array_reader.specs.Numbers.{number, integer}
-use Rattle.model_types.specs.declared.grid.CellId.{CellId}
-use Rattle.model_types.specs.declared.grid.Grid.{Grid}
-use Rattle.model_types.specs.Cells.{cell_count, cell_number}
-use Rattle.model_types.specs.Grids.{HasSize}
 use Rattle.model_types.proofs.Numbering.{cell_within}
-use Rattle.number_limits.specs.Signs.{within}
 use Rattle.list_package.specs.Entries.{inside, cell_at, passed, entry_of, is_left_out, entry_at, no_marks, new_list}
 use Rattle.list_package.specs.Forms.{Differ}
-use Rattle.list_package.specs.Kinds.{Kind, first_fault}
-use Rattle.array_forms.proofs.ArrayForms.{item_is}
-use Rattle.array_forms.proofs.NumberForms.{number_is}
-use Rattle.array_forms.proofs.Readings.{clash, goes, ends, repeated_are}
-use Rattle.stress_text.specs.Entries.{IsEntry}
 use Rattle.model_forms.proofs.FrameForms.{within_is}
 use Rattle.model_forms.proofs.Parts.{if_false}
 

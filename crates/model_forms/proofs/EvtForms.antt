@@ -1,22 +1,7 @@
 -- What a file of the evapotranspiration package gives.
-use Rattle.std.proofs.Common.{◌≡◌, ℕ, ℤ, pos, true, List, map, All, Ok, refl, subst, ◌∙◌}
-use Rattle.outside.specs.Files.{File}
-use Rattle.outside.specs.declared.refusals.Refusal.{Refusal}
-use Rattle.model_types.specs.declared.grid.Grid.{Grid}
-use Rattle.model_types.specs.declared.model.FlowModel.{FlowModel}
-use Rattle.model_types.specs.declared.period.Period.{Period}
-use Rattle.model_types.specs.Cells.{cell_count}
-use Rattle.model_types.specs.Grids.{HasSize}
-use Rattle.list_package.specs.GivenHeads.{given_heads}
-use Rattle.list_package.proofs.ModelLemmas.{steps}
-use Rattle.stress_packages.specs.Packages.{wells, rivers, drains, generals}
-use Rattle.period_arrays.specs.Flags.{is_option}
-use Rattle.period_arrays.specs.Kinds.{with_area}
-use Rattle.period_arrays.specs.Packages.{arrays_in}
-use Rattle.period_arrays.specs.declared.area.Area.{Area}
-use Rattle.period_arrays.specs.declared.read.ArrayFile.{ArrayFile}
-use Rattle.evt_package.specs.Evaporation.{evaporation_arrays, with_evaporation, evt_of}
-use Rattle.array_forms.proofs.Readings.{goes, ends}
+use Rattle.model_forms.proofs.Common.{◌≡◌, ℕ, ℤ, pos, true, List, map, All, Ok, refl, subst, ◌∙◌, File, Refusal, Grid, FlowModel, Period, cell_count, HasSize}
+use Rattle.model_forms.proofs.Common.{given_heads, steps, wells, rivers, drains, generals, is_option, with_area, arrays_in, Area, ArrayFile, evaporation_arrays}
+use Rattle.model_forms.proofs.Common.{with_evaporation, evt_of, goes, ends}
 use Rattle.model_forms.proofs.ArrayFileForms.{AreRead, IsTested, arrays_are_read}
 use Rattle.model_forms.proofs.CheckForms.{columns_again}
 use Rattle.model_forms.proofs.PeriodForms.{IsKnown, IsStage, timed, list_again, no_option}

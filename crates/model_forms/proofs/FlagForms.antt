@@ -1,15 +1,6 @@
 -- What is read of the option and the flags of a package of arrays.
-use Rattle.std.proofs.Common.{◌≡◌, ℕ, ℤ, Bool, true, false, not, ◌&&◌, List, Ok, refl}
-use Rattle.outside.specs.Refusals.{refusal}
-use Rattle.outside.specs.declared.codes.Code.TheVariants.{NothingToReuse, OutOfProfile}
-use Rattle.outside.specs.declared.refusals.Refusal.{Refusal}
-use Rattle.array_reader.specs.Items.{number_at}
-use Rattle.array_reader.specs.Numbers.{integer}
-use Rattle.period_arrays.specs.Flags.{is_option, option_at, is_negative, flag_at, flag_if, flags_of}
-use Rattle.period_arrays.specs.Forms.{AreFlags}
-use Rattle.period_arrays.specs.declared.flags.Contents.{Contents}
-use Rattle.period_arrays.specs.declared.flags.Flags.{Flags}
-use Rattle.array_forms.proofs.Readings.{goes, ends}
+use Rattle.model_forms.proofs.Common.{◌≡◌, ℕ, ℤ, Bool, true, false, not, ◌&&◌, List, Ok, refl, refusal, NothingToReuse, OutOfProfile, Refusal, number_at}
+use Rattle.model_forms.proofs.Common.{integer, is_option, option_at, is_negative, flag_at, flag_if, flags_of, AreFlags, Contents, Flags, goes, ends}
 use Rattle.model_forms.proofs.Parts.{if_true, if_false}
 
 reused : (a b : Bool) → (a && not b) ≡ false → not a ≡ false → b ≡ true

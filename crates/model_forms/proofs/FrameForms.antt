@@ -1,35 +1,14 @@
 -- What is read of the first line and of LAYCBD.
-use Rattle.std.proofs.Common.{◌≡◌, ℕ, ◌-◌, ◌*◌, ◌<◌, ◌≤◌, ◌==◌, nat_lt, nat_le, suc, Bool, true, false, ◌&&◌, List, [], ◌∷◌, ◌++◌, length, All, Option, Some, None, Ok, refl, arith, ℤ, pos, negsuc}
-use Rattle.std.specs.Prelude.{if◌then◌else◌}
-use Rattle.std.proofs.lemmas.Bool.{and_parts, leb-true, ltb-true, eqb-true, not-false}
-use Rattle.std.proofs.lemmas.List.{length-append}
-use Rattle.std.proofs.lemmas.List.Elements.{All-push}
-use Rattle.outside.specs.Refusals.{refusal}
-use Rattle.outside.specs.Words.{words}
-use Rattle.outside.specs.declared.codes.Code.TheVariants.{BadGrid, OutOfProfile}
-use Rattle.outside.specs.declared.refusals.Refusal.{Refusal}
-use Rattle.record_lines.specs.Items.{line_at}
-use Rattle.record_lines.specs.Layout.{Left}
-use Rattle.record_lines.specs.Reading.{repeated}
+use Rattle.model_forms.proofs.Common.{◌≡◌, ℕ, ◌-◌, ◌*◌, ◌<◌, ◌≤◌, ◌==◌, nat_lt, nat_le, suc, Bool, true, false, ◌&&◌, List, [], ◌∷◌, ◌++◌, length, All, Option}
+use Rattle.model_forms.proofs.Common.{Some, None, Ok, refl, arith, ℤ, pos, negsuc, if◌then◌else◌, and_parts, leb-true, ltb-true, eqb-true, not-false}
+use Rattle.model_forms.proofs.Common.{length-append, All-push, refusal, words, BadGrid, OutOfProfile, Refusal, line_at, Left, repeated, number_at, value_at}
+use Rattle.model_forms.proofs.Common.{value_alone, integer, int_at, is_nonzero, within, zero_at, head_of, IsSize, IsFrame, count_at, size_at, frame_of, Size}
+use Rattle.model_forms.proofs.Common.{IsShort, item_is, value_is, integer_is, clash, goes, ends, repeated_are}
 use Rattle.record_lines.specs.Spread.{Taking, beginning}
-use Rattle.array_reader.specs.Items.{number_at}
-use Rattle.array_reader.specs.Lists.{value_at, value_alone}
-use Rattle.array_reader.specs.Numbers.{integer}
-use Rattle.model_types.specs.Layers.{int_at, is_nonzero}
-use Rattle.number_limits.specs.Signs.{within}
-use Rattle.package_items.specs.Items.{zero_at}
 use Rattle.dis_package.specs.Beds.{beds_of}
-use Rattle.dis_package.specs.Discretization.{head_of}
-use Rattle.dis_package.specs.Forms.{IsSize, IsFrame}
-use Rattle.dis_package.specs.Frames.{inside, count_at, size_at, frame_of}
+use Rattle.dis_package.specs.Frames.{inside}
 use Rattle.dis_package.specs.declared.frame.Frame.{Frame}
-use Rattle.dis_package.specs.declared.frame.Size.{Size}
 use Rattle.dis_package.proofs.BedLemmas.{last_of}
-use Rattle.array_text.specs.Words.{IsShort}
-use Rattle.array_forms.proofs.ArrayForms.{item_is}
-use Rattle.array_forms.proofs.ListForms.{value_is}
-use Rattle.array_forms.proofs.NumberForms.{integer_is}
-use Rattle.array_forms.proofs.Readings.{clash, goes, ends, repeated_are}
 use Rattle.model_forms.proofs.Parts.{if_true, if_false}
 
 inside_is : (o : Option ℕ) (r : Refusal) (n : ℕ) → inside o r ≡ Ok n → o ≡ Some n

@@ -1,34 +1,11 @@
 -- What is read of widths and elevations.
-use Rattle.std.proofs.Common.{◌≡◌, ℕ, ◌+◌, ◌*◌, Bool, true, false, List, [], ◌++◌, length, replicate, All, Ok, refl, arith, ℤ}
-use Rattle.std.specs.List.{list_all}
-use Rattle.std.proofs.lemmas.List.{length-replicate}
-use Rattle.std.proofs.lemmas.List.Elements.{All-nil, All-append, All-replicate}
-use Rattle.decimal_input.specs.declared.dec.Dec.{Dec}
-use Rattle.decimal_input.specs.Canonical.{IsDec}
-use Rattle.outside.specs.Files.{File}
-use Rattle.outside.specs.Refusals.{refusal}
-use Rattle.outside.specs.declared.codes.Code.TheVariants.{BadGrid}
-use Rattle.outside.specs.declared.refusals.Refusal.{Refusal}
-use Rattle.record_lines.specs.Layout.{Left}
-use Rattle.array_reader.specs.Arrays.{array_at, real_layer}
-use Rattle.array_reader.specs.Kinds.{real}
-use Rattle.model_types.specs.declared.grid.Grid.{Grid}
-use Rattle.model_types.specs.Cells.{layer_size}
-use Rattle.model_types.specs.Grids.{IsGrid, HasSize}
-use Rattle.model_types.specs.Layers.{int_at, is_nonzero, no_number}
-use Rattle.model_types.specs.Numbers.{IsPositive}
-use Rattle.number_limits.specs.Signs.{is_positive}
-use Rattle.number_limits.proofs.Canonical.{no_number_is}
+use Rattle.model_forms.proofs.Common.{◌≡◌, ℕ, ◌+◌, ◌*◌, Bool, true, false, List, [], ◌++◌, length, replicate, All, Ok, refl, arith, ℤ, list_all}
+use Rattle.model_forms.proofs.Common.{length-replicate, All-nil, All-append, All-replicate, Dec, IsDec, File, refusal, BadGrid, Refusal, Left, array_at}
+use Rattle.model_forms.proofs.Common.{real_layer, real, Grid, layer_size, IsGrid, HasSize, int_at, is_nonzero, no_number, IsPositive, is_positive, no_number_is}
+use Rattle.model_forms.proofs.Common.{layer_or, IsSize, widths, bottom_at, bottoms_of, grid_of, Size, arrays, array_is, number_is, multiplied_is, goes, ends}
+use Rattle.model_forms.proofs.Common.{IsOfBeds}
 use Rattle.number_limits.proofs.SignLemmas.{all_positive_of}
-use Rattle.package_items.specs.Items.{layer_or}
-use Rattle.dis_package.specs.Forms.{IsSize}
-use Rattle.dis_package.specs.Grids.{widths, bottom_at, bottoms_of, grid_of}
 use Rattle.dis_package.specs.declared.bottoms.Bottoms.{Bottoms}
-use Rattle.dis_package.specs.declared.frame.Size.{Size}
-use Rattle.array_forms.proofs.ArrayForms.{arrays, array_is}
-use Rattle.array_forms.proofs.NumberForms.{number_is, multiplied_is}
-use Rattle.array_forms.proofs.Readings.{goes, ends}
-use Rattle.package_text.specs.Readable.{IsOfBeds}
 use Rattle.model_forms.proofs.FrameForms.{AreBeds}
 use Rattle.model_forms.proofs.Parts.{if_true, all_counted, one_more, AreLayers, no_layers, one_more_layer}
 

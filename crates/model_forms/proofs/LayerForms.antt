@@ -1,23 +1,8 @@
 -- What is read of the properties of layers.
-use Rattle.std.proofs.Common.{◌≡◌, ℕ, ◌+◌, ◌*◌, Bool, true, false, not, cond, List, [], length, replicate, All, Ok, refl, arith}
-use Rattle.std.specs.Prelude.{if◌then◌else◌}
-use Rattle.std.proofs.lemmas.List.Elements.{All-nil, All-append}
-use Rattle.decimal_input.specs.declared.dec.Dec.{Dec}
-use Rattle.decimal_input.specs.Canonical.{IsDec}
-use Rattle.outside.specs.Files.{File}
-use Rattle.outside.specs.declared.refusals.Refusal.{Refusal}
-use Rattle.record_lines.specs.Layout.{Left}
-use Rattle.array_reader.specs.Arrays.{real_layer}
-use Rattle.model_types.specs.declared.grid.Grid.{Grid}
-use Rattle.model_types.specs.Cells.{layer_size}
-use Rattle.model_types.specs.Layers.{no_number}
-use Rattle.number_limits.specs.Signs.{is_positive}
-use Rattle.number_limits.proofs.Canonical.{no_number_is, dec_at_is}
-use Rattle.package_items.specs.Items.{layer_or}
-use Rattle.lpf_package.specs.Layers.{storage_layer, properties_of, joined, nth_layer, layer_at, layers_of}
+use Rattle.model_forms.proofs.Common.{◌≡◌, ℕ, ◌+◌, ◌*◌, Bool, true, false, not, cond, List, [], length, replicate, All, Ok, refl, arith, if◌then◌else◌, All-nil}
+use Rattle.model_forms.proofs.Common.{All-append, Dec, IsDec, File, Refusal, Left, real_layer, Grid, layer_size, no_number, is_positive, no_number_is}
+use Rattle.model_forms.proofs.Common.{dec_at_is, layer_or, storage_layer, properties_of, joined, nth_layer, layer_at, layers_of, Properties, goes, ends}
 use Rattle.lpf_package.specs.declared.layer.Layer.{Layer}
-use Rattle.lpf_package.specs.declared.layer.Properties.{Properties}
-use Rattle.array_forms.proofs.Readings.{goes, ends}
 use Rattle.model_forms.proofs.GridForms.{layer_is, layer_or_is, IsBedLayer}
 use Rattle.model_forms.proofs.Parts.{all_counted, one_more, AreLayers, no_layers, one_more_layer}
 

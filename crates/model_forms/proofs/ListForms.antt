@@ -1,29 +1,10 @@
 -- What a file of a list package gives.
-use Rattle.std.proofs.Common.{◌≡◌, ℕ, ◌≤◌, nat_le, ℤ, pos, negsuc, Bool, not, ◌&&◌, List, [], map, All, Option, Some, None, IfSome, is_some, Ok, Err, refl, subst, ◌∙◌}
-use Rattle.std.specs.Prelude.{if◌then◌else◌}
-use Rattle.std.proofs.lemmas.Bool.{leb-true}
-use Rattle.decimal_input.specs.declared.dec.Dec.{Dec}
-use Rattle.outside.specs.Refusals.{refusal}
-use Rattle.outside.specs.Words.{words}
-use Rattle.outside.specs.declared.codes.Code.TheVariants.{OutOfProfile, TooManyEntries, NothingToReuse}
-use Rattle.outside.specs.declared.refusals.Refusal.{Refusal}
-use Rattle.record_lines.specs.Items.{line_at}
-use Rattle.record_lines.specs.Layout.{Left, left_from, without_comments}
-use Rattle.record_lines.specs.Reading.{for_each}
-use Rattle.array_reader.specs.Items.{number_at}
-use Rattle.array_reader.specs.Numbers.{integer}
-use Rattle.model_types.specs.declared.grid.CellId.{CellId}
-use Rattle.model_types.specs.declared.grid.Grid.{Grid}
-use Rattle.model_types.specs.declared.model.FlowModel.{FlowModel}
-use Rattle.model_types.specs.declared.period.Period.{Period}
-use Rattle.model_types.specs.Cells.{cell_count}
-use Rattle.model_types.specs.Grids.{HasSize}
-use Rattle.list_package.specs.Headers.{Count, entries, again, count_of, is_reused, has_parameters, header_of, item_line}
-use Rattle.list_package.specs.Kinds.{Kind, with_list}
+use Rattle.model_forms.proofs.Common.{◌≡◌, ℕ, ◌≤◌, nat_le, ℤ, pos, negsuc, Bool, not, ◌&&◌, List, [], map, All, Option, Some, None, IfSome, is_some, Ok, Err}
+use Rattle.model_forms.proofs.Common.{refl, subst, ◌∙◌, if◌then◌else◌, leb-true, Dec, refusal, words, OutOfProfile, TooManyEntries, NothingToReuse, Refusal}
+use Rattle.model_forms.proofs.Common.{line_at, Left, left_from, without_comments, for_each, number_at, integer, CellId, Grid, FlowModel, Period, cell_count}
+use Rattle.model_forms.proofs.Common.{HasSize, Count, entries, again, count_of, is_reused, has_parameters, header_of, item_line, Kind, with_list, steps, goes}
+use Rattle.model_forms.proofs.Common.{ends, IsListOf}
 use Rattle.list_package.specs.Lists.{list_of, list_at, period_at, periods_of, lists_of, package_of}
-use Rattle.list_package.proofs.ModelLemmas.{steps}
-use Rattle.array_forms.proofs.Readings.{goes, ends}
-use Rattle.stress_text.specs.Entries.{IsListOf}
 use Rattle.model_forms.proofs.EntryForms.{IsNewList, no_list, new_list_is}
 use Rattle.model_forms.proofs.Parts.{if_true, if_false}
 use Rattle.model_forms.proofs.PeriodForms.{IsKnown, IsStage, each_are}

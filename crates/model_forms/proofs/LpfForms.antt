@@ -1,24 +1,10 @@
 -- What a file of the layer-property flow package gives can be written.
-use Rattle.std.proofs.Common.{◌≡◌, ℕ, ◌*◌, Bool, true, false, cond, List, length, All, Ok, refl, arith}
-use Rattle.decimal_input.specs.Canonical.{IsDec}
-use Rattle.outside.specs.Files.{File}
-use Rattle.outside.specs.declared.refusals.Refusal.{Refusal}
-use Rattle.record_lines.specs.Layout.{Left, left_from, without_comments}
-use Rattle.array_reader.specs.Lists.{free_list}
-use Rattle.array_reader.specs.Numbers.{number, integer}
-use Rattle.model_types.specs.declared.grid.Grid.{Grid}
-use Rattle.model_types.specs.declared.model.FlowModel.{FlowModel}
-use Rattle.model_types.specs.Cells.{cell_count, layer_size}
-use Rattle.package_items.specs.Items.{zero_list}
-use Rattle.lpf_package.specs.Flow.{is_transient, contents_of, with_contents, lpf_of, SameBut}
-use Rattle.lpf_package.specs.Layers.{layers_of}
+use Rattle.model_forms.proofs.Common.{◌≡◌, ℕ, ◌*◌, Bool, true, false, cond, List, length, All, Ok, refl, arith, IsDec, File, Refusal, Left, left_from}
+use Rattle.model_forms.proofs.Common.{without_comments, free_list, number, integer, Grid, FlowModel, cell_count, layer_size, zero_list, is_transient}
+use Rattle.model_forms.proofs.Common.{contents_of, with_contents, lpf_of, SameBut, layers_of, lists, goes, ends, IsShort, HasFlow}
 use Rattle.lpf_package.specs.Settings.{option_line, settings_of}
 use Rattle.lpf_package.specs.declared.model.Contents.{Contents}
 use Rattle.lpf_package.specs.declared.settings.Settings.{Settings}
-use Rattle.array_forms.proofs.ListForms.{lists}
-use Rattle.array_forms.proofs.Readings.{goes, ends}
-use Rattle.array_text.specs.Words.{IsShort}
-use Rattle.package_text.specs.Readable.{HasFlow}
 use Rattle.model_forms.proofs.GridForms.{of_beds}
 use Rattle.model_forms.proofs.LayerForms.{AreProperties, layers_are}
 

@@ -1,32 +1,11 @@
 -- A model that is read is writable.
-use Rattle.std.proofs.Common.{◌≡◌, ◌⊎◌, inl, inr, ℕ, ℤ, Bool, not, ◌||◌, cond, List, [], ◌∷◌, map, sum, sum_by, All, Ok, refl, sym, ap, subst, ◌∙◌}
-use Rattle.std.specs.List.{list_any}
-use Rattle.std.proofs.lemmas.List.Elements.{All-weaker}
-use Rattle.std.proofs.lemmas.List.Sums.{sum-map}
-use Rattle.outside.specs.Files.{File}
-use Rattle.outside.specs.Inputs.{file_at}
-use Rattle.outside.specs.declared.refusals.Refusal.{Refusal}
-use Rattle.name_file.specs.Pairs.{Pairs}
-use Rattle.name_file.specs.declared.package.Package.TheVariants.{Dis, Bas, Lpf}
-use Rattle.model_types.specs.declared.model.FlowModel.{FlowModel}
-use Rattle.model_types.specs.declared.period.Period.{Period}
-use Rattle.model_types.specs.Cells.{cell_count}
-use Rattle.model_types.specs.Grids.{HasSize}
-use Rattle.model_types.specs.Valid.{IsTimed}
-use Rattle.bas_package.specs.Basics.{bas_of}
-use Rattle.lpf_package.specs.Flow.{is_transient, lpf_of, SameBut}
-use Rattle.cell_checks.specs.Checks.{checked}
-use Rattle.cell_checks.specs.Faults.{fault_at}
-use Rattle.cell_checks.specs.declared.passing.Check.{Check}
-use Rattle.cell_checks.specs.declared.passing.Check.TheVariants.{Thickness, StartHead, Properties as PropertyCheck}
-use Rattle.list_package.proofs.ModelLemmas.{steps, same_count, same_view}
+use Rattle.model_forms.proofs.Common.{◌≡◌, ◌⊎◌, inl, inr, ℕ, ℤ, Bool, not, ◌||◌, cond, List, [], ◌∷◌, map, sum, sum_by, All, Ok, refl, sym, ap, subst, ◌∙◌}
+use Rattle.model_forms.proofs.Common.{list_any, All-weaker, sum-map, File, file_at, Refusal, Pairs, Dis, Bas, Lpf, FlowModel, Period, cell_count, HasSize}
+use Rattle.model_forms.proofs.Common.{IsTimed, bas_of, is_transient, lpf_of, SameBut, checked, fault_at, Check, Thickness, StartHead, steps, same_count}
+use Rattle.model_forms.proofs.Common.{same_view, dis_in, basics_tested, bas_in, lpf_in, model_of, reads, goes, ends, IsShort, HasFlow, IsRecharged}
+use Rattle.model_forms.proofs.Common.{IsEvaporating, IsDry, IsStill, HasNoRecharge, HasNoEvaporation, IsWritable}
+use Rattle.cell_checks.specs.declared.passing.Check.TheVariants.{Properties as PropertyCheck}
 use Rattle.model_reader.specs.Names.{names_in, needed}
-use Rattle.model_reader.specs.Model.{dis_in, basics_tested, bas_in, lpf_in, model_of, reads}
-use Rattle.array_forms.proofs.Readings.{goes, ends}
-use Rattle.array_text.specs.Words.{IsShort}
-use Rattle.package_text.specs.Readable.{HasFlow}
-use Rattle.area_text.specs.Readable.{IsRecharged, IsEvaporating}
-use Rattle.model_text.specs.Writable.{IsDry, IsStill, HasNoRecharge, HasNoEvaporation, IsWritable}
 use Rattle.model_forms.proofs.BasForms.{HasBasics, bas_is}
 use Rattle.model_forms.proofs.DisForms.{IsStarted, dis_is}
 use Rattle.model_forms.proofs.LpfForms.{lpf_is}

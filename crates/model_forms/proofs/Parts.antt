@@ -1,12 +1,8 @@
 -- Parts of a reading that gives something: tests that were passed, counted steps, and lists of layers.
-use Rattle.std.proofs.Common.{◌≡◌, ◌⊎◌, inl, inr, ℕ, zero, suc, ◌+◌, ◌-◌, ◌*◌, ◌<◌, ◌≤◌, Bool, true, false, List, [], ◌++◌, length, take, drop, All, Result, Ok, Err, refl, subst, arith}
-use Rattle.std.specs.Prelude.{if◌then◌else◌}
+use Rattle.model_forms.proofs.Common.{◌≡◌, ◌⊎◌, inl, inr, ℕ, zero, suc, ◌+◌, ◌-◌, ◌*◌, ◌<◌, ◌≤◌, Bool, true, false, List, [], ◌++◌, length, take, drop, All}
+use Rattle.model_forms.proofs.Common.{Result, Ok, Err, refl, subst, arith, if◌then◌else◌, cases_lt, length-append, length-drop, take-append-le, drop-append-le}
+use Rattle.model_forms.proofs.Common.{take_all, drop_at, All-append, counted, clash, goes, ends}
 use Rattle.std.proofs.Math.Nat.{mul-le-mul_right}
-use Rattle.std.proofs.lemmas.Bool.{cases_lt}
-use Rattle.std.proofs.lemmas.List.{length-append, length-drop, take-append-le, drop-append-le, take_all, drop_at}
-use Rattle.std.proofs.lemmas.List.Elements.{All-append}
-use Rattle.record_lines.specs.Reading.{counted}
-use Rattle.array_forms.proofs.Readings.{clash, goes, ends}
 
 -- a test that was passed
 pub if_true : {B E : Type 0} (y : B) (b : Bool) (e : E) (r : Result B E) → (if b then r else Err e) ≡ Ok y → (b ≡ true) × (r ≡ Ok y)

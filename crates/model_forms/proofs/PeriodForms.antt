@@ -1,28 +1,11 @@
 -- What is known of the stress periods of a model while its packages of stresses are read.
-use Rattle.std.proofs.Common.{◌≡◌, ◌⊎◌, inl, inr, ℕ, ℤ, pos, true, false, List, [], ◌∷◌, map, All, Result, Ok, refl, ◌∙◌}
-use Rattle.std.proofs.lemmas.List.Elements.{All-nil, All-cons, All-head, All-tail}
-use Rattle.outside.specs.declared.refusals.Refusal.{Refusal}
-use Rattle.record_lines.specs.Reading.{for_each}
-use Rattle.model_types.specs.declared.grid.Grid.{Grid}
-use Rattle.model_types.specs.declared.model.FlowModel.{FlowModel}
+use Rattle.model_forms.proofs.Common.{◌≡◌, ◌⊎◌, inl, inr, ℕ, ℤ, pos, true, false, List, [], ◌∷◌, map, All, Result, Ok, refl, ◌∙◌, All-nil, All-cons, All-head}
+use Rattle.model_forms.proofs.Common.{All-tail, Refusal, for_each, Grid, FlowModel, Period, cell_count, IsTimed, IsGrowing, number_one, given_heads, Kind}
+use Rattle.model_forms.proofs.Common.{with_list, steps, wells, rivers, drains, generals, is_option, IsReals, columns_tested, area_in, goes, ends, IsListOf}
+use Rattle.model_forms.proofs.Common.{IsLayers, IsDry, IsStill}
 use Rattle.model_types.specs.declared.entry.Entry.{Entry}
 use Rattle.model_types.specs.declared.entry.Given.{Given}
-use Rattle.model_types.specs.declared.period.Period.{Period}
 use Rattle.model_types.specs.declared.period.Stresses.{Stresses}
-use Rattle.model_types.specs.Cells.{cell_count}
-use Rattle.model_types.specs.Valid.{IsTimed, IsGrowing, number_one}
-use Rattle.list_package.specs.GivenHeads.{given_heads}
-use Rattle.list_package.specs.Kinds.{Kind, with_list}
-use Rattle.list_package.proofs.ModelLemmas.{steps}
-use Rattle.stress_packages.specs.Packages.{wells, rivers, drains, generals}
-use Rattle.period_arrays.specs.Flags.{is_option}
-use Rattle.period_arrays.specs.Forms.{IsReals}
-use Rattle.evt_package.specs.Columns.{columns_tested}
-use Rattle.evt_package.specs.Evaporation.{area_in}
-use Rattle.array_forms.proofs.Readings.{goes, ends}
-use Rattle.stress_text.specs.Entries.{IsListOf}
-use Rattle.area_text.specs.Readable.{IsLayers}
-use Rattle.model_text.specs.Writable.{IsDry, IsStill}
 
 -- recharge and evapotranspiration of a period, by these options
 pub record HasRecharge (g : Grid) (option : ℤ) (p : Period) : Type 0 where

@@ -1,28 +1,9 @@
 -- The packages of stresses are read one after the other, each where the name file names it.
-use Rattle.std.proofs.Common.{◌≡◌, ◌⊎◌, inl, inr, ℕ, ℤ, pos, Bool, true, false, List, [], All, Option, Some, None, Ok, refl, sym, subst, arith}
-use Rattle.std.specs.Prelude.{if◌then◌else◌}
-use Rattle.std.proofs.lemmas.List.Elements.{All-nil, All-weaker}
-use Rattle.decimal_input.specs.declared.dec.Dec.{Dec}
-use Rattle.outside.specs.Files.{File}
-use Rattle.outside.specs.Inputs.{file_at}
-use Rattle.outside.specs.declared.refusals.Refusal.{Refusal}
-use Rattle.name_file.specs.Pairs.{Pairs, file_of}
-use Rattle.name_file.specs.declared.package.Package.TheVariants.{Wel, Riv, Drn, Ghb, Rch, Chd, Evt}
-use Rattle.model_types.specs.declared.grid.CellId.{CellId}
-use Rattle.model_types.specs.declared.grid.Grid.{Grid}
-use Rattle.model_types.specs.declared.model.FlowModel.{FlowModel}
-use Rattle.model_types.specs.declared.period.Period.{Period}
-use Rattle.model_types.specs.Cells.{cell_count}
-use Rattle.model_types.specs.Grids.{HasSize}
-use Rattle.model_types.specs.Valid.{IsTimed}
-use Rattle.dis_package.specs.Forms.{IsNewPeriod, without_stresses}
-use Rattle.list_package.specs.GivenHeads.{given_heads, is_growing}
-use Rattle.list_package.specs.Kinds.{Kind, with_list}
-use Rattle.stress_packages.specs.Packages.{wells, rivers, drains, generals}
-use Rattle.period_arrays.specs.Flags.{is_option}
+use Rattle.model_forms.proofs.Common.{◌≡◌, ◌⊎◌, inl, inr, ℕ, ℤ, pos, Bool, true, false, List, [], All, Option, Some, None, Ok, refl, sym, subst, arith}
+use Rattle.model_forms.proofs.Common.{if◌then◌else◌, All-nil, All-weaker, Dec, File, file_at, Refusal, Pairs, file_of, Wel, Riv, Drn, Ghb, Rch, Chd, Evt}
+use Rattle.model_forms.proofs.Common.{CellId, Grid, FlowModel, Period, cell_count, HasSize, IsTimed, IsNewPeriod, without_stresses, given_heads, is_growing}
+use Rattle.model_forms.proofs.Common.{Kind, with_list, wells, rivers, drains, generals, is_option, goes, ends, IsEntry, IsListOf}
 use Rattle.model_reader.specs.Stresses.{where_named, file_in, list_in, rch_in, evt_in, with_entries, with_stresses}
-use Rattle.array_forms.proofs.Readings.{goes, ends}
-use Rattle.stress_text.specs.Entries.{IsEntry, IsListOf}
 use Rattle.model_forms.proofs.ListForms.{package_is}
 use Rattle.model_forms.proofs.RchForms.{rch_is}
 use Rattle.model_forms.proofs.EvtForms.{evt_is}

@@ -1,28 +1,11 @@
 -- What is read of the stress periods' lines.
-use Rattle.std.proofs.Common.{◌≡◌, ℕ, zero, suc, ◌+◌, ◌≤◌, nat_le, ◌&&◌, List, [], ◌∷◌, length, sum_by, All, Ok, refl, arith}
-use Rattle.std.proofs.lemmas.Bool.{and_parts, leb-true}
-use Rattle.std.proofs.lemmas.List.Elements.{All-nil, All-cons}
-use Rattle.std.proofs.lemmas.List.Sums.{sum_by-cons}
-use Rattle.decimal_input.specs.declared.dec.Dec.{Dec}
-use Rattle.decimal_input.specs.Canonical.{IsDec}
-use Rattle.outside.specs.Refusals.{refusal}
-use Rattle.outside.specs.Words.{words}
-use Rattle.outside.specs.declared.codes.Code.TheVariants.{BadGrid}
-use Rattle.outside.specs.declared.refusals.Refusal.{Refusal}
-use Rattle.record_lines.specs.Items.{line_at}
-use Rattle.record_lines.specs.Layout.{Left}
-use Rattle.record_lines.specs.Reading.{repeated}
-use Rattle.array_reader.specs.Items.{number_at}
-use Rattle.array_reader.specs.Numbers.{number}
-use Rattle.model_types.specs.declared.period.Period.{Period}
-use Rattle.dis_package.specs.Forms.{IsTime, IsNewPeriod}
-use Rattle.dis_package.specs.Frames.{count_at}
-use Rattle.dis_package.specs.Times.{kind_of, known, is_time, time_of, period_of, period_at, periods_of}
+use Rattle.model_forms.proofs.Common.{◌≡◌, ℕ, zero, suc, ◌+◌, ◌≤◌, nat_le, ◌&&◌, List, [], ◌∷◌, length, sum_by, All, Ok, refl, arith, and_parts, leb-true}
+use Rattle.model_forms.proofs.Common.{All-nil, All-cons, sum_by-cons, Dec, IsDec, refusal, words, BadGrid, Refusal, line_at, Left, repeated, number_at, number}
+use Rattle.model_forms.proofs.Common.{Period, IsTime, IsNewPeriod, count_at, kind_of, known, is_time, time_of, period_of, periods_of, item_is, number_is, goes}
+use Rattle.model_forms.proofs.Common.{ends}
+use Rattle.dis_package.specs.Times.{period_at}
 use Rattle.dis_package.specs.declared.time.Time.{Time}
 use Rattle.dis_package.proofs.TimeLemmas.{new_of}
-use Rattle.array_forms.proofs.ArrayForms.{item_is}
-use Rattle.array_forms.proofs.NumberForms.{number_is}
-use Rattle.array_forms.proofs.Readings.{goes, ends}
 use Rattle.model_forms.proofs.FrameForms.{count_is}
 use Rattle.model_forms.proofs.Parts.{if_true}
 

@@ -1,52 +1,31 @@
 -- Three cells in a row are a writable model.
-use Rattle.std.proofs.Common.{◌≡◌, ℕ, zero, suc, ◌%◌, ◌^◌, ◌<◌, ◌≤◌, ◌==◌, inr, true, false, not, pos, negsuc, List, [], ◌∷◌, length, replicate, All, Some, None, Ok, refl, sym, ap, ◌∙◌, arith}
+use Rattle.model_forms.proofs.Common.{◌≡◌, ℕ, zero, suc, ◌%◌, ◌^◌, ◌<◌, ◌≤◌, ◌==◌, inr, true, false, not, pos, negsuc, List, [], ◌∷◌, length, replicate, All}
+use Rattle.model_forms.proofs.Common.{Some, None, Ok, refl, sym, ap, ◌∙◌, arith, list_all, and_parts, not-true, All-nil, All-cons, All-replicate}
+use Rattle.model_forms.proofs.Common.{All-from_recursion, IsDec, file_limit, counted, Dis, Bas, Lpf, Wel, Riv, Drn, Ghb, Rch, Chd, Evt, Period, no_number}
+use Rattle.model_forms.proofs.Common.{IsGrid, IsPositive, IsTimed, no_number_is, checked, fault_at, Check, Thickness, StartHead, given_heads, Kind, wells}
+use Rattle.model_forms.proofs.Common.{rivers, drains, generals, IsShort, number_word, integer_word, IsOfBeds, IsDiscretized, IsBasic, HasFlow, IsEntry}
+use Rattle.model_forms.proofs.Common.{IsListOf, IsDry, IsStill, IsWritable, model_reads, all_plain}
 use Rattle.std.specs.Fmt.{decimal as numeral}
 use Rattle.std.proofs.lemmas.Fmt.{decimal_digit}
-use Rattle.std.specs.List.{list_all}
-use Rattle.std.proofs.lemmas.Bool.{and_parts, not-true}
 use Rattle.std.proofs.lemmas.Bool.Decides.{nat_tests}
 use Rattle.std.proofs.lemmas.Int.{ints}
-use Rattle.std.proofs.lemmas.List.Elements.{All-nil, All-cons, All-replicate, All-from_recursion}
-use Rattle.decimal_input.specs.Canonical.{IsDec}
 use Rattle.decimal_input.specs.Decimals.{scaled}
 use Rattle.decimal_input.specs.Ratios.{ratio}
-use Rattle.outside.specs.Inputs.{file_limit}
-use Rattle.record_lines.specs.Reading.{counted}
 use Rattle.name_file.specs.Kinds.{package_of}
 use Rattle.name_file.specs.declared.package.Package.{Package}
-use Rattle.name_file.specs.declared.package.Package.TheVariants.{Dis, Bas, Lpf, Wel, Riv, Drn, Ghb, Rch, Chd, Evt}
-use Rattle.model_types.specs.declared.period.Period.{Period}
-use Rattle.model_types.specs.Layers.{no_number}
-use Rattle.model_types.specs.Grids.{IsGrid}
-use Rattle.model_types.specs.Numbers.{IsPositive}
-use Rattle.model_types.specs.Valid.{IsTimed}
 use Rattle.number_limits.specs.Magnitudes.{is_at_most}
 use Rattle.number_limits.specs.Room.{floor_of, ceiling_of, is_thick}
-use Rattle.number_limits.proofs.Canonical.{no_number_is}
-use Rattle.cell_checks.specs.Checks.{checked}
-use Rattle.cell_checks.specs.Faults.{fault_at}
-use Rattle.cell_checks.specs.declared.passing.Check.{Check}
-use Rattle.cell_checks.specs.declared.passing.Check.TheVariants.{Thickness, StartHead, Properties}
-use Rattle.list_package.specs.GivenHeads.{given_heads}
-use Rattle.list_package.specs.Kinds.{Kind}
-use Rattle.stress_packages.specs.Packages.{wells, rivers, drains, generals}
+use Rattle.cell_checks.specs.declared.passing.Check.TheVariants.{Properties}
 use Rattle.flow_equations.specs.Worked.{decimal, period_with, three_cells}
-use Rattle.array_text.specs.Words.{IsShort}
-use Rattle.array_text.specs.Words.{number_word, integer_word}
 use Rattle.array_text.specs.Lines.{line_text, text}
 use Rattle.array_text.specs.Arrays.{row_line, row_lines, real_array, integer_array}
 use Rattle.array_text.proofs.WordTexts.{word_by_test}
 use Rattle.package_text.specs.Discretization.{dis_lines, dis_item_1, dis_item_2, dis_item_3, dis_item_4, dis_item_5, dis_item_6, dis_item_7}
 use Rattle.package_text.specs.Basics.{bas_lines, bas_item_1, bas_item_2, bas_item_3, bas_item_4}
 use Rattle.package_text.specs.Flow.{lpf_lines, lpf_item_1, lpf_zeros, lpf_item_4, lpf_item_5, lpf_arrays}
-use Rattle.package_text.specs.Readable.{IsOfBeds, IsDiscretized, IsBasic, HasFlow}
-use Rattle.stress_text.specs.Entries.{IsEntry, IsListOf}
 use Rattle.model_text.specs.Names.{file_type, name_item, AreNames}
 use Rattle.model_text.specs.Written.{written}
-use Rattle.model_text.specs.Writable.{IsDry, IsStill, IsWritable}
-use Rattle.model_text.proofs.ModelTexts.{model_reads}
 use Rattle.model_text.proofs.PackageTexts.{type_is_word, type_reads}
-use Rattle.model_text.proofs.DeckNames.{all_plain}
 use Rattle.model_forms.specs.Worked.{name_of_deck, deck, ThreeCells}
 
 abbrev steady_period : Period

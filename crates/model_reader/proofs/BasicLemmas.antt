@@ -1,22 +1,7 @@
 -- A model that passed the checks behind BAS6.
-use Rattle.std.proofs.Common.{◌≡◌, ℕ, List, ℤ, Ok, All, length, refl, sym, ap, subst}
-use Rattle.decimal_input.specs.declared.dec.Dec.{Dec}
-use Rattle.decimal_input.specs.Canonical.{IsDec}
-use Rattle.outside.specs.Files.{File}
-use Rattle.outside.specs.Inputs.{file_at}
-use Rattle.outside.specs.Refusals.{input_fault}
-use Rattle.outside.specs.declared.refusals.TextFault.{TextFault}
-use Rattle.record_lines.specs.Reading.{Stops, StopsText}
-use Rattle.model_types.specs.declared.model.FlowModel.{FlowModel}
-use Rattle.model_types.specs.Grids.{IsGrid}
-use Rattle.model_types.specs.Cells.{cell_count}
-use Rattle.bas_package.specs.Basics.{bas_of, with_basics}
-use Rattle.cell_checks.specs.Checks.{checked}
-use Rattle.cell_checks.specs.declared.passing.Check.TheVariants.{Thickness, StartHead}
-use Rattle.cell_checks.proofs.PassedCells.{each_passed}
-use Rattle.dis_package.specs.Forms.{IsBegun}
-use Rattle.model_reader.specs.Forms.{IsBasic}
-use Rattle.model_reader.specs.Model.{bas_in, basics_tested}
+use Rattle.model_reader.proofs.Common.{◌≡◌, ℕ, List, ℤ, Ok, All, length, refl, sym, ap, subst, Dec, IsDec, File, file_at, input_fault, TextFault, Stops}
+use Rattle.model_reader.proofs.Common.{StopsText, FlowModel, IsGrid, cell_count, bas_of, with_basics, checked, Thickness, StartHead, each_passed, IsBegun}
+use Rattle.model_reader.proofs.Common.{IsBasic, bas_in, basics_tested}
 use Rattle.model_reader.proofs.Chains.{text_stops_here}
 
 basics : (b : FlowModel) (ibound : List ℤ) (strt : List Dec) (dis bas : List ℕ) → IsBegun b → length ibound ≡ cell_count b.grid → length strt ≡ cell_count b.grid → All IsDec strt

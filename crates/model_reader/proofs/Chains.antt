@@ -1,19 +1,12 @@
 -- Readings one behind the other.
-use Rattle.std.proofs.Common.{◌≡◌, ℕ, List, Option, Some, refl, sym, subst, Result, Ok}
+use Rattle.model_reader.proofs.Common.{◌≡◌, ℕ, List, Option, Some, refl, sym, subst, Result, Ok, File, file_at, TextFault, Refusal, input_fault, ◌>>=◌, Has}
+use Rattle.model_reader.proofs.Common.{Stops, StopsText, FlowModel, file_in, where_named}
 use Rattle.outside.specs.Counts.{InputCounts}
-use Rattle.outside.specs.Files.{File}
 use Rattle.outside.specs.Folders.{ReadsOn}
-use Rattle.outside.specs.Inputs.{file_at}
 use Rattle.outside.specs.declared.traits.Folder.{Ghosts as FolderOf}
 use Rattle.outside.specs.declared.refusals.InputFault.{InputFault}
 use Rattle.outside.specs.declared.refusals.InputFault.TheVariants as input
-use Rattle.outside.specs.declared.refusals.TextFault.{TextFault}
 use Rattle.outside.specs.declared.refusals.TextFault.TheVariants as texts
-use Rattle.outside.specs.declared.refusals.Refusal.{Refusal}
-use Rattle.outside.specs.Refusals.{input_fault}
-use Rattle.record_lines.specs.Reading.{◌>>=◌, Has, Stops, StopsText}
-use Rattle.model_types.specs.declared.model.FlowModel.{FlowModel}
-use Rattle.model_reader.specs.Stresses.{file_in, where_named}
 
 -- what two readings in a row do to their folder
 pub both_read : {S T U : Type 0} {F : FolderOf S} {old mid new : S} {x : T} {result : Result U InputFault} → ReadsOn F old mid (Ok x) → ReadsOn F mid new result → ReadsOn F old new result

@@ -1,36 +1,21 @@
 -- A model that passed the checks behind LPF.
-use Rattle.std.proofs.Common.{◌≡◌, ◌⊎◌, inl, inr, ℕ, ◌+◌, ◌<◌, ℤ, pos, ◌≤ℤ◌, Bool, true, false, not, cond, ◌&&◌, ◌||◌, nat_le, nat_lt, List, Ok, All, length, refl, sym, ap, subst, arith}
-use Rattle.std.proofs.lemmas.Bool.{and_parts, not-true, lt-leb, lt-ltb}
+use Rattle.model_reader.proofs.Common.{◌≡◌, ◌⊎◌, inl, inr, ℕ, ◌+◌, ◌<◌, ℤ, pos, ◌≤ℤ◌, Bool, true, false, not, cond, ◌&&◌, ◌||◌, nat_le, nat_lt, List, Ok, All}
+use Rattle.model_reader.proofs.Common.{length, refl, sym, ap, subst, arith, and_parts, not-true, lt-leb, lt-ltb, Dec, IsDec, number, File, file_at, input_fault}
+use Rattle.model_reader.proofs.Common.{TextFault, Stops, StopsText, FlowModel, IsGrid, layer_size, cell_count, IsModel, IsCellValid, IsBedValid, IsBedChecked}
+use Rattle.model_reader.proofs.Common.{checked, Properties, each_passed, is_transient, lpf_of, with_properties, SameBut, IsBasic, lpf_in}
 use Rattle.std.proofs.lemmas.Int.{ints}
-use Rattle.decimal_input.specs.declared.dec.Dec.{Dec}
-use Rattle.decimal_input.specs.Canonical.{IsDec, number}
-use Rattle.outside.specs.Files.{File}
-use Rattle.outside.specs.Inputs.{file_at}
-use Rattle.outside.specs.Refusals.{input_fault}
-use Rattle.outside.specs.declared.refusals.TextFault.{TextFault}
-use Rattle.record_lines.specs.Reading.{Stops, StopsText}
-use Rattle.model_types.specs.declared.model.FlowModel.{FlowModel}
-use Rattle.model_types.specs.Grids.{IsGrid}
-use Rattle.model_types.specs.Cells.{layer_size, cell_count}
 use Rattle.model_types.specs.Layers.{dec_at, is_active, has_bed, top_at, bottom_at, lowest}
-use Rattle.model_types.specs.Valid.{IsModel, IsCellValid, IsBedValid, IsBedChecked}
-use Rattle.cell_checks.specs.Checks.{checked}
 use Rattle.cell_checks.specs.Faults.{is_checked_bed, has_good_properties}
-use Rattle.cell_checks.specs.declared.passing.Check.TheVariants.{Properties}
-use Rattle.cell_checks.proofs.PassedCells.{each_passed}
-use Rattle.lpf_package.specs.Flow.{is_transient, lpf_of, with_properties, SameBut}
 use Rattle.lpf_package.specs.Forms.{HasProperties}
-use Rattle.lpf_package.specs.declared.layer.Properties as layer
 use Rattle.number_limits.specs.Room.{is_thick}
 use Rattle.number_limits.specs.Signs.{is_positive, is_same_number}
 use Rattle.number_limits.proofs.Canonical.{dec_at_is}
 use Rattle.number_limits.proofs.HeadLemmas.{head_of}
 use Rattle.number_limits.proofs.RoomLemmas.{thick_sound}
 use Rattle.number_limits.proofs.SignLemmas.{one_dec, positive_of}
-use Rattle.model_reader.specs.Forms.{IsBasic}
-use Rattle.model_reader.specs.Model.{lpf_in}
 use Rattle.model_reader.proofs.Chains.{text_stops_here}
 use Rattle.model_reader.proofs.PeriodLemmas.{all_periods, all_steady, no_evaps}
+use Rattle.lpf_package.specs.declared.layer.Properties as layer
 
 second : (a b : Bool) → (not a || b) ≡ true → a ≡ true → b ≡ true
 second true b e f = e

@@ -1,3 +1,4 @@
+mod Common
 pub mod BasicLemmas
 pub mod Chains
 pub mod PeriodLemmas

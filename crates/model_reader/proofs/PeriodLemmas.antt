@@ -1,17 +1,13 @@
 -- Periods without stresses.
-use Rattle.std.proofs.Common.{◌≡◌, ℕ, ℤ, pos, Bool, true, false, not, cond, ◌&&◌, ◌==◌, List, [], ◌∷◌, Some, None, All, refl, sym, ap, subst}
+use Rattle.model_reader.proofs.Common.{◌≡◌, ℕ, ℤ, pos, Bool, true, false, not, cond, ◌&&◌, ◌==◌, List, [], ◌∷◌, Some, None, All, refl, sym, ap, subst, or_parts}
+use Rattle.model_reader.proofs.Common.{FlowModel, IsTimed, IsPeriod, IsEvapValid, IsNewPeriod, without_stresses, is_transient}
 use Rattle.std.specs.Option.{option_to_list}
-use Rattle.std.proofs.lemmas.Bool.{or_parts}
 use Rattle.std.proofs.lemmas.List.Elements.{All-nil, All-cons, All-weaker}
-use Rattle.model_types.specs.declared.model.FlowModel.{FlowModel}
 use Rattle.model_types.specs.declared.period.Period.{Period}
 use Rattle.model_types.specs.Receivers.{is_chosen, evap_source}
 use Rattle.model_types.specs.Sources.{evap_sources}
 use Rattle.model_types.specs.Times.{period_at}
-use Rattle.model_types.specs.Valid.{IsTimed, IsPeriod, IsEvapValid}
 use Rattle.model_types.proofs.NoStresses.{no_stresses_fit}
-use Rattle.dis_package.specs.Forms.{IsNewPeriod, without_stresses}
-use Rattle.lpf_package.specs.Flow.{is_transient}
 
 without_stresses_fits : (m : FlowModel) → m.nrchop ≡ pos 0 → m.nevtop ≡ pos 0 → (p : Period) → IsTimed (without_stresses p) → IsPeriod m (without_stresses p)
 without_stresses_fits m r e p times = record { times = times; stresses = no_stresses_fit m.grid m.nrchop m.nevtop r e }

@@ -1,33 +1,27 @@
 -- The unit of length of a model that is read is a word of 64 bits.
-use Rattle.std.proofs.Common.{◌≡◌, ℕ, zero, suc, ◌+◌, ◌-◌, ◌*◌, ◌^◌, ◌<◌, ◌≤◌, Bool, true, false, List, [], ◌∷◌, length, nat_abs, Option, Some, None, Result, Ok, Err, refl, sym, ap, subst, arith, ℤ}
+use Rattle.model_reader.proofs.Common.{◌≡◌, ℕ, zero, suc, ◌+◌, ◌-◌, ◌*◌, ◌^◌, ◌<◌, ◌≤◌, Bool, true, false, List, [], ◌∷◌, length, nat_abs, Option, Some, None}
+use Rattle.model_reader.proofs.Common.{Result, Ok, Err, refl, sym, ap, subst, arith, ℤ, File, file_at, Refusal, ◌>>=◌, FlowModel, bas_of, basics_of}
+use Rattle.model_reader.proofs.Common.{with_basics, contents_of, is_transient, lpf_of, with_contents, checked, Properties, basics_tested, bas_in, dis_in}
+use Rattle.model_reader.proofs.Common.{lpf_in, model_of, reads, evt_in, file_in, list_in, rch_in, where_named, with_entries, with_stresses}
 use Rattle.decimal_input.specs.declared.dec.NumFault.{NumFault}
 use Rattle.decimal_input.specs.Decimals.{with_sign}
 use Rattle.decimal_input.specs.Grammar.{AreDigits, IsInteger, number_from}
 use Rattle.decimal_input.proofs.Named.{digit_small}
 use Rattle.decimal_input.proofs.Short.{longer, within}
-use Rattle.outside.specs.Files.{File}
-use Rattle.outside.specs.Inputs.{file_at}
-use Rattle.outside.specs.declared.refusals.Refusal.{Refusal}
 use Rattle.record_lines.specs.Items.{line_at}
 use Rattle.outside.specs.Words.{words}
 use Rattle.record_lines.specs.Layout.{Left, left_from, without_comments}
-use Rattle.record_lines.specs.Reading.{◌>>=◌}
 use Rattle.array_reader.specs.Items.{at_line, number_at}
 use Rattle.array_reader.specs.Numbers.{integer}
 use Rattle.array_reader.proofs.NumberLemmas.{integers_are}
 use Rattle.name_file.specs.Pairs.{Pairs, file_of}
 use Rattle.name_file.specs.declared.package.Package.TheVariants.{Dis, Bas, Lpf, Wel, Riv, Drn, Ghb, Rch, Chd, Evt}
-use Rattle.model_types.specs.declared.model.FlowModel.{FlowModel}
 use Rattle.dis_package.specs.Beds.{beds_of}
 use Rattle.dis_package.specs.Discretization.{dis_of, head_of}
 use Rattle.dis_package.specs.Frames.{count_at, frame_of, size_at}
 use Rattle.dis_package.specs.Grids.{grid_of}
 use Rattle.dis_package.specs.Times.{periods_of}
 use Rattle.dis_package.specs.declared.frame.Frame.{Frame}
-use Rattle.bas_package.specs.Basics.{bas_of, basics_of, with_basics}
-use Rattle.lpf_package.specs.Flow.{contents_of, is_transient, lpf_of, with_contents}
-use Rattle.cell_checks.specs.Checks.{checked}
-use Rattle.cell_checks.specs.declared.passing.Check.TheVariants.{Properties}
 use Rattle.list_package.specs.Kinds.{Kind}
 use Rattle.list_package.specs.Lists.{lists_of, package_of}
 use Rattle.stress_packages.specs.Packages.{wells, rivers, drains, generals}
@@ -35,9 +29,7 @@ use Rattle.list_package.specs.GivenHeads.{given_heads}
 use Rattle.period_arrays.specs.Packages.{arrays_in}
 use Rattle.rch_package.specs.Recharge.{rch_of, recharge_arrays, with_recharge}
 use Rattle.evt_package.specs.Evaporation.{evaporation_arrays, evt_of, with_evaporation}
-use Rattle.model_reader.specs.Model.{basics_tested, bas_in, dis_in, lpf_in, model_of, reads}
 use Rattle.model_reader.specs.Names.{names_in, needed}
-use Rattle.model_reader.specs.Stresses.{evt_in, file_in, list_in, rch_in, where_named, with_entries, with_stresses}
 
 clash : {B E : Type 0} (e : E) (y : B) (r : Result B E) → r ≡ Err e → r ≡ Ok y → ⊥
 clash e y r h k = cc

@@ -1,15 +1,8 @@
 -- The names of the files of a deck are good names.
-use Rattle.std.proofs.Common.{◌≡◌, ℕ, ◌==◌, true, false, not, cond, List, [], ◌∷◌, All, Option, Some, None, refl, sym, ap, ◌∙◌, arith}
-use Rattle.std.specs.List.{list_all}
-use Rattle.std.specs.Str.{bytes_eq}
-use Rattle.std.proofs.lemmas.Bool.{and_parts, not-true}
-use Rattle.std.proofs.lemmas.Bool.Decides.{nat_tests}
-use Rattle.std.proofs.lemmas.List.Elements.{All-nil, All-cons}
-use Rattle.name_file.specs.declared.package.Package.{Package}
-use Rattle.name_file.specs.declared.package.Package.TheVariants.{Dis, Bas, Lpf, Wel, Riv, Drn, Ghb, Rch, Chd, Evt}
-use Rattle.array_text.proofs.WordTexts.{word_by_test}
+use Rattle.model_text.proofs.Common.{◌≡◌, ℕ, ◌==◌, true, false, not, cond, List, [], ◌∷◌, All, Option, Some, None, refl, sym, ap, ◌∙◌, arith, list_all}
+use Rattle.model_text.proofs.Common.{bytes_eq, and_parts, not-true, nat_tests, All-nil, All-cons, Package, Dis, Bas, Lpf, Wel, Riv, Drn, Ghb, Rch, Chd, Evt}
+use Rattle.model_text.proofs.Common.{word_by_test, packages, AreNames, IsFileName}
 use Rattle.model_text.specs.Decks.{deck_name, deck_names}
-use Rattle.model_text.specs.Names.{packages, AreNames, IsFileName}
 
 -- a name without a backslash
 pub all_plain : (w : List ℕ) → list_all (λ b. not (b == 92)) w ≡ true → All (λ b. b ≡ 92 → ⊥) w

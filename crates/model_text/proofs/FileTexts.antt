@@ -1,19 +1,9 @@
 -- The files of a deck are found by their names.
-use Rattle.std.proofs.Common.{◌≡◌, ℕ, ◌≤◌, ◌==◌, Bool, true, false, nat_le, List, [], ◌∷◌, length, map, filter, All, Option, Some, Ok, refl, sym, ap, ◌∙◌, arith}
-use Rattle.std.specs.List.{list_any}
-use Rattle.std.specs.Str.{bytes_eq}
-use Rattle.std.proofs.lemmas.List.Elements.{All-head, All-tail}
-use Rattle.std.proofs.lemmas.Bool.Decides.{nat_tests}
+use Rattle.model_text.proofs.Common.{◌≡◌, ℕ, ◌≤◌, ◌==◌, Bool, true, false, nat_le, List, [], ◌∷◌, length, map, filter, All, Option, Some, Ok, refl, sym, ap}
+use Rattle.model_text.proofs.Common.{◌∙◌, arith, list_any, bytes_eq, All-head, All-tail, nat_tests, File, bytes_under, file_limit, file_at, folder_name}
+use Rattle.model_text.proofs.Common.{is_same_package, Package, FlowModel, text, packages, name_item, IsFileName, AreNames, has, lines_of, package_file}
+use Rattle.model_text.proofs.Common.{name_file, written}
 use Rattle.std.proofs.lemmas.Slice.Eq.{bytes_eq-Decides}
-use Rattle.outside.specs.Files.{File, bytes_under}
-use Rattle.outside.specs.Inputs.{file_limit, file_at}
-use Rattle.outside.specs.Names.{folder_name}
-use Rattle.name_file.specs.Pairs.{is_same_package}
-use Rattle.name_file.specs.declared.package.Package.{Package}
-use Rattle.model_types.specs.declared.model.FlowModel.{FlowModel}
-use Rattle.array_text.specs.Lines.{text}
-use Rattle.model_text.specs.Names.{packages, name_item, IsFileName, AreNames}
-use Rattle.model_text.specs.Written.{has, lines_of, package_file, name_file, written}
 use Rattle.model_text.proofs.PackageTexts.{same_itself, same_is}
 
 -- a folder is asked for a name without a backslash by the name itself

@@ -1,3 +1,4 @@
+mod Common
 pub mod PackageTexts
 pub mod NameTexts
 pub mod FileTexts

@@ -1,14 +1,8 @@
 -- A model is read as written.
-use Rattle.std.proofs.Common.{◌≡◌, ℕ, ◌≤◌, pos, Bool, true, false, if◌then◌else◌, List, [], ◌∷◌, length, map, All, Some, None, Ok, refl, ap}
-use Rattle.std.specs.List.{list_any}
-use Rattle.outside.specs.Files.{File}
-use Rattle.outside.specs.Inputs.{file_limit, file_at}
-use Rattle.name_file.specs.Pairs.{Pairs, is_same_package, file_of}
-use Rattle.name_file.specs.declared.package.Package.{Package}
-use Rattle.name_file.specs.declared.package.Package.TheVariants.{Dis, Bas, Lpf, Wel, Riv, Drn, Ghb, Rch, Chd, Evt}
-use Rattle.model_types.specs.declared.model.FlowModel.{FlowModel}
-use Rattle.model_types.specs.declared.period.Period.{Period}
-use Rattle.model_types.specs.Grids.{HasSize}
+use Rattle.model_text.proofs.Common.{◌≡◌, ℕ, ◌≤◌, pos, Bool, true, false, if◌then◌else◌, List, [], ◌∷◌, length, map, All, Some, None, Ok, refl, ap, list_any}
+use Rattle.model_text.proofs.Common.{File, file_limit, file_at, Pairs, is_same_package, file_of, Package, Dis, Bas, Lpf, Wel, Riv, Drn, Ghb, Rch, Chd, Evt}
+use Rattle.model_text.proofs.Common.{FlowModel, Period, HasSize, where_named, list_in, rch_in, evt_in, with_entries, with_stresses, text, dis_reads, numbers_of}
+use Rattle.model_text.proofs.Common.{heads_of, packages, AreNames, has, lines_of, written, IsWritable, IsDry, IsStill}
 use Rattle.model_types.specs.Sources.{cell_of}
 use Rattle.dis_package.specs.Discretization.{begun}
 use Rattle.dis_package.specs.Forms.{without_stresses}
@@ -19,17 +13,10 @@ use Rattle.cell_checks.specs.declared.passing.Check.TheVariants.{Thickness, Star
 use Rattle.stress_packages.specs.Packages.{wells, rivers, drains, generals}
 use Rattle.list_package.specs.GivenHeads.{given_heads}
 use Rattle.model_reader.specs.Names.{names_in, needed}
-use Rattle.model_reader.specs.Stresses.{where_named, list_in, rch_in, evt_in, with_entries, with_stresses}
 use Rattle.model_reader.specs.Model.{dis_in, basics_tested, bas_in, lpf_in, model_of, reads}
-use Rattle.array_text.specs.Lines.{text}
-use Rattle.package_text.proofs.DisTexts.{dis_reads}
 use Rattle.package_text.proofs.BasTexts.{bas_reads}
 use Rattle.package_text.proofs.LpfTexts.{lpf_reads}
-use Rattle.stress_text.specs.Lists.{numbers_of, heads_of}
 use Rattle.stress_text.proofs.KindTexts.{list_packages}
-use Rattle.model_text.specs.Names.{packages, AreNames}
-use Rattle.model_text.specs.Written.{has, lines_of, written}
-use Rattle.model_text.specs.Writable.{IsWritable, IsDry, IsStill}
 use Rattle.model_text.proofs.NameTexts.{pairs_of, absent, present, names_read}
 use Rattle.model_text.proofs.FileTexts.{name_file_there, package_file_there}
 use Rattle.model_text.proofs.StageTexts.{staged, with_list, with_recharge, with_evaporation, list_stage, recharge_stage, evaporation_stage}

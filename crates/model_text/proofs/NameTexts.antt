@@ -1,21 +1,11 @@
 -- The name file is read as written.
-use Rattle.std.proofs.Common.{◌≡◌, ℕ, ◌≤◌, Bool, true, false, nat_le, ◌&&◌, List, [], ◌∷◌, ◌++◌, append_assoc, length, map, filter, All, Some, None, Ok, refl, arith}
-use Rattle.std.specs.List.{list_all, list_any}
-use Rattle.std.proofs.lemmas.List.{append-nil}
-use Rattle.std.proofs.lemmas.List.Elements.{All-nil, All-cons, All-head, All-tail, All-from_recursion}
-use Rattle.std.proofs.lemmas.Bool.Decides.{nat_tests}
-use Rattle.outside.specs.Names.{is_good_name}
-use Rattle.record_lines.specs.Layout.{next_number}
+use Rattle.model_text.proofs.Common.{◌≡◌, ℕ, ◌≤◌, Bool, true, false, nat_le, ◌&&◌, List, [], ◌∷◌, ◌++◌, append_assoc, length, map, filter, All, Some, None, Ok}
+use Rattle.model_text.proofs.Common.{refl, arith, list_all, list_any, append-nil, All-nil, All-cons, All-head, All-tail, All-from_recursion, nat_tests}
+use Rattle.model_text.proofs.Common.{is_good_name, next_number, Pairs, is_same_package, file_of, has_package, file_in, after_package, after_line, after_lines}
+use Rattle.model_text.proofs.Common.{whole, names_of, Package, Dis, Bas, Lpf, IsWord, IsWordByte, Line, IsLine, line_text, text, numbered_lines, unread}
+use Rattle.model_text.proofs.Common.{line_is_item, packages, file_type, file_unit, name_item, IsFileName, AreNames}
 use Rattle.record_lines.specs.Items.{word_at, name_at}
-use Rattle.name_file.specs.Pairs.{Pairs, is_same_package, file_of, has_package}
-use Rattle.name_file.specs.Reading.{file_in, after_package, after_line, after_lines, whole, names_of}
-use Rattle.name_file.specs.declared.package.Package.{Package}
-use Rattle.name_file.specs.declared.package.Package.TheVariants.{Dis, Bas, Lpf}
-use Rattle.array_text.specs.Words.{IsWord, IsWordByte}
-use Rattle.array_text.specs.Lines.{Line, IsLine, line_text, text, numbered_lines, unread}
 use Rattle.array_text.proofs.LineTexts.{line_words, text_left}
-use Rattle.package_text.proofs.DisTexts.{line_is_item}
-use Rattle.model_text.specs.Names.{packages, file_type, file_unit, name_item, IsFileName, AreNames}
 use Rattle.model_text.proofs.PackageTexts.{type_is_word, unit_is_word, type_is_item, type_reads, type_is_kept, unit_is_integer, same_itself, same_is, AreApart, packages_apart}
 
 good_bytes : (bs : List ℕ) → All (λ b. IsWordByte b) bs → list_all (λ b. nat_le 33 b && nat_le b 126) bs ≡ true

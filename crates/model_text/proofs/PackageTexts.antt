@@ -1,16 +1,8 @@
 -- Packages: their file types and units are words that are read as the package, and two packages are the same or apart.
-use Rattle.std.proofs.Common.{◌≡◌, Bool, true, false, not, ◌&&◌, List, [], ◌∷◌, All, Some, refl}
-use Rattle.std.specs.List.{list_all}
-use Rattle.std.proofs.lemmas.List.Elements.{All-nil, All-cons}
-use Rattle.record_lines.specs.Layout.{is_comment}
+use Rattle.model_text.proofs.Common.{◌≡◌, Bool, true, false, not, ◌&&◌, List, [], ◌∷◌, All, Some, refl, list_all, All-nil, All-cons, is_comment}
+use Rattle.model_text.proofs.Common.{is_same_package, is_integer, Package, Dis, Bas, Lpf, Wel, Riv, Drn, Ghb, Rch, Chd, Evt, IsWord, word_by_test, packages}
+use Rattle.model_text.proofs.Common.{file_type, file_unit}
 use Rattle.name_file.specs.Kinds.{package_of, is_passed_over}
-use Rattle.name_file.specs.Pairs.{is_same_package}
-use Rattle.name_file.specs.Reading.{is_integer}
-use Rattle.name_file.specs.declared.package.Package.{Package}
-use Rattle.name_file.specs.declared.package.Package.TheVariants.{Dis, Bas, Lpf, Wel, Riv, Drn, Ghb, Rch, Chd, Evt}
-use Rattle.array_text.specs.Words.{IsWord}
-use Rattle.array_text.proofs.WordTexts.{word_by_test}
-use Rattle.model_text.specs.Names.{packages, file_type, file_unit}
 
 pub type_is_word : (k : Package) → IsWord (file_type k)
 type_is_word Dis = word_by_test (file_type Dis) refl

@@ -1,17 +1,10 @@
 -- A model's packages of stresses are read one after the other, each where the model has it.
-use Rattle.std.proofs.Common.{◌≡◌, ◌⊎◌, inl, inr, ℕ, zero, suc, ℤ, pos, negsuc, Bool, true, false, not, nat_lt, if◌then◌else◌, List, [], ◌∷◌, length, map, All, Option, Some, None, Ok, refl, ap, ◌∙◌, arith}
-use Rattle.std.specs.List.{AllZip}
-use Rattle.std.proofs.lemmas.Bool.{or_parts}
-use Rattle.std.proofs.lemmas.Bool.Decides.{nat_tests}
-use Rattle.std.proofs.lemmas.List.{length-map, nil_from_length}
-use Rattle.std.proofs.lemmas.List.Elements.{All-head, All-tail}
+use Rattle.model_text.proofs.Common.{◌≡◌, ◌⊎◌, inl, inr, ℕ, zero, suc, ℤ, pos, negsuc, Bool, true, false, not, nat_lt, if◌then◌else◌, List, [], ◌∷◌, length}
+use Rattle.model_text.proofs.Common.{map, All, Option, Some, None, Ok, refl, ap, ◌∙◌, arith, AllZip, or_parts, nat_tests, length-map, nil_from_length, All-head}
+use Rattle.model_text.proofs.Common.{All-tail, File, file_at, FlowModel, Period, HasSize, where_named, list_in, rch_in, evt_in, text, list_lines, is_listed}
+use Rattle.model_text.proofs.Common.{HasLists, IsDry, IsStill, HasNoRecharge, HasNoEvaporation}
 use Rattle.decimal_input.specs.declared.dec.Dec.{Dec}
-use Rattle.outside.specs.Files.{File}
-use Rattle.outside.specs.Inputs.{file_at}
-use Rattle.model_types.specs.declared.model.FlowModel.{FlowModel}
-use Rattle.model_types.specs.declared.period.Period.{Period}
 use Rattle.model_types.specs.Cells.{cell_count}
-use Rattle.model_types.specs.Grids.{HasSize}
 use Rattle.model_types.specs.Receivers.{is_int}
 use Rattle.list_package.specs.Kinds.{Kind, with_list as put}
 use Rattle.list_package.specs.Lists.{package_of}
@@ -19,16 +12,12 @@ use Rattle.period_arrays.specs.Flags.{is_option}
 use Rattle.period_arrays.specs.Kinds.{ArrayKind, with_area}
 use Rattle.rch_package.specs.Recharge.{recharge_arrays}
 use Rattle.evt_package.specs.Evaporation.{evaporation_arrays}
-use Rattle.model_reader.specs.Stresses.{where_named, file_in, list_in, rch_in, evt_in}
-use Rattle.array_text.specs.Lines.{text}
-use Rattle.stress_text.specs.Lists.{list_lines}
+use Rattle.model_reader.specs.Stresses.{file_in}
 use Rattle.stress_text.specs.Entries.{IsListOf, with_lists}
 use Rattle.stress_text.specs.Laws.{ListsReadAsWritten}
 use Rattle.area_text.specs.Areas.{rch_lines, evt_lines}
 use Rattle.area_text.specs.Readable.{IsRecharged, IsEvaporating, with_areas}
 use Rattle.area_text.proofs.FileTexts.{evt_reads, rch_reads}
-use Rattle.model_text.specs.Written.{is_listed}
-use Rattle.model_text.specs.Writable.{HasLists, IsDry, IsStill, HasNoRecharge, HasNoEvaporation}
 
 -- the model with these options, and with each period at this stage
 abbrev pub staged : FlowModel → ℤ → ℤ → (Period → Period) → FlowModel

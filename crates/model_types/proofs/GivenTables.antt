@@ -1,20 +1,12 @@
 -- The table of given heads, entry by entry.
-use Rattle.std.proofs.Common.{◌≡◌, ℕ, ◌+◌, ◌<◌, inl, inr, Option, Some, None, List, [], ◌∷◌, ◌++◌, length, get_or, take, set, map, refl, sym, ap, ◌∙◌, arith, All}
-use Rattle.std.specs.Prelude.{◌==◌, replicate}
-use Rattle.std.specs.List.{range_with_len, flat_map}
-use Rattle.std.proofs.lemmas.Bool.{cases_eq, cond-true, cond-false, eq-eqb, ne_eqb}
-use Rattle.std.proofs.lemmas.List.{length-set, get_or-set_other, length-replicate, get_or-replicate, get_or_read, take_more, flat_map_more, append_assoc}
-use Rattle.std.proofs.lemmas.List.Elements.{All-get_or}
+use Rattle.model_types.proofs.Common.{◌≡◌, ℕ, ◌+◌, ◌<◌, inl, inr, Option, Some, None, List, [], ◌∷◌, ◌++◌, length, get_or, take, set, map, refl, sym, ap, ◌∙◌}
+use Rattle.model_types.proofs.Common.{arith, All, ◌==◌, replicate, range_with_len, flat_map, cases_eq, cond-true, cond-false, eq-eqb, ne_eqb, length-set}
+use Rattle.model_types.proofs.Common.{get_or-set_other, length-replicate, get_or-replicate, get_or_read, take_more, flat_map_more, append_assoc, All-get_or}
+use Rattle.model_types.proofs.Common.{length-map-range_with_len, get_or-map-range_with_len, fill_by_all, Given, Period, FlowModel, cell_count, period_at}
+use Rattle.model_types.proofs.Common.{no_period, given_in, given_heads}
 use Rattle.model_types.specs.Layers.{no_number}
 use Rattle.std.proofs.lemmas.Grind.{get_or-set_at}
-use Rattle.std.proofs.lemmas.List.FromFn.{length-map-range_with_len, get_or-map-range_with_len, fill_by_all}
-use Rattle.model_types.specs.declared.entry.Given.{Given}
-use Rattle.model_types.specs.declared.period.Period.{Period}
-use Rattle.model_types.specs.declared.model.FlowModel.{FlowModel}
 use Rattle.model_types.specs.declared.given_heads.GivenHeads.{GivenHeads}
-use Rattle.model_types.specs.Cells.{cell_count}
-use Rattle.model_types.specs.Times.{period_at, no_period}
-use Rattle.model_types.specs.Kinds.{given_in, given_heads}
 use Rattle.model_types.proofs.LastGiven.{given_more}
 
 -- for each of n cells the last of these entries that names it

@@ -1,13 +1,8 @@
 -- The last entry that names a cell, list by list.
-use Rattle.std.proofs.Common.{◌≡◌, ℕ, Bool, true, false, cond, ◌||◌, Option, Some, is_some, List, [], ◌∷◌, ◌++◌, length, take, inl, inr, refl, sym, ap, ◌∙◌, arith}
-use Rattle.std.specs.Prelude.{reverse, ◌==◌, min}
-use Rattle.std.specs.List.{find, flat_map, list_any}
-use Rattle.std.proofs.lemmas.Bool.{cases_lt}
-use Rattle.std.proofs.lemmas.List.{reverse-append, take_all}
+use Rattle.model_types.proofs.Common.{◌≡◌, ℕ, Bool, true, false, cond, ◌||◌, Option, Some, is_some, List, [], ◌∷◌, ◌++◌, length, take, inl, inr, refl, sym, ap}
+use Rattle.model_types.proofs.Common.{◌∙◌, arith, reverse, ◌==◌, min, find, flat_map, list_any, cases_lt, reverse-append, take_all, Given, Period, given_in}
+use Rattle.model_types.proofs.Common.{last_given}
 use Rattle.std.proofs.lemmas.List.Folds.{list_any-append}
-use Rattle.model_types.specs.declared.entry.Given.{Given}
-use Rattle.model_types.specs.declared.period.Period.{Period}
-use Rattle.model_types.specs.Kinds.{given_in, last_given}
 
 -- one more entry at the end
 pub given_more : (xs : List Given) (x : Given) (c : ℕ) → given_in (xs ++ x ∷ []) c ≡ cond (x.cell.0 == c) (Some x) (given_in xs c)

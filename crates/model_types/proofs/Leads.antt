@@ -1,17 +1,10 @@
 -- Faces: where they lead, that they lead back, and that their ends ascend.
-use Rattle.std.proofs.Common.{◌≡◌, ℕ, suc, ◌+◌, ◌*◌, ◌-◌, ◌%◌, ◌<◌, ◌≤◌, ◌⊎◌, inl, inr, Bool, true, Option, Some, None, List, [], ◌∷◌, refl, sym, ap, ◌∙◌, subst, arith, length, All}
-use Rattle.std.specs.List.{filter_map}
-use Rattle.std.proofs.lemmas.Bool.{leb-true, le-leb, cond-true}
+use Rattle.model_types.proofs.Common.{◌≡◌, ℕ, suc, ◌+◌, ◌*◌, ◌-◌, ◌%◌, ◌<◌, ◌≤◌, ◌⊎◌, inl, inr, Bool, true, Option, Some, None, List, [], ◌∷◌, refl, sym, ap}
+use Rattle.model_types.proofs.Common.{◌∙◌, subst, arith, length, All, filter_map, leb-true, le-leb, cond-true, mod_below, mul-le-mul_right, Grid, Face, Row}
+use Rattle.model_types.proofs.Common.{Column, Vertical, layer_size, cell_count, stride, span, has_before, has_after, face_before, face_after, faces, through}
+use Rattle.model_types.proofs.Common.{HasSize, IsInGrid}
 use Rattle.std.proofs.lemmas.Option.{cond_some, none-some}
-use Rattle.std.proofs.lemmas.Nat.{mod_below}
-use Rattle.std.proofs.Math.Nat.{mul-le-mul_right}
-use Rattle.model_types.specs.declared.grid.Grid.{Grid}
-use Rattle.model_types.specs.declared.face.Face.{Face}
 use Rattle.model_types.specs.declared.face.Axis.{Axis}
-use Rattle.model_types.specs.declared.face.Axis.TheVariants.{Row, Column, Vertical}
-use Rattle.model_types.specs.Cells.{layer_size, cell_count}
-use Rattle.model_types.specs.Faces.{stride, span, has_before, has_after, face_before, face_after, faces, through}
-use Rattle.model_types.specs.Grids.{HasSize, IsInGrid}
 use Rattle.model_types.proofs.Remainders.{mod_minus, mod_plus, mod_at_most, plus_below}
 use Rattle.model_types.proofs.Members.{In, All-In, In-filter_map, filter_map-In, Ordered, Ordered-filter_map, length-filter_map}
 

@@ -1,16 +1,8 @@
 -- The neighbours of a cell by its place, and by the faces along the three axes.
-use Rattle.std.proofs.Common.{◌≡◌, ℕ, zero, suc, ◌+◌, ◌*◌, ◌-◌, ◌%◌, ◌<◌, ◌≤◌, inl, inr, Bool, true, false, cond, Option, Some, None, [], ◌∷◌, map, refl, sym, ap, ◌∙◌, arith}
-use Rattle.std.specs.Prelude.{nat_le, nat_lt}
-use Rattle.std.specs.Option.{option_map}
-use Rattle.std.proofs.lemmas.Bool.{leb-true, leb-false, le-leb, cases_Bool}
-use Rattle.std.proofs.lemmas.Nat.{div-add-mod', mod-mul-add, mod_below}
-use Rattle.std.proofs.Math.Nat.{mul-le-mul_right}
-use Rattle.model_types.specs.declared.grid.Grid.{Grid}
-use Rattle.model_types.specs.declared.face.Face.{Face}
-use Rattle.model_types.specs.declared.face.Axis.TheVariants.{Row, Column, Vertical}
-use Rattle.model_types.specs.Cells.{layer_size, cell_count, layer_of, row_of, column_of, left, right, back, front, up, down}
-use Rattle.model_types.specs.Faces.{has_before, has_after, face_before, face_after}
-use Rattle.model_types.specs.Grids.{HasSize}
+use Rattle.model_types.proofs.Common.{◌≡◌, ℕ, zero, suc, ◌+◌, ◌*◌, ◌-◌, ◌%◌, ◌<◌, ◌≤◌, inl, inr, Bool, true, false, cond, Option, Some, None, [], ◌∷◌, map}
+use Rattle.model_types.proofs.Common.{refl, sym, ap, ◌∙◌, arith, nat_le, nat_lt, option_map, leb-true, leb-false, le-leb, cases_Bool, div-add-mod', mod-mul-add}
+use Rattle.model_types.proofs.Common.{mod_below, mul-le-mul_right, Grid, Face, Row, Column, Vertical, layer_size, cell_count, layer_of, row_of, column_of, left}
+use Rattle.model_types.proofs.Common.{right, back, front, up, down, has_before, has_after, face_before, face_after, HasSize}
 use Rattle.model_types.proofs.Numbering.{size_some, in_layer, place_below, row_below, column_below, place_gives}
 
 -- the end of an optional face

@@ -1,10 +1,6 @@
 -- No stresses are in limits where the model has neither RCH nor EVT.
-use Rattle.std.proofs.Common.{◌≡◌, ℕ, ℤ, pos, true, false, [], refl, sym, ◌∙◌, arith}
-use Rattle.std.proofs.lemmas.List.Elements.{All-nil}
-use Rattle.model_types.specs.declared.grid.Grid.{Grid}
-use Rattle.model_types.specs.Cells.{cell_count}
+use Rattle.model_types.proofs.Common.{◌≡◌, ℕ, ℤ, pos, true, false, [], refl, sym, ◌∙◌, arith, All-nil, Grid, cell_count, no_stresses}
 use Rattle.model_types.specs.Receivers.{is_int}
-use Rattle.model_types.specs.Times.{no_stresses}
 use Rattle.model_types.specs.Valid.{AreStresses, IsEntryList, IsEntryValid, IsGivenList, IsGivenValid}
 
 no_entries : (cells : ℕ) → IsEntryList cells []

@@ -1,9 +1,6 @@
 -- A cell's number and its place: each gives the other.
-use Rattle.std.proofs.Common.{◌≡◌, ℕ, ◌+◌, ◌*◌, ◌-◌, ◌/◌, ◌%◌, ◌<◌, [], ◌∷◌, sym, ap, ◌∙◌, arith}
-use Rattle.std.proofs.lemmas.Nat.{div-add-mod', div-mul-add, mod-mul-add, mod_below, div_below, mul-add-lt}
-use Rattle.model_types.specs.declared.grid.Grid.{Grid}
-use Rattle.model_types.specs.Cells.{layer_size, cell_count, cell_number, layer_of, row_of, column_of, place}
-use Rattle.model_types.specs.Grids.{HasSize, IsPlace}
+use Rattle.model_types.proofs.Common.{◌≡◌, ℕ, ◌+◌, ◌*◌, ◌-◌, ◌/◌, ◌%◌, ◌<◌, [], ◌∷◌, sym, ap, ◌∙◌, arith, div-add-mod', div-mul-add, mod-mul-add, mod_below}
+use Rattle.model_types.proofs.Common.{div_below, mul-add-lt, Grid, layer_size, cell_count, cell_number, layer_of, row_of, column_of, place, HasSize, IsPlace}
 
 module _ (g : Grid) (h : HasSize g) where
   rows_some : 0 < g.rows

@@ -1,7 +1,5 @@
 -- Remainders of a cell's number before and after a step along an axis.
-use Rattle.std.proofs.Common.{◌≡◌, ℕ, ◌+◌, ◌*◌, ◌-◌, ◌/◌, ◌%◌, ◌<◌, ◌≤◌, arith}
-use Rattle.std.proofs.lemmas.Nat.{div-add-mod', mod-mul-add, mod_below, div_below}
-use Rattle.std.proofs.Math.Nat.{mul-le-mul_right}
+use Rattle.model_types.proofs.Common.{◌≡◌, ℕ, ◌+◌, ◌*◌, ◌-◌, ◌/◌, ◌%◌, ◌<◌, ◌≤◌, arith, div-add-mod', mod-mul-add, mod_below, div_below, mul-le-mul_right}
 
 pub mod_minus : (c k n : ℕ) → 0 < n → k ≤ c % n → (c - k) % n ≡ c % n - k
 mod_minus c k n h le =

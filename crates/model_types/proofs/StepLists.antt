@@ -1,15 +1,11 @@
 -- The list of time steps, period by period.
-use Rattle.std.proofs.Common.{◌≡◌, ℕ, zero, suc, ◌+◌, ◌-◌, ◌<◌, ◌≤◌, List, [], ◌∷◌, ◌++◌, length, get_or, take, map, refl, sym, ap, ◌∙◌, arith, add-one}
-use Rattle.std.specs.List.{range_with_len, flat_map, sum_by}
-use Rattle.std.proofs.lemmas.List.{append-nil, append_assoc, get_or_read, length-append, take_all}
+use Rattle.model_types.proofs.Common.{◌≡◌, ℕ, zero, suc, ◌+◌, ◌-◌, ◌<◌, ◌≤◌, List, [], ◌∷◌, ◌++◌, length, get_or, take, map, refl, sym, ap, ◌∙◌, arith, add-one}
+use Rattle.model_types.proofs.Common.{range_with_len, flat_map, sum_by, append-nil, append_assoc, get_or_read, length-append, take_all}
+use Rattle.model_types.proofs.Common.{length-map-range_with_len, map-range_with_len_more, Period, FlowModel, period_at, no_period, steps_of}
 use Rattle.std.proofs.lemmas.List.Sums.{sum_by_more}
 use Rattle.std.proofs.lemmas.List.Concat.{flat_map-append}
-use Rattle.std.proofs.lemmas.List.FromFn.{length-map-range_with_len, map-range_with_len_more}
 use Rattle.model_types.proofs.Ranks.{range_more}
-use Rattle.model_types.specs.declared.period.Period.{Period}
-use Rattle.model_types.specs.declared.model.FlowModel.{FlowModel}
 use Rattle.model_types.specs.declared.time_steps.TimeStep.{TimeStep}
-use Rattle.model_types.specs.Times.{period_at, no_period, steps_of}
 
 period_is : (m : FlowModel) (p : ℕ) (q : Period) → p < length m.periods → q ≡ get_or m.periods p q → q ≡ period_at m (1 + p)
 period_is m p q lt is = get_or_read m.periods p q lt is no_period ∙ ap (λ k. get_or m.periods k no_period) (omega arith)

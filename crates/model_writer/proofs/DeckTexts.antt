@@ -1,15 +1,8 @@
 -- The text of files, one after another.
-use Rattle.std.proofs.Common.{◌≡◌, ℕ, suc, ◌+◌, ◌<◌, Bool, true, false, cond, List, [], ◌∷◌, ◌++◌, refl, sym, ap, ◌∙◌, length, take, get_or, map, filter, codes, append_assoc}
-use Rattle.std.specs.List.{flat_map}
-use Rattle.std.proofs.lemmas.Grind.{flat_map-append}
-use Rattle.std.proofs.lemmas.List.{map-append, append-nil}
-use Rattle.outside.specs.Files.{File}
+use Rattle.model_writer.proofs.Common.{◌≡◌, ℕ, suc, ◌+◌, ◌<◌, Bool, true, false, cond, List, [], ◌∷◌, ◌++◌, refl, sym, ap, ◌∙◌, length, take, get_or, map}
+use Rattle.model_writer.proofs.Common.{filter, codes, append_assoc, flat_map, flat_map-append, map-append, append-nil, File, FlowModel, text, deck_name}
+use Rattle.model_writer.proofs.Common.{deck_names, deck_text, file_line, file_text, file_texts, packages, name_item, has, name_file, package_file, written}
 use Rattle.name_file.specs.declared.package.Package.{Package}
-use Rattle.model_types.specs.declared.model.FlowModel.{FlowModel}
-use Rattle.array_text.specs.Lines.{text}
-use Rattle.model_text.specs.Decks.{deck_name, deck_names, deck_text, file_line, file_text, file_texts}
-use Rattle.model_text.specs.Names.{packages, name_item}
-use Rattle.model_text.specs.Written.{has, name_file, package_file, written}
 use Rattle.model_writer.proofs.Files.{filter_more}
 
 texts-nil : file_texts [] ≡ []

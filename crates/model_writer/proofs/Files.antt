@@ -1,11 +1,8 @@
 -- The files of the packages that a model has, from the last one on, and their names, from the first one on.
-use Rattle.std.proofs.Common.{◌≡◌, ℕ, suc, ◌+◌, ◌-◌, ◌<◌, Bool, true, false, cond, List, [], ◌∷◌, ◌++◌, sym, ap, ◌∙◌, length, take, drop, get_or, map, filter, arith, drop-cons, append_assoc}
-use Rattle.std.proofs.lemmas.List.{take_more, map-append, append-nil}
+use Rattle.model_writer.proofs.Common.{◌≡◌, ℕ, suc, ◌+◌, ◌-◌, ◌<◌, Bool, true, false, cond, List, [], ◌∷◌, ◌++◌, sym, ap, ◌∙◌, length, take, drop, get_or, map}
+use Rattle.model_writer.proofs.Common.{filter, arith, drop-cons, append_assoc, take_more, map-append, append-nil, File, Line, text, line_bytes}
 use Rattle.std.proofs.lemmas.List.Elements.{filter-append}
-use Rattle.outside.specs.Files.{File}
 use Rattle.outside.specs.Memory.{FolderState}
-use Rattle.array_text.specs.Lines.{Line, text}
-use Rattle.model_writer.specs.Lines.{line_bytes}
 use Rattle.model_writer.proofs.Texts.{text-nil, text-cons, text-append}
 
 -- the name of a package that the model has, and of one that it lacks

@@ -1,12 +1,6 @@
 -- Lines of words that are known.
-use Rattle.std.proofs.Common.{◌≡◌, Bool, true, false, [], ◌∷◌, ◌++◌, refl, ap, length, codes, decimal, lit≤}
-use Rattle.model_types.specs.declared.model.FlowModel.{FlowModel}
-use Rattle.array_text.specs.Words.{integer_word}
-use Rattle.array_text.specs.Lines.{line_text}
-use Rattle.array_text.specs.Arrays.{row_line}
-use Rattle.package_text.specs.Discretization.{dis_item_1}
-use Rattle.package_text.specs.Flow.{storage_option}
-use Rattle.model_writer.specs.Lines.{line_bytes, spaced}
+use Rattle.model_writer.proofs.Common.{◌≡◌, Bool, true, false, [], ◌∷◌, ◌++◌, refl, ap, length, codes, decimal, lit≤, FlowModel, integer_word, line_text}
+use Rattle.model_writer.proofs.Common.{row_line, dis_item_1, storage_option, line_bytes, spaced}
 use Rattle.model_writer.proofs.Spaces.{then_line}
 
 pub size_line : (m : FlowModel) → line_bytes (dis_item_1 m)

@@ -1,9 +1,6 @@
 -- The lines of several items, one item after another.
-use Rattle.std.proofs.Common.{◌≡◌, ℕ, ◌+◌, ◌<◌, List, [], ◌∷◌, ◌++◌, ap, ◌∙◌, length, take, get_or, map}
-use Rattle.std.specs.List.{flat_map}
-use Rattle.std.proofs.lemmas.List.{take_more, map-append, append-nil}
-use Rattle.array_text.specs.Lines.{Line, text}
-use Rattle.model_writer.specs.Lines.{line_bytes}
+use Rattle.model_writer.proofs.Common.{◌≡◌, ℕ, ◌+◌, ◌<◌, List, [], ◌∷◌, ◌++◌, ap, ◌∙◌, length, take, get_or, map, flat_map, take_more, map-append, append-nil}
+use Rattle.model_writer.proofs.Common.{Line, text, line_bytes}
 use Rattle.model_writer.proofs.Texts.{text-nil, text-cons, text-append, next_part}
 
 -- a line of each item

@@ -1,16 +1,9 @@
 -- The lines of lists.
-use Rattle.std.proofs.Common.{◌≡◌, ℕ, ◌≤◌, List, [], ◌∷◌, ◌++◌, length, map, max, fold, codes, decimal, arith}
-use Rattle.std.specs.List.{flat_map}
-use Rattle.std.proofs.lemmas.List.{length-map}
+use Rattle.model_writer.proofs.Common.{◌≡◌, ℕ, ◌≤◌, List, [], ◌∷◌, ◌++◌, length, map, max, fold, codes, decimal, arith, flat_map, length-map, number_word, text}
+use Rattle.model_writer.proofs.Common.{row_line, list_item_2, list_item_5, list_item_6, list_lines, period_list, line_bytes, spaced, entry_line}
 use Rattle.decimal_input.specs.declared.dec.Dec.{Dec}
 use Rattle.model_types.specs.declared.grid.Grid.{Grid}
 use Rattle.model_types.specs.Cells.{place}
-use Rattle.array_text.specs.Words.{number_word}
-use Rattle.array_text.specs.Lines.{text}
-use Rattle.array_text.specs.Arrays.{row_line}
-use Rattle.stress_text.specs.Lists.{list_item_2, list_item_5, list_item_6, list_lines, period_list}
-use Rattle.model_writer.specs.Lines.{line_bytes, spaced}
-use Rattle.model_writer.specs.Lists.{entry_line}
 use Rattle.model_writer.proofs.Spaces.{then_line}
 use Rattle.model_writer.proofs.Texts.{text-cons}
 

@@ -1,9 +1,6 @@
 -- A line of one word several times.
-use Rattle.std.proofs.Common.{◌≡◌, ℕ, ◌+◌, ◌-◌, ◌≤◌, List, [], ◌∷◌, ◌++◌, sym, ap, ◌∙◌, replicate, arith}
-use Rattle.std.proofs.lemmas.List.{map-id}
-use Rattle.std.proofs.lemmas.Grind.{replicate_next}
-use Rattle.array_text.specs.Arrays.{row_line}
-use Rattle.model_writer.specs.Lines.{line_bytes, spaced}
+use Rattle.model_writer.proofs.Common.{◌≡◌, ℕ, ◌+◌, ◌-◌, ◌≤◌, List, [], ◌∷◌, ◌++◌, sym, ap, ◌∙◌, replicate, arith, map-id, replicate_next, row_line, line_bytes}
+use Rattle.model_writer.proofs.Common.{spaced}
 use Rattle.model_writer.proofs.Texts.{line_of_last, spaced_push, spaced-nil}
 
 -- words that are in bytes already

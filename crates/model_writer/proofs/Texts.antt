@@ -1,12 +1,8 @@
 -- The bytes of lines, one after another.
-use Rattle.std.proofs.Common.{◌≡◌, ℕ, zero, suc, ◌+◌, ◌*◌, ◌≤◌, ◌<◌, List, [], ◌∷◌, ◌++◌, refl, sym, ap, ◌∙◌, length, take, drop, get_or, map, min, inl, inr, ◌-◌, arith, append_assoc}
-use Rattle.std.specs.List.{flat_map, range_with_len}
-use Rattle.std.proofs.lemmas.Grind.{flat_map-append}
-use Rattle.std.proofs.lemmas.List.{take_more, append-nil, map-append, map-id, drop_all}
+use Rattle.model_writer.proofs.Common.{◌≡◌, ℕ, zero, suc, ◌+◌, ◌*◌, ◌≤◌, ◌<◌, List, [], ◌∷◌, ◌++◌, refl, sym, ap, ◌∙◌, length, take, drop, get_or, map, min}
+use Rattle.model_writer.proofs.Common.{inl, inr, ◌-◌, arith, append_assoc, flat_map, range_with_len, flat_map-append, take_more, append-nil, map-append, map-id}
+use Rattle.model_writer.proofs.Common.{drop_all, Line, line_text, text, row_line, row_lines, in_rows, line_bytes, spaced}
 use Rattle.std.proofs.lemmas.List.FromFn.{map-range_with_len_more}
-use Rattle.array_text.specs.Lines.{Line, line_text, text}
-use Rattle.array_text.specs.Arrays.{row_line, row_lines, in_rows}
-use Rattle.model_writer.specs.Lines.{line_bytes, spaced}
 
 pub text-nil : text [] ≡ []
 unfolding text

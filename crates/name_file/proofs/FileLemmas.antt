@@ -1,20 +1,14 @@
 -- What a look-up by a package finds.
-use Rattle.std.proofs.Common.{◌≡◌, ℕ, Bool, true, false, Some, None, List, [], ◌∷◌, ◌++◌, refl, sym, ◌∙◌, Contains, is_some, rules, arith}
-use Rattle.std.specs.Prelude.{IsTrue}
-use Rattle.std.proofs.lemmas.List.Elements.{All-contains, All-push}
+use Rattle.name_file.proofs.Common.{◌≡◌, ℕ, Bool, true, false, Some, None, List, [], ◌∷◌, ◌++◌, refl, sym, ◌∙◌, Contains, is_some, rules, arith, IsTrue}
+use Rattle.name_file.proofs.Common.{All-contains, All-push, IsGoodName, keys_of, lookup, ghosts, Package, Dis, Bas, Lpf, Wel, Riv, Drn, Ghb, Rch, Chd, Evt}
+use Rattle.name_file.proofs.Common.{Pairs, AreFiles, IsWhole, is_same_package, file_of, has_package, is_needed, packages_of}
 use Rattle.std.proofs.lemmas.Map.Keys.{IsDistinct-push}
 use Rattle.std.proofs.lemmas.Map.Made.{is_some-lookup}
 use Rattle.std.proofs.lemmas.Map.Views.{Contains-from_lookup, IsSome-lookup_from_Contains}
-use Rattle.outside.specs.Names.{IsGoodName}
 use Rattle.std.specs.Cmp.{IsEquivalence}
 use Rattle.std.specs.List.{IsDistinct}
-use Rattle.std.specs.Map.{keys_of, lookup}
 use denote.Enum.Bare.{same_true}
 use Rattle.name_file.specs.contracts.package.Package.{the_type}
-use Rattle.name_file.specs.contracts.package.PackagePartialEq.TheImpl.{ghosts}
-use Rattle.name_file.specs.declared.package.Package.{Package}
-use Rattle.name_file.specs.declared.package.Package.TheVariants.{Dis, Bas, Lpf, Wel, Riv, Drn, Ghb, Rch, Chd, Evt}
-use Rattle.name_file.specs.Pairs.{Pairs, AreFiles, IsWhole, is_same_package, file_of, has_package, is_needed, packages_of}
 use Rattle.name_file.proofs.SamePackage.{derived_is, looked_up}
 
 is_same : (x y : Package) → is_same_package x y ≡ true → x ≡ y

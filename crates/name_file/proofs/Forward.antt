@@ -1,24 +1,19 @@
 -- The files of a name file are words of it.
-use Rattle.std.proofs.Common.{◌≡◌, ℕ, List, [], ◌∷◌, ◌++◌, if◌then◌else◌, Option, Some, None, Result, Ok, Err, All, Contains}
-use Rattle.std.specs.Prelude.{IfOk}
-use Rattle.std.proofs.lemmas.List.Elements.{All-nil, All-push, All-head, All-tail, All-contains}
+use Rattle.name_file.proofs.Common.{◌≡◌, ℕ, List, [], ◌∷◌, ◌++◌, if◌then◌else◌, Option, Some, None, Result, Ok, Err, All, Contains, IfOk, All-nil, All-push}
+use Rattle.name_file.proofs.Common.{All-head, All-tail, All-contains, folder_name, Numbered, left_from, is_comment, Pairs, has_package, is_integer, file_in}
+use Rattle.name_file.proofs.Common.{with_pair, after_package, after_type, after_words, after_line, after_lines, missing, whole, names_of, Package, Dis, Bas}
+use Rattle.name_file.proofs.Common.{Lpf}
 use Rattle.outside.specs.Asking.{WordsMay, TextMay}
 use Rattle.outside.specs.Inputs.{file_limit}
-use Rattle.outside.specs.Names.{folder_name}
 use Rattle.outside.specs.Words.{words}
 use Rattle.outside.specs.Refusals.{refusal}
 use Rattle.outside.specs.declared.codes.Code.TheVariants.{BadNameLine, DuplicatePackage}
 use Rattle.outside.specs.declared.refusals.Refusal.{Refusal}
 use Rattle.record_lines.specs.Asking.{LineMay}
 use Rattle.record_lines.specs.Items.{word_at, name_at}
-use Rattle.record_lines.specs.Layout.{Numbered, left_from, is_comment}
 use Rattle.record_lines.proofs.Forward.{chain, either, given, word_held, name_held, text_held}
 use Rattle.name_file.specs.Asking.{NamesMay}
 use Rattle.name_file.specs.Kinds.{package_of, is_passed_over}
-use Rattle.name_file.specs.Pairs.{Pairs, has_package}
-use Rattle.name_file.specs.Reading.{is_integer, file_in, with_pair, after_package, after_type, after_words, after_line, after_lines, missing, whole, names_of}
-use Rattle.name_file.specs.declared.package.Package.{Package}
-use Rattle.name_file.specs.declared.package.Package.TheVariants.{Dis, Bas, Lpf}
 
 module _ (may : List ℕ → ℕ → Type 0) where
   abbrev Named : Pairs → Type 0

@@ -1,14 +1,10 @@
 -- A package that is new goes last; and a name file goes on, stops or ends line by line.
-use Rattle.std.proofs.Common.{◌≡◌, ℕ, false, List, [], ◌∷◌, ◌++◌, Option, Some, None, Ok, refl, ap, ◌∙◌, is_some}
+use Rattle.name_file.proofs.Common.{◌≡◌, ℕ, false, List, [], ◌∷◌, ◌++◌, Option, Some, None, Ok, refl, ap, ◌∙◌, is_some, Package, ghosts, Pairs, has_package}
+use Rattle.name_file.proofs.Common.{after_line, after_lines, Left, Numbered}
 use Rattle.std.specs.HashMap.{HashMap}
 use Rattle.indexmap.specs.IndexMap.{get, insert_entry}
 use Rattle.indexmap.proofs.CallerLemmas.{insert_entry-new}
-use Rattle.name_file.specs.declared.package.Package.{Package}
-use Rattle.name_file.specs.contracts.package.PackagePartialEq.TheImpl.{ghosts}
-use Rattle.name_file.specs.Pairs.{Pairs, has_package}
-use Rattle.name_file.specs.Reading.{after_line, after_lines}
 use Rattle.name_file.proofs.SamePackage.{looked_up}
-use Rattle.record_lines.specs.Layout.{Left, Numbered}
 use Rattle.record_lines.specs.Reading.{StopsText}
 use Rattle.outside.specs.declared.refusals.TextFault.{TextFault}
 use Rattle.outside.specs.declared.refusals.TextFault.TheVariants.{Refused, Memory}

@@ -1,10 +1,6 @@
 -- The derived equality of packages is `is_same_package`, so a map's look-up finds the file of a package.
-use Rattle.std.proofs.Common.{◌≡◌, [], ◌∷◌, refl}
-use Rattle.std.specs.Map.{lookup}
-use Rattle.name_file.specs.contracts.package.PackagePartialEq.TheImpl.{ghosts}
-use Rattle.name_file.specs.declared.package.Package.{Package}
-use Rattle.name_file.specs.declared.package.Package.TheVariants.{Dis, Bas, Lpf, Wel, Riv, Drn, Ghb, Rch, Chd, Evt}
-use Rattle.name_file.specs.Pairs.{Pairs, is_same_package, file_of}
+use Rattle.name_file.proofs.Common.{◌≡◌, [], ◌∷◌, refl, lookup, ghosts, Package, Dis, Bas, Lpf, Wel, Riv, Drn, Ghb, Rch, Chd, Evt, Pairs, is_same_package}
+use Rattle.name_file.proofs.Common.{file_of}
 
 at_each : (P : Package → Type 0) → P Dis → P Bas → P Lpf → P Wel → P Riv → P Drn → P Ghb → P Rch → P Chd → P Evt → (b : Package) → P b
 at_each P dis bas lpf wel riv drn ghb rch chd evt Dis = dis

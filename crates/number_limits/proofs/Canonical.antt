@@ -1,10 +1,6 @@
 -- Numbers of arrays are canonical.
-use Rattle.std.proofs.Common.{ℕ, List, All, length, inl, inr, refl, sym, subst, arith}
-use Rattle.std.proofs.lemmas.Bool.{cases_lt}
-use Rattle.std.proofs.lemmas.Int.{ints}
+use Rattle.number_limits.proofs.Common.{ℕ, List, All, length, inl, inr, refl, sym, subst, arith, cases_lt, ints, Dec, IsDec}
 use Rattle.std.proofs.lemmas.List.{get_or_past}
-use Rattle.decimal_input.specs.declared.dec.Dec.{Dec}
-use Rattle.decimal_input.specs.Canonical.{IsDec}
 use Rattle.model_types.specs.Layers.{dec_at, no_number}
 
 pub no_number_is : IsDec no_number

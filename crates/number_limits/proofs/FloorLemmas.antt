@@ -1,11 +1,7 @@
 -- Floors and ceilings as quotients.
-use Rattle.std.proofs.Common.{◌≡◌, ◌⊎◌, inl, inr, ℕ, suc, ◌+◌, ◌*◌, ◌/◌, ◌-◌, ◌^◌, ◌≤◌, ◌<◌, true, false, nat_le, Some, None, refl, arith}
-use Rattle.std.proofs.lemmas.Bool.{lt-ltb}
-use Rattle.std.proofs.lemmas.Bool.Decides.{leb_tells}
-use Rattle.std.proofs.Math.Nat.{le-div_iff_mul-le, div-lt_iff_lt-mul}
-use Rattle.decimal_input.specs.Ratios.{Ratio, den}
-use Rattle.decimal_input.specs.Wholes.{IsCeiling, IsFloor, Passes, Reaches}
-use Rattle.number_limits.specs.Room.{small, floor_of, ceiling_of}
+use Rattle.number_limits.proofs.Common.{◌≡◌, ◌⊎◌, inl, inr, ℕ, suc, ◌+◌, ◌*◌, ◌/◌, ◌-◌, ◌^◌, ◌≤◌, ◌<◌, true, false, nat_le, Some, None, refl, arith, lt-ltb}
+use Rattle.number_limits.proofs.Common.{leb_tells, le-div_iff_mul-le, div-lt_iff_lt-mul, Ratio, den, IsCeiling, IsFloor, Passes, Reaches, small, floor_of}
+use Rattle.number_limits.proofs.Common.{ceiling_of}
 
 pub floor_is : (n s : ℕ) (f : Ratio) → IsFloor n f s → f.num * 10 ^ s / den f ≡ n
 floor_is n s f h =

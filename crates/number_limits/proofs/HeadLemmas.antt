@@ -1,14 +1,8 @@
 -- The test of a head tells its range.
-use Rattle.std.proofs.Common.{◌≡◌, ◌*◌, ◌≤◌, pos, neg_ℤ, Bool, true, false, arith}
-use Rattle.std.proofs.lemmas.Bool.{leb-true, le-leb}
-use Rattle.std.proofs.lemmas.Int.{ints}
-use Rattle.decimal_input.specs.declared.dec.Dec.{Dec}
-use Rattle.decimal_input.specs.Canonical.{IsDec, size}
+use Rattle.number_limits.proofs.Common.{◌≡◌, ◌*◌, ◌≤◌, pos, neg_ℤ, Bool, true, false, arith, leb-true, le-leb, ints, Dec, IsDec, size, Ratio, den, IsHeadNumber}
+use Rattle.number_limits.proofs.Common.{is_at_most, is_head}
 use Rattle.decimal_input.specs.Decimals.{with_sign}
-use Rattle.decimal_input.specs.Ratios.{Ratio, den}
 use Rattle.decimal_input.specs.Enclosures.{EnclosesSigned}
-use Rattle.model_types.specs.Numbers.{IsHeadNumber}
-use Rattle.number_limits.specs.Magnitudes.{is_at_most, is_head}
 
 enclosed : (neg : Bool) (f : Ratio) → f.num ≤ 4000000000 * den f → EnclosesSigned (neg_ℤ (pos 4000000000)) (pos 4000000000) 0 (record { num = with_sign neg f.num; less = f.less })
 enclosed false f le = record { lower = omega (arith, ints, le); upper = omega (arith, ints, le) }

@@ -1,3 +1,4 @@
+mod Common
 pub mod Canonical
 pub mod SignLemmas
 pub mod MagnitudeLemmas

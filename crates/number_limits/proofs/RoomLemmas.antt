@@ -1,17 +1,11 @@
 -- The test of a thickness, once passed, tells that there is room.
-use Rattle.std.proofs.Common.{◌≡◌, ◌⊎◌, inl, inr, ℕ, suc, ◌^◌, ◌≤◌, ◌<◌, ℤ, pos, neg_ℤ, Bool, true, false, nat_lt, nat_le, Option, Some, None, refl, sym, ap, ◌∙◌, arith}
-use Rattle.std.specs.Prelude.{unsigned_abs, if◌then◌else◌}
+use Rattle.number_limits.proofs.Common.{◌≡◌, ◌⊎◌, inl, inr, ℕ, suc, ◌^◌, ◌≤◌, ◌<◌, ℤ, pos, neg_ℤ, Bool, true, false, nat_lt, nat_le, Option, Some, None, refl}
+use Rattle.number_limits.proofs.Common.{sym, ap, ◌∙◌, arith, unsigned_abs, if◌then◌else◌, leb_tells, ints, Dec, size, number, IsSignedFloor, IsSignedCeiling}
+use Rattle.number_limits.proofs.Common.{IsThick, small, floor_of, ceiling_of, floor, ceiling, has_room, is_thick}
 use Rattle.std.specs.Option.{option_map}
-use Rattle.std.proofs.lemmas.Bool.Decides.{leb_tells}
-use Rattle.std.proofs.lemmas.Int.{ints}
-use Rattle.decimal_input.specs.declared.dec.Dec.{Dec}
-use Rattle.decimal_input.specs.Canonical.{size, number}
-use Rattle.decimal_input.specs.Wholes.{IsSignedFloor, IsSignedCeiling}
 use Rattle.decimal_input.proofs.Past.{a_floor, a_ceiling}
 use Rattle.decimal_input.proofs.SignedFloors.{floor_of_floor, floor_of_ceiling, ceiling_of_ceiling, ceiling_of_floor}
-use Rattle.model_types.specs.Numbers.{IsThick}
 use Rattle.number_limits.proofs.FloorLemmas.{floor_is, ceiling_is}
-use Rattle.number_limits.specs.Room.{small, floor_of, ceiling_of, floor, ceiling, has_room, is_thick}
 
 small_some : (q k : ℕ) (view : ℕ → ℤ) (z : ℤ) → q ≡ k → option_map view (small q) ≡ Some z → (k < 2 ^ 126) × (z ≡ view k)
 small_some q k view z same h = by_case (leb_tells (suc q) (2 ^ 126)) h

@@ -1,13 +1,7 @@
 -- Some files agree with what was read, whatever it is.
-use Rattle.std.proofs.Common.{◌≡◌, ℕ, ◌+◌, Bool, true, false, List, [], ◌∷◌, cond, Option, None, IfSome, arith, refl, sym, subst, ◌∙◌}
+use Rattle.outside.proofs.Common.{◌≡◌, ℕ, ◌+◌, Bool, true, false, List, [], ◌∷◌, cond, Option, None, IfSome, arith, refl, sym, subst, ◌∙◌, length-replicate}
+use Rattle.outside.proofs.Common.{bytes_eq-Decides, bytes_eq, File, bytes_under, Read, IsAsFound, AgreeWith, reading_of, Found, Bytes, Missing, TooLong}
 use Rattle.std.specs.Prelude.{replicate}
-use Rattle.std.proofs.lemmas.List.{length-replicate}
-use Rattle.std.proofs.lemmas.Slice.Eq.{bytes_eq-Decides}
-use Rattle.std.specs.Str.{bytes_eq}
-use Rattle.outside.specs.Files.{File, bytes_under}
-use Rattle.outside.specs.Readings.{Read, IsAsFound, AgreeWith, reading_of}
-use Rattle.outside.specs.declared.traits.Found.{Found}
-use Rattle.outside.specs.declared.traits.Found.TheVariants.{Bytes, Missing, TooLong}
 
 abbrev without : List ℕ → List File → List File
 without name [] = []

@@ -1,10 +1,7 @@
 -- What a folder answers, by the readings that it keeps.
-use Rattle.std.proofs.Common.{◌≡◌, ℕ, Bool, true, false, List, ◌∷◌, cond, Option, Some, None, IfSome, refl, sym, subst, bytes_eq}
-use Rattle.std.proofs.lemmas.Slice.Eq.{bytes_eq-Decides}
-use Rattle.outside.specs.Files.{File, IsFound, IsWithin, bytes_under}
-use Rattle.outside.specs.Readings.{Read, IsAsFound, AgreeWith, reading_of}
-use Rattle.outside.specs.declared.traits.Found.{Found}
-use Rattle.outside.specs.declared.traits.Found.TheVariants.{Bytes, Missing, TooLong}
+use Rattle.outside.proofs.Common.{◌≡◌, ℕ, Bool, true, false, List, ◌∷◌, cond, Option, Some, None, IfSome, refl, sym, subst, bytes_eq-Decides, File, IsFound}
+use Rattle.outside.proofs.Common.{IsWithin, bytes_under, Read, IsAsFound, AgreeWith, reading_of, Found, Bytes, Missing, TooLong}
+use Rattle.std.proofs.Common.{bytes_eq}
 
 -- what is under a name, and within the limit
 pub is_found : (files : List File) (name : List ℕ) (limit : ℕ) (found : Found) → IsAsFound (bytes_under name files) limit found → IsWithin limit found → IsFound files name limit found

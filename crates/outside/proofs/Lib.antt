@@ -1,3 +1,4 @@
+mod Common
 pub mod Putting
 pub mod Writing
 pub mod GoodNames

@@ -1,13 +1,9 @@
 -- Names that were given, or that are words of a file that was read.
-use Rattle.std.proofs.Common.{◌≡◌, ℕ, ◌⊎◌, inl, inr, Bool, true, false, List, [], ◌∷◌, cond, Option, Some, refl, ap, sym, subst, arith, get_or, Contains}
-use Rattle.std.specs.Str.{bytes_eq}
-use Rattle.std.proofs.lemmas.List.Elements.{Contains-get_or, Contains-append_left, Contains-append_right}
+use Rattle.outside.proofs.Common.{◌≡◌, ℕ, ◌⊎◌, inl, inr, Bool, true, false, List, [], ◌∷◌, cond, Option, Some, refl, ap, sym, subst, arith, get_or, Contains}
+use Rattle.outside.proofs.Common.{bytes_eq, Contains-get_or, Contains-append_left, Contains-append_right, folder_name, Read, FoundNames, IsNamedBy, reading_of}
+use Rattle.outside.proofs.Common.{Found, Bytes, Missing, TooLong}
 use Rattle.outside.specs.Asking.{FoundMay}
-use Rattle.outside.specs.Names.{folder_name}
 use Rattle.outside.specs.Words.{lines, words}
-use Rattle.outside.specs.Readings.{Read, FoundNames, IsNamedBy, reading_of}
-use Rattle.outside.specs.declared.traits.Found.{Found}
-use Rattle.outside.specs.declared.traits.Found.TheVariants.{Bytes, Missing, TooLong}
 
 -- what holds of each name among the words of what was found
 found_may : (P : List ℕ → ℕ → Type 0) (limit : ℕ) (found : Found) → ((name : List ℕ) → FoundNames name found → P name limit) → FoundMay P limit found

@@ -1,17 +1,13 @@
 -- Lists of zeros leave lines that they were given.
-use Rattle.std.proofs.Common.{◌≡◌, ℕ, List, Result, Ok, Err, All}
+use Rattle.package_items.proofs.Common.{◌≡◌, ℕ, List, Result, Ok, Err, All, Left, Numbered, counted, Taking, beginning, zero_at, zero_step, zero_list}
 use Rattle.std.specs.Prelude.{IfOk}
 use Rattle.outside.specs.Refusals.{refusal}
 use Rattle.outside.specs.declared.codes.Code.TheVariants.{OutOfProfile}
-use Rattle.record_lines.specs.Layout.{Left, Numbered}
-use Rattle.record_lines.specs.Reading.{counted}
-use Rattle.record_lines.specs.Spread.{Taking, beginning}
 use Rattle.record_lines.proofs.Forward.{chain, either, counted_held}
 use Rattle.array_reader.specs.Lists.{value_at}
 use Rattle.array_reader.specs.Numbers.{integer}
 use Rattle.array_reader.proofs.Forward.{value_at_held}
 use Rattle.model_types.specs.Layers.{is_nonzero}
-use Rattle.package_items.specs.Items.{zero_at, zero_step, zero_list}
 
 module _ (P : Numbered → Type 0) (file : List ℕ) where
   pub zero_held : (s : Taking × Left) → All P s.1.lines → IfOk (zero_at file s) (λ x. All P x.1.1.lines)

@@ -1,2 +1,3 @@
+mod Common
 mod ZeroLemmas
 pub mod Forward

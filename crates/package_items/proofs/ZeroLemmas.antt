@@ -1,11 +1,7 @@
 -- One value of a list of zeros.
-use Rattle.std.proofs.Common.{◌≡◌, ℕ, List, ℤ, Result, Ok, Err, refl}
+use Rattle.package_items.proofs.Common.{◌≡◌, ℕ, List, ℤ, Result, Ok, Err, refl, Left, StopsText, Taking, zero_at, zero_step}
 use Rattle.outside.specs.declared.refusals.TextFault.{TextFault}
 use Rattle.outside.specs.declared.refusals.TextFault.TheVariants.{Refused, Memory}
-use Rattle.record_lines.specs.Layout.{Left}
-use Rattle.record_lines.specs.Reading.{StopsText}
-use Rattle.record_lines.specs.Spread.{Taking}
-use Rattle.package_items.specs.Items.{zero_at, zero_step}
 
 pub step_goes : (file : List ℕ) (i : ℕ) (s after : Taking × Left) (z : ℤ) → zero_at file s ≡ Ok (z, after) → zero_step file i s ≡ Ok after
 unfolding zero_step

@@ -1,27 +1,12 @@
 -- The file of BAS6 is read as written.
-use Rattle.std.proofs.Common.{◌≡◌, ℕ, zero, suc, ◌+◌, ◌*◌, ◌<◌, List, [], ◌∷◌, ◌++◌, append_assoc, length, drop, All, Result, Ok, refl, sym, arith, false}
-use Rattle.std.specs.Prelude.{codes}
-use Rattle.std.specs.List.{flat_map, range_with_len}
-use Rattle.std.proofs.lemmas.List.{append-nil, drop_all, drop-drop, take-append-drop}
-use Rattle.outside.specs.Files.{File}
-use Rattle.outside.specs.declared.refusals.Refusal.{Refusal}
-use Rattle.record_lines.specs.Layout.{Left, is_comment, next_number}
-use Rattle.record_lines.specs.Reading.{appended}
-use Rattle.array_reader.specs.Kinds.{real, whole}
-use Rattle.array_reader.specs.Arrays.{layer_array, real_layer, integer_layer, layers}
-use Rattle.model_types.specs.declared.grid.Grid.{Grid}
-use Rattle.model_types.specs.declared.model.FlowModel.{FlowModel}
-use Rattle.model_types.specs.Cells.{layer_size, cell_count}
+use Rattle.package_text.proofs.Common.{◌≡◌, ℕ, zero, suc, ◌+◌, ◌*◌, ◌<◌, List, [], ◌∷◌, ◌++◌, append_assoc, length, drop, All, Result, Ok, refl, sym, arith}
+use Rattle.package_text.proofs.Common.{false, codes, flat_map, range_with_len, append-nil, drop_all, drop-drop, take-append-drop, File, Refusal, Left}
+use Rattle.package_text.proofs.Common.{is_comment, next_number, appended, real, whole, layer_array, real_layer, integer_layer, layers, Grid, FlowModel}
+use Rattle.package_text.proofs.Common.{layer_size, cell_count, IsShort, Line, IsLine, line_text, text, number_after, unread, Reads, line_by_test, line_words}
+use Rattle.package_text.proofs.Common.{next_line, arrays, are_lines, layer_values, each_layer, IsDiscretized, IsBasic}
 use Rattle.bas_package.specs.Basics.{option_line, head_item, basics_of, with_basics, bas_of}
-use Rattle.array_text.specs.Words.{IsShort}
-use Rattle.array_text.specs.Lines.{Line, IsLine, line_text, text, number_after, unread, Reads}
-use Rattle.array_text.proofs.WordTexts.{line_by_test}
-use Rattle.array_text.proofs.LineTexts.{line_words, next_line}
-use Rattle.array_text.proofs.ArrayTexts.{arrays, are_lines}
-use Rattle.package_text.specs.Layers.{layer_values, each_layer}
 use Rattle.package_text.specs.Layers.{real_layer as real_layer_lines, integer_layer as integer_layer_lines}
 use Rattle.package_text.specs.Basics.{bas_item_1, bas_item_2, bas_item_3, bas_item_4, bas_lines}
-use Rattle.package_text.specs.Readable.{IsDiscretized, IsBasic}
 use Rattle.package_text.proofs.LineCounts.{number_after-append, layers_are_lines, layer_length, layer_has}
 use Rattle.package_text.proofs.CountTexts.{zero_number_item}
 use Rattle.package_text.proofs.GridTexts.{layer_reads}

@@ -1,18 +1,8 @@
 -- Counts in lines.
-use Rattle.std.proofs.Common.{◌≡◌, ℕ, ◌^◌, ◌<◌, ◌≤◌, true, List, ◌∷◌, nat_lt, nat_le, Some, Ok, refl, arith, ℤ, pos}
-use Rattle.std.specs.Prelude.{codes}
-use Rattle.std.specs.Fmt.{decimal}
-use Rattle.std.proofs.lemmas.Bool.Decides.{nat_tests}
-use Rattle.decimal_input.specs.declared.dec.Dec.{Dec}
-use Rattle.decimal_input.specs.Canonical.{IsDec}
+use Rattle.package_text.proofs.Common.{◌≡◌, ℕ, ◌^◌, ◌<◌, ◌≤◌, true, List, ◌∷◌, nat_lt, nat_le, Some, Ok, refl, arith, ℤ, pos, codes, decimal, nat_tests, Dec}
+use Rattle.package_text.proofs.Common.{IsDec, number, canonical, integer, no_number, within, count_at, IsShort, number_word, integer_word, Line, number_reads}
+use Rattle.package_text.proofs.Common.{integer_reads}
 use Rattle.array_reader.specs.Items.{number_at}
-use Rattle.array_reader.specs.Numbers.{number, canonical, integer}
-use Rattle.model_types.specs.Layers.{no_number}
-use Rattle.number_limits.specs.Signs.{within}
-use Rattle.dis_package.specs.Frames.{count_at}
-use Rattle.array_text.specs.Words.{IsShort, number_word, integer_word}
-use Rattle.array_text.specs.Lines.{Line}
-use Rattle.array_text.proofs.NumberTexts.{number_reads, integer_reads}
 
 -- the words of numbers are read where they stand
 pub number_item : (file : List ℕ) (line : ℕ) (d : Dec) (ws : Line) → IsDec d → number_at number file line (number_word d ∷ ws) ≡ Ok (d, ws)

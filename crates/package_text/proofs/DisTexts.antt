@@ -1,32 +1,14 @@
 -- The file of DIS is read as written.
-use Rattle.std.proofs.Common.{◌≡◌, ℕ, ◌^◌, ◌<◌, ◌≤◌, ◌==◌, true, false, Bool, if◌then◌else◌, List, [], ◌∷◌, ◌++◌, length, map, All, Ok, refl, arith}
-use Rattle.std.specs.Prelude.{codes}
-use Rattle.std.specs.Fmt.{decimal}
-use Rattle.std.proofs.lemmas.List.Elements.{All-nil, All-cons, All-append, All-head, All-map, All-weaker, All-from_recursion}
-use Rattle.std.proofs.lemmas.Bool.Decides.{nat_tests}
-use Rattle.decimal_input.specs.declared.dec.Dec.{Dec}
-use Rattle.decimal_input.specs.Canonical.{IsDec}
+use Rattle.package_text.proofs.Common.{◌≡◌, ℕ, ◌^◌, ◌<◌, ◌≤◌, ◌==◌, true, false, Bool, if◌then◌else◌, List, [], ◌∷◌, ◌++◌, length, map, All, Ok, refl, arith}
+use Rattle.package_text.proofs.Common.{codes, decimal, All-nil, All-cons, All-append, All-head, All-map, All-weaker, All-from_recursion, nat_tests, Dec, IsDec}
+use Rattle.package_text.proofs.Common.{File, is_comment, without_comments, left_from, next_number, Grid, FlowModel, cell_count, HasSize, int_at, is_nonzero}
+use Rattle.package_text.proofs.Common.{IsPositive, IsTimed, without_stresses, IsWord, Line, IsLine, line_text, text, numbered_lines, unread, word_by_test}
+use Rattle.package_text.proofs.Common.{count_is_word, integer_is_word, line_words, text_left, next_line, are_lines, layer_values, each_layer, dis_item_1}
+use Rattle.package_text.proofs.Common.{dis_item_2, dis_item_3, dis_item_4, dis_item_5, dis_item_6, dis_item_7, dis_lines, IsDiscretized}
 use Rattle.decimal_input.specs.Grammar.{is_digit}
-use Rattle.outside.specs.Files.{File}
-use Rattle.record_lines.specs.Layout.{is_comment, without_comments, left_from, next_number}
-use Rattle.model_types.specs.declared.grid.Grid.{Grid}
-use Rattle.model_types.specs.declared.model.FlowModel.{FlowModel}
-use Rattle.model_types.specs.Cells.{cell_count}
-use Rattle.model_types.specs.Grids.{HasSize}
-use Rattle.model_types.specs.Layers.{int_at, is_nonzero}
-use Rattle.model_types.specs.Numbers.{IsPositive}
-use Rattle.model_types.specs.Valid.{IsTimed}
 use Rattle.dis_package.specs.Discretization.{begun, head_of, dis_of}
-use Rattle.dis_package.specs.Forms.{without_stresses}
-use Rattle.array_text.specs.Words.{IsWord}
-use Rattle.array_text.specs.Lines.{Line, IsLine, line_text, text, numbered_lines, unread}
 use Rattle.array_text.proofs.DigitTexts.{digits_spell}
-use Rattle.array_text.proofs.WordTexts.{word_by_test, count_is_word, integer_is_word}
-use Rattle.array_text.proofs.LineTexts.{line_words, text_left, next_line}
-use Rattle.array_text.proofs.ArrayTexts.{are_lines}
-use Rattle.package_text.specs.Layers.{real_layer, layer_values, each_layer}
-use Rattle.package_text.specs.Discretization.{dis_item_1, dis_item_2, dis_item_3, dis_item_4, dis_item_5, dis_item_6, dis_item_7, dis_lines}
-use Rattle.package_text.specs.Readable.{IsDiscretized}
+use Rattle.package_text.specs.Layers.{real_layer}
 use Rattle.package_text.proofs.LineCounts.{layers_are_lines, layer_length, layer_has}
 use Rattle.package_text.proofs.FrameTexts.{frame_reads, beds_read}
 use Rattle.package_text.proofs.GridTexts.{grid_reads, grid_end, grid_lines}

@@ -1,29 +1,11 @@
 -- DIS items 1 and 2 are read as written.
-use Rattle.std.proofs.Common.{◌≡◌, ℕ, suc, ◌+◌, ◌-◌, ◌*◌, ◌<◌, ◌≤◌, true, List, [], ◌∷◌, ◌++◌, length, take, map, nat_le, All, Ok, refl, sym, ap, ◌∙◌, arith, ℤ, pos}
-use Rattle.std.specs.Prelude.{codes}
-use Rattle.std.specs.Fmt.{decimal}
-use Rattle.std.proofs.lemmas.List.{map-append, length-take-le, take_more, take_all}
-use Rattle.std.proofs.lemmas.List.Elements.{All-nil, All-cons, All-append, All-take, All-weaker}
-use Rattle.std.proofs.lemmas.Bool.Decides.{nat_tests}
-use Rattle.record_lines.specs.Layout.{Left, next_number}
-use Rattle.record_lines.specs.Reading.{repeated}
-use Rattle.record_lines.specs.Spread.{beginning}
-use Rattle.array_reader.specs.Numbers.{integer}
-use Rattle.array_reader.specs.Lists.{value_at, value_alone}
-use Rattle.model_types.specs.declared.grid.Grid.{Grid}
-use Rattle.model_types.specs.declared.model.FlowModel.{FlowModel}
-use Rattle.model_types.specs.Grids.{HasSize, IsGrid}
-use Rattle.model_types.specs.Layers.{int_at}
-use Rattle.package_items.specs.Items.{zero_at}
-use Rattle.dis_package.specs.Frames.{size_at, frame_of}
+use Rattle.package_text.proofs.Common.{◌≡◌, ℕ, suc, ◌+◌, ◌-◌, ◌*◌, ◌<◌, ◌≤◌, true, List, [], ◌∷◌, ◌++◌, length, take, map, nat_le, All, Ok, refl, sym, ap, ◌∙◌}
+use Rattle.package_text.proofs.Common.{arith, ℤ, pos, codes, decimal, map-append, length-take-le, take_more, take_all, All-nil, All-cons, All-append, All-take}
+use Rattle.package_text.proofs.Common.{All-weaker, nat_tests, Left, next_number, repeated, beginning, integer, value_at, value_alone, Grid, FlowModel, HasSize}
+use Rattle.package_text.proofs.Common.{IsGrid, int_at, zero_at, size_at, frame_of, IsShort, IsWord, integer_word, Line, unread, row_line, IsWrittenAs, on_line}
+use Rattle.package_text.proofs.Common.{value_reads, values_read, last_word, line_begins, alone_begins, same_start, row_is_words, integer_written, dis_item_1}
+use Rattle.package_text.proofs.Common.{dis_item_2, IsDiscretized}
 use Rattle.dis_package.specs.Beds.{beds_of}
-use Rattle.array_text.specs.Words.{IsShort, IsWord, integer_word}
-use Rattle.array_text.specs.Lines.{Line, unread}
-use Rattle.array_text.specs.Arrays.{row_line}
-use Rattle.array_text.proofs.FreeTexts.{IsWrittenAs, on_line, value_reads, values_read, last_word, line_begins, alone_begins, same_start, row_is_words}
-use Rattle.array_text.proofs.ArrayTexts.{integer_written}
-use Rattle.package_text.specs.Discretization.{dis_item_1, dis_item_2}
-use Rattle.package_text.specs.Readable.{IsDiscretized}
 use Rattle.package_text.proofs.CountTexts.{count_reads, integer_item, zero_item}
 
 -- item 1

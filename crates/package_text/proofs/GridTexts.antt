@@ -1,33 +1,14 @@
 -- DIS items 3 to 6 are read as written.
-use Rattle.std.proofs.Common.{◌≡◌, ℕ, ◌+◌, ◌*◌, ◌<◌, ◌≤◌, Bool, true, false, if◌then◌else◌, List, [], ◌∷◌, ◌++◌, append_assoc, length, take, replicate, nat_lt, All, Ok, refl, arith}
-use Rattle.std.specs.List.{list_all}
-use Rattle.std.proofs.lemmas.List.Elements.{All-head, All-tail, All-weaker}
-use Rattle.std.proofs.lemmas.Bool.Decides.{nat_tests}
-use Rattle.decimal_input.specs.declared.dec.Dec.{Dec}
-use Rattle.decimal_input.specs.Canonical.{IsDec}
-use Rattle.outside.specs.Files.{File}
-use Rattle.array_reader.specs.Kinds.{real}
-use Rattle.array_reader.specs.Arrays.{real_layer}
-use Rattle.model_types.specs.declared.grid.Grid.{Grid}
-use Rattle.model_types.specs.Cells.{layer_size, cell_count}
-use Rattle.model_types.specs.Grids.{HasSize, IsGrid}
-use Rattle.model_types.specs.Layers.{int_at, is_nonzero, no_number}
-use Rattle.model_types.specs.Numbers.{IsPositive}
-use Rattle.number_limits.specs.Signs.{is_positive}
-use Rattle.package_items.specs.Items.{layer_or}
+use Rattle.package_text.proofs.Common.{◌≡◌, ℕ, ◌+◌, ◌*◌, ◌<◌, ◌≤◌, Bool, true, false, if◌then◌else◌, List, [], ◌∷◌, ◌++◌, append_assoc, length, take, replicate}
+use Rattle.package_text.proofs.Common.{nat_lt, All, Ok, refl, arith, list_all, All-head, All-tail, All-weaker, nat_tests, Dec, IsDec, File, real, real_layer}
+use Rattle.package_text.proofs.Common.{Grid, layer_size, cell_count, HasSize, IsGrid, int_at, is_nonzero, no_number, IsPositive, is_positive, layer_or}
+use Rattle.package_text.proofs.Common.{number_word, Line, number_after, unread, Reads, real_array, one, real_one, reals_written, arrays, layer_values}
+use Rattle.package_text.proofs.Common.{each_layer, dis_item_3, dis_item_4, dis_item_5, dis_item_6, IsOfBeds}
 use Rattle.dis_package.specs.Grids.{widths, bottom_at, bottoms_of, grid_of}
 use Rattle.dis_package.specs.declared.frame.Size.{Size}
 use Rattle.dis_package.specs.declared.bottoms.Bottoms.{Bottoms}
-use Rattle.array_text.specs.Words.{number_word}
-use Rattle.array_text.specs.Lines.{Line, number_after, unread, Reads}
-use Rattle.array_text.specs.Arrays.{real_array}
-use Rattle.array_text.proofs.NumberTexts.{one}
 use Rattle.array_text.proofs.RowTexts.{array_reads}
-use Rattle.array_text.proofs.ArrayTexts.{real_one, reals_written, arrays}
-use Rattle.package_text.specs.Layers.{layer_values, each_layer}
 use Rattle.package_text.specs.Layers.{real_layer as real_layer_lines}
-use Rattle.package_text.specs.Discretization.{dis_item_3, dis_item_4, dis_item_5, dis_item_6}
-use Rattle.package_text.specs.Readable.{IsOfBeds}
 use Rattle.package_text.proofs.LineCounts.{number_after-append, counted_reads, one_more_layer, layer_length, layer_has, all_layers}
 
 pub is_above : (d : Dec) → IsPositive d → is_positive d ≡ true

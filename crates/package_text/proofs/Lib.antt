@@ -1,3 +1,4 @@
+mod Common
 pub mod LineCounts
 pub mod CountTexts
 pub mod FrameTexts

@@ -1,16 +1,8 @@
 -- The number of the line after lines that follow each other, and lines made layer by layer.
-use Rattle.std.proofs.Common.{◌≡◌, ℕ, zero, suc, ◌+◌, ◌-◌, ◌*◌, ◌<◌, ◌≤◌, List, [], ◌∷◌, ◌++◌, append_assoc, length, take, drop, All, Result, Ok, refl, ap, ◌∙◌, arith}
-use Rattle.std.specs.List.{flat_map, range_with_len}
-use Rattle.std.proofs.lemmas.List.{length-drop, length-take-le, take_all}
-use Rattle.std.proofs.lemmas.List.Elements.{All-nil, All-append, All-take, All-drop}
+use Rattle.package_text.proofs.Common.{◌≡◌, ℕ, zero, suc, ◌+◌, ◌-◌, ◌*◌, ◌<◌, ◌≤◌, List, [], ◌∷◌, ◌++◌, append_assoc, length, take, drop, All, Result, Ok, refl}
+use Rattle.package_text.proofs.Common.{ap, ◌∙◌, arith, flat_map, range_with_len, length-drop, length-take-le, take_all, All-nil, All-append, All-take, All-drop}
+use Rattle.package_text.proofs.Common.{Refusal, Left, next_number, counted, Grid, layer_size, cell_count, Line, IsLine, number_after, unread, layer_values}
 use Rattle.std.proofs.Math.Nat.{mul-le-mul_right}
-use Rattle.outside.specs.declared.refusals.Refusal.{Refusal}
-use Rattle.record_lines.specs.Layout.{Left, next_number}
-use Rattle.record_lines.specs.Reading.{counted}
-use Rattle.model_types.specs.declared.grid.Grid.{Grid}
-use Rattle.model_types.specs.Cells.{layer_size, cell_count}
-use Rattle.array_text.specs.Lines.{Line, IsLine, number_after, unread}
-use Rattle.package_text.specs.Layers.{layer_values}
 
 pub number_after-append : (n : ℕ) (front back : List Line) → number_after n (front ++ back) ≡ number_after (number_after n front) back
 unfolding number_after

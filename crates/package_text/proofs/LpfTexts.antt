@@ -1,20 +1,8 @@
 -- The file of LPF is read as written.
-use Rattle.std.proofs.Common.{◌≡◌, ℕ, ◌+◌, ◌*◌, ◌<◌, Bool, true, false, not, ◌||◌, List, [], ◌∷◌, ◌++◌, length, map, take, All, Ok, refl, sym, ap, ◌∙◌, arith}
-use Rattle.std.specs.Prelude.{codes}
-use Rattle.std.proofs.lemmas.List.{append-nil, take_all}
-use Rattle.outside.specs.Files.{File}
-use Rattle.record_lines.specs.Layout.{is_comment, next_number}
-use Rattle.model_types.specs.declared.model.FlowModel.{FlowModel}
-use Rattle.model_types.specs.declared.period.Period.{Period}
-use Rattle.model_types.specs.Cells.{layer_size}
-use Rattle.model_types.specs.Layers.{int_at, is_nonzero}
-use Rattle.dis_package.specs.Forms.{without_stresses}
-use Rattle.lpf_package.specs.Flow.{is_transient, with_properties, contents_of, lpf_of}
-use Rattle.lpf_package.specs.Layers.{layer_at, layers_of}
-use Rattle.array_text.specs.Lines.{Line, IsLine, line_text, text, number_after, unread}
-use Rattle.package_text.specs.Layers.{each_layer}
-use Rattle.package_text.specs.Flow.{storage_option, lpf_item_1, lpf_arrays, lpf_lines}
-use Rattle.package_text.specs.Readable.{IsDiscretized, HasFlow}
+use Rattle.package_text.proofs.Common.{◌≡◌, ℕ, ◌+◌, ◌*◌, ◌<◌, Bool, true, false, not, ◌||◌, List, [], ◌∷◌, ◌++◌, length, map, take, All, Ok, refl, sym, ap, ◌∙◌}
+use Rattle.package_text.proofs.Common.{arith, codes, append-nil, take_all, File, is_comment, next_number, FlowModel, Period, layer_size, int_at, is_nonzero}
+use Rattle.package_text.proofs.Common.{without_stresses, is_transient, with_properties, contents_of, lpf_of, layer_at, layers_of, Line, IsLine, line_text, text}
+use Rattle.package_text.proofs.Common.{number_after, unread, each_layer, storage_option, lpf_item_1, lpf_arrays, lpf_lines, IsDiscretized, HasFlow}
 use Rattle.package_text.proofs.LineCounts.{counted_reads, layers_are_lines, one_more_layer, all_layers}
 use Rattle.package_text.proofs.DisTexts.{AreLines, one_line, joined, where_there, layer_is_lines, file_begins, line_is_item}
 use Rattle.package_text.proofs.SettingTexts.{settings_lines, settings_end, settings_read, option_read, option_is_line, zeros_are_line, chani_is_line, layvka_is_line}

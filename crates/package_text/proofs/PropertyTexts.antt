@@ -1,18 +1,10 @@
 -- LPF items 10 to 15 of a layer are read as written.
-use Rattle.std.proofs.Common.{◌≡◌, ℕ, zero, suc, ◌*◌, ◌<◌, Bool, true, false, if◌then◌else◌, List, [], ◌++◌, append_assoc, take, drop, replicate, Ok, refl}
-use Rattle.std.proofs.lemmas.List.{get_or-replicate, nil_from_length}
-use Rattle.decimal_input.specs.declared.dec.Dec.{Dec}
-use Rattle.outside.specs.Files.{File}
-use Rattle.model_types.specs.declared.model.FlowModel.{FlowModel}
-use Rattle.model_types.specs.Cells.{layer_size}
-use Rattle.model_types.specs.Layers.{int_at, dec_at, is_nonzero, no_number}
-use Rattle.lpf_package.specs.Flow.{is_transient}
-use Rattle.lpf_package.specs.Layers.{storage_layer, properties_of, nth_layer}
+use Rattle.package_text.proofs.Common.{◌≡◌, ℕ, zero, suc, ◌*◌, ◌<◌, Bool, true, false, if◌then◌else◌, List, [], ◌++◌, append_assoc, take, drop, replicate, Ok}
+use Rattle.package_text.proofs.Common.{refl, get_or-replicate, nil_from_length, Dec, File, FlowModel, layer_size, int_at, dec_at, is_nonzero, no_number}
+use Rattle.package_text.proofs.Common.{is_transient, storage_layer, properties_of, nth_layer, Line, number_after, unread, Reads, layer_values, lpf_arrays}
+use Rattle.package_text.proofs.Common.{IsDiscretized, HasFlow}
 use Rattle.lpf_package.specs.declared.layer.Properties.{Properties}
-use Rattle.array_text.specs.Lines.{Line, number_after, unread, Reads}
-use Rattle.package_text.specs.Layers.{layer_values, real_layer}
-use Rattle.package_text.specs.Flow.{lpf_arrays}
-use Rattle.package_text.specs.Readable.{IsDiscretized, HasFlow}
+use Rattle.package_text.specs.Layers.{real_layer}
 use Rattle.package_text.proofs.LineCounts.{number_after-append}
 use Rattle.package_text.proofs.GridTexts.{layer_reads, layer_or_by, layer_or_reads}
 use Rattle.package_text.proofs.DisTexts.{AreLines, no_lines, layer_is_lines}

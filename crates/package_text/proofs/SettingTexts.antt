@@ -1,28 +1,12 @@
 -- LPF items 1 to 6 are read as written.
-use Rattle.std.proofs.Common.{◌≡◌, ℕ, zero, suc, ◌+◌, ◌≤◌, Bool, true, false, List, [], ◌∷◌, length, replicate, All, Ok, refl, ap, arith, pos}
-use Rattle.std.specs.Prelude.{codes}
-use Rattle.std.specs.List.{list_any}
-use Rattle.std.proofs.lemmas.List.{length-replicate}
-use Rattle.std.proofs.lemmas.List.Elements.{All-nil, All-cons, All-append, All-replicate}
-use Rattle.decimal_input.specs.declared.dec.Dec.{Dec}
-use Rattle.record_lines.specs.Layout.{Left, next_number}
-use Rattle.record_lines.specs.Reading.{counted}
+use Rattle.package_text.proofs.Common.{◌≡◌, ℕ, zero, suc, ◌+◌, ◌≤◌, Bool, true, false, List, [], ◌∷◌, length, replicate, All, Ok, refl, ap, arith, pos, codes}
+use Rattle.package_text.proofs.Common.{list_any, length-replicate, All-nil, All-cons, All-append, All-replicate, Dec, Left, next_number, counted, beginning}
+use Rattle.package_text.proofs.Common.{number, integer, canonical, significant, zeros, value_at, free_list, FlowModel, zero_at, zero_step, zero_list, IsWord}
+use Rattle.package_text.proofs.Common.{Line, IsLine, unread, number_after, row_line, word_by_test, line_by_test, line_words, next_line, IsWrittenAs, on_line}
+use Rattle.package_text.proofs.Common.{value_reads, line_begins, free_list_reads, free_lists, are_lines, storage_option, lpf_item_1, lpf_zeros, lpf_item_4}
+use Rattle.package_text.proofs.Common.{lpf_item_5, IsDiscretized, HasFlow}
 use Rattle.record_lines.specs.Items.{is_word}
-use Rattle.record_lines.specs.Spread.{beginning}
-use Rattle.array_reader.specs.Numbers.{number, integer, canonical, significant, zeros}
-use Rattle.array_reader.specs.Lists.{value_at, free_list}
-use Rattle.model_types.specs.declared.model.FlowModel.{FlowModel}
-use Rattle.package_items.specs.Items.{zero_at, zero_step, zero_list}
 use Rattle.lpf_package.specs.Settings.{option_line, settings_of}
-use Rattle.array_text.specs.Words.{IsWord}
-use Rattle.array_text.specs.Lines.{Line, IsLine, unread, number_after}
-use Rattle.array_text.specs.Arrays.{row_line}
-use Rattle.array_text.proofs.WordTexts.{word_by_test, line_by_test}
-use Rattle.array_text.proofs.LineTexts.{line_words, next_line}
-use Rattle.array_text.proofs.FreeTexts.{IsWrittenAs, on_line, value_reads, line_begins, free_list_reads}
-use Rattle.array_text.proofs.ArrayTexts.{free_lists, are_lines}
-use Rattle.package_text.specs.Flow.{storage_option, lpf_item_1, lpf_zeros, lpf_item_4, lpf_item_5}
-use Rattle.package_text.specs.Readable.{IsDiscretized, HasFlow}
 use Rattle.package_text.proofs.CountTexts.{zero_item, zero_number_item}
 
 zero_word : IsWord (codes "0")

@@ -1,29 +1,14 @@
 -- DIS item 7 is read as written.
-use Rattle.std.proofs.Common.{◌≡◌, ℕ, ◌+◌, ◌*◌, ◌≤◌, ◌⊎◌, inl, inr, Bool, true, false, ◌||◌, List, [], ◌∷◌, length, map, nat_le, sum_by, fold, All, Ok, refl, arith}
-use Rattle.std.specs.Prelude.{codes}
-use Rattle.std.specs.Fmt.{decimal}
-use Rattle.std.proofs.lemmas.List.Elements.{All-nil, All-cons, All-head, All-tail}
+use Rattle.package_text.proofs.Common.{◌≡◌, ℕ, ◌+◌, ◌*◌, ◌≤◌, ◌⊎◌, inl, inr, Bool, true, false, ◌||◌, List, [], ◌∷◌, length, map, nat_le, sum_by, fold, All, Ok}
+use Rattle.package_text.proofs.Common.{refl, arith, codes, decimal, All-nil, All-cons, All-head, All-tail, nat_tests, Dec, IsDec, size, Refusal, next_number}
+use Rattle.package_text.proofs.Common.{repeated, Period, IsTimed, IsGrowing, number_one, is_one, without_stresses, IsWord, number_word, Line, IsLine}
+use Rattle.package_text.proofs.Common.{number_after, unread, short_exponent, word_by_test, number_is_word, count_is_word, line_words, next_line, steady_word}
+use Rattle.package_text.proofs.Common.{dis_item_7}
 use Rattle.std.proofs.lemmas.List.Sums.{sum_by_from}
-use Rattle.std.proofs.lemmas.Bool.Decides.{nat_tests}
-use Rattle.decimal_input.specs.declared.dec.Dec.{Dec}
-use Rattle.decimal_input.specs.Canonical.{IsDec, size}
 use Rattle.decimal_input.specs.Ratios.{Ratio, ratio, den, AtMost}
-use Rattle.outside.specs.declared.refusals.Refusal.{Refusal}
-use Rattle.record_lines.specs.Layout.{next_number}
-use Rattle.record_lines.specs.Reading.{repeated}
-use Rattle.model_types.specs.declared.period.Period.{Period}
-use Rattle.model_types.specs.Valid.{IsTimed, IsGrowing, number_one}
 use Rattle.number_limits.specs.Magnitudes.{is_at_most, is_at_least}
-use Rattle.number_limits.specs.Signs.{is_one}
-use Rattle.dis_package.specs.Forms.{without_stresses}
 use Rattle.dis_package.specs.Times.{kind_of, known, is_growth, is_time, time_of, period_at, periods_of}
 use Rattle.dis_package.specs.declared.time.Time.{Time}
-use Rattle.array_text.specs.Words.{IsWord, number_word}
-use Rattle.array_text.specs.Lines.{Line, IsLine, number_after, unread}
-use Rattle.array_text.proofs.NumberTexts.{short_exponent}
-use Rattle.array_text.proofs.WordTexts.{word_by_test, number_is_word, count_is_word}
-use Rattle.array_text.proofs.LineTexts.{line_words, next_line}
-use Rattle.package_text.specs.Discretization.{steady_word, dis_item_7}
 use Rattle.package_text.proofs.CountTexts.{number_item, count_reads}
 use Rattle.package_text.proofs.GridTexts.{is_above}
 

@@ -1,8 +1,6 @@
 -- A period's arrays by its flags.
-use Rattle.std.proofs.Common.{◌≡◌, ℤ, false, List}
+use Rattle.period_arrays.proofs.Common.{◌≡◌, ℤ, false, List, Grid, AreFlags, IsArea, IsInForce, IsReals, IsWhole}
 use Rattle.decimal_input.specs.declared.dec.Dec.{Dec}
-use Rattle.model_types.specs.declared.grid.Grid.{Grid}
-use Rattle.period_arrays.specs.Forms.{AreFlags, IsArea, IsInForce, IsReals, IsWhole}
 use Rattle.period_arrays.specs.declared.area.InForce.{InForce}
 use Rattle.period_arrays.specs.declared.flags.Contents.{Contents}
 use Rattle.period_arrays.specs.declared.flags.Flags.{Flags}

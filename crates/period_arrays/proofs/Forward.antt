@@ -1,15 +1,10 @@
 -- The line of the option leaves lines that it was given.
-use Rattle.std.proofs.Common.{◌≡◌, ℕ, ℤ, List, Ok, All}
-use Rattle.std.specs.Prelude.{IfOk}
+use Rattle.period_arrays.proofs.Common.{◌≡◌, ℕ, ℤ, List, Ok, All, IfOk, LineMay, LinesMay, chain, after, leaves, ArrayKind, option_line, unit_if}
 use Rattle.outside.specs.Words.{words}
-use Rattle.record_lines.specs.Asking.{LineMay, LinesMay}
 use Rattle.record_lines.specs.Layout.{Left, Numbered}
-use Rattle.record_lines.proofs.Forward.{chain, after, leaves}
 use Rattle.list_package.specs.Headers.{item_line}
 use Rattle.list_package.proofs.Forward.{item_held}
 use Rattle.period_arrays.specs.Flags.{option_at}
-use Rattle.period_arrays.specs.Kinds.{ArrayKind}
-use Rattle.period_arrays.specs.Packages.{option_line, unit_if}
 
 option_held : (P : Numbered → Type 0) (kind : ArrayKind) (file : List ℕ) (left : Left) → All P left.lines → IfOk (option_line kind file left) (λ x. All P x.1.lines)
 unfolding option_line

@@ -1,7 +1,6 @@
 -- Places of an array of one layer as cells of layer 1.
-use Rattle.std.proofs.Common.{ℕ, ◌*◌, ◌<◌, ◌≤◌, arith}
+use Rattle.period_arrays.proofs.Common.{ℕ, ◌*◌, ◌<◌, ◌≤◌, arith, Grid}
 use Rattle.std.proofs.Math.Nat.{mul-le-mul_right}
-use Rattle.model_types.specs.declared.grid.Grid.{Grid}
 use Rattle.model_types.specs.Cells.{layer_size, cell_count}
 use Rattle.model_types.specs.Grids.{HasSize}
 

@@ -1,11 +1,7 @@
 -- A variable cell is active, and a constant one.
-use Rattle.std.proofs.Common.{◌≡◌, ℕ, zero, suc, Bool, true, false, refl, arith, ℤ, pos, negsuc}
-use Rattle.std.specs.Prelude.{not, int_lt, ◌&&◌, ◌==◌, unsigned_abs}
-use Rattle.std.proofs.lemmas.Bool.{false≢true}
+use Rattle.problem_builder.proofs.Common.{◌≡◌, ℕ, zero, suc, Bool, true, false, refl, arith, ℤ, pos, negsuc, not, int_lt, ◌&&◌, ◌==◌, unsigned_abs, false≢true}
+use Rattle.problem_builder.proofs.Common.{FlowModel, is_active, int_at, is_variable, is_constant}
 use Rattle.std.proofs.lemmas.Bool.Decides.{nat_tests}
-use Rattle.model_types.specs.declared.model.FlowModel.{FlowModel}
-use Rattle.model_types.specs.Layers.{is_active, int_at}
-use Rattle.model_types.specs.Kinds.{is_variable, is_constant}
 
 pub and_true : (a b : Bool) → (a && b) ≡ true → (a ≡ true) × (b ≡ true)
 and_true true b e = (refl, e)

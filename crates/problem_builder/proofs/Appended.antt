@@ -1,12 +1,8 @@
 -- The bounds of the entries of lists, appended cell by cell.
-use Rattle.std.proofs.Common.{◌≡◌, ℕ, ◌+◌, ◌<◌, inl, inr, Bool, true, false, cond, List, [], ◌∷◌, ◌++◌, length, get_or, set, take, refl, sym, ap, ◌∙◌, subst, All}
-use Rattle.std.specs.Prelude.{◌==◌}
-use Rattle.std.proofs.lemmas.List.{get_or-set_same, get_or-set_other, append-nil, append_assoc, take_more, take_at, drop_at}
-use Rattle.std.proofs.lemmas.List.Elements.{All-take, All-drop, filter-append}
-use Rattle.std.proofs.lemmas.Bool.{cases_eq, eq-eqb, ne_eqb}
-use Rattle.model_types.specs.declared.entry.Entry.{Entry}
-use Rattle.model_types.specs.Sources.{cell_of, entries_of}
-use Rattle.problem_builder.specs.LocalBounds.{LocalBounds, AreLocalBounds, AreAppended, IsEntryIn, local_in, no_bounds}
+use Rattle.problem_builder.proofs.Common.{◌≡◌, ℕ, ◌+◌, ◌<◌, inl, inr, Bool, true, false, cond, List, [], ◌∷◌, ◌++◌, length, get_or, set, take, refl, sym, ap}
+use Rattle.problem_builder.proofs.Common.{◌∙◌, subst, All, ◌==◌, get_or-set_same, get_or-set_other, append-nil, append_assoc, take_more, take_at, drop_at}
+use Rattle.problem_builder.proofs.Common.{All-take, All-drop, filter-append, cases_eq, eq-eqb, ne_eqb, Entry, cell_of, entries_of, LocalBounds, AreLocalBounds}
+use Rattle.problem_builder.proofs.Common.{AreAppended, IsEntryIn, local_in, no_bounds}
 
 no_entries : (c : ℕ) → [] ≡ entries_of c []
 unfolding entries_of

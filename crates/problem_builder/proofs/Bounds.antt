@@ -1,29 +1,9 @@
 -- When the bounds of a model's numbers enclose them: the steps from rounded numbers to exact ones, which a valid model gives.
+use Rattle.problem_builder.proofs.Common.{Dec, number, Encloses, EnclosesSigned, Evap, magnitude, IsHead, EvapEncloses, FlowModel, Axis, TimeStep, cell_count}
+use Rattle.problem_builder.proofs.Common.{stride, constant_head, is_active, conductance, period_at, storage, is_variable, is_constant, EvapSource, recharge_at}
+use Rattle.problem_builder.proofs.Common.{evap_at, recharge_flow, evap_conductance, extinction, IsCapped, face_term, storage_term, Thicknesses, IsConstantPair}
+use Rattle.problem_builder.proofs.Common.{IsRechargePair, IsEvap}
 use Rattle.std.specs.Prelude.{◌≡◌, ℕ, ◌+◌, ◌^◌, ◌<◌, ℤ, true, false, Some}
-use Rattle.decimal_input.specs.declared.dec.Dec.{Dec}
-use Rattle.decimal_input.specs.Canonical.{number}
-use Rattle.decimal_input.specs.Enclosures.{Encloses, EnclosesSigned}
-use Rattle.step_problem.specs.declared.entry.Evap.{Evap}
-use Rattle.step_problem.specs.Conditions.{magnitude, IsHead}
-use Rattle.cell_balance.specs.Enclosures.{EvapEncloses}
-use Rattle.model_types.specs.declared.model.FlowModel.{FlowModel}
-use Rattle.model_types.specs.declared.face.Axis.{Axis}
-use Rattle.model_types.specs.declared.time_steps.TimeStep.{TimeStep}
-use Rattle.model_types.specs.Cells.{cell_count}
-use Rattle.model_types.specs.Faces.{stride}
-use Rattle.model_types.specs.Heads.{constant_head}
-use Rattle.model_types.specs.Layers.{is_active}
-use Rattle.model_types.specs.Conductances.{conductance}
-use Rattle.model_types.specs.Times.{period_at}
-use Rattle.model_types.specs.Storage.{storage}
-use Rattle.model_types.specs.Kinds.{is_variable, is_constant}
-use Rattle.model_types.specs.Receivers.{EvapSource, recharge_at, evap_at, recharge_flow, evap_conductance, extinction}
-use Rattle.conductance_bounds.specs.Pairs.{IsCapped}
-use Rattle.conductance_bounds.specs.Formulas.{face_term, storage_term}
-use Rattle.problem_builder.specs.Thicknesses.{Thicknesses}
-use Rattle.problem_builder.specs.ConstantHeads.{IsConstantPair}
-use Rattle.problem_builder.specs.RechargeBounds.{IsRechargePair}
-use Rattle.problem_builder.specs.Cells.{IsEvap}
 
 pub record BoundsEnclose (m : FlowModel) (w : Thicknesses) (s : ℕ) (at : TimeStep) : Type 0 where
   pub faces : (axis : Axis) (a lo hi : ℕ) → a + stride m.grid axis < cell_count m.grid → is_active m a ≡ true → is_active m (a + stride m.grid axis) ≡ true →

@@ -1,41 +1,15 @@
 -- The bounds of a valid model's numbers enclose them.
-use Rattle.std.proofs.Common.{◌≡◌, ℕ, suc, ◌+◌, ◌*◌, ◌-◌, ◌<◌, ◌^◌, inl, inr, true, false, Option, Some, None, take, arith, refl, ap, subst, All, ℤ, pos, neg_ℤ, ◌+ℤ◌, ◌-ℤ◌, ◌*ℤ◌}
-use Rattle.std.specs.Option.{option_to_list}
-use Rattle.std.proofs.lemmas.Int.{ints}
-use Rattle.decimal_input.specs.declared.dec.Dec.{Dec}
-use Rattle.decimal_input.specs.Canonical.{number}
-use Rattle.decimal_input.specs.Fractions.{plus, negated, den as denominator}
-use Rattle.decimal_input.specs.Enclosures.{Encloses, EnclosesSigned}
+use Rattle.problem_builder.proofs.Common.{◌≡◌, ℕ, suc, ◌+◌, ◌*◌, ◌-◌, ◌<◌, ◌^◌, inl, inr, true, false, Option, Some, None, take, arith, refl, ap, subst, All, ℤ}
+use Rattle.problem_builder.proofs.Common.{pos, neg_ℤ, ◌+ℤ◌, ◌-ℤ◌, ◌*ℤ◌, option_to_list, ints, Dec, number, plus, negated, Encloses, EnclosesSigned, Evap}
+use Rattle.problem_builder.proofs.Common.{magnitude, IsHead, EvapEncloses, Given, Axis, FlowModel, TimeStep, cell_count, stride, kept_head, head_or_kept}
+use Rattle.problem_builder.proofs.Common.{constant_head, dec_at, is_active, conductance, period_at, storage, is_variable, is_constant, given_in, last_given}
+use Rattle.problem_builder.proofs.Common.{EvapSource, evap_at, recharge_flow, evap_conductance, extinction, IsModel, IsEvapValid, Term, IsPair, IsCapped}
+use Rattle.problem_builder.proofs.Common.{face_term, storage_term, evap_term, faces_enclose, below_gap, above_gap, Thicknesses, AreThicknesses, IsKeptPair}
+use Rattle.problem_builder.proofs.Common.{IsGivenOrKept, IsConstantPair, IsRechargePair, IsEvap, IsTimeOf}
+use Rattle.decimal_input.specs.Fractions.{den as denominator}
 use Rattle.decimal_input.proofs.Differences.{diffs, as_diff, same_diff}
-use Rattle.step_problem.specs.declared.entry.Evap.{Evap}
-use Rattle.step_problem.specs.Conditions.{magnitude, IsHead}
-use Rattle.cell_balance.specs.Enclosures.{EvapEncloses}
-use Rattle.model_types.specs.declared.entry.Given.{Given}
-use Rattle.model_types.specs.declared.face.Axis.{Axis}
-use Rattle.model_types.specs.declared.model.FlowModel.{FlowModel}
-use Rattle.model_types.specs.declared.time_steps.TimeStep.{TimeStep}
-use Rattle.model_types.specs.Cells.{cell_count}
-use Rattle.model_types.specs.Faces.{stride}
-use Rattle.model_types.specs.Heads.{kept_head, head_or_kept, constant_head}
-use Rattle.model_types.specs.Layers.{dec_at, is_active}
-use Rattle.model_types.specs.Conductances.{conductance}
-use Rattle.model_types.specs.Times.{period_at}
-use Rattle.model_types.specs.Storage.{storage}
-use Rattle.model_types.specs.Kinds.{is_variable, is_constant, given_in, last_given}
-use Rattle.model_types.specs.Receivers.{EvapSource, evap_at, recharge_flow, evap_conductance, extinction}
-use Rattle.model_types.specs.Valid.{IsModel, IsEvapValid}
-use Rattle.conductance_bounds.specs.Terms.{Term}
-use Rattle.conductance_bounds.specs.Pairs.{IsPair, IsCapped}
-use Rattle.conductance_bounds.specs.Formulas.{face_term, storage_term, evap_term}
-use Rattle.conductance_bounds.proofs.FaceBounds.{faces_enclose}
 use Rattle.conductance_bounds.proofs.ModelBounds.{storages_enclose, recharges_enclose, evaps_enclose, heads_enclose as given_encloses}
 use Rattle.conductance_bounds.proofs.PartBounds.{part_encloses, multiplier_positive}
-use Rattle.conductance_bounds.proofs.SpanBounds.{below_gap, above_gap}
-use Rattle.problem_builder.specs.Thicknesses.{Thicknesses, AreThicknesses}
-use Rattle.problem_builder.specs.ConstantHeads.{IsKeptPair, IsGivenOrKept, IsConstantPair}
-use Rattle.problem_builder.specs.RechargeBounds.{IsRechargePair}
-use Rattle.problem_builder.specs.Cells.{IsEvap}
-use Rattle.problem_builder.specs.Moments.{IsTimeOf}
 use Rattle.problem_builder.proofs.ActiveCells.{variable_active, constant_active}
 use Rattle.problem_builder.proofs.Bounds.{BoundsEnclose}
 use Rattle.problem_builder.proofs.CellEnclosed.{head_encloses, past_magnitude}

@@ -1,43 +1,12 @@
 -- A cell of the problem encloses the exact cell: one step for each kind of entry.
-use Rattle.std.proofs.Common.{◌≡◌, ℕ, ◌+◌, ◌<◌, ◌^◌, inl, inr, true, List, map, sym, subst, arith, ℤ, pos, negsuc}
-use Rattle.std.specs.List.{AllZip}
-use Rattle.std.proofs.lemmas.Int.{ints}
-use Rattle.decimal_input.specs.declared.dec.Dec.{Dec}
-use Rattle.decimal_input.specs.Canonical.{number, size}
-use Rattle.decimal_input.specs.Fractions.{Fraction}
-use Rattle.decimal_input.specs.Enclosures.{Encloses, EnclosesSigned}
-use Rattle.step_problem.specs.declared.heads.Bound.{Bound}
-use Rattle.step_problem.specs.declared.entry.Flow.{Flow}
-use Rattle.step_problem.specs.declared.entry.Link.{Link}
-use Rattle.step_problem.specs.declared.entry.Fixed.{Fixed}
-use Rattle.step_problem.specs.declared.entry.River.{River}
-use Rattle.step_problem.specs.declared.entry.Drain.{Drain}
-use Rattle.step_problem.specs.declared.entry.Evap.{Evap}
-use Rattle.step_problem.specs.Entries.{Entries}
-use Rattle.step_problem.specs.Heads.{upper_at}
-use Rattle.step_problem.specs.Conditions.{magnitude}
-use Rattle.cell_balance.specs.Enclosures.{FlowEncloses, LinkEncloses, FixedEncloses, RiverEncloses, DrainEncloses, EvapEncloses, CellEncloses}
-use Rattle.model_types.specs.declared.face.Face.{Face}
-use Rattle.model_types.specs.declared.model.FlowModel.{FlowModel}
-use Rattle.model_types.specs.declared.time_steps.TimeStep.{TimeStep}
-use Rattle.model_types.specs.Cells.{cell_count}
-use Rattle.model_types.specs.Grids.{HasSize}
-use Rattle.model_types.specs.Layers.{is_active}
-use Rattle.model_types.specs.Conductances.{conductance}
-use Rattle.model_types.specs.Kinds.{is_variable, is_constant}
-use Rattle.model_types.specs.Receivers.{evap_at}
-use Rattle.model_types.specs.Sources.{FixedSource, FlowSource, variable_faces, flow_sources, fixed_sources, river_sources, drain_sources, evap_sources}
-use Rattle.model_types.specs.Sources.FixedSource.{ToConstant, ToGeneral, FromStorage}
-use Rattle.model_types.specs.Sources.FlowSource.{Pumped, Received}
-use Rattle.model_types.proofs.Members.{In}
-use Rattle.model_types.proofs.Leads.{IsFaceOf, passing_are, end_within}
-use Rattle.flow_equations.specs.ExactStep.{exact_link, exact_fixed, exact_flow, exact_river, exact_drain, exact_evap, exact_cell}
-use Rattle.conductance_bounds.specs.Pairs.{IsCapped}
-use Rattle.conductance_bounds.specs.Formulas.{face_term}
-use Rattle.problem_builder.specs.Thicknesses.{Thicknesses}
-use Rattle.problem_builder.specs.InputBounds.{IsCond, IsWellPair, IsHeadPair}
-use Rattle.problem_builder.specs.Cells.{IsRiver, IsDrain, IsEvap, IsFlow, IsLink, IsFixed, IsCellOf}
-use Rattle.problem_builder.specs.GridHeads.{HeadsEnclose}
+use Rattle.problem_builder.proofs.Common.{◌≡◌, ℕ, ◌+◌, ◌<◌, ◌^◌, inl, inr, true, List, map, sym, subst, arith, ℤ, pos, negsuc, AllZip, ints, Dec, number, size}
+use Rattle.problem_builder.proofs.Common.{Fraction, Encloses, EnclosesSigned, Bound, Flow, Link, Fixed, River, Drain, Evap, Entries, upper_at, magnitude}
+use Rattle.problem_builder.proofs.Common.{FlowEncloses, LinkEncloses, FixedEncloses, RiverEncloses, DrainEncloses, EvapEncloses, CellEncloses, Face, FlowModel}
+use Rattle.problem_builder.proofs.Common.{TimeStep, cell_count, HasSize, is_active, conductance, is_variable, is_constant, evap_at, FixedSource, FlowSource}
+use Rattle.problem_builder.proofs.Common.{variable_faces, flow_sources, fixed_sources, river_sources, drain_sources, evap_sources, ToConstant, ToGeneral}
+use Rattle.problem_builder.proofs.Common.{FromStorage, Pumped, Received, In, IsFaceOf, passing_are, end_within, exact_link, exact_fixed, exact_flow}
+use Rattle.problem_builder.proofs.Common.{exact_river, exact_drain, exact_evap, exact_cell, IsCapped, face_term, Thicknesses, IsCond, IsWellPair, IsHeadPair}
+use Rattle.problem_builder.proofs.Common.{IsRiver, IsDrain, IsEvap, IsFlow, IsLink, IsFixed, IsCellOf, HeadsEnclose}
 use Rattle.problem_builder.proofs.ActiveCells.{variable_active, constant_active}
 use Rattle.problem_builder.proofs.Bounds.{BoundsEnclose}
 use Rattle.problem_builder.proofs.FacePairs.{face_range, face_active}

@@ -1,41 +1,13 @@
 -- A cell without a refusal keeps what a problem asks of a cell alone.
-use Rattle.std.proofs.Common.{◌≡◌, ℕ, ◌*◌, ◌<◌, ◌≤◌, ◌^◌, inl, inr, true, Some, None, List, sym, subst, arith, All}
-use Rattle.std.specs.Prelude.{◌==◌}
-use Rattle.std.specs.List.{list_any}
-use Rattle.std.proofs.Math.Nat.{le_of_mul-le-mul_right}
-use Rattle.std.proofs.lemmas.Option.{none-some}
-use Rattle.decimal_input.specs.Ratios.{Ratio, den}
-use Rattle.decimal_input.specs.Enclosures.{Encloses}
-use Rattle.step_problem.specs.declared.heads.Bound.{Bound}
-use Rattle.step_problem.specs.declared.entry.Link.{Link}
-use Rattle.step_problem.specs.declared.entry.Fixed.{Fixed}
-use Rattle.step_problem.specs.declared.entry.Drain.{Drain}
-use Rattle.step_problem.specs.Entries.{Entries}
-use Rattle.step_problem.specs.Heads.{no_bound, lower_at, upper_at}
-use Rattle.step_problem.specs.Conditions.{LinkFits, FixedFits, RiverFits, DrainFits, EvapFits, CellFits, IsHead}
-use Rattle.model_types.specs.declared.entry.Entry.{Entry}
-use Rattle.model_types.specs.declared.entry.Entry.TheVariants.{Well, River as RiverEntry, Drain as DrainEntry, General as GeneralEntry}
-use Rattle.model_types.specs.declared.face.Face.{Face}
-use Rattle.model_types.specs.declared.model.FlowModel.{FlowModel}
-use Rattle.model_types.specs.declared.time_steps.TimeStep.{TimeStep}
-use Rattle.model_types.specs.Cells.{cell_count}
-use Rattle.model_types.specs.Layers.{is_active}
-use Rattle.model_types.specs.Conductances.{conductance}
-use Rattle.model_types.specs.Numbers.{IsHeadNumber}
-use Rattle.model_types.specs.Kinds.{is_variable, is_constant}
-use Rattle.model_types.specs.Sources.{FixedSource, DrainSource, as_river, as_drain, local_entries, variable_faces, fixed_sources, river_sources, drain_sources, evap_sources}
-use Rattle.model_types.specs.Sources.FixedSource.{ToConstant, ToGeneral, FromStorage}
-use Rattle.model_types.specs.Valid.{IsModel, IsEntryValid, IsEvapValid}
-use Rattle.model_types.proofs.Members.{In, All-In, In-All, filter_map-In}
-use Rattle.model_types.proofs.Leads.{IsFaceOf, passing_are, end_within}
-use Rattle.conductance_bounds.specs.Terms.{Term}
-use Rattle.conductance_bounds.specs.Pairs.{IsCapped}
-use Rattle.conductance_bounds.specs.Formulas.{face_term}
-use Rattle.problem_builder.specs.Thicknesses.{Thicknesses}
-use Rattle.problem_builder.specs.Cells.{IsRiver, IsDrain, IsEvap, IsLink, IsFixed, IsCellOf}
-use Rattle.problem_builder.specs.GridHeads.{AreGridHeads}
-use Rattle.problem_builder.specs.Moments.{IsTimeOf}
-use Rattle.problem_builder.specs.Refusals.{fault_of}
+use Rattle.problem_builder.proofs.Common.{◌≡◌, ℕ, ◌*◌, ◌<◌, ◌≤◌, ◌^◌, inl, inr, true, Some, None, List, sym, subst, arith, All, ◌==◌, list_any}
+use Rattle.problem_builder.proofs.Common.{le_of_mul-le-mul_right, none-some, Ratio, den, Encloses, Bound, Link, Fixed, Drain, Entries, no_bound, lower_at}
+use Rattle.problem_builder.proofs.Common.{upper_at, LinkFits, FixedFits, RiverFits, DrainFits, EvapFits, CellFits, IsHead, Entry, Well, Face, FlowModel}
+use Rattle.problem_builder.proofs.Common.{TimeStep, cell_count, is_active, conductance, IsHeadNumber, is_variable, is_constant, FixedSource, DrainSource}
+use Rattle.problem_builder.proofs.Common.{as_river, as_drain, local_entries, variable_faces, fixed_sources, river_sources, drain_sources, evap_sources}
+use Rattle.problem_builder.proofs.Common.{ToConstant, ToGeneral, FromStorage, IsModel, IsEntryValid, IsEvapValid, In, All-In, In-All, filter_map-In, IsFaceOf}
+use Rattle.problem_builder.proofs.Common.{passing_are, end_within, Term, IsCapped, face_term, Thicknesses, IsRiver, IsDrain, IsEvap, IsLink, IsFixed, IsCellOf}
+use Rattle.problem_builder.proofs.Common.{AreGridHeads, IsTimeOf, fault_of}
+use Rattle.model_types.specs.declared.entry.Entry.TheVariants.{River as RiverEntry, Drain as DrainEntry, General as GeneralEntry}
 use Rattle.problem_builder.proofs.ActiveCells.{variable_active, constant_active}
 use Rattle.problem_builder.proofs.Bounds.{BoundsEnclose}
 use Rattle.problem_builder.proofs.FacePairs.{face_range, face_active}

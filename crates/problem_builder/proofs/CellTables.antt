@@ -1,14 +1,8 @@
 -- Tables that are given as lists over all cells.
-use Rattle.std.proofs.Common.{◌≡◌, ℕ, zero, suc, ◌+◌, ◌<◌, None, List, length, get_or, map, take, refl, ap, ◌∙◌, arith}
-use Rattle.std.specs.List.{range_with_len}
+use Rattle.problem_builder.proofs.Common.{◌≡◌, ℕ, zero, suc, ◌+◌, ◌<◌, None, List, length, get_or, map, take, refl, ap, ◌∙◌, arith, range_with_len, NoFlow}
+use Rattle.problem_builder.proofs.Common.{FlowModel, cell_count, kind_of, kinds, last_given, given_heads, Filled, IsKind}
 use Rattle.model_types.specs.declared.given_heads.GivenHeads.{GivenHeads}
 use Rattle.model_types.specs.declared.kind.Kind.{Kind}
-use Rattle.model_types.specs.declared.kind.Kind.TheVariants.{NoFlow}
-use Rattle.model_types.specs.declared.model.FlowModel.{FlowModel}
-use Rattle.model_types.specs.Cells.{cell_count}
-use Rattle.model_types.specs.Kinds.{kind_of, kinds, last_given, given_heads}
-use Rattle.problem_builder.specs.Filled.{Filled}
-use Rattle.problem_builder.specs.PeriodTables.{IsKind}
 
 over_range : {X : Type 0} (f : ℕ → X) (a n i : ℕ) (d : X) → i < n → get_or (map f (range_with_len a n)) i d ≡ f (a + i)
 over_range f a zero i d lt = absurd (omega (arith, lt))

@@ -1,13 +1,6 @@
 -- The numbers of the arrays of RCH and EVT at a cell that an option chooses.
-use Rattle.std.proofs.Common.{◌≡◌, ℕ, zero, suc, true, false, List, refl, arith, ℤ, pos, negsuc}
-use Rattle.std.proofs.lemmas.Bool.{false≢true, ne_eqb}
-use Rattle.decimal_input.specs.Canonical.{IsDec}
-use Rattle.model_types.specs.declared.model.FlowModel.{FlowModel}
-use Rattle.model_types.specs.Cells.{place_in_layer}
-use Rattle.model_types.specs.Layers.{dec_at}
-use Rattle.model_types.specs.Receivers.{is_int, is_chosen}
-use Rattle.model_types.specs.Times.{period_at}
-use Rattle.model_types.specs.Valid.{IsPeriod}
+use Rattle.problem_builder.proofs.Common.{◌≡◌, ℕ, zero, suc, true, false, List, refl, arith, ℤ, pos, negsuc, false≢true, ne_eqb, IsDec, FlowModel}
+use Rattle.problem_builder.proofs.Common.{place_in_layer, dec_at, is_int, is_chosen, period_at, IsPeriod}
 use Rattle.problem_builder.proofs.Elevations.{dec_valid}
 
 -- option 0 chooses no cell

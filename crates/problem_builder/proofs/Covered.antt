@@ -1,16 +1,9 @@
 -- Active cells above a cell, layer by layer.
-use Rattle.std.proofs.Common.{◌≡◌, ℕ, suc, ◌+◌, ◌*◌, ◌-◌, ◌/◌, ◌%◌, ◌<◌, ◌≤◌, Bool, true, false, [], ◌∷◌, ◌++◌, refl, sym, ap, ◌∙◌, arith}
-use Rattle.std.specs.Prelude.{not, ◌||◌}
-use Rattle.std.specs.List.{range_with_len, list_any}
+use Rattle.problem_builder.proofs.Common.{◌≡◌, ℕ, suc, ◌+◌, ◌*◌, ◌-◌, ◌/◌, ◌%◌, ◌<◌, ◌≤◌, Bool, true, false, [], ◌∷◌, ◌++◌, refl, sym, ap, ◌∙◌, arith, not}
+use Rattle.problem_builder.proofs.Common.{◌||◌, range_with_len, list_any, div-add-mod', div-mul-add, mod-mul-add, mod_below, FlowModel, layer_size, layer_of}
+use Rattle.problem_builder.proofs.Common.{place_in_layer, HasSize, is_active, is_highest, range_more}
 use Rattle.std.proofs.lemmas.List.Folds.{list_any-append}
-use Rattle.std.proofs.lemmas.Nat.{div-add-mod', div-mul-add, mod-mul-add, mod_below}
-use Rattle.model_types.specs.declared.model.FlowModel.{FlowModel}
-use Rattle.model_types.specs.Cells.{layer_size, layer_of, place_in_layer}
-use Rattle.model_types.specs.Grids.{HasSize}
-use Rattle.model_types.specs.Layers.{is_active}
-use Rattle.model_types.specs.Receivers.{is_highest}
 use Rattle.model_types.proofs.Numbering.{size_some}
-use Rattle.model_types.proofs.Ranks.{range_more}
 
 range_last : (k : ℕ) → range_with_len 0 (suc k) ≡ range_with_len 0 k ++ k ∷ []
 range_last k = range_more 0 k ∙ ap (λ q. range_with_len 0 k ++ q ∷ []) (let e : 0 + k ≡ k = omega arith in e)

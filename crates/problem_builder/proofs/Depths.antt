@@ -1,19 +1,9 @@
 -- Extinction depths and elevations are in range.
-use Rattle.std.proofs.Common.{◌^◌, refl, arith, ℤ, pos, ◌-ℤ◌, ◌≤ℤ◌}
+use Rattle.problem_builder.proofs.Common.{◌^◌, refl, arith, ℤ, pos, ◌-ℤ◌, ◌≤ℤ◌, w64, ints, Dec, number, IsSignedFloor, IsSignedCeiling, one_floor, one_ceiling}
+use Rattle.problem_builder.proofs.Common.{cancel_right, mul_mono_right, IsHead, EvapSource, IsEvapValid, IsHeadPair}
 use Rattle.std.specs.Prelude.{FitsSigned}
-use Rattle.std.specs.Int.{w64}
-use Rattle.std.proofs.lemmas.Int.{ints}
-use Rattle.decimal_input.specs.declared.dec.Dec.{Dec}
-use Rattle.decimal_input.specs.Canonical.{number}
 use Rattle.decimal_input.specs.Fractions.{den}
-use Rattle.decimal_input.specs.Wholes.{IsSignedFloor, IsSignedCeiling}
-use Rattle.decimal_input.proofs.FloorLaws.{one_floor, one_ceiling}
-use Rattle.decimal_input.proofs.Signs.{cancel_right, mul_mono_right}
-use Rattle.step_problem.specs.Conditions.{IsHead}
-use Rattle.model_types.specs.Receivers.{EvapSource}
-use Rattle.model_types.specs.Valid.{IsEvapValid}
 use Rattle.problem_builder.specs.Depths.{IsDepth}
-use Rattle.problem_builder.specs.InputBounds.{IsHeadPair}
 use Rattle.problem_builder.proofs.Fits.{not_negative, floor_not_negative, floor_below, head_pair_range}
 use Rattle.problem_builder.proofs.HeadRange.{floor_in_range}
 

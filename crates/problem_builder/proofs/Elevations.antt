@@ -1,17 +1,9 @@
 -- Elevations of a valid model are numbers of the input, and a bed is one where its elevations differ.
-use Rattle.std.proofs.Common.{◌≡◌, ℕ, zero, suc, ◌+◌, ◌-◌, ◌<◌, ◌≤◌, inl, inr, Bool, true, false, cond, List, [], ◌∷◌, length, get_or, refl, sym, ap, ◌∙◌, subst, arith, All, pos, ◌*ℤ◌}
-use Rattle.std.proofs.lemmas.Int.{ints}
-use Rattle.std.proofs.lemmas.Bool.{cases_lt}
-use Rattle.decimal_input.specs.declared.dec.Dec.{Dec}
-use Rattle.decimal_input.specs.Canonical.{IsDec, number}
-use Rattle.decimal_input.specs.Fractions.{Fraction}
+use Rattle.problem_builder.proofs.Common.{◌≡◌, ℕ, zero, suc, ◌+◌, ◌-◌, ◌<◌, ◌≤◌, inl, inr, Bool, true, false, cond, List, [], ◌∷◌, length, get_or, refl, sym}
+use Rattle.problem_builder.proofs.Common.{ap, ◌∙◌, subst, arith, All, pos, ◌*ℤ◌, ints, cases_lt, Dec, IsDec, number, Fraction, FlowModel, cell_count}
+use Rattle.problem_builder.proofs.Common.{layer_size, no_number, dec_at, is_active, has_bed, top_at, bottom_at, lowest, bed_thickness, IsModel, IsBedValid}
+use Rattle.problem_builder.proofs.Common.{nat_lt, no_gap}
 use Rattle.decimal_input.proofs.OneNumber.{one_number}
-use Rattle.model_types.specs.declared.model.FlowModel.{FlowModel}
-use Rattle.model_types.specs.Cells.{cell_count, layer_size}
-use Rattle.model_types.specs.Layers.{no_number, dec_at, is_active, has_bed, top_at, bottom_at, lowest, bed_thickness}
-use Rattle.model_types.specs.Valid.{IsModel, IsBedValid}
-use Rattle.std.specs.Prelude.{nat_lt}
-use Rattle.conductance_bounds.proofs.FaceBounds.{no_gap}
 
 no_number_valid : IsDec no_number
 no_number_valid = record { few = omega arith; form = inl (refl, refl, refl); above = omega (arith, ints); below = omega (arith, ints) }

@@ -1,14 +1,8 @@
 -- Steps that are equally long have the same factors.
-use Rattle.std.proofs.Common.{◌≡◌, ℕ, Some}
-use Rattle.decimal_input.specs.declared.dec.Dec.{Dec}
-use Rattle.decimal_input.specs.Canonical.{size}
-use Rattle.model_types.specs.declared.model.FlowModel.{FlowModel}
-use Rattle.model_types.specs.Times.{period_at}
-use Rattle.model_types.specs.Valid.{number_one}
+use Rattle.problem_builder.proofs.Common.{◌≡◌, ℕ, Some, Dec, size, FlowModel, period_at, number_one, power_term, IsGrown, IsUsable, HasEvenSteps}
+use Rattle.problem_builder.proofs.Common.{AreEvenFactors}
 use Rattle.conductance_bounds.specs.declared.factors.Factors.{Factors}
-use Rattle.conductance_bounds.specs.Growth.{power_term, IsGrown, IsUsable}
 use Rattle.conductance_bounds.proofs.Equal.{equal_powers}
-use Rattle.problem_builder.specs.StepTables.{HasEvenSteps, AreEvenFactors}
 
 even_grown : (t : Dec) (steps n : ℕ) (f : Factors) → t ≡ number_one → IsGrown (size t) steps 1 f → IsGrown (size t) steps n f
 unfolding power_term

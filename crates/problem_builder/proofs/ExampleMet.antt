@@ -1,27 +1,9 @@
 -- The example meets all that a problem of its step is built of.
-use Rattle.std.proofs.Common.{ℕ, zero, suc, ◌<◌, inl, inr, cond, Some, None, List, [], ◌∷◌, ◌-◌, get_or, refl, arith, All, pos}
-use Rattle.std.specs.Prelude.{not, ◌&&◌, ◌==◌}
-use Rattle.std.specs.Option.{option_to_list}
-use Rattle.std.specs.List.{Contains}
-use Rattle.std.proofs.lemmas.Bool.{false≢true}
-use Rattle.std.proofs.lemmas.Int.{ints}
-use Rattle.decimal_input.specs.declared.dec.Dec.{Dec}
-use Rattle.decimal_input.specs.Canonical.{IsDec}
-use Rattle.decimal_input.specs.Decimals.{scaled}
-use Rattle.decimal_input.specs.Ratios.{ratio}
-use Rattle.step_problem.specs.Conditions.{IsHead}
-use Rattle.model_types.specs.Grids.{IsGrid}
-use Rattle.model_types.specs.Heads.{start_head}
-use Rattle.model_types.specs.declared.period.Period.{Period}
-use Rattle.model_types.specs.Cells.{place_in_layer}
-use Rattle.model_types.specs.Layers.{dec_at}
-use Rattle.model_types.specs.Numbers.{IsPositive, IsNotNegative, IsHeadNumber, IsThick}
-use Rattle.model_types.specs.Sources.{evap_sources}
-use Rattle.model_types.specs.Receivers.{EvapSource, is_chosen}
-use Rattle.model_types.specs.Times.{times, no_period}
-use Rattle.model_types.specs.Valid.{IsModel, IsCellValid, IsPeriod, IsEvapValid, IsEntryValid}
+use Rattle.problem_builder.proofs.Common.{ℕ, zero, suc, ◌<◌, inl, inr, cond, Some, None, List, [], ◌∷◌, ◌-◌, get_or, refl, arith, All, pos, not, ◌&&◌, ◌==◌}
+use Rattle.problem_builder.proofs.Common.{option_to_list, Contains, false≢true, ints, Dec, IsDec, scaled, ratio, IsHead, IsGrid, start_head, Period}
+use Rattle.problem_builder.proofs.Common.{place_in_layer, dec_at, IsPositive, IsNotNegative, IsHeadNumber, IsThick, evap_sources, EvapSource, is_chosen, times}
+use Rattle.problem_builder.proofs.Common.{no_period, IsModel, IsCellValid, IsPeriod, IsEvapValid, IsEntryValid, AreGridHeads, HeadsEnclose}
 use Rattle.problem_builder.specs.Example.{IsBuildable, whole, thousandths, example_grid, example_period, example_model, example_time, example_bound, example_heads}
-use Rattle.problem_builder.specs.GridHeads.{AreGridHeads, HeadsEnclose}
 
 none : {X : Type 0} (P : X → Type 0) → All P []
 none P i d lt = absurd (omega (arith, lt))

@@ -1,17 +1,7 @@
 -- The faces of a variable cell: both their cells lie in the grid, and are active where the cell behind is.
-use Rattle.std.proofs.Common.{◌≡◌, ℕ, ◌+◌, ◌%◌, ◌<◌, ◌≤◌, inl, inr, true, Option, Some, None, sym, ap, ◌∙◌, arith, All}
-use Rattle.model_types.specs.declared.face.Face.{Face}
-use Rattle.model_types.specs.declared.grid.Grid.{Grid}
-use Rattle.model_types.specs.declared.model.FlowModel.{FlowModel}
-use Rattle.model_types.specs.Cells.{cell_count}
-use Rattle.model_types.specs.Faces.{stride, span, has_after, faces}
-use Rattle.model_types.specs.Grids.{HasSize}
-use Rattle.model_types.specs.Layers.{is_active}
-use Rattle.model_types.proofs.Members.{In, All-In}
-use Rattle.model_types.proofs.Leads.{IsFaceOf, faces_are, first_within, end_within, after_within, before_le, before_back}
-use Rattle.std.proofs.lemmas.Nat.{div-add-mod'}
-use Rattle.problem_builder.specs.Made.{IsVariableCell, HasPair}
-use Rattle.problem_builder.specs.Tables.{Inputs, AreInputs}
+use Rattle.problem_builder.proofs.Common.{◌≡◌, ℕ, ◌+◌, ◌%◌, ◌<◌, ◌≤◌, inl, inr, true, Option, Some, None, sym, ap, ◌∙◌, arith, All, Face, Grid, FlowModel}
+use Rattle.problem_builder.proofs.Common.{cell_count, stride, span, has_after, faces, HasSize, is_active, In, All-In, IsFaceOf, faces_are, first_within}
+use Rattle.problem_builder.proofs.Common.{end_within, after_within, before_le, before_back, div-add-mod', IsVariableCell, HasPair, Inputs, AreInputs}
 use Rattle.problem_builder.proofs.ActiveCells.{variable_active}
 
 mod_at_most : (c n : ℕ) → c % n ≤ c

@@ -1,8 +1,6 @@
 -- Tables that are filled cell by cell.
-use Rattle.std.proofs.Common.{◌≡◌, ℕ, ◌+◌, ◌<◌, inl, inr, List, [], ◌∷◌, ◌++◌, length, get_or, sym, ap, ◌∙◌, subst, arith}
-use Rattle.std.proofs.lemmas.Bool.{cases_order}
-use Rattle.std.proofs.lemmas.List.{ext_get_or, get_or_append_left, get_or_push, length_push}
-use Rattle.problem_builder.specs.Filled.{Filled}
+use Rattle.problem_builder.proofs.Common.{◌≡◌, ℕ, ◌+◌, ◌<◌, inl, inr, List, [], ◌∷◌, ◌++◌, length, get_or, sym, ap, ◌∙◌, subst, arith, cases_order, ext_get_or}
+use Rattle.problem_builder.proofs.Common.{get_or_append_left, get_or_push, length_push, Filled}
 
 pub none_filled : {X : Type 0} (P : ℕ → X → Type 0) (d : X) (xs : List X) → xs ≡ [] → Filled P d 0 xs
 none_filled P d xs e = record { count = ap length e; each = (λ c lt. absurd (omega (arith, lt))) }

@@ -1,37 +1,14 @@
 -- Rivers and evapotranspirations of a cell: bounds in order, heads in range.
-use Rattle.std.proofs.Common.{◌≡◌, ℕ, ◌≤◌, ◌^◌, inl, inr, Bool, Some, refl, sym, subst, arith, All, ℤ, pos, ◌+ℤ◌, ◌≤ℤ◌}
-use Rattle.std.proofs.lemmas.Int.{ints, by_lt_z}
-use Rattle.std.proofs.lemmas.Option.{none-some}
-use Rattle.decimal_input.specs.Fractions.{Fraction, den}
-use Rattle.decimal_input.specs.Decimals.{with_sign}
-use Rattle.decimal_input.proofs.Signs.{cancel_right, mul_mono_right}
-use Rattle.decimal_input.specs.declared.dec.Dec.{Dec}
-use Rattle.decimal_input.specs.Canonical.{number, size}
-use Rattle.decimal_input.proofs.Orders.{AtMost-refl, AtMost-trans}
-use Rattle.decimal_input.specs.Wholes.{IsSignedFloor, IsSignedCeiling}
-use Rattle.decimal_input.proofs.FloorLaws.{one_floor, one_ceiling, floor_ceiling_enclose}
-use Rattle.step_problem.specs.declared.entry.River.{River}
-use Rattle.step_problem.specs.declared.entry.Evap.{Evap}
-use Rattle.step_problem.specs.Entries.{Entries}
-use Rattle.step_problem.specs.Conditions.{RiverFits, EvapFits, IsHead}
-use Rattle.model_types.specs.declared.entry.Entry.{Entry}
-use Rattle.model_types.specs.declared.entry.Entry.TheVariants.{Well, River as RiverEntry, Drain as DrainEntry, General as GeneralEntry}
-use Rattle.model_types.specs.declared.model.FlowModel.{FlowModel}
-use Rattle.model_types.specs.Numbers.{IsPositive, IsHeadNumber}
-use Rattle.model_types.specs.Receivers.{EvapSource}
-use Rattle.model_types.specs.Sources.{RiverSource, as_river, local_entries, river_sources, evap_sources}
-use Rattle.model_types.specs.Valid.{IsEntryValid, IsEvapValid}
-use Rattle.model_types.proofs.Members.{In-All, filter_map-In}
-use Rattle.conductance_bounds.specs.Terms.{Term, Holds}
-use Rattle.conductance_bounds.specs.Terms.Side.{Lower, Upper}
-use Rattle.conductance_bounds.specs.Pairs.{IsPair, IsCapped}
-use Rattle.conductance_bounds.specs.Formulas.{evap_term}
+use Rattle.problem_builder.proofs.Common.{◌≡◌, ℕ, ◌≤◌, ◌^◌, inl, inr, Bool, Some, refl, sym, subst, arith, All, ℤ, pos, ◌+ℤ◌, ◌≤ℤ◌, ints, by_lt_z, none-some}
+use Rattle.problem_builder.proofs.Common.{Fraction, with_sign, cancel_right, mul_mono_right, Dec, number, size, AtMost-refl, AtMost-trans, IsSignedFloor}
+use Rattle.problem_builder.proofs.Common.{IsSignedCeiling, one_floor, one_ceiling, floor_ceiling_enclose, River, Evap, Entries, RiverFits, EvapFits, IsHead}
+use Rattle.problem_builder.proofs.Common.{Entry, Well, FlowModel, IsPositive, IsHeadNumber, EvapSource, RiverSource, as_river, local_entries, river_sources}
+use Rattle.problem_builder.proofs.Common.{evap_sources, IsEntryValid, IsEvapValid, In-All, filter_map-In, Term, Holds, Lower, Upper, IsPair, IsCapped}
+use Rattle.problem_builder.proofs.Common.{evap_term, IsCond, IsHeadPair, IsRiver, IsEvap, IsCellOf, IsVariableCell, Inputs, AreInputs, widths_of}
+use Rattle.decimal_input.specs.Fractions.{den}
+use Rattle.model_types.specs.declared.entry.Entry.TheVariants.{River as RiverEntry, Drain as DrainEntry, General as GeneralEntry}
 use Rattle.conductance_bounds.proofs.Enclosing.{bound_on}
 use Rattle.conductance_bounds.proofs.Whole.{floor-ceiling}
-use Rattle.problem_builder.specs.InputBounds.{IsCond, IsHeadPair}
-use Rattle.problem_builder.specs.Cells.{IsRiver, IsEvap, IsCellOf}
-use Rattle.problem_builder.specs.Made.{IsVariableCell}
-use Rattle.problem_builder.specs.Tables.{Inputs, AreInputs, widths_of}
 use Rattle.problem_builder.proofs.ActiveCells.{variable_active}
 use Rattle.problem_builder.proofs.HeadRange.{floor_in_range, ceiling_in_range}
 use Rattle.problem_builder.proofs.Zipped.{zip_all}

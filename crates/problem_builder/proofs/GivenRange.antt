@@ -1,13 +1,6 @@
 -- The bounds of a head between two heads in range are in range.
-use Rattle.std.proofs.Common.{◌≡◌, ℕ, ◌+◌, ◌*◌, ◌-◌, ◌≤◌, ◌^◌, arith, ℤ, pos, neg_ℤ, ◌*ℤ◌, ◌≤ℤ◌}
-use Rattle.std.specs.Int.{int_min, int_max}
-use Rattle.std.proofs.lemmas.Int.{ints, int_min_is, int_max_is}
-use Rattle.decimal_input.specs.declared.dec.Dec.{Dec}
-use Rattle.decimal_input.specs.Canonical.{number}
-use Rattle.decimal_input.proofs.Signs.{mul_mono_right}
-use Rattle.step_problem.specs.Conditions.{IsHead, head_limit}
-use Rattle.model_types.specs.Numbers.{IsHeadNumber}
-use Rattle.conductance_bounds.specs.Parts.{IsGivenPair, IsFloorOf, IsCeilingOf, blend}
+use Rattle.problem_builder.proofs.Common.{◌≡◌, ℕ, ◌+◌, ◌*◌, ◌-◌, ◌≤◌, ◌^◌, arith, ℤ, pos, neg_ℤ, ◌*ℤ◌, ◌≤ℤ◌, int_min, int_max, ints, int_min_is, int_max_is}
+use Rattle.problem_builder.proofs.Common.{Dec, number, mul_mono_right, IsHead, head_limit, IsHeadNumber, IsGivenPair, IsFloorOf, IsCeilingOf, blend}
 use Rattle.problem_builder.proofs.HeadRange.{floor_in_range, ceiling_in_range}
 
 -- z lies from -b to b, for the limit of heads in units of 10 ^ -18 of theirs

@@ -1,18 +1,7 @@
 -- The entries of CHD lists are valid.
-use Rattle.std.proofs.Common.{◌≡◌, ℕ, zero, suc, inl, inr, Bool, true, false, cond, Option, Some, None, List, [], ◌∷◌, take, refl, sym, subst, All}
-use Rattle.std.specs.Prelude.{reverse, ◌==◌, IfSome}
-use Rattle.model_types.specs.Numbers.{IsHeadNumber}
-use Rattle.std.specs.List.{find, flat_map}
-use Rattle.std.proofs.lemmas.List.{reverse-append}
-use Rattle.std.proofs.lemmas.List.Elements.{All-nil, All-append}
-use Rattle.std.proofs.lemmas.Option.{none-some}
-use Rattle.model_types.specs.declared.entry.Given.{Given}
-use Rattle.model_types.specs.declared.period.Period.{Period}
-use Rattle.model_types.specs.declared.model.FlowModel.{FlowModel}
-use Rattle.model_types.specs.Cells.{cell_count}
-use Rattle.model_types.specs.Kinds.{given_in, last_given}
-use Rattle.model_types.specs.Valid.{IsModel, IsPeriod, IsGivenValid}
-use Rattle.model_types.proofs.Members.{In, In-All}
+use Rattle.problem_builder.proofs.Common.{◌≡◌, ℕ, zero, suc, inl, inr, Bool, true, false, cond, Option, Some, None, List, [], ◌∷◌, take, refl, sym, subst, All}
+use Rattle.problem_builder.proofs.Common.{reverse, ◌==◌, IfSome, IsHeadNumber, find, flat_map, reverse-append, All-nil, All-append, none-some, Given, Period}
+use Rattle.problem_builder.proofs.Common.{FlowModel, cell_count, given_in, last_given, IsModel, IsPeriod, IsGivenValid, In, In-All}
 use Rattle.problem_builder.proofs.Members.{some_same, In-append}
 
 first_or : {X : Type 0} (b : Bool) (y : X) (ys : List X) (x : X) (o : Option X) → (o ≡ Some x → In ys x) → cond b (Some y) o ≡ Some x → In (y ∷ ys) x

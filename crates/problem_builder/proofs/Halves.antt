@@ -1,27 +1,9 @@
 -- The halves of branches, and the bed between two layers.
-use Rattle.std.proofs.Common.{Bool, cond, Some, None, ◌≡◌, ℕ, zero, suc, ◌+◌, ◌*◌, ◌/◌, ◌<◌, ◌⊎◌, inl, inr, true, false, refl, sym, ap, ◌∙◌, arith}
-use Rattle.std.specs.Prelude.{◌==◌}
-use Rattle.std.proofs.lemmas.Nat.{mod_below}
-use Rattle.std.proofs.lemmas.Bool.{ne_eqb}
-use Rattle.decimal_input.specs.Canonical.{size}
-use Rattle.std.proofs.lemmas.Option.{none-some}
-use Rattle.model_types.specs.declared.face.Axis.{Axis}
-use Rattle.model_types.specs.declared.face.Axis.TheVariants.{Vertical}
-use Rattle.model_types.specs.declared.face.Face.{Face}
-use Rattle.model_types.specs.declared.grid.Grid.{Grid}
-use Rattle.model_types.specs.Faces.{stride, has_after, face_after}
-use Rattle.model_types.specs.declared.model.FlowModel.{FlowModel}
-use Rattle.model_types.specs.Cells.{layer_size, column_of, row_of}
-use Rattle.model_types.specs.Layers.{no_number, delr_at, delc_at, thickness, bed_thickness, vkcb_at, bottom_at, lowest}
-use Rattle.conductance_bounds.proofs.SpanBounds.{thick_positive}
-use Rattle.model_types.specs.Numbers.{IsPositive}
-use Rattle.model_types.specs.Valid.{IsModel, IsBedValid}
-use Rattle.conductance_bounds.specs.declared.span.Span.{Span}
-use Rattle.conductance_bounds.specs.Calls.{IsBed}
-use Rattle.conductance_bounds.specs.Terms.Term.{Quotient}
-use Rattle.conductance_bounds.specs.Branches.{vertical_of, resistance_sum}
-use Rattle.conductance_bounds.specs.Formulas.{face_term, area_term, bed_term, vertical_half_term}
-use Rattle.problem_builder.specs.Widths.{IsBedOf, IsNoBed, layer_half}
+use Rattle.problem_builder.proofs.Common.{Bool, cond, Some, None, ◌≡◌, ℕ, zero, suc, ◌+◌, ◌*◌, ◌/◌, ◌<◌, ◌⊎◌, inl, inr, true, false, refl, sym, ap, ◌∙◌, arith}
+use Rattle.problem_builder.proofs.Common.{◌==◌, mod_below, ne_eqb, size, none-some, Axis, Vertical, Face, Grid, stride, has_after, face_after, FlowModel}
+use Rattle.problem_builder.proofs.Common.{layer_size, column_of, row_of, no_number, delr_at, delc_at, thickness, bed_thickness, vkcb_at, bottom_at, lowest}
+use Rattle.problem_builder.proofs.Common.{thick_positive, IsPositive, IsModel, IsBedValid, Span, IsBed, Quotient, vertical_of, resistance_sum, face_term}
+use Rattle.problem_builder.proofs.Common.{area_term, bed_term, vertical_half_term, IsBedOf, IsNoBed, layer_half}
 use Rattle.problem_builder.proofs.Members.{some_same}
 
 pub delr_positive : (m : FlowModel) (c : ℕ) → IsModel m → IsPositive (delr_at m c)

@@ -1,9 +1,6 @@
 -- Indices of variable cells, one after the other.
-use Rattle.std.proofs.Common.{◌≡◌, ℕ, suc, ◌+◌, ◌≤◌, true, false, sym, ap, ◌∙◌, arith}
-use Rattle.model_types.specs.declared.model.FlowModel.{FlowModel}
-use Rattle.model_types.specs.Kinds.{is_variable, index_of}
-use Rattle.model_types.proofs.Ranks.{rank, rank_passes, rank_fails, rank_few}
-use Rattle.flow_equations.proofs.Links.{index_is}
+use Rattle.problem_builder.proofs.Common.{◌≡◌, ℕ, suc, ◌+◌, ◌≤◌, true, false, sym, ap, ◌∙◌, arith, FlowModel, is_variable, index_of, rank, rank_passes}
+use Rattle.problem_builder.proofs.Common.{rank_fails, rank_few, index_is}
 
 module _ (m : FlowModel) (p : ℕ) where
   pub first_index : index_of m p 0 ≡ 0

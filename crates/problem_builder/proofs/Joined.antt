@@ -1,21 +1,7 @@
 -- Lists of a cell's entries, put together from their kinds.
-use Rattle.std.proofs.Common.{◌≡◌, ℕ, Option, List, [], ◌∷◌, ◌++◌, map, sym, ap, ◌∙◌, subst}
-use Rattle.std.specs.Option.{option_to_list}
-use Rattle.std.specs.List.{AllZip}
-use Rattle.decimal_input.specs.declared.dec.Dec.{Dec}
-use Rattle.step_problem.specs.declared.heads.Bound.{Bound}
-use Rattle.step_problem.specs.declared.entry.Flow.{Flow}
-use Rattle.step_problem.specs.declared.entry.Fixed.{Fixed}
-use Rattle.model_types.specs.declared.face.Face.{Face}
-use Rattle.model_types.specs.declared.model.FlowModel.{FlowModel}
-use Rattle.model_types.specs.declared.time_steps.TimeStep.{TimeStep}
-use Rattle.model_types.specs.Sources.{FixedSource, FlowSource}
-use Rattle.model_types.specs.Sources.FixedSource.{ToConstant, ToGeneral, FromStorage}
-use Rattle.model_types.specs.Sources.FlowSource.{Pumped, Received}
-use Rattle.problem_builder.specs.Thicknesses.{Thicknesses}
-use Rattle.problem_builder.specs.Cells.{IsConstant, IsFixed, IsFlow, IsReceived}
-use Rattle.problem_builder.specs.LocalBounds.{IsGeneralSource, IsWellSource}
-use Rattle.problem_builder.specs.Tables.{BothOrNone}
+use Rattle.problem_builder.proofs.Common.{◌≡◌, ℕ, Option, List, [], ◌∷◌, ◌++◌, map, sym, ap, ◌∙◌, subst, option_to_list, AllZip, Dec, Bound, Flow, Fixed, Face}
+use Rattle.problem_builder.proofs.Common.{FlowModel, TimeStep, FixedSource, FlowSource, ToConstant, ToGeneral, FromStorage, Pumped, Received, Thicknesses}
+use Rattle.problem_builder.proofs.Common.{IsConstant, IsFixed, IsFlow, IsReceived, IsGeneralSource, IsWellSource, BothOrNone}
 use Rattle.problem_builder.proofs.Pushed.{AllZip-join, AllZip-option}
 
 pub AllZip-weaker : {X Y : Type 0} (R S : X → Y → Type 0) → ((x : X) (y : Y) → R x y → S x y) → (xs : List X) (ys : List Y) → AllZip R xs ys → AllZip S xs ys

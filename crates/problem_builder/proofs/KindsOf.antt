@@ -1,11 +1,6 @@
 -- What the kind of a cell says of it.
-use Rattle.std.proofs.Common.{◌≡◌, ℕ, Bool, true, false, cond, refl}
-use Rattle.std.specs.Prelude.{not, ◌&&◌}
-use Rattle.std.proofs.lemmas.Bool.{false≢true}
-use Rattle.model_types.specs.declared.model.FlowModel.{FlowModel}
-use Rattle.model_types.specs.declared.kind.Kind.TheVariants.{NoFlow, Constant, Variable}
-use Rattle.model_types.specs.Kinds.{is_variable, is_constant, kind_of}
-use Rattle.model_types.specs.Layers.{is_active}
+use Rattle.problem_builder.proofs.Common.{◌≡◌, ℕ, Bool, true, false, cond, refl, not, ◌&&◌, false≢true, FlowModel, NoFlow, Constant, Variable, is_variable}
+use Rattle.problem_builder.proofs.Common.{is_constant, kind_of, is_active}
 
 variable_case : (v k : Bool) → cond v Variable (cond k Constant NoFlow) ≡ Variable → v ≡ true
 variable_case true k e = refl

@@ -1,3 +1,4 @@
+mod Common
 pub mod Pushed
 pub mod Zipped
 pub mod Appended

@@ -1,25 +1,11 @@
 -- Variable cells in their list, and sources in theirs.
-use Rattle.std.proofs.Common.{◌≡◌, ℕ, zero, suc, ◌+◌, ◌<◌, ◌⊎◌, inl, inr, Bool, true, false, cond, Option, Some, None, List, [], ◌∷◌, ◌++◌, map, refl, sym, ap, ◌∙◌, subst, arith, All}
-use Rattle.std.specs.List.{filter, filter_map, range_with_len}
-use Rattle.std.specs.Option.{option_to_list}
-use Rattle.std.proofs.lemmas.Bool.{false≢true}
-use Rattle.std.proofs.lemmas.Option.{none-some}
-use Rattle.decimal_input.specs.declared.dec.Dec.{Dec}
-use Rattle.model_types.specs.declared.entry.Entry.{Entry}
-use Rattle.model_types.specs.declared.entry.Entry.TheVariants.{Well, River as RiverEntry, Drain as DrainEntry, General as GeneralEntry}
-use Rattle.model_types.specs.declared.face.Face.{Face}
-use Rattle.model_types.specs.declared.model.FlowModel.{FlowModel}
-use Rattle.model_types.specs.Kinds.{is_variable, variable_below}
-use Rattle.model_types.specs.Receivers.{recharge_at}
-use Rattle.model_types.specs.Times.{period_at}
-use Rattle.model_types.specs.Sources.{FixedSource, FlowSource, constant_faces, flow_sources, fixed_sources, storage_at, as_well, as_general, local_entries}
-use Rattle.model_types.specs.Sources.FixedSource.{ToConstant, ToGeneral, FromStorage}
-use Rattle.model_types.specs.Sources.FlowSource.{Pumped, Received}
-use Rattle.model_types.specs.Numbers.{IsHeadNumber}
-use Rattle.model_types.specs.Valid.{IsEntryValid}
-use Rattle.model_types.proofs.Members.{In, In-All, map-In, filter_map-In, In-get_or}
-use Rattle.model_types.proofs.Ranks.{passing, rank, rank_below, at_rank}
-use Rattle.flow_equations.proofs.Links.{below_is}
+use Rattle.problem_builder.proofs.Common.{◌≡◌, ℕ, zero, suc, ◌+◌, ◌<◌, ◌⊎◌, inl, inr, Bool, true, false, cond, Option, Some, None, List, [], ◌∷◌, ◌++◌, map}
+use Rattle.problem_builder.proofs.Common.{refl, sym, ap, ◌∙◌, subst, arith, All, filter, filter_map, range_with_len, option_to_list, false≢true, none-some, Dec}
+use Rattle.problem_builder.proofs.Common.{Entry, Well, Face, FlowModel, is_variable, variable_below, recharge_at, period_at, FixedSource, FlowSource}
+use Rattle.problem_builder.proofs.Common.{constant_faces, flow_sources, fixed_sources, storage_at, as_well, as_general, local_entries, ToConstant, ToGeneral}
+use Rattle.problem_builder.proofs.Common.{FromStorage, Pumped, Received, IsHeadNumber, IsEntryValid, In, In-All, map-In, filter_map-In, In-get_or, passing}
+use Rattle.problem_builder.proofs.Common.{rank, rank_below, at_rank, below_is}
+use Rattle.model_types.specs.declared.entry.Entry.TheVariants.{River as RiverEntry, Drain as DrainEntry, General as GeneralEntry}
 
 cond-In : (b : Bool) (y : ℕ) (ys : List ℕ) (x : ℕ) → In (cond b (y ∷ ys) ys) x → ((y ≡ x) × (b ≡ true)) ⊎ In ys x
 cond-In true y ys x (inl e) = inl (e, refl)

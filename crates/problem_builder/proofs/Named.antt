@@ -1,25 +1,10 @@
 -- The cells that a problem names are active; in a transient period each has a branch to its old head.
-use Rattle.std.proofs.Common.{◌≡◌, ℕ, ◌<◌, inl, inr, Bool, true, false, cond, Some, None, List, ◌++◌, length, map, refl, sym, ◌∙◌, subst}
-use Rattle.std.specs.List.{Contains, filter_map}
-use Rattle.std.specs.Option.{option_to_list}
-use Rattle.step_problem.specs.declared.heads.Bound.{Bound}
-use Rattle.step_problem.specs.declared.entry.Fixed.{Fixed}
-use Rattle.step_problem.specs.Entries.{Entries, entries_at, no_entries}
-use Rattle.model_types.specs.declared.model.FlowModel.{FlowModel}
-use Rattle.model_types.specs.declared.time_steps.TimeStep.{TimeStep}
-use Rattle.model_types.specs.Cells.{cell_count}
-use Rattle.model_types.specs.Grids.{HasSize}
-use Rattle.model_types.specs.Kinds.{is_variable, is_constant, variable_below}
-use Rattle.model_types.specs.Times.{period_at}
-use Rattle.model_types.specs.Sources.{FixedSource, fixed_sources, constant_faces, local_entries, as_general}
-use Rattle.model_types.specs.Sources.FixedSource.{ToConstant, ToGeneral, FromStorage}
-use Rattle.model_types.proofs.Members.{In, In-get_or, Contains-In}
-use Rattle.model_types.proofs.Leads.{passing_are, end_within}
-use Rattle.problem_builder.specs.Thicknesses.{Thicknesses}
-use Rattle.problem_builder.specs.Cells.{IsFixed, IsCellOf}
-use Rattle.problem_builder.specs.GridHeads.{IsActive, IsNamed}
-use Rattle.problem_builder.specs.Problems.{AreCells}
-use Rattle.problem_builder.specs.Stored.{HasOldHeads}
+use Rattle.problem_builder.proofs.Common.{◌≡◌, ℕ, ◌<◌, inl, inr, Bool, true, false, cond, Some, None, List, ◌++◌, length, map, refl, sym, ◌∙◌, subst, Contains}
+use Rattle.problem_builder.proofs.Common.{filter_map, option_to_list, Bound, Fixed, Entries, entries_at, no_entries, FlowModel, TimeStep, cell_count, HasSize}
+use Rattle.problem_builder.proofs.Common.{is_variable, is_constant, variable_below, period_at, FixedSource, fixed_sources, constant_faces, local_entries}
+use Rattle.problem_builder.proofs.Common.{as_general, ToConstant, ToGeneral, FromStorage, In, In-get_or, Contains-In, passing_are, end_within, Thicknesses}
+use Rattle.problem_builder.proofs.Common.{IsFixed, IsCellOf, IsActive, AreCells, HasOldHeads}
+use Rattle.problem_builder.specs.GridHeads.{IsNamed}
 use Rattle.problem_builder.proofs.ActiveCells.{variable_active, constant_active}
 use Rattle.problem_builder.proofs.Members.{variable-In, constant_is}
 use Rattle.problem_builder.proofs.Zipped.{left_of, right_of}

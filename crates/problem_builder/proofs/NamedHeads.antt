@@ -1,14 +1,7 @@
 -- What a CHD list gives each cell.
-use Rattle.std.proofs.Common.{◌≡◌, ℕ, zero, suc, ◌+◌, ◌<◌, inl, inr, cond, Option, Some, None, List, [], ◌∷◌, ◌++◌, length, get_or, set, take, replicate, refl, sym, ap, ◌∙◌, arith, All}
-use Rattle.std.specs.Prelude.{◌==◌}
-use Rattle.std.specs.List.{find}
-use Rattle.std.proofs.lemmas.Bool.{cases_eq, eq-eqb, ne_eqb}
-use Rattle.std.proofs.lemmas.List.{get_or-set_same, get_or-set_other, take_more, reverse-append}
-use Rattle.model_types.specs.declared.entry.Given.{Given}
-use Rattle.model_types.specs.Layers.{no_number}
-use Rattle.model_types.specs.Kinds.{given_in}
-use Rattle.problem_builder.specs.Filled.{Filled}
-use Rattle.problem_builder.specs.PeriodTables.{IsNamed}
+use Rattle.problem_builder.proofs.Common.{◌≡◌, ℕ, zero, suc, ◌+◌, ◌<◌, inl, inr, cond, Option, Some, None, List, [], ◌∷◌, ◌++◌, length, get_or, set, take}
+use Rattle.problem_builder.proofs.Common.{replicate, refl, sym, ap, ◌∙◌, arith, All, ◌==◌, find, cases_eq, eq-eqb, ne_eqb, get_or-set_same, get_or-set_other}
+use Rattle.problem_builder.proofs.Common.{take_more, reverse-append, Given, no_number, given_in, Filled, IsNamed}
 
 given_more : (xs : List Given) (x : Given) (c : ℕ) → given_in (xs ++ x ∷ []) c ≡ cond (x.cell.0 == c) (Some x) (given_in xs c)
 unfolding given_in

@@ -1,33 +1,15 @@
 -- Each rounded number is one number.
-use Rattle.std.proofs.Common.{◌≡◌, ℕ, zero, suc, ◌+◌, ◌-◌, ◌*◌, ◌<◌, ◌≤◌, ◌^◌, inl, inr, Bool, true, false, refl, sym, ap, ◌∙◌, subst, arith, ℤ, pos, neg_ℤ, ◌-ℤ◌, unsigned_abs}
-use Rattle.std.specs.Prelude.{min}
-use Rattle.std.specs.Int.{int_min, int_max}
-use Rattle.std.proofs.lemmas.Int.{ints}
-use Rattle.std.proofs.lemmas.Bool.{cases_order, false≢true}
-use Rattle.std.proofs.Math.Nat.{mul-le-mul_right}
-use Rattle.decimal_input.specs.declared.dec.Dec.{Dec}
-use Rattle.decimal_input.specs.Canonical.{number, size}
-use Rattle.decimal_input.specs.Decimals.{scaled}
-use Rattle.decimal_input.specs.Ratios.{Ratio, den, plus, times, over, Same}
-use Rattle.decimal_input.specs.Fractions.{Fraction}
-use Rattle.decimal_input.specs.Wholes.{IsFloor, IsCeiling, Passes, IsSignedFloor, IsSignedCeiling}
-use Rattle.decimal_input.proofs.FloorLaws.{one_floor, one_ceiling}
-use Rattle.decimal_input.proofs.Orders.{Same-trans, Same-sym}
-use Rattle.scaled_decimal.specs.declared.decimal.Sd.{Sd}
+use Rattle.problem_builder.proofs.Common.{◌≡◌, ℕ, zero, suc, ◌+◌, ◌-◌, ◌*◌, ◌<◌, ◌≤◌, ◌^◌, inl, inr, Bool, true, false, refl, sym, ap, ◌∙◌, subst, arith, ℤ}
+use Rattle.problem_builder.proofs.Common.{pos, neg_ℤ, ◌-ℤ◌, min, int_min, int_max, ints, cases_order, false≢true, mul-le-mul_right, Dec, number, size, scaled}
+use Rattle.problem_builder.proofs.Common.{Ratio, den, over, Same, Fraction, IsFloor, IsCeiling, Passes, IsSignedFloor, IsSignedCeiling, one_floor, one_ceiling}
+use Rattle.problem_builder.proofs.Common.{Same-trans, Same-sym, Sd, Period, Span, Term, Side, other, IsRounded, IsBound, Number, Within, Sum, Product, Quotient}
+use Rattle.problem_builder.proofs.Common.{Lower, Upper, IsSpan, IsPair, IsPast, IsCapped, low_end, high_end, part_term, IsPart, IsGivenPair, blend, IsCond}
+use Rattle.problem_builder.proofs.Common.{IsWellPair, IsHeadPair, IsRechargePair, FlowModel, recharge_term}
+use Rattle.std.proofs.Common.{unsigned_abs}
+use Rattle.decimal_input.specs.Ratios.{plus, times}
 use Rattle.scaled_decimal.specs.Nearest.{IsSd, value, IsDown, IsUp}
 use Rattle.scaled_decimal.proofs.Unique.{one_decimal}
-use Rattle.model_types.specs.declared.period.Period.{Period}
-use Rattle.conductance_bounds.specs.declared.span.Span.{Span}
-use Rattle.conductance_bounds.specs.Terms.{Term, Side, other, IsRounded, IsBound}
-use Rattle.conductance_bounds.specs.Terms.Term.{Number, Within, Sum, Product, Quotient}
-use Rattle.conductance_bounds.specs.Terms.Side.{Lower, Upper}
-use Rattle.conductance_bounds.specs.Thicknesses.{IsSpan}
-use Rattle.conductance_bounds.specs.Pairs.{IsPair, IsPast, IsCapped, IsFlow, low_end, high_end}
-use Rattle.conductance_bounds.specs.Parts.{part_term, IsPart, IsGivenPair, blend}
-use Rattle.problem_builder.specs.InputBounds.{IsCond, IsWellPair, IsHeadPair}
-use Rattle.problem_builder.specs.RechargeBounds.{IsRechargePair}
-use Rattle.model_types.specs.declared.model.FlowModel.{FlowModel}
-use Rattle.conductance_bounds.specs.Formulas.{recharge_term}
+use Rattle.conductance_bounds.specs.Pairs.{IsFlow}
 use Rattle.decimal_input.proofs.SameNumbers.{Same-both}
 
 same_decimal : (r q : Sd) → IsSd r → IsSd q → Same (value r) (value q) → r ≡ q

@@ -1,42 +1,13 @@
 -- A variable cell's entries are one list of each kind.
-use Rattle.std.proofs.Common.{◌≡◌, ℕ, zero, suc, ◌+◌, ◌-◌, ◌<◌, true, Option, Some, None, List, take, refl, sym, ap, ◌∙◌, subst, arith, ℤ, ◌-ℤ◌}
-use Rattle.std.specs.Prelude.{◌==◌}
-use Rattle.decimal_input.specs.Canonical.{size}
-use Rattle.step_problem.specs.declared.heads.Bound.{Bound}
-use Rattle.step_problem.specs.declared.entry.Flow.{Flow}
-use Rattle.step_problem.specs.declared.entry.Link.{Link}
-use Rattle.step_problem.specs.declared.entry.Fixed.{Fixed}
-use Rattle.step_problem.specs.declared.entry.River.{River}
-use Rattle.step_problem.specs.declared.entry.Drain.{Drain}
-use Rattle.step_problem.specs.declared.entry.Evap.{Evap}
-use Rattle.step_problem.specs.Entries.{Entries}
-use Rattle.model_types.specs.declared.entry.Given.{Given}
-use Rattle.model_types.specs.declared.face.Face.{Face}
-use Rattle.model_types.specs.declared.face.Axis.{Axis}
-use Rattle.model_types.specs.declared.face.Axis.TheVariants.{Row, Column, Vertical}
-use Rattle.model_types.specs.declared.model.FlowModel.{FlowModel}
-use Rattle.model_types.specs.declared.time_steps.TimeStep.{TimeStep}
-use Rattle.model_types.specs.Cells.{cell_count, layer_size}
-use Rattle.model_types.specs.Faces.{stride}
-use Rattle.model_types.specs.Grids.{HasSize}
-use Rattle.model_types.specs.Layers.{is_active, thickness, bed_thickness, top_at, bottom_at, lowest, delr_at, delc_at, hk_at, vkcb_at, dec_at}
-use Rattle.model_types.specs.Times.{period_at}
-use Rattle.model_types.specs.Kinds.{is_variable, is_constant, given_in, last_given}
-use Rattle.model_types.specs.Receivers.{EvapSource}
-use Rattle.model_types.specs.Sources.{FixedSource, FlowSource, RiverSource, DrainSource, variable_faces, flow_sources, fixed_sources, river_sources, drain_sources, evap_sources}
-use Rattle.model_types.specs.Sources.FixedSource.{ToConstant, ToGeneral, FromStorage}
-use Rattle.model_types.specs.Sources.FlowSource.{Pumped, Received}
-use Rattle.model_types.proofs.Members.{In}
-use Rattle.model_types.proofs.Leads.{IsFaceOf, passing_are}
-use Rattle.conductance_bounds.specs.Terms.{Term}
-use Rattle.conductance_bounds.specs.Terms.Term.{Number, Within, Quotient}
-use Rattle.conductance_bounds.specs.Branches.{row_term, vertical_term, resistance_sum}
-use Rattle.conductance_bounds.specs.Pairs.{IsCapped}
-use Rattle.conductance_bounds.specs.Parts.{IsGivenPair}
-use Rattle.conductance_bounds.specs.Formulas.{face_term, storage_term, evap_term, column_k_term, vertical_k_at, area_term, bed_term}
-use Rattle.problem_builder.specs.Thicknesses.{Thicknesses, AreThicknesses}
-use Rattle.problem_builder.specs.ConstantHeads.{IsKeptPair, IsGivenOrKept, IsConstantPair}
-use Rattle.problem_builder.specs.Cells.{IsRiver, IsDrain, IsEvap, IsFlow, IsLink, IsFixed, IsCellOf}
+use Rattle.problem_builder.proofs.Common.{◌≡◌, ℕ, zero, suc, ◌+◌, ◌-◌, ◌<◌, true, Option, Some, None, List, take, refl, sym, ap, ◌∙◌, subst, arith, ℤ, ◌-ℤ◌}
+use Rattle.problem_builder.proofs.Common.{◌==◌, size, Bound, Flow, Link, Fixed, River, Drain, Evap, Entries, Given, Face, Axis, Row, Column, Vertical}
+use Rattle.problem_builder.proofs.Common.{FlowModel, TimeStep, cell_count, layer_size, stride, HasSize, is_active, thickness, bed_thickness, top_at, bottom_at}
+use Rattle.problem_builder.proofs.Common.{lowest, delr_at, delc_at, hk_at, vkcb_at, dec_at, period_at, is_variable, is_constant, given_in, last_given}
+use Rattle.problem_builder.proofs.Common.{EvapSource, FixedSource, FlowSource, RiverSource, DrainSource, variable_faces, flow_sources, fixed_sources}
+use Rattle.problem_builder.proofs.Common.{river_sources, drain_sources, evap_sources, ToConstant, ToGeneral, FromStorage, Pumped, Received, In, IsFaceOf}
+use Rattle.problem_builder.proofs.Common.{passing_are, Term, Number, Within, Quotient, row_term, vertical_term, resistance_sum, IsCapped, IsGivenPair}
+use Rattle.problem_builder.proofs.Common.{face_term, storage_term, evap_term, column_k_term, vertical_k_at, area_term, bed_term, Thicknesses, AreThicknesses}
+use Rattle.problem_builder.proofs.Common.{IsKeptPair, IsGivenOrKept, IsConstantPair, IsRiver, IsDrain, IsEvap, IsFlow, IsLink, IsFixed, IsCellOf}
 use Rattle.problem_builder.proofs.ActiveCells.{variable_active, constant_active}
 use Rattle.problem_builder.proofs.FacePairs.{face_range, face_active}
 use Rattle.problem_builder.proofs.Members.{constant_is}

@@ -1,13 +1,6 @@
 -- A time has one list of constant heads.
-use Rattle.std.proofs.Common.{◌≡◌, ℕ, inl, inr, List, sym, ◌∙◌}
-use Rattle.std.proofs.lemmas.Bool.{cases_Bool}
-use Rattle.step_problem.specs.declared.heads.Bound.{Bound}
-use Rattle.step_problem.specs.Heads.{no_bound}
-use Rattle.model_types.specs.declared.model.FlowModel.{FlowModel}
-use Rattle.model_types.specs.declared.time_steps.TimeStep.{TimeStep}
-use Rattle.model_types.specs.Cells.{cell_count}
-use Rattle.model_types.specs.Kinds.{is_constant}
-use Rattle.problem_builder.specs.ConstantHeads.{HasConstantHead, AreConstantHeads}
+use Rattle.problem_builder.proofs.Common.{◌≡◌, ℕ, inl, inr, List, sym, ◌∙◌, cases_Bool, Bound, no_bound, FlowModel, TimeStep, cell_count, is_constant}
+use Rattle.problem_builder.proofs.Common.{HasConstantHead, AreConstantHeads}
 use Rattle.problem_builder.proofs.Filling.{one_filled}
 use Rattle.problem_builder.proofs.OneCell.{one_constant_pair}
 

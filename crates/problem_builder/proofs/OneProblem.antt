@@ -1,20 +1,8 @@
 -- A model, a time and the heads before it have one problem, or one first refusal.
-use Rattle.std.proofs.Common.{◌≡◌, ℕ, ◌<◌, inl, inr, true, None, List, sym, ap, ◌∙◌, subst}
-use Rattle.std.proofs.lemmas.Bool.{cases_order}
-use Rattle.std.proofs.lemmas.Option.{none-some}
-use Rattle.step_problem.specs.declared.heads.Bound.{Bound}
+use Rattle.problem_builder.proofs.Common.{◌≡◌, ℕ, ◌<◌, inl, inr, true, None, List, sym, ap, ◌∙◌, subst, cases_order, none-some, Bound, Entries, FlowModel}
+use Rattle.problem_builder.proofs.Common.{TimeStep, cell_count, HasSize, is_variable, variable_below, In-All, Thicknesses, AreThicknesses, IsCellOf, fault_of}
+use Rattle.problem_builder.proofs.Common.{AreCells, IsRefused, IsProblemOf, HasNoProblem}
 use Rattle.step_problem.specs.declared.place.NoBound.{NoBound}
-use Rattle.step_problem.specs.Entries.{Entries}
-use Rattle.model_types.specs.declared.model.FlowModel.{FlowModel}
-use Rattle.model_types.specs.declared.time_steps.TimeStep.{TimeStep}
-use Rattle.model_types.specs.Cells.{cell_count}
-use Rattle.model_types.specs.Grids.{HasSize}
-use Rattle.model_types.specs.Kinds.{is_variable, variable_below}
-use Rattle.model_types.proofs.Members.{In-All}
-use Rattle.problem_builder.specs.Thicknesses.{Thicknesses, AreThicknesses}
-use Rattle.problem_builder.specs.Cells.{IsCellOf}
-use Rattle.problem_builder.specs.Refusals.{fault_of}
-use Rattle.problem_builder.specs.Problems.{AreCells, IsRefused, IsProblemOf, HasNoProblem}
 use Rattle.problem_builder.proofs.Members.{variable-In, In-variable, some_same}
 use Rattle.problem_builder.proofs.OneCell.{one_cell}
 use Rattle.problem_builder.proofs.Zipped.{zip_one_list, right_of}

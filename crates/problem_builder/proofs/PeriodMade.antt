@@ -1,17 +1,8 @@
 -- The tables of a stress period, put together.
-use Rattle.std.proofs.Common.{◌≡◌, ℕ, ◌+◌, ◌-◌, Option, None, List, length, arith, sym, subst}
-use Rattle.step_problem.specs.Heads.{no_bound}
-use Rattle.model_types.specs.declared.entry.Given.{Given}
-use Rattle.model_types.specs.declared.kind.Kind.TheVariants.{NoFlow}
-use Rattle.model_types.specs.declared.model.FlowModel.{FlowModel}
-use Rattle.model_types.specs.Cells.{cell_count}
-use Rattle.model_types.specs.Sources.{local_entries}
-use Rattle.model_types.specs.Times.{period_at}
+use Rattle.problem_builder.proofs.Common.{◌≡◌, ℕ, ◌+◌, ◌-◌, Option, None, List, length, arith, sym, subst, no_bound, Given, NoFlow, FlowModel, cell_count}
+use Rattle.problem_builder.proofs.Common.{local_entries, period_at, Filled, IsKind, IsIndex, IsNamed, IsKept, IsRecharged, IsEvaporated, AreLocalBounds}
+use Rattle.problem_builder.proofs.Common.{local_in, ArePeriodTables}
 use Rattle.problem_builder.specs.declared.period.PeriodTables.{PeriodTables}
-use Rattle.problem_builder.specs.Filled.{Filled}
-use Rattle.problem_builder.specs.PeriodTables.{IsKind, IsIndex, IsNamed, IsKept, IsRecharged, IsEvaporated}
-use Rattle.problem_builder.specs.LocalBounds.{AreLocalBounds, local_in}
-use Rattle.problem_builder.specs.Tables.{ArePeriodTables}
 use Rattle.problem_builder.proofs.ActiveCells.{variable_active, constant_active}
 
 -- the parts of the tables of period p, where `before` periods have passed

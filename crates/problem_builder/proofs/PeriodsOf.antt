@@ -1,16 +1,8 @@
 -- Stress periods by their numbers.
-use Rattle.std.proofs.Common.{◌≡◌, ℕ, ◌-◌, ◌<◌, ◌≤◌, List, length, get_or, sym, ap, ◌∙◌, subst, arith, All}
-use Rattle.std.proofs.lemmas.List.{get_or_default}
-use Rattle.std.proofs.lemmas.List.Elements.{All-weaker}
-use Rattle.model_types.specs.declared.model.FlowModel.{FlowModel}
-use Rattle.model_types.specs.declared.period.Period.{Period}
-use Rattle.model_types.specs.Cells.{cell_count}
-use Rattle.model_types.specs.declared.entry.Entry.{Entry}
-use Rattle.model_types.specs.declared.entry.Entry.TheVariants.{Well, River, Drain, General}
-use Rattle.model_types.specs.Sources.{cell_of}
-use Rattle.model_types.specs.Times.{period_at, no_period, entries}
-use Rattle.model_types.specs.Valid.{IsModel, IsPeriod, IsEntryValid}
-use Rattle.problem_builder.specs.LocalBounds.{IsEntryIn}
+use Rattle.problem_builder.proofs.Common.{◌≡◌, ℕ, ◌-◌, ◌<◌, ◌≤◌, List, length, get_or, sym, ap, ◌∙◌, subst, arith, All, get_or_default, All-weaker, FlowModel}
+use Rattle.problem_builder.proofs.Common.{Period, cell_count, Entry, Well, General, cell_of, period_at, no_period, entries, IsModel, IsPeriod, IsEntryValid}
+use Rattle.problem_builder.proofs.Common.{IsEntryIn}
+use Rattle.model_types.specs.declared.entry.Entry.TheVariants.{River, Drain}
 use Rattle.problem_builder.proofs.ValidEntries.{all_entries, wider}
 
 -- a period that is read by its number

@@ -1,29 +1,11 @@
 -- The cells of a step are a problem.
-use Rattle.std.proofs.Common.{◌≡◌, ℕ, ◌<◌, inl, inr, Bool, true, List, length, get_or, sym, ap, ◌∙◌, subst, arith}
-use Rattle.std.specs.List.{AllZip, Contains}
-use Rattle.std.proofs.lemmas.Bool.{cases_order}
-use Rattle.step_problem.specs.declared.heads.Bound.{Bound}
-use Rattle.step_problem.specs.declared.entry.Link.{Link}
-use Rattle.step_problem.specs.Entries.{Entries, entries_at, no_entries, no_link}
-use Rattle.step_problem.specs.Conditions.{LinksFit, IsProblem}
+use Rattle.problem_builder.proofs.Common.{◌≡◌, ℕ, ◌<◌, inl, inr, Bool, true, List, length, get_or, sym, ap, ◌∙◌, subst, arith, AllZip, Contains, cases_order}
+use Rattle.problem_builder.proofs.Common.{Bound, Link, Entries, entries_at, no_entries, no_link, LinksFit, IsProblem, Face, FlowModel, TimeStep, cell_count}
+use Rattle.problem_builder.proofs.Common.{is_variable, variable_faces, IsModel, In, Contains-In, All-In, Ordered, Ordered-at, IsFaceOf, passing_are}
+use Rattle.problem_builder.proofs.Common.{passing_have, end_within, end_other, face_back, turned, ends_ascend, few_faces, passing, rank, rank_below, rank_apart}
+use Rattle.problem_builder.proofs.Common.{at_rank, is_at, IsAt, rank_few, below_is, index_is, face_term, Thicknesses, IsLink, IsCellOf, AreGridHeads, IsTimeOf}
+use Rattle.problem_builder.proofs.Common.{AreCells}
 use Rattle.cell_balance.proofs.Zips.{AllZip-at, AllZip-length}
-use Rattle.model_types.specs.declared.face.Face.{Face}
-use Rattle.model_types.specs.declared.model.FlowModel.{FlowModel}
-use Rattle.model_types.specs.declared.time_steps.TimeStep.{TimeStep}
-use Rattle.model_types.specs.Cells.{cell_count}
-use Rattle.model_types.specs.Kinds.{is_variable}
-use Rattle.model_types.specs.Sources.{variable_faces}
-use Rattle.model_types.specs.Valid.{IsModel}
-use Rattle.model_types.proofs.Members.{In, Contains-In, All-In, Ordered, Ordered-at}
-use Rattle.model_types.proofs.Leads.{IsFaceOf, passing_are, passing_have, end_within, end_other, face_back, turned, ends_ascend, few_faces}
-use Rattle.model_types.proofs.Ranks.{passing, rank, rank_below, rank_apart, at_rank, is_at, IsAt, rank_few}
-use Rattle.flow_equations.proofs.Links.{below_is, index_is}
-use Rattle.conductance_bounds.specs.Formulas.{face_term}
-use Rattle.problem_builder.specs.Thicknesses.{Thicknesses}
-use Rattle.problem_builder.specs.Cells.{IsLink, IsCellOf}
-use Rattle.problem_builder.specs.GridHeads.{AreGridHeads}
-use Rattle.problem_builder.specs.Moments.{IsTimeOf}
-use Rattle.problem_builder.specs.Problems.{AreCells}
 use Rattle.problem_builder.proofs.Bounds.{BoundsEnclose}
 use Rattle.problem_builder.proofs.CellFits.{cell_fits}
 use Rattle.problem_builder.proofs.OneBound.{one_capped}

@@ -1,13 +1,7 @@
 -- Loops that push what there is.
-use Rattle.std.proofs.Common.{◌≡◌, ℕ, ◌+◌, ◌<◌, Bool, true, false, cond, Option, Some, None, List, [], ◌∷◌, ◌++◌, length, get_or, take, refl, sym, ap, ◌∙◌, subst}
-use Rattle.std.specs.Option.{option_to_list}
-use Rattle.std.specs.List.{AllZip, filter_map, cons_option}
-use Rattle.std.proofs.lemmas.List.{take_more}
-use Rattle.std.proofs.lemmas.List.Elements.{filter_map-append}
-use Rattle.std.proofs.lemmas.Bool.{cond-true}
-use Rattle.model_types.specs.declared.face.Face.{Face}
-use Rattle.model_types.specs.Faces.{through}
-use Rattle.problem_builder.specs.Tables.{BothOrNone}
+use Rattle.problem_builder.proofs.Common.{◌≡◌, ℕ, ◌+◌, ◌<◌, Bool, true, false, cond, Option, Some, None, List, [], ◌∷◌, ◌++◌, length, get_or, take, refl, sym}
+use Rattle.problem_builder.proofs.Common.{ap, ◌∙◌, subst, option_to_list, AllZip, filter_map, cons_option, take_more, filter_map-append, cond-true, Face}
+use Rattle.problem_builder.proofs.Common.{through, BothOrNone}
 
 as_list : {Y : Type 0} (o : Option Y) → cons_option o [] ≡ option_to_list o
 as_list None = refl

@@ -1,12 +1,7 @@
 -- What a cell without a refusal is.
-use Rattle.std.proofs.Common.{◌≡◌, ℕ, zero, suc, ◌+◌, ◌<◌, ◌≤◌, ◌^◌, inl, inr, Bool, true, false, cond, Option, Some, None, List, [], ◌∷◌, refl, sym, ap, subst, arith}
-use Rattle.std.specs.Prelude.{nat_le, ◌||◌, ◌==◌, sum_by}
-use Rattle.std.specs.List.{list_any, fold}
-use Rattle.std.proofs.lemmas.Bool.{leb-false, false≢true}
-use Rattle.step_problem.specs.Entries.{Entries}
-use Rattle.step_problem.specs.Conditions.{conductance_of, flow_of}
-use Rattle.model_types.proofs.Members.{In}
-use Rattle.problem_builder.specs.Refusals.{fault_of, has_small_branch}
+use Rattle.problem_builder.proofs.Common.{◌≡◌, ℕ, zero, suc, ◌+◌, ◌<◌, ◌≤◌, ◌^◌, inl, inr, Bool, true, false, cond, Option, Some, None, List, [], ◌∷◌, refl}
+use Rattle.problem_builder.proofs.Common.{sym, ap, subst, arith, nat_le, ◌||◌, ◌==◌, sum_by, list_any, fold, leb-false, false≢true, Entries, conductance_of}
+use Rattle.problem_builder.proofs.Common.{flow_of, In, fault_of, has_small_branch}
 
 some_none : (x : ℕ) → Some x ≡ None → ⊥
 some_none x e = grind arith

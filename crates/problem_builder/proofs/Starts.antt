@@ -1,22 +1,9 @@
 -- The bounds of STRT.
-use Rattle.std.proofs.Common.{◌≡◌, ℕ, ◌<◌, inl, inr, List, sym, ◌∙◌, subst, arith, pos}
-use Rattle.std.proofs.lemmas.Bool.{cases_Bool}
-use Rattle.step_problem.specs.declared.heads.Bound.{Bound}
-use Rattle.step_problem.specs.Heads.{no_bound}
-use Rattle.step_problem.specs.Conditions.{IsHead}
-use Rattle.model_types.specs.declared.model.FlowModel.{FlowModel}
-use Rattle.model_types.specs.Cells.{cell_count}
-use Rattle.model_types.specs.Heads.{start_head}
-use Rattle.model_types.specs.Layers.{dec_at, is_active}
-use Rattle.problem_builder.specs.Filled.{Filled}
-use Rattle.problem_builder.specs.GridHeads.{AreGridHeads, HeadsEnclose}
+use Rattle.problem_builder.proofs.Common.{◌≡◌, ℕ, ◌<◌, inl, inr, List, sym, ◌∙◌, subst, arith, pos, cases_Bool, Bound, no_bound, IsHead, FlowModel, cell_count}
+use Rattle.problem_builder.proofs.Common.{start_head, dec_at, is_active, Filled, AreGridHeads, HeadsEnclose, IsStartInRange, ints, IsModel, get_or_default}
 use Rattle.problem_builder.specs.StartHeads.{IsStart, AreStartHeads}
-use Rattle.problem_builder.specs.Made.{IsStartInRange}
-use Rattle.std.proofs.lemmas.Int.{ints}
-use Rattle.model_types.specs.Valid.{IsModel}
 use Rattle.problem_builder.proofs.CellEnclosed.{head_encloses}
 use Rattle.problem_builder.proofs.Fits.{head_pair_range}
-use Rattle.std.proofs.lemmas.List.{get_or_default}
 use Rattle.problem_builder.proofs.Filling.{one_filled}
 use Rattle.problem_builder.proofs.OneBound.{one_head_pair}
 

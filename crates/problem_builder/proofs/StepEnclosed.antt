@@ -1,23 +1,7 @@
 -- The cells of a step enclose the exact step; they are the variable cells, and name active cells.
-use Rattle.std.proofs.Common.{◌≡◌, ℕ, None, List, [], ◌∷◌, map, refl}
-use Rattle.std.specs.List.{AllZip}
-use Rattle.decimal_input.specs.Fractions.{Fraction}
-use Rattle.step_problem.specs.declared.heads.Bound.{Bound}
-use Rattle.step_problem.specs.Entries.{Entries}
-use Rattle.cell_balance.specs.Enclosures.{CellEncloses, EnclosesStep}
-use Rattle.model_types.specs.declared.model.FlowModel.{FlowModel}
-use Rattle.model_types.specs.declared.time_steps.TimeStep.{TimeStep}
-use Rattle.model_types.specs.Cells.{cell_count}
-use Rattle.model_types.specs.Grids.{HasSize}
-use Rattle.model_types.specs.Kinds.{variable_below, variable_cells}
-use Rattle.model_types.proofs.Members.{In-All}
-use Rattle.flow_equations.specs.ExactStep.{exact_cell, exact_step}
-use Rattle.flow_equations.proofs.Links.{are_linked}
-use Rattle.problem_builder.specs.Thicknesses.{Thicknesses}
-use Rattle.problem_builder.specs.Cells.{IsCellOf}
-use Rattle.problem_builder.specs.GridHeads.{HeadsEnclose}
-use Rattle.problem_builder.specs.Refusals.{fault_of}
-use Rattle.problem_builder.specs.Problems.{AreCells}
+use Rattle.problem_builder.proofs.Common.{◌≡◌, ℕ, None, List, [], ◌∷◌, map, refl, AllZip, Fraction, Bound, Entries, CellEncloses, EnclosesStep, FlowModel}
+use Rattle.problem_builder.proofs.Common.{TimeStep, cell_count, HasSize, variable_below, variable_cells, In-All, exact_cell, exact_step, are_linked}
+use Rattle.problem_builder.proofs.Common.{Thicknesses, IsCellOf, HeadsEnclose, fault_of, AreCells}
 use Rattle.problem_builder.proofs.Bounds.{BoundsEnclose}
 use Rattle.problem_builder.proofs.CellEnclosed.{cell_encloses}
 use Rattle.problem_builder.proofs.Members.{variable-In}

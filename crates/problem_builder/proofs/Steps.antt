@@ -1,19 +1,9 @@
 -- The loop over the cells of the grid, a step at a time.
-use Rattle.std.proofs.Common.{◌≡◌, ℕ, suc, ◌+◌, ◌<◌, Bool, true, false, None, List, [], ◌∷◌, ◌++◌, sym, ap, ◌∙◌, subst, arith}
-use Rattle.std.specs.List.{AllZip}
-use Rattle.std.proofs.lemmas.List.Elements.{All-nil, All-push}
-use Rattle.step_problem.specs.Entries.{Entries}
-use Rattle.model_types.specs.Cells.{cell_count}
-use Rattle.model_types.specs.Kinds.{is_variable, variable_below}
-use Rattle.model_types.proofs.Ranks.{passes_next, fails_next}
-use Rattle.flow_equations.proofs.Links.{below_is}
+use Rattle.problem_builder.proofs.Common.{◌≡◌, ℕ, suc, ◌+◌, ◌<◌, Bool, true, false, None, List, [], ◌∷◌, ◌++◌, sym, ap, ◌∙◌, subst, arith, AllZip, All-nil}
+use Rattle.problem_builder.proofs.Common.{All-push, Entries, cell_count, is_variable, variable_below, passes_next, fails_next, below_is, IsCellOf, fault_of}
+use Rattle.problem_builder.proofs.Common.{AreCells, IsCheckedCell, IsCellFault, IsFirstFault, Inputs, widths_of}
 use Rattle.problem_builder.specs.declared.fault.BuildFault.{BuildFault}
 use Rattle.problem_builder.specs.declared.fault.BuildFault.TheVariants.{NoBound as Refused, Memory}
-use Rattle.problem_builder.specs.Cells.{IsCellOf}
-use Rattle.problem_builder.specs.Refusals.{fault_of}
-use Rattle.problem_builder.specs.Problems.{AreCells}
-use Rattle.problem_builder.specs.Made.{IsCheckedCell, IsCellFault, IsFirstFault}
-use Rattle.problem_builder.specs.Tables.{Inputs, widths_of}
 use Rattle.problem_builder.proofs.Pushed.{AllZip-join}
 
 module _ (i : Inputs) where

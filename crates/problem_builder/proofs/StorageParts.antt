@@ -1,14 +1,7 @@
 -- What storage is made of: thicknesses and multipliers.
-use Rattle.std.proofs.Common.{◌≡◌, inl, inr, Bool, true, false, cond, Some, None, refl}
-use Rattle.decimal_input.specs.Ratios.{Ratio}
-use Rattle.model_types.specs.declared.period.Period.{Period}
-use Rattle.model_types.specs.Valid.{IsTimed}
-use Rattle.conductance_bounds.specs.declared.span.Span.{Span}
-use Rattle.conductance_bounds.specs.Branches.{thickness_of}
+use Rattle.problem_builder.proofs.Common.{◌≡◌, inl, inr, Bool, true, false, cond, Some, None, refl, Ratio, Period, IsTimed, Span, thickness_of, IsMultiplier}
+use Rattle.problem_builder.proofs.Common.{Within, AreThick}
 use Rattle.conductance_bounds.specs.Calls.{IsThickness}
-use Rattle.conductance_bounds.specs.Growth.{IsMultiplier}
-use Rattle.conductance_bounds.specs.Terms.Term.{Within}
-use Rattle.conductance_bounds.specs.Thicknesses.{AreThick}
 
 -- the thickness that counts for storage
 pub thick_case : (b : Bool) (t : Span) (f : Ratio) → thickness_of (cond b None (Some (t.lo, t.hi))) f ≡ cond b None (Some (Within t.lo t.hi f))

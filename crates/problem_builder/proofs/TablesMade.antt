@@ -1,19 +1,7 @@
 -- The tables of a run, put together.
-use Rattle.std.proofs.Common.{◌≡◌, ℕ, ◌+◌, ◌<◌, ◌⊎◌, inl, inr, true, List, refl, subst, arith}
-use Rattle.model_types.specs.declared.face.Axis.{Axis}
-use Rattle.model_types.specs.declared.face.Axis.TheVariants.{Row, Column, Vertical}
-use Rattle.model_types.specs.declared.model.FlowModel.{FlowModel}
-use Rattle.model_types.specs.Cells.{cell_count}
-use Rattle.model_types.specs.Faces.{stride, has_after}
-use Rattle.model_types.specs.Layers.{is_active, bottom_at, lowest, bed_thickness}
-use Rattle.conductance_bounds.specs.declared.span.Span.{Span}
-use Rattle.conductance_bounds.specs.declared.pair.Pair.{Pair}
-use Rattle.conductance_bounds.specs.Thicknesses.{IsSpan}
-use Rattle.conductance_bounds.specs.Pairs.{IsCapped}
-use Rattle.conductance_bounds.specs.Formulas.{face_term}
-use Rattle.problem_builder.specs.Filled.{Filled}
-use Rattle.problem_builder.specs.Widths.{IsThickness, IsBedBelow, IsBedOf, IsNoBed, HasConductance}
-use Rattle.problem_builder.specs.Tables.{no_span, no_pair, span_in, pair_at, AreTables}
+use Rattle.problem_builder.proofs.Common.{◌≡◌, ℕ, ◌+◌, ◌<◌, ◌⊎◌, inl, inr, true, List, refl, subst, arith, Axis, Row, Column, Vertical, FlowModel, cell_count}
+use Rattle.problem_builder.proofs.Common.{stride, has_after, is_active, bottom_at, lowest, bed_thickness, Span, Pair, IsSpan, IsCapped, face_term, Filled}
+use Rattle.problem_builder.proofs.Common.{IsThickness, IsBedBelow, IsBedOf, IsNoBed, HasConductance, no_span, no_pair, span_in, pair_at, AreTables}
 use Rattle.problem_builder.specs.declared.tables.Tables.{Tables}
 
 bed_span : (m : FlowModel) (a : ℕ) (t : Span) → 0 < (bed_thickness m a).num → IsBedOf m a t ⊎ IsNoBed m a t → IsSpan (bottom_at m a) (lowest m a) t

@@ -1,12 +1,6 @@
 -- The times of a model: a step of one of its periods.
-use Rattle.std.proofs.Common.{ℕ, zero, suc, ◌+◌, ◌-◌, ◌<◌, ◌≤◌, inl, inr, List, [], ◌∷◌, length, refl, subst, arith}
-use Rattle.std.specs.List.{Contains, flat_map, range_with_len}
-use Rattle.model_types.specs.declared.model.FlowModel.{FlowModel}
-use Rattle.model_types.specs.declared.time_steps.TimeStep.{TimeStep}
-use Rattle.model_types.specs.Times.{period_at, no_period, steps_of, times}
-use Rattle.model_types.specs.Valid.{IsModel}
-use Rattle.model_types.proofs.Members.{In, map-In}
-use Rattle.problem_builder.specs.Moments.{IsTimeOf}
+use Rattle.problem_builder.proofs.Common.{ℕ, zero, suc, ◌+◌, ◌-◌, ◌<◌, ◌≤◌, inl, inr, List, [], ◌∷◌, length, refl, subst, arith, Contains, flat_map}
+use Rattle.problem_builder.proofs.Common.{range_with_len, FlowModel, TimeStep, period_at, no_period, steps_of, times, IsModel, In, map-In, IsTimeOf}
 use Rattle.problem_builder.proofs.Members.{In-append}
 use Rattle.problem_builder.proofs.Named.{In-Contains}
 

@@ -1,14 +1,7 @@
 -- The entries of a cell are those of valid lists.
-use Rattle.std.proofs.Common.{ℕ, ◌≤◌, ◌++◌, arith, All}
-use Rattle.std.proofs.lemmas.List.Elements.{All-append, All-filter, All-weaker}
-use Rattle.std.specs.Prelude.{◌==◌}
-use Rattle.model_types.specs.declared.entry.Entry.{Entry}
-use Rattle.model_types.specs.declared.entry.Entry.TheVariants.{Well, River, Drain, General}
-use Rattle.model_types.specs.declared.model.FlowModel.{FlowModel}
-use Rattle.model_types.specs.Cells.{cell_count}
-use Rattle.model_types.specs.Sources.{cell_of, entries_of, local_entries}
-use Rattle.model_types.specs.Times.{period_at, entries}
-use Rattle.model_types.specs.Valid.{IsModel, IsPeriod, IsEntryValid}
+use Rattle.problem_builder.proofs.Common.{ℕ, ◌≤◌, ◌++◌, arith, All, All-append, All-filter, All-weaker, ◌==◌, Entry, Well, General, FlowModel, cell_count}
+use Rattle.problem_builder.proofs.Common.{cell_of, entries_of, local_entries, period_at, entries, IsModel, IsPeriod, IsEntryValid}
+use Rattle.model_types.specs.declared.entry.Entry.TheVariants.{River, Drain}
 
 pub wider : (n : ℕ) (x : Entry) → n ≤ 65536 → IsEntryValid n x → IsEntryValid 65536 x
 wider n (Well cell q) le h = (omega (arith, le, h.0), h.1)

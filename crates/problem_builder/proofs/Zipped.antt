@@ -1,8 +1,5 @@
 -- Lists that are related place by place.
-use Rattle.std.proofs.Common.{◌≡◌, inl, inr, List, [], ◌∷◌, map, refl, subst, All}
-use Rattle.std.specs.List.{AllZip}
-use Rattle.std.proofs.lemmas.List.Elements.{All-nil, All-cons}
-use Rattle.model_types.proofs.Members.{In, Ordered}
+use Rattle.problem_builder.proofs.Common.{◌≡◌, inl, inr, List, [], ◌∷◌, map, refl, subst, All, AllZip, All-nil, All-cons, In, Ordered}
 
 -- what an item of one list is related to
 pub left_of : {X Y : Type 0} (R : X → Y → Type 0) (xs : List X) (ys : List Y) (x : X) → AllZip R xs ys → In xs x → (y : Y) × In ys y × R x y

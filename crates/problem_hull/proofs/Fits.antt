@@ -1,15 +1,8 @@
 -- The hull of two problems is a problem, if the sums of its cells fit.
-use Rattle.std.proofs.Common.{◌≡◌, ◌<◌, ◌≤◌, ◌^◌, ◌≤ℤ◌, ℕ, ℤ, arith, List, length, sym, subst, get_or, All, Contains}
-use Rattle.std.specs.Int.{int_min, int_max}
-use Rattle.std.proofs.lemmas.Int.{ints, clamps}
-use Rattle.step_problem.specs.declared.entry.Link.{Link}
-use Rattle.step_problem.specs.declared.entry.Fixed.{Fixed}
-use Rattle.step_problem.specs.declared.entry.River.{River}
-use Rattle.step_problem.specs.declared.entry.Drain.{Drain}
-use Rattle.step_problem.specs.declared.entry.Evap.{Evap}
-use Rattle.step_problem.specs.Entries.{Entries, entries_at, no_entries, link_at}
-use Rattle.step_problem.specs.Conditions.{IsHead, LinkFits, FixedFits, RiverFits, DrainFits, EvapFits, CellFits, LinksFit, IsProblem, conductance_of, flow_of}
-use Rattle.problem_hull.specs.Hulls.{IsHullPair, IsHullSize, IsFixedHull, IsRiverHull, IsDrainHull, IsEvapHull, IsCellHull, IsHull}
+use Rattle.problem_hull.proofs.Common.{◌≡◌, ◌<◌, ◌≤◌, ◌^◌, ◌≤ℤ◌, ℕ, ℤ, arith, List, length, sym, subst, get_or, All, Contains, int_min, int_max, ints, clamps}
+use Rattle.problem_hull.proofs.Common.{Link, Fixed, River, Drain, Evap, Entries, entries_at, no_entries, link_at, IsHead, LinkFits, FixedFits, RiverFits}
+use Rattle.problem_hull.proofs.Common.{DrainFits, EvapFits, CellFits, LinksFit, IsProblem, conductance_of, flow_of, IsHullPair, IsHullSize, IsFixedHull}
+use Rattle.problem_hull.proofs.Common.{IsRiverHull, IsDrainHull, IsEvapHull, IsCellHull, IsHull}
 use Rattle.problem_hull.proofs.Threes.{three_lengths, three_within, three_all}
 use Rattle.problem_hull.proofs.Links.{links_at, ids_at}
 

@@ -1,10 +1,6 @@
 -- The hull of a problem and itself is that problem.
-use Rattle.std.proofs.Common.{[], ◌∷◌, refl, arith, ℕ, ℤ, List}
-use Rattle.std.proofs.lemmas.Int.{ints, clamps}
-use Rattle.step_problem.specs.Entries.{Entries}
-use Rattle.problem_hull.specs.Threes.{AllThree}
-use Rattle.problem_hull.specs.Threes.AllThree.{none, next}
-use Rattle.problem_hull.specs.Hulls.{IsHullPair, IsHullSize, IsLinkHull, IsFlowHull, IsFixedHull, IsRiverHull, IsDrainHull, IsEvapHull, IsCellHull, IsHull}
+use Rattle.problem_hull.proofs.Common.{[], ◌∷◌, refl, arith, ℕ, ℤ, List, ints, clamps, Entries, AllThree, none, next, IsHullPair, IsHullSize, IsLinkHull}
+use Rattle.problem_hull.proofs.Common.{IsFlowHull, IsFixedHull, IsRiverHull, IsDrainHull, IsEvapHull, IsCellHull, IsHull}
 
 pair : (a b : ℤ) → IsHullPair a b a b a b
 pair a b = record { low = omega (arith, ints, clamps); high = omega (arith, ints, clamps) }

@@ -1,3 +1,4 @@
+mod Common
 pub mod Threes
 pub mod Unlike
 pub mod Links

@@ -1,10 +1,5 @@
 -- A hull keeps the links and the cell numbers of both problems.
-use Rattle.std.proofs.Common.{◌≡◌, ◌∷◌, ℕ, zero, suc, List, refl}
-use Rattle.step_problem.specs.declared.entry.Link.{Link}
-use Rattle.step_problem.specs.Entries.{Entries, entries_at}
-use Rattle.problem_hull.specs.Threes.{AllThree}
-use Rattle.problem_hull.specs.Threes.AllThree.{none, next}
-use Rattle.problem_hull.specs.Hulls.{IsLinkHull, IsHull}
+use Rattle.problem_hull.proofs.Common.{◌≡◌, ◌∷◌, ℕ, zero, suc, List, refl, Link, Entries, entries_at, AllThree, none, next, IsLinkHull, IsHull}
 
 pub links_are : (a b r : List Link) → AllThree IsLinkHull a b r → (r ≡ a) × (b ≡ a)
 links_are a b r none = (refl, refl)

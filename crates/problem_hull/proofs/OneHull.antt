@@ -1,15 +1,6 @@
 -- Two problems have one hull alone.
-use Rattle.std.proofs.Common.{◌≡◌, ◌∷◌, ◌∙◌, refl, sym, List}
-use Rattle.step_problem.specs.declared.entry.Link.{Link}
-use Rattle.step_problem.specs.declared.entry.Flow.{Flow}
-use Rattle.step_problem.specs.declared.entry.Fixed.{Fixed}
-use Rattle.step_problem.specs.declared.entry.River.{River}
-use Rattle.step_problem.specs.declared.entry.Drain.{Drain}
-use Rattle.step_problem.specs.declared.entry.Evap.{Evap}
-use Rattle.step_problem.specs.Entries.{Entries}
-use Rattle.problem_hull.specs.Threes.{AllThree}
-use Rattle.problem_hull.specs.Threes.AllThree.{none, next}
-use Rattle.problem_hull.specs.Hulls.{IsLinkHull, IsFlowHull, IsFixedHull, IsRiverHull, IsDrainHull, IsEvapHull, IsCellHull, IsHull}
+use Rattle.problem_hull.proofs.Common.{◌≡◌, ◌∷◌, ◌∙◌, refl, sym, List, Link, Flow, Fixed, River, Drain, Evap, Entries, AllThree, none, next, IsLinkHull}
+use Rattle.problem_hull.proofs.Common.{IsFlowHull, IsFixedHull, IsRiverHull, IsDrainHull, IsEvapHull, IsCellHull, IsHull}
 
 -- two equations with one right side
 meet : {X : Type 0} {x y z : X} → x ≡ z → y ≡ z → y ≡ x

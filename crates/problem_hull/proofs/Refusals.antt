@@ -1,14 +1,8 @@
 -- A hull that is a problem has no refusal, and there is one refusal alone.
-use Rattle.std.proofs.Common.{◌≡◌, ◌<◌, ◌^◌, ◌∙◌, ℕ, inl, inr, arith, None, Some, List, sym, ap, subst}
+use Rattle.problem_hull.proofs.Common.{◌≡◌, ◌<◌, ◌^◌, ◌∙◌, ℕ, inl, inr, arith, None, Some, List, sym, ap, subst, nat_tests, conductance_of, flow_of, IsProblem}
+use Rattle.problem_hull.proofs.Common.{Low, Cell, Entries, entries_at, IsHull, sum_refusal, IsFirstTooLarge, IsTooLarge}
 use Rattle.std.proofs.lemmas.Bool.{cases_lt}
-use Rattle.std.proofs.lemmas.Bool.Decides.{nat_tests}
-use Rattle.step_problem.specs.Conditions.{conductance_of, flow_of, IsProblem}
-use Rattle.step_problem.specs.declared.heads.Side.TheVariants.{Low}
 use Rattle.step_problem.specs.declared.place.NoBound.{NoBound}
-use Rattle.step_problem.specs.declared.place.Place.TheVariants.{Cell}
-use Rattle.step_problem.specs.Entries.{Entries, entries_at}
-use Rattle.problem_hull.specs.Hulls.{IsHull}
-use Rattle.problem_hull.specs.Refusals.{sum_refusal, IsFirstTooLarge, IsTooLarge}
 use Rattle.problem_hull.proofs.OneHull.{hull_is_one}
 
 small_sums : (c : Entries) → conductance_of c < 2 ^ 60 → flow_of c < 2 ^ 109 → sum_refusal c ≡ None

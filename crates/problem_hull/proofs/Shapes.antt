@@ -1,17 +1,7 @@
 -- Two problems have a hull exactly where they are alike.
-use Rattle.std.proofs.Common.{◌≡◌, ◌↔◌, [], ◌∷◌, refl, ap, pos, List, map, min, max}
-use Rattle.std.specs.Int.{int_min, int_max}
-use Rattle.step_problem.specs.declared.entry.Link.{Link}
-use Rattle.step_problem.specs.declared.entry.Flow.{Flow}
-use Rattle.step_problem.specs.declared.entry.Fixed.{Fixed}
-use Rattle.step_problem.specs.declared.entry.River.{River}
-use Rattle.step_problem.specs.declared.entry.Drain.{Drain}
-use Rattle.step_problem.specs.declared.entry.Evap.{Evap}
-use Rattle.step_problem.specs.Entries.{Entries}
-use Rattle.problem_hull.specs.Threes.{AllThree}
-use Rattle.problem_hull.specs.Threes.AllThree.{none, next}
-use Rattle.problem_hull.specs.Shapes.{link_shape, flow_shape, fixed_shape, river_shape, drain_shape, evap_shape, cell_shape, AreAlike}
-use Rattle.problem_hull.specs.Hulls.{IsLinkHull, IsFlowHull, IsFixedHull, IsRiverHull, IsDrainHull, IsEvapHull, IsCellHull, IsHull}
+use Rattle.problem_hull.proofs.Common.{◌≡◌, ◌↔◌, [], ◌∷◌, refl, ap, pos, List, map, min, max, int_min, int_max, Link, Flow, Fixed, River, Drain, Evap, Entries}
+use Rattle.problem_hull.proofs.Common.{AllThree, none, next, link_shape, flow_shape, fixed_shape, river_shape, drain_shape, evap_shape, cell_shape, AreAlike}
+use Rattle.problem_hull.proofs.Common.{IsLinkHull, IsFlowHull, IsFixedHull, IsRiverHull, IsDrainHull, IsEvapHull, IsCellHull, IsHull}
 
 -- lists that have the same shapes have hulls, if items of the same shape have
 module _ {X : Type 0} (f : X → X) (R : X → X → X → Type 0) where

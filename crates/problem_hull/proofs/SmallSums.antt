@@ -1,12 +1,6 @@
 -- The sums of a cell without a refusal fit; and the first cell that has one.
-use Rattle.std.proofs.Common.{◌≡◌, ◌<◌, ◌^◌, ◌∙◌, ℕ, arith, None, Some, List, length, get_or, ap, sym}
-use Rattle.std.proofs.lemmas.List.{get_or_default}
-use Rattle.std.proofs.lemmas.Bool.Decides.{nat_tests}
-use Rattle.step_problem.specs.Conditions.{conductance_of, flow_of}
-use Rattle.step_problem.specs.Entries.{Entries, entries_at, no_entries}
-use Rattle.step_problem.specs.declared.heads.Side.TheVariants.{Low}
-use Rattle.step_problem.specs.declared.place.Place.TheVariants.{Cell}
-use Rattle.problem_hull.specs.Refusals.{sum_refusal, IsFirstTooLarge}
+use Rattle.problem_hull.proofs.Common.{◌≡◌, ◌<◌, ◌^◌, ◌∙◌, ℕ, arith, None, Some, List, length, get_or, ap, sym, get_or_default, nat_tests, conductance_of}
+use Rattle.problem_hull.proofs.Common.{flow_of, Entries, entries_at, no_entries, Low, Cell, sum_refusal, IsFirstTooLarge}
 
 pub conductances_are_small : (c : Entries) → sum_refusal c ≡ None → conductance_of c < 2 ^ 60
 unfolding sum_refusal

@@ -1,10 +1,8 @@
 -- Three lists that are related place by place.
-use Rattle.std.proofs.Common.{◌≡◌, ◌+◌, ◌<◌, [], ◌∷◌, ◌++◌, ℕ, zero, suc, arith, List, get_or, length, take, map, All, refl, ap, ◌∙◌, subst, sym}
-use Rattle.std.proofs.lemmas.List.{take_more, get_or-map, length-map}
+use Rattle.problem_hull.proofs.Common.{◌≡◌, ◌+◌, ◌<◌, [], ◌∷◌, ◌++◌, ℕ, zero, suc, arith, List, get_or, length, take, map, All, refl, ap, ◌∙◌, subst, sym}
+use Rattle.problem_hull.proofs.Common.{take_more, get_or-map, length-map, AllThree, none, next}
 use Rattle.std.proofs.lemmas.List.Elements.{All-nil, All-cons, All-head, All-tail}
 use Rattle.std.proofs.Math.Seq.{take-length}
-use Rattle.problem_hull.specs.Threes.{AllThree}
-use Rattle.problem_hull.specs.Threes.AllThree.{none, next}
 
 pub three_lengths : {X Y Z : Type 0} (R : X → Y → Z → Type 0) (xs : List X) (ys : List Y) (zs : List Z) → AllThree R xs ys zs → (length ys ≡ length xs) × (length zs ≡ length xs)
 three_lengths R xs ys zs none = (refl, refl)

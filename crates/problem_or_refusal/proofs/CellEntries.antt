@@ -1,14 +1,13 @@
 -- A variable cell has entries of each kind, one for each of its sources.
-use Rattle.std.proofs.Common.{◌≡◌, ℕ, zero, suc, ◌+◌, ◌-◌, ◌≤◌, ◌<◌, ◌^◌, inl, inr, Bool, true, false, cond, Some, None, List, [], ◌∷◌, refl, subst, arith, ℤ, pos, neg_ℤ, ◌-ℤ◌}
-use Rattle.std.specs.Prelude.{unsigned_abs}
-use Rattle.std.specs.List.{AllZip}
-use Rattle.std.proofs.lemmas.Bool.{cases_lt}
+use Rattle.problem_or_refusal.proofs.Common.{◌≡◌, ℕ, zero, suc, ◌+◌, ◌-◌, ◌≤◌, ◌<◌, ◌^◌, inl, inr, Bool, true, false, cond, Some, None, List, [], ◌∷◌, refl}
+use Rattle.problem_or_refusal.proofs.Common.{subst, arith, ℤ, pos, neg_ℤ, ◌-ℤ◌, unsigned_abs, AllZip, cases_lt, Dec, IsDec, Bound, Entries, lower_at, upper_at}
+use Rattle.problem_or_refusal.proofs.Common.{FlowModel, TimeStep, cell_count, place_in_layer, is_variable, is_constant, index_of, dec_at, is_active, period_at}
+use Rattle.problem_or_refusal.proofs.Common.{IsModel, IsEvapValid, face_term, storage_term, recharge_term, evap_term, Lower, Upper, ceiling-passes}
+use Rattle.problem_or_refusal.proofs.Common.{floor-ceiling, IsRiver, IsDrain, IsEvap, IsFlow, IsLink, IsFixed, IsCellOf, IsTimeOf, Thicknesses, AreThicknesses}
+use Rattle.problem_or_refusal.proofs.Common.{pair_of, capped_of}
 use Rattle.std.proofs.lemmas.Option.{none-some}
-use Rattle.decimal_input.specs.declared.dec.Dec.{Dec}
-use Rattle.decimal_input.specs.Canonical.{IsDec}
 use Rattle.decimal_input.proofs.Orders.{AtMost-trans}
 use Rattle.scaled_decimal.specs.Nearest.{value}
-use Rattle.step_problem.specs.declared.heads.Bound.{Bound}
 use Rattle.step_problem.specs.declared.entry.Flow.{Flow}
 use Rattle.step_problem.specs.declared.entry.Link.{Link}
 use Rattle.step_problem.specs.declared.entry.Fixed.{Fixed}
@@ -17,36 +16,20 @@ use Rattle.step_problem.specs.declared.entry.Drain.{Drain}
 use Rattle.step_problem.specs.declared.entry.Evap.{Evap}
 use Rattle.step_problem.specs.declared.entry.FixedKind.TheVariants.{Constant, General, Storage}
 use Rattle.step_problem.specs.declared.entry.FlowKind.TheVariants.{Wells, Recharge}
-use Rattle.step_problem.specs.Entries.{Entries}
-use Rattle.step_problem.specs.Heads.{lower_at, upper_at}
 use Rattle.model_types.specs.declared.face.Face.{Face}
-use Rattle.model_types.specs.declared.model.FlowModel.{FlowModel}
-use Rattle.model_types.specs.declared.time_steps.TimeStep.{TimeStep}
-use Rattle.model_types.specs.Cells.{cell_count, place_in_layer}
-use Rattle.model_types.specs.Kinds.{is_variable, is_constant, index_of}
-use Rattle.model_types.specs.Layers.{dec_at, is_active}
 use Rattle.model_types.specs.Receivers.{EvapSource, is_chosen, recharge_at}
 use Rattle.model_types.specs.Sources.{FixedSource, FlowSource, RiverSource, DrainSource, variable_faces, flow_sources, fixed_sources, river_sources, drain_sources, evap_sources}
 use Rattle.model_types.specs.Sources.FixedSource.{ToConstant, ToGeneral, FromStorage}
 use Rattle.model_types.specs.Sources.FlowSource.{Pumped, Received}
-use Rattle.model_types.specs.Times.{period_at}
-use Rattle.model_types.specs.Valid.{IsModel, IsEvapValid}
 use Rattle.model_types.proofs.Leads.{IsFaceOf, passing_are}
 use Rattle.model_types.proofs.Members.{In, In-All}
-use Rattle.conductance_bounds.specs.Formulas.{face_term, storage_term, recharge_term, evap_term}
 use Rattle.conductance_bounds.specs.Pairs.{IsCapped, low_end, high_end}
-use Rattle.conductance_bounds.specs.Terms.Side.{Lower, Upper}
 use Rattle.conductance_bounds.proofs.Enclosing.{bound_on}
-use Rattle.conductance_bounds.proofs.Whole.{ceiling-passes, floor-ceiling}
-use Rattle.problem_builder.specs.Cells.{IsRiver, IsDrain, IsEvap, IsFlow, IsLink, IsFixed, IsCellOf}
-use Rattle.problem_builder.specs.Moments.{IsTimeOf}
 use Rattle.problem_builder.specs.RechargeBounds.{IsRechargePair}
-use Rattle.problem_builder.specs.Thicknesses.{Thicknesses, AreThicknesses}
 use Rattle.problem_builder.proofs.ActiveCells.{variable_active, constant_active}
 use Rattle.problem_builder.proofs.ChosenRates.{rate_valid}
 use Rattle.problem_builder.proofs.FacePairs.{face_range, face_active}
 use Rattle.problem_builder.proofs.Members.{recharge_is, constant_is, storage_is, some_same}
-use Rattle.bounds_exist.proofs.Pairs.{pair_of, capped_of}
 use Rattle.problem_or_refusal.proofs.ConstantHeads.{constant_pair}
 use Rattle.problem_or_refusal.proofs.Formulas.{recharge_bounded, evap_bounded, face_bounded, storage_bounded}
 use Rattle.problem_or_refusal.proofs.Rounded.{head_pair, cond_pair, well_pair}

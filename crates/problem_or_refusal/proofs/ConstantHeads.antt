@@ -1,20 +1,9 @@
 -- A constant-head cell has a pair at each time.
-use Rattle.std.proofs.Common.{ℕ, ◌-◌, ◌^◌, inl, inr, Option, Some, None, refl, take, ℤ}
-use Rattle.std.specs.Prelude.{min}
+use Rattle.problem_or_refusal.proofs.Common.{ℕ, ◌-◌, ◌^◌, inl, inr, Option, Some, None, refl, take, ℤ, min, cases_Bool, Dec, FlowModel, Period, TimeStep}
+use Rattle.problem_or_refusal.proofs.Common.{given_in, last_given, dec_at, period_at, IsTimed, part_term, IsPart, is_whole, blend, IsGivenPair, pair_of}
 use Rattle.std.specs.Int.{int_min, int_max}
-use Rattle.std.proofs.lemmas.Bool.{cases_Bool}
-use Rattle.decimal_input.specs.declared.dec.Dec.{Dec}
 use Rattle.model_types.specs.declared.entry.Given.{Given}
-use Rattle.model_types.specs.declared.model.FlowModel.{FlowModel}
-use Rattle.model_types.specs.declared.period.Period.{Period}
-use Rattle.model_types.specs.declared.time_steps.TimeStep.{TimeStep}
-use Rattle.model_types.specs.Kinds.{given_in, last_given}
-use Rattle.model_types.specs.Layers.{dec_at}
-use Rattle.model_types.specs.Times.{period_at}
-use Rattle.model_types.specs.Valid.{IsTimed}
-use Rattle.conductance_bounds.specs.Parts.{part_term, IsPart, is_whole, blend, IsGivenPair}
 use Rattle.problem_builder.specs.ConstantHeads.{IsKeptPair, IsGivenOrKept, IsConstantPair}
-use Rattle.bounds_exist.proofs.Pairs.{pair_of}
 use Rattle.problem_or_refusal.proofs.Formulas.{part_bounded}
 use Rattle.problem_or_refusal.proofs.Rounded.{signed_floor, signed_ceiling, head_pair, floor_over, ceiling_over}
 

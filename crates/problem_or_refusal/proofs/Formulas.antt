@@ -1,34 +1,20 @@
 -- The formulas of a valid model's bounds have both bounds.
-use Rattle.std.proofs.Common.{◌≡◌, ℕ, zero, suc, ◌+◌, ◌-◌, ◌*◌, ◌/◌, ◌<◌, inl, inr, Bool, true, false, cond, Some, None, refl, sym, arith}
-use Rattle.std.specs.Prelude.{◌==◌}
+use Rattle.problem_or_refusal.proofs.Common.{◌≡◌, ℕ, zero, suc, ◌+◌, ◌-◌, ◌*◌, ◌/◌, ◌<◌, inl, inr, Bool, true, false, cond, Some, None, refl, sym, arith, ◌==◌}
+use Rattle.problem_or_refusal.proofs.Common.{cases_Bool, false≢true, Dec, IsDec, size, scaled, Ratio, FlowModel, Period, cell_count, layer_size, column_of}
+use Rattle.problem_or_refusal.proofs.Common.{row_of, no_number, dec_at, delr_at, delc_at, hk_at, hani_at, vka_at, vkcb_at, is_ratio, is_active, has_bed, top_at}
+use Rattle.problem_or_refusal.proofs.Common.{bottom_at, bed_thickness, IsPositive, multiplier, IsModel, IsTimed, number_one, Number, face_term, storage_term}
+use Rattle.problem_or_refusal.proofs.Common.{recharge_term, evap_term, thick_term, column_k_term, vertical_k_at, vertical_half_term, bed_term, part_term}
+use Rattle.problem_or_refusal.proofs.Common.{unity_positive, Thicknesses, AreThicknesses, HasPositiveBounds, IsBounded}
 use Rattle.std.proofs.lemmas.Nat.{mod_below}
-use Rattle.std.proofs.lemmas.Bool.{cases_Bool, false≢true}
-use Rattle.decimal_input.specs.declared.dec.Dec.{Dec}
-use Rattle.decimal_input.specs.Canonical.{IsDec, size}
-use Rattle.decimal_input.specs.Decimals.{scaled}
-use Rattle.decimal_input.specs.Ratios.{Ratio}
 use Rattle.model_types.specs.declared.face.Axis.{Axis}
 use Rattle.model_types.specs.declared.face.Axis.TheVariants.{Row, Column, Vertical}
-use Rattle.model_types.specs.declared.model.FlowModel.{FlowModel}
-use Rattle.model_types.specs.declared.period.Period.{Period}
-use Rattle.model_types.specs.Cells.{cell_count, layer_size, column_of, row_of}
 use Rattle.model_types.specs.Conductances.{one}
 use Rattle.model_types.specs.Faces.{stride}
-use Rattle.model_types.specs.Layers.{no_number, dec_at, delr_at, delc_at, hk_at, hani_at, vka_at, vkcb_at, is_ratio, is_active, has_bed, top_at, bottom_at, bed_thickness}
-use Rattle.model_types.specs.Numbers.{IsPositive}
-use Rattle.model_types.specs.Times.{multiplier}
-use Rattle.model_types.specs.Valid.{IsModel, IsTimed, number_one}
 use Rattle.conductance_bounds.specs.Terms.{Term}
-use Rattle.conductance_bounds.specs.Terms.Term.{Number}
 use Rattle.conductance_bounds.specs.Growth.{sum_term, power_term}
 use Rattle.conductance_bounds.specs.Branches.{half_term, row_term, vertical_k_term, vertical_term, resistance_sum, storativity_term}
-use Rattle.conductance_bounds.specs.Formulas.{face_term, storage_term, recharge_term, evap_term, thick_term, column_k_term, vertical_k_at, vertical_half_term, bed_term}
-use Rattle.conductance_bounds.specs.Parts.{part_term}
-use Rattle.conductance_bounds.proofs.PartBounds.{unity_positive}
 use Rattle.conductance_bounds.proofs.Positive.{size_positive}
-use Rattle.problem_builder.specs.Thicknesses.{Thicknesses, AreThicknesses}
 use Rattle.problem_builder.proofs.Elevations.{bed_valid, no_bed_gap, same_bed_gap}
-use Rattle.bounds_exist.specs.Bounded.{HasPositiveBounds, IsBounded}
 use Rattle.problem_or_refusal.proofs.Rounded.{number_bounded}
 use Rattle.problem_or_refusal.proofs.Spans.{span_positive}
 

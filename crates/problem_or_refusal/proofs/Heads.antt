@@ -1,16 +1,8 @@
 -- The pairs of constant-head cells exist, and the bounds of STRT.
-use Rattle.std.proofs.Common.{◌≡◌, ℕ, ◌∙◌, Bool, true, false, refl, sym, subst, arith, map}
-use Rattle.std.specs.List.{range_with_len}
-use Rattle.std.proofs.lemmas.Bool.{false≢true, true≢false}
+use Rattle.problem_or_refusal.proofs.Common.{◌≡◌, ℕ, ◌∙◌, Bool, true, false, refl, sym, subst, arith, map, range_with_len, false≢true, true≢false, Bound}
+use Rattle.problem_or_refusal.proofs.Common.{no_bound, FlowModel, cell_count, dec_at, is_active, time_of, ConstantPairsExist, StartHeadsExist}
 use Rattle.std.proofs.lemmas.List.FromFn.{length-map-range_with_len, get_or-map-range_with_len}
-use Rattle.step_problem.specs.declared.heads.Bound.{Bound}
-use Rattle.step_problem.specs.Heads.{no_bound}
-use Rattle.model_types.specs.declared.model.FlowModel.{FlowModel}
-use Rattle.model_types.specs.Cells.{cell_count}
-use Rattle.model_types.specs.Layers.{dec_at, is_active}
 use Rattle.problem_builder.specs.StartHeads.{IsStart}
-use Rattle.problem_builder.proofs.TimesOf.{time_of}
-use Rattle.problem_or_refusal.specs.Laws.{ConstantPairsExist, StartHeadsExist}
 use Rattle.problem_or_refusal.proofs.ConstantHeads.{constant_pair}
 use Rattle.problem_or_refusal.proofs.Rounded.{head_pair}
 

@@ -1,3 +1,4 @@
+mod Common
 pub mod Rounded
 pub mod Spans
 pub mod Formulas

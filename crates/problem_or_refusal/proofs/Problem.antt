@@ -1,28 +1,16 @@
 -- A time of a valid model has a problem, or the least variable cell that has a refusal has this one.
-use Rattle.std.proofs.Common.{◌≡◌, ℕ, zero, suc, ◌≤◌, ◌<◌, ◌⊎◌, inl, inr, true, false, Option, Some, None, List, [], ◌∷◌, ◌++◌, refl, sym, ap, ◌∙◌, subst, arith}
-use Rattle.std.specs.List.{AllZip}
-use Rattle.std.proofs.lemmas.Bool.{cases_Bool}
+use Rattle.problem_or_refusal.proofs.Common.{◌≡◌, ℕ, zero, suc, ◌≤◌, ◌<◌, ◌⊎◌, inl, inr, true, false, Option, Some, None, List, [], ◌∷◌, ◌++◌, refl, sym, ap}
+use Rattle.problem_or_refusal.proofs.Common.{◌∙◌, subst, arith, AllZip, cases_Bool, Bound, Entries, FlowModel, TimeStep, cell_count, is_variable}
+use Rattle.problem_or_refusal.proofs.Common.{variable_below, IsModel, IsCellOf, IsTimeOf, Thicknesses, AreThicknesses, time_of, ProblemOrRefusal}
 use Rattle.std.proofs.lemmas.List.Elements.{All-nil, All-push}
-use Rattle.step_problem.specs.declared.heads.Bound.{Bound}
 use Rattle.step_problem.specs.declared.heads.Side.TheVariants.{Low}
 use Rattle.step_problem.specs.declared.place.NoBound.{NoBound}
 use Rattle.step_problem.specs.declared.place.Place.TheVariants.{Cell}
-use Rattle.step_problem.specs.Entries.{Entries}
-use Rattle.model_types.specs.declared.model.FlowModel.{FlowModel}
-use Rattle.model_types.specs.declared.time_steps.TimeStep.{TimeStep}
-use Rattle.model_types.specs.Cells.{cell_count}
-use Rattle.model_types.specs.Kinds.{is_variable, variable_below}
-use Rattle.model_types.specs.Valid.{IsModel}
 use Rattle.model_types.proofs.Ranks.{passes_next, fails_next}
 use Rattle.flow_equations.proofs.Links.{below_is}
-use Rattle.problem_builder.specs.Cells.{IsCellOf}
-use Rattle.problem_builder.specs.Moments.{IsTimeOf}
 use Rattle.problem_builder.specs.Problems.{AreCells, IsRefused, HasNoProblem}
 use Rattle.problem_builder.specs.Refusals.{fault_of}
-use Rattle.problem_builder.specs.Thicknesses.{Thicknesses, AreThicknesses}
 use Rattle.problem_builder.proofs.Pushed.{AllZip-join}
-use Rattle.problem_builder.proofs.TimesOf.{time_of}
-use Rattle.problem_or_refusal.specs.Laws.{ProblemOrRefusal}
 use Rattle.problem_or_refusal.proofs.CellEntries.{a_cell}
 use Rattle.problem_or_refusal.proofs.Spans.{widths, are_widths}
 

@@ -1,24 +1,13 @@
 -- Numbers of the input have whole bounds, and are decimals of 18 digits.
-use Rattle.std.proofs.Common.{◌≡◌, ℕ, zero, suc, ◌+◌, ◌-◌, ◌*◌, ◌/◌, ◌≤◌, ◌<◌, ◌^◌, inl, inr, refl, subst, arith, ℤ, pos, negsuc, neg_ℤ, ◌+ℤ◌, ◌-ℤ◌, ◌*ℤ◌, ◌≤ℤ◌, ◌<ℤ◌}
-use Rattle.std.specs.Prelude.{unsigned_abs}
+use Rattle.problem_or_refusal.proofs.Common.{◌≡◌, ℕ, zero, suc, ◌+◌, ◌-◌, ◌*◌, ◌/◌, ◌≤◌, ◌<◌, ◌^◌, inl, inr, refl, subst, arith, ℤ, pos, negsuc, neg_ℤ, ◌+ℤ◌}
+use Rattle.problem_or_refusal.proofs.Common.{◌-ℤ◌, ◌*ℤ◌, ◌≤ℤ◌, ◌<ℤ◌, unsigned_abs, cases_lt, cases_Bool, Dec, IsDec, size, number, scaled, Same, scaled_shift}
+use Rattle.problem_or_refusal.proofs.Common.{IsFloorOf, IsCeilingOf, Number, has_ceiling, ceiling-passes, IsBounded, floor_of}
 use Rattle.std.proofs.Math.Nat.{pow-suc, lt-mul-div-succ, div-mul-le_self}
-use Rattle.std.proofs.lemmas.Bool.{cases_lt, cases_Bool}
 use Rattle.std.proofs.lemmas.Int.{ints}
-use Rattle.decimal_input.specs.declared.dec.Dec.{Dec}
-use Rattle.decimal_input.specs.Canonical.{IsDec, size, number}
-use Rattle.decimal_input.specs.Decimals.{scaled}
-use Rattle.decimal_input.specs.Ratios.{Same}
 use Rattle.decimal_input.specs.Wholes.{IsSignedFloor, IsSignedCeiling}
-use Rattle.decimal_input.proofs.Powers.{scaled_shift}
 use Rattle.decimal_input.proofs.SignedFloors.{floor_of_floor, floor_of_ceiling, ceiling_of_ceiling, ceiling_of_floor}
 use Rattle.scaled_decimal.proofs.Products.{nothing_same}
-use Rattle.conductance_bounds.specs.Parts.{IsFloorOf, IsCeilingOf}
-use Rattle.conductance_bounds.specs.Terms.Term.{Number}
-use Rattle.conductance_bounds.proofs.PartBounds.{has_ceiling}
-use Rattle.conductance_bounds.proofs.Whole.{ceiling-passes}
 use Rattle.problem_builder.specs.InputBounds.{IsCond, IsWellPair, IsHeadPair}
-use Rattle.bounds_exist.specs.Bounded.{IsBounded}
-use Rattle.bounds_exist.proofs.Pairs.{floor_of}
 
 pub signed_floor : (d : Dec) (s : ℕ) → (z : ℤ) × IsSignedFloor z (number d) s
 signed_floor d s =

@@ -1,17 +1,9 @@
 -- Each cell has a thickness between two decimals, and each bed; where a layer is thick, both are above 0.
-use Rattle.std.proofs.Common.{ℕ, ◌<◌, ◌*◌, ◌^◌, arith, pos, neg_ℤ, ◌-ℤ◌}
-use Rattle.std.specs.Prelude.{unsigned_abs}
-use Rattle.decimal_input.specs.declared.dec.Dec.{Dec}
-use Rattle.decimal_input.specs.Decimals.{scaled, up}
-use Rattle.decimal_input.proofs.Powers.{num_scaled, ten_pos}
-use Rattle.model_types.specs.declared.model.FlowModel.{FlowModel}
-use Rattle.model_types.specs.Layers.{top_at, bottom_at, lowest}
-use Rattle.model_types.specs.Numbers.{IsThick}
+use Rattle.problem_or_refusal.proofs.Common.{ℕ, ◌<◌, ◌*◌, ◌^◌, arith, pos, neg_ℤ, ◌-ℤ◌, unsigned_abs, Dec, scaled, up, num_scaled, ten_pos, FlowModel, top_at}
+use Rattle.problem_or_refusal.proofs.Common.{bottom_at, lowest, IsThick, Lower, Upper, Thicknesses, AreThicknesses}
 use Rattle.conductance_bounds.specs.declared.span.Span.{Span}
-use Rattle.conductance_bounds.specs.Terms.Side.{Lower, Upper}
 use Rattle.conductance_bounds.specs.Thicknesses.{IsSpan}
 use Rattle.conductance_bounds.proofs.ThickBounds.{edges_room}
-use Rattle.problem_builder.specs.Thicknesses.{Thicknesses, AreThicknesses}
 use Rattle.bounds_exist.proofs.Roundings.{down_of, up_of}
 use Rattle.bounds_exist.proofs.TermBounds.{rounded_positive}
 use Rattle.problem_or_refusal.proofs.Rounded.{signed_floor, signed_ceiling}

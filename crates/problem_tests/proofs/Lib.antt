@@ -1,2 +1,3 @@
+mod Common
 mod Shown
 mod Showing

@@ -1,20 +1,15 @@
 -- A head that a seat has now seen is written among the bounds that are shown.
-use Rattle.std.proofs.Common.{◌≡◌, ℕ, ◌<◌, List, length, ℤ, sym, ◌∙◌, subst}
+use Rattle.problem_tests.proofs.Common.{◌≡◌, ℕ, ◌<◌, List, length, ℤ, sym, ◌∙◌, subst, Entries, Low, High, IsHead, heads_on, AreWords, seen_on, SameOn}
+use Rattle.problem_tests.proofs.Common.{SameOnBut, ShowsSeen, IsShown}
 use mathlib.Core.Logic.{dite}
 use native.Mathlib.Decide.{ℕ_discrete}
-use Rattle.step_problem.specs.Entries.{Entries}
 use Rattle.step_problem.specs.declared.heads.Bound.{Bound}
 use Rattle.step_problem.specs.declared.heads.Side.{Side}
-use Rattle.step_problem.specs.declared.heads.Side.TheVariants.{Low, High}
-use Rattle.step_problem.specs.Conditions.{IsHead}
 use Rattle.cell_relax.specs.Sides.{other}
-use Rattle.cell_relax.specs.Words.{heads_on, AreWords}
 use Rattle.cell_relax.proofs.Sides.{each_side}
 use Rattle.relax_core.specs.Core.{with_head}
 use Rattle.head_table.specs.declared.table.HeadSeat.{HeadSeat}
 use Rattle.head_table.specs.declared.table.HeadTable.{HeadTable}
-use Rattle.head_table.specs.Seats.{seen_on, SameOn, SameOnBut, ShowsSeen}
-use Rattle.problem_tests.specs.Actors.{IsShown}
 use Rattle.head_table.proofs.WordReads.{seen_here, seen_else, other_seen}
 
 pub shows_head : (side : Side) (p : List Entries) (s t : HeadSeat) (bs : List Bound) (i : ℕ) (z : ℤ) → i < length bs → seen_on side t i ≡ z → SameOnBut side i s t → SameOn (other side) s t → ShowsSeen p s bs → ShowsSeen p t (with_head side bs i z)

@@ -1,16 +1,11 @@
 -- Stresses with arrays, and a model whose periods have them.
-use Rattle.std.proofs.Common.{ℤ, ◌≤ℤ◌, pos, List, All}
+use Rattle.rch_package.proofs.Common.{ℤ, ◌≤ℤ◌, pos, List, All, FlowModel, Period, contents, AreArrays, HasRecharge, IsRecharged, recharge_arrays}
 use Rattle.std.proofs.lemmas.List.Elements.{All-weaker}
 use Rattle.model_types.specs.declared.grid.Grid.{Grid}
-use Rattle.model_types.specs.declared.model.FlowModel.{FlowModel}
-use Rattle.model_types.specs.declared.period.Period.{Period}
 use Rattle.model_types.specs.declared.period.Stresses.{Stresses}
 use Rattle.model_types.specs.Receivers.{is_int}
 use Rattle.period_arrays.specs.Forms.{IsArea}
-use Rattle.period_arrays.specs.Kinds.{contents}
 use Rattle.period_arrays.specs.declared.area.Area.{Area}
-use Rattle.rch_package.specs.Forms.{AreArrays, HasRecharge, IsRecharged}
-use Rattle.rch_package.specs.Recharge.{recharge_arrays}
 
 pub are_arrays : (grid : Grid) (option : ℤ) (before : Stresses) (a : Area) → IsArea (contents recharge_arrays option) grid a → AreArrays (is_int option 2) grid (recharge_arrays.put before a)
 are_arrays grid option before a h = record { rates = h.rates; layers = h.layers }

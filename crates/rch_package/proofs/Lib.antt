@@ -1,2 +1,3 @@
+mod Common
 pub mod ArrayLemmas
 pub mod ModelLemmas

@@ -1,14 +1,10 @@
 -- A model in limits stays so with recharge.
-use Rattle.std.proofs.Common.{◌≡◌, ℤ, pos, ◌≤ℤ◌, List, map, IfOk, Result, Ok, Err, refl, sym, ap, subst, arith}
+use Rattle.rch_package.proofs.Common.{◌≡◌, ℤ, pos, ◌≤ℤ◌, List, map, IfOk, Result, Ok, Err, refl, sym, ap, subst, arith, FlowModel, Period, without, HasRecharge}
+use Rattle.rch_package.proofs.Common.{IsRecharged, SameBut, recharge_arrays}
 use Rattle.std.proofs.lemmas.Int.{ints}
 use Rattle.outside.specs.declared.refusals.InputFault.{InputFault}
-use Rattle.model_types.specs.declared.model.FlowModel.{FlowModel}
-use Rattle.model_types.specs.declared.period.Period.{Period}
 use Rattle.model_types.specs.Valid.{IsModel, IsPeriod}
 use Rattle.list_package.proofs.ModelLemmas.{each_period, evaporation_of, replaced, same_evaps, same_view, steps, with_stresses}
-use Rattle.period_arrays.specs.Kinds.{without}
-use Rattle.rch_package.specs.Forms.{HasRecharge, IsRecharged, SameBut}
-use Rattle.rch_package.specs.Recharge.{recharge_arrays}
 
 period : (m : FlowModel) (r : ℤ) (ps : List Period) (p q : Period) → without recharge_arrays p ≡ without recharge_arrays q → IsPeriod m q → HasRecharge (record m { nrchop = r; periods = ps }) p → IsPeriod (record m { nrchop = r; periods = ps }) p
 period m r ps p q same h has =

@@ -1,11 +1,7 @@
 -- Loops that make the same step for each number of a range.
-use Rattle.std.proofs.Common.{◌≡◌, ℕ, suc, ◌-◌, ◌+◌, ◌≤◌, ◌<◌, Result, Ok, Err, refl, sym, ◌∙◌, arith}
-use Rattle.outside.specs.declared.refusals.Refusal.{Refusal}
-use Rattle.outside.specs.declared.refusals.InputFault.{InputFault}
-use Rattle.outside.specs.declared.refusals.InputFault.TheVariants.{Refused, ReadFault, Memory}
-use Rattle.outside.specs.declared.refusals.TextFault.{TextFault}
+use Rattle.record_lines.proofs.Common.{◌≡◌, ℕ, suc, ◌-◌, ◌+◌, ◌≤◌, ◌<◌, Result, Ok, Err, refl, sym, ◌∙◌, arith, Refusal, InputFault, Refused, ReadFault, Memory}
+use Rattle.record_lines.proofs.Common.{TextFault, Stops, StopsText, counted}
 use Rattle.outside.specs.declared.refusals.TextFault.TheVariants as texts
-use Rattle.record_lines.specs.Reading.{Stops, StopsText, counted}
 
 -- one more step is made
 pub step_goes_on : {S E : Type 0} (step : ℕ → S → Result S E) (count i : ℕ) (s after : S) (total : Result S E) → i < count → step i s ≡ Ok after

@@ -1,13 +1,8 @@
 -- Loops that read something for each of a list.
-use Rattle.std.proofs.Common.{arith, length, ◌≡◌, List, [], ◌∷◌, ◌++◌, Result, Ok, Err, refl, sym, ap, ◌∙◌}
-use Rattle.std.proofs.lemmas.List.{append-nil}
-use Rattle.outside.specs.declared.refusals.Refusal.{Refusal}
-use Rattle.outside.specs.declared.refusals.TextFault.{TextFault}
-use Rattle.outside.specs.declared.refusals.TextFault.TheVariants as texts
-use Rattle.outside.specs.declared.refusals.InputFault.{InputFault}
-use Rattle.outside.specs.declared.refusals.InputFault.TheVariants.{Refused, ReadFault, Memory}
-use Rattle.record_lines.specs.Reading.{Stops, StopsText, for_each}
+use Rattle.record_lines.proofs.Common.{arith, length, ◌≡◌, List, [], ◌∷◌, ◌++◌, Result, Ok, Err, refl, sym, ap, ◌∙◌, append-nil, Refusal, TextFault, InputFault}
+use Rattle.record_lines.proofs.Common.{Refused, ReadFault, Memory, Stops, StopsText, for_each}
 use Rattle.record_lines.proofs.Loops.{with_front, regroup}
+use Rattle.outside.specs.declared.refusals.TextFault.TheVariants as texts
 
 -- one more of the list is read
 pub each_goes_on : {A X S E : Type 0} (read : A → S → Result (X × S) E) (front : List X) (all others : List A) (a : A) (s after : S) (x : X) (total : Result (List X × S) E) → all ≡ a ∷ others → read a s ≡ Ok (x, after)

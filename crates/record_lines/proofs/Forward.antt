@@ -1,19 +1,17 @@
 -- What a reading takes and leaves are words and lines that it was given.
-use Rattle.std.proofs.Common.{◌≡◌, ℕ, zero, suc, ◌+◌, Bool, true, false, List, [], ◌∷◌, Option, Some, None, Result, Ok, Err, All, refl, subst, ◌==◌, if◌then◌else◌}
+use Rattle.record_lines.proofs.Common.{◌≡◌, ℕ, zero, suc, ◌+◌, Bool, true, false, List, [], ◌∷◌, Option, Some, None, Result, Ok, Err, All, refl, subst, ◌==◌}
+use Rattle.record_lines.proofs.Common.{if◌then◌else◌, lines, words, Refusal, Left, Numbered, has_word, next_number, numbered, number_behind, left_from}
+use Rattle.record_lines.proofs.Common.{is_comment, after_comments, without_comments, ◌>>=◌, repeated, for_each, appended, counted, Taking, spread, taking}
+use Rattle.record_lines.proofs.Common.{next_word, source, taken, next_value}
 use Rattle.std.specs.Prelude.{IfOk}
 use Rattle.std.proofs.lemmas.List.Elements.{All-nil, All-cons, All-head, All-tail}
 use Rattle.outside.specs.Asking.{WordsMay, TextMay}
 use Rattle.outside.specs.Inputs.{file_limit}
 use Rattle.outside.specs.Names.{folder_name, is_good_name}
 use Rattle.outside.specs.Refusals.{refusal}
-use Rattle.outside.specs.Words.{lines, words}
 use Rattle.outside.specs.declared.codes.Code.TheVariants.{BadName}
-use Rattle.outside.specs.declared.refusals.Refusal.{Refusal}
 use Rattle.record_lines.specs.Asking.{LineMay, LinesMay}
 use Rattle.record_lines.specs.Items.{word_at, line_from, line_at, name_at}
-use Rattle.record_lines.specs.Layout.{Left, Numbered, has_word, next_number, numbered, number_behind, left_from, is_comment, after_comments, without_comments}
-use Rattle.record_lines.specs.Reading.{◌>>=◌, repeated, for_each, appended, counted}
-use Rattle.record_lines.specs.Spread.{Taking, spread, taking, next_word, source, taken, next_value}
 use Rattle.record_lines.specs.declared.free.FreeFault.{FreeFault}
 
 -- one reading after another

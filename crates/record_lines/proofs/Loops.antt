@@ -1,11 +1,6 @@
 -- Loops that read the same thing so many times.
-use Rattle.std.proofs.Common.{◌≡◌, ℕ, suc, ◌-◌, ◌+◌, ◌≤◌, ◌<◌, List, [], ◌∷◌, ◌++◌, Result, Ok, Err, refl, sym, ap, ◌∙◌, append_assoc, arith}
-use Rattle.std.proofs.lemmas.List.{append-nil}
-use Rattle.outside.specs.declared.refusals.Refusal.{Refusal}
-use Rattle.outside.specs.declared.refusals.InputFault.{InputFault}
-use Rattle.outside.specs.declared.refusals.InputFault.TheVariants.{Refused, ReadFault, Memory}
-use Rattle.record_lines.specs.Reading.{◌>>=◌, Stops, StopsText, appended, repeated}
-use Rattle.outside.specs.declared.refusals.TextFault.{TextFault}
+use Rattle.record_lines.proofs.Common.{◌≡◌, ℕ, suc, ◌-◌, ◌+◌, ◌≤◌, ◌<◌, List, [], ◌∷◌, ◌++◌, Result, Ok, Err, refl, sym, ap, ◌∙◌, append_assoc, arith}
+use Rattle.record_lines.proofs.Common.{append-nil, Refusal, InputFault, Refused, ReadFault, Memory, ◌>>=◌, Stops, StopsText, appended, repeated, TextFault}
 use Rattle.outside.specs.declared.refusals.TextFault.TheVariants as texts
 
 -- what was read before, and what is still read

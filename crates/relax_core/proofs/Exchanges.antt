@@ -1,16 +1,7 @@
 -- One exchange, or one look, on words and on what was seen of them.
-use Rattle.std.proofs.Common.{ℕ, ◌<◌, List, length, ℤ, refl, ◌∙◌, subst, arith, length-set}
-use Rattle.std.specs.Int.{int_max, int_min}
-use Rattle.step_problem.specs.declared.heads.Bound.{Bound}
-use Rattle.step_problem.specs.declared.heads.Side.TheVariants.{Low, High}
-use Rattle.step_problem.specs.Entries.{Entries}
-use Rattle.step_problem.specs.Conditions.{IsProblem}
-use Rattle.step_problem.specs.Heads.{Edges, IsRaise, IsSink, lower_at, upper_at, head_at, AreOnTheWay}
-use Rattle.step_problem.proofs.Sides.{same_on_the_way}
-use Rattle.step_problem.proofs.SidesTurns.{tighter, turn_keeps, still_seen, sees, same_seen}
-use Rattle.step_problem.proofs.BothSides.{low_side, high_side}
-use Rattle.relax_core.specs.Core.{with_head}
-use Rattle.relax_core.specs.Kept.{WasSeen}
+use Rattle.relax_core.proofs.Common.{ℕ, ◌<◌, List, length, ℤ, refl, ◌∙◌, subst, arith, length-set, int_max, int_min, Bound, Low, High, Entries, IsProblem}
+use Rattle.relax_core.proofs.Common.{Edges, IsRaise, IsSink, lower_at, upper_at, head_at, AreOnTheWay, same_on_the_way, tighter, turn_keeps, still_seen, sees}
+use Rattle.relax_core.proofs.Common.{same_seen, low_side, high_side, with_head, WasSeen}
 use Rattle.relax_core.proofs.Words.{low_here, low_else, high_stays, high_here, high_else, low_stays, low_exchange, high_exchange}
 
 module _ (p : List Entries) (ok : IsProblem p) where

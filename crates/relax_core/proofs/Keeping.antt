@@ -1,18 +1,8 @@
 -- Every event, and so every list of events, keeps what a state keeps and loosens no word.
-use Rattle.std.proofs.Common.{◌≡◌, ℕ, ◌<◌, List, [], ◌∷◌, length, All, ℤ, ◌≤ℤ◌, sym, subst, arith}
-use Rattle.std.specs.Int.{int_max, int_min}
-use Rattle.std.proofs.lemmas.List.Elements.{All-get_or, All-set, All-weaker}
-use Rattle.step_problem.specs.declared.heads.Bound.{Bound}
-use Rattle.step_problem.specs.declared.heads.Side.TheVariants.{Low, High}
-use Rattle.step_problem.specs.Entries.{Entries}
-use Rattle.step_problem.specs.Conditions.{IsProblem}
-use Rattle.step_problem.specs.Heads.{Edges, lower_at, upper_at, AreOnTheWay}
-use Rattle.step_problem.proofs.SidesTurns.{tighter}
-use Rattle.step_problem.proofs.BothSides.{low_side, high_side, le_refl, le_trans}
-use Rattle.relax_core.specs.declared.events.Event.{Event}
-use Rattle.relax_core.specs.declared.events.Event.TheVariants.{See, Raise, Sink, Claim}
-use Rattle.relax_core.specs.Core.{Core, seen_by, with_head, Becomes, IsNamed, Step, Path}
-use Rattle.relax_core.specs.Kept.{WasSeen, IsKept, IsNoLooser}
+use Rattle.relax_core.proofs.Common.{◌≡◌, ℕ, ◌<◌, List, [], ◌∷◌, length, All, ℤ, ◌≤ℤ◌, sym, subst, arith, int_max, int_min, All-get_or, All-set, All-weaker}
+use Rattle.relax_core.proofs.Common.{Bound, Low, High, Entries, IsProblem, Edges, lower_at, upper_at, AreOnTheWay, tighter, low_side, high_side, le_refl}
+use Rattle.relax_core.proofs.Common.{le_trans, Event, See, Raise, Sink, Claim, Core, seen_by, with_head, Becomes, IsNamed, Step, Path, WasSeen, IsKept}
+use Rattle.relax_core.proofs.Common.{IsNoLooser}
 use Rattle.relax_core.proofs.Words.{high_stays, low_stays, low_exchange, high_exchange}
 use Rattle.relax_core.proofs.Exchanges.{look_low, look_high, raise_still, raise_words, raise_seen, sink_still, sink_words, sink_seen}
 

@@ -1,19 +1,7 @@
 -- Every event keeps words and what was seen in range.
-use Rattle.std.proofs.Common.{◌≡◌, ℕ, ◌<◌, List, [], length, All, ℤ, Bool, true, false, cond, sym, ap, subst, ◌∙◌, arith, int_lt, length-set}
-use Rattle.std.proofs.lemmas.List.Elements.{All-get_or, All-set}
-use Rattle.step_problem.specs.declared.heads.Bound.{Bound}
-use Rattle.step_problem.specs.declared.heads.Side.{Side}
-use Rattle.step_problem.specs.declared.heads.Side.TheVariants.{Low, High}
-use Rattle.step_problem.specs.Entries.{Entries}
-use Rattle.step_problem.specs.Conditions.{IsHead, IsProblem}
-use Rattle.step_problem.specs.Heads.{lower_at, upper_at}
-use Rattle.step_problem.proofs.Sides.{relaxed_head}
-use Rattle.step_problem.proofs.SidesTurns.{by_cell}
-use Rattle.step_problem.proofs.BothSides.{low_side, high_side}
-use Rattle.cell_relax.specs.Words.{heads_on, AreWords}
-use Rattle.relax_core.specs.declared.events.Event.{Event}
-use Rattle.relax_core.specs.declared.events.Event.TheVariants.{See, Raise, Sink, Claim}
-use Rattle.relax_core.specs.Core.{Core, seen_by, with_head, Becomes, IsInRange, IsNamed, Step}
+use Rattle.relax_core.proofs.Common.{◌≡◌, ℕ, ◌<◌, List, [], length, All, ℤ, Bool, true, false, cond, sym, ap, subst, ◌∙◌, arith, int_lt, length-set, All-get_or}
+use Rattle.relax_core.proofs.Common.{All-set, Bound, Side, Low, High, Entries, IsHead, IsProblem, lower_at, upper_at, relaxed_head, by_cell, low_side}
+use Rattle.relax_core.proofs.Common.{high_side, heads_on, AreWords, Event, See, Raise, Sink, Claim, Core, seen_by, with_head, Becomes, IsInRange, IsNamed, Step}
 use Rattle.relax_core.proofs.Words.{low_here, low_else, low_stays, high_here, high_else, high_stays}
 
 one_head : (b : Bool) (x y : ℤ) → IsHead x → IsHead y → IsHead (cond b x y)

@@ -1,12 +1,6 @@
 -- A state's lists as its fields hold them.
-use Rattle.std.proofs.Common.{◌≡◌, ℕ, ◌<◌, List, [], length, map, set, get_or, All, Bool, IsTrue, ◌↔◌, ℤ, sym, subst, ap, ◌∙◌, arith, Vec, Global}
-use Rattle.std.proofs.lemmas.List.{map-set, get_or-map, length-map}
-use Rattle.std.proofs.lemmas.List.Elements.{All-map}
-use Rattle.step_problem.specs.declared.heads.Bound.{Bound}
-use Rattle.step_problem.specs.declared.heads.Side.{Side}
-use Rattle.step_problem.specs.Entries.{Entries}
-use Rattle.cell_relax.specs.Words.{AreWords}
-use Rattle.relax_core.specs.Core.{Core, seen_by, with_head, Becomes, IsInRange}
+use Rattle.relax_core.proofs.Common.{◌≡◌, ℕ, ◌<◌, List, [], length, map, set, get_or, All, Bool, IsTrue, ◌↔◌, ℤ, sym, subst, ap, ◌∙◌, arith, Vec, Global}
+use Rattle.relax_core.proofs.Common.{map-set, get_or-map, length-map, All-map, Bound, Side, Entries, AreWords, Core, seen_by, with_head, Becomes, IsInRange}
 
 -- what one of the vectors holds
 pub seen_read : (seen : List (Vec Bound Global)) (lists : List (List Bound)) (a : ℕ) (old : Vec Bound Global) → map (λ v. v.items) seen ≡ lists → a < length lists → old ≡ get_or seen a old → get_or lists a [] ≡ old.items

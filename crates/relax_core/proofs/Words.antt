@@ -1,13 +1,9 @@
 -- What bounds read after one head of them is replaced.
-use Rattle.std.proofs.Common.{◌≡◌, ℕ, ◌<◌, ◌⊎◌, List, length, ℤ, ◌≤ℤ◌, Bool, true, false, cond, sym, refl, ap, subst, inl, inr, ⊎_elim, int_lt, arith, get_or-set_same, get_or-set_other}
+use Rattle.relax_core.proofs.Common.{◌≡◌, ℕ, ◌<◌, ◌⊎◌, List, length, ℤ, ◌≤ℤ◌, Bool, true, false, cond, sym, refl, ap, subst, inl, inr, ⊎_elim, int_lt, arith}
+use Rattle.relax_core.proofs.Common.{get_or-set_same, get_or-set_other, ints, clamps, int_max, int_min, Bound, Low, High, Ge, no_bound, lower_at, upper_at}
+use Rattle.relax_core.proofs.Common.{with_head}
 use Rattle.std.proofs.lemmas.Bool.{cases_eq}
-use Rattle.std.proofs.lemmas.Int.{ints, clamps}
-use Rattle.std.specs.Int.{int_max, int_min}
-use Rattle.step_problem.specs.declared.heads.Bound.{Bound}
-use Rattle.step_problem.specs.declared.heads.Side.TheVariants.{Low, High}
 use Rattle.step_problem.specs.Exchanges.{IsExchange}
-use Rattle.step_problem.specs.Heads.{Ge, no_bound, lower_at, upper_at}
-use Rattle.relax_core.specs.Core.{with_head}
 
 pub low_here : (bs : List Bound) (c : ℕ) (h : ℤ) → c < length bs → lower_at (with_head Low bs c h) c ≡ h
 low_here bs c h l = ap (λ (b : Bound). b.low) (get_or-set_same bs c (record { low = h; high = upper_at bs c }) no_bound l)

@@ -1,15 +1,7 @@
 -- The heads of links are loaded one by one.
-use Rattle.std.proofs.Common.{◌≡◌, ℕ, zero, suc, ◌+◌, ◌<◌, List, [], ◌∷◌, length, take, slice_set, ℤ, refl, sym, ◌∙◌, arith}
-use Rattle.std.proofs.lemmas.Int.{ints, clamps}
-use Rattle.step_problem.specs.declared.entry.Link.{Link}
-use Rattle.step_problem.specs.Entries.{Entries, link_at, ends_in}
-use Rattle.cell_relax.proofs.Reading.{read_more}
-use Rattle.head_table.specs.declared.table.HeadSeat.{HeadSeat}
-use Rattle.step_problem.specs.declared.heads.Side.{Side}
-use Rattle.step_problem.specs.declared.heads.Side.TheVariants.{Low, High}
-use Rattle.cell_relax.specs.Sides.{AreNoLooser, IsAsTight, other}
-use Rattle.head_table.specs.Seats.{seen_on, seen_of, SameOn, SameOnBut, tighter_of}
-use Rattle.head_table.proofs.Looser.{moves_no_looser}
+use Rattle.relax_worker.proofs.Common.{◌≡◌, ℕ, zero, suc, ◌+◌, ◌<◌, List, [], ◌∷◌, length, take, slice_set, ℤ, refl, sym, ◌∙◌, arith, ints, clamps, Link}
+use Rattle.relax_worker.proofs.Common.{Entries, link_at, ends_in, read_more, HeadSeat, Side, Low, High, AreNoLooser, IsAsTight, other, seen_on, seen_of, SameOn}
+use Rattle.relax_worker.proofs.Common.{SameOnBut, tighter_of, moves_no_looser}
 
 -- heads that are equal at the first ends are so in their list
 ends_same : (h k : ℕ → ℤ) (links : List Link) (i : ℕ) → ((j : ℕ) → j < i → j < length links → k (link_at links j).cell ≡ h (link_at links j).cell) → ends_in k (take i links) ≡ ends_in h (take i links)

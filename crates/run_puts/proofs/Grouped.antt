@@ -1,9 +1,5 @@
 -- Lists of puts, grouped otherwise.
-use Rattle.std.proofs.Common.{◌≡◌, List, [], ◌∷◌, ◌++◌, subst}
-use Rattle.std.proofs.lemmas.List.{append_assoc}
-use Rattle.outside.specs.Puts.{Put, refused}
-use Rattle.outside.specs.declared.traits.SinkError.{SinkError}
-use Rattle.run_puts.specs.Lines.{Text}
+use Rattle.run_puts.proofs.Common.{◌≡◌, List, [], ◌∷◌, ◌++◌, subst, append_assoc, Put, refused, SinkError, Text}
 
 pub grouped : (L : List Put → Type 0) (puts : List Put) (piece : Text) (e named : SinkError) (last : Put) → e ≡ named → L (puts ++ (refused piece e ∷ []) ++ (last ∷ [])) → L (puts ++ (refused piece named ∷ last ∷ []))
 grouped L puts piece e named last same h =

@@ -1,3 +1,4 @@
+mod Common
 mod Grouped
 pub mod Makes
 pub mod Pieces

@@ -1,16 +1,11 @@
 -- What the puts of a run make of the sink.
-use Rattle.std.proofs.Common.{◌≡◌, ℕ, List, [], ◌∷◌, ◌++◌, map, Ok, Err, Result, Option, None, Some, subst, sym, refl, ◌∙◌}
-use Rattle.std.proofs.lemmas.List.{append_assoc, append-nil}
+use Rattle.run_puts.proofs.Common.{◌≡◌, ℕ, List, [], ◌∷◌, ◌++◌, map, Ok, Err, Result, Option, None, Some, subst, sym, refl, ◌∙◌, append_assoc, append-nil, Put}
+use Rattle.run_puts.proofs.Common.{Seen, PutMakes, PutsMake, taken, SinkError, Text, IsTail, failed, wanting, sink_wanting, status_after, IsRun, whole, early}
+use Rattle.run_puts.proofs.Common.{Status}
 use Rattle.std.specs.List.{concat}
 use Rattle.std.specs.Io.KnownBytes.{Appends}
 use Rattle.outside.specs.Counts.{Rose}
-use Rattle.outside.specs.Puts.{Put, Seen, PutMakes, PutsMake, taken}
-use Rattle.outside.specs.declared.traits.SinkError.{SinkError}
 use Rattle.outside.specs.declared.traits.SinkError.TheVariants as error
-use Rattle.run_puts.specs.Lines.{Text}
-use Rattle.run_puts.specs.Tails.{IsTail, failed, wanting, sink_wanting, status_after}
-use Rattle.run_puts.specs.Runs.{IsRun, whole, early}
-use Rattle.run_puts.specs.declared.status.Status.{Status}
 use Rattle.run_puts.specs.declared.status.Status.TheVariants as status
 
 Appends-join : (a b c : Option (List ℕ)) (xs ys : List ℕ) → Appends a b xs → Appends b c ys → Appends a c (xs ++ ys)

@@ -1,14 +1,9 @@
 -- A run from one piece to the next, and its ends.
-use Rattle.std.proofs.Common.{◌≡◌, List, [], ◌∷◌, ◌++◌, map, Ok, Err, Result, Option, subst, sym, ap, refl, ◌∙◌, inl, inr, ◌⊎◌}
-use Rattle.std.proofs.lemmas.List.{append_assoc, append-nil, map-append}
-use Rattle.outside.specs.Puts.{Put, taken}
-use Rattle.outside.specs.declared.traits.SinkError.{SinkError}
-use Rattle.outside.specs.declared.traits.SinkError.TheVariants as error
-use Rattle.run_puts.specs.Lines.{Text}
-use Rattle.run_puts.specs.Tails.{IsTail, failed, wanting, sink_wanting, memory_put, status_after}
-use Rattle.run_puts.specs.Runs.{IsRun, whole, early, Begins, nothing, all_due, cut}
+use Rattle.run_puts.proofs.Common.{◌≡◌, List, [], ◌∷◌, ◌++◌, map, Ok, Err, Result, Option, subst, sym, ap, refl, ◌∙◌, inl, inr, ◌⊎◌, append_assoc, append-nil}
+use Rattle.run_puts.proofs.Common.{map-append, Put, taken, SinkError, Text, IsTail, failed, wanting, sink_wanting, memory_put, status_after, IsRun, whole}
+use Rattle.run_puts.proofs.Common.{early, Begins, nothing, all_due, cut, Status}
 use Rattle.run_puts.specs.Ends.{IsPut, IsLast, IsWanting, IsEnd}
-use Rattle.run_puts.specs.declared.status.Status.{Status}
+use Rattle.outside.specs.declared.traits.SinkError.TheVariants as error
 use Rattle.run_puts.specs.declared.status.Status.TheVariants as status
 
 -- a run that failed to write or lacked memory

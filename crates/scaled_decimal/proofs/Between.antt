@@ -1,9 +1,5 @@
-use Rattle.std.proofs.Common.{◌≡◌, ℕ, suc, ◌+◌, ◌*◌, ◌-◌, ◌≤◌, ◌<◌, ◌^◌, inl, inr, subst, arith}
-use Rattle.std.proofs.Math.Nat.{mul-le-mul, mul-le-mul_left, mul-le-mul_right, pow-suc}
-use Rattle.std.proofs.lemmas.Nat.{pow-add}
-use Rattle.std.proofs.lemmas.Bool.{cases_lt}
-use Rattle.decimal_input.proofs.Powers.{ten_pos}
-use Rattle.decimal_input.proofs.Cross.{lt_cancel}
+use Rattle.scaled_decimal.proofs.Common.{◌≡◌, ℕ, suc, ◌+◌, ◌*◌, ◌-◌, ◌≤◌, ◌<◌, ◌^◌, inl, inr, subst, arith, mul-le-mul, mul-le-mul_left, mul-le-mul_right}
+use Rattle.scaled_decimal.proofs.Common.{pow-suc, pow-add, cases_lt, ten_pos, lt_cancel}
 
 -- x units of 10 ^ (b + j) in units of 10 ^ b
 coarse : (x m p q : ℕ) → x * (p * q) < (m + 1) * p → x * (p * q) ≤ m * p

@@ -1,11 +1,5 @@
-use Rattle.std.proofs.Common.{◌≡◌, ℕ, ◌+◌, ◌*◌, ◌-◌, ◌/◌, ◌≤◌, ◌<◌, ◌^◌, inl, refl, ◌∙◌, arith, ℤ, pos, ◌+ℤ◌, add-one}
-use Rattle.std.proofs.lemmas.Int.{ints}
-use Rattle.std.proofs.Math.Nat.{lt-mul-div-succ, lt_of_mul-lt-mul_right, div-div-eq-div-mul, pow-suc}
-use Rattle.decimal_input.specs.Ratios.{Ratio, Same}
-use Rattle.decimal_input.specs.Decimals.{scaled}
-use Rattle.scaled_decimal.specs.declared.decimal.Sd.{Sd}
-use Rattle.scaled_decimal.specs.Nearest.{IsDown, IsUp}
-use Rattle.scaled_decimal.specs.Cuts.{IsFrom, IsUpTo}
+use Rattle.scaled_decimal.proofs.Common.{◌≡◌, ℕ, ◌+◌, ◌*◌, ◌-◌, ◌/◌, ◌≤◌, ◌<◌, ◌^◌, inl, refl, ◌∙◌, arith, ℤ, pos, ◌+ℤ◌, add-one, ints, lt-mul-div-succ}
+use Rattle.scaled_decimal.proofs.Common.{lt_of_mul-lt-mul_right, div-div-eq-div-mul, pow-suc, Ratio, Same, scaled, Sd, IsDown, IsUp, IsFrom, IsUpTo}
 use Rattle.scaled_decimal.proofs.Nearest.{cut_down_by, cut_up_by, carried, uncarried}
 use Rattle.scaled_decimal.proofs.Numbers.{power_pos, at_least_quotient, below_quotient, at_least_product, below_product}
 

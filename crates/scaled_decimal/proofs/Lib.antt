@@ -1,3 +1,4 @@
+mod Common
 pub mod Between
 pub mod Fronts
 pub mod Monotone

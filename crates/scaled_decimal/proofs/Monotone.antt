@@ -1,11 +1,6 @@
-use Rattle.std.proofs.Common.{ℕ, ◌<◌, pos, neg_ℤ}
-use Rattle.decimal_input.specs.Ratios.{Ratio, times, plus, over, AtMost}
-use Rattle.decimal_input.specs.Decimals.{scaled}
-use Rattle.decimal_input.proofs.Orders.{AtMost-trans, times-AtMost, plus-AtMost, over-AtMost}
-use Rattle.decimal_input.proofs.Powers.{scaled-AtMost}
-use Rattle.scaled_decimal.specs.declared.decimal.Sd.{Sd}
-use Rattle.scaled_decimal.specs.Nearest.{value, IsDown, IsUp}
-use Rattle.scaled_decimal.specs.Monotone.{GrowsDown, GrowsUp, QuotientGrowsDown, QuotientGrowsUp, UnitsGrowDown, UnitsGrowUp}
+use Rattle.scaled_decimal.proofs.Common.{ℕ, ◌<◌, pos, neg_ℤ, Ratio, times, plus, over, AtMost, scaled, AtMost-trans, times-AtMost, plus-AtMost, over-AtMost}
+use Rattle.scaled_decimal.proofs.Common.{scaled-AtMost, Sd, value, IsDown, IsUp, GrowsDown, GrowsUp, QuotientGrowsDown, QuotientGrowsUp, UnitsGrowDown}
+use Rattle.scaled_decimal.proofs.Common.{UnitsGrowUp}
 use Rattle.scaled_decimal.proofs.Quotients.{positive_scaled}
 
 IsDown-AtMost : {f g : Ratio} {q r : Sd} → IsDown q f → AtMost f g → IsDown r g → AtMost (value q) (value r)

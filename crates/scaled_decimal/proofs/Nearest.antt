@@ -1,12 +1,7 @@
-use Rattle.std.proofs.Common.{◌≡◌, ℕ, ◌+◌, ◌*◌, ◌/◌, ◌≤◌, ◌<◌, ◌^◌, inl, inr, arith, ℤ, pos, ◌+ℤ◌}
-use Rattle.std.proofs.Math.Nat.{lt-mul-div-succ, div-mul-le_self, le-div_iff_mul-le, div-lt_iff_lt-mul}
-use Rattle.decimal_input.specs.Ratios.{Ratio, AtMost, Below, Same}
-use Rattle.decimal_input.specs.Decimals.{scaled, up, down}
-use Rattle.decimal_input.proofs.Orders.{AtMost-trans, Below-AtMost, AtMost-Below, Same-AtMost, Same-back, Same-trans}
-use Rattle.decimal_input.proofs.Powers.{ten_pos, cross_of, scaled_shift, scaled-AtMost, num_scaled}
-use Rattle.scaled_decimal.specs.declared.decimal.Sd.{Sd}
-use Rattle.scaled_decimal.specs.Nearest.{IsSd, value, IsDown, IsUp}
-use Rattle.scaled_decimal.specs.Cuts.{IsFrom, IsUpTo}
+use Rattle.scaled_decimal.proofs.Common.{◌≡◌, ℕ, ◌+◌, ◌*◌, ◌/◌, ◌≤◌, ◌<◌, ◌^◌, inl, inr, arith, ℤ, pos, ◌+ℤ◌, lt-mul-div-succ, div-mul-le_self}
+use Rattle.scaled_decimal.proofs.Common.{le-div_iff_mul-le, div-lt_iff_lt-mul, Ratio, AtMost, Below, Same, scaled, up, down, AtMost-trans, Below-AtMost}
+use Rattle.scaled_decimal.proofs.Common.{AtMost-Below, Same-AtMost, Same-back, Same-trans, ten_pos, cross_of, scaled_shift, scaled-AtMost, num_scaled, Sd, IsSd}
+use Rattle.scaled_decimal.proofs.Common.{value, IsDown, IsUp, IsFrom, IsUpTo}
 use Rattle.scaled_decimal.proofs.Between.{none_above, none_below}
 
 -- zero is at most everything

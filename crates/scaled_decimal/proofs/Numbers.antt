@@ -1,7 +1,5 @@
-use Rattle.std.proofs.Common.{◌≡◌, ℕ, ◌*◌, ◌/◌, ◌≤◌, ◌<◌, ◌^◌, inl, inr, arith}
-use Rattle.std.proofs.Math.Nat.{le-div_iff_mul-le, div-lt_iff_lt-mul}
-use Rattle.std.proofs.lemmas.Bool.{cases_lt}
-use Rattle.decimal_input.proofs.Powers.{ten_pos, power_within}
+use Rattle.scaled_decimal.proofs.Common.{◌≡◌, ℕ, ◌*◌, ◌/◌, ◌≤◌, ◌<◌, ◌^◌, inl, inr, arith, le-div_iff_mul-le, div-lt_iff_lt-mul, cases_lt, ten_pos}
+use Rattle.scaled_decimal.proofs.Common.{power_within}
 
 -- an 18-digit number is below each power from 10 ^ 18 on
 pub below_ten : (n k : ℕ) → n < 10 ^ 18 → 18 ≤ k → n < 10 ^ k

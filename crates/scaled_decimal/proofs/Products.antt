@@ -1,13 +1,7 @@
-use Rattle.std.proofs.Common.{◌≡◌, ℕ, ◌+◌, ◌*◌, ◌<◌, ◌^◌, arith, refl, ℤ, ◌+ℤ◌, inr, pos}
-use Rattle.decimal_input.specs.Ratios.{Ratio, times, AtMost, Below, Same}
-use Rattle.decimal_input.specs.Decimals.{scaled, up, down}
-use Rattle.decimal_input.proofs.Orders.{AtMost-trans, Below-AtMost, AtMost-Below, Same-AtMost, Same-back}
-use Rattle.decimal_input.proofs.Powers.{ten_pos, scaled_times, scaled-AtMost, num_scaled, den_scaled}
-use Rattle.scaled_decimal.specs.declared.decimal.Sd.{Sd}
-use Rattle.scaled_decimal.specs.Nearest.{value, IsDown, IsUp}
-use Rattle.scaled_decimal.specs.Cuts.{IsFrom, IsUpTo}
+use Rattle.scaled_decimal.proofs.Common.{◌≡◌, ℕ, ◌+◌, ◌*◌, ◌<◌, ◌^◌, arith, refl, ℤ, ◌+ℤ◌, inr, pos, Ratio, times, AtMost, Below, Same, scaled, up, down}
+use Rattle.scaled_decimal.proofs.Common.{AtMost-trans, Below-AtMost, AtMost-Below, Same-AtMost, Same-back, ten_pos, scaled_times, scaled-AtMost, num_scaled}
+use Rattle.scaled_decimal.proofs.Common.{den_scaled, Sd, value, IsDown, IsUp, IsFrom, IsUpTo, lt_right}
 use Rattle.scaled_decimal.proofs.Nearest.{zero-AtMost}
-use Rattle.decimal_input.proofs.Cross.{lt_right}
 
 pub scaled-Below : (m n : ℕ) (e : ℤ) → m < n → Below (scaled m e) (scaled n e)
 scaled-Below m n e h = record {

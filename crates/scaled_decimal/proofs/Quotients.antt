@@ -1,13 +1,6 @@
-use Rattle.std.proofs.Common.{◌≡◌, ℕ, suc, ◌+◌, ◌*◌, ◌-◌, ◌/◌, ◌≤◌, ◌<◌, ◌^◌, ap, arith, ℤ, pos, ◌+ℤ◌}
-use Rattle.std.proofs.lemmas.Int.{ints}
-use Rattle.std.proofs.lemmas.Nat.{pow-add}
-use Rattle.std.proofs.Math.Nat.{mul-le-mul_right, lt-mul-div-succ, div-mul-le_self}
-use Rattle.decimal_input.specs.Ratios.{over, AtMost}
-use Rattle.decimal_input.specs.Decimals.{scaled, up, down}
-use Rattle.decimal_input.proofs.Orders.{num_over, den_over}
-use Rattle.decimal_input.proofs.Powers.{ten_pos, num_scaled, den_scaled, up_down}
-use Rattle.scaled_decimal.specs.Cuts.{IsFrom, IsUpTo}
-use Rattle.decimal_input.proofs.Cross.{lt_right}
+use Rattle.scaled_decimal.proofs.Common.{◌≡◌, ℕ, suc, ◌+◌, ◌*◌, ◌-◌, ◌/◌, ◌≤◌, ◌<◌, ◌^◌, ap, arith, ℤ, pos, ◌+ℤ◌, ints, pow-add, mul-le-mul_right}
+use Rattle.scaled_decimal.proofs.Common.{lt-mul-div-succ, div-mul-le_self, over, AtMost, scaled, up, down, num_over, den_over, ten_pos, num_scaled, den_scaled}
+use Rattle.scaled_decimal.proofs.Common.{up_down, IsFrom, IsUpTo, lt_right}
 
 tens : (a b c : ℕ) → 0 < 10 ^ a * 10 ^ b * 10 ^ c
 tens a b c = rw (← pow-add 10 a b, ← pow-add 10 (a + b) c) (ten_pos (a + b + c))

@@ -1,8 +1,4 @@
-use Rattle.std.proofs.Common.{ℕ, ◌+◌, ◌*◌, ◌-◌, ◌≤◌, ◌<◌, ◌^◌, inl, inr, arith, ℤ, ◌≤ℤ◌}
-use Rattle.std.proofs.lemmas.Int.{ints, clamps}
-use Rattle.std.proofs.Math.Nat.{mul-le-mul_right}
-use Rattle.scaled_decimal.specs.declared.decimal.Sd.{Sd}
-use Rattle.scaled_decimal.specs.Nearest.{IsSd, HasSize, IsWithin}
+use Rattle.scaled_decimal.proofs.Common.{ℕ, ◌+◌, ◌*◌, ◌-◌, ◌≤◌, ◌<◌, ◌^◌, inl, inr, arith, ℤ, ◌≤ℤ◌, ints, clamps, mul-le-mul_right, Sd, IsSd, HasSize, IsWithin}
 
 pub digits : (x : Sd) → IsSd x → 0 < x.m → (10 ^ 17 ≤ x.m) × (x.m < 10 ^ 18)
 digits x (inl d) h = d

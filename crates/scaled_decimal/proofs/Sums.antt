@@ -1,13 +1,8 @@
-use Rattle.std.proofs.Common.{◌≡◌, ℕ, suc, ◌+◌, ◌*◌, ◌≤◌, ◌<◌, ◌^◌, ap, subst, ◌∙◌, arith, ℤ, pos, ◌+ℤ◌}
-use Rattle.std.proofs.Math.Nat.{mul-le-mul_right}
-use Rattle.decimal_input.specs.Ratios.{Ratio, den, ratio, plus, AtMost, Below, Same}
-use Rattle.decimal_input.specs.Decimals.{scaled, up}
-use Rattle.decimal_input.proofs.Orders.{AtMost-trans, AtMost-refl, Below-AtMost, AtMost-Below, Same-AtMost, Same-back, Same-trans, plus-AtMost, num_plus, den_plus}
-use Rattle.decimal_input.proofs.SameNumbers.{Same-both, plus-comm}
-use Rattle.decimal_input.proofs.Powers.{ten_pos, num_scaled, den_scaled}
-use Rattle.scaled_decimal.specs.Cuts.{IsFrom, IsUpTo}
+use Rattle.scaled_decimal.proofs.Common.{◌≡◌, ℕ, suc, ◌+◌, ◌*◌, ◌≤◌, ◌<◌, ◌^◌, ap, subst, ◌∙◌, arith, ℤ, pos, ◌+ℤ◌, mul-le-mul_right, Ratio, den, ratio, plus}
+use Rattle.scaled_decimal.proofs.Common.{AtMost, Below, Same, scaled, up, AtMost-trans, AtMost-refl, Below-AtMost, AtMost-Below, Same-AtMost, Same-back}
+use Rattle.scaled_decimal.proofs.Common.{Same-trans, plus-AtMost, num_plus, den_plus, Same-both, plus-comm, ten_pos, num_scaled, den_scaled, IsFrom, IsUpTo}
+use Rattle.scaled_decimal.proofs.Common.{lt_right}
 use Rattle.scaled_decimal.proofs.Nearest.{uncarried}
-use Rattle.decimal_input.proofs.Cross.{lt_right}
 use Rattle.scaled_decimal.proofs.Products.{scaled-Below}
 
 cross_plus_below : (a x b y c z d w : ℕ) → 0 < x * y → a * y ≤ b * x → c * w < d * z → (a * z + c * x) * (y * w) < (b * w + d * y) * (x * z)

@@ -1,13 +1,6 @@
-use Rattle.std.proofs.Common.{◌≡◌, ℕ, suc, ◌+◌, ◌*◌, ◌-◌, ◌≤◌, ◌<◌, ◌^◌, inl, inr, refl, sym, ap, subst, ◌∙◌, arith}
-use Rattle.std.proofs.lemmas.Int.{ints}
-use Rattle.std.proofs.lemmas.Nat.{pow-add}
-use Rattle.std.proofs.Math.Nat.{mul-le-mul, mul-le-mul_right, pow-suc, le_of_mul-le-mul_right}
-use Rattle.std.proofs.lemmas.Bool.{cases_lt}
-use Rattle.decimal_input.specs.Ratios.{Ratio, AtMost, Same}
-use Rattle.decimal_input.specs.Decimals.{up, down}
-use Rattle.decimal_input.proofs.Powers.{ten_pos, cross_of, up_down}
-use Rattle.scaled_decimal.specs.declared.decimal.Sd.{Sd}
-use Rattle.scaled_decimal.specs.Nearest.{IsSd, value, IsDown}
+use Rattle.scaled_decimal.proofs.Common.{◌≡◌, ℕ, suc, ◌+◌, ◌*◌, ◌-◌, ◌≤◌, ◌<◌, ◌^◌, inl, inr, refl, sym, ap, subst, ◌∙◌, arith, ints, pow-add, mul-le-mul}
+use Rattle.scaled_decimal.proofs.Common.{mul-le-mul_right, pow-suc, le_of_mul-le-mul_right, cases_lt, Ratio, AtMost, Same, up, down, ten_pos, cross_of, up_down}
+use Rattle.scaled_decimal.proofs.Common.{Sd, IsSd, value, IsDown}
 
 pub IsDown-unique : (r q : Sd) (f : Ratio) → IsDown r f → IsDown q f → AtMost (value r) (value q) × AtMost (value q) (value r)
 IsDown-unique r q f h k = (k.greatest r h.decimal h.at_most, h.greatest q k.decimal k.at_most)

@@ -1,12 +1,6 @@
-use Rattle.std.proofs.Common.{◌≡◌, ℕ, ◌+◌, ◌*◌, ◌≤◌, ◌<◌, ◌^◌, arith, Option, None, Some, MatchOption, subst, ℤ}
-use Rattle.std.proofs.Math.Nat.{mul-le-mul_right}
-use Rattle.decimal_input.specs.Ratios.{Ratio, den, AtMost}
-use Rattle.decimal_input.specs.Decimals.{scaled}
+use Rattle.scaled_decimal.proofs.Common.{◌≡◌, ℕ, ◌+◌, ◌*◌, ◌≤◌, ◌<◌, ◌^◌, arith, Option, None, Some, MatchOption, subst, ℤ, mul-le-mul_right, Ratio, den}
+use Rattle.scaled_decimal.proofs.Common.{AtMost, scaled, lt_right, le_cancel, lt_cancel, Sd, value, FloorGrows, CeilingGrows}
 use Rattle.decimal_input.specs.Wholes.{IsFloor, IsCeiling}
-use Rattle.decimal_input.proofs.Cross.{lt_right, le_cancel, lt_cancel}
-use Rattle.scaled_decimal.specs.declared.decimal.Sd.{Sd}
-use Rattle.scaled_decimal.specs.Nearest.{value}
-use Rattle.scaled_decimal.specs.Monotone.{FloorGrows, CeilingGrows}
 
 -- n ≤ a t / b, and m is the whole part of c t / d
 wholes_below : (n a b m c d t : ℕ) → 0 < b → n * b ≤ a * t → a * d ≤ c * b → c * t < (m + 1) * d → n < m + 1

@@ -1,14 +1,8 @@
 -- What a settler that sweeps returns.
-use Rattle.std.proofs.Common.{◌≡◌, ℕ, sym, subst, List}
-use Rattle.step_problem.specs.declared.heads.Bound.{Bound}
-use Rattle.step_problem.specs.Entries.{Entries}
-use Rattle.step_problem.specs.Conditions.{IsProblem}
-use Rattle.step_problem.specs.Heads.{Edges, OpenHeads, head_at, IsBarrier, RoundsSettleBoth, AreOnTheWay}
-use Rattle.step_problem.specs.Settling.{AreSettled, IsFirstOpen, IsUnfinished}
-use Rattle.cell_relax.specs.Words.{AreWords}
+use Rattle.settle_driver.proofs.Common.{◌≡◌, ℕ, sym, subst, List, Bound, Entries, IsProblem, Edges, OpenHeads, head_at, IsBarrier, RoundsSettleBoth}
+use Rattle.settle_driver.proofs.Common.{AreOnTheWay, AreSettled, IsFirstOpen, IsUnfinished, AreWords, StayOnTheWay, AreBothSettled, SettleWithin}
 use Rattle.settle_driver.proofs.Opening.{settled_stays}
 use Rattle.settle_driver.proofs.Phasing.{settled_on_the_way}
-use Rattle.settle_driver.specs.Sweeps.{StayOnTheWay, AreBothSettled, SettleWithin}
 
 module _ (p : List Entries) (b : Edges) (ok : IsProblem p) (barrier : IsBarrier p b) where
   -- words on the way have heads in range

@@ -1,24 +1,10 @@
 -- Seats that are joined, and what a phase gains.
-use Rattle.std.proofs.Common.{◌≡◌, ℕ, zero, suc, ◌%◌, ◌<◌, List, ◌∷◌, ◌++◌, length, get_or, All, ℤ, sym, refl, subst, arith, length-append}
-use Rattle.std.proofs.lemmas.Int.{ints, clamps}
+use Rattle.settle_driver.proofs.Common.{◌≡◌, ℕ, zero, suc, ◌%◌, ◌<◌, List, ◌∷◌, ◌++◌, length, get_or, All, ℤ, sym, refl, subst, arith, length-append, ints}
+use Rattle.settle_driver.proofs.Common.{clamps, Bound, Entries, IsProblem, IsPast, Side, Low, High, IsSide, as_tight_refl, passes_more, AreNoLooser, IsAsTight}
+use Rattle.settle_driver.proofs.Common.{heads_on, is_side, HeadTable, HeadSeat, HasMoved, HasTighter, seen_of, seen_on, tighter_of, HasSeen, HasWorked}
+use Rattle.settle_driver.proofs.Common.{IsPastCell}
 use Rattle.std.proofs.Math.ListN.{get_or-append}
 use native.Mathlib.Nat.{mod-lt}
-use Rattle.step_problem.specs.declared.heads.Bound.{Bound}
-use Rattle.step_problem.specs.Entries.{Entries}
-use Rattle.step_problem.specs.Conditions.{IsProblem}
-use Rattle.step_problem.specs.Sides.{IsPast}
-use Rattle.step_problem.specs.declared.heads.Side.{Side}
-use Rattle.step_problem.specs.declared.heads.Side.TheVariants.{Low, High}
-use Rattle.step_problem.proofs.Sides.{IsSide, as_tight_refl, passes_more}
-use Rattle.cell_relax.specs.Sides.{AreNoLooser, IsAsTight}
-use Rattle.cell_relax.specs.Words.{heads_on}
-use Rattle.cell_relax.proofs.Sides.{is_side}
-use Rattle.head_table.specs.declared.table.HeadTable.{HeadTable}
-use Rattle.head_table.specs.declared.table.HeadSeat.{HeadSeat}
-use Rattle.head_table.specs.BySide.{HasMoved}
-use Rattle.head_table.specs.Seats.{HasTighter, seen_of, seen_on, tighter_of}
-use Rattle.settle_driver.specs.Phases.{HasSeen, HasWorked}
-use Rattle.settle_driver.specs.Sweeps.{IsPastCell}
 
 tighter_first : (side : Side) (x y : ℤ) → IsAsTight side x (tighter_of side x y)
 tighter_first Low x y = omega (arith, ints, clamps)

@@ -1,12 +1,6 @@
 -- Cells are relaxed in the order of a list.
-use Rattle.std.proofs.Common.{◌≡◌, ℕ, ◌<◌, ◌∙◌, ap, List, length, slice_index_or}
-use Rattle.step_problem.specs.declared.heads.Bound.{Bound}
-use Rattle.step_problem.specs.Entries.{Entries}
-use Rattle.step_problem.specs.Conditions.{IsProblem}
-use Rattle.step_problem.specs.Heads.{no_bound, lower_at, upper_at}
-use Rattle.step_problem.proofs.BothSides.{low_side, high_side}
-use Rattle.cell_relax.specs.Words.{AreWords}
-use Rattle.settle_driver.specs.Sweeps.{IsRelaxedCell, StayOnTheWay, SettleWithin}
+use Rattle.settle_driver.proofs.Common.{◌≡◌, ℕ, ◌<◌, ◌∙◌, ap, List, length, slice_index_or, Bound, Entries, IsProblem, no_bound, lower_at, upper_at, low_side}
+use Rattle.settle_driver.proofs.Common.{high_side, AreWords, IsRelaxedCell, StayOnTheWay, SettleWithin}
 use Rattle.settle_driver.proofs.Sweeping.{heads_more, way_more}
 
 -- what relaxing some cells has made of the old words

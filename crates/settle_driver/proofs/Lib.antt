@@ -1,3 +1,4 @@
+mod Common
 pub mod Turning
 pub mod Sweeping
 pub mod Settling

@@ -1,15 +1,7 @@
 -- A cell that can move, and one that can't.
-use Rattle.std.proofs.Common.{◌≡◌, ℕ, ◌<◌, inl, inr, subst, arith, false, List, length, ℤ, ◌≤ℤ◌, ◌<ℤ◌}
-use Rattle.std.proofs.lemmas.Int.{ints, by_lt_z}
-use Rattle.std.specs.Prelude.{Option, Some, None, MatchOption, is_some}
+use Rattle.settle_driver.proofs.Common.{◌≡◌, ℕ, ◌<◌, inl, inr, subst, arith, false, List, length, ℤ, ◌≤ℤ◌, ◌<ℤ◌, ints, by_lt_z, Option, Some, None, MatchOption}
+use Rattle.settle_driver.proofs.Common.{is_some, Bound, Side, Low, High, Entries, lower_at, upper_at, IsRaise, IsSink, CanMove, AreBothSettled}
 use lib.Signed.{lt_z}
-use Rattle.step_problem.specs.declared.heads.Bound.{Bound}
-use Rattle.step_problem.specs.declared.heads.Side.{Side}
-use Rattle.step_problem.specs.declared.heads.Side.TheVariants.{Low, High}
-use Rattle.step_problem.specs.Entries.{Entries}
-use Rattle.step_problem.specs.Heads.{lower_at, upper_at, IsRaise, IsSink}
-use Rattle.step_problem.specs.Settling.{CanMove}
-use Rattle.settle_driver.specs.Sweeps.{AreBothSettled}
 use Rattle.settle_driver.specs.Opening.{IsFirstSide}
 
 module _ (p : List Entries) (w : List Bound) (c : ℕ) (r : ℤ) where

@@ -1,14 +1,7 @@
 -- Phases cover plain rounds, and reach the settled pair where that number of rounds settles.
-use Rattle.std.proofs.Common.{◌≡◌, ℕ, ◌+◌, ◌<◌, sym, subst, List, length, ◌≤ℤ◌}
-use Rattle.step_problem.specs.declared.heads.Bound.{Bound}
-use Rattle.step_problem.specs.Entries.{Entries}
-use Rattle.step_problem.specs.Conditions.{IsProblem}
-use Rattle.step_problem.specs.Heads.{Edges, OpenHeads, Ge, head_at, lower_at, upper_at, CanRise, CanSink, IsBarrier, RoundsSettleBoth, AreOnTheWay}
-use Rattle.step_problem.specs.Settling.{AreSettled, IsFirstOpen, IsUnfinished}
-use Rattle.step_problem.proofs.Sides.{first_settled}
-use Rattle.step_problem.proofs.SidesRounds.{CoversRounds, covers_none, rounds_settle}
-use Rattle.step_problem.proofs.BothSides.{low_side, high_side}
-use Rattle.settle_driver.specs.Sweeps.{IsPastCell, AreBothSettled}
+use Rattle.settle_driver.proofs.Common.{◌≡◌, ℕ, ◌+◌, ◌<◌, sym, subst, List, length, ◌≤ℤ◌, Bound, Entries, IsProblem, Edges, OpenHeads, Ge, head_at, lower_at}
+use Rattle.settle_driver.proofs.Common.{upper_at, CanRise, CanSink, IsBarrier, RoundsSettleBoth, AreOnTheWay, AreSettled, IsFirstOpen, IsUnfinished}
+use Rattle.settle_driver.proofs.Common.{first_settled, CoversRounds, covers_none, rounds_settle, low_side, high_side, IsPastCell, AreBothSettled}
 use Rattle.settle_driver.proofs.Settling.{one_more}
 use Rattle.settle_driver.proofs.Opening.{settled_stays}
 

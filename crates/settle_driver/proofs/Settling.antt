@@ -1,15 +1,7 @@
 -- Sweeps cover plain rounds, and reach the settled pair where that number of rounds settles.
-use Rattle.std.proofs.Common.{ℕ, ◌+◌, ◌<◌, sym, subst, add-one, List, length, ℤ, ◌≤ℤ◌}
-use Rattle.step_problem.specs.declared.heads.Bound.{Bound}
-use Rattle.step_problem.specs.Entries.{Entries}
-use Rattle.step_problem.specs.Conditions.{IsProblem}
-use Rattle.step_problem.specs.Sides.{AsTight, IsPast}
-use Rattle.step_problem.specs.Heads.{Ge, lower_at, upper_at, CanRise, CanSink}
-use Rattle.step_problem.proofs.Sides.{IsSide}
-use Rattle.step_problem.proofs.SidesRounds.{CoversRounds, past_covers, covers_none, covers_more, rounds_settle}
-use Rattle.step_problem.proofs.BothSides.{low_side, high_side}
-use Rattle.cell_relax.specs.Words.{AreWords}
-use Rattle.settle_driver.specs.Sweeps.{IsPastCell, StayOnTheWay, SettleWithin}
+use Rattle.settle_driver.proofs.Common.{ℕ, ◌+◌, ◌<◌, sym, subst, add-one, List, length, ℤ, ◌≤ℤ◌, Bound, Entries, IsProblem, AsTight, IsPast, Ge, lower_at}
+use Rattle.settle_driver.proofs.Common.{upper_at, CanRise, CanSink, IsSide, CoversRounds, past_covers, covers_none, covers_more, rounds_settle, low_side}
+use Rattle.settle_driver.proofs.Common.{high_side, AreWords, IsPastCell, StayOnTheWay, SettleWithin}
 
 -- what k sweeps have made of the old words
 pub record SweptTimes (p : List Entries) (old w : List Bound) (k : ℕ) : Type 0 where

@@ -1,17 +1,10 @@
 -- A sweep under way: the cells before one are relaxed.
-use Rattle.std.proofs.Common.{◌≡◌, ℕ, ◌+◌, ◌<◌, inl, inr, refl, sym, ◌∙◌, ap, subst, arith, Bool, true, false, List, length, ℤ, ◌≤ℤ◌, slice_index_or}
-use Rattle.std.specs.Prelude.{◌||◌}
+use Rattle.settle_driver.proofs.Common.{◌≡◌, ℕ, ◌+◌, ◌<◌, inl, inr, refl, sym, ◌∙◌, ap, subst, arith, Bool, true, false, List, length, ℤ, ◌≤ℤ◌, slice_index_or}
+use Rattle.settle_driver.proofs.Common.{◌||◌, Bound, Entries, IsProblem, AsTight, AreHeads, IsRelaxed, IsPast, IsOnTheWay, Ge, no_bound, lower_at, upper_at}
+use Rattle.settle_driver.proofs.Common.{CanRise, CanSink, IsSide, as_tight_refl, as_tight_trans, turn_passes, passes_more, edge_kept, low_side, high_side}
+use Rattle.settle_driver.proofs.Common.{AreWords, IsRelaxedCell, IsPastCell, StayOnTheWay, AreBothSettled}
 use Rattle.std.proofs.lemmas.Bool.{cases_eq}
-use Rattle.step_problem.specs.declared.heads.Bound.{Bound}
-use Rattle.step_problem.specs.Entries.{Entries}
-use Rattle.step_problem.specs.Conditions.{IsProblem}
-use Rattle.step_problem.specs.Sides.{AsTight, AreHeads, IsRelaxed, IsPast, IsOnTheWay}
-use Rattle.step_problem.specs.Heads.{Ge, no_bound, lower_at, upper_at, CanRise, CanSink}
-use Rattle.step_problem.proofs.Sides.{IsSide, as_tight_refl, as_tight_trans, turn_passes, passes_more, edge_kept}
 use Rattle.step_problem.proofs.SidesTurns.{tighter, relaxed_exchange, relaxed_keeps}
-use Rattle.step_problem.proofs.BothSides.{low_side, high_side}
-use Rattle.cell_relax.specs.Words.{AreWords}
-use Rattle.settle_driver.specs.Sweeps.{IsRelaxedCell, IsPastCell, StayOnTheWay, AreBothSettled}
 
 module _ {Le : ℤ → ℤ → Type 0} {Moves : ℕ → ℤ → (ℕ → ℤ) → Type 0} {n : ℕ} (s : IsSide Le Moves n) where
   -- one more cell is past its relaxed head from the old heads

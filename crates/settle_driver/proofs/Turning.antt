@@ -1,13 +1,9 @@
 -- One cell's words are relaxed.
-use Rattle.std.proofs.Common.{◌≡◌, ℕ, ◌<◌, refl, sym, ◌∙◌, ap, subst, Bool, true, false, List, length, ℤ, slice_index_or, slice_set, get_or-set_same}
+use Rattle.settle_driver.proofs.Common.{◌≡◌, ℕ, ◌<◌, refl, sym, ◌∙◌, ap, subst, Bool, true, false, List, length, ℤ, slice_index_or, slice_set, get_or-set_same}
+use Rattle.settle_driver.proofs.Common.{not, ◌&&◌, Bound, Entries, no_bound, lower_at, upper_at, IsRaise, IsSink, IsRelaxedCell}
 use Rattle.std.proofs.lemmas.List.{set-get_or}
 use Rattle.std.specs.Ordering.{int_eq}
-use Rattle.std.specs.Prelude.{not, ◌&&◌}
 use Rattle.std.proofs.lemmas.Bool.Decides.{Decides-int_eq}
-use Rattle.step_problem.specs.declared.heads.Bound.{Bound}
-use Rattle.step_problem.specs.Entries.{Entries}
-use Rattle.step_problem.specs.Heads.{no_bound, lower_at, upper_at, IsRaise, IsSink}
-use Rattle.settle_driver.specs.Sweeps.{IsRelaxedCell}
 
 pub relaxed_set : (p : List Entries) (w : List Bound) (c : ℕ) (l h : ℤ) → c < length w → IsRaise p (lower_at w) c l → IsSink p (upper_at w) c h → IsRelaxedCell p w (slice_set w c (record { low = l; high = h })) c
 relaxed_set p w c l h i r s =

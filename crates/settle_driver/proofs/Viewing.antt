@@ -1,22 +1,13 @@
 -- Views that follow one another, and what a watching seat has seen.
-use Rattle.std.proofs.Common.{◌≡◌, ℕ, ◌+◌, ◌*◌, ◌<◌, ◌⊎◌, inl, inr, refl, sym, subst, arith, Bool, true, false, List, length, ℤ, ◌≤ℤ◌, Result, Ok, Err}
-use Rattle.std.proofs.lemmas.Int.{ints}
+use Rattle.settle_driver.proofs.Common.{◌≡◌, ℕ, ◌+◌, ◌*◌, ◌<◌, ◌⊎◌, inl, inr, refl, sym, subst, arith, Bool, true, false, List, length, ℤ, ◌≤ℤ◌, Result, Ok}
+use Rattle.settle_driver.proofs.Common.{Err, ints, Bound, Low, High, Entries, IsHead, Edges, head_at, lower_at, upper_at, AreNoLooser, HeadTable, HeadSeat}
+use Rattle.settle_driver.proofs.Common.{AreHeld, IsSeatOf, ShowsSeen, barrier_of, seen_of, ArePastBarrier, EnclosesPair, had_memory, AddsViews, AddsTurns}
+use Rattle.settle_driver.proofs.Common.{AddsPhases}
 use Rattle.std.specs.Result.{is_ok}
 use Rattle.std.specs.declared.vec.Vec.{Vec}
 use Rattle.std.specs.declared.alloc.Global.{Global}
-use Rattle.step_problem.specs.declared.heads.Bound.{Bound}
 use Rattle.step_problem.specs.declared.heads.SettleFault.{SettleFault}
 use Rattle.step_problem.specs.declared.heads.SettleFault.TheVariants.{Unfinished, Memory}
-use Rattle.step_problem.specs.declared.heads.Side.TheVariants.{Low, High}
-use Rattle.step_problem.specs.Entries.{Entries}
-use Rattle.step_problem.specs.Conditions.{IsHead}
-use Rattle.step_problem.specs.Heads.{Edges, head_at, lower_at, upper_at}
-use Rattle.cell_relax.specs.Sides.{AreNoLooser}
-use Rattle.head_table.specs.declared.table.HeadTable.{HeadTable}
-use Rattle.head_table.specs.declared.table.HeadSeat.{HeadSeat}
-use Rattle.head_table.specs.BySide.{AreHeld}
-use Rattle.head_table.specs.Seats.{IsSeatOf, ShowsSeen, barrier_of, seen_of}
-use Rattle.settle_driver.specs.Views.{ArePastBarrier, EnclosesPair, had_memory, AddsViews, AddsTurns, AddsPhases}
 
 -- heads are an answer of a settling that had memory
 pub ok_had_memory : (r : Result (Vec Bound Global) SettleFault) → is_ok r ≡ true → had_memory r ≡ true

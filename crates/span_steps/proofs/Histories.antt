@@ -1,23 +1,8 @@
 -- Histories between two models lie within the heads of their steps, by induction on the time steps.
-use Rattle.std.proofs.Common.{◌≡◌, ◌<◌, [], ◌∷◌, ℕ, ℤ, List, arith, Contains}
+use Rattle.span_steps.proofs.Common.{◌≡◌, ◌<◌, [], ◌∷◌, ℕ, ℤ, List, arith, Contains, ints, clamps, Fraction, start_head, times, FlowModel, TimeStep, lower_at}
+use Rattle.span_steps.proofs.Common.{upper_at, Bound, heads_of, AreGridHeads, HeadsEnclose, Solved, IsBetween, SolvesBetweenFrom, SolvesBetween}
+use Rattle.span_steps.proofs.Common.{hull_of_numbers, starts_between, AreHullSteps, AreModels, AreBefore, EncloseStarts, LieWithin}
 use Rattle.std.specs.Int.{int_min, int_max}
-use Rattle.std.proofs.lemmas.Int.{ints, clamps}
-use Rattle.decimal_input.specs.Fractions.{Fraction}
-use Rattle.model_types.specs.Heads.{start_head}
-use Rattle.model_types.specs.Times.{times}
-use Rattle.model_types.specs.declared.model.FlowModel.{FlowModel}
-use Rattle.model_types.specs.declared.time_steps.TimeStep.{TimeStep}
-use Rattle.step_problem.specs.Heads.{lower_at, upper_at}
-use Rattle.step_problem.specs.declared.heads.Bound.{Bound}
-use Rattle.flow_equations.specs.Histories.{heads_of}
-use Rattle.problem_builder.specs.GridHeads.{AreGridHeads, HeadsEnclose}
-use Rattle.step_chain.specs.declared.solved.Solved.{Solved}
-use Rattle.deck_span.specs.Models.{IsBetween}
-use Rattle.deck_span.specs.Histories.{SolvesBetweenFrom, SolvesBetween}
-use Rattle.deck_span.proofs.HullBounds.{hull_of_numbers}
-use Rattle.deck_span.proofs.SameFrames.{starts_between}
-use Rattle.span_steps.specs.HullSteps.{AreHullSteps}
-use Rattle.span_steps.specs.Within.{AreModels, AreBefore, EncloseStarts, LieWithin}
 use Rattle.span_steps.proofs.Times.{first_in, next_in}
 use Rattle.span_steps.proofs.HullRange.{heads_in_range}
 use Rattle.span_steps.proofs.Moves.{lies_encloses, move_within}

@@ -1,21 +1,10 @@
 -- The hull of two models' problems encloses the exact step of every model between.
-use Rattle.std.proofs.Common.{ℕ, List}
-use Rattle.decimal_input.specs.Fractions.{Fraction}
-use Rattle.model_types.specs.declared.model.FlowModel.{FlowModel}
-use Rattle.model_types.specs.declared.time_steps.TimeStep.{TimeStep}
-use Rattle.step_problem.specs.declared.heads.Bound.{Bound}
+use Rattle.span_steps.proofs.Common.{ℕ, List, Fraction, FlowModel, TimeStep, Bound, EnclosesStep, exact_step, HeadsEnclose, bounds_enclose, time_of, IsBetween}
+use Rattle.span_steps.proofs.Common.{IsHullProblem, AreBefore}
 use Rattle.step_problem.specs.Entries.{Entries}
-use Rattle.cell_balance.specs.Enclosures.{EnclosesStep}
-use Rattle.flow_equations.specs.ExactStep.{exact_step}
-use Rattle.problem_builder.specs.GridHeads.{HeadsEnclose}
-use Rattle.problem_builder.proofs.BoundsOf.{bounds_enclose}
 use Rattle.problem_builder.proofs.StepEnclosed.{step_encloses}
-use Rattle.problem_builder.proofs.TimesOf.{time_of}
-use Rattle.deck_span.specs.Models.{IsBetween}
 use Rattle.deck_span.proofs.HullsEnclose.{hull_encloses}
 use Rattle.deck_span.proofs.StepsBetween.{steps_between}
-use Rattle.span_steps.specs.HullSteps.{IsHullProblem}
-use Rattle.span_steps.specs.Within.{AreBefore}
 use Rattle.span_steps.proofs.Times.{few, second_time, second_encloses}
 
 module _ (a b : FlowModel) (s : ℕ) (at : TimeStep) (old : List Bound) (p : List Entries) (start : AreBefore a b at old) (is : IsHullProblem a b s at old p)

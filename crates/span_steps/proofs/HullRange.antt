@@ -1,31 +1,14 @@
 -- The heads of a hull step are heads of all cells, in range.
-use Rattle.std.proofs.Common.{◌≡◌, ◌<◌, ◌∙◌, ℕ, inl, inr, true, false, List, length, sym, subst, arith}
-use Rattle.std.proofs.lemmas.Bool.{cases_Bool}
-use Rattle.std.proofs.lemmas.Int.{ints}
+use Rattle.span_steps.proofs.Common.{◌≡◌, ◌<◌, ◌∙◌, ℕ, inl, inr, true, false, List, length, sym, subst, arith, cases_Bool, ints, cell_count, is_variable}
+use Rattle.span_steps.proofs.Common.{index_of, variable_below, is_active, FlowModel, TimeStep, no_bound, Bound, AllZip-length, AreGridHeads, head_range}
+use Rattle.span_steps.proofs.Common.{time_of, bound_at, Solved, active_constant, index_below, IsBetween, counts_are, active_are, variable_are, IsHullStep}
+use Rattle.span_steps.proofs.Common.{AreBefore}
 use Rattle.std.proofs.lemmas.List.{get_or_default}
-use Rattle.model_types.specs.Cells.{cell_count}
-use Rattle.model_types.specs.Kinds.{is_variable, index_of, variable_below}
-use Rattle.model_types.specs.Layers.{is_active}
-use Rattle.model_types.specs.declared.model.FlowModel.{FlowModel}
-use Rattle.model_types.specs.declared.time_steps.TimeStep.{TimeStep}
 use Rattle.step_problem.specs.Conditions.{IsHead}
-use Rattle.step_problem.specs.Heads.{no_bound}
-use Rattle.step_problem.specs.declared.heads.Bound.{Bound}
-use Rattle.cell_balance.proofs.Zips.{AllZip-length}
 use Rattle.problem_builder.specs.Cells.{IsCellOf}
-use Rattle.problem_builder.specs.GridHeads.{AreGridHeads}
-use Rattle.problem_builder.proofs.BoundsOf.{head_range}
-use Rattle.problem_builder.proofs.TimesOf.{time_of}
-use Rattle.step_chain.specs.GridHeads.{bound_at}
-use Rattle.step_chain.specs.declared.solved.Solved.{Solved}
-use Rattle.step_chain.proofs.Assembled.{active_constant, index_below}
 use Rattle.problem_hull.specs.Hulls.{IsCellHull}
 use Rattle.problem_hull.proofs.Fits.{lower_head, upper_head}
 use Rattle.problem_hull.proofs.Threes.{three_lengths}
-use Rattle.deck_span.specs.Models.{IsBetween}
-use Rattle.deck_span.proofs.SameFrames.{counts_are, active_are, variable_are}
-use Rattle.span_steps.specs.HullSteps.{IsHullStep}
-use Rattle.span_steps.specs.Within.{AreBefore}
 use Rattle.span_steps.proofs.Times.{second_time}
 
 abbrev AreHeads : Bound → Type 0

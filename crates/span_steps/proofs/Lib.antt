@@ -1,3 +1,4 @@
+mod Common
 pub mod Times
 pub mod HullProblems
 pub mod HullRange

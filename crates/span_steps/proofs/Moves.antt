@@ -1,36 +1,15 @@
 -- Solutions of models between two others lie within the heads of a hull step.
-use Rattle.std.proofs.Common.{◌≡◌, ◌-◌, ◌<◌, ◌^◌, ◌∙◌, ◌*ℤ◌, ◌≤ℤ◌, ℕ, suc, inl, inr, true, false, List, length, sym, ap, subst, arith, ℤ, pos}
-use Rattle.std.proofs.lemmas.Bool.{cases_Bool}
-use Rattle.decimal_input.specs.Fractions.{Fraction}
+use Rattle.span_steps.proofs.Common.{◌≡◌, ◌-◌, ◌<◌, ◌^◌, ◌∙◌, ◌*ℤ◌, ◌≤ℤ◌, ℕ, suc, inl, inr, true, false, List, length, sym, ap, subst, arith, ℤ, pos}
+use Rattle.span_steps.proofs.Common.{cases_Bool, Fraction, cell_count, constant_head, is_variable, index_of, FlowModel, TimeStep, head_at, lower_at, upper_at}
+use Rattle.span_steps.proofs.Common.{Bound, CellEncloses, AllZip-length, exact_step, heads_of, variable_heads, SolvesAt, IsActive, HeadsEnclose, heads, time_of}
+use Rattle.span_steps.proofs.Common.{bound_at, Solved, active_constant, index_below, count_is, number_is, IsBetween, SolvesBetweenAt, hull_of_numbers}
+use Rattle.span_steps.proofs.Common.{counts_are, active_are, variable_are, index_is, constants_between, IsHullStep, AreBefore}
 use Rattle.decimal_input.proofs.Enclosing.{whole_signed}
-use Rattle.model_types.specs.Cells.{cell_count}
-use Rattle.model_types.specs.Heads.{constant_head}
-use Rattle.model_types.specs.Kinds.{is_variable, index_of}
-use Rattle.model_types.specs.declared.model.FlowModel.{FlowModel}
-use Rattle.model_types.specs.declared.time_steps.TimeStep.{TimeStep}
-use Rattle.step_problem.specs.Heads.{head_at, lower_at, upper_at}
-use Rattle.step_problem.specs.declared.heads.Bound.{Bound}
-use Rattle.cell_balance.specs.Enclosures.{CellEncloses}
 use Rattle.cell_balance.specs.SolutionBounds.{EnclosesSolutions}
 use Rattle.cell_balance.specs.Solutions.{LiesBetween}
-use Rattle.cell_balance.proofs.Zips.{AllZip-length}
-use Rattle.flow_equations.specs.ExactStep.{exact_step}
-use Rattle.flow_equations.specs.Histories.{heads_of, variable_heads, SolvesAt}
-use Rattle.problem_builder.specs.GridHeads.{IsActive, HeadsEnclose}
-use Rattle.problem_builder.proofs.BoundsOf.{heads}
-use Rattle.problem_builder.proofs.TimesOf.{time_of}
 use Rattle.barrier_vector.proofs.Enclosing.{encloses_all, held_all}
 use Rattle.certificate_check.proofs.Certified.{settled_encloses}
 use Rattle.step_chain.specs.Enclosing.{LiesWithin}
-use Rattle.step_chain.specs.GridHeads.{bound_at}
-use Rattle.step_chain.specs.declared.solved.Solved.{Solved}
-use Rattle.step_chain.proofs.Assembled.{active_constant, index_below, count_is, number_is}
-use Rattle.deck_span.specs.Models.{IsBetween}
-use Rattle.deck_span.specs.Histories.{SolvesBetweenAt}
-use Rattle.deck_span.proofs.HullBounds.{hull_of_numbers}
-use Rattle.deck_span.proofs.SameFrames.{counts_are, active_are, variable_are, index_is, constants_between}
-use Rattle.span_steps.specs.HullSteps.{IsHullStep}
-use Rattle.span_steps.specs.Within.{AreBefore}
 use Rattle.span_steps.proofs.Times.{few, second_time}
 use Rattle.span_steps.proofs.HullProblems.{problem_encloses}
 

@@ -1,19 +1,8 @@
 -- Times and active cells are those of both models, and of each model between.
-use Rattle.std.proofs.Common.{◌≡◌, ◌<◌, ◌≤◌, ◌∙◌, ℕ, inl, inr, List, ◌∷◌, refl, sym, subst, Contains}
-use Rattle.decimal_input.specs.Fractions.{Fraction}
-use Rattle.model_types.specs.Cells.{cell_count}
-use Rattle.model_types.specs.Layers.{is_active}
-use Rattle.model_types.specs.Times.{times, period_at}
-use Rattle.model_types.specs.declared.model.FlowModel.{FlowModel}
-use Rattle.model_types.specs.declared.time_steps.TimeStep.{TimeStep}
+use Rattle.span_steps.proofs.Common.{◌≡◌, ◌<◌, ◌≤◌, ◌∙◌, ℕ, inl, inr, List, ◌∷◌, refl, sym, subst, Contains, Fraction, cell_count, is_active, times, period_at}
+use Rattle.span_steps.proofs.Common.{FlowModel, TimeStep, Bound, IsActive, HeadsEnclose, time_of, IsBetween, times_are, counts_are, active_are, AreBefore}
 use Rattle.model_types.proofs.Members.{Contains-In}
-use Rattle.step_problem.specs.declared.heads.Bound.{Bound}
-use Rattle.problem_builder.specs.GridHeads.{IsActive, HeadsEnclose}
 use Rattle.problem_builder.proofs.Named.{In-Contains}
-use Rattle.problem_builder.proofs.TimesOf.{time_of}
-use Rattle.deck_span.specs.Models.{IsBetween}
-use Rattle.deck_span.proofs.SameFrames.{times_are, counts_are, active_are}
-use Rattle.span_steps.specs.Within.{AreBefore}
 
 -- active cells of one model are active in the other
 turn_active : (m n : FlowModel) → cell_count n.grid ≡ cell_count m.grid → ((c : ℕ) → is_active n c ≡ is_active m c) → (c : ℕ) → IsActive n c → IsActive m c

@@ -1,28 +1,14 @@
 -- Kinds of cells by their tests, indices of variable cells, and the range of a step's heads.
-use Rattle.std.proofs.Common.{◌≡◌, ℕ, ◌<◌, inl, inr, true, false, List, length, get_or, sym, ap, ◌∙◌, subst, arith, ℤ}
+use Rattle.step_chain.proofs.Common.{◌≡◌, ℕ, ◌<◌, inl, inr, true, false, List, length, get_or, sym, ap, ◌∙◌, subst, arith, ℤ, cases_Bool, and_parts}
+use Rattle.step_chain.proofs.Common.{false_from_ne_true, not-true, true≢false, get_or_default, get_or-map, length-map, Fraction, Bound, IsHead, no_bound}
+use Rattle.step_chain.proofs.Common.{lower_at, upper_at, AreWords, Entries, FlowModel, TimeStep, cell_count, is_active, is_variable, is_constant, index_of}
+use Rattle.step_chain.proofs.Common.{variable_cells, exact_step, IsConstantPair, AreGridHeads, bound_at, AreHeadsOf}
 use Rattle.std.specs.Prelude.{◌&&◌, not}
-use Rattle.std.proofs.lemmas.Bool.{cases_Bool, and_parts, false_from_ne_true, not-true, true≢false}
-use Rattle.std.proofs.lemmas.List.{get_or_default, get_or-map, length-map}
 use Rattle.std.proofs.lemmas.Int.{ints}
-use Rattle.decimal_input.specs.Fractions.{Fraction}
-use Rattle.step_problem.specs.declared.heads.Bound.{Bound}
-use Rattle.step_problem.specs.Conditions.{IsHead}
-use Rattle.step_problem.specs.Heads.{no_bound, lower_at, upper_at}
-use Rattle.cell_relax.specs.Words.{AreWords}
 use Rattle.cell_balance.specs.Steps.{ExactCell, cell_at, no_cell}
-use Rattle.step_problem.specs.Entries.{Entries}
-use Rattle.model_types.specs.declared.model.FlowModel.{FlowModel}
-use Rattle.model_types.specs.declared.time_steps.TimeStep.{TimeStep}
-use Rattle.model_types.specs.Cells.{cell_count}
-use Rattle.model_types.specs.Layers.{is_active}
-use Rattle.model_types.specs.Kinds.{is_variable, is_constant, index_of, variable_cells}
 use Rattle.model_types.proofs.Ranks.{passing, rank_below, at_rank}
-use Rattle.flow_equations.specs.ExactStep.{exact_step}
 use Rattle.flow_equations.proofs.Links.{ids_are, below_is, index_is}
-use Rattle.problem_builder.specs.ConstantHeads.{IsConstantPair}
-use Rattle.problem_builder.specs.GridHeads.{AreGridHeads}
 use Rattle.problem_builder.proofs.ActiveCells.{variable_active, constant_active}
-use Rattle.step_chain.specs.GridHeads.{bound_at, AreHeadsOf}
 
 -- Kinds of cells by their tests.
 

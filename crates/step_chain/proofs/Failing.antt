@@ -1,19 +1,10 @@
 -- The faults of a step, by those of its barrier and its settler.
-use Rattle.std.proofs.Common.{ℕ, List, Err, inr}
-use Rattle.step_problem.specs.declared.heads.Bound.{Bound}
+use Rattle.step_chain.proofs.Common.{ℕ, List, Err, inr, Bound, Entries, Edges, Settles, IsBarrierOf, IsFault, FlowModel, TimeStep, IsProblemOf}
 use Rattle.step_problem.specs.declared.heads.SettleFault.{SettleFault}
-use Rattle.step_problem.specs.declared.heads.SettleFault.TheVariants as settle
-use Rattle.step_problem.specs.Entries.{Entries}
-use Rattle.step_problem.specs.Heads.{Edges}
-use Rattle.step_problem.specs.Settling.{Settles}
 use Rattle.barrier_vector.specs.declared.BarrierFault.{BarrierFault}
-use Rattle.barrier_vector.specs.declared.BarrierFault.TheVariants as barrier
-use Rattle.barrier_vector.specs.Barriers.{IsBarrierOf}
-use Rattle.barrier_vector.specs.Refusals.{IsFault}
-use Rattle.model_types.specs.declared.model.FlowModel.{FlowModel}
-use Rattle.model_types.specs.declared.time_steps.TimeStep.{TimeStep}
-use Rattle.problem_builder.specs.Problems.{IsProblemOf}
 use Rattle.step_chain.specs.Faults.{FailsBy, of_barrier, of_settle}
+use Rattle.step_problem.specs.declared.heads.SettleFault.TheVariants as settle
+use Rattle.barrier_vector.specs.declared.BarrierFault.TheVariants as barrier
 
 module _ (m : FlowModel) (s : ℕ) (at : TimeStep) (old : List Bound) (rounds : ℕ) (p : List Entries) (is : IsProblemOf m s at old p) where
   pub barrier_fails : (fault : BarrierFault) → IsFault p fault → FailsBy m s at old rounds (of_barrier fault)

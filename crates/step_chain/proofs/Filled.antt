@@ -1,16 +1,8 @@
 -- The heads of all cells, filled in place: those of the variable cells among the constant heads of a time.
-use Rattle.std.proofs.Common.{◌≡◌, ℕ, ◌+◌, ◌<◌, ◌≤◌, inl, inr, true, false, cond, List, length, set, sym, ap, ◌∙◌, subst, arith}
-use Rattle.std.proofs.lemmas.Bool.{cases_order, true≢false}
-use Rattle.std.proofs.lemmas.List.{length-set, get_or-set_same, get_or-set_other}
-use Rattle.step_problem.specs.declared.heads.Bound.{Bound}
-use Rattle.step_problem.specs.Heads.{no_bound}
+use Rattle.step_chain.proofs.Common.{◌≡◌, ℕ, ◌+◌, ◌<◌, ◌≤◌, inl, inr, true, false, cond, List, length, set, sym, ap, ◌∙◌, subst, arith, cases_order, true≢false}
+use Rattle.step_chain.proofs.Common.{length-set, get_or-set_same, get_or-set_other, Bound, no_bound, FlowModel, TimeStep, cell_count, is_variable, is_constant}
+use Rattle.step_chain.proofs.Common.{kind_of, index_of, HasConstantHead, AreConstantHeads, bound_at, AreHeadsOf}
 use Rattle.model_types.specs.declared.kind.Kind.TheVariants.{NoFlow, Constant, Variable}
-use Rattle.model_types.specs.declared.model.FlowModel.{FlowModel}
-use Rattle.model_types.specs.declared.time_steps.TimeStep.{TimeStep}
-use Rattle.model_types.specs.Cells.{cell_count}
-use Rattle.model_types.specs.Kinds.{is_variable, is_constant, kind_of, index_of}
-use Rattle.problem_builder.specs.ConstantHeads.{HasConstantHead, AreConstantHeads}
-use Rattle.step_chain.specs.GridHeads.{bound_at, AreHeadsOf}
 use Rattle.step_chain.proofs.Assembled.{constant_not_variable, idle_not_variable, idle_not_constant}
 
 pub kind_variable : (m : FlowModel) (p c : ℕ) → is_variable m p c ≡ true → kind_of m p c ≡ Variable

@@ -1,29 +1,13 @@
 -- From a step's settled pair to the enclosure of every solution.
-use Rattle.std.proofs.Common.{◌≡◌, ℕ, ◌<◌, ◌^◌, inl, inr, true, List, length, Contains, sym, subst, arith, ℤ, pos, ◌*ℤ◌, ◌≤ℤ◌}
-use Rattle.std.proofs.lemmas.Bool.{cases_Bool}
-use Rattle.decimal_input.specs.Fractions.{Fraction}
+use Rattle.step_chain.proofs.Common.{◌≡◌, ℕ, ◌<◌, ◌^◌, inl, inr, true, List, length, Contains, sym, subst, arith, ℤ, pos, ◌*ℤ◌, ◌≤ℤ◌, cases_Bool, Fraction}
+use Rattle.step_chain.proofs.Common.{Bound, Entries, Edges, lower_at, upper_at, AreSettled, EnclosesStep, CellEncloses, EnclosesSolutions, AllZip-length}
+use Rattle.step_chain.proofs.Common.{AreWords, FlowModel, TimeStep, cell_count, is_variable, is_constant, index_of, exact_step, variable_heads, IsActive}
+use Rattle.step_chain.proofs.Common.{HeadsEnclose, ConstantPairEncloses, bound_at, AreHeadsOf}
 use Rattle.decimal_input.proofs.Enclosing.{whole_signed}
-use Rattle.step_problem.specs.declared.heads.Bound.{Bound}
-use Rattle.step_problem.specs.Entries.{Entries}
-use Rattle.step_problem.specs.Heads.{Edges, lower_at, upper_at}
-use Rattle.step_problem.specs.Settling.{AreSettled}
-use Rattle.cell_balance.specs.Enclosures.{EnclosesStep, CellEncloses}
-use Rattle.cell_balance.specs.SolutionBounds.{EnclosesSolutions}
 use Rattle.cell_balance.specs.Solutions.{LiesBetween}
-use Rattle.cell_balance.proofs.Zips.{AllZip-length}
-use Rattle.cell_relax.specs.Words.{AreWords}
-use Rattle.model_types.specs.declared.model.FlowModel.{FlowModel}
-use Rattle.model_types.specs.declared.time_steps.TimeStep.{TimeStep}
-use Rattle.model_types.specs.Cells.{cell_count}
-use Rattle.model_types.specs.Kinds.{is_variable, is_constant, index_of}
 use Rattle.model_types.specs.Heads.{constant_head}
 use Rattle.model_types.specs.Times.{times}
 use Rattle.model_types.specs.Valid.{IsModel}
-use Rattle.flow_equations.specs.ExactStep.{exact_step}
-use Rattle.flow_equations.specs.Histories.{variable_heads}
-use Rattle.problem_builder.specs.GridHeads.{IsActive, HeadsEnclose}
-use Rattle.problem_builder.specs.Laws.{ConstantPairEncloses}
-use Rattle.step_chain.specs.GridHeads.{bound_at, AreHeadsOf}
 use Rattle.step_chain.specs.Enclosing.{IsMove, EnclosesMove, EnclosesMoves}
 use Rattle.step_chain.proofs.Assembled.{active_constant, index_below, count_is, number_is}
 

@@ -1,3 +1,4 @@
+mod Common
 pub mod Assembled
 pub mod Filled
 pub mod Following

@@ -1,24 +1,11 @@
 -- A time has one step, or one refusal, from the heads before it.
-use Rattle.std.proofs.Common.{◌≡◌, ℕ, suc, ◌<◌, inl, inr, List, [], ◌∷◌, length, sym, ap, ◌∙◌, subst, refl, arith, ℤ}
-use Rattle.std.proofs.lemmas.Bool.{cases_Bool}
-use Rattle.step_problem.specs.declared.heads.Bound.{Bound}
-use Rattle.step_problem.specs.Conditions.{IsProblem}
-use Rattle.step_problem.specs.Entries.{Entries}
-use Rattle.step_problem.specs.Heads.{Edges, lower_at, upper_at}
-use Rattle.step_problem.specs.Laws.{SettledPairIsOne}
-use Rattle.step_problem.specs.Settling.{AreSettled}
-use Rattle.cell_balance.proofs.Zips.{AllZip-length}
-use Rattle.barrier_vector.specs.Barriers.{IsBarrierOf, BarrierIsOne, BarrierExcludesRefusal, RefusalIsOne as BarrierRefusalIsOne}
-use Rattle.barrier_vector.specs.Refusals.{IsRefused}
-use Rattle.model_types.specs.declared.model.FlowModel.{FlowModel}
-use Rattle.model_types.specs.declared.time_steps.TimeStep.{TimeStep}
-use Rattle.model_types.specs.Cells.{cell_count}
-use Rattle.model_types.specs.Layers.{is_active}
-use Rattle.model_types.specs.Kinds.{is_variable, variable_below}
+use Rattle.step_chain.proofs.Common.{◌≡◌, ℕ, suc, ◌<◌, inl, inr, List, [], ◌∷◌, length, sym, ap, ◌∙◌, subst, refl, arith, ℤ, cases_Bool, Bound, IsProblem}
+use Rattle.step_chain.proofs.Common.{Entries, Edges, lower_at, upper_at, SettledPairIsOne, AreSettled, AllZip-length, IsBarrierOf, BarrierIsOne}
+use Rattle.step_chain.proofs.Common.{BarrierExcludesRefusal, IsRefused, FlowModel, TimeStep, cell_count, is_active, is_variable, variable_below, ProblemIsOne}
+use Rattle.step_chain.proofs.Common.{ProblemExcludesRefusal, ProblemFits, ConstantPairIsOne, ConstantPairFits, Solved, bound_at, AreHeadsOf}
+use Rattle.barrier_vector.specs.Barriers.{RefusalIsOne as BarrierRefusalIsOne}
 use Rattle.problem_builder.specs.Cells.{IsCellOf}
-use Rattle.problem_builder.specs.Laws.{ProblemIsOne, ProblemExcludesRefusal, RefusalIsOne as ProblemRefusalIsOne, ProblemFits, ConstantPairIsOne, ConstantPairFits}
-use Rattle.step_chain.specs.declared.solved.Solved.{Solved}
-use Rattle.step_chain.specs.GridHeads.{bound_at, AreHeadsOf}
+use Rattle.problem_builder.specs.Laws.{RefusalIsOne as ProblemRefusalIsOne}
 use Rattle.step_chain.specs.Laws.{IsBefore, StepIsOne, StepExcludesRefusal, RefusalIsOne, HeadsFit}
 use Rattle.step_chain.proofs.Assembled.{active_constant, heads_in_range}
 use Rattle.step_chain.proofs.Following.{settled_words}

@@ -1,25 +1,9 @@
 -- What the calls of a step gave, put together.
-use Rattle.std.proofs.Common.{ℕ, Bool, List}
-use Rattle.decimal_input.specs.Fractions.{Fraction}
-use Rattle.step_problem.specs.declared.heads.Bound.{Bound}
-use Rattle.step_problem.specs.Conditions.{IsProblem}
-use Rattle.step_problem.specs.Entries.{Entries}
-use Rattle.step_problem.specs.Laws.{SettledPairExists}
-use Rattle.step_problem.specs.Heads.{Edges, head_at, lower_at, upper_at}
-use Rattle.step_problem.specs.Settling.{AreSettled}
+use Rattle.step_chain.proofs.Common.{ℕ, Bool, List, Fraction, Bound, IsProblem, Entries, SettledPairExists, Edges, head_at, lower_at, upper_at, AreSettled}
+use Rattle.step_chain.proofs.Common.{EnclosesStep, EnclosesSolutions, IsBarrierOf, FlowModel, TimeStep, exact_step, variable_heads, HeadsEnclose, IsProblemOf}
+use Rattle.step_chain.proofs.Common.{Solved, AreHeadsOf}
 use Rattle.cell_balance.specs.Components.{IsHeldBelow}
-use Rattle.cell_balance.specs.Enclosures.{EnclosesStep}
-use Rattle.cell_balance.specs.SolutionBounds.{EnclosesSolutions}
-use Rattle.barrier_vector.specs.Barriers.{IsBarrierOf}
 use Rattle.certificate_check.specs.Laws.{SettledPairEncloses}
-use Rattle.model_types.specs.declared.model.FlowModel.{FlowModel}
-use Rattle.model_types.specs.declared.time_steps.TimeStep.{TimeStep}
-use Rattle.flow_equations.specs.ExactStep.{exact_step}
-use Rattle.flow_equations.specs.Histories.{variable_heads}
-use Rattle.problem_builder.specs.GridHeads.{HeadsEnclose}
-use Rattle.problem_builder.specs.Problems.{IsProblemOf}
-use Rattle.step_chain.specs.declared.solved.Solved.{Solved}
-use Rattle.step_chain.specs.GridHeads.{AreHeadsOf}
 use Rattle.step_chain.specs.Leads.{LeadsBy}
 use Rattle.step_chain.specs.Steps.{IsSettledStep}
 

@@ -1,3 +1,4 @@
+mod Common
 pub mod Settled
 pub mod Step
 pub mod Listing

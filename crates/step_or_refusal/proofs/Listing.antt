@@ -1,16 +1,11 @@
 -- A model has a whole listing, or a first refusal at one of its times.
-use Rattle.std.proofs.Common.{◌≡◌, ℕ, ◌⊎◌, inl, inr, Option, None, Some, Ok, Err, Result, List, [], ◌∷◌, refl, sym, subst}
-use Rattle.step_problem.specs.declared.heads.Bound.{Bound}
+use Rattle.step_or_refusal.proofs.Common.{◌≡◌, ℕ, ◌⊎◌, inl, inr, Option, None, Some, Ok, Err, Result, List, [], ◌∷◌, refl, sym, subst, Bound, lower_at}
+use Rattle.step_or_refusal.proofs.Common.{upper_at, FlowModel, TimeStep, StartHeadsFit, StartHeadsExist, StepOrRefusal, ListingOrRefusal}
 use Rattle.step_problem.specs.declared.place.NoBound.{NoBound}
 use Rattle.step_problem.specs.declared.place.ZoneFlow.{ZoneFlow}
-use Rattle.step_problem.specs.Heads.{lower_at, upper_at}
-use Rattle.model_types.specs.declared.model.FlowModel.{FlowModel}
-use Rattle.model_types.specs.declared.time_steps.TimeStep.{TimeStep}
 use Rattle.model_types.specs.Times.{times}
 use Rattle.model_types.specs.Valid.{IsModel}
 use Rattle.problem_builder.specs.GridHeads.{AreGridHeads}
-use Rattle.problem_builder.specs.Laws.{StartHeadsFit}
-use Rattle.problem_or_refusal.specs.Laws.{StartHeadsExist}
 use Rattle.step_chain.specs.declared.solved.Solved.{Solved}
 use Rattle.step_chain.specs.Laws.{IsBefore, HeadsFit}
 use Rattle.step_chain.specs.Steps.{IsSettledStep}
@@ -20,12 +15,11 @@ use Rattle.zone_flows.proofs.Fitting.{faces_fit}
 use Rattle.zone_flows.proofs.Meaning.{are_flows, is_first}
 use Rattle.listing_run.specs.declared.step.Step.{Step}
 use Rattle.listing_run.specs.declared.task.Task.{Task}
-use Rattle.listing_run.specs.declared.listing_end.ListingEnd.TheVariants as ends
 use Rattle.listing_run.specs.Steps.{budget_at, IsStep, HasNoBound, no_heads, no_budget, no_zones, Steps}
 use Rattle.zone_pairs.specs.Zones.{AreZones}
 use Rattle.listing_run.specs.Zones.{AreFlowsAt, HasLargeFlow, faces_at}
 use Rattle.listing_run.proofs.Unique.{IsRest, rest_whole, rest_more, first_in}
-use Rattle.step_or_refusal.specs.Laws.{StepOrRefusal, ListingOrRefusal}
+use Rattle.listing_run.specs.declared.listing_end.ListingEnd.TheVariants as ends
 
 ok_or_err : {X : Type 0} (r : Result X NoBound) → ((x : X) × (r ≡ Ok x)) ⊎ ((n : NoBound) × (r ≡ Err n))
 ok_or_err (Ok x) = inl (x, refl)

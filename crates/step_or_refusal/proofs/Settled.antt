@@ -1,19 +1,16 @@
 -- A problem with a barrier has a settled pair as a list, and the heads of all cells by that pair.
-use Rattle.std.proofs.Common.{◌≡◌, ℕ, ◌<◌, ◌∙◌, inl, inr, Bool, true, false, List, length, map, refl, sym, ap, subst, arith, ℤ}
+use Rattle.step_or_refusal.proofs.Common.{◌≡◌, ℕ, ◌<◌, ◌∙◌, inl, inr, Bool, true, false, List, length, map, refl, sym, ap, subst, arith, ℤ, Bound, Edges}
+use Rattle.step_or_refusal.proofs.Common.{no_bound, lower_at, upper_at, IsSettledPair, FlowModel, TimeStep}
 use Rattle.std.specs.List.{range_with_len}
 use Rattle.std.specs.Prelude.{not, ◌&&◌}
 use Rattle.std.proofs.lemmas.Bool.{cases_Bool, false≢true}
 use Rattle.std.proofs.lemmas.List.FromFn.{length-map-range_with_len, get_or-map-range_with_len}
-use Rattle.step_problem.specs.declared.heads.Bound.{Bound}
 use Rattle.step_problem.specs.Conditions.{IsProblem, IsHead}
 use Rattle.step_problem.specs.Entries.{Entries}
-use Rattle.step_problem.specs.Heads.{Edges, no_bound, lower_at, upper_at, IsSettledPair}
 use Rattle.step_problem.specs.Settling.{AreSettled}
 use Rattle.step_problem.specs.Sides.{IsFirstSettled}
 use Rattle.step_problem.proofs.BothSides.{low_side, high_side}
 use Rattle.step_problem.proofs.Sides.{IsSide, same_as_tight, as_tight_trans, same_settled}
-use Rattle.model_types.specs.declared.model.FlowModel.{FlowModel}
-use Rattle.model_types.specs.declared.time_steps.TimeStep.{TimeStep}
 use Rattle.model_types.specs.Cells.{cell_count}
 use Rattle.model_types.specs.Kinds.{is_variable, index_of}
 use Rattle.model_types.specs.Layers.{is_active}

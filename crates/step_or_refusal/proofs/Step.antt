@@ -1,10 +1,7 @@
 -- A time of a valid model, from heads of all its cells, has a settled step or a refusal.
-use Rattle.std.proofs.Common.{inl, inr}
+use Rattle.step_or_refusal.proofs.Common.{inl, inr, ProblemFits, ProblemOrRefusal, ConstantPairsExist, StepOrRefusal}
 use Rattle.step_problem.specs.Laws.{SettledPairExists}
-use Rattle.problem_builder.specs.Laws.{ProblemFits}
-use Rattle.problem_or_refusal.specs.Laws.{ProblemOrRefusal, ConstantPairsExist}
 use Rattle.barrier_or_refusal.specs.Laws.{BarrierOrRefusal}
-use Rattle.step_or_refusal.specs.Laws.{StepOrRefusal}
 use Rattle.step_or_refusal.proofs.Settled.{settled_list, heads_list}
 
 pub a_step : ProblemOrRefusal → ProblemFits → BarrierOrRefusal → SettledPairExists → ConstantPairsExist → StepOrRefusal

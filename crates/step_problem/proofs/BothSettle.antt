@@ -1,11 +1,6 @@
 -- Both sides of a problem can be searched, so there is one settled pair, and it is a certificate.
-use Rattle.std.proofs.Common.{◌≡◌, ℕ, ◌⊎◌, inl, inr, arith, ℤ, pos, negsuc, ◌+ℤ◌, ◌-ℤ◌, ◌≤ℤ◌, List}
-use Rattle.std.proofs.lemmas.Int.{ints, by_lt_z}
-use borrow.Author.Differences.{up}
-use Rattle.step_problem.specs.Entries.{Entries, entries_at}
-use Rattle.step_problem.specs.Conditions.{IsHead, head_limit}
-use Rattle.step_problem.specs.Heads.{Ge, CanRise, CanSink, head_at}
-use Rattle.step_problem.specs.Laws.{SettledPairExists, SettledPairIsOne, SettledPairCertifies}
+use Rattle.step_problem.proofs.Common.{◌≡◌, ℕ, ◌⊎◌, inl, inr, arith, ℤ, pos, negsuc, ◌+ℤ◌, ◌-ℤ◌, ◌≤ℤ◌, List, ints, by_lt_z, up, Entries, entries_at, IsHead}
+use Rattle.step_problem.proofs.Common.{head_limit, Ge, CanRise, CanSink, head_at, SettledPairExists, SettledPairIsOne, SettledPairCertifies}
 use Rattle.step_problem.proofs.Falls.{lower_falls, upper_falls}
 use Rattle.step_problem.proofs.BothSides.{low_side, high_side, le_trans, le_anti}
 use Rattle.step_problem.proofs.Searches.{IsSearchable}

@@ -1,12 +1,6 @@
 -- The lower and the upper side of a problem are sides.
-use Rattle.std.proofs.Common.{◌≡◌, ℕ, ◌<◌, arith, ℤ, ◌≤ℤ◌, List, length}
-use Rattle.std.proofs.lemmas.Int.{ints}
-use Rattle.std.specs.Prelude.{All}
-use Rattle.std.proofs.lemmas.List.Elements.{All-weaker}
-use Rattle.step_problem.specs.declared.entry.Link.{Link}
-use Rattle.step_problem.specs.Entries.{Entries, entries_at}
-use Rattle.step_problem.specs.Conditions.{IsProblem}
-use Rattle.step_problem.specs.Heads.{Ge, CanRise, CanSink}
+use Rattle.step_problem.proofs.Common.{◌≡◌, ℕ, ◌<◌, arith, ℤ, ◌≤ℤ◌, List, length, ints, All, All-weaker, Link, Entries, entries_at, IsProblem, Ge, CanRise}
+use Rattle.step_problem.proofs.Common.{CanSink}
 use Rattle.step_problem.proofs.Falls.{lower_rises, upper_rises}
 use Rattle.step_problem.proofs.Sides.{IsSide}
 

@@ -1,11 +1,8 @@
 -- A balance falls weakly in its own head and rises weakly in the heads at the other ends.
-use Rattle.std.proofs.Common.{ℕ, arith, ℤ, pos, neg_ℤ, ◌+ℤ◌, ◌-ℤ◌, ◌*ℤ◌, ◌≤ℤ◌, List, [], ◌∷◌, All}
-use Rattle.std.proofs.lemmas.Int.{ints, clamps}
-use Rattle.std.proofs.lemmas.List.Elements.{All-head, All-tail}
-use Rattle.step_problem.specs.declared.entry.Link.{Link}
-use Rattle.step_problem.specs.Flows.{total}
-use Rattle.step_problem.specs.Balances.{link_low, fixed_low, river_low, drain_low, evap_low, lower_balance, link_high, fixed_high, river_high, drain_high, evap_high, upper_balance}
-use Rattle.step_problem.specs.Laws.{FallsInOwnHead, RisesInOtherHeads}
+use Rattle.step_problem.proofs.Common.{ℕ, arith, ℤ, pos, neg_ℤ, ◌+ℤ◌, ◌-ℤ◌, ◌*ℤ◌, ◌≤ℤ◌, List, [], ◌∷◌, ints, clamps, All-head, All-tail, Link, total, link_low}
+use Rattle.step_problem.proofs.Common.{fixed_low, river_low, drain_low, evap_low, lower_balance, link_high, fixed_high, river_high, drain_high, evap_high}
+use Rattle.step_problem.proofs.Common.{upper_balance, FallsInOwnHead, RisesInOtherHeads}
+use Rattle.std.proofs.Common.{All}
 use Rattle.step_problem.proofs.Ring.{mul_mono}
 use Rattle.step_problem.proofs.Leasts.{least_rises, most_rises}
 

@@ -1,8 +1,6 @@
 -- Order laws of the least and the greatest flow over a conductance that is known by bounds.
-use Rattle.std.proofs.Common.{◌≡◌, ℕ, zero, suc, ◌*◌, ◌≤◌, refl, ap, ◌∙◌, arith, ℤ, pos, negsuc, neg_ℤ, ◌*ℤ◌, ◌≤ℤ◌}
-use Rattle.std.proofs.Math.Nat.{mul-le-mul_left, mul-le-mul_right}
-use Rattle.std.proofs.lemmas.Int.{ints}
-use Rattle.step_problem.specs.Flows.{least, most}
+use Rattle.step_problem.proofs.Common.{◌≡◌, ℕ, zero, suc, ◌*◌, ◌≤◌, refl, ap, ◌∙◌, arith, ℤ, pos, negsuc, neg_ℤ, ◌*ℤ◌, ◌≤ℤ◌, mul-le-mul_left, mul-le-mul_right}
+use Rattle.step_problem.proofs.Common.{ints, least, most}
 use Rattle.step_problem.proofs.Ring.{diffs, as_diff, same_diff}
 
 -- both flows rise with the difference of heads

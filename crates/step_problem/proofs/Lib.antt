@@ -1,3 +1,4 @@
+mod Common
 pub mod Ring
 pub mod Leasts
 pub mod Falls

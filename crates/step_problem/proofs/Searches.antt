@@ -1,8 +1,5 @@
 -- On one side the relaxed heads are there: a search over the range of heads finds each.
-use Rattle.std.proofs.Common.{◌≡◌, ℕ, zero, suc, ◌<◌, ◌≤◌, ◌⊎◌, refl, arith, ℤ, inl, inr, ⊎_elim}
-use Rattle.std.proofs.lemmas.Bool.{cases_lt}
-use Rattle.step_problem.specs.Conditions.{IsHead}
-use Rattle.step_problem.specs.Sides.{AreHeads, IsRelaxed, IsRound}
+use Rattle.step_problem.proofs.Common.{◌≡◌, ℕ, zero, suc, ◌<◌, ◌≤◌, ◌⊎◌, refl, arith, ℤ, inl, inr, ⊎_elim, cases_lt, IsHead, AreHeads, IsRelaxed, IsRound}
 use Rattle.step_problem.proofs.Sides.{IsSide}
 
 -- y is the next tighter head after x, and has k heads after it

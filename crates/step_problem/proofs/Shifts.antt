@@ -1,17 +1,8 @@
 -- A shift of all heads by so many units: balances get no better, so settled heads stay settled.
-use Rattle.std.proofs.Common.{◌≡◌, ℕ, ◌<◌, ◌⊎◌, inl, inr, ⊎_elim, arith, ℤ, pos, negsuc, neg_ℤ, ◌+ℤ◌, ◌-ℤ◌, ◌≤ℤ◌, ◌<ℤ◌, List, length}
-use Rattle.std.proofs.lemmas.Int.{ints, clamps, by_lt_z}
-use Rattle.std.specs.Prelude.{All}
-use Rattle.std.specs.Int.{int_min, int_max}
-use Rattle.std.proofs.lemmas.List.Elements.{All-weaker}
-use Rattle.step_problem.specs.declared.entry.Link.{Link}
-use Rattle.step_problem.specs.Entries.{Entries, entries_at}
-use Rattle.step_problem.specs.Flows.{total}
-use Rattle.step_problem.specs.Balances.{link_low, fixed_low, river_low, drain_low, evap_low, link_high, fixed_high, river_high, drain_high, evap_high}
-use Rattle.step_problem.specs.Conditions.{IsHead, IsProblem, head_limit}
-use Rattle.step_problem.specs.Sides.{AreHeads, IsSettled}
-use Rattle.step_problem.specs.Heads.{Ge, CanRise, CanSink}
-use Rattle.step_problem.specs.Leaving.{LowerShifts, UpperShifts}
+use Rattle.step_problem.proofs.Common.{◌≡◌, ℕ, ◌<◌, ◌⊎◌, inl, inr, ⊎_elim, arith, ℤ, pos, negsuc, neg_ℤ, ◌+ℤ◌, ◌-ℤ◌, ◌≤ℤ◌, ◌<ℤ◌, List, length, ints, clamps}
+use Rattle.step_problem.proofs.Common.{by_lt_z, All, int_min, int_max, All-weaker, Link, Entries, entries_at, total, link_low, fixed_low, river_low, drain_low}
+use Rattle.step_problem.proofs.Common.{evap_low, link_high, fixed_high, river_high, drain_high, evap_high, IsHead, IsProblem, head_limit, AreHeads, IsSettled}
+use Rattle.step_problem.proofs.Common.{Ge, CanRise, CanSink, LowerShifts, UpperShifts}
 use Rattle.step_problem.proofs.Leasts.{least_rises, most_rises}
 use Rattle.step_problem.proofs.Falls.{total_mono, total_mono_all, loss_falls, six}
 use Rattle.step_problem.proofs.BothSides.{le_trans, at_ends}

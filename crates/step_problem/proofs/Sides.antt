@@ -1,7 +1,6 @@
 -- One side of the heads: what its order of tightness and its moves keep, and what follows of relaxed heads.
-use Rattle.std.proofs.Common.{◌≡◌, ℕ, ◌<◌, ◌⊎◌, ℤ, sym, subst, inl, inr, ⊎_elim}
-use Rattle.step_problem.specs.Conditions.{IsHead}
-use Rattle.step_problem.specs.Sides.{AsTight, AreHeads, IsRelaxed, IsPast, IsSettled, IsCertified, IsFirstSettled, IsOnTheWay}
+use Rattle.step_problem.proofs.Common.{◌≡◌, ℕ, ◌<◌, ◌⊎◌, ℤ, sym, subst, inl, inr, ⊎_elim, IsHead, AsTight, AreHeads, IsRelaxed, IsPast, IsSettled, IsCertified}
+use Rattle.step_problem.proofs.Common.{IsFirstSettled, IsOnTheWay}
 
 -- tightness is an order, and a cell may go as far from heads that are as tight
 pub record IsSide (Le : ℤ → ℤ → Type 0) (Moves : ℕ → ℤ → (ℕ → ℤ) → Type 0) (n : ℕ) : Type 0 where

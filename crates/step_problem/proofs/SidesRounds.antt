@@ -1,8 +1,6 @@
 -- Plain rounds on one side: they tighten, keep order, stay under settled heads, and are covered by sweeps.
-use Rattle.std.proofs.Common.{◌≡◌, ℕ, zero, suc, ◌<◌, ◌⊎◌, ℤ, sym, subst, inr, ⊎_elim}
-use Rattle.step_problem.specs.Conditions.{IsHead}
-use Rattle.step_problem.specs.Sides.{AsTight, AreHeads, IsPast, IsRound, Rounds, RoundsSettle, IsSettled, IsNoTighterThanSettled, IsOnTheWay}
-use Rattle.step_problem.specs.Laws.{KeepsOrder}
+use Rattle.step_problem.proofs.Common.{◌≡◌, ℕ, zero, suc, ◌<◌, ◌⊎◌, ℤ, sym, subst, inr, ⊎_elim, IsHead, AsTight, AreHeads, IsPast, IsRound, Rounds}
+use Rattle.step_problem.proofs.Common.{RoundsSettle, IsSettled, IsNoTighterThanSettled, IsOnTheWay, KeepsOrder}
 use Rattle.step_problem.proofs.Sides.{IsSide, as_tight_trans, same_as_loose, relaxed_rises, relaxed_head, turn_passes, turn_under, stays, edge_kept, same_on_the_way}
 
 -- next covers what a plain round makes of heads no tighter than w

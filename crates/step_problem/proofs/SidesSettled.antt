@@ -1,7 +1,6 @@
 -- On one side the first settled heads are there: rounds from the barrier reach them, since each makes the room that is left less.
-use Rattle.std.proofs.Common.{◌≡◌, ℕ, zero, suc, ◌+◌, ◌<◌, ◌≤◌, sym, subst, arith, ℤ, ⊎_elim}
-use Rattle.std.proofs.lemmas.Bool.{cases_lt, cases_eq}
-use Rattle.step_problem.specs.Sides.{AsTight, AreHeads, IsRound, IsSettled, IsCertified, IsFirstSettled, IsOnTheWay}
+use Rattle.step_problem.proofs.Common.{◌≡◌, ℕ, zero, suc, ◌+◌, ◌<◌, ◌≤◌, sym, subst, arith, ℤ, ⊎_elim, cases_lt, cases_eq, AsTight, AreHeads, IsRound}
+use Rattle.step_problem.proofs.Common.{IsSettled, IsCertified, IsFirstSettled, IsOnTheWay}
 use Rattle.step_problem.proofs.Sides.{IsSide, edge_kept, first_settled, first_settled_is_one, same_certified}
 use Rattle.step_problem.proofs.SidesRounds.{round_tightens, round_on_the_way}
 use Rattle.step_problem.proofs.Searches.{IsSearchable, round_is_there}

@@ -1,17 +1,11 @@
 -- Sums of flows: how far each lies from zero, and one step of a loop that makes them.
-use Rattle.std.proofs.Common.{◌≡◌, refl, sym, subst, ◌∙◌, ℕ, suc, ◌+◌, ◌*◌, ◌^◌, ◌<◌, ◌≤◌, ap, arith, ℤ, pos, negsuc, ◌+ℤ◌, ◌-ℤ◌, ◌*ℤ◌, List, length, get_or, take, drop, sum_by, FitsSigned}
-use Rattle.std.specs.Int.{w128}
-use Rattle.std.proofs.lemmas.List.{at_drop_more, get_or-map}
+use Rattle.step_problem.proofs.Common.{◌≡◌, refl, sym, subst, ◌∙◌, ℕ, suc, ◌+◌, ◌*◌, ◌^◌, ◌<◌, ◌≤◌, ap, arith, ℤ, pos, negsuc, ◌+ℤ◌, ◌-ℤ◌, ◌*ℤ◌, List, length}
+use Rattle.step_problem.proofs.Common.{get_or, take, drop, sum_by, FitsSigned, w128, at_drop_more, get_or-map, mul-le-mul, ints, Link, Entries, ends_in}
+use Rattle.step_problem.proofs.Common.{link_at, no_link, branch_flow, flow_bound, link_flow, fixed_flow, river_flow, drain_flow, evap_flow, balance, total}
+use Rattle.step_problem.proofs.Common.{IsWithin}
 use Rattle.std.proofs.lemmas.List.Sums.{sum_by_more, sum_by-take-le}
-use Rattle.std.proofs.Math.Nat.{mul-le-mul}
-use Rattle.std.proofs.lemmas.Int.{ints}
-use Rattle.step_problem.specs.declared.entry.Link.{Link}
 use Rattle.step_problem.specs.declared.heads.Side.{Side}
 use Rattle.step_problem.specs.declared.heads.Side.TheVariants.{Low, High}
-use Rattle.step_problem.specs.Entries.{Entries, ends_in, link_at, no_link}
-use Rattle.step_problem.specs.BothSides.{branch_flow, flow_bound, link_flow, fixed_flow, river_flow, drain_flow, evap_flow, balance}
-use Rattle.step_problem.specs.Flows.{total}
-use Rattle.step_problem.specs.Conditions.{IsWithin}
 
 pub IsWithin-add : (a b : ℤ) (m n k : ℕ) → IsWithin a m → IsWithin b n → m + n ≤ k → IsWithin (a +ℤ b) k
 IsWithin-add a b m n k p q r = record { above = omega (arith, ints); below = omega (arith, ints) }

@@ -1,28 +1,13 @@
 -- The entries of a list are read as written.
-use Rattle.std.proofs.Common.{◌≡◌, ℕ, ◌+◌, ◌^◌, ◌<◌, Bool, true, false, List, [], ◌∷◌, ◌++◌, length, map, get_or, set, All, None, Ok, refl, sym, subst, ◌∙◌, arith}
-use Rattle.std.specs.Fmt.{decimal}
-use Rattle.std.proofs.lemmas.List.Elements.{All-append, All-map, All-weaker, All-head, All-tail, All-from_recursion}
-use Rattle.decimal_input.specs.declared.dec.Dec.{Dec}
+use Rattle.stress_text.proofs.Common.{◌≡◌, ℕ, ◌+◌, ◌^◌, ◌<◌, Bool, true, false, List, [], ◌∷◌, ◌++◌, length, map, get_or, set, All, None, Ok, refl, sym, subst}
+use Rattle.stress_text.proofs.Common.{◌∙◌, arith, decimal, All-append, All-map, All-weaker, All-head, All-tail, All-from_recursion, Dec, next_number, repeated}
+use Rattle.stress_text.proofs.Common.{Grid, CellId, cell_count, layer_of, row_of, column_of, place, HasSize, row_below, column_below, layer_below, entry_of}
+use Rattle.stress_text.proofs.Common.{entry_at, is_left_out, no_marks, new_list, Kind, first_fault, IsWord, number_word, Line, IsLine, number_after, unread}
+use Rattle.stress_text.proofs.Common.{count_is_word, line_words, next_line, decimal_item, number_item, list_item_6, IsEntry}
 use Rattle.decimal_input.specs.Canonical.{IsDec}
-use Rattle.record_lines.specs.Layout.{next_number}
-use Rattle.record_lines.specs.Reading.{repeated}
 use Rattle.array_reader.specs.Items.{number_at}
 use Rattle.array_reader.specs.Numbers.{number}
-use Rattle.model_types.specs.declared.grid.Grid.{Grid}
-use Rattle.model_types.specs.declared.grid.CellId.{CellId}
-use Rattle.model_types.specs.Cells.{cell_count, layer_of, row_of, column_of, place}
-use Rattle.model_types.specs.Grids.{HasSize}
-use Rattle.model_types.proofs.Numbering.{row_below, column_below, layer_below}
-use Rattle.list_package.specs.Entries.{entry_of, entry_at, is_left_out, no_marks, new_list}
-use Rattle.list_package.specs.Kinds.{Kind, first_fault}
-use Rattle.array_text.specs.Words.{IsWord, number_word}
-use Rattle.array_text.specs.Lines.{Line, IsLine, number_after, unread}
-use Rattle.array_text.proofs.WordTexts.{count_is_word}
-use Rattle.array_text.proofs.LineTexts.{line_words, next_line}
-use Rattle.package_text.proofs.CountTexts.{decimal_item, number_item}
 use Rattle.package_text.proofs.TimeTexts.{canonical_word}
-use Rattle.stress_text.specs.Lists.{list_item_6}
-use Rattle.stress_text.specs.Entries.{IsEntry}
 use Rattle.stress_text.proofs.PlaceTexts.{is_entry, cell_reads}
 use Rattle.stress_text.proofs.MarkTexts.{marks_after, AreFree}
 

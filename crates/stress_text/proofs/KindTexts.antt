@@ -1,12 +1,9 @@
 -- The numbers of WEL, RIV, DRN, GHB and CHD are written as they were read, and so their files are read as written.
-use Rattle.std.proofs.Common.{◌≡◌, ℕ, List, [], ◌∷◌, length, refl, arith}
-use Rattle.decimal_input.specs.declared.dec.Dec.{Dec}
-use Rattle.model_types.specs.declared.grid.CellId.{CellId}
+use Rattle.stress_text.proofs.Common.{◌≡◌, ℕ, List, [], ◌∷◌, length, refl, arith, Dec, CellId, numbers_of, heads_of}
 use Rattle.model_types.specs.Layers.{dec_at}
 use Rattle.model_types.specs.Sources.{cell_of}
 use Rattle.list_package.specs.GivenHeads.{given_heads}
 use Rattle.stress_packages.specs.Packages.{wells, rivers, drains, generals}
-use Rattle.stress_text.specs.Lists.{numbers_of, heads_of}
 use Rattle.stress_text.specs.Laws.{ListPackagesReadAsWritten}
 use Rattle.stress_text.proofs.EntryTexts.{WritesNumbers}
 use Rattle.stress_text.proofs.ListTexts.{file_reads}

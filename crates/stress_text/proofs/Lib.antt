@@ -1,3 +1,4 @@
+mod Common
 pub mod PlaceTexts
 pub mod MarkTexts
 pub mod EntryTexts

@@ -1,32 +1,14 @@
 -- The file of a list package is read as written.
-use Rattle.std.proofs.Common.{◌≡◌, ℕ, suc, ◌^◌, ◌<◌, ◌≤◌, max, Bool, true, false, nat_le, fold, List, [], ◌∷◌, ◌++◌, append_assoc, length, map, drop, All, Option, Some, None, is_some, Ok, refl, arith}
-use Rattle.std.specs.Prelude.{codes}
-use Rattle.std.specs.Fmt.{decimal}
-use Rattle.std.specs.List.{AllZip, flat_map}
-use Rattle.std.proofs.lemmas.List.{append-nil}
-use Rattle.std.proofs.lemmas.List.Elements.{All-cons, All-map, All-weaker, All-from_recursion}
-use Rattle.std.proofs.lemmas.Bool.Decides.{nat_tests}
-use Rattle.decimal_input.specs.declared.dec.Dec.{Dec}
-use Rattle.record_lines.specs.Layout.{next_number}
-use Rattle.record_lines.specs.Reading.{for_each}
-use Rattle.record_lines.specs.Items.{is_word}
-use Rattle.model_types.specs.declared.grid.Grid.{Grid}
+use Rattle.stress_text.proofs.Common.{◌≡◌, ℕ, suc, ◌^◌, ◌<◌, ◌≤◌, max, Bool, true, false, nat_le, fold, List, [], ◌∷◌, ◌++◌, append_assoc, length, map, drop}
+use Rattle.stress_text.proofs.Common.{All, Option, Some, None, is_some, Ok, refl, arith, codes, decimal, AllZip, flat_map, append-nil, All-cons, All-map}
+use Rattle.stress_text.proofs.Common.{All-weaker, All-from_recursion, nat_tests, Dec, next_number, for_each, is_word, Grid, cell_count, HasSize, Kind, IsWord}
+use Rattle.stress_text.proofs.Common.{Line, IsLine, line_text, text, number_after, unread, digits_spell, count_is_word, word_by_test, line_words, next_line}
+use Rattle.stress_text.proofs.Common.{decimal_item, list_item_2, list_item_5, period_list, list_lines, IsEntry, IsListOf, with_lists}
 use Rattle.model_types.specs.declared.period.Period.{Period}
-use Rattle.model_types.specs.Cells.{cell_count}
-use Rattle.model_types.specs.Grids.{HasSize}
 use Rattle.list_package.specs.Headers.{entries, header_of, item_line}
-use Rattle.list_package.specs.Kinds.{Kind}
 use Rattle.list_package.specs.Lists.{list_at, period_at, periods_of, lists_of}
-use Rattle.array_text.specs.Words.{IsWord}
-use Rattle.array_text.specs.Lines.{Line, IsLine, line_text, text, number_after, unread}
-use Rattle.array_text.proofs.DigitTexts.{digits_spell}
-use Rattle.array_text.proofs.WordTexts.{count_is_word, word_by_test}
-use Rattle.array_text.proofs.LineTexts.{line_words, next_line}
 use Rattle.package_text.proofs.LineCounts.{number_after-append}
-use Rattle.package_text.proofs.CountTexts.{decimal_item}
 use Rattle.package_text.proofs.DisTexts.{AreLines, no_lines, one_line, joined, file_begins, line_is_item, decimal_is_item}
-use Rattle.stress_text.specs.Lists.{list_item_2, list_item_5, period_list, list_lines}
-use Rattle.stress_text.specs.Entries.{IsEntry, IsListOf, with_lists}
 use Rattle.stress_text.proofs.PlaceTexts.{no_keyword}
 use Rattle.stress_text.proofs.MarkTexts.{all_free}
 use Rattle.stress_text.proofs.EntryTexts.{WritesNumbers, entry_line, entry_is_line, list_reads}

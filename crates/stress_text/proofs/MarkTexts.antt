@@ -1,13 +1,7 @@
 -- The cells of a list's entries are not marked when their turn comes.
-use Rattle.std.proofs.Common.{◌≡◌, ℕ, zero, suc, Bool, true, false, cond, List, [], ◌∷◌, get_or, set, replicate, All, refl, sym, ◌∙◌, arith}
-use Rattle.std.specs.List.{AllPairs}
-use Rattle.std.proofs.lemmas.List.{get_or-set_other}
-use Rattle.std.proofs.lemmas.List.Elements.{All-head, All-tail}
-use Rattle.model_types.specs.declared.grid.Grid.{Grid}
-use Rattle.model_types.specs.Cells.{cell_count}
-use Rattle.list_package.specs.Entries.{no_marks}
+use Rattle.stress_text.proofs.Common.{◌≡◌, ℕ, zero, suc, Bool, true, false, cond, List, [], ◌∷◌, get_or, set, replicate, All, refl, sym, ◌∙◌, arith, AllPairs}
+use Rattle.stress_text.proofs.Common.{get_or-set_other, All-head, All-tail, Grid, cell_count, no_marks, Kind}
 use Rattle.list_package.specs.Forms.{Differ}
-use Rattle.list_package.specs.Kinds.{Kind}
 
 module _ {E : Type 0} (kind : Kind E) where
   abbrev pub marks_after : List Bool → List E → List Bool

@@ -1,21 +1,9 @@
 -- The place of a cell is read as the cell.
-use Rattle.std.proofs.Common.{◌≡◌, ℕ, ◌+◌, ◌-◌, ◌^◌, ◌<◌, ◌≤◌, ◌==◌, true, false, nat_lt, List, [], ◌∷◌, length, drop, All, Ok, refl, arith, pos}
-use Rattle.std.specs.Prelude.{codes}
-use Rattle.std.specs.Fmt.{decimal}
+use Rattle.stress_text.proofs.Common.{◌≡◌, ℕ, ◌+◌, ◌-◌, ◌^◌, ◌<◌, ◌≤◌, ◌==◌, true, false, nat_lt, List, [], ◌∷◌, length, drop, All, Ok, refl, arith, pos, codes}
+use Rattle.stress_text.proofs.Common.{decimal, All-head, nat_tests, is_word, Grid, CellId, cell_count, layer_of, row_of, column_of, HasSize, row_below}
+use Rattle.stress_text.proofs.Common.{column_below, layer_below, place_gives, cell_at, is_left_out, Line, digits_spell, is_within}
 use Rattle.std.specs.Char.{to_ascii_lowercase}
-use Rattle.std.proofs.lemmas.List.Elements.{All-head}
-use Rattle.std.proofs.lemmas.Bool.Decides.{nat_tests}
 use Rattle.decimal_input.specs.Grammar.{is_digit}
-use Rattle.record_lines.specs.Items.{is_word}
-use Rattle.model_types.specs.declared.grid.Grid.{Grid}
-use Rattle.model_types.specs.declared.grid.CellId.{CellId}
-use Rattle.model_types.specs.Cells.{cell_count, layer_of, row_of, column_of}
-use Rattle.model_types.specs.Grids.{HasSize}
-use Rattle.model_types.proofs.Numbering.{row_below, column_below, layer_below, place_gives}
-use Rattle.list_package.specs.Entries.{cell_at, is_left_out}
-use Rattle.array_text.specs.Lines.{Line}
-use Rattle.array_text.proofs.DigitTexts.{digits_spell}
-use Rattle.package_text.proofs.CountTexts.{is_within}
 
 -- a keyword that begins with no digit is no number
 digit_stays : (b : ℕ) → is_digit b ≡ true → to_ascii_lowercase b ≡ b

@@ -1,9 +1,7 @@
 -- A folder of the system may be asked for each word that it was given.
-use Rattle.std.proofs.Common.{ℕ, ◌<◌, List, All, Contains, inl, refl, map, length, get_or}
+use Rattle.text_tests.proofs.Common.{ℕ, ◌<◌, List, All, Contains, inl, refl, map, length, get_or, folder_name, Read, IsNamedBy}
 use Rattle.std.proofs.lemmas.List.{get_or-map, length-map}
 use Rattle.std.proofs.lemmas.List.Elements.{Contains-get_or}
-use Rattle.outside.specs.Names.{folder_name}
-use Rattle.outside.specs.Readings.{Read, IsNamedBy}
 
 module _ {X : Type 0} (word : X → List ℕ) (xs : List X) where
   contains_word : (k : ℕ) (d : X) → k < length xs → Contains (map word xs) (word (get_or xs k d))

@@ -1,11 +1,10 @@
 -- One view more, as a put more.
-use Rattle.std.proofs.Common.{◌≡◌, ℕ, ◌+◌, inl, inr, refl, sym, ap, ◌∙◌, subst, arith, true, false, List, [], ◌∷◌, ◌++◌, length, map, Result, Ok, Err, Option, Some, None}
-use Rattle.std.specs.Prelude.{is_some, IfOk}
+use Rattle.view_puts.proofs.Common.{◌≡◌, ℕ, ◌+◌, inl, inr, refl, sym, ap, ◌∙◌, subst, arith, true, false, List, [], ◌∷◌, ◌++◌, length, map, Result, Ok, Err}
+use Rattle.view_puts.proofs.Common.{Option, Some, None, is_some, IfOk, Put, taken, refused}
 use Rattle.std.specs.Result.{result_err}
 use Rattle.std.proofs.lemmas.List.{append-nil, append_assoc}
 use Rattle.std.specs.declared.vec.Vec.{Vec}
 use Rattle.std.specs.declared.alloc.Global.{Global}
-use Rattle.outside.specs.Puts.{Put, taken, refused}
 use Rattle.outside.specs.declared.traits.SinkError.{SinkError}
 use Rattle.step_problem.specs.declared.heads.Bound.{Bound}
 use Rattle.view_puts.specs.Puts.{IsPutOf, IsStopPut, AreAllShown, LeadOn, ViewPuts}

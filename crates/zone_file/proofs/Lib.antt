@@ -1,2 +1,3 @@
+mod Common
 pub mod ZoneLemmas
 pub mod SmallZones

@@ -1,11 +1,8 @@
 -- The zones that a file gives are at most 999.
-use Rattle.std.proofs.Common.{◌≡◌, ℕ, ◌≤◌, false, not, List, [], ◌∷◌, All, None, Some, Option, Result, Ok, Err, map, unsigned_abs, refl, sym, ap, ◌∙◌, subst, arith}
-use Rattle.std.specs.Prelude.{ℤ, pos, negsuc}
-use Rattle.std.specs.List.{AllByRecursion, position}
-use Rattle.std.proofs.lemmas.Int.{ints}
+use Rattle.zone_file.proofs.Common.{◌≡◌, ℕ, ◌≤◌, false, not, List, [], ◌∷◌, All, None, Some, Option, Result, Ok, Err, map, unsigned_abs, refl, sym, ap, ◌∙◌}
+use Rattle.zone_file.proofs.Common.{subst, arith, ℤ, pos, negsuc, AllByRecursion, position, ints, file_at, IsZone, is_zone, wrong_at, zones_of, zones_tested}
 use Rattle.std.proofs.lemmas.List.Elements.{All-from_recursion, recursion_from_All}
 use Rattle.outside.specs.Files.{File}
-use Rattle.outside.specs.Inputs.{file_at}
 use Rattle.outside.specs.declared.refusals.Refusal.{Refusal}
 use Rattle.record_lines.specs.Items.{name_at}
 use Rattle.record_lines.specs.Layout.{left_from}
@@ -13,7 +10,6 @@ use Rattle.record_lines.specs.Reading.{◌>>=◌}
 use Rattle.array_reader.specs.Arrays.{layers}
 use Rattle.array_reader.specs.Kinds.{whole}
 use Rattle.model_types.specs.declared.grid.Grid.{Grid}
-use Rattle.zone_file.specs.Zones.{IsZone, is_zone, wrong_at, zones_of, zones_tested}
 use Rattle.zone_file.proofs.ZoneLemmas.{zones_are}
 
 record Goes {A B E : Type 0} (r : Result A E) (f : A → Result B E) (y : B) : Type 0 where

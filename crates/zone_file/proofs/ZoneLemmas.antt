@@ -1,11 +1,8 @@
 -- Zones that pass the test are within their limits.
-use Rattle.std.proofs.Common.{◌≡◌, false, not, List, None, All, length, slice_index_or, arith}
-use Rattle.std.specs.Prelude.{ℤ, pos, negsuc}
-use Rattle.std.specs.List.{position, position_or_len}
-use Rattle.std.proofs.lemmas.Int.{ints}
+use Rattle.zone_file.proofs.Common.{◌≡◌, false, not, List, None, All, length, slice_index_or, arith, ℤ, pos, negsuc, position, position_or_len, ints, IsZone}
+use Rattle.zone_file.proofs.Common.{is_zone}
 use Rattle.std.proofs.lemmas.List.Sums.{fails_before_first}
 use Rattle.record_lines.proofs.CutLemmas.{place_of_none}
-use Rattle.zone_file.specs.Zones.{IsZone, is_zone}
 
 zone_is : (z : ℤ) → not (is_zone z) ≡ false → IsZone z
 zone_is (pos n) h = grind (arith, ints)

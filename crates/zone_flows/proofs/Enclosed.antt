@@ -1,25 +1,15 @@
 -- The bounds of the flows between zones enclose the exact ones.
-use Rattle.std.proofs.Common.{◌≡◌, ℕ, zero, suc, ◌+◌, ◌<◌, Bool, true, false, refl, ap, ◌∙◌, subst, List, [], ◌∷◌, ◌++◌, length, map, get_or, All, ℤ, ◌-ℤ◌}
-use Rattle.std.specs.List.{AllZip, filter, flat_map}
-use Rattle.std.proofs.lemmas.List.Elements.{All-head, All-tail, All-from_get_or, All-weaker}
+use Rattle.zone_flows.proofs.Common.{◌≡◌, ℕ, zero, suc, ◌+◌, ◌<◌, Bool, true, false, refl, ap, ◌∙◌, subst, List, [], ◌∷◌, ◌++◌, length, map, get_or, All, ℤ}
+use Rattle.zone_flows.proofs.Common.{◌-ℤ◌, AllZip, filter, flat_map, All-head, All-tail, All-from_get_or, All-weaker, Fraction, signed, times, Encloses}
+use Rattle.zone_flows.proofs.Common.{EnclosesSigned, FixedKind, Storage, Constant, General, Fixed, Link, IsProblem, Entries, entries_at, no_entries, least}
+use Rattle.zone_flows.proofs.Common.{most, total, ExactLink, ExactFixed, ExactCell, cell_at, LinkEncloses, FixedEncloses, CellEncloses, EnclosesStep, TermPair}
+use Rattle.zone_flows.proofs.Common.{Face, is_lower_zone, face_from, link_faces, faces_by_kind, fixed_faces, cell_faces, faces, is_between, flows_between}
+use Rattle.zone_flows.proofs.Common.{ExactFace, exact_from, exact_link, exact_by_kind, exact_fixed, exact_cell, exact_faces, is_exact_between, exact_flow}
+use Rattle.zone_flows.proofs.Common.{HeadsLieWithin}
 use Rattle.decimal_input.specs.Ratios.{Ratio}
-use Rattle.decimal_input.specs.Fractions.{Fraction, signed, times}
-use Rattle.decimal_input.specs.Enclosures.{Encloses, EnclosesSigned}
-use Rattle.step_problem.specs.declared.entry.FixedKind.{FixedKind}
-use Rattle.step_problem.specs.declared.entry.FixedKind.TheVariants.{Storage, Constant, General}
-use Rattle.step_problem.specs.declared.entry.Fixed.{Fixed}
-use Rattle.step_problem.specs.declared.entry.Link.{Link}
-use Rattle.step_problem.specs.Conditions.{IsProblem}
-use Rattle.step_problem.specs.Entries.{Entries, entries_at, no_entries}
-use Rattle.step_problem.specs.Flows.{least, most, total}
-use Rattle.cell_balance.specs.Steps.{ExactLink, ExactFixed, ExactCell, cell_at}
 use Rattle.cell_balance.specs.Balance.{minus}
-use Rattle.cell_balance.specs.Enclosures.{LinkEncloses, FixedEncloses, CellEncloses, EnclosesStep}
 use Rattle.cell_balance.proofs.EntryBounds.{bounds_hold}
-use Rattle.budget_bounds.specs.declared.pair.TermPair.{TermPair}
 use Rattle.cell_balance.proofs.Enclosing.{total_encloses, AllZip-filter}
-use Rattle.zone_flows.specs.Faces.{Face, is_lower_zone, face_from, link_faces, faces_by_kind, fixed_faces, cell_faces, faces, is_between, flows_between}
-use Rattle.zone_flows.specs.Exact.{ExactFace, exact_from, exact_link, exact_by_kind, exact_fixed, exact_cell, exact_faces, is_exact_between, exact_flow, HeadsLieWithin}
 
 pub AllZip-append : {X Y : Type 0} (R : X → Y → Type 0) (xs : List X) (ys : List Y) (vs : List X) (ws : List Y) → AllZip R xs ys → AllZip R vs ws → AllZip R (xs ++ vs) (ys ++ ws)
 AllZip-append R [] [] vs ws h k = k

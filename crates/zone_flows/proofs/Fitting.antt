@@ -1,34 +1,17 @@
 -- The zones of all faces are below 1000; and what the flows of a step's table mean.
-use Rattle.std.proofs.Common.{ℕ, zero, suc, ◌+◌, ◌≤◌, Bool, true, false, cond, arith, List, [], ◌∷◌, All, ℤ, slice_index, subst, sym, Result, Ok, Err}
-use Rattle.std.specs.Prelude.{IfOk}
-use Rattle.std.specs.List.{flat_map}
+use Rattle.zone_flows.proofs.Common.{ℕ, zero, suc, ◌+◌, ◌≤◌, Bool, true, false, cond, arith, List, [], ◌∷◌, All, ℤ, slice_index, subst, sym, Result, Ok, Err}
+use Rattle.zone_flows.proofs.Common.{IfOk, flat_map, All-append, All-cons, All-nil, All-head, All-tail, All-contains, All-weaker, Fixed, FixedKind, Storage}
+use Rattle.zone_flows.proofs.Common.{Constant, General, Link, ZoneFlow, IsProblem, Entries, entries_at, Fraction, EnclosesSigned, ExactCell, EnclosesStep}
+use Rattle.zone_flows.proofs.Common.{total, TermPair, EncloseEveryStep, HeadsLieWithin, exact_flow, exact_faces, Face, face_between, face_from, link_faces}
+use Rattle.zone_flows.proofs.Common.{faces_by_kind, fixed_faces, cell_faces, faces, flows_between, listed_flows, IsZoneFlow, AreZoneFlows, with_faces}
 use Rattle.std.specs.declared.vec.Vec.{Vec}
 use Rattle.std.specs.declared.alloc.Global.{Global}
-use Rattle.std.proofs.lemmas.List.Elements.{All-append, All-cons, All-nil, All-head, All-tail, All-contains, All-weaker}
-use Rattle.step_problem.specs.declared.entry.Fixed.{Fixed}
-use Rattle.step_problem.specs.declared.entry.FixedKind.{FixedKind}
-use Rattle.step_problem.specs.declared.entry.FixedKind.TheVariants.{Storage, Constant, General}
-use Rattle.step_problem.specs.declared.entry.Link.{Link}
-use Rattle.step_problem.specs.declared.place.ZoneFlow.{ZoneFlow}
-use Rattle.step_problem.specs.Conditions.{IsProblem}
-use Rattle.step_problem.specs.Entries.{Entries, entries_at}
-use Rattle.decimal_input.specs.Fractions.{Fraction}
-use Rattle.decimal_input.specs.Enclosures.{EnclosesSigned}
-use Rattle.cell_balance.specs.Steps.{ExactCell}
 use Rattle.zone_flows.specs.declared.fault.ZoneFault.{ZoneFault}
-use Rattle.zone_flows.specs.declared.fault.ZoneFault.TheVariants as faults
 use Rattle.zone_flows.specs.Results.{Returns, ReturnsFlows}
-use Rattle.cell_balance.specs.Enclosures.{EnclosesStep}
-use Rattle.step_problem.specs.Flows.{total}
-use Rattle.budget_bounds.specs.declared.pair.TermPair.{TermPair}
-use Rattle.zone_flows.specs.Exact.{EncloseEveryStep, HeadsLieWithin, exact_flow, exact_faces}
-use Rattle.zone_flows.specs.Faces.{Face, face_between, face_from, link_faces, faces_by_kind, fixed_faces, cell_faces, faces, flows_between}
-use Rattle.zone_flows.specs.TableFlows.{listed_flows}
-use Rattle.zone_flows.specs.Pairs.{IsZoneFlow, AreZoneFlows}
-use Rattle.zone_flows.specs.Tables.{with_faces}
 use Rattle.zone_flows.proofs.Enclosed.{sums_enclose}
 use Rattle.zone_flows.proofs.Pairing.{FaceFits, FacesFit}
 use Rattle.zone_flows.proofs.Meaning.{are_flows, is_first}
+use Rattle.zone_flows.specs.declared.fault.ZoneFault.TheVariants as faults
 
 all_flat : {X Y : Type 0} (P : Y → Type 0) (g : X → List Y) → ((x : X) → All P (g x)) → (xs : List X) → All P (flat_map g xs)
 all_flat P g each [] = All-nil P

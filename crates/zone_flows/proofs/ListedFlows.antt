@@ -1,12 +1,6 @@
 -- The loop over a table.
-use Rattle.std.proofs.Common.{◌≡◌, ℕ, List, [], ◌∷◌, ◌++◌, refl, sym, ap, ◌∙◌, append_assoc, Result, Ok, Err}
-use Rattle.std.proofs.lemmas.List.{append-nil}
-use Rattle.step_problem.specs.declared.place.NoBound.{NoBound}
-use Rattle.budget_bounds.specs.Terms.{◌>>=◌}
-use Rattle.zone_flows.specs.declared.sum.ZoneSum.{ZoneSum}
-use Rattle.step_problem.specs.declared.place.ZoneFlow.{ZoneFlow}
-use Rattle.zone_flows.specs.Tables.{Table}
-use Rattle.zone_flows.specs.TableFlows.{flow_or_refusal, listed_flows}
+use Rattle.zone_flows.proofs.Common.{◌≡◌, ℕ, List, [], ◌∷◌, ◌++◌, refl, sym, ap, ◌∙◌, append_assoc, Result, Ok, Err, append-nil, NoBound, ◌>>=◌, ZoneSum}
+use Rattle.zone_flows.proofs.Common.{ZoneFlow, Table, flow_or_refusal, listed_flows}
 
 abbrev pub with_front : List ZoneFlow → Result (List ZoneFlow) NoBound → Result (List ZoneFlow) NoBound
 with_front front read = read >>= λ flows. Ok (front ++ flows)

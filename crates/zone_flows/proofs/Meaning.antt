@@ -1,18 +1,11 @@
 -- The flows of a table of sums, entry by entry, are those of the definition.
-use Rattle.std.proofs.Common.{◌≡◌, ℕ, suc, ◌/◌, ◌%◌, ◌<◌, ◌≤◌, ◌⊎◌, inl, inr, Bool, true, false, refl, sym, ap, ◌∙◌, subst, arith, List, [], ◌∷◌, All, Result, Ok, Err}
-use Rattle.std.specs.Prelude.{Contains, if◌then◌else◌}
-use Rattle.std.proofs.lemmas.List.Elements.{All-cons, All-nil}
-use Rattle.step_problem.specs.declared.place.NoBound.{NoBound}
-use Rattle.step_problem.specs.declared.place.Place.TheVariants as places
-use Rattle.step_problem.specs.declared.place.ZoneFlow.{ZoneFlow}
-use Rattle.budget_bounds.specs.Terms.{◌>>=◌}
-use Rattle.zone_flows.specs.declared.sum.ZoneSum.{ZoneSum}
-use Rattle.zone_flows.specs.Faces.{Face}
-use Rattle.zone_flows.specs.TableFlows.{is_below_limit, zone_flow, too_large, listed_flows}
-use Rattle.zone_flows.specs.Pairs.{IsBeforeAll, PairsAscend, ShareFace, IsBelowLimit, IsZoneFlow, AreZoneFlows, IsFirstTooLarge}
-use Rattle.zone_flows.specs.Tables.{Table, key_of, with_faces}
+use Rattle.zone_flows.proofs.Common.{◌≡◌, ℕ, suc, ◌/◌, ◌%◌, ◌<◌, ◌≤◌, ◌⊎◌, inl, inr, Bool, true, false, refl, sym, ap, ◌∙◌, subst, arith, List, [], ◌∷◌, All}
+use Rattle.zone_flows.proofs.Common.{Result, Ok, Err, Contains, if◌then◌else◌, All-cons, All-nil, NoBound, ZoneFlow, ◌>>=◌, ZoneSum, Face, is_below_limit}
+use Rattle.zone_flows.proofs.Common.{zone_flow, too_large, listed_flows, IsBeforeAll, PairsAscend, ShareFace, IsBelowLimit, IsZoneFlow, AreZoneFlows}
+use Rattle.zone_flows.proofs.Common.{IsFirstTooLarge, Table, key_of, with_faces}
 use Rattle.zone_flows.proofs.Keys.{Above, KeysAscend, IsEntry, HasKey, table_ascends}
 use Rattle.zone_flows.proofs.Pairing.{FacesFit, key_div, key_mod, key_before, before_key, IsSumOf, entry_is, shared_has, small_true, true_small, flow_of, flow_is}
+use Rattle.step_problem.specs.declared.place.Place.TheVariants as places
 
 -- the flow of each entry, all small
 abbrev Lists : Table → List ZoneFlow → Type 0

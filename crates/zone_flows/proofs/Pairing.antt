@@ -1,24 +1,10 @@
 -- What a table of sums has for each pair of zones, by the faces.
-use Rattle.std.proofs.Common.{◌≡◌, ℕ, zero, suc, ◌/◌, ◌%◌, ◌<◌, ◌≤◌, ◌&&◌, ◌⊎◌, inl, inr, Bool, true, false, cond, refl, sym, ap, ◌∙◌, subst, arith, List, [], ◌∷◌, length, map, ℤ, pos, ◌+ℤ◌, ◌-ℤ◌, ◌≤ℤ◌, ◌<ℤ◌}
-use Rattle.std.specs.Prelude.{Contains}
-use Rattle.std.specs.List.{filter}
+use Rattle.zone_flows.proofs.Common.{◌≡◌, ℕ, zero, suc, ◌/◌, ◌%◌, ◌<◌, ◌≤◌, ◌&&◌, ◌⊎◌, inl, inr, Bool, true, false, cond, refl, sym, ap, ◌∙◌, subst, arith}
+use Rattle.zone_flows.proofs.Common.{List, [], ◌∷◌, length, map, ℤ, pos, ◌+ℤ◌, ◌-ℤ◌, ◌≤ℤ◌, ◌<ℤ◌, Contains, filter, nat_tests, ints, is_at, nat_cmp, In, Out}
+use Rattle.zone_flows.proofs.Common.{ZoneFlow, total, TermPair, IsSum, capped, plus_pair, parts, term_limit, parts_lo, parts_hi, ZoneSum, Face, is_between}
+use Rattle.zone_flows.proofs.Common.{flows_between, is_below_limit, zone_flow, IsBefore, ShareFace, IsBelowLimit, IsZoneSum, key_of, faces_keyed, no_pair}
+use Rattle.zone_flows.proofs.Common.{no_flows, plus_flows, sum_at, with_faces}
 use Rattle.std.specs.Int.Signed.{lt_z}
-use Rattle.std.proofs.lemmas.Bool.Decides.{nat_tests}
-use Rattle.std.proofs.lemmas.Int.{ints}
-use Rattle.std.specs.BTreeMap.{is_at}
-use Rattle.std.specs.Ordering.{nat_cmp}
-use Rattle.step_problem.specs.declared.place.Dir.TheVariants.{In, Out}
-use Rattle.step_problem.specs.declared.place.ZoneFlow.{ZoneFlow}
-use Rattle.step_problem.specs.Flows.{total}
-use Rattle.budget_bounds.specs.declared.pair.TermPair.{TermPair}
-use Rattle.budget_bounds.specs.Capped.{IsSum, capped, plus_pair}
-use Rattle.budget_bounds.specs.Terms.{parts, term_limit}
-use Rattle.budget_bounds.proofs.Caps.{parts_lo, parts_hi}
-use Rattle.zone_flows.specs.declared.sum.ZoneSum.{ZoneSum}
-use Rattle.zone_flows.specs.Faces.{Face, is_between, flows_between}
-use Rattle.zone_flows.specs.TableFlows.{is_below_limit, zone_flow}
-use Rattle.zone_flows.specs.Pairs.{IsBefore, ShareFace, IsBelowLimit}
-use Rattle.zone_flows.specs.Tables.{IsZoneSum, key_of, faces_keyed, no_pair, no_flows, plus_flows, sum_at, with_faces}
 use Rattle.zone_flows.proofs.Sums.{table_sums, flows_are_parts, net_lo, net_hi, magnitudes_lo, magnitudes_hi, together_below, below_together, is_whole}
 use Rattle.zone_flows.proofs.Keys.{IsEntry, HasKey, HasKeyed, table_ascends, table_has, table_from, entry_has, entry_sum}
 

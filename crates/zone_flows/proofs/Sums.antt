@@ -1,25 +1,11 @@
 -- What a table of sums has for a pair of zones: the sums of the flows with its key.
-use Rattle.std.proofs.Common.{◌≡◌, ℕ, Bool, true, false, cond, refl, sym, ap, ◌∙◌, subst, arith, List, [], ◌∷◌, map, ℤ, pos, negsuc, neg_ℤ, unsigned_abs, ◌+ℤ◌, ◌-ℤ◌, ◌≤ℤ◌, ◌<ℤ◌, Option, Some}
-use Rattle.std.specs.Int.{int_max, int_min}
-use Rattle.std.proofs.lemmas.Bool.Decides.{nat_tests}
-use Rattle.std.proofs.lemmas.Int.{ints, clamps}
-use Rattle.std.specs.declared.cmp.Ordering.{Ordering}
-use Rattle.std.specs.declared.cmp.Ordering.TheVariants.{Less, Equal, Greater}
-use Rattle.std.specs.BTreeMap.{insert_entry, is_at}
-use Rattle.std.specs.Map.{lookup}
-use Rattle.std.specs.Option.{unwrap_or}
-use Rattle.std.specs.Ordering.{nat_cmp, match_ordering}
-use Rattle.step_problem.specs.Flows.{total}
+use Rattle.zone_flows.proofs.Common.{◌≡◌, ℕ, Bool, true, false, cond, refl, sym, ap, ◌∙◌, subst, arith, List, [], ◌∷◌, map, ℤ, pos, negsuc, neg_ℤ, unsigned_abs}
+use Rattle.zone_flows.proofs.Common.{◌+ℤ◌, ◌-ℤ◌, ◌≤ℤ◌, ◌<ℤ◌, Option, Some, int_max, int_min, nat_tests, ints, clamps, Ordering, Less, Equal, Greater}
+use Rattle.zone_flows.proofs.Common.{insert_entry, is_at, lookup, unwrap_or, nat_cmp, match_ordering, total, In, Out, TermPair, IsSum, capped, plus_pair, parts}
+use Rattle.zone_flows.proofs.Common.{term_limit, capped_twice, nothing_more, part_lo, part_hi, parts_lo, parts_hi, ZoneSum, Face, IsZoneSum, Table, key_of}
+use Rattle.zone_flows.proofs.Common.{no_flows, plus_flow, plus_flows, faces_keyed, sum_at, with_face, with_faces}
 use Rattle.step_problem.specs.declared.place.Dir.{Dir}
-use Rattle.step_problem.specs.declared.place.Dir.TheVariants.{In, Out}
-use Rattle.budget_bounds.specs.declared.pair.TermPair.{TermPair}
 use Rattle.budget_bounds.specs.Singles.{part}
-use Rattle.budget_bounds.specs.Capped.{IsSum, capped, plus_pair}
-use Rattle.budget_bounds.specs.Terms.{parts, term_limit}
-use Rattle.budget_bounds.proofs.Caps.{capped_twice, nothing_more, part_lo, part_hi, parts_lo, parts_hi}
-use Rattle.zone_flows.specs.declared.sum.ZoneSum.{ZoneSum}
-use Rattle.zone_flows.specs.Faces.{Face}
-use Rattle.zone_flows.specs.Tables.{IsZoneSum, Table, key_of, no_flows, plus_flow, plus_flows, faces_keyed, sum_at, with_face, with_faces}
 
 same_key : (q k : ℕ) → is_at (nat_cmp q) k ≡ true → q ≡ k
 same_key q k h = grind (arith, nat_tests)

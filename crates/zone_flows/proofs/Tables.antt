@@ -1,19 +1,8 @@
 -- Tables of sums.
-use Rattle.std.proofs.Common.{◌≡◌, ℕ, ◌+◌, ◌<◌, ◌≤◌, ◌++◌, length, get_or, drop, drop-cons, add-one, sym, ap, subst, ◌∙◌, Bool, true, false, cond, refl, arith, List, [], ◌∷◌, pos, Some}
-use Rattle.std.proofs.lemmas.Int.{ints}
-use Rattle.std.proofs.lemmas.List.Elements.{All-cons, All-head, All-tail}
-use Rattle.std.specs.declared.cmp.Ordering.{Ordering}
-use Rattle.std.specs.declared.cmp.Ordering.TheVariants.{Less, Equal, Greater}
-use Rattle.std.specs.BTreeMap.{insert_entry, is_at}
-use Rattle.std.specs.List.{flat_map}
-use Rattle.std.proofs.lemmas.List.{drop_all}
-use Rattle.std.specs.Map.{lookup}
-use Rattle.std.specs.Option.{unwrap_or}
-use Rattle.std.specs.Ordering.{nat_cmp, match_ordering}
-use Rattle.budget_bounds.specs.Capped.{IsSum}
-use Rattle.zone_flows.specs.declared.sum.ZoneSum.{ZoneSum}
-use Rattle.zone_flows.specs.Faces.{Face}
-use Rattle.zone_flows.specs.Tables.{IsTable, IsZoneSum, Table, no_flows, sum_at, with_face, with_faces}
+use Rattle.zone_flows.proofs.Common.{◌≡◌, ℕ, ◌+◌, ◌<◌, ◌≤◌, ◌++◌, length, get_or, drop, drop-cons, add-one, sym, ap, subst, ◌∙◌, Bool, true, false, cond, refl}
+use Rattle.zone_flows.proofs.Common.{arith, List, [], ◌∷◌, pos, Some, ints, All-cons, All-head, All-tail, Ordering, Less, Equal, Greater, insert_entry, is_at}
+use Rattle.zone_flows.proofs.Common.{flat_map, drop_all, lookup, unwrap_or, nat_cmp, match_ordering, IsSum, ZoneSum, Face, IsTable, IsZoneSum, Table, no_flows}
+use Rattle.zone_flows.proofs.Common.{sum_at, with_face, with_faces}
 
 none_is_sum : IsZoneSum no_flows
 none_is_sum = record { into = zero; out = zero }

@@ -1,10 +1,6 @@
 -- A step has one list of flows between zones, or one refusal.
-use Rattle.std.proofs.Common.{◌≡◌, ℕ, zero, suc, ◌<◌, ◌⊎◌, inl, inr, refl, sym, ap, ◌∙◌, subst, arith, List, [], ◌∷◌}
-use Rattle.std.specs.Prelude.{Contains}
-use Rattle.std.proofs.lemmas.List.Elements.{All-contains}
-use Rattle.step_problem.specs.declared.place.ZoneFlow.{ZoneFlow}
-use Rattle.zone_flows.specs.Faces.{Face}
-use Rattle.zone_flows.specs.Pairs.{IsBefore, IsBeforeAll, PairsAscend, IsBelowLimit, IsZoneFlow, AreZoneFlows}
+use Rattle.zone_flows.proofs.Common.{◌≡◌, ℕ, zero, suc, ◌<◌, ◌⊎◌, inl, inr, refl, sym, ap, ◌∙◌, subst, arith, List, [], ◌∷◌, Contains, All-contains, ZoneFlow}
+use Rattle.zone_flows.proofs.Common.{Face, IsBefore, IsBeforeAll, PairsAscend, IsBelowLimit, IsZoneFlow, AreZoneFlows}
 use Rattle.zone_flows.specs.Laws.{FlowsAreOne, FlowsExcludeRefusal, RefusalIsOne}
 use Rattle.zone_flows.proofs.Pairing.{flow_of}
 

@@ -1,24 +1,17 @@
 -- The flows between zones of some faces have the pairs of the faces, in order.
-use Rattle.std.proofs.Common.{◌≡◌, ℕ, ◌/◌, ◌%◌, ◌<◌, ◌≤◌, refl, sym, ap, ◌∙◌, subst, arith, List, [], ◌∷◌, ◌++◌, map, Bool, true, false, Result, Ok, Err}
-use Rattle.std.specs.Prelude.{Contains, if◌then◌else◌}
+use Rattle.zone_pairs.proofs.Common.{◌≡◌, ℕ, ◌/◌, ◌%◌, ◌<◌, ◌≤◌, refl, sym, ap, ◌∙◌, subst, arith, List, [], ◌∷◌, ◌++◌, map, Bool, true, false, Result, Ok, Err}
+use Rattle.zone_pairs.proofs.Common.{Contains, if◌then◌else◌, insert_key, Ordering, Less, Equal, Greater, nat_cmp, match_ordering, Face, Table, key_of}
+use Rattle.zone_pairs.proofs.Common.{plus_flow, sum_at, with_face, with_faces, ZonePair, pair_of, with_keys, zones_of_flow}
 use Rattle.std.specs.BTreeMap.{insert_entry}
-use Rattle.std.specs.BTreeSet.{insert_key}
-use Rattle.std.specs.declared.cmp.Ordering.{Ordering}
-use Rattle.std.specs.declared.cmp.Ordering.TheVariants.{Less, Equal, Greater}
-use Rattle.std.specs.Ordering.{nat_cmp, match_ordering}
 use Rattle.step_problem.specs.declared.place.NoBound.{NoBound}
 use Rattle.step_problem.specs.declared.place.ZoneFlow.{ZoneFlow}
 use Rattle.budget_bounds.specs.Terms.{◌>>=◌}
 use Rattle.zone_flows.specs.declared.sum.ZoneSum.{ZoneSum}
-use Rattle.zone_flows.specs.Faces.{Face}
 use Rattle.zone_flows.specs.Pairs.{AreZoneFlows}
 use Rattle.zone_flows.specs.TableFlows.{flow_or_refusal, is_below_limit, listed_flows, too_large, zone_flow}
-use Rattle.zone_flows.specs.Tables.{Table, key_of, plus_flow, sum_at, with_face, with_faces}
 use Rattle.zone_flows.proofs.Meaning.{are_flows, is_first}
 use Rattle.zone_flows.proofs.Pairing.{FacesFit}
 use Rattle.zone_flows.proofs.Unique.{flows_are_one, flows_exclude_refusal}
-use Rattle.zone_pairs.specs.declared.pair.ZonePair.{ZonePair}
-use Rattle.zone_pairs.specs.Pairs.{pair_of, with_keys, zones_of_flow}
 
 -- the key of a face
 abbrev pub face_key : Face → ℕ

@@ -1,10 +1,7 @@
 -- Keys in order.
-use Rattle.std.proofs.Common.{◌≡◌, ℕ, zero, suc, ◌+◌, ◌-◌, ◌<◌, ◌≤◌, ◌++◌, Bool, true, false, cond, length, get_or, drop, drop-cons, add-one, sym, ap, ◌∙◌, refl, arith, List, [], ◌∷◌}
-use Rattle.std.specs.BTreeSet.{insert_key}
-use Rattle.std.specs.List.{filter, flat_map, range_with_len}
-use Rattle.std.specs.Ordering.{nat_cmp}
+use Rattle.zone_pairs.proofs.Common.{◌≡◌, ℕ, zero, suc, ◌+◌, ◌-◌, ◌<◌, ◌≤◌, ◌++◌, Bool, true, false, cond, length, get_or, drop, drop-cons, add-one, sym, ap}
+use Rattle.zone_pairs.proofs.Common.{◌∙◌, refl, arith, List, [], ◌∷◌, insert_key, filter, flat_map, range_with_len, nat_cmp, with_keys}
 use Rattle.std.proofs.lemmas.List.{drop_all}
-use Rattle.zone_pairs.specs.Pairs.{with_keys}
 
 pub with_keys-append : (keys xs ys : List ℕ) → with_keys keys (xs ++ ys) ≡ with_keys (with_keys keys xs) ys
 unfolding with_keys

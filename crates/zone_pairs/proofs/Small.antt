@@ -1,20 +1,11 @@
 -- The zones of a pair are at most 999.
-use Rattle.std.proofs.Common.{◌≡◌, ℕ, zero, suc, ◌/◌, ◌%◌, ◌≤◌, ◌<◌, ◌++◌, inl, inr, Bool, true, false, cond, List, [], ◌∷◌, length, map, All, Option, Some, None, arith, refl}
-use Rattle.std.specs.List.{AllByRecursion, filter, flat_map}
-use Rattle.std.specs.Prelude.{slice_index}
-use Rattle.std.specs.declared.cmp.Ordering.{Ordering}
-use Rattle.std.specs.declared.cmp.Ordering.TheVariants.{Less, Equal, Greater}
-use Rattle.std.specs.BTreeSet.{insert_key}
-use Rattle.std.specs.Ordering.{nat_cmp, match_ordering}
+use Rattle.zone_pairs.proofs.Common.{◌≡◌, ℕ, zero, suc, ◌/◌, ◌%◌, ◌≤◌, ◌<◌, ◌++◌, inl, inr, Bool, true, false, cond, List, [], ◌∷◌, length, map, All, Option}
+use Rattle.zone_pairs.proofs.Common.{Some, None, arith, refl, AllByRecursion, filter, flat_map, slice_index, Ordering, Less, Equal, Greater, insert_key}
+use Rattle.zone_pairs.proofs.Common.{nat_cmp, match_ordering, FlowModel, is_variable, is_constant, variable_cells, is_lower_zone, key_of, ZonePair, cell_keys}
+use Rattle.zone_pairs.proofs.Common.{face_keys, keys_from, pair_of, pairs_in, to_constant, to_variable, with_keys, zone_pairs}
 use Rattle.std.proofs.lemmas.List.Elements.{All-from_recursion, recursion_from_All}
 use Rattle.model_types.specs.declared.face.Face.{Face}
-use Rattle.model_types.specs.declared.model.FlowModel.{FlowModel}
 use Rattle.model_types.specs.Faces.{faces}
-use Rattle.model_types.specs.Kinds.{is_variable, is_constant, variable_cells}
-use Rattle.zone_flows.specs.Faces.{is_lower_zone}
-use Rattle.zone_flows.specs.Tables.{key_of}
-use Rattle.zone_pairs.specs.declared.pair.ZonePair.{ZonePair}
-use Rattle.zone_pairs.specs.Pairs.{cell_keys, face_keys, keys_from, pair_of, pairs_in, to_constant, to_variable, with_keys, zone_pairs}
 use Rattle.zone_pairs.specs.Zones.{AreNumbers, AreZones}
 
 -- a key of two zones

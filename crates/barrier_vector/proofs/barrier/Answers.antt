@@ -1,5 +1,4 @@
-use Rattle.step_problem.specs.declared.heads.Side.TheVariants.{Low, High}
-use Rattle.step_problem.specs.Heads.{head_at}
+use Rattle.barrier_vector.proofs.Common.{Low, High, head_at}
 use Rattle.barrier_vector.proofs.Enclosing.{encloses_all, held_all}
 use Rattle.barrier_vector.proofs.Sides.{stored_fault}
 use Rattle.barrier_vector.proofs.barrier.Goals as goal

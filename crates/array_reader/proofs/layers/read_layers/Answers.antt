@@ -1,8 +1,5 @@
-use Rattle.std.proofs.Common.{◌∙◌, refl, ◌*◌}
-use Rattle.std.proofs.lemmas.Result.{err_from_is_err_and}
-use Rattle.record_lines.proofs.Loops.{list_goes_on, list_stops, lists_done}
+use Rattle.array_reader.proofs.Common.{◌∙◌, refl, ◌*◌, err_from_is_err_and, list_goes_on, list_stops, lists_done, layers}
 use Rattle.array_reader.proofs.ListLemmas.{all_joined, row_joined}
-use Rattle.array_reader.specs.Arrays.{layers}
 use Rattle.array_reader.proofs.layers.read_layers.Goals as goal
 
 pub returns-in_err-layer-clause-layers : goal.returns-in_err-layer-clause-layers

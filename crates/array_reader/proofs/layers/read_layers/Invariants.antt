@@ -1,10 +1,6 @@
-use Rattle.std.proofs.Common.{◌≡◌, ℕ, ◌-◌, ◌*◌, length, All}
+use Rattle.array_reader.proofs.Common.{◌≡◌, ℕ, ◌-◌, ◌*◌, length, All, LinesMay, appended, with_front, layer_array}
 use Rattle.std.specs.Prelude.{List}
 use Rattle.outside.specs.Files.{File}
-use Rattle.record_lines.specs.Asking.{LinesMay}
-use Rattle.record_lines.specs.Reading.{appended}
-use Rattle.record_lines.proofs.Loops.{with_front}
-use Rattle.array_reader.specs.Arrays.{layer_array}
 use Rattle.array_reader.proofs.layers.read_layers.Given as goal
 
 abbrev pub invariant-loop : goal.invariant-loop

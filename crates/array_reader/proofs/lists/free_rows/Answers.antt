@@ -1,7 +1,4 @@
-use Rattle.std.proofs.Common.{refl}
-use Rattle.std.proofs.lemmas.Result.{err_from_is_err_and}
-use Rattle.record_lines.proofs.Loops.{list_goes_on, list_ends, lists_done}
-use Rattle.array_reader.specs.Lists.{free_rows}
+use Rattle.array_reader.proofs.Common.{refl, err_from_is_err_and, list_goes_on, list_ends, lists_done, free_rows}
 use Rattle.array_reader.proofs.ListLemmas.{all_joined, row_joined}
 use Rattle.array_reader.proofs.lists.free_rows.Goals as goal
 

@@ -1,8 +1,4 @@
-use Rattle.std.proofs.Common.{◌≡◌, ◌-◌, ◌*◌, length, All}
-use Rattle.record_lines.specs.Reading.{appended}
-use Rattle.record_lines.proofs.Loops.{with_front}
-use Rattle.array_reader.specs.Kinds.{with_multiplier}
-use Rattle.array_reader.specs.Lists.{free_list}
+use Rattle.array_reader.proofs.Common.{◌≡◌, ◌-◌, ◌*◌, length, All, appended, with_front, with_multiplier, free_list}
 use Rattle.array_reader.proofs.lists.free_rows.Given as goal
 
 abbrev pub invariant-loop : goal.invariant-loop

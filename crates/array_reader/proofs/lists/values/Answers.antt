@@ -1,6 +1,4 @@
-use Rattle.std.proofs.Common.{arith}
-use Rattle.std.proofs.lemmas.Result.{err_from_is_err_and}
-use Rattle.record_lines.proofs.Loops.{goes_on, ends_text, is_done}
+use Rattle.array_reader.proofs.Common.{arith, err_from_is_err_and, goes_on, ends_text, is_done}
 use Rattle.array_reader.proofs.ListLemmas.{all_pushed}
 use Rattle.array_reader.proofs.lists.values.Goals as goal
 

@@ -1,9 +1,4 @@
-use Rattle.std.proofs.Common.{◌≡◌, ◌-◌, Ok, length, All}
-use Rattle.std.specs.Prelude.{IfSome}
-use Rattle.record_lines.specs.Reading.{repeated}
-use Rattle.record_lines.proofs.Loops.{with_front}
-use Rattle.array_reader.specs.Kinds.{with_multiplier}
-use Rattle.array_reader.specs.Lists.{value_alone}
+use Rattle.array_reader.proofs.Common.{◌≡◌, ◌-◌, Ok, length, All, IfSome, repeated, with_front, with_multiplier, value_alone}
 use Rattle.array_reader.proofs.lists.values.Given as goal
 
 abbrev pub invariant-loop : goal.invariant-loop

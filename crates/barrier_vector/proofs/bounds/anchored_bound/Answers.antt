@@ -1,6 +1,4 @@
-use Rattle.std.proofs.Common.{rules, FitsSigned}
-use Rattle.std.specs.Int.{w64}
-use Rattle.std.proofs.lemmas.Int.{to_z-of_z}
+use Rattle.barrier_vector.proofs.Common.{rules, FitsSigned, w64, to_z-of_z}
 use Rattle.barrier_vector.proofs.Basing.{base_head}
 use Rattle.barrier_vector.proofs.Surveying.{bound_anchored}
 use Rattle.barrier_vector.proofs.bounds.anchored_bound.Goals as goal

@@ -1,8 +1,5 @@
-use Rattle.std.proofs.Common.{◌+◌, ap, ◌∙◌, sym, subst, length, length-append, List, Option, ℤ, ℕ, ◌∷◌, [], FitsSigned}
-use Rattle.std.specs.Int.{w64}
-use Rattle.std.proofs.lemmas.Int.{to_z-of_z}
-use Rattle.barrier_vector.specs.Lacks.{need, capped_flow}
-use Rattle.barrier_vector.specs.Roots.{IsAnchoredOrNone, AreAnchorPaths}
+use Rattle.barrier_vector.proofs.Common.{◌+◌, ap, ◌∙◌, sym, subst, length, length-append, List, Option, ℤ, ℕ, ◌∷◌, [], FitsSigned, w64, to_z-of_z, need}
+use Rattle.barrier_vector.proofs.Common.{capped_flow, IsAnchoredOrNone, AreAnchorPaths}
 use Rattle.barrier_vector.proofs.Rooting.{searched_as}
 use Rattle.barrier_vector.proofs.Basing.{bounds_more}
 use Rattle.barrier_vector.proofs.Surveying.{paths_made}

@@ -1,5 +1,4 @@
-use Rattle.std.proofs.Common.{◌≡◌, ℕ, ◌<◌, length}
-use Rattle.barrier_vector.specs.Roots.{IsAnchoredOrNone, bound_at}
+use Rattle.barrier_vector.proofs.Common.{◌≡◌, ℕ, ◌<◌, length, IsAnchoredOrNone, bound_at}
 use Rattle.barrier_vector.proofs.bounds.anchored_bounds.Given as goal
 
 abbrev pub invariant-loop-c : goal.invariant-loop-c

@@ -1,9 +1,4 @@
-use Rattle.std.proofs.Common.{◌≡◌, rules, arith, pos, ◌-ℤ◌, ◌≤ℤ◌, FitsSigned}
-use Rattle.std.specs.Int.{w64, w128}
-use Rattle.std.proofs.lemmas.Int.{ints, clamps, to_z-of_z}
-use Rattle.step_problem.specs.declared.heads.Side.TheVariants.{Low}
-use Rattle.step_problem.specs.Conditions.{head_limit}
-use Rattle.barrier_vector.specs.Roots.{cut_on}
+use Rattle.barrier_vector.proofs.Common.{◌≡◌, rules, arith, pos, ◌-ℤ◌, ◌≤ℤ◌, FitsSigned, w64, w128, ints, clamps, to_z-of_z, Low, head_limit, cut_on}
 use Rattle.barrier_vector.proofs.bounds.lower_by.Goals as goal
 
 pub cut_below-requires : goal.cut_below-requires

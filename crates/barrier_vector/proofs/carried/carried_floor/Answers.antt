@@ -1,8 +1,4 @@
-use Rattle.std.proofs.Common.{◌≤◌, arith, length, rules, slice_index, slice_index_or, FitsSigned}
-use Rattle.std.specs.Int.{w64}
-use Rattle.std.proofs.lemmas.Int.{to_z-of_z}
-use Rattle.step_problem.specs.declared.heads.Side.TheVariants.{Low}
-use Rattle.barrier_vector.specs.Searches.{path_limit}
+use Rattle.barrier_vector.proofs.Common.{◌≤◌, arith, length, rules, slice_index, slice_index_or, FitsSigned, w64, to_z-of_z, Low, path_limit}
 use Rattle.barrier_vector.proofs.Spreading.{no_both}
 use Rattle.barrier_vector.proofs.Basing.{base_head, capped_within, greatest_within}
 use Rattle.barrier_vector.proofs.Carrying.{floor_carried, floor_none}

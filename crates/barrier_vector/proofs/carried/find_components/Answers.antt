@@ -1,8 +1,5 @@
-use Rattle.std.proofs.Common.{◌≡◌, length, subst, List, ℕ, ℤ, Option, slice_index}
-use Rattle.cell_balance.specs.Components.{sum_inside}
-use Rattle.barrier_vector.specs.Lacks.{lack, capped_flow}
-use Rattle.barrier_vector.specs.Labels.{labelled, number_at, sum_at, IsGreatestOf}
-use Rattle.barrier_vector.specs.Roots.{AreRoots, SelfRoot}
+use Rattle.barrier_vector.proofs.Common.{◌≡◌, length, subst, List, ℕ, ℤ, Option, slice_index, sum_inside, lack, capped_flow, labelled, number_at, sum_at}
+use Rattle.barrier_vector.proofs.Common.{IsGreatestOf, AreRoots, SelfRoot}
 use Rattle.barrier_vector.proofs.Rooting.{searched_as}
 use Rattle.barrier_vector.proofs.Carrying.{components_made, label_in}
 use Rattle.barrier_vector.proofs.carried.find_components.Goals as goal

@@ -1,6 +1,4 @@
-use Rattle.std.proofs.Common.{◌+◌, ap, ◌∙◌, length, length-append, List, Option, ℤ, ℕ, ◌∷◌, []}
-use Rattle.step_problem.specs.declared.heads.Side.TheVariants.{Low}
-use Rattle.barrier_vector.specs.Roots.{IsBoundOrNone}
+use Rattle.barrier_vector.proofs.Common.{◌+◌, ap, ◌∙◌, length, length-append, List, Option, ℤ, ℕ, ◌∷◌, [], Low, IsBoundOrNone}
 use Rattle.barrier_vector.proofs.Basing.{bounds_more}
 use Rattle.barrier_vector.proofs.carried.with_carried_floors.Goals as goal
 

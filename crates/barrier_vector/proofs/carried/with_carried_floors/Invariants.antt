@@ -1,6 +1,4 @@
-use Rattle.std.proofs.Common.{◌≡◌, ℕ, ◌<◌, length}
-use Rattle.step_problem.specs.declared.heads.Side.TheVariants.{Low}
-use Rattle.barrier_vector.specs.Roots.{IsBoundOrNone, bound_at}
+use Rattle.barrier_vector.proofs.Common.{◌≡◌, ℕ, ◌<◌, length, Low, IsBoundOrNone, bound_at}
 use Rattle.barrier_vector.proofs.carried.with_carried_floors.Given as goal
 
 abbrev pub invariant-loop-c : goal.invariant-loop-c

@@ -1,11 +1,6 @@
-use Rattle.std.proofs.Common.{◌≡◌, rules, ap, ◌∙◌, subst, List, sum_by, ◌+ℤ◌, ◌-ℤ◌, FitsSigned}
-use Rattle.std.specs.Int.{w128}
-use Rattle.std.proofs.lemmas.Int.{to_z-of_z}
-use Rattle.step_problem.specs.declared.entry.Flow.{Flow}
-use Rattle.step_problem.specs.declared.entry.River.{River}
+use Rattle.barrier_vector.proofs.Common.{◌≡◌, rules, ap, ◌∙◌, subst, List, sum_by, ◌+ℤ◌, ◌-ℤ◌, FitsSigned, w128, to_z-of_z, Flow, River, Entries, IsWithin}
+use Rattle.barrier_vector.proofs.Common.{magnitude, deep_river_low, deep_river_high, full_rate}
 use Rattle.step_problem.specs.declared.entry.Evap.{Evap}
-use Rattle.step_problem.specs.Entries.{Entries}
-use Rattle.step_problem.specs.Conditions.{IsWithin, magnitude, deep_river_low, deep_river_high, full_rate}
 use Rattle.barrier_vector.proofs.Giving.{joined_within}
 use Rattle.barrier_vector.proofs.flows.deep_flow.Goals as goal
 

@@ -1,7 +1,4 @@
-use Rattle.std.proofs.Common.{◌≡◌, rules, ◌+◌, ◌++◌, ◌∷◌, [], length, length-append, ap, ◌∙◌, FitsSigned, List, ℤ}
-use Rattle.std.specs.Int.{w128}
-use Rattle.std.proofs.lemmas.Int.{to_z-of_z}
-use Rattle.cell_balance.specs.Components.{deep_low}
+use Rattle.barrier_vector.proofs.Common.{◌≡◌, rules, ◌+◌, ◌++◌, ◌∷◌, [], length, length-append, ap, ◌∙◌, FitsSigned, List, ℤ, w128, to_z-of_z, deep_low}
 use Rattle.barrier_vector.proofs.Giving.{values_more, all_within}
 use Rattle.barrier_vector.proofs.flows.deep_flows.Goals as goal
 

@@ -1,8 +1,4 @@
-use Rattle.std.proofs.Common.{◌≡◌, ℕ, ◌<◌, ◌^◌, length}
-use Rattle.step_problem.specs.Entries.{entries_at}
-use Rattle.step_problem.specs.Conditions.{IsWithin}
-use Rattle.cell_balance.specs.Components.{deep_low}
-use Rattle.barrier_vector.specs.Labels.{number_at}
+use Rattle.barrier_vector.proofs.Common.{◌≡◌, ℕ, ◌<◌, ◌^◌, length, entries_at, IsWithin, deep_low, number_at}
 use Rattle.barrier_vector.proofs.flows.deep_flows.Given as goal
 
 abbrev pub invariant-loop-c : goal.invariant-loop-c

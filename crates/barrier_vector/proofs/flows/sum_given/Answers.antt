@@ -1,8 +1,4 @@
-use Rattle.std.proofs.Common.{◌+◌, rules, take, sum_by, ◌+ℤ◌, FitsSigned, to_z}
-use Rattle.std.specs.Int.{w128}
-use Rattle.std.proofs.lemmas.Int.{to_z-of_z}
-use Rattle.step_problem.specs.Conditions.{IsWithin}
-use Rattle.step_problem.proofs.Sums.{total_step}
+use Rattle.barrier_vector.proofs.Common.{◌+◌, rules, take, sum_by, ◌+ℤ◌, FitsSigned, to_z, w128, to_z-of_z, IsWithin, total_step}
 use Rattle.barrier_vector.proofs.Giving.{within_more, part_fits}
 use Rattle.barrier_vector.proofs.flows.sum_given.Goals as goal
 

@@ -1,6 +1,4 @@
-use Rattle.std.proofs.Common.{◌≡◌, take, drop, ◌+ℤ◌, sum_by}
-use Rattle.step_problem.specs.Flows.{total}
-use Rattle.step_problem.specs.Conditions.{IsWithin}
+use Rattle.barrier_vector.proofs.Common.{◌≡◌, take, drop, ◌+ℤ◌, sum_by, total, IsWithin}
 use Rattle.barrier_vector.proofs.flows.sum_given.Given as goal
 
 abbrev pub invariant-loop-x : goal.invariant-loop-x

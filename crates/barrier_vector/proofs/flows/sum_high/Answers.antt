@@ -1,10 +1,6 @@
-use Rattle.std.proofs.Common.{◌+◌, rules, refl, take, sum_by, pos, ◌+ℤ◌, FitsSigned, to_z, slice_index_or}
-use Rattle.std.specs.Int.{w128}
-use Rattle.std.proofs.lemmas.Int.{to_z-of_z}
-use Rattle.step_problem.specs.declared.entry.Flow.{Flow}
+use Rattle.barrier_vector.proofs.Common.{◌+◌, rules, refl, take, sum_by, pos, ◌+ℤ◌, FitsSigned, to_z, slice_index_or, w128, to_z-of_z, Flow, IsWithin}
+use Rattle.barrier_vector.proofs.Common.{magnitude, total_step}
 use Rattle.step_problem.specs.declared.entry.FlowKind.TheVariants.{Wells}
-use Rattle.step_problem.specs.Conditions.{IsWithin, magnitude}
-use Rattle.step_problem.proofs.Sums.{total_step}
 use Rattle.barrier_vector.proofs.Giving.{within_more, part_fits, magnitude_within}
 use Rattle.barrier_vector.proofs.flows.sum_high.Goals as goal
 

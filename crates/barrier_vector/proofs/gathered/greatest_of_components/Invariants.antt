@@ -1,5 +1,4 @@
-use Rattle.std.proofs.Common.{ℕ, ◌≡◌, length, slice_index}
-use Rattle.barrier_vector.specs.Labels.{IsGreatestOf}
+use Rattle.barrier_vector.proofs.Common.{ℕ, ◌≡◌, length, slice_index, IsGreatestOf}
 use Rattle.barrier_vector.proofs.gathered.greatest_of_components.Given as goal
 
 abbrev pub invariant-loop-c : goal.invariant-loop-c

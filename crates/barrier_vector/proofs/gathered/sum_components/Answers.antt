@@ -1,7 +1,4 @@
-use Rattle.std.proofs.Common.{arith, ◌≡◌, length, ap, ◌∙◌, drop, List, pos, FitsSigned, slice_index_or}
-use Rattle.std.specs.Int.{w128}
-use Rattle.std.proofs.lemmas.Int.{ints, to_z-of_z}
-use Rattle.barrier_vector.specs.declared.gathered.FlowSum.{FlowSum}
+use Rattle.barrier_vector.proofs.Common.{arith, ◌≡◌, length, ap, ◌∙◌, drop, List, pos, FitsSigned, slice_index_or, w128, ints, to_z-of_z, FlowSum}
 use Rattle.barrier_vector.proofs.Levels.{written}
 use Rattle.barrier_vector.proofs.Gathering.{sum_more, sums_within}
 use Rattle.barrier_vector.proofs.gathered.sum_components.Goals as goal

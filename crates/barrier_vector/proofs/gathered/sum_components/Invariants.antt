@@ -1,6 +1,4 @@
-use Rattle.std.proofs.Common.{ℕ, ◌≡◌, length}
-use Rattle.cell_balance.specs.Components.{sum_inside}
-use Rattle.barrier_vector.specs.Labels.{labelled, number_at, sum_at}
+use Rattle.barrier_vector.proofs.Common.{ℕ, ◌≡◌, length, sum_inside, labelled, number_at, sum_at}
 use Rattle.barrier_vector.proofs.gathered.sum_components.Given as goal
 
 abbrev pub invariant-loop-c : goal.invariant-loop-c

@@ -1,5 +1,4 @@
-use Rattle.std.proofs.Common.{◌<◌, length, subst, sym, List, [], ℕ, All}
-use Rattle.barrier_vector.specs.Spreads.{FrontLeads, Spreads}
+use Rattle.barrier_vector.proofs.Common.{◌<◌, length, subst, sym, List, [], ℕ, All, FrontLeads, Spreads}
 use Rattle.barrier_vector.proofs.Labelling.{front_in, fill_more}
 use Rattle.barrier_vector.proofs.labels.fill.Goals as goal
 

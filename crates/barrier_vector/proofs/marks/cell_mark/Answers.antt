@@ -1,5 +1,4 @@
-use Rattle.std.proofs.Common.{ap, ◌∙◌}
-use Rattle.step_problem.specs.Entries.{Entries}
+use Rattle.barrier_vector.proofs.Common.{ap, ◌∙◌, Entries}
 use Rattle.barrier_vector.proofs.Marking.{cell_joined}
 use Rattle.barrier_vector.proofs.marks.cell_mark.Goals as goal
 

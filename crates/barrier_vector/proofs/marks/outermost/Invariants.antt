@@ -1,5 +1,4 @@
-use Rattle.std.proofs.Common.{take}
-use Rattle.barrier_vector.specs.Marks.{IsOutermost, IsMarkIn}
+use Rattle.barrier_vector.proofs.Common.{take, IsOutermost, IsMarkIn}
 use Rattle.barrier_vector.proofs.marks.outermost.Given as goal
 
 abbrev pub invariant-loop-x : goal.invariant-loop-x

@@ -1,5 +1,4 @@
-use Rattle.step_problem.specs.declared.heads.Side.TheVariants.{Low, High}
-use Rattle.barrier_vector.specs.Outlines.{IsOutline}
+use Rattle.barrier_vector.proofs.Common.{Low, High, IsOutline}
 use Rattle.barrier_vector.proofs.outline.outline_sides.Given as goal
 
 abbrev pub invariant-loop-c : goal.invariant-loop-c

@@ -1,6 +1,4 @@
-use Rattle.std.proofs.Common.{ℕ, ◌<◌}
-use Rattle.barrier_vector.specs.Roots.{bound_at}
-use Rattle.barrier_vector.specs.Tests.{Fails}
+use Rattle.barrier_vector.proofs.Common.{ℕ, ◌<◌, bound_at, Fails}
 use Rattle.barrier_vector.proofs.refusal.first_failing.Given as goal
 
 abbrev pub invariant-loop-c : goal.invariant-loop-c

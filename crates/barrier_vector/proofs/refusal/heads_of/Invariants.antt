@@ -1,6 +1,4 @@
-use Rattle.std.proofs.Common.{◌≡◌, ℕ, ℤ, ◌<◌, length, Some}
-use Rattle.step_problem.specs.Heads.{head_at}
-use Rattle.barrier_vector.specs.Roots.{bound_at}
+use Rattle.barrier_vector.proofs.Common.{◌≡◌, ℕ, ℤ, ◌<◌, length, Some, head_at, bound_at}
 use Rattle.barrier_vector.proofs.refusal.heads_of.Given as goal
 
 abbrev pub invariant-loop-c : goal.invariant-loop-c

@@ -1,7 +1,5 @@
-use Rattle.std.proofs.Common.{subst}
+use Rattle.barrier_vector.proofs.Common.{subst, number_of, Names}
 use Rattle.step_problem.specs.declared.refusal.StepRefusal.{StepRefusal}
-use Rattle.step_problem.specs.StepRefusals.{number_of}
-use Rattle.barrier_vector.specs.Refusals.{Names}
 use Rattle.barrier_vector.proofs.Sides.{refused_without, refused_out_of_range}
 use Rattle.barrier_vector.proofs.refusal.side_refusal.Goals as goal
 

@@ -1,6 +1,4 @@
-use Rattle.std.proofs.Common.{subst, List, Option, ℤ, None}
-use Rattle.barrier_vector.specs.declared.refusal.Test.TheVariants.{Missing, OutOfRange}
-use Rattle.barrier_vector.specs.Tests.{IsFirstFailing, AreHeadsOf}
+use Rattle.barrier_vector.proofs.Common.{subst, List, Option, ℤ, None, Missing, OutOfRange, IsFirstFailing, AreHeadsOf}
 use Rattle.barrier_vector.proofs.Sides.{side_is_whole}
 use Rattle.barrier_vector.proofs.refusal.whole_side.Goals as goal
 

@@ -1,6 +1,4 @@
-use Rattle.std.proofs.Common.{◌≡◌, length}
-use Rattle.barrier_vector.specs.Paths.{ceil_over}
-use Rattle.barrier_vector.specs.Roots.{ListAnchor, AreRoots}
+use Rattle.barrier_vector.proofs.Common.{◌≡◌, length, ceil_over, ListAnchor, AreRoots}
 use Rattle.barrier_vector.proofs.roots.anchor_roots.Given as goal
 
 abbrev pub invariant-loop-c : goal.invariant-loop-c

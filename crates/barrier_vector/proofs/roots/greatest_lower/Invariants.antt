@@ -1,5 +1,4 @@
-use Rattle.std.proofs.Common.{◌≡◌, max, drop}
-use Rattle.barrier_vector.specs.Bounds.{greatest}
+use Rattle.barrier_vector.proofs.Common.{◌≡◌, max, drop, greatest}
 use Rattle.barrier_vector.proofs.roots.greatest_lower.Given as goal
 
 abbrev pub invariant-loop-x : goal.invariant-loop-x

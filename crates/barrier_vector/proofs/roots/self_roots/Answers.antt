@@ -1,5 +1,4 @@
-use Rattle.std.proofs.Common.{ap, ◌∙◌, sym, ℕ, Some, List, Option, length, length-append, ◌∷◌, [], ◌+◌}
-use Rattle.barrier_vector.specs.Roots.{SelfRoot}
+use Rattle.barrier_vector.proofs.Common.{ap, ◌∙◌, sym, ℕ, Some, List, Option, length, length-append, ◌∷◌, [], ◌+◌, SelfRoot}
 use Rattle.barrier_vector.proofs.Rooting.{roots_more}
 use Rattle.barrier_vector.proofs.roots.self_roots.Goals as goal
 

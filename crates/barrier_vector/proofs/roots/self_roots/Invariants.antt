@@ -1,5 +1,4 @@
-use Rattle.std.proofs.Common.{◌≡◌, length}
-use Rattle.barrier_vector.specs.Roots.{SelfRoot, AreRoots}
+use Rattle.barrier_vector.proofs.Common.{◌≡◌, length, SelfRoot, AreRoots}
 use Rattle.barrier_vector.proofs.roots.self_roots.Given as goal
 
 abbrev pub invariant-loop-c : goal.invariant-loop-c

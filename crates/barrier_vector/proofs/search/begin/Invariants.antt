@@ -1,5 +1,4 @@
-use Rattle.std.proofs.Common.{take}
-use Rattle.barrier_vector.specs.Searches.{IsStart}
+use Rattle.barrier_vector.proofs.Common.{take, IsStart}
 use Rattle.barrier_vector.proofs.search.begin.Given as goal
 
 abbrev pub invariant-loop-c : goal.invariant-loop-c

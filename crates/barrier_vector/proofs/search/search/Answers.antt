@@ -1,9 +1,8 @@
-use Rattle.std.proofs.Common.{arith, ◌≡◌, ◌+◌, ◌≤◌, length, subst, ap, ℕ, List, All, ◌<◌, sym, ◌∙◌, drop, inl, inr, Some, Option}
+use Rattle.barrier_vector.proofs.Common.{arith, ◌≡◌, ◌+◌, ◌≤◌, length, subst, ap, ℕ, List, All, ◌<◌, sym, ◌∙◌, drop, inl, inr, Some, Option, mark_at, unmarked}
 use Rattle.std.proofs.lemmas.Grind.{common_steps}
-use Rattle.barrier_vector.specs.Spreads.{mark_at, unmarked}
 use Rattle.barrier_vector.proofs.Levels.{up_to_start, up_to_step, front_within, next_within, next_past, searched_at_end, written}
-use Rattle.barrier_vector.proofs.search.search.Goals as goal
 use Rattle.barrier_vector.proofs.search.search.Goals.{then-loop-left-test+else-not-is_empty, else-loop-left-test}
+use Rattle.barrier_vector.proofs.search.search.Goals as goal
 
 pub loop-left-init : goal.loop-left-init
 loop-left-init c = record {

@@ -1,5 +1,4 @@
-use Rattle.std.proofs.Common.{◌≡◌, ◌+◌, ◌*◌, length}
-use Rattle.barrier_vector.specs.Spreads.{unmarked}
+use Rattle.barrier_vector.proofs.Common.{◌≡◌, ◌+◌, ◌*◌, length, unmarked}
 use Rattle.barrier_vector.proofs.Levels.{IsUpTo}
 use Rattle.barrier_vector.proofs.search.search.Given as goal
 

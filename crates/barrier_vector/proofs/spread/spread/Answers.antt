@@ -1,5 +1,4 @@
-use Rattle.std.proofs.Common.{ap, ◌∙◌}
-use Rattle.step_problem.specs.Entries.{Entries}
+use Rattle.barrier_vector.proofs.Common.{ap, ◌∙◌, Entries}
 use Rattle.barrier_vector.proofs.Spreading.{spread_links}
 use Rattle.barrier_vector.proofs.spread.spread.Goals as goal
 

@@ -1,5 +1,4 @@
-use Rattle.std.proofs.Common.{[]}
-use Rattle.barrier_vector.specs.Spreads.{Spreads, FrontLeads}
+use Rattle.barrier_vector.proofs.Common.{[], Spreads, FrontLeads}
 use Rattle.barrier_vector.proofs.spread.spread.Given as goal
 
 abbrev pub invariant-loop-c : goal.invariant-loop-c

@@ -1,5 +1,4 @@
-use Rattle.record_lines.proofs.Forward.{begun_held}
-use Rattle.record_lines.specs.Asking.{LinesMay}
+use Rattle.bas_package.proofs.Common.{begun_held, LinesMay}
 use Rattle.bas_package.proofs.Forward.{head_leaves, option_leaves}
 use Rattle.bas_package.proofs.basics.basics_of.Goals as goal
 

@@ -1,5 +1,4 @@
-use Rattle.std.proofs.Common.{◌≡◌, ℕ, ◌<◌, Option, Some, sym, ◌∙◌, subst}
-use Rattle.batch_book.specs.Ends.{IsMissing}
+use Rattle.batch_book.proofs.Common.{◌≡◌, ℕ, ◌<◌, Option, Some, sym, ◌∙◌, subst, IsMissing}
 use Rattle.batch_book.proofs.Placed.{to_go, goes_down}
 use Rattle.batch_book.proofs.batch.run_missing.Goals as goal
 

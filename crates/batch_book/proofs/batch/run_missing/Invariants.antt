@@ -1,5 +1,4 @@
-use Rattle.std.proofs.Common.{◌≡◌}
-use Rattle.batch_book.specs.Ends.{IsMissing}
+use Rattle.batch_book.proofs.Common.{◌≡◌, IsMissing}
 use Rattle.batch_book.proofs.Placed.{to_go}
 use Rattle.batch_book.proofs.batch.run_missing.Given as goal
 

@@ -1,5 +1,4 @@
-use Rattle.std.proofs.Common.{◌≡◌, All, vec_len}
-use Rattle.crossbeam_queue.specs.Passes.{IsPassOf}
+use Rattle.batch_book.proofs.Common.{◌≡◌, All, vec_len, IsPassOf}
 use Rattle.batch_book.proofs.desks.new_desks.Given as goal
 
 abbrev pub invariant-loop-worker : goal.invariant-loop-worker

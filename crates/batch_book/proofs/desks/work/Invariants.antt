@@ -1,5 +1,4 @@
-use Rattle.std.proofs.Common.{◌≡◌}
-use Rattle.crossbeam_queue.specs.Passes.{IsPassOf}
+use Rattle.batch_book.proofs.Common.{◌≡◌, IsPassOf}
 use Rattle.batch_book.proofs.desks.work.Given as goal
 
 abbrev pub invariant-loop-turn : goal.invariant-loop-turn

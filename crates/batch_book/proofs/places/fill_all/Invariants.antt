@@ -1,5 +1,4 @@
-use Rattle.std.proofs.Common.{◌≡◌, ℕ, ◌<◌, ◌≤◌}
-use Rattle.batch_book.specs.Ends.{first_of, end_at}
+use Rattle.batch_book.proofs.Common.{◌≡◌, ℕ, ◌<◌, ◌≤◌, first_of, end_at}
 use Rattle.batch_book.proofs.places.fill_all.Given as goal
 
 abbrev pub invariant-loop-place : goal.invariant-loop-place

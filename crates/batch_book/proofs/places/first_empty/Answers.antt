@@ -1,5 +1,4 @@
-use Rattle.std.proofs.Common.{◌≡◌, rules, true, false}
-use Rattle.std.specs.Prelude.{is_none}
+use Rattle.batch_book.proofs.Common.{◌≡◌, rules, true, false, is_none}
 use Rattle.batch_book.proofs.Placed.{has_more, is_empty_at}
 use Rattle.batch_book.proofs.places.first_empty.Goals as goal
 

@@ -1,5 +1,4 @@
-use Rattle.std.proofs.Common.{ℕ, ◌<◌}
-use Rattle.batch_book.specs.Ends.{HasEnd}
+use Rattle.batch_book.proofs.Common.{ℕ, ◌<◌, HasEnd}
 use Rattle.batch_book.proofs.places.first_empty.Given as goal
 
 abbrev pub invariant-loop-place : goal.invariant-loop-place

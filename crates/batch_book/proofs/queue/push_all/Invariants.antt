@@ -1,6 +1,4 @@
-use Rattle.std.proofs.Common.{◌≡◌, ◌-◌}
-use Rattle.crossbeam_queue.specs.Passes.{view, IsPassOf}
-use Rattle.batch_book.specs.Numbers.{numbers_from}
+use Rattle.batch_book.proofs.Common.{◌≡◌, ◌-◌, view, IsPassOf, numbers_from}
 use Rattle.batch_book.proofs.queue.push_all.Given as goal
 
 abbrev pub invariant-loop-job : goal.invariant-loop-job

@@ -1,6 +1,4 @@
-use Rattle.std.proofs.Common.{◌≡◌, ◌≤◌, All, length}
-use Rattle.outside.specs.Names.{IsGoodName}
-use Rattle.batch_list.specs.Names.{entries, with_entries}
+use Rattle.batch_list.proofs.Common.{◌≡◌, ◌≤◌, All, length, IsGoodName, entries, with_entries}
 use Rattle.batch_list.proofs.reading.after_lines.Given as goal
 
 abbrev pub invariant-loop-line : goal.invariant-loop-line

@@ -1,6 +1,4 @@
-use Rattle.std.proofs.Common.{◌≡◌, ◌++◌, List}
-use Rattle.batch_puts.specs.declared.job_end.JobEnd.{JobEnd}
-use Rattle.batch_puts.specs.Ended.{first_not_ok}
+use Rattle.batch_puts.proofs.Common.{◌≡◌, ◌++◌, List, JobEnd, first_not_ok}
 use Rattle.batch_puts.proofs.puts.first_status.Given as goal
 
 abbrev pub invariant-loop-end : goal.invariant-loop-end

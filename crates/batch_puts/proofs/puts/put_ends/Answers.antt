@@ -1,11 +1,5 @@
-use Rattle.std.proofs.Common.{◌≡◌, ◌<◌, ◌≤◌, ◌++◌, List, length, get_or, Some, None, subst, refl}
-use Rattle.outside.specs.Puts.{Put}
-use Rattle.run_puts.specs.Lines.{Text, end_line}
-use Rattle.run_puts.specs.Ends.{IsLast}
-use Rattle.run_puts.specs.declared.status.Status.{Status}
-use Rattle.run_puts.proofs.Pieces.{joined, put_was}
-use Rattle.batch_puts.specs.declared.job_end.JobEnd.{JobEnd}
-use Rattle.batch_puts.specs.Ended.{first_not_ok}
+use Rattle.batch_puts.proofs.Common.{◌≡◌, ◌<◌, ◌≤◌, ◌++◌, List, length, get_or, Some, None, subst, refl, Put, Text, end_line, IsLast, Status, joined, put_was}
+use Rattle.batch_puts.proofs.Common.{JobEnd, first_not_ok}
 use Rattle.batch_puts.proofs.Putting.{one_more, stops_at, ends_whole, text_at, all_texts}
 use Rattle.batch_puts.proofs.puts.put_ends.Goals as goal
 

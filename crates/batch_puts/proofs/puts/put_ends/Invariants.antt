@@ -1,5 +1,4 @@
-use Rattle.std.proofs.Common.{List, ◌++◌}
-use Rattle.outside.specs.Puts.{Put}
+use Rattle.batch_puts.proofs.Common.{List, ◌++◌, Put}
 use Rattle.batch_puts.proofs.Putting.{ArePut}
 use Rattle.batch_puts.proofs.puts.put_ends.Given as goal
 

@@ -1,8 +1,4 @@
-use Rattle.std.proofs.Common.{◌<◌}
-use Rattle.step_problem.specs.declared.place.Term.{Term}
-use Rattle.budget_bounds.specs.Covers.{Reaches}
-use Rattle.budget_bounds.specs.Singles.{place_of}
-use Rattle.budget_bounds.specs.Terms.{bounds_in}
+use Rattle.budget_bounds.proofs.Common.{◌<◌, Term, Reaches, place_of, bounds_in}
 use Rattle.budget_bounds.proofs.cover.first_short.Given as goal
 
 abbrev pub invariant-loop-place : goal.invariant-loop-place

@@ -1,7 +1,4 @@
-use Rattle.std.proofs.Common.{◌≡◌, ◌∙◌, ap, List}
-use Rattle.budget_bounds.specs.declared.pair.TermPair.{TermPair}
-use Rattle.budget_bounds.specs.Terms.{parts}
-use Rattle.budget_bounds.specs.Capped.{capped, plus_pair}
+use Rattle.budget_bounds.proofs.Common.{◌≡◌, ◌∙◌, ap, List, TermPair, parts, capped, plus_pair}
 use Rattle.budget_bounds.proofs.Cells.{storage_is, constant_is, general_is, wells_are, recharge_is, drains_are, rivers_are, evaps_are}
 use Rattle.budget_bounds.proofs.sums.add_entries.Goals as goal
 

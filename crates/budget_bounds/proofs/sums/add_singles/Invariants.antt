@@ -1,7 +1,4 @@
-use Rattle.std.proofs.Common.{◌≡◌, drop, map}
-use Rattle.std.specs.List.{filter}
-use Rattle.budget_bounds.specs.Terms.{parts}
-use Rattle.budget_bounds.specs.Capped.{IsSum, capped, plus_pair}
+use Rattle.budget_bounds.proofs.Common.{◌≡◌, drop, map, filter, parts, IsSum, capped, plus_pair}
 use Rattle.budget_bounds.proofs.sums.add_singles.Given as goal
 
 abbrev pub invariant-loop-x : goal.invariant-loop-x

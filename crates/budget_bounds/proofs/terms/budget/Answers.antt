@@ -1,5 +1,4 @@
-use Rattle.std.proofs.Common.{◌∙◌}
-use Rattle.step_problem.specs.Heads.{lower_at, upper_at}
+use Rattle.budget_bounds.proofs.Common.{◌∙◌, lower_at, upper_at}
 use Rattle.budget_bounds.proofs.Ordered.{budget_encloses}
 use Rattle.budget_bounds.proofs.Testing.{budget_tested}
 use Rattle.budget_bounds.proofs.terms.budget.Goals as goal

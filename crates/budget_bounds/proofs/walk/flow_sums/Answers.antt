@@ -1,6 +1,4 @@
-use Rattle.std.proofs.Common.{◌≡◌, arith, length}
-use Rattle.step_problem.specs.declared.place.Dir.TheVariants.{In, Out}
-use Rattle.step_problem.specs.Heads.{lower_at, upper_at}
+use Rattle.budget_bounds.proofs.Common.{◌≡◌, arith, length, In, Out, lower_at, upper_at}
 use Rattle.budget_bounds.proofs.Walking.{one_more, all_below}
 use Rattle.budget_bounds.proofs.walk.flow_sums.Goals as goal
 

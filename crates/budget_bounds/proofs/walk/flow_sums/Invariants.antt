@@ -1,8 +1,4 @@
-use Rattle.std.proofs.Common.{◌≡◌}
-use Rattle.step_problem.specs.declared.place.Dir.TheVariants.{In, Out}
-use Rattle.step_problem.specs.declared.place.Term.{Term}
-use Rattle.step_problem.specs.Heads.{lower_at, upper_at}
-use Rattle.budget_bounds.specs.Tested.{AreSums, sum_of}
+use Rattle.budget_bounds.proofs.Common.{◌≡◌, In, Out, Term, lower_at, upper_at, AreSums, sum_of}
 use Rattle.budget_bounds.proofs.Walking.{sums_below}
 use Rattle.budget_bounds.proofs.walk.flow_sums.Given as goal
 

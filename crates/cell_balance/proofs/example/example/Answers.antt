@@ -1,7 +1,4 @@
-use Rattle.std.proofs.Common.{◌≡◌, refl, sym, subst, ◌∙◌, [], ◌∷◌}
-use Rattle.step_problem.specs.Entries.{Entries}
-use Rattle.step_problem.specs.Conditions.{IsProblem}
-use Rattle.cell_balance.specs.Example.{first_entries, second_entries, third_entries, example_problem}
+use Rattle.cell_balance.proofs.Common.{◌≡◌, refl, sym, subst, ◌∙◌, [], ◌∷◌, Entries, IsProblem, first_entries, second_entries, third_entries, example_problem}
 use Rattle.cell_balance.proofs.ExampleProblem.{example_fits}
 use Rattle.cell_balance.proofs.example.example.Goals as goal
 

@@ -1,6 +1,4 @@
-use Rattle.std.proofs.Common.{◌≡◌, ◌-◌}
-use Rattle.record_lines.specs.Reading.{counted}
-use Rattle.cell_checks.specs.Checks.{cell_step}
+use Rattle.cell_checks.proofs.Common.{◌≡◌, ◌-◌, counted, cell_step}
 use Rattle.cell_checks.proofs.checks.check_cells.Given as goal
 
 abbrev pub invariant-loop-cell : goal.invariant-loop-cell

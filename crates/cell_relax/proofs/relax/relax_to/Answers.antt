@@ -1,9 +1,5 @@
-use Rattle.std.proofs.Common.{rules, arith, sym, ◌∙◌, subst, FitsSigned}
-use Rattle.std.specs.Int.{w64, w128}
+use Rattle.cell_relax.proofs.Common.{rules, arith, sym, ◌∙◌, subst, FitsSigned, w64, w128, ints, to_z-of_z, IsHead, IsRelaxedOn}
 use Rattle.std.proofs.lemmas.Bool.{false≢true}
-use Rattle.std.proofs.lemmas.Int.{ints, to_z-of_z}
-use Rattle.step_problem.specs.Conditions.{IsHead}
-use Rattle.cell_relax.specs.Sides.{IsRelaxedOn}
 use Rattle.cell_relax.proofs.Relaxing.{head_turned, relax_reaches, relax_bounds, relax_end}
 use Rattle.cell_relax.proofs.relax.relax_to.Goals as goal
 

@@ -1,6 +1,4 @@
-use Rattle.std.proofs.Common.{rules, FitsSigned}
-use Rattle.std.specs.Int.{w64}
-use Rattle.std.proofs.lemmas.Int.{to_z-of_z}
+use Rattle.cell_relax.proofs.Common.{rules, FitsSigned, w64, to_z-of_z}
 use Rattle.cell_relax.proofs.relax.sink_to.Goals as goal
 
 pub returns-clause-sink : goal.returns-clause-sink

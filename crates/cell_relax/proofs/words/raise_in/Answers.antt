@@ -1,6 +1,4 @@
-use Rattle.std.proofs.Common.{length}
-use Rattle.step_problem.specs.Entries.{entries_at}
-use Rattle.step_problem.specs.Heads.{lower_at}
+use Rattle.cell_relax.proofs.Common.{length, entries_at, lower_at}
 use Rattle.cell_relax.proofs.Reading.{ends_in_range}
 use Rattle.cell_relax.proofs.words.raise_in.Goals as goal
 

@@ -1,8 +1,4 @@
-use Rattle.std.proofs.Common.{◌≡◌, arith, rules, ◌<◌, ◌∙◌, length, length-set, FitsSigned}
-use Rattle.std.specs.Int.{w64}
-use Rattle.std.proofs.lemmas.Int.{to_z-of_z}
-use Rattle.step_problem.specs.Entries.{entries_at}
-use Rattle.cell_relax.specs.Words.{heads_on}
+use Rattle.cell_relax.proofs.Common.{◌≡◌, arith, rules, ◌<◌, ◌∙◌, length, length-set, FitsSigned, w64, to_z-of_z, entries_at, heads_on}
 use Rattle.cell_relax.proofs.Reading.{read_more}
 use Rattle.cell_relax.proofs.words.read_values.Goals as goal
 

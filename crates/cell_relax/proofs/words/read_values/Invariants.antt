@@ -1,6 +1,4 @@
-use Rattle.std.proofs.Common.{◌≡◌, length, take}
-use Rattle.step_problem.specs.Entries.{ends_in}
-use Rattle.cell_relax.specs.Words.{heads_on}
+use Rattle.cell_relax.proofs.Common.{◌≡◌, length, take, ends_in, heads_on}
 use Rattle.cell_relax.proofs.words.read_values.Given as goal
 
 abbrev pub invariant-loop-i : goal.invariant-loop-i

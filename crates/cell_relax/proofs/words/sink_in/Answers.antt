@@ -1,8 +1,4 @@
-use Rattle.std.proofs.Common.{refl, sym, rules, arith, length, FitsSigned}
-use Rattle.std.specs.Int.{w64}
-use Rattle.std.proofs.lemmas.Int.{ints, to_z-of_z}
-use Rattle.step_problem.specs.Entries.{entries_at}
-use Rattle.step_problem.specs.Heads.{upper_at}
+use Rattle.cell_relax.proofs.Common.{refl, sym, rules, arith, length, FitsSigned, w64, ints, to_z-of_z, entries_at, upper_at}
 use Rattle.cell_relax.proofs.Reading.{ends_in_range}
 use Rattle.cell_relax.proofs.words.sink_in.Goals as goal
 

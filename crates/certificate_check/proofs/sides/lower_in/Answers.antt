@@ -1,7 +1,4 @@
-use Rattle.std.proofs.Common.{length}
-use Rattle.step_problem.specs.Entries.{entries_at}
-use Rattle.step_problem.specs.Heads.{lower_at}
-use Rattle.cell_relax.proofs.Reading.{ends_in_range}
+use Rattle.certificate_check.proofs.Common.{length, entries_at, lower_at, ends_in_range}
 use Rattle.certificate_check.proofs.sides.lower_in.Goals as goal
 
 pub low_at-requires-clause-values : goal.low_at-requires-clause-values

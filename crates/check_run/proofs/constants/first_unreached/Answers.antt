@@ -1,5 +1,4 @@
-use Rattle.std.proofs.Common.{◌<◌, sym, ◌∙◌, arith}
-use Rattle.model_types.specs.Cells.{cell_count}
+use Rattle.check_run.proofs.Common.{◌<◌, sym, ◌∙◌, arith, cell_count}
 use Rattle.check_run.proofs.Reached.{reached_next, all_reached, first_short}
 use Rattle.check_run.proofs.constants.first_unreached.Goals as goal
 

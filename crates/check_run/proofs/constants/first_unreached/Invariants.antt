@@ -1,6 +1,4 @@
-use Rattle.std.proofs.Common.{ℕ, ◌<◌}
-use Rattle.step_problem.specs.declared.heads.Side.{Side}
-use Rattle.check_run.specs.Reaching.{IsConstantCell, ReachesAt}
+use Rattle.check_run.proofs.Common.{ℕ, ◌<◌, Side, IsConstantCell, ReachesAt}
 use Rattle.check_run.proofs.constants.first_unreached.Given as goal
 
 abbrev pub invariant-loop-cell : goal.invariant-loop-cell

@@ -1,9 +1,4 @@
-use Rattle.std.proofs.Common.{◌∙◌, ap, refl, subst, sym, List, option_map}
-use Rattle.step_problem.specs.declared.heads.Bound.{Bound}
-use Rattle.problem_builder.specs.GridHeads.{AreGridHeads}
-use Rattle.listing_io.specs.Listed.{step_in}
-use Rattle.step_chain.specs.Keeps.{digits_of}
-use Rattle.check_run.specs.Parts.{heads_before}
+use Rattle.check_run.proofs.Common.{◌∙◌, ap, refl, subst, sym, List, option_map, Bound, AreGridHeads, step_in, digits_of, heads_before}
 use Rattle.check_run.proofs.Checking.{at_first, ends_certified, ends_enclosed, ends_history, flows_here, goes_here, listed_at, not_certified, ok_follows, stops_here}
 use Rattle.check_run.proofs.Listed.{grid_of}
 use Rattle.check_run.proofs.listing.check_steps.Goals as goal

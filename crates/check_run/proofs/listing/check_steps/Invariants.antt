@@ -1,7 +1,4 @@
-use Rattle.std.proofs.Common.{◌≡◌, drop, option_map}
-use Rattle.model_types.specs.Times.{times}
-use Rattle.step_chain.specs.Keeps.{AreRunTables, digits_of}
-use Rattle.check_run.specs.Parts.{heads_before}
+use Rattle.check_run.proofs.Common.{◌≡◌, drop, option_map, times, AreRunTables, digits_of, heads_before}
 use Rattle.check_run.proofs.Checking.{IsSoFar}
 use Rattle.check_run.proofs.listing.check_steps.Given as goal
 

@@ -1,8 +1,4 @@
-use Rattle.std.proofs.Common.{ℕ, subst}
-use Rattle.std.proofs.lemmas.Result.{err_from_is_err_and}
-use Rattle.problem_builder.specs.Problems.{IsProblemOf}
-use Rattle.problem_builder.proofs.TimesOf.{time_of}
-use Rattle.step_chain.specs.Keeps.{digits_of}
+use Rattle.check_run.proofs.Common.{ℕ, subst, err_from_is_err_and, IsProblemOf, time_of, digits_of}
 use Rattle.check_run.proofs.Unposed.{barrier_unposed}
 use Rattle.check_run.proofs.posed.pose.Goals as goal
 

@@ -1,11 +1,6 @@
-use Rattle.std.proofs.Common.{◌∙◌, List, option_map, subst, sym, arith}
-use Rattle.std.proofs.lemmas.Result.{err_from_is_err_and}
-use Rattle.step_problem.specs.declared.heads.Bound.{Bound}
-use Rattle.cell_relax.specs.Words.{AreWords}
-use Rattle.step_chain.specs.Keeps.{digits_of}
-use Rattle.check_run.specs.Parts.{IsCovered, IsUncovered}
+use Rattle.check_run.proofs.Common.{◌∙◌, List, option_map, subst, sym, arith, err_from_is_err_and, Bound, AreWords, digits_of, IsCovered, IsUncovered}
+use Rattle.check_run.proofs.Common.{are_numbers}
 use Rattle.check_run.proofs.Checking.{err_follows, ok_follows}
-use Rattle.zone_pairs.proofs.Small.{are_numbers}
 use Rattle.check_run.proofs.FlowPairs.{flows_have_pairs}
 use Rattle.check_run.proofs.Listed.{are_words, id_within}
 use Rattle.check_run.proofs.Outcomes.{constant_fails, step_moves, step_passes, term_fails, variable_fails, zones_fail}

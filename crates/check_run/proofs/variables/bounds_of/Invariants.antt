@@ -1,6 +1,4 @@
-use Rattle.std.proofs.Common.{◌≡◌, map, take}
-use Rattle.step_problem.specs.Entries.{Entries}
-use Rattle.step_chain.specs.GridHeads.{bound_at}
+use Rattle.check_run.proofs.Common.{◌≡◌, map, take, Entries, bound_at}
 use Rattle.check_run.proofs.variables.bounds_of.Given as goal
 
 abbrev pub invariant-loop-k : goal.invariant-loop-k

@@ -1,6 +1,4 @@
-use Rattle.std.proofs.Common.{◌∙◌, ap, codes}
-use Rattle.clap.specs.Words.{with_rule}
-use Rattle.command_line.specs.Commands.{settling, word}
+use Rattle.command_line.proofs.Common.{◌∙◌, ap, codes, with_rule, settling, word}
 use Rattle.command_line.proofs.Chains.{if_ok-made_of}
 use Rattle.command_line.proofs.commands.batch_command.Goals as goal
 

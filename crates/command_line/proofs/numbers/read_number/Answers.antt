@@ -1,7 +1,7 @@
 use Rattle.std.proofs.Common.{rules, ◌≡◌, arith, decimal}
 use Rattle.command_line.proofs.Plain.{some_number, no_parse, other_number, plain, tested}
-use Rattle.command_line.proofs.numbers.read_number.Goals as goal
 use Rattle.command_line.proofs.numbers.read_number.Goals.{else-eq-via-then-eq+then-low-n+else-n-high, else-eq-via-then-eq+else-low-n, else-eq-via-else-eq}
+use Rattle.command_line.proofs.numbers.read_number.Goals as goal
 
 pub returns-in_default-clause-is : goal.returns-in_default-clause-is
 returns-in_default-clause-is c = no_parse c.args.low c.args.high c.args.text.now _ c.parse.ensures.value.0 c.in_default.not-Ok (search rules)

@@ -1,8 +1,6 @@
-use Rattle.std.proofs.Common.{rules, ◌≡◌, ◌≢◌, map, ◌∙◌, sym}
-use Rattle.clap.specs.Words.{app_of, kind_of}
-use Rattle.clap.specs.declared.error.kind.ErrorKind.TheVariants as kind
-use Rattle.command_line.specs.Commands.{heads_app}
+use Rattle.command_line.proofs.Common.{rules, ◌≡◌, ◌≢◌, map, ◌∙◌, sym, app_of, kind_of, heads_app}
 use Rattle.command_line.proofs.Reading.{usage_at_err, order_at_ok}
+use Rattle.clap.specs.declared.error.kind.ErrorKind.TheVariants as kind
 use Rattle.command_line.proofs.orders.read_order.Goals as goal
 
 pub returns-in-Err-clause-usage : goal.returns-in-Err-clause-usage

@@ -1,7 +1,4 @@
-use Rattle.std.proofs.Common.{◌≡◌, ◌^◌, ◌-◌, arith, pos, ℤ, ◌+ℤ◌, ◌*ℤ◌, FitsSigned, ap, ◌∙◌}
-use Rattle.std.specs.Int.{w64, w128}
-use Rattle.std.proofs.lemmas.Int.{ints, to_z-of_z}
-use Rattle.conductance_bounds.specs.Parts.{blend}
+use Rattle.conductance_bounds.proofs.Common.{◌≡◌, ◌^◌, ◌-◌, arith, pos, ℤ, ◌+ℤ◌, ◌*ℤ◌, FitsSigned, ap, ◌∙◌, w64, w128, ints, to_z-of_z, blend}
 use Rattle.conductance_bounds.proofs.HeadRange.{fits_64}
 use Rattle.conductance_bounds.proofs.blend.blend.Goals as goal
 

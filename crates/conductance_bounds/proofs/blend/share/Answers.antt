@@ -1,7 +1,4 @@
-use Rattle.std.proofs.Common.{◌≡◌, ◌*◌, arith, pos, ◌*ℤ◌, FitsSigned, to_z}
-use Rattle.std.specs.Int.{w64, w128}
-use Rattle.std.proofs.lemmas.Int.{to_z-of_z, to_z_pos}
-use Rattle.conductance_bounds.specs.Parts.{IsWithin}
+use Rattle.conductance_bounds.proofs.Common.{◌≡◌, ◌*◌, arith, pos, ◌*ℤ◌, FitsSigned, to_z, w64, w128, to_z-of_z, to_z_pos, IsWithin}
 use Rattle.conductance_bounds.proofs.Blends.{share_within, fits_within}
 use Rattle.conductance_bounds.proofs.HeadRange.{fits_64, fits_128}
 use Rattle.conductance_bounds.proofs.blend.share.Goals as goal

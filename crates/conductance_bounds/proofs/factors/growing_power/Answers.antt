@@ -1,6 +1,4 @@
-use Rattle.std.proofs.Common.{◌+◌, ◌*◌, arith}
-use Rattle.std.proofs.lemmas.Int.{ints}
-use Rattle.decimal_input.specs.Canonical.{size}
+use Rattle.conductance_bounds.proofs.Common.{◌+◌, ◌*◌, arith, ints, size}
 use Rattle.conductance_bounds.proofs.Multipliers.{multiplier_size, power_start, power_next, power_size, sizes_reach}
 use Rattle.conductance_bounds.proofs.factors.growing_power.Goals as goal
 

@@ -1,6 +1,4 @@
-use Rattle.std.proofs.Common.{◌*◌, arith}
-use Rattle.std.proofs.lemmas.Int.{ints}
-use Rattle.decimal_input.specs.Canonical.{size}
+use Rattle.conductance_bounds.proofs.Common.{◌*◌, arith, ints, size}
 use Rattle.conductance_bounds.proofs.Multipliers.{multiplier_size, sum_start, sum_next, sum_size, sizes_reach}
 use Rattle.conductance_bounds.proofs.factors.growing_sum.Goals as goal
 

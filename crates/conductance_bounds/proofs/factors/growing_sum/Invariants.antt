@@ -1,8 +1,4 @@
-use Rattle.std.proofs.Common.{◌*◌, pos, neg_ℤ}
-use Rattle.decimal_input.specs.Canonical.{size}
-use Rattle.scaled_decimal.specs.Nearest.{HasSize}
-use Rattle.conductance_bounds.specs.Growth.{sum_term}
-use Rattle.conductance_bounds.specs.Intervals.{IsOrdered, AreBounds}
+use Rattle.conductance_bounds.proofs.Common.{◌*◌, pos, neg_ℤ, size, HasSize, sum_term, IsOrdered, AreBounds}
 use Rattle.conductance_bounds.proofs.factors.growing_sum.Given as goal
 
 abbrev pub invariant-loop-step : goal.invariant-loop-step

@@ -1,7 +1,4 @@
-use Rattle.std.proofs.Common.{FitsSigned}
-use Rattle.std.specs.Int.{w64, w128}
-use Rattle.std.proofs.lemmas.Int.{to_z-of_z}
-use Rattle.decimal_input.specs.Canonical.{number}
+use Rattle.conductance_bounds.proofs.Common.{FitsSigned, w64, w128, to_z-of_z, number}
 use Rattle.conductance_bounds.proofs.HeadRange.{fits_wider, no_floor_past}
 use Rattle.conductance_bounds.proofs.head.floor_64.Goals as goal
 

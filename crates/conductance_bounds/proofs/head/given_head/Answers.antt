@@ -1,7 +1,5 @@
-use Rattle.std.proofs.Common.{◌≡◌, ◌^◌, ◌*◌, arith, FitsSigned}
-use Rattle.std.specs.Int.{w64, w128, int_min, int_max}
-use Rattle.std.proofs.lemmas.Int.{to_z-of_z}
-use Rattle.conductance_bounds.specs.Parts.{blend, IsWithin, IsFloorOf, IsCeilingOf, IsGivenPair}
+use Rattle.conductance_bounds.proofs.Common.{◌≡◌, ◌^◌, ◌*◌, arith, FitsSigned, w64, w128, int_min, int_max, to_z-of_z, blend, IsWithin, IsFloorOf, IsCeilingOf}
+use Rattle.conductance_bounds.proofs.Common.{IsGivenPair}
 use Rattle.conductance_bounds.proofs.Blends.{fits_within, min_within, max_within, lesser, greater}
 use Rattle.conductance_bounds.proofs.GivenHeads.{head_encloses}
 use Rattle.conductance_bounds.proofs.HeadRange.{fits_64}

@@ -1,5 +1,4 @@
-use Rattle.decimal_input.proofs.Orders.{AtMost-refl}
-use Rattle.scaled_decimal.specs.Nearest.{value}
+use Rattle.conductance_bounds.proofs.Common.{AtMost-refl, value}
 use Rattle.conductance_bounds.proofs.Arithmetic.{number_reach}
 use Rattle.conductance_bounds.proofs.interval.exactly.Goals as goal
 

@@ -1,6 +1,4 @@
-use Rattle.std.proofs.Common.{inl, arith}
-use Rattle.std.proofs.lemmas.Int.{ints}
-use Rattle.decimal_input.proofs.Orders.{AtMost-refl}
+use Rattle.conductance_bounds.proofs.Common.{inl, arith, ints, AtMost-refl}
 use Rattle.conductance_bounds.proofs.Arithmetic.{size_reach}
 use Rattle.conductance_bounds.proofs.Unity.{unity_is}
 use Rattle.conductance_bounds.proofs.interval.one.Goals as goal

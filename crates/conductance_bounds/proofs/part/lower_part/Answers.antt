@@ -1,6 +1,4 @@
-use Rattle.std.proofs.Common.{◌^◌, arith}
-use Rattle.decimal_input.specs.Wholes.{IsFloor, Reaches}
-use Rattle.scaled_decimal.specs.Nearest.{value}
+use Rattle.conductance_bounds.proofs.Common.{◌^◌, arith, IsFloor, Reaches, value}
 use Rattle.conductance_bounds.proofs.PartBounds.{few_units}
 use Rattle.conductance_bounds.proofs.part.lower_part.Goals as goal
 

@@ -1,6 +1,4 @@
-use Rattle.std.proofs.Common.{◌≡◌, ◌^◌, true, false, inl, inr, refl, sym, ◌∙◌}
-use Rattle.scaled_decimal.specs.Nearest.{value}
-use Rattle.conductance_bounds.specs.Parts.{is_whole}
+use Rattle.conductance_bounds.proofs.Common.{◌≡◌, ◌^◌, true, false, inl, inr, refl, sym, ◌∙◌, value, is_whole}
 use Rattle.conductance_bounds.proofs.PartBounds.{part_encloses, lower_at_most, has_ceiling, multiplier_positive}
 use Rattle.conductance_bounds.proofs.part.time_part.Goals as goal
 

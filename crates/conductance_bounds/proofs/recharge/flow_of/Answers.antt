@@ -1,5 +1,4 @@
-use Rattle.std.proofs.Common.{◌-◌, ◌^◌, arith}
-use Rattle.scaled_decimal.specs.Nearest.{value}
+use Rattle.conductance_bounds.proofs.Common.{◌-◌, ◌^◌, arith, value}
 use Rattle.conductance_bounds.proofs.Whole.{Reaches-passes}
 use Rattle.conductance_bounds.proofs.recharge.flow_of.Goals as goal
 

@@ -1,6 +1,4 @@
-use Rattle.std.proofs.Common.{◌≡◌, rules, arith, ◌-ℤ◌}
-use Rattle.std.specs.Prelude.{unsigned_abs}
-use Rattle.conductance_bounds.specs.Thicknesses.{IsSpan}
+use Rattle.conductance_bounds.proofs.Common.{◌≡◌, rules, arith, ◌-ℤ◌, unsigned_abs, IsSpan}
 use Rattle.conductance_bounds.proofs.ThickBounds.{thick_between, are_thick, edges_room, top_small, bottom_small}
 use Rattle.conductance_bounds.proofs.span.thickness.Goals as goal
 

@@ -1,5 +1,4 @@
-use Rattle.std.proofs.Common.{arith}
-use Rattle.conductance_bounds.specs.Branches.{bed_of}
+use Rattle.conductance_bounds.proofs.Common.{arith, bed_of}
 use Rattle.conductance_bounds.proofs.LayerBounds.{bed_bounds}
 use Rattle.conductance_bounds.proofs.vertical.joined.Goals as goal
 

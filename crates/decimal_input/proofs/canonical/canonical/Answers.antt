@@ -1,5 +1,4 @@
-use Rattle.std.proofs.Common.{arith}
-use Rattle.std.proofs.lemmas.Int.{ints}
+use Rattle.decimal_input.proofs.Common.{arith, ints}
 use Rattle.decimal_input.proofs.Canon.{accepted, number}
 use Rattle.decimal_input.proofs.canonical.canonical.Goals as goal
 

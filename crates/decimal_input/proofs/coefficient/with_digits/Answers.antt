@@ -1,7 +1,4 @@
-use Rattle.std.proofs.Common.{◌≡◌, ◌+◌, ◌-◌, ◌*◌, get_or, arith, sym, subst, ◌∙◌}
-use Rattle.std.proofs.lemmas.List.{at_drop_more, at_drop_all}
-use Rattle.decimal_input.specs.Grammar.{number_from}
-use Rattle.decimal_input.specs.Coefficients.{IsOf}
+use Rattle.decimal_input.proofs.Common.{◌≡◌, ◌+◌, ◌-◌, ◌*◌, get_or, arith, sym, subst, ◌∙◌, at_drop_more, at_drop_all, number_from, IsOf}
 use Rattle.decimal_input.proofs.coefficient.with_digits.Goals as goal
 
 pub loop-b-preserved : goal.loop-b-preserved

@@ -1,6 +1,4 @@
-use Rattle.std.proofs.Common.{◌≡◌, ℕ, ◌+◌, ◌^◌, ◌≤◌, ◌<◌, drop}
-use Rattle.decimal_input.specs.Coefficients.{IsOf}
-use Rattle.decimal_input.specs.Grammar.{number_from}
+use Rattle.decimal_input.proofs.Common.{◌≡◌, ℕ, ◌+◌, ◌^◌, ◌≤◌, ◌<◌, drop, IsOf, number_from}
 use Rattle.decimal_input.proofs.coefficient.with_digits.Given as goal
 
 abbrev pub invariant-loop-b : goal.invariant-loop-b

@@ -1,6 +1,4 @@
-use Rattle.std.proofs.Common.{◌+◌, ◌-◌, ◌*◌, get_or, drop, min, arith, sym, ◌∙◌}
-use Rattle.std.proofs.lemmas.List.{at_drop_more}
-use Rattle.decimal_input.specs.Grammar.{number_from}
+use Rattle.decimal_input.proofs.Common.{◌+◌, ◌-◌, ◌*◌, get_or, drop, min, arith, sym, ◌∙◌, at_drop_more, number_from}
 use Rattle.decimal_input.proofs.Caps.{same_cap}
 use Rattle.decimal_input.proofs.exponent.capped_number.Goals as goal
 

@@ -1,5 +1,4 @@
-use Rattle.std.proofs.Common.{◌≡◌, ◌≤◌, drop, min}
-use Rattle.decimal_input.specs.Grammar.{number_from}
+use Rattle.decimal_input.proofs.Common.{◌≡◌, ◌≤◌, drop, min, number_from}
 use Rattle.decimal_input.proofs.exponent.capped_number.Given as goal
 
 abbrev pub invariant-loop-b : goal.invariant-loop-b

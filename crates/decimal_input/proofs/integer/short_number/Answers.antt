@@ -1,6 +1,4 @@
-use Rattle.std.proofs.Common.{◌+◌, ◌-◌, ◌*◌, get_or, arith, sym, ◌∙◌}
-use Rattle.std.proofs.lemmas.List.{at_drop_more}
-use Rattle.decimal_input.specs.Grammar.{number_from}
+use Rattle.decimal_input.proofs.Common.{◌+◌, ◌-◌, ◌*◌, get_or, arith, sym, ◌∙◌, at_drop_more, number_from}
 use Rattle.decimal_input.proofs.Named.{digit_small}
 use Rattle.decimal_input.proofs.Short.{longer, within}
 use Rattle.decimal_input.proofs.integer.short_number.Goals as goal

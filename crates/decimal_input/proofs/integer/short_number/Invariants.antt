@@ -1,5 +1,4 @@
-use Rattle.std.proofs.Common.{◌≡◌, ◌<◌, ◌^◌, drop}
-use Rattle.decimal_input.specs.Grammar.{number_from}
+use Rattle.decimal_input.proofs.Common.{◌≡◌, ◌<◌, ◌^◌, drop, number_from}
 use Rattle.decimal_input.proofs.integer.short_number.Given as goal
 
 abbrev pub invariant-loop-b : goal.invariant-loop-b

@@ -1,6 +1,4 @@
-use Rattle.std.proofs.Common.{◌*◌, arith, Bool, subst, ◌+ℤ◌}
-use Rattle.std.proofs.lemmas.Int.{ints}
-use Rattle.decimal_input.specs.Outcomes.{IsCanonical}
+use Rattle.decimal_input.proofs.Common.{◌*◌, arith, Bool, subst, ◌+ℤ◌, ints, IsCanonical}
 use Rattle.decimal_input.proofs.Named.{canonical_at}
 use Rattle.decimal_input.proofs.Products.{product_is, signs_differ}
 use Rattle.decimal_input.proofs.product.times.Goals as goal

@@ -1,8 +1,4 @@
-use Rattle.std.proofs.Common.{◌+◌, ◌≤◌, length, arith, subst, Option, pos, neg_ℤ, ◌≤ℤ◌, Err}
-use Rattle.std.proofs.lemmas.Int.{ints}
-use Rattle.decimal_input.specs.declared.dec.NumFault.TheVariants.{BadNumber}
-use Rattle.decimal_input.specs.Grammar.{Spelling, number_from}
-use Rattle.decimal_input.specs.Words.{exponent_of}
+use Rattle.decimal_input.proofs.Common.{◌+◌, ◌≤◌, length, arith, subst, Option, pos, neg_ℤ, ◌≤ℤ◌, Err, ints, BadNumber, Spelling, number_from, exponent_of}
 use Rattle.decimal_input.proofs.Named.{IsNumber, named, joined, start, canonical_at}
 use Rattle.decimal_input.proofs.Spelled.{names_read, no_exponent, no_digit}
 use Rattle.decimal_input.proofs.Products.{named_value}

@@ -1,7 +1,4 @@
-use Rattle.std.proofs.Common.{◌-◌, ◌<◌, ◌^◌, arith}
-use Rattle.std.proofs.lemmas.Int.{ints}
-use Rattle.decimal_input.specs.Ratios.{Ratio}
-use Rattle.decimal_input.specs.Wholes.{IsFloor, IsCeiling, Passes, Reaches}
+use Rattle.decimal_input.proofs.Common.{◌-◌, ◌<◌, ◌^◌, arith, ints, Ratio, IsFloor, IsCeiling, Passes, Reaches}
 use Rattle.decimal_input.proofs.Past.{if_none, of_size, ceiling_past, ceiling_past_negative}
 use Rattle.decimal_input.proofs.SignedFloors.{ceiling_of_ceiling, ceiling_of_floor}
 use Rattle.decimal_input.proofs.units.ceil_at.Goals as goal

@@ -1,7 +1,4 @@
-use Rattle.std.proofs.Common.{◌-◌, arith}
-use Rattle.std.proofs.lemmas.Int.{ints}
-use Rattle.std.proofs.Math.Nat.{div-le_self}
-use Rattle.decimal_input.specs.Decimals.{scaled}
+use Rattle.decimal_input.proofs.Common.{◌-◌, arith, ints, div-le_self, scaled}
 use Rattle.decimal_input.proofs.Powers.{ten_pos}
 use Rattle.decimal_input.proofs.WholeUnits.{num_nothing, below_ten, ceiling_zero, ceiling_quotient, ceiling_one, cut_units, whole_ceiling}
 use Rattle.decimal_input.proofs.whole.whole_up.Goals as goal

@@ -1,5 +1,4 @@
-use Rattle.std.proofs.Common.{◌≡◌, ℕ, ◌<◌, get_or, true}
-use Rattle.decimal_input.specs.Grammar.{is_digit}
+use Rattle.decimal_input.proofs.Common.{◌≡◌, ℕ, ◌<◌, get_or, true, is_digit}
 use Rattle.decimal_input.proofs.word.split_digits.Given as goal
 
 abbrev pub invariant-loop-i : goal.invariant-loop-i

@@ -1,7 +1,5 @@
-use Rattle.std.proofs.Common.{◌∙◌, arith}
-use Rattle.std.proofs.lemmas.Result.{err_from_is_err_and}
+use Rattle.dis_package.proofs.Common.{◌∙◌, arith, err_from_is_err_and, bottoms_of}
 use Rattle.record_lines.proofs.Counted.{step_goes_on, steps_stop, steps_done}
-use Rattle.dis_package.specs.Grids.{bottoms_of}
 use Rattle.dis_package.proofs.bottoms.bottoms_of.Goals as goal
 
 pub returns-in_err-more-clause-bottoms : goal.returns-in_err-more-clause-bottoms

@@ -1,10 +1,5 @@
-use Rattle.std.proofs.Common.{◌≡◌, ℕ, ◌-◌, ◌*◌, length, [], All}
+use Rattle.dis_package.proofs.Common.{◌≡◌, ℕ, ◌-◌, ◌*◌, length, [], All, File, IsDec, LinesMay, counted, bottom_at}
 use Rattle.std.specs.Prelude.{List}
-use Rattle.outside.specs.Files.{File}
-use Rattle.decimal_input.specs.Canonical.{IsDec}
-use Rattle.record_lines.specs.Asking.{LinesMay}
-use Rattle.record_lines.specs.Reading.{counted}
-use Rattle.dis_package.specs.Grids.{bottom_at}
 use Rattle.dis_package.proofs.bottoms.bottoms_of.Given as goal
 
 abbrev pub invariant-loop-k : goal.invariant-loop-k

@@ -1,9 +1,4 @@
-use Rattle.std.proofs.Common.{rules, ◌≡◌, ◌∙◌, ap, refl}
-use Rattle.std.proofs.lemmas.Result.{err_from_is_err_and}
-use Rattle.record_lines.specs.Asking.{LinesMay}
-use Rattle.record_lines.specs.Layout.{without_comments}
-use Rattle.record_lines.proofs.Forward.{begun_held}
-use Rattle.dis_package.specs.Discretization.{begun}
+use Rattle.dis_package.proofs.Common.{rules, ◌≡◌, ◌∙◌, ap, refl, err_from_is_err_and, LinesMay, without_comments, begun_held, begun}
 use Rattle.dis_package.proofs.Forward.{head_leaves}
 use Rattle.dis_package.proofs.ModelLemmas.{dis_read, dis_stops}
 use Rattle.dis_package.proofs.model.read_dis.Goals as goal

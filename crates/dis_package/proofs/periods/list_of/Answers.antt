@@ -1,9 +1,6 @@
-use Rattle.std.proofs.Common.{arith}
+use Rattle.dis_package.proofs.Common.{arith, err_from_is_err_and, goes_on, ends_text, is_done, IsNewPeriod}
 use Rattle.std.proofs.lemmas.List.Sums.{sum_by_push}
-use Rattle.std.proofs.lemmas.Result.{err_from_is_err_and}
-use Rattle.record_lines.proofs.Loops.{goes_on, ends_text, is_done}
 use Rattle.array_reader.proofs.ListLemmas.{all_pushed}
-use Rattle.dis_package.specs.Forms.{IsNewPeriod}
 use Rattle.dis_package.proofs.periods.list_of.Goals as goal
 
 pub returns-in_err-period-clause-periods : goal.returns-in_err-period-clause-periods

@@ -1,9 +1,4 @@
-use Rattle.std.proofs.Common.{◌≡◌, ◌-◌, ◌≤◌, length, All}
-use Rattle.std.specs.Prelude.{sum_by}
-use Rattle.record_lines.specs.Reading.{repeated}
-use Rattle.record_lines.proofs.Loops.{with_front}
-use Rattle.dis_package.specs.Forms.{IsNewPeriod}
-use Rattle.dis_package.specs.Times.{period_at}
+use Rattle.dis_package.proofs.Common.{◌≡◌, ◌-◌, ◌≤◌, length, All, sum_by, repeated, with_front, IsNewPeriod, period_at}
 use Rattle.dis_package.proofs.periods.list_of.Given as goal
 
 abbrev pub invariant-loop : goal.invariant-loop

@@ -1,7 +1,4 @@
-use Rattle.std.proofs.Common.{◌≡◌, Bool, true, false, List, ℕ, Option, Some, None, codes, sym, ap, refl, ◌∙◌}
-use Rattle.std.specs.Prelude.{if◌then◌else◌}
-use Rattle.record_lines.specs.Items.{is_word}
-use Rattle.dis_package.specs.Times.{kind_of}
+use Rattle.dis_package.proofs.Common.{◌≡◌, Bool, true, false, List, ℕ, Option, Some, None, codes, sym, ap, refl, ◌∙◌, if◌then◌else◌, is_word, kind_of}
 use Rattle.dis_package.proofs.time.kind_of.Goals as goal
 
 -- the kind by whether the word is SS and whether it is TR

@@ -1,9 +1,6 @@
-use Rattle.std.proofs.Common.{◌∙◌, ℕ, List, arith, length-append, subst, sym}
-use Rattle.engine.specs.BatchCommands.{batch_by}
+use Rattle.engine.proofs.Common.{◌∙◌, ℕ, List, arith, length-append, subst, sym, batch_by, file_limit, folder_name}
 use Rattle.engine.proofs.BatchReading.{jobs_read_more, tasks_more}
 use Rattle.engine.proofs.Readings.{of_known}
-use Rattle.outside.specs.Inputs.{file_limit}
-use Rattle.outside.specs.Names.{folder_name}
 use Rattle.engine.proofs.batch_reading.read_jobs.Goals as goal
 
 pub loop-name-preserved : goal.loop-name-preserved

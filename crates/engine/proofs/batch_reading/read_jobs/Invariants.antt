@@ -1,8 +1,5 @@
 -- The jobs so far are those of the names so far, whatever files agree with the folder.
-use Rattle.std.proofs.Common.{◌≡◌, ℕ, List, length, take, IfSome, Option}
-use Rattle.outside.specs.Files.{File}
-use Rattle.engine.specs.BatchCommands.{batch_by}
-use Rattle.engine.specs.BatchReads.{AreJobsRead, AreTasks}
+use Rattle.engine.proofs.Common.{◌≡◌, ℕ, List, length, take, IfSome, Option, File, batch_by, AreJobsRead, AreTasks}
 use Rattle.engine.proofs.batch_reading.read_jobs.Given as goal
 
 abbrev pub invariant-loop-name : goal.invariant-loop-name

@@ -1,9 +1,4 @@
-use Rattle.std.proofs.Common.{List, ℕ, rules, subst}
-use Rattle.std.proofs.lemmas.Result.{err_from_is_err_and}
-use Rattle.record_lines.specs.Reading.{StopsText}
-use Rattle.batch_list.specs.Names.{names_in}
-use Rattle.engine.specs.BatchCommands.{batch_by}
-use Rattle.engine.specs.Batches.{AskedBatch}
+use Rattle.engine.proofs.Common.{List, ℕ, rules, subst, err_from_is_err_and, StopsText, names_in, batch_by, AskedBatch}
 use Rattle.engine.proofs.BatchReading.{names_are, names_bad, names_stop, names_unread}
 use Rattle.engine.proofs.Readings.{of_known}
 use Rattle.batch_list.proofs.Forward.{names_named}

@@ -1,7 +1,5 @@
-use Rattle.std.proofs.Common.{◌≡◌, ◌∙◌, List, [], ℕ, map, None, Some, option_map, sym}
-use Rattle.engine.specs.BatchCommands.{batch_by}
+use Rattle.engine.proofs.Common.{◌≡◌, ◌∙◌, List, [], ℕ, map, None, Some, option_map, sym, batch_by, views_in}
 use Rattle.engine.proofs.BatchEnds.{any_batch, any_lacks, any_other}
-use Rattle.engine.specs.Watched.{views_in}
 use Rattle.engine.proofs.Beside.{quiet}
 use Rattle.engine.proofs.Naming.{batch_named}
 use Rattle.engine.proofs.batching.answer_any.Goals as goal

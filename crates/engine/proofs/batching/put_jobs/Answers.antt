@@ -1,8 +1,4 @@
-use Rattle.run_puts.specs.Runs.{NeverCut}
-use Rattle.run_puts.proofs.Pieces.{lacks_at_first}
-use Rattle.batch_puts.specs.Batches.{IsBatch}
-use Rattle.batch_puts.proofs.Batches.{batch_run}
-use Rattle.engine.specs.Batches.{IsJobEnd}
+use Rattle.engine.proofs.Common.{NeverCut, lacks_at_first, IsBatch, batch_run, IsJobEnd}
 use Rattle.engine.proofs.BatchEnds.{jobs_ended}
 use Rattle.engine.proofs.batching.put_jobs.Goals as goal
 

@@ -1,6 +1,4 @@
-use Rattle.std.proofs.Common.{ℕ, subst}
-use Rattle.engine.specs.Commands.{check_of}
-use Rattle.engine.specs.Parts.{Answers}
+use Rattle.engine.proofs.Common.{ℕ, subst, check_of, Answers}
 use Rattle.engine.proofs.Naming.{zones_still}
 use Rattle.engine.proofs.Readings.{of_known}
 use Rattle.engine.proofs.Verdicts.{ends_unread}

@@ -1,5 +1,4 @@
-use Rattle.engine.specs.Cases.{AskedCheck}
-use Rattle.engine.specs.Commands.{check_of}
+use Rattle.engine.proofs.Common.{AskedCheck, check_of}
 use Rattle.engine.proofs.Verdicts.{ends_check, ends_unlisted}
 use Rattle.engine.proofs.checking.check_model.Goals as goal
 

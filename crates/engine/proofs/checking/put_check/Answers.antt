@@ -1,11 +1,5 @@
-use Rattle.std.proofs.Common.{◌≡◌, ℕ, List, Option, subst, sym}
-use Rattle.zone_pairs.specs.Pairs.{pairs_in}
-use Rattle.listing_io.specs.Listed.{AreListed}
-use Rattle.run_puts.specs.Runs.{NeverCut}
-use Rattle.run_puts.proofs.Pieces.{lacks_at_first}
+use Rattle.engine.proofs.Common.{◌≡◌, ℕ, List, Option, subst, sym, pairs_in, AreListed, NeverCut, lacks_at_first, IsVerdict, ListingEncloses, IsCheck}
 use Rattle.check_run.specs.declared.verdict.ListingVerdict.TheVariants.{Certified}
-use Rattle.check_run.specs.Verdicts.{IsVerdict, ListingEncloses}
-use Rattle.engine.specs.Checked.{IsCheck}
 use Rattle.engine.proofs.Verdicts.{puts_verdict}
 use Rattle.engine.proofs.checking.put_check.Goals as goal
 

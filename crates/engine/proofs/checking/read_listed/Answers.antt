@@ -1,10 +1,4 @@
-use Rattle.std.proofs.Common.{List, ℕ, Option, Ok, Err, subst}
-use Rattle.std.proofs.lemmas.Result.{err_from_is_err_and}
-use Rattle.zone_pairs.specs.Pairs.{pairs_in}
-use Rattle.listing_io.specs.Listed.{AreListed}
-use Rattle.engine.specs.Cases.{AskedCheck}
-use Rattle.engine.specs.Commands.{check_of}
-use Rattle.engine.specs.Parts.{AreStepsAs}
+use Rattle.engine.proofs.Common.{List, ℕ, Option, Ok, Err, subst, err_from_is_err_and, pairs_in, AreListed, AskedCheck, check_of, AreStepsAs}
 use Rattle.engine.proofs.Readings.{both_read, of_known, unlisted, unzoned}
 use Rattle.engine.proofs.checking.read_listed.Goals as goal
 

@@ -1,10 +1,4 @@
-use Rattle.std.proofs.Common.{rules, List, ℕ, option_map, subst}
-use Rattle.std.proofs.lemmas.Result.{err_from_is_err_and}
-use Rattle.record_lines.specs.Reading.{StopsText}
-use Rattle.zone_pairs.specs.Pairs.{pairs_in}
-use Rattle.listing_io.specs.Reading.{listing_in}
-use Rattle.engine.specs.Cases.{AskedCheck}
-use Rattle.engine.specs.Commands.{check_of}
+use Rattle.engine.proofs.Common.{rules, List, ℕ, option_map, subst, err_from_is_err_and, StopsText, pairs_in, listing_in, AskedCheck, check_of}
 use Rattle.engine.proofs.Readings.{bad_listed, of_known, read_bytes, text_read, unread_file}
 use Rattle.engine.proofs.checking.read_steps.Goals as goal
 

@@ -1,5 +1,4 @@
-use Rattle.std.proofs.Common.{List, [], map, ℕ, None, Some}
-use Rattle.outside.specs.Counts.{Rose}
+use Rattle.engine.proofs.Common.{List, [], map, ℕ, None, Some, Rose}
 use Rattle.engine.proofs.AnyOutcomes.{any_batched, any_certified, any_complete, any_decided, any_headline, any_made, any_one, any_put_rose, any_puts, any_read_rose, any_watched}
 use Rattle.engine.proofs.Outcomes.{laws_of}
 use Rattle.engine.proofs.commands.run.Goals as goal

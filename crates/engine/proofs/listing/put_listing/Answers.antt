@@ -1,6 +1,4 @@
-use Rattle.std.proofs.Common.{IfSome, ℕ, Option, sym, subst}
-use Rattle.listing_run.proofs.Stopping.{beside}
-use Rattle.engine.specs.Watched.{IsWatched, ViewPutsOf}
+use Rattle.engine.proofs.Common.{IfSome, ℕ, Option, sym, subst, beside, IsWatched, ViewPutsOf}
 use Rattle.engine.proofs.listing.put_listing.Goals as goal
 
 pub returns-in-None-clause-puts : goal.returns-in-None-clause-puts

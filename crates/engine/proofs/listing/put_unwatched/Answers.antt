@@ -1,7 +1,5 @@
-use Rattle.std.proofs.Common.{◌≡◌, None, Option, Some}
-use Rattle.outside.specs.declared.traits.SinkError.{SinkError}
+use Rattle.engine.proofs.Common.{◌≡◌, None, Option, Some, SinkError, alone}
 use Rattle.outside.specs.declared.traits.SinkError.TheVariants.{Write}
-use Rattle.listing_run.proofs.Stopping.{alone}
 use Rattle.engine.proofs.listing.put_unwatched.Goals as goal
 
 pub returns : goal.returns

@@ -1,7 +1,5 @@
-use Rattle.std.proofs.Common.{◌∙◌, ap, refl, subst, Err, Ok, Some}
+use Rattle.engine.proofs.Common.{◌∙◌, ap, refl, subst, Err, Ok, Some, InputFault, IsReadingEnd}
 use Rattle.outside.specs.Memory.{FolderState}
-use Rattle.outside.specs.declared.refusals.InputFault.{InputFault}
-use Rattle.engine.specs.Parts.{IsReadingEnd}
 use Rattle.engine.proofs.Summed.{made_lacking, made_reading, made_unread}
 use Rattle.engine.proofs.making.put_made.Goals as goal
 

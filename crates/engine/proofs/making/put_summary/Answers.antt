@@ -1,8 +1,4 @@
-use Rattle.std.proofs.Common.{subst}
-use Rattle.run_puts.specs.Ends.{IsEnd}
-use Rattle.run_puts.specs.declared.status.Status.{Status}
-use Rattle.listing_run.proofs.Lines.{ends_by}
-use Rattle.engine.specs.Made.{summed_text}
+use Rattle.engine.proofs.Common.{subst, IsEnd, Status, ends_by, summed_text}
 use Rattle.engine.proofs.Summed.{made_ended, made_lacking}
 use Rattle.engine.proofs.making.put_summary.Goals as goal
 

@@ -1,6 +1,4 @@
-use Rattle.std.proofs.Common.{rules}
-use Rattle.std.proofs.lemmas.Result.{err_from_is_err_and}
-use Rattle.zone_pairs.specs.Zones.{AreZonesOf}
+use Rattle.engine.proofs.Common.{rules, err_from_is_err_and, AreZonesOf}
 use Rattle.engine.proofs.Readings.{none_zoned, of_known, unread_zones, zones_fit, zones_lack_memory, zones_were_read}
 use Rattle.engine.proofs.reading.read_zones_of.Goals as goal
 

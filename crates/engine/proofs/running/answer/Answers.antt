@@ -1,9 +1,7 @@
-use Rattle.std.proofs.Common.{◌≡◌, ◌∙◌, ℕ, List, map, Err, Option, Some, None, ap, sym, subst}
+use Rattle.engine.proofs.Common.{◌≡◌, ◌∙◌, ℕ, List, map, Err, Option, Some, None, ap, sym, subst, Command, asked_in, Check, Make, ReadsNothing, Run, Write}
+use Rattle.engine.proofs.Common.{asked_of, check_of, command_of, wanting_not_ok}
 use Rattle.engine.specs.declared.asked.Command.{Command as CommandBy}
-use Rattle.engine.specs.Cases.{Command, asked_in, Check, Make, ReadsNothing, Run, Write}
-use Rattle.engine.specs.Commands.{asked_of, check_of, command_of}
 use Rattle.engine.proofs.Ends.{asked_by, asked_none, ends_usage, ends_made, ends_without_words, no_words}
-use Rattle.listing_run.proofs.Stopping.{wanting_not_ok}
 use Rattle.engine.proofs.Beside.{not_ok, viewless, viewless_check, viewless_make, viewless_write, views_by, without_views}
 use Rattle.engine.proofs.Naming.{check_named, run_named, write_named}
 use Rattle.engine.proofs.running.answer.Goals as goal

@@ -1,8 +1,4 @@
-use Rattle.std.proofs.Common.{List, ℕ, subst}
-use Rattle.outside.specs.Counts.{Rose}
-use Rattle.outside.specs.Puts.{Put}
-use Rattle.engine.specs.Commands.{asked_of}
-use Rattle.engine.specs.Parts.{AnswersBeside}
+use Rattle.engine.proofs.Common.{List, ℕ, subst, Rose, Put, asked_of, AnswersBeside}
 use Rattle.engine.proofs.Beside.{not_ok, reading_not_ok}
 use Rattle.engine.proofs.Ends.{ends_reading}
 use Rattle.engine.proofs.Readings.{of_known}

@@ -1,6 +1,4 @@
-use Rattle.std.proofs.Common.{Ok}
-use Rattle.engine.specs.Cases.{task_of}
-use Rattle.engine.specs.Commands.{asked_of}
+use Rattle.engine.proofs.Common.{Ok, task_of, asked_of}
 use Rattle.engine.proofs.Beside.{not_ok, of_listing, reading_not_ok}
 use Rattle.engine.proofs.Ends.{ends_listing, ends_unzoned, zones_case}
 use Rattle.engine.proofs.running.list_model.Goals as goal

@@ -1,8 +1,6 @@
-use Rattle.std.proofs.Common.{◌≡◌, ℕ, subst, sym, ◌∙◌}
+use Rattle.engine.proofs.Common.{◌≡◌, ℕ, subst, sym, ◌∙◌, code_of, IsStopNumber}
 use Rattle.std.specs.Process.{exit_status}
-use Rattle.run_puts.specs.Statuses.{code_of}
 use Rattle.engine.proofs.Numbers.{ok_from_zero, stop_number}
-use Rattle.engine.specs.Serving.{IsStopNumber}
 use Rattle.engine.proofs.serving.serve.Goals as goal
 
 pub returns-clause-serves : goal.returns-clause-serves

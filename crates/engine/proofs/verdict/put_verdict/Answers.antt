@@ -1,8 +1,4 @@
-use Rattle.std.proofs.Common.{subst}
-use Rattle.run_puts.specs.Ends.{IsEnd}
-use Rattle.run_puts.specs.declared.status.Status.{Status}
-use Rattle.listing_run.proofs.Lines.{ends_by}
-use Rattle.engine.specs.Checked.{verdict_line}
+use Rattle.engine.proofs.Common.{subst, IsEnd, Status, ends_by, verdict_line}
 use Rattle.engine.proofs.verdict.put_verdict.Goals as goal
 
 pub returns : goal.returns

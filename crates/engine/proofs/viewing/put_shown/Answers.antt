@@ -1,5 +1,4 @@
-use Rattle.std.proofs.Common.{◌≡◌, ◌∙◌, ℕ, refl, subst, sym}
-use Rattle.engine.specs.Watched.{Shows}
+use Rattle.engine.proofs.Common.{◌≡◌, ◌∙◌, ℕ, refl, subst, sym, Shows}
 use Rattle.engine.proofs.Mapped.{all_settled, reached_first}
 use Rattle.engine.proofs.viewing.put_shown.Goals as goal
 

@@ -1,6 +1,4 @@
-use Rattle.std.proofs.Common.{◌≡◌, ◌∙◌, ap, sym, Some}
-use Rattle.outside.specs.Counts.{Rose}
-use Rattle.listing_run.proofs.Stopping.{beside_by}
+use Rattle.engine.proofs.Common.{◌≡◌, ◌∙◌, ap, sym, Some, Rose, beside_by}
 use Rattle.engine.proofs.SideViews.{puts_of_side, same_sink, side_failed, views_of_all}
 use Rattle.engine.proofs.viewing.put_texts.Goals as goal
 

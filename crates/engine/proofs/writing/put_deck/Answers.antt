@@ -1,10 +1,5 @@
-use Rattle.std.proofs.Common.{refl}
-use Rattle.model_text.specs.Decks.{deck_text}
-use Rattle.run_puts.specs.Runs.{NeverCut}
+use Rattle.engine.proofs.Common.{refl, deck_text, NeverCut, lone, ends_by, IsDeck}
 use Rattle.run_puts.specs.declared.status.Status.TheVariants as status
-use Rattle.run_puts.proofs.Pieces.{lone}
-use Rattle.listing_run.proofs.Lines.{ends_by}
-use Rattle.engine.specs.Decks.{IsDeck}
 use Rattle.engine.proofs.writing.put_deck.Goals as goal
 
 pub returns : goal.returns

@@ -1,5 +1,4 @@
-use Rattle.std.proofs.Common.{◌≡◌, true, rules}
-use Rattle.model_types.specs.Layers.{int_at, is_nonzero}
+use Rattle.evt_package.proofs.Common.{◌≡◌, true, rules, int_at, is_nonzero}
 use Rattle.evt_package.proofs.ColumnLemmas.{is_found}
 use Rattle.evt_package.proofs.chosen.highest_active.Goals as goal
 

@@ -1,5 +1,4 @@
-use Rattle.std.proofs.Common.{◌≡◌, ◌-◌}
-use Rattle.evt_package.specs.Columns.{highest_active}
+use Rattle.evt_package.proofs.Common.{◌≡◌, ◌-◌, highest_active}
 use Rattle.evt_package.proofs.chosen.highest_active.Given as goal
 
 abbrev pub invariant-loop-layer : goal.invariant-loop-layer

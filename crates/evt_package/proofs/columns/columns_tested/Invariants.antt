@@ -1,6 +1,4 @@
-use Rattle.std.proofs.Common.{◌≡◌, ◌-◌}
-use Rattle.record_lines.specs.Reading.{counted}
-use Rattle.evt_package.specs.Columns.{column_step}
+use Rattle.evt_package.proofs.Common.{◌≡◌, ◌-◌, counted, column_step}
 use Rattle.evt_package.proofs.columns.columns_tested.Given as goal
 
 abbrev pub invariant-loop-column : goal.invariant-loop-column

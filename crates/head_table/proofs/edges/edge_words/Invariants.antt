@@ -1,5 +1,4 @@
-use Rattle.std.proofs.Common.{◌≡◌, ◌<◌, ℕ, length}
-use Rattle.step_problem.specs.Heads.{head_at, lower_at, upper_at}
+use Rattle.head_table.proofs.Common.{◌≡◌, ◌<◌, ℕ, length, head_at, lower_at, upper_at}
 use Rattle.head_table.proofs.edges.edge_words.Given as goal
 
 abbrev pub invariant-loop-cell : goal.invariant-loop-cell

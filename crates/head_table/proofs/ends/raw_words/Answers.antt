@@ -1,14 +1,5 @@
-use Rattle.std.proofs.Common.{rules, ◌≡◌, ℕ, ◌+◌, ◌*◌, ◌<◌, List, [], ◌∷◌, ◌++◌, length, get_or, ℤ, pos, sym, ap, ◌∙◌, subst, arith}
-use Rattle.std.proofs.lemmas.Int.{to_z-of_z}
-use mir.Syntax.{w64}
-use mir.Val.{SFits}
-use Rattle.step_problem.specs.declared.heads.Bound.{Bound}
-use Rattle.step_problem.specs.declared.heads.Side.{Side}
-use Rattle.step_problem.specs.declared.heads.Side.TheVariants.{Low, High}
-use Rattle.step_problem.specs.Conditions.{IsHead}
-use Rattle.step_problem.specs.Heads.{no_bound}
-use Rattle.cell_relax.specs.Words.{head_of, heads_on}
-use Rattle.head_table.specs.Words.{head_of_word, words_on}
+use Rattle.head_table.proofs.Common.{rules, ◌≡◌, ℕ, ◌+◌, ◌*◌, ◌<◌, List, [], ◌∷◌, ◌++◌, length, get_or, ℤ, pos, sym, ap, ◌∙◌, subst, arith, to_z-of_z, w64}
+use Rattle.head_table.proofs.Common.{SFits, Bound, Side, Low, High, IsHead, no_bound, head_of, heads_on, head_of_word, words_on}
 use Rattle.head_table.proofs.Rows.{any_default, place_of, row_more}
 use Rattle.head_table.proofs.ends.raw_words.Goals as goal
 

@@ -1,7 +1,4 @@
-use Rattle.std.proofs.Common.{◌≡◌, ℕ, ◌+◌, ◌*◌, ◌<◌, vec_len}
-use Rattle.step_problem.specs.declared.heads.Side.{Side}
-use Rattle.cell_relax.specs.Words.{heads_on}
-use Rattle.head_table.specs.Words.{words_on}
+use Rattle.head_table.proofs.Common.{◌≡◌, ℕ, ◌+◌, ◌*◌, ◌<◌, vec_len, Side, heads_on, words_on}
 use Rattle.head_table.proofs.ends.raw_words.Given as goal
 
 abbrev pub invariant-loop-word : goal.invariant-loop-word

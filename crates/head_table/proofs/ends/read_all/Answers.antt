@@ -1,14 +1,5 @@
-use Rattle.std.proofs.Common.{rules, ◌≡◌, ℕ, ◌+◌, ◌*◌, List, length, sym, ap, ◌∙◌, subst, arith}
-use Rattle.std.proofs.lemmas.Int.{to_z-of_z}
-use mir.Syntax.{w64}
-use mir.Val.{SFits, to_z, of_z}
-use Rattle.std.specs.Mem.Slots.{slots_items}
-use Rattle.step_problem.specs.declared.heads.Bound.{Bound}
-use Rattle.step_problem.specs.declared.heads.Side.{Side}
-use Rattle.step_problem.specs.declared.heads.Side.TheVariants.{Low, High}
-use Rattle.step_problem.specs.Conditions.{IsHead}
-use Rattle.cell_relax.specs.Words.{head_of, heads_on}
-use Rattle.head_table.specs.Words.{head_of_word, words_on}
+use Rattle.head_table.proofs.Common.{rules, ◌≡◌, ℕ, ◌+◌, ◌*◌, List, length, sym, ap, ◌∙◌, subst, arith, to_z-of_z, w64, SFits, to_z, of_z, slots_items, Bound}
+use Rattle.head_table.proofs.Common.{Side, Low, High, IsHead, head_of, heads_on, head_of_word, words_on}
 use Rattle.head_table.proofs.Rows.{at_get, row_next}
 use Rattle.head_table.proofs.ends.read_all.Goals as goal
 

@@ -1,8 +1,4 @@
-use Rattle.std.proofs.Common.{◌≡◌, ℕ, ◌<◌, vec_len}
-use Rattle.std.specs.Mem.Slots.{slots_items}
-use Rattle.step_problem.specs.declared.heads.Side.{Side}
-use Rattle.cell_relax.specs.Words.{heads_on}
-use Rattle.head_table.specs.Words.{words_on}
+use Rattle.head_table.proofs.Common.{◌≡◌, ℕ, ◌<◌, vec_len, slots_items, Side, heads_on, words_on}
 use Rattle.head_table.proofs.ends.read_all.Given as goal
 
 abbrev pub invariant-loop-cell : goal.invariant-loop-cell

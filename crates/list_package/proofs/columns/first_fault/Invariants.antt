@@ -1,5 +1,4 @@
-use Rattle.std.proofs.Common.{◌≡◌, drop}
-use Rattle.list_package.specs.Kinds.{first_fault}
+use Rattle.list_package.proofs.Common.{◌≡◌, drop, first_fault}
 use Rattle.list_package.proofs.columns.first_fault.Given as goal
 
 abbrev pub invariant-loop-k : goal.invariant-loop-k

@@ -1,8 +1,4 @@
-use Rattle.std.proofs.Common.{arith}
-use Rattle.std.proofs.lemmas.Result.{err_from_is_err_and}
-use Rattle.decimal_input.specs.Canonical.{IsDec}
-use Rattle.record_lines.proofs.Loops.{goes_on, ends_text, is_done}
-use Rattle.array_reader.proofs.ListLemmas.{all_pushed}
+use Rattle.list_package.proofs.Common.{arith, err_from_is_err_and, IsDec, goes_on, ends_text, is_done, all_pushed}
 use Rattle.list_package.proofs.columns.read_numbers.Goals as goal
 
 pub returns-in_err-x-clause-numbers : goal.returns-in_err-x-clause-numbers

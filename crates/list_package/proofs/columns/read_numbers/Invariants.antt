@@ -1,7 +1,4 @@
-use Rattle.std.proofs.Common.{◌≡◌, ◌-◌, All, length}
-use Rattle.decimal_input.specs.Canonical.{IsDec}
-use Rattle.record_lines.specs.Reading.{repeated}
-use Rattle.record_lines.proofs.Loops.{with_front}
+use Rattle.list_package.proofs.Common.{◌≡◌, ◌-◌, All, length, IsDec, repeated, with_front}
 use Rattle.array_reader.specs.Items.{number_at}
 use Rattle.array_reader.specs.Numbers.{number}
 use Rattle.list_package.proofs.columns.read_numbers.Given as goal

@@ -1,8 +1,4 @@
-use Rattle.std.proofs.Common.{arith}
-use Rattle.std.proofs.lemmas.Result.{err_from_is_err_and}
-use Rattle.record_lines.proofs.Loops.{goes_on, ends_text, is_done}
-use Rattle.array_reader.proofs.ListLemmas.{all_pushed}
-use Rattle.model_types.specs.Cells.{cell_count}
+use Rattle.list_package.proofs.Common.{arith, err_from_is_err_and, goes_on, ends_text, is_done, all_pushed, cell_count}
 use Rattle.list_package.proofs.MarkLemmas.{one_more_marked}
 use Rattle.list_package.proofs.entry.entries.Goals as goal
 

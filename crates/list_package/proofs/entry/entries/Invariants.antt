@@ -1,9 +1,4 @@
-use Rattle.std.proofs.Common.{◌≡◌, ◌-◌, true, All, length}
-use Rattle.record_lines.specs.Reading.{repeated}
-use Rattle.record_lines.proofs.Loops.{with_front}
-use Rattle.model_types.specs.Cells.{cell_count}
-use Rattle.list_package.specs.Entries.{entry_at}
-use Rattle.list_package.specs.Forms.{AreMarked}
+use Rattle.list_package.proofs.Common.{◌≡◌, ◌-◌, true, All, length, repeated, with_front, cell_count, entry_at, AreMarked}
 use Rattle.list_package.proofs.entry.entries.Given as goal
 
 abbrev pub invariant-loop : goal.invariant-loop

@@ -1,11 +1,5 @@
-use Rattle.std.proofs.Common.{◌∙◌, sym}
-use Rattle.std.specs.Vec.Iter.{into_iter_items}
-use Rattle.std.proofs.lemmas.Result.{err_from_is_err_and}
+use Rattle.list_package.proofs.Common.{◌∙◌, sym, into_iter_items, err_from_is_err_and, all_pushed, cell_count, IsList, without}
 use Rattle.record_lines.proofs.Each.{no_items, each_goes_on, each_ends, each_done}
-use Rattle.array_reader.proofs.ListLemmas.{all_pushed}
-use Rattle.model_types.specs.Cells.{cell_count}
-use Rattle.list_package.specs.Forms.{IsList}
-use Rattle.list_package.specs.Kinds.{without}
 use Rattle.list_package.proofs.PeriodLemmas.{one_more_same, all_same}
 use Rattle.list_package.proofs.lists.with_lists.Goals as goal
 

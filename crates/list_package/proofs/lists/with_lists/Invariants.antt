@@ -1,10 +1,4 @@
-use Rattle.std.proofs.Common.{◌≡◌, ◌++◌, map, All, IfSome}
-use Rattle.std.specs.Vec.Iter.{into_iter_items}
-use Rattle.record_lines.specs.Reading.{for_each}
-use Rattle.record_lines.proofs.Loops.{with_front}
-use Rattle.model_types.specs.Cells.{cell_count}
-use Rattle.list_package.specs.Forms.{IsList}
-use Rattle.list_package.specs.Kinds.{without}
+use Rattle.list_package.proofs.Common.{◌≡◌, ◌++◌, map, All, IfSome, into_iter_items, for_each, with_front, cell_count, IsList, without}
 use Rattle.list_package.specs.Lists.{period_at}
 use Rattle.list_package.proofs.lists.with_lists.Given as goal
 

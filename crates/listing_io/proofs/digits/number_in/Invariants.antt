@@ -1,5 +1,4 @@
-use Rattle.std.proofs.Common.{◌≡◌, ◌<◌, ◌^◌, drop}
-use Rattle.listing_io.specs.Numbers.{digits_behind}
+use Rattle.listing_io.proofs.Common.{◌≡◌, ◌<◌, ◌^◌, drop, digits_behind}
 use Rattle.listing_io.proofs.digits.number_in.Given as goal
 
 abbrev pub invariant-loop-byte : goal.invariant-loop-byte

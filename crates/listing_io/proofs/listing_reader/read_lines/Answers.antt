@@ -1,10 +1,5 @@
-use Rattle.std.proofs.Common.{◌∙◌, ◌≤◌, ℕ, List, length, sym, subst}
+use Rattle.listing_io.proofs.Common.{◌∙◌, ◌≤◌, ℕ, List, length, sym, subst, err_from_is_err_and, TimeStep, ZonePair, pairs_in, zones_of}
 use Rattle.std.specs.Prelude.{All}
-use Rattle.std.proofs.lemmas.Result.{err_from_is_err_and}
-use Rattle.model_types.specs.declared.time_steps.TimeStep.{TimeStep}
-use Rattle.zone_pairs.specs.declared.pair.ZonePair.{ZonePair}
-use Rattle.zone_pairs.specs.Pairs.{pairs_in}
-use Rattle.zone_pairs.specs.Periods.{zones_of}
 use Rattle.listing_io.proofs.Periods.{times_within}
 use Rattle.listing_io.proofs.Rows.{all_read, end_stops, over_stops, steps_stop}
 use Rattle.listing_io.proofs.listing_reader.read_lines.Goals as goal

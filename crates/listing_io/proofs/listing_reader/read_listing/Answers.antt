@@ -1,5 +1,4 @@
-use Rattle.std.proofs.Common.{option_map}
-use Rattle.zone_pairs.specs.Pairs.{pairs_in}
+use Rattle.listing_io.proofs.Common.{option_map, pairs_in}
 use Rattle.listing_io.proofs.Kept.{listed_is}
 use Rattle.listing_io.proofs.listing_reader.read_listing.Goals as goal
 

@@ -1,13 +1,5 @@
-use Rattle.std.proofs.Common.{◌≡◌, ◌+◌, ℕ, List, Option, Result, subst, ◌∙◌, drop, get_or, arith}
-use Rattle.std.proofs.lemmas.List.{drop_all}
-use Rattle.std.proofs.lemmas.Result.{err_from_is_err_and}
-use Rattle.record_lines.proofs.Each.{each_goes_on, each_done}
-use Rattle.model_types.specs.declared.model.FlowModel.{FlowModel}
-use Rattle.model_types.specs.declared.time_steps.TimeStep.{TimeStep}
-use Rattle.zone_pairs.specs.Pairs.{pairs_in}
-use Rattle.zone_pairs.specs.Periods.{zones_of}
-use Rattle.listing_io.specs.declared.listing.ListedStep.{ListedStep}
-use Rattle.listing_io.specs.Reading.{Left, Stops, step_at}
+use Rattle.listing_io.proofs.Common.{◌≡◌, ◌+◌, ℕ, List, Option, Result, subst, ◌∙◌, drop, get_or, arith, drop_all, err_from_is_err_and, each_goes_on, each_done}
+use Rattle.listing_io.proofs.Common.{FlowModel, TimeStep, pairs_in, zones_of, ListedStep, Left, Stops, step_at}
 use Rattle.listing_io.proofs.Walks.{each_stops, next_of}
 use Rattle.listing_io.proofs.listing_reader.read_steps.Goals as goal
 

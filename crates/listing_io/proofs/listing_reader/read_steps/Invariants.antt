@@ -1,9 +1,4 @@
-use Rattle.std.proofs.Common.{◌≡◌, drop}
-use Rattle.record_lines.specs.Reading.{for_each}
-use Rattle.record_lines.proofs.Loops.{with_front}
-use Rattle.zone_pairs.specs.Pairs.{pairs_in}
-use Rattle.zone_pairs.specs.Periods.{ArePairs, zones_of}
-use Rattle.listing_io.specs.Reading.{step_at}
+use Rattle.listing_io.proofs.Common.{◌≡◌, drop, for_each, with_front, pairs_in, ArePairs, zones_of, step_at}
 use Rattle.listing_io.proofs.listing_reader.read_steps.Given as goal
 
 abbrev pub invariant-loop-at : goal.invariant-loop-at

@@ -1,6 +1,4 @@
-use Rattle.std.proofs.Common.{ℕ, List, Option, subst}
-use Rattle.zone_pairs.specs.Pairs.{pairs_in}
-use Rattle.listing_io.specs.Reading.{Has, listing_at}
+use Rattle.listing_io.proofs.Common.{ℕ, List, Option, subst, pairs_in, Has, listing_at}
 use Rattle.listing_io.proofs.listing_reader.read_zoned.Goals as goal
 
 pub returns : goal.returns

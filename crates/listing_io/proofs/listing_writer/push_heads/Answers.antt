@@ -1,5 +1,4 @@
-use Rattle.std.proofs.Common.{◌<◌, arith, length}
-use Rattle.step_problem.specs.Heads.{no_bound}
+use Rattle.listing_io.proofs.Common.{◌<◌, arith, length, no_bound}
 use Rattle.listing_io.proofs.Walks.{cell_written, cells_written}
 use Rattle.listing_io.proofs.listing_writer.push_heads.Goals as goal
 

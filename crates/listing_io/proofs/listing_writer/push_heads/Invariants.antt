@@ -1,5 +1,4 @@
-use Rattle.std.proofs.Common.{◌≡◌, ◌++◌, drop}
-use Rattle.listing_io.specs.Listing.{head_lines, text_of}
+use Rattle.listing_io.proofs.Common.{◌≡◌, ◌++◌, drop, head_lines, text_of}
 use Rattle.listing_io.proofs.listing_writer.push_heads.Given as goal
 
 abbrev pub invariant-loop-cell : goal.invariant-loop-cell

@@ -1,9 +1,6 @@
-use Rattle.std.proofs.Common.{rules, ◌≡◌, ◌++◌, ◌∙◌, ap, cond, List, [], ◌∷◌, slice_index_or}
-use Rattle.step_problem.specs.declared.place.Term.{Term}
-use Rattle.step_problem.specs.declared.place.Term.TheVariants.{Storage, ConstantHead, Wells, Drains, RiverLeakage, HeadDepBounds, Recharge, Et}
-use Rattle.budget_bounds.specs.Terms.{no_pair}
+use Rattle.listing_io.proofs.Common.{rules, ◌≡◌, ◌++◌, ◌∙◌, ap, cond, List, [], ◌∷◌, slice_index_or, Term, Storage, ConstantHead, Wells, Drains, RiverLeakage}
+use Rattle.listing_io.proofs.Common.{HeadDepBounds, Recharge, Et, no_pair, Line, ended, term_line, text_of}
 use Rattle.budget_bounds.specs.Singles.{place_of}
-use Rattle.listing_io.specs.Listing.{Line, ended, term_line, text_of}
 use Rattle.listing_io.proofs.Joined.{seven_joined, line_if}
 use Rattle.listing_io.proofs.listing_writer.push_terms.Goals as goal
 

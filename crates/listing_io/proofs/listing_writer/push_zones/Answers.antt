@@ -1,5 +1,4 @@
-use Rattle.std.proofs.Common.{arith}
-use Rattle.listing_io.specs.Listing.{zone_line}
+use Rattle.listing_io.proofs.Common.{arith, zone_line}
 use Rattle.listing_io.proofs.Walks.{row_written, rows_written}
 use Rattle.listing_io.proofs.listing_writer.push_zones.Goals as goal
 

@@ -1,5 +1,4 @@
-use Rattle.std.proofs.Common.{◌≡◌, ◌++◌, drop, map}
-use Rattle.listing_io.specs.Listing.{text_of, zone_line}
+use Rattle.listing_io.proofs.Common.{◌≡◌, ◌++◌, drop, map, text_of, zone_line}
 use Rattle.listing_io.proofs.listing_writer.push_zones.Given as goal
 
 abbrev pub invariant-loop-zone : goal.invariant-loop-zone

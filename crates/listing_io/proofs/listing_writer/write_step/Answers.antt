@@ -1,6 +1,5 @@
-use Rattle.std.proofs.Common.{rules, ◌≡◌, ◌++◌, ◌∙◌, [], map}
-use Rattle.step_problem.specs.declared.place.Dir.TheVariants.{In, Out}
-use Rattle.listing_io.specs.Listing.{ended, head_lines, step_line, step_text, step_lines, term_lines, text_of, zone_line}
+use Rattle.listing_io.proofs.Common.{rules, ◌≡◌, ◌++◌, ◌∙◌, [], map, In, Out, ended, head_lines, step_line, step_text, step_lines, term_lines, text_of}
+use Rattle.listing_io.proofs.Common.{zone_line}
 use Rattle.listing_io.proofs.Joined.{step_joined}
 use Rattle.listing_io.proofs.listing_writer.write_step.Goals as goal
 

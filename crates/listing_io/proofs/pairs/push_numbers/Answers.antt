@@ -1,6 +1,4 @@
-use Rattle.std.proofs.Common.{rules, ◌≡◌, ◌++◌, ◌∙◌, codes, List, ℕ}
-use Rattle.std.proofs.lemmas.List.{append_assoc}
-use Rattle.fixed_text.specs.Fixed.{fixed_text}
+use Rattle.listing_io.proofs.Common.{rules, ◌≡◌, ◌++◌, ◌∙◌, codes, List, ℕ, append_assoc, fixed_text}
 use Rattle.listing_io.proofs.pairs.push_numbers.Goals as goal
 
 joined : (t a b c d : List ℕ) → t ++ a ++ b ++ c ++ d ≡ t ++ (a ++ (b ++ (c ++ d)))

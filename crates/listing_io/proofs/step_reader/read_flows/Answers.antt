@@ -1,9 +1,4 @@
-use Rattle.std.proofs.Common.{◌+◌, drop, get_or, arith}
-use Rattle.std.proofs.lemmas.List.{drop_all}
-use Rattle.std.proofs.lemmas.Result.{err_from_is_err_and}
-use Rattle.record_lines.proofs.Each.{each_goes_on, each_done}
-use Rattle.zone_pairs.specs.declared.pair.ZonePair.{ZonePair}
-use Rattle.listing_io.specs.Reading.{flow_at}
+use Rattle.listing_io.proofs.Common.{◌+◌, drop, get_or, arith, drop_all, err_from_is_err_and, each_goes_on, each_done, ZonePair, flow_at}
 use Rattle.listing_io.proofs.Walks.{each_stops, next_of}
 use Rattle.listing_io.proofs.step_reader.read_flows.Goals as goal
 

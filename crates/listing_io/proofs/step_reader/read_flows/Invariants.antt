@@ -1,7 +1,4 @@
-use Rattle.std.proofs.Common.{◌≡◌, drop}
-use Rattle.record_lines.specs.Reading.{for_each}
-use Rattle.record_lines.proofs.Loops.{with_front}
-use Rattle.listing_io.specs.Reading.{flow_at}
+use Rattle.listing_io.proofs.Common.{◌≡◌, drop, for_each, with_front, flow_at}
 use Rattle.listing_io.proofs.step_reader.read_flows.Given as goal
 
 abbrev pub invariant-loop-pair : goal.invariant-loop-pair

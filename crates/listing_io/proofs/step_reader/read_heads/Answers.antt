@@ -1,6 +1,4 @@
-use Rattle.std.proofs.Common.{◌<◌, ◌≤◌, arith}
-use Rattle.std.proofs.lemmas.Result.{err_from_is_err_and}
-use Rattle.model_types.specs.Cells.{cell_count}
+use Rattle.listing_io.proofs.Common.{◌<◌, ◌≤◌, arith, err_from_is_err_and, cell_count}
 use Rattle.listing_io.proofs.Walks.{heads_go_on, heads_end, heads_done}
 use Rattle.listing_io.proofs.step_reader.read_heads.Goals as goal
 

@@ -1,7 +1,4 @@
-use Rattle.std.proofs.Common.{◌≡◌, ◌-◌}
-use Rattle.record_lines.proofs.Loops.{with_front}
-use Rattle.model_types.specs.Cells.{cell_count}
-use Rattle.listing_io.specs.Reading.{heads_at}
+use Rattle.listing_io.proofs.Common.{◌≡◌, ◌-◌, with_front, cell_count, heads_at}
 use Rattle.listing_io.proofs.step_reader.read_heads.Given as goal
 
 abbrev pub invariant-loop-cell : goal.invariant-loop-cell

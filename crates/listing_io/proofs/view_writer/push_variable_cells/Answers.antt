@@ -1,5 +1,4 @@
-use Rattle.std.proofs.Common.{◌<◌, arith, length}
-use Rattle.step_problem.specs.Heads.{no_bound}
+use Rattle.listing_io.proofs.Common.{◌<◌, arith, length, no_bound}
 use Rattle.listing_io.proofs.Walks.{variable_written, variables_written}
 use Rattle.listing_io.proofs.view_writer.push_variable_cells.Goals as goal
 

@@ -1,6 +1,4 @@
-use Rattle.std.proofs.Common.{◌≡◌, ◌++◌, drop}
-use Rattle.listing_io.specs.Listing.{text_of}
-use Rattle.listing_io.specs.Views.{variable_lines}
+use Rattle.listing_io.proofs.Common.{◌≡◌, ◌++◌, drop, text_of, variable_lines}
 use Rattle.listing_io.proofs.view_writer.push_variable_cells.Given as goal
 
 abbrev pub invariant-loop-cell : goal.invariant-loop-cell

@@ -1,9 +1,5 @@
-use Rattle.std.proofs.Common.{List, [], refl, subst, sym}
-use Rattle.std.proofs.lemmas.List.{append-nil}
-use Rattle.outside.specs.Puts.{Put}
-use Rattle.outside.specs.declared.traits.SinkError.{SinkError}
+use Rattle.listing_run.proofs.Common.{List, [], refl, subst, sym, append-nil, Put, SinkError, IsStopEnd}
 use Rattle.run_puts.specs.declared.status.Status.TheVariants.{WriteFault}
-use Rattle.listing_run.specs.Ends.{IsStopEnd}
 use Rattle.listing_run.proofs.putting.end_stopped.Goals as goal
 
 pub returns-in-Write : goal.returns-in-Write

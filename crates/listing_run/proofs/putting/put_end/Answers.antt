@@ -1,7 +1,4 @@
-use Rattle.std.proofs.Common.{subst}
-use Rattle.run_puts.specs.Ends.{IsEnd}
-use Rattle.run_puts.specs.declared.status.Status.{Status}
-use Rattle.listing_run.specs.Listing.{last_line}
+use Rattle.listing_run.proofs.Common.{subst, IsEnd, Status, last_line}
 use Rattle.listing_run.proofs.Lines.{ends_by}
 use Rattle.listing_run.proofs.putting.put_end.Goals as goal
 

@@ -1,13 +1,7 @@
-use Rattle.std.proofs.Common.{rules, ◌≡◌, ◌+◌, ◌∷◌, [], ◌++◌, drop, List, Some, None, inl, inr, refl, subst, sym, ◌∙◌, ap}
-use Rattle.std.proofs.lemmas.List.{append-nil}
-use Rattle.outside.specs.Puts.{Put, taken}
+use Rattle.listing_run.proofs.Common.{rules, ◌≡◌, ◌+◌, ◌∷◌, [], ◌++◌, drop, List, Some, None, inl, inr, refl, subst, sym, ◌∙◌, ap, append-nil, Put, taken}
+use Rattle.listing_run.proofs.Common.{TimeStep, joined, joined_thrice, put_was, lacks_at_first, IsListingBeside, IsCutListing, EndsAt, IsNextText, times_left}
 use Rattle.outside.specs.declared.traits.SinkError.TheVariants.{Write}
-use Rattle.model_types.specs.declared.time_steps.TimeStep.{TimeStep}
-use Rattle.run_puts.proofs.Pieces.{joined, joined_thrice, put_was, lacks_at_first}
 use Rattle.listing_run.specs.declared.listing_end.ListingEnd.TheVariants.{Whole}
-use Rattle.listing_run.specs.Listing.{IsListingBeside, IsCutListing}
-use Rattle.listing_run.specs.Steps.{EndsAt}
-use Rattle.listing_run.specs.Ends.{IsNextText, times_left}
 use Rattle.listing_run.proofs.Pieces.{ends_at_piece, ends_wanting, ends_with_line, under_way_at_first, under_way_more}
 use Rattle.listing_run.proofs.Settled.{all_settled, none_settled, one_more_settled, reaches_more, reaches_so_far}
 use Rattle.listing_run.proofs.Stopping.{beside, end_not_ok, ends_stopped, put_not_ok, stop_end_not_ok, wanting_not_ok}

@@ -1,6 +1,4 @@
-use Rattle.std.proofs.Common.{◌≡◌, List, ◌++◌, None, length}
-use Rattle.outside.specs.Puts.{Put}
-use Rattle.listing_run.specs.Ends.{IsWalk, times_left}
+use Rattle.listing_run.proofs.Common.{◌≡◌, List, ◌++◌, None, length, Put, IsWalk, times_left}
 use Rattle.listing_run.proofs.Pieces.{IsUnderWay}
 use Rattle.listing_run.proofs.Settled.{AreSettledSoFar}
 use Rattle.listing_run.proofs.putting.put_steps.Given as goal

@@ -1,9 +1,4 @@
-use Rattle.std.proofs.Common.{rules, ◌≡◌, ◌∙◌, ◌++◌, ap}
-use Rattle.run_puts.specs.Lines.{Text}
-use Rattle.run_puts.specs.declared.status.Status.{Status}
-use Rattle.listing_run.specs.Listing.{last_line, status_of}
-use Rattle.listing_run.specs.Steps.{EndsAt}
-use Rattle.listing_run.specs.Ends.{IsNextText, times_left}
+use Rattle.listing_run.proofs.Common.{rules, ◌≡◌, ◌∙◌, ◌++◌, ap, Text, Status, last_line, status_of, EndsAt, IsNextText, times_left}
 use Rattle.listing_run.proofs.Pieces.{if_ok_both, text_at_first, text_ended, text_more}
 use Rattle.listing_run.proofs.text.push_listing.Goals as goal
 

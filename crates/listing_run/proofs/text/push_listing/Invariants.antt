@@ -1,5 +1,4 @@
-use Rattle.std.proofs.Common.{◌≡◌, length}
-use Rattle.listing_run.specs.Ends.{IsWalk, times_left}
+use Rattle.listing_run.proofs.Common.{◌≡◌, length, IsWalk, times_left}
 use Rattle.listing_run.proofs.Pieces.{IsText}
 use Rattle.listing_run.proofs.text.push_listing.Given as goal
 

@@ -1,5 +1,4 @@
-use Rattle.std.proofs.Common.{rules, ◌≡◌, length}
-use Rattle.model_types.specs.Cells.{cell_count}
+use Rattle.listing_run.proofs.Common.{rules, ◌≡◌, length, cell_count}
 use Rattle.listing_run.proofs.Zoned.{ids_within, sources_within}
 use Rattle.listing_run.proofs.zoning.flows_of.Goals as goal
 

@@ -1,11 +1,6 @@
-use Rattle.std.proofs.Common.{rules, ◌≡◌, ◌∙◌, ap, arith, subst, sym, List, All, length}
-use Rattle.step_problem.specs.declared.heads.Bound.{Bound}
-use Rattle.step_problem.specs.Conditions.{IsHead}
+use Rattle.listing_summary.proofs.Common.{rules, ◌≡◌, ◌∙◌, ap, arith, subst, sym, List, All, length, Bound, IsHead, times_left, with_heads, EndsAt, Summary}
+use Rattle.listing_summary.proofs.Common.{stepped}
 use Rattle.model_types.specs.Cells.{cell_count}
-use Rattle.listing_run.specs.Ends.{times_left, with_heads}
-use Rattle.listing_run.specs.Steps.{EndsAt}
-use Rattle.listing_summary.specs.declared.summary.Summary.{Summary}
-use Rattle.listing_summary.specs.Counting.{stepped}
 use Rattle.listing_summary.proofs.Walks.{all_counted_to_end, none_counted, one_more_counted}
 use Rattle.listing_summary.proofs.walking.summarize.Goals as goal
 

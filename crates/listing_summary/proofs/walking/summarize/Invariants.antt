@@ -1,6 +1,4 @@
-use Rattle.std.proofs.Common.{◌≡◌, ◌*◌, ◌≤◌, length}
-use Rattle.listing_run.specs.Ends.{IsWalk, times_left}
-use Rattle.listing_summary.specs.Counting.{Fits}
+use Rattle.listing_summary.proofs.Common.{◌≡◌, ◌*◌, ◌≤◌, length, IsWalk, times_left, Fits}
 use Rattle.listing_summary.proofs.Walks.{IsCounted}
 use Rattle.listing_summary.proofs.walking.summarize.Given as goal
 

@@ -1,10 +1,7 @@
-use Rattle.std.proofs.Common.{◌≡◌, ℕ, ◌-◌, ◌*◌, [], cond}
+use Rattle.lpf_package.proofs.Common.{◌≡◌, ℕ, ◌-◌, ◌*◌, [], cond, LinesMay, AreLayers, layer_at}
 use Rattle.std.specs.Prelude.{List}
 use Rattle.outside.specs.Files.{File}
-use Rattle.record_lines.specs.Asking.{LinesMay}
 use Rattle.record_lines.specs.Reading.{counted}
-use Rattle.lpf_package.specs.Forms.{AreLayers}
-use Rattle.lpf_package.specs.Layers.{layer_at}
 use Rattle.lpf_package.proofs.layers.layers_of.Given as goal
 
 abbrev pub invariant-loop-k : goal.invariant-loop-k

@@ -1,5 +1,4 @@
-use Rattle.record_lines.proofs.Forward.{begun_held}
-use Rattle.record_lines.specs.Asking.{LinesMay}
+use Rattle.lpf_package.proofs.Common.{begun_held, LinesMay}
 use Rattle.lpf_package.proofs.Forward.{option_leaves, settings_leave}
 use Rattle.lpf_package.proofs.model.contents_of.Goals as goal
 

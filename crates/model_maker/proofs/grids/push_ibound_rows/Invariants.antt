@@ -1,5 +1,4 @@
-use Rattle.std.proofs.Common.{◌≡◌, ◌++◌}
-use Rattle.model_maker.specs.Files.{ibound_row, texts_below}
+use Rattle.model_maker.proofs.Common.{◌≡◌, ◌++◌, ibound_row, texts_below}
 use Rattle.model_maker.proofs.grids.push_ibound_rows.Given as goal
 
 abbrev pub invariant-loop : goal.invariant-loop

@@ -1,5 +1,4 @@
-use Rattle.std.proofs.Common.{◌≡◌, ◌++◌, codes}
-use Rattle.model_maker.specs.Files.{texts_below}
+use Rattle.model_maker.proofs.Common.{◌≡◌, ◌++◌, codes, texts_below}
 use Rattle.model_maker.proofs.grids.push_ones.Given as goal
 
 abbrev pub invariant-loop : goal.invariant-loop

@@ -1,6 +1,4 @@
-use Rattle.std.proofs.Common.{◌*◌}
-use Rattle.model_maker.specs.Draws.{after}
-use Rattle.model_maker.specs.Files.{hk_row}
+use Rattle.model_maker.proofs.Common.{◌*◌, after, hk_row}
 use Rattle.model_maker.proofs.Texts.{no_rows, no_text, one_row, next_row}
 use Rattle.model_maker.proofs.properties.push_hk_rows.Goals as goal
 

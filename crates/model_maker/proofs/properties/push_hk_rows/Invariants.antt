@@ -1,6 +1,4 @@
-use Rattle.std.proofs.Common.{◌≡◌, ◌<◌, ◌*◌, ◌++◌}
-use Rattle.model_maker.specs.Draws.{after}
-use Rattle.model_maker.specs.Files.{hk_row, texts_below}
+use Rattle.model_maker.proofs.Common.{◌≡◌, ◌<◌, ◌*◌, ◌++◌, after, hk_row, texts_below}
 use Rattle.model_maker.proofs.properties.push_hk_rows.Given as goal
 
 abbrev pub invariant-loop : goal.invariant-loop

@@ -1,6 +1,4 @@
-use Rattle.std.proofs.Common.{◌++◌}
-use Rattle.model_maker.specs.Draws.{after}
-use Rattle.model_maker.specs.Files.{gap, hk_text}
+use Rattle.model_maker.proofs.Common.{◌++◌, after, gap, hk_text}
 use Rattle.model_maker.proofs.Texts.{after_none, no_text, one_value, next_value}
 use Rattle.model_maker.proofs.properties.push_hk_values.Goals as goal
 

@@ -1,6 +1,4 @@
-use Rattle.std.proofs.Common.{◌≡◌, ◌<◌, ◌++◌}
-use Rattle.model_maker.specs.Draws.{after}
-use Rattle.model_maker.specs.Files.{gap, hk_text, texts_below}
+use Rattle.model_maker.proofs.Common.{◌≡◌, ◌<◌, ◌++◌, after, gap, hk_text, texts_below}
 use Rattle.model_maker.proofs.properties.push_hk_values.Given as goal
 
 abbrev pub invariant-loop-place : goal.invariant-loop-place

@@ -1,5 +1,4 @@
-use Rattle.std.proofs.Common.{◌≡◌, ◌++◌}
-use Rattle.model_maker.specs.Files.{reach_text, texts_below}
+use Rattle.model_maker.proofs.Common.{◌≡◌, ◌++◌, reach_text, texts_below}
 use Rattle.model_maker.proofs.stresses.push_reaches.Given as goal
 
 abbrev pub invariant-loop-row : goal.invariant-loop-row

@@ -1,7 +1,6 @@
-use Rattle.std.proofs.Common.{sym}
+use Rattle.model_reader.proofs.Common.{sym, file_named}
 use Rattle.model_reader.specs.Stresses.{lists_of}
 use Rattle.model_reader.proofs.Chains.{named_read}
-use Rattle.name_file.proofs.Forward.{file_named}
 use Rattle.model_reader.proofs.lists.list_in.Goals as goal
 
 pub returns-in_ok-lists_of-in-Some-clause-model : goal.returns-in_ok-lists_of-in-Some-clause-model

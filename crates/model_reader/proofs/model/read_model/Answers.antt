@@ -1,8 +1,5 @@
-use Rattle.std.proofs.lemmas.Result.{err_from_is_err_and}
-use Rattle.std.proofs.Common.{Err}
-use Rattle.model_reader.specs.Model.{model_of}
+use Rattle.model_reader.proofs.Common.{err_from_is_err_and, Err, model_of, file_named, names_still}
 use Rattle.model_reader.proofs.Chains.{both_read, goes_on, stops_here}
-use Rattle.name_file.proofs.Forward.{file_named, names_still}
 use Rattle.model_reader.proofs.model.read_model.Goals as goal
 
 pub returns-in_err-flow-clause-model : goal.returns-in_err-flow-clause-model

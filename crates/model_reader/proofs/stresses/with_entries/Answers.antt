@@ -1,8 +1,5 @@
-use Rattle.std.proofs.lemmas.Result.{err_from_is_err_and}
-use Rattle.std.proofs.Common.{Err}
-use Rattle.model_reader.specs.Stresses.{with_entries}
+use Rattle.model_reader.proofs.Common.{err_from_is_err_and, Err, with_entries, names_still}
 use Rattle.model_reader.proofs.Chains.{both_read, goes_on, stops_here}
-use Rattle.name_file.proofs.Forward.{names_still}
 use Rattle.model_reader.proofs.stresses.with_entries.Goals as goal
 
 pub returns-in_err-with_wells-clause-model : goal.returns-in_err-with_wells-clause-model

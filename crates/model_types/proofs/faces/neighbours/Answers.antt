@@ -1,5 +1,4 @@
-use Rattle.std.proofs.Common.{◌∙◌, ap}
-use Rattle.std.specs.Option.{option_map}
+use Rattle.model_types.proofs.Common.{◌∙◌, ap, option_map}
 use Rattle.model_types.proofs.NeighbourFaces.{end_of, cells_behind}
 use Rattle.model_types.proofs.faces.neighbours.Goals as goal
 

@@ -1,6 +1,4 @@
-use Rattle.std.proofs.Common.{◌≡◌, false, take}
-use Rattle.std.specs.Prelude.{◌==◌}
-use Rattle.std.specs.List.{list_any}
+use Rattle.model_types.proofs.Common.{◌≡◌, false, take, ◌==◌, list_any}
 use Rattle.model_types.proofs.kind.any_names.Given as goal
 
 abbrev pub invariant-loop-p : goal.invariant-loop-p

@@ -1,5 +1,4 @@
-use Rattle.std.proofs.Common.{◌≡◌, ◌++◌, map}
-use Rattle.std.specs.List.{range_with_len}
+use Rattle.model_types.proofs.Common.{◌≡◌, ◌++◌, map, range_with_len}
 use Rattle.model_types.proofs.time_steps.push_steps.Given as goal
 
 abbrev pub invariant-loop-n : goal.invariant-loop-n

@@ -1,6 +1,4 @@
-use Rattle.std.proofs.Common.{◌≡◌}
-use Rattle.std.specs.List.{range_with_len, flat_map}
-use Rattle.model_types.specs.Times.{steps_of}
+use Rattle.model_types.proofs.Common.{◌≡◌, range_with_len, flat_map, steps_of}
 use Rattle.model_types.proofs.time_steps.times.Given as goal
 
 abbrev pub invariant-loop-p : goal.invariant-loop-p

@@ -1,7 +1,4 @@
-use Rattle.std.proofs.Common.{◌≡◌, ◌++◌, take}
-use Rattle.std.specs.List.{flat_map}
-use Rattle.array_text.specs.Lines.{text}
-use Rattle.area_text.specs.Areas.{rch_items}
+use Rattle.model_writer.proofs.Common.{◌≡◌, ◌++◌, take, flat_map, text, rch_items}
 use Rattle.model_writer.proofs.areas.push_recharge_of_periods.Given as goal
 
 abbrev pub invariant-loop-period : goal.invariant-loop-period

@@ -1,7 +1,4 @@
-use Rattle.std.proofs.Common.{◌≡◌, ◌++◌}
-use Rattle.std.specs.List.{flat_map, range_with_len}
-use Rattle.array_text.specs.Arrays.{array_lines}
-use Rattle.array_text.specs.Lines.{text}
+use Rattle.model_writer.proofs.Common.{◌≡◌, ◌++◌, flat_map, range_with_len, array_lines, text}
 use Rattle.package_text.specs.Layers.{layer_values}
 use Rattle.model_writer.proofs.arrays.push_layers.Given as goal
 

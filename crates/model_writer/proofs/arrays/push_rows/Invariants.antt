@@ -1,6 +1,4 @@
-use Rattle.std.proofs.Common.{◌≡◌, ◌-◌, ◌++◌}
-use Rattle.array_text.specs.Arrays.{row_lines}
-use Rattle.array_text.specs.Lines.{text}
+use Rattle.model_writer.proofs.Common.{◌≡◌, ◌-◌, ◌++◌, row_lines, text}
 use Rattle.model_writer.proofs.arrays.push_rows.Given as goal
 
 abbrev pub invariant-loop : goal.invariant-loop

@@ -1,8 +1,4 @@
-use Rattle.std.proofs.Common.{refl}
-use Rattle.name_file.specs.declared.package.Package.TheVariants.{Dis}
-use Rattle.model_text.specs.Names.{packages}
-use Rattle.model_text.specs.Written.{has, package_file}
-use Rattle.model_writer.specs.Names.{names_of}
+use Rattle.model_writer.proofs.Common.{refl, Dis, packages, has, package_file, names_of}
 use Rattle.model_writer.proofs.Files.{files_step}
 use Rattle.model_writer.proofs.deck.write_model.Goals as goal
 

@@ -1,7 +1,4 @@
-use Rattle.std.proofs.Common.{◌≡◌, ◌-◌, [], map, filter, drop}
-use Rattle.model_text.specs.Names.{packages}
-use Rattle.model_text.specs.Written.{has, package_file}
-use Rattle.model_writer.specs.Names.{names_of}
+use Rattle.model_writer.proofs.Common.{◌≡◌, ◌-◌, [], map, filter, drop, packages, has, package_file, names_of}
 use Rattle.model_writer.proofs.deck.write_model.Given as goal
 
 abbrev pub invariant-loop-place : goal.invariant-loop-place

@@ -1,5 +1,4 @@
-use Rattle.model_text.specs.Written.{has, package_file}
-use Rattle.model_writer.specs.Names.{names_of}
+use Rattle.model_writer.proofs.Common.{has, package_file, names_of}
 use Rattle.model_writer.proofs.DeckTexts.{step_kept, step_left}
 use Rattle.model_writer.proofs.deck_text.push_file_if.Goals as goal
 

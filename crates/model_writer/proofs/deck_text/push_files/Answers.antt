@@ -1,7 +1,4 @@
-use Rattle.name_file.specs.declared.package.Package.TheVariants.{Dis}
-use Rattle.model_text.specs.Names.{packages}
-use Rattle.model_text.specs.Written.{has, package_file}
-use Rattle.model_writer.specs.Names.{names_of}
+use Rattle.model_writer.proofs.Common.{Dis, packages, has, package_file, names_of}
 use Rattle.model_writer.proofs.DeckTexts.{start_of_texts, texts_step}
 use Rattle.model_writer.proofs.deck_text.push_files.Goals as goal
 

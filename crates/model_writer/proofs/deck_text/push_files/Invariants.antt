@@ -1,8 +1,4 @@
-use Rattle.std.proofs.Common.{◌≡◌, ◌++◌, map, filter, take}
-use Rattle.model_text.specs.Decks.{file_texts}
-use Rattle.model_text.specs.Names.{packages}
-use Rattle.model_text.specs.Written.{has, package_file}
-use Rattle.model_writer.specs.Names.{names_of}
+use Rattle.model_writer.proofs.Common.{◌≡◌, ◌++◌, map, filter, take, file_texts, packages, has, package_file, names_of}
 use Rattle.model_writer.proofs.deck_text.push_files.Given as goal
 
 abbrev pub invariant-loop-kind : goal.invariant-loop-kind

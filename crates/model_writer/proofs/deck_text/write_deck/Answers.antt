@@ -1,9 +1,4 @@
-use Rattle.std.proofs.Common.{List, ℕ, map, filter, codes}
-use Rattle.array_text.specs.Lines.{text}
-use Rattle.model_text.specs.Decks.{file_line, file_texts}
-use Rattle.model_text.specs.Names.{packages, name_item}
-use Rattle.model_text.specs.Written.{has, package_file}
-use Rattle.model_writer.specs.Names.{names_of}
+use Rattle.model_writer.proofs.Common.{List, ℕ, map, filter, codes, text, file_line, file_texts, packages, name_item, has, package_file, names_of}
 use Rattle.model_writer.proofs.DeckTexts.{deck_of_names, of_parts}
 use Rattle.model_writer.proofs.deck_text.write_deck.Goals as goal
 

@@ -1,7 +1,4 @@
-use Rattle.std.proofs.Common.{◌≡◌, ◌++◌}
-use Rattle.std.specs.List.{flat_map, range_with_len}
-use Rattle.array_text.specs.Lines.{text}
-use Rattle.package_text.specs.Discretization.{dis_item_6}
+use Rattle.model_writer.proofs.Common.{◌≡◌, ◌++◌, flat_map, range_with_len, text, dis_item_6}
 use Rattle.model_writer.proofs.discretization.push_bottoms.Given as goal
 
 abbrev pub invariant-loop-layer : goal.invariant-loop-layer

@@ -1,6 +1,4 @@
-use Rattle.std.proofs.Common.{◌≡◌, ◌++◌, map, take}
-use Rattle.array_text.specs.Lines.{text}
-use Rattle.package_text.specs.Discretization.{dis_item_7}
+use Rattle.model_writer.proofs.Common.{◌≡◌, ◌++◌, map, take, text, dis_item_7}
 use Rattle.model_writer.proofs.discretization.push_times.Given as goal
 
 abbrev pub invariant-loop-period : goal.invariant-loop-period

@@ -1,5 +1,4 @@
-use Rattle.std.proofs.Common.{◌≡◌, ◌++◌, take}
-use Rattle.model_writer.specs.Lines.{spaced}
+use Rattle.model_writer.proofs.Common.{◌≡◌, ◌++◌, take, spaced}
 use Rattle.model_writer.proofs.lines.push_spaced.Given as goal
 
 abbrev pub invariant-loop-value : goal.invariant-loop-value

@@ -1,6 +1,4 @@
-use Rattle.std.proofs.Common.{◌≡◌, ◌++◌, map, take}
-use Rattle.array_text.specs.Lines.{text}
-use Rattle.model_writer.specs.Lists.{entry_line}
+use Rattle.model_writer.proofs.Common.{◌≡◌, ◌++◌, map, take, text, entry_line}
 use Rattle.model_writer.proofs.lists.push_entries.Given as goal
 
 abbrev pub invariant-loop-entry : goal.invariant-loop-entry

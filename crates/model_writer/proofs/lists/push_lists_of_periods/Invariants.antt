@@ -1,7 +1,4 @@
-use Rattle.std.proofs.Common.{◌≡◌, ◌++◌, map, take}
-use Rattle.std.specs.List.{flat_map}
-use Rattle.array_text.specs.Lines.{text}
-use Rattle.stress_text.specs.Lists.{period_list}
+use Rattle.model_writer.proofs.Common.{◌≡◌, ◌++◌, map, take, flat_map, text, period_list}
 use Rattle.model_writer.proofs.lists.push_lists_of_periods.Given as goal
 
 abbrev pub invariant-loop-period : goal.invariant-loop-period

@@ -1,7 +1,4 @@
-use Rattle.name_file.specs.declared.package.Package.TheVariants.{Dis}
-use Rattle.model_text.specs.Names.{name_item, packages}
-use Rattle.model_text.specs.Written.{has}
-use Rattle.model_writer.specs.Names.{names_of}
+use Rattle.model_writer.proofs.Common.{Dis, name_item, packages, has, names_of}
 use Rattle.model_writer.proofs.Files.{names_step}
 use Rattle.model_writer.proofs.names.push_names.Goals as goal
 

@@ -1,8 +1,4 @@
-use Rattle.std.proofs.Common.{◌≡◌, ◌++◌, map, filter, take}
-use Rattle.array_text.specs.Lines.{text}
-use Rattle.model_text.specs.Names.{name_item, packages}
-use Rattle.model_text.specs.Written.{has}
-use Rattle.model_writer.specs.Names.{names_of}
+use Rattle.model_writer.proofs.Common.{◌≡◌, ◌++◌, map, filter, take, text, name_item, packages, has, names_of}
 use Rattle.model_writer.proofs.names.push_names.Given as goal
 
 abbrev pub invariant-loop-kind : goal.invariant-loop-kind

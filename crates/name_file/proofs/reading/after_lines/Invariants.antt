@@ -1,5 +1,4 @@
-use Rattle.std.proofs.Common.{◌≡◌, length}
-use Rattle.name_file.specs.Reading.{after_lines}
+use Rattle.name_file.proofs.Common.{◌≡◌, length, after_lines}
 use Rattle.name_file.proofs.reading.after_lines.Given as goal
 
 abbrev pub invariant-loop-line : goal.invariant-loop-line

@@ -1,6 +1,4 @@
-use Rattle.std.proofs.Common.{subst, sym, List, ℕ}
-use Rattle.std.specs.Str.{IsUtf8}
-use Rattle.outside.specs.Names.{folder_name}
+use Rattle.outside.proofs.Common.{subst, sym, List, ℕ, IsUtf8, folder_name}
 use Rattle.outside.proofs.GoodNames.{folder_name-IsUtf8}
 use Rattle.outside.proofs.names.folder_name.Goals as goal
 

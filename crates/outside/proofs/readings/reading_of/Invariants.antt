@@ -1,5 +1,4 @@
-use Rattle.std.proofs.Common.{◌≡◌, drop}
-use Rattle.outside.specs.Readings.{reading_of}
+use Rattle.outside.proofs.Common.{◌≡◌, drop, reading_of}
 use Rattle.outside.proofs.readings.reading_of.Given as goal
 
 abbrev pub invariant-loop-reading : goal.invariant-loop-reading

@@ -1,5 +1,4 @@
-use Rattle.std.proofs.Common.{◌≡◌, length}
-use Rattle.std.specs.Io.KnownBytes.{Keeps}
+use Rattle.outside.proofs.Common.{◌≡◌, length, Keeps}
 use Rattle.outside.proofs.real.read_part.Given as goal
 
 abbrev pub invariant-loop : goal.invariant-loop

@@ -1,5 +1,4 @@
-use Rattle.std.proofs.Common.{◌-◌, ◌+◌, length}
-use Rattle.std.specs.Io.KnownBytes.{Consumes}
+use Rattle.outside.proofs.Common.{◌-◌, ◌+◌, length, Consumes}
 use Rattle.outside.proofs.real.read_whole.Given as goal
 
 abbrev pub invariant-loop-piece : goal.invariant-loop-piece

@@ -1,6 +1,4 @@
-use Rattle.std.proofs.Common.{◌≡◌, ◌-◌}
-use Rattle.record_lines.specs.Reading.{counted}
-use Rattle.package_items.specs.Items.{zero_step}
+use Rattle.package_items.proofs.Common.{◌≡◌, ◌-◌, counted, zero_step}
 use Rattle.package_items.proofs.zeros.zero_items.Given as goal
 
 abbrev pub invariant-loop-i : goal.invariant-loop-i

@@ -1,6 +1,4 @@
-use Rattle.std.proofs.Common.{◌≡◌, ◌-◌}
-use Rattle.record_lines.specs.Reading.{counted}
-use Rattle.period_arrays.specs.Layers.{layer_step}
+use Rattle.period_arrays.proofs.Common.{◌≡◌, ◌-◌, counted, layer_step}
 use Rattle.period_arrays.proofs.layers.layers_tested.Given as goal
 
 abbrev pub invariant-loop-place : goal.invariant-loop-place

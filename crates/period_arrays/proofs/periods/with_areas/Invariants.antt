@@ -1,13 +1,7 @@
-use Rattle.std.proofs.Common.{◌≡◌, ℕ, ◌++◌, map, All}
+use Rattle.period_arrays.proofs.Common.{◌≡◌, ℕ, ◌++◌, map, All, into_iter_items, LinesMay, for_each, IsInForce, contents, without, period_at}
 use Rattle.std.specs.Prelude.{List}
 use Rattle.outside.specs.Files.{File}
-use Rattle.std.specs.Vec.Iter.{into_iter_items}
-use Rattle.record_lines.specs.Asking.{LinesMay}
-use Rattle.record_lines.specs.Reading.{for_each}
 use Rattle.record_lines.proofs.Loops.{with_front}
-use Rattle.period_arrays.specs.Forms.{IsInForce}
-use Rattle.period_arrays.specs.Kinds.{contents, without}
-use Rattle.period_arrays.specs.Packages.{period_at}
 use Rattle.period_arrays.proofs.periods.with_areas.Given as goal
 
 abbrev pub invariant-loop-period : goal.invariant-loop-period

@@ -1,5 +1,4 @@
-use Rattle.record_lines.proofs.Forward.{begun_held}
-use Rattle.record_lines.specs.Asking.{LinesMay}
+use Rattle.period_arrays.proofs.Common.{begun_held, LinesMay}
 use Rattle.period_arrays.proofs.Forward.{option_leaves}
 use Rattle.period_arrays.proofs.read.read_arrays.Goals as goal
 

@@ -1,14 +1,5 @@
-use Rattle.std.proofs.Common.{refl, sym, subst, ◌∙◌}
-use Rattle.step_problem.specs.declared.heads.Bound.{Bound}
-use Rattle.step_problem.specs.declared.entry.Fixed.{Fixed}
-use Rattle.conductance_bounds.specs.declared.pair.Pair.{Pair}
-use Rattle.conductance_bounds.specs.Formulas.{face_term}
-use Rattle.conductance_bounds.specs.Pairs.{IsCapped}
-use Rattle.model_types.specs.Kinds.{is_constant}
-use Rattle.problem_builder.specs.ConstantHeads.{IsConstantPair}
-use Rattle.problem_builder.specs.Cells.{IsConstant}
-use Rattle.problem_builder.specs.Made.{HasPair}
-use Rattle.problem_builder.specs.Tables.{widths_of, span_in}
+use Rattle.problem_builder.proofs.Common.{refl, sym, subst, ◌∙◌, Bound, Fixed, Pair, face_term, IsCapped, is_constant, IsConstantPair, IsConstant, HasPair}
+use Rattle.problem_builder.proofs.Common.{widths_of, span_in}
 use Rattle.problem_builder.proofs.ActiveCells.{constant_active}
 use Rattle.problem_builder.proofs.Pushed.{both_through}
 use Rattle.problem_builder.proofs.branches.constant_through.Goals as goal

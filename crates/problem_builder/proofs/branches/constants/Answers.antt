@@ -1,7 +1,4 @@
-use Rattle.std.proofs.Common.{ap, sym, subst, All, ◌∙◌}
-use Rattle.model_types.specs.Faces.{faces}
-use Rattle.problem_builder.specs.Made.{HasPair}
-use Rattle.problem_builder.specs.Tables.{Inputs}
+use Rattle.problem_builder.proofs.Common.{ap, sym, subst, All, ◌∙◌, faces, HasPair, Inputs}
 use Rattle.problem_builder.proofs.FacePairs.{faces_paired}
 use Rattle.problem_builder.proofs.branches.constants.Goals as goal
 

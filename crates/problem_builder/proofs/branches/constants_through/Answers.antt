@@ -1,7 +1,4 @@
-use Rattle.model_types.specs.Faces.{through}
-use Rattle.model_types.specs.Kinds.{is_constant}
-use Rattle.problem_builder.specs.Cells.{IsConstant}
-use Rattle.problem_builder.specs.Tables.{widths_of}
+use Rattle.problem_builder.proofs.Common.{through, is_constant, IsConstant, widths_of}
 use Rattle.problem_builder.proofs.Pushed.{zip_next}
 use Rattle.problem_builder.proofs.branches.constants_through.Goals as goal
 

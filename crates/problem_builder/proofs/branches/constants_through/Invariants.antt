@@ -1,9 +1,4 @@
-use Rattle.std.proofs.Common.{take}
-use Rattle.std.specs.List.{AllZip, filter_map}
-use Rattle.model_types.specs.Faces.{through}
-use Rattle.model_types.specs.Kinds.{is_constant}
-use Rattle.problem_builder.specs.Cells.{IsConstant}
-use Rattle.problem_builder.specs.Tables.{widths_of}
+use Rattle.problem_builder.proofs.Common.{take, AllZip, filter_map, through, is_constant, IsConstant, widths_of}
 use Rattle.problem_builder.proofs.branches.constants_through.Given as goal
 
 abbrev pub invariant-loop-face : goal.invariant-loop-face

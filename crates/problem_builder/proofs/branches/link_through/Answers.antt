@@ -1,11 +1,4 @@
-use Rattle.std.proofs.Common.{sym, subst, ◌∙◌}
-use Rattle.conductance_bounds.specs.declared.pair.Pair.{Pair}
-use Rattle.conductance_bounds.specs.Formulas.{face_term}
-use Rattle.conductance_bounds.specs.Pairs.{IsCapped}
-use Rattle.model_types.specs.Kinds.{is_variable}
-use Rattle.problem_builder.specs.Cells.{IsLink}
-use Rattle.problem_builder.specs.Made.{HasPair}
-use Rattle.problem_builder.specs.Tables.{widths_of, span_in}
+use Rattle.problem_builder.proofs.Common.{sym, subst, ◌∙◌, Pair, face_term, IsCapped, is_variable, IsLink, HasPair, widths_of, span_in}
 use Rattle.problem_builder.proofs.ActiveCells.{variable_active}
 use Rattle.problem_builder.proofs.Pushed.{both_through}
 use Rattle.problem_builder.proofs.branches.link_through.Goals as goal

@@ -1,7 +1,4 @@
-use Rattle.model_types.specs.Faces.{through}
-use Rattle.model_types.specs.Kinds.{is_variable}
-use Rattle.problem_builder.specs.Cells.{IsLink}
-use Rattle.problem_builder.specs.Tables.{widths_of}
+use Rattle.problem_builder.proofs.Common.{through, is_variable, IsLink, widths_of}
 use Rattle.problem_builder.proofs.Pushed.{zip_next}
 use Rattle.problem_builder.proofs.branches.links_through.Goals as goal
 

@@ -1,10 +1,8 @@
-use Rattle.std.proofs.Common.{◌∙◌, arith, ap, sym, subst}
-use Rattle.model_types.specs.Cells.{cell_count}
-use Rattle.problem_builder.specs.Tables.{Inputs}
+use Rattle.problem_builder.proofs.Common.{◌∙◌, arith, ap, sym, subst, cell_count, Inputs}
 use Rattle.std.proofs.lemmas.Result.{err_from_is_err_and}
 use Rattle.problem_builder.proofs.Steps.{Are, no_cells, next_cell, next_none, first_fault}
-use Rattle.problem_builder.proofs.builder.cells.Goals as goal
 use Rattle.problem_builder.proofs.builder.cells.Goals.{then-is_variable+in_ok-made+in_ok-push, else-is_variable}
+use Rattle.problem_builder.proofs.builder.cells.Goals as goal
 
 pub loop-number-init : goal.loop-number-init
 loop-number-init c = subst (Are c.args.input.now 0) (sym c.new-cells.ensures.items) (no_cells c.args.input.now)

@@ -1,5 +1,4 @@
-use Rattle.problem_builder.specs.Problems.{AreCells}
-use Rattle.problem_builder.specs.Tables.{widths_of}
+use Rattle.problem_builder.proofs.Common.{AreCells, widths_of}
 use Rattle.problem_builder.proofs.builder.cells.Given as goal
 
 abbrev pub invariant-loop-number : goal.invariant-loop-number

@@ -1,11 +1,5 @@
-use Rattle.std.proofs.Common.{◌≡◌, ℕ, List, sym, subst, map}
-use Rattle.cell_balance.specs.Enclosures.{EnclosesStep}
-use Rattle.flow_equations.specs.ExactStep.{exact_step}
-use Rattle.model_types.specs.Kinds.{variable_cells}
-use Rattle.step_problem.specs.Entries.{Entries}
-use Rattle.problem_builder.specs.GridHeads.{IsActive, IsNamed}
-use Rattle.problem_builder.specs.Stored.{HasOldHeads}
-use Rattle.problem_builder.specs.Tables.{widths_of}
+use Rattle.problem_builder.proofs.Common.{◌≡◌, ℕ, List, sym, subst, map, EnclosesStep, exact_step, variable_cells, Entries, IsActive, HasOldHeads, widths_of}
+use Rattle.problem_builder.specs.GridHeads.{IsNamed}
 use Rattle.problem_builder.proofs.BoundsOf.{bounds_enclose}
 use Rattle.problem_builder.proofs.Problems.{is_problem}
 use Rattle.problem_builder.proofs.StepEnclosed.{step_encloses, ids_are}

@@ -1,10 +1,5 @@
-use Rattle.std.proofs.Common.{refl, sym, subst, ◌∙◌, List}
-use Rattle.std.specs.List.{AllZip}
-use Rattle.step_problem.specs.declared.entry.River.{River}
-use Rattle.step_problem.specs.declared.entry.Drain.{Drain}
-use Rattle.model_types.specs.Sources.{local_entries, river_sources, drain_sources}
-use Rattle.problem_builder.specs.Cells.{IsRiver, IsDrain}
-use Rattle.problem_builder.specs.LocalBounds.{LocalBounds, AreLocalBounds}
+use Rattle.problem_builder.proofs.Common.{refl, sym, subst, ◌∙◌, List, AllZip, River, Drain, local_entries, river_sources, drain_sources, IsRiver, IsDrain}
+use Rattle.problem_builder.proofs.Common.{LocalBounds, AreLocalBounds}
 use Rattle.problem_builder.proofs.cell.cell.Goals as goal
 
 pub returns : goal.returns

@@ -1,7 +1,4 @@
-use Rattle.std.proofs.Common.{sym, subst}
-use Rattle.model_types.specs.Receivers.{evap_at}
-use Rattle.problem_builder.specs.Cells.{IsEvap}
-use Rattle.problem_builder.specs.Tables.{BothOrNone}
+use Rattle.problem_builder.proofs.Common.{sym, subst, evap_at, IsEvap, BothOrNone}
 use Rattle.problem_builder.proofs.Joined.{pushed}
 use Rattle.problem_builder.proofs.Pushed.{zip_one}
 use Rattle.problem_builder.proofs.cell.evaps.Goals as goal

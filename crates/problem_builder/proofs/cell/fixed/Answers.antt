@@ -1,7 +1,4 @@
-use Rattle.std.proofs.Common.{sym, subst, ◌∙◌}
-use Rattle.model_types.specs.Sources.{constant_faces, local_entries, storage_at}
-use Rattle.problem_builder.specs.LocalBounds.{LocalBounds, AreLocalBounds}
-use Rattle.problem_builder.specs.Tables.{widths_of}
+use Rattle.problem_builder.proofs.Common.{sym, subst, ◌∙◌, constant_faces, local_entries, storage_at, LocalBounds, AreLocalBounds, widths_of}
 use Rattle.problem_builder.proofs.Joined.{fixed_are, pushed, extended}
 use Rattle.problem_builder.proofs.cell.fixed.Goals as goal
 

@@ -1,8 +1,4 @@
-use Rattle.std.proofs.Common.{sym, subst, ◌∙◌}
-use Rattle.model_types.specs.Receivers.{recharge_at}
-use Rattle.model_types.specs.Sources.{local_entries}
-use Rattle.problem_builder.specs.LocalBounds.{LocalBounds, AreLocalBounds}
-use Rattle.problem_builder.specs.Tables.{widths_of}
+use Rattle.problem_builder.proofs.Common.{sym, subst, ◌∙◌, recharge_at, local_entries, LocalBounds, AreLocalBounds, widths_of}
 use Rattle.problem_builder.proofs.Joined.{flows_are, pushed, extended}
 use Rattle.problem_builder.proofs.cell.flows.Goals as goal
 

@@ -1,7 +1,4 @@
-use Rattle.std.proofs.Common.{refl, sym, subst}
-use Rattle.step_problem.specs.declared.entry.Flow.{Flow}
-use Rattle.problem_builder.specs.Cells.{IsReceived}
-use Rattle.problem_builder.specs.RechargeBounds.{IsRechargePair}
+use Rattle.problem_builder.proofs.Common.{refl, sym, subst, Flow, IsReceived, IsRechargePair}
 use Rattle.problem_builder.proofs.Pushed.{both_some, both_none}
 use Rattle.problem_builder.proofs.cell.received.Goals as goal
 

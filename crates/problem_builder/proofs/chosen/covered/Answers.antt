@@ -1,5 +1,4 @@
-use Rattle.std.proofs.Common.{false}
-use Rattle.problem_builder.specs.PeriodTables.{IsCovered}
+use Rattle.problem_builder.proofs.Common.{false, IsCovered}
 use Rattle.problem_builder.proofs.Filling.{none_filled, next_filled}
 use Rattle.problem_builder.proofs.chosen.covered.Goals as goal
 

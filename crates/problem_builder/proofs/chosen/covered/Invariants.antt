@@ -1,6 +1,4 @@
-use Rattle.std.proofs.Common.{false}
-use Rattle.problem_builder.specs.Filled.{Filled}
-use Rattle.problem_builder.specs.PeriodTables.{IsCovered}
+use Rattle.problem_builder.proofs.Common.{false, Filled, IsCovered}
 use Rattle.problem_builder.proofs.chosen.covered.Given as goal
 
 abbrev pub invariant-loop-cell : goal.invariant-loop-cell

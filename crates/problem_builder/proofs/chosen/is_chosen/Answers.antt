@@ -1,10 +1,5 @@
-use Rattle.std.proofs.Common.{◌≡◌, ◌+◌, suc, ap, arith, ◌∙◌, FitsSigned}
-use Rattle.std.specs.Prelude.{◌||◌, ◌&&◌}
-use Rattle.std.specs.Int.{w64}
-use Rattle.std.proofs.lemmas.Int.{to_z-of_z}
-use Rattle.model_types.specs.Cells.{layer_of, place_in_layer}
-use Rattle.model_types.specs.Layers.{int_at, is_active}
-use Rattle.model_types.specs.Receivers.{is_int}
+use Rattle.problem_builder.proofs.Common.{◌≡◌, ◌+◌, suc, ap, arith, ◌∙◌, FitsSigned, ◌||◌, ◌&&◌, w64, to_z-of_z, layer_of, place_in_layer, int_at, is_active}
+use Rattle.problem_builder.proofs.Common.{is_int}
 use Rattle.problem_builder.proofs.chosen.is_chosen.Goals as goal
 
 pub returns : goal.returns

@@ -1,7 +1,4 @@
-use Rattle.std.proofs.Common.{◌-◌, ℕ, ap, ◌∙◌, arith}
-use Rattle.std.specs.Prelude.{not}
-use Rattle.model_types.specs.Layers.{is_active}
-use Rattle.model_types.specs.Receivers.{is_highest}
+use Rattle.problem_builder.proofs.Common.{◌-◌, ℕ, ap, ◌∙◌, arith, not, is_active, is_highest}
 use Rattle.problem_builder.proofs.Covered.{covered_first, covered_then, covered_else}
 use Rattle.problem_builder.proofs.chosen.is_covered.Goals as goal
 

@@ -1,6 +1,4 @@
-use Rattle.std.proofs.Common.{◌≡◌, Some, None, cond, Bool, sym, ap}
-use Rattle.model_types.specs.Receivers.{evap_at, evap_source}
-use Rattle.model_types.specs.Valid.{IsEvapValid}
+use Rattle.problem_builder.proofs.Common.{◌≡◌, Some, None, cond, Bool, sym, ap, evap_at, evap_source, IsEvapValid}
 use Rattle.problem_builder.proofs.BoundsOf.{in_option}
 use Rattle.problem_builder.proofs.evaporation.evap_of.Goals as goal
 

@@ -1,12 +1,4 @@
-use Rattle.std.proofs.Common.{◌≡◌, sym, subst, refl}
-use Rattle.decimal_input.specs.Canonical.{size}
-use Rattle.step_problem.specs.declared.entry.Evap.{Evap}
-use Rattle.model_types.specs.Receivers.{EvapSource}
-use Rattle.conductance_bounds.specs.Branches.{evap_formula}
-use Rattle.conductance_bounds.specs.Formulas.{evap_term}
-use Rattle.conductance_bounds.specs.Pairs.{IsCapped}
-use Rattle.conductance_bounds.specs.Terms.{Term}
-use Rattle.problem_builder.specs.Cells.{IsEvap}
+use Rattle.problem_builder.proofs.Common.{◌≡◌, sym, subst, refl, size, Evap, EvapSource, evap_formula, evap_term, IsCapped, Term, IsEvap}
 use Rattle.problem_builder.proofs.Depths.{depth_is, extinctions}
 use Rattle.problem_builder.proofs.evaporation.evap_pair.Goals as goal
 

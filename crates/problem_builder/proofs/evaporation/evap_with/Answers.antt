@@ -1,6 +1,4 @@
-use Rattle.std.proofs.Common.{FitsSigned, arith, rules, ◌-ℤ◌}
-use Rattle.std.specs.Int.{w64}
-use Rattle.std.proofs.lemmas.Int.{to_z-of_z, ints}
+use Rattle.problem_builder.proofs.Common.{FitsSigned, arith, rules, ◌-ℤ◌, w64, to_z-of_z, ints}
 use Rattle.problem_builder.proofs.evaporation.evap_with.Goals as goal
 
 pub returns : goal.returns

@@ -1,7 +1,5 @@
-use Rattle.std.proofs.Common.{ap, sym, subst, ◌∙◌}
+use Rattle.problem_builder.proofs.Common.{ap, sym, subst, ◌∙◌, IsColHalf, dec_at}
 use Rattle.conductance_bounds.specs.declared.horizontal.ColHalf.{ColHalf}
-use Rattle.conductance_bounds.specs.Calls.{IsColHalf}
-use Rattle.model_types.specs.Layers.{dec_at}
 use Rattle.problem_builder.proofs.Halves.{delc_positive}
 use Rattle.problem_builder.proofs.faces.col_half.Goals as goal
 

@@ -1,6 +1,4 @@
-use Rattle.std.proofs.Common.{sym, ap, ◌∙◌}
-use Rattle.model_types.specs.Layers.{is_active}
-use Rattle.model_types.proofs.Leads.{after_within}
+use Rattle.problem_builder.proofs.Common.{sym, ap, ◌∙◌, is_active, after_within}
 use Rattle.problem_builder.proofs.Halves.{next_face}
 use Rattle.problem_builder.proofs.faces.is_branch.Goals as goal
 

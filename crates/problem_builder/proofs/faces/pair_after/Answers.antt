@@ -1,7 +1,4 @@
-use Rattle.std.proofs.Common.{sym, subst}
-use Rattle.model_types.specs.declared.face.Axis.{Axis}
-use Rattle.problem_builder.specs.Tables.{span_in}
-use Rattle.problem_builder.specs.Widths.{HasConductance}
+use Rattle.problem_builder.proofs.Common.{sym, subst, Axis, span_in, HasConductance}
 use Rattle.problem_builder.proofs.faces.pair_after.Goals as goal
 
 pub returns-in-Row : goal.returns-in-Row

@@ -1,7 +1,5 @@
-use Rattle.std.proofs.Common.{ap, sym, subst, ◌∙◌}
+use Rattle.problem_builder.proofs.Common.{ap, sym, subst, ◌∙◌, IsHalf, dec_at}
 use Rattle.conductance_bounds.specs.declared.horizontal.Half.{Half}
-use Rattle.conductance_bounds.specs.Calls.{IsHalf}
-use Rattle.model_types.specs.Layers.{dec_at}
 use Rattle.problem_builder.proofs.Halves.{delr_positive}
 use Rattle.problem_builder.proofs.faces.row_half.Goals as goal
 

@@ -1,13 +1,5 @@
-use Rattle.std.proofs.Common.{◌≡◌, ◌+◌, sym, subst}
-use Rattle.conductance_bounds.specs.Terms.{Term}
-use Rattle.conductance_bounds.specs.Pairs.{IsCapped}
+use Rattle.problem_builder.proofs.Common.{◌≡◌, ◌+◌, sym, subst, Term, IsCapped, face_term, Row, stride, thickness, span_in, IsPositive}
 use Rattle.conductance_bounds.specs.Branches.{row_of}
-use Rattle.conductance_bounds.specs.Formulas.{face_term}
-use Rattle.model_types.specs.declared.face.Axis.TheVariants.{Row}
-use Rattle.model_types.specs.Faces.{stride}
-use Rattle.model_types.specs.Layers.{thickness}
-use Rattle.problem_builder.specs.Tables.{span_in}
-use Rattle.model_types.specs.Numbers.{IsPositive}
 use Rattle.problem_builder.proofs.Halves.{delc_positive}
 use Rattle.problem_builder.proofs.faces.row_pair.Goals as goal
 

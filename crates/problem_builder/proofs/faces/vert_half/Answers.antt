@@ -1,7 +1,5 @@
-use Rattle.std.proofs.Common.{ap, sym, subst, ◌∙◌}
+use Rattle.problem_builder.proofs.Common.{ap, sym, subst, ◌∙◌, IsVertHalf, dec_at}
 use Rattle.conductance_bounds.specs.declared.vertical.VertHalf.{VertHalf}
-use Rattle.conductance_bounds.specs.Calls.{IsVertHalf}
-use Rattle.model_types.specs.Layers.{dec_at}
 use Rattle.problem_builder.proofs.faces.vert_half.Goals as goal
 
 pub returns-clause-is : goal.returns-clause-is

@@ -1,16 +1,6 @@
-use Rattle.std.proofs.Common.{◌≡◌, ◌+◌, refl, ap, sym, subst, arith, ◌∙◌}
+use Rattle.problem_builder.proofs.Common.{◌≡◌, ◌+◌, refl, ap, sym, subst, arith, ◌∙◌, Term, IsBed, IsCapped, vertical_of, face_term, Vertical, layer_size}
+use Rattle.problem_builder.proofs.Common.{dec_at, thickness, bed_thickness, vkcb_at, IsPositive, span_in, layer_half}
 use Rattle.conductance_bounds.specs.declared.vertical.Bed.{Bed}
-use Rattle.conductance_bounds.specs.Terms.{Term}
-use Rattle.conductance_bounds.specs.Calls.{IsBed}
-use Rattle.conductance_bounds.specs.Pairs.{IsCapped}
-use Rattle.conductance_bounds.specs.Branches.{vertical_of}
-use Rattle.conductance_bounds.specs.Formulas.{face_term}
-use Rattle.model_types.specs.declared.face.Axis.TheVariants.{Vertical}
-use Rattle.model_types.specs.Cells.{layer_size}
-use Rattle.model_types.specs.Layers.{dec_at, thickness, bed_thickness, vkcb_at}
-use Rattle.model_types.specs.Numbers.{IsPositive}
-use Rattle.problem_builder.specs.Tables.{span_in}
-use Rattle.problem_builder.specs.Widths.{layer_half}
 use Rattle.problem_builder.proofs.Halves.{bed_tests, bed_fits, layered, delr_positive, delc_positive}
 use Rattle.problem_builder.proofs.faces.vertical_pair.Goals as goal
 

@@ -1,6 +1,4 @@
-use Rattle.step_problem.specs.Heads.{no_bound}
-use Rattle.problem_builder.specs.Filled.{Filled}
-use Rattle.problem_builder.specs.PeriodTables.{IsKept}
+use Rattle.problem_builder.proofs.Common.{no_bound, Filled, IsKept}
 use Rattle.problem_builder.proofs.given.kept.Given as goal
 
 abbrev pub invariant-loop-cell : goal.invariant-loop-cell

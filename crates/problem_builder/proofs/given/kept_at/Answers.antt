@@ -1,6 +1,4 @@
-use Rattle.std.proofs.Common.{Option, sym, subst}
-use Rattle.model_types.specs.declared.entry.Given.{Given}
-use Rattle.problem_builder.specs.ConstantHeads.{IsKeptPair}
+use Rattle.problem_builder.proofs.Common.{Option, sym, subst, Given, IsKeptPair}
 use Rattle.problem_builder.proofs.GivenValid.{last_head}
 use Rattle.problem_builder.proofs.given.kept_at.Goals as goal
 

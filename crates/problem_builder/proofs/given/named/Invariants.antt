@@ -1,6 +1,4 @@
-use Rattle.std.proofs.Common.{None, take}
-use Rattle.problem_builder.specs.Filled.{Filled}
-use Rattle.problem_builder.specs.PeriodTables.{IsNamed}
+use Rattle.problem_builder.proofs.Common.{None, take, Filled, IsNamed}
 use Rattle.problem_builder.proofs.given.named.Given as goal
 
 abbrev pub invariant-loop-x : goal.invariant-loop-x

@@ -1,5 +1,4 @@
-use Rattle.step_problem.specs.Heads.{no_bound}
-use Rattle.problem_builder.specs.ConstantHeads.{HasConstantHead}
+use Rattle.problem_builder.proofs.Common.{no_bound, HasConstantHead}
 use Rattle.problem_builder.proofs.Filling.{none_filled, next_filled}
 use Rattle.problem_builder.proofs.heads.constant_heads.Goals as goal
 

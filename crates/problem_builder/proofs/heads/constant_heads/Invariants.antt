@@ -1,6 +1,4 @@
-use Rattle.step_problem.specs.Heads.{no_bound}
-use Rattle.problem_builder.specs.ConstantHeads.{HasConstantHead}
-use Rattle.problem_builder.specs.Filled.{Filled}
+use Rattle.problem_builder.proofs.Common.{no_bound, HasConstantHead, Filled}
 use Rattle.problem_builder.proofs.heads.constant_heads.Given as goal
 
 abbrev pub invariant-loop-cell : goal.invariant-loop-cell

@@ -1,6 +1,4 @@
-use Rattle.std.proofs.Common.{subst, sym}
-use Rattle.step_problem.specs.declared.heads.Bound.{Bound}
-use Rattle.conductance_bounds.specs.Parts.{IsGivenPair}
+use Rattle.problem_builder.proofs.Common.{subst, sym, Bound, IsGivenPair}
 use Rattle.problem_builder.proofs.heads.given_bounds.Goals as goal
 
 pub returns : goal.returns

@@ -1,10 +1,5 @@
-use Rattle.std.proofs.Common.{◌-◌, take, Option, sym, ◌∙◌, subst}
-use Rattle.step_problem.specs.declared.heads.Bound.{Bound}
-use Rattle.model_types.specs.declared.entry.Given.{Given}
-use Rattle.model_types.specs.Cells.{cell_count}
-use Rattle.model_types.specs.Kinds.{last_given}
-use Rattle.model_types.specs.Times.{period_at}
-use Rattle.problem_builder.specs.ConstantHeads.{IsKeptPair, IsGivenOrKept, IsConstantPair}
+use Rattle.problem_builder.proofs.Common.{◌-◌, take, Option, sym, ◌∙◌, subst, Bound, Given, cell_count, last_given, period_at, IsKeptPair, IsGivenOrKept}
+use Rattle.problem_builder.proofs.Common.{IsConstantPair}
 use Rattle.problem_builder.proofs.GivenValid.{given_valid}
 use Rattle.problem_builder.proofs.heads.head_at.Goals as goal
 

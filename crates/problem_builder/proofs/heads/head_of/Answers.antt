@@ -1,5 +1,4 @@
-use Rattle.std.proofs.Common.{refl, sym, ◌∙◌}
-use Rattle.std.proofs.lemmas.Bool.{false≢true}
+use Rattle.problem_builder.proofs.Common.{refl, sym, ◌∙◌, false≢true}
 use Rattle.problem_builder.proofs.KindsOf.{constant_kind, variable_no_constant, no_flow_no_constant}
 use Rattle.problem_builder.proofs.heads.head_of.Goals as goal
 

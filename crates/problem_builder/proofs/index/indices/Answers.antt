@@ -1,9 +1,8 @@
-use Rattle.std.proofs.Common.{◌+◌, ◌∙◌, ap, sym, arith}
-use Rattle.problem_builder.specs.PeriodTables.{IsIndex}
+use Rattle.problem_builder.proofs.Common.{◌+◌, ◌∙◌, ap, sym, arith, IsIndex}
 use Rattle.problem_builder.proofs.Filling.{none_filled, next_filled}
 use Rattle.problem_builder.proofs.Indexing.{first_index, index_more, index_same, index_few}
-use Rattle.problem_builder.proofs.index.indices.Goals as goal
 use Rattle.problem_builder.proofs.index.indices.Goals.{then-is_variable, else-is_variable}
+use Rattle.problem_builder.proofs.index.indices.Goals as goal
 
 pub loop-cell-init : goal.loop-cell-init
 loop-cell-init c = record { filled = none_filled (IsIndex c.args.model.now c.args.given.now.period) 0 _ c.new-indices.ensures.items; index = sym (first_index c.args.model.now c.args.given.now.period) }

@@ -1,7 +1,4 @@
-use Rattle.std.proofs.Common.{◌≡◌}
-use Rattle.model_types.specs.Kinds.{index_of}
-use Rattle.problem_builder.specs.Filled.{Filled}
-use Rattle.problem_builder.specs.PeriodTables.{IsIndex}
+use Rattle.problem_builder.proofs.Common.{◌≡◌, index_of, Filled, IsIndex}
 use Rattle.problem_builder.proofs.index.indices.Given as goal
 
 abbrev pub invariant-loop-cell : goal.invariant-loop-cell

@@ -1,5 +1,4 @@
-use Rattle.std.proofs.Common.{◌≡◌, ◌+◌}
-use Rattle.model_types.specs.Kinds.{given_heads}
+use Rattle.problem_builder.proofs.Common.{◌≡◌, ◌+◌, given_heads}
 use Rattle.problem_builder.proofs.periods.given_before.Given as goal
 
 abbrev pub invariant-loop-period : goal.invariant-loop-period

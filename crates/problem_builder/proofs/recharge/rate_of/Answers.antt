@@ -1,10 +1,4 @@
-use Rattle.std.proofs.Common.{◌%◌, sym, ap, ◌∙◌, subst, FitsSigned, arith}
-use Rattle.std.specs.Int.{w64}
-use Rattle.std.proofs.lemmas.Int.{to_z-of_z, ints}
-use Rattle.decimal_input.specs.Canonical.{IsDec}
-use Rattle.model_types.specs.declared.period.Period.{Period}
-use Rattle.model_types.specs.Layers.{dec_at}
-use Rattle.model_types.specs.Receivers.{is_chosen}
+use Rattle.problem_builder.proofs.Common.{◌%◌, sym, ap, ◌∙◌, subst, FitsSigned, arith, w64, to_z-of_z, ints, IsDec, Period, dec_at, is_chosen}
 use Rattle.problem_builder.proofs.PeriodsOf.{period_valid}
 use Rattle.problem_builder.proofs.ChosenRates.{rate_valid}
 use Rattle.problem_builder.proofs.recharge.rate_of.Goals as goal

@@ -1,5 +1,4 @@
-use Rattle.std.proofs.Common.{None}
-use Rattle.problem_builder.specs.PeriodTables.{IsRecharged}
+use Rattle.problem_builder.proofs.Common.{None, IsRecharged}
 use Rattle.problem_builder.proofs.Filling.{none_filled, next_filled}
 use Rattle.problem_builder.proofs.recharge.recharges.Goals as goal
 

@@ -1,6 +1,4 @@
-use Rattle.std.proofs.Common.{None}
-use Rattle.problem_builder.specs.Filled.{Filled}
-use Rattle.problem_builder.specs.PeriodTables.{IsRecharged}
+use Rattle.problem_builder.proofs.Common.{None, Filled, IsRecharged}
 use Rattle.problem_builder.proofs.recharge.recharges.Given as goal
 
 abbrev pub invariant-loop-cell : goal.invariant-loop-cell

@@ -1,6 +1,4 @@
-use Rattle.std.proofs.Common.{subst, sym}
-use Rattle.step_problem.specs.declared.heads.Bound.{Bound}
-use Rattle.problem_builder.specs.InputBounds.{IsHeadPair}
+use Rattle.problem_builder.proofs.Common.{subst, sym, Bound, IsHeadPair}
 use Rattle.problem_builder.proofs.Depths.{ceiling_units, floor_units, units_64}
 use Rattle.problem_builder.proofs.rounded.depth_pair.Goals as goal
 

@@ -1,7 +1,4 @@
-use Rattle.std.proofs.Common.{subst, sym}
-use Rattle.step_problem.specs.declared.heads.Bound.{Bound}
-use Rattle.step_problem.specs.Conditions.{IsHead}
-use Rattle.problem_builder.specs.InputBounds.{IsHeadPair}
+use Rattle.problem_builder.proofs.Common.{subst, sym, Bound, IsHead, IsHeadPair}
 use Rattle.problem_builder.proofs.HeadRange.{as_head}
 use Rattle.problem_builder.proofs.rounded.head_pair.Goals as goal
 

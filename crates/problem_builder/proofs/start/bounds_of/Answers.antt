@@ -1,5 +1,4 @@
-use Rattle.step_problem.specs.Heads.{no_bound}
-use Rattle.problem_builder.specs.Made.{IsStartInRange}
+use Rattle.problem_builder.proofs.Common.{no_bound, IsStartInRange}
 use Rattle.problem_builder.proofs.Filling.{none_filled, next_filled}
 use Rattle.problem_builder.proofs.start.bounds_of.Goals as goal
 

@@ -1,6 +1,4 @@
-use Rattle.std.proofs.Common.{ap, sym, subst, ◌∙◌}
-use Rattle.model_types.specs.Layers.{dec_at}
-use Rattle.model_types.specs.Numbers.{IsHeadNumber}
+use Rattle.problem_builder.proofs.Common.{ap, sym, subst, ◌∙◌, dec_at, IsHeadNumber}
 use Rattle.problem_builder.proofs.start.start_at.Goals as goal
 
 pub head_pair-requires : goal.head_pair-requires

@@ -1,10 +1,4 @@
-use Rattle.std.proofs.Common.{refl, ap, sym, ◌∙◌, subst}
-use Rattle.std.proofs.lemmas.Bool.{false≢true}
-use Rattle.decimal_input.specs.Canonical.{size}
-use Rattle.model_types.specs.declared.period.Period.{Period}
-use Rattle.model_types.specs.Times.{period_at}
-use Rattle.conductance_bounds.specs.Growth.{IsGrown}
-use Rattle.problem_builder.specs.StepTables.{HasEvenSteps}
+use Rattle.problem_builder.proofs.Common.{refl, ap, sym, ◌∙◌, subst, false≢true, size, Period, period_at, IsGrown, HasEvenSteps}
 use Rattle.problem_builder.proofs.EvenSteps.{even_factors}
 use Rattle.problem_builder.proofs.storages.even_factors.Goals as goal
 

@@ -1,17 +1,7 @@
-use Rattle.std.proofs.Common.{◌≡◌, ◌-◌, cond, Option, Some, None, sym, ap, ◌∙◌, subst}
-use Rattle.decimal_input.specs.Canonical.{size}
-use Rattle.scaled_decimal.specs.declared.decimal.Sd.{Sd}
-use Rattle.model_types.specs.declared.period.Period.{Period}
-use Rattle.model_types.specs.Layers.{dec_at, thickness}
-use Rattle.model_types.specs.Numbers.{IsPositive, IsNotNegative}
-use Rattle.model_types.specs.Times.{period_at}
-use Rattle.conductance_bounds.specs.Branches.{storage_of, storage_formula, storativity_term}
+use Rattle.problem_builder.proofs.Common.{◌≡◌, ◌-◌, cond, Option, Some, None, sym, ap, ◌∙◌, subst, size, Sd, Period, dec_at, thickness, IsPositive}
+use Rattle.problem_builder.proofs.Common.{IsNotNegative, period_at, storage_of, storage_formula, storativity_term, storage_term, area_term, sum_term}
+use Rattle.problem_builder.proofs.Common.{power_term, IsCapped, Term, span_in}
 use Rattle.conductance_bounds.specs.Calls.{IsThickness}
-use Rattle.conductance_bounds.specs.Formulas.{storage_term, area_term}
-use Rattle.conductance_bounds.specs.Growth.{sum_term, power_term}
-use Rattle.conductance_bounds.specs.Pairs.{IsCapped}
-use Rattle.conductance_bounds.specs.Terms.{Term}
-use Rattle.problem_builder.specs.Tables.{span_in}
 use Rattle.problem_builder.proofs.Halves.{delr_positive, delc_positive}
 use Rattle.problem_builder.proofs.PeriodsOf.{period_valid}
 use Rattle.problem_builder.proofs.StorageParts.{thick_case, usable_case}

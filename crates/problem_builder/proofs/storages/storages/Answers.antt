@@ -1,7 +1,4 @@
-use Rattle.std.proofs.Common.{arith}
-use Rattle.model_types.specs.Cells.{cell_count}
-use Rattle.problem_builder.specs.StepTables.{HasEvenStorage}
-use Rattle.problem_builder.specs.Tables.{no_pair, span_in}
+use Rattle.problem_builder.proofs.Common.{arith, cell_count, HasEvenStorage, no_pair, span_in}
 use Rattle.problem_builder.proofs.Filling.{none_filled, next_filled, filled_to}
 use Rattle.problem_builder.proofs.storages.storages.Goals as goal
 

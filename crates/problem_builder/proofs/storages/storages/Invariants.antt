@@ -1,6 +1,4 @@
-use Rattle.problem_builder.specs.Filled.{Filled}
-use Rattle.problem_builder.specs.StepTables.{HasEvenStorage}
-use Rattle.problem_builder.specs.Tables.{no_pair, span_in}
+use Rattle.problem_builder.proofs.Common.{Filled, HasEvenStorage, no_pair, span_in}
 use Rattle.problem_builder.proofs.storages.storages.Given as goal
 
 abbrev pub invariant-loop-cell : goal.invariant-loop-cell

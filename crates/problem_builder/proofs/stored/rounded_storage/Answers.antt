@@ -1,6 +1,4 @@
-use Rattle.std.proofs.Common.{subst}
-use Rattle.problem_builder.specs.StepTables.{AreFactorsOf, HasStorage}
-use Rattle.problem_builder.specs.Tables.{Inputs, span_in}
+use Rattle.problem_builder.proofs.Common.{subst, AreFactorsOf, HasStorage, Inputs, span_in}
 use Rattle.problem_builder.proofs.stored.rounded_storage.Goals as goal
 
 pub returns-in-Some : goal.returns-in-Some

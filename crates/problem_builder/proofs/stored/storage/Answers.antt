@@ -1,7 +1,4 @@
-use Rattle.std.proofs.Common.{◌≡◌, sym, ap, ◌∙◌, subst, List, Some}
-use Rattle.conductance_bounds.specs.declared.pair.Pair.{Pair}
-use Rattle.problem_builder.specs.StepTables.{HasStorage}
-use Rattle.problem_builder.specs.Tables.{Inputs, AreEvenStorages, pair_in, span_in}
+use Rattle.problem_builder.proofs.Common.{◌≡◌, sym, ap, ◌∙◌, subst, List, Some, Pair, HasStorage, Inputs, AreEvenStorages, pair_in, span_in}
 use Rattle.problem_builder.proofs.stored.storage.Goals as goal
 
 pub returns-in-Some : goal.returns-in-Some

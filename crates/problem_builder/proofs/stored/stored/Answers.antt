@@ -1,10 +1,4 @@
-use Rattle.std.proofs.Common.{refl, sym, subst, ap, ◌∙◌}
-use Rattle.step_problem.specs.declared.heads.Bound.{Bound}
-use Rattle.step_problem.specs.declared.entry.Fixed.{Fixed}
-use Rattle.model_types.specs.Times.{period_at}
-use Rattle.model_types.specs.Sources.FixedSource.{FromStorage}
-use Rattle.problem_builder.specs.Cells.{IsFixed, IsStorage}
-use Rattle.problem_builder.specs.Tables.{widths_of}
+use Rattle.problem_builder.proofs.Common.{refl, sym, subst, ap, ◌∙◌, Bound, Fixed, period_at, FromStorage, IsFixed, IsStorage, widths_of}
 use Rattle.problem_builder.proofs.Pushed.{both_unless}
 use Rattle.problem_builder.proofs.stored.stored.Goals as goal
 

@@ -1,8 +1,4 @@
-use Rattle.std.proofs.Common.{sym, subst, inl}
-use Rattle.decimal_input.specs.declared.dec.Dec.{Dec}
-use Rattle.model_types.specs.Layers.{bottom_at, lowest}
-use Rattle.model_types.specs.Numbers.{IsThick}
-use Rattle.conductance_bounds.specs.Thicknesses.{IsSpan}
+use Rattle.problem_builder.proofs.Common.{sym, subst, inl, Dec, bottom_at, lowest, IsThick, IsSpan}
 use Rattle.problem_builder.proofs.Elevations.{bed_valid}
 use Rattle.problem_builder.proofs.Halves.{bed_some}
 use Rattle.problem_builder.proofs.widths.bed_at.Goals as goal

@@ -1,5 +1,4 @@
-use Rattle.problem_builder.specs.Tables.{no_span}
-use Rattle.problem_builder.specs.Widths.{IsBedBelow}
+use Rattle.problem_builder.proofs.Common.{no_span, IsBedBelow}
 use Rattle.problem_builder.proofs.Filling.{none_filled, next_filled}
 use Rattle.problem_builder.proofs.widths.beds.Goals as goal
 

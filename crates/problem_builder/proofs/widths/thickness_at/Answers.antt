@@ -1,8 +1,4 @@
-use Rattle.std.proofs.Common.{sym, subst, ◌∙◌}
-use Rattle.decimal_input.specs.declared.dec.Dec.{Dec}
-use Rattle.decimal_input.specs.Canonical.{IsDec}
-use Rattle.model_types.specs.Layers.{top_at}
-use Rattle.model_types.specs.Numbers.{IsThick}
+use Rattle.problem_builder.proofs.Common.{sym, subst, ◌∙◌, Dec, IsDec, top_at, IsThick}
 use Rattle.problem_builder.proofs.Elevations.{top_valid, bottom_valid}
 use Rattle.problem_builder.proofs.widths.thickness_at.Goals as goal
 

@@ -1,6 +1,4 @@
-use Rattle.problem_builder.specs.Filled.{Filled}
-use Rattle.problem_builder.specs.Tables.{no_span}
-use Rattle.problem_builder.specs.Widths.{IsThickness}
+use Rattle.problem_builder.proofs.Common.{Filled, no_span, IsThickness}
 use Rattle.problem_builder.proofs.widths.thicknesses.Given as goal
 
 abbrev pub invariant-loop-cell : goal.invariant-loop-cell

@@ -1,8 +1,5 @@
-use Rattle.std.proofs.Common.{◌≡◌, ◌+◌, ◌<◌, [], arith, length, List, sym, subst, take}
+use Rattle.problem_hull.proofs.Common.{◌≡◌, ◌+◌, ◌<◌, [], arith, length, List, sym, subst, take, Entries, no_entries, none, IsCellHull, IsHull}
 use Rattle.std.proofs.lemmas.Result.{err_from_is_err_and}
-use Rattle.step_problem.specs.Entries.{Entries, no_entries}
-use Rattle.problem_hull.specs.Threes.AllThree.{none}
-use Rattle.problem_hull.specs.Hulls.{IsCellHull, IsHull}
 use Rattle.problem_hull.proofs.Threes.{three_more}
 use Rattle.problem_hull.proofs.Unlike.{unlike_cells}
 use Rattle.problem_hull.proofs.cells.cell_hulls.Goals as goal

@@ -1,5 +1,4 @@
-use Rattle.std.proofs.Common.{take}
-use Rattle.problem_hull.specs.Hulls.{IsHull}
+use Rattle.problem_hull.proofs.Common.{take, IsHull}
 use Rattle.problem_hull.proofs.cells.cell_hulls.Given as goal
 
 abbrev pub invariant-loop-i : goal.invariant-loop-i

@@ -1,6 +1,4 @@
-use Rattle.std.proofs.Common.{◌≡◌, ◌+◌, ◌<◌, arith, length, take, sym, subst}
-use Rattle.problem_hull.specs.Threes.{AllThree}
-use Rattle.problem_hull.specs.Threes.AllThree.{none}
+use Rattle.problem_hull.proofs.Common.{◌≡◌, ◌+◌, ◌<◌, arith, length, take, sym, subst, AllThree, none}
 use Rattle.problem_hull.proofs.Threes.{three_more_at, unlike_at}
 use Rattle.problem_hull.proofs.lists.hulls.Goals as goal
 

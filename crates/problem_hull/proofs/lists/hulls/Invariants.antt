@@ -1,5 +1,4 @@
-use Rattle.std.proofs.Common.{take}
-use Rattle.problem_hull.specs.Threes.{AllThree}
+use Rattle.problem_hull.proofs.Common.{take, AllThree}
 use Rattle.problem_hull.proofs.lists.hulls.Given as goal
 
 abbrev pub invariant-loop-i : goal.invariant-loop-i

@@ -1,7 +1,4 @@
-use Rattle.std.proofs.Common.{◌≡◌, ◌<◌, ℕ, List, None, All, length, sym, subst}
-use Rattle.step_problem.specs.Conditions.{RiverFits, EvapFits}
-use Rattle.step_problem.specs.Entries.{Entries, entries_at}
-use Rattle.problem_hull.specs.Refusals.{sum_refusal}
+use Rattle.problem_hull.proofs.Common.{◌≡◌, ◌<◌, ℕ, List, None, All, length, sym, subst, RiverFits, EvapFits, Entries, entries_at, sum_refusal}
 use Rattle.problem_hull.proofs.Fits.{rivers_fit, evaps_fit, is_problem}
 use Rattle.problem_hull.proofs.SmallSums.{conductances_are_small, flows_are_small}
 use Rattle.problem_hull.proofs.problem.hull.Goals as goal

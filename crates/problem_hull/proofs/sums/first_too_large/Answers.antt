@@ -1,6 +1,4 @@
-use Rattle.std.proofs.Common.{All, ap, subst}
-use Rattle.step_problem.specs.Conditions.{RiverFits, EvapFits}
-use Rattle.step_problem.specs.Entries.{Entries}
+use Rattle.problem_hull.proofs.Common.{All, ap, subst, RiverFits, EvapFits, Entries}
 use Rattle.problem_hull.proofs.SmallSums.{entries_named, first_here}
 use Rattle.problem_hull.proofs.sums.first_too_large.Goals as goal
 

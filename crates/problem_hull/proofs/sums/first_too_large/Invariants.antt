@@ -1,6 +1,4 @@
-use Rattle.std.proofs.Common.{◌≡◌, ◌<◌, ℕ, None}
-use Rattle.step_problem.specs.Entries.{entries_at}
-use Rattle.problem_hull.specs.Refusals.{sum_refusal}
+use Rattle.problem_hull.proofs.Common.{◌≡◌, ◌<◌, ℕ, None, entries_at, sum_refusal}
 use Rattle.problem_hull.proofs.sums.first_too_large.Given as goal
 
 abbrev pub invariant-loop-cell : goal.invariant-loop-cell

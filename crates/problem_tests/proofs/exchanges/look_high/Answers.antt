@@ -1,7 +1,4 @@
-use Rattle.std.proofs.Common.{◌≡◌, ◌<◌, ◌∙◌, length, sym, FitsSigned, rules, arith}
-use Rattle.std.specs.Int.{w64}
-use Rattle.std.proofs.lemmas.Int.{to_z-of_z}
-use Rattle.step_problem.specs.declared.heads.Side.TheVariants.{High}
+use Rattle.problem_tests.proofs.Common.{◌≡◌, ◌<◌, ◌∙◌, length, sym, FitsSigned, rules, arith, w64, to_z-of_z, High}
 use Rattle.problem_tests.proofs.Showing.{shows_head}
 use Rattle.problem_tests.proofs.exchanges.look_high.Goals as goal
 

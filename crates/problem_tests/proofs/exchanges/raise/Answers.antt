@@ -1,14 +1,5 @@
-use Rattle.std.proofs.Common.{◌≡◌, ◌<◌, List, length, ℤ, FitsSigned, rules, sym, ap, ◌∙◌, subst, arith}
-use Rattle.std.specs.Int.{int_max, w64}
-use Rattle.std.proofs.lemmas.Int.{to_z-of_z}
-use mir.Val.{to_z, of_z}
-use Rattle.step_problem.specs.declared.heads.Side.TheVariants.{Low}
-use Rattle.step_problem.specs.Entries.{Entries}
-use Rattle.step_problem.specs.Conditions.{IsProblem}
-use Rattle.step_problem.specs.Heads.{lower_at, IsRaise}
-use Rattle.step_problem.proofs.BothSides.{low_side}
-use Rattle.cell_relax.specs.Words.{AreWords}
-use Rattle.head_table.specs.Seats.{seen_on}
+use Rattle.problem_tests.proofs.Common.{◌≡◌, ◌<◌, List, length, ℤ, FitsSigned, rules, sym, ap, ◌∙◌, subst, arith, int_max, w64, to_z-of_z, to_z, of_z, Low}
+use Rattle.problem_tests.proofs.Common.{Entries, IsProblem, lower_at, IsRaise, low_side, AreWords, seen_on}
 use Rattle.problem_tests.proofs.Shown.{same_relaxed}
 use Rattle.problem_tests.proofs.Showing.{shows_head, shown_words}
 use Rattle.problem_tests.proofs.exchanges.raise.Goals as goal

@@ -1,14 +1,5 @@
-use Rattle.std.proofs.Common.{◌≡◌, ◌<◌, List, length, ℤ, FitsSigned, rules, sym, ap, ◌∙◌, subst, arith}
-use Rattle.std.specs.Int.{int_min, w64}
-use Rattle.std.proofs.lemmas.Int.{to_z-of_z}
-use mir.Val.{to_z, of_z}
-use Rattle.step_problem.specs.declared.heads.Side.TheVariants.{High}
-use Rattle.step_problem.specs.Entries.{Entries}
-use Rattle.step_problem.specs.Conditions.{IsProblem}
-use Rattle.step_problem.specs.Heads.{upper_at, IsSink}
-use Rattle.step_problem.proofs.BothSides.{high_side}
-use Rattle.cell_relax.specs.Words.{AreWords}
-use Rattle.head_table.specs.Seats.{seen_on}
+use Rattle.problem_tests.proofs.Common.{◌≡◌, ◌<◌, List, length, ℤ, FitsSigned, rules, sym, ap, ◌∙◌, subst, arith, int_min, w64, to_z-of_z, to_z, of_z, High}
+use Rattle.problem_tests.proofs.Common.{Entries, IsProblem, upper_at, IsSink, high_side, AreWords, seen_on}
 use Rattle.problem_tests.proofs.Shown.{same_relaxed}
 use Rattle.problem_tests.proofs.Showing.{shows_head, shown_words}
 use Rattle.problem_tests.proofs.exchanges.sink.Goals as goal

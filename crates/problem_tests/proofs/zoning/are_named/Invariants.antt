@@ -1,5 +1,4 @@
-use Rattle.std.proofs.Common.{◌<◌, ℕ, All}
-use Rattle.step_problem.specs.Entries.{entries_at}
+use Rattle.problem_tests.proofs.Common.{◌<◌, ℕ, All, entries_at}
 use Rattle.problem_tests.proofs.zoning.are_named.Given as goal
 
 abbrev pub invariant-loop-index : goal.invariant-loop-index

@@ -1,14 +1,5 @@
-use Rattle.std.proofs.Common.{◌≡◌, List, subst, sym, All}
-use Rattle.std.proofs.lemmas.List.Elements.{All-weaker}
-use Rattle.step_problem.specs.declared.heads.Bound.{Bound}
-use Rattle.step_problem.specs.Entries.{Entries}
-use Rattle.step_problem.specs.Conditions.{IsProblem}
-use Rattle.step_problem.specs.Heads.{Edges, IsBarrier, AreOnTheWay, head_at, lower_at, upper_at}
-use Rattle.step_problem.proofs.Sides.{edge_kept, same_on_the_way}
-use Rattle.step_problem.proofs.SidesTurns.{seen_itself}
-use Rattle.step_problem.proofs.BothSides.{low_side, high_side}
-use Rattle.relax_core.specs.Kept.{WasSeen}
-use Rattle.relax_core.specs.Laws.{AreEdges}
+use Rattle.relax_core.proofs.Common.{◌≡◌, List, subst, sym, All, All-weaker, Bound, Entries, IsProblem, Edges, IsBarrier, AreOnTheWay, head_at, lower_at}
+use Rattle.relax_core.proofs.Common.{upper_at, edge_kept, same_on_the_way, seen_itself, low_side, high_side, WasSeen, AreEdges}
 use Rattle.relax_core.proofs.laws.edges_are_kept.Goals as goal
 
 words_kept : (p : List Entries) (b : Edges) (words : List Bound) → IsProblem p → IsBarrier p b → AreEdges p b words → AreOnTheWay p b words

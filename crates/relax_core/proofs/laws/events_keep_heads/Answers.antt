@@ -1,8 +1,4 @@
-use Rattle.std.proofs.Common.{ℕ, ℤ}
-use Rattle.step_problem.proofs.Sides.{IsSide}
-use Rattle.step_problem.proofs.SidesTurns.{turn_keeps, tighter, still_seen, sees}
-use Rattle.step_problem.proofs.BothSides.{low_side, high_side}
-use Rattle.relax_core.specs.Laws.{KeepsHeads}
+use Rattle.relax_core.proofs.Common.{ℕ, ℤ, IsSide, turn_keeps, tighter, still_seen, sees, low_side, high_side, KeepsHeads}
 use Rattle.relax_core.proofs.laws.events_keep_heads.Goals as goal
 
 side_keeps : {Le : ℤ → ℤ → Type 0} {Moves : ℕ → ℤ → (ℕ → ℤ) → Type 0} {n : ℕ} → IsSide Le Moves n → KeepsHeads Le Moves n

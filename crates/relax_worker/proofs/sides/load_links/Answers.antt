@@ -1,9 +1,5 @@
-use Rattle.std.proofs.Common.{◌<◌, ◌∙◌, length, length-set, FitsSigned, rules, sym, arith}
-use Rattle.std.specs.Int.{w64}
-use Rattle.std.proofs.lemmas.Int.{to_z-of_z}
-use Rattle.step_problem.specs.Entries.{no_link, link_at}
-use Rattle.head_table.specs.Seats.{seen_on, seen_of}
-use Rattle.head_table.proofs.Looser.{moves_no_looser, no_looser_trans}
+use Rattle.relax_worker.proofs.Common.{◌<◌, ◌∙◌, length, length-set, FitsSigned, rules, sym, arith, w64, to_z-of_z, no_link, link_at, seen_on, seen_of}
+use Rattle.relax_worker.proofs.Common.{moves_no_looser, no_looser_trans}
 use Rattle.relax_worker.proofs.Loading.{load_more}
 use Rattle.relax_worker.proofs.sides.load_links.Goals as goal
 

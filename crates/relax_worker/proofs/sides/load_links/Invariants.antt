@@ -1,7 +1,4 @@
-use Rattle.std.proofs.Common.{◌≡◌, ℕ, length, take, All}
-use Rattle.step_problem.specs.Entries.{ends_in}
-use Rattle.cell_relax.specs.Sides.{AreNoLooser, other}
-use Rattle.head_table.specs.Seats.{IsSeatOf, seen_on, seen_of, SameOn}
+use Rattle.relax_worker.proofs.Common.{◌≡◌, ℕ, length, take, All, ends_in, AreNoLooser, other, IsSeatOf, seen_on, seen_of, SameOn}
 use Rattle.relax_worker.proofs.sides.load_links.Given as goal
 
 abbrev pub invariant-loop-i : goal.invariant-loop-i

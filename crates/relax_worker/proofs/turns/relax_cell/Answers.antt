@@ -1,14 +1,5 @@
-use Rattle.std.proofs.Common.{◌<◌, ◌∙◌, List, length, All, FitsSigned, rules, sym, subst}
-use Rattle.std.specs.Int.{w64}
-use Rattle.std.proofs.lemmas.Int.{to_z-of_z}
-use Rattle.step_problem.specs.declared.entry.Link.{Link}
-use Rattle.step_problem.specs.Entries.{Entries}
-use Rattle.step_problem.specs.Conditions.{IsProblem}
-use Rattle.cell_relax.specs.Sides.{AreNoLooser, IsRelaxedOn}
-use Rattle.cell_relax.proofs.Reading.{ends_in_range}
-use Rattle.cell_relax.proofs.Sides.{is_side}
-use Rattle.head_table.specs.Seats.{seen_on, seen_of}
-use Rattle.head_table.proofs.Looser.{moves_no_looser, no_looser_trans}
+use Rattle.relax_worker.proofs.Common.{◌<◌, ◌∙◌, List, length, All, FitsSigned, rules, sym, subst, w64, to_z-of_z, Link, Entries, IsProblem, AreNoLooser}
+use Rattle.relax_worker.proofs.Common.{IsRelaxedOn, ends_in_range, is_side, seen_on, seen_of, moves_no_looser, no_looser_trans}
 use Rattle.relax_worker.proofs.Gaining.{turn_gains}
 use Rattle.relax_worker.proofs.turns.relax_cell.Goals as goal
 

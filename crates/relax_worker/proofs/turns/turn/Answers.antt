@@ -1,9 +1,4 @@
-use Rattle.std.proofs.Common.{ℕ, ◌%◌, length, ℤ, sym, ap, ◌∙◌, subst}
-use Rattle.step_problem.specs.declared.heads.Side.{Side}
-use Rattle.step_problem.specs.declared.heads.Side.TheVariants.{Low, High}
-use Rattle.head_table.specs.BySide.{HasMoved}
-use Rattle.head_table.specs.Seats.{seen_on, seen_of}
-use Rattle.head_table.proofs.Looser.{no_looser_trans}
+use Rattle.relax_worker.proofs.Common.{ℕ, ◌%◌, length, ℤ, sym, ap, ◌∙◌, subst, Side, Low, High, HasMoved, seen_on, seen_of, no_looser_trans}
 use Rattle.relax_worker.proofs.turns.turn.Goals as goal
 
 -- the raise stays when the cell is sunk, and the sink begins with what was seen before the raise

@@ -1,16 +1,9 @@
-use Rattle.std.proofs.Common.{◌≡◌, ℕ, ◌+◌, ◌-◌, ◌%◌, ◌<◌, length, refl, sym, ap, ◌∙◌, subst, arith}
+use Rattle.relax_worker.proofs.Common.{◌≡◌, ℕ, ◌+◌, ◌-◌, ◌%◌, ◌<◌, length, refl, sym, ap, ◌∙◌, subst, arith, Side, IsProblem, AreNoLooser, is_side, HeadSeat}
+use Rattle.relax_worker.proofs.Common.{HasMoved, IsSeatOf, seen_on, seen_of, same_no_looser, no_looser_trans}
 use native.Mathlib.Nat.{mod-eq_of_lt}
-use Rattle.step_problem.specs.declared.heads.Side.{Side}
-use Rattle.step_problem.specs.Conditions.{IsProblem}
-use Rattle.cell_relax.specs.Sides.{AreNoLooser}
-use Rattle.cell_relax.proofs.Sides.{is_side}
-use Rattle.head_table.specs.declared.table.HeadSeat.{HeadSeat}
-use Rattle.head_table.specs.BySide.{HasMoved}
-use Rattle.head_table.specs.Seats.{IsSeatOf, seen_on, seen_of}
-use Rattle.head_table.proofs.Looser.{same_no_looser, no_looser_trans}
 use Rattle.relax_worker.proofs.Gaining.{own_step}
-use Rattle.relax_worker.proofs.workers.own_turns.Goals as goal
 use Rattle.relax_worker.proofs.workers.own_turns.Goals.{then-cell-workers, else-cell-workers}
+use Rattle.relax_worker.proofs.workers.own_turns.Goals as goal
 
 pub loop-cell-preserved : goal.loop-cell-preserved
 loop-cell-preserved c =

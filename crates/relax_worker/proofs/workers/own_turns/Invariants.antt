@@ -1,8 +1,4 @@
-use Rattle.std.proofs.Common.{◌≡◌, ℕ, ◌<◌, ◌%◌, ◌-◌}
-use Rattle.step_problem.specs.declared.heads.Side.{Side}
-use Rattle.cell_relax.specs.Sides.{AreNoLooser}
-use Rattle.head_table.specs.BySide.{HasMoved}
-use Rattle.head_table.specs.Seats.{IsSeatOf, seen_on, seen_of}
+use Rattle.relax_worker.proofs.Common.{◌≡◌, ℕ, ◌<◌, ◌%◌, ◌-◌, Side, AreNoLooser, HasMoved, IsSeatOf, seen_on, seen_of}
 use Rattle.relax_worker.proofs.workers.own_turns.Given as goal
 
 abbrev pub invariant-loop-cell : goal.invariant-loop-cell

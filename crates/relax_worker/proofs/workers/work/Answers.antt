@@ -1,5 +1,4 @@
-use Rattle.head_table.specs.Seats.{seen_of}
-use Rattle.head_table.proofs.Looser.{same_no_looser, no_looser_trans}
+use Rattle.relax_worker.proofs.Common.{seen_of, same_no_looser, no_looser_trans}
 use Rattle.relax_worker.proofs.workers.work.Goals as goal
 
 pub loop-number-preserved : goal.loop-number-preserved

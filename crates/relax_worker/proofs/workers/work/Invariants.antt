@@ -1,5 +1,4 @@
-use Rattle.cell_relax.specs.Sides.{AreNoLooser}
-use Rattle.head_table.specs.Seats.{IsSeatOf, seen_of}
+use Rattle.relax_worker.proofs.Common.{AreNoLooser, IsSeatOf, seen_of}
 use Rattle.relax_worker.proofs.workers.work.Given as goal
 
 abbrev pub invariant-loop-number : goal.invariant-loop-number

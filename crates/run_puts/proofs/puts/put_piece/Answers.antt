@@ -1,9 +1,6 @@
-use Rattle.std.proofs.Common.{List, [], ◌∷◌, ◌++◌, subst, sym}
-use Rattle.outside.specs.Puts.{Put, refused}
-use Rattle.outside.specs.declared.traits.SinkError.TheVariants as error
-use Rattle.run_puts.specs.Tails.{memory_put, failed, sink_wanting, IsTail}
-use Rattle.run_puts.specs.declared.status.Status.{Status}
+use Rattle.run_puts.proofs.Common.{List, [], ◌∷◌, ◌++◌, subst, sym, Put, refused, memory_put, failed, sink_wanting, IsTail, Status}
 use Rattle.run_puts.proofs.Grouped.{grouped}
+use Rattle.outside.specs.declared.traits.SinkError.TheVariants as error
 use Rattle.run_puts.proofs.puts.put_piece.Goals as goal
 
 pub returns-in-Err-Write : goal.returns-in-Err-Write

@@ -1,5 +1,4 @@
-use Rattle.std.proofs.Common.{pos, neg_ℤ, refl, arith}
-use Rattle.std.proofs.lemmas.Int.{ints}
+use Rattle.scaled_decimal.proofs.Common.{pos, neg_ℤ, refl, arith, ints}
 use Rattle.scaled_decimal.proofs.Monotone.{units_grow_down}
 use Rattle.scaled_decimal.proofs.Nearest.{down_same}
 use Rattle.scaled_decimal.proofs.Products.{nothing, zero_down, nothing_same, exact_from_at}

@@ -1,8 +1,4 @@
-use Rattle.std.proofs.Common.{◌+◌, arith, add-one}
-use Rattle.std.proofs.lemmas.Int.{ints}
-use Rattle.std.proofs.Math.Nat.{pow-suc}
-use Rattle.decimal_input.proofs.Orders.{Same-trans}
-use Rattle.decimal_input.proofs.Powers.{ten_pos}
+use Rattle.scaled_decimal.proofs.Common.{◌+◌, arith, add-one, ints, pow-suc, Same-trans, ten_pos}
 use Rattle.scaled_decimal.proofs.Nearest.{uncarried}
 use Rattle.scaled_decimal.proofs.Numbers.{few_places}
 use Rattle.scaled_decimal.proofs.convert.padded.Goals as goal

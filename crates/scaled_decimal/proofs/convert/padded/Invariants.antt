@@ -1,6 +1,4 @@
-use Rattle.std.proofs.Common.{◌≡◌, ℕ, ◌-◌, ◌^◌, ◌≤◌, ◌<◌, pos, ◌+ℤ◌}
-use Rattle.decimal_input.specs.Ratios.{Same}
-use Rattle.decimal_input.specs.Decimals.{scaled}
+use Rattle.scaled_decimal.proofs.Common.{◌≡◌, ℕ, ◌-◌, ◌^◌, ◌≤◌, ◌<◌, pos, ◌+ℤ◌, Same, scaled}
 use Rattle.scaled_decimal.proofs.convert.padded.Given as goal
 
 abbrev pub invariant-loop-m : goal.invariant-loop-m

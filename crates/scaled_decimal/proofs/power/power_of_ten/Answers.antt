@@ -1,5 +1,4 @@
-use Rattle.std.proofs.Common.{arith}
-use Rattle.decimal_input.proofs.Powers.{power_within}
+use Rattle.scaled_decimal.proofs.Common.{arith, power_within}
 use Rattle.scaled_decimal.proofs.power.power_of_ten.Goals as goal
 
 pub pow-requires : goal.pow-requires

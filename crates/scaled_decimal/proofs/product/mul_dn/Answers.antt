@@ -1,5 +1,4 @@
-use Rattle.std.proofs.Common.{refl, arith, pos}
-use Rattle.std.proofs.lemmas.Int.{ints}
+use Rattle.scaled_decimal.proofs.Common.{refl, arith, pos, ints}
 use Rattle.scaled_decimal.proofs.Monotone.{products_grow_down}
 use Rattle.scaled_decimal.proofs.Products.{exact_from, zero_down, no_product, scaled_times_at}
 use Rattle.scaled_decimal.proofs.Sizes.{HasSize-within}

@@ -1,5 +1,4 @@
-use Rattle.std.proofs.Common.{◌*◌, refl, arith, pos}
-use Rattle.std.proofs.lemmas.Int.{ints}
+use Rattle.scaled_decimal.proofs.Common.{◌*◌, refl, arith, pos, ints}
 use Rattle.scaled_decimal.proofs.Monotone.{products_grow_up}
 use Rattle.scaled_decimal.proofs.Products.{exact_up_to, zero_up, no_product, scaled_times_at}
 use Rattle.scaled_decimal.proofs.Sizes.{HasSize-within}

@@ -1,5 +1,4 @@
-use Rattle.std.proofs.Common.{refl, arith, pos}
-use Rattle.std.proofs.lemmas.Int.{ints}
+use Rattle.scaled_decimal.proofs.Common.{refl, arith, pos, ints}
 use Rattle.scaled_decimal.proofs.Monotone.{quotients_grow_down}
 use Rattle.scaled_decimal.proofs.Products.{zero_down}
 use Rattle.scaled_decimal.proofs.Quotients.{quotient_from, no_quotient}

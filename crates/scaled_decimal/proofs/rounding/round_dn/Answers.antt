@@ -1,5 +1,4 @@
-use Rattle.std.proofs.Common.{◌/◌, ◌≤◌, ◌^◌, refl, arith}
-use Rattle.std.proofs.lemmas.Int.{ints}
+use Rattle.scaled_decimal.proofs.Common.{◌/◌, ◌≤◌, ◌^◌, refl, arith, ints}
 use Rattle.scaled_decimal.proofs.Fronts.{down_at_18, down_at_19}
 use Rattle.scaled_decimal.proofs.Numbers.{power_pos, at_least_quotient}
 use Rattle.scaled_decimal.proofs.rounding.round_dn.Goals as goal

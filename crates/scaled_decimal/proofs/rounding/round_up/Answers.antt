@@ -1,5 +1,4 @@
-use Rattle.std.proofs.Common.{◌≡◌, ◌/◌, ◌-◌, ◌^◌, refl, arith}
-use Rattle.std.proofs.lemmas.Int.{ints}
+use Rattle.scaled_decimal.proofs.Common.{◌≡◌, ◌/◌, ◌-◌, ◌^◌, refl, arith, ints}
 use Rattle.scaled_decimal.proofs.Fronts.{up_at_18, up_at_nines, up_at_19}
 use Rattle.scaled_decimal.proofs.rounding.round_up.Goals as goal
 

@@ -1,10 +1,7 @@
-use Rattle.std.proofs.Common.{arith, subst}
-use Rattle.std.proofs.lemmas.Int.{ints, clamps}
-use Rattle.scaled_decimal.specs.Nearest.{IsDown}
+use Rattle.scaled_decimal.proofs.Common.{arith, subst, ints, clamps, IsDown, plus-comm}
 use Rattle.scaled_decimal.proofs.Monotone.{sums_grow_down}
 use Rattle.scaled_decimal.proofs.Nearest.{down_self}
 use Rattle.scaled_decimal.proofs.Sizes.{HasSize-wider, HasSize-within}
-use Rattle.decimal_input.proofs.SameNumbers.{plus-comm}
 use Rattle.scaled_decimal.proofs.Sums.{left_nothing, right_nothing, more_plus, more_plus_left}
 use Rattle.scaled_decimal.proofs.sum.add_dn.Goals as goal
 

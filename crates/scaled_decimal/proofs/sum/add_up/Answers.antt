@@ -1,10 +1,7 @@
-use Rattle.std.proofs.Common.{arith, subst}
-use Rattle.std.proofs.lemmas.Int.{ints, clamps}
-use Rattle.scaled_decimal.specs.Nearest.{IsUp}
+use Rattle.scaled_decimal.proofs.Common.{arith, subst, ints, clamps, IsUp, plus-comm}
 use Rattle.scaled_decimal.proofs.Monotone.{sums_grow_up}
 use Rattle.scaled_decimal.proofs.Nearest.{up_self}
 use Rattle.scaled_decimal.proofs.Sizes.{HasSize-wider, HasSize-within}
-use Rattle.decimal_input.proofs.SameNumbers.{plus-comm}
 use Rattle.scaled_decimal.proofs.Sums.{left_nothing, right_nothing, more_plus, more_plus_left}
 use Rattle.scaled_decimal.proofs.sum.add_up.Goals as goal
 

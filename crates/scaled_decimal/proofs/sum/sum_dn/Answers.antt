@@ -1,5 +1,4 @@
-use Rattle.std.proofs.Common.{arith}
-use Rattle.std.proofs.lemmas.Int.{ints}
+use Rattle.scaled_decimal.proofs.Common.{arith, ints}
 use Rattle.scaled_decimal.proofs.Nearest.{nearest_down}
 use Rattle.scaled_decimal.proofs.Numbers.{below_ten, power_pos}
 use Rattle.scaled_decimal.proofs.Products.{exact_from}

@@ -1,5 +1,4 @@
-use Rattle.std.proofs.Common.{arith}
-use Rattle.std.proofs.lemmas.Int.{ints}
+use Rattle.scaled_decimal.proofs.Common.{arith, ints}
 use Rattle.scaled_decimal.proofs.UnitBounds.{floor_grows}
 use Rattle.scaled_decimal.proofs.units.floor_units.Goals as goal
 

@@ -1,5 +1,4 @@
-use Rattle.std.proofs.Common.{◌<◌, ◌⊎◌, ℕ, ◌≤ℤ◌, ◌<ℤ◌}
-use Rattle.step_problem.specs.Heads.{head_at, upper_at}
+use Rattle.settle_driver.proofs.Common.{◌<◌, ◌⊎◌, ℕ, ◌≤ℤ◌, ◌<ℤ◌, head_at, upper_at}
 use Rattle.settle_driver.proofs.leaving.high_have_left.Given as goal
 
 abbrev pub invariant-loop-cell : goal.invariant-loop-cell

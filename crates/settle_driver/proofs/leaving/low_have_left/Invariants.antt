@@ -1,5 +1,4 @@
-use Rattle.std.proofs.Common.{◌<◌, ◌⊎◌, ℕ, ◌≤ℤ◌, ◌<ℤ◌}
-use Rattle.step_problem.specs.Heads.{head_at, lower_at}
+use Rattle.settle_driver.proofs.Common.{◌<◌, ◌⊎◌, ℕ, ◌≤ℤ◌, ◌<ℤ◌, head_at, lower_at}
 use Rattle.settle_driver.proofs.leaving.low_have_left.Given as goal
 
 abbrev pub invariant-loop-cell : goal.invariant-loop-cell

@@ -1,7 +1,7 @@
 use Rattle.std.proofs.Common.{arith, sym, subst}
 use Rattle.settle_driver.proofs.InOrder.{Listed, listed_more}
-use Rattle.settle_driver.proofs.listed.relax_listed.Goals as goal
 use Rattle.settle_driver.proofs.listed.relax_listed.Goals.{then-cell-cells, else-cell-cells}
+use Rattle.settle_driver.proofs.listed.relax_listed.Goals as goal
 
 pub loop-cell-preserved : goal.loop-cell-preserved
 loop-cell-preserved c =

@@ -1,8 +1,5 @@
-use Rattle.std.proofs.Common.{List, subst}
-use Rattle.step_problem.specs.declared.heads.Bound.{Bound}
-use Rattle.step_problem.specs.Heads.{lower_at, upper_at}
+use Rattle.settle_driver.proofs.Common.{List, subst, Bound, lower_at, upper_at, AreSettled}
 use Rattle.step_problem.specs.Leaving.{HaveLeft}
-use Rattle.step_problem.specs.Settling.{AreSettled}
 use Rattle.step_problem.proofs.Leaving.{leaving_settles}
 use Rattle.settle_driver.proofs.near.settled_near.Goals as goal
 

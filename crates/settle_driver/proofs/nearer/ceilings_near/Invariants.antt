@@ -1,6 +1,4 @@
-use Rattle.std.proofs.Common.{◌≡◌, ◌<◌, ℕ, length}
-use Rattle.step_problem.specs.Heads.{Ge, head_at}
-use Rattle.settle_driver.specs.Near.{IsHeadFrom}
+use Rattle.settle_driver.proofs.Common.{◌≡◌, ◌<◌, ℕ, length, Ge, head_at, IsHeadFrom}
 use Rattle.settle_driver.proofs.nearer.ceilings_near.Given as goal
 
 abbrev pub invariant-loop-cell : goal.invariant-loop-cell

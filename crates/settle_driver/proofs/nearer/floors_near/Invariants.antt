@@ -1,6 +1,4 @@
-use Rattle.std.proofs.Common.{◌≡◌, ◌<◌, ℕ, length, ◌≤ℤ◌}
-use Rattle.step_problem.specs.Heads.{head_at}
-use Rattle.settle_driver.specs.Near.{IsHeadFrom}
+use Rattle.settle_driver.proofs.Common.{◌≡◌, ◌<◌, ℕ, length, ◌≤ℤ◌, head_at, IsHeadFrom}
 use Rattle.settle_driver.proofs.nearer.floors_near.Given as goal
 
 abbrev pub invariant-loop-cell : goal.invariant-loop-cell

@@ -1,5 +1,4 @@
-use Rattle.std.proofs.Common.{arith, below_more}
-use Rattle.step_problem.specs.declared.heads.Side.TheVariants.{Low, High}
+use Rattle.settle_driver.proofs.Common.{arith, below_more, Low, High}
 use Rattle.settle_driver.proofs.Opening.{none_open}
 use Rattle.settle_driver.proofs.open.first_open.Goals as goal
 

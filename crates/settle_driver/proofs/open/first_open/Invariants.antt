@@ -1,6 +1,4 @@
-use Rattle.std.proofs.Common.{ℕ, ◌<◌}
-use Rattle.step_problem.specs.declared.heads.Side.{Side}
-use Rattle.step_problem.specs.Settling.{CanMove}
+use Rattle.settle_driver.proofs.Common.{ℕ, ◌<◌, Side, CanMove}
 use Rattle.settle_driver.proofs.open.first_open.Given as goal
 
 abbrev pub invariant-loop-cell : goal.invariant-loop-cell

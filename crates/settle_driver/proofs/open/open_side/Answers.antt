@@ -1,7 +1,4 @@
-use Rattle.std.proofs.Common.{rules, arith, FitsSigned}
-use Rattle.std.specs.Int.{w64}
-use Rattle.std.proofs.lemmas.Int.{ints, to_z-of_z}
-use Rattle.step_problem.specs.Heads.{lower_at, upper_at}
+use Rattle.settle_driver.proofs.Common.{rules, arith, FitsSigned, w64, ints, to_z-of_z, lower_at, upper_at}
 use Rattle.settle_driver.proofs.Opening.{side_by_tests}
 use Rattle.settle_driver.proofs.open.open_side.Goals as goal
 

@@ -1,6 +1,4 @@
-use Rattle.std.proofs.Common.{◌≡◌, All, vec_len}
-use Rattle.head_table.specs.Seats.{IsSeatOf, seen_of}
-use Rattle.settle_driver.specs.Phases.{HasSeen}
+use Rattle.settle_driver.proofs.Common.{◌≡◌, All, vec_len, IsSeatOf, seen_of, HasSeen}
 use Rattle.settle_driver.proofs.phases.deal.Given as goal
 
 abbrev pub invariant-loop-i : goal.invariant-loop-i

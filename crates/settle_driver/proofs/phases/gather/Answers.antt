@@ -1,9 +1,5 @@
-use Rattle.std.proofs.Common.{List, [], ◌∷◌, ◌++◌, All, ap, ◌∙◌, subst, append_assoc}
+use Rattle.settle_driver.proofs.Common.{List, [], ◌∷◌, ◌++◌, All, ap, ◌∙◌, subst, append_assoc, HeadSeat, AreNoLooser, IsSeatOf, seen_of, no_looser_trans}
 use Rattle.std.proofs.lemmas.List.Elements.{All-weaker}
-use Rattle.head_table.specs.declared.table.HeadSeat.{HeadSeat}
-use Rattle.cell_relax.specs.Sides.{AreNoLooser}
-use Rattle.head_table.specs.Seats.{IsSeatOf, seen_of}
-use Rattle.head_table.proofs.Looser.{no_looser_trans}
 use Rattle.settle_driver.proofs.Gathering.{tighter_left, tighter_right, all_cons, all_front}
 use Rattle.settle_driver.proofs.phases.gather.Goals as goal
 

@@ -1,7 +1,4 @@
-use Rattle.std.proofs.Common.{◌≡◌, ◌++◌, List, All}
-use Rattle.head_table.specs.declared.table.HeadSeat.{HeadSeat}
-use Rattle.cell_relax.specs.Sides.{AreNoLooser}
-use Rattle.head_table.specs.Seats.{IsSeatOf, seen_of}
+use Rattle.settle_driver.proofs.Common.{◌≡◌, ◌++◌, List, All, HeadSeat, AreNoLooser, IsSeatOf, seen_of}
 use Rattle.settle_driver.proofs.phases.gather.Given as goal
 
 abbrev pub invariant-loop-other : goal.invariant-loop-other

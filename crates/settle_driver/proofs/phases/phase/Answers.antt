@@ -1,11 +1,5 @@
-use Rattle.std.proofs.Common.{◌≡◌, ℕ, ◌<◌, List, length, get_or, All, vec_len, Vec, Global, subst, arith}
-use Rattle.step_problem.specs.declared.heads.Bound.{Bound}
-use Rattle.step_problem.specs.Entries.{Entries}
-use Rattle.head_table.specs.declared.table.HeadSeat.{HeadSeat}
-use Rattle.cell_relax.specs.Sides.{AreNoLooser}
-use Rattle.head_table.specs.Seats.{seen_of}
-use Rattle.settle_driver.specs.Phases.{HasSeen, HasWorked}
-use Rattle.head_table.proofs.Closing.{ok_under}
+use Rattle.settle_driver.proofs.Common.{◌≡◌, ℕ, ◌<◌, List, length, get_or, All, vec_len, Vec, Global, subst, arith, Bound, Entries, HeadSeat, AreNoLooser}
+use Rattle.settle_driver.proofs.Common.{seen_of, HasSeen, HasWorked, ok_under}
 use Rattle.settle_driver.proofs.Gathering.{phase_gains}
 use Rattle.settle_driver.proofs.phases.phase.Goals as goal
 

@@ -1,9 +1,4 @@
-use Rattle.std.proofs.Common.{◌∙◌, subst, arith}
-use Rattle.step_problem.specs.Conditions.{IsProblem}
-use Rattle.step_problem.proofs.Sides.{passes_more}
-use Rattle.cell_relax.proofs.Sides.{is_side}
-use Rattle.head_table.specs.Seats.{seen_on, seen_of}
-use Rattle.head_table.proofs.Looser.{no_looser_trans, tight_refl}
+use Rattle.settle_driver.proofs.Common.{◌∙◌, subst, arith, IsProblem, passes_more, is_side, seen_on, seen_of, no_looser_trans, tight_refl}
 use Rattle.settle_driver.proofs.phases.work_one.Goals as goal
 
 pub returns : goal.returns

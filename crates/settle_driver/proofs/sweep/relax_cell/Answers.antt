@@ -1,6 +1,4 @@
-use Rattle.std.proofs.Common.{rules, arith, ◌<◌, length, FitsSigned}
-use Rattle.std.specs.Int.{w64}
-use Rattle.std.proofs.lemmas.Int.{to_z-of_z}
+use Rattle.settle_driver.proofs.Common.{rules, arith, ◌<◌, length, FitsSigned, w64, to_z-of_z}
 use Rattle.settle_driver.proofs.Turning.{relaxed_set, still_set}
 use Rattle.settle_driver.proofs.sweep.relax_cell.Goals as goal
 

@@ -1,5 +1,4 @@
-use Rattle.std.proofs.Common.{◌≡◌, arith, subst, ℕ}
-use Rattle.settle_driver.specs.Sweeps.{SettleWithin}
+use Rattle.settle_driver.proofs.Common.{◌≡◌, arith, subst, ℕ, SettleWithin}
 use Rattle.settle_driver.proofs.Settling.{swept_never, swept_again, swept_settles}
 use Rattle.settle_driver.proofs.sweep.sweep_up_to.Goals as goal
 

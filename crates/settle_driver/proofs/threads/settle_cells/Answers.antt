@@ -1,9 +1,4 @@
-use Rattle.std.proofs.Common.{◌≡◌, ℕ, ◌<◌, arith, refl, sym, ◌∙◌, subst, ap, List}
-use Rattle.std.specs.Prelude.{MatchOption, not}
-use Rattle.step_problem.specs.declared.heads.Bound.{Bound}
-use Rattle.step_problem.specs.Settling.{IsFirstOpen}
-use Rattle.cell_relax.specs.Words.{AreWords}
-use Rattle.settle_driver.specs.Sweeps.{AreBothSettled}
+use Rattle.settle_driver.proofs.Common.{◌≡◌, ℕ, ◌<◌, arith, refl, sym, ◌∙◌, subst, ap, List, MatchOption, not, Bound, IsFirstOpen, AreWords, AreBothSettled}
 use Rattle.settle_driver.proofs.Opening.{where_none, where_some}
 use Rattle.settle_driver.proofs.Phasing.{ArePhased, phased_again, phased_unfinished, settled_on_the_way}
 use Rattle.settle_driver.proofs.threads.settle_cells.Goals as goal

@@ -1,7 +1,4 @@
-use Rattle.std.proofs.Common.{◌<◌}
-use Rattle.std.specs.Prelude.{MatchOption}
-use Rattle.step_problem.specs.Settling.{IsFirstOpen}
-use Rattle.settle_driver.specs.Sweeps.{AreBothSettled}
+use Rattle.settle_driver.proofs.Common.{◌<◌, MatchOption, IsFirstOpen, AreBothSettled}
 use Rattle.settle_driver.proofs.Phasing.{ArePhased}
 use Rattle.settle_driver.proofs.threads.settle_cells.Given as goal
 

@@ -1,9 +1,5 @@
-use Rattle.std.proofs.Common.{◌≡◌, ℕ, ◌+◌, ◌<◌, arith, refl, sym, ◌∙◌, subst, ap, List}
-use Rattle.std.specs.Prelude.{MatchOption, not}
-use Rattle.step_problem.specs.declared.heads.Bound.{Bound}
-use Rattle.step_problem.specs.Settling.{IsFirstOpen}
-use Rattle.cell_relax.specs.Words.{AreWords}
-use Rattle.settle_driver.specs.Sweeps.{AreBothSettled}
+use Rattle.settle_driver.proofs.Common.{◌≡◌, ℕ, ◌+◌, ◌<◌, arith, refl, sym, ◌∙◌, subst, ap, List, MatchOption, not, Bound, IsFirstOpen, AreWords}
+use Rattle.settle_driver.proofs.Common.{AreBothSettled}
 use Rattle.settle_driver.proofs.Opening.{where_none, where_some}
 use Rattle.settle_driver.proofs.Phasing.{ArePhased, phased_never, phased_again, phased_unfinished, settled_on_the_way}
 use Rattle.settle_driver.proofs.Viewing.{no_phase, one_phase_more, phases_made, phases_fail}

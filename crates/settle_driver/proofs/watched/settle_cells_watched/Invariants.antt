@@ -1,7 +1,4 @@
-use Rattle.std.proofs.Common.{◌<◌}
-use Rattle.std.specs.Prelude.{MatchOption}
-use Rattle.step_problem.specs.Settling.{IsFirstOpen}
-use Rattle.settle_driver.specs.Sweeps.{AreBothSettled}
+use Rattle.settle_driver.proofs.Common.{◌<◌, MatchOption, IsFirstOpen, AreBothSettled}
 use Rattle.settle_driver.proofs.Phasing.{ArePhased}
 use Rattle.settle_driver.proofs.Viewing.{AddsWhole}
 use Rattle.settle_driver.proofs.watched.settle_cells_watched.Given as goal

@@ -1,5 +1,4 @@
-use Rattle.std.proofs.Common.{◌≡◌, length, arith}
-use Rattle.head_table.specs.Seats.{seen_of}
+use Rattle.settle_driver.proofs.Common.{◌≡◌, length, arith, seen_of}
 use Rattle.settle_driver.proofs.Viewing.{look_encloses, still_past_barrier}
 use Rattle.settle_driver.proofs.watching.look.Goals as goal
 

@@ -1,6 +1,4 @@
-use Rattle.std.proofs.Common.{◌≡◌, length}
-use Rattle.head_table.specs.Seats.{IsSeatOf, seen_of}
-use Rattle.settle_driver.specs.Views.{AddsViews, ArePastBarrier}
+use Rattle.settle_driver.proofs.Common.{◌≡◌, length, IsSeatOf, seen_of, AddsViews, ArePastBarrier}
 use Rattle.settle_driver.proofs.watching.watch_turns.Given as goal
 
 abbrev pub invariant-loop-turn : goal.invariant-loop-turn

@@ -1,10 +1,8 @@
-use Rattle.std.proofs.Common.{◌<◌, sym, ap, ◌∙◌, arith}
-use Rattle.model_types.specs.Cells.{cell_count}
+use Rattle.step_chain.proofs.Common.{◌<◌, sym, ap, ◌∙◌, arith, cell_count, bound_at}
 use Rattle.problem_builder.proofs.KindsOf.{variable_kind}
-use Rattle.step_chain.specs.GridHeads.{bound_at}
 use Rattle.step_chain.proofs.Filled.{kind_variable, partly_at_first, partly_other, partly_variable, all_filled}
-use Rattle.step_chain.proofs.heads.fill_in.Goals as goal
 use Rattle.step_chain.proofs.heads.fill_in.Goals.{in-Variable, in_default}
+use Rattle.step_chain.proofs.heads.fill_in.Goals as goal
 
 pub loop-cell-init : goal.loop-cell-init
 loop-cell-init c = partly_at_first c.args.model.now c.args.at c.args.bounds.now c.args.constant_heads c.requires.constant

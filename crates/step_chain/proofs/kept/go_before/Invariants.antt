@@ -1,5 +1,4 @@
-use Rattle.std.proofs.Common.{◌≡◌, ◌≤◌}
-use Rattle.model_types.specs.Kinds.{given_heads}
+use Rattle.step_chain.proofs.Common.{◌≡◌, ◌≤◌, given_heads}
 use Rattle.step_chain.proofs.kept.go_before.Given as goal
 
 abbrev pub invariant-loop : goal.invariant-loop

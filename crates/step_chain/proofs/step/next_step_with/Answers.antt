@@ -1,19 +1,13 @@
-use Rattle.std.proofs.Common.{ℕ, List, false, inr, subst, sym, true}
+use Rattle.step_chain.proofs.Common.{ℕ, List, false, inr, subst, sym, true, Bound, AreSettled, IsBarrierOf, IsProblemOf, Solved, AreHeadsOf}
 use Rattle.std.proofs.lemmas.Result.{err_from_is_err_and}
-use Rattle.step_problem.specs.declared.heads.Bound.{Bound}
-use Rattle.step_problem.specs.Settling.{AreSettled}
-use Rattle.barrier_vector.specs.Barriers.{IsBarrierOf}
-use Rattle.problem_builder.specs.Problems.{IsProblemOf}
 use Rattle.problem_builder.proofs.TimesOf.{time_of}
-use Rattle.step_chain.specs.declared.solved.Solved.{Solved}
-use Rattle.step_chain.specs.GridHeads.{AreHeadsOf}
 use Rattle.step_chain.specs.Keeps.{digits_of}
 use Rattle.step_chain.proofs.Failing.{barrier_fails, settle_fails}
 use Rattle.step_chain.proofs.Following.{follows, settled_words}
 use Rattle.step_chain.proofs.Parts.{AreParts, is_settled, led_by, settled_encloses}
+use Rattle.step_chain.proofs.step.next_step_with.Goals.{After-heads_fit}
 use Rattle.step_chain.proofs.step.next_step_with.Given as given
 use Rattle.step_chain.proofs.step.next_step_with.Goals as goal
-use Rattle.step_chain.proofs.step.next_step_with.Goals.{After-heads_fit}
 
 pub go_to-requires-clause-first : goal.go_to-requires-clause-first
 go_to-requires-clause-first g c = (time_of c.args.model.now c.args.at c.requires.model c.requires.time).period.0

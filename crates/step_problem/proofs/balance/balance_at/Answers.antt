@@ -1,9 +1,5 @@
-use Rattle.std.proofs.Common.{◌≡◌, ◌∙◌, sym, ap, rules, FitsSigned}
-use Rattle.std.specs.Int.{w128, w64}
-use Rattle.std.proofs.lemmas.Int.{to_z-of_z}
-use Rattle.step_problem.specs.Entries.{ends_in}
-use Rattle.step_problem.specs.Flows.{total}
-use Rattle.step_problem.specs.BothSides.{flow_bound, link_flow, fixed_flow, river_flow, drain_flow, evap_flow}
+use Rattle.step_problem.proofs.Common.{◌≡◌, ◌∙◌, sym, ap, rules, FitsSigned, w128, w64, to_z-of_z, ends_in, total, flow_bound, link_flow, fixed_flow}
+use Rattle.step_problem.proofs.Common.{river_flow, drain_flow, evap_flow}
 use Rattle.step_problem.proofs.Sums.{balance_is}
 use Rattle.step_problem.proofs.balance.balance_at.Goals as goal
 

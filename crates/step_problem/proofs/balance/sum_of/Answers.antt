@@ -1,6 +1,4 @@
-use Rattle.std.proofs.Common.{rules, arith, ◌+ℤ◌, FitsSigned, refl}
-use Rattle.std.specs.Int.{w128}
-use Rattle.std.proofs.lemmas.Int.{ints, to_z-of_z}
+use Rattle.step_problem.proofs.Common.{rules, arith, ◌+ℤ◌, FitsSigned, refl, w128, ints, to_z-of_z}
 use Rattle.step_problem.proofs.balance.sum_of.Goals as goal
 
 pub returns : goal.returns

@@ -1,6 +1,4 @@
-use Rattle.std.proofs.Common.{refl, below_more}
-use Rattle.step_problem.specs.Entries.{entries_at}
-use Rattle.step_problem.specs.Conditions.{LinksFit}
+use Rattle.step_problem.proofs.Common.{refl, below_more, entries_at, LinksFit}
 use Rattle.step_problem.proofs.fitting.all_links_fit.Goals as goal
 
 pub loop-c-preserved : goal.loop-c-preserved

@@ -1,6 +1,4 @@
-use Rattle.std.proofs.Common.{ℕ, ◌<◌}
-use Rattle.step_problem.specs.Entries.{entries_at}
-use Rattle.step_problem.specs.Conditions.{LinksFit}
+use Rattle.step_problem.proofs.Common.{ℕ, ◌<◌, entries_at, LinksFit}
 use Rattle.step_problem.proofs.fitting.all_links_fit.Given as goal
 
 abbrev pub invariant-loop-c : goal.invariant-loop-c

@@ -1,5 +1,4 @@
-use Rattle.std.proofs.Common.{ℕ, ◌<◌}
-use Rattle.step_problem.specs.Entries.{entries_at}
+use Rattle.step_problem.proofs.Common.{ℕ, ◌<◌, entries_at}
 use Rattle.step_problem.proofs.fitting.ids_ascend.Given as goal
 
 abbrev pub invariant-loop-d : goal.invariant-loop-d

@@ -1,7 +1,4 @@
-use Rattle.std.proofs.Common.{◌^◌, ◌*ℤ◌, ◌≡◌, pos, arith, FitsSigned, to_z, ◌*◌}
-use Rattle.std.specs.Int.{w128, w64}
-use Rattle.std.proofs.lemmas.Int.{ints, to_z-of_z, to_z_pos}
-use Rattle.step_problem.specs.Conditions.{IsWithin}
+use Rattle.step_problem.proofs.Common.{◌^◌, ◌*ℤ◌, ◌≡◌, pos, arith, FitsSigned, to_z, ◌*◌, w128, w64, ints, to_z-of_z, to_z_pos, IsWithin}
 use Rattle.step_problem.proofs.Sums.{IsWithin-product}
 use Rattle.step_problem.proofs.flow.least_flow.Goals as goal
 

@@ -1,6 +1,4 @@
-use Rattle.std.proofs.Common.{All}
-use Rattle.outside.specs.Names.{folder_name}
-use Rattle.outside.specs.Readings.{MayAsk}
+use Rattle.text_tests.proofs.Common.{All, folder_name, MayAsk}
 use Rattle.text_tests.proofs.disk.print_calls.Given as goal
 
 abbrev pub invariant-loop-call : goal.invariant-loop-call

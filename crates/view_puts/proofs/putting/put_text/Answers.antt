@@ -1,5 +1,4 @@
-use Rattle.std.proofs.Common.{[], ◌∷◌}
-use Rattle.outside.specs.Puts.{Put}
+use Rattle.view_puts.proofs.Common.{[], ◌∷◌, Put}
 use Rattle.view_puts.proofs.Views.{is_put_of}
 use Rattle.view_puts.proofs.putting.put_text.Goals as goal
 

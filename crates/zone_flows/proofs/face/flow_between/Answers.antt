@@ -1,7 +1,4 @@
-use Rattle.std.proofs.Common.{ℕ, ℤ, ◌*◌, ◌^◌, ◌<◌, rules, arith, FitsSigned}
-use Rattle.std.specs.Int.{w128}
-use Rattle.std.proofs.lemmas.Int.{ints, to_z-of_z}
-use Rattle.step_problem.specs.Conditions.{IsWithin}
+use Rattle.zone_flows.proofs.Common.{ℕ, ℤ, ◌*◌, ◌^◌, ◌<◌, rules, arith, FitsSigned, w128, ints, to_z-of_z, IsWithin}
 use Rattle.zone_flows.proofs.face.flow_between.Goals as goal
 
 wider : (z : ℤ) (h : ℕ) → h < 2 ^ 60 → IsWithin z (h * 2 ^ 63) → IsWithin z (2 ^ 123)

@@ -1,8 +1,4 @@
-use Rattle.std.proofs.Common.{refl, pos}
-use Rattle.step_problem.specs.declared.entry.Fixed.{Fixed}
-use Rattle.step_problem.specs.declared.entry.FixedKind.TheVariants.{Storage}
-use Rattle.step_problem.specs.Heads.{lower_at, upper_at}
-use Rattle.zone_flows.specs.Faces.{faces_by_kind}
+use Rattle.zone_flows.proofs.Common.{refl, pos, Fixed, Storage, lower_at, upper_at, faces_by_kind}
 use Rattle.zone_flows.proofs.Tables.{goes_on, ends}
 use Rattle.zone_flows.proofs.faces.add_fixed.Goals as goal
 

@@ -1,8 +1,4 @@
-use Rattle.std.proofs.Common.{◌≡◌, drop}
-use Rattle.std.specs.List.{flat_map}
-use Rattle.step_problem.specs.Heads.{lower_at, upper_at}
-use Rattle.zone_flows.specs.Faces.{faces_by_kind}
-use Rattle.zone_flows.specs.Tables.{IsTable, with_faces}
+use Rattle.zone_flows.proofs.Common.{◌≡◌, drop, flat_map, lower_at, upper_at, faces_by_kind, IsTable, with_faces}
 use Rattle.zone_flows.proofs.faces.add_fixed.Given as goal
 
 abbrev pub invariant-loop-x : goal.invariant-loop-x

@@ -1,8 +1,4 @@
-use Rattle.std.proofs.Common.{refl}
-use Rattle.step_problem.specs.declared.entry.Link.{Link}
-use Rattle.step_problem.specs.Heads.{lower_at, upper_at}
-use Rattle.step_problem.specs.Entries.{entries_at, no_link}
-use Rattle.zone_flows.specs.Faces.{face_from}
+use Rattle.zone_flows.proofs.Common.{refl, Link, lower_at, upper_at, entries_at, no_link, face_from}
 use Rattle.zone_flows.proofs.Tables.{goes_on, ends}
 use Rattle.zone_flows.proofs.faces.add_links.Goals as goal
 

@@ -1,9 +1,4 @@
-use Rattle.std.proofs.Common.{◌≡◌, drop}
-use Rattle.std.specs.List.{flat_map}
-use Rattle.step_problem.specs.Heads.{lower_at, upper_at}
-use Rattle.step_problem.specs.Entries.{entries_at}
-use Rattle.zone_flows.specs.Faces.{face_from}
-use Rattle.zone_flows.specs.Tables.{IsTable, with_faces}
+use Rattle.zone_flows.proofs.Common.{◌≡◌, drop, flat_map, lower_at, upper_at, entries_at, face_from, IsTable, with_faces}
 use Rattle.zone_flows.proofs.faces.add_links.Given as goal
 
 abbrev pub invariant-loop-x : goal.invariant-loop-x

@@ -1,8 +1,4 @@
-use Rattle.std.proofs.Common.{sym, ap, ◌∙◌, subst, ℕ}
-use Rattle.std.proofs.lemmas.List.Elements.{All-tail}
-use Rattle.zone_flows.specs.declared.sum.ZoneSum.{ZoneSum}
-use Rattle.zone_flows.specs.Tables.{Table, IsTable, IsZoneSum}
-use Rattle.zone_flows.specs.TableFlows.{listed_flows}
+use Rattle.zone_flows.proofs.Common.{sym, ap, ◌∙◌, subst, ℕ, All-tail, ZoneSum, Table, IsTable, IsZoneSum, listed_flows}
 use Rattle.zone_flows.proofs.ListedFlows.{with_front, goes_on, ends, is_done}
 use Rattle.zone_flows.proofs.listed.flows_in_order.Goals as goal
 

@@ -1,6 +1,4 @@
-use Rattle.std.proofs.Common.{◌≡◌}
-use Rattle.zone_flows.specs.Tables.{IsTable}
-use Rattle.zone_flows.specs.TableFlows.{listed_flows}
+use Rattle.zone_flows.proofs.Common.{◌≡◌, IsTable, listed_flows}
 use Rattle.zone_flows.proofs.ListedFlows.{with_front}
 use Rattle.zone_flows.proofs.listed.flows_in_order.Given as goal
 

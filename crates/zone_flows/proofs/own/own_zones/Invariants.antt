@@ -1,5 +1,4 @@
-use Rattle.std.proofs.Common.{◌≡◌, map, take, slice_index}
-use Rattle.step_problem.specs.Entries.{Entries}
+use Rattle.zone_flows.proofs.Common.{◌≡◌, map, take, slice_index, Entries}
 use Rattle.zone_flows.proofs.own.own_zones.Given as goal
 
 abbrev pub invariant-loop-c : goal.invariant-loop-c

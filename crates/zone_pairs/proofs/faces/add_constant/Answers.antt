@@ -1,7 +1,5 @@
-use Rattle.std.proofs.Common.{◌≡◌, Bool, true, false, ◌&&◌, refl}
-use Rattle.std.specs.Prelude.{not}
+use Rattle.zone_pairs.proofs.Common.{◌≡◌, Bool, true, false, ◌&&◌, refl, not, is_variable, is_constant}
 use Rattle.model_types.specs.Layers.{is_active}
-use Rattle.model_types.specs.Kinds.{is_variable, is_constant}
 use Rattle.zone_pairs.proofs.CellKinds.{when_none, when_variable}
 use Rattle.zone_pairs.proofs.Keys.{nothing}
 use Rattle.zone_pairs.proofs.faces.add_constant.Goals as goal

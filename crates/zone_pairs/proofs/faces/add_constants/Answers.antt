@@ -1,5 +1,4 @@
-use Rattle.std.proofs.Common.{refl, None}
-use Rattle.zone_pairs.specs.Pairs.{to_constant}
+use Rattle.zone_pairs.proofs.Common.{refl, None, to_constant}
 use Rattle.zone_pairs.proofs.Keys.{goes_on, ends}
 use Rattle.zone_pairs.proofs.faces.add_constants.Goals as goal
 

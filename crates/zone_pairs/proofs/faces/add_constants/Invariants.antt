@@ -1,6 +1,4 @@
-use Rattle.std.proofs.Common.{◌≡◌, drop}
-use Rattle.std.specs.List.{flat_map}
-use Rattle.zone_pairs.specs.Pairs.{to_constant, with_keys}
+use Rattle.zone_pairs.proofs.Common.{◌≡◌, drop, flat_map, to_constant, with_keys}
 use Rattle.zone_pairs.proofs.faces.add_constants.Given as goal
 
 abbrev pub invariant-loop-face : goal.invariant-loop-face

@@ -1,5 +1,4 @@
-use Rattle.std.proofs.Common.{refl, None}
-use Rattle.zone_pairs.specs.Pairs.{to_variable}
+use Rattle.zone_pairs.proofs.Common.{refl, None, to_variable}
 use Rattle.zone_pairs.proofs.Keys.{goes_on, ends}
 use Rattle.zone_pairs.proofs.faces.add_variables.Goals as goal
 

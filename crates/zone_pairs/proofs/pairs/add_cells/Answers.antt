@@ -1,13 +1,9 @@
-use Rattle.std.proofs.Common.{◌≡◌, ◌-◌, ◌<◌, ◌≤◌, List, ℕ, ap, arith}
-use Rattle.model_types.specs.declared.model.FlowModel.{FlowModel}
-use Rattle.model_types.specs.Cells.{cell_count}
-use Rattle.model_types.specs.Kinds.{is_variable, is_constant, variable_below}
-use Rattle.std.specs.List.{filter, flat_map, range_with_len}
-use Rattle.zone_pairs.specs.Pairs.{cell_keys, face_keys, with_keys}
+use Rattle.zone_pairs.proofs.Common.{◌≡◌, ◌-◌, ◌<◌, ◌≤◌, List, ℕ, ap, arith, FlowModel, cell_count, is_variable, is_constant, variable_below, filter, flat_map}
+use Rattle.zone_pairs.proofs.Common.{range_with_len, cell_keys, face_keys, with_keys}
 use Rattle.zone_pairs.proofs.CellKinds.{when_constant, when_none, when_variable}
 use Rattle.zone_pairs.proofs.Keys.{passed_over, passes, walk_ends}
-use Rattle.zone_pairs.proofs.pairs.add_cells.Goals as goal
 use Rattle.zone_pairs.proofs.pairs.add_cells.Goals.{in-Variable+in_ok-add_cell-in-Variable, in-Constant, in-NoFlow}
+use Rattle.zone_pairs.proofs.pairs.add_cells.Goals as goal
 
 -- a walk from the first cell
 all_keys : (m : FlowModel) (zones : List ℕ) (p : ℕ) → flat_map (cell_keys m zones p) (filter (is_variable m p) (range_with_len 0 (cell_count m.grid - 0))) ≡ face_keys m zones p

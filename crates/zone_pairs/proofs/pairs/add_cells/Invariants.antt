@@ -1,8 +1,4 @@
-use Rattle.std.proofs.Common.{◌≡◌, ◌-◌}
-use Rattle.std.specs.List.{filter, flat_map, range_with_len}
-use Rattle.model_types.specs.Cells.{cell_count}
-use Rattle.model_types.specs.Kinds.{is_variable}
-use Rattle.zone_pairs.specs.Pairs.{cell_keys, face_keys, with_keys}
+use Rattle.zone_pairs.proofs.Common.{◌≡◌, ◌-◌, filter, flat_map, range_with_len, cell_count, is_variable, cell_keys, face_keys, with_keys}
 use Rattle.zone_pairs.proofs.pairs.add_cells.Given as goal
 
 abbrev pub invariant-loop-cell : goal.invariant-loop-cell

@@ -1,5 +1,4 @@
-use Rattle.std.proofs.Common.{◌≡◌, ◌++◌, map}
-use Rattle.zone_pairs.specs.Pairs.{pair_of}
+use Rattle.zone_pairs.proofs.Common.{◌≡◌, ◌++◌, map, pair_of}
 use Rattle.zone_pairs.proofs.pairs.pairs_of.Given as goal
 
 abbrev pub invariant-loop-key : goal.invariant-loop-key

@@ -1,5 +1,4 @@
-use Rattle.std.proofs.Common.{◌≡◌, ◌≤◌}
-use Rattle.model_types.specs.Kinds.{given_heads}
+use Rattle.zone_pairs.proofs.Common.{◌≡◌, ◌≤◌, given_heads}
 use Rattle.zone_pairs.proofs.periods.advance_to.Given as goal
 
 abbrev pub invariant-loop : goal.invariant-loop

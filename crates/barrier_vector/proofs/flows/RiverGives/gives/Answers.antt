@@ -1,7 +1,5 @@
-use Rattle.std.proofs.Common.{◌≡◌, rules, FitsSigned, arith, ◌-ℤ◌, subst, sym, ℤ}
-use Rattle.std.specs.Int.{w128, w64}
-use Rattle.std.proofs.lemmas.Int.{ints, to_z-of_z}
-use Rattle.step_problem.specs.Conditions.{deep_river_low, deep_river_high, magnitude, IsWithin}
+use Rattle.barrier_vector.proofs.Common.{◌≡◌, rules, FitsSigned, arith, ◌-ℤ◌, subst, sym, ℤ, w128, w64, ints, to_z-of_z, deep_river_low, deep_river_high}
+use Rattle.barrier_vector.proofs.Common.{magnitude, IsWithin}
 use Rattle.barrier_vector.proofs.Giving.{within_magnitude}
 use Rattle.barrier_vector.proofs.flows.RiverGives.gives.Goals as goal
 

@@ -1,6 +1,4 @@
-use Rattle.std.proofs.Common.{rules, ◌+ℤ◌, FitsSigned}
-use Rattle.std.specs.Int.{w128}
-use Rattle.std.proofs.lemmas.Int.{to_z-of_z}
+use Rattle.barrier_vector.proofs.Common.{rules, ◌+ℤ◌, FitsSigned, w128, to_z-of_z}
 use Rattle.barrier_vector.proofs.Gathering.{two_words}
 use Rattle.barrier_vector.proofs.gathered.FlowSum.plus.Goals as goal
 

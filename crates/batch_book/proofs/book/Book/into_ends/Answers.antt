@@ -1,5 +1,4 @@
-use Rattle.std.proofs.Common.{◌≡◌, rules, ℕ, ◌<◌, ◌++◌, List, length, Option, ap, sym, ◌∙◌, subst, arith}
-use Rattle.batch_book.specs.Ends.{HasEnd, AreJobEnds, those_there}
+use Rattle.batch_book.proofs.Common.{◌≡◌, rules, ℕ, ◌<◌, ◌++◌, List, length, Option, ap, sym, ◌∙◌, subst, arith, HasEnd, AreJobEnds, those_there}
 use Rattle.batch_book.proofs.Placed.{first_there, none_left, are_ends}
 use Rattle.batch_book.proofs.book.Book.into_ends.Goals as goal
 

@@ -1,5 +1,4 @@
-use Rattle.std.proofs.Common.{◌≡◌, ◌++◌}
-use Rattle.batch_book.specs.Ends.{those_there}
+use Rattle.batch_book.proofs.Common.{◌≡◌, ◌++◌, those_there}
 use Rattle.batch_book.proofs.book.Book.into_ends.Given as goal
 
 abbrev pub invariant-loop-place : goal.invariant-loop-place

@@ -1,5 +1,4 @@
-use Rattle.std.proofs.Common.{◌≡◌, ℕ, List, length, Option, Some, None, subst}
-use Rattle.batch_book.specs.Ends.{IsMissing}
+use Rattle.batch_book.proofs.Common.{◌≡◌, ℕ, List, length, Option, Some, None, subst, IsMissing}
 use Rattle.batch_book.proofs.book.Book.missing.Goals as goal
 
 -- the least empty place of a book is the least job without an end

@@ -1,5 +1,4 @@
-use Rattle.std.proofs.Common.{◌≡◌, ℕ, length, None}
-use Rattle.batch_book.specs.Ends.{end_at}
+use Rattle.batch_book.proofs.Common.{◌≡◌, ℕ, length, None, end_at}
 use Rattle.batch_book.proofs.book.Book.new.Given as goal
 
 abbrev pub invariant-loop-place : goal.invariant-loop-place

@@ -1,9 +1,4 @@
-use Rattle.std.proofs.Common.{List, subst, arith, IfOk}
-use Rattle.step_problem.specs.Heads.{AreOnTheWay}
-use Rattle.cell_relax.specs.Sides.{AreNoLooser}
-use Rattle.std.specs.Mem.Slots.{slots_items}
-use Rattle.step_problem.specs.Entries.{Entries}
-use Rattle.head_table.specs.Seats.{barrier_of}
+use Rattle.head_table.proofs.Common.{List, subst, arith, IfOk, AreOnTheWay, AreNoLooser, slots_items, Entries, barrier_of}
 use Rattle.head_table.proofs.Closing.{AtEnd, ends, closes, ok_of_two, ok_under}
 use Rattle.head_table.proofs.table.HeadTable.close.Goals as goal
 

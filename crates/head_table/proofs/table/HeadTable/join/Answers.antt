@@ -1,8 +1,4 @@
-use Rattle.std.proofs.Common.{rules, ◌∙◌, length, sym, subst, ap, arith}
-use Rattle.atomic_table.specs.Table.{Me}
-use Rattle.cell_relax.specs.Words.{heads_on}
-use Rattle.head_table.specs.declared.known.Known.{Known}
-use Rattle.head_table.specs.Rule.{IsSound}
+use Rattle.head_table.proofs.Common.{rules, ◌∙◌, length, sym, subst, ap, arith, Me, heads_on, Known, IsSound}
 use Rattle.head_table.proofs.Joining.{joins, sound_joined, joined_at}
 use Rattle.head_table.proofs.table.HeadTable.join.Goals as goal
 

@@ -1,14 +1,5 @@
-use Rattle.std.proofs.Common.{rules, ◌<◌, ◌∙◌, List, length, refl, sym, subst, arith, ℤ, ◌≡◌}
-use Rattle.std.proofs.lemmas.Int.{to_z-of_z}
-use mir.Syntax.{w64}
-use mir.Val.{SFits, to_z, of_z}
-use Rattle.step_problem.specs.declared.heads.Side.TheVariants.{Low}
-use Rattle.step_problem.specs.Heads.{Edges}
-use Rattle.head_table.specs.BySide.{edge_on, IsNoTighterThanSettled}
-use Rattle.head_table.specs.Seats.{barrier_of}
-use Rattle.head_table.specs.Words.{head_of_word}
-use Rattle.step_problem.specs.Entries.{Entries}
-use Rattle.step_problem.specs.Conditions.{IsProblem}
+use Rattle.head_table.proofs.Common.{rules, ◌<◌, ◌∙◌, List, length, refl, sym, subst, arith, ℤ, ◌≡◌, to_z-of_z, w64, SFits, to_z, of_z, Low, Edges, edge_on}
+use Rattle.head_table.proofs.Common.{IsNoTighterThanSettled, barrier_of, head_of_word, Entries, IsProblem}
 use Rattle.head_table.proofs.Looking.{looks}
 use Rattle.head_table.proofs.Seeing.{sound_seen}
 use Rattle.head_table.proofs.table.HeadTable.load_low.Goals as goal

@@ -1,8 +1,4 @@
-use Rattle.std.proofs.Common.{◌≡◌, ℕ, ◌+◌, ◌*◌, ◌<◌, List, length, ap, subst, arith}
-use Rattle.step_problem.specs.declared.heads.Bound.{Bound}
-use Rattle.step_problem.specs.declared.heads.Side.{Side}
-use Rattle.cell_relax.specs.Words.{heads_on}
-use Rattle.head_table.specs.Words.{words_on}
+use Rattle.head_table.proofs.Common.{◌≡◌, ℕ, ◌+◌, ◌*◌, ◌<◌, List, length, ap, subst, arith, Bound, Side, heads_on, words_on}
 use Rattle.head_table.proofs.Opening.{opens}
 use Rattle.head_table.proofs.table.HeadTable.new.Goals as goal
 

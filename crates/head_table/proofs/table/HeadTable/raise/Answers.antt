@@ -1,19 +1,8 @@
-use Rattle.std.proofs.Common.{rules, ◌<◌, ◌∙◌, List, length, refl, sym, subst, arith}
-use Rattle.step_problem.specs.declared.heads.Side.TheVariants.{Low}
-use Rattle.step_problem.specs.Entries.{Entries}
-use Rattle.step_problem.specs.Conditions.{IsHead, IsProblem}
-use Rattle.step_problem.proofs.Sides.{relaxed_head}
-use Rattle.cell_relax.specs.Sides.{IsRelaxedOn}
-use Rattle.cell_relax.proofs.Sides.{is_side}
-use Rattle.std.specs.Int.{int_max}
-use Rattle.std.proofs.lemmas.Int.{ints, to_z-of_z}
-use mir.Syntax.{w64}
-use mir.Val.{SFits}
+use Rattle.head_table.proofs.Common.{rules, ◌<◌, ◌∙◌, List, length, refl, sym, subst, arith, Low, Entries, IsHead, IsProblem, relaxed_head, IsRelaxedOn}
+use Rattle.head_table.proofs.Common.{is_side, int_max, ints, to_z-of_z, w64, SFits, seen_on, head_of_word}
 use Rattle.head_table.proofs.Exchanging.{exchanges}
 use Rattle.head_table.proofs.Seeing.{sound_seen}
 use Rattle.head_table.proofs.WordReads.{tighter_is}
-use Rattle.head_table.specs.Seats.{seen_on}
-use Rattle.head_table.specs.Words.{head_of_word}
 use Rattle.head_table.proofs.table.HeadTable.raise.Goals as goal
 
 pub word_of_head-word-requires : goal.word_of_head-word-requires

@@ -1,13 +1,5 @@
-use Rattle.std.proofs.Common.{rules, ℕ, ◌≡◌, ◌<◌, length, ℤ, sym, ◌∙◌, subst, arith}
-use Rattle.std.proofs.lemmas.Int.{to_z-of_z}
-use mir.Syntax.{w64}
-use mir.Val.{SFits, to_z, of_z}
-use Rattle.step_problem.specs.declared.heads.Bound.{Bound}
-use Rattle.step_problem.specs.declared.heads.Side.{Side}
-use Rattle.step_problem.specs.declared.heads.Side.TheVariants.{Low, High}
-use Rattle.cell_relax.specs.Words.{head_of}
-use Rattle.head_table.specs.BySide.{edge_on, IsNoTighterThanSettled}
-use Rattle.head_table.specs.Seats.{barrier_of, seen_on, seen_of}
+use Rattle.head_table.proofs.Common.{rules, ℕ, ◌≡◌, ◌<◌, length, ℤ, sym, ◌∙◌, subst, arith, to_z-of_z, w64, SFits, to_z, of_z, Bound, Side, Low, High, head_of}
+use Rattle.head_table.proofs.Common.{edge_on, IsNoTighterThanSettled, barrier_of, seen_on, seen_of}
 use Rattle.head_table.proofs.Looser.{moves_no_looser, no_looser_trans, shows_step, holds_step}
 use Rattle.head_table.proofs.table.HeadTable.watch.Goals as goal
 

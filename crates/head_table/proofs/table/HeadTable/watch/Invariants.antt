@@ -1,9 +1,4 @@
-use Rattle.std.proofs.Common.{◌≡◌, ℕ, ◌<◌}
-use Rattle.step_problem.specs.declared.heads.Side.{Side}
-use Rattle.cell_relax.specs.Sides.{AreNoLooser}
-use Rattle.cell_relax.specs.Words.{heads_on}
-use Rattle.head_table.specs.Seats.{IsSeatOf, barrier_of, seen_on, seen_of}
-use Rattle.head_table.specs.BySide.{edge_on, IsNoTighterThanSettled}
+use Rattle.head_table.proofs.Common.{◌≡◌, ℕ, ◌<◌, Side, AreNoLooser, heads_on, IsSeatOf, barrier_of, seen_on, seen_of, edge_on, IsNoTighterThanSettled}
 use Rattle.head_table.proofs.table.HeadTable.watch.Given as goal
 
 abbrev pub invariant-loop-cell : goal.invariant-loop-cell

@@ -1,10 +1,5 @@
-use Rattle.std.proofs.Common.{List, ◌+◌, ◌∷◌, Contains, arith, drop, refl, subst, sym, true}
-use Rattle.step_problem.specs.declared.heads.Bound.{Bound}
-use Rattle.model_types.specs.declared.time_steps.TimeStep.{TimeStep}
-use Rattle.listing_run.specs.Bounding.{BoundsMoves}
-use Rattle.listing_run.specs.Ends.{StopsAt}
-use Rattle.listing_run.specs.Settlers.{IsSettledBy, RestsOrSettles, RestsOrSettlesFirst}
-use Rattle.listing_run.specs.Steps.{IsStep}
+use Rattle.listing_run.proofs.Common.{List, ◌+◌, ◌∷◌, Contains, arith, drop, refl, subst, sym, true, Bound, TimeStep, BoundsMoves, StopsAt, IsSettledBy}
+use Rattle.listing_run.proofs.Common.{RestsOrSettles, RestsOrSettlesFirst, IsStep}
 use Rattle.listing_run.proofs.steps.Steps.next.Goals as goal
 
 pub solve-requires-clause-time : goal.solve-requires-clause-time

@@ -1,6 +1,4 @@
-use Rattle.std.proofs.Common.{subst, sym}
-use Rattle.listing_summary.specs.declared.summary.Summary.{Summary}
-use Rattle.listing_summary.specs.Counting.{Fits}
+use Rattle.listing_summary.proofs.Common.{subst, sym, Summary, Fits}
 use Rattle.listing_summary.proofs.Counts.{fits_more}
 use Rattle.listing_summary.proofs.summary.Summary.count.Goals as goal
 

@@ -1,5 +1,4 @@
-use Rattle.std.proofs.Common.{◌<◌, arith, length}
-use Rattle.step_problem.specs.Heads.{no_bound}
+use Rattle.listing_summary.proofs.Common.{◌<◌, arith, length, no_bound}
 use Rattle.listing_summary.proofs.Counts.{no_cell, one_cell}
 use Rattle.listing_summary.proofs.summary.Summary.count_heads.Goals as goal
 

@@ -1,7 +1,4 @@
-use Rattle.std.proofs.Common.{◌≡◌, ◌+◌, ◌≤◌, drop}
-use Rattle.std.specs.List.{fold}
-use Rattle.listing_summary.specs.Counting.{counted, Fits}
-use Rattle.listing_summary.specs.Summaries.{printed}
+use Rattle.listing_summary.proofs.Common.{◌≡◌, ◌+◌, ◌≤◌, drop, fold, counted, Fits, printed}
 use Rattle.listing_summary.proofs.summary.Summary.count_heads.Given as goal
 
 abbrev pub invariant-loop-cell : goal.invariant-loop-cell

@@ -1,7 +1,4 @@
-use Rattle.std.proofs.Common.{◌++◌, ◌+◌, ◌<◌, refl, ap, sym, ◌∙◌, subst, arith, All}
-use Rattle.std.proofs.lemmas.List.{append-nil, take_all}
-use Rattle.model_types.specs.Cells.{cell_count}
-use Rattle.model_types.specs.Kinds.{given_heads}
+use Rattle.model_types.proofs.Common.{◌++◌, ◌+◌, ◌<◌, refl, ap, sym, ◌∙◌, subst, arith, All, append-nil, take_all, cell_count, given_heads}
 use Rattle.model_types.proofs.GivenTables.{table, last_is, heads_are, length_is, lists_before, period_list, lists_more, names_within, table_step}
 use Rattle.model_types.proofs.given_heads.GivenHeads.advance.Goals as goal
 

@@ -1,6 +1,4 @@
-use Rattle.std.proofs.Common.{◌≡◌, ◌++◌, take}
-use Rattle.std.specs.List.{flat_map}
-use Rattle.model_types.specs.Cells.{cell_count}
+use Rattle.model_types.proofs.Common.{◌≡◌, ◌++◌, take, flat_map, cell_count}
 use Rattle.model_types.proofs.GivenTables.{table}
 use Rattle.model_types.proofs.given_heads.GivenHeads.advance.Given as goal
 

@@ -1,5 +1,4 @@
-use Rattle.std.proofs.Common.{None, is_some, get_or, ap, ◌∙◌, arith}
-use Rattle.model_types.specs.Cells.{cell_count}
+use Rattle.model_types.proofs.Common.{None, is_some, get_or, ap, ◌∙◌, arith, cell_count}
 use Rattle.model_types.proofs.GivenTables.{last_is, length_is, lists_before, table_at}
 use Rattle.model_types.proofs.given_heads.GivenHeads.kind.Goals as goal
 

@@ -1,7 +1,4 @@
-use Rattle.std.proofs.Common.{◌++◌, [], ◌∷◌, map, ap, sym, ◌∙◌, arith}
-use Rattle.std.specs.List.{range_with_len}
-use Rattle.std.proofs.lemmas.List.FromFn.{map-range_with_len_more}
-use Rattle.model_types.specs.Kinds.{kinds, kind_of}
+use Rattle.model_types.proofs.Common.{◌++◌, [], ◌∷◌, map, ap, sym, ◌∙◌, arith, range_with_len, map-range_with_len_more, kinds, kind_of}
 use Rattle.model_types.proofs.given_heads.GivenHeads.kinds.Goals as goal
 
 pub loop-cell-preserved : goal.loop-cell-preserved

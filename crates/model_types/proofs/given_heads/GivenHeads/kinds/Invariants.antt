@@ -1,6 +1,4 @@
-use Rattle.std.proofs.Common.{◌≡◌, map}
-use Rattle.std.specs.List.{range_with_len}
-use Rattle.model_types.specs.Kinds.{kind_of}
+use Rattle.model_types.proofs.Common.{◌≡◌, map, range_with_len, kind_of}
 use Rattle.model_types.proofs.given_heads.GivenHeads.kinds.Given as goal
 
 abbrev pub invariant-loop-cell : goal.invariant-loop-cell

@@ -1,5 +1,4 @@
-use Rattle.std.proofs.Common.{rules, None, ap, ◌∙◌}
-use Rattle.std.specs.Prelude.{replicate}
+use Rattle.model_types.proofs.Common.{rules, None, ap, ◌∙◌, replicate}
 use Rattle.model_types.proofs.GivenTables.{heads_are, table_none}
 use Rattle.model_types.proofs.given_heads.GivenHeads.new.Goals as goal
 

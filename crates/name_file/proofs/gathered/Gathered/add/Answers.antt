@@ -1,5 +1,4 @@
-use Rattle.std.proofs.Common.{sym}
-use Rattle.name_file.specs.Pairs.{AreFiles}
+use Rattle.name_file.proofs.Common.{sym, AreFiles}
 use Rattle.name_file.proofs.FileLemmas.{one_more}
 use Rattle.name_file.proofs.NameLemmas.{goes_last}
 use Rattle.name_file.proofs.gathered.Gathered.add.Goals as goal

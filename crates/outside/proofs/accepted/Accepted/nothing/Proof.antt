@@ -1,39 +1,16 @@
 -- `nothing` makes the empty struct, with the writer that its clause names. Assumes `Logic`.
-use Rattle.std.proofs.Common.{List, [], ◌∷◌, ◌++◌, refl}
-use seplogic.Ra.Ura.{Ura}
-use mir.Syntax.{Fn, Args, a_type}
-use mir.Val.{Val, vptr}
-use mir.MapTy.{inst_fn}
-use base.Logic.{SProp, ent}
-use prog.Memory.{Memory}
-use prog.Routine.{Routine}
-use prog.Wp.{Calls, Loops, WpFn, Tables}
-use contract.Monad.{Fun}
-use contract.Running.{tables, tables_of}
-use sound.WpLaws.{WpFn-mono}
-use types.Logic.{Logic}
-use types.Kit.{‵, raw, ◌⊛◌, prop, ◌$◌, ◌∵◌, !, qed, move, keep, drop, split, fsplit, fjoin, feq_l, regoal, suffices, done}
-use types.Part.{agg}
-use types.Run.{enter, returns, and_then, no_more}
-use types.ByLocal.{alloc_all, pass_all, free_all, look_at, get, sets}
-use denote.Exit.{yes}
-use denote.RattleType.{RattleType, owns}
-use denote.Builtin.{RefOf}
-use denote.Laws.{Is}
-use denote.Param.{param, layouts}
-use denote.Signature.{plain, types_at}
-use denote.Steps.{nothing, owned}
-use denote.Struct.Laws.{makes}
-use denote.Triple.Clauses.{Clauses, Ended, closing}
-use denote.Triple.Entry.{alive}
-use denote.Triple.Spec.{Meets, triple_of}
-use denote.Triple.Table.{entered}
-use denote.Triple.Walked.{says, Stays, stay_dropped, walk_of, ends_at, walk_Meets, Goes-dropped}
-use Rattle.std.specs.contracts.marker.PhantomData as Mark
+use Rattle.outside.proofs.Common.{List, [], ◌∷◌, ◌++◌, refl, Ura, Fn, Args, a_type, Val, vptr, inst_fn, SProp, ent, Memory, Routine, Calls, Loops, WpFn, Tables}
+use Rattle.outside.proofs.Common.{Fun, tables, WpFn-mono, Logic, ‵, raw, ◌⊛◌, prop, ◌$◌, ◌∵◌, !, qed, move, keep, split, fsplit, fjoin, feq_l, regoal, suffices}
+use Rattle.outside.proofs.Common.{done, agg, enter, returns, and_then, no_more, alloc_all, pass_all, free_all, look_at, get, sets, yes, RattleType, owns, RefOf}
+use Rattle.outside.proofs.Common.{Is, param, layouts, plain, types_at, nothing, owned, makes, Clauses, Ended, closing, alive, Meets, triple_of, entered, says}
+use Rattle.outside.proofs.Common.{Stays, stay_dropped, walk_of, ends_at, walk_Meets, Goes-dropped}
+use contract.Running.{tables_of}
+use types.Kit.{drop}
 use Rattle.outside.proofs.Made.{none, one, one_made}
+use Rattle.outside.specs.contracts.accepted.Accepted.nothing.Key.{name as #self}
+use Rattle.std.specs.contracts.marker.PhantomData as Mark
 use Rattle.outside.specs.contracts.accepted.Accepted as Accepted
 use Rattle.outside.specs.contracts.accepted.Accepted.nothing as F
-use Rattle.outside.specs.contracts.accepted.Accepted.nothing.Key.{name as #self}
 use Rattle.outside.proofs.accepted.Accepted.nothing.Statement as stated
 use Rattle.outside.proofs.accepted.Accepted.nothing.Code as code
 

@@ -1,5 +1,4 @@
-use Rattle.std.proofs.Common.{◌≡◌, ◌≤◌, ◌-◌, length, take, Some}
-use Rattle.std.specs.Io.KnownBytes.{Appends}
+use Rattle.outside.proofs.Common.{◌≡◌, ◌≤◌, ◌-◌, length, take, Some, Appends}
 use Rattle.outside.proofs.real.RealSinkSink.put.Given as goal
 
 abbrev pub invariant-loop-at : goal.invariant-loop-at

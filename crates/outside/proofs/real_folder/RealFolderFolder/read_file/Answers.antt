@@ -1,6 +1,4 @@
-use Rattle.std.proofs.Common.{rules, ◌≡◌, ◌∙◌, sym, subst, ℕ, List, ◌∷◌, Some}
-use Rattle.outside.specs.Files.{File, bytes_under}
-use Rattle.outside.specs.Readings.{Read, AgreeWith, IsAsFound, IsNamedBy, reading_of}
+use Rattle.outside.proofs.Common.{rules, ◌≡◌, ◌∙◌, sym, subst, ℕ, List, ◌∷◌, Some, File, bytes_under, Read, AgreeWith, IsAsFound, IsNamedBy, reading_of}
 use Rattle.outside.proofs.Answered.{is_found, by_reading, by_latest, earlier}
 use Rattle.outside.proofs.Named.{found_asked, known_named, latest_named, same_named, still_named}
 use Rattle.outside.proofs.real_folder.RealFolderFolder.read_file.Goals as goal

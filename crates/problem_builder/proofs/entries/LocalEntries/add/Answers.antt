@@ -1,7 +1,5 @@
-use Rattle.std.proofs.Common.{sym, subst}
-use Rattle.model_types.specs.Sources.{as_well, as_river, as_drain, as_general}
-use Rattle.problem_builder.specs.Cells.{IsRiver, IsDrain}
-use Rattle.problem_builder.specs.LocalBounds.{AreLocalBounds, IsWellSource, IsGeneralSource, LocalBounds}
+use Rattle.problem_builder.proofs.Common.{sym, subst, as_well, as_river, as_drain, as_general, IsRiver, IsDrain, AreLocalBounds, IsWellSource, IsGeneralSource}
+use Rattle.problem_builder.proofs.Common.{LocalBounds}
 use Rattle.problem_builder.proofs.Pushed.{zip_push}
 use Rattle.problem_builder.proofs.entries.LocalEntries.add.Goals as goal
 

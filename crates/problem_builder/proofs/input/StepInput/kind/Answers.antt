@@ -1,6 +1,4 @@
-use Rattle.std.proofs.Common.{ap, ◌∙◌, slice_index_or}
-use Rattle.model_types.specs.declared.kind.Kind.TheVariants.{NoFlow}
-use Rattle.problem_builder.specs.Tables.{Inputs}
+use Rattle.problem_builder.proofs.Common.{ap, ◌∙◌, slice_index_or, NoFlow, Inputs}
 use Rattle.problem_builder.proofs.input.StepInput.kind.Goals as goal
 
 pub returns : goal.returns

@@ -1,6 +1,4 @@
-use Rattle.std.proofs.Common.{◌∷◌, [], ◌<◌, List, length, set, ap, subst, arith}
-use Rattle.std.proofs.lemmas.List.{get_or_read}
-use Rattle.problem_builder.specs.LocalBounds.{AreAppended, LocalBounds, no_bounds}
+use Rattle.problem_builder.proofs.Common.{◌∷◌, [], ◌<◌, List, length, set, ap, subst, arith, get_or_read, AreAppended, LocalBounds, no_bounds}
 use Rattle.problem_builder.proofs.Appended.{appended_one}
 use Rattle.problem_builder.proofs.local.Local.add.Goals as goal
 

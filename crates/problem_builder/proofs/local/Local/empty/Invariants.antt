@@ -1,5 +1,4 @@
-use Rattle.std.proofs.Common.{◌≡◌, replicate}
-use Rattle.problem_builder.specs.LocalBounds.{no_bounds}
+use Rattle.problem_builder.proofs.Common.{◌≡◌, replicate, no_bounds}
 use Rattle.problem_builder.proofs.local.Local.empty.Given as goal
 
 abbrev pub invariant-loop-cell : goal.invariant-loop-cell

@@ -1,5 +1,4 @@
-use Rattle.std.proofs.Common.{◌∙◌, [], sym, subst}
-use Rattle.problem_builder.specs.LocalBounds.{AreAppended, AreLocalBounds, LocalBounds}
+use Rattle.problem_builder.proofs.Common.{◌∙◌, [], sym, subst, AreAppended, AreLocalBounds, LocalBounds}
 use Rattle.problem_builder.proofs.Appended.{appended_both, four_in, renamed}
 use Rattle.problem_builder.proofs.local.Local.of_period.Goals as goal
 

@@ -1,5 +1,4 @@
-use Rattle.std.proofs.Common.{◌≡◌, take, length}
-use Rattle.problem_builder.specs.LocalBounds.{AreAppended}
+use Rattle.problem_builder.proofs.Common.{◌≡◌, take, length, AreAppended}
 use Rattle.problem_builder.proofs.local.Local.with.Given as goal
 
 abbrev pub invariant-loop-entry : goal.invariant-loop-entry

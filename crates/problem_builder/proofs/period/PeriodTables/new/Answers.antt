@@ -1,13 +1,5 @@
-use Rattle.std.proofs.Common.{ℕ, None, subst, ap, ◌∙◌, refl, arith}
-use Rattle.step_problem.specs.Heads.{no_bound}
-use Rattle.model_types.specs.declared.kind.Kind.TheVariants.{NoFlow}
-use Rattle.model_types.specs.declared.period.Period.{Period}
-use Rattle.model_types.specs.Cells.{cell_count}
-use Rattle.model_types.specs.Sources.{entries_of}
-use Rattle.model_types.specs.Times.{entries}
-use Rattle.problem_builder.specs.LocalBounds.{AreLocalBounds, local_in}
-use Rattle.problem_builder.specs.PeriodTables.{IsKind, IsIndex, IsKept, IsRecharged, IsEvaporated}
-use Rattle.problem_builder.specs.Tables.{AreEvenStorages, span_in}
+use Rattle.problem_builder.proofs.Common.{ℕ, None, subst, ap, ◌∙◌, refl, arith, no_bound, NoFlow, Period, cell_count, entries_of, entries, AreLocalBounds}
+use Rattle.problem_builder.proofs.Common.{local_in, IsKind, IsIndex, IsKept, IsRecharged, IsEvaporated, AreEvenStorages, span_in}
 use Rattle.problem_builder.proofs.CellTables.{kinds_filled}
 use Rattle.problem_builder.proofs.PeriodMade.{period_made, filled_as, named_as}
 use Rattle.problem_builder.proofs.PeriodsOf.{entries_in}

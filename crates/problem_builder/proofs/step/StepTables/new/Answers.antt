@@ -1,6 +1,4 @@
-use Rattle.step_problem.specs.Heads.{no_bound}
-use Rattle.model_types.specs.Cells.{cell_count}
-use Rattle.problem_builder.specs.ConstantHeads.{HasConstantHead}
+use Rattle.problem_builder.proofs.Common.{no_bound, cell_count, HasConstantHead}
 use Rattle.problem_builder.proofs.PeriodMade.{filled_as}
 use Rattle.problem_builder.proofs.TimesOf.{time_of}
 use Rattle.problem_builder.proofs.step.StepTables.new.Goals as goal

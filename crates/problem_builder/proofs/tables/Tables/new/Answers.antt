@@ -1,8 +1,4 @@
-use Rattle.std.proofs.Common.{sym, ◌∙◌}
-use Rattle.model_types.specs.declared.face.Axis.TheVariants.{Row, Column, Vertical}
-use Rattle.model_types.specs.Cells.{cell_count}
-use Rattle.problem_builder.specs.Tables.{no_span, no_pair, span_in}
-use Rattle.problem_builder.specs.Widths.{IsThickness, IsBedBelow, HasConductance}
+use Rattle.problem_builder.proofs.Common.{sym, ◌∙◌, Row, Column, Vertical, cell_count, no_span, no_pair, span_in, IsThickness, IsBedBelow, HasConductance}
 use Rattle.problem_builder.proofs.TablesMade.{tables_made, renamed_pairs}
 use Rattle.problem_builder.proofs.PeriodMade.{filled_as}
 use Rattle.problem_builder.proofs.tables.Tables.new.Goals as goal

@@ -1,5 +1,4 @@
-use Rattle.std.proofs.Common.{refl}
-use Rattle.outside.specs.Words.{words}
+use Rattle.record_lines.proofs.Common.{refl, words}
 use Rattle.record_lines.proofs.free.Free.begin.Goals as goal
 
 pub returns : goal.returns

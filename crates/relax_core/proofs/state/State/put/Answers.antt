@@ -1,6 +1,4 @@
-use Rattle.std.proofs.Common.{ap, ◌∙◌, w64}
-use Rattle.std.proofs.lemmas.Int.{to_z-of_z}
-use Rattle.relax_core.specs.Core.{Core, with_head}
+use Rattle.relax_core.proofs.Common.{ap, ◌∙◌, w64, to_z-of_z, Core, with_head}
 use Rattle.relax_core.proofs.Views.{becomes}
 use Rattle.relax_core.proofs.state.State.put.Goals as goal
 

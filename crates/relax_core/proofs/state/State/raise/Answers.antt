@@ -1,9 +1,4 @@
-use Rattle.std.proofs.Common.{ℤ, ap, ◌∙◌, subst, FitsSigned, rules, w64}
-use Rattle.std.specs.Int.{int_max}
-use Rattle.std.proofs.lemmas.Int.{to_z-of_z}
-use Rattle.step_problem.specs.declared.heads.Bound.{Bound}
-use Rattle.step_problem.specs.declared.heads.Side.TheVariants.{Low}
-use Rattle.relax_core.specs.Core.{Puts}
+use Rattle.relax_core.proofs.Common.{ℤ, ap, ◌∙◌, subst, FitsSigned, rules, w64, int_max, to_z-of_z, Bound, Low, Puts}
 use Rattle.relax_core.proofs.state.State.raise.Goals as goal
 
 pub returns : goal.returns

@@ -1,10 +1,4 @@
-use Rattle.std.proofs.Common.{List, get_or, ap, ◌∙◌, FitsSigned, rules, w64}
-use Rattle.std.proofs.lemmas.Int.{to_z-of_z}
-use Rattle.std.proofs.lemmas.List.{get_or_default}
-use Rattle.step_problem.specs.declared.heads.Bound.{Bound}
-use Rattle.step_problem.specs.Heads.{no_bound}
-use Rattle.cell_relax.specs.Words.{head_of}
-use Rattle.relax_core.specs.Core.{Core}
+use Rattle.relax_core.proofs.Common.{List, get_or, ap, ◌∙◌, FitsSigned, rules, w64, to_z-of_z, get_or_default, Bound, no_bound, head_of, Core}
 use Rattle.relax_core.proofs.Views.{becomes}
 use Rattle.relax_core.proofs.state.State.see.Goals as goal
 

@@ -1,6 +1,4 @@
-use Rattle.std.proofs.Common.{sym, subst, ap}
-use Rattle.cell_relax.specs.Words.{AreWords}
-use Rattle.relax_core.specs.Core.{Core}
+use Rattle.relax_core.proofs.Common.{sym, subst, ap, AreWords, Core}
 use Rattle.relax_core.proofs.Ranges.{seen_in_range}
 use Rattle.relax_core.proofs.Views.{seen_read}
 use Rattle.relax_core.proofs.state.State.seen_of.Goals as goal

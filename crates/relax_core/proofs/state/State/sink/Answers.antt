@@ -1,9 +1,4 @@
-use Rattle.std.proofs.Common.{ℤ, ap, ◌∙◌, subst, FitsSigned, rules, w64}
-use Rattle.std.specs.Int.{int_min}
-use Rattle.std.proofs.lemmas.Int.{to_z-of_z}
-use Rattle.step_problem.specs.declared.heads.Bound.{Bound}
-use Rattle.step_problem.specs.declared.heads.Side.TheVariants.{High}
-use Rattle.relax_core.specs.Core.{Puts}
+use Rattle.relax_core.proofs.Common.{ℤ, ap, ◌∙◌, subst, FitsSigned, rules, w64, int_min, to_z-of_z, Bound, High, Puts}
 use Rattle.relax_core.proofs.state.State.sink.Goals as goal
 
 pub returns : goal.returns

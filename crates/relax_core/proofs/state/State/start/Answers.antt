@@ -1,7 +1,4 @@
-use Rattle.std.proofs.Common.{◌≡◌, List, Vec, Global, refl, ◌∙◌, arith}
-use Rattle.std.proofs.lemmas.List.{length-map}
-use Rattle.std.proofs.lemmas.List.Elements.{All-map}
-use Rattle.step_problem.specs.declared.heads.Bound.{Bound}
+use Rattle.relax_core.proofs.Common.{◌≡◌, List, Vec, Global, refl, ◌∙◌, arith, length-map, All-map, Bound}
 use Rattle.relax_core.proofs.state.State.start.Goals as goal
 
 pub returns : goal.returns

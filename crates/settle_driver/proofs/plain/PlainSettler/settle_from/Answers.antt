@@ -1,7 +1,4 @@
-use Rattle.step_problem.specs.declared.heads.Bound.{Bound}
-use Rattle.std.proofs.Common.{refl, List, subst}
-use Rattle.step_problem.specs.Settling.{IsFirstOpen}
-use Rattle.settle_driver.specs.Sweeps.{AreBothSettled}
+use Rattle.settle_driver.proofs.Common.{Bound, refl, List, subst, IsFirstOpen, AreBothSettled}
 use Rattle.settle_driver.proofs.Answering.{sweeps_are_settled, sweeps_are_unfinished}
 use Rattle.settle_driver.proofs.plain.PlainSettler.settle_from.Goals as goal
 

@@ -1,7 +1,5 @@
-use Rattle.std.proofs.Common.{◌^◌, ◌*ℤ◌, ◌-ℤ◌, ◌≡◌, pos, arith, rules, FitsSigned, to_z, ◌*◌}
-use Rattle.std.specs.Int.{w128, w64, int_max}
-use Rattle.std.proofs.lemmas.Int.{ints, clamps, to_z-of_z, to_z_pos}
-use Rattle.step_problem.specs.Conditions.{IsWithin}
+use Rattle.step_problem.proofs.Common.{◌^◌, ◌*ℤ◌, ◌-ℤ◌, ◌≡◌, pos, arith, rules, FitsSigned, to_z, ◌*◌, w128, w64, int_max, ints, clamps, to_z-of_z, to_z_pos}
+use Rattle.step_problem.proofs.Common.{IsWithin}
 use Rattle.step_problem.proofs.Sums.{IsWithin-product, IsWithin-neg}
 use Rattle.step_problem.proofs.balance.branch.loss.Goals as goal
 

@@ -1,7 +1,4 @@
-use Rattle.std.proofs.Common.{◌+◌, ◌*◌, ◌^◌, rules, arith, take, sum_by, ◌+ℤ◌, FitsSigned, to_z}
-use Rattle.std.specs.Int.{w128, w64}
-use Rattle.std.proofs.lemmas.Int.{to_z-of_z}
-use Rattle.step_problem.specs.Conditions.{IsWithin}
+use Rattle.step_problem.proofs.Common.{◌+◌, ◌*◌, ◌^◌, rules, arith, take, sum_by, ◌+ℤ◌, FitsSigned, to_z, w128, w64, to_z-of_z, IsWithin}
 use Rattle.step_problem.proofs.Sums.{total_step, within_step, FitsSigned-part}
 use Rattle.step_problem.proofs.balance.sums.sum_branches.Goals as goal
 

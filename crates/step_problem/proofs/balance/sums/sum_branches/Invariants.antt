@@ -1,6 +1,4 @@
-use Rattle.std.proofs.Common.{◌≡◌, ◌*◌, ◌^◌, take, drop, ◌+ℤ◌, sum_by}
-use Rattle.step_problem.specs.Flows.{total}
-use Rattle.step_problem.specs.Conditions.{IsWithin}
+use Rattle.step_problem.proofs.Common.{◌≡◌, ◌*◌, ◌^◌, take, drop, ◌+ℤ◌, sum_by, total, IsWithin}
 use Rattle.step_problem.proofs.balance.sums.sum_branches.Given as goal
 
 abbrev pub invariant-loop-x : goal.invariant-loop-x

@@ -1,10 +1,7 @@
-use Rattle.std.proofs.Common.{◌+◌, ◌*◌, ◌^◌, rules, refl, arith, take, sum_by, pos, ◌+ℤ◌, FitsSigned, to_z}
-use Rattle.std.specs.Int.{w128}
-use Rattle.std.proofs.lemmas.Int.{to_z-of_z}
+use Rattle.step_problem.proofs.Common.{◌+◌, ◌*◌, ◌^◌, rules, refl, arith, take, sum_by, pos, ◌+ℤ◌, FitsSigned, to_z, w128, to_z-of_z, IsWithin, magnitude}
+use Rattle.step_problem.proofs.Common.{flow_bound}
 use Rattle.step_problem.specs.declared.entry.Flow.{Flow}
 use Rattle.step_problem.specs.declared.entry.FlowKind.TheVariants.{Wells}
-use Rattle.step_problem.specs.Conditions.{IsWithin, magnitude}
-use Rattle.step_problem.specs.BothSides.{flow_bound}
 use Rattle.step_problem.proofs.Sums.{total_step, within_step, FitsSigned-part}
 use Rattle.step_problem.proofs.balance.sums.sum_flows.Goals as goal
 

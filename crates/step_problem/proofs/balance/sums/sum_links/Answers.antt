@@ -1,10 +1,5 @@
-use Rattle.std.proofs.Common.{◌+◌, ◌*◌, ◌^◌, rules, refl, arith, get_or, take, sum_by, pos, ◌+ℤ◌, FitsSigned, to_z}
-use Rattle.std.specs.Int.{w128, w64}
-use Rattle.std.proofs.lemmas.Int.{ints, to_z-of_z}
-use Rattle.step_problem.specs.Entries.{no_link}
-use Rattle.step_problem.specs.declared.entry.Link.{Link}
-use Rattle.step_problem.specs.Conditions.{IsWithin}
-use Rattle.step_problem.specs.BothSides.{link_flow}
+use Rattle.step_problem.proofs.Common.{◌+◌, ◌*◌, ◌^◌, rules, refl, arith, get_or, take, sum_by, pos, ◌+ℤ◌, FitsSigned, to_z, w128, w64, ints, to_z-of_z}
+use Rattle.step_problem.proofs.Common.{no_link, Link, IsWithin, link_flow}
 use Rattle.step_problem.proofs.Sums.{total_step, within_step, FitsSigned-part, link_flow_is}
 use Rattle.step_problem.proofs.balance.sums.sum_links.Goals as goal
 

@@ -1,8 +1,4 @@
-use Rattle.std.proofs.Common.{◌≡◌, ◌*◌, ◌^◌, ℕ, ℤ, take, drop, ◌+ℤ◌, sum_by}
-use Rattle.step_problem.specs.Entries.{ends_in}
-use Rattle.step_problem.specs.Flows.{total}
-use Rattle.step_problem.specs.Conditions.{IsWithin}
-use Rattle.step_problem.specs.BothSides.{link_flow}
+use Rattle.step_problem.proofs.Common.{◌≡◌, ◌*◌, ◌^◌, ℕ, ℤ, take, drop, ◌+ℤ◌, sum_by, ends_in, total, IsWithin, link_flow}
 use Rattle.step_problem.proofs.balance.sums.sum_links.Given as goal
 
 abbrev pub invariant-loop-i : goal.invariant-loop-i

@@ -1,7 +1,4 @@
-use Rattle.std.proofs.Common.{Contains, subst, refl, below_more, slice_index_or}
-use Rattle.std.proofs.lemmas.List.{get_or_default}
-use Rattle.step_problem.specs.declared.entry.Link.{Link}
-use Rattle.step_problem.specs.Entries.{entries_at, no_link}
+use Rattle.step_problem.proofs.Common.{Contains, subst, refl, below_more, slice_index_or, get_or_default, Link, entries_at, no_link}
 use Rattle.step_problem.proofs.fitting.links.all_lead_back.Goals as goal
 
 pub loop-x-preserved : goal.loop-x-preserved

@@ -1,6 +1,4 @@
-use Rattle.std.proofs.Common.{ℕ, ◌<◌, Contains, slice_index_or}
-use Rattle.step_problem.specs.declared.entry.Link.{Link}
-use Rattle.step_problem.specs.Entries.{entries_at}
+use Rattle.step_problem.proofs.Common.{ℕ, ◌<◌, Contains, slice_index_or, Link, entries_at}
 use Rattle.step_problem.proofs.fitting.links.all_lead_back.Given as goal
 
 abbrev pub invariant-loop-x : goal.invariant-loop-x

@@ -1,5 +1,4 @@
-use Rattle.std.proofs.Common.{◌≡◌, ℕ, ◌<◌}
-use Rattle.step_problem.specs.Entries.{link_at}
+use Rattle.step_problem.proofs.Common.{◌≡◌, ℕ, ◌<◌, link_at}
 use Rattle.step_problem.proofs.fitting.links.ends_differ.Given as goal
 
 abbrev pub invariant-loop-j : goal.invariant-loop-j

@@ -1,5 +1,4 @@
-use Rattle.std.proofs.Common.{◌≡◌, ℕ, ◌<◌}
-use Rattle.step_problem.specs.Entries.{link_at}
+use Rattle.step_problem.proofs.Common.{◌≡◌, ℕ, ◌<◌, link_at}
 use Rattle.step_problem.proofs.fitting.links.is_first_there.Given as goal
 
 abbrev pub invariant-loop-i : goal.invariant-loop-i

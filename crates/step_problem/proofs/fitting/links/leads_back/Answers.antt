@@ -1,6 +1,4 @@
-use Rattle.std.proofs.Common.{◌≡◌, ◌∙◌, List, IsTrue, Contains, ap, subst}
-use Rattle.step_problem.specs.declared.entry.Link.{Link}
-use Rattle.step_problem.specs.Entries.{entries_at, no_entries}
+use Rattle.step_problem.proofs.Common.{◌≡◌, ◌∙◌, List, IsTrue, Contains, ap, subst, Link, entries_at, no_entries}
 use Rattle.step_problem.proofs.fitting.links.leads_back.Goals as goal
 
 pub returns-in-Some : goal.returns-in-Some

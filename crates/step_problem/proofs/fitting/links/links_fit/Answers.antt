@@ -1,8 +1,4 @@
-use Rattle.std.proofs.Common.{◌≡◌, ◌∙◌, List, IsTrue, ap, subst, get_or}
-use Rattle.std.proofs.lemmas.List.{get_or_default}
-use Rattle.step_problem.specs.declared.entry.Link.{Link}
-use Rattle.step_problem.specs.Entries.{Entries, entries_at, no_entries}
-use Rattle.step_problem.specs.Conditions.{LinksFit}
+use Rattle.step_problem.proofs.Common.{◌≡◌, ◌∙◌, List, IsTrue, ap, subst, get_or, get_or_default, Link, Entries, entries_at, no_entries, LinksFit}
 use Rattle.step_problem.proofs.fitting.links.links_fit.Goals as goal
 
 pub returns : goal.returns

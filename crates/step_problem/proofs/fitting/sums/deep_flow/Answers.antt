@@ -1,7 +1,4 @@
-use Rattle.std.proofs.Common.{◌≡◌, rules, arith, unsigned_abs, ◌-ℤ◌, FitsSigned}
-use Rattle.std.specs.Int.{w128, w64}
-use Rattle.std.proofs.lemmas.Int.{ints, to_z-of_z}
-use Rattle.step_problem.specs.Conditions.{deep_river_low, deep_river_high}
+use Rattle.step_problem.proofs.Common.{◌≡◌, rules, arith, unsigned_abs, ◌-ℤ◌, FitsSigned, w128, w64, ints, to_z-of_z, deep_river_low, deep_river_high}
 use Rattle.step_problem.proofs.fitting.sums.deep_flow.Goals as goal
 
 pub returns : goal.returns

@@ -1,6 +1,4 @@
-use Rattle.std.proofs.Common.{◌≡◌, ◌*◌, rules, arith, unsigned_abs, ap, ◌-ℤ◌, FitsSigned}
-use Rattle.std.specs.Int.{w64}
-use Rattle.std.proofs.lemmas.Int.{ints, to_z-of_z}
+use Rattle.step_problem.proofs.Common.{◌≡◌, ◌*◌, rules, arith, unsigned_abs, ap, ◌-ℤ◌, FitsSigned, w64, ints, to_z-of_z}
 use Rattle.step_problem.proofs.fitting.sums.full_rate_of.Goals as goal
 
 pub returns : goal.returns

@@ -1,5 +1,4 @@
-use Rattle.std.proofs.Common.{◌≡◌, ◌^◌, min, sum_by, take}
-use Rattle.step_problem.specs.Conditions.{magnitude, deep_river_low, deep_river_high}
+use Rattle.step_problem.proofs.Common.{◌≡◌, ◌^◌, min, sum_by, take, magnitude, deep_river_low, deep_river_high}
 use Rattle.step_problem.proofs.fitting.sums.sum_deep_flows.Given as goal
 
 abbrev pub invariant-loop-x : goal.invariant-loop-x

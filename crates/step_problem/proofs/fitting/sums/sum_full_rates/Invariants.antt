@@ -1,5 +1,4 @@
-use Rattle.std.proofs.Common.{◌≡◌, ◌^◌, min, sum_by, take}
-use Rattle.step_problem.specs.Conditions.{full_rate}
+use Rattle.step_problem.proofs.Common.{◌≡◌, ◌^◌, min, sum_by, take, full_rate}
 use Rattle.step_problem.proofs.fitting.sums.sum_full_rates.Given as goal
 
 abbrev pub invariant-loop-x : goal.invariant-loop-x

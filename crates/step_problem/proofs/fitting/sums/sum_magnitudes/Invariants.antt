@@ -1,5 +1,4 @@
-use Rattle.std.proofs.Common.{◌≡◌, ◌^◌, min, sum_by, take}
-use Rattle.step_problem.specs.Conditions.{magnitude}
+use Rattle.step_problem.proofs.Common.{◌≡◌, ◌^◌, min, sum_by, take, magnitude}
 use Rattle.step_problem.proofs.fitting.sums.sum_magnitudes.Given as goal
 
 abbrev pub invariant-loop-x : goal.invariant-loop-x

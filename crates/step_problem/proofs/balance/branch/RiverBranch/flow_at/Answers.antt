@@ -1,6 +1,4 @@
-use Rattle.std.proofs.Common.{rules, FitsSigned}
-use Rattle.std.specs.Int.{w128}
-use Rattle.std.proofs.lemmas.Int.{to_z-of_z}
+use Rattle.step_problem.proofs.Common.{rules, FitsSigned, w128, to_z-of_z}
 use Rattle.step_problem.proofs.balance.branch.RiverBranch.flow_at.Goals as goal
 
 pub returns-in-Low-clause-within : goal.returns-in-Low-clause-within

@@ -1,0 +1,24 @@
+-- Names that several proofs of this crate cite, of the crates below and of its own definitions, passed on from one place. Declares nothing.
+pub use Rattle.std.proofs.Common.{All, Bool, Err, List, None, Ok, Option, Result, Some, add-one, ap, arith, false, if◌then◌else◌, inl, inr, length, nat_le}
+pub use Rattle.std.proofs.Common.{nat_lt, neg_ℤ, negsuc, pos, pow-suc, refl, suc, sym, true, zero, ℕ, ℤ, ◌%◌, ◌*◌, ◌+ℤ◌, ◌+◌, ◌-◌, ◌/◌, ◌<ℤ◌, ◌<◌, ◌==◌, ◌^◌}
+pub use Rattle.std.proofs.Common.{◌↔◌, ◌∙◌, ◌≡◌, ◌≤ℤ◌, ◌≤◌}
+pub use Rattle.std.proofs.lemmas.Result.{err_from_is_err_and}
+pub use Rattle.std.specs.Prelude.{IfOk, IfSome}
+pub use Rattle.array_reader.specs.Arrays.{layer_array}
+unfoldable pub use Rattle.array_reader.specs.Arrays.{layers}
+pub use Rattle.array_reader.specs.Items.{at_line, number_at}
+pub use Rattle.array_reader.specs.Kinds.{with_multiplier}
+pub use Rattle.array_reader.specs.Lists.{in_file}
+unfoldable pub use Rattle.array_reader.specs.Lists.{free_list, free_rows, value_alone, value_at}
+pub use Rattle.decimal_input.specs.declared.dec.NumFault.{NumFault}
+pub use Rattle.outside.specs.Names.{IsGoodName, folder_name, is_good_name}
+pub use Rattle.record_lines.proofs.Forward.{after, appended_held, chain, given, leaves, line_words, name_held, repeated_held, value_held, word_held}
+pub use Rattle.record_lines.proofs.Loops.{ends_text, goes_on, is_done, list_ends, list_goes_on, list_stops, lists_done, with_front}
+pub use Rattle.record_lines.specs.Asking.{LineMay, LinesMay}
+pub use Rattle.record_lines.specs.Items.{line_at, word_at}
+unfoldable pub use Rattle.record_lines.specs.Items.{name_at}
+pub use Rattle.record_lines.specs.Layout.{Left, Numbered}
+pub use Rattle.record_lines.specs.Reading.{StopsText, appended, repeated, ◌>>=◌}
+pub use Rattle.record_lines.specs.Spread.{Taking, beginning, source, taken}
+unfoldable pub use Rattle.record_lines.specs.Spread.{next_value}
+pub use Rattle.record_lines.specs.declared.free.FreeFault.{FreeFault}

@@ -1,0 +1,67 @@
+-- Names that several proofs of this crate cite, of the crates below and of its own definitions, passed on from one place. Declares nothing.
+pub use Rattle.std.proofs.Common.{All, Bool, Contains, FitsSigned, IsSome, List, None, Option, Some, [], add-one, ap, arith, cond, div-add-mod', drop, false}
+pub use Rattle.std.proofs.Common.{get_or, get_or-set_other, get_or-set_same, inl, inr, le-div_iff_mul-le, length, length-append, max, min, mod-lt, mul-pos}
+pub use Rattle.std.proofs.Common.{neg_ℤ, negsuc, not, pos, refl, replicate, rules, set, slice_index, slice_index_or, subst, suc, sum_by, sym, take, take_at}
+pub use Rattle.std.proofs.Common.{to_z, true, unsigned_abs, zero, ℕ, ℤ, ◌*ℤ◌, ◌*◌, ◌++◌, ◌+ℤ◌, ◌+◌, ◌-ℤ◌, ◌<ℤ◌, ◌<◌, ◌^◌, ◌∙◌, ◌∷◌, ◌≡◌, ◌≤ℤ◌, ◌≤◌, ◌⊎◌}
+pub use Rattle.std.proofs.Math.Nat.{le_of_mul-le-mul_left, mul-le-mul_right}
+pub use Rattle.std.proofs.lemmas.Bool.{cases_eq, cases_lt, eq-eqb, false≢true, ne_eqb}
+pub use Rattle.std.proofs.lemmas.Int.{by_lt_z, clamps, ints, to_z-of_z}
+pub use Rattle.std.proofs.lemmas.List.{at_drop_more, get_or_default, get_or_past, length-set, take_all, take_more}
+pub use Rattle.std.proofs.lemmas.List.Elements.{All-contains, All-head, All-tail, All-weaker, Contains-append_left, Contains-get_or, Contains-push}
+pub use Rattle.std.proofs.lemmas.List.Elements.{Contains-push_cases}
+pub use Rattle.std.proofs.lemmas.List.Sums.{get_or-le-sum_by, sum_by-take-le, sum_by_more}
+pub use Rattle.std.specs.Int.{int_div_euclid, int_max, int_min, int_rem_euclid, w128, w64}
+pub use Rattle.std.specs.List.{AllZip}
+pub use Rattle.std.specs.Option.{is_some, unwrap_or}
+pub use Rattle.barrier_vector.specs.Bounds.{AnchorRoot, IsAnchorPath, IsAnchoredBound, IsBoundOn, IsCarriedFloor, IsCeiling, IsFloor, IsInnerPath, IsLongest}
+pub use Rattle.barrier_vector.specs.Bounds.{IsUnanchored, LeastRoot, anchor_on, greatest, moved_out}
+pub use Rattle.barrier_vector.specs.Labels.{AreLabels, Fills, IsGreatestOf, flow_sum, is_label, labelled, no_flow, number_at, sum_at}
+pub use Rattle.barrier_vector.specs.Lacks.{capped_flow, high_flow, lack, need, need_on, negative_part, positive_part, surplus}
+pub use Rattle.barrier_vector.specs.Laws.{CeilingsEnclose, FloorsEnclose, FloorsHold, IsSolution}
+pub use Rattle.barrier_vector.specs.Marks.{IsBase, IsCellMark, IsInside, IsMarkBelow, IsMarkIn, IsOutermost, drain_mark, fixed_mark, if_some, outer_of}
+pub use Rattle.barrier_vector.specs.Marks.{river_mark}
+pub use Rattle.barrier_vector.specs.Outlines.{IsOutline}
+pub use Rattle.barrier_vector.specs.Paths.{IsLevel, IsParent, IsPath, LeadsToRoot, SumsTo, ceil_over}
+pub use Rattle.barrier_vector.specs.Refusals.{HasNoBound, IsLeastWith, IsOutOfRange, IsRefused, IsRefusedOn, LeavesRange, Names, Nowhere, no_barrier_on}
+pub use Rattle.barrier_vector.specs.Refusals.{range_on}
+pub use Rattle.barrier_vector.specs.Roots.{AreAnchorPaths, AreBounds, AreComponents, AreRoots, IsAnchoredOrNone, IsBoundOrNone, ListAnchor, SelfRoot, bound_at}
+pub use Rattle.barrier_vector.specs.Roots.{cut_on}
+pub use Rattle.barrier_vector.specs.Searches.{ContinuesTo, IsNearest, IsSearched, IsStart, ListRoot, path_limit}
+pub use Rattle.barrier_vector.specs.Spreads.{FrontLeads, LinkLeads, Spreads, mark_at, unmarked}
+pub use Rattle.barrier_vector.specs.Tests.{AreHeadsOf, Fails, IsFaultOn, IsFirstFailing, IsWholeSide}
+pub use Rattle.barrier_vector.specs.declared.gathered.FlowSum.{FlowSum}
+pub use Rattle.barrier_vector.specs.declared.refusal.Test.TheVariants.{Missing, OutOfRange}
+pub use Rattle.cell_balance.proofs.Cancel.{IsMutual, cut_link, cut_links}
+pub use Rattle.cell_balance.proofs.Dry.{cut_sum, dry_fixed}
+pub use Rattle.cell_balance.proofs.Mutual.{mutual_whole, no_whole_link}
+pub use Rattle.cell_balance.proofs.Products.{conducting}
+pub use Rattle.cell_balance.proofs.Spread.{carried_not_dry, cell_within}
+pub use Rattle.cell_balance.proofs.Sums.{sum-add, sum-neg, sum-same, sum-zero, term-le-sum}
+pub use Rattle.cell_balance.proofs.Totals.{add_mul, le_trans_z, same_z, sub_mul, total_more, total_neg, total_nonneg}
+pub use Rattle.cell_balance.proofs.Whole.{WholeCell, WholeDrain, WholeEvap, WholeFixed, WholeLink, WholeRiver, whole_at, whole_balance, whole_deep, whole_drain}
+pub use Rattle.cell_balance.proofs.Whole.{whole_evap, whole_fixed, whole_link, whole_river}
+pub use Rattle.cell_balance.proofs.Within.{CellWithin, DrainWithin, FixedWithin, FlowWithin, IsDry, LinkWithin, RiverWithin}
+pub use Rattle.cell_balance.proofs.Zips.{All-zip, AllZip-at, AllZip-length}
+pub use Rattle.cell_balance.specs.Components.{IsAnchored, IsCarried, IsComponent, IsHeldBelow, Leads, Reaches, deep_low, sum_below, sum_inside}
+pub use Rattle.cell_balance.specs.Solutions.{LiesBetween, SolvesStep, share}
+pub use Rattle.cell_balance.specs.Steps.{ExactCell}
+pub use Rattle.decimal_input.proofs.Signs.{cancel_right, mul_mono_right, swap}
+pub use Rattle.step_problem.proofs.Leasts.{mul_neg}
+pub use Rattle.step_problem.proofs.Ring.{mul_assoc, mul_mono, mul_nonneg}
+pub use Rattle.step_problem.proofs.Sums.{total_step}
+pub use Rattle.step_problem.specs.Conditions.{CellFits, DrainFits, FixedFits, IsHead, IsProblem, IsWithin, LinkFits, RiverFits, deep_river_high, deep_river_low}
+pub use Rattle.step_problem.specs.Conditions.{full_rate, head_limit, magnitude}
+pub use Rattle.step_problem.specs.Entries.{Entries, entries_at, link_at, no_entries, no_link}
+pub use Rattle.step_problem.specs.Flows.{total}
+pub use Rattle.step_problem.specs.Heads.{Edges, head_at}
+pub use Rattle.step_problem.specs.StepRefusals.{number_of}
+pub use Rattle.step_problem.specs.declared.entry.Drain.{Drain}
+pub use Rattle.step_problem.specs.declared.entry.Fixed.{Fixed}
+pub use Rattle.step_problem.specs.declared.entry.Flow.{Flow}
+pub use Rattle.step_problem.specs.declared.entry.Link.{Link}
+pub use Rattle.step_problem.specs.declared.entry.River.{River}
+pub use Rattle.step_problem.specs.declared.heads.Side.{Side}
+pub use Rattle.step_problem.specs.declared.heads.Side.TheVariants.{High, Low}
+pub use Rattle.step_problem.specs.declared.place.NoBound.{NoBound}
+pub use borrow.Author.Differences.{false_is_lt, le_out, lt_out, true_is_lt}
+pub use lib.Signed.{lt_z}

@@ -1,0 +1,90 @@
+-- Names that several proofs of this crate cite, of the crates below and of its own definitions, passed on from one place. Declares nothing.
+pub use Rattle.std.proofs.Common.{All, Bool, Contains, Err, IfOk, List, None, Ok, Option, Result, Some, [], add-one, ap, arith, cond, drop, drop-cons, false}
+pub use Rattle.std.proofs.Common.{get_or, inl, inr, length, map, nat_abs, neg_ℤ, negsuc, option_map, pos, refl, subst, suc, sym, take, true, unsigned_abs, zero}
+pub use Rattle.std.proofs.Common.{ℕ, ℤ, ◌*ℤ◌, ◌++◌, ◌+ℤ◌, ◌+◌, ◌<ℤ◌, ◌<◌, ◌^◌, ◌∙◌, ◌∷◌, ◌≡◌, ◌≢◌, ◌≤ℤ◌, ◌≤◌, ◌⊎◌}
+pub use Rattle.std.proofs.lemmas.Bool.{cases_Bool, cases_order}
+pub use Rattle.std.proofs.lemmas.Int.{ints}
+pub use Rattle.std.proofs.lemmas.List.{append-nil, append_assoc, drop_all, drop_more, get_or-map, get_or_default, length-map, map-append}
+pub use Rattle.std.proofs.lemmas.List.Concat.{flat_map-append}
+pub use Rattle.std.proofs.lemmas.List.Elements.{All-contains_itself, All-from_recursion, All-head, All-tail, All-weaker, recursion_from_All}
+pub use Rattle.std.proofs.lemmas.Result.{err_from_is_err_and}
+pub use Rattle.std.specs.List.{AllByRecursion, AllZip, concat, cons_option, filter_map, flat_map}
+pub use Rattle.std.specs.Prelude.{IfErr, IfSome, if◌then◌else◌, slice_index}
+pub use Rattle.barrier_vector.specs.Refusals.{IsFault}
+pub use Rattle.budget_bounds.specs.Covers.{CoverEncloses, Covers, IsFirstUncovered, line_of}
+pub use Rattle.budget_bounds.specs.Exact.{BudgetEncloses, EnclosesBudgets, HeadsAreWithin}
+pub use Rattle.budget_bounds.specs.Terms.{all_terms, is_small, no_pair, term_limit, too_large, ◌>>=◌}
+unfoldable pub use Rattle.budget_bounds.specs.Terms.{budget_of, parts, term_of, term_pair, terms_of}
+pub use Rattle.budget_bounds.specs.declared.pair.Budget.{Budget}
+pub use Rattle.budget_bounds.specs.declared.pair.TermPair.{TermPair}
+pub use Rattle.cell_balance.specs.SolutionBounds.{EnclosesSolutions}
+pub use Rattle.cell_relax.specs.Words.{AreWords}
+pub use Rattle.certificate_check.specs.Certificates.{HoldsAt, IsFirstFailing}
+pub use Rattle.check_run.specs.Flows.{CoversFlow, IsFirstNarrow}
+pub use Rattle.check_run.specs.Parts.{AreNarrow, ArePosed, AreWide, FailsBy, IsCovered, IsUncovered, IsUnposed, IsVerdictAt, heads_before, of_barrier}
+pub use Rattle.check_run.specs.Reaching.{ConstantsReach, IsConstantCell, IsFirstShort, ReachesAt, ReachesOn, variable_bounds}
+pub use Rattle.check_run.specs.Runs.{IsReadable, RunIsCertified, RunIsReadAgain, as_listed}
+pub use Rattle.check_run.specs.Steps.{FailsAt, HeadsHold, IsRefused, Passes, TermsHold, at_constant, at_term, at_variable, at_zones, bounds, no_budget}
+pub use Rattle.check_run.specs.Steps.{no_flows, no_heads}
+pub use Rattle.check_run.specs.Verdicts.{Checks, IsVerdict, ListingEncloses, StopsAt, checked_task, step_of, steps_of}
+pub use Rattle.check_run.specs.declared.fault.CheckFault.{CheckFault}
+pub use Rattle.check_run.specs.declared.verdict.ListingVerdict.{ListingVerdict}
+pub use Rattle.check_run.specs.declared.verdict.ListingVerdict.TheVariants.{Certified, Fails, Refused}
+pub use Rattle.decimal_input.specs.Fractions.{Fraction, den}
+pub use Rattle.flow_equations.proofs.Links.{below_is, index_is}
+pub use Rattle.flow_equations.specs.ExactStep.{exact_step}
+pub use Rattle.flow_equations.specs.Histories.{Solves, SolvesAt, heads_of, variable_heads}
+pub use Rattle.listing_io.specs.Listed.{AreCellBounds, AreFlows, AreFlowsAt, AreListed, IsCellBound, IsFlowPair, IsListedStep, step_in}
+pub use Rattle.listing_io.specs.Listing.{ended, first_line, has_evt, step_lines, zone_pair}
+unfoldable pub use Rattle.listing_io.specs.Listing.{all_step_lines, first_text, step_text}
+pub use Rattle.listing_io.specs.declared.listing.ListedStep.{ListedStep}
+pub use Rattle.listing_run.proofs.Unique.{IsRest, first_in, ok_not_err, one_err, one_ok, rest_more, rest_whole}
+pub use Rattle.listing_run.specs.Bounding.{BoundAll, Bounds, BoundsMoves, EnclosesHistories}
+pub use Rattle.listing_run.specs.Steps.{AllSteps, IsStep, Steps, budget_at}
+pub use Rattle.listing_run.specs.Zones.{AreFlowsOf, HasLargeFlowOf, faces_of}
+pub use Rattle.listing_run.specs.declared.listing_end.ListingEnd.TheVariants.{Whole}
+pub use Rattle.listing_run.specs.declared.step.Step.{Step}
+pub use Rattle.listing_run.specs.declared.task.Task.{Task}
+pub use Rattle.model_types.proofs.Ranks.{IsAt, at_rank, is_at, passing}
+pub use Rattle.model_types.specs.Cells.{cell_count}
+pub use Rattle.model_types.specs.Heads.{constant_head, start_head}
+pub use Rattle.model_types.specs.Kinds.{index_of, is_constant, is_variable, kind_of, variable_below, variable_cells}
+pub use Rattle.model_types.specs.Sources.{FixedSource, as_general, constant_faces, evap_sources, fixed_sources, local_entries, storage_at, variable_faces}
+pub use Rattle.model_types.specs.Times.{period_at, times}
+pub use Rattle.model_types.specs.Valid.{IsModel}
+pub use Rattle.model_types.specs.declared.model.FlowModel.{FlowModel}
+pub use Rattle.model_types.specs.declared.time_steps.TimeStep.{TimeStep}
+pub use Rattle.problem_builder.proofs.StepEnclosed.{ids_are}
+pub use Rattle.problem_builder.proofs.TimesOf.{time_of}
+pub use Rattle.problem_builder.specs.Cells.{IsCellOf, IsEvap, IsFixed, IsLink}
+pub use Rattle.problem_builder.specs.ConstantHeads.{AreConstantHeads}
+pub use Rattle.problem_builder.specs.GridHeads.{AreGridHeads, HeadsEnclose, IsActive, IsNamed}
+pub use Rattle.problem_builder.specs.Laws.{ConstantPairEncloses, ConstantPairIsOne, ProblemExcludesRefusal, ProblemFits, ProblemIsOne, StartHeadsAreOne}
+pub use Rattle.problem_builder.specs.Laws.{StartHeadsFit}
+pub use Rattle.problem_builder.specs.Problems.{IsProblemOf}
+pub use Rattle.problem_builder.specs.Thicknesses.{Thicknesses}
+pub use Rattle.step_chain.proofs.Assembled.{active_constant, constant_not_variable, count_is, index_below, number_is}
+pub use Rattle.step_chain.proofs.OneStep.{same_bound, same_bounds}
+pub use Rattle.step_chain.specs.GridHeads.{bound_at}
+pub use Rattle.step_chain.specs.Keeps.{AreRunTables, digits_of}
+pub use Rattle.step_chain.specs.Laws.{HeadsFit, IsBefore, RefusalIsOne}
+pub use Rattle.step_chain.specs.Steps.{HasNoHeads, IsPosed, IsSettledStep}
+pub use Rattle.step_chain.specs.declared.solved.Solved.{Solved}
+pub use Rattle.step_problem.specs.Entries.{Entries, entries_at, no_entries}
+pub use Rattle.step_problem.specs.Heads.{Edges, IsCertificate, lower_at, no_bound, upper_at}
+pub use Rattle.step_problem.specs.declared.heads.Bound.{Bound}
+pub use Rattle.step_problem.specs.declared.heads.Side.{Side}
+pub use Rattle.step_problem.specs.declared.heads.Side.TheVariants.{High, Low}
+pub use Rattle.step_problem.specs.declared.place.Dir.{Dir}
+pub use Rattle.step_problem.specs.declared.place.Dir.TheVariants.{In, Out}
+pub use Rattle.step_problem.specs.declared.place.NoBound.{NoBound}
+pub use Rattle.step_problem.specs.declared.place.Term.{Term}
+pub use Rattle.step_problem.specs.declared.place.ZoneFlow.{ZoneFlow}
+pub use Rattle.zone_flows.specs.Exact.{EncloseExact, exact_faces, exact_flow}
+pub use Rattle.zone_flows.specs.Faces.{Face, face_between, faces_by_kind, fixed_faces, flows_between, is_lower_zone, link_faces}
+unfoldable pub use Rattle.zone_flows.specs.Faces.{cell_faces, face_from, faces}
+pub use Rattle.zone_pairs.proofs.Small.{are_numbers, pairs_small}
+pub use Rattle.zone_pairs.specs.Pairs.{pair_of, pairs_in, to_constant, to_variable, with_keys, zones_of_flow}
+unfoldable pub use Rattle.zone_pairs.specs.Pairs.{cell_keys, face_keys, keys_from, zone_pairs}
+pub use Rattle.zone_pairs.specs.Zones.{AreNumbers}
+pub use Rattle.zone_pairs.specs.declared.pair.ZonePair.{ZonePair}

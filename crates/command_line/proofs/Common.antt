@@ -1,0 +1,12 @@
+-- Names that several proofs of this crate cite, of the crates below and of its own definitions, passed on from one place. Declares nothing.
+pub use Rattle.std.proofs.Common.{Bool, Err, IfOk, List, None, Ok, Option, Result, Some, [], ap, arith, codes, cond, decimal, false, inl, inr, map, refl, rules}
+pub use Rattle.std.proofs.Common.{subst, sym, true, ℕ, ◌<◌, ◌^◌, ◌∙◌, ◌∷◌, ◌≡◌, ◌≢◌, ◌≤◌}
+pub use Rattle.std.proofs.lemmas.Bool.{and_parts, le-leb, leb-true}
+pub use Rattle.std.specs.Str.{bytes_eq}
+pub use Rattle.std.specs.Str.Parse.{ParsesUnsigned, digits_value}
+pub use Rattle.clap.specs.Words.{App, HasKind, HasMatchesOf, IsAmong, Kinds, Row, Text, app_of, fault_of, first_of, found_of, is_simple, is_simple_and_free}
+pub use Rattle.clap.specs.Words.{kind_of, subcommand_of, subcommand_rows_of, with_rule}
+pub use Rattle.command_line.specs.Commands.{IsLocal, heads_app, option, settling, word}
+pub use Rattle.command_line.specs.Numbers.{is_number, number_in, number_or}
+pub use Rattle.command_line.specs.Wants.{Checks, Wanted, batch_in, check_in, command_in, digits_in, make_in, rounds_in, run_in, wanted_if, wanted_of, watch_in}
+pub use Rattle.command_line.specs.Wants.{workers_in, write_in}

@@ -1,0 +1,33 @@
+-- Names that several proofs of this crate cite, of the crates below and of its own definitions, passed on from one place. Declares nothing.
+pub use Rattle.std.proofs.Common.{Bool, Err, IfNone, IfOk, List, MatchOption, None, Ok, Option, Result, Some, [], add-one, ap, arith, drop, false, get_or, inl}
+pub use Rattle.std.proofs.Common.{inr, length, min, mul-pos, nat_le, neg_ℤ, negsuc, not, pos, refl, subst, suc, sym, take, true, zero, ℕ, ℤ, ◌%◌, ◌&&◌, ◌*ℤ◌}
+pub use Rattle.std.proofs.Common.{◌*◌, ◌++◌, ◌+ℤ◌, ◌+◌, ◌-ℤ◌, ◌-◌, ◌/◌, ◌<ℤ◌, ◌<◌, ◌==◌, ◌^◌, ◌↔◌, ◌∙◌, ◌∷◌, ◌≡◌, ◌≤ℤ◌, ◌≤◌, ◌⊎◌}
+pub use Rattle.std.proofs.Math.Nat.{div-le_self, div-lt_iff_lt-mul, div-mul-le_self, le_of_mul-le-mul_right, lt-mul-div-succ, mul-le-mul, mul-le-mul_left}
+pub use Rattle.std.proofs.Math.Nat.{mul-le-mul_right, pow-suc}
+pub use Rattle.std.proofs.lemmas.Bool.{and_parts, cases_Bool, cases_lt, eq-eqb, eqb-true, le-leb, leb-true, lt-leb}
+pub use Rattle.std.proofs.lemmas.Bool.Decides.{nat_tests}
+pub use Rattle.std.proofs.lemmas.Int.{by_lt_z, ints}
+pub use Rattle.std.proofs.lemmas.List.{at_drop_all, at_drop_more, get_or-take, take-append-drop}
+pub use Rattle.std.proofs.lemmas.List.Folds.{length-prefix_len, prefix_len-append}
+pub use Rattle.std.proofs.lemmas.List.Sums.{prefix_len_is, prefix_len_passes}
+pub use Rattle.std.proofs.lemmas.Nat.{pow-add}
+pub use Rattle.std.specs.List.{prefix_len}
+pub use Rattle.decimal_input.specs.Canonical.{IsDec, number, size}
+pub use Rattle.decimal_input.specs.Coefficients.{IsOf}
+pub use Rattle.decimal_input.specs.Decimals.{decimal, down, up, with_sign}
+unfoldable pub use Rattle.decimal_input.specs.Decimals.{scaled}
+pub use Rattle.decimal_input.specs.Enclosures.{Encloses, EnclosesSigned, IsBetweenSigned, IsBetweenWhole, IsShare}
+pub use Rattle.decimal_input.specs.Exponents.{IsCap, IsCapped}
+pub use Rattle.decimal_input.specs.Fractions.{Fraction, IsOver, negated, signed}
+pub use Rattle.decimal_input.specs.Grammar.{AreDigits, IsExponent, IsInteger, IsPart, IsSign, Spelling, Spells, is_digit, is_mark, number_from}
+pub use Rattle.decimal_input.specs.Outcomes.{IsCanonical, IsTested, IsTrimmed, Names, differ}
+pub use Rattle.decimal_input.specs.Ratios.{AtMost, Below, Ratio, Same, den}
+unfoldable pub use Rattle.decimal_input.specs.Ratios.{over, plus, ratio, times}
+pub use Rattle.decimal_input.specs.Wholes.{IsCeiling, IsCeilingPast, IsFloor, IsFloorPast, IsSignedCeiling, IsSignedFloor, Passes, Reaches}
+pub use Rattle.decimal_input.specs.Words.{behind, behind_part, digits_of, exponent_of, integer_of, is_negative, is_sign, part_of, spelling, spelt, unsigned}
+pub use Rattle.decimal_input.specs.Words.{whole_number}
+pub use Rattle.decimal_input.specs.declared.coefficient.Coefficient.{Coefficient}
+pub use Rattle.decimal_input.specs.declared.dec.Dec.{Dec}
+pub use Rattle.decimal_input.specs.declared.dec.NumFault.{NumFault}
+pub use Rattle.decimal_input.specs.declared.dec.NumFault.TheVariants.{BadNumber}
+pub use borrow.Author.Differences.{le_out, product_is, same_in}

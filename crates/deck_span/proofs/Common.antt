@@ -1,0 +1,46 @@
+-- Names that several proofs of this crate cite, of the crates below and of its own definitions, passed on from one place. Declares nothing.
+pub use Rattle.std.proofs.Common.{All, Bool, List, None, Option, Some, [], ap, arith, cond, false, inl, inr, length, map, max, min, neg_ℤ, negsuc, pos, refl}
+pub use Rattle.std.proofs.Common.{reverse, subst, suc, sym, take, true, zero, ℕ, ℤ, ◌*ℤ◌, ◌*◌, ◌++◌, ◌+ℤ◌, ◌+◌, ◌-◌, ◌<◌, ◌^◌, ◌∙◌, ◌∷◌, ◌≡◌, ◌≤ℤ◌, ◌≤◌, ◌⊎◌}
+pub use Rattle.std.proofs.lemmas.Bool.{cases_lt, false≢true}
+pub use Rattle.std.proofs.lemmas.Int.{clamps, ints}
+pub use Rattle.std.proofs.lemmas.List.{get_or_default, reverse-append}
+pub use Rattle.std.specs.List.{AllZip, cons_option, filter, filter_map, find, flat_map, range_with_len}
+pub use Rattle.std.specs.Prelude.{int_lt, is_some, not, unsigned_abs, ◌&&◌, ◌==◌, ◌||◌}
+pub use Rattle.cell_balance.specs.Steps.{ExactCell, ExactDrain, ExactEvap, ExactFixed, ExactFlow, ExactLink, ExactRiver, cell_at}
+pub use Rattle.decimal_input.proofs.Differences.{as_diff, diffs, same_diff}
+pub use Rattle.decimal_input.proofs.Orders.{AtMost-refl, den_plus, num_plus, over-AtMost, times-AtMost}
+pub use Rattle.decimal_input.proofs.Signs.{cancel_right, mul_mono_right, swap}
+pub use Rattle.decimal_input.specs.Canonical.{number, size}
+pub use Rattle.decimal_input.specs.Fractions.{AtMost, Fraction, den, negated, plus, signed}
+pub use Rattle.decimal_input.specs.Ratios.{Ratio, over}
+pub use Rattle.decimal_input.specs.declared.dec.Dec.{Dec}
+pub use Rattle.deck_span.specs.Alike.{AreAlike, AreGivenAlike, ArePeriodsAlike, entry_frame}
+pub use Rattle.deck_span.specs.Models.{IsBetween, IsEntryBetween, IsGivenAtMost, IsGivenBetween, IsPeriodBetween, IsRateBetween, frame, period_frame}
+pub use Rattle.deck_span.specs.Models.IsEntryBetween.{drains, generals, rivers, wells}
+pub use Rattle.deck_span.specs.Numbers.{IsDecBetween, IsFractionBetween, IsRatioBetween, IsSizeBetween}
+pub use Rattle.deck_span.specs.Steps.{IsCellBetween, IsDrainBetween, IsEvapBetween, IsFixedBetween, IsFlowBetween, IsRiverBetween, IsStepBetween}
+pub use Rattle.model_types.specs.Cells.{cell_count, place_in_layer}
+pub use Rattle.model_types.specs.Conductances.{conductance, one}
+unfoldable pub use Rattle.model_types.specs.Conductances.{column_conductance, row_conductance, vertical_conductance, vertical_half}
+pub use Rattle.model_types.specs.Heads.{between_heads, head_or_kept, kept_head, start_head}
+unfoldable pub use Rattle.model_types.specs.Heads.{constant_head}
+pub use Rattle.model_types.specs.Kinds.{index_of, is_variable, last_given, variable_cells}
+unfoldable pub use Rattle.model_types.specs.Kinds.{given_in, variable_below}
+pub use Rattle.model_types.specs.Layers.{dec_at, int_at, is_active, no_number}
+unfoldable pub use Rattle.model_types.specs.Layers.{area}
+pub use Rattle.model_types.specs.Receivers.{EvapSource, evap_at, evap_source, is_chosen, recharge_at}
+pub use Rattle.model_types.specs.Sources.{DrainSource, FixedSource, FlowSource, RiverSource, as_drain, as_general, as_river, as_well, cell_of, constant_faces}
+pub use Rattle.model_types.specs.Sources.{drain_sources, evap_sources, fixed_sources, flow_sources, local_entries, river_sources, storage_at, variable_faces}
+unfoldable pub use Rattle.model_types.specs.Sources.{entries_of}
+pub use Rattle.model_types.specs.Times.{entries, multiplier, no_period, period_at, power}
+unfoldable pub use Rattle.model_types.specs.Times.{geometric, passed}
+pub use Rattle.model_types.specs.declared.entry.Entry.{Entry}
+pub use Rattle.model_types.specs.declared.entry.Given.{Given}
+pub use Rattle.model_types.specs.declared.face.Face.{Face}
+pub use Rattle.model_types.specs.declared.grid.CellId.{CellId}
+pub use Rattle.model_types.specs.declared.model.FlowModel.{FlowModel}
+pub use Rattle.model_types.specs.declared.period.Period.{Period}
+pub use Rattle.problem_hull.proofs.Threes.{three_append, three_at, three_lengths}
+pub use Rattle.problem_hull.specs.Hulls.{IsCellHull, IsDrainHull, IsEvapHull, IsFixedHull, IsFlowHull, IsHull, IsHullPair, IsHullSize, IsRiverHull}
+pub use Rattle.problem_hull.specs.Threes.{AllThree}
+pub use Rattle.problem_hull.specs.Threes.AllThree.{next, none}

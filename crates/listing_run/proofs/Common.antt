@@ -1,0 +1,40 @@
+-- Names that several proofs of this crate cite, of the crates below and of its own definitions, passed on from one place. Declares nothing.
+pub use Rattle.std.proofs.Common.{All, Bool, Contains, Err, List, None, Ok, Option, Result, Some, [], ap, arith, drop, false, get_or, inl, inr, length, map}
+pub use Rattle.std.proofs.Common.{pos, refl, rules, subst, suc, sym, true, ℕ, ℤ, ◌*ℤ◌, ◌++◌, ◌+◌, ◌-◌, ◌<◌, ◌^◌, ◌∙◌, ◌∷◌, ◌≡◌, ◌≤ℤ◌}
+pub use Rattle.std.proofs.lemmas.List.{append-nil, append_assoc, map-append}
+pub use Rattle.std.specs.Prelude.{IfErr, IfOk, IfSome, MatchResult}
+pub use Rattle.budget_bounds.specs.declared.pair.Budget.{Budget}
+pub use Rattle.decimal_input.specs.Fractions.{Fraction}
+pub use Rattle.flow_equations.specs.Histories.{Solves, SolvesFrom, heads_of, variable_heads}
+pub use Rattle.listing_run.specs.Bounding.{BoundAll, BoundsMoves, EnclosesHistories}
+pub use Rattle.listing_run.specs.Ends.{FlowsStopBy, IsAtFirst, IsNext, IsNextText, IsStopEnd, IsWalk, StopsAt, stop_of, times_left}
+pub use Rattle.listing_run.specs.Listing.{IsCutListing, IsListing, IsListingBeside, IsPushed, begun, last_line, left, listed, listing, status_of, text_of}
+pub use Rattle.listing_run.specs.Settlers.{AllSettledBy, AreSettledBy, IsSettledBy, PairEncloses, Reaches, ReachesFirst, RestsOrSettles, RestsOrSettlesFirst}
+pub use Rattle.listing_run.specs.Settlers.{rests, settled}
+pub use Rattle.listing_run.specs.Steps.{AllSettle, AllSteps, EndsAt, FirstSteps, HasNoBound, IsStep, StepsThen, budget_at, no_budget, no_heads, no_zones}
+pub use Rattle.listing_run.specs.Zones.{AreFlowsAt, FlowsEnclose, FlowsEncloseAt, HasLargeFlow, faces_at}
+pub use Rattle.listing_run.specs.declared.listing_end.ListingEnd.{ListingEnd}
+pub use Rattle.listing_run.specs.declared.step.Step.{Step}
+pub use Rattle.listing_run.specs.declared.steps.Steps.{Steps}
+pub use Rattle.listing_run.specs.declared.task.Task.{Task}
+pub use Rattle.model_types.specs.Cells.{cell_count}
+pub use Rattle.model_types.specs.Times.{times}
+pub use Rattle.model_types.specs.declared.time_steps.TimeStep.{TimeStep}
+pub use Rattle.outside.specs.Puts.{Put, taken}
+pub use Rattle.outside.specs.declared.traits.SinkError.{SinkError}
+pub use Rattle.problem_builder.specs.GridHeads.{AreGridHeads, HeadsEnclose, IsActive, IsNamed}
+pub use Rattle.problem_builder.specs.StartHeads.{AreStartHeads}
+pub use Rattle.run_puts.proofs.Pieces.{IsAt, IsLate, at_more, ends_or_lacks, joined, joined_thrice, lacks_after, lacks_at_first, late_not_ok, put_was, stops_at}
+pub use Rattle.run_puts.proofs.Pieces.{tail_late, weaker}
+pub use Rattle.run_puts.specs.Ends.{IsEnd, IsLast, IsPut, IsWanting}
+pub use Rattle.run_puts.specs.Lines.{Text, end_line}
+pub use Rattle.run_puts.specs.Runs.{IsRun, whole}
+pub use Rattle.run_puts.specs.declared.status.Status.{Status}
+pub use Rattle.step_chain.specs.Enclosing.{EnclosesMoves, LieBetween, LiesWithin}
+pub use Rattle.step_chain.specs.Steps.{IsPosed, IsSettledStep}
+pub use Rattle.step_chain.specs.declared.solved.Solved.{Solved}
+pub use Rattle.step_problem.specs.Entries.{Entries, entries_at}
+pub use Rattle.step_problem.specs.Heads.{Edges, IsSettledPair, RoundsSettleBoth, lower_at, upper_at}
+pub use Rattle.step_problem.specs.declared.heads.Bound.{Bound}
+pub use Rattle.step_problem.specs.declared.place.NoBound.{NoBound}
+pub use Rattle.step_problem.specs.declared.place.ZoneFlow.{ZoneFlow}

@@ -1,0 +1,14 @@
+-- Names that several proofs of this crate cite, of the crates below and of its own definitions, passed on from one place. Declares nothing.
+pub use Rattle.std.proofs.Common.{All, Bool, List, [], ap, arith, cond, drop, get_or, length, refl, rules, subst, sym, ℕ, ℤ, ◌*◌, ◌++◌, ◌+ℤ◌, ◌+◌, ◌<◌, ◌^◌}
+pub use Rattle.std.proofs.Common.{◌∙◌, ◌∷◌, ◌≡◌, ◌≤◌}
+pub use Rattle.std.specs.List.{fold}
+pub use Rattle.listing_run.specs.Ends.{IsAtFirst, IsNext, IsWalk, times_left, with_heads}
+pub use Rattle.listing_run.specs.Steps.{EndsAt}
+pub use Rattle.listing_run.specs.declared.step.Step.{Step}
+pub use Rattle.listing_summary.specs.Counting.{Fits, counted, nothing, stepped}
+pub use Rattle.listing_summary.specs.Summaries.{printed_heads, summary_of, width}
+unfoldable pub use Rattle.listing_summary.specs.Summaries.{printed}
+pub use Rattle.listing_summary.specs.declared.summary.Summary.{Summary}
+pub use Rattle.step_problem.specs.Conditions.{IsHead, IsWithin}
+pub use Rattle.step_problem.specs.Heads.{Edges, no_bound}
+pub use Rattle.step_problem.specs.declared.heads.Bound.{Bound}

@@ -1,0 +1,100 @@
+-- Names that several proofs of this crate cite, of the crates below and of its own definitions, passed on from one place. Declares nothing.
+pub use Rattle.std.proofs.Common.{All, Bool, Err, IfSome, List, None, Ok, Option, Result, Some, [], ap, arith, cond, drop, false, get_or, inl, inr, is_some}
+pub use Rattle.std.proofs.Common.{length, map, nat_le, nat_lt, negsuc, not, pos, refl, replicate, set, subst, suc, sum, sum_by, sym, take, true, zero, ℕ, ℤ}
+pub use Rattle.std.proofs.Common.{◌%◌, ◌&&◌, ◌*◌, ◌++◌, ◌+◌, ◌-◌, ◌<◌, ◌==◌, ◌^◌, ◌||◌, ◌∙◌, ◌∷◌, ◌≡◌, ◌≤◌, ◌⊎◌}
+pub use Rattle.std.proofs.lemmas.Bool.{and_parts, cases_lt, eqb-true, leb-true, ltb-true, not-false, not-true}
+pub use Rattle.std.proofs.lemmas.List.{drop-append-le, drop_at, get_or-set_other, get_or-set_same, get_or_default, length-append, length-drop, length-replicate}
+pub use Rattle.std.proofs.lemmas.List.{length-set, take-append-le, take_all}
+pub use Rattle.std.proofs.lemmas.List.Elements.{All-append, All-cons, All-from_recursion, All-head, All-nil, All-push, All-replicate, All-tail, All-weaker}
+pub use Rattle.std.proofs.lemmas.List.Sums.{sum-map, sum_by-cons}
+pub use Rattle.std.specs.List.{AllPairs, list_all, list_any}
+pub use Rattle.std.specs.Prelude.{if◌then◌else◌}
+pub use Rattle.area_text.specs.Readable.{IsEvaporating, IsLayers, IsRecharged}
+pub use Rattle.array_forms.proofs.ArrayForms.{array_is, arrays, item_is}
+pub use Rattle.array_forms.proofs.ListForms.{lists, value_is}
+pub use Rattle.array_forms.proofs.NumberForms.{integer_is, multiplied_is, number_is}
+pub use Rattle.array_forms.proofs.Readings.{clash, ends, goes, repeated_are}
+pub use Rattle.array_reader.specs.Arrays.{array_at, integer_layer, layers, real_layer}
+pub use Rattle.array_reader.specs.Items.{number_at}
+pub use Rattle.array_reader.specs.Kinds.{real, whole}
+pub use Rattle.array_reader.specs.Lists.{free_list, value_alone, value_at}
+pub use Rattle.array_reader.specs.Numbers.{integer, number}
+pub use Rattle.array_text.specs.Words.{IsShort}
+unfoldable pub use Rattle.array_text.specs.Words.{integer_word, number_word}
+pub use Rattle.bas_package.specs.Basics.{head_item, with_basics}
+unfoldable pub use Rattle.bas_package.specs.Basics.{bas_of, basics_of}
+pub use Rattle.cell_checks.specs.Checks.{at_cell, cell_step}
+unfoldable pub use Rattle.cell_checks.specs.Checks.{checked}
+unfoldable pub use Rattle.cell_checks.specs.Faults.{fault_at}
+pub use Rattle.cell_checks.specs.declared.passing.Check.{Check}
+pub use Rattle.cell_checks.specs.declared.passing.Check.TheVariants.{StartHead, Thickness}
+pub use Rattle.decimal_input.specs.Canonical.{IsDec}
+pub use Rattle.decimal_input.specs.declared.dec.Dec.{Dec}
+pub use Rattle.dis_package.specs.Discretization.{begun}
+unfoldable pub use Rattle.dis_package.specs.Discretization.{dis_of, head_of}
+pub use Rattle.dis_package.specs.Forms.{IsFrame, IsNewPeriod, IsSize, IsTime, without_stresses}
+unfoldable pub use Rattle.dis_package.specs.Frames.{count_at, frame_of, size_at}
+unfoldable pub use Rattle.dis_package.specs.Grids.{bottom_at, bottoms_of, grid_of, widths}
+pub use Rattle.dis_package.specs.Times.{is_time, kind_of, known, period_of}
+unfoldable pub use Rattle.dis_package.specs.Times.{periods_of, time_of}
+pub use Rattle.dis_package.specs.declared.frame.Size.{Size}
+pub use Rattle.evt_package.specs.Columns.{cell_tested, chosen_cell, column_step, column_tested, source}
+unfoldable pub use Rattle.evt_package.specs.Columns.{columns_tested}
+pub use Rattle.evt_package.specs.Evaporation.{area_in, evaporation_arrays, with_evaporation}
+unfoldable pub use Rattle.evt_package.specs.Evaporation.{evt_of}
+pub use Rattle.list_package.proofs.ModelLemmas.{same_count, same_view, steps}
+pub use Rattle.list_package.specs.GivenHeads.{given_heads, is_growing}
+pub use Rattle.list_package.specs.Headers.{Count, again, count_of, entries, has_parameters, is_reused, item_line}
+unfoldable pub use Rattle.list_package.specs.Headers.{header_of}
+pub use Rattle.list_package.specs.Kinds.{Kind, first_fault, with_list}
+pub use Rattle.lpf_package.specs.Flow.{SameBut, is_transient, with_contents, with_properties}
+unfoldable pub use Rattle.lpf_package.specs.Flow.{contents_of, lpf_of}
+pub use Rattle.lpf_package.specs.Layers.{joined, nth_layer}
+unfoldable pub use Rattle.lpf_package.specs.Layers.{layer_at, layers_of, properties_of, storage_layer}
+pub use Rattle.lpf_package.specs.declared.layer.Properties.{Properties}
+unfoldable pub use Rattle.model_reader.specs.Model.{bas_in, basics_tested, dis_in, lpf_in, model_of, reads}
+pub use Rattle.model_text.proofs.DeckNames.{all_plain, good_names}
+pub use Rattle.model_text.proofs.ModelTexts.{model_reads}
+pub use Rattle.model_text.specs.Writable.{HasNoEvaporation, HasNoRecharge, IsDry, IsStill, IsWritable}
+pub use Rattle.model_types.specs.Cells.{cell_count, cell_number, layer_size}
+pub use Rattle.model_types.specs.Grids.{HasSize, IsGrid}
+pub use Rattle.model_types.specs.Layers.{int_at, is_nonzero, no_number}
+pub use Rattle.model_types.specs.Numbers.{IsPositive}
+pub use Rattle.model_types.specs.Valid.{IsGrowing, IsTimed, number_one}
+pub use Rattle.model_types.specs.declared.grid.CellId.{CellId}
+pub use Rattle.model_types.specs.declared.grid.Grid.{Grid}
+pub use Rattle.model_types.specs.declared.model.FlowModel.{FlowModel}
+pub use Rattle.model_types.specs.declared.period.Period.{Period}
+pub use Rattle.name_file.specs.Pairs.{Pairs, file_of}
+pub use Rattle.name_file.specs.declared.package.Package.TheVariants.{Bas, Chd, Dis, Drn, Evt, Ghb, Lpf, Rch, Riv, Wel}
+pub use Rattle.number_limits.proofs.Canonical.{dec_at_is, no_number_is}
+pub use Rattle.number_limits.specs.Signs.{is_positive, within}
+pub use Rattle.outside.specs.Files.{File}
+pub use Rattle.outside.specs.Inputs.{file_at, file_limit}
+pub use Rattle.outside.specs.Refusals.{refusal}
+pub use Rattle.outside.specs.Words.{words}
+pub use Rattle.outside.specs.declared.codes.Code.{Code}
+pub use Rattle.outside.specs.declared.codes.Code.TheVariants.{BadGrid, BadProperty, CellOutside, NothingToReuse, OutOfProfile, TooManyEntries}
+pub use Rattle.outside.specs.declared.refusals.Refusal.{Refusal}
+pub use Rattle.package_items.specs.Items.{zero_list}
+unfoldable pub use Rattle.package_items.specs.Items.{layer_or, zero_at}
+pub use Rattle.package_text.specs.Readable.{HasFlow, IsBasic, IsDiscretized, IsOfBeds}
+pub use Rattle.period_arrays.specs.Areas.{array_or, nothing_yet}
+unfoldable pub use Rattle.period_arrays.specs.Areas.{area_at, arrays_of}
+pub use Rattle.period_arrays.specs.Flags.{flag_if, is_negative, is_option}
+unfoldable pub use Rattle.period_arrays.specs.Flags.{flag_at, flags_of, option_at}
+pub use Rattle.period_arrays.specs.Forms.{AreFlags, IsArea, IsReals, IsWhole}
+pub use Rattle.period_arrays.specs.Kinds.{ArrayKind, contents, with_area}
+pub use Rattle.period_arrays.specs.Packages.{unit_if}
+unfoldable pub use Rattle.period_arrays.specs.Packages.{arrays_in, option_line, period_at, tested_area}
+pub use Rattle.period_arrays.specs.declared.area.Area.{Area}
+pub use Rattle.period_arrays.specs.declared.area.InForce.{InForce}
+pub use Rattle.period_arrays.specs.declared.flags.Contents.{Contents}
+pub use Rattle.period_arrays.specs.declared.flags.Flags.{Flags}
+pub use Rattle.period_arrays.specs.declared.read.ArrayFile.{ArrayFile}
+pub use Rattle.record_lines.specs.Items.{line_at}
+pub use Rattle.record_lines.specs.Layout.{Left, left_from, without_comments}
+pub use Rattle.record_lines.specs.Reading.{◌>>=◌}
+unfoldable pub use Rattle.record_lines.specs.Reading.{counted, for_each, repeated}
+pub use Rattle.stress_packages.specs.Packages.{drains, generals, rivers, wells}
+pub use Rattle.stress_text.specs.Entries.{IsEntry, IsListOf}

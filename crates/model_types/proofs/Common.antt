@@ -1,0 +1,26 @@
+-- Names that several proofs of this crate cite, of the crates below and of its own definitions, passed on from one place. Declares nothing.
+pub use Rattle.std.proofs.Common.{All, Bool, List, None, Option, Some, [], add-one, ap, arith, cond, false, get_or, inl, inr, is_some, length, map, pos, refl}
+pub use Rattle.std.proofs.Common.{rules, set, subst, suc, sym, take, true, zero, ℕ, ℤ, ◌%◌, ◌*◌, ◌++◌, ◌+◌, ◌-◌, ◌/◌, ◌<◌, ◌||◌, ◌∙◌, ◌∷◌, ◌≡◌, ◌≤◌, ◌⊎◌}
+pub use Rattle.std.proofs.Math.Nat.{mul-le-mul_right}
+pub use Rattle.std.proofs.lemmas.Bool.{cases_Bool, cases_eq, cases_lt, cases_order, cond-false, cond-true, eq-eqb, le-leb, leb-false, leb-true, ne_eqb}
+pub use Rattle.std.proofs.lemmas.List.{append-nil, append_assoc, flat_map_more, get_or-replicate, get_or-set_other, get_or_read, length-append}
+pub use Rattle.std.proofs.lemmas.List.{length-replicate, length-set, reverse-append, take_all, take_more}
+pub use Rattle.std.proofs.lemmas.List.Elements.{All-cons, All-contains, All-get_or, All-nil, filter-append}
+pub use Rattle.std.proofs.lemmas.List.FromFn.{fill_by_all, get_or-map-range_with_len, length-map-range_with_len, map-range_with_len_more}
+pub use Rattle.std.proofs.lemmas.Nat.{div-add-mod', div-mul-add, div_below, mod-mul-add, mod_below, mul-add-lt}
+pub use Rattle.std.specs.List.{Contains, cons_option, filter, filter_map, find, flat_map, list_any, range_with_len, sum_by}
+pub use Rattle.std.specs.Option.{option_map}
+pub use Rattle.std.specs.Prelude.{min, nat_le, nat_lt, replicate, reverse, ◌==◌}
+pub use Rattle.model_types.specs.Cells.{back, cell_count, cell_number, column_of, down, front, layer_of, layer_size, left, place, right, row_of, up}
+pub use Rattle.model_types.specs.Faces.{face_after, face_before, faces, has_after, has_before, span, stride, through}
+pub use Rattle.model_types.specs.Grids.{HasSize, IsInGrid, IsPlace}
+pub use Rattle.model_types.specs.Kinds.{kind_of, last_given}
+unfoldable pub use Rattle.model_types.specs.Kinds.{given_heads, given_in, kinds}
+pub use Rattle.model_types.specs.Times.{no_period, no_stresses, period_at, steps_of}
+unfoldable pub use Rattle.model_types.specs.Times.{geometric, power}
+pub use Rattle.model_types.specs.declared.entry.Given.{Given}
+pub use Rattle.model_types.specs.declared.face.Axis.TheVariants.{Column, Row, Vertical}
+pub use Rattle.model_types.specs.declared.face.Face.{Face}
+pub use Rattle.model_types.specs.declared.grid.Grid.{Grid}
+pub use Rattle.model_types.specs.declared.model.FlowModel.{FlowModel}
+pub use Rattle.model_types.specs.declared.period.Period.{Period}

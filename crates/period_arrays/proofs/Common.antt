@@ -1,0 +1,15 @@
+-- Names that several proofs of this crate cite, of the crates below and of its own definitions, passed on from one place. Declares nothing.
+pub use Rattle.std.proofs.Common.{All, List, Ok, arith, false, map, sym, ℕ, ℤ, ◌*◌, ◌++◌, ◌-◌, ◌<◌, ◌∙◌, ◌≡◌, ◌≤◌}
+pub use Rattle.std.proofs.lemmas.Result.{err_from_is_err_and}
+pub use Rattle.std.specs.Prelude.{IfOk}
+pub use Rattle.std.specs.Vec.Iter.{into_iter_items}
+pub use Rattle.model_types.specs.declared.grid.Grid.{Grid}
+pub use Rattle.period_arrays.specs.Forms.{AreFlags, IsArea, IsInForce, IsReals, IsWhole}
+pub use Rattle.period_arrays.specs.Kinds.{ArrayKind, contents, without}
+pub use Rattle.period_arrays.specs.Layers.{layer_step}
+unfoldable pub use Rattle.period_arrays.specs.Layers.{layers_tested}
+pub use Rattle.period_arrays.specs.Packages.{period_at, unit_if}
+unfoldable pub use Rattle.period_arrays.specs.Packages.{option_line}
+pub use Rattle.record_lines.proofs.Forward.{after, begun_held, chain, leaves}
+pub use Rattle.record_lines.specs.Asking.{LineMay, LinesMay}
+pub use Rattle.record_lines.specs.Reading.{counted, for_each}

@@ -1,0 +1,18 @@
+-- Names that several proofs of this crate cite, of the crates below and of its own definitions, passed on from one place. Declares nothing.
+pub use Rattle.std.proofs.Common.{All, Bool, Err, List, None, Ok, Option, Result, Some, [], add-one, ap, append_assoc, arith, cond, drop, drop-cons, false}
+pub use Rattle.std.proofs.Common.{get_or, if◌then◌else◌, inl, inr, length, lit<, nat_le, nat_lt, not, pow-suc, refl, subst, suc, sym, take, true, zero, ℕ, ◌&&◌}
+pub use Rattle.std.proofs.Common.{◌*◌, ◌++◌, ◌+◌, ◌-◌, ◌<◌, ◌==◌, ◌^◌, ◌∙◌, ◌∷◌, ◌≡◌, ◌≤◌, ◌⊎◌}
+pub use Rattle.std.proofs.lemmas.List.{append-nil, drop-drop, drop_all, take_all}
+pub use Rattle.std.specs.List.{filter, onto_first, position, position_or_len, slice_split}
+pub use Rattle.outside.specs.Words.{is_separator}
+unfoldable pub use Rattle.outside.specs.Words.{lines, words}
+pub use Rattle.outside.specs.declared.refusals.InputFault.{InputFault}
+pub use Rattle.outside.specs.declared.refusals.InputFault.TheVariants.{Memory, ReadFault, Refused}
+pub use Rattle.outside.specs.declared.refusals.Refusal.{Refusal}
+pub use Rattle.outside.specs.declared.refusals.TextFault.{TextFault}
+pub use Rattle.record_lines.specs.Layout.{Left, Numbered, after_comments, has_word, is_comment, next_number, without_comments}
+unfoldable pub use Rattle.record_lines.specs.Layout.{left_from, number_behind, numbered}
+pub use Rattle.record_lines.specs.Reading.{Stops, StopsText, ◌>>=◌}
+unfoldable pub use Rattle.record_lines.specs.Reading.{appended, counted, for_each, repeated}
+pub use Rattle.record_lines.specs.Spread.{Taking, source, taken, taking, times, value_of}
+unfoldable pub use Rattle.record_lines.specs.Spread.{count, next_value, next_word, spread}

@@ -1,0 +1,10 @@
+-- Names that several proofs of this crate cite, of the crates below and of its own definitions, passed on from one place. Declares nothing.
+pub use Rattle.std.proofs.Common.{Bool, Err, List, None, Ok, Option, Result, Some, [], ap, arith, false, inl, inr, length, map, refl, subst, sym, true, ℕ, ℤ}
+pub use Rattle.std.proofs.Common.{◌<◌, ◌∙◌, ◌∷◌, ◌≡◌, ◌⊎◌}
+pub use Rattle.model_types.specs.declared.model.FlowModel.{FlowModel}
+pub use Rattle.model_types.specs.declared.time_steps.TimeStep.{TimeStep}
+pub use Rattle.problem_builder.specs.Laws.{ProblemFits, StartHeadsFit}
+pub use Rattle.problem_or_refusal.specs.Laws.{ConstantPairsExist, ProblemOrRefusal, StartHeadsExist}
+pub use Rattle.step_or_refusal.specs.Laws.{ListingOrRefusal, StepOrRefusal}
+pub use Rattle.step_problem.specs.Heads.{Edges, IsSettledPair, lower_at, no_bound, upper_at}
+pub use Rattle.step_problem.specs.declared.heads.Bound.{Bound}
