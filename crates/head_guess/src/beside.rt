@@ -7,7 +7,7 @@ use crate::half::{HalfGuess, Start, find_room, half_guess, near_balanced};
 use crate::links::Links;
 use crate::one_side::OneSide;
 use crate::room::share_room;
-use crate::search::FIRST_SHARE;
+use crate::search::first_share;
 use crate::steps::{Kept, LastStep, high_start, low_start};
 use star_mesh::Pattern;
 use std::alloc::{AllocError, Global};
@@ -66,14 +66,15 @@ fn both_halves<R: Threads>(
     last: &Option<LastStep>,
     kept: &mut Kept,
 ) -> Result<(HalfGuess, HalfGuess), AllocError> {
+    let share = first_share(sides.low.links);
     let high = Start {
         heads: high_start(alloc, near.as_slice(), last)?,
-        share: FIRST_SHARE,
+        share,
         last: last.as_ref().map(|last| &last.high),
     };
     let low = Start {
         heads: near,
-        share: FIRST_SHARE,
+        share,
         last: last.as_ref().map(|last| &last.low),
     };
     let Kept { linear, beside, .. } = kept;

@@ -12,20 +12,23 @@ use std::alloc::{AllocError, Global};
 const MOST_PASSES: u32 = 1_000_000;
 
 // The number of unit passes before the first gallop, between two gallops that gain, and at most between two.
-const FIRST_WAIT: u32 = 32;
+const FIRST_WAIT: u32 = 16;
 
 const SHORT_WAIT: u32 = 8;
 
-const LONG_WAIT: u32 = 64;
+const LONG_WAIT: u32 = 32;
+
+// The number before the first one where few passes are left.
+const WAIT_OF_FEW: u32 = 64;
 
 // A gallop gains if it lowers a head by at least this many units.
-const GAIN: i64 = 64;
+const GAIN: i64 = 32;
 
 // The greatest number of units of the first step along a shape.
 const SHAPE_UNITS: i64 = 16;
 
 // Rounds of conjugate gradients for a shape.
-const ROUNDS: u32 = 12;
+const ROUNDS: u32 = 3;
 
 // The slopes of the cells that have fallen; 0, so that they are held, for the others.
 fn slopes_where_fallen(
@@ -81,17 +84,17 @@ fn gallop_on(
 }
 
 /// Lowers settled heads by unit passes, and by gallops along the way that the last ones went, until a pass moves
-/// nothing or the budget ends. Returns the order in which the cells rose again in the last pass. From low heads a few unit passes are
-/// enough, so that the first gallop is later.
+/// nothing or the budget ends. Returns the order in which the cells rose again in the last pass. Where few passes are
+/// left the first gallop is later.
 pub fn descend(
     alloc: Global,
     side: &OneSide,
     state: &mut State,
-    is_low: bool,
+    is_near: bool,
     budget: &mut Budget,
 ) -> Result<Vec<u32>, AllocError> {
     let mut from = state.heads.clone()?;
-    let mut wait = if is_low { LONG_WAIT } else { FIRST_WAIT };
+    let mut wait = if is_near { WAIT_OF_FEW } else { FIRST_WAIT };
     let mut since = 0_u32;
     for _ in 0..MOST_PASSES {
         let before = state.heads.clone()?;
@@ -114,7 +117,7 @@ pub fn descend(
             wait = if gained >= GAIN {
                 SHORT_WAIT
             } else {
-                LONG_WAIT.min(wait.saturating_mul(2))
+                wait.saturating_mul(2).min(LONG_WAIT)
             };
             from = state.heads.clone()?;
         }

@@ -62,7 +62,7 @@ impl Progress {
 const MOST_STEPS: u32 = 64;
 
 // The number of turns that a step may take at each cell that it moves.
-const TURNS: u64 = 20;
+const TURNS: u64 = 8;
 
 // The way of a gallop's next step. Returns the state there, and how far it is.
 fn state_below(

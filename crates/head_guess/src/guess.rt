@@ -5,7 +5,7 @@ ghost use Rattle.cell_relax.specs.Words.{AreWords};
 use crate::half::{HalfGuess, Start, half_guess};
 use crate::links::Links;
 use crate::one_side::{OneSide, turned};
-use crate::search::FIRST_SHARE;
+use crate::search::first_share;
 use crate::steps::{Kept, LastStep, before_of, high_start, low_start};
 use multigrid::numbers::at;
 use star_mesh::Pattern;
@@ -102,7 +102,7 @@ fn guess_in_turn(
     let side = side_of(alloc, p, Side::Low, links, pattern, b.floor.as_slice())?;
     let start = Start {
         heads: low_start(alloc, p, b, &last)?,
-        share: FIRST_SHARE,
+        share: first_share(links),
         last: last.as_ref().map(|last| &last.low),
     };
     let low = half_guess(alloc, &side, start, &mut kept.linear)?;

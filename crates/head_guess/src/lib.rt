@@ -6,6 +6,7 @@ mod burn;
 mod changes;
 mod descend;
 mod eliminable;
+mod extent;
 mod flows;
 mod gallop;
 mod guess;

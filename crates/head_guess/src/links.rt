@@ -43,6 +43,8 @@ pub struct Links {
     edges: Vec<Edge>,
     knowns: u32,
     ramps: u32,
+    // The number of cells with one link of more than two fifths of the conductance of all its links.
+    uneven: u64,
 }
 
 /// A conductance as a number with a sign.
@@ -86,6 +88,7 @@ impl Links {
         let first_ramp = self.ramps;
         let mut least = 0_i64;
         let mut greatest = 0_i64;
+        let mut strongest = 0_i64;
         for link in &cell.links {
             let edge = Edge {
                 other: link.cell,
@@ -94,7 +97,11 @@ impl Links {
             };
             least = least.saturating_add(edge.lo);
             greatest = greatest.saturating_add(edge.hi);
+            strongest = strongest.max(edge.hi);
             self.edges.push(edge)?;
+        }
+        if strongest / 2 > greatest / 5 {
+            self.uneven = self.uneven.saturating_add(1);
         }
         for fixed in &cell.fixed {
             least = least.saturating_add(conductance(fixed.lo));
@@ -122,6 +129,7 @@ impl Links {
             edges: Vec::new(alloc),
             knowns: 0,
             ramps: 0,
+            uneven: 0,
         };
         for cell in 0..p.len() {
             links.add_cell(p.cell(cell))?;
@@ -132,6 +140,17 @@ impl Links {
     /// The number of cells.
     pub fn len(&self) -> usize {
         self.rows.len()
+    }
+
+    /// The links of a cell on the average, in hundredths.
+    pub fn links_per_cell(&self) -> u64 {
+        let links = (self.edges.len() as u64).saturating_mul(100);
+        links.checked_div(self.rows.len() as u64).unwrap_or(0)
+    }
+
+    /// Whether the links of most cells are much alike, as they are not where a model is anisotropic.
+    pub fn are_even(&self) -> bool {
+        self.uneven <= self.rows.len() as u64 / 2
     }
 
     /// The row of a cell; an empty one past the last cell.

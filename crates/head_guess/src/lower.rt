@@ -1,5 +1,6 @@
 // From the settled heads of a search down to the first settled ones.
 use crate::descend::descend;
+use crate::extent::Width;
 use crate::one_side::OneSide;
 use crate::search::Settled;
 use crate::share_cycles::{settled_by_shares, visits_of_cycle};
@@ -7,8 +8,15 @@ use crate::state::State;
 use multigrid::Budget;
 use std::alloc::{AllocError, Global};
 
-// A descent is long if it takes more visits than this number of cycles of shares. Most of those that take fewer end soon.
-const CYCLES: u64 = 2;
+// A descent is long if it takes more visits than such a number of quarters of a cycle of shares: fewer the wider the room is. Most of those
+// that take fewer end soon.
+fn most_quarters(width: Width) -> u64 {
+    match width {
+        Width::Narrow => 8,
+        Width::Wide => 3,
+        Width::Widest => 1,
+    }
+}
 
 /// The first settled heads, and the order in which cells rose again. Where the descent from the settled heads of a search is long, it begins
 /// again from heads with a share for each cell.
@@ -20,9 +28,9 @@ pub fn lowered(
     budget: &mut Budget,
 ) -> Result<(State, Vec<u32>), AllocError> {
     let cycle = side.pattern.map_or(u64::MAX, visits_of_cycle);
-    let mut short = budget.split(cycle.saturating_mul(CYCLES));
+    let mut short = budget.split((cycle / 4).saturating_mul(most_quarters(settled.width)));
     let mut state = settled.state;
-    let order = descend(alloc, side, &mut state, settled.is_low, &mut short)?;
+    let order = descend(alloc, side, &mut state, settled.is_near, &mut short)?;
     let is_long = short.is_spent() && !budget.is_spent();
     budget.join(short);
     if !is_long {

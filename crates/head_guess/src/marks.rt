@@ -68,6 +68,13 @@ impl Marks {
         }
     }
 
+    /// Adds a cell if it may rise.
+    pub fn set_if(&mut self, cell: usize, may_rise: bool) {
+        if let Some(word) = self.words.as_mut_slice().get_mut(cell / CELLS) {
+            *word |= (may_rise as u64).wrapping_shl((cell % CELLS) as u32);
+        }
+    }
+
     /// Removes the next cell of a sweep from the set, and returns it. Cells that the sweep has passed are left.
     pub fn take_next(&mut self, sweep: &mut Sweep) -> Option<usize> {
         let word = self.words.as_mut_slice().get_mut(sweep.word)?;
@@ -84,6 +91,11 @@ impl Marks {
                 .saturating_mul(CELLS)
                 .saturating_add(place as usize),
         )
+    }
+
+    /// Whether a word has a cell.
+    pub fn has_any(&self, word: usize) -> bool {
+        self.words.get(word).is_some_and(|word| *word != 0)
     }
 
     /// The number of words.

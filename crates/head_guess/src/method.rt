@@ -8,8 +8,8 @@ const OPERATIONS: u64 = 8;
 // Entries of a factor of which a solution takes as long as a visit.
 const ENTRIES: u64 = 3;
 
-// Elimination always pays with at most this number of operations for each cell, as in a layer of 128 x 128.
-const FEW_OPERATIONS: u64 = 800;
+// Elimination always pays with at most this number of operations for each cell, as in a layer of 256 x 256.
+const FEW_OPERATIONS: u64 = 1_500;
 
 /// A system with what its method needs: conjugate gradients with multigrid cycles, or elimination.
 #[derive(Drop)]

@@ -1,5 +1,5 @@
 // Cells with their balances, while heads are raised.
-use crate::flows::{gain, loss, unit_loss};
+use crate::flows::{gain, loss, unit_gain, unit_loss};
 use crate::links::{Edge, Row};
 use crate::marks::Marks;
 use crate::one_side::OneSide;
@@ -29,7 +29,7 @@ const NO_NODE: Node = Node {
 
 impl Node {
     fn can_rise(&self) -> bool {
-        self.balance >= self.least as i128 && self.head < self.cap
+        (self.balance >= self.least as i128) & (self.head < self.cap)
     }
 
     // The node after a rise. It stays where it is if that was its last one.
@@ -170,6 +170,23 @@ impl Nodes {
         taken
     }
 
+    // The same where the cell rises by one unit.
+    fn spread_unit(&mut self, edges: &[Edge], head: i64, marks: &mut Marks) -> i64 {
+        let mut taken = 0_i64;
+        for edge in edges {
+            let other = edge.other as usize;
+            if let Some(node) = self.nodes.as_mut_slice().get_mut(other) {
+                let above = head.wrapping_sub(node.head);
+                taken = taken.wrapping_add(unit_loss(edge.lo, edge.hi, above));
+                node.balance = node
+                    .balance
+                    .wrapping_add(unit_gain(edge.lo, edge.hi, above) as i128);
+                marks.set_if(other, node.can_rise());
+            }
+        }
+        taken
+    }
+
     /// Raises a cell, at most to its cap, and marks the cells that may rise after that. Returns whether it moved.
     pub fn turn(&mut self, side: &OneSide, cell: usize, marks: &mut Marks) -> bool {
         let node = self.node(cell);
@@ -181,7 +198,12 @@ impl Nodes {
         if units <= 0 {
             return false;
         }
-        let taken = self.spread(side.links.edges(&row), node.head, units, marks);
+        let edges = side.links.edges(&row);
+        let taken = if units == 1 {
+            self.spread_unit(edges, node.head, marks) as i128
+        } else {
+            self.spread(edges, node.head, units, marks)
+        };
         let risen = Node {
             balance: node
                 .balance

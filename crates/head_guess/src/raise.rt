@@ -42,7 +42,9 @@ fn sweep(
             Order::Up => k,
             Order::Down => words - 1 - k,
         };
-        moved |= turn_word(side, nodes, word, order, marks, budget);
+        if marks.has_any(word) {
+            moved |= turn_word(side, nodes, word, order, marks, budget);
+        }
     }
     moved
 }

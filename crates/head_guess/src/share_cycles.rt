@@ -13,8 +13,10 @@ use std::alloc::{AllocError, Global};
 
 const MOST_CYCLES: u32 = 3;
 
-// The rounds of a cycle, and at most those after it in which shares only fall.
+// The rounds of a cycle, and at most those after it in which shares only fall: few where another cycle is left.
 const ROUNDS: u32 = 60;
+
+const FEW_FALLS: u32 = 12;
 
 const MOST_FALLS: u32 = 200;
 
@@ -61,11 +63,12 @@ impl Shares {
         &mut self,
         alloc: Global,
         side: &OneSide,
+        most_falls: u32,
         budget: &mut Budget,
     ) -> Result<bool, AllocError> {
         let turns = TURNS.saturating_mul(side.len() as u64);
         self.changes.begin_falls();
-        for _ in 0..MOST_FALLS {
+        for _ in 0..most_falls {
             let are_low = self.try_all(alloc, side, budget)?;
             if !self.changes.fall(are_low.as_slice()) {
                 let state = &mut self.state;
@@ -91,7 +94,7 @@ fn descend_shortly(
 ) -> Result<bool, AllocError> {
     let cycle = side.pattern.map_or(0, visits_of_cycle);
     let mut short = budget.split(cycle / PARTS);
-    descend(alloc, side, state, true, &mut short)?;
+    descend(alloc, side, state, false, &mut short)?;
     let is_ended = !short.is_spent();
     budget.join(short);
     Ok(is_ended)
@@ -109,11 +112,20 @@ pub fn settled_by_shares(
     let mut shares = Shares::new(alloc, side, balanced, share, budget)?;
     let mut found = None;
     let mut longest = Changes::LONGEST;
-    for _ in 0..MOST_CYCLES {
+    for cycle in 1..MOST_CYCLES + 1 {
         shares.go(alloc, side, longest, budget)?;
         longest >>= BITS;
-        if !shares.settle(alloc, side, budget)? {
+        let falls = if cycle < MOST_CYCLES {
+            FEW_FALLS
+        } else {
+            MOST_FALLS
+        };
+        let is_settled = shares.settle(alloc, side, falls, budget)?;
+        if budget.is_spent() {
             break;
+        }
+        if !is_settled {
+            continue;
         }
         let mut state = shares.state.copy()?;
         let is_ended = descend_shortly(alloc, side, &mut state, budget)?;
