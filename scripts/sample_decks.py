@@ -105,7 +105,8 @@ class Command:
 
 def reading_order(*names):
     """The files of THREE_CELLS and the others named, in the order in which a command reads them."""
-    files = THREE_CELLS | {"z.txt": ZONES["z.txt"], "l.txt": b"".join(THREE_CELLS_PUTS), "list.txt": text("a.nam")}
+    files = THREE_CELLS | {"z.txt": ZONES["z.txt"], "l.txt": b"".join(THREE_CELLS_PUTS), "lz.txt": b"".join(ZONES_PUTS),
+                           "list.txt": text("a.nam")}
     return {name: files[name] for name in names}
 
 
@@ -116,6 +117,7 @@ COMMANDS = [
     Command("make 1 1", {}, [MADE]),
     Command("write a.nam", reading_order("a.nam", "a.dis", "a.bas", "a.lpf"), [THREE_CELLS_WRITTEN]),
     Command("run a.nam --zones z.txt", reading_order("a.nam", "a.dis", "a.bas", "a.lpf", "z.txt"), ZONES_PUTS),
+    Command("check a.nam lz.txt --zones z.txt", reading_order("a.nam", "a.dis", "a.bas", "a.lpf", "z.txt", "lz.txt"), [text("CERTIFIED")]),
     Command("batch list.txt", reading_order("list.txt", "a.nam", "a.dis", "a.bas", "a.lpf"), [text("MODEL a.nam") + b"".join(THREE_CELLS_PUTS), LAST]),
     Command("run a.nam --watch 2", reading_order("a.nam", "a.dis", "a.bas", "a.lpf"), THREE_CELLS_PUTS, side=rb"(?:(?:%s){2})+" % VIEW),
 ]

@@ -66,8 +66,8 @@ REMEDIES = {
     17: "Split the model, or merge entries of one cell (flows add; conductances to one level add).",
     18: "Write the list or the array of the first period out.",
     20: (
-        "A listing is checked with the --digits that it was made with (12 where they are left out), without ZONE lines;"
-        " or its model has changed."
+        "A listing is checked with the --digits that it was made with (12 where they are left out), and one with lines"
+        " ZONE with the zone file of its run (--zones); or its model has changed."
     ),
     24: (
         "Either the model has no solution or any lower head solves it too; MODFLOW prints heads there all the same. "

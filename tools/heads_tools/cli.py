@@ -51,6 +51,15 @@ def add_place(sub: argparse.ArgumentParser, is_needed: bool) -> None:
     )
 
 
+def add_zones(sub: argparse.ArgumentParser) -> None:
+    sub.add_argument(
+        "--zones",
+        type=Path,
+        metavar="M.ZON",
+        help="the zone file of the run: heads check checks the flows between zones",
+    )
+
+
 def cell(text: str) -> tuple[int, int, int]:
     parts = text.replace(" ", ",").split(",")
     if len(parts) != 3 or not all(p.isdigit() for p in parts):
@@ -121,7 +130,10 @@ def parser() -> argparse.ArgumentParser:
         "--minus", type=Path, metavar="BASE.HEADS", help="another listing: the difference of the heads, with bounds"
     )
     s.add_argument(
-        "--zones", type=Path, metavar="M.ZON", help="the zone file of the run: a map of the zones with their net flows"
+        "--zones",
+        type=Path,
+        metavar="M.ZON",
+        help="the zone file of the run: a map of the zones with their net flows, which heads check then checks, too",
     )
     s.add_argument("--every", action="store_true", help="maps of every step, and not of the last alone")
     s.add_argument("--svg", action="store_true", help="each picture as SVG, too")
@@ -141,6 +153,7 @@ def parser() -> argparse.ArgumentParser:
         metavar="M.NAM",
         help="the model, for the maps, and for heads check, which says whether the pairs are bounds",
     )
+    add_zones(s)
     s = add(
         "drawdown",
         "what a plan does: the differences of two listings with bounds, as tables, map, curves and sentences",
@@ -155,6 +168,7 @@ def parser() -> argparse.ArgumentParser:
         help="the plan's model: its listing is checked; true widths, times, units",
     )
     s.add_argument("--base-name", type=Path, metavar="BASE.NAM", help="the base's model: its listing is checked")
+    add_zones(s)
     s.add_argument(
         "--cell", type=cell, action="append", default=[], metavar="K,I,J", help="a curve of this cell; may stand again"
     )
@@ -185,6 +199,7 @@ def parser() -> argparse.ArgumentParser:
         "--theta", type=float, help="the margin, in roundings of a head; 0.5 and more are tried where left out"
     )
     s = add("check", "certify a listing by heads check, or piece by piece", nam, ("listing", "the listing"))
+    add_zones(s)
     s.add_argument(
         "--parts",
         type=int,
@@ -224,6 +239,7 @@ def parser() -> argparse.ArgumentParser:
     )
     add_place(s, True)
     s.description = OBSERVE
+    add_zones(s)
     s.add_argument("--between", action="store_true", help="points of a table lie between the middles of cells, too")
     s.add_argument("--out", type=Path, help="the table's file, standard output where left out")
     s = commands.add_parser(

@@ -123,8 +123,7 @@ def do_look(args: argparse.Namespace, _: list[str]) -> int:
     from .model import read_model
     from .zones import read_zones
 
-    if args.zones and not args.name:
-        raise Problem("--zones needs the model, too: --name M.NAM")
+    model_for_zones(args)
     listing = read_listing(existing(args.listing))
     model = read_model(existing(args.name)) if args.name else None
     verdict = verdict_of(args, listing)
@@ -136,11 +135,18 @@ def do_look(args: argparse.Namespace, _: list[str]) -> int:
     return verdict.status or 0
 
 
+def model_for_zones(args: argparse.Namespace) -> None:
+    if args.zones and not args.name:
+        raise Problem("--zones needs the model, too: --name M.NAM")
+
+
 def verdict_of(args: argparse.Namespace, listing: Listing) -> Verdict:
     """What `heads check` says of the listing, where the model is named."""
     from .verdict import check_listing, not_checked
 
-    return check_listing(existing(args.name), listing) if args.name else not_checked(listing)
+    if not args.name:
+        return not_checked(listing)
+    return check_listing(existing(args.name), listing, existing(args.zones) if args.zones else None)
 
 
 def do_compare(args: argparse.Namespace, _: list[str]) -> int:
@@ -149,6 +155,7 @@ def do_compare(args: argparse.Namespace, _: list[str]) -> int:
     from .listing import read_listing
     from .text import LENGTHS
 
+    model_for_zones(args)
     listing = read_listing(existing(args.listing))
     verdict = verdict_of(args, listing)
     differences = compare(listing, read_heads(existing(args.heads)))
@@ -171,9 +178,11 @@ def do_drawdown(args: argparse.Namespace, _: list[str]) -> int:
     from .drawdown import drawdown
     from .listing import read_listing
 
+    if args.zones and not (args.name or args.base_name):
+        raise Problem("--zones needs a model, too: --name PLAN.NAM, --base-name BASE.NAM")
     plan, base = (read_listing(existing(path)) for path in (args.plan, args.base))
-    name, base_name = (existing(path) if path else None for path in (args.name, args.base_name))
-    said, status = drawdown(plan, base, args.folder, name, base_name, args.cell)
+    name, base_name, zones = (existing(path) if path else None for path in (args.name, args.base_name, args.zones))
+    said, status = drawdown(plan, base, args.folder, name, base_name, args.cell, zones)
     say(said + [f"open {args.folder / 'index.html'}"])
     return status
 
@@ -205,13 +214,15 @@ def do_check(args: argparse.Namespace, _: list[str]) -> int:
     if args.parts is None:
         from .verdict import check_listing
 
-        verdict = check_listing(nam, read_listing(path))
+        verdict = check_listing(nam, read_listing(path), existing(args.zones) if args.zones else None)
         say([verdict.sentence])
         return verdict.status or 0
     from .parts import Way, check_parts
 
     if args.parts < 1:
         raise Problem("--parts is 1 or more")
+    if args.zones:
+        raise Problem("--parts checks no flows between zones: leave --zones out")
     engine = "slurm" if args.slurm else "parallel" if args.parallel else "here"
     if engine == "here" and (args.write_only or args.collect or args.folder):
         raise Problem("--folder, --write-only and --collect go with --parallel or --slurm")

@@ -34,10 +34,7 @@ ONE_HEAD = (
     "For example: each exact solution of this model's equations has, in layer {}, row {}, column {}, "
     "at the end of period {}, step {}, a head between {} and {} {}."
 )
-ZONE_FLOWS = (
-    "Each flow between two zones lies between its two listed numbers, too "
-    "(this rests on the run and on recheck.py; `heads check` reads no zones)."
-)
+ZONE_FLOWS = "Each flow between two zones lies between its two listed numbers, too."
 NOT_THE_GROUND = "The head in the aquifer lies between these numbers."
 WHY_NOT = (
     "The listing speaks of the equations of these files. "
@@ -140,20 +137,19 @@ def fill(folder: Path, name: str, options: list[str], known: Version) -> tuple[i
 def add_verdicts(told: Exhibit, folder: Path, name: str, listing: str, options: list[str], known: Version) -> int:
     """What `heads check` and recheck.py say, and what may be said after it; the status of the check."""
     read, model = read_listing(folder / listing), read_model(folder / "deck" / name)
-    plain = f"{Path(listing).stem}.without_zones.heads" if has_zones(read) else listing
-    if has_zones(read):
-        told.commands.append(f"grep -v '^ZONE ' {shlex.quote(listing)} > {shlex.quote(plain)}")
-        shell(folder, told.commands[-1])
-    told.commands.append(f"(cd deck && ../heads check {shlex.join([name, '../' + plain])} --digits {read.digits})")
+    named = zone_file(options)
+    zones = [word for file in named for word in ("--zones", file)]
+    words = shlex.join([name, "../" + listing, "--digits", str(read.digits), *zones])
+    told.commands.append(f"(cd deck && ../heads check {words})")
     checked = shell(folder, told.commands[-1])
     told.facts.append(("check", f"{checked.last} (status {checked.status})"))
     add_recheck(
         told,
         folder,
-        shlex.join([name, "../" + listing, *zone_file(options)]),
+        shlex.join([name, "../" + listing, *named]),
         sum(len(step.low) for step in read.steps),
     )
-    verdict = Verdict(checked.status, checked.last, listing, has_zones(read))
+    verdict = Verdict(checked.status, checked.last, listing, has_zones(read), bool(named))
     told.verdict = verdict.sentence
     if verdict.is_certified and known.is_recorded is not False:
         told.may = what_may_be_said(read, model)
@@ -161,9 +157,10 @@ def add_verdicts(told: Exhibit, folder: Path, name: str, listing: str, options: 
             told.verdict += (
                 " No record of this program's bytes stands beside it: whether it is the proved one has to be shown."
             )
-    deck, named = folder / "deck", zone_file(options) if has_zones(read) else []
-    zones = read_zones(on_disk(deck, named[0]), deck / name, model.shape) if named else None
-    look(read, folder / "look", model, verdict=verdict, zones=zones)
+    deck, numbers = folder / "deck", None
+    if named and has_zones(read):
+        numbers = read_zones(on_disk(deck, named[0]), deck / name, model.shape)
+    look(read, folder / "look", model, verdict=verdict, zones=numbers)
     return checked.status
 
 

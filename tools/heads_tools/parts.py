@@ -3,7 +3,7 @@
 `heads check` certifies the decks of pieces.py, here, by GNU parallel or by Slurm. What pieces don't show is computed
 here in whole numbers (whole.py) and isn't proved: that each group of cells is held by a constant head, a general head
 or storage, or carried by recharge and rivers; that no cell passed by the floor or the ceiling of its piece alone (its
-sign); that constant heads lie within their pairs; and the sums of the budget."""
+sign); that constant heads lie within their pairs; and the sums of the budget. Flows between zones aren't checked."""
 from __future__ import annotations
 
 import hashlib
@@ -27,6 +27,7 @@ from .pieces import SIDES, Part, Piece, Slabs, parts_of
 from .plain import package_lines
 from .program import call, direct_program
 from .text import Problem, counted, read_text, whole_file
+from .verdict import has_zones
 from .whole import WholeModel
 from .whole_step import WholeStep
 
@@ -249,6 +250,7 @@ def ended(listing: Listing, pieces: list[tuple[Piece, str]], failed: list[str]) 
             f"CERTIFIED BY PARTS: {checks}, each CERTIFIED by heads check.",
             "Not proved, but computed here in whole numbers: that each group of cells is held; that no cell passed by",
             "the floor or the ceiling of its part alone; the pairs of constant heads; the budget's sums.",
+            *(["The flows between zones weren't checked."] if has_zones(listing) else []),
         ],
     )
 

@@ -3,28 +3,29 @@ from __future__ import annotations
 
 import shutil
 import tempfile
-from contextlib import contextmanager
 from dataclasses import dataclass
 from pathlib import Path
-from typing import Iterator
 
 from .listing import Listing
 from .program import TOP, call, program, sha256
 from .text import Problem
 
 CERTIFIED = "CERTIFIED"
+UNCHECKED_ZONES = "The flows between zones weren't checked: no zone file was named (--zones)."
 MOST_NAME = 255
 
 
 @dataclass(frozen=True)
 class Verdict:
     """`status`: that of `heads check`, None where it wasn't called; `last`: its last line, or why it wasn't called;
-    `name`: the listing's file; `has_zones`: whether the listing has lines ZONE, which a check doesn't read."""
+    `name`: the listing's file; `has_zones`: whether the listing has lines ZONE; `is_zoned`: whether the check was given
+    their zone file, without which they aren't checked."""
 
     status: int | None
     last: str
     name: str
     has_zones: bool = False
+    is_zoned: bool = False
 
     @property
     def is_certified(self) -> bool:
@@ -41,10 +42,10 @@ class Verdict:
     def sentence(self) -> str:
         """The verdict, for the line under the title."""
         if self.is_certified:
-            zones = " It reads no lines ZONE: the flows between zones weren't checked." if self.has_zones else ""
+            rest = "" if self.is_zoned or not self.has_zones else f" {UNCHECKED_ZONES}"
             return (
                 "heads check: CERTIFIED. "
-                f"Every exact solution of the model's equations lies between the listed numbers.{zones}"
+                f"Every exact solution of the model's equations lies between the listed numbers.{rest}"
             )
         if self.status is None:
             return f"Not checked ({self.last}): these numbers are bounds only if `heads check` certifies them."
@@ -54,8 +55,10 @@ class Verdict:
     def note(self) -> str:
         """The same for the foot of a page."""
         if self.is_certified:
+            zoned = self.has_zones and self.is_zoned
+            tables = "heads.csv, budget.csv and zones.csv" if zoned else "heads.csv and budget.csv"
             return (
-                "The pairs in heads.csv and budget.csv are those of the listing, "
+                f"The pairs in {tables} are those of the listing, "
                 "which `heads check` certified when this page was made."
             )
         return "The pairs in heads.csv and budget.csv are those of the listing. Nothing here says that they are bounds."
@@ -66,36 +69,41 @@ def not_checked(listing: Listing) -> Verdict:
     return Verdict(None, "no model was named by --name", listing.path.name, has_zones(listing))
 
 
-def check_listing(nam: Path, listing: Listing) -> Verdict:
-    """Calls `heads check` in the model's folder on the listing's file, without its lines ZONE."""
-    zones = has_zones(listing)
-    with readable(listing.path, zones) as path:
+def check_listing(nam: Path, listing: Listing, zones: Path | None = None) -> Verdict:
+    """Calls `heads check` in the model's folder on the listing's file, with its zone file; where none is named, on the
+    listing without its lines ZONE."""
+    told = listing.path.name, has_zones(listing), zones is not None
+    with tempfile.TemporaryDirectory(prefix="heads_") as folder:
+        path = readable(listing.path, Path(folder) / "listing.heads", told[1] and not told[2])
+        words, names = ["check", nam.name, str(path), "--digits", str(listing.digits)], {path: told[0]}
+        if zones:
+            file = readable(zones, Path(folder) / "zones")
+            words, names = [*words, "--zones", str(file)], names | {file: zones.name}
         try:
-            ended = call(["check", nam.name, str(path), "--digits", str(listing.digits)], nam.parent)
+            ended = call(words, nam.parent)
         except Problem as error:
-            return Verdict(None, str(error), listing.path.name, zones)
-    last = ended.last.replace(str(path), listing.path.name) or f"status {ended.status}"
-    return Verdict(ended.status, last, listing.path.name, zones)
+            return Verdict(None, str(error), *told)
+    last = ended.last or f"status {ended.status}"
+    for file, name in names.items():
+        last = last.replace(str(file), name)
+    return Verdict(ended.status, last, *told)
 
 
 def has_zones(listing: Listing) -> bool:
     return any(step.zones for step in listing.steps)
 
 
-@contextmanager
-def readable(path: Path, has_zones: bool) -> Iterator[Path]:
-    """The listing as `heads check` can open it: itself, or a copy where its name has a blank or it has lines ZONE."""
+def readable(path: Path, copy: Path, leaves_zones: bool = False) -> Path:
+    """A file as `heads check` can open it: itself, or a copy where its name has a blank or its lines ZONE are left
+    out."""
     full = str(path.resolve())
-    if not has_zones and len(full) <= MOST_NAME and all("!" <= c <= "~" for c in full):
-        yield path.resolve()
-        return
-    with tempfile.TemporaryDirectory(prefix="heads_") as folder:
-        copy = Path(folder) / "listing.heads"
-        if has_zones:
-            copy_without_zones(path, copy)
-        else:
-            shutil.copyfile(path, copy)
-        yield copy
+    if leaves_zones:
+        copy_without_zones(path, copy)
+    elif len(full) <= MOST_NAME and all("!" <= c <= "~" for c in full):
+        return path.resolve()
+    else:
+        shutil.copyfile(path, copy)
+    return copy
 
 
 def copy_without_zones(source: Path, target: Path) -> None:

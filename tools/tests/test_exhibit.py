@@ -19,7 +19,7 @@ def answers(folder):
 
 @pytest.mark.program
 @pytest.mark.parametrize(
-    "name, options, count", [("tide", [], 6), ("river_valley", ["--zones", "m.zon", "--digits", "9"], 7)]
+    "name, options, count", [("tide", [], 6), ("river_valley", ["--zones", "m.zon", "--digits", "9"], 6)]
 )
 def test_the_printed_commands_run_as_they_stand(name, options, count, example, tool, tmp_path):
     folder = tmp_path / "an exhibit"
@@ -33,6 +33,9 @@ def test_the_printed_commands_run_as_they_stand(name, options, count, example, t
     for file in "heads heads.txt recheck.py SHA256SUMS judge.html look/index.html written.txt written/p.nam".split():
         assert (folder / file).is_file()
     assert (folder / "look" / "zones_layer1.png").is_file() == ("--zones" in options)
+    checks = [command for command in commands(folder) if "heads check" in command]
+    assert len(checks) == 1 and ("--zones" in checks[0]) == ("--zones" in options)
+    assert "weren't checked" not in (folder / "EXHIBIT.txt").read_text()
 
 
 @pytest.mark.program

@@ -62,13 +62,68 @@ def test_a_spoilt_listing_is_not_called_certified(change, status, last, listed, 
     assert got == status and "no certified bounds" in out
 
 
-@pytest.mark.program
-def test_zone_flows_are_not_called_checked(example, tool, tmp_path):
+@pytest.fixture
+def zoned(example):
+    """The model of river_valley, its listing with three zones, and its zone file."""
     nam = example("river_valley")
     listing = nam.parent / "m.heads"
     listing.write_text(heads(["run", nam.name, "--zones", "m.zon"], nam.parent).stdout)
     assert re.search("^ZONE 1 2 ", listing.read_text(), re.M)
+    return nam, listing, nam.parent / "m.zon"
+
+
+@pytest.mark.program
+def test_zone_flows_are_not_called_checked_without_their_zone_file(zoned, tool, tmp_path):
+    nam, listing, _ = zoned
     (tmp_path / "given.csv").write_text("layer,row,col,head\n1,1,2,15\n")
     status, out, err = tool("compare", listing, tmp_path / "given.csv", "--name", nam)
     assert status == 0 and "CERTIFIED" in out and "flows between zones weren't checked" in out
     assert "where heads are given" in out.strip().split("\n")[-1]
+    status, out, err = tool("check", nam, listing)
+    assert status == 0 and "CERTIFIED" in out and "flows between zones weren't checked" in out
+    status, out, err = tool("check", nam, listing, "--parts", 2)
+    assert status == 0 and "CERTIFIED BY PARTS" in out and "flows between zones weren't checked" in out
+
+
+@pytest.mark.program
+def test_zone_flows_are_checked_with_their_zone_file(zoned, tool, tmp_path):
+    nam, listing, zones = zoned
+    (tmp_path / "given.csv").write_text("layer,row,col,head\n1,1,2,15\n")
+    for words in (
+        ("check", nam, listing),
+        ("compare", listing, tmp_path / "given.csv", "--name", nam),
+        ("look", listing, tmp_path / "look", "--name", nam),
+        ("drawdown", listing, listing, tmp_path / "drawdown", "--name", nam, "--base-name", nam),
+    ):
+        status, out, err = tool(*words, "--zones", zones)
+        assert status == 0 and "CERTIFIED" in out and "weren't checked" not in out, out + err
+    assert "heads.csv, budget.csv and zones.csv" in page_of(tmp_path / "look")
+
+
+@pytest.mark.program
+@pytest.mark.parametrize(
+    "old, new, status, last",
+    [
+        ("ZONE 1 2 1559.999366885787226153463", "ZONE 1 2 1559.999366885787226153464", 8, "NOT CERTIFIED 1 1 ZONE 1 2"),
+        ("1320.000649081855037078550", "1320.000649081855037078549", 8, "NOT CERTIFIED 1 1 ZONE 2 3"),
+        ("ZONE 2 3", "ZONE 1 3", 2, "REFUSED 20 BadListing m.heads 618"),
+    ],
+)
+def test_a_spoilt_flow_between_zones_is_found(old, new, status, last, zoned, tool):
+    nam, listing, zones = zoned
+    text = listing.read_text()
+    assert text.count(old) == 1
+    listing.write_text(text.replace(old, new))
+    got, out, err = tool("check", nam, listing, "--zones", zones)
+    assert got == status and last in out, out + err
+
+
+@pytest.mark.program
+def test_a_zone_file_that_is_refused_is_named(zoned, tool, tmp_path):
+    nam, listing, _ = zoned
+    zones = tmp_path / "other zones.zon"
+    zones.write_text("CONSTANT 1000\n")
+    status, out, err = tool("check", nam, listing, "--zones", zones)
+    assert status == 2 and "REFUSED 15 BadProperty other zones.zon 0 1 1 1" in out, out + err
+    status, out, err = tool("check", nam, listing, "--zones", zones, "--parts", 2)
+    assert status == 2 and "--parts checks no flows between zones" in err, out + err
