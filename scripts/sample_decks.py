@@ -8,6 +8,9 @@ import os
 import re
 import subprocess
 
+# the names of listings, with lines ZONE and without
+LISTINGS = ("l.txt", "lz.txt")
+
 ZERO = "0.000000000000000000000"
 TERMS = ["STORAGE", "CONSTANT HEAD", "WELLS", "DRAINS", "RIVER LEAKAGE", "HEAD DEP BOUNDS", "RECHARGE"]
 
