@@ -10,6 +10,7 @@ from __future__ import annotations
 import math
 import os
 import sys
+import tempfile
 import time
 from dataclasses import dataclass
 from pathlib import Path
@@ -27,7 +28,9 @@ from .pieces import is_large
 from .program import call
 from .solvers import solved
 from .text import decimal_text, whole_file
-from .whole import constant_head, pair_of, pair_of_heads
+from .verdict import readable
+from .whole import Pair, constant_head, pair_of, pair_of_heads
+from .zone_bounds import ZoneFlow, zone_branches, zone_flows
 
 UNIT = 1e-9
 MOST_UNITS = 4 * 10**18
@@ -41,15 +44,19 @@ class Certified:
     lines: list[str]
 
 
-def certify(nam: Path, heads: Path, digits: int, out: Path, theta: float | None = None) -> Certified:
-    """Writes the listing and checks it, with wider margins where the check refuses."""
+def certify(
+    nam: Path, heads: Path, digits: int, out: Path, theta: float | None = None, zones: Path | None = None
+) -> Certified:
+    """Writes the listing, with the flows between zones of a zone file, and checks it, with wider margins where the
+    check refuses."""
     model = read_model(nam, any_size=True)
     given = read_heads(heads, model.shape)
+    parted = Zones.of(model, digits, zones, nam) if zones else None
     tried = out.with_name(out.name + ".tried")
     for margin in (theta,) if theta else THETAS:
-        listing = Bounds(model, digits, margin).listing(given, tried)
+        listing = Bounds(model, digits, margin, parted).listing(given, tried)
         write_listing(listing, model)
-        checked = check(nam, tried, model, digits)
+        checked = check(nam, tried, model, digits, zones)
         if checked.status != 8:
             break
         print(f"margins of {margin} roundings don't hold: {checked.first}", file=sys.stderr)
@@ -83,26 +90,47 @@ class Check:
     seconds: float
 
 
-def check(nam: Path, tried: Path, model: Model, digits: int) -> Check:
+def check(nam: Path, tried: Path, model: Model, digits: int, zones: Path | None = None) -> Check:
     """The program's check of a listing; of a model that is larger than the program takes, that of its parts."""
     from .explain import explain
     from .parts import check_model
 
     if is_large(model.shape):
         began = time.monotonic()
-        parts = check_model(model, tried, 1)
+        parts = check_model(model, tried, 1, zones=zones)
         first = parts.lines[min(1, len(parts.lines) - 1)].strip() if parts.status else "CERTIFIED BY PARTS:"
         return Check(parts.status, first, parts.lines, time.monotonic() - began)
-    ended = call(["check", nam.name, str(tried), "--digits", str(digits)], nam.parent)
+    with tempfile.TemporaryDirectory(prefix="heads_") as folder:
+        words = ["--zones", str(readable(zones, Path(folder) / "zones"))] if zones else []
+        ended = call(["check", nam.name, str(tried), "--digits", str(digits), *words], nam.parent)
     meaning = explain(ended.last, nam.parent, digits)
     return Check(ended.status, "CERTIFIED:" if meaning.is_good else ended.last, meaning.lines, ended.seconds)
+
+
+@dataclass
+class Zones:
+    """The zones of a model's cells, and the branches between two of them."""
+
+    numbers: np.ndarray
+    branches: list[tuple[np.ndarray, np.ndarray, Pair]]
+
+    @staticmethod
+    def of(model: Model, digits: int, path: Path, nam: Path) -> Zones:
+        from .zones import read_zones
+
+        numbers = read_zones(path, nam, model.shape).ravel()
+        return Zones(numbers, zone_branches(model, digits, numbers))
+
+    def flows(self, step: Step, low: np.ndarray, high: np.ndarray) -> list[ZoneFlow]:
+        """The step's flows between zones, as `heads run` writes them for these heads."""
+        return zone_flows(self.branches, self.numbers, step.place >= 0, low, high)
 
 
 class Bounds:
     """Lower and upper heads of all steps of a model."""
 
-    def __init__(self, model: Model, digits: int, theta: float):
-        self.model, self.digits, self.theta = model, digits, theta
+    def __init__(self, model: Model, digits: int, theta: float, zones: Zones | None = None):
+        self.model, self.digits, self.theta, self.zones = model, digits, theta, zones
         self.network = Network(model)
         self.count = model.thick.size
         self.slack = 4 * 10.0**-digits
@@ -123,6 +151,7 @@ class Bounds:
                 low, high, start = self.bounds(step, low, high, start, given)
                 listed = Listed(p + 1, number, low[active], high[active])
                 listed.terms = self.budget(step, low, high)
+                listed.zones = self.zones.flows(step, low, high) if self.zones else []
                 out.steps.append(listed)
         return out
 
@@ -286,4 +315,6 @@ def write_listing(listing: Listing, model: Model) -> None:
             for word, at in (("IN", 0), ("OUT", 2)):
                 for name, pair in step.terms.items():
                     file.write(f"{word} {decimal_text(pair[at], places)} {decimal_text(pair[at + 1], places)} {name}\n")
+            for a, b, least, most in step.zones:
+                file.write(f"ZONE {a} {b} {decimal_text(least, places)} {decimal_text(most, places)}\n")
         file.write("END\n")

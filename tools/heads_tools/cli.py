@@ -198,6 +198,7 @@ def parser() -> argparse.ArgumentParser:
     s.add_argument(
         "--theta", type=float, help="the margin, in roundings of a head; 0.5 and more are tried where left out"
     )
+    s.add_argument("--zones", type=Path, metavar="M.ZON", help="a zone file: the flows between its zones, too")
     s = add("check", "certify a listing by heads check, or piece by piece", nam, ("listing", "the listing"))
     add_zones(s)
     s.add_argument(

@@ -200,9 +200,9 @@ def do_certify(args: argparse.Namespace, _: list[str]) -> int:
     if not 0 <= args.digits <= MOST_DIGITS:
         raise Problem("--digits is from 0 to 18")
     nam = existing(args.nam)
-    ended = certify(
-        nam, existing(args.heads), args.digits, (args.out or nam.with_suffix(".certified.heads")).resolve(), args.theta
-    )
+    out = (args.out or nam.with_suffix(".certified.heads")).resolve()
+    zones = existing(args.zones) if args.zones else None
+    ended = certify(nam, existing(args.heads), args.digits, out, args.theta, zones)
     say(ended.lines)
     return ended.status
 
@@ -221,13 +221,11 @@ def do_check(args: argparse.Namespace, _: list[str]) -> int:
 
     if args.parts < 1:
         raise Problem("--parts is 1 or more")
-    if args.zones:
-        raise Problem("--parts checks no flows between zones: leave --zones out")
     engine = "slurm" if args.slurm else "parallel" if args.parallel else "here"
     if engine == "here" and (args.write_only or args.collect or args.folder):
         raise Problem("--folder, --write-only and --collect go with --parallel or --slurm")
     way = Way(engine, args.jobs, args.folder, args.write_only, args.collect)
-    checked = check_parts(nam, path, args.parts, way)
+    checked = check_parts(nam, path, args.parts, way, existing(args.zones) if args.zones else None)
     say(checked.lines)
     return checked.status
 

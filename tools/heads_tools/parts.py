@@ -3,7 +3,8 @@
 `heads check` certifies the decks of pieces.py, here, by GNU parallel or by Slurm. What pieces don't show is computed
 here in whole numbers (whole.py) and isn't proved: that each group of cells is held by a constant head, a general head
 or storage, or carried by recharge and rivers; that no cell passed by the floor or the ceiling of its piece alone (its
-sign); that constant heads lie within their pairs; and the sums of the budget. Flows between zones aren't checked."""
+sign); that constant heads lie within their pairs; the sums of the budget; and, with a zone file, the flows between
+zones."""
 from __future__ import annotations
 
 import hashlib
@@ -27,9 +28,10 @@ from .pieces import SIDES, Part, Piece, Slabs, parts_of
 from .plain import package_lines
 from .program import call, direct_program
 from .text import Problem, counted, read_text, whole_file
-from .verdict import has_zones
+from .verdict import UNCHECKED_ZONES, has_zones
 from .whole import WholeModel
 from .whole_step import WholeStep
+from .zone_bounds import zone_faults, zone_flows
 
 SHOWN = 3
 MOST_TASKS = 1000
@@ -55,18 +57,18 @@ class Way:
     is_collected: bool = False
 
 
-def check_parts(nam: Path, path: Path, count: int, way: Way | None = None) -> Checked:
-    """Checks the listing of a name file's model in at least `count` parts."""
+def check_parts(nam: Path, path: Path, count: int, way: Way | None = None, zones: Path | None = None) -> Checked:
+    """Checks the listing of a name file's model in at least `count` parts, with the flows between a file's zones."""
     deck, report = read_deck(nam, any_size=True)
     wrong = report.blocking + report.refusals
     if wrong:
         raise Problem(f"{wrong[0]} (`heads-tools inside` says all)")
-    return check_model(model_of(deck), path, count, way)
+    return check_model(model_of(deck), path, count, way, zones)
 
 
-def check_model(model: Model, path: Path, count: int, way: Way | None = None) -> Checked:
+def check_model(model: Model, path: Path, count: int, way: Way | None = None, zones: Path | None = None) -> Checked:
     """Checks a model's listing in at least `count` parts."""
-    listing, way = read_listing(path), way or Way()
+    listing, way, numbers = read_listing(path), way or Way(), zone_numbers(model, zones)
     if not listing.is_whole:
         return Checked(8, ["the listing doesn't end with END"])
     cells = np.argwhere(model.ibound != 0) + 1
@@ -74,11 +76,12 @@ def check_model(model: Model, path: Path, count: int, way: Way | None = None) ->
         return Checked(8, ["the listing has other cells or steps than the model"])
     folder = way.folder or path.with_suffix(".parts")
     if way.engine != "here":
-        digest = digest_of(model, path, count)
+        digest = digest_of(model, path, count, numbers)
         if way.is_collected:
-            return ended(listing, collect(folder, digest), read_text(folder / "whole").splitlines())
+            failed = read_text(folder / "whole").splitlines()
+            return ended(listing, collect(folder, digest), failed, zones is not None)
     failed, pieces = [], []
-    for slabs, at in steps_of(model, listing, failed):
+    for slabs, at in steps_of(model, listing, failed, numbers):
         here = slabs.pieces(at, parts_of(model, count))
         if way.engine == "here":
             pieces += check_here(slabs, here, way.jobs)
@@ -86,14 +89,21 @@ def check_model(model: Model, path: Path, count: int, way: Way | None = None) ->
         else:
             pieces += [(piece, "") for piece in write_pieces(slabs, here, folder, len(pieces))]
     if way.engine == "here":
-        return ended(listing, pieces, failed)
+        return ended(listing, pieces, failed, zones is not None)
     with whole_file(folder / "whole") as file:
         file.write("".join(line + "\n" for line in failed))
     write_index(folder, digest, [piece for piece, _ in pieces])
     run_elsewhere(folder, len(pieces), listing.digits, way)
     if way.is_written_only:
         return Checked(0, [f"{counted(len(pieces), 'deck')} written to {folder}; --collect reads their verdicts"])
-    return ended(listing, collect(folder, digest), failed)
+    return ended(listing, collect(folder, digest), failed, zones is not None)
+
+
+def zone_numbers(model: Model, path: Path | None) -> np.ndarray | None:
+    """The zones of a model's cells, where a zone file is named."""
+    from .zones import read_zones
+
+    return read_zones(path, model.deck.path, model.shape).ravel() if path else None
 
 
 def say_progress(path: Path, at: int, listing: Listing) -> None:
@@ -101,9 +111,11 @@ def say_progress(path: Path, at: int, listing: Listing) -> None:
         print(f"\r{path.name}: step {at + 1} of {len(listing.steps)}", end="", file=sys.stderr, flush=True)
 
 
-def steps_of(model: Model, listing: Listing, failed: list[str]) -> Iterator[tuple[Slabs, int]]:
-    """What each step's decks are made of; what pieces don't show is checked on the way, and faults are added to
-    `failed`."""
+def steps_of(
+    model: Model, listing: Listing, failed: list[str], zones: np.ndarray | None = None
+) -> Iterator[tuple[Slabs, int]]:
+    """What each step's decks are made of; what pieces don't show is checked on the way, the flows between zones, too,
+    and faults are added to `failed`."""
     network, given = WholeModel(model, listing.digits), {}
     old = network.start
     for at, listed in enumerate(listing.steps):
@@ -112,7 +124,10 @@ def steps_of(model: Model, listing: Listing, failed: list[str]) -> Iterator[tupl
         step = WholeStep(network, listed.period, listed.step, given)
         now = tuple(on_grid(model, listing, units) for units in (listed.low, listed.high))
         where = f"period {listed.period} step {listed.step}"
-        failed += [f"{where}: {fault}" for fault in whole_faults(step, listed, now, old)]
+        faults = whole_faults(step, listed, now, old)
+        if zones is not None:
+            faults += zone_faults(zone_flows(network.links, zones, step.is_variable, *now), listed)
+        failed += [f"{where}: {fault}" for fault in faults]
         yield Slabs(listing, step, now, old), at
         old = now
 
@@ -159,11 +174,12 @@ def end_of_check(slabs: Slabs, piece: Piece) -> str:
 # By GNU parallel or Slurm: folders 1, 2, .. of decks, an index of them, and in each the verdict.
 
 
-def digest_of(model: Model, path: Path, count: int) -> str:
-    """A digest of the deck and the listing that the pieces are made of."""
+def digest_of(model: Model, path: Path, count: int, zones: np.ndarray | None) -> str:
+    """A digest of the deck, the listing and the zones that the pieces are made of."""
     digest = hashlib.sha256(f"{count}\n".encode() + path.read_bytes())
     for kind in model.deck.files:
         digest.update("\n".join([kind, *package_lines(model.deck, kind)]).encode("latin-1", "replace"))
+    digest.update(b"" if zones is None else zones.astype("<i8").tobytes())
     return digest.hexdigest()
 
 
@@ -235,7 +251,7 @@ def run_elsewhere(folder: Path, count: int, digits: int, way: Way) -> None:
         call_tool("parallel", ["bash", script.name], folder, "parallel")
 
 
-def ended(listing: Listing, pieces: list[tuple[Piece, str]], failed: list[str]) -> Checked:
+def ended(listing: Listing, pieces: list[tuple[Piece, str]], failed: list[str], is_zoned: bool) -> Checked:
     """The verdict of all pieces, and of what they don't show."""
     parts = len({piece.part for piece, _ in pieces})
     counts = (counted(n, name) for n, name in ((len(listing.steps), "step"), (parts, "part"), (len(pieces), "check")))
@@ -249,8 +265,9 @@ def ended(listing: Listing, pieces: list[tuple[Piece, str]], failed: list[str]) 
         [
             f"CERTIFIED BY PARTS: {checks}, each CERTIFIED by heads check.",
             "Not proved, but computed here in whole numbers: that each group of cells is held; that no cell passed by",
-            "the floor or the ceiling of its part alone; the pairs of constant heads; the budget's sums.",
-            *(["The flows between zones weren't checked."] if has_zones(listing) else []),
+            "the floor or the ceiling of its part alone; the pairs of constant heads; the budget's sums"
+            + ("; the flows between zones." if is_zoned else "."),
+            *([UNCHECKED_ZONES] if has_zones(listing) and not is_zoned else []),
         ],
     )
 

@@ -126,4 +126,4 @@ def test_a_zone_file_that_is_refused_is_named(zoned, tool, tmp_path):
     status, out, err = tool("check", nam, listing, "--zones", zones)
     assert status == 2 and "REFUSED 15 BadProperty other zones.zon 0 1 1 1" in out, out + err
     status, out, err = tool("check", nam, listing, "--zones", zones, "--parts", 2)
-    assert status == 2 and "--parts checks no flows between zones" in err, out + err
+    assert status == 2 and "a zone is a whole number from 0 to 999" in err, out + err
