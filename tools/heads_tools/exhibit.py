@@ -177,10 +177,7 @@ def add_written(told: Exhibit, folder: Path, name: str, listing: str, options: l
     (folder / "written").mkdir()
     for file, content in files.items():
         (folder / "written" / file).write_bytes(content)
-    for file in zone_file(options):
-        target = on_disk(folder / "written", file)
-        target.parent.mkdir(parents=True, exist_ok=True)
-        shutil.copyfile(on_disk(folder / "deck", file), target)
+    copy_files(zone_files(folder / "deck", options), folder / "deck", folder / "written")
     run = f"(cd written && ../heads run {shlex.join(['p.nam', *options])})"
     told.commands += [f"{write} | cmp - written.txt && echo SAME", f"{run} | cmp - {shlex.quote(listing)} && echo SAME"]
     told.facts.append(("written", ONE_SPELLING))
@@ -237,26 +234,37 @@ def deck_files(nam: Path) -> list[str]:
         w = words(line)
         if len(w) > 2 and not line.startswith("#") and w[0].upper() in KINDS:
             out.append(w[2])
-    for name in list(out[1:]):
-        path = on_disk(nam.parent, name)
-        lines = read_text(path).split("\n") if path.is_file() else []
-        out += [
-            quoted_words(line)[1]
-            for line in lines
-            if line.strip().upper().startswith("OPEN/CLOSE") and len(quoted_words(line)) > 1
-        ]
-    return sorted(set(out))
+    return sorted({*out, *(opened for name in out[1:] for opened in opened_files(nam.parent, name))})
+
+
+def zone_files(folder: Path, options: list[str]) -> list[str]:
+    """The zone file of a run's options, and the files that its arrays open."""
+    return [name for file in zone_file(options) for name in [file, *opened_files(folder, file)]]
+
+
+def opened_files(folder: Path, name: str) -> list[str]:
+    """The files that a file's arrays open."""
+    path = on_disk(folder, name)
+    lines = read_text(path).split("\n") if path.is_file() else []
+    records = [quoted_words(line) for line in lines if line.strip().upper().startswith("OPEN/CLOSE")]
+    return [record[1] for record in records if len(record) > 1]
 
 
 def copy_deck(nam: Path, deck: Path, options: list[str]) -> None:
     deck.mkdir()
-    for name in deck_files(nam) + zone_file(options):
+    names = deck_files(nam) + zone_files(nam.parent, options)
+    for name in names:
         if ".." in name or name.startswith(("/", "\\")):
             raise Problem(f"{name} lies outside the model's folder: an exhibit holds its whole deck")
-        source, target = on_disk(nam.parent, name), on_disk(deck, name)
-        if source.is_file():
-            target.parent.mkdir(parents=True, exist_ok=True)
-            shutil.copyfile(source, target)
+    copy_files(names, nam.parent, deck)
+
+
+def copy_files(names: list[str], source: Path, target: Path) -> None:
+    """Copies the files of these names that are there from one folder into another."""
+    for name in names:
+        if on_disk(source, name).is_file():
+            on_disk(target, name).parent.mkdir(parents=True, exist_ok=True)
+            shutil.copyfile(on_disk(source, name), on_disk(target, name))
 
 
 def copy_program(binary: Path, folder: Path) -> None:

@@ -120,6 +120,14 @@ def test_the_flows_between_zones_of_a_large_model_are_certified_by_parts(zoned, 
     assert status == 0 and out.startswith("CERTIFIED BY PARTS") and "the flows between zones." in out, out + err
 
 
+def test_an_exhibit_has_the_files_that_its_zone_file_opens(zoned, tool, tmp_path):
+    nam, path, zones = zoned("three_cells")
+    status, out, err = tool("exhibit", nam, tmp_path / "exhibit", "--zones", zones.name)
+    assert status == 0, out + err
+    for folder in ("deck", "written"):
+        assert (tmp_path / "exhibit" / folder / "zones.0").read_bytes() == (nam.parent / "zones.0").read_bytes()
+
+
 def test_a_pair_of_zones_without_a_face_between_them_has_no_flow():
     branches = [(np.array([0, 1, 2]), np.array([1, 2, 3]), (np.array([2, 2, 2]), np.array([3, 3, 3])))]
     low, high = np.array([10, 5, 0, 9]), np.array([11, 5, 0, 9])
