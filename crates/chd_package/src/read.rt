@@ -9,7 +9,7 @@ ghost use Rattle.list_package.specs.Lists.{package_of};
 ghost use Rattle.list_package.specs.GivenHeads.{given_heads};
 
 use list_package::{SpecifiedHeads, read_package};
-use model_types::{FlowModel, Given};
+use model_types::{FlowModel, Given, Limits};
 use outside::TextFault;
 use std::alloc::Global;
 
@@ -17,22 +17,23 @@ use std::alloc::Global;
 /// period that reuses a list starts again at its heads at the start.
 ///
 /// # Errors
-/// The first item that is wrong is refused on its line: TooManyEntries past 65536 entries in a list, NothingToReuse
+/// The first item that is wrong is refused on its line: TooManyEntries past the most entries of a list, NothingToReuse
 /// where the first list is to be reused, OutOfProfile for parameters, another file's entries, or a head that changes in
 /// a steady period of growing steps; of an entry CellOutside, HeadTooLarge, or BadProperty where the list has named the
 /// cell before. (TM 6-A16, CHD)
 #[tactic(auto, using(list_package::proofs::GivenLaws::given_lists))]
 pub fn read_chd(
     alloc: Global,
+    limits: Limits,
     file: &str,
     bytes: &[u8],
     model: FlowModel,
 ) -> Result<FlowModel, TextFault>
     requires size { HasSize model.grid }
-    ensures model { HasText (λ m. m) result (package_of given_heads file.now bytes.now model) }
+    ensures model { HasText (λ m. m) result (package_of limits given_heads file.now bytes.now model) }
     ensures lists { IfOk result (λ m. All (λ p. IsGivenList (cell_count model.grid) p.stresses.given) m.periods) }
     ensures others { IfOk result (SameBut given_heads model) }
     ensures valid { IsModel model → IfOk result IsModel }
 {
-    read_package::<Given>(alloc, SpecifiedHeads, file, bytes, model)
+    read_package::<Given>(alloc, limits, SpecifiedHeads, file, bytes, model)
 }

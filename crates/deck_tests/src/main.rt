@@ -5,7 +5,8 @@
 //! earlier file of that name. `@read_fault N` makes the folder's read of this number fail. A line `@ ..` says what is
 //! shown, and is printed, as each question is.
 //!
-//! `@read NAME` reads the model of a name file, and prints its lists. `@write NAME` writes that model, and prints its files,
+//! `@read NAME` reads the model of a name file, and prints its lists. `@wide NAME` reads it by wide limits, and prints its
+//! size or its refusal. `@write NAME` writes that model, and prints its files,
 //! which are the deck's from now on. `@zones NAME FILE` reads the zones of its cells.
 //! `@periods NAME` prints its time steps, and for each stress period the kinds of its cells, by the
 //! heads given so far and by reading the CHD lists for each cell. `@share ENTRIES PERIODS` shares a list of ENTRIES entries
@@ -26,6 +27,7 @@ mod questions;
 mod shared;
 mod steps;
 mod stresses;
+mod wide;
 mod words;
 mod written;
 
@@ -38,6 +40,7 @@ use std::alloc::Global;
 use std::io;
 use steps::print_steps;
 use test_decks::{Deck, take_line};
+use wide::print_wide;
 use words::print_order;
 use written::print_written;
 
@@ -46,6 +49,7 @@ fn ask(rt: &impl Print, alloc: Global, deck: &mut Deck, question: Question<'_>) 
     let folder = &mut deck.folder;
     match question {
         Question::Read(name) => print_model(rt, alloc, folder, name),
+        Question::Wide(name) => print_wide(rt, alloc, folder, name),
         Question::Write(name) => print_written(rt, alloc, folder, name),
         Question::Zones(name, zones) => print_zones(rt, alloc, folder, name, zones),
         Question::Periods(name) => print_periods(rt, alloc, folder, name),

@@ -6,7 +6,7 @@ use crate::example::{example, whole};
 use crate::lists::{print_grid, print_integers, print_numbers, print_period};
 use crate::stresses::print_stresses;
 use model_reader::read_named_model;
-use model_types::FlowModel;
+use model_types::{FlowModel, Limits};
 use outside::{InputFault, MemFolder, good_name};
 use std::alloc::Global;
 use std::io;
@@ -21,7 +21,7 @@ pub fn read_model(
     ensures { IfOk result IsModel }
 {
     match good_name(name.as_bytes()) {
-        Some(name) => read_named_model(alloc, name, folder),
+        Some(name) => read_named_model(alloc, Limits::Plain, name, folder),
         None => Err(InputFault::Memory),
     }
 }

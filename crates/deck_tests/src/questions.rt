@@ -4,6 +4,7 @@
 #[derive(Clone, Copy)]
 pub enum Question<'a> {
     Read(&'a str),
+    Wide(&'a str),
     Write(&'a str),
     Zones(&'a str, &'a str),
     Periods(&'a str),
@@ -51,6 +52,7 @@ impl<'a> Question<'a> {
         let (word, rest) = line.split_once(' ')?;
         match word {
             "@read" => Some(Question::Read(rest)),
+            "@wide" => Some(Question::Wide(rest)),
             "@write" => Some(Question::Write(rest)),
             "@zones" => zones(rest),
             "@periods" => Some(Question::Periods(rest)),

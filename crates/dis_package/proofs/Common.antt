@@ -11,6 +11,7 @@ pub use Rattle.dis_package.specs.Grids.{bottom_at, grid_of}
 unfoldable pub use Rattle.dis_package.specs.Grids.{bottoms_of}
 pub use Rattle.dis_package.specs.Times.{is_growth, is_time, kind_of, period_at, period_of, periods_of}
 pub use Rattle.dis_package.specs.declared.frame.Frame.{Frame}
+pub use Rattle.model_types.specs.declared.limits.Limits.{Limits}
 pub use Rattle.model_types.specs.declared.period.Period.{Period}
 pub use Rattle.outside.specs.Files.{File}
 pub use Rattle.record_lines.proofs.Forward.{after, begun_held, chain, leaves, line_held, repeated_held}

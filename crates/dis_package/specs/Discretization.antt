@@ -7,6 +7,7 @@ use Rattle.outside.specs.Words.{words}
 use Rattle.record_lines.specs.Layout.{Left, left_from, without_comments}
 use Rattle.record_lines.specs.Reading.{◌>>=◌}
 use Rattle.model_types.specs.declared.grid.Grid.{Grid}
+use Rattle.model_types.specs.declared.limits.Limits.{Limits}
 use Rattle.model_types.specs.declared.model.FlowModel.{FlowModel}
 use Rattle.model_types.specs.declared.period.Period.{Period}
 use Rattle.dis_package.specs.Frames.{frame_of}
@@ -36,16 +37,16 @@ begun grid lenuni periods =
     }
 
 -- the first line, and LAYCBD
-unfoldable pub head_of : List ℕ → Left → Result ((Frame × List ℤ) × Left) Refusal
-head_of file left = do
+unfoldable pub head_of : Limits → List ℕ → Left → Result ((Frame × List ℤ) × Left) Refusal
+head_of limits file left = do
   line ← line_at file left
-  frame ← frame_of file line.0.number (words line.0.bytes)
+  frame ← frame_of limits file line.0.number (words line.0.bytes)
   laycbd ← beds_of file frame.size.layers line.1
   Ok ((frame, laycbd.0), laycbd.1)
 
-unfoldable pub dis_of : List File → List ℕ → List ℕ → Result FlowModel Refusal
-dis_of files file bytes = do
-  head ← head_of file (without_comments (left_from 1 bytes))
+unfoldable pub dis_of : Limits → List File → List ℕ → List ℕ → Result FlowModel Refusal
+dis_of limits files file bytes = do
+  head ← head_of limits file (without_comments (left_from 1 bytes))
   grid ← grid_of files file head.0.0.size head.0.1 head.1
   periods ← periods_of file head.0.0.periods grid.1
   Ok (begun grid.0 head.0.0.lenuni periods)

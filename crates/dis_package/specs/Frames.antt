@@ -6,6 +6,8 @@ use Rattle.outside.specs.declared.refusals.Refusal.{Refusal}
 use Rattle.record_lines.specs.Reading.{◌>>=◌}
 use Rattle.array_reader.specs.Items.{number_at}
 use Rattle.array_reader.specs.Numbers.{integer}
+use Rattle.model_types.specs.declared.limits.Limits.{Limits}
+use Rattle.model_types.specs.Limits.{most_layers, most_in_row, most_cells}
 use Rattle.number_limits.specs.Signs.{within}
 use Rattle.dis_package.specs.declared.frame.Frame.{Frame}
 use Rattle.dis_package.specs.declared.frame.Size.{Size}
@@ -21,19 +23,19 @@ count_at file line limit words = do
   n ← inside (within z.0 limit) (refusal BadGrid file line)
   Ok (n, z.1)
 
--- at most 64 layers, 1024 rows, 1024 columns, and 65536 cells
-unfoldable pub size_at : List ℕ → ℕ → List (List ℕ) → Result (Size × List (List ℕ)) Refusal
-size_at file line words = do
-  layers ← count_at file line 64 words
-  rows ← count_at file line 1024 layers.1
-  cols ← count_at file line 1024 rows.1
-  if nat_le (layers.0 * (rows.0 * cols.0)) 65536
+-- layers, rows and columns, and cells, each at most what the limits say
+unfoldable pub size_at : Limits → List ℕ → ℕ → List (List ℕ) → Result (Size × List (List ℕ)) Refusal
+size_at limits file line words = do
+  layers ← count_at file line (most_layers limits) words
+  rows ← count_at file line (most_in_row limits) layers.1
+  cols ← count_at file line (most_in_row limits) rows.1
+  if nat_le (layers.0 * (rows.0 * cols.0)) (most_cells limits)
       then Ok (record { layers = layers.0; rows = rows.0; cols = cols.0 }, cols.1) else Err (refusal BadGrid file line)
 
 -- at most 1000 stress periods
-unfoldable pub frame_of : List ℕ → ℕ → List (List ℕ) → Result Frame Refusal
-frame_of file line words = do
-  size ← size_at file line words
+unfoldable pub frame_of : Limits → List ℕ → ℕ → List (List ℕ) → Result Frame Refusal
+frame_of limits file line words = do
+  size ← size_at limits file line words
   periods ← count_at file line 1000 size.1
   itmuni ← number_at integer file line periods.1
   lenuni ← number_at integer file line itmuni.1

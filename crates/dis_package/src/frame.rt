@@ -5,6 +5,7 @@ ghost use Rattle.dis_package.specs.Frames.{count_at, size_at, frame_of};
 ghost use Rattle.dis_package.specs.Forms.{IsSize, IsFrame};
 
 use array_reader::integer;
+use model_types::Limits;
 use number_limits::within;
 use outside::{Code, TextFault, refused};
 use record_lines::Words;
@@ -46,25 +47,37 @@ pub fn count_at(
 }
 
 #[tactic(auto, unfolding(crate::specs::Frames::size_at))]
-fn size_at(alloc: Global, words: &mut Words, file: &str, line: u32) -> Result<Size, TextFault>
-    ensures size { GivesText (λ s. s) result words.new (size_at file.now line words.old) }
+fn size_at(
+    alloc: Global,
+    limits: Limits,
+    words: &mut Words,
+    file: &str,
+    line: u32,
+) -> Result<Size, TextFault>
+    ensures size { GivesText (λ s. s) result words.new (size_at limits file.now line words.old) }
     ensures limits { IfOk result IsSize }
 {
-    let layers = count_at(alloc, words, file, line, 64)?;
-    let rows = count_at(alloc, words, file, line, 1024)?;
-    let cols = count_at(alloc, words, file, line, 1024)?;
-    if layers as u64 * (rows as u64 * cols as u64) > 65536 {
+    let layers = count_at(alloc, words, file, line, limits.layers())?;
+    let rows = count_at(alloc, words, file, line, limits.in_row())?;
+    let cols = count_at(alloc, words, file, line, limits.in_row())?;
+    if layers as u64 * (rows as u64 * cols as u64) > limits.cells() as u64 {
         return Err(refused(alloc, Code::BadGrid, file, line));
     }
     Ok(Size { layers, rows, cols })
 }
 
 #[tactic(auto, unfolding(crate::specs::Frames::frame_of))]
-pub fn frame_of(alloc: Global, words: &mut Words, file: &str, line: u32) -> Result<Frame, TextFault>
-    ensures frame { HasText (λ f. f) result (frame_of file.now line words.old) }
+pub fn frame_of(
+    alloc: Global,
+    limits: Limits,
+    words: &mut Words,
+    file: &str,
+    line: u32,
+) -> Result<Frame, TextFault>
+    ensures frame { HasText (λ f. f) result (frame_of limits file.now line words.old) }
     ensures limits { IfOk result IsFrame }
 {
-    let size = size_at(alloc, words, file, line)?;
+    let size = size_at(alloc, limits, words, file, line)?;
     let periods = count_at(alloc, words, file, line, 1000)?;
     integer(alloc, words, file, line)?;
     let lenuni = integer(alloc, words, file, line)?;

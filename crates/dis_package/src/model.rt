@@ -13,22 +13,27 @@ use crate::frame::{Frame, frame_of};
 use crate::grid::grid_of;
 use crate::periods::periods_of;
 use array_reader::next_line;
-use model_types::{FlowModel, Grid, Listed, Period};
+use model_types::{FlowModel, Grid, Limits, Listed, Period};
 use outside::{Folder, InputFault, TextFault};
 use record_lines::{Lines, Words};
 use std::alloc::Global;
 
 /// The first line, and LAYCBD.
 #[tactic(auto, unfolding(crate::specs::Discretization::head_of))]
-fn head_of(alloc: Global, lines: &mut Lines, file: &str) -> Result<(Frame, Vec<i64>), TextFault>
-    ensures head { GivesText (λ h. (h.0, h.1.items)) result lines.new (head_of file.now lines.old) }
+fn head_of(
+    alloc: Global,
+    limits: Limits,
+    lines: &mut Lines,
+    file: &str,
+) -> Result<(Frame, Vec<i64>), TextFault>
+    ensures head { GivesText (λ h. (h.0, h.1.items)) result lines.new (head_of limits file.now lines.old) }
     ensures frame { IfOk result (λ h. IsFrame h.0) }
     ensures beds { IfOk result (λ h. length h.1.items ≡ h.0.size.layers) }
     ensures last { IfOk result (λ h. int_at h.1.items (h.0.size.layers - 1) ≡ pos 0) }
 {
     let line = next_line(alloc, lines, file)?;
     let mut words = Words::of(&line);
-    let frame = frame_of(alloc, &mut words, file, line.number)?;
+    let frame = frame_of(alloc, limits, &mut words, file, line.number)?;
     let laycbd = beds_of(alloc, lines, file, frame.size.layers)?;
     Ok((frame, laycbd))
 }
@@ -55,7 +60,8 @@ fn begun(alloc: Global, grid: Grid, lenuni: i64, periods: Vec<Period>) -> FlowMo
     }
 }
 
-/// The model with what a file of the discretization gives: its grid and its stress periods, without stresses.
+/// The model with what a file of the discretization gives, by these limits: its grid and its stress periods, without
+/// stresses.
 /// `file` is the file's name, for refusals, and `folder` has the files that its arrays name.
 ///
 /// # Errors
@@ -64,18 +70,19 @@ fn begun(alloc: Global, grid: Grid, lenuni: i64, periods: Vec<Period>) -> FlowMo
 #[tactic(auto, unfolding(crate::specs::Discretization::dis_of))]
 pub fn read_dis<F: Folder>(
     alloc: Global,
+    limits: Limits,
     file: &str,
     bytes: &[u8],
     folder: &mut F,
 ) -> Result<FlowModel, InputFault>
     requires text { TextMay (F.may folder.old) bytes.now }
     ensures folder { ReadsOn F.Folder folder.old folder.new result }
-    ensures model { (files : List File) → F.agrees folder.new files → Has (λ m. m) result (dis_of files file.now bytes.now) }
+    ensures model { (files : List File) → F.agrees folder.new files → Has (λ m. m) result (dis_of limits files file.now bytes.now) }
     ensures form { IfOk result IsBegun }
 {
     let mut lines = Lines::new(bytes);
     lines.skip_comments();
-    let (frame, laycbd) = head_of(alloc, &mut lines, file)?;
+    let (frame, laycbd) = head_of(alloc, limits, &mut lines, file)?;
     let grid = grid_of(alloc, &mut lines, file, folder, &frame.size, laycbd)?;
     let periods = periods_of(alloc, &mut lines, file, frame.periods)?;
     Ok(begun(alloc, grid, frame.lenuni, periods))

@@ -5,6 +5,7 @@ use Rattle.engine.proofs.Common.{input_fault, TextFault, names_in, StopsText, Fl
 use Rattle.engine.proofs.Common.{names_at, task_read, IsNamedFault, AreJobsRead, AreTasks, HasNames, IsJobRead}
 use Rattle.std.specs.declared.vec.Vec.{Vec}
 use Rattle.std.specs.declared.alloc.Global.{Global}
+use Rattle.model_types.specs.declared.limits.Limits.TheVariants.{Plain}
 use Rattle.engine.proofs.Readings.{bad_named, good_named}
 use Rattle.outside.specs.declared.refusals.InputFault.TheVariants as input
 use Rattle.outside.specs.declared.refusals.TextFault.TheVariants as texts
@@ -13,8 +14,8 @@ abbrev made_job : Text → Result Task Refusal → Job
 made_job name read = record { name = name; read = read }
 
 -- a job whose files were read as these: a model, or a refusal
-pub job_read : (b : AskedBatch) (name text copy : Text) (r : Result FlowModel Refusal) → text ≡ name → copy ≡ name → IfOk r IsModel → (files : Option (List File)) → IfSome files (λ fs. reads fs text ≡ r) → IsJobRead b name files (record { name = copy; read = task_read b r })
-job_read b name text copy r same copied valid (Some fs) h = ap (λ n. made_job n (task_read b r)) copied ∙ ap (λ a. made_job name (task_read b a)) (sym h ∙ ap (reads fs) same)
+pub job_read : (b : AskedBatch) (name text copy : Text) (r : Result FlowModel Refusal) → text ≡ name → copy ≡ name → IfOk r IsModel → (files : Option (List File)) → IfSome files (λ fs. reads Plain fs text ≡ r) → IsJobRead b name files (record { name = copy; read = task_read b r })
+job_read b name text copy r same copied valid (Some fs) h = ap (λ n. made_job n (task_read b r)) copied ∙ ap (λ a. made_job name (task_read b a)) (sym h ∙ ap (reads Plain fs) same)
 job_read b name text copy (Ok m) same copied valid None h = (valid, refl)
 job_read b name text copy (Err refusal) same copied valid None h = tt
 
@@ -22,7 +23,7 @@ job_read b name text copy (Err refusal) same copied valid None h = tt
 pub jobs_read_more : (b : AskedBatch) (names : List Text) (i : ℕ) (name : Text) (files : Option (List File)) (jobs : List Job) (job : Job) → i < length names → name ≡ get_or names i name → AreJobsRead b (take i names) files jobs → IsJobRead b name files job → AreJobsRead b (take (i + 1) names) files (jobs ++ (job ∷ []))
 jobs_read_more b names i name (Some fs) jobs job h at was is =
     let more : take (i + 1) names ≡ take i names ++ (name ∷ []) = take_more names i name h ∙ ap (λ n. take i names ++ (n ∷ [])) (sym at) in
-    rw (was, is, more) (sym (map-append (job_of b (reads fs)) (take i names) (name ∷ [])))
+    rw (was, is, more) (sym (map-append (job_of b (reads Plain fs)) (take i names) (name ∷ [])))
 jobs_read_more b names i name None jobs job h at was is = All-push (IsSomeJob b) jobs job was is
 
 pub jobs_read_all : (b : AskedBatch) (names : List Text) (i : ℕ) (files : Option (List File)) (jobs : List Job) → length names ≤ i → AreJobsRead b (take i names) files jobs → AreJobsRead b names files jobs

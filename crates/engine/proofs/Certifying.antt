@@ -5,6 +5,7 @@ use Rattle.engine.proofs.Common.{VerdictIsOne, IsVerdict, Asked, AskedCheck, Cas
 use Rattle.engine.proofs.Common.{Checking, Writing, asked_in, case_asked, case_checked, case_listed, case_of, case_read, case_written, case_zoned, listing_read}
 use Rattle.engine.proofs.Common.{made_model, named, steps_read, task_of, zones_read, Certified, IsCheck, certified_line, verdict_line, verdict_status, Defines}
 use Rattle.engine.proofs.Common.{OneVerdict, IsListed, IsStopped, IsValid}
+use Rattle.model_types.specs.declared.limits.Limits.TheVariants.{Plain}
 use Rattle.check_run.specs.declared.verdict.ListingVerdict.TheVariants.{Certified as Holds, Refused as Unbounded}
 use Rattle.engine.proofs.Readings.{named_read, zoned_parts}
 use Rattle.run_puts.specs.declared.status.Status.TheVariants as status
@@ -42,10 +43,10 @@ module _ (words : List Text) (files : List File) (old new : Seen) (puts : List P
   abbrev Tells : Type 0
   Tells = Certified words files old.written new.written × OneVerdict words files
 
-  tells : (f : FlowModel) (listing : ZonedListing) → IsModel f → named asked.name (reads files) ≡ Ok f → listing_read files asked f ≡ Ok listing → Defines (Checking f asked.digits listing) status.Ok pieces → Tells
+  tells : (f : FlowModel) (listing : ZonedListing) → IsModel f → named asked.name (reads Plain files) ≡ Ok f → listing_read files asked f ≡ Ok listing → Defines (Checking f asked.digits listing) status.Ok pieces → Tells
   tells f listing model read listed d =
       let parts = zoned_parts (zones_read files asked.zones f) (steps_read files asked f) listing listed in
-      let is = named_read asked.name (reads files) f read in
+      let is = named_read asked.name (reads Plain files) f read in
       let holds = is_certified d.verdict d.status in
       let L : ListingVerdict → Type 0 = λ v. pieces ≡ verdict_line f.grid v ∷ [] in
       let V : ListingVerdict → Type 0 = λ v. IsVerdict f asked.digits listing.zones listing.steps v in
@@ -68,20 +69,20 @@ module _ (words : List Text) (files : List File) (old new : Seen) (puts : List P
         record { asked = asked; wanted = wanted; model = f; read = is; valid = model; zones = listing.zones; zoned = parts.0; steps = listing.steps; listed = parts.1; verdict = subst V holds d.is },
       )
 
-  of_steps : (f : FlowModel) → named asked.name (reads files) ≡ Ok f → (r : Result ZonedListing Refusal) → listing_read files asked f ≡ r → IsValid (case_listed asked f r) status.Ok → Defines (case_listed asked f r) status.Ok pieces → Tells
+  of_steps : (f : FlowModel) → named asked.name (reads Plain files) ≡ Ok f → (r : Result ZonedListing Refusal) → listing_read files asked f ≡ r → IsValid (case_listed asked f r) status.Ok → Defines (case_listed asked f r) status.Ok pieces → Tells
   of_steps f read (Ok listing) listed (inl (model, valid)) d = tells f listing model read listed d
   of_steps f read (Ok listing) listed (inr stops) d = absurd (not_stopped stops)
   of_steps f read (Err refusal) listed valid d = absurd (let bad : status.Ok ≡ status.Refused refusal = d.0 in cc)
 
-  of_model : (r : Result FlowModel Refusal) → named asked.name (reads files) ≡ r → IsValid (case_checked asked r (listing_read files asked)) status.Ok → Defines (case_checked asked r (listing_read files asked)) status.Ok pieces → Tells
+  of_model : (r : Result FlowModel Refusal) → named asked.name (reads Plain files) ≡ r → IsValid (case_checked asked r (listing_read files asked)) status.Ok → Defines (case_checked asked r (listing_read files asked)) status.Ok pieces → Tells
   of_model (Ok f) read valid d = of_steps f read (listing_read files asked f) refl valid d
   of_model (Err refusal) read valid d = absurd (let bad : status.Ok ≡ status.Refused refusal = d.0 in cc)
 
   pub of_check : IsValid (case_of words files) status.Ok → Defines (case_of words files) status.Ok pieces → Tells
   of_check valid d =
-      let P : Option Command → Type 0 = λ a. Defines (case_asked a (reads files) (zones_read files) (listing_read files)) status.Ok pieces in
-      let V : Option Command → Type 0 = λ a. IsValid (case_asked a (reads files) (zones_read files) (listing_read files)) status.Ok in
-      of_model (named asked.name (reads files)) refl (subst V wanted valid) (subst P wanted d)
+      let P : Option Command → Type 0 = λ a. Defines (case_asked a (reads Plain files) (zones_read files) (listing_read files)) status.Ok pieces in
+      let V : Option Command → Type 0 = λ a. IsValid (case_asked a (reads Plain files) (zones_read files) (listing_read files)) status.Ok in
+      of_model (named asked.name (reads Plain files)) refl (subst V wanted valid) (subst P wanted d)
 
 -- a check comes to a refusal, or to steps that are checked
 pub checked_case : (P : Case → Type 0) → ((refusal : Refusal) → P (Refuses refusal)) → ((m : FlowModel) (s : ℕ) (listing : ZonedListing) → P (Checking m s listing)) → (asked : AskedCheck) (r : Result FlowModel Refusal) (listed : FlowModel → Result ZonedListing Refusal) → P (case_checked asked r listed)
@@ -107,12 +108,12 @@ module _ (words : List Text) (files : List File) (m : FlowModel) (s : ℕ) (list
   no_check asked (Ok f) e = no_check_zoned asked f (zones_read files asked.zones f) e
   no_check asked (Err refusal) e = let bad : Refuses refusal ≡ Checking m s listing = e in cc
 
-  check_by_words : (a : Option Command) → asked_in words ≡ a → case_asked a (reads files) (zones_read files) (listing_read files) ≡ Checking m s listing → (asked : AskedCheck) × (asked_in words ≡ Some (Check asked))
+  check_by_words : (a : Option Command) → asked_in words ≡ a → case_asked a (reads Plain files) (zones_read files) (listing_read files) ≡ Checking m s listing → (asked : AskedCheck) × (asked_in words ≡ Some (Check asked))
   check_by_words None wanted e = absurd (let bad : NoWords ≡ Checking m s listing = e in cc)
-  check_by_words (Some (Run asked)) wanted e = absurd (no_check asked (named asked.name (reads files)) e)
+  check_by_words (Some (Run asked)) wanted e = absurd (no_check asked (named asked.name (reads Plain files)) e)
   check_by_words (Some (Make seed size)) wanted e = absurd (let bad : Making seed size (made_model seed size) ≡ Checking m s listing = e in cc)
   check_by_words (Some (Check asked)) wanted e = (asked, wanted)
-  check_by_words (Some (Write name)) wanted e = absurd (written_case (λ c. c ≡ Checking m s listing → ⊥) (λ refusal x. let bad : Refuses refusal ≡ Checking m s listing = x in cc) (λ f x. let bad : Writing f ≡ Checking m s listing = x in cc) (named name (reads files)) e)
+  check_by_words (Some (Write name)) wanted e = absurd (written_case (λ c. c ≡ Checking m s listing → ⊥) (λ refusal x. let bad : Refuses refusal ≡ Checking m s listing = x in cc) (λ f x. let bad : Writing f ≡ Checking m s listing = x in cc) (named name (reads Plain files)) e)
 
   pub asks_check : case_of words files ≡ Checking m s listing → (asked : AskedCheck) × (asked_in words ≡ Some (Check asked))
   asks_check e = check_by_words (asked_in words) refl e

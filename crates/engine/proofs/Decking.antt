@@ -2,6 +2,7 @@
 use Rattle.engine.proofs.Common.{◌≡◌, ℕ, List, Ok, Err, Result, Option, None, Some, refl, sym, ap, subst, ◌∙◌, InputCounts, File, Put, InputFault, Refusal}
 use Rattle.engine.proofs.Common.{FlowModel, IsModel, reads, Text, IsRun, NeverCut, Status, ZonedListing, AskedCheck, Command, Write, Refuses, Writing, IsCase}
 use Rattle.engine.proofs.Common.{asked_in, case_asked, case_written, listing_read, named, zones_read, IsDeck, Answers, IsReadAs, IsReadingEnd}
+use Rattle.model_types.specs.declared.limits.Limits.TheVariants.{Plain}
 use Rattle.engine.proofs.Ends.{could_read, decked, ends_without_words, no_steps, refused, same_steps, same_zones, some_case, unreadable}
 use Rattle.engine.proofs.Readings.{no_zones}
 use Rattle.outside.specs.declared.refusals.InputFault.TheVariants as input
@@ -13,11 +14,11 @@ module _ (words : List Text) (files : Option (List File)) (n m : ℕ) (name : Te
       subst P (sym wanted) (ap case_written (sym is))
 
   unread_case : (files : Option (List File)) (refusal : Refusal) → IsReadAs name files (Err (input.Refused refusal)) → IsCase words files (Refuses refusal)
-  unread_case (Some fs) refusal h = deck_case (reads fs) (zones_read fs) (listing_read fs) (Err refusal) h
+  unread_case (Some fs) refusal h = deck_case (reads Plain fs) (zones_read fs) (listing_read fs) (Err refusal) h
   unread_case None refusal (read, valid, h) = (read, no_zones, no_steps, could_read read valid, deck_case (λ n. read) (same_zones no_zones) (same_steps no_zones no_steps) (Err refusal) h)
 
   model_case : (files : Option (List File)) (f : FlowModel) → IsReadAs name files (Ok f) → IsCase words files (Writing f)
-  model_case (Some fs) f h = deck_case (reads fs) (zones_read fs) (listing_read fs) (Ok f) h
+  model_case (Some fs) f h = deck_case (reads Plain fs) (zones_read fs) (listing_read fs) (Ok f) h
   model_case None f (read, valid, h) = (read, no_zones, no_steps, could_read read valid, deck_case (λ n. read) (same_zones no_zones) (same_steps no_zones no_steps) (Ok f) h)
 
   pub ends_undecked : (fault : InputFault) (end : Status) (puts : List Put) → IsReadAs name files (Err fault) → InputCounts {T = FlowModel} n m (Err fault) → IsReadingEnd fault end puts → Answers words files n m end puts

@@ -4,6 +4,7 @@ use Rattle.engine.proofs.Common.{File, Put, Seen, PutsMake, taken, Refusal, Flow
 use Rattle.engine.proofs.Common.{Asked, AskedCheck, Case, Command, Run, Make, Check, Write, NoWords, Refuses, Listing, Making, Checking, Writing, asked_in}
 use Rattle.engine.proofs.Common.{case_asked, case_checked, case_listed, case_of, case_read, case_written, case_zoned, listing_read, made_model, named, task_of}
 use Rattle.engine.proofs.Common.{zones_read, IsDeck, OneDeck, IsStopped, IsValid}
+use Rattle.model_types.specs.declared.limits.Limits.TheVariants.{Plain}
 use Rattle.model_forms.proofs.DeckForms.{deck_reads}
 use Rattle.engine.proofs.Certifying.{IsFault, not_stopped}
 use Rattle.engine.proofs.Readings.{named_read}
@@ -20,7 +21,7 @@ only_deck m end q d = d.0
 pub record Decked (words : List Text) (files : List File) (m : FlowModel) : Type 0 where
   pub name : Text
   pub wanted : asked_in words ≡ Some (Write name)
-  pub read : reads files name ≡ Ok m
+  pub read : reads Plain files name ≡ Ok m
 
 model_in : FlowModel → Case → FlowModel
 model_in other (Writing m) = m
@@ -47,16 +48,16 @@ module _ (words : List Text) (files : List File) (m : FlowModel) where
   no_check asked (Ok f) e = no_listed asked f (listing_read files asked f) e
   no_check asked (Err refusal) e = let bad : Refuses refusal ≡ Writing m = e in cc
 
-  by_model : (name : Text) → asked_in words ≡ Some (Write name) → (r : Result FlowModel Refusal) → named name (reads files) ≡ r → case_written r ≡ Writing m → Decked words files m
-  by_model name wanted (Ok f) is e = record { name = name; wanted = wanted; read = named_read name (reads files) m (is ∙ ap Ok (one_model f m e)) }
+  by_model : (name : Text) → asked_in words ≡ Some (Write name) → (r : Result FlowModel Refusal) → named name (reads Plain files) ≡ r → case_written r ≡ Writing m → Decked words files m
+  by_model name wanted (Ok f) is e = record { name = name; wanted = wanted; read = named_read name (reads Plain files) m (is ∙ ap Ok (one_model f m e)) }
   by_model name wanted (Err refusal) is e = absurd (let bad : Refuses refusal ≡ Writing m = e in cc)
 
-  by_words : (a : Option Command) → asked_in words ≡ a → case_asked a (reads files) (zones_read files) (listing_read files) ≡ Writing m → Decked words files m
+  by_words : (a : Option Command) → asked_in words ≡ a → case_asked a (reads Plain files) (zones_read files) (listing_read files) ≡ Writing m → Decked words files m
   by_words None wanted e = absurd (let bad : NoWords ≡ Writing m = e in cc)
-  by_words (Some (Run asked)) wanted e = absurd (no_run asked (named asked.name (reads files)) e)
+  by_words (Some (Run asked)) wanted e = absurd (no_run asked (named asked.name (reads Plain files)) e)
   by_words (Some (Make seed size)) wanted e = absurd (let bad : Making seed size (made_model seed size) ≡ Writing m = e in cc)
-  by_words (Some (Check asked)) wanted e = absurd (no_check asked (named asked.name (reads files)) e)
-  by_words (Some (Write name)) wanted e = by_model name wanted (named name (reads files)) refl e
+  by_words (Some (Check asked)) wanted e = absurd (no_check asked (named asked.name (reads Plain files)) e)
+  by_words (Some (Write name)) wanted e = by_model name wanted (named name (reads Plain files)) refl e
 
   pub deck_told : case_of words files ≡ Writing m → Decked words files m
   deck_told e = by_words (asked_in words) refl e
@@ -75,5 +76,5 @@ of_written words files old new puts pieces m written makes told valid d =
       read = told.read;
       valid = valid_deck m valid;
       written = subst P (append-nil (deck_text m)) (all_written (deck_text m ∷ []) old new puts (written ∙ ap (map taken) d.1) makes);
-      again = deck_reads files told.name m told.read;
+      again = deck_reads Plain files told.name m told.read;
     }

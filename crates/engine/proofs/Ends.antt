@@ -8,6 +8,7 @@ use Rattle.engine.proofs.Common.{Making, Checking, Writing, IsCase, CouldList, C
 use Rattle.engine.proofs.Common.{case_read, case_written, case_zoned, listing_read, made_model, named, task_of, zoned_steps, zones_named, zones_read, Due}
 use Rattle.engine.proofs.Common.{ReadsFolder, CutOf, IsMade, IsCheck, IsDeck, AreZonesAs, Answers, IsListed, IsMadeRun, IsReadAs, IsReadingEnd, IsStopped}
 use Rattle.engine.proofs.Common.{IsValid}
+use Rattle.model_types.specs.declared.limits.Limits.TheVariants.{Plain}
 use Rattle.command_line.specs.Usage.{usage_line}
 use Rattle.engine.specs.Defined.{defined, unread}
 use Rattle.engine.proofs.Readings.{named_read, no_zones}
@@ -94,7 +95,7 @@ pub of_model_read : (Q : FlowModel → Type 0) (read : Result FlowModel Refusal)
 of_model_read Q read f is q = subst (λ r. IfOk r Q) (sym is) q
 
 pub no_words : (words : List Text) (files : Option (List File)) → asked_in words ≡ None → IsCase words files NoWords
-no_words words (Some fs) e = let P : Option Command → Type 0 = λ a. NoWords ≡ case_asked a (reads fs) (zones_read fs) (listing_read fs) in subst P (sym e) refl
+no_words words (Some fs) e = let P : Option Command → Type 0 = λ a. NoWords ≡ case_asked a (reads Plain fs) (zones_read fs) (listing_read fs) in subst P (sym e) refl
 no_words words None e =
     let P : Option Command → Type 0 = λ a. NoWords ≡ case_asked a (λ name. no_model) (same_zones no_zones) (same_steps no_zones no_steps) in
     (no_model, no_zones, no_steps, could_read no_model tt, subst P (sym e) refl)
@@ -141,7 +142,7 @@ module _ (words : List Text) (read : Text → Result FlowModel Refusal) (zoned :
   write_worded_by name e = subst ReadsFor (sym e) (written_worded (named name read))
 
 pub some_case : (words : List Text) (files : Option (List File)) → SomeCase words files
-some_case words (Some fs) = record { case = case_of words fs; is = refl; worded = asked_worded words (reads fs) (zones_read fs) (listing_read fs); check_worded = check_worded_by words (reads fs) (zones_read fs) (listing_read fs); write_worded = write_worded_by words (reads fs) (zones_read fs) (listing_read fs) }
+some_case words (Some fs) = record { case = case_of words fs; is = refl; worded = asked_worded words (reads Plain fs) (zones_read fs) (listing_read fs); check_worded = check_worded_by words (reads Plain fs) (zones_read fs) (listing_read fs); write_worded = write_worded_by words (reads Plain fs) (zones_read fs) (listing_read fs) }
 some_case words None = record {
   case = case_asked (asked_in words) (λ name. no_model) (same_zones no_zones) (same_steps no_zones no_steps);
   is = (no_model, no_zones, no_steps, could_read no_model tt, refl);
@@ -164,12 +165,12 @@ module _ (words : List Text) (asked : Asked) (wanted : asked_in words ≡ Some (
 
 module _ (words : List Text) (files : Option (List File)) (n m : ℕ) (asked : Asked) (wanted : asked_in words ≡ Some (Run asked)) where
   refused_case : (files : Option (List File)) (refusal : Refusal) → IsReadAs asked.name files (Err (input.Refused refusal)) → IsCase words files (Refuses refusal)
-  refused_case (Some fs) refusal h = case_by words asked wanted (reads fs) (zones_read fs) (listing_read fs) (Err refusal) h
+  refused_case (Some fs) refusal h = case_by words asked wanted (reads Plain fs) (zones_read fs) (listing_read fs) (Err refusal) h
   refused_case None refusal (read, valid, h) = (read, no_zones, no_steps, could_read read valid, case_by words asked wanted (λ name. read) (same_zones no_zones) (same_steps no_zones no_steps) (Err refusal) h)
 
   -- a model was read, and then its zones as z
   pub zones_case : (files : Option (List File)) (f : FlowModel) (z : Result (Option (List ℕ)) InputFault) (known : Result (Option (List ℕ)) Refusal) → ((defined : Result (Option (List ℕ)) Refusal) → IsReading (λ x. x) defined z → defined ≡ known) → IsReadAs asked.name files (Ok f) → IsModel f → AreZonesAs asked.zones f files z → IsCase words files (case_zoned asked f known)
-  zones_case (Some fs) f z known same h model zones = zoned_by words asked wanted (reads fs) (zones_read fs) (listing_read fs) f known h (same (zones_read fs asked.zones f) zones)
+  zones_case (Some fs) f z known same h model zones = zoned_by words asked wanted (reads Plain fs) (zones_read fs) (listing_read fs) f known h (same (zones_read fs asked.zones f) zones)
   zones_case None f z known same (read, valid, h) model (zoned, fits, zones) =
       let is : read ≡ Ok f = named_read asked.name (λ name. read) f h in (
         read,
@@ -206,7 +207,7 @@ module _ (words : List Text) (seed size : ℕ) (wanted : asked_in words ≡ Some
   made_by read zoned listed = let P : Option Command → Type 0 = λ a. made_case ≡ case_asked a read zoned listed in subst P (sym wanted) refl
 
   is_made : (files : Option (List File)) → IsCase words files made_case
-  is_made (Some fs) = made_by (reads fs) (zones_read fs) (listing_read fs)
+  is_made (Some fs) = made_by (reads Plain fs) (zones_read fs) (listing_read fs)
   is_made None = (no_model, no_zones, no_steps, could_read no_model tt, made_by (λ name. no_model) (same_zones no_zones) (same_steps no_zones no_steps))
 
   pub ends_made : (files : Option (List File)) (n m : ℕ) (end : Status) (puts : List Put) → IsMadeRun seed size end puts → Answers words files n m end puts

@@ -8,6 +8,7 @@ use Rattle.engine.proofs.Common.{Write, NoWords, Refuses, Listing, Making, Check
 use Rattle.engine.proofs.Common.{listing_read, made_model, named, task_of, zoned_steps, zones_named, zones_read, Certified, IsDeck, OneDeck, CutOf, Defines}
 use Rattle.engine.proofs.Common.{Due, Headline, IsSummed, Made, made_task, summed_text, OneListing, OneSummary, OneVerdict, Decided, Comes, HasCertified}
 use Rattle.engine.proofs.Common.{HasDeck, HasListing, HasTask, IsRunOf, Answers, IsStopped, IsValid}
+use Rattle.model_types.specs.declared.limits.Limits.TheVariants.{Plain}
 use Rattle.listing_run.specs.Laws.{ListingIsOne, ListingExcludesRefusal, RefusalIsOne}
 use Rattle.listing_summary.specs.Summaries.{summary_of}
 use Rattle.listing_summary.specs.Texts.{summary_text}
@@ -47,7 +48,7 @@ record Listed (words : List Text) (files : List File) (k : Task) : Type 0 where
   asked : Asked
   wanted : asked_in words ≡ Some (Run asked)
   model : FlowModel
-  read : reads files asked.name ≡ Ok model
+  read : reads Plain files asked.name ≡ Ok model
   zones : Option (List ℕ)
   zoned : zones_read files asked.zones model ≡ Ok zones
   task : task_of asked model zones ≡ k
@@ -65,20 +66,20 @@ unfolding task_in
 one_task j k e = ap (task_in k) e
 
 module _ (words : List Text) (files : List File) (k : Task) where
-  by_zones : (asked : Asked) → asked_in words ≡ Some (Run asked) → (f : FlowModel) → named asked.name (reads files) ≡ Ok f → (z : Result (Option (List ℕ)) Refusal) → zones_read files asked.zones f ≡ z → case_zoned asked f z ≡ Listing k → Listed words files k
-  by_zones asked wanted f is (Ok zones) also e = record { asked = asked; wanted = wanted; model = f; read = named_read asked.name (reads files) f is; zones = zones; zoned = also; task = one_task (task_of asked f zones) k e }
+  by_zones : (asked : Asked) → asked_in words ≡ Some (Run asked) → (f : FlowModel) → named asked.name (reads Plain files) ≡ Ok f → (z : Result (Option (List ℕ)) Refusal) → zones_read files asked.zones f ≡ z → case_zoned asked f z ≡ Listing k → Listed words files k
+  by_zones asked wanted f is (Ok zones) also e = record { asked = asked; wanted = wanted; model = f; read = named_read asked.name (reads Plain files) f is; zones = zones; zoned = also; task = one_task (task_of asked f zones) k e }
   by_zones asked wanted f is (Err refusal) also e = absurd (let bad : Refuses refusal ≡ Listing k = e in cc)
 
-  by_reading : (asked : Asked) → asked_in words ≡ Some (Run asked) → (r : Result FlowModel Refusal) → named asked.name (reads files) ≡ r → case_read asked r (zones_read files asked.zones) ≡ Listing k → Listed words files k
+  by_reading : (asked : Asked) → asked_in words ≡ Some (Run asked) → (r : Result FlowModel Refusal) → named asked.name (reads Plain files) ≡ r → case_read asked r (zones_read files asked.zones) ≡ Listing k → Listed words files k
   by_reading asked wanted (Ok f) is e = by_zones asked wanted f is (zones_read files asked.zones f) refl e
   by_reading asked wanted (Err refusal) is e = absurd (let bad : Refuses refusal ≡ Listing k = e in cc)
 
-  by_words : (a : Option Command) → asked_in words ≡ a → case_asked a (reads files) (zones_read files) (listing_read files) ≡ Listing k → Listed words files k
+  by_words : (a : Option Command) → asked_in words ≡ a → case_asked a (reads Plain files) (zones_read files) (listing_read files) ≡ Listing k → Listed words files k
   by_words None wanted e = absurd (let bad : NoWords ≡ Listing k = e in cc)
-  by_words (Some (Run asked)) wanted e = by_reading asked wanted (named asked.name (reads files)) refl e
+  by_words (Some (Run asked)) wanted e = by_reading asked wanted (named asked.name (reads Plain files)) refl e
   by_words (Some (Make seed size)) wanted e = absurd (let bad : Making seed size (made_model seed size) ≡ Listing k = e in cc)
-  by_words (Some (Check asked)) wanted e = absurd (checked_case (λ c. c ≡ Listing k → ⊥) (λ refusal x. let bad : Refuses refusal ≡ Listing k = x in cc) (λ m s steps x. let bad : Checking m s steps ≡ Listing k = x in cc) asked (named asked.name (reads files)) (listing_read files asked) e)
-  by_words (Some (Write name)) wanted e = absurd (written_case (λ c. c ≡ Listing k → ⊥) (λ refusal x. let bad : Refuses refusal ≡ Listing k = x in cc) (λ m x. let bad : Writing m ≡ Listing k = x in cc) (named name (reads files)) e)
+  by_words (Some (Check asked)) wanted e = absurd (checked_case (λ c. c ≡ Listing k → ⊥) (λ refusal x. let bad : Refuses refusal ≡ Listing k = x in cc) (λ m s steps x. let bad : Checking m s steps ≡ Listing k = x in cc) asked (named asked.name (reads Plain files)) (listing_read files asked) e)
+  by_words (Some (Write name)) wanted e = absurd (written_case (λ c. c ≡ Listing k → ⊥) (λ refusal x. let bad : Refuses refusal ≡ Listing k = x in cc) (λ m x. let bad : Writing m ≡ Listing k = x in cc) (named name (reads Plain files)) e)
 
   listed : case_of words files ≡ Listing k → Listed words files k
   listed e = by_words (asked_in words) refl e
@@ -117,12 +118,12 @@ module _ (words : List Text) (files : List File) (seed size : ℕ) (read : Resul
   made_by_reading asked (Ok f) e = made_by_zones asked f (zones_read files asked.zones f) e
   made_by_reading asked (Err refusal) e = absurd (let bad : Refuses refusal ≡ Making seed size read = e in cc)
 
-  made_by_words : (a : Option Command) → asked_in words ≡ a → case_asked a (reads files) (zones_read files) (listing_read files) ≡ Making seed size read → Summed words seed size read
+  made_by_words : (a : Option Command) → asked_in words ≡ a → case_asked a (reads Plain files) (zones_read files) (listing_read files) ≡ Making seed size read → Summed words seed size read
   made_by_words None wanted e = absurd (let bad : NoWords ≡ Making seed size read = e in cc)
-  made_by_words (Some (Run asked)) wanted e = made_by_reading asked (named asked.name (reads files)) e
+  made_by_words (Some (Run asked)) wanted e = made_by_reading asked (named asked.name (reads Plain files)) e
   made_by_words (Some (Make i j)) wanted e = same_words i j wanted (one_making i j seed size (made_model i j) read e)
-  made_by_words (Some (Check asked)) wanted e = absurd (checked_case (λ c. c ≡ Making seed size read → ⊥) (λ refusal x. let bad : Refuses refusal ≡ Making seed size read = x in cc) (λ m s steps x. let bad : Checking m s steps ≡ Making seed size read = x in cc) asked (named asked.name (reads files)) (listing_read files asked) e)
-  made_by_words (Some (Write name)) wanted e = absurd (written_case (λ c. c ≡ Making seed size read → ⊥) (λ refusal x. let bad : Refuses refusal ≡ Making seed size read = x in cc) (λ m x. let bad : Writing m ≡ Making seed size read = x in cc) (named name (reads files)) e)
+  made_by_words (Some (Check asked)) wanted e = absurd (checked_case (λ c. c ≡ Making seed size read → ⊥) (λ refusal x. let bad : Refuses refusal ≡ Making seed size read = x in cc) (λ m s steps x. let bad : Checking m s steps ≡ Making seed size read = x in cc) asked (named asked.name (reads Plain files)) (listing_read files asked) e)
+  made_by_words (Some (Write name)) wanted e = absurd (written_case (λ c. c ≡ Making seed size read → ⊥) (λ refusal x. let bad : Refuses refusal ≡ Making seed size read = x in cc) (λ m x. let bad : Writing m ≡ Making seed size read = x in cc) (named name (reads Plain files)) e)
 
   summed : case_of words files ≡ Making seed size read → Summed words seed size read
   summed e = made_by_words (asked_in words) refl e
@@ -182,7 +183,7 @@ module _ (laws : Laws) where
       let is : pieces ≡ summary_text seed size (summary_of m values) ∷ [] = subst T whole x.are in
       let P : List ℕ → Type 0 = λ t. Appends old.written new.written t in
       let all = subst P (append-nil (summary_text seed size (summary_of m values))) (all_written (summary_text seed size (summary_of m values) ∷ []) old new puts (written ∙ ap (map taken) is) makes) in
-      let read = named_read made_name (reads (made_files seed size)) m l.is in (
+      let read = named_read made_name (reads Plain (made_files seed size)) m l.is in (
         record {
           seed = seed;
           size = size;
@@ -236,7 +237,7 @@ module _ (laws : Laws) where
   both words None n m end puts old new a makes e = tt
 
   made_of : (words : List Text) (files : Option (List File)) (seed size : ℕ) (case : Case) → asked_in words ≡ Some (Make seed size) → IsCase words files case → case ≡ Making seed size (made_model seed size)
-  made_of words (Some fs) seed size case wanted is = let P : Option Command → Type 0 = λ a. case ≡ case_asked a (reads fs) (zones_read fs) (listing_read fs) in subst P wanted is
+  made_of words (Some fs) seed size case wanted is = let P : Option Command → Type 0 = λ a. case ≡ case_asked a (reads Plain fs) (zones_read fs) (listing_read fs) in subst P wanted is
   made_of words None seed size case wanted (read, zoned, listed, valid, is) = let P : Option Command → Type 0 = λ a. case ≡ case_asked a (λ name. read) (λ zones m. zones_named zones (λ name. zoned)) (λ asked m. zoned_steps (zones_named asked.zones (λ name. zoned)) (λ zones. named asked.listing (λ name. listed))) in subst P wanted is
 
   pub made : (words : List Text) (files : Option (List File)) (n m : ℕ) (end : Status) (puts : List Put) (old new : Seen) → Answers words files n m end puts → PutsMake old puts new → end ≡ status.Ok → (seed size : ℕ) → asked_in words ≡ Some (Make seed size) → Made words old.written new.written × OneSummary words old.written new.written

@@ -6,6 +6,7 @@ use Rattle.engine.proofs.Common.{ListedStep, pairs_in, AreListed, listing_in, zo
 use Rattle.engine.proofs.Common.{steps_in, steps_read, with_zones, zoned_steps, zones_named, AreStepsAs, AreZonesAs, IsListedAs, IsNamedFault, IsReadAs}
 use Rattle.std.proofs.Common.{All}
 use Rattle.outside.proofs.NameTests.{is_taken, is_good}
+use Rattle.model_types.specs.declared.limits.Limits.TheVariants.{Plain}
 use Rattle.model_types.specs.Cells.{cell_count}
 use Rattle.outside.specs.declared.refusals.TextFault.TheVariants as texts
 use Rattle.outside.specs.declared.refusals.InputFault.TheVariants as input
@@ -46,7 +47,7 @@ abbrev some_refusal : Result FlowModel Refusal
 some_refusal = Err (file_refusal BadName (codes "-"))
 
 pub bad_read : (name : Text) (files : Option (List File)) (fault : InputFault) → (IsGoodName name → ⊥) → IsNamedFault fault → IsReadAs name files (Err fault)
-bad_read name (Some fs) fault bad is = bad_reading name (reads fs) fault bad is
+bad_read name (Some fs) fault bad is = bad_reading name (reads Plain fs) fault bad is
 bad_read name None fault bad is = (some_refusal, tt, bad_reading name (λ n. some_refusal) fault bad is)
 
 told_reading : (name : Text) (read : Text → Result FlowModel Refusal) (answer : Result FlowModel InputFault) → IsGoodName name → Has (λ m. m) answer (read name) → IsReading (λ m. m) (named name read) answer
@@ -55,8 +56,8 @@ told_reading name read (Err (input.Refused refusal)) good h = good_named name re
 told_reading name read (Err input.ReadFault) good h = tt
 told_reading name read (Err input.Memory) good h = tt
 
-pub good_read : (name : Text) (files : Option (List File)) (answer : Result FlowModel InputFault) → IsGoodName name → IfSome files (λ fs. Has (λ m. m) answer (reads fs name)) → IfOk answer IsModel → IsReadAs name files answer
-good_read name (Some fs) answer good h valid = told_reading name (reads fs) answer good h
+pub good_read : (name : Text) (files : Option (List File)) (answer : Result FlowModel InputFault) → IsGoodName name → IfSome files (λ fs. Has (λ m. m) answer (reads Plain fs name)) → IfOk answer IsModel → IsReadAs name files answer
+good_read name (Some fs) answer good h valid = told_reading name (reads Plain fs) answer good h
 good_read name None (Ok m) good h valid = (Ok m, valid, told_reading name (λ n. Ok m) (Ok m) good refl)
 good_read name None (Err (input.Refused refusal)) good h valid = (Err refusal, tt, told_reading name (λ n. Err refusal) (Err (input.Refused refusal)) good refl)
 good_read name None (Err input.ReadFault) good h valid = (some_refusal, tt, tt)

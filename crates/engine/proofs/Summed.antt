@@ -3,6 +3,7 @@ use Rattle.engine.proofs.Common.{◌≡◌, ℕ, List, [], ◌∷◌, Ok, Err, R
 use Rattle.engine.proofs.Common.{FlowModel, IsModel, refused_line, IsEnd, IsWanting, Text, Status, lone, lacks_at_first, ListingEnd, last_line, listing}
 use Rattle.engine.proofs.Common.{status_of, made_files, made_name, reads, made_model, named, IsMade, made_task, summed_text, IsMadeRun, IsReadAs, IsReadingEnd}
 use Rattle.engine.proofs.Common.{made_fault}
+use Rattle.model_types.specs.declared.limits.Limits.TheVariants.{Plain}
 use Rattle.listing_summary.specs.Ends.{IsSummarized}
 use Rattle.listing_summary.specs.declared.summary.Summary.{Summary}
 use Rattle.engine.proofs.Ends.{wanting_stops}
@@ -30,7 +31,7 @@ module _ (seed size : ℕ) where
 
   -- what a folder of these files reads as
   pub made_reading : (files : List File) (answer : Result FlowModel InputFault) → files ≡ made_files seed size → IsReadAs made_name (Some files) answer → IsReading (λ m. m) (made_model seed size) answer
-  made_reading files answer is h = subst (λ (fs : List File). IsReading (λ m. m) (named made_name (reads fs)) answer) is h
+  made_reading files answer is h = subst (λ (fs : List File). IsReading (λ m. m) (named made_name (reads Plain fs)) answer) is h
 
   -- a listing of the made model ended so, of which this is the summary
   pub made_ended : (m : FlowModel) (s : Summary) (last : ListingEnd) (end : Status) (puts : List Put) → made_model seed size ≡ Ok m → IsModel m → IsSummarized (made_task m) s last → IsEnd (summed_text seed size m.grid s last) (status_of last) end puts → IsMadeRun seed size end puts

@@ -4,6 +4,7 @@ use Rattle.engine.proofs.Common.{Put, InputFault, Refusal, FlowModel, IsModel, r
 use Rattle.engine.proofs.Common.{IsVerdict, ListingEncloses, ZonedListing, AskedCheck, Command, Check, Refuses, Checking, IsCase, CouldList, CouldRead}
 use Rattle.engine.proofs.Common.{asked_in, case_asked, case_checked, case_listed, listing_read, named, zones_read, IsCheck, verdict_line, verdict_status}
 use Rattle.engine.proofs.Common.{Answers, IsListed, IsListedAs, IsReadAs, IsReadingEnd, AreZonesOf}
+use Rattle.model_types.specs.declared.limits.Limits.TheVariants.{Plain}
 use Rattle.exact_histories.specs.Histories.{HasOneHistory}
 use Rattle.check_run.specs.declared.verdict.ListingVerdict.TheVariants.{Certified}
 use Rattle.engine.proofs.Ends.{checked, could_read, ends_without_words, no_steps, of_each, of_model_read, refused, same_steps, same_zones, some_case, unreadable}
@@ -22,7 +23,7 @@ module _ (words : List Text) (files : Option (List File)) (n m : ℕ) (asked : A
       subst P (sym wanted) (ap (λ x. case_checked asked x (listed asked)) (sym is))
 
   unread_case : (files : Option (List File)) (refusal : Refusal) → IsReadAs asked.name files (Err (input.Refused refusal)) → IsCase words files (Refuses refusal)
-  unread_case (Some fs) refusal h = check_case (reads fs) (zones_read fs) (listing_read fs) (Err refusal) h
+  unread_case (Some fs) refusal h = check_case (reads Plain fs) (zones_read fs) (listing_read fs) (Err refusal) h
   unread_case None refusal (read, valid, h) = (read, no_zones, no_steps, could_read read valid, check_case (λ name. read) (same_zones no_zones) (same_steps no_zones no_steps) (Err refusal) h)
 
   -- a model was read, and then zones and what the check names
@@ -37,11 +38,11 @@ module _ (words : List Text) (files : Option (List File)) (n m : ℕ) (asked : A
       }
 
   steps_case : (files : Option (List File)) (f : FlowModel) → IsReadAs asked.name files (Ok f) → IsModel f → (listing : ZonedListing) → IsListedAs asked f files (Ok listing) → IsCase words files (Checking f asked.digits listing)
-  steps_case (Some fs) f h model listing l = ap (case_listed asked f) (sym l) ∙ check_case (reads fs) (zones_read fs) (listing_read fs) (Ok f) h
+  steps_case (Some fs) f h model listing l = ap (case_listed asked f) (sym l) ∙ check_case (reads Plain fs) (zones_read fs) (listing_read fs) (Ok f) h
   steps_case None f (read, valid, h) model listing (zoned, listed, zones, fits, l) = (read, zoned, listed, read_both f read zoned listed h model zones fits, ap (case_listed asked f) (sym l) ∙ check_case (λ name. read) (same_zones zoned) (same_steps zoned listed) (Ok f) h)
 
   unlisted_case : (files : Option (List File)) (f : FlowModel) → IsReadAs asked.name files (Ok f) → IsModel f → (refusal : Refusal) → IsListedAs asked f files (Err (input.Refused refusal)) → IsCase words files (Refuses refusal)
-  unlisted_case (Some fs) f h model refusal l = ap (case_listed asked f) (sym l) ∙ check_case (reads fs) (zones_read fs) (listing_read fs) (Ok f) h
+  unlisted_case (Some fs) f h model refusal l = ap (case_listed asked f) (sym l) ∙ check_case (reads Plain fs) (zones_read fs) (listing_read fs) (Ok f) h
   unlisted_case None f (read, valid, h) model refusal (zoned, listed, zones, fits, l) = (read, zoned, listed, read_both f read zoned listed h model zones fits, ap (case_listed asked f) (sym l) ∙ check_case (λ name. read) (same_zones zoned) (same_steps zoned listed) (Ok f) h)
 
   pub ends_unread : (fault : InputFault) (end : Status) (puts : List Put) → IsReadAs asked.name files (Err fault) → InputCounts {T = FlowModel} n m (Err fault) → IsReadingEnd fault end puts → Answers words files n m end puts

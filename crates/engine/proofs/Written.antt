@@ -6,6 +6,7 @@ use Rattle.engine.proofs.Common.{IsListing, listing, IsWhole, whole_listing, his
 use Rattle.engine.proofs.Common.{Checking, asked_in, built, case_asked, case_checked, case_listed, case_of, listing_read, numbers_of, steps_in, steps_read}
 use Rattle.engine.proofs.Common.{task_of, with_zones, zoned_steps, zones_read, IsCheck, certified_line, Defines}
 use Rattle.std.specs.Prelude.{if◌then◌else◌, option_and_then}
+use Rattle.model_types.specs.declared.limits.Limits.TheVariants.{Plain}
 use Rattle.model_reader.proofs.UnitLemmas.{unit_is_short}
 use Rattle.command_line.proofs.DigitLemmas.{check_digits}
 use Rattle.zone_file.proofs.SmallZones.{numbers_small}
@@ -56,7 +57,7 @@ module _ (certified : RunIsCertified) (again : RunIsReadAgain) (k : Task) (piece
     model = model;
     zones = zoned;
     digits = let few = asked_digits words h.asked h.wanted in let same = h.digits in omega (arith, few, same);
-    unit = unit_is_short files h.asked.name k.model (named_read h.asked.name (reads files) k.model h.read);
+    unit = unit_is_short Plain files h.asked.name k.model (named_read h.asked.name (reads Plain files) k.model h.read);
   }
 
   steps_of_bytes : steps_in h.asked k.model k.zones (Ok (concat pieces)) ≡ Ok steps
@@ -74,7 +75,7 @@ module _ (certified : RunIsCertified) (again : RunIsReadAgain) (k : Task) (piece
 
   case_is : case_of words files ≡ Checking k.model h.asked.digits listing_of
   case_is =
-      ap (λ (c : Option Command). case_asked c (reads files) (zones_read files) (listing_read files)) h.wanted
+      ap (λ (c : Option Command). case_asked c (reads Plain files) (zones_read files) (listing_read files)) h.wanted
       ∙ ap (λ (r : Result FlowModel Refusal). case_checked h.asked r (listing_read files h.asked)) h.read
       ∙ ap (case_listed h.asked k.model) read
 

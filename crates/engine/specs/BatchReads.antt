@@ -2,6 +2,7 @@
 use Rattle.std.specs.Prelude.{◌≡◌, ℕ, List, map, Result, Ok, Err, Option, Some, None, IfOk, All}
 use Rattle.std.specs.declared.vec.Vec.{Vec}
 use Rattle.std.specs.declared.alloc.Global.{Global}
+use Rattle.model_types.specs.declared.limits.Limits.TheVariants.{Plain}
 use Rattle.outside.specs.Files.{File}
 use Rattle.outside.specs.Inputs.{IsReading}
 use Rattle.outside.specs.declared.refusals.InputFault.{InputFault}
@@ -18,7 +19,7 @@ AreTasks jobs = All (λ job. IfOk job.read IsTask) jobs
 
 -- the job that a name stands for: by these files, or where none are known some job
 abbrev pub IsJobRead : AskedBatch → Text → Option (List File) → Job → Type 0
-IsJobRead b name (Some files) job = job ≡ job_of b (reads files) name
+IsJobRead b name (Some files) job = job ≡ job_of b (reads Plain files) name
 IsJobRead b name None job = IsSomeJob b job
 
 -- a fault of reading a batch: its list's refusal; a read fault and lack of memory say nothing of the files
@@ -34,7 +35,7 @@ IsBatchRead b files (Err fault) = IsFaultOf b files fault
 
 -- the jobs that names stand for, in order
 abbrev pub AreJobsRead : AskedBatch → List Text → Option (List File) → List Job → Type 0
-AreJobsRead b names (Some files) jobs = jobs ≡ map (job_of b (reads files)) names
+AreJobsRead b names (Some files) jobs = jobs ≡ map (job_of b (reads Plain files)) names
 AreJobsRead b names None jobs = All (IsSomeJob b) jobs
 
 -- the names of the list, or its first refusal, where files are known

@@ -4,6 +4,7 @@ use Rattle.outside.specs.Counts.{Rose}
 use Rattle.outside.specs.Files.{File}
 use Rattle.outside.specs.Puts.{Put}
 use Rattle.step_problem.specs.declared.place.NoBound.{NoBound}
+use Rattle.model_types.specs.declared.limits.Limits.TheVariants.{Plain}
 use Rattle.model_types.specs.declared.model.FlowModel.{FlowModel}
 use Rattle.model_types.specs.declared.time_steps.TimeStep.{TimeStep}
 use Rattle.model_types.specs.Valid.{IsModel}
@@ -50,7 +51,7 @@ BatchDecided fault b files end =
 -- refusal, and the rounds leave none open.
 pub record HasJob (b : AskedBatch) (files : List File) (name : Text) : Type 0 where
   pub model : FlowModel
-  pub read : reads files name ≡ Ok model
+  pub read : reads Plain files name ≡ Ok model
   pub no_refusal : (before : List Step) (at : TimeStep) (n : NoBound) → AllSteps (job_task b model) before (ends.NoBound at n) → ⊥
   pub none_open : (before : List Step) (at : TimeStep) → AllSteps (job_task b model) before (ends.Unfinished at) → ⊥
 

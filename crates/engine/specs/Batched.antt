@@ -4,6 +4,7 @@ use Rattle.std.specs.List.{AllZip, concat}
 use Rattle.std.specs.Io.KnownBytes.{Appends}
 use Rattle.outside.specs.Files.{File}
 use Rattle.outside.specs.declared.refusals.Refusal.{Refusal}
+use Rattle.model_types.specs.declared.limits.Limits.TheVariants.{Plain}
 use Rattle.model_types.specs.declared.model.FlowModel.{FlowModel}
 use Rattle.model_types.specs.Heads.{start_head}
 use Rattle.model_types.specs.Valid.{IsModel}
@@ -28,7 +29,7 @@ use Rattle.engine.specs.Batches.{AskedBatch, IsJobEnd, batch_asked, job_of, job_
 pub record IsJobListing (b : AskedBatch) (files : List File) (name text : Text) : Type 0 where
   -- The files read as a model, which is valid.
   pub model : FlowModel
-  pub read : reads files name ≡ Ok model
+  pub read : reads Plain files name ≡ Ok model
   pub valid : IsModel model
   -- All its time steps have values, which are heads and budgets, and no others.
   pub values : List Step
@@ -44,7 +45,7 @@ pub record IsJobListing (b : AskedBatch) (files : List File) (name text : Text) 
 
 -- A name's job ended so: with a status and a text that its files allow a run of its model; if Ok, it is such a listing.
 pub record HasEnded (b : AskedBatch) (files : List File) (name : Text) (e : JobEnd) : Type 0 where
-  pub end : IsJobEnd (job_of b (reads files) name) e
+  pub end : IsJobEnd (job_of b (reads Plain files) name) e
   pub listing : e.status ≡ status.Ok → IsJobListing b files name e.text.items
 
 -- A batch with these words over these files whose jobs ran, where a sink had the bytes `old` before it and `new` after

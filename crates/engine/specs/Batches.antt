@@ -5,6 +5,7 @@ use Rattle.outside.specs.Files.{File}
 use Rattle.outside.specs.Inputs.{file_at}
 use Rattle.outside.specs.declared.refusals.Refusal.{Refusal}
 use Rattle.command_line.specs.Wants.{Wanted, Batches, wanted_of}
+use Rattle.model_types.specs.declared.limits.Limits.TheVariants.{Plain}
 use Rattle.model_types.specs.declared.model.FlowModel.{FlowModel}
 use Rattle.model_types.specs.Valid.{IsModel}
 use Rattle.model_reader.specs.Model.{reads}
@@ -64,7 +65,7 @@ batch_case b (Ok names) read = Jobs (map (job_of b read) names)
 batch_case b (Err refusal) read = NoList refusal
 
 abbrev pub batch_case_of : AskedBatch → List File → BatchCase
-batch_case_of b files = batch_case b (names_read files b) (reads files)
+batch_case_of b files = batch_case b (names_read files b) (reads Plain files)
 
 -- a possible job where no files are known: a valid model is listed, or there is a refusal
 abbrev pub IsSomeJob : AskedBatch → Job → Type 0

@@ -6,6 +6,7 @@ use Rattle.outside.specs.Names.{is_good_name}
 use Rattle.outside.specs.declared.codes.Code.TheVariants.{BadName}
 use Rattle.outside.specs.declared.refusals.Refusal.{Refusal}
 use Rattle.command_line.specs.Wants.{Wanted, Lists, Checks, Makes, Writes, wanted_of}
+use Rattle.model_types.specs.declared.limits.Limits.TheVariants.{Plain}
 use Rattle.model_types.specs.declared.model.FlowModel.{FlowModel}
 use Rattle.model_types.specs.Valid.{IsModel}
 use Rattle.model_reader.specs.Model.{reads}
@@ -85,7 +86,7 @@ named name read = if is_good_name name then read name else Err (file_refusal Bad
 
 -- the model of the files of a made model
 abbrev pub made_model : ℕ → ℕ → Result FlowModel Refusal
-made_model seed size = named made_name (reads (made_files seed size))
+made_model seed size = named made_name (reads Plain (made_files seed size))
 
 -- the zones that a file gives, as unsigned numbers
 abbrev pub numbers_of : Result (List ℤ) Refusal → Result (Option (List ℕ)) Refusal
@@ -156,7 +157,7 @@ case_asked (Some (Write name)) read zoned listed = case_written (named name read
 
 -- the case of these words and files
 abbrev pub case_of : List Text → List File → Case
-case_of words files = case_asked (asked_in words) (reads files) (zones_read files) (listing_read files)
+case_of words files = case_asked (asked_in words) (reads Plain files) (zones_read files) (listing_read files)
 
 -- a listing that could be read of a model, without zones or with these
 pub record CouldList (m : FlowModel) (zoned : Result (List ℤ) Refusal) (steps : List ListedStep) : Type 0 where

@@ -2,6 +2,7 @@
 use Rattle.std.specs.Prelude.{◌≡◌, ℕ, List, [], ◌∷◌, Ok, Option, Some}
 use Rattle.std.specs.Io.KnownBytes.{Appends}
 use Rattle.outside.specs.Files.{File}
+use Rattle.model_types.specs.declared.limits.Limits.TheVariants.{Plain}
 use Rattle.model_types.specs.declared.model.FlowModel.{FlowModel}
 use Rattle.model_types.specs.Valid.{IsModel}
 use Rattle.model_reader.specs.Model.{reads}
@@ -22,9 +23,9 @@ pub record OneDeck (words : List Text) (files : List File) (old new : Option (Li
   pub name : Text
   pub wanted : asked_in words ≡ Some (Write name)
   pub model : FlowModel
-  pub read : reads files name ≡ Ok model
+  pub read : reads Plain files name ≡ Ok model
   pub valid : IsModel model
   -- The text of the model's deck was appended, and nothing else.
   pub written : Appends old new (deck_text model)
   -- Its files are read as the model, where each IBOUND has at most 18 digits and no file is too long.
-  pub again : IsReadAgain model
+  pub again : IsReadAgain Plain model

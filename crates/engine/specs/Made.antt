@@ -2,6 +2,7 @@
 use Rattle.std.specs.Prelude.{◌≡◌, ℕ, ℤ, List, [], ◌∷◌, Ok, Err, Option, Some, None, Result}
 use Rattle.std.specs.Io.KnownBytes.{Appends}
 use Rattle.outside.specs.declared.refusals.Refusal.{Refusal}
+use Rattle.model_types.specs.declared.limits.Limits.TheVariants.{Plain}
 use Rattle.model_types.specs.declared.grid.Grid.{Grid}
 use Rattle.model_types.specs.declared.model.FlowModel.{FlowModel}
 use Rattle.model_types.specs.Heads.{start_head}
@@ -55,7 +56,7 @@ pub record Made (words : List Text) (old new : Option (List ℕ)) : Type 0 where
   pub size : ℕ
   pub wanted : asked_in words ≡ Some (Make seed size)
   pub model : FlowModel
-  pub read : reads (made_files seed size) made_name ≡ Ok model
+  pub read : reads Plain (made_files seed size) made_name ≡ Ok model
   pub valid : IsModel model
   -- The summary of the listing of some values, which are the heads and the budget of each step, was appended, and nothing else.
   pub values : List Step

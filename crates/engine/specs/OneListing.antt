@@ -3,6 +3,7 @@ use Rattle.std.specs.Prelude.{◌≡◌, ℕ, List, Ok, Option, Some}
 use Rattle.std.specs.List.{concat}
 use Rattle.std.specs.Io.KnownBytes.{Appends}
 use Rattle.outside.specs.Files.{File}
+use Rattle.model_types.specs.declared.limits.Limits.TheVariants.{Plain}
 use Rattle.model_types.specs.declared.model.FlowModel.{FlowModel}
 use Rattle.model_types.specs.Valid.{IsModel}
 use Rattle.model_maker.specs.Files.{made_files, made_name}
@@ -28,7 +29,7 @@ pub record OneListing (words : List Text) (files : List File) (old new : Option 
   pub asked : Asked
   pub wanted : asked_in words ≡ Some (Run asked)
   pub model : FlowModel
-  pub read : reads files asked.name ≡ Ok model
+  pub read : reads Plain files asked.name ≡ Ok model
   pub valid : IsModel model
   pub zones : Option (List ℕ)
   pub zoned : zones_read files asked.zones model ≡ Ok zones
@@ -46,7 +47,7 @@ pub record OneSummary (words : List Text) (old new : Option (List ℕ)) : Type 0
   pub size : ℕ
   pub wanted : asked_in words ≡ Some (Make seed size)
   pub model : FlowModel
-  pub read : reads (made_files seed size) made_name ≡ Ok model
+  pub read : reads Plain (made_files seed size) made_name ≡ Ok model
   pub valid : IsModel model
   pub values : List Step
   pub steps : AllSteps (made_task model) values Whole
@@ -58,7 +59,7 @@ pub record OneVerdict (words : List Text) (files : List File) : Type 0 where
   pub asked : AskedCheck
   pub wanted : asked_in words ≡ Some (Check asked)
   pub model : FlowModel
-  pub read : reads files asked.name ≡ Ok model
+  pub read : reads Plain files asked.name ≡ Ok model
   pub valid : IsModel model
   pub zones : Option (List ℕ)
   pub zoned : zones_read files asked.zones model ≡ Ok zones

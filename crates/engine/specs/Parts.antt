@@ -8,6 +8,7 @@ use Rattle.outside.specs.declared.codes.Code.TheVariants.{BadName}
 use Rattle.outside.specs.declared.refusals.Refusal.{Refusal}
 use Rattle.outside.specs.declared.refusals.InputFault.{InputFault}
 use Rattle.outside.specs.declared.refusals.InputFault.TheVariants as input
+use Rattle.model_types.specs.declared.limits.Limits.TheVariants.{Plain}
 use Rattle.model_types.specs.declared.model.FlowModel.{FlowModel}
 use Rattle.model_types.specs.Valid.{IsModel}
 use Rattle.model_reader.specs.Model.{reads}
@@ -41,7 +42,7 @@ IsNamedFault input.Memory = Unit {0}
 
 -- A reading gave what the name means: by these files, or where none are known by some that read as a valid model or have a refusal.
 abbrev pub IsReadAs : Text → Option (List File) → Result FlowModel InputFault → Type 0
-IsReadAs name (Some files) answer = IsReading (λ m. m) (named name (reads files)) answer
+IsReadAs name (Some files) answer = IsReading (λ m. m) (named name (reads Plain files)) answer
 IsReadAs name None answer = (read : Result FlowModel Refusal) × IfOk read IsModel × IsReading (λ m. m) (named name (λ n. read)) answer
 
 -- A reading gave the zones of the named zone file, if there is one: by these files, or where none are known by some

@@ -3,6 +3,7 @@ use Rattle.std.specs.Prelude.{◌≡◌, ℕ, List, [], ◌∷◌, Ok, Some}
 use Rattle.std.specs.List.{concat}
 use Rattle.outside.specs.Files.{File}
 use Rattle.outside.specs.Inputs.{file_at}
+use Rattle.model_types.specs.declared.limits.Limits.TheVariants.{Plain}
 use Rattle.model_types.specs.Valid.{IsModel}
 use Rattle.model_reader.specs.Model.{reads}
 use Rattle.zone_pairs.specs.Zones.{AreNumbers}
@@ -20,7 +21,7 @@ pub record ChecksWritten (words : List Text) (files : List File) (k : Task) (byt
   pub asked : AskedCheck
   pub wanted : asked_in words ≡ Some (Check asked)
   pub digits : asked.digits ≡ k.digits
-  pub read : named asked.name (reads files) ≡ Ok k.model
+  pub read : named asked.name (reads Plain files) ≡ Ok k.model
   pub zoned : zones_read files asked.zones k.model ≡ Ok k.zones
   pub listing : named asked.listing (file_at files) ≡ Ok bytes
 

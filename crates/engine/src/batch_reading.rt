@@ -15,6 +15,7 @@ use crate::reading::bad_name;
 use batch_list::read_list;
 use listing_run::Task;
 use model_reader::read_named_model;
+use model_types::Limits;
 use outside::{Folder, InputFault, Name, is_good_name, read_input};
 use std::alloc::Global;
 
@@ -34,7 +35,7 @@ fn read_job<'a, F: Folder>(
     ensures task { IfOk result (λ job. IfOk job.read IsTask) }
 {
     let copy = Name::new(alloc, name.as_str())?;
-    match read_named_model(alloc, name.as_str(), folder) {
+    match read_named_model(alloc, Limits::Plain, name.as_str(), folder) {
         Ok(model) => Ok(Job {
             name: copy,
             read: Ok(Task {

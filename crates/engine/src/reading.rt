@@ -9,7 +9,7 @@ ghost use Rattle.zone_pairs.specs.Zones.{AreZones};
 ghost use Rattle.engine.specs.Parts.{AreZonesAs, IsNamedFault, IsReadAs};
 
 use model_reader::read_named_model;
-use model_types::{FlowModel, Listed};
+use model_types::{FlowModel, Limits, Listed};
 use outside::{Code, Folder, InputFault, file_refusal, is_good_name};
 use std::alloc::Global;
 use zone_file::{read_zones, zone_numbers};
@@ -38,7 +38,7 @@ pub(crate) fn read_named<F: Folder>(
     if !is_good_name(name.as_bytes()) {
         return Err(bad_name(alloc));
     }
-    read_named_model(alloc, name, folder)
+    read_named_model(alloc, Limits::Plain, name, folder)
 }
 
 /// The zones of a model's cells, from the named zone file, if there is one.

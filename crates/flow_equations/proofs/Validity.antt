@@ -57,7 +57,7 @@ dec_meets P xs i all none = elim (cases_lt i (length xs)) [
 ]
 
 -- a row of cells is a grid
-row_grid : (n : ℕ) → 1 ≤ n → n ≤ 1024 → IsGrid (row_of_cells n)
+row_grid : (n : ℕ) → 1 ≤ n → n ≤ 4096 → IsGrid (row_of_cells n)
 row_grid n some few =
     let zeros : (length (replicate n no_number) ≡ 1 * (1 * n)) × All IsDec (replicate n no_number) = (length-replicate n no_number ∙ (let e : n ≡ 1 * (1 * n) = omega arith in e), All-replicate IsDec n no_number zero_dec) in
     record {
@@ -78,7 +78,7 @@ module _ (ibound : List ℤ) (strt ss : List Dec) (steady : Bool) (lasting : Dec
   abbrev model : FlowModel
   model = row_model ibound strt ss period n
 
-  module _ (some : 1 ≤ n) (few : n ≤ 1024) (starts : All IsHeadNumber strt) (stores : All IsNotNegative ss) where
+  module _ (some : 1 ≤ n) (few : n ≤ 4096) (starts : All IsHeadNumber strt) (stores : All IsNotNegative ss) where
     within : (c : ℕ) → c < 1 * (1 * n) → c < n
     within c lt = omega (arith, lt)
 

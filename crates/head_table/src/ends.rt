@@ -72,7 +72,7 @@ fn read_all(
     closed: &Closed<(), Global>,
     cells: usize,
 ) -> Result<Vec<Bound>, AllocError>
-    requires words { IsFull closed.now.words × (slots_len closed.now.words ≡ 2 * cells + 1) × (cells ≤ 65536) }
+    requires words { IsFull closed.now.words × (slots_len closed.now.words ≡ 2 * cells + 1) × (cells ≤ 4194304) }
     requires range { (side : Side) (c : ℕ) → c < cells → IsHead (words_on side (slots_items closed.now.words) c) }
     ensures len { IfOk result (λ v. vec_len v ≡ cells) }
     ensures heads { IfOk result (λ v. (side : Side) (c : ℕ) → c < cells → heads_on side v.items c ≡ words_on side (slots_items closed.now.words) c) }

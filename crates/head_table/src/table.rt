@@ -14,7 +14,7 @@ pub struct HeadTable<'a> {
     pub(crate) table: Table<(), Known, Facts, Heads, Global>,
     pub(crate) alloc: Global,
     pub ghost same: { table.shared.key.problem.value ≡ problem.now },
-    pub ghost small: { length problem.now ≤ 65536 },
+    pub ghost small: { length problem.now ≤ 4194304 },
     pub ghost words: { table.shared.table_id.words ≡ 2 * length problem.now + 1 },
     pub ghost slots: { table.shared.table_id.slots ≡ 0 },
 }

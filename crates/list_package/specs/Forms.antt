@@ -23,9 +23,9 @@ IsColumn Conductance x = IsNotNegative x
 abbrev pub Differ : {E : Type 0} → Kind E → E → E → Type 0
 Differ kind x y = kind.place x ≡ kind.place y → ⊥
 
--- a list of at most 65536 entries, each in limits; a list that may name a cell at most once does so
+-- a list of at most 4194304 entries, as in wide limits, each in limits; a list that may name a cell at most once does so
 pub record IsList {E : Type 0} (kind : Kind E) (Valid : E → Type 0) (xs : List E) : Type 0 where
-  pub few : length xs ≤ 65536
+  pub few : length xs ≤ 4194304
   pub entries : All Valid xs
   pub once : kind.once ≡ true → AllPairs (Differ kind) xs
 

@@ -11,6 +11,8 @@ use Rattle.record_lines.specs.Layout.{Numbered, Left}
 use Rattle.record_lines.specs.Reading.{◌>>=◌}
 use Rattle.array_reader.specs.Items.{number_at}
 use Rattle.array_reader.specs.Numbers.{integer}
+use Rattle.model_types.specs.declared.limits.Limits.{Limits}
+use Rattle.model_types.specs.Limits.{most_entries}
 
 -- the first line of a file of stresses after its comments, which must not define parameters
 unfoldable pub item_line : List ℕ → Left → Result (Numbered × Left) Refusal
@@ -18,14 +20,14 @@ item_line file left = do
   line ← line_at file left
   if begins_with (codes "PARAMETER") (words line.0.bytes) then Err (refusal OutOfProfile file line.0.number) else Ok line
 
--- ITMP: the number of entries that follow, at most 65536; where it is below 0 the last list is used again
+-- ITMP: the number of entries that follow, at most what the limits say; where it is below 0 the last list is used again
 pub data Count : Type 0 where
   entries : ℕ → Count
   again : Count
 
-abbrev pub count_of : ℤ → Refusal → Result Count Refusal
-count_of (pos n) r = if nat_le n 65536 then Ok (entries n) else Err r
-count_of (negsuc n) r = Ok again
+abbrev pub count_of : Limits → ℤ → Refusal → Result Count Refusal
+count_of limits (pos n) r = if nat_le n (most_entries limits) then Ok (entries n) else Err r
+count_of limits (negsuc n) r = Ok again
 
 -- NP counts if it is an integer above 0
 abbrev pub is_positive : Option ℤ → Bool
@@ -42,9 +44,9 @@ is_reused (entries n) = false
 is_reused again = true
 
 -- the words of a period's line, after a first list or before it
-unfoldable pub header_of : List ℕ → ℕ → Bool → List (List ℕ) → Result Count Refusal
-header_of file line listed words = do
+unfoldable pub header_of : Limits → List ℕ → ℕ → Bool → List (List ℕ) → Result Count Refusal
+header_of limits file line listed words = do
   itmp ← number_at integer file line words
-  count ← count_of itmp.0 (refusal TooManyEntries file line)
+  count ← count_of limits itmp.0 (refusal TooManyEntries file line)
   if is_reused count && not listed then Err (refusal NothingToReuse file line)
       else (if has_parameters itmp.1 then Err (refusal OutOfProfile file line) else Ok count)

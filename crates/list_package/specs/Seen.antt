@@ -9,5 +9,5 @@ count_seen (Entries n) = spec.entries n
 count_seen Again = spec.again
 
 abbrev pub IsFew : Count → Type 0
-IsFew (Entries n) = n ≤ 65536
+IsFew (Entries n) = n ≤ 4194304
 IsFew Again = Unit {0}

@@ -168,7 +168,7 @@ pub fn new_list<E: ListEntry>(
     count: u32,
 ) -> Result<Vec<E>, TextFault>
     requires size { HasSize grid.now }
-    requires few { count ≤ 65536 }
+    requires few { count ≤ 4194304 }
     ensures list { GivesText (λ v. v.items) result lines.new (new_list (E.kind lists) file.now grid.now count lines.old) }
     ensures form { IfOk result (λ v. IsList (E.kind lists) (E.Valid (cell_count grid.now)) v.items) }
 {

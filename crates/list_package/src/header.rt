@@ -8,6 +8,7 @@ ghost use Rattle.list_package.specs.Headers.{item_line, count_of, has_parameters
 ghost use Rattle.list_package.specs.Seen.{count_seen, IsFew};
 
 use array_reader::{integer, next_line, short_integer};
+use model_types::Limits;
 use outside::{Code, TextFault, refused};
 use record_lines::{Line, Lines, Words, begins_with};
 use std::alloc::Global;
@@ -37,11 +38,17 @@ pub fn item_line<'a>(
     Ok(line)
 }
 
-fn count_of(alloc: Global, itmp: i64, file: &str, line: u32) -> Result<Count, TextFault>
-    ensures count { HasText count_seen result (count_of itmp (refusal TooManyEntries file.now line)) }
+fn count_of(
+    alloc: Global,
+    limits: Limits,
+    itmp: i64,
+    file: &str,
+    line: u32,
+) -> Result<Count, TextFault>
+    ensures count { HasText count_seen result (count_of limits itmp (refusal TooManyEntries file.now line)) }
     ensures few { IfOk result IsFew }
 {
-    if itmp > 65536 {
+    if itmp > limits.entries() as i64 {
         return Err(refused(alloc, Code::TooManyEntries, file, line));
     }
     if itmp < 0 {
@@ -68,16 +75,17 @@ fn has_parameters(words: &mut Words) -> bool
 #[tactic(auto, unfolding(crate::specs::Headers::header_of))]
 pub fn header_of(
     alloc: Global,
+    limits: Limits,
     words: &mut Words,
     file: &str,
     line: u32,
     listed: bool,
 ) -> Result<Count, TextFault>
-    ensures count { HasText count_seen result (header_of file.now line listed words.old) }
+    ensures count { HasText count_seen result (header_of limits file.now line listed words.old) }
     ensures few { IfOk result IsFew }
 {
     let itmp = integer(alloc, words, file, line)?;
-    let count = count_of(alloc, itmp, file, line)?;
+    let count = count_of(alloc, limits, itmp, file, line)?;
     if count == Count::Again && !listed {
         return Err(refused(alloc, Code::NothingToReuse, file, line));
     }

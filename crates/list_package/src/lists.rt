@@ -12,7 +12,7 @@ use crate::entry::new_list;
 use crate::header::{Count, header_of};
 use crate::kind::ListEntry;
 use array_reader::next_line;
-use model_types::{Grid, Period, Shared};
+use model_types::{Grid, Limits, Period, Shared};
 use outside::{Code, TextFault, refused};
 use record_lines::{Lines, Words};
 use std::alloc::Global;
@@ -49,6 +49,7 @@ fn list_of<E: ListEntry>(
 #[tactic(auto, unfolding(crate::specs::Lists::list_at))]
 fn list_at<E: ListEntry>(
     alloc: Global,
+    limits: Limits,
     lists: E::Lists,
     lines: &mut Lines,
     file: &str,
@@ -58,13 +59,13 @@ fn list_at<E: ListEntry>(
 ) -> Result<Shared<E>, TextFault>
     requires size { HasSize grid.now }
     requires last { IfSome last.old (IsList (E.kind lists) (E.Valid (cell_count grid.now))) }
-    ensures list { GivesText (λ l. l) result (last.new, lines.new) (list_at (E.kind lists) file.now grid.now period.now (last.old, lines.old)) }
+    ensures list { GivesText (λ l. l) result (last.new, lines.new) (list_at limits (E.kind lists) file.now grid.now period.now (last.old, lines.old)) }
     ensures last { IfOk result (λ _. IfSome last.new (IsList (E.kind lists) (E.Valid (cell_count grid.now)))) }
     ensures form { IfOk result (IsList (E.kind lists) (E.Valid (cell_count grid.now))) }
 {
     let line = next_line(alloc, lines, file)?;
     let mut words = Words::of(&line);
-    let count = header_of(alloc, &mut words, file, line.number, last.is_some())?;
+    let count = header_of(alloc, limits, &mut words, file, line.number, last.is_some())?;
     let list = list_of::<E>(alloc, lists, lines, file, grid, count, last)?;
     if !E::suits(lists, period, list.as_slice()) {
         return Err(refused(alloc, Code::OutOfProfile, file, line.number));
@@ -87,6 +88,7 @@ fn with_list<E: ListEntry>(lists: E::Lists, period: Period, list: Shared<E>) -> 
 #[tactic(auto, unfolding(crate::specs::Lists::period_at))]
 fn period_at<E: ListEntry>(
     alloc: Global,
+    limits: Limits,
     lists: E::Lists,
     lines: &mut Lines,
     file: &str,
@@ -96,12 +98,12 @@ fn period_at<E: ListEntry>(
 ) -> Result<Period, TextFault>
     requires size { HasSize grid.now }
     requires last { IfSome last.old (IsList (E.kind lists) (E.Valid (cell_count grid.now))) }
-    ensures period { GivesText (λ p. p) result (last.new, lines.new) (period_at (E.kind lists) file.now grid.now period (last.old, lines.old)) }
+    ensures period { GivesText (λ p. p) result (last.new, lines.new) (period_at limits (E.kind lists) file.now grid.now period (last.old, lines.old)) }
     ensures last { IfOk result (λ _. IfSome last.new (IsList (E.kind lists) (E.Valid (cell_count grid.now)))) }
     ensures list { IfOk result (λ p. IsList (E.kind lists) (E.Valid (cell_count grid.now)) ((E.kind lists).list p.stresses)) }
     ensures others { IfOk result (λ p. without (E.kind lists) p ≡ without (E.kind lists) period) }
 {
-    match list_at::<E>(alloc, lists, lines, file, grid, &period, last) {
+    match list_at::<E>(alloc, limits, lists, lines, file, grid, &period, last) {
         Ok(list) => Ok(with_list(lists, period, list)),
         Err(fault) => {
             drop(period);
@@ -113,6 +115,7 @@ fn period_at<E: ListEntry>(
 /// The periods with their lists, where `last` is the list of the period before.
 fn with_lists<E: ListEntry>(
     alloc: Global,
+    limits: Limits,
     lists: E::Lists,
     lines: &mut Lines,
     file: &str,
@@ -123,13 +126,13 @@ fn with_lists<E: ListEntry>(
     requires size { HasSize grid.now }
     requires last { IfSome last.old (IsList (E.kind lists) (E.Valid (cell_count grid.now))) }
     ensures periods { GivesText (λ v. v.items) result (last.new, lines.new)
-        (for_each (period_at (E.kind lists) file.now grid.now) periods.items (last.old, lines.old)) }
+        (for_each (period_at limits (E.kind lists) file.now grid.now) periods.items (last.old, lines.old)) }
     ensures lists { IfOk result (λ v. All (λ p. IsList (E.kind lists) (E.Valid (cell_count grid.now)) ((E.kind lists).list p.stresses)) v.items) }
     ensures others { IfOk result (λ v. map (without (E.kind lists)) v.items ≡ map (without (E.kind lists)) periods.items) }
 {
     let mut whole = Vec::new(alloc);
     for period in periods {
-        let period = period_at::<E>(alloc, lists, lines, file, grid, period, last)?;
+        let period = period_at::<E>(alloc, limits, lists, lines, file, grid, period, last)?;
         whole.push(period)?;
     }
     Ok(whole)
@@ -139,6 +142,7 @@ fn with_lists<E: ListEntry>(
 #[tactic(auto, unfolding(crate::specs::Lists::periods_of))]
 pub fn periods_of<E: ListEntry>(
     alloc: Global,
+    limits: Limits,
     lists: E::Lists,
     lines: &mut Lines,
     file: &str,
@@ -146,11 +150,11 @@ pub fn periods_of<E: ListEntry>(
     periods: Vec<Period>,
 ) -> Result<Vec<Period>, TextFault>
     requires size { HasSize grid.now }
-    ensures periods { HasText (λ v. v.items) result (periods_of (E.kind lists) file.now grid.now periods.items lines.old) }
+    ensures periods { HasText (λ v. v.items) result (periods_of limits (E.kind lists) file.now grid.now periods.items lines.old) }
     ensures lists { IfOk result (λ v. All (λ p. IsList (E.kind lists) (E.Valid (cell_count grid.now)) ((E.kind lists).list p.stresses)) v.items) }
     ensures others { IfOk result (λ v. map (without (E.kind lists)) v.items ≡ map (without (E.kind lists)) periods.items) }
 {
     let mut last = None;
-    let periods = with_lists::<E>(alloc, lists, lines, file, grid, periods, &mut last)?;
+    let periods = with_lists::<E>(alloc, limits, lists, lines, file, grid, periods, &mut last)?;
     Ok(periods)
 }

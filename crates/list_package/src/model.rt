@@ -12,7 +12,7 @@ use crate::header::item_line;
 use crate::kind::ListEntry;
 use crate::lists::periods_of;
 use array_reader::integer;
-use model_types::{FlowModel, Grid, Listed, Period};
+use model_types::{FlowModel, Grid, Limits, Listed, Period};
 use outside::TextFault;
 use record_lines::{Lines, Words};
 use std::alloc::Global;
@@ -21,6 +21,7 @@ use std::alloc::Global;
 #[tactic(auto, unfolding(crate::specs::Lists::lists_of))]
 fn lists_of<E: ListEntry>(
     alloc: Global,
+    limits: Limits,
     lists: E::Lists,
     file: &str,
     bytes: &[u8],
@@ -28,7 +29,7 @@ fn lists_of<E: ListEntry>(
     periods: Vec<Period>,
 ) -> Result<Vec<Period>, TextFault>
     requires size { HasSize grid.now }
-    ensures periods { HasText (λ v. v.items) result (lists_of (E.kind lists) file.now bytes.now grid.now periods.items) }
+    ensures periods { HasText (λ v. v.items) result (lists_of limits (E.kind lists) file.now bytes.now grid.now periods.items) }
     ensures lists { IfOk result (λ v. All (λ p. IsList (E.kind lists) (E.Valid (cell_count grid.now)) ((E.kind lists).list p.stresses)) v.items) }
     ensures others { IfOk result (λ v. map (without (E.kind lists)) v.items ≡ map (without (E.kind lists)) periods.items) }
 {
@@ -36,48 +37,50 @@ fn lists_of<E: ListEntry>(
     lines.skip_comments();
     let line = item_line(alloc, &mut lines, file)?;
     integer(alloc, &mut Words::of(&line), file, line.number)?;
-    periods_of::<E>(alloc, lists, &mut lines, file, grid, periods)
+    periods_of::<E>(alloc, limits, lists, &mut lines, file, grid, periods)
 }
 
 #[tactic(auto, unfolding(crate::specs::Lists::package_of))]
 fn package_of<E: ListEntry>(
     alloc: Global,
+    limits: Limits,
     lists: E::Lists,
     file: &str,
     bytes: &[u8],
     model: FlowModel,
 ) -> Result<FlowModel, TextFault>
     requires size { HasSize model.grid }
-    ensures model { HasText (λ m. m) result (package_of (E.kind lists) file.now bytes.now model) }
+    ensures model { HasText (λ m. m) result (package_of limits (E.kind lists) file.now bytes.now model) }
     ensures lists { IfOk result (λ m. All (λ p. IsList (E.kind lists) (E.Valid (cell_count model.grid)) ((E.kind lists).list p.stresses)) m.periods) }
     ensures others { IfOk result (SameBut (E.kind lists) model) }
 {
     let periods = model.periods.into_vec();
-    let periods = lists_of::<E>(alloc, lists, file, bytes, &model.grid, periods)?;
+    let periods = lists_of::<E>(alloc, limits, lists, file, bytes, &model.grid, periods)?;
     Ok(FlowModel {
         periods: Listed::new(periods),
         ..model
     })
 }
 
-/// The model with the lists of a package's file in its periods. `file` is the file's name, for refusals. A list that
+/// The model with the lists of a package's file in its periods, by these limits. `file` is the file's name, for refusals. A list that
 /// a period reuses is shared, so it is in memory once.
 ///
 /// # Errors
 /// The first item that is wrong is refused on its line.
 pub fn read_package<E: ListEntry>(
     alloc: Global,
+    limits: Limits,
     lists: E::Lists,
     file: &str,
     bytes: &[u8],
     model: FlowModel,
 ) -> Result<FlowModel, TextFault>
     requires size { HasSize model.grid }
-    ensures model { HasText (λ m. m) result (package_of (E.kind lists) file.now bytes.now model) }
+    ensures model { HasText (λ m. m) result (package_of limits (E.kind lists) file.now bytes.now model) }
     ensures lists { IfOk result (λ m. All (λ p. IsList (E.kind lists) (E.Valid (cell_count model.grid)) ((E.kind lists).list p.stresses)) m.periods) }
     ensures others { IfOk result (SameBut (E.kind lists) model) }
     ensures valid { IsModel model → IfOk result IsModel }
 {
     E::lists_keep_limits(lists);
-    package_of::<E>(alloc, lists, file, bytes, model)
+    package_of::<E>(alloc, limits, lists, file, bytes, model)
 }

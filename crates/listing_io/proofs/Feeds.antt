@@ -61,14 +61,14 @@ part_below : (n p top : ℕ) → n < top → n % p < top
 part_below n zero top h = omega (arith, h)
 part_below n (suc p) top h = omega (arith, h)
 
-place_small : (g : Grid) (c : ℕ) → c < 65536 → AllByRecursion (λ n. n < 10 ^ 64) (place g c)
+place_small : (g : Grid) (c : ℕ) → c < 4194304 → AllByRecursion (λ n. n < 10 ^ 64) (place g c)
 place_small g c h =
-    let k : c / layer_size g < 65536 = below c (layer_size g) 65536 h in
-    let i : c / g.cols % g.rows < 65536 = part_below (c / g.cols) g.rows 65536 (below c g.cols 65536 h) in
-    let j : c % g.cols < 65536 = part_below c g.cols 65536 h in
+    let k : c / layer_size g < 4194304 = below c (layer_size g) 4194304 h in
+    let i : c / g.cols % g.rows < 4194304 = part_below (c / g.cols) g.rows 4194304 (below c g.cols 4194304 h) in
+    let j : c % g.cols < 4194304 = part_below c g.cols 4194304 h in
     (omega (arith, k), (omega (arith, i), (omega (arith, j), tt)))
 
-front_without : (g : Grid) (c : ℕ) → c < 65536 → NoFeed (head_front g c)
+front_without : (g : Grid) (c : ℕ) → c < 4194304 → NoFeed (head_front g c)
 front_without g c h =
     Without-append 10 (codes "HEAD" ++ numbers_text (place g c)) (codes " ")
     (Without-append 10 (codes "HEAD") (numbers_text (place g c)) (by_test (codes "HEAD") refl) (numbers_without (place g c) (place_small g c h)))
@@ -78,16 +78,16 @@ all_appended : {X : Type 0} (P : X → Type 0) (xs ys : List X) → AllByRecursi
 all_appended P [] ys h k = k
 all_appended P (x ∷ xs) ys h k = (h.0, all_appended P xs ys h.1 k)
 
-cell_without : (g : Grid) (c : ℕ) (flag : Bool) (b : Bound) → c < 65536 → NoFeed (head_line g c b) → AllByRecursion NoFeed (cond flag (head_line g c b ∷ []) [])
+cell_without : (g : Grid) (c : ℕ) (flag : Bool) (b : Bound) → c < 4194304 → NoFeed (head_line g c b) → AllByRecursion NoFeed (cond flag (head_line g c b ∷ []) [])
 cell_without g c true b lt h = (h, tt)
 cell_without g c false b lt h = tt
 
-heads_without : (m : FlowModel) (c : ℕ) (bs : List Bound) → c + length bs ≤ 65536 → AreCellBounds m c bs → AllByRecursion NoFeed (head_lines m c bs)
+heads_without : (m : FlowModel) (c : ℕ) (bs : List Bound) → c + length bs ≤ 4194304 → AreCellBounds m c bs → AllByRecursion NoFeed (head_lines m c bs)
 unfolding head_lines
 heads_without m c [] few h = tt
 heads_without m c (b ∷ bs) few h =
-    let lt : c < 65536 = omega (arith, few) in
-    let more : c + 1 + length bs ≤ 65536 = omega (arith, few) in
+    let lt : c < 4194304 = omega (arith, few) in
+    let more : c + 1 + length bs ≤ 4194304 = omega (arith, few) in
     all_appended NoFeed (cond (is_active m c) (head_line m.grid c b ∷ []) []) (head_lines m (c + 1) bs)
     (cell_without m.grid c (is_active m c) b lt (pair_without (head_front m.grid c) head_form (head_pair b) (head_fits b h.0.low h.0.high) (front_without m.grid c lt) tt))
     (heads_without m (c + 1) bs more h.1)
@@ -174,7 +174,7 @@ step_without m s zs at x good pairs time h g =
     let o = eight_of x.budget.out h.out.eight in
     let cells = good.size.cells in
     let whole = h.whole in
-    let few : 0 + length x.heads ≤ 65536 = omega (arith, cells, whole) in (
+    let few : 0 + length x.heads ≤ 4194304 = omega (arith, cells, whole) in (
       title_without at time,
       all_appended NoFeed (head_lines m 0 x.heads) (term_lines m s In x.budget ++ (term_lines m s Out x.budget ++ map (zone_line s) x.zones)) (heads_without m 0 x.heads few h.heads)
           (all_appended NoFeed (term_lines m s In x.budget) (term_lines m s Out x.budget ++ map (zone_line s) x.zones) (terms_without m s In (term_lines m s In x.budget) x.budget.into i good.digits h.into (lines_in m s x.budget.into x.budget.out i.a i.b i.c i.d i.e i.f i.g i.x i.are))

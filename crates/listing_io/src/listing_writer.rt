@@ -129,7 +129,7 @@ fn push_cell(
 
 fn push_heads(text: &mut Vec<u8>, model: &FlowModel, heads: &[Bound]) -> Result<(), AllocError>
     requires size { HasSize model.now.grid }
-    requires few { length heads.now ≤ 65536 }
+    requires few { length heads.now ≤ 4194304 }
     ensures { IfOk result (λ _. text.new.items ≡ text.old.items ++ text_of (head_lines model.now 0 heads.now)) }
 {
     for cell in 0..heads.len() {

@@ -24,10 +24,10 @@ no_cell m bs c s whole past so_far =
     sym none ∙ so_far
 
 -- a sum that fits has room for one head more
-pub low_room : (s : Summary) → Fits s → s.heads < 6553600000 → IsWithin s.low_sum (2 ^ 100)
+pub low_room : (s : Summary) → Fits s → s.heads < 419430400000 → IsWithin s.low_sum (2 ^ 101)
 low_room s fits room = record { above = omega (arith, ints, fits.low.above); below = omega (arith, ints, fits.low.below) }
 
-pub high_room : (s : Summary) → Fits s → s.heads < 6553600000 → IsWithin s.high_sum (2 ^ 100)
+pub high_room : (s : Summary) → Fits s → s.heads < 419430400000 → IsWithin s.high_sum (2 ^ 101)
 high_room s fits room = record { above = omega (arith, ints, fits.high.above); below = omega (arith, ints, fits.high.below) }
 
 -- the sums fit, counted or not

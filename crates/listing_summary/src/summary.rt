@@ -22,7 +22,7 @@ pub struct Summary {
 }
 
 fn plus(sum: i128, head: i64) -> i128
-    requires sum { IsWithin sum (2 ^ 100) }
+    requires sum { IsWithin sum (2 ^ 101) }
     requires head { IsHead head }
     ensures { result ≡ sum +ℤ head }
 {
@@ -59,7 +59,7 @@ impl Summary {
 
     #[tactic(auto, using(crate::proofs::Counts::low_room, crate::proofs::Counts::high_room))]
     fn add(&mut self, bound: Bound)
-        requires room { self.old.heads < 6553600000 }
+        requires room { self.old.heads < 419430400000 }
         requires fits { Fits self.old }
         requires low { IsHead bound.low }
         requires high { IsHead bound.high }
@@ -72,7 +72,7 @@ impl Summary {
     }
 
     fn count(&mut self, bound: Bound)
-        requires room { self.old.heads < 6553600000 }
+        requires room { self.old.heads < 419430400000 }
         requires fits { Fits self.old }
         requires low { IsHead bound.low }
         requires high { IsHead bound.high }
@@ -84,7 +84,7 @@ impl Summary {
 
     // Counts a cell, if it has a line.
     fn count_cell(&mut self, model: &FlowModel, cell: u32, bound: Bound)
-        requires room { self.old.heads < 6553600000 }
+        requires room { self.old.heads < 419430400000 }
         requires fits { Fits self.old }
         requires low { IsHead bound.low }
         requires high { IsHead bound.high }
@@ -98,8 +98,8 @@ impl Summary {
     }
 
     fn count_heads(&mut self, model: &FlowModel, heads: &[Bound])
-        requires few { length heads.now ≤ 65536 }
-        requires room { self.old.heads + length heads.now ≤ 6553600000 }
+        requires few { length heads.now ≤ 4194304 }
+        requires room { self.old.heads + length heads.now ≤ 419430400000 }
         requires fits { Fits self.old }
         requires range { All (λ b. IsHead b.low × IsHead b.high) heads.now }
         ensures is { self.new ≡ fold counted self.old (printed model.now 0 heads.now) }
@@ -114,8 +114,8 @@ impl Summary {
     /// Counts a step with these heads of all cells.
     pub(crate) fn count_step(&mut self, model: &FlowModel, heads: &[Bound])
         requires steps { self.old.steps < 100000 }
-        requires few { length heads.now ≤ 65536 }
-        requires room { self.old.heads + length heads.now ≤ 6553600000 }
+        requires few { length heads.now ≤ 4194304 }
+        requires room { self.old.heads + length heads.now ≤ 419430400000 }
         requires fits { Fits self.old }
         requires range { All (λ b. IsHead b.low × IsHead b.high) heads.now }
         ensures is { self.new ≡ stepped model.now self.old heads.now }

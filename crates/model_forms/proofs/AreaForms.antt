@@ -30,7 +30,7 @@ pub record AreOfGrid (g : Grid) (xs : List ℤ) : Type 0 where
 layer_short : (g : Grid) (z : ℤ) → HasSize g → is_layer g z ≡ true → IsShort z
 layer_short g (pos n) size h =
     let le : n ≤ g.layers = leb-true n g.layers h in
-    let few : g.layers ≤ 64 = size.layers.1 in
+    let few : g.layers ≤ 1024 = size.layers.1 in
     record { few = omega arith }
 layer_short g (negsuc n) size h = absurd (let clash : false ≡ true = h in cc)
 

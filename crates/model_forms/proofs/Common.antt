@@ -59,10 +59,12 @@ pub use Rattle.model_text.specs.Writable.{HasNoEvaporation, HasNoRecharge, IsDry
 pub use Rattle.model_types.specs.Cells.{cell_count, cell_number, layer_size}
 pub use Rattle.model_types.specs.Grids.{HasSize, IsGrid}
 pub use Rattle.model_types.specs.Layers.{int_at, is_nonzero, no_number}
+pub use Rattle.model_types.specs.Limits.{most_cells, most_entries, most_in_row, most_layers}
 pub use Rattle.model_types.specs.Numbers.{IsPositive}
 pub use Rattle.model_types.specs.Valid.{IsGrowing, IsTimed, number_one}
 pub use Rattle.model_types.specs.declared.grid.CellId.{CellId}
 pub use Rattle.model_types.specs.declared.grid.Grid.{Grid}
+pub use Rattle.model_types.specs.declared.limits.Limits.{Limits}
 pub use Rattle.model_types.specs.declared.model.FlowModel.{FlowModel}
 pub use Rattle.model_types.specs.declared.period.Period.{Period}
 pub use Rattle.name_file.specs.Pairs.{Pairs, file_of}
@@ -78,7 +80,7 @@ pub use Rattle.outside.specs.declared.codes.Code.TheVariants.{BadGrid, BadProper
 pub use Rattle.outside.specs.declared.refusals.Refusal.{Refusal}
 pub use Rattle.package_items.specs.Items.{zero_list}
 unfoldable pub use Rattle.package_items.specs.Items.{layer_or, zero_at}
-pub use Rattle.package_text.specs.Readable.{HasFlow, IsBasic, IsDiscretized, IsOfBeds}
+pub use Rattle.package_text.specs.Readable.{HasFlow, IsBasic, IsDiscretized, IsGridWithin, IsOfBeds}
 pub use Rattle.period_arrays.specs.Areas.{array_or, nothing_yet}
 unfoldable pub use Rattle.period_arrays.specs.Areas.{area_at, arrays_of}
 pub use Rattle.period_arrays.specs.Flags.{flag_if, is_negative, is_option}

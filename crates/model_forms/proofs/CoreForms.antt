@@ -1,7 +1,7 @@
 -- What is known of a model after LPF.
 use Rattle.model_forms.proofs.Common.{◌≡◌, ℕ, ◌≤◌, ℤ, pos, Bool, List, length, sum, sum_by, All, Ok, refl, sym, ap, subst, ◌∙◌, Dec, IsDec, Grid, FlowModel}
 use Rattle.model_forms.proofs.Common.{Period, cell_count, IsGrid, IsTimed, IsNewPeriod, with_properties, SameBut, Properties, checked, fault_at, Check}
-use Rattle.model_forms.proofs.Common.{Thickness, StartHead, IsShort, IsOfBeds, IsDiscretized, HasFlow}
+use Rattle.model_forms.proofs.Common.{Thickness, StartHead, IsShort, IsOfBeds, IsDiscretized, HasFlow, Limits, IsGridWithin}
 use Rattle.cell_checks.specs.declared.passing.Check.TheVariants.{Properties as PropertyCheck}
 use Rattle.model_forms.proofs.BasForms.{HasBasics}
 use Rattle.model_forms.proofs.CheckForms.{checked_again}
@@ -22,8 +22,9 @@ discretized_again m n grid lenuni many sum times d = record {
 }
 
 -- what is known of a model after LPF
-pub record IsFlow (m : FlowModel) : Type 0 where
+pub record IsFlow (limits : Limits) (m : FlowModel) : Type 0 where
   pub discretized : IsDiscretized m
+  pub within : IsGridWithin limits m.grid
   pub ibound : length m.ibound ≡ cell_count m.grid
   pub strt : (length m.strt ≡ cell_count m.grid) × All IsDec m.strt
   pub flow : HasFlow m
@@ -51,9 +52,9 @@ all_passed basic flow dis bas lpf same thick heads good StartHead file =
     checked_again flow bas file StartHead there
 all_passed basic flow dis bas lpf same thick heads good PropertyCheck file = checked_again flow lpf file PropertyCheck good
 
-pub flow_is : (b basic flow : FlowModel) (dis bas lpf : List ℕ) → IsStarted b → HasBasics b basic → HasFlow flow → SameBut basic flow
-    → checked basic dis Thickness ≡ Ok tt → checked basic bas StartHead ≡ Ok tt → checked flow lpf PropertyCheck ≡ Ok tt → IsFlow flow
-flow_is b basic flow dis bas lpf started basics has same thick heads good =
+pub flow_is : (limits : Limits) (b basic flow : FlowModel) (dis bas lpf : List ℕ) → IsStarted limits b → HasBasics b basic → HasFlow flow → SameBut basic flow
+    → checked basic dis Thickness ≡ Ok tt → checked basic bas StartHead ≡ Ok tt → checked flow lpf PropertyCheck ≡ Ok tt → IsFlow limits flow
+flow_is limits b basic flow dis bas lpf started basics has same thick heads good =
     let grid : flow.grid ≡ b.grid = ap (λ (m : FlowModel). m.grid) same ∙ ap (λ (m : FlowModel). m.grid) basics.only in
     let lenuni : flow.lenuni ≡ b.lenuni = ap (λ (m : FlowModel). m.lenuni) same ∙ ap (λ (m : FlowModel). m.lenuni) basics.only in
     let periods : flow.periods ≡ b.periods = ap (λ (m : FlowModel). m.periods) same ∙ ap (λ (m : FlowModel). m.periods) basics.only in
@@ -65,6 +66,7 @@ flow_is b basic flow dis bas lpf started basics has same thick heads good =
     let times : All IsTimed flow.periods = subst (λ (ps : List Period). All IsTimed ps) (sym periods) started.discretized.times in
     record {
       discretized = discretized_again b flow grid lenuni (ap (λ (ps : List Period). length ps) periods) (ap (λ (ps : List Period). sum_by (λ p. p.nstp) ps) periods) times started.discretized;
+      within = subst (λ (g : Grid). IsGridWithin limits g) (sym grid) started.within;
       ibound = ap (λ (zs : List ℤ). length zs) ibound ∙ basics.ibound ∙ cells;
       strt = (ap (λ (ds : List Dec). length ds) strt ∙ basics.strt.0 ∙ cells, subst (λ (ds : List Dec). All IsDec ds) (sym strt) basics.strt.1);
       flow = has;

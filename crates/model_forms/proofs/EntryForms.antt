@@ -3,7 +3,7 @@ use Rattle.model_forms.proofs.Common.{◌≡◌, ℕ, zero, suc, ◌-◌, ◌<�
 use Rattle.model_forms.proofs.Common.{Ok, refl, sym, ap, ◌∙◌, arith, AllPairs, get_or-set_same, get_or-set_other, length-set, length-replicate, All-nil}
 use Rattle.model_forms.proofs.Common.{All-cons, Dec, IsDec, refusal, words, Code, OutOfProfile, CellOutside, BadProperty, Refusal, line_at, Left, ◌>>=◌}
 use Rattle.model_forms.proofs.Common.{repeated, number_at, number, integer, CellId, Grid, cell_count, cell_number, HasSize, within, Kind, first_fault, item_is}
-use Rattle.model_forms.proofs.Common.{number_is, clash, goes, ends, repeated_are, IsEntry}
+use Rattle.model_forms.proofs.Common.{number_is, clash, goes, ends, repeated_are, IsEntry, Limits, most_entries}
 use Rattle.std.proofs.lemmas.List.Kept.{AllPairs-cons}
 use Rattle.model_types.proofs.Numbering.{cell_within}
 use Rattle.list_package.specs.Entries.{inside, cell_at, passed, entry_of, is_left_out, entry_at, no_marks, new_list}
@@ -59,16 +59,16 @@ module _ {E : Type 0} (kind : Kind E) (cells : ℕ) where
     pub once : length marks ≡ cells → AllPairs (Differ kind) xs
 
   -- a list of a period, whichever the period
-  pub record IsNewList (xs : List E) : Type 0 where
-    pub few : length xs ≤ 65536
+  pub record IsNewList (limits : Limits) (xs : List E) : Type 0 where
+    pub few : length xs ≤ most_entries limits
     pub entries : All (IsEntry kind cells) xs
     pub once : kind.once ≡ true → AllPairs (Differ kind) xs
 
   no_pairs : AllPairs (Differ kind) []
   no_pairs i j d lt low = absurd (omega (arith, low))
 
-  pub no_list : IsNewList []
-  no_list = record { few = omega arith; entries = All-nil (IsEntry kind cells); once = λ e. no_pairs }
+  pub no_list : (limits : Limits) → IsNewList limits []
+  no_list limits = record { few = omega arith; entries = All-nil (IsEntry kind cells); once = λ e. no_pairs }
 
 module _ {E : Type 0} (kind : Kind E) (placed : (c : CellId) (ds : List Dec) → kind.place (kind.entry c ds) ≡ c.0) (file : List ℕ) (g : Grid) (size : HasSize g) where
   entry_is : (line : ℕ) (marks : List Bool) (ws : List (List ℕ)) (x : E × CellId) → entry_of kind file line g marks ws ≡ Ok x → IsNew kind (cell_count g) marks x.0 x.1
@@ -150,12 +150,12 @@ module _ {E : Type 0} (kind : Kind E) (placed : (c : CellId) (ds : List Dec) →
       } in
       ends {E = Refusal} (λ (y : List E × (List Bool × Left)). AreEntries kind (cell_count g) (suc n) s.0 y.0) (a.item.0 ∷ b.item.0, b.item.1) x b.then_ are
 
-  pub new_list_is : (n : ℕ) (left : Left) (x : List E × Left) → n ≤ 65536 → new_list kind file g n left ≡ Ok x → IsNewList kind (cell_count g) x.0
+  pub new_list_is : (limits : Limits) (n : ℕ) (left : Left) (x : List E × Left) → n ≤ most_entries limits → new_list kind file g n left ≡ Ok x → IsNewList kind (cell_count g) limits x.0
   unfolding new_list
-  new_list_is n left x few h =
+  new_list_is limits n left x few h =
       let a = goes (repeated n (entry_at kind file g) (no_marks kind g, left)) _ x h in
       let are = entries_are n (no_marks kind g, left) a.item a.first in
       let marks : kind.once ≡ true → length (no_marks kind g) ≡ cell_count g = λ e. length-replicate (cond kind.once (cell_count g) 0) false ∙ ap (λ (b : Bool). cond b (cell_count g) 0) e in
       let counted : length a.item.0 ≡ n = are.count in
-      let is : IsNewList kind (cell_count g) a.item.0 = record { few = omega (arith, few, counted); entries = are.entries; once = λ e. are.once (marks e) } in
-      ends {E = Refusal} (λ (y : List E × Left). IsNewList kind (cell_count g) y.0) (a.item.0, a.item.1.1) x a.then_ is
+      let is : IsNewList kind (cell_count g) limits a.item.0 = record { few = omega (arith, few, counted); entries = are.entries; once = λ e. are.once (marks e) } in
+      ends {E = Refusal} (λ (y : List E × Left). IsNewList kind (cell_count g) limits y.0) (a.item.0, a.item.1.1) x a.then_ is

@@ -3,8 +3,9 @@ use Rattle.model_forms.proofs.Common.{◌≡◌, ℕ, ◌-◌, ◌*◌, ◌<◌,
 use Rattle.model_forms.proofs.Common.{Some, None, Ok, refl, arith, ℤ, pos, negsuc, if◌then◌else◌, and_parts, leb-true, ltb-true, eqb-true, not-false}
 use Rattle.model_forms.proofs.Common.{length-append, All-push, refusal, words, BadGrid, OutOfProfile, Refusal, line_at, Left, repeated, number_at, value_at}
 use Rattle.model_forms.proofs.Common.{value_alone, integer, int_at, is_nonzero, within, zero_at, head_of, IsSize, IsFrame, count_at, size_at, frame_of, Size}
-use Rattle.model_forms.proofs.Common.{IsShort, item_is, value_is, integer_is, clash, goes, ends, repeated_are}
+use Rattle.model_forms.proofs.Common.{IsShort, item_is, value_is, integer_is, clash, goes, ends, repeated_are, Limits, most_layers, most_in_row, most_cells}
 use Rattle.record_lines.specs.Spread.{Taking, beginning}
+use Rattle.model_types.proofs.WideLimits.{layers_few, in_row_few, cells_few}
 use Rattle.dis_package.specs.Beds.{beds_of}
 use Rattle.dis_package.specs.Frames.{inside}
 use Rattle.dis_package.specs.declared.frame.Frame.{Frame}
@@ -30,6 +31,16 @@ within_is (pos k) limit n h = by_case (nat_lt 0 k && nat_le k limit) refl h
     by_case false e so = absurd cc
 within_is (negsuc k) limit n h = absurd cc
 
+below_wide : {a b c : ℕ} → a ≤ b → b ≤ c → a ≤ c
+below_wide h k = omega (arith, h, k)
+
+-- the size of a grid of at most these limits
+pub record IsSizeWithin (limits : Limits) (s : Size) : Type 0 where
+  pub layers : s.layers ≤ most_layers limits
+  pub rows : s.rows ≤ most_in_row limits
+  pub cols : s.cols ≤ most_in_row limits
+  pub cells : s.layers * (s.rows * s.cols) ≤ most_cells limits
+
 module _ (file : List ℕ) where
   pub count_is : (line limit : ℕ) (ws : List (List ℕ)) (x : ℕ × List (List ℕ)) → count_at file line limit ws ≡ Ok x → (1 ≤ x.0) × (x.0 ≤ limit)
   unfolding count_at
@@ -39,35 +50,41 @@ module _ (file : List ℕ) where
       let is = within_is z.item.0 limit n.item (inside_is (within z.item.0 limit) (refusal BadGrid file line) n.item n.first) in
       ends {E = Refusal} (λ (y : ℕ × List (List ℕ)). (1 ≤ y.0) × (y.0 ≤ limit)) (n.item, z.item.1) x n.then_ is
 
-  size_is : (line : ℕ) (ws : List (List ℕ)) (x : Size × List (List ℕ)) → size_at file line ws ≡ Ok x → IsSize x.0
+  size_is : (limits : Limits) (line : ℕ) (ws : List (List ℕ)) (x : Size × List (List ℕ)) → size_at limits file line ws ≡ Ok x → IsSize x.0 × IsSizeWithin limits x.0
   unfolding size_at
-  size_is line ws x h =
-      let k = goes (count_at file line 64 ws) _ x h in
-      let i = goes (count_at file line 1024 k.item.1) _ x k.then_ in
-      let j = goes (count_at file line 1024 i.item.1) _ x i.then_ in
+  size_is limits line ws x h =
+      let k = goes (count_at file line (most_layers limits) ws) _ x h in
+      let i = goes (count_at file line (most_in_row limits) k.item.1) _ x k.then_ in
+      let j = goes (count_at file line (most_in_row limits) i.item.1) _ x i.then_ in
       let s : Size = record { layers = k.item.0; rows = i.item.0; cols = j.item.0 } in
-      let t = if_true x (nat_le (k.item.0 * (i.item.0 * j.item.0)) 65536) (refusal BadGrid file line) (Ok (s, j.item.1)) j.then_ in
+      let t = if_true x (nat_le (k.item.0 * (i.item.0 * j.item.0)) (most_cells limits)) (refusal BadGrid file line) (Ok (s, j.item.1)) j.then_ in
+      let layers = count_is line (most_layers limits) ws k.item k.first in
+      let rows = count_is line (most_in_row limits) k.item.1 i.item i.first in
+      let cols = count_is line (most_in_row limits) i.item.1 j.item j.first in
+      let cells : k.item.0 * (i.item.0 * j.item.0) ≤ most_cells limits = leb-true (k.item.0 * (i.item.0 * j.item.0)) (most_cells limits) t.0 in
       let is : IsSize s = record {
-        layers = count_is line 64 ws k.item k.first;
-        rows = count_is line 1024 k.item.1 i.item i.first;
-        cols = count_is line 1024 i.item.1 j.item j.first;
-        cells = leb-true (k.item.0 * (i.item.0 * j.item.0)) 65536 t.0;
+        layers = (layers.0, below_wide layers.1 (layers_few limits));
+        rows = (rows.0, below_wide rows.1 (in_row_few limits));
+        cols = (cols.0, below_wide cols.1 (in_row_few limits));
+        cells = below_wide cells (cells_few limits);
       } in
-      ends {E = Refusal} (λ (y : Size × List (List ℕ)). IsSize y.0) (s, j.item.1) x t.1 is
+      let within : IsSizeWithin limits s = record { layers = layers.1; rows = rows.1; cols = cols.1; cells = cells } in
+      ends {E = Refusal} (λ (y : Size × List (List ℕ)). IsSize y.0 × IsSizeWithin limits y.0) (s, j.item.1) x t.1 (is, within)
 
   pub integer_at_is : (line : ℕ) (ws : List (List ℕ)) (x : ℤ × List (List ℕ)) → number_at integer file line ws ≡ Ok x → IsShort x.0
   integer_at_is line ws x h = item_is integer (λ z. IsShort z) integer_is file line ws x h
 
-  frame_is : (line : ℕ) (ws : List (List ℕ)) (f : Frame) → frame_of file line ws ≡ Ok f → IsFrame f × IsShort f.lenuni
+  frame_is : (limits : Limits) (line : ℕ) (ws : List (List ℕ)) (f : Frame) → frame_of limits file line ws ≡ Ok f → IsFrame f × IsShort f.lenuni × IsSizeWithin limits f.size
   unfolding frame_of
-  frame_is line ws f h =
-      let s = goes (size_at file line ws) _ f h in
+  frame_is limits line ws f h =
+      let s = goes (size_at limits file line ws) _ f h in
       let n = goes (count_at file line 1000 s.item.1) _ f s.then_ in
       let t = goes (number_at integer file line n.item.1) _ f n.then_ in
       let u = goes (number_at integer file line t.item.1) _ f t.then_ in
       let made : Frame = record { size = s.item.0; periods = n.item.0; lenuni = u.item.0 } in
-      let is : IsFrame made = record { size = size_is line ws s.item s.first; periods = count_is line 1000 s.item.1 n.item n.first } in
-      ends {E = Refusal} (λ (y : Frame). IsFrame y × IsShort y.lenuni) made f u.then_ (is, integer_at_is line t.item.1 u.item u.first)
+      let size = size_is limits line ws s.item s.first in
+      let is : IsFrame made = record { size = size.0; periods = count_is line 1000 s.item.1 n.item n.first } in
+      ends {E = Refusal} (λ (y : Frame). IsFrame y × IsShort y.lenuni × IsSizeWithin limits y.size) made f u.then_ (is, integer_at_is line t.item.1 u.item u.first, size.1)
 
 zero_short : IsShort (pos 0)
 zero_short = record { few = omega arith }
@@ -107,12 +124,12 @@ module _ (file : List ℕ) where
       ends {E = Refusal} (λ (y : List ℤ × Left). AreBeds layers y.0) (above.item.0 ++ last.item.0 ∷ [], last.item.1.1) x last.then_ is
 
   -- the first line, and LAYCBD
-  pub head_is : (left : Left) (x : (Frame × List ℤ) × Left) → head_of file left ≡ Ok x → IsFrame x.0.0 × IsShort x.0.0.lenuni × AreBeds x.0.0.size.layers x.0.1
+  pub head_is : (limits : Limits) (left : Left) (x : (Frame × List ℤ) × Left) → head_of limits file left ≡ Ok x → IsFrame x.0.0 × IsShort x.0.0.lenuni × AreBeds x.0.0.size.layers x.0.1 × IsSizeWithin limits x.0.0.size
   unfolding head_of
-  head_is left x h =
+  head_is limits left x h =
       let line = goes (line_at file left) _ x h in
-      let frame = goes (frame_of file line.item.0.number (words line.item.0.bytes)) _ x line.then_ in
+      let frame = goes (frame_of limits file line.item.0.number (words line.item.0.bytes)) _ x line.then_ in
       let beds = goes (beds_of file frame.item.size.layers line.item.1) _ x frame.then_ in
-      let f = frame_is file line.item.0.number (words line.item.0.bytes) frame.item frame.first in
+      let f = frame_is file limits line.item.0.number (words line.item.0.bytes) frame.item frame.first in
       let b = beds_are frame.item.size.layers line.item.1 beds.item f.0.size.layers.0 beds.first in
-      ends {E = Refusal} (λ (y : (Frame × List ℤ) × Left). IsFrame y.0.0 × IsShort y.0.0.lenuni × AreBeds y.0.0.size.layers y.0.1) ((frame.item, beds.item.0), beds.item.1) x beds.then_ (f.0, f.1, b)
+      ends {E = Refusal} (λ (y : (Frame × List ℤ) × Left). IsFrame y.0.0 × IsShort y.0.0.lenuni × AreBeds y.0.0.size.layers y.0.1 × IsSizeWithin limits y.0.0.size) ((frame.item, beds.item.0), beds.item.1) x beds.then_ (f.0, f.1, b, f.2)

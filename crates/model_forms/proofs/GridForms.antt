@@ -3,10 +3,10 @@ use Rattle.model_forms.proofs.Common.{◌≡◌, ℕ, ◌+◌, ◌*◌, Bool, tr
 use Rattle.model_forms.proofs.Common.{length-replicate, All-nil, All-append, All-replicate, Dec, IsDec, File, refusal, BadGrid, Refusal, Left, array_at}
 use Rattle.model_forms.proofs.Common.{real_layer, real, Grid, layer_size, IsGrid, HasSize, int_at, is_nonzero, no_number, IsPositive, is_positive, no_number_is}
 use Rattle.model_forms.proofs.Common.{layer_or, IsSize, widths, bottom_at, bottoms_of, grid_of, Size, arrays, array_is, number_is, multiplied_is, goes, ends}
-use Rattle.model_forms.proofs.Common.{IsOfBeds}
+use Rattle.model_forms.proofs.Common.{IsOfBeds, Limits, IsGridWithin}
 use Rattle.number_limits.proofs.SignLemmas.{all_positive_of}
 use Rattle.dis_package.specs.declared.bottoms.Bottoms.{Bottoms}
-use Rattle.model_forms.proofs.FrameForms.{AreBeds}
+use Rattle.model_forms.proofs.FrameForms.{AreBeds, IsSizeWithin}
 use Rattle.model_forms.proofs.Parts.{if_true, all_counted, one_more, AreLayers, no_layers, one_more_layer}
 
 module _ (files : List File) (file : List ℕ) where
@@ -74,10 +74,10 @@ module _ (files : List File) (file : List ℕ) (size : Size) (laycbd : List ℤ)
       } in
       all_counted {E = Refusal} (bottom_at files file size laycbd) (AreBottoms size laycbd) one_bottom count (none, left) x h start
 
-  pub grid_is : (left : Left) (x : Grid × Left) → IsSize size → AreBeds size.layers laycbd → grid_of files file size laycbd left ≡ Ok x
-      → IsGrid x.0 × IsOfBeds x.0 x.0.bed_bottom × (x.0.laycbd ≡ laycbd)
+  pub grid_is : (limits : Limits) (left : Left) (x : Grid × Left) → IsSize size → IsSizeWithin limits size → AreBeds size.layers laycbd → grid_of files file size laycbd left ≡ Ok x
+      → IsGrid x.0 × IsOfBeds x.0 x.0.bed_bottom × (x.0.laycbd ≡ laycbd) × IsGridWithin limits x.0
   unfolding grid_of
-  grid_is left x limits beds h =
+  grid_is limits left x sizes w beds h =
       let delr = goes (widths files file size.cols left) _ x h in
       let delc = goes (widths files file size.rows delr.item.1) _ x delr.then_ in
       let top = goes (real_layer files file size.rows size.cols delc.item.1) _ x delc.then_ in
@@ -94,7 +94,8 @@ module _ (files : List File) (file : List ℕ) (size : Size) (laycbd : List ℤ)
         laycbd = laycbd;
         bed_bottom = bottoms.item.0.beds;
       } in
-      let sized : HasSize made = record { layers = limits.layers; rows = limits.rows; cols = limits.cols; cells = limits.cells } in
+      let sized : HasSize made = record { layers = sizes.layers; rows = sizes.rows; cols = sizes.cols; cells = sizes.cells } in
+      let within : IsGridWithin limits made = record { layers = w.layers; rows = w.rows; cols = w.cols; cells = w.cells } in
       let is : IsGrid made = record {
         size = sized;
         delr = widths_are files file size.cols left delr.item delr.first;
@@ -105,4 +106,4 @@ module _ (files : List File) (file : List ℕ) (size : Size) (laycbd : List ℤ)
         no_last_bed = beds.last;
         bed_bottom = (are.beds.count, are.decimals);
       } in
-      ends {E = Refusal} (λ (y : Grid × Left). IsGrid y.0 × IsOfBeds y.0 y.0.bed_bottom × (y.0.laycbd ≡ laycbd)) (made, bottoms.item.1) x bottoms.then_ (is, of_beds made bottoms.item.0.beds are.beds, refl)
+      ends {E = Refusal} (λ (y : Grid × Left). IsGrid y.0 × IsOfBeds y.0 y.0.bed_bottom × (y.0.laycbd ≡ laycbd) × IsGridWithin limits y.0) (made, bottoms.item.1) x bottoms.then_ (is, of_beds made bottoms.item.0.beds are.beds, refl, within)

@@ -3,7 +3,7 @@ use Rattle.model_forms.proofs.Common.{◌≡◌, ◌⊎◌, inl, inr, ℕ, ℤ, 
 use Rattle.model_forms.proofs.Common.{list_any, All-weaker, sum-map, File, file_at, Refusal, Pairs, Dis, Bas, Lpf, FlowModel, Period, cell_count, HasSize}
 use Rattle.model_forms.proofs.Common.{IsTimed, bas_of, is_transient, lpf_of, SameBut, checked, fault_at, Check, Thickness, StartHead, steps, same_count}
 use Rattle.model_forms.proofs.Common.{same_view, dis_in, basics_tested, bas_in, lpf_in, model_of, reads, goes, ends, IsShort, HasFlow, IsRecharged}
-use Rattle.model_forms.proofs.Common.{IsEvaporating, IsDry, IsStill, HasNoRecharge, HasNoEvaporation, IsWritable}
+use Rattle.model_forms.proofs.Common.{IsEvaporating, IsDry, IsStill, HasNoRecharge, HasNoEvaporation, IsWritable, Limits}
 use Rattle.cell_checks.specs.declared.passing.Check.TheVariants.{Properties as PropertyCheck}
 use Rattle.model_reader.specs.Names.{names_in, needed}
 use Rattle.model_forms.proofs.BasForms.{HasBasics, bas_is}
@@ -44,10 +44,10 @@ flow_again core nrchop nevtop ps same h = record {
   beds = h.beds;
 }
 
-module _ (core : FlowModel) (nrchop nevtop : ℤ) (ps : List Period) (f : IsFlow core) (short : All IsShort core.ibound)
-    (options : IsOption nrchop × IsOption nevtop) (same : map steps ps ≡ map steps core.periods) (each : All (IsKnown core.grid core.ibound nrchop nevtop) ps) where
+module _ (limits : Limits) (core : FlowModel) (nrchop nevtop : ℤ) (ps : List Period) (f : IsFlow limits core) (short : All IsShort core.ibound)
+    (options : IsOption nrchop × IsOption nevtop) (same : map steps ps ≡ map steps core.periods) (each : All (IsKnown limits core.grid core.ibound nrchop nevtop) ps) where
   abbrev Known : Period → Type 0
-  Known p = IsKnown core.grid core.ibound nrchop nevtop p
+  Known p = IsKnown limits core.grid core.ibound nrchop nevtop p
 
   abbrev m : FlowModel
   m = staged core nrchop nevtop ps
@@ -75,9 +75,10 @@ module _ (core : FlowModel) (nrchop nevtop : ℤ) (ps : List Period) (f : IsFlow
     passed = λ file k d lt. ((each k d lt).air e).passed file;
   })
 
-  writable : IsWritable m
+  writable : IsWritable limits m
   writable = record {
     discretization = discretized_again core m refl refl (same_count steps ps core.periods same) (same_sum ps core.periods same) (each_is IsTimed (λ p k. k.times)) f.discretized;
+    within = f.within;
     basic = record { ibound = (f.ibound, short); strt = f.strt };
     flow = flow_again core nrchop nevtop ps same f.flow;
     passed = λ check file. checks_kept core nrchop nevtop ps check file ∙ f.passed check file;
@@ -90,11 +91,11 @@ module _ (core : FlowModel) (nrchop nevtop : ℤ) (ps : List Period) (f : IsFlow
     evt = air_is options.1;
   }
 
-stressed_writable : (core n : FlowModel) → IsFlow core → IsStressed core n → All IsShort n.ibound → IsWritable n
-stressed_writable core n f s short =
+stressed_writable : (limits : Limits) (core n : FlowModel) → IsFlow limits core → IsStressed limits core n → All IsShort n.ibound → IsWritable limits n
+stressed_writable limits core n f s short =
     let ibound : n.ibound ≡ core.ibound = ap (λ (m : FlowModel). m.ibound) s.stage.is in
     let there : All IsShort core.ibound = subst (λ (zs : List ℤ). All IsShort zs) ibound short in
-    subst (λ (m : FlowModel). IsWritable m) (sym s.stage.is) (writable core s.nrchop s.nevtop n.periods f there s.options s.stage.same s.stage.each)
+    subst (λ (m : FlowModel). IsWritable limits m) (sym s.stage.is) (writable limits core s.nrchop s.nevtop n.periods f there s.options s.stage.same s.stage.each)
 
 -- a model with IBOUND and STRT that passed the tests of thickness and of starting heads
 record IsTested (dis bas : List ℕ) (begun basic : FlowModel) : Type 0 where
@@ -102,12 +103,12 @@ record IsTested (dis bas : List ℕ) (begun basic : FlowModel) : Type 0 where
   pub thick : checked basic dis Thickness ≡ Ok tt
   pub heads : checked basic bas StartHead ≡ Ok tt
 
-module _ (files : List File) where
-  begun_is : (dis : List ℕ) (m : FlowModel) → dis_in files dis ≡ Ok m → IsStarted m
+module _ (limits : Limits) (files : List File) where
+  begun_is : (dis : List ℕ) (m : FlowModel) → dis_in limits files dis ≡ Ok m → IsStarted limits m
   unfolding dis_in
   begun_is dis m h =
       let bytes = goes (file_at files dis) _ m h in
-      dis_is files dis bytes.item m bytes.then_
+      dis_is limits files dis bytes.item m bytes.then_
 
   both_tested : (dis bas : List ℕ) (basic : FlowModel) (u : Unit {0}) → basics_tested dis bas basic ≡ Ok u → (checked basic dis Thickness ≡ Ok tt) × (checked basic bas StartHead ≡ Ok tt)
   unfolding basics_tested
@@ -134,21 +135,21 @@ module _ (files : List File) where
       let is = lpf_is files lpf bytes.item basic read.item read.first in
       ends {E = Refusal} (λ (y : FlowModel). HasFlow y × SameBut basic y × (checked y lpf PropertyCheck ≡ Ok tt)) read.item flow good.then_ (is.0, is.1, good.first)
 
-  model_is : (names : Pairs) (m : FlowModel) → model_of files names ≡ Ok m → All IsShort m.ibound → IsWritable m
+  model_is : (names : Pairs) (m : FlowModel) → model_of limits files names ≡ Ok m → All IsShort m.ibound → IsWritable limits m
   unfolding model_of
   model_is names m h short =
-      let begun = goes (dis_in files (needed Dis names)) _ m h in
+      let begun = goes (dis_in limits files (needed Dis names)) _ m h in
       let basic = goes (bas_in files (needed Dis names) (needed Bas names) begun.item) _ m begun.then_ in
       let flow = goes (lpf_in files (needed Lpf names) basic.item) _ m basic.then_ in
       let a = begun_is (needed Dis names) begun.item begun.first in
       let b = basic_is (needed Dis names) (needed Bas names) begun.item basic.item basic.first in
       let d = lpf_read (needed Lpf names) basic.item flow.item flow.first in
-      let f = flow_is begun.item basic.item flow.item (needed Dis names) (needed Bas names) (needed Lpf names) a b.basics d.0 d.1 b.thick b.heads d.2 in
-      let stage = first_stage flow.item f.options.0 f.options.1 f.new in
+      let f = flow_is limits begun.item basic.item flow.item (needed Dis names) (needed Bas names) (needed Lpf names) a b.basics d.0 d.1 b.thick b.heads d.2 in
+      let stage = first_stage limits flow.item f.options.0 f.options.1 f.new in
       let size : HasSize flow.item.grid = f.discretized.grid.size in
-      stressed_writable flow.item m f (stresses_are flow.item size files names m stage flow.then_) short
+      stressed_writable limits flow.item m f (stresses_are limits flow.item size files names m stage flow.then_) short
 
-  pub read_writable : (name : List ℕ) (m : FlowModel) → reads files name ≡ Ok m → All IsShort m.ibound → IsWritable m
+  pub read_writable : (name : List ℕ) (m : FlowModel) → reads limits files name ≡ Ok m → All IsShort m.ibound → IsWritable limits m
   unfolding reads
   read_writable name m h short =
       let names = goes (names_in files name) _ m h in

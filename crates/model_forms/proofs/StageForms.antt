@@ -2,7 +2,7 @@
 use Rattle.model_forms.proofs.Common.{◌≡◌, ◌⊎◌, inl, inr, ℕ, ℤ, pos, Bool, true, false, List, [], All, Option, Some, None, Ok, refl, sym, subst, arith}
 use Rattle.model_forms.proofs.Common.{if◌then◌else◌, All-nil, All-weaker, Dec, File, file_at, Refusal, Pairs, file_of, Wel, Riv, Drn, Ghb, Rch, Chd, Evt}
 use Rattle.model_forms.proofs.Common.{CellId, Grid, FlowModel, Period, cell_count, HasSize, IsTimed, IsNewPeriod, without_stresses, given_heads, is_growing}
-use Rattle.model_forms.proofs.Common.{Kind, with_list, wells, rivers, drains, generals, is_option, goes, ends, IsEntry, IsListOf}
+use Rattle.model_forms.proofs.Common.{Kind, with_list, wells, rivers, drains, generals, is_option, goes, ends, IsEntry, IsListOf, Limits}
 use Rattle.model_reader.specs.Stresses.{where_named, file_in, list_in, rch_in, evt_in, with_entries, with_stresses}
 use Rattle.model_forms.proofs.ListForms.{package_is}
 use Rattle.model_forms.proofs.RchForms.{rch_is}
@@ -14,98 +14,98 @@ abbrev pub IsOption : ℤ → Type 0
 IsOption z = (z ≡ pos 0) ⊎ (is_option z ≡ true)
 
 -- a period without stresses
-empty_list : {E : Type 0} (kind : Kind E) (cells : ℕ) (p : Period) → kind.suits p [] ≡ true → IsListOf kind cells p []
-empty_list kind cells p suits = record { few = omega arith; entries = All-nil (IsEntry kind cells); once = λ e i j d lt low. absurd (omega (arith, low)); suits = suits }
+empty_list : {E : Type 0} (limits : Limits) (kind : Kind E) (cells : ℕ) (p : Period) → kind.suits p [] ≡ true → IsListOf limits kind cells p []
+empty_list limits kind cells p suits = record { few = omega arith; entries = All-nil (IsEntry kind cells); once = λ e i j d lt low. absurd (omega (arith, low)); suits = suits }
 
 either : (b : Bool) → (if b then true else true) ≡ true
 either true = refl
 either false = refl
 
-bare : (g : Grid) (ibound : List ℤ) (p : Period) → IsTimed (without_stresses p) → IsKnown g ibound (pos 0) (pos 0) (without_stresses p)
-bare g ibound p times = record {
+bare : (limits : Limits) (g : Grid) (ibound : List ℤ) (p : Period) → IsTimed (without_stresses p) → IsKnown limits g ibound (pos 0) (pos 0) (without_stresses p)
+bare limits g ibound p times = record {
   times = times;
-  wel = empty_list wells (cell_count g) (without_stresses p) refl;
-  riv = empty_list rivers (cell_count g) (without_stresses p) refl;
-  drn = empty_list drains (cell_count g) (without_stresses p) refl;
-  ghb = empty_list generals (cell_count g) (without_stresses p) refl;
-  chd = empty_list given_heads (cell_count g) (without_stresses p) (either (is_growing p));
+  wel = empty_list limits wells (cell_count g) (without_stresses p) refl;
+  riv = empty_list limits rivers (cell_count g) (without_stresses p) refl;
+  drn = empty_list limits drains (cell_count g) (without_stresses p) refl;
+  ghb = empty_list limits generals (cell_count g) (without_stresses p) refl;
+  chd = empty_list limits given_heads (cell_count g) (without_stresses p) (either (is_growing p));
   dry = λ e. record { recharge = refl; irch = refl };
   rain = λ e. absurd (no_option e);
   still = λ e. record { surf = refl; evtr = refl; exdp = refl; ievt = refl };
   air = λ e. absurd (no_option e);
 }
 
-new_known : (g : Grid) (ibound : List ℤ) (p : Period) → IsNewPeriod p → IsKnown g ibound (pos 0) (pos 0) p
-new_known g ibound p h = subst (λ (q : Period). IsKnown g ibound (pos 0) (pos 0) q) (sym h.new) (bare g ibound p (subst (λ (q : Period). IsTimed q) h.new h.times))
+new_known : (limits : Limits) (g : Grid) (ibound : List ℤ) (p : Period) → IsNewPeriod p → IsKnown limits g ibound (pos 0) (pos 0) p
+new_known limits g ibound p h = subst (λ (q : Period). IsKnown limits g ibound (pos 0) (pos 0) q) (sym h.new) (bare limits g ibound p (subst (λ (q : Period). IsTimed q) h.new h.times))
 
-pub first_stage : (core : FlowModel) → core.nrchop ≡ pos 0 → core.nevtop ≡ pos 0 → All IsNewPeriod core.periods → IsStage core (pos 0) (pos 0) core
-first_stage core r e new = record {
+pub first_stage : (limits : Limits) (core : FlowModel) → core.nrchop ≡ pos 0 → core.nevtop ≡ pos 0 → All IsNewPeriod core.periods → IsStage limits core (pos 0) (pos 0) core
+first_stage limits core r e new = record {
   is = λ i. record core { nrchop = r i; nevtop = e i };
   same = refl;
-  each = All-weaker IsNewPeriod (IsKnown core.grid core.ibound (pos 0) (pos 0)) (new_known core.grid core.ibound) core.periods new;
+  each = All-weaker IsNewPeriod (IsKnown limits core.grid core.ibound (pos 0) (pos 0)) (new_known limits core.grid core.ibound) core.periods new;
 }
 
 -- a model with stresses
-pub record IsStressed (core n : FlowModel) : Type 0 where
+pub record IsStressed (limits : Limits) (core n : FlowModel) : Type 0 where
   pub nrchop : ℤ
   pub nevtop : ℤ
   pub options : IsOption nrchop × IsOption nevtop
-  pub stage : IsStage core nrchop nevtop n
+  pub stage : IsStage limits core nrchop nevtop n
 
 -- a model after RCH
-record HasRain (core n : FlowModel) : Type 0 where
+record HasRain (limits : Limits) (core n : FlowModel) : Type 0 where
   pub nrchop : ℤ
   pub option : IsOption nrchop
-  pub stage : IsStage core nrchop (pos 0) n
+  pub stage : IsStage limits core nrchop (pos 0) n
 
-module _ (core : FlowModel) (size : HasSize core.grid) (files : List File) where
+module _ (limits : Limits) (core : FlowModel) (size : HasSize core.grid) (files : List File) where
   list_stage : {E : Type 0} (kind : Kind E) → ((c : CellId) (ds : List Dec) → kind.place (kind.entry c ds) ≡ c.0) → (nrchop : ℤ)
-      → ((p : Period) (xs : List E) → IsKnown core.grid core.ibound nrchop (pos 0) p → IsListOf kind (cell_count core.grid) p xs → IsKnown core.grid core.ibound nrchop (pos 0) (with_list kind p xs))
-      → (named : Option (List ℕ)) (m n : FlowModel) → IsStage core nrchop (pos 0) m → where_named named (list_in kind files) m ≡ Ok n → IsStage core nrchop (pos 0) n
+      → ((p : Period) (xs : List E) → IsKnown limits core.grid core.ibound nrchop (pos 0) p → IsListOf limits kind (cell_count core.grid) p xs → IsKnown limits core.grid core.ibound nrchop (pos 0) (with_list kind p xs))
+      → (named : Option (List ℕ)) (m n : FlowModel) → IsStage limits core nrchop (pos 0) m → where_named named (list_in limits kind files) m ≡ Ok n → IsStage limits core nrchop (pos 0) n
   unfolding file_in
-  list_stage kind placed nrchop put None m n stage h = ends {E = Refusal} (λ (y : FlowModel). IsStage core nrchop (pos 0) y) m n h stage
+  list_stage kind placed nrchop put None m n stage h = ends {E = Refusal} (λ (y : FlowModel). IsStage limits core nrchop (pos 0) y) m n h stage
   list_stage kind placed nrchop put (Some name) m n stage h =
       let bytes = goes (file_at files name) _ n h in
-      package_is kind placed core size nrchop put name bytes.item m n stage bytes.then_
+      package_is limits kind placed core size nrchop put name bytes.item m n stage bytes.then_
 
-  entries_stage : (names : Pairs) (m n : FlowModel) → IsStage core (pos 0) (pos 0) m → with_entries files names m ≡ Ok n → IsStage core (pos 0) (pos 0) n
+  entries_stage : (names : Pairs) (m n : FlowModel) → IsStage limits core (pos 0) (pos 0) m → with_entries limits files names m ≡ Ok n → IsStage limits core (pos 0) (pos 0) n
   unfolding with_entries
   entries_stage names m n stage h =
-      let a = goes (where_named (file_of Wel names) (list_in wells files) m) _ n h in
-      let b = goes (where_named (file_of Riv names) (list_in rivers files) a.item) _ n a.then_ in
-      let d = goes (where_named (file_of Drn names) (list_in drains files) b.item) _ n b.then_ in
-      let w = list_stage wells (λ c ds. refl) (pos 0) (with_wells core.grid core.ibound) (file_of Wel names) m a.item stage a.first in
-      let r = list_stage rivers (λ c ds. refl) (pos 0) (with_rivers core.grid core.ibound) (file_of Riv names) a.item b.item w b.first in
-      let s = list_stage drains (λ c ds. refl) (pos 0) (with_drains core.grid core.ibound) (file_of Drn names) b.item d.item r d.first in
-      list_stage generals (λ c ds. refl) (pos 0) (with_generals core.grid core.ibound) (file_of Ghb names) d.item n s d.then_
+      let a = goes (where_named (file_of Wel names) (list_in limits wells files) m) _ n h in
+      let b = goes (where_named (file_of Riv names) (list_in limits rivers files) a.item) _ n a.then_ in
+      let d = goes (where_named (file_of Drn names) (list_in limits drains files) b.item) _ n b.then_ in
+      let w = list_stage wells (λ c ds. refl) (pos 0) (with_wells limits core.grid core.ibound) (file_of Wel names) m a.item stage a.first in
+      let r = list_stage rivers (λ c ds. refl) (pos 0) (with_rivers limits core.grid core.ibound) (file_of Riv names) a.item b.item w b.first in
+      let s = list_stage drains (λ c ds. refl) (pos 0) (with_drains limits core.grid core.ibound) (file_of Drn names) b.item d.item r d.first in
+      list_stage generals (λ c ds. refl) (pos 0) (with_generals limits core.grid core.ibound) (file_of Ghb names) d.item n s d.then_
 
-  rain_stage : (named : Option (List ℕ)) (m n : FlowModel) → IsStage core (pos 0) (pos 0) m → where_named named (rch_in files) m ≡ Ok n → HasRain core n
+  rain_stage : (named : Option (List ℕ)) (m n : FlowModel) → IsStage limits core (pos 0) (pos 0) m → where_named named (rch_in files) m ≡ Ok n → HasRain limits core n
   unfolding rch_in
   rain_stage None m n stage h =
-      let is : IsStage core (pos 0) (pos 0) n = ends {E = Refusal} (λ (y : FlowModel). IsStage core (pos 0) (pos 0) y) m n h stage in
+      let is : IsStage limits core (pos 0) (pos 0) n = ends {E = Refusal} (λ (y : FlowModel). IsStage limits core (pos 0) (pos 0) y) m n h stage in
       record { nrchop = pos 0; option = inl refl; stage = is }
   rain_stage (Some name) m n stage h =
       let bytes = goes (file_at files name) _ n h in
-      let is = rch_is files name bytes.item core size m n stage bytes.then_ in
+      let is = rch_is limits files name bytes.item core size m n stage bytes.then_ in
       record { nrchop = is.option; option = inr is.active; stage = is.stage }
 
-  air_stage : (nrchop : ℤ) → IsOption nrchop → (named : Option (List ℕ)) (m n : FlowModel) → IsStage core nrchop (pos 0) m → where_named named (evt_in files) m ≡ Ok n → IsStressed core n
+  air_stage : (nrchop : ℤ) → IsOption nrchop → (named : Option (List ℕ)) (m n : FlowModel) → IsStage limits core nrchop (pos 0) m → where_named named (evt_in files) m ≡ Ok n → IsStressed limits core n
   unfolding evt_in
   air_stage nrchop option None m n stage h =
-      let is : IsStage core nrchop (pos 0) n = ends {E = Refusal} (λ (y : FlowModel). IsStage core nrchop (pos 0) y) m n h stage in
+      let is : IsStage limits core nrchop (pos 0) n = ends {E = Refusal} (λ (y : FlowModel). IsStage limits core nrchop (pos 0) y) m n h stage in
       record { nrchop = nrchop; nevtop = pos 0; options = (option, inl refl); stage = is }
   air_stage nrchop option (Some name) m n stage h =
       let bytes = goes (file_at files name) _ n h in
-      let is = evt_is files name bytes.item core size nrchop m n stage bytes.then_ in
+      let is = evt_is limits files name bytes.item core size nrchop m n stage bytes.then_ in
       record { nrchop = nrchop; nevtop = is.option; options = (option, inr is.active); stage = is.stage }
 
-  pub stresses_are : (names : Pairs) (n : FlowModel) → IsStage core (pos 0) (pos 0) core → with_stresses files names core ≡ Ok n → IsStressed core n
+  pub stresses_are : (names : Pairs) (n : FlowModel) → IsStage limits core (pos 0) (pos 0) core → with_stresses limits files names core ≡ Ok n → IsStressed limits core n
   unfolding with_stresses
   stresses_are names n stage h =
-      let entries = goes (with_entries files names core) _ n h in
+      let entries = goes (with_entries limits files names core) _ n h in
       let rain = goes (where_named (file_of Rch names) (rch_in files) entries.item) _ n entries.then_ in
-      let given = goes (where_named (file_of Chd names) (list_in given_heads files) rain.item) _ n rain.then_ in
+      let given = goes (where_named (file_of Chd names) (list_in limits given_heads files) rain.item) _ n rain.then_ in
       let a = entries_stage names core entries.item stage entries.first in
       let b = rain_stage (file_of Rch names) entries.item rain.item a rain.first in
-      let d = list_stage given_heads (λ c ds. refl) b.nrchop (with_given core.grid core.ibound b.nrchop) (file_of Chd names) rain.item given.item b.stage given.first in
+      let d = list_stage given_heads (λ c ds. refl) b.nrchop (with_given limits core.grid core.ibound b.nrchop) (file_of Chd names) rain.item given.item b.stage given.first in
       air_stage b.nrchop b.option (file_of Evt names) given.item n d given.then_

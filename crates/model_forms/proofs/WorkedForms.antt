@@ -12,6 +12,7 @@ use Rattle.std.proofs.lemmas.Int.{ints}
 use Rattle.decimal_input.specs.Decimals.{scaled}
 use Rattle.decimal_input.specs.Ratios.{ratio}
 use Rattle.name_file.specs.Kinds.{package_of}
+use Rattle.model_types.specs.declared.limits.Limits.TheVariants.{Plain}
 use Rattle.name_file.specs.declared.package.Package.{Package}
 use Rattle.number_limits.specs.Magnitudes.{is_at_most}
 use Rattle.number_limits.specs.Room.{floor_of, ceiling_of, is_thick}
@@ -115,21 +116,22 @@ passed Thickness file = refl
 passed StartHead file = refl
 passed Properties file = refl
 
-no_entries : {E : Type 0} (kind : Kind E) → kind.suits steady_period [] ≡ true → IsListOf kind 3 steady_period []
+no_entries : {E : Type 0} (kind : Kind E) → kind.suits steady_period [] ≡ true → IsListOf Plain kind 3 steady_period []
 no_entries kind suits = record { few = omega arith; entries = All-nil (IsEntry kind 3); once = λ e i j d lt low. absurd (omega (arith, low)); suits = suits }
 
-writable : IsWritable three_cells
+writable : IsWritable Plain three_cells
 writable = record {
   discretization = discretized;
+  within = record { layers = omega arith; rows = omega arith; cols = omega arith; cells = omega arith };
   basic = basic;
   flow = flow;
   passed = passed;
-  wel = one_period (λ p. IsListOf wells 3 p p.stresses.wells) (no_entries wells refl);
-  riv = one_period (λ p. IsListOf rivers 3 p p.stresses.rivers) (no_entries rivers refl);
-  drn = one_period (λ p. IsListOf drains 3 p p.stresses.drains) (no_entries drains refl);
-  ghb = one_period (λ p. IsListOf generals 3 p p.stresses.generals) (no_entries generals refl);
+  wel = one_period (λ p. IsListOf Plain wells 3 p p.stresses.wells) (no_entries wells refl);
+  riv = one_period (λ p. IsListOf Plain rivers 3 p p.stresses.rivers) (no_entries rivers refl);
+  drn = one_period (λ p. IsListOf Plain drains 3 p p.stresses.drains) (no_entries drains refl);
+  ghb = one_period (λ p. IsListOf Plain generals 3 p p.stresses.generals) (no_entries generals refl);
   rch = inr (record { option = refl; none = one_period IsDry (record { recharge = refl; irch = refl }) });
-  chd = one_period (λ p. IsListOf given_heads 3 p p.stresses.given) (no_entries given_heads refl);
+  chd = one_period (λ p. IsListOf Plain given_heads 3 p p.stresses.given) (no_entries given_heads refl);
   evt = inr (record { option = refl; none = one_period IsStill (record { surf = refl; evtr = refl; exdp = refl; ievt = refl }) });
 }
 
@@ -168,4 +170,4 @@ small =
     (omega arith, (simp (zero_digit, one_digit, two_digit, three_digit) (omega arith), (simp (zero_digit, one_digit, two_digit) (omega arith), (simp (zero_digit, one_digit) (omega arith), tt))))
 
 pub cells : ThreeCells
-cells = record { writable = writable; names = names; read = model_reads three_cells writable file_type name_of_deck names small }
+cells = record { writable = writable; names = names; read = model_reads Plain three_cells writable file_type name_of_deck names small }

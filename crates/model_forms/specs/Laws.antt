@@ -3,6 +3,7 @@ use Rattle.std.specs.Prelude.{◌≡◌, ℕ, ◌≤◌, List, All, length, Ok}
 use Rattle.outside.specs.Files.{File}
 use Rattle.outside.specs.Inputs.{file_limit}
 use Rattle.name_file.specs.declared.package.Package.{Package}
+use Rattle.model_types.specs.declared.limits.Limits.{Limits}
 use Rattle.model_types.specs.declared.model.FlowModel.{FlowModel}
 use Rattle.model_reader.specs.Model.{reads}
 use Rattle.array_text.specs.Words.{IsShort}
@@ -11,16 +12,16 @@ use Rattle.model_text.specs.Written.{written}
 use Rattle.model_text.specs.Writable.{IsWritable}
 use Rattle.model_text.specs.Decks.{IsReadAgain}
 
--- A model that is read is writable. Each other integer of a file is a word of at most 18 digits; an IBOUND is a word times a multiplier.
+-- A model that is read is writable by the same limits. Each other integer of a file is a word of at most 18 digits; an IBOUND is a word times a multiplier.
 abbrev pub ModelsReadAreWritable : Type 0
-ModelsReadAreWritable = (files : List File) (name : List ℕ) (m : FlowModel) → reads files name ≡ Ok m → All IsShort m.ibound → IsWritable m
+ModelsReadAreWritable = (limits : Limits) (files : List File) (name : List ℕ) (m : FlowModel) → reads limits files name ≡ Ok m → All IsShort m.ibound → IsWritable limits m
 
 -- So is read as itself what is written of a model that was read, under names of files that may be, where no file is too long.
 abbrev pub ModelsReadAreReadAsWritten : Type 0
-ModelsReadAreReadAsWritten = (files : List File) (name : List ℕ) (m : FlowModel) → reads files name ≡ Ok m → All IsShort m.ibound →
+ModelsReadAreReadAsWritten = (limits : Limits) (files : List File) (name : List ℕ) (m : FlowModel) → reads limits files name ≡ Ok m → All IsShort m.ibound →
     (names : Package → List ℕ) (anew : List ℕ) → AreNames names anew → All (λ f. length f.bytes ≤ file_limit) (written m names anew) →
-    reads (written m names anew) anew ≡ Ok m
+    reads limits (written m names anew) anew ≡ Ok m
 
 -- So of the deck that `heads write` puts, under the names that it gives.
 abbrev pub DecksAreReadAgain : Type 0
-DecksAreReadAgain = (files : List File) (name : List ℕ) (m : FlowModel) → reads files name ≡ Ok m → IsReadAgain m
+DecksAreReadAgain = (limits : Limits) (files : List File) (name : List ℕ) (m : FlowModel) → reads limits files name ≡ Ok m → IsReadAgain limits m

@@ -1,6 +1,7 @@
 -- A worked model: three cells in a row, with constant heads at both ends.
 use Rattle.std.specs.Prelude.{◌≡◌, ℕ, List, codes, Ok}
 use Rattle.outside.specs.Files.{File}
+use Rattle.model_types.specs.declared.limits.Limits.TheVariants.{Plain}
 use Rattle.model_reader.specs.Model.{reads}
 use Rattle.flow_equations.specs.Worked.{three_cells}
 use Rattle.model_text.specs.Names.{file_type, AreNames}
@@ -16,6 +17,6 @@ deck = written three_cells file_type name_of_deck
 
 -- the model is writable, and the files that are written of it are read as it
 pub record ThreeCells : Type 0 where
-  pub writable : IsWritable three_cells
+  pub writable : IsWritable Plain three_cells
   pub names : AreNames file_type name_of_deck
-  pub read : reads deck name_of_deck ≡ Ok three_cells
+  pub read : reads Plain deck name_of_deck ≡ Ok three_cells

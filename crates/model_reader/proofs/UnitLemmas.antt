@@ -22,6 +22,7 @@ use Rattle.dis_package.specs.Frames.{count_at, frame_of, size_at}
 use Rattle.dis_package.specs.Grids.{grid_of}
 use Rattle.dis_package.specs.Times.{periods_of}
 use Rattle.dis_package.specs.declared.frame.Frame.{Frame}
+use Rattle.model_types.specs.declared.limits.Limits.{Limits}
 use Rattle.list_package.specs.Kinds.{Kind}
 use Rattle.list_package.specs.Lists.{lists_of, package_of}
 use Rattle.stress_packages.specs.Packages.{wells, rivers, drains, generals}
@@ -89,35 +90,35 @@ integer_at file line (w ∷ ws) x h =
 
 -- The unit stands in the first line of DIS.
 
-frame_short : (file : List ℕ) (line : ℕ) (ws : List (List ℕ)) (f : Frame) → frame_of file line ws ≡ Ok f → IsShort f.lenuni
+frame_short : (limits : Limits) (file : List ℕ) (line : ℕ) (ws : List (List ℕ)) (f : Frame) → frame_of limits file line ws ≡ Ok f → IsShort f.lenuni
 unfolding frame_of
-frame_short file line ws f h =
-    let size = goes (size_at file line ws) _ f h in
+frame_short limits file line ws f h =
+    let size = goes (size_at limits file line ws) _ f h in
     let periods = goes (count_at file line 1000 size.item.1) _ f size.then_ in
     let itmuni = goes (number_at integer file line periods.item.1) _ f periods.then_ in
     let lenuni = goes (number_at integer file line itmuni.item.1) _ f itmuni.then_ in
     let made : Frame = record { size = size.item.0; periods = periods.item.0; lenuni = lenuni.item.0 } in
     ends (λ (x : Frame). IsShort x.lenuni) made f lenuni.then_ (integer_at file line itmuni.item.1 lenuni.item lenuni.first)
 
-head_short : (file : List ℕ) (left : Left) (x : (Frame × List ℤ) × Left) → head_of file left ≡ Ok x → IsShort x.0.0.lenuni
+head_short : (limits : Limits) (file : List ℕ) (left : Left) (x : (Frame × List ℤ) × Left) → head_of limits file left ≡ Ok x → IsShort x.0.0.lenuni
 unfolding head_of
-head_short file left x h =
+head_short limits file left x h =
     let line = goes (line_at file left) _ x h in
-    let frame = goes (frame_of file line.item.0.number (words line.item.0.bytes)) _ x line.then_ in
+    let frame = goes (frame_of limits file line.item.0.number (words line.item.0.bytes)) _ x line.then_ in
     let beds = goes (beds_of file frame.item.size.layers line.item.1) _ x frame.then_ in
-    ends (λ (y : (Frame × List ℤ) × Left). IsShort y.0.0.lenuni) ((frame.item, beds.item.0), beds.item.1) x beds.then_ (frame_short file line.item.0.number (words line.item.0.bytes) frame.item frame.first)
+    ends (λ (y : (Frame × List ℤ) × Left). IsShort y.0.0.lenuni) ((frame.item, beds.item.0), beds.item.1) x beds.then_ (frame_short limits file line.item.0.number (words line.item.0.bytes) frame.item frame.first)
 
 -- of a model
 abbrev pub HasShortUnit : FlowModel → Type 0
 HasShortUnit m = nat_abs m.lenuni < 2 ^ 64
 
-dis_short : (files : List File) (file bytes : List ℕ) (m : FlowModel) → dis_of files file bytes ≡ Ok m → HasShortUnit m
+dis_short : (limits : Limits) (files : List File) (file bytes : List ℕ) (m : FlowModel) → dis_of limits files file bytes ≡ Ok m → HasShortUnit m
 unfolding dis_of
-dis_short files file bytes m h =
-    let head = goes (head_of file (without_comments (left_from 1 bytes))) _ m h in
+dis_short limits files file bytes m h =
+    let head = goes (head_of limits file (without_comments (left_from 1 bytes))) _ m h in
     let grid = goes (grid_of files file head.item.0.0.size head.item.0.1 head.item.1) _ m head.then_ in
     let periods = goes (periods_of file head.item.0.0.periods grid.item.1) _ m grid.then_ in
-    ends HasShortUnit _ m periods.then_ (head_short file (without_comments (left_from 1 bytes)) head.item head.first)
+    ends HasShortUnit _ m periods.then_ (head_short limits file (without_comments (left_from 1 bytes)) head.item head.first)
 
 -- The other packages keep it.
 
@@ -136,10 +137,10 @@ lpf_keeps files file bytes m n h short =
     let contents = goes (contents_of files file bytes m.grid (is_transient m.periods)) _ n h in
     ends HasShortUnit (with_contents m contents.item) n contents.then_ short
 
-package_keeps : {E : Type 0} (kind : Kind E) (file bytes : List ℕ) → Keeps (package_of kind file bytes)
+package_keeps : {E : Type 0} (limits : Limits) (kind : Kind E) (file bytes : List ℕ) → Keeps (package_of limits kind file bytes)
 unfolding package_of
-package_keeps kind file bytes m n h short =
-    let periods = goes (lists_of kind file bytes m.grid m.periods) _ n h in
+package_keeps limits kind file bytes m n h short =
+    let periods = goes (lists_of limits kind file bytes m.grid m.periods) _ n h in
     ends HasShortUnit (record m { periods = periods.item }) n periods.then_ short
 
 rch_keeps : (files : List File) (file bytes : List ℕ) → Keeps (rch_of files file bytes)
@@ -154,9 +155,9 @@ evt_keeps files file bytes m n h short =
     let evaporation = goes (arrays_in evaporation_arrays files file bytes m.grid m.ibound m.periods) _ n h in
     ends HasShortUnit (with_evaporation m evaporation.item) n evaporation.then_ short
 
-list_in_keeps : {E : Type 0} (kind : Kind E) (files : List File) (file : List ℕ) → Keeps (list_in kind files file)
+list_in_keeps : {E : Type 0} (limits : Limits) (kind : Kind E) (files : List File) (file : List ℕ) → Keeps (list_in limits kind files file)
 unfolding file_in
-list_in_keeps kind files file m n h short = let bytes = goes (file_at files file) _ n h in package_keeps kind file bytes.item m n bytes.then_ short
+list_in_keeps limits kind files file m n h short = let bytes = goes (file_at files file) _ n h in package_keeps limits kind file bytes.item m n bytes.then_ short
 
 rch_in_keeps : (files : List File) (file : List ℕ) → Keeps (rch_in files file)
 unfolding rch_in
@@ -170,26 +171,26 @@ named_keeps : (name : Option (List ℕ)) (read : List ℕ → FlowModel → Resu
 named_keeps None read keeps m n h short = ends HasShortUnit m n h short
 named_keeps (Some file) read keeps m n h short = keeps file m n h short
 
-entries_keep : (files : List File) (names : Pairs) → Keeps (with_entries files names)
+entries_keep : (limits : Limits) (files : List File) (names : Pairs) → Keeps (with_entries limits files names)
 unfolding with_entries
-entries_keep files names m n h short =
-    let a = goes (where_named (file_of Wel names) (list_in wells files) m) _ n h in
-    let b = goes (where_named (file_of Riv names) (list_in rivers files) a.item) _ n a.then_ in
-    let c = goes (where_named (file_of Drn names) (list_in drains files) b.item) _ n b.then_ in
-    named_keeps (file_of Ghb names) (list_in generals files) (list_in_keeps generals files) c.item n c.then_
-    (named_keeps (file_of Drn names) (list_in drains files) (list_in_keeps drains files) b.item c.item c.first
-    (named_keeps (file_of Riv names) (list_in rivers files) (list_in_keeps rivers files) a.item b.item b.first
-    (named_keeps (file_of Wel names) (list_in wells files) (list_in_keeps wells files) m a.item a.first short)))
+entries_keep limits files names m n h short =
+    let a = goes (where_named (file_of Wel names) (list_in limits wells files) m) _ n h in
+    let b = goes (where_named (file_of Riv names) (list_in limits rivers files) a.item) _ n a.then_ in
+    let c = goes (where_named (file_of Drn names) (list_in limits drains files) b.item) _ n b.then_ in
+    named_keeps (file_of Ghb names) (list_in limits generals files) (list_in_keeps limits generals files) c.item n c.then_
+    (named_keeps (file_of Drn names) (list_in limits drains files) (list_in_keeps limits drains files) b.item c.item c.first
+    (named_keeps (file_of Riv names) (list_in limits rivers files) (list_in_keeps limits rivers files) a.item b.item b.first
+    (named_keeps (file_of Wel names) (list_in limits wells files) (list_in_keeps limits wells files) m a.item a.first short)))
 
-stresses_keep : (files : List File) (names : Pairs) → Keeps (with_stresses files names)
+stresses_keep : (limits : Limits) (files : List File) (names : Pairs) → Keeps (with_stresses limits files names)
 unfolding with_stresses
-stresses_keep files names m n h short =
-    let a = goes (with_entries files names m) _ n h in
+stresses_keep limits files names m n h short =
+    let a = goes (with_entries limits files names m) _ n h in
     let b = goes (where_named (file_of Rch names) (rch_in files) a.item) _ n a.then_ in
-    let c = goes (where_named (file_of Chd names) (list_in given_heads files) b.item) _ n b.then_ in
+    let c = goes (where_named (file_of Chd names) (list_in limits given_heads files) b.item) _ n b.then_ in
     named_keeps (file_of Evt names) (evt_in files) (evt_in_keeps files) c.item n c.then_
-    (named_keeps (file_of Chd names) (list_in given_heads files) (list_in_keeps given_heads files) b.item c.item c.first
-    (named_keeps (file_of Rch names) (rch_in files) (rch_in_keeps files) a.item b.item b.first (entries_keep files names m a.item a.first short)))
+    (named_keeps (file_of Chd names) (list_in limits given_heads files) (list_in_keeps limits given_heads files) b.item c.item c.first
+    (named_keeps (file_of Rch names) (rch_in files) (rch_in_keeps files) a.item b.item b.first (entries_keep limits files names m a.item a.first short)))
 
 bas_in_keeps : (files : List File) (dis bas : List ℕ) → Keeps (bas_in files dis bas)
 unfolding bas_in
@@ -207,20 +208,20 @@ lpf_in_keeps files lpf m n h short =
     let good = goes (checked flow.item lpf Properties) _ n flow.then_ in
     ends HasShortUnit flow.item n good.then_ (lpf_keeps files lpf bytes.item m flow.item flow.first short)
 
-dis_in_short : (files : List File) (dis : List ℕ) (m : FlowModel) → dis_in files dis ≡ Ok m → HasShortUnit m
+dis_in_short : (limits : Limits) (files : List File) (dis : List ℕ) (m : FlowModel) → dis_in limits files dis ≡ Ok m → HasShortUnit m
 unfolding dis_in
-dis_in_short files dis m h = let bytes = goes (file_at files dis) _ m h in dis_short files dis bytes.item m bytes.then_
+dis_in_short limits files dis m h = let bytes = goes (file_at files dis) _ m h in dis_short limits files dis bytes.item m bytes.then_
 
-model_short : (files : List File) (names : Pairs) (m : FlowModel) → model_of files names ≡ Ok m → HasShortUnit m
+model_short : (limits : Limits) (files : List File) (names : Pairs) (m : FlowModel) → model_of limits files names ≡ Ok m → HasShortUnit m
 unfolding model_of
-model_short files names m h =
-    let begun = goes (dis_in files (needed Dis names)) _ m h in
+model_short limits files names m h =
+    let begun = goes (dis_in limits files (needed Dis names)) _ m h in
     let basic = goes (bas_in files (needed Dis names) (needed Bas names) begun.item) _ m begun.then_ in
     let flow = goes (lpf_in files (needed Lpf names) basic.item) _ m basic.then_ in
-    stresses_keep files names flow.item m flow.then_
+    stresses_keep limits files names flow.item m flow.then_
     (lpf_in_keeps files (needed Lpf names) basic.item flow.item flow.first
-    (bas_in_keeps files (needed Dis names) (needed Bas names) begun.item basic.item basic.first (dis_in_short files (needed Dis names) begun.item begun.first)))
+    (bas_in_keeps files (needed Dis names) (needed Bas names) begun.item basic.item basic.first (dis_in_short limits files (needed Dis names) begun.item begun.first)))
 
-pub unit_is_short : (files : List File) (name : List ℕ) (m : FlowModel) → reads files name ≡ Ok m → HasShortUnit m
+pub unit_is_short : (limits : Limits) (files : List File) (name : List ℕ) (m : FlowModel) → reads limits files name ≡ Ok m → HasShortUnit m
 unfolding reads
-unit_is_short files name m h = let names = goes (names_in files name) _ m h in model_short files names.item m names.then_
+unit_is_short limits files name m h = let names = goes (names_in files name) _ m h in model_short limits files names.item m names.then_

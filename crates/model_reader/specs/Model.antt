@@ -6,6 +6,7 @@ use Rattle.outside.specs.declared.refusals.Refusal.{Refusal}
 use Rattle.record_lines.specs.Reading.{◌>>=◌}
 use Rattle.name_file.specs.Pairs.{Pairs}
 use Rattle.name_file.specs.declared.package.Package.TheVariants.{Dis, Bas, Lpf}
+use Rattle.model_types.specs.declared.limits.Limits.{Limits}
 use Rattle.model_types.specs.declared.model.FlowModel.{FlowModel}
 use Rattle.dis_package.specs.Discretization.{dis_of}
 use Rattle.bas_package.specs.Basics.{bas_of}
@@ -15,10 +16,10 @@ use Rattle.cell_checks.specs.declared.passing.Check.TheVariants.{Thickness, Star
 use Rattle.model_reader.specs.Names.{names_in, needed}
 use Rattle.model_reader.specs.Stresses.{with_stresses}
 
-unfoldable pub dis_in : List File → List ℕ → Result FlowModel Refusal
-dis_in files dis = do
+unfoldable pub dis_in : Limits → List File → List ℕ → Result FlowModel Refusal
+dis_in limits files dis = do
   bytes ← file_at files dis
-  dis_of files dis bytes
+  dis_of limits files dis bytes
 
 -- the thickness of cells is refused with the file of the discretization, and then starting heads with that of BAS6
 unfoldable pub basics_tested : List ℕ → List ℕ → FlowModel → Result (Unit {0}) Refusal
@@ -41,15 +42,15 @@ lpf_in files lpf basic = do
   Ok flow
 
 -- DIS, BAS6, LPF, and then the stresses
-unfoldable pub model_of : List File → Pairs → Result FlowModel Refusal
-model_of files names = do
-  begun ← dis_in files (needed Dis names)
+unfoldable pub model_of : Limits → List File → Pairs → Result FlowModel Refusal
+model_of limits files names = do
+  begun ← dis_in limits files (needed Dis names)
   basic ← bas_in files (needed Dis names) (needed Bas names) begun
   flow ← lpf_in files (needed Lpf names) basic
-  with_stresses files names flow
+  with_stresses limits files names flow
 
 -- the model that a name file describes, or the first refusal
-unfoldable pub reads : List File → List ℕ → Result FlowModel Refusal
-reads files name = do
+unfoldable pub reads : Limits → List File → List ℕ → Result FlowModel Refusal
+reads limits files name = do
   names ← names_in files name
-  model_of files names
+  model_of limits files names

@@ -7,6 +7,7 @@ use Rattle.record_lines.specs.Reading.{◌>>=◌}
 use Rattle.name_file.specs.Pairs.{Pairs, file_of}
 use Rattle.name_file.specs.declared.package.Package.{Package}
 use Rattle.name_file.specs.declared.package.Package.TheVariants.{Wel, Riv, Drn, Ghb, Rch, Chd, Evt}
+use Rattle.model_types.specs.declared.limits.Limits.{Limits}
 use Rattle.model_types.specs.declared.model.FlowModel.{FlowModel}
 use Rattle.list_package.specs.GivenHeads.{given_heads}
 use Rattle.list_package.specs.Kinds.{Kind}
@@ -26,8 +27,8 @@ file_in read files name m = do
   bytes ← file_at files name
   read name bytes m
 
-abbrev pub list_in : {E : Type 0} → Kind E → List File → List ℕ → FlowModel → Result FlowModel Refusal
-list_in kind = file_in (package_of kind)
+abbrev pub list_in : {E : Type 0} → Limits → Kind E → List File → List ℕ → FlowModel → Result FlowModel Refusal
+list_in limits kind = file_in (package_of limits kind)
 
 unfoldable pub rch_in : List File → List ℕ → FlowModel → Result FlowModel Refusal
 rch_in files rch m = do
@@ -40,26 +41,26 @@ evt_in files evt m = do
   evt_of files evt bytes m
 
 -- the reading of a package of lists
-abbrev pub lists_of : Package → List ℕ → List ℕ → FlowModel → Result FlowModel Refusal
-lists_of Wel file bytes m = package_of wells file bytes m
-lists_of Riv file bytes m = package_of rivers file bytes m
-lists_of Drn file bytes m = package_of drains file bytes m
-lists_of Ghb file bytes m = package_of generals file bytes m
-lists_of Chd file bytes m = package_of given_heads file bytes m
-lists_of other file bytes m = Ok m
+abbrev pub lists_of : Limits → Package → List ℕ → List ℕ → FlowModel → Result FlowModel Refusal
+lists_of limits Wel file bytes m = package_of limits wells file bytes m
+lists_of limits Riv file bytes m = package_of limits rivers file bytes m
+lists_of limits Drn file bytes m = package_of limits drains file bytes m
+lists_of limits Ghb file bytes m = package_of limits generals file bytes m
+lists_of limits Chd file bytes m = package_of limits given_heads file bytes m
+lists_of limits other file bytes m = Ok m
 
 -- WEL, RIV, DRN, GHB
-unfoldable pub with_entries : List File → Pairs → FlowModel → Result FlowModel Refusal
-with_entries files names flow = do
-  with_wells ← where_named (file_of Wel names) (list_in wells files) flow
-  with_rivers ← where_named (file_of Riv names) (list_in rivers files) with_wells
-  with_drains ← where_named (file_of Drn names) (list_in drains files) with_rivers
-  where_named (file_of Ghb names) (list_in generals files) with_drains
+unfoldable pub with_entries : Limits → List File → Pairs → FlowModel → Result FlowModel Refusal
+with_entries limits files names flow = do
+  with_wells ← where_named (file_of Wel names) (list_in limits wells files) flow
+  with_rivers ← where_named (file_of Riv names) (list_in limits rivers files) with_wells
+  with_drains ← where_named (file_of Drn names) (list_in limits drains files) with_rivers
+  where_named (file_of Ghb names) (list_in limits generals files) with_drains
 
 -- then RCH, CHD, EVT
-unfoldable pub with_stresses : List File → Pairs → FlowModel → Result FlowModel Refusal
-with_stresses files names flow = do
-  with_generals ← with_entries files names flow
+unfoldable pub with_stresses : Limits → List File → Pairs → FlowModel → Result FlowModel Refusal
+with_stresses limits files names flow = do
+  with_generals ← with_entries limits files names flow
   with_recharge ← where_named (file_of Rch names) (rch_in files) with_generals
-  with_given ← where_named (file_of Chd names) (list_in given_heads files) with_recharge
+  with_given ← where_named (file_of Chd names) (list_in limits given_heads files) with_recharge
   where_named (file_of Evt names) (evt_in files) with_given

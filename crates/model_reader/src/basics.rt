@@ -19,21 +19,26 @@ use bas_package::read_bas;
 use cell_checks::{Check, check_cells};
 use dis_package::read_dis;
 use lpf_package::read_lpf;
-use model_types::FlowModel;
+use model_types::{FlowModel, Limits};
 use outside::{Folder, InputFault, TextFault, read_input};
 use std::alloc::Global;
 
 /// The model that DIS begins.
 #[tactic(auto, unfolding(crate::specs::Model::dis_in))]
-pub fn dis_in<F: Folder>(alloc: Global, folder: &mut F, name: &str) -> Result<FlowModel, InputFault>
+pub fn dis_in<F: Folder>(
+    alloc: Global,
+    limits: Limits,
+    folder: &mut F,
+    name: &str,
+) -> Result<FlowModel, InputFault>
     requires name { IsGoodName name.now }
     requires may { F.may folder.old (folder_name name.now) file_limit }
     ensures folder { ReadsOn F.Folder folder.old folder.new result }
-    ensures model { (files : List File) → F.agrees folder.new files → Has (λ m. m) result (dis_in files name.now) }
+    ensures model { (files : List File) → F.agrees folder.new files → Has (λ m. m) result (dis_in limits files name.now) }
     ensures form { IfOk result IsBegun }
 {
     let bytes = read_input(alloc, folder, name)?;
-    read_dis(alloc, name, &bytes, folder)
+    read_dis(alloc, limits, name, &bytes, folder)
 }
 
 /// The model, if its cells pass a check.

@@ -12,7 +12,7 @@ ghost use Rattle.model_reader.specs.Stresses.{where_named, file_in, lists_of};
 
 use crate::opened::opened;
 use chd_package::read_chd;
-use model_types::FlowModel;
+use model_types::{FlowModel, Limits};
 use name_file::{Names, Package};
 use outside::{Folder, InputFault, TextFault};
 use std::alloc::Global;
@@ -21,21 +21,22 @@ use stress_packages::{read_drn, read_ghb, read_riv, read_wel};
 /// The model with the lists of a file of a package; as it is, if the package has no lists.
 fn lists_of(
     alloc: Global,
+    limits: Limits,
     asked: Package,
     file: &str,
     bytes: &[u8],
     model: FlowModel,
 ) -> Result<FlowModel, TextFault>
     requires valid { IsModel model }
-    ensures model { HasText (λ m. m) result (lists_of asked file.now bytes.now model) }
+    ensures model { HasText (λ m. m) result (lists_of limits asked file.now bytes.now model) }
     ensures form { IfOk result IsModel }
 {
     match asked {
-        Package::Wel => read_wel(alloc, file, bytes, model),
-        Package::Riv => read_riv(alloc, file, bytes, model),
-        Package::Drn => read_drn(alloc, file, bytes, model),
-        Package::Ghb => read_ghb(alloc, file, bytes, model),
-        Package::Chd => read_chd(alloc, file, bytes, model),
+        Package::Wel => read_wel(alloc, limits, file, bytes, model),
+        Package::Riv => read_riv(alloc, limits, file, bytes, model),
+        Package::Drn => read_drn(alloc, limits, file, bytes, model),
+        Package::Ghb => read_ghb(alloc, limits, file, bytes, model),
+        Package::Chd => read_chd(alloc, limits, file, bytes, model),
         _ => Ok(model),
     }
 }
@@ -44,6 +45,7 @@ fn lists_of(
 #[tactic(auto, unfolding(crate::specs::Stresses::file_in))]
 pub fn list_in<F: Folder>(
     alloc: Global,
+    limits: Limits,
     names: &Names,
     asked: Package,
     folder: &mut F,
@@ -53,14 +55,14 @@ pub fn list_in<F: Folder>(
     requires names { NamesMay (F.may folder.old) names.now }
     ensures folder { ReadsOn F.Folder folder.old folder.new result }
     ensures model { (files : List File) → F.agrees folder.new files →
-        Has (λ m. m) result (where_named (file_of asked names.now) (file_in (lists_of asked) files) model) }
+        Has (λ m. m) result (where_named (file_of asked names.now) (file_in (lists_of limits asked) files) model) }
     ensures form { IfOk result IsModel }
 {
     match names.file_of(asked) {
         None => Ok(model),
         Some(name) => {
             let (bytes, model) = opened(alloc, folder, name, model)?;
-            Ok(lists_of(alloc, asked, name, &bytes, model)?)
+            Ok(lists_of(alloc, limits, asked, name, &bytes, model)?)
         }
     }
 }

@@ -12,7 +12,7 @@ ghost use Rattle.model_reader.specs.Model.{model_of, reads};
 use crate::basics::{bas_in, dis_in, lpf_in};
 use crate::names::{needed, read_name_file};
 use crate::stresses::with_stresses;
-use model_types::FlowModel;
+use model_types::{FlowModel, Limits};
 use name_file::{Names, Package};
 use outside::{Folder, InputFault};
 use std::alloc::Global;
@@ -26,21 +26,22 @@ use std::alloc::Global;
 #[tactic(auto, unfolding(crate::specs::Model::model_of))]
 pub fn read_model<F: Folder>(
     alloc: Global,
+    limits: Limits,
     names: &Names,
     folder: &mut F,
 ) -> Result<FlowModel, InputFault>
     requires names { NamesMay (F.may folder.old) names.now }
     ensures folder { ReadsOn F.Folder folder.old folder.new result }
-    ensures model { (files : List File) → F.agrees folder.new files → Has (λ m. m) result (model_of files names.now) }
+    ensures model { (files : List File) → F.agrees folder.new files → Has (λ m. m) result (model_of limits files names.now) }
     ensures form { IfOk result IsModel }
 {
     let dis = needed(names, Package::Dis);
     let bas = needed(names, Package::Bas);
     let lpf = needed(names, Package::Lpf);
-    let begun = dis_in(alloc, folder, dis)?;
+    let begun = dis_in(alloc, limits, folder, dis)?;
     let basic = bas_in(alloc, folder, dis, bas, begun)?;
     let flow = lpf_in(alloc, folder, lpf, basic)?;
-    with_stresses(alloc, names, folder, flow)
+    with_stresses(alloc, limits, names, folder, flow)
 }
 
 /// The model that a name file of the folder describes.
@@ -51,15 +52,16 @@ pub fn read_model<F: Folder>(
 #[tactic(auto, unfolding(crate::specs::Model::reads))]
 pub fn read_named_model<F: Folder>(
     alloc: Global,
+    limits: Limits,
     name: &str,
     folder: &mut F,
 ) -> Result<FlowModel, InputFault>
     requires name { IsGoodName name.now }
     requires may { F.may folder.old (folder_name name.now) file_limit }
     ensures folder { ReadsOn F.Folder folder.old folder.new result }
-    ensures model { (files : List File) → F.agrees folder.new files → Has (λ m. m) result (reads files name.now) }
+    ensures model { (files : List File) → F.agrees folder.new files → Has (λ m. m) result (reads limits files name.now) }
     ensures form { IfOk result IsModel }
 {
     let names = read_name_file(alloc, folder, name)?;
-    read_model(alloc, &names, folder)
+    read_model(alloc, limits, &names, folder)
 }

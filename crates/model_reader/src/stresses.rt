@@ -9,7 +9,7 @@ ghost use Rattle.model_reader.specs.Stresses.{with_entries, with_stresses};
 
 use crate::arrays::{evt_in, rch_in};
 use crate::lists::list_in;
-use model_types::FlowModel;
+use model_types::{FlowModel, Limits};
 use name_file::{Names, Package};
 use outside::{Folder, InputFault};
 use std::alloc::Global;
@@ -18,6 +18,7 @@ use std::alloc::Global;
 #[tactic(auto, unfolding(crate::specs::Stresses::with_entries))]
 fn with_entries<F: Folder>(
     alloc: Global,
+    limits: Limits,
     names: &Names,
     folder: &mut F,
     model: FlowModel,
@@ -25,13 +26,13 @@ fn with_entries<F: Folder>(
     requires valid { IsModel model }
     requires names { NamesMay (F.may folder.old) names.now }
     ensures folder { ReadsOn F.Folder folder.old folder.new result }
-    ensures model { (files : List File) → F.agrees folder.new files → Has (λ m. m) result (with_entries files names.now model) }
+    ensures model { (files : List File) → F.agrees folder.new files → Has (λ m. m) result (with_entries limits files names.now model) }
     ensures form { IfOk result IsModel }
 {
-    let with_wells = list_in(alloc, names, Package::Wel, folder, model)?;
-    let with_rivers = list_in(alloc, names, Package::Riv, folder, with_wells)?;
-    let with_drains = list_in(alloc, names, Package::Drn, folder, with_rivers)?;
-    list_in(alloc, names, Package::Ghb, folder, with_drains)
+    let with_wells = list_in(alloc, limits, names, Package::Wel, folder, model)?;
+    let with_rivers = list_in(alloc, limits, names, Package::Riv, folder, with_wells)?;
+    let with_drains = list_in(alloc, limits, names, Package::Drn, folder, with_rivers)?;
+    list_in(alloc, limits, names, Package::Ghb, folder, with_drains)
 }
 
 /// The model with its stresses, where their files are named: those of entries, then recharge, given heads and
@@ -39,6 +40,7 @@ fn with_entries<F: Folder>(
 #[tactic(auto, unfolding(crate::specs::Stresses::with_stresses))]
 pub fn with_stresses<F: Folder>(
     alloc: Global,
+    limits: Limits,
     names: &Names,
     folder: &mut F,
     model: FlowModel,
@@ -46,11 +48,11 @@ pub fn with_stresses<F: Folder>(
     requires valid { IsModel model }
     requires names { NamesMay (F.may folder.old) names.now }
     ensures folder { ReadsOn F.Folder folder.old folder.new result }
-    ensures model { (files : List File) → F.agrees folder.new files → Has (λ m. m) result (with_stresses files names.now model) }
+    ensures model { (files : List File) → F.agrees folder.new files → Has (λ m. m) result (with_stresses limits files names.now model) }
     ensures form { IfOk result IsModel }
 {
-    let with_generals = with_entries(alloc, names, folder, model)?;
+    let with_generals = with_entries(alloc, limits, names, folder, model)?;
     let with_recharge = rch_in(alloc, names, folder, with_generals)?;
-    let with_given = list_in(alloc, names, Package::Chd, folder, with_recharge)?;
+    let with_given = list_in(alloc, limits, names, Package::Chd, folder, with_recharge)?;
     evt_in(alloc, names, folder, with_given)
 }

@@ -19,6 +19,7 @@ pub use Rattle.model_text.specs.Writable.{HasLists, HasNoEvaporation, HasNoRecha
 pub use Rattle.model_text.specs.Written.{has, is_listed, lines_of, name_file, package_file}
 unfoldable pub use Rattle.model_text.specs.Written.{written}
 pub use Rattle.model_types.specs.Grids.{HasSize}
+pub use Rattle.model_types.specs.declared.limits.Limits.{Limits}
 pub use Rattle.model_types.specs.declared.model.FlowModel.{FlowModel}
 pub use Rattle.model_types.specs.declared.period.Period.{Period}
 pub use Rattle.name_file.specs.Pairs.{Pairs, file_of, has_package, is_same_package}

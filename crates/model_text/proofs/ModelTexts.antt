@@ -2,7 +2,7 @@
 use Rattle.model_text.proofs.Common.{◌≡◌, ℕ, ◌≤◌, pos, Bool, true, false, if◌then◌else◌, List, [], ◌∷◌, length, map, All, Some, None, Ok, refl, ap, list_any}
 use Rattle.model_text.proofs.Common.{File, file_limit, file_at, Pairs, is_same_package, file_of, Package, Dis, Bas, Lpf, Wel, Riv, Drn, Ghb, Rch, Chd, Evt}
 use Rattle.model_text.proofs.Common.{FlowModel, Period, HasSize, where_named, list_in, rch_in, evt_in, with_entries, with_stresses, text, dis_reads, numbers_of}
-use Rattle.model_text.proofs.Common.{heads_of, packages, AreNames, has, lines_of, written, IsWritable, IsDry, IsStill}
+use Rattle.model_text.proofs.Common.{heads_of, packages, AreNames, has, lines_of, written, IsWritable, IsDry, IsStill, Limits}
 use Rattle.model_types.specs.Sources.{cell_of}
 use Rattle.dis_package.specs.Discretization.{begun}
 use Rattle.dis_package.specs.Forms.{without_stresses}
@@ -74,7 +74,7 @@ bare_twice [] = refl
 bare_twice (p ∷ ps) = ap (λ (qs : List Period). without_stresses p ∷ qs) (bare_twice ps)
 
 -- A model is read from files that have its packages under these names.
-module _ (m : FlowModel) (w : IsWritable m) (names : Package → List ℕ) (files : List File) (pairs : Pairs)
+module _ (limits : Limits) (m : FlowModel) (w : IsWritable limits m) (names : Package → List ℕ) (files : List File) (pairs : Pairs)
     (named : (k : Package) → file_of k pairs ≡ (if has m k then Some (names k) else None))
     (there : (k : Package) → has m k ≡ true → file_at files (names k) ≡ Ok (text (lines_of m k))) where
   size : HasSize m.grid
@@ -83,9 +83,9 @@ module _ (m : FlowModel) (w : IsWritable m) (names : Package → List ℕ) (file
   needed_is : (k : Package) → has m k ≡ true → needed k pairs ≡ names k
   needed_is k h = rw (named k, h) refl
 
-  dis_there : dis_in files (names Dis) ≡ Ok (begun m.grid m.lenuni (map without_stresses m.periods))
+  dis_there : dis_in limits files (names Dis) ≡ Ok (begun m.grid m.lenuni (map without_stresses m.periods))
   unfolding dis_in
-  dis_there = rw (there Dis refl) (dis_reads m w.discretization files (names Dis))
+  dis_there = rw (there Dis refl) (dis_reads m w.discretization limits files (names Dis) w.within)
 
   basics_pass : (dis bas : List ℕ) → basics_tested dis bas (basic_part m) ≡ Ok tt
   unfolding basics_tested
@@ -103,41 +103,41 @@ module _ (m : FlowModel) (w : IsWritable m) (names : Package → List ℕ) (file
       let read = lpf_reads files (names Lpf) m w.discretization w.flow (basic_part m) refl (bare_twice m.periods) in
       rw (there Lpf refl, read, properties_kept m (names Lpf), w.passed Properties (names Lpf)) refl
 
-  wells_there : where_named (file_of Wel pairs) (list_in wells files) (staged m (pos 0) (pos 0) without_stresses) ≡ Ok (staged m (pos 0) (pos 0) with_wells)
-  wells_there = list_stage wells cell_of numbers_of list_packages.wel m size w.wel files (names Wel) (pos 0) (pos 0) without_stresses (λ p xs. refl) (λ p. refl) (file_of Wel pairs) (named Wel) (there Wel)
+  wells_there : where_named (file_of Wel pairs) (list_in limits wells files) (staged m (pos 0) (pos 0) without_stresses) ≡ Ok (staged m (pos 0) (pos 0) with_wells)
+  wells_there = list_stage limits wells cell_of numbers_of list_packages.wel m size w.wel files (names Wel) (pos 0) (pos 0) without_stresses (λ p xs. refl) (λ p. refl) (file_of Wel pairs) (named Wel) (there Wel)
 
-  rivers_there : where_named (file_of Riv pairs) (list_in rivers files) (staged m (pos 0) (pos 0) with_wells) ≡ Ok (staged m (pos 0) (pos 0) with_rivers)
-  rivers_there = list_stage rivers cell_of numbers_of list_packages.riv m size w.riv files (names Riv) (pos 0) (pos 0) with_wells (λ p xs. refl) (λ p. refl) (file_of Riv pairs) (named Riv) (there Riv)
+  rivers_there : where_named (file_of Riv pairs) (list_in limits rivers files) (staged m (pos 0) (pos 0) with_wells) ≡ Ok (staged m (pos 0) (pos 0) with_rivers)
+  rivers_there = list_stage limits rivers cell_of numbers_of list_packages.riv m size w.riv files (names Riv) (pos 0) (pos 0) with_wells (λ p xs. refl) (λ p. refl) (file_of Riv pairs) (named Riv) (there Riv)
 
-  drains_there : where_named (file_of Drn pairs) (list_in drains files) (staged m (pos 0) (pos 0) with_rivers) ≡ Ok (staged m (pos 0) (pos 0) with_drains)
-  drains_there = list_stage drains cell_of numbers_of list_packages.drn m size w.drn files (names Drn) (pos 0) (pos 0) with_rivers (λ p xs. refl) (λ p. refl) (file_of Drn pairs) (named Drn) (there Drn)
+  drains_there : where_named (file_of Drn pairs) (list_in limits drains files) (staged m (pos 0) (pos 0) with_rivers) ≡ Ok (staged m (pos 0) (pos 0) with_drains)
+  drains_there = list_stage limits drains cell_of numbers_of list_packages.drn m size w.drn files (names Drn) (pos 0) (pos 0) with_rivers (λ p xs. refl) (λ p. refl) (file_of Drn pairs) (named Drn) (there Drn)
 
-  generals_there : where_named (file_of Ghb pairs) (list_in generals files) (staged m (pos 0) (pos 0) with_drains) ≡ Ok (staged m (pos 0) (pos 0) with_generals)
-  generals_there = list_stage generals cell_of numbers_of list_packages.ghb m size w.ghb files (names Ghb) (pos 0) (pos 0) with_drains (λ p xs. refl) (λ p. refl) (file_of Ghb pairs) (named Ghb) (there Ghb)
+  generals_there : where_named (file_of Ghb pairs) (list_in limits generals files) (staged m (pos 0) (pos 0) with_drains) ≡ Ok (staged m (pos 0) (pos 0) with_generals)
+  generals_there = list_stage limits generals cell_of numbers_of list_packages.ghb m size w.ghb files (names Ghb) (pos 0) (pos 0) with_drains (λ p xs. refl) (λ p. refl) (file_of Ghb pairs) (named Ghb) (there Ghb)
 
   rain_there : where_named (file_of Rch pairs) (rch_in files) (staged m (pos 0) (pos 0) with_generals) ≡ Ok (staged m m.nrchop (pos 0) with_rain)
   rain_there = recharge_stage m size files (names Rch) with_generals (file_of Rch pairs) w.rch dry (named Rch) (there Rch)
 
-  given_there : where_named (file_of Chd pairs) (list_in given_heads files) (staged m m.nrchop (pos 0) with_rain) ≡ Ok (staged m m.nrchop (pos 0) with_given)
+  given_there : where_named (file_of Chd pairs) (list_in limits given_heads files) (staged m m.nrchop (pos 0) with_rain) ≡ Ok (staged m m.nrchop (pos 0) with_given)
   given_there =
-      list_stage given_heads (λ x. x.cell.0) heads_of list_packages.chd m size w.chd files (names Chd) m.nrchop (pos 0) with_rain (λ p xs. refl) (λ p. refl) (file_of Chd pairs) (named Chd) (there Chd)
+      list_stage limits given_heads (λ x. x.cell.0) heads_of list_packages.chd m size w.chd files (names Chd) m.nrchop (pos 0) with_rain (λ p xs. refl) (λ p. refl) (file_of Chd pairs) (named Chd) (there Chd)
 
   all_there : where_named (file_of Evt pairs) (evt_in files) (staged m m.nrchop (pos 0) with_given) ≡ Ok (staged m m.nrchop m.nevtop with_all)
   all_there = evaporation_stage m size files (names Evt) with_given (file_of Evt pairs) w.evt still (named Evt) (there Evt)
 
-  entries_there : with_entries files pairs (staged m (pos 0) (pos 0) without_stresses) ≡ Ok (staged m (pos 0) (pos 0) with_generals)
+  entries_there : with_entries limits files pairs (staged m (pos 0) (pos 0) without_stresses) ≡ Ok (staged m (pos 0) (pos 0) with_generals)
   unfolding with_entries
   entries_there = rw (wells_there, rivers_there, drains_there) generals_there
 
-  stresses_there : with_stresses files pairs (staged m (pos 0) (pos 0) without_stresses) ≡ Ok m
+  stresses_there : with_stresses limits files pairs (staged m (pos 0) (pos 0) without_stresses) ≡ Ok m
   unfolding with_stresses
   stresses_there = rw (entries_there, rain_there, given_there, all_there, all_back m.periods) refl
 
-  model_there : model_of files pairs ≡ Ok m
+  model_there : model_of limits files pairs ≡ Ok m
   unfolding model_of
   model_there = rw (needed_is Dis refl, dis_there, needed_is Bas refl, bas_there, needed_is Lpf refl, lpf_there) stresses_there
 
-module _ (m : FlowModel) (w : IsWritable m) (names : Package → List ℕ) (name : List ℕ) (h : AreNames names name) (small : All (λ f. length f.bytes ≤ file_limit) (written m names name)) where
+module _ (limits : Limits) (m : FlowModel) (w : IsWritable limits m) (names : Package → List ℕ) (name : List ℕ) (h : AreNames names name) (small : All (λ f. length f.bytes ≤ file_limit) (written m names name)) where
   abbrev pairs : Pairs
   pairs = pairs_of names (has m) packages
 
@@ -164,7 +164,7 @@ module _ (m : FlowModel) (w : IsWritable m) (names : Package → List ℕ) (name
   unfolding names_in
   names_there = rw (name_file_there m names name h small) (names_read names name h (has m) refl refl refl)
 
-  pub model_reads : reads (written m names name) name ≡ Ok m
+  pub model_reads : reads limits (written m names name) name ≡ Ok m
   unfolding reads
   model_reads =
-      rw names_there (model_there m w names (written m names name) pairs named (λ k is_in. package_file_there m names name h small k is_in (listed k)))
+      rw names_there (model_there limits m w names (written m names name) pairs named (λ k is_in. package_file_there m names name h small k is_in (listed k)))

@@ -2,7 +2,7 @@
 use Rattle.model_text.proofs.Common.{◌≡◌, ◌⊎◌, inl, inr, ℕ, zero, suc, ℤ, pos, negsuc, Bool, true, false, not, nat_lt, if◌then◌else◌, List, [], ◌∷◌, length}
 use Rattle.model_text.proofs.Common.{map, All, Option, Some, None, Ok, refl, ap, ◌∙◌, arith, AllZip, or_parts, nat_tests, length-map, nil_from_length, All-head}
 use Rattle.model_text.proofs.Common.{All-tail, File, file_at, FlowModel, Period, HasSize, where_named, list_in, rch_in, evt_in, text, list_lines, is_listed}
-use Rattle.model_text.proofs.Common.{HasLists, IsDry, IsStill, HasNoRecharge, HasNoEvaporation}
+use Rattle.model_text.proofs.Common.{HasLists, IsDry, IsStill, HasNoRecharge, HasNoEvaporation, Limits}
 use Rattle.decimal_input.specs.declared.dec.Dec.{Dec}
 use Rattle.model_types.specs.Cells.{cell_count}
 use Rattle.model_types.specs.Receivers.{is_int}
@@ -50,30 +50,30 @@ module _ {E : Type 0} (kind : Kind E) (stage : Period → Period) where
       let first : with_list p ≡ stage p = ap (λ (xs : List E). put kind (stage p) xs) bare ∙ empty p in
       rw first (ap (λ (qs : List Period). stage p ∷ qs) (none_put empty ps parts.1))
 
-  all_lists : (cells : ℕ) → ((p : Period) (xs : List E) → kind.suits (stage p) xs ≡ kind.suits p xs) → (ps : List Period)
-      → All (λ p. IsListOf kind cells p (kind.list p.stresses)) ps → AllZip (λ p xs. IsListOf kind cells p xs) (map stage ps) (lists_of ps)
-  all_lists cells same [] h = tt
-  all_lists cells same (p ∷ ps) h =
-      let first : IsListOf kind cells p (kind.list p.stresses) = All-head (λ q. IsListOf kind cells q (kind.list q.stresses)) p ps h in
-      let rest = All-tail (λ q. IsListOf kind cells q (kind.list q.stresses)) p ps h in
-      (record { few = first.few; entries = first.entries; once = first.once; suits = same p (kind.list p.stresses) ∙ first.suits }, all_lists cells same ps rest)
+  all_lists : (limits : Limits) (cells : ℕ) → ((p : Period) (xs : List E) → kind.suits (stage p) xs ≡ kind.suits p xs) → (ps : List Period)
+      → All (λ p. IsListOf limits kind cells p (kind.list p.stresses)) ps → AllZip (λ p xs. IsListOf limits kind cells p xs) (map stage ps) (lists_of ps)
+  all_lists limits cells same [] h = tt
+  all_lists limits cells same (p ∷ ps) h =
+      let first : IsListOf limits kind cells p (kind.list p.stresses) = All-head (λ q. IsListOf limits kind cells q (kind.list q.stresses)) p ps h in
+      let rest = All-tail (λ q. IsListOf limits kind cells q (kind.list q.stresses)) p ps h in
+      (record { few = first.few; entries = first.entries; once = first.once; suits = same p (kind.list p.stresses) ∙ first.suits }, all_lists limits cells same ps rest)
 
-module _ {E : Type 0} (kind : Kind E) (cell : E → ℕ) (numbers : E → List Dec) (reads : ListsReadAsWritten kind cell numbers)
-    (m : FlowModel) (size : HasSize m.grid) (lists : HasLists kind m) (files : List File) (name : List ℕ) (nrchop nevtop : ℤ) (stage : Period → Period)
+module _ {E : Type 0} (limits : Limits) (kind : Kind E) (cell : E → ℕ) (numbers : E → List Dec) (reads : ListsReadAsWritten kind cell numbers)
+    (m : FlowModel) (size : HasSize m.grid) (lists : HasLists limits kind m) (files : List File) (name : List ℕ) (nrchop nevtop : ℤ) (stage : Period → Period)
     (suits : (p : Period) (xs : List E) → kind.suits (stage p) xs ≡ kind.suits p xs) (empty : (p : Period) → put kind (stage p) [] ≡ stage p) where
   list_there : file_at files name ≡ Ok (text (list_lines m.grid cell numbers (map (λ p. kind.list p.stresses) m.periods)))
-      → list_in kind files name (staged m nrchop nevtop stage) ≡ Ok (staged m nrchop nevtop (with_list kind stage))
+      → list_in limits kind files name (staged m nrchop nevtop stage) ≡ Ok (staged m nrchop nevtop (with_list kind stage))
   unfolding file_in package_of
   list_there there =
-      let good = all_lists kind stage (cell_count m.grid) suits m.periods lists in
-      rw (there, reads name m.grid (map stage m.periods) (map (λ p. kind.list p.stresses) m.periods) size good, lists_put kind stage m.periods) refl
+      let good = all_lists kind stage limits (cell_count m.grid) suits m.periods lists in
+      rw (there, reads limits name m.grid (map stage m.periods) (map (λ p. kind.list p.stresses) m.periods) size good, lists_put kind stage m.periods) refl
 
   pub list_stage : (named : Option (List ℕ)) → named ≡ (if is_listed (λ p. kind.list p.stresses) m.periods then Some name else None)
       → (is_listed (λ p. kind.list p.stresses) m.periods ≡ true → file_at files name ≡ Ok (text (list_lines m.grid cell numbers (map (λ p. kind.list p.stresses) m.periods))))
-      → where_named named (list_in kind files) (staged m nrchop nevtop stage) ≡ Ok (staged m nrchop nevtop (with_list kind stage))
+      → where_named named (list_in limits kind files) (staged m nrchop nevtop stage) ≡ Ok (staged m nrchop nevtop (with_list kind stage))
   list_stage named asked there = by_case (is_listed (λ p. kind.list p.stresses) m.periods) refl
     where
-      by_case : (b : Bool) → is_listed (λ p. kind.list p.stresses) m.periods ≡ b → where_named named (list_in kind files) (staged m nrchop nevtop stage) ≡ Ok (staged m nrchop nevtop (with_list kind stage))
+      by_case : (b : Bool) → is_listed (λ p. kind.list p.stresses) m.periods ≡ b → where_named named (list_in limits kind files) (staged m nrchop nevtop stage) ≡ Ok (staged m nrchop nevtop (with_list kind stage))
       by_case true e = let is : named ≡ Some name = rw e at asked in rw is (list_there (there e))
       by_case false e = let is : named ≡ None = rw e at asked in rw (is, none_put kind stage empty m.periods e) refl
 

@@ -5,6 +5,7 @@ use Rattle.outside.specs.Files.{File}
 use Rattle.outside.specs.Inputs.{file_limit}
 use Rattle.name_file.specs.declared.package.Package.{Package}
 use Rattle.name_file.specs.declared.package.Package.TheVariants.{Dis, Bas, Lpf, Wel, Riv, Drn, Ghb, Rch, Chd, Evt}
+use Rattle.model_types.specs.declared.limits.Limits.{Limits}
 use Rattle.model_types.specs.declared.model.FlowModel.{FlowModel}
 use Rattle.model_reader.specs.Model.{reads}
 use Rattle.array_text.specs.Words.{IsShort}
@@ -46,6 +47,6 @@ file_texts files = flat_map file_text files
 unfoldable pub deck_text : FlowModel → List ℕ
 deck_text m = file_texts (deck_files m) ++ codes "END\n"
 
--- The files are read as the model, where each IBOUND has at most 18 digits and no file is too long.
-abbrev pub IsReadAgain : FlowModel → Type 0
-IsReadAgain m = All IsShort m.ibound → All (λ f. length f.bytes ≤ file_limit) (deck_files m) → reads (deck_files m) deck_name ≡ Ok m
+-- The files are read as the model by these limits, where each IBOUND has at most 18 digits and no file is too long.
+abbrev pub IsReadAgain : Limits → FlowModel → Type 0
+IsReadAgain limits m = All IsShort m.ibound → All (λ f. length f.bytes ≤ file_limit) (deck_files m) → reads limits (deck_files m) deck_name ≡ Ok m

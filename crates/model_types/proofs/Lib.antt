@@ -10,3 +10,4 @@ pub mod Growth
 mod GivenTables
 mod StepLists
 pub mod NoStresses
+pub mod WideLimits

@@ -9,10 +9,10 @@ use Rattle.model_types.specs.Numbers.{IsPositive}
 
 -- The limits on NLAY, NROW, NCOL and the number of cells. Most calls need no more of a grid.
 pub record HasSize (g : Grid) : Type 0 where
-  pub layers : (1 ≤ g.layers) × (g.layers ≤ 64)
-  pub rows : (1 ≤ g.rows) × (g.rows ≤ 1024)
-  pub cols : (1 ≤ g.cols) × (g.cols ≤ 1024)
-  pub cells : cell_count g ≤ 65536
+  pub layers : (1 ≤ g.layers) × (g.layers ≤ 1024)
+  pub rows : (1 ≤ g.rows) × (g.rows ≤ 4096)
+  pub cols : (1 ≤ g.cols) × (g.cols ≤ 4096)
+  pub cells : cell_count g ≤ 4194304
 
 -- a layer, a row and a column of the grid, counted from 1
 pub record IsPlace (g : Grid) (k i j : ℕ) : Type 0 where

@@ -11,3 +11,4 @@ pub mod Sources
 pub mod Numbers
 pub mod Grids
 pub mod Valid
+pub mod Limits

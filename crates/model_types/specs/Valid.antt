@@ -44,9 +44,9 @@ IsEntryValid cells (River cell stage k bottom) = (cell.0 < cells) × IsHeadNumbe
 IsEntryValid cells (Drain cell elevation k) = (cell.0 < cells) × IsHeadNumber elevation × IsNotNegative k
 IsEntryValid cells (General cell head k) = (cell.0 < cells) × IsHeadNumber head × IsNotNegative k
 
--- a list of at most 65536 entries
+-- a list of at most 4194304 entries, as in wide limits
 pub record IsEntryList (cells : ℕ) (xs : List Entry) : Type 0 where
-  pub few : length xs ≤ 65536
+  pub few : length xs ≤ 4194304
   pub entries : All (IsEntryValid cells) xs
 
 pub record IsGivenValid (cells : ℕ) (x : Given) : Type 0 where
@@ -56,7 +56,7 @@ pub record IsGivenValid (cells : ℕ) (x : Given) : Type 0 where
 
 -- a CHD list, which names a cell at most once
 pub record IsGivenList (cells : ℕ) (xs : List Given) : Type 0 where
-  pub few : length xs ≤ 65536
+  pub few : length xs ≤ 4194304
   pub entries : All (IsGivenValid cells) xs
   pub once : AllPairs (λ x y. x.cell ≡ y.cell → ⊥) xs
 

@@ -22,7 +22,7 @@ impl Grid {
     pub fn cell_count(&self) -> u32
         requires size { HasSize self.now }
         ensures count { result ≡ cell_count self.now }
-        ensures few { result ≤ 65536 }
+        ensures few { result ≤ 4194304 }
     {
         self.layers * self.layer_size()
     }

@@ -41,6 +41,7 @@ pub use Rattle.model_types.specs.Layers.{dec_at, int_at, is_nonzero, no_number}
 pub use Rattle.model_types.specs.Numbers.{IsPositive}
 pub use Rattle.model_types.specs.Valid.{IsGrowing, IsTimed, number_one}
 pub use Rattle.model_types.specs.declared.grid.Grid.{Grid}
+pub use Rattle.model_types.specs.declared.limits.Limits.{Limits}
 pub use Rattle.model_types.specs.declared.model.FlowModel.{FlowModel}
 pub use Rattle.model_types.specs.declared.period.Period.{Period}
 pub use Rattle.number_limits.specs.Signs.{is_one, is_positive, within}
@@ -52,7 +53,7 @@ unfoldable pub use Rattle.package_text.specs.Discretization.{dis_item_1, dis_ite
 pub use Rattle.package_text.specs.Flow.{storage_option}
 unfoldable pub use Rattle.package_text.specs.Flow.{lpf_arrays, lpf_item_1, lpf_item_4, lpf_item_5, lpf_lines, lpf_zeros}
 pub use Rattle.package_text.specs.Layers.{each_layer, layer_values}
-pub use Rattle.package_text.specs.Readable.{HasFlow, IsBasic, IsDiscretized, IsOfBeds}
+pub use Rattle.package_text.specs.Readable.{HasFlow, IsBasic, IsDiscretized, IsGridWithin, IsOfBeds}
 pub use Rattle.record_lines.specs.Layout.{Left, is_comment, left_from, next_number, without_comments}
 unfoldable pub use Rattle.record_lines.specs.Reading.{appended, counted, repeated}
 pub use Rattle.record_lines.specs.Spread.{beginning}

@@ -4,7 +4,7 @@ use Rattle.package_text.proofs.Common.{codes, decimal, All-nil, All-cons, All-ap
 use Rattle.package_text.proofs.Common.{File, is_comment, without_comments, left_from, next_number, Grid, FlowModel, cell_count, HasSize, int_at, is_nonzero}
 use Rattle.package_text.proofs.Common.{IsPositive, IsTimed, without_stresses, IsWord, Line, IsLine, line_text, text, numbered_lines, unread, word_by_test}
 use Rattle.package_text.proofs.Common.{count_is_word, integer_is_word, line_words, text_left, next_line, are_lines, layer_values, each_layer, dis_item_1}
-use Rattle.package_text.proofs.Common.{dis_item_2, dis_item_3, dis_item_4, dis_item_5, dis_item_6, dis_item_7, dis_lines, IsDiscretized}
+use Rattle.package_text.proofs.Common.{dis_item_2, dis_item_3, dis_item_4, dis_item_5, dis_item_6, dis_item_7, dis_lines, IsDiscretized, Limits, IsGridWithin}
 use Rattle.decimal_input.specs.Grammar.{is_digit}
 use Rattle.dis_package.specs.Discretization.{begun, head_of, dis_of}
 use Rattle.array_text.proofs.DigitTexts.{digits_spell}
@@ -107,27 +107,27 @@ module _ (m : FlowModel) (h : IsDiscretized m) where
       let short : m.grid.layers < 10 ^ 18 = omega (arith, h.grid.size.layers.1) in
       line_is_item (decimal m.grid.layers) _ (digits_spell m.grid.layers short).some (decimal_is_item m.grid.layers short)
 
-  head_reads : (file : List ℕ) (others : List Line)
-      → head_of file (unread 1 (dis_item_1 m ∷ dis_item_2 m.grid ∷ others))
+  head_reads : (limits : Limits) (file : List ℕ) (others : List Line) → IsGridWithin limits m.grid
+      → head_of limits file (unread 1 (dis_item_1 m ∷ dis_item_2 m.grid ∷ others))
       ≡ Ok ((record { size = record { layers = m.grid.layers; rows = m.grid.rows; cols = m.grid.cols }; periods = length m.periods; lenuni = m.lenuni }, m.grid.laycbd), unread (next_number (next_number 1)) others)
   unfolding head_of
-  head_reads file others =
+  head_reads limits file others w =
       rw (
         next_line file 1 (dis_item_1 m) (dis_item_2 m.grid ∷ others),
         line_words (dis_item_1 m) frame_is_line.words,
-        frame_reads file 1 m h,
+        frame_reads limits file 1 m h w,
         beds_read file (next_number 1) others m.grid h.grid h.laycbd,
       ) refl
 
-  pub dis_reads : (files : List File) (file : List ℕ) → dis_of files file (text (dis_lines m)) ≡ Ok (begun m.grid m.lenuni (map without_stresses m.periods))
+  pub dis_reads : (limits : Limits) (files : List File) (file : List ℕ) → IsGridWithin limits m.grid → dis_of limits files file (text (dis_lines m)) ≡ Ok (begun m.grid m.lenuni (map without_stresses m.periods))
   unfolding dis_of dis_lines
-  dis_reads files file =
+  dis_reads limits files file w =
       let periods = map dis_item_7 m.periods in
       let n = next_number (next_number 1) in
       let start = file_begins (dis_item_1 m) (dis_item_2 m.grid ∷ grid_lines files file m.grid h.grid h.bed_bottom periods) dis_is_lines.all frame_is_item in
       rw (
         start,
-        head_reads file (grid_lines files file m.grid h.grid h.bed_bottom periods),
+        head_reads limits file (grid_lines files file m.grid h.grid h.bed_bottom periods) w,
         grid_reads files file m.grid h.grid h.bed_bottom n periods,
         periods_read file (grid_end files file m.grid h.grid h.bed_bottom n) m.periods h.times h.steps,
       ) refl

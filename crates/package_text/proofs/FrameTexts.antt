@@ -4,21 +4,23 @@ use Rattle.package_text.proofs.Common.{arith, ℤ, pos, codes, decimal, map-appe
 use Rattle.package_text.proofs.Common.{All-weaker, nat_tests, Left, next_number, repeated, beginning, integer, value_at, value_alone, Grid, FlowModel, HasSize}
 use Rattle.package_text.proofs.Common.{IsGrid, int_at, zero_at, size_at, frame_of, IsShort, IsWord, integer_word, Line, unread, row_line, IsWrittenAs, on_line}
 use Rattle.package_text.proofs.Common.{value_reads, values_read, last_word, line_begins, alone_begins, same_start, row_is_words, integer_written, dis_item_1}
-use Rattle.package_text.proofs.Common.{dis_item_2, IsDiscretized}
+use Rattle.package_text.proofs.Common.{dis_item_2, IsDiscretized, Limits, IsGridWithin}
+use Rattle.model_types.specs.Limits.{most_layers, most_in_row, most_cells}
+use Rattle.model_types.proofs.WideLimits.{layers_few, in_row_few}
 use Rattle.dis_package.specs.Beds.{beds_of}
 use Rattle.package_text.proofs.CountTexts.{count_reads, integer_item, zero_item}
 
 -- item 1
-pub frame_reads : (file : List ℕ) (line : ℕ) (m : FlowModel) → IsDiscretized m
-    → frame_of file line (dis_item_1 m) ≡ Ok (record { size = record { layers = m.grid.layers; rows = m.grid.rows; cols = m.grid.cols }; periods = length m.periods; lenuni = m.lenuni })
+pub frame_reads : (limits : Limits) (file : List ℕ) (line : ℕ) (m : FlowModel) → IsDiscretized m → IsGridWithin limits m.grid
+    → frame_of limits file line (dis_item_1 m) ≡ Ok (record { size = record { layers = m.grid.layers; rows = m.grid.rows; cols = m.grid.cols }; periods = length m.periods; lenuni = m.lenuni })
 unfolding frame_of size_at dis_item_1
-frame_reads file line m h =
+frame_reads limits file line m h w =
     let g = m.grid in
     let s : HasSize g = h.grid.size in
-    let few : nat_le (g.layers * (g.rows * g.cols)) 65536 ≡ true = grind (arith, nat_tests, s.cells) in
-    let cols_word = count_reads file line 1024 g.cols (decimal (length m.periods) ∷ codes "0" ∷ integer_word m.lenuni ∷ []) s.cols.0 s.cols.1 (omega arith) in
-    let rows_word = count_reads file line 1024 g.rows (decimal g.cols ∷ decimal (length m.periods) ∷ codes "0" ∷ integer_word m.lenuni ∷ []) s.rows.0 s.rows.1 (omega arith) in
-    let layers_word = count_reads file line 64 g.layers (decimal g.rows ∷ decimal g.cols ∷ decimal (length m.periods) ∷ codes "0" ∷ integer_word m.lenuni ∷ []) s.layers.0 s.layers.1 (omega arith) in
+    let few : nat_le (g.layers * (g.rows * g.cols)) (most_cells limits) ≡ true = grind (arith, nat_tests, w.cells) in
+    let cols_word = count_reads file line (most_in_row limits) g.cols (decimal (length m.periods) ∷ codes "0" ∷ integer_word m.lenuni ∷ []) s.cols.0 w.cols (omega (arith, in_row_few limits)) in
+    let rows_word = count_reads file line (most_in_row limits) g.rows (decimal g.cols ∷ decimal (length m.periods) ∷ codes "0" ∷ integer_word m.lenuni ∷ []) s.rows.0 w.rows (omega (arith, in_row_few limits)) in
+    let layers_word = count_reads file line (most_layers limits) g.layers (decimal g.rows ∷ decimal g.cols ∷ decimal (length m.periods) ∷ codes "0" ∷ integer_word m.lenuni ∷ []) s.layers.0 w.layers (omega (arith, layers_few limits)) in
     let periods_word = count_reads file line 1000 (length m.periods) (codes "0" ∷ integer_word m.lenuni ∷ []) h.some h.few (omega arith) in
     let itmuni = zero_item file line (integer_word m.lenuni ∷ []) in
     rw (layers_word, rows_word, cols_word, few, periods_word, itmuni, integer_item file line m.lenuni [] h.lenuni) refl

@@ -1,6 +1,7 @@
 -- Statements of laws: each package's file is read as written.
 use Rattle.std.specs.Prelude.{◌≡◌, ℕ, List, map, Ok}
 use Rattle.outside.specs.Files.{File}
+use Rattle.model_types.specs.declared.limits.Limits.{Limits}
 use Rattle.model_types.specs.declared.model.FlowModel.{FlowModel}
 use Rattle.dis_package.specs.Discretization.{begun, dis_of}
 use Rattle.dis_package.specs.Forms.{without_stresses}
@@ -10,12 +11,12 @@ use Rattle.array_text.specs.Lines.{text}
 use Rattle.package_text.specs.Discretization.{dis_lines}
 use Rattle.package_text.specs.Basics.{bas_lines}
 use Rattle.package_text.specs.Flow.{lpf_lines}
-use Rattle.package_text.specs.Readable.{IsDiscretized, IsBasic, HasFlow}
+use Rattle.package_text.specs.Readable.{IsDiscretized, IsGridWithin, IsBasic, HasFlow}
 
--- the file of DIS gives the grid, LENUNI and the stress periods
+-- the file of DIS gives the grid, LENUNI and the stress periods by limits that the grid keeps
 abbrev pub DisReadsAsWritten : Type 0
-DisReadsAsWritten = (files : List File) (file : List ℕ) (m : FlowModel) → IsDiscretized m →
-    dis_of files file (text (dis_lines m)) ≡ Ok (begun m.grid m.lenuni (map without_stresses m.periods))
+DisReadsAsWritten = (limits : Limits) (files : List File) (file : List ℕ) (m : FlowModel) → IsDiscretized m → IsGridWithin limits m.grid →
+    dis_of limits files file (text (dis_lines m)) ≡ Ok (begun m.grid m.lenuni (map without_stresses m.periods))
 
 -- the file of BAS6 gives IBOUND and STRT to a model with this grid
 abbrev pub BasReadsAsWritten : Type 0

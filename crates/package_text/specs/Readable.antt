@@ -3,9 +3,11 @@ use Rattle.std.specs.Prelude.{◌≡◌, ℕ, ◌<◌, ◌≤◌, false, cond, L
 use Rattle.decimal_input.specs.declared.dec.Dec.{Dec}
 use Rattle.decimal_input.specs.Canonical.{IsDec}
 use Rattle.model_types.specs.declared.grid.Grid.{Grid}
+use Rattle.model_types.specs.declared.limits.Limits.{Limits}
 use Rattle.model_types.specs.declared.model.FlowModel.{FlowModel}
 use Rattle.model_types.specs.Cells.{layer_size, cell_count}
 use Rattle.model_types.specs.Grids.{IsGrid}
+use Rattle.model_types.specs.Limits.{most_layers, most_in_row, most_cells}
 use Rattle.model_types.specs.Layers.{int_at, is_nonzero, no_number}
 use Rattle.model_types.specs.Valid.{IsTimed}
 use Rattle.lpf_package.specs.Flow.{is_transient}
@@ -15,6 +17,13 @@ use Rattle.package_text.specs.Layers.{layer_values}
 -- a list by cell is 0 in each layer that has no confining bed below it
 abbrev pub IsOfBeds : Grid → List Dec → Type 0
 IsOfBeds g xs = (k : ℕ) → k < g.layers → is_nonzero (int_at g.laycbd k) ≡ false → layer_values g k xs ≡ replicate (layer_size g) no_number
+
+-- a grid of at most these limits
+pub record IsGridWithin (limits : Limits) (g : Grid) : Type 0 where
+  pub layers : g.layers ≤ most_layers limits
+  pub rows : g.rows ≤ most_in_row limits
+  pub cols : g.cols ≤ most_in_row limits
+  pub cells : cell_count g ≤ most_cells limits
 
 -- DIS: a grid in limits, integers of at most 18 digits, and 1 to 1000 stress periods with at most 100000 time steps
 pub record IsDiscretized (m : FlowModel) : Type 0 where

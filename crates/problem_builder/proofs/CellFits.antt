@@ -25,7 +25,7 @@ pub capped_in_order : (t : Term) (s lo hi : ℕ) (r : Ratio) → IsCapped t s lo
 capped_in_order t s lo hi r (inl k) h = enclosed_ordered lo hi s r (h k.1)
 capped_in_order t s lo hi r (inr k) h = omega (arith, k.lower, k.upper)
 
-drain_valid : (y : Entry) (r : DrainSource) → as_drain y ≡ Some r → IsEntryValid 65536 y → IsHeadNumber r.elevation
+drain_valid : (y : Entry) (r : DrainSource) → as_drain y ≡ Some r → IsEntryValid 4194304 y → IsHeadNumber r.elevation
 drain_valid (Well cell q) r e h = absurd (none-some r e)
 drain_valid (RiverEntry cell a k b) r e h = absurd (none-some r e)
 drain_valid (DrainEntry cell a k) r e h = let P : DrainSource → Type 0 = λ z. IsHeadNumber z.elevation in subst P (some_same e) h.1
@@ -38,7 +38,7 @@ drain_fits s x r p k =
 
 module _ (m : FlowModel) (w : Thicknesses) (s : ℕ) (at : TimeStep) (old : List Bound) (valid : IsModel m) (time : IsTimeOf m at) (near : BoundsEnclose m w s at) (heads : AreGridHeads m old)
     (e : Entries) (c : ℕ) (lt : c < cell_count m.grid) (v : is_variable m at.period c ≡ true) (is : IsCellOf m w s at old e c) where
-  entries_fit : All (IsEntryValid 65536) (local_entries m at.period c)
+  entries_fit : All (IsEntryValid 4194304) (local_entries m at.period c)
   entries_fit = local_valid m at.period c valid time.valid
 
   here : is_active m c ≡ true
@@ -80,11 +80,11 @@ module _ (m : FlowModel) (w : Thicknesses) (s : ℕ) (at : TimeStep) (old : List
         fixed = zip_all FixedFits (IsFixed m w s at old c) e.fixed (fixed_sources m at.period c) one_fixed is.fixed;
         rivers = zip_all RiverFits (IsRiver s) e.rivers (river_sources m at.period c)
             (λ x r j q. let (y, l, o) = filter_map-In as_river (local_entries m at.period c) r j in
-            let z = river_valid y r o (In-All (IsEntryValid 65536) (local_entries m at.period c) y entries_fit l) in
+            let z = river_valid y r o (In-All (IsEntryValid 4194304) (local_entries m at.period c) y entries_fit l) in
             river_fits s x r z.0 z.1 q) is.rivers;
         drains = zip_all DrainFits (IsDrain s) e.drains (drain_sources m at.period c)
             (λ x r j q. let (y, l, o) = filter_map-In as_drain (local_entries m at.period c) r j in
-            drain_fits s x r (drain_valid y r o (In-All (IsEntryValid 65536) (local_entries m at.period c) y entries_fit l)) q) is.drains;
+            drain_fits s x r (drain_valid y r o (In-All (IsEntryValid 4194304) (local_entries m at.period c) y entries_fit l)) q) is.drains;
         evaps = zip_all EvapFits (IsEvap m s c) e.evaps (evap_sources m at.period c)
             (λ x r j q. evap_fits m s c x r (In-All IsEvapValid (evap_sources m at.period c) r (valid.evaps at.period c lt here) j) q) is.evaps;
         conductances = k.conductances;

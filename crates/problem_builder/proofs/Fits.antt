@@ -34,7 +34,7 @@ pub head_pair_range : (d : Dec) (lo hi : ℤ) → IsHeadNumber d → IsHeadPair 
 head_pair_range d lo hi h k = (floor_in_range (number d) lo h.range k.floor, ceiling_in_range (number d) hi h.range k.ceiling)
 
 -- a river of the lists has heads in range
-pub river_valid : (y : Entry) (r : RiverSource) → as_river y ≡ Some r → IsEntryValid 65536 y → IsHeadNumber r.stage × IsHeadNumber r.bottom
+pub river_valid : (y : Entry) (r : RiverSource) → as_river y ≡ Some r → IsEntryValid 4194304 y → IsHeadNumber r.stage × IsHeadNumber r.bottom
 river_valid (Well cell q) r e h = absurd (none-some r e)
 river_valid (RiverEntry cell a k b) r e h = let P : RiverSource → Type 0 = λ z. IsHeadNumber z.stage × IsHeadNumber z.bottom in subst P (some_same e) (h.1, h.3)
 river_valid (DrainEntry cell a k) r e h = absurd (none-some r e)
@@ -78,7 +78,7 @@ module _ (i : Inputs) (c : ℕ) (e : Entries) (are : AreInputs i) (v : IsVariabl
   pub rivers_fit : All RiverFits e.rivers
   rivers_fit = zip_all RiverFits (IsRiver i.tables.digits) e.rivers (river_sources i.model i.at.period c)
       (λ x r j k. let (y, l, q) = filter_map-In as_river (local_entries i.model i.at.period c) r j in
-      let w = river_valid y r q (In-All (IsEntryValid 65536) (local_entries i.model i.at.period c) y (local_valid i.model i.at.period c are.model are.time.valid) l) in
+      let w = river_valid y r q (In-All (IsEntryValid 4194304) (local_entries i.model i.at.period c) y (local_valid i.model i.at.period c are.model are.time.valid) l) in
       river_fits i.tables.digits x r w.0 w.1 k) is.rivers
 
   pub evaps_fit : All EvapFits e.evaps

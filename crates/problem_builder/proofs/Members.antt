@@ -127,18 +127,18 @@ head_of (ToConstant f) = None
 head_of (ToGeneral h k) = Some h
 head_of FromStorage = None
 
-general_valid : (y : Entry) (h k : Dec) → as_general y ≡ Some (ToGeneral h k) → IsEntryValid 65536 y → IsHeadNumber h
+general_valid : (y : Entry) (h k : Dec) → as_general y ≡ Some (ToGeneral h k) → IsEntryValid 4194304 y → IsHeadNumber h
 general_valid (Well cell q) h k e v = absurd (none-some (ToGeneral h k) e)
 general_valid (RiverEntry cell a b d) h k e v = absurd (none-some (ToGeneral h k) e)
 general_valid (DrainEntry cell a b) h k e v = absurd (none-some (ToGeneral h k) e)
 general_valid (GeneralEntry cell a b) h k e v = subst IsHeadNumber (some_same (ap head_of (some_same e))) v.1
 
 -- the head of a general head among the sources is one of the list
-pub general_among : (m : FlowModel) (p c : ℕ) (h k : Dec) → In (fixed_sources m p c) (ToGeneral h k) → All (IsEntryValid 65536) (local_entries m p c) → IsHeadNumber h
+pub general_among : (m : FlowModel) (p c : ℕ) (h k : Dec) → In (fixed_sources m p c) (ToGeneral h k) → All (IsEntryValid 4194304) (local_entries m p c) → IsHeadNumber h
 general_among m p c h k i valid = elim (In-append (option_to_list (storage_at m p) ++ map ToConstant (constant_faces m p c)) (filter_map as_general (local_entries m p c)) (ToGeneral h k) i) [
   | inl j ↦ (elim (In-append (option_to_list (storage_at m p)) (map ToConstant (constant_faces m p c)) (ToGeneral h k) j) [
     | inl l ↦ absurd (false≢true (ap is_general_source (storage_test (period_at m p).steady (ToGeneral h k) (In-option (storage_at m p) (ToGeneral h k) l)).1))
     | inr l ↦ (let (g, n, e) = map-In ToConstant (constant_faces m p c) (ToGeneral h k) l in absurd (false≢true (ap is_general_source e)))
   ])
-  | inr j ↦ (let (y, n, e) = filter_map-In as_general (local_entries m p c) (ToGeneral h k) j in general_valid y h k e (In-All (IsEntryValid 65536) (local_entries m p c) y valid n))
+  | inr j ↦ (let (y, n, e) = filter_map-In as_general (local_entries m p c) (ToGeneral h k) j in general_valid y h k e (In-All (IsEntryValid 4194304) (local_entries m p c) y valid n))
 ]

@@ -3,7 +3,7 @@ use Rattle.problem_builder.proofs.Common.{ℕ, ◌≤◌, ◌++◌, arith, All, 
 use Rattle.problem_builder.proofs.Common.{cell_of, entries_of, local_entries, period_at, entries, IsModel, IsPeriod, IsEntryValid}
 use Rattle.model_types.specs.declared.entry.Entry.TheVariants.{River, Drain}
 
-pub wider : (n : ℕ) (x : Entry) → n ≤ 65536 → IsEntryValid n x → IsEntryValid 65536 x
+pub wider : (n : ℕ) (x : Entry) → n ≤ 4194304 → IsEntryValid n x → IsEntryValid 4194304 x
 wider n (Well cell q) le h = (omega (arith, le, h.0), h.1)
 wider n (River cell stage k bottom) le h = (omega (arith, le, h.0), h.1, h.2, h.3)
 wider n (Drain cell elevation k) le h = (omega (arith, le, h.0), h.1, h.2)
@@ -16,8 +16,8 @@ all_entries m p q =
     let h = q.stresses in
     All-append P t.wells (t.rivers ++ (t.drains ++ t.generals)) h.wells.entries (All-append P t.rivers (t.drains ++ t.generals) h.rivers.entries (All-append P t.drains t.generals h.drains.entries h.generals.entries))
 
-pub local_valid : (m : FlowModel) (p c : ℕ) → IsModel m → IsPeriod m (period_at m p) → All (IsEntryValid 65536) (local_entries m p c)
+pub local_valid : (m : FlowModel) (p c : ℕ) → IsModel m → IsPeriod m (period_at m p) → All (IsEntryValid 4194304) (local_entries m p c)
 unfolding entries_of
 local_valid m p c valid q =
     let n = cell_count m.grid in
-    All-filter (λ x. cell_of x == c) (IsEntryValid 65536) (entries (period_at m p)) (All-weaker (IsEntryValid n) (IsEntryValid 65536) (λ x h. wider n x valid.grid.size.cells h) (entries (period_at m p)) (all_entries m p q))
+    All-filter (λ x. cell_of x == c) (IsEntryValid 4194304) (entries (period_at m p)) (All-weaker (IsEntryValid n) (IsEntryValid 4194304) (λ x h. wider n x valid.grid.size.cells h) (entries (period_at m p)) (all_entries m p q))

@@ -49,4 +49,4 @@ AreAppended s old new added =
 
 -- an entry of a cell of a grid of this many
 abbrev pub IsEntryIn : ℕ → Entry → Type 0
-IsEntryIn cells x = (cell_of x < cells) × IsEntryValid 65536 x
+IsEntryIn cells x = (cell_of x < cells) × IsEntryValid 4194304 x

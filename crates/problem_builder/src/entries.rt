@@ -52,7 +52,7 @@ impl LocalEntries {
 
     /// Appends the bounds of an entry of the cell, with s digits of conductances.
     pub fn add(&mut self, entry: &Entry, cell: u32, s: u32) -> Result<(), AllocError>
-        requires entry { IsEntryValid 65536 entry.now }
+        requires entry { IsEntryValid 4194304 entry.now }
         requires places { s ≤ 18 }
         ensures { IfOk result
             (λ _. (entries : List DeclaredEntry) → AreLocalBounds s cell self.old entries →
@@ -67,7 +67,7 @@ impl LocalEntries {
 }
 
 fn river(entry: &Entry, s: u32) -> Option<River>
-    requires entry { IsEntryValid 65536 entry.now }
+    requires entry { IsEntryValid 4194304 entry.now }
     ensures { BothOrNone (IsRiver s) result (as_river entry.now) }
 {
     match entry {
@@ -94,7 +94,7 @@ fn river(entry: &Entry, s: u32) -> Option<River>
 }
 
 fn drain(entry: &Entry, s: u32) -> Option<Drain>
-    requires entry { IsEntryValid 65536 entry.now }
+    requires entry { IsEntryValid 4194304 entry.now }
     ensures { BothOrNone (IsDrain s) result (as_drain entry.now) }
 {
     match entry {
@@ -117,7 +117,7 @@ fn drain(entry: &Entry, s: u32) -> Option<Drain>
 }
 
 fn general(entry: &Entry, cell: u32, s: u32) -> Option<Fixed>
-    requires entry { IsEntryValid 65536 entry.now }
+    requires entry { IsEntryValid 4194304 entry.now }
     ensures { BothOrNone (IsGeneralSource s cell) result (as_general entry.now) }
 {
     match entry {
@@ -130,7 +130,7 @@ fn general(entry: &Entry, cell: u32, s: u32) -> Option<Fixed>
 }
 
 fn well(entry: &Entry, s: u32) -> Option<Flow>
-    requires entry { IsEntryValid 65536 entry.now }
+    requires entry { IsEntryValid 4194304 entry.now }
     requires places { s ≤ 18 }
     ensures { BothOrNone (IsWellSource s) result (as_well entry.now) }
 {

@@ -101,7 +101,7 @@ module _ (p q r : List Entries) (first : IsProblem p) (second : IsProblem q) (h 
 
   pub is_problem : ((c : ℕ) → c < length r → conductance_of (entries_at r c) < 2 ^ 60) → ((c : ℕ) → c < length r → flow_of (entries_at r c) < 2 ^ 109) → IsProblem r
   is_problem conductances flows = record {
-    few = subst (λ (n : ℕ). n ≤ 65536) (sym count) first.few;
+    few = subst (λ (n : ℕ). n ≤ 4194304) (sym count) first.few;
     ascending = λ c d lt below. subst (λ (n : ℕ). n < (entries_at r d).id) (sym (ids_at p q r c h)) (subst (λ (n : ℕ). (entries_at p c).id < n) (sym (ids_at p q r d h)) (first.ascending c d lt (in_first d below)));
     cells = λ c lt. cell_fits c lt (conductances c lt) (flows c lt);
     links = λ c lt. links_fit c lt;

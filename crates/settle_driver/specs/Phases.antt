@@ -9,11 +9,11 @@ use Rattle.head_table.specs.BySide.{HasMoved}
 use Rattle.head_table.specs.Seats.{IsSeatOf, seen_on, seen_of}
 use Rattle.settle_driver.specs.declared.plan.Plan.{Plan}
 
--- workers from 1 to 64, at most 1024 turns for each cell, and at least one round
+-- workers from 1 to 64, at most 512 turns for each cell, and at least one round
 pub record IsPlan (plan : Plan) : Type 0 where
   pub some_worker : 1 ≤ plan.workers
   pub workers : plan.workers ≤ 64
-  pub turns : plan.turns_per_cell ≤ 1024
+  pub turns : plan.turns_per_cell ≤ 512
   pub some_round : 1 ≤ plan.rounds
 
 -- each of `workers` workers makes `each` turns: together at least all turns, and none more than needed

@@ -97,7 +97,7 @@ pub record LinksFit (p : List Entries) (c : ℕ) (links : List Link) : Type 0 wh
 
 -- a step's problem: its variable cells by ascending cell number
 pub record IsProblem (p : List Entries) : Type 0 where
-  pub few : length p ≤ 65536
+  pub few : length p ≤ 4194304
   pub ascending : (c d : ℕ) → c < d → d < length p → (entries_at p c).id < (entries_at p d).id
   pub cells : (c : ℕ) → c < length p → CellFits (entries_at p c)
   pub links : (c : ℕ) → c < length p → LinksFit p c (entries_at p c).links

@@ -12,7 +12,7 @@ use links::{MOST_LINKS, links_fit};
 use ranges::in_range;
 pub use sums::{conductances_fit, flows_fit};
 
-const MOST_CELLS: usize = 65_536;
+const MOST_CELLS: usize = 4_194_304;
 
 /// Whether these cells make a problem: the condition of `Problem::new`. It takes time in proportion to the number of entries.
 pub fn fits(cells: &[Cell]) -> bool
@@ -35,7 +35,7 @@ fn ids_ascend(cells: &[Cell]) -> bool
 }
 
 fn each_fits(cells: &[Cell]) -> bool
-    requires { length cells.now ≤ 65536 }
+    requires { length cells.now ≤ 4194304 }
     ensures { IsTrue result ↔ (((c : ℕ) → c < length cells.now → CellFits (entries_at cells.now c))
         × ((c : ℕ) → c < length cells.now → LinksFit cells.now c (entries_at cells.now c).links)) }
 {
@@ -69,7 +69,7 @@ fn entries_fit(cell: &Cell) -> bool
 
 // The numbers of links are tested first, so that no test searches more than six links.
 fn all_links_hold(cells: &[Cell]) -> bool
-    requires { length cells.now ≤ 65536 }
+    requires { length cells.now ≤ 4194304 }
     ensures { IsTrue result ↔ ((c : ℕ) → c < length cells.now → LinksFit cells.now c (entries_at cells.now c).links) }
 {
     links_are_few(cells) && all_links_fit(cells)
@@ -88,7 +88,7 @@ fn has_few_links(cell: &Cell) -> bool
 }
 
 fn all_links_fit(cells: &[Cell]) -> bool
-    requires { length cells.now ≤ 65536 }
+    requires { length cells.now ≤ 4194304 }
     ensures { IsTrue result ↔ ((c : ℕ) → c < length cells.now → LinksFit cells.now c (entries_at cells.now c).links) }
 {
     for c in 0..cells.len() {

@@ -12,94 +12,98 @@ ghost use Rattle.list_package.specs.Lists.{package_of};
 ghost use Rattle.stress_packages.specs.Packages.{wells, rivers, drains, generals};
 
 use list_package::{ListKind, read_package};
-use model_types::{Entry, FlowModel};
+use model_types::{Entry, FlowModel, Limits};
 use outside::TextFault;
 use std::alloc::Global;
 
 /// The model with its lists of wells, from a file of the package WEL.
 ///
 /// # Errors
-/// TooManyEntries past 65536 entries in a list, NothingToReuse where the first list is to be reused, OutOfProfile for
+/// TooManyEntries past the most entries of a list, NothingToReuse where the first list is to be reused, OutOfProfile for
 /// parameters or another file's entries; of an entry CellOutside, HeadTooLarge or BadProperty.
 /// (TM 6-A16, WEL)
 #[tactic(auto, using(list_package::proofs::EntryLaws::entry_lists))]
 pub fn read_wel(
     alloc: Global,
+    limits: Limits,
     file: &str,
     bytes: &[u8],
     model: FlowModel,
 ) -> Result<FlowModel, TextFault>
     requires size { HasSize model.grid }
-    ensures model { HasText (λ m. m) result (package_of wells file.now bytes.now model) }
+    ensures model { HasText (λ m. m) result (package_of limits wells file.now bytes.now model) }
     ensures lists { IfOk result (λ m. All (λ p. IsEntryList (cell_count model.grid) p.stresses.wells) m.periods) }
     ensures others { IfOk result (SameBut wells model) }
     ensures valid { IsModel model → IfOk result IsModel }
 {
-    read_package::<Entry>(alloc, ListKind::Wells, file, bytes, model)
+    read_package::<Entry>(alloc, limits, ListKind::Wells, file, bytes, model)
 }
 
 /// The model with its lists of river reaches, from a file of the package RIV.
 ///
 /// # Errors
-/// TooManyEntries past 65536 entries in a list, NothingToReuse where the first list is to be reused, OutOfProfile for
+/// TooManyEntries past the most entries of a list, NothingToReuse where the first list is to be reused, OutOfProfile for
 /// parameters or another file's entries; of an entry CellOutside, HeadTooLarge or BadProperty.
 /// (TM 6-A16, RIV)
 #[tactic(auto, using(list_package::proofs::EntryLaws::entry_lists))]
 pub fn read_riv(
     alloc: Global,
+    limits: Limits,
     file: &str,
     bytes: &[u8],
     model: FlowModel,
 ) -> Result<FlowModel, TextFault>
     requires size { HasSize model.grid }
-    ensures model { HasText (λ m. m) result (package_of rivers file.now bytes.now model) }
+    ensures model { HasText (λ m. m) result (package_of limits rivers file.now bytes.now model) }
     ensures lists { IfOk result (λ m. All (λ p. IsEntryList (cell_count model.grid) p.stresses.rivers) m.periods) }
     ensures others { IfOk result (SameBut rivers model) }
     ensures valid { IsModel model → IfOk result IsModel }
 {
-    read_package::<Entry>(alloc, ListKind::Rivers, file, bytes, model)
+    read_package::<Entry>(alloc, limits, ListKind::Rivers, file, bytes, model)
 }
 
 /// The model with its lists of drains, from a file of the package DRN.
 ///
 /// # Errors
-/// TooManyEntries past 65536 entries in a list, NothingToReuse where the first list is to be reused, OutOfProfile for
+/// TooManyEntries past the most entries of a list, NothingToReuse where the first list is to be reused, OutOfProfile for
 /// parameters or another file's entries; of an entry CellOutside, HeadTooLarge or BadProperty.
 /// (TM 6-A16, DRN)
 #[tactic(auto, using(list_package::proofs::EntryLaws::entry_lists))]
 pub fn read_drn(
     alloc: Global,
+    limits: Limits,
     file: &str,
     bytes: &[u8],
     model: FlowModel,
 ) -> Result<FlowModel, TextFault>
     requires size { HasSize model.grid }
-    ensures model { HasText (λ m. m) result (package_of drains file.now bytes.now model) }
+    ensures model { HasText (λ m. m) result (package_of limits drains file.now bytes.now model) }
     ensures lists { IfOk result (λ m. All (λ p. IsEntryList (cell_count model.grid) p.stresses.drains) m.periods) }
     ensures others { IfOk result (SameBut drains model) }
     ensures valid { IsModel model → IfOk result IsModel }
 {
-    read_package::<Entry>(alloc, ListKind::Drains, file, bytes, model)
+    read_package::<Entry>(alloc, limits, ListKind::Drains, file, bytes, model)
 }
 
 /// The model with its lists of general heads, from a file of the package GHB.
 ///
 /// # Errors
-/// TooManyEntries past 65536 entries in a list, NothingToReuse where the first list is to be reused, OutOfProfile for
+/// TooManyEntries past the most entries of a list, NothingToReuse where the first list is to be reused, OutOfProfile for
 /// parameters or another file's entries; of an entry CellOutside, HeadTooLarge or BadProperty.
 /// (TM 6-A16, GHB)
 #[tactic(auto, using(list_package::proofs::EntryLaws::entry_lists))]
 pub fn read_ghb(
     alloc: Global,
+    limits: Limits,
     file: &str,
     bytes: &[u8],
     model: FlowModel,
 ) -> Result<FlowModel, TextFault>
     requires size { HasSize model.grid }
-    ensures model { HasText (λ m. m) result (package_of generals file.now bytes.now model) }
+    ensures model { HasText (λ m. m) result (package_of limits generals file.now bytes.now model) }
     ensures lists { IfOk result (λ m. All (λ p. IsEntryList (cell_count model.grid) p.stresses.generals) m.periods) }
     ensures others { IfOk result (SameBut generals model) }
     ensures valid { IsModel model → IfOk result IsModel }
 {
-    read_package::<Entry>(alloc, ListKind::Generals, file, bytes, model)
+    read_package::<Entry>(alloc, limits, ListKind::Generals, file, bytes, model)
 }

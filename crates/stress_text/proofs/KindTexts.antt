@@ -44,9 +44,9 @@ heads_write = record { numbers_are = λ at c n. two c n; cell_is = λ at c. refl
 
 pub list_packages : ListPackagesReadAsWritten
 list_packages = record {
-  wel = λ file g ps lists size good. file_reads wells cell_of numbers_of wells_write file g size ps lists good;
-  riv = λ file g ps lists size good. file_reads rivers cell_of numbers_of rivers_write file g size ps lists good;
-  drn = λ file g ps lists size good. file_reads drains cell_of numbers_of drains_write file g size ps lists good;
-  ghb = λ file g ps lists size good. file_reads generals cell_of numbers_of generals_write file g size ps lists good;
-  chd = λ file g ps lists size good. file_reads given_heads (λ x. x.cell.0) heads_of heads_write file g size ps lists good;
+  wel = λ limits file g ps lists size good. file_reads limits wells cell_of numbers_of wells_write file g size ps lists good;
+  riv = λ limits file g ps lists size good. file_reads limits rivers cell_of numbers_of rivers_write file g size ps lists good;
+  drn = λ limits file g ps lists size good. file_reads limits drains cell_of numbers_of drains_write file g size ps lists good;
+  ghb = λ limits file g ps lists size good. file_reads limits generals cell_of numbers_of generals_write file g size ps lists good;
+  chd = λ limits file g ps lists size good. file_reads limits given_heads (λ x. x.cell.0) heads_of heads_write file g size ps lists good;
 }

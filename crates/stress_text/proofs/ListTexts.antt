@@ -4,7 +4,10 @@ use Rattle.stress_text.proofs.Common.{All, Option, Some, None, is_some, Ok, refl
 use Rattle.stress_text.proofs.Common.{All-weaker, All-from_recursion, nat_tests, Dec, next_number, for_each, is_word, Grid, cell_count, HasSize, Kind, IsWord}
 use Rattle.stress_text.proofs.Common.{Line, IsLine, line_text, text, number_after, unread, digits_spell, count_is_word, word_by_test, line_words, next_line}
 use Rattle.stress_text.proofs.Common.{decimal_item, list_item_2, list_item_5, period_list, list_lines, IsEntry, IsListOf, with_lists}
+use Rattle.model_types.specs.declared.limits.Limits.{Limits}
 use Rattle.model_types.specs.declared.period.Period.{Period}
+use Rattle.model_types.specs.Limits.{most_entries}
+use Rattle.model_types.proofs.WideLimits.{entries_few}
 use Rattle.list_package.specs.Headers.{entries, header_of, item_line}
 use Rattle.list_package.specs.Lists.{list_at, period_at, periods_of, lists_of}
 use Rattle.package_text.proofs.LineCounts.{number_after-append}
@@ -19,11 +22,11 @@ counts_are_line n small =
     record { some = omega arith; words = All-from_recursion (λ w. IsWord w) (decimal n ∷ codes "0" ∷ []) (count_is_word n small, (word_by_test (codes "0") refl, tt)) }
 
 -- item 5
-header_reads : (file : List ℕ) (line : ℕ) (listed : Bool) (n : ℕ) → n ≤ 65536 → header_of file line listed (decimal n ∷ codes "0" ∷ []) ≡ Ok (entries n)
+header_reads : (limits : Limits) (file : List ℕ) (line : ℕ) (listed : Bool) (n : ℕ) → n ≤ most_entries limits → header_of limits file line listed (decimal n ∷ codes "0" ∷ []) ≡ Ok (entries n)
 unfolding header_of
-header_reads file line listed n few =
-    let low : nat_le n 65536 ≡ true = grind (arith, nat_tests) in
-    rw (decimal_item file line n (codes "0" ∷ []) (omega arith), low) refl
+header_reads limits file line listed n few =
+    let low : nat_le n (most_entries limits) ≡ true = grind (arith, nat_tests) in
+    rw (decimal_item file line n (codes "0" ∷ []) (omega (arith, entries_few limits)), low) refl
 
 greatest : (a : ℕ) (ns : List ℕ) (limit : ℕ) → a ≤ limit → All (λ n. n ≤ limit) ns → fold max a ns ≤ limit
 greatest a [] limit h all = h
@@ -31,9 +34,9 @@ greatest a (n ∷ ns) limit h all =
     let first : n ≤ limit = all 0 0 (omega arith) in
     greatest (max a n) ns limit (omega arith) (λ k d lt. all (suc k) d (omega arith))
 
-module _ {E : Type 0} (kind : Kind E) (cell : E → ℕ) (numbers : E → List Dec) (w : WritesNumbers kind cell numbers) (file : List ℕ) (g : Grid) (h : HasSize g) where
+module _ {E : Type 0} (limits : Limits) (kind : Kind E) (cell : E → ℕ) (numbers : E → List Dec) (w : WritesNumbers kind cell numbers) (file : List ℕ) (g : Grid) (h : HasSize g) where
   abbrev IsGood : Period → List E → Type 0
-  IsGood p xs = IsListOf kind (cell_count g) p xs
+  IsGood p xs = IsListOf limits kind (cell_count g) p xs
 
   abbrev lines_of : List E → List Line
   lines_of xs = period_list g cell numbers xs
@@ -42,11 +45,11 @@ module _ {E : Type 0} (kind : Kind E) (cell : E → ℕ) (numbers : E → List D
   unfolding period_list list_item_5
   period_is_lines p xs good =
       let line = entry_line kind cell numbers w g h in
-      one_line (counts_are_line (length xs) (omega (arith, good.few)))
+      one_line (counts_are_line (length xs) (omega (arith, good.few, entries_few limits)))
       (record { all = All-map (λ l. IsLine l) line xs (All-weaker (λ x. IsEntry kind (cell_count g) x) (λ x. IsLine (line x)) (entry_is_line kind cell numbers w g h) xs good.entries) })
 
   period_list_reads : (p : Period) (xs : List E) → IsGood p xs → (last : Option (List E)) (n : ℕ) (others : List Line)
-      → list_at kind file g p (last, unread n (lines_of xs ++ others)) ≡ Ok (xs, (Some xs, unread (number_after n (lines_of xs)) others))
+      → list_at limits kind file g p (last, unread n (lines_of xs ++ others)) ≡ Ok (xs, (Some xs, unread (number_after n (lines_of xs)) others))
   unfolding list_at period_list list_item_5 number_after
   period_list_reads p xs good last n others =
       let line = entry_line kind cell numbers w g h in
@@ -54,8 +57,8 @@ module _ {E : Type 0} (kind : Kind E) (cell : E → ℕ) (numbers : E → List D
       let read = list_reads kind cell numbers w g h file (next_number n) others xs good.entries (all_free kind g xs good.once) in
       rw (
         next_line file n head (map line xs ++ others),
-        line_words head (counts_are_line (length xs) (omega (arith, good.few))).words,
-        header_reads file n (is_some last) (length xs) good.few,
+        line_words head (counts_are_line (length xs) (omega (arith, good.few, entries_few limits))).words,
+        header_reads limits file n (is_some last) (length xs) good.few,
         read,
         good.suits,
       ) refl
@@ -66,7 +69,7 @@ module _ {E : Type 0} (kind : Kind E) (cell : E → ℕ) (numbers : E → List D
   last_after last (xs ∷ lists) = last_after (Some xs) lists
 
   each_reads : (ps : List Period) (lists : List (List E)) → AllZip IsGood ps lists → (last : Option (List E)) (n : ℕ) (others : List Line)
-      → for_each (period_at kind file g) ps (last, unread n (flat_map lines_of lists ++ others))
+      → for_each (period_at limits kind file g) ps (last, unread n (flat_map lines_of lists ++ others))
       ≡ Ok (with_lists kind ps lists, (last_after last lists, unread (number_after n (flat_map lines_of lists)) others))
   unfolding for_each period_at number_after
   each_reads [] [] good last n others = refl
@@ -87,11 +90,11 @@ module _ {E : Type 0} (kind : Kind E) (cell : E → ℕ) (numbers : E → List D
   all_lines (p ∷ ps) [] good = absurd good
   all_lines (p ∷ ps) (xs ∷ lists) good = joined (period_is_lines p xs good.0) (all_lines ps lists good.1)
 
-  all_few : (ps : List Period) (lists : List (List E)) → AllZip IsGood ps lists → All (λ n. n ≤ 65536) (map (λ xs. length xs) lists)
+  all_few : (ps : List Period) (lists : List (List E)) → AllZip IsGood ps lists → All (λ n. n ≤ most_entries limits) (map (λ xs. length xs) lists)
   all_few [] [] good = λ k d lt. absurd (omega arith)
   all_few [] (xs ∷ lists) good = absurd good
   all_few (p ∷ ps) [] good = absurd good
-  all_few (p ∷ ps) (xs ∷ lists) good = All-cons (λ n. n ≤ 65536) (length xs) (map (λ ys. length ys) lists) good.0.few (all_few ps lists good.1)
+  all_few (p ∷ ps) (xs ∷ lists) good = All-cons (λ n. n ≤ most_entries limits) (length xs) (map (λ ys. length ys) lists) good.0.few (all_few ps lists good.1)
 
   first_line : (most n : ℕ) (others : List Line) → most < 10 ^ 18
       → item_line file (unread n ((decimal most ∷ codes "0" ∷ []) ∷ others)) ≡ Ok (record { number = n; bytes = line_text (decimal most ∷ codes "0" ∷ []) }, unread (next_number n) others)
@@ -101,12 +104,12 @@ module _ {E : Type 0} (kind : Kind E) (cell : E → ℕ) (numbers : E → List D
       let item : is_word (codes "PARAMETER") (decimal most) ≡ false = no_keyword 80 (drop 1 (codes "PARAMETER")) most small (omega arith) in
       rw (next_line file n head others, line_words head (counts_are_line most small).words, item) refl
 
-  pub file_reads : (ps : List Period) (lists : List (List E)) → AllZip IsGood ps lists → lists_of kind file (text (list_lines g cell numbers lists)) g ps ≡ Ok (with_lists kind ps lists)
+  pub file_reads : (ps : List Period) (lists : List (List E)) → AllZip IsGood ps lists → lists_of limits kind file (text (list_lines g cell numbers lists)) g ps ≡ Ok (with_lists kind ps lists)
   unfolding lists_of periods_of list_lines list_item_2
   file_reads ps lists good =
       let most = fold max 0 (map (λ xs. length xs) lists) in
-      let few : most ≤ 65536 = greatest 0 (map (λ xs. length xs) lists) 65536 (omega arith) (all_few ps lists good) in
-      let small : most < 10 ^ 18 = omega arith in
+      let few : most ≤ most_entries limits = greatest 0 (map (λ xs. length xs) lists) (most_entries limits) (omega arith) (all_few ps lists good) in
+      let small : most < 10 ^ 18 = omega (arith, entries_few limits) in
       let head = decimal most ∷ codes "0" ∷ [] in
       let tail = flat_map lines_of lists in
       let whole : AreLines (head ∷ tail) = one_line (counts_are_line most small) (all_lines ps lists good) in

@@ -4,7 +4,9 @@ use Rattle.std.specs.List.{AllPairs}
 use Rattle.decimal_input.specs.declared.dec.Dec.{Dec}
 use Rattle.decimal_input.specs.Canonical.{IsDec}
 use Rattle.model_types.specs.declared.grid.CellId.{CellId}
+use Rattle.model_types.specs.declared.limits.Limits.{Limits}
 use Rattle.model_types.specs.declared.period.Period.{Period}
+use Rattle.model_types.specs.Limits.{most_entries}
 use Rattle.list_package.specs.Forms.{Differ}
 use Rattle.list_package.specs.Kinds.{Kind, first_fault, with_list}
 
@@ -18,9 +20,9 @@ pub record IsEntry {E : Type 0} (kind : Kind E) (cells : ℕ) (x : E) : Type 0 w
   pub passes : first_fault kind.columns numbers ≡ None
   pub is : x ≡ kind.entry cell numbers
 
--- a period's list: at most 65536 entries; where a list may name a cell at most once, it does; and the period may have it
-pub record IsListOf {E : Type 0} (kind : Kind E) (cells : ℕ) (p : Period) (xs : List E) : Type 0 where
-  pub few : length xs ≤ 65536
+-- a period's list: at most as many entries as the limits say; where a list may name a cell at most once, it does; and the period may have it
+pub record IsListOf {E : Type 0} (limits : Limits) (kind : Kind E) (cells : ℕ) (p : Period) (xs : List E) : Type 0 where
+  pub few : length xs ≤ most_entries limits
   pub entries : All (IsEntry kind cells) xs
   pub once : kind.once ≡ true → AllPairs (Differ kind) xs
   pub suits : kind.suits p xs ≡ true

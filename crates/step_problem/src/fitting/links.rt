@@ -92,7 +92,7 @@ fn these_fit(cells: &[Cell], c: usize, links: &[Link]) -> bool
 
 pub(crate) fn links_fit(cells: &[Cell], c: usize) -> bool
     requires index { c < length cells.now }
-    requires few { length cells.now ≤ 65536 }
+    requires few { length cells.now ≤ 4194304 }
     ensures { IsTrue result ↔ LinksFit cells.now c (entries_at cells.now c).links }
 {
     let cell: &Cell = &cells[c];

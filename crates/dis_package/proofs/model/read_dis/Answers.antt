@@ -6,17 +6,17 @@ use Rattle.dis_package.proofs.model.read_dis.Goals as goal
 pub grid_of-requires-clause-lines : goal.grid_of-requires-clause-lines
 grid_of-requires-clause-lines g c =
     let begun : LinesMay (g.F.Folder.may c.args.folder.now) c.skip_comments.new.self = rw (c.skip_comments.ensures, c.new-lines.ensures) (begun_held _ _ c.requires.text) in
-    head_leaves _ _ _ _ _ c.in_ok-frame.ensures.head begun
+    head_leaves c.args.limits _ _ _ _ _ c.in_ok-frame.ensures.head begun
 
 pub returns-in_err-periods-clause-model : goal.returns-in_err-periods-clause-model
 returns-in_err-periods-clause-model g c = λ files agree.
     let p = err_from_is_err_and c.from_residual-in_err-periods.result c.from_residual-in_err-periods.ensures.1 in
-    rw (p.1, p.2) (dis_stops c.in_err-periods.field-0.0 files _ _ _ _ _ (c.skip_comments.ensures ∙ ap without_comments c.new-lines.ensures) c.in_ok-frame.ensures.head (c.in_ok-grid.ensures.grid files agree) c.in_err-periods.ensures.periods)
+    rw (p.1, p.2) (dis_stops c.args.limits c.in_err-periods.field-0.0 files _ _ _ _ _ (c.skip_comments.ensures ∙ ap without_comments c.new-lines.ensures) c.in_ok-frame.ensures.head (c.in_ok-grid.ensures.grid files agree) c.in_err-periods.ensures.periods)
 
 pub returns-clause-model : goal.returns-clause-model
 returns-clause-model g c = λ files agree.
     let made : c.begun.result ≡ begun c.in_ok-grid.grid c.in_ok-frame.frame.lenuni c.in_ok-periods.periods.items = search rules in
-    dis_read files _ _ _ _ _ _ _ (c.skip_comments.ensures ∙ ap without_comments c.new-lines.ensures) c.in_ok-frame.ensures.head (c.in_ok-grid.ensures.grid files agree) c.in_ok-periods.ensures.periods made
+    dis_read c.args.limits files _ _ _ _ _ _ _ (c.skip_comments.ensures ∙ ap without_comments c.new-lines.ensures) c.in_ok-frame.ensures.head (c.in_ok-grid.ensures.grid files agree) c.in_ok-periods.ensures.periods made
 
 pub returns-clause-form : goal.returns-clause-form
 returns-clause-form g c =

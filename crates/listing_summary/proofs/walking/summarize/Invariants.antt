@@ -8,7 +8,7 @@ invariant-loop-summary g l = record {
   rounds : g.S.Settler.rounds l.settler ≡ l.task.rounds;
   walk : IsWalk l.task l.steps;
   steps : l.summary.steps ≤ l.steps.done;
-  heads : l.summary.heads ≤ l.steps.done * 65536;
+  heads : l.summary.heads ≤ l.steps.done * 4194304;
   fits : Fits l.summary;
   counted : IsCounted l.task l.steps l.summary;
 }

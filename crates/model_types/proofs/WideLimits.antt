@@ -1,0 +1,21 @@
+-- No limit is above the wide one.
+use Rattle.std.proofs.Common.{ℕ, ◌≤◌, arith}
+use Rattle.model_types.specs.declared.limits.Limits.{Limits}
+use Rattle.model_types.specs.declared.limits.Limits.TheVariants.{Plain, Wide}
+use Rattle.model_types.specs.Limits.{most_layers, most_in_row, most_cells, most_entries}
+
+pub layers_few : (l : Limits) → most_layers l ≤ 1024
+layers_few Plain = omega arith
+layers_few Wide = omega arith
+
+pub in_row_few : (l : Limits) → most_in_row l ≤ 4096
+in_row_few Plain = omega arith
+in_row_few Wide = omega arith
+
+pub cells_few : (l : Limits) → most_cells l ≤ 4194304
+cells_few Plain = omega arith
+cells_few Wide = omega arith
+
+pub entries_few : (l : Limits) → most_entries l ≤ 4194304
+entries_few Plain = omega arith
+entries_few Wide = omega arith
