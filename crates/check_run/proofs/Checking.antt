@@ -1,12 +1,12 @@
 -- A check, step by step.
-use Rattle.check_run.proofs.Common.{All, Contains, ◌≡◌, ℕ, suc, List, [], ◌∷◌, ◌++◌, ◌+◌, ◌<◌, ◌≤◌, subst, sym, ap, refl, arith, ◌∙◌, inl, inr, drop, length}
-use Rattle.check_run.proofs.Common.{get_or, ℤ, Result, Ok, Err, IfOk, Option, AllZip, IfErr, All-head, All-tail, All-contains_itself, append_assoc, drop_more}
-use Rattle.check_run.proofs.Common.{drop_all, Bound, ZoneFlow, Budget, FlowModel, TimeStep, start_head, times, Fraction, IsModel, heads_of, Solves, SolvesAt}
-use Rattle.check_run.proofs.Common.{AreGridHeads, HeadsEnclose, pairs_in, ListedStep, AreFlows, AreFlowsAt, AreListed, IsListedStep, step_in, Step, BoundAll}
-use Rattle.check_run.proofs.Common.{BoundsMoves, CheckFault, ListingVerdict, Certified, Fails, Refused, FailsBy, IsVerdictAt, heads_before, Passes, Checks}
-use Rattle.check_run.proofs.Common.{StopsAt, IsVerdict, ListingEncloses, checked_task, step_of, steps_of}
+use Rattle.check_run.proofs.Common.{All, Contains, ◌≡◌, ℕ, suc, List, [], ◌∷◌, ◌+◌, ◌<◌, ◌≤◌, subst, sym, ap, refl, arith, ◌∙◌, inl, inr, drop, length, get_or}
+use Rattle.check_run.proofs.Common.{ℤ, Result, Ok, Err, IfOk, Option, None, AllZip, IfErr, All-head, All-tail, All-contains_itself, drop_more, drop_all, Bound}
+use Rattle.check_run.proofs.Common.{ZoneFlow, Budget, FlowModel, TimeStep, start_head, times, Fraction, IsModel, heads_of, SolvesAt, AreGridHeads}
+use Rattle.check_run.proofs.Common.{HeadsEnclose, pairs_in, ListedStep, AreFlows, AreFlowsAt, AreListed, IsListedStep, step_in, Step, BoundsMoves, CheckFault}
+use Rattle.check_run.proofs.Common.{ListingVerdict, Certified, Fails, Refused, FailsBy, IsVerdictAt, heads_before, Passes, Checks, StopsAt, IsVerdict}
+use Rattle.check_run.proofs.Common.{ListingEncloses, checked_task, step_of, steps_of}
 use Rattle.problem_builder.specs.StartHeads.{AreStartHeads}
-use Rattle.listing_run.proofs.UnderWay.{HasCome, one_move, nothing_more}
+use Rattle.listing_run.proofs.HistoriesBound.{AllBoundMoves, histories_bound}
 use Rattle.exact_histories.specs.Histories.{HasOneHistory, AreSameHeads}
 use Rattle.exact_histories.proofs.JoinedSteps.{GoOn, history_of_steps}
 use Rattle.exact_histories.proofs.SettledSteps.{lies_encloses}
@@ -24,14 +24,24 @@ here P old olds heads budget flows w is is_heads is_budget are_flows h =
     let Z : List ZoneFlow → Type 0 = λ z. P olds (record { heads = w.heads; budget = w.budget; zones = z }) in
     subst Z are_flows (subst B is_budget (subst H is_heads (subst O is h)))
 
+-- a step for each time
+steps_many : (ats : List TimeStep) (ws : List ListedStep) → length ws ≡ length ats → length ats ≡ length (steps_of ats ws)
+steps_many [] ws e = refl
+steps_many (at ∷ ats) [] e = absurd (omega (arith, e))
+steps_many (at ∷ ats) (w ∷ ws) e = let rest = steps_many ats ws (omega (arith, e)) in omega (arith, rest)
+
 module _ (m : FlowModel) (s : ℕ) (zones : Option (List ℕ)) (all : List ListedStep) where
+  -- each of these steps bounds every move from the heads of the step before
+  abbrev AllMove : List Bound → List TimeStep → List Step → Type 0
+  AllMove = AllBoundMoves (checked_task m s zones) m None
+
   -- the check got so far: from the heads of the last step on, what holds of the rest holds of all
   pub record IsSoFar (old : List Bound) (rest : List TimeStep) (steps : List ListedStep) : Type 0 where
     pub grid : AreGridHeads m old
     pub goes_on : (end : ListingVerdict) → Checks m s zones old rest steps end → IsVerdict m s zones all end
-    pub values : List Step
-    pub same : values ++ steps_of rest steps ≡ steps_of (times m) all
-    pub encloses : (d : ℕ) (Xs : List (ℕ → ℤ)) → Solves m d Xs → HasCome (checked_task m s zones) old rest values d Xs
+    pub start : List Bound
+    pub starts : HeadsEnclose m start (start_head m)
+    pub moves : AllMove old rest (steps_of rest steps) → AllMove start (times m) (steps_of (times m) all)
     -- the times left are times of the model, and their steps have their flows between zones; where they can be solved in turn from exact heads within the last ones, all times can; and so for their histories being the same
     pub left : All (Contains (times m)) rest
     pub flows : AllZip (AreFlowsAt (pairs_in m zones)) rest steps
@@ -42,9 +52,9 @@ module _ (m : FlowModel) (s : ℕ) (zones : Option (List ℕ)) (all : List Liste
   at_first start is grid encloses listed = record {
     grid = grid;
     goes_on = λ end h. record { start = start; is_start = is; checks = h };
-    values = [];
-    same = refl;
-    encloses = λ d Xs h. record { before = start_head m; last = Xs; within = encloses; solves = h.steps; goes_on = λ more w. w };
+    start = start;
+    starts = encloses;
+    moves = λ h. h;
     left = All-contains_itself (times m);
     flows = listed.flows;
     solvable = λ others. others (start_head m) encloses;
@@ -59,9 +69,9 @@ module _ (m : FlowModel) (s : ℕ) (zones : Option (List ℕ)) (all : List Liste
   one_more old at rest w steps f grid valid passes moves = record {
     grid = grid;
     goes_on = λ end h. f.goes_on end (inl (passes, h));
-    values = f.values ++ (step_of at w ∷ []);
-    same = append_assoc f.values (step_of at w ∷ []) (steps_of rest steps) ∙ f.same;
-    encloses = λ d Xs h. let e = f.encloses d Xs h in one_move (checked_task m s zones) old at rest f.values (step_of at w) w.heads d Xs h.some refl moves e.before e.last e.within e.solves e.goes_on;
+    start = f.start;
+    starts = f.starts;
+    moves = λ h. f.moves (moves, h);
     left = All-tail (Contains (times m)) at rest f.left;
     flows = f.flows.1;
     solvable = λ others. f.solvable (go_on_more m s at old passes.problem passes.barrier valid (All-head (Contains (times m)) at rest f.left) f.grid passes.terms.heads.posed w.heads (lands at old w moves) rest others);
@@ -87,17 +97,14 @@ module _ (m : FlowModel) (s : ℕ) (zones : Option (List ℕ)) (all : List Liste
       let R : List TimeStep → Type 0 = λ ts. IsSoFar old ts [] in
       subst R (drop_all i (times m) past) (subst Q (drop_all i all past_all) f)
 
-  enclosed : (old : List Bound) → IsSoFar old [] [] → ListingEncloses m s zones all
-  enclosed old f d Xs h =
-      let e = f.encloses d Xs h in
-      let P : List Step → Type 0 = λ vs. BoundAll (checked_task m s zones) d (start_head m) vs Xs in
-      subst P f.same (e.goes_on [] (nothing_more (checked_task m s zones) d e.before e.last e.solves))
+  enclosed : (old : List Bound) → AreListed m (pairs_in m zones) all → IsSoFar old [] [] → ListingEncloses m s zones all
+  enclosed old listed f = histories_bound (checked_task m s zones) m None f.start (steps_of (times m) all) (steps_many (times m) all listed.whole) (f.moves tt) f.starts
 
   pub ends_certified : (old : List Bound) (i : ℕ) (items : List TimeStep) → items ≡ times m → AreListed m (pairs_in m zones) all → length items ≤ i → IsSoFar old (drop i (times m)) (drop i all) → IsVerdict m s zones all Certified
   ends_certified old i items is listed above f = (at_end old i items is listed above f).goes_on Certified tt
 
   pub ends_enclosed : (old : List Bound) (i : ℕ) (items : List TimeStep) → items ≡ times m → AreListed m (pairs_in m zones) all → length items ≤ i → IsSoFar old (drop i (times m)) (drop i all) → ListingEncloses m s zones all
-  ends_enclosed old i items is listed above f = enclosed old (at_end old i items is listed above f)
+  ends_enclosed old i items is listed above f = enclosed old listed (at_end old i items is listed above f)
 
   pub ends_history : (old : List Bound) (i : ℕ) (items : List TimeStep) → items ≡ times m → AreListed m (pairs_in m zones) all → length items ≤ i → IsSoFar old (drop i (times m)) (drop i all) → HasOneHistory m
   ends_history old i items is listed above f =

@@ -31,6 +31,9 @@ pub use Rattle.check_run.specs.declared.fault.CheckFault.{CheckFault}
 pub use Rattle.check_run.specs.declared.verdict.ListingVerdict.{ListingVerdict}
 pub use Rattle.check_run.specs.declared.verdict.ListingVerdict.TheVariants.{Certified, Fails, Refused}
 pub use Rattle.decimal_input.specs.Fractions.{Fraction, den}
+pub use Rattle.deck_problems.specs.Decks.{one_deck}
+pub use Rattle.deck_problems.specs.Kept.{AreRunTables, digits_of}
+pub use Rattle.deck_problems.specs.Laws.{IsBefore}
 pub use Rattle.flow_equations.proofs.Links.{below_is, index_is}
 pub use Rattle.flow_equations.specs.ExactStep.{exact_step}
 pub use Rattle.flow_equations.specs.Histories.{Solves, SolvesAt, heads_of, variable_heads}
@@ -41,6 +44,7 @@ pub use Rattle.listing_io.specs.declared.listing.ListedStep.{ListedStep}
 pub use Rattle.listing_run.proofs.Unique.{IsRest, first_in, ok_not_err, one_err, one_ok, rest_more, rest_whole}
 pub use Rattle.listing_run.specs.Bounding.{BoundAll, Bounds, BoundsMoves, EnclosesHistories}
 pub use Rattle.listing_run.specs.Steps.{AllSteps, IsStep, Steps, budget_at}
+pub use Rattle.listing_run.specs.Tasks.{one_task}
 pub use Rattle.listing_run.specs.Zones.{AreFlowsOf, HasLargeFlowOf, faces_of}
 pub use Rattle.listing_run.specs.declared.listing_end.ListingEnd.TheVariants.{Whole}
 pub use Rattle.listing_run.specs.declared.step.Step.{Step}
@@ -66,8 +70,7 @@ pub use Rattle.problem_builder.specs.Thicknesses.{Thicknesses}
 pub use Rattle.step_chain.proofs.Assembled.{active_constant, constant_not_variable, count_is, index_below, number_is}
 pub use Rattle.step_chain.proofs.OneStep.{same_bound, same_bounds}
 pub use Rattle.step_chain.specs.GridHeads.{bound_at}
-pub use Rattle.step_chain.specs.Keeps.{AreRunTables, digits_of}
-pub use Rattle.step_chain.specs.Laws.{HeadsFit, IsBefore, RefusalIsOne}
+pub use Rattle.step_chain.specs.Laws.{HeadsFit, RefusalIsOne}
 pub use Rattle.step_chain.specs.Steps.{HasNoHeads, IsPosed, IsSettledStep}
 pub use Rattle.step_chain.specs.declared.solved.Solved.{Solved}
 pub use Rattle.step_problem.specs.Entries.{Entries, entries_at, no_entries}

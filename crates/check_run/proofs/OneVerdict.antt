@@ -2,11 +2,11 @@
 use Rattle.check_run.proofs.Common.{◌≡◌, ◌≢◌, ◌∙◌, ℕ, suc, ◌<◌, ◌⊎◌, inl, inr, List, [], ◌∷◌, length, All, Ok, Err, Option, Some, None, refl, sym, ap, subst}
 use Rattle.check_run.proofs.Common.{arith, AllZip, Bound, Side, Low, High, Dir, NoBound, Term, ZoneFlow, Entries, entries_at, Edges, lower_at, upper_at}
 use Rattle.check_run.proofs.Common.{IsCertificate, Budget, Covers, IsFirstUncovered, HoldsAt, IsFirstFailing, FlowModel, TimeStep, times, IsModel, AreGridHeads}
-use Rattle.check_run.proofs.Common.{ProblemIsOne, ProblemFits, ProblemExcludesRefusal, StartHeadsAreOne, StartHeadsFit, IsBefore, RefusalIsOne, IsPosed}
-use Rattle.check_run.proofs.Common.{HasNoHeads, ListedStep, IsListedStep, AreFlowsOf, HasLargeFlowOf, one_ok, one_err, ok_not_err, IsRest, first_in, rest_more}
-use Rattle.check_run.proofs.Common.{rest_whole, ListingVerdict, Certified, Fails, Refused, ConstantsReach, IsConstantCell, IsFirstShort, ReachesAt, CoversFlow}
-use Rattle.check_run.proofs.Common.{IsFirstNarrow, bounds, Passes, FailsAt, at_constant, at_variable, at_term, at_zones, IsRefused, no_heads, no_budget}
-use Rattle.check_run.proofs.Common.{no_flows, Checks, StopsAt}
+use Rattle.check_run.proofs.Common.{ProblemIsOne, ProblemFits, ProblemExcludesRefusal, StartHeadsAreOne, StartHeadsFit, IsBefore, RefusalIsOne, one_deck}
+use Rattle.check_run.proofs.Common.{IsPosed, HasNoHeads, ListedStep, IsListedStep, AreFlowsOf, HasLargeFlowOf, one_ok, one_err, ok_not_err, IsRest, first_in}
+use Rattle.check_run.proofs.Common.{rest_more, rest_whole, ListingVerdict, Certified, Fails, Refused, ConstantsReach, IsConstantCell, IsFirstShort, ReachesAt}
+use Rattle.check_run.proofs.Common.{CoversFlow, IsFirstNarrow, bounds, Passes, FailsAt, at_constant, at_variable, at_term, at_zones, IsRefused, no_heads}
+use Rattle.check_run.proofs.Common.{no_budget, no_flows, Checks, StopsAt}
 use Rattle.step_problem.specs.declared.place.Place.{Place}
 use Rattle.barrier_vector.specs.Barriers.{IsBarrierOf, BarrierIsOne, BarrierExcludesRefusal}
 use Rattle.barrier_vector.specs.Refusals.{IsRefused as IsBarrierRefused}
@@ -56,7 +56,7 @@ module _ (m : FlowModel) (s : ℕ) (zones : Option (List ℕ)) (at : TimeStep) (
   ByConstants p b o = ((c : ℕ) × (side : Side) × IsFirstShort m at w.heads c side × (o ≡ failed (places.Cell c side))) ⊎ (ConstantsReach m at w.heads × ByVariables p b o)
 
   abbrev Says : Said → Type 0
-  Says o = ((n : NoBound) × HasNoHeads m s at old n × (o ≡ refused n)) ⊎ ((p : List Entries) × (b : Edges) × IsPosed m s at old p b × ByConstants p b o)
+  Says o = ((n : NoBound) × HasNoHeads (one_deck m) s at old n × (o ≡ refused n)) ⊎ ((p : List Entries) × (b : Edges) × IsPosed (one_deck m) s at old p b × ByConstants p b o)
 
   -- What is defined of a step is said of it.
 
@@ -133,21 +133,21 @@ module _ (m : FlowModel) (s : ℕ) (zones : Option (List ℕ)) (at : TimeStep) (
   constants_one p b o q (inr (reach, h)) (inl (c, x, f, e)) = absurd (f.short (reach c f.cell x))
   constants_one p b o q (inr (reach, h)) (inr (also, k)) = variables_one p b o q h k
 
-  module _ (laws : Laws) (before : IsBefore m at old) where
-    posed_excludes : (p : List Entries) (b : Edges) (n : NoBound) → IsPosed m s at old p b → HasNoHeads m s at old n → ⊥
-    posed_excludes p b n posed (inl none) = laws.problem_excludes m s at old p n before.model before.time posed.problem none
+  module _ (laws : Laws) (before : IsBefore (one_deck m) at old) where
+    posed_excludes : (p : List Entries) (b : Edges) (n : NoBound) → IsPosed (one_deck m) s at old p b → HasNoHeads (one_deck m) s at old n → ⊥
+    posed_excludes p b n posed (inl none) = laws.problem_excludes m s at old p n before.decks.first before.time posed.problem none
     posed_excludes p b n posed (inr (q, is, none)) =
         let R : List Entries → Type 0 = λ z. IsBarrierRefused z n in
-        laws.barrier_excludes p b n (laws.problem_fits m s at old p before.model before.time before.heads posed.problem) posed.barrier (subst R (laws.problem_one m s at old q p before.model before.time is posed.problem) none)
+        laws.barrier_excludes p b n (laws.problem_fits m s at old p before.decks.first before.time before.heads posed.problem) posed.barrier (subst R (laws.problem_one m s at old q p before.decks.first before.time is posed.problem) none)
 
     said_one : (o q : Said) → Says o → Says q → o ≡ q
-    said_one o q (inl (n, x, e)) (inl (r, y, k)) = e ∙ ap refused (laws.refusal_one m s at old n r before x y) ∙ sym k
+    said_one o q (inl (n, x, e)) (inl (r, y, k)) = e ∙ ap refused (laws.refusal_one (one_deck m) s at old n r before x y) ∙ sym k
     said_one o q (inl (n, x, e)) (inr (p, b, posed, h)) = absurd (posed_excludes p b n posed x)
     said_one o q (inr (p, b, posed, h)) (inl (n, x, e)) = absurd (posed_excludes p b n posed x)
     said_one o q (inr (p, b, posed, h)) (inr (r, c, also, k)) =
-        let problems = laws.problem_one m s at old p r before.model before.time posed.problem also.problem in
+        let problems = laws.problem_one m s at old p r before.decks.first before.time posed.problem also.problem in
         let B : List Entries → Type 0 = λ z. IsBarrierOf z b in
-        let barriers = laws.barrier_one r b c (laws.problem_fits m s at old r before.model before.time before.heads also.problem) (subst B problems posed.barrier) also.barrier in
+        let barriers = laws.barrier_one r b c (laws.problem_fits m s at old r before.decks.first before.time before.heads also.problem) (subst B problems posed.barrier) also.barrier in
         let P : List Entries → Type 0 = λ z. ByConstants z b o in
         let Q : Edges → Type 0 = λ z. ByConstants r z o in
         constants_one r c o q (subst Q barriers (subst P problems h)) k
@@ -169,7 +169,7 @@ module _ (m : FlowModel) (s : ℕ) (zones : Option (List ℕ)) (at : TimeStep) (
   stopped (Fails t place) (same, f) = record { said = failed place; says = fails_said place f; is = ap (λ x. Fails x place) same; stops = λ e. cc }
   stopped (Refused t n) (same, r) = record { said = refused n; says = refused_said n r; is = ap (λ x. Refused x n) same; stops = λ e. cc }
 
-  module _ (laws : Laws) (before : IsBefore m at old) where
+  module _ (laws : Laws) (before : IsBefore (one_deck m) at old) where
     stops_one : (a b : ListingVerdict) → StopsAt m s zones at old w a → StopsAt m s zones at old w b → a ≡ b
     stops_one a b h k =
         let x = stopped a h in
@@ -190,9 +190,9 @@ module _ (laws : Laws) (m : FlowModel) (s : ℕ) (zones : Option (List ℕ)) (mo
   checks_one old (at ∷ rest) [] a b r heads l h k = absurd h
   checks_one old (at ∷ rest) (w ∷ steps) a b r heads l (inl (p, h)) (inl (q, k)) =
       checks_one w.heads rest steps a b (rest_more (times m) at rest r) (grid_of m w (l 0 w (omega arith))) (λ i d lt. l (suc i) d (omega (arith, lt))) h k
-  checks_one old (at ∷ rest) (w ∷ steps) a b r heads l (inl (p, h)) (inr k) = absurd (passes_excludes m s zones at old w laws (record { model = model; time = r.each at (first_in at rest); heads = heads }) b p k)
-  checks_one old (at ∷ rest) (w ∷ steps) a b r heads l (inr h) (inl (q, k)) = absurd (passes_excludes m s zones at old w laws (record { model = model; time = r.each at (first_in at rest); heads = heads }) a q h)
-  checks_one old (at ∷ rest) (w ∷ steps) a b r heads l (inr h) (inr k) = stops_one m s zones at old w laws (record { model = model; time = r.each at (first_in at rest); heads = heads }) a b h k
+  checks_one old (at ∷ rest) (w ∷ steps) a b r heads l (inl (p, h)) (inr k) = absurd (passes_excludes m s zones at old w laws (record { decks = record { first = model; second = tt }; time = r.each at (first_in at rest); heads = heads }) b p k)
+  checks_one old (at ∷ rest) (w ∷ steps) a b r heads l (inr h) (inl (q, k)) = absurd (passes_excludes m s zones at old w laws (record { decks = record { first = model; second = tt }; time = r.each at (first_in at rest); heads = heads }) a q h)
+  checks_one old (at ∷ rest) (w ∷ steps) a b r heads l (inr h) (inr k) = stops_one m s zones at old w laws (record { decks = record { first = model; second = tt }; time = r.each at (first_in at rest); heads = heads }) a b h k
 
 pub verdicts_one : Laws → VerdictIsOne
 verdicts_one laws m s zones steps a b model listed x y =

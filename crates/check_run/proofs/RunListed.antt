@@ -3,15 +3,17 @@ use Rattle.check_run.proofs.Common.{◌≡◌, ℕ, zero, suc, ◌+◌, ◌<◌,
 use Rattle.check_run.proofs.Common.{◌+ℤ◌, ◌≤ℤ◌, ◌<ℤ◌, unsigned_abs, nat_abs, ◌^◌, ◌≤◌, Option, Some, None, ◌∙◌, AllZip, ints, All-weaker, Bound, In, Out}
 use Rattle.check_run.proofs.Common.{ZoneFlow, Entries, entries_at, no_bound, lower_at, upper_at, Budget, TermPair, all_terms, term_limit, Face, flows_between}
 use Rattle.check_run.proofs.Common.{pairs_in, AreNumbers, FlowModel, TimeStep, cell_count, variable_below, evap_sources, period_at, times, IsModel, IsCellOf}
-use Rattle.check_run.proofs.Common.{IsEvap, AreGridHeads, StartHeadsFit, Thicknesses, Solved, bound_at, IsBefore, HeadsFit, IsSettledStep, AreCellBounds}
-use Rattle.check_run.proofs.Common.{AreFlows, AreFlowsAt, AreListed, IsCellBound, IsFlowPair, IsListedStep, has_evt, zone_pair, Task, Step, Whole, AllSteps}
-use Rattle.check_run.proofs.Common.{IsStep, Steps, budget_at, AreFlowsOf, faces_of, IsRest, first_in, rest_more, rest_whole, as_listed}
+use Rattle.check_run.proofs.Common.{IsEvap, AreGridHeads, StartHeadsFit, Thicknesses, one_deck, IsBefore, Solved, bound_at, HeadsFit, IsSettledStep}
+use Rattle.check_run.proofs.Common.{AreCellBounds, AreFlows, AreFlowsAt, AreListed, IsCellBound, IsFlowPair, IsListedStep, has_evt, zone_pair, Task, Step}
+use Rattle.check_run.proofs.Common.{Whole, AllSteps, IsStep, Steps, budget_at, one_task, AreFlowsOf, faces_of, IsRest, first_in, rest_more, rest_whole}
+use Rattle.check_run.proofs.Common.{as_listed}
 use Rattle.std.specs.Prelude.{Contains}
 use Rattle.std.proofs.lemmas.Bool.Decides.{nat_tests}
 use Rattle.step_problem.specs.Flows.{total}
 use Rattle.zone_flows.specs.Pairs.{IsZoneFlow}
 use Rattle.model_types.specs.Layers.{is_nonzero}
 use Rattle.model_types.specs.Receivers.{is_chosen}
+use Rattle.step_chain.specs.Pairs.PairKind.{settled as settled_kind}
 use Rattle.check_run.proofs.FlowPairs.{flows_have_pairs}
 use Rattle.check_run.proofs.RunTerms.{as_many, budget_are, flows_are, no_et}
 
@@ -56,7 +58,7 @@ cell_bounds m c (b ∷ bs) h =
           subst Q next (h (suc k) (omega (arith, lt)))),
     )
 
-module _ (m : FlowModel) (s : ℕ) (at : TimeStep) (old : List Bound) (x : Solved) (settled : IsSettledStep m s at old x) (grid : AreGridHeads m x.heads) where
+module _ (m : FlowModel) (s : ℕ) (at : TimeStep) (old : List Bound) (x : Solved) (settled : IsSettledStep (one_deck m) s at old x) (grid : AreGridHeads m x.heads) where
   cell_bound : (c : ℕ) → c < length x.heads → IsCellBound m (0 + c) (bound_at x.heads c)
   cell_bound c lt =
       let range = grid.range c no_bound lt in
@@ -127,47 +129,50 @@ flows_small p heads (Some zones) vs are = All-weaker (IsZoneFlow (faces_of p hea
 
 -- All steps of a run.
 
-module _ (fits : HeadsFit) (k : Task) (model : IsModel k.model) (zoned : AreNumbers k.zones) where
-  module _ (at : TimeStep) (old : List Bound) (before : IsBefore k.model at old) (v : Step) (is : IsStep k at old v) where
-    solved_heads : AreGridHeads k.model is.solved.heads
-    solved_heads = fits k.model k.digits at old is.solved before is.settled
+module _ (fits : HeadsFit) (m : FlowModel) (s : ℕ) (zones : Option (List ℕ)) (rounds : ℕ) (model : IsModel m) (zoned : AreNumbers zones) where
+  abbrev task : Task
+  task = one_task m s zones rounds
 
-    step_listed : IsListedStep k.model (as_listed v)
+  module _ (at : TimeStep) (old : List Bound) (before : IsBefore (one_deck m) at old) (v : Step) (is : IsStep task at old v) where
+    solved_heads : AreGridHeads m is.solved.heads
+    solved_heads = fits (one_deck m) s at old settled_kind is.solved before is.settled
+
+    step_listed : IsListedStep m (as_listed v)
     step_listed =
-        let P : List Bound → Type 0 = λ hs. IsListedStep k.model (record { heads = hs; budget = v.budget; zones = v.zones }) in
-        subst P (sym is.heads) (is_listed k.model k.digits at old is.solved is.settled solved_heads v.budget v.zones is.budget)
+        let P : List Bound → Type 0 = λ hs. IsListedStep m (record { heads = hs; budget = v.budget; zones = v.zones }) in
+        subst P (sym is.heads) (is_listed m s at old is.solved is.settled solved_heads v.budget v.zones is.budget)
 
-    step_flows : AreFlows (pairs_in k.model k.zones at.period) v.zones
+    step_flows : AreFlows (pairs_in m zones at.period) v.zones
     step_flows = record {
-      pairs = flows_have_pairs k.model k.digits at old is.solved.problem model.grid.size is.settled.posed.problem is.solved.heads k.zones v.zones zoned is.zones;
-      small = flows_small is.solved.problem is.solved.heads k.zones v.zones is.zones;
+      pairs = flows_have_pairs m s at old is.solved.problem model.grid.size is.settled.posed.problem is.solved.heads zones v.zones zoned is.zones;
+      small = flows_small is.solved.problem is.solved.heads zones v.zones is.zones;
     }
 
-    next_heads : AreGridHeads k.model v.heads
-    next_heads = subst (AreGridHeads k.model) (sym is.heads) solved_heads
+    next_heads : AreGridHeads m v.heads
+    next_heads = subst (AreGridHeads m) (sym is.heads) solved_heads
 
-  all_listed : (old : List Bound) (rest : List TimeStep) (values : List Step) → IsRest (times k.model) rest → AreGridHeads k.model old → Steps k old rest values Whole → (length (map as_listed values) ≡ length rest) × All (IsListedStep k.model) (map as_listed values)
+  all_listed : (old : List Bound) (rest : List TimeStep) (values : List Step) → IsRest (times m) rest → AreGridHeads m old → Steps task old rest values Whole → (length (map as_listed values) ≡ length rest) × All (IsListedStep m) (map as_listed values)
   all_listed old [] [] r heads h = (refl, λ i d lt. absurd (omega (arith, lt)))
   all_listed old [] (v ∷ values) r heads h = absurd h
   all_listed old (at ∷ rest) [] r heads h = absurd h
   all_listed old (at ∷ rest) (v ∷ values) r heads (is, h) =
-      let before : IsBefore k.model at old = record { model = model; time = r.each at (first_in at rest); heads = heads } in
-      let others = all_listed v.heads rest values (rest_more (times k.model) at rest r) (next_heads at old before v is) h in
+      let before : IsBefore (one_deck m) at old = record { decks = record { first = model; second = tt }; time = r.each at (first_in at rest); heads = heads } in
+      let others = all_listed v.heads rest values (rest_more (times m) at rest r) (next_heads at old before v is) h in
       (ap suc others.0, each (step_listed at old before v is) others.1)
     where
-      each : IsListedStep k.model (as_listed v) → All (IsListedStep k.model) (map as_listed values) → All (IsListedStep k.model) (as_listed v ∷ map as_listed values)
+      each : IsListedStep m (as_listed v) → All (IsListedStep m) (map as_listed values) → All (IsListedStep m) (as_listed v ∷ map as_listed values)
       each first more zero d lt = first
       each first more (suc i) d lt = more i d (omega (arith, lt))
 
-  all_flows : (old : List Bound) (rest : List TimeStep) (values : List Step) → IsRest (times k.model) rest → AreGridHeads k.model old → Steps k old rest values Whole → AllZip (AreFlowsAt (pairs_in k.model k.zones)) rest (map as_listed values)
+  all_flows : (old : List Bound) (rest : List TimeStep) (values : List Step) → IsRest (times m) rest → AreGridHeads m old → Steps task old rest values Whole → AllZip (AreFlowsAt (pairs_in m zones)) rest (map as_listed values)
   all_flows old [] [] r heads h = tt
   all_flows old [] (v ∷ values) r heads h = absurd h
   all_flows old (at ∷ rest) [] r heads h = absurd h
   all_flows old (at ∷ rest) (v ∷ values) r heads (is, h) =
-      let before : IsBefore k.model at old = record { model = model; time = r.each at (first_in at rest); heads = heads } in
-      (step_flows at old before v is, all_flows v.heads rest values (rest_more (times k.model) at rest r) (next_heads at old before v is) h)
+      let before : IsBefore (one_deck m) at old = record { decks = record { first = model; second = tt }; time = r.each at (first_in at rest); heads = heads } in
+      (step_flows at old before v is, all_flows v.heads rest values (rest_more (times m) at rest r) (next_heads at old before v is) h)
 
-  pub are_listed : StartHeadsFit → (values : List Step) → AllSteps k values Whole → AreListed k.model (pairs_in k.model k.zones) (map as_listed values)
+  pub are_listed : StartHeadsFit → (values : List Step) → AllSteps task values Whole → AreListed m (pairs_in m zones) (map as_listed values)
   are_listed start_fits values h =
-      let all = all_listed h.start (times k.model) values (rest_whole (times k.model)) (start_fits k.model h.start model h.is_start) h.steps in
-      record { whole = all.0; steps = all.1; flows = all_flows h.start (times k.model) values (rest_whole (times k.model)) (start_fits k.model h.start model h.is_start) h.steps }
+      let all = all_listed h.start (times m) values (rest_whole (times m)) (start_fits m h.start model h.is_start) h.steps in
+      record { whole = all.0; steps = all.1; flows = all_flows h.start (times m) values (rest_whole (times m)) (start_fits m h.start model h.is_start) h.steps }

@@ -2,10 +2,11 @@
 use Rattle.check_run.proofs.Common.{◌≡◌, ℕ, suc, ◌<◌, inl, List, [], ◌∷◌, length, map, get_or, Ok, refl, sym, ap, ◌∙◌, subst, arith, Option, AllZip, ints}
 use Rattle.check_run.proofs.Common.{get_or-map, length-map, Bound, Side, Low, High, ZoneFlow, Entries, no_bound, lower_at, upper_at, IsCertificate, Budget}
 use Rattle.check_run.proofs.Common.{budget_of, FlowModel, TimeStep, cell_count, is_variable, variable_cells, times, IsModel, IsAt, is_at, below_is, index_is}
-use Rattle.check_run.proofs.Common.{AreGridHeads, ProblemFits, ConstantPairIsOne, StartHeadsFit, ids_are, Solved, bound_at, IsBefore, HeadsFit, IsSettledStep}
-use Rattle.check_run.proofs.Common.{Task, Step, Whole, IsStep, Steps, budget_at, IsRest, first_in, rest_more, rest_whole, Certified, CoversFlow, ConstantsReach}
-use Rattle.check_run.proofs.Common.{ReachesOn, variable_bounds, RunIsCertified, as_listed, Passes, Checks, same_bounds}
+use Rattle.check_run.proofs.Common.{AreGridHeads, ProblemFits, ConstantPairIsOne, StartHeadsFit, ids_are, one_deck, IsBefore, Solved, bound_at, HeadsFit}
+use Rattle.check_run.proofs.Common.{IsSettledStep, Task, Step, Whole, IsStep, Steps, budget_at, one_task, IsRest, first_in, rest_more, rest_whole, Certified}
+use Rattle.check_run.proofs.Common.{CoversFlow, ConstantsReach, ReachesOn, variable_bounds, RunIsCertified, as_listed, Passes, Checks, same_bounds}
 use Rattle.step_problem.specs.Laws.{SettledPairCertifies}
+use Rattle.step_chain.specs.Pairs.PairKind.{settled as settled_kind}
 use Rattle.listing_run.specs.Zones.{AreFlowsAt}
 use Rattle.check_run.proofs.Listed.{count_is}
 
@@ -26,7 +27,7 @@ pub record Laws : Type 0 where
   pub certifies : SettledPairCertifies
   pub heads_fit : HeadsFit
 
-module _ (m : FlowModel) (s : ℕ) (at : TimeStep) (old : List Bound) (x : Solved) (settled : IsSettledStep m s at old x) where
+module _ (m : FlowModel) (s : ℕ) (at : TimeStep) (old : List Bound) (x : Solved) (settled : IsSettledStep (one_deck m) s at old x) where
   abbrev cells : List ℕ
   cells = variable_cells m at.period
 
@@ -49,18 +50,18 @@ module _ (m : FlowModel) (s : ℕ) (at : TimeStep) (old : List Bound) (x : Solve
       ∙ ap (bound_at x.bounds) (index_is m at.period (get_or cells k 0) ∙ c.index)
 
   listed_are : variable_bounds m at x.heads ≡ x.bounds
-  listed_are = same_bounds (variable_bounds m at x.heads) x.bounds (length-map cells (bound_at x.heads) ∙ sym (count_is m at x.heads x.problem ids) ∙ sym settled.settled.whole) listed_at
+  listed_are = same_bounds (variable_bounds m at x.heads) x.bounds (length-map cells (bound_at x.heads) ∙ sym (count_is m at x.heads x.problem ids) ∙ sym settled.pair.whole) listed_at
 
-  module _ (laws : Laws) (before : IsBefore m at old) where
+  module _ (laws : Laws) (before : IsBefore (one_deck m) at old) where
     constants : ConstantsReach m at x.heads
     constants c cell side pair is =
         reaches side (bound_at x.heads c) pair
-        (laws.pair_one m at c (lower_at x.heads c) (upper_at x.heads c) pair.low pair.high before.model before.time cell.within cell.constant (settled.heads.constant c cell.within cell.constant) is)
+        (laws.pair_one m at c (lower_at x.heads c) (upper_at x.heads c) pair.low pair.high before.decks.first before.time cell.within cell.constant (settled.heads.constant c cell.within cell.constant) is)
 
     certificate : IsCertificate x.problem settled.barrier (lower_at x.bounds) (upper_at x.bounds)
     certificate =
         laws.certifies x.problem settled.barrier (lower_at x.bounds) (upper_at x.bounds)
-        (laws.problem_fits m s at old x.problem before.model before.time before.heads settled.posed.problem) settled.posed.barrier.fits settled.settled.pair
+        (laws.problem_fits m s at old x.problem before.decks.first before.time before.heads settled.posed.problem) settled.posed.barrier.fits settled.pair.pair
 
     passes : (zones : Option (List ℕ)) (b : Budget) (flows : List ZoneFlow) → budget_at x ≡ Ok b → AreFlowsAt zones x flows → Passes m s zones at old (record { heads = x.heads; budget = b; zones = flows })
     passes zones b flows is are =
@@ -80,27 +81,30 @@ module _ (m : FlowModel) (s : ℕ) (at : TimeStep) (old : List Bound) (x : Solve
           wide = wide_enough flows;
         }
 
-module _ (laws : Laws) (k : Task) (model : IsModel k.model) where
-  module _ (at : TimeStep) (old : List Bound) (before : IsBefore k.model at old) (v : Step) (is : IsStep k at old v) where
-    step_passes : Passes k.model k.digits k.zones at old (as_listed v)
+module _ (laws : Laws) (m : FlowModel) (s : ℕ) (zones : Option (List ℕ)) (rounds : ℕ) (model : IsModel m) where
+  abbrev task : Task
+  task = one_task m s zones rounds
+
+  module _ (at : TimeStep) (old : List Bound) (before : IsBefore (one_deck m) at old) (v : Step) (is : IsStep task at old v) where
+    step_passes : Passes m s zones at old (as_listed v)
     step_passes =
-        let P : List Bound → Type 0 = λ hs. Passes k.model k.digits k.zones at old (record { heads = hs; budget = v.budget; zones = v.zones }) in
-        subst P (sym is.heads) (passes k.model k.digits at old is.solved is.settled laws before k.zones v.budget v.zones is.budget is.zones)
+        let P : List Bound → Type 0 = λ hs. Passes m s zones at old (record { heads = hs; budget = v.budget; zones = v.zones }) in
+        subst P (sym is.heads) (passes m s at old is.solved is.settled laws before zones v.budget v.zones is.budget is.zones)
 
-    next_heads : AreGridHeads k.model v.heads
-    next_heads = subst (AreGridHeads k.model) (sym is.heads) (laws.heads_fit k.model k.digits at old is.solved before is.settled)
+    next_heads : AreGridHeads m v.heads
+    next_heads = subst (AreGridHeads m) (sym is.heads) (laws.heads_fit (one_deck m) s at old settled_kind is.solved before is.settled)
 
-  all_pass : (old : List Bound) (rest : List TimeStep) (values : List Step) → IsRest (times k.model) rest → AreGridHeads k.model old → Steps k old rest values Whole → Checks k.model k.digits k.zones old rest (map as_listed values) Certified
+  all_pass : (old : List Bound) (rest : List TimeStep) (values : List Step) → IsRest (times m) rest → AreGridHeads m old → Steps task old rest values Whole → Checks m s zones old rest (map as_listed values) Certified
   all_pass old [] [] r heads h = tt
   all_pass old [] (v ∷ values) r heads h = absurd h
   all_pass old (at ∷ rest) [] r heads h = absurd h
   all_pass old (at ∷ rest) (v ∷ values) r heads (is, h) =
-      let before : IsBefore k.model at old = record { model = model; time = r.each at (first_in at rest); heads = heads } in
-      inl (step_passes at old before v is, all_pass v.heads rest values (rest_more (times k.model) at rest r) (next_heads at old before v is) h)
+      let before : IsBefore (one_deck m) at old = record { decks = record { first = model; second = tt }; time = r.each at (first_in at rest); heads = heads } in
+      inl (step_passes at old before v is, all_pass v.heads rest values (rest_more (times m) at rest r) (next_heads at old before v is) h)
 
 pub run_certified : Laws → RunIsCertified
-run_certified laws k values model zoned h = record {
+run_certified laws m s zones rounds values model zoned h = record {
   start = h.start;
   is_start = h.is_start;
-  checks = all_pass laws k model h.start (times k.model) values (rest_whole (times k.model)) (laws.start_fits k.model h.start model h.is_start) h.steps;
+  checks = all_pass laws m s zones rounds model h.start (times m) values (rest_whole (times m)) (laws.start_fits m h.start model h.is_start) h.steps;
 }

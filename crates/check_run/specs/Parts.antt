@@ -26,6 +26,7 @@ use Rattle.problem_builder.specs.declared.fault.BuildFault.{BuildFault}
 use Rattle.problem_builder.specs.declared.fault.BuildFault.TheVariants as build
 use Rattle.problem_builder.specs.ConstantHeads.{AreConstantHeads}
 use Rattle.problem_builder.specs.GridHeads.{HeadsEnclose, IsActive, IsNamed}
+use Rattle.deck_problems.specs.Decks.{one_deck}
 use Rattle.step_chain.specs.Steps.{IsPosed, HasNoHeads}
 use Rattle.zone_flows.specs.declared.fault.ZoneFault.{ZoneFault}
 use Rattle.zone_flows.specs.declared.fault.ZoneFault.TheVariants as flows
@@ -62,12 +63,12 @@ FailsBy m s zones at old w fault.Memory = Unit {0}
 -- the cause of a fault before the listed heads are checked
 abbrev pub IsUnposed : FlowModel → ℕ → TimeStep → List Bound → CheckFault → Type 0
 IsUnposed m s at old (fault.Fails place) = ⊥
-IsUnposed m s at old (fault.Refused n) = HasNoHeads m s at old n
+IsUnposed m s at old (fault.Refused n) = HasNoHeads (one_deck m) s at old n
 IsUnposed m s at old fault.Memory = Unit {0}
 
 -- The constant heads, the problem and the barrier of a step, and how they enclose solutions.
 pub record ArePosed (m : FlowModel) (s : ℕ) (at : TimeStep) (old : List Bound) (x : Posed) : Type 0 where
-  pub posed : IsPosed m s at old x.problem x.barrier
+  pub posed : IsPosed (one_deck m) s at old x.problem x.barrier
   pub held : IsHeldBelow x.problem
   pub solutions : EnclosesSolutions x.problem (head_at x.barrier.floor) (head_at x.barrier.ceiling)
   pub named : (c : ℕ) → IsNamed x.problem c → IsActive m c

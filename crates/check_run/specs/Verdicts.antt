@@ -8,6 +8,7 @@ use Rattle.problem_builder.specs.StartHeads.{AreStartHeads}
 use Rattle.listing_io.specs.declared.listing.ListedStep.{ListedStep}
 use Rattle.listing_run.specs.declared.task.Task.{Task}
 use Rattle.listing_run.specs.declared.step.Step.{Step}
+use Rattle.listing_run.specs.Tasks.{one_task}
 use Rattle.listing_run.specs.Bounding.{EnclosesHistories}
 use Rattle.check_run.specs.declared.verdict.ListingVerdict.{ListingVerdict}
 use Rattle.check_run.specs.declared.verdict.ListingVerdict.TheVariants.{Certified, Fails, Refused}
@@ -37,7 +38,7 @@ module _ (m : FlowModel) (s : ℕ) (zones : Option (List ℕ)) where
 
   -- the model as a task; the rounds have no effect
   abbrev pub checked_task : Task
-  checked_task = record { model = m; digits = s; zones = zones; rounds = 0 }
+  checked_task = one_task m s zones 0
 
 -- a listed step at its time, as a step of a run
 abbrev pub step_of : TimeStep → ListedStep → Step

@@ -5,7 +5,7 @@ ghost use Rattle.zone_pairs.specs.Pairs.{pairs_in};
 ghost use Rattle.zone_pairs.specs.Zones.{AreZones};
 ghost use Rattle.listing_io.specs.Listed.{AreListed};
 ghost use Rattle.exact_histories.specs.Histories.{HasOneHistory};
-ghost use Rattle.step_chain.specs.Keeps.{AreRunTables, digits_of};
+ghost use Rattle.deck_problems.specs.Kept.{AreRunTables, digits_of};
 ghost use Rattle.check_run.specs.declared.verdict.ListingVerdict.TheVariants.{Certified};
 ghost use Rattle.check_run.specs.Parts.{heads_before, IsVerdictAt};
 ghost use Rattle.check_run.specs.Verdicts.{IsVerdict, ListingEncloses};
@@ -14,11 +14,11 @@ use crate::fault::CheckFault;
 use crate::laws::one_verdict;
 use crate::step::check_listed;
 use crate::verdict::ListingVerdict;
+use deck_problems::RunTables;
 use listing_io::Listing;
 use model_types::{FlowModel, TimeStep, times};
 use problem_builder::start_heads;
 use std::alloc::{AllocError, Global};
-use step_chain::RunTables;
 use step_problem::Bound;
 
 // The heads before a step: the listing's own of the step before, or those of STRT.

@@ -3,15 +3,15 @@ ghost use Rattle.std.specs.Prelude.{◌≡◌, ◌≤◌, Contains, IfOk, IfErr}
 ghost use Rattle.model_types.specs.Times.{times};
 ghost use Rattle.model_types.specs.Valid.{IsModel};
 ghost use Rattle.problem_builder.specs.GridHeads.{AreGridHeads};
-ghost use Rattle.step_chain.specs.Keeps.{AreRunTables, digits_of};
+ghost use Rattle.deck_problems.specs.Kept.{AreRunTables, digits_of};
 ghost use Rattle.check_run.specs.Parts.{ArePosed, IsUnposed};
 
 use crate::fault::CheckFault;
 use barrier_vector::barrier;
+use deck_problems::RunTables;
 use model_types::{FlowModel, Listed, TimeStep};
 use problem_builder::{StepTables, build_with};
 use std::alloc::Global;
-use step_chain::RunTables;
 use step_problem::{Barrier, Bound, Problem};
 
 /// The constant heads of a time by cell number, its problem, and the problem's barrier.

@@ -6,7 +6,7 @@ ghost use Rattle.problem_builder.specs.GridHeads.{AreGridHeads};
 ghost use Rattle.zone_pairs.specs.Pairs.{pairs_in};
 ghost use Rattle.zone_pairs.specs.Zones.{AreZones};
 ghost use Rattle.listing_io.specs.Listed.{AreFlows};
-ghost use Rattle.step_chain.specs.Keeps.{AreRunTables, digits_of};
+ghost use Rattle.deck_problems.specs.Kept.{AreRunTables, digits_of};
 ghost use Rattle.listing_run.specs.Bounding.{BoundsMoves};
 ghost use Rattle.check_run.specs.Parts.{FailsBy};
 ghost use Rattle.check_run.specs.Steps.{Passes};
@@ -20,10 +20,10 @@ use crate::terms::covered;
 use crate::variables::{bounds_of, certified};
 use budget_bounds::Budget;
 use budget_bounds::laws::{cover_encloses, heads_within};
+use deck_problems::RunTables;
 use model_types::{FlowModel, TimeStep};
 use problem_builder::laws::constant_pairs;
 use std::alloc::Global;
-use step_chain::RunTables;
 use step_problem::{Bound, Place, ZoneFlow};
 
 /// Checks the listed heads, budget and flows between zones of a time from the heads of all cells before it. `tables` are those of the

@@ -7,6 +7,9 @@ pub use Rattle.chosen_histories.specs.Choices.{Choice, SolvesChoicesFrom}
 pub use Rattle.chosen_histories.specs.Laws.{ChoicesHaveAHistory, ChoicesHaveOneHistory, ChoicesLieBetween}
 pub use Rattle.decimal_input.proofs.Fractional.{Same-sym, Same-trans}
 pub use Rattle.decimal_input.specs.Fractions.{Fraction, Same}
+pub use Rattle.deck_problems.proofs.Enclosing.{pair_encloses, pair_fits, problem_encloses}
+pub use Rattle.deck_problems.proofs.Members.{between_cells, encloses_first, encloses_member}
+pub use Rattle.deck_problems.specs.Laws.{IsBefore}
 pub use Rattle.deck_span.specs.Models.{IsBetween}
 pub use Rattle.exact_histories.proofs.GridVectors.{HasVector, vector_exists}
 pub use Rattle.exact_histories.proofs.SameTimes.{balances_same, solves_same}
@@ -16,7 +19,8 @@ pub use Rattle.model_types.specs.Heads.{start_head}
 pub use Rattle.model_types.specs.declared.model.FlowModel.{FlowModel}
 pub use Rattle.model_types.specs.declared.time_steps.TimeStep.{TimeStep}
 pub use Rattle.problem_builder.specs.GridHeads.{AreGridHeads, HeadsEnclose, IsActive}
-pub use Rattle.span_steps.specs.HullSteps.{AreHullSteps, IsHullStep}
-pub use Rattle.span_steps.specs.Within.{AreBefore, AreModels}
+pub use Rattle.span_steps.specs.Steps.{AreAllSteps, AreSteps, two}
+pub use Rattle.step_chain.specs.Pairs.{PairKind}
+pub use Rattle.step_chain.specs.Steps.{IsStepBy}
 pub use Rattle.step_chain.specs.declared.solved.Solved.{Solved}
 pub use Rattle.step_problem.specs.declared.heads.Bound.{Bound}

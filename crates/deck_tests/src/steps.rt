@@ -1,14 +1,15 @@
 // The steps of a model.
 ghost use Rattle.std.specs.Prelude.{◌≤◌, Contains, IfOk, IfSome};
-ghost use Rattle.model_types.specs.Valid.{IsModel};
 ghost use Rattle.model_types.specs.Times.{times};
 ghost use Rattle.problem_builder.specs.GridHeads.{AreGridHeads};
+ghost use Rattle.deck_problems.specs.Decks.{AreDecks};
 
 use crate::models::read_model;
 use crate::problem::print_cell;
-use model_types::{FlowModel, Kind, Listed, TimeStep, times};
+use deck_problems::{Decks, start_heads_for};
+use model_types::{Kind, Listed, TimeStep, times};
 use outside::MemFolder;
-use problem_builder::{BuildFault, PeriodTables, StepTables, Tables, build, start_heads};
+use problem_builder::{BuildFault, PeriodTables, StepTables, Tables, build};
 use settle_driver::PlainSettler;
 use std::alloc::Global;
 use std::io;
@@ -78,17 +79,18 @@ fn print_fault(rt: &impl Print, fault: &StepFault) -> io::Result<()> {
 fn print_step(
     rt: &impl Print,
     alloc: Global,
-    model: &FlowModel,
+    decks: &Decks,
     at: TimeStep,
     old: &[Bound],
     s: u32,
 ) -> io::Result<Option<Listed<Bound>>>
-    requires model { IsModel model.now }
-    requires time { Contains (times model.now) at }
-    requires old { AreGridHeads model.now old.now }
+    requires decks { AreDecks decks.now }
+    requires time { Contains (times decks.now.first) at }
+    requires old { AreGridHeads decks.now.first old.now }
     requires digits { s ≤ 18 }
-    ensures { IfOk result (λ o. IfSome o (AreGridHeads model.now)) }
+    ensures { IfOk result (λ o. IfSome o (AreGridHeads decks.now.first)) }
 {
+    let model = &decks.first;
     let (period, number) = (at.period, at.step);
     println!(rt; "step {period} {number}")?;
     let tables = Tables::new(alloc, model, s)?;
@@ -100,7 +102,7 @@ fn print_step(
         step_tables.heads.as_slice(),
     )?;
     print_built(rt, &build(alloc, model, at, old, s))?;
-    match next_step(alloc, model, at, old, s, &mut PlainSettler::new(ROUNDS)) {
+    match next_step(alloc, decks, at, old, s, &mut PlainSettler::new(ROUNDS)) {
         Ok(solved) => {
             print_bounds(rt, "settled", solved.bounds.as_slice())?;
             Ok(Some(solved.heads))
@@ -113,15 +115,15 @@ fn print_step(
 }
 
 // The steps, until one has no heads.
-fn print_all(rt: &impl Print, alloc: Global, model: &FlowModel, s: u32) -> io::Result<()>
-    requires model { IsModel model.now }
+fn print_all(rt: &impl Print, alloc: Global, decks: &Decks, s: u32) -> io::Result<()>
+    requires decks { AreDecks decks.now }
     requires digits { s ≤ 18 }
 {
-    let mut old = Listed::new(start_heads(alloc, model)?);
+    let mut old = start_heads_for(alloc, decks)?;
     print_bounds(rt, "start", old.as_slice())?;
-    let steps = times(alloc, model)?;
+    let steps = times(alloc, &decks.first)?;
     for at in steps.as_slice() {
-        match print_step(rt, alloc, model, *at, old.as_slice(), s)? {
+        match print_step(rt, alloc, decks, *at, old.as_slice(), s)? {
             Some(heads) => old = heads,
             None => return Ok(()),
         }
@@ -138,7 +140,13 @@ pub fn print_steps(
     digits: u32,
 ) -> io::Result<()> {
     match read_model(alloc, folder, name) {
-        Ok(model) => print_all(rt, alloc, &model, digits.min(18)),
+        Ok(first) => {
+            let decks = Decks {
+                first,
+                second: None,
+            };
+            print_all(rt, alloc, &decks, digits.min(18))
+        }
         Err(_) => println!(rt; "no model"),
     }
 }

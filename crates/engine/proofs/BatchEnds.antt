@@ -2,7 +2,7 @@
 use Rattle.engine.proofs.Common.{◌≡◌, ℕ, zero, suc, ◌<◌, get_or, arith, ◌++◌, List, [], ◌∷◌, Ok, Err, Result, Option, None, Some, IfOk, subst, sym, ap, refl}
 use Rattle.engine.proofs.Common.{inl, inr, ◌∙◌, codes, option_and_then, All, MatchOption, slice_get, AllZip, append-nil, All-get_or, All-weaker, File, Rose}
 use Rattle.engine.proofs.Common.{InputCounts, file_refusal, Put, BadName, InputFault, Refusal, Wanted, Lists, Checks, Makes, Batches, Writes, wanted_of}
-use Rattle.engine.proofs.Common.{IsModel, refused_line, Text, read_fault_line, IsEnd, IsLast, IsWanting, IsRun, NeverCut, Status, lone, lacks_at_first, weaker}
+use Rattle.engine.proofs.Common.{AreDecks, refused_line, Text, read_fault_line, IsEnd, IsLast, IsWanting, IsRun, NeverCut, Status, lone, lacks_at_first, weaker}
 use Rattle.engine.proofs.Common.{JobEnd, ends_of_jobs, IsBatch, IsTask, wanting_not_ok, Task, Job, AskedBatch, BatchCase, Jobs, NoList, IsBatchCase, IsJobEnd}
 use Rattle.engine.proofs.Common.{IsRunText, batch_asked, batch_case_of, batch_of, job_case, model_line, AreTasks, IsFaultOf, AnyAnswers, AreValid, BatchAnswers}
 use Rattle.engine.proofs.Common.{BatchDue, IsValidJob, defined, unread, Refuses, asked_in, built, AnswersBeside, IsReadingEnd, IsStopped}
@@ -101,8 +101,8 @@ jobs_ended jobs seen ends is h = let P : List Job → Type 0 = λ js. AllZip IsJ
 pub valid_jobs : (jobs : List Job) → AreTasks jobs → All IsValidJob jobs
 valid_jobs jobs h = All-weaker (λ (job : Job). IfOk job.read IsTask) IsValidJob (λ job t. by_read job.read t) jobs h
   where
-    by_read : (r : Result Task Refusal) → IfOk r IsTask → IfOk r (λ k. IsModel k.model)
-    by_read (Ok k) t = t.model
+    by_read : (r : Result Task Refusal) → IfOk r IsTask → IfOk r (λ k. AreDecks k.decks)
+    by_read (Ok k) t = t.decks
     by_read (Err refusal) t = tt
 
 module _ (words : List Text) (files : Option (List File)) (n m : ℕ) (S : Type 0) (L : List Put → Type 0) (end : Status) (puts : List Put) where

@@ -1,12 +1,11 @@
 -- The public clauses of a batch, from all that it comes to.
-use Rattle.engine.proofs.Common.{◌≡◌, ℕ, List, [], ◌∷◌, ◌++◌, Some, IfOk, Result, Ok, Err, map, subst, sym, ◌∙◌, ap, refl, inl, inr, ◌⊎◌, All, All-head}
-use Rattle.engine.proofs.Common.{All-tail, AllZip, concat, File, Rose, Put, Seen, PutsMake, taken, Refusal, FlowModel, IsModel, reads, Text, end_line, whole}
+use Rattle.engine.proofs.Common.{◌≡◌, ℕ, List, [], ◌∷◌, ◌++◌, None, Some, IfOk, Result, Ok, Err, map, subst, sym, ◌∙◌, ap, refl, inl, inr, ◌⊎◌, All, All-head}
+use Rattle.engine.proofs.Common.{All-tail, AllZip, concat, File, Rose, Put, Seen, PutsMake, taken, Refusal, FlowModel, AreDecks, reads, Text, end_line, whole}
 use Rattle.engine.proofs.Common.{early, NeverCut, Agree, IsUnfinished, Status, IsLate, tail_late, late_not_read, all_written, write_rose, Task, IsListing}
 use Rattle.engine.proofs.Common.{IsWhole, whole_listing, history_exists, history_is_one, JobEnd, batch_settles, batches_agree, Job, Batched, HasEnded}
 use Rattle.engine.proofs.Common.{HasNoList, IsJobListing, AskedBatch, BatchCase, BatchDefines, IsJobEnd, IsRunText, Jobs, NoList, batch_asked, batch_case}
 use Rattle.engine.proofs.Common.{job_case, job_of, job_task, model_line, names_read, task_read, AreValid, BatchAnswers, BatchComes, BatchDecided, BatchDue}
-use Rattle.engine.proofs.Common.{HasJob, IsBatchRun, IsValidJob, defined, unread, IsStopped}
-use Rattle.model_types.specs.declared.limits.Limits.TheVariants.{Plain}
+use Rattle.engine.proofs.Common.{HasJob, IsBatchRun, IsValidJob, defined, unread, IsStopped, Plain}
 use Rattle.batch_puts.specs.Ended.{first_not_ok, or_else, texts}
 use Rattle.engine.proofs.Certifying.{IsFault, not_stopped, stopped_by_fault}
 use Rattle.engine.proofs.Ends.{late_stops}
@@ -75,7 +74,7 @@ delivers read_failed case end puts (early meant before after tail b t) goes = ab
 
 module _ (laws : Laws) (b : AskedBatch) (files : List File) where
   -- the text of a job that ended Ok
-  job_listing : (name : Text) (e : JobEnd) (r : Result FlowModel Refusal) → reads Plain files name ≡ r → IfOk (task_read b r) (λ k. IsModel k.model) → IsRunText (job_case (task_read b r)) (model_line name) e → e.status ≡ status.Ok → IsJobListing b files name e.text.items
+  job_listing : (name : Text) (e : JobEnd) (r : Result FlowModel Refusal) → reads Plain files name ≡ r → IfOk (task_read b r) (λ k. AreDecks k.decks) → IsRunText (job_case (task_read b r)) (model_line name) e → e.status ≡ status.Ok → IsJobListing b files name e.text.items
   job_listing name e (Err refusal) is valid h ok = absurd (let bad : status.Refused refusal ≡ status.Ok = sym h.defined.0 ∙ ok in cc)
   job_listing name e (Ok m) is valid h ok = of_whole (whole_listing (job_task b m) h.pieces (let P : Status → Type 0 = λ s. IsListing (job_task b m) s h.pieces in subst P ok h.defined))
     where
@@ -83,14 +82,14 @@ module _ (laws : Laws) (b : AskedBatch) (files : List File) where
       of_whole w = record {
         model = m;
         read = is;
-        valid = valid;
+        valid = valid.first;
         values = w.values;
         steps = w.steps;
         only = λ others steps. laws.one (job_task b m) w.values others valid w.steps steps;
         is = h.text ∙ ap (λ (p : List Text). model_line name ++ concat p) w.are;
         encloses = w.encloses;
-        solvable = history_exists (job_task b m) w.values valid w.steps;
-        one = history_is_one (job_task b m) w.values valid w.steps;
+        solvable = history_exists m b.digits None b.rounds w.values valid.first w.steps;
+        one = history_is_one m b.digits None b.rounds w.values valid.first w.steps;
       }
 
   all_ended : (names : List Text) (ends : List JobEnd) → All IsValidJob (map (job_of b (reads Plain files)) names) → AllZip IsJobEnd (map (job_of b (reads Plain files)) names) ends → AllZip (HasEnded b files) names ends
@@ -150,7 +149,7 @@ with_valid (job ∷ jobs) [] valid h = absurd h
 with_valid (job ∷ jobs) (e ∷ ends) valid (x, h) = ((All-head IsValidJob job jobs valid, x), with_valid jobs ends (All-tail IsValidJob job jobs valid) h)
 
 module _ (laws : Laws) where
-  read_agree : (read : Result Task Refusal) (line : Text) (a c : JobEnd) → IfOk read (λ k. IsModel k.model) → IsRunText (job_case read) line a → IsRunText (job_case read) line c → Agree a.status c.status
+  read_agree : (read : Result Task Refusal) (line : Text) (a c : JobEnd) → IfOk read (λ k. AreDecks k.decks) → IsRunText (job_case read) line a → IsRunText (job_case read) line c → Agree a.status c.status
   read_agree (Ok k) line a c valid x y = agree laws k valid a.status c.status x.pieces y.pieces x.defined y.defined
   read_agree (Err refusal) line a c valid x y = inr (inl (y.defined.0 ∙ sym x.defined.0))
 
@@ -179,7 +178,7 @@ module _ (laws : Laws) where
   module _ (b : AskedBatch) (files : List File) where
     job_settles : (name : Text) (e : JobEnd) → HasJob b files name → IsValidEnd (job_of b (reads Plain files) name) e → e.status ≡ status.Ok
     job_settles name e j x =
-        let P : Result FlowModel Refusal → Type 0 = λ r. IfOk (task_read b r) (λ k. IsModel k.model) → IsRunText (job_case (task_read b r)) (model_line name) e → e.status ≡ status.Ok in
+        let P : Result FlowModel Refusal → Type 0 = λ r. IfOk (task_read b r) (λ k. AreDecks k.decks) → IsRunText (job_case (task_read b r)) (model_line name) e → e.status ≡ status.Ok in
         subst P (sym j.read) (λ valid h. goes_through (job_task b j.model) j.no_refusal j.none_open e.status h.pieces h.defined) x.0 x.1
 
     all_settle : (names : List Text) (ends : List JobEnd) → All (HasJob b files) names → AllZip IsValidEnd (map (job_of b (reads Plain files)) names) ends → AllZip (λ job e. e.status ≡ status.Ok) (map (job_of b (reads Plain files)) names) ends

@@ -2,10 +2,9 @@
 use Rattle.engine.proofs.Common.{◌≡◌, ℕ, ◌+◌, ◌<◌, ◌≤◌, List, [], ◌∷◌, ◌++◌, length, take, get_or, Result, Ok, Err, Option, Some, None, IfOk, IfSome, subst}
 use Rattle.engine.proofs.Common.{sym, ap, refl, ◌∙◌, map-append, take_more, take_all, All-push, File, InputFault, Refusal, IsReading, file_at, IsGoodName}
 use Rattle.engine.proofs.Common.{input_fault, TextFault, names_in, StopsText, FlowModel, IsModel, reads, Text, IsTask, Task, Job, AskedBatch, IsSomeJob, job_of}
-use Rattle.engine.proofs.Common.{names_at, task_read, IsNamedFault, AreJobsRead, AreTasks, HasNames, IsJobRead}
+use Rattle.engine.proofs.Common.{names_at, task_read, IsNamedFault, AreJobsRead, AreTasks, HasNames, IsJobRead, Plain}
 use Rattle.std.specs.declared.vec.Vec.{Vec}
 use Rattle.std.specs.declared.alloc.Global.{Global}
-use Rattle.model_types.specs.declared.limits.Limits.TheVariants.{Plain}
 use Rattle.engine.proofs.Readings.{bad_named, good_named}
 use Rattle.outside.specs.declared.refusals.InputFault.TheVariants as input
 use Rattle.outside.specs.declared.refusals.TextFault.TheVariants as texts

@@ -1,10 +1,10 @@
 -- The public clauses of a run beside which a side sink is led.
 use Rattle.engine.proofs.Common.{◌≡◌, ℕ, List, [], ◌∷◌, ◌++◌, Option, Some, None, IfSome, ap, sym, subst, refl, ◌∙◌, inl, inr, ◌⊎◌, option_and_then, Rose, File}
-use Rattle.engine.proofs.Common.{Put, PutsMake, Seen, InputFault, Batches, Checks, Lists, Makes, Wanted, Writes, wanted_of, IsModel, IsLast, Text}
-use Rattle.engine.proofs.Common.{read_fault_line, Begins, IsRun, all_due, cut, early, nothing, whole, Status, late_not_ok, tail_late, Task, IsCutListing}
-use Rattle.engine.proofs.Common.{IsListing, IsListingBeside, left, listed, wanting_not_ok, AskedBatch, views_of, BatchComes, BatchDecided, Asked, AskedCheck}
-use Rattle.engine.proofs.Common.{Case, Check, Command, IsCase, Listing, Make, Run, Write, asked_in, built, Certified, Made, OneVerdict, Answers, AnswersBeside}
-use Rattle.engine.proofs.Common.{IsReadingEnd, Comes, Decided, IsLeft, IsWatched, SidePuts, ViewPutsOf, Watched, views_asked, views_in}
+use Rattle.engine.proofs.Common.{Put, PutsMake, Seen, InputFault, Batches, Checks, Lists, Makes, Wanted, Writes, wanted_of, IsLast, Text, read_fault_line}
+use Rattle.engine.proofs.Common.{Begins, IsRun, all_due, cut, early, nothing, whole, Status, late_not_ok, tail_late, AreDecks, Task, IsCutListing, IsListing}
+use Rattle.engine.proofs.Common.{IsListingBeside, left, listed, wanting_not_ok, AskedBatch, views_of, BatchComes, BatchDecided, Asked, AskedCheck, Case, Check}
+use Rattle.engine.proofs.Common.{Command, IsCase, Listing, Make, Run, Write, asked_in, built, Certified, Made, OneVerdict, Answers, AnswersBeside, IsReadingEnd}
+use Rattle.engine.proofs.Common.{Comes, Decided, IsLeft, IsWatched, SidePuts, ViewPutsOf, Watched, views_asked, views_in}
 use Rattle.engine.specs.declared.asked.Command.{Command as CommandBy}
 use Rattle.engine.proofs.Outcomes.{Both, Laws, both, certified, complete, decided, made, put_rose, read_rose}
 use Rattle.outside.specs.declared.refusals.InputFault.TheVariants as input
@@ -103,7 +103,7 @@ module _ (words : List Text) (files : Option (List File)) (n m : ℕ) (failed : 
   asked_views : (k : Task) (watch : Option ℕ) → views_in words ≡ watch → IfSome watch (λ j. IsWatched k j leads) → (j : ℕ) → views_in words ≡ Some j → IsWatched k j leads
   asked_views k watch same h j e = let P : Option ℕ → Type 0 = λ o. IfSome o (λ i. IsWatched k i leads) in subst P (sym same ∙ e) h
 
-  pub of_listing : (k : Task) (watch : Option ℕ) → views_in words ≡ watch → IsCase words files (Listing k) → IsModel k.model → (IsRun (IsListing k) (IsCutListing k) end puts → Answers words files n m end puts) → IsRun (IsListingBeside failed k) (IsCutListing k) end puts → (end ≡ status.Ok → IfSome watch (λ j. IsWatched k j leads)) → ViewPutsOf k leads watch → Besides
+  pub of_listing : (k : Task) (watch : Option ℕ) → views_in words ≡ watch → IsCase words files (Listing k) → AreDecks k.decks → (IsRun (IsListing k) (IsCutListing k) end puts → Answers words files n m end puts) → IsRun (IsListingBeside failed k) (IsCutListing k) end puts → (end ≡ status.Ok → IfSome watch (λ j. IsWatched k j leads)) → ViewPutsOf k leads watch → Besides
   of_listing k watch same is model answers run w views = record {
     answers = left_of words files n m failed k end puts is answers run;
     watched = λ e j v. views_of_case k files is j (asked_views k watch same (w e) j v);

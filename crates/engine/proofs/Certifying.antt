@@ -4,8 +4,7 @@ use Rattle.engine.proofs.Common.{PutsMake, taken, Refusal, FlowModel, IsModel, r
 use Rattle.engine.proofs.Common.{VerdictIsOne, IsVerdict, Asked, AskedCheck, Case, Command, Run, Make, Check, Write, NoWords, Refuses, Listing, Making}
 use Rattle.engine.proofs.Common.{Checking, Writing, asked_in, case_asked, case_checked, case_listed, case_of, case_read, case_written, case_zoned, listing_read}
 use Rattle.engine.proofs.Common.{made_model, named, steps_read, task_of, zones_read, Certified, IsCheck, certified_line, verdict_line, verdict_status, Defines}
-use Rattle.engine.proofs.Common.{OneVerdict, IsListed, IsStopped, IsValid}
-use Rattle.model_types.specs.declared.limits.Limits.TheVariants.{Plain}
+use Rattle.engine.proofs.Common.{OneVerdict, IsListed, IsStopped, IsValid, Plain}
 use Rattle.check_run.specs.declared.verdict.ListingVerdict.TheVariants.{Certified as Holds, Refused as Unbounded}
 use Rattle.engine.proofs.Readings.{named_read, zoned_parts}
 use Rattle.run_puts.specs.declared.status.Status.TheVariants as status

@@ -17,6 +17,8 @@ pub use Rattle.check_run.specs.Verdicts.{IsVerdict, ListingEncloses}
 pub use Rattle.check_run.specs.declared.verdict.ListingVerdict.{ListingVerdict}
 pub use Rattle.check_run.specs.declared.verdict.ListingVerdict.TheVariants.{Fails}
 pub use Rattle.command_line.specs.Wants.{Batches, Checks, Lists, Makes, Wanted, Writes, wanted_of}
+pub use Rattle.deck_problems.proofs.Members.{one_valid}
+pub use Rattle.deck_problems.specs.Decks.{AreDecks, one_deck}
 pub use Rattle.engine.specs.BatchCommands.{batch_by}
 pub use Rattle.engine.specs.BatchReads.{AreJobsRead, AreTasks, HasNames, IsFaultOf, IsJobRead}
 pub use Rattle.engine.specs.BatchRuns.{AnyAnswers, AnyComes, AnyDecided, AnyPuts, AreValid, BatchAnswers, BatchComes, BatchDecided, BatchDue, BatchPuts, HasJob}
@@ -64,6 +66,7 @@ pub use Rattle.model_reader.specs.Model.{reads}
 pub use Rattle.model_text.specs.Decks.{deck_text}
 pub use Rattle.model_types.specs.Times.{times}
 pub use Rattle.model_types.specs.Valid.{IsModel}
+pub use Rattle.model_types.specs.declared.limits.Limits.TheVariants.{Plain}
 pub use Rattle.model_types.specs.declared.model.FlowModel.{FlowModel}
 pub use Rattle.model_types.specs.declared.time_steps.TimeStep.{TimeStep}
 pub use Rattle.outside.specs.Counts.{InputCounts, Rose}

@@ -1,8 +1,7 @@
 -- The ends of the writing of a deck, by its reading.
 use Rattle.engine.proofs.Common.{◌≡◌, ℕ, List, Ok, Err, Result, Option, None, Some, refl, sym, ap, subst, ◌∙◌, InputCounts, File, Put, InputFault, Refusal}
 use Rattle.engine.proofs.Common.{FlowModel, IsModel, reads, Text, IsRun, NeverCut, Status, ZonedListing, AskedCheck, Command, Write, Refuses, Writing, IsCase}
-use Rattle.engine.proofs.Common.{asked_in, case_asked, case_written, listing_read, named, zones_read, IsDeck, Answers, IsReadAs, IsReadingEnd}
-use Rattle.model_types.specs.declared.limits.Limits.TheVariants.{Plain}
+use Rattle.engine.proofs.Common.{asked_in, case_asked, case_written, listing_read, named, zones_read, IsDeck, Answers, IsReadAs, IsReadingEnd, Plain}
 use Rattle.engine.proofs.Ends.{could_read, decked, ends_without_words, no_steps, refused, same_steps, same_zones, some_case, unreadable}
 use Rattle.engine.proofs.Readings.{no_zones}
 use Rattle.outside.specs.declared.refusals.InputFault.TheVariants as input

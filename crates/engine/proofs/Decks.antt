@@ -3,8 +3,7 @@ use Rattle.engine.proofs.Common.{◌≡◌, ℕ, List, [], ◌∷◌, Ok, Err, R
 use Rattle.engine.proofs.Common.{File, Put, Seen, PutsMake, taken, Refusal, FlowModel, IsModel, reads, deck_text, Text, Status, all_written, ZonedListing}
 use Rattle.engine.proofs.Common.{Asked, AskedCheck, Case, Command, Run, Make, Check, Write, NoWords, Refuses, Listing, Making, Checking, Writing, asked_in}
 use Rattle.engine.proofs.Common.{case_asked, case_checked, case_listed, case_of, case_read, case_written, case_zoned, listing_read, made_model, named, task_of}
-use Rattle.engine.proofs.Common.{zones_read, IsDeck, OneDeck, IsStopped, IsValid}
-use Rattle.model_types.specs.declared.limits.Limits.TheVariants.{Plain}
+use Rattle.engine.proofs.Common.{zones_read, IsDeck, OneDeck, IsStopped, IsValid, Plain}
 use Rattle.model_forms.proofs.DeckForms.{deck_reads}
 use Rattle.engine.proofs.Certifying.{IsFault, not_stopped}
 use Rattle.engine.proofs.Readings.{named_read}

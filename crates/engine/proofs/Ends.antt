@@ -2,13 +2,12 @@
 use Rattle.engine.proofs.Common.{◌≡◌, ℕ, List, [], ◌∷◌, Ok, Err, Result, Option, None, Some, IfOk, subst, sym, ap, refl, inl, inr, ◌∙◌, codes, option_and_then}
 use Rattle.engine.proofs.Common.{map, ℤ, unsigned_abs, File, Rose, InputCounts, IsReading, file_refusal, Put, BadName, InputFault, Refusal, Wanted, wanted_of}
 use Rattle.engine.proofs.Common.{FlowModel, IsModel, reads, ListedStep, AreListed, refused_line, Text, read_fault_line, IsEnd, IsLast, IsWanting, wanting}
-use Rattle.engine.proofs.Common.{memory_put, status_after, IsRun, NeverCut, Status, IsLate, tail_late, lone, lacks_at_first, weaker, Task, IsListing}
-use Rattle.engine.proofs.Common.{IsCutListing, AreZonesOf, ZonedListing, Asked, AskedCheck, Case, Command, Run, Make, Check, Write, NoWords, Refuses, Listing}
-use Rattle.engine.proofs.Common.{Making, Checking, Writing, IsCase, CouldList, CouldRead, asked_in, built, case_asked, case_checked, case_listed, case_of}
-use Rattle.engine.proofs.Common.{case_read, case_written, case_zoned, listing_read, made_model, named, task_of, zoned_steps, zones_named, zones_read, Due}
-use Rattle.engine.proofs.Common.{ReadsFolder, CutOf, IsMade, IsCheck, IsDeck, AreZonesAs, Answers, IsListed, IsMadeRun, IsReadAs, IsReadingEnd, IsStopped}
-use Rattle.engine.proofs.Common.{IsValid}
-use Rattle.model_types.specs.declared.limits.Limits.TheVariants.{Plain}
+use Rattle.engine.proofs.Common.{memory_put, status_after, IsRun, NeverCut, Status, IsLate, tail_late, lone, lacks_at_first, weaker, AreDecks, one_valid, Task}
+use Rattle.engine.proofs.Common.{IsListing, IsCutListing, AreZonesOf, ZonedListing, Asked, AskedCheck, Case, Command, Run, Make, Check, Write, NoWords, Refuses}
+use Rattle.engine.proofs.Common.{Listing, Making, Checking, Writing, IsCase, CouldList, CouldRead, asked_in, built, case_asked, case_checked, case_listed}
+use Rattle.engine.proofs.Common.{case_of, case_read, case_written, case_zoned, listing_read, made_model, named, task_of, zoned_steps, zones_named, zones_read}
+use Rattle.engine.proofs.Common.{Due, ReadsFolder, CutOf, IsMade, IsCheck, IsDeck, AreZonesAs, Answers, IsListed, IsMadeRun, IsReadAs, IsReadingEnd, IsStopped}
+use Rattle.engine.proofs.Common.{IsValid, Plain}
 use Rattle.command_line.specs.Usage.{usage_line}
 use Rattle.engine.specs.Defined.{defined, unread}
 use Rattle.engine.proofs.Readings.{named_read, no_zones}
@@ -54,7 +53,7 @@ module _ (words : List Text) (files : Option (List File)) (n m : ℕ) where
   pub refused : (refusal : Refusal) (end : Status) (puts : List Put) → IsCase words files (Refuses refusal) → IsEnd (refused_line refusal) (status.Refused refusal) end puts → Answers words files n m end puts
   refused refusal end puts is h = record { case = Refuses refusal; is = is; run = lone (Due (Rose n m) (Refuses refusal)) (CutOf (Refuses refusal)) (refused_line refusal) (status.Refused refusal) end puts (defined (status.Refused refusal) (refused_line refusal ∷ []) (refl, refl)) h; valid = tt }
 
-  listed : (k : Task) (end : Status) (puts : List Put) → IsCase words files (Listing k) → IsModel k.model → IsRun (IsListing k) (IsCutListing k) end puts → Answers words files n m end puts
+  listed : (k : Task) (end : Status) (puts : List Put) → IsCase words files (Listing k) → AreDecks k.decks → IsRun (IsListing k) (IsCutListing k) end puts → Answers words files n m end puts
   listed k end puts is model h = record { case = Listing k; is = is; run = weaker (IsListing k) (Due (Rose n m) (Listing k)) (IsCutListing k) (λ meant pieces d. defined meant pieces d) end puts h; valid = inl model }
 
   pub checked : (f : FlowModel) (s : ℕ) (listing : ZonedListing) (end : Status) (puts : List Put) → IsCase words files (Checking f s listing) → IsModel f → IsListed f listing → IsRun (IsCheck f s listing) NeverCut end puts → Answers words files n m end puts
@@ -196,7 +195,7 @@ module _ (words : List Text) (files : Option (List File)) (n m : ℕ) (asked : A
     ends_unzoned input.Memory end puts zones counts h = ends_without_words words files n m end puts h
 
     pub ends_listing : (zones : Option (List ℕ)) (end : Status) (puts : List Put) → AreZonesAs asked.zones f files (Ok zones) → IsRun (IsListing (task_of asked f zones)) (IsCutListing (task_of asked f zones)) end puts → Answers words files n m end puts
-    ends_listing zones end puts zoned h = listed words files n m (task_of asked f zones) end puts (zones_case files f (Ok zones) (Ok zones) (λ defined is. is) read model zoned) model h
+    ends_listing zones end puts zoned h = listed words files n m (task_of asked f zones) end puts (zones_case files f (Ok zones) (Ok zones) (λ defined is. is) read model zoned) (one_valid f model) h
 
 -- a made model
 module _ (words : List Text) (seed size : ℕ) (wanted : asked_in words ≡ Some (Make seed size)) where

@@ -31,7 +31,7 @@ module _ {S V : Type 0} (begins : S → ℕ → ℕ → S → Type 0) (leads : S
 
   pub reached_first : (k : Task) (s t : S) → Keeps s → (t ≡ s) ⊎ ReachesFirst begins leads stop k s t → Keeps t × ((of t ≡ of s) ⊎ ReachesFirst begins' leads' stop' k (of s) (of t))
   reached_first k s t keeps (inl e) = (subst Keeps (sym e) keeps, inl (ap of e))
-  reached_first k s t keeps (inr h) = let r = reached k h.start (times k.model) s t keeps h.reaches in (r.0, inr (record { start = h.start; is_start = h.is_start; reaches = r.1 }))
+  reached_first k s t keeps (inr h) = let r = reached k h.start (times k.decks.first) s t keeps h.reaches in (r.0, inr (record { start = h.start; is_start = h.is_start; reaches = r.1 }))
 
   are_settled : (k : Task) (old : List Bound) (times : List TimeStep) (s t : S) → Keeps s → AreSettledBy begins leads stop k old times s t → AreSettledBy begins' leads' stop' k old times (of s) (of t)
   are_settled k old [] s t keeps e = ap of e

@@ -2,13 +2,12 @@
 use Rattle.engine.proofs.Common.{◌≡◌, ℕ, List, [], ◌∷◌, Option, Some, None, IfSome, Result, Ok, Err, map, subst, sym, ◌∙◌, ap, refl, inl, inr, ◌⊎◌, codes}
 use Rattle.engine.proofs.Common.{append-nil, Appends, File, Rose, file_refusal, Put, Seen, PutsMake, taken, BadName, Refusal, NoBound, FlowModel, TimeStep}
 use Rattle.engine.proofs.Common.{IsModel, reads, made_files, made_name, Text, end_line, whole, early, Agree, IsUnfinished, Status, IsLate, tail_late}
-use Rattle.engine.proofs.Common.{late_not_ok, late_not_read, all_written, write_rose, Task, Step, ListingEnd, AllSteps, listing, status_of, IsListing, IsWhole}
-use Rattle.engine.proofs.Common.{is_whole, whole_listing, history_exists, history_is_one, VerdictIsOne, Asked, AskedCheck, Case, Command, Run, Make, Check}
-use Rattle.engine.proofs.Common.{Write, NoWords, Refuses, Listing, Making, Checking, Writing, IsCase, asked_in, case_asked, case_of, case_read, case_zoned}
-use Rattle.engine.proofs.Common.{listing_read, made_model, named, task_of, zoned_steps, zones_named, zones_read, Certified, IsDeck, OneDeck, CutOf, Defines}
-use Rattle.engine.proofs.Common.{Due, Headline, IsSummed, Made, made_task, summed_text, OneListing, OneSummary, OneVerdict, Decided, Comes, HasCertified}
-use Rattle.engine.proofs.Common.{HasDeck, HasListing, HasTask, IsRunOf, Answers, IsStopped, IsValid}
-use Rattle.model_types.specs.declared.limits.Limits.TheVariants.{Plain}
+use Rattle.engine.proofs.Common.{late_not_ok, late_not_read, all_written, write_rose, one_deck, AreDecks, one_valid, Task, Step, ListingEnd, AllSteps, listing}
+use Rattle.engine.proofs.Common.{status_of, IsListing, IsWhole, is_whole, whole_listing, history_exists, history_is_one, VerdictIsOne, Asked, AskedCheck, Case}
+use Rattle.engine.proofs.Common.{Command, Run, Make, Check, Write, NoWords, Refuses, Listing, Making, Checking, Writing, IsCase, asked_in, case_asked, case_of}
+use Rattle.engine.proofs.Common.{case_read, case_zoned, listing_read, made_model, named, task_of, zoned_steps, zones_named, zones_read, Certified, IsDeck}
+use Rattle.engine.proofs.Common.{OneDeck, CutOf, Defines, Due, Headline, IsSummed, Made, made_task, summed_text, OneListing, OneSummary, OneVerdict, Decided}
+use Rattle.engine.proofs.Common.{Comes, HasCertified, HasDeck, HasListing, HasTask, IsRunOf, Answers, IsStopped, IsValid, Plain}
 use Rattle.listing_run.specs.Laws.{ListingIsOne, ListingExcludesRefusal, RefusalIsOne}
 use Rattle.listing_summary.specs.Summaries.{summary_of}
 use Rattle.listing_summary.specs.Texts.{summary_text}
@@ -61,13 +60,13 @@ task_in other (Making seed size read) = other
 task_in other (Checking m s steps) = other
 task_in other (Writing m) = other
 
-one_task : (j k : Task) → Listing j ≡ Listing k → j ≡ k
+same_task : (j k : Task) → Listing j ≡ Listing k → j ≡ k
 unfolding task_in
-one_task j k e = ap (task_in k) e
+same_task j k e = ap (task_in k) e
 
 module _ (words : List Text) (files : List File) (k : Task) where
   by_zones : (asked : Asked) → asked_in words ≡ Some (Run asked) → (f : FlowModel) → named asked.name (reads Plain files) ≡ Ok f → (z : Result (Option (List ℕ)) Refusal) → zones_read files asked.zones f ≡ z → case_zoned asked f z ≡ Listing k → Listed words files k
-  by_zones asked wanted f is (Ok zones) also e = record { asked = asked; wanted = wanted; model = f; read = named_read asked.name (reads Plain files) f is; zones = zones; zoned = also; task = one_task (task_of asked f zones) k e }
+  by_zones asked wanted f is (Ok zones) also e = record { asked = asked; wanted = wanted; model = f; read = named_read asked.name (reads Plain files) f is; zones = zones; zoned = also; task = same_task (task_of asked f zones) k e }
   by_zones asked wanted f is (Err refusal) also e = absurd (let bad : Refuses refusal ≡ Listing k = e in cc)
 
   by_reading : (asked : Asked) → asked_in words ≡ Some (Run asked) → (r : Result FlowModel Refusal) → named asked.name (reads Plain files) ≡ r → case_read asked r (zones_read files asked.zones) ≡ Listing k → Listed words files k
@@ -84,7 +83,7 @@ module _ (words : List Text) (files : List File) (k : Task) where
   listed : case_of words files ≡ Listing k → Listed words files k
   listed e = by_words (asked_in words) refl e
 
-valid_ok : (k : Task) (end : Status) → IsValid (Listing k) end → end ≡ status.Ok → IsModel k.model
+valid_ok : (k : Task) (end : Status) → IsValid (Listing k) end → end ≡ status.Ok → AreDecks k.decks
 valid_ok k end (inl model) e = model
 valid_ok k end (inr stopped) e = absurd (not_stopped (let P : Status → Type 0 = IsStopped in subst P e stopped))
 
@@ -133,12 +132,12 @@ abbrev pub Both : List Text → List File → Seen → Seen → Type 0
 Both words files old new = (Headline words files old.written new.written × OneListing words files old.written new.written) ⊎ ((Made words old.written new.written × OneSummary words old.written new.written) ⊎ ((Certified words files old.written new.written × OneVerdict words files) ⊎ (OneDeck words files old.written new.written × OneDeck words files old.written new.written)))
 
 module _ (laws : Laws) where
-  of_listing : (words : List Text) (files : List File) (old new : Seen) (puts : List Put) (pieces : List Text) (k : Task) → Listed words files k → IsModel k.model → IsWhole k pieces → puts ≡ map taken pieces → PutsMake old puts new → Headline words files old.written new.written × OneListing words files old.written new.written
+  of_listing : (words : List Text) (files : List File) (old new : Seen) (puts : List Put) (pieces : List Text) (k : Task) → Listed words files k → AreDecks k.decks → IsWhole k pieces → puts ≡ map taken pieces → PutsMake old puts new → Headline words files old.written new.written × OneListing words files old.written new.written
   of_listing words files old new puts pieces k l valid w written makes =
       let W : Task → Type 0 = λ j. IsWhole j pieces in
-      by_task (subst W (sym l.task) w) (let M : Task → Type 0 = λ j. IsModel j.model in subst M (sym l.task) valid)
+      by_task (subst W (sym l.task) w) (let M : Task → Type 0 = λ j. AreDecks j.decks in subst M (sym l.task) valid)
     where
-      by_task : IsWhole (task_of l.asked l.model l.zones) pieces → IsModel l.model → Headline words files old.written new.written × OneListing words files old.written new.written
+      by_task : IsWhole (task_of l.asked l.model l.zones) pieces → AreDecks (one_deck l.model) → Headline words files old.written new.written × OneListing words files old.written new.written
       by_task v model =
           let all = all_written (listing (task_of l.asked l.model l.zones) v.values end_line) old new puts (written ∙ ap (map taken) v.are) makes in (
             record {
@@ -146,21 +145,21 @@ module _ (laws : Laws) where
               wanted = l.wanted;
               model = l.model;
               read = l.read;
-              valid = model;
+              valid = model.first;
               zones = l.zones;
               zoned = l.zoned;
               values = v.values;
               written = all;
               encloses = v.encloses;
-              solvable = history_exists (task_of l.asked l.model l.zones) v.values model v.steps;
-              one = history_is_one (task_of l.asked l.model l.zones) v.values model v.steps;
+              solvable = history_exists l.model l.asked.digits l.zones l.asked.rounds v.values model.first v.steps;
+              one = history_is_one l.model l.asked.digits l.zones l.asked.rounds v.values model.first v.steps;
             },
             record {
               asked = l.asked;
               wanted = l.wanted;
               model = l.model;
               read = l.read;
-              valid = model;
+              valid = model.first;
               zones = l.zones;
               zoned = l.zoned;
               values = v.values;
@@ -194,8 +193,8 @@ module _ (laws : Laws) where
           values = values;
           written = all;
           encloses = x.listed.encloses whole;
-          solvable = history_exists k values model steps;
-          one = history_is_one k values model steps;
+          solvable = history_exists m k.digits None k.rounds values model steps;
+          one = history_is_one m k.digits None k.rounds values model steps;
         },
         record {
           seed = seed;
@@ -206,7 +205,7 @@ module _ (laws : Laws) where
           valid = model;
           values = values;
           steps = steps;
-          only = λ others also. laws.one k values others model steps also;
+          only = λ others also. laws.one k values others (one_valid m model) steps also;
           written = all;
         },
       )
@@ -306,7 +305,7 @@ put_rose read_failed case = write_rose (Due read_failed case) (CutOf case) (λ p
 same_refusal : (s t : TimeStep) (a b : NoBound) → s ≡ t → a ≡ b → status.NoBound t.period t.step b ≡ status.NoBound s.period s.step a
 same_refusal s t a b at is = sym (ap (λ (x : TimeStep). status.NoBound x.period x.step a) at ∙ ap (λ n. status.NoBound t.period t.step n) is)
 
-module _ (laws : Laws) (k : Task) (valid : IsModel k.model) where
+module _ (laws : Laws) (k : Task) (valid : AreDecks k.decks) where
   ends_agree : (meant end : ListingEnd) (values others : List Step) → AllSteps k values meant → AllSteps k others end → Agree (status_of meant) (status_of end)
   ends_agree ends.Whole ends.Whole values others x y = inr (inl refl)
   ends_agree ends.Whole (ends.NoBound at n) values others x y = absurd (laws.bound k values others at n valid x y)
@@ -357,7 +356,7 @@ decides laws (Refuses refusal) meant end p q valid (x, a) (y, b) = inr (inl (y �
 decides laws (Listing k) meant end p q (inl valid) x y = agree laws k valid meant end p q x y
 decides laws (Listing k) meant end p q (inr stops) x y = absurd (never_stopped k end q stops y)
 decides laws (Making seed size (Err refusal)) meant end p q valid (x, a) (y, b) = inr (inl (y ∙ sym x))
-decides laws (Making seed size (Ok m)) meant end p q (inl valid) x y = agree laws (made_task m) valid meant end x.all y.all x.listed y.listed
+decides laws (Making seed size (Ok m)) meant end p q (inl valid) x y = agree laws (made_task m) (one_valid m valid) meant end x.all y.all x.listed y.listed
 decides laws (Making seed size (Ok m)) meant end p q (inr stops) x y = absurd (never_stopped (made_task m) end y.all stops y.listed)
 decides laws (Checking m s steps) meant end p q (inl (model, listed)) x y = inr (inl (one_end m s steps laws.verdict model listed meant end p q x y))
 decides laws (Checking m s steps) meant end p q (inr stops) x y = absurd (never_stopped_check m s steps end q stops y)

@@ -49,7 +49,7 @@ module _ {W X : Type 0} (leads : W → List Put → W → Type 0) (text : X → 
       (λ s t p b ended same l. ((l.views.more s 0 (no_view_yet s p b)).0 ∙ same, l))
       (λ s. refl) k first now refl h).0
 
-  module _ (starts : (s : W) → leads s [] s) (k : Task) (n : ℕ) (first now : Viewer) (fits : text first.text.now ≡ lines_of k.model.grid) (none : first.stop ≡ None) where
+  module _ (starts : (s : W) → leads s [] s) (k : Task) (n : ℕ) (first now : Viewer) (fits : text first.text.now ≡ lines_of k.decks.first.grid) (none : first.stop ≡ None) where
     pub puts_of_side : ReachesBy n k first now → ViewPutsOf k (λ puts. leads first.sink.now puts now.sink.now) (Some n)
     puts_of_side h = side_puts leads sink text_of (λ s. s.period) (λ s. s.step) stop begins viewed stopped is_begun is_viewed (λ s h. h) no_view_yet starts k n first now fits none h
 

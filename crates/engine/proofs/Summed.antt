@@ -2,8 +2,7 @@
 use Rattle.engine.proofs.Common.{◌≡◌, ℕ, List, [], ◌∷◌, Ok, Err, Result, IfOk, Some, ap, subst, sym, refl, inl, inr, File, IsReading, Put, InputFault, Refusal}
 use Rattle.engine.proofs.Common.{FlowModel, IsModel, refused_line, IsEnd, IsWanting, Text, Status, lone, lacks_at_first, ListingEnd, last_line, listing}
 use Rattle.engine.proofs.Common.{status_of, made_files, made_name, reads, made_model, named, IsMade, made_task, summed_text, IsMadeRun, IsReadAs, IsReadingEnd}
-use Rattle.engine.proofs.Common.{made_fault}
-use Rattle.model_types.specs.declared.limits.Limits.TheVariants.{Plain}
+use Rattle.engine.proofs.Common.{made_fault, Plain}
 use Rattle.listing_summary.specs.Ends.{IsSummarized}
 use Rattle.listing_summary.specs.declared.summary.Summary.{Summary}
 use Rattle.engine.proofs.Ends.{wanting_stops}

@@ -3,8 +3,7 @@ use Rattle.engine.proofs.Common.{◌≡◌, ℕ, List, Ok, Err, Result, Option, 
 use Rattle.engine.proofs.Common.{Put, InputFault, Refusal, FlowModel, IsModel, reads, ListedStep, IsEnd, Text, IsRun, NeverCut, Status, lone, ListingVerdict}
 use Rattle.engine.proofs.Common.{IsVerdict, ListingEncloses, ZonedListing, AskedCheck, Command, Check, Refuses, Checking, IsCase, CouldList, CouldRead}
 use Rattle.engine.proofs.Common.{asked_in, case_asked, case_checked, case_listed, listing_read, named, zones_read, IsCheck, verdict_line, verdict_status}
-use Rattle.engine.proofs.Common.{Answers, IsListed, IsListedAs, IsReadAs, IsReadingEnd, AreZonesOf}
-use Rattle.model_types.specs.declared.limits.Limits.TheVariants.{Plain}
+use Rattle.engine.proofs.Common.{Answers, IsListed, IsListedAs, IsReadAs, IsReadingEnd, AreZonesOf, Plain}
 use Rattle.exact_histories.specs.Histories.{HasOneHistory}
 use Rattle.check_run.specs.declared.verdict.ListingVerdict.TheVariants.{Certified}
 use Rattle.engine.proofs.Ends.{checked, could_read, ends_without_words, no_steps, of_each, of_model_read, refused, same_steps, same_zones, some_case, unreadable}

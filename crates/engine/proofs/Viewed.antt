@@ -16,7 +16,7 @@ pieces_of : (text : List Bound → List ℕ) (views : List (List Bound)) → map
 pieces_of text [] = refl
 pieces_of text (v ∷ views) = ap (λ (ps : List Put). taken (text v) ∷ ps) (pieces_of text views)
 
-all_views : (k : Task) (at : TimeStep) (old : List Bound) (p : List Entries) (b : Edges) (text : List Bound → List ℕ) → PairEncloses k.model at old p b → (views : List (List Bound)) → AreAllShown text (EnclosesPair p b) views → All (IsView k at old p b) views
+all_views : (k : Task) (at : TimeStep) (old : List Bound) (p : List Entries) (b : Edges) (text : List Bound → List ℕ) → PairEncloses k.decks at old p b → (views : List (List Bound)) → AreAllShown text (EnclosesPair p b) views → All (IsView k at old p b) views
 all_views k at old p b text encloses views h = All-weaker (EnclosesPair p b) (IsView k at old p b) (λ heads shown. record { pair = shown; solutions = encloses heads shown.pair }) views (each views h)
   where
     each : (vs : List (List Bound)) → AreAllShown text (EnclosesPair p b) vs → All (EnclosesPair p b) vs
@@ -103,7 +103,7 @@ module _ {V W : Type 0} (leads : W → List Put → W → Type 0) (sink : V → 
     failed = λ wrote. absurd (no_write (stop t) none wrote);
   }
 
-  module _ (k : Task) (n : ℕ) (at : TimeStep) (old : List Bound) (s told done : V) (fits : text_of s ≡ lines_of k.model.grid) (none : stop s ≡ None) (b : begins s at.period at.step told) (ended : Bool) (by : IsSettledBy (Shows viewed stopped n) k at old ended told done) where
+  module _ (k : Task) (n : ℕ) (at : TimeStep) (old : List Bound) (s told done : V) (fits : text_of s ≡ lines_of k.decks.first.grid) (none : stop s ≡ None) (b : begins s at.period at.step told) (ended : Bool) (by : IsSettledBy (Shows viewed stopped n) k at old ended told done) where
     abbrev p : List Entries
     p = by.problem
 
@@ -111,7 +111,7 @@ module _ {V W : Type 0} (leads : W → List Put → W → Type 0) (sink : V → 
     e = by.barrier
 
     abbrev text : List Bound → List ℕ
-    text = view_text k.model.grid at p
+    text = view_text k.decks.first.grid at p
 
     abbrev View : List Bound → Type 0
     View = IsView k at old p e
@@ -126,8 +126,8 @@ module _ {V W : Type 0} (leads : W → List Put → W → Type 0) (sink : V → 
         let count : ℕ = 0 + by.led.count in
         let v = (shown n p e ended told done by.led).puts in
         let G : (ℕ → ℕ → List Entries → List Bound → List ℕ) → Type 0 = λ w. ViewPuts (w (period told) (step told) p) (EnclosesPair p e) D count (stop told) (stop done) in
-        let I : ℕ → Type 0 = λ i. ViewPuts (lines_of k.model.grid i (step told) p) (EnclosesPair p e) D count (stop told) (stop done) in
-        let J : ℕ → Type 0 = λ j. ViewPuts (lines_of k.model.grid at.period j p) (EnclosesPair p e) D count (stop told) (stop done) in
+        let I : ℕ → Type 0 = λ i. ViewPuts (lines_of k.decks.first.grid i (step told) p) (EnclosesPair p e) D count (stop told) (stop done) in
+        let J : ℕ → Type 0 = λ j. ViewPuts (lines_of k.decks.first.grid at.period j p) (EnclosesPair p e) D count (stop told) (stop done) in
         let A : Option SinkError → Type 0 = λ o. ViewPuts text (EnclosesPair p e) D count o (stop done) in
         subst A (told_is.4 ∙ none) (subst J told_is.3 (subst I told_is.2 (subst G (told_is.1 ∙ fits) v)))
 
@@ -219,7 +219,7 @@ module _ {V W : Type 0} (leads : W → List Put → W → Type 0) (sink : V → 
           let same : pieces ++ views_put.last ≡ map taken (map text views_put.views) = rw nothing (append-nil pieces ∙ pieces_of text views_put.views) in
           subst Q told_is.0 (subst L same views_put.led)
 
-      done_fits : text_of done ≡ lines_of k.model.grid
+      done_fits : text_of done ≡ lines_of k.decks.first.grid
       done_fits = (shown n p e ended told done by.led).same_text ∙ told_is.1 ∙ fits
 
       all_viewed : (times : List TimeStep) (v : Step) (t : V) → IsStep k at old v → ViewedFrom k n v.heads times done t → ViewedFrom k n old (at ∷ times) s t
@@ -241,13 +241,13 @@ module _ {V W : Type 0} (leads : W → List Put → W → Type 0) (sink : V → 
             led = subst L (sym (map-append taken (map text views_put.views) later.texts)) (lead_more leads (sink s) (sink done) (sink t) _ _ step_led later.led);
           }
 
-  watched_from : (k : Task) (n : ℕ) (old : List Bound) (times : List TimeStep) (s t : V) → text_of s ≡ lines_of k.model.grid → stop s ≡ None → AreSettledBy begins (Shows viewed stopped n) stop k old times s t → WatchedFrom k n old times s t
+  watched_from : (k : Task) (n : ℕ) (old : List Bound) (times : List TimeStep) (s t : V) → text_of s ≡ lines_of k.decks.first.grid → stop s ≡ None → AreSettledBy begins (Shows viewed stopped n) stop k old times s t → WatchedFrom k n old times s t
   watched_from k n old [] s t fits none e = record { texts = []; watched = refl; led = (let P : V → Type 0 = λ x. LeadOn leads (sink s) (sink x) [] in subst P (sym e) (no_lead leads (sink s))) }
   watched_from k n old (at ∷ times) s t fits none (v, told, done, is, b, by, goes, rest) =
       let later = watched_from k n v.heads times done t (done_fits k n at old s told done fits none b true by refl goes) goes rest in
       all_watched k n at old s told done fits none b true by refl goes times v t is later
 
-  viewed_from : (k : Task) (n : ℕ) (old : List Bound) (times : List TimeStep) (s t : V) → text_of s ≡ lines_of k.model.grid → stop s ≡ None → Reaches begins (Shows viewed stopped n) stop k old times s t → ViewedFrom k n old times s t
+  viewed_from : (k : Task) (n : ℕ) (old : List Bound) (times : List TimeStep) (s t : V) → text_of s ≡ lines_of k.decks.first.grid → stop s ≡ None → Reaches begins (Shows viewed stopped n) stop k old times s t → ViewedFrom k n old times s t
   viewed_from k n old times s t fits none (rests o ts u) = none_viewed k n o ts u u refl none
   viewed_from k n old times s t fits none (begun o at ts u told v b (inl same)) =
       let is = is_begun u told at.period at.step b in
@@ -257,7 +257,7 @@ module _ {V W : Type 0} (leads : W → List Put → W → Type 0) (sink : V → 
       let later = viewed_from k n v.heads ts done w (done_fits k n at o u told done fits none b true by refl goes) goes rest in
       all_viewed k n at o u told done fits none b true by refl goes ts v w is later
 
-  module _ (starts : (s : W) → leads s [] s) (k : Task) (n : ℕ) (s t : V) (fits : text_of s ≡ lines_of k.model.grid) (none : stop s ≡ None) where
+  module _ (starts : (s : W) → leads s [] s) (k : Task) (n : ℕ) (s t : V) (fits : text_of s ≡ lines_of k.decks.first.grid) (none : stop s ≡ None) where
     pub is_watched : AllSettledBy begins (Shows viewed stopped n) stop k s t → IsWatched k n (λ puts. leads (sink s) puts (sink t))
     is_watched h =
         let w = watched_from k n h.start _ s t fits none h.settled in
@@ -266,14 +266,14 @@ module _ {V W : Type 0} (leads : W → List Put → W → Type 0) (sink : V → 
     pub side_puts : (t ≡ s) ⊎ ReachesFirst begins (Shows viewed stopped n) stop k s t → ViewPutsOf k (λ puts. leads (sink s) puts (sink t)) (Some n)
     side_puts (inl same) = inl (let P : V → Type 0 = λ x. leads (sink s) [] (sink x) in subst P (sym same) (starts (sink s)))
     side_puts (inr h) =
-        let w = viewed_from k n h.start (times_of k.model) s t fits none h.reaches in
+        let w = viewed_from k n h.start (times_of k.decks.first) s t fits none h.reaches in
         inr (record { start = h.start; is_start = h.is_start; texts = w.texts; views = w.views; puts = w.puts; in_turn = w.in_turn; led = w.led (sink s) [] (starts (sink s)) })
 
     -- where the viewer has stopped since a write failed, one has
     pub side_rose : (seen : W → Seen) → ((s : W) (puts : List Put) (t : W) → leads s puts t → PutsMake (seen s) puts (seen t)) → (t ≡ s) ⊎ ReachesFirst begins (Shows viewed stopped n) stop k s t → stop t ≡ Some error.Write → Rose (seen (sink s)).faults (seen (sink t)).faults
     side_rose seen tells (inl same) wrote = absurd (no_write (stop t) (ap stop same ∙ none) wrote)
     side_rose seen tells (inr h) wrote =
-        let w = viewed_from k n h.start (times_of k.model) s t fits none h.reaches in
+        let w = viewed_from k n h.start (times_of k.decks.first) s t fits none h.reaches in
         let r = w.failed wrote in
         let M : List Put → Type 0 = λ ps. PutsMake (seen (sink s)) ps (seen (sink t)) in
         write_failed r.0 r.1 (seen (sink s)) (seen (sink t)) (subst M r.2 (tells (sink s) w.puts (sink t) (w.led (sink s) [] (starts (sink s)))))

@@ -2,14 +2,15 @@
 use Rattle.engine.proofs.Common.{◌≡◌, ℕ, ◌≤◌, Bool, true, false, List, [], ◌∷◌, map, Option, None, Some, Result, Ok, Err, refl, sym, ap, ◌∙◌, subst, arith, ℤ}
 use Rattle.engine.proofs.Common.{unsigned_abs, concat, File, file_at, is_good_name, Refusal, FlowModel, IsModel, reads, Wanted, Lists, Checks, Makes, Batches}
 use Rattle.engine.proofs.Common.{Writes, wanted_of, pairs_in, AreNumbers, zones_of, ListedStep, all_lines, listing_at, or_bad_listing, Text, end_line, Task}
-use Rattle.engine.proofs.Common.{IsListing, listing, IsWhole, whole_listing, history_exists, history_is_one, ZonedListing, AskedCheck, Case, Check, Command}
-use Rattle.engine.proofs.Common.{Checking, asked_in, built, case_asked, case_checked, case_listed, case_of, listing_read, numbers_of, steps_in, steps_read}
-use Rattle.engine.proofs.Common.{task_of, with_zones, zoned_steps, zones_read, IsCheck, certified_line, Defines}
+use Rattle.engine.proofs.Common.{IsListing, listing, AllSteps, IsWhole, whole_listing, history_exists, history_is_one, ZonedListing, AskedCheck, Case, Check}
+use Rattle.engine.proofs.Common.{Command, Checking, asked_in, built, case_asked, case_checked, case_listed, case_of, listing_read, numbers_of, steps_in}
+use Rattle.engine.proofs.Common.{steps_read, task_of, with_zones, zoned_steps, zones_read, IsCheck, certified_line, Defines, Plain}
 use Rattle.std.specs.Prelude.{if◌then◌else◌, option_and_then}
-use Rattle.model_types.specs.declared.limits.Limits.TheVariants.{Plain}
 use Rattle.model_reader.proofs.UnitLemmas.{unit_is_short}
 use Rattle.command_line.proofs.DigitLemmas.{check_digits}
 use Rattle.zone_file.proofs.SmallZones.{numbers_small}
+use Rattle.listing_run.specs.Bounding.{EnclosesHistories}
+use Rattle.listing_run.specs.Tasks.{one_task}
 use Rattle.check_run.specs.declared.verdict.ListingVerdict.TheVariants.{Certified as Holds}
 use Rattle.check_run.specs.Runs.{IsReadable, RunIsCertified, RunIsReadAgain, as_listed}
 use Rattle.check_run.proofs.RunEnclosed.{run_encloses}
@@ -45,55 +46,57 @@ asked_digits words asked = by_wanted (wanted_of words) refl
     by_wanted None is e = cc
     by_wanted (Some w) is e = check_digits words asked.name asked.listing asked.digits asked.zones (is ∙ ap Some (built_check asked w e))
 
-module _ (certified : RunIsCertified) (again : RunIsReadAgain) (k : Task) (pieces words : List Text) (files : List File) (model : IsModel k.model) (zoned : AreNumbers k.zones) (whole : IsWhole k pieces) (h : ChecksWritten words files k (concat pieces)) where
+module _ (certified : RunIsCertified) (again : RunIsReadAgain) (m : FlowModel) (s : ℕ) (zones : Option (List ℕ)) (rounds : ℕ) (pieces words : List Text) (files : List File)
+    (model : IsModel m) (zoned : AreNumbers zones) (whole : IsWhole (one_task m s zones rounds) pieces) (h : ChecksWritten words files (one_task m s zones rounds) (concat pieces)) where
   abbrev steps : List ListedStep
   steps = map as_listed whole.values
 
   abbrev listing_of : ZonedListing
-  listing_of = record { zones = k.zones; steps = steps }
+  listing_of = record { zones = zones; steps = steps }
 
-  readable : IsReadable k
+  readable : IsReadable m s zones
   readable = record {
     model = model;
-    zones = zoned;
+    numbers = zoned;
     digits = let few = asked_digits words h.asked h.wanted in let same = h.digits in omega (arith, few, same);
-    unit = unit_is_short Plain files h.asked.name k.model (named_read h.asked.name (reads Plain files) k.model h.read);
+    unit = unit_is_short Plain files h.asked.name m (named_read h.asked.name (reads Plain files) m h.read);
   }
 
-  steps_of_bytes : steps_in h.asked k.model k.zones (Ok (concat pieces)) ≡ Ok steps
+  steps_of_bytes : steps_in h.asked m zones (Ok (concat pieces)) ≡ Ok steps
   steps_of_bytes =
-      let pairs = pairs_in k.model k.zones in
-      let P : List Text → Type 0 = λ t. listing_at k.model k.digits pairs (all_lines (concat t)) ≡ Ok steps in
-      let D : ℕ → Type 0 = λ s. listing_at k.model s pairs (all_lines (concat pieces)) ≡ Ok steps in
-      ap (or_bad_listing h.asked.listing) (subst D (sym h.digits) (subst P (sym whole.are) (again k whole.values readable whole.steps)))
+      let pairs = pairs_in m zones in
+      let P : List Text → Type 0 = λ t. listing_at m s pairs (all_lines (concat t)) ≡ Ok steps in
+      let D : ℕ → Type 0 = λ s. listing_at m s pairs (all_lines (concat pieces)) ≡ Ok steps in
+      ap (or_bad_listing h.asked.listing) (subst D (sym h.digits) (subst P (sym whole.are) (again m s zones rounds whole.values readable whole.steps)))
 
-  steps_are : steps_read files h.asked k.model k.zones ≡ Ok steps
-  steps_are = with_bytes (is_good_name h.asked.listing) (file_at files h.asked.listing) (steps_in h.asked k.model k.zones) _ (concat pieces) h.listing ∙ steps_of_bytes
+  steps_are : steps_read files h.asked m zones ≡ Ok steps
+  steps_are = with_bytes (is_good_name h.asked.listing) (file_at files h.asked.listing) (steps_in h.asked m zones) _ (concat pieces) h.listing ∙ steps_of_bytes
 
-  read : listing_read files h.asked k.model ≡ Ok listing_of
-  read = ap (λ (z : Result (Option (List ℕ)) Refusal). zoned_steps z (steps_read files h.asked k.model)) h.zoned ∙ ap (with_zones k.zones) steps_are
+  read : listing_read files h.asked m ≡ Ok listing_of
+  read = ap (λ (z : Result (Option (List ℕ)) Refusal). zoned_steps z (steps_read files h.asked m)) h.zoned ∙ ap (with_zones zones) steps_are
 
-  case_is : case_of words files ≡ Checking k.model h.asked.digits listing_of
+  case_is : case_of words files ≡ Checking m h.asked.digits listing_of
   case_is =
       ap (λ (c : Option Command). case_asked c (reads Plain files) (zones_read files) (listing_read files)) h.wanted
       ∙ ap (λ (r : Result FlowModel Refusal). case_checked h.asked r (listing_read files h.asked)) h.read
-      ∙ ap (case_listed h.asked k.model) read
+      ∙ ap (case_listed h.asked m) read
 
   is_certified : Defines (case_of words files) status.Ok (certified_line ∷ [])
   is_certified =
       let P : Case → Type 0 = λ c. Defines c status.Ok (certified_line ∷ []) in
-      let D : ℕ → Type 0 = λ s. IsCheck k.model s listing_of status.Ok (certified_line ∷ []) in
+      let D : ℕ → Type 0 = λ s. IsCheck m s listing_of status.Ok (certified_line ∷ []) in
       subst P (sym case_is) (subst D (sym h.digits) (record {
         verdict = Holds;
-        is = certified k whole.values model zoned whole.steps;
-        encloses = λ e. run_encloses k whole.values whole.steps whole.encloses;
-        history = λ e. record { solvable = history_exists k whole.values model whole.steps; one = history_is_one k whole.values model whole.steps };
+        is = certified m s zones rounds whole.values model zoned whole.steps;
+        encloses = λ e. run_encloses m s zones rounds whole.values whole.steps whole.encloses;
+        history = λ e. record { solvable = history_exists m s zones rounds whole.values model whole.steps; one = history_is_one m s zones rounds whole.values model whole.steps };
         status = refl;
         are = refl;
       }))
 
 pub written_is_certified : RunIsCertified → RunIsReadAgain → WrittenIsCertified
-written_is_certified certified again k pieces words files model zoned listed h = is_certified certified again k pieces words files model zoned (whole_listing k pieces listed) h
+written_is_certified certified again m s zones rounds pieces words files model zoned listed h =
+    is_certified certified again m s zones rounds pieces words files model zoned (whole_listing (one_task m s zones rounds) pieces listed) h
 
 -- zones that were read are at most 999
 read_numbers : (files : List File) (o : Option Text) (m : FlowModel) (zones : Option (List ℕ)) → zones_read files o m ≡ Ok zones → AreNumbers zones
@@ -110,4 +113,4 @@ one_listing_is_certified written words files bytes h checks others check =
     let pieces = listing k h.values end_line in
     let whole : IsListing k status.Ok pieces = record { last = ends.Whole; status = refl; values = h.values; steps = h.steps; encloses = λ e. h.encloses; are = refl } in
     let C : List ℕ → Type 0 = λ bs. ChecksWritten checks others k bs in
-    written k pieces checks others h.valid (read_numbers files h.asked.zones h.model h.zones h.zoned) whole (subst C h.written check)
+    written h.model h.asked.digits h.zones h.asked.rounds pieces checks others h.valid (read_numbers files h.asked.zones h.model h.zones h.zoned) whole (subst C h.written check)

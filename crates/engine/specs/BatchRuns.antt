@@ -14,6 +14,7 @@ use Rattle.run_puts.specs.Runs.{IsRun, NeverCut}
 use Rattle.run_puts.specs.Agreement.{IsUnfinished}
 use Rattle.run_puts.specs.declared.status.Status.{Status}
 use Rattle.run_puts.specs.declared.status.Status.TheVariants as status
+use Rattle.deck_problems.specs.Decks.{AreDecks}
 use Rattle.listing_run.specs.declared.step.Step.{Step}
 use Rattle.listing_run.specs.declared.listing_end.ListingEnd.TheVariants as ends
 use Rattle.listing_run.specs.Steps.{AllSteps}
@@ -77,7 +78,7 @@ AnyComes fault words files end = MatchOption (batch_asked words) (Comes fault wo
 
 -- the model of a job that has no refusal is valid
 abbrev pub IsValidJob : Job → Type 0
-IsValidJob job = IfOk job.read (λ k. IsModel k.model)
+IsValidJob job = IfOk job.read (λ k. AreDecks k.decks)
 
 -- the models of the jobs are valid, unless they weren't all read
 abbrev pub AreValid : BatchCase → Status → Type 0

@@ -38,7 +38,7 @@ pub record IsJobListing (b : AskedBatch) (files : List File) (name text : Text) 
   -- The text is the name and their listing.
   pub is : text ≡ model_line name ++ concat (listing (job_task b model) values end_line)
   -- Every history over any denominator d that solves the model's exact equations lies between them.
-  pub encloses : (d : ℕ) (history : List (ℕ → ℤ)) → Solves model d history → BoundAll (job_task b model) d (start_head model) values history
+  pub encloses : (d : ℕ) (history : List (ℕ → ℤ)) → Solves model d history → BoundAll (job_task b model) model d (start_head model) values history
   -- And there is one: a history solves them, and any two are the same heads at all active cells, step by step.
   pub solvable : HasHistory model
   pub one : (d e : ℕ) (history other : List (ℕ → ℤ)) → Solves model d history → Solves model e other → AreSame model d e history other

@@ -14,6 +14,7 @@ use Rattle.run_puts.specs.Lines.{Text}
 use Rattle.run_puts.specs.declared.status.Status.{Status}
 use Rattle.run_puts.specs.declared.status.Status.TheVariants as status
 use Rattle.listing_run.specs.declared.task.Task.{Task}
+use Rattle.listing_run.specs.Tasks.{one_task}
 use Rattle.batch_list.specs.Names.{names_in}
 use Rattle.batch_puts.specs.declared.job_end.JobEnd.{JobEnd}
 use Rattle.batch_puts.specs.Batches.{IsBatch}
@@ -45,7 +46,7 @@ names_read files b = named b.list (λ name. names_at name (file_at files name))
 
 -- what is listed of a model of the batch
 abbrev pub job_task : AskedBatch → FlowModel → Task
-job_task b m = record { model = m; digits = b.digits; zones = None; rounds = b.rounds }
+job_task b m = one_task m b.digits None b.rounds
 
 abbrev pub task_read : AskedBatch → Result FlowModel Refusal → Result Task Refusal
 task_read b (Ok m) = Ok (job_task b m)
@@ -69,7 +70,7 @@ batch_case_of b files = batch_case b (names_read files b) (reads Plain files)
 
 -- a possible job where no files are known: a valid model is listed, or there is a refusal
 abbrev pub IsSomeJob : AskedBatch → Job → Type 0
-IsSomeJob b job = IfOk job.read (λ k. IsModel k.model × (k ≡ job_task b k.model))
+IsSomeJob b job = IfOk job.read (λ k. IsModel k.decks.first × (k ≡ job_task b k.decks.first))
 
 -- The case of a batch by these files. Where none are known, a name that stands twice may be read differently each time.
 abbrev pub IsBatchCase : AskedBatch → Option (List File) → BatchCase → Type 0

@@ -19,6 +19,7 @@ use Rattle.listing_io.specs.Reading.{listing_in}
 use Rattle.run_puts.specs.Lines.{Text}
 use Rattle.listing_run.specs.declared.task.Task.{Task}
 use Rattle.zone_pairs.specs.Zones.{AreZonesOf}
+use Rattle.listing_run.specs.Tasks.{one_task}
 use Rattle.engine.specs.declared.zoned.ZonedListing.{ZonedListing}
 
 -- A listing that the words ask for: the name of its name file, the digits of conductances, the number of plain rounds
@@ -67,7 +68,7 @@ ReadsNothing (Some (Write name)) = ⊥
 
 -- what is listed of a model, with the zones of its cells if there is a zone file
 abbrev pub task_of : Asked → FlowModel → Option (List ℕ) → Task
-task_of asked m zones = record { model = m; digits = asked.digits; zones = zones; rounds = asked.rounds }
+task_of asked m zones = one_task m asked.digits zones asked.rounds
 
 -- The case of a run: the words aren't accepted; this is the first refusal; this is listed; a model is made from this
 -- seed and size, whose files read as this one or have this refusal; this listing of a model is checked, with

@@ -36,7 +36,7 @@ pub record Certified (words : List Text) (files : List File) (old new : Option (
   -- The line CERTIFIED was appended, and nothing else.
   pub written : Appends old new certified_line
   -- Every history over any denominator d that solves the model's exact equations lies within what it lists.
-  pub encloses : (d : ℕ) (history : List (ℕ → ℤ)) → Solves model d history → BoundAll (checked_task model asked.digits zones) d (start_head model) (steps_of (times model) steps) history
+  pub encloses : (d : ℕ) (history : List (ℕ → ℤ)) → Solves model d history → BoundAll (checked_task model asked.digits zones) model d (start_head model) (steps_of (times model) steps) history
   -- And there is one: a history solves them, and any two are the same heads at all active cells, step by step.
   pub solvable : HasHistory model
   pub one : (d e : ℕ) (history other : List (ℕ → ℤ)) → Solves model d history → Solves model e other → AreSame model d e history other

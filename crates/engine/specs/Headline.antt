@@ -34,7 +34,7 @@ pub record Headline (words : List Text) (files : List File) (old new : Option (L
   pub values : List Step
   pub written : Appends old new (concat (listing (task_of asked model zones) values end_line))
   -- Every history over any denominator d that solves the model's exact equations lies between them.
-  pub encloses : (d : ℕ) (history : List (ℕ → ℤ)) → Solves model d history → BoundAll (task_of asked model zones) d (start_head model) values history
+  pub encloses : (d : ℕ) (history : List (ℕ → ℤ)) → Solves model d history → BoundAll (task_of asked model zones) model d (start_head model) values history
   -- And there is one: a history solves them, and any two are the same heads at all active cells, step by step.
   pub solvable : HasHistory model
   pub one : (d e : ℕ) (history other : List (ℕ → ℤ)) → Solves model d history → Solves model e other → AreSame model d e history other

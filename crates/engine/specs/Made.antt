@@ -39,7 +39,7 @@ summed_text seed size g s last = last_line g last
 pub record IsSummed (seed size : ℕ) (k : Task) (end : Status) (pieces : List Text) : Type 0 where
   pub all : List Text
   pub listed : IsListing k end all
-  pub are : pieces ≡ summed_text seed size k.model.grid (summary_of k.model listed.values) listed.last ∷ []
+  pub are : pieces ≡ summed_text seed size k.decks.first.grid (summary_of k.decks.first listed.values) listed.last ∷ []
 
 -- a run of the made files, with this result of reading them
 abbrev pub IsMade : ℕ → ℕ → Result FlowModel Refusal → Status → List Text → Type 0
@@ -62,7 +62,7 @@ pub record Made (words : List Text) (old new : Option (List ℕ)) : Type 0 where
   pub values : List Step
   pub written : Appends old new (summary_text seed size (summary_of model values))
   -- Every history over any denominator d that solves the model's exact equations lies between them.
-  pub encloses : (d : ℕ) (history : List (ℕ → ℤ)) → Solves model d history → BoundAll (made_task model) d (start_head model) values history
+  pub encloses : (d : ℕ) (history : List (ℕ → ℤ)) → Solves model d history → BoundAll (made_task model) model d (start_head model) values history
   -- And there is one: a history solves them, and any two are the same heads at all active cells, step by step.
   pub solvable : HasHistory model
   pub one : (d e : ℕ) (history other : List (ℕ → ℤ)) → Solves model d history → Solves model e other → AreSame model d e history other

@@ -18,6 +18,7 @@ use Rattle.zone_pairs.specs.Pairs.{pairs_in}
 use Rattle.engine.specs.declared.zoned.ZonedListing.{ZonedListing}
 use Rattle.listing_io.specs.LastLines.{refused_line}
 use Rattle.zone_pairs.specs.Zones.{AreZones, AreZonesOf}
+use Rattle.deck_problems.specs.Decks.{AreDecks}
 use Rattle.run_puts.specs.Ends.{IsEnd, IsLast, IsWanting}
 use Rattle.run_puts.specs.Lines.{Text, read_fault_line}
 use Rattle.run_puts.specs.Runs.{IsRun, NeverCut}
@@ -81,7 +82,7 @@ IsStopped end = (end ≡ status.ReadFault) ⊎ ((end ≡ status.WriteFault) ⊎ 
 
 -- the model of a listing, of made files or of a deck is valid, and so are the steps that are checked, unless they weren't read whole
 abbrev pub IsValid : Case → Status → Type 0
-IsValid (Listing k) end = IsModel k.model ⊎ IsStopped end
+IsValid (Listing k) end = AreDecks k.decks ⊎ IsStopped end
 IsValid (Making seed size read) end = IfOk read IsModel ⊎ IsStopped end
 IsValid (Checking m s listing) end = (IsModel m × IsListed m listing) ⊎ IsStopped end
 IsValid (Writing m) end = IsModel m ⊎ IsStopped end

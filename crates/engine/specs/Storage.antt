@@ -1,5 +1,5 @@
 -- Where storage holds the heads of a step.
-use Rattle.std.specs.Prelude.{◌≡◌, ◌≢◌, ℕ, ◌<◌, ◌≤◌, List, length, Contains}
+use Rattle.std.specs.Prelude.{◌≡◌, ◌≢◌, ℕ, ◌<◌, ◌≤◌, List, length, Contains, Option}
 use Rattle.step_problem.specs.declared.entry.Fixed.{Fixed}
 use Rattle.step_problem.specs.declared.entry.FixedKind.TheVariants.{Storage}
 use Rattle.step_problem.specs.declared.heads.Bound.{Bound}
@@ -7,10 +7,11 @@ use Rattle.step_problem.specs.declared.place.NoBound.{NoBound}
 use Rattle.step_problem.specs.declared.refusal.StepRefusal.TheVariants.{NoBarrierLow, NoBarrierHigh}
 use Rattle.step_problem.specs.StepRefusals.{number_of}
 use Rattle.step_problem.specs.Entries.{Entries, entries_at}
+use Rattle.model_types.specs.declared.model.FlowModel.{FlowModel}
 use Rattle.model_types.specs.declared.time_steps.TimeStep.{TimeStep}
 use Rattle.problem_builder.specs.Problems.{IsProblemOf}
-use Rattle.listing_run.specs.declared.task.Task.{Task}
 use Rattle.listing_run.specs.Steps.{HasNoBound}
+use Rattle.listing_run.specs.Tasks.{one_task}
 
 -- each cell has a storage whose lower bound is at least one unit
 abbrev pub IsStored : List Entries → Type 0
@@ -18,4 +19,6 @@ IsStored p = (c : ℕ) → c < length p → (x : Fixed) × Contains (entries_at 
 
 -- Then a refusal of the step is neither NoBarrierLow nor NoBarrierHigh.
 abbrev pub StorageHolds : Type 0
-StorageHolds = (k : Task) (at : TimeStep) (old : List Bound) (n : NoBound) → ((p : List Entries) → IsProblemOf k.model k.digits at old p → IsStored p) → HasNoBound k at old n → (n.code ≢ number_of NoBarrierLow) × (n.code ≢ number_of NoBarrierHigh)
+StorageHolds =
+    (m : FlowModel) (s : ℕ) (zones : Option (List ℕ)) (rounds : ℕ) (at : TimeStep) (old : List Bound) (n : NoBound) → ((p : List Entries) → IsProblemOf m s at old p → IsStored p) →
+    HasNoBound (one_task m s zones rounds) at old n → (n.code ≢ number_of NoBarrierLow) × (n.code ≢ number_of NoBarrierHigh)

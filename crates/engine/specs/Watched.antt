@@ -10,7 +10,7 @@ use Rattle.command_line.specs.Wants.{Wanted, Lists, wanted_of}
 use Rattle.model_types.specs.declared.grid.Grid.{Grid}
 use Rattle.model_types.specs.declared.time_steps.TimeStep.{TimeStep}
 use Rattle.model_types.specs.Times.{times}
-use Rattle.problem_builder.specs.StartHeads.{AreStartHeads}
+use Rattle.deck_problems.specs.StartHeads.{AreStartHeadsFor}
 use Rattle.settle_driver.specs.Views.{AddsPhases, EnclosesPair}
 use Rattle.step_chain.specs.Steps.{IsPosed}
 use Rattle.listing_io.specs.Views.{view_text}
@@ -38,18 +38,18 @@ lines_of grid period step p heads = view_text grid (time period step) p heads
 -- all exact heads within the old ones, at the variable cells.
 pub record IsView (k : Task) (at : TimeStep) (old : List Bound) (p : List Entries) (b : Edges) (heads : List Bound) : Type 0 where
   pub pair : EnclosesPair p b heads
-  pub solutions : EnclosesSolutions k.model at old p heads
+  pub solutions : EnclosesSolutions k.decks at old p heads
 
 -- These are the texts of the views of a step: none without a variable cell, else the same number of views in each of some phases.
 pub record AreViews (k : Task) (each_phase : ℕ) (at : TimeStep) (old : List Bound) (texts : List Text) : Type 0 where
   pub problem : List Entries
   pub barrier : Edges
-  pub posed : IsPosed k.model k.digits at old problem barrier
+  pub posed : IsPosed k.decks k.digits at old problem barrier
   pub views : List (List Bound)
   pub no_cell : length problem ≡ 0 → views ≡ []
   pub each : 0 < length problem → (phases : ℕ) × (0 < phases) × (length views ≡ phases * each_phase)
   pub enclose : All (IsView k at old problem barrier) views
-  pub are : texts ≡ map (view_text k.model.grid at problem) views
+  pub are : texts ≡ map (view_text k.decks.first.grid at problem) views
 
 -- The steps of these times, each from the heads of the one before it, have views with these texts, in turn.
 abbrev pub AreWatched : Task → ℕ → List Bound → List TimeStep → List Text → Type 0
@@ -61,9 +61,9 @@ AreWatched k n old (at ∷ times) texts =
 -- lead from that sink before to that sink after.
 pub record IsWatched (k : Task) (each_phase : ℕ) (leads : List Put → Type 0) : Type 0 where
   pub start : List Bound
-  pub is_start : AreStartHeads k.model start
+  pub is_start : AreStartHeadsFor k.decks start
   pub texts : List Text
-  pub watched : AreWatched k each_phase start (times k.model) texts
+  pub watched : AreWatched k each_phase start (times k.decks.first) texts
   pub led : leads (map taken texts)
 
 -- so it is with the listing of these words and files
@@ -76,10 +76,10 @@ pub record Watched (words : List Text) (files : List File) (each_phase : ℕ) (l
 pub record AreStepViews (k : Task) (at : TimeStep) (old : List Bound) (texts : List Text) : Type 0 where
   pub problem : List Entries
   pub barrier : Edges
-  pub posed : IsPosed k.model k.digits at old problem barrier
+  pub posed : IsPosed k.decks k.digits at old problem barrier
   pub views : List (List Bound)
   pub enclose : All (IsView k at old problem barrier) views
-  pub are : texts ≡ map (view_text k.model.grid at problem) views
+  pub are : texts ≡ map (view_text k.decks.first.grid at problem) views
 
 -- The first of these steps, each from the heads of the one before it, have views with these texts, in turn: of each step all
 -- its views, but of the last one perhaps only the first views.
@@ -96,9 +96,9 @@ ArePutInTurn texts puts = (puts ≡ map taken texts)
 -- The side sink got the texts of the views of the first steps, from STRT on, in turn, up to the first put that failed.
 pub record IsWatchedSoFar (k : Task) (each_phase : ℕ) (leads : List Put → Type 0) : Type 0 where
   pub start : List Bound
-  pub is_start : AreStartHeads k.model start
+  pub is_start : AreStartHeadsFor k.decks start
   pub texts : List Text
-  pub views : AreFirstViews k each_phase start (times k.model) texts
+  pub views : AreFirstViews k each_phase start (times k.decks.first) texts
   pub puts : List Put
   pub in_turn : ArePutInTurn texts puts
   pub led : leads puts

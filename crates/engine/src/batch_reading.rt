@@ -13,6 +13,7 @@ use crate::asked_batch::BatchOrder;
 use crate::job::Job;
 use crate::reading::bad_name;
 use batch_list::read_list;
+use deck_problems::Decks;
 use listing_run::Task;
 use model_reader::read_named_model;
 use model_types::Limits;
@@ -39,7 +40,10 @@ fn read_job<'a, F: Folder>(
         Ok(model) => Ok(Job {
             name: copy,
             read: Ok(Task {
-                model,
+                decks: Decks {
+                    first: model,
+                    second: None,
+                },
                 digits: asked.digits,
                 zones: None,
                 rounds: asked.rounds,

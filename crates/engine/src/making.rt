@@ -14,6 +14,7 @@ ghost use Rattle.engine.specs.Parts.{IsMadeRun, made_fault};
 use crate::asked::{MADE_DIGITS, MADE_PLAN};
 use crate::ending::end_reading;
 use crate::reading::read_named;
+use deck_problems::Decks;
 use listing_run::{ListingEnd, Task};
 use listing_summary::{Summary, summarize, write_summary};
 use model_maker::{NAME, make};
@@ -59,11 +60,14 @@ fn summary_line(
     end: ListingEnd,
 ) -> Result<Vec<u8>, AllocError>
     requires { IsTask task.now }
-    ensures { IfOk result (λ line. line.items ≡ summed_text seed size task.now.model.grid summary.now end) }
+    ensures { IfOk result (λ line. line.items ≡ summed_text seed size task.now.decks.first.grid summary.now end) }
 {
     match end {
         ListingEnd::Whole => write_summary(alloc, seed, size, summary),
-        ListingEnd::NoBound(_, _) | ListingEnd::Unfinished(_) => end.line(alloc, &task.model.grid),
+        ListingEnd::NoBound(_, _) | ListingEnd::Unfinished(_) => end.line(
+            alloc,
+            &task.decks.first.grid,
+        ),
     }
 }
 
@@ -92,7 +96,10 @@ fn put_summary<R: Threads + Sync, K: Sink, G: Gate + Sync>(
         (more : List Put) × K.leads start (puts ++ more) out.new × (made_model seed size ≡ Ok model → IsMadeRun seed size result more) }
 {
     let task = Task {
-        model,
+        decks: Decks {
+            first: model,
+            second: None,
+        },
         digits: MADE_DIGITS,
         zones: None,
         rounds: MADE_PLAN.rounds,

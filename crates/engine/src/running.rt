@@ -30,6 +30,7 @@ use crate::reading::{read_named, read_zones_of};
 use crate::writing::write;
 use check_run::laws::one_verdict;
 use command_line::{WordsFault, read_order};
+use deck_problems::Decks;
 use listing_run::Task;
 use listing_run::laws::one_listing;
 use model_types::{FlowModel, Listed};
@@ -185,7 +186,10 @@ fn put_model<'a, R: Threads + Sync, K: Sink + Send, W: Sink + Send, G: Gate + Sy
     ensures side { ViewPutsOf (task_of (asked_of asked.entry) model zones) (λ puts. W.leads side.old puts side.new) asked.entry.watch }
 {
     let task = Task {
-        model,
+        decks: Decks {
+            first: model,
+            second: None,
+        },
         digits: asked.digits,
         zones,
         rounds: asked.plan.rounds,

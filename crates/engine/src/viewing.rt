@@ -77,7 +77,7 @@ fn put_texts<R: Threads + Sync, K: Sink + Send, W: Sink + Send, X: ViewText + Sy
     requires task { IsTask task.now }
     requires plan { IsPlan plan }
     requires rounds { plan.rounds ≡ task.now.rounds }
-    requires text { X.text text.now ≡ lines_of task.now.model.grid }
+    requires text { X.text text.now ≡ lines_of task.now.decks.first.grid }
     ensures puts { (start : _) (puts : List Put) → K.leads start puts out.old →
         (more : List Put) × K.leads start (puts ++ more) out.new
         × IsRun (IsListingBeside (Rose (W.seen side.old).faults (W.seen side.new).faults) task.now) (IsCutListing task.now) result more
@@ -108,6 +108,6 @@ pub(crate) fn put_watched<R: Threads + Sync, K: Sink + Send, W: Sink + Send, G: 
         × (result ≡ Status.Ok → IsWatched task.now views (λ puts. W.leads side.old puts side.new)) }
     ensures side { ViewPutsOf task.now (λ puts. W.leads side.old puts side.new) (Some views) }
 {
-    let text = ViewLines::new(&task.model.grid);
+    let text = ViewLines::new(&task.decks.first.grid);
     put_texts(rt, alloc, task, plan, views, &text, out, side, gate)
 }

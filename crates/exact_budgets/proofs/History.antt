@@ -16,38 +16,42 @@ use Rattle.listing_run.specs.declared.task.Task.{Task}
 use Rattle.listing_run.specs.declared.step.Step.{Step}
 use Rattle.listing_run.specs.declared.listing_end.ListingEnd.TheVariants.{Whole}
 use Rattle.listing_run.specs.Steps.{Steps}
+use Rattle.listing_run.specs.Tasks.{one_task}
 use Rattle.listing_run.specs.Bounding.{Bounds, BoundAll}
 use Rattle.exact_budgets.specs.Histories.{NetTermsLieAt, AllNetTermsLie}
 use Rattle.exact_budgets.proofs.Balance.{terms_over, solutions_balance}
 use Rattle.exact_budgets.proofs.Bounds.{net_terms_lie}
 
-module _ (k : Task) (valid : IsModel k.model) (d : ℕ) (some : 0 < d) where
-  one_step : (v : Step) (before : ℕ → Fraction) (X : ℕ → ℤ) → SolvesAt k.model v.at before d X → Bounds k v before d X → NetTermsLieAt k v before d X
+module _ (m : FlowModel) (s : ℕ) (zones : Option (List ℕ)) (rounds : ℕ) (valid : IsModel m) (d : ℕ) (some : 0 < d) where
+  abbrev task : Task
+  task = one_task m s zones rounds
+
+  one_step : (v : Step) (before : ℕ → Fraction) (X : ℕ → ℤ) → SolvesAt m v.at before d X → Bounds task m v before d X → NetTermsLieAt m s v before d X
   one_step v before X solves bounds = record {
     balanced = solutions_balance e d Y linked some solves.balances;
-    nets = net_terms_lie k.digits e (heads_of d Y) v.budget (terms_over e d Y linked some solves.balances) bounds.budget;
+    nets = net_terms_lie s e (heads_of d Y) v.budget (terms_over e d Y linked some solves.balances) bounds.budget;
   }
     where
       e : List ExactCell
-      e = exact_step k.model v.at.period v.at.step before
+      e = exact_step m v.at.period v.at.step before
 
       Y : ℕ → ℤ
       Y = variable_heads e X
 
       linked : AreLinked e
-      linked = are_linked k.model v.at.period v.at.step before valid.grid.size
+      linked = are_linked m v.at.period v.at.step before valid.grid.size
 
-  all_steps : (steps : List TimeStep) (values : List Step) (before : ℕ → Fraction) (Xs : List (ℕ → ℤ)) → map (λ v. v.at) values ≡ steps → SolvesFrom k.model d before steps Xs → BoundAll k d before values Xs → AllNetTermsLie k d before values Xs
+  all_steps : (steps : List TimeStep) (values : List Step) (before : ℕ → Fraction) (Xs : List (ℕ → ℤ)) → map (λ v. v.at) values ≡ steps → SolvesFrom m d before steps Xs → BoundAll task m d before values Xs → AllNetTermsLie m s d before values Xs
   all_steps steps [] before [] e h b = tt
   all_steps steps [] before (X ∷ Xs) e h b = absurd b
   all_steps steps (v ∷ values) before [] e h b = absurd b
   all_steps steps (v ∷ values) before (X ∷ Xs) e h b =
-      let solves = subst (λ (ts : List TimeStep). SolvesFrom k.model d before ts (X ∷ Xs)) (sym e) h in
+      let solves = subst (λ (ts : List TimeStep). SolvesFrom m d before ts (X ∷ Xs)) (sym e) h in
       (one_step v before X solves.0 b.0, all_steps (map (λ v. v.at) values) values (heads_of d X) Xs refl solves.1 b.1)
 
 pub net_terms_lie_in_the_others : NetTermsLieInTheOthers
-net_terms_lie_in_the_others k values valid at encloses d history solves =
-    all_steps k valid d solves.some (times k.model) values (start_head k.model) history at solves.steps (encloses d history solves)
+net_terms_lie_in_the_others m s zones rounds values valid at encloses d history solves =
+    all_steps m s zones rounds valid d solves.some (times m) values (start_head m) history at solves.steps (encloses d history solves)
 
 times_of : (k : Task) (steps : List TimeStep) (values : List Step) (old : List Bound) → Steps k old steps values Whole → map (λ v. v.at) values ≡ steps
 times_of k [] [] old h = refl
@@ -56,7 +60,7 @@ times_of k (at ∷ steps) [] old h = absurd h
 times_of k (at ∷ steps) (v ∷ values) old h = rw (h.0.time, times_of k steps values v.heads h.1) refl
 
 pub steps_have_their_times : StepsHaveTheirTimes
-steps_have_their_times k values all = times_of k (times k.model) values all.start all.steps
+steps_have_their_times k values all = times_of k (times k.decks.first) values all.start all.steps
 
 certified_times : (m : FlowModel) (s : ℕ) (zones : Option (List ℕ)) (times : List TimeStep) (steps : List ListedStep) (old : List Bound) → Checks m s zones old times steps Certified → map (λ v. v.at) (steps_of times steps) ≡ times
 certified_times m s zones [] steps old h = refl

@@ -12,6 +12,7 @@ use Rattle.listing_run.specs.declared.task.Task.{Task}
 use Rattle.listing_run.specs.declared.step.Step.{Step}
 use Rattle.listing_run.specs.declared.listing_end.ListingEnd.TheVariants.{Whole}
 use Rattle.listing_run.specs.Steps.{AllSteps}
+use Rattle.listing_run.specs.Tasks.{one_task}
 use Rattle.listing_run.specs.Bounding.{EnclosesHistories}
 use Rattle.listing_io.specs.declared.listing.ListedStep.{ListedStep}
 use Rattle.check_run.specs.declared.verdict.ListingVerdict.TheVariants.{Certified}
@@ -27,12 +28,13 @@ SolutionsBalance = (e : List ExactCell) (d : ℕ) (X : ℕ → ℤ) → AreLinke
 -- term lies between its listed bounds, and in minus the sum of the others.
 abbrev pub NetTermsLieInTheOthers : Type 0
 NetTermsLieInTheOthers =
-    (k : Task) (values : List Step) → IsModel k.model → map (λ v. v.at) values ≡ times k.model → EnclosesHistories k values →
-    (d : ℕ) (history : List (ℕ → ℤ)) → Solves k.model d history → AllNetTermsLie k d (start_head k.model) values history
+    (m : FlowModel) (s : ℕ) (zones : Option (List ℕ)) (rounds : ℕ) (values : List Step) → IsModel m → map (λ v. v.at) values ≡ times m →
+    EnclosesHistories (one_task m s zones rounds) values →
+    (d : ℕ) (history : List (ℕ → ℤ)) → Solves m d history → AllNetTermsLie m s d (start_head m) values history
 
 -- The values of a whole listing are at those times, and so are those of a certified one.
 abbrev pub StepsHaveTheirTimes : Type 0
-StepsHaveTheirTimes = (k : Task) (values : List Step) → AllSteps k values Whole → map (λ v. v.at) values ≡ times k.model
+StepsHaveTheirTimes = (k : Task) (values : List Step) → AllSteps k values Whole → map (λ v. v.at) values ≡ times k.decks.first
 
 abbrev pub CertifiedHaveTheirTimes : Type 0
 CertifiedHaveTheirTimes = (m : FlowModel) (s : ℕ) (zones : Option (List ℕ)) (steps : List ListedStep) → IsVerdict m s zones steps Certified →

@@ -1,13 +1,13 @@
 -- The same heads, however their fractions are written, solve the same step, however its known heads are written.
 use Rattle.exact_histories.proofs.Common.{◌≡◌, ◌*◌, ◌<◌, ◌∙◌, ◌*ℤ◌, [], ◌∷◌, refl, ℕ, sym, ap, subst, arith, ℤ, pos, List, length, mul-pos, AllZip, Fraction}
-use Rattle.exact_histories.proofs.Common.{den, Same, IsOver, mul_assoc, balance, share, SolvesStep, ExactFixed, ExactCell, cell_at, no_cell, AllZip-at}
-use Rattle.exact_histories.proofs.Common.{AllZip-length, cancel_same, swap}
+use Rattle.exact_histories.proofs.Common.{den, Same, IsOver, mul_assoc, balance, share, SolvesStep, ExactFixed, ExactCell, cell_at, no_cell, cancel_same, swap}
 use Rattle.cell_balance.proofs.Denominators.{step_common}
 use Rattle.cell_balance.proofs.Encloses.{share_is, whole_solves}
 use Rattle.cell_balance.proofs.Over.{FlowOver, LinkOver, FixedOver, RiverOver, DrainOver, EvapOver, CellOver, balance_over}
 use Rattle.cell_balance.proofs.Scaling.{over_zero}
 use Rattle.cell_balance.proofs.Whole.{WholeFixed, WholeCell, whole_at, no_whole}
 use Rattle.cell_balance.proofs.Wholes.{whole_step}
+use Rattle.cell_balance.proofs.Zips.{AllZip-at, AllZip-length}
 
 pub record FixedAgrees (x y : ExactFixed) : Type 0 where
   pub conductance : x.conductance ≡ y.conductance

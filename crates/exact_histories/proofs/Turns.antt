@@ -1,19 +1,20 @@
 -- One step more: times that can be solved in turn, and whose histories are the same, after a step whose solutions lie within the heads that they start from.
 use Rattle.exact_histories.proofs.Common.{◌≡◌, ◌<◌, [], ◌∷◌, length, ℕ, true, inl, inr, refl, subst, arith, ℤ, List, All, Contains, cases_Bool, Fraction, Same}
 use Rattle.exact_histories.proofs.Common.{cell_count, is_variable, is_constant, index_of, variable_cells, times, IsModel, FlowModel, TimeStep, Entries, Edges}
-use Rattle.exact_histories.proofs.Common.{Bound, share, exact_step, heads_of, variable_heads, SolvesAt, SolvesFrom, AreGridHeads, HeadsEnclose, IsPosed}
-use Rattle.exact_histories.proofs.Common.{active_constant, index_below, count_is, number_is, AreSameHeads, AreSame}
+use Rattle.exact_histories.proofs.Common.{Bound, share, exact_step, heads_of, variable_heads, SolvesAt, SolvesFrom, AreGridHeads, HeadsEnclose, one_deck}
+use Rattle.exact_histories.proofs.Common.{IsPosed, AreSameHeads, AreSame}
 use Rattle.decimal_input.proofs.Fractional.{Same-sym, Same-trans}
 use Rattle.model_types.proofs.Members.{All-In}
 use Rattle.exact_solutions.proofs.Shares.{same_share}
 use Rattle.problem_builder.proofs.ActiveCells.{variable_active}
 use Rattle.problem_builder.proofs.Members.{variable-In}
+use Rattle.step_chain.proofs.Assembled.{active_constant, index_below, count_is, number_is}
 use Rattle.exact_histories.proofs.SameTimes.{balances_same}
 use Rattle.exact_histories.proofs.JoinedSteps.{GoOn}
 use Rattle.exact_histories.proofs.PosedSteps.{has_vector, has_at_most_one}
 
 -- the heads of two solutions of one time, from heads before it that are the same numbers
-module _ (m : FlowModel) (s : ℕ) (at : TimeStep) (old : List Bound) (p : List Entries) (b : Edges) (valid : IsModel m) (time : Contains (times m) at) (grid : AreGridHeads m old) (posed : IsPosed m s at old p b)
+module _ (m : FlowModel) (s : ℕ) (at : TimeStep) (old : List Bound) (p : List Entries) (b : Edges) (valid : IsModel m) (time : Contains (times m) at) (grid : AreGridHeads m old) (posed : IsPosed (one_deck m) s at old p b)
     (before other : ℕ → Fraction) (olds : HeadsEnclose m old before) (same : AreSameHeads m other before)
     (d e : ℕ) (X Y : ℕ → ℤ) (some_d : 0 < d) (some_e : 0 < e) (first : SolvesAt m at before d X) (second : SolvesAt m at other e Y)
   where
@@ -43,7 +44,7 @@ AreOne m steps before other =
     (d e : ℕ) (Xs Ys : List (ℕ → ℤ)) → 0 < d → 0 < e → SolvesFrom m d before steps Xs → SolvesFrom m e other steps Ys → AreSame m d e Xs Ys
 
 -- one step more before some times, where each of its solutions lies within the heads that these times start from
-module _ (m : FlowModel) (s : ℕ) (at : TimeStep) (old : List Bound) (p : List Entries) (b : Edges) (valid : IsModel m) (time : Contains (times m) at) (grid : AreGridHeads m old) (posed : IsPosed m s at old p b)
+module _ (m : FlowModel) (s : ℕ) (at : TimeStep) (old : List Bound) (p : List Entries) (b : Edges) (valid : IsModel m) (time : Contains (times m) at) (grid : AreGridHeads m old) (posed : IsPosed (one_deck m) s at old p b)
     (new : List Bound) (lands : (before : ℕ → Fraction) (d : ℕ) (X : ℕ → ℤ) → HeadsEnclose m old before → 0 < d → SolvesAt m at before d X → HeadsEnclose m new (heads_of d X)) (rest : List TimeStep)
   where
     pub go_on_more : ((before : ℕ → Fraction) → HeadsEnclose m new before → GoOn m rest before) → (before : ℕ → Fraction) → HeadsEnclose m old before → GoOn m (at ∷ rest) before

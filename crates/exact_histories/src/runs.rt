@@ -1,7 +1,7 @@
 // What a whole run says of the exact equations of its model.
 ghost use Rattle.exact_histories.specs.RunLaws.{RunsHaveAHistory, RunsHaveOneHistory};
 
-/// Where all time steps of a task have heads, a history of heads solves the exact equations of its model.
+/// Where all time steps of a task of one deck have heads, a history of heads solves the exact equations of its model.
 pub fn history_exists()
     ensures { RunsHaveAHistory }
 {}

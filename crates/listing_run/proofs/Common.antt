@@ -5,8 +5,11 @@ pub use Rattle.std.proofs.lemmas.List.{append-nil, append_assoc, map-append}
 pub use Rattle.std.specs.Prelude.{IfErr, IfOk, IfSome, MatchResult}
 pub use Rattle.budget_bounds.specs.declared.pair.Budget.{Budget}
 pub use Rattle.decimal_input.specs.Fractions.{Fraction}
-pub use Rattle.flow_equations.specs.Histories.{Solves, SolvesFrom, heads_of, variable_heads}
-pub use Rattle.listing_run.specs.Bounding.{BoundAll, BoundsMoves, EnclosesHistories}
+pub use Rattle.deck_problems.proofs.Members.{between_cells, cell_of_member, each_member, encloses_first, encloses_member, member_cells, of_member}
+pub use Rattle.deck_problems.specs.Decks.{AreDecks, EachMember, HoldsOf}
+pub use Rattle.deck_problems.specs.StartHeads.{AreStartHeadsFor}
+pub use Rattle.flow_equations.specs.Histories.{SolvesFrom, heads_of, variable_heads}
+pub use Rattle.listing_run.specs.Bounding.{BoundAll, BoundBetween, Bounds, BoundsMoves, EnclosesHistories, HistoriesBound}
 pub use Rattle.listing_run.specs.Ends.{FlowsStopBy, IsAtFirst, IsNext, IsNextText, IsStopEnd, IsWalk, StopsAt, stop_of, times_left}
 pub use Rattle.listing_run.specs.Listing.{IsCutListing, IsListing, IsListingBeside, IsPushed, begun, last_line, left, listed, listing, status_of, text_of}
 pub use Rattle.listing_run.specs.Settlers.{AllSettledBy, AreSettledBy, IsSettledBy, PairEncloses, Reaches, ReachesFirst, RestsOrSettles, RestsOrSettlesFirst}
@@ -18,19 +21,21 @@ pub use Rattle.listing_run.specs.declared.step.Step.{Step}
 pub use Rattle.listing_run.specs.declared.steps.Steps.{Steps}
 pub use Rattle.listing_run.specs.declared.task.Task.{Task}
 pub use Rattle.model_types.specs.Cells.{cell_count}
+pub use Rattle.model_types.specs.Heads.{start_head}
 pub use Rattle.model_types.specs.Times.{times}
+pub use Rattle.model_types.specs.declared.model.FlowModel.{FlowModel}
 pub use Rattle.model_types.specs.declared.time_steps.TimeStep.{TimeStep}
 pub use Rattle.outside.specs.Puts.{Put, taken}
 pub use Rattle.outside.specs.declared.traits.SinkError.{SinkError}
+pub use Rattle.outside.specs.declared.traits.SinkError.TheVariants.{Write}
 pub use Rattle.problem_builder.specs.GridHeads.{AreGridHeads, HeadsEnclose, IsActive, IsNamed}
-pub use Rattle.problem_builder.specs.StartHeads.{AreStartHeads}
 pub use Rattle.run_puts.proofs.Pieces.{IsAt, IsLate, at_more, ends_or_lacks, joined, joined_thrice, lacks_after, lacks_at_first, late_not_ok, put_was, stops_at}
 pub use Rattle.run_puts.proofs.Pieces.{tail_late, weaker}
 pub use Rattle.run_puts.specs.Ends.{IsEnd, IsLast, IsPut, IsWanting}
 pub use Rattle.run_puts.specs.Lines.{Text, end_line}
 pub use Rattle.run_puts.specs.Runs.{IsRun, whole}
 pub use Rattle.run_puts.specs.declared.status.Status.{Status}
-pub use Rattle.step_chain.specs.Enclosing.{EnclosesMoves, LieBetween, LiesWithin}
+pub use Rattle.step_chain.specs.Enclosing.{EnclosesMoves, IsMove, LieBetween, LiesWithin}
 pub use Rattle.step_chain.specs.Steps.{IsPosed, IsSettledStep}
 pub use Rattle.step_chain.specs.declared.solved.Solved.{Solved}
 pub use Rattle.step_problem.specs.Entries.{Entries, entries_at}

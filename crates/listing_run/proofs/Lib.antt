@@ -2,6 +2,7 @@ mod Common
 pub mod Zoned
 pub mod Moves
 pub mod Lines
+pub mod HistoriesBound
 pub mod UnderWay
 pub mod Pieces
 pub mod Settled

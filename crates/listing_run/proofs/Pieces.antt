@@ -10,7 +10,7 @@ use Rattle.listing_run.proofs.UnderWay.{IsSolved, cut_listing, encloses_if_whole
 
 -- the pieces of one step more
 pub begun_more : (k : Task) (values : List Step) (v : Step) → begun k values ++ (text_of k v ∷ []) ≡ begun k (values ++ (v ∷ []))
-begun_more k values v = ap (λ ts. first_text k.model k.digits ∷ ts) (sym (map-append (text_of k) values (v ∷ [])))
+begun_more k values v = ap (λ ts. first_text k.decks.first k.digits ∷ ts) (sym (map-append (text_of k) values (v ∷ [])))
 
 module _ (k : Task) where
   -- all pieces of the steps so far are put, but the one at hand
@@ -19,7 +19,7 @@ module _ (k : Task) where
     pub here : IsAt (IsListing k) (IsCutListing k) (begun k values) pending puts
     pub solved : IsSolved k s.heads (times_left s) values
 
-  pub under_way_at_first : (s : Steps) (first : Text) → first ≡ first_text k.model k.digits → IsWalk k s → IsAtFirst k s → IsUnderWay s first []
+  pub under_way_at_first : (s : Steps) (first : Text) → first ≡ first_text k.decks.first k.digits → IsWalk k s → IsAtFirst k s → IsUnderWay s first []
   under_way_at_first s first same w f = record { values = []; here = record { before = []; all = ap (λ t. t ∷ []) (sym same); written = refl }; solved = none_solved k s w f }
 
   pub under_way_more : {S : Type 0} (leads : S → List Entries → Edges → Bool → S → Type 0) (s t : Steps) (before after : S) (pending text : Text) (puts tail : List Put) → IsUnderWay s pending puts → tail ≡ taken pending ∷ [] → IsNextText leads k s t before after text → IsUnderWay t text (puts ++ tail)
@@ -44,8 +44,8 @@ module _ (k : Task) where
     pub ends_wanting : (rest : List Put) → tail ≡ taken pending ∷ [] → IsWanting end rest → IsRunOf end (puts ++ tail ++ rest)
     ends_wanting rest e h = lacks_after (IsListing k) (IsCutListing k) (begun k u.values) pending puts tail rest end u.here cut_here e h
 
-    pub ends_with_line : (rest : List Put) (last : ListingEnd) → tail ≡ taken pending ∷ [] → EndsAt k last s.heads (times_left s) → IsEnd (last_line k.model.grid last) (status_of last) end rest → IsRunOf end (puts ++ tail ++ rest)
-    ends_with_line rest last e here h = ends_or_lacks (IsListing k) (IsCutListing k) (begun k u.values) pending (last_line k.model.grid last) (status_of last) end puts tail rest u.here cut_here e (is_listing k s.heads (times_left s) u.values last u.solved here) h
+    pub ends_with_line : (rest : List Put) (last : ListingEnd) → tail ≡ taken pending ∷ [] → EndsAt k last s.heads (times_left s) → IsEnd (last_line k.decks.first.grid last) (status_of last) end rest → IsRunOf end (puts ++ tail ++ rest)
+    ends_with_line rest last e here h = ends_or_lacks (IsListing k) (IsCutListing k) (begun k u.values) pending (last_line k.decks.first.grid last) (status_of last) end puts tail rest u.here cut_here e (is_listing k s.heads (times_left s) u.values last u.solved here) h
 
 concat_append : (a b : List Text) → concat (a ++ b) ≡ concat a ++ concat b
 concat_append [] b = refl
@@ -65,8 +65,8 @@ module _ (k : Task) (start : Text) where
     pub solved : IsSolved k s.heads (times_left s) values
     pub written : text ≡ start ++ concat (begun k values)
 
-  pub text_at_first : (s : Steps) (first text : Text) → first ≡ first_text k.model k.digits → text ≡ start ++ first → IsWalk k s → IsAtFirst k s → IsText s text
-  text_at_first s first text same is w f = record { values = []; solved = none_solved k s w f; written = is ∙ ap (λ t. start ++ t) (same ∙ sym (append-nil (first_text k.model k.digits))) }
+  pub text_at_first : (s : Steps) (first text : Text) → first ≡ first_text k.decks.first k.digits → text ≡ start ++ first → IsWalk k s → IsAtFirst k s → IsText s text
+  text_at_first s first text same is w f = record { values = []; solved = none_solved k s w f; written = is ∙ ap (λ t. start ++ t) (same ∙ sym (append-nil (first_text k.decks.first k.digits))) }
 
   -- a line was added
   with_line : (values : List Step) (text line new : Text) → text ≡ start ++ concat (begun k values) → new ≡ text ++ line → new ≡ start ++ concat (listing k values line)
@@ -80,9 +80,9 @@ module _ (k : Task) (start : Text) where
     written = with_line so.values text (text_of k n.value) new so.written (is ∙ ap (λ x. text ++ x) n.written) ∙ ap (λ ts. start ++ concat ts) (begun_more k so.values n.value);
   }
 
-  pub text_ended : (s : Steps) (last : ListingEnd) (end : Status) (text new : Text) → EndsAt k last s.heads (times_left s) → end ≡ status_of last → new ≡ text ++ last_line k.model.grid last → IsText s text → IsPushed k end start new
+  pub text_ended : (s : Steps) (last : ListingEnd) (end : Status) (text new : Text) → EndsAt k last s.heads (times_left s) → end ≡ status_of last → new ≡ text ++ last_line k.decks.first.grid last → IsText s text → IsPushed k end start new
   text_ended s last end text new here meant is so = record {
-    pieces = listing k so.values (last_line k.model.grid last);
+    pieces = listing k so.values (last_line k.decks.first.grid last);
     listed = record {
       last = last;
       status = meant;
@@ -91,5 +91,5 @@ module _ (k : Task) (start : Text) where
       encloses = encloses_if_whole k s.heads (times_left s) so.values last so.solved here;
       are = refl;
     };
-    text = with_line so.values text (last_line k.model.grid last) new so.written is;
+    text = with_line so.values text (last_line k.decks.first.grid last) new so.written is;
   }

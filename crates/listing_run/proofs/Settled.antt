@@ -1,29 +1,30 @@
 -- What a step does to its settler, by the clause of the call that solved it.
 use Rattle.listing_run.proofs.Common.{IfErr, IfOk, ◌≡◌, ◌∙◌, ℕ, List, Bool, true, false, inl, inr, sym, subst, refl, ℤ, Option, None, [], ◌∷◌, Result, Ok, Err}
-use Rattle.listing_run.proofs.Common.{SinkError, Bound, Entries, Edges, IsSettledPair, lower_at, upper_at, TimeStep, times, AreStartHeads, Text, LieBetween}
-use Rattle.listing_run.proofs.Common.{IsPosed, Steps, Task, AllSettledBy, AreSettledBy, IsSettledBy, PairEncloses, Reaches, ReachesFirst, RestsOrSettles}
-use Rattle.listing_run.proofs.Common.{RestsOrSettlesFirst, rests, settled, IsAtFirst, IsNextText, IsWalk, times_left}
+use Rattle.listing_run.proofs.Common.{SinkError, Bound, Entries, Edges, IsSettledPair, lower_at, upper_at, TimeStep, times, EachMember, AreStartHeadsFor}
+use Rattle.listing_run.proofs.Common.{each_member, of_member, Text, LieBetween, IsPosed, Steps, Task, AllSettledBy, AreSettledBy, IsSettledBy, PairEncloses}
+use Rattle.listing_run.proofs.Common.{Reaches, ReachesFirst, RestsOrSettles, RestsOrSettlesFirst, rests, settled, IsAtFirst, IsNextText, IsWalk, times_left}
 use Rattle.cell_balance.proofs.Totals.{le_trans_z}
-use Rattle.problem_builder.specs.Problems.{IsProblemOf}
+use Rattle.deck_problems.specs.Problems.{IsProblemFor}
 use Rattle.step_chain.specs.Leads.{LeadsBy, LeadsOrRests}
 use Rattle.listing_run.specs.Settlers.{begun}
 use Rattle.listing_run.proofs.UnderWay.{all_left, first_same}
 use Rattle.decimal_input.proofs.Signs.{mul_mono_right}
 
 module _ (k : Task) (s : ℕ) (at : TimeStep) (old : List Bound) (digits : s ≡ k.digits) where
-  pair_encloses : (p : List Entries) (b : Edges) (l u : ℕ → ℤ) → IsSettledPair p b l u → LieBetween k.model at old p l u → PairEncloses k.model at old p b
-  pair_encloses p b l u pair encloses heads shown before d X move =
-      let v = encloses before d X move in
+  pair_encloses : (p : List Entries) (b : Edges) (l u : ℕ → ℤ) → IsSettledPair p b l u → EachMember k.decks (λ m. LieBetween m at old p l u) → PairEncloses k.decks at old p b
+  pair_encloses p b l u pair encloses heads shown =
+      each_member k.decks (λ m. LieBetween m at old p (lower_at heads) (upper_at heads)) (λ m member before d X move.
+      let v = of_member k.decks (λ f. LieBetween f at old p l u) encloses m member before d X move in
       record {
         low = λ c lt. le_trans_z _ _ _ (mul_mono_right d (lower_at heads c) (l c) (shown.low l u pair c lt)) (v.low c lt);
         high = λ c lt. le_trans_z _ _ _ (v.high c lt) (mul_mono_right d (u c) (upper_at heads c) (shown.high l u pair c lt));
-      }
+      })
 
   module _ {S : Type 0} (leads : S → List Entries → Edges → Bool → S → Type 0) (before after : S) where
     -- a step's problem, ended with heads or without
-    pub settles : (ended : Bool) (p : List Entries) → IsProblemOf k.model s at old p → LeadsBy leads k.model at old p ended before after → IsSettledBy leads k at old ended before after
+    pub settles : (ended : Bool) (p : List Entries) → IsProblemFor k.decks s at old p → LeadsBy leads k.decks at old p ended before after → IsSettledBy leads k at old ended before after
     settles ended p is l =
-        let P : ℕ → Type 0 = λ n. IsPosed k.model n at old p l.barrier in
+        let P : ℕ → Type 0 = λ n. IsPosed k.decks n at old p l.barrier in
         record {
           problem = p;
           barrier = l.barrier;
@@ -33,7 +34,7 @@ module _ (k : Task) (s : ℕ) (at : TimeStep) (old : List Bound) (digits : s ≡
         }
 
     -- a step without heads
-    pub rests_or_settles : LeadsOrRests leads k.model s at old before after → RestsOrSettles leads k at old before after
+    pub rests_or_settles : LeadsOrRests leads k.decks s at old before after → RestsOrSettles leads k at old before after
     rests_or_settles (inl e) = inl e
     rests_or_settles (inr (p, is, l)) = inr (false, settles false p is l)
 
@@ -42,9 +43,9 @@ module _ {S : Type 0} (begins : S → ℕ → ℕ → S → Type 0) (leads : S �
     -- the steps so far: what settles the rest, from the heads of the last one on, settles all; and so it is with the first ones
     pub record AreSettledSoFar (first : S) (s : Steps) (now : S) : Type 0 where
       pub start : List Bound
-      pub is_start : AreStartHeads k.model start
-      pub goes_on : (end : S) → AreSettledBy begins leads stop k s.heads (times_left s) now end → AreSettledBy begins leads stop k start (times k.model) first end
-      pub reaches : (end : S) → Reaches begins leads stop k s.heads (times_left s) now end → Reaches begins leads stop k start (times k.model) first end
+      pub is_start : AreStartHeadsFor k.decks start
+      pub goes_on : (end : S) → AreSettledBy begins leads stop k s.heads (times_left s) now end → AreSettledBy begins leads stop k start (times k.decks.first) first end
+      pub reaches : (end : S) → Reaches begins leads stop k s.heads (times_left s) now end → Reaches begins leads stop k start (times k.decks.first) first end
 
     pub none_settled : (s : Steps) (first : S) → IsWalk k s → IsAtFirst k s → AreSettledSoFar first s first
     none_settled s first w f = record {

@@ -29,8 +29,8 @@ broken_not_ok k s at rest ends.Whole e h ok = let P : List TimeStep → Type 0 =
 broken_not_ok k s at rest (ends.NoBound t n) e h ok = let bad : status.NoBound t.period t.step n ≡ status.Ok = ok in cc
 broken_not_ok k s at rest (ends.Unfinished t) e h ok = let bad : status.Unfinished t.period t.step ≡ status.Ok = ok in cc
 
-pub end_not_ok : (k : Task) (s : Steps) (at : TimeStep) (rest : List TimeStep) (last : ListingEnd) (end : Status) (tail : List Put) → times_left s ≡ at ∷ rest → EndsAt k last s.heads (times_left s) → IsEnd (last_line k.model.grid last) (status_of last) end tail → end ≡ status.Ok → ⊥
-end_not_ok k s at rest last end tail e h = line_not_ok (last_line k.model.grid last) (status_of last) end tail (broken_not_ok k s at rest last e h)
+pub end_not_ok : (k : Task) (s : Steps) (at : TimeStep) (rest : List TimeStep) (last : ListingEnd) (end : Status) (tail : List Put) → times_left s ≡ at ∷ rest → EndsAt k last s.heads (times_left s) → IsEnd (last_line k.decks.first.grid last) (status_of last) end tail → end ≡ status.Ok → ⊥
+end_not_ok k s at rest last end tail e h = line_not_ok (last_line k.decks.first.grid last) (status_of last) end tail (broken_not_ok k s at rest last e h)
 
 pub stop_end_not_ok : (fault : SinkError) (end : Status) (tail : List Put) → IsStopEnd fault end tail → end ≡ status.Ok → ⊥
 stop_end_not_ok error.Write end tail (same, t) e = let bad : status.WriteFault ≡ status.Ok = sym same ∙ e in cc

@@ -1,10 +1,10 @@
 -- A model has one listing, and one that is whole has no other end.
 use Rattle.listing_run.proofs.Common.{◌≡◌, ℕ, suc, List, [], ◌∷◌, sym, ap, ◌∙◌, refl, arith, Ok, Err, Result, Contains, subst, Option, Some, None, Bound}
-use Rattle.listing_run.proofs.Common.{NoBound, Budget, TimeStep, times, AreGridHeads, Solved, IsSettledStep, ZoneFlow, Task, Step, AreFlowsAt, HasLargeFlow}
-use Rattle.listing_run.proofs.Common.{faces_at, IsStep, budget_at, HasNoBound, no_heads, no_budget, no_zones, AllSettle}
-use Rattle.model_types.specs.Valid.{IsModel}
-use Rattle.problem_builder.specs.Laws.{StartHeadsAreOne, StartHeadsFit}
-use Rattle.step_chain.specs.Laws.{IsBefore, StepIsOne, StepExcludesRefusal, RefusalIsOne as StepRefusalIsOne, HeadsFit}
+use Rattle.listing_run.proofs.Common.{NoBound, Budget, TimeStep, times, AreDecks, AreGridHeads, Solved, IsSettledStep, ZoneFlow, Task, Step, AreFlowsAt}
+use Rattle.listing_run.proofs.Common.{HasLargeFlow, faces_at, IsStep, budget_at, HasNoBound, no_heads, no_budget, no_zones, AllSettle}
+use Rattle.deck_problems.specs.Laws.{IsBefore, StartHeadsAreOne, StartHeadsFit}
+use Rattle.step_chain.specs.Pairs.PairKind.{settled as settled_kind}
+use Rattle.step_chain.specs.Laws.{StepIsOne, StepExcludesRefusal, RefusalIsOne as StepRefusalIsOne, HeadsFit}
 use Rattle.zone_flows.specs.Laws.{FlowsAreOne, FlowsExcludeRefusal, RefusalIsOne as ZoneRefusalIsOne}
 use Rattle.listing_run.specs.Steps.{Steps}
 use Rattle.listing_run.specs.Laws.{ListingIsOne, ListingExcludesRefusal, SettledListingIsClosed, RefusalIsOne}
@@ -75,13 +75,13 @@ first_in at rest = (0, omega arith, refl)
 pub rest_more : (all : List TimeStep) (at : TimeStep) (rest : List TimeStep) → IsRest all (at ∷ rest) → IsRest all rest
 rest_more all at rest h = record { each = λ t (k, lt, is). h.each t (suc k, omega (arith, lt), is) }
 
-module _ (laws : Laws) (k : Task) (model : IsModel k.model) where
-  module _ (at : TimeStep) (old : List Bound) (time : Contains (times k.model) at) (heads : AreGridHeads k.model old) where
-    before : IsBefore k.model at old
-    before = record { model = model; time = time; heads = heads }
+module _ (laws : Laws) (k : Task) (decks : AreDecks k.decks) where
+  module _ (at : TimeStep) (old : List Bound) (time : Contains (times k.decks.first) at) (heads : AreGridHeads k.decks.first old) where
+    before : IsBefore k.decks at old
+    before = record { decks = decks; time = time; heads = heads }
 
     solved_one : (v w : Step) (x : IsStep k at old v) (y : IsStep k at old w) → x.solved ≡ y.solved
-    solved_one v w x y = laws.step_one k.model k.digits at old x.solved y.solved before x.settled y.settled
+    solved_one v w x y = laws.step_one k.decks k.digits at old x.solved y.solved before x.settled y.settled
 
     -- a time has one step
     one_step : (v w : Step) → IsStep k at old v → IsStep k at old w → v ≡ w
@@ -100,49 +100,49 @@ module _ (laws : Laws) (k : Task) (model : IsModel k.model) where
         ap by_time times_same ∙ ap by_heads all_heads ∙ ap by_budget budgets ∙ ap by_zones zones
 
     -- its heads are heads of all cells
-    step_fits : (v : Step) → IsStep k at old v → AreGridHeads k.model v.heads
-    step_fits v x = subst (AreGridHeads k.model) (sym x.heads) (laws.fits k.model k.digits at old x.solved before x.settled)
+    step_fits : (v : Step) → IsStep k at old v → AreGridHeads k.decks.first v.heads
+    step_fits v x = subst (AreGridHeads k.decks.first) (sym x.heads) (laws.fits k.decks k.digits at old settled_kind x.solved before x.settled)
 
     -- a step with a value has no refusal
     has_bound : (v : Step) (n : NoBound) → IsStep k at old v → HasNoBound k at old n → ⊥
-    has_bound v n x (no_heads none) = laws.excludes k.model k.digits at old x.solved n before x.settled none
+    has_bound v n x (no_heads none) = laws.excludes k.decks k.digits at old settled_kind x.solved n before x.settled none
     has_bound v n x (no_budget solved settled refused) =
         let B : Solved → Type 0 = λ s. budget_at s ≡ Err n in
-        ok_not_err v.budget n (sym x.budget ∙ subst B (laws.step_one k.model k.digits at old solved x.solved before settled x.settled) refused)
+        ok_not_err v.budget n (sym x.budget ∙ subst B (laws.step_one k.decks k.digits at old solved x.solved before settled x.settled) refused)
     has_bound v n x (no_zones solved b settled is large) =
         let L : Solved → Type 0 = λ s. HasLargeFlow k.zones s n in
-        none_large laws x.solved k.zones v.zones n x.zones (subst L (laws.step_one k.model k.digits at old solved x.solved before settled x.settled) large)
+        none_large laws x.solved k.zones v.zones n x.zones (subst L (laws.step_one k.decks k.digits at old solved x.solved before settled x.settled) large)
 
     -- a step whose budget is refused has no flows between zones
-    no_budget_no_zones : (x y : Solved) (b : Budget) (n : NoBound) → IsSettledStep k.model k.digits at old x → budget_at x ≡ Err n → IsSettledStep k.model k.digits at old y → budget_at y ≡ Ok b → ⊥
+    no_budget_no_zones : (x y : Solved) (b : Budget) (n : NoBound) → IsSettledStep k.decks k.digits at old x → budget_at x ≡ Err n → IsSettledStep k.decks k.digits at old y → budget_at y ≡ Ok b → ⊥
     no_budget_no_zones x y b n settled refused also is =
         let B : Solved → Type 0 = λ s. budget_at s ≡ Ok b in
-        ok_not_err b n (sym (subst B (sym (laws.step_one k.model k.digits at old x y before settled also)) is) ∙ refused)
+        ok_not_err b n (sym (subst B (sym (laws.step_one k.decks k.digits at old x y before settled also)) is) ∙ refused)
 
     -- and a step has one refusal
     one_refusal : (a b : NoBound) → HasNoBound k at old a → HasNoBound k at old b → a ≡ b
-    one_refusal a b (no_heads x) (no_heads y) = laws.refusal_one k.model k.digits at old a b before x y
-    one_refusal a b (no_heads x) (no_budget solved settled refused) = absurd (laws.excludes k.model k.digits at old solved a before settled x)
-    one_refusal a b (no_budget solved settled refused) (no_heads y) = absurd (laws.excludes k.model k.digits at old solved b before settled y)
+    one_refusal a b (no_heads x) (no_heads y) = laws.refusal_one k.decks k.digits at old a b before x y
+    one_refusal a b (no_heads x) (no_budget solved settled refused) = absurd (laws.excludes k.decks k.digits at old settled_kind solved a before settled x)
+    one_refusal a b (no_budget solved settled refused) (no_heads y) = absurd (laws.excludes k.decks k.digits at old settled_kind solved b before settled y)
     one_refusal a b (no_budget x settled refused) (no_budget y also other) =
         let B : Solved → Type 0 = λ s. budget_at s ≡ Err b in
-        one_err a b (sym refused ∙ subst B (sym (laws.step_one k.model k.digits at old x y before settled also)) other)
-    one_refusal a b (no_heads x) (no_zones solved c settled is large) = absurd (laws.excludes k.model k.digits at old solved a before settled x)
-    one_refusal a b (no_zones solved c settled is large) (no_heads y) = absurd (laws.excludes k.model k.digits at old solved b before settled y)
+        one_err a b (sym refused ∙ subst B (sym (laws.step_one k.decks k.digits at old x y before settled also)) other)
+    one_refusal a b (no_heads x) (no_zones solved c settled is large) = absurd (laws.excludes k.decks k.digits at old settled_kind solved a before settled x)
+    one_refusal a b (no_zones solved c settled is large) (no_heads y) = absurd (laws.excludes k.decks k.digits at old settled_kind solved b before settled y)
     one_refusal a b (no_budget x settled refused) (no_zones y c also is large) = absurd (no_budget_no_zones x y c a settled refused also is)
     one_refusal a b (no_zones x c settled is large) (no_budget y also refused) = absurd (no_budget_no_zones y x c b also refused settled is)
     one_refusal a b (no_zones x c settled is large) (no_zones y d also other too) =
         let L : Solved → Type 0 = λ s. HasLargeFlow k.zones s b in
-        same_large laws x k.zones a b large (subst L (sym (laws.step_one k.model k.digits at old x y before settled also)) too)
+        same_large laws x k.zones a b large (subst L (sym (laws.step_one k.decks k.digits at old x y before settled also)) too)
 
   -- the heads of one more step
-  next_heads : (old : List Bound) (at : TimeStep) (rest : List TimeStep) (v : Step) → IsRest (times k.model) (at ∷ rest) → AreGridHeads k.model old → IsStep k at old v → AreGridHeads k.model v.heads
+  next_heads : (old : List Bound) (at : TimeStep) (rest : List TimeStep) (v : Step) → IsRest (times k.decks.first) (at ∷ rest) → AreGridHeads k.decks.first old → IsStep k at old v → AreGridHeads k.decks.first v.heads
   next_heads old at rest v r heads x = step_fits at old (r.each at (first_in at rest)) heads v x
 
-  same_step : (old : List Bound) (at : TimeStep) (rest : List TimeStep) (v w : Step) → IsRest (times k.model) (at ∷ rest) → AreGridHeads k.model old → IsStep k at old v → IsStep k at old w → v ≡ w
+  same_step : (old : List Bound) (at : TimeStep) (rest : List TimeStep) (v w : Step) → IsRest (times k.decks.first) (at ∷ rest) → AreGridHeads k.decks.first old → IsStep k at old v → IsStep k at old w → v ≡ w
   same_step old at rest v w r heads x y = one_step at old (r.each at (first_in at rest)) heads v w x y
 
-  listing_one : (old : List Bound) (rest : List TimeStep) (values others : List Step) → IsRest (times k.model) rest → AreGridHeads k.model old → Steps k old rest values ends.Whole → Steps k old rest others ends.Whole → others ≡ values
+  listing_one : (old : List Bound) (rest : List TimeStep) (values others : List Step) → IsRest (times k.decks.first) rest → AreGridHeads k.decks.first old → Steps k old rest values ends.Whole → Steps k old rest others ends.Whole → others ≡ values
   listing_one old [] [] [] r heads h w = refl
   listing_one old [] (v ∷ values) others r heads h w = absurd h
   listing_one old [] [] (o ∷ others) r heads h w = absurd w
@@ -151,18 +151,18 @@ module _ (laws : Laws) (k : Task) (model : IsModel k.model) where
   listing_one old (at ∷ rest) (v ∷ values) (o ∷ others) r heads (is, h) (other, w) =
       let e = same_step old at rest v o r heads is other in
       let P : Step → Type 0 = λ v. Steps k v.heads rest values ends.Whole in
-      ap (λ vs. o ∷ vs) (listing_one o.heads rest values others (rest_more (times k.model) at rest r) (next_heads old at rest o r heads other) (subst P e h) w) ∙ ap (λ x. x ∷ values) (sym e)
+      ap (λ vs. o ∷ vs) (listing_one o.heads rest values others (rest_more (times k.decks.first) at rest r) (next_heads old at rest o r heads other) (subst P e h) w) ∙ ap (λ x. x ∷ values) (sym e)
 
-  always_bound : (t : TimeStep) (n : NoBound) (old : List Bound) (rest : List TimeStep) (values others : List Step) → IsRest (times k.model) rest → AreGridHeads k.model old → Steps k old rest values ends.Whole → Steps k old rest others (ends.NoBound t n) → ⊥
+  always_bound : (t : TimeStep) (n : NoBound) (old : List Bound) (rest : List TimeStep) (values others : List Step) → IsRest (times k.decks.first) rest → AreGridHeads k.decks.first old → Steps k old rest values ends.Whole → Steps k old rest others (ends.NoBound t n) → ⊥
   always_bound t n old [] values [] r heads h w = w
   always_bound t n old [] values (o ∷ others) r heads h w = w
   always_bound t n old (at ∷ rest) [] others r heads h w = h
   always_bound t n old (at ∷ rest) (v ∷ values) [] r heads (is, h) (same, bare) = has_bound at old (r.each at (first_in at rest)) heads v n is bare
   always_bound t n old (at ∷ rest) (v ∷ values) (o ∷ others) r heads (is, h) (other, w) =
       let P : Step → Type 0 = λ v. Steps k v.heads rest values ends.Whole in
-      always_bound t n o.heads rest values others (rest_more (times k.model) at rest r) (next_heads old at rest o r heads other) (subst P (same_step old at rest v o r heads is other) h) w
+      always_bound t n o.heads rest values others (rest_more (times k.decks.first) at rest r) (next_heads old at rest o r heads other) (subst P (same_step old at rest v o r heads is other) h) w
 
-  always_settled : (t : TimeStep) (old : List Bound) (rest : List TimeStep) (values others : List Step) → IsRest (times k.model) rest → AreGridHeads k.model old → Steps k old rest values ends.Whole → AllSettle k old rest values → Steps k old rest others (ends.Unfinished t) → ⊥
+  always_settled : (t : TimeStep) (old : List Bound) (rest : List TimeStep) (values others : List Step) → IsRest (times k.decks.first) rest → AreGridHeads k.decks.first old → Steps k old rest values ends.Whole → AllSettle k old rest values → Steps k old rest others (ends.Unfinished t) → ⊥
   always_settled t old [] values [] r heads h s w = w
   always_settled t old [] values (o ∷ others) r heads h s w = w
   always_settled t old (at ∷ rest) [] others r heads h s w = h
@@ -171,9 +171,9 @@ module _ (laws : Laws) (k : Task) (model : IsModel k.model) where
       let e = same_step old at rest v o r heads is other in
       let P : Step → Type 0 = λ v. Steps k v.heads rest values ends.Whole in
       let Q : Step → Type 0 = λ v. AllSettle k v.heads rest values in
-      always_settled t o.heads rest values others (rest_more (times k.model) at rest r) (next_heads old at rest o r heads other) (subst P e h) (subst Q e s) w
+      always_settled t o.heads rest values others (rest_more (times k.decks.first) at rest r) (next_heads old at rest o r heads other) (subst P e h) (subst Q e s) w
 
-  refusal_at_one : (s t : TimeStep) (a b : NoBound) (old : List Bound) (rest : List TimeStep) (values others : List Step) → IsRest (times k.model) rest → AreGridHeads k.model old → Steps k old rest values (ends.NoBound s a) → Steps k old rest others (ends.NoBound t b) → (s ≡ t) × (a ≡ b) × (values ≡ others)
+  refusal_at_one : (s t : TimeStep) (a b : NoBound) (old : List Bound) (rest : List TimeStep) (values others : List Step) → IsRest (times k.decks.first) rest → AreGridHeads k.decks.first old → Steps k old rest values (ends.NoBound s a) → Steps k old rest others (ends.NoBound t b) → (s ≡ t) × (a ≡ b) × (values ≡ others)
   refusal_at_one s t a b old [] [] others r heads h w = absurd h
   refusal_at_one s t a b old [] (v ∷ values) others r heads h w = absurd h
   refusal_at_one s t a b old (at ∷ rest) [] [] r heads (same, bare) (also, other) = (same ∙ sym also, one_refusal at old (r.each at (first_in at rest)) heads a b bare other, refl)
@@ -182,27 +182,27 @@ module _ (laws : Laws) (k : Task) (model : IsModel k.model) where
   refusal_at_one s t a b old (at ∷ rest) (v ∷ values) (o ∷ others) r heads (is, h) (other, w) =
       let e = same_step old at rest v o r heads is other in
       let P : Step → Type 0 = λ v. Steps k v.heads rest values (ends.NoBound s a) in
-      let more = refusal_at_one s t a b o.heads rest values others (rest_more (times k.model) at rest r) (next_heads old at rest o r heads other) (subst P e h) w in
+      let more = refusal_at_one s t a b o.heads rest values others (rest_more (times k.decks.first) at rest r) (next_heads old at rest o r heads other) (subst P e h) w in
       (more.0, more.1, ap (λ x. x ∷ values) e ∙ ap (λ vs. o ∷ vs) more.2)
 
 -- from STRT on
 module _ (laws : Laws) where
   pub one_listing : ListingIsOne
   one_listing k values others model h w =
-      let P : List Bound → Type 0 = λ start. Steps k start (times k.model) others ends.Whole in
-      listing_one laws k model h.start (times k.model) values others (rest_whole (times k.model)) (laws.start_fits k.model h.start model h.is_start) h.steps (subst P (laws.start_one k.model w.start h.start model w.is_start h.is_start) w.steps)
+      let P : List Bound → Type 0 = λ start. Steps k start (times k.decks.first) others ends.Whole in
+      listing_one laws k model h.start (times k.decks.first) values others (rest_whole (times k.decks.first)) (laws.start_fits k.decks h.start model h.is_start) h.steps (subst P (laws.start_one k.decks w.start h.start model w.is_start h.is_start) w.steps)
 
   pub excludes_refusal : ListingExcludesRefusal
   excludes_refusal k values others at n model h w =
-      let P : List Bound → Type 0 = λ start. Steps k start (times k.model) others (ends.NoBound at n) in
-      always_bound laws k model at n h.start (times k.model) values others (rest_whole (times k.model)) (laws.start_fits k.model h.start model h.is_start) h.steps (subst P (laws.start_one k.model w.start h.start model w.is_start h.is_start) w.steps)
+      let P : List Bound → Type 0 = λ start. Steps k start (times k.decks.first) others (ends.NoBound at n) in
+      always_bound laws k model at n h.start (times k.decks.first) values others (rest_whole (times k.decks.first)) (laws.start_fits k.decks h.start model h.is_start) h.steps (subst P (laws.start_one k.decks w.start h.start model w.is_start h.is_start) w.steps)
 
   pub closed_listing : SettledListingIsClosed
   closed_listing k values others at model h settled w =
-      let P : List Bound → Type 0 = λ start. Steps k start (times k.model) others (ends.Unfinished at) in
-      always_settled laws k model at h.start (times k.model) values others (rest_whole (times k.model)) (laws.start_fits k.model h.start model h.is_start) h.steps settled (subst P (laws.start_one k.model w.start h.start model w.is_start h.is_start) w.steps)
+      let P : List Bound → Type 0 = λ start. Steps k start (times k.decks.first) others (ends.Unfinished at) in
+      always_settled laws k model at h.start (times k.decks.first) values others (rest_whole (times k.decks.first)) (laws.start_fits k.decks h.start model h.is_start) h.steps settled (subst P (laws.start_one k.decks w.start h.start model w.is_start h.is_start) w.steps)
 
   pub refusals_one : RefusalIsOne
   refusals_one k values others s t a b model h w =
-      let P : List Bound → Type 0 = λ start. Steps k start (times k.model) others (ends.NoBound t b) in
-      refusal_at_one laws k model s t a b h.start (times k.model) values others (rest_whole (times k.model)) (laws.start_fits k.model h.start model h.is_start) h.steps (subst P (laws.start_one k.model w.start h.start model w.is_start h.is_start) w.steps)
+      let P : List Bound → Type 0 = λ start. Steps k start (times k.decks.first) others (ends.NoBound t b) in
+      refusal_at_one laws k model s t a b h.start (times k.decks.first) values others (rest_whole (times k.decks.first)) (laws.start_fits k.decks h.start model h.is_start) h.steps (subst P (laws.start_one k.decks w.start h.start model w.is_start h.is_start) w.steps)

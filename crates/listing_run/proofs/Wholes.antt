@@ -19,5 +19,5 @@ pub whole_listing : (k : Task) (pieces : List Text) → IsListing k status.Ok pi
 whole_listing k pieces l =
     let whole = is_whole l.last l.status in
     let S : ListingEnd → Type 0 = λ last. AllSteps k l.values last in
-    let P : ListingEnd → Type 0 = λ last. pieces ≡ listing k l.values (last_line k.model.grid last) in
+    let P : ListingEnd → Type 0 = λ last. pieces ≡ listing k l.values (last_line k.decks.first.grid last) in
     record { values = l.values; steps = subst S whole l.steps; encloses = l.encloses whole; are = subst P whole l.are }

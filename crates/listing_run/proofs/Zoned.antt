@@ -1,7 +1,7 @@
 -- The flows between the zones of a task, by the clauses of their call.
 use Rattle.listing_run.proofs.Common.{◌≡◌, ℕ, suc, ◌-◌, ◌<◌, ◌^◌, inl, inr, List, length, All, arith, refl, subst, ℤ, pos, ◌*ℤ◌, ◌≤ℤ◌, Option, Some, None}
-use Rattle.listing_run.proofs.Common.{IfSome, Fraction, Bound, ZoneFlow, Entries, entries_at, lower_at, upper_at, cell_count, heads_of, HeadsEnclose, IsActive}
-use Rattle.listing_run.proofs.Common.{IsNamed, LiesWithin, FlowsEnclose}
+use Rattle.listing_run.proofs.Common.{IfSome, Fraction, Bound, ZoneFlow, Entries, entries_at, lower_at, upper_at, FlowModel, cell_count, heads_of, HeadsEnclose}
+use Rattle.listing_run.proofs.Common.{IsActive, IsNamed, LiesWithin, FlowsEnclose}
 use Rattle.std.specs.Prelude.{Contains}
 use Rattle.std.proofs.lemmas.List.Elements.{All-contains_itself, All-weaker}
 use Rattle.decimal_input.specs.Enclosures.{EnclosesSigned}
@@ -10,7 +10,6 @@ use Rattle.step_problem.specs.Conditions.{IsHead}
 use Rattle.cell_balance.specs.Enclosures.{EnclosesStep}
 use Rattle.cell_balance.specs.Steps.{ExactCell}
 use Rattle.budget_bounds.specs.Capped.{AreHeads}
-use Rattle.model_types.specs.declared.model.FlowModel.{FlowModel}
 use Rattle.zone_flows.specs.Exact.{EncloseExact, HeadsLieWithin}
 use Rattle.zone_pairs.specs.Zones.{AreZones, AreZonesOf}
 

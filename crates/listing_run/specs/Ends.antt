@@ -8,12 +8,12 @@ use Rattle.step_problem.specs.Heads.{Edges}
 use Rattle.step_problem.specs.declared.heads.Bound.{Bound}
 use Rattle.model_types.specs.Heads.{start_head}
 use Rattle.model_types.specs.Times.{times}
-use Rattle.model_types.specs.Valid.{IsModel}
+use Rattle.deck_problems.specs.Decks.{AreDecks, EachMember}
 use Rattle.model_types.specs.declared.time_steps.TimeStep.{TimeStep}
 use Rattle.problem_builder.specs.GridHeads.{AreGridHeads, HeadsEnclose}
-use Rattle.problem_builder.specs.StartHeads.{AreStartHeads}
-use Rattle.step_chain.specs.Keeps.{AreRunTables, digits_of}
-use Rattle.step_chain.specs.declared.kept.RunTables.{RunTables}
+use Rattle.deck_problems.specs.StartHeads.{AreStartHeadsFor}
+use Rattle.deck_problems.specs.Kept.{AreDeckTables}
+use Rattle.deck_problems.specs.declared.deck_tables.DeckTables.{DeckTables}
 use Rattle.step_chain.specs.declared.solved.Solved.{Solved}
 use Rattle.step_chain.specs.declared.solved.StepFault.TheVariants as chain
 use Rattle.step_chain.specs.declared.solved.StepFault.{StepFault}
@@ -35,16 +35,15 @@ use Rattle.listing_run.specs.declared.stop.Stop.TheVariants as stop
 use Rattle.listing_run.specs.declared.stop.Stop.{Stop}
 use Rattle.listing_run.specs.declared.task.Task.{Task}
 
--- the conditions on a task: a valid model, at most 18 digits, and a zone for each cell if there is a zone file
+-- the conditions on a task: valid decks, alike where there are two, at most 18 digits, and a zone for each cell if there is a zone file
 pub record IsTask (k : Task) : Type 0 where
-  pub model : IsModel k.model
+  pub decks : AreDecks k.decks
   pub digits : k.digits ≤ 18
-  pub zones : AreZones k.model k.zones
+  pub zones : AreZones k.decks.first k.zones
 
 -- the tables of a task
-pub record AreTablesOf (k : Task) (t : RunTables) : Type 0 where
-  pub digits : digits_of t ≡ k.digits
-  pub tables : AreRunTables k.model t
+abbrev pub AreTablesOf : Task → DeckTables → Type 0
+AreTablesOf k t = AreDeckTables k.decks k.digits t
 
 -- past these heads, with these times left, a walk stops so: the listing ends here; lack of memory is possible at any time
 abbrev pub StopsAt : Task → List Bound → List TimeStep → Stop → Type 0
@@ -70,14 +69,14 @@ times_left s = drop s.done s.times
 -- the conditions on a walk
 pub record IsWalk (k : Task) (s : Steps) : Type 0 where
   pub tables : AreTablesOf k s.tables
-  pub times : s.times ≡ times k.model
+  pub times : s.times ≡ times k.decks.first
   pub few : length s.times ≤ 100000
-  pub heads : AreGridHeads k.model s.heads
+  pub heads : AreGridHeads k.decks.first s.heads
 
 -- a walk before the first step
 pub record IsAtFirst (k : Task) (s : Steps) : Type 0 where
-  pub start : AreStartHeads k.model s.heads
-  pub encloses : HeadsEnclose k.model s.heads (start_head k.model)
+  pub start : AreStartHeadsFor k.decks s.heads
+  pub encloses : EachMember k.decks (λ m. HeadsEnclose m s.heads (start_head m))
   pub done : s.done ≡ 0
 
 -- a step by its flows and its heads
@@ -93,7 +92,7 @@ module _ {S : Type 0} (leads : S → List Entries → Edges → Bool → S → T
     pub heads : t.heads ≡ v.heads
     pub encloses : BoundsMoves k at s.heads v
     pub led : IsSettledBy leads k at s.heads true before after
-    pub grid : AreGridHeads k.model t.heads
+    pub grid : AreGridHeads k.decks.first t.heads
     pub few : s.done < 100000
     pub done : t.done ≡ s.done + 1
 

@@ -3,7 +3,7 @@ use Rattle.std.specs.Prelude.{◌≡◌, List}
 use Rattle.step_problem.specs.declared.place.NoBound.{NoBound}
 use Rattle.model_types.specs.declared.time_steps.TimeStep.{TimeStep}
 use Rattle.model_types.specs.Times.{times}
-use Rattle.model_types.specs.Valid.{IsModel}
+use Rattle.deck_problems.specs.Decks.{AreDecks}
 use Rattle.listing_run.specs.declared.listing_end.ListingEnd.TheVariants as ends
 use Rattle.listing_run.specs.declared.task.Task.{Task}
 use Rattle.listing_run.specs.declared.step.Step.{Step}
@@ -11,23 +11,23 @@ use Rattle.listing_run.specs.Steps.{AllSteps, AllSettle}
 
 -- there is at most one listing
 abbrev pub ListingIsOne : Type 0
-ListingIsOne = (k : Task) (values others : List Step) → IsModel k.model → AllSteps k values ends.Whole → AllSteps k others ends.Whole → others ≡ values
+ListingIsOne = (k : Task) (values others : List Step) → AreDecks k.decks → AllSteps k values ends.Whole → AllSteps k others ends.Whole → others ≡ values
 
 -- if there is one, no step has a refusal
 abbrev pub ListingExcludesRefusal : Type 0
 ListingExcludesRefusal =
-    (k : Task) (values others : List Step) (at : TimeStep) (n : NoBound) → IsModel k.model → AllSteps k values ends.Whole →
+    (k : Task) (values others : List Step) (at : TimeStep) (n : NoBound) → AreDecks k.decks → AllSteps k values ends.Whole →
     AllSteps k others (ends.NoBound at n) → ⊥
 
 -- if the rounds settle each of its steps, none is open
 abbrev pub SettledListingIsClosed : Type 0
 SettledListingIsClosed =
-    (k : Task) (values others : List Step) (at : TimeStep) → IsModel k.model → (whole : AllSteps k values ends.Whole) →
-    AllSettle k whole.start (times k.model) values → AllSteps k others (ends.Unfinished at) → ⊥
+    (k : Task) (values others : List Step) (at : TimeStep) → AreDecks k.decks → (whole : AllSteps k values ends.Whole) →
+    AllSettle k whole.start (times k.decks.first) values → AllSteps k others (ends.Unfinished at) → ⊥
 
 -- at most one step has a refusal, and only one refusal
 abbrev pub RefusalIsOne : Type 0
 RefusalIsOne =
-    (k : Task) (values others : List Step) (s t : TimeStep) (a b : NoBound) → IsModel k.model →
+    (k : Task) (values others : List Step) (s t : TimeStep) (a b : NoBound) → AreDecks k.decks →
     AllSteps k values (ends.NoBound s a) → AllSteps k others (ends.NoBound t b) → (s ≡ t) × (a ≡ b)
     × (values ≡ others)

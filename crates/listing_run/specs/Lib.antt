@@ -1,3 +1,4 @@
+pub mod Tasks
 pub mod Zones
 pub mod Steps
 pub mod Bounding

@@ -16,11 +16,11 @@ use Rattle.listing_run.specs.Steps.{AllSteps, FirstSteps}
 use Rattle.listing_run.specs.Bounding.{EnclosesHistories}
 
 abbrev pub text_of : Task → Step → Text
-text_of k v = step_text k.model k.digits v.at v.heads v.budget v.zones
+text_of k v = step_text k.decks.first k.digits v.at v.heads v.budget v.zones
 
 -- the first line, and a piece for each step
 abbrev pub begun : Task → List Step → List Text
-begun k values = first_text k.model k.digits ∷ map (text_of k) values
+begun k values = first_text k.decks.first k.digits ∷ map (text_of k) values
 
 abbrev pub listing : Task → List Step → Text → List Text
 listing k values last = begun k values ++ (last ∷ [])
@@ -44,7 +44,7 @@ pub record IsListing (k : Task) (end : Status) (pieces : List Text) : Type 0 whe
   pub values : List Step
   pub steps : AllSteps k values last
   pub encloses : last ≡ ends.Whole → EnclosesHistories k values
-  pub are : pieces ≡ listing k values (last_line k.model.grid last)
+  pub are : pieces ≡ listing k values (last_line k.decks.first.grid last)
 
 -- a listing of the task that ends with this status was added to a text
 pub record IsPushed (k : Task) (end : Status) (old new : Text) : Type 0 where

@@ -5,10 +5,11 @@ use Rattle.outside.specs.declared.traits.SinkError.{SinkError}
 use Rattle.step_problem.specs.declared.heads.Bound.{Bound}
 use Rattle.step_problem.specs.Entries.{Entries}
 use Rattle.step_problem.specs.Heads.{Edges, lower_at, upper_at}
-use Rattle.model_types.specs.declared.model.FlowModel.{FlowModel}
+use Rattle.deck_problems.specs.declared.decks.Decks.{Decks}
+use Rattle.deck_problems.specs.Decks.{EachMember}
+use Rattle.deck_problems.specs.StartHeads.{AreStartHeadsFor}
 use Rattle.model_types.specs.declared.time_steps.TimeStep.{TimeStep}
 use Rattle.model_types.specs.Times.{times}
-use Rattle.problem_builder.specs.StartHeads.{AreStartHeads}
 use Rattle.settle_driver.specs.Views.{HoldsPair}
 use Rattle.step_chain.specs.Steps.{IsPosed}
 use Rattle.step_chain.specs.Enclosing.{LieBetween}
@@ -16,21 +17,21 @@ use Rattle.listing_run.specs.declared.task.Task.{Task}
 use Rattle.listing_run.specs.declared.step.Step.{Step}
 use Rattle.listing_run.specs.Steps.{IsStep}
 
--- Every solution of the exact step, from all exact heads within the old ones, lies between these heads at the problem's variable cells.
-abbrev pub EnclosesSolutions : FlowModel → TimeStep → List Bound → List Entries → List Bound → Type 0
-EnclosesSolutions m at old p heads = LieBetween m at old p (lower_at heads) (upper_at heads)
+-- Every solution of the exact step of each member, from all exact heads within the old ones, lies between these heads at the problem's variable cells.
+abbrev pub EnclosesSolutions : Decks → TimeStep → List Bound → List Entries → List Bound → Type 0
+EnclosesSolutions d at old p heads = EachMember d (λ m. LieBetween m at old p (lower_at heads) (upper_at heads))
 
 -- Where the settled pair of a step's problem lies between heads, every solution does.
-abbrev pub PairEncloses : FlowModel → TimeStep → List Bound → List Entries → Edges → Type 0
-PairEncloses m at old p b = (heads : List Bound) → HoldsPair p b heads → EnclosesSolutions m at old p heads
+abbrev pub PairEncloses : Decks → TimeStep → List Bound → List Entries → Edges → Type 0
+PairEncloses d at old p b = (heads : List Bound) → HoldsPair p b heads → EnclosesSolutions d at old p heads
 
 module _ {S : Type 0} (leads : S → List Entries → Edges → Bool → S → Type 0) (k : Task) where
   -- the problem of a step from these old heads was settled, ending with heads or without
   pub record IsSettledBy (at : TimeStep) (old : List Bound) (ended : Bool) (before after : S) : Type 0 where
     pub problem : List Entries
     pub barrier : Edges
-    pub posed : IsPosed k.model k.digits at old problem barrier
-    pub encloses : PairEncloses k.model at old problem barrier
+    pub posed : IsPosed k.decks k.digits at old problem barrier
+    pub encloses : PairEncloses k.decks at old problem barrier
     pub led : leads before problem barrier ended after
 
   -- no problem was settled, or that of the step was
@@ -55,8 +56,8 @@ module _ {S : Type 0} (begins : S → ℕ → ℕ → S → Type 0) (leads : S �
   -- so it did with the first steps of the model, from STRT on
   pub record ReachesFirst (before after : S) : Type 0 where
     pub start : List Bound
-    pub is_start : AreStartHeads k.model start
-    pub reaches : Reaches start (times k.model) before after
+    pub is_start : AreStartHeadsFor k.decks start
+    pub reaches : Reaches start (times k.decks.first) before after
 
   -- A settler was told these times and settled the step of each, in turn, each from the heads of the one before it, and never had to stop.
   abbrev pub AreSettledBy : List Bound → List TimeStep → S → S → Type 0
@@ -68,5 +69,5 @@ module _ {S : Type 0} (begins : S → ℕ → ℕ → S → Type 0) (leads : S �
   -- so it did with all steps of the model, from STRT on
   pub record AllSettledBy (before after : S) : Type 0 where
     pub start : List Bound
-    pub is_start : AreStartHeads k.model start
-    pub settled : AreSettledBy start (times k.model) before after
+    pub is_start : AreStartHeadsFor k.decks start
+    pub settled : AreSettledBy start (times k.decks.first) before after

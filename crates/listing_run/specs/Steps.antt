@@ -8,7 +8,7 @@ use Rattle.budget_bounds.specs.declared.pair.Budget.{Budget}
 use Rattle.budget_bounds.specs.Terms.{budget_of}
 use Rattle.model_types.specs.declared.time_steps.TimeStep.{TimeStep}
 use Rattle.model_types.specs.Times.{times}
-use Rattle.problem_builder.specs.StartHeads.{AreStartHeads}
+use Rattle.deck_problems.specs.StartHeads.{AreStartHeadsFor}
 use Rattle.step_chain.specs.declared.solved.Solved.{Solved}
 use Rattle.step_chain.specs.Steps.{IsPosed, IsSettledStep, HasNoHeads, SettlesIn}
 use Rattle.listing_run.specs.declared.listing_end.ListingEnd.{ListingEnd}
@@ -24,7 +24,7 @@ budget_at x = budget_of x.problem (lower_at x.bounds) (upper_at x.bounds)
 -- A time of a task, where `old` are the heads of all cells before it.
 module _ (k : Task) (at : TimeStep) (old : List Bound) where
   abbrev pub IsSettled : Solved → Type 0
-  IsSettled x = IsSettledStep k.model k.digits at old x
+  IsSettled x = IsSettledStep k.decks k.digits at old x
 
   -- v is its step: the heads, the budget and the flows between zones of its settled problem
   pub record IsStep (v : Step) : Type 0 where
@@ -37,7 +37,7 @@ module _ (k : Task) (at : TimeStep) (old : List Bound) where
 
   -- its first refusal: of the problem or the barrier, then of the budget, then of the flows between zones
   pub data HasNoBound (n : NoBound) : Type 0 where
-    no_heads : HasNoHeads k.model k.digits at old n → HasNoBound n
+    no_heads : HasNoHeads k.decks k.digits at old n → HasNoBound n
     no_budget : (solved : Solved) → IsSettled solved → budget_at solved ≡ Err n → HasNoBound n
     no_zones : (solved : Solved) (budget : Budget) → IsSettled solved → budget_at solved ≡ Ok budget → HasLargeFlow k.zones solved n → HasNoBound n
 
@@ -45,7 +45,7 @@ module _ (k : Task) (at : TimeStep) (old : List Bound) where
   pub record IsOpen : Type 0 where
     pub problem : List Entries
     pub barrier : Edges
-    pub posed : IsPosed k.model k.digits at old problem barrier
+    pub posed : IsPosed k.decks k.digits at old problem barrier
     pub open_rounds : RoundsSettleBoth problem barrier k.rounds → ⊥
 
 -- Past these heads, with these times left, a listing ends so: no time is left; the step of the first one has this refusal;
@@ -69,8 +69,8 @@ Steps k old times values last = StepsThen k (EndsAt k last) old times values
 -- the steps of the model, from STRT on
 pub record FirstSteps (k : Task) (Then : List Bound → List TimeStep → Type 0) (values : List Step) : Type 0 where
   pub start : List Bound
-  pub is_start : AreStartHeads k.model start
-  pub steps : StepsThen k Then start (times k.model) values
+  pub is_start : AreStartHeadsFor k.decks start
+  pub steps : StepsThen k Then start (times k.decks.first) values
 
 -- all steps of the model, up to this end
 abbrev pub AllSteps : Task → List Step → ListingEnd → Type 0
@@ -80,4 +80,4 @@ AllSteps k values last = FirstSteps k (EndsAt k last) values
 abbrev pub AllSettle : Task → List Bound → List TimeStep → List Step → Type 0
 AllSettle k old [] values = Unit {0}
 AllSettle k old (at ∷ steps) [] = Unit {0}
-AllSettle k old (at ∷ steps) (v ∷ values) = SettlesIn k.model k.digits at old k.rounds × AllSettle k v.heads steps values
+AllSettle k old (at ∷ steps) (v ∷ values) = SettlesIn k.decks k.digits at old k.rounds × AllSettle k v.heads steps values

@@ -1,7 +1,7 @@
 // Laws of listings, from those of the steps.
 ghost use Rattle.listing_run.specs.Laws.{ListingIsOne, ListingExcludesRefusal, SettledListingIsClosed, RefusalIsOne};
 
-use problem_builder::laws::{one_list_of_start_heads, start_heads_fit};
+use deck_problems::laws::start_heads;
 use step_chain::laws::{heads_fit, no_step_beside_a_refusal, one_refusal, one_step};
 use zone_flows::laws::one_list_or_refusal;
 
@@ -12,8 +12,7 @@ pub fn one_listing()
     ensures closed { SettledListingIsClosed }
     ensures refusal { RefusalIsOne }
 {
-    one_list_of_start_heads();
-    start_heads_fit();
+    start_heads();
     one_step();
     no_step_beside_a_refusal();
     one_refusal();

@@ -6,7 +6,7 @@ ghost use Rattle.run_puts.specs.Ends.{IsEnd, IsPut};
 ghost use Rattle.run_puts.specs.Runs.{IsRun};
 ghost use Rattle.listing_run.specs.Listing.{IsListingBeside, IsCutListing, last_line, status_of};
 ghost use Rattle.listing_run.specs.Settlers.{AllSettledBy, ReachesFirst, RestsOrSettlesFirst};
-ghost use Rattle.listing_run.specs.Ends.{IsNextText, IsStopEnd, IsTask, IsWalk, StopsAt, times_left};
+ghost use Rattle.listing_run.specs.Ends.{IsAtFirst, IsNextText, IsStopEnd, IsTask, IsWalk, StopsAt, times_left};
 
 use crate::listing_end::ListingEnd;
 use crate::steps::Steps;
@@ -56,9 +56,9 @@ fn put_end<K: Sink>(alloc: Global, task: &Task, end: ListingEnd, out: &mut K) ->
     requires { IsTask task.now }
     ensures { (start : _) (puts : List Put) → K.leads start puts out.old →
         (tail : List Put) × K.leads start (puts ++ tail) out.new
-        × IsEnd (last_line task.now.model.grid end) (status_of end) result tail }
+        × IsEnd (last_line task.now.decks.first.grid end) (status_of end) result tail }
 {
-    let line = end.line(alloc, &task.model.grid);
+    let line = end.line(alloc, &task.decks.first.grid);
     put_line(out, line, end.status())
 }
 
@@ -81,6 +81,59 @@ fn begin_step<S: StepSettler>(settler: &mut S, at: TimeStep)
     ensures ready { S.ready settler.new }
 {
     settler.begin(at.period, at.step);
+}
+
+// Puts the listing of a task by a walk before the first step.
+fn put_walk<R: Threads + Sync, K: Sink + Send, S: StepSettler>(
+    rt: &R,
+    alloc: Global,
+    task: &Task,
+    steps: &mut Steps,
+    settler: &mut S,
+    out: &mut K,
+) -> Status
+    requires ready { S.ready settler.old }
+    requires rounds { S.rounds settler.old ≡ task.now.rounds }
+    requires goes_on { S.stop settler.old ≡ None }
+    requires task { IsTask task.now }
+    requires walk { IsWalk task.now steps.old }
+    requires first { IsAtFirst task.now steps.old }
+    ensures puts { (start : _) (puts : List Put) → K.leads start puts out.old →
+        (more : List Put) × K.leads start (puts ++ more) out.new
+        × IsRun (IsListingBeside (S.stop settler.new ≡ Some Write) task.now) (IsCutListing task.now) result more
+        × (result ≡ Status.Ok → AllSettledBy S.begins S.leads S.stop task.now settler.old settler.new) }
+    ensures reaches { (settler.new ≡ settler.old) ⊎ ReachesFirst S.begins S.leads S.stop task.now settler.old settler.new }
+{
+    let Ok(mut pending) = write_first(alloc, &task.decks.first, task.digits) else {
+        return put_memory(out);
+    };
+    while let Some(at) = steps.time() {
+        begin_step(settler, at);
+        let (put, next) = put_while_solving(
+            rt,
+            alloc,
+            task,
+            steps,
+            settler,
+            out,
+            pending.as_slice(),
+        );
+        if let Some(status) = put {
+            return status;
+        }
+        if let Some(error) = settler.stop() {
+            return end_stopped(error, out);
+        }
+        match next {
+            Ok(text) => pending = text,
+            Err(Stop::End(end)) => return put_end(alloc, task, end, out),
+            Err(Stop::Memory) => return put_memory(out),
+        }
+    }
+    if let Some(status) = put_piece(out, pending.as_slice()) {
+        return status;
+    }
+    put_end(alloc, task, ListingEnd::Whole, out)
 }
 
 /// Puts the listing of a task: the first line, each step while the next one is solved, and the last line. The settler is
@@ -108,34 +161,5 @@ pub fn put_steps<R: Threads + Sync, K: Sink + Send, S: StepSettler>(
     let Ok(mut steps) = Steps::new(alloc, task) else {
         return put_memory(out);
     };
-    let Ok(mut pending) = write_first(alloc, &task.model, task.digits) else {
-        return put_memory(out);
-    };
-    while let Some(at) = steps.time() {
-        begin_step(settler, at);
-        let (put, next) = put_while_solving(
-            rt,
-            alloc,
-            task,
-            &mut steps,
-            settler,
-            out,
-            pending.as_slice(),
-        );
-        if let Some(status) = put {
-            return status;
-        }
-        if let Some(error) = settler.stop() {
-            return end_stopped(error, out);
-        }
-        match next {
-            Ok(text) => pending = text,
-            Err(Stop::End(end)) => return put_end(alloc, task, end, out),
-            Err(Stop::Memory) => return put_memory(out),
-        }
-    }
-    if let Some(status) = put_piece(out, pending.as_slice()) {
-        return status;
-    }
-    put_end(alloc, task, ListingEnd::Whole, out)
+    put_walk(rt, alloc, task, &mut steps, settler, out)
 }

@@ -15,16 +15,17 @@ use crate::task::Task;
 use crate::zoning::flows_between;
 use budget_bounds::budget;
 use budget_bounds::laws::heads_within;
+use deck_problems::DeckTables;
 use model_types::{Listed, TimeStep};
 use std::alloc::Global;
-use step_chain::{RunTables, next_step_with};
+use step_chain::next_step_with;
 use step_problem::{Bound, Settler};
 
 /// The step of a time, from the heads of all cells before it.
 pub(crate) fn solve<S: Settler>(
     alloc: Global,
     task: &Task,
-    tables: &mut RunTables,
+    tables: &mut DeckTables,
     at: TimeStep,
     old: &[Bound],
     settler: &mut S,
@@ -33,8 +34,8 @@ pub(crate) fn solve<S: Settler>(
     requires rounds { S.rounds settler.old ≡ task.now.rounds }
     requires task { IsTask task.now }
     requires tables { AreTablesOf task.now tables.old }
-    requires time { Contains (times task.now.model) at }
-    requires old { AreGridHeads task.now.model old.now }
+    requires time { Contains (times task.now.decks.first) at }
+    requires old { AreGridHeads task.now.decks.first old.now }
     ensures ready { S.ready settler.new }
     ensures rounds { S.rounds settler.new ≡ S.rounds settler.old }
     ensures tables { AreTablesOf task.now tables.new }
@@ -42,11 +43,11 @@ pub(crate) fn solve<S: Settler>(
     ensures stop { IfErr result (λ stop. (rest : List TimeStep) → StopsAt task.now old.now (at ∷ rest) stop) }
     ensures led { MatchResult result (λ _. IsSettledBy S.leads task.now at old.now true settler.old settler.new)
         (λ _. RestsOrSettles S.leads task.now at old.now settler.old settler.new) }
-    ensures heads { IfOk result (λ v. AreGridHeads task.now.model v.heads) }
+    ensures heads { IfOk result (λ v. AreGridHeads task.now.decks.first v.heads) }
     // Every solution from exact heads within the old ones lies within the step's heads, budget and flows between zones.
     ensures encloses { IfOk result (BoundsMoves task.now at old.now) }
 {
-    let solved = match next_step_with(alloc, &task.model, tables, at, old, settler) {
+    let solved = match next_step_with(alloc, &task.decks, tables, at, old, settler) {
         Ok(solved) => solved,
         Err(fault) => return Err(stop_at(at, fault)),
     };

@@ -8,18 +8,17 @@ use crate::solving::solve;
 use crate::stop::Stop;
 use crate::task::Task;
 use budget_bounds::Budget;
+use deck_problems::{DeckTables, start_heads_for};
 use listing_io::write_step;
 use model_types::{Listed, TimeStep, times};
-use problem_builder::start_heads;
 use std::alloc::{AllocError, Global};
-use step_chain::RunTables;
 use step_problem::{Bound, Settler, ZoneFlow};
 
 /// A walk over the steps of a task: the tables that the steps share, the times, the number of steps that are done, and
 /// the heads of all cells after them, which are STRT before the first step.
 #[derive(Drop)]
 pub struct Steps {
-    tables: RunTables,
+    tables: DeckTables,
     times: Listed<TimeStep>,
     done: usize,
     heads: Listed<Bound>,
@@ -40,12 +39,12 @@ impl Steps {
         ensures walk { IfOk result (IsWalk task.now) }
         ensures first { IfOk result (IsAtFirst task.now) }
     {
-        let model = &task.model;
+        let decks = &task.decks;
         Ok(Steps {
-            tables: RunTables::new(alloc, model, task.digits)?,
-            times: Listed::new(times(alloc, model)?),
+            tables: DeckTables::new(alloc, decks, task.digits)?,
+            times: Listed::new(times(alloc, &decks.first)?),
             done: 0,
-            heads: Listed::new(start_heads(alloc, model)?),
+            heads: start_heads_for(alloc, decks)?,
         })
     }
 
@@ -128,7 +127,7 @@ impl Steps {
         let flows = self.next(alloc, task, settler)?;
         let text = write_step(
             alloc,
-            &task.model,
+            &task.decks.first,
             task.digits,
             flows.at,
             self.heads.as_slice(),

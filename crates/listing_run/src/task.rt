@@ -1,11 +1,12 @@
 // A task: what is to be listed.
-use model_types::{FlowModel, Listed};
+use deck_problems::Decks;
+use model_types::Listed;
 
-/// What is to be listed: a model, the digits s of conductances, the zone of each cell, if there is a zone file, and
+/// What is to be listed: the decks, the digits s of conductances, the zone of each cell, if there is a zone file, and
 /// the number of plain rounds in which each step must settle.
 #[derive(Drop)]
 pub struct Task {
-    pub model: FlowModel,
+    pub decks: Decks,
     pub digits: u32,
     pub zones: Option<Listed<u32>>,
     pub rounds: u32,

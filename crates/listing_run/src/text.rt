@@ -1,6 +1,6 @@
 // The listing of a task as one text, made on one thread.
 ghost use Rattle.std.specs.Prelude.{◌≡◌, ◌++◌, IfOk};
-ghost use Rattle.listing_run.specs.Ends.{IsTask};
+ghost use Rattle.listing_run.specs.Ends.{IsAtFirst, IsTask, IsWalk};
 ghost use Rattle.listing_run.specs.Listing.{IsPushed, last_line, status_of};
 
 use crate::listing_end::ListingEnd;
@@ -20,12 +20,38 @@ fn push_end(
     end: ListingEnd,
 ) -> Result<Status, AllocError>
     requires { IsTask task.now }
-    ensures text { IfOk result (λ _. text.new.items ≡ text.old.items ++ last_line task.now.model.grid end) }
+    ensures text { IfOk result (λ _. text.new.items ≡ text.old.items ++ last_line task.now.decks.first.grid end) }
     ensures status { IfOk result (λ status. status ≡ status_of end) }
 {
-    let line = end.line(alloc, &task.model.grid)?;
+    let line = end.line(alloc, &task.decks.first.grid)?;
     text.extend_from_slice(line.as_slice())?;
     Ok(end.status())
+}
+
+// Adds the listing of a task to a text, by a walk before the first step.
+fn push_steps<S: Settler>(
+    alloc: Global,
+    text: &mut Vec<u8>,
+    task: &Task,
+    steps: &mut Steps,
+    settler: &mut S,
+) -> Result<Status, AllocError>
+    requires ready { S.ready settler.old }
+    requires rounds { S.rounds settler.old ≡ task.now.rounds }
+    requires task { IsTask task.now }
+    requires walk { IsWalk task.now steps.old }
+    requires first { IsAtFirst task.now steps.old }
+    ensures { IfOk result (λ end. IsPushed task.now end text.old.items text.new.items) }
+{
+    let first = write_first(alloc, &task.decks.first, task.digits)?;
+    text.extend_from_slice(first.as_slice())?;
+    loop {
+        match steps.next_text(alloc, task, settler) {
+            Ok(step) => text.extend_from_slice(step.as_slice())?,
+            Err(Stop::End(end)) => return push_end(alloc, text, task, end),
+            Err(Stop::Memory) => return Err(AllocError),
+        }
+    }
 }
 
 /// Adds the listing of a task to a text, and returns the status that it has: Ok for a whole listing, NoBound or
@@ -43,13 +69,5 @@ pub fn push_listing<S: Settler>(
     ensures { IfOk result (λ end. IsPushed task.now end text.old.items text.new.items) }
 {
     let mut steps = Steps::new(alloc, task)?;
-    let first = write_first(alloc, &task.model, task.digits)?;
-    text.extend_from_slice(first.as_slice())?;
-    loop {
-        match steps.next_text(alloc, task, settler) {
-            Ok(step) => text.extend_from_slice(step.as_slice())?,
-            Err(Stop::End(end)) => return push_end(alloc, text, task, end),
-            Err(Stop::Memory) => return Err(AllocError),
-        }
-    }
+    push_steps(alloc, text, task, &mut steps, settler)
 }

@@ -55,15 +55,15 @@ pub(crate) fn flows_between(
     solved: &Solved,
 ) -> Result<Vec<ZoneFlow>, Stop>
     requires task { IsTask task.now }
-    requires heads { AreGridHeads task.now.model solved.now.heads }
-    requires named { (c : ℕ) → IsNamed solved.now.problem c → IsActive task.now.model c }
+    requires heads { AreGridHeads task.now.decks.first solved.now.heads }
+    requires named { (c : ℕ) → IsNamed solved.now.problem c → IsActive task.now.decks.first c }
     ensures flows { IfOk result (λ flows. AreFlowsAt task.now.zones solved.now flows.items) }
     ensures stop { IfErr result (FlowsStopBy task.now.zones solved.now at) }
     ensures encloses { IfOk result (λ flows. FlowsEncloseAt task.now.zones solved.now flows.items) }
 {
     match flows_of(
         alloc,
-        &task.model,
+        &task.decks.first,
         zone_slice(&task.zones),
         &solved.problem,
         solved.heads.as_slice(),

@@ -14,16 +14,16 @@ module _ (k : Task) where
   pub record IsCounted (s : Steps) (n : Summary) : Type 0 where
     pub values : List Step
     pub solved : IsSolved k s.heads (times_left s) values
-    pub counts : n ≡ all_counted k.model values
+    pub counts : n ≡ all_counted k.decks.first values
 
   pub none_counted : (s : Steps) (n : Summary) → n ≡ nothing → IsWalk k s → IsAtFirst k s → IsCounted s n
   none_counted s n none w f = record { values = []; solved = none_solved k s w f; counts = none }
 
-  pub one_more_counted : {S : Type 0} (leads : S → List Entries → Edges → Bool → S → Type 0) (s t : Steps) (before after : S) (v : Step) (n m : Summary) → IsNext leads k s t before after v → m ≡ stepped k.model n t.heads → IsCounted s n → IsCounted t m
+  pub one_more_counted : {S : Type 0} (leads : S → List Entries → Edges → Bool → S → Type 0) (s t : Steps) (before after : S) (v : Step) (n m : Summary) → IsNext leads k s t before after v → m ≡ stepped k.decks.first n t.heads → IsCounted s n → IsCounted t m
   one_more_counted leads s t before after v n m next is so = record {
     values = so.values ++ (v ∷ []);
     solved = one_more_solved k leads s t before after v so.values so.solved next;
-    counts = one_step k.model so.values v t.heads n m next.heads so.counts is;
+    counts = one_step k.decks.first so.values v t.heads n m next.heads so.counts is;
   }
 
   pub all_counted_to_end : (s : Steps) (n : Summary) (last : ListingEnd) → EndsAt k last s.heads (times_left s) → IsCounted s n → IsSummarized k n last
@@ -31,5 +31,5 @@ module _ (k : Task) where
     values = so.values;
     steps = ended k s.heads (times_left s) so.values last so.solved here;
     encloses = encloses_if_whole k s.heads (times_left s) so.values last so.solved here;
-    is = so.counts ∙ all_counted_is k.model so.values;
+    is = so.counts ∙ all_counted_is k.decks.first so.values;
   }

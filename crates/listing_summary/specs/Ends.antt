@@ -15,4 +15,4 @@ pub record IsSummarized (k : Task) (s : Summary) (last : ListingEnd) : Type 0 wh
   pub values : List Step
   pub steps : AllSteps k values last
   pub encloses : last ≡ Whole → EnclosesHistories k values
-  pub is : s ≡ summary_of k.model values
+  pub is : s ≡ summary_of k.decks.first values

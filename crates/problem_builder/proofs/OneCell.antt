@@ -69,7 +69,7 @@ module _ (m : FlowModel) (w v : Thicknesses) (wa : AreThicknesses m w) (va : Are
         let P : Term → Type 0 = λ t. IsCapped t s l h in
         one_capped (face_term m w.thick w.bed f.axis f.first) s lo hi l h p (subst P (sym same) q)
 
-    one_link : (x u : Link) (f : Face) → In (variable_faces m at.period c) f → IsLink m w s at x f → IsLink m v s at u f → x ≡ u
+    pub one_link : (x u : Link) (f : Face) → In (variable_faces m at.period c) f → IsLink m w s at x f → IsLink m v s at u f → x ≡ u
     one_link x u f i p q =
         let (g, k) = passing_are m.grid (is_variable m at.period) c f i in
         let (a, b) = one_conductance f x.lo x.hi u.lo u.hi g (variable_active m at.period f.end k) p.conductance q.conductance in

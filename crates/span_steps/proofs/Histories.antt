@@ -1,37 +1,62 @@
--- Histories between two models lie within the heads of their steps, by induction on the time steps.
-use Rattle.span_steps.proofs.Common.{◌≡◌, ◌<◌, [], ◌∷◌, ℕ, ℤ, List, arith, Contains, ints, clamps, Fraction, start_head, times, FlowModel, TimeStep, lower_at}
-use Rattle.span_steps.proofs.Common.{upper_at, Bound, heads_of, AreGridHeads, HeadsEnclose, Solved, IsBetween, SolvesBetweenFrom, SolvesBetween}
-use Rattle.span_steps.proofs.Common.{hull_of_numbers, starts_between, AreHullSteps, AreModels, AreBefore, EncloseStarts, LieWithin}
-use Rattle.std.specs.Int.{int_min, int_max}
-use Rattle.span_steps.proofs.Times.{first_in, next_in}
-use Rattle.span_steps.proofs.HullRange.{heads_in_range}
-use Rattle.span_steps.proofs.Moves.{lies_encloses, move_within}
+-- Histories between two decks lie within the heads of their steps, by induction on the time steps.
+use Rattle.std.proofs.Common.{◌≡◌, ◌-◌, ◌<◌, ◌^◌, ◌*ℤ◌, ◌≤ℤ◌, ℕ, suc, inl, inr, List, [], ◌∷◌, Contains, refl, subst, arith, ℤ, pos}
+use Rattle.decimal_input.specs.Fractions.{Fraction}
+use Rattle.step_problem.specs.declared.heads.Bound.{Bound}
+use Rattle.step_problem.specs.Heads.{lower_at, upper_at}
+use Rattle.model_types.specs.declared.model.FlowModel.{FlowModel}
+use Rattle.model_types.specs.declared.time_steps.TimeStep.{TimeStep}
+use Rattle.model_types.specs.Heads.{start_head}
+use Rattle.model_types.specs.Times.{times}
+use Rattle.model_types.proofs.Members.{Contains-In}
+use Rattle.flow_equations.specs.Histories.{heads_of}
+use Rattle.problem_builder.specs.GridHeads.{AreGridHeads, HeadsEnclose}
+use Rattle.problem_builder.proofs.Named.{In-Contains}
+use Rattle.deck_span.specs.Histories.{SolvesBetweenFrom}
+use Rattle.deck_problems.specs.Decks.{AreDecks}
+use Rattle.deck_problems.specs.Laws.{IsBefore, StartHeadsFit, StartHeadsEnclose}
+use Rattle.deck_problems.proofs.Members.{HasCellsOf, between_cells, cell_of_member, encloses_member, encloses_first}
+use Rattle.step_chain.specs.declared.solved.Solved.{Solved}
+use Rattle.step_chain.specs.Enclosing.{LiesWithin}
+use Rattle.step_chain.specs.Laws.{StepEncloses, HeadsFit}
+use Rattle.step_chain.specs.Pairs.{PairKind}
+use Rattle.span_steps.specs.Laws.{HistoriesLieWithin}
+use Rattle.span_steps.specs.Steps.{two, AreSteps, LieWithin}
 
--- STRT of a model between lies within heads that enclose STRT of both
-pub start_within : (a m b : FlowModel) (start : List Bound) → IsBetween a m b → EncloseStarts a b start → HeadsEnclose a start (start_head m)
-start_within a m b start h starts c active =
-    hull_of_numbers _ _ _ _ (lower_at start c) (upper_at start c) 9 (start_head a c) (start_head m c) (start_head b c)
-    (record { low = twice_min (lower_at start c); high = twice_max (upper_at start c) }) (starts.first c active) (starts.second c active) (starts_between a m b h c)
-  where
-    twice_min : (z : ℤ) → z ≡ int_min z z
-    twice_min z = omega (arith, ints, clamps)
+pub first_in : (t : TimeStep) (ts : List TimeStep) → Contains (t ∷ ts) t
+first_in t ts = Contains-In (t ∷ ts) t (inl refl)
 
-    twice_max : (z : ℤ) → z ≡ int_max z z
-    twice_max z = omega (arith, ints, clamps)
+pub next_in : (t : TimeStep) (ts : List TimeStep) (u : TimeStep) → Contains ts u → Contains (t ∷ ts) u
+next_in t ts u h = Contains-In (t ∷ ts) u (inr (In-Contains ts u h))
 
-module _ (a b : FlowModel) (s : ℕ) (models : AreModels a b) where
+-- heads over d that lie within bounds, as fractions
+pub lies_encloses : (m : FlowModel) (new : List Bound) (d : ℕ) (X : ℕ → ℤ) → 0 < d → LiesWithin m new d X → HeadsEnclose m new (heads_of d X)
+lies_encloses m new d X some h c active =
+    let same : d ≡ suc (d - 1) = omega (arith, some) in
+    let L : ℕ → Type 0 = λ n. (lower_at new c *ℤ pos n) ≤ℤ (X c *ℤ pos (10 ^ 9)) in
+    let U : ℕ → Type 0 = λ n. (X c *ℤ pos (10 ^ 9)) ≤ℤ (upper_at new c *ℤ pos n) in
+    record { lower = subst L same (h.low c active); upper = subst U same (h.high c active) }
+
+pub lies_in_first : (a m : FlowModel) → HasCellsOf a m → (heads : List Bound) (d : ℕ) (X : ℕ → ℤ) → LiesWithin m heads d X → LiesWithin a heads d X
+lies_in_first a m cells heads d X h = record { low = λ c k. h.low c (cell_of_member a m cells c k); high = λ c k. h.high c (cell_of_member a m cells c k) }
+
+module _ (step_encloses : StepEncloses) (heads_fit : HeadsFit) (a b : FlowModel) (s : ℕ) (kind : PairKind) (decks : AreDecks (two a b)) where
   all_within : (ats : List TimeStep) (these : (at : TimeStep) → Contains ats at → Contains (times a) at) (old : List Bound) (xs : List Solved) (before : ℕ → Fraction) (d : ℕ) (Xs : List (ℕ → ℤ)) →
-      AreGridHeads a old → HeadsEnclose a old before → 0 < d → AreHullSteps a b s old ats xs → SolvesBetweenFrom a b d before ats Xs → LieWithin a d xs Xs
+      AreGridHeads a old → HeadsEnclose a old before → 0 < d → AreSteps (two a b) s kind old ats xs → SolvesBetweenFrom a b d before ats Xs → LieWithin a d xs Xs
   all_within [] these old [] before d [] grid olds some steps h = tt
   all_within [] these old [] before d (X ∷ Xs) grid olds some steps h = absurd h
   all_within [] these old (x ∷ xs) before d Xs grid olds some steps h = absurd steps
   all_within (at ∷ ats) these old [] before d Xs grid olds some steps h = absurd steps
   all_within (at ∷ ats) these old (x ∷ xs) before d [] grid olds some steps h = absurd h
   all_within (at ∷ ats) these old (x ∷ xs) before d (X ∷ Xs) grid olds some steps h =
-      let start : AreBefore a b at old = record { models = models; time = these at (first_in at ats); heads = grid } in
-      let here = move_within a b s at old x start steps.0 before d X olds some h.0 in
-      (here, all_within ats (λ u k. these u (next_in at ats u k)) x.heads xs (heads_of d X) d Xs (heads_in_range a b s at old x start steps.0 h.0.model h.0.between) (lies_encloses a x.heads d X some here) some steps.1 h.1)
+      let start : IsBefore (two a b) at old = record { decks = decks; time = these at (first_in at ats); heads = grid } in
+      let m = h.0.model in
+      let cells = between_cells a m b h.0.between in
+      let move = step_encloses (two a b) s at old kind x start steps.0 m h.0.between before d X (record { within = encloses_member a m cells old before olds; some = some; solves = h.0.solves }) in
+      let here = lies_in_first a m cells x.heads d X move.heads in
+      (here, all_within ats (λ u k. these u (next_in at ats u k)) x.heads xs (heads_of d X) d Xs (heads_fit (two a b) s at old kind x start steps.0) (lies_encloses a x.heads d X some here) some steps.1 h.1)
 
-pub histories_within : (a b : FlowModel) (s : ℕ) (start : List Bound) (xs : List Solved) → AreModels a b → EncloseStarts a b start → AreHullSteps a b s start (times a) xs → (d : ℕ) (Xs : List (ℕ → ℤ)) → SolvesBetween a b d Xs → LieWithin a d xs Xs
-histories_within a b s start xs models starts steps d Xs h =
-    all_within a b s models (times a) (λ at k. k) start xs (start_head h.first) d Xs starts.heads (start_within a h.first b start h.between starts) h.some steps h.steps
+pub histories_within : StartHeadsFit → StartHeadsEnclose → StepEncloses → HeadsFit → HistoriesLieWithin
+histories_within starts_fit starts_enclose step_encloses heads_fit a b s kind xs all d Xs h =
+    let olds = starts_enclose (two a b) all.start all.decks all.is_start h.first h.between in
+    all_within step_encloses heads_fit a b s kind all.decks (times a) (λ at k. k) all.start xs (start_head h.first) d Xs (starts_fit (two a b) all.start all.decks all.is_start)
+    (encloses_first a h.first (between_cells a h.first b h.between) all.start (start_head h.first) olds) h.some all.steps h.steps

@@ -1,6 +1,1 @@
-mod Common
-pub mod Times
-pub mod HullProblems
-pub mod HullRange
-pub mod Moves
 pub mod Histories

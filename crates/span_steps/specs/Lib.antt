@@ -1,4 +1,2 @@
-pub mod HullSteps
-pub mod HullHeads
-pub mod Within
+pub mod Steps
 pub mod Laws

@@ -1,22 +1,14 @@
-// What the steps of two models enclose: every model between the two.
-ghost use Rattle.span_steps.specs.Laws.{HullProblemsEnclose, HullHeadsFit, MovesLieWithin, HistoriesLieWithin};
+// What all steps of two decks enclose.
+ghost use Rattle.span_steps.specs.Laws.{HistoriesLieWithin};
 
-/// The hull of two models' problems encloses the exact step of every model between.
-pub fn hull_problems_enclose()
-    ensures { HullProblemsEnclose }
-{}
+use deck_problems::laws::start_heads;
+use step_chain::laws::{heads_fit, steps_enclose};
 
-/// The heads of a hull step are in range.
-pub fn hull_heads_fit()
-    ensures { HullHeadsFit }
-{}
-
-/// Every solution of every model between, from exact heads within the old ones, lies within the new ones.
-pub fn moves_lie_within()
-    ensures { MovesLieWithin }
-{}
-
-/// Every history between two models lies within the heads of their steps.
+/// Every history between two decks lies within the heads of their steps.
 pub fn histories_lie_within()
     ensures { HistoriesLieWithin }
-{}
+{
+    start_heads();
+    steps_enclose();
+    heads_fit();
+}

@@ -1,6 +1,6 @@
-//! The time steps of two models at once, and what their heads enclose: every history of every model between the two.
+//! All time steps of two decks at once, and what their heads enclose: every history between the two.
 //!
-//! Nothing of this crate runs: its public functions are laws, each the contract of an empty function.
+//! Nothing of this crate runs: its public function is a law, the contract of a function that does nothing.
 #![tactic(auto)]
 
 pub mod laws;

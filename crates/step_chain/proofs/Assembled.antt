@@ -2,7 +2,7 @@
 use Rattle.step_chain.proofs.Common.{◌≡◌, ℕ, ◌<◌, inl, inr, true, false, List, length, get_or, sym, ap, ◌∙◌, subst, arith, ℤ, cases_Bool, and_parts}
 use Rattle.step_chain.proofs.Common.{false_from_ne_true, not-true, true≢false, get_or_default, get_or-map, length-map, Fraction, Bound, IsHead, no_bound}
 use Rattle.step_chain.proofs.Common.{lower_at, upper_at, AreWords, Entries, FlowModel, TimeStep, cell_count, is_active, is_variable, is_constant, index_of}
-use Rattle.step_chain.proofs.Common.{variable_cells, exact_step, IsConstantPair, AreGridHeads, bound_at, AreHeadsOf}
+use Rattle.step_chain.proofs.Common.{variable_cells, exact_step, Decks, IsConstantPairFor, AreGridHeads, bound_at, AreHeadsOf}
 use Rattle.std.specs.Prelude.{◌&&◌, not}
 use Rattle.std.proofs.lemmas.Int.{ints}
 use Rattle.cell_balance.specs.Steps.{ExactCell, cell_at, no_cell}
@@ -51,19 +51,19 @@ AreHeads b = IsHead b.low × IsHead b.high
 none_fits : AreHeads no_bound
 none_fits = (record { above = omega (arith, ints); below = omega (arith, ints) }, record { above = omega (arith, ints); below = omega (arith, ints) })
 
-module _ (m : FlowModel) (at : TimeStep) (p : List Entries) (bounds heads : List Bound) (are : AreHeadsOf m at bounds heads) (words : AreWords p bounds) (many : length p ≡ length (variable_cells m at.period))
-    (fit : (c : ℕ) (lo hi : ℤ) → c < cell_count m.grid → is_constant m at.period c ≡ true → IsConstantPair m at c lo hi → IsHead lo × IsHead hi) where
-  each_fits : (c : ℕ) → c < cell_count m.grid → AreHeads (bound_at heads c)
-  each_fits c lt = elim (cases_Bool (is_variable m at.period c)) [
-    | inl v ↦ (let inside : index_of m at.period c < length p = omega (arith, many, index_below m at.period c v lt) in
-        subst AreHeads (sym (are.variable c lt v)) (words.low (index_of m at.period c) inside, words.high (index_of m at.period c) inside))
-    | inr v ↦ (elim (cases_Bool (is_active m c)) [
-      | inl a ↦ (let k = active_constant m at.period c a v in fit c (lower_at heads c) (upper_at heads c) lt k (are.constant c lt k))
+module _ (d : Decks) (at : TimeStep) (p : List Entries) (bounds heads : List Bound) (are : AreHeadsOf d at bounds heads) (words : AreWords p bounds) (many : length p ≡ length (variable_cells d.first at.period))
+    (fit : (c : ℕ) (lo hi : ℤ) → c < cell_count d.first.grid → is_constant d.first at.period c ≡ true → IsConstantPairFor d at c lo hi → IsHead lo × IsHead hi) where
+  each_fits : (c : ℕ) → c < cell_count d.first.grid → AreHeads (bound_at heads c)
+  each_fits c lt = elim (cases_Bool (is_variable d.first at.period c)) [
+    | inl v ↦ (let inside : index_of d.first at.period c < length p = omega (arith, many, index_below d.first at.period c v lt) in
+        subst AreHeads (sym (are.variable c lt v)) (words.low (index_of d.first at.period c) inside, words.high (index_of d.first at.period c) inside))
+    | inr v ↦ (elim (cases_Bool (is_active d.first c)) [
+      | inl a ↦ (let k = active_constant d.first at.period c a v in fit c (lower_at heads c) (upper_at heads c) lt k (are.constant c lt k))
       | inr a ↦ subst AreHeads (sym (are.no_flow c lt a)) none_fits
     ])
   ]
 
-  pub heads_in_range : AreGridHeads m heads
+  pub heads_in_range : AreGridHeads d.first heads
   heads_in_range = record {
     whole = are.whole;
     range = λ k b lt. subst AreHeads (get_or_default heads k no_bound b lt) (each_fits k (omega (arith, lt, are.whole)));

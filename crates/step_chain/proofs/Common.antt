@@ -1,27 +1,33 @@
 -- Names that several proofs of this crate cite, of the crates below and of its own definitions, passed on from one place. Declares nothing.
-pub use Rattle.std.proofs.Common.{Bool, Contains, Err, List, [], ap, arith, cond, false, get_or, inl, inr, length, pos, refl, set, subst, suc, sym, true, ℕ, ℤ}
-pub use Rattle.std.proofs.Common.{◌*ℤ◌, ◌+◌, ◌<◌, ◌^◌, ◌∙◌, ◌∷◌, ◌≡◌, ◌≤ℤ◌, ◌≤◌}
+pub use Rattle.std.proofs.Common.{Bool, Err, List, [], ap, arith, cond, false, get_or, inl, inr, length, pos, refl, set, subst, suc, sym, true, ℕ, ℤ, ◌*ℤ◌, ◌+◌}
+pub use Rattle.std.proofs.Common.{◌<◌, ◌^◌, ◌∙◌, ◌∷◌, ◌≡◌, ◌≤ℤ◌, ◌≤◌}
 pub use Rattle.std.proofs.lemmas.Bool.{and_parts, cases_Bool, cases_order, false_from_ne_true, not-true, true≢false}
 pub use Rattle.std.proofs.lemmas.List.{get_or-map, get_or-set_other, get_or-set_same, get_or_default, length-map, length-set}
+pub use Rattle.barrier_vector.proofs.Enclosing.{encloses_all, held_all}
 pub use Rattle.barrier_vector.specs.Barriers.{BarrierExcludesRefusal, BarrierIsOne, IsBarrierOf}
 pub use Rattle.barrier_vector.specs.Refusals.{IsFault, IsRefused}
-pub use Rattle.cell_balance.proofs.Zips.{AllZip-length}
-pub use Rattle.cell_balance.specs.Enclosures.{CellEncloses, EnclosesStep}
-pub use Rattle.cell_balance.specs.SolutionBounds.{EnclosesSolutions}
 pub use Rattle.cell_relax.specs.Words.{AreWords}
+pub use Rattle.certificate_check.specs.Laws.{SettledPairEncloses}
 pub use Rattle.decimal_input.specs.Fractions.{Fraction}
+pub use Rattle.deck_problems.proofs.Members.{HasCellsOf, constant_same, each_member, member_cells, of_member}
+pub use Rattle.deck_problems.specs.ConstantHeads.{AreConstantHeadsFor, HasConstantHeadFor, IsConstantPairFor}
+pub use Rattle.deck_problems.specs.Laws.{ConstantPairEncloses, ConstantPairFits, ConstantPairIsOne, IsBefore, ProblemEncloses, ProblemExcludesRefusal}
+pub use Rattle.deck_problems.specs.Laws.{ProblemFits, ProblemIsOne}
+pub use Rattle.deck_problems.specs.Made.{EnclosesSteps}
+pub use Rattle.deck_problems.specs.Problems.{IsProblemFor}
+pub use Rattle.deck_problems.specs.declared.decks.Decks.{Decks}
 pub use Rattle.flow_equations.specs.ExactStep.{exact_step}
 pub use Rattle.flow_equations.specs.Histories.{variable_heads}
 pub use Rattle.model_types.specs.Cells.{cell_count}
-pub use Rattle.model_types.specs.Kinds.{given_heads, index_of, is_constant, is_variable, kind_of, variable_below, variable_cells}
+pub use Rattle.model_types.specs.Kinds.{index_of, is_constant, is_variable, kind_of, variable_cells}
 pub use Rattle.model_types.specs.Layers.{is_active}
 pub use Rattle.model_types.specs.declared.model.FlowModel.{FlowModel}
 pub use Rattle.model_types.specs.declared.time_steps.TimeStep.{TimeStep}
-pub use Rattle.problem_builder.specs.ConstantHeads.{AreConstantHeads, HasConstantHead, IsConstantPair}
-pub use Rattle.problem_builder.specs.GridHeads.{AreGridHeads, HeadsEnclose, IsActive}
-pub use Rattle.problem_builder.specs.Laws.{ConstantPairEncloses, ConstantPairFits, ConstantPairIsOne, ProblemExcludesRefusal, ProblemFits, ProblemIsOne}
-pub use Rattle.problem_builder.specs.Problems.{IsProblemOf}
+pub use Rattle.problem_builder.specs.GridHeads.{AreGridHeads, IsActive}
+pub use Rattle.step_chain.specs.Enclosing.{EnclosesMove, EnclosesMoves, IsMove, LieBetween}
 pub use Rattle.step_chain.specs.GridHeads.{AreHeadsOf, bound_at}
+pub use Rattle.step_chain.specs.Laws.{HeadsFit, RefusalIsOne, StepEncloses, StepExcludesRefusal, StepIsOne}
+pub use Rattle.step_chain.specs.Pairs.PairKind.{certified, settled}
 pub use Rattle.step_chain.specs.declared.solved.Solved.{Solved}
 pub use Rattle.step_problem.specs.Conditions.{IsHead, IsProblem}
 pub use Rattle.step_problem.specs.Entries.{Entries}

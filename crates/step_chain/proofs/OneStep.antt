@@ -1,14 +1,14 @@
 -- A time has one step, or one refusal, from the heads before it.
 use Rattle.step_chain.proofs.Common.{◌≡◌, ℕ, suc, ◌<◌, inl, inr, List, [], ◌∷◌, length, sym, ap, ◌∙◌, subst, refl, arith, ℤ, cases_Bool, Bound, IsProblem}
-use Rattle.step_chain.proofs.Common.{Entries, Edges, lower_at, upper_at, SettledPairIsOne, AreSettled, AllZip-length, IsBarrierOf, BarrierIsOne}
-use Rattle.step_chain.proofs.Common.{BarrierExcludesRefusal, IsRefused, FlowModel, TimeStep, cell_count, is_active, is_variable, variable_below, ProblemIsOne}
-use Rattle.step_chain.proofs.Common.{ProblemExcludesRefusal, ProblemFits, ConstantPairIsOne, ConstantPairFits, Solved, bound_at, AreHeadsOf}
+use Rattle.step_chain.proofs.Common.{Entries, Edges, lower_at, upper_at, SettledPairIsOne, AreSettled, IsBarrierOf, BarrierIsOne, BarrierExcludesRefusal}
+use Rattle.step_chain.proofs.Common.{IsRefused, TimeStep, cell_count, is_active, is_variable, Decks, IsBefore, ProblemIsOne, ProblemExcludesRefusal}
+use Rattle.step_chain.proofs.Common.{ProblemFits, ConstantPairIsOne, ConstantPairFits, Solved, bound_at, AreHeadsOf, StepIsOne, StepExcludesRefusal}
+use Rattle.step_chain.proofs.Common.{RefusalIsOne, HeadsFit}
 use Rattle.barrier_vector.specs.Barriers.{RefusalIsOne as BarrierRefusalIsOne}
-use Rattle.problem_builder.specs.Cells.{IsCellOf}
-use Rattle.problem_builder.specs.Laws.{RefusalIsOne as ProblemRefusalIsOne}
-use Rattle.step_chain.specs.Laws.{IsBefore, StepIsOne, StepExcludesRefusal, RefusalIsOne, HeadsFit}
+use Rattle.deck_problems.specs.Laws.{RefusalIsOne as ProblemRefusalIsOne}
+use Rattle.deck_problems.proofs.Counted.{problem_count}
 use Rattle.step_chain.proofs.Assembled.{active_constant, heads_in_range}
-use Rattle.step_chain.proofs.Following.{settled_words}
+use Rattle.step_chain.proofs.Following.{pair_words}
 
 pub same_bounds : (xs ys : List Bound) → length xs ≡ length ys → ((c : ℕ) → c < length xs → bound_at xs c ≡ bound_at ys c) → xs ≡ ys
 same_bounds [] [] whole same = refl
@@ -25,15 +25,15 @@ same_bound a b (low, high) =
     ap by_low low ∙ ap by_high high
 
 -- the heads of all cells are one list
-heads_one : ConstantPairIsOne → (m : FlowModel) (at : TimeStep) (old bounds xs ys : List Bound) → IsBefore m at old → AreHeadsOf m at bounds xs → AreHeadsOf m at bounds ys → xs ≡ ys
-heads_one pair_one m at old bounds xs ys b x y =
+heads_one : ConstantPairIsOne → (d : Decks) (at : TimeStep) (old bounds xs ys : List Bound) → IsBefore d at old → AreHeadsOf d at bounds xs → AreHeadsOf d at bounds ys → xs ≡ ys
+heads_one pair_one d at old bounds xs ys b x y =
     same_bounds xs ys (x.whole ∙ sym y.whole) (λ c within.
-    let lt : c < cell_count m.grid = omega (arith, within, x.whole) in
-    elim (cases_Bool (is_variable m at.period c)) [
+    let lt : c < cell_count d.first.grid = omega (arith, within, x.whole) in
+    elim (cases_Bool (is_variable d.first at.period c)) [
       | inl v ↦ x.variable c lt v ∙ sym (y.variable c lt v)
-      | inr v ↦ (elim (cases_Bool (is_active m c)) [
-        | inl a ↦ (let k = active_constant m at.period c a v in
-            same_bound (bound_at xs c) (bound_at ys c) (pair_one m at c (lower_at xs c) (upper_at xs c) (lower_at ys c) (upper_at ys c) b.model b.time lt k (x.constant c lt k) (y.constant c lt k)))
+      | inr v ↦ (elim (cases_Bool (is_active d.first c)) [
+        | inl a ↦ (let k = active_constant d.first at.period c a v in
+            same_bound (bound_at xs c) (bound_at ys c) (pair_one d at c (lower_at xs c) (upper_at xs c) (lower_at ys c) (upper_at ys c) (record { decks = b.decks; time = b.time; within = lt; constant = k }) (x.constant c lt k) (y.constant c lt k)))
         | inr a ↦ x.no_flow c lt a ∙ sym (y.no_flow c lt a)
       ])
     ])
@@ -49,36 +49,35 @@ settled_one barrier_one pair_one p b c xs ys fits x y first second =
     same_bound (bound_at xs k) (bound_at ys k) (low, high))
 
 pub steps_one : ProblemIsOne → ProblemFits → ConstantPairIsOne → BarrierIsOne → SettledPairIsOne → StepIsOne
-steps_one problem_one problem_fits pair_one barrier_one settled_pair_one m s at old x y b h k =
-    let problems : x.problem ≡ y.problem = problem_one m s at old x.problem y.problem b.model b.time h.posed.problem k.posed.problem in
+steps_one problem_one problem_fits pair_one barrier_one settled_pair_one d s at old x y b h k =
+    let problems : x.problem ≡ y.problem = problem_one d s at old x.problem y.problem b h.posed.problem k.posed.problem in
     let B : List Entries → Type 0 = λ p. IsBarrierOf p k.barrier in
     let S : List Entries → Type 0 = λ p. AreSettled p k.barrier y.bounds in
-    let H : List Bound → Type 0 = λ bs. AreHeadsOf m at bs y.heads in
-    let fits = problem_fits m s at old x.problem b.model b.time b.heads h.posed.problem in
-    let bounds : x.bounds ≡ y.bounds = settled_one barrier_one settled_pair_one x.problem h.barrier k.barrier x.bounds y.bounds fits h.posed.barrier (subst B (sym problems) k.posed.barrier) h.settled (subst S (sym problems) k.settled) in
-    let heads : x.heads ≡ y.heads = heads_one pair_one m at old x.bounds x.heads y.heads b h.heads (subst H (sym bounds) k.heads) in
+    let H : List Bound → Type 0 = λ bs. AreHeadsOf d at bs y.heads in
+    let fits = problem_fits d s at old x.problem b h.posed.problem in
+    let bounds : x.bounds ≡ y.bounds = settled_one barrier_one settled_pair_one x.problem h.barrier k.barrier x.bounds y.bounds fits h.posed.barrier (subst B (sym problems) k.posed.barrier) h.pair (subst S (sym problems) k.pair) in
+    let heads : x.heads ≡ y.heads = heads_one pair_one d at old x.bounds x.heads y.heads b h.heads (subst H (sym bounds) k.heads) in
     let by_problem : List Entries → Solved = λ p. record { problem = p; bounds = x.bounds; heads = x.heads } in
     let by_bounds : List Bound → Solved = λ bs. record { problem = y.problem; bounds = bs; heads = x.heads } in
     let by_heads : List Bound → Solved = λ hs. record { problem = y.problem; bounds = y.bounds; heads = hs } in
     ap by_problem problems ∙ ap by_bounds bounds ∙ ap by_heads heads
 
 pub step_excludes : ProblemIsOne → ProblemFits → ProblemExcludesRefusal → BarrierExcludesRefusal → StepExcludesRefusal
-step_excludes problem_one problem_fits problem_excludes barrier_excludes m s at old x n b h (inl none) = problem_excludes m s at old x.problem n b.model b.time h.posed.problem none
-step_excludes problem_one problem_fits problem_excludes barrier_excludes m s at old x n b h (inr (p, is, refused)) =
+step_excludes problem_one problem_fits problem_excludes barrier_excludes d s at old kind x n b h (inl none) = problem_excludes d s at old x.problem n b h.posed.problem none
+step_excludes problem_one problem_fits problem_excludes barrier_excludes d s at old kind x n b h (inr (p, is, refused)) =
     let R : List Entries → Type 0 = λ p. IsRefused p n in
-    let same = problem_one m s at old p x.problem b.model b.time is h.posed.problem in
-    barrier_excludes x.problem h.barrier n (problem_fits m s at old x.problem b.model b.time b.heads h.posed.problem) h.posed.barrier (subst R same refused)
+    let same = problem_one d s at old p x.problem b is h.posed.problem in
+    barrier_excludes x.problem h.barrier n (problem_fits d s at old x.problem b h.posed.problem) h.posed.barrier (subst R same refused)
 
 pub refusals_one : ProblemIsOne → ProblemExcludesRefusal → ProblemRefusalIsOne → BarrierRefusalIsOne → RefusalIsOne
-refusals_one problem_one problem_excludes of_problem of_barrier m s at old a b before (inl x) (inl y) = of_problem m s at old a b before.model before.time x y
-refusals_one problem_one problem_excludes of_problem of_barrier m s at old a b before (inl x) (inr (p, is, y)) = absurd (problem_excludes m s at old p a before.model before.time is x)
-refusals_one problem_one problem_excludes of_problem of_barrier m s at old a b before (inr (p, is, x)) (inl y) = absurd (problem_excludes m s at old p b before.model before.time is y)
-refusals_one problem_one problem_excludes of_problem of_barrier m s at old a b before (inr (p, is, x)) (inr (q, also, y)) =
+refusals_one problem_one problem_excludes of_problem of_barrier d s at old a b before (inl x) (inl y) = of_problem d s at old a b before x y
+refusals_one problem_one problem_excludes of_problem of_barrier d s at old a b before (inl x) (inr (p, is, y)) = absurd (problem_excludes d s at old p a before is x)
+refusals_one problem_one problem_excludes of_problem of_barrier d s at old a b before (inr (p, is, x)) (inl y) = absurd (problem_excludes d s at old p b before is y)
+refusals_one problem_one problem_excludes of_problem of_barrier d s at old a b before (inr (p, is, x)) (inr (q, also, y)) =
     let R : List Entries → Type 0 = λ p. IsRefused p b in
-    of_barrier p a b x (subst R (sym (problem_one m s at old p q before.model before.time is also)) y)
+    of_barrier p a b x (subst R (sym (problem_one d s at old p q before is also)) y)
 
 pub all_fit : ConstantPairFits → HeadsFit
-all_fit pair_fits m s at old x b h =
-    heads_in_range m at x.problem x.bounds x.heads h.heads (settled_words x.problem h.barrier x.bounds h.settled)
-    (AllZip-length (IsCellOf m h.posed.problem.widths s at old) x.problem (variable_below m at.period (cell_count m.grid)) h.posed.problem.cells.each)
-    (λ c lo hi lt k pair. pair_fits m at c lo hi b.model b.time lt k pair)
+all_fit pair_fits d s at old kind x b h =
+    heads_in_range d at x.problem x.bounds x.heads h.heads (pair_words kind x.problem h.barrier x.bounds h.pair) (problem_count d s at old x.problem h.posed.problem)
+    (λ c lo hi lt k pair. pair_fits d at c lo hi (record { decks = b.decks; time = b.time; within = lt; constant = k }) pair)

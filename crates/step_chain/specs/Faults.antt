@@ -8,7 +8,7 @@ use Rattle.step_problem.specs.Heads.{Edges, OpenHeads}
 use Rattle.step_problem.specs.Settling.{IsUnfinished}
 use Rattle.barrier_vector.specs.declared.BarrierFault.{BarrierFault}
 use Rattle.barrier_vector.specs.declared.BarrierFault.TheVariants as barrier
-use Rattle.model_types.specs.declared.model.FlowModel.{FlowModel}
+use Rattle.deck_problems.specs.declared.decks.Decks.{Decks}
 use Rattle.model_types.specs.declared.time_steps.TimeStep.{TimeStep}
 use Rattle.problem_builder.specs.declared.fault.BuildFault.{BuildFault}
 use Rattle.problem_builder.specs.declared.fault.BuildFault.TheVariants as build
@@ -17,17 +17,17 @@ use Rattle.step_chain.specs.declared.solved.StepFault.TheVariants as fault
 use Rattle.step_chain.specs.Steps.{IsPosed, HasNoHeads}
 
 -- a settler with this many rounds gave up, and these don't settle the step
-pub record IsOpenStep (m : FlowModel) (s : ℕ) (at : TimeStep) (old : List Bound) (rounds : ℕ) (o : OpenHeads) : Type 0 where
+pub record IsOpenStep (d : Decks) (s : ℕ) (at : TimeStep) (old : List Bound) (rounds : ℕ) (o : OpenHeads) : Type 0 where
   pub problem : List Entries
   pub barrier : Edges
-  pub posed : IsPosed m s at old problem barrier
+  pub posed : IsPosed d s at old problem barrier
   pub unfinished : IsUnfinished problem barrier rounds o
 
 -- lack of memory is possible at any time
-abbrev pub FailsBy : FlowModel → ℕ → TimeStep → List Bound → ℕ → StepFault → Type 0
-FailsBy m s at old rounds (fault.NoBound n) = HasNoHeads m s at old n
-FailsBy m s at old rounds (fault.Unfinished o) = IsOpenStep m s at old rounds o
-FailsBy m s at old rounds fault.Memory = Unit {0}
+abbrev pub FailsBy : Decks → ℕ → TimeStep → List Bound → ℕ → StepFault → Type 0
+FailsBy d s at old rounds (fault.NoBound n) = HasNoHeads d s at old n
+FailsBy d s at old rounds (fault.Unfinished o) = IsOpenStep d s at old rounds o
+FailsBy d s at old rounds fault.Memory = Unit {0}
 
 -- the fault of a step by that of its builder, its barrier, its settler
 abbrev pub of_build : BuildFault → StepFault

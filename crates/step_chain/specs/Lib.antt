@@ -1,7 +1,7 @@
 pub mod GridHeads
+pub mod Pairs
 pub mod Steps
 pub mod Enclosing
 pub mod Faults
 pub mod Leads
-pub mod Keeps
 pub mod Laws

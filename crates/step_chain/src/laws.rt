@@ -1,10 +1,11 @@
-// Laws of a model's steps. Each is the contract of an empty function, but for the laws below that it calls.
-ghost use Rattle.step_chain.specs.Laws.{StepIsOne, StepExcludesRefusal, RefusalIsOne, HeadsFit};
+// Laws of the steps of decks. Each is the contract of an empty function, but for the laws below that it calls.
+ghost use Rattle.step_chain.specs.Laws.{StepIsOne, StepExcludesRefusal, RefusalIsOne, HeadsFit, StepEncloses};
 
 use barrier_vector::laws::{
     no_barrier_beside_a_refusal, one_barrier, one_refusal as one_refusal_of_a_barrier,
 };
-use problem_builder::laws::{
+use certificate_check::laws::settled_pair_encloses;
+use deck_problems::laws::{
     constant_pairs, no_problem_beside_a_refusal, one_problem,
     one_refusal as one_refusal_of_a_problem, problems_fit,
 };
@@ -46,4 +47,13 @@ pub fn heads_fit()
     ensures { HeadsFit }
 {
     constant_pairs();
+}
+
+/// From all exact heads within the old ones, every solution of each member lies within the heads of a step.
+pub fn steps_enclose()
+    ensures { StepEncloses }
+{
+    problems_fit();
+    constant_pairs();
+    settled_pair_encloses();
 }

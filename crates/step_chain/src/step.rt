@@ -1,24 +1,22 @@
-// The next step of a model.
+// The next step of one deck, or of two.
 ghost use Rattle.std.specs.Prelude.{◌≡◌, ◌≤◌, ℕ, Contains, IfOk, IfErr, MatchResult, true};
 ghost use Rattle.cell_relax.specs.Words.{AreWords};
-ghost use Rattle.model_types.specs.Times.{times, period_at};
-ghost use Rattle.model_types.specs.Valid.{IsModel};
+ghost use Rattle.model_types.specs.Times.{times};
 ghost use Rattle.problem_builder.specs.GridHeads.{AreGridHeads, IsActive, IsNamed};
-ghost use Rattle.step_chain.specs.Keeps.{AreRunTables, digits_of};
+ghost use Rattle.deck_problems.specs.Decks.{AreDecks, EachMember};
+ghost use Rattle.deck_problems.specs.Kept.{AreDeckTables, digits_of};
 ghost use Rattle.step_chain.specs.Steps.{IsSettledStep};
 ghost use Rattle.step_chain.specs.Faults.{FailsBy};
 ghost use Rattle.step_chain.specs.Leads.{LeadsBy, LeadsOrRests};
 ghost use Rattle.step_chain.specs.Enclosing.{EnclosesMoves};
 
 use crate::heads::fill_in;
-use crate::kept::RunTables;
-use crate::laws::heads_fit;
+use crate::laws::{heads_fit, steps_enclose};
 use crate::solved::{Solved, StepFault};
 use barrier_vector::barrier;
 use certificate_check::laws::settled_pair_encloses;
-use model_types::{FlowModel, Listed, TimeStep};
-use problem_builder::laws::constant_pairs;
-use problem_builder::{StepTables, build_with};
+use deck_problems::{DeckTables, Decks, problem_for};
+use model_types::{Listed, TimeStep};
 use std::alloc::Global;
 use step_problem::laws::settled_pair;
 use step_problem::{Bound, Settler};
@@ -27,49 +25,52 @@ use step_problem::{Bound, Settler};
 /// of the run, and move to the step's period.
 pub fn next_step_with<S: Settler>(
     alloc: Global,
-    model: &FlowModel,
-    tables: &mut RunTables,
+    decks: &Decks,
+    tables: &mut DeckTables,
     at: TimeStep,
     old: &[Bound],
     settler: &mut S,
 ) -> Result<Solved, StepFault>
     requires ready { S.ready settler.old }
-    requires model { IsModel model.now }
-    requires time { Contains (times model.now) at }
-    requires old { AreGridHeads model.now old.now }
-    requires digits { digits_of tables.old ≤ 18 }
-    requires tables { AreRunTables model.now tables.old }
+    requires decks { AreDecks decks.now }
+    requires time { Contains (times decks.now.first) at }
+    requires old { AreGridHeads decks.now.first old.now }
+    requires digits { digits_of tables.old.first ≤ 18 }
+    requires tables { AreDeckTables decks.now (digits_of tables.old.first) tables.old }
     ensures rounds { S.rounds settler.new ≡ S.rounds settler.old }
     ensures ready { S.ready settler.new }
-    ensures digits { digits_of tables.new ≡ digits_of tables.old }
-    ensures tables { AreRunTables model.now tables.new }
+    ensures tables { AreDeckTables decks.now (digits_of tables.old.first) tables.new }
     // The problem from the old heads, the settled pair between its barrier, and the heads of all cells.
-    ensures step { IfOk result (IsSettledStep model.now (digits_of tables.old) at old.now) }
-    ensures fault { IfErr result (FailsBy model.now (digits_of tables.old) at old.now (S.rounds settler.old)) }
+    ensures step { IfOk result (IsSettledStep decks.now (digits_of tables.old.first) at old.now) }
+    ensures fault { IfErr result (FailsBy decks.now (digits_of tables.old.first) at old.now (S.rounds settler.old)) }
     // What `budget` and the flows between zones require.
     ensures words { IfOk result (λ r. AreWords r.problem r.bounds) }
-    ensures heads { IfOk result (λ r. AreGridHeads model.now r.heads) }
-    ensures named { IfOk result (λ r. (c : ℕ) → IsNamed r.problem c → IsActive model.now c) }
-    // From all exact heads within the old ones, every solution of the exact step lies within the new ones.
-    ensures encloses { IfOk result (EnclosesMoves model.now (digits_of tables.old) at old.now) }
-    // Whatever the settler did, every solution of the step lies between the settled pair of the problem that it was given.
+    ensures heads { IfOk result (λ r. AreGridHeads decks.now.first r.heads) }
+    ensures named { IfOk result (λ r. (c : ℕ) → IsNamed r.problem c → IsActive decks.now.first c) }
+    // From all exact heads within the old ones, every solution of the exact step of each member lies within the new ones.
+    ensures encloses { IfOk result (λ x. EachMember decks.now (λ m. EnclosesMoves m (digits_of tables.old.first) at old.now x)) }
+    // Whatever the settler did, every solution of the step of each member lies between the settled pair of the problem that it was given.
     ensures leads { MatchResult result
-        (λ r. LeadsBy S.leads model.now at old.now r.problem true settler.old settler.new)
-        (λ _. LeadsOrRests S.leads model.now (digits_of tables.old) at old.now settler.old settler.new) }
+        (λ r. LeadsBy S.leads decks.now at old.now r.problem true settler.old settler.new)
+        (λ _. LeadsOrRests S.leads decks.now (digits_of tables.old.first) at old.now settler.old settler.new) }
 {
-    tables.go_to(alloc, model, at.period)?;
-    let step = StepTables::new(alloc, model, &tables.period, at)?;
-    let problem = build_with(alloc, model, &tables.tables, &tables.period, &step, at, old)?;
-    let barrier = barrier(alloc, &problem)?;
+    let posed = problem_for(alloc, decks, tables, at, old)?;
+    let barrier = barrier(alloc, &posed.problem)?;
     settled_pair();
     settled_pair_encloses();
-    problem.recall_conditions();
-    let bounds = Listed::new(settler.settle(alloc, &problem, &barrier)?);
-    let heads = fill_in(model, &tables.period, at, step.heads, bounds.as_slice());
-    constant_pairs();
+    posed.problem.recall_conditions();
+    let bounds = Listed::new(settler.settle(alloc, &posed.problem, &barrier)?);
+    let heads = fill_in(
+        decks,
+        &tables.first.period,
+        at,
+        posed.constant_heads,
+        bounds.as_slice(),
+    );
+    steps_enclose();
     heads_fit();
     Ok(Solved {
-        problem,
+        problem: posed.problem,
         bounds,
         heads,
     })
@@ -79,29 +80,29 @@ pub fn next_step_with<S: Settler>(
 /// anew; `next_step_with` takes tables that are kept for a run.
 pub fn next_step<S: Settler>(
     alloc: Global,
-    model: &FlowModel,
+    decks: &Decks,
     at: TimeStep,
     old: &[Bound],
     s: u32,
     settler: &mut S,
 ) -> Result<Solved, StepFault>
     requires ready { S.ready settler.old }
-    requires model { IsModel model.now }
-    requires time { Contains (times model.now) at }
-    requires old { AreGridHeads model.now old.now }
+    requires decks { AreDecks decks.now }
+    requires time { Contains (times decks.now.first) at }
+    requires old { AreGridHeads decks.now.first old.now }
     requires digits { s ≤ 18 }
     ensures rounds { S.rounds settler.new ≡ S.rounds settler.old }
     ensures ready { S.ready settler.new }
-    ensures step { IfOk result (IsSettledStep model.now s at old.now) }
-    ensures fault { IfErr result (FailsBy model.now s at old.now (S.rounds settler.old)) }
+    ensures step { IfOk result (IsSettledStep decks.now s at old.now) }
+    ensures fault { IfErr result (FailsBy decks.now s at old.now (S.rounds settler.old)) }
     ensures words { IfOk result (λ r. AreWords r.problem r.bounds) }
-    ensures heads { IfOk result (λ r. AreGridHeads model.now r.heads) }
-    ensures named { IfOk result (λ r. (c : ℕ) → IsNamed r.problem c → IsActive model.now c) }
-    ensures encloses { IfOk result (EnclosesMoves model.now s at old.now) }
+    ensures heads { IfOk result (λ r. AreGridHeads decks.now.first r.heads) }
+    ensures named { IfOk result (λ r. (c : ℕ) → IsNamed r.problem c → IsActive decks.now.first c) }
+    ensures encloses { IfOk result (λ x. EachMember decks.now (λ m. EnclosesMoves m s at old.now x)) }
     ensures leads { MatchResult result
-        (λ r. LeadsBy S.leads model.now at old.now r.problem true settler.old settler.new)
-        (λ _. LeadsOrRests S.leads model.now s at old.now settler.old settler.new) }
+        (λ r. LeadsBy S.leads decks.now at old.now r.problem true settler.old settler.new)
+        (λ _. LeadsOrRests S.leads decks.now s at old.now settler.old settler.new) }
 {
-    let mut tables = RunTables::new(alloc, model, s)?;
-    next_step_with(alloc, model, &mut tables, at, old, settler)
+    let mut tables = DeckTables::new(alloc, decks, s)?;
+    next_step_with(alloc, decks, &mut tables, at, old, settler)
 }

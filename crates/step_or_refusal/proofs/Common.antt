@@ -1,6 +1,7 @@
 -- Names that several proofs of this crate cite, of the crates below and of its own definitions, passed on from one place. Declares nothing.
 pub use Rattle.std.proofs.Common.{Bool, Err, List, None, Ok, Option, Result, Some, [], ap, arith, false, inl, inr, length, map, refl, subst, sym, true, ℕ, ℤ}
 pub use Rattle.std.proofs.Common.{◌<◌, ◌∙◌, ◌∷◌, ◌≡◌, ◌⊎◌}
+pub use Rattle.deck_problems.specs.Decks.{one_deck}
 pub use Rattle.model_types.specs.declared.model.FlowModel.{FlowModel}
 pub use Rattle.model_types.specs.declared.time_steps.TimeStep.{TimeStep}
 pub use Rattle.problem_builder.specs.Laws.{ProblemFits, StartHeadsFit}

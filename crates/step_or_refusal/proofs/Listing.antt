@@ -1,13 +1,15 @@
 -- A model has a whole listing, or a first refusal at one of its times.
 use Rattle.step_or_refusal.proofs.Common.{◌≡◌, ℕ, ◌⊎◌, inl, inr, Option, None, Some, Ok, Err, Result, List, [], ◌∷◌, refl, sym, subst, Bound, lower_at}
-use Rattle.step_or_refusal.proofs.Common.{upper_at, FlowModel, TimeStep, StartHeadsFit, StartHeadsExist, StepOrRefusal, ListingOrRefusal}
+use Rattle.step_or_refusal.proofs.Common.{upper_at, FlowModel, TimeStep, StartHeadsFit, StartHeadsExist, one_deck, StepOrRefusal, ListingOrRefusal}
 use Rattle.step_problem.specs.declared.place.NoBound.{NoBound}
 use Rattle.step_problem.specs.declared.place.ZoneFlow.{ZoneFlow}
 use Rattle.model_types.specs.Times.{times}
 use Rattle.model_types.specs.Valid.{IsModel}
 use Rattle.problem_builder.specs.GridHeads.{AreGridHeads}
+use Rattle.deck_problems.specs.Laws.{IsBefore}
 use Rattle.step_chain.specs.declared.solved.Solved.{Solved}
-use Rattle.step_chain.specs.Laws.{IsBefore, HeadsFit}
+use Rattle.step_chain.specs.Laws.{HeadsFit}
+use Rattle.step_chain.specs.Pairs.PairKind.{settled as settled_kind}
 use Rattle.step_chain.specs.Steps.{IsSettledStep}
 use Rattle.zone_flows.specs.TableFlows.{listed_flows}
 use Rattle.zone_flows.specs.Tables.{with_faces}
@@ -16,6 +18,7 @@ use Rattle.zone_flows.proofs.Meaning.{are_flows, is_first}
 use Rattle.listing_run.specs.declared.step.Step.{Step}
 use Rattle.listing_run.specs.declared.task.Task.{Task}
 use Rattle.listing_run.specs.Steps.{budget_at, IsStep, HasNoBound, no_heads, no_budget, no_zones, Steps}
+use Rattle.listing_run.specs.Tasks.{one_task}
 use Rattle.zone_pairs.specs.Zones.{AreZones}
 use Rattle.listing_run.specs.Zones.{AreFlowsAt, HasLargeFlow, faces_at}
 use Rattle.listing_run.proofs.Unique.{IsRest, rest_whole, rest_more, first_in}
@@ -36,30 +39,33 @@ flows_or_large m (Some zones) x zoned =
       | inr (n, e) ↦ inr (n, is_first fs fit n e)
     ]
 
-module _ (step : StepOrRefusal) (fits : HeadsFit) (k : Task) (valid : IsModel k.model) (zoned : AreZones k.model k.zones) where
+module _ (step : StepOrRefusal) (fits : HeadsFit) (m : FlowModel) (s : ℕ) (zones : Option (List ℕ)) (rounds : ℕ) (valid : IsModel m) (zoned : AreZones m zones) where
+  abbrev task : Task
+  task = one_task m s zones rounds
+
   -- a step of the listing from a settled one, or its refusal
-  listed : (at : TimeStep) (old : List Bound) (x : Solved) → IsSettledStep k.model k.digits at old x → ((v : Step) × IsStep k at old v) ⊎ ((n : NoBound) × HasNoBound k at old n)
+  listed : (at : TimeStep) (old : List Bound) (x : Solved) → IsSettledStep (one_deck m) s at old x → ((v : Step) × IsStep task at old v) ⊎ ((n : NoBound) × HasNoBound task at old n)
   listed at old x settled =
       elim (ok_or_err (budget_at x)) [
         | inr (n, e) ↦ inr (n, no_budget x settled e)
-        | inl (b, e) ↦ elim (flows_or_large k.model k.zones x zoned) [
+        | inl (b, e) ↦ elim (flows_or_large m zones x zoned) [
           | inr (n, large) ↦ inr (n, no_zones x b settled e large)
           | inl (vs, flows) ↦ inl (record { at = at; heads = x.heads; budget = b; zones = vs }, record { solved = x; settled = settled; time = refl; heads = refl; budget = e; zones = flows })
         ]
       ]
 
-  listing_from : (rest : List TimeStep) → IsRest (times k.model) rest → (old : List Bound) → AreGridHeads k.model old →
-      ((values : List Step) × Steps k old rest values ends.Whole) ⊎ ((values : List Step) × (at : TimeStep) × (n : NoBound) × Steps k old rest values (ends.NoBound at n))
+  listing_from : (rest : List TimeStep) → IsRest (times m) rest → (old : List Bound) → AreGridHeads m old →
+      ((values : List Step) × Steps task old rest values ends.Whole) ⊎ ((values : List Step) × (at : TimeStep) × (n : NoBound) × Steps task old rest values (ends.NoBound at n))
   listing_from [] among old heads = inl ([], tt)
   listing_from (at ∷ rest) among old heads =
-      let before : IsBefore k.model at old = record { model = valid; time = among.each at (first_in at rest); heads = heads } in
-      elim (step k.model k.digits at old before) [
+      let before : IsBefore (one_deck m) at old = record { decks = record { first = valid; second = tt }; time = among.each at (first_in at rest); heads = heads } in
+      elim (step m s at old before) [
         | inr (n, none) ↦ inr ([], at, n, (refl, no_heads none))
         | inl (x, settled) ↦ elim (listed at old x settled) [
           | inr (n, none) ↦ inr ([], at, n, (refl, none))
           | inl (v, is) ↦
-              let next = subst (AreGridHeads k.model) (sym is.heads) (fits k.model k.digits at old is.solved before is.settled) in
-              elim (listing_from rest (rest_more (times k.model) at rest among) v.heads next) [
+              let next = subst (AreGridHeads m) (sym is.heads) (fits (one_deck m) s at old settled_kind is.solved before is.settled) in
+              elim (listing_from rest (rest_more (times m) at rest among) v.heads next) [
                 | inl (values, steps) ↦ inl (v ∷ values, (is, steps))
                 | inr (values, t, n, steps) ↦ inr (v ∷ values, t, n, (is, steps))
               ]
@@ -67,9 +73,9 @@ module _ (step : StepOrRefusal) (fits : HeadsFit) (k : Task) (valid : IsModel k.
       ]
 
 pub a_listing : StepOrRefusal → HeadsFit → StartHeadsExist → StartHeadsFit → ListingOrRefusal
-a_listing step fits starts start_fits k valid zoned =
-    let (start, is) = starts k.model in
-    elim (listing_from step fits k valid zoned (times k.model) (rest_whole (times k.model)) start (start_fits k.model start valid is)) [
+a_listing step fits starts start_fits m s zones rounds valid zoned =
+    let (start, is) = starts m in
+    elim (listing_from step fits m s zones rounds valid zoned (times m) (rest_whole (times m)) start (start_fits m start valid is)) [
       | inl (values, steps) ↦ inl (values, record { start = start; is_start = is; steps = steps })
       | inr (values, at, n, steps) ↦ inr (values, at, n, record { start = start; is_start = is; steps = steps })
     ]

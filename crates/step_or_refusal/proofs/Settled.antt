@@ -1,6 +1,6 @@
 -- A problem with a barrier has a settled pair as a list, and the heads of all cells by that pair.
 use Rattle.step_or_refusal.proofs.Common.{◌≡◌, ℕ, ◌<◌, ◌∙◌, inl, inr, Bool, true, false, List, length, map, refl, sym, ap, subst, arith, ℤ, Bound, Edges}
-use Rattle.step_or_refusal.proofs.Common.{no_bound, lower_at, upper_at, IsSettledPair, FlowModel, TimeStep}
+use Rattle.step_or_refusal.proofs.Common.{no_bound, lower_at, upper_at, IsSettledPair, FlowModel, TimeStep, one_deck}
 use Rattle.std.specs.List.{range_with_len}
 use Rattle.std.specs.Prelude.{not, ◌&&◌}
 use Rattle.std.proofs.lemmas.Bool.{cases_Bool, false≢true}
@@ -80,7 +80,7 @@ module _ (m : FlowModel) (at : TimeStep) (pairs : (c : ℕ) → (lo : ℤ) × (h
   no_variable : (c : ℕ) → is_active m c ≡ false → is_variable m at.period c ≡ false
   no_variable c e = elim (cases_Bool (is_variable m at.period c)) [ inl v ↦ absurd (false≢true (sym e ∙ variable_active m at.period c v)) | inr none ↦ none ]
 
-  pub heads_list : (hs : List Bound) × AreHeadsOf m at bounds hs
+  pub heads_list : (hs : List Bound) × AreHeadsOf (one_deck m) at bounds hs
   unfolding heads
   heads_list = (
     heads,

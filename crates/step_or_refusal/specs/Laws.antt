@@ -1,28 +1,29 @@
 -- Steps and listings exist, or a refusal says why not.
-use Rattle.std.specs.Prelude.{ℕ, ◌⊎◌, List}
+use Rattle.std.specs.Prelude.{ℕ, ◌⊎◌, List, Option}
 use Rattle.step_problem.specs.declared.heads.Bound.{Bound}
 use Rattle.step_problem.specs.declared.place.NoBound.{NoBound}
 use Rattle.model_types.specs.declared.model.FlowModel.{FlowModel}
 use Rattle.model_types.specs.declared.time_steps.TimeStep.{TimeStep}
 use Rattle.model_types.specs.Valid.{IsModel}
+use Rattle.deck_problems.specs.Decks.{one_deck}
+use Rattle.deck_problems.specs.Laws.{IsBefore}
 use Rattle.step_chain.specs.declared.solved.Solved.{Solved}
-use Rattle.step_chain.specs.Laws.{IsBefore}
 use Rattle.step_chain.specs.Steps.{IsSettledStep, HasNoHeads}
 use Rattle.listing_run.specs.declared.step.Step.{Step}
-use Rattle.listing_run.specs.declared.task.Task.{Task}
 use Rattle.listing_run.specs.Steps.{AllSteps}
+use Rattle.listing_run.specs.Tasks.{one_task}
 use Rattle.listing_run.specs.declared.listing_end.ListingEnd.TheVariants as ends
 use Rattle.zone_pairs.specs.Zones.{AreZones}
 
 -- A time of a valid model, from heads of all its cells, has a settled step or a refusal.
 abbrev pub StepOrRefusal : Type 0
 StepOrRefusal =
-    (m : FlowModel) (s : ℕ) (at : TimeStep) (old : List Bound) → IsBefore m at old →
-    ((x : Solved) × IsSettledStep m s at old x) ⊎ ((n : NoBound) × HasNoHeads m s at old n)
+    (m : FlowModel) (s : ℕ) (at : TimeStep) (old : List Bound) → IsBefore (one_deck m) at old →
+    ((x : Solved) × IsSettledStep (one_deck m) s at old x) ⊎ ((n : NoBound) × HasNoHeads (one_deck m) s at old n)
 
 -- A model has a whole listing, with the flows between its zones if there is a zone file, or a first refusal at one of its times.
 abbrev pub ListingOrRefusal : Type 0
 ListingOrRefusal =
-    (k : Task) → IsModel k.model → AreZones k.model k.zones →
-    ((values : List Step) × AllSteps k values ends.Whole)
-    ⊎ ((values : List Step) × (at : TimeStep) × (n : NoBound) × AllSteps k values (ends.NoBound at n))
+    (m : FlowModel) (s : ℕ) (zones : Option (List ℕ)) (rounds : ℕ) → IsModel m → AreZones m zones →
+    ((values : List Step) × AllSteps (one_task m s zones rounds) values ends.Whole)
+    ⊎ ((values : List Step) × (at : TimeStep) × (n : NoBound) × AllSteps (one_task m s zones rounds) values (ends.NoBound at n))

@@ -1,0 +1,87 @@
+-- The hull of two decks' problems and constant heads.
+use Rattle.deck_problems.proofs.Common.{◌≡◌, ◌∷◌, ◌∙◌, ◌<◌, ℕ, inl, inr, Option, Some, None, List, Contains, get_or, length, map, refl, sym, subst, ap, arith}
+use Rattle.deck_problems.proofs.Common.{int_min, int_max, IfSome, get_or_default, Fixed, Bound, IsProblem, Entries, no_entries, lower_at, upper_at, FlowModel}
+use Rattle.deck_problems.proofs.Common.{TimeStep, IsNamed, IsProblemOf, IsBuildFault, IsFixedHull, IsCellHull, IsHull, AllThree, none, next, three_lengths}
+use Rattle.deck_problems.proofs.Common.{three_within, Decks, AreConstantHeadsFor, IsSecond, AreDecks, AreHullBounds, HasCellsOf, IsHullRefusal, IsProblemFor}
+use Rattle.deck_problems.proofs.Common.{IsProblemBy, IsRefusedBy, IsFaultFor, of_second, of_hull}
+use Rattle.problem_builder.specs.declared.fault.BuildFault.{BuildFault}
+use Rattle.problem_builder.specs.ConstantHeads.{AreConstantHeads}
+use Rattle.deck_problems.proofs.Enclosing.{second_cells}
+use Rattle.deck_problems.proofs.Members.{constant_same}
+use Rattle.problem_builder.specs.declared.fault.BuildFault.TheVariants as build
+
+-- The hull names the cells of the first problem.
+
+ids_are : (p q r : List Entries) → IsHull p q r → map (λ (e : Entries). e.id) r ≡ map (λ (e : Entries). e.id) p
+ids_are p q r none = refl
+ids_are p q r (next h hs) = λ i. h.id i ∷ ids_are _ _ _ hs i
+
+named_fixed : (p q r : List Fixed) → AllThree IsFixedHull p q r → (c : ℕ) → (x : Fixed) × Contains r x × (c ≡ x.source) → (x : Fixed) × Contains p x × (c ≡ x.source)
+named_fixed p q r h c (x, (i, lt, e), source) =
+    let inside : i < length p = omega (arith, lt, (three_lengths IsFixedHull p q r h).1) in
+    (get_or p i x, (i, inside, get_or_default p i (get_or p i x) x inside), source ∙ ap (λ (y : Fixed). y.source) (sym e) ∙ (three_within IsFixedHull p q r i x x x h inside).source)
+
+hull_named : (p q r : List Entries) → IsHull p q r → (c : ℕ) → IsNamed r c → IsNamed p c
+hull_named p q r h c (k, lt, by) =
+    let inside : k < length p = omega (arith, lt, (three_lengths IsCellHull p q r h).1) in
+    let here = three_within IsCellHull p q r k no_entries no_entries no_entries h inside in
+    (k, inside, elim by [ inl e ↦ inl (e ∙ here.id) | inr f ↦ inr (named_fixed _ _ _ here.fixed c f) ])
+
+pub hull_cells : (m : FlowModel) (at : TimeStep) (p q r : List Entries) → IsHull p q r → HasCellsOf m at p → HasCellsOf m at r
+hull_cells m at p q r h k = record { cells = ids_are p q r h ∙ k.cells; named = λ c n. k.named c (hull_named p q r h c n) }
+
+-- The constant heads of one deck, and of two.
+
+pub constants_alone : (a : FlowModel) (o : Option FlowModel) (at : TimeStep) (heads : List Bound) → ((b : FlowModel) → o ≡ Some b → ⊥) → AreConstantHeads a at heads → AreConstantHeadsFor (record { first = a; second = o }) at heads
+constants_alone a None at heads alone h = record { count = h.count; each = λ c lt. record { constant = (h.each c lt).constant; other = (h.each c lt).other } }
+constants_alone a (Some b) at heads alone h = absurd (alone b refl)
+
+constants_hulled : (a b : FlowModel) (at : TimeStep) (xs ys rs : List Bound) → IsSecond a b → AreConstantHeads a at xs → AreConstantHeads b at ys → AreHullBounds xs ys rs → AreConstantHeadsFor (record { first = a; second = Some b }) at rs
+constants_hulled a b at xs ys rs second h k r =
+    let cells = second_cells a b second in
+    record {
+      count = r.whole ∙ h.count;
+      each = λ c lt.
+          let inside : c < length xs = omega (arith, lt, h.count) in
+          let x = h.each c lt in
+          let y = k.each c (subst (λ (n : ℕ). c < n) (sym cells.count) lt) in
+          let hull = r.each c inside in
+          record {
+            constant = λ e. record {
+              first_lo = lower_at xs c;
+              first_hi = upper_at xs c;
+              first = x.constant e;
+              second_lo = lower_at ys c;
+              second_hi = upper_at ys c;
+              second = y.constant (constant_same a b cells at.period c ∙ e);
+              hull = hull;
+            };
+            other = λ e.
+                let none = x.other e in
+                let void = y.other (constant_same a b cells at.period c ∙ e) in
+                let low = hull.low ∙ (λ i. int_min (none i).low (void i).low) in
+                let high = hull.high ∙ (λ i. int_max (none i).high (void i).high) in
+                λ i. record { low = low i; high = high i };
+          };
+    }
+
+module _ (d : Decks) (b : FlowModel) (is : d.second ≡ Some b) where
+  pub second_is : AreDecks d → IsSecond d.first b
+  second_is h = subst (λ (o : Option FlowModel). IfSome o (IsSecond d.first)) is h.second
+
+  pub constants_for : (at : TimeStep) (xs ys rs : List Bound) → AreDecks d → AreConstantHeads d.first at xs → AreConstantHeads b at ys → AreHullBounds xs ys rs → AreConstantHeadsFor d at rs
+  constants_for at xs ys rs decks h k r =
+      subst (λ (o : Option FlowModel). AreConstantHeadsFor (record { first = d.first; second = o }) at rs) (sym is) (constants_hulled d.first b at xs ys rs (second_is decks) h k r)
+
+  module _ (s : ℕ) (at : TimeStep) (old : List Bound) where
+    pub problem_of_hull : (p q r : List Entries) → IsProblemOf d.first s at old p → IsProblemOf b s at old q → IsHull p q r → IsProblem r → IsProblemFor d s at old r
+    problem_of_hull p q r h k hull fits =
+        subst (λ (o : Option FlowModel). IsProblemBy d.first o s at old r) (sym is) (record { first = p; is_first = h; second = q; is_second = k; hull = hull; fits = fits })
+
+    pub second_refused : (p : List Entries) → IsProblemOf d.first s at old p → (fault : BuildFault) → IsBuildFault b s at old fault → IsFaultFor d s at old fault
+    second_refused p h (build.NoBound n) x = subst (λ (o : Option FlowModel). IsRefusedBy d.first o s at old n) (sym is) (of_second p h x)
+    second_refused p h build.Memory x = tt
+
+    pub hull_refused : (p q : List Entries) → IsProblemOf d.first s at old p → IsProblemOf b s at old q → (fault : BuildFault) → IsHullRefusal p q fault → IsFaultFor d s at old fault
+    hull_refused p q h k (build.NoBound n) x = subst (λ (o : Option FlowModel). IsRefusedBy d.first o s at old n) (sym is) (of_hull p q h k x)
+    hull_refused p q h k build.Memory x = tt

@@ -1,0 +1,10 @@
+mod Common
+pub mod LikeShapes
+pub mod Members
+pub mod ProblemsAlike
+pub mod OneProblem
+pub mod Enclosing
+pub mod Hulled
+pub mod Counted
+pub mod Starting
+pub mod HullFor

@@ -1,0 +1,91 @@
+-- The bounds of the starting heads of decks.
+use Rattle.deck_problems.proofs.Common.{◌≡◌, ◌<◌, ◌∙◌, ℕ, Option, Some, None, List, length, sym, subst, arith, IfSome, get_or_default, Bound, IsHead, no_bound}
+use Rattle.deck_problems.proofs.Common.{lower_at, upper_at, FlowModel, start_head, dec_at, IsModel, AreGridHeads, HeadsEnclose, bound_in, lower_head}
+use Rattle.deck_problems.proofs.Common.{upper_head, IsBetween, hull_of_numbers, starts_between, Decks, IsSecond, HoldsOf, IsHullBound, AreHullBounds}
+use Rattle.deck_problems.proofs.Common.{StartHeadsAreOne, StartHeadsFit, StartHeadsEnclose}
+use Rattle.problem_builder.specs.StartHeads.{AreStartHeads}
+use Rattle.problem_builder.proofs.CellEnclosed.{head_encloses}
+use Rattle.problem_builder.proofs.Filling.{one_filled}
+use Rattle.problem_builder.proofs.Starts.{one_starts, starts_fit}
+use Rattle.deck_problems.specs.StartHeads.{AreStartHulls, AreStartsBy, AreStartHeadsFor}
+use Rattle.deck_problems.proofs.Enclosing.{second_cells}
+use Rattle.deck_problems.proofs.Members.{between_cells, cell_of_first, cell_of_member}
+
+start_encloses : (m : FlowModel) (x : List Bound) → AreStartHeads m x → HeadsEnclose m x (start_head m)
+start_encloses m x h c active = head_encloses (dec_at m.strt c) _ _ ((h.each c active.within).active active.active)
+
+same_hull : (a b x y : Bound) → IsHullBound a b x → IsHullBound a b y → x ≡ y
+same_hull a b x y h k =
+    let low = h.low ∙ sym k.low in
+    let high = h.high ∙ sym k.high in
+    λ i. record { low = low i; high = high i }
+
+one_hulls : (xs ys rs us : List Bound) → AreHullBounds xs ys rs → AreHullBounds xs ys us → rs ≡ us
+one_hulls xs ys rs us h k =
+    let P : ℕ → Bound → Type 0 = λ c r. IsHullBound (bound_in xs c) (bound_in ys c) r in
+    one_filled P no_bound (length xs) rs us (λ c x y lt p q. same_hull (bound_in xs c) (bound_in ys c) x y p q) (record { count = h.whole; each = h.each }) (record { count = k.whole; each = k.each })
+
+one_start_hulls : (a b : FlowModel) (x y : List Bound) → AreStartHulls a b x → AreStartHulls a b y → x ≡ y
+one_start_hulls a b x y h k =
+    let first = one_starts a k.first h.first k.is_first h.is_first in
+    let second = one_starts b k.second h.second k.is_second h.is_second in
+    one_hulls h.first h.second x y h.hulls (subst (λ (l : List Bound). AreHullBounds l h.second y) first (subst (λ (l : List Bound). AreHullBounds k.first l y) second k.hulls))
+
+module _ (a b : FlowModel) (valid : IsModel a) (second : IsSecond a b) (x : List Bound) (h : AreStartHulls a b x) where
+  first_grid : AreGridHeads a h.first
+  first_grid = starts_fit a h.first valid h.is_first
+
+  second_grid : AreGridHeads b h.second
+  second_grid = starts_fit b h.second second.model h.is_second
+
+  each_fits : (c : ℕ) → c < length h.first → IsHead (bound_in x c).low × IsHead (bound_in x c).high
+  each_fits c lt =
+      let below : c < length h.second = omega (arith, lt, first_grid.whole, second_grid.whole, (second_cells a b second).count) in
+      let p = first_grid.range c no_bound lt in
+      let q = second_grid.range c no_bound below in
+      (lower_head _ _ _ _ _ _ (h.hulls.each c lt) p.0 q.0, upper_head _ _ _ _ _ _ (h.hulls.each c lt) p.1 q.1)
+
+  hulls_fit : AreGridHeads a x
+  hulls_fit =
+      let AreHeads : Bound → Type 0 = λ b. IsHead b.low × IsHead b.high in
+      record {
+        whole = h.hulls.whole ∙ first_grid.whole;
+        range = λ c d lt. subst AreHeads (get_or_default x c no_bound d lt) (each_fits c (omega (arith, lt, h.hulls.whole)));
+      }
+
+  hulls_enclose_starts : (m : FlowModel) → IsBetween a m b → HeadsEnclose m x (start_head m)
+  hulls_enclose_starts m between c active =
+      let of_a = cell_of_first a m (between_cells a m b between) c active in
+      let of_b = cell_of_member a b (second_cells a b second) c of_a in
+      hull_of_numbers _ _ _ _ (lower_at x c) (upper_at x c) 9 (start_head a c) (start_head m c) (start_head b c) (h.hulls.each c (omega (arith, of_a.within, first_grid.whole)))
+      (start_encloses a h.first h.is_first c of_a) (start_encloses b h.second h.is_second c of_b) (starts_between a m b between c)
+
+one_by : (a : FlowModel) (o : Option FlowModel) (x y : List Bound) → AreStartsBy a o x → AreStartsBy a o y → x ≡ y
+one_by a None x y h k = one_starts a x y h k
+one_by a (Some b) x y h k = one_start_hulls a b x y h k
+
+fit_by : (a : FlowModel) (o : Option FlowModel) (x : List Bound) → IsModel a → IfSome o (IsSecond a) → AreStartsBy a o x → AreGridHeads a x
+fit_by a None x valid second h = starts_fit a x valid h
+fit_by a (Some b) x valid second h = hulls_fit a b valid second x h
+
+enclose_by : (a : FlowModel) (o : Option FlowModel) (x : List Bound) → IsModel a → IfSome o (IsSecond a) → AreStartsBy a o x → HoldsOf a o (λ m. HeadsEnclose m x (start_head m))
+enclose_by a None x valid second h = start_encloses a x h
+enclose_by a (Some b) x valid second h = hulls_enclose_starts a b valid second x h
+
+pub starts_are_one : StartHeadsAreOne
+starts_are_one d x y decks h k = one_by d.first d.second x y h k
+
+pub starts_fit_decks : StartHeadsFit
+starts_fit_decks d x decks h = fit_by d.first d.second x decks.first decks.second h
+
+pub starts_enclose_members : StartHeadsEnclose
+starts_enclose_members d x decks h = enclose_by d.first d.second x decks.first decks.second h
+
+-- the starting heads of one deck, and of two
+pub starts_alone : (a : FlowModel) (o : Option FlowModel) (x : List Bound) → ((b : FlowModel) → o ≡ Some b → ⊥) → AreStartHeads a x → AreStartsBy a o x
+starts_alone a None x alone h = h
+starts_alone a (Some b) x alone h = absurd (alone b (λ i. Some b))
+
+pub starts_hulled : (d : Decks) (b : FlowModel) → d.second ≡ Some b → (xs ys rs : List Bound) → AreStartHeads d.first xs → AreStartHeads b ys → AreHullBounds xs ys rs → AreStartHeadsFor d rs
+starts_hulled d b is xs ys rs h k r =
+    subst (λ (o : Option FlowModel). AreStartsBy d.first o rs) (sym is) (record { first = xs; is_first = h; second = ys; is_second = k; hulls = r })

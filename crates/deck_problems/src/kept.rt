@@ -1,0 +1,96 @@
+// The tables that a run keeps from step to step.
+ghost use Rattle.std.specs.Prelude.{◌≡◌, ◌-◌, ◌<◌, ◌≤◌, IfOk, OnOk, length};
+ghost use Rattle.model_types.specs.Kinds.{given_heads};
+ghost use Rattle.model_types.specs.Valid.{IsModel};
+ghost use Rattle.deck_problems.specs.Kept.{AreRunTables, digits_of};
+
+use model_types::{FlowModel, GivenHeads};
+use problem_builder::{PeriodTables, Tables};
+use std::alloc::{AllocError, Global};
+
+/// The tables that all steps of a run share: the tables of the model, made once a run, those of the current stress
+/// period, made once a period, and the given heads up to some period.
+#[derive(Drop)]
+pub struct RunTables {
+    pub tables: Tables,
+    pub given: GivenHeads,
+    pub period: PeriodTables,
+}
+
+impl RunTables {
+    /// The tables of a model with s digits of conductances, at its first period.
+    pub fn new(alloc: Global, model: &FlowModel, s: u32) -> Result<RunTables, AllocError>
+        requires model { IsModel model.now }
+        requires digits { s ≤ 18 }
+        ensures digits { IfOk result (λ t. digits_of t ≡ s) }
+        ensures tables { IfOk result (AreRunTables model.now) }
+    {
+        let tables = Tables::new(alloc, model, s)?;
+        let given = GivenHeads::new(alloc, model)?;
+        let period = PeriodTables::new(alloc, model, &tables, &given)?;
+        Ok(RunTables {
+            tables,
+            given,
+            period,
+        })
+    }
+
+    /// Moves to a stress period, if it isn't there. It continues from the current period, and starts anew before an
+    /// earlier one.
+    pub fn go_to(&mut self, alloc: Global, model: &FlowModel, period: u32) -> Result<(), AllocError>
+        requires model { IsModel model.now }
+        requires digits { digits_of self.old ≤ 18 }
+        requires tables { AreRunTables model.now self.old }
+        requires first { 1 ≤ period }
+        requires last { period ≤ length model.now.periods }
+        ensures digits { digits_of self.new ≡ digits_of self.old }
+        ensures tables { AreRunTables model.now self.new }
+        ensures there { OnOk result (self.new.period.period ≡ period) }
+    {
+        if self.period.period != period {
+            go_before(&mut self.given, alloc, model, period)?;
+            self.period = PeriodTables::new(alloc, model, &self.tables, &self.given)?;
+        }
+        Ok(())
+    }
+}
+
+// Starts anew before the first period, if the given heads are those of this period or of a later one.
+fn begin_before(
+    given: &mut GivenHeads,
+    alloc: Global,
+    model: &FlowModel,
+    period: u32,
+) -> Result<(), AllocError>
+    requires model { IsModel model.now }
+    requires given { given.old ≡ given_heads model.now given.old.period }
+    requires first { 1 ≤ period }
+    ensures given { given.new ≡ given_heads model.now given.new.period }
+    ensures before { OnOk result (given.new.period < period) }
+{
+    if given.period >= period {
+        *given = GivenHeads::new(alloc, model)?;
+    }
+    Ok(())
+}
+
+// Moves to the given heads of the period before this one.
+fn go_before(
+    given: &mut GivenHeads,
+    alloc: Global,
+    model: &FlowModel,
+    period: u32,
+) -> Result<(), AllocError>
+    requires model { IsModel model.now }
+    requires given { given.old ≡ given_heads model.now given.old.period }
+    requires first { 1 ≤ period }
+    requires last { period ≤ length model.now.periods }
+    ensures given { given.new ≡ given_heads model.now given.new.period }
+    ensures there { OnOk result (given.new.period ≡ period - 1) }
+{
+    begin_before(given, alloc, model, period)?;
+    for _ in given.period..period - 1 {
+        given.advance(model);
+    }
+    Ok(())
+}

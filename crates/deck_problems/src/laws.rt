@@ -1,0 +1,47 @@
+// Laws of the problems of one deck, or of two. Each is the contract of an empty function, but for the laws below that
+// it calls.
+ghost use Rattle.deck_problems.specs.Laws.{ProblemsAreAlike, ProblemIsOne, ProblemExcludesRefusal, RefusalIsOne};
+ghost use Rattle.deck_problems.specs.Laws.{ProblemFits, ProblemEncloses, ConstantPairIsOne, ConstantPairFits, ConstantPairEncloses};
+ghost use Rattle.deck_problems.specs.Laws.{StartHeadsAreOne, StartHeadsFit, StartHeadsEnclose};
+
+/// The problems of two models that are alike are alike.
+pub fn problems_are_alike()
+    ensures { ProblemsAreAlike }
+{}
+
+/// Decks, a time and the heads before it have at most one problem.
+pub fn one_problem()
+    ensures { ProblemIsOne }
+{}
+
+/// A step with a problem has no refusal.
+pub fn no_problem_beside_a_refusal()
+    ensures { ProblemExcludesRefusal }
+{}
+
+/// A step has at most one refusal.
+pub fn one_refusal()
+    ensures { RefusalIsOne }
+{}
+
+/// A problem that the definition gives meets the conditions on problems, and encloses the exact step of each member.
+pub fn problems_fit()
+    ensures fit { ProblemFits }
+    ensures enclose { ProblemEncloses }
+{
+    problem_builder::laws::problems_fit();
+}
+
+/// A constant-head cell has one pair at a time, of heads in range, and it encloses the exact head of each member.
+pub fn constant_pairs()
+    ensures one { ConstantPairIsOne }
+    ensures fit { ConstantPairFits }
+    ensures encloses { ConstantPairEncloses }
+{}
+
+/// The bounds of the starting heads are one list, of heads in range, and enclose the starting heads of each member.
+pub fn start_heads()
+    ensures one { StartHeadsAreOne }
+    ensures fit { StartHeadsFit }
+    ensures enclose { StartHeadsEnclose }
+{}
