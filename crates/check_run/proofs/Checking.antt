@@ -1,10 +1,10 @@
 -- A check, step by step.
 use Rattle.check_run.proofs.Common.{All, Contains, ◌≡◌, ℕ, suc, List, [], ◌∷◌, ◌+◌, ◌<◌, ◌≤◌, subst, sym, ap, refl, arith, ◌∙◌, inl, inr, drop, length, get_or}
 use Rattle.check_run.proofs.Common.{ℤ, Result, Ok, Err, IfOk, Option, None, AllZip, IfErr, All-head, All-tail, All-contains_itself, drop_more, drop_all, Bound}
-use Rattle.check_run.proofs.Common.{ZoneFlow, Budget, FlowModel, TimeStep, start_head, times, Fraction, IsModel, heads_of, SolvesAt, AreGridHeads}
-use Rattle.check_run.proofs.Common.{HeadsEnclose, pairs_in, ListedStep, AreFlows, AreFlowsAt, AreListed, IsListedStep, step_in, Step, BoundsMoves, CheckFault}
-use Rattle.check_run.proofs.Common.{ListingVerdict, Certified, Fails, Refused, FailsBy, IsVerdictAt, heads_before, Passes, Checks, StopsAt, IsVerdict}
-use Rattle.check_run.proofs.Common.{ListingEncloses, checked_task, step_of, steps_of}
+use Rattle.check_run.proofs.Common.{ZoneFlow, Budget, FlowModel, TimeStep, start_head, times, Fraction, IsModel, heads_of, SolvesAt, AreGridHeads, HeadsEnclose}
+use Rattle.check_run.proofs.Common.{pairs_in, ListedStep, AreFlows, AreFlowsAt, AreListed, IsListedStep, step_in, Step, BoundsMoves, CheckFault, ListingVerdict}
+use Rattle.check_run.proofs.Common.{Certified, Fails, Refused, FailsBy, IsVerdictAt, heads_before, Passes, Checks, StopsAt, IsVerdict, ListingEncloses}
+use Rattle.check_run.proofs.Common.{checked_task, step_of, steps_of}
 use Rattle.problem_builder.specs.StartHeads.{AreStartHeads}
 use Rattle.listing_run.proofs.HistoriesBound.{AllBoundMoves, histories_bound}
 use Rattle.exact_histories.specs.Histories.{HasOneHistory, AreSameHeads}

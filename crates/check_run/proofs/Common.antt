@@ -1,15 +1,16 @@
 -- Names that several proofs of this crate cite, of the crates below and of its own definitions, passed on from one place. Declares nothing.
 pub use Rattle.std.proofs.Common.{All, Bool, Contains, Err, IfOk, List, None, Ok, Option, Result, Some, [], add-one, ap, arith, cond, drop, drop-cons, false}
 pub use Rattle.std.proofs.Common.{get_or, inl, inr, length, map, nat_abs, neg_ℤ, negsuc, option_map, pos, refl, subst, suc, sym, take, true, unsigned_abs, zero}
-pub use Rattle.std.proofs.Common.{ℕ, ℤ, ◌*ℤ◌, ◌++◌, ◌+ℤ◌, ◌+◌, ◌<ℤ◌, ◌<◌, ◌^◌, ◌∙◌, ◌∷◌, ◌≡◌, ◌≢◌, ◌≤ℤ◌, ◌≤◌, ◌⊎◌}
-pub use Rattle.std.proofs.lemmas.Bool.{cases_Bool, cases_order}
+pub use Rattle.std.proofs.Common.{ℕ, ℤ, ◌%◌, ◌&&◌, ◌*ℤ◌, ◌++◌, ◌+ℤ◌, ◌+◌, ◌/◌, ◌<ℤ◌, ◌<◌, ◌^◌, ◌∙◌, ◌∷◌, ◌≡◌, ◌≢◌, ◌≤ℤ◌, ◌≤◌, ◌⊎◌}
+pub use Rattle.std.proofs.lemmas.Bool.{and_from, and_parts, cases_Bool, cases_order, eq-eqb, leb-true, lt-ltb, or_left, or_right}
+pub use Rattle.std.proofs.lemmas.Bool.Decides.{nat_tests}
 pub use Rattle.std.proofs.lemmas.Int.{ints}
 pub use Rattle.std.proofs.lemmas.List.{append-nil, append_assoc, drop_all, drop_more, get_or-map, get_or_default, length-map, map-append}
 pub use Rattle.std.proofs.lemmas.List.Concat.{flat_map-append}
 pub use Rattle.std.proofs.lemmas.List.Elements.{All-contains_itself, All-from_recursion, All-head, All-tail, All-weaker, recursion_from_All}
 pub use Rattle.std.proofs.lemmas.Result.{err_from_is_err_and}
 pub use Rattle.std.specs.List.{AllByRecursion, AllZip, concat, cons_option, filter_map, flat_map}
-pub use Rattle.std.specs.Prelude.{IfErr, IfSome, if◌then◌else◌, slice_index}
+pub use Rattle.std.specs.Prelude.{IfErr, IfSome, filter, if◌then◌else◌, int_lt, nat_lt, not, slice_index, ◌==◌}
 pub use Rattle.barrier_vector.specs.Refusals.{IsFault}
 pub use Rattle.budget_bounds.specs.Covers.{CoverEncloses, Covers, IsFirstUncovered, line_of}
 pub use Rattle.budget_bounds.specs.Exact.{BudgetEncloses, EnclosesBudgets, HeadsAreWithin}
@@ -36,7 +37,7 @@ pub use Rattle.deck_problems.specs.Kept.{AreRunTables, digits_of}
 pub use Rattle.deck_problems.specs.Laws.{IsBefore}
 pub use Rattle.flow_equations.proofs.Links.{below_is, index_is}
 pub use Rattle.flow_equations.specs.ExactStep.{exact_step}
-pub use Rattle.flow_equations.specs.Histories.{Solves, SolvesAt, heads_of, variable_heads}
+pub use Rattle.flow_equations.specs.Histories.{SolvesAt, heads_of, variable_heads}
 pub use Rattle.listing_io.specs.Listed.{AreCellBounds, AreFlows, AreFlowsAt, AreListed, IsCellBound, IsFlowPair, IsListedStep, step_in}
 pub use Rattle.listing_io.specs.Listing.{ended, first_line, has_evt, step_lines, zone_pair}
 unfoldable pub use Rattle.listing_io.specs.Listing.{all_step_lines, first_text, step_text}
@@ -49,15 +50,21 @@ pub use Rattle.listing_run.specs.Zones.{AreFlowsOf, HasLargeFlowOf, faces_of}
 pub use Rattle.listing_run.specs.declared.listing_end.ListingEnd.TheVariants.{Whole}
 pub use Rattle.listing_run.specs.declared.step.Step.{Step}
 pub use Rattle.listing_run.specs.declared.task.Task.{Task}
+pub use Rattle.model_types.proofs.Leads.{end_within, face_back, faces_are, faces_have, passing_are, turned}
+pub use Rattle.model_types.proofs.Members.{Contains-In, In, In-map, map-In}
 pub use Rattle.model_types.proofs.Ranks.{IsAt, at_rank, is_at, passing}
 pub use Rattle.model_types.specs.Cells.{cell_count}
+pub use Rattle.model_types.specs.Faces.{through}
+pub use Rattle.model_types.specs.Grids.{HasSize}
 pub use Rattle.model_types.specs.Heads.{constant_head, start_head}
-pub use Rattle.model_types.specs.Kinds.{index_of, is_constant, is_variable, kind_of, variable_below, variable_cells}
+pub use Rattle.model_types.specs.Kinds.{index_of, is_constant, is_given, is_variable, kind_of, variable_below, variable_cells}
+pub use Rattle.model_types.specs.Layers.{int_at, is_active, is_nonzero}
 pub use Rattle.model_types.specs.Sources.{FixedSource, as_general, constant_faces, evap_sources, fixed_sources, local_entries, storage_at, variable_faces}
 pub use Rattle.model_types.specs.Times.{period_at, times}
 pub use Rattle.model_types.specs.Valid.{IsModel}
 pub use Rattle.model_types.specs.declared.model.FlowModel.{FlowModel}
 pub use Rattle.model_types.specs.declared.time_steps.TimeStep.{TimeStep}
+pub use Rattle.problem_builder.proofs.Members.{In-append, In-variable, variable-In}
 pub use Rattle.problem_builder.proofs.StepEnclosed.{ids_are}
 pub use Rattle.problem_builder.proofs.TimesOf.{time_of}
 pub use Rattle.problem_builder.specs.Cells.{IsCellOf, IsEvap, IsFixed, IsLink}
@@ -79,15 +86,19 @@ pub use Rattle.step_problem.specs.declared.heads.Bound.{Bound}
 pub use Rattle.step_problem.specs.declared.heads.Side.{Side}
 pub use Rattle.step_problem.specs.declared.heads.Side.TheVariants.{High, Low}
 pub use Rattle.step_problem.specs.declared.place.Dir.{Dir}
-pub use Rattle.step_problem.specs.declared.place.Dir.TheVariants.{In, Out}
+pub use Rattle.step_problem.specs.declared.place.Dir.TheVariants.{Out}
 pub use Rattle.step_problem.specs.declared.place.NoBound.{NoBound}
 pub use Rattle.step_problem.specs.declared.place.Term.{Term}
 pub use Rattle.step_problem.specs.declared.place.ZoneFlow.{ZoneFlow}
 pub use Rattle.zone_flows.specs.Exact.{EncloseExact, exact_faces, exact_flow}
 pub use Rattle.zone_flows.specs.Faces.{Face, face_between, faces_by_kind, fixed_faces, flows_between, is_lower_zone, link_faces}
-unfoldable pub use Rattle.zone_flows.specs.Faces.{cell_faces, face_from, faces}
+unfoldable pub use Rattle.zone_flows.specs.Faces.{cell_faces, face_from}
+pub use Rattle.zone_flows.specs.Pairs.{AreZoneFlows, IsBeforeAll, IsZoneFlow, PairsAscend, ShareFace}
+pub use Rattle.zone_flows.specs.Tables.{key_of}
+pub use Rattle.zone_pairs.proofs.Joined.{SharedFace, any_in, face_of, in_any, join_of, shared_small, shares, zone_small}
 pub use Rattle.zone_pairs.proofs.Small.{are_numbers, pairs_small}
-pub use Rattle.zone_pairs.specs.Pairs.{pair_of, pairs_in, to_constant, to_variable, with_keys, zones_of_flow}
-unfoldable pub use Rattle.zone_pairs.specs.Pairs.{cell_keys, face_keys, keys_from, zone_pairs}
+pub use Rattle.zone_pairs.specs.Keys.{pair_of}
+pub use Rattle.zone_pairs.specs.Pairs.{joins, pairs_below, pairs_in, share_face, zones_of_flow}
+unfoldable pub use Rattle.zone_pairs.specs.Pairs.{zone_pairs}
 pub use Rattle.zone_pairs.specs.Zones.{AreNumbers}
 pub use Rattle.zone_pairs.specs.declared.pair.ZonePair.{ZonePair}

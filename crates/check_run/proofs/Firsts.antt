@@ -1,7 +1,8 @@
 -- What is first is one: a cell and its side, a term of a budget, and a pair of zones.
 use Rattle.check_run.proofs.Common.{◌≡◌, ◌∙◌, ℕ, ◌<◌, inl, inr, List, [], ◌∷◌, Option, Some, None, refl, sym, ap, subst, arith, AllZip, cases_order, Side, Low}
-use Rattle.check_run.proofs.Common.{High, Dir, In, Out, Bound, NoBound, Term, ZoneFlow, Entries, Budget, IsFirstUncovered, line_of, AreFlowsOf, HasLargeFlowOf}
+use Rattle.check_run.proofs.Common.{High, Dir, Out, Bound, NoBound, Term, ZoneFlow, Entries, Budget, IsFirstUncovered, line_of, AreFlowsOf, HasLargeFlowOf}
 use Rattle.check_run.proofs.Common.{faces_of, CoversFlow, IsFirstNarrow}
+use Rattle.step_problem.specs.declared.place.Dir.TheVariants.{In}
 use Rattle.budget_bounds.proofs.Covering.{same_place}
 use Rattle.budget_bounds.proofs.Ordered.{place_within}
 use Rattle.zone_flows.proofs.Unique.{flows_are_one, flows_exclude_refusal, refusal_is_one}

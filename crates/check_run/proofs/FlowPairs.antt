@@ -2,13 +2,13 @@
 use Rattle.check_run.proofs.Common.{◌≡◌, ℕ, ◌<◌, Bool, true, false, cond, List, [], ◌∷◌, ◌++◌, length, map, get_or, Option, Some, None, refl, sym, ap, ◌∙◌}
 use Rattle.check_run.proofs.Common.{subst, arith, inl, inr, ℤ, AllZip, cons_option, filter_map, flat_map, slice_index, append-nil, get_or-map, length-map}
 use Rattle.check_run.proofs.Common.{map-append, flat_map-append, Bound, ZoneFlow, Entries, entries_at, no_entries, lower_at, upper_at, FlowModel, TimeStep}
-use Rattle.check_run.proofs.Common.{cell_count, is_variable, is_constant, index_of, variable_below, variable_cells, FixedSource, as_general, constant_faces}
-use Rattle.check_run.proofs.Common.{fixed_sources, local_entries, storage_at, variable_faces, period_at, passing, at_rank, below_is, index_is, IsCellOf}
-use Rattle.check_run.proofs.Common.{IsFixed, IsLink, IsProblemOf, Thicknesses, ids_are, index_below, Face, cell_faces, face_between, face_from, faces}
-use Rattle.check_run.proofs.Common.{faces_by_kind, fixed_faces, is_lower_zone, link_faces, cell_keys, face_keys, keys_from, pair_of, pairs_in, to_constant}
-use Rattle.check_run.proofs.Common.{to_variable, with_keys, zone_pairs, zones_of_flow, AreNumbers, AreFlowsOf, faces_of}
+use Rattle.check_run.proofs.Common.{cell_count, is_variable, is_constant, index_of, variable_cells, FixedSource, as_general, constant_faces, fixed_sources}
+use Rattle.check_run.proofs.Common.{local_entries, storage_at, variable_faces, period_at, passing, at_rank, below_is, index_is, IsCellOf, IsFixed, IsLink}
+use Rattle.check_run.proofs.Common.{IsProblemOf, Thicknesses, ids_are, index_below, Face, cell_faces, face_between, face_from, faces_by_kind, fixed_faces}
+use Rattle.check_run.proofs.Common.{is_lower_zone, link_faces, pairs_in, share_face, zone_pairs, zones_of_flow, AreNumbers, AreFlowsOf, faces_of, through}
+use Rattle.check_run.proofs.Common.{HasSize, end_within, passing_are, In, variable-In, shared_small}
+use Rattle.zone_flows.specs.Faces.{faces}
 use Rattle.std.specs.Option.{option_to_list}
-use Rattle.decimal_input.specs.declared.dec.Dec.{Dec}
 use Rattle.step_problem.specs.declared.entry.Fixed.{Fixed}
 use Rattle.step_problem.specs.declared.entry.FixedKind.{FixedKind}
 use Rattle.step_problem.specs.declared.entry.FixedKind.TheVariants.{Constant}
@@ -16,14 +16,11 @@ use Rattle.step_problem.specs.declared.entry.Link.{Link}
 use Rattle.model_types.specs.declared.entry.Entry.{Entry}
 use Rattle.model_types.specs.declared.entry.Entry.TheVariants.{Well, River, Drain, General}
 use Rattle.model_types.specs.declared.face.Face.{Face as ModelFace}
-use Rattle.model_types.specs.Faces.{faces as model_faces, through}
-use Rattle.model_types.specs.Grids.{HasSize}
+use Rattle.model_types.specs.Faces.{faces as model_faces}
 use Rattle.model_types.specs.Sources.FixedSource.{ToConstant, ToGeneral, FromStorage}
-use Rattle.model_types.proofs.Leads.{end_within, passing_are}
-use Rattle.model_types.proofs.Members.{In}
-use Rattle.problem_builder.proofs.Members.{variable-In}
 use Rattle.zone_flows.proofs.Fitting.{faces_fit}
-use Rattle.zone_pairs.proofs.Flows.{face_key, flow_pairs}
+use Rattle.check_run.proofs.FaceKeys.{cell_keys, face_keys, key_shares, keys_from, shared_key, to_constant, to_variable}
+use Rattle.check_run.proofs.FlowKeys.{face_key, flow_pairs}
 
 -- the keys of faces
 abbrev keys_of : List Face → List ℕ
@@ -189,5 +186,8 @@ unfolding zone_pairs
 flows_have_pairs m s at old p size is heads None flows zoned are = ap (map zones_of_flow) are
 flows_have_pairs m s at old p size is heads (Some zones) flows zoned are =
     let ids = ids_are m is.widths s at old p is.cells in
-    flow_pairs (faces_of p heads zones) (faces_fit zones (lower_at heads) (upper_at heads) zoned p) flows are
-    ∙ ap (λ (ks : List ℕ). map pair_of (with_keys [] ks)) (problem_keys zones (lower_at heads) (upper_at heads) m is.widths s at old size p ids is.cells.each)
+    let keys : keys_of (faces_of p heads zones) ≡ face_keys m zones at.period = problem_keys zones (lower_at heads) (upper_at heads) m is.widths s at old size p ids is.cells.each in
+    flow_pairs (faces_of p heads zones) (faces_fit zones (lower_at heads) (upper_at heads) zoned p) flows are (share_face m zones at.period)
+    (λ q i. key_shares m zones at.period size zoned q (subst (λ ks. In ks q) keys i))
+    (λ q t. subst (λ ks. In ks q) (sym keys) (shared_key m zones at.period size q t))
+    (λ z t. (shared_small m zones zoned at.period z t).0)

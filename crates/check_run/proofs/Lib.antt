@@ -7,6 +7,8 @@ pub mod Passing
 pub mod Outcomes
 pub mod OneVerdict
 pub mod Narrow
+pub mod FaceKeys
+pub mod FlowKeys
 pub mod FlowPairs
 pub mod Checking
 pub mod RunSteps

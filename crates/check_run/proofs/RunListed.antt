@@ -1,17 +1,15 @@
 -- The steps of a run are steps that a listing can have.
 use Rattle.check_run.proofs.Common.{◌≡◌, ℕ, zero, suc, ◌+◌, ◌<◌, false, List, [], ◌∷◌, length, map, All, Ok, refl, sym, ap, subst, arith, ℤ, pos, negsuc, neg_ℤ}
-use Rattle.check_run.proofs.Common.{◌+ℤ◌, ◌≤ℤ◌, ◌<ℤ◌, unsigned_abs, nat_abs, ◌^◌, ◌≤◌, Option, Some, None, ◌∙◌, AllZip, ints, All-weaker, Bound, In, Out}
-use Rattle.check_run.proofs.Common.{ZoneFlow, Entries, entries_at, no_bound, lower_at, upper_at, Budget, TermPair, all_terms, term_limit, Face, flows_between}
-use Rattle.check_run.proofs.Common.{pairs_in, AreNumbers, FlowModel, TimeStep, cell_count, variable_below, evap_sources, period_at, times, IsModel, IsCellOf}
-use Rattle.check_run.proofs.Common.{IsEvap, AreGridHeads, StartHeadsFit, Thicknesses, one_deck, IsBefore, Solved, bound_at, HeadsFit, IsSettledStep}
-use Rattle.check_run.proofs.Common.{AreCellBounds, AreFlows, AreFlowsAt, AreListed, IsCellBound, IsFlowPair, IsListedStep, has_evt, zone_pair, Task, Step}
-use Rattle.check_run.proofs.Common.{Whole, AllSteps, IsStep, Steps, budget_at, one_task, AreFlowsOf, faces_of, IsRest, first_in, rest_more, rest_whole}
-use Rattle.check_run.proofs.Common.{as_listed}
+use Rattle.check_run.proofs.Common.{◌+ℤ◌, ◌≤ℤ◌, ◌<ℤ◌, unsigned_abs, nat_abs, ◌^◌, ◌≤◌, Option, Some, None, ◌∙◌, AllZip, ints, All-weaker, Bound, Out, ZoneFlow}
+use Rattle.check_run.proofs.Common.{Entries, entries_at, no_bound, lower_at, upper_at, Budget, TermPair, all_terms, term_limit, Face, flows_between, pairs_in}
+use Rattle.check_run.proofs.Common.{AreNumbers, FlowModel, TimeStep, cell_count, variable_below, evap_sources, period_at, times, IsModel, IsCellOf, IsEvap}
+use Rattle.check_run.proofs.Common.{AreGridHeads, StartHeadsFit, Thicknesses, one_deck, IsBefore, Solved, bound_at, HeadsFit, IsSettledStep, AreCellBounds}
+use Rattle.check_run.proofs.Common.{AreFlows, AreFlowsAt, AreListed, IsCellBound, IsFlowPair, IsListedStep, has_evt, zone_pair, Task, Step, Whole, AllSteps}
+use Rattle.check_run.proofs.Common.{IsStep, Steps, budget_at, one_task, AreFlowsOf, faces_of, IsRest, first_in, rest_more, rest_whole, as_listed, nat_tests}
+use Rattle.check_run.proofs.Common.{IsZoneFlow, is_nonzero}
+use Rattle.step_problem.specs.declared.place.Dir.TheVariants.{In}
 use Rattle.std.specs.Prelude.{Contains}
-use Rattle.std.proofs.lemmas.Bool.Decides.{nat_tests}
 use Rattle.step_problem.specs.Flows.{total}
-use Rattle.zone_flows.specs.Pairs.{IsZoneFlow}
-use Rattle.model_types.specs.Layers.{is_nonzero}
 use Rattle.model_types.specs.Receivers.{is_chosen}
 use Rattle.step_chain.specs.Pairs.PairKind.{settled as settled_kind}
 use Rattle.check_run.proofs.FlowPairs.{flows_have_pairs}

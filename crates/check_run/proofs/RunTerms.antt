@@ -1,8 +1,9 @@
 -- The terms of a step's budget are flows that a listing can have.
 use Rattle.check_run.proofs.Common.{◌≡◌, ℕ, zero, suc, ◌^◌, ◌<◌, Bool, true, false, List, [], ◌∷◌, length, nat_abs, All, get_or, Result, Ok, Err, refl, sym, ap}
-use Rattle.check_run.proofs.Common.{◌∙◌, subst, arith, ℤ, pos, negsuc, ◌+ℤ◌, ◌≤ℤ◌, if◌then◌else◌, AllZip, ints, Dir, In, Out, NoBound, Term, Entries}
-use Rattle.check_run.proofs.Common.{entries_at, TermPair, Budget, ◌>>=◌, all_terms, budget_of, is_small, no_pair, parts, term_limit, term_of, term_pair}
-use Rattle.check_run.proofs.Common.{terms_of, too_large, IsFlowPair}
+use Rattle.check_run.proofs.Common.{◌∙◌, subst, arith, ℤ, pos, negsuc, ◌+ℤ◌, ◌≤ℤ◌, if◌then◌else◌, AllZip, ints, Dir, Out, NoBound, Term, Entries, entries_at}
+use Rattle.check_run.proofs.Common.{TermPair, Budget, ◌>>=◌, all_terms, budget_of, is_small, no_pair, parts, term_limit, term_of, term_pair, terms_of}
+use Rattle.check_run.proofs.Common.{too_large, IsFlowPair}
+use Rattle.step_problem.specs.declared.place.Dir.TheVariants.{In}
 use Rattle.std.specs.Int.Signed.{lt_z}
 use Rattle.step_problem.specs.declared.place.Term.TheVariants.{Storage, Et}
 use Rattle.cell_balance.specs.Components.{sum_below}

@@ -1,5 +1,5 @@
 -- What a cell's kind says of it.
-use Rattle.std.proofs.Common.{◌≡◌, ℕ, Bool, true, false, cond, refl, sym, ◌∙◌}
+use Rattle.std.proofs.Common.{◌≡◌, Bool, true, false, cond, refl, sym, ◌∙◌}
 use Rattle.model_types.specs.declared.kind.Kind.{Kind}
 use Rattle.model_types.specs.declared.kind.Kind.TheVariants.{NoFlow, Constant, Variable}
 

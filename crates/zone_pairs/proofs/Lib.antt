@@ -1,5 +1,6 @@
 mod Common
-pub mod Keys
 pub mod CellKinds
+pub mod Gains
+pub mod InOrder
+pub mod Joined
 pub mod Small
-pub mod Flows

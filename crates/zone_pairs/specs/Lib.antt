@@ -1,3 +1,4 @@
 pub mod Zones
 pub mod Pairs
+pub mod Keys
 pub mod Periods

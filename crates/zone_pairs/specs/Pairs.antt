@@ -1,58 +1,40 @@
--- The pairs of zones between which water flows in a stress period: those that share a face between two active cells, of
--- which at least one is variable. Zone 0 is no zone. A pair a, b has the key 1000 * a + b.
-use Rattle.std.specs.Prelude.{ℕ, ◌/◌, ◌%◌, cond, List, [], ◌∷◌, ◌++◌, map, slice_index, Option, Some, None}
-use Rattle.std.specs.BTreeSet.{insert_key}
-use Rattle.std.specs.List.{flat_map}
-use Rattle.std.specs.Ordering.{nat_cmp}
+-- The pairs of zones that share a face in a stress period. Zone 0 is no zone.
+use Rattle.std.specs.Prelude.{ℕ, ◌==◌, nat_lt, Bool, false, ◌&&◌, ◌||◌, List, [], filter, map, slice_index, Option, Some, None}
+use Rattle.std.specs.List.{flat_map, list_any, range_with_len}
 use Rattle.step_problem.specs.declared.place.ZoneFlow.{ZoneFlow}
 use Rattle.model_types.specs.declared.face.Face.{Face}
 use Rattle.model_types.specs.declared.model.FlowModel.{FlowModel}
 use Rattle.model_types.specs.Faces.{faces}
-use Rattle.model_types.specs.Kinds.{is_variable, is_constant, variable_cells}
-use Rattle.zone_flows.specs.Faces.{is_lower_zone}
-use Rattle.zone_flows.specs.Tables.{key_of}
+use Rattle.model_types.specs.Kinds.{variable_cells}
+use Rattle.model_types.specs.Layers.{is_active}
 use Rattle.zone_pairs.specs.declared.pair.ZonePair.{ZonePair}
 
 -- the two zones of a flow
 abbrev pub zones_of_flow : ZoneFlow → ZonePair
 zones_of_flow v = record { from = v.from; to = v.to }
 
--- the pair of a key
-abbrev pub pair_of : ℕ → ZonePair
-pair_of q = record { from = q / 1000; to = q % 1000 }
+-- z is the pair of the zones a and b: neither is 0, they differ, and the lower is first
+abbrev pub joins : ZonePair → ℕ → ℕ → Bool
+joins z a b = nat_lt 0 z.from && nat_lt z.from z.to && ((a == z.from) && (b == z.to) || (a == z.to) && (b == z.from))
 
--- the pair of the face from cell x to cell y, where the zone of x is the lower of two zones
-unfoldable pub keys_from : List ℕ → ℕ → ℕ → List ℕ
-keys_from zones x y =
-    cond (is_lower_zone (slice_index zones x) (slice_index zones y)) (key_of (slice_index zones x) (slice_index zones y) ∷ []) []
+-- A model, whose cell c is in zone zones[c].
+module _ (m : FlowModel) (zones : List ℕ) where
+  -- a face of cell c leads to an active neighbour, and z is the pair of their zones
+  abbrev pub joins_by : ZonePair → ℕ → Option Face → Bool
+  joins_by z c None = false
+  joins_by z c (Some f) = is_active m f.end && joins z (slice_index zones c) (slice_index zones f.end)
 
--- these keys, in order, each once
-unfoldable pub with_keys : List ℕ → List ℕ → List ℕ
-with_keys keys [] = keys
-with_keys keys (q ∷ more) = with_keys (insert_key nat_cmp keys q) more
+  -- so does a face of a cell that is variable in stress period p
+  unfoldable pub share_face : ℕ → ZonePair → Bool
+  share_face p z = list_any (λ c. list_any (joins_by z c) (faces m.grid c)) (variable_cells m p)
 
--- A stress period of a model, whose cell c is in zone zones[c].
-module _ (m : FlowModel) (zones : List ℕ) (p : ℕ) where
-  -- A face of the variable cell c to a variable neighbour, which counts at the cell in the lower zone; and one to a
-  -- constant-head neighbour, which no other cell counts.
-  abbrev pub to_variable : ℕ → Option Face → List ℕ
-  to_variable c None = []
-  to_variable c (Some f) = cond (is_variable m p f.end) (keys_from zones c f.end) []
+-- all pairs of numbers below n, in order, each once
+unfoldable pub pairs_below : ℕ → List ZonePair
+pairs_below n = flat_map (λ a. map (λ b. record { from = a; to = b }) (range_with_len 0 n)) (range_with_len 0 n)
 
-  abbrev pub to_constant : ℕ → Option Face → List ℕ
-  to_constant c None = []
-  to_constant c (Some f) = cond (is_constant m p f.end) (keys_from zones c f.end ++ keys_from zones f.end c) []
-
-  unfoldable pub cell_keys : ℕ → List ℕ
-  cell_keys c = flat_map (to_variable c) (faces m.grid c) ++ flat_map (to_constant c) (faces m.grid c)
-
-  -- the pairs of all variable cells' faces
-  unfoldable pub face_keys : List ℕ
-  face_keys = flat_map cell_keys (variable_cells m p)
-
-  -- the pairs in order, each once
-  unfoldable pub zone_pairs : List ZonePair
-  zone_pairs = map pair_of (with_keys [] face_keys)
+-- the pairs of zones that share a face, in order, each once
+unfoldable pub zone_pairs : FlowModel → List ℕ → ℕ → List ZonePair
+zone_pairs m zones p = filter (share_face m zones p) (pairs_below 1000)
 
 -- the pairs of a stress period; none without a zone file
 abbrev pub pairs_in : FlowModel → Option (List ℕ) → ℕ → List ZonePair

@@ -1,8 +1,11 @@
 // The pairs of zones of a stress period.
-ghost use Rattle.std.specs.Prelude.{◌≡◌, [], IfOk, map};
+ghost use Rattle.std.specs.Prelude.{◌≡◌, IfOk, OnOk, map};
+ghost use Rattle.std.specs.BTreeSet.{IsOrdered};
+ghost use Rattle.std.specs.Ordering.{nat_cmp};
 ghost use Rattle.model_types.specs.Grids.{HasSize};
 ghost use Rattle.model_types.specs.Kinds.{given_heads};
-ghost use Rattle.zone_pairs.specs.Pairs.{face_keys, pair_of, with_keys, zone_pairs};
+ghost use Rattle.zone_pairs.specs.Keys.{Gains, pair_of};
+ghost use Rattle.zone_pairs.specs.Pairs.{share_face, zone_pairs};
 ghost use Rattle.zone_pairs.specs.Zones.{AreZonesOf};
 
 use crate::faces::add_cell;
@@ -20,11 +23,11 @@ fn add_cells(
     requires size { HasSize model.now.grid }
     requires given { given.now ≡ given_heads model.now given.now.period }
     requires zones { AreZonesOf model.now zones.now }
-    ensures { IfOk result (λ _. keys.new.keys ≡ with_keys keys.old.keys (face_keys model.now zones.now given.now.period)) }
+    ensures { OnOk result (Gains keys.old keys.new (share_face model.now zones.now given.now.period)) }
 {
     for cell in 0..model.grid.cell_count() {
         match given.kind(model, cell) {
-            Kind::Variable => add_cell(keys, model, given, zones, cell)?,
+            Kind::Variable => add_cell(keys, model, zones, cell)?,
             Kind::Constant => {}
             Kind::NoFlow => {}
         }
@@ -43,7 +46,8 @@ fn pair_of(key: u32) -> ZonePair
 
 // The pairs of these keys, in their order.
 fn pairs_of(alloc: Global, keys: &BTreeSet<u32>) -> Result<Vec<ZonePair>, AllocError>
-    ensures { IfOk result (λ pairs. pairs.items ≡ map pair_of keys.now.keys) }
+    ensures pairs { IfOk result (λ pairs. pairs.items ≡ map pair_of keys.now.keys) }
+    ensures ascend { IsOrdered nat_cmp keys.now }
 {
     let mut pairs = Vec::new(alloc);
     for key in keys {
@@ -53,7 +57,6 @@ fn pairs_of(alloc: Global, keys: &BTreeSet<u32>) -> Result<Vec<ZonePair>, AllocE
 }
 
 /// The pairs of zones that share a face in the stress period of these given heads, in order.
-#[tactic(auto, unfolding(crate::specs::Pairs::zone_pairs))]
 pub(crate) fn zone_pairs(
     alloc: Global,
     model: &FlowModel,

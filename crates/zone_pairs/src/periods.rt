@@ -10,18 +10,18 @@ use crate::pairs::zone_pairs;
 use model_types::{FlowModel, GivenHeads, Listed};
 use std::alloc::{AllocError, Global};
 
-/// The zones of a model's cells, the given heads up to a stress period, and the pairs of zones at that period.
+// The zones of a model's cells, the given heads up to a stress period, and the pairs of zones at that period.
 #[derive(Drop)]
-pub struct Walk<'a> {
-    pub zones: &'a [u32],
-    pub given: GivenHeads,
-    pub pairs: Listed<ZonePair>,
+struct Walk<'a> {
+    zones: &'a [u32],
+    given: GivenHeads,
+    pairs: Listed<ZonePair>,
 }
 
 /// The pairs of zones of a model that share a face, at a stress period; none without a zone file.
 #[derive(Drop)]
 pub struct ZonePairs<'a> {
-    pub walk: Option<Walk<'a>>,
+    walk: Option<Walk<'a>>,
 }
 
 // Moves to the given heads of this period. It starts anew before an earlier one.

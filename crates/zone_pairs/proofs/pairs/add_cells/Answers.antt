@@ -1,34 +1,31 @@
-use Rattle.zone_pairs.proofs.Common.{◌≡◌, ◌-◌, ◌<◌, ◌≤◌, List, ℕ, ap, arith, FlowModel, cell_count, is_variable, is_constant, variable_below, filter, flat_map}
-use Rattle.zone_pairs.proofs.Common.{range_with_len, cell_keys, face_keys, with_keys}
+use Rattle.zone_pairs.proofs.Common.{◌≡◌, ℕ, Bool, ap, arith, list_any, faces, is_constant, is_variable, share_face, variable_below, joins_by, ZonePair}
+use Rattle.model_types.specs.Cells.{cell_count}
 use Rattle.zone_pairs.proofs.CellKinds.{when_constant, when_none, when_variable}
-use Rattle.zone_pairs.proofs.Keys.{passed_over, passes, walk_ends}
+use Rattle.zone_pairs.proofs.Gains.{gains_cell, gains_no_cell, gains_nothing, gains_same}
 use Rattle.zone_pairs.proofs.pairs.add_cells.Goals.{in-Variable+in_ok-add_cell-in-Variable, in-Constant, in-NoFlow}
 use Rattle.zone_pairs.proofs.pairs.add_cells.Goals as goal
 
--- a walk from the first cell
-all_keys : (m : FlowModel) (zones : List ℕ) (p : ℕ) → flat_map (cell_keys m zones p) (filter (is_variable m p) (range_with_len 0 (cell_count m.grid - 0))) ≡ face_keys m zones p
-unfolding face_keys variable_below
-all_keys m zones p =
-    let none : cell_count m.grid - 0 ≡ cell_count m.grid = omega arith in
-    ap (λ n. flat_map (cell_keys m zones p) (filter (is_variable m p) (range_with_len 0 n))) none
-
 pub loop-cell-init : goal.loop-cell-init
-loop-cell-init c = ap (λ ks. with_keys c.args.keys.now.keys ks) (all_keys c.args.model.now c.args.zones.now c.args.given.now.period)
+unfolding variable_below
+loop-cell-init c = gains_nothing c.args.keys.now
 
 pub loop-cell-preserved : goal.loop-cell-preserved
 loop-cell-preserved c =
     let m = c.args.model.now in
     let p = c.args.given.now.period in
     let x = c.loop-cell.cell in
-    let lt : x < cell_count m.grid = omega (arith, c.loop-cell-test.true, c.cell_count-cell-end.ensures.count) in
+    let has_face : ZonePair → ℕ → Bool = λ z cell. list_any (joins_by m c.args.zones.now z cell) (faces m.grid cell) in
     elim c.match-kind.branch [
-      | in-Variable+in_ok-add_cell-in-Variable w ↦ rw w.keys-is (passes (cell_keys m c.args.zones.now p) (is_variable m p) (cell_count m.grid) x c.loop-cell.keys.keys _ _ lt (when_variable c.kind.result (is_variable m p x) (is_constant m p x) c.kind.ensures w.in-Variable.is) w.in_ok-add_cell-in-Variable.ensures c.loop-cell.invariant)
-      | in-Constant w ↦ rw w.keys-is (passed_over (cell_keys m c.args.zones.now p) (is_variable m p) (cell_count m.grid) x c.loop-cell.keys.keys _ lt (when_constant c.kind.result (is_variable m p x) (is_constant m p x) c.kind.ensures w.in-Constant.is).0 c.loop-cell.invariant)
-      | in-NoFlow w ↦ rw w.keys-is (passed_over (cell_keys m c.args.zones.now p) (is_variable m p) (cell_count m.grid) x c.loop-cell.keys.keys _ lt (when_none c.kind.result (is_variable m p x) (is_constant m p x) c.kind.ensures w.in-NoFlow.is).0 c.loop-cell.invariant)
+      | in-Variable+in_ok-add_cell-in-Variable w ↦ rw w.keys-is (gains_cell m p c.args.keys.now c.loop-cell.keys has_face x c.loop-cell.invariant _ (when_variable c.kind.result (is_variable m p x) (is_constant m p x) c.kind.ensures w.in-Variable.is) w.in_ok-add_cell-in-Variable.ensures)
+      | in-Constant w ↦ rw w.keys-is (gains_no_cell m p c.args.keys.now c.loop-cell.keys has_face x c.loop-cell.invariant (when_constant c.kind.result (is_variable m p x) (is_constant m p x) c.kind.ensures w.in-Constant.is).0)
+      | in-NoFlow w ↦ rw w.keys-is (gains_no_cell m p c.args.keys.now c.loop-cell.keys has_face x c.loop-cell.invariant (when_none c.kind.result (is_variable m p x) (is_constant m p x) c.kind.ensures w.in-NoFlow.is).0)
     ]
 
 pub returns : goal.returns
+unfolding share_face
 returns c =
     let m = c.args.model.now in
-    let over : cell_count m.grid ≤ c.loop-cell.cell = omega (arith, c.loop-cell-test.false, c.cell_count-cell-end.ensures.count) in
-    walk_ends (cell_keys m c.args.zones.now c.args.given.now.period) (is_variable m c.args.given.now.period) (cell_count m.grid) c.loop-cell.cell c.loop-cell.keys.keys _ over c.loop-cell.invariant
+    let p = c.args.given.now.period in
+    let has_face : ZonePair → ℕ → Bool = λ z cell. list_any (joins_by m c.args.zones.now z cell) (faces m.grid cell) in
+    let all : c.loop-cell.cell ≡ cell_count m.grid = omega (arith, c.loop-cell-test.false, c.cell_count-cell-end.ensures.count) in
+    gains_same c.args.keys.now c.loop-cell.keys (λ z. list_any (has_face z) (variable_below m p c.loop-cell.cell)) (λ z. list_any (has_face z) (variable_below m p (cell_count m.grid))) (λ z. ap (λ n. list_any (has_face z) (variable_below m p n)) all) c.loop-cell.invariant
