@@ -7,7 +7,8 @@
 //!
 //! `@read NAME` reads the model of a name file, and prints its lists. `@wide NAME` reads it by wide limits, and prints its
 //! size or its refusal. `@write NAME` writes that model, and prints its files,
-//! which are the deck's from now on. `@zones NAME FILE` reads the zones of its cells.
+//! which are the deck's from now on. `@zones NAME FILE` reads the zones of its cells. `@alike NAME NAME2` prints where the
+//! models of two name files differ first: the package, and the cell if there is one.
 //! `@periods NAME` prints its time steps, and for each stress period the kinds of its cells, by the
 //! heads given so far and by reading the CHD lists for each cell. `@share ENTRIES PERIODS` shares a list of ENTRIES entries
 //! PERIODS times, and prints the sum of the lengths. `@example HK RATE` prints the lists of the builder's example, whose
@@ -17,6 +18,7 @@
 //! `@words WORD|WORD|..` prints what the words of a command line ask for; without a word after it there are none.
 #![tactic(auto)]
 
+mod alike;
 mod example;
 mod kinds;
 mod lists;
@@ -31,6 +33,7 @@ mod wide;
 mod words;
 mod written;
 
+use alike::print_difference;
 use kinds::print_periods;
 use made::print_made;
 use models::{print_example, print_model, print_zones};
@@ -52,6 +55,7 @@ fn ask(rt: &impl Print, alloc: Global, deck: &mut Deck, question: Question<'_>) 
         Question::Wide(name) => print_wide(rt, alloc, folder, name),
         Question::Write(name) => print_written(rt, alloc, folder, name),
         Question::Zones(name, zones) => print_zones(rt, alloc, folder, name, zones),
+        Question::Alike(first, second) => print_difference(rt, alloc, folder, first, second),
         Question::Periods(name) => print_periods(rt, alloc, folder, name),
         Question::Share(entries, periods) => print_shared(rt, alloc, entries, periods),
         Question::Example(hk, rate) => print_example(rt, alloc, hk, rate),

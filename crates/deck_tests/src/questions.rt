@@ -7,6 +7,7 @@ pub enum Question<'a> {
     Wide(&'a str),
     Write(&'a str),
     Zones(&'a str, &'a str),
+    Alike(&'a str, &'a str),
     Periods(&'a str),
     Share(u32, u32),
     Example(u32, u32),
@@ -18,6 +19,11 @@ pub enum Question<'a> {
 fn zones(rest: &str) -> Option<Question<'_>> {
     let (name, zones) = rest.split_once(' ')?;
     Some(Question::Zones(name, zones))
+}
+
+fn alike(rest: &str) -> Option<Question<'_>> {
+    let (first, second) = rest.split_once(' ')?;
+    Some(Question::Alike(first, second))
 }
 
 fn steps(rest: &str) -> Option<Question<'_>> {
@@ -55,6 +61,7 @@ impl<'a> Question<'a> {
             "@wide" => Some(Question::Wide(rest)),
             "@write" => Some(Question::Write(rest)),
             "@zones" => zones(rest),
+            "@alike" => alike(rest),
             "@periods" => Some(Question::Periods(rest)),
             "@share" => share(rest),
             "@example" => example(rest),

@@ -1,0 +1,130 @@
+-- What a walk over two models finds, from what the walks over their parts find.
+use Rattle.deck_alike.proofs.Common.{◌≡◌, ℕ, ◌<◌, List, [], ◌∷◌, Option, Some, None, length, get_or, take, subst, sym, ap, ◌∙◌, refl, arith, inr, AllZip}
+use Rattle.deck_alike.proofs.Common.{each_same, get_or_from_slice_get, slice_get_read, Dec, Package, Dis, Lpf, FlowModel, Period, cell_count, layer_size}
+use Rattle.deck_alike.proofs.Common.{AreSame, IsFirst, Finds, InOrder, IsFirstOfLayers, IsLayerCell, IsListCell, array_at, named, AreArraysSame, SharesGrid}
+use Rattle.deck_alike.proofs.Common.{SharesIn, SharesProperties, IsCellIn, IsHeadCell, IsPeriodCell, SharesOptions, SharesSizes, bottoms, properties}
+use Rattle.model_types.specs.declared.grid.CellId.{CellId}
+use Rattle.model_types.specs.declared.grid.Grid.{Grid}
+use Rattle.deck_alike.proofs.ZipLemmas.{first_not_all}
+
+-- what one part finds, told of the whole
+pub finds_more : (S T : Type 0) (M N : Option CellId → Type 0) (r : Option (Option CellId)) → (S → T) → (T → S) → ((c : Option CellId) → M c → N c) → Finds S M r → Finds T N r
+finds_more S T M N None to from turn h = to h
+finds_more S T M N (Some c) to from turn h = (λ t. h.0 (from t), turn c h.1)
+
+-- what isn't shared isn't alike
+pub unlike_by : (S A N : Type 0) → (A → S) → (S → ⊥) × N → A → ⊥
+unlike_by S A N shares h alike = h.0 (shares alike)
+
+pub zip_same : {X : Type 0} (xs ys : List X) → ys ≡ xs → AllZip AreSame xs ys
+zip_same xs ys e = subst (λ zs. AllZip AreSame xs zs) (sym e) (self xs)
+  where
+    self : {X : Type 0} (zs : List X) → AllZip AreSame zs zs
+    self [] = tt
+    self (z ∷ zs) = (refl, self zs)
+
+module _ {X : Type 0} (R : X → X → Type 0) (cells : ℕ) (xs ys : List X) where
+  pub list_found : (number : X → ℕ) (k n : ℕ) (y : X) (cell : Option CellId) → length ys ≡ length xs → IsFirst R xs ys k → y ≡ get_or ys k y → n ≡ number y → cell ≡ named cells n → Finds (AllZip R xs ys) (IsListCell R number cells xs ys) (Some cell)
+  list_found number k n y cell e h is by names =
+      let same : y ≡ h.second = is ∙ get_or_from_slice_get ys k h.second y h.of_second in
+      (first_not_all R xs ys k h, inr (e, record { place = k; first = h; names = names ∙ ap (named cells) by ∙ ap (λ z. named cells (number z)) same }))
+
+-- stress periods in turn
+module _ (kind : Package) (cells : ℕ) (ps qs : List Period) where
+  abbrev CellOfPeriods : Option CellId → Type 0
+  CellOfPeriods cell = InOrder (length qs ≡ length ps) (cell ≡ None) (IsPeriodCell kind cells ps qs cell)
+
+  pub periods_found : (i : ℕ) (p q : Period) (c : Option CellId) → i < length ps → length qs ≡ length ps → p ≡ get_or ps i p → q ≡ get_or qs i q → AllZip (SharesIn kind) (take i ps) (take i qs) →
+      (SharesIn kind p q → ⊥) × IsCellIn kind cells p q c → Finds (AllZip (SharesIn kind) ps qs) CellOfPeriods (Some c)
+  periods_found i p q c lt e is_p is_q before h =
+      let first : IsFirst (SharesIn kind) ps qs i = record {
+        before = before;
+        first = p;
+        second = q;
+        of_first = slice_get_read ps (length ps) i p refl lt is_p;
+        of_second = slice_get_read qs (length qs) i q refl (omega (arith, e, lt)) is_q;
+        unlike = h.0;
+      } in
+      (first_not_all (SharesIn kind) ps qs i first, inr (e, record { period = i; first = first; names = h.1 }))
+
+-- the cell of arrays that are read layer by layer
+layer_cell : (size cells n m : ℕ) (xss yss : List (List Dec)) (k : ℕ) (cell : Option CellId) → n ≡ size → m ≡ cells → cell ≡ named m k → IsFirstOfLayers n xss yss k → IsLayerCell size cells xss yss cell
+layer_cell size cells n m xss yss k cell by_size by_cells names h = record {
+  place = k;
+  first = subst (λ (s : ℕ). IsFirstOfLayers s xss yss k) by_size h;
+  names = names ∙ ap (λ (c : ℕ). named c k) by_cells;
+}
+
+pub layers_found : (size cells n m : ℕ) (xss yss : List (List Dec)) (k : ℕ) (cell : Option CellId) → n ≡ size → m ≡ cells → cell ≡ named m k → IsFirstOfLayers n xss yss k → Finds (AreArraysSame xss yss) (IsLayerCell size cells xss yss) (Some cell)
+layers_found size cells n m xss yss k cell by_size by_cells names h =
+    (λ t. first_not_all AreSame _ _ k h.first (t h.array), layer_cell size cells n m xss yss k cell by_size by_cells names h)
+
+-- what a package has once
+module _ (a b : FlowModel) where
+  sizes_of : SharesGrid a b → SharesSizes a b
+  sizes_of h = record {
+    counts = record {
+      layers = ap (λ (g : Grid). g.layers) h.grid;
+      rows = ap (λ (g : Grid). g.rows) h.grid;
+      cols = ap (λ (g : Grid). g.cols) h.grid;
+      nper = h.nper;
+      lenuni = h.lenuni;
+    };
+    widths = record { laycbd = ap (λ (g : Grid). g.laycbd) h.grid; delr = ap (λ (g : Grid). g.delr) h.grid; delc = ap (λ (g : Grid). g.delc) h.grid };
+    bottom = ap (λ (g : Grid). length g.bottom) h.grid;
+    bed_bottom = ap (λ (g : Grid). length g.bed_bottom) h.grid;
+  }
+
+  grid_same : SharesSizes a b → AllZip AreSame a.grid.top b.grid.top → AreArraysSame (bottoms a.grid) (bottoms b.grid) → SharesGrid a b
+  grid_same s top h =
+      let tops : b.grid.top ≡ a.grid.top = each_same _ _ top in
+      let bottom : b.grid.bottom ≡ a.grid.bottom = each_same _ _ (h 0) in
+      let bed : b.grid.bed_bottom ≡ a.grid.bed_bottom = each_same _ _ (h 1) in
+      record {
+        grid = λ i. record {
+          layers = s.counts.layers i;
+          rows = s.counts.rows i;
+          cols = s.counts.cols i;
+          delr = s.widths.delr i;
+          delc = s.widths.delc i;
+          top = tops i;
+          bottom = bottom i;
+          laycbd = s.widths.laycbd i;
+          bed_bottom = bed i;
+        };
+        lenuni = s.counts.lenuni;
+        nper = s.counts.nper;
+      }
+
+  pub grid_rest : (us vs : List Dec) (r : Option (Option CellId)) → us ≡ a.grid.top → vs ≡ b.grid.top → SharesSizes a b → AllZip AreSame us vs →
+      Finds (AreArraysSame (bottoms a.grid) (bottoms b.grid)) (IsLayerCell (layer_size b.grid) (cell_count b.grid) (bottoms a.grid) (bottoms b.grid)) r → Finds (SharesGrid a b) (IsHeadCell Dis a b) r
+  grid_rest us vs r by_first by_second s tops h =
+      let top : AllZip AreSame a.grid.top b.grid.top = subst (λ xs. AllZip AreSame xs b.grid.top) by_first (subst (λ ys. AllZip AreSame us ys) by_second tops) in
+      finds_more _ _ _ _ r (grid_same s top) (λ t i. zip_same _ _ (ap (λ (g : Grid). array_at (bottoms g) i) t.grid)) (λ c m. inr (s, inr (each_same _ _ top, m))) h
+
+  options_of : SharesProperties a b → SharesOptions a b
+  options_of h = record {
+    coefficient = h.coefficient;
+    layvka = h.layvka;
+    lengths = record { hk = ap length h.hk; hani = ap length h.hani; vka = ap length h.vka; ss = ap length h.ss; vkcb = ap length h.vkcb };
+  }
+
+  same_arrays : SharesProperties a b → properties b ≡ properties a
+  same_arrays h = λ i. h.hk i ∷ h.hani i ∷ h.vka i ∷ h.ss i ∷ h.vkcb i ∷ []
+
+  pub properties_found : (size cells k : ℕ) (cell : Option CellId) → size ≡ layer_size b.grid → cells ≡ cell_count b.grid → cell ≡ named cells k → SharesOptions a b → IsFirstOfLayers size (properties a) (properties b) k → Finds (SharesProperties a b) (IsHeadCell Lpf a b) (Some cell)
+  properties_found size cells k cell by_size by_cells names s h = (
+    λ t. first_not_all AreSame _ _ k h.first (zip_same _ _ (ap (λ xss. array_at xss h.array) (same_arrays t))),
+    inr (s, layer_cell (layer_size b.grid) (cell_count b.grid) size cells (properties a) (properties b) k cell by_size by_cells names h),
+  )
+
+  pub properties_same : SharesOptions a b → AreArraysSame (properties a) (properties b) → SharesProperties a b
+  properties_same s h = record {
+    coefficient = s.coefficient;
+    layvka = s.layvka;
+    hk = each_same _ _ (h 0);
+    hani = each_same _ _ (h 1);
+    vka = each_same _ _ (h 2);
+    ss = each_same _ _ (h 3);
+    vkcb = each_same _ _ (h 4);
+  }

@@ -1,0 +1,7 @@
+mod Common
+pub mod NumberOrders
+pub mod SignedOrders
+pub mod ZipLemmas
+pub mod Layers
+pub mod Finding
+pub mod AlikeParts

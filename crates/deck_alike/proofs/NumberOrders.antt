@@ -1,0 +1,76 @@
+-- The order of two magnitudes, from their digits and exponents.
+use Rattle.deck_alike.proofs.Common.{◌≡◌, ℕ, ◌+◌, ◌*◌, ◌^◌, ◌<◌, ◌≤◌, ℤ, pos, ◌+ℤ◌, Bool, true, false, subst, sym, arith, ◌⊎◌, inl, inr, leb, MatchBool}
+use Rattle.deck_alike.proofs.Common.{mul-le-mul_right, cases_lt, le-leb, lt-leb, ints, Dec, size, down, up, cross_of, power_within, ten_pos, up_down}
+use Rattle.std.proofs.lemmas.Nat.{pow-add}
+use Rattle.decimal_input.specs.Ratios.{AtMost as IsRatioAtMost}
+use Rattle.decimal_input.proofs.Cross.{le_cancel}
+
+-- a fact in place of another one that holds exactly where it does
+pub turned_to : (r : Bool) (P Q : Type 0) → (P → Q) → (Q → P) → MatchBool r P (P → ⊥) → MatchBool r Q (Q → ⊥)
+turned_to true P Q to from h = to h
+turned_to false P Q to from h = λ q. h (from q)
+
+-- past 19 places a number above 0 has more than 64 bits
+pub past_all : (m p : ℕ) → 0 < m → 19 < p → 2 ^ 64 ≤ m * 10 ^ p
+past_all m p some far =
+    let k : 10 ^ 20 ≤ 10 ^ p = power_within 20 p (omega arith) in
+    let j : 1 * 10 ^ p ≤ m * 10 ^ p = mul-le-mul_right (10 ^ p) some in
+    omega (arith, k, j)
+
+-- a test m ≤ n that decides a fact
+decides : (m n : ℕ) (P : Type 0) → (m ≤ n → P) → (P → m ≤ n) → MatchBool (leb m n) P (P → ⊥)
+decides m n P to from = elim (cases_lt n m) [
+  | inl lt ↦ subst (λ (r : Bool). MatchBool r P (P → ⊥)) (sym (lt-leb m n lt)) (λ p. let h = from p in absurd (omega (arith, h, lt)))
+  | inr le ↦ subst (λ (r : Bool). MatchBool r P (P → ⊥)) (sym (le-leb m n le)) (to le)
+]
+
+-- k stands for x where it has at most 64 bits
+abbrev StandsFor : ℕ → ℕ → Type 0
+StandsFor k x = (k ≡ x) ⊎ ((2 ^ 64 ≤ k) × (2 ^ 64 ≤ x))
+
+pub stands_at_most : (k x n : ℕ) → n < 2 ^ 64 → StandsFor k x → MatchBool (leb k n) (x ≤ n) (x ≤ n → ⊥)
+stands_at_most k x n few (inl e) = decides k n _ (λ h. omega arith) (λ h. omega arith)
+stands_at_most k x n few (inr far) = decides k n _ (λ h. omega (arith, far.0, far.1)) (λ h. omega (arith, far.0, far.1))
+
+pub at_most_stands : (k x n : ℕ) → n < 2 ^ 64 → StandsFor k x → MatchBool (leb n k) (n ≤ x) (n ≤ x → ⊥)
+at_most_stands k x n few (inl e) = decides n k _ (λ h. omega arith) (λ h. omega arith)
+at_most_stands k x n few (inr far) = decides n k _ (λ h. omega (arith, far.0, far.1)) (λ h. omega (arith, far.0, far.1))
+
+-- m * 10 ^ p and n in the order of m * 10 ^ (w + p) and n * 10 ^ w
+regrouped : (m p w : ℕ) → m * 10 ^ (w + p) ≡ m * 10 ^ p * 10 ^ w
+regrouped m p w = rw pow-add (omega arith)
+
+-- the powers of ten of two exponents, where the first one is greater by p
+powers : (d e : ℤ) (p : ℕ) → d ≡ e +ℤ pos p → up d + down e ≡ (up e + down d) + p
+powers d e p h = omega (arith, ints, up_down d, up_down e, h)
+
+module _ (a b : Dec) (p : ℕ) where
+  -- the first number has the greater exponent
+  at_most_above : a.exp ≡ b.exp +ℤ pos p → a.digits * 10 ^ p ≤ b.digits → IsRatioAtMost (size a) (size b)
+  at_most_above e h =
+      let w = up b.exp + down a.exp in
+      record { cross = rw (cross_of a.digits b.digits a.exp b.exp, cross_of b.digits a.digits b.exp a.exp, powers a.exp b.exp p e, regrouped a.digits p w) (mul-le-mul_right (10 ^ w) h) }
+
+  above_at_most : a.exp ≡ b.exp +ℤ pos p → IsRatioAtMost (size a) (size b) → a.digits * 10 ^ p ≤ b.digits
+  above_at_most e h =
+      let w = up b.exp + down a.exp in
+      let k : a.digits * 10 ^ p * 10 ^ w ≤ b.digits * 10 ^ w = rw (cross_of a.digits b.digits a.exp b.exp, cross_of b.digits a.digits b.exp a.exp, powers a.exp b.exp p e, regrouped a.digits p w) at h.cross in
+      le_cancel (10 ^ w) _ _ (ten_pos w) k
+
+  -- the second number has the greater exponent
+  at_most_below : b.exp ≡ a.exp +ℤ pos p → a.digits ≤ b.digits * 10 ^ p → IsRatioAtMost (size a) (size b)
+  at_most_below e h =
+      let w = up a.exp + down b.exp in
+      record { cross = rw (cross_of a.digits b.digits a.exp b.exp, cross_of b.digits a.digits b.exp a.exp, powers b.exp a.exp p e, regrouped b.digits p w) (mul-le-mul_right (10 ^ w) h) }
+
+  below_at_most : b.exp ≡ a.exp +ℤ pos p → IsRatioAtMost (size a) (size b) → a.digits ≤ b.digits * 10 ^ p
+  below_at_most e h =
+      let w = up a.exp + down b.exp in
+      let k : a.digits * 10 ^ w ≤ b.digits * 10 ^ p * 10 ^ w = rw (cross_of a.digits b.digits a.exp b.exp, cross_of b.digits a.digits b.exp a.exp, powers b.exp a.exp p e, regrouped b.digits p w) at h.cross in
+      le_cancel (10 ^ w) _ _ (ten_pos w) k
+
+  pub order_above : (r : Bool) → a.exp ≡ b.exp +ℤ pos p → MatchBool r (a.digits * 10 ^ p ≤ b.digits) (a.digits * 10 ^ p ≤ b.digits → ⊥) → MatchBool r (IsRatioAtMost (size a) (size b)) (IsRatioAtMost (size a) (size b) → ⊥)
+  order_above r e h = turned_to r _ _ (at_most_above e) (above_at_most e) h
+
+  pub order_within : (r : Bool) → b.exp ≡ a.exp +ℤ pos p → MatchBool r (a.digits ≤ b.digits * 10 ^ p) (a.digits ≤ b.digits * 10 ^ p → ⊥) → MatchBool r (IsRatioAtMost (size a) (size b)) (IsRatioAtMost (size a) (size b) → ⊥)
+  order_within r e h = turned_to r _ _ (at_most_below e) (below_at_most e) h

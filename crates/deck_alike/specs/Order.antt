@@ -1,0 +1,56 @@
+-- The order in which a deck is read, and the cell of what differs first.
+use Rattle.std.specs.Prelude.{◌≡◌, ℕ, ◌≤◌, ◌<◌, ◌/◌, ◌⊎◌, List, [], Option, Some, None, length, nat_lt, cond, slice_index_or}
+use Rattle.decimal_input.specs.declared.dec.Dec.{Dec}
+use Rattle.model_types.specs.declared.grid.CellId.{CellId}
+use Rattle.deck_alike.specs.Items.{AreSame, IsFirst}
+
+-- of two parts, read one after the other, the first one that isn't shared names the cell
+abbrev pub InOrder : Type 0 → Type 0 → Type 0 → Type 0
+InOrder Shared Cell Later = ((Shared → ⊥) × Cell) ⊎ (Shared × Later)
+
+-- what a walk over a part finds: nothing where it is shared, else the cell
+abbrev pub Finds : Type 0 → (Option CellId → Type 0) → Option (Option CellId) → Type 0
+Finds Shared Cell None = Shared
+Finds Shared Cell (Some cell) = (Shared → ⊥) × Cell cell
+
+-- the cell of this number in a grid of this many cells
+abbrev pub named : ℕ → ℕ → Option CellId
+named cells c = cond (nat_lt c cells) (Some (record { 0 = c })) None
+
+-- An array's cell: that of the first place that isn't alike, and none where the arrays have other lengths. An array of
+-- one layer names the cells of layer 1.
+pub record IsPlaceNamed {X : Type 0} (Alike : X → X → Type 0) (cells : ℕ) (xs ys : List X) (cell : Option CellId) : Type 0 where
+  pub place : ℕ
+  pub first : IsFirst Alike xs ys place
+  pub names : cell ≡ named cells place
+
+abbrev pub IsArrayCell : {X : Type 0} → (X → X → Type 0) → ℕ → List X → List X → Option CellId → Type 0
+IsArrayCell Alike cells xs ys cell = InOrder (length ys ≡ length xs) (cell ≡ None) (IsPlaceNamed Alike cells xs ys cell)
+
+-- A list's cell: that of the second deck's entry at the first place that isn't alike. Its length is read before its
+-- entries, so lists of other lengths name no cell.
+pub record IsEntryNamed {X : Type 0} (Alike : X → X → Type 0) (number : X → ℕ) (cells : ℕ) (xs ys : List X) (cell : Option CellId) : Type 0 where
+  pub place : ℕ
+  pub first : IsFirst Alike xs ys place
+  pub names : cell ≡ named cells (number first.second)
+
+abbrev pub IsListCell : {X : Type 0} → (X → X → Type 0) → (X → ℕ) → ℕ → List X → List X → Option CellId → Type 0
+IsListCell Alike number cells xs ys cell = InOrder (length ys ≡ length xs) (cell ≡ None) (IsEntryNamed Alike number cells xs ys cell)
+
+-- the array at a place of a list of arrays
+abbrev pub array_at : List (List Dec) → ℕ → List Dec
+array_at arrays i = slice_index_or arrays i []
+
+-- Arrays that are read layer by layer, and in a layer one after another: place k of some array is the first difference
+-- of them all. The first difference of each other array lies in a lower layer, or in the same one in a later array.
+pub record IsFirstOfLayers (layer_size : ℕ) (xss yss : List (List Dec)) (k : ℕ) : Type 0 where
+  pub array : ℕ
+  pub first : IsFirst AreSame (array_at xss array) (array_at yss array) k
+  pub others : (i n : ℕ) → IsFirst AreSame (array_at xss i) (array_at yss i) n →
+      (k / layer_size < n / layer_size) ⊎ ((k / layer_size ≡ n / layer_size) × (array ≤ i))
+
+-- their cell
+pub record IsLayerCell (layer_size cells : ℕ) (xss yss : List (List Dec)) (cell : Option CellId) : Type 0 where
+  pub place : ℕ
+  pub first : IsFirstOfLayers layer_size xss yss place
+  pub names : cell ≡ named cells place

@@ -1,0 +1,99 @@
+// The items of lists and arrays, and the first place at which two lists differ.
+ghost use Rattle.std.specs.Prelude.{◌≡◌, MatchBool, MatchOption, length};
+ghost use Rattle.std.specs.List.{AllZip};
+ghost use Rattle.deck_span.specs.Alike.{AreGivenAlike};
+ghost use Rattle.deck_span.specs.Models.{IsGivenAtMost};
+ghost use Rattle.deck_alike.specs.Items.{AreEntriesAlike, AreRatesAlike, AreSame, IsFirst};
+
+use crate::order::is_at_most;
+use decimal_input::dec::Dec;
+use model_types::{Entry, Given};
+
+/// An item that another model's may be compared with.
+pub trait Compared: Copy {
+    ghost alike: { Self → Self → Type 0 };
+
+    fn is_alike(self, other: Self) -> bool
+        ensures { MatchBool result (alike self other) (alike self other → ⊥) };
+}
+
+impl Compared for Dec {
+    ghost alike = { AreSame };
+
+    fn is_alike(self, other: Dec) -> bool {
+        self == other
+    }
+}
+
+impl Compared for i64 {
+    ghost alike = { AreSame };
+
+    fn is_alike(self, other: i64) -> bool {
+        self == other
+    }
+}
+
+impl Compared for Entry {
+    ghost alike = { AreEntriesAlike };
+
+    fn is_alike(self, other: Entry) -> bool {
+        match self {
+            Entry::Well { cell, .. } =>
+                matches!(other, Entry::Well { cell: c, .. } if c.0 == cell.0),
+            Entry::River { cell, .. } =>
+                matches!(other, Entry::River { cell: c, .. } if c.0 == cell.0),
+            Entry::Drain { cell, .. } =>
+                matches!(other, Entry::Drain { cell: c, .. } if c.0 == cell.0),
+            Entry::General { cell, .. } =>
+                matches!(other, Entry::General { cell: c, .. } if c.0 == cell.0),
+        }
+    }
+}
+
+// Whether both heads of one entry are at most those of the other.
+fn are_at_most(a: Given, b: Given) -> bool
+    ensures { MatchBool result (IsGivenAtMost a b) (IsGivenAtMost a b → ⊥) }
+{
+    is_at_most(a.shead, b.shead) && is_at_most(a.ehead, b.ehead)
+}
+
+impl Compared for Given {
+    ghost alike = { AreGivenAlike };
+
+    fn is_alike(self, other: Given) -> bool {
+        self.cell.0 == other.cell.0 && (are_at_most(self, other) || are_at_most(other, self))
+    }
+}
+
+/// The first place at which two lists of one length differ.
+pub fn first_apart<T: Compared + Drop>(xs: &[T], ys: &[T]) -> Option<usize>
+    requires long { length ys.now ≡ length xs.now }
+    ensures { MatchOption result (AllZip T.alike xs.now ys.now) (IsFirst T.alike xs.now ys.now) }
+{
+    for i in 0..xs.len() {
+        if !xs[i].is_alike(ys[i]) {
+            return Some(i);
+        }
+    }
+    None
+}
+
+// Whether both rates are 0, or neither.
+fn are_rates_alike(x: Dec, y: Dec) -> bool
+    ensures { MatchBool result (AreRatesAlike x y) (AreRatesAlike x y → ⊥) }
+{
+    (x.digits == 0) == (y.digits == 0)
+}
+
+/// The first place at which one of two rates is 0 and the other isn't.
+pub fn first_idle_apart(xs: &[Dec], ys: &[Dec]) -> Option<usize>
+    requires long { length ys.now ≡ length xs.now }
+    ensures { MatchOption result (AllZip AreRatesAlike xs.now ys.now) (IsFirst AreRatesAlike xs.now ys.now) }
+{
+    for i in 0..xs.len() {
+        if !are_rates_alike(xs[i], ys[i]) {
+            return Some(i);
+        }
+    }
+    None
+}

@@ -1,0 +1,15 @@
+//! Whether two models are alike, so that models lie between them, and where they differ first.
+#![tactic(auto)]
+
+mod areas;
+mod cells;
+mod difference;
+mod items;
+mod laws;
+mod lists;
+mod once;
+mod order;
+mod periods;
+
+pub use difference::{Difference, first_difference};
+pub use laws::shared_packages_are_alike;
