@@ -28,7 +28,8 @@ fn all_turned(alloc: Global, side: Side, heads: &[i64]) -> Result<Vec<i64>, Allo
     Ok(turned_heads)
 }
 
-fn bounds_of(
+/// One bound for each cell, of turned heads, cut to those in range.
+pub fn bounds_of(
     alloc: Global,
     p: &Problem,
     low: &[i64],

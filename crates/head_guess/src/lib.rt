@@ -20,8 +20,10 @@ mod method;
 mod newton;
 mod nodes;
 mod one_side;
+mod pair;
 mod raise;
 mod ramp;
+mod rest;
 mod room;
 mod search;
 mod share_cycles;
@@ -35,4 +37,5 @@ mod ways;
 
 pub use beside::guess_beside;
 pub use guess::{Guess, guess_heads};
+pub use pair::{guess_pair, guess_wider_pair};
 pub use steps::Kept;
