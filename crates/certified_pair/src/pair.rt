@@ -1,0 +1,34 @@
+// A pair that is tested.
+ghost use Rattle.std.specs.Prelude.{IfOk, IfSome};
+ghost use Rattle.step_problem.specs.Heads.{IsBarrier};
+ghost use Rattle.certified_pair.specs.Pairs.{AreCertified, AreOrdered};
+
+use crate::guesser::PairGuesser;
+use crate::test::is_certified;
+use head_guess::Kept;
+use std::alloc::{AllocError, Global};
+use step_problem::{Barrier, Bound, Problem};
+
+/// A guessed pair that is a certificate of a problem and a barrier, one bound for each cell, with heads in range and in order: the first guess,
+/// or a wider one. None where both fail, which says nothing of the problem. What the guess of the last step kept may be that of any problem.
+pub fn certified_pair<G: PairGuesser>(
+    guesser: &G,
+    alloc: Global,
+    p: &Problem,
+    b: &Barrier,
+    kept: &mut Kept,
+) -> Result<Option<Vec<Bound>>, AllocError>
+    requires { IsBarrier p.now b.now }
+    ensures certified { IfOk result (λ found. IfSome found (λ pair. AreCertified p.now b.now pair.items)) }
+    ensures ordered { IfOk result (λ found. IfSome found (λ pair. AreOrdered pair.items)) }
+{
+    let pair = guesser.guess(alloc, p, b, kept)?;
+    if is_certified(p, b, pair.as_slice()) {
+        return Ok(Some(pair));
+    }
+    let wider = guesser.widen(alloc, p, b, pair.as_slice(), kept)?;
+    if is_certified(p, b, wider.as_slice()) {
+        return Ok(Some(wider));
+    }
+    Ok(None)
+}
