@@ -5,6 +5,7 @@ use crate::answers::{print_barrier, print_bounds, print_budget, print_fault, pri
 use crate::events::print_events;
 use crate::given::Given;
 use crate::numbers::number;
+use crate::pairing::print_pair;
 use crate::question::Question;
 use crate::seats::print_seats;
 use crate::settling::print_settled;
@@ -83,6 +84,9 @@ fn ask_barrier<R: Print + Threads + Sync>(
             print_bounds(rt, "guessed", guess.bounds.as_slice())?;
             let guess = last_guess_beside(rt, alloc, p, b, guesses)?;
             print_bounds(rt, "beside", guess.bounds.as_slice())
+        }
+        Question::Pair | Question::SpoiltPair => {
+            print_pair(rt, alloc, p, b, question, bounds, number(numbers, 0))
         }
         Question::Events => print_events(rt, alloc, p, edge_words(alloc, p, b)?, moves),
         Question::Seats => print_seats(rt, alloc, p, b, moves),

@@ -16,7 +16,9 @@
 //! with the passes of the gate and the guesses at each. `watched WORKERS TURNS ROUNDS VIEWS LIMIT` settles
 //! by workers with VIEWS views in each phase, which stop at number LIMIT; `watched_run` as a run does, and `spoilt_views` with
 //! the bounds of `heads` as the guess; `pieces` puts the views to a sink whose put of number LIMIT fails. `heads LOW HIGH ..` are bounds of the cells, of which
-//! `check`, `budget` and `near TRIALS SWEEPS` (from the bounds, then by one round) are asked.
+//! `check`, `budget` and `near TRIALS SWEEPS` (from the bounds, then by one round) are asked. `pair ROUNDS` gives the pair by a tested guess of
+//! balanced heads, and the pair of a step that settles by so many sweeps where no guess passes; `spoilt_pair ROUNDS` the same, where the bounds
+//! of `heads` are the guess, and then bounds a unit wider.
 //!
 //! `other` keeps the problem so far, and `hull` puts the hull of it and of the problem after it in that problem's place,
 //! and prints its entries as lines.
@@ -50,6 +52,7 @@ mod hulls;
 mod moves;
 mod numbers;
 mod onlooker;
+mod pairing;
 mod passes;
 mod pieces;
 mod question;
