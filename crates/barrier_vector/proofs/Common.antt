@@ -6,15 +6,18 @@ pub use Rattle.std.proofs.Common.{to_z, true, unsigned_abs, zero, ℕ, ℤ, ◌*
 pub use Rattle.std.proofs.Math.Nat.{le_of_mul-le-mul_left, mul-le-mul_right}
 pub use Rattle.std.proofs.lemmas.Bool.{cases_eq, cases_lt, eq-eqb, false≢true, ne_eqb}
 pub use Rattle.std.proofs.lemmas.Int.{by_lt_z, clamps, ints, to_z-of_z}
-pub use Rattle.std.proofs.lemmas.List.{at_drop_more, get_or_default, get_or_past, length-set, take_all, take_more}
+pub use Rattle.std.proofs.lemmas.List.{at_drop_more, get_or_default, get_or_past, length-map, length-set, take_all, take_more}
 pub use Rattle.std.proofs.lemmas.List.Elements.{All-contains, All-head, All-tail, All-weaker, Contains-append_left, Contains-get_or, Contains-push}
 pub use Rattle.std.proofs.lemmas.List.Elements.{Contains-push_cases}
 pub use Rattle.std.proofs.lemmas.List.Sums.{get_or-le-sum_by, sum_by-take-le, sum_by_more}
 pub use Rattle.std.specs.Int.{int_div_euclid, int_max, int_min, int_rem_euclid, w128, w64}
 pub use Rattle.std.specs.List.{AllZip}
 pub use Rattle.std.specs.Option.{is_some, unwrap_or}
+pub use Rattle.std.specs.Prelude.{map}
 pub use Rattle.barrier_vector.specs.Bounds.{AnchorRoot, IsAnchorPath, IsAnchoredBound, IsBoundOn, IsCarriedFloor, IsCeiling, IsFloor, IsInnerPath, IsLongest}
 pub use Rattle.barrier_vector.specs.Bounds.{IsUnanchored, LeastRoot, anchor_on, greatest, moved_out}
+pub use Rattle.barrier_vector.specs.CutLaws.{BarrierIsCut, ClampedFits, CutBarrierExcludesRefusal, CutBarrierIsOne, CutRefusalIsOne}
+pub use Rattle.barrier_vector.specs.Cuts.{AreCutBounds, EnclosesUncut, IsCutBarrierOf, IsCutBoundOn, IsCutFault, Refuses, RefusesOn, clamp, cut_on}
 pub use Rattle.barrier_vector.specs.Labels.{AreLabels, Fills, IsGreatestOf, flow_sum, is_label, labelled, no_flow, number_at, sum_at}
 pub use Rattle.barrier_vector.specs.Lacks.{capped_flow, high_flow, lack, need, need_on, negative_part, positive_part, surplus}
 pub use Rattle.barrier_vector.specs.Laws.{CeilingsEnclose, FloorsEnclose, FloorsHold, IsSolution}
@@ -25,12 +28,12 @@ pub use Rattle.barrier_vector.specs.Paths.{IsLevel, IsParent, IsPath, LeadsToRoo
 pub use Rattle.barrier_vector.specs.Refusals.{HasNoBound, IsLeastWith, IsOutOfRange, IsRefused, IsRefusedOn, LeavesRange, Names, Nowhere, no_barrier_on}
 pub use Rattle.barrier_vector.specs.Refusals.{range_on}
 pub use Rattle.barrier_vector.specs.Roots.{AreAnchorPaths, AreBounds, AreComponents, AreRoots, IsAnchoredOrNone, IsBoundOrNone, ListAnchor, SelfRoot, bound_at}
-pub use Rattle.barrier_vector.specs.Roots.{cut_on}
 pub use Rattle.barrier_vector.specs.Searches.{ContinuesTo, IsNearest, IsSearched, IsStart, ListRoot, path_limit}
 pub use Rattle.barrier_vector.specs.Spreads.{FrontLeads, LinkLeads, Spreads, mark_at, unmarked}
-pub use Rattle.barrier_vector.specs.Tests.{AreHeadsOf, Fails, IsFaultOn, IsFirstFailing, IsWholeSide}
+pub use Rattle.barrier_vector.specs.Tests.{AreHeadsOf, IsCutFaultOn, IsFaultOn, IsFirst, IsMissing, IsWholeSide, LiesOut}
+pub use Rattle.barrier_vector.specs.declared.BarrierFault.{BarrierFault}
+pub use Rattle.barrier_vector.specs.declared.BarrierFault.TheVariants.{Memory}
 pub use Rattle.barrier_vector.specs.declared.gathered.FlowSum.{FlowSum}
-pub use Rattle.barrier_vector.specs.declared.refusal.Test.TheVariants.{Missing, OutOfRange}
 pub use Rattle.cell_balance.proofs.Cancel.{IsMutual, cut_link, cut_links}
 pub use Rattle.cell_balance.proofs.Dry.{cut_sum, dry_fixed}
 pub use Rattle.cell_balance.proofs.Mutual.{mutual_whole, no_whole_link}

@@ -32,3 +32,5 @@ pub mod Carrying
 pub mod Outlining
 pub mod Basing
 pub mod Sides
+pub mod Cutting
+pub mod Clamping

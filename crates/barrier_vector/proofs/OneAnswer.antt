@@ -8,7 +8,7 @@ use Rattle.barrier_vector.specs.Barriers.{BarrierIsOne, BarrierExcludesRefusal, 
 use Rattle.barrier_vector.proofs.Uniques.{bound_one, has_a_bound}
 use Rattle.barrier_vector.proofs.Sides.{head_in_range}
 
-same_heads : (xs ys : List ℤ) → length xs ≡ length ys → ((c : ℕ) → c < length xs → head_at xs c ≡ head_at ys c) → xs ≡ ys
+pub same_heads : (xs ys : List ℤ) → length xs ≡ length ys → ((c : ℕ) → c < length xs → head_at xs c ≡ head_at ys c) → xs ≡ ys
 same_heads [] [] whole same = refl
 same_heads [] (y ∷ ys) whole same = absurd (omega arith)
 same_heads (x ∷ xs) [] whole same = absurd (omega arith)
@@ -54,7 +54,7 @@ named_is_one p n m number c d side x y e =
     let by_place : Place → NoBound = λ l. record { code = m.code; place = l } in
     ap by_code codes ∙ ap by_place places
 
-same_least : (p : List Entries) (P : ℕ → Type 0) (n m : NoBound) (number c d : ℕ) (side : Side) → Names p n number c side → Names p m number d side → IsLeastWith p P c → IsLeastWith p P d → n ≡ m
+pub same_least : (p : List Entries) (P : ℕ → Type 0) (n m : NoBound) (number c d : ℕ) (side : Side) → Names p n number c side → Names p m number d side → IsLeastWith p P c → IsLeastWith p P d → n ≡ m
 same_least p P n m number c d side x y first second = named_is_one p n m number c d side x y (least_is_one p P c d first second)
 
 one_refusal_on : (side : Side) (p : List Entries) (n m : NoBound) → IsRefusedOn side p n → IsRefusedOn side p m → n ≡ m

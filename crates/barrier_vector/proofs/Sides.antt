@@ -2,11 +2,10 @@
 use Rattle.barrier_vector.proofs.Common.{◌≡◌, ℕ, ◌<◌, ◌⊎◌, inl, inr, refl, sym, ◌∙◌, subst, arith, List, length, Option, None, Some, ℤ, pos, neg_ℤ, ints}
 use Rattle.barrier_vector.proofs.Common.{clamps, by_lt_z, Side, Low, High, NoBound, number_of, Entries, IsProblem, IsHead, head_limit, head_at, IsInside}
 use Rattle.barrier_vector.proofs.Common.{IsBase, IsUnanchored, IsBoundOn, HasNoBound, IsOutOfRange, LeavesRange, no_barrier_on, range_on, Nowhere, Names}
-use Rattle.barrier_vector.proofs.Common.{IsRefusedOn, IsRefused, cut_on, bound_at, IsBoundOrNone, AreBounds, Missing, OutOfRange, Fails, IsFirstFailing}
-use Rattle.barrier_vector.proofs.Common.{AreHeadsOf, IsWholeSide, IsFaultOn}
+use Rattle.barrier_vector.proofs.Common.{IsRefusedOn, IsRefused, cut_on, bound_at, IsBoundOrNone, AreBounds, IsFirst, IsMissing, LiesOut, AreHeadsOf}
+use Rattle.barrier_vector.proofs.Common.{IsCutBoundOn, AreCutBounds, RefusesOn, IsWholeSide, IsFaultOn, IsCutFaultOn, BarrierFault, Memory}
 use Rattle.barrier_vector.specs.Held.{HasStorage, IsNotForLackOfAnchors}
-use Rattle.barrier_vector.specs.declared.BarrierFault.{BarrierFault}
-use Rattle.barrier_vector.specs.declared.BarrierFault.TheVariants.{NoBound as AFault, Memory}
+use Rattle.barrier_vector.specs.declared.BarrierFault.TheVariants.{NoBound as AFault}
 use Rattle.barrier_vector.proofs.Basing.{base_head}
 use Rattle.barrier_vector.proofs.Rooting.{anchors}
 use Rattle.barrier_vector.proofs.Uniques.{bound_one, has_a_bound}
@@ -46,8 +45,8 @@ pub bound_is_head : (side : Side) (p : List Entries) → IsProblem p → (c : �
 bound_is_head side p ok c f is stays = let (b, b_is, out) = bound_outside side p c f is in stays_head side f b out (base_head side p ok b b_is) stays
 
 -- what a cell's bound says of it
-module _ (side : Side) (p : List Entries) (ok : IsProblem p) (xs : List (Option ℤ)) (b : AreBounds p (IsBoundOrNone side p) xs) where
-  bound_here : (c : ℕ) → c < length p → (v : ℤ) → bound_at xs c ≡ Some v → (f : ℤ) × IsBoundOn side p c f × (v ≡ cut_on side f)
+module _ (side : Side) (p : List Entries) (xs : List (Option ℤ)) (b : AreBounds p (IsBoundOrNone side p) xs) where
+  bound_here : (c : ℕ) → c < length p → (v : ℤ) → bound_at xs c ≡ Some v → IsCutBoundOn side p c v
   bound_here c h v e = subst (IsBoundOrNone side p c) e (b.each c h)
 
   no_bound_here : (c : ℕ) → c < length p → bound_at xs c ≡ None → HasNoBound side p c
@@ -60,48 +59,59 @@ module _ (side : Side) (p : List Entries) (ok : IsProblem p) (xs : List (Option 
         | inr (v, e) ↦ let (f, is, cut) = bound_here c h v e in absurd (has_a_bound side p c f is none)
       ]
 
-  leaves : (c : ℕ) → c < length p → LeavesRange side p c → Fails (OutOfRange side) (bound_at xs c)
-  leaves c h (f, is, out) =
-      elim (some_or_none (bound_at xs c)) [
-        | inl e ↦ absurd (has_a_bound side p c f is (no_bound_here c h e))
-        | inr (v, e) ↦ let (g, g_is, cut) = bound_here c h v e in (v, e, cut_leaves side v g cut (subst (IsOutOfRange side) (bound_one side p ok c f g is g_is) out))
-      ]
-
-  leaves_back : (c : ℕ) → c < length p → Fails (OutOfRange side) (bound_at xs c) → LeavesRange side p c
-  leaves_back c h (v, e, out) = let (f, is, cut) = bound_here c h v e in (f, is, leaves_uncut side v f cut out)
-
-  pub refused_without : (n : NoBound) (c : ℕ) → IsFirstFailing Missing xs (Some c) → Names p n (number_of (no_barrier_on side)) c side → IsRefusedOn side p n
-  refused_without n c (within, none, least) named =
+  pub side_unbounded : (n : NoBound) (c : ℕ) → IsFirst (IsMissing xs) (length xs) (Some c) → Names p n (number_of (no_barrier_on side)) c side → RefusesOn no_barrier_on (λ side. HasNoBound side p) side p n
+  side_unbounded n c (within, none, least) named =
       let h : c < length p = omega (arith, within, b.whole) in
-      (c, inl (named, record { within = h; has = no_bound_here c h none; least = λ d less fails. least d less (has_none d (omega (arith, less, h)) fails) }))
+      (c, named, record { within = h; has = no_bound_here c h none; least = λ d less fails. least d less (has_none d (omega (arith, less, h)) fails) })
 
-  nowhere_without : IsFirstFailing Missing xs None → Nowhere p (HasNoBound side p)
-  nowhere_without all c h fails = all c (omega (arith, h, b.whole)) (has_none c h fails)
-
-  pub refused_out_of_range : (n : NoBound) (c : ℕ) → IsFirstFailing Missing xs None → IsFirstFailing (OutOfRange side) xs (Some c) → Names p n (number_of (range_on side)) c side → IsRefusedOn side p n
-  refused_out_of_range n c all (within, out, least) named =
-      let h : c < length p = omega (arith, within, b.whole) in
-      (c, inr (named, nowhere_without all, record { within = h; has = leaves_back c h out; least = λ d less fails. least d less (leaves d (omega (arith, less, h)) fails) }))
-
-  pub side_is_whole : (hs : List ℤ) → IsFirstFailing Missing xs None → IsFirstFailing (OutOfRange side) xs None → AreHeadsOf xs hs → IsWholeSide side p hs
-  side_is_whole hs all in_range (whole, heads) = record {
-    whole = whole ∙ b.whole;
-    is = λ c h. (bound_head c h).0;
-    head = λ c h. (bound_head c h).1;
-    held = nowhere_without all;
-    in_range = λ c h fails. in_range c (omega (arith, h, b.whole)) (leaves c h fails);
-  }
+  pub side_is_cut : (vs : List ℤ) → IsFirst (IsMissing xs) (length xs) None → AreHeadsOf xs vs → AreCutBounds side p vs
+  side_is_cut vs all (whole, heads) = record { whole = whole ∙ b.whole; each = each }
     where
       some : (c : ℕ) → c < length p → (v : ℤ) × (bound_at xs c ≡ Some v)
       some c h = elim (some_or_none (bound_at xs c)) [ inl e ↦ absurd (all c (omega (arith, h, b.whole)) e) | inr found ↦ found ]
 
-      bound_head : (c : ℕ) → c < length p → IsBoundOn side p c (head_at hs c) × IsHead (head_at hs c)
-      bound_head c h =
+      each : (c : ℕ) → c < length p → IsCutBoundOn side p c (head_at vs c)
+      each c h =
           let (v, e) = some c h in
           let (f, is, cut) = bound_here c h v e in
-          let head = bound_is_head side p ok c f is (λ out. in_range c (omega (arith, h, b.whole)) (v, e, cut_leaves side v f cut out)) in
-          let at = heads c v (omega (arith, h, b.whole)) e ∙ head_uncut side v f cut head in
+          (f, is, heads c v (omega (arith, h, b.whole)) e ∙ cut)
+
+-- what the cut bounds of a side say of it
+module _ (side : Side) (p : List Entries) (ok : IsProblem p) (vs : List ℤ) (b : AreCutBounds side p vs) where
+  pub cut_nowhere_without : Nowhere p (HasNoBound side p)
+  cut_nowhere_without c h none = let (f, is, cut) = b.each c h in has_a_bound side p c f is none
+
+  leaves : (c : ℕ) → c < length p → LeavesRange side p c → LiesOut side vs c
+  leaves c h (f, is, out) = let (g, g_is, cut) = b.each c h in cut_leaves side (head_at vs c) g cut (subst (IsOutOfRange side) (bound_one side p ok c f g is g_is) out)
+
+  leaves_back : (c : ℕ) → c < length p → LiesOut side vs c → LeavesRange side p c
+  leaves_back c h out = let (f, is, cut) = b.each c h in (f, is, leaves_uncut side (head_at vs c) f cut out)
+
+  pub refused_out_of_range : (n : NoBound) (c : ℕ) → IsFirst (LiesOut side vs) (length vs) (Some c) → Names p n (number_of (range_on side)) c side → IsRefusedOn side p n
+  refused_out_of_range n c (within, out, least) named =
+      let h : c < length p = omega (arith, within, b.whole) in
+      (c, inr (named, cut_nowhere_without, record { within = h; has = leaves_back c h out; least = λ d less fails. least d less (leaves d (omega (arith, less, h)) fails) }))
+
+  pub side_is_whole : IsFirst (LiesOut side vs) (length vs) None → IsWholeSide side p vs
+  side_is_whole in_range = record {
+    whole = b.whole;
+    is = λ c h. (bound_head c h).0;
+    head = λ c h. (bound_head c h).1;
+    held = cut_nowhere_without;
+    in_range = λ c h fails. in_range c (omega (arith, h, b.whole)) (leaves c h fails);
+  }
+    where
+      bound_head : (c : ℕ) → c < length p → IsBoundOn side p c (head_at vs c) × IsHead (head_at vs c)
+      bound_head c h =
+          let (f, is, cut) = b.each c h in
+          let head = bound_is_head side p ok c f is (λ out. in_range c (omega (arith, h, b.whole)) (cut_leaves side (head_at vs c) f cut out)) in
+          let at = head_uncut side (head_at vs c) f cut head in
           (subst (IsBoundOn side p c) (sym at) is, subst IsHead (sym at) head)
+
+-- a side without its cut is refused for the same reason
+pub unbounded_refuses : (side : Side) (p : List Entries) (e : BarrierFault) → IsCutFaultOn side p e → IsFaultOn side p e
+unbounded_refuses side p (AFault n) (c, named, least) = (c, inl (named, least))
+unbounded_refuses side p Memory f = tt
 
 -- where each cell has storage, each is anchored on both sides
 stored_anchor : (side : Side) (p : List Entries) → HasStorage p → (c : ℕ) → c < length p → IsUnanchored side p c → ⊥

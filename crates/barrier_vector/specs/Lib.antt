@@ -3,7 +3,9 @@ pub mod Paths
 pub mod Bounds
 pub mod Laws
 pub mod Refusals
+pub mod Cuts
 pub mod Barriers
+pub mod CutLaws
 pub mod Held
 pub mod Spreads
 pub mod Searches

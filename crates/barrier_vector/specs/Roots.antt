@@ -1,15 +1,13 @@
 -- The roots of the searches, and the data that the bounds are found from.
-use Rattle.std.specs.Prelude.{◌≡◌, ℕ, ◌+◌, ◌<◌, List, length, min, Option, None, Some, slice_index, slice_index_or, ℤ, pos, neg_ℤ}
-use Rattle.std.specs.Int.{int_max, int_min}
+use Rattle.std.specs.Prelude.{◌≡◌, ℕ, ◌<◌, List, length, min, Option, None, Some, slice_index, slice_index_or, ℤ}
 use Rattle.step_problem.specs.declared.heads.Side.{Side}
-use Rattle.step_problem.specs.declared.heads.Side.TheVariants.{Low, High}
 use Rattle.step_problem.specs.Entries.{Entries, entries_at}
-use Rattle.step_problem.specs.Conditions.{head_limit}
 use Rattle.cell_balance.specs.Components.{sum_inside, deep_low}
 use Rattle.barrier_vector.specs.Marks.{IsBase}
-use Rattle.barrier_vector.specs.Bounds.{IsAnchorPath, IsInnerPath, IsUnanchored, IsAnchoredBound, IsBoundOn}
+use Rattle.barrier_vector.specs.Bounds.{IsAnchorPath, IsInnerPath, IsUnanchored, IsAnchoredBound}
 use Rattle.barrier_vector.specs.Paths.{ceil_over}
 use Rattle.barrier_vector.specs.Refusals.{HasNoBound}
+use Rattle.barrier_vector.specs.Cuts.{cut_on, IsCutBoundOn}
 use Rattle.barrier_vector.specs.Spreads.{mark_at}
 use Rattle.barrier_vector.specs.Searches.{path_limit}
 use Rattle.barrier_vector.specs.Labels.{AreLabels, labelled, sum_at, IsGreatestOf}
@@ -46,11 +44,6 @@ pub record AreComponents (p : List Entries) (labels : List (Option ℕ)) (inner 
   pub sums_whole : length sums ≡ length p
   pub tops_whole : length longest ≡ length p
 
--- a bound; one that is out of the range of heads is cut off just outside it
-abbrev pub cut_on : Side → ℤ → ℤ
-cut_on Low f = int_max f (neg_ℤ (pos (head_limit + 1)))
-cut_on High f = int_min f (pos (head_limit + 1))
-
 abbrev pub bound_at : List (Option ℤ) → ℕ → Option ℤ
 bound_at xs c = slice_index_or xs c None
 
@@ -62,7 +55,7 @@ IsAnchoredOrNone side p c (Some v) = (f : ℤ) × IsAnchoredBound side p c f × 
 -- the bound of cell c, cut off; None where it has none
 abbrev pub IsBoundOrNone : Side → List Entries → ℕ → Option ℤ → Type 0
 IsBoundOrNone side p c None = HasNoBound side p c
-IsBoundOrNone side p c (Some v) = (f : ℤ) × IsBoundOn side p c f × (v ≡ cut_on side f)
+IsBoundOrNone side p c (Some v) = IsCutBoundOn side p c v
 
 -- one for each cell
 pub record AreBounds (p : List Entries) (Is : ℕ → Option ℤ → Type 0) (xs : List (Option ℤ)) : Type 0 where

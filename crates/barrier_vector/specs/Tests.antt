@@ -6,20 +6,23 @@ use Rattle.step_problem.specs.Conditions.{IsHead}
 use Rattle.step_problem.specs.Heads.{head_at}
 use Rattle.barrier_vector.specs.declared.BarrierFault.{BarrierFault}
 use Rattle.barrier_vector.specs.declared.BarrierFault.TheVariants.{NoBound, Memory}
-use Rattle.barrier_vector.specs.declared.refusal.Test.{Test}
-use Rattle.barrier_vector.specs.declared.refusal.Test.TheVariants.{Missing, OutOfRange}
 use Rattle.barrier_vector.specs.Bounds.{IsBoundOn}
-use Rattle.barrier_vector.specs.Refusals.{HasNoBound, IsOutOfRange, LeavesRange, Nowhere, IsRefusedOn}
+use Rattle.barrier_vector.specs.Refusals.{HasNoBound, IsOutOfRange, LeavesRange, no_barrier_on, Nowhere, IsRefusedOn}
+use Rattle.barrier_vector.specs.Cuts.{RefusesOn}
 use Rattle.barrier_vector.specs.Roots.{bound_at}
 
-abbrev pub Fails : Test → Option ℤ → Type 0
-Fails Missing o = o ≡ None
-Fails (OutOfRange side) o = (v : ℤ) × (o ≡ Some v) × IsOutOfRange side v
+-- the first number below n with the property, or none has it
+abbrev pub IsFirst : (ℕ → Type 0) → ℕ → Option ℕ → Type 0
+IsFirst P n None = (d : ℕ) → d < n → P d → ⊥
+IsFirst P n (Some c) = (c < n) × P c × ((d : ℕ) → d < c → P d → ⊥)
 
--- the first bound that fails the test
-abbrev pub IsFirstFailing : Test → List (Option ℤ) → Option ℕ → Type 0
-IsFirstFailing t xs None = (d : ℕ) → d < length xs → Fails t (bound_at xs d) → ⊥
-IsFirstFailing t xs (Some c) = (c < length xs) × Fails t (bound_at xs c) × ((d : ℕ) → d < c → Fails t (bound_at xs d) → ⊥)
+-- cell c has no bound
+abbrev pub IsMissing : List (Option ℤ) → ℕ → Type 0
+IsMissing xs c = bound_at xs c ≡ None
+
+-- the bound of cell c is out of the range of heads
+abbrev pub LiesOut : Side → List ℤ → ℕ → Type 0
+LiesOut side vs c = IsOutOfRange side (head_at vs c)
 
 -- the heads where there are some, 0 elsewhere
 abbrev pub AreHeadsOf : List (Option ℤ) → List ℤ → Type 0
@@ -37,3 +40,8 @@ pub record IsWholeSide (side : Side) (p : List Entries) (hs : List ℤ) : Type 0
 abbrev pub IsFaultOn : Side → List Entries → BarrierFault → Type 0
 IsFaultOn side p (NoBound n) = IsRefusedOn side p n
 IsFaultOn side p Memory = Unit {0}
+
+-- a fault of one side that is cut
+abbrev pub IsCutFaultOn : Side → List Entries → BarrierFault → Type 0
+IsCutFaultOn side p (NoBound n) = RefusesOn no_barrier_on (λ side. HasNoBound side p) side p n
+IsCutFaultOn side p Memory = Unit {0}

@@ -5,7 +5,8 @@ ghost use Rattle.step_problem.specs.Conditions.{IsHead, IsWithin, head_limit};
 ghost use Rattle.barrier_vector.specs.Marks.{IsBase};
 ghost use Rattle.barrier_vector.specs.Bounds.{moved_out};
 ghost use Rattle.barrier_vector.specs.Searches.{path_limit};
-ghost use Rattle.barrier_vector.specs.Roots.{cut_on, AreAnchorPaths, IsAnchoredOrNone, IsBoundOrNone, AreBounds};
+ghost use Rattle.barrier_vector.specs.Cuts.{cut_on};
+ghost use Rattle.barrier_vector.specs.Roots.{AreAnchorPaths, IsAnchoredOrNone, IsBoundOrNone, AreBounds};
 ghost use Rattle.barrier_vector.specs.Outlines.{IsOutline};
 
 use crate::carried::with_carried_floors;

@@ -2,6 +2,7 @@
 ghost use Rattle.cell_balance.specs.Example.{example_problem, example_step, example_heads};
 ghost use Rattle.barrier_vector.specs.Laws.{IsSolution, FloorsEnclose, CeilingsEnclose, FloorsHold};
 ghost use Rattle.barrier_vector.specs.Barriers.{BarrierIsOne, BarrierExcludesRefusal, RefusalIsOne};
+ghost use Rattle.barrier_vector.specs.CutLaws.{CutBarrierIsOne, BarrierIsCut, CutBarrierExcludesRefusal, CutRefusalIsOne, ClampedFits};
 
 /// No solution lies below a floor, in an anchored or in a carried component.
 pub fn floors_enclose()
@@ -36,4 +37,29 @@ pub fn no_barrier_beside_a_refusal()
 /// A problem has at most one refusal.
 pub fn one_refusal()
     ensures { RefusalIsOne }
+{}
+
+/// A problem has at most one cut barrier.
+pub fn one_cut_barrier()
+    ensures { CutBarrierIsOne }
+{}
+
+/// A problem's barrier is its cut barrier.
+pub fn barrier_is_cut()
+    ensures { BarrierIsCut }
+{}
+
+/// A problem with a cut barrier isn't refused for lack of a bound.
+pub fn no_cut_barrier_beside_a_refusal()
+    ensures { CutBarrierExcludesRefusal }
+{}
+
+/// A problem has at most one refusal of its cut barrier.
+pub fn one_cut_refusal()
+    ensures { CutRefusalIsOne }
+{}
+
+/// Clamped floors and ceilings are a barrier of heads, and heads stay as they are.
+pub fn clamped_fits()
+    ensures { ClampedFits }
 {}

@@ -7,10 +7,12 @@ ghost use Rattle.cell_balance.specs.Components.{IsHeldBelow};
 ghost use Rattle.cell_balance.specs.SolutionBounds.{EnclosesSolutions};
 ghost use Rattle.barrier_vector.specs.Bounds.{IsFloor, IsCeiling};
 ghost use Rattle.barrier_vector.specs.Refusals.{IsFault};
+ghost use Rattle.barrier_vector.specs.Cuts.{IsCutBarrierOf, IsCutFault, EnclosesUncut};
 ghost use Rattle.barrier_vector.specs.Held.{HasStorage, IsNotForLackOfAnchors};
 
 mod bounds;
 mod carried;
+mod clamped;
 mod flows;
 mod gathered;
 mod labels;
@@ -22,8 +24,10 @@ mod roots;
 mod search;
 mod spread;
 
+pub use clamped::clamp_barrier;
 use outline::outline_sides;
-use refusal::whole_side;
+pub use refusal::out_of_range;
+use refusal::{cut_side, whole_side};
 use std::alloc::Global;
 use step_problem::{Barrier, NoBound, Problem, Side};
 
@@ -57,6 +61,31 @@ pub fn barrier(alloc: Global, p: &Problem) -> Result<Barrier, BarrierFault>
         Err(fault) => return Err(fault),
     };
     match whole_side(alloc, p, Side::High, &outlines.high) {
+        Ok(ceiling) => Ok(Barrier { floor, ceiling }),
+        Err(fault) => Err(fault),
+    }
+}
+
+/// The same, where a floor below all heads is cut to a unit below the least head, and a ceiling above all heads to a unit
+/// above the greatest one: refused are only 24 and 25. Every solution lies between the floors and ceilings that weren't
+/// cut. A certificate over the others holds by its balances alone, since no head is at a bound that was cut.
+pub fn cut_barrier(alloc: Global, p: &Problem) -> Result<Barrier, BarrierFault>
+    ensures barrier { IfOk result (λ b. IsCutBarrierOf p.now b) }
+    ensures refusal { IfErr result (λ e. IsCutFault p.now e) }
+    ensures held { IfOk result (λ b. IsHeldBelow p.now) }
+    ensures encloses { IfOk result (λ b. EnclosesUncut p.now b) }
+    ensures stored { HasStorage p.now → IfErr result (λ e. IsNotForLackOfAnchors e) }
+{
+    p.recall_conditions();
+    let outlines = match outline_sides(alloc, p) {
+        Ok(outlines) => outlines,
+        Err(_) => return Err(BarrierFault::Memory),
+    };
+    let floor = match cut_side(alloc, p, Side::Low, &outlines.low) {
+        Ok(floor) => floor,
+        Err(fault) => return Err(fault),
+    };
+    match cut_side(alloc, p, Side::High, &outlines.high) {
         Ok(ceiling) => Ok(Barrier { floor, ceiling }),
         Err(fault) => Err(fault),
     }

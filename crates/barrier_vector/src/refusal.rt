@@ -1,12 +1,11 @@
 // A side of a barrier, or its first refusal.
-ghost use Rattle.std.specs.Prelude.{◌≡◌, ℕ, ◌<◌, ◌↔◌, length, MatchOption, None, IfOk, IfErr, IsTrue};
-ghost use Rattle.step_problem.specs.declared.heads.Side.{Side};
+ghost use Rattle.std.specs.Prelude.{◌≡◌, ◌<◌, ◌↔◌, length, IfOk, IfErr, IsTrue};
 ghost use Rattle.step_problem.specs.StepRefusals.{number_of};
-ghost use Rattle.barrier_vector.specs.declared.refusal.Test.TheVariants.{Missing, OutOfRange};
-ghost use Rattle.barrier_vector.specs.Refusals.{IsOutOfRange, no_barrier_on, range_on, Names, IsRefusedOn};
-ghost use Rattle.barrier_vector.specs.Roots.{IsBoundOrNone, AreBounds};
+ghost use Rattle.barrier_vector.specs.Refusals.{IsOutOfRange, no_barrier_on, range_on, Names};
+ghost use Rattle.barrier_vector.specs.Cuts.{AreCutBounds};
+ghost use Rattle.barrier_vector.specs.Roots.{bound_at};
 ghost use Rattle.barrier_vector.specs.Outlines.{IsOutline};
-ghost use Rattle.barrier_vector.specs.Tests.{Fails, IsFirstFailing, AreHeadsOf, IsWholeSide, IsFaultOn};
+ghost use Rattle.barrier_vector.specs.Tests.{IsFirst, IsMissing, LiesOut, AreHeadsOf, IsWholeSide, IsFaultOn, IsCutFaultOn};
 
 use crate::BarrierFault;
 use crate::bounds::bounds_on;
@@ -15,11 +14,16 @@ use std::alloc::{AllocError, Global};
 use step_problem::problem::HEAD_LIMIT;
 use step_problem::{NoBound, Place, Problem, Side, StepRefusal};
 
-// The test of a cell's bound.
-#[derive(Clone, Copy)]
-pub(crate) enum Test {
-    Missing,
-    OutOfRange(Side),
+// The first cell without a bound.
+fn first_missing(bounds: &[Option<i64>]) -> Option<usize>
+    ensures { IsFirst (IsMissing bounds.now) (length bounds.now) result }
+{
+    for c in 0..bounds.len() {
+        if bounds[c].is_none() {
+            return Some(c);
+        }
+    }
+    None
 }
 
 fn is_out_of_range(side: Side, head: i64) -> bool
@@ -31,27 +35,12 @@ fn is_out_of_range(side: Side, head: i64) -> bool
     }
 }
 
-fn fails(test: Test, bound: Option<i64>) -> bool
-    ensures { IsTrue result ↔ Fails test bound }
-{
-    match bound {
-        None => match test {
-            Test::Missing => true,
-            Test::OutOfRange(_) => false,
-        },
-        Some(head) => match test {
-            Test::Missing => false,
-            Test::OutOfRange(side) => is_out_of_range(side, head),
-        },
-    }
-}
-
-// The first cell whose bound fails the test.
-fn first_failing(test: Test, bounds: &[Option<i64>]) -> Option<usize>
-    ensures { IsFirstFailing test bounds.now result }
+// The first cell whose bound is out of the range of heads.
+fn first_out_of_range(side: Side, bounds: &[i64]) -> Option<usize>
+    ensures { IsFirst (LiesOut side bounds.now) (length bounds.now) result }
 {
     for c in 0..bounds.len() {
-        if fails(test, bounds[c]) {
+        if is_out_of_range(side, bounds[c]) {
             return Some(c);
         }
     }
@@ -80,40 +69,52 @@ fn refusal(p: &Problem, cause: StepRefusal, c: usize, side: Side) -> NoBound
 }
 
 // The refusal of a side where a cell has no bound.
-fn no_barrier(side: Side) -> StepRefusal
-    ensures { result ≡ no_barrier_on side }
+fn no_barrier(p: &Problem, c: usize, side: Side) -> NoBound
+    requires { c < length p.now }
+    ensures { Names p.now result (number_of (no_barrier_on side)) c side }
 {
     match side {
-        Side::Low => StepRefusal::NoBarrierLow,
-        Side::High => StepRefusal::NoBarrierHigh,
+        Side::Low => refusal(p, StepRefusal::NoBarrierLow, c, side),
+        Side::High => refusal(p, StepRefusal::NoBarrierHigh, c, side),
     }
 }
 
-// The refusal of a side where a bound is out of the range of heads.
-fn range(side: Side) -> StepRefusal
-    ensures { result ≡ range_on side }
+/// The refusal 26, or 27, of a cell, by its index, whose bound is out of the range of heads on a side.
+pub fn out_of_range(p: &Problem, c: usize, side: Side) -> NoBound
+    requires { c < length p.now }
+    ensures { Names p.now result (number_of (range_on side)) c side }
 {
     match side {
-        Side::Low => StepRefusal::RangeLow,
-        Side::High => StepRefusal::RangeHigh,
+        Side::Low => refusal(p, StepRefusal::RangeLow, c, side),
+        Side::High => refusal(p, StepRefusal::RangeHigh, c, side),
     }
 }
 
-fn side_refusal(p: &Problem, side: Side, bounds: &[Option<i64>]) -> Option<NoBound>
-    requires { AreBounds p.now (IsBoundOrNone side p.now) bounds.now }
-    ensures { MatchOption result (IsFirstFailing Missing bounds.now None × IsFirstFailing (OutOfRange side) bounds.now None) (IsRefusedOn side p.now) }
+/// The bound of each cell on a side, cut just outside the range of heads, or the refusal of the first cell without one.
+pub(crate) fn cut_side(
+    alloc: Global,
+    p: &Problem,
+    side: Side,
+    outline: &Outline,
+) -> Result<Vec<i64>, BarrierFault>
+    requires { IsOutline side p.now (length p.now) outline.now.mark outline.now.need outline.now.anchors.items }
+    ensures side { IfOk result (λ bounds. AreCutBounds side p.now bounds.items) }
+    ensures fault { IfErr result (IsCutFaultOn side p.now) }
 {
     p.recall_conditions();
-    match first_failing(Test::Missing, bounds) {
-        Some(c) => Some(refusal(p, no_barrier(side), c, side)),
-        None => match first_failing(Test::OutOfRange(side), bounds) {
-            Some(c) => Some(refusal(p, range(side), c, side)),
-            None => None,
+    match bounds_on(alloc, p, side, outline) {
+        Err(_) => Err(BarrierFault::Memory),
+        Ok(bounds) => match first_missing(&bounds) {
+            Some(c) => Err(BarrierFault::NoBound(no_barrier(p, c, side))),
+            None => match heads_of(alloc, &bounds) {
+                Ok(heads) => Ok(heads),
+                Err(_) => Err(BarrierFault::Memory),
+            },
         },
     }
 }
 
-/// The bound of each cell on a side, or the side's first refusal.
+/// The bound of each cell on a side, all of them heads, or the side's first refusal.
 pub(crate) fn whole_side(
     alloc: Global,
     p: &Problem,
@@ -125,14 +126,11 @@ pub(crate) fn whole_side(
     ensures fault { IfErr result (IsFaultOn side p.now) }
 {
     p.recall_conditions();
-    match bounds_on(alloc, p, side, outline) {
-        Err(_) => Err(BarrierFault::Memory),
-        Ok(bounds) => match side_refusal(p, side, &bounds) {
-            Some(refused) => Err(BarrierFault::NoBound(refused)),
-            None => match heads_of(alloc, &bounds) {
-                Ok(heads) => Ok(heads),
-                Err(_) => Err(BarrierFault::Memory),
-            },
+    match cut_side(alloc, p, side, outline) {
+        Err(fault) => Err(fault),
+        Ok(bounds) => match first_out_of_range(side, &bounds) {
+            Some(c) => Err(BarrierFault::NoBound(out_of_range(p, c, side))),
+            None => Ok(bounds),
         },
     }
 }
