@@ -1,14 +1,11 @@
 -- A certificate encloses what its barrier encloses.
-use Rattle.certificate_check.proofs.Common.{ℕ, ◌<◌, List, length, ℤ, Entries, Edges, head_at, IsCertificate}
-use Rattle.step_problem.specs.Conditions.{IsProblem}
-use Rattle.step_problem.proofs.BothSettle.{pair_certifies}
+use Rattle.certificate_check.proofs.Common.{ℕ, ◌<◌, List, length, ℤ, Entries, Edges, head_at, IsCertificate, IsProblem, pair_certifies, SettledPairEncloses}
 use Rattle.cell_balance.specs.Steps.{ExactCell}
 use Rattle.cell_balance.specs.Enclosures.{EnclosesStep}
 use Rattle.cell_balance.specs.Solutions.{SolvesStep, LiesBetween}
 use Rattle.cell_balance.specs.SolutionBounds.{EnclosesSolutions}
 use Rattle.cell_balance.specs.Components.{IsHeldBelow}
 use Rattle.cell_balance.proofs.Encloses.{compares}
-use Rattle.certificate_check.specs.Laws.{SettledPairEncloses}
 
 module _ (p : List Entries) (b : Edges) (l u : ℕ → ℤ) where
   pub certificate_compares : IsProblem p → IsCertificate p b l u → IsHeldBelow p → (s : ℕ) (e : List ExactCell) (d : ℕ) (X : ℕ → ℤ) → EnclosesStep s p e → 0 < d → SolvesStep e d X → LiesBetween (length p) d X (head_at b.floor) (head_at b.ceiling) → LiesBetween (length p) d X l u

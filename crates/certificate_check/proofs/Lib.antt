@@ -1,2 +1,3 @@
 mod Common
 pub mod Certified
+pub mod Cut

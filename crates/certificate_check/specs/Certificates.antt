@@ -3,9 +3,12 @@ use Rattle.std.specs.Prelude.{◌≡◌, ℕ, ◌<◌, ◌⊎◌, List, length, 
 use Rattle.step_problem.specs.declared.heads.Bound.{Bound}
 use Rattle.step_problem.specs.declared.heads.Side.{Side}
 use Rattle.step_problem.specs.declared.heads.Side.TheVariants.{Low, High}
+use Rattle.step_problem.specs.declared.place.NoBound.{NoBound}
 use Rattle.step_problem.specs.Entries.{Entries, entries_at}
 use Rattle.step_problem.specs.Balances.{lower_balance, upper_balance}
 use Rattle.step_problem.specs.Heads.{Edges, head_at, lower_at, upper_at}
+use Rattle.barrier_vector.specs.Refusals.{range_on}
+use Rattle.barrier_vector.specs.Cuts.{Refuses}
 
 module _ (p : List Entries) (b : Edges) (bounds : List Bound) where
   -- The certificate holds at that side of cell c: its lower head is at most the floor, or its lower balance is not negative; the upper side mirrored.
@@ -19,3 +22,8 @@ module _ (p : List Entries) (b : Edges) (bounds : List Bound) where
     pub fails : HoldsAt c side → ⊥
     pub least : (d : ℕ) → d < c → (s : Side) → HoldsAt d s
     pub low_first : side ≡ High → HoldsAt c Low
+
+-- RangeLow, RangeHigh: some lower head, or some upper head, fails the certificate over the cut barrier b. Where the heads settled from it, that head can't
+-- leave the end of the range of heads.
+abbrev pub IsRangeRefusal : List Entries → Edges → List Bound → NoBound → Type 0
+IsRangeRefusal p b bounds = Refuses range_on (λ side c. HoldsAt p b bounds c side → ⊥) p

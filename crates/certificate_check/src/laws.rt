@@ -1,7 +1,33 @@
-// A law that the layers above use: the contract of an empty function.
-ghost use Rattle.certificate_check.specs.Laws.{SettledPairEncloses};
+// Laws that the layers above use. Each is the contract of an empty function.
+ghost use Rattle.certificate_check.specs.Laws.{SettledPairEncloses, CertificateEncloses, FailsOnlyWhereCut};
+ghost use Rattle.certificate_check.specs.Laws.{CertificateExcludesRefusal, RangeRefusalIsOne, ClampedPairEncloses};
 
 /// Where each component is anchored or carried, the settled pair over a barrier that encloses every solution encloses every solution, without a check.
 pub fn settled_pair_encloses()
     ensures { SettledPairEncloses }
+{}
+
+/// Where each component is anchored or carried, a certificate over a cut barrier encloses every solution.
+pub fn certificate_encloses()
+    ensures { CertificateEncloses }
+{}
+
+/// A certificate over the clamped barrier can fail over the cut one only at a cell whose floor or ceiling was cut.
+pub fn fails_only_where_cut()
+    ensures { FailsOnlyWhereCut }
+{}
+
+/// A certificate over the cut barrier has no refusal for the range of heads.
+pub fn no_certificate_beside_a_refusal()
+    ensures { CertificateExcludesRefusal }
+{}
+
+/// Heads have at most one refusal for the range of heads.
+pub fn one_range_refusal()
+    ensures { RangeRefusalIsOne }
+{}
+
+/// The settled pair over the clamped barrier encloses every solution in the range of heads, whether it is refused or not.
+pub fn clamped_pair_encloses()
+    ensures { ClampedPairEncloses }
 {}

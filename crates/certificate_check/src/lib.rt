@@ -13,9 +13,11 @@ ghost use Rattle.certificate_check.specs.Certificates.{IsFirstFailing};
 ghost use Rattle.certificate_check.specs.Verdicts.{IsYes, IfNo};
 
 pub mod laws;
+mod out_of_range;
 mod search;
 mod sides;
 
+pub use out_of_range::range_refusal;
 use search::first_failing;
 use step_problem::{Barrier, Bound, Problem, Side};
 

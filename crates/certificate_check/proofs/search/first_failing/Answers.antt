@@ -1,5 +1,4 @@
-use Rattle.std.proofs.Common.{arith, below_more}
-use Rattle.step_problem.specs.declared.heads.Side.TheVariants.{Low, High}
+use Rattle.certificate_check.proofs.Common.{arith, below_more, Low, High}
 use Rattle.certificate_check.proofs.search.first_failing.Goals as goal
 
 pub loop-cell-preserved : goal.loop-cell-preserved

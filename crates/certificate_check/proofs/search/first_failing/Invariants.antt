@@ -1,6 +1,5 @@
-use Rattle.std.proofs.Common.{ℕ, ◌<◌}
+use Rattle.certificate_check.proofs.Common.{ℕ, ◌<◌, HoldsAt}
 use Rattle.step_problem.specs.declared.heads.Side.{Side}
-use Rattle.certificate_check.specs.Certificates.{HoldsAt}
 use Rattle.certificate_check.proofs.search.first_failing.Given as goal
 
 abbrev pub invariant-loop-cell : goal.invariant-loop-cell
