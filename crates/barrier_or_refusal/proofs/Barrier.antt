@@ -1,16 +1,14 @@
 -- A problem has a barrier, or a first cause against one at the least cell that has it.
 use Rattle.barrier_or_refusal.proofs.Common.{◌≡◌, ℕ, ◌<◌, ◌≤◌, ◌⊎◌, inl, inr, refl, sym, subst, arith, List, length, map, ℤ, pos, neg_ℤ, cases_lt, ints}
 use Rattle.barrier_or_refusal.proofs.Common.{by_lt_z, Side, Low, High, IsProblem, head_limit, Entries, entries_at, IsBoundOn, HasNoBound, IsOutOfRange}
-use Rattle.barrier_or_refusal.proofs.Common.{LeavesRange, no_barrier_on, range_on, Nowhere, IsLeastWith, Names, IsRefusedOn, bound_one, has_a_bound}
+use Rattle.barrier_or_refusal.proofs.Common.{LeavesRange, no_barrier_on, range_on, Nowhere, IsLeastWith, Names, IsRefusedOn, bound_one, has_a_bound, NoBound}
+use Rattle.barrier_or_refusal.proofs.Common.{number_of, BarrierOrRefusal}
 use Rattle.std.specs.List.{range_with_len}
 use Rattle.std.proofs.lemmas.List.FromFn.{length-map-range_with_len, get_or-map-range_with_len}
-use Rattle.step_problem.specs.declared.place.NoBound.{NoBound}
 use Rattle.step_problem.specs.declared.place.Place.TheVariants.{Cell}
-use Rattle.step_problem.specs.StepRefusals.{number_of}
 use Rattle.step_problem.specs.Heads.{head_at}
 use Rattle.barrier_vector.specs.Tests.{IsWholeSide}
 use Rattle.barrier_vector.proofs.Sides.{bound_is_head}
-use Rattle.barrier_or_refusal.specs.Laws.{BarrierOrRefusal}
 use Rattle.barrier_or_refusal.proofs.Bounds.{bound_or_none}
 use Rattle.barrier_or_refusal.proofs.Decided.{Decided, IsFirst, first_or_none}
 
@@ -27,27 +25,27 @@ module _ (n : ℕ) (P : ℕ → ℤ → Type 0) (each : (c : ℕ) → c < n → 
   abbrev value_at : ℕ → ℤ
   value_at c = value c (cases_lt c n)
 
-  listed : (xs : List ℤ) × (length xs ≡ n) × ((c : ℕ) → c < n → P c (head_at xs c))
+  pub listed : (xs : List ℤ) × (length xs ≡ n) × ((c : ℕ) → c < n → P c (head_at xs c))
   listed = (map value_at (range_with_len 0 n), length-map-range_with_len value_at 0 n, λ c h. subst (P c) (sym (get_or-map-range_with_len value_at 0 n c c (pos 0) h (omega arith))) (value_is c (cases_lt c n) h))
 
-least : (p : List Entries) (P : ℕ → Type 0) (c : ℕ) → IsFirst P (length p) c → IsLeastWith p P c
+pub least : (p : List Entries) (P : ℕ → Type 0) (c : ℕ) → IsFirst P (length p) c → IsLeastWith p P c
 least p P c is = record { within = is.within; has = is.has; least = is.least }
 
-abbrev refusal : List Entries → ℕ → ℕ → Side → NoBound
+abbrev pub refusal : List Entries → ℕ → ℕ → Side → NoBound
 refusal p number c side = record { code = number; place = Cell (entries_at p c).id side }
 
 out_of_range_decided : (side : Side) (f : ℤ) → Decided (IsOutOfRange side f)
 out_of_range_decided Low f = by_lt_z f (neg_ℤ (pos head_limit)) (λ low. inl low) (λ le. inr (λ low. omega (arith, ints, low, le)))
 out_of_range_decided High f = by_lt_z (pos head_limit) f (λ high. inl high) (λ le. inr (λ high. omega (arith, ints, high, le)))
 
-named : (p : List Entries) (number c : ℕ) (side : Side) → Names p (refusal p number c side) number c side
+pub named : (p : List Entries) (number c : ℕ) (side : Side) → Names p (refusal p number c side) number c side
 named p number c side = record { code = refl; place = refl }
 
 module _ (side : Side) (p : List Entries) (ok : IsProblem p) where
-  no_bound_decided : (c : ℕ) → c < length p → Decided (HasNoBound side p c)
+  pub no_bound_decided : (c : ℕ) → c < length p → Decided (HasNoBound side p c)
   no_bound_decided c h = elim (bound_or_none p ok side c h) [ inl (f, is) ↦ inr (has_a_bound side p c f is) | inr none ↦ inl none ]
 
-  a_bound : Nowhere p (HasNoBound side p) → (c : ℕ) → c < length p → (f : ℤ) × IsBoundOn side p c f
+  pub a_bound : Nowhere p (HasNoBound side p) → (c : ℕ) → c < length p → (f : ℤ) × IsBoundOn side p c f
   a_bound held c h = elim (bound_or_none p ok side c h) [ inl some ↦ some | inr none ↦ absurd (held c h none) ]
 
   leaving_decided : (c : ℕ) (f : ℤ) → IsBoundOn side p c f → Decided (LeavesRange side p c)

@@ -6,3 +6,4 @@ pub mod Bases
 pub mod Components
 pub mod Bounds
 pub mod Barrier
+pub mod CutBarrier
