@@ -9,15 +9,16 @@
 //!
 //! Asked are `fits` (how many cells the problem has, where it is one), `balances INDEX HEAD HEAD ..` (of a cell, at its
 //! own head and those of its links), `raised` and `sunk` (its raise and sink values there), `rivers INDEX HEAD`, `zones ZONE
-//! LOW HIGH ..` (the zone and the bounds of the head of each cell of the grid, by cell number), `barrier`,
+//! LOW HIGH ..` (the zone and the bounds of the head of each cell of the grid, by cell number), `barrier`, `cut` (the cut
+//! barrier), `wide ROUNDS` (that one clamped, the heads that settle from it, and whether these are certified over the cut one),
 //! `guess`, `sweeps ROUNDS`, `workers WORKERS TURNS ROUNDS`, `phases WORKERS TURNS ROUNDS` and `run WORKERS TURNS ROUNDS`
 //! (these with the passes of a gate), and `listed SWEEPS INDEX ..`. `spoilt WORKERS TURNS ROUNDS` settles as a run does and on
 //! one thread, where the bounds of `heads` are the guess; `twice WORKERS TURNS ROUNDS` settles two steps of the same problem,
 //! with the passes of the gate and the guesses at each. `watched WORKERS TURNS ROUNDS VIEWS LIMIT` settles
 //! by workers with VIEWS views in each phase, which stop at number LIMIT; `watched_run` as a run does, and `spoilt_views` with
 //! the bounds of `heads` as the guess; `pieces` puts the views to a sink whose put of number LIMIT fails. `heads LOW HIGH ..` are bounds of the cells, of which
-//! `check`, `budget` and `near TRIALS SWEEPS` (from the bounds, then by one round) are asked. `pair ROUNDS` gives the pair by a tested guess of
-//! balanced heads, and the pair of a step that settles by so many sweeps where no guess passes; `spoilt_pair ROUNDS` the same, where the bounds
+//! `check`, `wide_check` (over the cut barrier), `budget` and `near TRIALS SWEEPS` (from the bounds, then by one round) are
+//! asked. `pair ROUNDS` gives the pair by a tested guess of balanced heads, and the pair of a step that settles by so many sweeps where no guess passes; `spoilt_pair ROUNDS` the same, where the bounds
 //! of `heads` are the guess, and then bounds a unit wider.
 //!
 //! `other` keeps the problem so far, and `hull` puts the hull of it and of the problem after it in that problem's place,
@@ -43,6 +44,7 @@ mod balances;
 mod batches;
 mod between;
 mod covering;
+mod cutting;
 mod eliminations;
 mod entries;
 mod events;

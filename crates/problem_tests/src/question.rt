@@ -3,6 +3,7 @@ use crate::balances::{print_balances, print_rivers};
 use crate::batches::{print_batch, print_book, print_meeting};
 use crate::between::ask_between;
 use crate::covering::print_cover;
+use crate::cutting::ask_cut;
 use crate::eliminations::{print_fit, print_network};
 use crate::given::{Given, Stage};
 use crate::hulls::take_hull;
@@ -25,6 +26,9 @@ pub enum Question {
     Rivers,
     Zones,
     Barrier,
+    Cut,
+    Wide,
+    WideCheck,
     Guess,
     Pair,
     SpoiltPair,
@@ -65,6 +69,9 @@ impl Question {
             "rivers" => Some(Question::Rivers),
             "zones" => Some(Question::Zones),
             "barrier" => Some(Question::Barrier),
+            "cut" => Some(Question::Cut),
+            "wide" => Some(Question::Wide),
+            "wide_check" => Some(Question::WideCheck),
             "guess" => Some(Question::Guess),
             "pair" => Some(Question::Pair),
             "spoilt_pair" => Some(Question::SpoiltPair),
@@ -114,6 +121,9 @@ fn ask_problem<R: Print + Threads + Sync>(
         }
         Question::Rivers => print_rivers(rt, p, numbers),
         Question::Zones => print_zone_flows(rt, alloc, p, numbers),
+        Question::Cut | Question::Wide | Question::WideCheck => {
+            ask_cut(rt, alloc, p, given, question, numbers)
+        }
         _ => ask_between(rt, alloc, p, given, question, numbers),
     }
 }
