@@ -4,7 +4,7 @@ use Rattle.barrier_vector.proofs.Common.{AllZip, cases_lt, ints, Fixed, River, D
 use Rattle.barrier_vector.proofs.Common.{whole_at, whole_balance, CellWithin, IsMarkBelow, surplus, ceil_over, SumsTo, greatest, anchor_on, AnchorRoot}
 use Rattle.barrier_vector.proofs.Common.{IsCeiling, CeilingsEnclose}
 use Rattle.barrier_vector.proofs.Backs.{leads_within, conducts}
-use Rattle.barrier_vector.proofs.FloorsWhole.{whole_head, whole_solution, high_back}
+use Rattle.cell_balance.proofs.Encloses.{whole_head, whole_solution, high_back}
 use Rattle.barrier_vector.proofs.FloorsSteps.{ceil_enough, joined_high}
 use Rattle.barrier_vector.proofs.CeilingsLinks.{rises_over, rises_at_fixed, rises_at_river, rises_at_drain}
 use Rattle.barrier_vector.proofs.Marking.{base_outside}
@@ -62,6 +62,6 @@ whole_ceiling m n some_m some_n p w Y within both solves ok c f i (b, base, s, p
 
 pub ceilings_enclose : CeilingsEnclose
 ceilings_enclose p s e d X given c f i ceiling =
-    let (n, w, whole) = whole_solution p s e d X given in
-    high_back n d whole.some f (X c *ℤ pos (10 ^ 9))
+    let (n, w, whole) = whole_solution p s e d X given.problem given.encloses given.some given.solves in
+    high_back n d f (X c *ℤ pos (10 ^ 9)) whole.some
     (whole_ceiling n (n * d) whole.some whole.some_heads p w (whole_head n X) whole.within whole.both whole.solves given.problem c f i ceiling)

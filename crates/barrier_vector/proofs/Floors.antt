@@ -4,7 +4,7 @@ use Rattle.barrier_vector.proofs.Common.{AllZip, mul-le-mul_right, ints, Link, L
 use Rattle.barrier_vector.proofs.Common.{WholeCell, whole_at, whole_balance, CellWithin, IsMarkBelow, lack, anchor_on, LeastRoot, IsAnchorPath, IsInnerPath}
 use Rattle.barrier_vector.proofs.Common.{IsLongest, IsFloor, FloorsEnclose}
 use Rattle.barrier_vector.proofs.Backs.{join_ways, turn_way}
-use Rattle.barrier_vector.proofs.FloorsWhole.{whole_head, whole_solution, low_back}
+use Rattle.cell_balance.proofs.Encloses.{whole_head, whole_solution, low_back}
 use Rattle.barrier_vector.proofs.FloorsSteps.{ceil_enough}
 use Rattle.barrier_vector.proofs.FloorsLinks.{falls_over, falls_at}
 use Rattle.barrier_vector.proofs.FloorsPaths.{falls_along, falls_to_root}
@@ -77,6 +77,6 @@ whole_floor m n some_m some_n p w Y within both solves ok c f i kind =
 
 pub floors_enclose : FloorsEnclose
 floors_enclose p s e d X given c f i floor =
-    let (n, w, whole) = whole_solution p s e d X given in
-    low_back n d whole.some f (X c *ℤ pos (10 ^ 9))
+    let (n, w, whole) = whole_solution p s e d X given.problem given.encloses given.some given.solves in
+    low_back n d f (X c *ℤ pos (10 ^ 9)) whole.some
     (whole_floor n (n * d) whole.some whole.some_heads p w (whole_head n X) whole.within whole.both whole.solves given.problem c f i floor)

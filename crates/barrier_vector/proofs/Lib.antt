@@ -1,7 +1,6 @@
 mod Common
 pub mod FloorsSums
 pub mod FloorsDry
-pub mod FloorsWhole
 pub mod FloorsEnter
 pub mod FloorsSteps
 pub mod FloorsLinks

@@ -1,7 +1,7 @@
 -- The comparison: from fractions to whole numbers and back.
 use Rattle.cell_balance.proofs.Common.{◌≡◌, ℕ, suc, ◌-◌, ◌*◌, ◌^◌, ◌<◌, ◌≤◌, sym, ap, ◌∙◌, subst, arith, ℤ, pos, ◌*ℤ◌, ◌≤ℤ◌, List, length, mul-pos, AllZip}
-use Rattle.cell_balance.proofs.Common.{mul-le-mul, IsOver, cancel_right, mul_mono_right, swap, mul_assoc, head_at, ExactCell, cell_at, no_cell, balance, share}
-use Rattle.cell_balance.proofs.Common.{SolvesStep, Compares}
+use Rattle.cell_balance.proofs.Common.{IsOver, cancel_right, mul_mono_right, swap, mul_assoc, head_at, ExactCell, cell_at, no_cell, balance, share}
+use Rattle.cell_balance.proofs.Common.{SolvesStep, Compares, Entries, IsProblem, EnclosesStep}
 use Rattle.cell_balance.proofs.Zips.{AllZip-at, AllZip-length}
 use Rattle.cell_balance.proofs.Scaling.{zero_over}
 use Rattle.cell_balance.proofs.Over.{CellOver, balance_over}
@@ -11,6 +11,8 @@ use Rattle.cell_balance.proofs.Enclosed.{step_within}
 use Rattle.cell_balance.proofs.Mutual.{mutual_whole}
 use Rattle.cell_balance.proofs.Linked.{linked, links_good}
 use Rattle.cell_balance.proofs.Compare.{compare_low, compare_high}
+use Rattle.cell_balance.proofs.Cancel.{IsMutual}
+use Rattle.cell_balance.proofs.Within.{CellWithin}
 use Rattle.cell_balance.proofs.Whole.{WholeCell, whole_at, no_whole, whole_balance}
 
 -- a numerator over d, over a multiple of d
@@ -31,27 +33,39 @@ whole_solves k m e w d X Y over solves heads c i =
     (balance_over k m (share d (X c)) (Y c) (heads c) (λ z. share d (X z)) Y heads (cell_at e c) (whole_at w c) (AllZip-at (CellOver k m) e w c no_cell no_whole over here))
     (solves c here)
 
-pub compares : Compares
-compares p b l u s e d X given =
+-- the heads X, in units of 10^-9, over n times their denominator
+abbrev pub whole_head : ℕ → (ℕ → ℤ) → ℕ → ℤ
+whole_head n X c = (X c *ℤ pos (10 ^ 9)) *ℤ pos n
+
+pub record IsWholeSolution (p : List Entries) (d : ℕ) (X : ℕ → ℤ) (n : ℕ) (w : List WholeCell) : Type 0 where
+  pub some : 0 < n
+  pub some_heads : 0 < n * d
+  pub within : AllZip (CellWithin n (n * d) (length p)) p w
+  pub both : IsMutual w
+  pub solves : (c : ℕ) → c < length w → whole_balance (whole_at w c) (whole_head n X c) (whole_head n X) ≡ pos 0
+
+-- a solution of an exact step that a problem encloses, in whole numbers
+pub whole_solution : (p : List Entries) (s : ℕ) (e : List ExactCell) (d : ℕ) (X : ℕ → ℤ) → IsProblem p → EnclosesStep s p e → 0 < d → SolvesStep e d X → (n : ℕ) × (w : List WholeCell) × IsWholeSolution p d X n w
+whole_solution p s e d X problem encloses some solves =
     let (n, some_n, common) = step_common e in
     let (w, over') = whole_step n (10 ^ s) (d * 10 ^ 9) e common in
-    let over = subst (λ (z : ℕ). AllZip (CellOver (n * 10 ^ s) z) e w) (assoc n d (10 ^ 9)) over' in
-    let within = step_within s n (n * d) (length p) p e w given.encloses.cells over (links_good p given.problem) in
-    let both = mutual_whole (n * 10 ^ s) (n * d * 10 ^ 9) e w (linked s p e given.problem given.encloses) over in
-    let solved = whole_solves (n * 10 ^ s) (n * d * 10 ^ 9) e w d X (heads n) over given.solves (λ c. heads_over n c) in
-    record {
-      low = λ c i. down n some_n _ _ (compare_low n (n * d) some_n (mul-pos some_n given.some) p w (heads n) within both solved given.held l (head_at b.floor) given.certificate.low (λ k j. up n _ _ (given.barrier.low k j)) c i);
-      high = λ c i. down' n some_n _ _ (compare_high n (n * d) some_n (mul-pos some_n given.some) p w (heads n) within both solved given.held u (head_at b.ceiling) given.certificate.high (λ k j. up' n _ _ (given.barrier.high k j)) c i);
-    }
+    let over = subst (λ (z : ℕ). AllZip (CellOver (n * 10 ^ s) z) e w) (assoc n d (10 ^ 9)) over' in (
+      n,
+      w,
+      record {
+        some = some_n;
+        some_heads = mul-pos some_n some;
+        within = step_within s n (n * d) (length p) p e w encloses.cells over (links_good p problem);
+        both = mutual_whole (n * 10 ^ s) (n * d * 10 ^ 9) e w (linked s p e problem encloses) over;
+        solves = whole_solves (n * 10 ^ s) (n * d * 10 ^ 9) e w d X (whole_head n X) over solves (λ c. heads_over n c);
+      },
+    )
   where
-    heads : ℕ → ℕ → ℤ
-    heads n c = (X c *ℤ pos (10 ^ 9)) *ℤ pos n
-
     assoc : (a b c : ℕ) → a * (b * c) ≡ a * b * c
     assoc a b c = omega arith
 
-    heads_over : (n c : ℕ) → IsOver (n * d * 10 ^ 9) (share d (X c)) (heads n c)
-    heads_over n c = subst (λ (z : ℤ). IsOver (n * d * 10 ^ 9) (share d (X c)) z) (same (10 ^ 9)) (subst (λ (z : ℕ). IsOver z (share d (X c)) (X c *ℤ pos (10 ^ 9 * n))) (ring n d (10 ^ 9)) (share_is d (10 ^ 9 * n) (X c) given.some))
+    heads_over : (n c : ℕ) → IsOver (n * d * 10 ^ 9) (share d (X c)) (whole_head n X c)
+    heads_over n c = subst (λ (z : ℤ). IsOver (n * d * 10 ^ 9) (share d (X c)) z) (same (10 ^ 9)) (subst (λ (z : ℕ). IsOver z (share d (X c)) (X c *ℤ pos (10 ^ 9 * n))) (ring n d (10 ^ 9)) (share_is d (10 ^ 9 * n) (X c) some))
       where
         ring : (n d t : ℕ) → d * (t * n) ≡ n * d * t
         ring n d t = omega arith
@@ -59,18 +73,27 @@ compares p b l u s e d X given =
         same : (t : ℕ) → X c *ℤ pos (t * n) ≡ (X c *ℤ pos t) *ℤ pos n
         same t = sym (mul_assoc (X c) (pos t) (pos n))
 
-    -- a bound over d is one over n * d, and back
-    spread : (n : ℕ) (a : ℤ) → a *ℤ pos (n * d) ≡ (a *ℤ pos d) *ℤ pos n
-    spread n a = sym (swap a (pos d) (pos n) ∙ mul_assoc a (pos n) (pos d))
+-- a bound over d is one over n * d, and back
+module _ (n d : ℕ) (a y : ℤ) where
+  spread : a *ℤ pos (n * d) ≡ (a *ℤ pos d) *ℤ pos n
+  spread = sym (swap a (pos d) (pos n) ∙ mul_assoc a (pos n) (pos d))
 
-    up : (n : ℕ) (a y : ℤ) → (a *ℤ pos d) ≤ℤ y → (a *ℤ pos (n * d)) ≤ℤ (y *ℤ pos n)
-    up n a y h = rw (spread n a) (mul_mono_right n _ _ h)
+  low_over : (a *ℤ pos d) ≤ℤ y → (a *ℤ pos (n * d)) ≤ℤ (y *ℤ pos n)
+  low_over h = rw spread (mul_mono_right n _ _ h)
 
-    up' : (n : ℕ) (a y : ℤ) → y ≤ℤ (a *ℤ pos d) → (y *ℤ pos n) ≤ℤ (a *ℤ pos (n * d))
-    up' n a y h = rw (spread n a) (mul_mono_right n _ _ h)
+  high_over : y ≤ℤ (a *ℤ pos d) → (y *ℤ pos n) ≤ℤ (a *ℤ pos (n * d))
+  high_over h = rw spread (mul_mono_right n _ _ h)
 
-    down : (n : ℕ) → 0 < n → (a y : ℤ) → (a *ℤ pos (n * d)) ≤ℤ (y *ℤ pos n) → (a *ℤ pos d) ≤ℤ y
-    down n h a y k = cancel_right n _ _ h (rw (spread n a) at k)
+  pub low_back : 0 < n → (a *ℤ pos (n * d)) ≤ℤ (y *ℤ pos n) → (a *ℤ pos d) ≤ℤ y
+  low_back some k = cancel_right n _ _ some (rw spread at k)
 
-    down' : (n : ℕ) → 0 < n → (a y : ℤ) → (y *ℤ pos n) ≤ℤ (a *ℤ pos (n * d)) → y ≤ℤ (a *ℤ pos d)
-    down' n h a y k = cancel_right n _ _ h (rw (spread n a) at k)
+  pub high_back : 0 < n → (y *ℤ pos n) ≤ℤ (a *ℤ pos (n * d)) → y ≤ℤ (a *ℤ pos d)
+  high_back some k = cancel_right n _ _ some (rw spread at k)
+
+pub compares : Compares
+compares p b l u s e d X given =
+    let (n, w, whole) = whole_solution p s e d X given.problem given.encloses given.some given.solves in
+    record {
+      low = λ c i. low_back n d _ _ whole.some (compare_low n (n * d) whole.some whole.some_heads p w (whole_head n X) whole.within whole.both whole.solves given.held l (head_at b.floor) given.certificate.low (λ k j. low_over n d _ _ (given.barrier.low k j)) c i);
+      high = λ c i. high_back n d _ _ whole.some (compare_high n (n * d) whole.some whole.some_heads p w (whole_head n X) whole.within whole.both whole.solves given.held u (head_at b.ceiling) given.certificate.high (λ k j. high_over n d _ _ (given.barrier.high k j)) c i);
+    }

@@ -1,14 +1,13 @@
 -- What the manual says of single flows, from their whole numbers.
 use Rattle.cell_balance.proofs.Common.{◌≡◌, ℕ, zero, suc, ◌*◌, ◌<◌, ◌≤◌, refl, sym, ap, ◌∙◌, subst, arith, ℤ, pos, negsuc, neg_ℤ, ◌-ℤ◌, ◌*ℤ◌, ◌≤ℤ◌, ◌<ℤ◌}
 use Rattle.cell_balance.proofs.Common.{mul-pos, int_max, int_min, mul-le-mul_right, mul-le-mul, *ℤ-zero, ints, clamps, Ratio, Fraction, den, whole, signed}
-use Rattle.cell_balance.proofs.Common.{negated, IsOver, IsShare, mul_nonneg, mul_neg, ExactFixed, ExactRiver, ExactDrain, ExactEvap, minus, greater, fixed_flow}
+use Rattle.cell_balance.proofs.Common.{negated, IsOver, IsShare, mul_nonneg, mul_neg, ExactFixed, ExactRiver, ExactDrain, ExactEvap, minus, fixed_flow}
 use Rattle.cell_balance.proofs.Common.{river_flow, drain_flow, evap_flow, full_rate, over_difference, FixedLaws, RiverLaws, DrainLaws, EvapLaws, FlowsAreRight}
-use Rattle.decimal_input.specs.Ratios.{den as ratio_den}
-use Rattle.cell_balance.proofs.Scaling.{IsOver-times, IsOver-minus, IsOver-negated, IsOver-none, IsOver-signed, IsOver-greater, over_zero}
+use Rattle.cell_balance.proofs.Scaling.{IsOver-times, IsOver-minus, IsOver-negated, IsOver-signed, over_zero}
 use Rattle.cell_balance.proofs.Order.{over_le, le_over}
 use Rattle.cell_balance.proofs.EntryScaled.{same_over, negative_over, negative_below, positive_above, below_over}
 use Rattle.cell_balance.proofs.Denominators.{Goes, fraction_over, fixed_den, river_den, drain_den, evap_den}
-use Rattle.cell_balance.proofs.Over.{FixedOver, RiverOver, DrainOver, EvapOver, fixed_over, river_over, drain_over, evap_over}
+use Rattle.cell_balance.proofs.Over.{FixedOver, RiverOver, DrainOver, EvapOver, fixed_over, river_over, drain_over, evap_over, full_over}
 use Rattle.cell_balance.proofs.Wholes.{fixed, river, drain, evap}
 use Rattle.cell_balance.proofs.Dry.{evap_within_full}
 use Rattle.cell_balance.proofs.Whole.{WholeFixed, WholeRiver, WholeDrain, WholeEvap, whole_fixed, whole_river, whole_drain, whole_evap, whole_full}
@@ -69,16 +68,16 @@ module _ (k m : ℕ) (some_k : 0 < k) (some_m : 0 < m) (v : Fraction) (y : ℤ) 
       wet : w.elev ≤ℤ y → whole_drain y w ≡ pos w.c *ℤ (w.elev -ℤ y)
       wet h = let e : neg_ℤ (int_max (y -ℤ w.elev) (pos 0)) ≡ w.elev -ℤ y = omega (arith, ints, clamps) in sym (mul_neg (pos w.c) (int_max (y -ℤ w.elev) (pos 0))) ∙ ap (λ (z : ℤ). pos w.c *ℤ z) e
 
-  full_over : (x : ExactEvap) (w : WholeEvap) → EvapOver k m x w → IsOver (k * m) (negated (full_rate x)) (neg_ℤ (whole_full w))
-  full_over x w r = IsOver-negated (k * m) (full_rate x) (whole_full w) (IsOver-times k m (signed x.conductance) (greater (minus x.surface x.extinction) (whole (pos 0))) (pos w.c) _ (IsOver-signed k x.conductance w.c r.c) (IsOver-greater m (minus x.surface x.extinction) (whole (pos 0)) (w.surf -ℤ w.ext) (pos 0) (IsOver-minus m x.surface x.extinction w.surf w.ext r.surf r.ext) (IsOver-none m)))
+  all_out : (x : ExactEvap) (w : WholeEvap) → EvapOver k m x w → IsOver (k * m) (negated (full_rate x)) (neg_ℤ (whole_full w))
+  all_out x w r = IsOver-negated (k * m) (full_rate x) (whole_full w) (full_over k m x w r)
 
   evap_laws : (x : ExactEvap) (w : WholeEvap) → EvapOver k m x w → EvapLaws v x
   evap_laws x w r = record {
     never_gives = negative_over (k * m) (evap_flow v x) (whole_evap y w) some flow (out (mul_nonneg (pos w.c) (int_max (int_min y w.surf -ℤ w.ext) (pos 0)) (omega (arith, ints)) (omega (arith, ints, clamps))));
-    at_most_full = le_over (k * m) (negated (full_rate x)) (evap_flow v x) (neg_ℤ (whole_full w)) (whole_evap y w) some (full_over x w r) flow (evap_within_full y w);
+    at_most_full = le_over (k * m) (negated (full_rate x)) (evap_flow v x) (neg_ℤ (whole_full w)) (whole_evap y w) some (all_out x w r) flow (evap_within_full y w);
     below = λ h. over_zero (k * m) (evap_flow v x) some (subst (λ (z : ℤ). IsOver (k * m) (evap_flow v x) z) (none (over_le m v x.extinction y w.ext own r.ext h)) flow);
     between = λ h i. same_over (k * m) _ _ _ _ some flow (difference_over k m w.c x.conductance x.extinction v w.ext y r.c r.ext own) (middle (over_le m x.extinction v w.ext y r.ext own h) (over_le m v x.surface y w.surf own r.surf i));
-    above = λ h. same_over (k * m) _ _ _ _ some flow (full_over x w r) (top (over_le m x.surface v w.surf y r.surf own h));
+    above = λ h. same_over (k * m) _ _ _ _ some flow (all_out x w r) (top (over_le m x.surface v w.surf y r.surf own h));
   }
     where
       flow : IsOver (k * m) (evap_flow v x) (whole_evap y w)

@@ -1,12 +1,12 @@
 -- The laws of exact balances, from their whole numbers.
-use Rattle.cell_balance.proofs.Common.{◌≡◌, ℕ, zero, suc, ◌*◌, ◌<◌, ◌⊎◌, inl, inr, refl, ap, subst, arith, ℤ, pos, ◌+ℤ◌, ◌-ℤ◌, ◌*ℤ◌, ◌≤ℤ◌, List, length, All}
-use Rattle.cell_balance.proofs.Common.{Bool, true, mul-pos, AllZip, cases_eq, ints, Ratio, Fraction, whole, signed, fraction_total, AtMost, IsOver, IsShare}
-use Rattle.cell_balance.proofs.Common.{total, ExactRiver, ExactEvap, ExactCell, cell_at, no_cell, minus, greater, link_flow, balance, share, total_inside}
-use Rattle.cell_balance.proofs.Common.{IsClosed, deep_river, full_rate, deep_flow, LiesBelow, LinksCancel, BalanceFalls, BalanceRises, DryLaw, mul_mono_right}
+use Rattle.cell_balance.proofs.Common.{◌≡◌, ℕ, zero, suc, ◌*◌, ◌<◌, ◌⊎◌, inl, inr, refl, ap, subst, arith, ℤ, pos, ◌*ℤ◌, ◌≤ℤ◌, List, length, All}
+use Rattle.cell_balance.proofs.Common.{Bool, true, mul-pos, AllZip, cases_eq, ints, Ratio, Fraction, whole, fraction_total, AtMost, IsOver, IsShare}
+use Rattle.cell_balance.proofs.Common.{total, ExactCell, cell_at, no_cell, link_flow, balance, share, total_inside}
+use Rattle.cell_balance.proofs.Common.{IsClosed, deep_flow, LiesBelow, LinksCancel, BalanceFalls, BalanceRises, DryLaw, mul_mono_right}
 use Rattle.cell_balance.proofs.Zips.{AllZip-at, AllZip-length, All-zip}
-use Rattle.cell_balance.proofs.Scaling.{IsOver-plus, IsOver-times, IsOver-minus, IsOver-none, IsOver-signed, IsOver-greater, IsOver-total, over_zero}
+use Rattle.cell_balance.proofs.Scaling.{IsOver-total, over_zero}
 use Rattle.cell_balance.proofs.Order.{over_le, le_over, IsOver-inside}
-use Rattle.cell_balance.proofs.Over.{FlowOver, LinkOver, FixedOver, RiverOver, DrainOver, EvapOver, CellOver, link_over, balance_over}
+use Rattle.cell_balance.proofs.Over.{LinkOver, FixedOver, RiverOver, DrainOver, CellOver, deep_over, link_over, balance_over}
 use Rattle.cell_balance.proofs.Denominators.{cell_common, step_common}
 use Rattle.cell_balance.proofs.Wholes.{whole_cell, whole_step}
 use Rattle.cell_balance.proofs.Mutual.{mutual_whole}
@@ -15,7 +15,7 @@ use Rattle.cell_balance.proofs.Dry.{dry_law}
 use Rattle.cell_balance.proofs.Falling.{whole_falls, whole_rises}
 use Rattle.cell_balance.proofs.Encloses.{share_is}
 use Rattle.cell_balance.proofs.Within.{IsDry}
-use Rattle.cell_balance.proofs.Whole.{WholeRiver, WholeEvap, WholeCell, whole_at, no_whole, whole_link, whole_balance, whole_deep_river, whole_full, whole_deep}
+use Rattle.cell_balance.proofs.Whole.{WholeCell, whole_at, no_whole, whole_link, whole_balance, whole_deep}
 
 -- numerators over d, over n * d
 pub heads_over : (n d : ℕ) → 0 < d → (z : ℤ) → IsOver (n * d) (share d z) (z *ℤ pos n)
@@ -55,22 +55,6 @@ module _ (k m : ℕ) (e : List ExactCell) (w : List WholeCell) (over : AllZip (C
   closed_whole inside closed c i t =
       let here : c < length e = omega (arith, same_length, i) in
       All-zip (LinkOver k m) (λ x. inside x.cell ≡ true) (λ x. inside x.cell ≡ true) (λ x y r h. subst (λ (z : ℕ). inside z ≡ true) r.same h) (cell_at e c).links (whole_at w c).links (cell_over c here).links (closed c here t)
-
-  deep_over : (c : ExactCell) (u : WholeCell) → CellOver k m c u → IsOver (k * m) (deep_flow c) (whole_deep u)
-  deep_over c u o =
-      rw (regroup (total (λ q. q) u.flows) (total whole_deep_river u.rivers) (total whole_full u.evaps))
-      (IsOver-plus (k * m) _ _ _ _ (IsOver-total (FlowOver k m) (k * m) (λ x. x.flow) (λ q. q) (λ x q s. s.flow) c.flows u.flows o.flows)
-      (IsOver-minus (k * m) _ _ _ _ (IsOver-total (RiverOver k m) (k * m) deep_river whole_deep_river river c.rivers u.rivers o.rivers)
-      (IsOver-total (EvapOver k m) (k * m) full_rate whole_full evap c.evaps u.evaps o.evaps)))
-    where
-      regroup : (a b c : ℤ) → a +ℤ b -ℤ c ≡ a +ℤ (b -ℤ c)
-      regroup a b c = omega (arith, ints)
-
-      river : (x : ExactRiver) (y : WholeRiver) → RiverOver k m x y → IsOver (k * m) (deep_river x) (whole_deep_river y)
-      river x y r = IsOver-times k m (signed x.conductance) (minus x.stage x.bottom) (pos y.c) _ (IsOver-signed k x.conductance y.c r.c) (IsOver-minus m x.stage x.bottom y.stage y.bottom r.stage r.bottom)
-
-      evap : (x : ExactEvap) (y : WholeEvap) → EvapOver k m x y → IsOver (k * m) (full_rate x) (whole_full y)
-      evap x y r = IsOver-times k m (signed x.conductance) (greater (minus x.surface x.extinction) (whole (pos 0))) (pos y.c) _ (IsOver-signed k x.conductance y.c r.c) (IsOver-greater m (minus x.surface x.extinction) (whole (pos 0)) (y.surf -ℤ y.ext) (pos 0) (IsOver-minus m x.surface x.extinction y.surf y.ext r.surf r.ext) (IsOver-none m))
 
   dry_over : (v : Fraction) (y : ℤ) (c : ExactCell) (u : WholeCell) → IsOver m v y → CellOver k m c u → LiesBelow v c → IsDry y u
   dry_over v y c u own o h = record {
@@ -113,7 +97,7 @@ exact_dry_law e inside d X linked closed some below =
     let same = same_length (n * 1) (n * d) e w over in
     let law = dry_law w Y both inside Y (λ c i t. let here : c < length e = omega (arith, same, i) in (least (Y c), dry_over (n * 1) (n * d) e w over (share d (X c)) (Y c) (cell_at e c) (whole_at w c) (heads c) (cell_over (n * 1) (n * d) e w over c here) (below c here t))) (closed_whole (n * 1) (n * d) e w over inside closed) in
     le_over (n * 1 * (n * d)) _ _ _ _ (mul-pos (omega arith) (mul-pos some_n some))
-    (IsOver-inside (n * 1 * (n * d)) (length e) inside (λ c. deep_flow (cell_at e c)) (λ c. whole_deep (whole_at w c)) (λ c i. deep_over (n * 1) (n * d) e w over (cell_at e c) (whole_at w c) (cell_over (n * 1) (n * d) e w over c i)))
+    (IsOver-inside (n * 1 * (n * d)) (length e) inside (λ c. deep_flow (cell_at e c)) (λ c. whole_deep (whole_at w c)) (λ c i. deep_over (n * 1) (n * d) (cell_at e c) (whole_at w c) (cell_over (n * 1) (n * d) e w over c i)))
     (IsOver-inside (n * 1 * (n * d)) (length e) inside (λ c. balance (cell_at e c) (share d (X c)) (λ k. share d (X k))) (λ c. whole_balance (whole_at w c) (Y c) Y) (λ c i. balance_over (n * 1) (n * d) (share d (X c)) (Y c) (heads c) (λ k. share d (X k)) Y heads (cell_at e c) (whole_at w c) (cell_over (n * 1) (n * d) e w over c i)))
     (rw same law)
   where

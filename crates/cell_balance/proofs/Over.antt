@@ -1,9 +1,10 @@
 -- An exact step and its whole numbers: conductances over k, heads over m, flows over k * m.
 use Rattle.cell_balance.proofs.Common.{◌≡◌, ℕ, ◌*◌, subst, arith, ℤ, pos, ◌+ℤ◌, ◌-ℤ◌, ◌*ℤ◌, AllZip, int_max, int_min, ints, Fraction, IsOver, whole, signed}
 use Rattle.cell_balance.proofs.Common.{times, IsShare, total, ExactFlow, ExactLink, ExactFixed, ExactRiver, ExactDrain, ExactEvap, ExactCell, minus, greater}
-use Rattle.cell_balance.proofs.Common.{lesser, link_flow, fixed_flow, river_flow, drain_flow, evap_flow, balance}
+use Rattle.cell_balance.proofs.Common.{lesser, link_flow, fixed_flow, river_flow, drain_flow, evap_flow, balance, deep_flow, deep_river, full_rate}
 use Rattle.cell_balance.proofs.Scaling.{IsOver-plus, IsOver-times, IsOver-negated, IsOver-minus, IsOver-none, IsOver-signed, IsOver-greater, IsOver-lesser, IsOver-total}
 use Rattle.cell_balance.proofs.Whole.{WholeLink, WholeFixed, WholeRiver, WholeDrain, WholeEvap, WholeCell, whole_link, whole_fixed, whole_river, whole_drain, whole_evap, whole_balance}
+use Rattle.cell_balance.proofs.Whole.{whole_deep, whole_deep_river, whole_full}
 
 module _ (k m : ℕ) where
   pub record FlowOver (e : ExactFlow) (q : ℤ) : Type 0 where
@@ -38,6 +39,24 @@ module _ (k m : ℕ) where
     pub rivers : AllZip RiverOver e.rivers w.rivers
     pub drains : AllZip DrainOver e.drains w.drains
     pub evaps : AllZip EvapOver e.evaps w.evaps
+
+  pub deep_river_over : (e : ExactRiver) (w : WholeRiver) → RiverOver e w → IsOver (k * m) (deep_river e) (whole_deep_river w)
+  deep_river_over e w r = IsOver-times k m (signed e.conductance) (minus e.stage e.bottom) (pos w.c) _ (IsOver-signed k e.conductance w.c r.c) (IsOver-minus m e.stage e.bottom w.stage w.bottom r.stage r.bottom)
+
+  pub full_over : (e : ExactEvap) (w : WholeEvap) → EvapOver e w → IsOver (k * m) (full_rate e) (whole_full w)
+  full_over e w r =
+      let depth = IsOver-greater m (minus e.surface e.extinction) (whole (pos 0)) (w.surf -ℤ w.ext) (pos 0) (IsOver-minus m e.surface e.extinction w.surf w.ext r.surf r.ext) (IsOver-none m) in
+      IsOver-times k m (signed e.conductance) (greater (minus e.surface e.extinction) (whole (pos 0))) (pos w.c) _ (IsOver-signed k e.conductance w.c r.c) depth
+
+  pub deep_over : (e : ExactCell) (w : WholeCell) → CellOver e w → IsOver (k * m) (deep_flow e) (whole_deep w)
+  deep_over e w o =
+      rw (regroup (total (λ q. q) w.flows) (total whole_deep_river w.rivers) (total whole_full w.evaps))
+      (IsOver-plus (k * m) _ _ _ _ (IsOver-total FlowOver (k * m) (λ x. x.flow) (λ q. q) (λ x q s. s.flow) e.flows w.flows o.flows)
+      (IsOver-minus (k * m) _ _ _ _ (IsOver-total RiverOver (k * m) deep_river whole_deep_river deep_river_over e.rivers w.rivers o.rivers)
+      (IsOver-total EvapOver (k * m) full_rate whole_full full_over e.evaps w.evaps o.evaps)))
+    where
+      regroup : (a b c : ℤ) → a +ℤ b -ℤ c ≡ a +ℤ (b -ℤ c)
+      regroup a b c = omega (arith, ints)
 
   module _ (v : Fraction) (y : ℤ) (own : IsOver m v y) where
     pub link_over : (h : ℕ → Fraction) (Y : ℕ → ℤ) → ((c : ℕ) → IsOver m (h c) (Y c)) → (e : ExactLink) (w : WholeLink) → LinkOver e w → IsOver (k * m) (link_flow h v e) (whole_link Y y w)

@@ -1,16 +1,17 @@
 -- Steps with cells that nothing holds: heads one lower over these cells are another solution, where their deep flows sum to at most 0 or no river or drain of them conducts.
 use Rattle.exact_solutions.proofs.Common.{◌≡◌, ◌*◌, ◌<◌, ◌∙◌, ◌+ℤ◌, ◌-ℤ◌, ◌*ℤ◌, ◌≤ℤ◌, [], ◌∷◌, ℕ, zero, suc, refl, sym, ap, arith, ℤ, pos, neg_ℤ, List, length}
 use Rattle.exact_solutions.proofs.Common.{All, Bool, true, false, cond, mul-pos, int_max, AllZip, zero-*ℤ, ints, clamps, All-head, All-tail, IsShare, Same}
-use Rattle.exact_solutions.proofs.Common.{whole, signed, IsOver, total, total_mono, mul_assoc, mul_mono, minus, greater, sum_below, sum_inside, deep_river}
-use Rattle.exact_solutions.proofs.Common.{full_rate, deep_flow, AreLinked, share, SolvesStep, ExactRiver, ExactEvap, ExactCell, cell_at, no_cell, IsMutual}
-use Rattle.exact_solutions.proofs.Common.{closed_cancel, step_common, whole_solves, mutual_whole, FlowOver, LinkOver, FixedOver, RiverOver, DrainOver, EvapOver}
-use Rattle.exact_solutions.proofs.Common.{CellOver, IsOver-plus, IsOver-times, IsOver-minus, IsOver-none, IsOver-signed, IsOver-greater, IsOver-total, sum-same}
-use Rattle.exact_solutions.proofs.Common.{sum-add, sum-zero, sub_mul, WholeRiver, WholeDrain, WholeEvap, WholeCell, whole_at, no_whole, whole_link, whole_fixed}
+use Rattle.exact_solutions.proofs.Common.{total, total_mono, mul_assoc, mul_mono, sum_below, sum_inside}
+use Rattle.exact_solutions.proofs.Common.{deep_flow, AreLinked, share, SolvesStep, ExactCell, cell_at, no_cell, IsMutual}
+use Rattle.exact_solutions.proofs.Common.{closed_cancel, step_common, whole_solves, mutual_whole, LinkOver, FixedOver, RiverOver, DrainOver, EvapOver}
+use Rattle.exact_solutions.proofs.Common.{CellOver, IsOver-none, sum-same}
+use Rattle.exact_solutions.proofs.Common.{sum-add, sum-zero, sub_mul, WholeRiver, WholeDrain, WholeCell, whole_at, no_whole, whole_link, whole_fixed}
 use Rattle.exact_solutions.proofs.Common.{whole_river, whole_drain, whole_evap, whole_balance, whole_deep_river, whole_full, whole_deep, whole_step, AllZip-at}
 use Rattle.exact_solutions.proofs.Common.{AllZip-length, All-zip, le_anti}
 use Rattle.decimal_input.specs.Ratios.{Ratio}
 use Rattle.decimal_input.proofs.Integers.{le-trans}
 use Rattle.cell_balance.proofs.ExactLaws.{heads_over}
+use Rattle.cell_balance.proofs.Over.{deep_over}
 use Rattle.cell_balance.proofs.Falling.{whole_falls}
 use Rattle.cell_balance.proofs.Order.{over_le, IsOver-inside}
 use Rattle.exact_solutions.specs.Loose.{IsLoose}
@@ -80,23 +81,6 @@ flows_constant u v h fixed rivers drains evaps =
   where
     sum : (f k r d e : ℤ) → k ≡ pos 0 → r ≡ pos 0 → d ≡ pos 0 → e ≡ pos 0 → f +ℤ pos 0 +ℤ k +ℤ r +ℤ d +ℤ e ≡ f
     sum f k r d e x y z t = omega (arith, ints)
-
--- a cell's deep flow, in whole numbers
-deep_flow_over : (k m : ℕ) (c : ExactCell) (u : WholeCell) → CellOver k m c u → IsOver (k * m) (deep_flow c) (whole_deep u)
-deep_flow_over k m c u o =
-    rw (regroup (total (λ q. q) u.flows) (total whole_deep_river u.rivers) (total whole_full u.evaps))
-    (IsOver-plus (k * m) _ _ _ _ (IsOver-total (FlowOver k m) (k * m) (λ x. x.flow) (λ q. q) (λ x q s. s.flow) c.flows u.flows o.flows)
-    (IsOver-minus (k * m) _ _ _ _ (IsOver-total (RiverOver k m) (k * m) deep_river whole_deep_river river c.rivers u.rivers o.rivers)
-    (IsOver-total (EvapOver k m) (k * m) full_rate whole_full evap c.evaps u.evaps o.evaps)))
-  where
-    regroup : (a b c : ℤ) → a +ℤ b -ℤ c ≡ a +ℤ (b -ℤ c)
-    regroup a b c = omega (arith, ints)
-
-    river : (x : ExactRiver) (y : WholeRiver) → RiverOver k m x y → IsOver (k * m) (deep_river x) (whole_deep_river y)
-    river x y r = IsOver-times k m (signed x.conductance) (minus x.stage x.bottom) (pos y.c) _ (IsOver-signed k x.conductance y.c r.c) (IsOver-minus m x.stage x.bottom y.stage y.bottom r.stage r.bottom)
-
-    evap : (x : ExactEvap) (y : WholeEvap) → EvapOver k m x y → IsOver (k * m) (full_rate x) (whole_full y)
-    evap x y r = IsOver-times k m (signed x.conductance) (greater (minus x.surface x.extinction) (whole (pos 0))) (pos y.c) _ (IsOver-signed k x.conductance y.c r.c) (IsOver-greater m (minus x.surface x.extinction) (whole (pos 0)) (y.surf -ℤ y.ext) (pos 0) (IsOver-minus m x.surface x.extinction y.surf y.ext r.surf r.ext) (IsOver-none m))
 
 module _ (e : List ExactCell) (inside : ℕ → Bool) (linked : AreLinked e) (loose : IsLoose e inside) (k m : ℕ) (w : List WholeCell) (over : AllZip (CellOver k m) e w) where
   same_length : length e ≡ length w
@@ -199,7 +183,7 @@ drained_have_another e inside linked loose most d X some solves =
     let zeros = whole_solves (n * 1) (n * d) e w d X (λ k. X k *ℤ pos n) over solves (λ c. heads_over n d some (X c)) in
     let same = AllZip-length (CellOver (n * 1) (n * d)) e w over in
     let deep = over_le (n * 1 * (n * d)) _ _ _ _
-    (IsOver-inside (n * 1 * (n * d)) (length e) inside (λ c. deep_flow (cell_at e c)) (λ c. whole_deep (whole_at w c)) (λ c i. deep_flow_over (n * 1) (n * d) (cell_at e c) (whole_at w c) (AllZip-at (CellOver (n * 1) (n * d)) e w c no_cell no_whole over i)))
+    (IsOver-inside (n * 1 * (n * d)) (length e) inside (λ c. deep_flow (cell_at e c)) (λ c. whole_deep (whole_at w c)) (λ c i. deep_over (n * 1) (n * d) (cell_at e c) (whole_at w c) (AllZip-at (CellOver (n * 1) (n * d)) e w c no_cell no_whole over i)))
     (IsOver-none (n * 1 * (n * d))) most in
     lowered_solution e inside linked loose n d X some_n some w over zeros (drained_stays e inside linked loose (n * 1) (n * d) w over (λ k. X k *ℤ pos n) zeros (mutual_whole (n * 1) (n * d) e w linked over) (rw same at deep))
 
