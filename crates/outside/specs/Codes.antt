@@ -1,7 +1,7 @@
 -- The refusals of inputs: the number and the word that each is printed with.
 use Rattle.std.specs.Prelude.{ℕ, List, codes}
 use Rattle.outside.specs.declared.codes.Code.{Code}
-use Rattle.outside.specs.declared.codes.Code.TheVariants.{MissingFile, TooLong, BadName, BadNameLine, DuplicatePackage, UnsupportedPackage, MissingPackage, EndOfFile, BadNumber, TooManyDigits, OutOfProfile, BadGrid, BadControl, BadThickness, BadProperty, CellOutside, TooManyEntries, NothingToReuse, HeadTooLarge, BadListing}
+use Rattle.outside.specs.declared.codes.Code.TheVariants.{MissingFile, TooLong, BadName, BadNameLine, DuplicatePackage, UnsupportedPackage, MissingPackage, EndOfFile, BadNumber, TooManyDigits, OutOfProfile, BadGrid, BadControl, BadThickness, BadProperty, CellOutside, TooManyEntries, NothingToReuse, HeadTooLarge, BadListing, NotAlike}
 
 pub record CodeRow : Type 0 where
   pub number : ℕ
@@ -31,3 +31,4 @@ code_row TooManyEntries = row 17 (codes "TooManyEntries")
 code_row NothingToReuse = row 18 (codes "NothingToReuse")
 code_row HeadTooLarge = row 19 (codes "HeadTooLarge")
 code_row BadListing = row 20 (codes "BadListing")
+code_row NotAlike = row 28 (codes "NotAlike")

@@ -24,10 +24,11 @@ pub enum Code {
     NothingToReuse,
     HeadTooLarge,
     BadListing,
+    NotAlike,
 }
 
 impl Code {
-    /// The number that the refusal is printed with, from 1 to 20.
+    /// The number that the refusal is printed with: 1 to 20, or 28. Those between are refusals of a step.
     pub fn number(self) -> u8
         ensures { result ≡ (code_row self).number }
     {
@@ -52,6 +53,7 @@ impl Code {
             Code::NothingToReuse => 18,
             Code::HeadTooLarge => 19,
             Code::BadListing => 20,
+            Code::NotAlike => 28,
         }
     }
 
@@ -80,6 +82,7 @@ impl Code {
             18 => Some(Code::NothingToReuse),
             19 => Some(Code::HeadTooLarge),
             20 => Some(Code::BadListing),
+            28 => Some(Code::NotAlike),
             _ => None,
         }
     }
@@ -109,6 +112,7 @@ impl Code {
             Code::NothingToReuse => "NothingToReuse",
             Code::HeadTooLarge => "HeadTooLarge",
             Code::BadListing => "BadListing",
+            Code::NotAlike => "NotAlike",
         }
     }
 }
