@@ -2,9 +2,8 @@
 use Rattle.barrier_vector.proofs.Common.{◌≡◌, ℕ, zero, suc, ◌*◌, ◌^◌, ◌<◌, ◌≤◌, ◌⊎◌, inl, inr, arith, ℤ, pos, ◌+ℤ◌, ◌*ℤ◌, ◌≤ℤ◌, List, length, max, Contains}
 use Rattle.barrier_vector.proofs.Common.{AllZip, cases_lt, ints, Fixed, River, Drain, High, Entries, entries_at, IsProblem, add_mul, IsMutual, WholeCell}
 use Rattle.barrier_vector.proofs.Common.{whole_at, whole_balance, CellWithin, IsMarkBelow, surplus, ceil_over, SumsTo, greatest, anchor_on, AnchorRoot}
-use Rattle.barrier_vector.proofs.Common.{IsCeiling, CeilingsEnclose}
+use Rattle.barrier_vector.proofs.Common.{IsCeiling, CeilingsEnclose, whole_head, whole_solution, high_back}
 use Rattle.barrier_vector.proofs.Backs.{leads_within, conducts}
-use Rattle.cell_balance.proofs.Encloses.{whole_head, whole_solution, high_back}
 use Rattle.barrier_vector.proofs.FloorsSteps.{ceil_enough, joined_high}
 use Rattle.barrier_vector.proofs.CeilingsLinks.{rises_over, rises_at_fixed, rises_at_river, rises_at_drain}
 use Rattle.barrier_vector.proofs.Marking.{base_outside}

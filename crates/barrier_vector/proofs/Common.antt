@@ -1,8 +1,8 @@
 -- Names that several proofs of this crate cite, of the crates below and of its own definitions, passed on from one place. Declares nothing.
 pub use Rattle.std.proofs.Common.{All, Bool, Contains, FitsSigned, IsSome, List, None, Option, Some, [], add-one, ap, arith, cond, div-add-mod', drop, false}
-pub use Rattle.std.proofs.Common.{get_or, get_or-set_other, get_or-set_same, inl, inr, le-div_iff_mul-le, length, length-append, max, min, mod-lt, mul-pos}
-pub use Rattle.std.proofs.Common.{neg_ℤ, negsuc, not, pos, refl, replicate, rules, set, slice_index, slice_index_or, subst, suc, sum_by, sym, take, take_at}
-pub use Rattle.std.proofs.Common.{to_z, true, unsigned_abs, zero, ℕ, ℤ, ◌*ℤ◌, ◌*◌, ◌++◌, ◌+ℤ◌, ◌+◌, ◌-ℤ◌, ◌<ℤ◌, ◌<◌, ◌^◌, ◌∙◌, ◌∷◌, ◌≡◌, ◌≤ℤ◌, ◌≤◌, ◌⊎◌}
+pub use Rattle.std.proofs.Common.{get_or, get_or-set_other, get_or-set_same, inl, inr, le-div_iff_mul-le, length, length-append, max, min, mod-lt, neg_ℤ}
+pub use Rattle.std.proofs.Common.{negsuc, not, pos, refl, replicate, rules, set, slice_index, slice_index_or, subst, suc, sum_by, sym, take, take_at, to_z}
+pub use Rattle.std.proofs.Common.{true, unsigned_abs, zero, ℕ, ℤ, ◌*ℤ◌, ◌*◌, ◌++◌, ◌+ℤ◌, ◌+◌, ◌-ℤ◌, ◌<ℤ◌, ◌<◌, ◌^◌, ◌∙◌, ◌∷◌, ◌≡◌, ◌≤ℤ◌, ◌≤◌, ◌⊎◌}
 pub use Rattle.std.proofs.Math.Nat.{le_of_mul-le-mul_left, mul-le-mul_right}
 pub use Rattle.std.proofs.lemmas.Bool.{cases_eq, cases_lt, eq-eqb, false≢true, ne_eqb}
 pub use Rattle.std.proofs.lemmas.Int.{by_lt_z, clamps, ints, to_z-of_z}
@@ -36,7 +36,8 @@ pub use Rattle.barrier_vector.specs.declared.BarrierFault.TheVariants.{Memory}
 pub use Rattle.barrier_vector.specs.declared.gathered.FlowSum.{FlowSum}
 pub use Rattle.cell_balance.proofs.Cancel.{IsMutual, cut_link, cut_links}
 pub use Rattle.cell_balance.proofs.Dry.{cut_sum, dry_fixed}
-pub use Rattle.cell_balance.proofs.Mutual.{mutual_whole, no_whole_link}
+pub use Rattle.cell_balance.proofs.Encloses.{high_back, low_back, whole_head, whole_solution}
+pub use Rattle.cell_balance.proofs.Mutual.{no_whole_link}
 pub use Rattle.cell_balance.proofs.Products.{conducting}
 pub use Rattle.cell_balance.proofs.Spread.{carried_not_dry, cell_within}
 pub use Rattle.cell_balance.proofs.Sums.{sum-add, sum-neg, sum-same, sum-zero, term-le-sum}
@@ -46,11 +47,9 @@ pub use Rattle.cell_balance.proofs.Whole.{whole_evap, whole_fixed, whole_link, w
 pub use Rattle.cell_balance.proofs.Within.{CellWithin, DrainWithin, FixedWithin, FlowWithin, IsDry, LinkWithin, RiverWithin}
 pub use Rattle.cell_balance.proofs.Zips.{All-zip, AllZip-at, AllZip-length}
 pub use Rattle.cell_balance.specs.Components.{IsAnchored, IsCarried, IsComponent, IsHeldBelow, Leads, Reaches, deep_low, sum_below, sum_inside}
-pub use Rattle.cell_balance.specs.Solutions.{LiesBetween, SolvesStep, share}
-pub use Rattle.cell_balance.specs.Steps.{ExactCell}
-pub use Rattle.decimal_input.proofs.Signs.{cancel_right, mul_mono_right, swap}
+pub use Rattle.decimal_input.proofs.Signs.{mul_mono_right}
 pub use Rattle.step_problem.proofs.Leasts.{mul_neg}
-pub use Rattle.step_problem.proofs.Ring.{mul_assoc, mul_mono, mul_nonneg}
+pub use Rattle.step_problem.proofs.Ring.{mul_mono, mul_nonneg}
 pub use Rattle.step_problem.proofs.Sums.{total_step}
 pub use Rattle.step_problem.specs.Conditions.{CellFits, DrainFits, FixedFits, IsHead, IsProblem, IsWithin, LinkFits, RiverFits, deep_river_high, deep_river_low}
 pub use Rattle.step_problem.specs.Conditions.{full_rate, head_limit, magnitude}

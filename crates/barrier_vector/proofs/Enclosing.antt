@@ -1,6 +1,7 @@
 -- What a barrier's floors and ceilings give to its caller.
-use Rattle.barrier_vector.proofs.Common.{ℕ, ◌<◌, ℤ, List, length, Entries, IsProblem, ExactCell, SolvesStep, LiesBetween, IsHeldBelow, IsFloor, IsCeiling}
-use Rattle.barrier_vector.proofs.Common.{IsSolution}
+use Rattle.barrier_vector.proofs.Common.{ℕ, ◌<◌, ℤ, List, length, Entries, IsProblem, IsHeldBelow, IsFloor, IsCeiling, IsSolution}
+use Rattle.cell_balance.specs.Steps.{ExactCell}
+use Rattle.cell_balance.specs.Solutions.{SolvesStep, LiesBetween}
 use Rattle.cell_balance.specs.Enclosures.{EnclosesStep}
 use Rattle.barrier_vector.proofs.Floors.{floors_enclose}
 use Rattle.barrier_vector.proofs.Ceilings.{ceilings_enclose}

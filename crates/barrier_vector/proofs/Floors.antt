@@ -2,9 +2,8 @@
 use Rattle.barrier_vector.proofs.Common.{◌≡◌, ℕ, ◌+◌, ◌*◌, ◌^◌, ◌<◌, ◌≤◌, inl, inr, refl, subst, arith, ℤ, pos, ◌-ℤ◌, ◌*ℤ◌, ◌≤ℤ◌, List, length, Contains}
 use Rattle.barrier_vector.proofs.Common.{AllZip, mul-le-mul_right, ints, Link, Low, Entries, entries_at, IsProblem, IsCarried, sub_mul, same_z, IsMutual}
 use Rattle.barrier_vector.proofs.Common.{WholeCell, whole_at, whole_balance, CellWithin, IsMarkBelow, lack, anchor_on, LeastRoot, IsAnchorPath, IsInnerPath}
-use Rattle.barrier_vector.proofs.Common.{IsLongest, IsFloor, FloorsEnclose}
+use Rattle.barrier_vector.proofs.Common.{IsLongest, IsFloor, FloorsEnclose, whole_head, whole_solution, low_back}
 use Rattle.barrier_vector.proofs.Backs.{join_ways, turn_way}
-use Rattle.cell_balance.proofs.Encloses.{whole_head, whole_solution, low_back}
 use Rattle.barrier_vector.proofs.FloorsSteps.{ceil_enough}
 use Rattle.barrier_vector.proofs.FloorsLinks.{falls_over, falls_at}
 use Rattle.barrier_vector.proofs.FloorsPaths.{falls_along, falls_to_root}

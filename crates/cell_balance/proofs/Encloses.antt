@@ -1,7 +1,7 @@
 -- The comparison: from fractions to whole numbers and back.
 use Rattle.cell_balance.proofs.Common.{◌≡◌, ℕ, suc, ◌-◌, ◌*◌, ◌^◌, ◌<◌, ◌≤◌, sym, ap, ◌∙◌, subst, arith, ℤ, pos, ◌*ℤ◌, ◌≤ℤ◌, List, length, mul-pos, AllZip}
-use Rattle.cell_balance.proofs.Common.{IsOver, cancel_right, mul_mono_right, swap, mul_assoc, head_at, ExactCell, cell_at, no_cell, balance, share}
-use Rattle.cell_balance.proofs.Common.{SolvesStep, Compares, Entries, IsProblem, EnclosesStep}
+use Rattle.cell_balance.proofs.Common.{IsOver, cancel_right, mul_mono_right, swap, mul_assoc, head_at, ExactCell, cell_at, no_cell, balance, share, SolvesStep}
+use Rattle.cell_balance.proofs.Common.{Compares, Entries, IsProblem, EnclosesStep}
 use Rattle.cell_balance.proofs.Zips.{AllZip-at, AllZip-length}
 use Rattle.cell_balance.proofs.Scaling.{zero_over}
 use Rattle.cell_balance.proofs.Over.{CellOver, balance_over}

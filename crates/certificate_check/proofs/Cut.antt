@@ -5,15 +5,13 @@ use Rattle.certificate_check.proofs.Common.{CertificateEncloses, FailsOnlyWhereC
 use Rattle.std.proofs.Math.IntN.{negsuc-*ℤ-pos, pos-*ℤ-pos}
 use Rattle.std.proofs.Math.Nat.{mul-le-mul_right}
 use Rattle.std.proofs.lemmas.Int.{by_lt_z, clamps, ints}
+use Rattle.decimal_input.proofs.Integers.{le-trans}
 use Rattle.decimal_input.proofs.Signs.{mul_mono_right}
 use Rattle.barrier_vector.specs.Cuts.{clamp, clamped}
 use Rattle.barrier_vector.specs.Refusals.{range_on}
 use Rattle.barrier_vector.proofs.Cutting.{refusal_is_one}
 use Rattle.barrier_vector.proofs.Clamping.{clamped_at}
 use Rattle.certificate_check.proofs.Certified.{certificate_compares}
-
-at_most : (a b c : ℤ) → a ≤ℤ b → b ≤ℤ c → a ≤ℤ c
-at_most a b c h k = omega (arith, ints)
 
 -- a list that is related to another one place by place, with a number of each place: also past the end, where both are 0
 module _ (Fits : ℤ → ℤ → ℤ → Type 0) (one : (f y : ℤ) → (g : ℤ) × Fits f y g) (none : (y : ℤ) → Fits (pos 0) y (pos 0)) where
@@ -122,14 +120,14 @@ range_refusal_is_one p b words = refusal_is_one range_on (λ side c. HoldsAt p b
 low_clamped : (d : ℕ) (f y : ℤ) → (neg_ℤ (pos head_limit) *ℤ pos d) ≤ℤ y → (neg_ℤ (pos head_limit) ≤ℤ f → (f *ℤ pos d) ≤ℤ y) → (clamp f *ℤ pos d) ≤ℤ y
 low_clamped d f y range uncut =
     by_lt_z f (neg_ℤ (pos head_limit))
-    (λ cut. at_most _ _ _ (mul_mono_right d (clamp f) (neg_ℤ (pos head_limit)) (omega (arith, ints, clamps, cut))) range)
-    (λ le. at_most _ _ _ (mul_mono_right d (clamp f) f (omega (arith, ints, clamps, le))) (uncut le))
+    (λ cut. le-trans _ _ _ (mul_mono_right d (clamp f) (neg_ℤ (pos head_limit)) (omega (arith, ints, clamps, cut))) range)
+    (λ le. le-trans _ _ _ (mul_mono_right d (clamp f) f (omega (arith, ints, clamps, le))) (uncut le))
 
 high_clamped : (d : ℕ) (f y : ℤ) → y ≤ℤ (pos head_limit *ℤ pos d) → (f ≤ℤ pos head_limit → y ≤ℤ (f *ℤ pos d)) → y ≤ℤ (clamp f *ℤ pos d)
 high_clamped d f y range uncut =
     by_lt_z (pos head_limit) f
-    (λ cut. at_most _ _ _ range (mul_mono_right d (pos head_limit) (clamp f) (omega (arith, ints, clamps, cut))))
-    (λ le. at_most _ _ _ (uncut le) (mul_mono_right d f (clamp f) (omega (arith, ints, clamps, le))))
+    (λ cut. le-trans _ _ _ range (mul_mono_right d (pos head_limit) (clamp f) (omega (arith, ints, clamps, cut))))
+    (λ le. le-trans _ _ _ (uncut le) (mul_mono_right d f (clamp f) (omega (arith, ints, clamps, le))))
 
 pub clamped_encloses : ClampedPairEncloses
 clamped_encloses p b l u ok barrier held uncut pair s e d X encloses some solves range =

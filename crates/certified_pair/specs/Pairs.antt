@@ -6,14 +6,9 @@ use Rattle.step_problem.specs.declared.heads.Bound.{Bound}
 use Rattle.step_problem.specs.declared.heads.SettleFault.{SettleFault}
 use Rattle.step_problem.specs.declared.heads.SettleFault.TheVariants.{Unfinished, Memory}
 use Rattle.step_problem.specs.Entries.{Entries}
-use Rattle.step_problem.specs.Heads.{Edges, lower_at, upper_at, IsCertificate}
+use Rattle.step_problem.specs.Heads.{Edges}
 use Rattle.step_problem.specs.Settling.{IsUnfinished}
-use Rattle.cell_relax.specs.Words.{AreWords}
-
--- one bound for each cell, with heads in range, which are a certificate over the barrier b
-pub record AreCertified (p : List Entries) (b : Edges) (bounds : List Bound) : Type 0 where
-  pub words : AreWords p bounds
-  pub certificate : IsCertificate p b (lower_at bounds) (upper_at bounds)
+use Rattle.certificate_check.specs.Certificates.{AreCertified}
 
 -- each lower head is at most the upper one
 abbrev pub AreOrdered : List Bound → Type 0

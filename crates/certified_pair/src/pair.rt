@@ -1,7 +1,8 @@
 // A pair that is tested.
 ghost use Rattle.std.specs.Prelude.{IfOk, IfSome};
 ghost use Rattle.step_problem.specs.Heads.{IsBarrier};
-ghost use Rattle.certified_pair.specs.Pairs.{AreCertified, AreOrdered};
+ghost use Rattle.certificate_check.specs.Certificates.{AreCertified};
+ghost use Rattle.certified_pair.specs.Pairs.{AreOrdered};
 
 use crate::guesser::PairGuesser;
 use crate::test::is_certified;

@@ -1,7 +1,8 @@
 // The test of a pair.
 ghost use Rattle.std.specs.Prelude.{◌↔◌, ◌≤ℤ◌, All, IsTrue};
 ghost use Rattle.step_problem.specs.Heads.{IsBarrier};
-ghost use Rattle.certified_pair.specs.Pairs.{AreCertified, AreOrdered};
+ghost use Rattle.certificate_check.specs.Certificates.{AreCertified};
+ghost use Rattle.certified_pair.specs.Pairs.{AreOrdered};
 
 use cell_relax::are_words;
 use certificate_check::{Verdict, check_step};

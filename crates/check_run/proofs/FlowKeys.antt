@@ -1,13 +1,15 @@
 -- The flows between zones of some faces have the pairs of the faces, in order.
-use Rattle.check_run.proofs.Common.{◌≡◌, inl, inr, ℕ, zero, suc, ◌/◌, ◌%◌, ◌<◌, ◌≤◌, Bool, true, false, List, [], ◌∷◌, map, refl, sym, ap, ◌∙◌, subst, arith}
-use Rattle.check_run.proofs.Common.{filter, AllByRecursion, nat_tests, recursion_from_All, ZoneFlow, Contains-In, In, In-map, map-In, Face, AreZoneFlows}
-use Rattle.check_run.proofs.Common.{IsBeforeAll, IsZoneFlow, PairsAscend, ShareFace, key_of, ZonePair, pair_of, pairs_below, zones_of_flow, any_in, in_any}
-use Rattle.std.specs.Prelude.{Contains}
+use Rattle.check_run.proofs.Common.{◌≡◌, inl, inr, ℕ, ◌/◌, ◌%◌, ◌<◌, ◌≤◌, Bool, true, List, [], ◌∷◌, map, refl, sym, ap, ◌∙◌, subst, arith, filter}
+use Rattle.check_run.proofs.Common.{AllByRecursion, nat_tests, recursion_from_All, ZoneFlow, Contains-In, In, In-map, map-In, Face, AreZoneFlows, IsBeforeAll}
+use Rattle.check_run.proofs.Common.{IsZoneFlow, PairsAscend, ShareFace, key_of, ZonePair, pair_of, pairs_below, zones_of_flow, any_in, in_any}
 use Rattle.std.specs.BTreeMap.{is_at}
 use Rattle.std.specs.List.Sorted.{IsStrictlySortedBy}
 use Rattle.std.specs.Ordering.{nat_cmp}
 use Rattle.std.specs.declared.cmp.Ordering.TheVariants.{Less}
+use Rattle.barrier_vector.proofs.Surveying.{same_tests}
+use Rattle.problem_builder.proofs.Named.{In-Contains}
 use Rattle.zone_flows.proofs.Pairing.{FacesFit, before_key}
+use Rattle.zone_flows.proofs.Sums.{same_key}
 use Rattle.zone_pairs.proofs.InOrder.{Ascend, has, pairs_are}
 
 -- the key of a face, and of a flow
@@ -17,24 +19,11 @@ face_key f = key_of f.from f.to
 abbrev flow_key : ZoneFlow → ℕ
 flow_key v = key_of v.from v.to
 
-contains_in : {X : Type 0} (xs : List X) (x : X) → Contains xs x → In xs x
-contains_in [] x (k, l, e) = absurd (omega (arith, l))
-contains_in (y ∷ ys) x (zero, l, e) = inl e
-contains_in (y ∷ ys) x (suc k, l, e) = inr (contains_in ys x (k, omega (arith, l), e))
-
 less : (a b : ℕ) → a < b → nat_cmp a b ≡ Less
 less a b l = grind (arith, nat_tests)
 
-same_key : (q k : ℕ) → is_at (nat_cmp q) k ≡ true → q ≡ k
-same_key q k h = grind (arith, nat_tests)
-
 its_key : (q k : ℕ) → k ≡ q → is_at (nat_cmp q) k ≡ true
 its_key q k e = grind (arith, nat_tests)
-
-agree : (a b : Bool) → (a ≡ true → b ≡ true) → (b ≡ true → a ≡ true) → a ≡ b
-agree true b f g = sym (f refl)
-agree false true f g = g refl
-agree false false f g = refl
 
 module _ (fs : List Face) (fit : FacesFit fs) where
   zones_fit : (v : ZoneFlow) → IsZoneFlow fs v → (v.from ≤ 999) × (v.to ≤ 999)
@@ -79,7 +68,7 @@ module _ (fs : List Face) (fit : FacesFit fs) where
     is_face q i =
         let (v, j, e) = map-In flow_key vs q i in
         let s = (flow_of vs v each j).shared in
-        let k = In-map face_key fs s.face (contains_in fs s.face s.stands) in
+        let k = In-map face_key fs s.face (In-Contains fs s.face s.stands) in
         let same : face_key s.face ≡ q = ap (λ a. key_of a s.face.to) s.from ∙ ap (key_of v.from) s.to ∙ e in
         subst (In (map face_key fs)) same k
 
@@ -89,11 +78,11 @@ module _ (fs : List Face) (fit : FacesFit fs) where
         let shared : ShareFace fs f.from f.to = record { face = f; stands = Contains-In fs f j; from = refl; to = refl } in
         let (v, k, from, to) = are.all f.from f.to shared in
         let same : flow_key v ≡ q = ap (λ a. key_of a v.to) from ∙ ap (key_of f.from) to ∙ e in
-        subst (In (map flow_key vs)) same (In-map flow_key vs v (contains_in vs v k))
+        subst (In (map flow_key vs)) same (In-map flow_key vs v (In-Contains vs v k))
 
     is_one : (q : ℕ) → test (pair_of q) ≡ has (map flow_key vs) q
     is_one q =
-        agree (test (pair_of q)) (has (map flow_key vs) q)
+        same_tests (test (pair_of q)) (has (map flow_key vs) q)
         (λ t. in_any (is_at (nat_cmp q)) (map flow_key vs) q (has_face q (passing q t)) (its_key q q refl))
         (λ h. let (k, i, e) = any_in (is_at (nat_cmp q)) (map flow_key vs) h in passes q (subst (In (map face_key fs)) (sym (same_key q k e)) (is_face k i)))
 

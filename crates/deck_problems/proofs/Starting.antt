@@ -11,7 +11,8 @@ use Rattle.deck_problems.specs.StartHeads.{AreStartHulls, AreStartsBy, AreStartH
 use Rattle.deck_problems.proofs.Enclosing.{second_cells}
 use Rattle.deck_problems.proofs.Members.{between_cells, cell_of_first, cell_of_member}
 
-start_encloses : (m : FlowModel) (x : List Bound) → AreStartHeads m x → HeadsEnclose m x (start_head m)
+-- the starting heads of a model lie within their bounds
+pub start_encloses : (m : FlowModel) (x : List Bound) → AreStartHeads m x → HeadsEnclose m x (start_head m)
 start_encloses m x h c active = head_encloses (dec_at m.strt c) _ _ ((h.each c active.within).active active.active)
 
 same_hull : (a b x y : Bound) → IsHullBound a b x → IsHullBound a b y → x ≡ y

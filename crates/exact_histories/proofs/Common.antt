@@ -17,7 +17,6 @@ pub use Rattle.flow_equations.specs.Histories.{SolvesAt, SolvesFrom, heads_of, v
 pub use Rattle.model_types.specs.Cells.{cell_count}
 pub use Rattle.model_types.specs.Heads.{constant_head, start_head}
 pub use Rattle.model_types.specs.Kinds.{index_of, is_constant, is_variable, variable_cells}
-pub use Rattle.model_types.specs.Layers.{dec_at, is_active}
 pub use Rattle.model_types.specs.Times.{times}
 pub use Rattle.model_types.specs.Valid.{IsModel}
 pub use Rattle.model_types.specs.declared.model.FlowModel.{FlowModel}

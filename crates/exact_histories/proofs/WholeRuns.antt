@@ -1,10 +1,8 @@
 -- The model of a run all of whose steps have heads has a history, and one alone: by induction on the time steps.
 use Rattle.exact_histories.proofs.Common.{◌<◌, [], ◌∷◌, ℕ, refl, sym, subst, ℤ, List, Option, All, Contains, All-head, All-tail, All-contains_itself, Fraction}
-use Rattle.exact_histories.proofs.Common.{start_head, dec_at, times, IsModel, FlowModel, TimeStep, Bound, heads_of, SolvesAt, AreGridHeads, HeadsEnclose}
-use Rattle.exact_histories.proofs.Common.{AreSameHeads}
-use Rattle.problem_builder.specs.StartHeads.{AreStartHeads}
-use Rattle.problem_builder.proofs.CellEnclosed.{head_encloses}
+use Rattle.exact_histories.proofs.Common.{start_head, times, IsModel, FlowModel, TimeStep, Bound, heads_of, SolvesAt, AreGridHeads, HeadsEnclose, AreSameHeads}
 use Rattle.problem_builder.proofs.Starts.{starts_fit}
+use Rattle.deck_problems.proofs.Starting.{start_encloses}
 use Rattle.listing_run.specs.declared.listing_end.ListingEnd.TheVariants.{Whole}
 use Rattle.listing_run.specs.Steps.{IsStep, Steps}
 use Rattle.listing_run.specs.Tasks.{one_task}
@@ -43,9 +41,6 @@ module _ (m : FlowModel) (s : ℕ) (zones : Option (List ℕ)) (rounds : ℕ) (v
       let G : List Bound → Type 0 = λ hs. AreGridHeads m hs in
       one_more m s at old x.problem is.settled.barrier valid time grid is.settled.posed v.heads (lands at old v is time grid) steps
       (are_one steps values v.heads (All-tail (Contains (times m)) at steps these) (subst G (sym is.heads) (grid_heads m s at old x valid time grid is.settled)) h) before other olds same
-
-start_encloses : (m : FlowModel) (start : List Bound) → AreStartHeads m start → HeadsEnclose m start (start_head m)
-start_encloses m start h c active = head_encloses (dec_at m.strt c) _ _ ((h.each c active.within).active active.active)
 
 pub history_exists : RunsHaveAHistory
 history_exists m s zones rounds values valid all =

@@ -12,10 +12,9 @@ pub use Rattle.cell_balance.proofs.Cancel.{IsMutual, by_weight, closed_cancel, w
 pub use Rattle.cell_balance.proofs.Denominators.{step_common}
 pub use Rattle.cell_balance.proofs.Encloses.{share_is, whole_solves}
 pub use Rattle.cell_balance.proofs.Mutual.{mutual_whole}
-pub use Rattle.cell_balance.proofs.Over.{CellOver, DrainOver, EvapOver, FixedOver, FlowOver, LinkOver, RiverOver, balance_over}
+pub use Rattle.cell_balance.proofs.Over.{CellOver, DrainOver, EvapOver, FixedOver, FlowOver, LinkOver, RiverOver, balance_over, deep_over}
 pub use Rattle.cell_balance.proofs.Products.{cancel_le, conducting, not_zero}
-pub use Rattle.cell_balance.proofs.Scaling.{IsOver-greater, IsOver-minus, IsOver-none, IsOver-plus, IsOver-signed, IsOver-times, IsOver-total, max_times}
-pub use Rattle.cell_balance.proofs.Scaling.{min_times, over_zero}
+pub use Rattle.cell_balance.proofs.Scaling.{IsOver-none, max_times, min_times, over_zero}
 pub use Rattle.cell_balance.proofs.Sums.{sum-add, sum-neg, sum-one, sum-same, sum-swap, sum-times, sum-zero, sum_at_most, sum_nonneg}
 pub use Rattle.cell_balance.proofs.Totals.{add_mul, sub_mul, total-same}
 pub use Rattle.cell_balance.proofs.Whole.{WholeCell, WholeDrain, WholeEvap, WholeFixed, WholeLink, WholeRiver, no_whole, whole_at, whole_balance, whole_deep}
@@ -23,15 +22,14 @@ pub use Rattle.cell_balance.proofs.Whole.{whole_deep_river, whole_drain, whole_e
 pub use Rattle.cell_balance.proofs.Wholes.{whole_step}
 pub use Rattle.cell_balance.proofs.Within.{CellWithin, DrainWithin, FixedWithin, LinkWithin, RiverWithin}
 pub use Rattle.cell_balance.proofs.Zips.{All-zip, AllZip-at, AllZip-length}
-pub use Rattle.cell_balance.specs.Balance.{balance, greater, minus}
 pub use Rattle.cell_balance.specs.Components.{IsHeldBelow, Reaches, deep_low, sum_below, sum_inside}
-pub use Rattle.cell_balance.specs.Deep.{IsClosed, deep_flow, deep_river, full_rate}
+pub use Rattle.cell_balance.specs.Deep.{IsClosed, deep_flow}
 pub use Rattle.cell_balance.specs.Links.{AreLinked, HasLinkBack}
 pub use Rattle.cell_balance.specs.Solutions.{SolvesStep, share}
-pub use Rattle.cell_balance.specs.Steps.{ExactCell, ExactEvap, ExactLink, ExactRiver, cell_at, no_cell}
+pub use Rattle.cell_balance.specs.Steps.{ExactCell, ExactLink, cell_at, no_cell}
 pub use Rattle.decimal_input.proofs.Signs.{cancel_right, mul_mono_right, swap}
 pub use Rattle.decimal_input.specs.Enclosures.{IsBetweenWhole, IsShare}
-pub use Rattle.decimal_input.specs.Fractions.{Fraction, IsOver, Same, den, signed, whole}
+pub use Rattle.decimal_input.specs.Fractions.{Fraction, IsOver, Same, den, whole}
 pub use Rattle.step_problem.proofs.BothSides.{le_anti}
 pub use Rattle.step_problem.proofs.Falls.{loss_falls, total_mono}
 pub use Rattle.step_problem.proofs.Ring.{as_diff, diffs, mul_add, mul_assoc, mul_le, mul_mono, mul_nonneg, mul_sub, same_diff}

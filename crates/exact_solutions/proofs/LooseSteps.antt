@@ -1,17 +1,14 @@
 -- Steps with cells that nothing holds: heads one lower over these cells are another solution, where their deep flows sum to at most 0 or no river or drain of them conducts.
 use Rattle.exact_solutions.proofs.Common.{◌≡◌, ◌*◌, ◌<◌, ◌∙◌, ◌+ℤ◌, ◌-ℤ◌, ◌*ℤ◌, ◌≤ℤ◌, [], ◌∷◌, ℕ, zero, suc, refl, sym, ap, arith, ℤ, pos, neg_ℤ, List, length}
 use Rattle.exact_solutions.proofs.Common.{All, Bool, true, false, cond, mul-pos, int_max, AllZip, zero-*ℤ, ints, clamps, All-head, All-tail, IsShare, Same}
-use Rattle.exact_solutions.proofs.Common.{total, total_mono, mul_assoc, mul_mono, sum_below, sum_inside}
-use Rattle.exact_solutions.proofs.Common.{deep_flow, AreLinked, share, SolvesStep, ExactCell, cell_at, no_cell, IsMutual}
-use Rattle.exact_solutions.proofs.Common.{closed_cancel, step_common, whole_solves, mutual_whole, LinkOver, FixedOver, RiverOver, DrainOver, EvapOver}
-use Rattle.exact_solutions.proofs.Common.{CellOver, IsOver-none, sum-same}
-use Rattle.exact_solutions.proofs.Common.{sum-add, sum-zero, sub_mul, WholeRiver, WholeDrain, WholeCell, whole_at, no_whole, whole_link, whole_fixed}
-use Rattle.exact_solutions.proofs.Common.{whole_river, whole_drain, whole_evap, whole_balance, whole_deep_river, whole_full, whole_deep, whole_step, AllZip-at}
-use Rattle.exact_solutions.proofs.Common.{AllZip-length, All-zip, le_anti}
+use Rattle.exact_solutions.proofs.Common.{total, total_mono, mul_assoc, mul_mono, sum_below, sum_inside, deep_flow, AreLinked, share, SolvesStep, ExactCell}
+use Rattle.exact_solutions.proofs.Common.{cell_at, no_cell, IsMutual, closed_cancel, step_common, whole_solves, mutual_whole, LinkOver, FixedOver, RiverOver}
+use Rattle.exact_solutions.proofs.Common.{DrainOver, EvapOver, CellOver, IsOver-none, sum-same, sum-add, sum-zero, sub_mul, WholeRiver, WholeDrain, WholeCell}
+use Rattle.exact_solutions.proofs.Common.{whole_at, no_whole, whole_link, whole_fixed, whole_river, whole_drain, whole_evap, whole_balance, whole_deep_river}
+use Rattle.exact_solutions.proofs.Common.{whole_full, whole_deep, whole_step, AllZip-at, AllZip-length, All-zip, le_anti, deep_over}
 use Rattle.decimal_input.specs.Ratios.{Ratio}
 use Rattle.decimal_input.proofs.Integers.{le-trans}
 use Rattle.cell_balance.proofs.ExactLaws.{heads_over}
-use Rattle.cell_balance.proofs.Over.{deep_over}
 use Rattle.cell_balance.proofs.Falling.{whole_falls}
 use Rattle.cell_balance.proofs.Order.{over_le, IsOver-inside}
 use Rattle.exact_solutions.specs.Loose.{IsLoose}

@@ -1,8 +1,9 @@
 -- Heads solve an exact step just where they solve its whole numbers.
 use Rattle.exact_solutions.proofs.Common.{[], ◌*ℤ◌, ◌*◌, ◌-◌, ◌<◌, ◌∙◌, ◌∷◌, ◌≡◌, List, ap, arith, length, map, pos, refl, subst, suc, sym, zero, ℕ, ℤ, mul-pos}
-use Rattle.exact_solutions.proofs.Common.{AllZip, Fraction, IsOver, den, mul_assoc, balance, SolvesStep, share, ExactCell, cell_at, no_cell, IsMutual, share_is}
+use Rattle.exact_solutions.proofs.Common.{AllZip, Fraction, IsOver, den, mul_assoc, SolvesStep, share, ExactCell, cell_at, no_cell, IsMutual, share_is}
 use Rattle.exact_solutions.proofs.Common.{whole_solves, CellOver, DrainOver, EvapOver, FixedOver, FlowOver, LinkOver, RiverOver, balance_over, over_zero}
 use Rattle.exact_solutions.proofs.Common.{WholeCell, no_whole, whole_at, whole_balance, AllZip-at, AllZip-length, swap}
+use Rattle.cell_balance.specs.Balance.{balance}
 use Rattle.exact_solutions.proofs.Ramps.{IsSolution}
 use Rattle.exact_solutions.proofs.WholeRamps.{ramps_from, a_of, b_of, q_of}
 use Rattle.exact_solutions.proofs.WholeBalances.{scaled, scaled_balance}

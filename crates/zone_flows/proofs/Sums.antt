@@ -7,7 +7,7 @@ use Rattle.zone_flows.proofs.Common.{no_flows, plus_flow, plus_flows, faces_keye
 use Rattle.step_problem.specs.declared.place.Dir.{Dir}
 use Rattle.budget_bounds.specs.Singles.{part}
 
-same_key : (q k : ℕ) → is_at (nat_cmp q) k ≡ true → q ≡ k
+pub same_key : (q k : ℕ) → is_at (nat_cmp q) k ≡ true → q ≡ k
 same_key q k h = grind (arith, nat_tests)
 
 equal_keys : (q k : ℕ) → nat_cmp q k ≡ Equal → q ≡ k

@@ -14,26 +14,20 @@ has ks q = list_any (is_at (nat_cmp q)) ks
 abbrev pub Ascend : List ℕ → Type 0
 Ascend ks = IsStrictlySortedBy nat_cmp ks
 
-is_less : (q k : ℕ) → nat_cmp q k ≡ Less → q < k
-is_less q k h = grind (arith, nat_tests)
-
 is_itself : (q k : ℕ) (more : Bool) → q ≡ k → (is_at (nat_cmp q) k || more) ≡ true
 is_itself q k more e = grind (arith, nat_tests)
 
-not_below : (q k : ℕ) → k < q → is_at (nat_cmp q) k ≡ false
-not_below q k l = grind (arith, nat_tests)
-
-not_above : (q k : ℕ) → q < k → is_at (nat_cmp q) k ≡ false
-not_above q k l = grind (arith, nat_tests)
+is_other : (q k : ℕ) → (q ≡ k → ⊥) → is_at (nat_cmp q) k ≡ false
+is_other q k apart = grind (arith, nat_tests)
 
 -- a number below all keys is none of them
 none_below : (q : ℕ) (ks : List ℕ) → AllByRecursion (λ k. q < k) ks → has ks q ≡ false
 none_below q [] above = refl
-none_below q (k ∷ ks) above = rw (not_above q k above.0) (none_below q ks above.1)
+none_below q (k ∷ ks) above = rw (is_other q k (λ e. let l = above.0 in omega (arith, e, l))) (none_below q ks above.1)
 
 all_above : (k : ℕ) (ks : List ℕ) → AllByRecursion (λ j. nat_cmp k j ≡ Less) ks → (s : ℕ) → s ≤ k → AllByRecursion (λ j. s < j) ks
 all_above k [] h s l = tt
-all_above k (j ∷ ks) h s l = (let a = is_less k j h.0 in omega (arith, a, l), all_above k ks h.1 s l)
+all_above k (j ∷ ks) h s l = (let first = h.0 in let a : k < j = grind (arith, nat_tests) in omega (arith, a, l), all_above k ks h.1 s l)
 
 -- the keys are from s on and below e
 abbrev Between : ℕ → ℕ → List ℕ → Type 0
@@ -68,7 +62,7 @@ module _ (test : ℕ → Bool) where
       ]
     where
       past : (k : ℕ) (ks : List ℕ) (q : ℕ) → k < q → has (k ∷ ks) q ≡ has ks q
-      past k ks q l = rw (not_below q k l) refl
+      past k ks q l = rw (is_other q k (λ e. omega (arith, e, l))) refl
 
 -- The pairs of the numbers below a million are all pairs.
 abbrev pair : ℕ → ℕ → ZonePair
