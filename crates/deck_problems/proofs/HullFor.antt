@@ -12,9 +12,9 @@ use Rattle.problem_builder.specs.declared.fault.BuildFault.TheVariants as build
 
 -- The hull names the cells of the first problem.
 
-ids_are : (p q r : List Entries) → IsHull p q r → map (λ (e : Entries). e.id) r ≡ map (λ (e : Entries). e.id) p
-ids_are p q r none = refl
-ids_are p q r (next h hs) = λ i. h.id i ∷ ids_are _ _ _ hs i
+pub hull_ids : (p q r : List Entries) → IsHull p q r → map (λ (e : Entries). e.id) r ≡ map (λ (e : Entries). e.id) p
+hull_ids p q r none = refl
+hull_ids p q r (next h hs) = λ i. h.id i ∷ hull_ids _ _ _ hs i
 
 named_fixed : (p q r : List Fixed) → AllThree IsFixedHull p q r → (c : ℕ) → (x : Fixed) × Contains r x × (c ≡ x.source) → (x : Fixed) × Contains p x × (c ≡ x.source)
 named_fixed p q r h c (x, (i, lt, e), source) =
@@ -28,7 +28,7 @@ hull_named p q r h c (k, lt, by) =
     (k, inside, elim by [ inl e ↦ inl (e ∙ here.id) | inr f ↦ inr (named_fixed _ _ _ here.fixed c f) ])
 
 pub hull_cells : (m : FlowModel) (at : TimeStep) (p q r : List Entries) → IsHull p q r → HasCellsOf m at p → HasCellsOf m at r
-hull_cells m at p q r h k = record { cells = ids_are p q r h ∙ k.cells; named = λ c n. k.named c (hull_named p q r h c n) }
+hull_cells m at p q r h k = record { cells = hull_ids p q r h ∙ k.cells; named = λ c n. k.named c (hull_named p q r h c n) }
 
 -- The constant heads of one deck, and of two.
 
