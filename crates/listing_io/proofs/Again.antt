@@ -214,13 +214,14 @@ steps_again m s pairs (at ∷ ats) (x ∷ xs) rest n few same h g =
     let (k, others) = steps_again m s pairs ats xs rest j few (omega (arith, same)) h.1 g.1 in
     (k, rw (grouped (step_lines m s at x.heads x.budget x.zones) (all_step_lines m s ats xs) rest, one, others) refl)
 
-first_again : (m : FlowModel) (s : ℕ) (rest : List Line) (n : ℕ) → first_at m s (left_of (first_line m s ∷ rest) n) ≡ Ok (left_of rest (next_number n))
+first_again : (between : Bool) (m : FlowModel) (s : ℕ) (rest : List Line) (n : ℕ) → first_at between m s (left_of (first_line between m s ∷ rest) n) ≡ Ok (left_of rest (next_number n))
 unfolding first_at
-first_again m s rest n = rw ((bytes_eq-Decides (first_line m s) (first_line m s)).1 refl) refl
+first_again false m s rest n = rw ((bytes_eq-Decides (first_line false m s) (first_line false m s)).1 refl) refl
+first_again true m s rest n = rw ((bytes_eq-Decides (first_line true m s) (first_line true m s)).1 refl) refl
 
 -- The lines of a listing are read as its steps.
-pub rows_again : (m : FlowModel) (s : ℕ) (pairs : ℕ → List ZonePair) (steps : List ListedStep) → s ≤ 18 → AreListed m pairs steps → listing_at m s pairs (left_of (listing m s steps) 1) ≡ Ok steps
+pub rows_again : (between : Bool) (m : FlowModel) (s : ℕ) (pairs : ℕ → List ZonePair) (steps : List ListedStep) → s ≤ 18 → AreListed m pairs steps → listing_at between m s pairs (left_of (listing between m s steps) 1) ≡ Ok steps
 unfolding listing_at listing
-rows_again m s pairs steps few h =
+rows_again between m s pairs steps few h =
     let (k, read) = steps_again m s pairs (times m) steps (end_line ∷ []) (next_number 1) few h.whole (recursion_from_All (IsListedStep m) steps h.steps) h.flows in
-    rw (first_again m s (all_step_lines m s (times m) steps ++ (end_line ∷ [])) 1, read, text_again end_line [] k) refl
+    rw (first_again between m s (all_step_lines m s (times m) steps ++ (end_line ∷ [])) 1, read, text_again end_line [] k) refl

@@ -1,7 +1,8 @@
 -- A number has no blank, so the first blank after one ends it.
 use Rattle.listing_io.proofs.Common.{◌≡◌, ℕ, zero, suc, ◌+◌, ◌-◌, ◌/◌, ◌%◌, ◌^◌, ◌<◌, ◌≤◌, ◌==◌, false, List, [], ◌∷◌, ◌++◌, length, take, drop, replicate}
 use Rattle.listing_io.proofs.Common.{codes, decimal, nat_abs, add-one, refl, ap, ◌∙◌, arith, ℤ, pos, negsuc, nat_tests, decimal_is_IsNumeral_wide, take_at}
-use Rattle.listing_io.proofs.Common.{digit_value, position_or_len, AllDigits, fixed_text, padded, sign, first_word, behind_word}
+use Rattle.listing_io.proofs.Common.{digit_value, position_or_len, AllDigits, fixed_text, padded, sign, first_word, behind_word, Bool, true, not, sym}
+use Rattle.listing_io.proofs.Common.{and_parts, list_all}
 use Rattle.listing_io.proofs.NumberLemmas.{some_power, part_less, quotient_less}
 
 -- no byte is b
@@ -15,6 +16,15 @@ NoBlank = Without 32
 pub Without-append : (b : ℕ) (xs ys : List ℕ) → Without b xs → Without b ys → Without b (xs ++ ys)
 Without-append b [] ys h k = k
 Without-append b (x ∷ xs) ys h k = (h.0, Without-append b xs ys h.1 k)
+
+-- a fixed text, by a test
+pub by_test : (b : ℕ) (xs : List ℕ) → list_all (λ c. not (c == b)) xs ≡ true → Without b xs
+by_test b [] h = tt
+by_test b (c ∷ cs) h = let (one, more) = and_parts (not (c == b)) (list_all (λ x. not (x == b)) cs) h in (is_not (c == b) one, by_test b cs more)
+  where
+    is_not : (b : Bool) → not b ≡ true → b ≡ false
+    is_not false h = refl
+    is_not true h = sym h
 
 other_byte : (b c : ℕ) → b < 45 → 45 ≤ c → (c == b) ≡ false
 other_byte b c low h = grind (arith, nat_tests)

@@ -1,15 +1,14 @@
 -- No line of a listing has a line feed, so the lines of its text are the listing's.
-use Rattle.listing_io.proofs.Common.{◌≡◌, ℕ, zero, suc, ◌+◌, ◌/◌, ◌%◌, ◌<◌, ◌≤◌, ◌^◌, ◌==◌, Bool, true, false, not, cond, List, [], ◌∷◌, ◌++◌, length, codes}
-use Rattle.listing_io.proofs.Common.{map, decimal, nat_abs, All, refl, sym, ap, ◌∙◌, subst, arith, ℤ, pos, negsuc, list_all, AllByRecursion, AllZip, and_parts}
-use Rattle.listing_io.proofs.Common.{recursion_from_All, flat_map-cons, lines, Bound, Dir, In, Out, Term, Storage, ConstantHead, Wells, Drains, RiverLeakage}
-use Rattle.listing_io.proofs.Common.{HeadDepBounds, Recharge, Et, ZoneFlow, term_name, TermPair, fixed_text, Grid, FlowModel, TimeStep, layer_size, place}
-use Rattle.listing_io.proofs.Common.{is_active, times, ZonePair, zones_of_flow, ListedStep, Form, pair_line, Line, ended, text_of, numbers_text, first_line}
-use Rattle.listing_io.proofs.Common.{step_line, head_form, head_front, head_line, head_lines, head_pair, dir_front, term_form, term_line, term_lines, has_evt}
-use Rattle.listing_io.proofs.Common.{flow_form, zone_front, zone_line, zone_pair, step_lines, all_step_lines, end_line, listing, listing_at, AreCellBounds}
-use Rattle.listing_io.proofs.Common.{IsFlowPair, AreFlows, AreFlowsAt, AreTerms, IsListedStep, AreListed, AreZonePairs, IsTime, IsWritable}
-use Rattle.listing_io.proofs.Common.{ListingsAreReadAgain}
-use Rattle.std.specs.Fmt.{signed_decimal}
-use Rattle.listing_io.proofs.Blanks.{Without, Without-append, decimal_without, fixed_without}
+use Rattle.listing_io.proofs.Common.{◌≡◌, ℕ, zero, suc, ◌+◌, ◌/◌, ◌%◌, ◌<◌, ◌≤◌, ◌^◌, Bool, true, false, cond, List, [], ◌∷◌, ◌++◌, length, codes, map, decimal}
+use Rattle.listing_io.proofs.Common.{nat_abs, All, refl, sym, ap, ◌∙◌, subst, arith, ℤ, pos, negsuc, AllByRecursion, AllZip, recursion_from_All, flat_map-cons}
+use Rattle.listing_io.proofs.Common.{lines, Bound, Dir, In, Out, Term, Storage, ConstantHead, Wells, Drains, RiverLeakage, HeadDepBounds, Recharge, Et}
+use Rattle.listing_io.proofs.Common.{ZoneFlow, term_name, TermPair, fixed_text, Grid, FlowModel, TimeStep, layer_size, place, is_active, times, ZonePair}
+use Rattle.listing_io.proofs.Common.{zones_of_flow, ListedStep, Form, pair_line, Line, ended, text_of, numbers_text, first_line, step_line, head_form}
+use Rattle.listing_io.proofs.Common.{head_front, head_line, head_lines, head_pair, dir_front, term_form, term_line, term_lines, has_evt, flow_form, zone_front}
+use Rattle.listing_io.proofs.Common.{zone_line, zone_pair, step_lines, all_step_lines, end_line, listing, listing_at, AreCellBounds, IsFlowPair, AreFlows}
+use Rattle.listing_io.proofs.Common.{AreFlowsAt, AreTerms, IsListedStep, AreListed, AreZonePairs, IsTime, IsWritable, ListingsAreReadAgain, model_line}
+use Rattle.listing_io.proofs.Common.{signed_decimal}
+use Rattle.listing_io.proofs.Blanks.{Without, Without-append, by_test, decimal_without, fixed_without}
 use Rattle.listing_io.proofs.Exactly.{fits_wide}
 use Rattle.listing_io.proofs.Written.{eight_lines, lines_in, lines_out}
 use Rattle.listing_io.proofs.Again.{Fits, IsSmall, flow_fits, head_fits, term_fits, Eight, eight_of, left_of, rows_again}
@@ -28,20 +27,11 @@ unfolding lines
 lines_of [] h = refl
 lines_of (row ∷ rows) h = ap lines (flat_map-cons ended row rows) ∙ first_row_is row (text_of rows) h.0 ∙ ap (λ (t : List Line). row ∷ t) (lines_of rows h.1)
 
--- a fixed text, by a test
-by_test : (xs : List ℕ) → list_all (λ c. not (c == 10)) xs ≡ true → NoFeed xs
-by_test [] h = tt
-by_test (c ∷ cs) h = let (one, more) = and_parts (not (c == 10)) (list_all (λ x. not (x == 10)) cs) h in (is_not (c == 10) one, by_test cs more)
-  where
-    is_not : (b : Bool) → not b ≡ true → b ≡ false
-    is_not false h = refl
-    is_not true h = sym h
-
 numbers_without : (ns : List ℕ) → AllByRecursion (λ n. n < 10 ^ 64) ns → NoFeed (numbers_text ns)
 numbers_without [] h = tt
 numbers_without (n ∷ ns) h =
     Without-append 10 (codes " " ++ decimal n) (numbers_text ns)
-    (Without-append 10 (codes " ") (decimal n) (by_test (codes " ") refl) (decimal_without 10 (omega arith) n h.0))
+    (Without-append 10 (codes " ") (decimal n) (by_test 10 (codes " ") refl) (decimal_without 10 (omega arith) n h.0))
     (numbers_without ns h.1)
 
 pair_without : (front : List ℕ) (f : Form) (p : TermPair) → Fits f p → NoFeed front → NoFeed f.back → NoFeed (pair_line front f p)
@@ -49,7 +39,7 @@ pair_without front f p h start back =
     let low : 10 < 45 = omega arith in
     Without-append 10 front _ start
     (Without-append 10 (fixed_text f.places p.lo) _ (fixed_without 10 low f.places p.lo (fits_wide (nat_abs p.lo) f.limit h.form.small h.lo))
-    (Without-append 10 (codes " ") _ (by_test (codes " ") refl)
+    (Without-append 10 (codes " ") _ (by_test 10 (codes " ") refl)
     (Without-append 10 (fixed_text f.places p.hi) f.back (fixed_without 10 low f.places p.hi (fits_wide (nat_abs p.hi) f.limit h.form.small h.hi)) back)))
 
 -- a cell's place is small
@@ -71,8 +61,8 @@ place_small g c h =
 front_without : (g : Grid) (c : ℕ) → c < 4194304 → NoFeed (head_front g c)
 front_without g c h =
     Without-append 10 (codes "HEAD" ++ numbers_text (place g c)) (codes " ")
-    (Without-append 10 (codes "HEAD") (numbers_text (place g c)) (by_test (codes "HEAD") refl) (numbers_without (place g c) (place_small g c h)))
-    (by_test (codes " ") refl)
+    (Without-append 10 (codes "HEAD") (numbers_text (place g c)) (by_test 10 (codes "HEAD") refl) (numbers_without (place g c) (place_small g c h)))
+    (by_test 10 (codes " ") refl)
 
 all_appended : {X : Type 0} (P : X → Type 0) (xs ys : List X) → AllByRecursion P xs → AllByRecursion P ys → AllByRecursion P (xs ++ ys)
 all_appended P [] ys h k = k
@@ -93,18 +83,18 @@ heads_without m c (b ∷ bs) few h =
     (heads_without m (c + 1) bs more h.1)
 
 dir_without : (dir : Dir) → NoFeed (dir_front dir)
-dir_without In = by_test (dir_front In) refl
-dir_without Out = by_test (dir_front Out) refl
+dir_without In = by_test 10 (dir_front In) refl
+dir_without Out = by_test 10 (dir_front Out) refl
 
 name_without : (t : Term) → NoFeed (codes " " ++ term_name t)
-name_without Storage = by_test (codes " " ++ term_name Storage) refl
-name_without ConstantHead = by_test (codes " " ++ term_name ConstantHead) refl
-name_without Wells = by_test (codes " " ++ term_name Wells) refl
-name_without Drains = by_test (codes " " ++ term_name Drains) refl
-name_without RiverLeakage = by_test (codes " " ++ term_name RiverLeakage) refl
-name_without HeadDepBounds = by_test (codes " " ++ term_name HeadDepBounds) refl
-name_without Recharge = by_test (codes " " ++ term_name Recharge) refl
-name_without Et = by_test (codes " " ++ term_name Et) refl
+name_without Storage = by_test 10 (codes " " ++ term_name Storage) refl
+name_without ConstantHead = by_test 10 (codes " " ++ term_name ConstantHead) refl
+name_without Wells = by_test 10 (codes " " ++ term_name Wells) refl
+name_without Drains = by_test 10 (codes " " ++ term_name Drains) refl
+name_without RiverLeakage = by_test 10 (codes " " ++ term_name RiverLeakage) refl
+name_without HeadDepBounds = by_test 10 (codes " " ++ term_name HeadDepBounds) refl
+name_without Recharge = by_test 10 (codes " " ++ term_name Recharge) refl
+name_without Et = by_test 10 (codes " " ++ term_name Et) refl
 
 term_without : (s : ℕ) (dir : Dir) (t : Term) (p : TermPair) → s ≤ 18 → IsFlowPair p → NoFeed (term_line s dir t p)
 term_without s dir t p few h = pair_without (dir_front dir) (term_form s t) p (term_fits s t p few h) (dir_without dir) (name_without t)
@@ -141,7 +131,7 @@ title_without : (at : TimeStep) → IsTime at → NoFeed (step_line at)
 title_without at h =
     let p = h.period in
     let n = h.step in
-    Without-append 10 (codes "STEP") (numbers_text (at.period ∷ at.step ∷ [])) (by_test (codes "STEP") refl)
+    Without-append 10 (codes "STEP") (numbers_text (at.period ∷ at.step ∷ [])) (by_test 10 (codes "STEP") refl)
     (numbers_without (at.period ∷ at.step ∷ []) (omega (arith, p), (omega (arith, n), tt)))
 
 -- the flows between zones
@@ -154,8 +144,8 @@ zone_without s v few pair h =
     let b = pair.1 in
     pair_without (zone_front v.from v.to) (flow_form s []) (zone_pair v) (flow_fits s (zone_pair v) few h)
     (Without-append 10 (codes "ZONE" ++ numbers_text (v.from ∷ v.to ∷ [])) (codes " ")
-    (Without-append 10 (codes "ZONE") (numbers_text (v.from ∷ v.to ∷ [])) (by_test (codes "ZONE") refl) (numbers_without (v.from ∷ v.to ∷ []) (omega (arith, a), (omega (arith, b), tt))))
-    (by_test (codes " ") refl))
+    (Without-append 10 (codes "ZONE") (numbers_text (v.from ∷ v.to ∷ [])) (by_test 10 (codes "ZONE") refl) (numbers_without (v.from ∷ v.to ∷ []) (omega (arith, a), (omega (arith, b), tt))))
+    (by_test 10 (codes " ") refl))
     tt
 
 zones_without : (s : ℕ) (vs : List ZoneFlow) → s ≤ 18 → AllByRecursion IsPair (map zones_of_flow vs) → AllByRecursion IsSmall vs → AllByRecursion NoFeed (map (zone_line s) vs)
@@ -191,20 +181,24 @@ signed_without : (z : ℤ) → nat_abs z < 2 ^ 64 → NoFeed (signed_decimal z)
 signed_without (pos n) h = decimal_without 10 (omega arith) n (omega arith)
 signed_without (negsuc n) h = (refl, decimal_without 10 (omega arith) (suc n) (omega arith))
 
-first_without : (m : FlowModel) (s : ℕ) → IsWritable m s → NoFeed (first_line m s)
-first_without m s good =
+model_without : (m : FlowModel) (s : ℕ) → IsWritable m s → NoFeed (model_line m s)
+model_without m s good =
     let few = good.digits in
     Without-append 10 (codes "HEADS 2 DIGITS" ++ numbers_text (s ∷ []) ++ codes " UNIT ") (signed_decimal m.lenuni)
     (Without-append 10 (codes "HEADS 2 DIGITS" ++ numbers_text (s ∷ [])) (codes " UNIT ")
-    (Without-append 10 (codes "HEADS 2 DIGITS") (numbers_text (s ∷ [])) (by_test (codes "HEADS 2 DIGITS") refl) (numbers_without (s ∷ []) (omega (arith, few), tt)))
-    (by_test (codes " UNIT ") refl))
+    (Without-append 10 (codes "HEADS 2 DIGITS") (numbers_text (s ∷ [])) (by_test 10 (codes "HEADS 2 DIGITS") refl) (numbers_without (s ∷ []) (omega (arith, few), tt)))
+    (by_test 10 (codes " UNIT ") refl))
     (signed_without m.lenuni good.unit)
 
-listing_without : (m : FlowModel) (s : ℕ) (pairs : ℕ → List ZonePair) (steps : List ListedStep) → IsWritable m s → AreZonePairs pairs → AreListed m pairs steps → AllByRecursion NoFeed (listing m s steps)
+first_without : (between : Bool) (m : FlowModel) (s : ℕ) → IsWritable m s → NoFeed (first_line between m s)
+first_without false m s good = model_without m s good
+first_without true m s good = Without-append 10 (model_line m s) (codes " TO") (model_without m s good) (by_test 10 (codes " TO") refl)
+
+listing_without : (between : Bool) (m : FlowModel) (s : ℕ) (pairs : ℕ → List ZonePair) (steps : List ListedStep) → IsWritable m s → AreZonePairs pairs → AreListed m pairs steps → AllByRecursion NoFeed (listing between m s steps)
 unfolding listing
-listing_without m s pairs steps good are h =
-    (first_without m s good, all_appended NoFeed (all_step_lines m s (times m) steps) (end_line ∷ []) (steps_without m s pairs (times m) steps good are (recursion_from_All IsTime (times m) good.times) (recursion_from_All (IsListedStep m) steps h.steps) h.flows) (by_test end_line refl, tt))
+listing_without between m s pairs steps good are h =
+    (first_without between m s good, all_appended NoFeed (all_step_lines m s (times m) steps) (end_line ∷ []) (steps_without m s pairs (times m) steps good are (recursion_from_All IsTime (times m) good.times) (recursion_from_All (IsListedStep m) steps h.steps) h.flows) (by_test 10 end_line refl, tt))
 
 pub listings_are_read_again : ListingsAreReadAgain
-listings_are_read_again m s pairs steps good are h =
-    ap (λ (rows : List Line). listing_at m s pairs (left_of rows 1)) (lines_of (listing m s steps) (listing_without m s pairs steps good are h)) ∙ rows_again m s pairs steps good.digits h
+listings_are_read_again between m s pairs steps good are h =
+    ap (λ (rows : List Line). listing_at between m s pairs (left_of rows 1)) (lines_of (listing between m s steps) (listing_without between m s pairs steps good are h)) ∙ rows_again between m s pairs steps good.digits h

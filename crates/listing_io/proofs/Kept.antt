@@ -169,10 +169,10 @@ steps_kept m s pairs (at ∷ ats) left got h =
     let e : (step.item.0 ∷ more.item.0, more.item.1) ≡ got = same_ok _ got _ refl more.then_ in
     rw (← e) (record { whole = ap suc others.whole; steps = (one.step, others.steps); flows = (one.flows, others.flows) })
 
-pub listed_is : (m : FlowModel) (s : ℕ) (pairs : ℕ → List ZonePair) (left : Left) (steps : List ListedStep) → listing_at m s pairs left ≡ Ok steps → AreListed m pairs steps
+pub listed_is : (between : Bool) (m : FlowModel) (s : ℕ) (pairs : ℕ → List ZonePair) (left : Left) (steps : List ListedStep) → listing_at between m s pairs left ≡ Ok steps → AreListed m pairs steps
 unfolding listing_at
-listed_is m s pairs left steps h =
-    let first = goes (first_at m s left) _ steps h in
+listed_is between m s pairs left steps h =
+    let first = goes (first_at between m s left) _ steps h in
     let all = goes (for_each (step_at m s pairs) (times m) first.item) _ steps first.then_ in
     let end = goes (text_at end_line all.item.1) _ steps all.then_ in
     let over = goes (over_at end.item) _ steps end.then_ in

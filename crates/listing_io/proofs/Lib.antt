@@ -11,3 +11,4 @@ pub mod Ends
 pub mod Joined
 pub mod Periods
 pub mod Rows
+pub mod Apart

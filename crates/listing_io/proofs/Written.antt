@@ -7,7 +7,7 @@ use Rattle.listing_io.proofs.Common.{Form, pair_in, pair_line, Line, first_line,
 use Rattle.listing_io.proofs.Common.{term_line, term_lines, printed_terms, has_evt, flow_form, zone_front, zone_line, step_lines, all_step_lines, end_line}
 use Rattle.listing_io.proofs.Common.{listing, Left, all_lines, line_at, first_of, or_refused, pair_at, text_at, bound_of, head_if, heads_at, term_at, term_if}
 use Rattle.listing_io.proofs.Common.{terms_at, flow_of, flow_at, step_with, step_at, first_line_before, first_at, none_of, over_at, listing_at, IsListing}
-use Rattle.listing_io.proofs.Common.{ListingsWereWritten}
+use Rattle.listing_io.proofs.Common.{ListingsWereWritten, is_first}
 use Rattle.budget_bounds.specs.declared.pair.Budget.{Budget}
 use Rattle.listing_io.proofs.Exactly.{line_sound}
 
@@ -228,23 +228,27 @@ either : (a b : Bool) → (a || b) ≡ true → (a ≡ true) ⊎ (b ≡ true)
 either true b h = inl refl
 either false b h = inr h
 
-record First (m : FlowModel) (s : ℕ) (left after : Left) : Type 0 where
+record First (between : Bool) (m : FlowModel) (s : ℕ) (left after : Left) : Type 0 where
   row : Line
-  known : (row ≡ first_line m s) ⊎ (row ≡ first_line_before)
+  known : (row ≡ first_line between m s) ⊎ ((between ≡ false) × (row ≡ first_line_before))
   is : left.lines ≡ row ∷ after.lines
 
-first_known : (m : FlowModel) (s : ℕ) (row : Line) → (bytes_eq (first_line m s) row ≡ true) ⊎ (bytes_eq first_line_before row ≡ true) → (row ≡ first_line m s) ⊎ (row ≡ first_line_before)
-first_known m s row (inl h) = inl (sym ((bytes_eq-Decides (first_line m s) row).0 h))
-first_known m s row (inr h) = inr (sym ((bytes_eq-Decides first_line_before row).0 h))
+first_known : (between : Bool) (m : FlowModel) (s : ℕ) (row : Line) → is_first between m s row ≡ true → (row ≡ first_line between m s) ⊎ ((between ≡ false) × (row ≡ first_line_before))
+first_known true m s row h = inl (sym ((bytes_eq-Decides (first_line true m s) row).0 h))
+first_known false m s row h = of_either (either (bytes_eq (first_line false m s) row) (bytes_eq first_line_before row) h)
+  where
+    of_either : (bytes_eq (first_line false m s) row ≡ true) ⊎ (bytes_eq first_line_before row ≡ true) → (row ≡ first_line false m s) ⊎ ((false ≡ false) × (row ≡ first_line_before))
+    of_either (inl e) = inl (sym ((bytes_eq-Decides (first_line false m s) row).0 e))
+    of_either (inr e) = inr (refl, sym ((bytes_eq-Decides first_line_before row).0 e))
 
-first_is : (m : FlowModel) (s : ℕ) (left after : Left) → first_at m s left ≡ Ok after → First m s left after
+first_is : (between : Bool) (m : FlowModel) (s : ℕ) (left after : Left) → first_at between m s left ≡ Ok after → First between m s left after
 unfolding first_at
-first_is m s left after h =
+first_is between m s left after h =
     let line = goes (line_at left) _ after h in
-    let (test, same) = chosen (bytes_eq (first_line m s) line.item.0 || bytes_eq first_line_before line.item.0) left.number line.item.1 after line.then_ in
+    let (test, same) = chosen (is_first between m s line.item.0) left.number line.item.1 after line.then_ in
     record {
       row = line.item.0;
-      known = first_known m s line.item.0 (either _ _ test);
+      known = first_known between m s line.item.0 test;
       is = first_row left.number left.lines line.item line.first ∙ ap (λ (x : Left). line.item.0 ∷ x.lines) same;
     }
 
@@ -253,20 +257,20 @@ none_over n [] u h = refl
 none_over n (row ∷ rows) u h = absurd (clash n u (none_of n (row ∷ rows)) refl h)
 
 -- a first line and the further lines of a listing are the listing's lines
-whole_listing : (m : FlowModel) (s : ℕ) (steps : List ListedStep) (row : Line) (rows : List Line) → (row ≡ first_line m s) ⊎ (row ≡ first_line_before) → rows ≡ row ∷ (all_step_lines m s (times m) steps ++ (end_line ∷ [])) → IsListing m s steps rows
+whole_listing : (between : Bool) (m : FlowModel) (s : ℕ) (steps : List ListedStep) (row : Line) (rows : List Line) → (row ≡ first_line between m s) ⊎ ((between ≡ false) × (row ≡ first_line_before)) → rows ≡ row ∷ (all_step_lines m s (times m) steps ++ (end_line ∷ [])) → IsListing between m s steps rows
 unfolding listing
-whole_listing m s steps row rows (inl e) h = inl (h ∙ ap (λ (r : Line). r ∷ (all_step_lines m s (times m) steps ++ (end_line ∷ []))) e)
-whole_listing m s steps row rows (inr e) h = inr (h ∙ ap (λ (r : Line). r ∷ (all_step_lines m s (times m) steps ++ (end_line ∷ []))) e)
+whole_listing between m s steps row rows (inl e) h = inl (h ∙ ap (λ (r : Line). r ∷ (all_step_lines m s (times m) steps ++ (end_line ∷ []))) e)
+whole_listing between m s steps row rows (inr (is, e)) h = inr (is, h ∙ ap (λ (r : Line). r ∷ (all_step_lines m s (times m) steps ++ (end_line ∷ []))) e)
 
 pub listings_were_written : ListingsWereWritten
 unfolding listing_at
-listings_were_written m s pairs text steps h =
-    let first = goes (first_at m s (all_lines text)) _ steps h in
+listings_were_written between m s pairs text steps h =
+    let first = goes (first_at between m s (all_lines text)) _ steps h in
     let all = goes (for_each (step_at m s pairs) (times m) first.item) _ steps first.then_ in
     let end = goes (text_at end_line all.item.1) _ steps all.then_ in
     let over = goes (over_at end.item) _ steps end.then_ in
-    let title = first_is m s (all_lines text) first.item first.first in
-    whole_listing m s steps title.row (lines text) title.known
+    let title = first_is between m s (all_lines text) first.item first.first in
+    whole_listing between m s steps title.row (lines text) title.known
     (title.is
     ∙ ap (λ (t : List Line). title.row ∷ t) (steps_row m s pairs (times m) first.item all.item all.first
     ∙ ap (λ (t : List Line). all_step_lines m s (times m) all.item.0 ++ t) (text_row end_line all.item.1 end.item end.first ∙ ap (λ (t : List Line). end_line ∷ t) (none_over end.item.number end.item.lines over.item over.first)))

@@ -1,7 +1,7 @@
 -- The lines of a listing, version 2, in their order: the first line, for each time step the line STEP, the lines HEAD
 -- of the active cells, the lines IN and OUT of the budget's terms and the lines ZONE of the zone flows, and the line
 -- END.
-use Rattle.std.specs.Prelude.{ℕ, ◌+◌, ◌-◌, ◌^◌, Bool, cond, List, [], ◌∷◌, ◌++◌, codes, decimal, map}
+use Rattle.std.specs.Prelude.{ℕ, ◌+◌, ◌-◌, ◌^◌, Bool, cond, List, [], ◌∷◌, ◌++◌, codes, decimal, map, true, false}
 use Rattle.std.specs.Fmt.{signed_decimal}
 use Rattle.std.specs.List.{flat_map}
 use Rattle.step_problem.specs.declared.heads.Bound.{Bound}
@@ -40,9 +40,14 @@ abbrev pub numbers_text : List ℕ → List ℕ
 numbers_text [] = []
 numbers_text (n ∷ ns) = codes " " ++ decimal n ++ numbers_text ns
 
--- the first line: the listing's version, the digits of conductances, and LENUNI as it was read
-abbrev pub first_line : FlowModel → ℕ → Line
-first_line m s = codes "HEADS 2 DIGITS" ++ numbers_text (s ∷ []) ++ codes " UNIT " ++ signed_decimal m.lenuni
+-- the first line of a model's listing: the listing's version, the digits of conductances, and LENUNI as it was read
+abbrev pub model_line : FlowModel → ℕ → Line
+model_line m s = codes "HEADS 2 DIGITS" ++ numbers_text (s ∷ []) ++ codes " UNIT " ++ signed_decimal m.lenuni
+
+-- the first line; that of a listing for all models between two decks has one more word
+abbrev pub first_line : Bool → FlowModel → ℕ → Line
+first_line false m s = model_line m s
+first_line true m s = model_line m s ++ codes " TO"
 
 -- a time step, by its stress period and its number
 abbrev pub step_line : TimeStep → Line
@@ -115,13 +120,13 @@ all_step_lines m s [] steps = []
 all_step_lines m s (at ∷ ats) [] = []
 all_step_lines m s (at ∷ ats) (x ∷ xs) = step_lines m s at x.heads x.budget x.zones ++ all_step_lines m s ats xs
 
--- a whole listing
-unfoldable pub listing : FlowModel → ℕ → List ListedStep → List Line
-listing m s steps = first_line m s ∷ (all_step_lines m s (times m) steps ++ (end_line ∷ []))
+-- a whole listing, of a model or of all models between two decks
+unfoldable pub listing : Bool → FlowModel → ℕ → List ListedStep → List Line
+listing between m s steps = first_line between m s ∷ (all_step_lines m s (times m) steps ++ (end_line ∷ []))
 
 -- The pieces of a run: the first line, and a step.
-unfoldable pub first_text : FlowModel → ℕ → List ℕ
-first_text m s = text_of (first_line m s ∷ [])
+unfoldable pub first_text : Bool → FlowModel → ℕ → List ℕ
+first_text between m s = text_of (first_line between m s ∷ [])
 
 unfoldable pub step_text : FlowModel → ℕ → TimeStep → List Bound → Budget → List ZoneFlow → List ℕ
 step_text m s at heads b zones = text_of (step_lines m s at heads b zones)

@@ -126,11 +126,15 @@ step_at m s pairs at left = step_with m s (pairs at.period) at left
 abbrev pub first_line_before : Line
 first_line_before = codes "HEADS 1"
 
--- the first line of version 2, or of version 1
-unfoldable pub first_at : FlowModel → ℕ → Left → Result Left ℕ
-first_at m s left = do
+-- the first line of version 2; of a model's listing it may be that of version 1
+abbrev pub is_first : Bool → FlowModel → ℕ → Line → Bool
+is_first false m s line = bytes_eq (first_line false m s) line || bytes_eq first_line_before line
+is_first true m s line = bytes_eq (first_line true m s) line
+
+unfoldable pub first_at : Bool → FlowModel → ℕ → Left → Result Left ℕ
+first_at between m s left = do
   line ← line_at left
-  if bytes_eq (first_line m s) line.0 || bytes_eq first_line_before line.0 then Ok line.1 else Err left.number
+  if is_first between m s line.0 then Ok line.1 else Err left.number
 
 -- no line may be left
 abbrev pub none_of : ℕ → List Line → Result (Unit {0}) ℕ
@@ -141,9 +145,9 @@ abbrev pub over_at : Left → Result (Unit {0}) ℕ
 over_at left = none_of left.number left.lines
 
 -- a whole listing: its steps, or the number of the first line of another form than the one due
-unfoldable pub listing_at : FlowModel → ℕ → (ℕ → List ZonePair) → Left → Result (List ListedStep) ℕ
-listing_at m s pairs left = do
-  after ← first_at m s left
+unfoldable pub listing_at : Bool → FlowModel → ℕ → (ℕ → List ZonePair) → Left → Result (List ListedStep) ℕ
+listing_at between m s pairs left = do
+  after ← first_at between m s left
   steps ← for_each (step_at m s pairs) (times m) after
   end ← text_at end_line steps.1
   over ← over_at end
@@ -154,8 +158,8 @@ abbrev pub or_bad_listing : List ℕ → Result (List ListedStep) ℕ → Result
 or_bad_listing file (Ok steps) = Ok steps
 or_bad_listing file (Err n) = Err (refusal BadListing file n)
 
-abbrev pub listing_in : FlowModel → ℕ → (ℕ → List ZonePair) → List ℕ → List ℕ → Result (List ListedStep) Refusal
-listing_in m s pairs file text = or_bad_listing file (listing_at m s pairs (all_lines text))
+abbrev pub listing_in : Bool → FlowModel → ℕ → (ℕ → List ZonePair) → List ℕ → List ℕ → Result (List ListedStep) Refusal
+listing_in between m s pairs file text = or_bad_listing file (listing_at between m s pairs (all_lines text))
 
 -- What a call returned, seen by view, and what it left to be read: what reading gives, unless memory ran out.
 abbrev pub Stops : {Y : Type 0} → Fault → Result Y ℕ → Type 0

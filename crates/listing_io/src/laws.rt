@@ -1,6 +1,6 @@
 // Laws of the listing's text. Each is the contract of an empty function.
 ghost use Rattle.listing_io.specs.Forms.{LinesReadExactly};
-ghost use Rattle.listing_io.specs.Laws.{ListingsAreReadAgain, ListingsWereWritten};
+ghost use Rattle.listing_io.specs.Laws.{ListingsAreApart, ListingsAreReadAgain, ListingsWereWritten};
 
 /// A line is read as the numbers that are written as this line, and as nothing else.
 pub fn lines_read_exactly()
@@ -15,4 +15,9 @@ pub fn listings_are_read_again()
 /// A text that is read is the one written for the steps read, except for a first line of version 1.
 pub fn listings_were_written()
     ensures { ListingsWereWritten }
+{}
+
+/// No text is read both as the listing for all models between two decks and as that of a model.
+pub fn listings_are_apart()
+    ensures { ListingsAreApart }
 {}

@@ -22,17 +22,18 @@ use zone_pairs::ZonePairs;
 #[tactic(auto, unfolding(crate::specs::Reading::first_at))]
 fn read_first(
     text: &mut Vec<u8>,
+    between: bool,
     model: &FlowModel,
     s: u32,
     lines: &mut AllLines,
 ) -> Result<(), Fault>
-    ensures { Passes result lines.new (first_at model.now s lines.old) }
+    ensures { Passes result lines.new (first_at between model.now s lines.old) }
 {
     let number = lines.number();
     let line = lines.take()?;
     text.clear();
-    push_first_line(text, model, s)?;
-    if text.as_slice() == line || b"HEADS 1".as_slice() == line {
+    push_first_line(text, between, model, s)?;
+    if text.as_slice() == line || (!between && b"HEADS 1".as_slice() == line) {
         Ok(())
     } else {
         Err(Fault::BadLine(number))
@@ -87,6 +88,7 @@ fn read_steps(
 #[tactic(auto, unfolding(crate::specs::Reading::listing_at))]
 fn read_lines(
     alloc: Global,
+    between: bool,
     model: &FlowModel,
     s: u32,
     pairs: &mut ZonePairs,
@@ -96,11 +98,11 @@ fn read_lines(
     requires few { length model.now.periods ≤ 1000 }
     requires digits { s ≤ 18 }
     requires pairs { ArePairs model.now pairs.old }
-    ensures { Has (λ v. v.items) result (listing_at model.now s (pairs_in model.now (zones_of pairs.old)) lines.old) }
+    ensures { Has (λ v. v.items) result (listing_at between model.now s (pairs_in model.now (zones_of pairs.old)) lines.old) }
 {
     let mut text = Vec::new(alloc);
     let times = times(alloc, model)?;
-    read_first(&mut text, model, s, lines)?;
+    read_first(&mut text, between, model, s, lines)?;
     let steps = read_steps(alloc, &mut text, model, s, pairs, times.as_slice(), lines)?;
     lines.expect(b"END")?;
     lines.end()?;
@@ -110,6 +112,7 @@ fn read_lines(
 // The steps of a listing of a model with these zones.
 fn read_zoned(
     alloc: Global,
+    between: bool,
     model: &FlowModel,
     s: u32,
     zones: Option<&[u32]>,
@@ -119,19 +122,21 @@ fn read_zoned(
     requires few { length model.now.periods ≤ 1000 }
     requires digits { s ≤ 18 }
     requires zones { IfSome zones (λ z. CanPair model.now z.now) }
-    ensures { Has (λ v. v.items) result (listing_at model.now s (pairs_in model.now (option_map (λ z. z.now) zones.entry)) lines.old) }
+    ensures { Has (λ v. v.items) result (listing_at between model.now s (pairs_in model.now (option_map (λ z. z.now) zones.entry)) lines.old) }
 {
     let mut pairs = ZonePairs::new(alloc, model, zones)?;
-    read_lines(alloc, model, s, &mut pairs, lines)
+    read_lines(alloc, between, model, s, &mut pairs, lines)
 }
 
 /// The listing in a file, for this model and s digits of conductances: its lines are the first line,
-/// of version 2 or of version 1, the lines of its steps, END, and no others. With a zone file each step has a line ZONE for
+/// of version 2 or of version 1, the lines of its steps, END, and no others. With `between` it is a listing for all models
+/// between two decks, whose first line is of version 2 and ends with TO. With a zone file each step has a line ZONE for
 /// each pair of zones that share a face in its stress period, in order, else none; `zones` has the zone of each cell.
 /// Otherwise the first line of another form is refused as BadListing; a missing line has the number of the last line plus
 /// one.
 pub fn read_listing(
     alloc: Global,
+    between: bool,
     model: &FlowModel,
     file: &str,
     bytes: &[u8],
@@ -142,11 +147,11 @@ pub fn read_listing(
     requires few { length model.now.periods ≤ 1000 }
     requires digits { s ≤ 18 }
     requires zones { IfSome zones (λ z. CanPair model.now z.now) }
-    ensures reads { HasText (λ l. l) result (listing_in model.now s (pairs_in model.now (option_map (λ z. z.now) zones.entry)) file.now bytes.now) }
+    ensures reads { HasText (λ l. l) result (listing_in between model.now s (pairs_in model.now (option_map (λ z. z.now) zones.entry)) file.now bytes.now) }
     ensures listed { IfOk result (λ l. AreListed model.now (pairs_in model.now (option_map (λ z. z.now) zones.entry)) l) }
 {
     let mut lines = AllLines::new(bytes);
-    match read_zoned(alloc, model, s, zones, &mut lines) {
+    match read_zoned(alloc, between, model, s, zones, &mut lines) {
         Ok(steps) => Ok(Listing::new(steps)),
         Err(Fault::BadLine(number)) => Err(refused(alloc, Code::BadListing, file, number)),
         Err(Fault::Memory) => Err(TextFault::Memory),

@@ -50,25 +50,36 @@ fn push_digits(text: &mut Vec<u8>, s: u32) -> Result<(), AllocError>
     Ok(())
 }
 
-/// Writes the first line, without its line feed.
+/// Writes the first line, without its line feed: with `between` that of a listing for all models between two decks.
 pub(crate) fn push_first_line(
     text: &mut Vec<u8>,
+    between: bool,
     model: &FlowModel,
     s: u32,
 ) -> Result<(), AllocError>
-    ensures { IfOk result (λ _. text.new.items ≡ text.old.items ++ first_line model.now s) }
+    ensures { IfOk result (λ _. text.new.items ≡ text.old.items ++ first_line between model.now s) }
 {
     push_digits(text, s)?;
-    push_signed(text, model.lenuni)
+    push_signed(text, model.lenuni)?;
+    if between {
+        text.extend_from_slice(b" TO")?;
+    }
+    Ok(())
 }
 
-/// The first line of a listing: its version, the number s of digits of conductances, and LENUNI.
+/// The first line of a listing: its version, the number s of digits of conductances, and LENUNI; with `between` the word
+/// TO after them, for a listing of all models between two decks.
 #[tactic(auto, unfolding(crate::specs::Listing::first_text))]
-pub fn write_first(alloc: Global, model: &FlowModel, s: u32) -> Result<Vec<u8>, AllocError>
-    ensures { IfOk result (λ text. text.items ≡ first_text model.now s) }
+pub fn write_first(
+    alloc: Global,
+    between: bool,
+    model: &FlowModel,
+    s: u32,
+) -> Result<Vec<u8>, AllocError>
+    ensures { IfOk result (λ text. text.items ≡ first_text between model.now s) }
 {
     let mut text = Vec::new(alloc);
-    push_first_line(&mut text, model, s)?;
+    push_first_line(&mut text, between, model, s)?;
     text.push(b'\n')?;
     Ok(text)
 }

@@ -14,6 +14,7 @@ pub struct Desk {
     nevtop: i64,
     ibound: Vec<i64>,
     pub digits: u32,
+    pub between: bool,
     pub listing: String,
     pub step: Step,
 }
@@ -25,6 +26,7 @@ impl Desk {
             nevtop: 0,
             ibound: Vec::new(alloc),
             digits: 0,
+            between: false,
             listing: String::new(alloc),
             step: Step::new(alloc),
         }
@@ -45,6 +47,11 @@ impl Desk {
     /// Sets the number of digits.
     pub fn choose_digits(&mut self, words: &str) {
         self.digits = words.parse::<u32>().unwrap_or(0);
+    }
+
+    /// Sets whether listings are for all models between two decks.
+    pub fn choose_between(&mut self, word: &str) {
+        self.between = word == "yes";
     }
 
     /// Begins a listing without lines.

@@ -2,8 +2,9 @@
 //! and prints each text, what is read of it, or why it is refused.
 //!
 //! `@row LENUNI NEVTOP IBOUND ..` sets the current model: a row of cells in one steady step, where
-//! NEVTOP is 0 without EVT; and `@digits DIGITS` the number of digits of its conductances. `@listing` begins a listing,
-//! whose lines follow it, and `@read` reads it. `@line NUMBER TEXT` reads it with this text in place of a line and its
+//! NEVTOP is 0 without EVT; `@digits DIGITS` the number of digits of its conductances; and `@between yes` or `@between
+//! no` whether listings are for all models between two decks. `@listing` begins a listing, whose lines follow it, and
+//! `@read` reads it. `@line NUMBER TEXT` reads it with this text in place of a line and its
 //! line feed, where `␊`, `␍` and `␉` mean a line feed, a carriage return and a tab. `@bytes` reads it with `~` in
 //! place of each byte in turn, and prints how many bytes of each line, its line feed included, are refused at that line.
 //! `@cut` reads the text before each line feed, and with it, and prints the line at which each is refused, or 0.
@@ -43,6 +44,7 @@ fn step(rt: &impl Print, alloc: Global, desk: &mut Desk, line: &str) -> io::Resu
         Command::Title => println!(rt; "{line}"),
         Command::Row => Ok(desk.choose_row(alloc, rest)?),
         Command::Digits => Ok(desk.choose_digits(rest)),
+        Command::Between => Ok(desk.choose_between(rest)),
         Command::Listing => Ok(desk.begin_listing(alloc)),
         Command::Heads | Command::In | Command::Out | Command::Zone => {
             Ok(desk.step.take(alloc, command, rest)?)

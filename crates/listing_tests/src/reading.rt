@@ -16,6 +16,7 @@ fn read(alloc: Global, desk: &Desk, text: &str) -> Result<Listing, TextFault> {
     let model = desk.model(alloc)?;
     read_listing(
         alloc,
+        desk.between,
         &model,
         FILE,
         text.as_bytes(),

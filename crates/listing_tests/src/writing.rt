@@ -78,10 +78,11 @@ impl Step {
     }
 }
 
-// The first line of a listing of this model, and the step as this time step.
+// The first line of a listing of this model, or for all models between two decks, and the step as this time step.
 fn print_written(
     rt: &impl Print,
     alloc: Global,
+    between: bool,
     model: &FlowModel,
     step: &Step,
     s: u32,
@@ -93,7 +94,7 @@ fn print_written(
     if step.heads.len() != model.grid.cell_count() as usize {
         return println!(rt; "not a head for each cell");
     }
-    print_text(rt, &write_first(alloc, model, s)?)?;
+    print_text(rt, &write_first(alloc, between, model, s)?)?;
     let text = write_step(alloc, model, s, at, &step.heads, &step.budget, &step.zones)?;
     print_text(rt, &text)
 }
@@ -104,5 +105,6 @@ pub fn print_step(rt: &impl Print, alloc: Global, desk: &Desk, words: &str) -> i
         return println!(rt; "no time step");
     };
     let model = desk.model(alloc)?;
-    print_written(rt, alloc, &model, &desk.step, desk.digits.min(18), at)
+    let digits = desk.digits.min(18);
+    print_written(rt, alloc, desk.between, &model, &desk.step, digits, at)
 }

@@ -1,4 +1,4 @@
-use Rattle.listing_io.proofs.Common.{◌∙◌, ◌≤◌, ℕ, List, length, sym, subst, err_from_is_err_and, TimeStep, ZonePair, pairs_in, zones_of}
+use Rattle.listing_io.proofs.Common.{◌∙◌, ◌≤◌, List, length, sym, subst, err_from_is_err_and, TimeStep, pairs_in, zones_of}
 use Rattle.std.specs.Prelude.{All}
 use Rattle.listing_io.proofs.Periods.{times_within}
 use Rattle.listing_io.proofs.Rows.{all_read, end_stops, over_stops, steps_stop}
@@ -14,24 +14,24 @@ returns-in_err-steps c =
     let pairs = pairs_in c.args.model.now (zones_of c.args.pairs.now) in
     let same = c.as_slice.ensures.value ∙ c.in_ok-times.ensures.times in
     let p = err_from_is_err_and c.from_residual-in_err-steps.result c.from_residual-in_err-steps.ensures.1 in
-    rw (p.1, p.2) (steps_stop c.args.model.now c.args.s pairs c.args.lines.now _ c.as_slice.result.now same c.in_ok-read_first.ensures c.in_err-steps.field-0.0 c.in_err-steps.ensures)
+    rw (p.1, p.2) (steps_stop c.args.between c.args.model.now c.args.s pairs c.args.lines.now _ c.as_slice.result.now same c.in_ok-read_first.ensures c.in_err-steps.field-0.0 c.in_err-steps.ensures)
 
 pub returns-in_err-expect : goal.returns-in_err-expect
 returns-in_err-expect c =
     let pairs = pairs_in c.args.model.now (zones_of c.args.pairs.now) in
     let same = c.as_slice.ensures.value ∙ c.in_ok-times.ensures.times in
     let p = err_from_is_err_and c.from_residual-in_err-expect.result c.from_residual-in_err-expect.ensures.1 in
-    rw (p.1, p.2) (end_stops c.args.model.now c.args.s pairs c.args.lines.now _ c.as_slice.result.now same c.in_ok-read_first.ensures c.in_ok-steps.steps.items _ c.in_ok-steps.ensures c.in_err-expect.field-0.0 c.in_err-expect.ensures)
+    rw (p.1, p.2) (end_stops c.args.between c.args.model.now c.args.s pairs c.args.lines.now _ c.as_slice.result.now same c.in_ok-read_first.ensures c.in_ok-steps.steps.items _ c.in_ok-steps.ensures c.in_err-expect.field-0.0 c.in_err-expect.ensures)
 
 pub returns-in_err-end : goal.returns-in_err-end
 returns-in_err-end c =
     let pairs = pairs_in c.args.model.now (zones_of c.args.pairs.now) in
     let same = c.as_slice.ensures.value ∙ c.in_ok-times.ensures.times in
     let p = err_from_is_err_and c.from_residual-in_err-end.result c.from_residual-in_err-end.ensures.1 in
-    rw (p.1, p.2) (over_stops c.args.model.now c.args.s pairs c.args.lines.now _ c.as_slice.result.now same c.in_ok-read_first.ensures c.in_ok-steps.steps.items _ c.in_ok-steps.ensures _ c.in_ok-expect.ensures c.in_err-end.field-0.0 c.in_err-end.ensures)
+    rw (p.1, p.2) (over_stops c.args.between c.args.model.now c.args.s pairs c.args.lines.now _ c.as_slice.result.now same c.in_ok-read_first.ensures c.in_ok-steps.steps.items _ c.in_ok-steps.ensures _ c.in_ok-expect.ensures c.in_err-end.field-0.0 c.in_err-end.ensures)
 
 pub returns : goal.returns
 returns c =
     let pairs = pairs_in c.args.model.now (zones_of c.args.pairs.now) in
     let same = c.as_slice.ensures.value ∙ c.in_ok-times.ensures.times in
-    all_read c.args.model.now c.args.s pairs c.args.lines.now _ c.as_slice.result.now same c.in_ok-read_first.ensures c.in_ok-steps.steps.items _ c.in_ok-steps.ensures _ c.in_ok-expect.ensures _ c.in_ok-end.ensures
+    all_read c.args.between c.args.model.now c.args.s pairs c.args.lines.now _ c.as_slice.result.now same c.in_ok-read_first.ensures c.in_ok-steps.steps.items _ c.in_ok-steps.ensures _ c.in_ok-expect.ensures _ c.in_ok-end.ensures
