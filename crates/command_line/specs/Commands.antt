@@ -17,13 +17,17 @@ option id = record (new_rule id) { long = Some id }
 abbrev pub settling : App → App
 settling a = with_rule (with_rule (with_rule a (option (codes "digits"))) (option (codes "workers"))) (option (codes "rounds"))
 
--- run NAME [--digits S] [--workers W] [--rounds P] [--zones Z] [--watch N]
+-- run NAME [--digits S] [--workers W] [--rounds P] [--to NAME2] [--zones Z] [--watch N]
 abbrev pub run_app : App
-run_app = with_rule (with_rule (settling (with_rule (new_app (codes "run")) (word (codes "name")))) (option (codes "zones"))) (option (codes "watch"))
+run_app =
+    with_rule (with_rule (with_rule (settling (with_rule (new_app (codes "run")) (word (codes "name")))) (option (codes "to")))
+    (option (codes "zones"))) (option (codes "watch"))
 
--- check NAME LISTING [--digits S] [--zones Z]
+-- check NAME LISTING [--digits S] [--to NAME2] [--zones Z]
 abbrev pub check_app : App
-check_app = with_rule (with_rule (with_rule (with_rule (new_app (codes "check")) (word (codes "name"))) (word (codes "listing"))) (option (codes "digits"))) (option (codes "zones"))
+check_app =
+    with_rule (with_rule (with_rule (with_rule (with_rule (new_app (codes "check")) (word (codes "name"))) (word (codes "listing")))
+    (option (codes "digits"))) (option (codes "to"))) (option (codes "zones"))
 
 -- make SEED SIZE
 abbrev pub make_app : App

@@ -12,11 +12,13 @@ abbrev ◌>>=◌ : {A B : Type 0} → Option A → (A → Option B) → Option B
 x >>= f = option_and_then f x
 
 -- A listing of a model: its name file, digits, workers, rounds, zone file, turns of the watching seat. A check: name
--- file, listing, digits, zone file. A made model: seed, size. A batch of models: list, digits, workers, rounds. A model's deck: its
--- name file.
+-- file, listing, digits, zone file. Both for every model between two: the second name file comes after the first. A made
+-- model: seed, size. A batch of models: list, digits, workers, rounds. A model's deck: its name file.
 pub data Wanted : Type 0 where
   Lists : Text → ℕ → ℕ → ℕ → Option Text → Option ℕ → Wanted
+  ListsTo : Text → Text → ℕ → ℕ → ℕ → Option Text → Option ℕ → Wanted
   Checks : Text → Text → ℕ → Option Text → Wanted
+  ChecksTo : Text → Text → Text → ℕ → Option Text → Wanted
   Makes : ℕ → ℕ → Wanted
   Batches : Text → ℕ → ℕ → ℕ → Wanted
   Writes : Text → Wanted
@@ -39,6 +41,15 @@ turns_of (Some text) = option_map Some (number_in 1 1000 text)
 abbrev pub watch_in : List Row → Option (Option ℕ)
 watch_in rows = turns_of (first_of (codes "watch") rows)
 
+-- a listing and a check, of one model or of every model between two
+abbrev pub lists_to : Option Text → Text → ℕ → ℕ → ℕ → Option Text → Option ℕ → Wanted
+lists_to None name digits workers rounds zones turns = Lists name digits workers rounds zones turns
+lists_to (Some to) name digits workers rounds zones turns = ListsTo name to digits workers rounds zones turns
+
+abbrev pub checks_to : Option Text → Text → Text → ℕ → Option Text → Wanted
+checks_to None name listing digits zones = Checks name listing digits zones
+checks_to (Some to) name listing digits zones = ChecksTo name to listing digits zones
+
 -- what the words after a command ask for, by the values that they give to its arguments
 abbrev pub run_in : List Row → Option Wanted
 run_in rows = do
@@ -47,14 +58,14 @@ run_in rows = do
   workers ← workers_in rows
   rounds ← rounds_in rows
   turns ← watch_in rows
-  Some (Lists name digits workers rounds (first_of (codes "zones") rows) turns)
+  Some (lists_to (first_of (codes "to") rows) name digits workers rounds (first_of (codes "zones") rows) turns)
 
 abbrev pub check_in : List Row → Option Wanted
 check_in rows = do
   name ← first_of (codes "name") rows
   listing ← first_of (codes "listing") rows
   digits ← digits_in rows
-  Some (Checks name listing digits (first_of (codes "zones") rows))
+  Some (checks_to (first_of (codes "to") rows) name listing digits (first_of (codes "zones") rows))
 
 abbrev pub make_in : List Row → Option Wanted
 make_in rows = do
@@ -95,8 +106,9 @@ wanted_of words = wanted_if (fault_of heads_app words) (subcommand_of heads_app 
 
 -- what an order asks for
 abbrev pub wanted : Order → Wanted
-wanted (order.Run name digits workers rounds zones watch) = Lists name.now digits workers rounds (option_map (λ z. z.now) zones) watch
-wanted (order.Check name listing digits zones) = Checks name.now listing.now digits (option_map (λ z. z.now) zones)
+wanted (order.Run name to digits workers rounds zones watch) =
+    lists_to (option_map (λ t. t.now) to) name.now digits workers rounds (option_map (λ z. z.now) zones) watch
+wanted (order.Check name to listing digits zones) = checks_to (option_map (λ t. t.now) to) name.now listing.now digits (option_map (λ z. z.now) zones)
 wanted (order.Make seed size) = Makes seed size
 wanted (order.Batch list digits workers rounds) = Batches list.now digits workers rounds
 wanted (order.Write name) = Writes name.now

@@ -44,6 +44,7 @@ fn run_command<'a>(alloc: Global) -> Result<Command<'a>, AllocError>
 {
     let command = with_word(alloc, Command::new(alloc, "run"), "name")?;
     let command = with_settling(alloc, command)?;
+    let command = with_option(alloc, command, "to")?;
     let command = with_option(alloc, command, "zones")?;
     with_option(alloc, command, "watch")
 }
@@ -54,6 +55,7 @@ fn check_command<'a>(alloc: Global) -> Result<Command<'a>, AllocError>
     let command = with_word(alloc, Command::new(alloc, "check"), "name")?;
     let command = with_word(alloc, command, "listing")?;
     let command = with_option(alloc, command, "digits")?;
+    let command = with_option(alloc, command, "to")?;
     with_option(alloc, command, "zones")
 }
 

@@ -14,18 +14,20 @@ use std::alloc::Global;
 /// What the words ask for.
 #[derive(Clone, Copy, Debug)]
 pub enum Order<'a> {
-    /// The listing of a model.
+    /// The listing of a model; with `to` that of every model between two.
     Run {
         name: &'a str,
+        to: Option<&'a str>,
         digits: u32,
         workers: u32,
         rounds: u32,
         zones: Option<&'a str>,
         watch: Option<u32>,
     },
-    /// Whether a listing is certified.
+    /// Whether a listing is certified; with `to` one of every model between two.
     Check {
         name: &'a str,
+        to: Option<&'a str>,
         listing: &'a str,
         digits: u32,
         zones: Option<&'a str>,
@@ -85,6 +87,7 @@ fn run_order<'a>(found: &ArgMatches<'a>) -> Option<Order<'a>>
     };
     Some(Order::Run {
         name,
+        to: text_of(found, "to"),
         digits,
         workers,
         rounds,
@@ -108,6 +111,7 @@ fn check_order<'a>(found: &ArgMatches<'a>) -> Option<Order<'a>>
     };
     Some(Order::Check {
         name,
+        to: text_of(found, "to"),
         listing,
         digits,
         zones: text_of(found, "zones"),

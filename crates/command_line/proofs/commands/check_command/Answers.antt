@@ -7,4 +7,5 @@ returns c =
     let named = c.in_ok-command.ensures.0 ∙ ap (λ a. with_rule a (word (codes "name"))) c.new.ensures.app in
     let listed = c.in_ok-command-2.ensures.0 ∙ ap (λ a. with_rule a (word (codes "listing"))) named in
     let counted = c.in_ok-command-3.ensures.0 ∙ ap (λ a. with_rule a (option (codes "digits"))) listed in
-    if_ok-made_of (λ a. with_rule a (option (codes "zones"))) _ _ c.with_option-2.result counted c.with_option-2.ensures
+    let spanned = c.in_ok-command-4.ensures.0 ∙ ap (λ a. with_rule a (option (codes "to"))) counted in
+    if_ok-made_of (λ a. with_rule a (option (codes "zones"))) _ _ c.with_option-3.result spanned c.with_option-3.ensures
