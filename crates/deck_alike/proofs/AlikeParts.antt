@@ -1,9 +1,9 @@
 -- Two models are alike exactly where they share each package.
 use Rattle.deck_alike.proofs.Common.{◌≡◌, ◌==◌, suc, List, [], ◌∷◌, map, length, refl, ap, All, lit<, AllZip, All-nil, All-cons, Dec, Package, Dis, Bas, Lpf}
 use Rattle.deck_alike.proofs.Common.{Wel, Riv, Drn, Ghb, Rch, Chd, Evt, FlowModel, Period, AreEntriesAlike, Shares, SharesBounds, SharesEvaporation, SharesGrid}
-use Rattle.deck_alike.proofs.Common.{SharesIn, SharesProperties, SharesRecharge, SharesTimes, reading_order}
+use Rattle.deck_alike.proofs.Common.{SharesIn, SharesProperties, SharesRecharge, SharesTimes, reading_order, AreAlike, AreGivenAlike, ArePeriodsAlike}
+use Rattle.deck_alike.proofs.Common.{entry_frame}
 use Rattle.deck_span.specs.Models.{frame}
-use Rattle.deck_span.specs.Alike.{AreAlike, AreGivenAlike, ArePeriodsAlike, entry_frame}
 
 -- items of the same frames, place by place and as lists
 module _ {X Y : Type 0} (f : X → Y) where

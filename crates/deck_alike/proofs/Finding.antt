@@ -2,8 +2,7 @@
 use Rattle.deck_alike.proofs.Common.{◌≡◌, ℕ, ◌<◌, List, [], ◌∷◌, Option, Some, None, length, get_or, take, subst, sym, ap, ◌∙◌, refl, arith, inr, AllZip}
 use Rattle.deck_alike.proofs.Common.{each_same, get_or_from_slice_get, slice_get_read, Dec, Package, Dis, Lpf, FlowModel, Period, cell_count, layer_size}
 use Rattle.deck_alike.proofs.Common.{AreSame, IsFirst, Finds, InOrder, IsFirstOfLayers, IsLayerCell, IsListCell, array_at, named, AreArraysSame, SharesGrid}
-use Rattle.deck_alike.proofs.Common.{SharesIn, SharesProperties, IsCellIn, IsHeadCell, IsPeriodCell, SharesOptions, SharesSizes, bottoms, properties}
-use Rattle.model_types.specs.declared.grid.CellId.{CellId}
+use Rattle.deck_alike.proofs.Common.{SharesIn, SharesProperties, IsCellIn, IsHeadCell, IsPeriodCell, SharesOptions, SharesSizes, bottoms, properties, CellId}
 use Rattle.model_types.specs.declared.grid.Grid.{Grid}
 use Rattle.deck_alike.proofs.ZipLemmas.{first_not_all}
 

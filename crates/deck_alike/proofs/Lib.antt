@@ -5,3 +5,4 @@ pub mod ZipLemmas
 pub mod Layers
 pub mod Finding
 pub mod AlikeParts
+pub mod OneDifference

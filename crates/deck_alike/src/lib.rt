@@ -5,7 +5,7 @@ mod areas;
 mod cells;
 mod difference;
 mod items;
-mod laws;
+pub mod laws;
 mod lists;
 mod once;
 mod order;
