@@ -1,84 +1,54 @@
--- Each choice of models between two others has a history, and one alone, by induction on the choices.
-use Rattle.chosen_histories.proofs.Common.{◌<◌, [], ◌∷◌, ℕ, refl, sym, subst, ℤ, List, All, Contains, map, All-head, All-tail, Fraction, Same-sym, start_head}
-use Rattle.chosen_histories.proofs.Common.{FlowModel, TimeStep, Bound, heads_of, SolvesAt, AreGridHeads, HeadsEnclose, Solved, AreSameHeads, AreSame, IsBetween}
-use Rattle.chosen_histories.proofs.Common.{IsBefore, problem_encloses, pair_encloses, pair_fits, between_cells, encloses_first, encloses_member, PairKind}
-use Rattle.chosen_histories.proofs.Common.{IsStepBy, two, AreSteps, AreAllSteps, Choice, SolvesChoicesFrom, ChoicesHaveAHistory, ChoicesHaveOneHistory}
-use Rattle.model_types.specs.Times.{times}
-use Rattle.certificate_check.proofs.Certified.{settled_encloses}
+-- Each choice of models between two others has a history, and one alone: all steps of two decks are turns.
+use Rattle.chosen_histories.proofs.Common.{[], ◌∷◌, ℕ, List, Contains, map, start_head, FlowModel, TimeStep, Bound, AreGridHeads, HeadsEnclose, IsBetween}
+use Rattle.chosen_histories.proofs.Common.{IsBefore, problem_encloses, pair_encloses, pair_fits, between_cells, encloses_first, encloses_member, IsStepBy, two}
+use Rattle.chosen_histories.proofs.Common.{AreSteps, AreAllSteps, ChoicesHaveAHistory, ChoicesHaveOneHistory, times, ChoicesHaveOne}
 use Rattle.deck_problems.specs.Decks.{AreDecks}
+use Rattle.step_chain.specs.declared.solved.Solved.{Solved}
+use Rattle.step_chain.specs.Pairs.{PairKind}
+use Rattle.certificate_check.proofs.Certified.{settled_encloses}
 use Rattle.deck_problems.proofs.OneProblem.{problem_fits}
 use Rattle.deck_problems.proofs.Starting.{starts_enclose_members, starts_fit_decks}
 use Rattle.step_chain.proofs.Following.{steps_enclose}
 use Rattle.step_chain.proofs.OneStep.{all_fit}
 use Rattle.span_steps.proofs.Histories.{first_in, next_in, lies_encloses, lies_in_first}
 use Rattle.exact_histories.proofs.PosedSteps.{model_fits}
-use Rattle.chosen_histories.proofs.Multiples.{GoOn, history_exists}
-use Rattle.chosen_histories.proofs.OneTurn.{has_vector, heads_same}
+use Rattle.chosen_histories.proofs.Turns.{AreTurns, IsTurn, Lands, turns_have_one}
 
--- the time of a choice
-abbrev time_of : Choice → TimeStep
-time_of c = c.at
+abbrev heads_at : Solved → List Bound
+heads_at x = x.heads
 
 module _ (a b : FlowModel) (s : ℕ) (kind : PairKind) (decks : AreDecks (two a b)) where
-  -- the model of each of these choices lies between
-  abbrev Between : List Choice → Type 0
-  Between cs = All (λ c. IsBetween a c.model b) cs
+  -- each solution of a model between lands within the heads of a step
+  lands : (at : TimeStep) (old : List Bound) (x : Solved) → IsBefore (two a b) at old → IsStepBy (two a b) s at old kind x → Lands a b s at old x.heads
+  lands at old x start step m between before d X olds some solves =
+      let cells = between_cells a m b between in
+      let move = steps_enclose (problem_fits model_fits) problem_encloses pair_encloses settled_encloses (two a b) s at old kind x start step m between before d X
+      (record { within = encloses_member a m cells old before olds; some = some; solves = solves }) in
+      lies_encloses a x.heads d X some (lies_in_first a m cells x.heads d X move.heads)
 
-  abbrev InTimes : List Choice → Type 0
-  InTimes cs = (at : TimeStep) → Contains (map time_of cs) at → Contains (times a) at
+  turn_of : (at : TimeStep) (old : List Bound) (x : Solved) → IsBefore (two a b) at old → IsStepBy (two a b) s at old kind x → IsTurn a b s at old x.heads
+  turn_of at old x start step = record { start = start; problem = x.problem; barrier = step.barrier; posed = step.posed; lands = lands at old x start step }
 
-  -- each solution of a chosen model lands within the heads that the next step starts from
-  lands : (c : Choice) (old : List Bound) (x : Solved) → IsBefore (two a b) c.at old → IsStepBy (two a b) s c.at old kind x → IsBetween a c.model b → (before : ℕ → Fraction) (d : ℕ) (X : ℕ → ℤ) → HeadsEnclose a old before → 0 < d → SolvesAt c.model c.at before d X → HeadsEnclose a x.heads (heads_of d X)
-  lands c old x start step between before d X olds some solves =
-      let cells = between_cells a c.model b between in
-      let move = steps_enclose (problem_fits model_fits) problem_encloses pair_encloses settled_encloses (two a b) s c.at old kind x start step c.model between before d X
-      (record { within = encloses_member a c.model cells old before olds; some = some; solves = solves }) in
-      lies_encloses a x.heads d X some (lies_in_first a c.model cells x.heads d X move.heads)
-
-  goes_on : (cs : List Choice) → InTimes cs → Between cs → (old : List Bound) (xs : List Solved) (before : ℕ → Fraction) → AreGridHeads a old → HeadsEnclose a old before → AreSteps (two a b) s kind old (map time_of cs) xs → GoOn cs before
-  goes_on [] these between old xs before grid olds steps = tt
-  goes_on (c ∷ cs) these between old [] before grid olds steps = absurd steps
-  goes_on (c ∷ cs) these between old (x ∷ xs) before grid olds (step, steps) =
-      let start : IsBefore (two a b) c.at old = record { decks = decks; time = these c.at (first_in c.at (map time_of cs)); heads = grid } in
-      let here = All-head (λ c. IsBetween a c.model b) c cs between in (
-        has_vector a b s kind c.at old x start step c.model here before olds,
-        (λ d X some solves. goes_on cs (λ u k. these u (next_in c.at (map time_of cs) u k)) (All-tail (λ c. IsBetween a c.model b) c cs between) x.heads xs (heads_of d X)
-            (all_fit pair_fits (two a b) s c.at old kind x start step) (lands c old x start step here before d X olds some solves) steps),
-      )
-
-  are_one : (cs : List Choice) → InTimes cs → Between cs → (old : List Bound) (xs : List Solved) (before other : ℕ → Fraction) → AreGridHeads a old → HeadsEnclose a old before → AreSameHeads a other before → AreSteps (two a b) s kind old (map time_of cs) xs →
-      (d e : ℕ) (Xs Ys : List (ℕ → ℤ)) → 0 < d → 0 < e → SolvesChoicesFrom d before cs Xs → SolvesChoicesFrom e other cs Ys → AreSame a d e Xs Ys
-  are_one [] these between old xs before other grid olds same steps d e [] [] some_d some_e first second = tt
-  are_one [] these between old xs before other grid olds same steps d e [] (Y ∷ Ys) some_d some_e first second = absurd second
-  are_one [] these between old xs before other grid olds same steps d e (X ∷ Xs) Ys some_d some_e first second = absurd first
-  are_one (c ∷ cs) these between old [] before other grid olds same steps d e Xs Ys some_d some_e first second = absurd steps
-  are_one (c ∷ cs) these between old (x ∷ xs) before other grid olds same steps d e [] Ys some_d some_e first second = absurd first
-  are_one (c ∷ cs) these between old (x ∷ xs) before other grid olds same steps d e (X ∷ Xs) [] some_d some_e first second = absurd second
-  are_one (c ∷ cs) these between old (x ∷ xs) before other grid olds same (step, steps) d e (X ∷ Xs) (Y ∷ Ys) some_d some_e (first, firsts) (second, seconds) =
-      let start : IsBefore (two a b) c.at old = record { decks = decks; time = these c.at (first_in c.at (map time_of cs)); heads = grid } in
-      let chosen = All-head (λ c. IsBetween a c.model b) c cs between in
-      let here = heads_same a b s kind c.at old x start step c.model chosen before olds other same d e X Y some_d some_e first second in (
-        here,
-        are_one cs (λ u k. these u (next_in c.at (map time_of cs) u k)) (All-tail (λ c. IsBetween a c.model b) c cs between) x.heads xs (heads_of d X) (heads_of e Y)
-            (all_fit pair_fits (two a b) s c.at old kind x start step) (lands c old x start step chosen before d X olds some_d first) (λ k act. Same-sym (here k act)) steps d e Xs Ys some_d some_e firsts seconds,
-      )
+  turns_of : (old : List Bound) (ats : List TimeStep) (xs : List Solved) → ((at : TimeStep) → Contains ats at → Contains (times a) at) → AreGridHeads a old → AreSteps (two a b) s kind old ats xs → AreTurns a b s old ats (map heads_at xs)
+  turns_of old [] [] these grid steps = tt
+  turns_of old [] (x ∷ xs) these grid steps = absurd steps
+  turns_of old (at ∷ ats) [] these grid steps = absurd steps
+  turns_of old (at ∷ ats) (x ∷ xs) these grid (step, steps) =
+      let start : IsBefore (two a b) at old = record { decks = decks; time = these at (first_in at ats); heads = grid } in
+      (turn_of at old x start step, turns_of x.heads ats xs (λ u k. these u (next_in at ats u k)) (all_fit pair_fits (two a b) s at old kind x start step) steps)
 
 -- the heads of the first step enclose STRT of a model between
 start_within : (a b : FlowModel) (s : ℕ) (kind : PairKind) (xs : List Solved) (have : AreAllSteps a b s kind xs) (first : FlowModel) → IsBetween a first b → HeadsEnclose a have.start (start_head first)
 start_within a b s kind xs have first between =
     encloses_first a first (between_cells a first b between) have.start (start_head first) (starts_enclose_members (two a b) have.start have.decks have.is_start first between)
 
+have_one : (a b : FlowModel) (s : ℕ) (kind : PairKind) (xs : List Solved) → AreAllSteps a b s kind xs → ChoicesHaveOne a b
+have_one a b s kind xs have =
+    turns_have_one a b s have.start (map heads_at xs) (start_within a b s kind xs have)
+    (turns_of a b s kind have.decks have.start (times a) xs (λ at k. k) (starts_fit_decks (two a b) have.start have.decks have.is_start) have.steps)
+
 pub choices_history : ChoicesHaveAHistory
-choices_history a b s kind xs have first cs are =
-    let these = λ (at : TimeStep) (k : Contains (map time_of cs) at). subst (λ (ts : List TimeStep). Contains ts at) are.steps k in
-    let steps = subst (λ (ts : List TimeStep). AreSteps (two a b) s kind have.start ts xs) (sym are.steps) have.steps in
-    let going = goes_on a b s kind have.decks cs these are.between have.start xs (start_head first) (starts_fit_decks (two a b) have.start have.decks have.is_start) (start_within a b s kind xs have first are.start) steps in
-    let (d, Xs, some, solves) = history_exists cs (start_head first) going in
-    (d, Xs, record { some = some; steps = solves })
+choices_history a b s kind xs have = (have_one a b s kind xs have).solvable
 
 pub choices_one : ChoicesHaveOneHistory
-choices_one a b s kind xs have first cs are d e Xs Ys one other =
-    let these = λ (at : TimeStep) (k : Contains (map time_of cs) at). subst (λ (ts : List TimeStep). Contains ts at) are.steps k in
-    let steps = subst (λ (ts : List TimeStep). AreSteps (two a b) s kind have.start ts xs) (sym are.steps) have.steps in
-    are_one a b s kind have.decks cs these are.between have.start xs (start_head first) (start_head first) (starts_fit_decks (two a b) have.start have.decks have.is_start) (start_within a b s kind xs have first are.start)
-    (λ c act. record { same = refl }) steps d e Xs Ys one.some other.some one.steps other.steps
+choices_one a b s kind xs have = (have_one a b s kind xs have).one

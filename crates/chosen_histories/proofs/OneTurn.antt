@@ -1,14 +1,13 @@
 -- A hull step: the step of each model between has a solution, from exact heads within the old ones, and one alone.
 use Rattle.chosen_histories.proofs.Common.{◌≡◌, ◌<◌, ◌∙◌, ℕ, true, inl, inr, refl, sym, subst, arith, ℤ, List, length, All, Fraction, Same, Same-sym}
-use Rattle.chosen_histories.proofs.Common.{Same-trans, FlowModel, TimeStep, Bound, share, heads_of, variable_heads, SolvesAt, IsActive, HeadsEnclose, Solved}
+use Rattle.chosen_histories.proofs.Common.{Same-trans, FlowModel, TimeStep, Bound, share, heads_of, variable_heads, SolvesAt, IsActive, HeadsEnclose}
 use Rattle.chosen_histories.proofs.Common.{AreSameHeads, HasVector, vector_exists, balances_same, IsBetween, IsBefore, problem_encloses, between_cells}
-use Rattle.chosen_histories.proofs.Common.{encloses_member, PairKind, IsStepBy, two}
+use Rattle.chosen_histories.proofs.Common.{encloses_member, two, Entries, IsPosed, Edges, head_at}
 use Rattle.std.proofs.lemmas.Bool.{cases_Bool}
 use Rattle.model_types.specs.Cells.{cell_count}
 use Rattle.model_types.specs.Grids.{HasSize}
 use Rattle.model_types.specs.Kinds.{is_variable, is_constant, index_of, variable_cells}
 use Rattle.model_types.proofs.Members.{All-In}
-use Rattle.step_problem.specs.Heads.{head_at}
 use Rattle.cell_balance.specs.Enclosures.{EnclosesStep}
 use Rattle.exact_solutions.specs.Counts.{HasAtMostOne}
 use Rattle.exact_solutions.proofs.HeldSteps.{solution_exists, solution_is_one}
@@ -24,21 +23,21 @@ use Rattle.deck_span.proofs.SameFrames.{counts_are, active_are}
 has_size : (a m b : FlowModel) → IsBetween a m b → HasSize a.grid → HasSize m.grid
 has_size a m b h size = subst (λ (x : FlowModel). HasSize x.grid) (sym h.same) size
 
-module _ (a b : FlowModel) (s : ℕ) (kind : PairKind) (at : TimeStep) (old : List Bound) (x : Solved) (start : IsBefore (two a b) at old) (is : IsStepBy (two a b) s at old kind x) (m : FlowModel) (h : IsBetween a m b)
+module _ (a b : FlowModel) (s : ℕ) (at : TimeStep) (old : List Bound) (problem : List Entries) (barrier : Edges) (start : IsBefore (two a b) at old) (posed : IsPosed (two a b) s at old problem barrier) (m : FlowModel) (h : IsBetween a m b)
     (before : ℕ → Fraction) (olds : HeadsEnclose a old before)
   where
-    encloses : EnclosesStep s x.problem (exact_step m at.period at.step before)
-    encloses = problem_encloses (two a b) s at old x.problem start is.posed.problem m h before (encloses_member a m (between_cells a m b h) old before olds)
+    encloses : EnclosesStep s problem (exact_step m at.period at.step before)
+    encloses = problem_encloses (two a b) s at old problem start posed.problem m h before (encloses_member a m (between_cells a m b h) old before olds)
 
     pub has_vector : HasVector m at before
     has_vector =
-        let bars = is.posed.barrier in
-        let (d, X, some, solves) = solution_exists x.problem is.posed.problem.fits (held_all x.problem (head_at is.barrier.floor) bars.floors) (held_above x.problem (head_at is.barrier.ceiling) bars.ceilings) s (exact_step m at.period at.step before)
+        let bars = posed.barrier in
+        let (d, X, some, solves) = solution_exists problem posed.problem.fits (held_all problem (head_at barrier.floor) bars.floors) (held_above problem (head_at barrier.ceiling) bars.ceilings) s (exact_step m at.period at.step before)
         encloses in
         vector_exists m at before d X (has_size a m b h start.decks.first.grid.size) some solves
 
     has_at_most_one : HasAtMostOne (exact_step m at.period at.step before)
-    has_at_most_one = solution_is_one x.problem is.posed.problem.fits (held_all x.problem (head_at is.barrier.floor) is.posed.barrier.floors) s (exact_step m at.period at.step before) encloses
+    has_at_most_one = solution_is_one problem posed.problem.fits (held_all problem (head_at barrier.floor) posed.barrier.floors) s (exact_step m at.period at.step before) encloses
 
     -- two solutions, from heads before that are the same numbers
     module _ (other : ℕ → Fraction) (same : AreSameHeads a other before) (d e : ℕ) (X Y : ℕ → ℤ) (some_d : 0 < d) (some_e : 0 < e) (first : SolvesAt m at before d X) (second : SolvesAt m at other e Y) where

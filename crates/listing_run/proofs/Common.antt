@@ -9,9 +9,11 @@ pub use Rattle.deck_problems.proofs.Members.{between_cells, cell_of_member, each
 pub use Rattle.deck_problems.specs.Decks.{AreDecks, EachMember, HoldsOf}
 pub use Rattle.deck_problems.specs.StartHeads.{AreStartHeadsFor}
 pub use Rattle.flow_equations.specs.Histories.{SolvesFrom, heads_of, variable_heads}
+pub use Rattle.listing_io.specs.Listing.{first_text}
 pub use Rattle.listing_run.specs.Bounding.{BoundAll, BoundBetween, Bounds, BoundsMoves, EnclosesHistories, HistoriesBound}
 pub use Rattle.listing_run.specs.Ends.{FlowsStopBy, IsAtFirst, IsNext, IsNextText, IsStopEnd, IsWalk, StopsAt, stop_of, times_left}
-pub use Rattle.listing_run.specs.Listing.{IsCutListing, IsListing, IsListingBeside, IsPushed, begun, last_line, left, listed, listing, status_of, text_of}
+pub use Rattle.listing_run.specs.Listing.{IsCutListing, IsListing, IsListingBeside, IsPushed, begun, is_between, last_line, left, listed, listing, status_of}
+pub use Rattle.listing_run.specs.Listing.{text_of}
 pub use Rattle.listing_run.specs.Settlers.{AllSettledBy, AreSettledBy, IsSettledBy, PairEncloses, Reaches, ReachesFirst, RestsOrSettles, RestsOrSettlesFirst}
 pub use Rattle.listing_run.specs.Settlers.{rests, settled}
 pub use Rattle.listing_run.specs.Steps.{AllSettle, AllSteps, EndsAt, FirstSteps, HasNoBound, IsStep, StepsThen, budget_at, no_budget, no_heads, no_zones}

@@ -2,15 +2,14 @@
 use Rattle.listing_run.proofs.Common.{◌≡◌, ◌∙◌, List, [], ◌∷◌, ◌++◌, Bool, Result, Ok, Err, Some, ap, refl, subst, sym, map-append, append_assoc, append-nil}
 use Rattle.listing_run.proofs.Common.{Put, taken, Entries, Edges, Text, IsRun, IsEnd, IsPut, IsWanting, Status, IsAt, at_more, ends_or_lacks, lacks_after}
 use Rattle.listing_run.proofs.Common.{stops_at, ListingEnd, Step, Steps, Task, IsCutListing, IsListing, IsPushed, begun, last_line, listing, status_of, text_of}
-use Rattle.listing_run.proofs.Common.{EndsAt, IsAtFirst, IsNextText, IsWalk, times_left}
+use Rattle.listing_run.proofs.Common.{EndsAt, IsAtFirst, IsNextText, IsWalk, times_left, is_between, first_text}
 use Rattle.std.proofs.Common.{IfOk}
 use Rattle.std.specs.List.{concat}
-use Rattle.listing_io.specs.Listing.{first_text}
 use Rattle.listing_run.proofs.UnderWay.{IsSolved, cut_listing, encloses_if_whole, ended, is_listing, none_solved, one_more_solved}
 
 -- the pieces of one step more
 pub begun_more : (k : Task) (values : List Step) (v : Step) → begun k values ++ (text_of k v ∷ []) ≡ begun k (values ++ (v ∷ []))
-begun_more k values v = ap (λ ts. first_text k.decks.first k.digits ∷ ts) (sym (map-append (text_of k) values (v ∷ [])))
+begun_more k values v = ap (λ ts. first_text (is_between k) k.decks.first k.digits ∷ ts) (sym (map-append (text_of k) values (v ∷ [])))
 
 module _ (k : Task) where
   -- all pieces of the steps so far are put, but the one at hand
@@ -19,7 +18,7 @@ module _ (k : Task) where
     pub here : IsAt (IsListing k) (IsCutListing k) (begun k values) pending puts
     pub solved : IsSolved k s.heads (times_left s) values
 
-  pub under_way_at_first : (s : Steps) (first : Text) → first ≡ first_text k.decks.first k.digits → IsWalk k s → IsAtFirst k s → IsUnderWay s first []
+  pub under_way_at_first : (s : Steps) (first : Text) → first ≡ first_text (is_between k) k.decks.first k.digits → IsWalk k s → IsAtFirst k s → IsUnderWay s first []
   under_way_at_first s first same w f = record { values = []; here = record { before = []; all = ap (λ t. t ∷ []) (sym same); written = refl }; solved = none_solved k s w f }
 
   pub under_way_more : {S : Type 0} (leads : S → List Entries → Edges → Bool → S → Type 0) (s t : Steps) (before after : S) (pending text : Text) (puts tail : List Put) → IsUnderWay s pending puts → tail ≡ taken pending ∷ [] → IsNextText leads k s t before after text → IsUnderWay t text (puts ++ tail)
@@ -65,8 +64,8 @@ module _ (k : Task) (start : Text) where
     pub solved : IsSolved k s.heads (times_left s) values
     pub written : text ≡ start ++ concat (begun k values)
 
-  pub text_at_first : (s : Steps) (first text : Text) → first ≡ first_text k.decks.first k.digits → text ≡ start ++ first → IsWalk k s → IsAtFirst k s → IsText s text
-  text_at_first s first text same is w f = record { values = []; solved = none_solved k s w f; written = is ∙ ap (λ t. start ++ t) (same ∙ sym (append-nil (first_text k.decks.first k.digits))) }
+  pub text_at_first : (s : Steps) (first text : Text) → first ≡ first_text (is_between k) k.decks.first k.digits → text ≡ start ++ first → IsWalk k s → IsAtFirst k s → IsText s text
+  text_at_first s first text same is w f = record { values = []; solved = none_solved k s w f; written = is ∙ ap (λ t. start ++ t) (same ∙ sym (append-nil (first_text (is_between k) k.decks.first k.digits))) }
 
   -- a line was added
   with_line : (values : List Step) (text line new : Text) → text ≡ start ++ concat (begun k values) → new ≡ text ++ line → new ≡ start ++ concat (listing k values line)

@@ -1,5 +1,5 @@
 -- The pieces of a listing.
-use Rattle.std.specs.Prelude.{◌≡◌, ℕ, List, [], ◌∷◌, ◌++◌, map}
+use Rattle.std.specs.Prelude.{◌≡◌, ℕ, Bool, is_some, List, [], ◌∷◌, ◌++◌, map}
 use Rattle.std.specs.List.{concat}
 use Rattle.model_types.specs.declared.grid.Grid.{Grid}
 use Rattle.model_types.specs.declared.time_steps.TimeStep.{TimeStep}
@@ -15,12 +15,16 @@ use Rattle.listing_run.specs.declared.step.Step.{Step}
 use Rattle.listing_run.specs.Steps.{AllSteps, FirstSteps}
 use Rattle.listing_run.specs.Bounding.{EnclosesHistories}
 
+-- whether the task is one of all models between two decks
+abbrev pub is_between : Task → Bool
+is_between k = is_some k.decks.second
+
 abbrev pub text_of : Task → Step → Text
 text_of k v = step_text k.decks.first k.digits v.at v.heads v.budget v.zones
 
 -- the first line, and a piece for each step
 abbrev pub begun : Task → List Step → List Text
-begun k values = first_text k.decks.first k.digits ∷ map (text_of k) values
+begun k values = first_text (is_between k) k.decks.first k.digits ∷ map (text_of k) values
 
 abbrev pub listing : Task → List Step → Text → List Text
 listing k values last = begun k values ++ (last ∷ [])

@@ -104,7 +104,12 @@ fn put_walk<R: Threads + Sync, K: Sink + Send, S: StepSettler>(
         × (result ≡ Status.Ok → AllSettledBy S.begins S.leads S.stop task.now settler.old settler.new) }
     ensures reaches { (settler.new ≡ settler.old) ⊎ ReachesFirst S.begins S.leads S.stop task.now settler.old settler.new }
 {
-    let Ok(mut pending) = write_first(alloc, &task.decks.first, task.digits) else {
+    let Ok(mut pending) = write_first(
+        alloc,
+        task.decks.second.is_some(),
+        &task.decks.first,
+        task.digits,
+    ) else {
         return put_memory(out);
     };
     while let Some(at) = steps.time() {

@@ -43,7 +43,12 @@ fn push_steps<S: Settler>(
     requires first { IsAtFirst task.now steps.old }
     ensures { IfOk result (λ end. IsPushed task.now end text.old.items text.new.items) }
 {
-    let first = write_first(alloc, &task.decks.first, task.digits)?;
+    let first = write_first(
+        alloc,
+        task.decks.second.is_some(),
+        &task.decks.first,
+        task.digits,
+    )?;
     text.extend_from_slice(first.as_slice())?;
     loop {
         match steps.next_text(alloc, task, settler) {

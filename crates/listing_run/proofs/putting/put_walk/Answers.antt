@@ -1,6 +1,6 @@
 use Rattle.listing_run.proofs.Common.{rules, ◌≡◌, ◌+◌, ◌∷◌, [], ◌++◌, drop, List, Some, None, inl, inr, refl, subst, sym, ◌∙◌, ap, append-nil, Put, taken}
 use Rattle.listing_run.proofs.Common.{TimeStep, joined, joined_thrice, put_was, lacks_at_first, IsListingBeside, IsCutListing, EndsAt, IsNextText, times_left}
-use Rattle.listing_run.proofs.Common.{Write}
+use Rattle.listing_run.proofs.Common.{Write, first_text}
 use Rattle.listing_run.specs.declared.listing_end.ListingEnd.TheVariants.{Whole}
 use Rattle.listing_run.proofs.Pieces.{ends_at_piece, ends_wanting, ends_with_line, under_way_at_first, under_way_more}
 use Rattle.listing_run.proofs.Settled.{all_settled, none_settled, one_more_settled, reaches_more, reaches_so_far}
@@ -23,7 +23,7 @@ loop-at-init g c = record {
   walk = c.requires.walk;
   puts = λ start puts h.
       let L : List Put → Type 0 = λ s. g.K.Sink.leads start s c.args.out.now in
-      ([], subst L (sym (append-nil puts)) h, under_way_at_first c.args.task.now c.args.steps.now c.in-Ok.pending.items c.in-Ok.ensures c.requires.walk c.requires.first);
+      ([], subst L (sym (append-nil puts)) h, under_way_at_first c.args.task.now c.args.steps.now c.in-Ok.pending.items (c.in-Ok.ensures ∙ ap (λ b. first_text b c.args.task.now.decks.first c.args.task.now.digits) c.is_some.ensures) c.requires.walk c.requires.first);
   goes_on = c.requires.goes_on;
   settled = none_settled g.S.StepSettler.begins g.S.Settler.leads g.S.StepSettler.stop c.args.task.now c.args.steps.now c.args.settler.now c.requires.walk c.requires.first;
 }

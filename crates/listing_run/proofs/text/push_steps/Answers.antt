@@ -1,4 +1,4 @@
-use Rattle.listing_run.proofs.Common.{◌≡◌, ◌∙◌, ◌++◌, ap, Text, Status, last_line, status_of, EndsAt, IsNextText, times_left}
+use Rattle.listing_run.proofs.Common.{◌≡◌, ◌∙◌, ◌++◌, ap, Text, Status, last_line, status_of, EndsAt, IsNextText, times_left, first_text}
 use Rattle.listing_run.proofs.Pieces.{if_ok_both, text_at_first, text_ended, text_more}
 use Rattle.listing_run.proofs.UnderWay.{fewer_left}
 use Rattle.listing_run.proofs.text.push_steps.Goals as goal
@@ -10,7 +10,7 @@ loop-step-init g c =
       ready = c.requires.ready;
       rounds = c.requires.rounds;
       walk = c.requires.walk;
-      text = text_at_first c.args.task.now start c.args.steps.now c.in_ok-first.first.items c.extend_from_slice.new.self.items c.in_ok-first.ensures (c.in_ok-extend_from_slice.ensures.items ∙ ap (λ t. start ++ t) c.as_slice.ensures.value) c.requires.walk c.requires.first;
+      text = text_at_first c.args.task.now start c.args.steps.now c.in_ok-first.first.items c.extend_from_slice.new.self.items (c.in_ok-first.ensures ∙ ap (λ b. first_text b c.args.task.now.decks.first c.args.task.now.digits) c.is_some.ensures) (c.in_ok-extend_from_slice.ensures.items ∙ ap (λ t. start ++ t) c.as_slice.ensures.value) c.requires.walk c.requires.first;
     }
 
 pub loop-step-preserved : goal.loop-step-preserved
