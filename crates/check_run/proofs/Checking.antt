@@ -1,16 +1,11 @@
 -- A check, step by step.
 use Rattle.check_run.proofs.Common.{All, Contains, ◌≡◌, ℕ, suc, List, [], ◌∷◌, ◌+◌, ◌<◌, ◌≤◌, subst, sym, ap, refl, arith, ◌∙◌, inl, inr, drop, length, get_or}
-use Rattle.check_run.proofs.Common.{ℤ, Result, Ok, Err, IfOk, Option, None, AllZip, IfErr, All-head, All-tail, All-contains_itself, drop_more, drop_all, Bound}
-use Rattle.check_run.proofs.Common.{ZoneFlow, Budget, FlowModel, TimeStep, start_head, times, Fraction, IsModel, heads_of, SolvesAt, AreGridHeads, HeadsEnclose}
-use Rattle.check_run.proofs.Common.{pairs_in, ListedStep, AreFlows, AreFlowsAt, AreListed, IsListedStep, step_in, Step, BoundsMoves, CheckFault, ListingVerdict}
-use Rattle.check_run.proofs.Common.{Certified, Fails, Refused, FailsBy, IsVerdictAt, heads_before, Passes, Checks, StopsAt, IsVerdict, ListingEncloses}
-use Rattle.check_run.proofs.Common.{checked_task, step_of, steps_of}
-use Rattle.problem_builder.specs.StartHeads.{AreStartHeads}
-use Rattle.listing_run.proofs.HistoriesBound.{AllBoundMoves, histories_bound}
-use Rattle.exact_histories.specs.Histories.{HasOneHistory, AreSameHeads}
-use Rattle.exact_histories.proofs.JoinedSteps.{GoOn, history_of_steps}
-use Rattle.exact_histories.proofs.SettledSteps.{lies_encloses}
-use Rattle.exact_histories.proofs.Turns.{AreOne, go_on_more, nothing_more as none_left, one_more as one_turn_more}
+use Rattle.check_run.proofs.Common.{Result, Ok, Err, IfOk, Option, AllZip, IfErr, All-head, All-tail, All-contains_itself, drop_more, drop_all, Bound, ZoneFlow}
+use Rattle.check_run.proofs.Common.{Budget, TimeStep, start_head, times, AreGridHeads, HeadsEnclose, pairs_in, ListedStep, AreFlows, AreFlowsAt, AreListed}
+use Rattle.check_run.proofs.Common.{IsListedStep, step_in, BoundsMoves, CheckFault, ListingVerdict, Certified, Fails, Refused, FailsBy, IsVerdictAt}
+use Rattle.check_run.proofs.Common.{heads_before, Passes, Checks, StopsAt, IsVerdict, ListingEncloses, checked_task, step_of, steps_of, Decks, AreDecks}
+use Rattle.check_run.proofs.Common.{EachMember, HaveOneHistory, histories_bound, AreStartHeadsFor}
+use Rattle.check_run.proofs.Passed.{ArePassed, all_move, have_one}
 use Rattle.check_run.proofs.Listed.{grid_of}
 use Rattle.check_run.specs.declared.fault.CheckFault.TheVariants as fault
 
@@ -30,126 +25,107 @@ steps_many [] ws e = refl
 steps_many (at ∷ ats) [] e = absurd (omega (arith, e))
 steps_many (at ∷ ats) (w ∷ ws) e = let rest = steps_many ats ws (omega (arith, e)) in omega (arith, rest)
 
-module _ (m : FlowModel) (s : ℕ) (zones : Option (List ℕ)) (all : List ListedStep) where
-  -- each of these steps bounds every move from the heads of the step before
-  abbrev AllMove : List Bound → List TimeStep → List Step → Type 0
-  AllMove = AllBoundMoves (checked_task m s zones) m None
-
-  -- the check got so far: from the heads of the last step on, what holds of the rest holds of all
+module _ (ds : Decks) (s : ℕ) (zones : Option (List ℕ)) (all : List ListedStep) where
+  -- The check got so far: from the heads of the last step on, what holds of the rest holds of all. The times left are times of
+  -- the decks, and their steps have their flows between zones.
   pub record IsSoFar (old : List Bound) (rest : List TimeStep) (steps : List ListedStep) : Type 0 where
-    pub grid : AreGridHeads m old
-    pub goes_on : (end : ListingVerdict) → Checks m s zones old rest steps end → IsVerdict m s zones all end
+    pub grid : AreGridHeads ds.first old
+    pub goes_on : (end : ListingVerdict) → Checks ds s zones old rest steps end → IsVerdict ds s zones all end
     pub start : List Bound
-    pub starts : HeadsEnclose m start (start_head m)
-    pub moves : AllMove old rest (steps_of rest steps) → AllMove start (times m) (steps_of (times m) all)
-    -- the times left are times of the model, and their steps have their flows between zones; where they can be solved in turn from exact heads within the last ones, all times can; and so for their histories being the same
-    pub left : All (Contains (times m)) rest
-    pub flows : AllZip (AreFlowsAt (pairs_in m zones)) rest steps
-    pub solvable : ((before : ℕ → Fraction) → HeadsEnclose m old before → GoOn m rest before) → GoOn m (times m) (start_head m)
-    pub one : ((before other : ℕ → Fraction) → HeadsEnclose m old before → AreSameHeads m other before → AreOne m rest before other) → AreOne m (times m) (start_head m) (start_head m)
+    pub starts : EachMember ds (λ m. HeadsEnclose m start (start_head m))
+    pub passed : ArePassed ds s zones old rest steps → ArePassed ds s zones start (times ds.first) all
+    pub left : All (Contains (times ds.first)) rest
+    pub flows : AllZip (AreFlowsAt (pairs_in ds.first zones)) rest steps
 
-  pub at_first : (start : List Bound) → AreStartHeads m start → AreGridHeads m start → HeadsEnclose m start (start_head m) → AreListed m (pairs_in m zones) all → IsSoFar start (times m) all
+  pub at_first : (start : List Bound) → AreStartHeadsFor ds start → AreGridHeads ds.first start → EachMember ds (λ m. HeadsEnclose m start (start_head m)) → AreListed ds.first (pairs_in ds.first zones) all → IsSoFar start (times ds.first) all
   at_first start is grid encloses listed = record {
     grid = grid;
     goes_on = λ end h. record { start = start; is_start = is; checks = h };
     start = start;
     starts = encloses;
-    moves = λ h. h;
-    left = All-contains_itself (times m);
+    passed = λ h. h;
+    left = All-contains_itself (times ds.first);
     flows = listed.flows;
-    solvable = λ others. others (start_head m) encloses;
-    one = λ others. others (start_head m) (start_head m) encloses (λ c a. record { same = refl });
   }
 
-  -- a solution of a step that bounds them all lies within its heads
-  lands : (at : TimeStep) (old : List Bound) (w : ListedStep) → BoundsMoves (checked_task m s zones) at old (step_of at w) → (before : ℕ → Fraction) (d : ℕ) (X : ℕ → ℤ) → HeadsEnclose m old before → 0 < d → SolvesAt m at before d X → HeadsEnclose m w.heads (heads_of d X)
-  lands at old w moves before d X olds some solves = lies_encloses m w.heads d X some (moves before d X (record { within = olds; some = some; solves = solves })).heads
-
-  pub one_more : (old : List Bound) (at : TimeStep) (rest : List TimeStep) (w : ListedStep) (steps : List ListedStep) → IsSoFar old (at ∷ rest) (w ∷ steps) → AreGridHeads m w.heads → IsModel m → Passes m s zones at old w → BoundsMoves (checked_task m s zones) at old (step_of at w) → IsSoFar w.heads rest steps
-  one_more old at rest w steps f grid valid passes moves = record {
+  pub one_more : (old : List Bound) (at : TimeStep) (rest : List TimeStep) (w : ListedStep) (steps : List ListedStep) → IsSoFar old (at ∷ rest) (w ∷ steps) → AreGridHeads ds.first w.heads → Passes ds s zones at old w → BoundsMoves (checked_task ds s zones) at old (step_of at w) → IsSoFar w.heads rest steps
+  one_more old at rest w steps f grid passes moves = record {
     grid = grid;
     goes_on = λ end h. f.goes_on end (inl (passes, h));
     start = f.start;
     starts = f.starts;
-    moves = λ h. f.moves (moves, h);
-    left = All-tail (Contains (times m)) at rest f.left;
+    passed = λ h. f.passed (record { time = All-head (Contains (times ds.first)) at rest f.left; grid = f.grid; passes = passes; moves = moves }, h);
+    left = All-tail (Contains (times ds.first)) at rest f.left;
     flows = f.flows.1;
-    solvable = λ others. f.solvable (go_on_more m s at old passes.problem passes.barrier valid (All-head (Contains (times m)) at rest f.left) f.grid passes.terms.heads.posed w.heads (lands at old w moves) rest others);
-    one = λ others. f.one (one_turn_more m s at old passes.problem passes.barrier valid (All-head (Contains (times m)) at rest f.left) f.grid passes.terms.heads.posed w.heads (lands at old w moves) rest others);
   }
 
   -- the step at hand is the first of the rest
-  pub at_step : (old : List Bound) (i : ℕ) (items : List TimeStep) (d : TimeStep) → items ≡ times m → AreListed m (pairs_in m zones) all → i < length items → IsSoFar old (drop i (times m)) (drop i all) → IsSoFar old (get_or items i d ∷ drop (i + 1) (times m)) (step_in all i ∷ drop (i + 1) all)
+  pub at_step : (old : List Bound) (i : ℕ) (items : List TimeStep) (d : TimeStep) → items ≡ times ds.first → AreListed ds.first (pairs_in ds.first zones) all → i < length items → IsSoFar old (drop i (times ds.first)) (drop i all) → IsSoFar old (get_or items i d ∷ drop (i + 1) (times ds.first)) (step_in all i ∷ drop (i + 1) all)
   at_step old i items d is listed below f =
       let P : List TimeStep → Type 0 = λ ts. IsSoFar old ts (step_in all i ∷ drop (i + 1) all) in
-      let Q : List ListedStep → Type 0 = λ ws. IsSoFar old (drop i (times m)) ws in
+      let Q : List ListedStep → Type 0 = λ ws. IsSoFar old (drop i (times ds.first)) ws in
       let R : List TimeStep → Type 0 = λ ts. IsSoFar old (drop i ts) (step_in all i ∷ drop (i + 1) all) in
       let S : List TimeStep → Type 0 = λ ts. IsSoFar old (get_or items i d ∷ drop (i + 1) ts) (step_in all i ∷ drop (i + 1) all) in
       let inside : i < length all = omega (arith, below, ap length is, listed.whole) in
       subst S is (subst P (drop_more items i d below) (subst R (sym is) (subst Q (drop_more all i _ inside) f)))
 
   -- past the last step there is none
-  at_end : (old : List Bound) (i : ℕ) (items : List TimeStep) → items ≡ times m → AreListed m (pairs_in m zones) all → length items ≤ i → IsSoFar old (drop i (times m)) (drop i all) → IsSoFar old [] []
+  at_end : (old : List Bound) (i : ℕ) (items : List TimeStep) → items ≡ times ds.first → AreListed ds.first (pairs_in ds.first zones) all → length items ≤ i → IsSoFar old (drop i (times ds.first)) (drop i all) → IsSoFar old [] []
   at_end old i items is listed above f =
-      let past : length (times m) ≤ i = omega (arith, above, ap length is) in
+      let past : length (times ds.first) ≤ i = omega (arith, above, ap length is) in
       let past_all : length all ≤ i = omega (arith, past, listed.whole) in
-      let Q : List ListedStep → Type 0 = λ ws. IsSoFar old (drop i (times m)) ws in
+      let Q : List ListedStep → Type 0 = λ ws. IsSoFar old (drop i (times ds.first)) ws in
       let R : List TimeStep → Type 0 = λ ts. IsSoFar old ts [] in
-      subst R (drop_all i (times m) past) (subst Q (drop_all i all past_all) f)
+      subst R (drop_all i (times ds.first) past) (subst Q (drop_all i all past_all) f)
 
-  enclosed : (old : List Bound) → AreListed m (pairs_in m zones) all → IsSoFar old [] [] → ListingEncloses m s zones all
-  enclosed old listed f = histories_bound (checked_task m s zones) m None f.start (steps_of (times m) all) (steps_many (times m) all listed.whole) (f.moves tt) f.starts
-
-  pub ends_certified : (old : List Bound) (i : ℕ) (items : List TimeStep) → items ≡ times m → AreListed m (pairs_in m zones) all → length items ≤ i → IsSoFar old (drop i (times m)) (drop i all) → IsVerdict m s zones all Certified
+  pub ends_certified : (old : List Bound) (i : ℕ) (items : List TimeStep) → items ≡ times ds.first → AreListed ds.first (pairs_in ds.first zones) all → length items ≤ i → IsSoFar old (drop i (times ds.first)) (drop i all) → IsVerdict ds s zones all Certified
   ends_certified old i items is listed above f = (at_end old i items is listed above f).goes_on Certified tt
 
-  pub ends_enclosed : (old : List Bound) (i : ℕ) (items : List TimeStep) → items ≡ times m → AreListed m (pairs_in m zones) all → length items ≤ i → IsSoFar old (drop i (times m)) (drop i all) → ListingEncloses m s zones all
-  ends_enclosed old i items is listed above f = enclosed old listed (at_end old i items is listed above f)
-
-  pub ends_history : (old : List Bound) (i : ℕ) (items : List TimeStep) → items ≡ times m → AreListed m (pairs_in m zones) all → length items ≤ i → IsSoFar old (drop i (times m)) (drop i all) → HasOneHistory m
-  ends_history old i items is listed above f =
+  pub ends_enclosed : (old : List Bound) (i : ℕ) (items : List TimeStep) → items ≡ times ds.first → AreListed ds.first (pairs_in ds.first zones) all → length items ≤ i → IsSoFar old (drop i (times ds.first)) (drop i all) → ListingEncloses ds s zones all
+  ends_enclosed old i items is listed above f =
       let end = at_end old i items is listed above f in
-      let (d, Xs, some, solves) = history_of_steps m (times m) (start_head m) (end.solvable (λ before olds. tt)) in
-      record {
-        solvable = (d, Xs, record { some = some; steps = solves });
-        one = λ d e history other first second. end.one (λ before other olds same. none_left m before other) d e history other first.some second.some first.steps second.steps;
-      }
+      histories_bound (checked_task ds s zones) ds.first ds.second end.start (steps_of (times ds.first) all) (steps_many (times ds.first) all listed.whole) (all_move ds s zones end.start (times ds.first) all (end.passed tt)) end.starts
 
-  stops_by : (at : TimeStep) (old : List Bound) (w : ListedStep) (f : CheckFault) (v : ListingVerdict) → FailsBy m s zones at old w f → IsVerdictAt at f v → StopsAt m s zones at old w v
-  stops_by at old w (fault.Fails place) v h is = let P : ListingVerdict → Type 0 = StopsAt m s zones at old w in subst P (sym is) (refl, h)
-  stops_by at old w (fault.Refused n) v h is = let P : ListingVerdict → Type 0 = StopsAt m s zones at old w in subst P (sym is) (refl, h)
+  pub ends_history : AreDecks ds → (old : List Bound) (i : ℕ) (items : List TimeStep) → items ≡ times ds.first → AreListed ds.first (pairs_in ds.first zones) all → length items ≤ i → IsSoFar old (drop i (times ds.first)) (drop i all) → HaveOneHistory ds
+  ends_history valid old i items is listed above f =
+      let end = at_end old i items is listed above f in
+      have_one ds.first ds.second s zones valid end.start all end.starts (end.passed tt)
+
+  stops_by : (at : TimeStep) (old : List Bound) (w : ListedStep) (f : CheckFault) (v : ListingVerdict) → FailsBy ds s zones at old w f → IsVerdictAt at f v → StopsAt ds s zones at old w v
+  stops_by at old w (fault.Fails place) v h is = let P : ListingVerdict → Type 0 = StopsAt ds s zones at old w in subst P (sym is) (refl, h)
+  stops_by at old w (fault.Refused n) v h is = let P : ListingVerdict → Type 0 = StopsAt ds s zones at old w in subst P (sym is) (refl, h)
   stops_by at old w fault.Memory v h is = absurd is
 
-  pub ends_by : (old : List Bound) (at : TimeStep) (rest : List TimeStep) (w : ListedStep) (steps : List ListedStep) (f : CheckFault) (v : ListingVerdict) → IsSoFar old (at ∷ rest) (w ∷ steps) → FailsBy m s zones at old w f → IsVerdictAt at f v → IsVerdict m s zones all v
+  pub ends_by : (old : List Bound) (at : TimeStep) (rest : List TimeStep) (w : ListedStep) (steps : List ListedStep) (f : CheckFault) (v : ListingVerdict) → IsSoFar old (at ∷ rest) (w ∷ steps) → FailsBy ds s zones at old w f → IsVerdictAt at f v → IsVerdict ds s zones all v
   ends_by old at rest w steps f v so_far h is = so_far.goes_on v (inr (stops_by at old w f v h is))
 
   -- One step of the loop, from what was lent to the check of the step.
-  module _ (start : List Bound) (i : ℕ) (items : List TimeStep) (d : TimeStep) (is : items ≡ times m) (listed : AreListed m (pairs_in m zones) all) (below : i < length items) (f : IsSoFar (heads_before start all i) (drop i (times m)) (drop i all))
+  module _ (start : List Bound) (i : ℕ) (items : List TimeStep) (d : TimeStep) (is : items ≡ times ds.first) (listed : AreListed ds.first (pairs_in ds.first zones) all) (below : i < length items) (f : IsSoFar (heads_before start all i) (drop i (times ds.first)) (drop i all))
       (n : ℕ) (digits : n ≡ s) (old heads : List Bound) (budget : Budget) (flows : List ZoneFlow) (old_is : old ≡ heads_before start all i) (heads_are : heads ≡ (step_in all i).heads) (budget_is : budget ≡ (step_in all i).budget) (flows_are : flows ≡ (step_in all i).zones) where
-    pub listed_at : IsListedStep m (step_in all i)
+    pub listed_at : IsListedStep ds.first (step_in all i)
     listed_at = listed.steps i _ (omega (arith, below, ap length is, listed.whole))
 
-    pub flows_here : AreFlows (pairs_in m zones (get_or items i d).period) flows
+    pub flows_here : AreFlows (pairs_in ds.first zones (get_or items i d).period) flows
     flows_here =
-        let F : List ZoneFlow → Type 0 = AreFlows (pairs_in m zones (get_or items i d).period) in
+        let F : List ZoneFlow → Type 0 = AreFlows (pairs_in ds.first zones (get_or items i d).period) in
         subst F (sym flows_are) (at_step (heads_before start all i) i items d is listed below f).flows.0
 
-    pub stops_here : (fault : CheckFault) (v : ListingVerdict) → FailsBy m n zones (get_or items i d) old (record { heads = heads; budget = budget; zones = flows }) fault → IsVerdictAt (get_or items i d) fault v → IsVerdict m s zones all v
+    pub stops_here : (fault : CheckFault) (v : ListingVerdict) → FailsBy ds n zones (get_or items i d) old (record { heads = heads; budget = budget; zones = flows }) fault → IsVerdictAt (get_or items i d) fault v → IsVerdict ds s zones all v
     stops_here fault v h verdict =
-        let D : ℕ → Type 0 = λ k. FailsBy m k zones (get_or items i d) old (record { heads = heads; budget = budget; zones = flows }) fault in
-        let P : List Bound → ListedStep → Type 0 = λ o w. FailsBy m s zones (get_or items i d) o w fault in
-        ends_by (heads_before start all i) (get_or items i d) (drop (i + 1) (times m)) (step_in all i) (drop (i + 1) all) fault v (at_step (heads_before start all i) i items d is listed below f)
+        let D : ℕ → Type 0 = λ k. FailsBy ds k zones (get_or items i d) old (record { heads = heads; budget = budget; zones = flows }) fault in
+        let P : List Bound → ListedStep → Type 0 = λ o w. FailsBy ds s zones (get_or items i d) o w fault in
+        ends_by (heads_before start all i) (get_or items i d) (drop (i + 1) (times ds.first)) (step_in all i) (drop (i + 1) all) fault v (at_step (heads_before start all i) i items d is listed below f)
         (here P old (heads_before start all i) heads budget flows (step_in all i) old_is heads_are budget_is flows_are (subst D digits h)) verdict
 
-    pub goes_here : IsModel m → Passes m n zones (get_or items i d) old (record { heads = heads; budget = budget; zones = flows }) → BoundsMoves (checked_task m n zones) (get_or items i d) old (step_of (get_or items i d) (record { heads = heads; budget = budget; zones = flows })) →
-        IsSoFar (heads_before start all (i + 1)) (drop (i + 1) (times m)) (drop (i + 1) all)
-    goes_here valid passes moves =
-        let D : ℕ → Type 0 = λ k. Passes m k zones (get_or items i d) old (record { heads = heads; budget = budget; zones = flows }) × BoundsMoves (checked_task m k zones) (get_or items i d) old (step_of (get_or items i d) (record { heads = heads; budget = budget; zones = flows })) in
-        let P : List Bound → ListedStep → Type 0 = λ o w. Passes m s zones (get_or items i d) o w × BoundsMoves (checked_task m s zones) (get_or items i d) o (step_of (get_or items i d) w) in
+    pub goes_here : Passes ds n zones (get_or items i d) old (record { heads = heads; budget = budget; zones = flows }) → BoundsMoves (checked_task ds n zones) (get_or items i d) old (step_of (get_or items i d) (record { heads = heads; budget = budget; zones = flows })) →
+        IsSoFar (heads_before start all (i + 1)) (drop (i + 1) (times ds.first)) (drop (i + 1) all)
+    goes_here passes moves =
+        let D : ℕ → Type 0 = λ k. Passes ds k zones (get_or items i d) old (record { heads = heads; budget = budget; zones = flows }) × BoundsMoves (checked_task ds k zones) (get_or items i d) old (step_of (get_or items i d) (record { heads = heads; budget = budget; zones = flows })) in
+        let P : List Bound → ListedStep → Type 0 = λ o w. Passes ds s zones (get_or items i d) o w × BoundsMoves (checked_task ds s zones) (get_or items i d) o (step_of (get_or items i d) w) in
         let h = here P old (heads_before start all i) heads budget flows (step_in all i) old_is heads_are budget_is flows_are (subst D digits (passes, moves)) in
-        let Q : ℕ → Type 0 = λ k. IsSoFar (heads_before start all k) (drop (i + 1) (times m)) (drop (i + 1) all) in
+        let Q : ℕ → Type 0 = λ k. IsSoFar (heads_before start all k) (drop (i + 1) (times ds.first)) (drop (i + 1) all) in
         let next : suc i ≡ i + 1 = omega arith in
-        subst Q next (one_more (heads_before start all i) (get_or items i d) (drop (i + 1) (times m)) (step_in all i) (drop (i + 1) all) (at_step (heads_before start all i) i items d is listed below f) (grid_of m (step_in all i) listed_at) valid h.0 h.1)
+        subst Q next (one_more (heads_before start all i) (get_or items i d) (drop (i + 1) (times ds.first)) (step_in all i) (drop (i + 1) all) (at_step (heads_before start all i) i items d is listed below f) (grid_of ds.first (step_in all i) listed_at) h.0 h.1)
 
 -- a fault makes no verdict that all is certified
 pub not_certified : (at : TimeStep) (f : CheckFault) (v : ListingVerdict) → IsVerdictAt at f v → v ≡ Certified → ⊥

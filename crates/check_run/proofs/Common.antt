@@ -1,7 +1,7 @@
 -- Names that several proofs of this crate cite, of the crates below and of its own definitions, passed on from one place. Declares nothing.
 pub use Rattle.std.proofs.Common.{All, Bool, Contains, Err, IfOk, List, None, Ok, Option, Result, Some, [], add-one, ap, arith, cond, drop, drop-cons, false}
-pub use Rattle.std.proofs.Common.{get_or, inl, inr, length, map, nat_abs, neg_ℤ, negsuc, option_map, pos, refl, subst, suc, sym, take, true, unsigned_abs, zero}
-pub use Rattle.std.proofs.Common.{ℕ, ℤ, ◌%◌, ◌&&◌, ◌*ℤ◌, ◌++◌, ◌+ℤ◌, ◌+◌, ◌/◌, ◌<ℤ◌, ◌<◌, ◌^◌, ◌∙◌, ◌∷◌, ◌≡◌, ◌≢◌, ◌≤ℤ◌, ◌≤◌, ◌⊎◌}
+pub use Rattle.std.proofs.Common.{get_or, inl, inr, length, map, nat_abs, negsuc, option_map, pos, refl, subst, suc, sym, take, true, unsigned_abs, zero, ℕ, ℤ}
+pub use Rattle.std.proofs.Common.{◌%◌, ◌&&◌, ◌*ℤ◌, ◌++◌, ◌+ℤ◌, ◌+◌, ◌/◌, ◌<ℤ◌, ◌<◌, ◌^◌, ◌∙◌, ◌∷◌, ◌≡◌, ◌≢◌, ◌≤ℤ◌, ◌≤◌, ◌⊎◌}
 pub use Rattle.std.proofs.lemmas.Bool.{and_from, and_parts, cases_Bool, cases_order, eq-eqb, leb-true, lt-ltb, or_left, or_right}
 pub use Rattle.std.proofs.lemmas.Bool.Decides.{nat_tests}
 pub use Rattle.std.proofs.lemmas.Int.{ints}
@@ -31,10 +31,18 @@ pub use Rattle.check_run.specs.Verdicts.{Checks, IsVerdict, ListingEncloses, Sto
 pub use Rattle.check_run.specs.declared.fault.CheckFault.{CheckFault}
 pub use Rattle.check_run.specs.declared.verdict.ListingVerdict.{ListingVerdict}
 pub use Rattle.check_run.specs.declared.verdict.ListingVerdict.TheVariants.{Certified, Fails, Refused}
+pub use Rattle.chosen_histories.specs.Decks.{ChoicesHaveOne, HaveOneBy, HaveOneHistory}
 pub use Rattle.decimal_input.specs.Fractions.{Fraction, den}
-pub use Rattle.deck_problems.specs.Decks.{one_deck}
-pub use Rattle.deck_problems.specs.Kept.{AreRunTables, digits_of}
-pub use Rattle.deck_problems.specs.Laws.{IsBefore}
+pub use Rattle.deck_problems.proofs.Members.{HasCellsOf, between_cells, cell_of_member, constant_same, each_member, encloses_first, encloses_member}
+pub use Rattle.deck_problems.proofs.Members.{member_cells, of_member}
+pub use Rattle.deck_problems.specs.ConstantHeads.{AreConstantHeadsFor}
+pub use Rattle.deck_problems.specs.Decks.{AreDecks, EachMember, HoldsOf, IsMember, one_deck}
+pub use Rattle.deck_problems.specs.Kept.{AreDeckTables, digits_of}
+pub use Rattle.deck_problems.specs.Laws.{ConstantPairEncloses, ConstantPairIsOne, IsBefore, ProblemExcludesRefusal, ProblemFits, ProblemIsOne, StartHeadsAreOne}
+pub use Rattle.deck_problems.specs.Laws.{StartHeadsFit}
+pub use Rattle.deck_problems.specs.Problems.{IsProblemBy, IsProblemFor}
+pub use Rattle.deck_problems.specs.StartHeads.{AreStartHeadsFor}
+pub use Rattle.deck_problems.specs.declared.decks.Decks.{Decks}
 pub use Rattle.flow_equations.proofs.Links.{below_is, index_is}
 pub use Rattle.flow_equations.specs.ExactStep.{exact_step}
 pub use Rattle.flow_equations.specs.Histories.{SolvesAt, heads_of, variable_heads}
@@ -42,10 +50,11 @@ pub use Rattle.listing_io.specs.Listed.{AreCellBounds, AreFlows, AreFlowsAt, Are
 pub use Rattle.listing_io.specs.Listing.{ended, first_line, has_evt, step_lines, zone_pair}
 unfoldable pub use Rattle.listing_io.specs.Listing.{all_step_lines, first_text, step_text}
 pub use Rattle.listing_io.specs.declared.listing.ListedStep.{ListedStep}
+pub use Rattle.listing_run.proofs.HistoriesBound.{AllBoundMoves, BoundsMovesOf, histories_bound}
 pub use Rattle.listing_run.proofs.Unique.{IsRest, first_in, ok_not_err, one_err, one_ok, rest_more, rest_whole}
-pub use Rattle.listing_run.specs.Bounding.{BoundAll, Bounds, BoundsMoves, EnclosesHistories}
+pub use Rattle.listing_run.specs.Bounding.{BoundAll, BoundBetween, Bounds, BoundsMoves, EnclosesHistories, HistoriesBound}
 pub use Rattle.listing_run.specs.Steps.{AllSteps, IsStep, Steps, budget_at}
-pub use Rattle.listing_run.specs.Tasks.{one_task}
+pub use Rattle.listing_run.specs.Tasks.{deck_task}
 pub use Rattle.listing_run.specs.Zones.{AreFlowsOf, HasLargeFlowOf, faces_of}
 pub use Rattle.listing_run.specs.declared.listing_end.ListingEnd.TheVariants.{Whole}
 pub use Rattle.listing_run.specs.declared.step.Step.{Step}
@@ -66,22 +75,24 @@ pub use Rattle.model_types.specs.declared.model.FlowModel.{FlowModel}
 pub use Rattle.model_types.specs.declared.time_steps.TimeStep.{TimeStep}
 pub use Rattle.problem_builder.proofs.Members.{In-append, In-variable, variable-In}
 pub use Rattle.problem_builder.proofs.StepEnclosed.{ids_are}
-pub use Rattle.problem_builder.proofs.TimesOf.{time_of}
 pub use Rattle.problem_builder.specs.Cells.{IsCellOf, IsEvap, IsFixed, IsLink}
-pub use Rattle.problem_builder.specs.ConstantHeads.{AreConstantHeads}
 pub use Rattle.problem_builder.specs.GridHeads.{AreGridHeads, HeadsEnclose, IsActive, IsNamed}
-pub use Rattle.problem_builder.specs.Laws.{ConstantPairEncloses, ConstantPairIsOne, ProblemExcludesRefusal, ProblemFits, ProblemIsOne, StartHeadsAreOne}
-pub use Rattle.problem_builder.specs.Laws.{StartHeadsFit}
-pub use Rattle.problem_builder.specs.Problems.{IsProblemOf}
 pub use Rattle.problem_builder.specs.Thicknesses.{Thicknesses}
+pub use Rattle.problem_hull.specs.Hulls.{IsCellHull, IsEvapHull, IsFixedHull, IsHull, IsLinkHull}
+pub use Rattle.problem_hull.specs.Threes.{AllThree, next, none}
 pub use Rattle.step_chain.proofs.Assembled.{active_constant, constant_not_variable, count_is, index_below, number_is}
 pub use Rattle.step_chain.proofs.OneStep.{same_bound, same_bounds}
 pub use Rattle.step_chain.specs.GridHeads.{bound_at}
 pub use Rattle.step_chain.specs.Laws.{HeadsFit, RefusalIsOne}
 pub use Rattle.step_chain.specs.Steps.{HasNoHeads, IsPosed, IsSettledStep}
 pub use Rattle.step_chain.specs.declared.solved.Solved.{Solved}
+pub use Rattle.step_problem.specs.Conditions.{IsHead, IsProblem}
 pub use Rattle.step_problem.specs.Entries.{Entries, entries_at, no_entries}
 pub use Rattle.step_problem.specs.Heads.{Edges, IsCertificate, lower_at, no_bound, upper_at}
+pub use Rattle.step_problem.specs.declared.entry.Fixed.{Fixed}
+pub use Rattle.step_problem.specs.declared.entry.FixedKind.{FixedKind}
+pub use Rattle.step_problem.specs.declared.entry.FixedKind.TheVariants.{Constant, Storage}
+pub use Rattle.step_problem.specs.declared.entry.Link.{Link}
 pub use Rattle.step_problem.specs.declared.heads.Bound.{Bound}
 pub use Rattle.step_problem.specs.declared.heads.Side.{Side}
 pub use Rattle.step_problem.specs.declared.heads.Side.TheVariants.{High, Low}
@@ -92,7 +103,7 @@ pub use Rattle.step_problem.specs.declared.place.Term.{Term}
 pub use Rattle.step_problem.specs.declared.place.ZoneFlow.{ZoneFlow}
 pub use Rattle.zone_flows.specs.Exact.{EncloseExact, exact_faces, exact_flow}
 pub use Rattle.zone_flows.specs.Faces.{Face, face_between, faces_by_kind, fixed_faces, flows_between, is_lower_zone, link_faces}
-unfoldable pub use Rattle.zone_flows.specs.Faces.{cell_faces, face_from}
+unfoldable pub use Rattle.zone_flows.specs.Faces.{cell_faces, face_from, faces}
 pub use Rattle.zone_flows.specs.Pairs.{AreZoneFlows, IsBeforeAll, IsZoneFlow, PairsAscend, ShareFace}
 pub use Rattle.zone_flows.specs.Tables.{key_of}
 pub use Rattle.zone_pairs.proofs.Joined.{SharedFace, any_in, face_of, in_any, join_of, shared_small, shares, zone_small}

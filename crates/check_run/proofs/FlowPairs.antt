@@ -4,15 +4,11 @@ use Rattle.check_run.proofs.Common.{subst, arith, inl, inr, ℤ, AllZip, cons_op
 use Rattle.check_run.proofs.Common.{map-append, flat_map-append, Bound, ZoneFlow, Entries, entries_at, no_entries, lower_at, upper_at, FlowModel, TimeStep}
 use Rattle.check_run.proofs.Common.{cell_count, is_variable, is_constant, index_of, variable_cells, FixedSource, as_general, constant_faces, fixed_sources}
 use Rattle.check_run.proofs.Common.{local_entries, storage_at, variable_faces, period_at, passing, at_rank, below_is, index_is, IsCellOf, IsFixed, IsLink}
-use Rattle.check_run.proofs.Common.{IsProblemOf, Thicknesses, ids_are, index_below, Face, cell_faces, face_between, face_from, faces_by_kind, fixed_faces}
-use Rattle.check_run.proofs.Common.{is_lower_zone, link_faces, pairs_in, share_face, zone_pairs, zones_of_flow, AreNumbers, AreFlowsOf, faces_of, through}
-use Rattle.check_run.proofs.Common.{HasSize, end_within, passing_are, In, variable-In, shared_small}
-use Rattle.zone_flows.specs.Faces.{faces}
+use Rattle.check_run.proofs.Common.{Thicknesses, ids_are, index_below, Face, cell_faces, face_between, face_from, faces_by_kind, fixed_faces, is_lower_zone}
+use Rattle.check_run.proofs.Common.{link_faces, pairs_in, share_face, zone_pairs, zones_of_flow, AreNumbers, AreFlowsOf, faces_of, through, HasSize, end_within}
+use Rattle.check_run.proofs.Common.{passing_are, In, variable-In, shared_small, faces, Fixed, FixedKind, Constant, Link}
+use Rattle.problem_builder.specs.Problems.{IsProblemOf}
 use Rattle.std.specs.Option.{option_to_list}
-use Rattle.step_problem.specs.declared.entry.Fixed.{Fixed}
-use Rattle.step_problem.specs.declared.entry.FixedKind.{FixedKind}
-use Rattle.step_problem.specs.declared.entry.FixedKind.TheVariants.{Constant}
-use Rattle.step_problem.specs.declared.entry.Link.{Link}
 use Rattle.model_types.specs.declared.entry.Entry.{Entry}
 use Rattle.model_types.specs.declared.entry.Entry.TheVariants.{Well, River, Drain, General}
 use Rattle.model_types.specs.declared.face.Face.{Face as ModelFace}
@@ -23,10 +19,10 @@ use Rattle.check_run.proofs.FaceKeys.{cell_keys, face_keys, key_shares, keys_fro
 use Rattle.check_run.proofs.FlowKeys.{face_key, flow_pairs}
 
 -- the keys of faces
-abbrev keys_of : List Face → List ℕ
+abbrev pub keys_of : List Face → List ℕ
 keys_of fs = map face_key fs
 
-joined : (xs ys : List Face) → keys_of (xs ++ ys) ≡ keys_of xs ++ keys_of ys
+pub joined : (xs ys : List Face) → keys_of (xs ++ ys) ≡ keys_of xs ++ keys_of ys
 joined xs ys = map-append face_key xs ys
 
 on_test : (b : Bool) (f : Face) → keys_of (cond b (f ∷ []) []) ≡ cond b (face_key f ∷ []) []
@@ -34,11 +30,11 @@ on_test true f = refl
 on_test false f = refl
 
 module _ (zones : List ℕ) (l u : ℕ → ℤ) where
-  from_key : (x y lo hi : ℕ) → keys_of (face_from zones l u x y lo hi) ≡ keys_from zones x y
+  pub from_key : (x y lo hi : ℕ) → keys_of (face_from zones l u x y lo hi) ≡ keys_from zones x y
   unfolding face_from keys_from
   from_key x y lo hi = on_test (is_lower_zone (slice_index zones x) (slice_index zones y)) (face_between zones l u x y lo hi)
 
-  both_keys : (x y lo hi : ℕ) → keys_of (face_from zones l u x y lo hi ++ face_from zones l u y x lo hi) ≡ keys_from zones x y ++ keys_from zones y x
+  pub both_keys : (x y lo hi : ℕ) → keys_of (face_from zones l u x y lo hi ++ face_from zones l u y x lo hi) ≡ keys_from zones x y ++ keys_from zones y x
   both_keys x y lo hi =
       joined (face_from zones l u x y lo hi) (face_from zones l u y x lo hi)
       ∙ ap (λ (ks : List ℕ). ks ++ keys_of (face_from zones l u y x lo hi)) (from_key x y lo hi)
@@ -179,15 +175,20 @@ module _ (zones : List ℕ) (l u : ℕ → ℤ) where
       unfolding faces face_keys
       problem_keys h = all_cells es (variable_cells m p) (λ c i. (variable-In m p (cell_count m.grid) c i).1) h
 
--- The flows of a step's problem have the pairs of the step's period.
-pub flows_have_pairs : (m : FlowModel) (s : ℕ) (at : TimeStep) (old : List Bound) (p : List Entries) → HasSize m.grid → IsProblemOf m s at old p →
-    (heads : List Bound) (zones : Option (List ℕ)) (flows : List ZoneFlow) → AreNumbers zones → AreFlowsOf p heads zones flows → map zones_of_flow flows ≡ pairs_in m zones at.period
+-- The faces of a model's problem have the keys of the step's period.
+pub model_keys : (m : FlowModel) (s : ℕ) (at : TimeStep) (old : List Bound) (p : List Entries) → HasSize m.grid → IsProblemOf m s at old p → (heads : List Bound) (zones : List ℕ) →
+    keys_of (faces_of p heads zones) ≡ face_keys m zones at.period
+model_keys m s at old p size is heads zones =
+    problem_keys zones (lower_at heads) (upper_at heads) m is.widths s at old size p (ids_are m is.widths s at old p is.cells) is.cells.each
+
+-- Flows across faces of these keys have the pairs of the step's period.
+pub keys_have_pairs : (m : FlowModel) (at : TimeStep) (p : List Entries) → HasSize m.grid → (heads : List Bound) →
+    ((zones : List ℕ) → keys_of (faces_of p heads zones) ≡ face_keys m zones at.period) →
+    (zones : Option (List ℕ)) (flows : List ZoneFlow) → AreNumbers zones → AreFlowsOf p heads zones flows → map zones_of_flow flows ≡ pairs_in m zones at.period
 unfolding zone_pairs
-flows_have_pairs m s at old p size is heads None flows zoned are = ap (map zones_of_flow) are
-flows_have_pairs m s at old p size is heads (Some zones) flows zoned are =
-    let ids = ids_are m is.widths s at old p is.cells in
-    let keys : keys_of (faces_of p heads zones) ≡ face_keys m zones at.period = problem_keys zones (lower_at heads) (upper_at heads) m is.widths s at old size p ids is.cells.each in
+keys_have_pairs m at p size heads keys None flows zoned are = ap (map zones_of_flow) are
+keys_have_pairs m at p size heads keys (Some zones) flows zoned are =
     flow_pairs (faces_of p heads zones) (faces_fit zones (lower_at heads) (upper_at heads) zoned p) flows are (share_face m zones at.period)
-    (λ q i. key_shares m zones at.period size zoned q (subst (λ ks. In ks q) keys i))
-    (λ q t. subst (λ ks. In ks q) (sym keys) (shared_key m zones at.period size q t))
+    (λ q i. key_shares m zones at.period size zoned q (subst (λ ks. In ks q) (keys zones) i))
+    (λ q t. subst (λ ks. In ks q) (sym (keys zones)) (shared_key m zones at.period size q t))
     (λ z t. (shared_small m zones zoned at.period z t).0)

@@ -10,7 +10,10 @@ pub mod Narrow
 pub mod FaceKeys
 pub mod FlowKeys
 pub mod FlowPairs
+pub mod HullPairs
+pub mod Passed
 pub mod Checking
+pub mod DeckCells
 pub mod RunSteps
 pub mod RunTerms
 pub mod RunListed

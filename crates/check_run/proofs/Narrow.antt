@@ -1,7 +1,6 @@
 -- The walk over listed flows between zones and computed ones.
-use Rattle.check_run.proofs.Common.{◌≡◌, ◌∙◌, ℕ, zero, suc, ◌+◌, ◌<◌, ◌≤◌, inl, inr, List, [], ◌∷◌, length, map, drop, get_or, drop-cons, add-one, refl, sym}
-use Rattle.check_run.proofs.Common.{ap, subst, arith, pos, AllZip, drop_all, get_or-map, length-map, ZoneFlow, ZonePair, zones_of_flow, CoversFlow}
-use Rattle.check_run.proofs.Common.{IsFirstNarrow}
+use Rattle.check_run.proofs.Common.{◌≡◌, ◌∙◌, ℕ, ◌+◌, ◌<◌, ◌≤◌, inl, inr, List, [], ◌∷◌, length, map, drop, get_or, drop-cons, add-one, refl, sym, ap, subst}
+use Rattle.check_run.proofs.Common.{arith, pos, AllZip, drop_all, get_or-map, length-map, ZoneFlow, ZonePair, zones_of_flow, CoversFlow, IsFirstNarrow}
 
 -- what holds of the rest holds of all
 pub record GoesOn (listed computed xs ys : List ZoneFlow) : Type 0 where

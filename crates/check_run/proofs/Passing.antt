@@ -1,12 +1,14 @@
 -- A listed step that passes bounds every solution.
-use Rattle.check_run.proofs.Common.{◌≡◌, ℕ, ◌+◌, ◌<◌, ◌^◌, inl, inr, true, List, [], ◌∷◌, length, All, Contains, Option, Some, None, sym, ap, ◌∙◌, subst, arith}
-use Rattle.check_run.proofs.Common.{ℤ, pos, ◌*ℤ◌, ◌≤ℤ◌, AllByRecursion, AllZip, IfSome, All-from_recursion, recursion_from_All, cases_Bool, ints, Fraction, den}
-use Rattle.check_run.proofs.Common.{Bound, Low, High, ZoneFlow, Entries, lower_at, upper_at, Budget, CoverEncloses, Covers, EnclosesBudgets, HeadsAreWithin}
+use Rattle.check_run.proofs.Common.{◌≡◌, ℕ, ◌+◌, ◌<◌, ◌^◌, inl, inr, true, List, [], ◌∷◌, length, Contains, Option, Some, None, sym, ◌∙◌, subst, arith, ℤ, pos}
+use Rattle.check_run.proofs.Common.{◌*ℤ◌, ◌≤ℤ◌, AllByRecursion, AllZip, IfSome, All-from_recursion, recursion_from_All, cases_Bool, ints, Fraction, den, Bound}
+use Rattle.check_run.proofs.Common.{Low, High, ZoneFlow, Entries, lower_at, upper_at, Budget, CoverEncloses, Covers, EnclosesBudgets, HeadsAreWithin}
 use Rattle.check_run.proofs.Common.{EnclosesSolutions, exact_step, heads_of, variable_heads, FlowModel, TimeStep, cell_count, constant_head, is_variable}
-use Rattle.check_run.proofs.Common.{is_constant, index_of, times, IsModel, AreConstantHeads, IsActive, IsNamed, HeadsEnclose, ConstantPairEncloses, bound_at}
-use Rattle.check_run.proofs.Common.{active_constant, index_below, count_is, number_is, EncloseExact, exact_faces, exact_flow, ZonePair, BoundsMoves, CoversFlow}
-use Rattle.check_run.proofs.Common.{AreWide, ConstantsReach, IsConstantCell, variable_bounds, checked_task, step_of}
+use Rattle.check_run.proofs.Common.{is_constant, index_of, times, IsActive, IsNamed, bound_at, active_constant, index_below, count_is, number_is, EncloseExact}
+use Rattle.check_run.proofs.Common.{exact_faces, exact_flow, ZonePair, CoversFlow, AreWide, ConstantsReach, IsConstantCell, variable_bounds, checked_task}
+use Rattle.check_run.proofs.Common.{step_of, Decks, AreDecks, EachMember, IsMember, AreConstantHeadsFor, ConstantPairEncloses, HasCellsOf, cell_of_member}
+use Rattle.check_run.proofs.Common.{constant_same, member_cells, of_member, BoundsMovesOf}
 use Rattle.decimal_input.specs.Enclosures.{EnclosesSigned}
+use Rattle.deck_problems.specs.Made.{EnclosesSteps}
 use Rattle.decimal_input.proofs.Enclosing.{whole_signed}
 use Rattle.cell_balance.specs.Steps.{ExactCell}
 use Rattle.cell_balance.specs.Enclosures.{EnclosesStep, CellEncloses}
@@ -57,33 +59,47 @@ wide_enclose s e (Some zones) h listed flows covers encloses =
     let E : ZoneFlow → Type 0 = λ v. EnclosesSigned v.lo v.hi (s + 9) (exact_flow v.from v.to (exact_faces zones h e)) in
     All-from_recursion E listed (flows_wider s e zones h listed flows covers (recursion_from_All E flows encloses))
 
-module _ (m : FlowModel) (s : ℕ) (at : TimeStep) (old : List Bound) (p : List Entries) (constant_heads heads : List Bound)
-    (model : IsModel m) (time : Contains (times m) at) (are : AreConstantHeads m at constant_heads) (pair_encloses : ConstantPairEncloses)
-    (encloses : (before : ℕ → Fraction) → HeadsEnclose m old before → EnclosesStep s p (exact_step m at.period at.step before))
-    (named : (c : ℕ) → IsNamed p c → IsActive m c)
-    (constants : ConstantsReach m at heads)
-    (solutions : EnclosesSolutions p (lower_at (variable_bounds m at heads)) (upper_at (variable_bounds m at heads))) where
+module _ (ds : Decks) (s : ℕ) (at : TimeStep) (old : List Bound) (p : List Entries) (constant_heads heads : List Bound)
+    (valid : AreDecks ds) (time : Contains (times ds.first) at) (are : AreConstantHeadsFor ds at constant_heads) (pair_encloses : ConstantPairEncloses)
+    (all_enclose : EachMember ds (EnclosesSteps s at old p))
+    (named : (c : ℕ) → IsNamed p c → IsActive ds.first c)
+    (constants : ConstantsReach ds at heads)
+    (solutions : EnclosesSolutions p (lower_at (variable_bounds ds at heads)) (upper_at (variable_bounds ds at heads)))
+    (m : FlowModel) (member : IsMember ds m) where
+  cells : HasCellsOf ds.first m
+  cells = member_cells ds m member
+
+  encloses : EnclosesSteps s at old p m
+  encloses = of_member ds (EnclosesSteps s at old p) all_enclose m member
+
   module _ (before : ℕ → Fraction) (d : ℕ) (X : ℕ → ℤ) (move : IsMove m at old before d X) where
     step : EnclosesStep s p (exact_step m at.period at.step before)
     step = encloses before move.within
 
-    between : LiesBetween (length p) d (variable_heads (exact_step m at.period at.step before) X) (lower_at (variable_bounds m at heads)) (upper_at (variable_bounds m at heads))
+    between : LiesBetween (length p) d (variable_heads (exact_step m at.period at.step before) X) (lower_at (variable_bounds ds at heads)) (upper_at (variable_bounds ds at heads))
     between = solutions s (exact_step m at.period at.step before) d (variable_heads (exact_step m at.period at.step before) X) step move.some move.solves.balances
 
     variable_holds : (c : ℕ) → c < cell_count m.grid → is_variable m at.period c ≡ true → Holds (bound_at heads c) d (X c)
     variable_holds c lt v =
         let k : ℕ = index_of m at.period c in
         let inside : k < length p = omega (arith, AllZip-length (CellEncloses s) p (exact_step m at.period at.step before) step.cells, count_is m at.period at.step before, index_below m at.period c v lt) in
-        let P : ℕ → Type 0 = λ i. Holds (bound_at (variable_bounds m at heads) k) d (X i) in
+        let P : ℕ → Type 0 = λ i. Holds (bound_at (variable_bounds ds at heads) k) d (X i) in
         let Q : Bound → Type 0 = λ b. Holds b d (X c) in
-        subst Q (variable_listed m at heads c v lt) (subst P (number_is m at.period at.step c before v lt) (record { low = between.low k inside; high = between.high k inside }))
+        let of_first : is_variable ds.first at.period c ≡ true = sym (cells.variable at.period c) ∙ v in
+        let inside_first : c < cell_count ds.first.grid = subst (λ (n : ℕ). c < n) cells.count lt in
+        let I : ℕ → Type 0 = λ i. bound_at (variable_bounds ds at heads) i ≡ bound_at heads c in
+        subst Q (subst I (sym (cells.index at.period c)) (variable_listed ds at heads c of_first inside_first)) (subst P (number_is m at.period at.step c before v lt) (record { low = between.low k inside; high = between.high k inside }))
 
     constant_holds : (c : ℕ) → c < cell_count m.grid → is_constant m at.period c ≡ true → Holds (bound_at heads c) d (X c)
     constant_holds c lt e =
         let pair = bound_at constant_heads c in
-        let held = (are.each c lt).constant e in
-        let b = whole_signed pair.low pair.high 9 d (constant_head m at.period at.step c) (X c) (pair_encloses m at c pair.low pair.high model time lt e held) (move.solves.constant c lt e) in
-        let cell : IsConstantCell m at c = record { within = lt; constant = e } in
+        let of_first : is_constant ds.first at.period c ≡ true = sym (constant_same ds.first m cells at.period c) ∙ e in
+        let inside : c < cell_count ds.first.grid = subst (λ (n : ℕ). c < n) cells.count lt in
+        let held = (are.each c inside).constant of_first in
+        let H : FlowModel → Type 0 = λ n. EnclosesSigned pair.low pair.high 9 (constant_head n at.period at.step c) in
+        let here = of_member ds H (pair_encloses ds at c pair.low pair.high (record { decks = valid; time = time; within = inside; constant = of_first }) held) m member in
+        let b = whole_signed pair.low pair.high 9 d (constant_head m at.period at.step c) (X c) here (move.solves.constant c lt e) in
+        let cell : IsConstantCell ds at c = record { within = inside; constant = of_first } in
         wider pair (bound_at heads c) d (X c) (constants c cell Low pair held) (constants c cell High pair held) (record { low = b.lower; high = b.upper })
 
     active_holds : (c : ℕ) → IsActive m c → Holds (bound_at heads c) d (X c)
@@ -95,15 +111,17 @@ module _ (m : FlowModel) (s : ℕ) (at : TimeStep) (old : List Bound) (p : List 
     lies : LiesWithin m heads d X
     lies = record { low = λ c a. (active_holds c a).low; high = λ c a. (active_holds c a).high }
 
-  pub listed_moves : CoverEncloses → HeadsAreWithin → (listed computed : Budget) → Covers listed computed → EnclosesBudgets p (lower_at (variable_bounds m at heads)) (upper_at (variable_bounds m at heads)) computed →
+  -- the listed step bounds each move of the member
+  pub member_moves : CoverEncloses → HeadsAreWithin → (listed computed : Budget) → Covers listed computed → EnclosesBudgets p (lower_at (variable_bounds ds at heads)) (upper_at (variable_bounds ds at heads)) computed →
       (zones : Option (List ℕ)) (flows : List ZoneFlow) → AreWide p heads zones flows →
-      BoundsMoves (checked_task m s zones) at old (step_of at (record { heads = heads; budget = listed; zones = flows }))
-  listed_moves cover within listed computed covers terms zones flows wide before d X move =
+      BoundsMovesOf (checked_task ds s zones) at old (step_of at (record { heads = heads; budget = listed; zones = flows })) m
+  member_moves cover within listed computed covers terms zones flows wide before d X move =
       let e = exact_step m at.period at.step before in
       let Y : ℕ → ℤ = variable_heads e X in
-      let inside = within (length p) d Y (lower_at (variable_bounds m at heads)) (upper_at (variable_bounds m at heads)) move.some (between before d X move) in
+      let inside = within (length p) d Y (lower_at (variable_bounds ds at heads)) (upper_at (variable_bounds ds at heads)) move.some (between before d X move) in
+      let active = λ (c : ℕ) (k : IsNamed p c). cell_of_member ds.first m cells c (named c k) in
       record {
         heads = lies before d X move;
         budget = cover listed computed s e (heads_of d Y) covers (terms s e (heads_of d Y) (step before d X move) inside);
-        zones = wide_enclose s e zones (heads_of d X) flows wide.flows wide.wide (flows_enclose zones p heads wide.flows wide.encloses s e (heads_of d X) (step before d X move) (heads_named m p named heads (heads_of d X) (within_enclosed m heads d X move.some (lies before d X move))));
+        zones = wide_enclose s e zones (heads_of d X) flows wide.flows wide.wide (flows_enclose zones p heads wide.flows wide.encloses s e (heads_of d X) (step before d X move) (heads_named m p active heads (heads_of d X) (within_enclosed m heads d X move.some (lies before d X move))));
       }

@@ -1,42 +1,42 @@
 -- The constant cells of a time whose listed bounds are as wide as their pairs.
 use Rattle.check_run.proofs.Common.{◌≡◌, ℕ, ◌+◌, ◌<◌, ◌≤◌, inl, inr, true, cond, List, Contains, sym, ap, ◌∙◌, subst, arith, cases_order, Bound, Side, Low}
-use Rattle.check_run.proofs.Common.{High, FlowModel, TimeStep, cell_count, is_constant, kind_of, times, IsModel, AreConstantHeads, ConstantPairIsOne, bound_at}
-use Rattle.check_run.proofs.Common.{constant_not_variable, same_bound, ConstantsReach, IsConstantCell, IsFirstShort, ReachesAt, ReachesOn}
+use Rattle.check_run.proofs.Common.{High, FlowModel, TimeStep, cell_count, is_constant, kind_of, times, bound_at, constant_not_variable, same_bound}
+use Rattle.check_run.proofs.Common.{ConstantsReach, IsConstantCell, IsFirstShort, ReachesAt, ReachesOn, Decks, AreDecks, AreConstantHeadsFor, ConstantPairIsOne}
 use Rattle.model_types.specs.declared.kind.Kind.TheVariants.{NoFlow, Constant, Variable}
 use Rattle.problem_builder.proofs.KindsOf.{constant_kind}
 
 kind_constant : (m : FlowModel) (p c : ℕ) → is_constant m p c ≡ true → kind_of m p c ≡ Constant
 kind_constant m p c e = ap (λ v. cond v Variable (cond (is_constant m p c) Constant NoFlow)) (constant_not_variable m p c e) ∙ ap (λ k. cond k Constant NoFlow) e
 
-module _ (m : FlowModel) (at : TimeStep) (constant_heads heads : List Bound) (are : AreConstantHeads m at constant_heads)
-    (one : ConstantPairIsOne) (model : IsModel m) (time : Contains (times m) at) where
-  reaches : (c : ℕ) (side : Side) → IsConstantCell m at c → ReachesOn side (bound_at heads c) (bound_at constant_heads c) → ReachesAt m at heads c side
+module _ (ds : Decks) (at : TimeStep) (constant_heads heads : List Bound) (are : AreConstantHeadsFor ds at constant_heads)
+    (one : ConstantPairIsOne) (valid : AreDecks ds) (time : Contains (times ds.first) at) where
+  reaches : (c : ℕ) (side : Side) → IsConstantCell ds at c → ReachesOn side (bound_at heads c) (bound_at constant_heads c) → ReachesAt ds at heads c side
   reaches c side cell h = λ pair is.
       let held = (are.each c cell.within).constant cell.constant in
-      let same = one m at c _ _ pair.low pair.high model time cell.within cell.constant held is in
+      let same = one ds at c _ _ pair.low pair.high (record { decks = valid; time = time; within = cell.within; constant = cell.constant }) held is in
       let P : Bound → Type 0 = ReachesOn side (bound_at heads c) in
       subst P (same_bound (bound_at constant_heads c) pair same) h
 
   -- the constant cells below n are as wide as their pairs
   abbrev pub AreReached : ℕ → Type 0
-  AreReached n = (c : ℕ) → c < n → IsConstantCell m at c → (side : Side) → ReachesAt m at heads c side
+  AreReached n = (c : ℕ) → c < n → IsConstantCell ds at c → (side : Side) → ReachesAt ds at heads c side
 
-  pub reached_next : (n : ℕ) → (kind_of m at.period n ≡ Constant → (side : Side) → ReachesOn side (bound_at heads n) (bound_at constant_heads n)) → AreReached n → AreReached (n + 1)
+  pub reached_next : (n : ℕ) → (kind_of ds.first at.period n ≡ Constant → (side : Side) → ReachesOn side (bound_at heads n) (bound_at constant_heads n)) → AreReached n → AreReached (n + 1)
   reached_next n here before c lt cell side = elim (cases_order c n) [
-    | inl same ↦ (let P : ℕ → Type 0 = λ k. ReachesAt m at heads k side in
-        let this : IsConstantCell m at n = subst (IsConstantCell m at) same cell in
-        subst P (sym same) (reaches n side this (here (kind_constant m at.period n this.constant) side)))
+    | inl same ↦ (let P : ℕ → Type 0 = λ k. ReachesAt ds at heads k side in
+        let this : IsConstantCell ds at n = subst (IsConstantCell ds at) same cell in
+        subst P (sym same) (reaches n side this (here (kind_constant ds.first at.period n this.constant) side)))
     | inr (inl less) ↦ before c less cell side
     | inr (inr more) ↦ absurd (omega (arith, lt, more))
   ]
 
-  pub all_reached : (n : ℕ) → cell_count m.grid ≤ n → AreReached n → ConstantsReach m at heads
+  pub all_reached : (n : ℕ) → cell_count ds.first.grid ≤ n → AreReached n → ConstantsReach ds at heads
   all_reached n past before c cell side = before c (omega (arith, cell.within, past)) cell side
 
-  pub first_short : (n : ℕ) (side : Side) → n < cell_count m.grid → kind_of m at.period n ≡ Constant → (ReachesOn side (bound_at heads n) (bound_at constant_heads n) → ⊥) →
-      (side ≡ High → ReachesOn Low (bound_at heads n) (bound_at constant_heads n)) → AreReached n → IsFirstShort m at heads n side
+  pub first_short : (n : ℕ) (side : Side) → n < cell_count ds.first.grid → kind_of ds.first at.period n ≡ Constant → (ReachesOn side (bound_at heads n) (bound_at constant_heads n) → ⊥) →
+      (side ≡ High → ReachesOn Low (bound_at heads n) (bound_at constant_heads n)) → AreReached n → IsFirstShort ds at heads n side
   first_short n side lt kind short low before =
-      let cell : IsConstantCell m at n = record { within = lt; constant = constant_kind m at.period n kind } in
+      let cell : IsConstantCell ds at n = record { within = lt; constant = constant_kind ds.first at.period n kind } in
       record {
         cell = cell;
         short = λ h. short (h (bound_at constant_heads n) ((are.each n lt).constant cell.constant));

@@ -1,18 +1,18 @@
 -- The steps of a run are steps that a listing can have.
-use Rattle.check_run.proofs.Common.{◌≡◌, ℕ, zero, suc, ◌+◌, ◌<◌, false, List, [], ◌∷◌, length, map, All, Ok, refl, sym, ap, subst, arith, ℤ, pos, negsuc, neg_ℤ}
-use Rattle.check_run.proofs.Common.{◌+ℤ◌, ◌≤ℤ◌, ◌<ℤ◌, unsigned_abs, nat_abs, ◌^◌, ◌≤◌, Option, Some, None, ◌∙◌, AllZip, ints, All-weaker, Bound, Out, ZoneFlow}
-use Rattle.check_run.proofs.Common.{Entries, entries_at, no_bound, lower_at, upper_at, Budget, TermPair, all_terms, term_limit, Face, flows_between, pairs_in}
-use Rattle.check_run.proofs.Common.{AreNumbers, FlowModel, TimeStep, cell_count, variable_below, evap_sources, period_at, times, IsModel, IsCellOf, IsEvap}
-use Rattle.check_run.proofs.Common.{AreGridHeads, StartHeadsFit, Thicknesses, one_deck, IsBefore, Solved, bound_at, HeadsFit, IsSettledStep, AreCellBounds}
-use Rattle.check_run.proofs.Common.{AreFlows, AreFlowsAt, AreListed, IsCellBound, IsFlowPair, IsListedStep, has_evt, zone_pair, Task, Step, Whole, AllSteps}
-use Rattle.check_run.proofs.Common.{IsStep, Steps, budget_at, one_task, AreFlowsOf, faces_of, IsRest, first_in, rest_more, rest_whole, as_listed, nat_tests}
-use Rattle.check_run.proofs.Common.{IsZoneFlow, is_nonzero}
+use Rattle.check_run.proofs.Common.{◌≡◌, ℕ, zero, suc, ◌+◌, ◌<◌, false, List, [], ◌∷◌, length, map, All, Ok, refl, sym, ap, subst, arith, ℤ, pos, negsuc, ◌+ℤ◌}
+use Rattle.check_run.proofs.Common.{◌≤ℤ◌, ◌<ℤ◌, unsigned_abs, nat_abs, ◌^◌, ◌≤◌, Option, Some, None, AllZip, ints, All-weaker, Bound, Out, ZoneFlow, Entries}
+use Rattle.check_run.proofs.Common.{entries_at, no_bound, lower_at, upper_at, Budget, TermPair, all_terms, term_limit, Face, flows_between, pairs_in}
+use Rattle.check_run.proofs.Common.{AreNumbers, FlowModel, TimeStep, cell_count, variable_below, evap_sources, period_at, times, IsCellOf, IsEvap, AreGridHeads}
+use Rattle.check_run.proofs.Common.{Thicknesses, Solved, bound_at, HeadsFit, IsSettledStep, AreCellBounds, AreFlows, AreFlowsAt, AreListed, IsCellBound}
+use Rattle.check_run.proofs.Common.{IsFlowPair, IsListedStep, has_evt, zone_pair, Task, Step, Whole, AllSteps, IsStep, Steps, budget_at, AreFlowsOf, faces_of}
+use Rattle.check_run.proofs.Common.{IsRest, first_in, rest_more, rest_whole, as_listed, nat_tests, IsZoneFlow, is_nonzero, IsEvapHull, IsHull, AllThree, next}
+use Rattle.check_run.proofs.Common.{none, IsProblemBy, IsBefore, StartHeadsFit, deck_task, Decks, AreDecks}
 use Rattle.step_problem.specs.declared.place.Dir.TheVariants.{In}
-use Rattle.std.specs.Prelude.{Contains}
 use Rattle.step_problem.specs.Flows.{total}
 use Rattle.model_types.specs.Receivers.{is_chosen}
 use Rattle.step_chain.specs.Pairs.PairKind.{settled as settled_kind}
-use Rattle.check_run.proofs.FlowPairs.{flows_have_pairs}
+use Rattle.step_problem.specs.declared.entry.Evap.{Evap}
+use Rattle.check_run.proofs.HullPairs.{flows_have_pairs}
 use Rattle.check_run.proofs.RunTerms.{as_many, budget_are, flows_are, no_et}
 
 -- Without EVT no cell evaporates.
@@ -56,21 +56,36 @@ cell_bounds m c (b ∷ bs) h =
           subst Q next (h (suc k) (omega (arith, lt)))),
     )
 
-module _ (m : FlowModel) (s : ℕ) (at : TimeStep) (old : List Bound) (x : Solved) (settled : IsSettledStep (one_deck m) s at old x) (grid : AreGridHeads m x.heads) where
-  cell_bound : (c : ℕ) → c < length x.heads → IsCellBound m (0 + c) (bound_at x.heads c)
+-- the hull of a problem without evaporation has none
+hull_evaps : (p q r : List Entries) → IsHull p q r → ((k : ℕ) → k < length p → (entries_at p k).evaps ≡ []) → (k : ℕ) → k < length r → (entries_at r k).evaps ≡ []
+hull_evaps p q r none h k lt = absurd (omega (arith, lt))
+hull_evaps p q r (next {x = x} {z = z} c hs) h zero lt = no_hull x.evaps _ z.evaps c.evaps (h zero (omega arith))
+  where
+    no_hull : (xs ys zs : List Evap) → AllThree IsEvapHull xs ys zs → xs ≡ [] → zs ≡ []
+    no_hull xs ys zs none e = refl
+    no_hull xs ys zs (next {x = x} {xs = us} d ds) e = absurd (let bad : x ∷ us ≡ [] = e in cc)
+hull_evaps p q r (next c hs) h (suc k) lt = hull_evaps _ _ _ hs (λ i l. h (suc i) (omega (arith, l))) k (omega (arith, lt))
+
+decks_no_evaps : (a : FlowModel) (o : Option FlowModel) (s : ℕ) (at : TimeStep) (old : List Bound) → has_evt a ≡ false → (p : List Entries) → IsProblemBy a o s at old p → (k : ℕ) → k < length p → (entries_at p k).evaps ≡ []
+decks_no_evaps a None s at old e p is = no_evaps a is.widths s at old e p (variable_below a at.period (cell_count a.grid)) is.cells.each
+decks_no_evaps a (Some b) s at old e p is =
+    hull_evaps is.first is.second p is.hull (no_evaps a is.is_first.widths s at old e is.first (variable_below a at.period (cell_count a.grid)) is.is_first.cells.each)
+
+module _ (ds : Decks) (s : ℕ) (at : TimeStep) (old : List Bound) (x : Solved) (settled : IsSettledStep ds s at old x) (grid : AreGridHeads ds.first x.heads) where
+  cell_bound : (c : ℕ) → c < length x.heads → IsCellBound ds.first (0 + c) (bound_at x.heads c)
   cell_bound c lt =
       let range = grid.range c no_bound lt in
-      let P : ℕ → Type 0 = λ i. IsCellBound m i (bound_at x.heads c) in
+      let P : ℕ → Type 0 = λ i. IsCellBound ds.first i (bound_at x.heads c) in
       let same : c ≡ 0 + c = omega arith in
       subst P same (record { low = range.0; high = range.1; none = λ e. settled.heads.no_flow c (omega (arith, lt, grid.whole)) e })
 
-  is_listed : (b : Budget) (flows : List ZoneFlow) → budget_at x ≡ Ok b → IsListedStep m (record { heads = x.heads; budget = b; zones = flows })
+  is_listed : (b : Budget) (flows : List ZoneFlow) → budget_at x ≡ Ok b → IsListedStep ds.first (record { heads = x.heads; budget = b; zones = flows })
   is_listed b flows is =
       let (into, out) = budget_are x.problem (lower_at x.bounds) (upper_at x.bounds) b is in
-      let none = λ (e : has_evt m ≡ false). no_evaps m settled.posed.problem.widths s at old e x.problem (variable_below m at.period (cell_count m.grid)) settled.posed.problem.cells.each in
+      let none = λ (e : has_evt ds.first ≡ false). decks_no_evaps ds.first ds.second s at old e x.problem settled.posed.problem in
       record {
         whole = grid.whole;
-        heads = cell_bounds m 0 x.heads cell_bound;
+        heads = cell_bounds ds.first 0 x.heads cell_bound;
         into = record {
           eight = as_many x.problem (lower_at x.bounds) (upper_at x.bounds) In all_terms b.into into;
           small = flows_are x.problem (lower_at x.bounds) (upper_at x.bounds) In all_terms b.into into;
@@ -127,50 +142,50 @@ flows_small p heads (Some zones) vs are = All-weaker (IsZoneFlow (faces_of p hea
 
 -- All steps of a run.
 
-module _ (fits : HeadsFit) (m : FlowModel) (s : ℕ) (zones : Option (List ℕ)) (rounds : ℕ) (model : IsModel m) (zoned : AreNumbers zones) where
+module _ (fits : HeadsFit) (ds : Decks) (s : ℕ) (zones : Option (List ℕ)) (rounds : ℕ) (valid : AreDecks ds) (zoned : AreNumbers zones) where
   abbrev task : Task
-  task = one_task m s zones rounds
+  task = deck_task ds s zones rounds
 
-  module _ (at : TimeStep) (old : List Bound) (before : IsBefore (one_deck m) at old) (v : Step) (is : IsStep task at old v) where
-    solved_heads : AreGridHeads m is.solved.heads
-    solved_heads = fits (one_deck m) s at old settled_kind is.solved before is.settled
+  module _ (at : TimeStep) (old : List Bound) (before : IsBefore ds at old) (v : Step) (is : IsStep task at old v) where
+    solved_heads : AreGridHeads ds.first is.solved.heads
+    solved_heads = fits ds s at old settled_kind is.solved before is.settled
 
-    step_listed : IsListedStep m (as_listed v)
+    step_listed : IsListedStep ds.first (as_listed v)
     step_listed =
-        let P : List Bound → Type 0 = λ hs. IsListedStep m (record { heads = hs; budget = v.budget; zones = v.zones }) in
-        subst P (sym is.heads) (is_listed m s at old is.solved is.settled solved_heads v.budget v.zones is.budget)
+        let P : List Bound → Type 0 = λ hs. IsListedStep ds.first (record { heads = hs; budget = v.budget; zones = v.zones }) in
+        subst P (sym is.heads) (is_listed ds s at old is.solved is.settled solved_heads v.budget v.zones is.budget)
 
-    step_flows : AreFlows (pairs_in m zones at.period) v.zones
+    step_flows : AreFlows (pairs_in ds.first zones at.period) v.zones
     step_flows = record {
-      pairs = flows_have_pairs m s at old is.solved.problem model.grid.size is.settled.posed.problem is.solved.heads zones v.zones zoned is.zones;
+      pairs = flows_have_pairs ds s at old is.solved.problem valid.first.grid.size is.settled.posed.problem is.solved.heads zones v.zones zoned is.zones;
       small = flows_small is.solved.problem is.solved.heads zones v.zones is.zones;
     }
 
-    next_heads : AreGridHeads m v.heads
-    next_heads = subst (AreGridHeads m) (sym is.heads) solved_heads
+    next_heads : AreGridHeads ds.first v.heads
+    next_heads = subst (AreGridHeads ds.first) (sym is.heads) solved_heads
 
-  all_listed : (old : List Bound) (rest : List TimeStep) (values : List Step) → IsRest (times m) rest → AreGridHeads m old → Steps task old rest values Whole → (length (map as_listed values) ≡ length rest) × All (IsListedStep m) (map as_listed values)
+  all_listed : (old : List Bound) (rest : List TimeStep) (values : List Step) → IsRest (times ds.first) rest → AreGridHeads ds.first old → Steps task old rest values Whole → (length (map as_listed values) ≡ length rest) × All (IsListedStep ds.first) (map as_listed values)
   all_listed old [] [] r heads h = (refl, λ i d lt. absurd (omega (arith, lt)))
   all_listed old [] (v ∷ values) r heads h = absurd h
   all_listed old (at ∷ rest) [] r heads h = absurd h
   all_listed old (at ∷ rest) (v ∷ values) r heads (is, h) =
-      let before : IsBefore (one_deck m) at old = record { decks = record { first = model; second = tt }; time = r.each at (first_in at rest); heads = heads } in
-      let others = all_listed v.heads rest values (rest_more (times m) at rest r) (next_heads at old before v is) h in
+      let before : IsBefore ds at old = record { decks = valid; time = r.each at (first_in at rest); heads = heads } in
+      let others = all_listed v.heads rest values (rest_more (times ds.first) at rest r) (next_heads at old before v is) h in
       (ap suc others.0, each (step_listed at old before v is) others.1)
     where
-      each : IsListedStep m (as_listed v) → All (IsListedStep m) (map as_listed values) → All (IsListedStep m) (as_listed v ∷ map as_listed values)
+      each : IsListedStep ds.first (as_listed v) → All (IsListedStep ds.first) (map as_listed values) → All (IsListedStep ds.first) (as_listed v ∷ map as_listed values)
       each first more zero d lt = first
       each first more (suc i) d lt = more i d (omega (arith, lt))
 
-  all_flows : (old : List Bound) (rest : List TimeStep) (values : List Step) → IsRest (times m) rest → AreGridHeads m old → Steps task old rest values Whole → AllZip (AreFlowsAt (pairs_in m zones)) rest (map as_listed values)
+  all_flows : (old : List Bound) (rest : List TimeStep) (values : List Step) → IsRest (times ds.first) rest → AreGridHeads ds.first old → Steps task old rest values Whole → AllZip (AreFlowsAt (pairs_in ds.first zones)) rest (map as_listed values)
   all_flows old [] [] r heads h = tt
   all_flows old [] (v ∷ values) r heads h = absurd h
   all_flows old (at ∷ rest) [] r heads h = absurd h
   all_flows old (at ∷ rest) (v ∷ values) r heads (is, h) =
-      let before : IsBefore (one_deck m) at old = record { decks = record { first = model; second = tt }; time = r.each at (first_in at rest); heads = heads } in
-      (step_flows at old before v is, all_flows v.heads rest values (rest_more (times m) at rest r) (next_heads at old before v is) h)
+      let before : IsBefore ds at old = record { decks = valid; time = r.each at (first_in at rest); heads = heads } in
+      (step_flows at old before v is, all_flows v.heads rest values (rest_more (times ds.first) at rest r) (next_heads at old before v is) h)
 
-  pub are_listed : StartHeadsFit → (values : List Step) → AllSteps task values Whole → AreListed m (pairs_in m zones) (map as_listed values)
+  pub are_listed : StartHeadsFit → (values : List Step) → AllSteps task values Whole → AreListed ds.first (pairs_in ds.first zones) (map as_listed values)
   are_listed start_fits values h =
-      let all = all_listed h.start (times m) values (rest_whole (times m)) (start_fits m h.start model h.is_start) h.steps in
-      record { whole = all.0; steps = all.1; flows = all_flows h.start (times m) values (rest_whole (times m)) (start_fits m h.start model h.is_start) h.steps }
+      let all = all_listed h.start (times ds.first) values (rest_whole (times ds.first)) (start_fits ds h.start valid h.is_start) h.steps in
+      record { whole = all.0; steps = all.1; flows = all_flows h.start (times ds.first) values (rest_whole (times ds.first)) (start_fits ds h.start valid h.is_start) h.steps }

@@ -1,11 +1,12 @@
 -- The steps of a run pass the check.
-use Rattle.check_run.proofs.Common.{◌≡◌, ℕ, suc, ◌<◌, inl, List, [], ◌∷◌, length, map, get_or, Ok, refl, sym, ap, ◌∙◌, subst, arith, Option, AllZip, ints}
+use Rattle.check_run.proofs.Common.{◌≡◌, ℕ, ◌<◌, inl, List, [], ◌∷◌, length, map, get_or, Ok, refl, sym, ap, ◌∙◌, subst, arith, Option, AllZip, ints}
 use Rattle.check_run.proofs.Common.{get_or-map, length-map, Bound, Side, Low, High, ZoneFlow, Entries, no_bound, lower_at, upper_at, IsCertificate, Budget}
-use Rattle.check_run.proofs.Common.{budget_of, FlowModel, TimeStep, cell_count, is_variable, variable_cells, times, IsModel, IsAt, is_at, below_is, index_is}
-use Rattle.check_run.proofs.Common.{AreGridHeads, ProblemFits, ConstantPairIsOne, StartHeadsFit, ids_are, one_deck, IsBefore, Solved, bound_at, HeadsFit}
-use Rattle.check_run.proofs.Common.{IsSettledStep, Task, Step, Whole, IsStep, Steps, budget_at, one_task, IsRest, first_in, rest_more, rest_whole, Certified}
-use Rattle.check_run.proofs.Common.{CoversFlow, ConstantsReach, ReachesOn, variable_bounds, RunIsCertified, as_listed, Passes, Checks, same_bounds}
+use Rattle.check_run.proofs.Common.{budget_of, TimeStep, cell_count, is_variable, variable_cells, times, IsAt, is_at, below_is, index_is, AreGridHeads, Solved}
+use Rattle.check_run.proofs.Common.{bound_at, HeadsFit, IsSettledStep, Task, Step, Whole, IsStep, Steps, budget_at, IsRest, first_in, rest_more, rest_whole}
+use Rattle.check_run.proofs.Common.{Certified, CoversFlow, ConstantsReach, ReachesOn, variable_bounds, RunIsCertified, as_listed, Passes, Checks, same_bounds}
+use Rattle.check_run.proofs.Common.{IsProblem, ConstantPairIsOne, IsBefore, ProblemFits, StartHeadsFit, deck_task, Decks, AreDecks}
 use Rattle.step_problem.specs.Laws.{SettledPairCertifies}
+use Rattle.check_run.proofs.DeckCells.{decks_ids}
 use Rattle.step_chain.specs.Pairs.PairKind.{settled as settled_kind}
 use Rattle.listing_run.specs.Zones.{AreFlowsAt}
 use Rattle.check_run.proofs.Listed.{count_is}
@@ -27,43 +28,40 @@ pub record Laws : Type 0 where
   pub certifies : SettledPairCertifies
   pub heads_fit : HeadsFit
 
-module _ (m : FlowModel) (s : ℕ) (at : TimeStep) (old : List Bound) (x : Solved) (settled : IsSettledStep (one_deck m) s at old x) where
+module _ (ds : Decks) (s : ℕ) (at : TimeStep) (old : List Bound) (x : Solved) (fits : IsProblem x.problem) (ids : map (λ (e : Entries). e.id) x.problem ≡ variable_cells ds.first at.period) (settled : IsSettledStep ds s at old x) where
   abbrev cells : List ℕ
-  cells = variable_cells m at.period
+  cells = variable_cells ds.first at.period
 
-  ids : map (λ (e : Entries). e.id) x.problem ≡ cells
-  ids = ids_are m settled.posed.problem.widths s at old x.problem settled.posed.problem.cells
-
-  place : (k : ℕ) → k < length cells → IsAt (is_variable m at.period) (cell_count m.grid) k (get_or cells k 0)
+  place : (k : ℕ) → k < length cells → IsAt (is_variable ds.first at.period) (cell_count ds.first.grid) k (get_or cells k 0)
   place k lt =
-      let all = below_is m at.period (cell_count m.grid) in
-      let P : List ℕ → Type 0 = λ cs. IsAt (is_variable m at.period) (cell_count m.grid) k (get_or cs k 0) in
-      subst P (sym all) (is_at (is_variable m at.period) (cell_count m.grid) k (omega (arith, lt, ap length all)))
+      let all = below_is ds.first at.period (cell_count ds.first.grid) in
+      let P : List ℕ → Type 0 = λ cs. IsAt (is_variable ds.first at.period) (cell_count ds.first.grid) k (get_or cs k 0) in
+      subst P (sym all) (is_at (is_variable ds.first at.period) (cell_count ds.first.grid) k (omega (arith, lt, ap length all)))
 
   -- the heads of the variable cells are the settled pair's
-  listed_at : (k : ℕ) → k < length (variable_bounds m at x.heads) → bound_at (variable_bounds m at x.heads) k ≡ bound_at x.bounds k
+  listed_at : (k : ℕ) → k < length (variable_bounds ds at x.heads) → bound_at (variable_bounds ds at x.heads) k ≡ bound_at x.bounds k
   listed_at k lt =
       let inside : k < length cells = omega (arith, lt, length-map cells (bound_at x.heads)) in
       let c = place k inside in
       get_or-map (bound_at x.heads) cells k 0 no_bound inside
       ∙ settled.heads.variable (get_or cells k 0) c.within c.passes
-      ∙ ap (bound_at x.bounds) (index_is m at.period (get_or cells k 0) ∙ c.index)
+      ∙ ap (bound_at x.bounds) (index_is ds.first at.period (get_or cells k 0) ∙ c.index)
 
-  listed_are : variable_bounds m at x.heads ≡ x.bounds
-  listed_are = same_bounds (variable_bounds m at x.heads) x.bounds (length-map cells (bound_at x.heads) ∙ sym (count_is m at x.heads x.problem ids) ∙ sym settled.pair.whole) listed_at
+  listed_are : variable_bounds ds at x.heads ≡ x.bounds
+  listed_are = same_bounds (variable_bounds ds at x.heads) x.bounds (length-map cells (bound_at x.heads) ∙ sym (count_is ds at x.heads x.problem ids) ∙ sym settled.pair.whole) listed_at
 
-  module _ (laws : Laws) (before : IsBefore (one_deck m) at old) where
-    constants : ConstantsReach m at x.heads
+  module _ (laws : Laws) (before : IsBefore ds at old) where
+    constants : ConstantsReach ds at x.heads
     constants c cell side pair is =
         reaches side (bound_at x.heads c) pair
-        (laws.pair_one m at c (lower_at x.heads c) (upper_at x.heads c) pair.low pair.high before.decks.first before.time cell.within cell.constant (settled.heads.constant c cell.within cell.constant) is)
+        (laws.pair_one ds at c (lower_at x.heads c) (upper_at x.heads c) pair.low pair.high (record { decks = before.decks; time = before.time; within = cell.within; constant = cell.constant }) (settled.heads.constant c cell.within cell.constant) is)
 
     certificate : IsCertificate x.problem settled.barrier (lower_at x.bounds) (upper_at x.bounds)
     certificate =
         laws.certifies x.problem settled.barrier (lower_at x.bounds) (upper_at x.bounds)
-        (laws.problem_fits m s at old x.problem before.decks.first before.time before.heads settled.posed.problem) settled.posed.barrier.fits settled.pair.pair
+        fits settled.posed.barrier.fits settled.pair.pair
 
-    passes : (zones : Option (List ℕ)) (b : Budget) (flows : List ZoneFlow) → budget_at x ≡ Ok b → AreFlowsAt zones x flows → Passes m s zones at old (record { heads = x.heads; budget = b; zones = flows })
+    passes : (zones : Option (List ℕ)) (b : Budget) (flows : List ZoneFlow) → budget_at x ≡ Ok b → AreFlowsAt zones x flows → Passes ds s zones at old (record { heads = x.heads; budget = b; zones = flows })
     passes zones b flows is are =
         let C : List Bound → Type 0 = λ v. IsCertificate x.problem settled.barrier (lower_at v) (upper_at v) in
         let B : List Bound → Type 0 = λ v. budget_of x.problem (lower_at v) (upper_at v) ≡ Ok b in
@@ -81,30 +79,30 @@ module _ (m : FlowModel) (s : ℕ) (at : TimeStep) (old : List Bound) (x : Solve
           wide = wide_enough flows;
         }
 
-module _ (laws : Laws) (m : FlowModel) (s : ℕ) (zones : Option (List ℕ)) (rounds : ℕ) (model : IsModel m) where
+module _ (laws : Laws) (ds : Decks) (s : ℕ) (zones : Option (List ℕ)) (rounds : ℕ) (valid : AreDecks ds) where
   abbrev task : Task
-  task = one_task m s zones rounds
+  task = deck_task ds s zones rounds
 
-  module _ (at : TimeStep) (old : List Bound) (before : IsBefore (one_deck m) at old) (v : Step) (is : IsStep task at old v) where
-    step_passes : Passes m s zones at old (as_listed v)
+  module _ (at : TimeStep) (old : List Bound) (before : IsBefore ds at old) (v : Step) (is : IsStep task at old v) where
+    step_passes : Passes ds s zones at old (as_listed v)
     step_passes =
-        let P : List Bound → Type 0 = λ hs. Passes m s zones at old (record { heads = hs; budget = v.budget; zones = v.zones }) in
-        subst P (sym is.heads) (passes m s at old is.solved is.settled laws before zones v.budget v.zones is.budget is.zones)
+        let P : List Bound → Type 0 = λ hs. Passes ds s zones at old (record { heads = hs; budget = v.budget; zones = v.zones }) in
+        subst P (sym is.heads) (passes ds s at old is.solved (laws.problem_fits ds s at old is.solved.problem before is.settled.posed.problem) (decks_ids ds.first ds.second s at old is.solved.problem is.settled.posed.problem) is.settled laws before zones v.budget v.zones is.budget is.zones)
 
-    next_heads : AreGridHeads m v.heads
-    next_heads = subst (AreGridHeads m) (sym is.heads) (laws.heads_fit (one_deck m) s at old settled_kind is.solved before is.settled)
+    next_heads : AreGridHeads ds.first v.heads
+    next_heads = subst (AreGridHeads ds.first) (sym is.heads) (laws.heads_fit ds s at old settled_kind is.solved before is.settled)
 
-  all_pass : (old : List Bound) (rest : List TimeStep) (values : List Step) → IsRest (times m) rest → AreGridHeads m old → Steps task old rest values Whole → Checks m s zones old rest (map as_listed values) Certified
+  all_pass : (old : List Bound) (rest : List TimeStep) (values : List Step) → IsRest (times ds.first) rest → AreGridHeads ds.first old → Steps task old rest values Whole → Checks ds s zones old rest (map as_listed values) Certified
   all_pass old [] [] r heads h = tt
   all_pass old [] (v ∷ values) r heads h = absurd h
   all_pass old (at ∷ rest) [] r heads h = absurd h
   all_pass old (at ∷ rest) (v ∷ values) r heads (is, h) =
-      let before : IsBefore (one_deck m) at old = record { decks = record { first = model; second = tt }; time = r.each at (first_in at rest); heads = heads } in
-      inl (step_passes at old before v is, all_pass v.heads rest values (rest_more (times m) at rest r) (next_heads at old before v is) h)
+      let before : IsBefore ds at old = record { decks = valid; time = r.each at (first_in at rest); heads = heads } in
+      inl (step_passes at old before v is, all_pass v.heads rest values (rest_more (times ds.first) at rest r) (next_heads at old before v is) h)
 
 pub run_certified : Laws → RunIsCertified
-run_certified laws m s zones rounds values model zoned h = record {
+run_certified laws ds s zones rounds values valid zoned h = record {
   start = h.start;
   is_start = h.is_start;
-  checks = all_pass laws m s zones rounds model h.start (times m) values (rest_whole (times m)) (laws.start_fits m h.start model h.is_start) h.steps;
+  checks = all_pass laws ds s zones rounds valid h.start (times ds.first) values (rest_whole (times ds.first)) (laws.start_fits ds h.start valid h.is_start) h.steps;
 }

@@ -1,7 +1,6 @@
 -- Facts that the calls of a check pass to each other.
 use Rattle.std.specs.Prelude.{◌≡◌, ℕ, zero, suc, List, map, Ok, Err, Option}
 use Rattle.std.specs.List.{AllZip}
-use Rattle.decimal_input.specs.Fractions.{Fraction}
 use Rattle.step_problem.specs.declared.heads.Bound.{Bound}
 use Rattle.step_problem.specs.declared.place.Dir.{Dir}
 use Rattle.step_problem.specs.declared.place.Place.TheVariants as places
@@ -16,17 +15,16 @@ use Rattle.budget_bounds.specs.Terms.{budget_of}
 use Rattle.barrier_vector.specs.declared.BarrierFault.{BarrierFault}
 use Rattle.barrier_vector.specs.declared.BarrierFault.TheVariants as barrier
 use Rattle.cell_balance.specs.Components.{IsHeldBelow}
-use Rattle.cell_balance.specs.Enclosures.{EnclosesStep}
 use Rattle.cell_balance.specs.SolutionBounds.{EnclosesSolutions}
-use Rattle.flow_equations.specs.ExactStep.{exact_step}
-use Rattle.model_types.specs.declared.model.FlowModel.{FlowModel}
 use Rattle.model_types.specs.declared.time_steps.TimeStep.{TimeStep}
 use Rattle.model_types.specs.Kinds.{variable_cells}
 use Rattle.problem_builder.specs.declared.fault.BuildFault.{BuildFault}
 use Rattle.problem_builder.specs.declared.fault.BuildFault.TheVariants as build
-use Rattle.problem_builder.specs.ConstantHeads.{AreConstantHeads}
-use Rattle.problem_builder.specs.GridHeads.{HeadsEnclose, IsActive, IsNamed}
-use Rattle.deck_problems.specs.Decks.{one_deck}
+use Rattle.problem_builder.specs.GridHeads.{IsActive, IsNamed}
+use Rattle.deck_problems.specs.declared.decks.Decks.{Decks}
+use Rattle.deck_problems.specs.ConstantHeads.{AreConstantHeadsFor}
+use Rattle.deck_problems.specs.Decks.{EachMember}
+use Rattle.deck_problems.specs.Made.{EnclosesSteps}
 use Rattle.step_chain.specs.Steps.{IsPosed, HasNoHeads}
 use Rattle.zone_flows.specs.declared.fault.ZoneFault.{ZoneFault}
 use Rattle.zone_flows.specs.declared.fault.ZoneFault.TheVariants as flows
@@ -55,26 +53,26 @@ of_flows (flows.NoBound n) = fault.Refused n
 of_flows flows.Memory = fault.Memory
 
 -- the cause of a step's fault; lack of memory is possible at any time
-abbrev pub FailsBy : FlowModel → ℕ → Option (List ℕ) → TimeStep → List Bound → ListedStep → CheckFault → Type 0
-FailsBy m s zones at old w (fault.Fails place) = FailsAt m s zones at old w place
-FailsBy m s zones at old w (fault.Refused n) = IsRefused m s zones at old w n
-FailsBy m s zones at old w fault.Memory = Unit {0}
+abbrev pub FailsBy : Decks → ℕ → Option (List ℕ) → TimeStep → List Bound → ListedStep → CheckFault → Type 0
+FailsBy d s zones at old w (fault.Fails place) = FailsAt d s zones at old w place
+FailsBy d s zones at old w (fault.Refused n) = IsRefused d s zones at old w n
+FailsBy d s zones at old w fault.Memory = Unit {0}
 
 -- the cause of a fault before the listed heads are checked
-abbrev pub IsUnposed : FlowModel → ℕ → TimeStep → List Bound → CheckFault → Type 0
-IsUnposed m s at old (fault.Fails place) = ⊥
-IsUnposed m s at old (fault.Refused n) = HasNoHeads (one_deck m) s at old n
-IsUnposed m s at old fault.Memory = Unit {0}
+abbrev pub IsUnposed : Decks → ℕ → TimeStep → List Bound → CheckFault → Type 0
+IsUnposed d s at old (fault.Fails place) = ⊥
+IsUnposed d s at old (fault.Refused n) = HasNoHeads d s at old n
+IsUnposed d s at old fault.Memory = Unit {0}
 
 -- The constant heads, the problem and the barrier of a step, and how they enclose solutions.
-pub record ArePosed (m : FlowModel) (s : ℕ) (at : TimeStep) (old : List Bound) (x : Posed) : Type 0 where
-  pub posed : IsPosed (one_deck m) s at old x.problem x.barrier
+pub record ArePosed (d : Decks) (s : ℕ) (at : TimeStep) (old : List Bound) (x : Posed) : Type 0 where
+  pub posed : IsPosed d s at old x.problem x.barrier
   pub held : IsHeldBelow x.problem
   pub solutions : EnclosesSolutions x.problem (head_at x.barrier.floor) (head_at x.barrier.ceiling)
-  pub named : (c : ℕ) → IsNamed x.problem c → IsActive m c
-  pub cells : map (λ e. e.id) x.problem ≡ variable_cells m at.period
-  pub encloses : (before : ℕ → Fraction) → HeadsEnclose m old before → EnclosesStep s x.problem (exact_step m at.period at.step before)
-  pub constant : AreConstantHeads m at x.constant_heads
+  pub named : (c : ℕ) → IsNamed x.problem c → IsActive d.first c
+  pub cells : map (λ e. e.id) x.problem ≡ variable_cells d.first at.period
+  pub encloses : EachMember d (EnclosesSteps s at old x.problem)
+  pub constant : AreConstantHeadsFor d at x.constant_heads
 
 -- the heads before a step of a listing, by its index
 abbrev pub heads_before : List Bound → List ListedStep → ℕ → List Bound

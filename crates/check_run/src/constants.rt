@@ -5,14 +5,15 @@ ghost use Rattle.step_problem.specs.declared.heads.Side.TheVariants.{Low};
 ghost use Rattle.model_types.specs.declared.kind.Kind.TheVariants.{Constant};
 ghost use Rattle.model_types.specs.Cells.{cell_count};
 ghost use Rattle.model_types.specs.Times.{times};
-ghost use Rattle.model_types.specs.Valid.{IsModel};
-ghost use Rattle.problem_builder.specs.ConstantHeads.{AreConstantHeads};
+ghost use Rattle.deck_problems.specs.ConstantHeads.{AreConstantHeadsFor};
+ghost use Rattle.deck_problems.specs.Decks.{AreDecks};
 ghost use Rattle.problem_builder.specs.Tables.{ArePeriodTables};
 ghost use Rattle.check_run.specs.Reaching.{ConstantsReach, IsFirstShort, ReachesOn};
 
-use model_types::{FlowModel, Kind, TimeStep};
+use deck_problems::Decks;
+use deck_problems::laws::constant_pairs;
+use model_types::{Kind, TimeStep};
 use problem_builder::PeriodTables;
-use problem_builder::laws::constant_pairs;
 use step_problem::{Bound, Side};
 
 // The side on which a listed bound is narrower than a pair, the lower one first.
@@ -47,24 +48,24 @@ fn unreached_side(kind: Kind, listed: Bound, pair: Bound) -> Option<Side>
 /// The first cell with a constant head whose listed bound is narrower than its pair, by its number, and its side;
 /// `constant_heads` are the constant heads of the time, and `heads` the listed heads of all cells.
 pub(crate) fn first_unreached(
-    model: &FlowModel,
+    decks: &Decks,
     period: &PeriodTables,
     at: TimeStep,
     constant_heads: &[Bound],
     heads: &[Bound],
 ) -> Option<(u32, Side)>
-    requires model { IsModel model.now }
-    requires time { Contains (times model.now) at }
-    requires period { (s : ℕ) × ArePeriodTables model.now s at.period period.now }
-    requires constant { AreConstantHeads model.now at constant_heads.now }
-    requires whole { length heads.now ≡ cell_count model.now.grid }
+    requires decks { AreDecks decks.now }
+    requires time { Contains (times decks.now.first) at }
+    requires period { (s : ℕ) × ArePeriodTables decks.now.first s at.period period.now }
+    requires constant { AreConstantHeadsFor decks.now at constant_heads.now }
+    requires whole { length heads.now ≡ cell_count decks.now.first.grid }
     ensures { MatchOption result
-        (ConstantsReach model.now at heads.now)
-        (λ f. IsFirstShort model.now at heads.now f.0 f.1) }
+        (ConstantsReach decks.now at heads.now)
+        (λ f. IsFirstShort decks.now at heads.now f.0 f.1) }
 {
     let _at = at;
     constant_pairs();
-    let count = model.grid.cell_count();
+    let count = decks.first.grid.cell_count();
     for cell in 0..count {
         let place = cell as usize;
         if let Some(side) = unreached_side(

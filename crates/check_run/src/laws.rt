@@ -3,11 +3,10 @@ ghost use Rattle.check_run.specs.Laws.{VerdictIsOne};
 ghost use Rattle.check_run.specs.Runs.{RunIsCertified, RunIsReadAgain};
 
 use barrier_vector::laws::{no_barrier_beside_a_refusal, one_barrier};
-use listing_io::laws::listings_are_read_again;
-use problem_builder::laws::{
-    constant_pairs, no_problem_beside_a_refusal, one_list_of_start_heads, one_problem,
-    problems_fit, start_heads_fit,
+use deck_problems::laws::{
+    constant_pairs, no_problem_beside_a_refusal, one_problem, problems_fit, start_heads,
 };
+use listing_io::laws::listings_are_read_again;
 use step_chain::laws::{heads_fit, one_refusal};
 use step_problem::laws::settled_pair_certifies;
 
@@ -15,8 +14,7 @@ use step_problem::laws::settled_pair_certifies;
 pub fn one_verdict()
     ensures { VerdictIsOne }
 {
-    one_list_of_start_heads();
-    start_heads_fit();
+    start_heads();
     one_problem();
     problems_fit();
     one_barrier();
@@ -29,7 +27,7 @@ pub fn one_verdict()
 pub fn run_is_certified()
     ensures { RunIsCertified }
 {
-    start_heads_fit();
+    start_heads();
     problems_fit();
     constant_pairs();
     settled_pair_certifies();
@@ -40,7 +38,7 @@ pub fn run_is_certified()
 pub fn run_is_read_again()
     ensures { RunIsReadAgain }
 {
-    start_heads_fit();
+    start_heads();
     heads_fit();
     listings_are_read_again();
 }

@@ -1,11 +1,11 @@
 // The check of a listing.
 ghost use Rattle.std.specs.Prelude.{◌≡◌, ◌≤◌, length, option_map, IfOk};
-ghost use Rattle.model_types.specs.Valid.{IsModel};
 ghost use Rattle.zone_pairs.specs.Pairs.{pairs_in};
 ghost use Rattle.zone_pairs.specs.Zones.{AreZones};
 ghost use Rattle.listing_io.specs.Listed.{AreListed};
-ghost use Rattle.exact_histories.specs.Histories.{HasOneHistory};
-ghost use Rattle.deck_problems.specs.Kept.{AreRunTables, digits_of};
+ghost use Rattle.chosen_histories.specs.Decks.{HaveOneHistory};
+ghost use Rattle.deck_problems.specs.Decks.{AreDecks};
+ghost use Rattle.deck_problems.specs.Kept.{AreDeckTables, digits_of};
 ghost use Rattle.check_run.specs.declared.verdict.ListingVerdict.TheVariants.{Certified};
 ghost use Rattle.check_run.specs.Parts.{heads_before, IsVerdictAt};
 ghost use Rattle.check_run.specs.Verdicts.{IsVerdict, ListingEncloses};
@@ -14,10 +14,9 @@ use crate::fault::CheckFault;
 use crate::laws::one_verdict;
 use crate::step::check_listed;
 use crate::verdict::ListingVerdict;
-use deck_problems::RunTables;
+use deck_problems::{DeckTables, Decks, start_heads_for};
 use listing_io::Listing;
-use model_types::{FlowModel, TimeStep, times};
-use problem_builder::start_heads;
+use model_types::{TimeStep, times};
 use std::alloc::{AllocError, Global};
 use step_problem::Bound;
 
@@ -46,30 +45,35 @@ fn verdict_at(at: TimeStep, fault: CheckFault) -> Result<ListingVerdict, AllocEr
 // Checks a listing step by step. `tables` are those of the run.
 fn check_steps(
     alloc: Global,
-    model: &FlowModel,
-    tables: &mut RunTables,
+    decks: &Decks,
+    tables: &mut DeckTables,
     zones: Option<&[u32]>,
     listing: &Listing,
 ) -> Result<ListingVerdict, AllocError>
-    requires model { IsModel model.now }
-    requires digits { digits_of tables.old ≤ 18 }
-    requires zones { AreZones model.now (option_map (λ z. z.now) zones) }
-    requires listing { AreListed model.now (pairs_in model.now (option_map (λ z. z.now) zones)) listing.now }
-    requires tables { AreRunTables model.now tables.old }
-    ensures verdict { IfOk result (IsVerdict model.now (digits_of tables.old) (option_map (λ z. z.now) zones.entry) listing.now) }
-    ensures only { IfOk result (λ v. (other : ListingVerdict) → IsVerdict model.now (digits_of tables.old) (option_map (λ z. z.now) zones.entry) listing.now other → other ≡ v) }
-    ensures encloses { IfOk result (λ v. v ≡ Certified → ListingEncloses model.now (digits_of tables.old) (option_map (λ z. z.now) zones.entry) listing.now) }
-    ensures history { IfOk result (λ v. v ≡ Certified → HasOneHistory model.now) }
+    requires decks { AreDecks decks.now }
+    requires digits { digits_of tables.old.first ≤ 18 }
+    requires zones { AreZones decks.now.first (option_map (λ z. z.now) zones) }
+    requires listing { AreListed decks.now.first (pairs_in decks.now.first (option_map (λ z. z.now) zones)) listing.now }
+    requires tables { AreDeckTables decks.now (digits_of tables.old.first) tables.old }
+    ensures verdict { IfOk result (IsVerdict decks.now (digits_of tables.old.first) (option_map (λ z. z.now) zones.entry) listing.now) }
+    ensures only { IfOk result
+        (λ v. (other : ListingVerdict) →
+        IsVerdict decks.now (digits_of tables.old.first) (option_map (λ z. z.now) zones.entry) listing.now other → other ≡ v) }
+    ensures encloses { IfOk result
+        (λ v. v ≡ Certified →
+        ListingEncloses decks.now (digits_of tables.old.first) (option_map (λ z. z.now) zones.entry) listing.now) }
+    ensures history { IfOk result (λ v. v ≡ Certified → HaveOneHistory decks.now) }
 {
     one_verdict();
-    let start = start_heads(alloc, model)?;
-    let times = times(alloc, model)?;
+    let start_heads = start_heads_for(alloc, decks)?;
+    let start = start_heads.as_slice();
+    let times = times(alloc, &decks.first)?;
     for (index, at) in times.as_slice().iter().enumerate() {
-        let old = heads_before(start.as_slice(), listing, index);
+        let old = heads_before(start, listing, index);
         let heads = listing.heads(index);
         let budget = listing.budget(index);
         let flows = listing.zones(index);
-        match check_listed(alloc, model, tables, *at, old, zones, heads, budget, flows) {
+        match check_listed(alloc, decks, tables, *at, old, zones, heads, budget, flows) {
             Ok(()) => {}
             Err(fault) => return verdict_at(*at, fault),
         }
@@ -77,30 +81,31 @@ fn check_steps(
     Ok(ListingVerdict::Certified)
 }
 
-/// Checks a listing of a model with s digits of conductances, step by step, each from the listed heads of the one
+/// Checks a listing of a deck, or of all models between two, with s digits of conductances, step by step, each from the listed heads of the one
 /// before it, the first from STRT. `zones` has the zone of each cell, if there is a zone file. The first step and place that
 /// fails is the verdict, or the first refusal.
 pub fn check_listing(
     alloc: Global,
-    model: &FlowModel,
+    decks: &Decks,
     listing: &Listing,
     s: u32,
     zones: Option<&[u32]>,
 ) -> Result<ListingVerdict, AllocError>
-    requires model { IsModel model.now }
+    requires decks { AreDecks decks.now }
     requires digits { s ≤ 18 }
-    requires zones { AreZones model.now (option_map (λ z. z.now) zones) }
-    requires listing { AreListed model.now (pairs_in model.now (option_map (λ z. z.now) zones)) listing.now }
+    requires zones { AreZones decks.now.first (option_map (λ z. z.now) zones) }
+    requires listing { AreListed decks.now.first (pairs_in decks.now.first (option_map (λ z. z.now) zones)) listing.now }
     // The listing's one verdict.
-    ensures verdict { IfOk result (IsVerdict model.now s (option_map (λ z. z.now) zones.entry) listing.now) }
-    ensures only { IfOk result (λ v. (other : ListingVerdict) → IsVerdict model.now s (option_map (λ z. z.now) zones.entry) listing.now other → other ≡ v) }
-    // Where it is certified, every history that solves the model lies within it, whoever wrote it.
-    ensures encloses { IfOk result (λ v. v ≡ Certified → ListingEncloses model.now s (option_map (λ z. z.now) zones.entry) listing.now) }
-    // And there is exactly one such history.
-    ensures history { IfOk result (λ v. v ≡ Certified → HasOneHistory model.now) }
+    ensures verdict { IfOk result (IsVerdict decks.now s (option_map (λ z. z.now) zones.entry) listing.now) }
+    ensures only { IfOk result (λ v. (other : ListingVerdict) → IsVerdict decks.now s (option_map (λ z. z.now) zones.entry) listing.now other → other ≡ v) }
+    // Where it is certified, every history that solves the model, or that lies between the two, lies within it, whoever
+    // wrote it.
+    ensures encloses { IfOk result (λ v. v ≡ Certified → ListingEncloses decks.now s (option_map (λ z. z.now) zones.entry) listing.now) }
+    // And there is exactly one such history; of two decks one for each choice of models between them.
+    ensures history { IfOk result (λ v. v ≡ Certified → HaveOneHistory decks.now) }
 {
-    match RunTables::new(alloc, model, s) {
-        Ok(mut tables) => check_steps(alloc, model, &mut tables, zones, listing),
+    match DeckTables::new(alloc, decks, s) {
+        Ok(mut tables) => check_steps(alloc, decks, &mut tables, zones, listing),
         Err(fault) => Err(fault),
     }
 }

@@ -1,16 +1,15 @@
 // The data of a step before it is checked: its constant heads, its problem and the problem's barrier.
 ghost use Rattle.std.specs.Prelude.{◌≡◌, ◌≤◌, Contains, IfOk, IfErr};
 ghost use Rattle.model_types.specs.Times.{times};
-ghost use Rattle.model_types.specs.Valid.{IsModel};
 ghost use Rattle.problem_builder.specs.GridHeads.{AreGridHeads};
-ghost use Rattle.deck_problems.specs.Kept.{AreRunTables, digits_of};
+ghost use Rattle.deck_problems.specs.Decks.{AreDecks};
+ghost use Rattle.deck_problems.specs.Kept.{AreDeckTables, digits_of};
 ghost use Rattle.check_run.specs.Parts.{ArePosed, IsUnposed};
 
 use crate::fault::CheckFault;
 use barrier_vector::barrier;
-use deck_problems::RunTables;
-use model_types::{FlowModel, Listed, TimeStep};
-use problem_builder::{StepTables, build_with};
+use deck_problems::{DeckTables, Decks, problem_for};
+use model_types::{Listed, TimeStep};
 use std::alloc::Global;
 use step_problem::{Barrier, Bound, Problem};
 
@@ -25,29 +24,26 @@ pub struct Posed {
 /// The constant heads, the problem and the barrier of the step of a time, from the heads of all cells before it.
 pub(crate) fn pose(
     alloc: Global,
-    model: &FlowModel,
-    tables: &mut RunTables,
+    decks: &Decks,
+    tables: &mut DeckTables,
     at: TimeStep,
     old: &[Bound],
 ) -> Result<Posed, CheckFault>
-    requires model { IsModel model.now }
-    requires time { Contains (times model.now) at }
-    requires old { AreGridHeads model.now old.now }
-    requires digits { digits_of tables.old ≤ 18 }
-    requires tables { AreRunTables model.now tables.old }
-    ensures digits { digits_of tables.new ≡ digits_of tables.old }
-    ensures tables { AreRunTables model.now tables.new }
-    ensures there { IfOk result (λ _. tables.new.period.period ≡ at.period) }
-    ensures posed { IfOk result (ArePosed model.now (digits_of tables.old) at old.now) }
-    ensures fault { IfErr result (IsUnposed model.now (digits_of tables.old) at old.now) }
+    requires decks { AreDecks decks.now }
+    requires time { Contains (times decks.now.first) at }
+    requires old { AreGridHeads decks.now.first old.now }
+    requires digits { digits_of tables.old.first ≤ 18 }
+    requires tables { AreDeckTables decks.now (digits_of tables.old.first) tables.old }
+    ensures tables { AreDeckTables decks.now (digits_of tables.old.first) tables.new }
+    ensures there { IfOk result (λ _. tables.new.first.period.period ≡ at.period) }
+    ensures posed { IfOk result (ArePosed decks.now (digits_of tables.old.first) at old.now) }
+    ensures fault { IfErr result (IsUnposed decks.now (digits_of tables.old.first) at old.now) }
 {
-    tables.go_to(alloc, model, at.period)?;
-    let step = StepTables::new(alloc, model, &tables.period, at)?;
-    let problem = build_with(alloc, model, &tables.tables, &tables.period, &step, at, old)?;
-    let barrier = barrier(alloc, &problem)?;
+    let made = problem_for(alloc, decks, tables, at, old)?;
+    let barrier = barrier(alloc, &made.problem)?;
     Ok(Posed {
-        constant_heads: step.heads,
-        problem,
+        constant_heads: made.constant_heads,
+        problem: made.problem,
         barrier,
     })
 }

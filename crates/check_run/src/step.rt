@@ -1,12 +1,12 @@
 // The check of one listed step.
 ghost use Rattle.std.specs.Prelude.{◌≡◌, ◌≤◌, Contains, IfOk, IfErr, option_map};
 ghost use Rattle.model_types.specs.Times.{times};
-ghost use Rattle.model_types.specs.Valid.{IsModel};
 ghost use Rattle.problem_builder.specs.GridHeads.{AreGridHeads};
 ghost use Rattle.zone_pairs.specs.Pairs.{pairs_in};
 ghost use Rattle.zone_pairs.specs.Zones.{AreZones};
 ghost use Rattle.listing_io.specs.Listed.{AreFlows};
-ghost use Rattle.deck_problems.specs.Kept.{AreRunTables, digits_of};
+ghost use Rattle.deck_problems.specs.Decks.{AreDecks};
+ghost use Rattle.deck_problems.specs.Kept.{AreDeckTables, digits_of};
 ghost use Rattle.listing_run.specs.Bounding.{BoundsMoves};
 ghost use Rattle.check_run.specs.Parts.{FailsBy};
 ghost use Rattle.check_run.specs.Steps.{Passes};
@@ -20,9 +20,9 @@ use crate::terms::covered;
 use crate::variables::{bounds_of, certified};
 use budget_bounds::Budget;
 use budget_bounds::laws::{cover_encloses, heads_within};
-use deck_problems::RunTables;
-use model_types::{FlowModel, TimeStep};
-use problem_builder::laws::constant_pairs;
+use deck_problems::laws::constant_pairs;
+use deck_problems::{DeckTables, Decks};
+use model_types::TimeStep;
 use std::alloc::Global;
 use step_problem::{Bound, Place, ZoneFlow};
 
@@ -30,8 +30,8 @@ use step_problem::{Bound, Place, ZoneFlow};
 /// run, and move to the step's period.
 pub(crate) fn check_listed(
     alloc: Global,
-    model: &FlowModel,
-    tables: &mut RunTables,
+    decks: &Decks,
+    tables: &mut DeckTables,
     at: TimeStep,
     old: &[Bound],
     zones: Option<&[u32]>,
@@ -39,33 +39,42 @@ pub(crate) fn check_listed(
     listed: &Budget,
     flows: &[ZoneFlow],
 ) -> Result<(), CheckFault>
-    requires model { IsModel model.now }
-    requires time { Contains (times model.now) at }
-    requires old { AreGridHeads model.now old.now }
-    requires heads { AreGridHeads model.now heads.now }
-    requires zones { AreZones model.now (option_map (λ z. z.now) zones) }
-    requires flows { AreFlows (pairs_in model.now (option_map (λ z. z.now) zones) at.period) flows.now }
-    requires digits { digits_of tables.old ≤ 18 }
-    requires tables { AreRunTables model.now tables.old }
-    ensures digits { digits_of tables.new ≡ digits_of tables.old }
-    ensures tables { AreRunTables model.now tables.new }
-    ensures passes { IfOk result (λ _. Passes model.now (digits_of tables.old) (option_map (λ z. z.now) zones.entry) at old.now (record { heads = heads.now; budget = listed.now; zones = flows.now })) }
-    ensures fault { IfErr result (FailsBy model.now (digits_of tables.old) (option_map (λ z. z.now) zones.entry) at old.now (record { heads = heads.now; budget = listed.now; zones = flows.now })) }
+    requires decks { AreDecks decks.now }
+    requires time { Contains (times decks.now.first) at }
+    requires old { AreGridHeads decks.now.first old.now }
+    requires heads { AreGridHeads decks.now.first heads.now }
+    requires zones { AreZones decks.now.first (option_map (λ z. z.now) zones) }
+    requires flows { AreFlows (pairs_in decks.now.first (option_map (λ z. z.now) zones) at.period) flows.now }
+    requires digits { digits_of tables.old.first ≤ 18 }
+    requires tables { AreDeckTables decks.now (digits_of tables.old.first) tables.old }
+    ensures tables { AreDeckTables decks.now (digits_of tables.old.first) tables.new }
+    ensures passes { IfOk result
+        (λ _. Passes decks.now (digits_of tables.old.first) (option_map (λ z. z.now) zones.entry) at old.now
+        (record { heads = heads.now; budget = listed.now; zones = flows.now })) }
+    ensures fault { IfErr result
+        (FailsBy decks.now (digits_of tables.old.first) (option_map (λ z. z.now) zones.entry) at old.now
+        (record { heads = heads.now; budget = listed.now; zones = flows.now })) }
     // Every solution from exact heads within the old ones lies within the listed bounds.
     ensures encloses { IfOk result
-        (λ _. BoundsMoves (checked_task model.now (digits_of tables.old) (option_map (λ z. z.now) zones.entry)) at old.now
+        (λ _. BoundsMoves (checked_task decks.now (digits_of tables.old.first) (option_map (λ z. z.now) zones.entry)) at old.now
         (step_of at (record { heads = heads.now; budget = listed.now; zones = flows.now }))) }
 {
     constant_pairs();
     heads_within();
     cover_encloses();
-    let posed = pose(alloc, model, tables, at, old)?;
+    let posed = pose(alloc, decks, tables, at, old)?;
     let constant_heads = posed.constant_heads.as_slice();
-    if let Some((cell, side)) = first_unreached(model, &tables.period, at, constant_heads, heads) {
+    if let Some((cell, side)) = first_unreached(
+        decks,
+        &tables.first.period,
+        at,
+        constant_heads,
+        heads,
+    ) {
         return Err(CheckFault::Fails(Place::Cell(cell, side)));
     }
     let bounds = bounds_of(alloc, &posed.problem, heads)?;
     certified(&posed.problem, &posed.barrier, bounds.as_slice())?;
     covered(&posed.problem, bounds.as_slice(), listed)?;
-    wide(alloc, model, zones, &posed.problem, heads, flows)
+    wide(alloc, &decks.first, zones, &posed.problem, heads, flows)
 }

@@ -11,6 +11,8 @@ use Rattle.flow_equations.specs.ExactStep.{exact_step}
 use Rattle.flow_equations.proofs.Links.{are_linked}
 use Rattle.listing_io.specs.declared.listing.ListedStep.{ListedStep}
 use Rattle.check_run.specs.declared.verdict.ListingVerdict.TheVariants.{Certified}
+use Rattle.deck_problems.specs.declared.decks.Decks.{Decks}
+use Rattle.deck_problems.specs.Decks.{one_deck}
 use Rattle.check_run.specs.Verdicts.{Checks, steps_of}
 use Rattle.listing_run.specs.declared.task.Task.{Task}
 use Rattle.listing_run.specs.declared.step.Step.{Step}
@@ -62,11 +64,11 @@ times_of k (at ∷ steps) (v ∷ values) old h = rw (h.0.time, times_of k steps 
 pub steps_have_their_times : StepsHaveTheirTimes
 steps_have_their_times k values all = times_of k (times k.decks.first) values all.start all.steps
 
-certified_times : (m : FlowModel) (s : ℕ) (zones : Option (List ℕ)) (times : List TimeStep) (steps : List ListedStep) (old : List Bound) → Checks m s zones old times steps Certified → map (λ v. v.at) (steps_of times steps) ≡ times
+certified_times : (m : Decks) (s : ℕ) (zones : Option (List ℕ)) (times : List TimeStep) (steps : List ListedStep) (old : List Bound) → Checks m s zones old times steps Certified → map (λ v. v.at) (steps_of times steps) ≡ times
 certified_times m s zones [] steps old h = refl
 certified_times m s zones (at ∷ rest) [] old h = absurd h
 certified_times m s zones (at ∷ rest) (w ∷ steps) old (inl h) = ap (λ (ts : List TimeStep). at ∷ ts) (certified_times m s zones rest steps w.heads h.1)
 certified_times m s zones (at ∷ rest) (w ∷ steps) old (inr h) = absurd h
 
 pub certified_have_their_times : CertifiedHaveTheirTimes
-certified_have_their_times m s zones steps verdict = certified_times m s zones (times m) steps verdict.start verdict.checks
+certified_have_their_times m s zones steps verdict = certified_times (one_deck m) s zones (times m) steps verdict.start verdict.checks

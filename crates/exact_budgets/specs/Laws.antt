@@ -12,6 +12,7 @@ use Rattle.listing_run.specs.declared.task.Task.{Task}
 use Rattle.listing_run.specs.declared.step.Step.{Step}
 use Rattle.listing_run.specs.declared.listing_end.ListingEnd.TheVariants.{Whole}
 use Rattle.listing_run.specs.Steps.{AllSteps}
+use Rattle.deck_problems.specs.Decks.{one_deck}
 use Rattle.listing_run.specs.Tasks.{one_task}
 use Rattle.listing_run.specs.Bounding.{EnclosesHistories}
 use Rattle.listing_io.specs.declared.listing.ListedStep.{ListedStep}
@@ -37,5 +38,5 @@ abbrev pub StepsHaveTheirTimes : Type 0
 StepsHaveTheirTimes = (k : Task) (values : List Step) → AllSteps k values Whole → map (λ v. v.at) values ≡ times k.decks.first
 
 abbrev pub CertifiedHaveTheirTimes : Type 0
-CertifiedHaveTheirTimes = (m : FlowModel) (s : ℕ) (zones : Option (List ℕ)) (steps : List ListedStep) → IsVerdict m s zones steps Certified →
+CertifiedHaveTheirTimes = (m : FlowModel) (s : ℕ) (zones : Option (List ℕ)) (steps : List ListedStep) → IsVerdict (one_deck m) s zones steps Certified →
     map (λ v. v.at) (steps_of (times m) steps) ≡ times m

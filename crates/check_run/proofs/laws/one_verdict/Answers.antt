@@ -3,10 +3,10 @@ use Rattle.check_run.proofs.laws.one_verdict.Goals as goal
 
 pub returns : goal.returns
 returns c = verdicts_one (record {
-  start_one = c.one_list_of_start_heads.ensures;
-  start_fits = c.start_heads_fit.ensures;
+  start_one = c.start_heads.ensures.one;
+  start_fits = c.start_heads.ensures.fit;
   problem_one = c.one_problem.ensures;
-  problem_fits = c.problems_fit.ensures;
+  problem_fits = c.problems_fit.ensures.fit;
   barrier_one = c.one_barrier.ensures;
   problem_excludes = c.no_problem_beside_a_refusal.ensures;
   barrier_excludes = c.no_barrier_beside_a_refusal.ensures;

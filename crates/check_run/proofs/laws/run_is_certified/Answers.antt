@@ -3,8 +3,8 @@ use Rattle.check_run.proofs.laws.run_is_certified.Goals as goal
 
 pub returns : goal.returns
 returns c = run_certified (record {
-  start_fits = c.start_heads_fit.ensures;
-  problem_fits = c.problems_fit.ensures;
+  start_fits = c.start_heads.ensures.fit;
+  problem_fits = c.problems_fit.ensures.fit;
   pair_one = c.constant_pairs.ensures.one;
   certifies = c.settled_pair_certifies.ensures;
   heads_fit = c.heads_fit.ensures;

@@ -1,13 +1,24 @@
+use Rattle.check_run.proofs.Common.{◌≡◌, ℕ, ◌≤◌, subst, sym, IfOk, option_map, AreDeckTables, Certified, ListingEncloses}
 use Rattle.check_run.proofs.listing.check_listing.Goals as goal
 
+pub check_steps-requires-clause-digits : goal.check_steps-requires-clause-digits
+check_steps-requires-clause-digits c = let D : ℕ → Type 0 = λ k. k ≤ 18 in subst D (sym c.in-Ok.ensures.first.digits) c.requires.digits
+
+pub check_steps-requires-clause-tables : goal.check_steps-requires-clause-tables
+check_steps-requires-clause-tables c =
+    let T : ℕ → Type 0 = λ k. AreDeckTables c.args.decks.now k c.in-Ok.tables in
+    subst T (sym c.in-Ok.ensures.first.digits) c.in-Ok.ensures
+
 pub returns-in-Ok-clause-verdict : goal.returns-in-Ok-clause-verdict
-returns-in-Ok-clause-verdict c = rw c.in-Ok.ensures.digits at c.check_steps.ensures.verdict
+returns-in-Ok-clause-verdict c = rw c.in-Ok.ensures.first.digits at c.check_steps.ensures.verdict
 
 pub returns-in-Ok-clause-only : goal.returns-in-Ok-clause-only
-returns-in-Ok-clause-only c = rw c.in-Ok.ensures.digits at c.check_steps.ensures.only
+returns-in-Ok-clause-only c = rw c.in-Ok.ensures.first.digits at c.check_steps.ensures.only
 
 pub returns-in-Ok-clause-encloses : goal.returns-in-Ok-clause-encloses
-returns-in-Ok-clause-encloses c = rw c.in-Ok.ensures.digits at c.check_steps.ensures.encloses
+returns-in-Ok-clause-encloses c =
+    let E : ℕ → Type 0 = λ k. IfOk c.check_steps.result (λ v. v ≡ Certified → ListingEncloses c.args.decks.now k (option_map (λ z. z.now) c.args.zones) c.args.listing.now) in
+    subst E c.in-Ok.ensures.first.digits c.check_steps.ensures.encloses
 
 pub returns-in-Ok-clause-history : goal.returns-in-Ok-clause-history
 returns-in-Ok-clause-history c = c.check_steps.ensures.history

@@ -1,48 +1,62 @@
-use Rattle.check_run.proofs.Common.{◌∙◌, ap, refl, subst, sym, List, option_map, Bound, AreGridHeads, step_in, digits_of, heads_before}
+use Rattle.check_run.proofs.Common.{◌∙◌, ℕ, ◌≤◌, refl, subst, sym, List, option_map, Bound, AreGridHeads, HeadsEnclose, start_head, EachMember, step_in}
+use Rattle.check_run.proofs.Common.{digits_of, AreDeckTables, AreStartHeadsFor}
 use Rattle.check_run.proofs.Checking.{at_first, ends_certified, ends_enclosed, ends_history, flows_here, goes_here, listed_at, not_certified, ok_follows, stops_here}
 use Rattle.check_run.proofs.Listed.{grid_of}
 use Rattle.check_run.proofs.listing.check_steps.Goals as goal
 
 pub loop-index-init : goal.loop-index-init
-loop-index-init c = record {
-  digits = refl;
-  tables = c.requires.tables;
-  so_far = at_first c.args.model.now (digits_of c.args.tables.now) (option_map (λ z. z.now) c.args.zones) c.args.listing.now c.in_ok-start.start.items c.in_ok-start.ensures.bounds c.in_ok-start.ensures.heads c.in_ok-start.ensures.encloses c.requires.listing;
-}
+loop-index-init c =
+    let decks = c.args.decks.now in
+    let B : List Bound → Type 0 = AreStartHeadsFor decks in
+    let G : List Bound → Type 0 = AreGridHeads decks.first in
+    let E : List Bound → Type 0 = λ v. EachMember decks (λ m. HeadsEnclose m v (start_head m)) in
+    let lent = sym c.as_slice-start.ensures in
+    record {
+      digits = refl;
+      tables = c.requires.tables;
+      so_far = at_first decks (digits_of c.args.tables.now.first) (option_map (λ z. z.now) c.args.zones) c.args.listing.now c.as_slice-start.result.now (subst B lent c.in_ok-start_heads.ensures.bounds) (subst G lent c.in_ok-start_heads.ensures.heads) (subst E lent c.in_ok-start_heads.ensures.encloses) c.requires.listing;
+    }
+
+pub check_listed-requires-clause-old : goal.check_listed-requires-clause-old
+check_listed-requires-clause-old c =
+    let P : List Bound → Type 0 = AreGridHeads c.args.decks.now.first in
+    subst P (sym c.heads_before-old.ensures) c.loop-index.invariant.so_far.grid
+
+pub check_listed-requires-clause-digits : goal.check_listed-requires-clause-digits
+check_listed-requires-clause-digits c = let D : ℕ → Type 0 = λ k. k ≤ 18 in subst D (sym c.loop-index.invariant.digits) c.requires.digits
+
+pub check_listed-requires-clause-tables : goal.check_listed-requires-clause-tables
+check_listed-requires-clause-tables c = c.loop-index.invariant.tables
 
 pub check_listed-requires-clause-heads : goal.check_listed-requires-clause-heads
 check_listed-requires-clause-heads c =
     let is = c.as_slice-at-items.ensures.value ∙ c.in_ok-times.ensures.times in
-    let olds = c.heads_before-old.ensures ∙ ap (λ (t : List Bound). heads_before t c.args.listing.now c.loop-index.index) c.as_slice.ensures.value in
-    let P : List Bound → Type 0 = AreGridHeads c.args.model.now in
-    subst P (sym c.heads-heads.ensures) (grid_of c.args.model.now (step_in c.args.listing.now c.loop-index.index)
-    (listed_at c.args.model.now (digits_of c.args.tables.now) (option_map (λ z. z.now) c.args.zones) c.args.listing.now c.in_ok-start.start.items c.loop-index.index c.as_slice-at-items.result.now (record { period = 0; step = 0 }) is c.requires.listing c.loop-index-test.true c.loop-index.invariant.so_far
-    _ c.loop-index.invariant.digits c.heads_before-old.result.now c.heads-heads.result.now c.budget-budget.result.now c.zones-flows.result.now olds c.heads-heads.ensures c.budget-budget.ensures c.zones-flows.ensures))
+    let P : List Bound → Type 0 = AreGridHeads c.args.decks.now.first in
+    subst P (sym c.heads-heads.ensures) (grid_of c.args.decks.now.first (step_in c.args.listing.now c.loop-index.index)
+    (listed_at c.args.decks.now (digits_of c.args.tables.now.first) (option_map (λ z. z.now) c.args.zones) c.args.listing.now c.as_slice-start.result.now c.loop-index.index c.as_slice-at-items.result.now (record { period = 0; step = 0 }) is c.requires.listing c.loop-index-test.true c.loop-index.invariant.so_far
+    _ c.loop-index.invariant.digits c.heads_before-old.result.now c.heads-heads.result.now c.budget-budget.result.now c.zones-flows.result.now c.heads_before-old.ensures c.heads-heads.ensures c.budget-budget.ensures c.zones-flows.ensures))
 
 pub check_listed-requires-clause-flows : goal.check_listed-requires-clause-flows
 check_listed-requires-clause-flows c =
     let is = c.as_slice-at-items.ensures.value ∙ c.in_ok-times.ensures.times in
-    let olds = c.heads_before-old.ensures ∙ ap (λ (t : List Bound). heads_before t c.args.listing.now c.loop-index.index) c.as_slice.ensures.value in
-    flows_here c.args.model.now (digits_of c.args.tables.now) (option_map (λ z. z.now) c.args.zones) c.args.listing.now c.in_ok-start.start.items c.loop-index.index c.as_slice-at-items.result.now (record { period = 0; step = 0 }) is c.requires.listing c.loop-index-test.true c.loop-index.invariant.so_far
-    _ c.loop-index.invariant.digits c.heads_before-old.result.now c.heads-heads.result.now c.budget-budget.result.now c.zones-flows.result.now olds c.heads-heads.ensures c.budget-budget.ensures c.zones-flows.ensures
+    flows_here c.args.decks.now (digits_of c.args.tables.now.first) (option_map (λ z. z.now) c.args.zones) c.args.listing.now c.as_slice-start.result.now c.loop-index.index c.as_slice-at-items.result.now (record { period = 0; step = 0 }) is c.requires.listing c.loop-index-test.true c.loop-index.invariant.so_far
+    _ c.loop-index.invariant.digits c.heads_before-old.result.now c.heads-heads.result.now c.budget-budget.result.now c.zones-flows.result.now c.heads_before-old.ensures c.heads-heads.ensures c.budget-budget.ensures c.zones-flows.ensures
 
 pub returns-in-Err-clause-verdict : goal.returns-in-Err-clause-verdict
 returns-in-Err-clause-verdict c =
     let is = c.as_slice-at-items.ensures.value ∙ c.in_ok-times.ensures.times in
-    let olds = c.heads_before-old.ensures ∙ ap (λ (t : List Bound). heads_before t c.args.listing.now c.loop-index.index) c.as_slice.ensures.value in
     ok_follows _ _ c.verdict_at.result
-    (λ v h. stops_here c.args.model.now (digits_of c.args.tables.now) (option_map (λ z. z.now) c.args.zones) c.args.listing.now c.in_ok-start.start.items c.loop-index.index c.as_slice-at-items.result.now (record { period = 0; step = 0 }) is c.requires.listing c.loop-index-test.true c.loop-index.invariant.so_far
-    _ c.loop-index.invariant.digits c.heads_before-old.result.now c.heads-heads.result.now c.budget-budget.result.now c.zones-flows.result.now olds c.heads-heads.ensures c.budget-budget.ensures c.zones-flows.ensures c.in-Err.fault v c.in-Err.ensures.fault h)
+    (λ v h. stops_here c.args.decks.now (digits_of c.args.tables.now.first) (option_map (λ z. z.now) c.args.zones) c.args.listing.now c.as_slice-start.result.now c.loop-index.index c.as_slice-at-items.result.now (record { period = 0; step = 0 }) is c.requires.listing c.loop-index-test.true c.loop-index.invariant.so_far
+    _ c.loop-index.invariant.digits c.heads_before-old.result.now c.heads-heads.result.now c.budget-budget.result.now c.zones-flows.result.now c.heads_before-old.ensures c.heads-heads.ensures c.budget-budget.ensures c.zones-flows.ensures c.in-Err.fault v c.in-Err.ensures.fault h)
     c.verdict_at.ensures
 
 pub returns-in-Err-clause-only : goal.returns-in-Err-clause-only
 returns-in-Err-clause-only c =
     let is = c.as_slice-at-items.ensures.value ∙ c.in_ok-times.ensures.times in
-    let olds = c.heads_before-old.ensures ∙ ap (λ (t : List Bound). heads_before t c.args.listing.now c.loop-index.index) c.as_slice.ensures.value in
     ok_follows _ _ c.verdict_at.result
-    (λ v h other k. c.one_verdict.ensures c.args.model.now (digits_of c.args.tables.now) (option_map (λ z. z.now) c.args.zones) c.args.listing.now other v c.requires.model c.requires.listing k
-    (stops_here c.args.model.now (digits_of c.args.tables.now) (option_map (λ z. z.now) c.args.zones) c.args.listing.now c.in_ok-start.start.items c.loop-index.index c.as_slice-at-items.result.now (record { period = 0; step = 0 }) is c.requires.listing c.loop-index-test.true c.loop-index.invariant.so_far
-    _ c.loop-index.invariant.digits c.heads_before-old.result.now c.heads-heads.result.now c.budget-budget.result.now c.zones-flows.result.now olds c.heads-heads.ensures c.budget-budget.ensures c.zones-flows.ensures c.in-Err.fault v c.in-Err.ensures.fault h))
+    (λ v h other k. c.one_verdict.ensures c.args.decks.now (digits_of c.args.tables.now.first) (option_map (λ z. z.now) c.args.zones) c.args.listing.now other v c.requires.decks c.requires.listing k
+    (stops_here c.args.decks.now (digits_of c.args.tables.now.first) (option_map (λ z. z.now) c.args.zones) c.args.listing.now c.as_slice-start.result.now c.loop-index.index c.as_slice-at-items.result.now (record { period = 0; step = 0 }) is c.requires.listing c.loop-index-test.true c.loop-index.invariant.so_far
+    _ c.loop-index.invariant.digits c.heads_before-old.result.now c.heads-heads.result.now c.budget-budget.result.now c.zones-flows.result.now c.heads_before-old.ensures c.heads-heads.ensures c.budget-budget.ensures c.zones-flows.ensures c.in-Err.fault v c.in-Err.ensures.fault h))
     c.verdict_at.ensures
 
 pub returns-in-Err-clause-encloses : goal.returns-in-Err-clause-encloses
@@ -54,31 +68,30 @@ returns-in-Err-clause-history c = ok_follows _ _ c.verdict_at.result (λ v h e. 
 pub loop-index-preserved : goal.loop-index-preserved
 loop-index-preserved c =
     let is = c.as_slice-at-items.ensures.value ∙ c.in_ok-times.ensures.times in
-    let olds = c.heads_before-old.ensures ∙ ap (λ (t : List Bound). heads_before t c.args.listing.now c.loop-index.index) c.as_slice.ensures.value in
     record {
-      digits = c.check_listed.ensures.digits ∙ c.loop-index.invariant.digits;
-      tables = c.check_listed.ensures.tables;
-      so_far = goes_here c.args.model.now (digits_of c.args.tables.now) (option_map (λ z. z.now) c.args.zones) c.args.listing.now c.in_ok-start.start.items c.loop-index.index c.as_slice-at-items.result.now (record { period = 0; step = 0 }) is c.requires.listing c.loop-index-test.true c.loop-index.invariant.so_far
-          _ c.loop-index.invariant.digits c.heads_before-old.result.now c.heads-heads.result.now c.budget-budget.result.now c.zones-flows.result.now olds c.heads-heads.ensures c.budget-budget.ensures c.zones-flows.ensures c.requires.model c.in-Ok.ensures.passes c.in-Ok.ensures.encloses;
+      digits = c.check_listed.ensures.tables.first.digits ∙ c.loop-index.invariant.digits;
+      tables = (let T : ℕ → Type 0 = λ k. AreDeckTables c.args.decks.now k c.check_listed.new.tables in subst T (sym c.check_listed.ensures.tables.first.digits) c.check_listed.ensures.tables);
+      so_far = goes_here c.args.decks.now (digits_of c.args.tables.now.first) (option_map (λ z. z.now) c.args.zones) c.args.listing.now c.as_slice-start.result.now c.loop-index.index c.as_slice-at-items.result.now (record { period = 0; step = 0 }) is c.requires.listing c.loop-index-test.true c.loop-index.invariant.so_far
+          _ c.loop-index.invariant.digits c.heads_before-old.result.now c.heads-heads.result.now c.budget-budget.result.now c.zones-flows.result.now c.heads_before-old.ensures c.heads-heads.ensures c.budget-budget.ensures c.zones-flows.ensures c.in-Ok.ensures.passes c.in-Ok.ensures.encloses;
     }
 
 pub returns-clause-verdict : goal.returns-clause-verdict
 returns-clause-verdict c =
     let is = c.as_slice-at-items.ensures.value ∙ c.in_ok-times.ensures.times in
-    ends_certified c.args.model.now (digits_of c.args.tables.now) (option_map (λ z. z.now) c.args.zones) c.args.listing.now _ c.loop-index.index c.as_slice-at-items.result.now is c.requires.listing c.loop-index-test.false c.loop-index.invariant.so_far
+    ends_certified c.args.decks.now (digits_of c.args.tables.now.first) (option_map (λ z. z.now) c.args.zones) c.args.listing.now _ c.loop-index.index c.as_slice-at-items.result.now is c.requires.listing c.loop-index-test.false c.loop-index.invariant.so_far
 
 pub returns-clause-only : goal.returns-clause-only
 returns-clause-only c = λ other k.
     let is = c.as_slice-at-items.ensures.value ∙ c.in_ok-times.ensures.times in
-    c.one_verdict.ensures c.args.model.now (digits_of c.args.tables.now) (option_map (λ z. z.now) c.args.zones) c.args.listing.now other _ c.requires.model c.requires.listing k
-    (ends_certified c.args.model.now (digits_of c.args.tables.now) (option_map (λ z. z.now) c.args.zones) c.args.listing.now _ c.loop-index.index c.as_slice-at-items.result.now is c.requires.listing c.loop-index-test.false c.loop-index.invariant.so_far)
+    c.one_verdict.ensures c.args.decks.now (digits_of c.args.tables.now.first) (option_map (λ z. z.now) c.args.zones) c.args.listing.now other _ c.requires.decks c.requires.listing k
+    (ends_certified c.args.decks.now (digits_of c.args.tables.now.first) (option_map (λ z. z.now) c.args.zones) c.args.listing.now _ c.loop-index.index c.as_slice-at-items.result.now is c.requires.listing c.loop-index-test.false c.loop-index.invariant.so_far)
 
 pub returns-clause-encloses : goal.returns-clause-encloses
 returns-clause-encloses c = λ same.
     let is = c.as_slice-at-items.ensures.value ∙ c.in_ok-times.ensures.times in
-    ends_enclosed c.args.model.now (digits_of c.args.tables.now) (option_map (λ z. z.now) c.args.zones) c.args.listing.now _ c.loop-index.index c.as_slice-at-items.result.now is c.requires.listing c.loop-index-test.false c.loop-index.invariant.so_far
+    ends_enclosed c.args.decks.now (digits_of c.args.tables.now.first) (option_map (λ z. z.now) c.args.zones) c.args.listing.now _ c.loop-index.index c.as_slice-at-items.result.now is c.requires.listing c.loop-index-test.false c.loop-index.invariant.so_far
 
 pub returns-clause-history : goal.returns-clause-history
 returns-clause-history c = λ same.
     let is = c.as_slice-at-items.ensures.value ∙ c.in_ok-times.ensures.times in
-    ends_history c.args.model.now (digits_of c.args.tables.now) (option_map (λ z. z.now) c.args.zones) c.args.listing.now _ c.loop-index.index c.as_slice-at-items.result.now is c.requires.listing c.loop-index-test.false c.loop-index.invariant.so_far
+    ends_history c.args.decks.now (digits_of c.args.tables.now.first) (option_map (λ z. z.now) c.args.zones) c.args.listing.now c.requires.decks _ c.loop-index.index c.as_slice-at-items.result.now is c.requires.listing c.loop-index-test.false c.loop-index.invariant.so_far
