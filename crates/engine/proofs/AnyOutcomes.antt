@@ -3,11 +3,13 @@ use Rattle.engine.proofs.Common.{◌≡◌, ℕ, List, Option, Some, None, refl,
 use Rattle.engine.proofs.Common.{Status, Batched, HasNoList, AskedBatch, batch_asked, AnyAnswers, AnyComes, AnyDecided, AnyPuts, BatchAnswers, BatchComes}
 use Rattle.engine.proofs.Common.{BatchDecided, BatchPuts, AskedCheck, Case, Check, Command, IsCase, Make, asked_in, Certified, OneDeck, Headline, Made}
 use Rattle.engine.proofs.Common.{OneListing, OneSummary, OneVerdict, Answers, AnswersBeside, IsStopped, Comes, Decided, IsLeft, Puts, Watched, views_in}
+use Rattle.engine.proofs.Common.{AskedSpanCheck, CheckSpan, OneSpan, SpanCertified, SpanHeadline, SpanVerdict}
 use Rattle.engine.proofs.BatchEnds.{other_none}
 use Rattle.engine.proofs.BatchOutcomes.{batch_complete, batch_decided, batch_put_rose, batch_read_rose, batched}
 use Rattle.engine.proofs.Certifying.{not_stopped}
 use Rattle.engine.proofs.Beside.{beside_both, beside_certified, beside_complete, beside_decided, beside_made, beside_put_rose, beside_read_rose, takes_known, viewless, wider_batch, wider_batch_comes}
 use Rattle.engine.proofs.Outcomes.{Laws, first_of, second_of}
+use Rattle.engine.proofs.Spans.{only_span_check}
 use Rattle.run_puts.specs.declared.status.Status.TheVariants as status
 
 module _ (words : List Text) (files : Option (List File)) (n m : ℕ) (S : Type 0) (L : List Put → Type 0) (end : Status) (puts : List Put) where
@@ -64,17 +66,17 @@ module _ (laws : Laws) (words : List Text) (n m : ℕ) (S : Type 0) (L : List Pu
     ok_batched : (b : AskedBatch) → batch_asked words ≡ Some b → BatchAnswers b (Some files) n m end puts → end ≡ status.Ok → Batched words files end old.written new.written
     ok_batched b e a ok = only_batched b ok (batched laws b files words e end old new puts makes n m a (λ stops. not_stopped (let P : Status → Type 0 = IsStopped in subst P ok stops)))
 
-    pub any_headline : AnyAnswers words (Some files) n m S L end puts → end ≡ status.Ok → (Headline words files old.written new.written ⊎ (Made words old.written new.written ⊎ (Certified words files old.written new.written ⊎ OneDeck words files old.written new.written))) ⊎ Batched words files end old.written new.written
+    pub any_headline : AnyAnswers words (Some files) n m S L end puts → end ≡ status.Ok → (Headline words files old.written new.written ⊎ (Made words old.written new.written ⊎ (Certified words files old.written new.written ⊎ (OneDeck words files old.written new.written ⊎ (SpanHeadline words files old.written new.written ⊎ SpanCertified words files old.written new.written))))) ⊎ Batched words files end old.written new.written
     any_headline = by_option (batch_asked words) refl
       where
-        by_option : (o : Option AskedBatch) → batch_asked words ≡ o → AnswersBy words (Some files) n m S L end puts o → end ≡ status.Ok → (Headline words files old.written new.written ⊎ (Made words old.written new.written ⊎ (Certified words files old.written new.written ⊎ OneDeck words files old.written new.written))) ⊎ Batched words files end old.written new.written
+        by_option : (o : Option AskedBatch) → batch_asked words ≡ o → AnswersBy words (Some files) n m S L end puts o → end ≡ status.Ok → (Headline words files old.written new.written ⊎ (Made words old.written new.written ⊎ (Certified words files old.written new.written ⊎ (OneDeck words files old.written new.written ⊎ (SpanHeadline words files old.written new.written ⊎ SpanCertified words files old.written new.written))))) ⊎ Batched words files end old.written new.written
         by_option None e a ok = inl (first_of (beside_both words (Some files) n m S L end puts old new makes laws a ok))
         by_option (Some b) e a ok = inr (ok_batched b e a ok)
 
-    pub any_one : AnyAnswers words (Some files) n m S L end puts → end ≡ status.Ok → (OneListing words files old.written new.written ⊎ (OneSummary words old.written new.written ⊎ (OneVerdict words files ⊎ OneDeck words files old.written new.written))) ⊎ Batched words files end old.written new.written
+    pub any_one : AnyAnswers words (Some files) n m S L end puts → end ≡ status.Ok → (OneListing words files old.written new.written ⊎ (OneSummary words old.written new.written ⊎ (OneVerdict words files ⊎ (OneDeck words files old.written new.written ⊎ (OneSpan words files old.written new.written ⊎ SpanVerdict words files))))) ⊎ Batched words files end old.written new.written
     any_one = by_option (batch_asked words) refl
       where
-        by_option : (o : Option AskedBatch) → batch_asked words ≡ o → AnswersBy words (Some files) n m S L end puts o → end ≡ status.Ok → (OneListing words files old.written new.written ⊎ (OneSummary words old.written new.written ⊎ (OneVerdict words files ⊎ OneDeck words files old.written new.written))) ⊎ Batched words files end old.written new.written
+        by_option : (o : Option AskedBatch) → batch_asked words ≡ o → AnswersBy words (Some files) n m S L end puts o → end ≡ status.Ok → (OneListing words files old.written new.written ⊎ (OneSummary words old.written new.written ⊎ (OneVerdict words files ⊎ (OneDeck words files old.written new.written ⊎ (OneSpan words files old.written new.written ⊎ SpanVerdict words files))))) ⊎ Batched words files end old.written new.written
         by_option None e a ok = inl (second_of (beside_both words (Some files) n m S L end puts old new makes laws a ok))
         by_option (Some b) e a ok = inr (ok_batched b e a ok)
 
@@ -84,6 +86,13 @@ module _ (laws : Laws) (words : List Text) (n m : ℕ) (S : Type 0) (L : List Pu
         by_option : (o : Option AskedBatch) → batch_asked words ≡ o → AnswersBy words (Some files) n m S L end puts o → end ≡ status.Ok → (asked : AskedCheck) → asked_in words ≡ Some (Check asked) → Certified words files old.written new.written
         by_option None e a ok asked wanted = (beside_certified words (Some files) n m S L end puts old new makes a ok asked wanted).0
         by_option (Some b) e a ok asked wanted = absurd (not_asked words b (Check asked) e wanted)
+
+    pub any_span_certified : AnyAnswers words (Some files) n m S L end puts → end ≡ status.Ok → (asked : AskedSpanCheck) → asked_in words ≡ Some (CheckSpan asked) → SpanCertified words files old.written new.written
+    any_span_certified = by_option (batch_asked words) refl
+      where
+        by_option : (o : Option AskedBatch) → batch_asked words ≡ o → AnswersBy words (Some files) n m S L end puts o → end ≡ status.Ok → (asked : AskedSpanCheck) → asked_in words ≡ Some (CheckSpan asked) → SpanCertified words files old.written new.written
+        by_option None e a ok asked wanted = only_span_check words files old new asked wanted (first_of (beside_both words (Some files) n m S L end puts old new makes laws a ok))
+        by_option (Some b) e a ok asked wanted = absurd (not_asked words b (CheckSpan asked) e wanted)
 
     pub any_decided : AnyAnswers words (Some files) n m S L end puts → AnyDecided (Rose n m ⊎ (Rose old.faults new.faults ⊎ S)) words files end
     any_decided = by_option (batch_asked words)

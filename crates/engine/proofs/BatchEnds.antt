@@ -1,11 +1,12 @@
 -- The ends of a batch, by its reading and its jobs.
 use Rattle.engine.proofs.Common.{◌≡◌, ℕ, zero, suc, ◌<◌, get_or, arith, ◌++◌, List, [], ◌∷◌, Ok, Err, Result, Option, None, Some, IfOk, subst, sym, ap, refl}
 use Rattle.engine.proofs.Common.{inl, inr, ◌∙◌, codes, option_and_then, All, MatchOption, slice_get, AllZip, append-nil, All-get_or, All-weaker, File, Rose}
-use Rattle.engine.proofs.Common.{InputCounts, file_refusal, Put, BadName, InputFault, Refusal, Wanted, Lists, Checks, Makes, Batches, Writes, wanted_of}
-use Rattle.engine.proofs.Common.{AreDecks, refused_line, Text, read_fault_line, IsEnd, IsLast, IsWanting, IsRun, NeverCut, Status, lone, lacks_at_first, weaker}
-use Rattle.engine.proofs.Common.{JobEnd, ends_of_jobs, IsBatch, IsTask, wanting_not_ok, Task, Job, AskedBatch, BatchCase, Jobs, NoList, IsBatchCase, IsJobEnd}
-use Rattle.engine.proofs.Common.{IsRunText, batch_asked, batch_case_of, batch_of, job_case, model_line, AreTasks, IsFaultOf, AnyAnswers, AreValid, BatchAnswers}
-use Rattle.engine.proofs.Common.{BatchDue, IsValidJob, defined, unread, Refuses, asked_in, built, AnswersBeside, IsReadingEnd, IsStopped}
+use Rattle.engine.proofs.Common.{InputCounts, file_refusal, Put, BadName, InputFault, Refusal, Wanted, Lists, ListsTo, Checks, ChecksTo, Makes, Batches, Writes}
+use Rattle.engine.proofs.Common.{wanted_of, AreDecks, refused_line, Text, read_fault_line, IsEnd, IsLast, IsWanting, IsRun, NeverCut, Status, lone}
+use Rattle.engine.proofs.Common.{lacks_at_first, weaker, JobEnd, ends_of_jobs, IsBatch, IsTask, wanting_not_ok, Task, Job, AskedBatch, BatchCase, Jobs, NoList}
+use Rattle.engine.proofs.Common.{IsBatchCase, IsJobEnd, IsRunText, batch_asked, batch_case_of, batch_of, job_case, model_line, AreTasks, IsFaultOf, AnyAnswers}
+use Rattle.engine.proofs.Common.{AreValid, BatchAnswers, BatchDue, IsValidJob, unread, Refuses, asked_in, built, AnswersBeside, IsReadingEnd, IsStopped}
+use Rattle.engine.specs.BatchRuns.{defined}
 use Rattle.std.specs.Prelude.{IfSome, length}
 use Rattle.batch_book.specs.Ends.{AreJobEnds}
 use Rattle.engine.proofs.Beside.{not_ok}
@@ -21,6 +22,8 @@ other_none words b = by_wanted (wanted_of words)
     by_wanted None e = refl
     by_wanted (Some (Batches list digits workers rounds)) e = refl
     by_wanted (Some (Checks name listing digits zones)) e = absurd (let bad : Path (Option AskedBatch) None (Some b) = e in cc)
+    by_wanted (Some (ChecksTo name to listing digits zones)) e = absurd (let bad : Path (Option AskedBatch) None (Some b) = e in cc)
+    by_wanted (Some (ListsTo name to digits workers rounds zones turns)) e = absurd (let bad : Path (Option AskedBatch) None (Some b) = e in cc)
     by_wanted (Some (Makes seed size)) e = absurd (let bad : Path (Option AskedBatch) None (Some b) = e in cc)
     by_wanted (Some (Writes name)) e = absurd (let bad : Path (Option AskedBatch) None (Some b) = e in cc)
     by_wanted (Some (Lists name digits workers rounds zones turns)) e = absurd (let bad : Path (Option AskedBatch) None (Some b) = e in cc)

@@ -5,7 +5,8 @@ use Rattle.engine.proofs.Common.{early, NeverCut, Agree, IsUnfinished, Status, I
 use Rattle.engine.proofs.Common.{IsWhole, whole_listing, history_exists, history_is_one, JobEnd, batch_settles, batches_agree, Job, Batched, HasEnded}
 use Rattle.engine.proofs.Common.{HasNoList, IsJobListing, AskedBatch, BatchCase, BatchDefines, IsJobEnd, IsRunText, Jobs, NoList, batch_asked, batch_case}
 use Rattle.engine.proofs.Common.{job_case, job_of, job_task, model_line, names_read, task_read, AreValid, BatchAnswers, BatchComes, BatchDecided, BatchDue}
-use Rattle.engine.proofs.Common.{HasJob, IsBatchRun, IsValidJob, defined, unread, IsStopped, Plain}
+use Rattle.engine.proofs.Common.{HasJob, IsBatchRun, IsValidJob, unread, IsStopped, Plain}
+use Rattle.engine.specs.BatchRuns.{defined}
 use Rattle.batch_puts.specs.Ended.{first_not_ok, or_else, texts}
 use Rattle.engine.proofs.Certifying.{IsFault, not_stopped, stopped_by_fault}
 use Rattle.engine.proofs.Ends.{late_stops}

@@ -1,10 +1,11 @@
 -- The public clauses of a run beside which a side sink is led.
 use Rattle.engine.proofs.Common.{◌≡◌, ℕ, List, [], ◌∷◌, ◌++◌, Option, Some, None, IfSome, ap, sym, subst, refl, ◌∙◌, inl, inr, ◌⊎◌, option_and_then, Rose, File}
-use Rattle.engine.proofs.Common.{Put, PutsMake, Seen, InputFault, Batches, Checks, Lists, Makes, Wanted, Writes, wanted_of, IsLast, Text, read_fault_line}
-use Rattle.engine.proofs.Common.{Begins, IsRun, all_due, cut, early, nothing, whole, Status, late_not_ok, tail_late, AreDecks, Task, IsCutListing, IsListing}
-use Rattle.engine.proofs.Common.{IsListingBeside, left, listed, wanting_not_ok, AskedBatch, views_of, BatchComes, BatchDecided, Asked, AskedCheck, Case, Check}
-use Rattle.engine.proofs.Common.{Command, IsCase, Listing, Make, Run, Write, asked_in, built, Certified, Made, OneVerdict, Answers, AnswersBeside, IsReadingEnd}
-use Rattle.engine.proofs.Common.{Comes, Decided, IsLeft, IsWatched, SidePuts, ViewPutsOf, Watched, views_asked, views_in}
+use Rattle.engine.proofs.Common.{Put, PutsMake, Seen, InputFault, Batches, Checks, ChecksTo, Lists, ListsTo, Makes, Wanted, Writes, wanted_of, IsLast, Text}
+use Rattle.engine.proofs.Common.{read_fault_line, Begins, IsRun, all_due, cut, early, nothing, whole, Status, late_not_ok, tail_late, AreDecks, Task}
+use Rattle.engine.proofs.Common.{IsCutListing, IsListing, IsListingBeside, left, listed, wanting_not_ok, AskedBatch, views_of, BatchComes, BatchDecided, Asked}
+use Rattle.engine.proofs.Common.{AskedCheck, Case, Check, Command, IsCase, Make, Run, Write, asked_in, built, Certified, Made, OneVerdict, Answers}
+use Rattle.engine.proofs.Common.{AnswersBeside, IsReadingEnd, Comes, Decided, IsLeft, IsWatched, SidePuts, ViewPutsOf, Watched, views_asked, views_in}
+use Rattle.engine.proofs.Common.{AskedSpan, AskedSpanCheck, CheckSpan, IsListingOf, Span, CutOf}
 use Rattle.engine.specs.declared.asked.Command.{Command as CommandBy}
 use Rattle.engine.proofs.Outcomes.{Both, Laws, both, certified, complete, decided, made, put_rose, read_rose}
 use Rattle.outside.specs.declared.refusals.InputFault.TheVariants as input
@@ -20,36 +21,49 @@ quiet_by leads words None views h = tt
 quiet_by leads words (Some fs) views h = quiet leads words fs views h
 
 -- the views of a listing
-listing_puts : (leads : List Put → Type 0) (words : List Text) (files : Option (List File)) (k : Task) (views : Option ℕ) → IsCase words files (Listing k) → ViewPutsOf k leads views → IfSome files (λ fs. SidePuts leads words fs views)
-listing_puts leads words None k views is h = tt
-listing_puts leads words (Some fs) k None is h = h
-listing_puts leads words (Some fs) k (Some n) is (inl h) = inl h
-listing_puts leads words (Some fs) k (Some n) is (inr w) = inr (record { task = k; is = sym is; watched = w })
+listing_puts : (leads : List Put → Type 0) (words : List Text) (files : Option (List File)) (k : Task) (case : Case) (views : Option ℕ) → IsListingOf k case → IsCase words files case → ViewPutsOf k leads views → IfSome files (λ fs. SidePuts leads words fs views)
+listing_puts leads words None k case views has is h = tt
+listing_puts leads words (Some fs) k case None has is h = h
+listing_puts leads words (Some fs) k case (Some n) has is (inl h) = inl h
+listing_puts leads words (Some fs) k case (Some n) has is (inr w) = inr (record { task = k; is = subst (IsListingOf k) is has; watched = w })
 
 -- the views that a command asks for
 pub views_by : (words : List Text) (w : Wanted) (x y : CommandBy) → wanted_of words ≡ Some w → x ≡ y → views_of x ≡ views_asked w → views_in words ≡ views_of y
 views_by words w x y e same v = ap (option_and_then views_asked) e ∙ sym v ∙ ap views_of same
 
 -- the words ask for views only of a listing
-views_of_run : (w : Option Wanted) (n : ℕ) → option_and_then views_asked w ≡ Some n → (asked : Asked) × (option_and_then built w ≡ Some (Run asked))
-views_of_run (Some (Lists name digits workers rounds zones watch)) n e = (record { name = name; digits = digits; rounds = rounds; zones = zones }, refl)
+views_of_run : (w : Option Wanted) (n : ℕ) → option_and_then views_asked w ≡ Some n → ((asked : Asked) × (option_and_then built w ≡ Some (Run asked))) ⊎ ((asked : AskedSpan) × (option_and_then built w ≡ Some (Span asked)))
+views_of_run (Some (Lists name digits workers rounds zones watch)) n e = inl (record { name = name; digits = digits; rounds = rounds; zones = zones }, refl)
+views_of_run (Some (ListsTo name to digits workers rounds zones watch)) n e = inr (record { run = record { name = name; digits = digits; rounds = rounds; zones = zones }; to = to }, refl)
+views_of_run (Some (ChecksTo name to listing digits zones)) n e = absurd (let bad : Path (Option ℕ) None (Some n) = e in cc)
 views_of_run (Some (Makes seed size)) n e = absurd (let bad : Path (Option ℕ) None (Some n) = e in cc)
 views_of_run (Some (Writes name)) n e = absurd (let bad : Path (Option ℕ) None (Some n) = e in cc)
 views_of_run (Some (Checks name listing digits zones)) n e = absurd (let bad : Path (Option ℕ) None (Some n) = e in cc)
 views_of_run (Some (Batches list digits workers rounds)) n e = absurd (let bad : Path (Option ℕ) None (Some n) = e in cc)
 views_of_run None n e = absurd (let bad : Path (Option ℕ) None (Some n) = e in cc)
 
+-- a command without views is no listing
+no_views : (words : List Text) (command : Option Command) → ((asked : Asked) → command ≡ Some (Run asked) → ⊥) → ((asked : AskedSpan) → command ≡ Some (Span asked) → ⊥) → asked_in words ≡ command → (n : ℕ) → views_in words ≡ Some n → ⊥
+no_views words command run span is n e = by_listing (views_of_run (wanted_of words) n e)
+  where
+    by_listing : ((asked : Asked) × (asked_in words ≡ Some (Run asked))) ⊎ ((asked : AskedSpan) × (asked_in words ≡ Some (Span asked))) → ⊥
+    by_listing (inl (asked, wanted)) = run asked (sym is ∙ wanted)
+    by_listing (inr (asked, wanted)) = span asked (sym is ∙ wanted)
+
 pub viewless : (words : List Text) → asked_in words ≡ None → (n : ℕ) → views_in words ≡ Some n → ⊥
-viewless words none n e = let r = views_of_run (wanted_of words) n e in let bad : Path (Option Command) None (Some (Run r.0)) = sym none ∙ r.1 in cc
+viewless words = no_views words None (λ a x. let bad : Path (Option Command) None (Some (Run a)) = x in cc) (λ a x. let bad : Path (Option Command) None (Some (Span a)) = x in cc)
 
 pub viewless_make : (words : List Text) (seed size : ℕ) → asked_in words ≡ Some (Make seed size) → (n : ℕ) → views_in words ≡ Some n → ⊥
-viewless_make words seed size is n e = let r = views_of_run (wanted_of words) n e in let bad : Path (Option Command) (Some (Make seed size)) (Some (Run r.0)) = sym is ∙ r.1 in cc
+viewless_make words seed size = no_views words (Some (Make seed size)) (λ a x. let bad : Path (Option Command) (Some (Make seed size)) (Some (Run a)) = x in cc) (λ a x. let bad : Path (Option Command) (Some (Make seed size)) (Some (Span a)) = x in cc)
 
 pub viewless_check : (words : List Text) (asked : AskedCheck) → asked_in words ≡ Some (Check asked) → (n : ℕ) → views_in words ≡ Some n → ⊥
-viewless_check words asked is n e = let r = views_of_run (wanted_of words) n e in let bad : Path (Option Command) (Some (Check asked)) (Some (Run r.0)) = sym is ∙ r.1 in cc
+viewless_check words asked = no_views words (Some (Check asked)) (λ a x. let bad : Path (Option Command) (Some (Check asked)) (Some (Run a)) = x in cc) (λ a x. let bad : Path (Option Command) (Some (Check asked)) (Some (Span a)) = x in cc)
+
+pub viewless_span_check : (words : List Text) (asked : AskedSpanCheck) → asked_in words ≡ Some (CheckSpan asked) → (n : ℕ) → views_in words ≡ Some n → ⊥
+viewless_span_check words asked = no_views words (Some (CheckSpan asked)) (λ a x. let bad : Path (Option Command) (Some (CheckSpan asked)) (Some (Run a)) = x in cc) (λ a x. let bad : Path (Option Command) (Some (CheckSpan asked)) (Some (Span a)) = x in cc)
 
 pub viewless_write : (words : List Text) (name : Text) → asked_in words ≡ Some (Write name) → (n : ℕ) → views_in words ≡ Some n → ⊥
-viewless_write words name is n e = let r = views_of_run (wanted_of words) n e in let bad : Path (Option Command) (Some (Write name)) (Some (Run r.0)) = sym is ∙ r.1 in cc
+viewless_write words name = no_views words (Some (Write name)) (λ a x. let bad : Path (Option Command) (Some (Write name)) (Some (Run a)) = x in cc) (λ a x. let bad : Path (Option Command) (Some (Write name)) (Some (Span a)) = x in cc)
 
 end_not_ok : (line : Text) (meant end : Status) (tail : List Put) → (meant ≡ status.Ok → ⊥) → IsLast line meant end tail → end ≡ status.Ok → ⊥
 end_not_ok line meant end tail not (inl (same, t)) e = not (sym same ∙ e)
@@ -80,10 +94,10 @@ if_never P None never = tt
 if_never P (Some x) never = absurd never
 
 -- a run of a listing, beside which views were put
-left_of : (words : List Text) (files : Option (List File)) (n m : ℕ) (failed : Type 0) (k : Task) (end : Status) (puts : List Put) → IsCase words files (Listing k) → (IsRun (IsListing k) (IsCutListing k) end puts → Answers words files n m end puts) → IsRun (IsListingBeside failed k) (IsCutListing k) end puts → Answers words files n m end puts ⊎ ((case : Case) × IsCase words files case × IsLeft failed case end puts)
-left_of words files n m failed k end puts is answers (whole meant pieces (listed same all d)) = inl (answers (whole meant pieces d))
-left_of words files n m failed k end puts is answers (whole meant pieces (left all f c)) = inr (Listing k, is, record { why = f; is = refl; pieces = pieces; cut = c; taken_whole = refl })
-left_of words files n m failed k end puts is answers (early meant before after tail b t) = inl (answers (early meant before after tail (alone_begins failed k before after b) t))
+left_of : (words : List Text) (files : Option (List File)) (n m : ℕ) (failed : Type 0) (k : Task) (c : Case) (end : Status) (puts : List Put) → ((pieces : List Text) → IsCutListing k pieces → CutOf c pieces) → IsCase words files c → (IsRun (IsListing k) (IsCutListing k) end puts → Answers words files n m end puts) → IsRun (IsListingBeside failed k) (IsCutListing k) end puts → Answers words files n m end puts ⊎ ((case : Case) × IsCase words files case × IsLeft failed case end puts)
+left_of words files n m failed k c end puts cuts is answers (whole meant pieces (listed same all d)) = inl (answers (whole meant pieces d))
+left_of words files n m failed k c end puts cuts is answers (whole meant pieces (left all f d)) = inr (c, is, record { why = f; is = refl; pieces = pieces; cut = cuts pieces d; taken_whole = refl })
+left_of words files n m failed k c end puts cuts is answers (early meant before after tail b t) = inl (answers (early meant before after tail (alone_begins failed k before after b) t))
 
 module _ (words : List Text) (files : Option (List File)) (n m : ℕ) (failed : Type 0) (leads : List Put → Type 0) (end : Status) (puts : List Put) where
   abbrev Besides : Type 0
@@ -96,18 +110,18 @@ module _ (words : List Text) (files : Option (List File)) (n m : ℕ) (failed : 
   pub not_ok : leads [] → Answers words files n m end puts → (end ≡ status.Ok → ⊥) → Besides
   not_ok silent a bad = record { answers = inl a; watched = λ e j v. if_never (λ fs. Watched words fs j leads) files (bad e); side = quiet_by leads words files (views_in words) silent }
 
-  views_of_case : (k : Task) (o : Option (List File)) → IsCase words o (Listing k) → (j : ℕ) → IsWatched k j leads → IfSome o (λ fs. Watched words fs j leads)
-  views_of_case k (Some fs) is j w = record { task = k; is = sym is; watched = w }
-  views_of_case k None is j w = tt
+  views_of_case : (k : Task) (case : Case) (o : Option (List File)) → IsListingOf k case → IsCase words o case → (j : ℕ) → IsWatched k j leads → IfSome o (λ fs. Watched words fs j leads)
+  views_of_case k case (Some fs) has is j w = record { task = k; is = subst (IsListingOf k) is has; watched = w }
+  views_of_case k case None has is j w = tt
 
   asked_views : (k : Task) (watch : Option ℕ) → views_in words ≡ watch → IfSome watch (λ j. IsWatched k j leads) → (j : ℕ) → views_in words ≡ Some j → IsWatched k j leads
   asked_views k watch same h j e = let P : Option ℕ → Type 0 = λ o. IfSome o (λ i. IsWatched k i leads) in subst P (sym same ∙ e) h
 
-  pub of_listing : (k : Task) (watch : Option ℕ) → views_in words ≡ watch → IsCase words files (Listing k) → AreDecks k.decks → (IsRun (IsListing k) (IsCutListing k) end puts → Answers words files n m end puts) → IsRun (IsListingBeside failed k) (IsCutListing k) end puts → (end ≡ status.Ok → IfSome watch (λ j. IsWatched k j leads)) → ViewPutsOf k leads watch → Besides
-  of_listing k watch same is model answers run w views = record {
-    answers = left_of words files n m failed k end puts is answers run;
-    watched = λ e j v. views_of_case k files is j (asked_views k watch same (w e) j v);
-    side = (let P : Option ℕ → Type 0 = λ o. IfSome files (λ fs. SidePuts leads words fs o) in subst P (sym same) (listing_puts leads words files k watch is views));
+  pub of_listing : (k : Task) (c : Case) → IsListingOf k c → ((pieces : List Text) → IsCutListing k pieces → CutOf c pieces) → (watch : Option ℕ) → views_in words ≡ watch → IsCase words files c → AreDecks k.decks → (IsRun (IsListing k) (IsCutListing k) end puts → Answers words files n m end puts) → IsRun (IsListingBeside failed k) (IsCutListing k) end puts → (end ≡ status.Ok → IfSome watch (λ j. IsWatched k j leads)) → ViewPutsOf k leads watch → Besides
+  of_listing k c has cuts watch same is model answers run w views = record {
+    answers = left_of words files n m failed k c end puts cuts is answers run;
+    watched = λ e j v. views_of_case k c files has is j (asked_views k watch same (w e) j v);
+    side = (let P : Option ℕ → Type 0 = λ o. IfSome files (λ fs. SidePuts leads words fs o) in subst P (sym same) (listing_puts leads words files k c watch has is views));
   }
 
   left_not_ok : (case : Case) → IsLeft failed case end puts → end ≡ status.Ok → ⊥

@@ -1,49 +1,62 @@
 -- Names that several proofs of this crate cite, of the crates below and of its own definitions, passed on from one place. Declares nothing.
-pub use Rattle.std.proofs.Common.{Bool, Err, IfOk, IfSome, List, None, Ok, Option, Result, Some, [], ap, arith, codes, cond, false, get_or, if◌then◌else◌, inl}
-pub use Rattle.std.proofs.Common.{inr, length, length-append, map, option_and_then, option_map, refl, rules, subst, suc, sym, take, true, unsigned_abs, zero, ℕ}
-pub use Rattle.std.proofs.Common.{ℤ, ◌*◌, ◌++◌, ◌+◌, ◌<◌, ◌∙◌, ◌∷◌, ◌≡◌, ◌≢◌, ◌≤◌, ◌⊎◌}
+pub use Rattle.std.proofs.Common.{Bool, Err, IfOk, IfSome, List, None, Ok, Option, Result, Some, [], ap, arith, codes, cond, get_or, if◌then◌else◌, inl, inr}
+pub use Rattle.std.proofs.Common.{length, length-append, map, option_and_then, option_map, refl, rules, subst, suc, sym, take, true, unsigned_abs, zero, ℕ, ℤ}
+pub use Rattle.std.proofs.Common.{◌*◌, ◌++◌, ◌+◌, ◌<◌, ◌∙◌, ◌∷◌, ◌≡◌, ◌≢◌, ◌≤◌, ◌⊎◌}
 pub use Rattle.std.proofs.lemmas.List.{append-nil, append_assoc, length-map, map-append, take_all, take_more}
 pub use Rattle.std.proofs.lemmas.List.Elements.{All-append, All-cons, All-get_or, All-head, All-nil, All-push, All-tail, All-weaker}
 pub use Rattle.std.proofs.lemmas.Result.{err_from_is_err_and}
 pub use Rattle.std.specs.Io.KnownBytes.{Appends}
 pub use Rattle.std.specs.List.{AllZip, concat}
-pub use Rattle.std.specs.Prelude.{All, MatchOption, is_some, slice_get}
+pub use Rattle.std.specs.Prelude.{All, MatchOption, false, is_some, slice_get}
 pub use Rattle.batch_list.specs.Names.{names_in}
 pub use Rattle.batch_puts.proofs.Batches.{batch_run, batch_settles, batches_agree, ends_of_jobs}
 pub use Rattle.batch_puts.specs.Batches.{IsBatch}
 pub use Rattle.batch_puts.specs.declared.job_end.JobEnd.{JobEnd}
+pub use Rattle.check_run.proofs.RunEnclosed.{run_encloses}
 pub use Rattle.check_run.specs.Laws.{VerdictIsOne}
+pub use Rattle.check_run.specs.Runs.{IsReadable, RunIsCertified, RunIsReadAgain, as_listed}
 pub use Rattle.check_run.specs.Verdicts.{IsVerdict, ListingEncloses}
 pub use Rattle.check_run.specs.declared.verdict.ListingVerdict.{ListingVerdict}
 pub use Rattle.check_run.specs.declared.verdict.ListingVerdict.TheVariants.{Fails}
-pub use Rattle.command_line.specs.Wants.{Batches, Checks, Lists, Makes, Wanted, Writes, wanted_of}
+pub use Rattle.chosen_histories.specs.Decks.{ChoicesHaveOne, HaveOneHistory}
+pub use Rattle.command_line.proofs.DigitLemmas.{check_digits, check_to_digits}
+pub use Rattle.command_line.specs.Wants.{Batches, Checks, ChecksTo, Lists, ListsTo, Makes, Wanted, Writes, wanted_of}
+pub use Rattle.deck_alike.specs.Differences.{IsFirstDifference}
+pub use Rattle.deck_alike.specs.declared.difference.Difference.{Difference}
 pub use Rattle.deck_problems.proofs.Members.{one_valid}
 pub use Rattle.deck_problems.specs.Decks.{AreDecks, one_deck}
+pub use Rattle.deck_problems.specs.declared.decks.Decks.{Decks}
+pub use Rattle.deck_span.specs.Alike.{AreAlike}
 pub use Rattle.engine.specs.BatchCommands.{batch_by}
 pub use Rattle.engine.specs.BatchReads.{AreJobsRead, AreTasks, HasNames, IsFaultOf, IsJobRead}
 pub use Rattle.engine.specs.BatchRuns.{AnyAnswers, AnyComes, AnyDecided, AnyPuts, AreValid, BatchAnswers, BatchComes, BatchDecided, BatchDue, BatchPuts, HasJob}
-pub use Rattle.engine.specs.BatchRuns.{IsBatchRun, IsValidJob, defined, unread}
+pub use Rattle.engine.specs.BatchRuns.{IsBatchRun, IsValidJob, unread}
 pub use Rattle.engine.specs.Batched.{Batched, HasEnded, HasNoList, IsJobListing}
 pub use Rattle.engine.specs.Batches.{AskedBatch, BatchCase, BatchDefines, IsBatchCase, IsJobEnd, IsRunText, IsSomeJob, Jobs, NoList, batch_asked, batch_case}
 pub use Rattle.engine.specs.Batches.{batch_case_of, batch_of, job_case, job_of, job_task, model_line, names_at, names_read, task_read}
-pub use Rattle.engine.specs.Cases.{Asked, AskedCheck, Case, Check, Checking, Command, CouldList, CouldRead, IsCase, Listing, Make, Making, NoWords}
-pub use Rattle.engine.specs.Cases.{ReadsNothing, Refuses, Run, Write, Writing, asked_in, built, case_asked, case_checked, case_listed, case_of, case_read}
-pub use Rattle.engine.specs.Cases.{case_written, case_zoned, listing_read, made_model, named, numbers_of, steps_in, steps_read, task_of, with_zones}
-pub use Rattle.engine.specs.Cases.{zoned_steps, zones_named, zones_read}
+pub use Rattle.engine.specs.Cases.{Asked, AskedCheck, AskedSpan, AskedSpanCheck, Case, Check, CheckSpan, Checking, Command, Comparing, CouldList, CouldRead}
+pub use Rattle.engine.specs.Cases.{IsCase, IsCheckingOf, IsListingOf, Listing, Make, Making, NoWords, Readings, ReadsNothing, Refuses, Run, Span, Write}
+pub use Rattle.engine.specs.Cases.{Writing, asked_in, built, case_asked, case_between, case_checked, case_compared, case_listed, case_of, case_read}
+pub use Rattle.engine.specs.Cases.{case_written, case_zoned, decks_task, listing_read, made_model, named, numbers_of, readings_of, some_readings, span_task_of}
+pub use Rattle.engine.specs.Cases.{steps_in, steps_read, task_of, with_zones, zoned_steps, zones_named, zones_read}
 pub use Rattle.engine.specs.Certified.{Certified}
 pub use Rattle.engine.specs.Checked.{IsCheck, certified_line, verdict_line, verdict_status}
 pub use Rattle.engine.specs.Commands.{asked_of, check_of, command_of, views_of}
 pub use Rattle.engine.specs.Decks.{IsDeck, OneDeck}
-pub use Rattle.engine.specs.Defined.{CutOf, Defines, Due, ReadsFolder}
+pub use Rattle.engine.specs.Defined.{CutOf, Defines, Due, ReadsFolder, defined}
 pub use Rattle.engine.specs.Headline.{Headline}
 pub use Rattle.engine.specs.Made.{IsMade, IsSummed, Made, made_task, summed_text}
 pub use Rattle.engine.specs.OneListing.{OneListing, OneSummary, OneVerdict}
-pub use Rattle.engine.specs.Parts.{Answers, AnswersBeside, AreStepsAs, AreZonesAs, IsListed, IsListedAs, IsMadeRun, IsNamedFault, IsReadAs, IsReadingEnd}
-pub use Rattle.engine.specs.Parts.{IsStopped, IsValid, made_fault}
+pub use Rattle.engine.specs.Parts.{Answers, AnswersBeside, AreDecksAs, AreStepsAs, AreZonesAs, IsListed, IsListedAs, IsMadeRun, IsNamedFault, IsReadAs}
+pub use Rattle.engine.specs.Parts.{IsReadingEnd, IsSecondAs, IsStopped, IsUnlikeFault, IsValid, made_fault, second_by}
 pub use Rattle.engine.specs.Runs.{Comes, Decided, HasCertified, HasDeck, HasListing, HasTask, IsLeft, IsRunOf, Puts}
 pub use Rattle.engine.specs.Serving.{IsStopNumber}
+pub use Rattle.engine.specs.SpanHeadline.{ArePairOf, OneSpan, SpanCertified, SpanHeadline, SpanVerdict}
+pub use Rattle.engine.specs.TwoDecks.{ArePair, IsPairRefusal, Second, not_alike, of_both, of_first, of_second}
+unfoldable pub use Rattle.engine.specs.TwoDecks.{second_in}
 pub use Rattle.engine.specs.Watched.{AreFirstViews, ArePutInTurn, AreViews, AreWatched, IsView, IsWatched, Shows, SidePuts, ViewPutsOf, Watched, lines_of}
 pub use Rattle.engine.specs.Watched.{views_asked, views_in}
+pub use Rattle.engine.specs.Written.{ChecksSpan, ChecksWritten, OneListingIsCertified, OneSpanIsCertified, WrittenIsCertified, WrittenSpanIsCertified}
 pub use Rattle.engine.specs.declared.job.Job.{Job}
 pub use Rattle.engine.specs.declared.zoned.ZonedListing.{ZonedListing}
 pub use Rattle.exact_histories.proofs.WholeRuns.{history_exists, history_is_one}
@@ -55,20 +68,25 @@ pub use Rattle.listing_run.proofs.Lines.{ends_by}
 pub use Rattle.listing_run.proofs.Stopping.{alone, beside, beside_by, wanting_not_ok}
 pub use Rattle.listing_run.proofs.Wholes.{IsWhole, is_whole, whole_listing}
 pub use Rattle.listing_run.specs.Ends.{IsTask}
+pub use Rattle.listing_run.specs.Laws.{ListingExcludesRefusal, ListingIsOne, RefusalIsOne}
 pub use Rattle.listing_run.specs.Listing.{IsCutListing, IsListing, IsListingBeside, last_line, left, listed, listing, status_of}
 pub use Rattle.listing_run.specs.Settlers.{AllSettledBy, AreSettledBy, IsSettledBy, PairEncloses, Reaches, ReachesFirst, RestsOrSettles, begun, rests, settled}
-pub use Rattle.listing_run.specs.Steps.{AllSteps, IsStep, no_budget, no_heads, no_zones}
+pub use Rattle.listing_run.specs.Steps.{AllSteps, IsStep, Steps, no_budget, no_heads, no_zones}
+pub use Rattle.listing_run.specs.Tasks.{deck_task, one_task}
 pub use Rattle.listing_run.specs.declared.listing_end.ListingEnd.{ListingEnd}
 pub use Rattle.listing_run.specs.declared.step.Step.{Step}
 pub use Rattle.listing_run.specs.declared.task.Task.{Task}
 pub use Rattle.model_maker.specs.Files.{made_files, made_name}
-pub use Rattle.model_reader.specs.Model.{reads}
+pub use Rattle.model_reader.proofs.UnitLemmas.{unit_is_short}
+pub use Rattle.model_reader.specs.Model.{model_of}
+unfoldable pub use Rattle.model_reader.specs.Model.{reads}
 pub use Rattle.model_text.specs.Decks.{deck_text}
 pub use Rattle.model_types.specs.Times.{times}
 pub use Rattle.model_types.specs.Valid.{IsModel}
 pub use Rattle.model_types.specs.declared.limits.Limits.TheVariants.{Plain}
 pub use Rattle.model_types.specs.declared.model.FlowModel.{FlowModel}
 pub use Rattle.model_types.specs.declared.time_steps.TimeStep.{TimeStep}
+pub use Rattle.name_file.specs.Pairs.{Pairs}
 pub use Rattle.outside.specs.Counts.{InputCounts, Rose}
 pub use Rattle.outside.specs.Files.{File}
 pub use Rattle.outside.specs.Inputs.{IsReading, file_at, file_limit, file_refusal}
@@ -80,7 +98,7 @@ pub use Rattle.outside.specs.declared.refusals.InputFault.{InputFault}
 pub use Rattle.outside.specs.declared.refusals.Refusal.{Refusal}
 pub use Rattle.outside.specs.declared.refusals.TextFault.{TextFault}
 pub use Rattle.outside.specs.declared.traits.SinkError.{SinkError}
-pub use Rattle.record_lines.specs.Reading.{Has, Stops, StopsText}
+pub use Rattle.record_lines.specs.Reading.{Has, Stops, StopsText, ◌>>=◌}
 pub use Rattle.run_puts.proofs.Makes.{all_written, write_rose}
 pub use Rattle.run_puts.proofs.Pieces.{IsLate, lacks_at_first, late_not_ok, late_not_read, lone, tail_late, weaker}
 pub use Rattle.run_puts.specs.Agreement.{Agree, IsUnfinished}
@@ -91,6 +109,8 @@ pub use Rattle.run_puts.specs.Statuses.{code_of}
 pub use Rattle.run_puts.specs.Tails.{failed, memory_put, status_after, wanting}
 pub use Rattle.run_puts.specs.declared.status.Status.{Status}
 pub use Rattle.settle_driver.specs.Views.{AddsPhases, EnclosesPair}
+pub use Rattle.span_steps.specs.Steps.{AreAllSteps, AreSteps, two}
+pub use Rattle.step_chain.specs.declared.solved.Solved.{Solved}
 pub use Rattle.step_problem.specs.Entries.{Entries}
 pub use Rattle.step_problem.specs.Heads.{Edges, lower_at, upper_at}
 pub use Rattle.step_problem.specs.declared.heads.Bound.{Bound}

@@ -1,24 +1,24 @@
 -- The ends of the writing of a deck, by its reading.
-use Rattle.engine.proofs.Common.{◌≡◌, ℕ, List, Ok, Err, Result, Option, None, Some, refl, sym, ap, subst, ◌∙◌, InputCounts, File, Put, InputFault, Refusal}
-use Rattle.engine.proofs.Common.{FlowModel, IsModel, reads, Text, IsRun, NeverCut, Status, ZonedListing, AskedCheck, Command, Write, Refuses, Writing, IsCase}
-use Rattle.engine.proofs.Common.{asked_in, case_asked, case_written, listing_read, named, zones_read, IsDeck, Answers, IsReadAs, IsReadingEnd, Plain}
-use Rattle.engine.proofs.Ends.{could_read, decked, ends_without_words, no_steps, refused, same_steps, same_zones, some_case, unreadable}
-use Rattle.engine.proofs.Readings.{no_zones}
+use Rattle.engine.proofs.Common.{◌≡◌, ℕ, List, Ok, Err, Result, Option, None, Some, sym, ap, subst, InputCounts, File, Put, InputFault, Refusal, FlowModel}
+use Rattle.engine.proofs.Common.{IsModel, reads, Text, IsRun, NeverCut, Status, Command, Write, Refuses, Writing, IsCase, asked_in, case_asked, case_written}
+use Rattle.engine.proofs.Common.{named, IsDeck, Answers, IsReadAs, IsReadingEnd, Readings, readings_of, some_readings}
+use Rattle.engine.proofs.Ends.{could_read, decked, ends_without_words, no_steps, refused, some_case, unreadable}
+use Rattle.engine.proofs.Readings.{no_second, no_zones}
 use Rattle.outside.specs.declared.refusals.InputFault.TheVariants as input
 
 module _ (words : List Text) (files : Option (List File)) (n m : ℕ) (name : Text) (wanted : asked_in words ≡ Some (Write name)) where
-  deck_case : (read : Text → Result FlowModel Refusal) (zoned : Option Text → FlowModel → Result (Option (List ℕ)) Refusal) (listed : AskedCheck → FlowModel → Result ZonedListing Refusal) (r : Result FlowModel Refusal) → named name read ≡ r → case_written r ≡ case_asked (asked_in words) read zoned listed
-  deck_case read zoned listed r is =
-      let P : Option Command → Type 0 = λ a. case_written r ≡ case_asked a read zoned listed in
+  deck_case : (read : Readings) (r : Result FlowModel Refusal) → named name read.model ≡ r → case_written r ≡ case_asked (asked_in words) read
+  deck_case read r is =
+      let P : Option Command → Type 0 = λ a. case_written r ≡ case_asked a read in
       subst P (sym wanted) (ap case_written (sym is))
 
   unread_case : (files : Option (List File)) (refusal : Refusal) → IsReadAs name files (Err (input.Refused refusal)) → IsCase words files (Refuses refusal)
-  unread_case (Some fs) refusal h = deck_case (reads Plain fs) (zones_read fs) (listing_read fs) (Err refusal) h
-  unread_case None refusal (read, valid, h) = (read, no_zones, no_steps, could_read read valid, deck_case (λ n. read) (same_zones no_zones) (same_steps no_zones no_steps) (Err refusal) h)
+  unread_case (Some fs) refusal h = deck_case (readings_of fs) (Err refusal) h
+  unread_case None refusal (read, valid, h) = (read, no_second, no_zones, no_steps, could_read read valid, deck_case (some_readings read no_second no_zones no_steps) (Err refusal) h)
 
   model_case : (files : Option (List File)) (f : FlowModel) → IsReadAs name files (Ok f) → IsCase words files (Writing f)
-  model_case (Some fs) f h = deck_case (reads Plain fs) (zones_read fs) (listing_read fs) (Ok f) h
-  model_case None f (read, valid, h) = (read, no_zones, no_steps, could_read read valid, deck_case (λ n. read) (same_zones no_zones) (same_steps no_zones no_steps) (Ok f) h)
+  model_case (Some fs) f h = deck_case (readings_of fs) (Ok f) h
+  model_case None f (read, valid, h) = (read, no_second, no_zones, no_steps, could_read read valid, deck_case (some_readings read no_second no_zones no_steps) (Ok f) h)
 
   pub ends_undecked : (fault : InputFault) (end : Status) (puts : List Put) → IsReadAs name files (Err fault) → InputCounts {T = FlowModel} n m (Err fault) → IsReadingEnd fault end puts → Answers words files n m end puts
   ends_undecked (input.Refused refusal) end puts reads counts h = refused words files n m refusal end puts (unread_case files refusal reads) h

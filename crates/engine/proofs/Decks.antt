@@ -1,11 +1,12 @@
 -- A deck that is written.
-use Rattle.engine.proofs.Common.{◌≡◌, ℕ, List, [], ◌∷◌, Ok, Err, Result, Option, None, Some, map, refl, sym, ap, subst, inl, inr, ◌⊎◌, ◌∙◌, append-nil, Appends}
-use Rattle.engine.proofs.Common.{File, Put, Seen, PutsMake, taken, Refusal, FlowModel, IsModel, reads, deck_text, Text, Status, all_written, ZonedListing}
-use Rattle.engine.proofs.Common.{Asked, AskedCheck, Case, Command, Run, Make, Check, Write, NoWords, Refuses, Listing, Making, Checking, Writing, asked_in}
-use Rattle.engine.proofs.Common.{case_asked, case_checked, case_listed, case_of, case_read, case_written, case_zoned, listing_read, made_model, named, task_of}
-use Rattle.engine.proofs.Common.{zones_read, IsDeck, OneDeck, IsStopped, IsValid, Plain}
+use Rattle.engine.proofs.Common.{◌≡◌, ℕ, List, [], ◌∷◌, Ok, Err, Result, Option, None, Some, map, refl, ap, subst, inl, inr, ◌∙◌, append-nil, Appends, File}
+use Rattle.engine.proofs.Common.{Put, Seen, PutsMake, taken, Refusal, FlowModel, IsModel, reads, deck_text, Text, Status, all_written, ZonedListing, Asked}
+use Rattle.engine.proofs.Common.{AskedCheck, Case, Command, Run, Make, Check, Write, NoWords, Refuses, Listing, Making, Checking, Writing, asked_in, case_asked}
+use Rattle.engine.proofs.Common.{case_checked, case_listed, case_of, case_read, case_written, case_zoned, listing_read, made_model, named, task_of, zones_read}
+use Rattle.engine.proofs.Common.{IsDeck, OneDeck, IsValid, Plain, one_deck, CheckSpan, Comparing, Span, case_between, case_compared, readings_of, Second}
+use Rattle.engine.proofs.Common.{second_in, false, true, two}
 use Rattle.model_forms.proofs.DeckForms.{deck_reads}
-use Rattle.engine.proofs.Certifying.{IsFault, not_stopped}
+use Rattle.engine.proofs.Certifying.{IsFault, compared_case, not_stopped}
 use Rattle.engine.proofs.Readings.{named_read}
 use Rattle.run_puts.specs.declared.status.Status.TheVariants as status
 
@@ -31,6 +32,9 @@ unfolding model_in
 one_model f m e = ap (model_in f) e
 
 module _ (words : List Text) (files : List File) (m : FlowModel) where
+  no_compared : (r : Result FlowModel Refusal) (second : Result Second Refusal) (alike : (first second : FlowModel) → Case) → case_compared r second alike ≡ Writing m → ⊥
+  no_compared = compared_case (λ c. c ≡ Writing m → ⊥) (λ refusal x. let bad : Refuses refusal ≡ Writing m = x in cc) (λ a b c x. let bad : Comparing a b c ≡ Writing m = x in cc)
+
   no_zoned : (asked : Asked) (f : FlowModel) (z : Result (Option (List ℕ)) Refusal) → case_zoned asked f z ≡ Writing m → ⊥
   no_zoned asked f (Ok zones) e = let bad : Listing (task_of asked f zones) ≡ Writing m = e in cc
   no_zoned asked f (Err refusal) e = let bad : Refuses refusal ≡ Writing m = e in cc
@@ -39,23 +43,25 @@ module _ (words : List Text) (files : List File) (m : FlowModel) where
   no_run asked (Ok f) e = no_zoned asked f (zones_read files asked.zones f) e
   no_run asked (Err refusal) e = let bad : Refuses refusal ≡ Writing m = e in cc
 
-  no_listed : (asked : AskedCheck) (f : FlowModel) (l : Result ZonedListing Refusal) → case_listed asked f l ≡ Writing m → ⊥
-  no_listed asked f (Ok steps) e = let bad : Checking f asked.digits steps ≡ Writing m = e in cc
+  no_listed : (asked : AskedCheck) (f : FlowModel) (l : Result ZonedListing Refusal) → case_listed asked (one_deck f) l ≡ Writing m → ⊥
+  no_listed asked f (Ok steps) e = let bad : Checking (one_deck f) asked.digits steps ≡ Writing m = e in cc
   no_listed asked f (Err refusal) e = let bad : Refuses refusal ≡ Writing m = e in cc
 
-  no_check : (asked : AskedCheck) (r : Result FlowModel Refusal) → case_checked asked r (listing_read files asked) ≡ Writing m → ⊥
-  no_check asked (Ok f) e = no_listed asked f (listing_read files asked f) e
+  no_check : (asked : AskedCheck) (r : Result FlowModel Refusal) → case_checked asked r (listing_read false files asked) ≡ Writing m → ⊥
+  no_check asked (Ok f) e = no_listed asked f (listing_read false files asked f) e
   no_check asked (Err refusal) e = let bad : Refuses refusal ≡ Writing m = e in cc
 
   by_model : (name : Text) → asked_in words ≡ Some (Write name) → (r : Result FlowModel Refusal) → named name (reads Plain files) ≡ r → case_written r ≡ Writing m → Decked words files m
   by_model name wanted (Ok f) is e = record { name = name; wanted = wanted; read = named_read name (reads Plain files) m (is ∙ ap Ok (one_model f m e)) }
   by_model name wanted (Err refusal) is e = absurd (let bad : Refuses refusal ≡ Writing m = e in cc)
 
-  by_words : (a : Option Command) → asked_in words ≡ a → case_asked a (reads Plain files) (zones_read files) (listing_read files) ≡ Writing m → Decked words files m
+  by_words : (a : Option Command) → asked_in words ≡ a → case_asked a (readings_of files) ≡ Writing m → Decked words files m
   by_words None wanted e = absurd (let bad : NoWords ≡ Writing m = e in cc)
   by_words (Some (Run asked)) wanted e = absurd (no_run asked (named asked.name (reads Plain files)) e)
   by_words (Some (Make seed size)) wanted e = absurd (let bad : Making seed size (made_model seed size) ≡ Writing m = e in cc)
   by_words (Some (Check asked)) wanted e = absurd (no_check asked (named asked.name (reads Plain files)) e)
+  by_words (Some (Span asked)) wanted e = absurd (no_compared (named asked.run.name (reads Plain files)) (named asked.to (second_in files)) (λ x y. case_between asked.run x y (zones_read files asked.run.zones x)) e)
+  by_words (Some (CheckSpan asked)) wanted e = absurd (no_compared (named asked.check.name (reads Plain files)) (named asked.to (second_in files)) (λ x y. case_listed asked.check (two x y) (listing_read true files asked.check x)) e)
   by_words (Some (Write name)) wanted e = by_model name wanted (named name (reads Plain files)) refl e
 
   pub deck_told : case_of words files ≡ Writing m → Decked words files m

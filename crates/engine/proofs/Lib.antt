@@ -3,12 +3,16 @@ pub mod Readings
 pub mod Ends
 pub mod Summed
 pub mod Verdicts
+pub mod SpanEnds
+pub mod SpanVerdicts
 pub mod Certifying
 pub mod Decks
+pub mod Spans
 pub mod Decking
 pub mod Outcomes
 pub mod StoredSteps
 pub mod Written
+pub mod SpanWritten
 pub mod Numbers
 pub mod Beside
 pub mod Mapped

@@ -1,7 +1,7 @@
 -- The files of a command are those that its words name.
 use Rattle.engine.proofs.Common.{◌≡◌, ℕ, List, [], ◌∷◌, Option, Some, None, subst, option_and_then, All-head, All-tail, file_limit, folder_name, Wanted, Lists}
-use Rattle.engine.proofs.Common.{Checks, Makes, Batches, Writes, wanted_of, Text, AskedBatch, batch_of, batch_asked, Asked, AskedCheck, Run, Check, Write}
-use Rattle.engine.proofs.Common.{built, asked_in}
+use Rattle.engine.proofs.Common.{ListsTo, Checks, ChecksTo, Makes, Batches, Writes, wanted_of, Text, AskedBatch, batch_of, batch_asked, Asked, AskedCheck, Run}
+use Rattle.engine.proofs.Common.{Check, Write, built, asked_in, AskedSpan, AskedSpanCheck, CheckSpan, Span}
 use Rattle.std.specs.Prelude.{IfSome}
 use Rattle.outside.specs.Asking.{WordsMay}
 use Rattle.engine.specs.Asking.{files_of, files_if, files_named}
@@ -16,6 +16,12 @@ module _ (may : List ℕ → ℕ → Type 0) where
   abbrev OfCheck : AskedCheck → Type 0
   OfCheck a = May a.name × IfSome a.zones May × May a.listing
 
+  abbrev OfSpan : AskedSpan → Type 0
+  OfSpan a = OfRun a.run × May a.to
+
+  abbrev OfSpanCheck : AskedSpanCheck → Type 0
+  OfSpanCheck a = OfCheck a.check × May a.to
+
   by_run : (w : Wanted) (a : Asked) → built w ≡ Some (Run a) → WordsMay may (files_of w) → OfRun a
   by_run (Lists name digits workers rounds None turns) a e h =
       let same : record { name = name; digits = digits; rounds = rounds; zones = None } ≡ a = cc in
@@ -24,6 +30,8 @@ module _ (may : List ℕ → ℕ → Type 0) where
       let same : record { name = name; digits = digits; rounds = rounds; zones = Some zones } ≡ a = cc in
       subst OfRun same (All-head May name (zones ∷ []) h, All-head May zones [] (All-tail May name (zones ∷ []) h))
   by_run (Checks name listing digits zones) a e h = absurd cc
+  by_run (ListsTo name to digits workers rounds zones turns) a e h = absurd cc
+  by_run (ChecksTo name to listing digits zones) a e h = absurd cc
   by_run (Makes seed size) a e h = absurd cc
   by_run (Batches list digits workers rounds) a e h = absurd cc
   by_run (Writes name) a e h = absurd cc
@@ -37,6 +45,8 @@ module _ (may : List ℕ → ℕ → Type 0) where
       let same : record { name = name; listing = listing; digits = digits; zones = Some zones } ≡ a = cc in
       let more = All-tail May name (zones ∷ listing ∷ []) h in
       subst OfCheck same (All-head May name (zones ∷ listing ∷ []) h, All-head May zones (listing ∷ []) more, All-head May listing [] (All-tail May zones (listing ∷ []) more))
+  by_check (ListsTo name to digits workers rounds zones turns) a e h = absurd cc
+  by_check (ChecksTo name to listing digits zones) a e h = absurd cc
   by_check (Makes seed size) a e h = absurd cc
   by_check (Batches list digits workers rounds) a e h = absurd cc
   by_check (Writes name) a e h = absurd cc
@@ -44,6 +54,8 @@ module _ (may : List ℕ → ℕ → Type 0) where
   by_write : (w : Wanted) (deck : Text) → built w ≡ Some (Write deck) → WordsMay may (files_of w) → May deck
   by_write (Lists name digits workers rounds zones turns) deck e h = absurd cc
   by_write (Checks name listing digits zones) deck e h = absurd cc
+  by_write (ListsTo name to digits workers rounds zones turns) deck e h = absurd cc
+  by_write (ChecksTo name to listing digits zones) deck e h = absurd cc
   by_write (Makes seed size) deck e h = absurd cc
   by_write (Batches list digits workers rounds) deck e h = absurd cc
   by_write (Writes name) deck e h =
@@ -53,11 +65,54 @@ module _ (may : List ℕ → ℕ → Type 0) where
   by_batch : (w : Wanted) (b : AskedBatch) → batch_of w ≡ Some b → WordsMay may (files_of w) → May b.list
   by_batch (Lists name digits workers rounds zones turns) b e h = absurd cc
   by_batch (Checks name listing digits zones) b e h = absurd cc
+  by_batch (ListsTo name to digits workers rounds zones turns) b e h = absurd cc
+  by_batch (ChecksTo name to listing digits zones) b e h = absurd cc
   by_batch (Makes seed size) b e h = absurd cc
   by_batch (Writes name) b e h = absurd cc
   by_batch (Batches list digits workers rounds) b e h =
       let same : record { list = list; digits = digits; rounds = rounds } ≡ b = cc in
       subst (λ (x : AskedBatch). May x.list) same (All-head May list [] h)
+
+  -- a run of two decks: what its run names, and the second name file; and so a check
+  by_span : (w : Wanted) (a : AskedSpan) → built w ≡ Some (Span a) → WordsMay may (files_of w) → OfRun a.run × May a.to
+  by_span (ListsTo name to digits workers rounds None turns) a e h =
+      let same : record { run = record { name = name; digits = digits; rounds = rounds; zones = None }; to = to } ≡ a = cc in
+      subst OfSpan same ((All-head May name (to ∷ []) h, tt), All-head May to [] (All-tail May name (to ∷ []) h))
+  by_span (ListsTo name to digits workers rounds (Some zones) turns) a e h =
+      let same : record { run = record { name = name; digits = digits; rounds = rounds; zones = Some zones }; to = to } ≡ a = cc in
+      let more = All-tail May name (to ∷ zones ∷ []) h in
+      subst OfSpan same ((All-head May name (to ∷ zones ∷ []) h, All-head May zones [] (All-tail May to (zones ∷ []) more)), All-head May to (zones ∷ []) more)
+  by_span (Lists name digits workers rounds zones turns) a e h = absurd cc
+  by_span (Checks name listing digits zones) a e h = absurd cc
+  by_span (ChecksTo name to listing digits zones) a e h = absurd cc
+  by_span (Makes seed size) a e h = absurd cc
+  by_span (Batches list digits workers rounds) a e h = absurd cc
+  by_span (Writes name) a e h = absurd cc
+
+  by_span_check : (w : Wanted) (a : AskedSpanCheck) → built w ≡ Some (CheckSpan a) → WordsMay may (files_of w) → OfCheck a.check × May a.to
+  by_span_check (ChecksTo name to listing digits None) a e h =
+      let same : record { check = record { name = name; listing = listing; digits = digits; zones = None }; to = to } ≡ a = cc in
+      let more = All-tail May name (to ∷ listing ∷ []) h in
+      subst OfSpanCheck same ((All-head May name (to ∷ listing ∷ []) h, tt, All-head May listing [] (All-tail May to (listing ∷ []) more)), All-head May to (listing ∷ []) more)
+  by_span_check (ChecksTo name to listing digits (Some zones)) a e h =
+      let same : record { check = record { name = name; listing = listing; digits = digits; zones = Some zones }; to = to } ≡ a = cc in
+      let more = All-tail May name (to ∷ zones ∷ listing ∷ []) h in
+      let last = All-tail May to (zones ∷ listing ∷ []) more in
+      subst OfSpanCheck same ((All-head May name (to ∷ zones ∷ listing ∷ []) h, All-head May zones (listing ∷ []) last, All-head May listing [] (All-tail May zones (listing ∷ []) last)), All-head May to (zones ∷ listing ∷ []) more)
+  by_span_check (Lists name digits workers rounds zones turns) a e h = absurd cc
+  by_span_check (ListsTo name to digits workers rounds zones turns) a e h = absurd cc
+  by_span_check (Checks name listing digits zones) a e h = absurd cc
+  by_span_check (Makes seed size) a e h = absurd cc
+  by_span_check (Batches list digits workers rounds) a e h = absurd cc
+  by_span_check (Writes name) a e h = absurd cc
+
+  if_span : (o : Option Wanted) (a : AskedSpan) → option_and_then built o ≡ Some (Span a) → WordsMay may (files_if o) → OfRun a.run × May a.to
+  if_span None a e h = absurd cc
+  if_span (Some w) a e h = by_span w a e h
+
+  if_span_check : (o : Option Wanted) (a : AskedSpanCheck) → option_and_then built o ≡ Some (CheckSpan a) → WordsMay may (files_if o) → OfCheck a.check × May a.to
+  if_span_check None a e h = absurd cc
+  if_span_check (Some w) a e h = by_span_check w a e h
 
   if_run : (o : Option Wanted) (a : Asked) → option_and_then built o ≡ Some (Run a) → WordsMay may (files_if o) → OfRun a
   if_run None a e h = absurd cc
@@ -83,6 +138,13 @@ module _ (may : List ℕ → ℕ → Type 0) where
     -- the name file and the listing of a check, and its zone file
     pub check_named : (a : AskedCheck) → asked_in words ≡ Some (Check a) → OfCheck a
     check_named a e = if_check (wanted_of words) a e h
+
+    -- those of two decks
+    pub span_named : (a : AskedSpan) → asked_in words ≡ Some (Span a) → OfRun a.run × May a.to
+    span_named a e = if_span (wanted_of words) a e h
+
+    pub span_check_named : (a : AskedSpanCheck) → asked_in words ≡ Some (CheckSpan a) → OfCheck a.check × May a.to
+    span_check_named a e = if_span_check (wanted_of words) a e h
 
     -- the name file of a deck
     pub write_named : (deck : Text) → asked_in words ≡ Some (Write deck) → May deck

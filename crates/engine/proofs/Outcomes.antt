@@ -5,16 +5,20 @@ use Rattle.engine.proofs.Common.{IsModel, reads, made_files, made_name, Text, en
 use Rattle.engine.proofs.Common.{late_not_ok, late_not_read, all_written, write_rose, one_deck, AreDecks, one_valid, Task, Step, ListingEnd, AllSteps, listing}
 use Rattle.engine.proofs.Common.{status_of, IsListing, IsWhole, is_whole, whole_listing, history_exists, history_is_one, VerdictIsOne, Asked, AskedCheck, Case}
 use Rattle.engine.proofs.Common.{Command, Run, Make, Check, Write, NoWords, Refuses, Listing, Making, Checking, Writing, IsCase, asked_in, case_asked, case_of}
-use Rattle.engine.proofs.Common.{case_read, case_zoned, listing_read, made_model, named, task_of, zoned_steps, zones_named, zones_read, Certified, IsDeck}
-use Rattle.engine.proofs.Common.{OneDeck, CutOf, Defines, Due, Headline, IsSummed, Made, made_task, summed_text, OneListing, OneSummary, OneVerdict, Decided}
-use Rattle.engine.proofs.Common.{Comes, HasCertified, HasDeck, HasListing, HasTask, IsRunOf, Answers, IsStopped, IsValid, Plain}
-use Rattle.listing_run.specs.Laws.{ListingIsOne, ListingExcludesRefusal, RefusalIsOne}
+use Rattle.engine.proofs.Common.{case_read, case_zoned, listing_read, made_model, named, task_of, zones_read, Certified, OneDeck, CutOf, Defines, Due, Headline}
+use Rattle.engine.proofs.Common.{IsSummed, Made, made_task, summed_text, OneListing, OneSummary, OneVerdict, Decided, Comes, HasCertified, HasDeck, HasListing}
+use Rattle.engine.proofs.Common.{HasTask, IsRunOf, Answers, IsStopped, IsValid, Plain, ListingIsOne, ListingExcludesRefusal, RefusalIsOne, defined, false}
+use Rattle.engine.proofs.Common.{Decks, ZonedListing, IsVerdict, Difference, CheckSpan, Comparing, IsCheckingOf, IsListingOf, Span, case_between, case_listed}
+use Rattle.engine.proofs.Common.{two, true, AreAlike, readings_of, some_readings, Second, not_alike, second_in}
 use Rattle.listing_summary.specs.Summaries.{summary_of}
 use Rattle.listing_summary.specs.Texts.{summary_text}
-use Rattle.engine.specs.Defined.{defined, unread}
-use Rattle.engine.proofs.Certifying.{IsFault, asks_check, certifies, check_is_no_fault, checked_case, never_stopped_check, not_stopped, of_check, one_end, stopped_by_fault, written_case}
+use Rattle.engine.specs.Defined.{unread}
+use Rattle.engine.proofs.Certifying.{IsFault, asks_check, certifies, check_is_no_fault, checked_case, compared_case, never_stopped_check, not_stopped, of_check, one_end, stopped_by_fault, written_case}
 use Rattle.engine.proofs.Decks.{deck_is_no_fault, deck_told, of_written, only_deck}
 use Rattle.engine.proofs.Readings.{named_read}
+use Rattle.check_run.specs.declared.verdict.ListingVerdict.TheVariants.{Certified as Holds}
+use Rattle.deck_alike.specs.Laws.{DifferenceIsOne}
+use Rattle.engine.proofs.Spans.{SpanBoth, asks_pair, pair_told}
 use Rattle.run_puts.specs.declared.status.Status.TheVariants as status
 use Rattle.listing_run.specs.declared.listing_end.ListingEnd.TheVariants as ends
 
@@ -24,9 +28,10 @@ pub record Laws : Type 0 where
   pub bound : ListingExcludesRefusal
   pub refusal : RefusalIsOne
   pub verdict : VerdictIsOne
+  pub difference : DifferenceIsOne
 
-pub laws_of : ListingIsOne → ListingExcludesRefusal → RefusalIsOne → VerdictIsOne → Laws
-laws_of one bound refusal verdict = record { one = one; bound = bound; refusal = refusal; verdict = verdict }
+pub laws_of : ListingIsOne → ListingExcludesRefusal → RefusalIsOne → VerdictIsOne → DifferenceIsOne → Laws
+laws_of one bound refusal verdict difference = record { one = one; bound = bound; refusal = refusal; verdict = verdict; difference = difference }
 
 -- all pieces that the case defines were taken
 record Delivers (case : Case) (puts : List Put) : Type 0 where
@@ -59,6 +64,7 @@ task_in other (Listing k) = k
 task_in other (Making seed size read) = other
 task_in other (Checking m s steps) = other
 task_in other (Writing m) = other
+task_in other (Comparing a b c) = other
 
 same_task : (j k : Task) → Listing j ≡ Listing k → j ≡ k
 unfolding task_in
@@ -73,11 +79,13 @@ module _ (words : List Text) (files : List File) (k : Task) where
   by_reading asked wanted (Ok f) is e = by_zones asked wanted f is (zones_read files asked.zones f) refl e
   by_reading asked wanted (Err refusal) is e = absurd (let bad : Refuses refusal ≡ Listing k = e in cc)
 
-  by_words : (a : Option Command) → asked_in words ≡ a → case_asked a (reads Plain files) (zones_read files) (listing_read files) ≡ Listing k → Listed words files k
+  by_words : (a : Option Command) → asked_in words ≡ a → case_asked a (readings_of files) ≡ Listing k → Listed words files k
   by_words None wanted e = absurd (let bad : NoWords ≡ Listing k = e in cc)
   by_words (Some (Run asked)) wanted e = by_reading asked wanted (named asked.name (reads Plain files)) refl e
   by_words (Some (Make seed size)) wanted e = absurd (let bad : Making seed size (made_model seed size) ≡ Listing k = e in cc)
-  by_words (Some (Check asked)) wanted e = absurd (checked_case (λ c. c ≡ Listing k → ⊥) (λ refusal x. let bad : Refuses refusal ≡ Listing k = x in cc) (λ m s steps x. let bad : Checking m s steps ≡ Listing k = x in cc) asked (named asked.name (reads Plain files)) (listing_read files asked) e)
+  by_words (Some (Check asked)) wanted e = absurd (checked_case (λ c. c ≡ Listing k → ⊥) (λ refusal x. let bad : Refuses refusal ≡ Listing k = x in cc) (λ m s steps x. let bad : Checking m s steps ≡ Listing k = x in cc) asked (named asked.name (reads Plain files)) (listing_read false files asked) e)
+  by_words (Some (Span asked)) wanted e = absurd (compared_case (λ c. c ≡ Listing k → ⊥) (λ refusal x. let bad : Refuses refusal ≡ Listing k = x in cc) (λ a b c x. let bad : Comparing a b c ≡ Listing k = x in cc) (named asked.run.name (reads Plain files)) (named asked.to (second_in files)) (λ x y. case_between asked.run x y (zones_read files asked.run.zones x)) e)
+  by_words (Some (CheckSpan asked)) wanted e = absurd (compared_case (λ c. c ≡ Listing k → ⊥) (λ refusal x. let bad : Refuses refusal ≡ Listing k = x in cc) (λ a b c x. let bad : Comparing a b c ≡ Listing k = x in cc) (named asked.check.name (reads Plain files)) (named asked.to (second_in files)) (λ x y. case_listed asked.check (two x y) (listing_read true files asked.check x)) e)
   by_words (Some (Write name)) wanted e = absurd (written_case (λ c. c ≡ Listing k → ⊥) (λ refusal x. let bad : Refuses refusal ≡ Listing k = x in cc) (λ m x. let bad : Writing m ≡ Listing k = x in cc) (named name (reads Plain files)) e)
 
   listed : case_of words files ≡ Listing k → Listed words files k
@@ -117,11 +125,13 @@ module _ (words : List Text) (files : List File) (seed size : ℕ) (read : Resul
   made_by_reading asked (Ok f) e = made_by_zones asked f (zones_read files asked.zones f) e
   made_by_reading asked (Err refusal) e = absurd (let bad : Refuses refusal ≡ Making seed size read = e in cc)
 
-  made_by_words : (a : Option Command) → asked_in words ≡ a → case_asked a (reads Plain files) (zones_read files) (listing_read files) ≡ Making seed size read → Summed words seed size read
+  made_by_words : (a : Option Command) → asked_in words ≡ a → case_asked a (readings_of files) ≡ Making seed size read → Summed words seed size read
   made_by_words None wanted e = absurd (let bad : NoWords ≡ Making seed size read = e in cc)
   made_by_words (Some (Run asked)) wanted e = made_by_reading asked (named asked.name (reads Plain files)) e
   made_by_words (Some (Make i j)) wanted e = same_words i j wanted (one_making i j seed size (made_model i j) read e)
-  made_by_words (Some (Check asked)) wanted e = absurd (checked_case (λ c. c ≡ Making seed size read → ⊥) (λ refusal x. let bad : Refuses refusal ≡ Making seed size read = x in cc) (λ m s steps x. let bad : Checking m s steps ≡ Making seed size read = x in cc) asked (named asked.name (reads Plain files)) (listing_read files asked) e)
+  made_by_words (Some (Check asked)) wanted e = absurd (checked_case (λ c. c ≡ Making seed size read → ⊥) (λ refusal x. let bad : Refuses refusal ≡ Making seed size read = x in cc) (λ m s steps x. let bad : Checking m s steps ≡ Making seed size read = x in cc) asked (named asked.name (reads Plain files)) (listing_read false files asked) e)
+  made_by_words (Some (Span asked)) wanted e = absurd (compared_case (λ c. c ≡ Making seed size read → ⊥) (λ refusal x. let bad : Refuses refusal ≡ Making seed size read = x in cc) (λ a b c x. let bad : Comparing a b c ≡ Making seed size read = x in cc) (named asked.run.name (reads Plain files)) (named asked.to (second_in files)) (λ x y. case_between asked.run x y (zones_read files asked.run.zones x)) e)
+  made_by_words (Some (CheckSpan asked)) wanted e = absurd (compared_case (λ c. c ≡ Making seed size read → ⊥) (λ refusal x. let bad : Refuses refusal ≡ Making seed size read = x in cc) (λ a b c x. let bad : Comparing a b c ≡ Making seed size read = x in cc) (named asked.check.name (reads Plain files)) (named asked.to (second_in files)) (λ x y. case_listed asked.check (two x y) (listing_read true files asked.check x)) e)
   made_by_words (Some (Write name)) wanted e = absurd (written_case (λ c. c ≡ Making seed size read → ⊥) (λ refusal x. let bad : Refuses refusal ≡ Making seed size read = x in cc) (λ m x. let bad : Writing m ≡ Making seed size read = x in cc) (named name (reads Plain files)) e)
 
   summed : case_of words files ≡ Making seed size read → Summed words seed size read
@@ -129,7 +139,7 @@ module _ (words : List Text) (files : List File) (seed size : ℕ) (read : Resul
 
 -- the headline of a listing, of a made model, of a check or of a deck, and what is promised beside
 abbrev pub Both : List Text → List File → Seen → Seen → Type 0
-Both words files old new = (Headline words files old.written new.written × OneListing words files old.written new.written) ⊎ ((Made words old.written new.written × OneSummary words old.written new.written) ⊎ ((Certified words files old.written new.written × OneVerdict words files) ⊎ (OneDeck words files old.written new.written × OneDeck words files old.written new.written)))
+Both words files old new = (Headline words files old.written new.written × OneListing words files old.written new.written) ⊎ ((Made words old.written new.written × OneSummary words old.written new.written) ⊎ ((Certified words files old.written new.written × OneVerdict words files) ⊎ ((OneDeck words files old.written new.written × OneDeck words files old.written new.written) ⊎ SpanBoth words files old new)))
 
 module _ (laws : Laws) where
   of_listing : (words : List Text) (files : List File) (old new : Seen) (puts : List Put) (pieces : List Text) (k : Task) → Listed words files k → AreDecks k.decks → IsWhole k pieces → puts ≡ map taken pieces → PutsMake old puts new → Headline words files old.written new.written × OneListing words files old.written new.written
@@ -229,15 +239,18 @@ module _ (laws : Laws) where
   by_case words files old new puts end (Writing m) is valid e d makes =
       let E : Status → Type 0 = λ t. IsValid (Writing m) t in
       let told = of_written words files old new puts d.pieces m d.written makes (deck_told words files m (sym is)) (subst E e valid) d.defines in
-      inr (inr (inr (told, told)))
+      inr (inr (inr (inl (told, told))))
+  by_case words files old new puts end (Comparing a b c) is valid e d makes =
+      let E : Status → Type 0 = λ t. IsValid (Comparing a b c) t in
+      inr (inr (inr (inr (pair_told laws.one words files old new puts d.pieces d.written makes a b c (asks_pair words files a b c (sym is)) (subst E e valid) d.defines))))
 
   pub both : (words : List Text) (files : Option (List File)) (n m : ℕ) (end : Status) (puts : List Put) (old new : Seen) → Answers words files n m end puts → PutsMake old puts new → end ≡ status.Ok → IfSome files (λ fs. Both words fs old new)
   both words (Some fs) n m end puts old new a makes e = by_case words fs old new puts end a.case a.is a.valid e (delivers (Rose n m) a.case end puts a.run e) makes
   both words None n m end puts old new a makes e = tt
 
   made_of : (words : List Text) (files : Option (List File)) (seed size : ℕ) (case : Case) → asked_in words ≡ Some (Make seed size) → IsCase words files case → case ≡ Making seed size (made_model seed size)
-  made_of words (Some fs) seed size case wanted is = let P : Option Command → Type 0 = λ a. case ≡ case_asked a (reads Plain fs) (zones_read fs) (listing_read fs) in subst P wanted is
-  made_of words None seed size case wanted (read, zoned, listed, valid, is) = let P : Option Command → Type 0 = λ a. case ≡ case_asked a (λ name. read) (λ zones m. zones_named zones (λ name. zoned)) (λ asked m. zoned_steps (zones_named asked.zones (λ name. zoned)) (λ zones. named asked.listing (λ name. listed))) in subst P wanted is
+  made_of words (Some fs) seed size case wanted is = let P : Option Command → Type 0 = λ a. case ≡ case_asked a (readings_of fs) in subst P wanted is
+  made_of words None seed size case wanted (read, second, zoned, listed, valid, is) = let P : Option Command → Type 0 = λ a. case ≡ case_asked a (some_readings read second zoned listed) in subst P wanted is
 
   pub made : (words : List Text) (files : Option (List File)) (n m : ℕ) (end : Status) (puts : List Put) (old new : Seen) → Answers words files n m end puts → PutsMake old puts new → end ≡ status.Ok → (seed size : ℕ) → asked_in words ≡ Some (Make seed size) → Made words old.written new.written × OneSummary words old.written new.written
   made words files n m end puts old new a makes e seed size wanted =
@@ -247,17 +260,21 @@ module _ (laws : Laws) where
       summed_ok words old new puts end seed size (made_model seed size) (record { wanted = wanted; is = refl }) (subst V same a.valid) e (subst D same (delivers (Rose n m) a.case end puts a.run e)) makes
 
 -- what both say of the enclosure, and what beside
-pub first_of : {A B C D E F G H : Type 0} → (A × B) ⊎ ((C × D) ⊎ ((E × F) ⊎ (G × H))) → A ⊎ (C ⊎ (E ⊎ G))
+pub first_of : {A B C D E F G H I J K L : Type 0} → (A × B) ⊎ ((C × D) ⊎ ((E × F) ⊎ ((G × H) ⊎ ((I × J) ⊎ (K × L))))) → A ⊎ (C ⊎ (E ⊎ (G ⊎ (I ⊎ K))))
 first_of (inl p) = inl p.0
 first_of (inr (inl p)) = inr (inl p.0)
 first_of (inr (inr (inl p))) = inr (inr (inl p.0))
-first_of (inr (inr (inr p))) = inr (inr (inr p.0))
+first_of (inr (inr (inr (inl p)))) = inr (inr (inr (inl p.0)))
+first_of (inr (inr (inr (inr (inl p))))) = inr (inr (inr (inr (inl p.0))))
+first_of (inr (inr (inr (inr (inr p))))) = inr (inr (inr (inr (inr p.0))))
 
-pub second_of : {A B C D E F G H : Type 0} → (A × B) ⊎ ((C × D) ⊎ ((E × F) ⊎ (G × H))) → B ⊎ (D ⊎ (F ⊎ H))
+pub second_of : {A B C D E F G H I J K L : Type 0} → (A × B) ⊎ ((C × D) ⊎ ((E × F) ⊎ ((G × H) ⊎ ((I × J) ⊎ (K × L))))) → B ⊎ (D ⊎ (F ⊎ (H ⊎ (J ⊎ L))))
 second_of (inl p) = inl p.1
 second_of (inr (inl p)) = inr (inl p.1)
 second_of (inr (inr (inl p))) = inr (inr (inl p.1))
-second_of (inr (inr (inr p))) = inr (inr (inr p.1))
+second_of (inr (inr (inr (inl p)))) = inr (inr (inr (inl p.1)))
+second_of (inr (inr (inr (inr (inl p))))) = inr (inr (inr (inr (inl p.1))))
+second_of (inr (inr (inr (inr (inr p))))) = inr (inr (inr (inr (inr p.1))))
 
 -- of a check
 pub certified : (words : List Text) (files : Option (List File)) (n m : ℕ) (end : Status) (puts : List Put) (old new : Seen) → Answers words files n m end puts → PutsMake old puts new → end ≡ status.Ok → (asked : AskedCheck) → asked_in words ≡ Some (Check asked) → IfSome files (λ fs. Certified words fs old.written new.written × OneVerdict words fs)
@@ -286,6 +303,8 @@ defines_no_fault (Making seed size (Ok m)) end pieces d h = listing_is_no_fault 
 defines_no_fault (Making seed size (Err refusal)) end pieces d h = subst IsFault d.0 h
 defines_no_fault (Checking m s steps) end pieces d h = check_is_no_fault m s steps end pieces d h
 defines_no_fault (Writing m) end pieces d h = deck_is_no_fault m end pieces d h
+defines_no_fault (Comparing a b c) end pieces (inl unlike) h = subst IsFault unlike.status h
+defines_no_fault (Comparing a b c) end pieces (inr (alike, d)) h = defines_no_fault c end pieces d h
 
 due_read : (read_failed : Type 0) (case : Case) (end : Status) (pieces : List Text) → Due read_failed case end pieces → end ≡ status.ReadFault → read_failed
 due_read read_failed case end pieces (defined meant all d) e = absurd (defines_no_fault case end pieces d (subst IsFault (sym e) tt))
@@ -361,6 +380,11 @@ decides laws (Making seed size (Ok m)) meant end p q (inr stops) x y = absurd (n
 decides laws (Checking m s steps) meant end p q (inl (model, listed)) x y = inr (inl (one_end m s steps laws.verdict model listed meant end p q x y))
 decides laws (Checking m s steps) meant end p q (inr stops) x y = absurd (never_stopped_check m s steps end q stops y)
 decides laws (Writing m) meant end p q valid (x, a) (y, b) = inr (inl (y ∙ sym x))
+decides laws (Comparing a b c) meant end p q valid (inl x) (inl y) = inr (inl (y.status ∙ ap (λ (d : Difference). status.Refused (not_alike b d)) (laws.difference a b.model y.difference x.difference y.first x.first) ∙ sym x.status))
+decides laws (Comparing a b c) meant end p q valid (inl x) (inr (alike, y)) = absurd (x.unlike alike)
+decides laws (Comparing a b c) meant end p q valid (inr (alike, x)) (inl y) = absurd (y.unlike alike)
+decides laws (Comparing a b c) meant end p q (inl never) (inr (alike, x)) (inr (also, y)) = absurd (never alike)
+decides laws (Comparing a b c) meant end p q (inr valid) (inr (alike, x)) (inr (also, y)) = decides laws c meant end p q valid x y
 
 pub weighed : (fault : Type 0) (meant end : Status) → Agree meant end → (fault ⊎ IsUnfinished meant) ⊎ ((end ≡ meant) ⊎ ((end ≡ status.Memory) ⊎ IsUnfinished end))
 weighed fault meant end (inl open_meant) = inl (inr open_meant)
@@ -382,12 +406,29 @@ decided laws words None n m end puts old new a makes = tt
 abbrev AreEndsOf : Task → Status → Case → Type 0
 AreEndsOf k end case = (q : List Text) → Defines case end q → (p : List Text) × IsListing k end p
 
+-- those of two decks that are alike are their listing's
+alike_ends : (k : Task) (a : FlowModel) (b : Second) (c : Case) (end : Status) → AreAlike a b.model → AreEndsOf k end c → (q : List Text) → Defines (Comparing a b c) end q → (p : List Text) × IsListing k end p
+alike_ends k a b c end alike ends q (inl unlike) = absurd (unlike.unlike alike)
+alike_ends k a b c end alike ends q (inr (also, y)) = ends q y
+
+compared_ends : (k : Task) (case : Case) (end : Status) → IsListingOf k case → AreEndsOf k end case
+compared_ends k NoWords end has = absurd has
+compared_ends k (Refuses refusal) end has = absurd has
+compared_ends k (Making seed size read) end has = absurd has
+compared_ends k (Checking m s steps) end has = absurd has
+compared_ends k (Writing m) end has = absurd has
+compared_ends k (Listing j) end has =
+    let P : Task → Type 0 = λ t. AreEndsOf t end (Listing j) in
+    subst P has (λ q y. (q, y))
+compared_ends k (Comparing a b c) end (alike, has) = alike_ends k a b c end alike (compared_ends k c end has)
+
 ends_of : (k : Task) (case : Case) (end : Status) → HasTask case k → AreEndsOf k end case
 ends_of k NoWords end has = absurd has
 ends_of k (Refuses refusal) end has = absurd has
 ends_of k (Making seed size (Err refusal)) end has = absurd has
 ends_of k (Checking m s steps) end has = absurd has
 ends_of k (Writing m) end has = absurd has
+ends_of k (Comparing a b c) end has = λ q y. compared_ends k (Comparing a b c) end has q y
 ends_of k (Listing j) end has =
     let P : Task → Type 0 = λ t. AreEndsOf t end (Listing j) in
     subst P has (λ q y. (q, y))
@@ -400,6 +441,24 @@ comes_by : (fault : Type 0) (case : Case) (end : Status) → ((q : List Text) �
 comes_by fault case end through (inl f) = inl f
 comes_by fault case end through (inr (inl e)) = inr (inr e)
 comes_by fault case end through (inr (inr (q, y))) = inr (inl (through q y))
+
+-- a check whose verdict is that the listing is certified has no other end, nor has that of two decks that are alike
+checks_certify : VerdictIsOne → (d : Decks) (s : ℕ) (l : ZonedListing) → IsVerdict d s l.zones l.steps Holds → (fault : Type 0) (end : Status) (case : Case) → IsCheckingOf d s l case → IsValid case end → Ended fault case end → fault ⊎ ((end ≡ status.Ok) ⊎ (end ≡ status.Memory))
+checks_certify law d s l verdict fault end NoWords has valid ended = absurd has
+checks_certify law d s l verdict fault end (Refuses refusal) has valid ended = absurd has
+checks_certify law d s l verdict fault end (Listing k) has valid ended = absurd has
+checks_certify law d s l verdict fault end (Making seed size read) has valid ended = absurd has
+checks_certify law d s l verdict fault end (Writing m) has valid ended = absurd has
+checks_certify law d s l verdict fault end (Checking e t k) (same, digits, listing) valid ended =
+    let P : Decks → Type 0 = λ x. IsVerdict x s l.zones l.steps Holds in
+    let Q : ℕ → Type 0 = λ x. IsVerdict e x l.zones l.steps Holds in
+    let R : ZonedListing → Type 0 = λ x. IsVerdict e t x.zones x.steps Holds in
+    certifies e t k law (subst R (sym listing) (subst Q (sym digits) (subst P (sym same) verdict))) fault end valid ended
+checks_certify law d s l verdict fault end (Comparing a b case) (alike, has) (inl never) ended = absurd (never alike)
+checks_certify law d s l verdict fault end (Comparing a b case) (alike, has) (inr valid) (inl f) = inl f
+checks_certify law d s l verdict fault end (Comparing a b case) (alike, has) (inr valid) (inr (inl e)) = inr (inr e)
+checks_certify law d s l verdict fault end (Comparing a b case) (alike, has) (inr valid) (inr (inr (q, inl unlike))) = absurd (unlike.unlike alike)
+checks_certify law d s l verdict fault end (Comparing a b case) (alike, has) (inr valid) (inr (inr (q, inr (also, y)))) = checks_certify law d s l verdict fault end case has valid (inr (inr (q, y)))
 
 module _ (laws : Laws) (words : List Text) (files : List File) (n m : ℕ) (end : Status) (puts : List Put) (old new : Seen) (a : Answers words (Some files) n m end puts) (makes : PutsMake old puts new) where
   abbrev Fault : Type 0
@@ -414,9 +473,8 @@ module _ (laws : Laws) (words : List Text) (files : List File) (n m : ℕ) (end 
       let listed_end = ends_of l.task a.case end (subst P (sym a.is) l.is) in
       comes_by Fault a.case end (λ q y. let p = listed_end q y in goes_through l.task l.no_refusal l.none_open end p.0 p.1) ends_here
   complete_by (inr (inl l)) =
-      let V : Case → Type 0 = λ case. IsValid case end in
-      let E : Case → Type 0 = λ case. Ended Fault case end in
-      certifies l.model l.digits l.listing laws.verdict l.verdict Fault end (subst V (a.is ∙ l.is) a.valid) (subst E (a.is ∙ l.is) ends_here)
+      let P : Case → Type 0 = IsCheckingOf l.decks l.digits l.listing in
+      checks_certify laws.verdict l.decks l.digits l.listing l.verdict Fault end a.case (subst P (sym a.is) l.is) a.valid ends_here
   complete_by (inr (inr l)) =
       let E : Case → Type 0 = λ case. Ended Fault case end in
       comes_by Fault (Writing l.model) end (only_deck l.model end) (subst E (a.is ∙ l.is) ends_here)

@@ -1,11 +1,18 @@
 -- What a reading gives, by the name and the files of the folder.
-use Rattle.engine.proofs.Common.{◌≡◌, ◌⊎◌, inl, inr, ℕ, ◌≤◌, Bool, true, false, IfSome, length, List, Option, None, Some, Result, Ok, Err, IfOk, sym, ap, refl}
-use Rattle.engine.proofs.Common.{◌∙◌, codes, if◌then◌else◌, map, subst, ℤ, unsigned_abs, length-map, File, IsReading, file_at, file_refusal, input_fault}
-use Rattle.engine.proofs.Common.{TextFault, IsGoodName, is_good_name, BadName, InputFault, Refusal, Has, Stops, StopsText, FlowModel, IsModel, reads, Text}
-use Rattle.engine.proofs.Common.{ListedStep, pairs_in, AreListed, listing_in, zones_of, AreZonesOf, ZonedListing, AskedCheck, CouldList, named, numbers_of}
-use Rattle.engine.proofs.Common.{steps_in, steps_read, with_zones, zoned_steps, zones_named, AreStepsAs, AreZonesAs, IsListedAs, IsNamedFault, IsReadAs, Plain}
-use Rattle.std.proofs.Common.{All}
+use Rattle.engine.proofs.Common.{◌≡◌, ◌⊎◌, inl, inr, ℕ, ◌≤◌, Bool, true, IfSome, length, List, Option, None, Some, Result, Ok, Err, IfOk, sym, ap, refl, ◌∙◌}
+use Rattle.engine.proofs.Common.{codes, if◌then◌else◌, map, subst, ℤ, unsigned_abs, length-map, File, IsReading, file_at, file_refusal, input_fault, TextFault}
+use Rattle.engine.proofs.Common.{IsGoodName, is_good_name, BadName, InputFault, Refusal, Has, Stops, StopsText, FlowModel, IsModel, reads, Text, ListedStep}
+use Rattle.engine.proofs.Common.{pairs_in, AreListed, listing_in, zones_of, AreZonesOf, ZonedListing, AskedCheck, CouldList, named, numbers_of, steps_in}
+use Rattle.engine.proofs.Common.{steps_read, with_zones, zoned_steps, zones_named, AreStepsAs, AreZonesAs, IsListedAs, IsNamedFault, IsReadAs, Plain, ◌>>=◌}
+use Rattle.engine.proofs.Common.{model_of, AreAlike, Difference, IsFirstDifference, two, AreDecksAs, IsSecondAs, IsUnlikeFault, second_by, Second, of_both}
+use Rattle.engine.proofs.Common.{of_first, of_second, second_in, Pairs, InputCounts}
+use Rattle.std.proofs.Common.{false, All}
+use Rattle.model_reader.specs.Names.{names_in}
+use Rattle.engine.specs.declared.two_decks.Second.{Second as SecondBy}
+use Rattle.outside.specs.Folders.{ReadsOn}
+use Rattle.outside.specs.declared.traits.Folder.{Ghosts as FolderOf}
 use Rattle.outside.proofs.NameTests.{is_taken, is_good}
+use Rattle.model_reader.proofs.Chains.{both_read as in_a_row}
 use Rattle.model_types.specs.Cells.{cell_count}
 use Rattle.outside.specs.declared.refusals.TextFault.TheVariants as texts
 use Rattle.outside.specs.declared.refusals.InputFault.TheVariants as input
@@ -62,19 +69,132 @@ good_read name None (Err (input.Refused refusal)) good h valid = (Err refusal, t
 good_read name None (Err input.ReadFault) good h valid = (some_refusal, tt, tt)
 good_read name None (Err input.Memory) good h valid = (some_refusal, tt, tt)
 
+-- The second deck that a name means.
+
+abbrev pub no_second : Result Second Refusal
+no_second = Err (file_refusal BadName (codes "-"))
+
+pub bad_second : (name : Text) (files : Option (List File)) (fault : InputFault) → (IsGoodName name → ⊥) → IsNamedFault fault → IsSecondAs name files (Err fault)
+bad_second name (Some fs) (input.Refused refusal) bad is = bad_named name (second_in fs) bad ∙ ap Err (sym is)
+bad_second name (Some fs) input.ReadFault bad is = tt
+bad_second name (Some fs) input.Memory bad is = tt
+bad_second name None (input.Refused refusal) bad is = (no_second, tt, bad_named name (λ n. no_second) bad ∙ ap Err (sym is))
+bad_second name None input.ReadFault bad is = (no_second, tt, tt)
+bad_second name None input.Memory bad is = (no_second, tt, tt)
+
+-- the second deck's files gave this
+pub good_second : (name : Text) (files : Option (List File)) (answer : Result SecondBy InputFault) → IsGoodName name → IfSome files (λ fs. Has second_by answer (second_in fs name)) → IfOk answer (λ b. IsModel b.model) → IsSecondAs name files answer
+good_second name (Some fs) (Ok b) good h valid = good_named name (second_in fs) good ∙ h
+good_second name (Some fs) (Err (input.Refused refusal)) good h valid = good_named name (second_in fs) good ∙ h
+good_second name (Some fs) (Err input.ReadFault) good h valid = tt
+good_second name (Some fs) (Err input.Memory) good h valid = tt
+good_second name None (Ok b) good h valid = (Ok (second_by b), valid, good_named name (λ n. Ok (second_by b)) good)
+good_second name None (Err (input.Refused refusal)) good h valid = (Err refusal, tt, good_named name (λ n. Err refusal) good)
+good_second name None (Err input.ReadFault) good h valid = (no_second, tt, tt)
+good_second name None (Err input.Memory) good h valid = (no_second, tt, tt)
+
+-- what reading a name file and then its packages gives
+module _ (fs : List File) (name : Text) where
+  pub unread_names : (fault : InputFault) → Stops fault (names_in fs name) → Stops fault (second_in fs name)
+  unfolding second_in
+  unread_names (input.Refused refusal) h = rw h refl
+  unread_names input.ReadFault h = tt
+  unread_names input.Memory h = tt
+
+  module _ (pairs : Pairs) (are : names_in fs name ≡ Ok pairs) where
+    pub unread_model : (fault : InputFault) → Stops fault (model_of Plain fs pairs) → Stops fault (second_in fs name)
+    unfolding second_in
+    unread_model (input.Refused refusal) h = rw (are, h) refl
+    unread_model input.ReadFault h = tt
+    unread_model input.Memory h = tt
+
+    pub second_read : (m : FlowModel) → model_of Plain fs pairs ≡ Ok m → second_in fs name ≡ Ok (record { name = name; files = pairs; model = m })
+    unfolding second_in
+    second_read m h = rw (are, h) refl
+
+-- its model is the one that the files of its name read as
+pub second_parts : (files : List File) (name : Text) (b : Second) → second_in files name ≡ Ok b → reads Plain files name ≡ Ok b.model
+unfolding second_in reads
+second_parts files name b h = by_names (names_in files name) refl h
+  where
+    by_model : (pairs : Pairs) (r : Result FlowModel Refusal) → (r >>= λ m. Ok (record { name = name; files = pairs; model = m })) ≡ Ok b → r ≡ Ok b.model
+    by_model pairs (Ok m) e = let same : record { name = name; files = pairs; model = m } ≡ b = cc in ap (λ (x : Second). Ok x.model) same
+    by_model pairs (Err refusal) e = absurd (let bad : Path (Result Second Refusal) (Err refusal) (Ok b) = e in cc)
+
+    by_names : (r : Result Pairs Refusal) → names_in files name ≡ r → (r >>= λ pairs. model_of Plain files pairs >>= λ m. Ok (record { name = name; files = pairs; model = m })) ≡ Ok b → (r >>= model_of Plain files) ≡ Ok b.model
+    by_names (Ok pairs) is e = by_model pairs (model_of Plain files pairs) e
+    by_names (Err refusal) is e = absurd (let bad : Path (Result Second Refusal) (Err refusal) (Ok b) = e in cc)
+
+-- Two decks.
+
+-- the first deck's fault
+pub unread_first : (name to : Text) (files : Option (List File)) (fault : InputFault) → IsReadAs name files (Err fault) → AreDecksAs name to files (Err fault)
+unread_first name to (Some fs) (input.Refused refusal) h = of_first h
+unread_first name to (Some fs) input.ReadFault h = tt
+unread_first name to (Some fs) input.Memory h = tt
+unread_first name to None (input.Refused refusal) (read, valid, h) = (read, no_second, valid, tt, of_first h)
+unread_first name to None input.ReadFault (read, valid, h) = (read, no_second, valid, tt, tt)
+unread_first name to None input.Memory (read, valid, h) = (read, no_second, valid, tt, tt)
+
+-- the second deck's, where the first was read
+pub unread_second : (name to : Text) (files : Option (List File)) (a : FlowModel) (fault : InputFault) → IsReadAs name files (Ok a) → IsSecondAs to files (Err fault) → AreDecksAs name to files (Err fault)
+unread_second name to (Some fs) a (input.Refused refusal) h k = of_second a h k
+unread_second name to (Some fs) a input.ReadFault h k = tt
+unread_second name to (Some fs) a input.Memory h k = tt
+unread_second name to None a (input.Refused refusal) (read, valid, h) (second, also, k) = (read, second, valid, also, of_second a h k)
+unread_second name to None a input.ReadFault (read, valid, h) (second, also, k) = (read, second, valid, also, tt)
+unread_second name to None a input.Memory (read, valid, h) (second, also, k) = (read, second, valid, also, tt)
+
+-- their first difference, where both were read
+pub unlike_decks : (name to : Text) (files : Option (List File)) (a : FlowModel) (b : SecondBy) (d : Difference) (fault : InputFault) → IsReadAs name files (Ok a) → IsSecondAs to files (Ok b) → IsFirstDifference a b.model d → (AreAlike a b.model → ⊥) → IsUnlikeFault (second_by b) d fault → AreDecksAs name to files (Err fault)
+unlike_decks name to (Some fs) a b d (input.Refused refusal) h k first never is = of_both a (second_by b) d h k first never is
+unlike_decks name to (Some fs) a b d input.ReadFault h k first never is = tt
+unlike_decks name to (Some fs) a b d input.Memory h k first never is = tt
+unlike_decks name to None a b d (input.Refused refusal) (read, valid, h) (second, also, k) first never is = (read, second, valid, also, of_both a (second_by b) d h k first never is)
+unlike_decks name to None a b d input.ReadFault (read, valid, h) (second, also, k) first never is = (read, second, valid, also, tt)
+unlike_decks name to None a b d input.Memory (read, valid, h) (second, also, k) first never is = (read, second, valid, also, tt)
+
+-- a fault of one reading, as one of another
+same_fault : (T U : Type 0) (n m : ℕ) (fault : InputFault) → InputCounts {T = T} n m (Err fault) → InputCounts {T = U} n m (Err fault)
+same_fault T U n m (input.Refused refusal) h = h
+same_fault T U n m input.ReadFault h = h
+same_fault T U n m input.Memory h = h
+
+-- what two readings in a row do to their folder, of which the second one stops
+pub stops_after : {S T U V : Type 0} (F : FolderOf S) (old mid new : S) (x : T) (fault : InputFault) → ReadsOn {T = T} F old mid (Ok x) → ReadsOn {T = U} F mid new (Err fault) → ReadsOn {T = V} F old new (Err fault)
+stops_after {U = U} {V = V} F old mid new x fault first second = in_a_row first (record { since = second.since; counts = same_fault U V (F.faults mid) (F.faults new) fault second.counts; still = second.still })
+
+-- and where neither stops, with a result that no read fault is
+pub reads_both : {S T U V : Type 0} (F : FolderOf S) (old mid new : S) (x : T) (y : U) (result : Result V InputFault) → ReadsOn {T = T} F old mid (Ok x) → ReadsOn {T = U} F mid new (Ok y) → InputCounts (F.faults old) (F.faults old) result → ReadsOn {T = V} F old new result
+reads_both F old mid new x y result first second h = record {
+  since = λ files agree. first.since files (second.since files agree);
+  counts = (let C : ℕ → Type 0 = λ n. InputCounts (F.faults old) n result in subst C (sym (second.counts ∙ first.counts)) h);
+  still = λ name limit may. second.still name limit (first.still name limit may);
+}
+
+pub unlike_counts : (T : Type 0) (b : Second) (d : Difference) (fault : InputFault) (n : ℕ) → IsUnlikeFault b d fault → InputCounts {T = T} n n (Err fault)
+unlike_counts T b d (input.Refused refusal) n is = refl
+unlike_counts T b d input.ReadFault n is = absurd is
+unlike_counts T b d input.Memory n is = refl
+
+-- or they are alike
+pub alike_decks : (name to : Text) (files : Option (List File)) (a : FlowModel) (b : SecondBy) → IsReadAs name files (Ok a) → IsSecondAs to files (Ok b) → AreAlike a b.model → AreDecksAs name to files (Ok (two a b.model))
+alike_decks name to (Some fs) a b h k alike = record { last = second_by b; is_first = h; is_second = k; are = refl; alike = alike }
+alike_decks name to None a b (read, valid, h) (second, also, k) alike = (read, second, valid, also, record { last = second_by b; is_first = h; is_second = k; are = refl; alike = alike })
+
 -- The steps that a check names.
 
 abbrev no_steps : Result (List ListedStep) Refusal
 no_steps = Err (file_refusal BadName (codes "-"))
 
-pub bad_listed : (asked : AskedCheck) (m : FlowModel) (z : Option (List ℕ)) (files : Option (List File)) (fault : InputFault) → (IsGoodName asked.listing → ⊥) → IsNamedFault fault → AreStepsAs asked m z files (Err fault)
-bad_listed asked m z (Some fs) fault bad is = bad_reading asked.listing (λ name. steps_in asked m z (file_at fs name)) fault bad is
-bad_listed asked m z None fault bad is = (no_steps, tt, bad_reading asked.listing (λ name. no_steps) fault bad is)
+pub bad_listed : (between : Bool) (asked : AskedCheck) (m : FlowModel) (z : Option (List ℕ)) (files : Option (List File)) (fault : InputFault) → (IsGoodName asked.listing → ⊥) → IsNamedFault fault → AreStepsAs between asked m z files (Err fault)
+bad_listed between asked m z (Some fs) fault bad is = bad_reading asked.listing (λ name. steps_in between asked m z (file_at fs name)) fault bad is
+bad_listed between asked m z None fault bad is = (no_steps, tt, bad_reading asked.listing (λ name. no_steps) fault bad is)
 
-module _ (asked : AskedCheck) (m : FlowModel) (z : Option (List ℕ)) (good : IsGoodName asked.listing) where
+module _ (between : Bool) (asked : AskedCheck) (m : FlowModel) (z : Option (List ℕ)) (good : IsGoodName asked.listing) where
   -- the file's reading failed
-  pub unread_file : {T : Type 0} (answer : Result T InputFault) (view : T → List ℕ) (files : Option (List File)) (fault : InputFault) → IfSome files (λ fs. IsReading {T = T} view (file_at fs asked.listing) (Err fault)) → AreStepsAs asked m z files (Err fault)
-  unread_file answer view (Some fs) (input.Refused refusal) h = good_named asked.listing (λ name. steps_in asked m z (file_at fs name)) good ∙ ap (steps_in asked m z) h
+  pub unread_file : {T : Type 0} (answer : Result T InputFault) (view : T → List ℕ) (files : Option (List File)) (fault : InputFault) → IfSome files (λ fs. IsReading {T = T} view (file_at fs asked.listing) (Err fault)) → AreStepsAs between asked m z files (Err fault)
+  unread_file answer view (Some fs) (input.Refused refusal) h = good_named asked.listing (λ name. steps_in between asked m z (file_at fs name)) good ∙ ap (steps_in between asked m z) h
   unread_file answer view (Some fs) input.ReadFault h = tt
   unread_file answer view (Some fs) input.Memory h = tt
   unread_file answer view None (input.Refused refusal) h = (Err refusal, tt, good_named asked.listing (λ name. Err refusal) good)
@@ -82,9 +202,9 @@ module _ (asked : AskedCheck) (m : FlowModel) (z : Option (List ℕ)) (good : Is
   unread_file answer view None input.Memory h = (no_steps, tt, tt)
 
   -- its bytes were read, and then as a listing
-  pub read_bytes : (files : Option (List File)) (bytes : List ℕ) (answer : Result (List ListedStep) InputFault) → IfSome files (λ fs. file_at fs asked.listing ≡ Ok bytes) → IsReading (λ l. l) (listing_in m asked.digits (pairs_in m z) asked.listing bytes) answer → IfOk answer (AreListed m (pairs_in m z)) → AreStepsAs asked m z files answer
-  read_bytes (Some fs) bytes (Ok steps) h l fits = good_named asked.listing (λ name. steps_in asked m z (file_at fs name)) good ∙ ap (steps_in asked m z) h ∙ l
-  read_bytes (Some fs) bytes (Err (input.Refused refusal)) h l fits = good_named asked.listing (λ name. steps_in asked m z (file_at fs name)) good ∙ ap (steps_in asked m z) h ∙ l
+  pub read_bytes : (files : Option (List File)) (bytes : List ℕ) (answer : Result (List ListedStep) InputFault) → IfSome files (λ fs. file_at fs asked.listing ≡ Ok bytes) → IsReading (λ l. l) (listing_in between m asked.digits (pairs_in m z) asked.listing bytes) answer → IfOk answer (AreListed m (pairs_in m z)) → AreStepsAs between asked m z files answer
+  read_bytes (Some fs) bytes (Ok steps) h l fits = good_named asked.listing (λ name. steps_in between asked m z (file_at fs name)) good ∙ ap (steps_in between asked m z) h ∙ l
+  read_bytes (Some fs) bytes (Err (input.Refused refusal)) h l fits = good_named asked.listing (λ name. steps_in between asked m z (file_at fs name)) good ∙ ap (steps_in between asked m z) h ∙ l
   read_bytes (Some fs) bytes (Err input.ReadFault) h l fits = tt
   read_bytes (Some fs) bytes (Err input.Memory) h l fits = tt
   read_bytes None bytes (Ok steps) h l fits = (Ok steps, fits, good_named asked.listing (λ name. Ok steps) good)
@@ -135,9 +255,9 @@ same_ok : (x y : Option (List ℕ)) → Path (Result (Option (List ℕ)) Refusal
 same_ok x y h = cc
 
 -- A check reads the zones of its zone file, if there is one, and then its listing.
-module _ (asked : AskedCheck) (m : FlowModel) where
-  pub unzoned : (files : Option (List File)) (fault : InputFault) → AreZonesAs asked.zones m files (Err fault) → IsListedAs asked m files (Err fault)
-  unzoned (Some fs) (input.Refused refusal) h = ap (λ (z : Result (Option (List ℕ)) Refusal). zoned_steps z (steps_read fs asked m)) h
+module _ (between : Bool) (asked : AskedCheck) (m : FlowModel) where
+  pub unzoned : (files : Option (List File)) (fault : InputFault) → AreZonesAs asked.zones m files (Err fault) → IsListedAs between asked m files (Err fault)
+  unzoned (Some fs) (input.Refused refusal) h = ap (λ (z : Result (Option (List ℕ)) Refusal). zoned_steps z (steps_read between fs asked m)) h
   unzoned (Some fs) input.ReadFault h = tt
   unzoned (Some fs) input.Memory h = tt
   unzoned None (input.Refused refusal) (zoned, fits, h) = (zoned, no_steps, fits, tt, ap (λ (z : Result (Option (List ℕ)) Refusal). zoned_steps z (λ zones. named asked.listing (λ name. no_steps))) h)
@@ -154,8 +274,8 @@ module _ (asked : AskedCheck) (m : FlowModel) where
   could_list zoned z (Err refusal) h fits = tt
 
   module _ (z : Option (List ℕ)) where
-    pub unlisted : (files : Option (List File)) (fault : InputFault) → AreZonesAs asked.zones m files (Ok z) → AreStepsAs asked m z files (Err fault) → IsListedAs asked m files (Err fault)
-    unlisted (Some fs) (input.Refused refusal) h k = ap (λ (x : Result (Option (List ℕ)) Refusal). zoned_steps x (steps_read fs asked m)) h ∙ ap (with_zones z) k
+    pub unlisted : (files : Option (List File)) (fault : InputFault) → AreZonesAs asked.zones m files (Ok z) → AreStepsAs between asked m z files (Err fault) → IsListedAs between asked m files (Err fault)
+    unlisted (Some fs) (input.Refused refusal) h k = ap (λ (x : Result (Option (List ℕ)) Refusal). zoned_steps x (steps_read between fs asked m)) h ∙ ap (with_zones z) k
     unlisted (Some fs) input.ReadFault h k = tt
     unlisted (Some fs) input.Memory h k = tt
     unlisted None (input.Refused refusal) (zoned, fits, h) (listed, lists, k) =
@@ -163,8 +283,8 @@ module _ (asked : AskedCheck) (m : FlowModel) where
     unlisted None input.ReadFault (zoned, fits, h) (listed, lists, k) = (zoned, listed, fits, could_list zoned z listed h lists, tt)
     unlisted None input.Memory (zoned, fits, h) (listed, lists, k) = (zoned, listed, fits, could_list zoned z listed h lists, tt)
 
-    pub both_read : (files : Option (List File)) (steps : List ListedStep) → AreZonesAs asked.zones m files (Ok z) → AreStepsAs asked m z files (Ok steps) → IsListedAs asked m files (Ok (record { zones = z; steps = steps }))
-    both_read (Some fs) steps h k = ap (λ (x : Result (Option (List ℕ)) Refusal). zoned_steps x (steps_read fs asked m)) h ∙ ap (with_zones z) k
+    pub both_read : (files : Option (List File)) (steps : List ListedStep) → AreZonesAs asked.zones m files (Ok z) → AreStepsAs between asked m z files (Ok steps) → IsListedAs between asked m files (Ok (record { zones = z; steps = steps }))
+    both_read (Some fs) steps h k = ap (λ (x : Result (Option (List ℕ)) Refusal). zoned_steps x (steps_read between fs asked m)) h ∙ ap (with_zones z) k
     both_read None steps (zoned, fits, h) (listed, lists, k) =
         (zoned, listed, fits, could_list zoned z listed h lists, ap (λ (x : Result (Option (List ℕ)) Refusal). zoned_steps x (λ zones. named asked.listing (λ name. listed))) h ∙ ap (with_zones z) k)
 

@@ -1,6 +1,7 @@
 -- A step whose cells have storage has a floor and a ceiling.
-use Rattle.engine.proofs.Common.{◌≡◌, ◌≢◌, ℕ, Bool, true, false, cond, List, [], ◌∷◌, Result, Ok, Err, Option, Some, None, inl, inr, sym, ap, subst, arith, ℤ}
-use Rattle.engine.proofs.Common.{if◌then◌else◌, NoBound, Entries, lower_at, upper_at, no_heads, no_budget, no_zones}
+use Rattle.engine.proofs.Common.{◌≡◌, ◌≢◌, ℕ, Bool, true, cond, List, [], ◌∷◌, Result, Ok, Err, Option, Some, None, inl, inr, sym, ap, subst, arith, ℤ}
+use Rattle.engine.proofs.Common.{if◌then◌else◌, NoBound, Entries, lower_at, upper_at, no_heads, no_budget, no_zones, Solved}
+use Rattle.std.proofs.Common.{false}
 use Rattle.step_problem.specs.declared.place.Dir.{Dir}
 use Rattle.step_problem.specs.declared.place.Dir.TheVariants.{In, Out}
 use Rattle.step_problem.specs.declared.place.Term.{Term}
@@ -8,7 +9,6 @@ use Rattle.barrier_vector.specs.Refusals.{IsRefused}
 use Rattle.barrier_vector.proofs.Sides.{stored_refusal}
 use Rattle.budget_bounds.specs.Terms.{◌>>=◌, all_terms, budget_of, is_small, term_of, term_pair, terms_of, too_large}
 use Rattle.problem_builder.specs.Refusals.{fault_of}
-use Rattle.step_chain.specs.declared.solved.Solved.{Solved}
 use Rattle.listing_run.specs.Zones.{HasLargeFlow}
 use Rattle.engine.specs.Storage.{IsStored, StorageHolds}
 

@@ -1,11 +1,11 @@
 -- What a viewer put to its sink, by what it was told and shown.
-use Rattle.engine.proofs.Common.{◌≡◌, ◌∙◌, ◌⊎◌, ℕ, ◌+◌, ◌*◌, ◌<◌, List, [], ◌∷◌, ◌++◌, length, map, Bool, true, false, Option, Some, None, inl, inr, ap, sym}
-use Rattle.engine.proofs.Common.{subst, refl, arith, is_some, append_assoc, append-nil, map-append, All-append, All-cons, All-nil, All-weaker, Rose, Put}
-use Rattle.engine.proofs.Common.{PutsMake, Seen, refused, taken, SinkError, Bound, Entries, Edges, TimeStep, AddsPhases, EnclosesPair, Text, cut, early, failed}
-use Rattle.engine.proofs.Common.{Status, write_rose, AreAllShown, IsStopPut, LeadOn, ViewPuts, no_lead, Task, Step, IsStep, AllSettledBy, AreSettledBy}
-use Rattle.engine.proofs.Common.{IsSettledBy, PairEncloses, Reaches, ReachesFirst, begun, rests, settled, AreFirstViews, AreViews, AreWatched, ArePutInTurn}
-use Rattle.engine.proofs.Common.{IsView, IsWatched, Shows, ViewPutsOf, lines_of}
-use Rattle.std.proofs.Common.{All}
+use Rattle.engine.proofs.Common.{◌≡◌, ◌∙◌, ◌⊎◌, ℕ, ◌+◌, ◌*◌, ◌<◌, List, [], ◌∷◌, ◌++◌, length, map, Bool, true, Option, Some, None, inl, inr, ap, sym, subst}
+use Rattle.engine.proofs.Common.{refl, arith, is_some, append_assoc, append-nil, map-append, All-append, All-cons, All-nil, All-weaker, Rose, Put, PutsMake}
+use Rattle.engine.proofs.Common.{Seen, refused, taken, SinkError, Bound, Entries, Edges, TimeStep, AddsPhases, EnclosesPair, Text, cut, early, failed, Status}
+use Rattle.engine.proofs.Common.{write_rose, AreAllShown, IsStopPut, LeadOn, ViewPuts, no_lead, Task, Step, IsStep, AllSettledBy, AreSettledBy, IsSettledBy}
+use Rattle.engine.proofs.Common.{PairEncloses, Reaches, ReachesFirst, begun, rests, settled, AreFirstViews, AreViews, AreWatched, ArePutInTurn, IsView}
+use Rattle.engine.proofs.Common.{IsWatched, Shows, ViewPutsOf, lines_of}
+use Rattle.std.proofs.Common.{false, All}
 use Rattle.listing_io.specs.Views.{view_text}
 use Rattle.view_puts.proofs.Views.{lead_more}
 use Rattle.model_types.specs.Times.{times as times_of}

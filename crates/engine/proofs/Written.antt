@@ -1,32 +1,28 @@
 -- What a run wrote is certified.
-use Rattle.engine.proofs.Common.{◌≡◌, ℕ, ◌≤◌, Bool, true, false, List, [], ◌∷◌, map, Option, None, Some, Result, Ok, Err, refl, sym, ap, ◌∙◌, subst, arith, ℤ}
-use Rattle.engine.proofs.Common.{unsigned_abs, concat, File, file_at, is_good_name, Refusal, FlowModel, IsModel, reads, Wanted, Lists, Checks, Makes, Batches}
-use Rattle.engine.proofs.Common.{Writes, wanted_of, pairs_in, AreNumbers, zones_of, ListedStep, all_lines, listing_at, or_bad_listing, Text, end_line, Task}
-use Rattle.engine.proofs.Common.{IsListing, listing, AllSteps, IsWhole, whole_listing, history_exists, history_is_one, ZonedListing, AskedCheck, Case, Check}
-use Rattle.engine.proofs.Common.{Command, Checking, asked_in, built, case_asked, case_checked, case_listed, case_of, listing_read, numbers_of, steps_in}
-use Rattle.engine.proofs.Common.{steps_read, task_of, with_zones, zoned_steps, zones_read, IsCheck, certified_line, Defines, Plain}
+use Rattle.engine.proofs.Common.{◌≡◌, ℕ, ◌≤◌, Bool, true, List, [], ◌∷◌, map, Option, None, Some, Result, Ok, Err, refl, sym, ap, ◌∙◌, subst, arith, ℤ}
+use Rattle.engine.proofs.Common.{unsigned_abs, concat, File, file_at, is_good_name, Refusal, FlowModel, IsModel, reads, Wanted, Lists, ListsTo, Checks}
+use Rattle.engine.proofs.Common.{ChecksTo, Makes, Batches, Writes, wanted_of, pairs_in, AreNumbers, zones_of, ListedStep, all_lines, listing_at, or_bad_listing}
+use Rattle.engine.proofs.Common.{one_deck, one_valid, readings_of, Text, end_line, IsListing, listing, IsWhole, whole_listing, history_exists, history_is_one}
+use Rattle.engine.proofs.Common.{ZonedListing, AskedCheck, Case, Check, Command, Checking, asked_in, built, case_asked, case_checked, case_listed, case_of}
+use Rattle.engine.proofs.Common.{listing_read, numbers_of, steps_in, steps_read, task_of, with_zones, zoned_steps, zones_read, IsCheck, certified_line, Defines}
+use Rattle.engine.proofs.Common.{Plain, unit_is_short, check_digits, one_task, IsReadable, RunIsCertified, RunIsReadAgain, as_listed, run_encloses}
+use Rattle.engine.proofs.Common.{ChecksWritten, OneListingIsCertified, WrittenIsCertified}
+use Rattle.std.proofs.Common.{false}
 use Rattle.std.specs.Prelude.{if◌then◌else◌, option_and_then}
-use Rattle.model_reader.proofs.UnitLemmas.{unit_is_short}
-use Rattle.command_line.proofs.DigitLemmas.{check_digits}
 use Rattle.zone_file.proofs.SmallZones.{numbers_small}
-use Rattle.listing_run.specs.Bounding.{EnclosesHistories}
-use Rattle.listing_run.specs.Tasks.{one_task}
 use Rattle.check_run.specs.declared.verdict.ListingVerdict.TheVariants.{Certified as Holds}
-use Rattle.check_run.specs.Runs.{IsReadable, RunIsCertified, RunIsReadAgain, as_listed}
-use Rattle.check_run.proofs.RunEnclosed.{run_encloses}
-use Rattle.engine.specs.Written.{ChecksWritten, OneListingIsCertified, WrittenIsCertified}
 use Rattle.engine.proofs.Readings.{named_read}
 use Rattle.run_puts.specs.declared.status.Status.TheVariants as status
 use Rattle.listing_run.specs.declared.listing_end.ListingEnd.TheVariants as ends
 
-clash : {B E : Type 0} (e : E) (y : B) (r : Result B E) → r ≡ Err e → r ≡ Ok y → ⊥
+pub clash : {B E : Type 0} (e : E) (y : B) (r : Result B E) → r ≡ Err e → r ≡ Ok y → ⊥
 clash e y r h k = cc
 
 some_ok : (x y : Option (List ℕ)) → Path (Result (Option (List ℕ)) Refusal) (Ok x) (Ok y) → x ≡ y
 some_ok x y h = cc
 
 -- what is made of a file's bytes, where its name is taken
-with_bytes : (good : Bool) (found : Result (List ℕ) Refusal) (made : Result (List ℕ) Refusal → Result (List ListedStep) Refusal) (refusal : Refusal) (bytes : List ℕ) → (if good then found else Err refusal) ≡ Ok bytes → (if good then made found else Err refusal) ≡ made (Ok bytes)
+pub with_bytes : (good : Bool) (found : Result (List ℕ) Refusal) (made : Result (List ℕ) Refusal → Result (List ListedStep) Refusal) (refusal : Refusal) (bytes : List ℕ) → (if good then found else Err refusal) ≡ Ok bytes → (if good then made found else Err refusal) ≡ made (Ok bytes)
 with_bytes true found made refusal bytes h = ap made h
 with_bytes false found made refusal bytes h = absurd (clash refusal bytes (Err refusal) refl h)
 
@@ -34,7 +30,9 @@ with_bytes false found made refusal bytes h = absurd (clash refusal bytes (Err r
 built_check : (asked : AskedCheck) (w : Wanted) → built w ≡ Some (Check asked) → w ≡ Checks asked.name asked.listing asked.digits asked.zones
 built_check asked (Lists name digits workers rounds zones None) e = cc
 built_check asked (Lists name digits workers rounds zones (Some turns)) e = cc
+built_check asked (ListsTo name to digits workers rounds zones turns) e = cc
 built_check asked (Checks name listing digits zones) e = cc
+built_check asked (ChecksTo name to listing digits zones) e = cc
 built_check asked (Makes seed size) e = cc
 built_check asked (Writes name) e = cc
 built_check asked (Batches list digits workers rounds) e = cc
@@ -54,41 +52,41 @@ module _ (certified : RunIsCertified) (again : RunIsReadAgain) (m : FlowModel) (
   abbrev listing_of : ZonedListing
   listing_of = record { zones = zones; steps = steps }
 
-  readable : IsReadable m s zones
+  readable : IsReadable (one_deck m) s zones
   readable = record {
-    model = model;
+    decks = one_valid m model;
     numbers = zoned;
     digits = let few = asked_digits words h.asked h.wanted in let same = h.digits in omega (arith, few, same);
     unit = unit_is_short Plain files h.asked.name m (named_read h.asked.name (reads Plain files) m h.read);
   }
 
-  steps_of_bytes : steps_in h.asked m zones (Ok (concat pieces)) ≡ Ok steps
+  steps_of_bytes : steps_in false h.asked m zones (Ok (concat pieces)) ≡ Ok steps
   steps_of_bytes =
       let pairs = pairs_in m zones in
-      let P : List Text → Type 0 = λ t. listing_at m s pairs (all_lines (concat t)) ≡ Ok steps in
-      let D : ℕ → Type 0 = λ s. listing_at m s pairs (all_lines (concat pieces)) ≡ Ok steps in
-      ap (or_bad_listing h.asked.listing) (subst D (sym h.digits) (subst P (sym whole.are) (again m s zones rounds whole.values readable whole.steps)))
+      let P : List Text → Type 0 = λ t. listing_at false m s pairs (all_lines (concat t)) ≡ Ok steps in
+      let D : ℕ → Type 0 = λ s. listing_at false m s pairs (all_lines (concat pieces)) ≡ Ok steps in
+      ap (or_bad_listing h.asked.listing) (subst D (sym h.digits) (subst P (sym whole.are) (again (one_deck m) s zones rounds whole.values readable whole.steps)))
 
-  steps_are : steps_read files h.asked m zones ≡ Ok steps
-  steps_are = with_bytes (is_good_name h.asked.listing) (file_at files h.asked.listing) (steps_in h.asked m zones) _ (concat pieces) h.listing ∙ steps_of_bytes
+  steps_are : steps_read false files h.asked m zones ≡ Ok steps
+  steps_are = with_bytes (is_good_name h.asked.listing) (file_at files h.asked.listing) (steps_in false h.asked m zones) _ (concat pieces) h.listing ∙ steps_of_bytes
 
-  read : listing_read files h.asked m ≡ Ok listing_of
-  read = ap (λ (z : Result (Option (List ℕ)) Refusal). zoned_steps z (steps_read files h.asked m)) h.zoned ∙ ap (with_zones zones) steps_are
+  read : listing_read false files h.asked m ≡ Ok listing_of
+  read = ap (λ (z : Result (Option (List ℕ)) Refusal). zoned_steps z (steps_read false files h.asked m)) h.zoned ∙ ap (with_zones zones) steps_are
 
-  case_is : case_of words files ≡ Checking m h.asked.digits listing_of
+  case_is : case_of words files ≡ Checking (one_deck m) h.asked.digits listing_of
   case_is =
-      ap (λ (c : Option Command). case_asked c (reads Plain files) (zones_read files) (listing_read files)) h.wanted
-      ∙ ap (λ (r : Result FlowModel Refusal). case_checked h.asked r (listing_read files h.asked)) h.read
-      ∙ ap (case_listed h.asked m) read
+      ap (λ (c : Option Command). case_asked c (readings_of files)) h.wanted
+      ∙ ap (λ (r : Result FlowModel Refusal). case_checked h.asked r (listing_read false files h.asked)) h.read
+      ∙ ap (case_listed h.asked (one_deck m)) read
 
   is_certified : Defines (case_of words files) status.Ok (certified_line ∷ [])
   is_certified =
       let P : Case → Type 0 = λ c. Defines c status.Ok (certified_line ∷ []) in
-      let D : ℕ → Type 0 = λ s. IsCheck m s listing_of status.Ok (certified_line ∷ []) in
+      let D : ℕ → Type 0 = λ s. IsCheck (one_deck m) s listing_of status.Ok (certified_line ∷ []) in
       subst P (sym case_is) (subst D (sym h.digits) (record {
         verdict = Holds;
-        is = certified m s zones rounds whole.values model zoned whole.steps;
-        encloses = λ e. run_encloses m s zones rounds whole.values whole.steps whole.encloses;
+        is = certified (one_deck m) s zones rounds whole.values (one_valid m model) zoned whole.steps;
+        encloses = λ e. run_encloses (one_deck m) s zones rounds whole.values whole.steps whole.encloses;
         history = λ e. record { solvable = history_exists m s zones rounds whole.values model whole.steps; one = history_is_one m s zones rounds whole.values model whole.steps };
         status = refl;
         are = refl;
@@ -99,7 +97,7 @@ written_is_certified certified again m s zones rounds pieces words files model z
     is_certified certified again m s zones rounds pieces words files model zoned (whole_listing (one_task m s zones rounds) pieces listed) h
 
 -- zones that were read are at most 999
-read_numbers : (files : List File) (o : Option Text) (m : FlowModel) (zones : Option (List ℕ)) → zones_read files o m ≡ Ok zones → AreNumbers zones
+pub read_numbers : (files : List File) (o : Option Text) (m : FlowModel) (zones : Option (List ℕ)) → zones_read files o m ≡ Ok zones → AreNumbers zones
 read_numbers files None m zones h = subst AreNumbers (some_ok None zones h) tt
 read_numbers files (Some name) m zones h = by_zones (zones_of files m.grid name) refl h
   where

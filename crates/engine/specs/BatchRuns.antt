@@ -7,7 +7,6 @@ use Rattle.step_problem.specs.declared.place.NoBound.{NoBound}
 use Rattle.model_types.specs.declared.limits.Limits.TheVariants.{Plain}
 use Rattle.model_types.specs.declared.model.FlowModel.{FlowModel}
 use Rattle.model_types.specs.declared.time_steps.TimeStep.{TimeStep}
-use Rattle.model_types.specs.Valid.{IsModel}
 use Rattle.model_reader.specs.Model.{reads}
 use Rattle.run_puts.specs.Lines.{Text, read_fault_line}
 use Rattle.run_puts.specs.Runs.{IsRun, NeverCut}

@@ -1,11 +1,11 @@
 -- The case of a run: what its words and files define.
-use Rattle.std.specs.Prelude.{◌≡◌, ◌⊎◌, ℕ, ℤ, List, map, Result, Ok, Err, Option, Some, None, IfOk, codes, if◌then◌else◌, option_and_then, unsigned_abs}
+use Rattle.std.specs.Prelude.{◌≡◌, ◌⊎◌, ℕ, ℤ, Bool, true, false, List, map, Result, Ok, Err, Option, Some, None, IfOk, codes, if◌then◌else◌, option_and_then, unsigned_abs}
 use Rattle.outside.specs.Files.{File}
 use Rattle.outside.specs.Inputs.{file_at, file_refusal}
 use Rattle.outside.specs.Names.{is_good_name}
 use Rattle.outside.specs.declared.codes.Code.TheVariants.{BadName}
 use Rattle.outside.specs.declared.refusals.Refusal.{Refusal}
-use Rattle.command_line.specs.Wants.{Wanted, Lists, Checks, Makes, Writes, wanted_of}
+use Rattle.command_line.specs.Wants.{Wanted, Lists, ListsTo, Checks, ChecksTo, Makes, Writes, wanted_of}
 use Rattle.model_types.specs.declared.limits.Limits.TheVariants.{Plain}
 use Rattle.model_types.specs.declared.model.FlowModel.{FlowModel}
 use Rattle.model_types.specs.Valid.{IsModel}
@@ -19,8 +19,13 @@ use Rattle.listing_io.specs.Reading.{listing_in}
 use Rattle.run_puts.specs.Lines.{Text}
 use Rattle.listing_run.specs.declared.task.Task.{Task}
 use Rattle.zone_pairs.specs.Zones.{AreZonesOf}
-use Rattle.listing_run.specs.Tasks.{one_task}
+use Rattle.deck_span.specs.Alike.{AreAlike}
+use Rattle.deck_problems.specs.declared.decks.Decks.{Decks}
+use Rattle.deck_problems.specs.Decks.{one_deck}
+use Rattle.span_steps.specs.Steps.{two}
+use Rattle.listing_run.specs.Tasks.{deck_task, one_task}
 use Rattle.engine.specs.declared.zoned.ZonedListing.{ZonedListing}
+use Rattle.engine.specs.TwoDecks.{Second, second_in}
 
 -- A listing that the words ask for: the name of its name file, the digits of conductances, the number of plain rounds
 -- in which a step must settle, and the name of a zone file, if there is one.
@@ -38,19 +43,33 @@ pub record AskedCheck : Type 0 where
   pub digits : ℕ
   pub zones : Option Text
 
--- A command: to list a model; to make one from this seed, with this many rows and columns, and sum it up; to check a listing
--- of a model; or to write the deck of the model of this name file.
+-- A listing for all models between two decks: as a listing of the first one, and the name of the second one's name file.
+pub record AskedSpan : Type 0 where
+  pub run : Asked
+  pub to : Text
+
+-- The check of such a listing.
+pub record AskedSpanCheck : Type 0 where
+  pub check : AskedCheck
+  pub to : Text
+
+-- A command: to list a model, or all models between two; to make one from this seed, with this many rows and columns, and sum
+-- it up; to check a listing of a model, or of all between two; or to write the deck of the model of this name file.
 pub data Command : Type 0 where
   Run : Asked → Command
+  Span : AskedSpan → Command
   Make : ℕ → ℕ → Command
   Check : AskedCheck → Command
+  CheckSpan : AskedSpanCheck → Command
   Write : Text → Command
 
 -- The commands that are implemented here. What is put does not depend on the number of workers, nor on views.
 abbrev pub built : Wanted → Option Command
 built (Lists name digits workers rounds zones watch) = Some (Run (record { name = name; digits = digits; rounds = rounds; zones = zones }))
+built (ListsTo name to digits workers rounds zones watch) = Some (Span (record { run = record { name = name; digits = digits; rounds = rounds; zones = zones }; to = to }))
 built (Makes seed size) = Some (Make seed size)
 built (Checks name listing digits zones) = Some (Check (record { name = name; listing = listing; digits = digits; zones = zones }))
+built (ChecksTo name to listing digits zones) = Some (CheckSpan (record { check = record { name = name; listing = listing; digits = digits; zones = zones }; to = to }))
 built (Writes name) = Some (Write name)
 built other = None
 
@@ -62,24 +81,46 @@ asked_in words = option_and_then built (wanted_of words)
 abbrev pub ReadsNothing : Option Command → Type 0
 ReadsNothing None = Unit {0}
 ReadsNothing (Some (Run asked)) = ⊥
+ReadsNothing (Some (Span asked)) = ⊥
 ReadsNothing (Some (Make seed size)) = Unit {0}
 ReadsNothing (Some (Check asked)) = ⊥
+ReadsNothing (Some (CheckSpan asked)) = ⊥
 ReadsNothing (Some (Write name)) = ⊥
 
 -- what is listed of a model, with the zones of its cells if there is a zone file
 abbrev pub task_of : Asked → FlowModel → Option (List ℕ) → Task
 task_of asked m zones = one_task m asked.digits zones asked.rounds
 
+-- what is listed of decks, and of all models between two
+abbrev pub decks_task : Asked → Decks → Option (List ℕ) → Task
+decks_task asked d zones = deck_task d asked.digits zones asked.rounds
+
+abbrev pub span_task_of : Asked → (first second : FlowModel) → Option (List ℕ) → Task
+span_task_of asked first second zones = decks_task asked (two first second) zones
+
 -- The case of a run: the words aren't accepted; this is the first refusal; this is listed; a model is made from this
--- seed and size, whose files read as this one or have this refusal; this listing of a model is checked, with
--- these digits; or the deck of a model is written.
+-- seed and size, whose files read as this one or have this refusal; this listing of decks is checked, with
+-- these digits; the deck of a model is written; or two decks are compared, and where they are alike this is the case.
 pub data Case : Type 0 where
   NoWords : Case
   Refuses : Refusal → Case
   Listing : Task → Case
   Making : ℕ → ℕ → Result FlowModel Refusal → Case
-  Checking : FlowModel → ℕ → ZonedListing → Case
+  Checking : Decks → ℕ → ZonedListing → Case
   Writing : FlowModel → Case
+  Comparing : FlowModel → Second → Case → Case
+
+-- the task that is listed, of one deck, or of two that are alike
+abbrev pub IsListingOf : Task → Case → Type 0
+IsListingOf task (Listing k) = k ≡ task
+IsListingOf task (Comparing a b case) = AreAlike a b.model × IsListingOf task case
+IsListingOf task other = ⊥
+
+-- the decks, the digits and the listing that are checked
+abbrev pub IsCheckingOf : Decks → ℕ → ZonedListing → Case → Type 0
+IsCheckingOf d digits listing (Checking e s l) = (e ≡ d) × (s ≡ digits) × (l ≡ listing)
+IsCheckingOf d digits listing (Comparing a b case) = AreAlike a b.model × IsCheckingOf d digits listing case
+IsCheckingOf d digits listing other = ⊥
 
 -- what a name means, by this reading of the files under it; a bad name is refused before any file
 abbrev pub named : {T : Type 0} → Text → (Text → Result T Refusal) → Result T Refusal
@@ -103,14 +144,14 @@ zones_named (Some name) read = numbers_of (read name)
 abbrev pub zones_read : List File → Option Text → FlowModel → Result (Option (List ℕ)) Refusal
 zones_read files zones m = zones_named zones (zones_of files m.grid)
 
--- the steps of a file's bytes, as a listing of a model with these zones
-abbrev pub steps_in : AskedCheck → FlowModel → Option (List ℕ) → Result (List ℕ) Refusal → Result (List ListedStep) Refusal
-steps_in asked m zones (Ok bytes) = listing_in m asked.digits (pairs_in m zones) asked.listing bytes
-steps_in asked m zones (Err refusal) = Err refusal
+-- the steps of a file's bytes, as a listing of a model with these zones, or of all models between two
+abbrev pub steps_in : Bool → AskedCheck → FlowModel → Option (List ℕ) → Result (List ℕ) Refusal → Result (List ListedStep) Refusal
+steps_in between asked m zones (Ok bytes) = listing_in between m asked.digits (pairs_in m zones) asked.listing bytes
+steps_in between asked m zones (Err refusal) = Err refusal
 
 -- the steps of the listing that a check names; its name is tested once the model and the zone file are read
-abbrev pub steps_read : List File → AskedCheck → FlowModel → Option (List ℕ) → Result (List ListedStep) Refusal
-steps_read files asked m zones = named asked.listing (λ name. steps_in asked m zones (file_at files name))
+abbrev pub steps_read : Bool → List File → AskedCheck → FlowModel → Option (List ℕ) → Result (List ListedStep) Refusal
+steps_read between files asked m zones = named asked.listing (λ name. steps_in between asked m zones (file_at files name))
 
 -- a listing with its zones; a refusal of the zone file comes before one of the listing
 abbrev pub with_zones : Option (List ℕ) → Result (List ListedStep) Refusal → Result ZonedListing Refusal
@@ -122,8 +163,8 @@ zoned_steps (Ok zones) read = with_zones zones (read zones)
 zoned_steps (Err refusal) read = Err refusal
 
 -- the listing that a check names, with the zones of its zone file, if there is one
-abbrev pub listing_read : List File → AskedCheck → FlowModel → Result ZonedListing Refusal
-listing_read files asked m = zoned_steps (zones_read files asked.zones m) (steps_read files asked m)
+abbrev pub listing_read : Bool → List File → AskedCheck → FlowModel → Result ZonedListing Refusal
+listing_read between files asked m = zoned_steps (zones_read files asked.zones m) (steps_read between files asked m)
 
 -- a refusal of the model comes before one of the zone file
 abbrev pub case_zoned : Asked → FlowModel → Result (Option (List ℕ)) Refusal → Case
@@ -134,31 +175,54 @@ abbrev pub case_read : Asked → Result FlowModel Refusal → (FlowModel → Res
 case_read asked (Ok m) zoned = case_zoned asked m (zoned m)
 case_read asked (Err refusal) zoned = Refuses refusal
 
-abbrev pub case_listed : AskedCheck → FlowModel → Result ZonedListing Refusal → Case
-case_listed asked m (Ok listing) = Checking m asked.digits listing
-case_listed asked m (Err refusal) = Refuses refusal
+abbrev pub case_listed : AskedCheck → Decks → Result ZonedListing Refusal → Case
+case_listed asked d (Ok listing) = Checking d asked.digits listing
+case_listed asked d (Err refusal) = Refuses refusal
 
 abbrev pub case_checked : AskedCheck → Result FlowModel Refusal → (FlowModel → Result ZonedListing Refusal) → Case
-case_checked asked (Ok m) listed = case_listed asked m (listed m)
+case_checked asked (Ok m) listed = case_listed asked (one_deck m) (listed m)
 case_checked asked (Err refusal) listed = Refuses refusal
+
+-- a refusal of the first deck comes before one of the second, and that before the comparison
+abbrev pub case_compared : Result FlowModel Refusal → Result Second Refusal → ((first second : FlowModel) → Case) → Case
+case_compared (Ok a) (Ok b) alike = Comparing a b (alike a b.model)
+case_compared (Ok a) (Err refusal) alike = Refuses refusal
+case_compared (Err refusal) second alike = Refuses refusal
+
+abbrev pub case_between : Asked → (first second : FlowModel) → Result (Option (List ℕ)) Refusal → Case
+case_between asked a b (Ok zones) = Listing (span_task_of asked a b zones)
+case_between asked a b (Err refusal) = Refuses refusal
 
 abbrev pub case_written : Result FlowModel Refusal → Case
 case_written (Ok m) = Writing m
 case_written (Err refusal) = Refuses refusal
 
--- the case of a command, by these readings of models, zone files and listings
-abbrev pub case_asked : Option Command → (Text → Result FlowModel Refusal)
-    → (Option Text → FlowModel → Result (Option (List ℕ)) Refusal)
-    → (AskedCheck → FlowModel → Result ZonedListing Refusal) → Case
-case_asked None read zoned listed = NoWords
-case_asked (Some (Run asked)) read zoned listed = case_read asked (named asked.name read) (zoned asked.zones)
-case_asked (Some (Make seed size)) read zoned listed = Making seed size (made_model seed size)
-case_asked (Some (Check asked)) read zoned listed = case_checked asked (named asked.name read) (listed asked)
-case_asked (Some (Write name)) read zoned listed = case_written (named name read)
+-- readings of models, of second decks, of zone files, and of listings of a model or of all models between two
+pub record Readings : Type 0 where
+  pub model : Text → Result FlowModel Refusal
+  pub second : Text → Result Second Refusal
+  pub zones : Option Text → FlowModel → Result (Option (List ℕ)) Refusal
+  pub listing : Bool → AskedCheck → FlowModel → Result ZonedListing Refusal
+
+-- the case of a command, by these readings
+abbrev pub case_asked : Option Command → Readings → Case
+case_asked None read = NoWords
+case_asked (Some (Run asked)) read = case_read asked (named asked.name read.model) (read.zones asked.zones)
+case_asked (Some (Span asked)) read =
+    case_compared (named asked.run.name read.model) (named asked.to read.second) (λ a b. case_between asked.run a b (read.zones asked.run.zones a))
+case_asked (Some (Make seed size)) read = Making seed size (made_model seed size)
+case_asked (Some (Check asked)) read = case_checked asked (named asked.name read.model) (read.listing false asked)
+case_asked (Some (CheckSpan asked)) read =
+    case_compared (named asked.check.name read.model) (named asked.to read.second) (λ a b. case_listed asked.check (two a b) (read.listing true asked.check a))
+case_asked (Some (Write name)) read = case_written (named name read.model)
+
+-- the readings of these files
+abbrev pub readings_of : List File → Readings
+readings_of files = record { model = reads Plain files; second = second_in files; zones = zones_read files; listing = λ between. listing_read between files }
 
 -- the case of these words and files
 abbrev pub case_of : List Text → List File → Case
-case_of words files = case_asked (asked_in words) (reads Plain files) (zones_read files) (listing_read files)
+case_of words files = case_asked (asked_in words) (readings_of files)
 
 -- a listing that could be read of a model, without zones or with these
 pub record CouldList (m : FlowModel) (zoned : Result (List ℤ) Refusal) (steps : List ListedStep) : Type 0 where
@@ -166,18 +230,27 @@ pub record CouldList (m : FlowModel) (zoned : Result (List ℤ) Refusal) (steps 
   pub are : (zones ≡ None) ⊎ (numbers_of zoned ≡ Ok zones)
   pub listed : AreListed m (pairs_in m zones) steps
 
--- a possible result of reading where no files are known: a valid model, and zones and steps of it, or a refusal
-pub record CouldRead (read : Result FlowModel Refusal) (zoned : Result (List ℤ) Refusal)
+-- a possible result of reading where no files are known: valid models, and zones and steps of the first, or a refusal
+pub record CouldRead (read : Result FlowModel Refusal) (second : Result Second Refusal) (zoned : Result (List ℤ) Refusal)
     (listed : Result (List ListedStep) Refusal) : Type 0 where
   pub model : IfOk read IsModel
+  pub second_model : IfOk second (λ b. IsModel b.model)
   pub zones : IfOk read (λ m. IfOk zoned (λ zones. AreZonesOf m (map unsigned_abs zones)))
   pub steps : IfOk read (λ m. IfOk listed (CouldList m zoned))
+
+-- the readings with these results, whatever the name
+abbrev pub some_readings : Result FlowModel Refusal → Result Second Refusal → Result (List ℤ) Refusal → Result (List ListedStep) Refusal → Readings
+some_readings read second zoned listed = record {
+  model = λ name. read;
+  second = λ name. second;
+  zones = λ zones m. zones_named zones (λ name. zoned);
+  listing = λ between asked m. zoned_steps (zones_named asked.zones (λ name. zoned)) (λ zones. named asked.listing (λ name. listed));
+}
 
 -- The case of the words by these files. Where none are known there is some possible result of reading.
 abbrev pub IsCase : List Text → Option (List File) → Case → Type 0
 IsCase words (Some files) case = case ≡ case_of words files
 IsCase words None case =
-    (read : Result FlowModel Refusal) × (zoned : Result (List ℤ) Refusal) × (listed : Result (List ListedStep) Refusal)
-    × CouldRead read zoned listed
-    × (case ≡ case_asked (asked_in words) (λ name. read) (λ zones m. zones_named zones (λ name. zoned))
-    (λ asked m. zoned_steps (zones_named asked.zones (λ name. zoned)) (λ zones. named asked.listing (λ name. listed))))
+    (read : Result FlowModel Refusal) × (second : Result Second Refusal) × (zoned : Result (List ℤ) Refusal)
+    × (listed : Result (List ListedStep) Refusal) × CouldRead read second zoned listed
+    × (case ≡ case_asked (asked_in words) (some_readings read second zoned listed))

@@ -1,5 +1,5 @@
 -- What a certified listing promises.
-use Rattle.std.specs.Prelude.{◌≡◌, ℕ, ℤ, List, Ok, Option, Some}
+use Rattle.std.specs.Prelude.{◌≡◌, ℕ, ℤ, false, List, Ok, Option, Some}
 use Rattle.std.specs.Io.KnownBytes.{Appends}
 use Rattle.outside.specs.Files.{File}
 use Rattle.model_types.specs.declared.limits.Limits.TheVariants.{Plain}
@@ -12,6 +12,7 @@ use Rattle.flow_equations.specs.Histories.{Solves}
 use Rattle.listing_io.specs.declared.listing.ListedStep.{ListedStep}
 use Rattle.run_puts.specs.Lines.{Text}
 use Rattle.listing_run.specs.Bounding.{BoundAll}
+use Rattle.deck_problems.specs.Decks.{one_deck}
 use Rattle.check_run.specs.Verdicts.{checked_task, steps_of}
 use Rattle.exact_histories.specs.Histories.{HasHistory, AreSame}
 use Rattle.engine.specs.Cases.{AskedCheck, Check, asked_in, steps_read, zones_read}
@@ -32,11 +33,11 @@ pub record Certified (words : List Text) (files : List File) (old new : Option (
   pub zones : Option (List ℕ)
   pub zoned : zones_read files asked.zones model ≡ Ok zones
   pub steps : List ListedStep
-  pub listed : steps_read files asked model zones ≡ Ok steps
+  pub listed : steps_read false files asked model zones ≡ Ok steps
   -- The line CERTIFIED was appended, and nothing else.
   pub written : Appends old new certified_line
   -- Every history over any denominator d that solves the model's exact equations lies within what it lists.
-  pub encloses : (d : ℕ) (history : List (ℕ → ℤ)) → Solves model d history → BoundAll (checked_task model asked.digits zones) model d (start_head model) (steps_of (times model) steps) history
+  pub encloses : (d : ℕ) (history : List (ℕ → ℤ)) → Solves model d history → BoundAll (checked_task (one_deck model) asked.digits zones) model d (start_head model) (steps_of (times model) steps) history
   -- And there is one: a history solves them, and any two are the same heads at all active cells, step by step.
   pub solvable : HasHistory model
   pub one : (d e : ℕ) (history other : List (ℕ → ℤ)) → Solves model d history → Solves model e other → AreSame model d e history other

@@ -1,7 +1,7 @@
 -- How a check ends, and with which line.
 use Rattle.std.specs.Prelude.{◌≡◌, ℕ, List, [], ◌∷◌, codes}
 use Rattle.model_types.specs.declared.grid.Grid.{Grid}
-use Rattle.model_types.specs.declared.model.FlowModel.{FlowModel}
+use Rattle.deck_problems.specs.declared.decks.Decks.{Decks}
 use Rattle.listing_io.specs.LastLines.{no_bound_line, not_certified_line}
 use Rattle.run_puts.specs.Lines.{Text}
 use Rattle.run_puts.specs.declared.status.Status.{Status}
@@ -9,7 +9,7 @@ use Rattle.run_puts.specs.declared.status.Status.TheVariants as status
 use Rattle.engine.specs.declared.zoned.ZonedListing.{ZonedListing}
 use Rattle.check_run.specs.declared.verdict.ListingVerdict.{ListingVerdict}
 use Rattle.check_run.specs.declared.verdict.ListingVerdict.TheVariants.{Certified, Fails, Refused}
-use Rattle.exact_histories.specs.Histories.{HasOneHistory}
+use Rattle.chosen_histories.specs.Decks.{HaveOneHistory}
 use Rattle.check_run.specs.Verdicts.{IsVerdict, ListingEncloses}
 
 abbrev pub certified_line : Text
@@ -27,11 +27,12 @@ verdict_status (Fails at place) = status.NotCertified at.period at.step place
 verdict_status (Refused at n) = status.NoBound at.period at.step n
 
 -- The check of this listing has this end and this line, by its verdict. A listing that is certified encloses every history
--- that solves its model, and there is exactly one.
-pub record IsCheck (m : FlowModel) (s : ℕ) (listing : ZonedListing) (end : Status) (pieces : List Text) : Type 0 where
+-- that solves its model, and there is exactly one; of two decks every history between them, and each choice of models between
+-- has exactly one.
+pub record IsCheck (d : Decks) (s : ℕ) (listing : ZonedListing) (end : Status) (pieces : List Text) : Type 0 where
   pub verdict : ListingVerdict
-  pub is : IsVerdict m s listing.zones listing.steps verdict
-  pub encloses : verdict ≡ Certified → ListingEncloses m s listing.zones listing.steps
-  pub history : verdict ≡ Certified → HasOneHistory m
+  pub is : IsVerdict d s listing.zones listing.steps verdict
+  pub encloses : verdict ≡ Certified → ListingEncloses d s listing.zones listing.steps
+  pub history : verdict ≡ Certified → HaveOneHistory d
   pub status : end ≡ verdict_status verdict
-  pub are : pieces ≡ verdict_line m.grid verdict ∷ []
+  pub are : pieces ≡ verdict_line d.first.grid verdict ∷ []

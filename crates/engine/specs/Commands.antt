@@ -5,7 +5,7 @@ use Rattle.engine.specs.declared.asked.Asked.{Asked as AskedBy}
 use Rattle.engine.specs.declared.asked.AskedCheck.{AskedCheck as AskedCheckBy}
 use Rattle.engine.specs.declared.asked.Command.{Command as CommandBy}
 use Rattle.engine.specs.declared.asked.Command.TheVariants as command
-use Rattle.engine.specs.Cases.{Asked, AskedCheck, Command, Run, Make, Check, Write}
+use Rattle.engine.specs.Cases.{Asked, AskedCheck, Command, Run, Span, Make, Check, CheckSpan, Write}
 
 -- the listing that is asked for; of how it is settled only the rounds are part of a definition
 abbrev pub asked_of : AskedBy → Asked
@@ -17,13 +17,16 @@ check_of a = record { name = a.name.now; listing = a.listing.now; digits = a.dig
 
 abbrev pub command_of : CommandBy → Command
 command_of (command.Run a) = Run (asked_of a)
+command_of (command.Span a to) = Span (record { run = asked_of a; to = to.now })
 command_of (command.Make seed size) = Make seed size
 command_of (command.Check a) = Check (check_of a)
+command_of (command.CheckSpan a to) = CheckSpan (record { check = check_of a; to = to.now })
 command_of (command.Write name) = Write name.now
 
 -- the number of views in each phase
 abbrev pub views_of : CommandBy → Option ℕ
 views_of (command.Run a) = a.watch
+views_of (command.Span a to) = a.watch
 views_of other = None
 
 -- the ranges of its numbers
@@ -35,6 +38,8 @@ IsMakeable seed size = (seed ≤ 2147483647) × (1 ≤ size) × (size ≤ 64)
 
 abbrev pub IsCommand : CommandBy → Type 0
 IsCommand (command.Run a) = IsAsked a
+IsCommand (command.Span a to) = IsAsked a
 IsCommand (command.Make seed size) = IsMakeable seed size
 IsCommand (command.Check a) = a.digits ≤ 18
+IsCommand (command.CheckSpan a to) = a.digits ≤ 18
 IsCommand (command.Write name) = Unit {0}

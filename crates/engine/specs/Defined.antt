@@ -1,26 +1,29 @@
 -- The end and the pieces that a case defines.
-use Rattle.std.specs.Prelude.{◌≡◌, List, [], ◌∷◌}
+use Rattle.std.specs.Prelude.{◌≡◌, ◌⊎◌, List, [], ◌∷◌}
 use Rattle.command_line.specs.Usage.{usage_line}
 use Rattle.listing_io.specs.LastLines.{refused_line}
 use Rattle.run_puts.specs.Lines.{Text, read_fault_line}
 use Rattle.run_puts.specs.declared.status.Status.{Status}
 use Rattle.run_puts.specs.declared.status.Status.TheVariants as status
 use Rattle.listing_run.specs.Listing.{IsListing, IsCutListing}
-use Rattle.engine.specs.Cases.{Case, NoWords, Refuses, Listing, Making, Checking, Writing}
+use Rattle.engine.specs.Cases.{Case, NoWords, Refuses, Listing, Making, Checking, Writing, Comparing}
+use Rattle.deck_span.specs.Alike.{AreAlike}
+use Rattle.engine.specs.TwoDecks.{IsUnlike}
 use Rattle.engine.specs.Made.{IsMade}
 use Rattle.engine.specs.Checked.{IsCheck}
 use Rattle.engine.specs.Decks.{IsDeck}
 
 -- A run of this case has this end and these pieces: the usage line; the line of the refusal; a listing, whole or up
 -- to a step without bounds or one that the rounds don't settle; the pieces of a made model; the line of a check's
--- verdict; or the text of a deck.
+-- verdict; the text of a deck; or of two decks the refusal of their first difference, or where they are alike what is due then.
 abbrev pub Defines : Case → Status → List Text → Type 0
 Defines NoWords end pieces = (end ≡ status.Usage) × (pieces ≡ usage_line ∷ [])
 Defines (Refuses refusal) end pieces = (end ≡ status.Refused refusal) × (pieces ≡ refused_line refusal ∷ [])
 Defines (Listing k) end pieces = IsListing k end pieces
 Defines (Making seed size read) end pieces = IsMade seed size read end pieces
-Defines (Checking m s listing) end pieces = IsCheck m s listing end pieces
+Defines (Checking d s listing) end pieces = IsCheck d s listing end pieces
 Defines (Writing m) end pieces = IsDeck m end pieces
+Defines (Comparing a b case) end pieces = IsUnlike a b end pieces ⊎ (AreAlike a b.model × Defines case end pieces)
 
 -- the files of the given folder are read: not without a command, and not to make a model
 abbrev pub ReadsFolder : Case → Type 0
@@ -36,4 +39,5 @@ pub data Due (read_failed : Type 0) (case : Case) : Status → List Text → Typ
 -- the pieces after which a run may stop because memory ran out: the first ones of a listing
 abbrev pub CutOf : Case → List Text → Type 0
 CutOf (Listing k) pieces = IsCutListing k pieces
+CutOf (Comparing a b case) pieces = AreAlike a b.model × CutOf case pieces
 CutOf other pieces = ⊥

@@ -1,4 +1,6 @@
 pub mod Headline
+pub mod SpanHeadline
+pub mod TwoDecks
 pub mod Certified
 pub mod Cases
 pub mod Made

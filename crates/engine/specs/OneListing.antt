@@ -1,5 +1,5 @@
 -- What is promised beside the enclosure: that a run writes the one listing which the files define, and how a check judges.
-use Rattle.std.specs.Prelude.{◌≡◌, ℕ, List, Ok, Option, Some}
+use Rattle.std.specs.Prelude.{◌≡◌, ℕ, false, List, Ok, Option, Some}
 use Rattle.std.specs.List.{concat}
 use Rattle.std.specs.Io.KnownBytes.{Appends}
 use Rattle.outside.specs.Files.{File}
@@ -18,6 +18,7 @@ use Rattle.listing_run.specs.Listing.{listing}
 use Rattle.listing_summary.specs.Summaries.{summary_of}
 use Rattle.listing_summary.specs.Texts.{summary_text}
 use Rattle.check_run.specs.declared.verdict.ListingVerdict.TheVariants.{Certified as Holds}
+use Rattle.deck_problems.specs.Decks.{one_deck}
 use Rattle.check_run.specs.Verdicts.{IsVerdict}
 use Rattle.engine.specs.Cases.{Asked, AskedCheck, Check, Make, Run, asked_in, steps_read, task_of, zones_read}
 use Rattle.engine.specs.Made.{made_task}
@@ -64,5 +65,5 @@ pub record OneVerdict (words : List Text) (files : List File) : Type 0 where
   pub zones : Option (List ℕ)
   pub zoned : zones_read files asked.zones model ≡ Ok zones
   pub steps : List ListedStep
-  pub listed : steps_read files asked model zones ≡ Ok steps
-  pub verdict : IsVerdict model asked.digits zones steps Holds
+  pub listed : steps_read false files asked model zones ≡ Ok steps
+  pub verdict : IsVerdict (one_deck model) asked.digits zones steps Holds

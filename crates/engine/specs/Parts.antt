@@ -1,5 +1,5 @@
 -- What the parts of a run return and put.
-use Rattle.std.specs.Prelude.{◌≡◌, ◌⊎◌, ℕ, ℤ, List, map, unsigned_abs, Result, Option, Some, None, IfOk, IfSome, codes}
+use Rattle.std.specs.Prelude.{◌≡◌, ◌⊎◌, ℕ, ℤ, Bool, List, map, unsigned_abs, Result, Option, Some, None, IfOk, IfSome, codes}
 use Rattle.outside.specs.Counts.{Rose}
 use Rattle.outside.specs.Files.{File}
 use Rattle.outside.specs.Puts.{Put}
@@ -19,12 +19,17 @@ use Rattle.engine.specs.declared.zoned.ZonedListing.{ZonedListing}
 use Rattle.listing_io.specs.LastLines.{refused_line}
 use Rattle.zone_pairs.specs.Zones.{AreZones, AreZonesOf}
 use Rattle.deck_problems.specs.Decks.{AreDecks}
+use Rattle.deck_problems.specs.declared.decks.Decks.{Decks}
+use Rattle.deck_span.specs.Alike.{AreAlike}
+use Rattle.engine.specs.declared.two_decks.Second.{Second as SecondBy}
+use Rattle.engine.specs.TwoDecks.{IsPairRead, Second, not_alike, second_in}
+use Rattle.deck_alike.specs.declared.difference.Difference.{Difference}
 use Rattle.run_puts.specs.Ends.{IsEnd, IsLast, IsWanting}
 use Rattle.run_puts.specs.Lines.{Text, read_fault_line}
 use Rattle.run_puts.specs.Runs.{IsRun, NeverCut}
 use Rattle.run_puts.specs.declared.status.Status.{Status}
 use Rattle.run_puts.specs.declared.status.Status.TheVariants as status
-use Rattle.engine.specs.Cases.{AskedCheck, Case, Listing, Making, Checking, Writing, CouldList, IsCase, listing_read, made_model, named, steps_read, zoned_steps, zones_named, zones_read}
+use Rattle.engine.specs.Cases.{AskedCheck, Case, Listing, Making, Checking, Writing, Comparing, CouldList, IsCase, listing_read, made_model, named, steps_read, zoned_steps, zones_named, zones_read}
 use Rattle.engine.specs.Made.{IsMade}
 use Rattle.engine.specs.Runs.{IsLeft, IsRunOf}
 use Rattle.engine.specs.Watched.{SidePuts, Watched, views_in}
@@ -46,6 +51,29 @@ abbrev pub IsReadAs : Text → Option (List File) → Result FlowModel InputFaul
 IsReadAs name (Some files) answer = IsReading (λ m. m) (named name (reads Plain files)) answer
 IsReadAs name None answer = (read : Result FlowModel Refusal) × IfOk read IsModel × IsReading (λ m. m) (named name (λ n. read)) answer
 
+-- A reading gave the two decks that two names mean: by these files, or where none are known by some that read as valid
+-- models or have a refusal.
+abbrev pub AreDecksAs : (name to : Text) → Option (List File) → Result Decks InputFault → Type 0
+AreDecksAs name to (Some files) answer = IsPairRead (named name (reads Plain files)) (named to (second_in files)) answer
+AreDecksAs name to None answer =
+    (read : Result FlowModel Refusal) × (second : Result Second Refusal) × IfOk read IsModel × IfOk second (λ b. IsModel b.model)
+    × IsPairRead (named name (λ n. read)) (named to (λ n. second)) answer
+
+-- the refusal of a second deck at this difference, or lack of memory for it
+abbrev pub IsUnlikeFault : Second → Difference → InputFault → Type 0
+IsUnlikeFault b d (input.Refused refusal) = refusal ≡ not_alike b d
+IsUnlikeFault b d input.ReadFault = ⊥
+IsUnlikeFault b d input.Memory = Unit {0}
+
+-- a second deck, in the form of the code
+abbrev pub second_by : SecondBy → Second
+second_by b = record { name = b.name.now; files = b.files; model = b.model }
+
+-- a reading gave the second deck that a name means
+abbrev pub IsSecondAs : Text → Option (List File) → Result SecondBy InputFault → Type 0
+IsSecondAs name (Some files) answer = IsReading second_by (named name (second_in files)) answer
+IsSecondAs name None answer = (read : Result Second Refusal) × IfOk read (λ b. IsModel b.model) × IsReading second_by (named name (λ n. read)) answer
+
 -- A reading gave the zones of the named zone file, if there is one: by these files, or where none are known by some
 -- that are zones of the model or have a refusal.
 abbrev pub AreZonesAs : Option Text → FlowModel → Option (List File) → Result (Option (List ℕ)) InputFault → Type 0
@@ -56,17 +84,17 @@ AreZonesAs zones m None answer =
 
 -- A reading gave the steps that a check names, as a listing with these zones: by these files, or where none are known by some
 -- that are steps of the model or have a refusal.
-abbrev pub AreStepsAs : AskedCheck → FlowModel → Option (List ℕ) → Option (List File) → Result (List ListedStep) InputFault → Type 0
-AreStepsAs asked m zones (Some files) answer = IsReading (λ l. l) (steps_read files asked m zones) answer
-AreStepsAs asked m zones None answer =
+abbrev pub AreStepsAs : Bool → AskedCheck → FlowModel → Option (List ℕ) → Option (List File) → Result (List ListedStep) InputFault → Type 0
+AreStepsAs between asked m zones (Some files) answer = IsReading (λ l. l) (steps_read between files asked m zones) answer
+AreStepsAs between asked m zones None answer =
     (listed : Result (List ListedStep) Refusal) × IfOk listed (AreListed m (pairs_in m zones))
     × IsReading (λ l. l) (named asked.listing (λ name. listed)) answer
 
 -- A reading gave the listing that a check names, with its zones: by these files, or where none are known by some that are
 -- zones and steps of the model or have a refusal.
-abbrev pub IsListedAs : AskedCheck → FlowModel → Option (List File) → Result ZonedListing InputFault → Type 0
-IsListedAs asked m (Some files) answer = IsReading (λ l. l) (listing_read files asked m) answer
-IsListedAs asked m None answer =
+abbrev pub IsListedAs : Bool → AskedCheck → FlowModel → Option (List File) → Result ZonedListing InputFault → Type 0
+IsListedAs between asked m (Some files) answer = IsReading (λ l. l) (listing_read between files asked m) answer
+IsListedAs between asked m None answer =
     (zoned : Result (List ℤ) Refusal) × (listed : Result (List ListedStep) Refusal)
     × IfOk zoned (λ zs. AreZonesOf m (map unsigned_abs zs)) × IfOk listed (CouldList m zoned)
     × IsReading (λ l. l) (zoned_steps (zones_named asked.zones (λ name. zoned)) (λ zones. named asked.listing (λ name. listed))) answer
@@ -84,8 +112,9 @@ IsStopped end = (end ≡ status.ReadFault) ⊎ ((end ≡ status.WriteFault) ⊎ 
 abbrev pub IsValid : Case → Status → Type 0
 IsValid (Listing k) end = AreDecks k.decks ⊎ IsStopped end
 IsValid (Making seed size read) end = IfOk read IsModel ⊎ IsStopped end
-IsValid (Checking m s listing) end = (IsModel m × IsListed m listing) ⊎ IsStopped end
+IsValid (Checking d s listing) end = (AreDecks d × IsListed d.first listing) ⊎ IsStopped end
 IsValid (Writing m) end = IsModel m ⊎ IsStopped end
+IsValid (Comparing a b case) end = (AreAlike a b.model → ⊥) ⊎ IsValid case end
 IsValid other end = Unit {0}
 
 -- all facts of a run's result

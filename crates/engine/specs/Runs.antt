@@ -6,6 +6,7 @@ use Rattle.outside.specs.Puts.{Put, taken}
 use Rattle.step_problem.specs.declared.place.NoBound.{NoBound}
 use Rattle.model_types.specs.declared.model.FlowModel.{FlowModel}
 use Rattle.model_types.specs.declared.time_steps.TimeStep.{TimeStep}
+use Rattle.deck_problems.specs.declared.decks.Decks.{Decks}
 use Rattle.engine.specs.declared.zoned.ZonedListing.{ZonedListing}
 use Rattle.run_puts.specs.Agreement.{IsUnfinished}
 use Rattle.run_puts.specs.Lines.{Text}
@@ -18,7 +19,7 @@ use Rattle.listing_run.specs.declared.listing_end.ListingEnd.TheVariants as ends
 use Rattle.listing_run.specs.Steps.{AllSteps}
 use Rattle.check_run.specs.declared.verdict.ListingVerdict.TheVariants.{Certified}
 use Rattle.check_run.specs.Verdicts.{IsVerdict}
-use Rattle.engine.specs.Cases.{Case, Listing, Making, Checking, Writing, IsCase, case_of}
+use Rattle.engine.specs.Cases.{Case, Listing, Making, Comparing, Writing, IsCase, IsCheckingOf, IsListingOf, case_of}
 use Rattle.engine.specs.Made.{made_task}
 use Rattle.engine.specs.Defined.{Defines, Due, CutOf}
 
@@ -53,9 +54,10 @@ Decided fault words files end =
 abbrev pub HasTask : Case → Task → Type 0
 HasTask (Listing k) task = k ≡ task
 HasTask (Making seed size (Ok m)) task = made_task m ≡ task
+HasTask (Comparing a b case) task = IsListingOf task (Comparing a b case)
 HasTask other task = ⊥
 
--- The words ask for a listing or a made model, the files read as a model, and from STRT on, each step from the heads of
+-- The words ask for a listing or a made model, the files read as a model, or as two that are alike, and from STRT on, each step from the heads of
 -- the one before, no step has a refusal, and the rounds leave none open.
 pub record HasListing (words : List Text) (files : List File) : Type 0 where
   pub task : Task
@@ -63,13 +65,13 @@ pub record HasListing (words : List Text) (files : List File) : Type 0 where
   pub no_refusal : (before : List Step) (at : TimeStep) (n : NoBound) → AllSteps task before (ends.NoBound at n) → ⊥
   pub none_open : (before : List Step) (at : TimeStep) → AllSteps task before (ends.Unfinished at) → ⊥
 
--- The words ask for a check, the files read as a model and a listing of it, and its verdict is that it is certified.
+-- The words ask for a check, the files read as a model, or as two that are alike, and a listing of it, and its verdict is that it is certified.
 pub record HasCertified (words : List Text) (files : List File) : Type 0 where
-  pub model : FlowModel
+  pub decks : Decks
   pub digits : ℕ
   pub listing : ZonedListing
-  pub is : case_of words files ≡ Checking model digits listing
-  pub verdict : IsVerdict model digits listing.zones listing.steps Certified
+  pub is : IsCheckingOf decks digits listing (case_of words files)
+  pub verdict : IsVerdict decks digits listing.zones listing.steps Certified
 
 -- The words ask for a deck, and the files read as a model.
 pub record HasDeck (words : List Text) (files : List File) : Type 0 where

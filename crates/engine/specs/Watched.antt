@@ -6,7 +6,7 @@ use Rattle.outside.specs.declared.traits.SinkError.{SinkError}
 use Rattle.step_problem.specs.declared.heads.Bound.{Bound}
 use Rattle.step_problem.specs.Entries.{Entries}
 use Rattle.step_problem.specs.Heads.{Edges}
-use Rattle.command_line.specs.Wants.{Wanted, Lists, wanted_of}
+use Rattle.command_line.specs.Wants.{Wanted, Lists, ListsTo, wanted_of}
 use Rattle.model_types.specs.declared.grid.Grid.{Grid}
 use Rattle.model_types.specs.declared.time_steps.TimeStep.{TimeStep}
 use Rattle.model_types.specs.Times.{times}
@@ -20,11 +20,12 @@ use Rattle.listing_run.specs.declared.step.Step.{Step}
 use Rattle.listing_run.specs.Listing.{time}
 use Rattle.listing_run.specs.Settlers.{EnclosesSolutions}
 use Rattle.listing_run.specs.Steps.{IsStep}
-use Rattle.engine.specs.Cases.{Listing, case_of}
+use Rattle.engine.specs.Cases.{IsListingOf, case_of}
 
 -- the number of views in each phase that the words ask for
 abbrev pub views_asked : Wanted → Option ℕ
 views_asked (Lists name digits workers rounds zones watch) = watch
+views_asked (ListsTo name to digits workers rounds zones watch) = watch
 views_asked other = None
 
 abbrev pub views_in : List Text → Option ℕ
@@ -69,7 +70,7 @@ pub record IsWatched (k : Task) (each_phase : ℕ) (leads : List Put → Type 0)
 -- so it is with the listing of these words and files
 pub record Watched (words : List Text) (files : List File) (each_phase : ℕ) (leads : List Put → Type 0) : Type 0 where
   pub task : Task
-  pub is : case_of words files ≡ Listing task
+  pub is : IsListingOf task (case_of words files)
   pub watched : IsWatched task each_phase leads
 
 -- These are the texts of views of a step: of all its views, or of the first ones.
@@ -111,7 +112,7 @@ ViewPutsOf k leads (Some n) = leads [] ⊎ IsWatchedSoFar k n leads
 -- so it is with the listing of these words and files
 pub record WatchedSoFar (words : List Text) (files : List File) (each_phase : ℕ) (leads : List Put → Type 0) : Type 0 where
   pub task : Task
-  pub is : case_of words files ≡ Listing task
+  pub is : IsListingOf task (case_of words files)
   pub watched : IsWatchedSoFar task each_phase leads
 
 -- What is put to the side sink, whatever the status: nothing; or, with `--watch`, the views of the first steps.

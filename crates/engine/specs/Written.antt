@@ -8,14 +8,17 @@ use Rattle.model_types.specs.declared.model.FlowModel.{FlowModel}
 use Rattle.model_types.specs.Valid.{IsModel}
 use Rattle.model_reader.specs.Model.{reads}
 use Rattle.zone_pairs.specs.Zones.{AreNumbers}
+use Rattle.deck_problems.specs.Decks.{AreDecks}
+use Rattle.span_steps.specs.Steps.{two}
 use Rattle.run_puts.specs.Lines.{Text}
 use Rattle.run_puts.specs.declared.status.Status.TheVariants as status
 use Rattle.listing_run.specs.declared.task.Task.{Task}
-use Rattle.listing_run.specs.Tasks.{one_task}
-use Rattle.engine.specs.Cases.{AskedCheck, Check, Listing, asked_in, case_of, named, task_of, zones_read}
+use Rattle.listing_run.specs.Tasks.{deck_task, one_task}
+use Rattle.engine.specs.Cases.{AskedCheck, AskedSpanCheck, Check, CheckSpan, Listing, asked_in, case_of, named, span_task_of, task_of, zones_read}
 use Rattle.engine.specs.Checked.{certified_line}
 use Rattle.engine.specs.Defined.{Defines}
 use Rattle.engine.specs.OneListing.{OneListing}
+use Rattle.engine.specs.SpanHeadline.{OneSpan}
 
 -- These words ask for the check of a file with these bytes, at most a file's limit, as a listing with the task's
 -- digits, and the files read as the task's model and, by the zone file that the words name or don't, as its zones.
@@ -39,3 +42,31 @@ WrittenIsCertified =
 -- the same zones.
 abbrev pub OneListingIsCertified : Type 0
 OneListingIsCertified = (words : List Text) (files : List File) (bytes : List ℕ) (h : OneListing words files (Some []) (Some bytes)) → (checks : List Text) (others : List File) → ChecksWritten checks others (task_of h.asked h.model h.zones) bytes → Defines (case_of checks others) status.Ok (certified_line ∷ [])
+
+-- These words ask for the check of a file with these bytes, at most a file's limit, as a listing of two decks with the
+-- task's digits, and the files read as the task's first deck, this second one, and, by the zone file that the words name or
+-- don't, the task's zones.
+pub record ChecksSpan (words : List Text) (files : List File) (k : Task) (second : FlowModel) (bytes : List ℕ) : Type 0 where
+  pub asked : AskedSpanCheck
+  pub wanted : asked_in words ≡ Some (CheckSpan asked)
+  pub digits : asked.check.digits ≡ k.digits
+  pub read : named asked.check.name (reads Plain files) ≡ Ok k.decks.first
+  pub read_to : named asked.to (reads Plain files) ≡ Ok second
+  pub zoned : zones_read files asked.check.zones k.decks.first ≡ Ok k.zones
+  pub listing : named asked.check.listing (file_at files) ≡ Ok bytes
+
+-- What a run of two decks that ends Ok writes is certified, if they are valid and alike and the zones are at most 999: a
+-- check of it against the same two decks ends Ok, with the line CERTIFIED.
+abbrev pub WrittenSpanIsCertified : Type 0
+WrittenSpanIsCertified =
+    (a b : FlowModel) (s : ℕ) (zones : Option (List ℕ)) (rounds : ℕ) (pieces words : List Text) (files : List File) → AreDecks (two a b) → AreNumbers zones →
+    Defines (Listing (deck_task (two a b) s zones rounds)) status.Ok pieces → ChecksSpan words files (deck_task (two a b) s zones rounds) b (concat pieces) →
+    Defines (case_of words files) status.Ok (certified_line ∷ [])
+
+-- The bytes that a run of two decks appended to nothing are certified by any check of them, at the same digits, against the
+-- same two decks, with the same zones.
+abbrev pub OneSpanIsCertified : Type 0
+OneSpanIsCertified =
+    (words : List Text) (files : List File) (bytes : List ℕ) (h : OneSpan words files (Some []) (Some bytes)) → (checks : List Text) (others : List File) →
+    ChecksSpan checks others (span_task_of h.asked.run h.decks.first h.decks.second h.zones) h.decks.second bytes →
+    Defines (case_of checks others) status.Ok (certified_line ∷ [])

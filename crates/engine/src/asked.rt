@@ -1,5 +1,5 @@
 // What an order asks for.
-ghost use Rattle.std.specs.Prelude.{◌≡◌, option_map, IfSome};
+ghost use Rattle.std.specs.Prelude.{◌≡◌, option_map, IfSome, MatchOption};
 ghost use Rattle.command_line.specs.Wants.{wanted};
 ghost use Rattle.command_line.specs.Ranges.{IsInRange};
 ghost use Rattle.engine.specs.Cases.{built};
@@ -37,8 +37,12 @@ pub(crate) struct AskedCheck<'a> {
 #[derive(Clone, Copy)]
 pub(crate) enum Command<'a> {
     Run(Asked<'a>),
+    /// A listing for all models between two decks, with the name of the second name file.
+    Span(Asked<'a>, &'a str),
     Make { seed: u32, size: u32 },
     Check(AskedCheck<'a>),
+    /// The check of such a listing.
+    CheckSpan(AskedCheck<'a>, &'a str),
     Write(&'a str),
 }
 
@@ -51,6 +55,26 @@ pub(crate) const MADE_PLAN: Plan = Plan {
     rounds: 1_000_000,
 };
 
+// The listing of a deck, or of all models between two.
+fn run_to<'a>(asked: Asked<'a>, to: Option<&'a str>) -> Command<'a>
+    ensures { MatchOption to.entry (result ≡ Command.Run asked.entry) (λ t. result ≡ Command.Span asked.entry t) }
+{
+    match to {
+        None => Command::Run(asked),
+        Some(to) => Command::Span(asked, to),
+    }
+}
+
+// The check of such a listing.
+fn check_to<'a>(asked: AskedCheck<'a>, to: Option<&'a str>) -> Command<'a>
+    ensures { MatchOption to.entry (result ≡ Command.Check asked.entry) (λ t. result ≡ Command.CheckSpan asked.entry t) }
+{
+    match to {
+        None => Command::Check(asked),
+        Some(to) => Command::CheckSpan(asked, to),
+    }
+}
+
 /// The command that an order asks for; None for a batch, which is no command of one model.
 pub(crate) fn command_of<'a>(order: Order<'a>) -> Option<Command<'a>>
     requires { IsInRange (wanted order) }
@@ -61,34 +85,45 @@ pub(crate) fn command_of<'a>(order: Order<'a>) -> Option<Command<'a>>
     match order {
         Order::Run {
             name,
+            to,
             digits,
             workers,
             rounds,
             zones,
             watch,
-        } => Some(Command::Run(Asked {
-            name,
-            digits,
-            plan: Plan {
+        } => {
+            let plan = Plan {
                 workers,
                 turns_per_cell: TURNS,
                 rounds,
-            },
-            zones,
-            watch,
-        })),
+            };
+            Some(run_to(
+                Asked {
+                    name,
+                    digits,
+                    plan,
+                    zones,
+                    watch,
+                },
+                to,
+            ))
+        }
         Order::Make { seed, size } => Some(Command::Make { seed, size }),
         Order::Check {
             name,
+            to,
             listing,
             digits,
             zones,
-        } => Some(Command::Check(AskedCheck {
-            name,
-            listing,
-            digits,
-            zones,
-        })),
+        } => Some(check_to(
+            AskedCheck {
+                name,
+                listing,
+                digits,
+                zones,
+            },
+            to,
+        )),
         Order::Write { name } => Some(Command::Write(name)),
         _ => None,
     }

@@ -12,19 +12,31 @@ fn files_of<'a>(alloc: Global, order: Order<'a>) -> Result<Vec<&'a str>, AllocEr
 {
     let mut names = Vec::new(alloc);
     match order {
-        Order::Run { name, zones, .. } => {
+        Order::Run {
+            name,
+            to,
+            zones,
+            ..
+        } => {
             names.push(name)?;
+            if let Some(to) = to {
+                names.push(to)?;
+            }
             if let Some(zones) = zones {
                 names.push(zones)?;
             }
         }
         Order::Check {
             name,
+            to,
             listing,
             zones,
             ..
         } => {
             names.push(name)?;
+            if let Some(to) = to {
+                names.push(to)?;
+            }
             if let Some(zones) = zones {
                 names.push(zones)?;
             }
@@ -37,8 +49,9 @@ fn files_of<'a>(alloc: Global, order: Order<'a>) -> Result<Vec<&'a str>, AllocEr
     Ok(names)
 }
 
-/// The names of the files that the words name, as a folder may be asked for them: the name file of a run, and its zone
-/// file; the name file and the listing of a check, and its zone file; the list of a batch; the name file of a deck. None where the words aren't accepted.
+/// The names of the files that the words name, as a folder may be asked for them: the name file of a run, the second one,
+/// and its zone file; the same of a check, and its listing; the list of a batch; the name file of a deck. None where the
+/// words aren't accepted.
 pub fn files_named<'a>(alloc: Global, words: &'a [&'a str]) -> Result<Vec<&'a str>, AllocError>
     ensures { IfOk result (λ names. map (λ n. n.now) names.items ≡ files_named (map (λ w. w.now) words.entry.now)) }
 {

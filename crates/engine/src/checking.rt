@@ -1,5 +1,5 @@
 // The check of a listing of the folder.
-ghost use Rattle.std.specs.Prelude.{◌≡◌, ◌≤◌, List, ◌++◌, Ok, IfOk, IfSome, Option, Some, option_map};
+ghost use Rattle.std.specs.Prelude.{◌≡◌, ◌≤◌, List, ◌++◌, Ok, IfOk, IfSome, None, Option, Some, option_map};
 ghost use Rattle.outside.specs.Inputs.{file_limit};
 ghost use Rattle.outside.specs.Names.{folder_name};
 ghost use Rattle.outside.specs.Files.{File};
@@ -12,16 +12,19 @@ ghost use Rattle.listing_io.specs.Listed.{AreListed};
 ghost use Rattle.run_puts.specs.Lines.{Text};
 ghost use Rattle.run_puts.specs.Runs.{IsRun, NeverCut};
 ghost use Rattle.engine.specs.Checked.{IsCheck};
-ghost use Rattle.engine.specs.Cases.{asked_in, Check};
+ghost use Rattle.deck_problems.specs.Decks.{AreDecks};
+ghost use Rattle.engine.specs.Cases.{asked_in, Check, CheckSpan};
 ghost use Rattle.engine.specs.Commands.{check_of};
-ghost use Rattle.engine.specs.Parts.{Answers, AreStepsAs, IsListed, IsListedAs, IsReadAs};
+ghost use Rattle.engine.specs.Parts.{Answers, AreDecksAs, AreStepsAs, IsListed, IsListedAs, IsReadAs};
 
 use crate::asked::AskedCheck;
 use crate::ending::end_reading;
 use crate::reading::{bad_name, read_named, read_zones_of};
+use crate::two_decks::read_decks;
 use crate::verdict::put_verdict;
 use crate::zoned::ZonedListing;
 use check_run::check_listing;
+use deck_problems::Decks;
 use listing_io::{Listing, read_listing};
 use listing_run::zone_slice;
 use model_types::FlowModel;
@@ -29,10 +32,11 @@ use outside::{Folder, InputFault, Sink, is_good_name, read_input};
 use run_puts::{Status, put_memory};
 use std::alloc::Global;
 
-// The listing of a model with these zones that a check names. The name is tested before the file is read.
+// The listing of a model, or of all models between two, with these zones that a check names. The name is tested before the file is read.
 fn read_steps<F: Folder>(
     alloc: Global,
     folder: &mut F,
+    between: bool,
     model: &FlowModel,
     asked: AskedCheck,
     zones: Option<&[u32]>,
@@ -43,7 +47,7 @@ fn read_steps<F: Folder>(
     requires may { F.may folder.old (folder_name asked.listing.now) file_limit }
     ensures folder { ReadsOn F.Folder folder.old folder.new result }
     ensures reads { (files : Option (List File)) → IfSome files (F.agrees folder.new) →
-        AreStepsAs (check_of asked.entry) model.now (option_map (λ z. z.now) zones.entry) files result }
+        AreStepsAs between (check_of asked.entry) model.now (option_map (λ z. z.now) zones.entry) files result }
     ensures listed { IfOk result (AreListed model.now (pairs_in model.now (option_map (λ z. z.now) zones.entry))) }
 {
     if !is_good_name(asked.listing.as_bytes()) {
@@ -52,6 +56,7 @@ fn read_steps<F: Folder>(
     let bytes = read_input(alloc, folder, asked.listing)?;
     let listing = read_listing(
         alloc,
+        between,
         model,
         asked.listing,
         bytes.as_slice(),
@@ -65,6 +70,7 @@ fn read_steps<F: Folder>(
 pub(crate) fn read_listed<F: Folder>(
     alloc: Global,
     folder: &mut F,
+    between: bool,
     model: &FlowModel,
     asked: AskedCheck,
 ) -> Result<ZonedListing, InputFault>
@@ -73,36 +79,36 @@ pub(crate) fn read_listed<F: Folder>(
     requires zones { IfSome (check_of asked).zones (λ zones. F.may folder.old (folder_name zones) file_limit) }
     requires may { F.may folder.old (folder_name asked.listing.now) file_limit }
     ensures folder { ReadsOn F.Folder folder.old folder.new result }
-    ensures reads { (files : Option (List File)) → IfSome files (F.agrees folder.new) → IsListedAs (check_of asked.entry) model.now files result }
+    ensures reads { (files : Option (List File)) → IfSome files (F.agrees folder.new) → IsListedAs between (check_of asked.entry) model.now files result }
     ensures listed { IfOk result (IsListed model.now) }
 {
     let zones = read_zones_of(alloc, model, asked.zones, folder)?;
-    let steps = read_steps(alloc, folder, model, asked, zone_slice(&zones))?;
+    let steps = read_steps(alloc, folder, between, model, asked, zone_slice(&zones))?;
     Ok(ZonedListing { zones, steps })
 }
 
-/// Checks a listing of a model, and puts the line of its verdict.
+/// Checks a listing of decks, and puts the line of its verdict.
 pub(crate) fn put_check<K: Sink>(
     alloc: Global,
-    model: &FlowModel,
+    decks: &Decks,
     listing: &ZonedListing,
     digits: u32,
     out: &mut K,
 ) -> Status
-    requires model { IsModel model.now }
+    requires decks { AreDecks decks.now }
     requires digits { digits ≤ 18 }
-    requires listing { IsListed model.now listing.now }
+    requires listing { IsListed decks.now.first listing.now }
     ensures { (start : _) (puts : List Put) → K.leads start puts out.old →
-        (more : List Put) × K.leads start (puts ++ more) out.new × IsRun (IsCheck model.now digits listing.now) NeverCut result more }
+        (more : List Put) × K.leads start (puts ++ more) out.new × IsRun (IsCheck decks.now digits listing.now) NeverCut result more }
 {
     match check_listing(
         alloc,
-        model,
+        decks,
         &listing.steps,
         digits,
         zone_slice(&listing.zones),
     ) {
-        Ok(verdict) => put_verdict(alloc, &model.grid, verdict, out),
+        Ok(verdict) => put_verdict(alloc, &decks.first.grid, verdict, out),
         Err(_) => put_memory(out),
     }
 }
@@ -111,23 +117,24 @@ pub(crate) fn put_check<K: Sink>(
 fn check_model<'a, F: Folder, K: Sink>(
     alloc: Global,
     asked: AskedCheck<'a>,
-    model: &FlowModel,
+    decks: &Decks,
     folder: &mut F,
     out: &mut K,
 ) -> Status
     requires digits { asked.digits ≤ 18 }
-    requires model { IsModel model.now }
+    requires decks { AreDecks decks.now }
+    requires one { decks.now.second ≡ None }
     requires zones { IfSome (check_of asked).zones (λ zones. F.may folder.old (folder_name zones) file_limit) }
     requires may { F.may folder.old (folder_name asked.listing.now) file_limit }
     ensures since { (files : List File) → F.agrees folder.new files → F.agrees folder.old files }
     ensures answers { (start : _) (puts : List Put) → K.leads start puts out.old →
         (more : List Put) × K.leads start (puts ++ more) out.new
         × ((words : List Text) → asked_in words ≡ Some (Check (check_of asked.entry)) → (files : Option (List File)) →
-        IfSome files (F.agrees folder.new) → IsReadAs (check_of asked.entry).name files (Ok model.now) →
+        IfSome files (F.agrees folder.new) → IsReadAs (check_of asked.entry).name files (Ok decks.now.first) →
         Answers words files (F.faults folder.old) (F.faults folder.new) result more) }
 {
-    match read_listed(alloc, folder, model, asked) {
-        Ok(listing) => put_check(alloc, model, &listing, asked.digits, out),
+    match read_listed(alloc, folder, false, &decks.first, asked) {
+        Ok(listing) => put_check(alloc, decks, &listing, asked.digits, out),
         Err(fault) => end_reading(alloc, fault, out),
     }
 }
@@ -151,7 +158,68 @@ pub(crate) fn check<'a, F: Folder, K: Sink>(
         Answers words files (F.faults folder.old) (F.faults folder.new) result more) }
 {
     match read_named(alloc, folder, asked.name) {
-        Ok(model) => check_model(alloc, asked, &model, folder, out),
+        Ok(model) => check_model(
+            alloc,
+            asked,
+            &Decks {
+                first: model,
+                second: None,
+            },
+            folder,
+            out,
+        ),
+        Err(fault) => end_reading(alloc, fault, out),
+    }
+}
+
+// Reads the zones and a listing of all models between two decks, and puts the line of its verdict.
+fn check_between<'a, F: Folder, K: Sink>(
+    alloc: Global,
+    asked: AskedCheck<'a>,
+    decks: &Decks,
+    folder: &mut F,
+    out: &mut K,
+) -> Status
+    requires digits { asked.digits ≤ 18 }
+    requires decks { AreDecks decks.now }
+    requires zones { IfSome (check_of asked).zones (λ zones. F.may folder.old (folder_name zones) file_limit) }
+    requires may { F.may folder.old (folder_name asked.listing.now) file_limit }
+    ensures since { (files : List File) → F.agrees folder.new files → F.agrees folder.old files }
+    ensures answers { (start : _) (puts : List Put) → K.leads start puts out.old →
+        (more : List Put) × K.leads start (puts ++ more) out.new
+        × ((words : List Text) (to : Text) → asked_in words ≡ Some (CheckSpan (record { check = check_of asked.entry; to = to })) →
+        (files : Option (List File)) → IfSome files (F.agrees folder.new) → AreDecksAs (check_of asked.entry).name to files (Ok decks.now) →
+        Answers words files (F.faults folder.old) (F.faults folder.new) result more) }
+{
+    match read_listed(alloc, folder, true, &decks.first, asked) {
+        Ok(listing) => put_check(alloc, decks, &listing, asked.digits, out),
+        Err(fault) => end_reading(alloc, fault, out),
+    }
+}
+
+/// Reads two decks of the folder, the zones of their cells and a listing of all models between them, and puts the line of
+/// its verdict.
+pub(crate) fn check_span<'a, F: Folder, K: Sink>(
+    alloc: Global,
+    asked: AskedCheck<'a>,
+    to: &'a str,
+    folder: &mut F,
+    out: &mut K,
+) -> Status
+    requires digits { asked.digits ≤ 18 }
+    requires name { F.may folder.old (folder_name asked.name.now) file_limit }
+    requires to { F.may folder.old (folder_name to.now) file_limit }
+    requires zones { IfSome (check_of asked).zones (λ zones. F.may folder.old (folder_name zones) file_limit) }
+    requires listing { F.may folder.old (folder_name asked.listing.now) file_limit }
+    ensures since { (files : List File) → F.agrees folder.new files → F.agrees folder.old files }
+    ensures answers { (start : _) (puts : List Put) → K.leads start puts out.old →
+        (more : List Put) × K.leads start (puts ++ more) out.new
+        × ((words : List Text) → asked_in words ≡ Some (CheckSpan (record { check = check_of asked.entry; to = to.entry.now })) →
+        (files : Option (List File)) → IfSome files (F.agrees folder.new) →
+        Answers words files (F.faults folder.old) (F.faults folder.new) result more) }
+{
+    match read_decks(alloc, folder, asked.name, to) {
+        Ok(decks) => check_between(alloc, asked, &decks, folder, out),
         Err(fault) => end_reading(alloc, fault, out),
     }
 }

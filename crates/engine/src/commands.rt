@@ -6,17 +6,19 @@ ghost use Rattle.outside.specs.Counts.{Rose};
 ghost use Rattle.engine.specs.BatchRuns.{AnyPuts, AnyDecided, AnyComes};
 ghost use Rattle.engine.specs.Batched.{Batched, HasNoList};
 ghost use Rattle.engine.specs.Batches.{AskedBatch, batch_asked};
-ghost use Rattle.engine.specs.Cases.{asked_in, AskedCheck, Check, Make, ReadsNothing};
+ghost use Rattle.engine.specs.Cases.{asked_in, AskedCheck, AskedSpanCheck, Check, CheckSpan, Make, ReadsNothing};
 ghost use Rattle.engine.specs.Certified.{Certified};
 ghost use Rattle.engine.specs.Decks.{OneDeck};
 ghost use Rattle.engine.specs.Headline.{Headline};
 ghost use Rattle.engine.specs.Made.{Made};
 ghost use Rattle.engine.specs.OneListing.{OneListing, OneSummary, OneVerdict};
+ghost use Rattle.engine.specs.SpanHeadline.{OneSpan, SpanCertified, SpanHeadline, SpanVerdict};
 ghost use Rattle.engine.specs.Parts.{IsStopped};
 ghost use Rattle.engine.specs.Watched.{SidePuts, Watched, views_in};
 
 use crate::batching::answer_any;
 use check_run::laws::one_verdict;
+use deck_alike::laws::one_difference;
 use listing_run::laws::one_listing;
 use outside::{Folder, Gate, Sink};
 use run_puts::Status;
@@ -64,12 +66,14 @@ pub fn run<R: Threads + Wait + Sync, F: Folder, K: Sink + Send, W: Sink + Send, 
     ensures told { (files : List File) × F.agrees folder.new files }
 
     // The headline: of a listing, of the listing that a made model's summary sums up, of one that was checked, of a deck,
-    // or of each listing of a batch.
+    // of a listing of two decks, of one of these that was checked, or of each listing of a batch.
     ensures headline { result ≡ Status.Ok → (files : List File) → F.agrees folder.new files →
         (Headline (map (λ w. w.now) words.now) files (K.seen out.old).written (K.seen out.new).written
         ⊎ (Made (map (λ w. w.now) words.now) (K.seen out.old).written (K.seen out.new).written
         ⊎ (Certified (map (λ w. w.now) words.now) files (K.seen out.old).written (K.seen out.new).written
-        ⊎ OneDeck (map (λ w. w.now) words.now) files (K.seen out.old).written (K.seen out.new).written)))
+        ⊎ (OneDeck (map (λ w. w.now) words.now) files (K.seen out.old).written (K.seen out.new).written
+        ⊎ (SpanHeadline (map (λ w. w.now) words.now) files (K.seen out.old).written (K.seen out.new).written
+        ⊎ SpanCertified (map (λ w. w.now) words.now) files (K.seen out.old).written (K.seen out.new).written)))))
         ⊎ Batched (map (λ w. w.now) words.now) files result (K.seen out.old).written (K.seen out.new).written }
 
     // And it is the one listing that the files define, or each step of the one that was checked is certified, or it is the
@@ -78,7 +82,9 @@ pub fn run<R: Threads + Wait + Sync, F: Folder, K: Sink + Send, W: Sink + Send, 
         (OneListing (map (λ w. w.now) words.now) files (K.seen out.old).written (K.seen out.new).written
         ⊎ (OneSummary (map (λ w. w.now) words.now) (K.seen out.old).written (K.seen out.new).written
         ⊎ (OneVerdict (map (λ w. w.now) words.now) files
-        ⊎ OneDeck (map (λ w. w.now) words.now) files (K.seen out.old).written (K.seen out.new).written)))
+        ⊎ (OneDeck (map (λ w. w.now) words.now) files (K.seen out.old).written (K.seen out.new).written
+        ⊎ (OneSpan (map (λ w. w.now) words.now) files (K.seen out.old).written (K.seen out.new).written
+        ⊎ SpanVerdict (map (λ w. w.now) words.now) files)))))
         ⊎ Batched (map (λ w. w.now) words.now) files result (K.seen out.old).written (K.seen out.new).written }
 
     // Of a made model it holds whatever the folder is.
@@ -89,6 +95,9 @@ pub fn run<R: Threads + Wait + Sync, F: Folder, K: Sink + Send, W: Sink + Send, 
     ensures certified { result ≡ Status.Ok → (asked : AskedCheck) →
         asked_in (map (λ w. w.now) words.now) ≡ Some (Check asked) → (files : List File) → F.agrees folder.new files →
         Certified (map (λ w. w.now) words.now) files (K.seen out.old).written (K.seen out.new).written }
+    ensures span_certified { result ≡ Status.Ok → (asked : AskedSpanCheck) →
+        asked_in (map (λ w. w.now) words.now) ≡ Some (CheckSpan asked) → (files : List File) → F.agrees folder.new files →
+        SpanCertified (map (λ w. w.now) words.now) files (K.seen out.old).written (K.seen out.new).written }
 
     // A batch that didn't stop has put the text of each job, whatever the jobs' statuses, or its list is refused.
     ensures batch { (IsStopped result → ⊥) → (asked : AskedBatch) →
@@ -113,6 +122,7 @@ pub fn run<R: Threads + Wait + Sync, F: Folder, K: Sink + Send, W: Sink + Send, 
 {
     one_listing();
     one_verdict();
+    one_difference();
     let status = answer_any(rt, alloc, words, folder, out, side, gate);
     folder.some_agree();
     status

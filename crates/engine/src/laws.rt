@@ -1,5 +1,5 @@
 // Laws of what is defined. Each is the contract of an empty function, but for the laws below that it calls.
-ghost use Rattle.engine.specs.Written.{OneListingIsCertified, WrittenIsCertified};
+ghost use Rattle.engine.specs.Written.{OneListingIsCertified, OneSpanIsCertified, WrittenIsCertified, WrittenSpanIsCertified};
 ghost use Rattle.engine.specs.Storage.{StorageHolds};
 
 use check_run::laws::{run_is_certified, run_is_read_again};
@@ -23,4 +23,19 @@ pub fn one_listing_is_certified()
     ensures { OneListingIsCertified }
 {
     written_is_certified();
+}
+
+/// `check` certifies what `run` writes of two decks.
+pub fn written_span_is_certified()
+    ensures { WrittenSpanIsCertified }
+{
+    run_is_certified();
+    run_is_read_again();
+}
+
+/// What a run of two decks is promised to have written, `check` certifies.
+pub fn one_span_is_certified()
+    ensures { OneSpanIsCertified }
+{
+    written_span_is_certified();
 }

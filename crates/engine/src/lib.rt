@@ -17,6 +17,7 @@ mod making;
 mod reading;
 mod running;
 mod serving;
+mod two_decks;
 mod verdict;
 mod view_lines;
 mod viewing;

@@ -12,24 +12,29 @@ ghost use Rattle.listing_run.specs.Listing.{IsListingBeside, IsCutListing};
 ghost use Rattle.zone_pairs.specs.Zones.{AreZones};
 ghost use Rattle.engine.specs.Headline.{Headline};
 ghost use Rattle.engine.specs.Runs.{Puts, Decided, Comes};
-ghost use Rattle.engine.specs.Cases.{asked_in, task_of, AskedCheck, Check, Make, ReadsNothing, Run};
+ghost use Rattle.engine.specs.Cases.{asked_in, decks_task, AskedCheck, AskedSpan, AskedSpanCheck, Check, CheckSpan, Make, ReadsNothing, Run, Span};
 ghost use Rattle.engine.specs.Commands.{asked_of, IsAsked};
 ghost use Rattle.engine.specs.Made.{Made};
 ghost use Rattle.engine.specs.Certified.{Certified};
 ghost use Rattle.engine.specs.Decks.{OneDeck};
 ghost use Rattle.engine.specs.OneListing.{OneListing, OneSummary, OneVerdict};
-ghost use Rattle.engine.specs.Parts.{AnswersBeside, IsReadAs};
+ghost use Rattle.engine.specs.SpanHeadline.{OneSpan, SpanCertified, SpanHeadline, SpanVerdict};
+ghost use Rattle.engine.specs.Parts.{AnswersBeside, AreDecksAs, IsReadAs};
+ghost use Rattle.deck_problems.specs.Decks.{AreDecks};
+ghost use Rattle.deck_problems.specs.declared.decks.Decks.{Decks as BothDecks};
 ghost use Rattle.engine.specs.Watched.{IsWatched, SidePuts, ViewPutsOf, Watched, views_in};
 
 use crate::asked::{Asked, Command, command_of};
-use crate::checking::check;
+use crate::checking::{check, check_span};
 use crate::ending::end_reading;
 use crate::listing::put_listing;
 use crate::making::put_made;
 use crate::reading::{read_named, read_zones_of};
+use crate::two_decks::read_decks;
 use crate::writing::write;
 use check_run::laws::one_verdict;
 use command_line::{WordsFault, read_order};
+use deck_alike::laws::one_difference;
 use deck_problems::Decks;
 use listing_run::Task;
 use listing_run::laws::one_listing;
@@ -45,9 +50,9 @@ const USAGE: &[u8] =
 /// Does what the words ask for. `run NAME` reads the model of that name file from the folder, and the zones of its cells
 /// if the words name a zone file, and puts its listing to `out`, step by step. `make SEED SIZE` makes a model, without the
 /// folder, and puts the summary of its listing. `check NAME LISTING` reads the model and a listing of it, whoever wrote
-/// it, and puts whether it is certified, or else the first place that fails. `write NAME` reads the model and puts its deck
-/// in one spelling. Workers in threads settle each step, and pass
-/// the gate before each turn; a check has none. With `--watch N` one more seat makes N views of the heads in each phase, and
+/// it, and puts whether it is certified, or else the first place that fails. With `--to NAME2` both read a second deck too,
+/// compare it with the first, and list or check bounds for all models between the two. `write NAME` reads the model and puts
+/// its deck in one spelling. Workers in threads settle each step, and pass the gate before each turn; a check has none. With `--watch N` one more seat makes N views of the heads in each phase, and
 /// each is put to `side` as one piece, up to the first put that fails; the run then ends, with WriteFault if a write
 /// failed. For a batch, which only `run` does, it puts the usage line.
 pub fn run_one<R: Threads + Sync, F: Folder, K: Sink + Send, W: Sink + Send, G: Gate + Sync>(
@@ -85,12 +90,15 @@ pub fn run_one<R: Threads + Sync, F: Folder, K: Sink + Send, W: Sink + Send, G: 
     // Some files agree with all that the folder has answered.
     ensures told { (files : List File) × F.agrees folder.new files }
 
-    // The headline: of a listing, of the listing that a made model's summary sums up, of one that was checked, or of a deck.
+    // The headline: of a listing, of the listing that a made model's summary sums up, of one that was checked, of a deck,
+    // of a listing of two decks, or of one of these that was checked.
     ensures headline { result ≡ Status.Ok → (files : List File) → F.agrees folder.new files →
         Headline (map (λ w. w.now) words.now) files (K.seen out.old).written (K.seen out.new).written
         ⊎ (Made (map (λ w. w.now) words.now) (K.seen out.old).written (K.seen out.new).written
         ⊎ (Certified (map (λ w. w.now) words.now) files (K.seen out.old).written (K.seen out.new).written
-        ⊎ OneDeck (map (λ w. w.now) words.now) files (K.seen out.old).written (K.seen out.new).written)) }
+        ⊎ (OneDeck (map (λ w. w.now) words.now) files (K.seen out.old).written (K.seen out.new).written
+        ⊎ (SpanHeadline (map (λ w. w.now) words.now) files (K.seen out.old).written (K.seen out.new).written
+        ⊎ SpanCertified (map (λ w. w.now) words.now) files (K.seen out.old).written (K.seen out.new).written)))) }
 
     // And it is the one listing that the files define, or each step of the one that was checked is certified, or it is the
     // one deck of the model that the files read as.
@@ -98,7 +106,9 @@ pub fn run_one<R: Threads + Sync, F: Folder, K: Sink + Send, W: Sink + Send, G: 
         OneListing (map (λ w. w.now) words.now) files (K.seen out.old).written (K.seen out.new).written
         ⊎ (OneSummary (map (λ w. w.now) words.now) (K.seen out.old).written (K.seen out.new).written
         ⊎ (OneVerdict (map (λ w. w.now) words.now) files
-        ⊎ OneDeck (map (λ w. w.now) words.now) files (K.seen out.old).written (K.seen out.new).written)) }
+        ⊎ (OneDeck (map (λ w. w.now) words.now) files (K.seen out.old).written (K.seen out.new).written
+        ⊎ (OneSpan (map (λ w. w.now) words.now) files (K.seen out.old).written (K.seen out.new).written
+        ⊎ SpanVerdict (map (λ w. w.now) words.now) files)))) }
 
     // Of a made model it holds whatever the folder is.
     ensures made { result ≡ Status.Ok → (seed size : ℕ) → asked_in (map (λ w. w.now) words.now) ≡ Some (Make seed size) →
@@ -108,6 +118,9 @@ pub fn run_one<R: Threads + Sync, F: Folder, K: Sink + Send, W: Sink + Send, G: 
     ensures certified { result ≡ Status.Ok → (asked : AskedCheck) →
         asked_in (map (λ w. w.now) words.now) ≡ Some (Check asked) → (files : List File) → F.agrees folder.new files →
         Certified (map (λ w. w.now) words.now) files (K.seen out.old).written (K.seen out.new).written }
+    ensures span_certified { result ≡ Status.Ok → (asked : AskedSpanCheck) →
+        asked_in (map (λ w. w.now) words.now) ≡ Some (CheckSpan asked) → (files : List File) → F.agrees folder.new files →
+        SpanCertified (map (λ w. w.now) words.now) files (K.seen out.old).written (K.seen out.new).written }
 
     // These statuses have a count as their cause.
     ensures read_fault { result ≡ Status.ReadFault → Rose (F.faults folder.old) (F.faults folder.new) }
@@ -126,6 +139,7 @@ pub fn run_one<R: Threads + Sync, F: Folder, K: Sink + Send, W: Sink + Send, G: 
 {
     one_listing();
     one_verdict();
+    one_difference();
     let status = answer(rt, alloc, words, folder, out, side, gate);
     folder.some_agree();
     status
@@ -158,38 +172,37 @@ pub(crate) fn answer<R: Threads + Sync, F: Folder, K: Sink + Send, W: Sink + Sen
     match command_of(order) {
         None => put_last(out, USAGE, Status::Usage),
         Some(Command::Run(asked)) => list(rt, alloc, asked, folder, out, side, gate),
+        Some(Command::Span(asked, to)) => list_span(rt, alloc, asked, to, folder, out, side, gate),
         Some(Command::Make { seed, size }) => put_made(rt, alloc, seed, size, out, gate),
         Some(Command::Check(asked)) => check(alloc, asked, folder, out),
+        Some(Command::CheckSpan(asked, to)) => check_span(alloc, asked, to, folder, out),
         Some(Command::Write(name)) => write(alloc, name, folder, out),
     }
 }
 
-// Puts the listing of a model.
-fn put_model<'a, R: Threads + Sync, K: Sink + Send, W: Sink + Send, G: Gate + Sync>(
+// Puts the listing of decks.
+fn put_decks<'a, R: Threads + Sync, K: Sink + Send, W: Sink + Send, G: Gate + Sync>(
     rt: &R,
     alloc: Global,
     asked: Asked<'a>,
-    model: FlowModel,
+    decks: Decks,
     zones: Option<Listed<u32>>,
     out: &mut K,
     side: &mut W,
     gate: &G,
 ) -> Status
     requires asked { IsAsked asked }
-    requires model { IsModel model }
-    requires zones { AreZones model zones }
+    requires decks { AreDecks decks }
+    requires zones { AreZones decks.first zones }
     ensures puts { (start : _) (puts : List Put) → K.leads start puts out.old →
         (more : List Put) × K.leads start (puts ++ more) out.new
-        × IsRun (IsListingBeside (Rose (W.seen side.old).faults (W.seen side.new).faults) (task_of (asked_of asked.entry) model zones))
-        (IsCutListing (task_of (asked_of asked.entry) model zones)) result more
-        × (result ≡ Status.Ok → IfSome asked.entry.watch (λ n. IsWatched (task_of (asked_of asked.entry) model zones) n (λ puts. W.leads side.old puts side.new))) }
-    ensures side { ViewPutsOf (task_of (asked_of asked.entry) model zones) (λ puts. W.leads side.old puts side.new) asked.entry.watch }
+        × IsRun (IsListingBeside (Rose (W.seen side.old).faults (W.seen side.new).faults) (decks_task (asked_of asked.entry) decks zones))
+        (IsCutListing (decks_task (asked_of asked.entry) decks zones)) result more
+        × (result ≡ Status.Ok → IfSome asked.entry.watch (λ n. IsWatched (decks_task (asked_of asked.entry) decks zones) n (λ puts. W.leads side.old puts side.new))) }
+    ensures side { ViewPutsOf (decks_task (asked_of asked.entry) decks zones) (λ puts. W.leads side.old puts side.new) asked.entry.watch }
 {
     let task = Task {
-        decks: Decks {
-            first: model,
-            second: None,
-        },
+        decks,
         digits: asked.digits,
         zones,
         rounds: asked.plan.rounds,
@@ -221,7 +234,19 @@ fn list_model<'a, R: Threads + Sync, F: Folder, K: Sink + Send, W: Sink + Send, 
         (Rose (W.seen side.old).faults (W.seen side.new).faults) (λ puts. W.leads side.old puts side.new) result more) }
 {
     match read_zones_of(alloc, &model, asked.zones, folder) {
-        Ok(zones) => put_model(rt, alloc, asked, model, zones, out, side, gate),
+        Ok(zones) => put_decks(
+            rt,
+            alloc,
+            asked,
+            Decks {
+                first: model,
+                second: None,
+            },
+            zones,
+            out,
+            side,
+            gate,
+        ),
         Err(fault) => end_reading(alloc, fault, out),
     }
 }
@@ -249,6 +274,64 @@ fn list<'a, R: Threads + Sync, F: Folder, K: Sink + Send, W: Sink + Send, G: Gat
 {
     match read_named(alloc, folder, asked.name) {
         Ok(model) => list_model(rt, alloc, asked, model, folder, out, side, gate),
+        Err(fault) => end_reading(alloc, fault, out),
+    }
+}
+
+// Reads the zones of two decks' cells, and puts the listing of all models between them.
+fn list_between<'a, R: Threads + Sync, F: Folder, K: Sink + Send, W: Sink + Send, G: Gate + Sync>(
+    rt: &R,
+    alloc: Global,
+    asked: Asked<'a>,
+    decks: Decks,
+    folder: &mut F,
+    out: &mut K,
+    side: &mut W,
+    gate: &G,
+) -> Status
+    requires asked { IsAsked asked }
+    requires decks { AreDecks decks }
+    requires zones { IfSome (asked_of asked).zones (λ zones. F.may folder.old (folder_name zones) file_limit) }
+    ensures since { (files : List File) → F.agrees folder.new files → F.agrees folder.old files }
+    ensures answers { (start : _) (puts : List Put) → K.leads start puts out.old →
+        (more : List Put) × K.leads start (puts ++ more) out.new
+        × ((words : List (List ℕ)) (to : List ℕ) → asked_in words ≡ Some (Span (record { run = asked_of asked.entry; to = to })) →
+        views_in words ≡ asked.entry.watch → (files : Option (List File)) → IfSome files (F.agrees folder.new) →
+        AreDecksAs (asked_of asked.entry).name to files (Ok decks) →
+        AnswersBeside words files (F.faults folder.old) (F.faults folder.new)
+        (Rose (W.seen side.old).faults (W.seen side.new).faults) (λ puts. W.leads side.old puts side.new) result more) }
+{
+    match read_zones_of(alloc, &decks.first, asked.zones, folder) {
+        Ok(zones) => put_decks(rt, alloc, asked, decks, zones, out, side, gate),
+        Err(fault) => end_reading(alloc, fault, out),
+    }
+}
+
+// Puts the listing of all models between two decks of the folder.
+fn list_span<'a, R: Threads + Sync, F: Folder, K: Sink + Send, W: Sink + Send, G: Gate + Sync>(
+    rt: &R,
+    alloc: Global,
+    asked: Asked<'a>,
+    to: &'a str,
+    folder: &mut F,
+    out: &mut K,
+    side: &mut W,
+    gate: &G,
+) -> Status
+    requires asked { IsAsked asked }
+    requires name { F.may folder.old (folder_name asked.name.now) file_limit }
+    requires to { F.may folder.old (folder_name to.now) file_limit }
+    requires zones { IfSome (asked_of asked).zones (λ zones. F.may folder.old (folder_name zones) file_limit) }
+    ensures since { (files : List File) → F.agrees folder.new files → F.agrees folder.old files }
+    ensures answers { (start : _) (puts : List Put) → K.leads start puts out.old →
+        (more : List Put) × K.leads start (puts ++ more) out.new
+        × ((words : List (List ℕ)) → asked_in words ≡ Some (Span (record { run = asked_of asked.entry; to = to.entry.now })) →
+        views_in words ≡ asked.entry.watch → (files : Option (List File)) → IfSome files (F.agrees folder.new) →
+        AnswersBeside words files (F.faults folder.old) (F.faults folder.new)
+        (Rose (W.seen side.old).faults (W.seen side.new).faults) (λ puts. W.leads side.old puts side.new) result more) }
+{
+    match read_decks(alloc, folder, asked.name, to) {
+        Ok(decks) => list_between(rt, alloc, asked, decks, folder, out, side, gate),
         Err(fault) => end_reading(alloc, fault, out),
     }
 }

@@ -1,5 +1,3 @@
-use Rattle.engine.proofs.Common.{ℕ, subst, Answers}
-use Rattle.engine.proofs.Readings.{of_known}
 use Rattle.engine.proofs.Decking.{ends_deck, ends_undecked}
 use Rattle.engine.proofs.writing.write.Goals as goal
 

@@ -1,0 +1,104 @@
+-- The headline of a run of all models between two decks, and of the check of such a listing.
+use Rattle.std.specs.Prelude.{◌≡◌, ℕ, ℤ, true, List, Ok, Option, Some}
+use Rattle.std.specs.List.{concat}
+use Rattle.std.specs.Io.KnownBytes.{Appends}
+use Rattle.outside.specs.Files.{File}
+use Rattle.model_types.specs.declared.limits.Limits.TheVariants.{Plain}
+use Rattle.model_types.specs.declared.model.FlowModel.{FlowModel}
+use Rattle.model_types.specs.Heads.{start_head}
+use Rattle.model_types.specs.Times.{times}
+use Rattle.model_types.specs.Valid.{IsModel}
+use Rattle.model_reader.specs.Model.{reads}
+use Rattle.deck_span.specs.Alike.{AreAlike}
+use Rattle.deck_span.specs.Histories.{SolvesBetween}
+use Rattle.span_steps.specs.Steps.{two}
+use Rattle.chosen_histories.specs.Decks.{ChoicesHaveOne}
+use Rattle.listing_io.specs.declared.listing.ListedStep.{ListedStep}
+use Rattle.run_puts.specs.Lines.{Text, end_line}
+use Rattle.listing_run.specs.declared.step.Step.{Step}
+use Rattle.listing_run.specs.declared.listing_end.ListingEnd.TheVariants.{Whole}
+use Rattle.listing_run.specs.Listing.{listing}
+use Rattle.listing_run.specs.Steps.{AllSteps}
+use Rattle.listing_run.specs.Bounding.{BoundBetween, EnclosesHistories}
+use Rattle.check_run.specs.declared.verdict.ListingVerdict.TheVariants.{Certified as Holds}
+use Rattle.check_run.specs.Verdicts.{IsVerdict, checked_task, steps_of}
+use Rattle.engine.specs.Cases.{AskedSpan, AskedSpanCheck, CheckSpan, Span, asked_in, span_task_of, steps_read, zones_read}
+use Rattle.engine.specs.Checked.{certified_line}
+
+-- The files of two names read as valid models that are alike: they differ only in numbers of their stresses and in STRT.
+pub record ArePairOf (files : List File) (name to : Text) : Type 0 where
+  pub first : FlowModel
+  pub read : reads Plain files name ≡ Ok first
+  pub valid : IsModel first
+  pub second : FlowModel
+  pub read_to : reads Plain files to ≡ Ok second
+  pub valid_to : IsModel second
+  pub alike : AreAlike first second
+
+-- A run with these words over these files that ended Ok, where a sink had the bytes `old` before it and `new` after it,
+-- has written a listing of two decks; and every history of heads each step of which solves the manual's exact equations of
+-- some model between the two decks, chosen anew at each step, lies, step by step and cell by cell, between its heads, with
+-- each of its budget flows between its terms, and each of its flows between two zones of a zone file between its two numbers.
+-- That it is the one listing which the files define stands in `OneSpan`.
+pub record SpanHeadline (words : List Text) (files : List File) (old new : Option (List ℕ)) : Type 0 where
+  -- The words ask for such a listing, the files read as two valid models that are alike, and as zones of their cells where
+  -- the words name a zone file.
+  pub asked : AskedSpan
+  pub wanted : asked_in words ≡ Some (Span asked)
+  pub decks : ArePairOf files asked.run.name asked.to
+  pub zones : Option (List ℕ)
+  pub zoned : zones_read files asked.run.zones decks.first ≡ Ok zones
+  -- The listing of some values, which are the heads, the budget and the flows between zones of each step, was appended, and nothing else.
+  pub values : List Step
+  pub written : Appends old new (concat (listing (span_task_of asked.run decks.first decks.second zones) values end_line))
+  -- Every history between the two decks over any denominator d lies between them.
+  pub encloses : (d : ℕ) (history : List (ℕ → ℤ)) (h : SolvesBetween decks.first decks.second d history) →
+      BoundBetween (span_task_of asked.run decks.first decks.second zones) decks.first decks.second d (start_head h.first) (times decks.first) values history h.steps
+  -- And each choice of models between has one: a history solves it, and any two are the same heads at all active cells, step by step.
+  pub choices : ChoicesHaveOne decks.first decks.second
+
+-- Such a run has written the one listing that the files define.
+pub record OneSpan (words : List Text) (files : List File) (old new : Option (List ℕ)) : Type 0 where
+  pub asked : AskedSpan
+  pub wanted : asked_in words ≡ Some (Span asked)
+  pub decks : ArePairOf files asked.run.name asked.to
+  pub zones : Option (List ℕ)
+  pub zoned : zones_read files asked.run.zones decks.first ≡ Ok zones
+  -- All time steps have values, which are heads, budgets and flows between zones, and no others. They enclose every history.
+  pub values : List Step
+  pub steps : AllSteps (span_task_of asked.run decks.first decks.second zones) values Whole
+  pub only : (others : List Step) → AllSteps (span_task_of asked.run decks.first decks.second zones) others Whole → others ≡ values
+  pub encloses : EnclosesHistories (span_task_of asked.run decks.first decks.second zones) values
+  -- Their listing was appended, and nothing else.
+  pub written : Appends old new (concat (listing (span_task_of asked.run decks.first decks.second zones) values end_line))
+
+-- A check of such a listing that ended Ok: the files have a listing of two decks, whoever wrote it, and every history between
+-- the decks lies between its heads, with each of its budget flows between its terms, and each of its flows between two zones
+-- of a zone file between its two numbers. How it was judged stands in `SpanVerdict`.
+pub record SpanCertified (words : List Text) (files : List File) (old new : Option (List ℕ)) : Type 0 where
+  pub asked : AskedSpanCheck
+  pub wanted : asked_in words ≡ Some (CheckSpan asked)
+  pub decks : ArePairOf files asked.check.name asked.to
+  pub zones : Option (List ℕ)
+  pub zoned : zones_read files asked.check.zones decks.first ≡ Ok zones
+  pub steps : List ListedStep
+  pub listed : steps_read true files asked.check decks.first zones ≡ Ok steps
+  -- The line CERTIFIED was appended, and nothing else.
+  pub written : Appends old new certified_line
+  -- Every history between the two decks over any denominator d lies within what it lists.
+  pub encloses : (d : ℕ) (history : List (ℕ → ℤ)) (h : SolvesBetween decks.first decks.second d history) →
+      BoundBetween (checked_task (two decks.first decks.second) asked.check.digits zones) decks.first decks.second d (start_head h.first) (times decks.first)
+      (steps_of (times decks.first) steps) history h.steps
+  -- And each choice of models between has one.
+  pub choices : ChoicesHaveOne decks.first decks.second
+
+-- Such a check found that each step of the named listing is certified.
+pub record SpanVerdict (words : List Text) (files : List File) : Type 0 where
+  pub asked : AskedSpanCheck
+  pub wanted : asked_in words ≡ Some (CheckSpan asked)
+  pub decks : ArePairOf files asked.check.name asked.to
+  pub zones : Option (List ℕ)
+  pub zoned : zones_read files asked.check.zones decks.first ≡ Ok zones
+  pub steps : List ListedStep
+  pub listed : steps_read true files asked.check decks.first zones ≡ Ok steps
+  pub verdict : IsVerdict (two decks.first decks.second) asked.check.digits zones steps Holds

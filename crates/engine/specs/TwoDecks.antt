@@ -1,0 +1,75 @@
+-- Two decks that are read one after the other, and the refusal where they aren't alike.
+use Rattle.std.specs.Prelude.{◌≡◌, List, [], ◌∷◌, Result, Ok, Err, Some, option_map, unwrap_or}
+use Rattle.outside.specs.Files.{File}
+use Rattle.outside.specs.declared.codes.Code.TheVariants.{NotAlike}
+use Rattle.outside.specs.declared.refusals.Refusal.{Refusal}
+use Rattle.outside.specs.declared.refusals.InputFault.{InputFault}
+use Rattle.outside.specs.declared.refusals.InputFault.TheVariants as input
+use Rattle.record_lines.specs.Reading.{◌>>=◌}
+use Rattle.name_file.specs.Pairs.{Pairs, file_of}
+use Rattle.name_file.specs.declared.package.Package.{Package}
+use Rattle.model_types.specs.declared.limits.Limits.TheVariants.{Plain}
+use Rattle.model_types.specs.declared.model.FlowModel.{FlowModel}
+use Rattle.model_types.specs.Cells.{place}
+use Rattle.model_reader.specs.Model.{model_of}
+use Rattle.model_reader.specs.Names.{names_in}
+use Rattle.deck_span.specs.Alike.{AreAlike}
+use Rattle.deck_alike.specs.declared.difference.Difference.{Difference}
+use Rattle.deck_alike.specs.Differences.{IsFirstDifference}
+use Rattle.deck_problems.specs.declared.decks.Decks.{Decks}
+use Rattle.listing_io.specs.LastLines.{refused_line}
+use Rattle.run_puts.specs.Lines.{Text}
+use Rattle.run_puts.specs.declared.status.Status.{Status}
+use Rattle.run_puts.specs.declared.status.Status.TheVariants as status
+
+-- A second deck: its name file, the files of its packages, and its model.
+pub record Second : Type 0 where
+  pub name : Text
+  pub files : Pairs
+  pub model : FlowModel
+
+-- the second deck that a name file describes, or the first refusal
+unfoldable pub second_in : List File → Text → Result Second Refusal
+second_in files name = do
+  pairs ← names_in files name
+  model ← model_of Plain files pairs
+  Ok (record { name = name; files = pairs; model = model })
+
+-- its file of a package; its name file where it has no such package
+abbrev pub file_named : Second → Package → Text
+file_named b kind = unwrap_or (file_of kind b.files) b.name
+
+-- the refusal of a second deck that isn't alike the first one: its file of the package of the first difference, line 0, and
+-- the cell where there is one
+abbrev pub not_alike : Second → Difference → Refusal
+not_alike b d = record { code = NotAlike; file = file_named b d.package; line = 0; at = option_map (λ c. place b.model.grid c.0) d.cell }
+
+-- A run of two decks that aren't alike ends so: with the refusal of their first difference.
+pub record IsUnlike (a : FlowModel) (b : Second) (end : Status) (pieces : List Text) : Type 0 where
+  pub difference : Difference
+  pub first : IsFirstDifference a b.model difference
+  pub unlike : AreAlike a b.model → ⊥
+  pub status : end ≡ status.Refused (not_alike b difference)
+  pub are : pieces ≡ refused_line (not_alike b difference) ∷ []
+
+-- two decks by the readings of both: each was read, and they are alike
+pub record ArePair (first : Result FlowModel Refusal) (second : Result Second Refusal) (d : Decks) : Type 0 where
+  pub last : Second
+  pub is_first : first ≡ Ok d.first
+  pub is_second : second ≡ Ok last
+  pub are : d.second ≡ Some last.model
+  pub alike : AreAlike d.first last.model
+
+-- why there are none: the first deck's refusal, then the second one's, then that of their first difference
+pub data IsPairRefusal (first : Result FlowModel Refusal) (second : Result Second Refusal) (r : Refusal) : Type 0 where
+  of_first : first ≡ Err r → IsPairRefusal first second r
+  of_second : (a : FlowModel) → first ≡ Ok a → second ≡ Err r → IsPairRefusal first second r
+  of_both : (a : FlowModel) (b : Second) (d : Difference) → first ≡ Ok a → second ≡ Ok b → IsFirstDifference a b.model d →
+      (AreAlike a b.model → ⊥) → r ≡ not_alike b d → IsPairRefusal first second r
+
+-- a reading of two decks gave them, or this fault; a read fault and lack of memory say nothing of the files
+abbrev pub IsPairRead : Result FlowModel Refusal → Result Second Refusal → Result Decks InputFault → Type 0
+IsPairRead first second (Ok d) = ArePair first second d
+IsPairRead first second (Err (input.Refused r)) = IsPairRefusal first second r
+IsPairRead first second (Err input.ReadFault) = Unit {0}
+IsPairRead first second (Err input.Memory) = Unit {0}

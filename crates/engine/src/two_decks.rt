@@ -1,0 +1,104 @@
+// Two decks of the folder, which have to be alike.
+ghost use Rattle.std.specs.Prelude.{◌≡◌, ◌<◌, IfOk, IfSome, List, Option, option_map};
+ghost use Rattle.outside.specs.Inputs.{file_limit};
+ghost use Rattle.outside.specs.Names.{IsGoodName, folder_name};
+ghost use Rattle.outside.specs.Files.{File};
+ghost use Rattle.outside.specs.Folders.{ReadsOn};
+ghost use Rattle.model_types.specs.Cells.{cell_count, place};
+ghost use Rattle.model_types.specs.Grids.{HasSize};
+ghost use Rattle.model_types.specs.Valid.{IsModel};
+ghost use Rattle.deck_problems.specs.Decks.{AreDecks};
+ghost use Rattle.engine.specs.Parts.{AreDecksAs, IsSecondAs, IsUnlikeFault, second_by};
+
+use crate::reading::{bad_name, read_named};
+use deck_alike::{Difference, first_difference};
+use deck_problems::Decks;
+use model_reader::{read_model, read_name_file};
+use model_types::{CellId, FlowModel, Grid, Limits, place_of};
+use name_file::Names;
+use outside::{Code, Folder, InputFault, Name, Refusal, is_good_name};
+use std::alloc::Global;
+
+/// A second deck: its name file, the files of its packages, and its model.
+#[derive(Drop)]
+pub(crate) struct Second<'a> {
+    name: &'a str,
+    files: Names,
+    model: FlowModel,
+}
+
+// The second deck that a name file of the folder describes. The name is tested before any file.
+fn read_second<'a, F: Folder>(
+    alloc: Global,
+    folder: &mut F,
+    name: &'a str,
+) -> Result<Second<'a>, InputFault>
+    requires may { F.may folder.old (folder_name name.now) file_limit }
+    ensures folder { ReadsOn F.Folder folder.old folder.new result }
+    ensures reads { (files : Option (List File)) → IfSome files (F.agrees folder.new) → IsSecondAs name.entry.now files result }
+    ensures model { IfOk result (λ b. IsModel b.model) }
+{
+    if !is_good_name(name.as_bytes()) {
+        return Err(bad_name(alloc));
+    }
+    let files = read_name_file(alloc, folder, name)?;
+    let model = read_model(alloc, Limits::Plain, &files, folder)?;
+    Ok(Second { name, files, model })
+}
+
+// The layer, row and column of a cell, where there is one.
+fn place_if(grid: &Grid, cell: Option<CellId>) -> Option<[u32; 3]>
+    requires size { HasSize grid.now }
+    requires cell { IfSome cell (λ c. c.0 < cell_count grid.now) }
+    ensures { result ≡ option_map (λ c. place grid.now c.0) cell }
+{
+    match cell {
+        Some(cell) => Some(place_of(grid, cell)),
+        None => None,
+    }
+}
+
+// The refusal of a second deck at its first difference from the first one.
+fn unlike(alloc: Global, second: &Second, difference: Difference) -> InputFault
+    requires size { HasSize second.now.model.grid }
+    requires cell { IfSome difference.cell (λ c. c.0 < cell_count second.now.model.grid) }
+    ensures { IsUnlikeFault (second_by second.now) difference result }
+{
+    let file = match second.files.file_of(difference.package) {
+        Some(file) => file,
+        None => second.name,
+    };
+    match Name::new(alloc, file) {
+        Ok(file) => InputFault::Refused(Refusal {
+            code: Code::NotAlike,
+            file,
+            line: 0,
+            at: place_if(&second.model.grid, difference.cell),
+        }),
+        Err(_) => InputFault::Memory,
+    }
+}
+
+/// The decks of two name files of the folder: the first is read, then the second, and then they are compared.
+pub(crate) fn read_decks<F: Folder>(
+    alloc: Global,
+    folder: &mut F,
+    name: &str,
+    to: &str,
+) -> Result<Decks, InputFault>
+    requires name { F.may folder.old (folder_name name.now) file_limit }
+    requires to { F.may folder.old (folder_name to.now) file_limit }
+    ensures folder { ReadsOn F.Folder folder.old folder.new result }
+    ensures reads { (files : Option (List File)) → IfSome files (F.agrees folder.new) → AreDecksAs name.now to.now files result }
+    ensures decks { IfOk result AreDecks }
+{
+    let first = read_named(alloc, folder, name)?;
+    let second = read_second(alloc, folder, to)?;
+    match first_difference(&first, &second.model) {
+        None => Ok(Decks {
+            first,
+            second: Some(second.model),
+        }),
+        Some(difference) => Err(unlike(alloc, &second, difference)),
+    }
+}
