@@ -3,7 +3,7 @@ import sys
 from types import ModuleType
 
 from .drawdown import changes_of  # before the call drawdown, whose name the module would take
-from .calls import Answer, certify, compare, drawdown, inside, look, plain, run
+from .calls import Answer, between, certify, compare, drawdown, inside, look, plain, run
 from .exports import Place, heads_frame, terms_frame, to_netcdf, to_xarray
 from .files import to_geotiff, to_vtk
 from .headfile import read_heads, write_heads
@@ -12,7 +12,7 @@ from .model import Model, read_model
 from .text import Problem
 
 __version__ = "0.1.0"
-CALLS = ("certify", "compare", "drawdown", "inside", "look", "plain", "run")
+CALLS = ("between", "certify", "compare", "drawdown", "inside", "look", "plain", "run")
 __all__ = [
     "Answer",
     "Listing",
@@ -20,6 +20,7 @@ __all__ = [
     "Place",
     "Problem",
     "Step",
+    "between",
     "certify",
     "changes_of",
     "compare",

@@ -52,12 +52,12 @@ def option_words(options: dict[str, Any]) -> list[str]:
 
 def call(command: str, *words: Any, path: Path | None = None, **options: Any) -> Answer:
     from . import commands
-    from .cli import PASSING, parser
+    from .cli import PASSING, joined, parser
 
     said, wrong = io.StringIO(), io.StringIO()
     try:
         with contextlib.redirect_stderr(wrong):
-            args, rest = parser().parse_known_args([command, *map(str, words), *option_words(options)])
+            args, rest = parser().parse_known_args(joined([command, *map(str, words), *option_words(options)]))
     except SystemExit:
         raise Problem(wrong.getvalue().strip().split("\n")[-1]) from None
     if rest and command not in PASSING:
@@ -81,6 +81,11 @@ def inside(nam: str | Path, **options: Any) -> Answer:
 def plain(nam: str | Path, folder: str | Path) -> Answer:
     """Writes the deck in the spelling that heads reads."""
     return call("plain", nam, folder)
+
+
+def between(nam: str | Path, folder: str | Path, **options: Any) -> Answer:
+    """Writes two decks of one shape: wells, recharge, stage (each "LOW..HIGH"), package."""
+    return call("between", nam, folder, **options)
 
 
 def look(listing: str | Path | Listing, folder: str | Path, **options: Any) -> Answer:

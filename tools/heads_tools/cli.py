@@ -3,6 +3,7 @@ from __future__ import annotations
 
 import argparse
 import os
+import re
 import signal
 import sys
 import threading
@@ -60,6 +61,23 @@ def add_zones(sub: argparse.ArgumentParser) -> None:
     )
 
 
+BETWEEN = """\
+Writes two decks of one shape, from.nam and to.nam, for `heads run from.nam --to to.nam`, whose listing holds for every
+deck between the two. The first deck has the first number of each range, the second one the second: factors of the
+pumping and of the recharge, shifts of the stages of rivers. With --package the second deck has the packages of another
+plan; an entry that only one plan has gets the rate or the conductance 0 in the other. All numbers are exact, and files
+that don't differ are written once. MODFLOW-2005 runs each of the two where it runs the deck."""
+
+
+def stress_range(text: str) -> object:
+    from .ranges import range_of
+
+    try:
+        return range_of(text)
+    except ValueError:
+        raise argparse.ArgumentTypeError(f"a range is LOW..HIGH, as 0.8..1.2 or -0.2..0.2, and not {text}") from None
+
+
 def cell(text: str) -> tuple[int, int, int]:
     parts = text.replace(" ", ",").split(",")
     if len(parts) != 3 or not all(p.isdigit() for p in parts):
@@ -102,6 +120,28 @@ def parser() -> argparse.ArgumentParser:
         "the deck in the one spelling of heads write, or rewritten so that heads reads it, with notes",
         nam,
         ("folder", "the folder to write into"),
+    )
+    s = add(
+        "between",
+        "two decks of one shape, for bounds that hold for every deck between them",
+        nam,
+        ("folder", "the folder to write into"),
+    )
+    s.description = BETWEEN
+    for word, about in (
+        ("--wells", "factors of the rates of WEL, as 0..1"),
+        ("--recharge", "factors of RECH, as 0.8..1.2"),
+        ("--stage", "shifts of the stages of RIV in length units, as -0.2..0.2"),
+    ):
+        s.add_argument(word, type=stress_range, metavar="LOW..HIGH", help=about)
+    s.add_argument(
+        "--package",
+        type=Path,
+        nargs="+",
+        action="extend",
+        default=[],
+        metavar="FILE",
+        help="packages of another plan for the second deck; their endings say which, as plan.wel",
     )
     add("model", "what was read: sizes, ranges of arrays, entries, steps", nam)
     s = add(
@@ -293,11 +333,22 @@ def complete(top: argparse.ArgumentParser) -> None:
     argcomplete.autocomplete(top)
 
 
+def joined(words: list[str]) -> list[str]:
+    """The words, with a range that begins with a minus joined to its option: by itself it would count as an option."""
+    out: list[str] = []
+    for word in words:
+        if out and out[-1].startswith("--") and re.match(r"-[\d.].*\.\.", word):
+            out[-1] += f"={word}"
+        else:
+            out.append(word)
+    return out
+
+
 def main(words: list[str] | None = None) -> int:
     """Does what the words say; the status."""
     top = parser()
     complete(top)
-    args, rest = top.parse_known_args(words)
+    args, rest = top.parse_known_args(joined(sys.argv[1:] if words is None else words))
     if rest and args.command not in PASSING:
         top.error(f"unknown words: {' '.join(rest)}")
     from . import commands

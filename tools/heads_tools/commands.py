@@ -109,6 +109,15 @@ def do_plain(args: argparse.Namespace, _: list[str]) -> int:
     return 1 if written.refused else 0
 
 
+def do_between(args: argparse.Namespace, _: list[str]) -> int:
+    from .decks_between import Ranges, write_between
+
+    named = {name: span for name in ("wells", "recharge", "stage") if (span := getattr(args, name))}
+    packages = [existing(path) for path in args.package]
+    say(write_between(existing(args.nam), args.folder, Ranges(**named, packages=packages)))
+    return 0
+
+
 def do_model(args: argparse.Namespace, _: list[str]) -> int:
     from .describe import describe
     from .model import read_model

@@ -56,10 +56,11 @@ class Entry:
 
 @dataclass
 class Areal:
-    """RCH or EVT: the option, and for each period the flags and the new arrays by name."""
+    """RCH or EVT: the option, for each period the flags and the new arrays by name, and the line of the option."""
 
     option: int
     periods: list[tuple[list[int], dict[str, Array]]] = field(default_factory=list)
+    line: int = 0
 
 
 @dataclass

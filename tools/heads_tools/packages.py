@@ -16,12 +16,16 @@ MOST_LETTERS = 200
 EVT_ARRAYS = ("SURF", "EVTR", "EXDP")
 
 
-def read_deck(nam: str | Path, as_modflow: bool = False, any_size: bool = False) -> tuple[Deck, Report]:
+def read_deck(
+    nam: str | Path, as_modflow: bool = False, any_size: bool = False, others: dict[str, str] | None = None
+) -> tuple[Deck, Report]:
     """Reads all files of a name file. What can't be read stands under the report's refusals. A blank line where
     counts or flags are due is passed over, as `heads` does, or read `as_modflow`, which takes it as zeros.
-    `any_size`: more cells than the program takes are no refusal."""
+    `any_size`: more cells than the program takes are no refusal. `others`: files of packages that are read in place of
+    the deck's own."""
     reader = Reader(Path(nam), as_modflow, any_size)
     reader.read_names()
+    reader.deck.files.update(others or {})
     for kind in KINDS:
         if kind in reader.deck.files:
             try:
@@ -220,13 +224,16 @@ class Reader:
 
     def array(self, rows: int, cols: int, what: str, is_whole: bool = False) -> Array:
         """The next array of the file, `what` for people; `is_whole`: of whole numbers."""
-        source, begin = self.at, self.at.at
+        source = self.at
         source.due = what
-        out = self._array(rows, cols)
+        record = source.line()
+        begin = source.at
+        out = self._array(record, rows, cols)
+        out.file, out.line = source.name, begin
         wrong = next((w for w in out.words if not re.fullmatch(r"[+-]?\d+", w)), None) if is_whole else None
         if wrong is not None:
-            lines = range(begin + 1, source.at + 1)
-            line = next((n for n in lines if wrong in words(source.lines[n - 1])), begin + 1)
+            lines = range(begin, source.at + 1)
+            line = next((n for n in lines if wrong in words(source.lines[n - 1])), begin)
             self.refuse_count(what, wrong, line)
         return out
 
@@ -237,10 +244,9 @@ class Reader:
         text = f"{what} has `{word}`, where a whole number is due (MODFLOW-2005 stops here, too)"
         self.report.add("refusals", source.name, line, text)
 
-    def _array(self, rows: int, cols: int) -> Array:
-        source = self.at
-        line = source.line()
-        w = record_words(line)
+    def _array(self, line: str, rows: int, cols: int) -> Array:
+        """The array whose record is this line."""
+        source, w = self.at, record_words(line)
         kind, shape = w[0].upper(), (rows, cols)
         if "'" in line or '"' in line:
             self.need("quotes taken out of an array's record")
@@ -522,7 +528,7 @@ class Reader:
         if option not in (1, 2, 3):
             raise Problem(f"the option is {option}; 1, 2 or 3 are read")
         deck.options[kind] = line if deck.is_free else " ".join(self.fields(s, line, 2))
-        areal = deck.areal[kind] = Areal(option)
+        areal = deck.areal[kind] = Areal(option, line=s.at)
         names += (layers,) * (option == 2)
         for period in range(len(deck.periods)):
             flags = [

@@ -53,11 +53,14 @@ class Report:
 
 @dataclass
 class Array:
-    """An array of a deck: the words of its numbers, one for a constant, and the factor's word ("0": none)."""
+    """An array of a deck: the words of its numbers, one for a constant, the factor's word ("0": none), and the file and
+    the line on which it begins, where it was read."""
 
     words: list[str]
     factor: str
     shape: tuple[int, int]
+    file: str = ""
+    line: int = 0
 
     @property
     def is_constant(self) -> bool:
